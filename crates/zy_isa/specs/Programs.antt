@@ -1,0 +1,74 @@
+-- Which lists of instructions are programs.
+use Rattle.std.specs.Prelude.{◌≡◌, ◌==◌, ◌-◌, ◌<◌, ◌≤◌, ◌^◌, ◌⊎◌, nat_lt, not, ℕ, List, [], ◌∷◌, length, position, slice_get, option_map, Bool, true, false, Option, Some, None, Result, Ok, Err, if◌then◌else◌}
+use Rattle.std.specs.Option.{option_map_or, option_or}
+use Rattle.zy_isa.specs.declared.instr.Instr.{Instr}
+use Rattle.zy_isa.specs.declared.instr.Instr.TheVariants.{Set, Read, Write, Insert, Add, Beq, Commit, Abort}
+use Rattle.zy_isa.specs.declared.program.ProgFault.{ProgFault}
+use Rattle.zy_isa.specs.declared.program.ProgFault.TheVariants as fault
+
+-- a program may end with it
+abbrev pub ends : Instr → Bool
+ends (Set r x) = false
+ends (Read r q) = false
+ends (Write r q) = false
+ends (Insert r q) = false
+ends (Add r q) = false
+ends (Beq r q to) = false
+ends Commit = true
+ends Abort = true
+
+-- where it may jump to is below count
+abbrev pub targets_below : ℕ → Instr → Bool
+targets_below count (Set r x) = true
+targets_below count (Read r q) = true
+targets_below count (Write r q) = true
+targets_below count (Insert r q) = true
+targets_below count (Add r q) = true
+targets_below count (Beq r q to) = nat_lt to count
+targets_below count Commit = true
+targets_below count Abort = true
+
+-- the last instruction ends the program
+abbrev pub ends_well : List Instr → Bool
+ends_well is = option_map_or ends (slice_get is (length is - 1)) false
+
+-- the index of the first instruction whose target is not in the program
+abbrev pub stray_target : List Instr → Option ℕ
+stray_target is = position (λ i. not (targets_below (length is) i)) is
+
+-- the first fault of a list of instructions
+abbrev pub prog_fault : List Instr → Option ProgFault
+prog_fault is =
+    if length is == 0 then Some fault.Empty else
+    if nat_lt 64 (length is) then Some fault.TooLong else
+    option_or (option_map fault.Target (stray_target is)) (
+    if ends_well is then None else
+    Some fault.NoEnd)
+
+-- the values in an instruction fit their fields
+abbrev pub HasValue : Instr → Type 0
+HasValue (Set r x) = x < 2 ^ 32
+HasValue (Read r q) = Unit {0}
+HasValue (Write r q) = Unit {0}
+HasValue (Insert r q) = Unit {0}
+HasValue (Add r q) = Unit {0}
+HasValue (Beq r q to) = to < 2 ^ 32
+HasValue Commit = Unit {0}
+HasValue Abort = Unit {0}
+
+abbrev pub Values : List Instr → Type 0
+Values [] = Unit {0}
+Values (i ∷ is) = HasValue i × Values is
+
+-- what every program keeps
+pub record IsProgram (is : List Instr) : Type 0 where
+  pub some : 0 < length is
+  pub few : length is ≤ 64
+  pub targets : stray_target is ≡ None
+  pub last : ends_well is ≡ true
+  pub values : Values is
+
+-- the answer is the program, or the first fault, or want of memory where there is none
+abbrev pub IsVerified : Result (List Instr) ProgFault → List Instr → Type 0
+IsVerified (Ok p) is = (prog_fault is ≡ None) × (p ≡ is)
+IsVerified (Err e) is = (prog_fault is ≡ Some e) ⊎ ((prog_fault is ≡ None) × (e ≡ fault.Memory))

@@ -1,0 +1,83 @@
+-- What a scenario is, which ones are within the limits, and the first fault of one that is not.
+use Rattle.std.specs.Prelude.{◌≡◌, ◌==◌, ◌+◌, ◌-◌, ◌/◌, ◌<◌, ◌≤◌, ◌^◌, ◌⊎◌, ◌&&◌, ◌||◌, not, nat_lt, nat_le, ℕ, zero, suc, List, [], ◌∷◌, length, position, option_map, Bool, true, false, Option, Some, None, Result, Ok, Err, if◌then◌else◌}
+use Rattle.std.specs.Option.{option_or}
+use Rattle.zy_isa.specs.declared.rule.Rule.{Rule}
+use Rattle.zy_isa.specs.declared.row.Row.{Row}
+use Rattle.zy_isa.specs.declared.instr.Instr.{Instr}
+use Rattle.zy_isa.specs.declared.choice.Choice.{Choice}
+use Rattle.zy_isa.specs.declared.scenario.ScenarioFault.{ScenarioFault}
+use Rattle.zy_isa.specs.declared.scenario.ScenarioFault.TheVariants as fault
+use Rattle.zy_isa.specs.Rows.{Rising, RowsFit, misplaced_row}
+use Rattle.zy_isa.specs.Programs.{IsProgram}
+use Rattle.zy_isa.specs.Choices.{names_below}
+
+pub record Scenario : Type 0 where
+  pub version : ℕ
+  pub cap : ℕ
+  pub pages : ℕ
+  pub rule : Rule
+  pub rows : List Row
+  pub programs : List (List Instr)
+  pub choices : List Choice
+
+-- how many rows an opening page takes
+abbrev pub opening_rows : ℕ → ℕ
+opening_rows cap = (cap + 1) / 2
+
+-- how many pages so many rows open with: one more for each full run of rows, and one where there is no row
+abbrev pub opening_pages_for : ℕ → ℕ → ℕ
+opening_pages_for cap zero = 1
+opening_pages_for cap (suc rows) = rows / opening_rows cap + 1
+
+-- the index of the first choice that names no transaction
+abbrev pub misnamed_choice : ℕ → List Choice → Option ℕ
+misnamed_choice count choices = position (λ c. not (names_below count c)) choices
+
+abbrev pub is_outside : ℕ → ℕ → ℕ → Bool
+is_outside least most n = nat_lt n least || nat_lt most n
+
+-- more rows than a scenario may have, or more than its opening pages take
+abbrev pub has_many_rows : Scenario → Bool
+has_many_rows s = nat_lt 256 (length s.rows) || nat_lt 1 (opening_pages_for s.cap (length s.rows))
+
+-- the first fault of a scenario whose programs are verified
+abbrev pub scenario_fault : Scenario → Option ScenarioFault
+scenario_fault s =
+    if not (s.version == 1) then Some fault.Version else
+    if is_outside 2 16 s.cap then Some fault.Cap else
+    if is_outside 1 512 s.pages then Some fault.Pages else
+    if has_many_rows s then Some fault.RowCount else
+    option_or (option_map fault.RowOrder (misplaced_row s.rows)) (
+    if nat_lt 64 (length s.programs) then Some fault.TxnCount else
+    if nat_lt 4096 (length s.choices) then Some fault.ChoiceCount else
+    option_map fault.Choice (misnamed_choice (length s.programs) s.choices))
+
+abbrev pub ArePrograms : List (List Instr) → Type 0
+ArePrograms [] = Unit {0}
+ArePrograms (p ∷ ps) = IsProgram p × ArePrograms ps
+
+-- each choice that names a transaction names one that exists
+abbrev pub AreNamed : ℕ → List Choice → Type 0
+AreNamed count [] = Unit {0}
+AreNamed count (c ∷ cs) = (names_below count c ≡ true) × AreNamed count cs
+
+-- what every scenario keeps
+pub record IsScenario (s : Scenario) : Type 0 where
+  pub version : s.version ≡ 1
+  pub cap_least : 2 ≤ s.cap
+  pub cap_most : s.cap ≤ 16
+  pub pages_least : 1 ≤ s.pages
+  pub pages_most : s.pages ≤ 512
+  pub few_rows : length s.rows ≤ 256
+  pub few_opening_pages : opening_pages_for s.cap (length s.rows) ≤ 1
+  pub rows_rise : Rising 0 s.rows
+  pub rows_fit : RowsFit s.rows
+  pub few_programs : length s.programs ≤ 64
+  pub programs : ArePrograms s.programs
+  pub few_choices : length s.choices ≤ 4096
+  pub choices_named : AreNamed (length s.programs) s.choices
+
+-- the answer is the scenario, or its first fault
+abbrev pub IsTested : Result Scenario ScenarioFault → Scenario → Type 0
+IsTested (Ok t) s = (scenario_fault s ≡ None) × (t ≡ s)
+IsTested (Err e) s = scenario_fault s ≡ Some e

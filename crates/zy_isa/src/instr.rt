@@ -1,0 +1,132 @@
+//! Registers and instructions.
+ghost use Rattle.std.specs.Prelude.{◌≡◌, ◌<◌, Some};
+ghost use Rattle.zy_isa.specs.Registers.{number_of};
+ghost use Rattle.zy_isa.specs.Programs.{ends as ends_lem, targets_below as targets_below_lem};
+ghost use Rattle.zy_isa.specs.Canon.{reg_text, instr_text};
+
+use std::fmt;
+
+/// A register of a transaction. All are 0 when it begins.
+#[derive(Clone, Copy, Debug, PartialEq, Eq)]
+pub enum Reg {
+    R0,
+    R1,
+    R2,
+    R3,
+    R4,
+    R5,
+    R6,
+    R7,
+}
+
+/// An instruction of a transaction's program.
+#[derive(Clone, Copy, Debug, PartialEq, Eq)]
+pub enum Instr {
+    /// The register gets this number.
+    Set(Reg, u32),
+    /// The first register gets the value at the key in the second, 0 where there is none.
+    Read(Reg, Reg),
+    /// The value at the key in the first register becomes that in the second.
+    Write(Reg, Reg),
+    /// A new row: its key in the first register, its value in the second.
+    Insert(Reg, Reg),
+    /// The first register becomes the sum of both, modulo 2^32.
+    Add(Reg, Reg),
+    /// Goes to the instruction of this number, from 0, where the registers are equal.
+    Beq(Reg, Reg, u32),
+    /// The transaction's rows are installed, and it ends.
+    Commit,
+    /// The transaction's rows are dropped, and it ends.
+    Abort,
+}
+
+impl Reg {
+    /// The register's number, for an index into eight.
+    pub fn index(self) -> usize
+        ensures value { result ≡ number_of self }
+        ensures bound { result < 8 }
+    {
+        match self {
+            Reg::R0 => 0,
+            Reg::R1 => 1,
+            Reg::R2 => 2,
+            Reg::R3 => 3,
+            Reg::R4 => 4,
+            Reg::R5 => 5,
+            Reg::R6 => 6,
+            Reg::R7 => 7,
+        }
+    }
+}
+
+impl Instr {
+    /// Whether a program may end with it.
+    pub fn ends(self) -> bool
+        ensures { result ≡ ends_lem self }
+    {
+        match self {
+            Instr::Commit => true,
+            Instr::Abort => true,
+            Instr::Set(_, _) => false,
+            Instr::Read(_, _) => false,
+            Instr::Write(_, _) => false,
+            Instr::Insert(_, _) => false,
+            Instr::Add(_, _) => false,
+            Instr::Beq(_, _, _) => false,
+        }
+    }
+}
+
+impl Instr {
+    /// Whether its target, if it has one, is below `count`.
+    pub fn targets_below(self, count: usize) -> bool
+        ensures { result ≡ targets_below_lem count self }
+    {
+        match self {
+            Instr::Beq(_, _, target) => u64::from(target) < count as u64,
+            Instr::Commit => true,
+            Instr::Abort => true,
+            Instr::Set(_, _) => true,
+            Instr::Read(_, _) => true,
+            Instr::Write(_, _) => true,
+            Instr::Insert(_, _) => true,
+            Instr::Add(_, _) => true,
+        }
+    }
+}
+
+/// `r0` to `r7`.
+impl fmt::Display for Reg {
+    ghost output = { λ r. Some (reg_text r) };
+
+    fn fmt<W: fmt::Write>(&self, f: &mut fmt::Formatter<W>) -> fmt::Result {
+        match self {
+            Reg::R0 => write!(f, "r0"),
+            Reg::R1 => write!(f, "r1"),
+            Reg::R2 => write!(f, "r2"),
+            Reg::R3 => write!(f, "r3"),
+            Reg::R4 => write!(f, "r4"),
+            Reg::R5 => write!(f, "r5"),
+            Reg::R6 => write!(f, "r6"),
+            Reg::R7 => write!(f, "r7"),
+        }
+    }
+}
+
+/// The instruction as the scenario text writes it.
+impl fmt::Display for Instr {
+    ghost output = { λ i. Some (instr_text i) };
+
+    fn fmt<W: fmt::Write>(&self, f: &mut fmt::Formatter<W>) -> fmt::Result {
+        match self {
+            Instr::Set(a, number) => write!(f, "set {a} {number}"),
+            Instr::Read(a, b) => write!(f, "read {a} {b}"),
+            Instr::Write(a, b) => write!(f, "write {a} {b}"),
+            Instr::Insert(a, b) => write!(f, "insert {a} {b}"),
+            Instr::Add(a, b) => write!(f, "add {a} {b}"),
+            Instr::Beq(a, b, target) => write!(f, "beq {a} {b} @{target}"),
+            Instr::Commit => write!(f, "commit"),
+            Instr::Abort => write!(f, "abort"),
+        }
+    }
+}

@@ -1,0 +1,4 @@
+//! The page locks of one node: shared or exclusive, held to the end of the transaction, with no queue.
+#![tactic(auto)]
+
+pub mod lock;
