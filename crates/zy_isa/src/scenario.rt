@@ -1,7 +1,7 @@
 //! Scenarios that are within the limits.
-ghost use Rattle.std.specs.Prelude.{◌≡◌, ◌<◌, ◌≤◌, IfOk, length};
-ghost use Rattle.zy_isa.specs.Rows.{Rising, RowsFit, misplaced_row};
-ghost use Rattle.zy_isa.specs.Scenario.{IsScenario, IsTested, ArePrograms, misnamed_choice, has_many_rows, opening_pages_for, is_outside as is_outside_lem};
+ghost use Rattle.std.specs.Prelude.{◌≡◌, ◌<◌, ◌≤◌, IfOk, IfSome, length};
+ghost use Rattle.zy_isa.specs.Rows.{RowsFit, misplaced_row as misplaced_row_lem};
+ghost use Rattle.zy_isa.specs.Scenario.{IsScenario, IsTested, ArePrograms, misnamed_choice as misnamed_choice_lem, opening_rows as opening_rows_lem, opening_pages_for as opening_pages_for_lem};
 
 use crate::choice::Choice;
 use crate::program::Program;
@@ -78,4 +78,199 @@ impl Model for Scenario {
     ghost view = { λ s. record { version = s.version; cap = s.cap; pages = s.pages; rule = s.rule; rows = s.rows.items; programs = s.programs.items; choices = s.choices.items } };
 
     ghost invariant = { λ s. spec.IsScenario (record { version = s.version; cap = s.cap; pages = s.pages; rule = s.rule; rows = s.rows.items; programs = s.programs.items; choices = s.choices.items }) };
+}
+
+/// How many rows an opening page takes: half of what it has room for, rounded up.
+pub fn opening_rows(cap: u8) -> usize
+    ensures { result ≡ opening_rows_lem cap }
+{
+    (usize::from(cap) + 1) / 2
+}
+
+/// How many pages so many rows open with.
+pub fn opening_pages_for(cap: u8, rows: usize) -> usize
+    requires { 1 ≤ cap }
+    ensures { result ≡ opening_pages_for_lem cap rows }
+{
+    match rows.checked_sub(1) {
+        None => 1,
+        Some(others) => others / opening_rows(cap) + 1,
+    }
+}
+
+/// The index of the first row whose key is not above the one before it.
+fn misplaced_row(rows: &[Row]) -> Option<usize>
+    ensures value { result ≡ misplaced_row_lem rows.now }
+    ensures bound { IfSome result (λ i. i < length rows.now) }
+{
+    let (first, rest) = rows.split_first()?;
+    let mut last = first.key;
+    for (i, row) in rest.iter().enumerate() {
+        if row.key <= last {
+            return Some(i + 1);
+        }
+        last = row.key;
+    }
+    None
+}
+
+/// The index of the first choice that names no transaction.
+fn misnamed_choice(count: usize, choices: &[Choice]) -> Option<usize>
+    ensures value { result ≡ misnamed_choice_lem count choices.now }
+    ensures bound { IfSome result (λ i. i < length choices.now) }
+{
+    choices.iter().position(|choice| !choice.names_below(count))
+}
+
+/// Reads each row, which shows that its numbers fit.
+fn have_rows(rows: &[Row])
+    ensures { RowsFit rows.now }
+{
+    for row in rows {
+        let (_key, _value) = (row.key, row.value);
+    }
+}
+
+/// Asks each program its length, which shows that it is verified.
+fn are_programs(programs: &[Program])
+    ensures { ArePrograms programs.now }
+{
+    for program in programs {
+        let _len = program.len();
+    }
+}
+
+fn copy_programs(alloc: Global, programs: &[Program]) -> Result<Vec<Program>, AllocError>
+    ensures { IfOk result (λ copies. copies.items ≡ programs.now) }
+{
+    let mut copies = Vec::with_capacity(alloc, programs.len())?;
+    for program in programs {
+        copies.push(program.copy(alloc)?)?;
+    }
+    Ok(copies)
+}
+
+impl Scenario {
+    /// Tests the parts of a scenario, which are dropped where they are refused. It takes no memory.
+    pub fn new(
+        version: u8,
+        cap: u8,
+        pages: u16,
+        rule: Rule,
+        rows: Vec<Row>,
+        programs: Vec<Program>,
+        choices: Vec<Choice>,
+    ) -> Result<Scenario, ScenarioFault>
+        ensures { IsTested result (record { version = version; cap = cap; pages = pages; rule = rule; rows = rows.items; programs = programs.items; choices = choices.items }) }
+    {
+        if version != 1 {
+            return Err(ScenarioFault::Version);
+        }
+        if cap < 2 || cap > MAX_CAP {
+            return Err(ScenarioFault::Cap);
+        }
+        if pages < 1 || pages > MAX_PAGES {
+            return Err(ScenarioFault::Pages);
+        }
+        if rows.len() > MAX_ROWS || opening_pages_for(cap, rows.len()) > MAX_OPENING_PAGES {
+            return Err(ScenarioFault::RowCount);
+        }
+        if let Some(i) = misplaced_row(rows.as_slice()) {
+            return Err(ScenarioFault::RowOrder(i as u16));
+        }
+        if programs.len() > MAX_TXNS {
+            return Err(ScenarioFault::TxnCount);
+        }
+        if choices.len() > MAX_CHOICES {
+            return Err(ScenarioFault::ChoiceCount);
+        }
+        if let Some(i) = misnamed_choice(programs.len(), choices.as_slice()) {
+            return Err(ScenarioFault::Choice(i as u16));
+        }
+        have_rows(rows.as_slice());
+        are_programs(programs.as_slice());
+        Ok(Scenario {
+            version,
+            cap,
+            pages,
+            rule,
+            rows,
+            programs,
+            choices,
+        })
+    }
+
+    /// The version, 1.
+    pub fn version(&self) -> u8
+        ensures value { result ≡ self.now.version }
+        ensures tested { IsScenario self.now }
+    {
+        self.version
+    }
+
+    /// How many rows a page may have, 2 to 16.
+    pub fn cap(&self) -> u8
+        ensures value { result ≡ self.now.cap }
+        ensures tested { IsScenario self.now }
+    {
+        self.cap
+    }
+
+    /// How many pages there may be, 1 to 512.
+    pub fn pages(&self) -> u16
+        ensures value { result ≡ self.now.pages }
+        ensures tested { IsScenario self.now }
+    {
+        self.pages
+    }
+
+    /// The rule for locked pages.
+    pub fn rule(&self) -> Rule
+        ensures value { result ≡ self.now.rule }
+        ensures tested { IsScenario self.now }
+    {
+        self.rule
+    }
+
+    /// The rows that the pages open with, in key order.
+    pub fn rows(&self) -> &[Row]
+        ensures value { result.now ≡ self.entry.now.rows }
+        ensures tested { IsScenario self.entry.now }
+    {
+        self.rows.as_slice()
+    }
+
+    /// The transactions' programs, by number.
+    pub fn programs(&self) -> &[Program]
+        ensures value { result.now ≡ self.entry.now.programs }
+        ensures tested { IsScenario self.entry.now }
+    {
+        self.programs.as_slice()
+    }
+
+    /// The choices in order.
+    pub fn choices(&self) -> &[Choice]
+        ensures value { result.now ≡ self.entry.now.choices }
+        ensures tested { IsScenario self.entry.now }
+    {
+        self.choices.as_slice()
+    }
+
+    /// The same scenario once more.
+    pub fn copy(&self, alloc: Global) -> Result<Scenario, AllocError>
+        ensures { IfOk result (λ s. s ≡ self.now) }
+    {
+        let rows = self.rows.as_slice().to_vec(alloc)?;
+        let programs = copy_programs(alloc, self.programs.as_slice())?;
+        let choices = self.choices.as_slice().to_vec(alloc)?;
+        Ok(Scenario {
+            version: self.version,
+            cap: self.cap,
+            pages: self.pages,
+            rule: self.rule,
+            rows,
+            programs,
+            choices,
+        })
+    }
 }
