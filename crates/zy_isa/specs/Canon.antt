@@ -1,16 +1,20 @@
--- How the texts write nodes, rules, registers, instructions, rows and choices.
-use Rattle.std.specs.Prelude.{ℕ, List, ◌++◌, codes}
+-- The canonical text of a scenario: each line as its words, with one space between them.
+use Rattle.std.specs.Prelude.{ℕ, ◌+◌, List, [], ◌∷◌, ◌++◌, map, codes}
 use Rattle.std.specs.Fmt.{decimal}
+use Rattle.std.specs.List.{flat_map}
 use Rattle.zy_isa.specs.declared.node.Node.{Node}
 use Rattle.zy_isa.specs.declared.node.Node.TheVariants.{A, B}
 use Rattle.zy_isa.specs.declared.rule.Rule.{Rule}
 use Rattle.zy_isa.specs.declared.rule.Rule.TheVariants.{Held}
+use Rattle.zy_isa.specs.declared.row.Row.{Row}
 use Rattle.zy_isa.specs.declared.instr.Reg.{Reg}
 use Rattle.zy_isa.specs.declared.instr.Reg.TheVariants.{R0, R1, R2, R3, R4, R5, R6, R7}
 use Rattle.zy_isa.specs.declared.instr.Instr.{Instr}
 use Rattle.zy_isa.specs.declared.instr.Instr.TheVariants.{Set, Read, Write, Insert, Add, Beq, Commit, Abort}
 use Rattle.zy_isa.specs.declared.choice.Choice.{Choice}
 use Rattle.zy_isa.specs.declared.choice.Choice.TheVariants.{Begin, Kill, Run}
+use Rattle.zy_isa.specs.Words.{spaced}
+use Rattle.zy_isa.specs.Scenario.{Scenario}
 
 abbrev pub node_text : Node → List ℕ
 node_text A = codes "A"
@@ -29,17 +33,51 @@ reg_text R5 = codes "r5"
 reg_text R6 = codes "r6"
 reg_text R7 = codes "r7"
 
+abbrev pub instr_words : Instr → List (List ℕ)
+instr_words (Set a n) = codes "set" ∷ reg_text a ∷ decimal n ∷ []
+instr_words (Read a b) = codes "read" ∷ reg_text a ∷ reg_text b ∷ []
+instr_words (Write a b) = codes "write" ∷ reg_text a ∷ reg_text b ∷ []
+instr_words (Insert a b) = codes "insert" ∷ reg_text a ∷ reg_text b ∷ []
+instr_words (Add a b) = codes "add" ∷ reg_text a ∷ reg_text b ∷ []
+instr_words (Beq a b n) = codes "beq" ∷ reg_text a ∷ reg_text b ∷ (64 ∷ decimal n) ∷ []
+instr_words Commit = codes "commit" ∷ []
+instr_words Abort = codes "abort" ∷ []
+
+abbrev pub choice_words : Choice → List (List ℕ)
+choice_words (Begin t) = codes "C" ∷ codes "begin" ∷ decimal t ∷ []
+choice_words (Kill t) = codes "C" ∷ codes "kill" ∷ decimal t ∷ []
+choice_words (Run n t) = node_text n ∷ codes "run" ∷ decimal t ∷ []
+
 abbrev pub instr_text : Instr → List ℕ
-instr_text (Set a n) = codes "set " ++ reg_text a ++ codes " " ++ decimal n
-instr_text (Read a b) = codes "read " ++ reg_text a ++ codes " " ++ reg_text b
-instr_text (Write a b) = codes "write " ++ reg_text a ++ codes " " ++ reg_text b
-instr_text (Insert a b) = codes "insert " ++ reg_text a ++ codes " " ++ reg_text b
-instr_text (Add a b) = codes "add " ++ reg_text a ++ codes " " ++ reg_text b
-instr_text (Beq a b n) = codes "beq " ++ reg_text a ++ codes " " ++ reg_text b ++ codes " @" ++ decimal n
-instr_text Commit = codes "commit"
-instr_text Abort = codes "abort"
+instr_text i = spaced (instr_words i)
 
 abbrev pub choice_text : Choice → List ℕ
-choice_text (Begin t) = codes "C begin " ++ decimal t
-choice_text (Kill t) = codes "C kill " ++ decimal t
-choice_text (Run n t) = node_text n ++ codes " run " ++ decimal t
+choice_text c = spaced (choice_words c)
+
+abbrev pub row_words : Row → List (List ℕ)
+row_words r = codes "row" ∷ decimal r.key ∷ decimal r.value ∷ []
+
+abbrev pub header_words : Scenario → List (List (List ℕ))
+header_words s =
+    (codes "zephyr" ∷ codes "1" ∷ [])
+    ∷ (codes "cap" ∷ decimal s.cap ∷ [])
+    ∷ (codes "pages" ∷ decimal s.pages ∷ [])
+    ∷ (codes "rule" ∷ rule_text s.rule ∷ []) ∷ []
+
+-- the programs from number k on, each under its number
+abbrev pub program_words : ℕ → List (List Instr) → List (List (List ℕ))
+program_words k [] = []
+program_words k (p ∷ ps) = (codes "txn" ∷ decimal k ∷ []) ∷ map instr_words p ++ program_words (k + 1) ps
+
+-- the words of each line of the canonical text
+abbrev pub canon_words : Scenario → List (List (List ℕ))
+canon_words s =
+    header_words s ++ (map row_words s.rows ++ (program_words 0 s.programs ++ (map choice_words s.choices ++ (codes "end" ∷ []) ∷ [])))
+
+-- a text and the end of its line
+abbrev pub line_of : List ℕ → List ℕ
+line_of text = text ++ 10 ∷ []
+
+-- the canonical text of a scenario
+abbrev pub canon : Scenario → List ℕ
+canon s = flat_map (λ ws. line_of (spaced ws)) (canon_words s)
