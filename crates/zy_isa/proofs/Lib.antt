@@ -1,1 +1,3 @@
 pub mod ScenarioLemmas
+pub mod StreamLemmas
+pub mod WritingLemmas

@@ -14,6 +14,7 @@ use Rattle.zy_isa.specs.declared.instr.Instr.TheVariants.{Set, Read, Write, Inse
 use Rattle.zy_isa.specs.declared.choice.Choice.{Choice}
 use Rattle.zy_isa.specs.declared.choice.Choice.TheVariants.{Begin, Kill, Run}
 use Rattle.zy_isa.specs.Words.{spaced}
+use Rattle.zy_isa.specs.Writing.{line_of}
 use Rattle.zy_isa.specs.Scenario.{Scenario}
 
 abbrev pub node_text : Node → List ℕ
@@ -73,10 +74,6 @@ program_words k (p ∷ ps) = (codes "txn" ∷ decimal k ∷ []) ∷ map instr_wo
 abbrev pub canon_words : Scenario → List (List (List ℕ))
 canon_words s =
     header_words s ++ (map row_words s.rows ++ (program_words 0 s.programs ++ (map choice_words s.choices ++ (codes "end" ∷ []) ∷ [])))
-
--- a text and the end of its line
-abbrev pub line_of : List ℕ → List ℕ
-line_of text = text ++ 10 ∷ []
 
 -- the canonical text of a scenario
 abbrev pub canon : Scenario → List ℕ

@@ -3,8 +3,15 @@
 
 pub mod choice;
 pub mod instr;
+pub mod memory;
 pub mod node;
 pub mod program;
+pub mod reading;
 pub mod row;
 pub mod rule;
 pub mod scenario;
+pub mod section;
+pub mod stream;
+#[cfg(test)]
+mod stream_tests;
+pub mod writing;

@@ -1,1 +1,3 @@
+pub mod LockTable
 pub mod Locks
+pub mod Order

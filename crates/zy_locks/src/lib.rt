@@ -2,3 +2,6 @@
 #![tactic(auto)]
 
 pub mod lock;
+pub mod locks;
+#[cfg(test)]
+mod tests;

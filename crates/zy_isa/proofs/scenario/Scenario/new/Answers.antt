@@ -21,8 +21,8 @@ invariant_of-result c =
       programs = subst ArePrograms c.as_slice-4.ensures.value c.are_programs.ensures;
       few_choices = omega arith;
       choices_named =
-        let count = c.len-4.ensures ∙ sym c.as_slice-4.ensures.len ∙ ap length c.as_slice-4.ensures.value in
-        are_named (length c.args.programs.items) c.args.choices.items
+          let count = c.len-4.ensures ∙ sym c.as_slice-4.ensures.len ∙ ap length c.as_slice-4.ensures.value in
+          are_named (length c.args.programs.items) c.args.choices.items
           (subst (λ n. misnamed_choice n c.args.choices.items ≡ None) count
-            (sym (c.in_default-misnamed_choice.ensures.value ∙ ap (misnamed_choice c.len-4.result) c.as_slice-2.ensures.value)));
+          (sym (c.in_default-misnamed_choice.ensures.value ∙ ap (misnamed_choice c.len-4.result) c.as_slice-2.ensures.value)));
     }

@@ -1,0 +1,18 @@
+-- What a call that writes lines of text did.
+use Rattle.std.specs.Prelude.{◌≡◌, ℕ, ◌+◌, List, [], ◌∷◌, ◌++◌, Option, Result, Ok, Err}
+use Rattle.std.specs.Io.KnownBytes.{Appends}
+use Rattle.zy_isa.specs.Streams.{WroteFront}
+use Rattle.zy_isa.specs.declared.writing.TextFault.{TextFault}
+use Rattle.zy_isa.specs.declared.writing.TextFault.TheVariants.{Write, Memory}
+
+-- a text and the end of its line
+abbrev pub line_of : List ℕ → List ℕ
+line_of text = text ++ 10 ∷ []
+
+-- A call that writes went from the bytes old and the number of failures before to new and after.
+module _ (old new : Option (List ℕ)) (before after : ℕ) where
+  -- at Ok all of the text went out; else a front of it, and Write comes where a call failed or took none
+  abbrev pub Wrote : {X : Type 0} → Result X TextFault → List ℕ → Type 0
+  Wrote (Ok x) text = Appends old new text × (after ≡ before)
+  Wrote (Err Write) text = WroteFront old new text × (after ≡ before + 1)
+  Wrote (Err Memory) text = WroteFront old new text × (after ≡ before)

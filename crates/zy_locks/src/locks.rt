@@ -1,0 +1,209 @@
+//! The locks of one node.
+ghost use Rattle.std.specs.Prelude.{◌≡◌, ◌==◌, ◌+◌, ◌<◌, ◌≤◌, IfOk, OnOk, OnErr, IsOk, [], length, slice_index_or};
+ghost use Rattle.zy_locks.specs.Locks.{is_shared as is_shared_lem, stronger as stronger_lem, clashes as clashes_lem, conflict, is_locked, drop_locks};
+ghost use Rattle.zy_locks.specs.LockTable.{Tries};
+ghost use Rattle.zy_locks.specs.Order.{rank as rank_lem, LocksRise, IsPlace, Finds};
+
+use crate::lock::{Lock, LockKind};
+use std::alloc::{AllocError, Global};
+use std::marker::Model;
+
+/// What became of a try to lock a page.
+#[derive(Clone, Copy, Debug, PartialEq, Eq)]
+pub enum Tried {
+    /// The transaction holds the lock.
+    Granted,
+    /// Another's lock is in the way.
+    Conflict,
+    /// There was no memory for one lock more.
+    Memory,
+}
+
+/// The locks of one node, in order of page and then transaction, so that a page's locks stand together.
+#[derive(Drop)]
+pub struct Locks {
+    locks: Vec<Lock>,
+}
+
+impl Model for Locks {
+    ghost use Rattle.std.specs.Prelude.{◌-◌, length};
+    ghost use Rattle.std.specs.Vec.{vec_capacity};
+    ghost use Rattle.zy_locks.specs.LockTable.{LockTable};
+    ghost use Rattle.zy_locks.specs.Order.{LocksRise};
+
+    ghost Value = { LockTable };
+
+    ghost view = { λ a. record { locks = a.locks.items; spare = vec_capacity a.locks - length a.locks.items } };
+
+    ghost invariant = { λ a. LocksRise a.locks.items };
+}
+
+impl Locks {
+    /// No locks. It takes no memory.
+    pub fn new(alloc: Global) -> Locks
+        ensures { result ≡ record { locks = []; spare = 0 } }
+    {
+        Locks {
+            locks: Vec::new(alloc),
+        }
+    }
+
+    /// Makes room for `n` more locks.
+    pub fn reserve(&mut self, n: usize) -> Result<(), AllocError>
+        ensures locks { self.new.locks ≡ self.old.locks }
+        ensures room { OnOk result (n ≤ self.new.spare) }
+        ensures grows { self.old.spare ≤ self.new.spare }
+        ensures kept { OnErr result (self.new ≡ self.old) }
+        ensures succeeds { n ≤ self.old.spare → IsOk result }
+    {
+        self.locks.reserve(n)
+    }
+
+    /// How many locks there are.
+    pub fn len(&self) -> usize
+        ensures { result ≡ length self.now.locks }
+    {
+        self.locks.len()
+    }
+
+    /// Whether there are none.
+    pub fn is_empty(&self) -> bool
+        ensures { result ≡ (length self.now.locks == 0) }
+    {
+        self.locks.is_empty()
+    }
+
+    /// The locks, in order of page and then transaction.
+    pub fn locks(&self) -> &[Lock]
+        ensures value { result.now ≡ self.now.locks }
+        ensures rise { LocksRise self.now.locks }
+    {
+        self.locks.as_slice()
+    }
+
+    /// The lock at index `i`.
+    pub fn lock_at(&self, i: usize) -> Lock
+        requires { i < length self.now.locks }
+        ensures { result ≡ slice_index_or self.now.locks i result }
+    {
+        self.locks[i]
+    }
+
+    /// Whether anyone holds the page.
+    pub fn locked(&self, page: u16) -> bool
+        ensures { result ≡ is_locked self.now.locks page }
+    {
+        let at = place(&self.locks, rank(page, 0));
+        at < self.len() && self.locks[at].page == page
+    }
+
+    /// Whether another's lock keeps `txn` from locking the page.
+    pub fn conflicts(&self, page: u16, txn: u8, kind: LockKind) -> bool
+        ensures { result ≡ conflict self.now.locks page txn kind }
+    {
+        let start = place(&self.locks, rank(page, 0));
+        for lock in &self.locks[start..] {
+            if lock.page != page {
+                return false;
+            }
+            if clashes(lock, page, txn, kind) {
+                return true;
+            }
+        }
+        false
+    }
+
+    /// Locks the page for `txn`, or makes the lock that it has stronger, unless another's is in the way.
+    pub fn try_lock(&mut self, page: u16, txn: u8, kind: LockKind) -> Tried
+        ensures { Tries page txn kind self.old self.new result }
+    {
+        if self.conflicts(page, txn, kind) {
+            return Tried::Conflict;
+        }
+        match search(&self.locks, page, txn) {
+            Ok(at) => {
+                self.locks[at].kind = stronger(self.locks[at].kind, kind);
+                Tried::Granted
+            }
+            Err(at) => {
+                if self.locks.reserve(1).is_err() {
+                    return Tried::Memory;
+                }
+                self.locks.insert(at, Lock { page, txn, kind }).unwrap();
+                Tried::Granted
+            }
+        }
+    }
+
+    /// Drops every lock of `txn`, and keeps the room.
+    pub fn release_all(&mut self, txn: u8)
+        ensures locks { self.new.locks ≡ drop_locks txn self.old.locks }
+        ensures room { length self.new.locks + self.new.spare ≡ length self.old.locks + self.old.spare }
+    {
+        self.locks.retain(|lock| lock.txn != txn);
+    }
+
+    /// The same locks once more.
+    pub fn copy(&self, alloc: Global) -> Result<Locks, AllocError>
+        ensures { IfOk result (λ copy. copy.locks ≡ self.now.locks) }
+    {
+        let mut locks = Vec::with_capacity(alloc, self.len())?;
+        locks.extend_from_slice(&self.locks)?;
+        Ok(Locks { locks })
+    }
+}
+
+/// Where `txn`'s lock on the page stands in the order.
+fn rank(page: u16, txn: u8) -> u32
+    ensures { result ≡ rank_lem page txn }
+{
+    u32::from(page) * 256 + u32::from(txn)
+}
+
+/// How many locks are below a rank.
+fn place(locks: &[Lock], below: u32) -> usize
+    requires { LocksRise locks.now }
+    ensures { IsPlace below locks.now result }
+{
+    locks.partition_point(|lock| rank(lock.page, lock.txn) < below)
+}
+
+/// The index of `txn`'s lock on the page, or the one where it would stand.
+fn search(locks: &[Lock], page: u16, txn: u8) -> Result<usize, usize>
+    requires { LocksRise locks.now }
+    ensures { Finds (rank_lem page txn) locks.now result }
+{
+    let sought = rank(page, txn);
+    let at = place(locks, sought);
+    if at < locks.len() && rank(locks[at].page, locks[at].txn) == sought {
+        Ok(at)
+    } else {
+        Err(at)
+    }
+}
+
+/// Whether a lock keeps `txn` from locking the page.
+fn clashes(lock: &Lock, page: u16, txn: u8, kind: LockKind) -> bool
+    ensures { result ≡ clashes_lem page txn kind lock.now }
+{
+    lock.page == page && lock.txn != txn && !(is_shared(lock.kind) && is_shared(kind))
+}
+
+fn is_shared(kind: LockKind) -> bool
+    ensures { result ≡ is_shared_lem kind }
+{
+    match kind {
+        LockKind::Shared => true,
+        LockKind::Exclusive => false,
+    }
+}
+
+/// What a lock becomes by a further ask.
+fn stronger(held: LockKind, asked: LockKind) -> LockKind
+    ensures { result ≡ stronger_lem held asked }
+{
+    match held {
+        LockKind::Shared => asked,
+        LockKind::Exclusive => LockKind::Exclusive,
+    }
+}

@@ -1,0 +1,66 @@
+-- Which line an instruction leads to.
+use Rattle.std.proofs.Common.{◌≡◌, ◌∙◌, ℕ, ◌+◌, ◌<◌, ◌%◌, ◌^◌, List, refl, sym, ap, arith, Bool, true, false, Some, None, Option, length, zero, suc, [], ◌∷◌, get_or}
+use Rattle.std.specs.Prelude.{◌==◌, not, slice_get, unwrap_or}
+use Rattle.zy_isa.specs.declared.node.Node.{Node}
+use Rattle.zy_isa.specs.declared.node.Node.TheVariants.{A, B}
+use Rattle.zy_isa.specs.declared.instr.Reg.{Reg}
+use Rattle.zy_isa.specs.declared.instr.Instr.{Instr}
+use Rattle.zy_isa.specs.declared.instr.Instr.TheVariants.{Read, Write, Insert, Add, Beq}
+use Rattle.zy_isa.specs.Scenario.{Scenario}
+use Rattle.zy_machine.specs.declared.outcome.Outcome.TheVariants.{Idle, Elsewhere}
+use Rattle.zy_machine.specs.State.{View, Txn}
+use Rattle.zy_machine.specs.Change.{quiet, reg, txn_at}
+use Rattle.zy_machine.specs.Client.{is_active}
+use Rattle.zy_machine.specs.Run.{Reads, Writes, Inserts, set_row, jump_row, key_row, instr_row, run_row, same_node, program_of}
+use Rattle.zy_isa.specs.contracts.node.Node.{the_type}
+use denote.Enum.Bare.{sameb}
+
+pub add-is : (sc : Scenario) (t : ℕ) (r q : Reg) (f : View) (x : Txn) (sum : ℕ) → x ≡ txn_at f t → sum ≡ (reg x.regs r + reg x.regs q) % 2 ^ 32 → instr_row sc t (Some (Add r q)) (txn_at f t).regs f ≡ set_row t r sum f
+unfolding instr_row
+add-is sc t r q f x sum e h = rw (h, e) refl
+
+pub beq-is : (sc : Scenario) (t : ℕ) (r q : Reg) (to : ℕ) (f : View) (x : Txn) (a b : ℕ) → x ≡ txn_at f t → a ≡ reg x.regs r → b ≡ reg x.regs q → instr_row sc t (Some (Beq r q to)) (txn_at f t).regs f ≡ jump_row t (a == b) to f
+unfolding instr_row
+beq-is sc t r q to f x a b e ha hb = rw (ha, hb, e) refl
+
+pub read-is : (sc : Scenario) (t : ℕ) (r q : Reg) (f : View) (x : Txn) (k : ℕ) → x ≡ txn_at f t → k ≡ reg x.regs q → instr_row sc t (Some (Read r q)) (txn_at f t).regs f ≡ key_row sc t (Reads r) k f
+unfolding instr_row
+read-is sc t r q f x k e h = rw (h, e) refl
+
+pub write-is : (sc : Scenario) (t : ℕ) (r q : Reg) (f : View) (x : Txn) (k v : ℕ) → x ≡ txn_at f t → k ≡ reg x.regs r → v ≡ reg x.regs q → instr_row sc t (Some (Write r q)) (txn_at f t).regs f ≡ key_row sc t (Writes v) k f
+unfolding instr_row
+write-is sc t r q f x k v e h g = rw (h, g, e) refl
+
+pub insert-is : (sc : Scenario) (t : ℕ) (r q : Reg) (f : View) (x : Txn) (k v : ℕ) → x ≡ txn_at f t → k ≡ reg x.regs r → v ≡ reg x.regs q → instr_row sc t (Some (Insert r q)) (txn_at f t).regs f ≡ key_row sc t (Inserts v) k f
+unfolding instr_row
+insert-is sc t r q f x k v e h g = rw (h, g, e) refl
+
+pub sameb-node : (a b : Node) → sameb the_type a b ≡ same_node a b
+sameb-node A A = refl
+sameb-node A B = refl
+sameb-node B A = refl
+sameb-node B B = refl
+
+-- the three ways of a run
+pub run-idle : (sc : Scenario) (n : Node) (t : ℕ) (f : View) (x : Txn) → x ≡ txn_at f t → is_active x.status ≡ false → run_row sc n t f ≡ quiet f Idle
+unfolding run_row
+run-idle sc n t f x e h = rw (← e, h) refl
+
+pub run-elsewhere : (sc : Scenario) (n : Node) (t : ℕ) (f : View) (x : Txn) → x ≡ txn_at f t → is_active x.status ≡ true → same_node x.node n ≡ false → run_row sc n t f ≡ quiet f Elsewhere
+unfolding run_row
+run-elsewhere sc n t f x e h g = rw (← e, h, g) refl
+
+pub run-instr : (sc : Scenario) (n : Node) (t : ℕ) (f : View) (x : Txn) (i : Instr) → x ≡ txn_at f t → is_active x.status ≡ true → same_node x.node n ≡ true → slice_get (program_of sc t) x.pc ≡ Some i
+    → run_row sc n t f ≡ instr_row sc t (Some i) (txn_at f t).regs f
+unfolding run_row
+run-instr sc n t f x i e h g p = rw (← e, h, g, p) refl
+
+-- what stands at an index that was read
+pub got : {X : Type 0} (xs : List X) (i : ℕ) (x : X) → i < length xs → x ≡ get_or xs i x → slice_get xs i ≡ Some x
+got [] i x lt e = absurd (omega arith)
+got (y ∷ ys) zero x lt e = ap Some (sym e)
+got (y ∷ ys) (suc i) x lt e = got ys i x (omega arith) e
+
+-- the program that stands at an index that was read
+pub program-read : (sc : Scenario) (i t : ℕ) (p : List Instr) → i ≡ t → t < length sc.programs → p ≡ get_or sc.programs i p → program_of sc t ≡ p
+program-read sc i t p e lt h = ap (λ o. unwrap_or o []) (got sc.programs t p lt (h ∙ ap (λ j. get_or sc.programs j p) e))

@@ -1,0 +1,119 @@
+-- How the changes of a line go together.
+use Rattle.std.proofs.Common.{◌≡◌, ◌∙◌, ℕ, ◌+◌, List, [], ◌∷◌, refl, sym, ap, arith, Bool, true, false, cond, inl, inr, IsTrue}
+use Rattle.std.specs.Prelude.{◌==◌, ◌&&◌, ◌||◌, not, nat_lt, filter}
+use Rattle.std.proofs.lemmas.Bool.{eqb-true, eq-eqb, and_parts}
+use Rattle.zy_isa.specs.declared.node.Node.{Node}
+use Rattle.zy_isa.specs.declared.node.Node.TheVariants.{A, B}
+use Rattle.zy_isa.specs.declared.row.Row.{Row}
+use Rattle.zy_locks.specs.declared.lock.Lock.{Lock}
+use Rattle.zy_locks.specs.declared.lock.LockKind.{LockKind}
+use Rattle.zy_locks.specs.Locks.{add_lock, drop_locks, stronger}
+use Rattle.zy_machine.specs.declared.outcome.Why.{Why}
+use Rattle.zy_machine.specs.State.{State, View, facing, seen_from}
+use Rattle.std.specs.Prelude.{unwrap_or}
+use Rattle.zy_isa.specs.declared.instr.Reg.{Reg}
+use Rattle.zy_isa.specs.Rows.{get_row, put_row}
+use Rattle.zy_isa.specs.Scenario.{Scenario}
+use Rattle.zy_locks.specs.declared.lock.LockKind.TheVariants.{Shared, Exclusive}
+use Rattle.zy_machine.specs.declared.outcome.Why.TheVariants.{Missing, Duplicate, NoPage}
+use Rattle.zy_machine.specs.declared.outcome.Outcome.TheVariants.{Did, Aborted}
+use Rattle.zy_machine.specs.Pages.{rows_of}
+use Rattle.zy_machine.specs.Change.{quiet, with_reg, txn_at, aborted, did, locked}
+use Rattle.zy_machine.specs.Run.{read_row, write_row, insert_row, full_row, abort_row, is_there, has_room}
+
+pub facing-seen_from : (n : Node) (v : View) → facing n (seen_from n v) ≡ v
+facing-seen_from A v = refl
+facing-seen_from B v = refl
+
+-- a lock changes no transaction
+pub locked-txn_at : (t p u : ℕ) (kind : LockKind) (s : View) → txn_at (locked t p kind s) u ≡ txn_at s u
+unfolding locked txn_at
+locked-txn_at t p u kind s = refl
+
+-- an instruction done before the lock is noted, or after it
+pub locked-did : (t p pc : ℕ) (kind : LockKind) (regs : List ℕ) (rows : List Row) (s : View) → locked t p kind (did t pc regs rows s) ≡ did t pc regs rows (locked t p kind s)
+unfolding locked did txn_at
+locked-did t p pc kind regs rows s = refl
+
+drop_first : (t : ℕ) (x : Lock) (xs : List Lock) → x.txn ≡ t → drop_locks t (x ∷ xs) ≡ drop_locks t xs
+drop_first t x xs e = rw (eq-eqb x.txn t e) refl
+
+drop_same : (t : ℕ) (x : Lock) (xs ys : List Lock) → drop_locks t xs ≡ drop_locks t ys → drop_locks t (x ∷ xs) ≡ drop_locks t (x ∷ ys)
+drop_same t x xs ys e = ap (λ l. cond (not (x.txn == t)) (x ∷ l) l) e
+
+drop_added : (p t : ℕ) (kind : LockKind) (x : Lock) (xs : List Lock) (same before : Bool) → drop_locks t (add_lock p t kind xs) ≡ drop_locks t xs → ((x.page == p) && (x.txn == t)) ≡ same
+    → drop_locks t (cond same (record x { kind = stronger x.kind kind } ∷ xs) (cond before (record { page = p; txn = t; kind = kind } ∷ x ∷ xs) (x ∷ add_lock p t kind xs))) ≡ drop_locks t (x ∷ xs)
+drop_added p t kind x xs true before rest e =
+    let own = eqb-true x.txn t (and_parts (x.page == p) (x.txn == t) e).1 in
+    drop_first t (record x { kind = stronger x.kind kind }) xs own ∙ sym (drop_first t x xs own)
+drop_added p t kind x xs false true rest e = drop_first t (record { page = p; txn = t; kind = kind }) (x ∷ xs) refl
+drop_added p t kind x xs false false rest e = drop_same t x (add_lock p t kind xs) xs rest
+
+-- t's new lock goes with its others
+pub drop_locks-add_lock : (p t : ℕ) (kind : LockKind) (xs : List Lock) → drop_locks t (add_lock p t kind xs) ≡ drop_locks t xs
+drop_locks-add_lock p t kind [] = drop_first t (record { page = p; txn = t; kind = kind }) [] refl
+drop_locks-add_lock p t kind (x ∷ xs) =
+    drop_added p t kind x xs ((x.page == p) && (x.txn == t)) (nat_lt p x.page || ((x.page == p) && nat_lt t x.txn)) (drop_locks-add_lock p t kind xs) refl
+
+-- an abort drops the lock that was just taken
+pub aborted-locked : (t p : ℕ) (kind : LockKind) (why : Why) (s : View) → aborted t why (locked t p kind s) ≡ aborted t why s
+unfolding aborted locked txn_at
+aborted-locked t p kind why s = rw (drop_locks-add_lock p t kind s.me.locks) refl
+
+-- what a node sees once a lock is taken
+locked-facing : (n : Node) (t p : ℕ) (kind : LockKind) (s s1 : State) → s1 ≡ seen_from n (locked t p kind (facing n s)) → facing n s1 ≡ locked t p kind (facing n s)
+locked-facing n t p kind s s1 e = ap (facing n) e ∙ facing-seen_from n (locked t p kind (facing n s))
+
+-- a read: the lock, and then the register
+pub read-made : (n : Node) (t : ℕ) (r : Reg) (k p value : ℕ) (s s1 s2 : State) → s1 ≡ seen_from n (locked t p Shared (facing n s))
+    → s2 ≡ (let f = facing n s1 in let x = txn_at f t in seen_from n (did t (x.pc + 1) (with_reg r value x.regs) x.rows f))
+    → value ≡ (let f = facing n s in unwrap_or (get_row (txn_at f t).rows k) (unwrap_or (get_row (rows_of f.me.pages p) k) 0))
+    → s2 ≡ seen_from n (read_row t r k p (locked t p Shared (facing n s))).after
+unfolding read_row locked txn_at
+read-made n t r k p value s s1 s2 e1 e2 ev =
+    let f = locked t p Shared (facing n s) in
+    let x = txn_at f t in
+    (rw (locked-facing n t p Shared s s1 e1) at e2) ∙ ap (λ z. seen_from n (did t (x.pc + 1) (with_reg r z x.regs) x.rows f)) ev
+
+-- a private row put, and then the lock
+pub put-made : (n : Node) (t k v p : ℕ) (s s1 s2 : State)
+    → s1 ≡ (let f = facing n s in let x = txn_at f t in seen_from n (did t (x.pc + 1) x.regs (put_row k v x.rows) f))
+    → s2 ≡ seen_from n (locked t p Exclusive (facing n s1))
+    → let f = locked t p Exclusive (facing n s) in let x = txn_at f t in s2 ≡ seen_from n (did t (x.pc + 1) x.regs (put_row k v x.rows) f)
+unfolding locked did txn_at
+put-made n t k v p s s1 s2 e1 e2 =
+    let f = facing n s in
+    let x = txn_at f t in
+    e2 ∙ ap (λ (z : View). seen_from n (locked t p Exclusive z)) (ap (facing n) e1 ∙ facing-seen_from n (did t (x.pc + 1) x.regs (put_row k v x.rows) f))
+
+-- a lock changes nothing of what is there, nor of the room
+there-locked : (t k p : ℕ) (kind : LockKind) (s : View) → is_there t k p (locked t p kind s) ≡ is_there t k p s
+unfolding locked txn_at
+there-locked t k p kind s = refl
+
+room-locked : (sc : Scenario) (t p : ℕ) (kind : LockKind) (s : View) → has_room sc t p (locked t p kind s) ≡ has_room sc t p s
+unfolding locked txn_at
+room-locked sc t p kind s = refl
+
+-- write: where the key is there, and where it is not
+pub write-did : (t k v p : ℕ) (kind : LockKind) (s : View) → is_there t k p s ≡ true → let f = locked t p kind s in let x = txn_at f t in write_row t k v p f ≡ quiet (did t (x.pc + 1) x.regs (put_row k v x.rows) f) Did
+unfolding write_row locked txn_at
+write-did t k v p kind s e = rw e refl
+
+pub write-missing : (t k v p : ℕ) (kind : LockKind) (s : View) → is_there t k p s ≡ false → write_row t k v p (locked t p kind s) ≡ quiet (aborted t Missing s) (Aborted Missing)
+unfolding write_row abort_row
+write-missing t k v p kind s e = rw (there-locked t k p kind s ∙ e, aborted-locked t p kind Missing s) refl
+
+-- insert: where the key is there, where the page is full, and where it has room
+pub insert-duplicate : (sc : Scenario) (t k v p : ℕ) (kind : LockKind) (s : View) → is_there t k p s ≡ true → insert_row sc t k v p (locked t p kind s) ≡ quiet (aborted t Duplicate s) (Aborted Duplicate)
+unfolding insert_row abort_row
+insert-duplicate sc t k v p kind s e = rw (there-locked t k p kind s ∙ e, aborted-locked t p kind Duplicate s) refl
+
+pub insert-full : (sc : Scenario) (t k v p : ℕ) (kind : LockKind) (s : View) → is_there t k p s ≡ false → has_room sc t p s ≡ false → insert_row sc t k v p (locked t p kind s) ≡ full_row t s
+unfolding insert_row full_row abort_row
+insert-full sc t k v p kind s e h = rw (there-locked t k p kind s ∙ e, room-locked sc t p kind s ∙ h, aborted-locked t p kind NoPage s) refl
+
+pub insert-did : (sc : Scenario) (t k v p : ℕ) (kind : LockKind) (s : View) → is_there t k p s ≡ false → has_room sc t p s ≡ true
+    → let f = locked t p kind s in let x = txn_at f t in insert_row sc t k v p f ≡ quiet (did t (x.pc + 1) x.regs (put_row k v x.rows) f) Did
+unfolding insert_row
+insert-did sc t k v p kind s e h = rw (there-locked t k p kind s ∙ e, room-locked sc t p kind s ∙ h) refl

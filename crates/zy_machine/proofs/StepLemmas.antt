@@ -1,0 +1,28 @@
+-- A line that was made is the step of its choice.
+use Rattle.std.proofs.Common.{◌≡◌, ◌∙◌, ℕ, refl, sym, ap, Result, Ok, Err}
+use Rattle.std.specs.Prelude.{slice_get}
+use Rattle.zy_isa.specs.declared.node.Node.{Node}
+use Rattle.zy_isa.specs.declared.node.Node.TheVariants.{A}
+use Rattle.zy_isa.specs.declared.choice.Choice.TheVariants.{Begin, Kill, Run}
+use Rattle.zy_isa.specs.Scenario.{Scenario}
+use Rattle.zy_machine.specs.declared.store.Store.{Store}
+use Rattle.zy_machine.specs.declared.answer.Answer.{Answer}
+use Rattle.zy_machine.specs.State.{facing}
+use Rattle.zy_machine.specs.Change.{txn_or}
+use Rattle.zy_machine.specs.Client.{begin_row, kill_row}
+use Rattle.zy_machine.specs.Run.{run_row}
+use Rattle.zy_machine.specs.Play.{step, move}
+use Rattle.zy_machine.specs.Stores.{shown, IsMade, Makes, Steps}
+
+pub begin-steps : (sc : Scenario) (t : ℕ) (old new : Store) (x : Answer) → IsMade A new x (begin_row t (facing A (shown old))) → Steps {E = Unit {0}} old new (Ok x) (step sc (Begin t) (shown old))
+unfolding step move
+begin-steps sc t old new x h = h
+
+pub kill-steps : (sc : Scenario) (t : ℕ) (old new : Store) (x : Answer) → (let n = (txn_or (slice_get old.txns.items t)).node in IsMade n new x (kill_row t (facing n (shown old)))) → Steps {E = Unit {0}} old new (Ok x) (step sc (Kill t) (shown old))
+unfolding step move
+kill-steps sc t old new x h = h
+
+pub run-steps : {E : Type 0} (sc : Scenario) (n : Node) (t : ℕ) (old new : Store) (r : Result Answer E) → Makes n old new r (run_row sc n t (facing n (shown old))) → Steps old new r (step sc (Run n t) (shown old))
+unfolding step move
+run-steps sc n t old new (Ok x) h = h
+run-steps sc n t old new (Err e) h = h

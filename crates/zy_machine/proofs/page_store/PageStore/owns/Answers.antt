@@ -1,0 +1,7 @@
+use Rattle.std.proofs.Common.{◌≡◌, ◌∙◌, Option, Some, None, is_some, refl, sym, ap}
+use Rattle.std.specs.Option.{option_copied}
+use Rattle.zy_machine.proofs.AccessLemmas.{owns-page_in, is_some-copied}
+use Rattle.zy_machine.proofs.page_store.PageStore.owns.Goals as goal
+
+pub returns : goal.returns
+returns c = c.is_some.ensures ∙ (sym (is_some-copied c.get.result) ∙ (ap is_some c.get.ensures ∙ sym (owns-page_in c.args.p c.args.self.now.pages)))

@@ -1,0 +1,10 @@
+use Rattle.std.proofs.Common.{◌≡◌, ◌∙◌, refl, sym, ap}
+use Rattle.zy_isa.specs.Rows.{get_row}
+use Rattle.zy_machine.proofs.StoreLemmas.{rows_of-some, rows_of-none}
+use Rattle.zy_machine.proofs.store.NodeStore.value.Goals as goal
+
+pub returns-in-Some : goal.returns-in-Some
+returns-in-Some c = rw (c.get-in-Some.ensures, rows_of-some c.args.p c.in-Some.page.now c.args.self.now.pages.pages (sym c.in-Some.ensures)) refl
+
+pub returns-in-None : goal.returns-in-None
+returns-in-None c = rw (rows_of-none c.args.p c.args.self.now.pages.pages (sym c.in-None.ensures)) refl

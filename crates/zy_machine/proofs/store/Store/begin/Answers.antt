@@ -1,0 +1,8 @@
+use Rattle.std.proofs.Common.{◌≡◌, ◌∙◌, refl, sym, ap, arith, rules}
+use Rattle.zy_machine.specs.Change.{begun}
+use Rattle.zy_machine.proofs.StoreLemmas.{txn_read, begun-seen}
+use Rattle.zy_machine.proofs.store.Store.begin.Goals as goal
+
+pub returns : goal.returns
+unfolding begun
+returns c = rw (c.begin.ensures, c.from.ensures) refl

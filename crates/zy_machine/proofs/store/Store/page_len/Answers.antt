@@ -1,0 +1,12 @@
+use Rattle.std.proofs.Common.{◌≡◌, ◌∙◌, length, refl, sym, ap}
+use Rattle.zy_isa.specs.Rows.{get_row}
+use Rattle.zy_machine.specs.State.{NodeState, facing}
+use Rattle.zy_machine.specs.Stores.{shown}
+use Rattle.zy_machine.proofs.StoreLemmas.{rows_of-some, rows_of-none}
+use Rattle.zy_machine.proofs.store.Store.page_len.Goals as goal
+
+pub returns-in-Some-clause-value : goal.returns-in-Some-clause-value
+returns-in-Some-clause-value c = rw (← c.node.ensures, rows_of-some c.args.p c.in-Some.page.now c.node.result.now.pages.pages (sym c.in-Some.ensures)) c.len.ensures.value
+
+pub returns-in-None-clause-value : goal.returns-in-None-clause-value
+returns-in-None-clause-value c = rw (← c.node.ensures, rows_of-none c.args.p c.node.result.now.pages.pages (sym c.in-None.ensures)) refl

@@ -1,0 +1,11 @@
+use Rattle.std.proofs.Common.{◌≡◌, ◌∙◌, refl, sym, ap, arith, rules, true, false, not}
+use Rattle.zy_machine.specs.Run.{read_row}
+use Rattle.zy_machine.specs.Stores.{shown}
+use Rattle.zy_machine.proofs.RowLemmas.{read-made}
+use Rattle.zy_machine.proofs.store.Store.read_row.Goals as goal
+
+pub returns : goal.returns
+unfolding read_row
+returns c =
+    (read-made c.args.n c.args.t c.args.r c.args.key c.args.p c.value-value.result (shown c.args.self.now) (shown c.lock.new.self) (shown c.set.new.self) c.lock.ensures.shown c.set.ensures c.value-value.ensures,
+    rw c.quiet.ensures refl, rw c.quiet.ensures refl)

@@ -1,0 +1,24 @@
+-- The pages of a node as a store shows them.
+use Rattle.std.specs.Prelude.{◌≡◌, ℕ, suc, ◌==◌, nat_lt, List, [], ◌∷◌, Option, Some, None, if◌then◌else◌}
+use Rattle.std.specs.List.{find}
+use Rattle.zy_isa.specs.Rows.{put_row}
+use Rattle.zy_page.specs.Leaf.{Leaf}
+
+-- the pages in rising order of number, and the number that all stay below
+pub record Shelf : Type 0 where
+  pub width : ℕ
+  pub pages : List Leaf
+
+-- the page of a number
+abbrev pub page_in : ℕ → List Leaf → Option Leaf
+page_in p xs = find (λ (x : Leaf). x.number == p) xs
+
+-- the pages with one more, in its place
+abbrev pub with_page : Leaf → List Leaf → List Leaf
+with_page x [] = x ∷ []
+with_page x (y ∷ ys) = if nat_lt x.number y.number then x ∷ y ∷ ys else y ∷ with_page x ys
+
+-- the pages with a row put on page p
+abbrev pub with_row : ℕ → ℕ → ℕ → List Leaf → List Leaf
+with_row p k v [] = []
+with_row p k v (x ∷ xs) = record x { rows = if x.number == p then put_row k v x.rows else x.rows } ∷ with_row p k v xs

@@ -1,0 +1,24 @@
+//! What a line of the table answers.
+ghost use Rattle.std.specs.Prelude.{◌≡◌, None};
+
+use crate::links::Kind;
+use crate::outcome::Outcome;
+
+/// What came of a step: its outcome, and the kind of message that was sent.
+#[derive(Clone, Copy, Debug, PartialEq, Eq)]
+pub(crate) struct Answer {
+    pub outcome: Outcome,
+    pub sent: Option<Kind>,
+}
+
+impl Answer {
+    /// An outcome without a message.
+    pub(crate) fn quiet(outcome: Outcome) -> Answer
+        ensures { result ≡ record { outcome = outcome; sent = None } }
+    {
+        Answer {
+            outcome,
+            sent: None,
+        }
+    }
+}

@@ -1,0 +1,79 @@
+//! What holds of the table over every schedule: each function is a law, and its contract is all of it.
+ghost use Rattle.std.specs.Prelude.{List, length};
+ghost use Rattle.zy_isa.specs.declared.choice.Choice.{Choice as AChoice};
+ghost use Rattle.zy_isa.specs.Scenario.{Scenario, IsScenario};
+ghost use Rattle.zy_machine.specs.Play.{play, opening};
+ghost use Rattle.zy_machine.specs.OneOwner.{OneOwner};
+ghost use Rattle.zy_machine.specs.Holders.{ExclusiveAlone, HoldersActive};
+ghost use Rattle.zy_machine.specs.AtHome.{AtHome};
+ghost use Rattle.zy_machine.specs.Order.{InOrder};
+ghost use Rattle.zy_machine.specs.Database.{ValuesAtPages, EachKeyHasPage, HasLows, newest, all_leaves};
+ghost use Rattle.zy_machine.specs.Counts.{Safe, Fits};
+ghost use Rattle.zy_machine.specs.Serial.{Serializable};
+
+/// The counts that make each sum and index safe: a transaction has done at most one instruction for each choice, it has
+/// eight registers and a place in its program, and there are at most as many commits as transactions.
+pub fn safe_counts()
+    ensures { (sc : Scenario) → IsScenario sc → (choices : List AChoice)
+        → Safe sc (length choices) (play sc (opening sc) choices) }
+{}
+
+/// A transaction that runs finds room for its rows at its commit.
+pub fn room_at_commit()
+    ensures { (sc : Scenario) → IsScenario sc → (choices : List AChoice)
+        → Fits sc (play sc (opening sc) choices) }
+{}
+
+/// Pages rise by number, locks by page and then transaction, rows by key, and there are as many low keys as pages.
+pub fn lists_in_order()
+    ensures { (sc : Scenario) → IsScenario sc → (choices : List AChoice)
+        → InOrder (play sc (opening sc) choices) }
+{}
+
+/// Each page stands once: at a node or in one message.
+pub fn one_owner()
+    ensures { (sc : Scenario) (choices : List AChoice) → OneOwner (play sc (opening sc) choices) }
+{}
+
+/// A is the home of all pages and of each transaction; B has nothing, and nothing is sent.
+pub fn at_home()
+    ensures { (sc : Scenario) (choices : List AChoice) → AtHome sc (play sc (opening sc) choices) }
+{}
+
+/// Each page shows the low key that the wireframe has for it.
+pub fn lows_match()
+    ensures { (sc : Scenario) → IsScenario sc → (choices : List AChoice)
+        → let s = play sc (opening sc) choices in
+        HasLows (newest s) (all_leaves s) }
+{}
+
+/// Each key has a page, wherever that page is.
+pub fn each_key_has_page()
+    ensures { (sc : Scenario) → IsScenario sc → (choices : List AChoice)
+        → EachKeyHasPage (play sc (opening sc) choices) }
+{}
+
+/// What the database has at a key stands on the page that the wireframe names for it.
+pub fn value_at_page()
+    ensures { (sc : Scenario) → IsScenario sc → (choices : List AChoice)
+        → ValuesAtPages (play sc (opening sc) choices) }
+{}
+
+/// Who holds a page's exclusive lock is the only one that holds the page.
+pub fn exclusive_alone()
+    ensures { (sc : Scenario) → IsScenario sc → (choices : List AChoice)
+        → ExclusiveAlone (play sc (opening sc) choices) }
+{}
+
+/// Who holds a lock is active, at that node.
+pub fn holders_active()
+    ensures { (sc : Scenario) → IsScenario sc → (choices : List AChoice)
+        → HoldersActive (play sc (opening sc) choices) }
+{}
+
+/// The database is that of the committed programs, run one by one in commit order, and each has the registers of its
+/// lone run.
+pub fn serializable()
+    ensures { (sc : Scenario) → IsScenario sc → (choices : List AChoice)
+        → Serializable sc (play sc (opening sc) choices) }
+{}

@@ -1,0 +1,20 @@
+//! The step table: the state of the two nodes, every line of the table, and what holds over every schedule.
+#![tactic(auto)]
+
+mod access;
+mod answer;
+mod client;
+pub mod entry;
+pub mod laws;
+pub mod links;
+pub mod machine;
+pub mod modes;
+pub mod outcome;
+mod open;
+mod page_store;
+pub mod place;
+mod run;
+pub mod status;
+mod store;
+pub mod txn;
+mod wire;

@@ -1,0 +1,94 @@
+//! The pages of a node, in slots by number.
+ghost use Rattle.std.specs.Prelude.{◌≡◌, ◌<◌, ◌≤◌, [], None, IfOk, IfSome, is_some, length, option_copied};
+ghost use Rattle.zy_isa.specs.Rows.{get_row, put_row};
+ghost use Rattle.zy_page.specs.Leaf.{Leaf};
+ghost use Rattle.zy_machine.specs.Shelf.{Shelf, page_in, with_page, with_row};
+ghost use Rattle.zy_machine.specs.Pages.{owns as owns_lem};
+ghost use Rattle.zy_machine.specs.Install.{HasRoomFor, IsRoomy};
+
+use std::alloc::{AllocError, Global};
+use std::marker::Model;
+use zy_page::page::Page;
+
+/// The pages that a node owns, each in the slot of its number.
+#[derive(Drop)]
+pub(crate) struct PageStore {
+    slots: Vec<Option<Page>>,
+}
+
+impl Model for PageStore {
+    ghost use Rattle.std.specs.Prelude.{length};
+    ghost use Rattle.zy_machine.specs.Shelf.{Shelf};
+    ghost use Rattle.zy_machine.specs.Slots.{laid_out, InPlace};
+
+    ghost Value = { Shelf };
+
+    ghost view = { λ s. record { width = length s.slots.items; pages = laid_out s.slots.items } };
+
+    ghost invariant = { λ s. InPlace 0 s.slots.items };
+}
+
+impl PageStore {
+    /// No pages, and slots for those with numbers below `width`.
+    pub(crate) fn new(alloc: Global, width: u16) -> Result<PageStore, AllocError>
+        ensures { IfOk result (λ store. store ≡ record { width = width; pages = [] }) }
+    {
+        let mut slots = Vec::with_capacity(alloc, usize::from(width))?;
+        for _ in 0..width {
+            slots.push(None)?;
+        }
+        Ok(PageStore { slots })
+    }
+
+    /// The page of a number, if it is here.
+    pub(crate) fn get(&self, p: u16) -> Option<&Page>
+        ensures { option_copied result ≡ page_in p self.entry.now.pages }
+    {
+        match self.slots.get(usize::from(p)) {
+            Some(slot) => slot.as_ref(),
+            None => None,
+        }
+    }
+
+    /// Whether the page of a number is here.
+    pub(crate) fn owns(&self, p: u16) -> bool
+        ensures { result ≡ owns_lem self.now.pages p }
+    {
+        self.get(p).is_some()
+    }
+
+    /// Takes a page in.
+    pub(crate) fn put(&mut self, page: Page)
+        requires room { page.number < self.old.width }
+        requires absent { page_in page.number self.old.pages ≡ None }
+        ensures { self.new ≡ record self.old { pages = with_page page self.old.pages } }
+    {
+        let at = usize::from(page.number());
+        self.slots[at] = Some(page);
+    }
+
+    /// Puts a row on a page, if that page is here and has room for it.
+    pub(crate) fn install(&mut self, p: u16, key: u16, value: u32)
+        requires { HasRoomFor key (page_in p self.old.pages) }
+        ensures { self.new ≡ record self.old { pages = with_row p key value self.old.pages } }
+    {
+        let at = usize::from(p);
+        if at < self.slots.len() {
+            if let Some(page) = &mut self.slots[at] {
+                install(page, key, value);
+            }
+        }
+    }
+}
+
+/// Puts a row on a page that has it or has room for it.
+fn install(page: &mut Page, key: u16, value: u32)
+    requires { IsRoomy key page.old.rows }
+    ensures { page.new ≡ record page.old { rows = put_row key value page.old.rows } }
+{
+    if page.get(key).is_some() {
+        page.put(key, value);
+    } else {
+        page.add(key, value);
+    }
+}

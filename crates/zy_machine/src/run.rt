@@ -1,0 +1,239 @@
+//! `n run t`, line by line: each function is the line of its name.
+ghost use Rattle.std.specs.Prelude.{◌≡◌, ◌<◌, ◌≤◌, ◌+◌, Ok, Some, length, slice_get, false, true, unwrap_or, if◌then◌else◌};
+ghost use Rattle.zy_isa.specs.Rows.{get_row};
+ghost use Rattle.zy_machine.specs.Pages.{rows_of};
+ghost use Rattle.zy_isa.specs.Scenario.{Scenario as AScenario};
+ghost use Rattle.zy_locks.specs.Locks.{conflict};
+ghost use Rattle.zy_locks.specs.declared.lock.LockKind.TheVariants.{Shared, Exclusive};
+ghost use Rattle.zy_machine.specs.State.{facing};
+ghost use Rattle.zy_machine.specs.Change.{txn_at, locked};
+ghost use Rattle.zy_machine.specs.Run.{lock_of, abort_row as abort_row_lem, set_row as set_row_lem, jump_row as jump_row_lem, commit_row as commit_row_lem, read_row as read_row_lem, write_row as write_row_lem, insert_row as insert_row_lem, full_row as full_row_lem, access_row as access_row_lem, page_row as page_row_lem, key_row as key_row_lem, instr_row as instr_row_lem, run_row as run_row_lem, has_room as has_room_lem, program_of};
+ghost use Rattle.zy_machine.specs.Stores.{shown, node_in, IsMade, Makes, Countable, Rooms, IsFree, IsReady};
+
+use crate::access::Access;
+use crate::answer::Answer;
+use crate::outcome::{Outcome, Why};
+use crate::store::Store;
+use std::alloc::AllocError;
+use zy_isa::instr::{Instr, Reg};
+use zy_isa::node::Node;
+use zy_isa::scenario::Scenario;
+use zy_locks::lock::LockKind;
+
+impl Store {
+    /// The lines of a node's run.
+    #[tactic(auto, unfolding(crate::specs::Run::run_row))]
+    pub(crate) fn run_row(&mut self, scenario: &Scenario, n: Node, t: u8) -> Result<Answer, AllocError>
+        requires { IsReady scenario.now n t self.old }
+        ensures { Makes n self.old self.new result (run_row_lem scenario.now n t (facing n (shown self.old))) }
+    {
+        let txn = self.txn(t);
+        if !txn.is_active() {
+            return Ok(Answer::quiet(Outcome::Idle));
+        }
+        if txn.node() != n {
+            return Ok(Answer::quiet(Outcome::Elsewhere));
+        }
+        let instr = next_instr(scenario, t, txn.place());
+        self.instr_row(scenario.cap(), n, t, instr)
+    }
+
+    /// The lines of one instruction.
+    #[tactic(auto, unfolding(crate::specs::Run::instr_row))]
+    fn instr_row(&mut self, cap: u8, n: Node, t: u8, instr: Instr) -> Result<Answer, AllocError>
+        requires counts { Countable t self.old }
+        requires room { Rooms n t self.old }
+        ensures { (sc : AScenario) → sc.cap ≡ cap → let s = facing n (shown self.old) in
+            Makes n self.old self.new result (instr_row_lem sc t (Some instr) (txn_at s t).regs s) }
+    {
+        let txn = self.txn(t);
+        match instr {
+            Instr::Set(r, value) => Ok(self.set_row(n, t, r, value)),
+            Instr::Add(r, q) => {
+                let sum = txn.reg(r).wrapping_add(txn.reg(q));
+                Ok(self.set_row(n, t, r, sum))
+            }
+            Instr::Beq(r, q, target) => {
+                let taken = txn.reg(r) == txn.reg(q);
+                Ok(self.jump_row(n, t, taken, target))
+            }
+            Instr::Abort => Ok(self.abort_row(n, t, Why::Own)),
+            Instr::Commit => self.commit_row(n, t),
+            Instr::Read(r, q) => {
+                let key = txn.reg(q);
+                self.key_row(cap, n, t, Access::Reads(r), key)
+            }
+            Instr::Write(r, q) => {
+                let (key, value) = (txn.reg(r), txn.reg(q));
+                self.key_row(cap, n, t, Access::Writes(value), key)
+            }
+            Instr::Insert(r, q) => {
+                let (key, value) = (txn.reg(r), txn.reg(q));
+                self.key_row(cap, n, t, Access::Inserts(value), key)
+            }
+        }
+    }
+
+    /// An abort.
+    #[tactic(auto, unfolding(crate::specs::Run::abort_row))]
+    fn abort_row(&mut self, n: Node, t: u8, why: Why) -> Answer
+        requires { t < length self.old.txns.items }
+        ensures { IsMade n self.new result (abort_row_lem t why (facing n (shown self.old))) }
+    {
+        self.abort(n, t, why);
+        Answer::quiet(Outcome::Aborted(why))
+    }
+
+    /// `set` and `add`: a register gets a value.
+    #[tactic(auto, unfolding(crate::specs::Run::set_row))]
+    fn set_row(&mut self, n: Node, t: u8, r: Reg, value: u32) -> Answer
+        requires { Countable t self.old }
+        ensures { IsMade n self.new result (set_row_lem t r value (facing n (shown self.old))) }
+    {
+        self.set(n, t, r, value);
+        Answer::quiet(Outcome::Did)
+    }
+
+    /// `beq`.
+    #[tactic(auto, unfolding(crate::specs::Run::jump_row))]
+    fn jump_row(&mut self, n: Node, t: u8, taken: bool, target: u32) -> Answer
+        requires { Countable t self.old }
+        ensures { IsMade n self.new result (jump_row_lem t taken target (facing n (shown self.old))) }
+    {
+        let next = self.txn(t).place() + 1;
+        self.go_to(n, t, place_after(taken, target, next));
+        Answer::quiet(Outcome::Did)
+    }
+
+    /// `commit`.
+    #[tactic(auto, unfolding(crate::specs::Run::commit_row))]
+    fn commit_row(&mut self, n: Node, t: u8) -> Result<Answer, AllocError>
+        requires counts { Countable t self.old }
+        requires room { Rooms n t self.old }
+        ensures { Makes n self.old self.new result (commit_row_lem t (facing n (shown self.old))) }
+    {
+        let place = self.commits.len() as u8 + 1;
+        self.commit(n, t)?;
+        Ok(Answer::quiet(Outcome::Committed(place)))
+    }
+
+    /// A key and its page.
+    #[tactic(auto, unfolding(crate::specs::Run::key_row))]
+    fn key_row(&mut self, cap: u8, n: Node, t: u8, access: Access, key: u32) -> Result<Answer, AllocError>
+        requires { Countable t self.old }
+        ensures { (sc : AScenario) → sc.cap ≡ cap → Makes n self.old self.new result (key_row_lem sc t access key (facing n (shown self.old))) }
+    {
+        let Ok(key) = u16::try_from(key) else {
+            return Ok(self.abort_row(n, t, Why::BadKey));
+        };
+        let p = self.page_of(n, key);
+        self.page_row(cap, n, t, access, key, p)
+    }
+
+    /// The lock: in another's way, or to be taken.
+    #[tactic(auto, unfolding(crate::specs::Run::page_row, crate::specs::Run::access_row))]
+    fn page_row(&mut self, cap: u8, n: Node, t: u8, access: Access, key: u16, p: u16) -> Result<Answer, AllocError>
+        requires { Countable t self.old }
+        ensures { (sc : AScenario) → sc.cap ≡ cap → Makes n self.old self.new result (page_row_lem sc t access key p (facing n (shown self.old))) }
+    {
+        if self.conflicts(n, p, t, access.lock()) {
+            return Ok(Answer::quiet(Outcome::Waits(p)));
+        }
+        self.reserve_lock(n)?;
+        match access {
+            Access::Reads(r) => Ok(self.read_row(n, t, r, key, p)),
+            Access::Writes(value) => self.write_row(n, t, key, value, p),
+            Access::Inserts(value) => self.insert_row(cap, n, t, key, value, p),
+        }
+    }
+
+    /// `read` on a page that is free for it.
+    #[tactic(auto, unfolding(crate::specs::Run::read_row))]
+    fn read_row(&mut self, n: Node, t: u8, r: Reg, key: u16, p: u16) -> Answer
+        requires counts { Countable t self.old }
+        requires free { IsFree n p t Shared self.old }
+        ensures { IsMade n self.new result (read_row_lem t r key p (locked t p Shared (facing n (shown self.old)))) }
+    {
+        let value = self.value(n, t, key, p);
+        self.lock(n, p, t, LockKind::Shared);
+        self.set(n, t, r, value);
+        Answer::quiet(Outcome::Did)
+    }
+
+    /// `write` on a page that is free for it.
+    #[tactic(auto, unfolding(crate::specs::Run::write_row))]
+    fn write_row(&mut self, n: Node, t: u8, key: u16, value: u32, p: u16) -> Result<Answer, AllocError>
+        requires counts { Countable t self.old }
+        requires free { IsFree n p t Exclusive self.old }
+        ensures { Makes n self.old self.new result (write_row_lem t key value p (locked t p Exclusive (facing n (shown self.old)))) }
+    {
+        if !self.is_there(n, t, p, key) {
+            return Ok(self.abort_row(n, t, Why::Missing));
+        }
+        self.put(n, t, key, value)?;
+        self.lock(n, p, t, LockKind::Exclusive);
+        Ok(Answer::quiet(Outcome::Did))
+    }
+
+    /// `insert` on a page that is free for it.
+    #[tactic(auto, unfolding(crate::specs::Run::insert_row))]
+    fn insert_row(&mut self, cap: u8, n: Node, t: u8, key: u16, value: u32, p: u16) -> Result<Answer, AllocError>
+        requires counts { Countable t self.old }
+        requires free { IsFree n p t Exclusive self.old }
+        ensures { (sc : AScenario) → sc.cap ≡ cap → Makes n self.old self.new result (insert_row_lem sc t key value p (locked t p Exclusive (facing n (shown self.old)))) }
+    {
+        if self.is_there(n, t, p, key) {
+            return Ok(self.abort_row(n, t, Why::Duplicate));
+        }
+        if !self.has_room(cap, n, t, p) {
+            return Ok(self.full_row(n, t));
+        }
+        self.put(n, t, key, value)?;
+        self.lock(n, p, t, LockKind::Exclusive);
+        Ok(Answer::quiet(Outcome::Did))
+    }
+
+    /// An insert on a full page.
+    #[tactic(auto, unfolding(crate::specs::Run::full_row))]
+    fn full_row(&mut self, n: Node, t: u8) -> Answer
+        requires { t < length self.old.txns.items }
+        ensures { IsMade n self.new result (full_row_lem t (facing n (shown self.old))) }
+    {
+        self.abort_row(n, t, Why::NoPage)
+    }
+
+    /// Whether a page has room for a row more, beside the transaction's own new rows.
+    fn has_room(&self, cap: u8, n: Node, t: u8, p: u16) -> bool
+        requires { t < length self.now.txns.items }
+        ensures { (sc : AScenario) → sc.cap ≡ cap → result ≡ has_room_lem sc t p (facing n (shown self.now)) }
+    {
+        self.own_inserts(n, t, p) < usize::from(cap).saturating_sub(self.page_len(n, p))
+    }
+
+    /// What a transaction reads at a key: the private row, else the committed row, else 0.
+    fn value(&self, n: Node, t: u8, key: u16, p: u16) -> u32
+        requires { t < length self.now.txns.items }
+        ensures { let s = facing n (shown self.now) in result ≡ unwrap_or (get_row (txn_at s t).rows key) (unwrap_or (get_row (rows_of s.me.pages p) key) 0) }
+    {
+        match self.txn(t).get(key) {
+            Some(value) => value,
+            None => self.committed_value(n, p, key).unwrap_or(0),
+        }
+    }
+}
+
+/// The instruction at a place in the program of a transaction.
+fn next_instr(scenario: &Scenario, t: u8, place: u32) -> Instr
+    requires program { t < length scenario.now.programs }
+    requires place { place < length (program_of scenario.now t) }
+    ensures { slice_get (program_of scenario.now t) place ≡ Some result }
+{
+    scenario.programs()[usize::from(t)].instr(place as usize)
+}
+
+/// Where a jump goes: to its target where it is taken, else to the next instruction.
+fn place_after(taken: bool, target: u32, next: u32) -> u32
+    ensures { result ≡ (if taken then target else next) }
+{
+    if taken { target } else { next }
+}

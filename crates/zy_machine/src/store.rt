@@ -1,0 +1,276 @@
+//! The state of a machine, and the changes that the table names.
+ghost use Rattle.std.specs.Prelude.{◌≡◌, ◌<◌, ◌+◌, ◌^◌, ◌≤◌, OnOk, OnErr, IfOk, is_some, length, slice_get};
+ghost use Rattle.zy_isa.specs.Rows.{get_row, put_row};
+ghost use Rattle.zy_isa.specs.declared.node.Node.TheVariants.{A};
+ghost use Rattle.zy_locks.specs.Locks.{conflict};
+ghost use Rattle.zy_machine.specs.State.{facing, seen_from, with_me};
+ghost use Rattle.zy_machine.specs.Wireframe.{page_of as page_of_lem};
+ghost use Rattle.zy_machine.specs.Pages.{rows_of};
+ghost use Rattle.zy_machine.specs.Rows.{rows_on, rows_not_in};
+ghost use Rattle.zy_machine.specs.Change.{txn_at, txn_or, with_reg, unlocked, installed, with_installed, begun as begun_lem, aborted as aborted_lem, did as did_lem, locked as locked_lem, committed as committed_lem};
+ghost use Rattle.zy_machine.specs.Run.{is_there as is_there_lem, own_inserts as own_inserts_lem};
+ghost use Rattle.zy_machine.specs.Stores.{shown, node_shown, node_in, Countable, Rooms, AreRoomy, TriesAt, IsFree};
+
+use crate::entry::CommitRec;
+use crate::modes::NodeMode;
+use crate::outcome::Why;
+use crate::page_store::PageStore;
+use crate::txn::Txn;
+use crate::wire::Wire;
+use std::alloc::AllocError;
+use zy_isa::instr::Reg;
+use zy_isa::node::Node;
+use zy_isa::row::Row;
+use zy_locks::lock::LockKind;
+use zy_locks::locks::{Locks, Tried};
+
+/// One node: its mode, its wireframe, the pages that it owns, and its locks.
+#[derive(Drop)]
+pub(crate) struct NodeStore {
+    pub mode: NodeMode,
+    pub wire: Wire,
+    pub pages: PageStore,
+    pub locks: Locks,
+}
+
+/// The state: both nodes, the transactions by number, the commits in order.
+#[derive(Drop)]
+pub(crate) struct Store {
+    pub a: NodeStore,
+    pub b: NodeStore,
+    pub txns: Vec<Txn>,
+    pub commits: Vec<CommitRec>,
+}
+
+impl NodeStore {
+    /// The committed value at a key on a page; none where the page is not here.
+    fn value(&self, p: u16, key: u16) -> Option<u32>
+        ensures { result ≡ get_row (rows_of self.now.pages.pages p) key }
+    {
+        match self.pages.get(p) {
+            Some(page) => page.get(key),
+            None => None,
+        }
+    }
+}
+
+impl Store {
+    /// A transaction.
+    pub(crate) fn txn(&self, t: u8) -> &Txn
+        requires { t < length self.now.txns.items }
+        ensures { result.now ≡ txn_or (slice_get self.entry.now.txns.items t) }
+    {
+        &self.txns[usize::from(t)]
+    }
+
+    /// A node.
+    pub(crate) fn node(&self, n: Node) -> &NodeStore
+        ensures { node_shown result.now ≡ (facing n (shown self.entry.now)).me }
+    {
+        match n {
+            Node::A => &self.a,
+            Node::B => &self.b,
+        }
+    }
+
+    /// The page of a key by a node's wireframe.
+    pub(crate) fn page_of(&self, n: Node, key: u16) -> u16
+        ensures { result ≡ page_of_lem (facing n (shown self.now)).me.lows key }
+    {
+        self.node(n).wire.page_of(key)
+    }
+
+    /// The committed value at a key on a page of a node.
+    pub(crate) fn committed_value(&self, n: Node, p: u16, key: u16) -> Option<u32>
+        ensures { result ≡ get_row (rows_of (facing n (shown self.now)).me.pages p) key }
+    {
+        self.node(n).value(p, key)
+    }
+
+    /// Whether another transaction's lock forbids this one.
+    pub(crate) fn conflicts(&self, n: Node, p: u16, t: u8, kind: LockKind) -> bool
+        ensures { result ≡ conflict (facing n (shown self.now)).me.locks p t kind }
+    {
+        self.node(n).locks.conflicts(p, t, kind)
+    }
+
+    /// How many rows a page of a node has; none where it is not there.
+    pub(crate) fn page_len(&self, n: Node, p: u16) -> usize
+        ensures value { result ≡ length (rows_of (facing n (shown self.now)).me.pages p) }
+        ensures bound { result ≤ 16 }
+    {
+        match self.node(n).pages.get(p) {
+            Some(page) => page.len(),
+            None => 0,
+        }
+    }
+
+    /// How many of a transaction's private rows on a page are new there.
+    pub(crate) fn own_inserts(&self, n: Node, t: u8, p: u16) -> usize
+        requires { t < length self.now.txns.items }
+        ensures { result ≡ length (own_inserts_lem t p (facing n (shown self.now))) }
+    {
+        new_rows(self.node(n), p, self.txn(t).rows())
+    }
+
+    /// Whether a key is private to a transaction or committed on a page.
+    pub(crate) fn is_there(&self, n: Node, t: u8, p: u16, key: u16) -> bool
+        requires { t < length self.now.txns.items }
+        ensures { result ≡ is_there_lem t key p (facing n (shown self.now)) }
+    {
+        self.txn(t).get(key).is_some() || self.committed_value(n, p, key).is_some()
+    }
+}
+
+/// The changes that the table names.
+impl Store {
+    /// A transaction begins at a node.
+    pub(crate) fn begin(&mut self, n: Node, t: u8)
+        requires { t < length self.old.txns.items }
+        ensures { shown self.new ≡ seen_from A (begun_lem n t (facing A (shown self.old))) }
+    {
+        self.txns[usize::from(t)].begin(n);
+    }
+
+    /// A transaction at a node is aborted: its private rows and its locks are dropped.
+    pub(crate) fn abort(&mut self, n: Node, t: u8, why: Why)
+        requires { t < length self.old.txns.items }
+        ensures { shown self.new ≡ seen_from n (aborted_lem t why (facing n (shown self.old))) }
+    {
+        self.release(n, t);
+        self.txns[usize::from(t)].abort(why);
+    }
+
+    /// A transaction did an instruction that gives a register a value.
+    pub(crate) fn set(&mut self, n: Node, t: u8, r: Reg, value: u32)
+        requires { Countable t self.old }
+        ensures { let s = facing n (shown self.old) in let x = txn_at s t in
+            shown self.new ≡ seen_from n (did_lem t (x.pc + 1) (with_reg r value x.regs) x.rows s) }
+    {
+        let _ = n;
+        self.txns[usize::from(t)].set(r, value);
+    }
+
+    /// A transaction did an instruction after which it stands at a place.
+    pub(crate) fn go_to(&mut self, n: Node, t: u8, place: u32)
+        requires { Countable t self.old }
+        ensures { let s = facing n (shown self.old) in let x = txn_at s t in
+            shown self.new ≡ seen_from n (did_lem t place x.regs x.rows s) }
+    {
+        let _ = n;
+        self.txns[usize::from(t)].go_to(place);
+    }
+
+    /// A transaction did an instruction that puts a private row.
+    pub(crate) fn put(&mut self, n: Node, t: u8, key: u16, value: u32) -> Result<(), AllocError>
+        requires { Countable t self.old }
+        ensures ok { OnOk result (let s = facing n (shown self.old) in let x = txn_at s t in
+            shown self.new ≡ seen_from n (did_lem t (x.pc + 1) x.regs (put_row key value x.rows) s)) }
+        ensures err { OnErr result (shown self.new ≡ shown self.old) }
+        ensures nodes { (self.new.a ≡ self.old.a) × (self.new.b ≡ self.old.b) }
+    {
+        let _ = n;
+        self.txns[usize::from(t)].put(key, value)
+    }
+
+    /// Makes room for one lock more at a node.
+    pub(crate) fn reserve_lock(&mut self, n: Node) -> Result<(), AllocError>
+        ensures same { shown self.new ≡ shown self.old }
+        ensures room { OnOk result (1 ≤ (node_in n self.new).locks.spare) }
+    {
+        match n {
+            Node::A => self.a.locks.reserve(1),
+            Node::B => self.b.locks.reserve(1),
+        }
+    }
+
+    /// Tries a lock at a node.
+    pub(crate) fn try_lock(&mut self, n: Node, p: u16, t: u8, kind: LockKind) -> Tried
+        ensures { TriesAt n p t kind self.old self.new result }
+    {
+        match n {
+            Node::A => self.a.locks.try_lock(p, t, kind),
+            Node::B => self.b.locks.try_lock(p, t, kind),
+        }
+    }
+
+    /// Takes a lock for which nothing is in the way and there is room.
+    pub(crate) fn lock(&mut self, n: Node, p: u16, t: u8, kind: LockKind)
+        requires { IsFree n p t kind self.old }
+        ensures shown { shown self.new ≡ seen_from n (locked_lem t p kind (facing n (shown self.old))) }
+        ensures txns { self.new.txns ≡ self.old.txns }
+    {
+        match self.try_lock(n, p, t, kind) {
+            Tried::Granted => (),
+            Tried::Conflict => unreachable!(),
+            Tried::Memory => unreachable!(),
+        }
+    }
+
+    /// Drops the locks of a transaction at a node.
+    fn release(&mut self, n: Node, t: u8)
+        ensures shown { let s = facing n (shown self.old) in shown self.new ≡ seen_from n (with_me (unlocked t s.me) s) }
+        ensures commits { self.new.commits ≡ self.old.commits }
+    {
+        match n {
+            Node::A => self.a.locks.release_all(t),
+            Node::B => self.b.locks.release_all(t),
+        }
+    }
+
+    /// Puts the private rows of a transaction on the pages of a node.
+    fn install(&mut self, n: Node, t: u8)
+        requires there { t < length self.old.txns.items }
+        requires room { Rooms n t self.old }
+        ensures shown { let s = facing n (shown self.old) in shown self.new ≡ seen_from n (with_me (with_installed (txn_at s t).rows s.me) s) }
+        ensures commits { self.new.commits ≡ self.old.commits }
+    {
+        let rows = self.txns[usize::from(t)].rows();
+        match n {
+            Node::A => install(&self.a.wire, &mut self.a.pages, rows),
+            Node::B => install(&self.b.wire, &mut self.b.pages, rows),
+        }
+    }
+
+    /// A transaction is committed: its private rows are installed, its locks are dropped, and it is noted.
+    pub(crate) fn commit(&mut self, n: Node, t: u8) -> Result<(), AllocError>
+        requires counts { Countable t self.old }
+        requires room { Rooms n t self.old }
+        ensures ok { OnOk result (shown self.new ≡ seen_from n (committed_lem t (facing n (shown self.old)))) }
+        ensures err { OnErr result (shown self.new ≡ shown self.old) }
+    {
+        self.commits.reserve(1)?;
+        self.install(n, t);
+        self.release(n, t);
+        let txn = &mut self.txns[usize::from(t)];
+        txn.commit();
+        let done = txn.done();
+        self.commits.push(CommitRec { txn: t, done }).unwrap();
+        Ok(())
+    }
+}
+
+/// How many of these rows lie on a page of a node and are new there.
+fn new_rows(node: &NodeStore, p: u16, rows: &[Row]) -> usize
+    ensures { result ≡ length (rows_not_in (rows_on node.now.wire p rows.now) (rows_of node.now.pages.pages p)) }
+{
+    let mut count = 0;
+    for row in rows {
+        if node.wire.page_of(row.key) == p && node.value(p, row.key).is_none() {
+            count += 1;
+        }
+    }
+    count
+}
+
+/// Puts rows on the pages where they lie, the last one first.
+fn install(wire: &Wire, pages: &mut PageStore, rows: &[Row])
+    requires { AreRoomy wire.now rows.now pages.old.pages }
+    ensures { pages.new ≡ record pages.old { pages = installed wire.now rows.now pages.old.pages } }
+{
+    let mut left = rows;
+    while let Some((row, front)) = left.split_last() {
+        pages.install(wire.page_of(row.key), row.key, row.value);
+        left = front;
+    }
+}
