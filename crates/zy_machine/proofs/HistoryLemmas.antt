@@ -53,4 +53,4 @@ pub entries-more : (sc : Scenario) (i : ℕ) (d : Choice) (s : State) (es fs : L
 entries-more sc i d s es fs e lt eq ee ef ff =
     let c = get_or sc.choices i d in
     ff ∙ (ap (λ l. l ++ e ∷ []) ee ∙ (ap (λ (x : Entry). entries sc (opening sc) (take i sc.choices) ++ x ∷ []) (ef ∙ ap (λ (x : State). entry_of c (step sc c x)) eq)
-      ∙ (sym (entries-push sc (opening sc) (take i sc.choices) c) ∙ ap (entries sc (opening sc)) (sym (take_more sc.choices i d lt)))))
+    ∙ (sym (entries-push sc (opening sc) (take i sc.choices) c) ∙ ap (entries sc (opening sc)) (sym (take_more sc.choices i d lt)))))

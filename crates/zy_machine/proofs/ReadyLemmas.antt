@@ -57,11 +57,11 @@ rooms sc count t n s k active here =
     let same = txn_at-facing n t (shown s) in
     let rows = (txn_or (slice_get s.txns.items t)).rows in
     let own : (p : ℕ) → length (own_inserts t p f) ≡ need f.me.lows p (rows_of f.me.pages p) rows =
-      λ p. ap (λ (x : Txn). length (rows_not_in (rows_on f.me.lows p x.rows) (rows_of f.me.pages p))) same ∙ need_is f.me.lows p (rows_of f.me.pages p) rows in
+    λ p. ap (λ (x : Txn). length (rows_not_in (rows_on f.me.lows p x.rows) (rows_of f.me.pages p))) same ∙ need_is f.me.lows p (rows_of f.me.pages p) rows in
     record {
       commits = omega (arith, k.safe.commits, k.tested.few_programs);
       rows = roomy sc.cap f.me.lows rows f.me.pages k.tested.cap_most ((k.order.nodes n).rows)
-        (λ p owned. let h = k.fits n t p (ap (λ (x : Txn). is_active x.status) same ∙ active, ap (λ (x : Txn). x.node) same ∙ here) owned in omega (arith, h, own p));
+          (λ p owned. let h = k.fits n t p (ap (λ (x : Txn). is_active x.status) same ∙ active, ap (λ (x : Txn). x.node) same ∙ here) owned in omega (arith, h, own p));
     }
 
 pub possible : (sc : Scenario) (count : ℕ) (c : Choice) (s : Store) → Known sc count s → names_below (length sc.programs) c ≡ true → IsPossible sc c s

@@ -9,12 +9,14 @@ pub mod laws;
 pub mod links;
 pub mod machine;
 pub mod modes;
-pub mod outcome;
 mod open;
+pub mod outcome;
 mod page_store;
 pub mod place;
 mod run;
 pub mod status;
 mod store;
+#[cfg(test)]
+mod tests;
 pub mod txn;
 mod wire;

@@ -64,9 +64,10 @@ impl Machine {
     /// Makes all choices of a scenario in order. The scenario is dropped where there is no memory.
     pub fn run_all(alloc: Global, scenario: Scenario) -> Result<Machine, Fault>
         ensures { IfOk result (λ m. m ≡ record {
-            scenario = scenario;
-            state = play scenario (opening scenario) scenario.choices;
-            entries = entries scenario (opening scenario) scenario.choices }) }
+          scenario = scenario;
+          state = play scenario (opening scenario) scenario.choices;
+          entries = entries scenario (opening scenario) scenario.choices;
+        }) }
     {
         let mut machine = Machine::open(alloc, scenario)?;
         for i in 0..machine.scenario().choices().len() {

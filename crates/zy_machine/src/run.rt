@@ -23,7 +23,12 @@ use zy_locks::lock::LockKind;
 impl Store {
     /// The lines of a node's run.
     #[tactic(auto, unfolding(crate::specs::Run::run_row))]
-    pub(crate) fn run_row(&mut self, scenario: &Scenario, n: Node, t: u8) -> Result<Answer, AllocError>
+    pub(crate) fn run_row(
+        &mut self,
+        scenario: &Scenario,
+        n: Node,
+        t: u8,
+    ) -> Result<Answer, AllocError>
         requires { IsReady scenario.now n t self.old }
         ensures { Makes n self.old self.new result (run_row_lem scenario.now n t (facing n (shown self.old))) }
     {
@@ -119,7 +124,14 @@ impl Store {
 
     /// A key and its page.
     #[tactic(auto, unfolding(crate::specs::Run::key_row))]
-    fn key_row(&mut self, cap: u8, n: Node, t: u8, access: Access, key: u32) -> Result<Answer, AllocError>
+    fn key_row(
+        &mut self,
+        cap: u8,
+        n: Node,
+        t: u8,
+        access: Access,
+        key: u32,
+    ) -> Result<Answer, AllocError>
         requires { Countable t self.old }
         ensures { (sc : AScenario) → sc.cap ≡ cap → Makes n self.old self.new result (key_row_lem sc t access key (facing n (shown self.old))) }
     {
@@ -132,7 +144,15 @@ impl Store {
 
     /// The lock: in another's way, or to be taken.
     #[tactic(auto, unfolding(crate::specs::Run::page_row, crate::specs::Run::access_row))]
-    fn page_row(&mut self, cap: u8, n: Node, t: u8, access: Access, key: u16, p: u16) -> Result<Answer, AllocError>
+    fn page_row(
+        &mut self,
+        cap: u8,
+        n: Node,
+        t: u8,
+        access: Access,
+        key: u16,
+        p: u16,
+    ) -> Result<Answer, AllocError>
         requires { Countable t self.old }
         ensures { (sc : AScenario) → sc.cap ≡ cap → Makes n self.old self.new result (page_row_lem sc t access key p (facing n (shown self.old))) }
     {
@@ -162,7 +182,14 @@ impl Store {
 
     /// `write` on a page that is free for it.
     #[tactic(auto, unfolding(crate::specs::Run::write_row))]
-    fn write_row(&mut self, n: Node, t: u8, key: u16, value: u32, p: u16) -> Result<Answer, AllocError>
+    fn write_row(
+        &mut self,
+        n: Node,
+        t: u8,
+        key: u16,
+        value: u32,
+        p: u16,
+    ) -> Result<Answer, AllocError>
         requires counts { Countable t self.old }
         requires free { IsFree n p t Exclusive self.old }
         ensures { Makes n self.old self.new result (write_row_lem t key value p (locked t p Exclusive (facing n (shown self.old)))) }
@@ -177,7 +204,15 @@ impl Store {
 
     /// `insert` on a page that is free for it.
     #[tactic(auto, unfolding(crate::specs::Run::insert_row))]
-    fn insert_row(&mut self, cap: u8, n: Node, t: u8, key: u16, value: u32, p: u16) -> Result<Answer, AllocError>
+    fn insert_row(
+        &mut self,
+        cap: u8,
+        n: Node,
+        t: u8,
+        key: u16,
+        value: u32,
+        p: u16,
+    ) -> Result<Answer, AllocError>
         requires counts { Countable t self.old }
         requires free { IsFree n p t Exclusive self.old }
         ensures { (sc : AScenario) → sc.cap ≡ cap → Makes n self.old self.new result (insert_row_lem sc t key value p (locked t p Exclusive (facing n (shown self.old)))) }

@@ -45,5 +45,5 @@ loop-i-preserved c =
       scenario = c.in_ok-step.ensures.scenario ∙ scenario;
       state = play-more sc c.loop-i.i (Begin 0) c.loop-i.machine.state c.step.new.self.state lt c.loop-i.invariant.state (rw (here, scenario) at c.in_ok-step.ensures.state);
       entries = entries-more sc c.loop-i.i (Begin 0) c.loop-i.machine.state c.loop-i.machine.entries c.step.new.self.entries c.in_ok-step.field-0 lt c.loop-i.invariant.state c.loop-i.invariant.entries
-        (rw (here, scenario) at c.in_ok-step.ensures.entry) c.in_ok-step.ensures.history;
+          (rw (here, scenario) at c.in_ok-step.ensures.entry) c.in_ok-step.ensures.history;
     }

@@ -22,4 +22,4 @@ invariant_of-self-2 c =
     let room : length m.entries.items < 4096 = rw (← c.self.view_is) at c.requires.room in
     let made = c.in_ok-answer.ensures in
     replay-push h c.args.choice (shown c.step.new.self) c.push.new.self.items c.self.invariant named room made.0
-      ((rw c.unwrap.ensures at c.push.ensures.items) ∙ rw (c.reserve.ensures.items, made.1, made.2) refl)
+    ((rw c.unwrap.ensures at c.push.ensures.items) ∙ rw (c.reserve.ensures.items, made.1, made.2) refl)

@@ -20,6 +20,6 @@ returns-clause-ok c =
     let kept = unlocked-txns c.args.n c.args.t s1 s2 c.release.ensures.shown ∙ installed-txns c.args.n c.args.t s s1 c.install.ensures.shown in
     let e = txn_read s2.txns c.from.result c.args.t c.index_mut-txn.result.now c.from.ensures c.index_mut-txn.ensures.value (subst (λ (xs : List Txn). c.args.t < length xs) (sym kept) c.requires.counts.there) in
     committed-seen c.args.n c.args.t s s1 s2 c.index_mut-txn.result.now _ _ c.install.ensures.shown c.release.ensures.shown e
-      (rw (c.from.ensures, c.commit.ensures) refl)
-      (rw (c.done-done.ensures, c.commit.ensures) at (rw c.unwrap.ensures at c.push.ensures.items))
+    (rw (c.from.ensures, c.commit.ensures) refl)
+    (rw (c.done-done.ensures, c.commit.ensures) at (rw c.unwrap.ensures at c.push.ensures.items))
     ∙ ap (λ (z : State). seen_from c.args.n (committed c.args.t (facing c.args.n z))) same

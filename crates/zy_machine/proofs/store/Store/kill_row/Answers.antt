@@ -23,4 +23,4 @@ returns c =
     let here = c.txn-txn.ensures ∙ sym (txn_at-facing n c.args.t s) in
     let same : c.node-n.result ≡ n = c.node-n.ensures ∙ ap (λ (x : Txn). x.node) c.txn-txn.ensures in
     rw (kill-done c.args.t (facing n s) c.txn-txn.result.now here (sym c.is_active.ensures ∙ c.if-not-is_active.false), c.quiet-2.ensures)
-      (c.abort.ensures ∙ ap (λ (m : Node). seen_from m (aborted c.args.t Killed (facing m s))) same, refl, refl)
+    (c.abort.ensures ∙ ap (λ (m : Node). seen_from m (aborted c.args.t Killed (facing m s))) same, refl, refl)

@@ -6,6 +6,8 @@ use Rattle.zy_machine.proofs.store.Store.read_row.Goals as goal
 
 pub returns : goal.returns
 unfolding read_row
-returns c =
-    (read-made c.args.n c.args.t c.args.r c.args.key c.args.p c.value-value.result (shown c.args.self.now) (shown c.lock.new.self) (shown c.set.new.self) c.lock.ensures.shown c.set.ensures c.value-value.ensures,
-    rw c.quiet.ensures refl, rw c.quiet.ensures refl)
+returns c = (
+  read-made c.args.n c.args.t c.args.r c.args.key c.args.p c.value-value.result (shown c.args.self.now) (shown c.lock.new.self) (shown c.set.new.self) c.lock.ensures.shown c.set.ensures c.value-value.ensures,
+  rw c.quiet.ensures refl,
+  rw c.quiet.ensures refl,
+)
