@@ -58,6 +58,9 @@ choice_text c = spaced (choice_words c)
 abbrev pub row_words : Row → List (List ℕ)
 row_words r = codes "row" ∷ decimal r.key ∷ decimal r.value ∷ []
 
+abbrev pub row_text : Row → List ℕ
+row_text r = spaced (row_words r)
+
 abbrev pub header_words : Scenario → List (List (List ℕ))
 header_words s =
     (codes "zephyr" ∷ codes "1" ∷ [])

@@ -1,9 +1,13 @@
 //! Text in lines: each is made in one `String` that is used again, and goes out whole.
-ghost use Rattle.std.specs.Prelude.{◌≡◌, ◌<◌, ◌++◌, [], ◌∷◌, ℕ, List, Some, OnOk, length, map, slice_index_or};
+ghost use Rattle.std.specs.Prelude.{◌≡◌, ◌<◌, ◌++◌, [], ◌∷◌, ℕ, List, Some, OnOk, length, map, refl, slice_index_or};
 ghost use Rattle.std.specs.List.{flat_map};
 ghost use Rattle.std.specs.String.{string_bytes};
 ghost use Rattle.zy_isa.specs.Writing.{line_of, Wrote};
+ghost use Rattle.zy_isa.specs.Canon.{row_text, instr_text, choice_text};
 
+use crate::choice::Choice;
+use crate::instr::Instr;
+use crate::row::Row;
 use crate::stream::Sink;
 use crate::writing::{TextFault, write_all};
 use std::alloc::AllocError;
@@ -15,6 +19,24 @@ pub trait Line: Display {
     ghost text: { Self → List ℕ };
 
     ghost shows: { (x : Self) → Self.output x ≡ Some (text x) };
+}
+
+impl Line for Row {
+    ghost text = { row_text };
+
+    ghost shows = { λ _. refl };
+}
+
+impl Line for Instr {
+    ghost text = { instr_text };
+
+    ghost shows = { λ _. refl };
+}
+
+impl Line for Choice {
+    ghost text = { choice_text };
+
+    ghost shows = { λ _. refl };
 }
 
 /// A list of lines that are made one at a time.

@@ -41,3 +41,4 @@ mod StepLemmas
 mod HistoryLemmas
 mod AccessLemmas
 mod OpenLemmas
+mod PageCount

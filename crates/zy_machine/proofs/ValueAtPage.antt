@@ -36,7 +36,7 @@ newest_is v lows more first (Destination (Resting a b c d f)) x y =
     cond_both (nat_lt (length v.me.lows) (length v.them.lows)) v.them.lows v.me.lows (λ z. z ≡ lows)
     (λ _. y (ap is_idle a)) (λ h. let k : length v.them.lows ≤ length v.me.lows = ltb-false _ _ h in absurd (omega arith))
 
-newest_lows : (sc : Scenario) (s : State) (lows : List ℕ) → Kept sc A (facing A s) lows → newest s ≡ lows
+pub newest_lows : (sc : Scenario) (s : State) (lows : List ℕ) → Kept sc A (facing A s) lows → newest s ≡ lows
 newest_lows sc s lows k = newest_is (facing A s) lows k.first.0 k.first.1 k.inv.roles k.mine.newest k.theirs.newest
 
 -- a page stands once among all pages

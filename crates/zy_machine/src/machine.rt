@@ -1,11 +1,11 @@
 //! The machine: a scenario, its state, and the history that led there.
-ghost use Rattle.std.specs.Prelude.{◌≡◌, ◌<◌, ◌≤◌, ◌+◌, ◌-◌, ◌++◌, ◌∷◌, [], true, Some, IfOk, OnOk, OnErr, length, slice_get, option_copied};
+ghost use Rattle.std.specs.Prelude.{◌≡◌, ◌<◌, ◌≤◌, ◌+◌, ◌-◌, ◌++◌, ◌∷◌, [], true, ℕ, Some, IfOk, OnOk, OnErr, IsSome, length, slice_get, option_copied};
 ghost use Rattle.std.specs.FinMap.{get};
 ghost use Rattle.zy_isa.specs.Choices.{names_below};
 ghost use Rattle.zy_machine.specs.State.{facing};
 ghost use Rattle.zy_machine.specs.Shelf.{page_in};
 ghost use Rattle.zy_machine.specs.Change.{txn_or};
-ghost use Rattle.zy_machine.specs.Database.{database, all_leaves};
+ghost use Rattle.zy_machine.specs.Database.{database, all_leaves, newest};
 ghost use Rattle.zy_machine.specs.Play.{step as step_lem, play, entries, opening, entry_of};
 ghost use Rattle.zy_machine.specs.Places.{place_of};
 ghost use Rattle.zy_machine.specs.Stores.{shown, IsPossible, Steps};
@@ -122,6 +122,33 @@ impl Machine {
         ensures { slice_get self.now.entries (i - 1) ≡ Some result }
     {
         self.entries[i - 1]
+    }
+
+    /// All steps in order.
+    pub fn entries(&self) -> &[Entry]
+        ensures value { result.now ≡ self.entry.now.entries }
+        ensures replay { IsReplay self.entry.now }
+    {
+        self.entries.as_slice()
+    }
+
+    /// How many transactions there are.
+    pub fn txn_count(&self) -> usize
+        ensures value { result ≡ length self.now.state.txns }
+        ensures few { result ≤ 64 }
+    {
+        self.store.txns.len()
+    }
+
+    /// How many pages there are, in all places together: each number below this is a page's.
+    pub fn page_count(&self) -> u16
+        ensures value { result ≡ length (newest self.now.state) }
+        ensures few { result ≤ 512 }
+        ensures replay { IsReplay self.now }
+        ensures there { (p : ℕ) → p < result → IsSome (page_in p (all_leaves self.now.state)) }
+    {
+        let (a, b) = (self.store.a.wire.len(), self.store.b.wire.len());
+        if a < b { b as u16 } else { a as u16 }
     }
 
     /// The mode of a node.

@@ -1,0 +1,9 @@
+pub mod LineLemmas
+pub mod CodeLemmas
+pub mod Bind
+pub mod SpellLemmas
+pub mod FoundLemmas
+pub mod GivesLemmas
+pub mod OnlyLemmas
+pub mod CanonLemmas
+pub mod InputLemmas

@@ -1,0 +1,346 @@
+-- What a line that is read spells.
+use Rattle.std.proofs.Common.{◌≡◌, ℕ, ◌+◌, ◌≤◌, true, ◌||◌, ◌==◌, if◌then◌else◌, nat_lt, List, [], ◌∷◌, ◌++◌, length, codes, Result, Ok, Err, Some, None, refl, sym, ap, ◌∙◌, inl, inr, ◌⊎◌, arith, ok_or}
+use Rattle.std.specs.Prelude.{replicate}
+use Rattle.std.specs.Str.{bytes_eq}
+use Rattle.zy_isa.specs.declared.node.Node.TheVariants as node
+use Rattle.zy_isa.specs.declared.node.Actor.{Actor}
+use Rattle.zy_isa.specs.declared.node.Actor.TheVariants as actor
+use Rattle.zy_isa.specs.declared.row.Row.{Row}
+use Rattle.zy_isa.specs.declared.instr.Reg.{Reg}
+use Rattle.zy_isa.specs.declared.instr.Reg.TheVariants.{R0, R1, R2, R3, R4, R5, R6, R7}
+use Rattle.zy_isa.specs.declared.instr.Instr.{Instr}
+use Rattle.zy_isa.specs.declared.instr.Instr.TheVariants.{Set, Read, Write, Insert, Add, Beq, Commit, Abort}
+use Rattle.zy_isa.specs.Words.{number_of}
+use Rattle.zy_isa.specs.Canon.{reg_text}
+use Rattle.zy_isa.specs.Choices.{names_below}
+use Rattle.zy_isa.specs.Text as m
+use Rattle.zy_isa.specs.Text.{Times, Spells, SpellsInstr, SpellsChoice, SpellsTimes}
+use Rattle.zy_asm.specs.declared.faults.AsmKind.{AsmKind}
+use Rattle.zy_asm.specs.declared.faults.AsmKind.TheVariants as kinds
+use Rattle.zy_asm.specs.declared.instructions.Operation.{Operation}
+use Rattle.zy_asm.specs.declared.instructions.Operation.TheVariants as op
+use Rattle.zy_asm.specs.declared.choices.Action.{Action}
+use Rattle.zy_asm.specs.declared.choices.Action.TheVariants.{Begin, Kill, Run}
+use Rattle.zy_asm.specs.declared.reading.Keyword.{Keyword}
+use Rattle.zy_asm.specs.declared.reading.Keyword.TheVariants as k
+use Rattle.zy_asm.specs.declared.state.Stage.TheVariants as stage
+use Rattle.zy_asm.specs.Steps.{number_in}
+use Rattle.zy_asm.specs.Instructions.{operation_of, register_of, two, pair_of, target_of, set_of, beq_of, alone, instr_of}
+use Rattle.zy_asm.specs.Choices.{actor_of, action_of, chosen, transaction, are_times, times_of}
+use Rattle.zy_asm.specs.Reading.{Seen, keyword_of, row_of, choice_line, own_number}
+use Rattle.zy_asm.proofs.Bind.{bind_ok, if_ok, if_err, ok_or_ok, chosen_by, first_or, in_range, not_over, same}
+use borrow.Author.Tests.{eqb-true}
+
+-- ---- first words
+
+abbrev pub op_word : Operation → List ℕ
+op_word op.Set = codes "set"
+op_word op.Read = codes "read"
+op_word op.Write = codes "write"
+op_word op.Insert = codes "insert"
+op_word op.Add = codes "add"
+op_word op.Beq = codes "beq"
+op_word op.Commit = codes "commit"
+op_word op.Abort = codes "abort"
+
+abbrev pub actor_word : Actor → List ℕ
+actor_word actor.C = codes "C"
+actor_word actor.A = codes "A"
+actor_word actor.B = codes "B"
+
+nothing : {X : Type 0} (x : X) → None ≡ Some x → ⊥
+nothing x h = cc
+
+this_op : (w : List ℕ) (a b : Operation) → bytes_eq w (op_word a) ≡ true → Some a ≡ Some b → w ≡ op_word b
+this_op w a b e h = let q : a ≡ b = cc in same w (op_word a) e ∙ ap op_word q
+
+pub operation_ok : (w : List ℕ) (o : Operation) → operation_of w ≡ Some o → w ≡ op_word o
+operation_ok w o h =
+    elim (chosen_by (bytes_eq w (codes "set")) _ _ _ h) [
+      | inl a ↦ this_op w op.Set o a.0 a.1
+      | inr a ↦
+          elim (chosen_by (bytes_eq w (codes "read")) _ _ _ a.1) [
+            | inl b ↦ this_op w op.Read o b.0 b.1
+            | inr b ↦
+                elim (chosen_by (bytes_eq w (codes "write")) _ _ _ b.1) [
+                  | inl d ↦ this_op w op.Write o d.0 d.1
+                  | inr d ↦
+                      elim (chosen_by (bytes_eq w (codes "insert")) _ _ _ d.1) [
+                        | inl e ↦ this_op w op.Insert o e.0 e.1
+                        | inr e ↦
+                            elim (chosen_by (bytes_eq w (codes "add")) _ _ _ e.1) [
+                              | inl f ↦ this_op w op.Add o f.0 f.1
+                              | inr f ↦
+                                  elim (chosen_by (bytes_eq w (codes "beq")) _ _ _ f.1) [
+                                    | inl g ↦ this_op w op.Beq o g.0 g.1
+                                    | inr g ↦
+                                        elim (chosen_by (bytes_eq w (codes "commit")) _ _ _ g.1) [
+                                          | inl i ↦ this_op w op.Commit o i.0 i.1
+                                          | inr i ↦
+                                              elim (chosen_by (bytes_eq w (codes "abort")) _ _ _ i.1) [ inl j ↦ this_op w op.Abort o j.0 j.1 | inr j ↦ absurd (nothing o j.1) ]
+                                        ]
+                                  ]
+                            ]
+                      ]
+                ]
+          ]
+    ]
+
+this_actor : (w : List ℕ) (a b : Actor) → bytes_eq w (actor_word a) ≡ true → Some a ≡ Some b → w ≡ actor_word b
+this_actor w a b e h = let q : a ≡ b = cc in same w (actor_word a) e ∙ ap actor_word q
+
+pub actor_ok : (w : List ℕ) (o : Actor) → actor_of w ≡ Some o → w ≡ actor_word o
+actor_ok w o h =
+    elim (chosen_by (bytes_eq w (codes "C")) _ _ _ h) [
+      | inl a ↦ this_actor w actor.C o a.0 a.1
+      | inr a ↦
+          elim (chosen_by (bytes_eq w (codes "A")) _ _ _ a.1) [
+            | inl b ↦ this_actor w actor.A o b.0 b.1
+            | inr b ↦
+                elim (chosen_by (bytes_eq w (codes "B")) _ _ _ b.1) [ inl d ↦ this_actor w actor.B o d.0 d.1 | inr d ↦ absurd (nothing o d.1) ]
+          ]
+    ]
+
+-- what a keyword says of its word
+abbrev pub IsWordOf : Keyword → List ℕ → Type 0
+IsWordOf k.Header w = Unit {0}
+IsWordOf k.Row w = w ≡ codes "row"
+IsWordOf k.Txn w = w ≡ codes "txn"
+IsWordOf (k.Instr o) w = w ≡ op_word o
+IsWordOf (k.Choice a) w = w ≡ actor_word a
+IsWordOf k.End w = w ≡ codes "end"
+
+by_key : (w : List ℕ) (a key : Keyword) → IsWordOf a w → a ≡ key → IsWordOf key w
+by_key w a key h e = rw e at h
+
+some_key : (w : List ℕ) (a key : Keyword) → IsWordOf a w → Some a ≡ Some key → IsWordOf key w
+some_key w a key h e = let q : a ≡ key = cc in by_key w a key h q
+
+pub keyword_ok : (w : List ℕ) (key : Keyword) → keyword_of w ≡ Some key → IsWordOf key w
+keyword_ok w key h =
+    elim (first_or k.Instr (operation_of w) _ key h) [
+      | inl a ↦ by_key w (k.Instr a.0) key (operation_ok w a.0 a.1) a.2
+      | inr a ↦
+          elim (first_or k.Choice (actor_of w) _ key a) [
+            | inl b ↦ by_key w (k.Choice b.0) key (actor_ok w b.0 b.1) b.2
+            | inr b ↦
+                elim (chosen_by (bytes_eq w (codes "row")) _ _ _ b) [
+                  | inl d ↦ some_key w k.Row key (same w (codes "row") d.0) d.1
+                  | inr d ↦
+                      elim (chosen_by (bytes_eq w (codes "txn")) _ _ _ d.1) [
+                        | inl e ↦ some_key w k.Txn key (same w (codes "txn") e.0) e.1
+                        | inr e ↦
+                            elim (chosen_by (bytes_eq w (codes "end")) _ _ _ e.1) [
+                              | inl f ↦ some_key w k.End key (same w (codes "end") f.0) f.1
+                              | inr f ↦
+                                  elim (chosen_by (bytes_eq w (codes "zephyr") || bytes_eq w (codes "cap") || bytes_eq w (codes "pages") || bytes_eq w (codes "rule")) _ _ _ f.1) [ inl g ↦ some_key w k.Header key tt g.1 | inr g ↦ absurd (nothing key g.1) ]
+                            ]
+                      ]
+                ]
+          ]
+    ]
+
+-- ---- numbers and registers
+
+pub number_in_ok : (w : List ℕ) (a b n : ℕ) → number_in w a b ≡ Ok n → (number_of w ≡ Some n) × (a ≤ n) × (n ≤ b)
+number_in_ok w a b n h =
+    let p = bind_ok (ok_or (number_of w) kinds.Number) _ n h in
+    let q = if_err (nat_lt p.0 a || nat_lt b p.0) (Ok p.0) kinds.Range n p.2 in
+    let e : p.0 ≡ n = cc (q.1) in
+    let r = in_range p.0 a b q.0 in
+    (ok_or_ok (number_of w) kinds.Number p.0 p.1 ∙ ap Some e, omega arith, omega arith)
+
+this_reg : (w : List ℕ) (a r : Reg) → bytes_eq w (reg_text a) ≡ true → (let x : Result Reg AsmKind = Ok a in x) ≡ Ok r → w ≡ reg_text r
+this_reg w a r e h = let q : a ≡ r = cc in same w (reg_text a) e ∙ ap reg_text q
+
+no_reg : (r : Reg) → (let x : Result Reg AsmKind = Err kinds.Word in x) ≡ Ok r → ⊥
+no_reg r h = cc
+
+pub register_ok : (w : List ℕ) (r : Reg) → register_of w ≡ Ok r → w ≡ reg_text r
+register_ok w r h =
+    elim (chosen_by (bytes_eq w (codes "r0")) _ _ _ h) [
+      | inl a ↦ this_reg w R0 r a.0 a.1
+      | inr a ↦
+          elim (chosen_by (bytes_eq w (codes "r1")) _ _ _ a.1) [
+            | inl b ↦ this_reg w R1 r b.0 b.1
+            | inr b ↦
+                elim (chosen_by (bytes_eq w (codes "r2")) _ _ _ b.1) [
+                  | inl d ↦ this_reg w R2 r d.0 d.1
+                  | inr d ↦
+                      elim (chosen_by (bytes_eq w (codes "r3")) _ _ _ d.1) [
+                        | inl e ↦ this_reg w R3 r e.0 e.1
+                        | inr e ↦
+                            elim (chosen_by (bytes_eq w (codes "r4")) _ _ _ e.1) [
+                              | inl f ↦ this_reg w R4 r f.0 f.1
+                              | inr f ↦
+                                  elim (chosen_by (bytes_eq w (codes "r5")) _ _ _ f.1) [
+                                    | inl g ↦ this_reg w R5 r g.0 g.1
+                                    | inr g ↦
+                                        elim (chosen_by (bytes_eq w (codes "r6")) _ _ _ g.1) [
+                                          | inl i ↦ this_reg w R6 r i.0 i.1
+                                          | inr i ↦
+                                              elim (chosen_by (bytes_eq w (codes "r7")) _ _ _ i.1) [ inl j ↦ this_reg w R7 r j.0 j.1 | inr j ↦ absurd (no_reg r j.1) ]
+                                        ]
+                                  ]
+                            ]
+                      ]
+                ]
+          ]
+    ]
+
+two_ok : (a b : List ℕ) (p : Reg × Reg) → two a b ≡ Ok p → (a ≡ reg_text p.0) × (b ≡ reg_text p.1)
+two_ok a b p h =
+    let x = bind_ok (register_of a) _ p h in
+    let y = bind_ok (register_of b) _ p x.2 in
+    let e : (x.0, y.0) ≡ p = cc (y.2) in
+    (register_ok a x.0 x.1 ∙ ap (λ (q : Reg × Reg). reg_text q.0) e, register_ok b y.0 y.1 ∙ ap (λ (q : Reg × Reg). reg_text q.1) e)
+
+pair_ok : (ws : List (List ℕ)) (p : Reg × Reg) → pair_of ws ≡ Ok p → ws ≡ reg_text p.0 ∷ reg_text p.1 ∷ []
+pair_ok [] p h = cc
+pair_ok (a ∷ []) p h = cc
+pair_ok (a ∷ b ∷ []) p h = let q = two_ok a b p h in rw (q.0, q.1) refl
+pair_ok (a ∷ b ∷ d ∷ ws) p h = cc
+
+target_ok : (w : List ℕ) (n : ℕ) → target_of w ≡ Ok n → (v : List ℕ) × (w ≡ 64 ∷ v) × (number_of v ≡ Some n)
+target_ok [] n h = cc
+target_ok (c ∷ cs) n h =
+    let p = if_ok (c == 64) (number_in cs 0 4294967295) kinds.Word n h in
+    (cs, ap (λ x. x ∷ cs) (eqb-true c 64 p.0), (number_in_ok cs 0 4294967295 n p.1).0)
+
+-- ---- instructions
+
+set_ok : (ws : List (List ℕ)) (i : Instr) → set_of ws ≡ Ok i → SpellsInstr i (codes "set" ∷ ws)
+set_ok [] i h = cc
+set_ok (a ∷ []) i h = cc
+set_ok (a ∷ w ∷ []) i h =
+    let p = bind_ok (register_of a) _ i h in
+    let n = bind_ok (number_in w 0 4294967295) _ i p.2 in
+    let q : i ≡ Set p.0 n.0 = cc (n.2) in
+    rw q (w, ap (λ r. codes "set" ∷ r ∷ w ∷ []) (register_ok a p.0 p.1), (number_in_ok w 0 4294967295 n.0 n.1).0)
+set_ok (a ∷ w ∷ v ∷ ws) i h = cc
+
+beq_words : (a b w v : List ℕ) (x y : Reg) → a ≡ reg_text x → b ≡ reg_text y → w ≡ 64 ∷ v → codes "beq" ∷ a ∷ b ∷ w ∷ [] ≡ codes "beq" ∷ reg_text x ∷ reg_text y ∷ (64 ∷ v) ∷ []
+beq_words a b w v x y e f g = rw (e, f, g) refl
+
+beq_ok : (ws : List (List ℕ)) (i : Instr) → beq_of ws ≡ Ok i → SpellsInstr i (codes "beq" ∷ ws)
+beq_ok [] i h = cc
+beq_ok (a ∷ []) i h = cc
+beq_ok (a ∷ b ∷ []) i h = cc
+beq_ok (a ∷ b ∷ w ∷ []) i h =
+    let p = bind_ok (two a b) _ i h in
+    let n = bind_ok (target_of w) _ i p.2 in
+    let q : i ≡ Beq p.0.0 p.0.1 n.0 = cc (n.2) in
+    let r = two_ok a b p.0 p.1 in
+    let t = target_ok w n.0 n.1 in
+    rw q (t.0, beq_words a b w t.0 p.0.0 p.0.1 r.0 r.1 t.1, t.2)
+beq_ok (a ∷ b ∷ w ∷ v ∷ ws) i h = cc
+
+alone_ok : (ws : List (List ℕ)) (i j : Instr) → alone ws i ≡ Ok j → (ws ≡ []) × (j ≡ i)
+alone_ok [] i j h = (refl, cc)
+alone_ok (w ∷ ws) i j h = cc
+
+pub instr_ok : (o : Operation) (ws : List (List ℕ)) (i : Instr) → instr_of o ws ≡ Ok i → SpellsInstr i (op_word o ∷ ws)
+instr_ok op.Set ws i h = set_ok ws i h
+instr_ok op.Read ws i h =
+    let p = bind_ok (pair_of ws) _ i h in
+    let q : i ≡ Read p.0.0 p.0.1 = cc (p.2) in
+    rw q (ap (λ x. codes "read" ∷ x) (pair_ok ws p.0 p.1))
+instr_ok op.Write ws i h =
+    let p = bind_ok (pair_of ws) _ i h in
+    let q : i ≡ Write p.0.0 p.0.1 = cc (p.2) in
+    rw q (ap (λ x. codes "write" ∷ x) (pair_ok ws p.0 p.1))
+instr_ok op.Insert ws i h =
+    let p = bind_ok (pair_of ws) _ i h in
+    let q : i ≡ Insert p.0.0 p.0.1 = cc (p.2) in
+    rw q (ap (λ x. codes "insert" ∷ x) (pair_ok ws p.0 p.1))
+instr_ok op.Add ws i h =
+    let p = bind_ok (pair_of ws) _ i h in
+    let q : i ≡ Add p.0.0 p.0.1 = cc (p.2) in
+    rw q (ap (λ x. codes "add" ∷ x) (pair_ok ws p.0 p.1))
+instr_ok op.Beq ws i h = beq_ok ws i h
+instr_ok op.Commit ws i h = let p = alone_ok ws Commit i h in rw p.1 (ap (λ x. codes "commit" ∷ x) p.0)
+instr_ok op.Abort ws i h = let p = alone_ok ws Abort i h in rw p.1 (ap (λ x. codes "abort" ∷ x) p.0)
+
+-- ---- rows
+
+pub row_ok : (ws : List (List ℕ)) (r : Row) → row_of ws ≡ Ok r → Spells (m.row r) (codes "row" ∷ ws)
+row_ok [] r h = cc
+row_ok (k ∷ []) r h = cc
+row_ok (k ∷ v ∷ []) r h =
+    let q = bind_ok (number_in k 0 65535) _ r h in
+    let o = bind_ok (number_in v 0 4294967295) _ r q.2 in
+    let e : r ≡ record { key = q.0; value = o.0 } = cc (o.2) in
+    rw e (k, v, refl, (number_in_ok k 0 65535 q.0 q.1).0, (number_in_ok v 0 4294967295 o.0 o.1).0)
+row_ok (k ∷ v ∷ y ∷ ys) r h = cc
+
+-- ---- programs
+
+pub own_ok : (count : ℕ) (w : List ℕ) (n : ℕ) → own_number count w ≡ Ok n → (number_of w ≡ Some count) × (n ≡ count)
+own_ok count w n h =
+    let p = bind_ok (ok_or (number_of w) kinds.Number) _ n h in
+    let q = if_ok (p.0 == count) (Ok p.0) kinds.Label n p.2 in
+    let e : p.0 ≡ n = cc (q.1) in
+    let f = eqb-true p.0 count q.0 in
+    (ok_or_ok (number_of w) kinds.Number p.0 p.1 ∙ ap Some f, sym e ∙ f)
+
+-- ---- choices
+
+begin_or_kill : (w : List ℕ) (a : Action) → action_of actor.C w ≡ Some a → ((w ≡ codes "begin") × (a ≡ Begin)) ⊎ ((w ≡ codes "kill") × (a ≡ Kill))
+begin_or_kill w a h =
+    elim (chosen_by (bytes_eq w (codes "begin")) _ _ _ h) [
+      | inl x ↦ inl (same w (codes "begin") x.0, (let q = x.1 in cc))
+      | inr x ↦
+          elim (chosen_by (bytes_eq w (codes "kill")) _ _ _ x.1) [ inl y ↦ inr (same w (codes "kill") y.0, (let q = y.1 in cc)) | inr y ↦ absurd (nothing a y.1) ]
+    ]
+
+run_only : (w : List ℕ) (a b : Action) → (if bytes_eq w (codes "run") then Some b else None) ≡ Some a → (w ≡ codes "run") × (a ≡ b)
+run_only w a b h =
+    elim (chosen_by (bytes_eq w (codes "run")) _ _ _ h) [ inl x ↦ (same w (codes "run") x.0, (let q = x.1 in cc)) | inr x ↦ absurd (nothing a x.1) ]
+
+action_ok : (actor : Actor) (w who : List ℕ) (a : Action) (i : ℕ) → action_of actor w ≡ Some a → number_of who ≡ Some i → SpellsChoice (chosen a i) (actor_word actor ∷ w ∷ who ∷ [])
+action_ok actor.C w who a i h n =
+    elim (begin_or_kill w a h) [
+      | inl x ↦ rw x.1 (who, ap (λ v. codes "C" ∷ v ∷ who ∷ []) x.0, n)
+      | inr x ↦ rw x.1 (who, ap (λ v. codes "C" ∷ v ∷ who ∷ []) x.0, n)
+    ]
+action_ok actor.A w who a i h n = let x = run_only w a (Run node.A) h in rw x.1 (who, ap (λ v. codes "A" ∷ v ∷ who ∷ []) x.0, n)
+action_ok actor.B w who a i h n = let x = run_only w a (Run node.B) h in rw x.1 (who, ap (λ v. codes "B" ∷ v ∷ who ∷ []) x.0, n)
+
+pub names_chosen : (count i : ℕ) (a : Action) → names_below count (chosen a i) ≡ nat_lt i count
+names_chosen count i Begin = refl
+names_chosen count i Kill = refl
+names_chosen count i (Run n) = refl
+
+times_ok : (ws : List (List ℕ)) (n : ℕ) → are_times ws ≡ true → times_of ws ≡ Ok n → SpellsTimes n ws
+times_ok [] n e h = inl (refl, cc)
+times_ok (x ∷ []) n e h = cc
+times_ok (x ∷ w ∷ []) n e h = let p = number_in_ok w 1 4096 n h in inr (w, ap (λ l. l ∷ w ∷ []) (same x (codes "x") e), p.0, p.1, p.2)
+times_ok (x ∷ w ∷ v ∷ ws) n e h = cc
+
+-- what a choice did
+pub record Chose (s : Seen) (a : Actor) (ws : List (List ℕ)) (t : Seen) : Type 0 where
+  pub made : Times
+  pub spelled : Spells (m.choice made) (actor_word a ∷ ws)
+  pub named : names_below (length s.programs) made.choice ≡ true
+  pub few : length s.choices + made.times ≤ 4096
+  pub after : t ≡ record s { stage = stage.Choices; choices = s.choices ++ replicate made.times made.choice }
+
+pub choice_ok : (s t : Seen) (a : Actor) (ws : List (List ℕ)) → choice_line s a ws ≡ Ok t → Chose s a ws t
+choice_ok s t a [] h = cc
+choice_ok s t a (w ∷ []) h = cc
+choice_ok s t a (w ∷ who ∷ times) h =
+    let p = if_ok (are_times times) _ kinds.Word t h in
+    let b = bind_ok (ok_or (action_of a w) kinds.Word) _ t p.1 in
+    let i = bind_ok (transaction (length s.programs) who) _ t b.2 in
+    let n = bind_ok (times_of times) _ t i.2 in
+    let f = if_err (nat_lt 4096 (length s.choices + n.0)) _ kinds.Count t n.2 in
+    let j = bind_ok (ok_or (number_of who) kinds.Number) _ i.0 i.1 in
+    let l = if_ok (nat_lt j.0 (length s.programs)) (Ok j.0) kinds.Label i.0 j.2 in
+    let e : j.0 ≡ i.0 = cc (l.1) in
+    record {
+      made = record { choice = chosen b.0 i.0; times = n.0 };
+      spelled = (actor_word a ∷ w ∷ who ∷ [], times, refl, action_ok a w who b.0 i.0 (ok_or_ok (action_of a w) kinds.Word b.0 b.1) (ok_or_ok (number_of who) kinds.Number j.0 j.1 ∙ ap Some e), times_ok times n.0 p.0 n.1);
+      named = names_chosen (length s.programs) i.0 b.0 ∙ ap (λ x. nat_lt x (length s.programs)) (sym e) ∙ l.0;
+      few = not_over (length s.choices + n.0) 4096 f.0;
+      after = cc (f.1);
+    }

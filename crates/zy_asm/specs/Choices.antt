@@ -1,0 +1,51 @@
+-- The choice that the words of a line spell, and the fault where they spell none.
+use Rattle.std.specs.Prelude.{ℕ, List, [], ◌∷◌, codes, nat_lt, Bool, true, false, Option, Some, None, Result, Ok, Err, ok_or, if◌then◌else◌}
+use Rattle.std.specs.Str.{bytes_eq}
+use Rattle.zy_isa.specs.declared.node.Node.TheVariants as node
+use Rattle.zy_isa.specs.declared.node.Actor.{Actor}
+use Rattle.zy_isa.specs.declared.node.Actor.TheVariants as actor
+use Rattle.zy_isa.specs.declared.choice.Choice.{Choice}
+use Rattle.zy_isa.specs.declared.choice.Choice.TheVariants as choice
+use Rattle.zy_isa.specs.Words.{number_of}
+use Rattle.zy_asm.specs.declared.faults.AsmKind.{AsmKind}
+use Rattle.zy_asm.specs.declared.faults.AsmKind.TheVariants as kinds
+use Rattle.zy_asm.specs.declared.choices.Action.{Action}
+use Rattle.zy_asm.specs.declared.choices.Action.TheVariants.{Begin, Kill, Run}
+use Rattle.zy_asm.specs.Steps.{◌>>=◌, number_in}
+
+abbrev pub actor_of : List ℕ → Option Actor
+actor_of w =
+    if bytes_eq w (codes "C") then Some actor.C else
+    if bytes_eq w (codes "A") then Some actor.A else
+    if bytes_eq w (codes "B") then Some actor.B else
+    None
+
+abbrev pub action_of : Actor → List ℕ → Option Action
+action_of actor.C w =
+    if bytes_eq w (codes "begin") then Some Begin else
+    if bytes_eq w (codes "kill") then Some Kill else
+    None
+action_of actor.A w = if bytes_eq w (codes "run") then Some (Run node.A) else None
+action_of actor.B w = if bytes_eq w (codes "run") then Some (Run node.B) else None
+
+abbrev pub chosen : Action → ℕ → Choice
+chosen Begin t = choice.Begin t
+chosen Kill t = choice.Kill t
+chosen (Run n) t = choice.Run n t
+
+-- the number of one of so many transactions
+abbrev pub transaction : ℕ → List ℕ → Result ℕ AsmKind
+transaction count w = do
+  n ← ok_or (number_of w) kinds.Number
+  if nat_lt n count then Ok n else Err kinds.Label
+
+-- `x` and a word, or nothing
+abbrev pub are_times : List (List ℕ) → Bool
+are_times [] = true
+are_times (x ∷ n ∷ []) = bytes_eq x (codes "x")
+are_times _ = false
+
+abbrev pub times_of : List (List ℕ) → Result ℕ AsmKind
+times_of [] = Ok 1
+times_of (x ∷ n ∷ []) = number_in n 1 4096
+times_of _ = Err kinds.Word

@@ -1,0 +1,7 @@
+pub mod Steps
+pub mod Instructions
+pub mod Choices
+pub mod Stages
+pub mod Reading
+pub mod Assembling
+pub mod Input

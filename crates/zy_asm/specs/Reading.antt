@@ -1,0 +1,227 @@
+-- Reading a text, line by line, up to the first fault.
+use Rattle.std.specs.Prelude.{◌≡◌, ◌==◌, ◌+◌, ◌-◌, ◌⊎◌, ◌&&◌, ◌||◌, ℕ, List, [], ◌∷◌, ◌++◌, length, codes, Option, Some, None, Bool, false, Result, Ok, Err, ok_or, option_map, slice_get, if◌then◌else◌, nat_le, nat_lt, replicate}
+use Rattle.std.specs.Option.{option_map_or, option_or}
+use Rattle.std.specs.Str.{bytes_eq}
+use Rattle.zy_isa.specs.declared.node.Actor.{Actor}
+use Rattle.zy_isa.specs.declared.row.Row.{Row}
+use Rattle.zy_isa.specs.declared.instr.Instr.{Instr}
+use Rattle.zy_isa.specs.declared.program.ProgFault.{ProgFault}
+use Rattle.zy_isa.specs.declared.choice.Choice.{Choice}
+use Rattle.zy_isa.specs.Words.{lines_of, words_of, number_of}
+use Rattle.zy_isa.specs.Programs.{prog_fault}
+use Rattle.zy_isa.specs.Scenario.{opening_pages_for}
+use Rattle.zy_asm.specs.declared.faults.AsmKind.{AsmKind}
+use Rattle.zy_asm.specs.declared.faults.AsmKind.TheVariants as kinds
+use Rattle.zy_asm.specs.declared.faults.AsmFault.{AsmFault}
+use Rattle.zy_asm.specs.declared.instructions.Operation.{Operation}
+use Rattle.zy_asm.specs.declared.reading.Keyword.{Keyword}
+use Rattle.zy_asm.specs.declared.reading.Keyword.TheVariants as k
+use Rattle.zy_asm.specs.declared.state.Stage.{Stage}
+use Rattle.zy_asm.specs.declared.state.Stage.TheVariants.{Zephyr, Cap, Pages, Rule, Rows, Program, Choices, Done}
+use Rattle.zy_asm.specs.declared.state.Reader.{Reader}
+use Rattle.zy_asm.specs.Steps.{◌>>=◌, number_in}
+use Rattle.zy_asm.specs.Instructions.{operation_of, instr_of}
+use Rattle.zy_asm.specs.Choices.{actor_of, action_of, chosen, transaction, are_times, times_of}
+
+-- what the lines so far gave
+pub record Seen : Type 0 where
+  pub stage : Stage
+  pub cap : ℕ
+  pub pages : ℕ
+  pub rows : List Row
+  pub programs : List (List Instr)
+  pub instrs : List Instr
+  pub choices : List Choice
+
+abbrev pub seen : Reader → Seen
+seen r = record { stage = r.stage; cap = r.cap; pages = r.pages; rows = r.rows.items; programs = r.programs.items; instrs = r.instrs.items; choices = r.choices.items }
+
+-- the first word of a statement below the header
+abbrev pub keyword_of : List ℕ → Option Keyword
+keyword_of w =
+    option_or (option_map k.Instr (operation_of w)) (
+    option_or (option_map k.Choice (actor_of w)) (
+    if bytes_eq w (codes "row") then Some k.Row else
+    if bytes_eq w (codes "txn") then Some k.Txn else
+    if bytes_eq w (codes "end") then Some k.End else
+    if bytes_eq w (codes "zephyr") || bytes_eq w (codes "cap") || bytes_eq w (codes "pages") || bytes_eq w (codes "rule") then Some k.Header else
+    None))
+
+-- ---- the header
+
+abbrev pub are_two : List (List ℕ) → List ℕ → List ℕ → Bool
+are_two (w ∷ v ∷ []) x y = bytes_eq w x && bytes_eq v y
+are_two _ x y = false
+
+-- `NAME N`
+abbrev pub headed : List (List ℕ) → List ℕ → ℕ → ℕ → Result ℕ AsmKind
+headed (w ∷ n ∷ []) name least most = if bytes_eq w name then number_in n least most else Err kinds.Header
+headed _ name least most = Err kinds.Header
+
+abbrev pub zephyr_line : Seen → List (List ℕ) → Result Seen AsmKind
+zephyr_line s ws = if are_two ws (codes "zephyr") (codes "1") then Ok (record s { stage = Cap }) else Err kinds.Header
+
+abbrev pub cap_line : Seen → List (List ℕ) → Result Seen AsmKind
+cap_line s ws = headed ws (codes "cap") 2 16 >>= λ n. Ok (record s { stage = Pages; cap = n })
+
+abbrev pub pages_line : Seen → List (List ℕ) → Result Seen AsmKind
+pages_line s ws = headed ws (codes "pages") 1 512 >>= λ n. Ok (record s { stage = Rule; pages = n })
+
+abbrev pub rule_line : Seen → List (List ℕ) → Result Seen AsmKind
+rule_line s ws = if are_two ws (codes "rule") (codes "held") then Ok (record s { stage = Rows }) else Err kinds.Header
+
+-- ---- rows
+
+abbrev pub row_of : List (List ℕ) → Result Row AsmKind
+row_of (k ∷ v ∷ []) = do
+  key ← number_in k 0 65535
+  value ← number_in v 0 4294967295
+  Ok (record { key = key; value = value })
+row_of _ = Err kinds.Word
+
+-- there is no place for a row more
+abbrev pub is_full : Seen → Bool
+is_full s = nat_le 256 (length s.rows) || nat_lt 1 (opening_pages_for s.cap (length s.rows + 1))
+
+abbrev pub last_row : List Row → Option Row
+last_row rows = slice_get rows (length rows - 1)
+
+abbrev pub is_low : ℕ → Option Row → Bool
+is_low key last = option_map_or (λ r. nat_le key r.key) last false
+
+abbrev pub add_row : Seen → Row → Result Seen AsmKind
+add_row s row =
+    if is_full s then Err kinds.Count else
+    if is_low row.key (last_row s.rows) then Err kinds.Order else
+    Ok (record s { rows = s.rows ++ row ∷ [] })
+
+abbrev pub row_at : Stage → Seen → List (List ℕ) → Result Seen AsmKind
+row_at Rows s ws = row_of ws >>= add_row s
+row_at _ s ws = Err kinds.Order
+
+-- ---- programs
+
+abbrev pub instr_line : Seen → Operation → List (List ℕ) → Result Seen AsmKind
+instr_line s op ws = instr_of op ws >>= λ i. if nat_le 64 (length s.instrs) then Err kinds.Count else Ok (record s { instrs = s.instrs ++ i ∷ [] })
+
+abbrev pub instr_at : Stage → Seen → Operation → List (List ℕ) → Result Seen AsmKind
+instr_at Program s op ws = instr_line s op ws
+instr_at _ s op ws = Err kinds.Order
+
+abbrev pub judged : Option ProgFault → List Instr → Result (List Instr) AsmKind
+judged None is = Ok is
+judged (Some f) is = Err kinds.Program
+
+-- a program is closed by the line below it
+abbrev pub closed_at : Stage → Seen → Result Seen AsmKind
+closed_at Program s = judged (prog_fault s.instrs) s.instrs >>= λ p. Ok (record s { stage = Choices; programs = s.programs ++ p ∷ []; instrs = [] })
+closed_at _ s = Ok s
+
+abbrev pub closed : Seen → Result Seen AsmKind
+closed s = closed_at s.stage s
+
+-- the program's own number
+abbrev pub own_number : ℕ → List ℕ → Result ℕ AsmKind
+own_number count w = do
+  n ← ok_or (number_of w) kinds.Number
+  if n == count then Ok n else Err kinds.Label
+
+abbrev pub open_line : Seen → List (List ℕ) → Result Seen AsmKind
+open_line s (t ∷ []) = own_number (length s.programs) t >>= λ n. if nat_le 64 n then Err kinds.Count else Ok (record s { stage = Program })
+open_line s _ = Err kinds.Word
+
+abbrev pub txn_at : Stage → Seen → List (List ℕ) → Result Seen AsmKind
+txn_at Choices s ws = Err kinds.Order
+txn_at _ s ws = closed s >>= λ u. open_line u ws
+
+-- ---- choices and the end
+
+abbrev pub repeat_choice : Seen → Choice → ℕ → Result Seen AsmKind
+repeat_choice s c n = if nat_lt 4096 (length s.choices + n) then Err kinds.Count else Ok (record s { stage = Choices; choices = s.choices ++ replicate n c })
+
+abbrev pub choice_line : Seen → Actor → List (List ℕ) → Result Seen AsmKind
+choice_line s a (w ∷ t ∷ times) = if are_times times then (do
+  action ← ok_or (action_of a w) kinds.Word
+  i ← transaction (length s.programs) t
+  n ← times_of times
+  repeat_choice s (chosen action i) n) else Err kinds.Word
+choice_line s a _ = Err kinds.Word
+
+abbrev pub end_line : Seen → List (List ℕ) → Result Seen AsmKind
+end_line s [] = Ok (record s { stage = Done })
+end_line s (w ∷ ws) = Err kinds.Word
+
+-- ---- lines
+
+abbrev pub statement : Option Keyword → Seen → List (List ℕ) → Result Seen AsmKind
+statement None s ws = Err kinds.Word
+statement (Some k.Header) s ws = Err kinds.Order
+statement (Some k.Row) s ws = row_at s.stage s ws
+statement (Some k.Txn) s ws = txn_at s.stage s ws
+statement (Some (k.Instr op)) s ws = instr_at s.stage s op ws
+statement (Some (k.Choice a)) s ws = closed s >>= λ u. choice_line u a ws
+statement (Some k.End) s ws = closed s >>= λ u. end_line u ws
+
+-- a line below the header
+abbrev pub body_line : Seen → List (List ℕ) → Result Seen AsmKind
+body_line s [] = Err kinds.Word
+body_line s (w ∷ ws) = statement (keyword_of w) s ws
+
+abbrev pub line_at : Stage → Seen → List (List ℕ) → Result Seen AsmKind
+line_at Zephyr s ws = zephyr_line s ws
+line_at Cap s ws = cap_line s ws
+line_at Pages s ws = pages_line s ws
+line_at Rule s ws = rule_line s ws
+line_at Done s ws = Err kinds.End
+line_at _ s ws = body_line s ws
+
+-- a line with words, after what was seen
+abbrev pub step : Seen → List (List ℕ) → Result Seen AsmKind
+step s ws = line_at s.stage s ws
+
+-- a line
+abbrev pub line_step : Seen → List (List ℕ) → Result Seen AsmKind
+line_step s [] = Ok s
+line_step s (w ∷ ws) = step s (w ∷ ws)
+
+-- the end of the input
+abbrev pub ended : Stage → Result (Unit {0}) AsmKind
+ended Done = Ok tt
+ended _ = Err kinds.End
+
+abbrev pub finish : Seen → Result Seen AsmKind
+finish s = ended s.stage >>= λ _. Ok s
+
+-- a fault of the line n
+abbrev pub at_line : {X : Type 0} → ℕ → Result X AsmKind → Result X AsmFault
+at_line n (Ok x) = Ok x
+at_line n (Err e) = Err (record { line = n; kind = e })
+
+-- the lines from the line n on
+abbrev pub read_lines : Seen → ℕ → List (List ℕ) → Result Seen AsmFault
+read_lines s n [] = at_line n (finish s)
+read_lines s n (l ∷ ls) = at_line n (line_step s (words_of l)) >>= λ t. read_lines t (n + 1) ls
+
+abbrev pub nothing_seen : Seen
+nothing_seen = record { stage = Zephyr; cap = 2; pages = 1; rows = []; programs = []; instrs = []; choices = [] }
+
+-- what a text gives, or its first fault
+abbrev pub reading : List ℕ → Result Seen AsmFault
+reading text = read_lines nothing_seen 1 (lines_of text)
+
+-- ---- calls that may want memory
+
+-- a call did the step, unless there was no memory
+abbrev pub Steps : Result (Unit {0}) AsmKind → Seen → Result Seen AsmKind → Type 0
+Steps (Ok x) new read = read ≡ Ok new
+Steps (Err e) new read = (e ≡ kinds.Memory) ⊎ (read ≡ Err e)
+
+-- the answer is what was given, unless there was no memory
+abbrev pub Gives : {X : Type 0} → Result X AsmKind → Result X AsmKind → Type 0
+Gives (Ok x) given = given ≡ Ok x
+Gives (Err e) given = (e ≡ kinds.Memory) ⊎ (given ≡ Err e)
+
+-- the answer is what reading gives, unless there was no memory
+abbrev pub Reads : Result Reader AsmFault → Result Seen AsmFault → Type 0
+Reads (Ok r) read = read ≡ Ok (seen r)
+Reads (Err f) read = (f.kind ≡ kinds.Memory) ⊎ (read ≡ Err f)

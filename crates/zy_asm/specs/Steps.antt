@@ -1,0 +1,22 @@
+-- Steps that may fail, and numbers in their ranges.
+use Rattle.std.specs.Prelude.{◌||◌, nat_lt, ℕ, List, map, Result, Ok, Err, ok_or, if◌then◌else◌}
+use Rattle.std.specs.Borrow.{Bor}
+use Rattle.zy_isa.specs.Words.{number_of}
+use Rattle.zy_asm.specs.declared.faults.AsmKind.{AsmKind}
+use Rattle.zy_asm.specs.declared.faults.AsmKind.TheVariants as kinds
+
+-- the next step, unless this one failed
+infixl 10 ◌>>=◌
+abbrev pub ◌>>=◌ : {A B E : Type 0} → Result A E → (A → Result B E) → Result B E
+(Ok x) >>= f = f x
+(Err e) >>= f = Err e
+
+-- the words that references point to
+abbrev pub texts : List (Bor (List ℕ)) → List (List ℕ)
+texts ws = map (λ w. w.now) ws
+
+-- a number from least to most
+abbrev pub number_in : List ℕ → ℕ → ℕ → Result ℕ AsmKind
+number_in w least most = do
+  n ← ok_or (number_of w) kinds.Number
+  if nat_lt n least || nat_lt most n then Err kinds.Range else Ok n

@@ -1,0 +1,13 @@
+//! Reads the text of a scenario, and tells the first fault of a text that is none.
+#![tactic(auto)]
+
+pub mod assembling;
+mod choices;
+pub mod faults;
+mod instructions;
+mod reading;
+mod state;
+#[cfg(test)]
+mod tests;
+pub mod text;
+mod words;

@@ -1,0 +1,357 @@
+//! Reads a text line by line.
+ghost use Rattle.std.specs.Prelude.{◌≡◌, ◌≤◌, ◌<◌, length, IfOk};
+ghost use Rattle.zy_asm.specs.Steps.{texts};
+ghost use Rattle.zy_asm.specs.Reading.{Steps, Gives, Reads, seen, keyword_of as keyword_of_lem, are_two as are_two_lem, headed as headed_lem, zephyr_line, cap_line, pages_line, rule_line, row_of as row_of_lem, add_row, row_at, instr_line, instr_at, judged, closed, own_number as own_number_lem, open_line, txn_at, repeat_choice, choice_line, end_line, statement, body_line, step, ended as ended_lem, reading};
+ghost use Rattle.zy_isa.specs.Programs.{prog_fault};
+
+use crate::choices::{action_of, actor_of, are_times, chosen, times_of, transaction};
+use crate::faults::{AsmFault, AsmKind};
+use crate::instructions::{Operation, instr_of, operation_of};
+use crate::state::{Reader, Stage};
+use crate::words::{first_line, is, number_in, number_of, words_of};
+use std::alloc::Global;
+use zy_isa::choice::Choice;
+use zy_isa::instr::Instr;
+use zy_isa::node::Actor;
+use zy_isa::program::{MAX_INSTRS, ProgFault, Program};
+use zy_isa::row::Row;
+use zy_isa::scenario::{MAX_CHOICES, MAX_OPENING_PAGES, MAX_ROWS, MAX_TXNS, opening_pages_for};
+
+/// What the first word of a line below the header says that the line is.
+#[derive(Clone, Copy, Debug, PartialEq, Eq)]
+pub enum Keyword {
+    Header,
+    Row,
+    Txn,
+    Instr(Operation),
+    Choice(Actor),
+    End,
+}
+
+/// The keyword that a word is.
+fn keyword_of(word: &[u8]) -> Option<Keyword>
+    ensures { result ≡ keyword_of_lem word.now }
+{
+    if let Some(operation) = operation_of(word) {
+        return Some(Keyword::Instr(operation));
+    }
+    if let Some(actor) = actor_of(word) {
+        return Some(Keyword::Choice(actor));
+    }
+    if is(word, b"row") {
+        Some(Keyword::Row)
+    } else if is(word, b"txn") {
+        Some(Keyword::Txn)
+    } else if is(word, b"end") {
+        Some(Keyword::End)
+    } else if is(word, b"zephyr") || is(word, b"cap") || is(word, b"pages") || is(word, b"rule") {
+        Some(Keyword::Header)
+    } else {
+        None
+    }
+}
+
+/// Whether these are the words.
+fn are_two(words: &[&[u8]], first: &[u8], second: &[u8]) -> bool
+    ensures { result ≡ are_two_lem (texts words.now) first.now second.now }
+{
+    match words {
+        [w, v] => *w == first && *v == second,
+        _ => false,
+    }
+}
+
+/// The number of a header line with this first word.
+fn headed(words: &[&[u8]], name: &[u8], least: u64, most: u64) -> Result<u64, AsmKind>
+    ensures value { result ≡ headed_lem (texts words.now) name.now least most }
+    ensures range { IfOk result (λ n. (least ≤ n) × (n ≤ most)) }
+{
+    match words {
+        [first, number] if *first == name => number_in(number, least, most),
+        _ => Err(AsmKind::Header),
+    }
+}
+
+/// The row of the words behind `row`.
+fn row_of(words: &[&[u8]]) -> Result<Row, AsmKind>
+    ensures { result ≡ row_of_lem (texts words.now) }
+{
+    match words {
+        [key, value] => {
+            let key = number_in(key, 0, 65535)? as u16;
+            let value = number_in(value, 0, 4_294_967_295)? as u32;
+            Ok(Row { key, value })
+        }
+        _ => Err(AsmKind::Word),
+    }
+}
+
+/// The program of these instructions.
+fn program_of(alloc: Global, instrs: &[Instr]) -> Result<Program, AsmKind>
+    ensures { Gives result (judged (prog_fault instrs.now) instrs.now) }
+{
+    match Program::verify(alloc, instrs) {
+        Ok(program) => Ok(program),
+        Err(ProgFault::Memory) => Err(AsmKind::Memory),
+        Err(_) => Err(AsmKind::Program),
+    }
+}
+
+/// The number of a program, of which so many stand above.
+fn own_number(count: usize, word: &[u8]) -> Result<usize, AsmKind>
+    ensures { result ≡ own_number_lem count word.now }
+{
+    let number = number_of(word).ok_or(AsmKind::Number)?;
+    if number != count as u64 {
+        return Err(AsmKind::Label);
+    }
+    Ok(count)
+}
+
+impl Reader {
+    fn zephyr_line(&mut self, words: &[&[u8]]) -> Result<(), AsmKind>
+        ensures { Steps result (seen self.new) (zephyr_line (seen self.old) (texts words.now)) }
+    {
+        if !are_two(words, b"zephyr", b"1") {
+            return Err(AsmKind::Header);
+        }
+        self.stage = Stage::Cap;
+        Ok(())
+    }
+
+    fn cap_line(&mut self, words: &[&[u8]]) -> Result<(), AsmKind>
+        ensures { Steps result (seen self.new) (cap_line (seen self.old) (texts words.now)) }
+    {
+        self.cap = headed(words, b"cap", 2, 16)? as u8;
+        self.stage = Stage::Pages;
+        Ok(())
+    }
+
+    fn pages_line(&mut self, words: &[&[u8]]) -> Result<(), AsmKind>
+        ensures { Steps result (seen self.new) (pages_line (seen self.old) (texts words.now)) }
+    {
+        self.pages = headed(words, b"pages", 1, 512)? as u16;
+        self.stage = Stage::Rule;
+        Ok(())
+    }
+
+    fn rule_line(&mut self, words: &[&[u8]]) -> Result<(), AsmKind>
+        ensures { Steps result (seen self.new) (rule_line (seen self.old) (texts words.now)) }
+    {
+        if !are_two(words, b"rule", b"held") {
+            return Err(AsmKind::Header);
+        }
+        self.stage = Stage::Rows;
+        Ok(())
+    }
+
+    fn add_row(&mut self, row: Row) -> Result<(), AsmKind>
+        ensures { Steps result (seen self.new) (add_row (seen self.old) row) }
+    {
+        let count = self.rows.len();
+        if count >= MAX_ROWS || opening_pages_for(self.cap, count + 1) > MAX_OPENING_PAGES {
+            return Err(AsmKind::Count);
+        }
+        if self.rows.last().is_some_and(|last| row.key <= last.key) {
+            return Err(AsmKind::Order);
+        }
+        self.rows.push(row).map_err(|_| AsmKind::Memory)?;
+        Ok(())
+    }
+
+    fn row_line(&mut self, words: &[&[u8]]) -> Result<(), AsmKind>
+        ensures { Steps result (seen self.new) (row_at self.old.stage (seen self.old) (texts words.now)) }
+    {
+        if self.stage != Stage::Rows {
+            return Err(AsmKind::Order);
+        }
+        let row = row_of(words)?;
+        self.add_row(row)
+    }
+
+    fn instr_line(&mut self, operation: Operation, words: &[&[u8]]) -> Result<(), AsmKind>
+        ensures { Steps result (seen self.new) (instr_at self.old.stage (seen self.old) operation (texts words.now)) }
+    {
+        if self.stage != Stage::Program {
+            return Err(AsmKind::Order);
+        }
+        let instr = instr_of(operation, words)?;
+        if self.instrs.len() >= MAX_INSTRS {
+            return Err(AsmKind::Count);
+        }
+        self.instrs.push(instr).map_err(|_| AsmKind::Memory)?;
+        Ok(())
+    }
+
+    /// Closes the program that is open.
+    fn close(&mut self) -> Result<(), AsmKind>
+        ensures { Steps result (seen self.new) (closed (seen self.old)) }
+    {
+        if self.stage == Stage::Program {
+            let program = program_of(self.alloc, self.instrs.as_slice())?;
+            self.stage = Stage::Choices;
+            if self.programs.push(program).is_err() {
+                return Err(AsmKind::Memory);
+            }
+            self.instrs.clear();
+        }
+        Ok(())
+    }
+
+    fn open_line(&mut self, words: &[&[u8]]) -> Result<(), AsmKind>
+        ensures { Steps result (seen self.new) (open_line (seen self.old) (texts words.now)) }
+    {
+        match words {
+            [t] => {
+                if own_number(self.programs.len(), t)? >= MAX_TXNS {
+                    return Err(AsmKind::Count);
+                }
+                self.stage = Stage::Program;
+                Ok(())
+            }
+            _ => Err(AsmKind::Word),
+        }
+    }
+
+    fn txn_line(&mut self, words: &[&[u8]]) -> Result<(), AsmKind>
+        ensures { Steps result (seen self.new) (txn_at self.old.stage (seen self.old) (texts words.now)) }
+    {
+        if self.stage == Stage::Choices {
+            return Err(AsmKind::Order);
+        }
+        self.close()?;
+        self.open_line(words)
+    }
+
+    fn repeat_choice(&mut self, choice: Choice, times: u64) -> Result<(), AsmKind>
+        requires { times ≤ 4096 }
+        ensures { Steps result (seen self.new) (repeat_choice (seen self.old) choice times) }
+    {
+        let all = self.choices.len() + times as usize;
+        if all > MAX_CHOICES {
+            return Err(AsmKind::Count);
+        }
+        self.stage = Stage::Choices;
+        if self.choices.resize(all, choice).is_err() {
+            return Err(AsmKind::Memory);
+        }
+        Ok(())
+    }
+
+    fn choice_line(&mut self, actor: Actor, words: &[&[u8]]) -> Result<(), AsmKind>
+        ensures { Steps result (seen self.new) (choice_line (seen self.old) actor (texts words.now)) }
+    {
+        match words {
+            [action, t, times @ ..] => {
+                if !are_times(times) {
+                    return Err(AsmKind::Word);
+                }
+                let action = action_of(actor, action).ok_or(AsmKind::Word)?;
+                let t = transaction(self.programs.len(), t)?;
+                let times = times_of(times)?;
+                self.repeat_choice(chosen(action, t), times)
+            }
+            _ => Err(AsmKind::Word),
+        }
+    }
+
+    fn end_line(&mut self, words: &[&[u8]]) -> Result<(), AsmKind>
+        ensures { Steps result (seen self.new) (end_line (seen self.old) (texts words.now)) }
+    {
+        if !words.is_empty() {
+            return Err(AsmKind::Word);
+        }
+        self.stage = Stage::Done;
+        Ok(())
+    }
+
+    fn statement(&mut self, keyword: Option<Keyword>, words: &[&[u8]]) -> Result<(), AsmKind>
+        ensures { Steps result (seen self.new) (statement keyword (seen self.old) (texts words.now)) }
+    {
+        match keyword {
+            None => Err(AsmKind::Word),
+            Some(Keyword::Header) => Err(AsmKind::Order),
+            Some(Keyword::Row) => self.row_line(words),
+            Some(Keyword::Txn) => self.txn_line(words),
+            Some(Keyword::Instr(operation)) => self.instr_line(operation, words),
+            Some(Keyword::Choice(actor)) => {
+                self.close()?;
+                self.choice_line(actor, words)
+            }
+            Some(Keyword::End) => {
+                self.close()?;
+                self.end_line(words)
+            }
+        }
+    }
+
+    fn body_line(&mut self, words: &[&[u8]]) -> Result<(), AsmKind>
+        ensures { Steps result (seen self.new) (body_line (seen self.old) (texts words.now)) }
+    {
+        let Some((first, rest)) = words.split_first() else {
+            return Err(AsmKind::Word);
+        };
+        self.statement(keyword_of(first), rest)
+    }
+
+    /// Takes a line with words.
+    pub fn line(&mut self, words: &[&[u8]]) -> Result<(), AsmKind>
+        ensures { Steps result (seen self.new) (step (seen self.old) (texts words.now)) }
+    {
+        match self.stage {
+            Stage::Zephyr => self.zephyr_line(words),
+            Stage::Cap => self.cap_line(words),
+            Stage::Pages => self.pages_line(words),
+            Stage::Rule => self.rule_line(words),
+            Stage::Done => Err(AsmKind::End),
+            _ => self.body_line(words),
+        }
+    }
+}
+
+fn ended(stage: Stage) -> Result<(), AsmKind>
+    ensures { result ≡ ended_lem stage }
+{
+    match stage {
+        Stage::Done => Ok(()),
+        _ => Err(AsmKind::End),
+    }
+}
+
+/// Reads a whole text.
+pub fn read(alloc: Global, text: &str) -> Result<Reader, AsmFault>
+    ensures { Reads result (reading text.now) }
+{
+    let mut reader = Reader {
+        alloc,
+        stage: Stage::Zephyr,
+        cap: 2,
+        pages: 1,
+        rows: Vec::new(alloc),
+        programs: Vec::new(alloc),
+        instrs: Vec::new(alloc),
+        choices: Vec::new(alloc),
+    };
+    let mut rest = text;
+    let mut line = 1usize;
+    while !rest.is_empty() {
+        let (first, after) = first_line(rest);
+        let Ok(words) = words_of(alloc, first) else {
+            return Err(AsmFault {
+                line,
+                kind: AsmKind::Memory,
+            });
+        };
+        if !words.is_empty() {
+            if let Err(kind) = reader.line(words.as_slice()) {
+                return Err(AsmFault { line, kind });
+            }
+        }
+        rest = after;
+        line += 1;
+    }
+    match ended(reader.stage) {
+        Ok(()) => Ok(reader),
+        Err(kind) => Err(AsmFault { line, kind }),
+    }
+}

@@ -1,0 +1,46 @@
+//! What the lines so far gave.
+ghost use Rattle.std.specs.Prelude.{◌≤◌, ◌+◌, length};
+ghost use Rattle.zy_asm.specs.Stages.{open_programs};
+
+use std::alloc::Global;
+use zy_isa::choice::Choice;
+use zy_isa::instr::Instr;
+use zy_isa::program::Program;
+use zy_isa::row::Row;
+
+/// What may come next.
+#[derive(Clone, Copy, Debug, PartialEq, Eq)]
+pub enum Stage {
+    /// The first line of the header.
+    Zephyr,
+    /// The second line of the header.
+    Cap,
+    /// The third line of the header.
+    Pages,
+    /// The last line of the header.
+    Rule,
+    /// Rows, and what follows them.
+    Rows,
+    /// An instruction of the open program, or what closes it.
+    Program,
+    /// Choices and the end.
+    Choices,
+    /// No statement.
+    Done,
+}
+
+/// What the lines so far gave. Cap is 2 and pages 1 until the header tells them.
+#[derive(Drop)]
+pub struct Reader {
+    pub alloc: Global,
+    pub stage: Stage,
+    pub cap: u8,
+    pub pages: u16,
+    pub rows: Vec<Row>,
+    pub programs: Vec<Program>,
+    pub instrs: Vec<Instr>,
+    pub choices: Vec<Choice>,
+    pub ghost some_cap: { 2 ≤ cap },
+    pub ghost few_programs: { open_programs stage + length programs.items ≤ 64 },
+    pub ghost few_choices: { length choices.items ≤ 4096 },
+}

@@ -1,0 +1,86 @@
+//! The lines of a text, the words of a line, and what numbers they spell.
+ghost use Rattle.std.specs.Prelude.{◌≡◌, ◌<◌, ◌≤◌, IfOk, IfSome, map, length, ◌∷◌};
+ghost use Rattle.std.specs.Str.{bytes_eq};
+ghost use Rattle.zy_isa.specs.Words.{words_of as words_of_lem, number_of as number_of_lem, is_space as is_space_lem, without_comment as without_comment_lem, lines_of};
+ghost use Rattle.zy_asm.specs.Steps.{number_in as number_in_lem};
+
+use crate::faults::AsmKind;
+use std::alloc::{AllocError, Global};
+
+/// The most digits of a number.
+const MAX_DIGITS: usize = 10;
+
+fn is_space(byte: u8) -> bool
+    ensures { result ≡ is_space_lem byte }
+{
+    byte == b' ' || byte == b'\t' || byte == b'\r'
+}
+
+/// The text before a comment.
+fn without_comment(line: &str) -> &str
+    ensures { result.now ≡ without_comment_lem line.entry.now }
+{
+    match line.split_once(';') {
+        Some((front, _)) => front,
+        None => line,
+    }
+}
+
+/// The first line of a text, and what follows it.
+pub fn first_line(text: &str) -> (&str, &str)
+    requires { 0 < length text.now }
+    ensures lines { lines_of text.entry.now ≡ result.0.now ∷ lines_of result.1.now }
+    ensures shorter { length result.1.now < length text.entry.now }
+{
+    match text.split_once('\n') {
+        Some(parts) => parts,
+        None => (text, ""),
+    }
+}
+
+/// The words of a line, without its comment.
+pub fn words_of<'a>(alloc: Global, line: &'a str) -> Result<Vec<&'a [u8]>, AllocError>
+    ensures { IfOk result (λ words. map (λ w. w.now) words.items ≡ words_of_lem line.entry.now) }
+{
+    without_comment(line)
+        .as_bytes()
+        .split(|byte| is_space(*byte))
+        .filter(|word| !word.is_empty())
+        .collect(alloc)
+}
+
+/// Whether a word is this text.
+pub fn is(word: &[u8], text: &[u8]) -> bool
+    ensures { result ≡ bytes_eq word.now text.now }
+{
+    word == text
+}
+
+/// The number that 1 to 10 digits spell.
+pub fn number_of(word: &[u8]) -> Option<u64>
+    ensures { result ≡ number_of_lem word.now }
+{
+    if word.is_empty() || word.len() > MAX_DIGITS {
+        return None;
+    }
+    let mut number = 0u64;
+    for byte in word {
+        if !byte.is_ascii_digit() {
+            return None;
+        }
+        number = 10 * number + u64::from(*byte - b'0');
+    }
+    Some(number)
+}
+
+/// The number that a word spells, from `least` to `most`.
+pub fn number_in(word: &[u8], least: u64, most: u64) -> Result<u64, AsmKind>
+    ensures value { result ≡ number_in_lem word.now least most }
+    ensures range { IfOk result (λ n. (least ≤ n) × (n ≤ most)) }
+{
+    let number = number_of(word).ok_or(AsmKind::Number)?;
+    if number < least || most < number {
+        return Err(AsmKind::Range);
+    }
+    Ok(number)
+}

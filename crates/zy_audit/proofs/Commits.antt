@@ -1,0 +1,60 @@
+-- One commit after the other.
+use Rattle.std.proofs.Common.{List, [], ap, arith, get_or, length, subst, suc, sym, true, zero, ℕ, ◌<◌, ◌∙◌, ◌∷◌, ◌≡◌}
+use Rattle.std.specs.Prelude.{Some, drop, slice_get, unwrap_or}
+use Rattle.std.proofs.lemmas.Bool.{false≢true}
+use Rattle.zy_isa.specs.Scenario.{Scenario}
+use Rattle.zy_isa.specs.declared.instr.Instr.{Instr}
+use Rattle.zy_machine.specs.Change.{txn_or}
+use Rattle.zy_machine.specs.Database.{Map}
+use Rattle.zy_machine.specs.Histories.{History, IsReplay, choices_of}
+use Rattle.zy_machine.specs.Play.{opening, play}
+use Rattle.zy_machine.specs.Run.{program_of}
+use Rattle.zy_machine.specs.Serial.{Registers, alone, is_committed, serial}
+use Rattle.zy_machine.specs.declared.entry.CommitRec.{CommitRec}
+use Rattle.zy_machine.specs.State.{State, Txn}
+use Rattle.zy_machine.proofs.SafeCounts.{safe}
+use Rattle.zy_machine.proofs.Serializable.{serializable}
+
+-- what stands at an index that was read
+got : {X : Type 0} (xs : List X) (i : ℕ) (x : X) → i < length xs → x ≡ get_or xs i x → slice_get xs i ≡ Some x
+got [] i x lt e = absurd (omega arith)
+got (y ∷ ys) zero x lt e = ap Some (sym e)
+got (y ∷ ys) (suc i) x lt e = got ys i x (omega arith) e
+
+pub program-read : (sc : Scenario) (i t : ℕ) (p : List Instr) → i ≡ t → t < length sc.programs → p ≡ get_or sc.programs i p → program_of sc t ≡ p
+program-read sc i t p e lt h = ap (λ o. unwrap_or o []) (got sc.programs t p lt (h ∙ ap (λ j. get_or sc.programs j p) e))
+
+-- the run of one commit leads to those behind it
+pub serial-more : (sc : Scenario) (m n : Map) (cs : List CommitRec) (i : ℕ) (d : CommitRec) → i < length cs
+    → n ≡ (alone m (program_of sc (get_or cs i d).txn) (get_or cs i d).done).map → serial sc n (drop (suc i) cs) ≡ serial sc m (drop i cs)
+serial-more sc m n [] i d lt e = absurd (omega arith)
+serial-more sc m n (c ∷ cs) zero d lt e = ap (λ x. serial sc x cs) e
+serial-more sc m n (c ∷ cs) (suc i) d lt e = serial-more sc m n cs i d (omega arith) e
+
+-- a transaction that committed exists
+committed_within : (txns : List Txn) (t : ℕ) → is_committed (txn_or (slice_get txns t)).status ≡ true → t < length txns
+committed_within [] t h = absurd (false≢true h)
+committed_within (x ∷ txns) zero h = omega arith
+committed_within (x ∷ txns) (suc t) h = let rest = committed_within txns t h in omega arith
+
+registers_named : (sc : Scenario) (txns : List Txn) (m : Map) (cs : List CommitRec) (k : ℕ) (d : CommitRec) → Registers sc (λ (t : ℕ). txn_or (slice_get txns t)) m cs
+    → k < length cs → (get_or cs k d).txn < length txns
+registers_named sc txns m [] k d h lt = absurd (omega arith)
+registers_named sc txns m (c ∷ cs) zero d h lt = committed_within txns c.txn h.0.0
+registers_named sc txns m (c ∷ cs) (suc k) d h lt = registers_named sc txns (alone m (program_of sc c.txn) c.done).map cs k d h.1 (omega arith)
+
+record Named (sc : Scenario) (s : State) : Type 0 where
+  each : (k : ℕ) (d : CommitRec) → k < length s.commits → (get_or s.commits k d).txn < length sc.programs
+
+named_played : (h : History) → IsReplay h → Named h.scenario (play h.scenario (opening h.scenario) (choices_of h.entries))
+named_played h is = record {
+  each = λ k d lt.
+      let sc = h.scenario in
+      let s = play sc (opening sc) (choices_of h.entries) in
+      subst (λ n. (get_or s.commits k d).txn < n) (safe sc is.tested (choices_of h.entries)).txns
+      (registers_named sc s.txns _ s.commits k d (serializable sc is.tested (choices_of h.entries)).registers lt);
+}
+
+-- each commit of a machine names a transaction
+pub commits-named : (h : History) → IsReplay h → (k : ℕ) (d : CommitRec) → k < length h.state.commits → (get_or h.state.commits k d).txn < length h.scenario.programs
+commits-named h is = (subst (Named h.scenario) (sym is.state) (named_played h is)).each

@@ -1,0 +1,7 @@
+mod ListingLemmas
+mod Worked
+mod LaidRows
+mod RunRows
+mod Gathered
+mod Entries
+mod Commits

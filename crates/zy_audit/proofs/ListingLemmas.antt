@@ -1,0 +1,70 @@
+-- The places of the lines, and the whole listing.
+use Rattle.std.proofs.Common.{◌≡◌, ◌∙◌, ℕ, zero, suc, ◌+◌, ◌<◌, List, [], ◌∷◌, ◌++◌, refl, sym, ap, subst, arith, length, get_or, map, Bool, true, false, cond, Some}
+use Rattle.std.specs.Prelude.{◌==◌}
+use Rattle.std.specs.List.{flat_map}
+use Rattle.std.proofs.lemmas.Grind.{flat_map-append}
+use Rattle.zy_isa.specs.Canon.{canon}
+use Rattle.zy_isa.specs.Writing.{line_of}
+use Rattle.zy_page.specs.Leaf.{Leaf}
+use Rattle.zy_disasm.specs.Lines.{head_texts, end_texts}
+use Rattle.zy_disasm.proofs.CanonLemmas.{canon-parts}
+use Rattle.zy_machine.specs.Pages.{leaf_at}
+use Rattle.zy_machine.specs.Shelf.{page_in}
+use Rattle.zy_machine.specs.Play.{entries, opening}
+use Rattle.zy_machine.specs.declared.entry.Entry.{Entry}
+use Rattle.zy_isa.specs.Canon.{choice_text}
+use Rattle.zy_machine.specs.Histories.{History, IsReplay, choices_of}
+use Rattle.zy_audit.specs.Texts.{step_text}
+use Rattle.zy_audit.specs.Listing.{step_texts, ending_texts, listing}
+
+pub length-steps : (i : ℕ) (es : List Entry) → length (step_texts i es) ≡ length es
+length-steps i [] = refl
+length-steps i (e ∷ es) = ap (λ n. suc n) (length-steps (i + 1) es)
+
+-- the line of one step
+pub steps-at : (i k : ℕ) (d : Entry) (es : List Entry) → k < length es → get_or (step_texts i es) k [] ≡ step_text (i + k) (get_or es k d)
+steps-at i k d [] h = absurd (omega arith)
+steps-at i zero d (e ∷ es) h = ap (λ n. step_text n e) (omega arith)
+steps-at i (suc k) d (e ∷ es) h = steps-at (i + 1) k d es (omega arith) ∙ ap (λ n. step_text n (get_or es k d)) (omega arith)
+
+-- the line of one choice that was made
+pub taken-at : (k : ℕ) (d : Entry) (es : List Entry) → k < length es → get_or (map choice_text (choices_of es)) k [] ≡ choice_text (get_or es k d).choice
+taken-at k d [] h = absurd (omega arith)
+taken-at zero d (e ∷ es) h = refl
+taken-at (suc k) d (e ∷ es) h = taken-at k d es (omega arith)
+
+pub length-taken : (es : List Entry) → length (map choice_text (choices_of es)) ≡ length es
+length-taken [] = refl
+length-taken (e ∷ es) = ap (λ n. suc n) (length-taken es)
+
+-- what is told of the line at a place of the list is told of its step
+pub step-line : (P : List ℕ → Type 0) (k : ℕ) (d : Entry) (es : List Entry) → k < length (step_texts 1 es) → P (step_text (k + 1) (get_or es k d)) → P (get_or (step_texts 1 es) k [])
+step-line P k d es h told =
+    let lt : k < length es = omega (arith, h, length-steps 1 es) in
+    subst P (sym (steps-at 1 k d es lt ∙ ap (λ n. step_text n (get_or es k d)) (omega arith))) told
+
+-- the same of a choice
+pub taken-line : (P : List ℕ → Type 0) (k : ℕ) (d : Entry) (es : List Entry) → k < length (map choice_text (choices_of es)) → P (choice_text (get_or es k d).choice) → P (get_or (map choice_text (choices_of es)) k [])
+taken-line P k d es h told =
+    let lt : k < length es = omega (arith, h, length-taken es) in subst P (sym (taken-at k d es lt)) told
+
+-- a page that is found is the page of its number
+page_first : (p : ℕ) (y x : Leaf) (xs : List Leaf) (b : Bool) → (page_in p xs ≡ Some x → leaf_at xs p ≡ x) → cond b (Some y) (page_in p xs) ≡ Some x → cond b y (leaf_at xs p) ≡ x
+page_first p y x xs true rest e = (cc)
+page_first p y x xs false rest e = rest e
+
+pub leaf_at-page_in : (p : ℕ) (x : Leaf) (xs : List Leaf) → page_in p xs ≡ Some x → leaf_at xs p ≡ x
+leaf_at-page_in p x [] e = (cc)
+leaf_at-page_in p x (y ∷ xs) e = page_first p y x xs (y.number == p) (leaf_at-page_in p x xs) e
+
+-- the lines that are written are the listing of the replay
+pub listing-lines : (h : History) (same : Bool) → IsReplay h
+    → flat_map line_of ((head_texts h.scenario ++ (map choice_text (choices_of h.entries) ++ end_texts)) ++ ending_texts h.entries h.state same) ≡ listing h.scenario (choices_of h.entries) same
+unfolding listing
+listing-lines h same r =
+    let sc = h.scenario in
+    let cs = choices_of h.entries in
+    flat_map-append line_of (head_texts sc ++ (map choice_text cs ++ end_texts)) (ending_texts h.entries h.state same)
+    ∙ ap (λ l. l ++ flat_map line_of (ending_texts h.entries h.state same)) (canon-parts (record sc { choices = cs }))
+    ∙ ap (λ es. canon (record sc { choices = cs }) ++ flat_map line_of (ending_texts es h.state same)) r.entries
+    ∙ ap (λ s. canon (record sc { choices = cs }) ++ flat_map line_of (ending_texts (entries sc (opening sc) cs) s same)) r.state

@@ -1,0 +1,56 @@
+-- Worked listings, computed.
+use Rattle.std.proofs.Common.{◌≡◌, ℕ, List, [], ◌∷◌, refl, true}
+use Rattle.std.specs.Prelude.{codes}
+use Rattle.std.specs.List.{flat_map}
+use Rattle.std.specs.Fmt.{digits}
+use Rattle.zy_isa.specs.Writing.{line_of}
+use Rattle.zy_isa.specs.declared.node.Node.TheVariants.{A}
+use Rattle.zy_isa.specs.declared.rule.Rule.TheVariants.{Held}
+use Rattle.zy_isa.specs.declared.instr.Reg.TheVariants.{R0, R1, R2}
+use Rattle.zy_isa.specs.declared.instr.Instr.TheVariants.{Set, Read, Insert, Commit}
+use Rattle.zy_isa.specs.declared.choice.Choice.TheVariants.{Begin, Run}
+use Rattle.zy_isa.specs.Rows.{row}
+use Rattle.zy_isa.specs.Scenario.{Scenario}
+use Rattle.zy_machine.specs.Wireframe.{page_of}
+use Rattle.zy_machine.specs.Change.{txn_at, begun, aborted, did, locked, committed}
+use Rattle.zy_machine.specs.Client.{home_of, begin_at, begin_row, kill_row}
+use Rattle.zy_machine.specs.Run.{abort_row, set_row, jump_row, commit_row, read_row, write_row, full_row, insert_row, access_row, page_row, key_row, instr_row, run_row}
+use Rattle.zy_machine.specs.Play.{move, step, opening_leaves, opening}
+use Rattle.zy_audit.specs.Listing.{listing}
+
+-- opens the whole table
+unfoldable table : ℕ
+unfolding digits listing page_of txn_at begun aborted did locked committed home_of begin_at begin_row kill_row abort_row set_row jump_row commit_row read_row write_row full_row insert_row access_row page_row key_row instr_row run_row move step opening_leaves opening
+table = 0
+
+abbrev smallest : Scenario
+smallest = record { version = 1; cap = 2; pages = 1; rule = Held; rows = []; programs = []; choices = [] }
+
+abbrev lines : List (List ℕ) → List ℕ
+lines texts = flat_map line_of texts
+
+smallest-listing : listing smallest [] true ≡ lines (
+    codes "zephyr 1" ∷ codes "cap 2" ∷ codes "pages 1" ∷ codes "rule held" ∷ codes "end" ∷ codes "steps" ∷ codes "final" ∷ codes "mode A normal" ∷ codes "mode B empty"
+    ∷ codes "page 0 A low 0 rows" ∷ codes "link AB" ∷ codes "link BA" ∷ codes "serial same" ∷ codes "end" ∷ [])
+unfolding table
+smallest-listing = refl
+
+abbrev first_run : Scenario
+first_run = record {
+  version = 1;
+  cap = 4;
+  pages = 4;
+  rule = Held;
+  rows = row 10 7 ∷ [];
+  programs = (Set R0 10 ∷ Read R1 R0 ∷ Set R2 11 ∷ Insert R2 R1 ∷ Commit ∷ []) ∷ [];
+  choices = Begin 0 ∷ Run A 0 ∷ Run A 0 ∷ Run A 0 ∷ Run A 0 ∷ Run A 0 ∷ [];
+}
+
+first_run-listing : listing first_run first_run.choices true ≡ lines (
+    codes "zephyr 1" ∷ codes "cap 4" ∷ codes "pages 4" ∷ codes "rule held" ∷ codes "row 10 7" ∷ codes "txn 0" ∷ codes "set r0 10" ∷ codes "read r1 r0" ∷ codes "set r2 11"
+    ∷ codes "insert r2 r1" ∷ codes "commit" ∷ codes "C begin 0" ∷ codes "A run 0" ∷ codes "A run 0" ∷ codes "A run 0" ∷ codes "A run 0" ∷ codes "A run 0" ∷ codes "end"
+    ∷ codes "steps" ∷ codes "1 C begin 0 -> began A" ∷ codes "2 A run 0 -> did" ∷ codes "3 A run 0 -> did" ∷ codes "4 A run 0 -> did" ∷ codes "5 A run 0 -> did" ∷ codes "6 A run 0 -> committed 1"
+    ∷ codes "final" ∷ codes "mode A normal" ∷ codes "mode B empty" ∷ codes "page 0 A low 0 rows 10=7 11=7" ∷ codes "link AB" ∷ codes "link BA"
+    ∷ codes "txn 0 committed A 1 done 5 regs 10 7 11 0 0 0 0 0" ∷ codes "serial same" ∷ codes "end" ∷ [])
+unfolding table
+first_run-listing = refl

@@ -1,0 +1,12 @@
+use Rattle.zy_machine.specs.Database.{database}
+use Rattle.zy_machine.specs.Play.{opening, play}
+use Rattle.zy_machine.specs.Serial.{serial}
+use Rattle.zy_machine.proofs.Serializable.{serializable}
+use Rattle.zy_audit.specs.Lone.{map_of}
+use Rattle.zy_audit.proofs.Entries.{same_map-true}
+use Rattle.zy_audit.proofs.laws.always_same.Goals as goal
+
+pub returns : goal.returns
+returns c sc ok choices =
+    let s = play sc (opening sc) choices in
+    same_map-true (database s) (serial sc (map_of sc.rows) s.commits) (serializable sc ok choices).one_by_one

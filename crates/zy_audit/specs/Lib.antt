@@ -1,0 +1,4 @@
+pub mod Texts
+pub mod Listing
+pub mod Lone
+pub mod SameMaps

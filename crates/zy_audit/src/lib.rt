@@ -1,0 +1,14 @@
+//! What a machine's run is to be read from: its listing, and whether its pages have what its commits
+//! leave when they are run alone, one by one.
+#![tactic(auto)]
+
+pub mod laws;
+pub mod lines;
+pub mod listing;
+mod lone;
+pub mod serial;
+#[cfg(test)]
+mod serial_tests;
+pub mod table;
+#[cfg(test)]
+mod tests;

@@ -1,0 +1,38 @@
+//! The state at the end.
+ghost use Rattle.zy_audit.specs.Listing.{final_texts};
+
+use crate::lines::link::LinkLine;
+use crate::lines::mode::ModeLine;
+use crate::lines::page::Pages;
+use crate::lines::txn::Txns;
+use zy_isa::node::Node;
+use zy_isa::section::{Both, Fixed, One, Section};
+use zy_isa::stream::Sink;
+use zy_isa::writing::TextFault;
+use zy_machine::machine::Machine;
+
+/// The modes, the pages, the links and the transactions of a machine.
+#[derive(Clone, Copy)]
+pub(crate) struct FinalState<'a>(pub &'a Machine);
+
+impl Section for FinalState<'_> {
+    ghost texts = { λ s. final_texts s.0.now.state };
+
+    fn write<K: Sink>(&self, sink: &mut K, line: &mut String) -> Result<(), TextFault> {
+        let machine = self.0;
+        let modes = Both(
+            One(ModeLine {
+                node: Node::A,
+                mode: machine.mode(Node::A),
+            }),
+            One(ModeLine {
+                node: Node::B,
+                mode: machine.mode(Node::B),
+            }),
+        );
+        let links = Both(One(LinkLine(Node::A)), One(LinkLine(Node::B)));
+        let head = Both(Fixed(&["final"]), modes);
+        let parts = Both(Pages(machine), Both(links, Txns(machine)));
+        Both(head, parts).write(sink, line)
+    }
+}

@@ -1,0 +1,36 @@
+//! The choices that were made.
+ghost use Rattle.std.specs.Prelude.{map};
+ghost use Rattle.zy_isa.specs.Canon.{choice_text};
+ghost use Rattle.zy_machine.specs.Histories.{choices_of};
+
+use std::alloc::AllocError;
+use std::fmt::Write;
+use zy_isa::section::{Lines, Section, write_lines};
+use zy_isa::stream::Sink;
+use zy_isa::writing::TextFault;
+use zy_machine::entry::Entry;
+
+/// The choices of these steps, in order.
+#[derive(Clone, Copy)]
+pub(crate) struct Taken<'a>(pub &'a [Entry]);
+
+impl Lines for Taken<'_> {
+    ghost texts = { λ s. map choice_text (choices_of s.0.now) };
+
+    fn len(&self) -> usize {
+        self.0.len()
+    }
+
+    fn append(&self, place: usize, line: &mut String) -> Result<(), AllocError> {
+        let choice = self.0[place].choice;
+        write!(line, "{choice}")
+    }
+}
+
+impl Section for Taken<'_> {
+    ghost texts = { λ s. map choice_text (choices_of s.0.now) };
+
+    fn write<K: Sink>(&self, sink: &mut K, line: &mut String) -> Result<(), TextFault> {
+        write_lines(sink, line, self)
+    }
+}

@@ -1,0 +1,55 @@
+//! The whole listing.
+ghost use Rattle.std.specs.Prelude.{◌<◌};
+ghost use Rattle.zy_isa.specs.Writing.{Wrote};
+ghost use Rattle.zy_machine.specs.Histories.{choices_of};
+ghost use Rattle.zy_audit.specs.Listing.{listing};
+ghost use Rattle.zy_audit.specs.SameMaps.{is_serial};
+
+use crate::lines::final_state::FinalState;
+use crate::lines::serial::SerialLine;
+use crate::lines::step::Steps;
+use crate::lines::taken::Taken;
+use crate::serial::same;
+use std::alloc::Global;
+use zy_disasm::head::Head;
+use zy_isa::section::{Both, Fixed, One, Section};
+use zy_isa::stream::Sink;
+use zy_isa::writing::TextFault;
+use zy_machine::machine::Machine;
+
+/// Writes the listing of a machine, a line at a time; `same` is what the test against the serial run says.
+pub fn write_listing_as<K: Sink>(
+    alloc: Global,
+    machine: &Machine,
+    same: bool,
+    sink: &mut K,
+) -> Result<(), TextFault>
+    requires { K.failures sink.old < u64.MAX }
+    ensures { Wrote (K.written sink.old) (K.written sink.new) (K.failures sink.old) (K.failures sink.new) result
+        (listing machine.now.scenario (choices_of machine.now.entries) same) }
+{
+    let mut line = String::new(alloc);
+    let entries = machine.entries();
+    let scenario = Both(
+        Head(machine.scenario()),
+        Both(Taken(entries), Fixed(&["end"])),
+    );
+    let steps = Both(Fixed(&["steps"]), Steps(entries));
+    let last = Both(One(SerialLine(same)), Fixed(&["end"]));
+    let ending = Both(steps, Both(FinalState(machine), last));
+    Both(scenario, ending).write(sink, &mut line)
+}
+
+/// Writes the listing of a machine, with what the test against the serial run says.
+pub fn write_listing<K: Sink>(
+    alloc: Global,
+    machine: &Machine,
+    sink: &mut K,
+) -> Result<(), TextFault>
+    requires { K.failures sink.old < u64.MAX }
+    ensures { Wrote (K.written sink.old) (K.written sink.new) (K.failures sink.old) (K.failures sink.new) result
+        (listing machine.now.scenario (choices_of machine.now.entries) (is_serial machine.now.scenario machine.now.state)) }
+{
+    let agrees = same(alloc, machine)?;
+    write_listing_as(alloc, machine, agrees, sink)
+}

@@ -1,0 +1,220 @@
+//! One program, run alone on a table.
+ghost use Rattle.std.specs.Prelude.{◌≡◌, ◌+◌, ◌<◌, ◌^◌, [], true, false, Some, IfOk, OnOk, if◌then◌else◌, replicate, slice_get};
+ghost use Rattle.std.specs.FinMap.{get};
+ghost use Rattle.zy_isa.specs.Rows.{put_row};
+ghost use Rattle.zy_machine.specs.Change.{reg, with_reg};
+ghost use Rattle.zy_machine.specs.Database.{laid};
+ghost use Rattle.zy_machine.specs.Serial.{alone, alone_instr};
+ghost use Rattle.zy_audit.specs.Lone.{map_of, on_map, reads, writes, inserts};
+
+use crate::table::Table;
+use std::alloc::{AllocError, Global};
+use std::marker::Model;
+use zy_isa::instr::{Instr, Reg};
+use zy_isa::program::Program;
+use zy_page::row_list::RowList;
+
+/// The rows that a program writes when it is run alone on a table, for so many instructions or to its end: none where it
+/// gives up.
+pub(crate) fn written(
+    alloc: Global,
+    table: &Table,
+    program: &Program,
+    done: u32,
+) -> Result<RowList, AllocError>
+    ensures { IfOk result (λ rows. laid rows.rows (map_of table.now) ≡ (alone (map_of table.now) program.now done).map) }
+{
+    let mut run = LoneRun::new(alloc);
+    for _ in 0..done {
+        if run.is_over() {
+            break;
+        }
+        run.step(table, program)?;
+    }
+    Ok(run.into_rows())
+}
+
+/// A run as it stands. What it writes is kept from the table until it ends.
+#[derive(Drop)]
+struct LoneRun {
+    regs: [u32; 8],
+    place: u32,
+    rows: RowList,
+    over: bool,
+}
+
+impl Model for LoneRun {
+    ghost use Rattle.zy_audit.specs.Lone.{Lone};
+
+    ghost Value = { Lone };
+
+    ghost view = { λ x. record { regs = x.regs; pc = x.place; rows = x.rows.rows; over = x.over } };
+}
+
+impl LoneRun {
+    /// A run before its first instruction. It takes no memory.
+    fn new(alloc: Global) -> LoneRun
+        ensures { result ≡ record { regs = replicate 8 0; pc = 0; rows = []; over = false } }
+    {
+        LoneRun {
+            regs: [0; 8],
+            place: 0,
+            rows: RowList::new(alloc),
+            over: false,
+        }
+    }
+
+    /// Whether it ended.
+    fn is_over(&self) -> bool
+        ensures { result ≡ self.now.over }
+    {
+        self.over
+    }
+
+    /// The rows that it wrote.
+    fn into_rows(self) -> RowList
+        ensures { result.rows ≡ self.rows }
+    {
+        let LoneRun { rows, .. } = self;
+        rows
+    }
+
+    /// The next instruction. Past the last one the run gives up.
+    #[tactic(auto, unfolding(zy_machine::specs::Serial::alone_instr))]
+    fn step(&mut self, table: &Table, program: &Program) -> Result<(), AllocError>
+        requires { self.old.over ≡ false }
+        ensures { OnOk result (let m = map_of table.now in
+            on_map m self.new ≡ alone_instr m (slice_get program.now self.old.pc) (on_map m self.old)) }
+    {
+        match program.instrs().get(self.place as usize) {
+            Some(instr) => self.instr(table, *instr),
+            None => {
+                self.give_up();
+                Ok(())
+            }
+        }
+    }
+
+    /// An instruction.
+    #[tactic(auto, unfolding(zy_machine::specs::Serial::alone_instr))]
+    fn instr(&mut self, table: &Table, instr: Instr) -> Result<(), AllocError>
+        requires on { self.old.over ≡ false }
+        requires place { self.old.pc + 1 < 2 ^ 32 }
+        ensures { OnOk result (let m = map_of table.now in
+            on_map m self.new ≡ alone_instr m (Some instr) (on_map m self.old)) }
+    {
+        match instr {
+            Instr::Set(r, value) => self.set(r, value),
+            Instr::Add(r, q) => self.set(r, self.reg(r).wrapping_add(self.reg(q))),
+            Instr::Beq(r, q, target) => self.jump(self.reg(r) == self.reg(q), target),
+            Instr::Commit => self.over = true,
+            Instr::Abort => self.give_up(),
+            Instr::Read(r, q) => self.read(table, r, self.reg(q)),
+            Instr::Write(r, q) => return self.write(table, self.reg(r), self.reg(q)),
+            Instr::Insert(r, q) => return self.insert(table, self.reg(r), self.reg(q)),
+        }
+        Ok(())
+    }
+
+    /// `read` at a key.
+    fn read(&mut self, table: &Table, r: Reg, key: u32)
+        requires on { self.old.over ≡ false }
+        requires place { self.old.pc + 1 < 2 ^ 32 }
+        ensures { let m = map_of table.now in on_map m self.new ≡ reads m r key (on_map m self.old) }
+    {
+        match u16::try_from(key) {
+            Ok(key) => {
+                let value = self.value(table, key).unwrap_or(0);
+                self.set(r, value);
+            }
+            Err(_) => self.give_up(),
+        }
+    }
+
+    /// `write` at a key.
+    fn write(&mut self, table: &Table, key: u32, value: u32) -> Result<(), AllocError>
+        requires on { self.old.over ≡ false }
+        requires place { self.old.pc + 1 < 2 ^ 32 }
+        ensures { OnOk result (let m = map_of table.now in on_map m self.new ≡ writes m key value (on_map m self.old)) }
+    {
+        let Ok(key) = u16::try_from(key) else {
+            self.give_up();
+            return Ok(());
+        };
+        if self.value(table, key).is_none() {
+            self.give_up();
+            return Ok(());
+        }
+        self.put(key, value)
+    }
+
+    /// `insert` at a key.
+    fn insert(&mut self, table: &Table, key: u32, value: u32) -> Result<(), AllocError>
+        requires on { self.old.over ≡ false }
+        requires place { self.old.pc + 1 < 2 ^ 32 }
+        ensures { OnOk result (let m = map_of table.now in on_map m self.new ≡ inserts m key value (on_map m self.old)) }
+    {
+        let Ok(key) = u16::try_from(key) else {
+            self.give_up();
+            return Ok(());
+        };
+        if self.value(table, key).is_some() {
+            self.give_up();
+            return Ok(());
+        }
+        self.put(key, value)
+    }
+
+    /// The value of a register.
+    fn reg(&self, r: Reg) -> u32
+        ensures { result ≡ reg self.now.regs r }
+    {
+        self.regs[r.index()]
+    }
+
+    /// What the run sees at a key: the row that it wrote, else the table's.
+    fn value(&self, table: &Table, key: u16) -> Option<u32>
+        ensures { result ≡ get (laid self.now.rows (map_of table.now)) key }
+    {
+        match self.rows.get(key) {
+            Some(value) => Some(value),
+            None => table.get(key),
+        }
+    }
+
+    /// A register gets a value, and the run goes on.
+    fn set(&mut self, r: Reg, value: u32)
+        requires { self.old.pc + 1 < 2 ^ 32 }
+        ensures { self.new ≡ record self.old { pc = self.old.pc + 1; regs = with_reg r value self.old.regs } }
+    {
+        self.regs[r.index()] = value;
+        self.place += 1;
+    }
+
+    /// The run goes on at a target, or where it is not taken at the next instruction.
+    fn jump(&mut self, taken: bool, target: u32)
+        requires { self.old.pc + 1 < 2 ^ 32 }
+        ensures { self.new ≡ record self.old { pc = if taken then target else self.old.pc + 1 } }
+    {
+        self.place = if taken { target } else { self.place + 1 };
+    }
+
+    /// A row is written, and the run goes on.
+    fn put(&mut self, key: u16, value: u32) -> Result<(), AllocError>
+        requires { self.old.pc + 1 < 2 ^ 32 }
+        ensures { OnOk result (self.new ≡ record self.old { pc = self.old.pc + 1; rows = put_row key value self.old.rows }) }
+    {
+        self.rows.reserve(1)?;
+        self.rows.put(key, value);
+        self.place += 1;
+        Ok(())
+    }
+
+    /// The run ends, and what it wrote is dropped.
+    fn give_up(&mut self)
+        ensures { self.new ≡ record self.old { rows = []; over = true } }
+    {
+        self.rows.clear();
+        self.over = true;
+    }
+}

@@ -1,0 +1,67 @@
+//! The committed programs, run alone and one by one, and whether the pages have what they leave.
+ghost use Rattle.std.specs.Prelude.{◌≡◌, ◌<◌, All, IfOk, OnOk, length};
+ghost use Rattle.zy_isa.specs.Rows.{Rising};
+ghost use Rattle.zy_machine.specs.Database.{database};
+ghost use Rattle.zy_machine.specs.Serial.{serial as serial_lem, alone};
+ghost use Rattle.zy_audit.specs.Lone.{map_of};
+ghost use Rattle.zy_audit.specs.SameMaps.{same_map};
+
+use crate::lone::written;
+use crate::table::Table;
+use std::alloc::{AllocError, Global};
+use zy_isa::program::Program;
+use zy_isa::scenario::Scenario;
+use zy_machine::entry::CommitRec;
+use zy_machine::machine::Machine;
+
+/// The rows that committed programs leave when they are run alone, one by one, from the opening rows.
+pub fn serial(
+    alloc: Global,
+    scenario: &Scenario,
+    commits: &[CommitRec],
+) -> Result<Table, AllocError>
+    requires { All (λ c. c.txn < length scenario.now.programs) commits.now }
+    ensures map { IfOk result (λ table. map_of table ≡ serial_lem scenario.now (map_of scenario.now.rows) commits.now) }
+    ensures rise { IfOk result (λ table. Rising 0 table) }
+{
+    let mut table = Table::new(alloc);
+    table.lay(scenario.rows())?;
+    for commit in commits {
+        let program = &scenario.programs()[usize::from(commit.txn)];
+        table.run(alloc, program, commit.done)?;
+    }
+    let _rows = table.rows();
+    Ok(table)
+}
+
+impl Table {
+    /// Runs a program alone, for so many instructions or to its end, and lays over the table what it wrote.
+    fn run(&mut self, alloc: Global, program: &Program, done: u32) -> Result<(), AllocError>
+        ensures { OnOk result (map_of self.new ≡ (alone (map_of self.old) program.now done).map) }
+    {
+        let rows = written(alloc, self, program, done)?;
+        self.lay(rows.rows())
+    }
+}
+
+/// The rows of all pages, wherever they are.
+fn all_rows(alloc: Global, machine: &Machine) -> Result<Table, AllocError>
+    ensures { IfOk result (λ table. map_of table ≡ database machine.now.state) }
+{
+    let mut table = Table::new(alloc);
+    for p in 0..machine.page_count() {
+        if let Some(page) = machine.page(p) {
+            table.lay(page.rows())?;
+        }
+    }
+    Ok(table)
+}
+
+/// Whether the pages have just what the committed programs leave when they are run alone, one by one.
+pub fn same(alloc: Global, machine: &Machine) -> Result<bool, AllocError>
+    ensures { IfOk result (λ b. b ≡ same_map (database machine.now.state) (serial_lem machine.now.scenario (map_of machine.now.scenario.rows) machine.now.state.commits)) }
+{
+    let pages = all_rows(alloc, machine)?;
+    let alone = serial(alloc, machine.scenario(), machine.commits())?;
+    Ok(pages.rows() == alone.rows())
+}

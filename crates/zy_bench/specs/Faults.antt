@@ -1,0 +1,67 @@
+-- The faults of an engine.
+use Rattle.std.specs.Prelude.{ℕ, Result, Ok, Err}
+use Rattle.zy_isa.specs.declared.reading.ReadFault.{ReadFault}
+use Rattle.zy_isa.specs.declared.reading.ReadFault.TheVariants as reading
+use Rattle.zy_isa.specs.declared.writing.TextFault.{TextFault}
+use Rattle.zy_isa.specs.declared.writing.TextFault.TheVariants as writing
+use Rattle.zy_asm.specs.declared.faults.AsmKind.{AsmKind}
+use Rattle.zy_asm.specs.declared.faults.AsmKind.TheVariants as kinds
+use Rattle.zy_asm.specs.declared.faults.AsmFault.{AsmFault}
+use Rattle.zy_bench.specs.declared.faults.BenchFault.{BenchFault}
+use Rattle.zy_bench.specs.declared.faults.BenchFault.TheVariants.{Input, TooLong, Read, Write, Memory}
+
+abbrev pub of_reading : ReadFault → BenchFault
+of_reading reading.Read = Read
+of_reading reading.TooLong = TooLong
+of_reading reading.Memory = Memory
+
+abbrev pub of_kind : AsmKind → AsmFault → BenchFault
+of_kind kinds.Memory f = Memory
+of_kind _ f = Input f
+
+abbrev pub of_asm : AsmFault → BenchFault
+of_asm f = of_kind f.kind f
+
+abbrev pub of_writing : TextFault → BenchFault
+of_writing writing.Write = Write
+of_writing writing.Memory = Memory
+
+abbrev pub status_of : BenchFault → ℕ
+status_of (Input f) = 1
+status_of TooLong = 1
+status_of Memory = 3
+status_of Read = 5
+status_of Write = 5
+
+-- how many calls of the reader failed
+abbrev pub failed_reads : {X : Type 0} → Result X BenchFault → ℕ
+failed_reads (Ok x) = 0
+failed_reads (Err (Input f)) = 0
+failed_reads (Err TooLong) = 0
+failed_reads (Err Read) = 1
+failed_reads (Err Write) = 0
+failed_reads (Err Memory) = 0
+
+-- how many calls of the writer failed or took no byte
+abbrev pub failed_writes : {X : Type 0} → Result X BenchFault → ℕ
+failed_writes (Ok x) = 0
+failed_writes (Err (Input f)) = 0
+failed_writes (Err TooLong) = 0
+failed_writes (Err Read) = 0
+failed_writes (Err Write) = 1
+failed_writes (Err Memory) = 0
+
+-- a fault after which nothing was written
+abbrev pub IsQuiet : BenchFault → Type 0
+IsQuiet (Input f) = Unit {0}
+IsQuiet TooLong = Unit {0}
+IsQuiet Read = Unit {0}
+IsQuiet Write = ⊥
+IsQuiet Memory = ⊥
+
+abbrev pub IfInput : BenchFault → (AsmFault → Type 0) → Type 0
+IfInput (Input f) P = P f
+IfInput TooLong P = Unit {0}
+IfInput Read P = Unit {0}
+IfInput Write P = Unit {0}
+IfInput Memory P = Unit {0}

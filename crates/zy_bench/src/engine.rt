@@ -1,0 +1,63 @@
+//! The engines: bytes in, bytes out.
+ghost use Rattle.std.specs.Prelude.{◌≡◌, ◌<◌, ◌+◌, Some, Err, IfErr, IfSome, OnOk, length};
+ghost use Rattle.std.specs.Io.KnownBytes.{Appends};
+ghost use Rattle.zy_asm.specs.Input.{input_fault};
+ghost use Rattle.zy_isa.specs.Scenario.{Scenario as AScenario};
+ghost use Rattle.zy_isa.specs.Streams.{WroteFront};
+ghost use Rattle.zy_isa.specs.Text.{Means};
+ghost use Rattle.zy_isa.specs.Writing.{Wrote};
+ghost use Rattle.zy_bench.specs.Faults.{failed_reads, failed_writes, IsQuiet, IfInput};
+ghost use Rattle.zy_bench.specs.Run.{listing_run};
+
+use crate::faults::BenchFault;
+use std::alloc::Global;
+use zy_asm::assembling::assemble_bytes;
+use zy_audit::listing::write_listing;
+use zy_isa::reading::{MAX_INPUT, read_all};
+use zy_isa::scenario::Scenario;
+use zy_isa::stream::{Sink, Source};
+use zy_isa::writing::TextFault;
+use zy_machine::machine::Machine;
+
+/// Reads a scenario text whole, makes its choices, and writes its listing. Nothing is written before the input is read
+/// to its end and found to be a scenario.
+pub fn run_bytes<S: Source, K: Sink>(
+    alloc: Global,
+    source: &mut S,
+    sink: &mut K,
+) -> Result<(), BenchFault>
+    requires source { S.failures source.old < u64.MAX }
+    requires sink { K.failures sink.old < u64.MAX }
+    // At Ok the input means a scenario, and just its listing went out.
+    ensures written { OnOk result (IfSome (S.left source.old) (λ told. (sc : AScenario)
+        × Means told sc × Appends (K.written sink.old) (K.written sink.new) (listing_run sc))) }
+    // Whatever comes, nothing but a front of the listing of a scenario that the input means went out.
+    ensures front { IfSome (S.left source.old) (λ told. (sc : AScenario) → Means told sc
+        → WroteFront (K.written sink.old) (K.written sink.new) (listing_run sc)) }
+    // A refused input is told by its first fault.
+    ensures fault { IfErr result (λ f. IfInput f (λ first.
+        IfSome (S.left source.old) (λ told. input_fault told ≡ Some first))) }
+    // An input that is too long is too long.
+    ensures long { result ≡ Err BenchFault.TooLong
+        → IfSome (S.left source.old) (λ told. MAX_INPUT < length told) }
+    // Before the input is read and accepted nothing is written.
+    ensures quiet { IfErr result (λ f. IsQuiet f → K.written sink.new ≡ K.written sink.old) }
+    // Each fault of the reader and of the writer is one failed call.
+    ensures reads { S.failures source.new ≡ S.failures source.old + failed_reads result }
+    ensures writes { K.failures sink.new ≡ K.failures sink.old + failed_writes result }
+{
+    let bytes = read_all(alloc, source)?;
+    let scenario = assemble_bytes(alloc, bytes.as_slice())?;
+    run_scenario(alloc, scenario, sink)?;
+    Ok(())
+}
+
+/// Makes the choices of a scenario, and writes the listing.
+fn run_scenario<K: Sink>(alloc: Global, scenario: Scenario, sink: &mut K) -> Result<(), TextFault>
+    requires { K.failures sink.old < u64.MAX }
+    ensures { Wrote (K.written sink.old) (K.written sink.new) (K.failures sink.old)
+        (K.failures sink.new) result (listing_run scenario) }
+{
+    let machine = Machine::run_all(alloc, scenario)?;
+    write_listing(alloc, &machine, sink)
+}

@@ -1,0 +1,88 @@
+//! Why a run was refused.
+ghost use Rattle.std.specs.Prelude.{◌≡◌};
+ghost use Rattle.zy_bench.specs.Faults.{of_reading, of_asm, of_writing, status_of};
+
+use std::alloc::AllocError;
+use thiserror::Error;
+use zy_asm::faults::{AsmFault, AsmKind};
+use zy_isa::reading::ReadFault;
+use zy_isa::writing::TextFault;
+
+/// Why an engine gave up. Its text names the fault, and says what was expected.
+#[derive(Clone, Copy, Debug, PartialEq, Eq, Error)]
+pub enum BenchFault {
+    /// 1: the scenario text is refused, from this line on.
+    #[error("Input(line {}, {:?}): {}", .0.line, .0.kind, .0.kind)]
+    Input(AsmFault),
+    /// 3: the input is longer than an engine takes.
+    #[error("TooLong: an input has at most 4194304 bytes")]
+    TooLong,
+    /// 4: the reader failed.
+    #[error("Read: the input could not be read to its end")]
+    Read,
+    /// 5: the writer failed or took no byte.
+    #[error("Write: the output could not be written")]
+    Write,
+    /// 6: there was no memory.
+    #[error("Memory: there is not enough memory for this run")]
+    Memory,
+}
+
+impl BenchFault {
+    /// The exit status: 1 where the input is refused, 3 for want of memory, 5 where reading or writing failed.
+    pub fn status(self) -> u8
+        ensures { result ≡ status_of self }
+    {
+        match self {
+            BenchFault::Input(_) => 1,
+            BenchFault::TooLong => 1,
+            BenchFault::Memory => 3,
+            BenchFault::Read => 5,
+            BenchFault::Write => 5,
+        }
+    }
+}
+
+impl From<ReadFault> for BenchFault {
+    ghost from_gives = { λ f e. e ≡ of_reading f };
+
+    fn from(fault: ReadFault) -> BenchFault {
+        match fault {
+            ReadFault::Read => BenchFault::Read,
+            ReadFault::TooLong => BenchFault::TooLong,
+            ReadFault::Memory => BenchFault::Memory,
+        }
+    }
+}
+
+impl From<AsmFault> for BenchFault {
+    ghost from_gives = { λ f e. e ≡ of_asm f };
+
+    fn from(fault: AsmFault) -> BenchFault {
+        match fault.kind {
+            AsmKind::Memory => BenchFault::Memory,
+            _ => BenchFault::Input(fault),
+        }
+    }
+}
+
+impl From<TextFault> for BenchFault {
+    ghost from_gives = { λ f e. e ≡ of_writing f };
+
+    fn from(fault: TextFault) -> BenchFault {
+        match fault {
+            TextFault::Write => BenchFault::Write,
+            TextFault::Memory => BenchFault::Memory,
+        }
+    }
+}
+
+impl From<AllocError> for BenchFault {
+    ghost use Rattle.zy_bench.specs.declared.faults.BenchFault.TheVariants.{Memory};
+
+    ghost from_gives = { λ _ e. e ≡ Memory };
+
+    fn from(_e: AllocError) -> BenchFault {
+        BenchFault::Memory
+    }
+}

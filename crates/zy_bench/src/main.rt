@@ -1,0 +1,88 @@
+//! `zy_bench`: runs transaction programs on a migrating store under any schedule.
+#![tactic(auto)]
+
+ghost use Rattle.std.specs.Prelude.{◌≡◌, ◌<◌};
+
+mod command_line;
+pub mod engine;
+pub mod faults;
+
+use clap::error::ErrorKind;
+use command_line::{Request, command, request_of};
+use engine::run_bytes;
+use faults::BenchFault;
+use std::io;
+use std::io::BufWriter;
+use std::process::ExitCode;
+use zy_isa::stream::{CountingReader, CountingWriter};
+
+/// The exit status where all went well.
+const DONE: u8 = 0;
+
+/// The exit status of a command line that is not understood.
+const COMMAND_LINE: u8 = 2;
+
+/// The exit status for want of memory.
+const MEMORY: u8 = 3;
+
+/// Runs an engine from standard input to standard output.
+fn run<R: Print + Input + AllocGlobal>(rt: &R, request: Request) -> Result<(), BenchFault> {
+    let Ok(buffer) = BufWriter::new(rt.alloc(), io::writer(rt)) else {
+        return Err(BenchFault::Memory);
+    };
+    let mut source = CountingReader::new(rt.reader());
+    let mut sink = CountingWriter::new(buffer);
+    match request {
+        Request::Run => run_bytes(rt.alloc(), &mut source, &mut sink)?,
+    }
+    match sink.flush() {
+        Ok(()) => Ok(()),
+        Err(_) => Err(BenchFault::Write),
+    }
+}
+
+/// Carries a request out, tells a fault on standard error, and gives the exit status.
+fn carry_out(rt: &(impl Print + Eprint + Input + AllocGlobal), request: Request) -> u8 {
+    match run(rt, request) {
+        Ok(()) => DONE,
+        Err(fault) => {
+            let _ = eprintln!(rt; "zy_bench: {fault}");
+            fault.status()
+        }
+    }
+}
+
+/// The exit status of a run with these words.
+fn status<'a>(rt: &(impl Print + Eprint + Input + AllocGlobal), words: &'a [String]) -> u8 {
+    let Ok(command) = command(rt.alloc()) else {
+        return MEMORY;
+    };
+    match command.try_get_matches_from(words) {
+        Ok(matches) => match request_of(&matches) {
+            Some(request) => carry_out(rt, request),
+            None => COMMAND_LINE,
+        },
+        Err(error) => {
+            if error.kind() == ErrorKind::OutOfMemory {
+                return MEMORY;
+            }
+            let _ = error.print(rt);
+            if error.use_stderr() {
+                COMMAND_LINE
+            } else {
+                DONE
+            }
+        }
+    }
+}
+
+fn main(rt: HostRuntime) -> ExitCode {
+    let Ok(args) = std::env::args(&rt) else {
+        return ExitCode::from(COMMAND_LINE);
+    };
+    let words: Result<Vec<String>, _> = args.collect(rt.alloc());
+    match words {
+        Ok(words) => ExitCode::from(status(&rt, words.as_slice())),
+        Err(_) => ExitCode::from(MEMORY),
+    }
+}

@@ -1,0 +1,75 @@
+//! What stands before the choices: the header, the rows and the programs.
+ghost use Rattle.zy_disasm.specs.Lines.{program_parts, head_texts};
+
+use crate::lines::{Number, RuleLine};
+use zy_isa::program::Program;
+use zy_isa::scenario::Scenario;
+use zy_isa::section::{Both, Each, Fixed, One, Parts, Section, write_parts};
+use zy_isa::stream::Sink;
+use zy_isa::writing::TextFault;
+
+/// The header, the rows and the programs of a scenario.
+#[derive(Clone, Copy)]
+pub struct Head<'a>(pub &'a Scenario);
+
+impl Section for Head<'_> {
+    ghost texts = { λ s. head_texts s.0.now };
+
+    fn write<K: Sink>(&self, sink: &mut K, line: &mut String) -> Result<(), TextFault> {
+        let scenario = self.0;
+        let header = Both(
+            Both(
+                Fixed(&["zephyr 1"]),
+                One(Number {
+                    word: "cap",
+                    number: usize::from(scenario.cap()),
+                }),
+            ),
+            Both(
+                One(Number {
+                    word: "pages",
+                    number: usize::from(scenario.pages()),
+                }),
+                One(RuleLine(scenario.rule())),
+            ),
+        );
+        let body = Both(Each(scenario.rows()), Programs(scenario.programs()));
+        Both(header, body).write(sink, line)
+    }
+}
+
+/// The programs, each under its number.
+#[derive(Clone, Copy)]
+struct Programs<'a>(&'a [Program]);
+
+impl Parts for Programs<'_> {
+    ghost parts = { λ s. program_parts 0 s.0.now };
+
+    fn len(&self) -> usize {
+        self.0.len()
+    }
+
+    fn write_part<K: Sink>(
+        &self,
+        place: usize,
+        sink: &mut K,
+        line: &mut String,
+    ) -> Result<(), TextFault> {
+        let title = Number {
+            word: "txn",
+            number: place,
+        };
+        Both(One(title), Each(self.0[place].instrs())).write(sink, line)
+    }
+}
+
+impl Section for Programs<'_> {
+    ghost use Rattle.std.specs.List.{flat_map};
+    ghost use Rattle.zy_disasm.specs.Lines.{program_parts};
+
+    ghost texts = { λ s. flat_map (λ part. part) (program_parts 0 s.0.now) };
+
+    fn write<K: Sink>(&self, sink: &mut K, line: &mut String) -> Result<(), TextFault> {
+        write_parts(sink, line, self)
+    }
+}

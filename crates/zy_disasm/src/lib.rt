@@ -1,0 +1,8 @@
+//! The canonical text of a scenario.
+#![tactic(auto)]
+
+pub mod head;
+mod lines;
+#[cfg(test)]
+mod tests;
+pub mod text;

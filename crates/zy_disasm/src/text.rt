@@ -1,0 +1,26 @@
+//! The whole text.
+ghost use Rattle.std.specs.Prelude.{◌<◌};
+ghost use Rattle.zy_isa.specs.Canon.{canon};
+ghost use Rattle.zy_isa.specs.Writing.{Wrote};
+
+use crate::head::Head;
+use std::alloc::Global;
+use zy_isa::scenario::Scenario;
+use zy_isa::section::{Both, Each, Fixed, Section};
+use zy_isa::stream::Sink;
+use zy_isa::writing::TextFault;
+
+/// Writes the canonical text of a scenario, a line at a time.
+pub fn write_text<K: Sink>(
+    alloc: Global,
+    scenario: &Scenario,
+    sink: &mut K,
+) -> Result<(), TextFault>
+    requires { K.failures sink.old < u64.MAX }
+    ensures { Wrote (K.written sink.old) (K.written sink.new) (K.failures sink.old)
+        (K.failures sink.new) result (canon scenario.now) }
+{
+    let mut line = String::new(alloc);
+    let tail = Both(Each(scenario.choices()), Fixed(&["end"]));
+    Both(Head(scenario), tail).write(sink, &mut line)
+}
