@@ -6,6 +6,8 @@ ghost use Rattle.std.specs.Prelude.{◌≡◌, ◌<◌};
 mod command_line;
 pub mod engine;
 pub mod faults;
+#[cfg(test)]
+mod tests;
 
 use clap::error::ErrorKind;
 use command_line::{Request, command, request_of};
