@@ -24,9 +24,6 @@ const DONE: u8 = 0;
 /// The exit status of a command line that is not understood.
 const COMMAND_LINE: u8 = 2;
 
-/// The exit status for want of memory.
-const MEMORY: u8 = 3;
-
 /// Runs an engine from standard input to standard output.
 fn run<R: Print + Input + AllocGlobal>(rt: &R, request: Request) -> Result<(), BenchFault> {
     let Ok(buffer) = BufWriter::new(rt.alloc(), io::writer(rt)) else {
@@ -43,6 +40,22 @@ fn run<R: Print + Input + AllocGlobal>(rt: &R, request: Request) -> Result<(), B
     }
 }
 
+/// Tells want of memory on standard error, and gives the exit status.
+fn no_memory(rt: &impl Eprint) -> u8 {
+    let fault = BenchFault::Memory;
+    let _ = eprintln!(rt; "zy_bench: {fault}");
+    fault.status()
+}
+
+/// Tells on standard error why the words could not be read, and gives the exit status.
+fn no_words(rt: &impl Eprint, error: &io::Error) -> u8 {
+    if error.kind() == io::ErrorKind::OutOfMemory {
+        return no_memory(rt);
+    }
+    let _ = eprintln!(rt; "zy_bench: the words of the command line are UTF-8");
+    COMMAND_LINE
+}
+
 /// Carries a request out, tells a fault on standard error, and gives the exit status.
 fn carry_out(rt: &(impl Print + Eprint + Input + AllocGlobal), request: Request) -> u8 {
     match run(rt, request) {
@@ -57,7 +70,7 @@ fn carry_out(rt: &(impl Print + Eprint + Input + AllocGlobal), request: Request)
 /// The exit status of a run with these words.
 fn status<'a>(rt: &(impl Print + Eprint + Input + AllocGlobal), words: &'a [String]) -> u8 {
     let Ok(command) = command(rt.alloc()) else {
-        return MEMORY;
+        return no_memory(rt);
     };
     match command.try_get_matches_from(words) {
         Ok(matches) => match request_of(&matches) {
@@ -66,7 +79,7 @@ fn status<'a>(rt: &(impl Print + Eprint + Input + AllocGlobal), words: &'a [Stri
         },
         Err(error) => {
             if error.kind() == ErrorKind::OutOfMemory {
-                return MEMORY;
+                return no_memory(rt);
             }
             let _ = error.print(rt);
             if error.use_stderr() {
@@ -79,12 +92,13 @@ fn status<'a>(rt: &(impl Print + Eprint + Input + AllocGlobal), words: &'a [Stri
 }
 
 fn main(rt: HostRuntime) -> ExitCode {
-    let Ok(args) = std::env::args(&rt) else {
-        return ExitCode::from(COMMAND_LINE);
+    let args = match std::env::args(&rt) {
+        Ok(args) => args,
+        Err(error) => return ExitCode::from(no_words(&rt, &error)),
     };
     let words: Result<Vec<String>, _> = args.collect(rt.alloc());
     match words {
         Ok(words) => ExitCode::from(status(&rt, words.as_slice())),
-        Err(_) => ExitCode::from(MEMORY),
+        Err(_) => ExitCode::from(no_memory(&rt)),
     }
 }
