@@ -36,9 +36,9 @@ misnamed_choice count choices = position (λ c. not (names_below count c)) choic
 abbrev pub is_outside : ℕ → ℕ → ℕ → Bool
 is_outside least most n = nat_lt n least || nat_lt most n
 
--- more rows than a scenario may have, or more than its opening pages take
+-- more rows than a scenario may have, or more than its pages take when it opens
 abbrev pub has_many_rows : Scenario → Bool
-has_many_rows s = nat_lt 256 (length s.rows) || nat_lt 1 (opening_pages_for s.cap (length s.rows))
+has_many_rows s = nat_lt 256 (length s.rows) || nat_lt s.pages (opening_pages_for s.cap (length s.rows))
 
 -- the first fault of a scenario whose programs are verified
 abbrev pub scenario_fault : Scenario → Option ScenarioFault
@@ -69,7 +69,7 @@ pub record IsScenario (s : Scenario) : Type 0 where
   pub pages_least : 1 ≤ s.pages
   pub pages_most : s.pages ≤ 512
   pub few_rows : length s.rows ≤ 256
-  pub few_opening_pages : opening_pages_for s.cap (length s.rows) ≤ 1
+  pub few_opening_pages : opening_pages_for s.cap (length s.rows) ≤ s.pages
   pub rows_rise : Rising 0 s.rows
   pub rows_fit : RowsFit s.rows
   pub few_programs : length s.programs ≤ 64

@@ -20,9 +20,6 @@ pub const MAX_PAGES: u16 = 512;
 /// The most rows that a scenario opens with.
 pub const MAX_ROWS: usize = 256;
 
-/// The most pages that a scenario opens with.
-pub const MAX_OPENING_PAGES: usize = 1;
-
 /// The most transactions.
 pub const MAX_TXNS: usize = 64;
 
@@ -42,7 +39,7 @@ pub enum ScenarioFault {
     #[error("pages is 1 to 512")]
     Pages,
     /// 4: there are too many rows, or they need too many pages.
-    #[error("the rows are at most 256 and fit on the opening pages")]
+    #[error("the rows are at most 256 and open with at most `pages` pages")]
     RowCount,
     /// 5: the key of this row is not above the one before it.
     #[error("the key of row {0} is above the key before it")]
@@ -172,7 +169,7 @@ impl Scenario {
         if pages < 1 || pages > MAX_PAGES {
             return Err(ScenarioFault::Pages);
         }
-        if rows.len() > MAX_ROWS || opening_pages_for(cap, rows.len()) > MAX_OPENING_PAGES {
+        if rows.len() > MAX_ROWS || opening_pages_for(cap, rows.len()) > usize::from(pages) {
             return Err(ScenarioFault::RowCount);
         }
         if let Some(i) = misplaced_row(rows.as_slice()) {
