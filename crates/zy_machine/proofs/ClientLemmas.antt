@@ -1,5 +1,5 @@
 -- Which line a client's choice leads to.
-use Rattle.std.proofs.Common.{◌≡◌, ◌∙◌, ℕ, refl, sym, ap, Bool, true, false, Some, None, Option}
+use Rattle.std.proofs.Common.{◌≡◌, ℕ, refl, true, false, Some, None}
 use Rattle.zy_isa.specs.declared.node.Node.{Node}
 use Rattle.zy_machine.specs.declared.outcome.Why.TheVariants.{Killed}
 use Rattle.zy_machine.specs.declared.outcome.Outcome.TheVariants.{Began, Idle, Aborted}

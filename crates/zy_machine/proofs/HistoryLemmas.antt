@@ -1,5 +1,5 @@
 -- One step more of a history.
-use Rattle.std.proofs.Common.{◌≡◌, ◌∙◌, ℕ, ◌+◌, ◌<◌, ◌≤◌, List, [], ◌∷◌, ◌++◌, length, map, refl, sym, ap, subst, arith, length-append, Bool, true, suc, zero, get_or, take}
+use Rattle.std.proofs.Common.{◌≡◌, ◌∙◌, ℕ, ◌+◌, ◌<◌, List, [], ◌∷◌, ◌++◌, length, refl, sym, ap, subst, arith, length-append, true, suc, zero, get_or, take}
 use Rattle.std.proofs.lemmas.List.{take_more}
 use Rattle.zy_isa.specs.declared.choice.Choice.{Choice}
 use Rattle.zy_isa.specs.Choices.{names_below}
@@ -8,7 +8,7 @@ use Rattle.zy_machine.specs.declared.entry.Entry.{Entry}
 use Rattle.zy_machine.specs.State.{State}
 use Rattle.zy_machine.specs.Play.{step, play, entries, entry_of, opening}
 use Rattle.zy_machine.specs.Histories.{History, IsReplay, choices_of}
-use Rattle.zy_machine.proofs.PlayPush.{play-push, entries-push, length-entries}
+use Rattle.zy_machine.proofs.PlayPush.{play-push, entries-push}
 
 pub choices_of-push : (es : List Entry) (e : Entry) → choices_of (es ++ e ∷ []) ≡ choices_of es ++ e.choice ∷ []
 choices_of-push [] e = refl

@@ -1,6 +1,6 @@
 -- Which line an instruction leads to.
-use Rattle.std.proofs.Common.{◌≡◌, ◌∙◌, ℕ, ◌+◌, ◌<◌, ◌%◌, ◌^◌, List, refl, sym, ap, arith, Bool, true, false, Some, None, Option, length, zero, suc, [], ◌∷◌, get_or}
-use Rattle.std.specs.Prelude.{◌==◌, not, slice_get, unwrap_or}
+use Rattle.std.proofs.Common.{◌≡◌, ◌∙◌, ℕ, ◌+◌, ◌<◌, ◌%◌, ◌^◌, List, refl, sym, ap, arith, true, false, Some, length, zero, suc, [], ◌∷◌, get_or}
+use Rattle.std.specs.Prelude.{◌==◌, slice_get, unwrap_or}
 use Rattle.zy_isa.specs.declared.node.Node.{Node}
 use Rattle.zy_isa.specs.declared.node.Node.TheVariants.{A, B}
 use Rattle.zy_isa.specs.declared.instr.Reg.{Reg}

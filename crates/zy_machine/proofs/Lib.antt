@@ -41,4 +41,4 @@ mod StepLemmas
 mod HistoryLemmas
 mod AccessLemmas
 mod OpenLemmas
-mod PageCount
+mod PageFound

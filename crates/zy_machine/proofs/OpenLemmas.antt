@@ -1,42 +1,124 @@
--- The opening state where all rows are on one page.
-use Rattle.std.proofs.Common.{◌≡◌, ◌∙◌, ℕ, zero, suc, ◌+◌, ◌<◌, ◌≤◌, ◌/◌, ◌*◌, ◌%◌, mul-zero, List, [], ◌∷◌, length, take, drop, map, refl, sym, ap, arith}
-use Rattle.std.proofs.lemmas.List.{take_all}
+-- The opening layout, a page at a time.
+use Rattle.std.proofs.Common.{◌≡◌, ◌∙◌, ℕ, zero, suc, ◌+◌, ◌-◌, ◌<◌, ◌≤◌, ◌/◌, ◌++◌, List, [], ◌∷◌, length, length-append, append_assoc, length-drop, take, drop, None, Some, slice_get, if◌then◌else◌, ◌==◌, true, false, refl, sym, ap, arith}
+use Rattle.std.proofs.lemmas.Bool.{ne_eqb, le-ltb, false≢true}
+use Rattle.std.proofs.lemmas.List.{length-map}
+use native.Mathlib.Nat.{add-div_right, div-eq_of_lt}
 use Rattle.zy_isa.specs.declared.row.Row.{Row}
 use Rattle.zy_isa.specs.Scenario.{Scenario, IsScenario, opening_rows, opening_pages_for}
 use Rattle.zy_page.specs.Leaf.{Leaf}
-use Rattle.zy_machine.specs.declared.modes.NodeMode.TheVariants.{Normal}
-use Rattle.zy_machine.specs.State.{State}
-use Rattle.zy_machine.specs.Play.{opening, opening_leaves, opening_pages, home_with, bare_node, blank}
+use Rattle.zy_machine.specs.State.{NodeState}
+use Rattle.zy_machine.specs.Shelf.{page_in, with_page}
+use Rattle.zy_machine.specs.Play.{opening_leaves, opening_pages}
+use Rattle.zy_machine.specs.Layout.{AreNumbered, pages_of, lows_of, with_leaves}
 
-drop_all : (n : ℕ) (rows : List Row) → length rows ≤ n → drop n rows ≡ []
-drop_all zero [] h = refl
-drop_all (suc n) [] h = refl
-drop_all zero (r ∷ rows) h = absurd (omega arith)
-drop_all (suc n) (r ∷ rows) h = drop_all n rows (omega arith)
+-- ---- pages in order
 
-no_rows : (fuel h i : ℕ) → opening_pages fuel h i [] ≡ []
-no_rows zero h i = refl
-no_rows (suc fuel) h i = refl
+pub page_after : (n p : ℕ) (xs : List Leaf) → AreNumbered n xs → n + length xs ≤ p → page_in p xs ≡ None
+page_after n p [] h le = refl
+page_after n p (x ∷ xs) h le = rw (ne_eqb x.number p (omega (arith, h.0))) (page_after (suc n) p xs h.1 (omega arith))
 
--- rows that fit on one page
-pub one_page : (h : ℕ) (rows : List Row) → length rows ≤ h → opening_leaves h rows ≡ record { number = 0; low = 0; rows = rows } ∷ []
-unfolding opening_leaves
-one_page h [] le = refl
-one_page h (r ∷ rows) le = rw (take_all h (r ∷ rows) le, drop_all h (r ∷ rows) le, no_rows (length rows) h 1) refl
+pub with_page_last : (n : ℕ) (y : Leaf) (xs : List Leaf) → AreNumbered n xs → n + length xs ≤ y.number → with_page y xs ≡ xs ++ y ∷ []
+with_page_last n y [] h le = refl
+with_page_last n y (x ∷ xs) h le = rw (le-ltb y.number x.number (omega (arith, h.0))) (ap (λ z. x ∷ z) (with_page_last (suc n) y xs h.1 (omega arith)))
 
-within_first : (n h : ℕ) → 0 < h → n / h + 1 ≤ 1 → suc n ≤ h
-within_first n h some few =
-    let none : n / h ≡ 0 = omega arith in
-    let whole : h * (n / h) + n % h ≡ n = omega arith in
-    let nothing : h * (n / h) ≡ 0 = rw none (mul-zero h) in
+pub numbered_more : (n : ℕ) (y : Leaf) (xs : List Leaf) → AreNumbered n xs → y.number ≡ n + length xs → AreNumbered n (xs ++ y ∷ [])
+numbered_more n y [] h e = (omega arith, tt)
+numbered_more n y (x ∷ xs) h e = (h.0, numbered_more (suc n) y xs h.1 (omega arith))
+
+-- ---- the pages of the rows that are left
+
+pub drop_less : (n : ℕ) (rows : List Row) → length (drop n rows) ≤ length rows
+drop_less n rows = omega (arith, length-drop n rows)
+
+-- a longer bound gives no other pages
+same_fuel : (f g h i : ℕ) (rows : List Row) → length rows ≤ f → length rows ≤ g → opening_pages f (suc h) i rows ≡ opening_pages g (suc h) i rows
+same_fuel zero zero h i rows a b = refl
+same_fuel zero (suc g) h i [] a b = refl
+same_fuel zero (suc g) h i (r ∷ rows) a b = absurd (omega arith)
+same_fuel (suc f) zero h i [] a b = refl
+same_fuel (suc f) zero h i (r ∷ rows) a b = absurd (omega arith)
+same_fuel (suc f) (suc g) h i [] a b = refl
+same_fuel (suc f) (suc g) h i (r ∷ rows) a b =
+    let k = drop_less h rows in
+    ap (λ z. record { number = i; low = if i == 0 then 0 else r.key; rows = take (suc h) (r ∷ rows) } ∷ z) (same_fuel f g h (i + 1) (drop h rows) (omega arith) (omega arith))
+
+abbrev first_of : ℕ → ℕ → Row → List Row → Leaf
+first_of h i r rows = record { number = i; low = if i == 0 then 0 else r.key; rows = take h (r ∷ rows) }
+
+pub pages_next : (h i : ℕ) (r : Row) (rows : List Row) → pages_of (suc h) i (r ∷ rows) ≡ first_of (suc h) i r rows ∷ pages_of (suc h) (i + 1) (drop (suc h) (r ∷ rows))
+pages_next h i r rows =
+    let k = drop_less h rows in
+    ap (λ z. first_of (suc h) i r rows ∷ z) (same_fuel (length rows) (length (drop h rows)) h (i + 1) (drop h rows) k (omega arith))
+
+-- how many there are
+abbrev count_of : ℕ → ℕ → ℕ
+count_of h zero = 0
+count_of h (suc n) = n / h + 1
+
+count_next : (h n m : ℕ) → m ≡ n - h → count_of (suc h) m ≡ n / suc h
+count_next h n zero e =
+    let none : n / suc h ≡ 0 = div-eq_of_lt (omega arith) in sym none
+count_next h n (suc m) e =
+    let all : n ≡ m + suc h = omega arith in
+    sym (ap (λ z. z / suc h) all ∙ add-div_right m (omega arith))
+
+pages_count : (f h i : ℕ) (rows : List Row) → length rows ≤ f → length (opening_pages f (suc h) i rows) ≡ count_of (suc h) (length rows)
+pages_count zero h i [] le = refl
+pages_count zero h i (r ∷ rows) le = absurd (omega arith)
+pages_count (suc f) h i [] le = refl
+pages_count (suc f) h i (r ∷ rows) le =
+    let k = drop_less h rows in
+    let rest : length (opening_pages f (suc h) (i + 1) (drop h rows)) ≡ length rows / suc h = pages_count f h (i + 1) (drop h rows) (omega arith) ∙ count_next h (length rows) (length (drop h rows)) (length-drop h rows) in
     omega arith
 
--- a scenario's rows fit on one page
-pub fit_one : (most : ℕ) (rows : List Row) → 2 ≤ most → opening_pages_for most (length rows) ≤ 1 → length rows ≤ opening_rows most
-fit_one most [] two few = omega arith
-fit_one most (r ∷ rows) two few = within_first (length rows) (opening_rows most) (omega arith) few
+pub length-opening : (cap h i : ℕ) (r : Row) (rows : List Row) → opening_rows cap ≡ suc h → length (pages_of (suc h) i (r ∷ rows)) ≡ opening_pages_for cap (length (r ∷ rows))
+length-opening cap h i r rows e = pages_count (length (r ∷ rows)) h i (r ∷ rows) (omega arith) ∙ ap (λ z. length rows / z + 1) (sym e)
 
-pub opening-one : (sc : Scenario) → IsScenario sc
-    → opening sc ≡ record { a = record { mode = Normal; lows = 0 ∷ []; pages = record { number = 0; low = 0; rows = sc.rows } ∷ []; asked = []; locks = [] }; b = bare_node; ab = []; ba = []; txns = map blank sc.programs; commits = [] }
-unfolding opening
-opening-one sc tested = rw (one_page (opening_rows sc.cap) sc.rows (fit_one sc.cap sc.rows tested.cap_least tested.few_opening_pages)) refl
+-- ---- a page more
+
+-- the first of the pages that are left joins those that are there
+pub laid_next : (share : ℕ) (left : List Row) (first : Row) (low : ℕ) (n : NodeState) → 1 ≤ share → Some first ≡ slice_get left 0 → low ≡ (if length n.lows == 0 then 0 else first.key)
+    → let m = with_leaves (record { number = length n.lows; low = low; rows = take share left } ∷ []) n in
+    with_leaves (pages_of share (length m.lows) (drop share left)) m ≡ with_leaves (pages_of share (length n.lows) left) n
+laid_next zero left first low n one e is = absurd (omega arith)
+laid_next (suc h) [] first low n one e is = absurd (cc)
+laid_next (suc h) (r ∷ rows) first low n one e is =
+    let i = length n.lows in
+    let same : first ≡ r = cc in
+    let leaf = first_of (suc h) i r rows in
+    let rest = pages_of (suc h) (i + 1) (drop (suc h) (r ∷ rows)) in
+    let count : length (n.lows ++ leaf.low ∷ []) ≡ i + 1 = length-append n.lows (leaf.low ∷ []) in
+    rw (is, same, count, append_assoc n.lows (leaf.low ∷ []) (lows_of rest), append_assoc n.pages (leaf ∷ []) rest) (ap (λ xs. with_leaves xs n) (sym (pages_next h i r rows)))
+
+pub pages_with : (xs : List Leaf) (n : NodeState) → length (with_leaves xs n).lows ≡ length n.lows + length xs
+pages_with xs n = length-append n.lows (lows_of xs) ∙ (let k : length (lows_of xs) ≡ length xs = length-map xs (λ (x : Leaf). x.low) in omega arith)
+
+-- while rows are left, so are pages
+pub fewer_pages : (share : ℕ) (left : List Row) (first : Row) (n all : NodeState) → 1 ≤ share → Some first ≡ slice_get left 0
+    → with_leaves (pages_of share (length n.lows) left) n ≡ all → length n.lows < length all.lows
+fewer_pages zero left first n all one e is = absurd (omega arith)
+fewer_pages (suc h) [] first n all one e is = absurd (cc)
+fewer_pages (suc h) (r ∷ rows) first n all one e is =
+    let i = length n.lows in
+    let more = lows_of (pages_of (suc h) i (r ∷ rows)) in
+    let some : length more ≡ suc (length (lows_of (pages_of (suc h) (i + 1) (drop (suc h) (r ∷ rows))))) = ap {B = ℕ} (λ xs. length (lows_of xs)) (pages_next h i r rows) in
+    omega (arith, length-append n.lows more, some, ap {B = ℕ} (λ (x : NodeState). length x.lows) is)
+
+-- ---- the whole layout
+
+pub opened-none : (h : ℕ) (rows : List Row) → (length rows == 0) ≡ true → opening_leaves h rows ≡ record { number = 0; low = 0; rows = rows } ∷ []
+unfolding opening_leaves
+opened-none h [] e = refl
+opened-none h (r ∷ rows) e = absurd (false≢true (sym (ne_eqb (length (r ∷ rows)) 0 (λ z. absurd (omega arith))) ∙ e))
+
+pub opened-some : (h : ℕ) (rows : List Row) → (length rows == 0) ≡ false → opening_leaves h rows ≡ pages_of h 0 rows
+unfolding opening_leaves
+opened-some h [] e = absurd (false≢true (sym e))
+opened-some h (r ∷ rows) e = refl
+
+pub opening_fits : (sc : Scenario) → IsScenario sc → (length sc.rows == 0) ≡ false → length (pages_of (opening_rows sc.cap) 0 sc.rows) ≤ sc.pages
+opening_fits sc tested some = fits (opening_rows sc.cap) sc.rows refl some tested.few_opening_pages where
+  fits : (h : ℕ) (rows : List Row) → h ≡ opening_rows sc.cap → (length rows == 0) ≡ false → opening_pages_for sc.cap (length rows) ≤ sc.pages → length (pages_of h 0 rows) ≤ sc.pages
+  fits zero rows e one few = absurd (omega (arith, tested.cap_least))
+  fits (suc h) [] e one few = absurd (false≢true (sym one))
+  fits (suc h) (r ∷ rows) e one few = omega (arith, length-opening sc.cap h 0 r rows (sym e))

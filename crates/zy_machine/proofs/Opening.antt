@@ -1,6 +1,6 @@
 -- The opening rows lie on their pages, and are the opening database.
 use Rattle.std.proofs.Common.{List, [], ap, append-nil, append_assoc, arith, false, length, length-append, refl, subst, suc, sym, true, zero, ℕ, ◌++◌, ◌+◌, ◌∙◌, ◌∷◌, ◌≡◌, ◌≤◌}
-use Rattle.std.specs.Prelude.{Some, drop, if◌then◌else◌, is_some, map, nat_le, slice_get, take, ◌&&◌, ◌==◌}
+use Rattle.std.specs.Prelude.{Some, drop, if◌then◌else◌, is_some, nat_le, slice_get, take, ◌&&◌, ◌==◌}
 use Rattle.std.specs.FinMap.{empty, insert}
 use Rattle.std.proofs.lemmas.Bool.{and_from, and_left, false≢true, le-leb, lt-leb, ne_eqb}
 use Rattle.zy_isa.specs.Rows.{Rising, get_row}
@@ -9,13 +9,12 @@ use Rattle.zy_isa.specs.declared.row.Row.{Row}
 use Rattle.zy_machine.specs.Database.{Map, database, laid, laid_leaves}
 use Rattle.zy_machine.specs.Play.{opening, opening_leaves, opening_pages}
 use Rattle.zy_machine.specs.State.{Leaf}
+use Rattle.zy_machine.specs.Layout.{lows_of}
 use Rattle.zy_machine.specs.Wireframe.{page_of, scan_lows}
 use Rattle.zy_machine.proofs.Installing.{Placed}
 use Rattle.zy_machine.proofs.RisingRows.{rises_after, rises_drop, rises_key, rises_take, rises_weaker}
 use Rattle.zy_machine.proofs.PageOf.{scan_first}
-
-abbrev pub lows_of : List Leaf → List ℕ
-lows_of xs = map (λ (x : Leaf). x.low) xs
+use Rattle.zy_machine.proofs.OpenLemmas.{drop_less}
 
 -- a key below the pages that follow is not on them
 page_low : (i key : ℕ) → 1 ≤ i → (if i == 0 then 0 else key) ≡ key
@@ -129,11 +128,6 @@ take_drop : (n : ℕ) (rows : List Row) → take n rows ++ drop n rows ≡ rows
 take_drop zero rows = refl
 take_drop (suc n) [] = refl
 take_drop (suc n) (r ∷ rows) = ap (λ xs. r ∷ xs) (take_drop n rows)
-
-drop_less : (n : ℕ) (rows : List Row) → length (drop n rows) ≤ length rows
-drop_less zero rows = omega arith
-drop_less (suc n) [] = omega arith
-drop_less (suc n) (r ∷ rows) = let k = drop_less n rows in omega arith
 
 laid_pages : (fuel n i : ℕ) (rows : List Row) → length rows ≤ fuel → laid_leaves (opening_pages fuel (suc n) i rows) ≡ laid rows empty
 laid_pages zero n i [] h = refl

@@ -18,7 +18,8 @@ use Rattle.zy_machine.proofs.Events.{step_happens}
 use Rattle.zy_machine.proofs.Installing.{Placed, placed_append, placed_front}
 use Rattle.zy_machine.proofs.LockingRows.{kept_event}
 use Rattle.zy_machine.proofs.Locking.{Kept, Locking, is_idle, seen_same, untouched, whole}
-use Rattle.zy_machine.proofs.Opening.{LaidOut, laid_out, lows_of}
+use Rattle.zy_machine.specs.Layout.{lows_of}
+use Rattle.zy_machine.proofs.Opening.{LaidOut, laid_out}
 use Rattle.zy_machine.proofs.OneOwner.{opening_inv, step_inv}
 use Rattle.zy_machine.proofs.PlayPush.{play-keeps}
 use Rattle.zy_machine.proofs.Roles.{Inv, turned, turned_inv}

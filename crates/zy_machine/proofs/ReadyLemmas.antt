@@ -1,28 +1,26 @@
 -- Each choice of a reached state can be made.
-use Rattle.std.proofs.Common.{◌≡◌, ◌∙◌, ℕ, ◌+◌, ◌<◌, ◌≤◌, ◌^◌, List, [], ◌∷◌, length, refl, sym, ap, subst, arith, Bool, true, false}
-use Rattle.std.specs.Prelude.{slice_get, nat_lt, map}
+use Rattle.std.proofs.Common.{◌≡◌, ◌∙◌, ℕ, ◌<◌, List, length, sym, ap, subst, arith, true}
+use Rattle.std.specs.Prelude.{slice_get}
 use Rattle.std.proofs.lemmas.Bool.{ltb-true}
 use Rattle.zy_isa.specs.declared.node.Node.{Node}
 use Rattle.zy_isa.specs.declared.choice.Choice.{Choice}
 use Rattle.zy_isa.specs.declared.choice.Choice.TheVariants.{Begin, Kill, Run}
-use Rattle.zy_isa.specs.declared.row.Row.{Row}
 use Rattle.zy_isa.specs.Choices.{names_below}
 use Rattle.zy_isa.specs.Scenario.{Scenario, IsScenario}
-use Rattle.zy_isa.specs.Programs.{IsProgram}
 use Rattle.zy_machine.specs.declared.store.Store.{Store}
-use Rattle.zy_machine.specs.State.{State, Txn, Leaf, facing}
-use Rattle.zy_machine.specs.Change.{txn_at, txn_or}
+use Rattle.zy_machine.specs.State.{Txn, facing}
+use Rattle.zy_machine.specs.Change.{txn_or}
 use Rattle.zy_machine.specs.Client.{is_active}
-use Rattle.zy_machine.specs.Pages.{owns, rows_of}
+use Rattle.zy_machine.specs.Pages.{rows_of}
 use Rattle.zy_machine.specs.Rows.{rows_on, rows_not_in}
-use Rattle.zy_machine.specs.Run.{own_inserts, program_of}
+use Rattle.zy_machine.specs.Run.{own_inserts}
 use Rattle.zy_machine.specs.Play.{play, opening}
-use Rattle.zy_machine.specs.Counts.{Safe, Fits, Counted}
+use Rattle.zy_machine.specs.Counts.{Safe, Fits}
 use Rattle.zy_machine.specs.Order.{InOrder}
-use Rattle.zy_machine.specs.Stores.{shown, Countable, Rooms, AreRoomy, IsReady, IsPossible}
+use Rattle.zy_machine.specs.Stores.{shown, Countable, Rooms, IsPossible}
 use Rattle.zy_machine.proofs.StoreLemmas.{txn_at-facing}
 use Rattle.zy_machine.proofs.Room.{need, need_is}
-use Rattle.zy_machine.proofs.Roomy.{HaveRoom, roomy}
+use Rattle.zy_machine.proofs.Roomy.{roomy}
 use Rattle.zy_machine.proofs.SafeCounts.{safe, program_is}
 use Rattle.zy_machine.proofs.RoomAtCommit.{fits}
 use Rattle.zy_machine.proofs.ListsInOrder.{in_order}

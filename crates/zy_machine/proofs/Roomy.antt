@@ -1,21 +1,21 @@
 -- A commit finds room for each row when those behind it are installed.
-use Rattle.std.proofs.Common.{◌≡◌, ◌∙◌, ℕ, suc, ◌+◌, ◌<◌, ◌≤◌, List, [], ◌∷◌, length, refl, sym, ap, subst, arith, Bool, true, false, cond, Some, None, Option, is_some}
-use Rattle.std.specs.Prelude.{◌==◌, ◌&&◌, not, if◌then◌else◌}
-use Rattle.std.proofs.lemmas.Bool.{cases_Bool, eqb-true, eq-eqb}
+use Rattle.std.proofs.Common.{◌≡◌, ◌∙◌, ℕ, ◌+◌, ◌≤◌, List, [], ◌∷◌, length, refl, sym, ap, subst, arith, Bool, true, false, cond, Some, None, Option}
+use Rattle.std.specs.Prelude.{◌==◌}
+use Rattle.std.proofs.lemmas.Bool.{eqb-true, eq-eqb}
 use Rattle.zy_isa.specs.declared.row.Row.{Row}
 use Rattle.zy_isa.specs.Rows.{Rising, get_row}
 use Rattle.zy_page.specs.Leaf.{Leaf}
 use Rattle.zy_machine.specs.Wireframe.{page_of}
-use Rattle.zy_machine.specs.Pages.{owns, rows_of, leaf_at}
-use Rattle.zy_machine.specs.Rows.{put_rows, rows_on, rows_not_in}
+use Rattle.zy_machine.specs.Pages.{owns, rows_of}
+use Rattle.zy_machine.specs.Rows.{put_rows, rows_on}
 use Rattle.zy_machine.specs.Change.{installed}
 use Rattle.zy_machine.specs.Order.{RowsRise}
 use Rattle.zy_machine.specs.Shelf.{page_in}
-use Rattle.zy_machine.specs.Install.{HasRoomFor, IsRoomy}
+use Rattle.zy_machine.specs.Install.{HasRoomFor}
 use Rattle.zy_machine.specs.Stores.{AreRoomy}
 use Rattle.zy_machine.proofs.LoneRuns.{or_else}
 use Rattle.zy_machine.proofs.Installing.{get_row-puts}
-use Rattle.zy_machine.proofs.Room.{need, need_is, one_if, is_new_on, installed_length}
+use Rattle.zy_machine.proofs.Room.{need, one_if, is_new_on, installed_length}
 
 -- neither of two has a value
 neither : (a b : Option ℕ) → or_else a b ≡ None → b ≡ None

@@ -1,5 +1,5 @@
 -- What the changes of a store come to, from either node.
-use Rattle.std.proofs.Common.{◌≡◌, ◌∙◌, ℕ, zero, suc, ◌+◌, ◌<◌, List, [], ◌∷◌, ◌++◌, length, get_or, refl, sym, ap, arith, Bool, true, false, cond, inl, inr, Some, None, Option}
+use Rattle.std.proofs.Common.{◌≡◌, ◌∙◌, ℕ, zero, suc, ◌+◌, ◌<◌, List, [], ◌∷◌, ◌++◌, length, get_or, refl, sym, ap, arith, Bool, true, false, cond, inl, inr, Some, None}
 use Rattle.std.specs.Prelude.{slice_get, slice_set, ◌==◌}
 use Rattle.zy_isa.specs.declared.node.Node.{Node}
 use Rattle.zy_isa.specs.declared.node.Node.TheVariants.{A, B}
@@ -8,7 +8,7 @@ use Rattle.zy_page.specs.Leaf.{Leaf}
 use Rattle.zy_locks.specs.declared.lock.LockKind.{LockKind}
 use Rattle.zy_machine.specs.declared.outcome.Why.{Why}
 use Rattle.zy_machine.specs.State.{State, Txn, Active, Aborted, Committed, CommitRec, facing, seen_from, with_me}
-use Rattle.zy_machine.specs.Change.{txn_at, txn_or, begun, aborted, did, locked, committed, unlocked, with_installed, installed, with_txn}
+use Rattle.zy_machine.specs.Change.{txn_at, txn_or, begun, aborted, did, locked, committed, unlocked, with_installed, installed}
 use Rattle.zy_machine.specs.Pages.{rows_of, leaf_at}
 use Rattle.zy_machine.specs.Shelf.{Shelf, page_in, with_row}
 use Rattle.zy_machine.specs.Wireframe.{page_of}

@@ -39,7 +39,7 @@ with_txn t x s = record s { txns = slice_set s.txns t x }
 -- t begins at n
 unfoldable pub begun : Node → ℕ → View → View
 begun n t s =
-    with_txn t (record { status = Active; node = n; pc = 0; regs = replicate 8 0; rows = []; done = 0 }) s
+    with_txn t (record nobody { status = Active; node = n }) s
 
 abbrev pub unlocked : ℕ → NodeState → NodeState
 unlocked t x = record x { locks = drop_locks t x.locks }

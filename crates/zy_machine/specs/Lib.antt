@@ -17,6 +17,7 @@ pub mod Serial
 pub mod Shelf
 pub mod Slots
 pub mod Install
+pub mod Layout
 pub mod Stores
 pub mod Histories
 pub mod Places

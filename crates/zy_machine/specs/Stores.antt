@@ -14,10 +14,10 @@ use Rattle.zy_machine.specs.declared.store.Store.{Store}
 use Rattle.zy_machine.specs.declared.answer.Answer.{Answer}
 use Rattle.zy_isa.specs.declared.choice.Choice.{Choice}
 use Rattle.zy_isa.specs.declared.choice.Choice.TheVariants.{Begin, Kill, Run}
-use Rattle.zy_machine.specs.State.{State, NodeState, Move, Step, View, facing, seen_from}
+use Rattle.zy_machine.specs.State.{State, NodeState, Move, Step, facing, seen_from}
 use Rattle.zy_machine.specs.Wireframe.{page_of}
 use Rattle.zy_machine.specs.Shelf.{page_in}
-use Rattle.zy_machine.specs.Change.{txn_at, txn_or, locked, installed}
+use Rattle.zy_machine.specs.Change.{txn_or, locked, installed}
 use Rattle.zy_machine.specs.Client.{is_active}
 use Rattle.zy_machine.specs.Run.{program_of}
 use Rattle.zy_machine.specs.Install.{HasRoomFor}

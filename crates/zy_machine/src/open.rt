@@ -1,9 +1,11 @@
 //! The opening layout.
-ghost use Rattle.std.specs.Prelude.{◌≡◌, ◌<◌, ◌≤◌, [], ◌∷◌, IfOk, length, map};
+ghost use Rattle.std.specs.Prelude.{◌≡◌, ◌<◌, ◌≤◌, ◌+◌, ◌==◌, if◌then◌else◌, [], ◌∷◌, IfOk, OnOk, length, map};
 ghost use Rattle.zy_isa.specs.Rows.{Rising};
+ghost use Rattle.zy_isa.specs.Scenario.{opening_rows as opening_rows_lem};
 ghost use Rattle.zy_machine.specs.declared.modes.NodeMode.TheVariants.{Normal};
 ghost use Rattle.zy_machine.specs.Change.{nobody};
-ghost use Rattle.zy_machine.specs.Play.{opening, blank, bare_node};
+ghost use Rattle.zy_machine.specs.Play.{opening, opening_leaves, home_with, blank, bare_node};
+ghost use Rattle.zy_machine.specs.Layout.{AreNumbered, pages_of, with_leaves};
 ghost use Rattle.zy_machine.specs.Stores.{shown, node_shown};
 
 use crate::modes::NodeMode;
@@ -14,16 +16,17 @@ use crate::wire::Wire;
 use std::alloc::{AllocError, Global};
 use zy_isa::program::Program;
 use zy_isa::row::Row;
-use zy_isa::scenario::Scenario;
+use zy_isa::scenario::{Scenario, opening_rows};
 use zy_locks::locks::Locks;
 use zy_page::page::Page;
 
 impl Store {
+    #[tactic(auto, unfolding(crate::specs::Play::opening))]
     /// The state in which a scenario opens: A has all pages, and nothing has begun.
     pub(crate) fn open(alloc: Global, scenario: &Scenario) -> Result<Store, AllocError>
         ensures { IfOk result (λ s. shown s ≡ opening scenario.now) }
     {
-        let a = home(alloc, scenario.pages(), scenario.rows())?;
+        let a = home(alloc, scenario)?;
         let b = bare(alloc, scenario.pages())?;
         let txns = blank_txns(alloc, scenario.programs())?;
         Ok(Store {
@@ -35,17 +38,66 @@ impl Store {
     }
 }
 
-/// A node in Normal with one page of these rows.
-fn home(alloc: Global, pages: u16, rows: &[Row]) -> Result<NodeStore, AllocError>
-    requires rise { Rising 0 rows.now }
-    requires few { length rows.now ≤ 16 }
-    requires width { 1 ≤ pages }
-    ensures { IfOk result (λ x. node_shown x ≡ record { mode = Normal; lows = 0 ∷ []; pages = record { number = 0; low = 0; rows = rows.now } ∷ []; asked = []; locks = [] }) }
+/// A node in Normal with the pages that a scenario opens with.
+fn home(alloc: Global, scenario: &Scenario) -> Result<NodeStore, AllocError>
+    ensures { IfOk result (λ x. node_shown x ≡ home_with (opening_leaves (opening_rows_lem scenario.now.cap) scenario.now.rows)) }
 {
-    let mut node = empty_node(alloc, pages, NodeMode::Normal)?;
-    node.wire.grow(0)?;
-    node.pages.put(first_page(alloc, rows)?);
+    let rows = scenario.rows();
+    let mut node = empty_node(alloc, scenario.pages(), NodeMode::Normal)?;
+    if rows.is_empty() {
+        node.add_page(alloc, 0, rows)?;
+    } else {
+        node.lay_out(alloc, opening_rows(scenario.cap()), rows)?;
+    }
     Ok(node)
+}
+
+impl NodeStore {
+    /// Puts rows on pages of their own, so many on each, as the last pages of this node.
+    fn lay_out(&mut self, alloc: Global, share: usize, rows: &[Row]) -> Result<(), AllocError>
+        requires some { 1 ≤ share }
+        requires few { share ≤ 16 }
+        requires rise { Rising 0 rows.now }
+        requires numbered { AreNumbered 0 self.old.pages.pages }
+        requires all { length self.old.wire ≡ length self.old.pages.pages }
+        requires room { length self.old.wire + length (pages_of share (length self.old.wire) rows.now) ≤ self.old.pages.width }
+        requires width { self.old.pages.width ≤ 512 }
+        ensures { OnOk result (node_shown self.new ≡ with_leaves (pages_of share (length self.old.wire) rows.now) (node_shown self.old)) }
+    {
+        let mut left = rows;
+        while let Some(first) = left.first() {
+            let low = self.next_low(first.key);
+            let (front, rest) = left.split_at(share.min(left.len()));
+            self.add_page(alloc, low, front)?;
+            left = rest;
+        }
+        Ok(())
+    }
+
+    /// The low key of the next page, whose first row has this key: the first page begins at 0.
+    fn next_low(&self, key: u16) -> u16
+        ensures { result ≡ (if length self.now.wire == 0 then 0 else key) }
+    {
+        if self.wire.len() == 0 { 0 } else { key }
+    }
+
+    /// A page more, with the next number.
+    fn add_page(&mut self, alloc: Global, low: u16, rows: &[Row]) -> Result<(), AllocError>
+        requires rise { Rising 0 rows.now }
+        requires few { length rows.now ≤ 16 }
+        requires numbered { AreNumbered 0 self.old.pages.pages }
+        requires all { length self.old.wire ≡ length self.old.pages.pages }
+        requires room { length self.old.wire < self.old.pages.width }
+        requires width { self.old.pages.width ≤ 512 }
+        ensures shown { OnOk result (node_shown self.new ≡ with_leaves (record { number = length self.old.wire; low = low; rows = rows.now } ∷ []) (node_shown self.old)) }
+        ensures width { self.new.pages.width ≡ self.old.pages.width }
+    {
+        let number = self.wire.len() as u16;
+        let page = filled_page(alloc, number, low, rows)?;
+        self.wire.grow(low)?;
+        self.pages.put(page);
+        Ok(())
+    }
 }
 
 /// A node without pages, in Empty.
@@ -69,13 +121,13 @@ fn empty_node(alloc: Global, pages: u16, mode: NodeMode) -> Result<NodeStore, Al
     })
 }
 
-/// Page 0, with these rows.
-fn first_page(alloc: Global, rows: &[Row]) -> Result<Page, AllocError>
+/// A page with these rows.
+fn filled_page(alloc: Global, number: u16, low: u16, rows: &[Row]) -> Result<Page, AllocError>
     requires rise { Rising 0 rows.now }
     requires few { length rows.now ≤ 16 }
-    ensures { IfOk result (λ page. page ≡ record { number = 0; low = 0; rows = rows.now }) }
+    ensures { IfOk result (λ page. page ≡ record { number = number; low = low; rows = rows.now }) }
 {
-    let mut page = Page::new(alloc, 0, 0)?;
+    let mut page = Page::new(alloc, number, low)?;
     for row in rows {
         page.add(row.key, row.value);
     }

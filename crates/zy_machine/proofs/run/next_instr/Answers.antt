@@ -1,4 +1,4 @@
-use Rattle.std.proofs.Common.{◌≡◌, ◌<◌, List, length, subst}
+use Rattle.std.proofs.Common.{◌<◌, List, length, subst}
 use Rattle.zy_isa.specs.declared.instr.Instr.{Instr}
 use Rattle.zy_machine.proofs.InstrLemmas.{program-read, got}
 use Rattle.zy_machine.proofs.run.next_instr.Goals as goal

@@ -1,10 +1,5 @@
 use Rattle.std.proofs.Common.{◌≡◌, ◌∙◌, ◌++◌, ◌∷◌, List, [], refl, sym, ap, subst, arith, append_assoc, append-nil, length}
 use Rattle.zy_isa.specs.declared.row.Row.{Row}
-use Rattle.zy_page.specs.Leaf.{Leaf}
-use Rattle.zy_machine.specs.Wireframe.{page_of}
-use Rattle.zy_machine.specs.Shelf.{page_in, with_row}
-use Rattle.zy_machine.specs.Change.{installed}
-use Rattle.zy_machine.specs.Install.{HasRoomFor}
 use Rattle.zy_machine.specs.Stores.{AreRoomy}
 use Rattle.zy_machine.proofs.StoreLemmas.{installed-none, installed-more, room_among}
 use Rattle.zy_machine.proofs.store.install.Goals as goal

@@ -1,5 +1,4 @@
-use Rattle.std.proofs.Common.{◌≡◌, ◌∙◌, refl, sym, ap, None, Some}
-use Rattle.zy_machine.specs.Shelf.{page_in}
+use Rattle.std.proofs.Common.{refl}
 use Rattle.zy_machine.proofs.AccessLemmas.{page_in-both}
 use Rattle.zy_machine.proofs.machine.Machine.page.Goals as goal
 

@@ -3,7 +3,7 @@ use Rattle.std.proofs.Common.{arith, length}
 use Rattle.std.proofs.lemmas.Bool.{lt-ltb, le-ltb}
 use Rattle.zy_machine.specs.Histories.{choices_of}
 use Rattle.zy_machine.specs.Stores.{shown}
-use Rattle.zy_machine.proofs.PageCount.{page_below}
+use Rattle.zy_machine.proofs.PageFound.{page_below}
 use Rattle.zy_machine.proofs.machine.Machine.page_count.Goals as goal
 
 pub returns-then-a-b-clause-there : goal.returns-then-a-b-clause-there

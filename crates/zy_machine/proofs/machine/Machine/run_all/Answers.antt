@@ -1,9 +1,9 @@
-use Rattle.std.proofs.Common.{◌≡◌, ◌∙◌, ◌<◌, ◌+◌, ℕ, List, length, take, get_or, refl, sym, ap, subst, rules, arith}
+use Rattle.std.proofs.Common.{◌≡◌, ◌∙◌, ◌<◌, ℕ, List, length, take, sym, ap, subst, arith}
 use Rattle.std.proofs.lemmas.List.{length-take-le}
 use Rattle.zy_isa.specs.declared.choice.Choice.{Choice}
 use Rattle.zy_isa.specs.declared.choice.Choice.TheVariants.{Begin}
 use Rattle.zy_isa.specs.Scenario.{Scenario, IsScenario}
-use Rattle.zy_machine.specs.Play.{opening, entries}
+use Rattle.zy_machine.specs.Play.{opening}
 use Rattle.zy_machine.proofs.PlayPush.{length-entries}
 use Rattle.zy_machine.proofs.HistoryLemmas.{named_at, play-more, entries-more}
 use Rattle.zy_machine.proofs.machine.Machine.run_all.Goals as goal

@@ -1,10 +1,3 @@
-use Rattle.std.proofs.Common.{◌≡◌, ◌∙◌, refl, sym, ap, Option, ℕ}
-use Rattle.std.specs.FinMap.{get}
-use Rattle.zy_isa.specs.Rows.{get_row}
-use Rattle.zy_machine.specs.State.{State}
-use Rattle.zy_machine.specs.Wireframe.{page_of}
-use Rattle.zy_machine.specs.Pages.{rows_of}
-use Rattle.zy_machine.specs.Database.{database}
 use Rattle.zy_machine.specs.Histories.{choices_of}
 use Rattle.zy_machine.specs.Stores.{shown}
 use Rattle.zy_machine.proofs.AccessLemmas.{value-reached}

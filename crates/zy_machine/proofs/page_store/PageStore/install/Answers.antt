@@ -1,4 +1,4 @@
-use Rattle.std.proofs.Common.{◌≡◌, ◌∙◌, ◌<◌, ℕ, None, Some, Option, List, length, get_or, sym, subst, ap, arith, refl, rules}
+use Rattle.std.proofs.Common.{◌≡◌, ◌∙◌, ◌<◌, ℕ, None, Some, Option, List, length, get_or, sym, subst, arith, refl}
 use Rattle.std.proofs.Math.ListN.{length-set, get_or-eq_default}
 use Rattle.std.proofs.lemmas.List.{get_or_read_under}
 use Rattle.zy_page.specs.Leaf.{Leaf}

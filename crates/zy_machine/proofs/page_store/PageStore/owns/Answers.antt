@@ -1,5 +1,4 @@
-use Rattle.std.proofs.Common.{◌≡◌, ◌∙◌, Option, Some, None, is_some, refl, sym, ap}
-use Rattle.std.specs.Option.{option_copied}
+use Rattle.std.proofs.Common.{◌∙◌, is_some, sym, ap}
 use Rattle.zy_machine.proofs.AccessLemmas.{owns-page_in, is_some-copied}
 use Rattle.zy_machine.proofs.page_store.PageStore.owns.Goals as goal
 

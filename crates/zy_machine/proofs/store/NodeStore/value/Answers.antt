@@ -1,5 +1,4 @@
-use Rattle.std.proofs.Common.{◌≡◌, ◌∙◌, refl, sym, ap}
-use Rattle.zy_isa.specs.Rows.{get_row}
+use Rattle.std.proofs.Common.{refl, sym}
 use Rattle.zy_machine.proofs.StoreLemmas.{rows_of-some, rows_of-none}
 use Rattle.zy_machine.proofs.store.NodeStore.value.Goals as goal
 

@@ -1,6 +1,5 @@
-use Rattle.std.proofs.Common.{◌≡◌, ◌∙◌, refl, sym, ap, arith, rules}
+use Rattle.std.proofs.Common.{refl}
 use Rattle.zy_machine.specs.Change.{begun}
-use Rattle.zy_machine.proofs.StoreLemmas.{txn_read, begun-seen}
 use Rattle.zy_machine.proofs.store.Store.begin.Goals as goal
 
 pub returns : goal.returns

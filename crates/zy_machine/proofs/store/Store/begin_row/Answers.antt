@@ -1,8 +1,8 @@
-use Rattle.std.proofs.Common.{◌≡◌, ◌∙◌, refl, sym, ap, Some, None}
+use Rattle.std.proofs.Common.{◌∙◌, refl, sym}
 use Rattle.zy_isa.specs.declared.node.Node.TheVariants.{A}
 use Rattle.zy_machine.specs.State.{facing}
 use Rattle.zy_machine.specs.Stores.{shown}
-use Rattle.zy_machine.proofs.StoreLemmas.{txn_at-facing, seen_from-facing}
+use Rattle.zy_machine.proofs.StoreLemmas.{txn_at-facing}
 use Rattle.zy_machine.proofs.ClientLemmas.{begin-idle, begin-some, begin-none}
 use Rattle.zy_machine.proofs.store.Store.begin_row.Goals as goal
 

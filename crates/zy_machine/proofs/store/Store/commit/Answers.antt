@@ -1,5 +1,4 @@
-use Rattle.std.proofs.Common.{◌≡◌, ◌∙◌, ◌<◌, ◌++◌, ◌∷◌, [], List, length, refl, sym, ap, subst, arith, rules, vec_len}
-use Rattle.std.specs.Vec.{vec_capacity}
+use Rattle.std.proofs.Common.{◌≡◌, ◌∙◌, ◌<◌, List, length, refl, sym, ap, subst, arith}
 use Rattle.zy_machine.specs.State.{Txn, State, facing, seen_from}
 use Rattle.zy_machine.specs.Change.{committed}
 use Rattle.zy_machine.specs.Stores.{shown}

@@ -1,6 +1,5 @@
-use Rattle.std.proofs.Common.{◌≡◌, ◌∙◌, refl, sym, ap, subst}
+use Rattle.std.proofs.Common.{◌∙◌, sym, ap}
 use Rattle.zy_machine.specs.State.{Txn}
-use Rattle.zy_machine.specs.Stores.{shown, AreRoomy}
 use Rattle.zy_machine.proofs.StoreLemmas.{txn_read, install-a, install-b}
 use Rattle.zy_machine.proofs.store.Store.install.Goals as goal
 

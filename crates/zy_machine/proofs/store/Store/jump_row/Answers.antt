@@ -1,4 +1,4 @@
-use Rattle.std.proofs.Common.{◌≡◌, ◌∙◌, refl, sym, ap, arith, rules, true, false, not}
+use Rattle.std.proofs.Common.{◌≡◌, ◌∙◌, refl, sym, ap}
 use Rattle.zy_machine.specs.Run.{jump_row}
 use Rattle.zy_machine.specs.Stores.{shown}
 use Rattle.zy_machine.specs.State.{facing, seen_from, Txn}

@@ -1,5 +1,4 @@
-use Rattle.std.proofs.Common.{◌≡◌, refl}
-use Rattle.zy_machine.specs.Run.{own_inserts}
+use Rattle.std.proofs.Common.{refl}
 use Rattle.zy_machine.specs.Stores.{shown}
 use Rattle.zy_machine.proofs.StoreLemmas.{txn_at-facing}
 use Rattle.zy_machine.proofs.store.Store.own_inserts.Goals as goal

@@ -1,7 +1,4 @@
-use Rattle.std.proofs.Common.{◌≡◌, ◌∙◌, length, refl, sym, ap}
-use Rattle.zy_isa.specs.Rows.{get_row}
-use Rattle.zy_machine.specs.State.{NodeState, facing}
-use Rattle.zy_machine.specs.Stores.{shown}
+use Rattle.std.proofs.Common.{refl, sym}
 use Rattle.zy_machine.proofs.StoreLemmas.{rows_of-some, rows_of-none}
 use Rattle.zy_machine.proofs.store.Store.page_len.Goals as goal
 

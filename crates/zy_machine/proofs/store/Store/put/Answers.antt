@@ -1,5 +1,4 @@
-use Rattle.std.proofs.Common.{◌≡◌, refl, rules}
-use Rattle.std.specs.Prelude.{slice_set}
+use Rattle.std.proofs.Common.{refl}
 use Rattle.zy_machine.specs.Stores.{shown}
 use Rattle.zy_machine.proofs.StoreLemmas.{txn_read, put-seen}
 use Rattle.zy_machine.proofs.store.Store.put.Goals as goal

@@ -1,4 +1,4 @@
-use Rattle.std.proofs.Common.{◌≡◌, ◌∙◌, refl, sym, ap, arith, rules, true, false, not}
+use Rattle.std.proofs.Common.{refl}
 use Rattle.zy_machine.specs.Run.{read_row}
 use Rattle.zy_machine.specs.Stores.{shown}
 use Rattle.zy_machine.proofs.RowLemmas.{read-made}

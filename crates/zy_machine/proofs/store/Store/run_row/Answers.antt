@@ -1,4 +1,4 @@
-use Rattle.std.proofs.Common.{◌≡◌, ◌∙◌, refl, sym, ap, arith, rules, true, false, not}
+use Rattle.std.proofs.Common.{◌≡◌, ◌∙◌, refl, sym, ap, true, false, not}
 use Rattle.std.proofs.Common.{Bool, Some, subst}
 use Rattle.std.specs.Prelude.{slice_get}
 use Rattle.std.proofs.lemmas.Bool.{not-true, not-false}
@@ -6,7 +6,7 @@ use denote.Enum.Bare.{sameb}
 use Rattle.zy_isa.specs.declared.node.Node.{Node}
 use Rattle.zy_isa.specs.contracts.node.Node.{the_type}
 use Rattle.zy_machine.specs.Run.{same_node, program_of}
-use Rattle.zy_machine.specs.State.{facing, seen_from}
+use Rattle.zy_machine.specs.State.{facing}
 use Rattle.zy_machine.specs.Stores.{shown}
 use Rattle.zy_machine.proofs.StoreLemmas.{txn_at-facing, seen_from-facing}
 use Rattle.zy_machine.proofs.InstrLemmas.{run-idle, run-elsewhere, run-instr, sameb-node}

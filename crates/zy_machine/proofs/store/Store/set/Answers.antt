@@ -1,4 +1,4 @@
-use Rattle.std.proofs.Common.{◌≡◌, ◌∙◌, refl, sym, ap, arith, rules}
+use Rattle.std.proofs.Common.{refl}
 use Rattle.zy_machine.specs.Stores.{shown}
 use Rattle.zy_machine.proofs.StoreLemmas.{txn_read, txn_at-facing, did-seen}
 use Rattle.zy_machine.proofs.store.Store.set.Goals as goal

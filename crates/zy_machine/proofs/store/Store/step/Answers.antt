@@ -1,4 +1,3 @@
-use Rattle.std.proofs.Common.{◌≡◌, refl}
 use Rattle.zy_machine.proofs.StepLemmas.{begin-steps, kill-steps, run-steps}
 use Rattle.zy_machine.proofs.store.Store.step.Goals as goal
 

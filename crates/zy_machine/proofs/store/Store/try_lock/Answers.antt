@@ -1,6 +1,3 @@
-use Rattle.std.proofs.Common.{◌≡◌, refl}
-use Rattle.zy_isa.specs.declared.node.Node.TheVariants.{A, B}
-use Rattle.zy_locks.specs.declared.lock.LockKind.{LockKind}
 use Rattle.zy_machine.proofs.StoreLemmas.{tries-a, tries-b}
 use Rattle.zy_machine.proofs.store.Store.try_lock.Goals as goal
 

@@ -1,4 +1,4 @@
-use Rattle.std.proofs.Common.{◌≡◌, ◌∙◌, refl, sym, ap, arith, rules, true, false, not}
+use Rattle.std.proofs.Common.{refl}
 use Rattle.zy_machine.specs.Stores.{shown}
 use Rattle.zy_machine.proofs.StoreLemmas.{txn_at-facing}
 use Rattle.zy_machine.proofs.store.Store.value.Goals as goal

@@ -1,4 +1,4 @@
-use Rattle.std.proofs.Common.{◌≡◌, ◌∙◌, refl, sym, ap, arith, rules, true, false, not}
+use Rattle.std.proofs.Common.{◌∙◌, refl, sym}
 use Rattle.zy_machine.specs.State.{facing}
 use Rattle.zy_locks.specs.declared.lock.LockKind.TheVariants.{Exclusive}
 use Rattle.zy_machine.specs.Run.{abort_row}

@@ -1,31 +1,17 @@
 -- Each number below the newest wireframe's length is a page's.
-use Rattle.std.proofs.Common.{◌≡◌, ◌∙◌, ℕ, zero, suc, ◌+◌, ◌<◌, ◌≤◌, List, [], ◌∷◌, ◌++◌, refl, sym, ap, arith, Bool, true, false, cond, Some, None, Option, length, inl, inr}
-use Rattle.std.specs.Prelude.{◌==◌, nat_lt, IsSome}
+use Rattle.std.proofs.Common.{◌≡◌, ℕ, ◌+◌, ◌<◌, List, [], ◌∷◌, ◌++◌, refl, arith, Bool, true, false, cond, Some, length, inl, inr}
+use Rattle.std.specs.Prelude.{◌==◌, IsSome}
 use Rattle.std.proofs.lemmas.Bool.{cases_lt, lt-ltb, le-ltb}
 use Rattle.zy_isa.specs.declared.choice.Choice.{Choice}
 use Rattle.zy_isa.specs.Scenario.{Scenario}
 use Rattle.zy_page.specs.Leaf.{Leaf}
-use Rattle.zy_machine.specs.State.{State, Message}
-use Rattle.zy_machine.specs.Links.{Wire, Ready, Dual, Pull, Page, Finish, Done}
-use Rattle.zy_machine.specs.OneOwner.{OneOwner, times, times_sent, places, width}
+use Rattle.zy_machine.specs.State.{State}
+use Rattle.zy_machine.specs.OneOwner.{times, places, width}
 use Rattle.zy_machine.specs.Shelf.{page_in}
 use Rattle.zy_machine.specs.Database.{all_leaves, sent_leaves, newest}
 use Rattle.zy_machine.specs.Play.{play, opening}
 use Rattle.zy_machine.proofs.OneOwner.{one_owner}
-
-times-append : (p : ℕ) (xs ys : List Leaf) → times p (xs ++ ys) ≡ times p xs + times p ys
-times-append p [] ys = omega arith
-times-append p (x ∷ xs) ys = let rest = times-append p xs ys in omega (arith, rest)
-
-times-sent : (p : ℕ) (ms : List Message) → times p (sent_leaves ms) ≡ times_sent p ms
-times-sent p [] = refl
-times-sent p (Page leaf ∷ ms) = let rest = times-sent p ms in omega (arith, rest)
-times-sent p (Wire lows ∷ ms) = times-sent p ms ∙ omega arith
-times-sent p (Ready ∷ ms) = times-sent p ms ∙ omega arith
-times-sent p (Dual ∷ ms) = times-sent p ms ∙ omega arith
-times-sent p (Pull q ∷ ms) = times-sent p ms ∙ omega arith
-times-sent p (Finish ∷ ms) = times-sent p ms ∙ omega arith
-times-sent p (Done ∷ ms) = times-sent p ms ∙ omega arith
+use Rattle.zy_machine.proofs.PageCounts.{times-append, times-sent_leaves}
 
 -- a page that stands somewhere is found
 found_first : (p : ℕ) (x : Leaf) (xs : List Leaf) (b : Bool) → (0 < times p xs → IsSome (page_in p xs)) → 0 < cond b 1 0 + times p xs → IsSome (cond b (Some x) (page_in p xs))
@@ -41,7 +27,7 @@ times-all p s =
     let a = times-append p s.a.pages (s.b.pages ++ (sent_leaves s.ba ++ sent_leaves s.ab)) in
     let b = times-append p s.b.pages (sent_leaves s.ba ++ sent_leaves s.ab) in
     let c = times-append p (sent_leaves s.ba) (sent_leaves s.ab) in
-    omega (arith, a, b, c, times-sent p s.ba, times-sent p s.ab)
+    omega (arith, a, b, c, times-sent_leaves p s.ba, times-sent_leaves p s.ab)
 
 -- the length of the newest wireframe
 length-newest : (s : State) → length (newest s) ≡ width s
