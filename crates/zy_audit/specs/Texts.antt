@@ -74,12 +74,12 @@ step_text i e = decimal i ++ (codes " " ++ (choice_text e.choice ++ (codes " -> 
 abbrev pub mode_text : Node → NodeMode → List ℕ
 mode_text n m = codes "mode " ++ (node_text n ++ (codes " " ++ mode_word m))
 
-abbrev pub row_text : Row → List ℕ
-row_text r = codes " " ++ (decimal r.key ++ (codes "=" ++ decimal r.value))
+abbrev pub cell_text : Row → List ℕ
+cell_text r = codes " " ++ (decimal r.key ++ (codes "=" ++ decimal r.value))
 
 -- ` K=V` for each row
 abbrev pub rows_text : List Row → List ℕ
-rows_text rows = flat_map row_text rows
+rows_text rows = flat_map cell_text rows
 
 -- a page and where it is
 abbrev pub leaf_text : Place → Leaf → List ℕ

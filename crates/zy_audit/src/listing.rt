@@ -18,7 +18,7 @@ use zy_isa::writing::TextFault;
 use zy_machine::machine::Machine;
 
 /// Writes the listing of a machine, a line at a time; `same` is what the test against the serial run says.
-pub fn write_listing_as<K: Sink>(
+pub(crate) fn write_listing_as<K: Sink>(
     alloc: Global,
     machine: &Machine,
     same: bool,
