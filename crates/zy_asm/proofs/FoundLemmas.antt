@@ -74,7 +74,7 @@ record RowStep (c p : ℕ) (R : List Row) (ws : List (List ℕ)) (t : Seen) : Ty
   line : Row
   spelled : Spells (m.row line) ws
   few : length R < 256
-  few_pages : opening_pages_for c (length R + 1) ≤ 1
+  few_pages : opening_pages_for c (length R + 1) ≤ p
   rises : is_low line.key (last_row R) ≡ false
   after : t ≡ at stage.Rows c p (R ++ line ∷ []) [] [] []
 
@@ -83,8 +83,8 @@ row_step c p R ws t h =
     let a = bind_ok (row_of ws) (add_row (at stage.Rows c p R [] [] [])) t h in
     let b = if_err (is_full (at stage.Rows c p R [] [] [])) _ kinds.Count t a.2 in
     let d = if_err (is_low a.0.key (last_row R)) _ kinds.Order t b.1 in
-    let n = neither (nat_le 256 (length R)) (nat_lt 1 (opening_pages_for c (length R + 1))) b.0 in
-    record { line = a.0; spelled = row_ok ws a.0 a.1; few = below (length R) 256 n.0; few_pages = not_over _ 1 n.1; rises = d.0; after = cc (d.1) }
+    let n = neither (nat_le 256 (length R)) (nat_lt p (opening_pages_for c (length R + 1))) b.0 in
+    record { line = a.0; spelled = row_ok ws a.0 a.1; few = below (length R) 256 n.0; few_pages = not_over _ p n.1; rises = d.0; after = cc (d.1) }
 
 abbrev Next : ℕ → ℕ → List Row → List (List Instr) → List (List ℕ) → Seen → Type 0
 Next c p R P ws t = TxnStep c p R P ws t ⊎ (ChoiceStep (at stage.Rows c p R P [] []) ws t ⊎ EndStep (at stage.Rows c p R P [] []) ws t)
@@ -339,9 +339,9 @@ found_all (l ∷ ls) t =
 -- ---- rows
 
 -- the rows so far are in order and have their places
-record Placed (c : ℕ) (R : List Row) : Type 0 where
+record Placed (c p : ℕ) (R : List Row) : Type 0 where
   few : length R ≤ 256
-  few_pages : opening_pages_for c (length R) ≤ 1
+  few_pages : opening_pages_for c (length R) ≤ p
   in_order : misplaced_row R ≡ None
 
 low_test : (a b i : ℕ) → nat_le a b ≡ false → (if nat_lt b a then None else Some i) ≡ (let o : Option ℕ = None in o)
@@ -362,15 +362,15 @@ order_more (x ∷ R) r h low =
     let e : length (x ∷ R) - 1 ≡ length R = omega arith in
     misplaced_more x 1 R r h (subst (λ n. is_low r.key (slice_get (x ∷ R) n) ≡ false) e low)
 
-placed_more : (c : ℕ) (R : List Row) (r : Row) → Placed c R → length R < 256 → opening_pages_for c (length R + 1) ≤ 1 → is_low r.key (last_row R) ≡ false → Placed c (R ++ r ∷ [])
-placed_more c R r h few pages low =
+placed_more : (c p : ℕ) (R : List Row) (r : Row) → Placed c p R → length R < 256 → opening_pages_for c (length R + 1) ≤ p → is_low r.key (last_row R) ≡ false → Placed c p (R ++ r ∷ [])
+placed_more c p R r h few pages low =
     let e : length (R ++ r ∷ []) ≡ length R + 1 = length-append R (r ∷ []) in
-    record { few = omega (arith, e, few); few_pages = subst (λ n. opening_pages_for c n ≤ 1) (sym e) pages; in_order = order_more R r h.in_order low }
+    record { few = omega (arith, e, few); few_pages = subst (λ n. opening_pages_for c n ≤ p) (sym e) pages; in_order = order_more R r h.in_order low }
 
 record FoundRows (c p : ℕ) (R : List Row) (ls : List (List (List ℕ))) (t : Seen) : Type 0 where
   rows : List Row
   rest : Rest c p (R ++ rows) [] t
-  placed : Placed c (R ++ rows)
+  placed : Placed c p (R ++ rows)
   spelled : SpellEach (map m.row rows ++ (program_statements 0 rest.programs ++ choice_statements rest.choices)) ls
 
 row_more : (c p : ℕ) (R : List Row) (r : Row) (l : List (List ℕ)) (ls : List (List (List ℕ))) (t : Seen) → Spells (m.row r) l → FoundRows c p (R ++ r ∷ []) ls t → FoundRows c p R (l ∷ ls) t
@@ -380,18 +380,18 @@ row_more c p R r l ls t s f =
     subst (λ x. (q : Rest c p x [] t) × SpellEach (map m.row f.rows ++ (program_statements 0 q.programs ++ choice_statements q.choices)) ls) e (f.rest, f.spelled) in
     record { rows = r ∷ f.rows; rest = both.0; placed = rw e at f.placed; spelled = (s, both.1) }
 
-rows_over : (c p : ℕ) (R : List Row) (ls : List (List (List ℕ))) (t : Seen) → Placed c R → FoundNext c p R [] ls t → FoundRows c p R ls t
+rows_over : (c p : ℕ) (R : List Row) (ls : List (List (List ℕ))) (t : Seen) → Placed c p R → FoundNext c p R [] ls t → FoundRows c p R ls t
 rows_over c p R ls t placed f =
     let both : (q : Rest c p (R ++ []) [] t) × SpellEach (program_statements 0 q.programs ++ choice_statements q.choices) ls =
     subst (λ x. (q : Rest c p x [] t) × SpellEach (program_statements 0 q.programs ++ choice_statements q.choices) ls) (sym (append-nil R)) f in
-    record { rows = []; rest = both.0; placed = subst (Placed c) (sym (append-nil R)) placed; spelled = both.1 }
+    record { rows = []; rest = both.0; placed = subst (Placed c p) (sym (append-nil R)) placed; spelled = both.1 }
 
-found_rows : (ls : List (List (List ℕ))) (c p : ℕ) (R : List Row) (t : Seen) → Placed c R → fold_lines (at stage.Rows c p R [] [] []) ls ≡ Ok t → FoundRows c p R ls t
+found_rows : (ls : List (List (List ℕ))) (c p : ℕ) (R : List Row) (t : Seen) → Placed c p R → fold_lines (at stage.Rows c p R [] [] []) ls ≡ Ok t → FoundRows c p R ls t
 found_rows [] c p R t placed h = cc
 found_rows (l ∷ ls) c p R t placed h =
     let a = bind_ok (body_line (at stage.Rows c p R [] [] []) l) (λ u. fold_lines u ls) t h in
     elim (rows_ok c p R l a.0 a.1) [
-      | inl d ↦ row_more c p R d.line l ls t d.spelled (found_rows ls c p (R ++ d.line ∷ []) t (placed_more c R d.line placed d.few d.few_pages d.rises) (rw d.after at a.2))
+      | inl d ↦ row_more c p R d.line l ls t d.spelled (found_rows ls c p (R ++ d.line ∷ []) t (placed_more c p R d.line placed d.few d.few_pages d.rises) (rw d.after at a.2))
       | inr n ↦ rows_over c p R (l ∷ ls) t placed (next_line c p R [] l ls a.0 t (omega arith) (found_all ls t) n a.2)
     ]
 
@@ -419,13 +419,13 @@ record FoundRule (c p : ℕ) (ls : List (List (List ℕ))) (t : Seen) : Type 0 w
   spelled : Spells (m.rule Held) line
   rows : FoundRows c p [] more t
 
-found_rule : (ls : List (List (List ℕ))) (c p : ℕ) (t : Seen) → fold_lines (at stage.Rule c p [] [] [] []) ls ≡ Ok t → FoundRule c p ls t
-found_rule [] c p t h = cc
-found_rule (l ∷ ls) c p t h =
+found_rule : (ls : List (List (List ℕ))) (c p : ℕ) (t : Seen) → 1 ≤ p → fold_lines (at stage.Rule c p [] [] [] []) ls ≡ Ok t → FoundRule c p ls t
+found_rule [] c p t least h = cc
+found_rule (l ∷ ls) c p t least h =
     let k = bind_ok (step (at stage.Rule c p [] [] [] []) l) (λ u. fold_lines u ls) t h in
     let a = if_ok (are_two l (codes "rule") (codes "held")) _ kinds.Header k.0 k.1 in
     let e : k.0 ≡ at stage.Rows c p [] [] [] [] = cc (a.1) in
-    let none : Placed c [] = record { few = omega arith; few_pages = omega arith; in_order = refl } in
+    let none : Placed c p [] = record { few = omega arith; few_pages = least; in_order = refl } in
     record { line = l; more = ls; lines = refl; spelled = two_ok l (codes "rule") (codes "held") a.0; rows = found_rows ls c p [] t none (rw e at k.2) }
 
 record FoundPages (c : ℕ) (ls : List (List (List ℕ))) (t : Seen) : Type 0 where
@@ -445,7 +445,7 @@ found_pages (l ∷ ls) c t h =
     let a = bind_ok (headed l (codes "pages") 1 512) _ k.0 k.1 in
     let e : k.0 ≡ at stage.Rule c a.0 [] [] [] [] = cc (a.2) in
     let n = headed_ok l (codes "pages") 1 512 a.0 a.1 in
-    record { pages = a.0; line = l; more = ls; lines = refl; spelled = (n.0, n.1, n.2); least = n.3; most = n.4; rule = found_rule ls c a.0 t (rw e at k.2) }
+    record { pages = a.0; line = l; more = ls; lines = refl; spelled = (n.0, n.1, n.2); least = n.3; most = n.4; rule = found_rule ls c a.0 t n.3 (rw e at k.2) }
 
 record FoundCap (ls : List (List (List ℕ))) (t : Seen) : Type 0 where
   cap : ℕ
@@ -475,14 +475,14 @@ all_named count (c ∷ cs) h = rw h.0 (omega (arith, all_named count cs h.1))
 none_misnamed : (count : ℕ) (cs : List Choice) → AreNamed count cs → misnamed_choice count cs ≡ None
 none_misnamed count cs h = rw (all_named count cs h, over_not (length cs) (length cs) (omega arith)) refl
 
-no_fault : (c p : ℕ) (R : List Row) (P : List (List Instr)) (C : List Choice) → 2 ≤ c → c ≤ 16 → 1 ≤ p → p ≤ 512 → Placed c R → length P ≤ 64 → length C ≤ 4096 → AreNamed (length P) C
+no_fault : (c p : ℕ) (R : List Row) (P : List (List Instr)) (C : List Choice) → 2 ≤ c → c ≤ 16 → 1 ≤ p → p ≤ 512 → Placed c p R → length P ≤ 64 → length C ≤ 4096 → AreNamed (length P) C
     → scenario_fault (record { version = 1; cap = c; pages = p; rule = Held; rows = R; programs = P; choices = C }) ≡ None
 no_fault c p R P C c2 c16 p1 p512 placed few choices named =
     rw (
       out_of_neither c 2 16 c2 c16,
       out_of_neither p 1 512 p1 p512,
       over_not (length R) 256 placed.few,
-      over_not (opening_pages_for c (length R)) 1 placed.few_pages,
+      over_not (opening_pages_for c (length R)) p placed.few_pages,
       placed.in_order,
       over_not (length P) 64 few,
       over_not (length C) 4096 choices,

@@ -119,8 +119,8 @@ choice_gives s d ws h named few = by d.choice h.3 named
 
 -- ---- rows
 
-pub row_gives : (c p : ℕ) (R : List Row) (r : Row) (l : List (List ℕ)) → Spells (m.row r) l → r.key < 2 ^ 16 → r.value < 2 ^ 32 → length R < 256 → opening_pages_for c (length R + 1) ≤ 1 → is_low r.key (last_row R) ≡ false
+pub row_gives : (c p : ℕ) (R : List Row) (r : Row) (l : List (List ℕ)) → Spells (m.row r) l → r.key < 2 ^ 16 → r.value < 2 ^ 32 → length R < 256 → opening_pages_for c (length R + 1) ≤ p → is_low r.key (last_row R) ≡ false
     → step (at stage.Rows c p R [] [] []) l ≡ Ok (at stage.Rows c p (R ++ r ∷ []) [] [] [])
 row_gives c p R r l q k v few pages low =
     rw (q.2, number_in_gives q.0 0 65535 r.key q.3 (omega arith) (omega arith), number_in_gives q.1 0 4294967295 r.value q.4 (omega arith) (omega arith))
-    (rw (not_below (length R) 256 few, over_not (opening_pages_for c (length R + 1)) 1 pages, low) refl)
+    (rw (not_below (length R) 256 few, over_not (opening_pages_for c (length R + 1)) p pages, low) refl)

@@ -1,8 +1,8 @@
 -- What is meant is read.
 use Rattle.std.proofs.Common.{◌≡◌, ℕ, ◌+◌, ◌-◌, ◌/◌, ◌<◌, ◌≤◌, true, false, List, [], ◌∷◌, ◌++◌, length, map, filter, codes, Result, Ok, Err, Some, None, refl, sym, ap, ◌∙◌, subst, inl, inr, ◌⊎◌, arith, append_assoc, append-nil, length-append, suc, zero, ◌==◌, nat_le, slice_get}
 use Rattle.std.proofs.lemmas.List.{length-replicate}
-use Rattle.std.proofs.lemmas.Bool.{cases_lt}
-use Rattle.std.proofs.Math.Nat.{div-eq_of_lt-le, div-eq-sub-div}
+use Rattle.std.proofs.lemmas.Nat.{le-div}
+use Rattle.std.proofs.Math.Nat.{div-mul-le_self}
 use Rattle.std.specs.Prelude.{replicate}
 use Rattle.zy_isa.specs.declared.rule.Rule.{Rule}
 use Rattle.zy_isa.specs.declared.rule.Rule.TheVariants.{Held}
@@ -162,25 +162,17 @@ only_programs (q ∷ ps) cs (l ∷ ls) c p R P h fit named few room =
 
 -- ---- rows
 
-pages_zero : (n k : ℕ) → n / k + 1 ≤ 1 → n / k ≡ 0
-pages_zero n k h = omega arith
-
-small_quotient : (n m k : ℕ) → 0 < k → n ≤ m → m / k ≡ 0 → n / k ≡ 0
-small_quotient n m k some h e =
-    elim (cases_lt m k) [
-      | inl low ↦ div-eq_of_lt-le k (omega arith) (omega arith)
-      | inr high ↦ let f : m / k ≡ (m - k) / k + 1 = div-eq-sub-div some high in absurd (omega (arith, e, f))
-    ]
+div_more : (n m k : ℕ) → 0 < k → n ≤ m → n / k ≤ m / k
+div_more n m k some h = le-div (n / k) m k some (omega (arith, div-mul-le_self n k))
 
 half : (c : ℕ) → 2 ≤ c → 0 < opening_rows c
 half c h = omega arith
 
-fewer_pages : (c n m : ℕ) → 2 ≤ c → n ≤ m → opening_pages_for c m ≤ 1 → opening_pages_for c n ≤ 1
-fewer_pages c zero m least h pages = omega arith
-fewer_pages c (suc n) zero least h pages = absurd (omega arith)
-fewer_pages c (suc n) (suc m) least h pages =
-    let e = small_quotient n m (opening_rows c) (half c least) (omega arith) (pages_zero m (opening_rows c) pages) in
-    rw e (omega arith)
+fewer_pages : (c p n m : ℕ) → 2 ≤ c → n ≤ m → opening_pages_for c m ≤ p → opening_pages_for c n ≤ p
+fewer_pages c p zero zero least h pages = pages
+fewer_pages c p zero (suc m) least h pages = omega (arith, pages)
+fewer_pages c p (suc n) zero least h pages = absurd (omega arith)
+fewer_pages c p (suc n) (suc m) least h pages = omega (arith, pages, div_more n m (opening_rows c) (half c least) (omega arith))
 
 last_more : (rows : List Row) (r : Row) → last_row (rows ++ r ∷ []) ≡ Some r
 last_more rows r = rw length-append (let e : length rows + 1 - 1 ≡ length rows = omega arith in rw e (slice_get_seam rows r))
@@ -200,15 +192,15 @@ above_more : (R : List Row) (r : Row) → Above (r.key + 1) (R ++ r ∷ [])
 above_more R r key h = rw (last_more R r) (above_one key r.key h)
 
 only_rows : (rows : List Row) (xs : List Statement) (ls : List (List (List ℕ))) (c p low : ℕ) (R : List Row) → 2 ≤ c
-    → SpellEach (map m.row rows ++ xs) ls → Rising low rows → RowsFit rows → Above low R → length R + length rows ≤ 256 → opening_pages_for c (length R + length rows) ≤ 1
+    → SpellEach (map m.row rows ++ xs) ls → Rising low rows → RowsFit rows → Above low R → length R + length rows ≤ 256 → opening_pages_for c (length R + length rows) ≤ p
     → Passed xs ls (at stage.Rows c p R [] [] []) (at stage.Rows c p (R ++ rows) [] [] [])
 only_rows [] xs ls c p low R least h rise fit above few pages = record { rest = ls; spelled = h; same = rw (append-nil R) refl }
 only_rows (r ∷ rows) xs [] c p low R least h rise fit above few pages = absurd h
 only_rows (r ∷ rows) xs (l ∷ ls) c p low R least h rise fit above few pages =
     let n : length (R ++ r ∷ []) ≡ length R + 1 = length-append R (r ∷ []) in
     let all : length R + length (r ∷ rows) ≡ length (R ++ r ∷ []) + length rows = omega (arith, n) in
-    let one = row_gives c p R r l h.0 fit.0 fit.1 (omega (arith, few)) (fewer_pages c (length R + 1) (length R + length (r ∷ rows)) least (omega arith) pages) (above r.key rise.0) in
-    let t = only_rows rows xs ls c p (r.key + 1) (R ++ r ∷ []) least h.1 rise.1 fit.2 (above_more R r) (omega (arith, n, few)) (subst (λ k. opening_pages_for c k ≤ 1) all pages) in
+    let one = row_gives c p R r l h.0 fit.0 fit.1 (omega (arith, few)) (fewer_pages c p (length R + 1) (length R + length (r ∷ rows)) least (omega arith) pages) (above r.key rise.0) in
+    let t = only_rows rows xs ls c p (r.key + 1) (R ++ r ∷ []) least h.1 rise.1 fit.2 (above_more R r) (omega (arith, n, few)) (subst (λ k. opening_pages_for c k ≤ p) all pages) in
     record {
       rest = t.rest;
       spelled = t.spelled;
@@ -233,7 +225,7 @@ only_lines s cs (a ∷ b ∷ d ∷ f ∷ ls) fits e q = by s.rule q.1.1.1.0
         let z : 0 + length s.rows ≡ length s.rows = omega arith in
         let cap = q.1.0 in
         let pages = q.1.1.0 in
-        let r = only_rows s.rows (program_statements 0 s.programs ++ choice_statements cs) ls s.cap s.pages 0 [] fits.cap_least q.1.1.1.1 fits.rows_rise fits.rows_fit (λ key h. refl) (omega (arith, fits.few_rows)) (subst (λ k. opening_pages_for s.cap k ≤ 1) (sym z) fits.few_opening_pages) in
+        let r = only_rows s.rows (program_statements 0 s.programs ++ choice_statements cs) ls s.cap s.pages 0 [] fits.cap_least q.1.1.1.1 fits.rows_rise fits.rows_fit (λ key h. refl) (omega (arith, fits.few_rows)) (subst (λ k. opening_pages_for s.cap k ≤ s.pages) (sym z) fits.few_opening_pages) in
         let named : AreNamed (length s.programs) (repeated cs) = subst (AreNamed (length s.programs)) (sym e) fits.choices_named in
         let few : length (repeated cs) ≤ 4096 = subst (λ x. length x ≤ 4096) (sym e) fits.few_choices in
         let end = only_programs s.programs cs r.rest s.cap s.pages s.rows [] r.spelled fits.programs named fits.few_programs few ∙ ap (λ x. Ok (at stage.Done s.cap s.pages s.rows s.programs [] x)) e in

@@ -81,7 +81,7 @@ row_of _ = Err kinds.Word
 
 -- there is no place for a row more
 abbrev pub is_full : Seen → Bool
-is_full s = nat_le 256 (length s.rows) || nat_lt 1 (opening_pages_for s.cap (length s.rows + 1))
+is_full s = nat_le 256 (length s.rows) || nat_lt s.pages (opening_pages_for s.cap (length s.rows + 1))
 
 abbrev pub last_row : List Row → Option Row
 last_row rows = slice_get rows (length rows - 1)

@@ -15,7 +15,7 @@ use zy_isa::instr::Instr;
 use zy_isa::node::Actor;
 use zy_isa::program::{MAX_INSTRS, ProgFault, Program};
 use zy_isa::row::Row;
-use zy_isa::scenario::{MAX_CHOICES, MAX_OPENING_PAGES, MAX_ROWS, MAX_TXNS, opening_pages_for};
+use zy_isa::scenario::{MAX_CHOICES, MAX_ROWS, MAX_TXNS, opening_pages_for};
 
 /// What the first word of a line below the header says that the line is.
 #[derive(Clone, Copy, Debug, PartialEq, Eq)]
@@ -149,7 +149,7 @@ impl Reader {
         ensures { Steps result (seen self.new) (add_row (seen self.old) row) }
     {
         let count = self.rows.len();
-        if count >= MAX_ROWS || opening_pages_for(self.cap, count + 1) > MAX_OPENING_PAGES {
+        if count >= MAX_ROWS || opening_pages_for(self.cap, count + 1) > usize::from(self.pages) {
             return Err(AsmKind::Count);
         }
         if self.rows.last().is_some_and(|last| row.key <= last.key) {

@@ -119,6 +119,41 @@ fn tells_faults_of_choices(rt: HostRuntime) -> Result<(), Fail> {
 }
 
 #[test]
+fn opens_with_several_pages(rt: HostRuntime) -> Result<(), Fail> {
+    let header = "zephyr 1\ncap 5\npages 3\nrule held\n";
+    let rows = "row 1 1\nrow 2 2\nrow 3 3\nrow 4 4\nrow 5 5\nrow 6 6\nrow 7 7\nrow 8 8\nrow 9 9\n";
+    let full = format!(in rt.alloc(); "{header}{rows}end")?;
+    match assemble(rt.alloc(), full.as_str()) {
+        Err(_) => assert!(rt; false),
+        Ok(scenario) => assert_eq!(rt; scenario.rows().len(), 9),
+    }
+    let more = format!(in rt.alloc(); "{header}{rows}row 10 10\nend")?;
+    assert_eq!(rt;
+        fault(rt.alloc(), more.as_str()),
+        Some((14, AsmKind::Count))
+    );
+    Ok(())
+}
+
+#[test]
+fn takes_256_rows(rt: HostRuntime) -> Result<(), Fail> {
+    let mut text = String::new(rt.alloc());
+    text.push_str("zephyr 1\ncap 2\npages 512\nrule held\n")?;
+    for key in 0..256u16 {
+        let row = format!(in rt.alloc(); "row {key} 0\n")?;
+        text.push_str(row.as_str())?;
+    }
+    let full = format!(in rt.alloc(); "{text}end")?;
+    assert_eq!(rt; fault(rt.alloc(), full.as_str()), None);
+    text.push_str("row 256 0")?;
+    assert_eq!(rt;
+        fault(rt.alloc(), text.as_str()),
+        Some((261, AsmKind::Count))
+    );
+    Ok(())
+}
+
+#[test]
 fn takes_64_instructions_and_64_programs(rt: HostRuntime) -> Result<(), Fail> {
     let mut lines = String::new(rt.alloc());
     lines.push_str("txn 0\n")?;

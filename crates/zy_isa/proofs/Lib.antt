@@ -1,3 +1,4 @@
 pub mod ScenarioLemmas
 pub mod StreamLemmas
 pub mod WritingLemmas
+pub mod WordLemmas

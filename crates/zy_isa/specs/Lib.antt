@@ -7,4 +7,6 @@ pub mod Streams
 pub mod Writing
 pub mod Words
 pub mod Canon
+pub mod InstrWords
+pub mod WordFields
 pub mod Text

@@ -1,4 +1,4 @@
-//! What every other crate stands on: instructions, programs, choices and scenarios; sources and sinks of bytes.
+//! What every other crate stands on: instructions and their words, programs, choices and scenarios; sources and sinks of bytes.
 #![tactic(auto)]
 
 pub mod choice;
@@ -14,4 +14,7 @@ pub mod section;
 pub mod stream;
 #[cfg(test)]
 mod stream_tests;
+pub mod word;
+#[cfg(test)]
+mod word_tests;
 pub mod writing;
