@@ -1,10 +1,8 @@
 //! Choices: what a schedule is made of.
-ghost use Rattle.std.specs.Prelude.{◌≡◌, Some};
+ghost use Rattle.std.specs.Prelude.{◌≡◌};
 ghost use Rattle.zy_isa.specs.Choices.{actor_of, names_below as names_below_lem};
-ghost use Rattle.zy_isa.specs.Canon.{choice_text};
 
 use crate::node::{Actor, Node};
-use std::fmt;
 
 /// One choice of a schedule. A transaction goes by its number, from 0.
 #[derive(Clone, Copy, Debug, PartialEq, Eq)]
@@ -38,19 +36,6 @@ impl Choice {
             Choice::Begin(t) => usize::from(t) < count,
             Choice::Kill(t) => usize::from(t) < count,
             Choice::Run(_, t) => usize::from(t) < count,
-        }
-    }
-}
-
-/// The choice as the scenario text writes it.
-impl fmt::Display for Choice {
-    ghost output = { λ c. Some (choice_text c) };
-
-    fn fmt<W: fmt::Write>(&self, f: &mut fmt::Formatter<W>) -> fmt::Result {
-        match self {
-            Choice::Begin(t) => write!(f, "C begin {t}"),
-            Choice::Kill(t) => write!(f, "C kill {t}"),
-            Choice::Run(n, t) => write!(f, "{n} run {t}"),
         }
     }
 }

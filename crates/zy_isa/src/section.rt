@@ -1,5 +1,6 @@
 //! Text in lines: each is made in one `String` that is used again, and goes out whole.
-ghost use Rattle.std.specs.Prelude.{◌≡◌, ◌<◌, ◌++◌, [], ◌∷◌, ℕ, List, Some, OnOk, length, map, refl, slice_index_or};
+ghost use Rattle.std.specs.Prelude.{◌≡◌, ◌<◌, ◌++◌, [], ◌∷◌, ℕ, List, OnOk, length, map, slice_index_or};
+ghost use Rattle.std.specs.Fmt.{decimal};
 ghost use Rattle.std.specs.List.{flat_map};
 ghost use Rattle.std.specs.String.{string_bytes};
 ghost use Rattle.zy_isa.specs.Writing.{line_of, Wrote};
@@ -7,36 +8,67 @@ ghost use Rattle.zy_isa.specs.Canon.{row_text, instr_text, choice_text};
 
 use crate::choice::Choice;
 use crate::instr::Instr;
+use crate::node::Node;
 use crate::row::Row;
 use crate::stream::Sink;
 use crate::writing::{TextFault, write_all};
+use itoa::Buffer;
 use std::alloc::AllocError;
-use std::fmt::{Display, Write};
+use std::fmt::Write;
 
-/// Shows itself as the text of one line, without its end.
-pub trait Line: Display {
-    // What it shows.
+/// What has the text of one line.
+pub trait Line {
+    // The text, without the line's end.
     ghost text: { Self → List ℕ };
 
-    ghost shows: { (x : Self) → Self.output x ≡ Some (text x) };
+    /// Puts its text behind what the `String` holds. At an error a part of it may stand there.
+    fn append(&self, line: &mut String) -> Result<(), AllocError>
+        ensures { OnOk result (string_bytes line.new ≡ string_bytes line.old ++ text self.now) };
 }
 
 impl Line for Row {
     ghost text = { row_text };
 
-    ghost shows = { λ _. refl };
+    fn append(&self, line: &mut String) -> Result<(), AllocError> {
+        write!(line, "{self}")
+    }
 }
 
 impl Line for Instr {
     ghost text = { instr_text };
 
-    ghost shows = { λ _. refl };
+    fn append(&self, line: &mut String) -> Result<(), AllocError> {
+        write!(line, "{self}")
+    }
 }
 
+/// A listing has two for each step, so it goes without a `Formatter`.
 impl Line for Choice {
     ghost text = { choice_text };
 
-    ghost shows = { λ _. refl };
+    fn append(&self, line: &mut String) -> Result<(), AllocError> {
+        match self {
+            Choice::Begin(t) => append_numbered(line, "C begin ", u64::from(*t)),
+            Choice::Kill(t) => append_numbered(line, "C kill ", u64::from(*t)),
+            Choice::Run(Node::A, t) => append_numbered(line, "A run ", u64::from(*t)),
+            Choice::Run(Node::B, t) => append_numbered(line, "B run ", u64::from(*t)),
+        }
+    }
+}
+
+/// Puts the digits of a number behind what the `String` holds.
+pub fn append_number(line: &mut String, number: u64) -> Result<(), AllocError>
+    ensures { OnOk result (string_bytes line.new ≡ string_bytes line.old ++ decimal number) }
+{
+    line.push_str(Buffer::new().format(number))
+}
+
+/// Puts words and the digits of a number behind what the `String` holds. At an error a part of both may stand there.
+pub fn append_numbered(line: &mut String, words: &str, number: u64) -> Result<(), AllocError>
+    ensures { OnOk result (string_bytes line.new ≡ string_bytes line.old ++ (words.now ++ decimal number)) }
+{
+    line.push_str(words)?;
+    append_number(line, number)
 }
 
 /// A list of lines that are made one at a time.
@@ -112,7 +144,7 @@ pub fn write_line<K: Sink, D: Line>(
         (K.failures sink.new) result (line_of (D.text item.now)) }
 {
     line.clear();
-    write!(line, "{item}")?;
+    item.append(line)?;
     finish_line(sink, line)
 }
 
@@ -177,8 +209,7 @@ impl<D: Line> Lines for Each<'_, D> {
     }
 
     fn append(&self, place: usize, line: &mut String) -> Result<(), AllocError> {
-        let item = &self.0[place];
-        write!(line, "{item}")
+        self.0[place].append(line)
     }
 }
 

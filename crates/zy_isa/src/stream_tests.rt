@@ -1,17 +1,18 @@
 //! Reading and writing over streams that give and take little, fail, or never end.
-ghost use Rattle.std.specs.Prelude.{◌++◌, Some, None, codes, map, refl};
+ghost use Rattle.std.specs.Prelude.{◌++◌, Some, None, codes, map};
 ghost use Rattle.std.specs.Fmt.{decimal};
 
 use crate::memory::{SliceSource, VecSink};
 use crate::reading::{MAX_INPUT, ReadFault, read_all};
 use crate::section::{
-    Both, Each, Fixed, Line, One, Parts, Section, write_line, write_lines, write_parts,
+    Both, Each, Fixed, Line, One, Parts, Section, append_number, append_numbered, write_line,
+    write_lines, write_parts,
 };
 use crate::stream::{CountingReader, CountingWriter, Sink, Source};
 use crate::writing::{TextFault, WriteFault, write_all};
-use std::io::{ErrorKind, Read, Write};
+use std::alloc::AllocError;
+use std::io::{self, ErrorKind, Read, Write};
 use std::test::Fail;
-use std::{fmt, io};
 
 /// Gives one byte a call; one call fails.
 #[derive(Drop)]
@@ -99,20 +100,13 @@ impl Write for Drip {
 #[derive(Clone, Copy)]
 struct Pair(u16, u32);
 
-impl fmt::Display for Pair {
-    ghost output = { λ p. Some (decimal p.0 ++ codes "=" ++ decimal p.1) };
-
-    fn fmt<W: fmt::Write>(&self, f: &mut fmt::Formatter<W>) -> fmt::Result {
-        let key = self.0;
-        let value = self.1;
-        write!(f, "{key}={value}")
-    }
-}
-
 impl Line for Pair {
     ghost text = { λ p. decimal p.0 ++ codes "=" ++ decimal p.1 };
 
-    ghost shows = { λ _. refl };
+    fn append(&self, line: &mut String) -> Result<(), AllocError> {
+        append_number(line, u64::from(self.0))?;
+        append_numbered(line, "=", u64::from(self.1))
+    }
 }
 
 /// A list of lists of lines.

@@ -1,3 +1,3 @@
-pub mod Ranks
+pub mod Rising
 pub mod Added
 pub mod PageRun

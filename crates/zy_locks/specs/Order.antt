@@ -1,26 +1,31 @@
 -- The order of locks: by page, then by transaction.
-use Rattle.std.specs.Prelude.{◌≡◌, ℕ, ◌+◌, ◌*◌, ◌<◌, ◌≤◌, List, [], ◌∷◌, length, slice_index_or, Result, Ok, Err}
+use Rattle.std.specs.Prelude.{◌≡◌, ℕ, ◌==◌, nat_lt, ◌<◌, ◌≤◌, Bool, true, false, ◌&&◌, ◌||◌, List, [], ◌∷◌, length, slice_index_or, Result, Ok, Err}
 use Rattle.std.specs.List.{AllWithin}
 use Rattle.zy_locks.specs.declared.lock.Lock.{Lock}
 
--- where t's lock on p stands in the order, as a transaction's number is below 256
-abbrev pub rank : ℕ → ℕ → ℕ
-rank p t = p * 256 + t
+-- whether a lock comes before t's lock on p: its page is lower, or it is on p and its transaction is lower
+abbrev pub comes_before : Lock → ℕ → ℕ → Bool
+comes_before x p t = nat_lt x.page p || ((x.page == p) && nat_lt x.txn t)
 
--- ranks rise, from this one on, and each transaction's number fits its field
-abbrev pub RiseFrom : ℕ → List Lock → Type 0
-RiseFrom low [] = Unit {0}
-RiseFrom low (x ∷ xs) = (low ≤ rank x.page x.txn) × (x.txn < 256) × RiseFrom (rank x.page x.txn + 1) xs
+-- whether it is t's lock on p
+abbrev pub is_held_by : Lock → ℕ → ℕ → Bool
+is_held_by x p t = (x.page == p) && (x.txn == t)
+
+-- locks rise, all behind this one
+abbrev pub LocksBehind : Lock → List Lock → Type 0
+LocksBehind x [] = Unit {0}
+LocksBehind x (y ∷ ys) = (comes_before x y.page y.txn ≡ true) × LocksBehind y ys
 
 -- locks in order, and at most one for each page and transaction
 abbrev pub LocksRise : List Lock → Type 0
-LocksRise xs = RiseFrom 0 xs
+LocksRise [] = Unit {0}
+LocksRise (x ∷ xs) = LocksBehind x xs
 
--- i locks are below n, and the others are not
-abbrev pub IsPlace : ℕ → List Lock → ℕ → Type 0
-IsPlace n xs i = (i ≤ length xs) × AllWithin (λ x. rank x.page x.txn < n) xs 0 i × AllWithin (λ x. n ≤ rank x.page x.txn) xs i (length xs)
+-- i locks come before t's lock on p, and the others do not
+abbrev pub IsPlace : ℕ → ℕ → List Lock → ℕ → Type 0
+IsPlace p t xs i = (i ≤ length xs) × AllWithin (λ x. comes_before x p t ≡ true) xs 0 i × AllWithin (λ x. comes_before x p t ≡ false) xs i (length xs)
 
--- the index of the lock of rank n, or the one where it would stand
-abbrev pub Finds : ℕ → List Lock → Result ℕ ℕ → Type 0
-Finds n xs (Ok i) = IsPlace n xs i × (i < length xs) × ((d : Lock) → rank (slice_index_or xs i d).page (slice_index_or xs i d).txn ≡ n)
-Finds n xs (Err i) = IsPlace n xs i × ((d : Lock) → i < length xs → rank (slice_index_or xs i d).page (slice_index_or xs i d).txn ≡ n → ⊥)
+-- the index of t's lock on p, or the one where it would stand
+abbrev pub Finds : ℕ → ℕ → List Lock → Result ℕ ℕ → Type 0
+Finds p t xs (Ok i) = IsPlace p t xs i × (i < length xs) × ((d : Lock) → is_held_by (slice_index_or xs i d) p t ≡ true)
+Finds p t xs (Err i) = IsPlace p t xs i × ((d : Lock) → i < length xs → is_held_by (slice_index_or xs i d) p t ≡ false)

@@ -2,7 +2,7 @@
 ghost use Rattle.std.specs.Prelude.{◌≡◌, ◌==◌, ◌+◌, ◌<◌, ◌≤◌, IfOk, OnOk, OnErr, IsOk, [], length, slice_index_or};
 ghost use Rattle.zy_locks.specs.Locks.{is_shared as is_shared_lem, stronger as stronger_lem, clashes as clashes_lem, conflict, is_locked, drop_locks};
 ghost use Rattle.zy_locks.specs.LockTable.{Tries};
-ghost use Rattle.zy_locks.specs.Order.{rank as rank_lem, LocksRise, IsPlace, Finds};
+ghost use Rattle.zy_locks.specs.Order.{comes_before as comes_before_lem, is_held_by as is_held_by_lem, LocksRise, IsPlace, Finds};
 
 use crate::lock::{Lock, LockKind};
 use std::alloc::{AllocError, Global};
@@ -93,7 +93,7 @@ impl Locks {
     pub fn locked(&self, page: u16) -> bool
         ensures { result ≡ is_locked self.now.locks page }
     {
-        let at = place(&self.locks, rank(page, 0));
+        let at = place(&self.locks, page, 0);
         at < self.len() && self.locks[at].page == page
     }
 
@@ -101,7 +101,7 @@ impl Locks {
     pub fn conflicts(&self, page: u16, txn: u8, kind: LockKind) -> bool
         ensures { result ≡ conflict self.now.locks page txn kind }
     {
-        let start = place(&self.locks, rank(page, 0));
+        let start = place(&self.locks, page, 0);
         for lock in &self.locks[start..] {
             if lock.page != page {
                 return false;
@@ -153,29 +153,35 @@ impl Locks {
     }
 }
 
-/// Where `txn`'s lock on the page stands in the order.
-fn rank(page: u16, txn: u8) -> u32
-    ensures { result ≡ rank_lem page txn }
+/// Whether a lock comes before `txn`'s lock on the page.
+fn comes_before(lock: &Lock, page: u16, txn: u8) -> bool
+    ensures { result ≡ comes_before_lem lock.now page txn }
 {
-    u32::from(page) * 256 + u32::from(txn)
+    (lock.page, lock.txn) < (page, txn)
 }
 
-/// How many locks are below a rank.
-fn place(locks: &[Lock], below: u32) -> usize
-    requires { LocksRise locks.now }
-    ensures { IsPlace below locks.now result }
+/// Whether it is `txn`'s lock on the page.
+fn is_held_by(lock: &Lock, page: u16, txn: u8) -> bool
+    ensures { result ≡ is_held_by_lem lock.now page txn }
 {
-    locks.partition_point(|lock| rank(lock.page, lock.txn) < below)
+    lock.page == page && lock.txn == txn
+}
+
+/// How many locks come before `txn`'s lock on the page.
+fn place(locks: &[Lock], page: u16, txn: u8) -> usize
+    requires { LocksRise locks.now }
+    ensures { IsPlace page txn locks.now result }
+{
+    locks.partition_point(|lock| comes_before(lock, page, txn))
 }
 
 /// The index of `txn`'s lock on the page, or the one where it would stand.
 fn search(locks: &[Lock], page: u16, txn: u8) -> Result<usize, usize>
     requires { LocksRise locks.now }
-    ensures { Finds (rank_lem page txn) locks.now result }
+    ensures { Finds page txn locks.now result }
 {
-    let sought = rank(page, txn);
-    let at = place(locks, sought);
-    if at < locks.len() && rank(locks[at].page, locks[at].txn) == sought {
+    let at = place(locks, page, txn);
+    if at < locks.len() && is_held_by(&locks[at], page, txn) {
         Ok(at)
     } else {
         Err(at)

@@ -1,100 +1,26 @@
 -- Each row of the table leaves every list in its order.
-use Rattle.std.proofs.Common.{List, [], ap, arith, false, inl, inr, length, refl, subst, suc, sym, true, ℕ, ◌+◌, ◌∙◌, ◌∷◌, ◌≡◌, ◌≤◌}
-use Rattle.std.specs.Prelude.{nat_lt, not, slice_set, ◌&&◌, ◌==◌, ◌||◌}
-use Rattle.std.proofs.lemmas.Bool.{and_cases, and_from, and_parts, cases_eq, cases_lt, cond_both, eq-eqb, eqb-false, eqb-true, false≢true, ltb-false, ltb-true, or_cases, or_parts}
+use Rattle.std.proofs.Common.{List, [], ap, arith, inl, inr, length, refl, subst, suc, sym, ℕ, ◌+◌, ◌∙◌, ◌∷◌, ◌≡◌}
+use Rattle.std.specs.Prelude.{slice_set}
+use Rattle.std.proofs.lemmas.Bool.{cases_eq}
 use Rattle.zy_isa.specs.Rows.{Rising}
 use Rattle.zy_isa.specs.Scenario.{Scenario}
 use Rattle.zy_isa.specs.declared.instr.Reg.{Reg}
 use Rattle.zy_isa.specs.declared.node.Node.{Node}
 use Rattle.zy_isa.specs.declared.row.Row.{Row}
-use Rattle.zy_locks.specs.Locks.{add_lock, drop_locks, stronger}
+use Rattle.zy_locks.specs.Order.{LocksRise}
+use Rattle.zy_locks.proofs.Rising.{rise_add, rise_drop}
 use Rattle.zy_locks.specs.declared.lock.LockKind.{LockKind}
 use Rattle.zy_locks.specs.declared.lock.LockKind.TheVariants.{Exclusive, Shared}
 use Rattle.zy_machine.specs.Change.{aborted, begun, committed, did, installed, locked, txn_at}
 use Rattle.zy_machine.specs.Database.{sent_leaves}
-use Rattle.zy_machine.specs.Order.{Before, LocksBehind, LocksRise, NodeInOrder, NumbersRise, RowsRise, numbers}
+use Rattle.zy_machine.specs.Order.{NodeInOrder, NumbersRise, RowsRise, numbers}
 use Rattle.zy_machine.specs.Rows.{rows_on}
-use Rattle.zy_machine.specs.State.{Leaf, Lock, NodeState, Txn, View, other}
+use Rattle.zy_machine.specs.State.{Leaf, NodeState, Txn, View}
 use Rattle.zy_machine.specs.declared.outcome.Why.{Why}
 use Rattle.zy_machine.proofs.Events.{Aborts, Adds, Begins, Commits, Event, Gets, Inserts, Jumps, Rests, Sets, Writes, key, page, puts}
 use Rattle.zy_machine.proofs.RisingRows.{rises_put, rises_puts}
 use Rattle.zy_machine.proofs.Roles.{width}
 use Rattle.zy_machine.proofs.Txns.{at_either, at_other}
-
--- locks
-before_trans : (x y z : Lock) → Before x y → Before y z → Before x z
-before_trans x y z (inl a) (inl b) = inl (omega arith)
-before_trans x y z (inl a) (inr b) = inl (let c = b.0 in omega arith)
-before_trans x y z (inr a) (inl b) = inl (let c = a.0 in omega arith)
-before_trans x y z (inr a) (inr b) = inr (a.0 ∙ b.0, (let c = a.1 in let d = b.1 in omega arith))
-
-behind_kind : (x : Lock) (kind : LockKind) (xs : List Lock) → LocksBehind x xs → LocksBehind (record x { kind = kind }) xs
-behind_kind x kind [] h = tt
-behind_kind x kind (y ∷ ys) h = (h.0, h.1)
-
-behind_skip : (x y : Lock) (ys : List Lock) → LocksBehind x (y ∷ ys) → LocksBehind x ys
-behind_skip x y [] h = tt
-behind_skip x y (z ∷ zs) h = (before_trans x y z h.0 h.1.0, h.1.1)
-
-behind_rise : (x : Lock) (xs : List Lock) → LocksBehind x xs → LocksRise xs
-behind_rise x [] h = tt
-behind_rise x (y ∷ ys) h = h.1
-
-abbrev new_lock : ℕ → ℕ → LockKind → Lock
-new_lock p t kind = record { page = p; txn = t; kind = kind }
-
-goes_before : (p t : ℕ) (kind : LockKind) (x : Lock) → (nat_lt p x.page || ((x.page == p) && nat_lt t x.txn)) ≡ true → Before (new_lock p t kind) x
-goes_before p t kind x h = elim (or_cases (nat_lt p x.page) ((x.page == p) && nat_lt t x.txn) h) [
-  | inl e ↦ inl (ltb-true _ _ e)
-  | inr e ↦ let a = and_parts (x.page == p) (nat_lt t x.txn) e in inr (sym (eqb-true _ _ a.0), ltb-true _ _ a.1)
-]
-
-goes_behind : (p t : ℕ) (kind : LockKind) (x : Lock) → ((x.page == p) && (x.txn == t)) ≡ false
-    → (nat_lt p x.page || ((x.page == p) && nat_lt t x.txn)) ≡ false → Before x (new_lock p t kind)
-goes_behind p t kind x other late =
-    let parts = or_parts (nat_lt p x.page) ((x.page == p) && nat_lt t x.txn) late in
-    let low : x.page ≤ p = ltb-false _ _ parts.0 in
-    elim (cases_lt x.page p) [
-      | inl e ↦ inl e
-      | inr e ↦
-          let same : x.page ≡ p = omega arith in
-          let far : x.txn ≡ t → ⊥ = λ g. false≢true (sym other ∙ and_from _ _ (eq-eqb _ _ same) (eq-eqb _ _ g)) in
-          let below : x.txn ≤ t = elim (and_cases (x.page == p) (nat_lt t x.txn) parts.1) [ inl g ↦ absurd (eqb-false _ _ g same) | inr g ↦ ltb-false _ _ g ] in
-          inr (same, elim (cases_eq x.txn t) [ inl g ↦ absurd (far g) | inr g ↦ omega arith ])
-    ]
-
-behind_add : (z : Lock) (p t : ℕ) (kind : LockKind) (xs : List Lock) → Before z (new_lock p t kind) → LocksBehind z xs
-    → LocksBehind z (add_lock p t kind xs)
-behind_add z p t kind [] b h = (b, tt)
-behind_add z p t kind (x ∷ xs) b h =
-    cond_both ((x.page == p) && (x.txn == t)) (record x { kind = stronger x.kind kind } ∷ xs) _ (LocksBehind z)
-    (λ _. (h.0, behind_kind x (stronger x.kind kind) xs h.1))
-    (λ other. cond_both (nat_lt p x.page || ((x.page == p) && nat_lt t x.txn)) (new_lock p t kind ∷ x ∷ xs) (x ∷ add_lock p t kind xs) (LocksBehind z)
-    (λ e. (b, (goes_before p t kind x e, h.1)))
-    (λ late. (h.0, behind_add x p t kind xs (goes_behind p t kind x other late) h.1)))
-
-rise_add : (p t : ℕ) (kind : LockKind) (xs : List Lock) → LocksRise xs → LocksRise (add_lock p t kind xs)
-rise_add p t kind [] h = tt
-rise_add p t kind (x ∷ xs) h =
-    cond_both ((x.page == p) && (x.txn == t)) (record x { kind = stronger x.kind kind } ∷ xs) _ LocksRise
-    (λ _. behind_kind x (stronger x.kind kind) xs h)
-    (λ other. cond_both (nat_lt p x.page || ((x.page == p) && nat_lt t x.txn)) (new_lock p t kind ∷ x ∷ xs) (x ∷ add_lock p t kind xs) LocksRise
-    (λ e. (goes_before p t kind x e, h))
-    (λ late. behind_add x p t kind xs (goes_behind p t kind x other late) h))
-
-behind_drop : (z : Lock) (t : ℕ) (xs : List Lock) → LocksBehind z xs → LocksBehind z (drop_locks t xs)
-behind_drop z t [] h = tt
-behind_drop z t (x ∷ xs) h =
-    cond_both (not (x.txn == t)) (x ∷ drop_locks t xs) (drop_locks t xs) (LocksBehind z)
-    (λ _. (h.0, behind_drop x t xs h.1))
-    (λ _. behind_drop z t xs (behind_skip z x xs h))
-
-rise_drop : (t : ℕ) (xs : List Lock) → LocksRise xs → LocksRise (drop_locks t xs)
-rise_drop t [] h = tt
-rise_drop t (x ∷ xs) h =
-    cond_both (not (x.txn == t)) (x ∷ drop_locks t xs) (drop_locks t xs) LocksRise
-    (λ _. behind_drop x t xs h)
-    (λ _. rise_drop t xs (behind_rise x xs h))
 
 -- pages
 numbers-installed : (lows : List ℕ) (rs : List Row) (xs : List Leaf) → numbers (installed lows rs xs) ≡ numbers xs

@@ -1,8 +1,9 @@
 -- The order in which each list stands.
-use Rattle.std.specs.Prelude.{ℕ, ◌+◌, ◌≡◌, ◌<◌, ◌≤◌, ◌⊎◌, List, [], ◌∷◌, length, map, slice_get}
+use Rattle.std.specs.Prelude.{ℕ, ◌+◌, ◌≡◌, ◌≤◌, List, [], ◌∷◌, length, map, slice_get}
 use Rattle.zy_isa.specs.declared.node.Node.{Node}
 use Rattle.zy_isa.specs.Rows.{Rising}
-use Rattle.zy_machine.specs.State.{State, NodeState, Leaf, Lock, facing}
+use Rattle.zy_locks.specs.Order.{LocksRise}
+use Rattle.zy_machine.specs.State.{State, NodeState, Leaf, facing}
 use Rattle.zy_machine.specs.Change.{txn_or}
 use Rattle.zy_machine.specs.Database.{all_leaves, newest, sent_leaves}
 
@@ -13,19 +14,6 @@ NumbersRise low (x ∷ xs) = (low ≤ x) × NumbersRise (x + 1) xs
 
 abbrev pub numbers : List Leaf → List ℕ
 numbers pages = map (λ (x : Leaf). x.number) pages
-
--- by page, and then by transaction
-abbrev pub Before : Lock → Lock → Type 0
-Before x y = (x.page < y.page) ⊎ ((x.page ≡ y.page) × (x.txn < y.txn))
-
--- locks rise, all behind this one
-abbrev pub LocksBehind : Lock → List Lock → Type 0
-LocksBehind x [] = Unit {0}
-LocksBehind x (y ∷ ys) = Before x y × LocksBehind y ys
-
-abbrev pub LocksRise : List Lock → Type 0
-LocksRise [] = Unit {0}
-LocksRise (x ∷ xs) = LocksBehind x xs
 
 -- each page's rows rise by key
 abbrev pub RowsRise : List Leaf → Type 0

@@ -1,10 +1,9 @@
 //! A link between the nodes. No message is on its way yet, so its line is its name.
-ghost use Rattle.std.specs.Prelude.{◌≡◌, ◌++◌, Some, OnOk, refl};
+ghost use Rattle.std.specs.Prelude.{◌≡◌, ◌++◌, OnOk};
 ghost use Rattle.std.specs.String.{string_bytes};
 ghost use Rattle.zy_audit.specs.Texts.{link_text};
 
 use std::alloc::AllocError;
-use std::fmt::{self, Write};
 use zy_isa::node::Node;
 use zy_isa::section::Line;
 use zy_machine::machine::Machine;
@@ -13,26 +12,20 @@ use zy_machine::machine::Machine;
 #[derive(Clone, Copy)]
 pub(crate) struct LinkLine(pub Node);
 
-impl fmt::Display for LinkLine {
-    ghost output = { λ l. Some (link_text l.0) };
-
-    fn fmt<W: fmt::Write>(&self, f: &mut fmt::Formatter<W>) -> fmt::Result {
-        match self.0 {
-            Node::A => write!(f, "link AB"),
-            Node::B => write!(f, "link BA"),
-        }
-    }
-}
-
 impl Line for LinkLine {
     ghost text = { λ l. link_text l.0 };
 
-    ghost shows = { λ _. refl };
+    fn append(&self, line: &mut String) -> Result<(), AllocError> {
+        match self.0 {
+            Node::A => line.push_str("link AB"),
+            Node::B => line.push_str("link BA"),
+        }
+    }
 }
 
 /// Appends the line of the link from a node, without its end. At an error a part of it may stand there.
 pub fn link_line(_machine: &Machine, n: Node, line: &mut String) -> Result<(), AllocError>
     ensures { OnOk result (string_bytes line.new ≡ string_bytes line.old ++ link_text n) }
 {
-    write!(line, "{}", LinkLine(n))
+    LinkLine(n).append(line)
 }

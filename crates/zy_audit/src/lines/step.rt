@@ -1,72 +1,54 @@
 //! The steps, each with what came of it.
-ghost use Rattle.std.specs.Prelude.{Some};
+ghost use Rattle.std.specs.Prelude.{◌≡◌, ◌++◌, OnOk};
+ghost use Rattle.std.specs.String.{string_bytes};
 ghost use Rattle.zy_audit.specs.Texts.{outcome_text, sent_text, step_text};
 ghost use Rattle.zy_audit.specs.Listing.{step_texts};
 
 use crate::lines::words::{kind_word, why_word};
 use std::alloc::AllocError;
-use std::fmt::{self, Write};
-use zy_isa::section::{Lines, Section, write_lines};
+use std::fmt::Write;
+use zy_isa::section::{Line, Lines, Section, append_number, append_numbered, write_lines};
 use zy_isa::stream::Sink;
 use zy_isa::writing::TextFault;
 use zy_machine::entry::Entry;
 use zy_machine::links::Kind;
 use zy_machine::outcome::Outcome;
 
-/// What came of a step.
-#[derive(Clone, Copy)]
-struct OutcomeText(Outcome);
-
-impl fmt::Display for OutcomeText {
-    ghost output = { λ o. Some (outcome_text o.0) };
-
-    fn fmt<W: fmt::Write>(&self, f: &mut fmt::Formatter<W>) -> fmt::Result {
-        match self.0 {
-            Outcome::Began(node) => write!(f, "began {node}"),
-            Outcome::Idle => write!(f, "idle"),
-            Outcome::Elsewhere => write!(f, "elsewhere"),
-            Outcome::Did => write!(f, "did"),
-            Outcome::Aborted(why) => write!(f, "aborted {}", why_word(why)),
-            Outcome::Committed(place) => write!(f, "committed {place}"),
-            Outcome::Waits(page) => write!(f, "waits {page}"),
-        }
+/// Appends what came of a step.
+fn append_outcome(line: &mut String, outcome: Outcome) -> Result<(), AllocError>
+    ensures { OnOk result (string_bytes line.new ≡ string_bytes line.old ++ outcome_text outcome) }
+{
+    match outcome {
+        Outcome::Began(node) => write!(line, "began {node}"),
+        Outcome::Idle => line.push_str("idle"),
+        Outcome::Elsewhere => line.push_str("elsewhere"),
+        Outcome::Did => line.push_str("did"),
+        Outcome::Aborted(why) => write!(line, "aborted {}", why_word(why)),
+        Outcome::Committed(place) => append_numbered(line, "committed ", u64::from(place)),
+        Outcome::Waits(page) => append_numbered(line, "waits ", u64::from(page)),
     }
 }
 
-/// The message that was sent, if one was.
-#[derive(Clone, Copy)]
-struct SentText(Option<Kind>);
-
-impl fmt::Display for SentText {
-    ghost output = { λ s. Some (sent_text s.0) };
-
-    fn fmt<W: fmt::Write>(&self, f: &mut fmt::Formatter<W>) -> fmt::Result {
-        match self.0 {
-            None => Ok(()),
-            Some(kind) => write!(f, " ! {}", kind_word(kind)),
-        }
+/// Appends the message that was sent, if one was.
+fn append_sent(line: &mut String, sent: Option<Kind>) -> Result<(), AllocError>
+    ensures { OnOk result (string_bytes line.new ≡ string_bytes line.old ++ sent_text sent) }
+{
+    match sent {
+        None => Ok(()),
+        Some(kind) => write!(line, " ! {}", kind_word(kind)),
     }
 }
 
-/// A step under its number.
-#[derive(Clone, Copy)]
-struct StepLine {
-    number: usize,
-    entry: Entry,
-}
-
-impl fmt::Display for StepLine {
-    ghost output = { λ l. Some (step_text l.number l.entry) };
-
-    fn fmt<W: fmt::Write>(&self, f: &mut fmt::Formatter<W>) -> fmt::Result {
-        let Entry {
-            choice,
-            outcome,
-            sent,
-        } = self.entry;
-        let (outcome, sent) = (OutcomeText(outcome), SentText(sent));
-        write!(f, "{} {choice} -> {outcome}{sent}", self.number)
-    }
+/// Appends a step under its number. At an error a part of it may stand there.
+fn append_step(line: &mut String, number: usize, entry: &Entry) -> Result<(), AllocError>
+    ensures { OnOk result (string_bytes line.new ≡ string_bytes line.old ++ step_text number entry.now) }
+{
+    append_number(line, number as u64)?;
+    line.push_str(" ")?;
+    entry.choice.append(line)?;
+    line.push_str(" -> ")?;
+    append_outcome(line, entry.outcome)?;
+    append_sent(line, entry.sent)
 }
 
 /// All steps, numbered from 1.
@@ -81,9 +63,8 @@ impl Lines for Steps<'_> {
     }
 
     fn append(&self, place: usize, line: &mut String) -> Result<(), AllocError> {
-        let entry = self.0[place];
         let number = place + 1;
-        write!(line, "{}", StepLine { number, entry })
+        append_step(line, number, &self.0[place])
     }
 }
 

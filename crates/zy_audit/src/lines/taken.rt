@@ -4,8 +4,7 @@ ghost use Rattle.zy_isa.specs.Canon.{choice_text};
 ghost use Rattle.zy_machine.specs.Histories.{choices_of};
 
 use std::alloc::AllocError;
-use std::fmt::Write;
-use zy_isa::section::{Lines, Section, write_lines};
+use zy_isa::section::{Line, Lines, Section, write_lines};
 use zy_isa::stream::Sink;
 use zy_isa::writing::TextFault;
 use zy_machine::entry::Entry;
@@ -22,8 +21,7 @@ impl Lines for Taken<'_> {
     }
 
     fn append(&self, place: usize, line: &mut String) -> Result<(), AllocError> {
-        let choice = self.0[place].choice;
-        write!(line, "{choice}")
+        self.0[place].choice.append(line)
     }
 }
 

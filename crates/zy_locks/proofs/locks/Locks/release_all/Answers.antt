@@ -1,12 +1,12 @@
 use Rattle.std.proofs.Common.{arith, eqb, not, rules}
 use Rattle.std.proofs.lemmas.Fn.{filter_same}
-use Rattle.zy_locks.proofs.Ranks.{RiseFrom-drop_locks}
+use Rattle.zy_locks.proofs.Rising.{rise_drop}
 use Rattle.zy_locks.proofs.locks.Locks.release_all.Goals as goal
 
 pub invariant_of-self : goal.invariant_of-self
 invariant_of-self c =
     let facts = c.retain.ensures in
-    rw (filter_same _ (λ x. not (eqb x.txn c.args.txn)) _ (λ x b f' k. search rules) _ _ facts.filtered) (RiseFrom-drop_locks 0 c.args.txn _ c.self.invariant)
+    rw (filter_same _ (λ x. not (eqb x.txn c.args.txn)) _ (λ x b f' k. search rules) _ _ facts.filtered) (rise_drop c.args.txn _ c.self.invariant)
 
 pub returns : goal.returns
 returns c =

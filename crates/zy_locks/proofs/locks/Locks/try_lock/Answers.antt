@@ -2,7 +2,8 @@ use Rattle.std.proofs.Common.{◌≡◌, ◌∙◌, sym, arith}
 use Rattle.std.proofs.Math.ListN.{length-set}
 use Rattle.std.proofs.lemmas.List.{get_or_default}
 use Rattle.zy_locks.specs.Locks.{stronger}
-use Rattle.zy_locks.proofs.Added.{RiseFrom-add_lock, add_lock_at, add_lock_between}
+use Rattle.zy_locks.proofs.Added.{add_lock_at, add_lock_between}
+use Rattle.zy_locks.proofs.Rising.{rise_add}
 use Rattle.zy_locks.proofs.locks.Locks.try_lock.Goals as goal
 
 pub invariant_of-self : goal.invariant_of-self
@@ -12,8 +13,8 @@ invariant_of-self c =
     let found = rw c.deref.ensures.value at c.in-Ok.ensures in
     let one = c.index.ensures ∙ (get_or_default locks c.in-Ok.at c.index.result.now was found.1 ∙ sym c.index_mut.ensures.value) in
     let kind : c.stronger.result ≡ stronger was.kind c.args.kind = rw (← one) c.stronger.ensures in
-    let raised = add_lock_at 0 c.args.page c.args.txn c.in-Ok.at c.args.kind was locks c.self.invariant c.ranges.txn.fits found.0 found.1 (found.2 was) in
-    let kept = RiseFrom-add_lock 0 c.args.page c.args.txn c.args.kind locks c.self.invariant (omega arith) c.ranges.txn.fits in
+    let raised = add_lock_at c.args.page c.args.txn c.in-Ok.at c.args.kind was locks found.0 found.1 (found.2 was) in
+    let kept = rise_add c.args.page c.args.txn c.args.kind locks c.self.invariant in
     rw kind (rw (raised, ← c.index_mut.ensures.value) at kept)
 
 pub returns-in-Ok : goal.returns-in-Ok
@@ -23,7 +24,7 @@ returns-in-Ok c =
     let found = rw c.deref.ensures.value at c.in-Ok.ensures in
     let one = c.index.ensures ∙ (get_or_default locks c.in-Ok.at c.index.result.now was found.1 ∙ sym c.index_mut.ensures.value) in
     let kind : c.stronger.result ≡ stronger was.kind c.args.kind = rw (← one) c.stronger.ensures in
-    let raised = rw (← c.index_mut.ensures.value) at (add_lock_at 0 c.args.page c.args.txn c.in-Ok.at c.args.kind was locks c.self.invariant c.ranges.txn.fits found.0 found.1 (found.2 was)) in
+    let raised = rw (← c.index_mut.ensures.value) at (add_lock_at c.args.page c.args.txn c.in-Ok.at c.args.kind was locks found.0 found.1 (found.2 was)) in
     (sym c.if-conflicts.ensures, rw (kind, ← c.self.view_is) (sym raised), rw (← c.self.view_is, length-set) (omega arith))
 
 pub invariant_of-self-in-Err : goal.invariant_of-self-in-Err
@@ -31,8 +32,8 @@ invariant_of-self-in-Err c =
     let locks = c.self.inside.locks.items in
     let found = rw c.deref.ensures.value at c.in-Err.ensures in
     let items = rw (c.unwrap.ensures, c.reserve.ensures.items) at c.insert.ensures.items in
-    let kept = RiseFrom-add_lock 0 c.args.page c.args.txn c.args.kind locks c.self.invariant (omega arith) c.ranges.txn.fits in
-    rw items (rw (add_lock_between 0 c.args.page c.args.txn c.in-Err.at c.args.kind locks c.self.invariant c.ranges.txn.fits found.0 found.1) at kept)
+    let kept = rise_add c.args.page c.args.txn c.args.kind locks c.self.invariant in
+    rw items (rw (add_lock_between c.args.page c.args.txn c.in-Err.at c.args.kind locks found.0 found.1) at kept)
 
 pub returns-else-is_err : goal.returns-else-is_err
 returns-else-is_err c =
@@ -40,7 +41,7 @@ returns-else-is_err c =
     let found = rw c.deref.ensures.value at c.in-Err.ensures in
     let items = rw (c.unwrap.ensures, c.reserve.ensures.items) at c.insert.ensures.items in
     let len = rw c.unwrap.ensures at c.insert.ensures.len in
-    let added = add_lock_between 0 c.args.page c.args.txn c.in-Err.at c.args.kind locks c.self.invariant c.ranges.txn.fits found.0 found.1 in (
+    let added = add_lock_between c.args.page c.args.txn c.in-Err.at c.args.kind locks found.0 found.1 in (
       sym c.if-conflicts.ensures,
       rw (← c.self.view_is, items) (sym added),
       rw (← c.self.view_is) (omega (arith, len, c.reserve.ensures.len, c.reserve.ensures.capacity, c.insert.ensures.capacity, c.self.inside.locks.ok.0, c.insert.new.self.ok.0)),

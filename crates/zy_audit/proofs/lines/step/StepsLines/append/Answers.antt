@@ -20,4 +20,4 @@ bounds-self-place c = omega (arith, c.requires, length-steps 1 c.args.self.now.0
 
 pub returns : goal.returns
 returns c =
-    step-line (λ text. OnOk c.write.result (string_bytes c.write.new.self ≡ string_bytes c.args.line.now ++ text)) c.args.place _ c.args.self.now.0.now c.requires c.write.ensures.bytes
+    step-line (λ text. OnOk c.append_step.result (string_bytes c.append_step.new.line ≡ string_bytes c.args.line.now ++ text)) c.args.place _ c.args.self.now.0.now c.requires c.append_step.ensures

@@ -7,4 +7,4 @@ use Rattle.zy_audit.proofs.lines.taken.TakenLines.append.Goals as goal
 
 pub returns : goal.returns
 returns c =
-    taken-line (λ text. OnOk c.write.result (string_bytes c.write.new.self ≡ string_bytes c.args.line.now ++ text)) c.args.place _ c.args.self.now.0.now c.requires c.write.ensures.bytes
+    taken-line (λ text. OnOk c.append.result (string_bytes c.append.new.line ≡ string_bytes c.args.line.now ++ text)) c.args.place _ c.args.self.now.0.now c.requires c.append.ensures
