@@ -1,0 +1,3 @@
+pub mod PageOf
+pub mod Places
+pub mod Grown

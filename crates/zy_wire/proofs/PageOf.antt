@@ -1,0 +1,137 @@
+-- Laws of the page that a key lies on.
+use Rattle.std.proofs.Common.{◌≡◌, ◌∙◌, ℕ, zero, suc, ◌+◌, ◌<◌, ◌≤◌, Bool, true, false, List, [], ◌∷◌, length, get_or, refl, sym, eqb, leb, ltb, arith, Some, None, ◌⊎◌, inl, inr}
+use Rattle.std.specs.Prelude.{filter, unwrap_or}
+use Rattle.std.specs.List.{position_or_len}
+use Rattle.std.proofs.lemmas.Bool.{eq-eqb, ne_eqb, eqb-true, lt-ltb, le-ltb, ltb-true, ltb-false, le-leb, leb-true, cond_both, cases_lt, cases_Bool}
+use Rattle.zy_wire.specs.Wireframe.{greatest, low_under, page_of, IsGreatest}
+
+-- the greatest low key that is not above k
+pub low_under-le : (lows : List ℕ) (k : ℕ) → low_under lows k ≤ k
+low_under-le [] k = omega arith
+low_under-le (low ∷ lows) k =
+    let rest = low_under-le lows k in
+    cond_both (leb low k) (low ∷ filter (λ x. leb x k) lows) (filter (λ x. leb x k) lows) (λ ys. greatest ys ≤ k)
+    (λ e. omega (arith, rest, leb-true low k e))
+    (λ _. rest)
+
+pub le-low_under : (lows : List ℕ) (k i : ℕ) → i < length lows → get_or lows i 0 ≤ k → get_or lows i 0 ≤ low_under lows k
+le-low_under [] k i lt le = absurd (omega arith)
+le-low_under (low ∷ lows) k zero lt le = rw (le-leb low k le) (omega arith)
+le-low_under (low ∷ lows) k (suc i) lt le =
+    let rest = le-low_under lows k i (omega arith) le in
+    cond_both (leb low k) (low ∷ filter (λ x. leb x k) lows) (filter (λ x. leb x k) lows) (λ ys. get_or lows i 0 ≤ greatest ys)
+    (λ _. omega (arith, rest))
+    (λ _. rest)
+
+low_under-most : (lows : List ℕ) (k m : ℕ) → ((i : ℕ) → i < length lows → get_or lows i 0 ≤ k → get_or lows i 0 ≤ m) → low_under lows k ≤ m
+low_under-most [] k m most = omega arith
+low_under-most (low ∷ lows) k m most =
+    let rest = low_under-most lows k m (λ i lt le. most (suc i) (omega arith) le) in
+    cond_both (leb low k) (low ∷ filter (λ x. leb x k) lows) (filter (λ x. leb x k) lows) (λ ys. greatest ys ≤ m)
+    (λ e. omega (arith, rest, most 0 (omega arith) (leb-true low k e)))
+    (λ _. rest)
+
+-- the first place at which a test passes
+first_at : (q : ℕ → Bool) (xs : List ℕ) (i : ℕ) → i < length xs → q (get_or xs i 0) ≡ true → ((j : ℕ) → j < i → q (get_or xs j 0) ≡ false) → position_or_len q xs ≡ i
+first_at q [] i lt passes fails = absurd (omega arith)
+first_at q (x ∷ xs) zero lt passes fails = rw passes refl
+first_at q (x ∷ xs) (suc i) lt passes fails =
+    let rest = first_at q xs i (omega arith) passes (λ j below. fails (suc j) (omega arith)) in
+    rw (fails 0 (omega arith)) (omega (arith, rest))
+
+never_at : (q : ℕ → Bool) (xs : List ℕ) → ((j : ℕ) → j < length xs → q (get_or xs j 0) ≡ false) → position_or_len q xs ≡ length xs
+never_at q [] fails = refl
+never_at q (x ∷ xs) fails =
+    let rest = never_at q xs (λ j lt. fails (suc j) (omega arith)) in
+    rw (fails 0 (omega arith)) (omega (arith, rest))
+
+passes_there : (q : ℕ → Bool) (xs : List ℕ) → position_or_len q xs < length xs → q (get_or xs (position_or_len q xs) 0) ≡ true
+passes_there q [] lt = absurd (omega arith)
+passes_there q (x ∷ xs) lt =
+    elim (cases_Bool (q x)) [
+      | inl e ↦ rw e e
+      | inr e ↦
+          let n = position_or_len q xs in
+          let next : 1 + n ≡ suc n = omega arith in
+          let within = rw e at lt in
+          rw (e, next) (passes_there q xs (omega (arith, within)))
+    ]
+
+found : (q : ℕ → Bool) (xs : List ℕ) (i : ℕ) → i < length xs → q (get_or xs i 0) ≡ true → position_or_len q xs < length xs
+found q [] i lt passes = absurd (omega arith)
+found q (x ∷ xs) zero lt passes = rw passes (omega arith)
+found q (x ∷ xs) (suc i) lt passes =
+    let rest = found q xs i (omega arith) passes in
+    elim (cases_Bool (q x)) [
+      | inl e ↦ rw e (omega arith)
+      | inr e ↦ rw e (omega (arith, rest))
+    ]
+
+-- a page is the one that k lies on
+pub page_of-is : (lows : List ℕ) (k p : ℕ) → p < length lows → get_or lows p 0 ≤ k
+    → ((i : ℕ) → i < length lows → get_or lows i 0 ≤ k → get_or lows i 0 ≤ get_or lows p 0)
+    → ((i : ℕ) → i < p → get_or lows i 0 ≡ get_or lows p 0 → ⊥)
+    → page_of lows k ≡ p
+unfolding page_of
+page_of-is lows k p lt le most other =
+    let least : low_under lows k ≤ get_or lows p 0 = low_under-most lows k (get_or lows p 0) most in
+    let up : get_or lows p 0 ≤ low_under lows k = le-low_under lows k p lt le in
+    let same : low_under lows k ≡ get_or lows p 0 = omega arith in
+    let at : position_or_len (λ low. eqb low (low_under lows k)) lows ≡ p = first_at (λ low. eqb low (low_under lows k)) lows p lt (eq-eqb _ _ (sym same)) (λ i below. ne_eqb _ _ (λ e. other i below (e ∙ same))) in
+    rw (at, lt-ltb p (length lows) lt) refl
+
+-- a key below all low keys lies on page 0
+pub page_of-none : (lows : List ℕ) (k : ℕ) → ((i : ℕ) → i < length lows → k < get_or lows i 0) → page_of lows k ≡ 0
+unfolding page_of
+page_of-none lows k above =
+    let least = low_under-most lows k 0 (λ i lt le. absurd (let up = above i lt in omega arith)) in
+    let at : position_or_len (λ low. eqb low (low_under lows k)) lows ≡ length lows = never_at (λ low. eqb low (low_under lows k)) lows (λ i lt. ne_eqb _ _ (λ e. let up = above i lt in absurd (omega arith))) in
+    rw (at, le-ltb (length lows) (length lows) (omega arith)) refl
+
+-- each key lies on a page that is there
+pub page_of-within : (lows : List ℕ) (k : ℕ) → 0 < length lows → page_of lows k < length lows
+unfolding page_of
+page_of-within lows k some =
+    let n = position_or_len (λ low. eqb low (low_under lows k)) lows in
+    cond_both (ltb n (length lows)) (Some n) None (λ o. unwrap_or o 0 < length lows) (λ e. ltb-true _ _ e) (λ _. some)
+
+-- the greatest low key that is not above k is one of them, or 0
+reached : (lows : List ℕ) (k : ℕ) → (low_under lows k ≡ 0) ⊎ ((i : ℕ) × (i < length lows) × (get_or lows i 0 ≡ low_under lows k))
+reached [] k = inl refl
+reached (low ∷ lows) k =
+    let rest = reached lows k in
+    cond_both (leb low k) (low ∷ filter (λ x. leb x k) lows) (filter (λ x. leb x k) lows) (λ ys. (greatest ys ≡ 0) ⊎ ((i : ℕ) × (i < suc (length lows)) × (get_or (low ∷ lows) i 0 ≡ greatest ys)))
+    (λ _. elim (cases_lt low (low_under lows k)) [
+      | inl below ↦ elim rest [
+        | inl none ↦ absurd (omega arith)
+        | inr one ↦ inr (suc one.0, (let i = one.0 in let lt : i < length lows = one.1 in omega arith), (let e : get_or lows one.0 0 ≡ low_under lows k = one.2 in omega arith))
+      ]
+      | inr above ↦ inr (0, omega arith, omega arith)
+    ])
+    (λ _. elim rest [
+      | inl none ↦ inl none
+      | inr one ↦ inr (suc one.0, (let i = one.0 in let lt : i < length lows = one.1 in omega arith), one.2)
+    ])
+
+-- the low key of k's page is that one
+pub low_of_page : (lows : List ℕ) (k i : ℕ) → i < length lows → get_or lows i 0 ≤ k → get_or lows (page_of lows k) 0 ≡ low_under lows k
+unfolding page_of
+low_of_page lows k i lt le =
+    let q : ℕ → Bool = λ low. eqb low (low_under lows k) in
+    let n = position_or_len q lows in
+    let up : get_or lows i 0 ≤ low_under lows k = le-low_under lows k i lt le in
+    cond_both (ltb n (length lows)) (Some n) None (λ o. get_or lows (unwrap_or o 0) 0 ≡ low_under lows k)
+    (λ e. eqb-true _ _ (passes_there q lows (ltb-true _ _ e)))
+    (λ e.
+    let past = ltb-false _ _ e in
+    elim (reached lows k) [
+      | inl none ↦ (let within = found q lows i lt (eq-eqb _ _ (let same : get_or lows i 0 ≡ low_under lows k = omega arith in same)) in absurd (omega arith))
+      | inr one ↦ (let within = found q lows one.0 one.1 (eq-eqb _ _ one.2) in absurd (omega arith))
+    ])
+
+pub page_of-greatest : (lows : List ℕ) (k : ℕ) → IsGreatest lows k (page_of lows k)
+page_of-greatest lows k = λ q lt le.
+    let low = low_of_page lows k q lt le in
+    let most = low_under-le lows k in
+    let up = le-low_under lows k q lt le in
+    (omega arith, omega arith)

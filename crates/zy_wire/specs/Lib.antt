@@ -1,0 +1,2 @@
+pub mod ByLow
+pub mod Wireframe

@@ -1,0 +1,167 @@
+//! The wireframe of a node.
+ghost use Rattle.std.specs.Prelude.{◌≡◌, ◌==◌, ◌↔◌, ◌+◌, ◌<◌, ◌≤◌, ◌++◌, ◌∷◌, [], OnOk, OnErr, IfOk, IsOk, IsTrue, Err, Contains, length, slice_index};
+ghost use Rattle.zy_wire.specs.Wireframe.{page_of as page_of_lem, IsGreatest};
+ghost use Rattle.zy_wire.specs.ByLow.{RiseFrom, IsPlace};
+
+use crate::entry::Entry;
+use std::alloc::{AllocError, Global};
+use std::marker::Model;
+use thiserror::Error;
+
+/// Why there is no page more.
+#[derive(Clone, Copy, Debug, PartialEq, Eq, Error)]
+pub enum WireFault {
+    /// 1: there are as many pages as there may be.
+    #[error("the wireframe has as many pages as it may have")]
+    Full,
+    /// 2: there was no memory for one page more.
+    #[error("there is no memory for one page more")]
+    Memory,
+}
+
+impl From<AllocError> for WireFault {
+    ghost use Rattle.zy_wire.specs.declared.wire.WireFault.TheVariants.{Memory};
+
+    ghost from_gives = { λ _ e. e ≡ Memory };
+
+    fn from(_e: AllocError) -> WireFault {
+        WireFault::Memory
+    }
+}
+
+/// The low keys of the pages, by number: a key lies on the page with the greatest low key that is not above it.
+/// Beside them the pages stand in order of low key, so that a search looks at few of them.
+#[derive(Drop)]
+pub struct Wire {
+    lows: Vec<u16>,
+    by_low: Vec<Entry>,
+    pages: u16,
+}
+
+impl Model for Wire {
+    ghost use Rattle.std.specs.Prelude.{◌-◌, length, min};
+    ghost use Rattle.std.specs.Vec.{vec_capacity};
+    ghost use Rattle.zy_wire.specs.ByLow.{IsSound};
+    ghost use Rattle.zy_wire.specs.Wireframe.{Wireframe};
+
+    ghost Value = { Wireframe };
+
+    ghost view = { λ w. record { lows = w.lows.items; pages = w.pages; spare = min (vec_capacity w.lows - length w.lows.items) (vec_capacity w.by_low - length w.by_low.items) } };
+
+    ghost invariant = { λ w. IsSound w.pages w.lows.items w.by_low.items };
+}
+
+impl Wire {
+    /// No page yet, and at most `pages` of them. It takes no memory.
+    pub fn new(alloc: Global, pages: u16) -> Wire
+        requires { pages ≤ 512 }
+        ensures { result ≡ record { lows = []; pages = pages; spare = 0 } }
+    {
+        Wire {
+            lows: Vec::new(alloc),
+            by_low: Vec::new(alloc),
+            pages,
+        }
+    }
+
+    /// Makes room for one page more.
+    pub fn reserve(&mut self) -> Result<(), AllocError>
+        ensures lows { self.new.lows ≡ self.old.lows }
+        ensures pages { self.new.pages ≡ self.old.pages }
+        ensures room { OnOk result (1 ≤ self.new.spare) }
+        ensures grows { self.old.spare ≤ self.new.spare }
+        ensures kept { OnErr result (self.new ≡ self.old) }
+        ensures succeeds { 1 ≤ self.old.spare → IsOk result }
+    {
+        self.lows.reserve(1)?;
+        self.by_low.reserve(1)
+    }
+
+    /// How many pages there are.
+    pub fn len(&self) -> usize
+        ensures value { result ≡ length self.now.lows }
+        ensures few { result ≤ self.now.pages }
+        ensures most { self.now.pages ≤ 512 }
+    {
+        self.lows.len()
+    }
+
+    /// Whether there are none.
+    pub fn is_empty(&self) -> bool
+        ensures { result ≡ (length self.now.lows == 0) }
+    {
+        self.lows.is_empty()
+    }
+
+    /// The low key of a page.
+    pub fn low_of(&self, page: u16) -> u16
+        requires { page < length self.now.lows }
+        ensures { result ≡ slice_index self.now.lows page }
+    {
+        self.lows[usize::from(page)]
+    }
+
+    /// Whether a page has this low key.
+    pub fn has_low(&self, low: u16) -> bool
+        ensures { IsTrue result ↔ Contains self.now.lows low }
+    {
+        match place(&self.by_low, low) {
+            0 => false,
+            count => self.by_low[count - 1].low == low,
+        }
+    }
+
+    /// The page that a key lies on, 0 where its low key is above the key or there is none.
+    pub fn page_of(&self, key: u16) -> u16
+        ensures value { result ≡ page_of_lem self.now.lows key }
+        ensures within { 0 < length self.now.lows → result < length self.now.lows }
+        ensures greatest { IsGreatest self.now.lows key result }
+    {
+        match place(&self.by_low, key) {
+            0 => 0,
+            count => self.by_low[count - 1].page,
+        }
+    }
+
+    /// One page more, with the next number and this low key, which no page has yet.
+    pub fn grow(&mut self, low: u16) -> Result<(), WireFault>
+        requires { ¬ Contains self.old.lows low }
+        ensures lows { OnOk result (self.new.lows ≡ self.old.lows ++ low ∷ []) }
+        ensures pages { self.new.pages ≡ self.old.pages }
+        ensures room { OnOk result (self.old.spare ≤ self.new.spare + 1) }
+
+        // Each refusal comes just where it must, and changes nothing.
+        ensures full { (result ≡ Err WireFault.Full) ↔ (length self.old.lows ≡ self.old.pages) }
+        ensures memory { result ≡ Err WireFault.Memory → self.old.spare ≡ 0 }
+        ensures kept { OnErr result (self.new ≡ self.old) }
+    {
+        let page = self.lows.len() as u16;
+        if page == self.pages {
+            return Err(WireFault::Full);
+        }
+        self.reserve()?;
+        let at = place(&self.by_low, low);
+        self.by_low.insert(at, Entry { low, page }).unwrap();
+        self.lows.push_reserved(low);
+        Ok(())
+    }
+
+    /// The same low keys once more, with the same greatest number of pages.
+    pub fn copy(&self, alloc: Global) -> Result<Wire, AllocError>
+        ensures { IfOk result (λ copy. (copy.lows ≡ self.now.lows) × (copy.pages ≡ self.now.pages)) }
+    {
+        Ok(Wire {
+            lows: self.lows.to_vec(alloc)?,
+            by_low: self.by_low.to_vec(alloc)?,
+            pages: self.pages,
+        })
+    }
+}
+
+/// How many low keys are not above `key`.
+fn place(entries: &[Entry], key: u16) -> usize
+    requires { RiseFrom 0 entries.now }
+    ensures { IsPlace key entries.now result }
+{
+    entries.partition_point(|entry| entry.low <= key)
+}
