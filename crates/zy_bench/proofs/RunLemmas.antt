@@ -53,3 +53,9 @@ pub front-of-told : (told : Option (List ℕ)) (bytes : List ℕ) (a b : Option 
 front-of-told None bytes a b scenario same right only w = tt
 front-of-told (Some t) bytes a b scenario same right only w = λ sc means.
     subst (λ x. WroteFront a b (listing_run x)) (only sc (no-fault (utf8_fault bytes) bytes right) (subst (λ x. Means x sc) (sym same) means)) w
+
+-- bytes that mean a scenario are not bytes that mean none
+pub silent-of-told : (told : Option (List ℕ)) (bytes : List ℕ) (a b : Option (List ℕ)) (scenario : Scenario)
+    → IfSome told (λ t. bytes ≡ t) → Means bytes scenario → IfSome told (λ t. ((sc : Scenario) → Means t sc → ⊥) → b ≡ a)
+silent-of-told None bytes a b scenario same means = tt
+silent-of-told (Some t) bytes a b scenario same means = λ none. absurd (none scenario (subst (λ x. Means x scenario) same means))

@@ -42,6 +42,9 @@ pub fn run_bytes<S: Source, K: Sink>(
         → IfSome (S.left source.old) (λ told. MAX_INPUT < length told) }
     // Before the input is read and accepted nothing is written.
     ensures quiet { IfErr result (λ f. IsQuiet f → K.written sink.new ≡ K.written sink.old) }
+    // Where the input means no scenario nothing is written, whatever the fault.
+    ensures silent { IfSome (S.left source.old) (λ told. ((sc : AScenario) → Means told sc → ⊥)
+        → K.written sink.new ≡ K.written sink.old) }
     // Each fault of the reader and of the writer is one failed call.
     ensures reads { S.failures source.new ≡ S.failures source.old + failed_reads result }
     ensures writes { K.failures sink.new ≡ K.failures sink.old + failed_writes result }
