@@ -15,10 +15,10 @@ use Rattle.zy_machine.specs.Play.{opening, play}
 use Rattle.zy_machine.specs.Rows.{put_rows}
 use Rattle.zy_machine.specs.Shelf.{page_in}
 use Rattle.zy_machine.specs.State.{State}
-use Rattle.zy_machine.specs.Wireframe.{page_of}
+use Rattle.zy_wire.specs.Wireframe.{page_of}
 use Rattle.zy_machine.proofs.Installing.{Placed, get_row-puts, none_else, or_else_none}
 use Rattle.zy_machine.proofs.LoneRuns.{or_else}
-use Rattle.zy_machine.proofs.PageOf.{page_of-within}
+use Rattle.zy_wire.proofs.PageOf.{page_of-within}
 use Rattle.zy_machine.proofs.PageValues.{rows_of-here, rows_of-past}
 use Rattle.zy_machine.proofs.Reached.{reached}
 use Rattle.zy_machine.proofs.ValueAtPage.{newest_lows, values_at_pages}
@@ -60,7 +60,7 @@ kept_played h is =
     let same = newest_lows sc s r.lows r.kept in
     record {
       placed = subst (λ lows. Placed lows (all_leaves s)) (sym same) r.kept.placed;
-      within = λ k. subst (λ lows. page_of lows k < length lows) (sym (same ∙ r.kept.first.1)) (page_of-within r.kept.first.0 k);
+      within = λ k. subst (λ lows. page_of lows k < length lows) (sym (same ∙ r.kept.first.1)) (page_of-within (0 ∷ r.kept.first.0) k (omega arith));
       values = values_at_pages sc is.tested cs;
     }
 

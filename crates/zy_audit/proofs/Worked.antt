@@ -11,7 +11,7 @@ use Rattle.zy_isa.specs.declared.instr.Instr.TheVariants.{Set, Read, Insert, Com
 use Rattle.zy_isa.specs.declared.choice.Choice.TheVariants.{Begin, Run}
 use Rattle.zy_isa.specs.Rows.{row}
 use Rattle.zy_isa.specs.Scenario.{Scenario}
-use Rattle.zy_machine.specs.Wireframe.{page_of}
+use Rattle.zy_wire.specs.Wireframe.{page_of}
 use Rattle.zy_machine.specs.Change.{txn_at, begun, aborted, did, locked, committed}
 use Rattle.zy_machine.specs.Client.{home_of, begin_at, begin_row, kill_row}
 use Rattle.zy_machine.specs.Run.{abort_row, set_row, jump_row, commit_row, read_row, write_row, full_row, insert_row, access_row, page_row, key_row, instr_row, run_row}

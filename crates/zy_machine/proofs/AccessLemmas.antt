@@ -7,7 +7,7 @@ use Rattle.std.proofs.lemmas.Bool.{ne_eqb, le-ltb}
 use Rattle.zy_isa.specs.declared.choice.Choice.{Choice}
 use Rattle.zy_isa.specs.Scenario.{Scenario, IsScenario}
 use Rattle.zy_machine.specs.State.{State}
-use Rattle.zy_machine.specs.Wireframe.{page_of}
+use Rattle.zy_wire.specs.Wireframe.{page_of}
 use Rattle.zy_machine.specs.Database.{database}
 use Rattle.zy_machine.specs.Play.{play, opening}
 use Rattle.zy_machine.proofs.Slots.{value-home}

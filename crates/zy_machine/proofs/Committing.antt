@@ -19,7 +19,7 @@ use Rattle.zy_machine.specs.Holders.{holds, holds_alone}
 use Rattle.zy_machine.specs.Run.{program_of}
 use Rattle.zy_machine.specs.Serial.{Alone, Registers, alone, alone_instr, alone_step, is_committed, serial}
 use Rattle.zy_machine.specs.State.{CommitRec, Committed, Lock, NodeState, Txn, View, other}
-use Rattle.zy_machine.specs.Wireframe.{page_of}
+use Rattle.zy_wire.specs.Wireframe.{page_of}
 use Rattle.zy_machine.proofs.Events.{Runs}
 use Rattle.zy_machine.proofs.Following.{Follows, Serially, active_not, registers_push, registers_same}
 use Rattle.zy_machine.proofs.Installing.{found, found-append, get-leaves, installed_none, installed_some, none_else, placed_front}

@@ -17,7 +17,7 @@ use Rattle.zy_locks.specs.Locks.{conflict, add_lock, drop_locks, stronger}
 use Rattle.zy_machine.specs.declared.outcome.Why.{Why}
 use Rattle.zy_machine.specs.declared.outcome.Why.TheVariants as why
 use Rattle.zy_machine.specs.State.{State, View, Move, Lock, Aborted, facing, with_me}
-use Rattle.zy_machine.specs.Wireframe.{page_of}
+use Rattle.zy_wire.specs.Wireframe.{page_of}
 use Rattle.zy_machine.specs.Pages.{rows_of}
 use Rattle.zy_machine.specs.Change.{begun, aborted, did, txn_at, locked, committed, reg, with_reg, with_txn, txn_or}
 use Rattle.zy_machine.specs.Client.{is_new, is_active, home_of, begin_row, begin_at, kill_row}

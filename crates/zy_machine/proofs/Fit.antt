@@ -12,7 +12,7 @@ use Rattle.zy_machine.specs.OneOwner.{times}
 use Rattle.zy_machine.specs.Pages.{rows_of}
 use Rattle.zy_machine.specs.Rows.{put_rows, rows_on}
 use Rattle.zy_machine.specs.State.{Leaf, NodeState, Txn, View, other}
-use Rattle.zy_machine.specs.Wireframe.{page_of}
+use Rattle.zy_wire.specs.Wireframe.{page_of}
 use Rattle.zy_machine.proofs.EachPage.{Each, each_both, each_map, each_own}
 use Rattle.zy_machine.proofs.Locking.{whole}
 use Rattle.zy_machine.proofs.Room.{installed_length, is_new_on, need, need_none, need_put, need_same, one_if}

@@ -18,7 +18,7 @@ use Rattle.zy_machine.specs.Pages.{rows_of}
 use Rattle.zy_machine.specs.Rows.{rows_on}
 use Rattle.zy_machine.specs.Run.{has_room, is_there}
 use Rattle.zy_machine.specs.State.{Aborted, Committed, Leaf, Txn, View}
-use Rattle.zy_machine.specs.Wireframe.{page_of}
+use Rattle.zy_wire.specs.Wireframe.{page_of}
 use Rattle.zy_machine.specs.declared.outcome.Why.{Why}
 use Rattle.zy_machine.proofs.EachPage.{Each, each_append, each_both, each_front, each_installed, each_map}
 use Rattle.zy_machine.proofs.Events.{Aborts, Adds, Begins, Commits, Event, Gets, Inserts, Jumps, Rests, Sets, Writes, has_lock, key, page, puts}

@@ -12,7 +12,7 @@ use Rattle.zy_machine.specs.Holders.{holds}
 use Rattle.zy_machine.specs.Run.{program_of}
 use Rattle.zy_machine.specs.Serial.{Registers, alone, is_committed, serial}
 use Rattle.zy_machine.specs.State.{Aborted, Active, CommitRec, Committed, Lock, New, Status, Txn, View, other}
-use Rattle.zy_machine.specs.Wireframe.{page_of}
+use Rattle.zy_wire.specs.Wireframe.{page_of}
 use Rattle.zy_machine.proofs.Locking.{Kept}
 use Rattle.zy_machine.proofs.LoneRuns.{has, lone}
 use Rattle.zy_machine.proofs.PageValues.{db}

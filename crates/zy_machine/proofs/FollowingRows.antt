@@ -22,7 +22,7 @@ use Rattle.zy_machine.specs.Play.{step}
 use Rattle.zy_machine.specs.Run.{is_there, program_of}
 use Rattle.zy_machine.specs.Serial.{serial}
 use Rattle.zy_machine.specs.State.{Aborted, Lock, NodeState, Txn, View, other}
-use Rattle.zy_machine.specs.Wireframe.{page_of}
+use Rattle.zy_wire.specs.Wireframe.{page_of}
 use Rattle.zy_machine.specs.declared.outcome.Why.{Why}
 use Rattle.zy_machine.proofs.Committing.{committed_serial}
 use Rattle.zy_machine.proofs.Events.{Aborts, Adds, Begins, Commits, Event, Gets, Inserts, Jumps, Rests, Runs, Sets, Writes, has_lock, key, value_at}

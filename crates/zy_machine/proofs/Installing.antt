@@ -11,7 +11,7 @@ use Rattle.zy_machine.specs.Database.{laid_leaves}
 use Rattle.zy_machine.specs.Pages.{owns}
 use Rattle.zy_machine.specs.Rows.{put_rows, rows_on}
 use Rattle.zy_machine.specs.State.{Leaf, other}
-use Rattle.zy_machine.specs.Wireframe.{page_of}
+use Rattle.zy_wire.specs.Wireframe.{page_of}
 use Rattle.zy_machine.proofs.LoneRuns.{get-laid, get_row-put, or_else, or_else_put}
 
 -- a page has its low key from the wireframe, and each of its rows lies there

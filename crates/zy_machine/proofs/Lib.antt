@@ -6,7 +6,6 @@ pub mod SafeCounts
 pub mod PageCounts
 pub mod Roles
 pub mod OneOwner
-pub mod PageOf
 pub mod LoneRuns
 pub mod Installing
 pub mod LockLists

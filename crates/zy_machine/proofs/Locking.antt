@@ -14,7 +14,7 @@ use Rattle.zy_machine.specs.Database.{newest, sent_leaves}
 use Rattle.zy_machine.specs.Holders.{holds, holds_alone}
 use Rattle.zy_machine.specs.Pages.{owns}
 use Rattle.zy_machine.specs.State.{Leaf, NodeState, Txn, View, other}
-use Rattle.zy_machine.specs.Wireframe.{page_of}
+use Rattle.zy_wire.specs.Wireframe.{page_of}
 use Rattle.zy_machine.specs.declared.modes.NodeMode.{NodeMode}
 use Rattle.zy_machine.specs.declared.modes.NodeMode.TheVariants.{Empty}
 use Rattle.zy_machine.proofs.Installing.{Placed}

@@ -1,5 +1,5 @@
 -- Each row of the table keeps locks, private rows and the places of rows.
-use Rattle.std.proofs.Common.{List, ap, false, inl, inr, length, refl, subst, sym, true, ℕ, ◌++◌, ◌+◌, ◌<◌, ◌∙◌, ◌∷◌, ◌≡◌}
+use Rattle.std.proofs.Common.{arith, List, ap, false, inl, inr, length, refl, subst, sym, true, ℕ, ◌++◌, ◌+◌, ◌<◌, ◌∙◌, ◌∷◌, ◌≡◌}
 use Rattle.std.specs.Prelude.{None, Some, is_some, ◌==◌, ◌⊎◌}
 use Rattle.std.proofs.lemmas.Bool.{cases_eq, cond_both, eqb-true, false≢true}
 use Rattle.zy_isa.specs.Rows.{get_row, put_row}
@@ -14,7 +14,7 @@ use Rattle.zy_machine.specs.Client.{home_of, is_new, runs_all}
 use Rattle.zy_machine.specs.Database.{sent_leaves}
 use Rattle.zy_machine.specs.Pages.{owns}
 use Rattle.zy_machine.specs.State.{Txn, View, other}
-use Rattle.zy_machine.specs.Wireframe.{page_of}
+use Rattle.zy_wire.specs.Wireframe.{page_of}
 use Rattle.zy_machine.specs.declared.modes.NodeMode.{NodeMode}
 use Rattle.zy_machine.specs.declared.modes.NodeMode.TheVariants.{Empty, Normal}
 use Rattle.zy_machine.specs.declared.outcome.Why.{Why}
@@ -23,7 +23,7 @@ use Rattle.zy_machine.proofs.Installing.{Placed, owns-installed, placed_installe
 use Rattle.zy_machine.proofs.Locking.{Kept, began, freed, is_idle, lock_taken, seen_other, seen_step, untouched}
 use Rattle.zy_machine.proofs.LoneRuns.{get_row-put}
 use Rattle.zy_machine.proofs.Roles.{Inv, all_owned, is_mode-true, is_whole}
-use Rattle.zy_machine.proofs.PageOf.{page_of-within}
+use Rattle.zy_wire.proofs.PageOf.{page_of-within}
 use Rattle.zy_machine.proofs.Txns.{IsAt, Stands, at_other, at_self, not_both_nodes, not_new}
 
 -- t does an instruction without a key
@@ -48,7 +48,7 @@ pub home_owns : (sc : Scenario) (n : Node) (v : View) (lows : List ℕ) (t k : �
 home_owns sc n v lows t k h at =
     let busy = h.mine.busy t at in
     let begins : v.me.lows ≡ 0 ∷ h.first.0 = h.mine.newest busy ∙ h.first.1 in
-    all_owned v h.inv (busy_whole v.me.mode busy) h.inv.roles (page_of v.me.lows k) (subst (λ l. page_of l k < length l) (sym begins) (page_of-within h.first.0 k))
+    all_owned v h.inv (busy_whole v.me.mode busy) h.inv.roles (page_of v.me.lows k) (subst (λ l. page_of l k < length l) (sym begins) (page_of-within (0 ∷ h.first.0) k (omega arith)))
 
 -- t does an instruction on a key, with the lock that it takes
 lock_kept : (sc : Scenario) (n : Node) (v : View) (lows : List ℕ) (t k : ℕ) (kind : LockKind) (pc : ℕ) (regs : List ℕ) (rows : List Row)

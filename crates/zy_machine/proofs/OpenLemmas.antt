@@ -1,15 +1,20 @@
 -- The opening layout, a page at a time.
-use Rattle.std.proofs.Common.{◌≡◌, ◌∙◌, ℕ, zero, suc, ◌+◌, ◌-◌, ◌<◌, ◌≤◌, ◌/◌, ◌++◌, List, [], ◌∷◌, length, length-append, append_assoc, length-drop, take, drop, None, Some, slice_get, if◌then◌else◌, ◌==◌, true, false, refl, sym, ap, arith}
-use Rattle.std.proofs.lemmas.Bool.{ne_eqb, le-ltb, false≢true}
+use Rattle.std.proofs.Common.{◌≡◌, ◌∙◌, ℕ, zero, suc, ◌+◌, ◌-◌, ◌<◌, ◌≤◌, ◌/◌, ◌++◌, List, [], ◌∷◌, length, length-append, append_assoc, length-drop, take, drop, None, Some, slice_get, inl, inr, if◌then◌else◌, ◌==◌, true, false, refl, sym, ap, arith}
+use Rattle.std.proofs.lemmas.Bool.{cond_both, ne_eqb, le-ltb, false≢true}
+use Rattle.std.specs.Prelude.{Contains, Option, slice_index_or}
+use Rattle.std.specs.Option.{option_map_or}
 use Rattle.std.proofs.lemmas.List.{length-map}
+use Rattle.std.proofs.lemmas.List.Elements.{Contains-append_cases}
 use native.Mathlib.Nat.{add-div_right, div-eq_of_lt}
 use Rattle.zy_isa.specs.declared.row.Row.{Row}
+use Rattle.zy_isa.specs.Rows.{Rising}
 use Rattle.zy_isa.specs.Scenario.{Scenario, IsScenario, opening_rows, opening_pages_for}
 use Rattle.zy_page.specs.Leaf.{Leaf}
 use Rattle.zy_machine.specs.State.{NodeState}
 use Rattle.zy_machine.specs.Shelf.{page_in, with_page}
 use Rattle.zy_machine.specs.Play.{opening_leaves, opening_pages}
-use Rattle.zy_machine.specs.Layout.{AreNumbered, pages_of, lows_of, with_leaves}
+use Rattle.zy_machine.proofs.RisingRows.{rises_drop, rises_weaker}
+use Rattle.zy_machine.specs.Layout.{AreNumbered, IsOver, pages_of, lows_of, with_leaves}
 
 -- ---- pages in order
 
@@ -103,6 +108,43 @@ fewer_pages (suc h) (r ∷ rows) first n all one e is =
     let more = lows_of (pages_of (suc h) i (r ∷ rows)) in
     let some : length more ≡ suc (length (lows_of (pages_of (suc h) (i + 1) (drop (suc h) (r ∷ rows))))) = ap {B = ℕ} (λ xs. length (lows_of xs)) (pages_next h i r rows) in
     omega (arith, length-append n.lows more, some, ap {B = ℕ} (λ (x : NodeState). length x.lows) is)
+
+-- ---- low keys that are not there yet
+
+pub no_elements : {X : Type 0} (x : X) → Contains [] x → ⊥
+no_elements x there = let k = there.0 in let below : k < 0 = there.1 in omega arith
+
+pub IsOver-none : (rows : List Row) → IsOver [] rows
+IsOver-none rows = λ low there. absurd (no_elements low there)
+
+only_at : (low other k : ℕ) → k < 1 → slice_index_or (low ∷ []) k other ≡ other → other ≡ low
+only_at low other zero lt e = sym e
+only_at low other (suc k) lt e = absurd (omega arith)
+
+-- the low key of the next page is another one
+pub next_other : (lows : List ℕ) (left : List Row) (first : Row) (low : ℕ) → IsOver lows left → Some first ≡ slice_get left 0 → low ≡ (if length lows == 0 then 0 else first.key) → Contains lows low → ⊥
+next_other [] left first low over e is there = no_elements low there
+next_other (x ∷ lows) [] first low over e is there = (cc)
+next_other (x ∷ lows) (r ∷ rows) first low over e is there =
+    let same : first.key ≡ r.key = ap (λ (o : Option Row). option_map_or (λ (q : Row). q.key) o 0) e in
+    let key : low ≡ first.key = is ∙ ap (λ b. if b then 0 else first.key) (ne_eqb (length (x ∷ lows)) 0 (λ z. absurd (omega arith))) in
+    let above = (over low there).0 in
+    omega (arith, above, key, same)
+
+-- the rows that are left are over it too
+pub over_next : (lows : List ℕ) (share : ℕ) (left : List Row) (first : Row) (low : ℕ) → 1 ≤ share → Rising 0 left → IsOver lows left → Some first ≡ slice_get left 0 → low ≡ (if length lows == 0 then 0 else first.key)
+    → IsOver (lows ++ low ∷ []) (drop share left)
+over_next lows zero left first low one rise over e is = absurd (omega arith)
+over_next lows (suc h) [] first low one rise over e is = absurd (cc)
+over_next lows (suc h) (r ∷ rows) first low one rise over e is = λ other there.
+    elim (Contains-append_cases lows (low ∷ []) other there) [
+      | inl before ↦ rises_drop (other + 1) (suc h) (r ∷ rows) (over other before)
+      | inr last ↦
+          let same : first.key ≡ r.key = ap (λ (o : Option Row). option_map_or (λ (q : Row). q.key) o 0) e in
+          let most : low ≤ first.key = cond_both (length lows == 0) 0 first.key (λ z. low ≡ z → low ≤ first.key) (λ _ k. omega (arith, k)) (λ _ k. omega (arith, k)) is in
+          let it : other ≡ low = only_at low other last.0 last.1 last.2 in
+          rises_drop (other + 1) h rows (rises_weaker (r.key + 1) (other + 1) rows (omega (arith, same, most, it)) rise.1)
+    ]
 
 -- ---- the whole layout
 

@@ -1,8 +1,9 @@
 -- The opening rows lie on their pages, and are the opening database.
-use Rattle.std.proofs.Common.{List, [], ap, append-nil, append_assoc, arith, false, length, length-append, refl, subst, suc, sym, true, zero, ℕ, ◌++◌, ◌+◌, ◌∙◌, ◌∷◌, ◌≡◌, ◌≤◌}
-use Rattle.std.specs.Prelude.{Some, drop, if◌then◌else◌, is_some, nat_le, slice_get, take, ◌&&◌, ◌==◌}
+use Rattle.std.proofs.Common.{List, [], ap, append-nil, append_assoc, arith, false, length, length-append, get_or, inl, inr, refl, subst, suc, sym, true, zero, ℕ, ◌++◌, ◌+◌, ◌-◌, ◌<◌, ◌∙◌, ◌∷◌, ◌≡◌, ◌≤◌}
+use Rattle.std.specs.Prelude.{Some, drop, if◌then◌else◌, is_some, slice_get, take, ◌==◌}
 use Rattle.std.specs.FinMap.{empty, insert}
-use Rattle.std.proofs.lemmas.Bool.{and_from, and_left, false≢true, le-leb, lt-leb, ne_eqb}
+use Rattle.std.proofs.lemmas.Bool.{cases_lt, false≢true, ne_eqb}
+use Rattle.std.proofs.lemmas.List.{get_or_append_left, get_or-append_right, get_or_at}
 use Rattle.zy_isa.specs.Rows.{Rising, get_row}
 use Rattle.zy_isa.specs.Scenario.{IsScenario, Scenario, opening_rows}
 use Rattle.zy_isa.specs.declared.row.Row.{Row}
@@ -10,98 +11,85 @@ use Rattle.zy_machine.specs.Database.{Map, database, laid, laid_leaves}
 use Rattle.zy_machine.specs.Play.{opening, opening_leaves, opening_pages}
 use Rattle.zy_machine.specs.State.{Leaf}
 use Rattle.zy_machine.specs.Layout.{lows_of}
-use Rattle.zy_machine.specs.Wireframe.{page_of, scan_lows}
+use Rattle.zy_wire.specs.Wireframe.{page_of}
 use Rattle.zy_machine.proofs.Installing.{Placed}
 use Rattle.zy_machine.proofs.RisingRows.{rises_after, rises_drop, rises_key, rises_take, rises_weaker}
-use Rattle.zy_machine.proofs.PageOf.{scan_first}
+use Rattle.zy_wire.proofs.PageOf.{page_of-is}
 use Rattle.zy_machine.proofs.OpenLemmas.{drop_less}
 
--- a key below the pages that follow is not on them
+-- ---- the page of a key
+
 page_low : (i key : ℕ) → 1 ≤ i → (if i == 0 then 0 else key) ≡ key
 page_low i key h = ap (λ b. if b then 0 else key) (ne_eqb i 0 (λ e. absurd (omega arith)))
 
-scan_below : (fuel n i : ℕ) (rows : List Row) (k j best found : ℕ) → 1 ≤ i → Rising (k + 1) rows
-    → scan_lows (lows_of (opening_pages fuel n i rows)) k j best found ≡ found
-scan_below zero n i rows k j best found h r = refl
-scan_below (suc fuel) n i [] k j best found h r = refl
-scan_below (suc fuel) n i (x ∷ rows) k j best found h r =
-    let low = if i == 0 then 0 else x.key in
-    let above = r.0 in
-    let off : (nat_le low k && nat_le best low) ≡ false = and_left _ _ (ap (λ z. nat_le z k) (page_low i x.key h) ∙ lt-leb x.key k (omega arith)) in
-    let rest = lows_of (opening_pages fuel n (i + 1) (drop n (x ∷ rows))) in
-    ap (λ b. if b then scan_lows rest k (j + 1) low j else scan_lows rest k (j + 1) best found) off
-    ∙ scan_below fuel n (i + 1) (drop n (x ∷ rows)) k (j + 1) best found (omega arith) (rises_drop (k + 1) n (x ∷ rows) r)
+at_most : (low : ℕ) (behind : List ℕ) (k m : ℕ) → ((q : ℕ) → q < length behind → k < get_or behind q 0) → m < suc (length behind) → get_or (low ∷ behind) m 0 ≤ k → get_or (low ∷ behind) m 0 ≤ low
+at_most low behind k zero after lt le = omega arith
+at_most low behind k (suc m) after lt le = absurd (let up = after m (omega arith) in omega arith)
 
--- each key of a page is found there by f, and is at least this
-abbrev Scanned : (ℕ → ℕ) → ℕ → List Leaf → Type 0
-Scanned f low [] = Unit {0}
-Scanned f low (x ∷ xs) = ((k : ℕ) → is_some (get_row x.rows k) ≡ true → (f k ≡ x.number) × (low ≤ k)) × Scanned f low xs
+-- a key from this low key on, and below those of the pages behind it, lies on its page
+page_between : (front : List ℕ) (low : ℕ) (behind : List ℕ) (k : ℕ) → low ≤ k → ((q : ℕ) → q < length front → get_or front q 0 < low) → ((q : ℕ) → q < length behind → k < get_or behind q 0)
+    → page_of (front ++ low ∷ behind) k ≡ length front
+page_between front low behind k le before after =
+    let lows = front ++ low ∷ behind in
+    let i = length front in
+    let here : get_or lows i 0 ≡ low = get_or_at front low behind 0 i refl in
+    let long : length lows ≡ i + suc (length behind) = length-append front (low ∷ behind) in
+    page_of-is lows k i (omega arith) (omega arith)
+    (λ q lt below. elim (cases_lt q i) [
+      | inl less ↦ (let e = get_or_append_left front (low ∷ behind) 0 q less in let b = before q less in omega arith)
+      | inr more ↦ (
+          let e = get_or-append_right front (low ∷ behind) i q 0 refl more in
+          let b = at_most low behind k (q - i) after (omega arith) (omega arith) in
+          omega arith)
+    ])
+    (λ q less same. let e = get_or_append_left front (low ∷ behind) 0 q less in let b = before q less in omega arith)
 
-scanned_map : (f g : ℕ → ℕ) (low less : ℕ) (xs : List Leaf) → less ≤ low → ((k : ℕ) → low ≤ k → g k ≡ f k) → Scanned f low xs → Scanned g less xs
-scanned_map f g low less [] le same h = tt
-scanned_map f g low less (x ∷ xs) le same h = ((λ k s. let a = h.0 k s in (same k a.1 ∙ a.0, (let b = a.1 in omega arith))), scanned_map f g low less xs le same h.1)
-
-scanned : (fuel n i : ℕ) (rows : List Row) (best found low : ℕ) → 1 ≤ i → best ≤ low → Rising low rows
-    → Scanned (λ k. scan_lows (lows_of (opening_pages fuel (suc n) i rows)) k i best found) low (opening_pages fuel (suc n) i rows)
-scanned zero n i rows best found low one le r = tt
-scanned (suc fuel) n i [] best found low one le r = tt
-scanned (suc fuel) n i (x ∷ rows) best found low one le r =
-    let first = if i == 0 then 0 else x.key in
-    let is : first ≡ x.key = page_low i x.key one in
-    let after = drop n rows in
-    let rest = lows_of (opening_pages fuel (suc n) (i + 1) after) in
-    let above = r.0 in
-    let on : (k : ℕ) → x.key ≤ k → (nat_le first k && nat_le best first) ≡ true = λ k h. and_from _ _ (ap (λ z. nat_le z k) is ∙ le-leb x.key k h) (ap (nat_le best) is ∙ le-leb best x.key (omega arith)) in
-    let goes : (k : ℕ) → x.key ≤ k → (if nat_le first k && nat_le best first then scan_lows rest k (i + 1) first i else scan_lows rest k (i + 1) best found) ≡ scan_lows rest k (i + 1) first i =
-    λ k h. ap (λ b. if b then scan_lows rest k (i + 1) first i else scan_lows rest k (i + 1) best found) (on k h) in
-    let more : Scanned (λ k. scan_lows rest k (i + 1) first i) (x.key + 1) (opening_pages fuel (suc n) (i + 1) after) =
-    scanned fuel n (i + 1) after first i (x.key + 1) (omega arith) (subst (λ z. z ≤ x.key + 1) (sym is) (omega arith)) (rises_drop (x.key + 1) n rows r.1) in (
-      (λ k s.
-          let here : x.key ≤ k = rises_key x.key (take (suc n) (x ∷ rows)) k (rises_take x.key (suc n) (x ∷ rows) ((omega arith), r.1)) s in
-          (goes k here ∙ scan_below fuel (suc n) (i + 1) after k (i + 1) first i (omega arith) (rises_after low (suc n) (x ∷ rows) k r s), (omega arith))),
-      scanned_map _ _ (x.key + 1) low (opening_pages fuel (suc n) (i + 1) after) (omega arith) (λ k h. goes k (omega arith)) more,
-    )
-
--- each page has its low key from the list
-abbrev Indexed : List ℕ → List Leaf → Type 0
-Indexed lows [] = Unit {0}
-Indexed lows (x ∷ xs) = (slice_get lows x.number ≡ Some x.low) × Indexed lows xs
+-- the low keys of the pages of rows above a key are above it
+lows_above : (fuel n i : ℕ) (rows : List Row) (k : ℕ) → 1 ≤ i → Rising (k + 1) rows → (q : ℕ) → q < length (lows_of (opening_pages fuel n i rows)) → k < get_or (lows_of (opening_pages fuel n i rows)) q 0
+lows_above zero n i rows k one rise q lt = absurd (omega arith)
+lows_above (suc fuel) n i [] k one rise q lt = absurd (omega arith)
+lows_above (suc fuel) n i (r ∷ rows) k one rise zero lt = let above = rise.0 in let e = page_low i r.key one in omega arith
+lows_above (suc fuel) n i (r ∷ rows) k one rise (suc q) lt = lows_above fuel n (i + 1) (drop n (r ∷ rows)) k (omega arith) (rises_drop (k + 1) n (r ∷ rows) rise) q (omega arith)
 
 get_at : (xs : List ℕ) (y : ℕ) (ys : List ℕ) → slice_get (xs ++ (y ∷ ys)) (length xs) ≡ Some y
 get_at [] y ys = refl
 get_at (x ∷ xs) y ys = get_at xs y ys
 
-indexed : (fuel n i : ℕ) (rows : List Row) (front : List ℕ) → length front ≡ i
-    → Indexed (front ++ lows_of (opening_pages fuel n i rows)) (opening_pages fuel n i rows)
-indexed zero n i rows front e = tt
-indexed (suc fuel) n i [] front e = tt
-indexed (suc fuel) n i (r ∷ rows) front e =
+placed_pages : (fuel n i : ℕ) (rows : List Row) (front : List ℕ) (least : ℕ) → length front ≡ i → 1 ≤ i → Rising least rows → ((q : ℕ) → q < i → get_or front q 0 < least)
+    → Placed (front ++ lows_of (opening_pages fuel (suc n) i rows)) (opening_pages fuel (suc n) i rows)
+placed_pages zero n i rows front least e one rise before = tt
+placed_pages (suc fuel) n i [] front least e one rise before = tt
+placed_pages (suc fuel) n i (r ∷ rows) front least e one rise before =
     let low = if i == 0 then 0 else r.key in
-    let pages = opening_pages fuel n (i + 1) (drop n (r ∷ rows)) in
+    let is : low ≡ r.key = page_low i r.key one in
+    let up = rise.0 in
+    let pages = opening_pages fuel (suc n) (i + 1) (drop n rows) in
     let longer : length (front ++ low ∷ []) ≡ i + 1 = length-append front (low ∷ []) ∙ ap {B = ℕ} (λ z. z + 1) e in (
-      ap (slice_get (front ++ (low ∷ lows_of pages))) (sym e) ∙ get_at front low (lows_of pages),
-      subst (λ l. Indexed l pages) (append_assoc front (low ∷ []) (lows_of pages)) (indexed fuel n (i + 1) (drop n (r ∷ rows)) (front ++ low ∷ []) longer),
+      record {
+        low = ap (slice_get (front ++ (low ∷ lows_of pages))) (sym e) ∙ get_at front low (lows_of pages);
+        each = λ k s.
+            let here : r.key ≤ k = rises_key r.key (take (suc n) (r ∷ rows)) k (rises_take r.key (suc n) (r ∷ rows) ((omega arith), rise.1)) s in
+            page_between front low (lows_of pages) k (omega arith) (λ q lt. let b = before q (omega arith) in omega arith) (lows_above fuel (suc n) (i + 1) (drop n rows) k (omega arith) (rises_after least (suc n) (r ∷ rows) k rise s)) ∙ e;
+      },
+      subst (λ l. Placed l pages) (append_assoc front (low ∷ []) (lows_of pages)) (placed_pages fuel n (i + 1) (drop n rows) (front ++ low ∷ []) (r.key + 1) longer (omega arith) (rises_drop (r.key + 1) n rows rise.1)
+          (λ q lt. elim (cases_lt q i) [
+            | inl less ↦ (let g = get_or_append_left front (low ∷ []) 0 q (omega arith) in let b = before q less in omega arith)
+            | inr more ↦ (let g = get_or_at front low [] 0 q (omega arith) in omega arith)
+          ])),
     )
-
-placed_of : (lows : List ℕ) (low : ℕ) (xs : List Leaf) → Scanned (page_of lows) low xs → Indexed lows xs → Placed lows xs
-placed_of lows low [] a b = tt
-placed_of lows low (x ∷ xs) a b = (record { low = b.0; each = λ k s. (a.0 k s).0 }, placed_of lows low xs a.1 b.1)
 
 opening_placed : (n : ℕ) (rows : List Row) → Rising 0 rows → Placed (lows_of (opening_leaves (suc n) rows)) (opening_leaves (suc n) rows)
 unfolding opening_leaves
 opening_placed n [] h = (record { low = refl; each = λ k s. absurd (false≢true s) }, tt)
 opening_placed n (r ∷ rows) h =
     let after = drop n rows in
-    let pages = opening_pages (length rows) (suc n) 1 after in
-    let lows = lows_of pages in
-    let leaf : Leaf = record { number = 0; low = 0; rows = take (suc n) (r ∷ rows) } in
-    let first : Scanned (page_of (0 ∷ lows)) 0 (leaf ∷ pages) = (
-      (λ k s. (scan_first lows k ∙ scan_below (length rows) (suc n) 1 after k 1 0 0 (omega arith) (rises_after 0 (suc n) (r ∷ rows) k h s), (omega arith))),
-      scanned_map (λ k. scan_lows lows k 1 0 0) (page_of (0 ∷ lows)) 0 0 pages (omega arith) (λ k _. scan_first lows k)
-          (scanned (length rows) n 1 after 0 0 0 (omega arith) (omega arith) (rises_drop 0 n rows (rises_weaker (r.key + 1) 0 rows (omega arith) h.1))),
-    ) in
-    let places : Indexed (0 ∷ lows) (leaf ∷ pages) = (refl, indexed (length rows) (suc n) 1 after (0 ∷ []) refl) in
-    placed_of (0 ∷ lows) 0 (leaf ∷ pages) first places
+    let lows = lows_of (opening_pages (length rows) (suc n) 1 after) in (
+      record {
+        low = refl;
+        each = λ k s. page_between [] 0 lows k (omega arith) (λ q lt. absurd (omega arith)) (lows_above (length rows) (suc n) 1 after k (omega arith) (rises_after 0 (suc n) (r ∷ rows) k h s));
+      },
+      placed_pages (length rows) n 1 after (0 ∷ []) (r.key + 1) refl (omega arith) (rises_drop (r.key + 1) n rows h.1) (λ q lt. let e : q ≡ 0 = omega arith in rw e (omega arith)),
+    )
 
 half_of : (h : ℕ) → 1 ≤ h → (n : ℕ) × (h ≡ suc n)
 half_of zero e = absurd (omega arith)

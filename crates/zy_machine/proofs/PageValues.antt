@@ -9,7 +9,7 @@ use Rattle.zy_machine.specs.Database.{Map, laid_leaves, sent_leaves}
 use Rattle.zy_machine.specs.OneOwner.{times}
 use Rattle.zy_machine.specs.Pages.{leaf_at, owns, rows_of}
 use Rattle.zy_machine.specs.State.{Leaf, View}
-use Rattle.zy_machine.specs.Wireframe.{page_of}
+use Rattle.zy_wire.specs.Wireframe.{page_of}
 use Rattle.zy_machine.proofs.Installing.{Placed, found, found-append, get-leaves, none_else, not_found, or_else_none, placed_front}
 use Rattle.zy_machine.proofs.Locking.{whole}
 use Rattle.zy_machine.proofs.LoneRuns.{or_else}

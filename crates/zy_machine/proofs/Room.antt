@@ -5,7 +5,7 @@ use Rattle.std.proofs.lemmas.Bool.{cases_Bool, cond_both, eq-eqb, eqb-false, eqb
 use Rattle.zy_isa.specs.Rows.{Rising, get_row, put_row, row}
 use Rattle.zy_isa.specs.declared.row.Row.{Row}
 use Rattle.zy_machine.specs.Rows.{put_rows, rows_not_in, rows_on}
-use Rattle.zy_machine.specs.Wireframe.{page_of}
+use Rattle.zy_wire.specs.Wireframe.{page_of}
 use Rattle.zy_machine.proofs.Installing.{get_row-puts}
 use Rattle.zy_machine.proofs.LoneRuns.{or_else}
 use Rattle.zy_machine.proofs.RisingRows.{rises_key, rises_puts}

@@ -16,7 +16,7 @@ use Rattle.zy_machine.specs.Play.{move, opening, play, side_of, step}
 use Rattle.zy_machine.specs.Run.{program_of}
 use Rattle.zy_machine.specs.Serial.{Registers, Serializable, serial}
 use Rattle.zy_machine.specs.State.{Leaf, State, View, facing, other, seen_from}
-use Rattle.zy_machine.specs.Wireframe.{page_of}
+use Rattle.zy_wire.specs.Wireframe.{page_of}
 use Rattle.zy_machine.proofs.Events.{step_happens}
 use Rattle.zy_machine.proofs.Following.{Serially, follows_same, registers_same}
 use Rattle.zy_machine.proofs.Installing.{Placed, found, found-append, get-leaves, not_found, placed_front}

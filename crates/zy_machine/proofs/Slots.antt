@@ -11,7 +11,7 @@ use Rattle.zy_machine.specs.Database.{all_leaves, database, newest, sent_leaves}
 use Rattle.zy_machine.specs.Pages.{leaf_at, owns, rows_of}
 use Rattle.zy_machine.specs.Play.{opening, play}
 use Rattle.zy_machine.specs.State.{Leaf, NodeState, State}
-use Rattle.zy_machine.specs.Wireframe.{page_of}
+use Rattle.zy_wire.specs.Wireframe.{page_of}
 use Rattle.zy_machine.proofs.AtHome.{at_home}
 use Rattle.zy_machine.proofs.ValueAtPage.{each_key_has_page, values_at_pages}
 

@@ -11,7 +11,7 @@ use Rattle.zy_machine.specs.State.{State, Txn, Active, Aborted, Committed, Commi
 use Rattle.zy_machine.specs.Change.{txn_at, txn_or, begun, aborted, did, locked, committed, unlocked, with_installed, installed}
 use Rattle.zy_machine.specs.Pages.{rows_of, leaf_at}
 use Rattle.zy_machine.specs.Shelf.{Shelf, page_in, with_row}
-use Rattle.zy_machine.specs.Wireframe.{page_of}
+use Rattle.zy_wire.specs.Wireframe.{page_of}
 use Rattle.zy_machine.specs.Rows.{put_rows, rows_on}
 use Rattle.zy_machine.specs.Install.{HasRoomFor}
 use Rattle.zy_machine.specs.declared.store.Store.{Store}
@@ -156,12 +156,12 @@ installed-txns A t s s1 e = ap (λ (x : State). x.txns) e
 installed-txns B t s s1 e = ap (λ (x : State). x.txns) e
 
 -- rows installed at A, and at B
-pub install-a : (t : ℕ) (old : Store) (shelf : Shelf) (rows : List Row) → rows ≡ (txn_or (slice_get old.txns.items t)).rows → shelf ≡ (let p = old.a.pages in record p { pages = installed old.a.wire rows old.a.pages.pages })
+pub install-a : (t : ℕ) (old : Store) (shelf : Shelf) (rows : List Row) → rows ≡ (txn_or (slice_get old.txns.items t)).rows → shelf ≡ (let p = old.a.pages in record p { pages = installed old.a.wire.lows rows old.a.pages.pages })
     → let x = old.a in let s = facing A (shown old) in shown (record old { a = record x { pages = shelf } }) ≡ seen_from A (with_me (with_installed (txn_at s t).rows s.me) s)
 unfolding txn_at
 install-a t old shelf rows e h = rw (h, e) refl
 
-pub install-b : (t : ℕ) (old : Store) (shelf : Shelf) (rows : List Row) → rows ≡ (txn_or (slice_get old.txns.items t)).rows → shelf ≡ (let p = old.b.pages in record p { pages = installed old.b.wire rows old.b.pages.pages })
+pub install-b : (t : ℕ) (old : Store) (shelf : Shelf) (rows : List Row) → rows ≡ (txn_or (slice_get old.txns.items t)).rows → shelf ≡ (let p = old.b.pages in record p { pages = installed old.b.wire.lows rows old.b.pages.pages })
     → let x = old.b in let s = facing B (shown old) in shown (record old { b = record x { pages = shelf } }) ≡ seen_from B (with_me (with_installed (txn_at s t).rows s.me) s)
 unfolding txn_at
 install-b t old shelf rows e h = rw (h, e) refl

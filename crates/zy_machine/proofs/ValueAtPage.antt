@@ -13,14 +13,14 @@ use Rattle.zy_machine.specs.OneOwner.{times}
 use Rattle.zy_machine.specs.Pages.{owns, rows_of}
 use Rattle.zy_machine.specs.Play.{opening, play}
 use Rattle.zy_machine.specs.State.{Leaf, State, View, facing}
-use Rattle.zy_machine.specs.Wireframe.{page_of}
+use Rattle.zy_wire.specs.Wireframe.{page_of}
 use Rattle.zy_machine.proofs.Installing.{Placed, get-leaves}
 use Rattle.zy_machine.proofs.Locking.{Kept, is_idle, whole}
 use Rattle.zy_machine.proofs.PageCounts.{owns_from, times-append, times-sent_leaves}
 use Rattle.zy_machine.proofs.Reached.{reached}
 use Rattle.zy_machine.proofs.PageValues.{db, found_once, rest_of}
 use Rattle.zy_machine.proofs.Roles.{Destination, Owned, Resting, Roles, Source, width}
-use Rattle.zy_machine.proofs.PageOf.{page_of-within}
+use Rattle.zy_wire.proofs.PageOf.{page_of-within}
 
 -- where the newest low keys are
 newest_is : (v : View) (lows more : List ℕ) → lows ≡ 0 ∷ more → Roles v → (is_idle v.me.mode ≡ false → v.me.lows ≡ lows)
@@ -63,7 +63,7 @@ values_at_pages sc ok cs k =
 page_there : (v : View) (lows more : List ℕ) (k : ℕ) → lows ≡ 0 ∷ more → Owned v → length lows ≤ width v → owns (whole v) (page_of lows k) ≡ true
 page_there v lows more k first o wide =
     let p = page_of lows k in
-    let below : p < length lows = subst (λ l. page_of l k < length l) (sym first) (page_of-within more k) in
+    let below : p < length lows = subst (λ l. page_of l k < length l) (sym first) (page_of-within (0 ∷ more) k (omega arith)) in
     let once = o.once p in
     let a = times-append p v.me.pages (rest_of v) in
     let b = times-append p v.them.pages (sent_leaves v.inbox ++ sent_leaves v.outbox) in

@@ -6,7 +6,7 @@ use Rattle.zy_isa.specs.declared.row.Row.{Row}
 use Rattle.zy_isa.specs.Rows.{get_row}
 use Rattle.zy_machine.specs.State.{State, Leaf, Message}
 use Rattle.zy_machine.specs.Links.{Wire, Ready, Dual, Pull, Page, Finish, Done}
-use Rattle.zy_machine.specs.Wireframe.{page_of}
+use Rattle.zy_wire.specs.Wireframe.{page_of}
 use Rattle.zy_machine.specs.Pages.{owns, rows_of}
 
 abbrev pub Map : Type 0

@@ -1,6 +1,7 @@
 -- Pages laid out in order of their numbers.
-use Rattle.std.specs.Prelude.{◌≡◌, ◌++◌, ℕ, suc, List, [], ◌∷◌, length, map}
+use Rattle.std.specs.Prelude.{◌≡◌, ◌++◌, ℕ, suc, List, [], ◌∷◌, ◌+◌, Contains, length, map}
 use Rattle.zy_isa.specs.declared.row.Row.{Row}
+use Rattle.zy_isa.specs.Rows.{Rising}
 use Rattle.zy_page.specs.Leaf.{Leaf}
 use Rattle.zy_machine.specs.State.{NodeState}
 use Rattle.zy_machine.specs.Play.{opening_pages}
@@ -12,6 +13,10 @@ AreNumbered n (x ∷ xs) = (x.number ≡ n) × AreNumbered (suc n) xs
 
 abbrev pub lows_of : List Leaf → List ℕ
 lows_of xs = map (λ (x : Leaf). x.low) xs
+
+-- each of these rows has a key above each of these low keys
+abbrev pub IsOver : List ℕ → List Row → Type 0
+IsOver lows rows = (low : ℕ) → Contains lows low → Rising (low + 1) rows
 
 -- a node with these pages more, and their low keys
 abbrev pub with_leaves : List Leaf → NodeState → NodeState

@@ -1,6 +1,5 @@
 pub mod Links
 pub mod State
-pub mod Wireframe
 pub mod Pages
 pub mod Rows
 pub mod Change

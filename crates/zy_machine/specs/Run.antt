@@ -17,7 +17,7 @@ use Rattle.zy_machine.specs.declared.outcome.Why.{Why}
 use Rattle.zy_machine.specs.declared.outcome.Why.TheVariants as why
 use Rattle.zy_machine.specs.declared.outcome.Outcome.TheVariants as outcome
 use Rattle.zy_machine.specs.State.{View, Move}
-use Rattle.zy_machine.specs.Wireframe.{page_of}
+use Rattle.zy_wire.specs.Wireframe.{page_of}
 use Rattle.zy_machine.specs.Pages.{rows_of}
 use Rattle.zy_machine.specs.Rows.{rows_on, rows_not_in}
 use Rattle.zy_machine.specs.Change.{quiet, reg, with_reg, txn_at, aborted, did, locked, committed}

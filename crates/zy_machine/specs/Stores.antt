@@ -15,7 +15,7 @@ use Rattle.zy_machine.specs.declared.answer.Answer.{Answer}
 use Rattle.zy_isa.specs.declared.choice.Choice.{Choice}
 use Rattle.zy_isa.specs.declared.choice.Choice.TheVariants.{Begin, Kill, Run}
 use Rattle.zy_machine.specs.State.{State, NodeState, Move, Step, facing, seen_from}
-use Rattle.zy_machine.specs.Wireframe.{page_of}
+use Rattle.zy_wire.specs.Wireframe.{page_of}
 use Rattle.zy_machine.specs.Shelf.{page_in}
 use Rattle.zy_machine.specs.Change.{txn_or, locked, installed}
 use Rattle.zy_machine.specs.Client.{is_active}
@@ -23,7 +23,7 @@ use Rattle.zy_machine.specs.Run.{program_of}
 use Rattle.zy_machine.specs.Install.{HasRoomFor}
 
 abbrev pub node_shown : NodeStore → NodeState
-node_shown x = record { mode = x.mode; lows = x.wire; pages = x.pages.pages; asked = []; locks = x.locks.locks }
+node_shown x = record { mode = x.mode; lows = x.wire.lows; pages = x.pages.pages; asked = []; locks = x.locks.locks }
 
 abbrev pub shown : Store → State
 shown s = record { a = node_shown s.a; b = node_shown s.b; ab = []; ba = []; txns = s.txns.items; commits = s.commits.items }

@@ -19,4 +19,3 @@ mod store;
 #[cfg(test)]
 mod tests;
 pub mod txn;
-mod wire;

@@ -1,24 +1,24 @@
 //! The opening layout.
-ghost use Rattle.std.specs.Prelude.{◌≡◌, ◌<◌, ◌≤◌, ◌+◌, ◌==◌, if◌then◌else◌, [], ◌∷◌, IfOk, OnOk, length, map};
+ghost use Rattle.std.specs.Prelude.{◌≡◌, ◌<◌, ◌≤◌, ◌+◌, ◌==◌, if◌then◌else◌, [], ◌∷◌, IfOk, OnOk, Contains, length, map};
 ghost use Rattle.zy_isa.specs.Rows.{Rising};
 ghost use Rattle.zy_isa.specs.Scenario.{opening_rows as opening_rows_lem};
 ghost use Rattle.zy_machine.specs.declared.modes.NodeMode.TheVariants.{Normal};
 ghost use Rattle.zy_machine.specs.Change.{nobody};
 ghost use Rattle.zy_machine.specs.Play.{opening, opening_leaves, home_with, blank, bare_node};
-ghost use Rattle.zy_machine.specs.Layout.{AreNumbered, pages_of, with_leaves};
+ghost use Rattle.zy_machine.specs.Layout.{AreNumbered, IsOver, pages_of, with_leaves};
 ghost use Rattle.zy_machine.specs.Stores.{shown, node_shown};
 
 use crate::modes::NodeMode;
 use crate::page_store::PageStore;
 use crate::store::{NodeStore, Store};
 use crate::txn::Txn;
-use crate::wire::Wire;
 use std::alloc::{AllocError, Global};
 use zy_isa::program::Program;
 use zy_isa::row::Row;
 use zy_isa::scenario::{Scenario, opening_rows};
 use zy_locks::locks::Locks;
 use zy_page::page::Page;
+use zy_wire::wire::Wire;
 
 impl Store {
     #[tactic(auto, unfolding(crate::specs::Play::opening))]
@@ -59,10 +59,11 @@ impl NodeStore {
         requires few { share ≤ 16 }
         requires rise { Rising 0 rows.now }
         requires numbered { AreNumbered 0 self.old.pages.pages }
-        requires all { length self.old.wire ≡ length self.old.pages.pages }
-        requires room { length self.old.wire + length (pages_of share (length self.old.wire) rows.now) ≤ self.old.pages.width }
-        requires width { self.old.pages.width ≤ 512 }
-        ensures { OnOk result (node_shown self.new ≡ with_leaves (pages_of share (length self.old.wire) rows.now) (node_shown self.old)) }
+        requires all { length self.old.wire.lows ≡ length self.old.pages.pages }
+        requires over { IsOver self.old.wire.lows rows.now }
+        requires room { length self.old.wire.lows + length (pages_of share (length self.old.wire.lows) rows.now) ≤ self.old.wire.pages }
+        requires slots { self.old.wire.pages ≤ self.old.pages.width }
+        ensures { OnOk result (node_shown self.new ≡ with_leaves (pages_of share (length self.old.wire.lows) rows.now) (node_shown self.old)) }
     {
         let mut left = rows;
         while let Some(first) = left.first() {
@@ -76,9 +77,9 @@ impl NodeStore {
 
     /// The low key of the next page, whose first row has this key: the first page begins at 0.
     fn next_low(&self, key: u16) -> u16
-        ensures { result ≡ (if length self.now.wire == 0 then 0 else key) }
+        ensures { result ≡ (if length self.now.wire.lows == 0 then 0 else key) }
     {
-        if self.wire.len() == 0 { 0 } else { key }
+        if self.wire.is_empty() { 0 } else { key }
     }
 
     /// A page more, with the next number.
@@ -86,15 +87,18 @@ impl NodeStore {
         requires rise { Rising 0 rows.now }
         requires few { length rows.now ≤ 16 }
         requires numbered { AreNumbered 0 self.old.pages.pages }
-        requires all { length self.old.wire ≡ length self.old.pages.pages }
-        requires room { length self.old.wire < self.old.pages.width }
-        requires width { self.old.pages.width ≤ 512 }
-        ensures shown { OnOk result (node_shown self.new ≡ with_leaves (record { number = length self.old.wire; low = low; rows = rows.now } ∷ []) (node_shown self.old)) }
-        ensures width { self.new.pages.width ≡ self.old.pages.width }
+        requires all { length self.old.wire.lows ≡ length self.old.pages.pages }
+        requires other { ¬ Contains self.old.wire.lows low }
+        requires room { length self.old.wire.lows < self.old.wire.pages }
+        requires slots { self.old.wire.pages ≤ self.old.pages.width }
+        ensures shown { OnOk result (node_shown self.new ≡ with_leaves (record { number = length self.old.wire.lows; low = low; rows = rows.now } ∷ []) (node_shown self.old)) }
+        ensures pages { self.new.wire.pages ≡ self.old.wire.pages }
+        ensures slots { self.new.pages.width ≡ self.old.pages.width }
     {
         let number = self.wire.len() as u16;
         let page = filled_page(alloc, number, low, rows)?;
-        self.wire.grow(low)?;
+        self.wire.reserve()?;
+        self.wire.grow(low).unwrap();
         self.pages.put(page);
         Ok(())
     }
@@ -102,6 +106,7 @@ impl NodeStore {
 
 /// A node without pages, in Empty.
 fn bare(alloc: Global, pages: u16) -> Result<NodeStore, AllocError>
+    requires { pages ≤ 512 }
     ensures { IfOk result (λ x. node_shown x ≡ bare_node) }
 {
     empty_node(alloc, pages, NodeMode::Empty)
@@ -109,13 +114,15 @@ fn bare(alloc: Global, pages: u16) -> Result<NodeStore, AllocError>
 
 /// A node without pages, with slots for so many.
 fn empty_node(alloc: Global, pages: u16, mode: NodeMode) -> Result<NodeStore, AllocError>
+    requires { pages ≤ 512 }
     ensures shown { IfOk result (λ x. node_shown x ≡ record { mode = mode; lows = []; pages = []; asked = []; locks = [] }) }
-    ensures width { IfOk result (λ x. x.pages.width ≡ pages) }
+    ensures most { IfOk result (λ x. x.wire.pages ≡ pages) }
+    ensures slots { IfOk result (λ x. x.pages.width ≡ pages) }
 {
     let store = PageStore::new(alloc, pages)?;
     Ok(NodeStore {
         mode,
-        wire: Wire::new(alloc),
+        wire: Wire::new(alloc, pages),
         pages: store,
         locks: Locks::new(alloc),
     })

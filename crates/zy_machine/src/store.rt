@@ -4,7 +4,7 @@ ghost use Rattle.zy_isa.specs.Rows.{get_row, put_row};
 ghost use Rattle.zy_isa.specs.declared.node.Node.TheVariants.{A};
 ghost use Rattle.zy_locks.specs.Locks.{conflict};
 ghost use Rattle.zy_machine.specs.State.{facing, seen_from, with_me};
-ghost use Rattle.zy_machine.specs.Wireframe.{page_of as page_of_lem};
+ghost use Rattle.zy_wire.specs.Wireframe.{page_of as page_of_lem};
 ghost use Rattle.zy_machine.specs.Pages.{rows_of};
 ghost use Rattle.zy_machine.specs.Rows.{rows_on, rows_not_in};
 ghost use Rattle.zy_machine.specs.Change.{txn_at, txn_or, with_reg, unlocked, installed, with_installed, begun as begun_lem, aborted as aborted_lem, did as did_lem, locked as locked_lem, committed as committed_lem};
@@ -16,13 +16,13 @@ use crate::modes::NodeMode;
 use crate::outcome::Why;
 use crate::page_store::PageStore;
 use crate::txn::Txn;
-use crate::wire::Wire;
 use std::alloc::AllocError;
 use zy_isa::instr::Reg;
 use zy_isa::node::Node;
 use zy_isa::row::Row;
 use zy_locks::lock::LockKind;
 use zy_locks::locks::{Locks, Tried};
+use zy_wire::wire::Wire;
 
 /// One node: its mode, its wireframe, the pages that it owns, and its locks.
 #[derive(Drop)]
@@ -252,7 +252,7 @@ impl Store {
 
 /// How many of these rows lie on a page of a node and are new there.
 fn new_rows(node: &NodeStore, p: u16, rows: &[Row]) -> usize
-    ensures { result ≡ length (rows_not_in (rows_on node.now.wire p rows.now) (rows_of node.now.pages.pages p)) }
+    ensures { result ≡ length (rows_not_in (rows_on node.now.wire.lows p rows.now) (rows_of node.now.pages.pages p)) }
 {
     let mut count = 0;
     for row in rows {
@@ -265,8 +265,8 @@ fn new_rows(node: &NodeStore, p: u16, rows: &[Row]) -> usize
 
 /// Puts rows on the pages where they lie, the last one first.
 fn install(wire: &Wire, pages: &mut PageStore, rows: &[Row])
-    requires { AreRoomy wire.now rows.now pages.old.pages }
-    ensures { pages.new ≡ record pages.old { pages = installed wire.now rows.now pages.old.pages } }
+    requires { AreRoomy wire.now.lows rows.now pages.old.pages }
+    ensures { pages.new ≡ record pages.old { pages = installed wire.now.lows rows.now pages.old.pages } }
 {
     let mut left = rows;
     while let Some((row, front)) = left.split_last() {

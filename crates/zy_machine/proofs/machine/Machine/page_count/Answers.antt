@@ -10,10 +10,10 @@ pub returns-then-a-b-clause-there : goal.returns-then-a-b-clause-there
 returns-then-a-b-clause-there c p h =
     let m = c.self.inside in
     rw (← c.self.view_is) (page_below m.scenario (choices_of m.entries.items) (shown m.store) p c.self.invariant.state
-    (rw (lt-ltb (length m.store.a.wire) (length m.store.b.wire) (omega arith)) (omega arith)))
+    (rw (lt-ltb (length m.store.a.wire.lows) (length m.store.b.wire.lows) (omega arith)) (omega arith)))
 
 pub returns-else-a-b-clause-there : goal.returns-else-a-b-clause-there
 returns-else-a-b-clause-there c p h =
     let m = c.self.inside in
     rw (← c.self.view_is) (page_below m.scenario (choices_of m.entries.items) (shown m.store) p c.self.invariant.state
-    (rw (le-ltb (length m.store.a.wire) (length m.store.b.wire) (omega arith)) (omega arith)))
+    (rw (le-ltb (length m.store.a.wire.lows) (length m.store.b.wire.lows) (omega arith)) (omega arith)))

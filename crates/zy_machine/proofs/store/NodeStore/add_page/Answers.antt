@@ -10,4 +10,5 @@ pub returns-clause-shown : goal.returns-clause-shown
 returns-clause-shown c =
     let number = ap (λ (x : Leaf). x.number) c.in_ok-page.ensures in
     let last = with_page_last 0 c.in_ok-page.page c.args.self.now.pages.pages c.requires.numbered (omega (arith, number, c.len-number.ensures.value, c.requires.all)) in
-    rw (c.put.ensures, c.in_ok-grow.ensures.ok, last, c.in_ok-page.ensures, c.len-number.ensures.value) refl
+    let grown = rw c.unwrap.ensures at c.grow.ensures.lows in
+    rw (c.put.ensures, grown, c.in_ok-reserve.ensures.lows, last, c.in_ok-page.ensures, c.len-number.ensures.value) refl
