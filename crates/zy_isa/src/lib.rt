@@ -10,6 +10,8 @@ pub mod reading;
 pub mod row;
 pub mod rule;
 pub mod scenario;
+#[cfg(test)]
+mod scenario_tests;
 pub mod section;
 pub mod stream;
 #[cfg(test)]

@@ -1,0 +1,234 @@
+//! Programs and scenarios with ample memory, and without.
+use crate::choice::Choice;
+use crate::instr::{Instr, Reg};
+use crate::memory::SliceSource;
+use crate::node::Node;
+use crate::program::{ProgFault, Program};
+use crate::reading::{ReadFault, read_all};
+use crate::row::Row;
+use crate::rule::Rule;
+use crate::scenario::{Scenario, ScenarioFault, opening_pages_for, opening_rows};
+use std::alloc::Global;
+use std::test::Fail;
+
+const COUNTING: [Instr; 4] = [
+    Instr::Set(Reg::R1, 4_294_967_295),
+    Instr::Add(Reg::R0, Reg::R1),
+    Instr::Beq(Reg::R0, Reg::R2, 3),
+    Instr::Commit,
+];
+
+const CHOICES: [Choice; 4] = [
+    Choice::Begin(1),
+    Choice::Run(Node::A, 1),
+    Choice::Run(Node::B, 0),
+    Choice::Kill(1),
+];
+
+const ROWS: [Row; 3] = [
+    Row { key: 0, value: 7 },
+    Row { key: 10, value: 0 },
+    Row {
+        key: 65_535,
+        value: 4_294_967_295,
+    },
+];
+
+/// Three rows on two pages, two programs and four choices, unless there is no memory.
+fn sample(alloc: Global) -> Option<Scenario> {
+    let rows = ROWS.as_slice().to_vec(alloc).ok()?;
+    let mut programs = Vec::with_capacity(alloc, 2).ok()?;
+    programs
+        .push(Program::verify(alloc, COUNTING.as_slice()).ok()?)
+        .ok()?;
+    programs
+        .push(Program::verify(alloc, &[Instr::Abort]).ok()?)
+        .ok()?;
+    let choices = CHOICES.as_slice().to_vec(alloc).ok()?;
+    Scenario::new(1, 3, 2, Rule::Held, rows, programs, choices).ok()
+}
+
+/// Whether the scenario has the parts of the sample.
+fn is_sample(scenario: &Scenario) -> bool {
+    let header = (scenario.version(), scenario.cap(), scenario.pages()) == (1, 3, 2)
+        && scenario.rule() == Rule::Held;
+    let lists = scenario.rows() == ROWS.as_slice() && scenario.choices() == CHOICES.as_slice();
+    match scenario.programs() {
+        [counting, aborting] => {
+            header
+                && lists
+                && counting.instrs() == COUNTING.as_slice()
+                && aborting.instrs() == [Instr::Abort].as_slice()
+        }
+        _ => false,
+    }
+}
+
+#[test]
+fn a_program_is_verified(rt: HostRuntime) -> Result<(), Fail> {
+    let program = Program::verify(rt.alloc(), COUNTING.as_slice())?;
+    assert_eq!(rt; program.len(), 4);
+    assert_eq!(rt; program.instr(2), Instr::Beq(Reg::R0, Reg::R2, 3));
+    let copy = program.copy(rt.alloc())?;
+    assert_eq!(rt; copy.instrs(), COUNTING.as_slice());
+    assert_eq!(rt; program.instrs(), COUNTING.as_slice());
+    Ok(())
+}
+
+#[test]
+fn what_is_no_program_is_told(rt: HostRuntime) -> Result<(), Fail> {
+    let stray = [
+        Instr::Beq(Reg::R0, Reg::R0, 2),
+        Instr::Read(Reg::R0, Reg::R1),
+    ];
+    let open = [Instr::Commit, Instr::Write(Reg::R0, Reg::R1)];
+    let mut long = Vec::new(rt.alloc());
+    long.resize(64, Instr::Abort)?;
+    assert!(rt; Program::verify(rt.alloc(), long.as_slice()).is_ok());
+    long.push(Instr::Abort)?;
+    for (instrs, fault) in [
+        ([].as_slice(), ProgFault::Empty),
+        (long.as_slice(), ProgFault::TooLong),
+        (stray.as_slice(), ProgFault::Target(0)),
+        (open.as_slice(), ProgFault::NoEnd),
+    ] {
+        assert_eq!(rt; Program::verify(rt.alloc(), instrs).err(), Some(fault));
+    }
+    Ok(())
+}
+
+#[test]
+fn a_scenario_keeps_its_parts(rt: HostRuntime) -> Result<(), Fail> {
+    let scenario = sample(rt.alloc()).expect(&rt, "a scenario");
+    let copy = scenario.copy(rt.alloc())?;
+    assert!(rt; is_sample(&copy));
+    assert!(rt; is_sample(&scenario));
+    Ok(())
+}
+
+#[test]
+fn rows_open_with_half_full_pages(rt: HostRuntime) {
+    for (cap, each, rows, pages) in [
+        (2, 1, 0, 1),
+        (2, 1, 256, 256),
+        (3, 2, 2, 1),
+        (3, 2, 3, 2),
+        (16, 8, 8, 1),
+        (16, 8, 9, 2),
+        (16, 8, 256, 32),
+    ] {
+        assert_eq!(rt; opening_rows(cap), each, "cap {cap}");
+        assert_eq!(rt;
+            opening_pages_for(cap, rows),
+            pages,
+            "{rows} rows, cap {cap}"
+        );
+    }
+}
+
+/// The fault of a scenario with so many rows and transactions, each of which is begun.
+fn fault(
+    alloc: Global,
+    cap: u8,
+    pages: u16,
+    rows: u16,
+    txns: u8,
+) -> Result<Option<ScenarioFault>, Fail> {
+    let mut made = Vec::new(alloc);
+    for key in 0..rows {
+        made.push(Row { key, value: 0 })?;
+    }
+    let mut programs = Vec::new(alloc);
+    let mut choices = Vec::new(alloc);
+    for t in 0..txns {
+        programs.push(Program::verify(alloc, &[Instr::Commit])?)?;
+        choices.push(Choice::Begin(t))?;
+    }
+    Ok(Scenario::new(1, cap, pages, Rule::Held, made, programs, choices).err())
+}
+
+#[test]
+fn a_scenario_is_within_its_limits(rt: HostRuntime) -> Result<(), Fail> {
+    for (cap, pages, rows, txns, want) in [
+        (16, 512, 256, 64, None),
+        (2, 1, 0, 0, None),
+        (1, 1, 0, 0, Some(ScenarioFault::Cap)),
+        (17, 1, 0, 0, Some(ScenarioFault::Cap)),
+        (2, 0, 0, 0, Some(ScenarioFault::Pages)),
+        (2, 513, 0, 0, Some(ScenarioFault::Pages)),
+        (5, 3, 9, 0, None),
+        (5, 3, 10, 0, Some(ScenarioFault::RowCount)),
+        (2, 512, 257, 0, Some(ScenarioFault::RowCount)),
+        (2, 1, 0, 65, Some(ScenarioFault::TxnCount)),
+    ] {
+        assert_eq!(rt;
+            fault(rt.alloc(), cap, pages, rows, txns)?,
+            want,
+            "cap {cap}, {pages} pages, {rows} rows, {txns} transactions"
+        );
+    }
+    Ok(())
+}
+
+#[test]
+fn faults_are_told_in_words(rt: HostRuntime) -> Result<(), Fail> {
+    let told = format!(in rt.alloc(); "{}; {}", ProgFault::Empty, ProgFault::Target(3))?;
+    let wanted =
+        "a program needs an instruction; the target of instruction 3 is the number of an instruction";
+    assert_eq!(rt; told.as_str(), wanted);
+    let told = format!(in rt.alloc(); "{}; {}", ScenarioFault::RowCount, ScenarioFault::Choice(9))?;
+    let wanted =
+        "the rows are at most 256 and open with at most `pages` pages; choice 9 names a transaction that exists";
+    assert_eq!(rt; told.as_str(), wanted);
+    Ok(())
+}
+
+/// Its one allocation may be refused.
+#[test]
+fn refused_verify(rt: HostRuntime) {
+    match Program::verify(rt.alloc(), COUNTING.as_slice()) {
+        Ok(program) => assert_eq!(rt; program.instrs(), COUNTING.as_slice()),
+        Err(fault) => assert_eq!(rt; fault, ProgFault::Memory),
+    }
+}
+
+/// Either of its allocations may be refused: what is copied stays.
+#[test]
+fn refused_program_copy(rt: HostRuntime) {
+    let Ok(program) = Program::verify(rt.alloc(), COUNTING.as_slice()) else {
+        return;
+    };
+    if let Ok(copy) = program.copy(rt.alloc()) {
+        assert_eq!(rt; copy.instrs(), COUNTING.as_slice());
+    }
+    assert_eq!(rt; program.instrs(), COUNTING.as_slice());
+}
+
+/// Any of its allocations may be refused: what is copied stays.
+#[test]
+fn refused_scenario_copy(rt: HostRuntime) {
+    let Some(scenario) = sample(rt.alloc()) else {
+        return;
+    };
+    if let Ok(copy) = scenario.copy(rt.alloc()) {
+        assert!(rt; is_sample(&copy));
+    }
+    assert!(rt; is_sample(&scenario));
+}
+
+/// Any of its growths may be refused: what is left of the source is an end of it.
+#[test]
+fn refused_reading(rt: HostRuntime) {
+    let input = [7u8; 20_000];
+    let mut source = SliceSource::new(input.as_slice());
+    match read_all(rt.alloc(), &mut source) {
+        Ok(bytes) => {
+            assert_eq!(rt; bytes.as_slice(), input.as_slice());
+            assert!(rt; source.left().is_empty());
+        }
+        Err(fault) => {
+            assert_eq!(rt; fault, ReadFault::Memory);
+            assert!(rt; input.ends_with(source.left()));
+        }
+    }
+}
