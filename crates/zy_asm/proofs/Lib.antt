@@ -7,3 +7,4 @@ pub mod GivesLemmas
 pub mod OnlyLemmas
 pub mod CanonLemmas
 pub mod InputLemmas
+pub mod ExtendLemmas

@@ -8,7 +8,7 @@ use crate::choices::{action_of, actor_of, are_times, chosen, times_of, transacti
 use crate::faults::{AsmFault, AsmKind};
 use crate::instructions::{Operation, instr_of, operation_of};
 use crate::state::{Reader, Stage};
-use crate::words::{first_line, is, number_in, number_of, words_of};
+use crate::words::{first_line, is, number_in, number_of, take_words};
 use std::alloc::Global;
 use zy_isa::choice::Choice;
 use zy_isa::instr::Instr;
@@ -332,11 +332,12 @@ pub fn read(alloc: Global, text: &str) -> Result<Reader, AsmFault>
         instrs: Vec::new(alloc),
         choices: Vec::new(alloc),
     };
+    let mut words: Vec<&[u8]> = Vec::new(alloc);
     let mut rest = text;
     let mut line = 1usize;
     while !rest.is_empty() {
         let (first, after) = first_line(rest);
-        let Ok(words) = words_of(alloc, first) else {
+        let Ok(()) = take_words(&mut words, first) else {
             return Err(AsmFault {
                 line,
                 kind: AsmKind::Memory,

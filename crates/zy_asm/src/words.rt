@@ -1,11 +1,11 @@
 //! The lines of a text, the words of a line, and what numbers they spell.
-ghost use Rattle.std.specs.Prelude.{◌≡◌, ◌<◌, ◌≤◌, IfOk, IfSome, map, length, ◌∷◌};
+ghost use Rattle.std.specs.Prelude.{◌≡◌, ◌<◌, ◌≤◌, IfOk, OnOk, map, length, ◌∷◌};
 ghost use Rattle.std.specs.Str.{bytes_eq};
 ghost use Rattle.zy_isa.specs.Words.{words_of as words_of_lem, number_of as number_of_lem, is_space as is_space_lem, without_comment as without_comment_lem, lines_of};
 ghost use Rattle.zy_asm.specs.Steps.{number_in as number_in_lem};
 
 use crate::faults::AsmKind;
-use std::alloc::{AllocError, Global};
+use std::alloc::AllocError;
 
 /// The most digits of a number.
 const MAX_DIGITS: usize = 10;
@@ -38,15 +38,17 @@ pub fn first_line(text: &str) -> (&str, &str)
     }
 }
 
-/// The words of a line, without its comment.
-pub fn words_of<'a>(alloc: Global, line: &'a str) -> Result<Vec<&'a [u8]>, AllocError>
-    ensures { IfOk result (λ words. map (λ w. w.now) words.items ≡ words_of_lem line.entry.now) }
+/// Puts the words of a line, without its comment, in place of what the `Vec` holds. At an error some of them stand there.
+pub fn take_words<'a>(words: &mut Vec<&'a [u8]>, line: &'a str) -> Result<(), AllocError>
+    ensures { OnOk result (map (λ w. w.now) words.new.items ≡ words_of_lem line.entry.now) }
 {
-    without_comment(line)
-        .as_bytes()
-        .split(|byte| is_space(*byte))
-        .filter(|word| !word.is_empty())
-        .collect(alloc)
+    words.clear();
+    words.extend(
+        without_comment(line)
+            .as_bytes()
+            .split(|byte| is_space(*byte))
+            .filter(|word| !word.is_empty()),
+    )
 }
 
 /// Whether a word is this text.
