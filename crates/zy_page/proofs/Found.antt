@@ -25,10 +25,10 @@ keys_le low (suc i) (suc j) d (r ∷ rows) h le lt = keys_le (r.key + 1) i j d r
 pub in_order : (rows : List Row) → Rising 0 rows → IsNonDecreasingBy (λ (r : Row). r.key) rows
 in_order rows h = λ i j d le lt. keys_le 0 i j d rows h le lt
 
-place_rest : (k i : ℕ) (r : Row) (rows : List Row) → IsPlace k (r ∷ rows) (suc i) → IsPlace k rows i
+pub place_rest : (k i : ℕ) (r : Row) (rows : List Row) → IsPlace k (r ∷ rows) (suc i) → IsPlace k rows i
 place_rest k i r rows h = (omega (arith, h.0), (λ j d low high. h.1 (suc j) d (omega arith) (omega arith)), (λ j d low high. h.2 (suc j) d (omega arith) (omega arith)))
 
-front_below : (k i : ℕ) (r : Row) (rows : List Row) → IsPlace k (r ∷ rows) (suc i) → r.key < k
+pub front_below : (k i : ℕ) (r : Row) (rows : List Row) → IsPlace k (r ∷ rows) (suc i) → r.key < k
 front_below k i r rows h = h.1 0 r (omega arith) (omega arith)
 
 -- a key that stands at its place

@@ -1,6 +1,7 @@
 //! A leaf page.
-ghost use Rattle.std.specs.Prelude.{◌≡◌, ◌==◌, ◌<◌, ◌≤◌, IfOk, IsSome, None, [], length, slice_index_or};
+ghost use Rattle.std.specs.Prelude.{◌≡◌, ◌==◌, ◌<◌, ◌≤◌, IfOk, OnOk, OnErr, IsSome, None, [], length, slice_index_or};
 ghost use Rattle.zy_isa.specs.Rows.{Rising, RowsFit, get_row, put_row};
+ghost use Rattle.zy_page.specs.Leaf.{rows_below, rows_from};
 
 use crate::row_list::RowList;
 use std::alloc::{AllocError, Global};
@@ -105,6 +106,25 @@ impl Page {
         ensures { self.new ≡ record self.old { rows = put_row new_key value self.old.rows } }
     {
         self.rows.put(new_key, value);
+    }
+
+    /// Moves the rows at or above `boundary` into a new page with this number, whose low key is the boundary.
+    pub fn split_at(
+        &mut self,
+        alloc: Global,
+        boundary: u16,
+        number: u16,
+    ) -> Result<Page, AllocError>
+        ensures new_page { IfOk result (λ page. page ≡ record { number = number; low = boundary; rows = rows_from boundary self.old.rows }) }
+        ensures old_page { OnOk result (self.new ≡ record self.old { rows = rows_below boundary self.old.rows }) }
+        ensures kept { OnErr result (self.new ≡ self.old) }
+    {
+        let rows = self.rows.split_off(alloc, boundary, usize::from(MAX_CAP))?;
+        Ok(Page {
+            number,
+            low: boundary,
+            rows,
+        })
     }
 
     /// The same page once more.

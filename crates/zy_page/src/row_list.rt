@@ -1,6 +1,7 @@
 //! Rows in key order, each key once.
 ghost use Rattle.std.specs.Prelude.{◌≡◌, ◌+◌, ◌-◌, ◌<◌, ◌≤◌, ◌⊎◌, IfOk, OnOk, OnErr, IsOk, IsSome, [], ◌==◌, length, is_some, slice_index_or};
 ghost use Rattle.zy_isa.specs.Rows.{Rising, RowsFit, get_row, put_row};
+ghost use Rattle.zy_page.specs.Leaf.{rows_below, rows_from};
 ghost use Rattle.zy_page.specs.Place.{IsPlace, Finds};
 
 use std::alloc::{AllocError, Global};
@@ -120,6 +121,26 @@ impl RowList {
         ensures { self.new ≡ record { rows = []; spare = length self.old.rows + self.old.spare } }
     {
         self.rows.clear();
+    }
+
+    /// Moves the rows at or above `boundary` into a list of their own, with room for `room` rows in all.
+    pub fn split_off(
+        &mut self,
+        alloc: Global,
+        boundary: u16,
+        room: usize,
+    ) -> Result<RowList, AllocError>
+        ensures moved { IfOk result (λ list. list.rows ≡ rows_from boundary self.old.rows) }
+        ensures new_room { IfOk result (λ list. room ≤ length list.rows + list.spare) }
+        ensures left { OnOk result (self.new.rows ≡ rows_below boundary self.old.rows) }
+        ensures old_room { OnOk result (length self.new.rows + self.new.spare ≡ length self.old.rows + self.old.spare) }
+        ensures kept { OnErr result (self.new ≡ self.old) }
+    {
+        let at = place(&self.rows, boundary);
+        let mut rows = Vec::with_capacity(alloc, room.max(self.len() - at))?;
+        rows.extend_from_slice(&self.rows[at..])?;
+        self.rows.truncate(at);
+        Ok(RowList { rows })
     }
 
     /// The same rows once more.

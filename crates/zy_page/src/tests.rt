@@ -78,6 +78,44 @@ fn page_takes_sixteen_rows(rt: HostRuntime) -> Result<(), Fail> {
     Ok(())
 }
 
+#[test]
+fn page_is_split(rt: HostRuntime) -> Result<(), Fail> {
+    let mut page = Page::new(rt.alloc(), 1, 10)?;
+    for key in [30, 20, 40, 10] {
+        if page.get(key).is_none() && page.len() < 16 {
+            page.add(key, u32::from(key) + 1);
+        }
+    }
+    let upper = page.split_at(rt.alloc(), 30, 2)?;
+    assert_eq!(rt; (page.number(), page.low()), (1, 10));
+    assert_eq!(rt; page.rows(), [row(10, 11), row(20, 21)].as_slice());
+    assert_eq!(rt; (upper.number(), upper.low()), (2, 30));
+    assert_eq!(rt; upper.rows(), [row(30, 31), row(40, 41)].as_slice());
+    let none = page.split_at(rt.alloc(), 21, 3)?;
+    assert!(rt; none.is_empty());
+    let all = page.split_at(rt.alloc(), 0, 4)?;
+    assert!(rt; page.is_empty());
+    assert_eq!(rt; all.rows(), [row(10, 11), row(20, 21)].as_slice());
+    Ok(())
+}
+
+/// The new page's memory may be refused: then the rows stay.
+#[test]
+fn refused_split(rt: HostRuntime) {
+    let Ok(mut page) = Page::new(rt.alloc(), 1, 0) else {
+        return;
+    };
+    page.add(5, 50);
+    page.put(5, 51);
+    match page.split_at(rt.alloc(), 5, 2) {
+        Ok(upper) => {
+            assert!(rt; page.is_empty());
+            assert_eq!(rt; upper.rows(), [row(5, 51)].as_slice());
+        }
+        Err(_) => assert_eq!(rt; page.rows(), [row(5, 51)].as_slice()),
+    }
+}
+
 /// Its one growth may be refused: then the list is as it was.
 #[test]
 fn refused_reserve(rt: HostRuntime) -> Result<(), Fail> {

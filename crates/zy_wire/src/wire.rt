@@ -135,15 +135,27 @@ impl Wire {
         ensures memory { result ≡ Err WireFault.Memory → self.old.spare ≡ 0 }
         ensures kept { OnErr result (self.new ≡ self.old) }
     {
-        let page = self.lows.len() as u16;
-        if page == self.pages {
+        if self.len() == usize::from(self.pages) {
             return Err(WireFault::Full);
         }
         self.reserve()?;
+        self.put(low);
+        Ok(())
+    }
+
+    /// Puts the next page into both lists. It takes no memory.
+    fn put(&mut self, low: u16)
+        requires fresh { ¬ Contains self.old.lows low }
+        requires few { length self.old.lows < self.old.pages }
+        requires room { 1 ≤ self.old.spare }
+        ensures lows { self.new.lows ≡ self.old.lows ++ low ∷ [] }
+        ensures pages { self.new.pages ≡ self.old.pages }
+        ensures room { self.old.spare ≤ self.new.spare + 1 }
+    {
+        let page = self.len() as u16;
         let at = place(&self.by_low, low);
         self.by_low.insert(at, Entry { low, page }).unwrap();
         self.lows.push_reserved(low);
-        Ok(())
     }
 
     /// The same low keys once more, with the same greatest number of pages.

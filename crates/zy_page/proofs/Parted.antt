@@ -1,0 +1,62 @@
+-- Rows in key order, parted at a boundary.
+use Rattle.std.proofs.Common.{◌≡◌, ℕ, zero, suc, ◌+◌, ◌<◌, ◌≤◌, Bool, List, [], ◌∷◌, length, take, drop, refl, ap, ltb, leb, arith, inl, inr}
+use Rattle.std.specs.Prelude.{filter}
+use Rattle.std.proofs.lemmas.Bool.{lt-ltb, le-ltb, le-leb, lt-leb, cond_both}
+use Rattle.zy_isa.specs.declared.row.Row.{Row}
+use Rattle.zy_isa.specs.Rows.{Rising, RowsFit}
+use Rattle.zy_page.specs.Leaf.{rows_below, rows_from}
+use Rattle.zy_page.specs.Place.{IsPlace}
+use Rattle.zy_page.specs.RowLists.{AreKept}
+use Rattle.zy_page.proofs.Found.{place_rest, front_below}
+
+tail_above : (b : ℕ) (r : Row) (rows : List Row) → IsPlace b (r ∷ rows) 0 → IsPlace b rows 0
+tail_above b r rows h = (omega arith, (λ j d low high. absurd (omega arith)), (λ j d low high. h.2 (suc j) d (omega arith) (omega arith)))
+
+front_above : (b : ℕ) (r : Row) (rows : List Row) → IsPlace b (r ∷ rows) 0 → b ≤ r.key
+front_above b r rows h = h.2 0 r (omega arith) (omega arith)
+
+none_below : (b : ℕ) (rows : List Row) → IsPlace b rows 0 → rows_below b rows ≡ []
+none_below b [] h = refl
+none_below b (r ∷ rows) h = rw (le-ltb r.key b (front_above b r rows h)) (none_below b rows (tail_above b r rows h))
+
+all_from : (b : ℕ) (rows : List Row) → IsPlace b rows 0 → rows_from b rows ≡ rows
+all_from b [] h = refl
+all_from b (r ∷ rows) h = rw (le-leb b r.key (front_above b r rows h)) (ap (λ z. r ∷ z) (all_from b rows (tail_above b r rows h)))
+
+-- the rows before a boundary's place are those below it
+pub rows_below-place : (b i : ℕ) (rows : List Row) → IsPlace b rows i → rows_below b rows ≡ take i rows
+rows_below-place b zero rows h = none_below b rows h
+rows_below-place b (suc i) [] h = refl
+rows_below-place b (suc i) (r ∷ rows) h = rw (lt-ltb r.key b (front_below b i r rows h)) (ap (λ z. r ∷ z) (rows_below-place b i rows (place_rest b i r rows h)))
+
+-- and the others are those at or above it
+pub rows_from-place : (b i : ℕ) (rows : List Row) → IsPlace b rows i → rows_from b rows ≡ drop i rows
+rows_from-place b zero rows h = all_from b rows h
+rows_from-place b (suc i) [] h = refl
+rows_from-place b (suc i) (r ∷ rows) h = rw (lt-leb b r.key (front_below b i r rows h)) (rows_from-place b i rows (place_rest b i r rows h))
+
+-- some of the rows, in their order
+Rising-lower : (low high : ℕ) (rows : List Row) → Rising high rows → low ≤ high → Rising low rows
+Rising-lower low high [] h le = tt
+Rising-lower low high (r ∷ rows) h le = (omega (arith, h.0), h.1)
+
+Rising-filter : (p : Row → Bool) (low : ℕ) (rows : List Row) → Rising low rows → Rising low (filter p rows)
+Rising-filter p low [] h = tt
+Rising-filter p low (r ∷ rows) h =
+    let rest = Rising-filter p (r.key + 1) rows h.1 in
+    cond_both (p r) (r ∷ filter p rows) (filter p rows) (Rising low) (λ _. (h.0, rest)) (λ _. Rising-lower low (r.key + 1) (filter p rows) rest (omega (arith, h.0)))
+
+RowsFit-filter : (p : Row → Bool) (rows : List Row) → RowsFit rows → RowsFit (filter p rows)
+RowsFit-filter p [] h = tt
+RowsFit-filter p (r ∷ rows) h =
+    let rest = RowsFit-filter p rows h.2 in
+    cond_both (p r) (r ∷ filter p rows) (filter p rows) RowsFit (λ _. (h.0, h.1, rest)) (λ _. rest)
+
+pub AreKept-filter : (p : Row → Bool) (rows : List Row) → AreKept rows → AreKept (filter p rows)
+AreKept-filter p rows h = record { rise = Rising-filter p 0 rows h.rise; fit = RowsFit-filter p rows h.fit }
+
+pub length-filter : (p : Row → Bool) (rows : List Row) → length (filter p rows) ≤ length rows
+length-filter p [] = omega arith
+length-filter p (r ∷ rows) =
+    let rest = length-filter p rows in
+    cond_both (p r) (r ∷ filter p rows) (filter p rows) (λ ys. length ys ≤ suc (length rows)) (λ _. omega (arith, rest)) (λ _. omega (arith, rest))
