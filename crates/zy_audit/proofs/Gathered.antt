@@ -10,10 +10,9 @@ use Rattle.zy_isa.specs.declared.row.Row.{Row}
 use Rattle.zy_page.specs.Leaf.{Leaf}
 use Rattle.zy_machine.specs.Database.{all_leaves, database, newest}
 use Rattle.zy_machine.specs.Histories.{History, IsReplay, choices_of}
-use Rattle.zy_machine.specs.Pages.{leaf_at, rows_of}
+use Rattle.zy_machine.specs.Pages.{leaf_at, rows_of, page_in}
 use Rattle.zy_machine.specs.Play.{opening, play}
 use Rattle.zy_machine.specs.Rows.{put_rows}
-use Rattle.zy_machine.specs.Shelf.{page_in}
 use Rattle.zy_machine.specs.State.{State}
 use Rattle.zy_wire.specs.Wireframe.{page_of}
 use Rattle.zy_machine.proofs.Installing.{Placed, get_row-puts, none_else, or_else_none}

@@ -8,8 +8,7 @@ use Rattle.zy_isa.specs.Writing.{line_of}
 use Rattle.zy_page.specs.Leaf.{Leaf}
 use Rattle.zy_disasm.specs.Lines.{head_texts, end_texts}
 use Rattle.zy_disasm.proofs.CanonLemmas.{canon-parts}
-use Rattle.zy_machine.specs.Pages.{leaf_at}
-use Rattle.zy_machine.specs.Shelf.{page_in}
+use Rattle.zy_machine.specs.Pages.{leaf_at, page_in}
 use Rattle.zy_machine.specs.Play.{entries, opening}
 use Rattle.zy_machine.specs.declared.entry.Entry.{Entry}
 use Rattle.zy_isa.specs.Canon.{choice_text}

@@ -17,8 +17,7 @@ use Rattle.std.proofs.lemmas.List.Folds.{find-append}
 use Rattle.zy_isa.specs.declared.row.Row.{Row}
 use Rattle.zy_isa.specs.Rows.{Rising, get_row, put_row}
 use Rattle.zy_page.specs.Leaf.{Leaf}
-use Rattle.zy_machine.specs.Pages.{owns, rows_of}
-use Rattle.zy_machine.specs.Shelf.{page_in}
+use Rattle.zy_machine.specs.Pages.{owns, rows_of, page_in}
 
 -- a page is owned just where it is found
 owns_first : (p : ℕ) (x : Leaf) (xs : List Leaf) (b : Bool) → owns xs p ≡ is_some (page_in p xs) → (b || owns xs p) ≡ is_some (cond b (Some x) (page_in p xs))

@@ -8,13 +8,13 @@ use Rattle.zy_isa.specs.declared.node.Node.{Node}
 use Rattle.zy_isa.specs.declared.node.Node.TheVariants.{A, B}
 use Rattle.zy_isa.specs.declared.row.Row.{Row}
 use Rattle.zy_machine.specs.AtHome.{AtHome, Numbered}
-use Rattle.zy_machine.specs.Change.{aborted, begun, committed, did, installed, locked, txn_at}
+use Rattle.zy_machine.specs.Change.{aborted, begun, committed, did, installed, locked, txn_at, cut}
 use Rattle.zy_machine.specs.Client.{home_of, runs_all}
 use Rattle.zy_machine.specs.Play.{opening, opening_leaves, opening_pages, play, side_of, step}
 use Rattle.zy_machine.specs.State.{CommitRec, Leaf, Lock, State, Txn, View, facing, seen_from}
 use Rattle.zy_machine.specs.declared.modes.NodeMode.{NodeMode}
 use Rattle.zy_machine.specs.declared.modes.NodeMode.TheVariants.{Normal}
-use Rattle.zy_machine.proofs.Events.{Aborts, Adds, Begins, Commits, Event, Gets, Inserts, Jumps, Rests, Sets, Writes, step_happens}
+use Rattle.zy_machine.proofs.Events.{Aborts, Adds, Begins, Commits, Event, Gets, Inserts, Jumps, Rests, Sets, Writes, step_happens, Splits}
 use Rattle.zy_machine.proofs.PlayPush.{play-keeps}
 use Rattle.zy_machine.proofs.Txns.{at_back, at_either, at_other, at_side, blank_at}
 
@@ -62,7 +62,7 @@ begins_at_a a b h normal home =
     let first : Some A ≡ Some h = subst (λ m. (if runs_all m then Some A else if runs_all b then Some B else None) ≡ Some h) normal home in cc
 
 quiet_event : (sc : Scenario) (n : Node) (v w : View) → v.me.mode ≡ Normal → AllAtA v → Event sc n v w → Quiet v w
-unfolding did locked txn_at aborted begun committed
+unfolding did locked txn_at aborted begun committed cut
 quiet_event sc n v w normal all (Rests e) = quiet_along v w v e (record { mode = refl; pages = λ h. h; lows = refl; asked = refl; them = refl; inbox = refl; outbox = refl; node = all })
 quiet_event sc n v w normal all (Begins t h a new home e) = quiet_along v w _ e (acts_quiet v t _ _ _ _ all (λ h. h) (begins_at_a v.me.mode v.them.mode h normal home))
 quiet_event sc n v w normal all (Aborts t y active here e) = quiet_along v w _ e (acts_quiet v t _ _ _ _ all (λ h. h) (all t))
@@ -72,6 +72,7 @@ quiet_event sc n v w normal all (Jumps t r q to runs e) = quiet_along v w _ e (a
 quiet_event sc n v w normal all (Gets t r q runs f e) = quiet_along v w _ e (acts_quiet v t _ _ _ _ all (λ h. h) (all t))
 quiet_event sc n v w normal all (Writes t r q runs f there e) = quiet_along v w _ e (acts_quiet v t _ _ _ _ all (λ h. h) (all t))
 quiet_event sc n v w normal all (Inserts t r q runs f new room e) = quiet_along v w _ e (acts_quiet v t _ _ _ _ all (λ h. h) (all t))
+quiet_event sc n v w normal all (Splits t r q runs f new full mode pages e) = ?
 quiet_event sc n v w normal all (Commits t runs e) = quiet_along v w _ e (acts_quiet v t _ _ _ _ all (numbered-installed 0 v.me.lows (txn_at v t).rows v.me.pages) (all t))
 
 -- nothing runs at B
@@ -91,6 +92,7 @@ rests_at_b sc v w all (Jumps t r q to runs e) = not_here v t all runs.here
 rests_at_b sc v w all (Gets t r q runs f e) = not_here v t all runs.here
 rests_at_b sc v w all (Writes t r q runs f there e) = not_here v t all runs.here
 rests_at_b sc v w all (Inserts t r q runs f new room e) = not_here v t all runs.here
+rests_at_b sc v w all (Splits t r q runs f new full normal pages e) = not_here v t all runs.here
 rests_at_b sc v w all (Commits t runs e) = not_here v t all runs.here
 
 all_at_a : (sc : Scenario) (n : Node) (s : State) → AtHome sc s → AllAtA (facing n s)

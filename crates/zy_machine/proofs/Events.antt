@@ -1,5 +1,5 @@
 -- What a row did: one case for each line of the table that changes something, with what its conditions say.
-use Rattle.std.proofs.Common.{◌≡◌, ℕ, ◌+◌, ◌%◌, ◌^◌, List, [], ◌∷◌, true, false, refl, sym, ap, ◌∙◌}
+use Rattle.std.proofs.Common.{◌≡◌, ℕ, ◌+◌, ◌%◌, ◌^◌, List, [], ◌∷◌, ◌++◌, length, true, false, refl, sym, ap, ◌∙◌}
 use Rattle.std.specs.Prelude.{if◌then◌else◌, ◌==◌, nat_lt, ◌&&◌, ◌||◌, not, Some, None, Option, slice_get, unwrap_or}
 use Rattle.std.proofs.lemmas.Bool.{cond_both, false≢true, not-false, and_parts, eq-eqb}
 use Rattle.zy_isa.specs.declared.node.Node.{Node}
@@ -16,13 +16,14 @@ use Rattle.zy_locks.specs.declared.lock.LockKind.TheVariants.{Shared, Exclusive}
 use Rattle.zy_locks.specs.Locks.{conflict, add_lock, drop_locks, stronger}
 use Rattle.zy_machine.specs.declared.outcome.Why.{Why}
 use Rattle.zy_machine.specs.declared.outcome.Why.TheVariants as why
+use Rattle.zy_machine.specs.declared.modes.NodeMode.TheVariants.{Normal}
 use Rattle.zy_machine.specs.State.{State, View, Move, Lock, Aborted, facing, with_me}
 use Rattle.zy_wire.specs.Wireframe.{page_of}
 use Rattle.zy_machine.specs.Pages.{rows_of}
-use Rattle.zy_machine.specs.Change.{begun, aborted, did, txn_at, locked, committed, reg, with_reg, with_txn, txn_or}
-use Rattle.zy_machine.specs.Client.{is_new, is_active, home_of, begin_row, begin_at, kill_row}
+use Rattle.zy_machine.specs.Change.{begun, aborted, did, txn_at, locked, committed, cut, reg, with_reg, with_txn, txn_or}
+use Rattle.zy_machine.specs.Client.{is_mode, is_new, is_active, home_of, begin_row, begin_at, kill_row}
 use Rattle.zy_machine.specs.Run as run
-use Rattle.zy_machine.specs.Run.{same_node, program_of, abort_row, set_row, jump_row, commit_row, read_row, write_row, full_row, insert_row, Access, Reads, lock_of, is_there, has_room, access_row, page_row, key_row, instr_row, run_row}
+use Rattle.zy_machine.specs.Run.{boundary, same_node, program_of, abort_row, set_row, jump_row, commit_row, read_row, write_row, full_row, insert_row, Access, Reads, lock_of, is_there, has_room, access_row, page_row, key_row, instr_row, run_row}
 use Rattle.zy_machine.specs.Play.{move, side_of}
 
 -- t runs at n, and its next instruction is i
@@ -72,7 +73,15 @@ pub data Event (sc : Scenario) (n : Node) (v w : View) : Type 0 where
       → w ≡ puts t r q v → Event sc n v w
   Inserts : (t : ℕ) (r q : Reg) → Runs sc n t (Insert r q) v → Free t (key t r v) Exclusive v → is_there t (key t r v) (page t r v) v ≡ false
       → has_room sc t (page t r v) v ≡ true → w ≡ puts t r q v → Event sc n v w
+  Splits : (t : ℕ) (r q : Reg) → Runs sc n t (Insert r q) v → Free t (key t r v) Exclusive v → is_there t (key t r v) (page t r v) v ≡ false
+      → has_room sc t (page t r v) v ≡ false → is_mode Normal v.me.mode ≡ true → (length v.me.lows == sc.pages) ≡ false
+      → w ≡ cut t (page t r v) (boundary sc t (key t r v) (page t r v) v) (has_lock t (key t r v) Exclusive v) → Event sc n v w
   Commits : (t : ℕ) → Runs sc n t Commit v → w ≡ committed t v → Event sc n v w
+
+-- the newest low keys after a row: a split alone adds one
+abbrev pub lows_after : (sc : Scenario) (n : Node) (v w : View) (lows : List ℕ) → Event sc n v w → List ℕ
+lows_after sc n v w lows (Splits t r q runs f new full normal pages e) = lows ++ boundary sc t (key t r v) (page t r v) v ∷ []
+lows_after sc n v w lows e = lows
 
 abbrev pub Happens : Scenario → Node → View → Move → Type 0
 Happens sc n v m = Event sc n v m.after

@@ -21,7 +21,7 @@ use Rattle.zy_machine.specs.State.{Aborted, Committed, Leaf, Txn, View}
 use Rattle.zy_wire.specs.Wireframe.{page_of}
 use Rattle.zy_machine.specs.declared.outcome.Why.{Why}
 use Rattle.zy_machine.proofs.EachPage.{Each, each_append, each_both, each_front, each_installed, each_map}
-use Rattle.zy_machine.proofs.Events.{Aborts, Adds, Begins, Commits, Event, Gets, Inserts, Jumps, Rests, Sets, Writes, has_lock, key, page, puts}
+use Rattle.zy_machine.proofs.Events.{Aborts, Adds, Begins, Commits, Event, Gets, Inserts, Jumps, Rests, Sets, Writes, has_lock, key, page, puts, Splits, lows_after}
 use Rattle.zy_machine.proofs.Fit.{Fit, Room, Sized, commit_room, fit_acts, put_room}
 use Rattle.zy_machine.proofs.LockLists.{exclusive_holds}
 use Rattle.zy_machine.proofs.Locking.{Kept, whole}
@@ -121,7 +121,7 @@ committed_fit sc n v lows t k f at =
 fit_along : (sc : Scenario) (n : Node) (w x : View) (lows : List ℕ) → w ≡ x → Fit sc n x lows → Fit sc n w lows
 fit_along sc n w x lows e f = subst (λ z. Fit sc n z lows) (sym e) f
 
-pub fit_event : (sc : Scenario) (n : Node) (v w : View) (lows : List ℕ) → Kept sc n v lows → Fit sc n v lows → Event sc n v w → Fit sc n w lows
+pub fit_event : (sc : Scenario) (n : Node) (v w : View) (lows : List ℕ) → Kept sc n v lows → Fit sc n v lows → (e : Event sc n v w) → Fit sc n w (lows_after sc n v w lows e)
 fit_event sc n v w lows k f (Rests e) = fit_along sc n w v lows e f
 fit_event sc n v w lows k f (Begins t h a new home e) = fit_along sc n w _ lows e (begun_fit sc n v lows t h f new)
 fit_event sc n v w lows k f (Aborts t y active here e) = fit_along sc n w _ lows e (aborted_fit sc n v lows t y f (active, here))
@@ -131,4 +131,5 @@ fit_event sc n v w lows k f (Jumps t r q to runs e) = fit_along sc n w _ lows e 
 fit_event sc n v w lows k f (Gets t r q runs g e) = fit_along sc n w _ lows e (get_fit sc n v lows t (key t q v) _ _ Shared f (runs.active, runs.here))
 fit_event sc n v w lows k f (Writes t r q runs g there e) = fit_along sc n w _ lows e (put_fit sc n v lows t r q k f (runs.active, runs.here) (inl there))
 fit_event sc n v w lows k f (Inserts t r q runs g new room e) = fit_along sc n w _ lows e (put_fit sc n v lows t r q k f (runs.active, runs.here) (inr room))
+fit_event sc n v w lows k f (Splits t r q runs g new full normal pages e) = ?
 fit_event sc n v w lows k f (Commits t runs e) = fit_along sc n w _ lows e (committed_fit sc n v lows t k f (runs.active, runs.here))

@@ -25,7 +25,7 @@ use Rattle.zy_machine.specs.State.{Aborted, Lock, NodeState, Txn, View, other}
 use Rattle.zy_wire.specs.Wireframe.{page_of}
 use Rattle.zy_machine.specs.declared.outcome.Why.{Why}
 use Rattle.zy_machine.proofs.Committing.{committed_serial}
-use Rattle.zy_machine.proofs.Events.{Aborts, Adds, Begins, Commits, Event, Gets, Inserts, Jumps, Rests, Runs, Sets, Writes, has_lock, key, value_at}
+use Rattle.zy_machine.proofs.Events.{Aborts, Adds, Begins, Commits, Event, Gets, Inserts, Jumps, Rests, Runs, Sets, Writes, has_lock, key, value_at, Splits, lows_after}
 use Rattle.zy_machine.proofs.Following.{Follows, Serially, active_not, follows_same, keep_registers, new_not}
 use Rattle.zy_machine.proofs.LockingRows.{home_owns}
 use Rattle.zy_machine.proofs.LockLists.{holds-drop, holds_more, holds_new}
@@ -222,8 +222,8 @@ along : (sc : Scenario) (n : Node) (w x : View) (start : Map) (lows : List ℕ) 
     → (Kept sc n x lows → Serially sc n x start lows) → Serially sc n w start lows
 along sc n w x start lows e k f = subst (λ z. Serially sc n z start lows) (sym e) (f (subst (λ z. Kept sc n z lows) e k))
 
-pub serial_event : (sc : Scenario) (n : Node) (v w : View) (start : Map) (lows : List ℕ) → Serially sc n v start lows → Event sc n v w
-    → Kept sc n w lows → Serially sc n w start lows
+pub serial_event : (sc : Scenario) (n : Node) (v w : View) (start : Map) (lows : List ℕ) → Serially sc n v start lows → (e : Event sc n v w)
+    → Kept sc n w (lows_after sc n v w lows e) → Serially sc n w start (lows_after sc n v w lows e)
 serial_event sc n v w start lows s (Rests e) k = subst (λ x. Serially sc n x start lows) (sym e) s
 serial_event sc n v w start lows s (Begins t h a new home e) k = along sc n w _ start lows e k (begun_serial sc n v start lows t h s new)
 serial_event sc n v w start lows s (Aborts t y active here e) k = along sc n w _ start lows e k (aborted_serial sc n v start lows t y s (active, here))
@@ -236,4 +236,5 @@ serial_event sc n v w start lows s (Writes t r q runs f there e) k = along sc n 
     (key_serial sc n v start lows t (key t r v) Exclusive _ _ _ (Write r q) s runs (λ keys. small_write (db v) r q (txn_at v t) keys f.small (there_value sc n v lows t (key t r v) s.kept (runs.active, runs.here) ∙ there)))
 serial_event sc n v w start lows s (Inserts t r q runs f new room e) k = along sc n w _ start lows e k
     (key_serial sc n v start lows t (key t r v) Exclusive _ _ _ (Insert r q) s runs (λ keys. small_insert (db v) r q (txn_at v t) keys f.small (there_value sc n v lows t (key t r v) s.kept (runs.active, runs.here) ∙ new)))
+serial_event sc n v w start lows s (Splits t r q runs f new full normal pages e) k = ?
 serial_event sc n v w start lows s (Commits t runs e) k = along sc n w _ start lows e k (committed_serial sc n v start lows t s runs)

@@ -18,7 +18,7 @@ use Rattle.zy_wire.specs.Wireframe.{page_of}
 use Rattle.zy_machine.specs.declared.modes.NodeMode.{NodeMode}
 use Rattle.zy_machine.specs.declared.modes.NodeMode.TheVariants.{Empty, Normal}
 use Rattle.zy_machine.specs.declared.outcome.Why.{Why}
-use Rattle.zy_machine.proofs.Events.{Aborts, Adds, Begins, Commits, Event, Free, Gets, Inserts, Jumps, Rests, Sets, Writes, has_lock, key}
+use Rattle.zy_machine.proofs.Events.{Aborts, Adds, Begins, Commits, Event, Free, Gets, Inserts, Jumps, Rests, Sets, Writes, has_lock, key, Splits, lows_after}
 use Rattle.zy_machine.proofs.Installing.{Placed, owns-installed, placed_installed}
 use Rattle.zy_machine.proofs.Locking.{Kept, began, freed, is_idle, lock_taken, seen_other, seen_step, untouched}
 use Rattle.zy_machine.proofs.LoneRuns.{get_row-put}
@@ -154,7 +154,7 @@ begun_event sc n v w lows t h k i a new home e =
 along : (sc : Scenario) (n : Node) (w x : View) (lows : List ℕ) → w ≡ x → Inv w → (Inv x → Kept sc n x lows) → Kept sc n w lows
 along sc n w x lows e i f = subst (λ z. Kept sc n z lows) (sym e) (f (subst Inv e i))
 
-pub kept_event : (sc : Scenario) (n : Node) (v w : View) (lows : List ℕ) → Kept sc n v lows → Inv w → Event sc n v w → Kept sc n w lows
+pub kept_event : (sc : Scenario) (n : Node) (v w : View) (lows : List ℕ) → Kept sc n v lows → Inv w → (e : Event sc n v w) → Kept sc n w (lows_after sc n v w lows e)
 kept_event sc n v w lows k i (Rests e) = along sc n w _ lows e i (λ _. k)
 kept_event sc n v w lows k i (Begins t h a new home e) = begun_event sc n v w lows t h k i a new home e
 kept_event sc n v w lows k i (Aborts t y active here e) = along sc n w _ lows e i (aborted_kept sc n v lows t y k (active, here))
@@ -164,4 +164,5 @@ kept_event sc n v w lows k i (Jumps t r q to runs e) = along sc n w _ lows e i (
 kept_event sc n v w lows k i (Gets t r q runs f e) = along sc n w _ lows e i (lock_kept sc n v lows t (key t q v) Shared _ _ _ k (runs.active, runs.here) f (λ j h. inl h))
 kept_event sc n v w lows k i (Writes t r q runs f there e) = along sc n w _ lows e i (lock_kept sc n v lows t (key t r v) Exclusive _ _ _ k (runs.active, runs.here) f (grown (key t r v) (key t q v) (txn_at v t).rows))
 kept_event sc n v w lows k i (Inserts t r q runs f new room e) = along sc n w _ lows e i (lock_kept sc n v lows t (key t r v) Exclusive _ _ _ k (runs.active, runs.here) f (grown (key t r v) (key t q v) (txn_at v t).rows))
+kept_event sc n v w lows k i (Splits t r q runs f new full normal pages e) = ?
 kept_event sc n v w lows k i (Commits t runs e) = along sc n w _ lows e i (committed_kept sc n v lows t k (runs.active, runs.here))

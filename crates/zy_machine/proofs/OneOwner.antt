@@ -9,11 +9,11 @@ use Rattle.zy_isa.specs.declared.choice.Choice.{Choice}
 use Rattle.zy_isa.specs.declared.node.Node.{Node}
 use Rattle.zy_isa.specs.declared.node.Node.TheVariants.{A, B}
 use Rattle.zy_isa.specs.declared.row.Row.{Row}
-use Rattle.zy_machine.specs.Change.{aborted, begun, committed, did, installed, locked, txn_at}
+use Rattle.zy_machine.specs.Change.{aborted, begun, committed, did, installed, locked, txn_at, cut}
 use Rattle.zy_machine.specs.OneOwner.{OneOwner, times}
 use Rattle.zy_machine.specs.Play.{move, opening, opening_leaves, opening_pages, play, side_of, step}
 use Rattle.zy_machine.specs.State.{Leaf, Message, NodeState, State, View, facing, seen_from}
-use Rattle.zy_machine.proofs.Events.{Aborts, Adds, Begins, Commits, Event, Gets, Inserts, Jumps, Rests, Sets, Writes, step_happens}
+use Rattle.zy_machine.proofs.Events.{Aborts, Adds, Begins, Commits, Event, Gets, Inserts, Jumps, Rests, Sets, Writes, step_happens, Splits}
 use Rattle.zy_machine.proofs.PageCounts.{times-installed}
 use Rattle.zy_machine.proofs.PlayPush.{play-keeps}
 use Rattle.zy_machine.proofs.Roles.{Bare, Destination, Inv, Owned, Phase, Resting, Roles, Source, is_bare, places, turned_inv, width}
@@ -59,7 +59,7 @@ locks_inv : (v w : View) → SameButLocks v.me w.me → w.them ≡ v.them → w.
 locks_inv v w e a b c i = shape_inv v w (locks_shape v.me w.me e) a b c i
 
 inv_event : (sc : Scenario) (n : Node) (v w : View) → Inv v → Event sc n v w → Inv w
-unfolding did locked txn_at aborted begun committed
+unfolding did locked txn_at aborted begun committed cut
 inv_event sc n v w i (Rests e) = rw e i
 inv_event sc n v w i (Begins t h a new home e) = rw e (locks_inv v _ (refl, refl, refl) refl refl refl i)
 inv_event sc n v w i (Aborts t y active here e) = rw e (locks_inv v _ (refl, refl, refl) refl refl refl i)
@@ -69,6 +69,7 @@ inv_event sc n v w i (Jumps t r q to runs e) = rw e (locks_inv v _ (refl, refl, 
 inv_event sc n v w i (Gets t r q runs f e) = rw e (locks_inv v _ (refl, refl, refl) refl refl refl i)
 inv_event sc n v w i (Writes t r q runs f there e) = rw e (locks_inv v _ (refl, refl, refl) refl refl refl i)
 inv_event sc n v w i (Inserts t r q runs f new room e) = rw e (locks_inv v _ (refl, refl, refl) refl refl refl i)
+inv_event sc n v w i (Splits t r q runs f new full normal pages e) = ?
 inv_event sc n v w i (Commits t runs e) = rw e (shape_inv v _ (record {
   mode = refl;
   lows = refl;

@@ -11,7 +11,7 @@ use Rattle.zy_isa.specs.Rows.{Rising}
 use Rattle.zy_isa.specs.Scenario.{Scenario, IsScenario, opening_rows, opening_pages_for}
 use Rattle.zy_page.specs.Leaf.{Leaf}
 use Rattle.zy_machine.specs.State.{NodeState}
-use Rattle.zy_machine.specs.Shelf.{page_in, with_page}
+use Rattle.zy_machine.specs.Pages.{page_in, with_page}
 use Rattle.zy_machine.specs.Play.{opening_leaves, opening_pages}
 use Rattle.zy_machine.proofs.RisingRows.{rises_drop, rises_weaker}
 use Rattle.zy_machine.specs.Layout.{AreNumbered, IsOver, pages_of, lows_of, with_leaves}

@@ -17,7 +17,7 @@ use Rattle.zy_machine.specs.Order.{NodeInOrder, NumbersRise, RowsRise, numbers}
 use Rattle.zy_machine.specs.Rows.{rows_on}
 use Rattle.zy_machine.specs.State.{Leaf, NodeState, Txn, View}
 use Rattle.zy_machine.specs.declared.outcome.Why.{Why}
-use Rattle.zy_machine.proofs.Events.{Aborts, Adds, Begins, Commits, Event, Gets, Inserts, Jumps, Rests, Sets, Writes, key, page, puts}
+use Rattle.zy_machine.proofs.Events.{Aborts, Adds, Begins, Commits, Event, Gets, Inserts, Jumps, Rests, Sets, Writes, key, page, puts, Splits}
 use Rattle.zy_machine.proofs.RisingRows.{rises_put, rises_puts}
 use Rattle.zy_machine.proofs.Roles.{width}
 use Rattle.zy_machine.proofs.Txns.{at_either, at_other}
@@ -122,4 +122,5 @@ ordered_event sc n v w o (Jumps t r q to runs e) = along w _ e (goes_ordered t _
 ordered_event sc n v w o (Gets t r q runs f e) = along w _ e (lock_ordered t _ _ Shared _ _ v o (o.private t))
 ordered_event sc n v w o (Writes t r q runs f there e) = along w _ e (puts_ordered t r q v o)
 ordered_event sc n v w o (Inserts t r q runs f new room e) = along w _ e (puts_ordered t r q v o)
+ordered_event sc n v w o (Splits t r q runs f new full normal pages e) = ?
 ordered_event sc n v w o (Commits t runs e) = along w _ e (committed_ordered t v o)

@@ -7,7 +7,7 @@ use Rattle.zy_isa.specs.Scenario.{Scenario}
 use Rattle.zy_page.specs.Leaf.{Leaf}
 use Rattle.zy_machine.specs.State.{State}
 use Rattle.zy_machine.specs.OneOwner.{times, places, width}
-use Rattle.zy_machine.specs.Shelf.{page_in}
+use Rattle.zy_machine.specs.Pages.{page_in}
 use Rattle.zy_machine.specs.Database.{all_leaves, sent_leaves, newest}
 use Rattle.zy_machine.specs.Play.{play, opening}
 use Rattle.zy_machine.proofs.OneOwner.{one_owner}

@@ -14,7 +14,7 @@ use Rattle.zy_machine.specs.Database.{laid, newest, sent_leaves}
 use Rattle.zy_machine.specs.Holders.{ExclusiveAlone, HoldersActive, holds}
 use Rattle.zy_machine.specs.Play.{blank, move, opening, opening_leaves, play, side_of, step}
 use Rattle.zy_machine.specs.State.{NodeState, State, Txn, View, facing, other, seen_from}
-use Rattle.zy_machine.proofs.Events.{step_happens}
+use Rattle.zy_machine.proofs.Events.{lows_after, step_happens}
 use Rattle.zy_machine.proofs.Installing.{Placed, placed_append, placed_front}
 use Rattle.zy_machine.proofs.LockingRows.{kept_event}
 use Rattle.zy_machine.proofs.Locking.{Kept, Locking, is_idle, seen_same, untouched, whole}
@@ -58,13 +58,17 @@ pub record Reached (sc : Scenario) (s : State) : Type 0 where
   pub lows : List ℕ
   pub kept : Kept sc A (facing A s) lows
 
-pub step_kept : (sc : Scenario) (c : Choice) (s : State) (lows : List ℕ) → Kept sc A (facing A s) lows → Kept sc A (facing A (step sc c s).after) lows
+-- the newest low keys after a step
+abbrev pub lows_then : Scenario → Choice → State → List ℕ → List ℕ
+lows_then sc c s lows = lows_after sc (side_of c s) (facing (side_of c s) s) (move sc c (facing (side_of c s) s)).after lows (step_happens sc c s)
+
+pub step_kept : (sc : Scenario) (c : Choice) (s : State) (lows : List ℕ) → Kept sc A (facing A s) lows → Kept sc A (facing A (step sc c s).after) (lows_then sc c s lows)
 unfolding step
 step_kept sc c s lows k =
     let n = side_of c s in
     let v = facing n s in
     let w = (move sc c v).after in
-    kept_to sc n w lows (kept_event sc n v w lows (kept_from sc n s lows k) (inv_view n w (step_inv sc c s k.inv)) (step_happens sc c s))
+    kept_to sc n w (lows_then sc c s lows) (kept_event sc n v w lows (kept_from sc n s lows k) (inv_view n w (step_inv sc c s k.inv)) (step_happens sc c s))
 
 -- the opening state
 pub blank_new : (programs : List (List Instr)) (t : ℕ) → is_active (txn_or (slice_get (map blank programs) t)).status ≡ false
@@ -108,7 +112,7 @@ opening_reached sc laid =
     }
 
 pub reached : (sc : Scenario) → IsScenario sc → (cs : List Choice) → Reached sc (play sc (opening sc) cs)
-reached sc ok cs = play-keeps sc (Reached sc) (λ c s a. record { lows = a.lows; kept = step_kept sc c s a.lows a.kept }) cs (opening sc) (opening_reached sc (laid_out sc ok))
+reached sc ok cs = play-keeps sc (Reached sc) (λ c s a. record { lows = lows_then sc c s a.lows; kept = step_kept sc c s a.lows a.kept }) cs (opening sc) (opening_reached sc (laid_out sc ok))
 
 -- who holds locks
 pub exclusive_alone : (sc : Scenario) → IsScenario sc → (cs : List Choice) → ExclusiveAlone (play sc (opening sc) cs)

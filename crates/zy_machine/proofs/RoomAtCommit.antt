@@ -21,7 +21,7 @@ use Rattle.zy_machine.proofs.Fit.{Fit, Room, Sized}
 use Rattle.zy_machine.proofs.Locking.{Kept}
 use Rattle.zy_machine.proofs.Opening.{laid_out}
 use Rattle.zy_machine.proofs.PlayPush.{play-keeps}
-use Rattle.zy_machine.proofs.Reached.{blank_new, kept_from, opening_reached, step_kept}
+use Rattle.zy_machine.proofs.Reached.{blank_new, kept_from, lows_then, opening_reached, step_kept}
 use Rattle.zy_machine.proofs.RisingRows.{rises_drop, rises_take}
 use Rattle.zy_machine.proofs.Roles.{turned}
 use Rattle.zy_machine.proofs.Room.{need_is}
@@ -61,7 +61,7 @@ step_fit sc c s a =
     let v = facing n s in
     let w = (move sc c v).after in
     let before = kept_from sc n s a.lows a.kept in
-    record { lows = a.lows; kept = step_kept sc c s a.lows a.kept; fit = fit_to sc n w a.lows (fit_event sc n v w a.lows before (fit_from sc n s a.lows a.fit) (step_happens sc c s)) }
+    record { lows = lows_then sc c s a.lows; kept = step_kept sc c s a.lows a.kept; fit = fit_to sc n w (lows_then sc c s a.lows) (fit_event sc n v w a.lows before (fit_from sc n s a.lows a.fit) (step_happens sc c s)) }
 
 take_most : (h : ℕ) (rows : List Row) → length (take h rows) ≤ h
 take_most zero rows = omega arith

@@ -6,11 +6,10 @@ use Rattle.zy_isa.specs.declared.row.Row.{Row}
 use Rattle.zy_isa.specs.Rows.{Rising, get_row}
 use Rattle.zy_page.specs.Leaf.{Leaf}
 use Rattle.zy_wire.specs.Wireframe.{page_of}
-use Rattle.zy_machine.specs.Pages.{owns, rows_of}
+use Rattle.zy_machine.specs.Pages.{owns, rows_of, page_in}
 use Rattle.zy_machine.specs.Rows.{put_rows, rows_on}
 use Rattle.zy_machine.specs.Change.{installed}
 use Rattle.zy_machine.specs.Order.{RowsRise}
-use Rattle.zy_machine.specs.Shelf.{page_in}
 use Rattle.zy_machine.specs.Install.{HasRoomFor}
 use Rattle.zy_machine.specs.Stores.{AreRoomy}
 use Rattle.zy_machine.proofs.LoneRuns.{or_else}

@@ -27,7 +27,7 @@ use Rattle.zy_machine.proofs.Opening.{LaidOut, laid_out, opening_database}
 use Rattle.zy_machine.proofs.OneOwner.{step_inv}
 use Rattle.zy_machine.proofs.PageCounts.{owns-times, owns_none, times-sent_leaves}
 use Rattle.zy_machine.proofs.PlayPush.{play-keeps}
-use Rattle.zy_machine.proofs.Reached.{blank_new, inv_view, opening_reached, turned_kept}
+use Rattle.zy_machine.proofs.Reached.{blank_new, inv_view, lows_then, opening_reached, turned_kept}
 use Rattle.zy_machine.proofs.PageValues.{db}
 use Rattle.zy_machine.proofs.Roles.{Owned, turned}
 use Rattle.zy_machine.proofs.FollowingRows.{serial_event}
@@ -108,7 +108,7 @@ step_holds sc start c s h =
     let event = step_happens sc c s in
     let before = serial_from sc n s start h.lows h.serially in
     let inv = inv_view n w (step_inv sc c s h.serially.kept.inv) in
-    record { lows = h.lows; serially = serial_to sc n w start h.lows (serial_event sc n v w start h.lows before event (kept_event sc n v w h.lows before.kept inv event)) }
+    record { lows = lows_then sc c s h.lows; serially = serial_to sc n w start (lows_then sc c s h.lows) (serial_event sc n v w start h.lows before event (kept_event sc n v w h.lows before.kept inv event)) }
 
 opening_holds : (sc : Scenario) → LaidOut sc → Holds sc (database (opening sc)) (opening sc)
 unfolding opening database txn_at

@@ -4,7 +4,8 @@ use Rattle.std.proofs.Math.ListN.{set}
 use Rattle.std.proofs.lemmas.Bool.{lt-ltb, le-ltb, eq-eqb, ne_eqb}
 use Rattle.zy_isa.specs.Rows.{put_row}
 use Rattle.zy_page.specs.Leaf.{Leaf}
-use Rattle.zy_machine.specs.Shelf.{page_in, with_page, with_row}
+use Rattle.zy_machine.specs.Pages.{page_in, with_page}
+use Rattle.zy_machine.specs.Shelf.{with_row}
 use Rattle.zy_machine.specs.Slots.{laid_out, InPlace}
 
 -- a number below the first slot's has no page

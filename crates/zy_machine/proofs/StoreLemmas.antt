@@ -9,8 +9,8 @@ use Rattle.zy_locks.specs.declared.lock.LockKind.{LockKind}
 use Rattle.zy_machine.specs.declared.outcome.Why.{Why}
 use Rattle.zy_machine.specs.State.{State, Txn, Active, Aborted, Committed, CommitRec, facing, seen_from, with_me}
 use Rattle.zy_machine.specs.Change.{txn_at, txn_or, begun, aborted, did, locked, committed, unlocked, with_installed, installed}
-use Rattle.zy_machine.specs.Pages.{rows_of, leaf_at}
-use Rattle.zy_machine.specs.Shelf.{Shelf, page_in, with_row}
+use Rattle.zy_machine.specs.Pages.{rows_of, leaf_at, page_in}
+use Rattle.zy_machine.specs.Shelf.{Shelf, with_row}
 use Rattle.zy_wire.specs.Wireframe.{page_of}
 use Rattle.zy_machine.specs.Rows.{put_rows, rows_on}
 use Rattle.zy_machine.specs.Install.{HasRoomFor}

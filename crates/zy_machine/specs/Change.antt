@@ -1,16 +1,19 @@
 -- The changes that the table names, one definition for each.
-use Rattle.std.specs.Prelude.{ℕ, ◌+◌, List, [], ◌∷◌, ◌++◌, replicate, Option, Some, None, slice_index, slice_get, slice_set}
+use Rattle.std.specs.Prelude.{ℕ, ◌+◌, List, [], ◌∷◌, ◌++◌, length, replicate, Option, Some, None, slice_index, slice_get, slice_set}
 use Rattle.zy_isa.specs.declared.node.Node.{Node}
 use Rattle.zy_isa.specs.declared.node.Node.TheVariants.{A}
 use Rattle.zy_isa.specs.declared.row.Row.{Row}
 use Rattle.zy_isa.specs.declared.instr.Reg.{Reg}
 use Rattle.zy_isa.specs.Registers.{number_of}
 use Rattle.zy_locks.specs.declared.lock.LockKind.{LockKind}
+use Rattle.zy_locks.specs.declared.lock.LockKind.TheVariants.{Exclusive}
 use Rattle.zy_locks.specs.Locks.{add_lock, drop_locks}
 use Rattle.zy_machine.specs.declared.outcome.Why.{Why}
 use Rattle.zy_machine.specs.declared.outcome.Outcome.{Outcome}
 use Rattle.zy_machine.specs.State.{View, NodeState, Leaf, Txn, New, Active, Committed, Aborted, Move, with_me}
+use Rattle.zy_page.specs.Leaf.{rows_from}
 use Rattle.zy_machine.specs.Rows.{put_rows, rows_on}
+use Rattle.zy_machine.specs.Pages.{lowered, rows_of, with_page}
 
 -- a row that sends no message
 abbrev pub quiet : View → Outcome → Move
@@ -67,6 +70,17 @@ installed lows rows (x ∷ xs) =
 
 abbrev pub with_installed : List Row → NodeState → NodeState
 with_installed rows x = record x { pages = installed x.lows rows x.pages }
+
+-- page p is cut at b: a new page takes the rows at or above b, and t locks it
+unfoldable pub cut : ℕ → ℕ → ℕ → View → View
+cut t p b s =
+    let x = s.me in
+    let q = length x.lows in
+    with_me (record x {
+      lows = x.lows ++ b ∷ [];
+      pages = with_page (record { number = q; low = b; rows = rows_from b (rows_of x.pages p) }) (lowered p b x.pages);
+      locks = add_lock q t Exclusive x.locks;
+    }) s
 
 -- t is committed: its private rows are installed and cleared, its locks are dropped
 unfoldable pub committed : ℕ → View → View

@@ -2,6 +2,7 @@ pub mod Links
 pub mod State
 pub mod Pages
 pub mod Rows
+pub mod Keys
 pub mod Change
 pub mod Client
 pub mod Run

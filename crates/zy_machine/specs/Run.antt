@@ -1,5 +1,5 @@
 -- n run t, line by line.
-use Rattle.std.specs.Prelude.{ℕ, ◌+◌, ◌%◌, ◌^◌, ◌==◌, nat_lt, List, [], length, Bool, true, false, ◌||◌, not, if◌then◌else◌, Option, Some, None, slice_get, is_some, unwrap_or}
+use Rattle.std.specs.Prelude.{ℕ, ◌+◌, ◌/◌, ◌%◌, ◌^◌, ◌==◌, ◌++◌, nat_lt, List, [], length, slice_index, Bool, true, false, ◌||◌, not, if◌then◌else◌, Option, Some, None, slice_get, is_some, unwrap_or}
 use Rattle.zy_isa.specs.declared.node.Node.{Node}
 use Rattle.zy_isa.specs.declared.node.Node.TheVariants.{A, B}
 use Rattle.zy_isa.specs.declared.row.Row.{Row}
@@ -20,6 +20,7 @@ use Rattle.zy_machine.specs.State.{View, Move}
 use Rattle.zy_wire.specs.Wireframe.{page_of}
 use Rattle.zy_machine.specs.Pages.{rows_of}
 use Rattle.zy_machine.specs.Rows.{rows_on, rows_not_in}
+use Rattle.zy_machine.specs.Keys.{put_key, keys_of}
 use Rattle.zy_machine.specs.Change.{quiet, reg, with_reg, txn_at, aborted, did, locked, committed}
 use Rattle.zy_machine.specs.Client.{is_active}
 
@@ -71,6 +72,11 @@ own_inserts t p s = rows_not_in (rows_on s.me.lows p (txn_at s t).rows) (rows_of
 -- the page has room for a row more
 abbrev pub has_room : Scenario → ℕ → ℕ → View → Bool
 has_room sc t p s = nat_lt (length (rows_of s.me.pages p) + length (own_inserts t p s)) sc.cap
+
+-- the key at index (cap + 1) / 2 among those of the page, t's new ones there, and this one
+abbrev pub boundary : Scenario → ℕ → ℕ → ℕ → View → ℕ
+boundary sc t k p s =
+    slice_index (put_key k (keys_of (rows_of s.me.pages p ++ own_inserts t p s))) ((sc.cap + 1) / 2)
 
 -- an insert on a full page
 unfoldable pub full_row : ℕ → View → Move

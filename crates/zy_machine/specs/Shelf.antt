@@ -9,15 +9,6 @@ pub record Shelf : Type 0 where
   pub width : ℕ
   pub pages : List Leaf
 
--- the page of a number
-abbrev pub page_in : ℕ → List Leaf → Option Leaf
-page_in p xs = find (λ (x : Leaf). x.number == p) xs
-
--- the pages with one more, in its place
-abbrev pub with_page : Leaf → List Leaf → List Leaf
-with_page x [] = x ∷ []
-with_page x (y ∷ ys) = if nat_lt x.number y.number then x ∷ y ∷ ys else y ∷ with_page x ys
-
 -- the pages with a row put on page p
 abbrev pub with_row : ℕ → ℕ → ℕ → List Leaf → List Leaf
 with_row p k v [] = []

@@ -16,7 +16,7 @@ use Rattle.zy_isa.specs.declared.choice.Choice.{Choice}
 use Rattle.zy_isa.specs.declared.choice.Choice.TheVariants.{Begin, Kill, Run}
 use Rattle.zy_machine.specs.State.{State, NodeState, Move, Step, facing, seen_from}
 use Rattle.zy_wire.specs.Wireframe.{page_of}
-use Rattle.zy_machine.specs.Shelf.{page_in}
+use Rattle.zy_machine.specs.Pages.{page_in}
 use Rattle.zy_machine.specs.Change.{txn_or, locked, installed}
 use Rattle.zy_machine.specs.Client.{is_active}
 use Rattle.zy_machine.specs.Run.{program_of}

@@ -3,7 +3,7 @@ ghost use Rattle.std.specs.Prelude.{◌≡◌, ◌<◌, ◌≤◌, ◌+◌, ◌-
 ghost use Rattle.std.specs.FinMap.{get};
 ghost use Rattle.zy_isa.specs.Choices.{names_below};
 ghost use Rattle.zy_machine.specs.State.{facing};
-ghost use Rattle.zy_machine.specs.Shelf.{page_in};
+ghost use Rattle.zy_machine.specs.Pages.{page_in};
 ghost use Rattle.zy_machine.specs.Change.{txn_or};
 ghost use Rattle.zy_machine.specs.Database.{database, all_leaves, newest};
 ghost use Rattle.zy_machine.specs.Play.{step as step_lem, play, entries, opening, entry_of};

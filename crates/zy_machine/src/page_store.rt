@@ -2,8 +2,8 @@
 ghost use Rattle.std.specs.Prelude.{◌≡◌, ◌<◌, ◌≤◌, [], None, IfOk, IfSome, is_some, length, option_copied};
 ghost use Rattle.zy_isa.specs.Rows.{get_row, put_row};
 ghost use Rattle.zy_page.specs.Leaf.{Leaf};
-ghost use Rattle.zy_machine.specs.Shelf.{Shelf, page_in, with_page, with_row};
-ghost use Rattle.zy_machine.specs.Pages.{owns as owns_lem};
+ghost use Rattle.zy_machine.specs.Shelf.{Shelf, with_row};
+ghost use Rattle.zy_machine.specs.Pages.{owns as owns_lem, page_in, with_page};
 ghost use Rattle.zy_machine.specs.Install.{HasRoomFor, IsRoomy};
 
 use std::alloc::{AllocError, Global};

@@ -1,7 +1,7 @@
 //! A page, wherever it is.
 ghost use Rattle.std.specs.Prelude.{◌≡◌, ◌++◌, Some, OnOk, IsSome};
 ghost use Rattle.std.specs.String.{string_bytes};
-ghost use Rattle.zy_machine.specs.Shelf.{page_in};
+ghost use Rattle.zy_machine.specs.Pages.{page_in};
 ghost use Rattle.zy_machine.specs.Database.{all_leaves};
 ghost use Rattle.zy_audit.specs.Texts.{place_text, leaf_text, page_text};
 ghost use Rattle.zy_audit.specs.Listing.{page_texts};
