@@ -62,7 +62,7 @@ get_row-puts (r ∷ rs) rows k =
     get_row-put r.key r.value (put_rows rs rows) k ∙ ap (λ o. if r.key == k then Some r.value else o) (get_row-puts rs rows k)
     ∙ or_else_put (r.key == k) r.value (get_row rs k) (get_row rows k)
 
-get_row-on : (lows : List ℕ) (p : ℕ) (rs : List Row) (k : ℕ) → get_row (rows_on lows p rs) k ≡ (if page_of lows k == p then get_row rs k else None)
+pub get_row-on : (lows : List ℕ) (p : ℕ) (rs : List Row) (k : ℕ) → get_row (rows_on lows p rs) k ≡ (if page_of lows k == p then get_row rs k else None)
 get_row-on lows p [] k = cond_both (page_of lows k == p) None None (λ o. None ≡ o) (λ _. refl) (λ _. refl)
 get_row-on lows p (r ∷ rs) k =
     let e = get_row-on lows p rs k in

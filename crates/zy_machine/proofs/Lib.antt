@@ -8,6 +8,8 @@ pub mod Roles
 pub mod OneOwner
 pub mod LoneRuns
 pub mod Installing
+pub mod CutPages
+pub mod Boundary
 pub mod LockLists
 pub mod Locking
 pub mod PageValues

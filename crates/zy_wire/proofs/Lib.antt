@@ -1,3 +1,4 @@
 pub mod PageOf
+pub mod Longer
 pub mod Places
 pub mod Grown
