@@ -19,7 +19,8 @@ use Rattle.zy_machine.proofs.Events.{step_happens}
 use Rattle.zy_machine.proofs.Ordered.{Ordered, ordered_event}
 use Rattle.zy_machine.proofs.PlayPush.{play-keeps}
 use Rattle.zy_machine.proofs.RisingRows.{rises_drop, rises_take}
-use Rattle.zy_machine.proofs.Roles.{turned}
+use Rattle.zy_machine.proofs.OneOwner.{inv_from, opening_inv, step_inv}
+use Rattle.zy_machine.proofs.Roles.{Inv, turned}
 use Rattle.zy_machine.proofs.Txns.{at_side, blank_at}
 
 turned_ordered : (v : View) → Ordered v → Ordered (turned v)
@@ -33,7 +34,7 @@ turned_ordered v o = record {
   lows = let k = o.lows in grind (arith, nat_tests, k);
 }
 
-ordered_from : (n : Node) (s : State) → Ordered (facing A s) → Ordered (facing n s)
+pub ordered_from : (n : Node) (s : State) → Ordered (facing A s) → Ordered (facing n s)
 ordered_from A s o = o
 ordered_from B s o = turned_ordered (facing A s) o
 
@@ -41,13 +42,13 @@ ordered_to : (n : Node) (w : View) → Ordered w → Ordered (facing A (seen_fro
 ordered_to A w o = o
 ordered_to B w o = turned_ordered w o
 
-step_ordered : (sc : Scenario) (c : Choice) (s : State) → Ordered (facing A s) → Ordered (facing A (step sc c s).after)
+step_ordered : (sc : Scenario) (c : Choice) (s : State) → Inv (facing A s) → Ordered (facing A s) → Ordered (facing A (step sc c s).after)
 unfolding step
-step_ordered sc c s o =
+step_ordered sc c s i o =
     let n = side_of c s in
     let v = facing n s in
     let w = (move sc c v).after in
-    ordered_to n w (ordered_event sc n v w (ordered_from n s o) (step_happens sc c s))
+    ordered_to n w (ordered_event sc n v w (inv_from n s i) (ordered_from n s o) (step_happens sc c s))
 
 numbers-opening : (fuel h i low : ℕ) (rows : List Row) → low ≤ i → NumbersRise low (numbers (opening_pages fuel h i rows))
 numbers-opening zero h i low rows le = tt
@@ -82,6 +83,17 @@ opening_ordered sc ok =
       lows = let long = length-map leaves (λ (x : Leaf). x.low) in grind (arith, nat_tests, long);
     }
 
+-- what is known of every state that is reached
+pub record Tidy (s : State) : Type 0 where
+  pub inv : Inv (facing A s)
+  pub ordered : Ordered (facing A s)
+
+pub step_tidy : (sc : Scenario) (c : Choice) (s : State) → Tidy s → Tidy (step sc c s).after
+step_tidy sc c s x = record { inv = step_inv sc c s x.inv; ordered = step_ordered sc c s x.inv x.ordered }
+
+pub opening_tidy : (sc : Scenario) → IsScenario sc → Tidy (opening sc)
+opening_tidy sc ok = record { inv = opening_inv sc; ordered = opening_ordered sc ok }
+
 node_ordered : (n : Node) (s : State) → Ordered (facing A s) → NodeInOrder (facing n s).me
 node_ordered A s o = o.mine
 node_ordered B s o = o.theirs
@@ -92,7 +104,7 @@ longer xs ys = cond_both (nat_lt (length xs) (length ys)) ys xs (λ zs. length z
 pub in_order : (sc : Scenario) → IsScenario sc → (cs : List Choice) → InOrder (play sc (opening sc) cs)
 in_order sc ok cs =
     let s = play sc (opening sc) cs in
-    let o = play-keeps sc (λ z. Ordered (facing A z)) (step_ordered sc) cs (opening sc) (opening_ordered sc ok) in
+    let o = (play-keeps sc Tidy (step_tidy sc) cs (opening sc) (opening_tidy sc ok)).ordered in
     record {
       nodes = λ n. node_ordered n s o;
       ab = o.outbox;

@@ -1,5 +1,5 @@
 -- Each row keeps roles and owners, and so does every schedule.
-use Rattle.std.proofs.Common.{List, [], ap, arith, length, refl, subst, suc, sym, zero, ℕ, ◌+◌, ◌∙◌, ◌∷◌, ◌≡◌}
+use Rattle.std.proofs.Common.{List, [], ap, arith, length, length-append, true, refl, subst, suc, sym, zero, ℕ, ◌+◌, ◌∙◌, ◌∷◌, ◌≡◌}
 use Rattle.std.specs.Prelude.{drop, if◌then◌else◌, map, max, nat_lt}
 use Rattle.std.proofs.lemmas.Bool.{false≢true}
 use Rattle.std.proofs.lemmas.Bool.Decides.{nat_tests}
@@ -10,13 +10,19 @@ use Rattle.zy_isa.specs.declared.node.Node.{Node}
 use Rattle.zy_isa.specs.declared.node.Node.TheVariants.{A, B}
 use Rattle.zy_isa.specs.declared.row.Row.{Row}
 use Rattle.zy_machine.specs.Change.{aborted, begun, committed, did, installed, locked, txn_at, cut}
+use Rattle.zy_page.specs.Leaf.{rows_from}
+use Rattle.zy_locks.specs.declared.lock.LockKind.TheVariants.{Exclusive}
+use Rattle.zy_machine.specs.declared.modes.NodeMode.TheVariants.{Empty, Normal}
+use Rattle.zy_machine.specs.Client.{is_mode}
+use Rattle.zy_machine.specs.Pages.{lowered, rows_of}
+use Rattle.zy_machine.specs.Run.{boundary}
 use Rattle.zy_machine.specs.OneOwner.{OneOwner, times}
 use Rattle.zy_machine.specs.Play.{move, opening, opening_leaves, opening_pages, play, side_of, step}
 use Rattle.zy_machine.specs.State.{Leaf, Message, NodeState, State, View, facing, seen_from}
-use Rattle.zy_machine.proofs.Events.{Aborts, Adds, Begins, Commits, Event, Gets, Inserts, Jumps, Rests, Sets, Writes, step_happens, Splits}
-use Rattle.zy_machine.proofs.PageCounts.{times-installed}
+use Rattle.zy_machine.proofs.Events.{Aborts, Adds, Begins, Commits, Event, Gets, Inserts, Jumps, Rests, Sets, Writes, step_happens, Splits, has_lock, key, page}
+use Rattle.zy_machine.proofs.PageCounts.{times-installed, times-lowered, times-with_page}
 use Rattle.zy_machine.proofs.PlayPush.{play-keeps}
-use Rattle.zy_machine.proofs.Roles.{Bare, Destination, Inv, Owned, Phase, Resting, Roles, Source, is_bare, places, turned_inv, width}
+use Rattle.zy_machine.proofs.Roles.{mode_clash, Bare, Destination, Inv, Owned, Phase, Resting, Roles, Source, is_bare, places, turned_inv, width}
 
 -- a node in the same mode, with the same low keys and page numbers
 pub record SameShape (x y : NodeState) : Type 0 where
@@ -55,8 +61,28 @@ SameButLocks x y = (y.mode ≡ x.mode) × (y.lows ≡ x.lows) × (y.pages ≡ x.
 locks_shape : (x y : NodeState) → SameButLocks x y → SameShape x y
 locks_shape x y e = record { mode = e.0; lows = e.1; counts = λ p. ap (times p) e.2; none = λ h. e.2 ∙ h }
 
-locks_inv : (v w : View) → SameButLocks v.me w.me → w.them ≡ v.them → w.inbox ≡ v.inbox → w.outbox ≡ v.outbox → Inv v → Inv w
+pub locks_inv : (v w : View) → SameButLocks v.me w.me → w.them ≡ v.them → w.inbox ≡ v.inbox → w.outbox ≡ v.outbox → Inv v → Inv w
 locks_inv v w e a b c i = shape_inv v w (locks_shape v.me w.me e) a b c i
+
+-- a page is cut at the node that is home
+cut_inv : (sc : Scenario) (t p b : ℕ) (v : View) → is_mode Normal v.me.mode ≡ true → Inv v → Roles v → Inv (cut t p b v)
+unfolding cut
+cut_inv sc t p b v normal i (Source (Resting mode empty bare out back)) = record {
+  roles = Source (Resting mode empty bare out back);
+  owned = record {
+    once = λ q.
+        let k = i.owned.once q in
+        let leaf : Leaf = record { number = length v.me.lows; low = b; rows = rows_from b (rows_of v.me.pages p) } in
+        let one = times-with_page q leaf (lowered p b v.me.pages) in
+        let same = times-lowered p b q v.me.pages in
+        let long = length-append v.me.lows (b ∷ []) in
+        let none : length v.them.lows ≡ 0 = ap length bare in
+        grind (arith, nat_tests, k, one, same, long, none);
+  };
+  mine = record { none = λ h. mode_clash is_bare Normal v.me.mode mode refl h };
+  theirs = i.theirs;
+}
+cut_inv sc t p b v normal i (Destination (Resting mode empty bare out back)) = mode_clash (is_mode Normal) Empty v.me.mode empty refl normal
 
 inv_event : (sc : Scenario) (n : Node) (v w : View) → Inv v → Event sc n v w → Inv w
 unfolding did locked txn_at aborted begun committed cut
@@ -69,7 +95,9 @@ inv_event sc n v w i (Jumps t r q to runs e) = rw e (locks_inv v _ (refl, refl, 
 inv_event sc n v w i (Gets t r q runs f e) = rw e (locks_inv v _ (refl, refl, refl) refl refl refl i)
 inv_event sc n v w i (Writes t r q runs f there e) = rw e (locks_inv v _ (refl, refl, refl) refl refl refl i)
 inv_event sc n v w i (Inserts t r q runs f new room e) = rw e (locks_inv v _ (refl, refl, refl) refl refl refl i)
-inv_event sc n v w i (Splits t r q runs f new full normal pages e) = ?
+inv_event sc n v w i (Splits t r q runs f new full normal pages e) =
+    let locked = locks_inv v (has_lock t (key t r v) Exclusive v) (refl, refl, refl) refl refl refl i in
+    rw e (cut_inv sc t (page t r v) (boundary sc t (key t r v) (page t r v) v) (has_lock t (key t r v) Exclusive v) normal locked locked.roles)
 inv_event sc n v w i (Commits t runs e) = rw e (shape_inv v _ (record {
   mode = refl;
   lows = refl;

@@ -20,15 +20,15 @@ use Rattle.zy_machine.specs.Layout.{AreNumbered, IsOver, pages_of, lows_of, with
 
 pub page_after : (n p : ℕ) (xs : List Leaf) → AreNumbered n xs → n + length xs ≤ p → page_in p xs ≡ None
 page_after n p [] h le = refl
-page_after n p (x ∷ xs) h le = rw (ne_eqb x.number p (omega (arith, h.0))) (page_after (suc n) p xs h.1 (omega arith))
+page_after n p (x ∷ xs) h le = rw (ne_eqb x.number p (omega (arith, h.0))) (page_after (n + 1) p xs h.1 (omega arith))
 
 pub with_page_last : (n : ℕ) (y : Leaf) (xs : List Leaf) → AreNumbered n xs → n + length xs ≤ y.number → with_page y xs ≡ xs ++ y ∷ []
 with_page_last n y [] h le = refl
-with_page_last n y (x ∷ xs) h le = rw (le-ltb y.number x.number (omega (arith, h.0))) (ap (λ z. x ∷ z) (with_page_last (suc n) y xs h.1 (omega arith)))
+with_page_last n y (x ∷ xs) h le = rw (le-ltb y.number x.number (omega (arith, h.0))) (ap (λ z. x ∷ z) (with_page_last (n + 1) y xs h.1 (omega arith)))
 
 pub numbered_more : (n : ℕ) (y : Leaf) (xs : List Leaf) → AreNumbered n xs → y.number ≡ n + length xs → AreNumbered n (xs ++ y ∷ [])
 numbered_more n y [] h e = (omega arith, tt)
-numbered_more n y (x ∷ xs) h e = (h.0, numbered_more (suc n) y xs h.1 (omega arith))
+numbered_more n y (x ∷ xs) h e = (h.0, numbered_more (n + 1) y xs h.1 (omega arith))
 
 -- ---- the pages of the rows that are left
 

@@ -1,7 +1,7 @@
 -- Each row of the table leaves every list in its order.
-use Rattle.std.proofs.Common.{List, [], ap, arith, inl, inr, length, refl, subst, suc, sym, ℕ, ◌+◌, ◌∙◌, ◌∷◌, ◌≡◌}
-use Rattle.std.specs.Prelude.{slice_set}
-use Rattle.std.proofs.lemmas.Bool.{cases_eq}
+use Rattle.std.proofs.Common.{List, [], ap, arith, false, true, inl, inr, length, length-append, refl, subst, suc, sym, ℕ, ◌+◌, ◌∙◌, ◌∷◌, ◌++◌, ◌≡◌, ◌≤◌}
+use Rattle.std.specs.Prelude.{nat_lt, nat_le, slice_set, ◌==◌}
+use Rattle.std.proofs.lemmas.Bool.{cases_eq, cond_both, eqb-false, ltb-false, ltb-true, or_parts}
 use Rattle.zy_isa.specs.Rows.{Rising}
 use Rattle.zy_isa.specs.Scenario.{Scenario}
 use Rattle.zy_isa.specs.declared.instr.Reg.{Reg}
@@ -11,15 +11,23 @@ use Rattle.zy_locks.specs.Order.{LocksRise}
 use Rattle.zy_locks.proofs.Rising.{rise_add, rise_drop}
 use Rattle.zy_locks.specs.declared.lock.LockKind.{LockKind}
 use Rattle.zy_locks.specs.declared.lock.LockKind.TheVariants.{Exclusive, Shared}
-use Rattle.zy_machine.specs.Change.{aborted, begun, committed, did, installed, locked, txn_at}
+use Rattle.zy_machine.specs.Change.{aborted, begun, committed, cut, did, installed, locked, txn_at}
 use Rattle.zy_machine.specs.Database.{sent_leaves}
 use Rattle.zy_machine.specs.Order.{NodeInOrder, NumbersRise, RowsRise, numbers}
 use Rattle.zy_machine.specs.Rows.{rows_on}
 use Rattle.zy_machine.specs.State.{Leaf, NodeState, Txn, View}
 use Rattle.zy_machine.specs.declared.outcome.Why.{Why}
-use Rattle.zy_machine.proofs.Events.{Aborts, Adds, Begins, Commits, Event, Gets, Inserts, Jumps, Rests, Sets, Writes, key, page, puts, Splits}
-use Rattle.zy_machine.proofs.RisingRows.{rises_put, rises_puts}
-use Rattle.zy_machine.proofs.Roles.{width}
+use Rattle.zy_machine.proofs.Events.{Aborts, Adds, Begins, Commits, Event, Gets, Inserts, Jumps, Rests, Sets, Writes, has_lock, key, page, puts, Splits}
+use Rattle.zy_machine.proofs.RisingRows.{rises_put, rises_puts, rises_weaker}
+use Rattle.zy_machine.proofs.Roles.{Inv, fresh_number, normal_other, width}
+use Rattle.zy_machine.proofs.OneOwner.{locks_inv}
+use Rattle.zy_machine.proofs.CutPages.{owns-lowered}
+use Rattle.zy_page.specs.Leaf.{rows_below, rows_from}
+use Rattle.zy_wire.specs.Wireframe.{page_of}
+use Rattle.zy_machine.specs.Client.{is_mode}
+use Rattle.zy_machine.specs.declared.modes.NodeMode.TheVariants.{Normal}
+use Rattle.zy_machine.specs.Pages.{leaf_at, lowered, owns, rows_of, with_page}
+use Rattle.zy_machine.specs.Run.{boundary}
 use Rattle.zy_machine.proofs.Txns.{at_either, at_other}
 
 -- pages
@@ -109,18 +117,113 @@ committed_ordered t v o =
 puts_ordered : (t : ℕ) (r q : Reg) (v : View) → Ordered v → Ordered (puts t r q v)
 puts_ordered t r q v o = lock_ordered t (page t r v) _ Exclusive _ _ v o (rises_put 0 (key t r v) (key t q v) (txn_at v t).rows (omega arith) (o.private t))
 
+-- ---- a page is cut
+
+numbers-lowered : (p b : ℕ) (xs : List Leaf) → numbers (lowered p b xs) ≡ numbers xs
+numbers-lowered p b [] = refl
+numbers-lowered p b (x ∷ xs) = ap (λ ns. x.number ∷ ns) (numbers-lowered p b xs)
+
+numbers-with_page : (low : ℕ) (leaf : Leaf) (xs : List Leaf) → low ≤ leaf.number → owns xs leaf.number ≡ false → NumbersRise low (numbers xs) → NumbersRise low (numbers (with_page leaf xs))
+numbers-with_page low leaf [] le new h = (le, tt)
+numbers-with_page low leaf (x ∷ xs) le new h =
+    let parts = or_parts (x.number == leaf.number) (owns xs leaf.number) new in
+    cond_both (nat_lt leaf.number x.number) (leaf ∷ x ∷ xs) (x ∷ with_page leaf xs) (λ ys. NumbersRise low (numbers ys))
+    (λ e. let under = ltb-true _ _ e in (le, ((omega arith), h.1)))
+    (λ e. let over = ltb-false _ _ e in let other = eqb-false _ _ parts.0 in (h.0, numbers-with_page (x.number + 1) leaf xs (omega (arith, other)) parts.1 h.1))
+
+length-with_page : (leaf : Leaf) (xs : List Leaf) → length (with_page leaf xs) ≡ length xs + 1
+length-with_page leaf [] = refl
+length-with_page leaf (x ∷ xs) =
+    let e = length-with_page leaf xs in
+    cond_both (nat_lt leaf.number x.number) (leaf ∷ x ∷ xs) (x ∷ with_page leaf xs) (λ ys. length ys ≡ suc (length xs) + 1) (λ _. omega arith) (λ _. omega arith)
+
+length-lowered : (p b : ℕ) (xs : List Leaf) → length (lowered p b xs) ≡ length xs
+length-lowered p b [] = refl
+length-lowered p b (x ∷ xs) = ap suc (length-lowered p b xs)
+
+pub rises_below : (low b : ℕ) (rows : List Row) → Rising low rows → Rising low (rows_below b rows)
+rises_below low b [] h = tt
+rises_below low b (r ∷ rows) h =
+    cond_both (nat_lt r.key b) (r ∷ rows_below b rows) (rows_below b rows) (Rising low)
+    (λ _. (h.0, rises_below (r.key + 1) b rows h.1))
+    (λ _. rises_below low b rows (rises_weaker (r.key + 1) low rows (let a = h.0 in omega arith) h.1))
+
+pub rises_from : (low b : ℕ) (rows : List Row) → Rising low rows → Rising low (rows_from b rows)
+rises_from low b [] h = tt
+rises_from low b (r ∷ rows) h =
+    cond_both (nat_le b r.key) (r ∷ rows_from b rows) (rows_from b rows) (Rising low)
+    (λ _. (h.0, rises_from (r.key + 1) b rows h.1))
+    (λ _. rises_from low b rows (rises_weaker (r.key + 1) low rows (let a = h.0 in omega arith) h.1))
+
+-- the rows of a page rise
+pub rows_at : (p : ℕ) (xs : List Leaf) → RowsRise xs → Rising 0 (rows_of xs p)
+rows_at p [] h = tt
+rows_at p (x ∷ xs) h = cond_both (x.number == p) x (leaf_at xs p) (λ (y : Leaf). Rising 0 y.rows) (λ _. h.0) (λ _. rows_at p xs h.1)
+
+rows_rise-lowered : (p b : ℕ) (xs : List Leaf) → RowsRise xs → RowsRise (lowered p b xs)
+rows_rise-lowered p b [] h = tt
+rows_rise-lowered p b (x ∷ xs) h = (cond_both (x.number == p) (rows_below b x.rows) x.rows (Rising 0) (λ _. rises_below 0 b x.rows h.0) (λ _. h.0), rows_rise-lowered p b xs h.1)
+
+rows_rise-with_page : (leaf : Leaf) (xs : List Leaf) → Rising 0 leaf.rows → RowsRise xs → RowsRise (with_page leaf xs)
+rows_rise-with_page leaf [] r h = (r, tt)
+rows_rise-with_page leaf (x ∷ xs) r h = cond_both (nat_lt leaf.number x.number) (leaf ∷ x ∷ xs) (x ∷ with_page leaf xs) RowsRise (λ _. (r, h)) (λ _. (h.0, rows_rise-with_page leaf xs r h.1))
+
+cut_ordered : (t p b : ℕ) (v : View) → Ordered v → Inv v → is_mode Normal v.me.mode ≡ true → Ordered (cut t p b v)
+unfolding cut txn_at
+cut_ordered t p b v o i normal =
+    let q = length v.me.lows in
+    let leaf : Leaf = record { number = q; low = b; rows = rows_from b (rows_of v.me.pages p) } in
+    let none : length v.them.lows ≡ 0 = ap length (normal_other v i.roles normal).1 in
+    let new : owns v.me.pages q ≡ false = fresh_number v i.owned (omega arith) in
+    record {
+      mine = record {
+        pages = numbers-with_page 0 leaf (lowered p b v.me.pages) (omega arith) (owns-lowered p b v.me.pages q ∙ new) (subst (NumbersRise 0) (sym (numbers-lowered p b v.me.pages)) o.mine.pages);
+        rows = rows_rise-with_page leaf (lowered p b v.me.pages) (rises_from 0 b (rows_of v.me.pages p) (rows_at p v.me.pages o.mine.rows)) (rows_rise-lowered p b v.me.pages o.mine.rows);
+        asked = o.mine.asked;
+        locks = rise_add q t Exclusive v.me.locks o.mine.locks;
+      };
+      theirs = o.theirs;
+      inbox = o.inbox;
+      outbox = o.outbox;
+      private = o.private;
+      lows =
+          let k = o.lows in
+          let long = length-append v.me.lows (b ∷ []) in
+          let more = length-with_page leaf (lowered p b v.me.pages) in
+          let same = length-lowered p b v.me.pages in
+          omega (arith, k, long, more, same, none);
+    }
+
+has_lock_ordered : (t k : ℕ) (kind : LockKind) (v : View) → Ordered v → Ordered (has_lock t k kind v)
+unfolding locked txn_at
+has_lock_ordered t k kind v o = record {
+  mine = locks_ordered v.me _ o.mine refl refl (rise_add (page_of v.me.lows k) t kind v.me.locks o.mine.locks);
+  theirs = o.theirs;
+  inbox = o.inbox;
+  outbox = o.outbox;
+  private = o.private;
+  lows = o.lows;
+}
+
+has_lock_inv : (t k : ℕ) (kind : LockKind) (v : View) → Inv v → Inv (has_lock t k kind v)
+unfolding locked
+has_lock_inv t k kind v i = locks_inv v (has_lock t k kind v) (refl, refl, refl) refl refl refl i
+
 along : (w x : View) → w ≡ x → Ordered x → Ordered w
 along w x e o = subst Ordered (sym e) o
 
-pub ordered_event : (sc : Scenario) (n : Node) (v w : View) → Ordered v → Event sc n v w → Ordered w
-ordered_event sc n v w o (Rests e) = along w _ e o
-ordered_event sc n v w o (Begins t h a new home e) = along w _ e (begun_ordered h t v o)
-ordered_event sc n v w o (Aborts t y active here e) = along w _ e (ended_ordered t y v o)
-ordered_event sc n v w o (Sets t r x runs e) = along w _ e (goes_ordered t _ _ _ v o (o.private t))
-ordered_event sc n v w o (Adds t r q runs e) = along w _ e (goes_ordered t _ _ _ v o (o.private t))
-ordered_event sc n v w o (Jumps t r q to runs e) = along w _ e (goes_ordered t _ _ _ v o (o.private t))
-ordered_event sc n v w o (Gets t r q runs f e) = along w _ e (lock_ordered t _ _ Shared _ _ v o (o.private t))
-ordered_event sc n v w o (Writes t r q runs f there e) = along w _ e (puts_ordered t r q v o)
-ordered_event sc n v w o (Inserts t r q runs f new room e) = along w _ e (puts_ordered t r q v o)
-ordered_event sc n v w o (Splits t r q runs f new full normal pages e) = ?
-ordered_event sc n v w o (Commits t runs e) = along w _ e (committed_ordered t v o)
+pub ordered_event : (sc : Scenario) (n : Node) (v w : View) → Inv v → Ordered v → Event sc n v w → Ordered w
+unfolding locked
+ordered_event sc n v w i o (Rests e) = along w _ e o
+ordered_event sc n v w i o (Begins t h a new home e) = along w _ e (begun_ordered h t v o)
+ordered_event sc n v w i o (Aborts t y active here e) = along w _ e (ended_ordered t y v o)
+ordered_event sc n v w i o (Sets t r x runs e) = along w _ e (goes_ordered t _ _ _ v o (o.private t))
+ordered_event sc n v w i o (Adds t r q runs e) = along w _ e (goes_ordered t _ _ _ v o (o.private t))
+ordered_event sc n v w i o (Jumps t r q to runs e) = along w _ e (goes_ordered t _ _ _ v o (o.private t))
+ordered_event sc n v w i o (Gets t r q runs f e) = along w _ e (lock_ordered t _ _ Shared _ _ v o (o.private t))
+ordered_event sc n v w i o (Writes t r q runs f there e) = along w _ e (puts_ordered t r q v o)
+ordered_event sc n v w i o (Inserts t r q runs f new room e) = along w _ e (puts_ordered t r q v o)
+ordered_event sc n v w i o (Splits t r q runs f new full normal pages e) =
+    let x = has_lock t (key t r v) Exclusive v in
+    along w _ e (cut_ordered t (page t r v) (boundary sc t (key t r v) (page t r v) v) x (has_lock_ordered t (key t r v) Exclusive v o) (has_lock_inv t (key t r v) Exclusive v i) normal)
+ordered_event sc n v w i o (Commits t runs e) = along w _ e (committed_ordered t v o)

@@ -25,7 +25,7 @@ abbrev pub rest_of : View → List Leaf
 rest_of v = v.them.pages ++ (sent_leaves v.inbox ++ sent_leaves v.outbox)
 
 -- a page that is here is nowhere else
-rest_lacks : (v : View) (p : ℕ) → Owned v → owns v.me.pages p ≡ true → owns (rest_of v) p ≡ false
+pub rest_lacks : (v : View) (p : ℕ) → Owned v → owns v.me.pages p ≡ true → owns (rest_of v) p ≡ false
 rest_lacks v p o own =
     false_from_ne_true _ (λ h.
     let one = owns-times p v.me.pages own in

@@ -30,3 +30,8 @@ pub play-keeps : (sc : Scenario) (P : State → Type 0) → ((c : Choice) (s : S
     → P s → P (play sc s cs)
 play-keeps sc P keeps [] s h = h
 play-keeps sc P keeps (c ∷ cs) s h = play-keeps sc P keeps cs (step sc c s).after (keeps c s h)
+
+-- the same beside something that is known of every state on the way
+pub play-keeps-with : (sc : Scenario) (Q P : State → Type 0) → ((c : Choice) (s : State) → Q s → Q (step sc c s).after) → ((c : Choice) (s : State) → Q s → P s → P (step sc c s).after)
+    → (cs : List Choice) (s : State) → Q s → P s → P (play sc s cs)
+play-keeps-with sc Q P known keeps cs s q p = (play-keeps sc (λ z. Q z × P z) (λ c z h. (known c z h.0, keeps c z h.0 h.1)) cs s (q, p)).1

@@ -1,5 +1,5 @@
 -- What holds of locks and places in every state that is reached.
-use Rattle.std.proofs.Common.{List, [], ap, false, refl, subst, sym, true, ℕ, ◌++◌, ◌∙◌, ◌∷◌, ◌≡◌}
+use Rattle.std.proofs.Common.{List, [], ap, false, refl, subst, sym, true, ℕ, ◌++◌, ◌∙◌, ◌∷◌, ◌≡◌, ◌≤◌}
 use Rattle.std.specs.Prelude.{map, slice_get}
 use Rattle.std.proofs.lemmas.Bool.{false≢true}
 use Rattle.zy_isa.specs.Scenario.{IsScenario, Scenario, opening_rows}
@@ -21,7 +21,8 @@ use Rattle.zy_machine.proofs.Locking.{Kept, Locking, is_idle, seen_same, untouch
 use Rattle.zy_machine.specs.Layout.{lows_of}
 use Rattle.zy_machine.proofs.Opening.{LaidOut, laid_out}
 use Rattle.zy_machine.proofs.OneOwner.{opening_inv, step_inv}
-use Rattle.zy_machine.proofs.PlayPush.{play-keeps}
+use Rattle.zy_machine.proofs.ListsInOrder.{Tidy, opening_tidy, ordered_from, step_tidy}
+use Rattle.zy_machine.proofs.PlayPush.{play-keeps-with}
 use Rattle.zy_machine.proofs.Roles.{Inv, turned, turned_inv}
 use Rattle.zy_machine.proofs.Txns.{IsAt, blank_at}
 
@@ -62,13 +63,13 @@ pub record Reached (sc : Scenario) (s : State) : Type 0 where
 abbrev pub lows_then : Scenario → Choice → State → List ℕ → List ℕ
 lows_then sc c s lows = lows_after sc (side_of c s) (facing (side_of c s) s) (move sc c (facing (side_of c s) s)).after lows (step_happens sc c s)
 
-pub step_kept : (sc : Scenario) (c : Choice) (s : State) (lows : List ℕ) → Kept sc A (facing A s) lows → Kept sc A (facing A (step sc c s).after) (lows_then sc c s lows)
+pub step_kept : (sc : Scenario) (c : Choice) (s : State) (lows : List ℕ) → 2 ≤ sc.cap → Tidy s → Kept sc A (facing A s) lows → Kept sc A (facing A (step sc c s).after) (lows_then sc c s lows)
 unfolding step
-step_kept sc c s lows k =
+step_kept sc c s lows two x k =
     let n = side_of c s in
     let v = facing n s in
     let w = (move sc c v).after in
-    kept_to sc n w (lows_then sc c s lows) (kept_event sc n v w lows (kept_from sc n s lows k) (inv_view n w (step_inv sc c s k.inv)) (step_happens sc c s))
+    kept_to sc n w (lows_then sc c s lows) (kept_event sc n v w lows two (ordered_from n s x.ordered) (kept_from sc n s lows k) (inv_view n w (step_inv sc c s k.inv)) (step_happens sc c s))
 
 -- the opening state
 pub blank_new : (programs : List (List Instr)) (t : ℕ) → is_active (txn_or (slice_get (map blank programs) t)).status ≡ false
@@ -112,7 +113,7 @@ opening_reached sc laid =
     }
 
 pub reached : (sc : Scenario) → IsScenario sc → (cs : List Choice) → Reached sc (play sc (opening sc) cs)
-reached sc ok cs = play-keeps sc (Reached sc) (λ c s a. record { lows = lows_then sc c s a.lows; kept = step_kept sc c s a.lows a.kept }) cs (opening sc) (opening_reached sc (laid_out sc ok))
+reached sc ok cs = play-keeps-with sc Tidy (Reached sc) (step_tidy sc) (λ c s x a. record { lows = lows_then sc c s a.lows; kept = step_kept sc c s a.lows ok.cap_least x a.kept }) cs (opening sc) (opening_tidy sc ok) (opening_reached sc (laid_out sc ok))
 
 -- who holds locks
 pub exclusive_alone : (sc : Scenario) → IsScenario sc → (cs : List Choice) → ExclusiveAlone (play sc (opening sc) cs)

@@ -1,5 +1,5 @@
 -- Which node has which role, and where each page is.
-use Rattle.std.proofs.Common.{Bool, List, [], ap, arith, false, length, refl, suc, sym, true, zero, ℕ, ◌+◌, ◌<◌, ◌∙◌, ◌≡◌}
+use Rattle.std.proofs.Common.{Bool, List, [], ap, arith, false, length, refl, suc, sym, true, zero, ℕ, ◌+◌, ◌<◌, ◌≤◌, ◌∙◌, ◌≡◌}
 use Rattle.std.specs.Prelude.{if◌then◌else◌, max, nat_lt}
 use Rattle.std.proofs.lemmas.Bool.{eqb-true, false≢true}
 use Rattle.std.proofs.lemmas.Bool.Decides.{nat_tests}
@@ -9,7 +9,7 @@ use Rattle.zy_machine.specs.Pages.{owns}
 use Rattle.zy_machine.specs.State.{Message, NodeState, View}
 use Rattle.zy_machine.specs.declared.modes.NodeMode.{NodeMode}
 use Rattle.zy_machine.specs.declared.modes.NodeMode.TheVariants.{Empty, Normal}
-use Rattle.zy_machine.proofs.PageCounts.{owns_from}
+use Rattle.zy_machine.proofs.PageCounts.{owns_from, owns_none}
 
 -- where a migration stands, from the source to the destination
 pub data Phase (src dst : NodeState) (out back : List Message) : Type 0 where
@@ -92,3 +92,12 @@ sole v inbox outbox o none a b sent p h =
 pub all_owned : (v : View) → Inv v → is_whole v.me.mode ≡ true → Roles v → (p : ℕ) → p < length v.me.lows → owns v.me.pages p ≡ true
 all_owned v i s (Source (Resting a b c d f)) = sole v [] [] i.owned (i.theirs.none (ap is_bare b)) f d (λ p. refl)
 all_owned v i s (Destination (Resting a b c d f)) = mode_clash is_whole Empty v.me.mode b refl s
+
+-- the other node of one in Normal has nothing
+pub normal_other : (v : View) → Roles v → is_mode Normal v.me.mode ≡ true → (v.them.mode ≡ Empty) × (v.them.lows ≡ [])
+normal_other v (Source (Resting a b c d f)) normal = (b, c)
+normal_other v (Destination (Resting a b c d f)) normal = mode_clash (is_mode Normal) Empty v.me.mode b refl normal
+
+-- a number from the width on is no page's
+pub fresh_number : (v : View) → Owned v → length v.them.lows ≤ length v.me.lows → owns v.me.pages (length v.me.lows) ≡ false
+fresh_number v o wide = owns_none (length v.me.lows) v.me.pages (let k = o.once (length v.me.lows) in grind (arith, nat_tests, k))

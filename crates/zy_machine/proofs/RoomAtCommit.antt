@@ -20,7 +20,8 @@ use Rattle.zy_machine.proofs.FitRows.{fit_event}
 use Rattle.zy_machine.proofs.Fit.{Fit, Room, Sized}
 use Rattle.zy_machine.proofs.Locking.{Kept}
 use Rattle.zy_machine.proofs.Opening.{laid_out}
-use Rattle.zy_machine.proofs.PlayPush.{play-keeps}
+use Rattle.zy_machine.proofs.ListsInOrder.{Tidy, opening_tidy, step_tidy}
+use Rattle.zy_machine.proofs.PlayPush.{play-keeps-with}
 use Rattle.zy_machine.proofs.Reached.{blank_new, kept_from, lows_then, opening_reached, step_kept}
 use Rattle.zy_machine.proofs.RisingRows.{rises_drop, rises_take}
 use Rattle.zy_machine.proofs.Roles.{turned}
@@ -54,14 +55,14 @@ record Filled (sc : Scenario) (s : State) : Type 0 where
   kept : Kept sc A (facing A s) lows
   fit : Fit sc A (facing A s) lows
 
-step_fit : (sc : Scenario) (c : Choice) (s : State) → Filled sc s → Filled sc (step sc c s).after
+step_fit : (sc : Scenario) → 2 ≤ sc.cap → (c : Choice) (s : State) → Tidy s → Filled sc s → Filled sc (step sc c s).after
 unfolding step
-step_fit sc c s a =
+step_fit sc two c s x a =
     let n = side_of c s in
     let v = facing n s in
     let w = (move sc c v).after in
     let before = kept_from sc n s a.lows a.kept in
-    record { lows = lows_then sc c s a.lows; kept = step_kept sc c s a.lows a.kept; fit = fit_to sc n w (lows_then sc c s a.lows) (fit_event sc n v w a.lows before (fit_from sc n s a.lows a.fit) (step_happens sc c s)) }
+    record { lows = lows_then sc c s a.lows; kept = step_kept sc c s a.lows two x a.kept; fit = fit_to sc n w (lows_then sc c s a.lows) (fit_event sc n v w a.lows before (fit_from sc n s a.lows a.fit) (step_happens sc c s)) }
 
 take_most : (h : ℕ) (rows : List Row) → length (take h rows) ≤ h
 take_most zero rows = omega arith
@@ -100,7 +101,7 @@ opening_fit sc l =
 pub fits : (sc : Scenario) → IsScenario sc → (cs : List Choice) → Fits sc (play sc (opening sc) cs)
 fits sc l cs n t p at own =
     let s = play sc (opening sc) cs in
-    let a = play-keeps sc (Filled sc) (step_fit sc) cs (opening sc) (opening_fit sc l) in
+    let a = play-keeps-with sc Tidy (Filled sc) (step_tidy sc) (step_fit sc l.cap_least) cs (opening sc) (opening_tidy sc l) (opening_fit sc l) in
     let f = fit_from sc n s a.lows a.fit in
     let k = kept_from sc n s a.lows a.kept in
     let v = facing n s in

@@ -26,7 +26,8 @@ use Rattle.zy_machine.proofs.LoneRuns.{or_else}
 use Rattle.zy_machine.proofs.Opening.{LaidOut, laid_out, opening_database}
 use Rattle.zy_machine.proofs.OneOwner.{step_inv}
 use Rattle.zy_machine.proofs.PageCounts.{owns-times, owns_none, times-sent_leaves}
-use Rattle.zy_machine.proofs.PlayPush.{play-keeps}
+use Rattle.zy_machine.proofs.ListsInOrder.{Tidy, opening_tidy, ordered_from, step_tidy}
+use Rattle.zy_machine.proofs.PlayPush.{play-keeps-with}
 use Rattle.zy_machine.proofs.Reached.{blank_new, inv_view, lows_then, opening_reached, turned_kept}
 use Rattle.zy_machine.proofs.PageValues.{db}
 use Rattle.zy_machine.proofs.Roles.{Owned, turned}
@@ -99,16 +100,16 @@ record Holds (sc : Scenario) (start : Map) (s : State) : Type 0 where
   lows : List ℕ
   serially : Serially sc A (facing A s) start lows
 
-step_holds : (sc : Scenario) (start : Map) (c : Choice) (s : State) → Holds sc start s → Holds sc start (step sc c s).after
+step_holds : (sc : Scenario) (start : Map) → 2 ≤ sc.cap → (c : Choice) (s : State) → Tidy s → Holds sc start s → Holds sc start (step sc c s).after
 unfolding step
-step_holds sc start c s h =
+step_holds sc start two c s x h =
     let n = side_of c s in
     let v = facing n s in
     let w = (move sc c v).after in
     let event = step_happens sc c s in
     let before = serial_from sc n s start h.lows h.serially in
     let inv = inv_view n w (step_inv sc c s h.serially.kept.inv) in
-    record { lows = lows_then sc c s h.lows; serially = serial_to sc n w start (lows_then sc c s h.lows) (serial_event sc n v w start h.lows before event (kept_event sc n v w h.lows before.kept inv event)) }
+    record { lows = lows_then sc c s h.lows; serially = serial_to sc n w start (lows_then sc c s h.lows) (serial_event sc n v w start h.lows before event (kept_event sc n v w h.lows two (ordered_from n s x.ordered) before.kept inv event)) }
 
 opening_holds : (sc : Scenario) → LaidOut sc → Holds sc (database (opening sc)) (opening sc)
 unfolding opening database txn_at
@@ -124,7 +125,7 @@ pub serializable : (sc : Scenario) → IsScenario sc → (cs : List Choice) → 
 unfolding database txn_at
 serializable sc l cs =
     let s = play sc (opening sc) cs in
-    let h = play-keeps sc (Holds sc (database (opening sc))) (step_holds sc (database (opening sc))) cs (opening sc) (opening_holds sc (laid_out sc l)) in
+    let h = play-keeps-with sc Tidy (Holds sc (database (opening sc))) (step_tidy sc) (step_holds sc (database (opening sc)) l.cap_least) cs (opening sc) (opening_tidy sc l) (opening_holds sc (laid_out sc l)) in
     let start = opening_database sc l in
     record {
       one_by_one = h.serially.is_serial ∙ ap (λ m. serial sc m s.commits) start;

@@ -9,7 +9,7 @@ use Rattle.zy_machine.specs.Play.{opening_pages}
 -- the pages have the numbers from n on, one after the other
 abbrev pub AreNumbered : ℕ → List Leaf → Type 0
 AreNumbered n [] = Unit {0}
-AreNumbered n (x ∷ xs) = (x.number ≡ n) × AreNumbered (suc n) xs
+AreNumbered n (x ∷ xs) = (x.number ≡ n) × AreNumbered (n + 1) xs
 
 abbrev pub lows_of : List Leaf → List ℕ
 lows_of xs = map (λ (x : Leaf). x.low) xs

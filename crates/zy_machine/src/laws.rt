@@ -37,7 +37,7 @@ pub fn one_owner()
 
 /// A is the home of all pages and of each transaction; B has nothing, and nothing is sent.
 pub fn at_home()
-    ensures { (sc : Scenario) (choices : List AChoice) → AtHome sc (play sc (opening sc) choices) }
+    ensures { (sc : Scenario) (choices : List AChoice) → AtHome (play sc (opening sc) choices) }
 {}
 
 /// Each page shows the low key that the wireframe has for it.
