@@ -1,5 +1,5 @@
 -- Each row of the table keeps the transactions along their lone runs.
-use Rattle.std.proofs.Common.{List, [], add-one, ap, false, inl, inr, refl, subst, sym, true, ℕ, ◌%◌, ◌+◌, ◌^◌, ◌∙◌, ◌∷◌, ◌≡◌}
+use Rattle.std.proofs.Common.{List, [], add-one, ap, length, false, inl, inr, refl, subst, sym, true, ℕ, ◌%◌, ◌+◌, ◌^◌, ◌∙◌, ◌++◌, ◌∷◌, ◌≡◌}
 use Rattle.std.specs.Prelude.{None, Option, Some, if◌then◌else◌, is_some, nat_lt, replicate, slice_get, slice_set, unwrap_or, ◌==◌, ◌||◌}
 use Rattle.std.specs.FinMap.{get}
 use Rattle.std.proofs.lemmas.Bool.{cases_eq, eqb-true, false≢true, or_cases}
@@ -13,23 +13,27 @@ use Rattle.zy_isa.specs.declared.row.Row.{Row}
 use Rattle.zy_locks.specs.Locks.{add_lock}
 use Rattle.zy_locks.specs.declared.lock.LockKind.{LockKind}
 use Rattle.zy_locks.specs.declared.lock.LockKind.TheVariants.{Exclusive, Shared}
-use Rattle.zy_machine.specs.Change.{aborted, begun, did, locked, reg, txn_at, with_reg}
-use Rattle.zy_machine.specs.Client.{is_active, is_new}
+use Rattle.zy_machine.specs.Change.{aborted, begun, cut, did, locked, reg, txn_at, with_reg}
+use Rattle.zy_machine.specs.Client.{is_active, is_mode, is_new}
 use Rattle.zy_machine.specs.Database.{Map}
 use Rattle.zy_machine.specs.Holders.{holds}
 use Rattle.zy_machine.specs.Pages.{owns, rows_of}
 use Rattle.zy_machine.specs.Play.{step}
-use Rattle.zy_machine.specs.Run.{is_there, program_of}
+use Rattle.zy_machine.specs.Run.{boundary, is_there, program_of}
 use Rattle.zy_machine.specs.Serial.{serial}
 use Rattle.zy_machine.specs.State.{Aborted, Lock, NodeState, Txn, View, other}
 use Rattle.zy_wire.specs.Wireframe.{page_of}
 use Rattle.zy_machine.specs.declared.outcome.Why.{Why}
+use Rattle.zy_wire.proofs.Longer.{page_of-cut}
+use Rattle.zy_machine.specs.declared.modes.NodeMode.TheVariants.{Normal}
+use Rattle.zy_machine.proofs.CutValues.{cut_db}
+use Rattle.zy_machine.proofs.Roles.{normal_other}
 use Rattle.zy_machine.proofs.Committing.{committed_serial}
-use Rattle.zy_machine.proofs.Events.{Aborts, Adds, Begins, Commits, Event, Gets, Inserts, Jumps, Rests, Runs, Sets, Writes, has_lock, key, value_at, Splits, lows_after}
+use Rattle.zy_machine.proofs.Events.{Aborts, Adds, Begins, Commits, Event, Gets, Inserts, Jumps, Rests, Runs, Sets, Writes, has_lock, key, page, value_at, Free, Splits, lows_after}
 use Rattle.zy_machine.proofs.Following.{Follows, Serially, active_not, follows_same, keep_registers, new_not}
-use Rattle.zy_machine.proofs.LockingRows.{home_owns}
-use Rattle.zy_machine.proofs.LockLists.{holds-drop, holds_more, holds_new}
-use Rattle.zy_machine.proofs.Locking.{Kept}
+use Rattle.zy_machine.proofs.LockingRows.{has_lock_locking, home_owns, split_on}
+use Rattle.zy_machine.proofs.LockLists.{alone_new, holds-drop, holds_more, holds_new}
+use Rattle.zy_machine.proofs.Locking.{Kept, is_idle}
 use Rattle.zy_machine.proofs.LoneRuns.{Lone, has, lone, lone_instr, lone_step, or_else}
 use Rattle.zy_machine.proofs.PageValues.{db, page_value, value_same}
 use Rattle.zy_machine.proofs.Txns.{IsAt, Stands, at_either, at_other, at_self, not_both_nodes, not_new}
@@ -218,6 +222,49 @@ there_value : (sc : Scenario) (n : Node) (v : View) (lows : List ℕ) (t k : ℕ
 there_value sc n v lows t k h at =
     some_or (get_row (txn_at v t).rows k) (get (db v) k) ∙ ap (λ o. is_some (get_row (txn_at v t).rows k) || is_some o) (here_value sc n v lows t k h at)
 
+-- a split moves the keys of t's page alone
+cut_follows : (program : List Instr) (d e : Map) (more : List ℕ) (locks : List Lock) (q b t u : ℕ) (x : Txn) → e ≡ d → length (0 ∷ more) ≡ q
+    → ((k : ℕ) → page_of (0 ∷ more) b ≡ page_of (0 ∷ more) k → holds locks (page_of (0 ∷ more) k) u ≡ true → u ≡ t) → Follows program d (0 ∷ more) locks u x
+    → Follows program e ((0 ∷ more) ++ b ∷ []) (add_lock q t Exclusive locks) u x
+cut_follows program d e more locks q b t u x same long one f = record {
+  keys = f.keys;
+  run = ap (λ m. lone m program x.done) same ∙ f.run;
+  covered = λ k h.
+      let old = f.covered k h in
+      elim (page_of-cut more b k) [
+        | inl stays ↦ subst (λ z. holds (add_lock q t Exclusive locks) z u ≡ true) (sym stays) (holds_more q t Exclusive locks (page_of (0 ∷ more) k) u old)
+        | inr moves ↦ subst (λ z. holds (add_lock q t Exclusive locks) z u ≡ true) (sym (moves.0 ∙ long)) (subst (λ z. holds (add_lock q t Exclusive locks) q z ≡ true) (sym (one k moves.1 old)) (holds_new q t Exclusive locks))
+      ];
+}
+
+cut_serial : (sc : Scenario) (n : Node) (v : View) (start : Map) (lows : List ℕ) (t k b : ℕ) → Serially sc n v start lows → IsAt v t n → Free t k Exclusive v → is_mode Normal v.me.mode ≡ true → page_of v.me.lows b ≡ page_of v.me.lows k
+    → Kept sc n (cut t (page_of v.me.lows k) b (has_lock t k Exclusive v)) (lows ++ b ∷ []) → Serially sc n (cut t (page_of v.me.lows k) b (has_lock t k Exclusive v)) start (lows ++ b ∷ [])
+unfolding cut locked txn_at
+cut_serial sc n v start lows t k b s at f normal on h =
+    let p = page_of v.me.lows k in
+    let v1 = has_lock t k Exclusive v in
+    let w = cut t p b v1 in
+    let locks = add_lock p t Exclusive v.me.locks in
+    let more = s.kept.first.0 in
+    let begins = s.kept.first.1 in
+    let newest : v.me.lows ≡ lows = s.kept.mine.newest (s.kept.mine.busy t at) in
+    let same : db w ≡ db v = cut_db lows v1 t p b s.kept.placed (record { once = s.kept.inv.owned.once }) (home_owns sc n v lows t k s.kept at) in
+    let l = has_lock_locking sc n v lows t k Exclusive s.kept at f in
+    let one : (u j : ℕ) → page_of lows b ≡ page_of lows j → holds locks (page_of lows j) u ≡ true → u ≡ t =
+    λ u j e g. sym (l.apart p t u (alone_new p t v.me.locks) (subst (λ z. holds locks z u ≡ true) (sym e ∙ ap (λ z. page_of z b) (sym newest) ∙ on) g)) in
+    let idle = normal_other v s.kept.inv.roles normal in
+    record {
+      kept = h;
+      mine = λ u a. subst (λ z. Follows (program_of sc u) (db w) (z ++ b ∷ []) (add_lock (length v.me.lows) t Exclusive locks) u (txn_at v u)) (sym begins)
+          (cut_follows (program_of sc u) (db v) (db w) more locks (length v.me.lows) b t u (txn_at v u) same (ap length (sym (newest ∙ begins)))
+          (subst (λ z. (j : ℕ) → page_of z b ≡ page_of z j → holds locks (page_of z j) u ≡ true → u ≡ t) begins (one u))
+          (subst (λ z. Follows (program_of sc u) (db v) z locks u (txn_at v u)) begins
+          (follows_same (program_of sc u) (db v) (db v) lows v.me.locks locks u (txn_at v u) (txn_at v u) refl refl (λ q g. holds_more p t Exclusive v.me.locks q u g) (s.mine u a))));
+      theirs = λ u a. absurd (false≢true (sym (s.kept.theirs.busy u a) ∙ ap is_idle idle.0));
+      is_serial = same ∙ s.is_serial;
+      registers = s.registers;
+    }
+
 along : (sc : Scenario) (n : Node) (w x : View) (start : Map) (lows : List ℕ) → w ≡ x → Kept sc n w lows
     → (Kept sc n x lows → Serially sc n x start lows) → Serially sc n w start lows
 along sc n w x start lows e k f = subst (λ z. Serially sc n z start lows) (sym e) (f (subst (λ z. Kept sc n z lows) e k))
@@ -236,5 +283,7 @@ serial_event sc n v w start lows s (Writes t r q runs f there e) k = along sc n 
     (key_serial sc n v start lows t (key t r v) Exclusive _ _ _ (Write r q) s runs (λ keys. small_write (db v) r q (txn_at v t) keys f.small (there_value sc n v lows t (key t r v) s.kept (runs.active, runs.here) ∙ there)))
 serial_event sc n v w start lows s (Inserts t r q runs f new room e) k = along sc n w _ start lows e k
     (key_serial sc n v start lows t (key t r v) Exclusive _ _ _ (Insert r q) s runs (λ keys. small_insert (db v) r q (txn_at v t) keys f.small (there_value sc n v lows t (key t r v) s.kept (runs.active, runs.here) ∙ new)))
-serial_event sc n v w start lows s (Splits t r q runs f new full normal pages e) k = ?
+serial_event sc n v w start lows s (Splits t r q runs f new full normal pages e) k =
+    let on = split_on sc n v lows t r q s.kept runs full in
+    along sc n w _ start (lows ++ boundary sc t (key t r v) (page t r v) v ∷ []) e k (cut_serial sc n v start lows t (key t r v) _ s (runs.active, runs.here) f normal on)
 serial_event sc n v w start lows s (Commits t runs e) k = along sc n w _ start lows e k (committed_serial sc n v start lows t s runs)

@@ -32,7 +32,7 @@ pub get-leaves : (xs : List Leaf) (k : ℕ) → get (laid_leaves xs) k ≡ found
 get-leaves [] k = get-empty nat_cmp k
 get-leaves (x ∷ xs) k = get-laid x.rows (laid_leaves xs) k ∙ ap (or_else (get_row x.rows k)) (get-leaves xs k)
 
-or_else_assoc : (a b c : Option ℕ) → or_else (or_else a b) c ≡ or_else a (or_else b c)
+pub or_else_assoc : (a b c : Option ℕ) → or_else (or_else a b) c ≡ or_else a (or_else b c)
 or_else_assoc None b c = refl
 or_else_assoc (Some v) b c = refl
 

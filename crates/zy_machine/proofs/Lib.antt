@@ -10,6 +10,7 @@ pub mod LoneRuns
 pub mod Installing
 pub mod CutPages
 pub mod Boundary
+pub mod CutValues
 pub mod LockLists
 pub mod Locking
 pub mod PageValues

@@ -18,7 +18,7 @@ use Rattle.zy_wire.specs.Wireframe.{page_of}
 use Rattle.zy_machine.specs.declared.modes.NodeMode.{NodeMode}
 use Rattle.zy_machine.specs.declared.modes.NodeMode.TheVariants.{Empty, Normal}
 use Rattle.zy_machine.specs.declared.outcome.Why.{Why}
-use Rattle.zy_machine.proofs.Events.{page, Aborts, Adds, Begins, Commits, Event, Free, Gets, Inserts, Jumps, Rests, Sets, Writes, has_lock, key, Splits, lows_after}
+use Rattle.zy_machine.proofs.Events.{page, Runs, Aborts, Adds, Begins, Commits, Event, Free, Gets, Inserts, Jumps, Rests, Sets, Writes, has_lock, key, Splits, lows_after}
 use Rattle.zy_machine.proofs.Installing.{Placed, placed_front, owns-installed, placed_installed}
 use Rattle.zy_machine.proofs.Locking.{Kept, Locking, began, freed, is_idle, lock_taken, seen_same, whole, seen_other, seen_step, untouched}
 use Rattle.zy_machine.proofs.LoneRuns.{get_row-put}
@@ -26,7 +26,9 @@ use Rattle.zy_locks.specs.Locks.{add_lock}
 use Rattle.zy_page.specs.Leaf.{rows_from}
 use Rattle.zy_wire.proofs.Longer.{page_of-cut}
 use Rattle.zy_machine.specs.Holders.{holds, holds_alone}
-use Rattle.zy_machine.specs.Run.{boundary}
+use Rattle.zy_machine.specs.Run.{boundary, has_room}
+use Rattle.zy_isa.specs.declared.instr.Reg.{Reg}
+use Rattle.zy_isa.specs.declared.instr.Instr.TheVariants.{Insert}
 use Rattle.zy_machine.proofs.Boundary.{boundary_new, boundary_on}
 use Rattle.zy_machine.proofs.CutPages.{owns-lowered, owns-with_page, placed_cut}
 use Rattle.zy_machine.proofs.LockLists.{alone-add, alone_more, alone_new, exclusive_holds, holds-add}
@@ -163,7 +165,7 @@ begun_event sc n v w lows t h k i a new home e =
 -- ---- a page is cut
 
 -- the lock that a row takes, before the rest of it
-has_lock_locking : (sc : Scenario) (n : Node) (v : View) (lows : List ℕ) (t k : ℕ) (kind : LockKind) → Kept sc n v lows → IsAt v t n → Free t k kind v
+pub has_lock_locking : (sc : Scenario) (n : Node) (v : View) (lows : List ℕ) (t k : ℕ) (kind : LockKind) → Kept sc n v lows → IsAt v t n → Free t k kind v
     → Locking sc n (has_lock t k kind v).me (has_lock t k kind v) lows
 unfolding locked txn_at
 has_lock_locking sc n v lows t k kind h at f =
@@ -245,6 +247,14 @@ cut_kept sc n v lows t k b h at f normal on new i =
       theirs = idle_locking sc (other n) v.them v _ lows (lows ++ b ∷ []) h.theirs (ap is_idle idle.0) refl;
     }
 
+home_placed : (sc : Scenario) (n : Node) (v : View) (lows : List ℕ) (t : ℕ) → Kept sc n v lows → IsAt v t n → Placed v.me.lows v.me.pages
+home_placed sc n v lows t k at = subst (λ l. Placed l v.me.pages) (sym (k.mine.newest (k.mine.busy t at))) (placed_front lows v.me.pages (rest_of v) k.placed).0
+
+-- the boundary of a split lies on the page that is cut
+pub split_on : (sc : Scenario) (n : Node) (v : View) (lows : List ℕ) (t : ℕ) (r q : Reg) → Kept sc n v lows → Runs sc n t (Insert r q) v → has_room sc t (page t r v) v ≡ false
+    → page_of v.me.lows (boundary sc t (key t r v) (page t r v) v) ≡ page t r v
+split_on sc n v lows t r q k runs full = boundary_on sc t (key t r v) (page t r v) v (home_placed sc n v lows t k (runs.active, runs.here)) refl full
+
 -- along the view that a line makes
 along : (sc : Scenario) (n : Node) (w x : View) (lows : List ℕ) → w ≡ x → Inv w → (Inv x → Kept sc n x lows) → Kept sc n w lows
 along sc n w x lows e i f = subst (λ z. Kept sc n z lows) (sym e) (f (subst Inv e i))
@@ -263,8 +273,8 @@ kept_event sc n v w lows two o k i (Splits t r q runs f new full normal pages e)
     let b = boundary sc t (key t r v) (page t r v) v in
     let at : IsAt v t n = (runs.active, runs.here) in
     let newest : v.me.lows ≡ lows = k.mine.newest (k.mine.busy t at) in
-    let placed : Placed v.me.lows v.me.pages = subst (λ l. Placed l v.me.pages) (sym newest) (placed_front lows v.me.pages (rest_of v) k.placed).0 in
-    let on : page_of v.me.lows b ≡ page t r v = boundary_on sc t (key t r v) (page t r v) v placed refl full in
+    let placed = home_placed sc n v lows t k at in
+    let on = split_on sc n v lows t r q k runs full in
     let other = boundary_new sc t (key t r v) (page t r v) v k.first.0 (newest ∙ k.first.1) two placed refl full (rows_at (page t r v) v.me.pages o.mine.rows) (o.private t) new in
     subst (λ x. Kept sc n x (lows ++ b ∷ [])) (sym e) (cut_kept sc n v lows t (key t r v) b k at f normal on other (subst Inv e i))
 kept_event sc n v w lows two o k i (Commits t runs e) = along sc n w _ lows e i (committed_kept sc n v lows t k (runs.active, runs.here))
