@@ -44,7 +44,7 @@ each_at P p (x ∷ xs) own h =
     (λ e. subst (λ z. P z x.rows) (eqb-true _ _ e) h.0)
     (λ e. each_at P p xs (ap (λ b. b || owns xs p) (sym e) ∙ own) h.1)
 
-each_in : (xs : List Leaf) → Each (λ p rows. owns xs p ≡ true) xs
+pub each_in : (xs : List Leaf) → Each (λ p rows. owns xs p ≡ true) xs
 each_in [] = tt
 each_in (x ∷ xs) = (or_left (x.number == x.number) (owns xs x.number) (eq-eqb x.number x.number refl), each_map (λ p rows. owns xs p ≡ true) (λ p rows. owns (x ∷ xs) p ≡ true) xs (λ p rows h. or_right _ _ h) (each_in xs))
 

@@ -1,5 +1,5 @@
 -- Each row of the table keeps room on the pages.
-use Rattle.std.proofs.Common.{List, [], arith, inl, inr, length, refl, subst, sym, true, ℕ, ◌++◌, ◌+◌, ◌<◌, ◌∙◌, ◌≡◌, ◌≤◌}
+use Rattle.std.proofs.Common.{List, [], arith, inl, inr, length, refl, subst, sym, true, ℕ, ◌++◌, ◌+◌, ◌<◌, ◌∙◌, ◌∷◌, ◌≡◌, ◌≤◌}
 use Rattle.std.specs.Prelude.{slice_set, ◌⊎◌}
 use Rattle.std.proofs.lemmas.Bool.{cases_Bool, false≢true, ltb-true}
 use Rattle.std.proofs.lemmas.Bool.Decides.{nat_tests}
@@ -16,11 +16,14 @@ use Rattle.zy_machine.specs.Holders.{holds, holds_alone}
 use Rattle.zy_machine.specs.OneOwner.{times}
 use Rattle.zy_machine.specs.Pages.{rows_of}
 use Rattle.zy_machine.specs.Rows.{rows_on}
-use Rattle.zy_machine.specs.Run.{has_room, is_there}
+use Rattle.zy_machine.specs.Run.{boundary, has_room, is_there}
 use Rattle.zy_machine.specs.State.{Aborted, Committed, Leaf, Txn, View}
 use Rattle.zy_wire.specs.Wireframe.{page_of}
 use Rattle.zy_machine.specs.declared.outcome.Why.{Why}
-use Rattle.zy_machine.proofs.EachPage.{Each, each_append, each_both, each_front, each_installed, each_map}
+use Rattle.zy_machine.proofs.Boundary.{boundary_new}
+use Rattle.zy_machine.proofs.CutFit.{cut_fit}
+use Rattle.zy_machine.proofs.LockingRows.{home_owns, home_placed, split_on}
+use Rattle.zy_machine.proofs.EachPage.{Each, each_append, each_at, each_both, each_front, each_installed, each_map}
 use Rattle.zy_machine.proofs.Events.{Aborts, Adds, Begins, Commits, Event, Gets, Inserts, Jumps, Rests, Sets, Writes, has_lock, key, page, puts, Splits, lows_after}
 use Rattle.zy_machine.proofs.Fit.{Fit, Room, Sized, commit_room, fit_acts, put_room}
 use Rattle.zy_machine.proofs.LockLists.{exclusive_holds}
@@ -121,15 +124,23 @@ committed_fit sc n v lows t k f at =
 fit_along : (sc : Scenario) (n : Node) (w x : View) (lows : List ℕ) → w ≡ x → Fit sc n x lows → Fit sc n w lows
 fit_along sc n w x lows e f = subst (λ z. Fit sc n z lows) (sym e) f
 
-pub fit_event : (sc : Scenario) (n : Node) (v w : View) (lows : List ℕ) → Kept sc n v lows → Fit sc n v lows → (e : Event sc n v w) → Fit sc n w (lows_after sc n v w lows e)
-fit_event sc n v w lows k f (Rests e) = fit_along sc n w v lows e f
-fit_event sc n v w lows k f (Begins t h a new home e) = fit_along sc n w _ lows e (begun_fit sc n v lows t h f new)
-fit_event sc n v w lows k f (Aborts t y active here e) = fit_along sc n w _ lows e (aborted_fit sc n v lows t y f (active, here))
-fit_event sc n v w lows k f (Sets t r x runs e) = fit_along sc n w _ lows e (did_fit sc n v lows t _ _ f (runs.active, runs.here))
-fit_event sc n v w lows k f (Adds t r q runs e) = fit_along sc n w _ lows e (did_fit sc n v lows t _ _ f (runs.active, runs.here))
-fit_event sc n v w lows k f (Jumps t r q to runs e) = fit_along sc n w _ lows e (did_fit sc n v lows t _ _ f (runs.active, runs.here))
-fit_event sc n v w lows k f (Gets t r q runs g e) = fit_along sc n w _ lows e (get_fit sc n v lows t (key t q v) _ _ Shared f (runs.active, runs.here))
-fit_event sc n v w lows k f (Writes t r q runs g there e) = fit_along sc n w _ lows e (put_fit sc n v lows t r q k f (runs.active, runs.here) (inl there))
-fit_event sc n v w lows k f (Inserts t r q runs g new room e) = fit_along sc n w _ lows e (put_fit sc n v lows t r q k f (runs.active, runs.here) (inr room))
-fit_event sc n v w lows k f (Splits t r q runs g new full normal pages e) = ?
-fit_event sc n v w lows k f (Commits t runs e) = fit_along sc n w _ lows e (committed_fit sc n v lows t k f (runs.active, runs.here))
+pub fit_event : (sc : Scenario) (n : Node) (v w : View) (lows : List ℕ) → 2 ≤ sc.cap → Kept sc n v lows → Fit sc n v lows → (e : Event sc n v w) → Fit sc n w (lows_after sc n v w lows e)
+fit_event sc n v w lows two k f (Rests e) = fit_along sc n w v lows e f
+fit_event sc n v w lows two k f (Begins t h a new home e) = fit_along sc n w _ lows e (begun_fit sc n v lows t h f new)
+fit_event sc n v w lows two k f (Aborts t y active here e) = fit_along sc n w _ lows e (aborted_fit sc n v lows t y f (active, here))
+fit_event sc n v w lows two k f (Sets t r x runs e) = fit_along sc n w _ lows e (did_fit sc n v lows t _ _ f (runs.active, runs.here))
+fit_event sc n v w lows two k f (Adds t r q runs e) = fit_along sc n w _ lows e (did_fit sc n v lows t _ _ f (runs.active, runs.here))
+fit_event sc n v w lows two k f (Jumps t r q to runs e) = fit_along sc n w _ lows e (did_fit sc n v lows t _ _ f (runs.active, runs.here))
+fit_event sc n v w lows two k f (Gets t r q runs g e) = fit_along sc n w _ lows e (get_fit sc n v lows t (key t q v) _ _ Shared f (runs.active, runs.here))
+fit_event sc n v w lows two k f (Writes t r q runs g there e) = fit_along sc n w _ lows e (put_fit sc n v lows t r q k f (runs.active, runs.here) (inl there))
+fit_event sc n v w lows two k f (Inserts t r q runs g new room e) = fit_along sc n w _ lows e (put_fit sc n v lows t r q k f (runs.active, runs.here) (inr room))
+fit_event sc n v w lows two k f (Splits t r q runs g new full normal pages e) =
+    let at : IsAt v t n = (runs.active, runs.here) in
+    let p = page t r v in
+    let b = boundary sc t (key t r v) p v in
+    let front = (each_front (Sized sc.cap) v.me.pages (rest_of v) f.sized).0 in
+    let committed = (each_at (Sized sc.cap) p v.me.pages (home_owns sc n v lows t (key t r v) k at) front).1 in
+    let newest = k.mine.newest (k.mine.busy t at) in
+    let other = boundary_new sc t (key t r v) p v k.first.0 (newest ∙ k.first.1) two (home_placed sc n v lows t k at) refl full committed (f.rising t) new in
+    fit_along sc n w _ (lows ++ b ∷ []) e (cut_fit sc n v lows t (key t r v) b k f at normal (split_on sc n v lows t r q k runs full) other)
+fit_event sc n v w lows two k f (Commits t runs e) = fit_along sc n w _ lows e (committed_fit sc n v lows t k f (runs.active, runs.here))

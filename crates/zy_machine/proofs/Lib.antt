@@ -21,6 +21,7 @@ pub mod Reached
 pub mod EachPage
 pub mod Room
 pub mod Fit
+pub mod CutFit
 pub mod FitRows
 pub mod RoomAtCommit
 pub mod Following

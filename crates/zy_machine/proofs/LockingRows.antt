@@ -247,7 +247,7 @@ cut_kept sc n v lows t k b h at f normal on new i =
       theirs = idle_locking sc (other n) v.them v _ lows (lows ++ b ∷ []) h.theirs (ap is_idle idle.0) refl;
     }
 
-home_placed : (sc : Scenario) (n : Node) (v : View) (lows : List ℕ) (t : ℕ) → Kept sc n v lows → IsAt v t n → Placed v.me.lows v.me.pages
+pub home_placed : (sc : Scenario) (n : Node) (v : View) (lows : List ℕ) (t : ℕ) → Kept sc n v lows → IsAt v t n → Placed v.me.lows v.me.pages
 home_placed sc n v lows t k at = subst (λ l. Placed l v.me.pages) (sym (k.mine.newest (k.mine.busy t at))) (placed_front lows v.me.pages (rest_of v) k.placed).0
 
 -- the boundary of a split lies on the page that is cut

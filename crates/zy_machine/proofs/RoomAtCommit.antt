@@ -62,7 +62,7 @@ step_fit sc two c s x a =
     let v = facing n s in
     let w = (move sc c v).after in
     let before = kept_from sc n s a.lows a.kept in
-    record { lows = lows_then sc c s a.lows; kept = step_kept sc c s a.lows two x a.kept; fit = fit_to sc n w (lows_then sc c s a.lows) (fit_event sc n v w a.lows before (fit_from sc n s a.lows a.fit) (step_happens sc c s)) }
+    record { lows = lows_then sc c s a.lows; kept = step_kept sc c s a.lows two x a.kept; fit = fit_to sc n w (lows_then sc c s a.lows) (fit_event sc n v w a.lows two before (fit_from sc n s a.lows a.fit) (step_happens sc c s)) }
 
 take_most : (h : ℕ) (rows : List Row) → length (take h rows) ≤ h
 take_most zero rows = omega arith
