@@ -1,6 +1,6 @@
 -- What a row did: one case for each line of the table that changes something, with what its conditions say.
 use Rattle.std.proofs.Common.{◌≡◌, ℕ, ◌+◌, ◌%◌, ◌^◌, List, [], ◌∷◌, ◌++◌, length, true, false, refl, sym, ap, ◌∙◌}
-use Rattle.std.specs.Prelude.{if◌then◌else◌, ◌==◌, nat_lt, ◌&&◌, ◌||◌, not, Some, None, Option, slice_get, unwrap_or}
+use Rattle.std.specs.Prelude.{if◌then◌else◌, ◌==◌, nat_lt, nat_le, ◌&&◌, ◌||◌, not, Some, None, Option, slice_get, unwrap_or}
 use Rattle.std.proofs.lemmas.Bool.{cond_both, false≢true, not-false, and_parts, eq-eqb}
 use Rattle.zy_isa.specs.declared.node.Node.{Node}
 use Rattle.zy_isa.specs.declared.node.Node.TheVariants.{A, B}
@@ -23,7 +23,7 @@ use Rattle.zy_machine.specs.Pages.{rows_of}
 use Rattle.zy_machine.specs.Change.{begun, aborted, did, txn_at, locked, committed, cut, reg, with_reg, with_txn, txn_or}
 use Rattle.zy_machine.specs.Client.{is_mode, is_new, is_active, home_of, begin_row, begin_at, kill_row}
 use Rattle.zy_machine.specs.Run as run
-use Rattle.zy_machine.specs.Run.{boundary, same_node, program_of, abort_row, set_row, jump_row, commit_row, read_row, write_row, full_row, insert_row, Access, Reads, lock_of, is_there, has_room, access_row, page_row, key_row, instr_row, run_row}
+use Rattle.zy_machine.specs.Run.{boundary, same_node, program_of, abort_row, set_row, jump_row, commit_row, read_row, write_row, full_row, split_row, insert_row, Access, Reads, lock_of, is_there, has_room, access_row, page_row, key_row, instr_row, run_row}
 use Rattle.zy_machine.specs.Play.{move, side_of}
 
 -- t runs at n, and its next instruction is i
@@ -74,7 +74,7 @@ pub data Event (sc : Scenario) (n : Node) (v w : View) : Type 0 where
   Inserts : (t : ℕ) (r q : Reg) → Runs sc n t (Insert r q) v → Free t (key t r v) Exclusive v → is_there t (key t r v) (page t r v) v ≡ false
       → has_room sc t (page t r v) v ≡ true → w ≡ puts t r q v → Event sc n v w
   Splits : (t : ℕ) (r q : Reg) → Runs sc n t (Insert r q) v → Free t (key t r v) Exclusive v → is_there t (key t r v) (page t r v) v ≡ false
-      → has_room sc t (page t r v) v ≡ false → is_mode Normal v.me.mode ≡ true → (length v.me.lows == sc.pages) ≡ false
+      → has_room sc t (page t r v) v ≡ false → is_mode Normal v.me.mode ≡ true → (nat_le sc.pages (length v.me.lows)) ≡ false
       → w ≡ cut t (page t r v) (boundary sc t (key t r v) (page t r v) v) (has_lock t (key t r v) Exclusive v) → Event sc n v w
   Commits : (t : ℕ) → Runs sc n t Commit v → w ≡ committed t v → Event sc n v w
 
@@ -118,10 +118,15 @@ aborts_locked : (sc : Scenario) (n : Node) (t p : ℕ) (kind : LockKind) (y : Wh
 unfolding abort_row
 aborts_locked sc n t p kind y v a h = Aborts t y a h (aborted_locked t p y kind v)
 
-full_happens : (sc : Scenario) (n : Node) (t p : ℕ) (v : View) → is_active (txn_at v t).status ≡ true → (txn_at v t).node ≡ n
-    → Happens sc n v (full_row t (locked t p Exclusive v))
-unfolding full_row
-full_happens sc n t p v a h = aborts_locked sc n t p Exclusive _ v a h
+full_happens : (sc : Scenario) (n : Node) (t : ℕ) (r q : Reg) (v : View) → Runs sc n t (Insert r q) v → Free t (key t r v) Exclusive v → is_there t (key t r v) (page t r v) v ≡ false → has_room sc t (page t r v) v ≡ false
+    → Happens sc n v (full_row sc t (key t r v) (page t r v) (has_lock t (key t r v) Exclusive v))
+unfolding full_row split_row locked txn_at
+full_happens sc n t r q v runs f new full =
+    cond_both (not (is_mode Normal v.me.mode)) _ _ (Happens sc n v)
+    (λ _. aborts_locked sc n t (page t r v) Exclusive _ v runs.active runs.here)
+    (λ normal. cond_both (nat_le sc.pages (length v.me.lows)) _ _ (Happens sc n v)
+    (λ _. aborts_locked sc n t (page t r v) Exclusive _ v runs.active runs.here)
+    (λ more. Splits t r q runs f new full (not-false _ normal) more refl))
 
 insert_happens : (sc : Scenario) (n : Node) (t : ℕ) (r q : Reg) (v : View) → Runs sc n t (Insert r q) v → Free t (key t r v) Exclusive v
     → Happens sc n v (insert_row sc t (key t r v) (key t q v) (page t r v) (has_lock t (key t r v) Exclusive v))
@@ -131,7 +136,7 @@ insert_happens sc n t r q v runs f =
     (λ _. aborts_locked sc n t (page t r v) Exclusive _ v runs.active runs.here)
     (λ new. cond_both (has_room sc t (page t r v) v) _ _ (Happens sc n v)
     (λ room. Inserts t r q runs f new room refl)
-    (λ _. full_happens sc n t (page t r v) v runs.active runs.here))
+    (λ full. full_happens sc n t r q v runs f new full))
 
 write_happens : (sc : Scenario) (n : Node) (t : ℕ) (r q : Reg) (v : View) → Runs sc n t (Write r q) v → Free t (key t r v) Exclusive v
     → Happens sc n v (write_row t (key t r v) (key t q v) (page t r v) (has_lock t (key t r v) Exclusive v))

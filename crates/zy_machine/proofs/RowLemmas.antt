@@ -1,6 +1,6 @@
 -- How the changes of a line go together.
-use Rattle.std.proofs.Common.{◌≡◌, ◌∙◌, ℕ, ◌+◌, List, [], ◌∷◌, refl, sym, ap, Bool, true, false, cond}
-use Rattle.std.specs.Prelude.{◌==◌, ◌&&◌, ◌||◌, not, nat_lt}
+use Rattle.std.proofs.Common.{◌≡◌, ◌∙◌, ℕ, ◌+◌, List, [], ◌∷◌, length, refl, sym, ap, Bool, true, false, cond}
+use Rattle.std.specs.Prelude.{◌==◌, ◌&&◌, ◌||◌, not, nat_lt, nat_le}
 use Rattle.std.proofs.lemmas.Bool.{eqb-true, eq-eqb, and_parts}
 use Rattle.zy_isa.specs.declared.node.Node.{Node}
 use Rattle.zy_isa.specs.declared.node.Node.TheVariants.{A, B}
@@ -15,11 +15,13 @@ use Rattle.zy_isa.specs.declared.instr.Reg.{Reg}
 use Rattle.zy_isa.specs.Rows.{get_row, put_row}
 use Rattle.zy_isa.specs.Scenario.{Scenario}
 use Rattle.zy_locks.specs.declared.lock.LockKind.TheVariants.{Shared, Exclusive}
-use Rattle.zy_machine.specs.declared.outcome.Why.TheVariants.{Missing, Duplicate, NoPage}
+use Rattle.zy_machine.specs.declared.outcome.Why.TheVariants.{Missing, Duplicate, Frozen, NoPage}
 use Rattle.zy_machine.specs.declared.outcome.Outcome.TheVariants.{Did, Aborted}
 use Rattle.zy_machine.specs.Pages.{rows_of}
 use Rattle.zy_machine.specs.Change.{quiet, with_reg, txn_at, aborted, did, locked}
-use Rattle.zy_machine.specs.Run.{read_row, write_row, insert_row, full_row, abort_row, is_there, has_room}
+use Rattle.zy_machine.specs.declared.modes.NodeMode.TheVariants.{Normal}
+use Rattle.zy_machine.specs.Client.{is_mode}
+use Rattle.zy_machine.specs.Run.{read_row, write_row, insert_row, full_row, split_row, abort_row, is_there, has_room}
 
 pub facing-seen_from : (n : Node) (v : View) → facing n (seen_from n v) ≡ v
 facing-seen_from A v = refl
@@ -109,9 +111,22 @@ pub insert-duplicate : (sc : Scenario) (t k v p : ℕ) (kind : LockKind) (s : Vi
 unfolding insert_row abort_row
 insert-duplicate sc t k v p kind s e = rw (there-locked t k p kind s ∙ e, aborted-locked t p kind Duplicate s) refl
 
-pub insert-full : (sc : Scenario) (t k v p : ℕ) (kind : LockKind) (s : View) → is_there t k p s ≡ false → has_room sc t p s ≡ false → insert_row sc t k v p (locked t p kind s) ≡ full_row t s
-unfolding insert_row full_row abort_row
-insert-full sc t k v p kind s e h = rw (there-locked t k p kind s ∙ e, room-locked sc t p kind s ∙ h, aborted-locked t p kind NoPage s) refl
+pub insert-full : (sc : Scenario) (t k v p : ℕ) (kind : LockKind) (s : View) → is_there t k p s ≡ false → has_room sc t p s ≡ false → insert_row sc t k v p (locked t p kind s) ≡ full_row sc t k p (locked t p kind s)
+unfolding insert_row
+insert-full sc t k v p kind s e h = rw (there-locked t k p kind s ∙ e, room-locked sc t p kind s ∙ h) refl
+
+-- a full page: where the node may not split it, where there is no page more, and where it is cut
+pub full-frozen : (sc : Scenario) (t k p : ℕ) (kind : LockKind) (s : View) → is_mode Normal s.me.mode ≡ false → full_row sc t k p (locked t p kind s) ≡ quiet (aborted t (Frozen p) s) (Aborted (Frozen p))
+unfolding full_row abort_row locked
+full-frozen sc t k p kind s e = rw e (ap (λ z. quiet z (Aborted (Frozen p))) (aborted-locked t p kind (Frozen p) s))
+
+pub full-no_page : (sc : Scenario) (t k p : ℕ) (kind : LockKind) (s : View) → is_mode Normal s.me.mode ≡ true → nat_le sc.pages (length s.me.lows) ≡ true → full_row sc t k p (locked t p kind s) ≡ quiet (aborted t NoPage s) (Aborted NoPage)
+unfolding full_row abort_row locked
+full-no_page sc t k p kind s normal none = rw (normal, none) (ap (λ z. quiet z (Aborted NoPage)) (aborted-locked t p kind NoPage s))
+
+pub full-split : (sc : Scenario) (t k p : ℕ) (kind : LockKind) (s : View) → is_mode Normal s.me.mode ≡ true → nat_le sc.pages (length s.me.lows) ≡ false → full_row sc t k p (locked t p kind s) ≡ split_row sc t k p (locked t p kind s)
+unfolding full_row locked
+full-split sc t k p kind s normal more = rw (normal, more) refl
 
 pub insert-did : (sc : Scenario) (t k v p : ℕ) (kind : LockKind) (s : View) → is_there t k p s ≡ false → has_room sc t p s ≡ true
     → let f = locked t p kind s in let x = txn_at f t in insert_row sc t k v p f ≡ quiet (did t (x.pc + 1) x.regs (put_row k v x.rows) f) Did

@@ -16,14 +16,14 @@ use Rattle.zy_machine.specs.declared.outcome.Outcome.TheVariants as outcome
 use Rattle.zy_machine.specs.declared.entry.Entry.{Entry}
 use Rattle.zy_machine.specs.State.{State, Leaf, Committed, Aborted}
 use Rattle.zy_wire.specs.Wireframe.{page_of}
-use Rattle.zy_machine.specs.Change.{txn_at, begun, aborted, did, locked, committed}
+use Rattle.zy_machine.specs.Change.{txn_at, begun, aborted, did, locked, committed, cut}
 use Rattle.zy_machine.specs.Client.{home_of, begin_at, begin_row, kill_row}
-use Rattle.zy_machine.specs.Run.{abort_row, set_row, jump_row, commit_row, read_row, write_row, full_row, insert_row, access_row, page_row, key_row, instr_row, run_row}
+use Rattle.zy_machine.specs.Run.{abort_row, set_row, jump_row, commit_row, read_row, write_row, full_row, split_row, insert_row, access_row, page_row, key_row, instr_row, run_row}
 use Rattle.zy_machine.specs.Play.{move, step, opening_leaves, opening, play, entries}
 
 -- opens the whole table
 unfoldable table : ℕ
-unfolding page_of txn_at begun aborted did locked committed home_of begin_at begin_row kill_row abort_row set_row jump_row commit_row read_row write_row full_row insert_row access_row page_row key_row instr_row run_row move step opening_leaves opening
+unfolding page_of txn_at begun aborted did locked committed cut home_of begin_at begin_row kill_row abort_row set_row jump_row commit_row read_row write_row full_row split_row insert_row access_row page_row key_row instr_row run_row move step opening_leaves opening
 table = 0
 
 abbrev scenario : ℕ → ℕ → List Row → List (List Instr) → List Choice → Scenario

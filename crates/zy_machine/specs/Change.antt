@@ -71,16 +71,18 @@ installed lows rows (x ∷ xs) =
 abbrev pub with_installed : List Row → NodeState → NodeState
 with_installed rows x = record x { pages = installed x.lows rows x.pages }
 
--- page p is cut at b: a new page takes the rows at or above b, and t locks it
-unfoldable pub cut : ℕ → ℕ → ℕ → View → View
-cut t p b s =
-    let x = s.me in
+-- page p of a node is cut at b: a new page takes the rows at or above b, and t locks it
+abbrev pub cut_page : ℕ → ℕ → ℕ → NodeState → NodeState
+cut_page t p b x =
     let q = length x.lows in
-    with_me (record x {
+    record x {
       lows = x.lows ++ b ∷ [];
       pages = with_page (record { number = q; low = b; rows = rows_from b (rows_of x.pages p) }) (lowered p b x.pages);
       locks = add_lock q t Exclusive x.locks;
-    }) s
+    }
+
+unfoldable pub cut : ℕ → ℕ → ℕ → View → View
+cut t p b s = with_me (cut_page t p b s.me) s
 
 -- t is committed: its private rows are installed and cleared, its locks are dropped
 unfoldable pub committed : ℕ → View → View

@@ -1,5 +1,5 @@
 -- n run t, line by line.
-use Rattle.std.specs.Prelude.{ℕ, ◌+◌, ◌/◌, ◌%◌, ◌^◌, ◌==◌, ◌++◌, nat_lt, List, [], length, slice_index, Bool, true, false, ◌||◌, not, if◌then◌else◌, Option, Some, None, slice_get, is_some, unwrap_or}
+use Rattle.std.specs.Prelude.{ℕ, ◌+◌, ◌/◌, ◌%◌, ◌^◌, ◌==◌, ◌++◌, nat_lt, nat_le, List, [], length, slice_index, Bool, true, false, ◌||◌, not, if◌then◌else◌, Option, Some, None, slice_get, is_some, unwrap_or}
 use Rattle.zy_isa.specs.declared.node.Node.{Node}
 use Rattle.zy_isa.specs.declared.node.Node.TheVariants.{A, B}
 use Rattle.zy_isa.specs.declared.row.Row.{Row}
@@ -21,8 +21,9 @@ use Rattle.zy_wire.specs.Wireframe.{page_of}
 use Rattle.zy_machine.specs.Pages.{rows_of}
 use Rattle.zy_machine.specs.Rows.{rows_on, rows_not_in}
 use Rattle.zy_machine.specs.Keys.{put_key, keys_of}
-use Rattle.zy_machine.specs.Change.{quiet, reg, with_reg, txn_at, aborted, did, locked, committed}
-use Rattle.zy_machine.specs.Client.{is_active}
+use Rattle.zy_machine.specs.Change.{quiet, reg, with_reg, txn_at, aborted, did, locked, committed, cut}
+use Rattle.zy_machine.specs.Client.{is_active, is_mode}
+use Rattle.zy_machine.specs.declared.modes.NodeMode.TheVariants.{Normal}
 
 abbrev pub same_node : Node → Node → Bool
 same_node A A = true
@@ -78,9 +79,17 @@ abbrev pub boundary : Scenario → ℕ → ℕ → ℕ → View → ℕ
 boundary sc t k p s =
     slice_index (put_key k (keys_of (rows_of s.me.pages p ++ own_inserts t p s))) ((sc.cap + 1) / 2)
 
+-- a full page is cut: the insert finds room when t runs again
+unfoldable pub split_row : Scenario → ℕ → ℕ → ℕ → View → Move
+split_row sc t k p s =
+    let b = boundary sc t k p s in quiet (cut t p b s) (outcome.Split p (length s.me.lows) b)
+
 -- an insert on a full page
-unfoldable pub full_row : ℕ → View → Move
-full_row t s = abort_row t why.NoPage s
+unfoldable pub full_row : Scenario → ℕ → ℕ → ℕ → View → Move
+full_row sc t k p s =
+    if not (is_mode Normal s.me.mode) then abort_row t (why.Frozen p) s
+    else if nat_le sc.pages (length s.me.lows) then abort_row t why.NoPage s
+    else split_row sc t k p s
 
 unfoldable pub insert_row : Scenario → ℕ → ℕ → ℕ → ℕ → View → Move
 insert_row sc t k v p s =
@@ -88,7 +97,7 @@ insert_row sc t k v p s =
     if is_there t k p s then abort_row t why.Duplicate s
     else if has_room sc t p s
     then quiet (did t (x.pc + 1) x.regs (put_row k v x.rows) s) outcome.Did
-    else full_row t s
+    else full_row sc t k p s
 
 -- the lock that a key instruction wants
 abbrev pub lock_of : Access → LockKind

@@ -1,13 +1,15 @@
 -- What a store shows of the state, and what a call on it may do.
-use Rattle.std.specs.Prelude.{◌≡◌, ◌<◌, ◌≤◌, ◌+◌, ◌^◌, ℕ, List, [], ◌∷◌, length, true, false, slice_get, Result, Ok, Err}
+use Rattle.std.specs.Prelude.{◌≡◌, ◌<◌, ◌≤◌, ◌+◌, ◌^◌, ℕ, List, [], ◌∷◌, length, Contains, None, true, false, slice_get, Result, Ok, Err}
 use Rattle.zy_isa.specs.declared.node.Node.{Node}
 use Rattle.zy_isa.specs.declared.node.Node.TheVariants.{A, B}
 use Rattle.zy_isa.specs.declared.row.Row.{Row}
 use Rattle.zy_isa.specs.Scenario.{Scenario}
 use Rattle.zy_locks.specs.declared.lock.LockKind.{LockKind}
+use Rattle.zy_locks.specs.declared.lock.LockKind.TheVariants.{Exclusive}
+use Rattle.zy_machine.specs.Holders.{holds}
 use Rattle.zy_locks.specs.declared.locks.Tried.{Tried}
 use Rattle.zy_locks.specs.declared.locks.Tried.TheVariants.{Granted, Conflict, Memory}
-use Rattle.zy_locks.specs.Locks.{conflict}
+use Rattle.zy_locks.specs.Locks.{conflict, add_lock}
 use Rattle.zy_page.specs.Leaf.{Leaf}
 use Rattle.zy_machine.specs.declared.store.NodeStore.{NodeStore}
 use Rattle.zy_machine.specs.declared.store.Store.{Store}
@@ -16,10 +18,10 @@ use Rattle.zy_isa.specs.declared.choice.Choice.{Choice}
 use Rattle.zy_isa.specs.declared.choice.Choice.TheVariants.{Begin, Kill, Run}
 use Rattle.zy_machine.specs.State.{State, NodeState, Move, Step, facing, seen_from}
 use Rattle.zy_wire.specs.Wireframe.{page_of}
-use Rattle.zy_machine.specs.Pages.{page_in}
+use Rattle.zy_machine.specs.Pages.{page_in, owns}
 use Rattle.zy_machine.specs.Change.{txn_or, locked, installed}
 use Rattle.zy_machine.specs.Client.{is_active}
-use Rattle.zy_machine.specs.Run.{program_of}
+use Rattle.zy_machine.specs.Run.{program_of, is_there, has_room, boundary}
 use Rattle.zy_machine.specs.Install.{HasRoomFor}
 
 abbrev pub node_shown : NodeStore → NodeState
@@ -53,12 +55,31 @@ pub record IsFree (n : Node) (p t : ℕ) (kind : LockKind) (s : Store) : Type 0 
   pub free : conflict (facing n (shown s)).me.locks p t kind ≡ false
   pub room : 1 ≤ (node_in n s).locks.spare
 
+-- page p of a node can be cut at b for t
+pub record IsCuttable (t p b : ℕ) (x : NodeState) : Type 0 where
+  pub free : conflict x.locks p t Exclusive ≡ false
+  pub alone : conflict (add_lock p t Exclusive x.locks) (length x.lows) t Exclusive ≡ false
+  pub few : length x.lows < 512
+  pub other : Contains x.lows b → ⊥
+  pub absent : page_in (length x.lows) x.pages ≡ None
+  pub owned : owns x.pages p ≡ true
+
+-- what makes a split by t safe, whatever the key
+pub record MaySplit (sc : Scenario) (t : ℕ) (v : View) : Type 0 where
+  pub room : 2 ≤ sc.cap
+  pub pages : sc.pages ≤ 512
+  pub absent : page_in (length v.me.lows) v.me.pages ≡ None
+  pub unheld : (u : ℕ) → holds v.me.locks (length v.me.lows) u ≡ false
+  pub owned : (k : ℕ) → owns v.me.pages (page_of v.me.lows k) ≡ true
+  pub other : (k : ℕ) → let p = page_of v.me.lows k in is_there t k p v ≡ false → has_room sc t p v ≡ false → Contains v.me.lows (boundary sc t k p v) → ⊥
+
 -- a run of t at n is safe: its counts, its place in its program, and its commit if it comes
 pub record IsReady (sc : Scenario) (n : Node) (t : ℕ) (s : Store) : Type 0 where
   pub counts : Countable t s
   pub program : t < length sc.programs
   pub place : (txn_or (slice_get s.txns.items t)).pc < length (program_of sc t)
   pub rooms : is_active (txn_or (slice_get s.txns.items t)).status ≡ true → (txn_or (slice_get s.txns.items t)).node ≡ n → Rooms n t s
+  pub splits : is_active (txn_or (slice_get s.txns.items t)).status ≡ true → (txn_or (slice_get s.txns.items t)).node ≡ n → MaySplit sc t (facing n (shown s))
 
 -- what a try for a lock at n does
 abbrev pub TriesAt : Node → ℕ → ℕ → LockKind → Store → Store → Tried → Type 0

@@ -6,6 +6,7 @@ mod answer;
 mod client;
 pub mod entry;
 pub mod laws;
+mod frame;
 pub mod links;
 pub mod machine;
 pub mod modes;

@@ -8,6 +8,7 @@ ghost use Rattle.zy_machine.specs.Play.{opening, opening_leaves, home_with, blan
 ghost use Rattle.zy_machine.specs.Layout.{AreNumbered, IsOver, pages_of, with_leaves};
 ghost use Rattle.zy_machine.specs.Stores.{shown, node_shown};
 
+use crate::frame::Frame;
 use crate::modes::NodeMode;
 use crate::page_store::PageStore;
 use crate::store::{NodeStore, Store};
@@ -18,7 +19,6 @@ use zy_isa::row::Row;
 use zy_isa::scenario::{Scenario, opening_rows};
 use zy_locks::locks::Locks;
 use zy_page::page::Page;
-use zy_wire::wire::Wire;
 
 impl Store {
     #[tactic(auto, unfolding(crate::specs::Play::opening))]
@@ -27,7 +27,7 @@ impl Store {
         ensures { IfOk result (λ s. shown s ≡ opening scenario.now) }
     {
         let a = home(alloc, scenario)?;
-        let b = bare(alloc, scenario.pages())?;
+        let b = bare(alloc)?;
         let txns = blank_txns(alloc, scenario.programs())?;
         Ok(Store {
             a,
@@ -43,7 +43,7 @@ fn home(alloc: Global, scenario: &Scenario) -> Result<NodeStore, AllocError>
     ensures { IfOk result (λ x. node_shown x ≡ home_with (opening_leaves (opening_rows_lem scenario.now.cap) scenario.now.rows)) }
 {
     let rows = scenario.rows();
-    let mut node = empty_node(alloc, scenario.pages(), NodeMode::Normal)?;
+    let mut node = empty_node(alloc, NodeMode::Normal)?;
     if rows.is_empty() {
         node.add_page(alloc, 0, rows)?;
     } else {
@@ -61,8 +61,7 @@ impl NodeStore {
         requires numbered { AreNumbered 0 self.old.pages.pages }
         requires all { length self.old.wire.lows ≡ length self.old.pages.pages }
         requires over { IsOver self.old.wire.lows rows.now }
-        requires room { length self.old.wire.lows + length (pages_of share (length self.old.wire.lows) rows.now) ≤ self.old.wire.pages }
-        requires slots { self.old.wire.pages ≤ self.old.pages.width }
+        requires room { length self.old.wire.lows + length (pages_of share (length self.old.wire.lows) rows.now) ≤ 512 }
         ensures { OnOk result (node_shown self.new ≡ with_leaves (pages_of share (length self.old.wire.lows) rows.now) (node_shown self.old)) }
     {
         let mut left = rows;
@@ -89,40 +88,33 @@ impl NodeStore {
         requires numbered { AreNumbered 0 self.old.pages.pages }
         requires all { length self.old.wire.lows ≡ length self.old.pages.pages }
         requires other { ¬ Contains self.old.wire.lows low }
-        requires room { length self.old.wire.lows < self.old.wire.pages }
-        requires slots { self.old.wire.pages ≤ self.old.pages.width }
-        ensures shown { OnOk result (node_shown self.new ≡ with_leaves (record { number = length self.old.wire.lows; low = low; rows = rows.now } ∷ []) (node_shown self.old)) }
-        ensures pages { self.new.wire.pages ≡ self.old.wire.pages }
-        ensures slots { self.new.pages.width ≡ self.old.pages.width }
+        requires room { length self.old.wire.lows < 512 }
+        ensures { OnOk result (node_shown self.new ≡ with_leaves (record { number = length self.old.wire.lows; low = low; rows = rows.now } ∷ []) (node_shown self.old)) }
     {
         let number = self.wire.len() as u16;
         let page = filled_page(alloc, number, low, rows)?;
         self.wire.reserve()?;
-        self.wire.grow(low).unwrap();
+        self.wire.grow(low);
         self.pages.put(page);
         Ok(())
     }
 }
 
 /// A node without pages, in Empty.
-fn bare(alloc: Global, pages: u16) -> Result<NodeStore, AllocError>
-    requires { pages ≤ 512 }
+fn bare(alloc: Global) -> Result<NodeStore, AllocError>
     ensures { IfOk result (λ x. node_shown x ≡ bare_node) }
 {
-    empty_node(alloc, pages, NodeMode::Empty)
+    empty_node(alloc, NodeMode::Empty)
 }
 
-/// A node without pages, with slots for so many.
-fn empty_node(alloc: Global, pages: u16, mode: NodeMode) -> Result<NodeStore, AllocError>
-    requires { pages ≤ 512 }
-    ensures shown { IfOk result (λ x. node_shown x ≡ record { mode = mode; lows = []; pages = []; asked = []; locks = [] }) }
-    ensures most { IfOk result (λ x. x.wire.pages ≡ pages) }
-    ensures slots { IfOk result (λ x. x.pages.width ≡ pages) }
+/// A node without pages.
+fn empty_node(alloc: Global, mode: NodeMode) -> Result<NodeStore, AllocError>
+    ensures { IfOk result (λ x. node_shown x ≡ record { mode = mode; lows = []; pages = []; asked = []; locks = [] }) }
 {
-    let store = PageStore::new(alloc, pages)?;
+    let store = PageStore::new(alloc)?;
     Ok(NodeStore {
         mode,
-        wire: Wire::new(alloc, pages),
+        wire: Frame::new(alloc),
         pages: store,
         locks: Locks::new(alloc),
     })

@@ -15,6 +15,8 @@ pub enum Why {
     Missing,
     /// It inserted a row that is there.
     Duplicate,
+    /// Its insert found this page full, and the node may split no page.
+    Frozen(u16),
     /// Its insert found a full page, and no page can be added.
     NoPage,
 }
@@ -30,6 +32,15 @@ pub enum Outcome {
     Elsewhere,
     /// The instruction was done.
     Did,
+    /// The insert found a full page, which was cut: the new page has the rows from a boundary on. The insert is next.
+    Split {
+        /// The page that was cut.
+        page: u16,
+        /// The new page.
+        new_page: u16,
+        /// The lowest key of the new page.
+        boundary: u16,
+    },
     /// The transaction was aborted.
     Aborted(Why),
     /// The transaction was committed: its place in commit order, from 1.

@@ -1,5 +1,5 @@
 //! The pages of a node, in slots by number.
-ghost use Rattle.std.specs.Prelude.{◌≡◌, ◌<◌, ◌≤◌, [], None, IfOk, IfSome, is_some, length, option_copied};
+ghost use Rattle.std.specs.Prelude.{◌≡◌, ◌<◌, [], None, IfOk, IfSome, is_some, length, option_copied};
 ghost use Rattle.zy_isa.specs.Rows.{get_row, put_row};
 ghost use Rattle.zy_page.specs.Leaf.{Leaf};
 ghost use Rattle.zy_machine.specs.Shelf.{Shelf, with_row};
@@ -8,6 +8,7 @@ ghost use Rattle.zy_machine.specs.Install.{HasRoomFor, IsRoomy};
 
 use std::alloc::{AllocError, Global};
 use std::marker::Model;
+use zy_isa::scenario::MAX_PAGES;
 use zy_page::page::Page;
 
 /// The pages that a node owns, each in the slot of its number.
@@ -19,22 +20,22 @@ pub(crate) struct PageStore {
 impl Model for PageStore {
     ghost use Rattle.std.specs.Prelude.{length};
     ghost use Rattle.zy_machine.specs.Shelf.{Shelf};
-    ghost use Rattle.zy_machine.specs.Slots.{laid_out, InPlace};
+    ghost use Rattle.zy_machine.specs.Slots.{laid_out, AreSlots};
 
     ghost Value = { Shelf };
 
     ghost view = { λ s. record { width = length s.slots.items; pages = laid_out s.slots.items } };
 
-    ghost invariant = { λ s. InPlace 0 s.slots.items };
+    ghost invariant = { λ s. AreSlots s.slots.items };
 }
 
 impl PageStore {
-    /// No pages, and slots for those with numbers below `width`.
-    pub(crate) fn new(alloc: Global, width: u16) -> Result<PageStore, AllocError>
-        ensures { IfOk result (λ store. store ≡ record { width = width; pages = [] }) }
+    /// No pages, and a slot for each that any scenario may have.
+    pub(crate) fn new(alloc: Global) -> Result<PageStore, AllocError>
+        ensures { IfOk result (λ store. store.pages ≡ []) }
     {
-        let mut slots = Vec::with_capacity(alloc, usize::from(width))?;
-        for _ in 0..width {
+        let mut slots = Vec::with_capacity(alloc, usize::from(MAX_PAGES))?;
+        for _ in 0..MAX_PAGES {
             slots.push(None)?;
         }
         Ok(PageStore { slots })
@@ -59,7 +60,7 @@ impl PageStore {
 
     /// Takes a page in.
     pub(crate) fn put(&mut self, page: Page)
-        requires room { page.number < self.old.width }
+        requires room { page.number < 512 }
         requires absent { page_in page.number self.old.pages ≡ None }
         ensures { self.new ≡ record self.old { pages = with_page page self.old.pages } }
     {

@@ -12,6 +12,7 @@ ghost use Rattle.zy_machine.specs.Run.{is_there as is_there_lem, own_inserts as 
 ghost use Rattle.zy_machine.specs.Stores.{shown, node_shown, node_in, Countable, Rooms, AreRoomy, TriesAt, IsFree};
 
 use crate::entry::CommitRec;
+use crate::frame::Frame;
 use crate::modes::NodeMode;
 use crate::outcome::Why;
 use crate::page_store::PageStore;
@@ -22,13 +23,12 @@ use zy_isa::node::Node;
 use zy_isa::row::Row;
 use zy_locks::lock::LockKind;
 use zy_locks::locks::{Locks, Tried};
-use zy_wire::wire::Wire;
 
 /// One node: its mode, its wireframe, the pages that it owns, and its locks.
 #[derive(Drop)]
 pub(crate) struct NodeStore {
     pub mode: NodeMode,
-    pub wire: Wire,
+    pub wire: Frame,
     pub pages: PageStore,
     pub locks: Locks,
 }
@@ -264,7 +264,7 @@ fn new_rows(node: &NodeStore, p: u16, rows: &[Row]) -> usize
 }
 
 /// Puts rows on the pages where they lie, the last one first.
-fn install(wire: &Wire, pages: &mut PageStore, rows: &[Row])
+fn install(wire: &Frame, pages: &mut PageStore, rows: &[Row])
     requires { AreRoomy wire.now.lows rows.now pages.old.pages }
     ensures { pages.new ≡ record pages.old { pages = installed wire.now.lows rows.now pages.old.pages } }
 {

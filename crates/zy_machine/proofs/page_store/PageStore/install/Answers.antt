@@ -20,30 +20,30 @@ pub install-requires : goal.install-requires
 install-requires c =
     let items = c.self.inside.slots.items in
     let here = slot items c.from-at.result c.len.result c.index_mut.result.now c.index_mut.ensures.value c.if-at-len.true (c.len.ensures ∙ c.self.inside.slots.ok.0) ∙ c.in-Some.is in
-    let page = found items c.args.p c.from-at.result (Some c.in-Some.page) c.self.invariant c.from-at.ensures here in
+    let page = found items c.args.p c.from-at.result (Some c.in-Some.page) c.self.invariant.placed c.from-at.ensures here in
     subst (HasRoomFor c.args.key) page (rw (← c.self.view_is) at c.requires)
 
 pub invariant_of-self : goal.invariant_of-self
 invariant_of-self c =
     let items = c.self.inside.slots.items in
     let here = slot items c.from-at.result c.len.result c.index_mut.result.now c.index_mut.ensures.value c.if-at-len.true (c.len.ensures ∙ c.self.inside.slots.ok.0) ∙ c.in-Some.is in
-    InPlace-set_some 0 c.from-at.result c.install.new.page items c.self.invariant (rw c.install.ensures (number_at 0 c.from-at.result c.in-Some.page items c.self.invariant here))
+    record { placed = InPlace-set_some 0 c.from-at.result c.install.new.page items c.self.invariant.placed (rw c.install.ensures (number_at 0 c.from-at.result c.in-Some.page items c.self.invariant.placed here)); whole = length-set items c.from-at.result _ ∙ c.self.invariant.whole }
 
 pub returns-in-Some : goal.returns-in-Some
 returns-in-Some c =
     let items = c.self.inside.slots.items in
     let here = slot items c.from-at.result c.len.result c.index_mut.result.now c.index_mut.ensures.value c.if-at-len.true (c.len.ensures ∙ c.self.inside.slots.ok.0) ∙ c.in-Some.is in
-    let change = with_row_at 0 c.args.p c.from-at.result c.args.key c.args.value c.in-Some.page items c.self.invariant (omega arith) here in
+    let change = with_row_at 0 c.args.p c.from-at.result c.args.key c.args.value c.in-Some.page items c.self.invariant.placed (omega arith) here in
     rw (← c.self.view_is, change, c.install.ensures, length-set) refl
 
 pub returns-in_default : goal.returns-in_default
 returns-in_default c =
     let items = c.self.inside.slots.items in
     let none = slot items c.from-at.result c.len.result c.index_mut.result.now c.index_mut.ensures.value c.if-at-len.true (c.len.ensures ∙ c.self.inside.slots.ok.0) ∙ c.in_default.is in
-    let same = with_row_none 0 c.args.p c.from-at.result c.args.key c.args.value items c.self.invariant (omega arith) none in
+    let same = with_row_none 0 c.args.p c.from-at.result c.args.key c.args.value items c.self.invariant.placed (omega arith) none in
     rw (← c.self.view_is, same, c.in_default.is, laid_out-set_none c.from-at.result items none, length-set) refl
 
 pub returns-else-at-len : goal.returns-else-at-len
 returns-else-at-len c =
-    let none = with_row_none 0 c.args.p c.from-at.result c.args.key c.args.value c.self.inside.slots.items c.self.invariant (omega arith) (get_or-eq_default c.self.inside.slots.items None (omega (arith, c.self.inside.slots.ok.0))) in
+    let none = with_row_none 0 c.args.p c.from-at.result c.args.key c.args.value c.self.inside.slots.items c.self.invariant.placed (omega arith) (get_or-eq_default c.self.inside.slots.items None (omega (arith, c.self.inside.slots.ok.0))) in
     rw (← c.self.view_is, none) refl

@@ -14,4 +14,4 @@ loop-preserved c =
     })
 
 pub invariant_of-result : goal.invariant_of-result
-invariant_of-result c = c.loop.invariant.placed
+invariant_of-result c = record { placed = c.loop.invariant.placed; whole = ? }

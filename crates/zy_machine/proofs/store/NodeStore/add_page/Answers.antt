@@ -6,9 +6,8 @@ use Rattle.zy_machine.proofs.store.NodeStore.add_page.Goals as goal
 pub put-requires-clause-absent : goal.put-requires-clause-absent
 put-requires-clause-absent c = page_after 0 _ c.args.self.now.pages.pages c.requires.numbered (omega (arith, ap (λ (x : Leaf). x.number) c.in_ok-page.ensures, c.len-number.ensures.value, c.requires.all))
 
-pub returns-clause-shown : goal.returns-clause-shown
-returns-clause-shown c =
+pub returns : goal.returns
+returns c =
     let number = ap (λ (x : Leaf). x.number) c.in_ok-page.ensures in
     let last = with_page_last 0 c.in_ok-page.page c.args.self.now.pages.pages c.requires.numbered (omega (arith, number, c.len-number.ensures.value, c.requires.all)) in
-    let grown = rw c.unwrap.ensures at c.grow.ensures.lows in
-    rw (c.put.ensures, grown, c.in_ok-reserve.ensures.lows, last, c.in_ok-page.ensures, c.len-number.ensures.value) refl
+    rw (c.put.ensures, c.grow.ensures, c.in_ok-reserve.ensures.lows, last, c.in_ok-page.ensures, c.len-number.ensures.value) refl

@@ -10,8 +10,6 @@ invariant-loop-first l =
     (with_leaves (pages_of l.share (length l.self.wire.lows) l.left) (node_shown l.self) ≡ with_leaves (pages_of l.share (length l.initial.self.wire.lows) l.rows) (node_shown l.initial.self))
     × AreNumbered 0 l.self.pages.pages
     × (length l.self.wire.lows ≡ length l.self.pages.pages)
-    × (l.self.wire.pages ≡ l.initial.self.wire.pages)
-    × (l.self.pages.width ≡ l.initial.self.pages.width)
     × IsOver l.self.wire.lows l.left
     × Rising 0 l.left
 
