@@ -34,6 +34,7 @@ pub mod ValueAtPage
 pub mod AtHome
 pub mod Slots
 mod SlotLemmas
+mod CutSlots
 mod StoreLemmas
 mod RowLemmas
 mod InstrLemmas

@@ -16,7 +16,7 @@ use Rattle.zy_machine.specs.declared.store.Store.{Store}
 use Rattle.zy_machine.specs.declared.answer.Answer.{Answer}
 use Rattle.zy_isa.specs.declared.choice.Choice.{Choice}
 use Rattle.zy_isa.specs.declared.choice.Choice.TheVariants.{Begin, Kill, Run}
-use Rattle.zy_machine.specs.State.{State, NodeState, Move, Step, facing, seen_from}
+use Rattle.zy_machine.specs.State.{State, View, NodeState, Move, Step, facing, seen_from}
 use Rattle.zy_wire.specs.Wireframe.{page_of}
 use Rattle.zy_machine.specs.Pages.{page_in, owns}
 use Rattle.zy_machine.specs.Change.{txn_or, locked, installed}
@@ -72,6 +72,15 @@ pub record MaySplit (sc : Scenario) (t : ℕ) (v : View) : Type 0 where
   pub unheld : (u : ℕ) → holds v.me.locks (length v.me.lows) u ≡ false
   pub owned : (k : ℕ) → owns v.me.pages (page_of v.me.lows k) ≡ true
   pub other : (k : ℕ) → let p = page_of v.me.lows k in is_there t k p v ≡ false → has_room sc t p v ≡ false → Contains v.me.lows (boundary sc t k p v) → ⊥
+
+-- an insert of t finds k's page p full and free for it
+pub record IsFull (sc : Scenario) (n : Node) (t k p : ℕ) (s : Store) : Type 0 where
+  pub there : t < length s.txns.items
+  pub splits : MaySplit sc t (facing n (shown s))
+  pub on : p ≡ page_of (facing n (shown s)).me.lows k
+  pub free : IsFree n p t Exclusive s
+  pub new : is_there t k p (facing n (shown s)) ≡ false
+  pub full : has_room sc t p (facing n (shown s)) ≡ false
 
 -- a run of t at n is safe: its counts, its place in its program, and its commit if it comes
 pub record IsReady (sc : Scenario) (n : Node) (t : ℕ) (s : Store) : Type 0 where

@@ -30,6 +30,7 @@ impl Store {
         let b = bare(alloc)?;
         let txns = blank_txns(alloc, scenario.programs())?;
         Ok(Store {
+            alloc,
             a,
             b,
             txns,

@@ -1,9 +1,9 @@
 //! The pages of a node, in slots by number.
-ghost use Rattle.std.specs.Prelude.{◌≡◌, ◌<◌, [], None, IfOk, IfSome, is_some, length, option_copied};
+ghost use Rattle.std.specs.Prelude.{◌≡◌, ◌<◌, [], None, true, IfOk, IfSome, OnOk, OnErr, is_some, length, option_copied};
 ghost use Rattle.zy_isa.specs.Rows.{get_row, put_row};
-ghost use Rattle.zy_page.specs.Leaf.{Leaf};
+ghost use Rattle.zy_page.specs.Leaf.{Leaf, rows_from};
 ghost use Rattle.zy_machine.specs.Shelf.{Shelf, with_row};
-ghost use Rattle.zy_machine.specs.Pages.{owns as owns_lem, page_in, with_page};
+ghost use Rattle.zy_machine.specs.Pages.{lowered, owns as owns_lem, page_in, rows_of, with_page};
 ghost use Rattle.zy_machine.specs.Install.{HasRoomFor, IsRoomy};
 
 use std::alloc::{AllocError, Global};
@@ -78,6 +78,45 @@ impl PageStore {
             if let Some(page) = &mut self.slots[at] {
                 install(page, key, value);
             }
+        }
+    }
+
+    /// Cuts a page at `boundary`: its rows at or above that go to a new page with this number, which is taken in.
+    pub(crate) fn cut(
+        &mut self,
+        alloc: Global,
+        p: u16,
+        boundary: u16,
+        number: u16,
+    ) -> Result<(), AllocError>
+        requires room { number < 512 }
+        requires absent { page_in number self.old.pages ≡ None }
+        requires there { owns_lem self.old.pages p ≡ true }
+        ensures ok { OnOk result (let upper : Leaf = record { number = number; low = boundary; rows = rows_from boundary (rows_of self.old.pages p) } in
+            self.new ≡ record self.old { pages = with_page upper (lowered p boundary self.old.pages) }) }
+        ensures err { OnErr result (self.new ≡ self.old) }
+    {
+        let upper = self.split_off(alloc, p, boundary, number)?;
+        self.put(upper);
+        Ok(())
+    }
+
+    /// Moves a page's rows at or above `boundary` into a new page with this number.
+    fn split_off(
+        &mut self,
+        alloc: Global,
+        p: u16,
+        boundary: u16,
+        number: u16,
+    ) -> Result<Page, AllocError>
+        requires { owns_lem self.old.pages p ≡ true }
+        ensures upper { IfOk result (λ upper. upper ≡ record { number = number; low = boundary; rows = rows_from boundary (rows_of self.old.pages p) }) }
+        ensures lower { OnOk result (self.new ≡ record self.old { pages = lowered p boundary self.old.pages }) }
+        ensures err { OnErr result (self.new ≡ self.old) }
+    {
+        match &mut self.slots[usize::from(p)] {
+            Some(page) => page.split_at(alloc, boundary, number),
+            None => unreachable!(),
         }
     }
 }

@@ -2,16 +2,17 @@
 ghost use Rattle.std.specs.Prelude.{◌≡◌, ◌<◌, ◌≤◌, ◌+◌, Ok, Some, length, slice_get, false, true, unwrap_or, if◌then◌else◌};
 ghost use Rattle.zy_isa.specs.Rows.{get_row};
 ghost use Rattle.zy_machine.specs.Pages.{rows_of};
-ghost use Rattle.zy_isa.specs.Scenario.{Scenario as AScenario};
 ghost use Rattle.zy_locks.specs.Locks.{conflict};
 ghost use Rattle.zy_locks.specs.declared.lock.LockKind.TheVariants.{Shared, Exclusive};
 ghost use Rattle.zy_machine.specs.State.{facing};
 ghost use Rattle.zy_machine.specs.Change.{txn_at, locked};
-ghost use Rattle.zy_machine.specs.Run.{lock_of, abort_row as abort_row_lem, set_row as set_row_lem, jump_row as jump_row_lem, commit_row as commit_row_lem, read_row as read_row_lem, write_row as write_row_lem, insert_row as insert_row_lem, full_row as full_row_lem, access_row as access_row_lem, page_row as page_row_lem, key_row as key_row_lem, instr_row as instr_row_lem, run_row as run_row_lem, has_room as has_room_lem, program_of};
-ghost use Rattle.zy_machine.specs.Stores.{shown, node_in, IsMade, Makes, Countable, Rooms, IsFree, IsReady};
+ghost use Rattle.zy_machine.specs.Run.{lock_of, abort_row as abort_row_lem, set_row as set_row_lem, jump_row as jump_row_lem, commit_row as commit_row_lem, read_row as read_row_lem, write_row as write_row_lem, insert_row as insert_row_lem, full_row as full_row_lem, split_row as split_row_lem, access_row as access_row_lem, page_row as page_row_lem, key_row as key_row_lem, instr_row as instr_row_lem, run_row as run_row_lem, has_room as has_room_lem, program_of};
+ghost use Rattle.zy_machine.specs.Stores.{shown, node_in, IsMade, Makes, Countable, Rooms, IsFree, IsFull, MaySplit, IsReady};
+ghost use Rattle.zy_wire.specs.Wireframe.{page_of as page_of_lem};
 
 use crate::access::Access;
 use crate::answer::Answer;
+use crate::modes::NodeMode;
 use crate::outcome::{Outcome, Why};
 use crate::store::Store;
 use std::alloc::AllocError;
@@ -40,16 +41,23 @@ impl Store {
             return Ok(Answer::quiet(Outcome::Elsewhere));
         }
         let instr = next_instr(scenario, t, txn.place());
-        self.instr_row(scenario.cap(), n, t, instr)
+        self.instr_row(scenario, n, t, instr)
     }
 
     /// The lines of one instruction.
     #[tactic(auto, unfolding(crate::specs::Run::instr_row))]
-    fn instr_row(&mut self, cap: u8, n: Node, t: u8, instr: Instr) -> Result<Answer, AllocError>
+    fn instr_row(
+        &mut self,
+        scenario: &Scenario,
+        n: Node,
+        t: u8,
+        instr: Instr,
+    ) -> Result<Answer, AllocError>
         requires counts { Countable t self.old }
         requires room { Rooms n t self.old }
-        ensures { (sc : AScenario) → sc.cap ≡ cap → let s = facing n (shown self.old) in
-            Makes n self.old self.new result (instr_row_lem sc t (Some instr) (txn_at s t).regs s) }
+        requires splits { MaySplit scenario.now t (facing n (shown self.old)) }
+        ensures { let s = facing n (shown self.old) in
+            Makes n self.old self.new result (instr_row_lem scenario.now t (Some instr) (txn_at s t).regs s) }
     {
         let txn = self.txn(t);
         match instr {
@@ -66,15 +74,15 @@ impl Store {
             Instr::Commit => self.commit_row(n, t),
             Instr::Read(r, q) => {
                 let key = txn.reg(q);
-                self.key_row(cap, n, t, Access::Reads(r), key)
+                self.key_row(scenario, n, t, Access::Reads(r), key)
             }
             Instr::Write(r, q) => {
                 let (key, value) = (txn.reg(r), txn.reg(q));
-                self.key_row(cap, n, t, Access::Writes(value), key)
+                self.key_row(scenario, n, t, Access::Writes(value), key)
             }
             Instr::Insert(r, q) => {
                 let (key, value) = (txn.reg(r), txn.reg(q));
-                self.key_row(cap, n, t, Access::Inserts(value), key)
+                self.key_row(scenario, n, t, Access::Inserts(value), key)
             }
         }
     }
@@ -126,35 +134,38 @@ impl Store {
     #[tactic(auto, unfolding(crate::specs::Run::key_row))]
     fn key_row(
         &mut self,
-        cap: u8,
+        scenario: &Scenario,
         n: Node,
         t: u8,
         access: Access,
         key: u32,
     ) -> Result<Answer, AllocError>
-        requires { Countable t self.old }
-        ensures { (sc : AScenario) → sc.cap ≡ cap → Makes n self.old self.new result (key_row_lem sc t access key (facing n (shown self.old))) }
+        requires counts { Countable t self.old }
+        requires splits { MaySplit scenario.now t (facing n (shown self.old)) }
+        ensures { Makes n self.old self.new result (key_row_lem scenario.now t access key (facing n (shown self.old))) }
     {
         let Ok(key) = u16::try_from(key) else {
             return Ok(self.abort_row(n, t, Why::BadKey));
         };
         let p = self.page_of(n, key);
-        self.page_row(cap, n, t, access, key, p)
+        self.page_row(scenario, n, t, access, key, p)
     }
 
     /// The lock: in another's way, or to be taken.
     #[tactic(auto, unfolding(crate::specs::Run::page_row, crate::specs::Run::access_row))]
     fn page_row(
         &mut self,
-        cap: u8,
+        scenario: &Scenario,
         n: Node,
         t: u8,
         access: Access,
         key: u16,
         p: u16,
     ) -> Result<Answer, AllocError>
-        requires { Countable t self.old }
-        ensures { (sc : AScenario) → sc.cap ≡ cap → Makes n self.old self.new result (page_row_lem sc t access key p (facing n (shown self.old))) }
+        requires counts { Countable t self.old }
+        requires splits { MaySplit scenario.now t (facing n (shown self.old)) }
+        requires on { p ≡ page_of_lem (facing n (shown self.old)).me.lows key }
+        ensures { Makes n self.old self.new result (page_row_lem scenario.now t access key p (facing n (shown self.old))) }
     {
         if self.conflicts(n, p, t, access.lock()) {
             return Ok(Answer::quiet(Outcome::Waits(p)));
@@ -163,7 +174,7 @@ impl Store {
         match access {
             Access::Reads(r) => Ok(self.read_row(n, t, r, key, p)),
             Access::Writes(value) => self.write_row(n, t, key, value, p),
-            Access::Inserts(value) => self.insert_row(cap, n, t, key, value, p),
+            Access::Inserts(value) => self.insert_row(scenario, n, t, key, value, p),
         }
     }
 
@@ -206,7 +217,7 @@ impl Store {
     #[tactic(auto, unfolding(crate::specs::Run::insert_row))]
     fn insert_row(
         &mut self,
-        cap: u8,
+        scenario: &Scenario,
         n: Node,
         t: u8,
         key: u16,
@@ -214,35 +225,74 @@ impl Store {
         p: u16,
     ) -> Result<Answer, AllocError>
         requires counts { Countable t self.old }
+        requires splits { MaySplit scenario.now t (facing n (shown self.old)) }
+        requires on { p ≡ page_of_lem (facing n (shown self.old)).me.lows key }
         requires free { IsFree n p t Exclusive self.old }
-        ensures { (sc : AScenario) → sc.cap ≡ cap → Makes n self.old self.new result (insert_row_lem sc t key value p (locked t p Exclusive (facing n (shown self.old)))) }
+        ensures { Makes n self.old self.new result (insert_row_lem scenario.now t key value p (locked t p Exclusive (facing n (shown self.old)))) }
     {
         if self.is_there(n, t, p, key) {
             return Ok(self.abort_row(n, t, Why::Duplicate));
         }
-        if !self.has_room(cap, n, t, p) {
-            return Ok(self.full_row(n, t));
+        if !self.has_room(scenario, n, t, p) {
+            return self.full_row(scenario, n, t, key, p);
         }
         self.put(n, t, key, value)?;
         self.lock(n, p, t, LockKind::Exclusive);
         Ok(Answer::quiet(Outcome::Did))
     }
 
-    /// An insert on a full page.
-    #[tactic(auto, unfolding(crate::specs::Run::full_row))]
-    fn full_row(&mut self, n: Node, t: u8) -> Answer
-        requires { t < length self.old.txns.items }
-        ensures { IsMade n self.new result (full_row_lem t (facing n (shown self.old))) }
+    /// An insert on a full page that is free for it.
+    fn full_row(
+        &mut self,
+        scenario: &Scenario,
+        n: Node,
+        t: u8,
+        key: u16,
+        p: u16,
+    ) -> Result<Answer, AllocError>
+        requires full { IsFull scenario.now n t key p self.old }
+        ensures { Makes n self.old self.new result (full_row_lem scenario.now t key p (locked t p Exclusive (facing n (shown self.old)))) }
     {
-        self.abort_row(n, t, Why::NoPage)
+        let node = self.node(n);
+        if node.mode != NodeMode::Normal {
+            return Ok(self.abort_row(n, t, Why::Frozen(p)));
+        }
+        if node.wire.len() >= usize::from(scenario.pages()) {
+            return Ok(self.abort_row(n, t, Why::NoPage));
+        }
+        self.split_row(scenario, n, t, key, p)
+    }
+
+    /// A full page that is free for it is cut.
+    fn split_row(
+        &mut self,
+        scenario: &Scenario,
+        n: Node,
+        t: u8,
+        key: u16,
+        p: u16,
+    ) -> Result<Answer, AllocError>
+        requires full { IsFull scenario.now n t key p self.old }
+        requires more { length (facing n (shown self.old)).me.lows < scenario.now.pages }
+        ensures { Makes n self.old self.new result (split_row_lem scenario.now t key p (locked t p Exclusive (facing n (shown self.old)))) }
+    {
+        let new_page = self.node(n).wire.len() as u16;
+        let boundary = self.boundary(scenario.cap(), n, t, p, key)?;
+        self.cut(n, t, p, boundary)?;
+        Ok(Answer::quiet(Outcome::Split {
+            page: p,
+            new_page,
+            boundary,
+        }))
     }
 
     /// Whether a page has room for a row more, beside the transaction's own new rows.
-    fn has_room(&self, cap: u8, n: Node, t: u8, p: u16) -> bool
+    fn has_room(&self, scenario: &Scenario, n: Node, t: u8, p: u16) -> bool
         requires { t < length self.now.txns.items }
-        ensures { (sc : AScenario) → sc.cap ≡ cap → result ≡ has_room_lem sc t p (facing n (shown self.now)) }
+        ensures { result ≡ has_room_lem scenario.now t p (facing n (shown self.now)) }
     {
-        self.own_inserts(n, t, p) < usize::from(cap).saturating_sub(self.page_len(n, p))
+        let cap = usize::from(scenario.cap());
+        self.own_inserts(n, t, p) < cap.saturating_sub(self.page_len(n, p))
     }
 
     /// What a transaction reads at a key: the private row, else the committed row, else 0.

@@ -2,14 +2,15 @@
 ghost use Rattle.std.specs.Prelude.{◌≡◌, ◌<◌, ◌+◌, ◌^◌, ◌≤◌, OnOk, OnErr, IfOk, is_some, length, slice_get};
 ghost use Rattle.zy_isa.specs.Rows.{get_row, put_row};
 ghost use Rattle.zy_isa.specs.declared.node.Node.TheVariants.{A};
-ghost use Rattle.zy_locks.specs.Locks.{conflict};
+ghost use Rattle.zy_locks.specs.Locks.{conflict, add_lock};
+ghost use Rattle.zy_locks.specs.declared.lock.LockKind.TheVariants.{Exclusive};
 ghost use Rattle.zy_machine.specs.State.{facing, seen_from, with_me};
 ghost use Rattle.zy_wire.specs.Wireframe.{page_of as page_of_lem};
 ghost use Rattle.zy_machine.specs.Pages.{rows_of};
 ghost use Rattle.zy_machine.specs.Rows.{rows_on, rows_not_in};
-ghost use Rattle.zy_machine.specs.Change.{txn_at, txn_or, with_reg, unlocked, installed, with_installed, begun as begun_lem, aborted as aborted_lem, did as did_lem, locked as locked_lem, committed as committed_lem};
+ghost use Rattle.zy_machine.specs.Change.{txn_at, txn_or, with_reg, unlocked, installed, with_installed, begun as begun_lem, aborted as aborted_lem, did as did_lem, locked as locked_lem, cut as cut_lem, cut_page, committed as committed_lem};
 ghost use Rattle.zy_machine.specs.Run.{is_there as is_there_lem, own_inserts as own_inserts_lem};
-ghost use Rattle.zy_machine.specs.Stores.{shown, node_shown, node_in, Countable, Rooms, AreRoomy, TriesAt, IsFree};
+ghost use Rattle.zy_machine.specs.Stores.{shown, node_shown, node_in, Countable, Rooms, AreRoomy, TriesAt, IsFree, IsCuttable};
 
 use crate::entry::CommitRec;
 use crate::frame::Frame;
@@ -17,7 +18,7 @@ use crate::modes::NodeMode;
 use crate::outcome::Why;
 use crate::page_store::PageStore;
 use crate::txn::Txn;
-use std::alloc::AllocError;
+use std::alloc::{AllocError, Global};
 use zy_isa::instr::Reg;
 use zy_isa::node::Node;
 use zy_isa::row::Row;
@@ -33,9 +34,10 @@ pub(crate) struct NodeStore {
     pub locks: Locks,
 }
 
-/// The state: both nodes, the transactions by number, the commits in order.
+/// The state: both nodes, the transactions by number, the commits in order; and where new pages come from.
 #[derive(Drop)]
 pub(crate) struct Store {
+    pub alloc: Global,
     pub a: NodeStore,
     pub b: NodeStore,
     pub txns: Vec<Txn>,
@@ -43,6 +45,24 @@ pub(crate) struct Store {
 }
 
 impl NodeStore {
+    /// Cuts a page at a boundary for a transaction, which gets the locks on both parts. Where memory is wanted nothing
+    /// that shows has changed.
+    fn cut(&mut self, alloc: Global, t: u8, p: u16, boundary: u16) -> Result<(), AllocError>
+        requires { IsCuttable t p boundary (node_shown self.old) }
+        ensures ok { OnOk result (let x = node_shown self.old in
+            node_shown self.new ≡ cut_page t p boundary (record x { locks = add_lock p t Exclusive x.locks })) }
+        ensures err { OnErr result (node_shown self.new ≡ node_shown self.old) }
+    {
+        let number = self.wire.len() as u16;
+        self.locks.reserve(2)?;
+        self.wire.reserve()?;
+        self.pages.cut(alloc, p, boundary, number)?;
+        self.wire.grow(boundary);
+        lock_alone(&mut self.locks, p, t);
+        lock_alone(&mut self.locks, number, t);
+        Ok(())
+    }
+
     /// The committed value at a key on a page; none where the page is not here.
     fn value(&self, p: u16, key: u16) -> Option<u32>
         ensures { result ≡ get_row (rows_of self.now.pages.pages p) key }
@@ -232,6 +252,18 @@ impl Store {
         }
     }
 
+    /// A page of a node is cut at a boundary for a transaction, which gets the locks on both parts.
+    pub(crate) fn cut(&mut self, n: Node, t: u8, p: u16, boundary: u16) -> Result<(), AllocError>
+        requires { IsCuttable t p boundary (facing n (shown self.old)).me }
+        ensures ok { OnOk result (shown self.new ≡ seen_from n (cut_lem t p boundary (locked_lem t p Exclusive (facing n (shown self.old))))) }
+        ensures err { OnErr result (shown self.new ≡ shown self.old) }
+    {
+        match n {
+            Node::A => self.a.cut(self.alloc, t, p, boundary),
+            Node::B => self.b.cut(self.alloc, t, p, boundary),
+        }
+    }
+
     /// A transaction is committed: its private rows are installed, its locks are dropped, and it is noted.
     pub(crate) fn commit(&mut self, n: Node, t: u8) -> Result<(), AllocError>
         requires counts { Countable t self.old }
@@ -247,6 +279,20 @@ impl Store {
         let done = txn.done();
         self.commits.push(CommitRec { txn: t, done }).unwrap();
         Ok(())
+    }
+}
+
+/// Takes an exclusive lock for which nothing is in the way and there is room.
+fn lock_alone(locks: &mut Locks, p: u16, t: u8)
+    requires free { conflict locks.old.locks p t Exclusive ≡ false }
+    requires room { 1 ≤ locks.old.spare }
+    ensures locks { locks.new.locks ≡ add_lock p t Exclusive locks.old.locks }
+    ensures room { locks.old.spare ≤ locks.new.spare + 1 }
+{
+    match locks.try_lock(p, t, LockKind::Exclusive) {
+        Tried::Granted => (),
+        Tried::Conflict => unreachable!(),
+        Tried::Memory => unreachable!(),
     }
 }
 

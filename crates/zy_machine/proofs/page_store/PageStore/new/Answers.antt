@@ -1,4 +1,4 @@
-use Rattle.std.proofs.Common.{refl, length-append}
+use Rattle.std.proofs.Common.{arith, refl, length-append}
 use Rattle.zy_machine.proofs.SlotLemmas.{laid_out-push_none, InPlace-push_none}
 use Rattle.zy_machine.proofs.page_store.PageStore.new.Goals as goal
 
@@ -14,4 +14,4 @@ loop-preserved c =
     })
 
 pub invariant_of-result : goal.invariant_of-result
-invariant_of-result c = record { placed = c.loop.invariant.placed; whole = ? }
+invariant_of-result c = record { placed = c.loop.invariant.placed; whole = omega (arith, c.loop.invariant.count) }
