@@ -40,6 +40,7 @@ mod RowLemmas
 mod InstrLemmas
 mod ClientLemmas
 mod Roomy
+mod SplitRows
 mod ReadyLemmas
 mod StepLemmas
 mod HistoryLemmas

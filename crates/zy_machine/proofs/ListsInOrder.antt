@@ -94,6 +94,9 @@ step_tidy sc c s x = record { inv = step_inv sc c s x.inv; ordered = step_ordere
 pub opening_tidy : (sc : Scenario) → IsScenario sc → Tidy (opening sc)
 opening_tidy sc ok = record { inv = opening_inv sc; ordered = opening_ordered sc ok }
 
+pub tidy : (sc : Scenario) → IsScenario sc → (cs : List Choice) → Tidy (play sc (opening sc) cs)
+tidy sc ok cs = play-keeps sc Tidy (step_tidy sc) cs (opening sc) (opening_tidy sc ok)
+
 node_ordered : (n : Node) (s : State) → Ordered (facing A s) → NodeInOrder (facing n s).me
 node_ordered A s o = o.mine
 node_ordered B s o = o.theirs
@@ -104,7 +107,7 @@ longer xs ys = cond_both (nat_lt (length xs) (length ys)) ys xs (λ zs. length z
 pub in_order : (sc : Scenario) → IsScenario sc → (cs : List Choice) → InOrder (play sc (opening sc) cs)
 in_order sc ok cs =
     let s = play sc (opening sc) cs in
-    let o = (play-keeps sc Tidy (step_tidy sc) cs (opening sc) (opening_tidy sc ok)).ordered in
+    let o = (tidy sc ok cs).ordered in
     record {
       nodes = λ n. node_ordered n s o;
       ab = o.outbox;

@@ -51,7 +51,7 @@ goes_kept sc n v lows t pc regs k at i = record {
 }
 
 -- the page of each key is at the node of whoever runs
-busy_whole : (m : NodeMode) → is_idle m ≡ false → is_whole m ≡ true
+pub busy_whole : (m : NodeMode) → is_idle m ≡ false → is_whole m ≡ true
 busy_whole Empty h = absurd (false≢true (sym h))
 busy_whole Normal h = refl
 

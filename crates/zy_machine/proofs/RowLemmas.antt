@@ -16,12 +16,12 @@ use Rattle.zy_isa.specs.Rows.{get_row, put_row}
 use Rattle.zy_isa.specs.Scenario.{Scenario}
 use Rattle.zy_locks.specs.declared.lock.LockKind.TheVariants.{Shared, Exclusive}
 use Rattle.zy_machine.specs.declared.outcome.Why.TheVariants.{Missing, Duplicate, Frozen, NoPage}
-use Rattle.zy_machine.specs.declared.outcome.Outcome.TheVariants.{Did, Aborted}
+use Rattle.zy_machine.specs.declared.outcome.Outcome.TheVariants.{Did, Aborted, Split}
 use Rattle.zy_machine.specs.Pages.{rows_of}
-use Rattle.zy_machine.specs.Change.{quiet, with_reg, txn_at, aborted, did, locked}
+use Rattle.zy_machine.specs.Change.{quiet, with_reg, txn_at, aborted, cut, did, locked}
 use Rattle.zy_machine.specs.declared.modes.NodeMode.TheVariants.{Normal}
 use Rattle.zy_machine.specs.Client.{is_mode}
-use Rattle.zy_machine.specs.Run.{read_row, write_row, insert_row, full_row, split_row, abort_row, is_there, has_room}
+use Rattle.zy_machine.specs.Run.{boundary, read_row, write_row, insert_row, full_row, split_row, abort_row, is_there, has_room}
 
 pub facing-seen_from : (n : Node) (v : View) → facing n (seen_from n v) ≡ v
 facing-seen_from A v = refl
@@ -127,6 +127,11 @@ full-no_page sc t k p kind s normal none = rw (normal, none) (ap (λ z. quiet z 
 pub full-split : (sc : Scenario) (t k p : ℕ) (kind : LockKind) (s : View) → is_mode Normal s.me.mode ≡ true → nat_le sc.pages (length s.me.lows) ≡ false → full_row sc t k p (locked t p kind s) ≡ split_row sc t k p (locked t p kind s)
 unfolding full_row locked
 full-split sc t k p kind s normal more = rw (normal, more) refl
+
+-- the cut of a page whose lock was just taken
+pub split-is : (sc : Scenario) (t k p : ℕ) (kind : LockKind) (s : View) → let b = boundary sc t k p s in split_row sc t k p (locked t p kind s) ≡ quiet (cut t p b (locked t p kind s)) (Split p (length s.me.lows) b)
+unfolding split_row locked txn_at
+split-is sc t k p kind s = refl
 
 pub insert-did : (sc : Scenario) (t k v p : ℕ) (kind : LockKind) (s : View) → is_there t k p s ≡ false → has_room sc t p s ≡ true
     → let f = locked t p kind s in let x = txn_at f t in insert_row sc t k v p f ≡ quiet (did t (x.pc + 1) x.regs (put_row k v x.rows) f) Did

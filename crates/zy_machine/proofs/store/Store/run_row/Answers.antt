@@ -42,4 +42,4 @@ returns c =
     let f = facing c.args.n (shown c.args.self.now) in
     let here = c.txn-txn.ensures ∙ sym (txn_at-facing c.args.n c.args.t (shown c.args.self.now)) in
     rw (run-instr c.args.scenario.now c.args.n c.args.t f c.txn-txn.result.now c.next_instr-instr.result here (sym c.is_active.ensures ∙ c.if-not-is_active.false) (is_same c.txn-txn.result.now.node c.args.n c.node.result c.ne.result c.node.ensures c.ne.ensures c.if-ne.false) (subst (λ i. slice_get (program_of c.args.scenario.now c.args.t) i ≡ Some c.next_instr-instr.result) c.place.ensures c.next_instr-instr.ensures))
-    (c.instr_row.ensures c.args.scenario.now (sym c.cap.ensures.value))
+    c.instr_row.ensures

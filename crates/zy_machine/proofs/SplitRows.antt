@@ -1,0 +1,65 @@
+-- What makes a split safe, and which line an insert into a full page leads to.
+use Rattle.std.proofs.Common.{Bool, List, [], ap, arith, false, inl, inr, length, refl, subst, sym, true, ℕ, ◌+◌, ◌/◌, ◌++◌, ◌<◌, ◌≤◌, ◌∙◌, ◌∷◌, ◌≡◌}
+use Rattle.std.specs.Prelude.{Contains, not, slice_index, ◌&&◌, ◌==◌, ◌⊎◌}
+use Rattle.std.proofs.lemmas.Bool.{and_from, and_parts, eq-eqb, eqb-false, false≢true, false_from_ne_true, not-true, or_cases, or_left, or_right}
+use denote.Enum.Bare.{sameb}
+use Rattle.zy_isa.specs.Scenario.{Scenario}
+use Rattle.zy_locks.specs.Locks.{add_lock, clashes, conflict, is_shared}
+use Rattle.zy_locks.specs.declared.lock.LockKind.{LockKind}
+use Rattle.zy_locks.specs.declared.lock.LockKind.TheVariants.{Exclusive}
+use Rattle.zy_wire.specs.Wireframe.{page_of}
+use Rattle.zy_machine.specs.contracts.modes.NodeMode.{the_type}
+use Rattle.zy_machine.specs.declared.modes.NodeMode.{NodeMode}
+use Rattle.zy_machine.specs.declared.modes.NodeMode.TheVariants.{Empty, Normal}
+use Rattle.zy_machine.specs.declared.store.Store.{Store}
+use Rattle.zy_machine.specs.Client.{is_mode}
+use Rattle.zy_machine.specs.Holders.{holds}
+use Rattle.zy_machine.specs.Keys.{keys_of, put_key}
+use Rattle.zy_machine.specs.Pages.{owns, rows_of}
+use Rattle.zy_machine.specs.Run.{boundary, has_room, is_there, own_inserts}
+use Rattle.zy_machine.specs.State.{Lock, facing}
+use Rattle.zy_machine.specs.Stores.{IsCuttable, IsFull, shown}
+use Rattle.zy_machine.proofs.LockLists.{holds-add}
+use Rattle.zy_isa.specs.declared.node.Node.{Node}
+
+-- the code's test of a mode
+pub sameb-mode : (x m : NodeMode) → sameb the_type x m ≡ is_mode m x
+sameb-mode Empty Empty = refl
+sameb-mode Empty Normal = refl
+sameb-mode Normal Empty = refl
+sameb-mode Normal Normal = refl
+
+-- where nobody else holds a page, nobody is in the way
+conflict_none : (xs : List Lock) (q t : ℕ) (kind : LockKind) → ((u : ℕ) → (u ≡ t → ⊥) → holds xs q u ≡ true → ⊥) → conflict xs q t kind ≡ false
+conflict_none [] q t kind none = refl
+conflict_none (x ∷ xs) q t kind none = false_from_ne_true _ (λ h.
+    elim (or_cases (clashes q t kind x) (conflict xs q t kind) h) [
+      | inl e ↦
+          let a = and_parts (x.page == q) (not (x.txn == t) && not (is_shared x.kind && is_shared kind)) e in
+          let b = and_parts (not (x.txn == t)) (not (is_shared x.kind && is_shared kind)) a.1 in
+          none x.txn (eqb-false _ _ (not-true _ b.0)) (or_left _ _ (and_from _ _ a.0 (eq-eqb x.txn x.txn refl)))
+      | inr e ↦ false≢true (sym (conflict_none xs q t kind (λ u far held. none u far (or_right _ _ held))) ∙ e)
+    ])
+
+-- nor is anyone in the way of the new page, when t has locked the old one
+alone_there : (xs : List Lock) (p q t : ℕ) → ((u : ℕ) → holds xs q u ≡ false) → conflict (add_lock p t Exclusive xs) q t Exclusive ≡ false
+alone_there xs p q t free = conflict_none (add_lock p t Exclusive xs) q t Exclusive (λ u far h.
+    elim (holds-add p t Exclusive xs q u h) [ inl old ↦ false≢true (sym (free u) ∙ old) | inr new ↦ far (sym new.1) ])
+
+-- the boundary that was found is that of the table
+pub found_boundary : (sc : Scenario) (n : Node) (t k p cap b : ℕ) (s : Store) → cap ≡ sc.cap
+    → b ≡ slice_index (put_key k (keys_of (rows_of (facing n (shown s)).me.pages p ++ own_inserts t p (facing n (shown s))))) ((cap + 1) / 2) → b ≡ boundary sc t k p (facing n (shown s))
+found_boundary sc n t k p cap b s e is = is ∙ ap (λ c. slice_index (put_key k (keys_of (rows_of (facing n (shown s)).me.pages p ++ own_inserts t p (facing n (shown s))))) ((c + 1) / 2)) e
+
+pub cuttable : (sc : Scenario) (n : Node) (t k p b : ℕ) (s : Store) → IsFull sc n t k p s → length (facing n (shown s)).me.lows < sc.pages → b ≡ boundary sc t k p (facing n (shown s)) → IsCuttable t p b (facing n (shown s)).me
+cuttable sc n t k p b s f more is =
+    let v = facing n (shown s) in
+    let lows = v.me.lows in
+    record {
+      free = f.free.free;
+      alone = alone_there v.me.locks p (length lows) t f.splits.unheld;
+      few = let most = f.splits.pages in omega (arith, most, more);
+      other = subst (λ z. Contains lows z → ⊥) (sym is) (subst (λ z. Contains lows (boundary sc t k z v) → ⊥) (sym f.on) (f.splits.other k (subst (λ z. is_there t k z v ≡ false) f.on f.new) (subst (λ z. has_room sc t z v ≡ false) f.on f.full)));
+      absent = f.splits.absent;
+      owned = subst (λ z. owns v.me.pages z ≡ true) (sym f.on) (f.splits.owned k);
+    }
