@@ -1,3 +1,5 @@
 pub mod PageOf
 pub mod Places
 pub mod Grown
+pub mod MorePages
+pub mod Scan
