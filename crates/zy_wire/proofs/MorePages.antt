@@ -98,6 +98,14 @@ page_of-others lows b k fresh other =
 pub low_under-same : (more : List ℕ) (b k : ℕ) → page_of (0 ∷ more) b ≡ page_of (0 ∷ more) k → low_under (0 ∷ more) b ≡ low_under (0 ∷ more) k
 low_under-same more b k same = sym (low_of_page (0 ∷ more) b 0 (omega arith) (omega arith)) ∙ (ap (λ p. get_or (0 ∷ more) p 0) same ∙ low_of_page (0 ∷ more) k 0 (omega arith) (omega arith))
 
+-- a key above the low key of its own page is no low key, so the page may be cut there
+pub no_low_key : (lows : List ℕ) (b : ℕ) → get_or lows (page_of lows b) 0 < b → Contains lows b → ⊥
+no_low_key lows b above there =
+    let is : get_or lows there.0 0 ≡ b = get_or_default lows there.0 0 b there.1 ∙ there.2 in
+    let low = low_of_page lows b there.0 there.1 (omega arith) in
+    let most = le-low_under lows b there.0 there.1 (omega arith) in
+    omega arith
+
 -- b's page is cut at b: its keys from b on go to the new page
 pub page_of-cut_above : (more : List ℕ) (b k : ℕ) → (Contains (0 ∷ more) b → ⊥) → page_of (0 ∷ more) b ≡ page_of (0 ∷ more) k → b ≤ k → page_of ((0 ∷ more) ++ b ∷ []) k ≡ length (0 ∷ more)
 page_of-cut_above more b k fresh same le = page_of-new (0 ∷ more) b k fresh le (let low = low_under-same more b k same in let under = low_under-le (0 ∷ more) b in omega arith)
