@@ -8,7 +8,7 @@ use Rattle.zy_isa.specs.declared.node.Node.TheVariants.{A, B}
 use Rattle.zy_isa.specs.declared.row.Row.{Row}
 use Rattle.zy_isa.specs.Canon.{node_text, choice_text}
 use Rattle.zy_machine.specs.declared.outcome.Why.{Why}
-use Rattle.zy_machine.specs.declared.outcome.Why.TheVariants.{Own, Killed, BadKey, Missing, Duplicate, NoPage}
+use Rattle.zy_machine.specs.declared.outcome.Why.TheVariants.{Own, Killed, BadKey, Missing, Duplicate, Frozen, NoPage}
 use Rattle.zy_machine.specs.declared.outcome.Outcome.{Outcome}
 use Rattle.zy_machine.specs.declared.outcome.Outcome.TheVariants as outcome
 use Rattle.zy_machine.specs.declared.links.Kind.{Kind}
@@ -34,6 +34,7 @@ why_text Killed = codes "killed"
 why_text BadKey = codes "badkey"
 why_text Missing = codes "missing"
 why_text Duplicate = codes "duplicate"
+why_text (Frozen p) = codes "frozen " ++ decimal p
 why_text NoPage = codes "nopage"
 
 abbrev pub kind_text : Kind → List ℕ
@@ -58,6 +59,7 @@ outcome_text (outcome.Began n) = codes "began " ++ node_text n
 outcome_text outcome.Idle = codes "idle"
 outcome_text outcome.Elsewhere = codes "elsewhere"
 outcome_text outcome.Did = codes "did"
+outcome_text (outcome.Split p q b) = codes "split " ++ (decimal p ++ (codes " " ++ (decimal q ++ (codes " " ++ decimal b))))
 outcome_text (outcome.Aborted why) = codes "aborted " ++ why_text why
 outcome_text (outcome.Committed i) = codes "committed " ++ decimal i
 outcome_text (outcome.Waits p) = codes "waits " ++ decimal p

@@ -1,12 +1,14 @@
 -- Rows in key order, parted at a boundary.
-use Rattle.std.proofs.Common.{◌≡◌, ℕ, zero, suc, ◌+◌, ◌<◌, ◌≤◌, Bool, List, [], ◌∷◌, length, take, drop, refl, ap, ltb, leb, arith, inl, inr}
-use Rattle.std.specs.Prelude.{filter}
-use Rattle.std.proofs.lemmas.Bool.{lt-ltb, le-ltb, le-leb, lt-leb, cond_both}
+use Rattle.std.proofs.Common.{Bool, List, None, [], ap, arith, drop, false, inl, inr, leb, length, ltb, refl, suc, take, true, zero, ℕ, ◌+◌, ◌∙◌, ◌∷◌, ◌≡◌, ◌≤◌}
+use Rattle.std.specs.Prelude.{filter, if◌then◌else◌}
+use Rattle.std.proofs.lemmas.Bool.{lt-ltb, le-ltb, le-leb, lt-leb, leb-true, leb-false, cond_both, cases_eq, cases_lt}
+use Rattle.std.proofs.lemmas.List.Filters.{length-filter_both}
 use Rattle.zy_isa.specs.declared.row.Row.{Row}
-use Rattle.zy_isa.specs.Rows.{Rising, RowsFit}
+use Rattle.zy_isa.specs.Rows.{Rising, RowsFit, get_row}
 use Rattle.zy_page.specs.Leaf.{rows_below, rows_from}
 use Rattle.zy_page.specs.Place.{IsPlace}
 use Rattle.zy_page.specs.RowLists.{AreKept}
+use Rattle.zy_page.proofs.Rows.{get_row_same, get_row_past}
 use Rattle.zy_page.proofs.Found.{place_rest, front_below}
 
 tail_above : (b : ℕ) (r : Row) (rows : List Row) → IsPlace b (r ∷ rows) 0 → IsPlace b rows 0
@@ -60,3 +62,42 @@ length-filter p [] = omega arith
 length-filter p (r ∷ rows) =
     let rest = length-filter p rows in
     cond_both (p r) (r ∷ filter p rows) (filter p rows) (λ ys. length ys ≤ suc (length rows)) (λ _. omega (arith, rest)) (λ _. omega (arith, rest))
+
+-- a key has the value that it had, on its side of the boundary
+pub get_row-rows_below : (b : ℕ) (rows : List Row) (k : ℕ) → get_row (rows_below b rows) k ≡ (if ltb k b then get_row rows k else None)
+get_row-rows_below b [] k = cond_both (ltb k b) None None (λ o. None ≡ o) (λ _. refl) (λ _. refl)
+get_row-rows_below b (r ∷ rows) k =
+    let rest = get_row-rows_below b rows k in
+    elim (cases_eq r.key k) [
+      | inl same ↦ cond_both (ltb r.key b) (r ∷ rows_below b rows) (rows_below b rows) (λ ys. get_row ys k ≡ (if ltb k b then get_row (r ∷ rows) k else None))
+          (λ e. let below : ltb k b ≡ true = rw (← same) e in rw (below, get_row_same k r (rows_below b rows) same, get_row_same k r rows same) refl)
+          (λ e. let above : ltb k b ≡ false = rw (← same) e in rest ∙ rw above refl)
+      | inr other ↦ cond_both (ltb r.key b) (r ∷ rows_below b rows) (rows_below b rows) (λ ys. get_row ys k ≡ (if ltb k b then get_row (r ∷ rows) k else None))
+          (λ _. rw (get_row_past k r (rows_below b rows) other, get_row_past k r rows other) rest)
+          (λ _. rw (get_row_past k r rows other) rest)
+    ]
+
+pub get_row-rows_from : (b : ℕ) (rows : List Row) (k : ℕ) → get_row (rows_from b rows) k ≡ (if ltb k b then None else get_row rows k)
+get_row-rows_from b [] k = cond_both (ltb k b) None None (λ o. None ≡ o) (λ _. refl) (λ _. refl)
+get_row-rows_from b (r ∷ rows) k =
+    let rest = get_row-rows_from b rows k in
+    elim (cases_eq r.key k) [
+      | inl same ↦ cond_both (leb b r.key) (r ∷ rows_from b rows) (rows_from b rows) (λ ys. get_row ys k ≡ (if ltb k b then None else get_row (r ∷ rows) k))
+          (λ e. let le = leb-true _ _ e in rw (le-ltb k b (omega arith), get_row_same k r (rows_from b rows) same, get_row_same k r rows same) refl)
+          (λ e. let lt = leb-false _ _ e in let below : ltb k b ≡ true = lt-ltb k b (omega arith) in rest ∙ rw below refl)
+      | inr other ↦ cond_both (leb b r.key) (r ∷ rows_from b rows) (rows_from b rows) (λ ys. get_row ys k ≡ (if ltb k b then None else get_row (r ∷ rows) k))
+          (λ _. rw (get_row_past k r (rows_from b rows) other, get_row_past k r rows other) rest)
+          (λ _. rw (get_row_past k r rows other) rest)
+    ]
+
+-- the rows that move rise from the boundary
+pub Rising-rows_from : (low b : ℕ) (rows : List Row) → Rising low rows → Rising b (rows_from b rows)
+Rising-rows_from low b [] h = tt
+Rising-rows_from low b (r ∷ rows) h =
+    cond_both (leb b r.key) (r ∷ rows_from b rows) (rows_from b rows) (Rising b)
+    (λ e. (leb-true _ _ e, Rising-filter (λ (x : Row). leb b x.key) (r.key + 1) rows h.1))
+    (λ _. Rising-rows_from (r.key + 1) b rows h.1)
+
+-- no row is lost
+pub length-rows_parted : (b : ℕ) (rows : List Row) → length (rows_below b rows) + length (rows_from b rows) ≡ length rows
+length-rows_parted b rows = length-filter_both (λ (r : Row). ltb r.key b) (λ (r : Row). leb b r.key) (λ r. elim (cases_lt r.key b) [ inl below ↦ rw (lt-ltb r.key b below, lt-leb b r.key below) refl | inr above ↦ rw (le-ltb r.key b above, le-leb b r.key above) refl ]) rows

@@ -1,5 +1,5 @@
 //! Rows in key order, each key once.
-ghost use Rattle.std.specs.Prelude.{◌≡◌, ◌+◌, ◌-◌, ◌<◌, ◌≤◌, ◌⊎◌, IfOk, OnOk, OnErr, IsOk, IsSome, [], ◌==◌, length, is_some, slice_index_or};
+ghost use Rattle.std.specs.Prelude.{◌≡◌, ◌+◌, ◌-◌, ◌<◌, ◌≤◌, ◌⊎◌, IfOk, OnOk, OnErr, IsOk, IsSome, [], ◌==◌, length, is_some, vec_capacity, slice_index_or};
 ghost use Rattle.zy_isa.specs.Rows.{Rising, RowsFit, get_row, put_row};
 ghost use Rattle.zy_page.specs.Leaf.{rows_below, rows_from};
 ghost use Rattle.zy_page.specs.Place.{IsPlace, Finds};
@@ -131,14 +131,14 @@ impl RowList {
         room: usize,
     ) -> Result<RowList, AllocError>
         ensures moved { IfOk result (λ list. list.rows ≡ rows_from boundary self.old.rows) }
-        ensures new_room { IfOk result (λ list. room ≤ length list.rows + list.spare) }
         ensures left { OnOk result (self.new.rows ≡ rows_below boundary self.old.rows) }
+        ensures none_lost { IfOk result (λ list. length self.new.rows + length list.rows ≡ length self.old.rows) }
+        ensures new_room { IfOk result (λ list. room ≤ length list.rows + list.spare) }
         ensures old_room { OnOk result (length self.new.rows + self.new.spare ≡ length self.old.rows + self.old.spare) }
         ensures kept { OnErr result (self.new ≡ self.old) }
     {
         let at = place(&self.rows, boundary);
-        let mut rows = Vec::with_capacity(alloc, room.max(self.len() - at))?;
-        rows.extend_from_slice(&self.rows[at..])?;
+        let rows = copied(alloc, &self.rows[at..], room)?;
         self.rows.truncate(at);
         Ok(RowList { rows })
     }
@@ -154,10 +154,19 @@ impl RowList {
     pub fn copy_with_room(&self, alloc: Global, room: usize) -> Result<RowList, AllocError>
         ensures { IfOk result (λ copy. (copy.rows ≡ self.now.rows) × (room ≤ length copy.rows + copy.spare)) }
     {
-        let mut rows = Vec::with_capacity(alloc, room.max(self.len()))?;
-        rows.extend_from_slice(&self.rows)?;
+        let rows = copied(alloc, &self.rows, room)?;
         Ok(RowList { rows })
     }
+}
+
+/// These rows once more, with room for `room` rows in all.
+fn copied(alloc: Global, rows: &[Row], room: usize) -> Result<Vec<Row>, AllocError>
+    ensures items { IfOk result (λ copy. copy.items ≡ rows.now) }
+    ensures room { IfOk result (λ copy. room ≤ vec_capacity copy) }
+{
+    let mut copy = Vec::with_capacity(alloc, room.max(rows.len()))?;
+    copy.extend_from_slice(rows)?;
+    Ok(copy)
 }
 
 /// How many keys are below `key`.

@@ -2,3 +2,4 @@ pub mod PageOf
 pub mod Longer
 pub mod Places
 pub mod Grown
+pub mod Scan

@@ -4,7 +4,7 @@ use Rattle.std.specs.Prelude.{Contains}
 use Rattle.std.proofs.lemmas.Bool.{cases_lt}
 use Rattle.std.proofs.lemmas.List.{get_or_append_left, get_or_at, get_or_default}
 use Rattle.zy_wire.specs.Wireframe.{page_of}
-use Rattle.zy_wire.proofs.PageOf.{page_of-is, page_of-within, page_of-greatest, page_of-first}
+use Rattle.zy_wire.proofs.PageOf.{page_of-is, page_of-within, page_of-greatest, page_of-first, low_of_page}
 
 -- what k's page has for a low key
 record Lies (lows : List ℕ) (k : ℕ) : Type 0 where
@@ -17,6 +17,9 @@ lies more k =
     let lows = 0 ∷ more in
     let greatest = page_of-greatest lows k in
     record { within = page_of-within lows k (omega arith); below = (greatest 0 (omega arith) (omega arith)).0; most = λ i lt le. (greatest i lt le).1 }
+
+first_there : (more : List ℕ) (k i : ℕ) → i < page_of (0 ∷ more) k → get_or (0 ∷ more) i 0 ≡ get_or (0 ∷ more) (page_of (0 ∷ more) k) 0 → ⊥
+first_there more k i lt same = page_of-first (0 ∷ more) k i lt (same ∙ low_of_page (0 ∷ more) k 0 (omega arith) (omega arith))
 
 -- a low key more that is above k, or not above the low key of k's page, changes nothing
 stays : (more : List ℕ) (b k : ℕ) → (b ≤ k → b ≤ get_or (0 ∷ more) (page_of (0 ∷ more) k) 0) → page_of ((0 ∷ more) ++ b ∷ []) k ≡ page_of (0 ∷ more) k
@@ -33,7 +36,7 @@ stays more b k far =
       | inl less ↦ (let e = get_or_append_left lows (b ∷ []) 0 i less in let m = l.most i less (omega arith) in omega arith)
       | inr rest ↦ (let same : i ≡ length lows = omega arith in let e = ap (λ z. get_or (lows ++ b ∷ []) z 0) same ∙ last in let m = far (omega arith) in omega arith)
     ])
-    (λ i lt same. let e = get_or_append_left lows (b ∷ []) 0 i (omega arith) in page_of-first lows k i lt (sym e ∙ same ∙ here))
+    (λ i lt same. let e = get_or_append_left lows (b ∷ []) 0 i (omega arith) in first_there more k i lt (sym e ∙ same ∙ here))
 
 -- the new page takes k
 takes : (more : List ℕ) (b k : ℕ) → b ≤ k → ((i : ℕ) → i < length (0 ∷ more) → get_or (0 ∷ more) i 0 ≤ k → get_or (0 ∷ more) i 0 < b) → page_of ((0 ∷ more) ++ b ∷ []) k ≡ length (0 ∷ more)
@@ -77,7 +80,7 @@ page_of-cut more b k =
       | inr above ↦ elim (cases_lt (get_or lows p 0) b) [
         | inl less ↦ inr (
           takes more b k above (λ i lt under. let m = l.most i lt under in omega arith),
-          page_of-is lows b p within (omega arith) (λ i lt under. l.most i lt (omega arith)) (page_of-first lows k),
+          page_of-is lows b p within (omega arith) (λ i lt under. l.most i lt (omega arith)) (first_there more k),
         )
         | inr rest ↦ inl (stays more b k (λ _. rest))
       ]

@@ -1,8 +1,8 @@
 -- Laws of the page that a key lies on.
-use Rattle.std.proofs.Common.{◌≡◌, ◌∙◌, ℕ, zero, suc, ◌+◌, ◌<◌, ◌≤◌, Bool, true, false, List, [], ◌∷◌, length, get_or, refl, sym, ap, eqb, leb, ltb, arith, Some, None, ◌⊎◌, inl, inr}
+use Rattle.std.proofs.Common.{◌≡◌, ◌∙◌, ℕ, zero, suc, ◌+◌, ◌<◌, ◌≤◌, Bool, true, false, List, [], ◌∷◌, length, get_or, refl, sym, eqb, leb, ltb, arith, Some, None, ◌⊎◌, inl, inr}
 use Rattle.std.specs.Prelude.{filter, unwrap_or}
 use Rattle.std.specs.List.{position_or_len}
-use Rattle.std.proofs.lemmas.Bool.{false≢true, eq-eqb, ne_eqb, eqb-true, lt-ltb, le-ltb, ltb-true, ltb-false, le-leb, leb-true, cond_both, cases_lt, cases_Bool}
+use Rattle.std.proofs.lemmas.Bool.{eq-eqb, ne_eqb, eqb-true, lt-ltb, le-ltb, ltb-true, ltb-false, le-leb, leb-true, cond_both, cases_lt, cases_Bool, true≢false}
 use Rattle.zy_wire.specs.Wireframe.{greatest, low_under, page_of, IsGreatest}
 
 -- the greatest low key that is not above k
@@ -23,7 +23,7 @@ le-low_under (low ∷ lows) k (suc i) lt le =
     (λ _. omega (arith, rest))
     (λ _. rest)
 
-low_under-most : (lows : List ℕ) (k m : ℕ) → ((i : ℕ) → i < length lows → get_or lows i 0 ≤ k → get_or lows i 0 ≤ m) → low_under lows k ≤ m
+pub low_under-most : (lows : List ℕ) (k m : ℕ) → ((i : ℕ) → i < length lows → get_or lows i 0 ≤ k → get_or lows i 0 ≤ m) → low_under lows k ≤ m
 low_under-most [] k m most = omega arith
 low_under-most (low ∷ lows) k m most =
     let rest = low_under-most lows k m (λ i lt le. most (suc i) (omega arith) le) in
@@ -95,6 +95,29 @@ page_of-within lows k some =
     let n = position_or_len (λ low. eqb low (low_under lows k)) lows in
     cond_both (ltb n (length lows)) (Some n) None (λ o. unwrap_or o 0 < length lows) (λ e. ltb-true _ _ e) (λ _. some)
 
+before_first : (q : ℕ → Bool) (xs : List ℕ) (i : ℕ) → i < position_or_len q xs → q (get_or xs i 0) ≡ false
+before_first q [] i lt = absurd (omega arith)
+before_first q (x ∷ xs) zero lt =
+    elim (cases_Bool (q x)) [
+      | inl e ↦ (let bad = rw e at lt in absurd (omega (arith, bad)))
+      | inr e ↦ e
+    ]
+before_first q (x ∷ xs) (suc i) lt =
+    elim (cases_Bool (q x)) [
+      | inl e ↦ (let bad = rw e at lt in absurd (omega (arith, bad)))
+      | inr e ↦ (let rest = rw e at lt in before_first q xs i (omega (arith, rest)))
+    ]
+
+-- and no page before that has that low key
+pub page_of-first : (lows : List ℕ) (k i : ℕ) → i < page_of lows k → get_or lows i 0 ≡ low_under lows k → ⊥
+unfolding page_of
+page_of-first lows k i =
+    let q : ℕ → Bool = λ low. eqb low (low_under lows k) in
+    let n = position_or_len q lows in
+    cond_both (ltb n (length lows)) (Some n) None (λ o. i < unwrap_or o 0 → get_or lows i 0 ≡ low_under lows k → ⊥)
+    (λ e below same. true≢false (sym (eq-eqb _ _ same) ∙ before_first q lows i below))
+    (λ e below same. absurd (omega arith))
+
 -- the greatest low key that is not above k is one of them, or 0
 reached : (lows : List ℕ) (k : ℕ) → (low_under lows k ≡ 0) ⊎ ((i : ℕ) × (i < length lows) × (get_or lows i 0 ≡ low_under lows k))
 reached [] k = inl refl
@@ -135,26 +158,3 @@ page_of-greatest lows k = λ q lt le.
     let most = low_under-le lows k in
     let up = le-low_under lows k q lt le in
     (omega arith, omega arith)
-
-fails_before : (q : ℕ → Bool) (xs : List ℕ) (i : ℕ) → i < position_or_len q xs → q (get_or xs i 0) ≡ false
-fails_before q [] i lt = absurd (omega arith)
-fails_before q (x ∷ xs) zero lt =
-    elim (cases_Bool (q x)) [
-      | inl e ↦ (let none = rw e at lt in absurd (omega (arith, none)))
-      | inr e ↦ e
-    ]
-fails_before q (x ∷ xs) (suc i) lt =
-    elim (cases_Bool (q x)) [
-      | inl e ↦ (let none = rw e at lt in absurd (omega (arith, none)))
-      | inr e ↦ (let more = rw e at lt in fails_before q xs i (omega (arith, more)))
-    ]
-
--- k's page is the first with its low key
-pub page_of-first : (lows : List ℕ) (k i : ℕ) → i < page_of lows k → get_or lows i 0 ≡ get_or lows (page_of lows k) 0 → ⊥
-unfolding page_of
-page_of-first lows k i =
-    let q : ℕ → Bool = λ low. eqb low (low_under lows k) in
-    let n = position_or_len q lows in
-    cond_both (ltb n (length lows)) (Some n) None (λ o. i < unwrap_or o 0 → get_or lows i 0 ≡ get_or lows (unwrap_or o 0) 0 → ⊥)
-    (λ e lt same. false≢true (sym (fails_before q lows i lt) ∙ ap q same ∙ passes_there q lows (ltb-true _ _ e)))
-    (λ _ lt same. absurd (omega arith))

@@ -77,6 +77,21 @@ fn a_full_wireframe_takes_no_more(rt: HostRuntime) -> Result<(), Fail> {
     Ok(())
 }
 
+#[test]
+fn faults_in_words(rt: HostRuntime) -> Result<(), Fail> {
+    for (fault, words) in [
+        (
+            WireFault::Full,
+            "the wireframe has as many pages as it may have",
+        ),
+        (WireFault::Memory, "there is no memory for one page more"),
+    ] {
+        let text = format!(in rt.alloc(); "{fault}")?;
+        assert_eq!(rt; text.as_str(), words);
+    }
+    Ok(())
+}
+
 /// Any of its allocations may be refused: the pages stay.
 #[test]
 fn refused_growths(rt: HostRuntime) {

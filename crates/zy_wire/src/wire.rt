@@ -111,7 +111,7 @@ impl Wire {
         }
     }
 
-    /// The page that a key lies on, 0 where its low key is above the key or there is none.
+    /// The page that a key lies on; 0 where every low key is above it.
     pub fn page_of(&self, key: u16) -> u16
         ensures value { result ≡ page_of_lem self.now.lows key }
         ensures within { 0 < length self.now.lows → result < length self.now.lows }
@@ -133,6 +133,7 @@ impl Wire {
         // Each refusal comes just where it must, and changes nothing.
         ensures full { (result ≡ Err WireFault.Full) ↔ (length self.old.lows ≡ self.old.pages) }
         ensures memory { result ≡ Err WireFault.Memory → self.old.spare ≡ 0 }
+        ensures succeeds { length self.old.lows < self.old.pages → 1 ≤ self.old.spare → IsOk result }
         ensures kept { OnErr result (self.new ≡ self.old) }
     {
         if self.len() == usize::from(self.pages) {

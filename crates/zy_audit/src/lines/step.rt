@@ -1,10 +1,11 @@
 //! The steps, each with what came of it.
 ghost use Rattle.std.specs.Prelude.{◌≡◌, ◌++◌, OnOk};
 ghost use Rattle.std.specs.String.{string_bytes};
+ghost use Rattle.zy_machine.specs.declared.outcome.Outcome.TheVariants as outcome;
 ghost use Rattle.zy_audit.specs.Texts.{outcome_text, sent_text, step_text};
 ghost use Rattle.zy_audit.specs.Listing.{step_texts};
 
-use crate::lines::words::{kind_word, why_word};
+use crate::lines::words::{append_why, kind_word};
 use std::alloc::AllocError;
 use std::fmt::Write;
 use zy_isa::section::{Line, Lines, Section, append_number, append_numbered, write_lines};
@@ -13,6 +14,20 @@ use zy_isa::writing::TextFault;
 use zy_machine::entry::Entry;
 use zy_machine::links::Kind;
 use zy_machine::outcome::Outcome;
+
+/// Appends which page was cut, its new upper part, and where.
+fn append_split(
+    line: &mut String,
+    page: u16,
+    new_page: u16,
+    boundary: u16,
+) -> Result<(), AllocError>
+    ensures { OnOk result (string_bytes line.new ≡ string_bytes line.old ++ outcome_text (outcome.Split page new_page boundary)) }
+{
+    append_numbered(line, "split ", u64::from(page))?;
+    append_numbered(line, " ", u64::from(new_page))?;
+    append_numbered(line, " ", u64::from(boundary))
+}
 
 /// Appends what came of a step.
 fn append_outcome(line: &mut String, outcome: Outcome) -> Result<(), AllocError>
@@ -23,7 +38,15 @@ fn append_outcome(line: &mut String, outcome: Outcome) -> Result<(), AllocError>
         Outcome::Idle => line.push_str("idle"),
         Outcome::Elsewhere => line.push_str("elsewhere"),
         Outcome::Did => line.push_str("did"),
-        Outcome::Aborted(why) => write!(line, "aborted {}", why_word(why)),
+        Outcome::Split {
+            page,
+            new_page,
+            boundary,
+        } => append_split(line, page, new_page, boundary),
+        Outcome::Aborted(why) => {
+            line.push_str("aborted ")?;
+            append_why(line, why)
+        }
         Outcome::Committed(place) => append_numbered(line, "committed ", u64::from(place)),
         Outcome::Waits(page) => append_numbered(line, "waits ", u64::from(page)),
     }

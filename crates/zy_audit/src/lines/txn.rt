@@ -5,7 +5,7 @@ ghost use Rattle.zy_audit.specs.Texts.{commit_place as commit_place_lem, done_te
 ghost use Rattle.zy_audit.specs.Listing.{txn_texts};
 
 use crate::lines::rows::{append_regs, append_rows};
-use crate::lines::words::why_word;
+use crate::lines::words::append_why;
 use std::alloc::AllocError;
 use std::fmt::Write;
 use zy_isa::section::{Lines, Section, write_lines};
@@ -65,7 +65,8 @@ fn append_committed(line: &mut String, txn: &Txn, place: usize) -> Result<(), Al
 fn append_aborted(line: &mut String, txn: &Txn, why: Why) -> Result<(), AllocError>
     ensures { OnOk result (string_bytes line.new ≡ string_bytes line.old ++ aborted_text txn.now why) }
 {
-    write!(line, " aborted {} {}", txn.node(), why_word(why))?;
+    write!(line, " aborted {} ", txn.node())?;
+    append_why(line, why)?;
     append_done(line, txn)
 }
 

@@ -1,22 +1,26 @@
 //! The words of the machine's plain types.
-ghost use Rattle.std.specs.Prelude.{◌≡◌};
+ghost use Rattle.std.specs.Prelude.{◌≡◌, ◌++◌, OnOk};
+ghost use Rattle.std.specs.String.{string_bytes};
 ghost use Rattle.zy_audit.specs.Texts.{why_text, kind_text, mode_word as mode_word_lem};
 
+use std::alloc::AllocError;
+use zy_isa::section::append_numbered;
 use zy_machine::links::Kind;
 use zy_machine::modes::NodeMode;
 use zy_machine::outcome::Why;
 
-/// Why a transaction was aborted.
-pub(crate) fn why_word(why: Why) -> &'static str
-    ensures { result.now ≡ why_text why }
+/// Appends why a transaction was aborted.
+pub(crate) fn append_why(line: &mut String, why: Why) -> Result<(), AllocError>
+    ensures { OnOk result (string_bytes line.new ≡ string_bytes line.old ++ why_text why) }
 {
     match why {
-        Why::Own => "own",
-        Why::Killed => "killed",
-        Why::BadKey => "badkey",
-        Why::Missing => "missing",
-        Why::Duplicate => "duplicate",
-        Why::NoPage => "nopage",
+        Why::Own => line.push_str("own"),
+        Why::Killed => line.push_str("killed"),
+        Why::BadKey => line.push_str("badkey"),
+        Why::Missing => line.push_str("missing"),
+        Why::Duplicate => line.push_str("duplicate"),
+        Why::Frozen(page) => append_numbered(line, "frozen ", u64::from(page)),
+        Why::NoPage => line.push_str("nopage"),
     }
 }
 

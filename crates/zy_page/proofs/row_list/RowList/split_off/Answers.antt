@@ -7,7 +7,7 @@ pub invariant_of-result : goal.invariant_of-result
 invariant_of-result c =
     let rows = c.self.inside.rows.items in
     let placed = rw c.deref.ensures.value at c.place-at.ensures in
-    let rest : c.extend_from_slice.new.self.items ≡ drop c.place-at.result rows = c.in_ok-extend_from_slice.ensures.items ∙ rw (c.in_ok-rows.ensures.items, c.deref-2.ensures.value) (take_rest rows c.place-at.result) in
+    let rest : c.in_ok-rows.rows.items ≡ drop c.place-at.result rows = c.in_ok-rows.ensures.items ∙ rw c.deref-2.ensures.value (take_rest rows c.place-at.result) in
     rw (rest, ← rows_from-place c.args.boundary c.place-at.result rows placed) (AreKept-filter _ rows c.self.invariant)
 
 pub invariant_of-self : goal.invariant_of-self
@@ -20,7 +20,7 @@ pub returns-clause-moved : goal.returns-clause-moved
 returns-clause-moved c =
     let rows = c.self.inside.rows.items in
     let placed = rw c.deref.ensures.value at c.place-at.ensures in
-    let rest : c.extend_from_slice.new.self.items ≡ drop c.place-at.result rows = c.in_ok-extend_from_slice.ensures.items ∙ rw (c.in_ok-rows.ensures.items, c.deref-2.ensures.value) (take_rest rows c.place-at.result) in
+    let rest : c.in_ok-rows.rows.items ≡ drop c.place-at.result rows = c.in_ok-rows.ensures.items ∙ rw c.deref-2.ensures.value (take_rest rows c.place-at.result) in
     rw (← c.self.view_is) (rest ∙ sym (rows_from-place c.args.boundary c.place-at.result rows placed))
 
 pub returns-clause-left : goal.returns-clause-left

@@ -1,4 +1,4 @@
-use Rattle.std.proofs.Common.{◌≡◌, ◌<◌, ap, length, arith}
+use Rattle.std.proofs.Common.{◌≡◌, ap, length, arith}
 use Rattle.zy_wire.specs.declared.entry.Entry.{Entry}
 use Rattle.zy_wire.proofs.Grown.{IsSound-grown}
 use Rattle.zy_wire.proofs.wire.Wire.put.Goals as goal

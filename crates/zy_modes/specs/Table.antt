@@ -1,0 +1,63 @@
+-- The mode table, a line for each line of it.
+use Rattle.std.specs.Prelude.{Bool, true, false, if◌then◌else◌, Option, Some, None}
+use Rattle.zy_isa.specs.declared.node.Node.{Node}
+use Rattle.zy_isa.specs.declared.node.Node.TheVariants.{A, B}
+use Rattle.zy_modes.specs.declared.kind.Kind.{Kind}
+use Rattle.zy_modes.specs.declared.kind.Kind.TheVariants.{Wire, Ready, Dual, Pull, Page, Finish, Done}
+use Rattle.zy_modes.specs.declared.mode.NodeMode.{NodeMode}
+use Rattle.zy_modes.specs.declared.mode.NodeMode.TheVariants.{Empty, Normal, SInit, SDual, SFinish, DInit, DDual, DFinish}
+use Rattle.zy_modes.specs.declared.table.MsgRow.{MsgRow}
+use Rattle.zy_modes.specs.declared.table.MsgRow.TheVariants.{Stray, Turns}
+use Rattle.zy_modes.specs.declared.table.FinRow.{FinRow}
+use Rattle.zy_modes.specs.declared.table.FinRow.TheVariants.{BadMode, Active, Finishing}
+
+-- a destination whose source runs nothing any more; all: no page is missing
+abbrev pub finishes : Bool → MsgRow
+finishes false = Turns DFinish None
+finishes true = Turns Normal (Some Done)
+
+-- a message at a node in this mode; all: no page is missing there, with the one that the message brings
+abbrev pub on_message : NodeMode → Kind → Bool → MsgRow
+on_message Empty Wire all = Turns DInit (Some Ready)
+on_message SInit Ready all = Turns SDual (Some Dual)
+on_message DInit Dual all = Turns DDual None
+on_message SDual Pull all = Turns SDual (Some Page)
+on_message SFinish Pull all = Turns SFinish (Some Page)
+on_message DDual Page all = Turns DDual None
+on_message DFinish Page all = finishes all
+on_message DDual Finish all = finishes all
+on_message SFinish Done all = Turns Empty None
+on_message mode kind all = Stray
+
+-- the node from which a migration starts
+abbrev pub on_start : NodeMode → NodeMode → Option Node
+on_start Normal Empty = Some A
+on_start a b = None
+
+-- finish at a node in this mode; active: a transaction is active there
+abbrev pub on_finish : NodeMode → Bool → FinRow
+on_finish SDual true = Active
+on_finish SDual false = Finishing
+on_finish mode active = BadMode
+
+-- the node that runs all transactions
+abbrev pub is_home : NodeMode → Bool
+is_home Normal = true
+is_home SInit = true
+is_home mode = false
+
+-- the node to which the pages go
+abbrev pub is_destination : NodeMode → Bool
+is_destination DInit = true
+is_destination DDual = true
+is_destination DFinish = true
+is_destination mode = false
+
+-- the node where a transaction begins: one that runs all of them, else the destination, and A before B
+abbrev pub home_of : NodeMode → NodeMode → Option Node
+home_of a b =
+    if is_home a then Some A
+    else if is_home b then Some B
+    else if is_destination a then Some A
+    else if is_destination b then Some B
+    else None

@@ -1,0 +1,90 @@
+//! The mode table: each function is the lines of its definition.
+ghost use Rattle.std.specs.Prelude.{◌≡◌};
+ghost use Rattle.zy_modes.specs.Table.{finishes as finishes_lem, on_message as on_message_lem, on_start as on_start_lem, on_finish as on_finish_lem, home_of as home_of_lem};
+
+use crate::kind::Kind;
+use crate::mode::NodeMode;
+use zy_isa::node::Node;
+
+/// What a message does at a node.
+#[derive(Clone, Copy, Debug, PartialEq, Eq)]
+pub enum MsgRow {
+    /// It has no place there: it stays in the link.
+    Stray,
+    /// The node turns to this mode, and sends a message of this kind or none.
+    Turns(NodeMode, Option<Kind>),
+}
+
+/// What `finish` does at a node.
+#[derive(Clone, Copy, Debug, PartialEq, Eq)]
+pub enum FinRow {
+    /// The node is no source in the dual mode.
+    BadMode,
+    /// A transaction still runs there.
+    Active,
+    /// The node turns to `SFinish`, and says so to the other node.
+    Finishing,
+}
+
+/// What a message of this kind does at a node in this mode. `all_here`: no page is missing there, with the one that the message brings.
+/// A page that is asked for goes out only if it may leave, which is not told here.
+pub fn on_message(mode: NodeMode, kind: Kind, all_here: bool) -> MsgRow
+    ensures { result ≡ on_message_lem mode kind all_here }
+{
+    match (mode, kind) {
+        (NodeMode::Empty, Kind::Wire) => MsgRow::Turns(NodeMode::DInit, Some(Kind::Ready)),
+        (NodeMode::SInit, Kind::Ready) => MsgRow::Turns(NodeMode::SDual, Some(Kind::Dual)),
+        (NodeMode::DInit, Kind::Dual) => MsgRow::Turns(NodeMode::DDual, None),
+        (NodeMode::SDual, Kind::Pull) => MsgRow::Turns(NodeMode::SDual, Some(Kind::Page)),
+        (NodeMode::SFinish, Kind::Pull) => MsgRow::Turns(NodeMode::SFinish, Some(Kind::Page)),
+        (NodeMode::DDual, Kind::Page) => MsgRow::Turns(NodeMode::DDual, None),
+        (NodeMode::DFinish, Kind::Page) | (NodeMode::DDual, Kind::Finish) => finishes(all_here),
+        (NodeMode::SFinish, Kind::Done) => MsgRow::Turns(NodeMode::Empty, None),
+        _ => MsgRow::Stray,
+    }
+}
+
+/// What becomes of a destination whose source runs nothing any more.
+fn finishes(all_here: bool) -> MsgRow
+    ensures { result ≡ finishes_lem all_here }
+{
+    if all_here {
+        MsgRow::Turns(NodeMode::Normal, Some(Kind::Done))
+    } else {
+        MsgRow::Turns(NodeMode::DFinish, None)
+    }
+}
+
+/// The node from which a migration starts.
+pub fn on_start(a: NodeMode, b: NodeMode) -> Option<Node>
+    ensures { result ≡ on_start_lem a b }
+{
+    match (a, b) {
+        (NodeMode::Normal, NodeMode::Empty) => Some(Node::A),
+        _ => None,
+    }
+}
+
+/// What `finish` does at a node in this mode. `active`: a transaction is active there.
+pub fn on_finish(mode: NodeMode, active: bool) -> FinRow
+    ensures { result ≡ on_finish_lem mode active }
+{
+    match mode {
+        NodeMode::SDual if active => FinRow::Active,
+        NodeMode::SDual => FinRow::Finishing,
+        _ => FinRow::BadMode,
+    }
+}
+
+/// The node where a transaction begins, by the modes of A and B.
+pub fn home_of(a: NodeMode, b: NodeMode) -> Option<Node>
+    ensures { result ≡ home_of_lem a b }
+{
+    match (a, b) {
+        (NodeMode::Normal | NodeMode::SInit, _) => Some(Node::A),
+        (_, NodeMode::Normal | NodeMode::SInit) => Some(Node::B),
+        (NodeMode::DInit | NodeMode::DDual | NodeMode::DFinish, _) => Some(Node::A),
+        (_, NodeMode::DInit | NodeMode::DDual | NodeMode::DFinish) => Some(Node::B),
+        _ => None,
+    }
+}
