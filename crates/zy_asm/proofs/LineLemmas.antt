@@ -1,6 +1,10 @@
 -- The first line of a text, by its first line feed.
-use Rattle.std.proofs.Common.{◌≡◌, ℕ, ◌==◌, ◌<◌, ◌+◌, Bool, true, false, List, [], ◌∷◌, length, suc, refl, arith, inl, inr, ◌⊎◌}
-use Rattle.std.specs.List.{position_or_len, before_first, after_first}
+use Rattle.std.proofs.Common.{◌≡◌, ℕ, ◌==◌, ◌<◌, ◌+◌, Bool, true, false, List, [], ◌∷◌, length, suc, refl, arith, drop, inl, inr, subst, sym, take, Some, None, ◌⊎◌}
+use Rattle.std.specs.List.{position, position_or_len, before_first, after_first}
+use Rattle.std.proofs.lemmas.List.Quantifiers.{position-Some}
+use Rattle.std.proofs.lemmas.List.Sums.{position_or_len_is, prefix_len-le-length}
+use Rattle.std.specs.Prelude.{if◌then◌else◌, nat_lt, not}
+use Rattle.std.proofs.lemmas.Bool.{ltb-false}
 use Rattle.zy_isa.specs.Words.{lines_of}
 
 abbrev is_lf : ℕ → Bool
@@ -48,3 +52,19 @@ lines_none (b ∷ c ∷ bs) p h =
       | inl e ↦ absurd (omega (arith, pos_here b (c ∷ bs) e))
       | inr e ↦ none_later b (c ∷ bs) e (lines_none (c ∷ bs) (omega arith) (omega (arith, pos_later b (c ∷ bs) e)))
     ]
+
+-- the same by the place of the first line feed
+pub first_some : (bs : List ℕ) (i : ℕ) → Some i ≡ position is_lf bs → lines_of bs ≡ take i bs ∷ lines_of (drop (i + 1) bs)
+first_some bs i h =
+    let found = position-Some is_lf bs i 0 (sym h) in
+    let place : position_or_len is_lf bs ≡ i = position_or_len_is is_lf bs i 0 (omega (arith, found.0)) found.2 (λ lt. found.1) in
+    subst (λ n. lines_of bs ≡ take n bs ∷ lines_of (drop (n + 1) bs)) place (lines_some bs (omega (arith, place, found.0)))
+
+none_is : (t : Bool) (n : ℕ) → None ≡ (if t then Some n else None) → t ≡ false
+none_is true n h = cc
+none_is false n h = refl
+
+pub first_none : (bs : List ℕ) → 0 < length bs → None ≡ position is_lf bs → lines_of bs ≡ bs ∷ []
+first_none bs p h =
+    let past = ltb-false _ _ (none_is (nat_lt (position_or_len is_lf bs) (length bs)) (position_or_len is_lf bs) h) in
+    lines_none bs p (omega (arith, past, prefix_len-le-length (λ b. not (is_lf b)) bs))

@@ -333,7 +333,7 @@ pub fn read(alloc: Global, text: &str) -> Result<Reader, AsmFault>
         choices: Vec::new(alloc),
     };
     let mut words: Vec<&[u8]> = Vec::new(alloc);
-    let mut rest = text;
+    let mut rest = text.as_bytes();
     let mut line = 1usize;
     while !rest.is_empty() {
         let (first, after) = first_line(rest);

@@ -1,5 +1,5 @@
 //! The lines of a text, the words of a line, and what numbers they spell.
-ghost use Rattle.std.specs.Prelude.{◌≡◌, ◌<◌, ◌≤◌, IfOk, OnOk, map, length, ◌∷◌};
+ghost use Rattle.std.specs.Prelude.{◌≡◌, ◌<◌, ◌≤◌, IfOk, OnOk, map, length, position, ◌==◌, ◌∷◌};
 ghost use Rattle.std.specs.Str.{bytes_eq};
 ghost use Rattle.zy_isa.specs.Words.{words_of as words_of_lem, number_of as number_of_lem, is_space as is_space_lem, without_comment as without_comment_lem, lines_of};
 ghost use Rattle.zy_asm.specs.Steps.{number_in as number_in_lem};
@@ -16,36 +16,42 @@ fn is_space(byte: u8) -> bool
     byte == b' ' || byte == b'\t' || byte == b'\r'
 }
 
-/// The text before a comment.
-fn without_comment(line: &str) -> &str
+/// Where a byte stands first.
+fn first_place(bytes: &[u8], sought: u8) -> Option<usize>
+    ensures { result ≡ position (λ b. b == sought) bytes.now }
+{
+    bytes.iter().position(|byte| *byte == sought)
+}
+
+/// The bytes before a comment.
+fn without_comment(line: &[u8]) -> &[u8]
     ensures { result.now ≡ without_comment_lem line.entry.now }
 {
-    match line.split_once(';') {
-        Some((front, _)) => front,
+    match first_place(line, b';') {
+        Some(end) => &line[..end],
         None => line,
     }
 }
 
 /// The first line of a text, and what follows it.
-pub fn first_line(text: &str) -> (&str, &str)
+pub fn first_line(text: &[u8]) -> (&[u8], &[u8])
     requires { 0 < length text.now }
     ensures lines { lines_of text.entry.now ≡ result.0.now ∷ lines_of result.1.now }
     ensures shorter { length result.1.now < length text.entry.now }
 {
-    match text.split_once('\n') {
-        Some(parts) => parts,
-        None => (text, ""),
+    match first_place(text, b'\n') {
+        Some(end) => (&text[..end], &text[end + 1..]),
+        None => (text, &[]),
     }
 }
 
 /// Puts the words of a line, without its comment, in place of what the `Vec` holds. At an error some of them stand there.
-pub fn take_words<'a>(words: &mut Vec<&'a [u8]>, line: &'a str) -> Result<(), AllocError>
+pub fn take_words<'a>(words: &mut Vec<&'a [u8]>, line: &'a [u8]) -> Result<(), AllocError>
     ensures { OnOk result (map (λ w. w.now) words.new.items ≡ words_of_lem line.entry.now) }
 {
     words.clear();
     words.extend(
         without_comment(line)
-            .as_bytes()
             .split(|byte| is_space(*byte))
             .filter(|word| !word.is_empty()),
     )

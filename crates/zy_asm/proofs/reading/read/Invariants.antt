@@ -1,14 +1,11 @@
 -- What was seen and the lines that are left give what the text gives.
 use Rattle.std.proofs.Common.{◌≡◌, ◌≤◌, ◌+◌, length}
-use denote.Text.{Utf8}
-use denote.Shadow.{shadow}
 use Rattle.zy_isa.specs.Words.{lines_of}
 use Rattle.zy_asm.specs.Reading.{seen, reading, read_lines}
 use Rattle.zy_asm.proofs.reading.read.Given as goal
 
 abbrev pub invariant-loop-rest : goal.invariant-loop-rest
 invariant-loop-rest l = record {
-  utf8 : shadow (Utf8 l.rest);
   same : read_lines (seen l.reader) l.line (lines_of l.rest) ≡ reading l.text;
   few : l.line + length l.rest ≤ length l.text + 1;
 }
