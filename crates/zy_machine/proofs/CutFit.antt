@@ -16,7 +16,7 @@ use Rattle.zy_machine.specs.Client.{is_mode}
 use Rattle.zy_machine.specs.Pages.{lowered, owns, rows_of, with_page}
 use Rattle.zy_machine.specs.State.{View, other}
 use Rattle.zy_machine.specs.declared.modes.NodeMode.TheVariants.{Normal}
-use Rattle.zy_machine.proofs.CutPages.{get_row-below, get_row-from}
+use Rattle.zy_page.proofs.Parted.{get_row-rows_below, get_row-rows_from}
 use Rattle.zy_machine.proofs.EachPage.{Each, each_append, each_at, each_both, each_front, each_in, each_map}
 use Rattle.zy_machine.proofs.Events.{Free, has_lock}
 use Rattle.zy_machine.proofs.Fit.{Fit, Room, Sized}
@@ -63,10 +63,10 @@ need_less lows more p q held rest (r ∷ rows) h =
     omega (arith, a, b)
 
 held_below : (b k : ℕ) (rows : List Row) → k < b → is_some (get_row (rows_below b rows) k) ≡ is_some (get_row rows k)
-held_below b k rows h = ap is_some (get_row-below b rows k ∙ ap (λ t. if t then get_row rows k else None) (lt-ltb k b h))
+held_below b k rows h = ap is_some (get_row-rows_below b rows k ∙ ap (λ t. if t then get_row rows k else None) (lt-ltb k b h))
 
 held_from : (b k : ℕ) (rows : List Row) → b ≤ k → is_some (get_row (rows_from b rows) k) ≡ is_some (get_row rows k)
-held_from b k rows h = ap is_some (get_row-from b rows k ∙ ap (λ t. if t then None else get_row rows k) (le-ltb k b h))
+held_from b k rows h = ap is_some (get_row-rows_from b rows k ∙ ap (λ t. if t then None else get_row rows k) (le-ltb k b h))
 
 new_on : (lows : List ℕ) (p k : ℕ) (held : List Row) → page_of lows k ≡ p → is_some (get_row held k) ≡ false → is_new_on lows p held k ≡ true
 new_on lows p k held on off = and_from _ _ (eq-eqb _ _ on) (ap not off)

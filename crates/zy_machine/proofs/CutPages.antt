@@ -5,6 +5,7 @@ use Rattle.std.proofs.lemmas.Bool.{cond_both, false≢true, eq-eqb, ne_eqb, eqb-
 use Rattle.zy_isa.specs.declared.row.Row.{Row}
 use Rattle.zy_isa.specs.Rows.{get_row}
 use Rattle.zy_page.specs.Leaf.{Leaf, rows_below, rows_from}
+use Rattle.zy_page.proofs.Parted.{get_row-rows_below, get_row-rows_from}
 use Rattle.zy_wire.specs.Wireframe.{page_of}
 use Rattle.zy_wire.proofs.Longer.{page_of-others, page_of-cut_above, page_of-cut_below}
 use Rattle.zy_machine.specs.Pages.{leaf_at, lowered, owns, rows_of, with_page}
@@ -13,43 +14,13 @@ use Rattle.zy_machine.proofs.LoneRuns.{or_else}
 
 -- ---- the rows of a page, below the boundary and from it on
 
-pub get_row-below : (b : ℕ) (rows : List Row) (k : ℕ) → get_row (rows_below b rows) k ≡ (if nat_lt k b then get_row rows k else None)
-get_row-below b [] k = cond_both (nat_lt k b) None None (λ o. None ≡ o) (λ _. refl) (λ _. refl)
-get_row-below b (r ∷ rows) k =
-    let e = get_row-below b rows k in
-    elim (cases_eq r.key k) [
-      | inl same ↦ let yes : (r.key == k) ≡ true = eq-eqb _ _ same in
-          cond_both (nat_lt r.key b) (r ∷ rows_below b rows) (rows_below b rows) (λ y. get_row y k ≡ (if nat_lt k b then (if r.key == k then Some r.value else get_row rows k) else None))
-          (λ h. let h' : nat_lt k b ≡ true = rw (← same) h in rw (yes, h') refl)
-          (λ h. let h' : nat_lt k b ≡ false = rw (← same) h in e ∙ rw h' refl)
-      | inr far ↦ let off : (r.key == k) ≡ false = ne_eqb _ _ far in
-          cond_both (nat_lt r.key b) (r ∷ rows_below b rows) (rows_below b rows) (λ y. get_row y k ≡ (if nat_lt k b then (if r.key == k then Some r.value else get_row rows k) else None))
-          (λ _. rw off e)
-          (λ _. rw off e)
-    ]
-
-pub get_row-from : (b : ℕ) (rows : List Row) (k : ℕ) → get_row (rows_from b rows) k ≡ (if nat_lt k b then None else get_row rows k)
-get_row-from b [] k = cond_both (nat_lt k b) None None (λ o. None ≡ o) (λ _. refl) (λ _. refl)
-get_row-from b (r ∷ rows) k =
-    let e = get_row-from b rows k in
-    elim (cases_eq r.key k) [
-      | inl same ↦ let yes : (r.key == k) ≡ true = eq-eqb _ _ same in
-          cond_both (nat_le b r.key) (r ∷ rows_from b rows) (rows_from b rows) (λ y. get_row y k ≡ (if nat_lt k b then None else (if r.key == k then Some r.value else get_row rows k)))
-          (λ h. let h' : nat_lt k b ≡ false = le-ltb k b (let le = leb-true b r.key h in omega arith) in rw (yes, h') refl)
-          (λ h. let h' : nat_lt k b ≡ true = lt-ltb k b (let lt = leb-false b r.key h in omega arith) in e ∙ rw h' refl)
-      | inr far ↦ let off : (r.key == k) ≡ false = ne_eqb _ _ far in
-          cond_both (nat_le b r.key) (r ∷ rows_from b rows) (rows_from b rows) (λ y. get_row y k ≡ (if nat_lt k b then None else (if r.key == k then Some r.value else get_row rows k)))
-          (λ _. rw off e)
-          (λ _. rw off e)
-    ]
-
 some_below : (b : ℕ) (rows : List Row) (k : ℕ) → is_some (get_row (rows_below b rows) k) ≡ true → (k < b) × (is_some (get_row rows k) ≡ true)
 some_below b rows k h =
-    cond_both (nat_lt k b) (get_row rows k) None (λ o. is_some o ≡ true → (k < b) × (is_some (get_row rows k) ≡ true)) (λ e g. (ltb-true _ _ e, g)) (λ _ g. absurd (false≢true g)) (ap is_some (sym (get_row-below b rows k)) ∙ h)
+    cond_both (nat_lt k b) (get_row rows k) None (λ o. is_some o ≡ true → (k < b) × (is_some (get_row rows k) ≡ true)) (λ e g. (ltb-true _ _ e, g)) (λ _ g. absurd (false≢true g)) (ap is_some (sym (get_row-rows_below b rows k)) ∙ h)
 
 some_from : (b : ℕ) (rows : List Row) (k : ℕ) → is_some (get_row (rows_from b rows) k) ≡ true → (b ≤ k) × (is_some (get_row rows k) ≡ true)
 some_from b rows k h =
-    cond_both (nat_lt k b) None (get_row rows k) (λ o. is_some o ≡ true → (b ≤ k) × (is_some (get_row rows k) ≡ true)) (λ _ g. absurd (false≢true g)) (λ e g. (ltb-false _ _ e, g)) (ap is_some (sym (get_row-from b rows k)) ∙ h)
+    cond_both (nat_lt k b) None (get_row rows k) (λ o. is_some o ≡ true → (b ≤ k) × (is_some (get_row rows k) ≡ true)) (λ _ g. absurd (false≢true g)) (λ e g. (ltb-false _ _ e, g)) (ap is_some (sym (get_row-rows_from b rows k)) ∙ h)
 
 -- ---- which pages there are
 

@@ -12,7 +12,7 @@ use Rattle.zy_machine.specs.Change.{cut}
 use Rattle.zy_machine.specs.OneOwner.{times}
 use Rattle.zy_machine.specs.Pages.{leaf_at, lowered, owns, rows_of, with_page}
 use Rattle.zy_machine.specs.State.{View}
-use Rattle.zy_machine.proofs.CutPages.{get_row-below, get_row-from}
+use Rattle.zy_page.proofs.Parted.{get_row-rows_below, get_row-rows_from}
 use Rattle.zy_machine.proofs.Installing.{Placed, found, found-append, get-leaves, none_else, not_found, or_else_assoc, or_else_none, placed_front}
 use Rattle.zy_machine.proofs.Locking.{whole}
 use Rattle.zy_machine.proofs.LoneRuns.{or_else}
@@ -66,14 +66,14 @@ lowered_far lows p b [] k h far = refl
 lowered_far lows p b (x ∷ xs) k h far =
     cond_both (x.number == p) (rows_below b x.rows) x.rows (λ rows. or_else (get_row rows k) (found (lowered p b xs) k) ≡ found (x ∷ xs) k)
     (λ e. let none : get_row x.rows k ≡ None = none_else _ (λ is. far (h.0.each k is ∙ eqb-true _ _ e)) in
-    let none' : get_row (rows_below b x.rows) k ≡ None = get_row-below b x.rows k ∙ if_none (nat_lt k b) (get_row x.rows k) none in
+    let none' : get_row (rows_below b x.rows) k ≡ None = get_row-rows_below b x.rows k ∙ if_none (nat_lt k b) (get_row x.rows k) none in
     rw (none', none) (lowered_far lows p b xs k h.1 far))
     (λ _. ap (or_else (get_row x.rows k)) (lowered_far lows p b xs k h.1 far))
 
 lowered_below : (p b : ℕ) (xs : List Leaf) (k : ℕ) → nat_lt k b ≡ true → found (lowered p b xs) k ≡ found xs k
 lowered_below p b [] k h = refl
 lowered_below p b (x ∷ xs) k h =
-    let same : get_row (rows_below b x.rows) k ≡ get_row x.rows k = get_row-below b x.rows k ∙ ap (λ t. if t then get_row x.rows k else None) h in
+    let same : get_row (rows_below b x.rows) k ≡ get_row x.rows k = get_row-rows_below b x.rows k ∙ ap (λ t. if t then get_row x.rows k else None) h in
     cond_both (x.number == p) (rows_below b x.rows) x.rows (λ rows. or_else (get_row rows k) (found (lowered p b xs) k) ≡ found (x ∷ xs) k)
     (λ _. rw same (ap (or_else (get_row x.rows k)) (lowered_below p b xs k h)))
     (λ _. ap (or_else (get_row x.rows k)) (lowered_below p b xs k h))
@@ -82,7 +82,7 @@ lowered_above : (lows : List ℕ) (p b : ℕ) (xs : List Leaf) (k : ℕ) → Pla
 lowered_above lows p b [] k h here above = refl
 lowered_above lows p b (x ∷ xs) k h here above =
     cond_both (x.number == p) (rows_below b x.rows) x.rows (λ rows. or_else (get_row rows k) (found (lowered p b xs) k) ≡ None)
-    (λ _. let none : get_row (rows_below b x.rows) k ≡ None = get_row-below b x.rows k ∙ ap (λ t. if t then get_row x.rows k else None) above in
+    (λ _. let none : get_row (rows_below b x.rows) k ≡ None = get_row-rows_below b x.rows k ∙ ap (λ t. if t then get_row x.rows k else None) above in
     rw none (lowered_above lows p b xs k h.1 here above))
     (λ e. let none : get_row x.rows k ≡ None = none_else _ (λ is. eqb-false _ _ e (sym (h.0.each k is) ∙ here)) in
     rw none (lowered_above lows p b xs k h.1 here above))
@@ -91,21 +91,21 @@ lowered_above lows p b (x ∷ xs) k h here above =
 cut_apart : (lows : List ℕ) (p b : ℕ) (xs : List Leaf) (k : ℕ) → Placed lows xs
     → (page_of lows k ≡ p) ⊎ (page_of lows k ≡ p → ⊥) → (nat_lt k b ≡ true) ⊎ (nat_lt k b ≡ false)
     → (get_row (rows_from b (rows_of xs p)) k ≡ None) ⊎ (found (lowered p b xs) k ≡ None)
-cut_apart lows p b xs k h (inr far) side = inl (get_row-from b (rows_of xs p) k ∙ if_both (nat_lt k b) _ (rows_of-far lows p xs k h far))
-cut_apart lows p b xs k h (inl here) (inl below) = inl (get_row-from b (rows_of xs p) k ∙ ap (λ t. if t then None else get_row (rows_of xs p) k) below)
+cut_apart lows p b xs k h (inr far) side = inl (get_row-rows_from b (rows_of xs p) k ∙ if_both (nat_lt k b) _ (rows_of-far lows p xs k h far))
+cut_apart lows p b xs k h (inl here) (inl below) = inl (get_row-rows_from b (rows_of xs p) k ∙ ap (λ t. if t then None else get_row (rows_of xs p) k) below)
 cut_apart lows p b xs k h (inl here) (inr above) = inr (lowered_above lows p b xs k h here above)
 
 cut_key : (lows : List ℕ) (v : View) (p b k : ℕ) → Placed lows v.me.pages → Placed lows (rest_of v) → Owned v → owns v.me.pages p ≡ true
     → (page_of lows k ≡ p) ⊎ (page_of lows k ≡ p → ⊥) → (nat_lt k b ≡ true) ⊎ (nat_lt k b ≡ false)
     → or_else (get_row (rows_from b (rows_of v.me.pages p)) k) (or_else (found (lowered p b v.me.pages) k) (found (rest_of v) k)) ≡ or_else (found v.me.pages k) (found (rest_of v) k)
 cut_key lows v p b k mine theirs o own (inr far) side =
-    let none : get_row (rows_from b (rows_of v.me.pages p)) k ≡ None = get_row-from b (rows_of v.me.pages p) k ∙ if_both (nat_lt k b) _ (rows_of-far lows p v.me.pages k mine far) in
+    let none : get_row (rows_from b (rows_of v.me.pages p)) k ≡ None = get_row-rows_from b (rows_of v.me.pages p) k ∙ if_both (nat_lt k b) _ (rows_of-far lows p v.me.pages k mine far) in
     rw (none, lowered_far lows p b v.me.pages k mine far) refl
 cut_key lows v p b k mine theirs o own (inl here) (inl below) =
-    let none : get_row (rows_from b (rows_of v.me.pages p)) k ≡ None = get_row-from b (rows_of v.me.pages p) k ∙ ap (λ t. if t then None else get_row (rows_of v.me.pages p) k) below in
+    let none : get_row (rows_from b (rows_of v.me.pages p)) k ≡ None = get_row-rows_from b (rows_of v.me.pages p) k ∙ ap (λ t. if t then None else get_row (rows_of v.me.pages p) k) below in
     rw (none, lowered_below p b v.me.pages k below) refl
 cut_key lows v p b k mine theirs o own (inl here) (inr above) =
-    let moved : get_row (rows_from b (rows_of v.me.pages p)) k ≡ get_row (rows_of v.me.pages p) k = get_row-from b (rows_of v.me.pages p) k ∙ ap (λ t. if t then None else get_row (rows_of v.me.pages p) k) above in
+    let moved : get_row (rows_from b (rows_of v.me.pages p)) k ≡ get_row (rows_of v.me.pages p) k = get_row-rows_from b (rows_of v.me.pages p) k ∙ ap (λ t. if t then None else get_row (rows_of v.me.pages p) k) above in
     let gone = lowered_above lows p b v.me.pages k mine here above in
     let none : found (rest_of v) k ≡ None = not_found lows (rest_of v) k theirs (rw here (rest_lacks v p o own)) in
     let once = o.once p in
