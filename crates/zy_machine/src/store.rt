@@ -1,5 +1,5 @@
 //! The state of a machine, and the changes that the table names.
-ghost use Rattle.std.specs.Prelude.{◌≡◌, ◌<◌, ◌+◌, ◌^◌, ◌≤◌, ◌/◌, ◌++◌, false, OnOk, OnErr, IfOk, is_some, length, slice_get, slice_index};
+ghost use Rattle.std.specs.Prelude.{◌≡◌, ◌<◌, ◌+◌, ◌^◌, ◌≤◌, false, OnOk, OnErr, IfOk, is_some, length, slice_get};
 ghost use Rattle.zy_isa.specs.Rows.{get_row, put_row};
 ghost use Rattle.zy_isa.specs.declared.node.Node.TheVariants.{A};
 ghost use Rattle.zy_locks.specs.Locks.{conflict, add_lock};
@@ -9,7 +9,6 @@ ghost use Rattle.zy_wire.specs.Wireframe.{page_of as page_of_lem};
 ghost use Rattle.zy_machine.specs.Pages.{rows_of};
 ghost use Rattle.zy_machine.specs.Rows.{rows_on, rows_not_in};
 ghost use Rattle.zy_machine.specs.Change.{txn_at, txn_or, with_reg, unlocked, installed, with_installed, begun as begun_lem, aborted as aborted_lem, did as did_lem, locked as locked_lem, cut as cut_lem, cut_page, committed as committed_lem};
-ghost use Rattle.zy_machine.specs.Keys.{put_key as put_key_lem, keys_of};
 ghost use Rattle.zy_machine.specs.Run.{is_there as is_there_lem, own_inserts as own_inserts_lem};
 ghost use Rattle.zy_machine.specs.Stores.{shown, node_shown, node_in, Countable, Rooms, AreRoomy, TriesAt, IsFree, IsCuttable};
 
@@ -132,16 +131,6 @@ impl Store {
         ensures { result ≡ length (own_inserts_lem t p (facing n (shown self.now))) }
     {
         new_rows(self.node(n), p, self.txn(t).rows())
-    }
-
-    /// STUB
-    pub(crate) fn boundary(&self, cap: u8, n: Node, t: u8, p: u16, key: u16) -> Result<u16, AllocError>
-        requires there { t < length self.now.txns.items }
-        requires room { 2 ≤ cap }
-        requires full { cap ≤ length (rows_of (facing n (shown self.now)).me.pages p) + length (own_inserts_lem t p (facing n (shown self.now))) }
-        ensures { IfOk result (λ b. b ≡ slice_index (put_key_lem key (keys_of (rows_of (facing n (shown self.now)).me.pages p ++ own_inserts_lem t p (facing n (shown self.now))))) ((cap + 1) / 2)) }
-    {
-        Err(AllocError)
     }
 
     /// Whether a key is private to a transaction or committed on a page.
