@@ -35,6 +35,7 @@ pub mod AtHome
 pub mod Slots
 mod SlotLemmas
 mod CutSlots
+mod KeyPlaces
 mod StoreLemmas
 mod RowLemmas
 mod InstrLemmas

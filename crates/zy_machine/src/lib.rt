@@ -5,6 +5,7 @@ mod access;
 mod answer;
 mod client;
 pub mod entry;
+mod keys;
 pub mod laws;
 mod frame;
 pub mod links;
