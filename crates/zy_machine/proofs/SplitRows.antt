@@ -46,11 +46,6 @@ alone_there : (xs : List Lock) (p q t : ℕ) → ((u : ℕ) → holds xs q u ≡
 alone_there xs p q t free = conflict_none (add_lock p t Exclusive xs) q t Exclusive (λ u far h.
     elim (holds-add p t Exclusive xs q u h) [ inl old ↦ false≢true (sym (free u) ∙ old) | inr new ↦ far (sym new.1) ])
 
--- the boundary that was found is that of the table
-pub found_boundary : (sc : Scenario) (n : Node) (t k p cap b : ℕ) (s : Store) → cap ≡ sc.cap
-    → b ≡ slice_index (put_key k (keys_of (rows_of (facing n (shown s)).me.pages p ++ own_inserts t p (facing n (shown s))))) ((cap + 1) / 2) → b ≡ boundary sc t k p (facing n (shown s))
-found_boundary sc n t k p cap b s e is = is ∙ ap (λ c. slice_index (put_key k (keys_of (rows_of (facing n (shown s)).me.pages p ++ own_inserts t p (facing n (shown s))))) ((c + 1) / 2)) e
-
 pub cuttable : (sc : Scenario) (n : Node) (t k p b : ℕ) (s : Store) → IsFull sc n t k p s → length (facing n (shown s)).me.lows < sc.pages → b ≡ boundary sc t k p (facing n (shown s)) → IsCuttable t p b (facing n (shown s)).me
 cuttable sc n t k p b s f more is =
     let v = facing n (shown s) in

@@ -277,7 +277,7 @@ impl Store {
         ensures { Makes n self.old self.new result (split_row_lem scenario.now t key p (locked t p Exclusive (facing n (shown self.old)))) }
     {
         let new_page = self.node(n).wire.len() as u16;
-        let boundary = self.boundary(scenario.cap(), n, t, p, key)?;
+        let boundary = self.boundary(scenario, n, t, p, key)?;
         self.cut(n, t, p, boundary)?;
         Ok(Answer::quiet(Outcome::Split {
             page: p,

@@ -1,5 +1,6 @@
 //! The state of a machine, and the changes that the table names.
-ghost use Rattle.std.specs.Prelude.{◌≡◌, ◌<◌, ◌+◌, ◌^◌, ◌≤◌, false, OnOk, OnErr, IfOk, is_some, length, slice_get};
+ghost use Rattle.std.specs.Prelude.{◌≡◌, ◌==◌, ◌<◌, ◌+◌, ◌^◌, ◌≤◌, ◌++◌, ◌&&◌, false, OnOk, OnErr, IfOk, is_some, not, length, slice_get};
+ghost use Rattle.std.specs.List.Sorted.{IsNonDecreasing};
 ghost use Rattle.zy_isa.specs.Rows.{get_row, put_row};
 ghost use Rattle.zy_isa.specs.declared.node.Node.TheVariants.{A};
 ghost use Rattle.zy_locks.specs.Locks.{conflict, add_lock};
@@ -8,12 +9,14 @@ ghost use Rattle.zy_machine.specs.State.{facing, seen_from, with_me};
 ghost use Rattle.zy_wire.specs.Wireframe.{page_of as page_of_lem};
 ghost use Rattle.zy_machine.specs.Pages.{rows_of};
 ghost use Rattle.zy_machine.specs.Rows.{rows_on, rows_not_in};
+ghost use Rattle.zy_machine.specs.Keys.{keys_of, put_key as put_key_lem, put_keys as put_keys_lem};
 ghost use Rattle.zy_machine.specs.Change.{txn_at, txn_or, with_reg, unlocked, installed, with_installed, begun as begun_lem, aborted as aborted_lem, did as did_lem, locked as locked_lem, cut as cut_lem, cut_page, committed as committed_lem};
-ghost use Rattle.zy_machine.specs.Run.{is_there as is_there_lem, own_inserts as own_inserts_lem};
+ghost use Rattle.zy_machine.specs.Run.{boundary as boundary_lem, is_there as is_there_lem, own_inserts as own_inserts_lem, has_room};
 ghost use Rattle.zy_machine.specs.Stores.{shown, node_shown, node_in, Countable, Rooms, AreRoomy, TriesAt, IsFree, IsCuttable};
 
 use crate::entry::CommitRec;
 use crate::frame::Frame;
+use crate::keys::{put_key, put_keys};
 use crate::modes::NodeMode;
 use crate::outcome::Why;
 use crate::page_store::PageStore;
@@ -22,6 +25,7 @@ use std::alloc::{AllocError, Global};
 use zy_isa::instr::Reg;
 use zy_isa::node::Node;
 use zy_isa::row::Row;
+use zy_isa::scenario::{MAX_CAP, Scenario};
 use zy_locks::lock::LockKind;
 use zy_locks::locks::{Locks, Tried};
 
@@ -71,6 +75,42 @@ impl NodeStore {
             Some(page) => page.get(key),
             None => None,
         }
+    }
+
+    /// Whether a key lies on a page that has no row at it.
+    fn is_new(&self, p: u16, key: u16) -> bool
+        ensures { result ≡ ((page_of_lem self.now.wire.lows key == p) && not (is_some (get_row (rows_of self.now.pages.pages p) key))) }
+    {
+        self.wire.page_of(key) == p && self.value(p, key).is_none()
+    }
+
+    /// Puts the keys of those rows that lie on a page and are new there among keys in order.
+    fn put_new_keys(&self, keys: &mut Vec<u16>, p: u16, rows: &[Row]) -> Result<(), AllocError>
+        requires { IsNonDecreasing keys.old.items }
+        ensures keys { OnOk result (let new = rows_not_in (rows_on self.now.wire.lows p rows.now) (rows_of self.now.pages.pages p) in
+            keys.new.items ≡ put_keys_lem new keys.old.items) }
+        ensures order { OnOk result (IsNonDecreasing keys.new.items) }
+    {
+        for row in rows {
+            if self.is_new(p, row.key) {
+                put_key(keys, row.key)?;
+            }
+        }
+        Ok(())
+    }
+
+    /// The keys of a page and of those private rows that are new there, in order.
+    fn keys(&self, alloc: Global, p: u16, private: &[Row]) -> Result<Vec<u16>, AllocError>
+        ensures keys { let held = rows_of self.now.pages.pages p in
+            IfOk result (λ keys. keys.items ≡ keys_of (held ++ rows_not_in (rows_on self.now.wire.lows p private.now) held)) }
+        ensures order { IfOk result (λ keys. IsNonDecreasing keys.items) }
+    {
+        let mut keys = Vec::with_capacity(alloc, usize::from(MAX_CAP) + 1)?;
+        self.put_new_keys(&mut keys, p, private)?;
+        if let Some(page) = self.pages.get(p) {
+            put_keys(&mut keys, page.rows())?;
+        }
+        Ok(keys)
     }
 }
 
@@ -131,6 +171,36 @@ impl Store {
         ensures { result ≡ length (own_inserts_lem t p (facing n (shown self.now))) }
     {
         new_rows(self.node(n), p, self.txn(t).rows())
+    }
+
+    /// The key at which a full page is split for an insert: that at index `(cap + 1) / 2` among the keys of the page,
+    /// of the transaction's new rows there, and this one.
+    pub(crate) fn boundary(
+        &self,
+        scenario: &Scenario,
+        n: Node,
+        t: u8,
+        p: u16,
+        key: u16,
+    ) -> Result<u16, AllocError>
+        requires there { t < length self.now.txns.items }
+        requires full { has_room scenario.now t p (facing n (shown self.now)) ≡ false }
+        ensures { IfOk result (λ b. b ≡ boundary_lem scenario.now t key p (facing n (shown self.now))) }
+    {
+        let cap = usize::from(scenario.cap());
+        let keys = self.keys_with(n, t, p, key)?;
+        Ok(keys[(cap + 1) / 2])
+    }
+
+    /// The keys of a page, of a transaction's new rows there, and one key more, in order.
+    fn keys_with(&self, n: Node, t: u8, p: u16, key: u16) -> Result<Vec<u16>, AllocError>
+        requires { t < length self.now.txns.items }
+        ensures { let s = facing n (shown self.now) in
+            IfOk result (λ keys. keys.items ≡ put_key_lem key (keys_of (rows_of s.me.pages p ++ own_inserts_lem t p s))) }
+    {
+        let mut keys = self.node(n).keys(self.alloc, p, self.txn(t).rows())?;
+        put_key(&mut keys, key)?;
+        Ok(keys)
     }
 
     /// Whether a key is private to a transaction or committed on a page.
@@ -303,7 +373,7 @@ fn new_rows(node: &NodeStore, p: u16, rows: &[Row]) -> usize
 {
     let mut count = 0;
     for row in rows {
-        if node.wire.page_of(row.key) == p && node.value(p, row.key).is_none() {
+        if node.is_new(p, row.key) {
             count += 1;
         }
     }

@@ -5,19 +5,18 @@ use Rattle.zy_machine.specs.Run.{boundary, split_row}
 use Rattle.zy_machine.specs.State.{NodeState, facing}
 use Rattle.zy_machine.specs.Stores.{shown}
 use Rattle.zy_machine.proofs.RowLemmas.{split-is}
-use Rattle.zy_machine.proofs.SplitRows.{cuttable, found_boundary}
+use Rattle.zy_machine.proofs.SplitRows.{cuttable}
 use Rattle.zy_machine.proofs.store.Store.split_row.Goals as goal
 
 pub cut-requires : goal.cut-requires
 cut-requires c =
     let sc = c.args.scenario.now in
     cuttable sc c.args.n c.args.t c.args.key c.args.p c.in_ok-boundary.boundary c.args.self.now c.requires.full c.requires.more
-    (found_boundary sc c.args.n c.args.t c.args.key c.args.p c.cap.result c.in_ok-boundary.boundary c.args.self.now c.cap.ensures.value c.in_ok-boundary.ensures)
+    c.in_ok-boundary.ensures
 
 pub returns : goal.returns
 returns c =
     let sc = c.args.scenario.now in
     let f = facing c.args.n (shown c.args.self.now) in
-    let is = found_boundary sc c.args.n c.args.t c.args.key c.args.p c.cap.result c.in_ok-boundary.boundary c.args.self.now c.cap.ensures.value c.in_ok-boundary.ensures in
     let number = c.len-new_page.ensures.value ∙ ap (λ (x : NodeState). length x.lows) c.node.ensures in
-    rw (split-is sc c.args.t c.args.key c.args.p Exclusive f, c.in_ok-cut.ensures.ok, c.quiet.ensures, ← is, number) (refl, refl, refl)
+    rw (split-is sc c.args.t c.args.key c.args.p Exclusive f, c.in_ok-cut.ensures.ok, c.quiet.ensures, ← c.in_ok-boundary.ensures, number) (refl, refl, refl)
