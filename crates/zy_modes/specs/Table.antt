@@ -1,5 +1,5 @@
 -- The mode table, a line for each line of it.
-use Rattle.std.specs.Prelude.{Bool, true, false, if◌then◌else◌, Option, Some, None}
+use Rattle.std.specs.Prelude.{◌≡◌, Bool, true, false, if◌then◌else◌, Option, Some, None}
 use Rattle.zy_isa.specs.declared.node.Node.{Node}
 use Rattle.zy_isa.specs.declared.node.Node.TheVariants.{A, B}
 use Rattle.zy_modes.specs.declared.kind.Kind.{Kind}
@@ -28,6 +28,12 @@ on_message DFinish Page all = finishes all
 on_message DDual Finish all = finishes all
 on_message SFinish Done all = Turns Empty None
 on_message mode kind all = Stray
+
+-- a node turns Normal only where no page is missing, and Done is what it sends then and only then
+abbrev pub HandsOver : Bool → MsgRow → Type 0
+HandsOver all (Turns Normal sent) = (all ≡ true) × (sent ≡ Some Done)
+HandsOver all (Turns mode (Some Done)) = ⊥
+HandsOver all row = Unit {0}
 
 -- the node from which a migration starts
 abbrev pub on_start : NodeMode → NodeMode → Option Node

@@ -1,6 +1,6 @@
 //! The mode table: each function is the lines of its definition.
 ghost use Rattle.std.specs.Prelude.{◌≡◌};
-ghost use Rattle.zy_modes.specs.Table.{finishes as finishes_lem, on_message as on_message_lem, on_start as on_start_lem, on_finish as on_finish_lem, home_of as home_of_lem};
+ghost use Rattle.zy_modes.specs.Table.{finishes as finishes_lem, on_message as on_message_lem, on_start as on_start_lem, on_finish as on_finish_lem, home_of as home_of_lem, HandsOver};
 
 use crate::kind::Kind;
 use crate::mode::NodeMode;
@@ -29,7 +29,8 @@ pub enum FinRow {
 /// What a message of this kind does at a node in this mode. `all_here`: no page is missing there, with the one that the message brings.
 /// A page that is asked for goes out only if it may leave, which is not told here.
 pub fn on_message(mode: NodeMode, kind: Kind, all_here: bool) -> MsgRow
-    ensures { result ≡ on_message_lem mode kind all_here }
+    ensures row { result ≡ on_message_lem mode kind all_here }
+    ensures hands_over { HandsOver all_here result }
 {
     match (mode, kind) {
         (NodeMode::Empty, Kind::Wire) => MsgRow::Turns(NodeMode::DInit, Some(Kind::Ready)),
@@ -46,7 +47,8 @@ pub fn on_message(mode: NodeMode, kind: Kind, all_here: bool) -> MsgRow
 
 /// What becomes of a destination whose source runs nothing any more.
 fn finishes(all_here: bool) -> MsgRow
-    ensures { result ≡ finishes_lem all_here }
+    ensures row { result ≡ finishes_lem all_here }
+    ensures hands_over { HandsOver all_here result }
 {
     if all_here {
         MsgRow::Turns(NodeMode::Normal, Some(Kind::Done))
