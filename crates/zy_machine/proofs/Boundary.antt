@@ -1,20 +1,20 @@
 -- The boundary of a split is a key of its page, and no page's low key.
-use Rattle.std.proofs.Common.{◌≡◌, ℕ, zero, suc, ◌+◌, ◌/◌, ◌<◌, ◌≤◌, List, [], ◌∷◌, ◌++◌, length, get_or, true, false, refl, sym, ap, ◌∙◌, subst, arith, inl, inr, length-append}
-use Rattle.std.specs.Prelude.{◌⊎◌, if◌then◌else◌, ◌==◌, nat_lt, nat_le, ◌||◌, Option, Some, None, is_some, slice_index, slice_index_or, Bool, Contains}
-use Rattle.std.proofs.lemmas.Bool.{cond_both, false≢true, or_right, or_left, eq-eqb, ne_eqb, eqb-true, eqb-false, or_cases, or_parts, ltb-false, leb-true, leb-false, cases_Bool, cases_eq}
+use Rattle.std.proofs.Common.{◌≡◌, ℕ, zero, suc, ◌+◌, ◌/◌, ◌<◌, ◌≤◌, List, [], ◌∷◌, ◌++◌, length, true, false, refl, sym, ap, ◌∙◌, subst, arith, inl, inr, length-append}
+use Rattle.std.specs.Prelude.{◌⊎◌, if◌then◌else◌, ◌==◌, nat_le, ◌||◌, Some, None, is_some, slice_index, Bool, Contains}
+use Rattle.std.proofs.lemmas.Bool.{cond_both, false≢true, or_right, or_left, eq-eqb, eqb-true, eqb-false, or_cases, or_parts, ltb-false, leb-true, leb-false}
 use Rattle.std.proofs.lemmas.List.{get_or_default}
 use Rattle.zy_isa.specs.declared.row.Row.{Row}
 use Rattle.zy_isa.specs.Rows.{Rising, get_row}
 use Rattle.zy_isa.specs.Scenario.{Scenario}
 use Rattle.zy_wire.specs.Wireframe.{page_of}
 use Rattle.zy_wire.proofs.PageOf.{page_of-greatest}
-use Rattle.zy_machine.specs.State.{Leaf, View}
+use Rattle.zy_machine.specs.State.{View}
 use Rattle.zy_machine.specs.Change.{txn_at}
 use Rattle.zy_machine.specs.Keys.{keys_of, put_key}
 use Rattle.zy_machine.specs.Pages.{rows_of}
 use Rattle.zy_machine.specs.Rows.{rows_not_in, rows_on}
 use Rattle.zy_machine.specs.Run.{boundary, has_room, is_there, own_inserts}
-use Rattle.zy_machine.proofs.Installing.{Placed, get_row-on, none_else}
+use Rattle.zy_machine.proofs.Installing.{Placed, get_row-on}
 use Rattle.zy_machine.proofs.CutPages.{leaf_placed}
 use Rattle.zy_machine.proofs.RisingRows.{rises_key}
 

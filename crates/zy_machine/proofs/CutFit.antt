@@ -1,8 +1,8 @@
 -- Room at commit when a page is cut.
-use Rattle.std.proofs.Common.{List, [], ap, arith, inl, inr, length, refl, subst, suc, sym, true, false, ℕ, ◌++◌, ◌+◌, ◌<◌, ◌∙◌, ◌∷◌, ◌≡◌, ◌≤◌}
-use Rattle.std.specs.Prelude.{Bool, Contains, None, if◌then◌else◌, is_some, nat_le, nat_lt, not, ◌==◌, ◌⊎◌}
+use Rattle.std.proofs.Common.{List, [], ap, arith, inl, inr, length, refl, subst, suc, sym, true, false, ℕ, ◌++◌, ◌<◌, ◌∙◌, ◌∷◌, ◌≡◌, ◌≤◌}
+use Rattle.std.specs.Prelude.{Bool, Contains, None, if◌then◌else◌, is_some, nat_le, nat_lt, not, ◌==◌}
 use Rattle.std.proofs.lemmas.Bool.{and_from, and_parts, cases_lt, cond_both, eq-eqb, eqb-false, eqb-true, false≢true, le-ltb, lt-ltb, not-true}
-use Rattle.zy_isa.specs.Rows.{Rising, get_row}
+use Rattle.zy_isa.specs.Rows.{get_row}
 use Rattle.zy_isa.specs.Scenario.{Scenario}
 use Rattle.zy_isa.specs.declared.node.Node.{Node}
 use Rattle.zy_isa.specs.declared.row.Row.{Row}
@@ -14,11 +14,11 @@ use Rattle.zy_wire.proofs.PageOf.{page_of-within}
 use Rattle.zy_machine.specs.Change.{cut, locked, txn_at}
 use Rattle.zy_machine.specs.Client.{is_mode}
 use Rattle.zy_machine.specs.Pages.{lowered, owns, rows_of, with_page}
-use Rattle.zy_machine.specs.State.{View, other}
+use Rattle.zy_machine.specs.State.{View}
 use Rattle.zy_machine.specs.declared.modes.NodeMode.TheVariants.{Normal}
 use Rattle.zy_page.proofs.Parted.{get_row-rows_below, get_row-rows_from}
 use Rattle.zy_machine.proofs.EachPage.{Each, each_append, each_at, each_both, each_front, each_in, each_map}
-use Rattle.zy_machine.proofs.Events.{Free, has_lock}
+use Rattle.zy_machine.proofs.Events.{has_lock}
 use Rattle.zy_machine.proofs.Fit.{Fit, Room, Sized}
 use Rattle.zy_machine.proofs.Locking.{Kept, is_idle}
 use Rattle.zy_machine.proofs.LockingRows.{home_owns}

@@ -1,7 +1,7 @@
 -- The pages of a node when one of them is cut: what they have, and where its keys lie.
-use Rattle.std.proofs.Common.{◌≡◌, ℕ, ◌+◌, ◌<◌, ◌≤◌, List, [], ◌∷◌, ◌++◌, length, zero, suc, true, false, refl, sym, ap, ◌∙◌, subst, arith, inl, inr, Bool}
-use Rattle.std.specs.Prelude.{◌⊎◌, if◌then◌else◌, ◌==◌, nat_lt, nat_le, ◌||◌, Option, Some, None, is_some, slice_get, Contains}
-use Rattle.std.proofs.lemmas.Bool.{cond_both, false≢true, eq-eqb, ne_eqb, eqb-true, eqb-false, or_parts, ltb-true, ltb-false, leb-true, leb-false, le-leb, lt-leb, lt-ltb, le-ltb, cases_eq, cases_lt}
+use Rattle.std.proofs.Common.{◌≡◌, ℕ, ◌<◌, ◌≤◌, List, [], ◌∷◌, ◌++◌, length, zero, suc, true, false, refl, sym, ap, ◌∙◌, Bool}
+use Rattle.std.specs.Prelude.{if◌then◌else◌, ◌==◌, nat_lt, ◌||◌, Some, None, is_some, slice_get, Contains}
+use Rattle.std.proofs.lemmas.Bool.{cond_both, false≢true, eqb-true, eqb-false, or_parts, ltb-true, ltb-false}
 use Rattle.zy_isa.specs.declared.row.Row.{Row}
 use Rattle.zy_isa.specs.Rows.{get_row}
 use Rattle.zy_page.specs.Leaf.{Leaf, rows_below, rows_from}
@@ -9,8 +9,7 @@ use Rattle.zy_page.proofs.Parted.{get_row-rows_below, get_row-rows_from}
 use Rattle.zy_wire.specs.Wireframe.{page_of}
 use Rattle.zy_wire.proofs.Longer.{page_of-others, page_of-cut_above, page_of-cut_below}
 use Rattle.zy_machine.specs.Pages.{leaf_at, lowered, owns, rows_of, with_page}
-use Rattle.zy_machine.proofs.Installing.{Placed, OnPage, found, none_else, or_else_none, placed_append}
-use Rattle.zy_machine.proofs.LoneRuns.{or_else}
+use Rattle.zy_machine.proofs.Installing.{Placed, OnPage, placed_append}
 
 -- ---- the rows of a page, below the boundary and from it on
 

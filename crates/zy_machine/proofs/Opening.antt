@@ -1,19 +1,18 @@
 -- The opening rows lie on their pages, and are the opening database.
-use Rattle.std.proofs.Common.{List, [], ap, append-nil, append_assoc, arith, false, length, length-append, get_or, inl, inr, refl, subst, suc, sym, true, zero, ℕ, ◌++◌, ◌+◌, ◌-◌, ◌<◌, ◌∙◌, ◌∷◌, ◌≡◌, ◌≤◌}
-use Rattle.std.specs.Prelude.{Some, drop, if◌then◌else◌, is_some, slice_get, take, ◌==◌}
+use Rattle.std.proofs.Common.{List, [], ap, append-nil, append_assoc, arith, length, length-append, get_or, inl, inr, refl, subst, suc, sym, zero, ℕ, ◌++◌, ◌+◌, ◌-◌, ◌<◌, ◌∙◌, ◌∷◌, ◌≡◌, ◌≤◌}
+use Rattle.std.specs.Prelude.{Some, drop, if◌then◌else◌, slice_get, take, ◌==◌}
 use Rattle.std.specs.FinMap.{empty, insert}
 use Rattle.std.proofs.lemmas.Bool.{cases_lt, false≢true, ne_eqb}
 use Rattle.std.proofs.lemmas.List.{get_or_append_left, get_or-append_right, get_or_at}
-use Rattle.zy_isa.specs.Rows.{Rising, get_row}
+use Rattle.zy_isa.specs.Rows.{Rising}
 use Rattle.zy_isa.specs.Scenario.{IsScenario, Scenario, opening_rows}
 use Rattle.zy_isa.specs.declared.row.Row.{Row}
 use Rattle.zy_machine.specs.Database.{Map, database, laid, laid_leaves}
 use Rattle.zy_machine.specs.Play.{opening, opening_leaves, opening_pages}
-use Rattle.zy_machine.specs.State.{Leaf}
 use Rattle.zy_machine.specs.Layout.{lows_of}
 use Rattle.zy_wire.specs.Wireframe.{page_of}
 use Rattle.zy_machine.proofs.Installing.{Placed}
-use Rattle.zy_machine.proofs.RisingRows.{rises_after, rises_drop, rises_key, rises_take, rises_weaker}
+use Rattle.zy_machine.proofs.RisingRows.{rises_after, rises_drop, rises_key, rises_take}
 use Rattle.zy_wire.proofs.PageOf.{page_of-is}
 use Rattle.zy_machine.proofs.OpenLemmas.{drop_less}
 

@@ -1,22 +1,20 @@
 -- What makes a split safe, and which line an insert into a full page leads to.
-use Rattle.std.proofs.Common.{Bool, List, [], ap, arith, false, inl, inr, length, refl, subst, sym, true, ℕ, ◌+◌, ◌/◌, ◌++◌, ◌<◌, ◌≤◌, ◌∙◌, ◌∷◌, ◌≡◌}
-use Rattle.std.specs.Prelude.{Contains, not, slice_index, ◌&&◌, ◌==◌, ◌⊎◌}
+use Rattle.std.proofs.Common.{List, [], arith, false, inl, inr, length, refl, subst, sym, true, ℕ, ◌<◌, ◌∙◌, ◌∷◌, ◌≡◌}
+use Rattle.std.specs.Prelude.{Contains, not, ◌&&◌, ◌==◌}
 use Rattle.std.proofs.lemmas.Bool.{and_from, and_parts, eq-eqb, eqb-false, false≢true, false_from_ne_true, not-true, or_cases, or_left, or_right}
 use denote.Enum.Bare.{sameb}
 use Rattle.zy_isa.specs.Scenario.{Scenario}
 use Rattle.zy_locks.specs.Locks.{add_lock, clashes, conflict, is_shared}
 use Rattle.zy_locks.specs.declared.lock.LockKind.{LockKind}
 use Rattle.zy_locks.specs.declared.lock.LockKind.TheVariants.{Exclusive}
-use Rattle.zy_wire.specs.Wireframe.{page_of}
 use Rattle.zy_machine.specs.contracts.modes.NodeMode.{the_type}
 use Rattle.zy_machine.specs.declared.modes.NodeMode.{NodeMode}
 use Rattle.zy_machine.specs.declared.modes.NodeMode.TheVariants.{Empty, Normal}
 use Rattle.zy_machine.specs.declared.store.Store.{Store}
 use Rattle.zy_machine.specs.Client.{is_mode}
 use Rattle.zy_machine.specs.Holders.{holds}
-use Rattle.zy_machine.specs.Keys.{keys_of, put_key}
-use Rattle.zy_machine.specs.Pages.{owns, rows_of}
-use Rattle.zy_machine.specs.Run.{boundary, has_room, is_there, own_inserts}
+use Rattle.zy_machine.specs.Pages.{owns}
+use Rattle.zy_machine.specs.Run.{boundary, has_room, is_there}
 use Rattle.zy_machine.specs.State.{Lock, facing}
 use Rattle.zy_machine.specs.Stores.{IsCuttable, IsFull, shown}
 use Rattle.zy_machine.proofs.LockLists.{holds-add}

@@ -1,5 +1,5 @@
 -- Pages laid out in order of their numbers.
-use Rattle.std.specs.Prelude.{◌≡◌, ◌++◌, ℕ, suc, List, [], ◌∷◌, ◌+◌, Contains, length, map}
+use Rattle.std.specs.Prelude.{◌≡◌, ◌++◌, ℕ, List, [], ◌∷◌, ◌+◌, Contains, length, map}
 use Rattle.zy_isa.specs.declared.row.Row.{Row}
 use Rattle.zy_isa.specs.Rows.{Rising}
 use Rattle.zy_page.specs.Leaf.{Leaf}

@@ -1,6 +1,5 @@
 -- The pages of a node as a store shows them.
-use Rattle.std.specs.Prelude.{ℕ, ◌==◌, nat_lt, List, [], ◌∷◌, Option, if◌then◌else◌}
-use Rattle.std.specs.List.{find}
+use Rattle.std.specs.Prelude.{ℕ, ◌==◌, List, [], ◌∷◌, if◌then◌else◌}
 use Rattle.zy_isa.specs.Rows.{put_row}
 use Rattle.zy_page.specs.Leaf.{Leaf}
 

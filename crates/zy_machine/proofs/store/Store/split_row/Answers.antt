@@ -1,7 +1,5 @@
-use Rattle.std.proofs.Common.{◌≡◌, ◌∙◌, length, refl, sym, ap}
+use Rattle.std.proofs.Common.{◌∙◌, length, refl, ap}
 use Rattle.zy_locks.specs.declared.lock.LockKind.TheVariants.{Exclusive}
-use Rattle.zy_machine.specs.Change.{cut, locked, txn_at}
-use Rattle.zy_machine.specs.Run.{boundary, split_row}
 use Rattle.zy_machine.specs.State.{NodeState, facing}
 use Rattle.zy_machine.specs.Stores.{shown}
 use Rattle.zy_machine.proofs.RowLemmas.{split-is}
