@@ -1,7 +1,7 @@
 -- After every schedule the database is that of the committed programs, run one by one.
-use Rattle.std.proofs.Common.{List, ap, arith, false, inl, inr, refl, subst, sym, true, ℕ, ◌++◌, ◌∙◌, ◌≡◌, ◌≤◌}
+use Rattle.std.proofs.Common.{List, [], ◌∷◌, ap, arith, false, inl, inr, refl, subst, sym, true, ℕ, ◌++◌, ◌∙◌, ◌≡◌, ◌≤◌}
 use Rattle.std.specs.Prelude.{None, Option, Some, slice_get, ◌⊎◌}
-use Rattle.std.specs.FinMap.{nat_cmp-IsAntisymmetric, same_map}
+use Rattle.std.specs.FinMap.{empty, nat_cmp-IsAntisymmetric, same_map}
 use Rattle.std.proofs.lemmas.Bool.{cases_Bool, false≢true}
 use Rattle.std.proofs.lemmas.Bool.Decides.{nat_tests}
 use Rattle.std.proofs.lemmas.Cmp.{nat_cmp_total}
@@ -27,7 +27,7 @@ use Rattle.zy_machine.proofs.Opening.{LaidOut, laid_out, opening_database}
 use Rattle.zy_machine.proofs.OneOwner.{step_inv}
 use Rattle.zy_machine.proofs.PageCounts.{owns-times, owns_none, times-sent_leaves}
 use Rattle.zy_machine.proofs.ListsInOrder.{Tidy, opening_tidy, ordered_from, step_tidy}
-use Rattle.zy_machine.proofs.PlayPush.{play-keeps-with}
+use Rattle.zy_machine.proofs.PlayPush.{play-keeps-with, play-push}
 use Rattle.zy_machine.proofs.Reached.{blank_new, inv_view, lows_then, opening_reached, turned_kept}
 use Rattle.zy_machine.proofs.PageValues.{db}
 use Rattle.zy_machine.proofs.Roles.{Owned, turned}
@@ -131,3 +131,12 @@ serializable sc l cs =
       one_by_one = h.serially.is_serial ∙ ap (λ m. serial sc m s.commits) start;
       registers = subst (λ m. Registers sc (λ (t : ℕ). txn_or (slice_get s.txns t)) m s.commits) start h.serially.registers;
     }
+
+-- a step that commits nothing
+pub commits_alone : (sc : Scenario) → IsScenario sc → (cs : List Choice) (c : Choice) → let s = play sc (opening sc) cs in (step sc c s).after.commits ≡ s.commits → database (step sc c s).after ≡ database s
+commits_alone sc ok cs c same =
+    let s = play sc (opening sc) cs in
+    let start = laid sc.rows empty in
+    let before = (serializable sc ok cs).one_by_one in
+    let after = subst (λ (z : State). database z ≡ serial sc start z.commits) (play-push sc (opening sc) cs c) (serializable sc ok (cs ++ c ∷ [])).one_by_one in
+    after ∙ ap (serial sc start) same ∙ sym before

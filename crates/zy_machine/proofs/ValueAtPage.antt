@@ -8,7 +8,7 @@ use Rattle.zy_isa.specs.Rows.{get_row}
 use Rattle.zy_isa.specs.Scenario.{IsScenario, Scenario}
 use Rattle.zy_isa.specs.declared.choice.Choice.{Choice}
 use Rattle.zy_isa.specs.declared.node.Node.TheVariants.{A}
-use Rattle.zy_machine.specs.Database.{EachKeyHasPage, HasLows, ValuesAtPages, all_leaves, database, newest, sent_leaves}
+use Rattle.zy_machine.specs.Database.{EachKeyHasPage, HasLows, ValuesAtPages, all_leaves, database, newest, sent_leaves, RowsLie}
 use Rattle.zy_machine.specs.OneOwner.{times}
 use Rattle.zy_machine.specs.Pages.{owns, rows_of}
 use Rattle.zy_machine.specs.Play.{opening, play}
@@ -90,3 +90,13 @@ lows_match sc ok cs =
     let s = play sc (opening sc) cs in
     let r = reached sc ok cs in
     subst (λ lows. HasLows lows (all_leaves s)) (sym (newest_lows sc s r.lows r.kept)) (has_lows r.lows (all_leaves s) r.kept.placed)
+
+rows_lie : (lows : List ℕ) (xs : List Leaf) → Placed lows xs → RowsLie lows xs
+rows_lie lows [] h = tt
+rows_lie lows (x ∷ xs) h = (h.0.each, rows_lie lows xs h.1)
+
+pub rows_match : (sc : Scenario) → IsScenario sc → (cs : List Choice) → let s = play sc (opening sc) cs in RowsLie (newest s) (all_leaves s)
+rows_match sc ok cs =
+    let s = play sc (opening sc) cs in
+    let r = reached sc ok cs in
+    subst (λ lows. RowsLie lows (all_leaves s)) (sym (newest_lows sc s r.lows r.kept)) (rows_lie r.lows (all_leaves s) r.kept.placed)

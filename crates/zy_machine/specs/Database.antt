@@ -1,5 +1,5 @@
 -- The rows of all pages, as one map.
-use Rattle.std.specs.Prelude.{ℕ, ◌≡◌, nat_lt, true, length, List, [], ◌∷◌, ◌++◌, if◌then◌else◌, Some, slice_get}
+use Rattle.std.specs.Prelude.{ℕ, ◌≡◌, nat_lt, true, length, List, [], ◌∷◌, ◌++◌, if◌then◌else◌, Some, slice_get, is_some}
 use Rattle.std.specs.Ordering.{nat_cmp}
 use Rattle.std.specs.FinMap.{FinMap, empty, get, insert}
 use Rattle.zy_isa.specs.declared.row.Row.{Row}
@@ -47,6 +47,11 @@ newest s = if nat_lt (length s.a.lows) (length s.b.lows) then s.b.lows else s.a.
 abbrev pub HasLows : List ℕ → List Leaf → Type 0
 HasLows lows [] = Unit {0}
 HasLows lows (x ∷ xs) = (slice_get lows x.number ≡ Some x.low) × HasLows lows xs
+
+-- each row lies on the page of its key
+abbrev pub RowsLie : List ℕ → List Leaf → Type 0
+RowsLie lows [] = Unit {0}
+RowsLie lows (x ∷ xs) = ((k : ℕ) → is_some (get_row x.rows k) ≡ true → page_of lows k ≡ x.number) × RowsLie lows xs
 
 -- each key has a page, wherever it is
 abbrev pub EachKeyHasPage : State → Type 0

@@ -1,13 +1,13 @@
 //! What holds of the table over every schedule: each function is a law, and its contract is all of it.
-ghost use Rattle.std.specs.Prelude.{List, length};
+ghost use Rattle.std.specs.Prelude.{◌≡◌, List, length};
 ghost use Rattle.zy_isa.specs.declared.choice.Choice.{Choice as AChoice};
 ghost use Rattle.zy_isa.specs.Scenario.{Scenario, IsScenario};
-ghost use Rattle.zy_machine.specs.Play.{play, opening};
+ghost use Rattle.zy_machine.specs.Play.{play, opening, step};
 ghost use Rattle.zy_machine.specs.OneOwner.{OneOwner};
 ghost use Rattle.zy_machine.specs.Holders.{ExclusiveAlone, HoldersActive};
 ghost use Rattle.zy_machine.specs.AtHome.{AtHome};
 ghost use Rattle.zy_machine.specs.Order.{InOrder};
-ghost use Rattle.zy_machine.specs.Database.{ValuesAtPages, EachKeyHasPage, HasLows, newest, all_leaves};
+ghost use Rattle.zy_machine.specs.Database.{ValuesAtPages, EachKeyHasPage, HasLows, RowsLie, database, newest, all_leaves};
 ghost use Rattle.zy_machine.specs.Counts.{Safe, Fits};
 ghost use Rattle.zy_machine.specs.Serial.{Serializable};
 
@@ -47,6 +47,12 @@ pub fn lows_match()
         HasLows (newest s) (all_leaves s) }
 {}
 
+/// Each row lies on the page that the wireframe names for its key.
+pub fn rows_match()
+    ensures { (sc : Scenario) → IsScenario sc → (choices : List AChoice)
+        → let s = play sc (opening sc) choices in RowsLie (newest s) (all_leaves s) }
+{}
+
 /// Each key has a page, wherever that page is.
 pub fn each_key_has_page()
     ensures { (sc : Scenario) → IsScenario sc → (choices : List AChoice)
@@ -76,4 +82,11 @@ pub fn holders_active()
 pub fn serializable()
     ensures { (sc : Scenario) → IsScenario sc → (choices : List AChoice)
         → Serializable sc (play sc (opening sc) choices) }
+{}
+
+/// Only commits change values: a step that commits nothing leaves the database as it was, a split among them.
+pub fn commits_alone()
+    ensures { (sc : Scenario) → IsScenario sc → (choices : List AChoice) (choice : AChoice)
+        → let s = play sc (opening sc) choices in
+        (step sc choice s).after.commits ≡ s.commits → database (step sc choice s).after ≡ database s }
 {}
