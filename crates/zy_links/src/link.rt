@@ -41,7 +41,7 @@ impl Link {
         ensures kept { OnErr result (self.new ≡ self.old) }
         ensures succeeds { 1 ≤ self.old.spare → IsOk result }
     {
-        let len = self.queue.len();
+        let len = self.len();
         if len < self.queue.capacity() {
             return Ok(());
         }
@@ -101,7 +101,7 @@ impl Link {
         ensures messages { IfOk result (λ copy. messages_of copy.messages ≡ messages_of self.now.messages) }
         ensures limits { IfOk result (λ copy. limits copy.messages ≡ limits self.now.messages) }
     {
-        let mut queue = VecDeque::with_capacity(alloc, self.queue.len())?;
+        let mut queue = VecDeque::with_capacity(alloc, self.len())?;
         for message in self.queue.iter() {
             queue.push_back_reserved(message.copy(alloc)?);
         }
