@@ -1,12 +1,13 @@
-use Rattle.std.proofs.Common.{◌+◌, ◌≤◌, length}
+use Rattle.std.proofs.Common.{◌≡◌, ◌+◌, ◌≤◌, ◌++◌, length}
 use Rattle.std.specs.VecDeque.{deque_capacity}
 use Rattle.std.specs.VecDeque.Iter.{deque_iter_rest}
-use Rattle.zy_links.specs.Messages.{limit_of, message_of}
-use Rattle.zy_links.proofs.Copying.{IsCopying}
+use Rattle.zy_links.specs.Messages.{limits, messages_of}
 use Rattle.zy_links.proofs.link.Link.copy.Given as goal
 
+-- what was copied and what is left are all messages
 abbrev pub invariant-loop-message : goal.invariant-loop-message
 invariant-loop-message l =
-    IsCopying message_of l.queue.items (deque_iter_rest l.message-iterator) l.self.messages ×
-    IsCopying limit_of l.queue.items (deque_iter_rest l.message-iterator) l.self.messages ×
-    (length l.queue.items + length (deque_iter_rest l.message-iterator) ≤ deque_capacity l.queue)
+    let left = deque_iter_rest l.message-iterator in
+    (messages_of l.queue.items ++ messages_of left ≡ messages_of l.self.messages) ×
+    (limits l.queue.items ++ limits left ≡ limits l.self.messages) ×
+    (length l.queue.items + length left ≤ deque_capacity l.queue)
