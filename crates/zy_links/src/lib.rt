@@ -1,0 +1,7 @@
+//! The messages between the nodes, and the links that carry them.
+#![tactic(auto)]
+
+pub mod link;
+pub mod message;
+#[cfg(test)]
+mod tests;

@@ -1,0 +1,61 @@
+//! What one node sends to the other.
+ghost use Rattle.std.specs.Prelude.{◌≡◌, IfOk};
+ghost use Rattle.zy_links.specs.Messages.{kind_of, limit_of, message_of};
+
+use std::alloc::{AllocError, Global};
+use zy_modes::kind::Kind;
+use zy_page::page::Page;
+use zy_wire::wire::Wire;
+
+/// A message, with what it brings: a wireframe and a page are moved into it and out of it.
+#[derive(Drop)]
+pub enum Message {
+    /// The low keys of all pages.
+    Wire(Wire),
+    /// The low keys were taken.
+    Ready,
+    /// Both nodes run transactions from here on.
+    Dual,
+    /// The page of this number is asked for.
+    Pull(u16),
+    /// This page is handed over.
+    Page(Page),
+    /// The source runs no transaction any more.
+    Finish,
+    /// All pages have come.
+    Done,
+}
+
+impl Message {
+    /// What kind of message it is.
+    pub fn kind(&self) -> Kind
+        ensures { result ≡ kind_of (message_of self.now) }
+    {
+        match self {
+            Message::Wire(_) => Kind::Wire,
+            Message::Ready => Kind::Ready,
+            Message::Dual => Kind::Dual,
+            Message::Pull(_) => Kind::Pull,
+            Message::Page(_) => Kind::Page,
+            Message::Finish => Kind::Finish,
+            Message::Done => Kind::Done,
+        }
+    }
+
+    /// The same message once more, with a wireframe or a page of its own; the wireframe may have less room.
+    pub fn copy(&self, alloc: Global) -> Result<Message, AllocError>
+        ensures message { IfOk result (λ copy. message_of copy ≡ message_of self.now) }
+        ensures limit { IfOk result (λ copy. limit_of copy ≡ limit_of self.now) }
+    {
+        let copy = match self {
+            Message::Wire(wire) => Message::Wire(wire.copy(alloc)?),
+            Message::Ready => Message::Ready,
+            Message::Dual => Message::Dual,
+            Message::Pull(page) => Message::Pull(*page),
+            Message::Page(page) => Message::Page(page.copy(alloc)?),
+            Message::Finish => Message::Finish,
+            Message::Done => Message::Done,
+        };
+        Ok(copy)
+    }
+}
