@@ -1,6 +1,6 @@
 -- The boundary of a split is a key of its page, and no page's low key.
 use Rattle.std.proofs.Common.{◌≡◌, ℕ, zero, suc, ◌+◌, ◌/◌, ◌<◌, ◌≤◌, List, [], ◌∷◌, ◌++◌, length, true, false, refl, sym, ap, ◌∙◌, subst, arith, inl, inr, length-append}
-use Rattle.std.specs.Prelude.{◌⊎◌, if◌then◌else◌, ◌==◌, nat_le, ◌||◌, Some, None, is_some, slice_index, Bool, Contains}
+use Rattle.std.specs.Prelude.{◌⊎◌, if◌then◌else◌, ◌==◌, nat_le, Some, None, is_some, slice_index, Contains}
 use Rattle.std.proofs.lemmas.Bool.{cond_both, false≢true, or_right, or_left, eq-eqb, eqb-true, eqb-false, or_cases, or_parts, ltb-false, leb-true, leb-false}
 use Rattle.std.proofs.lemmas.List.{get_or_default}
 use Rattle.zy_isa.specs.declared.row.Row.{Row}
@@ -14,15 +14,13 @@ use Rattle.zy_machine.specs.Keys.{keys_of, put_key}
 use Rattle.zy_machine.specs.Pages.{rows_of}
 use Rattle.zy_machine.specs.Rows.{rows_not_in, rows_on}
 use Rattle.zy_machine.specs.Run.{boundary, has_room, is_there, own_inserts}
+use Rattle.zy_machine.specs.Order.{NumbersRise}
 use Rattle.zy_machine.proofs.Installing.{Placed, get_row-on}
 use Rattle.zy_machine.proofs.CutPages.{leaf_placed}
 use Rattle.zy_machine.proofs.RisingRows.{rises_key}
+use Rattle.zy_machine.proofs.LoneRuns.{has}
 
 -- ---- keys in order
-
-abbrev pub has : List ℕ → ℕ → Bool
-has [] q = false
-has (x ∷ xs) q = (x == q) || has xs q
 
 has-put_key : (k : ℕ) (xs : List ℕ) (q : ℕ) → has (put_key k xs) q ≡ true → (k ≡ q) ⊎ (has xs q ≡ true)
 has-put_key k [] q h = elim (or_cases (k == q) false h) [ inl e ↦ inl (eqb-true _ _ e) | inr e ↦ absurd (false≢true e) ]
@@ -52,26 +50,21 @@ index_has (x ∷ xs) (suc i) h = or_right (x == slice_index xs i) _ (index_has x
 
 -- ---- no key stands twice
 
--- keys rise, from this one on
-abbrev Rise : ℕ → List ℕ → Type 0
-Rise low [] = Unit {0}
-Rise low (x ∷ xs) = (low ≤ x) × Rise (x + 1) xs
-
-rise-put_key : (low k : ℕ) (xs : List ℕ) → low ≤ k → (has xs k ≡ true → ⊥) → Rise low xs → Rise low (put_key k xs)
+rise-put_key : (low k : ℕ) (xs : List ℕ) → low ≤ k → (has xs k ≡ true → ⊥) → NumbersRise low xs → NumbersRise low (put_key k xs)
 rise-put_key low k [] le new h = (le, tt)
 rise-put_key low k (x ∷ xs) le new h =
     let other : x ≡ k → ⊥ = λ e. new (or_left _ _ (eq-eqb x k e)) in
-    cond_both (nat_le k x) (k ∷ x ∷ xs) (x ∷ put_key k xs) (Rise low)
+    cond_both (nat_le k x) (k ∷ x ∷ xs) (x ∷ put_key k xs) (NumbersRise low)
     (λ e. let under = leb-true k x e in (le, ((omega (arith, other)), h.1)))
     (λ e. let over = leb-false k x e in (h.0, rise-put_key (x + 1) k xs (omega arith) (λ there. new (or_right (x == k) _ there)) h.1))
 
 -- the first of rising keys is below the others
-rise_index : (low : ℕ) (xs : List ℕ) (i : ℕ) → Rise low xs → i < length xs → low ≤ slice_index xs i
+rise_index : (low : ℕ) (xs : List ℕ) (i : ℕ) → NumbersRise low xs → i < length xs → low ≤ slice_index xs i
 rise_index low [] i h lt = absurd (omega arith)
 rise_index low (x ∷ xs) zero h lt = h.0
 rise_index low (x ∷ xs) (suc i) h lt = let first = h.0 in let rest = rise_index (x + 1) xs i h.1 (omega arith) in omega arith
 
-first_below : (low : ℕ) (xs : List ℕ) (i : ℕ) → Rise low xs → i < length xs → 1 ≤ i → slice_index xs 0 < slice_index xs i
+first_below : (low : ℕ) (xs : List ℕ) (i : ℕ) → NumbersRise low xs → i < length xs → 1 ≤ i → slice_index xs 0 < slice_index xs i
 first_below low [] i h lt one = absurd (omega arith)
 first_below low (x ∷ xs) zero h lt one = absurd (omega arith)
 first_below low (x ∷ xs) (suc i) h lt one = let rest = rise_index (x + 1) xs i h.1 (omega arith) in omega arith
@@ -81,7 +74,7 @@ abbrev Differ : List Row → Type 0
 Differ [] = Unit {0}
 Differ (r ∷ rows) = (is_some (get_row rows r.key) ≡ true → ⊥) × Differ rows
 
-rise-keys : (rows : List Row) → Differ rows → Rise 0 (keys_of rows)
+rise-keys : (rows : List Row) → Differ rows → NumbersRise 0 (keys_of rows)
 rise-keys [] h = tt
 rise-keys (r ∷ rows) h = rise-put_key 0 r.key (keys_of rows) (omega arith) (λ there. h.0 (has-keys rows r.key there)) (rise-keys rows h.1)
 
@@ -172,7 +165,7 @@ boundary_on sc t k p v placed on full =
     keys_on t k p v (boundary sc t k p v) placed on (index_has (keys_at t k p v) ((sc.cap + 1) / 2) (within_keys sc t k p v full))
 
 -- they rise
-keys_rise : (t k p : ℕ) (v : View) → Rising 0 (rows_of v.me.pages p) → Rising 0 (txn_at v t).rows → is_there t k p v ≡ false → Rise 0 (keys_at t k p v)
+keys_rise : (t k p : ℕ) (v : View) → Rising 0 (rows_of v.me.pages p) → Rising 0 (txn_at v t).rows → is_there t k p v ≡ false → NumbersRise 0 (keys_at t k p v)
 keys_rise t k p v committed private new =
     let rows = rows_of v.me.pages p in
     let mine = (txn_at v t).rows in

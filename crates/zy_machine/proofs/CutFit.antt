@@ -1,5 +1,5 @@
 -- Room at commit when a page is cut.
-use Rattle.std.proofs.Common.{List, [], ap, arith, inl, inr, length, refl, subst, suc, sym, true, false, ℕ, ◌++◌, ◌<◌, ◌∙◌, ◌∷◌, ◌≡◌, ◌≤◌}
+use Rattle.std.proofs.Common.{List, [], ap, arith, inl, inr, length, refl, subst, sym, true, false, ℕ, ◌++◌, ◌<◌, ◌∙◌, ◌∷◌, ◌≡◌, ◌≤◌}
 use Rattle.std.specs.Prelude.{Bool, Contains, None, if◌then◌else◌, is_some, nat_le, nat_lt, not, ◌==◌}
 use Rattle.std.proofs.lemmas.Bool.{and_from, and_parts, cases_lt, cond_both, eq-eqb, eqb-false, eqb-true, false≢true, le-ltb, lt-ltb, not-true}
 use Rattle.zy_isa.specs.Rows.{get_row}
@@ -16,7 +16,7 @@ use Rattle.zy_machine.specs.Client.{is_mode}
 use Rattle.zy_machine.specs.Pages.{lowered, owns, rows_of, with_page}
 use Rattle.zy_machine.specs.State.{View}
 use Rattle.zy_machine.specs.declared.modes.NodeMode.TheVariants.{Normal}
-use Rattle.zy_page.proofs.Parted.{get_row-rows_below, get_row-rows_from}
+use Rattle.zy_page.proofs.Parted.{get_row-rows_below, get_row-rows_from, length-filter}
 use Rattle.zy_machine.proofs.EachPage.{Each, each_append, each_at, each_both, each_front, each_in, each_map}
 use Rattle.zy_machine.proofs.Events.{has_lock}
 use Rattle.zy_machine.proofs.Fit.{Fit, Room, Sized}
@@ -31,12 +31,10 @@ use Rattle.zy_machine.proofs.Txns.{IsAt}
 -- ---- the parts of a page
 
 below_length : (b : ℕ) (rows : List Row) → length (rows_below b rows) ≤ length rows
-below_length b [] = omega arith
-below_length b (r ∷ rows) = let e = below_length b rows in cond_both (nat_lt r.key b) (r ∷ rows_below b rows) (rows_below b rows) (λ y. length y ≤ suc (length rows)) (λ _. omega arith) (λ _. omega arith)
+below_length b rows = length-filter (λ (r : Row). nat_lt r.key b) rows
 
 from_length : (b : ℕ) (rows : List Row) → length (rows_from b rows) ≤ length rows
-from_length b [] = omega arith
-from_length b (r ∷ rows) = let e = from_length b rows in cond_both (nat_le b r.key) (r ∷ rows_from b rows) (rows_from b rows) (λ y. length y ≤ suc (length rows)) (λ _. omega arith) (λ _. omega arith)
+from_length b rows = length-filter (λ (r : Row). nat_le b r.key) rows
 
 each_with_page : (P : ℕ → List Row → Type 0) (leaf : Leaf) (xs : List Leaf) → P leaf.number leaf.rows → Each P xs → Each P (with_page leaf xs)
 each_with_page P leaf [] here h = (here, tt)

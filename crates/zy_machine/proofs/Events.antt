@@ -1,7 +1,7 @@
 -- What a row did: one case for each line of the table that changes something, with what its conditions say.
-use Rattle.std.proofs.Common.{◌≡◌, ℕ, ◌+◌, ◌%◌, ◌^◌, List, [], ◌∷◌, ◌++◌, length, true, false, refl, sym, ap, ◌∙◌}
-use Rattle.std.specs.Prelude.{if◌then◌else◌, ◌==◌, nat_lt, nat_le, ◌&&◌, ◌||◌, not, Some, None, Option, slice_get, unwrap_or}
-use Rattle.std.proofs.lemmas.Bool.{cond_both, false≢true, not-false, and_parts, eq-eqb}
+use Rattle.std.proofs.Common.{◌≡◌, ℕ, ◌+◌, ◌%◌, ◌^◌, List, [], ◌∷◌, ◌++◌, length, true, false, refl, sym}
+use Rattle.std.specs.Prelude.{if◌then◌else◌, ◌==◌, nat_lt, nat_le, not, Some, None, Option, slice_get, unwrap_or}
+use Rattle.std.proofs.lemmas.Bool.{cond_both, false≢true, not-false}
 use Rattle.zy_isa.specs.declared.node.Node.{Node}
 use Rattle.zy_isa.specs.declared.node.Node.TheVariants.{A, B}
 use Rattle.zy_isa.specs.declared.choice.Choice.{Choice}
@@ -13,18 +13,19 @@ use Rattle.zy_isa.specs.Rows.{get_row, put_row}
 use Rattle.zy_isa.specs.Scenario.{Scenario}
 use Rattle.zy_locks.specs.declared.lock.LockKind.{LockKind}
 use Rattle.zy_locks.specs.declared.lock.LockKind.TheVariants.{Shared, Exclusive}
-use Rattle.zy_locks.specs.Locks.{conflict, add_lock, drop_locks, stronger}
+use Rattle.zy_locks.specs.Locks.{conflict}
 use Rattle.zy_machine.specs.declared.outcome.Why.{Why}
 use Rattle.zy_machine.specs.declared.outcome.Why.TheVariants as why
 use Rattle.zy_machine.specs.declared.modes.NodeMode.TheVariants.{Normal}
-use Rattle.zy_machine.specs.State.{State, View, Move, Lock, Aborted, facing, with_me}
+use Rattle.zy_machine.specs.State.{State, View, Move, facing}
 use Rattle.zy_wire.specs.Wireframe.{page_of}
 use Rattle.zy_machine.specs.Pages.{rows_of}
-use Rattle.zy_machine.specs.Change.{begun, aborted, did, txn_at, locked, committed, cut, reg, with_reg, with_txn, txn_or}
+use Rattle.zy_machine.specs.Change.{begun, aborted, did, txn_at, locked, committed, cut, reg, with_reg, txn_or}
 use Rattle.zy_machine.specs.Client.{is_mode, is_new, is_active, home_of, begin_row, begin_at, kill_row}
 use Rattle.zy_machine.specs.Run as run
 use Rattle.zy_machine.specs.Run.{boundary, same_node, program_of, abort_row, set_row, jump_row, commit_row, read_row, write_row, full_row, split_row, insert_row, Access, Reads, lock_of, is_there, has_room, access_row, page_row, key_row, instr_row, run_row}
 use Rattle.zy_machine.specs.Play.{move, side_of}
+use Rattle.zy_machine.proofs.RowLemmas.{aborted-locked}
 
 -- t runs at n, and its next instruction is i
 pub record Runs (sc : Scenario) (n : Node) (t : ℕ) (i : Instr) (v : View) : Type 0 where
@@ -86,26 +87,6 @@ lows_after sc n v w lows e = lows
 abbrev pub Happens : Scenario → Node → View → Move → Type 0
 Happens sc n v m = Event sc n v m.after
 
--- an abort drops the lock that was just taken
-drop_hit : (t : ℕ) (x : Lock) (xs : List Lock) → (x.txn == t) ≡ true → drop_locks t (x ∷ xs) ≡ drop_locks t xs
-drop_hit t x xs h = ap (λ b. if not b then x ∷ drop_locks t xs else drop_locks t xs) h
-
-drop_add : (p t : ℕ) (kind : LockKind) (xs : List Lock) → drop_locks t (add_lock p t kind xs) ≡ drop_locks t xs
-drop_add p t kind [] = drop_hit t (record { page = p; txn = t; kind = kind }) [] (eq-eqb t t refl)
-drop_add p t kind (x ∷ xs) =
-    let new : Lock = record { page = p; txn = t; kind = kind } in
-    cond_both ((x.page == p) && (x.txn == t)) (record x { kind = stronger x.kind kind } ∷ xs) _ (λ y. drop_locks t y ≡ drop_locks t (x ∷ xs))
-    (λ h. let e = (and_parts (x.page == p) (x.txn == t) h).1 in drop_hit t (record x { kind = stronger x.kind kind }) xs e ∙ sym (drop_hit t x xs e))
-    (λ _. cond_both (nat_lt p x.page || ((x.page == p) && nat_lt t x.txn)) (new ∷ x ∷ xs) (x ∷ add_lock p t kind xs) (λ y. drop_locks t y ≡ drop_locks t (x ∷ xs))
-    (λ _. drop_hit t new (x ∷ xs) (eq-eqb t t refl))
-    (λ _. ap (λ ys. if not (x.txn == t) then x ∷ ys else ys) (drop_add p t kind xs)))
-
-aborted_locked : (t p : ℕ) (y : Why) (kind : LockKind) (v : View) → aborted t y (locked t p kind v) ≡ aborted t y v
-unfolding aborted locked txn_at
-aborted_locked t p y kind v =
-    let x = txn_at v t in
-    ap (λ xs. with_me (record v.me { locks = xs }) (with_txn t (record x { status = Aborted y; rows = [] }) v)) (drop_add p t kind v.me.locks)
-
 -- the lines of run
 aborts : (sc : Scenario) (n : Node) (t : ℕ) (y : Why) (v : View) → is_active (txn_at v t).status ≡ true → (txn_at v t).node ≡ n
     → Happens sc n v (abort_row t y v)
@@ -116,7 +97,7 @@ aborts sc n t y v a h = Aborts t y a h refl
 aborts_locked : (sc : Scenario) (n : Node) (t p : ℕ) (kind : LockKind) (y : Why) (v : View) → is_active (txn_at v t).status ≡ true
     → (txn_at v t).node ≡ n → Happens sc n v (abort_row t y (locked t p kind v))
 unfolding abort_row
-aborts_locked sc n t p kind y v a h = Aborts t y a h (aborted_locked t p y kind v)
+aborts_locked sc n t p kind y v a h = Aborts t y a h (aborted-locked t p kind y v)
 
 full_happens : (sc : Scenario) (n : Node) (t : ℕ) (r q : Reg) (v : View) → Runs sc n t (Insert r q) v → Free t (key t r v) Exclusive v → is_there t (key t r v) (page t r v) v ≡ false → has_room sc t (page t r v) v ≡ false
     → Happens sc n v (full_row sc t (key t r v) (page t r v) (has_lock t (key t r v) Exclusive v))
