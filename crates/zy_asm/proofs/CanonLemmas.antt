@@ -16,7 +16,7 @@ use Rattle.zy_isa.specs.declared.instr.Reg.TheVariants.{R0, R1, R2, R3, R4, R5, 
 use Rattle.zy_isa.specs.declared.instr.Instr.{Instr}
 use Rattle.zy_isa.specs.declared.instr.Instr.TheVariants.{Set, Read, Write, Insert, Add, Beq, Commit, Abort}
 use Rattle.zy_isa.specs.declared.choice.Choice.{Choice}
-use Rattle.zy_isa.specs.declared.choice.Choice.TheVariants.{Begin, Kill, Run}
+use Rattle.zy_isa.specs.declared.choice.Choice.TheVariants.{Start, Begin, Kill, Run, Take, Finish, Push}
 use Rattle.zy_isa.specs.Words.{is_space, is_word, without_comment, lines_of, has_words, lines_with_words, number_of, digits_after, spaced}
 use Rattle.zy_isa.specs.Canon.{node_text, rule_text, reg_text, instr_words, choice_words, row_words, program_words, canon_words, canon}
 use Rattle.zy_isa.specs.Writing.{line_of}
@@ -199,9 +199,13 @@ under : (t count : ℕ) → count ≤ 64 → nat_lt t count ≡ true → t < 2 ^
 under t count few h = let low : t < count = grind (arith, tests) in omega arith
 
 spell_choice : (c : Choice) (count : ℕ) → count ≤ 64 → names_below count c ≡ true → SpellsChoice c (choice_words c)
+spell_choice Start count few h = refl
 spell_choice (Begin t) count few h = (decimal t, refl, number_of-decimal t (under t count few h))
 spell_choice (Kill t) count few h = (decimal t, refl, number_of-decimal t (under t count few h))
 spell_choice (Run n t) count few h = (decimal t, refl, number_of-decimal t (under t count few h))
+spell_choice (Take n) count few h = refl
+spell_choice (Finish n) count few h = refl
+spell_choice (Push n) count few h = refl
 
 spell_choices : (cs : List Choice) (count : ℕ) → count ≤ 64 → AreNamed count cs → SpellEach (map m.choice (once cs)) (map choice_words cs)
 spell_choices [] count few h = tt
@@ -278,10 +282,17 @@ clean_programs (p ∷ ps) k few h = (
   AreClean-append (map instr_words p) (program_words (k + 1) ps) (clean_instrs p h.0.values) (clean_programs ps (k + 1) (omega arith) h.1),
 )
 
+plain_clean : (n : Node) (w : List ℕ) → is_word w ≡ true → is_clean w ≡ true → are_clean (node_text n ∷ w ∷ []) ≡ true
+plain_clean n w h g = rw ((node_clean n).0, (node_clean n).1, h, g) refl
+
 clean_choice : (c : Choice) (count : ℕ) → count ≤ 64 → names_below count c ≡ true → (are_clean (choice_words c) ≡ true) × (has_words (choice_words c) ≡ true)
+clean_choice Start count few h = (refl, refl)
 clean_choice (Begin t) count few h = (number_last (codes "C") (codes "begin") t (under t count few h) refl refl refl refl, refl)
 clean_choice (Kill t) count few h = (number_last (codes "C") (codes "kill") t (under t count few h) refl refl refl refl, refl)
 clean_choice (Run n t) count few h = (number_last (node_text n) (codes "run") t (under t count few h) (node_clean n).0 (node_clean n).1 refl refl, refl)
+clean_choice (Take n) count few h = (plain_clean n (codes "take") refl refl, refl)
+clean_choice (Finish n) count few h = (plain_clean n (codes "finish") refl refl, refl)
+clean_choice (Push n) count few h = (plain_clean n (codes "push") refl refl, refl)
 
 clean_choices : (cs : List Choice) (count : ℕ) → count ≤ 64 → AreNamed count cs → AreClean (map choice_words cs)
 clean_choices [] count few h = tt

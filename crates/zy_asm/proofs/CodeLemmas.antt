@@ -1,18 +1,11 @@
 -- Laws that the code's answers cite.
-use Rattle.std.proofs.Common.{◌≡◌, ℕ, ◌<◌, ◌==◌, true, false, List, [], ◌∷◌, length, Result, Ok, Err, refl, sym, ap, ◌∙◌, arith, Bor, Some, eq-eqb}
+use Rattle.std.proofs.Common.{◌≡◌, ℕ, ◌==◌, true, false, List, [], ◌∷◌, length, Result, Ok, Err, refl, sym, ap, ◌∙◌, arith, Bor, Some, eq-eqb}
 use borrow.Author.Tests.{eqb-true}
 use Rattle.zy_isa.specs.Words.{lines_of, words_of, number_of}
-use Rattle.zy_isa.specs.declared.node.Actor.{Actor}
 use Rattle.zy_asm.specs.Steps.{texts}
-use Rattle.zy_asm.specs.Reading.{Seen, choice_line, step, line_step, read_lines, ended, own_number}
+use Rattle.zy_asm.specs.Reading.{Seen, step, line_step, read_lines, ended, own_number}
 use Rattle.zy_asm.specs.declared.faults.AsmFault.{AsmFault}
 use Rattle.zy_asm.specs.declared.faults.AsmKind.{AsmKind}
-use Rattle.zy_asm.specs.declared.faults.AsmKind.TheVariants as kinds
-
-pub short_choice : (s : Seen) (a : Actor) (ws : List (Bor (List ℕ))) → length ws < 2 → choice_line s a (texts ws) ≡ Err kinds.Word
-short_choice s a [] h = refl
-short_choice s a (w ∷ []) h = refl
-short_choice s a (w ∷ v ∷ ws) h = absurd (omega arith)
 
 pub empty_lines : (xs : List ℕ) → (length xs == 0) ≡ true → lines_of xs ≡ []
 empty_lines [] h = refl

@@ -1,5 +1,5 @@
 -- What is read is meant.
-use Rattle.std.proofs.Common.{◌≡◌, ℕ, ◌+◌, ◌-◌, ◌<◌, ◌≤◌, Bool, true, false, List, [], ◌∷◌, ◌++◌, length, map, codes, Result, Ok, Option, Some, None, refl, sym, ap, ◌∙◌, subst, inl, inr, ◌⊎◌, arith, append_assoc, append-nil, length-append, if◌then◌else◌, nat_le, nat_lt, zero, suc, slice_get}
+use Rattle.std.proofs.Common.{◌≡◌, ℕ, ◌+◌, ◌-◌, ◌<◌, ◌≤◌, Bool, true, false, List, [], ◌∷◌, ◌++◌, length, map, codes, Result, Ok, Option, Some, None, refl, sym, ap, ◌∙◌, subst, inl, inr, ◌⊎◌, arith, append_assoc, append-nil, length-append, if◌then◌else◌, nat_le, nat_lt, zero, suc, slice_get, ok_or}
 use Rattle.std.proofs.lemmas.List.{length-replicate}
 use Rattle.std.specs.Prelude.{replicate, not}
 use Rattle.std.specs.List.{position_or_len}
@@ -19,6 +19,8 @@ use Rattle.zy_isa.specs.Text as m
 use Rattle.zy_isa.specs.Text.{Times, Statement, Spells, SpellEach, program_statements, repeated, statements}
 use Rattle.zy_asm.specs.declared.faults.AsmKind.{AsmKind}
 use Rattle.zy_asm.specs.declared.faults.AsmKind.TheVariants as kinds
+use Rattle.zy_asm.specs.declared.choices.Action.{Action}
+use Rattle.zy_asm.specs.declared.choices.Action.TheVariants.{Txn, Plain}
 use Rattle.zy_asm.specs.declared.instructions.Operation.{Operation}
 use Rattle.zy_asm.specs.declared.reading.Keyword.{Keyword}
 use Rattle.zy_asm.specs.declared.reading.Keyword.TheVariants as k
@@ -26,7 +28,8 @@ use Rattle.zy_asm.specs.declared.state.Stage.{Stage}
 use Rattle.zy_asm.specs.declared.state.Stage.TheVariants as stage
 use Rattle.zy_asm.specs.Steps.{◌>>=◌, number_in}
 use Rattle.zy_asm.specs.Instructions.{instr_of}
-use Rattle.zy_asm.specs.Reading.{Seen, keyword_of, are_two, headed, row_of, is_full, last_row, is_low, add_row, row_at, instr_line, judged, own_number, open_line, choice_line, end_line, statement, body_line, step, finish, nothing_seen}
+use Rattle.zy_asm.specs.Choices.{action_of}
+use Rattle.zy_asm.specs.Reading.{Seen, keyword_of, are_two, headed, row_of, is_full, last_row, is_low, add_row, row_at, instr_line, judged, own_number, open_line, action_line, choice_line, end_line, statement, body_line, step, finish, nothing_seen}
 use Rattle.zy_asm.proofs.Bind.{bind_ok, if_ok, if_err, both, neither, below, not_over, over_not, above, out_of_neither, same}
 use Rattle.zy_asm.proofs.SpellLemmas.{op_word, actor_word, keyword_ok, number_in_ok, instr_ok, row_ok, own_ok, Chose, choice_ok}
 
@@ -131,6 +134,20 @@ closing I t f g h =
     let e : f b.0 ≡ a.0 = cc (b.2) in
     ap g (ap f (sym q.1) ∙ e) ∙ a.2
 
+action_same : (c p : ℕ) (R : List Row) (P : List (List Instr)) (x : Action) (ws : List (List ℕ)) → action_line (at stage.Choices c p R P [] []) x ws ≡ action_line (at stage.Rows c p R P [] []) x ws
+action_same c p R P (Txn x) [] = refl
+action_same c p R P (Txn x) (w ∷ ws) = refl
+action_same c p R P (Plain x) ws = refl
+
+-- a choice is read alike below the programs and below the rows
+pub choice_same : (c p : ℕ) (R : List Row) (P : List (List Instr)) (a : Actor) (ws : List (List ℕ)) → choice_line (at stage.Choices c p R P [] []) a ws ≡ choice_line (at stage.Rows c p R P [] []) a ws
+choice_same c p R P a [] = refl
+choice_same c p R P a (w ∷ ws) = by (action_of a w)
+  where
+    by : (o : Option Action) → (ok_or o kinds.Word >>= λ x. action_line (at stage.Choices c p R P [] []) x ws) ≡ (ok_or o kinds.Word >>= λ x. action_line (at stage.Rows c p R P [] []) x ws)
+    by None = refl
+    by (Some x) = action_same c p R P x ws
+
 inside_ok : (c p : ℕ) (R : List Row) (P : List (List Instr)) (I : List Instr) (ws : List (List ℕ)) (t : Seen) → body_line (at stage.Program c p R P I []) ws ≡ Ok t
     → InstrStep c p R P I ws t ⊎ Next c p R (P ++ I ∷ []) ws t
 inside_ok c p R P I [] t h = cc
@@ -154,12 +171,7 @@ inside_ok c p R P I (w ∷ ws) t h = by (keyword_of w) refl h
     by (Some (k.Instr o)) e g = inl (instr_step c p R P I o w ws t (keyword_ok w (k.Instr o) e) g)
     by (Some (k.Choice a)) e g =
         let q = closing I t (λ q. at stage.Choices c p R (P ++ q ∷ []) [] []) (λ u. choice_line u a ws) g in
-        inr (inr (inl (a, ws, first w (actor_word a) ws (keyword_ok w (k.Choice a) e), choice_ok (at stage.Rows c p R (P ++ I ∷ []) [] []) t a ws (choice_same ws q))))
-      where
-        choice_same : (vs : List (List ℕ)) → choice_line (at stage.Choices c p R (P ++ I ∷ []) [] []) a vs ≡ Ok t → choice_line (at stage.Rows c p R (P ++ I ∷ []) [] []) a vs ≡ Ok t
-        choice_same [] x = x
-        choice_same (v ∷ []) x = x
-        choice_same (v ∷ u ∷ us) x = x
+        inr (inr (inl (a, ws, first w (actor_word a) ws (keyword_ok w (k.Choice a) e), choice_ok (at stage.Rows c p R (P ++ I ∷ []) [] []) t a ws (sym (choice_same c p R (P ++ I ∷ []) a ws) ∙ q))))
     by (Some k.End) e g =
         let q = closing I t (λ q. at stage.Choices c p R (P ++ q ∷ []) [] []) (λ u. end_line u ws) g in
         inr (inr (inr (rw (keyword_ok w k.End e) (end_step (at stage.Rows c p R (P ++ I ∷ []) [] []) ws t (end_same ws q)))))

@@ -1,6 +1,7 @@
 -- A line that spells something is read as it.
-use Rattle.std.proofs.Common.{◌≡◌, ℕ, ◌+◌, ◌<◌, ◌≤◌, ◌^◌, true, false, nat_lt, List, [], ◌∷◌, ◌++◌, length, codes, Ok, Some, refl, ap, ◌∙◌, inl, inr, arith}
+use Rattle.std.proofs.Common.{◌≡◌, ℕ, ◌+◌, ◌<◌, ◌≤◌, ◌^◌, true, false, nat_lt, List, [], ◌∷◌, ◌++◌, length, codes, Ok, Some, refl, sym, ap, ◌∙◌, inl, inr, arith}
 use Rattle.std.specs.Prelude.{replicate}
+use Rattle.zy_isa.specs.declared.node.Node.{Node}
 use Rattle.zy_isa.specs.declared.node.Node.TheVariants as node
 use Rattle.zy_isa.specs.declared.node.Actor.{Actor}
 use Rattle.zy_isa.specs.declared.node.Actor.TheVariants as actor
@@ -12,23 +13,24 @@ use Rattle.zy_isa.specs.declared.instr.Instr.TheVariants.{Set, Read, Write, Inse
 use Rattle.zy_isa.specs.declared.choice.Choice.{Choice}
 use Rattle.zy_isa.specs.declared.choice.Choice.TheVariants as choice
 use Rattle.zy_isa.specs.Words.{number_of}
-use Rattle.zy_isa.specs.Canon.{reg_text}
+use Rattle.zy_isa.specs.Canon.{reg_text, node_text}
 use Rattle.zy_isa.specs.Programs.{HasValue}
-use Rattle.zy_isa.specs.Choices.{names_below}
+use Rattle.zy_isa.specs.Choices.{names_below, actor_at}
 use Rattle.zy_isa.specs.Scenario.{opening_pages_for}
 use Rattle.zy_isa.specs.Text as m
 use Rattle.zy_isa.specs.Text.{Times, Spells, SpellsInstr, SpellsChoice, SpellsTimes}
 use Rattle.zy_asm.specs.declared.instructions.Operation.{Operation}
 use Rattle.zy_asm.specs.declared.instructions.Operation.TheVariants as op
-use Rattle.zy_asm.specs.declared.choices.Action.{Action}
-use Rattle.zy_asm.specs.declared.choices.Action.TheVariants.{Begin, Kill, Run}
+use Rattle.zy_asm.specs.declared.choices.Action.TheVariants.{Txn, Plain}
+use Rattle.zy_asm.specs.declared.choices.TxnAction.{TxnAction}
+use Rattle.zy_asm.specs.declared.choices.TxnAction.TheVariants.{Begin, Kill, Run}
 use Rattle.zy_asm.specs.declared.state.Stage.TheVariants as stage
 use Rattle.zy_asm.specs.Steps.{number_in}
 use Rattle.zy_asm.specs.Instructions.{register_of, two, instr_of}
-use Rattle.zy_asm.specs.Choices.{action_of, chosen, are_times, times_of}
-use Rattle.zy_asm.specs.Reading.{Seen, is_low, last_row, instr_line, step, choice_line}
+use Rattle.zy_asm.specs.Choices.{node_action, action_of, chosen, are_times, times_of}
+use Rattle.zy_asm.specs.Reading.{Seen, is_low, last_row, instr_line, repeat_line, step, choice_line}
 use Rattle.zy_asm.proofs.Bind.{out_of_neither, not_below, over_not}
-use Rattle.zy_asm.proofs.SpellLemmas.{op_word, actor_word}
+use Rattle.zy_asm.proofs.SpellLemmas.{op_word, actor_word, node_word}
 use Rattle.zy_asm.proofs.FoundLemmas.{at}
 
 pub number_in_gives : (w : List ℕ) (a b n : ℕ) → number_of w ≡ Some n → a ≤ n → n ≤ b → number_in w a b ≡ Ok n
@@ -98,24 +100,48 @@ times_gives n ws h = elim h [
   | inr e ↦ rw e.1 (refl, number_in_gives e.0 1 4096 n e.2 e.3 e.4)
 ]
 
-choose_gives : (s : Seen) (a : Actor) (w who : List ℕ) (b : Action) (i n : ℕ) (times : List (List ℕ)) → action_of a w ≡ Some b → number_of who ≡ Some i → nat_lt i (length s.programs) ≡ true
-    → SpellsTimes n times → length s.choices + n ≤ 4096
+repeat_gives : (s : Seen) (c : Choice) (n : ℕ) (times : List (List ℕ)) → SpellsTimes n times → length s.choices + n ≤ 4096
+    → repeat_line s c times ≡ Ok (record s { stage = stage.Choices; choices = s.choices ++ replicate n c })
+repeat_gives s c n times h few = rw ((times_gives n times h).1, over_not (length s.choices + n) 4096 few) refl
+
+txn_gives : (s : Seen) (a : Actor) (w who : List ℕ) (b : TxnAction) (i n : ℕ) (times : List (List ℕ)) → action_of a w ≡ Some (Txn b) → number_of who ≡ Some i
+    → nat_lt i (length s.programs) ≡ true → SpellsTimes n times → length s.choices + n ≤ 4096
     → choice_line s a (w ∷ who ∷ times) ≡ Ok (record s { stage = stage.Choices; choices = s.choices ++ replicate n (chosen b i) })
-choose_gives s a w who b i n times e f g h few =
-    let t = times_gives n times h in
-    rw (t.0, e, f, g, t.1, over_not (length s.choices + n) 4096 few) refl
+txn_gives s a w who b i n times e f g h few = rw (e, (times_gives n times h).0, f, g) (repeat_gives s (chosen b i) n times h few)
+
+plain_gives : (s : Seen) (a : Actor) (w : List ℕ) (c : Choice) (n : ℕ) (times : List (List ℕ)) → action_of a w ≡ Some (Plain c) → SpellsTimes n times → length s.choices + n ≤ 4096
+    → choice_line s a (w ∷ times) ≡ Ok (record s { stage = stage.Choices; choices = s.choices ++ replicate n c })
+plain_gives s a w c n times e h few = rw (e, (times_gives n times h).0) (repeat_gives s c n times h few)
+
+at_node : (n : Node) (w : List ℕ) → action_of (actor_at n) w ≡ node_action n w
+at_node node.A w = refl
+at_node node.B w = refl
 
 -- the actor of a choice, and what its line is behind the first word
-pub choice_gives : (s : Seen) (d : Times) (ws : List (List ℕ)) → Spells (m.choice d) ws → names_below (length s.programs) d.choice ≡ true → length s.choices + d.times ≤ 4096
-    → (a : Actor) × (rest : List (List ℕ)) × (ws ≡ actor_word a ∷ rest) × (choice_line s a rest ≡ Ok (record s { stage = stage.Choices; choices = s.choices ++ replicate d.times d.choice }))
+abbrev pub Line : Seen → List (List ℕ) → ℕ → Choice → Type 0
+Line s ws n c = (a : Actor) × (rest : List (List ℕ)) × (ws ≡ actor_word a ∷ rest) × (choice_line s a rest ≡ Ok (record s { stage = stage.Choices; choices = s.choices ++ replicate n c }))
+
+pub choice_gives : (s : Seen) (d : Times) (ws : List (List ℕ)) → Spells (m.choice d) ws → names_below (length s.programs) d.choice ≡ true → length s.choices + d.times ≤ 4096 → Line s ws d.times d.choice
 choice_gives s d ws h named few = by d.choice h.3 named
   where
-    by : (x : Choice) → SpellsChoice x h.0 → names_below (length s.programs) x ≡ true
-        → (a : Actor) × (rest : List (List ℕ)) × (ws ≡ actor_word a ∷ rest) × (choice_line s a rest ≡ Ok (record s { stage = stage.Choices; choices = s.choices ++ replicate d.times x }))
-    by (choice.Begin t) g n = (actor.C, codes "begin" ∷ g.0 ∷ h.1, h.2 ∙ ap (λ x. x ++ h.1) g.1, choose_gives s actor.C (codes "begin") g.0 Begin t d.times h.1 refl g.2 n h.4 few)
-    by (choice.Kill t) g n = (actor.C, codes "kill" ∷ g.0 ∷ h.1, h.2 ∙ ap (λ x. x ++ h.1) g.1, choose_gives s actor.C (codes "kill") g.0 Kill t d.times h.1 refl g.2 n h.4 few)
-    by (choice.Run node.A t) g n = (actor.A, codes "run" ∷ g.0 ∷ h.1, h.2 ∙ ap (λ x. x ++ h.1) g.1, choose_gives s actor.A (codes "run") g.0 (Run node.A) t d.times h.1 refl g.2 n h.4 few)
-    by (choice.Run node.B t) g n = (actor.B, codes "run" ∷ g.0 ∷ h.1, h.2 ∙ ap (λ x. x ++ h.1) g.1, choose_gives s actor.B (codes "run") g.0 (Run node.B) t d.times h.1 refl g.2 n h.4 few)
+    of_txn : (a : Actor) (w who : List ℕ) (b : TxnAction) (i : ℕ) → h.0 ≡ actor_word a ∷ w ∷ who ∷ [] → action_of a w ≡ Some (Txn b) → number_of who ≡ Some i → nat_lt i (length s.programs) ≡ true → Line s ws d.times (chosen b i)
+    of_txn a w who b i e f g n = (a, w ∷ who ∷ h.1, h.2 ∙ ap (λ x. x ++ h.1) e, txn_gives s a w who b i d.times h.1 f g n h.4 few)
+
+    plain : (a : Actor) (w : List ℕ) (c : Choice) → h.0 ≡ actor_word a ∷ w ∷ [] → action_of a w ≡ Some (Plain c) → Line s ws d.times c
+    plain a w c e f = (a, w ∷ h.1, h.2 ∙ ap (λ x. x ++ h.1) e, plain_gives s a w c d.times h.1 f h.4 few)
+
+    plain_at : (n : Node) (w : List ℕ) (c : Choice) → h.0 ≡ node_text n ∷ w ∷ [] → node_action n w ≡ Some (Plain c) → Line s ws d.times c
+    plain_at n w c e f = plain (actor_at n) w c (e ∙ ap (λ v. v ∷ w ∷ []) (sym (node_word n))) (at_node n w ∙ f)
+
+    by : (x : Choice) → SpellsChoice x h.0 → names_below (length s.programs) x ≡ true → Line s ws d.times x
+    by choice.Start g n = plain actor.C (codes "start") choice.Start g refl
+    by (choice.Begin t) g n = of_txn actor.C (codes "begin") g.0 Begin t g.1 refl g.2 n
+    by (choice.Kill t) g n = of_txn actor.C (codes "kill") g.0 Kill t g.1 refl g.2 n
+    by (choice.Run node t) g n =
+        of_txn (actor_at node) (codes "run") g.0 (Run node) t (g.1 ∙ ap (λ v. v ∷ codes "run" ∷ g.0 ∷ []) (sym (node_word node))) (at_node node (codes "run")) g.2 n
+    by (choice.Take node) g n = plain_at node (codes "take") (choice.Take node) g refl
+    by (choice.Finish node) g n = plain_at node (codes "finish") (choice.Finish node) g refl
+    by (choice.Push node) g n = plain_at node (codes "push") (choice.Push node) g refl
 
 -- ---- rows
 

@@ -6,7 +6,7 @@ use Rattle.std.proofs.Math.Nat.{div-mul-le_self}
 use Rattle.std.specs.Prelude.{replicate}
 use Rattle.zy_isa.specs.declared.rule.Rule.{Rule}
 use Rattle.zy_isa.specs.declared.rule.Rule.TheVariants.{Held}
-use Rattle.zy_isa.specs.declared.node.Node.TheVariants as node
+use Rattle.zy_isa.specs.declared.node.Node.{Node}
 use Rattle.zy_isa.specs.declared.row.Row.{Row}
 use Rattle.zy_isa.specs.declared.instr.Instr.{Instr}
 use Rattle.zy_isa.specs.declared.node.Actor.{Actor}
@@ -14,9 +14,10 @@ use Rattle.zy_isa.specs.declared.node.Actor.TheVariants as actor
 use Rattle.zy_isa.specs.declared.choice.Choice.{Choice}
 use Rattle.zy_isa.specs.declared.choice.Choice.TheVariants as choice
 use Rattle.zy_isa.specs.Words.{words_of, lines_of, has_words, lines_with_words}
+use Rattle.zy_isa.specs.Canon.{node_text}
 use Rattle.zy_isa.specs.Rows.{Rising, RowsFit}
 use Rattle.zy_isa.specs.Programs.{prog_fault, IsProgram, Values}
-use Rattle.zy_isa.specs.Choices.{names_below}
+use Rattle.zy_isa.specs.Choices.{names_below, actor_at}
 use Rattle.zy_isa.specs.Scenario.{Scenario, IsScenario, ArePrograms, AreNamed, opening_pages_for, opening_rows}
 use Rattle.zy_isa.specs.Text as m
 use Rattle.zy_isa.specs.Text.{Times, Statement, Spells, SpellEach, SpellsChoice, SpellsTimes, program_statements, repeated, statements, Means}
@@ -29,8 +30,8 @@ use Rattle.zy_asm.specs.declared.state.Reader.{Reader}
 use Rattle.zy_asm.specs.Steps.{◌>>=◌}
 use Rattle.zy_asm.specs.Reading.{Seen, seen, is_low, last_row, choice_line, step, line_step, at_line, read_lines, reading, finish, nothing_seen}
 use Rattle.zy_asm.proofs.Bind.{bind_ok, not_below, over_not}
-use Rattle.zy_asm.proofs.SpellLemmas.{actor_word}
-use Rattle.zy_asm.proofs.FoundLemmas.{at, fold_lines, found_text, FoundText, shows}
+use Rattle.zy_asm.proofs.SpellLemmas.{actor_word, node_word}
+use Rattle.zy_asm.proofs.FoundLemmas.{at, fold_lines, choice_same, found_text, FoundText, shows}
 use Rattle.zy_asm.proofs.GivesLemmas.{number_in_gives, program_line_gives, choice_gives, row_gives}
 use Rattle.zy_asm.proofs.CodeLemmas.{own_gives}
 use borrow.Author.Tests.{tests}
@@ -106,24 +107,30 @@ no_prog_fault p h = rw (some_test (length p) h.some, over_not (length p) 64 h.fe
 
 -- ---- a program is closed by the line below it
 
-choice_shape : (x : Choice) (front : List (List ℕ)) → SpellsChoice x front → (a : Actor) × (w : List ℕ) × (who : List ℕ) × (front ≡ actor_word a ∷ w ∷ who ∷ [])
-choice_shape (choice.Begin t) front g = (actor.C, codes "begin", g.0, g.1)
-choice_shape (choice.Kill t) front g = (actor.C, codes "kill", g.0, g.1)
-choice_shape (choice.Run node.A t) front g = (actor.A, codes "run", g.0, g.1)
-choice_shape (choice.Run node.B t) front g = (actor.B, codes "run", g.0, g.1)
+at_node : (n : Node) (rest front : List (List ℕ)) → front ≡ node_text n ∷ rest → (a : Actor) × (ws : List (List ℕ)) × (front ≡ actor_word a ∷ ws)
+at_node n rest front e = (actor_at n, rest, e ∙ ap (λ w. w ∷ rest) (sym (node_word n)))
 
-closed_by : (a : Actor) (w who : List ℕ) (times : List (List ℕ)) (c p : ℕ) (R : List Row) (P : List (List Instr)) (I : List Instr) → prog_fault I ≡ None
-    → step (at stage.Program c p R P I []) (actor_word a ∷ w ∷ who ∷ times) ≡ step (at stage.Rows c p R (P ++ I ∷ []) [] []) (actor_word a ∷ w ∷ who ∷ times)
-closed_by actor.C w who times c p R P I e = rw e refl
-closed_by actor.A w who times c p R P I e = rw e refl
-closed_by actor.B w who times c p R P I e = rw e refl
+choice_shape : (x : Choice) (front : List (List ℕ)) → SpellsChoice x front → (a : Actor) × (rest : List (List ℕ)) × (front ≡ actor_word a ∷ rest)
+choice_shape choice.Start front g = (actor.C, codes "start" ∷ [], g)
+choice_shape (choice.Begin t) front g = (actor.C, codes "begin" ∷ g.0 ∷ [], g.1)
+choice_shape (choice.Kill t) front g = (actor.C, codes "kill" ∷ g.0 ∷ [], g.1)
+choice_shape (choice.Run n t) front g = at_node n (codes "run" ∷ g.0 ∷ []) front g.1
+choice_shape (choice.Take n) front g = at_node n (codes "take" ∷ []) front g
+choice_shape (choice.Finish n) front g = at_node n (codes "finish" ∷ []) front g
+choice_shape (choice.Push n) front g = at_node n (codes "push" ∷ []) front g
+
+closed_by : (a : Actor) (ws : List (List ℕ)) (c p : ℕ) (R : List Row) (P : List (List Instr)) (I : List Instr) → prog_fault I ≡ None
+    → step (at stage.Program c p R P I []) (actor_word a ∷ ws) ≡ step (at stage.Rows c p R (P ++ I ∷ []) [] []) (actor_word a ∷ ws)
+closed_by actor.C ws c p R P I e = rw e (choice_same c p R (P ++ I ∷ []) actor.C ws)
+closed_by actor.A ws c p R P I e = rw e (choice_same c p R (P ++ I ∷ []) actor.A ws)
+closed_by actor.B ws c p R P I e = rw e (choice_same c p R (P ++ I ∷ []) actor.B ws)
 
 closed_by_choice : (d : Times) (l : List (List ℕ)) (c p : ℕ) (R : List Row) (P : List (List Instr)) (I : List Instr) → Spells (m.choice d) l → prog_fault I ≡ None
     → step (at stage.Program c p R P I []) l ≡ step (at stage.Rows c p R (P ++ I ∷ []) [] []) l
 closed_by_choice d l c p R P I h e =
     let x = choice_shape d.choice h.0 h.3 in
-    let q : l ≡ actor_word x.0 ∷ x.1 ∷ x.2 ∷ h.1 = h.2 ∙ ap (λ f. f ++ h.1) x.3 in
-    ap (step (at stage.Program c p R P I [])) q ∙ closed_by x.0 x.1 x.2 h.1 c p R P I e ∙ ap (step (at stage.Rows c p R (P ++ I ∷ []) [] [])) (sym q)
+    let q : l ≡ actor_word x.0 ∷ (x.1 ++ h.1) = h.2 ∙ ap (λ f. f ++ h.1) x.2 in
+    ap (step (at stage.Program c p R P I [])) q ∙ closed_by x.0 (x.1 ++ h.1) c p R P I e ∙ ap (step (at stage.Rows c p R (P ++ I ∷ []) [] [])) (sym q)
 
 only_close : (ps : List (List Instr)) (cs : List Times) (k : ℕ) (ls : List (List (List ℕ))) (c p : ℕ) (R : List Row) (P : List (List Instr)) (I : List Instr)
     → SpellEach (program_statements k ps ++ choice_statements cs) ls → prog_fault I ≡ None

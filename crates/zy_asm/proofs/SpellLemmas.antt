@@ -1,7 +1,8 @@
 -- What a line that is read spells.
-use Rattle.std.proofs.Common.{◌≡◌, ℕ, ◌+◌, ◌≤◌, true, ◌||◌, ◌==◌, if◌then◌else◌, nat_lt, List, [], ◌∷◌, ◌++◌, length, codes, Result, Ok, Err, Some, None, refl, sym, ap, ◌∙◌, inl, inr, ◌⊎◌, arith, ok_or}
+use Rattle.std.proofs.Common.{◌≡◌, ℕ, ◌+◌, ◌≤◌, true, ◌||◌, ◌==◌, nat_lt, List, [], ◌∷◌, ◌++◌, length, codes, Result, Ok, Err, Some, None, refl, sym, ap, ◌∙◌, subst, inl, inr, arith, ok_or}
 use Rattle.std.specs.Prelude.{replicate}
 use Rattle.std.specs.Str.{bytes_eq}
+use Rattle.zy_isa.specs.declared.node.Node.{Node}
 use Rattle.zy_isa.specs.declared.node.Node.TheVariants as node
 use Rattle.zy_isa.specs.declared.node.Actor.{Actor}
 use Rattle.zy_isa.specs.declared.node.Actor.TheVariants as actor
@@ -10,9 +11,11 @@ use Rattle.zy_isa.specs.declared.instr.Reg.{Reg}
 use Rattle.zy_isa.specs.declared.instr.Reg.TheVariants.{R0, R1, R2, R3, R4, R5, R6, R7}
 use Rattle.zy_isa.specs.declared.instr.Instr.{Instr}
 use Rattle.zy_isa.specs.declared.instr.Instr.TheVariants.{Set, Read, Write, Insert, Add, Beq, Commit, Abort}
+use Rattle.zy_isa.specs.declared.choice.Choice.{Choice}
+use Rattle.zy_isa.specs.declared.choice.Choice.TheVariants as choice
 use Rattle.zy_isa.specs.Words.{number_of}
-use Rattle.zy_isa.specs.Canon.{reg_text}
-use Rattle.zy_isa.specs.Choices.{names_below}
+use Rattle.zy_isa.specs.Canon.{reg_text, node_text}
+use Rattle.zy_isa.specs.Choices.{names_below, actor_at}
 use Rattle.zy_isa.specs.Text as m
 use Rattle.zy_isa.specs.Text.{Times, Spells, SpellsInstr, SpellsChoice, SpellsTimes}
 use Rattle.zy_asm.specs.declared.faults.AsmKind.{AsmKind}
@@ -20,14 +23,16 @@ use Rattle.zy_asm.specs.declared.faults.AsmKind.TheVariants as kinds
 use Rattle.zy_asm.specs.declared.instructions.Operation.{Operation}
 use Rattle.zy_asm.specs.declared.instructions.Operation.TheVariants as op
 use Rattle.zy_asm.specs.declared.choices.Action.{Action}
-use Rattle.zy_asm.specs.declared.choices.Action.TheVariants.{Begin, Kill, Run}
+use Rattle.zy_asm.specs.declared.choices.Action.TheVariants.{Txn, Plain}
+use Rattle.zy_asm.specs.declared.choices.TxnAction.{TxnAction}
+use Rattle.zy_asm.specs.declared.choices.TxnAction.TheVariants.{Begin, Kill, Run}
 use Rattle.zy_asm.specs.declared.reading.Keyword.{Keyword}
 use Rattle.zy_asm.specs.declared.reading.Keyword.TheVariants as k
 use Rattle.zy_asm.specs.declared.state.Stage.TheVariants as stage
 use Rattle.zy_asm.specs.Steps.{number_in}
 use Rattle.zy_asm.specs.Instructions.{operation_of, register_of, two, pair_of, target_of, set_of, beq_of, alone, instr_of}
-use Rattle.zy_asm.specs.Choices.{actor_of, action_of, chosen, transaction, are_times, times_of}
-use Rattle.zy_asm.specs.Reading.{Seen, keyword_of, row_of, choice_line, own_number}
+use Rattle.zy_asm.specs.Choices.{actor_of, client_action, node_action, action_of, chosen, transaction, are_times, times_of}
+use Rattle.zy_asm.specs.Reading.{Seen, keyword_of, row_of, repeat_choice, repeat_line, action_line, choice_line, own_number}
 use Rattle.zy_asm.proofs.Bind.{bind_ok, if_ok, if_err, ok_or_ok, chosen_by, first_or, in_range, not_over, same}
 use borrow.Author.Tests.{eqb-true}
 
@@ -285,31 +290,63 @@ own_ok count w n h =
 
 -- ---- choices
 
-begin_or_kill : (w : List ℕ) (a : Action) → action_of actor.C w ≡ Some a → ((w ≡ codes "begin") × (a ≡ Begin)) ⊎ ((w ≡ codes "kill") × (a ≡ Kill))
-begin_or_kill w a h =
-    elim (chosen_by (bytes_eq w (codes "begin")) _ _ _ h) [
-      | inl x ↦ inl (same w (codes "begin") x.0, (let q = x.1 in cc))
-      | inr x ↦
-          elim (chosen_by (bytes_eq w (codes "kill")) _ _ _ x.1) [ inl y ↦ inr (same w (codes "kill") y.0, (let q = y.1 in cc)) | inr y ↦ absurd (nothing a y.1) ]
+-- a node's letter as the first word of its lines
+pub node_word : (n : Node) → actor_word (actor_at n) ≡ node_text n
+node_word node.A = refl
+node_word node.B = refl
+
+-- an action that this word names
+abbrev SpellsAction : Actor → List ℕ → Action → Type 0
+SpellsAction a w (Txn x) = (who : List ℕ) (i : ℕ) → number_of who ≡ Some i → SpellsChoice (chosen x i) (actor_word a ∷ w ∷ who ∷ [])
+SpellsAction a w (Plain c) = SpellsChoice c (actor_word a ∷ w ∷ []) × ((count : ℕ) → names_below count c ≡ true)
+
+this_action : (a : Actor) (w v : List ℕ) (x y : Action) → SpellsAction a v x → bytes_eq w v ≡ true → Some x ≡ Some y → SpellsAction a w y
+this_action a w v x y s e h = let q : x ≡ y = cc in subst (SpellsAction a w) q (subst (λ u. SpellsAction a u x) (sym (same w v e)) s)
+
+client_ok : (w : List ℕ) (x : Action) → client_action w ≡ Some x → SpellsAction actor.C w x
+client_ok w x h =
+    elim (chosen_by (bytes_eq w (codes "start")) _ _ _ h) [
+      | inl a ↦ this_action actor.C w (codes "start") (Plain choice.Start) x (refl, λ count. refl) a.0 a.1
+      | inr a ↦
+          elim (chosen_by (bytes_eq w (codes "begin")) _ _ _ a.1) [
+            | inl b ↦ this_action actor.C w (codes "begin") (Txn Begin) x (λ who i n. (who, refl, n)) b.0 b.1
+            | inr b ↦
+                elim (chosen_by (bytes_eq w (codes "kill")) _ _ _ b.1) [ inl d ↦ this_action actor.C w (codes "kill") (Txn Kill) x (λ who i n. (who, refl, n)) d.0 d.1 | inr d ↦ absurd (nothing x d.1) ]
+          ]
     ]
 
-run_only : (w : List ℕ) (a b : Action) → (if bytes_eq w (codes "run") then Some b else None) ≡ Some a → (w ≡ codes "run") × (a ≡ b)
-run_only w a b h =
-    elim (chosen_by (bytes_eq w (codes "run")) _ _ _ h) [ inl x ↦ (same w (codes "run") x.0, (let q = x.1 in cc)) | inr x ↦ absurd (nothing a x.1) ]
-
-action_ok : (actor : Actor) (w who : List ℕ) (a : Action) (i : ℕ) → action_of actor w ≡ Some a → number_of who ≡ Some i → SpellsChoice (chosen a i) (actor_word actor ∷ w ∷ who ∷ [])
-action_ok actor.C w who a i h n =
-    elim (begin_or_kill w a h) [
-      | inl x ↦ rw x.1 (who, ap (λ v. codes "C" ∷ v ∷ who ∷ []) x.0, n)
-      | inr x ↦ rw x.1 (who, ap (λ v. codes "C" ∷ v ∷ who ∷ []) x.0, n)
+node_ok : (n : Node) (w : List ℕ) (x : Action) → node_action n w ≡ Some x → SpellsAction (actor_at n) w x
+node_ok n w x h =
+    elim (chosen_by (bytes_eq w (codes "run")) _ _ _ h) [
+      | inl a ↦ this_action (actor_at n) w (codes "run") (Txn (Run n)) x (λ who i k. (who, ap (λ v. v ∷ codes "run" ∷ who ∷ []) (node_word n), k)) a.0 a.1
+      | inr a ↦
+          elim (chosen_by (bytes_eq w (codes "take")) _ _ _ a.1) [
+            | inl b ↦ this_action (actor_at n) w (codes "take") (Plain (choice.Take n)) x (ap (λ v. v ∷ codes "take" ∷ []) (node_word n), λ count. refl) b.0 b.1
+            | inr b ↦
+                elim (chosen_by (bytes_eq w (codes "finish")) _ _ _ b.1) [
+                  | inl d ↦ this_action (actor_at n) w (codes "finish") (Plain (choice.Finish n)) x (ap (λ v. v ∷ codes "finish" ∷ []) (node_word n), λ count. refl) d.0 d.1
+                  | inr d ↦
+                      elim (chosen_by (bytes_eq w (codes "push")) _ _ _ d.1) [ inl e ↦ this_action (actor_at n) w (codes "push") (Plain (choice.Push n)) x (ap (λ v. v ∷ codes "push" ∷ []) (node_word n), λ count. refl) e.0 e.1 | inr e ↦ absurd (nothing x e.1) ]
+                ]
+          ]
     ]
-action_ok actor.A w who a i h n = let x = run_only w a (Run node.A) h in rw x.1 (who, ap (λ v. codes "A" ∷ v ∷ who ∷ []) x.0, n)
-action_ok actor.B w who a i h n = let x = run_only w a (Run node.B) h in rw x.1 (who, ap (λ v. codes "B" ∷ v ∷ who ∷ []) x.0, n)
 
-pub names_chosen : (count i : ℕ) (a : Action) → names_below count (chosen a i) ≡ nat_lt i count
+action_ok : (a : Actor) (w : List ℕ) (x : Action) → action_of a w ≡ Some x → SpellsAction a w x
+action_ok actor.C w x h = client_ok w x h
+action_ok actor.A w x h = node_ok node.A w x h
+action_ok actor.B w x h = node_ok node.B w x h
+
+names_chosen : (count i : ℕ) (a : TxnAction) → names_below count (chosen a i) ≡ nat_lt i count
 names_chosen count i Begin = refl
 names_chosen count i Kill = refl
 names_chosen count i (Run n) = refl
+
+transaction_ok : (count : ℕ) (w : List ℕ) (i : ℕ) → transaction count w ≡ Ok i → (number_of w ≡ Some i) × (nat_lt i count ≡ true)
+transaction_ok count w i h =
+    let p = bind_ok (ok_or (number_of w) kinds.Number) _ i h in
+    let q = if_ok (nat_lt p.0 count) (Ok p.0) kinds.Label i p.2 in
+    let e : p.0 ≡ i = cc (q.1) in
+    (ok_or_ok (number_of w) kinds.Number p.0 p.1 ∙ ap Some e, ap (λ x. nat_lt x count) (sym e) ∙ q.0)
 
 times_ok : (ws : List (List ℕ)) (n : ℕ) → are_times ws ≡ true → times_of ws ≡ Ok n → SpellsTimes n ws
 times_ok [] n e h = inl (refl, cc)
@@ -325,22 +362,32 @@ pub record Chose (s : Seen) (a : Actor) (ws : List (List ℕ)) (t : Seen) : Type
   pub few : length s.choices + made.times ≤ 4096
   pub after : t ≡ record s { stage = stage.Choices; choices = s.choices ++ replicate made.times made.choice }
 
-pub choice_ok : (s t : Seen) (a : Actor) (ws : List (List ℕ)) → choice_line s a ws ≡ Ok t → Chose s a ws t
-choice_ok s t a [] h = cc
-choice_ok s t a (w ∷ []) h = cc
-choice_ok s t a (w ∷ who ∷ times) h =
-    let p = if_ok (are_times times) _ kinds.Word t h in
-    let b = bind_ok (ok_or (action_of a w) kinds.Word) _ t p.1 in
-    let i = bind_ok (transaction (length s.programs) who) _ t b.2 in
-    let n = bind_ok (times_of times) _ t i.2 in
+repeat_ok : (s t : Seen) (a : Actor) (front times : List (List ℕ)) (c : Choice) → SpellsChoice c (actor_word a ∷ front) → names_below (length s.programs) c ≡ true
+    → are_times times ≡ true → repeat_line s c times ≡ Ok t → Chose s a (front ++ times) t
+repeat_ok s t a front times c spelled named are h =
+    let n = bind_ok (times_of times) (repeat_choice s c) t h in
     let f = if_err (nat_lt 4096 (length s.choices + n.0)) _ kinds.Count t n.2 in
-    let j = bind_ok (ok_or (number_of who) kinds.Number) _ i.0 i.1 in
-    let l = if_ok (nat_lt j.0 (length s.programs)) (Ok j.0) kinds.Label i.0 j.2 in
-    let e : j.0 ≡ i.0 = cc (l.1) in
     record {
-      made = record { choice = chosen b.0 i.0; times = n.0 };
-      spelled = (actor_word a ∷ w ∷ who ∷ [], times, refl, action_ok a w who b.0 i.0 (ok_or_ok (action_of a w) kinds.Word b.0 b.1) (ok_or_ok (number_of who) kinds.Number j.0 j.1 ∙ ap Some e), times_ok times n.0 p.0 n.1);
-      named = names_chosen (length s.programs) i.0 b.0 ∙ ap (λ x. nat_lt x (length s.programs)) (sym e) ∙ l.0;
+      made = record { choice = c; times = n.0 };
+      spelled = (actor_word a ∷ front, times, refl, spelled, times_ok times n.0 are n.1);
+      named = named;
       few = not_over (length s.choices + n.0) 4096 f.0;
       after = cc (f.1);
     }
+
+action_line_ok : (s t : Seen) (a : Actor) (w : List ℕ) (x : Action) (ws : List (List ℕ)) → SpellsAction a w x → action_line s x ws ≡ Ok t → Chose s a (w ∷ ws) t
+action_line_ok s t a w (Txn x) [] spelled h = cc
+action_line_ok s t a w (Txn x) (who ∷ times) spelled h =
+    let p = if_ok (are_times times) _ kinds.Word t h in
+    let i = bind_ok (transaction (length s.programs) who) _ t p.1 in
+    let j = transaction_ok (length s.programs) who i.0 i.1 in
+    repeat_ok s t a (w ∷ who ∷ []) times (chosen x i.0) (spelled who i.0 j.0) (names_chosen (length s.programs) i.0 x ∙ j.1) p.0 i.2
+action_line_ok s t a w (Plain c) times spelled h =
+    let p = if_ok (are_times times) _ kinds.Word t h in
+    repeat_ok s t a (w ∷ []) times c spelled.0 (spelled.1 (length s.programs)) p.0 p.1
+
+pub choice_ok : (s t : Seen) (a : Actor) (ws : List (List ℕ)) → choice_line s a ws ≡ Ok t → Chose s a ws t
+choice_ok s t a [] h = cc
+choice_ok s t a (w ∷ ws) h =
+    let x = bind_ok (ok_or (action_of a w) kinds.Word) _ t h in
+    action_line_ok s t a w x.0 ws (action_ok a w x.0 (ok_or_ok (action_of a w) kinds.Word x.0 x.1)) x.2

@@ -1,6 +1,7 @@
 -- The choice that the words of a line spell, and the fault where they spell none.
 use Rattle.std.specs.Prelude.{ℕ, List, [], ◌∷◌, codes, nat_lt, Bool, true, false, Option, Some, None, Result, Ok, Err, ok_or, if◌then◌else◌}
 use Rattle.std.specs.Str.{bytes_eq}
+use Rattle.zy_isa.specs.declared.node.Node.{Node}
 use Rattle.zy_isa.specs.declared.node.Node.TheVariants as node
 use Rattle.zy_isa.specs.declared.node.Actor.{Actor}
 use Rattle.zy_isa.specs.declared.node.Actor.TheVariants as actor
@@ -10,7 +11,9 @@ use Rattle.zy_isa.specs.Words.{number_of}
 use Rattle.zy_asm.specs.declared.faults.AsmKind.{AsmKind}
 use Rattle.zy_asm.specs.declared.faults.AsmKind.TheVariants as kinds
 use Rattle.zy_asm.specs.declared.choices.Action.{Action}
-use Rattle.zy_asm.specs.declared.choices.Action.TheVariants.{Begin, Kill, Run}
+use Rattle.zy_asm.specs.declared.choices.Action.TheVariants.{Txn, Plain}
+use Rattle.zy_asm.specs.declared.choices.TxnAction.{TxnAction}
+use Rattle.zy_asm.specs.declared.choices.TxnAction.TheVariants.{Begin, Kill, Run}
 use Rattle.zy_asm.specs.Steps.{◌>>=◌, number_in}
 
 abbrev pub actor_of : List ℕ → Option Actor
@@ -20,15 +23,27 @@ actor_of w =
     if bytes_eq w (codes "B") then Some actor.B else
     None
 
-abbrev pub action_of : Actor → List ℕ → Option Action
-action_of actor.C w =
-    if bytes_eq w (codes "begin") then Some Begin else
-    if bytes_eq w (codes "kill") then Some Kill else
+abbrev pub client_action : List ℕ → Option Action
+client_action w =
+    if bytes_eq w (codes "start") then Some (Plain choice.Start) else
+    if bytes_eq w (codes "begin") then Some (Txn Begin) else
+    if bytes_eq w (codes "kill") then Some (Txn Kill) else
     None
-action_of actor.A w = if bytes_eq w (codes "run") then Some (Run node.A) else None
-action_of actor.B w = if bytes_eq w (codes "run") then Some (Run node.B) else None
 
-abbrev pub chosen : Action → ℕ → Choice
+abbrev pub node_action : Node → List ℕ → Option Action
+node_action n w =
+    if bytes_eq w (codes "run") then Some (Txn (Run n)) else
+    if bytes_eq w (codes "take") then Some (Plain (choice.Take n)) else
+    if bytes_eq w (codes "finish") then Some (Plain (choice.Finish n)) else
+    if bytes_eq w (codes "push") then Some (Plain (choice.Push n)) else
+    None
+
+abbrev pub action_of : Actor → List ℕ → Option Action
+action_of actor.C w = client_action w
+action_of actor.A w = node_action node.A w
+action_of actor.B w = node_action node.B w
+
+abbrev pub chosen : TxnAction → ℕ → Choice
 chosen Begin t = choice.Begin t
 chosen Kill t = choice.Kill t
 chosen (Run n) t = choice.Run n t

@@ -13,6 +13,9 @@ use Rattle.zy_isa.specs.Scenario.{opening_pages_for}
 use Rattle.zy_asm.specs.declared.faults.AsmKind.{AsmKind}
 use Rattle.zy_asm.specs.declared.faults.AsmKind.TheVariants as kinds
 use Rattle.zy_asm.specs.declared.faults.AsmFault.{AsmFault}
+use Rattle.zy_asm.specs.declared.choices.Action.{Action}
+use Rattle.zy_asm.specs.declared.choices.Action.TheVariants.{Txn, Plain}
+use Rattle.zy_asm.specs.declared.choices.TxnAction.{TxnAction}
 use Rattle.zy_asm.specs.declared.instructions.Operation.{Operation}
 use Rattle.zy_asm.specs.declared.reading.Keyword.{Keyword}
 use Rattle.zy_asm.specs.declared.reading.Keyword.TheVariants as k
@@ -139,13 +142,30 @@ txn_at _ s ws = closed s >>= λ u. open_line u ws
 abbrev pub repeat_choice : Seen → Choice → ℕ → Result Seen AsmKind
 repeat_choice s c n = if nat_lt 4096 (length s.choices + n) then Err kinds.Count else Ok (record s { stage = Choices; choices = s.choices ++ replicate n c })
 
-abbrev pub choice_line : Seen → Actor → List (List ℕ) → Result Seen AsmKind
-choice_line s a (w ∷ t ∷ times) = if are_times times then (do
-  action ← ok_or (action_of a w) kinds.Word
+-- a choice, as often as the words behind it say
+abbrev pub repeat_line : Seen → Choice → List (List ℕ) → Result Seen AsmKind
+repeat_line s c times = times_of times >>= repeat_choice s c
+
+-- a choice that names no transaction
+abbrev pub plain_line : Seen → Choice → List (List ℕ) → Result Seen AsmKind
+plain_line s c times = if are_times times then repeat_line s c times else Err kinds.Word
+
+-- a transaction's action, with its number behind it
+abbrev pub txn_action_line : Seen → TxnAction → List (List ℕ) → Result Seen AsmKind
+txn_action_line s a (t ∷ times) = if are_times times then (do
   i ← transaction (length s.programs) t
-  n ← times_of times
-  repeat_choice s (chosen action i) n) else Err kinds.Word
-choice_line s a _ = Err kinds.Word
+  repeat_line s (chosen a i) times) else Err kinds.Word
+txn_action_line s a [] = Err kinds.Word
+
+abbrev pub action_line : Seen → Action → List (List ℕ) → Result Seen AsmKind
+action_line s (Txn a) ws = txn_action_line s a ws
+action_line s (Plain c) ws = plain_line s c ws
+
+abbrev pub choice_line : Seen → Actor → List (List ℕ) → Result Seen AsmKind
+choice_line s a (w ∷ ws) = do
+  action ← ok_or (action_of a w) kinds.Word
+  action_line s action ws
+choice_line s a [] = Err kinds.Word
 
 abbrev pub end_line : Seen → List (List ℕ) → Result Seen AsmKind
 end_line s [] = Ok (record s { stage = Done })

@@ -1,7 +1,7 @@
 //! The choice of a line, and how often it is made.
 ghost use Rattle.std.specs.Prelude.{◌≡◌, ◌≤◌, IfOk};
 ghost use Rattle.zy_asm.specs.Steps.{texts};
-ghost use Rattle.zy_asm.specs.Choices.{actor_of as actor_of_lem, action_of as action_of_lem, chosen as chosen_lem, are_times as are_times_lem, times_of as times_of_lem, transaction as transaction_lem};
+ghost use Rattle.zy_asm.specs.Choices.{actor_of as actor_of_lem, client_action as client_action_lem, node_action as node_action_lem, action_of as action_of_lem, chosen as chosen_lem, are_times as are_times_lem, times_of as times_of_lem, transaction as transaction_lem};
 
 use crate::faults::AsmKind;
 use crate::words::{is, number_in, number_of};
@@ -10,10 +10,19 @@ use zy_isa::node::{Actor, Node};
 
 /// What is done with a transaction.
 #[derive(Clone, Copy, Debug, PartialEq, Eq)]
-pub enum Action {
+pub enum TxnAction {
     Begin,
     Kill,
     Run(Node),
+}
+
+/// What an actor does.
+#[derive(Clone, Copy, Debug, PartialEq, Eq)]
+pub enum Action {
+    /// Something with the transaction that the next word names.
+    Txn(TxnAction),
+    /// A choice that names no transaction.
+    Plain(Choice),
 }
 
 /// The actor that a word names.
@@ -31,33 +40,57 @@ pub fn actor_of(word: &[u8]) -> Option<Actor>
     }
 }
 
+/// The action of the client that a word names.
+fn client_action(word: &[u8]) -> Option<Action>
+    ensures { result ≡ client_action_lem word.now }
+{
+    if is(word, b"start") {
+        Some(Action::Plain(Choice::Start))
+    } else if is(word, b"begin") {
+        Some(Action::Txn(TxnAction::Begin))
+    } else if is(word, b"kill") {
+        Some(Action::Txn(TxnAction::Kill))
+    } else {
+        None
+    }
+}
+
+/// The action of this node that a word names.
+fn node_action(node: Node, word: &[u8]) -> Option<Action>
+    ensures { result ≡ node_action_lem node word.now }
+{
+    if is(word, b"run") {
+        Some(Action::Txn(TxnAction::Run(node)))
+    } else if is(word, b"take") {
+        Some(Action::Plain(Choice::Take(node)))
+    } else if is(word, b"finish") {
+        Some(Action::Plain(Choice::Finish(node)))
+    } else if is(word, b"push") {
+        Some(Action::Plain(Choice::Push(node)))
+    } else {
+        None
+    }
+}
+
 /// The action of this actor that a word names.
 pub fn action_of(actor: Actor, word: &[u8]) -> Option<Action>
     ensures { result ≡ action_of_lem actor word.now }
 {
     match actor {
-        Actor::C => {
-            if is(word, b"begin") {
-                Some(Action::Begin)
-            } else if is(word, b"kill") {
-                Some(Action::Kill)
-            } else {
-                None
-            }
-        }
-        Actor::A => is(word, b"run").then_some(Action::Run(Node::A)),
-        Actor::B => is(word, b"run").then_some(Action::Run(Node::B)),
+        Actor::C => client_action(word),
+        Actor::A => node_action(Node::A, word),
+        Actor::B => node_action(Node::B, word),
     }
 }
 
 /// The action with this transaction.
-pub fn chosen(action: Action, t: u8) -> Choice
+pub fn chosen(action: TxnAction, t: u8) -> Choice
     ensures { result ≡ chosen_lem action t }
 {
     match action {
-        Action::Begin => Choice::Begin(t),
-        Action::Kill => Choice::Kill(t),
-        Action::Run(node) => Choice::Run(node, t),
+        TxnAction::Begin => Choice::Begin(t),
+        TxnAction::Kill => Choice::Kill(t),
+        TxnAction::Run(node) => Choice::Run(node, t),
     }
 }
 

@@ -1,10 +1,12 @@
 //! Reads a text line by line.
 ghost use Rattle.std.specs.Prelude.{◌≡◌, ◌≤◌, ◌<◌, length, IfOk};
 ghost use Rattle.zy_asm.specs.Steps.{texts};
-ghost use Rattle.zy_asm.specs.Reading.{Steps, Gives, Reads, seen, keyword_of as keyword_of_lem, are_two as are_two_lem, headed as headed_lem, zephyr_line, cap_line, pages_line, rule_line, row_of as row_of_lem, add_row, row_at, instr_line, instr_at, judged, closed, own_number as own_number_lem, open_line, txn_at, repeat_choice, choice_line, end_line, statement, body_line, step, ended as ended_lem, reading};
+ghost use Rattle.zy_asm.specs.Reading.{Steps, Gives, Reads, seen, keyword_of as keyword_of_lem, are_two as are_two_lem, headed as headed_lem, zephyr_line, cap_line, pages_line, rule_line, row_of as row_of_lem, add_row, row_at, instr_line, instr_at, judged, closed, own_number as own_number_lem, open_line, txn_at, repeat_choice, repeat_line, plain_line, txn_action_line, choice_line, end_line, statement, body_line, step, ended as ended_lem, reading};
 ghost use Rattle.zy_isa.specs.Programs.{prog_fault};
 
-use crate::choices::{action_of, actor_of, are_times, chosen, times_of, transaction};
+use crate::choices::{
+    Action, TxnAction, action_of, actor_of, are_times, chosen, times_of, transaction,
+};
 use crate::faults::{AsmFault, AsmKind};
 use crate::instructions::{Operation, instr_of, operation_of};
 use crate::state::{Reader, Stage};
@@ -238,20 +240,47 @@ impl Reader {
         Ok(())
     }
 
-    fn choice_line(&mut self, actor: Actor, words: &[&[u8]]) -> Result<(), AsmKind>
-        ensures { Steps result (seen self.new) (choice_line (seen self.old) actor (texts words.now)) }
+    /// Makes a choice as often as the words behind it say.
+    fn repeat_line(&mut self, choice: Choice, times: &[&[u8]]) -> Result<(), AsmKind>
+        ensures { Steps result (seen self.new) (repeat_line (seen self.old) choice (texts times.now)) }
+    {
+        let times = times_of(times)?;
+        self.repeat_choice(choice, times)
+    }
+
+    fn plain_line(&mut self, choice: Choice, times: &[&[u8]]) -> Result<(), AsmKind>
+        ensures { Steps result (seen self.new) (plain_line (seen self.old) choice (texts times.now)) }
+    {
+        if !are_times(times) {
+            return Err(AsmKind::Word);
+        }
+        self.repeat_line(choice, times)
+    }
+
+    fn txn_action_line(&mut self, action: TxnAction, words: &[&[u8]]) -> Result<(), AsmKind>
+        ensures { Steps result (seen self.new) (txn_action_line (seen self.old) action (texts words.now)) }
     {
         match words {
-            [action, t, times @ ..] => {
+            [t, times @ ..] => {
                 if !are_times(times) {
                     return Err(AsmKind::Word);
                 }
-                let action = action_of(actor, action).ok_or(AsmKind::Word)?;
                 let t = transaction(self.programs.len(), t)?;
-                let times = times_of(times)?;
-                self.repeat_choice(chosen(action, t), times)
+                self.repeat_line(chosen(action, t), times)
             }
-            _ => Err(AsmKind::Word),
+            [] => Err(AsmKind::Word),
+        }
+    }
+
+    fn choice_line(&mut self, actor: Actor, words: &[&[u8]]) -> Result<(), AsmKind>
+        ensures { Steps result (seen self.new) (choice_line (seen self.old) actor (texts words.now)) }
+    {
+        let Some((action, rest)) = words.split_first() else {
+            return Err(AsmKind::Word);
+        };
+        match action_of(actor, action).ok_or(AsmKind::Word)? {
+            Action::Txn(action) => self.txn_action_line(action, rest),
+            Action::Plain(choice) => self.plain_line(choice, rest),
         }
     }
 

@@ -119,6 +119,46 @@ fn tells_faults_of_choices(rt: HostRuntime) -> Result<(), Fail> {
 }
 
 #[test]
+fn tells_faults_of_choices_without_a_transaction(rt: HostRuntime) -> Result<(), Fail> {
+    for (lines, line, kind) in [
+        ("A", 5, AsmKind::Word),
+        ("C start 0", 5, AsmKind::Word),
+        ("C start 0 x 2", 5, AsmKind::Word),
+        ("C take", 5, AsmKind::Word),
+        ("C finish", 5, AsmKind::Word),
+        ("C push", 5, AsmKind::Word),
+        ("A start", 5, AsmKind::Word),
+        ("B starts", 5, AsmKind::Word),
+        ("A take 5", 5, AsmKind::Word),
+        ("A take x", 5, AsmKind::Word),
+        ("A take x 2 2", 5, AsmKind::Word),
+        ("B finish y 2", 5, AsmKind::Word),
+        ("B push 0 x 2", 5, AsmKind::Word),
+        ("A run x 2", 5, AsmKind::Word),
+        ("A take x 0", 5, AsmKind::Range),
+        ("A take x 4097", 5, AsmKind::Range),
+        ("A take x 9999999999", 5, AsmKind::Range),
+        ("A take x 99999999999", 5, AsmKind::Number),
+        ("B finish x -1", 5, AsmKind::Number),
+        ("C start x x", 5, AsmKind::Number),
+        ("A take x 4096\nB push", 6, AsmKind::Count),
+        ("C start x 2\nB push x 4095", 6, AsmKind::Count),
+        ("C start\nrow 1 1", 6, AsmKind::Order),
+        ("B take\ntxn 0", 6, AsmKind::Order),
+        ("txn 0\nset r0 1\nA finish", 7, AsmKind::Program),
+        ("txn 0\nset r0 1\nA finish 0", 7, AsmKind::Program),
+    ] {
+        assert_eq!(rt;
+            fault_below(rt.alloc(), lines)?,
+            Some((line, kind)),
+            "{lines}"
+        );
+    }
+    assert_eq!(rt; fault_below(rt.alloc(), "A take x 4096\nend")?, None);
+    Ok(())
+}
+
+#[test]
 fn opens_with_several_pages(rt: HostRuntime) -> Result<(), Fail> {
     let header = "zephyr 1\ncap 5\npages 3\nrule held\n";
     let rows = "row 1 1\nrow 2 2\nrow 3 3\nrow 4 4\nrow 5 5\nrow 6 6\nrow 7 7\nrow 8 8\nrow 9 9\n";
@@ -210,6 +250,32 @@ fn gives_what_the_text_says(rt: HostRuntime) -> Result<(), Fail> {
                 .as_slice()
             );
         }
+    }
+    Ok(())
+}
+
+#[test]
+fn reads_choices_without_a_transaction(rt: HostRuntime) -> Result<(), Fail> {
+    let text =
+        "zephyr 1\ncap 2\npages 1\nrule held\nC start\nA take x 2\nB finish x 1\nB push ; once\nA\tpush\nB take\nA finish\nC  start x 02\nend";
+    match assemble(rt.alloc(), text) {
+        Err(_) => assert!(rt; false),
+        Ok(scenario) => assert_eq!(rt;
+            scenario.choices(),
+            [
+                Choice::Start,
+                Choice::Take(Node::A),
+                Choice::Take(Node::A),
+                Choice::Finish(Node::B),
+                Choice::Push(Node::B),
+                Choice::Push(Node::A),
+                Choice::Take(Node::B),
+                Choice::Finish(Node::A),
+                Choice::Start,
+                Choice::Start
+            ]
+            .as_slice()
+        ),
     }
     Ok(())
 }

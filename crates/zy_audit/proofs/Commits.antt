@@ -4,16 +4,16 @@ use Rattle.std.specs.Prelude.{Some, drop, slice_get, unwrap_or}
 use Rattle.std.proofs.lemmas.Bool.{false≢true}
 use Rattle.zy_isa.specs.Scenario.{Scenario}
 use Rattle.zy_isa.specs.declared.instr.Instr.{Instr}
-use Rattle.zy_machine.specs.Change.{txn_or}
-use Rattle.zy_machine.specs.Database.{Map}
+use Rattle.zy_table.specs.Change.{txn_or}
+use Rattle.zy_table.specs.Database.{Map}
 use Rattle.zy_machine.specs.Histories.{History, IsReplay, choices_of}
-use Rattle.zy_machine.specs.Play.{opening, play}
-use Rattle.zy_machine.specs.Run.{program_of}
-use Rattle.zy_machine.specs.Serial.{Registers, alone, is_committed, serial}
-use Rattle.zy_machine.specs.declared.entry.CommitRec.{CommitRec}
-use Rattle.zy_machine.specs.State.{State, Txn}
-use Rattle.zy_machine.proofs.SafeCounts.{safe}
-use Rattle.zy_machine.proofs.Serializable.{serializable}
+use Rattle.zy_table.specs.Play.{opening, play}
+use Rattle.zy_table.specs.Run.{program_of}
+use Rattle.zy_table.specs.Serial.{Registers, alone, is_committed, serial}
+use Rattle.zy_table.specs.declared.entry.CommitRec.{CommitRec}
+use Rattle.zy_table.specs.State.{State, Txn}
+use Rattle.zy_table.proofs.SafeCounts.{safe}
+use Rattle.zy_table.proofs.Serializable.{serializable}
 
 -- what stands at an index that was read
 got : {X : Type 0} (xs : List X) (i : ℕ) (x : X) → i < length xs → x ≡ get_or xs i x → slice_get xs i ≡ Some x

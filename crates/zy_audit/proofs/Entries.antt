@@ -8,7 +8,7 @@ use Rattle.std.proofs.lemmas.Bool.{and_parts, eq-eqb, eqb-true, false≢true, lt
 use Rattle.std.proofs.lemmas.Cmp.{nat_cmp_total}
 use Rattle.zy_isa.specs.Rows.{Rising}
 use Rattle.zy_isa.specs.declared.row.Row.{Row}
-use Rattle.zy_machine.specs.Database.{Map}
+use Rattle.zy_table.specs.Database.{Map}
 use Rattle.zy_audit.specs.Lone.{map_of}
 use Rattle.zy_audit.specs.SameMaps.{same_entry, same_map}
 

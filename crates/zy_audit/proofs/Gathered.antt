@@ -1,6 +1,6 @@
 -- The rows of the pages, gathered page by page.
-use Rattle.std.proofs.Common.{Bool, List, [], ap, arith, cond, false, inl, inr, length, refl, subst, sym, true, ℕ, ◌+◌, ◌<◌, ◌∙◌, ◌∷◌, ◌≡◌}
-use Rattle.std.specs.Prelude.{None, Option, Some, if◌then◌else◌, is_some, nat_lt, ◌==◌}
+use Rattle.std.proofs.Common.{List, [], ap, arith, false, inl, inr, length, subst, sym, true, ℕ, ◌+◌, ◌<◌, ◌∙◌, ◌∷◌, ◌≡◌}
+use Rattle.std.specs.Prelude.{None, Option, Some, if◌then◌else◌, is_some, nat_lt}
 use Rattle.std.specs.FinMap.{get, nat_cmp-IsAntisymmetric, same_map}
 use Rattle.std.proofs.lemmas.Bool.{cases_eq, eq-eqb, false≢true, le-ltb, lt-ltb, ne_eqb}
 use Rattle.std.proofs.lemmas.Bool.Decides.{nat_tests}
@@ -8,19 +8,20 @@ use Rattle.std.proofs.lemmas.Cmp.{nat_cmp_total}
 use Rattle.zy_isa.specs.Rows.{get_row}
 use Rattle.zy_isa.specs.declared.row.Row.{Row}
 use Rattle.zy_page.specs.Leaf.{Leaf}
-use Rattle.zy_machine.specs.Database.{all_leaves, database, newest}
+use Rattle.zy_table.specs.Database.{all_leaves, database, newest}
 use Rattle.zy_machine.specs.Histories.{History, IsReplay, choices_of}
-use Rattle.zy_machine.specs.Pages.{leaf_at, rows_of, page_in}
-use Rattle.zy_machine.specs.Play.{opening, play}
-use Rattle.zy_machine.specs.Rows.{put_rows}
-use Rattle.zy_machine.specs.State.{State}
+use Rattle.zy_table.specs.Pages.{rows_of, page_in}
+use Rattle.zy_table.specs.Play.{opening, play}
+use Rattle.zy_table.specs.Rows.{put_rows}
+use Rattle.zy_table.specs.State.{State}
 use Rattle.zy_wire.specs.Wireframe.{page_of}
-use Rattle.zy_machine.proofs.Installing.{Placed, get_row-puts, none_else, or_else_none}
-use Rattle.zy_machine.proofs.LoneRuns.{or_else}
+use Rattle.zy_table.proofs.Installing.{Placed, get_row-puts, none_else, or_else_none}
+use Rattle.zy_table.proofs.LoneRuns.{or_else}
 use Rattle.zy_wire.proofs.PageOf.{page_of-within}
-use Rattle.zy_machine.proofs.PageValues.{rows_of-here, rows_of-past}
-use Rattle.zy_machine.proofs.Reached.{reached}
-use Rattle.zy_machine.proofs.ValueAtPage.{newest_lows, values_at_pages}
+use Rattle.zy_table.proofs.PageFinds.{rows_of-none, rows_of-some}
+use Rattle.zy_table.proofs.PageValues.{rows_of-here, rows_of-past}
+use Rattle.zy_table.proofs.Reached.{reached}
+use Rattle.zy_table.proofs.ValueAtPage.{newest_lows, values_at_pages}
 use Rattle.zy_audit.specs.Lone.{map_of}
 use Rattle.zy_audit.proofs.LaidRows.{get-map_of}
 
@@ -88,28 +89,11 @@ gathered-more s p rows more keeps g e = record {
       (λ other. none_else _ (λ is. other (on_its_page (newest s) (all_leaves s) p k keeps.placed (ap (λ rs. is_some (get_row rs k)) e ∙ is))));
 }
 
--- the rows of a page that is found, and of one that is not
-found_first : (p : ℕ) (x y : Leaf) (xs : List Leaf) (b : Bool) → (page_in p xs ≡ Some x → rows_of xs p ≡ x.rows) → cond b (Some y) (page_in p xs) ≡ Some x → (cond b y (leaf_at xs p)).rows ≡ x.rows
-found_first p x y xs true rest e = let same : y ≡ x = cc in ap (λ (z : Leaf). z.rows) same
-found_first p x y xs false rest e = rest e
-
-rows_of-found : (p : ℕ) (x : Leaf) (xs : List Leaf) → page_in p xs ≡ Some x → rows_of xs p ≡ x.rows
-rows_of-found p x [] e = (cc)
-rows_of-found p x (y ∷ xs) e = found_first p x y xs (y.number == p) (rows_of-found p x xs) e
-
-missing_first : (p : ℕ) (y : Leaf) (xs : List Leaf) (b : Bool) → (page_in p xs ≡ None → rows_of xs p ≡ []) → cond b (Some y) (page_in p xs) ≡ None → (cond b y (leaf_at xs p)).rows ≡ []
-missing_first p y xs true rest e = (cc)
-missing_first p y xs false rest e = rest e
-
-rows_of-missing : (p : ℕ) (xs : List Leaf) → page_in p xs ≡ None → rows_of xs p ≡ []
-rows_of-missing p [] e = refl
-rows_of-missing p (y ∷ xs) e = missing_first p y xs (y.number == p) (rows_of-missing p xs) e
-
 pub gathered-found : (h : History) (p : ℕ) (rows : List Row) (x : Leaf) → IsReplay h → Gathered h.state p rows → Some x ≡ page_in p (all_leaves h.state) → Gathered h.state (p + 1) (put_rows x.rows rows)
-gathered-found h p rows x is g e = gathered-more h.state p rows x.rows (kept h is) g (rows_of-found p x (all_leaves h.state) (sym e))
+gathered-found h p rows x is g e = gathered-more h.state p rows x.rows (kept h is) g (rows_of-some p x (all_leaves h.state) (sym e))
 
 pub gathered-missing : (h : History) (p : ℕ) (rows : List Row) → IsReplay h → Gathered h.state p rows → None ≡ page_in p (all_leaves h.state) → Gathered h.state (p + 1) rows
-gathered-missing h p rows is g e = gathered-more h.state p rows [] (kept h is) g (rows_of-missing p (all_leaves h.state) (sym e))
+gathered-missing h p rows is g e = gathered-more h.state p rows [] (kept h is) g (rows_of-none p (all_leaves h.state) (sym e))
 
 -- all pages: their rows are the database
 pub gathered-all : (h : History) (p : ℕ) (rows : List Row) → IsReplay h → Gathered h.state p rows → p ≡ length (newest h.state) → map_of rows ≡ database h.state

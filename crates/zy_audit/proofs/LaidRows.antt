@@ -6,10 +6,10 @@ use Rattle.std.specs.Ordering.{nat_cmp}
 use Rattle.std.proofs.lemmas.Cmp.{nat_cmp_total}
 use Rattle.zy_isa.specs.Rows.{get_row, put_row, row}
 use Rattle.zy_isa.specs.declared.row.Row.{Row}
-use Rattle.zy_machine.specs.Database.{Map, laid}
-use Rattle.zy_machine.specs.Rows.{put_rows}
-use Rattle.zy_machine.proofs.Installing.{or_else_none}
-use Rattle.zy_machine.proofs.LoneRuns.{get-laid, get_row-put, or_else}
+use Rattle.zy_table.specs.Database.{Map, laid}
+use Rattle.zy_table.specs.Rows.{put_rows}
+use Rattle.zy_table.proofs.Installing.{or_else_none}
+use Rattle.zy_table.proofs.LoneRuns.{get-laid, get_row-put, or_else}
 use Rattle.zy_audit.specs.Lone.{map_of}
 
 -- a row put among rows lies over the map as one more row does

@@ -5,3 +5,4 @@ mod RunRows
 mod Gathered
 mod Entries
 mod Commits
+mod LinkLemmas

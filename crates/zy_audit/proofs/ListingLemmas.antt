@@ -1,16 +1,13 @@
 -- The places of the lines, and the whole listing.
-use Rattle.std.proofs.Common.{◌≡◌, ◌∙◌, ℕ, zero, suc, ◌+◌, ◌<◌, List, [], ◌∷◌, ◌++◌, refl, sym, ap, subst, arith, length, get_or, map, Bool, true, false, cond, Some}
-use Rattle.std.specs.Prelude.{◌==◌}
+use Rattle.std.proofs.Common.{◌≡◌, ◌∙◌, ℕ, zero, suc, ◌+◌, ◌<◌, List, [], ◌∷◌, ◌++◌, refl, sym, ap, subst, arith, length, get_or, map, Bool}
 use Rattle.std.specs.List.{flat_map}
 use Rattle.std.proofs.lemmas.Grind.{flat_map-append}
 use Rattle.zy_isa.specs.Canon.{canon}
 use Rattle.zy_isa.specs.Writing.{line_of}
-use Rattle.zy_page.specs.Leaf.{Leaf}
 use Rattle.zy_disasm.specs.Lines.{head_texts, end_texts}
 use Rattle.zy_disasm.proofs.CanonLemmas.{canon-parts}
-use Rattle.zy_machine.specs.Pages.{leaf_at, page_in}
-use Rattle.zy_machine.specs.Play.{entries, opening}
-use Rattle.zy_machine.specs.declared.entry.Entry.{Entry}
+use Rattle.zy_table.specs.Play.{entries, opening}
+use Rattle.zy_table.specs.declared.entry.Entry.{Entry}
 use Rattle.zy_isa.specs.Canon.{choice_text}
 use Rattle.zy_machine.specs.Histories.{History, IsReplay, choices_of}
 use Rattle.zy_audit.specs.Texts.{step_text}
@@ -46,15 +43,6 @@ step-line P k d es h told =
 pub taken-line : (P : List ℕ → Type 0) (k : ℕ) (d : Entry) (es : List Entry) → k < length (map choice_text (choices_of es)) → P (choice_text (get_or es k d).choice) → P (get_or (map choice_text (choices_of es)) k [])
 taken-line P k d es h told =
     let lt : k < length es = omega (arith, h, length-taken es) in subst P (sym (taken-at k d es lt)) told
-
--- a page that is found is the page of its number
-page_first : (p : ℕ) (y x : Leaf) (xs : List Leaf) (b : Bool) → (page_in p xs ≡ Some x → leaf_at xs p ≡ x) → cond b (Some y) (page_in p xs) ≡ Some x → cond b y (leaf_at xs p) ≡ x
-page_first p y x xs true rest e = (cc)
-page_first p y x xs false rest e = rest e
-
-pub leaf_at-page_in : (p : ℕ) (x : Leaf) (xs : List Leaf) → page_in p xs ≡ Some x → leaf_at xs p ≡ x
-leaf_at-page_in p x [] e = (cc)
-leaf_at-page_in p x (y ∷ xs) e = page_first p y x xs (y.number == p) (leaf_at-page_in p x xs) e
 
 -- the lines that are written are the listing of the replay
 pub listing-lines : (h : History) (same : Bool) → IsReplay h

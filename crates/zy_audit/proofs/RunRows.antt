@@ -4,11 +4,11 @@ use Rattle.std.specs.Prelude.{Option, Result, Ok, Err, OnOk, if◌then◌else◌
 use Rattle.std.specs.FinMap.{empty, get, insert}
 use Rattle.std.proofs.lemmas.Bool.{le-ltb}
 use Rattle.zy_isa.specs.declared.instr.Instr.{Instr}
-use Rattle.zy_machine.specs.Database.{Map, laid}
-use Rattle.zy_machine.specs.Serial.{Alone, alone, alone_instr, alone_step, goes_on}
+use Rattle.zy_table.specs.Database.{Map, laid}
+use Rattle.zy_table.specs.Serial.{Alone, alone, alone_instr, alone_step, goes_on}
 use Rattle.zy_isa.specs.Rows.{put_row}
 use Rattle.zy_isa.specs.declared.row.Row.{Row}
-use Rattle.zy_machine.specs.Rows.{put_rows}
+use Rattle.zy_table.specs.Rows.{put_rows}
 use Rattle.zy_audit.specs.Lone.{Lone, map_of, on_map, writes, inserts}
 use Rattle.zy_audit.proofs.LaidRows.{laid-put_row, laid-put_rows}
 

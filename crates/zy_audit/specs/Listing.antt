@@ -6,10 +6,10 @@ use Rattle.zy_isa.specs.declared.choice.Choice.{Choice}
 use Rattle.zy_isa.specs.Canon.{canon}
 use Rattle.zy_isa.specs.Scenario.{Scenario}
 use Rattle.zy_isa.specs.Writing.{line_of}
-use Rattle.zy_machine.specs.declared.entry.Entry.{Entry}
-use Rattle.zy_machine.specs.State.{State}
-use Rattle.zy_machine.specs.Database.{newest}
-use Rattle.zy_machine.specs.Play.{play, entries, opening}
+use Rattle.zy_table.specs.declared.entry.Entry.{Entry}
+use Rattle.zy_table.specs.State.{State}
+use Rattle.zy_table.specs.Database.{newest}
+use Rattle.zy_table.specs.Play.{play, entries, opening}
 use Rattle.zy_audit.specs.Texts.{step_text, mode_text, page_text, link_text, txn_text, serial_text}
 
 -- the steps from number i on
@@ -30,7 +30,7 @@ txn_texts s = map (txn_text s) (below (length s.txns))
 -- the state at the end
 abbrev pub final_texts : State → List (List ℕ)
 final_texts s =
-    (codes "final" ∷ mode_text A s.a.mode ∷ mode_text B s.b.mode ∷ []) ++ (page_texts s ++ ((link_text A ∷ link_text B ∷ []) ++ txn_texts s))
+    (codes "final" ∷ mode_text A s.a.mode ∷ mode_text B s.b.mode ∷ []) ++ (page_texts s ++ ((link_text A s.ab ∷ link_text B s.ba ∷ []) ++ txn_texts s))
 
 -- what came of the choices, and whether the serial run agrees
 abbrev pub ending_texts : List Entry → State → Bool → List (List ℕ)

@@ -3,9 +3,9 @@ use Rattle.std.specs.Prelude.{ℕ, ◌+◌, nat_lt, List, Bool, if◌then◌else
 use Rattle.std.specs.FinMap.{empty, get, insert}
 use Rattle.zy_isa.specs.declared.row.Row.{Row}
 use Rattle.zy_isa.specs.declared.instr.Reg.{Reg}
-use Rattle.zy_machine.specs.Change.{with_reg}
-use Rattle.zy_machine.specs.Database.{Map, laid}
-use Rattle.zy_machine.specs.Serial.{Alone, goes_on, gives_up}
+use Rattle.zy_table.specs.Change.{with_reg}
+use Rattle.zy_table.specs.Database.{Map, laid}
+use Rattle.zy_table.specs.Serial.{Alone, goes_on, gives_up}
 
 -- its registers, its place in its program, the rows that it has written, and whether it ended
 pub record Lone : Type 0 where

@@ -3,9 +3,9 @@ use Rattle.std.specs.Prelude.{ℕ, ◌==◌, ◌&&◌, Bool}
 use Rattle.std.specs.Cmp.Lexicographic.{pointwise}
 use Rattle.std.specs.FinMap.{entries}
 use Rattle.zy_isa.specs.Scenario.{Scenario}
-use Rattle.zy_machine.specs.Database.{Map, database}
-use Rattle.zy_machine.specs.Serial.{serial}
-use Rattle.zy_machine.specs.State.{State}
+use Rattle.zy_table.specs.Database.{Map, database}
+use Rattle.zy_table.specs.Serial.{serial}
+use Rattle.zy_table.specs.State.{State}
 use Rattle.zy_audit.specs.Lone.{map_of}
 
 -- the same key with the same value

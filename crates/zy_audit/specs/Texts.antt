@@ -7,26 +7,27 @@ use Rattle.zy_isa.specs.declared.node.Node.{Node}
 use Rattle.zy_isa.specs.declared.node.Node.TheVariants.{A, B}
 use Rattle.zy_isa.specs.declared.row.Row.{Row}
 use Rattle.zy_isa.specs.Canon.{node_text, choice_text}
-use Rattle.zy_machine.specs.declared.outcome.Why.{Why}
-use Rattle.zy_machine.specs.declared.outcome.Why.TheVariants.{Own, Killed, BadKey, Missing, Duplicate, Frozen, NoPage}
-use Rattle.zy_machine.specs.declared.outcome.Outcome.{Outcome}
-use Rattle.zy_machine.specs.declared.outcome.Outcome.TheVariants as outcome
-use Rattle.zy_machine.specs.declared.links.Kind.{Kind}
-use Rattle.zy_machine.specs.declared.links.Kind.TheVariants.{Wire, Ready, Dual, Pull, Page, Finish, Done}
-use Rattle.zy_machine.specs.declared.modes.NodeMode.{NodeMode}
-use Rattle.zy_machine.specs.declared.modes.NodeMode.TheVariants.{Empty, Normal}
-use Rattle.zy_machine.specs.declared.place.Place.{Place}
-use Rattle.zy_machine.specs.declared.place.Place.TheVariants.{Nowhere, At}
-use Rattle.zy_machine.specs.declared.entry.Entry.{Entry}
-use Rattle.zy_machine.specs.declared.entry.CommitRec.{CommitRec}
-use Rattle.zy_machine.specs.declared.status.Status.{Status}
-use Rattle.zy_machine.specs.declared.status.Status.TheVariants.{New, Active, Committed, Aborted}
+use Rattle.zy_table.specs.declared.outcome.Why.{Why}
+use Rattle.zy_table.specs.declared.outcome.Why.TheVariants.{Own, Killed, BadKey, Missing, Duplicate, Frozen, NoPage, Gone}
+use Rattle.zy_table.specs.declared.outcome.Outcome.{Outcome}
+use Rattle.zy_table.specs.declared.outcome.Outcome.TheVariants as outcome
+use Rattle.zy_modes.specs.declared.kind.Kind.{Kind}
+use Rattle.zy_modes.specs.declared.kind.Kind.TheVariants as kind
+use Rattle.zy_modes.specs.declared.mode.NodeMode.{NodeMode}
+use Rattle.zy_modes.specs.declared.mode.NodeMode.TheVariants.{Empty, Normal, SInit, SDual, SFinish, DInit, DDual, DFinish}
+use Rattle.zy_links.specs.Messages.{Message, Pull, Page, kind_of}
+use Rattle.zy_table.specs.declared.place.Place.{Place}
+use Rattle.zy_table.specs.declared.place.Place.TheVariants.{Nowhere, At, Moving}
+use Rattle.zy_table.specs.declared.entry.Entry.{Entry}
+use Rattle.zy_table.specs.declared.entry.CommitRec.{CommitRec}
+use Rattle.zy_table.specs.declared.status.Status.{Status}
+use Rattle.zy_table.specs.declared.status.Status.TheVariants.{New, Active, Committed, Aborted}
 use Rattle.zy_page.specs.Leaf.{Leaf}
-use Rattle.zy_machine.specs.State.{State, Txn}
-use Rattle.zy_machine.specs.Change.{txn_or}
-use Rattle.zy_machine.specs.Pages.{leaf_at}
-use Rattle.zy_machine.specs.Places.{place_of}
-use Rattle.zy_machine.specs.Database.{all_leaves}
+use Rattle.zy_table.specs.State.{State, Txn}
+use Rattle.zy_table.specs.Change.{txn_or}
+use Rattle.zy_table.specs.Pages.{leaf_at}
+use Rattle.zy_table.specs.Places.{place_of}
+use Rattle.zy_table.specs.Database.{all_leaves}
 
 abbrev pub why_text : Why → List ℕ
 why_text Own = codes "own"
@@ -36,33 +37,66 @@ why_text Missing = codes "missing"
 why_text Duplicate = codes "duplicate"
 why_text (Frozen p) = codes "frozen " ++ decimal p
 why_text NoPage = codes "nopage"
+why_text (Gone p) = codes "gone " ++ decimal p
 
 abbrev pub kind_text : Kind → List ℕ
-kind_text Wire = codes "wire"
-kind_text Ready = codes "ready"
-kind_text Dual = codes "dual"
-kind_text Pull = codes "pull"
-kind_text Page = codes "page"
-kind_text Finish = codes "finish"
-kind_text Done = codes "done"
+kind_text kind.Wire = codes "wire"
+kind_text kind.Ready = codes "ready"
+kind_text kind.Dual = codes "dual"
+kind_text kind.Pull = codes "pull"
+kind_text kind.Page = codes "page"
+kind_text kind.Finish = codes "finish"
+kind_text kind.Done = codes "done"
 
 abbrev pub mode_word : NodeMode → List ℕ
 mode_word Empty = codes "empty"
 mode_word Normal = codes "normal"
+mode_word SInit = codes "sinit"
+mode_word SDual = codes "sdual"
+mode_word SFinish = codes "sfinish"
+mode_word DInit = codes "dinit"
+mode_word DDual = codes "ddual"
+mode_word DFinish = codes "dfinish"
+
+-- the link from a node
+abbrev pub link_word : Node → List ℕ
+link_word A = codes "AB"
+link_word B = codes "BA"
 
 abbrev pub place_text : Place → List ℕ
 place_text Nowhere = codes "nowhere"
 place_text (At n) = node_text n
+place_text (Moving n) = link_word n
 
 abbrev pub outcome_text : Outcome → List ℕ
+outcome_text outcome.Started = codes "started"
+outcome_text outcome.BadMode = codes "badmode"
 outcome_text (outcome.Began n) = codes "began " ++ node_text n
 outcome_text outcome.Idle = codes "idle"
 outcome_text outcome.Elsewhere = codes "elsewhere"
+outcome_text outcome.NotYet = codes "notyet"
 outcome_text outcome.Did = codes "did"
 outcome_text (outcome.Split p q b) = codes "split " ++ (decimal p ++ (codes " " ++ (decimal q ++ (codes " " ++ decimal b))))
 outcome_text (outcome.Aborted why) = codes "aborted " ++ why_text why
 outcome_text (outcome.Committed i) = codes "committed " ++ decimal i
 outcome_text (outcome.Waits p) = codes "waits " ++ decimal p
+outcome_text (outcome.Pulls p) = codes "pulls " ++ decimal p
+outcome_text (outcome.Awaits p) = codes "awaits " ++ decimal p
+outcome_text outcome.NoMessage = codes "nomessage"
+outcome_text outcome.GotWire = codes "got wire"
+outcome_text outcome.GotReady = codes "got ready"
+outcome_text outcome.GotDual = codes "got dual"
+outcome_text (outcome.Stale p) = codes "stale " ++ decimal p
+outcome_text (outcome.Held p) = codes "held " ++ decimal p
+outcome_text (outcome.GotPull p) = codes "got pull " ++ decimal p
+outcome_text (outcome.GotPage p) = codes "got page " ++ decimal p
+outcome_text outcome.GotFinish = codes "got finish"
+outcome_text outcome.GotDone = codes "got done"
+outcome_text outcome.Stray = codes "stray"
+outcome_text outcome.Finishing = codes "finishing"
+outcome_text (outcome.Active t) = codes "active " ++ decimal t
+outcome_text (outcome.Pushed p) = codes "pushed " ++ decimal p
+outcome_text outcome.NoPush = codes "nopush"
 
 -- the message that was sent, if one was
 abbrev pub sent_text : Option Kind → List ℕ
@@ -92,10 +126,18 @@ leaf_text place x =
 abbrev pub page_text : State → ℕ → List ℕ
 page_text s p = leaf_text (place_of p s) (leaf_at (all_leaves s) p)
 
--- the link from a node
-abbrev pub link_text : Node → List ℕ
-link_text A = codes "link AB"
-link_text B = codes "link BA"
+-- the page that a message asks for or brings
+abbrev pub number_text : Message → List ℕ
+number_text (Pull p) = codes ":" ++ decimal p
+number_text (Page leaf) = codes ":" ++ decimal leaf.number
+number_text message = []
+
+abbrev pub message_text : Message → List ℕ
+message_text m = codes " " ++ (kind_text (kind_of m) ++ number_text m)
+
+-- the link from a node, with its messages
+abbrev pub link_text : Node → List Message → List ℕ
+link_text n messages = codes "link " ++ (link_word n ++ flat_map message_text messages)
 
 abbrev pub reg_text : ℕ → List ℕ
 reg_text r = codes " " ++ decimal r

@@ -2,9 +2,9 @@
 ghost use Rattle.std.specs.Prelude.{◌≡◌, ◌↔◌, List, true};
 ghost use Rattle.zy_isa.specs.declared.choice.Choice.{Choice as AChoice};
 ghost use Rattle.zy_isa.specs.Scenario.{Scenario, IsScenario};
-ghost use Rattle.zy_machine.specs.Database.{Map, database};
-ghost use Rattle.zy_machine.specs.Play.{play, opening};
-ghost use Rattle.zy_machine.specs.Serial.{serial};
+ghost use Rattle.zy_table.specs.Database.{Map, database};
+ghost use Rattle.zy_table.specs.Play.{play, opening};
+ghost use Rattle.zy_table.specs.Serial.{serial};
 ghost use Rattle.zy_audit.specs.Lone.{map_of};
 ghost use Rattle.zy_audit.specs.SameMaps.{same_map};
 

@@ -2,9 +2,9 @@
 ghost use Rattle.std.specs.Prelude.{◌≡◌, ◌+◌, ◌<◌, ◌^◌, [], true, false, Some, IfOk, OnOk, if◌then◌else◌, replicate, slice_get};
 ghost use Rattle.std.specs.FinMap.{get};
 ghost use Rattle.zy_isa.specs.Rows.{put_row};
-ghost use Rattle.zy_machine.specs.Change.{reg, with_reg};
-ghost use Rattle.zy_machine.specs.Database.{laid};
-ghost use Rattle.zy_machine.specs.Serial.{alone, alone_instr};
+ghost use Rattle.zy_table.specs.Change.{reg, with_reg};
+ghost use Rattle.zy_table.specs.Database.{laid};
+ghost use Rattle.zy_table.specs.Serial.{alone, alone_instr};
 ghost use Rattle.zy_audit.specs.Lone.{map_of, on_map, reads, writes, inserts};
 
 use crate::table::Table;
@@ -80,7 +80,7 @@ impl LoneRun {
     }
 
     /// The next instruction. Past the last one the run gives up.
-    #[tactic(auto, unfolding(zy_machine::specs::Serial::alone_instr))]
+    #[tactic(auto, unfolding(zy_table::specs::Serial::alone_instr))]
     fn step(&mut self, table: &Table, program: &Program) -> Result<(), AllocError>
         requires { self.old.over ≡ false }
         ensures { OnOk result (let m = map_of table.now in
@@ -96,7 +96,7 @@ impl LoneRun {
     }
 
     /// An instruction.
-    #[tactic(auto, unfolding(zy_machine::specs::Serial::alone_instr))]
+    #[tactic(auto, unfolding(zy_table::specs::Serial::alone_instr))]
     fn instr(&mut self, table: &Table, instr: Instr) -> Result<(), AllocError>
         requires on { self.old.over ≡ false }
         requires place { self.old.pc + 1 < 2 ^ 32 }

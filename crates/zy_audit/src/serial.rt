@@ -1,8 +1,8 @@
 //! The committed programs, run alone and one by one, and whether the pages have what they leave.
 ghost use Rattle.std.specs.Prelude.{◌≡◌, ◌<◌, All, IfOk, OnOk, length};
 ghost use Rattle.zy_isa.specs.Rows.{Rising};
-ghost use Rattle.zy_machine.specs.Database.{database};
-ghost use Rattle.zy_machine.specs.Serial.{serial as serial_lem, alone};
+ghost use Rattle.zy_table.specs.Database.{database};
+ghost use Rattle.zy_table.specs.Serial.{serial as serial_lem, alone};
 ghost use Rattle.zy_audit.specs.Lone.{map_of};
 ghost use Rattle.zy_audit.specs.SameMaps.{same_map};
 
@@ -11,8 +11,8 @@ use crate::table::Table;
 use std::alloc::{AllocError, Global};
 use zy_isa::program::Program;
 use zy_isa::scenario::Scenario;
-use zy_machine::entry::CommitRec;
 use zy_machine::machine::Machine;
+use zy_table::entry::CommitRec;
 
 /// The rows that committed programs leave when they are run alone, one by one, from the opening rows.
 pub fn serial(

@@ -13,8 +13,8 @@ use zy_isa::program::{ProgFault, Program};
 use zy_isa::row::Row;
 use zy_isa::rule::Rule;
 use zy_isa::scenario::Scenario;
-use zy_machine::entry::CommitRec;
 use zy_machine::machine::Machine;
+use zy_table::entry::CommitRec;
 
 fn row(key: u16, value: u32) -> Row {
     Row { key, value }

@@ -1,7 +1,7 @@
 //! The rows of a run as one table.
 ghost use Rattle.std.specs.Prelude.{◌≡◌, ◌<◌, ◌≤◌, [], OnOk, OnErr, length, slice_index_or};
 ghost use Rattle.zy_isa.specs.Rows.{Rising, RowsFit, get_row};
-ghost use Rattle.zy_machine.specs.Rows.{put_rows};
+ghost use Rattle.zy_table.specs.Rows.{put_rows};
 
 use std::alloc::{AllocError, Global};
 use std::marker::Model;

@@ -12,9 +12,9 @@ use Rattle.zy_isa.specs.Text.{Means}
 use Rattle.zy_isa.specs.Writing.{Wrote}
 use Rattle.zy_asm.specs.declared.faults.AsmFault.{AsmFault}
 use Rattle.zy_asm.specs.Input.{input_fault, utf8_fault, unless_faulty}
-use Rattle.zy_machine.specs.State.{State}
+use Rattle.zy_table.specs.State.{State}
 use Rattle.zy_machine.specs.Histories.{History, choices_of}
-use Rattle.zy_machine.specs.Play.{step, play, entries, opening}
+use Rattle.zy_table.specs.Play.{step, play, entries, opening}
 use Rattle.zy_audit.specs.Listing.{listing}
 use Rattle.zy_audit.specs.SameMaps.{is_serial}
 use Rattle.zy_bench.specs.Run.{listing_run}

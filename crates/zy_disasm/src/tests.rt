@@ -25,7 +25,8 @@ const EVERY: &[Instr] = &[
 const TEXT: &str = "zephyr 1\ncap 4\npages 12\nrule held\nrow 0 7\nrow 65535 4294967295\n\
     txn 0\ncommit\n\
     txn 1\nset r0 4294967295\nread r1 r0\nwrite r2 r3\ninsert r4 r5\nadd r6 r7\nbeq r0 r1 @6\nabort\n\
-    C begin 1\nB run 0\nA run 1\nC kill 1\nend\n";
+    C begin 1\nB run 0\nA run 1\nC kill 1\n\
+    C start\nA take\nB take\nA finish\nB finish\nA push\nB push\nend\n";
 
 fn scenario(alloc: Global) -> Result<Scenario, Fail> {
     let rows = [
@@ -40,6 +41,13 @@ fn scenario(alloc: Global) -> Result<Scenario, Fail> {
         Choice::Run(Node::B, 0),
         Choice::Run(Node::A, 1),
         Choice::Kill(1),
+        Choice::Start,
+        Choice::Take(Node::A),
+        Choice::Take(Node::B),
+        Choice::Finish(Node::A),
+        Choice::Finish(Node::B),
+        Choice::Push(Node::A),
+        Choice::Push(Node::B),
     ];
     let mut programs = Vec::new(alloc);
     programs.push(Program::verify(alloc, &[Instr::Commit])?)?;

@@ -12,7 +12,7 @@ use Rattle.zy_isa.specs.declared.instr.Reg.TheVariants.{R0, R1, R2, R3, R4, R5, 
 use Rattle.zy_isa.specs.declared.instr.Instr.{Instr}
 use Rattle.zy_isa.specs.declared.instr.Instr.TheVariants.{Set, Read, Write, Insert, Add, Beq, Commit, Abort}
 use Rattle.zy_isa.specs.declared.choice.Choice.{Choice}
-use Rattle.zy_isa.specs.declared.choice.Choice.TheVariants.{Begin, Kill, Run}
+use Rattle.zy_isa.specs.declared.choice.Choice.TheVariants.{Start, Begin, Kill, Run, Take, Finish, Push}
 use Rattle.zy_isa.specs.Words.{spaced}
 use Rattle.zy_isa.specs.Writing.{line_of}
 use Rattle.zy_isa.specs.Scenario.{Scenario}
@@ -45,9 +45,13 @@ instr_words Commit = codes "commit" ∷ []
 instr_words Abort = codes "abort" ∷ []
 
 abbrev pub choice_words : Choice → List (List ℕ)
+choice_words Start = codes "C" ∷ codes "start" ∷ []
 choice_words (Begin t) = codes "C" ∷ codes "begin" ∷ decimal t ∷ []
 choice_words (Kill t) = codes "C" ∷ codes "kill" ∷ decimal t ∷ []
 choice_words (Run n t) = node_text n ∷ codes "run" ∷ decimal t ∷ []
+choice_words (Take n) = node_text n ∷ codes "take" ∷ []
+choice_words (Finish n) = node_text n ∷ codes "finish" ∷ []
+choice_words (Push n) = node_text n ∷ codes "push" ∷ []
 
 abbrev pub instr_text : Instr → List ℕ
 instr_text i = spaced (instr_words i)

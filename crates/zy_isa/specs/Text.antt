@@ -6,7 +6,7 @@ use Rattle.zy_isa.specs.declared.row.Row.{Row}
 use Rattle.zy_isa.specs.declared.instr.Instr.{Instr}
 use Rattle.zy_isa.specs.declared.instr.Instr.TheVariants.{Set, Read, Write, Insert, Add, Beq, Commit, Abort}
 use Rattle.zy_isa.specs.declared.choice.Choice.{Choice}
-use Rattle.zy_isa.specs.declared.choice.Choice.TheVariants.{Begin, Kill, Run}
+use Rattle.zy_isa.specs.declared.choice.Choice.TheVariants.{Start, Begin, Kill, Run, Take, Finish, Push}
 use Rattle.zy_isa.specs.Words.{number_of, lines_with_words}
 use Rattle.zy_isa.specs.Canon.{node_text, rule_text, reg_text}
 use Rattle.zy_isa.specs.Scenario.{Scenario, IsScenario}
@@ -38,9 +38,13 @@ SpellsInstr Commit ws = ws ≡ codes "commit" ∷ []
 SpellsInstr Abort ws = ws ≡ codes "abort" ∷ []
 
 abbrev pub SpellsChoice : Choice → List (List ℕ) → Type 0
+SpellsChoice Start ws = ws ≡ codes "C" ∷ codes "start" ∷ []
 SpellsChoice (Begin t) ws = (w : List ℕ) × (ws ≡ codes "C" ∷ codes "begin" ∷ w ∷ []) × (number_of w ≡ Some t)
 SpellsChoice (Kill t) ws = (w : List ℕ) × (ws ≡ codes "C" ∷ codes "kill" ∷ w ∷ []) × (number_of w ≡ Some t)
 SpellsChoice (Run n t) ws = (w : List ℕ) × (ws ≡ node_text n ∷ codes "run" ∷ w ∷ []) × (number_of w ≡ Some t)
+SpellsChoice (Take n) ws = ws ≡ node_text n ∷ codes "take" ∷ []
+SpellsChoice (Finish n) ws = ws ≡ node_text n ∷ codes "finish" ∷ []
+SpellsChoice (Push n) ws = ws ≡ node_text n ∷ codes "push" ∷ []
 
 -- `x N`, or nothing for once
 abbrev pub SpellsTimes : ℕ → List (List ℕ) → Type 0

@@ -1,6 +1,7 @@
 //! The two nodes, and who makes a step.
-ghost use Rattle.std.specs.Prelude.{Some};
+ghost use Rattle.std.specs.Prelude.{◌≡◌, Some};
 ghost use Rattle.zy_isa.specs.Canon.{node_text};
+ghost use Rattle.zy_isa.specs.Choices.{actor_at};
 
 use std::fmt;
 
@@ -17,6 +18,18 @@ pub enum Actor {
     C,
     A,
     B,
+}
+
+impl Actor {
+    /// The actor that a node is.
+    pub fn of(node: Node) -> Actor
+        ensures { result ≡ actor_at node }
+    {
+        match node {
+            Node::A => Actor::A,
+            Node::B => Actor::B,
+        }
+    }
 }
 
 /// The node's letter.

@@ -2,12 +2,13 @@
 use crate::choice::Choice;
 use crate::instr::{Instr, Reg};
 use crate::memory::SliceSource;
-use crate::node::Node;
+use crate::node::{Actor, Node};
 use crate::program::{ProgFault, Program};
 use crate::reading::{ReadFault, read_all};
 use crate::row::Row;
 use crate::rule::Rule;
 use crate::scenario::{Scenario, ScenarioFault, opening_pages_for, opening_rows};
+use crate::section::Line;
 use std::alloc::Global;
 use std::test::Fail;
 
@@ -103,6 +104,30 @@ fn a_scenario_keeps_its_parts(rt: HostRuntime) -> Result<(), Fail> {
     let copy = scenario.copy(rt.alloc())?;
     assert!(rt; is_sample(&copy));
     assert!(rt; is_sample(&scenario));
+    Ok(())
+}
+
+#[test]
+fn each_choice_has_its_actor_and_its_line(rt: HostRuntime) -> Result<(), Fail> {
+    for (choice, actor, named, text) in [
+        (Choice::Start, Actor::C, true, "C start"),
+        (Choice::Begin(0), Actor::C, false, "C begin 0"),
+        (Choice::Kill(63), Actor::C, false, "C kill 63"),
+        (Choice::Run(Node::A, 5), Actor::A, false, "A run 5"),
+        (Choice::Run(Node::B, 10), Actor::B, false, "B run 10"),
+        (Choice::Take(Node::A), Actor::A, true, "A take"),
+        (Choice::Take(Node::B), Actor::B, true, "B take"),
+        (Choice::Finish(Node::A), Actor::A, true, "A finish"),
+        (Choice::Finish(Node::B), Actor::B, true, "B finish"),
+        (Choice::Push(Node::A), Actor::A, true, "A push"),
+        (Choice::Push(Node::B), Actor::B, true, "B push"),
+    ] {
+        let mut line = String::new(rt.alloc());
+        choice.append(&mut line)?;
+        assert_eq!(rt; line.as_str(), text);
+        assert_eq!(rt; choice.actor(), actor, "{text}");
+        assert_eq!(rt; choice.names_below(0), named, "{text}");
+    }
     Ok(())
 }
 

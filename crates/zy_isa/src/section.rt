@@ -48,10 +48,17 @@ impl Line for Choice {
 
     fn append(&self, line: &mut String) -> Result<(), AllocError> {
         match self {
+            Choice::Start => line.push_str("C start"),
             Choice::Begin(t) => append_numbered(line, "C begin ", u64::from(*t)),
             Choice::Kill(t) => append_numbered(line, "C kill ", u64::from(*t)),
             Choice::Run(Node::A, t) => append_numbered(line, "A run ", u64::from(*t)),
             Choice::Run(Node::B, t) => append_numbered(line, "B run ", u64::from(*t)),
+            Choice::Take(Node::A) => line.push_str("A take"),
+            Choice::Take(Node::B) => line.push_str("B take"),
+            Choice::Finish(Node::A) => line.push_str("A finish"),
+            Choice::Finish(Node::B) => line.push_str("B finish"),
+            Choice::Push(Node::A) => line.push_str("A push"),
+            Choice::Push(Node::B) => line.push_str("B push"),
         }
     }
 }

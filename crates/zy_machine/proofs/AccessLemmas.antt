@@ -1,51 +1,52 @@
 -- What the accessors read.
-use Rattle.std.proofs.Common.{◌≡◌, ◌∙◌, ℕ, suc, zero, ◌+◌, ◌<◌, ◌≤◌, List, [], ◌∷◌, ◌++◌, refl, sym, ap, arith, Bool, true, false, cond, Some, None, Option, is_some, length, take, append-nil, get_or, subst}
+use Rattle.std.proofs.Common.{◌≡◌, ◌∙◌, ℕ, suc, zero, ◌+◌, ◌<◌, ◌≤◌, List, [], ◌∷◌, ◌++◌, refl, sym, ap, arith, Some, None, Option, is_some, length, take, get_or, subst}
 use Rattle.std.specs.Borrow.{Bor}
-use Rattle.std.specs.Option.{option_copied}
+use Rattle.std.specs.Option.{option_copied, option_or}
 use Rattle.std.specs.FinMap.{get}
 use Rattle.std.proofs.lemmas.Bool.{ne_eqb, le-ltb}
 use Rattle.zy_isa.specs.declared.choice.Choice.{Choice}
 use Rattle.zy_isa.specs.Scenario.{Scenario, IsScenario}
-use Rattle.zy_machine.specs.State.{State}
+use Rattle.zy_table.specs.State.{State}
 use Rattle.zy_wire.specs.Wireframe.{page_of}
-use Rattle.zy_machine.specs.Database.{database}
-use Rattle.zy_machine.specs.Play.{play, opening}
-use Rattle.zy_machine.proofs.Slots.{value-home}
-use Rattle.std.specs.Prelude.{◌==◌, ◌||◌}
-use Rattle.std.specs.Option.{option_or}
+use Rattle.zy_table.specs.Database.{all_leaves, database, newest, ValuesAtPages}
+use Rattle.zy_table.specs.Play.{play, opening}
+use Rattle.zy_table.proofs.ValueAtPage.{values_at_pages}
+use Rattle.zy_machine.proofs.PageLemmas.{is_some-copied}
+use Rattle.zy_table.proofs.PageFinds.{owns-page_in, rows_of-none, rows_of-some}
+use Rattle.std.specs.Prelude.{◌==◌}
 use Rattle.std.proofs.lemmas.List.Folds.{find-append}
 use Rattle.zy_isa.specs.declared.row.Row.{Row}
 use Rattle.zy_isa.specs.Rows.{Rising, get_row, put_row}
 use Rattle.zy_page.specs.Leaf.{Leaf}
-use Rattle.zy_machine.specs.Pages.{owns, rows_of, page_in}
+use Rattle.zy_table.specs.Pages.{owns, rows_of, page_in}
 
--- a page is owned just where it is found
-owns_first : (p : ℕ) (x : Leaf) (xs : List Leaf) (b : Bool) → owns xs p ≡ is_some (page_in p xs) → (b || owns xs p) ≡ is_some (cond b (Some x) (page_in p xs))
-owns_first p x xs true rest = refl
-owns_first p x xs false rest = rest
+-- a page at A, or else at B, or else on its way to A, or else on its way to B
+pub page_in-all : (p : ℕ) (xs ys us vs : List Leaf) → page_in p (xs ++ (ys ++ (us ++ vs))) ≡ option_or (page_in p xs) (option_or (page_in p ys) (option_or (page_in p us) (page_in p vs)))
+page_in-all p xs ys us vs =
+    let is = λ (x : Leaf). x.number == p in
+    find-append is xs (ys ++ (us ++ vs)) ∙ ap (option_or (page_in p xs)) (find-append is ys (us ++ vs) ∙ ap (option_or (page_in p ys)) (find-append is us vs))
 
-pub owns-page_in : (p : ℕ) (xs : List Leaf) → owns xs p ≡ is_some (page_in p xs)
-owns-page_in p [] = refl
-owns-page_in p (x ∷ xs) = owns_first p x xs (x.number == p) (owns-page_in p xs)
+-- a page is found just where it is owned
+pub found_is : (p : ℕ) (xs : List Leaf) (r : Option (Bor Leaf)) → option_copied r ≡ page_in p xs → is_some r ≡ owns xs p
+found_is p xs r e = sym (is_some-copied r) ∙ (ap is_some e ∙ sym (owns-page_in p xs))
 
--- a page at A, or else at B
-pub page_in-both : (p : ℕ) (xs ys : List Leaf) → page_in p (xs ++ (ys ++ [])) ≡ option_or (page_in p xs) (page_in p ys)
-page_in-both p xs ys = find-append (λ (x : Leaf). x.number == p) xs (ys ++ []) ∙ ap (λ l. option_or (page_in p xs) (page_in p l)) (append-nil ys)
+-- what a page that was looked for has at a key
+pub value-some : (p k : ℕ) (x : Leaf) (xs : List Leaf) → page_in p xs ≡ Some x → get_row (rows_of xs p) k ≡ get_row x.rows k
+value-some p k x xs e = ap (λ rows. get_row rows k) (rows_of-some p x xs e)
 
-pub is_some-copied : {X : Type 0} (r : Option (Bor X)) → is_some (option_copied r) ≡ is_some r
-is_some-copied None = refl
-is_some-copied (Some x) = refl
+pub value-none : (p k : ℕ) (xs : List Leaf) → page_in p xs ≡ None → get_row (rows_of xs p) k ≡ None
+value-none p k xs e = ap (λ rows. get_row rows k) (rows_of-none p xs e)
 
 -- the value at a key of a reached state
-pub value-reached : (sc : Scenario) (cs : List Choice) (s : State) (k : ℕ) → IsScenario sc → s ≡ play sc (opening sc) cs → get_row (rows_of s.a.pages (page_of s.a.lows k)) k ≡ get (database s) k
-value-reached sc cs s k tested e = subst (λ (x : State). get_row (rows_of x.a.pages (page_of x.a.lows k)) k ≡ get (database x) k) (sym e) (sym (value-home sc tested cs k))
+pub value-reached : (sc : Scenario) (cs : List Choice) (s : State) (k : ℕ) → IsScenario sc → s ≡ play sc (opening sc) cs → get (database s) k ≡ get_row (rows_of (all_leaves s) (page_of (newest s) k)) k
+value-reached sc cs s k tested e = subst ValuesAtPages (sym e) (values_at_pages sc tested cs) k
 
+-- rows that rise: a row is not among those before it, and put there it comes last
 key_above : (low i : ℕ) (d : Row) (rows : List Row) → Rising low rows → i < length rows → low ≤ (get_or rows i d).key
 key_above low i d [] r h = absurd (omega arith)
 key_above low zero d (x ∷ rows) r h = r.0
 key_above low (suc i) d (x ∷ rows) r h = let rest = key_above (x.key + 1) i d rows r.1 (omega arith) in let here = r.0 in omega arith
 
--- rows that rise: a row is not among those before it, and put there it comes last
 pub absent_before : (low i : ℕ) (d : Row) (rows : List Row) → Rising low rows → i < length rows → get_row (take i rows) (get_or rows i d).key ≡ None
 absent_before low i d [] r h = absurd (omega arith)
 absent_before low zero d (x ∷ rows) r h = refl

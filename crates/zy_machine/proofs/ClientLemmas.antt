@@ -1,11 +1,12 @@
 -- Which line a client's choice leads to.
 use Rattle.std.proofs.Common.{◌≡◌, ℕ, refl, true, false, Some, None}
 use Rattle.zy_isa.specs.declared.node.Node.{Node}
-use Rattle.zy_machine.specs.declared.outcome.Why.TheVariants.{Killed}
-use Rattle.zy_machine.specs.declared.outcome.Outcome.TheVariants.{Began, Idle, Aborted}
-use Rattle.zy_machine.specs.State.{View, Txn}
-use Rattle.zy_machine.specs.Change.{quiet, txn_at, begun, aborted}
-use Rattle.zy_machine.specs.Client.{is_new, is_active, home_of, begin_at, begin_row, kill_row}
+use Rattle.zy_table.specs.declared.outcome.Why.TheVariants.{Killed}
+use Rattle.zy_table.specs.declared.outcome.Outcome.TheVariants.{Began, Idle, Aborted}
+use Rattle.zy_table.specs.State.{View, Txn}
+use Rattle.zy_table.specs.Change.{quiet, txn_at, begun, aborted}
+use Rattle.zy_table.specs.Client.{is_new, is_active, begin_at, begin_row, kill_row}
+use Rattle.zy_modes.specs.Table.{home_of}
 
 pub begin-idle : (t : ℕ) (f : View) (x : Txn) → x ≡ txn_at f t → is_new x.status ≡ false → begin_row t f ≡ quiet f Idle
 unfolding begin_row

@@ -1,13 +1,13 @@
 -- What a page cut in its slot does to the pages in order.
-use Rattle.std.proofs.Common.{◌≡◌, ◌∙◌, ℕ, zero, suc, ◌+◌, ◌<◌, List, [], ◌∷◌, length, get_or, refl, ap, sym, arith, Bool, cond, true, false, is_some, Option, Some, None}
+use Rattle.std.proofs.Common.{◌≡◌, ◌∙◌, ℕ, zero, suc, ◌+◌, ◌<◌, List, [], ◌∷◌, length, get_or, refl, ap, sym, subst, arith, Bool, cond, true, false, is_some, Option, Some, None}
 use Rattle.std.specs.Prelude.{◌==◌, if◌then◌else◌}
 use Rattle.std.proofs.Math.ListN.{set}
 use Rattle.std.proofs.lemmas.Bool.{eq-eqb, ne_eqb}
-use Rattle.std.proofs.lemmas.List.{set-get_or}
+use Rattle.std.proofs.lemmas.List.{set-get_or, get_or_read_under}
 use Rattle.zy_page.specs.Leaf.{Leaf, rows_below}
-use Rattle.zy_machine.specs.Pages.{lowered, owns, page_in}
+use Rattle.zy_table.specs.Pages.{lowered, owns, page_in}
 use Rattle.zy_machine.specs.Slots.{laid_out, InPlace}
-use Rattle.zy_machine.proofs.AccessLemmas.{owns-page_in}
+use Rattle.zy_table.proofs.PageFinds.{owns-page_in}
 use Rattle.zy_machine.proofs.SlotLemmas.{page_at}
 
 -- a number below the first slot's has no page to cut
@@ -48,3 +48,11 @@ slot_within (suc p) (o ∷ s) e = omega (arith, slot_within p s e)
 -- a page put back where it stood
 pub set_again : (s : List (Option Leaf)) (i : ℕ) (x : Leaf) → get_or s i None ≡ Some x → set s i (Some x) ≡ s
 set_again s i x e = ap (λ o. set s i o) (sym e) ∙ set-get_or s i None
+
+-- the slot of a page that is here is one of the slots
+pub slot_here : (items : List (Option Leaf)) (p at : ℕ) → InPlace 0 items → owns (laid_out items) p ≡ true → at ≡ p → at < length items
+slot_here items p at placed own e = subst (λ i. i < length items) (sym e) (slot_within p items (slot_filled p items placed own))
+
+-- what stands in a slot that was read
+pub slot_read : (items : List (Option Leaf)) (at : ℕ) (read : Option Leaf) → read ≡ get_or items at read → at < length items → get_or items at None ≡ read
+slot_read items at read is lt = sym (get_or_read_under items at (length items) read None is lt refl)

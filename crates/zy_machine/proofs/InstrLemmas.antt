@@ -7,11 +7,13 @@ use Rattle.zy_isa.specs.declared.instr.Reg.{Reg}
 use Rattle.zy_isa.specs.declared.instr.Instr.{Instr}
 use Rattle.zy_isa.specs.declared.instr.Instr.TheVariants.{Read, Write, Insert, Add, Beq}
 use Rattle.zy_isa.specs.Scenario.{Scenario}
-use Rattle.zy_machine.specs.declared.outcome.Outcome.TheVariants.{Idle, Elsewhere}
-use Rattle.zy_machine.specs.State.{View, Txn}
-use Rattle.zy_machine.specs.Change.{quiet, reg, txn_at}
-use Rattle.zy_machine.specs.Client.{is_active}
-use Rattle.zy_machine.specs.Run.{Reads, Writes, Inserts, set_row, jump_row, key_row, instr_row, run_row, same_node, program_of}
+use Rattle.zy_table.specs.declared.outcome.Outcome.TheVariants.{Idle, Elsewhere, NotYet}
+use Rattle.zy_table.specs.State.{View, Txn}
+use Rattle.zy_table.specs.Change.{quiet, reg, txn_at}
+use Rattle.zy_modes.specs.Table.{is_waiting}
+use Rattle.zy_table.specs.Client.{is_active}
+use Rattle.zy_table.specs.Run.{set_row, jump_row, key_row, instr_row, run_row, same_node, program_of}
+use Rattle.zy_table.specs.declared.access.Access.TheVariants.{Reads, Writes, Inserts}
 use Rattle.zy_isa.specs.contracts.node.Node.{the_type}
 use denote.Enum.Bare.{sameb}
 
@@ -41,7 +43,7 @@ sameb-node A B = refl
 sameb-node B A = refl
 sameb-node B B = refl
 
--- the three ways of a run
+-- the four ways of a run
 pub run-idle : (sc : Scenario) (n : Node) (t : ℕ) (f : View) (x : Txn) → x ≡ txn_at f t → is_active x.status ≡ false → run_row sc n t f ≡ quiet f Idle
 unfolding run_row
 run-idle sc n t f x e h = rw (← e, h) refl
@@ -50,10 +52,14 @@ pub run-elsewhere : (sc : Scenario) (n : Node) (t : ℕ) (f : View) (x : Txn) �
 unfolding run_row
 run-elsewhere sc n t f x e h g = rw (← e, h, g) refl
 
-pub run-instr : (sc : Scenario) (n : Node) (t : ℕ) (f : View) (x : Txn) (i : Instr) → x ≡ txn_at f t → is_active x.status ≡ true → same_node x.node n ≡ true → slice_get (program_of sc t) x.pc ≡ Some i
+pub run-waiting : (sc : Scenario) (n : Node) (t : ℕ) (f : View) (x : Txn) → x ≡ txn_at f t → is_active x.status ≡ true → same_node x.node n ≡ true → is_waiting f.me.mode ≡ true → run_row sc n t f ≡ quiet f NotYet
+unfolding run_row
+run-waiting sc n t f x e h g w = rw (← e, h, g, w) refl
+
+pub run-instr : (sc : Scenario) (n : Node) (t : ℕ) (f : View) (x : Txn) (i : Instr) → x ≡ txn_at f t → is_active x.status ≡ true → same_node x.node n ≡ true → is_waiting f.me.mode ≡ false → slice_get (program_of sc t) x.pc ≡ Some i
     → run_row sc n t f ≡ instr_row sc t (Some i) (txn_at f t).regs f
 unfolding run_row
-run-instr sc n t f x i e h g p = rw (← e, h, g, p) refl
+run-instr sc n t f x i e h g w p = rw (← e, h, g, w, p) refl
 
 -- what stands at an index that was read
 pub got : {X : Type 0} (xs : List X) (i : ℕ) (x : X) → i < length xs → x ≡ get_or xs i x → slice_get xs i ≡ Some x

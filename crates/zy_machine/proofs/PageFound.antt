@@ -5,13 +5,13 @@ use Rattle.std.proofs.lemmas.Bool.{cases_lt, lt-ltb, le-ltb}
 use Rattle.zy_isa.specs.declared.choice.Choice.{Choice}
 use Rattle.zy_isa.specs.Scenario.{Scenario}
 use Rattle.zy_page.specs.Leaf.{Leaf}
-use Rattle.zy_machine.specs.State.{State}
-use Rattle.zy_machine.specs.OneOwner.{times, places, width}
-use Rattle.zy_machine.specs.Pages.{page_in}
-use Rattle.zy_machine.specs.Database.{all_leaves, sent_leaves, newest}
-use Rattle.zy_machine.specs.Play.{play, opening}
-use Rattle.zy_machine.proofs.OneOwner.{one_owner}
-use Rattle.zy_machine.proofs.PageCounts.{times-append, times-sent_leaves}
+use Rattle.zy_table.specs.State.{State}
+use Rattle.zy_table.specs.OneOwner.{times, places, width}
+use Rattle.zy_table.specs.Pages.{page_in}
+use Rattle.zy_table.specs.Database.{all_leaves, sent_leaves, newest}
+use Rattle.zy_table.specs.Play.{play, opening}
+use Rattle.zy_table.proofs.OneOwner.{one_owner}
+use Rattle.zy_table.proofs.PageCounts.{times-append, times-sent_leaves}
 
 -- a page that stands somewhere is found
 found_first : (p : ℕ) (x : Leaf) (xs : List Leaf) (b : Bool) → (0 < times p xs → IsSome (page_in p xs)) → 0 < cond b 1 0 + times p xs → IsSome (cond b (Some x) (page_in p xs))

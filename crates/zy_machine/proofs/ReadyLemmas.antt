@@ -1,62 +1,57 @@
 -- Each choice of a reached state can be made.
-use Rattle.std.proofs.Common.{◌≡◌, ◌∙◌, ℕ, ◌<◌, List, [], ◌∷◌, None, false, refl, length, sym, ap, subst, arith, true}
-use Rattle.std.specs.Prelude.{slice_get, ◌==◌}
-use Rattle.std.proofs.lemmas.Bool.{false≢true, false_from_ne_true, ltb-true, or_parts}
+use Rattle.std.proofs.Common.{◌≡◌, ◌∙◌, ℕ, ◌<◌, List, false, refl, length, sym, ap, subst, arith, true}
+use Rattle.std.specs.Prelude.{slice_get}
+use Rattle.std.proofs.lemmas.Bool.{false≢true, false_from_ne_true, ltb-true}
 use Rattle.zy_isa.specs.declared.node.Node.{Node}
 use Rattle.zy_isa.specs.declared.choice.Choice.{Choice}
-use Rattle.zy_isa.specs.declared.choice.Choice.TheVariants.{Begin, Kill, Run}
+use Rattle.zy_isa.specs.declared.choice.Choice.TheVariants.{Start, Begin, Kill, Run, Take, Finish, Push}
 use Rattle.zy_isa.specs.Choices.{names_below}
 use Rattle.zy_isa.specs.Scenario.{Scenario, IsScenario}
-use Rattle.zy_page.specs.Leaf.{Leaf}
 use Rattle.zy_wire.specs.Wireframe.{page_of}
 use Rattle.zy_machine.specs.declared.store.Store.{Store}
-use Rattle.zy_machine.specs.State.{State, Txn, facing}
-use Rattle.zy_machine.specs.Change.{txn_or}
-use Rattle.zy_machine.specs.Client.{is_active}
-use Rattle.zy_machine.specs.Pages.{owns, page_in, rows_of}
-use Rattle.zy_machine.specs.Rows.{rows_on, rows_not_in}
-use Rattle.zy_machine.specs.Run.{own_inserts}
-use Rattle.zy_machine.specs.Play.{play, opening}
-use Rattle.zy_machine.specs.Counts.{Safe, Fits}
-use Rattle.zy_machine.specs.Order.{InOrder}
+use Rattle.zy_table.specs.State.{State, Txn, facing}
+use Rattle.zy_table.specs.Change.{txn_or}
+use Rattle.zy_table.specs.Client.{is_active}
+use Rattle.zy_table.specs.Pages.{owns, rows_of}
+use Rattle.zy_table.specs.Rows.{rows_on, rows_not_in}
+use Rattle.zy_table.specs.Run.{own_inserts}
+use Rattle.zy_table.specs.Play.{play, opening}
+use Rattle.zy_table.specs.Counts.{Safe, Fits}
+use Rattle.zy_table.specs.Order.{InOrder}
+use Rattle.zy_modes.specs.Table.{may_split as splits_in}
+use Rattle.zy_machine.specs.Arrivals.{MayTake}
 use Rattle.zy_machine.specs.Stores.{shown, Countable, MaySplit, Rooms, IsPossible}
 use Rattle.zy_machine.proofs.StoreLemmas.{txn_at-facing}
-use Rattle.zy_machine.proofs.Room.{need, need_is}
+use Rattle.zy_machine.proofs.ArrivalLemmas.{may_take}
+use Rattle.zy_table.proofs.PageFinds.{absent_page}
+use Rattle.zy_table.proofs.OneOwner.{inv_from, play_inv}
+use Rattle.zy_table.proofs.Room.{need, need_is}
 use Rattle.zy_machine.proofs.Roomy.{roomy}
-use Rattle.zy_machine.proofs.SafeCounts.{safe, program_is}
-use Rattle.zy_machine.proofs.RoomAtCommit.{fits}
-use Rattle.zy_machine.proofs.ListsInOrder.{in_order, ordered_from, tidy}
-use Rattle.zy_machine.proofs.Boundary.{boundary_new}
-use Rattle.zy_machine.proofs.LockingRows.{busy_whole, home_owns, home_placed}
-use Rattle.zy_machine.proofs.Ordered.{rows_at}
-use Rattle.zy_machine.proofs.Reached.{kept_from, reached}
-use Rattle.zy_machine.proofs.Roles.{fresh_number, normal_other}
-use Rattle.zy_machine.proofs.Txns.{IsAt}
+use Rattle.zy_table.proofs.SafeCounts.{safe, program_is}
+use Rattle.zy_table.proofs.RoomAtCommit.{fits}
+use Rattle.zy_table.proofs.ListsInOrder.{in_order, ordered_from, tidy}
+use Rattle.zy_table.proofs.Boundary.{boundary_new}
+use Rattle.zy_table.proofs.LockingRows.{home_placed}
+use Rattle.zy_table.proofs.Ordered.{rows_at}
+use Rattle.zy_table.proofs.Reached.{kept_from, reached}
+use Rattle.zy_table.proofs.Roles.{fresh_number, normal_other}
+use Rattle.zy_table.proofs.Txns.{IsAt}
 
 -- what the laws say of a split by a transaction that runs
-absent_page : (p : ℕ) (xs : List Leaf) → owns xs p ≡ false → page_in p xs ≡ None
-absent_page p [] h = refl
-absent_page p (x ∷ xs) h = let parts = or_parts (x.number == p) (owns xs p) h in rw parts.0 (absent_page p xs parts.1)
-
 may_split : (sc : Scenario) → IsScenario sc → (cs : List Choice) (n : Node) (t : ℕ) → let s = play sc (opening sc) cs in IsAt (facing n s) t n → MaySplit sc t (facing n s)
 may_split sc ok cs n t at =
     let s = play sc (opening sc) cs in
     let v = facing n s in
     let r = reached sc ok cs in
     let k = kept_from sc n s r.lows r.kept in
-    let x = tidy sc ok cs in
-    let o = ordered_from n s x.ordered in
-    let idle = k.mine.busy t at in
-    let none = normal_other v k.inv.roles (busy_whole v.me.mode idle) in
-    let empty : length v.them.lows ≡ 0 = ap length none.1 in
-    let fresh = fresh_number v k.inv.owned (omega (arith, empty)) in
+    let o = ordered_from n s (tidy sc ok cs).ordered in
+    let fresh : splits_in v.me.mode ≡ true → owns v.me.pages (length v.me.lows) ≡ false = λ splits. fresh_number v k.inv.owned (normal_other v k.inv.roles splits).1 in
     record {
       room = ok.cap_least;
       pages = ok.pages_most;
-      absent = absent_page (length v.me.lows) v.me.pages fresh;
-      unheld = λ u. false_from_ne_true _ (λ h. false≢true (sym fresh ∙ k.mine.kept (length v.me.lows) u h));
-      owned = λ key. home_owns sc n v r.lows t key k at;
-      other = λ key new full. boundary_new sc t key (page_of v.me.lows key) v k.first.0 (k.mine.newest idle ∙ k.first.1) ok.cap_least (home_placed sc n v r.lows t k at) refl full (rows_at (page_of v.me.lows key) v.me.pages o.mine.rows) (o.private t) new;
+      absent = λ splits. absent_page (length v.me.lows) v.me.pages (fresh splits);
+      unheld = λ splits u. false_from_ne_true _ (λ h. false≢true (sym (fresh splits) ∙ k.mine.kept (length v.me.lows) u h));
+      other = λ key new full. boundary_new sc t key (page_of v.me.lows key) v k.first.0 (k.mine.newest (k.mine.busy t at) ∙ k.first.1) ok.cap_least (home_placed sc n v r.lows t k at) refl full (rows_at (page_of v.me.lows key) v.me.pages o.mine.rows) (o.private t) new;
     }
 
 -- what is known of a store after so many choices
@@ -67,6 +62,7 @@ pub record Known (sc : Scenario) (count : ℕ) (s : Store) : Type 0 where
   pub fits : Fits sc (shown s)
   pub order : InOrder (shown s)
   pub splits : (n : Node) (t : ℕ) → IsAt (facing n (shown s)) t n → MaySplit sc t (facing n (shown s))
+  pub takes : (n : Node) → MayTake (facing n (shown s))
 
 pub known : (sc : Scenario) (cs : List Choice) (s : Store) → IsScenario sc → length cs < 4096 → shown s ≡ play sc (opening sc) cs → Known sc (length cs) s
 known sc cs s tested few e =
@@ -77,6 +73,7 @@ known sc cs s tested few e =
       fits = subst (Fits sc) (sym e) (fits sc tested cs);
       order = subst InOrder (sym e) (in_order sc tested cs);
       splits = subst (λ (z : State). (n : Node) (t : ℕ) → IsAt (facing n z) t n → MaySplit sc t (facing n z)) (sym e) (λ n t at. may_split sc tested cs n t at);
+      takes = subst (λ (z : State). (n : Node) → MayTake (facing n z)) (sym e) (λ n. may_take (facing n (play sc (opening sc) cs)) (inv_from n (play sc (opening sc) cs) (play_inv sc cs)));
     }
 
 countable : (sc : Scenario) (count t : ℕ) (s : Store) → Known sc count s → t < length sc.programs → Countable t s
@@ -104,8 +101,12 @@ splits sc count t n s k active here =
     k.splits n t (ap (λ (x : Txn). is_active x.status) same ∙ active, ap (λ (x : Txn). x.node) same ∙ here)
 
 pub possible : (sc : Scenario) (count : ℕ) (c : Choice) (s : Store) → Known sc count s → names_below (length sc.programs) c ≡ true → IsPossible sc c s
+possible sc count Start s k named = tt
 possible sc count (Begin t) s k named = (countable sc count t s k (ltb-true _ _ named)).there
 possible sc count (Kill t) s k named = (countable sc count t s k (ltb-true _ _ named)).there
 possible sc count (Run n t) s k named =
     let below = ltb-true t (length sc.programs) named in
     record { counts = countable sc count t s k below; program = below; place = (k.safe.each t below).place; rooms = rooms sc count t n s k; splits = splits sc count t n s k }
+possible sc count (Take n) s k named = k.takes n
+possible sc count (Finish n) s k named = omega (arith, k.safe.txns, k.tested.few_programs)
+possible sc count (Push n) s k named = tt

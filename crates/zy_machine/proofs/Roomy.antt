@@ -6,15 +6,15 @@ use Rattle.zy_isa.specs.declared.row.Row.{Row}
 use Rattle.zy_isa.specs.Rows.{Rising, get_row}
 use Rattle.zy_page.specs.Leaf.{Leaf}
 use Rattle.zy_wire.specs.Wireframe.{page_of}
-use Rattle.zy_machine.specs.Pages.{owns, rows_of, page_in}
-use Rattle.zy_machine.specs.Rows.{put_rows, rows_on}
-use Rattle.zy_machine.specs.Change.{installed}
-use Rattle.zy_machine.specs.Order.{RowsRise}
+use Rattle.zy_table.specs.Pages.{owns, rows_of, page_in}
+use Rattle.zy_table.specs.Rows.{put_rows, rows_on}
+use Rattle.zy_table.specs.Change.{installed}
+use Rattle.zy_table.specs.Order.{RowsRise}
 use Rattle.zy_machine.specs.Install.{HasRoomFor}
 use Rattle.zy_machine.specs.Stores.{AreRoomy}
-use Rattle.zy_machine.proofs.LoneRuns.{or_else}
-use Rattle.zy_machine.proofs.Installing.{get_row-puts}
-use Rattle.zy_machine.proofs.Room.{need, one_if, is_new_on, installed_length}
+use Rattle.zy_table.proofs.LoneRuns.{or_else}
+use Rattle.zy_table.proofs.Installing.{get_row-puts}
+use Rattle.zy_table.proofs.Room.{need, one_if, is_new_on, installed_length}
 
 -- neither of two has a value
 neither : (a b : Option ℕ) → or_else a b ≡ None → b ≡ None

@@ -1,27 +1,23 @@
 -- How the changes of a line go together.
-use Rattle.std.proofs.Common.{◌≡◌, ◌∙◌, ℕ, ◌+◌, List, [], ◌∷◌, length, refl, sym, ap, Bool, true, false, cond}
-use Rattle.std.specs.Prelude.{◌==◌, ◌&&◌, ◌||◌, not, nat_lt, nat_le}
-use Rattle.std.proofs.lemmas.Bool.{eqb-true, eq-eqb, and_parts}
+use Rattle.std.proofs.Common.{◌≡◌, ◌∙◌, ℕ, ◌+◌, List, length, refl, ap, true, false}
+use Rattle.std.specs.Prelude.{nat_le}
 use Rattle.zy_isa.specs.declared.node.Node.{Node}
 use Rattle.zy_isa.specs.declared.node.Node.TheVariants.{A, B}
 use Rattle.zy_isa.specs.declared.row.Row.{Row}
-use Rattle.zy_locks.specs.declared.lock.Lock.{Lock}
 use Rattle.zy_locks.specs.declared.lock.LockKind.{LockKind}
-use Rattle.zy_locks.specs.Locks.{add_lock, drop_locks, stronger}
-use Rattle.zy_machine.specs.declared.outcome.Why.{Why}
-use Rattle.zy_machine.specs.State.{State, View, facing, seen_from}
+use Rattle.zy_table.specs.State.{State, View, facing, seen_from}
 use Rattle.std.specs.Prelude.{unwrap_or}
+use Rattle.zy_table.proofs.AbortedLocks.{aborted-locked}
 use Rattle.zy_isa.specs.declared.instr.Reg.{Reg}
 use Rattle.zy_isa.specs.Rows.{get_row, put_row}
 use Rattle.zy_isa.specs.Scenario.{Scenario}
 use Rattle.zy_locks.specs.declared.lock.LockKind.TheVariants.{Shared, Exclusive}
-use Rattle.zy_machine.specs.declared.outcome.Why.TheVariants.{Missing, Duplicate, Frozen, NoPage}
-use Rattle.zy_machine.specs.declared.outcome.Outcome.TheVariants.{Did, Aborted, Split}
-use Rattle.zy_machine.specs.Pages.{rows_of}
-use Rattle.zy_machine.specs.Change.{quiet, with_reg, txn_at, aborted, cut, did, locked}
-use Rattle.zy_machine.specs.declared.modes.NodeMode.TheVariants.{Normal}
-use Rattle.zy_machine.specs.Client.{is_mode}
-use Rattle.zy_machine.specs.Run.{boundary, read_row, write_row, insert_row, full_row, split_row, abort_row, is_there, has_room}
+use Rattle.zy_table.specs.declared.outcome.Why.TheVariants.{Missing, Duplicate, Frozen, NoPage}
+use Rattle.zy_table.specs.declared.outcome.Outcome.TheVariants.{Did, Aborted, Split}
+use Rattle.zy_table.specs.Pages.{rows_of}
+use Rattle.zy_table.specs.Change.{quiet, with_reg, txn_at, aborted, cut, did, locked}
+use Rattle.zy_modes.specs.Table.{may_split}
+use Rattle.zy_table.specs.Run.{boundary, read_row, write_row, insert_row, full_row, split_row, abort_row, is_there, has_room}
 
 pub facing-seen_from : (n : Node) (v : View) → facing n (seen_from n v) ≡ v
 facing-seen_from A v = refl
@@ -36,31 +32,6 @@ locked-txn_at t p u kind s = refl
 pub locked-did : (t p pc : ℕ) (kind : LockKind) (regs : List ℕ) (rows : List Row) (s : View) → locked t p kind (did t pc regs rows s) ≡ did t pc regs rows (locked t p kind s)
 unfolding locked did txn_at
 locked-did t p pc kind regs rows s = refl
-
-drop_first : (t : ℕ) (x : Lock) (xs : List Lock) → x.txn ≡ t → drop_locks t (x ∷ xs) ≡ drop_locks t xs
-drop_first t x xs e = rw (eq-eqb x.txn t e) refl
-
-drop_same : (t : ℕ) (x : Lock) (xs ys : List Lock) → drop_locks t xs ≡ drop_locks t ys → drop_locks t (x ∷ xs) ≡ drop_locks t (x ∷ ys)
-drop_same t x xs ys e = ap (λ l. cond (not (x.txn == t)) (x ∷ l) l) e
-
-drop_added : (p t : ℕ) (kind : LockKind) (x : Lock) (xs : List Lock) (same before : Bool) → drop_locks t (add_lock p t kind xs) ≡ drop_locks t xs → ((x.page == p) && (x.txn == t)) ≡ same
-    → drop_locks t (cond same (record x { kind = stronger x.kind kind } ∷ xs) (cond before (record { page = p; txn = t; kind = kind } ∷ x ∷ xs) (x ∷ add_lock p t kind xs))) ≡ drop_locks t (x ∷ xs)
-drop_added p t kind x xs true before rest e =
-    let own = eqb-true x.txn t (and_parts (x.page == p) (x.txn == t) e).1 in
-    drop_first t (record x { kind = stronger x.kind kind }) xs own ∙ sym (drop_first t x xs own)
-drop_added p t kind x xs false true rest e = drop_first t (record { page = p; txn = t; kind = kind }) (x ∷ xs) refl
-drop_added p t kind x xs false false rest e = drop_same t x (add_lock p t kind xs) xs rest
-
--- t's new lock goes with its others
-pub drop_locks-add_lock : (p t : ℕ) (kind : LockKind) (xs : List Lock) → drop_locks t (add_lock p t kind xs) ≡ drop_locks t xs
-drop_locks-add_lock p t kind [] = drop_first t (record { page = p; txn = t; kind = kind }) [] refl
-drop_locks-add_lock p t kind (x ∷ xs) =
-    drop_added p t kind x xs ((x.page == p) && (x.txn == t)) (nat_lt p x.page || ((x.page == p) && nat_lt t x.txn)) (drop_locks-add_lock p t kind xs) refl
-
--- an abort drops the lock that was just taken
-pub aborted-locked : (t p : ℕ) (kind : LockKind) (why : Why) (s : View) → aborted t why (locked t p kind s) ≡ aborted t why s
-unfolding aborted locked txn_at
-aborted-locked t p kind why s = rw (drop_locks-add_lock p t kind s.me.locks) refl
 
 -- what a node sees once a lock is taken
 locked-facing : (n : Node) (t p : ℕ) (kind : LockKind) (s s1 : State) → s1 ≡ seen_from n (locked t p kind (facing n s)) → facing n s1 ≡ locked t p kind (facing n s)
@@ -116,15 +87,15 @@ unfolding insert_row
 insert-full sc t k v p kind s e h = rw (there-locked t k p kind s ∙ e, room-locked sc t p kind s ∙ h) refl
 
 -- a full page: where the node may not split it, where there is no page more, and where it is cut
-pub full-frozen : (sc : Scenario) (t k p : ℕ) (kind : LockKind) (s : View) → is_mode Normal s.me.mode ≡ false → full_row sc t k p (locked t p kind s) ≡ quiet (aborted t (Frozen p) s) (Aborted (Frozen p))
+pub full-frozen : (sc : Scenario) (t k p : ℕ) (kind : LockKind) (s : View) → may_split s.me.mode ≡ false → full_row sc t k p (locked t p kind s) ≡ quiet (aborted t (Frozen p) s) (Aborted (Frozen p))
 unfolding full_row abort_row locked
 full-frozen sc t k p kind s e = rw e (ap (λ z. quiet z (Aborted (Frozen p))) (aborted-locked t p kind (Frozen p) s))
 
-pub full-no_page : (sc : Scenario) (t k p : ℕ) (kind : LockKind) (s : View) → is_mode Normal s.me.mode ≡ true → nat_le sc.pages (length s.me.lows) ≡ true → full_row sc t k p (locked t p kind s) ≡ quiet (aborted t NoPage s) (Aborted NoPage)
+pub full-no_page : (sc : Scenario) (t k p : ℕ) (kind : LockKind) (s : View) → may_split s.me.mode ≡ true → nat_le sc.pages (length s.me.lows) ≡ true → full_row sc t k p (locked t p kind s) ≡ quiet (aborted t NoPage s) (Aborted NoPage)
 unfolding full_row abort_row locked
 full-no_page sc t k p kind s normal none = rw (normal, none) (ap (λ z. quiet z (Aborted NoPage)) (aborted-locked t p kind NoPage s))
 
-pub full-split : (sc : Scenario) (t k p : ℕ) (kind : LockKind) (s : View) → is_mode Normal s.me.mode ≡ true → nat_le sc.pages (length s.me.lows) ≡ false → full_row sc t k p (locked t p kind s) ≡ split_row sc t k p (locked t p kind s)
+pub full-split : (sc : Scenario) (t k p : ℕ) (kind : LockKind) (s : View) → may_split s.me.mode ≡ true → nat_le sc.pages (length s.me.lows) ≡ false → full_row sc t k p (locked t p kind s) ≡ split_row sc t k p (locked t p kind s)
 unfolding full_row locked
 full-split sc t k p kind s normal more = rw (normal, more) refl
 

@@ -1,12 +1,18 @@
 -- What a change of one slot does to the pages in order.
-use Rattle.std.proofs.Common.{◌≡◌, ◌++◌, ℕ, zero, suc, ◌+◌, ◌<◌, List, [], ◌∷◌, length, get_or, refl, ap, arith, Option, Some, None}
+use Rattle.std.proofs.Common.{◌≡◌, ◌++◌, ℕ, zero, suc, ◌+◌, ◌<◌, ◌≤◌, List, [], ◌∷◌, length, get_or, refl, ap, arith, subst, Option, Some, None}
 use Rattle.std.proofs.Math.ListN.{set}
 use Rattle.std.proofs.lemmas.Bool.{lt-ltb, le-ltb, eq-eqb, ne_eqb}
 use Rattle.zy_isa.specs.Rows.{put_row}
 use Rattle.zy_page.specs.Leaf.{Leaf}
-use Rattle.zy_machine.specs.Pages.{page_in, with_page}
+use Rattle.zy_table.specs.Order.{NumbersRise}
+use Rattle.zy_table.specs.Pages.{numbers, page_in, with_page, without}
 use Rattle.zy_machine.specs.Shelf.{with_row}
 use Rattle.zy_machine.specs.Slots.{laid_out, InPlace}
+
+-- numbers that rise from n on rise from each lower one
+rise_from : (low n : ℕ) (xs : List ℕ) → low ≤ n → NumbersRise n xs → NumbersRise low xs
+rise_from low n [] h r = tt
+rise_from low n (x ∷ xs) h r = (omega (arith, h, r.0), r.1)
 
 -- a number below the first slot's has no page
 pub page_below : (n p : ℕ) (s : List (Option Leaf)) → InPlace n s → p < n → page_in p (laid_out s) ≡ None
@@ -91,3 +97,42 @@ laid_out-set_none zero (None ∷ s) e = refl
 laid_out-set_none (suc i) (None ∷ s) e = laid_out-set_none i s e
 laid_out-set_none zero (Some x ∷ s) e = (cc)
 laid_out-set_none (suc i) (Some x ∷ s) e = ap (λ z. x ∷ z) (laid_out-set_none i s e)
+
+-- an emptied slot
+without_below : (n p : ℕ) (s : List (Option Leaf)) → InPlace n s → p < n → without p (laid_out s) ≡ laid_out s
+without_below n p [] h lt = refl
+without_below n p (None ∷ s) h lt = without_below (suc n) p s h (omega arith)
+without_below n p (Some x ∷ s) h lt = rw (ne_eqb x.number p (omega (arith, h.0))) (ap (λ z. x ∷ z) (without_below (suc n) p s h.1 (omega arith)))
+
+pub without_at : (n p i : ℕ) (s : List (Option Leaf)) → InPlace n s → p ≡ n + i → without p (laid_out s) ≡ laid_out (set s i None)
+without_at n p i [] h e = refl
+without_at n p zero (None ∷ s) h e = without_below (suc n) p s h (omega arith)
+without_at n p (suc i) (None ∷ s) h e = without_at (suc n) p i s h (omega arith)
+without_at n p zero (Some x ∷ s) h e = rw (eq-eqb x.number p (omega (arith, h.0))) (without_below (suc n) p s h.1 (omega arith))
+without_at n p (suc i) (Some x ∷ s) h e = rw (ne_eqb x.number p (omega (arith, h.0))) (ap (λ z. x ∷ z) (without_at (suc n) p i s h.1 (omega arith)))
+
+pub length-emptied : (i : ℕ) (x : Leaf) (s : List (Option Leaf)) → get_or s i None ≡ Some x → length (laid_out s) ≡ length (laid_out (set s i None)) + 1
+length-emptied i x [] e = (cc)
+length-emptied zero x (None ∷ s) e = (cc)
+length-emptied (suc i) x (None ∷ s) e = length-emptied i x s e
+length-emptied zero x (Some y ∷ s) e = omega arith
+length-emptied (suc i) x (Some y ∷ s) e = let more = length-emptied i x s e in omega (arith, more)
+
+pub InPlace-set_none : (n i : ℕ) (s : List (Option Leaf)) → InPlace n s → InPlace n (set s i None)
+InPlace-set_none n i [] h = tt
+InPlace-set_none n zero (None ∷ s) h = h
+InPlace-set_none n (suc i) (None ∷ s) h = InPlace-set_none (suc n) i s h
+InPlace-set_none n zero (Some x ∷ s) h = h.1
+InPlace-set_none n (suc i) (Some x ∷ s) h = (h.0, InPlace-set_none (suc n) i s h.1)
+
+-- the numbers of the pages rise, and stay below that of the last slot
+pub rising_slots : (n : ℕ) (s : List (Option Leaf)) → InPlace n s → NumbersRise n (numbers (laid_out s))
+rising_slots n [] h = tt
+rising_slots n (None ∷ s) h = rise_from n (suc n) _ (omega arith) (rising_slots (suc n) s h)
+rising_slots n (Some x ∷ s) h = (omega (arith, h.0), subst (λ m. NumbersRise m (numbers (laid_out s))) (omega (arith, h.0)) (rising_slots (suc n) s h.1))
+
+-- no more pages than slots
+pub few_slots : (s : List (Option Leaf)) → length (laid_out s) ≤ length s
+few_slots [] = omega arith
+few_slots (None ∷ s) = let few = few_slots s in omega (arith, few)
+few_slots (Some x ∷ s) = let few = few_slots s in omega (arith, few)

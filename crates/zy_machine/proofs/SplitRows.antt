@@ -2,30 +2,19 @@
 use Rattle.std.proofs.Common.{List, [], arith, false, inl, inr, length, refl, subst, sym, true, ℕ, ◌<◌, ◌∙◌, ◌∷◌, ◌≡◌}
 use Rattle.std.specs.Prelude.{Contains, not, ◌&&◌, ◌==◌}
 use Rattle.std.proofs.lemmas.Bool.{and_from, and_parts, eq-eqb, eqb-false, false≢true, false_from_ne_true, not-true, or_cases, or_left, or_right}
-use denote.Enum.Bare.{sameb}
 use Rattle.zy_isa.specs.Scenario.{Scenario}
 use Rattle.zy_locks.specs.Locks.{add_lock, clashes, conflict, is_shared}
 use Rattle.zy_locks.specs.declared.lock.LockKind.{LockKind}
 use Rattle.zy_locks.specs.declared.lock.LockKind.TheVariants.{Exclusive}
-use Rattle.zy_machine.specs.contracts.modes.NodeMode.{the_type}
-use Rattle.zy_machine.specs.declared.modes.NodeMode.{NodeMode}
-use Rattle.zy_machine.specs.declared.modes.NodeMode.TheVariants.{Empty, Normal}
+use Rattle.zy_modes.specs.Table.{may_split}
 use Rattle.zy_machine.specs.declared.store.Store.{Store}
-use Rattle.zy_machine.specs.Client.{is_mode}
-use Rattle.zy_machine.specs.Holders.{holds}
-use Rattle.zy_machine.specs.Pages.{owns}
-use Rattle.zy_machine.specs.Run.{boundary, has_room, is_there}
-use Rattle.zy_machine.specs.State.{Lock, facing}
+use Rattle.zy_table.specs.Holders.{holds}
+use Rattle.zy_table.specs.Run.{boundary, has_room, is_there}
+use Rattle.zy_table.specs.State.{facing}
+use Rattle.zy_locks.specs.declared.lock.Lock.{Lock}
 use Rattle.zy_machine.specs.Stores.{IsCuttable, IsFull, shown}
-use Rattle.zy_machine.proofs.LockLists.{holds-add}
+use Rattle.zy_table.proofs.LockLists.{holds-add}
 use Rattle.zy_isa.specs.declared.node.Node.{Node}
-
--- the code's test of a mode
-pub sameb-mode : (x m : NodeMode) → sameb the_type x m ≡ is_mode m x
-sameb-mode Empty Empty = refl
-sameb-mode Empty Normal = refl
-sameb-mode Normal Empty = refl
-sameb-mode Normal Normal = refl
 
 -- where nobody else holds a page, nobody is in the way
 conflict_none : (xs : List Lock) (q t : ℕ) (kind : LockKind) → ((u : ℕ) → (u ≡ t → ⊥) → holds xs q u ≡ true → ⊥) → conflict xs q t kind ≡ false
@@ -44,15 +33,15 @@ alone_there : (xs : List Lock) (p q t : ℕ) → ((u : ℕ) → holds xs q u ≡
 alone_there xs p q t free = conflict_none (add_lock p t Exclusive xs) q t Exclusive (λ u far h.
     elim (holds-add p t Exclusive xs q u h) [ inl old ↦ false≢true (sym (free u) ∙ old) | inr new ↦ far (sym new.1) ])
 
-pub cuttable : (sc : Scenario) (n : Node) (t k p b : ℕ) (s : Store) → IsFull sc n t k p s → length (facing n (shown s)).me.lows < sc.pages → b ≡ boundary sc t k p (facing n (shown s)) → IsCuttable t p b (facing n (shown s)).me
-cuttable sc n t k p b s f more is =
+pub cuttable : (sc : Scenario) (n : Node) (t k p b : ℕ) (s : Store) → IsFull sc n t k p s → may_split (facing n (shown s)).me.mode ≡ true → length (facing n (shown s)).me.lows < sc.pages → b ≡ boundary sc t k p (facing n (shown s)) → IsCuttable t p b (facing n (shown s)).me
+cuttable sc n t k p b s f normal more is =
     let v = facing n (shown s) in
     let lows = v.me.lows in
     record {
       free = f.free.free;
-      alone = alone_there v.me.locks p (length lows) t f.splits.unheld;
+      alone = alone_there v.me.locks p (length lows) t (f.splits.unheld normal);
       few = let most = f.splits.pages in omega (arith, most, more);
       other = subst (λ z. Contains lows z → ⊥) (sym is) (subst (λ z. Contains lows (boundary sc t k z v) → ⊥) (sym f.on) (f.splits.other k (subst (λ z. is_there t k z v ≡ false) f.on f.new) (subst (λ z. has_room sc t z v ≡ false) f.on f.full)));
-      absent = f.splits.absent;
-      owned = subst (λ z. owns v.me.pages z ≡ true) (sym f.on) (f.splits.owned k);
+      absent = f.splits.absent normal;
+      owned = f.owned;
     }

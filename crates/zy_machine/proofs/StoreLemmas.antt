@@ -1,18 +1,20 @@
 -- What the changes of a store come to, from either node.
-use Rattle.std.proofs.Common.{◌≡◌, ◌∙◌, ℕ, zero, suc, ◌+◌, ◌<◌, List, [], ◌∷◌, ◌++◌, length, get_or, refl, sym, ap, arith, Bool, true, false, cond, inl, inr, Some, None}
+use Rattle.std.proofs.Common.{◌≡◌, ◌∙◌, ℕ, zero, suc, ◌+◌, ◌<◌, List, [], ◌∷◌, ◌++◌, length, get_or, refl, sym, ap, arith, Bool, true, false, cond, inl, inr}
 use Rattle.std.specs.Prelude.{slice_get, slice_set, ◌==◌}
 use Rattle.zy_isa.specs.declared.node.Node.{Node}
 use Rattle.zy_isa.specs.declared.node.Node.TheVariants.{A, B}
 use Rattle.zy_isa.specs.declared.row.Row.{Row}
 use Rattle.zy_page.specs.Leaf.{Leaf}
 use Rattle.zy_locks.specs.declared.lock.LockKind.{LockKind}
-use Rattle.zy_machine.specs.declared.outcome.Why.{Why}
-use Rattle.zy_machine.specs.State.{State, Txn, Active, Aborted, Committed, CommitRec, facing, seen_from, with_me}
-use Rattle.zy_machine.specs.Change.{txn_at, txn_or, begun, aborted, did, locked, committed, unlocked, with_installed, installed}
-use Rattle.zy_machine.specs.Pages.{rows_of, leaf_at, page_in}
-use Rattle.zy_machine.specs.Shelf.{Shelf, with_row}
+use Rattle.zy_table.specs.declared.outcome.Why.{Why}
+use Rattle.zy_table.specs.State.{State, Txn, facing, seen_from, with_me}
+use Rattle.zy_table.specs.declared.status.Status.TheVariants.{Active, Aborted, Committed}
+use Rattle.zy_table.specs.declared.entry.CommitRec.{CommitRec}
+use Rattle.zy_table.specs.Change.{txn_at, txn_or, begun, aborted, did, locked, committed, unlocked, with_installed, installed}
+use Rattle.zy_table.specs.Pages.{rows_of, page_in}
+use Rattle.zy_machine.specs.Shelf.{with_row}
 use Rattle.zy_wire.specs.Wireframe.{page_of}
-use Rattle.zy_machine.specs.Rows.{put_rows, rows_on}
+use Rattle.zy_table.specs.Rows.{put_rows, rows_on}
 use Rattle.zy_machine.specs.Install.{HasRoomFor}
 use Rattle.zy_machine.specs.declared.store.Store.{Store}
 use Rattle.zy_locks.specs.declared.locks.Tried.{Tried}
@@ -22,7 +24,7 @@ use Rattle.zy_machine.specs.Stores.{AreRoomy, TriesAt, shown}
 use Rattle.std.proofs.lemmas.Bool.{cases_eq, eq-eqb, ne_eqb}
 use Rattle.zy_isa.specs.Rows.{get_row, put_row}
 use Rattle.std.specs.Prelude.{Result, Ok, Err, OnOk, is_some}
-use Rattle.zy_machine.specs.Run.{is_there}
+use Rattle.zy_table.specs.Run.{is_there}
 
 -- the transaction that stands at an index
 pub txn_read : (xs : List Txn) (i j : ℕ) (x : Txn) → i ≡ j → x ≡ get_or xs i x → j < length xs → txn_or (slice_get xs j) ≡ x
@@ -68,23 +70,6 @@ unlocked-txns B t s s1 e = ap (λ (x : State). x.txns) e
 pub unlocked-commits : (n : Node) (t : ℕ) (s s1 : State) → s1 ≡ seen_from n (with_me (unlocked t (facing n s).me) (facing n s)) → s1.commits ≡ s.commits
 unlocked-commits A t s s1 e = ap (λ (x : State). x.commits) e
 unlocked-commits B t s s1 e = ap (λ (x : State). x.commits) e
-
--- the rows of a page that is found, and of one that is not
-rows_of-first : (p : ℕ) (x y : Leaf) (xs : List Leaf) (b : Bool) → (page_in p xs ≡ Some x → rows_of xs p ≡ x.rows) → cond b (Some y) (page_in p xs) ≡ Some x → (cond b y (leaf_at xs p)).rows ≡ x.rows
-rows_of-first p x y xs true rest e = let same : y ≡ x = cc in ap (λ (z : Leaf). z.rows) same
-rows_of-first p x y xs false rest e = rest e
-
-pub rows_of-some : (p : ℕ) (x : Leaf) (xs : List Leaf) → page_in p xs ≡ Some x → rows_of xs p ≡ x.rows
-rows_of-some p x [] e = (cc)
-rows_of-some p x (y ∷ xs) e = rows_of-first p x y xs (y.number == p) (rows_of-some p x xs) e
-
-rows_of-rest : (p : ℕ) (y : Leaf) (xs : List Leaf) (b : Bool) → (page_in p xs ≡ None → rows_of xs p ≡ []) → cond b (Some y) (page_in p xs) ≡ None → (cond b y (leaf_at xs p)).rows ≡ []
-rows_of-rest p y xs true rest e = (cc)
-rows_of-rest p y xs false rest e = rest e
-
-pub rows_of-none : (p : ℕ) (xs : List Leaf) → page_in p xs ≡ None → rows_of xs p ≡ []
-rows_of-none p [] e = refl
-rows_of-none p (y ∷ xs) e = rows_of-rest p y xs (y.number == p) (rows_of-none p xs) e
 
 -- a private row put, unless memory was wanted
 pub put-seen : {E : Type 0} (r : Result (Unit {0}) E) (n : Node) (t k v : ℕ) (s s1 : State) (x y : Txn) → txn_or (slice_get s.txns t) ≡ x → s1 ≡ record s { txns = slice_set s.txns t y }
@@ -156,12 +141,12 @@ installed-txns A t s s1 e = ap (λ (x : State). x.txns) e
 installed-txns B t s s1 e = ap (λ (x : State). x.txns) e
 
 -- rows installed at A, and at B
-pub install-a : (t : ℕ) (old : Store) (shelf : Shelf) (rows : List Row) → rows ≡ (txn_or (slice_get old.txns.items t)).rows → shelf ≡ (let p = old.a.pages in record p { pages = installed old.a.wire.lows rows old.a.pages.pages })
+pub install-a : (t : ℕ) (old : Store) (shelf : List Leaf) (rows : List Row) → rows ≡ (txn_or (slice_get old.txns.items t)).rows → shelf ≡ installed old.a.wire.lows rows old.a.pages
     → let x = old.a in let s = facing A (shown old) in shown (record old { a = record x { pages = shelf } }) ≡ seen_from A (with_me (with_installed (txn_at s t).rows s.me) s)
 unfolding txn_at
 install-a t old shelf rows e h = rw (h, e) refl
 
-pub install-b : (t : ℕ) (old : Store) (shelf : Shelf) (rows : List Row) → rows ≡ (txn_or (slice_get old.txns.items t)).rows → shelf ≡ (let p = old.b.pages in record p { pages = installed old.b.wire.lows rows old.b.pages.pages })
+pub install-b : (t : ℕ) (old : Store) (shelf : List Leaf) (rows : List Row) → rows ≡ (txn_or (slice_get old.txns.items t)).rows → shelf ≡ installed old.b.wire.lows rows old.b.pages
     → let x = old.b in let s = facing B (shown old) in shown (record old { b = record x { pages = shelf } }) ≡ seen_from B (with_me (with_installed (txn_at s t).rows s.me) s)
 unfolding txn_at
 install-b t old shelf rows e h = rw (h, e) refl

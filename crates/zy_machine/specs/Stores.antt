@@ -1,12 +1,12 @@
 -- What a store shows of the state, and what a call on it may do.
-use Rattle.std.specs.Prelude.{◌≡◌, ◌<◌, ◌≤◌, ◌+◌, ◌^◌, ℕ, List, [], ◌∷◌, length, Contains, None, true, false, slice_get, Result, Ok, Err}
+use Rattle.std.specs.Prelude.{◌≡◌, ◌<◌, ◌≤◌, ◌+◌, ◌^◌, ℕ, List, [], ◌∷◌, length, Contains, Option, None, Some, nat_lt, if◌then◌else◌, true, false, slice_get, Result, Ok, Err}
 use Rattle.zy_isa.specs.declared.node.Node.{Node}
 use Rattle.zy_isa.specs.declared.node.Node.TheVariants.{A, B}
 use Rattle.zy_isa.specs.declared.row.Row.{Row}
 use Rattle.zy_isa.specs.Scenario.{Scenario}
 use Rattle.zy_locks.specs.declared.lock.LockKind.{LockKind}
 use Rattle.zy_locks.specs.declared.lock.LockKind.TheVariants.{Exclusive}
-use Rattle.zy_machine.specs.Holders.{holds}
+use Rattle.zy_table.specs.Holders.{holds}
 use Rattle.zy_locks.specs.declared.locks.Tried.{Tried}
 use Rattle.zy_locks.specs.declared.locks.Tried.TheVariants.{Granted, Conflict, Memory}
 use Rattle.zy_locks.specs.Locks.{conflict, add_lock}
@@ -15,24 +15,31 @@ use Rattle.zy_machine.specs.declared.store.NodeStore.{NodeStore}
 use Rattle.zy_machine.specs.declared.store.Store.{Store}
 use Rattle.zy_machine.specs.declared.answer.Answer.{Answer}
 use Rattle.zy_isa.specs.declared.choice.Choice.{Choice}
-use Rattle.zy_isa.specs.declared.choice.Choice.TheVariants.{Begin, Kill, Run}
-use Rattle.zy_machine.specs.State.{State, View, NodeState, Move, Step, facing, seen_from}
+use Rattle.zy_isa.specs.declared.choice.Choice.TheVariants.{Start, Begin, Kill, Run, Take, Finish, Push}
+use Rattle.zy_table.specs.State.{State, View, NodeState, Move, Step, facing, seen_from}
 use Rattle.zy_wire.specs.Wireframe.{page_of}
-use Rattle.zy_machine.specs.Pages.{page_in, owns}
-use Rattle.zy_machine.specs.Change.{txn_or, locked, installed}
-use Rattle.zy_machine.specs.Client.{is_active}
-use Rattle.zy_machine.specs.Run.{program_of, is_there, has_room, boundary}
+use Rattle.zy_table.specs.Pages.{page_in, owns}
+use Rattle.zy_table.specs.Change.{txn_or, locked, installed}
+use Rattle.zy_table.specs.Client.{is_active}
+use Rattle.zy_table.specs.Run.{program_of, is_there, has_room, boundary}
 use Rattle.zy_machine.specs.Install.{HasRoomFor}
+use Rattle.zy_machine.specs.Arrivals.{MayTake}
+use Rattle.zy_modes.specs.Table.{may_split}
 
 abbrev pub node_shown : NodeStore → NodeState
-node_shown x = record { mode = x.mode; lows = x.wire.lows; pages = x.pages.pages; asked = []; locks = x.locks.locks }
+node_shown x = record { mode = x.mode; lows = x.wire.lows; pages = x.pages; asked = x.asked; locks = x.locks.locks }
 
 abbrev pub shown : Store → State
-shown s = record { a = node_shown s.a; b = node_shown s.b; ab = []; ba = []; txns = s.txns.items; commits = s.commits.items }
+shown s = record { a = node_shown s.a; b = node_shown s.b; ab = s.a.outbox.messages; ba = s.b.outbox.messages; txns = s.txns.items; commits = s.commits.items }
 
 abbrev pub node_in : Node → Store → NodeStore
 node_in A s = s.a
 node_in B s = s.b
+
+-- the lower of a number, if there is one, and another
+abbrev pub lower : Option ℕ → ℕ → ℕ
+lower None p = p
+lower (Some q) p = if nat_lt p q then p else q
 
 -- the counts that make a step of t safe
 pub record Countable (t : ℕ) (s : Store) : Type 0 where
@@ -68,9 +75,8 @@ pub record IsCuttable (t p b : ℕ) (x : NodeState) : Type 0 where
 pub record MaySplit (sc : Scenario) (t : ℕ) (v : View) : Type 0 where
   pub room : 2 ≤ sc.cap
   pub pages : sc.pages ≤ 512
-  pub absent : page_in (length v.me.lows) v.me.pages ≡ None
-  pub unheld : (u : ℕ) → holds v.me.locks (length v.me.lows) u ≡ false
-  pub owned : (k : ℕ) → owns v.me.pages (page_of v.me.lows k) ≡ true
+  pub absent : may_split v.me.mode ≡ true → page_in (length v.me.lows) v.me.pages ≡ None
+  pub unheld : may_split v.me.mode ≡ true → (u : ℕ) → holds v.me.locks (length v.me.lows) u ≡ false
   pub other : (k : ℕ) → let p = page_of v.me.lows k in is_there t k p v ≡ false → has_room sc t p v ≡ false → Contains v.me.lows (boundary sc t k p v) → ⊥
 
 -- an insert of t finds k's page p full and free for it
@@ -79,6 +85,7 @@ pub record IsFull (sc : Scenario) (n : Node) (t k p : ℕ) (s : Store) : Type 0 
   pub splits : MaySplit sc t (facing n (shown s))
   pub on : p ≡ page_of (facing n (shown s)).me.lows k
   pub free : IsFree n p t Exclusive s
+  pub owned : owns (facing n (shown s)).me.pages p ≡ true
   pub new : is_there t k p (facing n (shown s)) ≡ false
   pub full : has_room sc t p (facing n (shown s)) ≡ false
 
@@ -107,9 +114,13 @@ Makes n old new (Err e) m = shown new ≡ shown old
 
 -- a choice can be made: the transaction that it names is there, and its run is safe
 abbrev pub IsPossible : Scenario → Choice → Store → Type 0
+IsPossible sc Start s = Unit {0}
 IsPossible sc (Begin t) s = t < length s.txns.items
 IsPossible sc (Kill t) s = t < length s.txns.items
 IsPossible sc (Run n t) s = IsReady sc n t s
+IsPossible sc (Take n) s = MayTake (facing n (shown s))
+IsPossible sc (Finish n) s = length s.txns.items ≤ 64
+IsPossible sc (Push n) s = Unit {0}
 
 -- the call made this step, or memory was wanted and nothing changed
 abbrev pub Steps : {E : Type 0} → Store → Store → Result Answer E → Step → Type 0

@@ -1,8 +1,8 @@
 //! What a line of the table answers.
-ghost use Rattle.std.specs.Prelude.{◌≡◌, None};
+ghost use Rattle.std.specs.Prelude.{◌≡◌, None, Some};
 
-use crate::links::Kind;
-use crate::outcome::Outcome;
+use zy_modes::kind::Kind;
+use zy_table::outcome::Outcome;
 
 /// What came of a step: its outcome, and the kind of message that was sent.
 #[derive(Clone, Copy, Debug, PartialEq, Eq)]
@@ -19,6 +19,16 @@ impl Answer {
         Answer {
             outcome,
             sent: None,
+        }
+    }
+
+    /// An outcome, and the kind of the message that was sent.
+    pub(crate) fn sends(outcome: Outcome, kind: Kind) -> Answer
+        ensures { result ≡ record { outcome = outcome; sent = Some kind } }
+    {
+        Answer {
+            outcome,
+            sent: Some(kind),
         }
     }
 }

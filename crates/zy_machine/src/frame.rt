@@ -1,5 +1,5 @@
 //! The wireframe of a node, with room for as many pages as any scenario may have.
-ghost use Rattle.std.specs.Prelude.{◌≡◌, ◌==◌, ◌<◌, ◌≤◌, ◌++◌, ◌∷◌, [], OnOk, Contains, length};
+ghost use Rattle.std.specs.Prelude.{◌≡◌, ◌==◌, ◌<◌, ◌≤◌, ◌++◌, ◌∷◌, [], IfOk, OnOk, Contains, length};
 ghost use Rattle.zy_wire.specs.Wireframe.{Wireframe, page_of as page_of_lem};
 
 use std::alloc::{AllocError, Global};
@@ -60,8 +60,10 @@ impl Frame {
 
     /// The page that a key lies on.
     pub(crate) fn page_of(&self, key: u16) -> u16
-        ensures { result ≡ page_of_lem self.now.lows key }
+        ensures value { result ≡ page_of_lem self.now.lows key }
+        ensures few { result < 512 }
     {
+        let _ = self.wire.len();
         self.wire.page_of(key)
     }
 
@@ -73,5 +75,20 @@ impl Frame {
         ensures { self.new.lows ≡ self.old.lows ++ low ∷ [] }
     {
         self.wire.grow(low).unwrap();
+    }
+
+    /// The wireframe that came in a message.
+    pub(crate) fn of(wire: Wire) -> Frame
+        requires { wire.pages ≡ 512 }
+        ensures { result ≡ wire }
+    {
+        Frame { wire }
+    }
+
+    /// The same wireframe once more, for a message.
+    pub(crate) fn copy_wire(&self, alloc: Global) -> Result<Wire, AllocError>
+        ensures { IfOk result (λ wire. (wire.lows ≡ self.now.lows) × (wire.pages ≡ 512)) }
+    {
+        self.wire.copy(alloc)
     }
 }

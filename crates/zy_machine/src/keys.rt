@@ -1,7 +1,7 @@
 //! Keys in order.
 ghost use Rattle.std.specs.Prelude.{◌≡◌, OnOk};
 ghost use Rattle.std.specs.List.Sorted.{IsNonDecreasing};
-ghost use Rattle.zy_machine.specs.Keys.{put_key as put_key_lem, put_keys as put_keys_lem};
+ghost use Rattle.zy_table.specs.Keys.{put_key as put_key_lem, put_keys as put_keys_lem};
 
 use std::alloc::AllocError;
 use zy_isa::row::Row;

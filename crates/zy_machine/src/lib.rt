@@ -1,23 +1,20 @@
-//! The step table: the state of the two nodes, every line of the table, and what holds over every schedule.
+//! The machine: the state of the two nodes in memory, and every line of the step table.
 #![tactic(auto)]
 
-mod access;
 mod answer;
 mod client;
-pub mod entry;
 mod frame;
 mod keys;
-pub mod laws;
-pub mod links;
 pub mod machine;
-pub mod modes;
+mod mailbox;
+mod marks;
 mod open;
-pub mod outcome;
+mod owned;
 mod page_store;
-pub mod place;
+mod push;
 mod run;
-pub mod status;
 mod store;
+mod take;
 #[cfg(test)]
 mod tests;
 pub mod txn;

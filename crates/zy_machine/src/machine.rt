@@ -2,18 +2,17 @@
 ghost use Rattle.std.specs.Prelude.{◌≡◌, ◌<◌, ◌≤◌, ◌+◌, ◌-◌, ◌++◌, ◌∷◌, [], true, ℕ, Some, IfOk, OnOk, OnErr, IsSome, length, slice_get, option_copied};
 ghost use Rattle.std.specs.FinMap.{get};
 ghost use Rattle.zy_isa.specs.Choices.{names_below};
-ghost use Rattle.zy_machine.specs.State.{facing};
-ghost use Rattle.zy_machine.specs.Pages.{page_in};
-ghost use Rattle.zy_machine.specs.Change.{txn_or};
-ghost use Rattle.zy_machine.specs.Database.{database, all_leaves, newest};
-ghost use Rattle.zy_machine.specs.Play.{step as step_lem, play, entries, opening, entry_of};
-ghost use Rattle.zy_machine.specs.Places.{place_of};
+ghost use Rattle.zy_links.specs.Messages.{messages_of};
+ghost use Rattle.zy_table.specs.State.{facing};
+ghost use Rattle.zy_table.specs.Pages.{page_in};
+ghost use Rattle.zy_table.specs.Change.{txn_or};
+ghost use Rattle.zy_table.specs.Database.{database, all_leaves, newest};
+ghost use Rattle.zy_table.specs.Play.{step as step_lem, play, entries, opening, entry_of};
+ghost use Rattle.zy_table.specs.Places.{place_of};
 ghost use Rattle.zy_machine.specs.Stores.{shown, IsPossible, Steps};
 
 use crate::answer::Answer;
-use crate::entry::{CommitRec, Entry};
-use crate::modes::NodeMode;
-use crate::place::Place;
+use crate::frame::Frame;
 use crate::store::Store;
 use crate::txn::Txn;
 use std::alloc::{AllocError, Global};
@@ -21,8 +20,12 @@ use std::marker::Model;
 use zy_isa::choice::Choice;
 use zy_isa::node::Node;
 use zy_isa::scenario::Scenario;
+use zy_links::link::Link;
 use zy_locks::lock::Lock;
+use zy_modes::mode::NodeMode;
 use zy_page::page::Page;
+use zy_table::entry::{CommitRec, Entry};
+use zy_table::place::Place;
 
 /// What a call of the machine may fail by: 1, want of memory.
 pub type Fault = AllocError;
@@ -147,8 +150,7 @@ impl Machine {
         ensures replay { IsReplay self.now }
         ensures there { (p : ℕ) → p < result → IsSome (page_in p (all_leaves self.now.state)) }
     {
-        let (a, b) = (self.store.a.wire.len(), self.store.b.wire.len());
-        if a < b { b as u16 } else { a as u16 }
+        self.store.newest_wire().len() as u16
     }
 
     /// The mode of a node.
@@ -165,6 +167,16 @@ impl Machine {
         ensures replay { IsReplay self.entry.now }
     {
         self.store.txn(t)
+    }
+
+    /// The messages on their way from a node to the other.
+    pub fn link(&self, n: Node) -> &Link
+        ensures { messages_of result.now.messages ≡ (facing n self.entry.now.state).outbox }
+    {
+        match n {
+            Node::A => self.store.a.outbox.link(),
+            Node::B => self.store.b.outbox.link(),
+        }
     }
 
     /// The locks of a node, by page and then transaction.
@@ -189,6 +201,10 @@ impl Machine {
             Place::At(Node::A)
         } else if self.store.b.pages.owns(p) {
             Place::At(Node::B)
+        } else if self.store.a.outbox.page(p).is_some() {
+            Place::Moving(Node::A)
+        } else if self.store.b.outbox.page(p).is_some() {
+            Place::Moving(Node::B)
         } else {
             Place::Nowhere
         }
@@ -198,31 +214,53 @@ impl Machine {
     pub fn page(&self, p: u16) -> Option<&Page>
         ensures { option_copied result ≡ page_in p (all_leaves self.entry.now.state) }
     {
-        match self.store.a.pages.get(p) {
-            Some(page) => Some(page),
-            None => self.store.b.pages.get(p),
+        let (a, b) = (&self.store.a, &self.store.b);
+        if let Some(page) = a.pages.get(p) {
+            return Some(page);
         }
+        if let Some(page) = b.pages.get(p) {
+            return Some(page);
+        }
+        if let Some(page) = b.outbox.page(p) {
+            return Some(page);
+        }
+        a.outbox.page(p)
     }
 
     /// The committed value at a key.
     pub fn value(&self, key: u16) -> Option<u32>
         ensures { result ≡ get (database self.now.state) key }
     {
-        let p = self.store.page_of(Node::A, key);
-        self.store.committed_value(Node::A, p, key)
+        let page = self.page(self.store.newest_wire().page_of(key))?;
+        page.get(key)
     }
 }
 
 impl Store {
+    /// The wireframe of A, unless B's has more pages.
+    fn newest_wire(&self) -> &Frame
+        ensures { result.now.lows ≡ newest (shown self.entry.now) }
+    {
+        if self.a.wire.len() < self.b.wire.len() {
+            &self.b.wire
+        } else {
+            &self.a.wire
+        }
+    }
+
     /// The step that a choice makes.
     fn step(&mut self, scenario: &Scenario, choice: Choice) -> Result<Answer, AllocError>
         requires { IsPossible scenario.now choice self.old }
         ensures { Steps self.old self.new result (step_lem scenario.now choice (shown self.old)) }
     {
         match choice {
+            Choice::Start => self.start_row(),
             Choice::Begin(t) => Ok(self.begin_row(t)),
             Choice::Kill(t) => Ok(self.kill_row(t)),
             Choice::Run(n, t) => self.run_row(scenario, n, t),
+            Choice::Take(n) => self.take_row(scenario, n),
+            Choice::Finish(n) => self.finish_row(n),
+            Choice::Push(n) => self.push_row(n),
         }
     }
 }

@@ -2,15 +2,16 @@
 ghost use Rattle.std.specs.Prelude.{◌≡◌, ◌<◌, ◌≤◌, ◌+◌, ◌==◌, if◌then◌else◌, [], ◌∷◌, IfOk, OnOk, Contains, length, map};
 ghost use Rattle.zy_isa.specs.Rows.{Rising};
 ghost use Rattle.zy_isa.specs.Scenario.{opening_rows as opening_rows_lem};
-ghost use Rattle.zy_machine.specs.declared.modes.NodeMode.TheVariants.{Normal};
-ghost use Rattle.zy_machine.specs.Change.{nobody};
-ghost use Rattle.zy_machine.specs.Play.{opening, opening_leaves, home_with, blank, bare_node};
-ghost use Rattle.zy_machine.specs.Layout.{AreNumbered, IsOver, pages_of, with_leaves};
+ghost use Rattle.zy_modes.specs.declared.mode.NodeMode.TheVariants.{Normal};
+ghost use Rattle.zy_table.specs.Change.{nobody};
+ghost use Rattle.zy_table.specs.Play.{opening, opening_leaves, home_with, blank, bare_node};
+ghost use Rattle.zy_table.specs.Layout.{AreNumbered, IsOver, pages_of, with_leaves};
 ghost use Rattle.zy_machine.specs.Stores.{shown, node_shown};
 
 use crate::frame::Frame;
-use crate::modes::NodeMode;
-use crate::page_store::PageStore;
+use crate::mailbox::Mailbox;
+use crate::marks::Marks;
+use crate::owned::Owned;
 use crate::store::{NodeStore, Store};
 use crate::txn::Txn;
 use std::alloc::{AllocError, Global};
@@ -18,10 +19,11 @@ use zy_isa::program::Program;
 use zy_isa::row::Row;
 use zy_isa::scenario::{Scenario, opening_rows};
 use zy_locks::locks::Locks;
+use zy_modes::mode::NodeMode;
 use zy_page::page::Page;
 
 impl Store {
-    #[tactic(auto, unfolding(crate::specs::Play::opening))]
+    #[tactic(auto, unfolding(zy_table::specs::Play::opening))]
     /// The state in which a scenario opens: A has all pages, and nothing has begun.
     pub(crate) fn open(alloc: Global, scenario: &Scenario) -> Result<Store, AllocError>
         ensures { IfOk result (λ s. shown s ≡ opening scenario.now) }
@@ -41,7 +43,8 @@ impl Store {
 
 /// A node in Normal with the pages that a scenario opens with.
 fn home(alloc: Global, scenario: &Scenario) -> Result<NodeStore, AllocError>
-    ensures { IfOk result (λ x. node_shown x ≡ home_with (opening_leaves (opening_rows_lem scenario.now.cap) scenario.now.rows)) }
+    ensures outbox { IfOk result (λ x. x.outbox.messages ≡ []) }
+    ensures node { IfOk result (λ x. node_shown x ≡ home_with (opening_leaves (opening_rows_lem scenario.now.cap) scenario.now.rows)) }
 {
     let rows = scenario.rows();
     let mut node = empty_node(alloc, NodeMode::Normal)?;
@@ -59,11 +62,12 @@ impl NodeStore {
         requires some { 1 ≤ share }
         requires few { share ≤ 16 }
         requires rise { Rising 0 rows.now }
-        requires numbered { AreNumbered 0 self.old.pages.pages }
-        requires all { length self.old.wire.lows ≡ length self.old.pages.pages }
+        requires numbered { AreNumbered 0 self.old.pages }
+        requires all { length self.old.wire.lows ≡ length self.old.pages }
         requires over { IsOver self.old.wire.lows rows.now }
         requires room { length self.old.wire.lows + length (pages_of share (length self.old.wire.lows) rows.now) ≤ 512 }
-        ensures { OnOk result (node_shown self.new ≡ with_leaves (pages_of share (length self.old.wire.lows) rows.now) (node_shown self.old)) }
+        ensures outbox { self.new.outbox ≡ self.old.outbox }
+        ensures node { OnOk result (node_shown self.new ≡ with_leaves (pages_of share (length self.old.wire.lows) rows.now) (node_shown self.old)) }
     {
         let mut left = rows;
         while let Some(first) = left.first() {
@@ -86,11 +90,12 @@ impl NodeStore {
     fn add_page(&mut self, alloc: Global, low: u16, rows: &[Row]) -> Result<(), AllocError>
         requires rise { Rising 0 rows.now }
         requires few { length rows.now ≤ 16 }
-        requires numbered { AreNumbered 0 self.old.pages.pages }
-        requires all { length self.old.wire.lows ≡ length self.old.pages.pages }
+        requires numbered { AreNumbered 0 self.old.pages }
+        requires all { length self.old.wire.lows ≡ length self.old.pages }
         requires other { ¬ Contains self.old.wire.lows low }
         requires room { length self.old.wire.lows < 512 }
-        ensures { OnOk result (node_shown self.new ≡ with_leaves (record { number = length self.old.wire.lows; low = low; rows = rows.now } ∷ []) (node_shown self.old)) }
+        ensures outbox { self.new.outbox ≡ self.old.outbox }
+        ensures node { OnOk result (node_shown self.new ≡ with_leaves (record { number = length self.old.wire.lows; low = low; rows = rows.now } ∷ []) (node_shown self.old)) }
     {
         let number = self.wire.len() as u16;
         let page = filled_page(alloc, number, low, rows)?;
@@ -103,21 +108,26 @@ impl NodeStore {
 
 /// A node without pages, in Empty.
 fn bare(alloc: Global) -> Result<NodeStore, AllocError>
-    ensures { IfOk result (λ x. node_shown x ≡ bare_node) }
+    ensures outbox { IfOk result (λ x. x.outbox.messages ≡ []) }
+    ensures node { IfOk result (λ x. node_shown x ≡ bare_node) }
 {
     empty_node(alloc, NodeMode::Empty)
 }
 
 /// A node without pages.
 fn empty_node(alloc: Global, mode: NodeMode) -> Result<NodeStore, AllocError>
-    ensures { IfOk result (λ x. node_shown x ≡ record { mode = mode; lows = []; pages = []; asked = []; locks = [] }) }
+    ensures outbox { IfOk result (λ x. x.outbox.messages ≡ []) }
+    ensures node { IfOk result (λ x. node_shown x ≡ record { mode = mode; lows = []; pages = []; asked = []; locks = [] }) }
 {
-    let store = PageStore::new(alloc)?;
+    let pages = Owned::new(alloc)?;
+    let asked = Marks::new(alloc)?;
     Ok(NodeStore {
         mode,
         wire: Frame::new(alloc),
-        pages: store,
+        pages,
+        asked,
         locks: Locks::new(alloc),
+        outbox: Mailbox::new(alloc),
     })
 }
 

@@ -1,9 +1,11 @@
 //! The pages of a node, in slots by number.
-ghost use Rattle.std.specs.Prelude.{◌≡◌, ◌<◌, [], None, true, IfOk, IfSome, OnOk, OnErr, is_some, length, option_copied};
+ghost use Rattle.std.specs.Prelude.{◌≡◌, ◌<◌, ◌≤◌, ◌+◌, ℕ, [], None, true, IfOk, IfSome, OnOk, OnErr, is_some, length, option_copied};
 ghost use Rattle.zy_isa.specs.Rows.{get_row, put_row};
 ghost use Rattle.zy_page.specs.Leaf.{Leaf, rows_from};
 ghost use Rattle.zy_machine.specs.Shelf.{Shelf, with_row};
-ghost use Rattle.zy_machine.specs.Pages.{lowered, owns as owns_lem, page_in, rows_of, with_page};
+ghost use Rattle.zy_table.specs.Order.{NumbersRise};
+ghost use Rattle.zy_table.specs.Numbers.{least};
+ghost use Rattle.zy_table.specs.Pages.{leaf_at, lowered, numbers, owns as owns_lem, page_in, rows_of, with_page, without};
 ghost use Rattle.zy_machine.specs.Install.{HasRoomFor, IsRoomy};
 
 use std::alloc::{AllocError, Global};
@@ -51,6 +53,15 @@ impl PageStore {
         }
     }
 
+    /// How many slots there are. The pages stand in order of their numbers, and there are no more of them.
+    pub(crate) fn len(&self) -> usize
+        ensures slots { result ≡ self.now.width }
+        ensures few { length self.now.pages ≤ 512 }
+        ensures rise { NumbersRise 0 (numbers self.now.pages) }
+    {
+        self.slots.len()
+    }
+
     /// Whether the page of a number is here.
     pub(crate) fn owns(&self, p: u16) -> bool
         ensures { result ≡ owns_lem self.now.pages p }
@@ -66,6 +77,33 @@ impl PageStore {
     {
         let at = usize::from(page.number());
         self.slots[at] = Some(page);
+    }
+
+    /// Moves a page out.
+    pub(crate) fn take(&mut self, p: u16) -> Page
+        requires { owns_lem self.old.pages p ≡ true }
+        ensures page { result ≡ leaf_at self.old.pages p }
+        ensures left { self.new ≡ record self.old { pages = without p self.old.pages } }
+        ensures count { length self.old.pages ≡ length self.new.pages + 1 }
+    {
+        match self.slots[usize::from(p)].take() {
+            Some(page) => page,
+            None => unreachable!(),
+        }
+    }
+
+    /// The lowest page that is here, none of which has a number below `from`.
+    pub(crate) fn lowest_from(&self, from: u16) -> Option<u16>
+        requires { (q : ℕ) → owns_lem self.now.pages q ≡ true → from ≤ q }
+        ensures { result ≡ least (numbers self.now.pages) }
+    {
+        let _ = &self.slots;
+        for p in from..MAX_PAGES {
+            if self.owns(p) {
+                return Some(p);
+            }
+        }
+        None
     }
 
     /// Puts a row on a page, if that page is here and has room for it.

@@ -1,29 +1,30 @@
 //! `n run t`, line by line: each function is the line of its name.
 ghost use Rattle.std.specs.Prelude.{◌≡◌, ◌<◌, ◌≤◌, ◌+◌, Ok, Some, length, slice_get, false, true, unwrap_or, if◌then◌else◌};
 ghost use Rattle.zy_isa.specs.Rows.{get_row};
-ghost use Rattle.zy_machine.specs.Pages.{rows_of};
+ghost use Rattle.zy_table.specs.Pages.{owns, rows_of};
+ghost use Rattle.zy_modes.specs.Table.{may_split};
 ghost use Rattle.zy_locks.specs.Locks.{conflict};
 ghost use Rattle.zy_locks.specs.declared.lock.LockKind.TheVariants.{Shared, Exclusive};
-ghost use Rattle.zy_machine.specs.State.{facing};
-ghost use Rattle.zy_machine.specs.Change.{txn_at, locked};
-ghost use Rattle.zy_machine.specs.Run.{lock_of, abort_row as abort_row_lem, set_row as set_row_lem, jump_row as jump_row_lem, commit_row as commit_row_lem, read_row as read_row_lem, write_row as write_row_lem, insert_row as insert_row_lem, full_row as full_row_lem, split_row as split_row_lem, access_row as access_row_lem, page_row as page_row_lem, key_row as key_row_lem, instr_row as instr_row_lem, run_row as run_row_lem, has_room as has_room_lem, program_of};
+ghost use Rattle.zy_table.specs.State.{facing};
+ghost use Rattle.zy_table.specs.Change.{txn_at, locked};
+ghost use Rattle.zy_table.specs.Run.{lock_of, abort_row as abort_row_lem, set_row as set_row_lem, jump_row as jump_row_lem, commit_row as commit_row_lem, absent_row as absent_row_lem, read_row as read_row_lem, write_row as write_row_lem, insert_row as insert_row_lem, full_row as full_row_lem, split_row as split_row_lem, access_row as access_row_lem, page_row as page_row_lem, key_row as key_row_lem, instr_row as instr_row_lem, run_row as run_row_lem, has_room as has_room_lem, program_of};
 ghost use Rattle.zy_machine.specs.Stores.{shown, node_in, IsMade, Makes, Countable, Rooms, IsFree, IsFull, MaySplit, IsReady};
 ghost use Rattle.zy_wire.specs.Wireframe.{page_of as page_of_lem};
 
-use crate::access::Access;
 use crate::answer::Answer;
-use crate::modes::NodeMode;
-use crate::outcome::{Outcome, Why};
 use crate::store::Store;
 use std::alloc::AllocError;
 use zy_isa::instr::{Instr, Reg};
 use zy_isa::node::Node;
 use zy_isa::scenario::Scenario;
 use zy_locks::lock::LockKind;
+use zy_modes::kind::Kind;
+use zy_table::access::Access;
+use zy_table::outcome::{Outcome, Why};
 
 impl Store {
     /// The lines of a node's run.
-    #[tactic(auto, unfolding(crate::specs::Run::run_row))]
+    #[tactic(auto, unfolding(zy_table::specs::Run::run_row))]
     pub(crate) fn run_row(
         &mut self,
         scenario: &Scenario,
@@ -40,12 +41,15 @@ impl Store {
         if txn.node() != n {
             return Ok(Answer::quiet(Outcome::Elsewhere));
         }
+        if self.node(n).mode.is_waiting() {
+            return Ok(Answer::quiet(Outcome::NotYet));
+        }
         let instr = next_instr(scenario, t, txn.place());
         self.instr_row(scenario, n, t, instr)
     }
 
     /// The lines of one instruction.
-    #[tactic(auto, unfolding(crate::specs::Run::instr_row))]
+    #[tactic(auto, unfolding(zy_table::specs::Run::instr_row))]
     fn instr_row(
         &mut self,
         scenario: &Scenario,
@@ -88,7 +92,7 @@ impl Store {
     }
 
     /// An abort.
-    #[tactic(auto, unfolding(crate::specs::Run::abort_row))]
+    #[tactic(auto, unfolding(zy_table::specs::Run::abort_row))]
     fn abort_row(&mut self, n: Node, t: u8, why: Why) -> Answer
         requires { t < length self.old.txns.items }
         ensures { IsMade n self.new result (abort_row_lem t why (facing n (shown self.old))) }
@@ -98,7 +102,7 @@ impl Store {
     }
 
     /// `set` and `add`: a register gets a value.
-    #[tactic(auto, unfolding(crate::specs::Run::set_row))]
+    #[tactic(auto, unfolding(zy_table::specs::Run::set_row))]
     fn set_row(&mut self, n: Node, t: u8, r: Reg, value: u32) -> Answer
         requires { Countable t self.old }
         ensures { IsMade n self.new result (set_row_lem t r value (facing n (shown self.old))) }
@@ -108,7 +112,7 @@ impl Store {
     }
 
     /// `beq`.
-    #[tactic(auto, unfolding(crate::specs::Run::jump_row))]
+    #[tactic(auto, unfolding(zy_table::specs::Run::jump_row))]
     fn jump_row(&mut self, n: Node, t: u8, taken: bool, target: u32) -> Answer
         requires { Countable t self.old }
         ensures { IsMade n self.new result (jump_row_lem t taken target (facing n (shown self.old))) }
@@ -119,19 +123,22 @@ impl Store {
     }
 
     /// `commit`.
-    #[tactic(auto, unfolding(crate::specs::Run::commit_row))]
+    #[tactic(auto, unfolding(zy_table::specs::Run::commit_row, zy_table::specs::Run::commit_or_gone))]
     fn commit_row(&mut self, n: Node, t: u8) -> Result<Answer, AllocError>
         requires counts { Countable t self.old }
         requires room { Rooms n t self.old }
         ensures { Makes n self.old self.new result (commit_row_lem t (facing n (shown self.old))) }
     {
+        if let Some(p) = self.gone_page(n, t) {
+            return Ok(self.abort_row(n, t, Why::Gone(p)));
+        }
         let place = self.commits.len() as u8 + 1;
         self.commit(n, t)?;
         Ok(Answer::quiet(Outcome::Committed(place)))
     }
 
     /// A key and its page.
-    #[tactic(auto, unfolding(crate::specs::Run::key_row))]
+    #[tactic(auto, unfolding(zy_table::specs::Run::key_row))]
     fn key_row(
         &mut self,
         scenario: &Scenario,
@@ -151,8 +158,27 @@ impl Store {
         self.page_row(scenario, n, t, access, key, p)
     }
 
-    /// The lock: in another's way, or to be taken.
-    #[tactic(auto, unfolding(crate::specs::Run::page_row, crate::specs::Run::access_row))]
+    /// A page that is not here: it is asked for, or the transaction has lost it.
+    #[tactic(auto, unfolding(zy_table::specs::Run::absent_row))]
+    fn absent_row(&mut self, n: Node, t: u8, p: u16) -> Result<Answer, AllocError>
+        requires there { t < length self.old.txns.items }
+        requires few { p < 512 }
+        ensures { Makes n self.old self.new result (absent_row_lem t p (facing n (shown self.old))) }
+    {
+        let node = self.node(n);
+        if !node.mode.may_pull() {
+            return Ok(self.abort_row(n, t, Why::Gone(p)));
+        }
+        if node.asked.has(p) {
+            return Ok(Answer::quiet(Outcome::Awaits(p)));
+        }
+        self.reserve_post(n)?;
+        self.ask(n, p);
+        Ok(Answer::sends(Outcome::Pulls(p), Kind::Pull))
+    }
+
+    /// The page: not here, or another's lock is in the way, or the lock is to be taken.
+    #[tactic(auto, unfolding(zy_table::specs::Run::page_row, zy_table::specs::Run::access_row))]
     fn page_row(
         &mut self,
         scenario: &Scenario,
@@ -165,8 +191,12 @@ impl Store {
         requires counts { Countable t self.old }
         requires splits { MaySplit scenario.now t (facing n (shown self.old)) }
         requires on { p ≡ page_of_lem (facing n (shown self.old)).me.lows key }
+        requires few { p < 512 }
         ensures { Makes n self.old self.new result (page_row_lem scenario.now t access key p (facing n (shown self.old))) }
     {
+        if !self.owns(n, p) {
+            return self.absent_row(n, t, p);
+        }
         if self.conflicts(n, p, t, access.lock()) {
             return Ok(Answer::quiet(Outcome::Waits(p)));
         }
@@ -179,7 +209,7 @@ impl Store {
     }
 
     /// `read` on a page that is free for it.
-    #[tactic(auto, unfolding(crate::specs::Run::read_row))]
+    #[tactic(auto, unfolding(zy_table::specs::Run::read_row))]
     fn read_row(&mut self, n: Node, t: u8, r: Reg, key: u16, p: u16) -> Answer
         requires counts { Countable t self.old }
         requires free { IsFree n p t Shared self.old }
@@ -192,7 +222,7 @@ impl Store {
     }
 
     /// `write` on a page that is free for it.
-    #[tactic(auto, unfolding(crate::specs::Run::write_row))]
+    #[tactic(auto, unfolding(zy_table::specs::Run::write_row))]
     fn write_row(
         &mut self,
         n: Node,
@@ -214,7 +244,7 @@ impl Store {
     }
 
     /// `insert` on a page that is free for it.
-    #[tactic(auto, unfolding(crate::specs::Run::insert_row))]
+    #[tactic(auto, unfolding(zy_table::specs::Run::insert_row))]
     fn insert_row(
         &mut self,
         scenario: &Scenario,
@@ -228,6 +258,7 @@ impl Store {
         requires splits { MaySplit scenario.now t (facing n (shown self.old)) }
         requires on { p ≡ page_of_lem (facing n (shown self.old)).me.lows key }
         requires free { IsFree n p t Exclusive self.old }
+        requires owned { owns (facing n (shown self.old)).me.pages p ≡ true }
         ensures { Makes n self.old self.new result (insert_row_lem scenario.now t key value p (locked t p Exclusive (facing n (shown self.old)))) }
     {
         if self.is_there(n, t, p, key) {
@@ -254,7 +285,7 @@ impl Store {
         ensures { Makes n self.old self.new result (full_row_lem scenario.now t key p (locked t p Exclusive (facing n (shown self.old)))) }
     {
         let node = self.node(n);
-        if node.mode != NodeMode::Normal {
+        if !node.mode.may_split() {
             return Ok(self.abort_row(n, t, Why::Frozen(p)));
         }
         if node.wire.len() >= usize::from(scenario.pages()) {
@@ -273,6 +304,7 @@ impl Store {
         p: u16,
     ) -> Result<Answer, AllocError>
         requires full { IsFull scenario.now n t key p self.old }
+        requires normal { may_split (facing n (shown self.old)).me.mode ≡ true }
         requires more { length (facing n (shown self.old)).me.lows < scenario.now.pages }
         ensures { Makes n self.old self.new result (split_row_lem scenario.now t key p (locked t p Exclusive (facing n (shown self.old)))) }
     {

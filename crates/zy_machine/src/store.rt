@@ -1,41 +1,49 @@
 //! The state of a machine, and the changes that the table names.
-ghost use Rattle.std.specs.Prelude.{◌≡◌, ◌==◌, ◌<◌, ◌+◌, ◌^◌, ◌≤◌, ◌++◌, ◌&&◌, false, OnOk, OnErr, IfOk, is_some, not, length, slice_get};
+ghost use Rattle.std.specs.Prelude.{◌≡◌, ◌==◌, ◌<◌, ◌+◌, ◌^◌, ◌≤◌, ◌++◌, [], ◌∷◌, true, ◌&&◌, false, OnOk, OnErr, IfOk, is_some, not, length, slice_get};
+ghost use Rattle.zy_links.specs.Messages.{Pull};
 ghost use Rattle.std.specs.List.Sorted.{IsNonDecreasing};
 ghost use Rattle.zy_isa.specs.Rows.{get_row, put_row};
 ghost use Rattle.zy_isa.specs.declared.node.Node.TheVariants.{A};
 ghost use Rattle.zy_locks.specs.Locks.{conflict, add_lock};
 ghost use Rattle.zy_locks.specs.declared.lock.LockKind.TheVariants.{Exclusive};
-ghost use Rattle.zy_machine.specs.State.{facing, seen_from, with_me};
+ghost use Rattle.zy_table.specs.State.{facing, seen_from, with_me};
 ghost use Rattle.zy_wire.specs.Wireframe.{page_of as page_of_lem};
-ghost use Rattle.zy_machine.specs.Pages.{rows_of};
-ghost use Rattle.zy_machine.specs.Rows.{rows_on, rows_not_in};
-ghost use Rattle.zy_machine.specs.Keys.{keys_of, put_key as put_key_lem, put_keys as put_keys_lem};
-ghost use Rattle.zy_machine.specs.Change.{txn_at, txn_or, with_reg, unlocked, installed, with_installed, begun as begun_lem, aborted as aborted_lem, did as did_lem, locked as locked_lem, cut as cut_lem, cut_page, committed as committed_lem};
-ghost use Rattle.zy_machine.specs.Run.{boundary as boundary_lem, is_there as is_there_lem, own_inserts as own_inserts_lem, has_room};
-ghost use Rattle.zy_machine.specs.Stores.{shown, node_shown, node_in, Countable, Rooms, AreRoomy, TriesAt, IsFree, IsCuttable};
+ghost use Rattle.zy_table.specs.Numbers.{has, least};
+ghost use Rattle.zy_table.specs.Pages.{owns as owns_lem, rows_of};
+ghost use Rattle.zy_table.specs.Rows.{rows_on, rows_not_in};
+ghost use Rattle.zy_table.specs.Keys.{keys_of, put_key as put_key_lem, put_keys as put_keys_lem};
+ghost use Rattle.zy_table.specs.Change.{txn_at, txn_or, with_reg, unlocked, installed, with_installed, begun as begun_lem, aborted as aborted_lem, did as did_lem, asks as asks_lem, locked as locked_lem, cut as cut_lem, cut_page, committed as committed_lem};
+ghost use Rattle.zy_table.specs.Run.{gone_pages, boundary as boundary_lem, is_there as is_there_lem, own_inserts as own_inserts_lem, has_room};
+ghost use Rattle.zy_machine.specs.Stores.{lower as lower_lem, shown, node_shown, node_in, Countable, Rooms, AreRoomy, TriesAt, IsFree, IsCuttable};
 
-use crate::entry::CommitRec;
 use crate::frame::Frame;
 use crate::keys::{put_key, put_keys};
-use crate::modes::NodeMode;
-use crate::outcome::Why;
-use crate::page_store::PageStore;
+use crate::mailbox::Mailbox;
+use crate::marks::Marks;
+use crate::owned::Owned;
 use crate::txn::Txn;
 use std::alloc::{AllocError, Global};
 use zy_isa::instr::Reg;
 use zy_isa::node::Node;
 use zy_isa::row::Row;
 use zy_isa::scenario::{MAX_CAP, Scenario};
+use zy_links::message::Message;
 use zy_locks::lock::LockKind;
 use zy_locks::locks::{Locks, Tried};
+use zy_modes::mode::NodeMode;
+use zy_table::entry::CommitRec;
+use zy_table::outcome::Why;
 
-/// One node: its mode, its wireframe, the pages that it owns, and its locks.
+/// One node: its mode, its wireframe, the pages that it owns and those that it asked for, its locks, and the link to the
+/// other node.
 #[derive(Drop)]
 pub(crate) struct NodeStore {
     pub mode: NodeMode,
     pub wire: Frame,
-    pub pages: PageStore,
+    pub pages: Owned,
+    pub asked: Marks,
     pub locks: Locks,
+    pub outbox: Mailbox,
 }
 
 /// The state: both nodes, the transactions by number, the commits in order; and where new pages come from.
@@ -56,6 +64,7 @@ impl NodeStore {
         ensures ok { OnOk result (let x = node_shown self.old in
             node_shown self.new ≡ cut_page t p boundary (record x { locks = add_lock p t Exclusive x.locks })) }
         ensures err { OnErr result (node_shown self.new ≡ node_shown self.old) }
+        ensures outbox { self.new.outbox ≡ self.old.outbox }
     {
         let number = self.wire.len() as u16;
         self.locks.reserve(2)?;
@@ -67,9 +76,21 @@ impl NodeStore {
         Ok(())
     }
 
+    /// Asks for a page.
+    fn ask(&mut self, p: u16)
+        requires few { p < 512 }
+        requires absent { has self.old.asked p ≡ false }
+        requires room { 1 ≤ self.old.outbox.spare }
+        ensures node { let x = node_shown self.old in node_shown self.new ≡ record x { asked = put_key_lem p x.asked } }
+        ensures outbox { self.new.outbox.messages ≡ self.old.outbox.messages ++ Pull p ∷ [] }
+    {
+        self.asked.put(p);
+        self.outbox.send(Message::Pull(p));
+    }
+
     /// The committed value at a key on a page; none where the page is not here.
     fn value(&self, p: u16, key: u16) -> Option<u32>
-        ensures { result ≡ get_row (rows_of self.now.pages.pages p) key }
+        ensures { result ≡ get_row (rows_of self.now.pages p) key }
     {
         match self.pages.get(p) {
             Some(page) => page.get(key),
@@ -79,7 +100,7 @@ impl NodeStore {
 
     /// Whether a key lies on a page that has no row at it.
     fn is_new(&self, p: u16, key: u16) -> bool
-        ensures { result ≡ ((page_of_lem self.now.wire.lows key == p) && not (is_some (get_row (rows_of self.now.pages.pages p) key))) }
+        ensures { result ≡ ((page_of_lem self.now.wire.lows key == p) && not (is_some (get_row (rows_of self.now.pages p) key))) }
     {
         self.wire.page_of(key) == p && self.value(p, key).is_none()
     }
@@ -87,7 +108,7 @@ impl NodeStore {
     /// Puts the keys of those rows that lie on a page and are new there among keys in order.
     fn put_new_keys(&self, keys: &mut Vec<u16>, p: u16, rows: &[Row]) -> Result<(), AllocError>
         requires { IsNonDecreasing keys.old.items }
-        ensures keys { OnOk result (let new = rows_not_in (rows_on self.now.wire.lows p rows.now) (rows_of self.now.pages.pages p) in
+        ensures keys { OnOk result (let new = rows_not_in (rows_on self.now.wire.lows p rows.now) (rows_of self.now.pages p) in
             keys.new.items ≡ put_keys_lem new keys.old.items) }
         ensures order { OnOk result (IsNonDecreasing keys.new.items) }
     {
@@ -101,7 +122,7 @@ impl NodeStore {
 
     /// The keys of a page and of those private rows that are new there, in order.
     fn keys(&self, alloc: Global, p: u16, private: &[Row]) -> Result<Vec<u16>, AllocError>
-        ensures keys { let held = rows_of self.now.pages.pages p in
+        ensures keys { let held = rows_of self.now.pages p in
             IfOk result (λ keys. keys.items ≡ keys_of (held ++ rows_not_in (rows_on self.now.wire.lows p private.now) held)) }
         ensures order { IfOk result (λ keys. IsNonDecreasing keys.items) }
     {
@@ -135,7 +156,8 @@ impl Store {
 
     /// The page of a key by a node's wireframe.
     pub(crate) fn page_of(&self, n: Node, key: u16) -> u16
-        ensures { result ≡ page_of_lem (facing n (shown self.now)).me.lows key }
+        ensures value { result ≡ page_of_lem (facing n (shown self.now)).me.lows key }
+        ensures few { result < 512 }
     {
         self.node(n).wire.page_of(key)
     }
@@ -201,6 +223,21 @@ impl Store {
         let mut keys = self.node(n).keys(self.alloc, p, self.txn(t).rows())?;
         put_key(&mut keys, key)?;
         Ok(keys)
+    }
+
+    /// Whether a node owns a page.
+    pub(crate) fn owns(&self, n: Node, p: u16) -> bool
+        ensures { result ≡ owns_lem (facing n (shown self.now)).me.pages p }
+    {
+        self.node(n).pages.owns(p)
+    }
+
+    /// The lowest page of a transaction's private rows that a node does not own.
+    pub(crate) fn gone_page(&self, n: Node, t: u8) -> Option<u16>
+        requires { t < length self.now.txns.items }
+        ensures { let s = facing n (shown self.now) in result ≡ least (gone_pages s.me (txn_at s t).rows) }
+    {
+        gone_page(self.node(n), self.txn(t).rows())
     }
 
     /// Whether a key is private to a transaction or committed on a page.
@@ -297,6 +334,20 @@ impl Store {
         }
     }
 
+    /// A page is asked for.
+    #[tactic(auto, unfolding(zy_table::specs::Change::asks))]
+    pub(crate) fn ask(&mut self, n: Node, p: u16)
+        requires few { p < 512 }
+        requires absent { has (facing n (shown self.old)).me.asked p ≡ false }
+        requires room { 1 ≤ (node_in n self.old).outbox.spare }
+        ensures { shown self.new ≡ seen_from n (asks_lem p (facing n (shown self.old))) }
+    {
+        match n {
+            Node::A => self.a.ask(p),
+            Node::B => self.b.ask(p),
+        }
+    }
+
     /// Drops the locks of a transaction at a node.
     fn release(&mut self, n: Node, t: u8)
         ensures shown { let s = facing n (shown self.old) in shown self.new ≡ seen_from n (with_me (unlocked t s.me) s) }
@@ -322,7 +373,7 @@ impl Store {
         }
     }
 
-    #[tactic(auto, unfolding(crate::specs::Change::locked, crate::specs::Change::cut))]
+    #[tactic(auto, unfolding(zy_table::specs::Change::locked, zy_table::specs::Change::cut))]
     /// A page of a node is cut at a boundary for a transaction, which gets the locks on both parts.
     pub(crate) fn cut(&mut self, n: Node, t: u8, p: u16, boundary: u16) -> Result<(), AllocError>
         requires { IsCuttable t p boundary (facing n (shown self.old)).me }
@@ -367,9 +418,33 @@ fn lock_alone(locks: &mut Locks, p: u16, t: u8)
     }
 }
 
+/// The lowest page of these rows that a node does not own.
+fn gone_page(node: &NodeStore, rows: &[Row]) -> Option<u16>
+    ensures { result ≡ least (gone_pages (node_shown node.now) rows.now) }
+{
+    let mut lowest: Option<u16> = None;
+    for row in rows {
+        let p = node.wire.page_of(row.key);
+        if !node.pages.owns(p) {
+            lowest = Some(lower(lowest, p));
+        }
+    }
+    lowest
+}
+
+/// The lower of a page, if there is one, and another.
+fn lower(lowest: Option<u16>, p: u16) -> u16
+    ensures { result ≡ lower_lem lowest p }
+{
+    match lowest {
+        Some(q) if q <= p => q,
+        _ => p,
+    }
+}
+
 /// How many of these rows lie on a page of a node and are new there.
 fn new_rows(node: &NodeStore, p: u16, rows: &[Row]) -> usize
-    ensures { result ≡ length (rows_not_in (rows_on node.now.wire.lows p rows.now) (rows_of node.now.pages.pages p)) }
+    ensures { result ≡ length (rows_not_in (rows_on node.now.wire.lows p rows.now) (rows_of node.now.pages p)) }
 {
     let mut count = 0;
     for row in rows {
@@ -381,9 +456,9 @@ fn new_rows(node: &NodeStore, p: u16, rows: &[Row]) -> usize
 }
 
 /// Puts rows on the pages where they lie, the last one first.
-fn install(wire: &Frame, pages: &mut PageStore, rows: &[Row])
-    requires { AreRoomy wire.now.lows rows.now pages.old.pages }
-    ensures { pages.new ≡ record pages.old { pages = installed wire.now.lows rows.now pages.old.pages } }
+fn install(wire: &Frame, pages: &mut Owned, rows: &[Row])
+    requires { AreRoomy wire.now.lows rows.now pages.old }
+    ensures { pages.new ≡ installed wire.now.lows rows.now pages.old }
 {
     let mut left = rows;
     while let Some((row, front)) = left.split_last() {

@@ -1,18 +1,18 @@
 //! One transaction.
 ghost use Rattle.std.specs.Prelude.{◌≡◌, ◌+◌, ◌<◌, ◌^◌, IfOk, OnOk, OnErr, replicate, []};
 ghost use Rattle.zy_isa.specs.Rows.{Rising, RowsFit, get_row, put_row};
-ghost use Rattle.zy_machine.specs.Change.{nobody, reg, with_reg};
-ghost use Rattle.zy_machine.specs.Client.{is_new, is_active};
-ghost use Rattle.zy_machine.specs.declared.status.Status.TheVariants.{New, Active, Committed, Aborted};
+ghost use Rattle.zy_table.specs.Change.{nobody, reg, with_reg};
+ghost use Rattle.zy_table.specs.Client.{is_new, is_active};
+ghost use Rattle.zy_table.specs.declared.status.Status.TheVariants.{New, Active, Committed, Aborted};
 
-use crate::outcome::Why;
-use crate::status::Status;
 use std::alloc::{AllocError, Global};
 use std::marker::Model;
 use zy_isa::instr::Reg;
 use zy_isa::node::Node;
 use zy_isa::row::Row;
 use zy_page::row_list::RowList;
+use zy_table::outcome::Why;
+use zy_table::status::Status;
 
 /// A transaction: how far it is, and its registers and private rows.
 #[derive(Drop)]
@@ -26,7 +26,7 @@ pub struct Txn {
 }
 
 impl Model for Txn {
-    ghost use Rattle.zy_machine.specs.State as state;
+    ghost use Rattle.zy_table.specs.State as state;
 
     ghost Value = { state.Txn };
 

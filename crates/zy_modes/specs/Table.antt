@@ -67,3 +67,24 @@ home_of a b =
     else if is_destination a then Some A
     else if is_destination b then Some B
     else None
+
+-- a node in this mode may split a page
+abbrev pub may_split : NodeMode → Bool
+may_split Normal = true
+may_split mode = false
+
+-- transactions have begun at a node in this mode that cannot run yet
+abbrev pub is_waiting : NodeMode → Bool
+is_waiting DInit = true
+is_waiting mode = false
+
+-- a node in this mode asks for the pages that it lacks
+abbrev pub may_pull : NodeMode → Bool
+may_pull DDual = true
+may_pull DFinish = true
+may_pull mode = false
+
+-- a node in this mode hands over the pages that are left
+abbrev pub may_push : NodeMode → Bool
+may_push SFinish = true
+may_push mode = false

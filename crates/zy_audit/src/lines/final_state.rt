@@ -30,7 +30,16 @@ impl Section for FinalState<'_> {
                 mode: machine.mode(Node::B),
             }),
         );
-        let links = Both(One(LinkLine(Node::A)), One(LinkLine(Node::B)));
+        let links = Both(
+            One(LinkLine {
+                node: Node::A,
+                link: machine.link(Node::A),
+            }),
+            One(LinkLine {
+                node: Node::B,
+                link: machine.link(Node::B),
+            }),
+        );
         let head = Both(Fixed(&["final"]), modes);
         let parts = Both(Pages(machine), Both(links, Txns(machine)));
         Both(head, parts).write(sink, line)

@@ -6,7 +6,7 @@ use std::alloc::AllocError;
 use std::fmt::Write;
 use zy_isa::node::Node;
 use zy_isa::section::Line;
-use zy_machine::modes::NodeMode;
+use zy_modes::mode::NodeMode;
 
 /// A node and its mode.
 #[derive(Clone, Copy)]

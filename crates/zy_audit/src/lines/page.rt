@@ -1,11 +1,12 @@
 //! A page, wherever it is.
 ghost use Rattle.std.specs.Prelude.{◌≡◌, ◌++◌, Some, OnOk, IsSome};
 ghost use Rattle.std.specs.String.{string_bytes};
-ghost use Rattle.zy_machine.specs.Pages.{page_in};
-ghost use Rattle.zy_machine.specs.Database.{all_leaves};
+ghost use Rattle.zy_table.specs.Pages.{page_in};
+ghost use Rattle.zy_table.specs.Database.{all_leaves};
 ghost use Rattle.zy_audit.specs.Texts.{place_text, leaf_text, page_text};
 ghost use Rattle.zy_audit.specs.Listing.{page_texts};
 
+use crate::lines::link::link_word;
 use crate::lines::rows::append_rows;
 use std::alloc::AllocError;
 use std::fmt::{self, Write};
@@ -13,8 +14,8 @@ use zy_isa::section::{Lines, Section, write_lines};
 use zy_isa::stream::Sink;
 use zy_isa::writing::TextFault;
 use zy_machine::machine::Machine;
-use zy_machine::place::Place;
 use zy_page::page::Page;
+use zy_table::place::Place;
 
 /// Where a page is.
 #[derive(Clone, Copy)]
@@ -27,6 +28,7 @@ impl fmt::Display for PlaceText {
         match self.0 {
             Place::Nowhere => write!(f, "nowhere"),
             Place::At(node) => write!(f, "{node}"),
+            Place::Moving(node) => write!(f, "{}", link_word(node)),
         }
     }
 }

@@ -1,7 +1,7 @@
 //! The steps, each with what came of it.
 ghost use Rattle.std.specs.Prelude.{◌≡◌, ◌++◌, OnOk};
 ghost use Rattle.std.specs.String.{string_bytes};
-ghost use Rattle.zy_machine.specs.declared.outcome.Outcome.TheVariants as outcome;
+ghost use Rattle.zy_table.specs.declared.outcome.Outcome.TheVariants as outcome;
 ghost use Rattle.zy_audit.specs.Texts.{outcome_text, sent_text, step_text};
 ghost use Rattle.zy_audit.specs.Listing.{step_texts};
 
@@ -11,9 +11,9 @@ use std::fmt::Write;
 use zy_isa::section::{Line, Lines, Section, append_number, append_numbered, write_lines};
 use zy_isa::stream::Sink;
 use zy_isa::writing::TextFault;
-use zy_machine::entry::Entry;
-use zy_machine::links::Kind;
-use zy_machine::outcome::Outcome;
+use zy_modes::kind::Kind;
+use zy_table::entry::Entry;
+use zy_table::outcome::Outcome;
 
 /// Appends which page was cut, its new upper part, and where.
 fn append_split(
@@ -34,9 +34,12 @@ fn append_outcome(line: &mut String, outcome: Outcome) -> Result<(), AllocError>
     ensures { OnOk result (string_bytes line.new ≡ string_bytes line.old ++ outcome_text outcome) }
 {
     match outcome {
+        Outcome::Started => line.push_str("started"),
+        Outcome::BadMode => line.push_str("badmode"),
         Outcome::Began(node) => write!(line, "began {node}"),
         Outcome::Idle => line.push_str("idle"),
         Outcome::Elsewhere => line.push_str("elsewhere"),
+        Outcome::NotYet => line.push_str("notyet"),
         Outcome::Did => line.push_str("did"),
         Outcome::Split {
             page,
@@ -49,6 +52,23 @@ fn append_outcome(line: &mut String, outcome: Outcome) -> Result<(), AllocError>
         }
         Outcome::Committed(place) => append_numbered(line, "committed ", u64::from(place)),
         Outcome::Waits(page) => append_numbered(line, "waits ", u64::from(page)),
+        Outcome::Pulls(page) => append_numbered(line, "pulls ", u64::from(page)),
+        Outcome::Awaits(page) => append_numbered(line, "awaits ", u64::from(page)),
+        Outcome::NoMessage => line.push_str("nomessage"),
+        Outcome::GotWire => line.push_str("got wire"),
+        Outcome::GotReady => line.push_str("got ready"),
+        Outcome::GotDual => line.push_str("got dual"),
+        Outcome::Stale(page) => append_numbered(line, "stale ", u64::from(page)),
+        Outcome::Held(page) => append_numbered(line, "held ", u64::from(page)),
+        Outcome::GotPull(page) => append_numbered(line, "got pull ", u64::from(page)),
+        Outcome::GotPage(page) => append_numbered(line, "got page ", u64::from(page)),
+        Outcome::GotFinish => line.push_str("got finish"),
+        Outcome::GotDone => line.push_str("got done"),
+        Outcome::Stray => line.push_str("stray"),
+        Outcome::Finishing => line.push_str("finishing"),
+        Outcome::Active(t) => append_numbered(line, "active ", u64::from(t)),
+        Outcome::Pushed(page) => append_numbered(line, "pushed ", u64::from(page)),
+        Outcome::NoPush => line.push_str("nopush"),
     }
 }
 

@@ -7,7 +7,7 @@ use std::alloc::AllocError;
 use zy_isa::section::{Line, Lines, Section, write_lines};
 use zy_isa::stream::Sink;
 use zy_isa::writing::TextFault;
-use zy_machine::entry::Entry;
+use zy_table::entry::Entry;
 
 /// The choices of these steps, in order.
 #[derive(Clone, Copy)]

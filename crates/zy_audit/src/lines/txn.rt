@@ -11,11 +11,11 @@ use std::fmt::Write;
 use zy_isa::section::{Lines, Section, write_lines};
 use zy_isa::stream::Sink;
 use zy_isa::writing::TextFault;
-use zy_machine::entry::CommitRec;
 use zy_machine::machine::Machine;
-use zy_machine::outcome::Why;
-use zy_machine::status::Status;
 use zy_machine::txn::Txn;
+use zy_table::entry::CommitRec;
+use zy_table::outcome::Why;
+use zy_table::status::Status;
 
 /// The index of a transaction's commit.
 fn commit_index(t: u8, commits: &[CommitRec]) -> Option<usize>

@@ -5,9 +5,9 @@ ghost use Rattle.zy_audit.specs.Texts.{why_text, kind_text, mode_word as mode_wo
 
 use std::alloc::AllocError;
 use zy_isa::section::append_numbered;
-use zy_machine::links::Kind;
-use zy_machine::modes::NodeMode;
-use zy_machine::outcome::Why;
+use zy_modes::kind::Kind;
+use zy_modes::mode::NodeMode;
+use zy_table::outcome::Why;
 
 /// Appends why a transaction was aborted.
 pub(crate) fn append_why(line: &mut String, why: Why) -> Result<(), AllocError>
@@ -21,6 +21,7 @@ pub(crate) fn append_why(line: &mut String, why: Why) -> Result<(), AllocError>
         Why::Duplicate => line.push_str("duplicate"),
         Why::Frozen(page) => append_numbered(line, "frozen ", u64::from(page)),
         Why::NoPage => line.push_str("nopage"),
+        Why::Gone(page) => append_numbered(line, "gone ", u64::from(page)),
     }
 }
 
@@ -46,5 +47,11 @@ pub(crate) fn mode_word(mode: NodeMode) -> &'static str
     match mode {
         NodeMode::Empty => "empty",
         NodeMode::Normal => "normal",
+        NodeMode::SInit => "sinit",
+        NodeMode::SDual => "sdual",
+        NodeMode::SFinish => "sfinish",
+        NodeMode::DInit => "dinit",
+        NodeMode::DDual => "ddual",
+        NodeMode::DFinish => "dfinish",
     }
 }

@@ -1,5 +1,5 @@
 use Rattle.std.proofs.Common.{◌≡◌}
-use Rattle.zy_machine.specs.Serial.{alone}
+use Rattle.zy_table.specs.Serial.{alone}
 use Rattle.zy_audit.specs.Lone.{map_of, on_map}
 use Rattle.zy_audit.proofs.lone.written.Given as goal
 

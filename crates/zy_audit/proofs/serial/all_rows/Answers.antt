@@ -1,5 +1,5 @@
 use Rattle.std.proofs.Common.{◌≡◌, arith, length}
-use Rattle.zy_machine.specs.Database.{newest}
+use Rattle.zy_table.specs.Database.{newest}
 use Rattle.zy_audit.proofs.Gathered.{gathered-found, gathered-missing, gathered-all}
 use Rattle.zy_audit.proofs.serial.all_rows.Goals as goal
 use Rattle.zy_audit.proofs.serial.all_rows.Goals.{in-Some+in_ok-lay, in_default}

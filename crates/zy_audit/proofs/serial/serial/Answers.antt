@@ -1,6 +1,6 @@
 use Rattle.std.proofs.Common.{◌∙◌, [], add-one, get_or, refl}
 use Rattle.std.specs.FinMap.{empty}
-use Rattle.zy_machine.specs.declared.entry.CommitRec.{CommitRec}
+use Rattle.zy_table.specs.declared.entry.CommitRec.{CommitRec}
 use Rattle.zy_audit.specs.Lone.{map_of}
 use Rattle.zy_audit.proofs.LaidRows.{laid-put_rows}
 use Rattle.zy_audit.proofs.Commits.{program-read, serial-more}

@@ -1,5 +1,5 @@
 use Rattle.std.proofs.Common.{◌≡◌, drop}
-use Rattle.zy_machine.specs.Serial.{serial}
+use Rattle.zy_table.specs.Serial.{serial}
 use Rattle.zy_audit.specs.Lone.{map_of}
 use Rattle.zy_audit.proofs.serial.serial.Given as goal
 

@@ -1,6 +1,6 @@
 use Rattle.std.proofs.Common.{◌≡◌, ◌≤◌, ◌++◌, List, length}
 use Rattle.zy_isa.specs.declared.row.Row.{Row}
-use Rattle.zy_machine.specs.Rows.{put_rows}
+use Rattle.zy_table.specs.Rows.{put_rows}
 use Rattle.zy_audit.proofs.table.lay.Given as goal
 
 abbrev pub invariant-loop-row : goal.invariant-loop-row

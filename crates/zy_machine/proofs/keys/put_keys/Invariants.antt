@@ -1,6 +1,6 @@
 use Rattle.std.proofs.Common.{◌≡◌, drop}
 use Rattle.std.specs.List.Sorted.{IsNonDecreasing}
-use Rattle.zy_machine.specs.Keys.{put_keys}
+use Rattle.zy_table.specs.Keys.{put_keys}
 use Rattle.zy_machine.proofs.keys.put_keys.Given as goal
 
 abbrev pub invariant-loop-row : goal.invariant-loop-row

@@ -2,7 +2,7 @@ use Rattle.std.proofs.Common.{◌≡◌, ◌∙◌, ◌<◌, ℕ, None, Some, Op
 use Rattle.std.proofs.Math.ListN.{length-set, get_or-eq_default}
 use Rattle.std.proofs.lemmas.List.{get_or_read_under}
 use Rattle.zy_page.specs.Leaf.{Leaf}
-use Rattle.zy_machine.specs.Pages.{page_in}
+use Rattle.zy_table.specs.Pages.{page_in}
 use Rattle.zy_machine.specs.Slots.{laid_out, InPlace}
 use Rattle.zy_machine.specs.Install.{HasRoomFor}
 use Rattle.zy_machine.proofs.SlotLemmas.{page_at, with_row_at, with_row_none, number_at, InPlace-set_some, laid_out-set_none}

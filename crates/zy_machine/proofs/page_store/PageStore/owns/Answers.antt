@@ -1,5 +1,6 @@
 use Rattle.std.proofs.Common.{◌∙◌, is_some, sym, ap}
-use Rattle.zy_machine.proofs.AccessLemmas.{owns-page_in, is_some-copied}
+use Rattle.zy_machine.proofs.PageLemmas.{is_some-copied}
+use Rattle.zy_table.proofs.PageFinds.{owns-page_in}
 use Rattle.zy_machine.proofs.page_store.PageStore.owns.Goals as goal
 
 pub returns : goal.returns

@@ -1,24 +1,15 @@
-use Rattle.std.proofs.Common.{◌≡◌, ◌∙◌, ◌<◌, ℕ, None, Some, Option, List, length, get_or, is_some, true, sym, subst, ap, arith, refl}
+use Rattle.std.proofs.Common.{◌≡◌, ◌∙◌, ℕ, None, Some, Option, List, length, get_or, is_some, sym, ap, arith, refl}
 use Rattle.std.specs.Prelude.{Result, Ok, Err, OnOk, OnErr}
 use Rattle.std.proofs.Math.ListN.{length-set, set}
-use Rattle.std.proofs.lemmas.List.{get_or_read_under}
 use Rattle.std.proofs.lemmas.Bool.{false≢true}
 use Rattle.zy_page.specs.Leaf.{Leaf, rows_below}
-use Rattle.zy_machine.specs.Pages.{lowered, owns}
+use Rattle.zy_table.specs.Pages.{lowered}
 use Rattle.zy_machine.specs.Shelf.{Shelf}
 use Rattle.zy_machine.specs.Slots.{laid_out, InPlace}
 use Rattle.zy_machine.proofs.SlotLemmas.{page_at, number_at, InPlace-set_some}
-use Rattle.zy_machine.proofs.StoreLemmas.{rows_of-some}
-use Rattle.zy_machine.proofs.CutSlots.{lowered_at, set_again, slot_filled, slot_within}
+use Rattle.zy_table.proofs.PageFinds.{rows_of-some}
+use Rattle.zy_machine.proofs.CutSlots.{lowered_at, set_again, slot_filled, slot_here, slot_read}
 use Rattle.zy_machine.proofs.page_store.PageStore.split_off.Goals as goal
-
--- the slot of a page that is here is one of the slots
-within : (items : List (Option Leaf)) (p at : ℕ) → InPlace 0 items → owns (laid_out items) p ≡ true → at ≡ p → at < length items
-within items p at placed own e = subst (λ i. i < length items) (sym e) (slot_within p items (slot_filled p items placed own))
-
--- what stands in a slot that was read
-slot : (items : List (Option Leaf)) (at : ℕ) (read : Option Leaf) → read ≡ get_or items at read → at < length items → get_or items at None ≡ read
-slot items at read is lt = sym (get_or_read_under items at (length items) read None is lt refl)
 
 -- cut or not, a page keeps its number
 same_number : {X E : Type 0} (r : Result X E) (old new : Leaf) (b : ℕ) → OnOk r (new ≡ record old { rows = rows_below b old.rows }) → OnErr r (new ≡ old) → new.number ≡ old.number
@@ -27,23 +18,23 @@ same_number (Err x) old new b ok err = ap (λ (x : Leaf). x.number) err
 
 pub index_mut-requires : goal.index_mut-requires
 index_mut-requires c =
-    let lt = within c.self.inside.slots.items c.args.p c.from.result c.self.invariant.placed (rw (← c.self.view_is) at c.requires) c.from.ensures in
+    let lt = slot_here c.self.inside.slots.items c.args.p c.from.result c.self.invariant.placed (rw (← c.self.view_is) at c.requires) c.from.ensures in
     omega (arith, lt, c.self.inside.slots.ok.0)
 
 pub unreachable-requires : goal.unreachable-requires
 unreachable-requires c =
     let items = c.self.inside.slots.items in
     let own = rw (← c.self.view_is) at c.requires in
-    let lt = within items c.args.p c.from.result c.self.invariant.placed own c.from.ensures in
-    let none = slot items c.from.result c.index_mut.result.now c.index_mut.ensures.value lt ∙ c.in-None.is in
+    let lt = slot_here items c.args.p c.from.result c.self.invariant.placed own c.from.ensures in
+    let none = slot_read items c.from.result c.index_mut.result.now c.index_mut.ensures.value lt ∙ c.in-None.is in
     let filled = slot_filled c.args.p items c.self.invariant.placed own in
     false≢true (sym (ap is_some (rw c.from.ensures at none)) ∙ filled)
 
 pub invariant_of-self : goal.invariant_of-self
 invariant_of-self c =
     let items = c.self.inside.slots.items in
-    let lt = within items c.args.p c.from.result c.self.invariant.placed (rw (← c.self.view_is) at c.requires) c.from.ensures in
-    let here = slot items c.from.result c.index_mut.result.now c.index_mut.ensures.value lt ∙ c.in-Some.is in
+    let lt = slot_here items c.args.p c.from.result c.self.invariant.placed (rw (← c.self.view_is) at c.requires) c.from.ensures in
+    let here = slot_read items c.from.result c.index_mut.result.now c.index_mut.ensures.value lt ∙ c.in-Some.is in
     record {
       placed = InPlace-set_some 0 c.from.result c.split_at.new.self items c.self.invariant.placed (same_number c.split_at.result c.in-Some.page c.split_at.new.self c.args.boundary c.split_at.ensures.old_page c.split_at.ensures.kept ∙ number_at 0 c.from.result c.in-Some.page items c.self.invariant.placed here);
       whole = length-set items c.from.result _ ∙ c.self.invariant.whole;
@@ -52,8 +43,8 @@ invariant_of-self c =
 pub returns-clause-upper : goal.returns-clause-upper
 returns-clause-upper c =
     let items = c.self.inside.slots.items in
-    let lt = within items c.args.p c.from.result c.self.invariant.placed (rw (← c.self.view_is) at c.requires) c.from.ensures in
-    let here = slot items c.from.result c.index_mut.result.now c.index_mut.ensures.value lt ∙ c.in-Some.is in
+    let lt = slot_here items c.args.p c.from.result c.self.invariant.placed (rw (← c.self.view_is) at c.requires) c.from.ensures in
+    let here = slot_read items c.from.result c.index_mut.result.now c.index_mut.ensures.value lt ∙ c.in-Some.is in
     let found = page_at 0 c.args.p c.from.result items c.self.invariant.placed (omega arith) ∙ here in
     rw (← c.self.view_is, rows_of-some c.args.p c.in-Some.page (laid_out items) found) c.split_at.ensures.new_page
 
@@ -69,8 +60,8 @@ cut_shelf (Err x) items p at b old new placed e here h = tt
 pub returns-clause-lower : goal.returns-clause-lower
 returns-clause-lower c =
     let items = c.self.inside.slots.items in
-    let lt = within items c.args.p c.from.result c.self.invariant.placed (rw (← c.self.view_is) at c.requires) c.from.ensures in
-    let here = slot items c.from.result c.index_mut.result.now c.index_mut.ensures.value lt ∙ c.in-Some.is in
+    let lt = slot_here items c.args.p c.from.result c.self.invariant.placed (rw (← c.self.view_is) at c.requires) c.from.ensures in
+    let here = slot_read items c.from.result c.index_mut.result.now c.index_mut.ensures.value lt ∙ c.in-Some.is in
     rw (← c.self.view_is) (cut_shelf c.split_at.result items c.args.p c.from.result c.args.boundary c.in-Some.page c.split_at.new.self c.self.invariant.placed c.from.ensures here c.split_at.ensures.old_page)
 
 kept_shelf : {X E : Type 0} (r : Result X E) (items : List (Option Leaf)) (at : ℕ) (old new : Leaf) → get_or items at None ≡ Some old → OnErr r (new ≡ old) → OnErr r (shelf (set items at (Some new)) ≡ shelf items)
@@ -80,6 +71,6 @@ kept_shelf (Err x) items at old new here h = rw (h, set_again items at old here)
 pub returns-clause-err : goal.returns-clause-err
 returns-clause-err c =
     let items = c.self.inside.slots.items in
-    let lt = within items c.args.p c.from.result c.self.invariant.placed (rw (← c.self.view_is) at c.requires) c.from.ensures in
-    let here = slot items c.from.result c.index_mut.result.now c.index_mut.ensures.value lt ∙ c.in-Some.is in
+    let lt = slot_here items c.args.p c.from.result c.self.invariant.placed (rw (← c.self.view_is) at c.requires) c.from.ensures in
+    let here = slot_read items c.from.result c.index_mut.result.now c.index_mut.ensures.value lt ∙ c.in-Some.is in
     rw (← c.self.view_is) (kept_shelf c.split_at.result items c.from.result c.in-Some.page c.split_at.new.self here c.split_at.ensures.kept)

@@ -2,11 +2,11 @@ use Rattle.std.proofs.Common.{◌≡◌, ◌∙◌, ◌∷◌, ◌++◌, ◌+◌
 use Rattle.std.proofs.lemmas.List.{take_min, drop_min}
 use Rattle.zy_isa.specs.Rows.{Rising}
 use Rattle.zy_page.specs.Leaf.{Leaf}
-use Rattle.zy_machine.specs.State.{NodeState}
+use Rattle.zy_table.specs.State.{NodeState}
 use Rattle.zy_machine.specs.Stores.{node_shown}
-use Rattle.zy_machine.specs.Layout.{AreNumbered, IsOver, with_leaves, pages_of}
-use Rattle.zy_machine.proofs.RisingRows.{rises_take, rises_drop}
-use Rattle.zy_machine.proofs.OpenLemmas.{laid_next, next_other, over_next, fewer_pages, pages_with, numbered_more}
+use Rattle.zy_table.specs.Layout.{AreNumbered, IsOver, with_leaves, pages_of}
+use Rattle.zy_table.proofs.RisingRows.{rises_take, rises_drop}
+use Rattle.zy_table.proofs.OpenLemmas.{laid_next, next_other, over_next, fewer_pages, pages_with, numbered_more}
 use Rattle.zy_machine.proofs.store.NodeStore.lay_out.Goals as goal
 
 pub add_page-requires-clause-rise : goal.add_page-requires-clause-rise
@@ -28,14 +28,21 @@ loop-first-preserved c =
     let front : c.split_at.result.0.now ≡ take c.args.share left = c.split_at.ensures.front ∙ ap (λ n. take n left) c.min.ensures ∙ take_min c.args.share left in
     let back : c.split_at.result.1.now ≡ drop c.args.share left = c.split_at.ensures.back ∙ ap (λ n. drop n left) c.min.ensures ∙ drop_min c.args.share left in
     let leaf : Leaf = record { number = length c.loop-first.self.wire.lows; low = c.next_low-low.result; rows = take c.args.share left } in
-    let shown : node_shown c.add_page.new.self ≡ with_leaves (leaf ∷ []) old = c.in_ok-add_page.ensures ∙ ap (λ rows. with_leaves (record leaf { rows = rows } ∷ []) old) front in
+    let shown : node_shown c.add_page.new.self ≡ with_leaves (leaf ∷ []) old = c.in_ok-add_page.ensures.node ∙ ap (λ rows. with_leaves (record leaf { rows = rows } ∷ []) old) front in
     let next = laid_next c.args.share left c.in-Some.first.now c.next_low-low.result old c.requires.some c.in-Some.ensures.value c.next_low-low.ensures in
-    let number : length c.loop-first.self.wire.lows ≡ length c.loop-first.self.pages.pages = c.loop-first.invariant.2 in (
+    let number : length c.loop-first.self.wire.lows ≡ length c.loop-first.self.pages = c.loop-first.invariant.2 in (
       ap (λ rows. with_leaves (pages_of c.args.share (length c.add_page.new.self.wire.lows) rows) (node_shown c.add_page.new.self)) back
           ∙ ap (λ (n : NodeState). with_leaves (pages_of c.args.share (length n.lows) (drop c.args.share left)) n) shown ∙ next ∙ c.loop-first.invariant.0,
-      subst (λ (n : NodeState). AreNumbered 0 n.pages) (sym shown) (numbered_more 0 leaf c.loop-first.self.pages.pages c.loop-first.invariant.1 (omega (arith, number))),
-      ap {B = ℕ} (λ (n : NodeState). length n.lows) shown ∙ pages_with (leaf ∷ []) old ∙ ap (λ k. k + 1) number ∙ sym (length-append c.loop-first.self.pages.pages (leaf ∷ [])) ∙ sym (ap {B = ℕ} (λ (n : NodeState). length n.pages) shown),
+      subst (λ (n : NodeState). AreNumbered 0 n.pages) (sym shown) (numbered_more 0 leaf c.loop-first.self.pages c.loop-first.invariant.1 (omega (arith, number))),
+      ap {B = ℕ} (λ (n : NodeState). length n.lows) shown ∙ pages_with (leaf ∷ []) old ∙ ap (λ k. k + 1) number ∙ sym (length-append c.loop-first.self.pages (leaf ∷ [])) ∙ sym (ap {B = ℕ} (λ (n : NodeState). length n.pages) shown),
       subst (λ lows. IsOver lows c.split_at.result.1.now) (sym (ap (λ (n : NodeState). n.lows) shown)) (subst (IsOver (c.loop-first.self.wire.lows ++ c.next_low-low.result ∷ [])) (sym back)
           (over_next c.loop-first.self.wire.lows c.args.share left c.in-Some.first.now c.next_low-low.result c.requires.some c.loop-first.invariant.4 c.loop-first.invariant.3 c.in-Some.ensures.value c.next_low-low.ensures)),
       subst (Rising 0) (sym back) (rises_drop 0 c.args.share left c.loop-first.invariant.4),
+      c.in_ok-add_page.ensures.outbox ∙ c.loop-first.invariant.5,
     )
+
+pub returns-in_err-add_page-clause-outbox : goal.returns-in_err-add_page-clause-outbox
+returns-in_err-add_page-clause-outbox c = c.add_page.ensures.outbox ∙ c.loop-first.invariant.5
+
+pub returns-clause-outbox : goal.returns-clause-outbox
+returns-clause-outbox c = c.loop-first.invariant.5

@@ -1,6 +1,6 @@
 use Rattle.std.proofs.Common.{◌∙◌, ap, sym}
-use Rattle.zy_machine.specs.Keys.{put_keys}
-use Rattle.zy_machine.specs.Pages.{rows_of}
+use Rattle.zy_table.specs.Keys.{put_keys}
+use Rattle.zy_table.specs.Pages.{rows_of}
 use Rattle.zy_machine.proofs.KeyPlaces.{new_on-next, new_on-passed}
 use Rattle.zy_machine.proofs.store.NodeStore.put_new_keys.Goals as goal
 use Rattle.zy_machine.proofs.store.NodeStore.put_new_keys.Goals.{then-is_new+in_ok-put_key, else-is_new}
@@ -8,7 +8,7 @@ use Rattle.zy_machine.proofs.store.NodeStore.put_new_keys.Goals.{then-is_new+in_
 pub loop-row-preserved : goal.loop-row-preserved
 loop-row-preserved c =
     let lows = c.args.self.now.wire.lows in
-    let held = rows_of c.args.self.now.pages.pages c.args.p in
+    let held = rows_of c.args.self.now.pages c.args.p in
     let rows = c.args.rows.now in
     let i = c.loop-row.row-index in
     elim c.if-is_new.branch [

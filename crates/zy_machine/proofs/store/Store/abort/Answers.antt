@@ -1,5 +1,5 @@
 use Rattle.std.proofs.Common.{◌<◌, List, length, refl, sym, subst}
-use Rattle.zy_machine.specs.State.{Txn}
+use Rattle.zy_table.specs.State.{Txn}
 use Rattle.zy_machine.specs.Stores.{shown}
 use Rattle.zy_machine.proofs.StoreLemmas.{txn_read, aborted-seen, unlocked-txns}
 use Rattle.zy_machine.proofs.store.Store.abort.Goals as goal

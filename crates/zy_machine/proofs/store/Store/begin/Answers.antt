@@ -1,5 +1,5 @@
 use Rattle.std.proofs.Common.{refl}
-use Rattle.zy_machine.specs.Change.{begun}
+use Rattle.zy_table.specs.Change.{begun}
 use Rattle.zy_machine.proofs.store.Store.begin.Goals as goal
 
 pub returns : goal.returns

@@ -1,6 +1,6 @@
 use Rattle.std.proofs.Common.{◌∙◌, refl, sym}
 use Rattle.zy_isa.specs.declared.node.Node.TheVariants.{A}
-use Rattle.zy_machine.specs.State.{facing}
+use Rattle.zy_table.specs.State.{facing}
 use Rattle.zy_machine.specs.Stores.{shown}
 use Rattle.zy_machine.proofs.StoreLemmas.{txn_at-facing}
 use Rattle.zy_machine.proofs.ClientLemmas.{begin-idle, begin-some, begin-none}

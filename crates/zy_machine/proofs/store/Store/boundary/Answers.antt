@@ -3,12 +3,12 @@ use Rattle.std.specs.Prelude.{slice_index}
 use Rattle.std.proofs.lemmas.Bool.{ltb-false}
 use Rattle.std.proofs.lemmas.List.{get_or_read_under}
 use Rattle.zy_isa.specs.declared.row.Row.{Row}
-use Rattle.zy_machine.specs.State.{facing}
-use Rattle.zy_machine.specs.Keys.{keys_of, put_key}
-use Rattle.zy_machine.specs.Pages.{rows_of}
-use Rattle.zy_machine.specs.Run.{own_inserts}
+use Rattle.zy_table.specs.State.{facing}
+use Rattle.zy_table.specs.Keys.{keys_of, put_key}
+use Rattle.zy_table.specs.Pages.{rows_of}
+use Rattle.zy_table.specs.Run.{own_inserts}
 use Rattle.zy_machine.specs.Stores.{shown}
-use Rattle.zy_machine.proofs.Boundary.{length-put_key, length-keys}
+use Rattle.zy_table.proofs.Boundary.{length-put_key, length-keys}
 use Rattle.zy_machine.proofs.store.Store.boundary.Goals as goal
 
 -- the index is one of these keys

@@ -1,6 +1,6 @@
 use Rattle.std.proofs.Common.{◌≡◌, ◌∙◌, ◌<◌, List, length, refl, sym, ap, subst, arith}
-use Rattle.zy_machine.specs.State.{Txn, State, facing, seen_from}
-use Rattle.zy_machine.specs.Change.{committed}
+use Rattle.zy_table.specs.State.{Txn, State, facing, seen_from}
+use Rattle.zy_table.specs.Change.{committed}
 use Rattle.zy_machine.specs.Stores.{shown}
 use Rattle.zy_machine.proofs.StoreLemmas.{txn_read, committed-seen, installed-txns, unlocked-txns}
 use Rattle.zy_machine.proofs.store.Store.commit.Goals as goal

@@ -1,5 +1,5 @@
 use Rattle.std.proofs.Common.{◌∙◌, sym, ap}
-use Rattle.zy_machine.specs.State.{Txn}
+use Rattle.zy_table.specs.State.{Txn}
 use Rattle.zy_machine.proofs.StoreLemmas.{txn_read, install-a, install-b}
 use Rattle.zy_machine.proofs.store.Store.install.Goals as goal
 

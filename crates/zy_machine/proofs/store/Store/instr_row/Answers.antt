@@ -1,5 +1,5 @@
 use Rattle.std.proofs.Common.{◌∙◌, refl, sym, ◌+◌, ◌%◌, ◌^◌}
-use Rattle.zy_machine.specs.State.{facing}
+use Rattle.zy_table.specs.State.{facing}
 use Rattle.zy_machine.specs.Stores.{shown}
 use Rattle.zy_machine.proofs.StoreLemmas.{txn_at-facing}
 use Rattle.zy_machine.proofs.InstrLemmas.{add-is, beq-is, read-is, write-is, insert-is}

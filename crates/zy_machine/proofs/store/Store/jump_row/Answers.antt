@@ -1,8 +1,8 @@
 use Rattle.std.proofs.Common.{◌≡◌, ◌∙◌, refl, sym, ap}
-use Rattle.zy_machine.specs.Run.{jump_row}
+use Rattle.zy_table.specs.Run.{jump_row}
 use Rattle.zy_machine.specs.Stores.{shown}
-use Rattle.zy_machine.specs.State.{facing, seen_from, Txn}
-use Rattle.zy_machine.specs.Change.{did, txn_at}
+use Rattle.zy_table.specs.State.{facing, seen_from, Txn}
+use Rattle.zy_table.specs.Change.{did, txn_at}
 use Rattle.zy_machine.proofs.StoreLemmas.{txn_at-facing}
 use Rattle.std.specs.Prelude.{ℕ, ◌+◌, if◌then◌else◌}
 use Rattle.zy_machine.proofs.store.Store.jump_row.Goals as goal

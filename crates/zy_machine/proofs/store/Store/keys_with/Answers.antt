@@ -1,5 +1,5 @@
 use Rattle.std.proofs.Common.{◌∙◌, ap, refl}
-use Rattle.zy_machine.specs.Keys.{put_key}
+use Rattle.zy_table.specs.Keys.{put_key}
 use Rattle.zy_machine.specs.Stores.{shown}
 use Rattle.zy_machine.proofs.StoreLemmas.{txn_at-facing}
 use Rattle.zy_machine.proofs.store.Store.keys_with.Goals as goal

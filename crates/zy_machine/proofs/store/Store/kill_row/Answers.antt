@@ -1,9 +1,9 @@
 use Rattle.std.proofs.Common.{◌≡◌, ◌∙◌, refl, sym, ap}
 use Rattle.std.specs.Prelude.{slice_get}
 use Rattle.zy_isa.specs.declared.node.Node.{Node}
-use Rattle.zy_machine.specs.declared.outcome.Why.TheVariants.{Killed}
-use Rattle.zy_machine.specs.State.{Txn, facing, seen_from}
-use Rattle.zy_machine.specs.Change.{txn_or, aborted}
+use Rattle.zy_table.specs.declared.outcome.Why.TheVariants.{Killed}
+use Rattle.zy_table.specs.State.{Txn, facing, seen_from}
+use Rattle.zy_table.specs.Change.{txn_or, aborted}
 use Rattle.zy_machine.specs.Stores.{shown}
 use Rattle.zy_machine.proofs.StoreLemmas.{txn_at-facing, seen_from-facing}
 use Rattle.zy_machine.proofs.ClientLemmas.{kill-idle, kill-done}

@@ -1,5 +1,5 @@
 use Rattle.std.proofs.Common.{refl}
-use Rattle.zy_machine.specs.Run.{read_row}
+use Rattle.zy_table.specs.Run.{read_row}
 use Rattle.zy_machine.specs.Stores.{shown}
 use Rattle.zy_machine.proofs.RowLemmas.{read-made}
 use Rattle.zy_machine.proofs.store.Store.read_row.Goals as goal

@@ -1,7 +1,7 @@
 use Rattle.std.proofs.Common.{◌∙◌, refl, sym}
-use Rattle.zy_machine.specs.State.{facing}
+use Rattle.zy_table.specs.State.{facing}
 use Rattle.zy_locks.specs.declared.lock.LockKind.TheVariants.{Exclusive}
-use Rattle.zy_machine.specs.Run.{abort_row}
+use Rattle.zy_table.specs.Run.{abort_row}
 use Rattle.zy_machine.specs.Stores.{shown}
 use Rattle.zy_machine.proofs.RowLemmas.{put-made, write-did, write-missing}
 use Rattle.zy_machine.proofs.store.Store.write_row.Goals as goal

@@ -1,7 +1,7 @@
 -- A place among the texts is a page's number.
 use Rattle.std.proofs.Common.{◌<◌, arith, length, rules, zero-add, []}
 use Rattle.std.proofs.lemmas.List.FromFn.{length-map-range_with_len, get_or-map-range_with_len}
-use Rattle.zy_machine.specs.Database.{newest}
+use Rattle.zy_table.specs.Database.{newest}
 use Rattle.zy_audit.specs.Texts.{page_text}
 use Rattle.zy_audit.proofs.lines.page.PagesLines.append.Goals as goal
 

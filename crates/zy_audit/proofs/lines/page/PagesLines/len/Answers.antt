@@ -1,6 +1,6 @@
 use Rattle.std.proofs.Common.{◌∙◌, sym, length}
 use Rattle.std.proofs.lemmas.List.FromFn.{length-map-range_with_len}
-use Rattle.zy_machine.specs.Database.{newest}
+use Rattle.zy_table.specs.Database.{newest}
 use Rattle.zy_audit.specs.Texts.{page_text}
 use Rattle.zy_audit.proofs.lines.page.PagesLines.len.Goals as goal
 

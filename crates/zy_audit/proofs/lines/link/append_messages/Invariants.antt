@@ -1,0 +1,8 @@
+-- The text so far is that of the messages before this one.
+use Rattle.std.proofs.Common.{◌≡◌, ◌++◌}
+use Rattle.std.specs.String.{string_bytes}
+use Rattle.zy_audit.proofs.LinkLemmas.{first_texts}
+use Rattle.zy_audit.proofs.lines.link.append_messages.Given as goal
+
+abbrev pub invariant-loop-i : goal.invariant-loop-i
+invariant-loop-i l = string_bytes l.line ≡ string_bytes l.initial.line ++ first_texts l.i l.link.messages

@@ -1,5 +1,0 @@
-use Rattle.zy_machine.proofs.Serializable.{commits_alone}
-use Rattle.zy_machine.proofs.laws.commits_alone.Goals as goal
-
-pub returns : goal.returns
-returns c sc ok choices choice same = commits_alone sc ok choices choice same

@@ -1,5 +1,0 @@
-use Rattle.zy_machine.proofs.ValueAtPage.{each_key_has_page}
-use Rattle.zy_machine.proofs.laws.each_key_has_page.Goals as goal
-
-pub returns : goal.returns
-returns c sc ok choices = each_key_has_page sc ok choices

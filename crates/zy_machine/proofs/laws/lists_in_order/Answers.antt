@@ -1,5 +1,0 @@
-use Rattle.zy_machine.proofs.ListsInOrder.{in_order}
-use Rattle.zy_machine.proofs.laws.lists_in_order.Goals as goal
-
-pub returns : goal.returns
-returns c sc ok choices = in_order sc ok choices

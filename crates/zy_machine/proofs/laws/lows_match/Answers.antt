@@ -1,5 +1,0 @@
-use Rattle.zy_machine.proofs.ValueAtPage.{lows_match}
-use Rattle.zy_machine.proofs.laws.lows_match.Goals as goal
-
-pub returns : goal.returns
-returns c sc ok choices = lows_match sc ok choices

@@ -1,5 +1,0 @@
-use Rattle.zy_machine.proofs.OneOwner.{one_owner}
-use Rattle.zy_machine.proofs.laws.one_owner.Goals as goal
-
-pub returns : goal.returns
-returns c sc choices = one_owner sc choices

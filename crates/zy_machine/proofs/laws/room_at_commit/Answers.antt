@@ -1,5 +1,0 @@
-use Rattle.zy_machine.proofs.RoomAtCommit.{fits}
-use Rattle.zy_machine.proofs.laws.room_at_commit.Goals as goal
-
-pub returns : goal.returns
-returns c sc ok choices = fits sc ok choices

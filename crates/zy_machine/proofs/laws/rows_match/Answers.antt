@@ -1,5 +1,0 @@
-use Rattle.zy_machine.proofs.ValueAtPage.{rows_match}
-use Rattle.zy_machine.proofs.laws.rows_match.Goals as goal
-
-pub returns : goal.returns
-returns c sc ok choices = rows_match sc ok choices

@@ -1,5 +1,0 @@
-use Rattle.zy_machine.proofs.Serializable.{serializable}
-use Rattle.zy_machine.proofs.laws.serializable.Goals as goal
-
-pub returns : goal.returns
-returns c sc ok choices = serializable sc ok choices
