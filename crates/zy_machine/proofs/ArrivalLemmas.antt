@@ -6,11 +6,10 @@ use Rattle.std.proofs.lemmas.Bool.Decides.{nat_tests}
 use Rattle.zy_page.specs.Leaf.{Leaf}
 use Rattle.zy_links.specs.Messages.{Message, Wire, Ready, Dual, Pull, Page, Finish, Done}
 use Rattle.zy_table.specs.State.{NodeState, View}
-use Rattle.zy_table.specs.OneOwner.{times_sent}
 use Rattle.zy_table.specs.Pages.{owns}
 use Rattle.zy_table.proofs.OneOwner.{not_both}
 use Rattle.zy_table.proofs.Ordered.{not_here}
-use Rattle.zy_table.proofs.PageCounts.{owns-times}
+use Rattle.zy_table.proofs.PageCounts.{owns-times, times_sent}
 use Rattle.zy_table.proofs.Phases.{Phase, AllPulls, PullsAndDone, Resting, Wire_sent, Ready_sent, Dual_sent, Both_sent, In_dual, Finish_sent, In_finish, Done_sent, begins_length}
 use Rattle.zy_table.proofs.Roles.{Inv, Roles, Owned, Source, Destination, is_bare}
 use Rattle.zy_table.proofs.PageFinds.{absent_page}

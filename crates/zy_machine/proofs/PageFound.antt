@@ -6,12 +6,11 @@ use Rattle.zy_isa.specs.declared.choice.Choice.{Choice}
 use Rattle.zy_isa.specs.Scenario.{Scenario}
 use Rattle.zy_page.specs.Leaf.{Leaf}
 use Rattle.zy_table.specs.State.{State}
-use Rattle.zy_table.specs.OneOwner.{times, places, width}
+use Rattle.zy_table.specs.OneOwner.{times, width}
 use Rattle.zy_table.specs.Pages.{page_in}
-use Rattle.zy_table.specs.Database.{all_leaves, sent_leaves, newest}
+use Rattle.zy_table.specs.Database.{all_leaves, newest}
 use Rattle.zy_table.specs.Play.{play, opening}
 use Rattle.zy_table.proofs.OneOwner.{one_owner}
-use Rattle.zy_table.proofs.PageCounts.{times-append, times-sent_leaves}
 
 -- a page that stands somewhere is found
 found_first : (p : ℕ) (x : Leaf) (xs : List Leaf) (b : Bool) → (0 < times p xs → IsSome (page_in p xs)) → 0 < cond b 1 0 + times p xs → IsSome (cond b (Some x) (page_in p xs))
@@ -21,13 +20,6 @@ found_first p x xs false rest h = rest (omega arith)
 found : (p : ℕ) (xs : List Leaf) → 0 < times p xs → IsSome (page_in p xs)
 found p [] h = absurd (omega arith)
 found p (x ∷ xs) h = found_first p x xs (x.number == p) (found p xs) h
-
-times-all : (p : ℕ) (s : State) → times p (all_leaves s) ≡ places p s
-times-all p s =
-    let a = times-append p s.a.pages (s.b.pages ++ (sent_leaves s.ba ++ sent_leaves s.ab)) in
-    let b = times-append p s.b.pages (sent_leaves s.ba ++ sent_leaves s.ab) in
-    let c = times-append p (sent_leaves s.ba) (sent_leaves s.ab) in
-    omega (arith, a, b, c, times-sent_leaves p s.ba, times-sent_leaves p s.ab)
 
 -- the length of the newest wireframe
 length-newest : (s : State) → length (newest s) ≡ width s
@@ -42,4 +34,4 @@ page_below sc cs s p e h =
     let one = rw (← e) at (one_owner sc cs p) in
     let lt : p < width s = omega (arith, length-newest s) in
     let once = rw (lt-ltb p (width s) lt) at one in
-    found p (all_leaves s) (omega (arith, times-all p s, once))
+    found p (all_leaves s) (omega (arith, once))

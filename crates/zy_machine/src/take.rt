@@ -8,7 +8,7 @@ ghost use Rattle.zy_table.specs.Order.{NumbersRise};
 ghost use Rattle.zy_table.specs.Pages.{leaf_at, numbers, owns as owns_lem, without};
 ghost use Rattle.zy_table.specs.Change.{leaves as leaves_lem, turns};
 ghost use Rattle.zy_table.specs.Take.{is_held as is_held_lem, all_here, with_brought, got as got_lem, with_answer, answered, take_row as take_row_lem};
-ghost use Rattle.zy_machine.specs.Mail.{IsWhole};
+ghost use Rattle.zy_machine.specs.Mail.{HasRoom, IsWhole};
 ghost use Rattle.zy_machine.specs.Arrivals.{IsNamed, IsNew, MayTake};
 ghost use Rattle.zy_machine.specs.Fronts.{front_of, rest, IsFront, GotMakes, PullMakes};
 ghost use Rattle.zy_machine.specs.Stores.{shown, node_shown, node_in, Makes};
@@ -104,7 +104,7 @@ impl NodeStore {
 
     /// Sends the answer that the mode table asks for.
     fn answer(&mut self, sent: Option<Kind>)
-        requires { 1 ≤ self.old.outbox.spare }
+        requires { HasRoom sent self.old.outbox }
         ensures node { node_shown self.new ≡ node_shown self.old }
         ensures outbox { self.new.outbox.messages ≡ with_answer sent self.old.outbox.messages }
     {
@@ -135,7 +135,7 @@ impl NodeStore {
     fn take_in(&mut self, alloc: Global, message: Message, mode: NodeMode, sent: Option<Kind>)
         requires whole { IsWhole message }
         requires new { IsNew (message_of message) (node_shown self.old) }
-        requires room { 1 ≤ self.old.outbox.spare }
+        requires room { HasRoom sent self.old.outbox }
         ensures node { let x = with_brought (message_of message) (node_shown self.old) in node_shown self.new ≡ record x { mode = mode } }
         ensures outbox { self.new.outbox.messages ≡ with_answer sent self.old.outbox.messages }
     {
@@ -207,6 +207,18 @@ impl Store {
         }
     }
 
+    /// Makes room for the answer from a node, if there is one.
+    fn reserve_answer(&mut self, n: Node, sent: Option<Kind>) -> Result<(), AllocError>
+        ensures same { shown self.new ≡ shown self.old }
+        ensures room { OnOk result (HasRoom sent (node_in n self.new).outbox) }
+        ensures wires { OnOk result ((node_in n self.new).wire ≡ (node_in n self.old).wire) }
+    {
+        match sent {
+            Some(_) => self.reserve_post(n),
+            None => Ok(()),
+        }
+    }
+
     /// Moves the front of the link to a node out.
     fn take_front(&mut self, n: Node) -> Option<Message>
         ensures front { let v = facing n (shown self.old) in option_map message_of result ≡ slice_get v.inbox 0 }
@@ -232,7 +244,7 @@ impl Store {
     fn take_in(&mut self, n: Node, message: Message, mode: NodeMode, sent: Option<Kind>)
         requires whole { IsWhole message }
         requires new { IsNew (message_of message) (node_shown (node_in n self.old)) }
-        requires room { 1 ≤ (node_in n self.old).outbox.spare }
+        requires room { HasRoom sent (node_in n self.old).outbox }
         ensures { let v = facing n (shown self.old) in
             shown self.new ≡ seen_from n (answered sent (turns mode (with_me (with_brought (message_of message) v.me) v))) }
     {
@@ -289,7 +301,7 @@ impl Store {
         requires may { MayTake (facing n (shown self.old)) }
         ensures { GotMakes n (Turns mode sent) self.old self.new result }
     {
-        self.reserve_post(n)?;
+        self.reserve_answer(n, sent)?;
         let Some(message) = self.take_front(n) else {
             return Ok(Answer::quiet(Outcome::NoMessage));
         };

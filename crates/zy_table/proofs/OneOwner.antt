@@ -16,7 +16,7 @@ use Rattle.zy_modes.specs.declared.mode.NodeMode.TheVariants.{Empty, Normal, SIn
 use Rattle.zy_modes.specs.Table.{may_pull, may_split}
 use Rattle.zy_table.specs.Change.{aborted, asks, begun, committed, cut, did, installed, leaves, locked, turns, txn_at, with_lows}
 use Rattle.zy_table.specs.Journey.{Begins, is_source}
-use Rattle.zy_table.specs.OneOwner.{OneOwner, times, times_in, times_sent}
+use Rattle.zy_table.specs.OneOwner.{OneOwner, times}
 use Rattle.zy_table.specs.Pages.{leaf_at, lowered, owns, without}
 use Rattle.zy_table.specs.Play.{move, opening, opening_leaves, opening_pages, play, side_of, step}
 use Rattle.zy_table.specs.Run.{boundary}
@@ -25,7 +25,7 @@ use Rattle.zy_table.specs.Take.{all_here}
 use Rattle.zy_table.proofs.Events.{Aborts, Adds, Asks, Begins as Begun, Commits, Event, Finishes, Gets, Gives, GotAll, GotDone, GotDual, GotFinish, GotLast, GotPage, GotReady, GotWire, Inserts, IsStale, Jumps, Pushes, Rests, Sets, Splits, Starts, Writes, arrived, has_lock, key, page, rest, step_happens}
 use Rattle.zy_table.proofs.ModeLines.{is_sending, pulls_in, sends_in, splits_in_normal}
 use Rattle.zy_table.proofs.MovingPages.{all_below-owns, leaf_at-number}
-use Rattle.zy_table.proofs.PageCounts.{owns-times, times-installed, times-lowered, times-with_page, times-without, times_sent-post}
+use Rattle.zy_table.proofs.PageCounts.{owns-times, times-all_leaves, times-installed, times-lowered, times-with_page, times-without, times_in, times_sent, times_sent-post}
 use Rattle.zy_table.proofs.Phases.{AllPages, AllThere, Phase, Resting, Ready_sent, Done_sent, begins_length, done_post}
 use Rattle.zy_table.proofs.PhaseSteps.{SameShape, asked_for, cut_source, cut_taker, destination_same, done_came, dual_came, finish_came, finished, in_finish, is_taker, no_pull, page_came, page_left, pull_came, ready_came, sending_lows, source_of, source_same, started, taker_of, wire_came}
 use Rattle.zy_table.proofs.PlayPush.{play-keeps}
@@ -390,4 +390,6 @@ pub play_inv : (sc : Scenario) (cs : List Choice) → Inv (facing A (play sc (op
 play_inv sc cs = play-keeps sc (λ s. Inv (facing A s)) (step_inv sc) cs (opening sc) (opening_inv sc)
 
 pub one_owner : (sc : Scenario) (cs : List Choice) → OneOwner (play sc (opening sc) cs)
-one_owner sc cs = let i = play_inv sc cs in λ p. let k = i.owned.once p in omega (arith, k)
+one_owner sc cs =
+    let i = play_inv sc cs in
+    λ p. let k = i.owned.once p in let all = times-all_leaves p (play sc (opening sc) cs) in omega (arith, k, all)

@@ -22,11 +22,11 @@ use Rattle.zy_table.proofs.RisingRows.{rises_put, rises_puts, rises_weaker}
 use Rattle.zy_table.proofs.Roles.{Inv, Owned, fresh_number, normal_other, width}
 use Rattle.zy_table.proofs.OneOwner.{done_wide, locks_inv, pulled_inv, wire_wide}
 use Rattle.zy_table.proofs.MovingPages.{sent_leaves-append, sent_bare}
-use Rattle.zy_table.proofs.PageCounts.{owns-times, owns_none}
+use Rattle.zy_table.proofs.PageCounts.{owns-times, owns_none, times_sent}
 use Rattle.zy_links.specs.Messages.{Wire, Ready, Dual, Pull, Page, Finish, Done}
 use Rattle.zy_table.specs.Keys.{put_key}
 use Rattle.zy_table.specs.Numbers.{drop_number, has}
-use Rattle.zy_table.specs.OneOwner.{times, times_sent}
+use Rattle.zy_table.specs.OneOwner.{times}
 use Rattle.std.proofs.lemmas.Bool.Decides.{nat_tests}
 use Rattle.zy_table.proofs.CutPages.{owns-lowered}
 use Rattle.zy_page.specs.Leaf.{rows_below, rows_from}

@@ -16,7 +16,6 @@ use Rattle.zy_table.specs.declared.place.Place.TheVariants.{Nowhere, At, Moving}
 use Rattle.zy_table.specs.Change.{aborted, asks, begun, committed, cut, did, leaves, locked, txn_at}
 use Rattle.zy_table.specs.Database.{sent_leaves}
 use Rattle.zy_table.specs.Journey.{is_source}
-use Rattle.zy_table.specs.OneOwner.{times_sent}
 use Rattle.zy_table.specs.Pages.{leaf_at, lowered, owns, with_page}
 use Rattle.zy_table.specs.Places.{Travels, Stays, Appears, Leaves, Arrives, place_of}
 use Rattle.zy_table.specs.Play.{move, opening, play, side_of, step}
@@ -27,7 +26,7 @@ use Rattle.zy_table.proofs.Events.{Aborts, Adds, Asks, Begins, Commits, Event, F
 use Rattle.zy_table.proofs.Installing.{owns-installed}
 use Rattle.zy_table.proofs.MovingPages.{leaf_at-number, owns-sent_post, owns-without, owns-without_other, sent_bare}
 use Rattle.zy_table.proofs.OneOwner.{inv_from, locks_inv, play_inv, pulled_inv, sends_source, step_inv}
-use Rattle.zy_table.proofs.PageCounts.{owns-times, owns_none, times-sent_leaves}
+use Rattle.zy_table.proofs.PageCounts.{owns-times, owns_none, times-sent_leaves, times_sent}
 use Rattle.zy_table.proofs.Roles.{Inv, Owned, normal_other}
 
 -- the place of a page as n sees it
