@@ -373,7 +373,7 @@ fn two_transactions_wait_and_one_is_killed(rt: HostRuntime) -> Result<(), Fail> 
     Ok(())
 }
 
-/// Each growth of a whole run is refused in turn by a sweep: the answer is want of memory, and what was there stays.
+/// Each growth of a whole run is refused in turn by `tests/refusals`: the answer is want of memory, and what was there stays.
 #[test]
 fn refused_run(rt: HostRuntime) -> Result<(), Fail> {
     let Ok(Some(scenario)) = first_run(rt.alloc()) else {
@@ -531,13 +531,24 @@ fn check_same(rt: &impl Abort, machine: &Machine, other: &Machine) {
     }
 }
 
-/// Checks that the links from a node hold messages of the same kinds.
+/// The page that a message names.
+fn page_named(message: &Message) -> Option<u16> {
+    match message {
+        Message::Pull(p) => Some(*p),
+        Message::Page(page) => Some(page.number()),
+        _ => None,
+    }
+}
+
+/// Checks that the links from a node hold messages of the same kinds, about the same pages.
 fn check_links(rt: &impl Abort, machine: &Machine, other: &Machine, node: Node) {
     let (link, twin) = (machine.link(node), other.link(node));
     assert_eq!(rt; link.len(), twin.len());
     for i in 0..link.len() {
         assert!(rt; i < link.len() && i < twin.len());
-        assert_eq!(rt; link.message_at(i).kind(), twin.message_at(i).kind());
+        let (message, wanted) = (link.message_at(i), twin.message_at(i));
+        assert_eq!(rt; message.kind(), wanted.kind());
+        assert_eq!(rt; page_named(message), page_named(wanted));
     }
 }
 
@@ -552,7 +563,7 @@ fn check_txns(rt: &impl Abort, machine: &Machine, other: &Machine, t: usize) {
     assert_eq!(rt; txn.rows(), twin.rows());
 }
 
-/// Each growth of a step that splits is refused in turn by a sweep.
+/// Each growth of a step that splits is refused in turn by `tests/refusals`.
 #[test]
 fn refused_split(rt: HostRuntime) -> Result<(), Fail> {
     if let Some(machine) = SPLIT.play_refused(&rt, rt.alloc())? {
