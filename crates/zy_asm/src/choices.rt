@@ -7,12 +7,16 @@ use crate::faults::AsmKind;
 use crate::words::{is, number_in, number_of};
 use zy_isa::choice::Choice;
 use zy_isa::node::{Actor, Node};
+use zy_isa::scenario::MAX_CHOICES;
 
 /// What is done with a transaction.
 #[derive(Clone, Copy, Debug, PartialEq, Eq)]
 pub enum TxnAction {
+    /// The client begins it.
     Begin,
+    /// The client kills it.
     Kill,
+    /// This node runs one instruction of it.
     Run(Node),
 }
 
@@ -125,7 +129,7 @@ pub fn times_of(words: &[&[u8]]) -> Result<u64, AsmKind>
 {
     match words {
         [] => Ok(1),
-        [_, number] => number_in(number, 1, 4096),
+        [_, number] => number_in(number, 1, MAX_CHOICES as u64),
         _ => Err(AsmKind::Word),
     }
 }

@@ -83,7 +83,7 @@ fn target_of(word: &[u8]) -> Result<u32, AsmKind>
     ensures { result ≡ target_of_lem word.now }
 {
     match word {
-        [b'@', number @ ..] => Ok(number_in(number, 0, 4_294_967_295)? as u32),
+        [b'@', number @ ..] => Ok(number_in(number, 0, u64::from(u32::MAX))? as u32),
         _ => Err(AsmKind::Word),
     }
 }
@@ -95,7 +95,7 @@ fn set_of(words: &[&[u8]]) -> Result<Instr, AsmKind>
     match words {
         [a, number] => {
             let a = register_of(a)?;
-            Ok(Instr::Set(a, number_in(number, 0, 4_294_967_295)? as u32))
+            Ok(Instr::Set(a, number_in(number, 0, u64::from(u32::MAX))? as u32))
         }
         _ => Err(AsmKind::Word),
     }

@@ -17,16 +17,22 @@ use zy_isa::instr::Instr;
 use zy_isa::node::Actor;
 use zy_isa::program::{MAX_INSTRS, ProgFault, Program};
 use zy_isa::row::Row;
-use zy_isa::scenario::{MAX_CHOICES, MAX_ROWS, MAX_TXNS, opening_pages_for};
+use zy_isa::scenario::{MAX_CAP, MAX_CHOICES, MAX_PAGES, MAX_ROWS, MAX_TXNS, opening_pages_for};
 
 /// What the first word of a line below the header says that the line is.
 #[derive(Clone, Copy, Debug, PartialEq, Eq)]
 pub enum Keyword {
+    /// A line of the header, which has no place below it.
     Header,
+    /// A row.
     Row,
+    /// The beginning of a program.
     Txn,
+    /// An instruction with this operation.
     Instr(Operation),
+    /// A choice of this actor.
     Choice(Actor),
+    /// The end of the text.
     End,
 }
 
@@ -80,8 +86,8 @@ fn row_of(words: &[&[u8]]) -> Result<Row, AsmKind>
 {
     match words {
         [key, value] => {
-            let key = number_in(key, 0, 65535)? as u16;
-            let value = number_in(value, 0, 4_294_967_295)? as u32;
+            let key = number_in(key, 0, u64::from(u16::MAX))? as u16;
+            let value = number_in(value, 0, u64::from(u32::MAX))? as u32;
             Ok(Row { key, value })
         }
         _ => Err(AsmKind::Word),
@@ -124,7 +130,7 @@ impl Reader {
     fn cap_line(&mut self, words: &[&[u8]]) -> Result<(), AsmKind>
         ensures { Steps result (seen self.new) (cap_line (seen self.old) (texts words.now)) }
     {
-        self.cap = headed(words, b"cap", 2, 16)? as u8;
+        self.cap = headed(words, b"cap", 2, u64::from(MAX_CAP))? as u8;
         self.stage = Stage::Pages;
         Ok(())
     }
@@ -132,7 +138,7 @@ impl Reader {
     fn pages_line(&mut self, words: &[&[u8]]) -> Result<(), AsmKind>
         ensures { Steps result (seen self.new) (pages_line (seen self.old) (texts words.now)) }
     {
-        self.pages = headed(words, b"pages", 1, 512)? as u16;
+        self.pages = headed(words, b"pages", 1, u64::from(MAX_PAGES))? as u16;
         self.stage = Stage::Rule;
         Ok(())
     }

@@ -1,4 +1,4 @@
-//! One direction between the nodes.
+//! The link from one node to the other.
 ghost use Rattle.std.specs.Prelude.{◌≡◌, ◌==◌, ◌+◌, ◌<◌, ◌≤◌, ◌++◌, ◌∷◌, [], IfOk, IsOk, OnErr, OnOk, drop, length, option_copied, slice_get, slice_index_or};
 ghost use Rattle.zy_links.specs.Messages.{limits, messages_of};
 
@@ -24,7 +24,7 @@ impl Model for Link {
 }
 
 impl Link {
-    /// No message. It takes no memory.
+    /// A link with no message. It takes no memory.
     pub fn new(alloc: Global) -> Link
         ensures { result ≡ record { messages = []; spare = 0 } }
     {
@@ -81,7 +81,7 @@ impl Link {
         self.queue.len()
     }
 
-    /// Whether there are none.
+    /// Whether there are no messages.
     pub fn is_empty(&self) -> bool
         ensures { result ≡ (length self.now.messages == 0) }
     {

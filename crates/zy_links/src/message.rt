@@ -10,11 +10,11 @@ use zy_wire::wire::Wire;
 /// A message, with what it brings: a wireframe and a page are moved into it and out of it.
 #[derive(Drop)]
 pub enum Message {
-    /// The low keys of all pages.
+    /// This is the wireframe: the low keys of all pages.
     Wire(Wire),
-    /// The low keys were taken.
+    /// The wireframe was taken.
     Ready,
-    /// Both nodes run transactions from here on.
+    /// Transactions may run at the destination.
     Dual,
     /// The page of this number is asked for.
     Pull(u16),
@@ -22,7 +22,7 @@ pub enum Message {
     Page(Page),
     /// The source runs no transaction any more.
     Finish,
-    /// All pages have come.
+    /// The destination has all pages.
     Done,
 }
 

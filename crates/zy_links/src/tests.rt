@@ -1,4 +1,4 @@
-//! Each call with ample memory; messages in the order in which they were sent; a copy and a growth for which there is no memory.
+//! Each call with ample memory; messages in the order in which they were sent; a copy and a growth without memory.
 use crate::link::Link;
 use crate::message::Message;
 use std::alloc::{AllocError, Global};

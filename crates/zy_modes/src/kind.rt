@@ -3,11 +3,11 @@
 /// The kind of a message.
 #[derive(Clone, Copy, Debug, PartialEq, Eq)]
 pub enum Kind {
-    /// The low keys of all pages.
+    /// This is the wireframe: the low keys of all pages.
     Wire,
-    /// The low keys were taken.
+    /// The wireframe was taken.
     Ready,
-    /// Both nodes run transactions from here on.
+    /// Transactions may run at the destination.
     Dual,
     /// A page is asked for.
     Pull,
@@ -15,6 +15,6 @@ pub enum Kind {
     Page,
     /// The source runs no transaction any more.
     Finish,
-    /// All pages have come.
+    /// The destination has all pages.
     Done,
 }

@@ -1,4 +1,4 @@
-//! The mode table: what a node does with a message, and when a migration starts and finishes, by the nodes' modes alone.
+//! The mode table: what a node does with a message, and when a migration starts and finishes, by the modes alone.
 #![tactic(auto)]
 
 pub mod kind;

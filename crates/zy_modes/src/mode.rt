@@ -5,21 +5,21 @@ ghost use Rattle.zy_modes.specs.Table.{may_split, is_waiting, may_pull, may_push
 /// A node's mode. Those of a source begin with S, those of a destination with D.
 #[derive(Clone, Copy, Debug, PartialEq, Eq)]
 pub enum NodeMode {
-    /// No wireframe and no page.
+    /// It has no wireframe and no page.
     Empty,
-    /// The one home of all pages.
+    /// It has all pages and runs all transactions.
     Normal,
-    /// The wireframe is on its way to the other node.
+    /// It has sent its wireframe, and still runs all transactions.
     SInit,
-    /// New transactions begin at the other node; those that run here may end.
+    /// It ends the transactions that it has, and hands over the pages that it is asked for.
     SDual,
-    /// No transaction runs here; the pages that are left go to the other node.
+    /// It runs no transaction, and hands over the pages that it still has.
     SFinish,
-    /// The wireframe has come, and no transaction runs yet.
+    /// It has the wireframe; a transaction that begins here cannot run yet.
     DInit,
-    /// Transactions run, and pages are asked for as they need them.
+    /// Transactions run here, and it asks for the pages that they need.
     DDual,
-    /// The same, while the other node sends the pages that are left.
+    /// The same, and the source runs none any more; pages are missing.
     DFinish,
 }
 

@@ -26,7 +26,7 @@ pub enum FinRow {
     Finishing,
 }
 
-/// What a message of this kind does at a node in this mode. `all_here`: no page is missing there, with the one that the message brings.
+/// What a message of this kind does at a node in this mode. `all_here`: with the page that it brings none is missing.
 /// A page that is asked for goes out only if it may leave, which is not told here.
 pub fn on_message(mode: NodeMode, kind: Kind, all_here: bool) -> MsgRow
     ensures row { result ≡ on_message_lem mode kind all_here }
@@ -57,7 +57,7 @@ fn finishes(all_here: bool) -> MsgRow
     }
 }
 
-/// The node from which a migration starts.
+/// The node from which a migration starts, by the modes of A and B.
 pub fn on_start(a: NodeMode, b: NodeMode) -> Option<Node>
     ensures { result ≡ on_start_lem a b }
 {

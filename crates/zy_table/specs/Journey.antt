@@ -1,4 +1,4 @@
--- Wireframes on their way, and outcomes that no schedule gives.
+-- Wireframes on their way, an outcome that no schedule gives, and one that comes only at a source in the dual mode.
 use Rattle.std.specs.Prelude.{◌≡◌, ◌⊎◌, ◌++◌, ℕ, List, [], ◌∷◌, Bool, true, false}
 use Rattle.zy_isa.specs.declared.node.Node.{Node}
 use Rattle.zy_modes.specs.declared.mode.NodeMode.{NodeMode}
