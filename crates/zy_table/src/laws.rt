@@ -45,13 +45,13 @@ pub fn never_stray()
 {}
 
 /// Of two wireframes one is the source's, which begins the destination's; they are the same until the destination is
-/// Normal, and a wireframe on its way is the source's.
+/// Normal. Who has a wireframe on its way is the source, and that wireframe is its own.
 pub fn one_wireframe()
     ensures { (sc : Scenario) (choices : List AChoice) → OneWireframe (play sc (opening sc) choices) }
 {}
 
-/// A page appears at the Normal node that splits, leaves the source in a message, arrives from it at the destination, and
-/// moves in no other way: so no page goes back.
+/// A page appears at the Normal node that splits, leaves a source in a message, arrives from the other node at one whose
+/// mode takes pages (DDual or DFinish), and moves in no other way.
 pub fn pages_travel()
     ensures { (sc : Scenario) (choices : List AChoice) (choice : AChoice) (p : ℕ)
         → let s = play sc (opening sc) choices in Travels p (side_of choice s) s (step sc choice s).after }
