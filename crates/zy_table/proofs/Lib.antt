@@ -43,4 +43,5 @@ pub mod Committing
 pub mod FollowingRows
 pub mod Serializable
 pub mod Travel
+pub mod OneWay
 pub mod RoomAtCommit

@@ -151,7 +151,7 @@ goes_event sc n v w p i (Splits t r q runs f new full normal pages e) =
     rw e (from_same p n v x _ refl refl (cut_goes p n x t (page t r v) (boundary sc t (key t r v) (page t r v) v) locked normal))
 goes_event sc n v w p i (Commits t runs all e) = rw e (stays p n v _ (owns-installed v.me.lows (txn_at v t).rows v.me.pages p) refl refl refl)
 goes_event sc n v w p i (Asks q gone pulls new e) = rw e (stays p n v _ refl refl (sent_bare v.outbox (Pull q) refl) refl)
-goes_event sc n v w p i (Starts normal empty e) = rw e (stays p n v _ refl refl (sent_bare v.outbox (Wire v.me.lows) refl) refl)
+goes_event sc n v w p i (Starts at_a normal empty e) = rw e (stays p n v _ refl refl (sent_bare v.outbox (Wire v.me.lows) refl) refl)
 goes_event sc n v w p i (GotWire lows ms f empty e) = rw e (stays p n v _ refl refl (sent_bare v.outbox Ready refl) (ap sent_leaves (sym f)))
 goes_event sc n v w p i (GotReady ms f init e) = rw e (stays p n v _ refl refl (sent_bare v.outbox Dual refl) (ap sent_leaves (sym f)))
 goes_event sc n v w p i (GotDual ms f init e) = rw e (stays p n v _ refl refl refl (ap sent_leaves (sym f)))
@@ -205,7 +205,7 @@ inv_seen : (n : Node) (w : View) → Inv (facing n (seen_from n w)) → Inv w
 inv_seen A w i = i
 inv_seen B w i = i
 
-step_travels : (sc : Scenario) (c : Choice) (s : State) (p : ℕ) → Inv (facing A s) → Inv (facing A (step sc c s).after) → Travels p (side_of c s) s (step sc c s).after
+pub step_travels : (sc : Scenario) (c : Choice) (s : State) (p : ℕ) → Inv (facing A s) → Inv (facing A (step sc c s).after) → Travels p (side_of c s) s (step sc c s).after
 unfolding step
 step_travels sc c s p i j =
     let n = side_of c s in

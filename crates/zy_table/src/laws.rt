@@ -5,8 +5,8 @@ ghost use Rattle.zy_isa.specs.Scenario.{Scenario, IsScenario};
 ghost use Rattle.zy_table.specs.Play.{play, opening, step, side_of};
 ghost use Rattle.zy_modes.specs.declared.mode.NodeMode.TheVariants.{SDual};
 ghost use Rattle.zy_table.specs.State.{facing};
-ghost use Rattle.zy_table.specs.Journey.{OneWireframe, is_gone, is_stray};
-ghost use Rattle.zy_table.specs.Places.{Travels};
+ghost use Rattle.zy_table.specs.Journey.{OneWireframe, is_gone, is_source, is_stray};
+ghost use Rattle.zy_table.specs.Places.{NeverBack, Travels};
 ghost use Rattle.zy_table.specs.OneOwner.{OneOwner};
 ghost use Rattle.zy_table.specs.Holders.{ExclusiveAlone, HoldersActive};
 ghost use Rattle.zy_table.specs.Order.{InOrder};
@@ -55,6 +55,17 @@ pub fn one_wireframe()
 pub fn pages_travel()
     ensures { (sc : Scenario) (choices : List AChoice) (choice : AChoice) (p : ℕ)
         → let s = play sc (opening sc) choices in Travels p (side_of choice s) s (step sc choice s).after }
+{}
+
+/// B is never a source, and so hands no page on.
+pub fn b_never_sends()
+    ensures { (sc : Scenario) (choices : List AChoice) → is_source (play sc (opening sc) choices).b.mode ≡ false }
+{}
+
+/// No page goes back: one that is at B stays there, and one in a message to B is later in it or at B, whatever is chosen.
+pub fn none_goes_back()
+    ensures { (sc : Scenario) (choices more : List AChoice) (p : ℕ)
+        → let s = play sc (opening sc) choices in NeverBack p s (play sc s more) }
 {}
 
 /// A transaction is told that its page has gone only at a source in the dual mode.
