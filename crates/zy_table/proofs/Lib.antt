@@ -8,6 +8,7 @@ pub mod Events
 pub mod Phases
 pub mod Roles
 pub mod SafeCounts
+pub mod Listed
 pub mod Opening
 pub mod OpenLemmas
 pub mod RisingRows

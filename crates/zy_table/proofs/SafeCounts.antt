@@ -137,13 +137,13 @@ abbrev tally : List Txn → ℕ
 tally [] = 0
 tally (x ∷ xs) = (if is_committed x.status then 1 else 0) + tally xs
 
-active_off : (s : Status) → is_active s ≡ true → is_committed s ≡ false
+pub active_off : (s : Status) → is_active s ≡ true → is_committed s ≡ false
 active_off New h = refl
 active_off Active h = refl
 active_off Committed h = absurd (false≢true h)
 active_off (Aborted w) h = refl
 
-new_off : (s : Status) → is_new s ≡ true → is_committed s ≡ false
+pub new_off : (s : Status) → is_new s ≡ true → is_committed s ≡ false
 new_off New h = refl
 new_off Active h = refl
 new_off Committed h = absurd (false≢true h)

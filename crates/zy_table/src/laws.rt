@@ -112,8 +112,8 @@ pub fn holders_active()
         → HoldersActive (play sc (opening sc) choices) }
 {}
 
-/// The database is that of the committed programs, run one by one in commit order, and each has the registers of its
-/// lone run.
+/// The database is that of the programs in the commit list, run one by one in its order; a transaction stands there once
+/// where it is committed, and else not at all; and each has the registers of its lone run.
 pub fn serializable()
     ensures { (sc : Scenario) → IsScenario sc → (choices : List AChoice)
         → Serializable sc (play sc (opening sc) choices) }
