@@ -103,7 +103,7 @@ pub data Event (sc : Scenario) (n : Node) (v w : View) : Type 0 where
       → w ≡ cut t (page t r v) (boundary sc t (key t r v) (page t r v) v) (has_lock t (key t r v) Exclusive v) → Event sc n v w
   Commits : (t : ℕ) → Runs sc n t Commit v → least (gone_pages v.me (txn_at v t).rows) ≡ None → w ≡ committed t v → Event sc n v w
   Asks : (p : ℕ) → owns v.me.pages p ≡ false → may_pull v.me.mode ≡ true → has v.me.asked p ≡ false → w ≡ asks p v → Event sc n v w
-  Starts : v.me.mode ≡ Normal → v.them.mode ≡ Empty → w ≡ post (Wire v.me.lows) (turns SInit v) → Event sc n v w
+  Starts : n ≡ A → v.me.mode ≡ Normal → v.them.mode ≡ Empty → w ≡ post (Wire v.me.lows) (turns SInit v) → Event sc n v w
   GotWire : (lows : List ℕ) (ms : List Message) → v.inbox ≡ Wire lows ∷ ms → v.me.mode ≡ Empty
       → w ≡ post Ready (turns DInit (with_me (with_lows lows v.me) (rest v ms))) → Event sc n v w
   GotReady : (ms : List Message) → v.inbox ≡ Ready ∷ ms → v.me.mode ≡ SInit → w ≡ post Dual (turns SDual (rest v ms)) → Event sc n v w
@@ -279,12 +279,12 @@ run_happens sc n t v =
     (λ b. instr_happens sc n t _ v (λ i e. record { active = not-false _ a; here = same_node-true _ _ (not-false _ h); begun = b; next = e }))))
 
 -- the client's lines
-start_happens : (sc : Scenario) (n : Node) (v : View) → Happens sc n v (start_row v)
+start_happens : (sc : Scenario) (v : View) → Happens sc A v (start_row v)
 unfolding start_row
-start_happens sc n v =
-    cond_both (is_some (on_start v.me.mode v.them.mode)) _ _ (Happens sc n v)
-    (λ h. let modes = starts_from v.me.mode v.them.mode h in plain sc n v _ (Starts modes.0 modes.1 refl) refl refl)
-    (λ _. rests sc n v _ refl refl)
+start_happens sc v =
+    cond_both (is_some (on_start v.me.mode v.them.mode)) _ _ (Happens sc A v)
+    (λ h. let modes = starts_from v.me.mode v.them.mode h in plain sc A v _ (Starts refl modes.0 modes.1 refl) refl refl)
+    (λ _. rests sc A v _ refl refl)
 
 begin_at_happens : (sc : Scenario) (t : ℕ) (o : Option Node) (v : View) → o ≡ home_of v.me.mode v.them.mode → is_new (txn_at v t).status ≡ true
     → Happens sc A v (begin_at o t v)
@@ -446,7 +446,7 @@ node_of B t s = refl
 -- every row of the table, at the side that it is read from
 pub step_happens : (sc : Scenario) (c : Choice) (s : State) → Happens sc (side_of c s) (facing (side_of c s) s) (move sc c (facing (side_of c s) s))
 unfolding move
-step_happens sc Start s = start_happens sc _ _
+step_happens sc Start s = start_happens sc _
 step_happens sc (Begin t) s = begin_happens sc t _
 step_happens sc (Kill t) s = kill_happens sc _ t _ (node_of (txn_or (slice_get s.txns t)).node t s)
 step_happens sc (Run n t) s = run_happens sc n t _

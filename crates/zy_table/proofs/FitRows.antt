@@ -203,7 +203,7 @@ fit_event sc n v w lows two k f (Splits t r q runs g new full normal pages e) =
     fit_along sc n w _ (lows ++ b ∷ []) e (cut_fit sc n v lows t (key t r v) b k f at g normal (split_on sc n v lows t r q k runs full) other)
 fit_event sc n v w lows two k f (Commits t runs whole e) = fit_along sc n w _ lows e (committed_fit sc n v lows t k f (runs.active, runs.here))
 fit_event sc n v w lows two k f (Asks p gone may new e) = fit_along sc n w _ lows e (asks_fit sc n v lows p f)
-fit_event sc n v w lows two k f (Starts a b e) = fit_along sc n w _ lows e (post_fit sc n _ lows (Wire v.me.lows) (turns_fit sc n v lows SInit f) refl)
+fit_event sc n v w lows two k f (Starts at_a a b e) = fit_along sc n w _ lows e (post_fit sc n _ lows (Wire v.me.lows) (turns_fit sc n v lows SInit f) refl)
 fit_event sc n v w lows two k f (GotWire sent ms g m e) = fit_along sc n w _ lows e (post_fit sc n _ lows Ready (turns_fit sc n _ lows DInit (lows_fit sc n (rest v ms) lows sent (rest_fit sc n v lows (Wire sent) ms f g refl))) refl)
 fit_event sc n v w lows two k f (GotReady ms g m e) = fit_along sc n w _ lows e (post_fit sc n _ lows Dual (turns_fit sc n _ lows SDual (rest_fit sc n v lows Ready ms f g refl)) refl)
 fit_event sc n v w lows two k f (GotDual ms g m e) = fit_along sc n w _ lows e (turns_fit sc n _ lows DDual (rest_fit sc n v lows Dual ms f g refl))

@@ -317,7 +317,7 @@ serial_event sc n v w start lows s (Splits t r q runs f new full normal pages e)
     along sc n w _ start (lows ++ boundary sc t (key t r v) (page t r v) v ∷ []) e k (cut_serial sc n v start lows t (key t r v) _ s (runs.active, runs.here) f normal on)
 serial_event sc n v w start lows s (Commits t runs all e) k = along sc n w _ start lows e k (committed_serial sc n v start lows t s runs)
 serial_event sc n v w start lows s (Asks p gone pulls asked e) k = along sc n w _ start lows e k (asks_serial sc n v start lows p s)
-serial_event sc n v w start lows s (Starts normal empty e) k =
+serial_event sc n v w start lows s (Starts at_a normal empty e) k =
     let x : View = post (Wire v.me.lows) (turns SInit v) in
     along sc n w x start lows e k (stays_serial sc n v x start lows s refl refl refl refl (same_db v x refl refl refl (sent_bare v.outbox (Wire v.me.lows) refl)))
 serial_event sc n v w start lows s (GotWire sent ms f empty e) k =

@@ -8,6 +8,7 @@ pub mod Events
 pub mod Phases
 pub mod Roles
 pub mod SafeCounts
+pub mod Listed
 pub mod Opening
 pub mod OpenLemmas
 pub mod RisingRows
@@ -43,4 +44,5 @@ pub mod Committing
 pub mod FollowingRows
 pub mod Serializable
 pub mod Travel
+pub mod OneWay
 pub mod RoomAtCommit

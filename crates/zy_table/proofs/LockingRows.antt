@@ -359,7 +359,7 @@ kept_event sc n v w lows two o k i (Splits t r q runs f new full normal pages e)
     subst (λ x. Kept sc n x (lows ++ b ∷ [])) (sym e) (cut_kept sc n v lows t (key t r v) b k at f normal on other (subst Inv e i))
 kept_event sc n v w lows two o k i (Commits t runs all e) = along sc n w _ lows e i (committed_kept sc n v lows t k (runs.active, runs.here))
 kept_event sc n v w lows two o k i (Asks p gone pulls asked e) = along sc n w _ lows e i (asks_kept sc n v lows p k)
-kept_event sc n v w lows two o k i (Starts normal empty e) =
+kept_event sc n v w lows two o k i (Starts at_a normal empty e) =
     let x : View = post (Wire v.me.lows) (turns SInit v) in
     along sc n w x lows e i (λ j. links_kept sc n v x lows k j refl refl refl refl (sent_bare v.outbox (Wire v.me.lows) refl)
     (turned_locking sc n v x x.me lows k.mine (ap is_idle normal) refl refl refl (λ p h. h) refl))

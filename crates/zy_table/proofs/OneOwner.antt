@@ -327,7 +327,7 @@ inv_event sc n v w i (Commits t runs all e) = rw e (shape_inv v _ (record {
   none = λ h. ap (installed v.me.lows (txn_at v t).rows) h;
 }) refl refl refl i)
 inv_event sc n v w i (Asks p gone pulls asked e) = rw e (asks_inv p v i pulls)
-inv_event sc n v w i (Starts normal empty e) = rw e (starts_inv v i normal empty)
+inv_event sc n v w i (Starts at_a normal empty e) = rw e (starts_inv v i normal empty)
 inv_event sc n v w i (GotWire lows ms f empty e) = rw e (wire_inv v lows ms i f empty)
 inv_event sc n v w i (GotReady ms f init e) = rw e (ready_inv v ms i f init)
 inv_event sc n v w i (GotDual ms f init e) = rw e (dual_inv v ms i f init)

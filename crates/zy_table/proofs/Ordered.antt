@@ -368,7 +368,7 @@ ordered_event sc n v w i o (Splits t r q runs f new full normal pages e) =
     along w _ e (cut_ordered t (page t r v) (boundary sc t (key t r v) (page t r v) v) x (has_lock_ordered t (key t r v) Exclusive v o) (has_lock_inv t (key t r v) Exclusive v i) normal)
 ordered_event sc n v w i o (Commits t runs all e) = along w _ e (committed_ordered t v o)
 ordered_event sc n v w i o (Asks p gone pulls new e) = along w _ e (asks_ordered p v o new)
-ordered_event sc n v w i o (Starts normal empty e) = along w _ e (kept_ordered v _ o refl refl refl refl refl refl (sent_bare v.outbox (Wire v.me.lows) refl) refl)
+ordered_event sc n v w i o (Starts at_a normal empty e) = along w _ e (kept_ordered v _ o refl refl refl refl refl refl (sent_bare v.outbox (Wire v.me.lows) refl) refl)
 ordered_event sc n v w i o (GotWire lows ms f empty e) =
     along w _ e (kept_ordered v _ o refl refl refl refl refl (ap sent_leaves (sym f)) (sent_bare v.outbox Ready refl) (wire_wide v lows ms i f empty))
 ordered_event sc n v w i o (GotReady ms f init e) = along w _ e (kept_ordered v _ o refl refl refl refl refl (ap sent_leaves (sym f)) (sent_bare v.outbox Dual refl) refl)

@@ -111,7 +111,7 @@ fate sc n v w u (Inserts t r q runs f new room e) = fate_set sc v w t u _ (ap tx
 fate sc n v w u (Splits t r q runs f new full normal pages e) = rw e (Same refl)
 fate sc n v w u (Commits t runs whole e) = fate_set sc v w t u _ (ap txns_of e) (Ends (omega arith) refl refl)
 fate sc n v w u (Asks p gone may new e) = rw e (Same refl)
-fate sc n v w u (Starts a b e) = rw e (Same refl)
+fate sc n v w u (Starts at_a a b e) = rw e (Same refl)
 fate sc n v w u (GotWire lows ms f m e) = rw e (Same refl)
 fate sc n v w u (GotReady ms f m e) = rw e (Same refl)
 fate sc n v w u (GotDual ms f m e) = rw e (Same refl)
@@ -137,13 +137,13 @@ abbrev tally : List Txn → ℕ
 tally [] = 0
 tally (x ∷ xs) = (if is_committed x.status then 1 else 0) + tally xs
 
-active_off : (s : Status) → is_active s ≡ true → is_committed s ≡ false
+pub active_off : (s : Status) → is_active s ≡ true → is_committed s ≡ false
 active_off New h = refl
 active_off Active h = refl
 active_off Committed h = absurd (false≢true h)
 active_off (Aborted w) h = refl
 
-new_off : (s : Status) → is_new s ≡ true → is_committed s ≡ false
+pub new_off : (s : Status) → is_new s ≡ true → is_committed s ≡ false
 new_off New h = refl
 new_off Active h = refl
 new_off Committed h = absurd (false≢true h)
@@ -202,7 +202,7 @@ tallied sc n v w (Commits t runs whole e) = rw e (record {
   commits = omega (arith, tally_more v.txns t (record (txn_at v t) { status = Committed; rows = []; done = (txn_at v t).done + 1 }) refl runs.active, length-append v.commits (record { txn = t; done = (txn_at v t).done + 1 } ∷ []));
 })
 tallied sc n v w (Asks p gone may new e) = rw e (tallied_same v _ refl refl)
-tallied sc n v w (Starts a b e) = rw e (tallied_same v _ refl refl)
+tallied sc n v w (Starts at_a a b e) = rw e (tallied_same v _ refl refl)
 tallied sc n v w (GotWire lows ms f m e) = rw e (tallied_same v _ refl refl)
 tallied sc n v w (GotReady ms f m e) = rw e (tallied_same v _ refl refl)
 tallied sc n v w (GotDual ms f m e) = rw e (tallied_same v _ refl refl)

@@ -10,7 +10,7 @@ use Rattle.zy_isa.specs.declared.node.Node.{Node}
 use Rattle.zy_isa.specs.declared.node.Node.TheVariants.{A, B}
 use Rattle.zy_links.specs.Messages.{Wire, Ready, Dual, Pull, Page, Finish, Done}
 use Rattle.zy_locks.specs.declared.lock.LockKind.TheVariants.{Exclusive}
-use Rattle.zy_modes.specs.Table.{may_split}
+use Rattle.zy_modes.specs.Table.{may_pull, may_split}
 use Rattle.zy_table.specs.declared.place.Place.{Place}
 use Rattle.zy_table.specs.declared.place.Place.TheVariants.{Nowhere, At, Moving}
 use Rattle.zy_table.specs.Change.{aborted, asks, begun, committed, cut, did, leaves, locked, txn_at}
@@ -43,7 +43,7 @@ data Goes (p : ℕ) (n : Node) (v w : View) : Type 0 where
   Same : place_in p n w ≡ place_in p n v → Goes p n v w
   New : may_split v.me.mode ≡ true → place_in p n v ≡ Nowhere → place_in p n w ≡ At n → Goes p n v w
   Out : is_source v.me.mode ≡ true → place_in p n v ≡ At n → place_in p n w ≡ Moving n → Goes p n v w
-  In : place_in p n v ≡ Moving (other n) → place_in p n w ≡ At n → Goes p n v w
+  In : may_pull v.me.mode ≡ true → place_in p n v ≡ Moving (other n) → place_in p n w ≡ At n → Goes p n v w
 
 same_place : (p : ℕ) (n : Node) (v w : View) → owns w.me.pages p ≡ owns v.me.pages p → w.them ≡ v.them → owns (sent_leaves w.outbox) p ≡ owns (sent_leaves v.outbox) p
     → owns (sent_leaves w.inbox) p ≡ owns (sent_leaves v.inbox) p → place_in p n w ≡ place_in p n v
@@ -87,9 +87,9 @@ leaves_goes p n v q o source own =
     ]
 
 -- a page comes
-arrives_goes : (p : ℕ) (n : Node) (v w : View) (leaf : Leaf) (ms : List Message) → Owned v → v.inbox ≡ Page leaf ∷ ms → w.me.pages ≡ with_page leaf v.me.pages → w.them ≡ v.them
+arrives_goes : (p : ℕ) (n : Node) (v w : View) (leaf : Leaf) (ms : List Message) → Owned v → may_pull v.me.mode ≡ true → v.inbox ≡ Page leaf ∷ ms → w.me.pages ≡ with_page leaf v.me.pages → w.them ≡ v.them
     → sent_leaves w.outbox ≡ sent_leaves v.outbox → w.inbox ≡ ms → Goes p n v w
-arrives_goes p n v w leaf ms o f me them outbox inbox =
+arrives_goes p n v w leaf ms o pulls f me them outbox inbox =
     let owned : owns w.me.pages p ≡ ((leaf.number == p) || owns v.me.pages p) = ap (λ xs. owns xs p) me ∙ owns-with_page p leaf v.me.pages in
     let sent : owns (sent_leaves v.inbox) p ≡ ((leaf.number == p) || owns (sent_leaves ms) p) = ap (λ xs. owns (sent_leaves xs) p) f in
     elim (cases_eq leaf.number p) [
@@ -100,7 +100,7 @@ arrives_goes p n v w leaf ms o f me them outbox inbox =
           let a = owns_none p v.me.pages (grind (arith, nat_tests, k, s, here)) in
           let b = owns_none p v.them.pages (grind (arith, nat_tests, k, s, here)) in
           let c = owns_none p (sent_leaves v.outbox) (grind (arith, nat_tests, k, s, here, z)) in
-          In (in_in p n v a b c (sent ∙ or_left _ _ (eq-eqb _ _ here))) (at_me p n w (owned ∙ or_left _ _ (eq-eqb _ _ here)))
+          In pulls (in_in p n v a b c (sent ∙ or_left _ _ (eq-eqb _ _ here))) (at_me p n w (owned ∙ or_left _ _ (eq-eqb _ _ here)))
       | inr far ↦
           let off : (leaf.number == p) ≡ false = ne_eqb _ _ far in
           let mine : owns w.me.pages p ≡ owns v.me.pages p = owned ∙ ap (λ b. b || owns v.me.pages p) off in
@@ -132,7 +132,7 @@ from_same : (p : ℕ) (n : Node) (v x w : View) → place_in p n v ≡ place_in 
 from_same p n v x w same mode (Same h) = Same (h ∙ sym same)
 from_same p n v x w same mode (New a b c) = New (ap may_split (sym mode) ∙ a) (same ∙ b) c
 from_same p n v x w same mode (Out a b c) = Out (ap is_source (sym mode) ∙ a) (same ∙ b) c
-from_same p n v x w same mode (In a b) = In (same ∙ a) b
+from_same p n v x w same mode (In a b c) = In (ap may_pull (sym mode) ∙ a) (same ∙ b) c
 
 goes_event : (sc : Scenario) (n : Node) (v w : View) (p : ℕ) → Inv v → Event sc n v w → Goes p n v w
 unfolding did locked txn_at aborted begun committed asks
@@ -151,7 +151,7 @@ goes_event sc n v w p i (Splits t r q runs f new full normal pages e) =
     rw e (from_same p n v x _ refl refl (cut_goes p n x t (page t r v) (boundary sc t (key t r v) (page t r v) v) locked normal))
 goes_event sc n v w p i (Commits t runs all e) = rw e (stays p n v _ (owns-installed v.me.lows (txn_at v t).rows v.me.pages p) refl refl refl)
 goes_event sc n v w p i (Asks q gone pulls new e) = rw e (stays p n v _ refl refl (sent_bare v.outbox (Pull q) refl) refl)
-goes_event sc n v w p i (Starts normal empty e) = rw e (stays p n v _ refl refl (sent_bare v.outbox (Wire v.me.lows) refl) refl)
+goes_event sc n v w p i (Starts at_a normal empty e) = rw e (stays p n v _ refl refl (sent_bare v.outbox (Wire v.me.lows) refl) refl)
 goes_event sc n v w p i (GotWire lows ms f empty e) = rw e (stays p n v _ refl refl (sent_bare v.outbox Ready refl) (ap sent_leaves (sym f)))
 goes_event sc n v w p i (GotReady ms f init e) = rw e (stays p n v _ refl refl (sent_bare v.outbox Dual refl) (ap sent_leaves (sym f)))
 goes_event sc n v w p i (GotDual ms f init e) = rw e (stays p n v _ refl refl refl (ap sent_leaves (sym f)))
@@ -160,8 +160,8 @@ goes_event sc n v w p i (Gives q ms f sends own free e) =
     let x = rest v ms in
     let same = same_place p n x v refl refl refl (ap (λ xs. owns (sent_leaves xs) p) f) in
     rw e (from_same p n v x _ same refl (leaves_goes p n x q (pulled_inv v q ms i f).owned (sends_source v.me.mode sends) own))
-goes_event sc n v w p i (GotPage leaf ms f pulls e) = rw e (arrives_goes p n v _ leaf ms i.owned f refl refl refl refl)
-goes_event sc n v w p i (GotLast leaf ms f finish all e) = rw e (arrives_goes p n v _ leaf ms i.owned f refl refl (sent_bare v.outbox Done refl) refl)
+goes_event sc n v w p i (GotPage leaf ms f pulls e) = rw e (arrives_goes p n v _ leaf ms i.owned pulls f refl refl refl refl)
+goes_event sc n v w p i (GotLast leaf ms f finish all e) = rw e (arrives_goes p n v _ leaf ms i.owned (ap may_pull finish) f refl refl (sent_bare v.outbox Done refl) refl)
 goes_event sc n v w p i (GotFinish ms f dual e) = rw e (stays p n v _ refl refl refl (ap sent_leaves (sym f)))
 goes_event sc n v w p i (GotAll ms f dual all e) = rw e (stays p n v _ refl refl (sent_bare v.outbox Done refl) (ap sent_leaves (sym f)))
 goes_event sc n v w p i (GotDone ms f finish e) = rw e (stays p n v _ refl refl refl (ap sent_leaves (sym f)))
@@ -199,13 +199,13 @@ travel : (p : ℕ) (n : Node) (s : State) (w : View) → place_in p n (facing n 
 travel p n s w x y (Same h) = Stays (sym y ∙ h ∙ x)
 travel p n s w x y (New a b c) = Appears a (sym x ∙ b) (sym y ∙ c)
 travel p n s w x y (Out a b c) = Leaves a (sym x ∙ b) (sym y ∙ c)
-travel p n s w x y (In a b) = Arrives (sym x ∙ a) (sym y ∙ b)
+travel p n s w x y (In a b c) = Arrives a (sym x ∙ b) (sym y ∙ c)
 
 inv_seen : (n : Node) (w : View) → Inv (facing n (seen_from n w)) → Inv w
 inv_seen A w i = i
 inv_seen B w i = i
 
-step_travels : (sc : Scenario) (c : Choice) (s : State) (p : ℕ) → Inv (facing A s) → Inv (facing A (step sc c s).after) → Travels p (side_of c s) s (step sc c s).after
+pub step_travels : (sc : Scenario) (c : Choice) (s : State) (p : ℕ) → Inv (facing A s) → Inv (facing A (step sc c s).after) → Travels p (side_of c s) s (step sc c s).after
 unfolding step
 step_travels sc c s p i j =
     let n = side_of c s in
