@@ -373,8 +373,8 @@ impl Store {
         }
     }
 
-    #[tactic(auto, unfolding(zy_table::specs::Change::locked, zy_table::specs::Change::cut))]
     /// A page of a node is cut at a boundary for a transaction, which gets the locks on both parts.
+    #[tactic(auto, unfolding(zy_table::specs::Change::locked, zy_table::specs::Change::cut))]
     pub(crate) fn cut(&mut self, n: Node, t: u8, p: u16, boundary: u16) -> Result<(), AllocError>
         requires { IsCuttable t p boundary (facing n (shown self.old)).me }
         ensures ok { OnOk result (shown self.new ≡ seen_from n (cut_lem t p boundary (locked_lem t p Exclusive (facing n (shown self.old))))) }
