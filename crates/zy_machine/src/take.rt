@@ -68,6 +68,7 @@ impl NodeStore {
         ensures { let m = message_of message.now in let x = node_shown self.now in
             result ≡ on_message_lem x.mode (kind_of m) (all_here (with_brought m x)) }
     {
+        // The table asks it of these two messages alone.
         let all = match message {
             Message::Page(_) => self.lacks(1),
             Message::Finish => self.lacks(0),
