@@ -12,7 +12,7 @@ use Rattle.zy_table.specs.declared.status.Status.TheVariants.{Active, Aborted, C
 use Rattle.zy_table.specs.declared.entry.CommitRec.{CommitRec}
 use Rattle.zy_table.specs.Change.{txn_at, txn_or, begun, aborted, did, locked, committed, unlocked, with_installed, installed}
 use Rattle.zy_table.specs.Pages.{rows_of, page_in}
-use Rattle.zy_machine.specs.Shelf.{with_row}
+use Rattle.zy_machine.specs.Owned.{with_row}
 use Rattle.zy_wire.specs.Wireframe.{page_of}
 use Rattle.zy_table.specs.Rows.{put_rows, rows_on}
 use Rattle.zy_machine.specs.Install.{HasRoomFor}
