@@ -96,7 +96,7 @@ impl PageStore {
         requires { (q : ℕ) → owns_lem self.now q ≡ true → from ≤ q }
         ensures { result ≡ least (numbers self.now) }
     {
-        // No page has a number above the slots.
+        // There are 512 slots, and no page has a number above theirs.
         let _ = &self.slots;
         for p in from..MAX_PAGES {
             if self.owns(p) {
