@@ -7,7 +7,7 @@ use Rattle.std.proofs.lemmas.Bool.{cond_both, eq-eqb, eqb-true, false≢true, lt
 use Rattle.zy_page.specs.Leaf.{Leaf}
 use Rattle.zy_table.specs.Numbers.{least, least_with}
 use Rattle.zy_table.specs.Pages.{numbers, owns, without}
-use Rattle.zy_machine.specs.Shelf.{with_row}
+use Rattle.zy_machine.specs.Owned.{with_row}
 
 -- a page that was read is there, or none was
 pub is_some-copied : {X : Type 0} (r : Option (Bor X)) → is_some (option_copied r) ≡ is_some r

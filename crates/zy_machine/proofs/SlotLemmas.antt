@@ -6,7 +6,7 @@ use Rattle.zy_isa.specs.Rows.{put_row}
 use Rattle.zy_page.specs.Leaf.{Leaf}
 use Rattle.zy_table.specs.Order.{NumbersRise}
 use Rattle.zy_table.specs.Pages.{numbers, page_in, with_page, without}
-use Rattle.zy_machine.specs.Shelf.{with_row}
+use Rattle.zy_machine.specs.Owned.{with_row}
 use Rattle.zy_machine.specs.Slots.{laid_out, InPlace}
 
 -- numbers that rise from n on rise from each lower one

@@ -7,12 +7,12 @@ use Rattle.zy_isa.specs.declared.row.Row.{Row}
 use Rattle.zy_page.specs.Leaf.{Leaf}
 use Rattle.zy_locks.specs.declared.lock.LockKind.{LockKind}
 use Rattle.zy_table.specs.declared.outcome.Why.{Why}
-use Rattle.zy_table.specs.State.{State, Txn, facing, seen_from, with_me}
+use Rattle.zy_table.specs.State.{State, Txn, View, facing, seen_from, with_me}
 use Rattle.zy_table.specs.declared.status.Status.TheVariants.{Active, Aborted, Committed}
 use Rattle.zy_table.specs.declared.entry.CommitRec.{CommitRec}
 use Rattle.zy_table.specs.Change.{txn_at, txn_or, begun, aborted, did, locked, committed, unlocked, with_installed, installed}
 use Rattle.zy_table.specs.Pages.{rows_of, page_in}
-use Rattle.zy_machine.specs.Shelf.{with_row}
+use Rattle.zy_machine.specs.Owned.{with_row}
 use Rattle.zy_wire.specs.Wireframe.{page_of}
 use Rattle.zy_table.specs.Rows.{put_rows, rows_on}
 use Rattle.zy_machine.specs.Install.{HasRoomFor}
@@ -54,6 +54,13 @@ pub did-seen : (n : Node) (t pc : ℕ) (regs : List ℕ) (rows : List Row) (s : 
 unfolding did txn_at
 did-seen A t pc regs rows s = refl
 did-seen B t pc regs rows s = refl
+
+-- an instruction that changes a transaction alone, as any node sees it
+pub did-anywhere : (n : Node) (t : ℕ) (pc : Txn → ℕ) (regs : Txn → List ℕ) (rows : Txn → List Row) (s : State)
+    → let did_at = (λ (f : View). let x = txn_at f t in did t (pc x) (regs x) (rows x) f) in seen_from A (did_at (facing A s)) ≡ seen_from n (did_at (facing n s))
+unfolding did txn_at
+did-anywhere A t pc regs rows s = refl
+did-anywhere B t pc regs rows s = refl
 
 -- an abort, once the locks are dropped
 pub aborted-seen : (n : Node) (t : ℕ) (why : Why) (s s1 : State) → s1 ≡ seen_from n (with_me (unlocked t (facing n s).me) (facing n s))

@@ -1,6 +1,5 @@
 pub mod Mail
 pub mod Marks
-pub mod Shelf
 pub mod Slots
 pub mod Owned
 pub mod Install

@@ -63,6 +63,7 @@ impl Frame {
         ensures value { result ≡ page_of_lem self.now.lows key }
         ensures few { result < 512 }
     {
+        // There are at most 512 pages.
         let _ = self.wire.len();
         self.wire.page_of(key)
     }

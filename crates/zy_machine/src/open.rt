@@ -23,8 +23,8 @@ use zy_modes::mode::NodeMode;
 use zy_page::page::Page;
 
 impl Store {
-    #[tactic(auto, unfolding(zy_table::specs::Play::opening))]
     /// The state in which a scenario opens: A has all pages, and nothing has begun.
+    #[tactic(auto, unfolding(zy_table::specs::Play::opening))]
     pub(crate) fn open(alloc: Global, scenario: &Scenario) -> Result<Store, AllocError>
         ensures { IfOk result (λ s. shown s ≡ opening scenario.now) }
     {

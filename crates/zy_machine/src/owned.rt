@@ -1,7 +1,7 @@
 //! The pages of a node, counted, and with a number that is not above any of theirs.
 ghost use Rattle.std.specs.Prelude.{◌≡◌, ◌<◌, ◌≤◌, ◌^◌, [], None, true, ℕ, IfOk, OnOk, OnErr, length, option_copied};
 ghost use Rattle.zy_page.specs.Leaf.{Leaf, rows_from};
-ghost use Rattle.zy_machine.specs.Shelf.{with_row};
+ghost use Rattle.zy_machine.specs.Owned.{with_row};
 ghost use Rattle.zy_machine.specs.Install.{HasRoomFor};
 ghost use Rattle.zy_table.specs.Numbers.{least};
 ghost use Rattle.zy_table.specs.Order.{NumbersRise};
@@ -27,9 +27,9 @@ impl Model for Owned {
 
     ghost Value = { List Leaf };
 
-    ghost view = { λ o. o.store.pages };
+    ghost view = { λ o. o.store };
 
-    ghost invariant = { λ o. AreCounted o.count o.first o.store.pages };
+    ghost invariant = { λ o. AreCounted o.count o.first o.store };
 }
 
 impl Owned {
@@ -65,7 +65,7 @@ impl Owned {
         ensures few { result ≤ 512 }
         ensures rise { NumbersRise 0 (numbers self.now) }
     {
-        let _ = self.store.len();
+        self.store.in_order();
         self.count
     }
 

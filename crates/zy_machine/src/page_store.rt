@@ -2,7 +2,7 @@
 ghost use Rattle.std.specs.Prelude.{◌≡◌, ◌<◌, ◌≤◌, ◌+◌, ℕ, [], None, true, IfOk, IfSome, OnOk, OnErr, is_some, length, option_copied};
 ghost use Rattle.zy_isa.specs.Rows.{get_row, put_row};
 ghost use Rattle.zy_page.specs.Leaf.{Leaf, rows_from};
-ghost use Rattle.zy_machine.specs.Shelf.{Shelf, with_row};
+ghost use Rattle.zy_machine.specs.Owned.{with_row};
 ghost use Rattle.zy_table.specs.Order.{NumbersRise};
 ghost use Rattle.zy_table.specs.Numbers.{least};
 ghost use Rattle.zy_table.specs.Pages.{leaf_at, lowered, numbers, owns as owns_lem, page_in, rows_of, with_page, without};
@@ -20,13 +20,13 @@ pub(crate) struct PageStore {
 }
 
 impl Model for PageStore {
-    ghost use Rattle.std.specs.Prelude.{length};
-    ghost use Rattle.zy_machine.specs.Shelf.{Shelf};
+    ghost use Rattle.std.specs.Prelude.{List};
+    ghost use Rattle.zy_page.specs.Leaf.{Leaf};
     ghost use Rattle.zy_machine.specs.Slots.{laid_out, AreSlots};
 
-    ghost Value = { Shelf };
+    ghost Value = { List Leaf };
 
-    ghost view = { λ s. record { width = length s.slots.items; pages = laid_out s.slots.items } };
+    ghost view = { λ s. laid_out s.slots.items };
 
     ghost invariant = { λ s. AreSlots s.slots.items };
 }
@@ -34,7 +34,7 @@ impl Model for PageStore {
 impl PageStore {
     /// No pages, and a slot for each that any scenario may have.
     pub(crate) fn new(alloc: Global) -> Result<PageStore, AllocError>
-        ensures { IfOk result (λ store. store.pages ≡ []) }
+        ensures { IfOk result (λ store. store ≡ []) }
     {
         let mut slots = Vec::with_capacity(alloc, usize::from(MAX_PAGES))?;
         for _ in 0..MAX_PAGES {
@@ -45,7 +45,7 @@ impl PageStore {
 
     /// The page of a number, if it is here.
     pub(crate) fn get(&self, p: u16) -> Option<&Page>
-        ensures { option_copied result ≡ page_in p self.entry.now.pages }
+        ensures { option_copied result ≡ page_in p self.entry.now }
     {
         match self.slots.get(usize::from(p)) {
             Some(slot) => slot.as_ref(),
@@ -53,18 +53,17 @@ impl PageStore {
         }
     }
 
-    /// How many slots there are. The pages stand in order of their numbers, and there are no more of them.
-    pub(crate) fn len(&self) -> usize
-        ensures slots { result ≡ self.now.width }
-        ensures few { length self.now.pages ≤ 512 }
-        ensures rise { NumbersRise 0 (numbers self.now.pages) }
+    /// Does nothing. It tells that the pages stand in order of their numbers, and that there are at most 512.
+    pub(crate) fn in_order(&self)
+        ensures few { length self.now ≤ 512 }
+        ensures rise { NumbersRise 0 (numbers self.now) }
     {
-        self.slots.len()
+        let _ = &self.slots;
     }
 
     /// Whether the page of a number is here.
     pub(crate) fn owns(&self, p: u16) -> bool
-        ensures { result ≡ owns_lem self.now.pages p }
+        ensures { result ≡ owns_lem self.now p }
     {
         self.get(p).is_some()
     }
@@ -72,8 +71,8 @@ impl PageStore {
     /// Takes a page in.
     pub(crate) fn put(&mut self, page: Page)
         requires room { page.number < 512 }
-        requires absent { page_in page.number self.old.pages ≡ None }
-        ensures { self.new ≡ record self.old { pages = with_page page self.old.pages } }
+        requires absent { page_in page.number self.old ≡ None }
+        ensures { self.new ≡ with_page page self.old }
     {
         let at = usize::from(page.number());
         self.slots[at] = Some(page);
@@ -81,10 +80,10 @@ impl PageStore {
 
     /// Moves a page out.
     pub(crate) fn take(&mut self, p: u16) -> Page
-        requires { owns_lem self.old.pages p ≡ true }
-        ensures page { result ≡ leaf_at self.old.pages p }
-        ensures left { self.new ≡ record self.old { pages = without p self.old.pages } }
-        ensures count { length self.old.pages ≡ length self.new.pages + 1 }
+        requires { owns_lem self.old p ≡ true }
+        ensures page { result ≡ leaf_at self.old p }
+        ensures left { self.new ≡ without p self.old }
+        ensures count { length self.old ≡ length self.new + 1 }
     {
         match self.slots[usize::from(p)].take() {
             Some(page) => page,
@@ -94,9 +93,10 @@ impl PageStore {
 
     /// The lowest page that is here, none of which has a number below `from`.
     pub(crate) fn lowest_from(&self, from: u16) -> Option<u16>
-        requires { (q : ℕ) → owns_lem self.now.pages q ≡ true → from ≤ q }
-        ensures { result ≡ least (numbers self.now.pages) }
+        requires { (q : ℕ) → owns_lem self.now q ≡ true → from ≤ q }
+        ensures { result ≡ least (numbers self.now) }
     {
+        // There are 512 slots, and no page has a number above theirs.
         let _ = &self.slots;
         for p in from..MAX_PAGES {
             if self.owns(p) {
@@ -108,8 +108,8 @@ impl PageStore {
 
     /// Puts a row on a page, if that page is here and has room for it.
     pub(crate) fn install(&mut self, p: u16, key: u16, value: u32)
-        requires { HasRoomFor key (page_in p self.old.pages) }
-        ensures { self.new ≡ record self.old { pages = with_row p key value self.old.pages } }
+        requires { HasRoomFor key (page_in p self.old) }
+        ensures { self.new ≡ with_row p key value self.old }
     {
         let at = usize::from(p);
         if at < self.slots.len() {
@@ -128,10 +128,10 @@ impl PageStore {
         number: u16,
     ) -> Result<(), AllocError>
         requires room { number < 512 }
-        requires absent { page_in number self.old.pages ≡ None }
-        requires there { owns_lem self.old.pages p ≡ true }
-        ensures ok { OnOk result (let upper : Leaf = record { number = number; low = boundary; rows = rows_from boundary (rows_of self.old.pages p) } in
-            self.new ≡ record self.old { pages = with_page upper (lowered p boundary self.old.pages) }) }
+        requires absent { page_in number self.old ≡ None }
+        requires there { owns_lem self.old p ≡ true }
+        ensures ok { OnOk result (let upper : Leaf = record { number = number; low = boundary; rows = rows_from boundary (rows_of self.old p) } in
+            self.new ≡ with_page upper (lowered p boundary self.old)) }
         ensures err { OnErr result (self.new ≡ self.old) }
     {
         let upper = self.split_off(alloc, p, boundary, number)?;
@@ -147,9 +147,9 @@ impl PageStore {
         boundary: u16,
         number: u16,
     ) -> Result<Page, AllocError>
-        requires { owns_lem self.old.pages p ≡ true }
-        ensures upper { IfOk result (λ upper. upper ≡ record { number = number; low = boundary; rows = rows_from boundary (rows_of self.old.pages p) }) }
-        ensures lower { OnOk result (self.new ≡ record self.old { pages = lowered p boundary self.old.pages }) }
+        requires { owns_lem self.old p ≡ true }
+        ensures upper { IfOk result (λ upper. upper ≡ record { number = number; low = boundary; rows = rows_from boundary (rows_of self.old p) }) }
+        ensures lower { OnOk result (self.new ≡ lowered p boundary self.old) }
         ensures err { OnErr result (self.new ≡ self.old) }
     {
         match &mut self.slots[usize::from(p)] {

@@ -1,5 +1,5 @@
 //! `n finish` and `n push`: each function is the lines of its name.
-ghost use Rattle.std.specs.Prelude.{◌≡◌, ◌≤◌, ◌&&◌, length, position};
+ghost use Rattle.std.specs.Prelude.{◌≡◌, ◌≤◌, ◌&&◌, ◌++◌, ◌∷◌, [], length, position};
 ghost use Rattle.zy_modes.specs.declared.mode.NodeMode.TheVariants.{SFinish};
 ghost use Rattle.zy_links.specs.Messages.{Finish};
 ghost use Rattle.zy_table.specs.State.{facing, seen_from, post};
@@ -9,10 +9,10 @@ ghost use Rattle.zy_table.specs.Change.{turns};
 ghost use Rattle.zy_table.specs.Client.{is_active};
 ghost use Rattle.zy_table.specs.Run.{same_node};
 ghost use Rattle.zy_table.specs.Push.{active_from, finish_row as finish_row_lem, push_row as push_row_lem};
-ghost use Rattle.zy_machine.specs.Stores.{shown, node_in, Makes};
+ghost use Rattle.zy_machine.specs.Stores.{shown, node_shown, node_in, Makes};
 
 use crate::answer::Answer;
-use crate::store::Store;
+use crate::store::{NodeStore, Store};
 use crate::txn::Txn;
 use std::alloc::AllocError;
 use zy_isa::node::Node;
@@ -22,20 +22,23 @@ use zy_modes::mode::NodeMode;
 use zy_modes::table::{FinRow, on_finish};
 use zy_table::outcome::Outcome;
 
-impl Txn {
-    /// Whether it runs at a node.
-    fn runs_at(&self, n: Node) -> bool
-        ensures { result ≡ (is_active self.now.status && same_node self.now.node n) }
-    {
-        self.is_active() && self.node() == n
-    }
-}
-
 /// The first of some transactions that runs at a node.
 fn first_active(txns: &[Txn], n: Node) -> Option<usize>
     ensures { result ≡ position (λ x. is_active x.status && same_node x.node n) txns.now }
 {
     txns.iter().position(|txn| txn.runs_at(n))
+}
+
+impl NodeStore {
+    /// Says that it has finished.
+    fn finish(&mut self)
+        requires { 1 ≤ self.old.outbox.spare }
+        ensures node { let x = node_shown self.old in node_shown self.new ≡ record x { mode = SFinish } }
+        ensures outbox { self.new.outbox.messages ≡ self.old.outbox.messages ++ Finish ∷ [] }
+    {
+        self.mode = NodeMode::SFinish;
+        self.outbox.send(Message::Finish);
+    }
 }
 
 impl Store {
@@ -54,14 +57,8 @@ impl Store {
         ensures { shown self.new ≡ seen_from n (post Finish (turns SFinish (facing n (shown self.old)))) }
     {
         match n {
-            Node::A => {
-                self.a.mode = NodeMode::SFinish;
-                self.a.outbox.send(Message::Finish);
-            }
-            Node::B => {
-                self.b.mode = NodeMode::SFinish;
-                self.b.outbox.send(Message::Finish);
-            }
+            Node::A => self.a.finish(),
+            Node::B => self.b.finish(),
         }
     }
 

@@ -107,7 +107,7 @@ impl Store {
         requires { Countable t self.old }
         ensures { IsMade n self.new result (set_row_lem t r value (facing n (shown self.old))) }
     {
-        self.set(n, t, r, value);
+        self.set(t, r, value);
         Answer::quiet(Outcome::Did)
     }
 
@@ -118,7 +118,7 @@ impl Store {
         ensures { IsMade n self.new result (jump_row_lem t taken target (facing n (shown self.old))) }
     {
         let next = self.txn(t).place() + 1;
-        self.go_to(n, t, place_after(taken, target, next));
+        self.go_to(t, place_after(taken, target, next));
         Answer::quiet(Outcome::Did)
     }
 
@@ -217,7 +217,7 @@ impl Store {
     {
         let value = self.value(n, t, key, p);
         self.lock(n, p, t, LockKind::Shared);
-        self.set(n, t, r, value);
+        self.set(t, r, value);
         Answer::quiet(Outcome::Did)
     }
 
@@ -238,7 +238,7 @@ impl Store {
         if !self.is_there(n, t, p, key) {
             return Ok(self.abort_row(n, t, Why::Missing));
         }
-        self.put(n, t, key, value)?;
+        self.put(t, key, value)?;
         self.lock(n, p, t, LockKind::Exclusive);
         Ok(Answer::quiet(Outcome::Did))
     }
@@ -267,7 +267,7 @@ impl Store {
         if !self.has_room(scenario, n, t, p) {
             return self.full_row(scenario, n, t, key, p);
         }
-        self.put(n, t, key, value)?;
+        self.put(t, key, value)?;
         self.lock(n, p, t, LockKind::Exclusive);
         Ok(Answer::quiet(Outcome::Did))
     }

@@ -269,34 +269,31 @@ impl Store {
     }
 
     /// A transaction did an instruction that gives a register a value.
-    pub(crate) fn set(&mut self, n: Node, t: u8, r: Reg, value: u32)
+    pub(crate) fn set(&mut self, t: u8, r: Reg, value: u32)
         requires { Countable t self.old }
-        ensures { let s = facing n (shown self.old) in let x = txn_at s t in
-            shown self.new ≡ seen_from n (did_lem t (x.pc + 1) (with_reg r value x.regs) x.rows s) }
+        ensures { let s = facing A (shown self.old) in let x = txn_at s t in
+            shown self.new ≡ seen_from A (did_lem t (x.pc + 1) (with_reg r value x.regs) x.rows s) }
     {
-        let _ = n;
         self.txns[usize::from(t)].set(r, value);
     }
 
     /// A transaction did an instruction after which it stands at a place.
-    pub(crate) fn go_to(&mut self, n: Node, t: u8, place: u32)
+    pub(crate) fn go_to(&mut self, t: u8, place: u32)
         requires { Countable t self.old }
-        ensures { let s = facing n (shown self.old) in let x = txn_at s t in
-            shown self.new ≡ seen_from n (did_lem t place x.regs x.rows s) }
+        ensures { let s = facing A (shown self.old) in let x = txn_at s t in
+            shown self.new ≡ seen_from A (did_lem t place x.regs x.rows s) }
     {
-        let _ = n;
         self.txns[usize::from(t)].go_to(place);
     }
 
     /// A transaction did an instruction that puts a private row.
-    pub(crate) fn put(&mut self, n: Node, t: u8, key: u16, value: u32) -> Result<(), AllocError>
+    pub(crate) fn put(&mut self, t: u8, key: u16, value: u32) -> Result<(), AllocError>
         requires { Countable t self.old }
-        ensures ok { OnOk result (let s = facing n (shown self.old) in let x = txn_at s t in
-            shown self.new ≡ seen_from n (did_lem t (x.pc + 1) x.regs (put_row key value x.rows) s)) }
+        ensures ok { OnOk result (let s = facing A (shown self.old) in let x = txn_at s t in
+            shown self.new ≡ seen_from A (did_lem t (x.pc + 1) x.regs (put_row key value x.rows) s)) }
         ensures err { OnErr result (shown self.new ≡ shown self.old) }
         ensures nodes { (self.new.a ≡ self.old.a) × (self.new.b ≡ self.old.b) }
     {
-        let _ = n;
         self.txns[usize::from(t)].put(key, value)
     }
 
@@ -373,8 +370,8 @@ impl Store {
         }
     }
 
-    #[tactic(auto, unfolding(zy_table::specs::Change::locked, zy_table::specs::Change::cut))]
     /// A page of a node is cut at a boundary for a transaction, which gets the locks on both parts.
+    #[tactic(auto, unfolding(zy_table::specs::Change::locked, zy_table::specs::Change::cut))]
     pub(crate) fn cut(&mut self, n: Node, t: u8, p: u16, boundary: u16) -> Result<(), AllocError>
         requires { IsCuttable t p boundary (facing n (shown self.old)).me }
         ensures ok { OnOk result (shown self.new ≡ seen_from n (cut_lem t p boundary (locked_lem t p Exclusive (facing n (shown self.old))))) }

@@ -1,5 +1,5 @@
 //! `n take`: each function is the lines of its name.
-ghost use Rattle.std.specs.Prelude.{◌≡◌, ◌≤◌, ◌+◌, ◌==◌, ◌++◌, ◌∷◌, [], OnOk, IfSome, true, length, option_map, slice_get};
+ghost use Rattle.std.specs.Prelude.{◌≡◌, ◌≤◌, ◌+◌, ◌==◌, ◌++◌, ◌∷◌, [], OnOk, IfSome, true, is_some, length, option_map, slice_get};
 ghost use Rattle.zy_links.specs.Messages.{Page, kind_of, message_of};
 ghost use Rattle.zy_modes.specs.Table.{on_message as on_message_lem};
 ghost use Rattle.zy_modes.specs.declared.table.MsgRow.TheVariants.{Turns};
@@ -68,15 +68,17 @@ impl NodeStore {
         ensures { let m = message_of message.now in let x = node_shown self.now in
             result ≡ on_message_lem x.mode (kind_of m) (all_here (with_brought m x)) }
     {
-        match message {
-            Message::Wire(_) => on_message(self.mode, Kind::Wire, false),
-            Message::Ready => on_message(self.mode, Kind::Ready, false),
-            Message::Dual => on_message(self.mode, Kind::Dual, false),
-            Message::Pull(_) => on_message(self.mode, Kind::Pull, false),
-            Message::Page(_) => on_message(self.mode, Kind::Page, self.lacks(1)),
-            Message::Finish => on_message(self.mode, Kind::Finish, self.lacks(0)),
-            Message::Done => on_message(self.mode, Kind::Done, false),
-        }
+        // The table asks it of these two messages alone.
+        let all = match message {
+            Message::Page(_) => self.lacks(1),
+            Message::Finish => self.lacks(0),
+            Message::Wire(_) => false,
+            Message::Ready => false,
+            Message::Dual => false,
+            Message::Pull(_) => false,
+            Message::Done => false,
+        };
+        on_message(self.mode, message.kind(), all)
     }
 
     /// Keeps what a message brings.
@@ -283,6 +285,7 @@ impl Store {
     #[tactic(auto, unfolding(zy_table::specs::Take::got_row))]
     fn got_row(&mut self, n: Node, line: MsgRow) -> Result<Answer, AllocError>
         requires may { MayTake (facing n (shown self.old)) }
+        requires some { is_some (slice_get (facing n (shown self.old)).inbox 0) ≡ true }
         ensures { GotMakes n line self.old self.new result }
     {
         match line {
@@ -299,11 +302,12 @@ impl Store {
         sent: Option<Kind>,
     ) -> Result<Answer, AllocError>
         requires may { MayTake (facing n (shown self.old)) }
+        requires some { is_some (slice_get (facing n (shown self.old)).inbox 0) ≡ true }
         ensures { GotMakes n (Turns mode sent) self.old self.new result }
     {
         self.reserve_answer(n, sent)?;
         let Some(message) = self.take_front(n) else {
-            return Ok(Answer::quiet(Outcome::NoMessage));
+            unreachable!();
         };
         let outcome = got(&message);
         self.take_in(n, message, mode, sent);

@@ -1,8 +1,9 @@
 //! One transaction.
-ghost use Rattle.std.specs.Prelude.{◌≡◌, ◌+◌, ◌<◌, ◌^◌, IfOk, OnOk, OnErr, replicate, []};
+ghost use Rattle.std.specs.Prelude.{◌≡◌, ◌+◌, ◌<◌, ◌^◌, ◌&&◌, OnOk, OnErr, replicate, []};
 ghost use Rattle.zy_isa.specs.Rows.{Rising, RowsFit, get_row, put_row};
 ghost use Rattle.zy_table.specs.Change.{nobody, reg, with_reg};
 ghost use Rattle.zy_table.specs.Client.{is_new, is_active};
+ghost use Rattle.zy_table.specs.Run.{same_node};
 ghost use Rattle.zy_table.specs.declared.status.Status.TheVariants.{New, Active, Committed, Aborted};
 
 use std::alloc::{AllocError, Global};
@@ -106,6 +107,7 @@ impl Txn {
         self.rows.get(key)
     }
 
+    /// Whether it has not begun.
     pub(crate) fn is_new(&self) -> bool
         ensures { result ≡ is_new self.now.status }
     {
@@ -117,6 +119,7 @@ impl Txn {
         }
     }
 
+    /// Whether it runs: it has begun, and is neither committed nor aborted.
     pub(crate) fn is_active(&self) -> bool
         ensures { result ≡ is_active self.now.status }
     {
@@ -126,6 +129,13 @@ impl Txn {
             Status::Committed => false,
             Status::Aborted(_) => false,
         }
+    }
+
+    /// Whether it runs at a node.
+    pub(crate) fn runs_at(&self, n: Node) -> bool
+        ensures { result ≡ (is_active self.now.status && same_node self.now.node n) }
+    {
+        self.is_active() && self.node() == n
     }
 
     /// It begins at a node.
@@ -190,20 +200,5 @@ impl Txn {
         self.place += 1;
         self.done += 1;
         Ok(())
-    }
-
-    /// The same transaction once more.
-    pub(crate) fn copy(&self, alloc: Global) -> Result<Txn, AllocError>
-        ensures { IfOk result (λ copy. copy ≡ self.now) }
-    {
-        let rows = self.rows.copy(alloc)?;
-        Ok(Txn {
-            status: self.status,
-            node: self.node,
-            place: self.place,
-            regs: self.regs,
-            rows,
-            done: self.done,
-        })
     }
 }

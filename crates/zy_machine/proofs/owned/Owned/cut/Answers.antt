@@ -9,7 +9,7 @@ use Rattle.zy_machine.proofs.owned.Owned.cut.Goals as goal
 
 pub invariant_of-self-2 : goal.invariant_of-self-2
 invariant_of-self-2 c =
-    let pages = c.self.inside.store.pages in
+    let pages = c.self.inside.store in
     let low = lowered c.args.p c.args.boundary pages in
     let upper : Leaf = record { number = c.args.number; low = c.args.boundary; rows = rows_from c.args.boundary (rows_of pages c.args.p) } in
     rw c.in_ok-cut.ensures.ok (record {

@@ -9,7 +9,7 @@ use Rattle.zy_machine.proofs.owned.Owned.put.Goals as goal
 
 pub invariant_of-self : goal.invariant_of-self
 invariant_of-self c =
-    let pages = c.self.inside.store.pages in
+    let pages = c.self.inside.store in
     let page = c.args.page in
     rw c.put.ensures (record {
       all = omega (arith, length-with_page page pages, c.len.ensures.value, ap (λ (xs : List Leaf). length xs) c.self.view_is);

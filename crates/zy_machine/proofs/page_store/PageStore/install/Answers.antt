@@ -34,14 +34,14 @@ returns-in-Some c =
     let items = c.self.inside.slots.items in
     let here = slot items c.from-at.result c.len.result c.index_mut.result.now c.index_mut.ensures.value c.if-at-len.true (c.len.ensures ∙ c.self.inside.slots.ok.0) ∙ c.in-Some.is in
     let change = with_row_at 0 c.args.p c.from-at.result c.args.key c.args.value c.in-Some.page items c.self.invariant.placed (omega arith) here in
-    rw (← c.self.view_is, change, c.install.ensures, length-set) refl
+    rw (← c.self.view_is, change, c.install.ensures) refl
 
 pub returns-in_default : goal.returns-in_default
 returns-in_default c =
     let items = c.self.inside.slots.items in
     let none = slot items c.from-at.result c.len.result c.index_mut.result.now c.index_mut.ensures.value c.if-at-len.true (c.len.ensures ∙ c.self.inside.slots.ok.0) ∙ c.in_default.is in
     let same = with_row_none 0 c.args.p c.from-at.result c.args.key c.args.value items c.self.invariant.placed (omega arith) none in
-    rw (← c.self.view_is, same, c.in_default.is, laid_out-set_none c.from-at.result items none, length-set) refl
+    rw (← c.self.view_is, same, c.in_default.is, laid_out-set_none c.from-at.result items none) refl
 
 pub returns-else-at-len : goal.returns-else-at-len
 returns-else-at-len c =

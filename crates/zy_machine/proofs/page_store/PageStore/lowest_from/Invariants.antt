@@ -3,4 +3,4 @@ use Rattle.zy_table.specs.Pages.{owns}
 use Rattle.zy_machine.proofs.page_store.PageStore.lowest_from.Given as goal
 
 abbrev pub invariant-loop-p : goal.invariant-loop-p
-invariant-loop-p l = record { above : (q : ℕ) → owns l.self.pages q ≡ true → l.p ≤ q }
+invariant-loop-p l = record { above : (q : ℕ) → owns l.self q ≡ true → l.p ≤ q }

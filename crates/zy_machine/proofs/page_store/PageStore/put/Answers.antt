@@ -11,4 +11,4 @@ returns c =
     let items = c.self.inside.slots.items in
     let free = sym (page_at 0 c.args.page.number c.from-at.result items c.self.invariant.placed (omega arith)) ∙ rw (← c.self.view_is) at c.requires.absent in
     let filled = with_page_at 0 c.from-at.result c.args.page items c.self.invariant.placed (omega arith) (omega (arith, c.requires.room, c.self.invariant.whole, c.from-at.ensures, c.number.ensures)) free in
-    rw (← c.self.view_is, filled, length-set) refl
+    rw (← c.self.view_is, filled) refl

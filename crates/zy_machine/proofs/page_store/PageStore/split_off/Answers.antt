@@ -1,10 +1,9 @@
-use Rattle.std.proofs.Common.{◌≡◌, ◌∙◌, ℕ, None, Some, Option, List, length, get_or, is_some, sym, ap, arith, refl}
+use Rattle.std.proofs.Common.{◌≡◌, ◌∙◌, ℕ, None, Some, Option, List, get_or, is_some, sym, ap, arith, refl}
 use Rattle.std.specs.Prelude.{Result, Ok, Err, OnOk, OnErr}
 use Rattle.std.proofs.Math.ListN.{length-set, set}
 use Rattle.std.proofs.lemmas.Bool.{false≢true}
 use Rattle.zy_page.specs.Leaf.{Leaf, rows_below}
 use Rattle.zy_table.specs.Pages.{lowered}
-use Rattle.zy_machine.specs.Shelf.{Shelf}
 use Rattle.zy_machine.specs.Slots.{laid_out, InPlace}
 use Rattle.zy_machine.proofs.SlotLemmas.{page_at, number_at, InPlace-set_some}
 use Rattle.zy_table.proofs.PageFinds.{rows_of-some}
@@ -48,29 +47,25 @@ returns-clause-upper c =
     let found = page_at 0 c.args.p c.from.result items c.self.invariant.placed (omega arith) ∙ here in
     rw (← c.self.view_is, rows_of-some c.args.p c.in-Some.page (laid_out items) found) c.split_at.ensures.new_page
 
--- the pages as the slots show them
-abbrev shelf : List (Option Leaf) → Shelf
-shelf items = record { width = length items; pages = laid_out items }
-
-cut_shelf : {X E : Type 0} (r : Result X E) (items : List (Option Leaf)) (p at b : ℕ) (old new : Leaf) → InPlace 0 items → at ≡ p → get_or items at None ≡ Some old → OnOk r (new ≡ record old { rows = rows_below b old.rows })
-    → OnOk r (shelf (set items at (Some new)) ≡ record (shelf items) { pages = lowered p b (laid_out items) })
-cut_shelf (Ok x) items p at b old new placed e here h = rw (h, lowered_at 0 p at b old items placed (omega arith) here, length-set) refl
-cut_shelf (Err x) items p at b old new placed e here h = tt
+cut_pages : {X E : Type 0} (r : Result X E) (items : List (Option Leaf)) (p at b : ℕ) (old new : Leaf) → InPlace 0 items → at ≡ p → get_or items at None ≡ Some old → OnOk r (new ≡ record old { rows = rows_below b old.rows })
+    → OnOk r (laid_out (set items at (Some new)) ≡ lowered p b (laid_out items))
+cut_pages (Ok x) items p at b old new placed e here h = rw (h, lowered_at 0 p at b old items placed (omega arith) here) refl
+cut_pages (Err x) items p at b old new placed e here h = tt
 
 pub returns-clause-lower : goal.returns-clause-lower
 returns-clause-lower c =
     let items = c.self.inside.slots.items in
     let lt = slot_here items c.args.p c.from.result c.self.invariant.placed (rw (← c.self.view_is) at c.requires) c.from.ensures in
     let here = slot_read items c.from.result c.index_mut.result.now c.index_mut.ensures.value lt ∙ c.in-Some.is in
-    rw (← c.self.view_is) (cut_shelf c.split_at.result items c.args.p c.from.result c.args.boundary c.in-Some.page c.split_at.new.self c.self.invariant.placed c.from.ensures here c.split_at.ensures.old_page)
+    rw (← c.self.view_is) (cut_pages c.split_at.result items c.args.p c.from.result c.args.boundary c.in-Some.page c.split_at.new.self c.self.invariant.placed c.from.ensures here c.split_at.ensures.old_page)
 
-kept_shelf : {X E : Type 0} (r : Result X E) (items : List (Option Leaf)) (at : ℕ) (old new : Leaf) → get_or items at None ≡ Some old → OnErr r (new ≡ old) → OnErr r (shelf (set items at (Some new)) ≡ shelf items)
-kept_shelf (Ok x) items at old new here h = tt
-kept_shelf (Err x) items at old new here h = rw (h, set_again items at old here) refl
+kept_pages : {X E : Type 0} (r : Result X E) (items : List (Option Leaf)) (at : ℕ) (old new : Leaf) → get_or items at None ≡ Some old → OnErr r (new ≡ old) → OnErr r (laid_out (set items at (Some new)) ≡ laid_out items)
+kept_pages (Ok x) items at old new here h = tt
+kept_pages (Err x) items at old new here h = rw (h, set_again items at old here) refl
 
 pub returns-clause-err : goal.returns-clause-err
 returns-clause-err c =
     let items = c.self.inside.slots.items in
     let lt = slot_here items c.args.p c.from.result c.self.invariant.placed (rw (← c.self.view_is) at c.requires) c.from.ensures in
     let here = slot_read items c.from.result c.index_mut.result.now c.index_mut.ensures.value lt ∙ c.in-Some.is in
-    rw (← c.self.view_is) (kept_shelf c.split_at.result items c.from.result c.in-Some.page c.split_at.new.self here c.split_at.ensures.kept)
+    rw (← c.self.view_is) (kept_pages c.split_at.result items c.from.result c.in-Some.page c.split_at.new.self here c.split_at.ensures.kept)

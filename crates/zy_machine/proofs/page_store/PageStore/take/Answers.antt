@@ -40,7 +40,7 @@ returns-clause-page c =
 pub returns-clause-left : goal.returns-clause-left
 returns-clause-left c =
     let items = c.self.inside.slots.items in
-    rw (← c.self.view_is, c.take.ensures.after, without_at 0 c.args.p c.from.result items c.self.invariant.placed (omega arith), length-set) refl
+    rw (← c.self.view_is, c.take.ensures.after, without_at 0 c.args.p c.from.result items c.self.invariant.placed (omega arith)) refl
 
 pub returns-clause-count : goal.returns-clause-count
 returns-clause-count c =
