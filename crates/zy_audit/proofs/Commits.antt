@@ -1,9 +1,8 @@
 -- One commit after the other.
-use Rattle.std.proofs.Common.{List, [], ap, arith, get_or, length, subst, suc, sym, true, zero, ℕ, ◌<◌, ◌∙◌, ◌∷◌, ◌≡◌}
-use Rattle.std.specs.Prelude.{Some, drop, slice_get, unwrap_or}
+use Rattle.std.proofs.Common.{List, [], ap, arith, get_or, length, subst, suc, sym, true, zero, ℕ, ◌<◌, ◌∷◌, ◌≡◌}
+use Rattle.std.specs.Prelude.{drop, slice_get}
 use Rattle.std.proofs.lemmas.Bool.{false≢true}
 use Rattle.zy_isa.specs.Scenario.{Scenario}
-use Rattle.zy_isa.specs.declared.instr.Instr.{Instr}
 use Rattle.zy_table.specs.Change.{txn_or}
 use Rattle.zy_table.specs.Database.{Map}
 use Rattle.zy_machine.specs.Histories.{History, IsReplay, choices_of}
@@ -14,15 +13,6 @@ use Rattle.zy_table.specs.declared.entry.CommitRec.{CommitRec}
 use Rattle.zy_table.specs.State.{State, Txn}
 use Rattle.zy_table.proofs.SafeCounts.{safe}
 use Rattle.zy_table.proofs.Serializable.{serializable}
-
--- what stands at an index that was read
-got : {X : Type 0} (xs : List X) (i : ℕ) (x : X) → i < length xs → x ≡ get_or xs i x → slice_get xs i ≡ Some x
-got [] i x lt e = absurd (omega arith)
-got (y ∷ ys) zero x lt e = ap Some (sym e)
-got (y ∷ ys) (suc i) x lt e = got ys i x (omega arith) e
-
-pub program-read : (sc : Scenario) (i t : ℕ) (p : List Instr) → i ≡ t → t < length sc.programs → p ≡ get_or sc.programs i p → program_of sc t ≡ p
-program-read sc i t p e lt h = ap (λ o. unwrap_or o []) (got sc.programs t p lt (h ∙ ap (λ j. get_or sc.programs j p) e))
 
 -- the run of one commit leads to those behind it
 pub serial-more : (sc : Scenario) (m n : Map) (cs : List CommitRec) (i : ℕ) (d : CommitRec) → i < length cs

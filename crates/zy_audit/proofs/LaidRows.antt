@@ -1,27 +1,21 @@
 -- Rows laid over rows, and the maps that they make.
 use Rattle.std.proofs.Common.{List, [], ap, refl, sym, ℕ, ◌∙◌, ◌∷◌, ◌≡◌}
 use Rattle.std.specs.Prelude.{None, Some}
-use Rattle.std.specs.FinMap.{get, get-empty, insert, nat_cmp-IsAntisymmetric, same_map}
+use Rattle.std.specs.FinMap.{get, get-empty, insert}
 use Rattle.std.specs.Ordering.{nat_cmp}
-use Rattle.std.proofs.lemmas.Cmp.{nat_cmp_total}
-use Rattle.zy_isa.specs.Rows.{get_row, put_row, row}
+use Rattle.zy_isa.specs.Rows.{get_row}
 use Rattle.zy_isa.specs.declared.row.Row.{Row}
 use Rattle.zy_table.specs.Database.{Map, laid}
 use Rattle.zy_table.specs.Rows.{put_rows}
 use Rattle.zy_table.proofs.Installing.{or_else_none}
-use Rattle.zy_table.proofs.LoneRuns.{get-laid, get_row-put, or_else}
+use Rattle.zy_table.proofs.LoneRuns.{get-laid, laid_put, or_else}
 use Rattle.zy_audit.specs.Lone.{map_of}
 
--- a row put among rows lies over the map as one more row does
-pub laid-put_row : (m : Map) (rows : List Row) (k v : ℕ) → insert (laid rows m) k v ≡ laid (put_row k v rows) m
-laid-put_row m rows k v =
-    same_map nat_cmp_total nat_cmp-IsAntisymmetric _ _ (λ q.
-    get-laid (row k v ∷ rows) m q ∙ ap (λ o. or_else o (get m q)) (sym (get_row-put k v rows q)) ∙ sym (get-laid (put_row k v rows) m q))
-
+-- rows put among rows lie over the map as more rows do
 pub laid-put_rows : (m : Map) (rs rows : List Row) → laid (put_rows rs rows) m ≡ laid rs (laid rows m)
 laid-put_rows m [] rows = refl
 laid-put_rows m (r ∷ rs) rows =
-    sym (laid-put_row m (put_rows rs rows) r.key r.value) ∙ ap (λ z. insert z r.key r.value) (laid-put_rows m rs rows)
+    sym (laid_put m (put_rows rs rows) r.key r.value) ∙ ap (λ z. insert z r.key r.value) (laid-put_rows m rs rows)
 
 -- what a table has at a key
 pub get-map_of : (rows : List Row) (k : ℕ) → get (map_of rows) k ≡ get_row rows k

@@ -10,7 +10,8 @@ use Rattle.zy_isa.specs.Rows.{put_row}
 use Rattle.zy_isa.specs.declared.row.Row.{Row}
 use Rattle.zy_table.specs.Rows.{put_rows}
 use Rattle.zy_audit.specs.Lone.{Lone, map_of, on_map, writes, inserts}
-use Rattle.zy_audit.proofs.LaidRows.{laid-put_row, laid-put_rows}
+use Rattle.zy_table.proofs.LoneRuns.{laid_put}
+use Rattle.zy_audit.proofs.LaidRows.{laid-put_rows}
 
 near : (k : ℕ) → k < 2 ^ 16 → nat_lt 65535 k ≡ false
 near k h = le-ltb 65535 k (omega arith)
@@ -41,13 +42,13 @@ alone-over m program n (suc more) e =
 pub written-there : {E : Type 0} (r : Result (Unit {0}) E) (m : Map) (q k v : ℕ) (x y : Lone) (there : Option ℕ) → q ≡ k → k < 2 ^ 16 → x.over ≡ false → there ≡ get (laid x.rows m) q → is_some there ≡ true
     → OnOk r (y ≡ record x { pc = x.pc + 1; rows = put_row q v x.rows }) → OnOk r (on_map m y ≡ writes m k v (on_map m x))
 written-there (Ok u) m q k v x y there same h on e is put =
-    rw (writes-there m k v (on_map m x) h (ap (λ n. is_some (get (laid x.rows m) n)) (sym same) ∙ ap is_some (sym e) ∙ is), put, on, same, laid-put_row m x.rows k v) refl
+    rw (writes-there m k v (on_map m x) h (ap (λ n. is_some (get (laid x.rows m) n)) (sym same) ∙ ap is_some (sym e) ∙ is), put, on, same, laid_put m x.rows k v) refl
 written-there (Err e0) m q k v x y there same h on e is put = tt
 
 pub inserted-new : {E : Type 0} (r : Result (Unit {0}) E) (m : Map) (q k v : ℕ) (x y : Lone) (there : Option ℕ) → q ≡ k → k < 2 ^ 16 → x.over ≡ false → there ≡ get (laid x.rows m) q → is_some there ≡ false
     → OnOk r (y ≡ record x { pc = x.pc + 1; rows = put_row q v x.rows }) → OnOk r (on_map m y ≡ inserts m k v (on_map m x))
 inserted-new (Ok u) m q k v x y there same h on e is put =
-    rw (inserts-new m k v (on_map m x) h (ap (λ n. is_some (get (laid x.rows m) n)) (sym same) ∙ ap is_some (sym e) ∙ is), put, on, same, laid-put_row m x.rows k v) refl
+    rw (inserts-new m k v (on_map m x) h (ap (λ n. is_some (get (laid x.rows m) n)) (sym same) ∙ ap is_some (sym e) ∙ is), put, on, same, laid_put m x.rows k v) refl
 inserted-new (Err e0) m q k v x y there same h on e is put = tt
 
 -- the run of a program, with what it wrote laid over the table

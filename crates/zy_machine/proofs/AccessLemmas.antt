@@ -1,5 +1,5 @@
 -- What the accessors read.
-use Rattle.std.proofs.Common.{◌≡◌, ◌∙◌, ℕ, suc, zero, ◌+◌, ◌<◌, ◌≤◌, List, [], ◌∷◌, ◌++◌, refl, sym, ap, arith, Some, None, Option, is_some, length, take, get_or, subst}
+use Rattle.std.proofs.Common.{◌≡◌, ◌∙◌, ℕ, suc, zero, ◌+◌, ◌<◌, List, [], ◌∷◌, ◌++◌, refl, sym, ap, arith, Some, None, Option, is_some, length, take, get_or, subst}
 use Rattle.std.specs.Borrow.{Bor}
 use Rattle.std.specs.Option.{option_copied, option_or}
 use Rattle.std.specs.FinMap.{get}
@@ -18,6 +18,7 @@ use Rattle.std.proofs.lemmas.List.Folds.{find-append}
 use Rattle.zy_isa.specs.declared.row.Row.{Row}
 use Rattle.zy_isa.specs.Rows.{Rising, get_row, put_row}
 use Rattle.zy_page.specs.Leaf.{Leaf}
+use Rattle.zy_page.proofs.Found.{key_from}
 use Rattle.zy_table.specs.Pages.{owns, rows_of, page_in}
 
 -- a page at A, or else at B, or else on its way to A, or else on its way to B
@@ -42,20 +43,15 @@ pub value-reached : (sc : Scenario) (cs : List Choice) (s : State) (k : ℕ) →
 value-reached sc cs s k tested e = subst ValuesAtPages (sym e) (values_at_pages sc tested cs) k
 
 -- rows that rise: a row is not among those before it, and put there it comes last
-key_above : (low i : ℕ) (d : Row) (rows : List Row) → Rising low rows → i < length rows → low ≤ (get_or rows i d).key
-key_above low i d [] r h = absurd (omega arith)
-key_above low zero d (x ∷ rows) r h = r.0
-key_above low (suc i) d (x ∷ rows) r h = let rest = key_above (x.key + 1) i d rows r.1 (omega arith) in let here = r.0 in omega arith
-
 pub absent_before : (low i : ℕ) (d : Row) (rows : List Row) → Rising low rows → i < length rows → get_row (take i rows) (get_or rows i d).key ≡ None
 absent_before low i d [] r h = absurd (omega arith)
 absent_before low zero d (x ∷ rows) r h = refl
 absent_before low (suc i) d (x ∷ rows) r h =
-    rw (ne_eqb x.key (get_or rows i d).key (λ e. let lt = key_above (x.key + 1) i d rows r.1 (omega arith) in absurd (omega arith))) (absent_before (x.key + 1) i d rows r.1 (omega arith))
+    rw (ne_eqb x.key (get_or rows i d).key (λ e. let lt = key_from (x.key + 1) i d rows r.1 (omega arith) in absurd (omega arith))) (absent_before (x.key + 1) i d rows r.1 (omega arith))
 
 pub put_last : (low i : ℕ) (d : Row) (rows : List Row) → Rising low rows → i < length rows → put_row (get_or rows i d).key (get_or rows i d).value (take i rows) ≡ take (suc i) rows
 put_last low i d [] r h = absurd (omega arith)
 put_last low zero d (x ∷ rows) r h = refl
 put_last low (suc i) d (x ∷ rows) r h =
-    let lt = key_above (x.key + 1) i d rows r.1 (omega arith) in
+    let lt = key_from (x.key + 1) i d rows r.1 (omega arith) in
     rw (ne_eqb (get_or rows i d).key x.key (λ e. absurd (omega arith)), le-ltb (get_or rows i d).key x.key (omega arith)) (ap (λ l. x ∷ l) (put_last (x.key + 1) i d rows r.1 (omega arith)))

@@ -1,6 +1,6 @@
 -- Which line an instruction leads to.
-use Rattle.std.proofs.Common.{◌≡◌, ◌∙◌, ℕ, ◌+◌, ◌<◌, ◌%◌, ◌^◌, List, refl, sym, ap, arith, true, false, Some, length, zero, suc, [], ◌∷◌, get_or}
-use Rattle.std.specs.Prelude.{◌==◌, slice_get, unwrap_or}
+use Rattle.std.proofs.Common.{◌≡◌, ℕ, ◌+◌, ◌%◌, ◌^◌, refl, true, false, Some}
+use Rattle.std.specs.Prelude.{◌==◌, slice_get}
 use Rattle.zy_isa.specs.declared.node.Node.{Node}
 use Rattle.zy_isa.specs.declared.node.Node.TheVariants.{A, B}
 use Rattle.zy_isa.specs.declared.instr.Reg.{Reg}
@@ -60,13 +60,3 @@ pub run-instr : (sc : Scenario) (n : Node) (t : ℕ) (f : View) (x : Txn) (i : I
     → run_row sc n t f ≡ instr_row sc t (Some i) (txn_at f t).regs f
 unfolding run_row
 run-instr sc n t f x i e h g w p = rw (← e, h, g, w, p) refl
-
--- what stands at an index that was read
-pub got : {X : Type 0} (xs : List X) (i : ℕ) (x : X) → i < length xs → x ≡ get_or xs i x → slice_get xs i ≡ Some x
-got [] i x lt e = absurd (omega arith)
-got (y ∷ ys) zero x lt e = ap Some (sym e)
-got (y ∷ ys) (suc i) x lt e = got ys i x (omega arith) e
-
--- the program that stands at an index that was read
-pub program-read : (sc : Scenario) (i t : ℕ) (p : List Instr) → i ≡ t → t < length sc.programs → p ≡ get_or sc.programs i p → program_of sc t ≡ p
-program-read sc i t p e lt h = ap (λ o. unwrap_or o []) (got sc.programs t p lt (h ∙ ap (λ j. get_or sc.programs j p) e))

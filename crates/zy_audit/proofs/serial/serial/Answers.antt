@@ -3,7 +3,8 @@ use Rattle.std.specs.FinMap.{empty}
 use Rattle.zy_table.specs.declared.entry.CommitRec.{CommitRec}
 use Rattle.zy_audit.specs.Lone.{map_of}
 use Rattle.zy_audit.proofs.LaidRows.{laid-put_rows}
-use Rattle.zy_audit.proofs.Commits.{program-read, serial-more}
+use Rattle.zy_table.proofs.Programs.{program-read}
+use Rattle.zy_audit.proofs.Commits.{serial-more}
 use Rattle.zy_audit.proofs.serial.serial.Goals as goal
 
 pub loop-commit-init : goal.loop-commit-init

@@ -1,6 +1,6 @@
 use Rattle.std.proofs.Common.{◌<◌, List, length, subst}
 use Rattle.zy_isa.specs.declared.instr.Instr.{Instr}
-use Rattle.zy_machine.proofs.InstrLemmas.{program-read, got}
+use Rattle.zy_table.proofs.Programs.{program-read, got}
 use Rattle.zy_machine.proofs.run.next_instr.Goals as goal
 
 pub instr-requires : goal.instr-requires
