@@ -3,6 +3,7 @@ use Rattle.std.proofs.Common.{◌≡◌, ◌∙◌, ℕ, ◌<◌, List, false, r
 use Rattle.std.specs.Prelude.{slice_get}
 use Rattle.std.proofs.lemmas.Bool.{false≢true, false_from_ne_true, ltb-true}
 use Rattle.zy_isa.specs.declared.node.Node.{Node}
+use Rattle.zy_isa.specs.declared.node.Node.TheVariants.{A, B}
 use Rattle.zy_isa.specs.declared.choice.Choice.{Choice}
 use Rattle.zy_isa.specs.declared.choice.Choice.TheVariants.{Start, Begin, Kill, Run, Take, Finish, Push}
 use Rattle.zy_isa.specs.Choices.{names_below}
@@ -10,7 +11,7 @@ use Rattle.zy_isa.specs.Scenario.{Scenario, IsScenario}
 use Rattle.zy_wire.specs.Wireframe.{page_of}
 use Rattle.zy_machine.specs.declared.store.Store.{Store}
 use Rattle.zy_table.specs.State.{State, Txn, facing}
-use Rattle.zy_table.specs.Change.{txn_or}
+use Rattle.zy_table.specs.Change.{txn_at, txn_or}
 use Rattle.zy_table.specs.Client.{is_active}
 use Rattle.zy_table.specs.Pages.{owns, rows_of}
 use Rattle.zy_table.specs.Rows.{rows_on, rows_not_in}
@@ -19,9 +20,10 @@ use Rattle.zy_table.specs.Play.{play, opening}
 use Rattle.zy_table.specs.Counts.{Safe, Fits}
 use Rattle.zy_table.specs.Order.{InOrder}
 use Rattle.zy_modes.specs.Table.{may_split as splits_in}
-use Rattle.zy_machine.specs.Arrivals.{MayTake}
-use Rattle.zy_machine.specs.Stores.{shown, Countable, MaySplit, Rooms, IsPossible}
-use Rattle.zy_machine.proofs.StoreLemmas.{txn_at-facing}
+use Rattle.zy_moves.specs.Arrivals.{MayTake}
+use Rattle.zy_run.specs.Ready.{MaySplit}
+use Rattle.zy_txns.specs.Books.{Countable, txn_in}
+use Rattle.zy_machine.specs.Stores.{shown, Rooms, IsPossible}
 use Rattle.zy_machine.proofs.ArrivalLemmas.{may_take}
 use Rattle.zy_table.proofs.PageFinds.{absent_page}
 use Rattle.zy_table.proofs.OneOwner.{inv_from, play_inv}
@@ -37,8 +39,13 @@ use Rattle.zy_table.proofs.Reached.{kept_from, reached}
 use Rattle.zy_table.proofs.Roles.{fresh_number, normal_other}
 use Rattle.zy_table.proofs.Txns.{IsAt}
 
+txn_at-facing : (n : Node) (t : ℕ) (s : State) → txn_at (facing n s) t ≡ txn_or (slice_get s.txns t)
+unfolding txn_at
+txn_at-facing A t s = refl
+txn_at-facing B t s = refl
+
 -- what the laws say of a split by a transaction that runs
-may_split : (sc : Scenario) → IsScenario sc → (cs : List Choice) (n : Node) (t : ℕ) → let s = play sc (opening sc) cs in IsAt (facing n s) t n → MaySplit sc t (facing n s)
+may_split : (sc : Scenario) → IsScenario sc → (cs : List Choice) (n : Node) (t : ℕ) → let s = play sc (opening sc) cs in let v = facing n s in IsAt v t n → MaySplit sc v.me (txn_at v t)
 may_split sc ok cs n t at =
     let s = play sc (opening sc) cs in
     let v = facing n s in
@@ -61,8 +68,8 @@ pub record Known (sc : Scenario) (count : ℕ) (s : Store) : Type 0 where
   pub safe : Safe sc count (shown s)
   pub fits : Fits sc (shown s)
   pub order : InOrder (shown s)
-  pub splits : (n : Node) (t : ℕ) → IsAt (facing n (shown s)) t n → MaySplit sc t (facing n (shown s))
-  pub takes : (n : Node) → MayTake (facing n (shown s))
+  pub splits : (n : Node) (t : ℕ) → let v = facing n (shown s) in IsAt v t n → MaySplit sc v.me (txn_at v t)
+  pub takes : (n : Node) → let v = facing n (shown s) in MayTake v.inbox v.me
 
 pub known : (sc : Scenario) (cs : List Choice) (s : Store) → IsScenario sc → length cs < 4096 → shown s ≡ play sc (opening sc) cs → Known sc (length cs) s
 known sc cs s tested few e =
@@ -72,22 +79,22 @@ known sc cs s tested few e =
       safe = subst (Safe sc (length cs)) (sym e) (safe sc tested cs);
       fits = subst (Fits sc) (sym e) (fits sc tested cs);
       order = subst InOrder (sym e) (in_order sc tested cs);
-      splits = subst (λ (z : State). (n : Node) (t : ℕ) → IsAt (facing n z) t n → MaySplit sc t (facing n z)) (sym e) (λ n t at. may_split sc tested cs n t at);
-      takes = subst (λ (z : State). (n : Node) → MayTake (facing n z)) (sym e) (λ n. may_take (facing n (play sc (opening sc) cs)) (inv_from n (play sc (opening sc) cs) (play_inv sc cs)));
+      splits = subst (λ (z : State). (n : Node) (t : ℕ) → let v = facing n z in IsAt v t n → MaySplit sc v.me (txn_at v t)) (sym e) (λ n t at. may_split sc tested cs n t at);
+      takes = subst (λ (z : State). (n : Node) → let v = facing n z in MayTake v.inbox v.me) (sym e) (λ n. may_take (facing n (play sc (opening sc) cs)) (inv_from n (play sc (opening sc) cs) (play_inv sc cs)));
     }
 
-countable : (sc : Scenario) (count t : ℕ) (s : Store) → Known sc count s → t < length sc.programs → Countable t s
+countable : (sc : Scenario) (count t : ℕ) (s : Store) → Known sc count s → t < length sc.programs → Countable t s.book
 countable sc count t s k below =
     let c = k.safe.each t below in
     let short = program_is sc.programs t k.tested.programs below in
     record { there = omega (arith, k.safe.txns); place = omega (arith, c.place, short.few); done = omega (arith, c.done, k.few) }
 
-rooms : (sc : Scenario) (count t : ℕ) (n : Node) (s : Store) → Known sc count s → is_active (txn_or (slice_get s.txns.items t)).status ≡ true → (txn_or (slice_get s.txns.items t)).node ≡ n → Rooms n t s
+rooms : (sc : Scenario) (count t : ℕ) (n : Node) (s : Store) → Known sc count s → is_active (txn_in t s.book).status ≡ true → (txn_in t s.book).node ≡ n → Rooms n t s
 rooms sc count t n s k active here =
     let f = facing n (shown s) in
     let same = txn_at-facing n t (shown s) in
-    let rows = (txn_or (slice_get s.txns.items t)).rows in
-    let own : (p : ℕ) → length (own_inserts t p f) ≡ need f.me.lows p (rows_of f.me.pages p) rows =
+    let rows = (txn_in t s.book).rows in
+    let own : (p : ℕ) → length (own_inserts p f.me (txn_at f t)) ≡ need f.me.lows p (rows_of f.me.pages p) rows =
     λ p. ap (λ (x : Txn). length (rows_not_in (rows_on f.me.lows p x.rows) (rows_of f.me.pages p))) same ∙ need_is f.me.lows p (rows_of f.me.pages p) rows in
     record {
       commits = omega (arith, k.safe.commits, k.tested.few_programs);
@@ -95,10 +102,10 @@ rooms sc count t n s k active here =
           (λ p owned. let h = k.fits n t p (ap (λ (x : Txn). is_active x.status) same ∙ active, ap (λ (x : Txn). x.node) same ∙ here) owned in omega (arith, h, own p));
     }
 
-splits : (sc : Scenario) (count t : ℕ) (n : Node) (s : Store) → Known sc count s → is_active (txn_or (slice_get s.txns.items t)).status ≡ true → (txn_or (slice_get s.txns.items t)).node ≡ n → MaySplit sc t (facing n (shown s))
+splits : (sc : Scenario) (count t : ℕ) (n : Node) (s : Store) → Known sc count s → is_active (txn_in t s.book).status ≡ true → (txn_in t s.book).node ≡ n → MaySplit sc (facing n (shown s)).me (txn_in t s.book)
 splits sc count t n s k active here =
     let same = txn_at-facing n t (shown s) in
-    k.splits n t (ap (λ (x : Txn). is_active x.status) same ∙ active, ap (λ (x : Txn). x.node) same ∙ here)
+    subst (MaySplit sc (facing n (shown s)).me) same (k.splits n t (ap (λ (x : Txn). is_active x.status) same ∙ active, ap (λ (x : Txn). x.node) same ∙ here))
 
 pub possible : (sc : Scenario) (count : ℕ) (c : Choice) (s : Store) → Known sc count s → names_below (length sc.programs) c ≡ true → IsPossible sc c s
 possible sc count Start s k named = tt

@@ -6,7 +6,7 @@ use Rattle.zy_isa.specs.declared.node.Node.TheVariants.{A}
 use Rattle.zy_isa.specs.declared.choice.Choice.TheVariants.{Start, Begin, Kill, Run, Take, Finish, Push}
 use Rattle.zy_isa.specs.Scenario.{Scenario}
 use Rattle.zy_machine.specs.declared.store.Store.{Store}
-use Rattle.zy_machine.specs.declared.answer.Answer.{Answer}
+use Rattle.zy_table.specs.declared.answer.Answer.{Answer}
 use Rattle.zy_table.specs.State.{facing}
 use Rattle.zy_table.specs.Change.{txn_or}
 use Rattle.zy_table.specs.Client.{start_row, begin_row, kill_row}
@@ -25,7 +25,7 @@ pub begin-steps : (sc : Scenario) (t : ℕ) (old new : Store) (x : Answer) → I
 unfolding step move
 begin-steps sc t old new x h = h
 
-pub kill-steps : (sc : Scenario) (t : ℕ) (old new : Store) (x : Answer) → (let n = (txn_or (slice_get old.txns.items t)).node in IsMade n new x (kill_row t (facing n (shown old)))) → Steps {E = Unit {0}} old new (Ok x) (step sc (Kill t) (shown old))
+pub kill-steps : (sc : Scenario) (t : ℕ) (old new : Store) (x : Answer) → (let n = (txn_or (slice_get old.book.txns t)).node in IsMade n new x (kill_row t (facing n (shown old)))) → Steps {E = Unit {0}} old new (Ok x) (step sc (Kill t) (shown old))
 unfolding step move
 kill-steps sc t old new x h = h
 

@@ -12,7 +12,7 @@ use zy_isa::section::{Lines, Section, write_lines};
 use zy_isa::stream::Sink;
 use zy_isa::writing::TextFault;
 use zy_machine::machine::Machine;
-use zy_machine::txn::Txn;
+use zy_txns::txn::Txn;
 use zy_table::entry::CommitRec;
 use zy_table::outcome::Why;
 use zy_table::status::Status;

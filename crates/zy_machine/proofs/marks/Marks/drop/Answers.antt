@@ -1,6 +1,0 @@
-use Rattle.std.proofs.Common.{arith, refl}
-use Rattle.zy_machine.proofs.MarkLemmas.{drop_at}
-use Rattle.zy_machine.proofs.marks.Marks.drop.Goals as goal
-
-pub returns : goal.returns
-returns c = rw (← c.self.view_is, drop_at 0 c.args.p c.from.result c.self.inside.marks.items (omega arith)) refl

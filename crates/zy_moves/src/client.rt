@@ -1,0 +1,68 @@
+//! The client's lines: each function is the line of its name.
+ghost use Rattle.std.specs.Prelude.{◌≡◌, ◌<◌, length};
+ghost use Rattle.zy_table.specs.State.{View};
+ghost use Rattle.zy_table.specs.Client.{start_row as start_row_lem, begin_row as begin_row_lem, kill_row as kill_row_lem};
+ghost use Rattle.zy_txns.specs.Books.{noted};
+ghost use Rattle.zy_run.specs.Parts.{here};
+ghost use Rattle.zy_table.specs.Answers.{made, Makes};
+ghost use Rattle.zy_moves.specs.Sides.{beside};
+
+use std::alloc::{AllocError, Global};
+use zy_links::message::Message;
+use zy_modes::kind::Kind;
+use zy_modes::mode::NodeMode;
+use zy_modes::table::{home_of, on_start};
+use zy_node::node_store::NodeStore;
+use zy_table::answer::Answer;
+use zy_run::run::abort_row;
+use zy_table::outcome::{Outcome, Why};
+use zy_txns::book::Book;
+
+/// `C start`, at A beside B.
+#[tactic(auto, unfolding(zy_table::specs::Client::start_row))]
+pub fn start_row(
+    alloc: Global,
+    me: &mut NodeStore,
+    them: &NodeStore,
+) -> Result<Answer, AllocError>
+    ensures { (v : View) → Makes (beside me.old them.now v) (beside me.new them.now v) result (start_row_lem (beside me.old them.now v)) }
+{
+    if on_start(me.mode, them.mode).is_none() {
+        return Ok(Answer::quiet(Outcome::BadMode));
+    }
+    me.reserve_post()?;
+    let wire = me.wire.copy_wire(alloc)?;
+    me.mode = NodeMode::SInit;
+    me.outbox.send(Message::Wire(wire));
+    Ok(Answer::sends(Outcome::Started, Kind::Wire))
+}
+
+/// `C begin t`, at A beside B.
+#[tactic(auto, unfolding(zy_table::specs::Client::begin_row, zy_table::specs::Client::begin_at, zy_table::specs::Change::begun, zy_table::specs::Change::txn_at))]
+pub fn begin_row(me: &NodeStore, them: &NodeStore, book: &mut Book, t: u8) -> Answer
+    requires { t < length book.old.txns }
+    ensures { (v : View) → made result (beside me.now them.now (noted book.new v)) ≡ begin_row_lem t (beside me.now them.now (noted book.old v)) }
+{
+    if !book.txn(t).is_new() {
+        return Answer::quiet(Outcome::Idle);
+    }
+    match home_of(me.mode, them.mode) {
+        Some(n) => {
+            book.begin(t, n);
+            Answer::quiet(Outcome::Began(n))
+        }
+        None => Answer::quiet(Outcome::Idle),
+    }
+}
+
+/// `C kill t`, at its node.
+#[tactic(auto, unfolding(zy_table::specs::Client::kill_row, zy_table::specs::Run::abort_row, zy_table::specs::Change::txn_at))]
+pub fn kill_row(me: &mut NodeStore, book: &mut Book, t: u8) -> Answer
+    requires { t < length book.old.txns }
+    ensures { (v : View) → made result (here me.new book.new v) ≡ kill_row_lem t (here me.old book.old v) }
+{
+    if !book.txn(t).is_active() {
+        return Answer::quiet(Outcome::Idle);
+    }
+    abort_row(me, book, t, Why::Killed)
+}

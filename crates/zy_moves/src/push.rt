@@ -1,0 +1,65 @@
+//! `n push` and `n finish`.
+ghost use Rattle.std.specs.Prelude.{◌≡◌, ◌≤◌, ◌++◌, ◌∷◌, [], length};
+ghost use Rattle.zy_links.specs.Messages.{Finish};
+ghost use Rattle.zy_modes.specs.declared.mode.NodeMode.TheVariants.{SFinish};
+ghost use Rattle.zy_table.specs.State.{View};
+ghost use Rattle.zy_table.specs.Push.{finish_row as finish_row_lem, push_row as push_row_lem};
+ghost use Rattle.zy_node.specs.Nodes.{node_shown, seen};
+ghost use Rattle.zy_run.specs.Parts.{here};
+ghost use Rattle.zy_table.specs.Answers.{Makes};
+
+use crate::take::leave;
+use std::alloc::AllocError;
+use zy_isa::node::Node;
+use zy_links::message::Message;
+use zy_modes::kind::Kind;
+use zy_modes::mode::NodeMode;
+use zy_modes::table::{FinRow, on_finish};
+use zy_node::node_store::NodeStore;
+use zy_table::answer::Answer;
+use zy_table::outcome::Outcome;
+use zy_txns::book::Book;
+
+/// `n push`.
+#[tactic(auto, unfolding(zy_table::specs::Push::push_row, zy_table::specs::Push::push_if, zy_table::specs::Change::leaves))]
+pub fn push_row(me: &mut NodeStore) -> Result<Answer, AllocError>
+    ensures { (v : View) → Makes (seen me.old v) (seen me.new v) result (push_row_lem (seen me.old v)) }
+{
+    if !me.mode.may_push() {
+        return Ok(Answer::quiet(Outcome::BadMode));
+    }
+    let Some(p) = me.pages.lowest() else {
+        return Ok(Answer::quiet(Outcome::NoPush));
+    };
+    me.reserve_post()?;
+    leave(me, p);
+    Ok(Answer::sends(Outcome::Pushed(p), Kind::Page))
+}
+
+/// Says that the node has finished.
+fn finish(me: &mut NodeStore)
+    requires { 1 ≤ me.old.outbox.spare }
+    ensures node { let x = node_shown me.old in node_shown me.new ≡ record x { mode = SFinish } }
+    ensures outbox { me.new.outbox.messages ≡ me.old.outbox.messages ++ Finish ∷ [] }
+{
+    me.mode = NodeMode::SFinish;
+    me.outbox.send(Message::Finish);
+}
+
+/// `n finish`.
+#[tactic(auto, unfolding(zy_table::specs::Push::finish_row, zy_table::specs::Push::finish_if))]
+pub fn finish_row(n: Node, me: &mut NodeStore, book: &Book) -> Result<Answer, AllocError>
+    requires { length book.now.txns ≤ 64 }
+    ensures { (v : View) → Makes (here me.old book.now v) (here me.new book.now v) result (finish_row_lem n (here me.old book.now v)) }
+{
+    let lowest = book.lowest_active(n);
+    match on_finish(me.mode, lowest.is_some()) {
+        FinRow::BadMode => Ok(Answer::quiet(Outcome::BadMode)),
+        FinRow::Active => Ok(Answer::quiet(Outcome::Active(lowest.unwrap_or(0)))),
+        FinRow::Finishing => {
+            me.reserve_post()?;
+            finish(me);
+            Ok(Answer::sends(Outcome::Finishing, Kind::Finish))
+        }
+    }
+}

@@ -1,0 +1,18 @@
+use Rattle.std.proofs.Common.{◌∙◌, refl, sym}
+use Rattle.zy_locks.specs.declared.lock.LockKind.TheVariants.{Exclusive}
+use Rattle.zy_table.specs.Change.{cut, locked, txn_at}
+use Rattle.zy_table.specs.Run.{split_row}
+use Rattle.zy_run.proofs.SplitRows.{cuttable}
+use Rattle.zy_run.proofs.run.split_row.Goals as goal
+
+pub boundary-requires : goal.boundary-requires
+boundary-requires c = rw c.txn.ensures c.requires.full.full
+
+pub cut-requires : goal.cut-requires
+cut-requires c =
+    cuttable c.args.scenario.now c.args.t c.args.key c.args.p c.in_ok-boundary.boundary c.args.me.now c.args.book.now c.requires.full c.requires.normal c.requires.more
+    (rw c.txn.ensures at c.in_ok-boundary.ensures)
+
+pub returns : goal.returns
+unfolding split_row cut locked txn_at
+returns c v = rw (c.quiet.ensures, c.in_ok-cut.ensures.ok, c.in_ok-cut.ensures.outbox, c.in_ok-boundary.ensures, c.txn.ensures, c.len-new_page.ensures.value) refl

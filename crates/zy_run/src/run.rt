@@ -1,0 +1,404 @@
+//! `n run t`, line by line: each function is the line of its name, on the node and the book, whatever the rest of the state.
+ghost use Rattle.std.specs.Prelude.{◌≡◌, ◌<◌, ◌≤◌, Ok, Some, IfOk, length, slice_get, unwrap_or, if◌then◌else◌, true, false};
+ghost use Rattle.zy_isa.specs.Rows.{get_row};
+ghost use Rattle.zy_locks.specs.declared.lock.LockKind.TheVariants.{Shared, Exclusive};
+ghost use Rattle.zy_modes.specs.Table.{may_split};
+ghost use Rattle.zy_wire.specs.Wireframe.{page_of as page_of_lem};
+ghost use Rattle.zy_table.specs.State.{View};
+ghost use Rattle.zy_table.specs.Pages.{owns, rows_of};
+ghost use Rattle.zy_table.specs.Change.{txn_at, locked};
+ghost use Rattle.zy_table.specs.Run.{abort_row as abort_row_lem, set_row as set_row_lem, jump_row as jump_row_lem, commit_row as commit_row_lem, absent_row as absent_row_lem, read_row as read_row_lem, write_row as write_row_lem, insert_row as insert_row_lem, full_row as full_row_lem, split_row as split_row_lem, page_row as page_row_lem, key_row as key_row_lem, instr_row as instr_row_lem, run_row as run_row_lem, is_there as is_there_lem, has_room as has_room_lem, boundary as boundary_lem, program_of};
+ghost use Rattle.zy_node.specs.Nodes.{node_shown, IsFree};
+ghost use Rattle.zy_txns.specs.Books.{txn_in, noted, Countable};
+ghost use Rattle.zy_run.specs.Parts.{here, Runs};
+ghost use Rattle.zy_table.specs.Answers.{made};
+ghost use Rattle.zy_run.specs.Ready.{IsFull, IsReady, MaySplit, Rooms};
+
+use std::alloc::{AllocError, Global};
+use zy_isa::instr::{Instr, Reg};
+use zy_isa::node::Node;
+use zy_isa::scenario::Scenario;
+use zy_locks::lock::LockKind;
+use zy_modes::kind::Kind;
+use zy_node::node_store::{NodeStore, gone_page, new_rows};
+use zy_table::access::Access;
+use zy_table::answer::Answer;
+use zy_table::outcome::{Outcome, Why};
+use zy_txns::book::Book;
+use zy_txns::txn::Txn;
+
+/// The lines of a node's run.
+#[tactic(auto, unfolding(zy_table::specs::Run::run_row, zy_table::specs::Change::txn_at))]
+pub fn run_row(
+    scenario: &Scenario,
+    alloc: Global,
+    n: Node,
+    me: &mut NodeStore,
+    book: &mut Book,
+    t: u8,
+) -> Result<Answer, AllocError>
+    requires { IsReady scenario.now n t me.old book.old }
+    ensures { Runs me.old book.old me.new book.new result (run_row_lem scenario.now n t) }
+{
+    let txn = book.txn(t);
+    if !txn.is_active() {
+        return Ok(Answer::quiet(Outcome::Idle));
+    }
+    if txn.node() != n {
+        return Ok(Answer::quiet(Outcome::Elsewhere));
+    }
+    if me.mode.is_waiting() {
+        return Ok(Answer::quiet(Outcome::NotYet));
+    }
+    let instr = next_instr(scenario, t, txn.place());
+    instr_row(scenario, alloc, me, book, t, instr)
+}
+
+/// The lines of one instruction.
+#[tactic(auto, unfolding(zy_table::specs::Run::instr_row, zy_table::specs::Change::txn_at))]
+fn instr_row(
+    scenario: &Scenario,
+    alloc: Global,
+    me: &mut NodeStore,
+    book: &mut Book,
+    t: u8,
+    instr: Instr,
+) -> Result<Answer, AllocError>
+    requires counts { Countable t book.old }
+    requires room { Rooms t me.old book.old }
+    requires splits { MaySplit scenario.now (node_shown me.old) (txn_in t book.old) }
+    ensures { Runs me.old book.old me.new book.new result (λ v. instr_row_lem scenario.now t (Some instr) (txn_at v t).regs v) }
+{
+    let txn = book.txn(t);
+    match instr {
+        Instr::Set(r, value) => Ok(set_row(book, t, r, value)),
+        Instr::Add(r, q) => {
+            let sum = txn.reg(r).wrapping_add(txn.reg(q));
+            Ok(set_row(book, t, r, sum))
+        }
+        Instr::Beq(r, q, target) => {
+            let taken = txn.reg(r) == txn.reg(q);
+            Ok(jump_row(book, t, taken, target))
+        }
+        Instr::Abort => Ok(abort_row(me, book, t, Why::Own)),
+        Instr::Commit => commit_row(me, book, t),
+        Instr::Read(r, q) => {
+            let key = txn.reg(q);
+            key_row(scenario, alloc, me, book, t, Access::Reads(r), key)
+        }
+        Instr::Write(r, q) => {
+            let (key, value) = (txn.reg(r), txn.reg(q));
+            key_row(scenario, alloc, me, book, t, Access::Writes(value), key)
+        }
+        Instr::Insert(r, q) => {
+            let (key, value) = (txn.reg(r), txn.reg(q));
+            key_row(scenario, alloc, me, book, t, Access::Inserts(value), key)
+        }
+    }
+}
+
+/// An abort.
+#[tactic(auto, unfolding(zy_table::specs::Run::abort_row, zy_table::specs::Change::aborted, zy_table::specs::Change::txn_at))]
+pub fn abort_row(me: &mut NodeStore, book: &mut Book, t: u8, why: Why) -> Answer
+    requires { t < length book.old.txns }
+    ensures { (v : View) → made result (here me.new book.new v) ≡ abort_row_lem t why (here me.old book.old v) }
+{
+    me.release(t);
+    book.abort(t, why);
+    Answer::quiet(Outcome::Aborted(why))
+}
+
+/// `set` and `add`: a register gets a value.
+#[tactic(auto, unfolding(zy_table::specs::Run::set_row, zy_table::specs::Change::did, zy_table::specs::Change::txn_at))]
+fn set_row(book: &mut Book, t: u8, r: Reg, value: u32) -> Answer
+    requires { Countable t book.old }
+    ensures { (v : View) → made result (noted book.new v) ≡ set_row_lem t r value (noted book.old v) }
+{
+    book.set(t, r, value);
+    Answer::quiet(Outcome::Did)
+}
+
+/// `beq`.
+#[tactic(auto, unfolding(zy_table::specs::Run::jump_row, zy_table::specs::Change::did, zy_table::specs::Change::txn_at))]
+fn jump_row(book: &mut Book, t: u8, taken: bool, target: u32) -> Answer
+    requires { Countable t book.old }
+    ensures { (v : View) → made result (noted book.new v) ≡ jump_row_lem t taken target (noted book.old v) }
+{
+    let next = book.txn(t).place() + 1;
+    book.go_to(t, place_after(taken, target, next));
+    Answer::quiet(Outcome::Did)
+}
+
+/// `commit`.
+#[tactic(auto, unfolding(zy_table::specs::Run::commit_row, zy_table::specs::Run::commit_or_gone, zy_table::specs::Change::committed, zy_table::specs::Change::txn_at))]
+fn commit_row(me: &mut NodeStore, book: &mut Book, t: u8) -> Result<Answer, AllocError>
+    requires counts { Countable t book.old }
+    requires room { Rooms t me.old book.old }
+    ensures { Runs me.old book.old me.new book.new result (commit_row_lem t) }
+{
+    if let Some(p) = gone_page(me, book.txn(t).rows()) {
+        return Ok(abort_row(me, book, t, Why::Gone(p)));
+    }
+    let place = book.commit_count() as u8 + 1;
+    book.reserve_commit()?;
+    me.install(book.txn(t).rows());
+    me.release(t);
+    book.commit(t);
+    Ok(Answer::quiet(Outcome::Committed(place)))
+}
+
+/// A key and its page.
+#[tactic(auto, unfolding(zy_table::specs::Run::key_row))]
+fn key_row(
+    scenario: &Scenario,
+    alloc: Global,
+    me: &mut NodeStore,
+    book: &mut Book,
+    t: u8,
+    access: Access,
+    key: u32,
+) -> Result<Answer, AllocError>
+    requires counts { Countable t book.old }
+    requires splits { MaySplit scenario.now (node_shown me.old) (txn_in t book.old) }
+    ensures { Runs me.old book.old me.new book.new result (key_row_lem scenario.now t access key) }
+{
+    let Ok(key) = u16::try_from(key) else {
+        return Ok(abort_row(me, book, t, Why::BadKey));
+    };
+    let p = me.wire.page_of(key);
+    page_row(scenario, alloc, me, book, t, access, key, p)
+}
+
+/// A page that is not here: it is asked for, or the transaction has lost it.
+#[tactic(auto, unfolding(zy_table::specs::Run::absent_row, zy_table::specs::Change::asks))]
+fn absent_row(
+    me: &mut NodeStore,
+    book: &mut Book,
+    t: u8,
+    p: u16,
+) -> Result<Answer, AllocError>
+    requires there { t < length book.old.txns }
+    requires few { p < 512 }
+    ensures { Runs me.old book.old me.new book.new result (absent_row_lem t p) }
+{
+    if !me.mode.may_pull() {
+        return Ok(abort_row(me, book, t, Why::Gone(p)));
+    }
+    if me.asked.has(p) {
+        return Ok(Answer::quiet(Outcome::Awaits(p)));
+    }
+    me.reserve_post()?;
+    me.ask(p);
+    Ok(Answer::sends(Outcome::Pulls(p), Kind::Pull))
+}
+
+/// `read` on a page that is free for it.
+#[tactic(auto, unfolding(zy_table::specs::Run::read_row, zy_table::specs::Change::locked, zy_table::specs::Change::did, zy_table::specs::Change::txn_at))]
+fn read_row(
+    me: &mut NodeStore,
+    book: &mut Book,
+    t: u8,
+    r: Reg,
+    key: u16,
+    p: u16,
+) -> Answer
+    requires counts { Countable t book.old }
+    requires free { IsFree p t Shared me.old }
+    ensures { (v : View) → made result (here me.new book.new v) ≡ read_row_lem t r key p (locked t p Shared (here me.old book.old v)) }
+{
+    let value = value(me, book.txn(t), key, p);
+    me.lock(p, t, LockKind::Shared);
+    book.set(t, r, value);
+    Answer::quiet(Outcome::Did)
+}
+
+/// `write` on a page that is free for it.
+#[tactic(auto, unfolding(zy_table::specs::Run::write_row, zy_table::specs::Change::locked, zy_table::specs::Change::did, zy_table::specs::Change::txn_at))]
+fn write_row(
+    me: &mut NodeStore,
+    book: &mut Book,
+    t: u8,
+    key: u16,
+    value: u32,
+    p: u16,
+) -> Result<Answer, AllocError>
+    requires counts { Countable t book.old }
+    requires free { IsFree p t Exclusive me.old }
+    ensures { Runs me.old book.old me.new book.new result (λ v. write_row_lem t key value p (locked t p Exclusive v)) }
+{
+    if !is_there(me, book.txn(t), key, p) {
+        return Ok(abort_row(me, book, t, Why::Missing));
+    }
+    book.put(t, key, value)?;
+    me.lock(p, t, LockKind::Exclusive);
+    Ok(Answer::quiet(Outcome::Did))
+}
+
+/// `insert` on a page that is free for it.
+#[tactic(auto, unfolding(zy_table::specs::Run::insert_row, zy_table::specs::Change::locked, zy_table::specs::Change::did, zy_table::specs::Change::txn_at))]
+fn insert_row(
+    scenario: &Scenario,
+    alloc: Global,
+    me: &mut NodeStore,
+    book: &mut Book,
+    t: u8,
+    key: u16,
+    value: u32,
+    p: u16,
+) -> Result<Answer, AllocError>
+    requires counts { Countable t book.old }
+    requires splits { MaySplit scenario.now (node_shown me.old) (txn_in t book.old) }
+    requires on { p ≡ page_of_lem me.old.wire.lows key }
+    requires free { IsFree p t Exclusive me.old }
+    requires owned { owns me.old.pages p ≡ true }
+    ensures { Runs me.old book.old me.new book.new result (λ v. insert_row_lem scenario.now t key value p (locked t p Exclusive v)) }
+{
+    if is_there(me, book.txn(t), key, p) {
+        return Ok(abort_row(me, book, t, Why::Duplicate));
+    }
+    if !has_room(scenario, me, book.txn(t), p) {
+        return full_row(scenario, alloc, me, book, t, key, p);
+    }
+    book.put(t, key, value)?;
+    me.lock(p, t, LockKind::Exclusive);
+    Ok(Answer::quiet(Outcome::Did))
+}
+
+/// An insert on a full page that is free for it.
+#[tactic(auto, unfolding(zy_table::specs::Run::full_row, zy_table::specs::Change::locked))]
+fn full_row(
+    scenario: &Scenario,
+    alloc: Global,
+    me: &mut NodeStore,
+    book: &mut Book,
+    t: u8,
+    key: u16,
+    p: u16,
+) -> Result<Answer, AllocError>
+    requires { IsFull scenario.now t key p me.old book.old }
+    ensures { Runs me.old book.old me.new book.new result (λ v. full_row_lem scenario.now t key p (locked t p Exclusive v)) }
+{
+    if !me.mode.may_split() {
+        return Ok(abort_row(me, book, t, Why::Frozen(p)));
+    }
+    if me.wire.len() >= usize::from(scenario.pages()) {
+        return Ok(abort_row(me, book, t, Why::NoPage));
+    }
+    split_row(scenario, alloc, me, book, t, key, p)
+}
+
+/// A full page that is free for it is cut.
+fn split_row(
+    scenario: &Scenario,
+    alloc: Global,
+    me: &mut NodeStore,
+    book: &Book,
+    t: u8,
+    key: u16,
+    p: u16,
+) -> Result<Answer, AllocError>
+    requires full { IsFull scenario.now t key p me.old book.now }
+    requires normal { may_split me.old.mode ≡ true }
+    requires more { length me.old.wire.lows < scenario.now.pages }
+    ensures { Runs me.old book.now me.new book.now result (λ v. split_row_lem scenario.now t key p (locked t p Exclusive v)) }
+{
+    let new_page = me.wire.len() as u16;
+    let boundary = boundary(scenario, alloc, me, book.txn(t), p, key)?;
+    me.cut(alloc, t, p, boundary)?;
+    Ok(Answer::quiet(Outcome::Split {
+        page: p,
+        new_page,
+        boundary,
+    }))
+}
+
+/// The page: not here, or another's lock is in the way, or the lock is to be taken.
+#[tactic(auto, unfolding(zy_table::specs::Run::page_row, zy_table::specs::Run::access_row))]
+fn page_row(
+    scenario: &Scenario,
+    alloc: Global,
+    me: &mut NodeStore,
+    book: &mut Book,
+    t: u8,
+    access: Access,
+    key: u16,
+    p: u16,
+) -> Result<Answer, AllocError>
+    requires counts { Countable t book.old }
+    requires splits { MaySplit scenario.now (node_shown me.old) (txn_in t book.old) }
+    requires on { p ≡ page_of_lem me.old.wire.lows key }
+    requires few { p < 512 }
+    ensures { Runs me.old book.old me.new book.new result (page_row_lem scenario.now t access key p) }
+{
+    if !me.pages.owns(p) {
+        return absent_row(me, book, t, p);
+    }
+    if me.locks.conflicts(p, t, access.lock()) {
+        return Ok(Answer::quiet(Outcome::Waits(p)));
+    }
+    me.reserve_lock()?;
+    match access {
+        Access::Reads(r) => Ok(read_row(me, book, t, r, key, p)),
+        Access::Writes(value) => write_row(me, book, t, key, value, p),
+        Access::Inserts(value) => insert_row(scenario, alloc, me, book, t, key, value, p),
+    }
+}
+
+/// Whether a key is private to a transaction or committed on a page.
+fn is_there(me: &NodeStore, txn: &Txn, key: u16, p: u16) -> bool
+    ensures { result ≡ is_there_lem key p (node_shown me.now) txn.now }
+{
+    txn.get(key).is_some() || me.value(p, key).is_some()
+}
+
+/// What a transaction reads at a key: the private row, else the committed row, else 0.
+fn value(me: &NodeStore, txn: &Txn, key: u16, p: u16) -> u32
+    ensures { result ≡ unwrap_or (get_row txn.now.rows key) (unwrap_or (get_row (rows_of me.now.pages p) key) 0) }
+{
+    match txn.get(key) {
+        Some(value) => value,
+        None => me.value(p, key).unwrap_or(0),
+    }
+}
+
+/// Whether a page has room for a row more, beside the transaction's own new rows.
+fn has_room(scenario: &Scenario, me: &NodeStore, txn: &Txn, p: u16) -> bool
+    ensures { result ≡ has_room_lem scenario.now p (node_shown me.now) txn.now }
+{
+    let cap = usize::from(scenario.cap());
+    new_rows(me, p, txn.rows()) < cap.saturating_sub(me.page_len(p))
+}
+
+/// The key at which a full page is split for an insert: that at index `(cap + 1) / 2` among the keys of the page,
+/// of the transaction's new rows there, and this one.
+fn boundary(
+    scenario: &Scenario,
+    alloc: Global,
+    me: &NodeStore,
+    txn: &Txn,
+    p: u16,
+    key: u16,
+) -> Result<u16, AllocError>
+    requires { has_room_lem scenario.now p (node_shown me.now) txn.now ≡ false }
+    ensures { IfOk result (λ b. b ≡ boundary_lem scenario.now key p (node_shown me.now) txn.now) }
+{
+    let cap = usize::from(scenario.cap());
+    let keys = me.keys_with(alloc, p, txn.rows(), key)?;
+    Ok(keys[(cap + 1) / 2])
+}
+
+/// Where a jump goes: to its target where it is taken, else to the next instruction.
+fn place_after(taken: bool, target: u32, next: u32) -> u32
+    ensures { result ≡ (if taken then target else next) }
+{
+    if taken { target } else { next }
+}
+
+/// The instruction at a place in the program of a transaction.
+fn next_instr(scenario: &Scenario, t: u8, place: u32) -> Instr
+    requires program { t < length scenario.now.programs }
+    requires place { place < length (program_of scenario.now t) }
+    ensures { slice_get (program_of scenario.now t) place ≡ Some result }
+{
+    scenario.programs()[usize::from(t)].instr(place as usize)
+}
