@@ -11,8 +11,8 @@ use Rattle.zy_table.specs.Run.{program_of}
 use Rattle.zy_table.specs.Serial.{Registers, alone, is_committed, serial}
 use Rattle.zy_table.specs.declared.entry.CommitRec.{CommitRec}
 use Rattle.zy_table.specs.State.{State, Txn}
-use Rattle.zy_table.proofs.SafeCounts.{safe}
-use Rattle.zy_table.proofs.Serializable.{serializable}
+use Rattle.zy_laws.proofs.SafeCounts.{safe}
+use Rattle.zy_laws.proofs.Serializable.{serializable}
 
 -- the run of one commit leads to those behind it
 pub serial-more : (sc : Scenario) (m n : Map) (cs : List CommitRec) (i : ℕ) (d : CommitRec) → i < length cs

@@ -7,8 +7,8 @@ use Rattle.zy_isa.specs.Rows.{get_row}
 use Rattle.zy_isa.specs.declared.row.Row.{Row}
 use Rattle.zy_table.specs.Database.{Map, laid}
 use Rattle.zy_table.specs.Rows.{put_rows}
-use Rattle.zy_table.proofs.Installing.{or_else_none}
-use Rattle.zy_table.proofs.LoneRuns.{get-laid, laid_put, or_else}
+use Rattle.zy_laws.proofs.Installing.{or_else_none}
+use Rattle.zy_laws.proofs.LoneRuns.{get-laid, laid_put, or_else}
 use Rattle.zy_audit.specs.Lone.{map_of}
 
 -- rows put among rows lie over the map as more rows do

@@ -10,7 +10,7 @@ use Rattle.zy_isa.specs.Rows.{put_row}
 use Rattle.zy_isa.specs.declared.row.Row.{Row}
 use Rattle.zy_table.specs.Rows.{put_rows}
 use Rattle.zy_audit.specs.Lone.{Lone, map_of, on_map, writes, inserts}
-use Rattle.zy_table.proofs.LoneRuns.{laid_put}
+use Rattle.zy_laws.proofs.LoneRuns.{laid_put}
 use Rattle.zy_audit.proofs.LaidRows.{laid-put_rows}
 
 near : (k : ℕ) → k < 2 ^ 16 → nat_lt 65535 k ≡ false

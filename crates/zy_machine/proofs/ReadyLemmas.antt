@@ -17,7 +17,7 @@ use Rattle.zy_table.specs.Pages.{owns, rows_of}
 use Rattle.zy_table.specs.Rows.{rows_on, rows_not_in}
 use Rattle.zy_table.specs.Run.{own_inserts}
 use Rattle.zy_table.specs.Play.{play, opening}
-use Rattle.zy_table.specs.Counts.{Safe, Fits}
+use Rattle.zy_laws.specs.Counts.{Safe, Fits}
 use Rattle.zy_table.specs.Order.{InOrder}
 use Rattle.zy_modes.specs.Table.{may_split as splits_in}
 use Rattle.zy_moves.specs.Arrivals.{MayTake}
@@ -26,18 +26,18 @@ use Rattle.zy_txns.specs.Books.{Countable, txn_in}
 use Rattle.zy_machine.specs.Stores.{shown, Rooms, IsPossible}
 use Rattle.zy_machine.proofs.ArrivalLemmas.{may_take}
 use Rattle.zy_table.proofs.PageFinds.{absent_page}
-use Rattle.zy_table.proofs.OneOwner.{inv_from, play_inv}
-use Rattle.zy_table.proofs.Room.{need, need_is}
+use Rattle.zy_laws.proofs.OneOwner.{inv_from, play_inv}
+use Rattle.zy_laws.proofs.Room.{need, need_is}
 use Rattle.zy_machine.proofs.Roomy.{roomy}
-use Rattle.zy_table.proofs.SafeCounts.{safe, program_is}
-use Rattle.zy_table.proofs.RoomAtCommit.{fits}
-use Rattle.zy_table.proofs.ListsInOrder.{in_order, ordered_from, tidy}
-use Rattle.zy_table.proofs.Boundary.{boundary_new}
-use Rattle.zy_table.proofs.LockingRows.{home_placed}
-use Rattle.zy_table.proofs.Ordered.{rows_at}
-use Rattle.zy_table.proofs.Reached.{kept_from, reached}
-use Rattle.zy_table.proofs.Roles.{fresh_number, normal_other}
-use Rattle.zy_table.proofs.Txns.{IsAt}
+use Rattle.zy_laws.proofs.SafeCounts.{safe, program_is}
+use Rattle.zy_laws.proofs.RoomAtCommit.{fits}
+use Rattle.zy_laws.proofs.ListsInOrder.{in_order, ordered_from, tidy}
+use Rattle.zy_laws.proofs.Boundary.{boundary_new}
+use Rattle.zy_laws.proofs.LockingRows.{home_placed}
+use Rattle.zy_laws.proofs.Ordered.{rows_at}
+use Rattle.zy_laws.proofs.Reached.{kept_from, reached}
+use Rattle.zy_laws.proofs.Roles.{fresh_number, normal_other}
+use Rattle.zy_laws.proofs.Txns.{IsAt}
 
 txn_at-facing : (n : Node) (t : ℕ) (s : State) → txn_at (facing n s) t ≡ txn_or (slice_get s.txns t)
 unfolding txn_at

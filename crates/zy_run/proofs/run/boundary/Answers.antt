@@ -6,7 +6,7 @@ use Rattle.zy_isa.specs.declared.row.Row.{Row}
 use Rattle.zy_table.specs.Keys.{keys_of, put_key}
 use Rattle.zy_table.specs.Pages.{rows_of}
 use Rattle.zy_node.specs.Nodes.{new_at}
-use Rattle.zy_table.proofs.Boundary.{length-put_key, length-keys}
+use Rattle.zy_table.proofs.KeyLists.{length-put_key, length-keys}
 use Rattle.zy_run.proofs.run.boundary.Goals as goal
 
 -- the index is one of these keys

@@ -1,0 +1,457 @@
+-- What a row did: one case for each line of the table that changes something, with what its conditions say.
+use Rattle.std.proofs.Common.{◌≡◌, ℕ, ◌+◌, ◌%◌, ◌^◌, List, [], ◌∷◌, ◌++◌, length, true, false, refl, sym, ap, ◌∙◌, subst, inl, inr}
+use Rattle.std.specs.Prelude.{◌⊎◌, if◌then◌else◌, ◌==◌, ◌&&◌, nat_lt, nat_le, not, Some, None, Option, slice_get, unwrap_or, is_some}
+use Rattle.std.proofs.lemmas.Bool.{cond_both, false≢true, not-false, not-true, cases_Bool, eq-eqb}
+use Rattle.zy_isa.specs.declared.node.Node.{Node}
+use Rattle.zy_isa.specs.declared.node.Node.TheVariants.{A, B}
+use Rattle.zy_isa.specs.declared.choice.Choice.{Choice}
+use Rattle.zy_isa.specs.declared.choice.Choice.TheVariants.{Start, Begin, Kill, Run, Take, Finish as Finish_at, Push}
+use Rattle.zy_isa.specs.declared.row.Row.{Row}
+use Rattle.zy_isa.specs.declared.instr.Reg.{Reg}
+use Rattle.zy_isa.specs.declared.instr.Instr.{Instr}
+use Rattle.zy_isa.specs.declared.instr.Instr.TheVariants.{Set, Read, Write, Insert, Add, Beq, Commit, Abort}
+use Rattle.zy_isa.specs.Rows.{get_row, put_row}
+use Rattle.zy_isa.specs.Scenario.{Scenario}
+use Rattle.zy_locks.specs.declared.lock.LockKind.{LockKind}
+use Rattle.zy_locks.specs.declared.lock.LockKind.TheVariants.{Shared, Exclusive}
+use Rattle.zy_locks.specs.Locks.{conflict, is_locked}
+use Rattle.zy_modes.specs.declared.mode.NodeMode.{NodeMode}
+use Rattle.zy_modes.specs.declared.mode.NodeMode.TheVariants.{Empty, Normal, SInit, SDual, SFinish, DInit, DDual, DFinish}
+use Rattle.zy_modes.specs.declared.kind.Kind.TheVariants as kind
+use Rattle.zy_modes.specs.declared.table.MsgRow.TheVariants.{Stray, Turns}
+use Rattle.zy_modes.specs.Table.{on_start, on_finish, home_of, may_split, may_pull, may_push, is_waiting}
+use Rattle.zy_links.specs.Messages.{Wire, Ready, Dual, Pull, Page, Finish, Done}
+use Rattle.zy_table.specs.declared.outcome.Why.{Why}
+use Rattle.zy_table.specs.declared.outcome.Why.TheVariants as why
+use Rattle.zy_table.specs.declared.outcome.Outcome.{Outcome}
+use Rattle.zy_table.specs.declared.outcome.Outcome.TheVariants as outcome
+use Rattle.zy_table.specs.State.{State, View, Move, NodeState, Leaf, Message, facing, post, with_me}
+use Rattle.zy_wire.specs.Wireframe.{page_of}
+use Rattle.zy_table.specs.Numbers.{has, least}
+use Rattle.zy_table.specs.Pages.{owns, rows_of, numbers}
+use Rattle.zy_table.specs.Change.{quiet, begun, aborted, did, txn_at, locked, committed, cut, reg, with_reg, txn_or, asks, leaves, turns, with_arrived, with_lows}
+use Rattle.zy_table.specs.Client.{is_new, is_active, start_row, begin_row, begin_at, kill_row}
+use Rattle.zy_table.specs.declared.access.Access.TheVariants as access
+use Rattle.zy_table.specs.Run.{boundary, same_node, program_of, abort_row, set_row, jump_row, gone_pages, commit_or_gone, commit_row, absent_row, read_row, write_row, full_row, split_row, insert_row, lock_of, is_there, has_room, access_row, page_row, key_row, instr_row, run_row}
+use Rattle.zy_table.specs.declared.access.Access.{Access}
+use Rattle.zy_table.specs.declared.access.Access.TheVariants.{Reads}
+use Rattle.zy_table.specs.Take.{is_held, all_here, with_brought, got_row, pull_row, mode_row, message_row, front_row, take_row}
+use Rattle.zy_table.specs.Push.{active_from, finish_if, finish_row, push_if, push_row}
+use Rattle.zy_laws.specs.Journey.{is_gone, is_stray}
+use Rattle.zy_table.specs.Play.{move, side_of}
+use Rattle.zy_laws.proofs.ModeLines.{is_sending, wire_line, ready_line, dual_line, pull_line, page_line, finish_line, done_line, starts_from, pushes_in_finish}
+use Rattle.zy_table.proofs.PageLists.{least-owns}
+use Rattle.zy_table.proofs.AbortedLocks.{aborted-locked}
+
+-- t runs at n, and its next instruction is i
+pub record Runs (sc : Scenario) (n : Node) (t : ℕ) (i : Instr) (v : View) : Type 0 where
+  pub active : is_active (txn_at v t).status ≡ true
+  pub here : (txn_at v t).node ≡ n
+  pub begun : is_waiting v.me.mode ≡ false
+  pub next : slice_get (program_of sc t) (txn_at v t).pc ≡ Some i
+
+-- the key's page is here, and nobody's lock is in the way
+pub record Free (t k : ℕ) (kind : LockKind) (v : View) : Type 0 where
+  pub small : nat_lt 65535 k ≡ false
+  pub here : owns v.me.pages (page_of v.me.lows k) ≡ true
+  pub free : conflict v.me.locks (page_of v.me.lows k) t kind ≡ false
+
+abbrev pub has_lock : ℕ → ℕ → LockKind → View → View
+has_lock t k kind v = locked t (page_of v.me.lows k) kind v
+
+-- the key in a register of t, and its page
+abbrev pub key : ℕ → Reg → View → ℕ
+key t r v = reg (txn_at v t).regs r
+
+abbrev pub page : ℕ → Reg → View → ℕ
+page t r v = page_of v.me.lows (key t r v)
+
+-- t puts a private row, with its page locked
+abbrev pub puts : ℕ → Reg → Reg → View → View
+puts t r q v = did t ((txn_at v t).pc + 1) (txn_at v t).regs (put_row (key t r v) (key t q v) (txn_at v t).rows) (has_lock t (key t r v) Exclusive v)
+
+-- what t reads at a key
+abbrev pub value_at : ℕ → ℕ → View → ℕ
+value_at t k v = unwrap_or (get_row (txn_at v t).rows k) (unwrap_or (get_row (rows_of v.me.pages (page_of v.me.lows k)) k) 0)
+
+-- the view without the front of its inbox
+abbrev pub rest : View → List Message → View
+rest v ms = record v { inbox = ms }
+
+-- a page comes to a node
+abbrev pub arrived : Leaf → View → View
+arrived leaf v = with_me (with_arrived leaf v.me) v
+
+pub data Event (sc : Scenario) (n : Node) (v w : View) : Type 0 where
+  Rests : w ≡ v → Event sc n v w
+  Begins : (t : ℕ) (h : Node) → n ≡ A → is_new (txn_at v t).status ≡ true → home_of v.me.mode v.them.mode ≡ Some h → w ≡ begun h t v → Event sc n v w
+  Aborts : (t : ℕ) (y : Why) → is_active (txn_at v t).status ≡ true → (txn_at v t).node ≡ n → w ≡ aborted t y v → Event sc n v w
+  Sets : (t : ℕ) (r : Reg) (x : ℕ) → Runs sc n t (Set r x) v
+      → w ≡ did t ((txn_at v t).pc + 1) (with_reg r x (txn_at v t).regs) (txn_at v t).rows v → Event sc n v w
+  Adds : (t : ℕ) (r q : Reg) → Runs sc n t (Add r q) v
+      → w ≡ did t ((txn_at v t).pc + 1) (with_reg r ((reg (txn_at v t).regs r + reg (txn_at v t).regs q) % 2 ^ 32) (txn_at v t).regs) (txn_at v t).rows v → Event sc n v w
+  Jumps : (t : ℕ) (r q : Reg) (to : ℕ) → Runs sc n t (Beq r q to) v
+      → w ≡ did t (if reg (txn_at v t).regs r == reg (txn_at v t).regs q then to else (txn_at v t).pc + 1) (txn_at v t).regs (txn_at v t).rows v
+      → Event sc n v w
+  Gets : (t : ℕ) (r q : Reg) → Runs sc n t (Read r q) v → Free t (key t q v) Shared v
+      → w ≡ did t ((txn_at v t).pc + 1) (with_reg r (value_at t (key t q v) v) (txn_at v t).regs) (txn_at v t).rows (has_lock t (key t q v) Shared v)
+      → Event sc n v w
+  Writes : (t : ℕ) (r q : Reg) → Runs sc n t (Write r q) v → Free t (key t r v) Exclusive v → is_there (key t r v) (page t r v) v.me (txn_at v t) ≡ true
+      → w ≡ puts t r q v → Event sc n v w
+  Inserts : (t : ℕ) (r q : Reg) → Runs sc n t (Insert r q) v → Free t (key t r v) Exclusive v → is_there (key t r v) (page t r v) v.me (txn_at v t) ≡ false
+      → has_room sc (page t r v) v.me (txn_at v t) ≡ true → w ≡ puts t r q v → Event sc n v w
+  Splits : (t : ℕ) (r q : Reg) → Runs sc n t (Insert r q) v → Free t (key t r v) Exclusive v → is_there (key t r v) (page t r v) v.me (txn_at v t) ≡ false
+      → has_room sc (page t r v) v.me (txn_at v t) ≡ false → may_split v.me.mode ≡ true → (nat_le sc.pages (length v.me.lows)) ≡ false
+      → w ≡ cut t (page t r v) (boundary sc (key t r v) (page t r v) v.me (txn_at v t)) (has_lock t (key t r v) Exclusive v) → Event sc n v w
+  Commits : (t : ℕ) → Runs sc n t Commit v → least (gone_pages v.me (txn_at v t).rows) ≡ None → w ≡ committed t v → Event sc n v w
+  Asks : (p : ℕ) → owns v.me.pages p ≡ false → may_pull v.me.mode ≡ true → has v.me.asked p ≡ false → w ≡ asks p v → Event sc n v w
+  Starts : n ≡ A → v.me.mode ≡ Normal → v.them.mode ≡ Empty → w ≡ post (Wire v.me.lows) (turns SInit v) → Event sc n v w
+  GotWire : (lows : List ℕ) (ms : List Message) → v.inbox ≡ Wire lows ∷ ms → v.me.mode ≡ Empty
+      → w ≡ post Ready (turns DInit (with_me (with_lows lows v.me) (rest v ms))) → Event sc n v w
+  GotReady : (ms : List Message) → v.inbox ≡ Ready ∷ ms → v.me.mode ≡ SInit → w ≡ post Dual (turns SDual (rest v ms)) → Event sc n v w
+  GotDual : (ms : List Message) → v.inbox ≡ Dual ∷ ms → v.me.mode ≡ DInit → w ≡ turns DDual (rest v ms) → Event sc n v w
+  IsStale : (p : ℕ) (ms : List Message) → v.inbox ≡ Pull p ∷ ms → w ≡ rest v ms → Event sc n v w
+  Gives : (p : ℕ) (ms : List Message) → v.inbox ≡ Pull p ∷ ms → is_sending v.me.mode ≡ true → owns v.me.pages p ≡ true
+      → (is_held sc.rule && is_locked v.me.locks p) ≡ false → w ≡ leaves p (rest v ms) → Event sc n v w
+  GotPage : (leaf : Leaf) (ms : List Message) → v.inbox ≡ Page leaf ∷ ms → may_pull v.me.mode ≡ true → w ≡ arrived leaf (rest v ms) → Event sc n v w
+  GotLast : (leaf : Leaf) (ms : List Message) → v.inbox ≡ Page leaf ∷ ms → v.me.mode ≡ DFinish → all_here (with_arrived leaf v.me) ≡ true
+      → w ≡ post Done (turns Normal (arrived leaf (rest v ms))) → Event sc n v w
+  GotFinish : (ms : List Message) → v.inbox ≡ Finish ∷ ms → v.me.mode ≡ DDual → w ≡ turns DFinish (rest v ms) → Event sc n v w
+  GotAll : (ms : List Message) → v.inbox ≡ Finish ∷ ms → v.me.mode ≡ DDual → all_here v.me ≡ true
+      → w ≡ post Done (turns Normal (rest v ms)) → Event sc n v w
+  GotDone : (ms : List Message) → v.inbox ≡ Done ∷ ms → v.me.mode ≡ SFinish → w ≡ turns Empty (with_me (with_lows [] v.me) (rest v ms)) → Event sc n v w
+  Finishes : v.me.mode ≡ SDual → active_from n 0 v.txns ≡ None → w ≡ post Finish (turns SFinish v) → Event sc n v w
+  Pushes : (p : ℕ) → v.me.mode ≡ SFinish → owns v.me.pages p ≡ true → w ≡ leaves p v → Event sc n v w
+
+-- the newest low keys after a row: a split alone adds one
+abbrev pub lows_after : (sc : Scenario) (n : Node) (v w : View) (lows : List ℕ) → Event sc n v w → List ℕ
+lows_after sc n v w lows (Splits t r q runs f new full normal pages e) = lows ++ boundary sc (key t r v) (page t r v) v.me (txn_at v t) ∷ []
+lows_after sc n v w lows e = lows
+
+-- t is told that a key's page is gone: the page is not here, and cannot be asked for, or the key is a private row's
+pub record Lost (n : Node) (v : View) : Type 0 where
+  pub txn : ℕ
+  pub key : ℕ
+  pub active : is_active (txn_at v txn).status ≡ true
+  pub here : (txn_at v txn).node ≡ n
+  pub begun : is_waiting v.me.mode ≡ false
+  pub gone : owns v.me.pages (page_of v.me.lows key) ≡ false
+  pub cause : (may_pull v.me.mode ≡ false) ⊎ (is_some (get_row (txn_at v txn).rows key) ≡ true)
+
+-- the front of the inbox is a message that the mode does not know
+pub record Strange (v : View) : Type 0 where
+  pub message : Message
+  pub after : List Message
+  pub front : v.inbox ≡ message ∷ after
+  pub line : mode_row message v ≡ Stray
+
+pub record Happens (sc : Scenario) (n : Node) (v : View) (m : Move) : Type 0 where
+  pub event : Event sc n v m.after
+  pub lost : is_gone m.outcome ≡ true → Lost n v
+  pub strange : is_stray m.outcome ≡ true → Strange v
+
+never : {X : Type 0} → false ≡ true → X
+never e = absurd (false≢true e)
+
+-- a row that gives neither of these outcomes
+plain : (sc : Scenario) (n : Node) (v : View) (m : Move) → Event sc n v m.after → is_gone m.outcome ≡ false → is_stray m.outcome ≡ false → Happens sc n v m
+plain sc n v m e g s = record { event = e; lost = λ h. never (sym g ∙ h); strange = λ h. never (sym s ∙ h) }
+
+rests : (sc : Scenario) (n : Node) (v : View) (o : Outcome) → is_gone o ≡ false → is_stray o ≡ false → Happens sc n v (quiet v o)
+rests sc n v o g s = plain sc n v (quiet v o) (Rests refl) g s
+
+-- the lines of run
+aborts : (sc : Scenario) (n : Node) (t : ℕ) (y : Why) (v : View) → is_active (txn_at v t).status ≡ true → (txn_at v t).node ≡ n
+    → (is_gone (outcome.Aborted y) ≡ true → Lost n v) → Happens sc n v (abort_row t y v)
+unfolding abort_row
+aborts sc n t y v a h lost = record { event = Aborts t y a h refl; lost = lost; strange = λ e. never e }
+
+-- the same with the page's lock taken
+aborts_locked : (sc : Scenario) (n : Node) (t p : ℕ) (kind : LockKind) (y : Why) (v : View) → is_active (txn_at v t).status ≡ true
+    → (txn_at v t).node ≡ n → is_gone (outcome.Aborted y) ≡ false → Happens sc n v (abort_row t y (locked t p kind v))
+unfolding abort_row
+aborts_locked sc n t p kind y v a h g = plain sc n v _ (Aborts t y a h (aborted-locked t p kind y v)) g refl
+
+full_happens : (sc : Scenario) (n : Node) (t : ℕ) (r q : Reg) (v : View) → Runs sc n t (Insert r q) v → Free t (key t r v) Exclusive v → is_there (key t r v) (page t r v) v.me (txn_at v t) ≡ false → has_room sc (page t r v) v.me (txn_at v t) ≡ false
+    → Happens sc n v (full_row sc t (key t r v) (page t r v) (has_lock t (key t r v) Exclusive v))
+unfolding full_row split_row locked txn_at
+full_happens sc n t r q v runs f new full =
+    cond_both (not (may_split v.me.mode)) _ _ (Happens sc n v)
+    (λ _. aborts_locked sc n t (page t r v) Exclusive _ v runs.active runs.here refl)
+    (λ normal. cond_both (nat_le sc.pages (length v.me.lows)) _ _ (Happens sc n v)
+    (λ _. aborts_locked sc n t (page t r v) Exclusive _ v runs.active runs.here refl)
+    (λ more. plain sc n v _ (Splits t r q runs f new full (not-false _ normal) more refl) refl refl))
+
+insert_happens : (sc : Scenario) (n : Node) (t : ℕ) (r q : Reg) (v : View) → Runs sc n t (Insert r q) v → Free t (key t r v) Exclusive v
+    → Happens sc n v (insert_row sc t (key t r v) (key t q v) (page t r v) (has_lock t (key t r v) Exclusive v))
+unfolding insert_row locked txn_at
+insert_happens sc n t r q v runs f =
+    cond_both (is_there (key t r v) (page t r v) v.me (txn_at v t)) _ _ (Happens sc n v)
+    (λ _. aborts_locked sc n t (page t r v) Exclusive _ v runs.active runs.here refl)
+    (λ new. cond_both (has_room sc (page t r v) v.me (txn_at v t)) _ _ (Happens sc n v)
+    (λ room. plain sc n v _ (Inserts t r q runs f new room refl) refl refl)
+    (λ full. full_happens sc n t r q v runs f new full))
+
+write_happens : (sc : Scenario) (n : Node) (t : ℕ) (r q : Reg) (v : View) → Runs sc n t (Write r q) v → Free t (key t r v) Exclusive v
+    → Happens sc n v (write_row t (key t r v) (key t q v) (page t r v) (has_lock t (key t r v) Exclusive v))
+unfolding write_row locked txn_at
+write_happens sc n t r q v runs f =
+    cond_both (is_there (key t r v) (page t r v) v.me (txn_at v t)) _ _ (Happens sc n v)
+    (λ there. plain sc n v _ (Writes t r q runs f there refl) refl refl)
+    (λ _. aborts_locked sc n t (page t r v) Exclusive _ v runs.active runs.here refl)
+
+read_happens : (sc : Scenario) (n : Node) (t : ℕ) (r q : Reg) (v : View) → Runs sc n t (Read r q) v → Free t (key t q v) Shared v
+    → Happens sc n v (read_row t r (key t q v) (page t q v) (has_lock t (key t q v) Shared v))
+unfolding read_row locked txn_at
+read_happens sc n t r q v runs f = plain sc n v _ (Gets t r q runs f refl) refl refl
+
+-- a page that is not here
+absent_happens : (sc : Scenario) (n : Node) (t k : ℕ) (i : Instr) (v : View) → Runs sc n t i v → owns v.me.pages (page_of v.me.lows k) ≡ false
+    → Happens sc n v (absent_row t (page_of v.me.lows k) v)
+unfolding absent_row
+absent_happens sc n t k i v r gone =
+    cond_both (not (may_pull v.me.mode)) _ _ (Happens sc n v)
+    (λ s. aborts sc n t _ v r.active r.here (λ _. record { txn = t; key = k; active = r.active; here = r.here; begun = r.begun; gone = gone; cause = inl (not-true _ s) }))
+    (λ s. cond_both (has v.me.asked (page_of v.me.lows k)) _ _ (Happens sc n v)
+    (λ _. rests sc n v _ refl refl)
+    (λ h. plain sc n v _ (Asks (page_of v.me.lows k) gone (not-false _ s) h refl) refl refl))
+
+-- a key instruction, where it has the lock, is one of these
+key_happens : (sc : Scenario) (n : Node) (t k : ℕ) (i : Instr) (x : Access) (v : View) → Runs sc n t i v
+    → (Free t k (lock_of x) v → Happens sc n v (access_row sc t x k (page_of v.me.lows k) (has_lock t k (lock_of x) v)))
+    → Happens sc n v (key_row sc t x k v)
+unfolding key_row page_row
+key_happens sc n t k i x v runs on =
+    cond_both (nat_lt 65535 k) _ _ (Happens sc n v)
+    (λ _. aborts sc n t _ v runs.active runs.here (λ e. never e))
+    (λ small. cond_both (not (owns v.me.pages (page_of v.me.lows k))) _ _ (Happens sc n v)
+    (λ gone. absent_happens sc n t k i v runs (not-true _ gone))
+    (λ here. cond_both (conflict v.me.locks (page_of v.me.lows k) t (lock_of x)) _ _ (Happens sc n v)
+    (λ _. rests sc n v _ refl refl)
+    (λ free. on (record { small = small; here = not-false _ here; free = free }))))
+
+-- a page that has gone has a private row
+gone_key : (x : NodeState) (rows all : List Row) → ((k : ℕ) → is_some (get_row rows k) ≡ true → is_some (get_row all k) ≡ true) → (p : ℕ) → least (gone_pages x rows) ≡ Some p
+    → (k : ℕ) × (is_some (get_row all k) ≡ true) × (owns x.pages (page_of x.lows k) ≡ false)
+gone_key x [] all sub p e = cc
+gone_key x (r ∷ rows) all sub p e =
+    elim (cases_Bool (owns x.pages (page_of x.lows r.key))) [
+      | inl own ↦ gone_key x rows all (λ k h. sub k (cond_both (r.key == k) (Some r.value) (get_row rows k) (λ o. is_some o ≡ true) (λ _. refl) (λ _. h))) p
+          (sym (ap (λ b. least (if b then gone_pages x rows else page_of x.lows r.key ∷ gone_pages x rows)) own) ∙ e)
+      | inr gone ↦ (r.key, sub r.key (ap (λ b. is_some (if b then Some r.value else get_row rows r.key)) (eq-eqb r.key r.key refl)), gone)
+    ]
+
+commit_happens : (sc : Scenario) (n : Node) (t : ℕ) (o : Option ℕ) (v : View) → o ≡ least (gone_pages v.me (txn_at v t).rows) → Runs sc n t Commit v
+    → Happens sc n v (commit_or_gone t o v)
+unfolding commit_or_gone
+commit_happens sc n t (Some p) v e r =
+    aborts sc n t (why.Gone p) v r.active r.here (λ _.
+    let l = gone_key v.me (txn_at v t).rows (txn_at v t).rows (λ k h. h) p (sym e) in
+    record { txn = t; key = l.0; active = r.active; here = r.here; begun = r.begun; gone = l.2; cause = inr l.1 })
+commit_happens sc n t None v e r = plain sc n v _ (Commits t r (sym e) refl) refl refl
+
+instr_happens : (sc : Scenario) (n : Node) (t : ℕ) (o : Option Instr) (v : View) → ((i : Instr) → o ≡ Some i → Runs sc n t i v)
+    → Happens sc n v (instr_row sc t o (txn_at v t).regs v)
+unfolding instr_row set_row jump_row commit_row access_row
+instr_happens sc n t None v r = rests sc n v _ refl refl
+instr_happens sc n t (Some (Set a x)) v r = plain sc n v _ (Sets t a x (r _ refl) refl) refl refl
+instr_happens sc n t (Some (Add a q)) v r = plain sc n v _ (Adds t a q (r _ refl) refl) refl refl
+instr_happens sc n t (Some (Beq a q to)) v r = plain sc n v _ (Jumps t a q to (r _ refl) refl) refl refl
+instr_happens sc n t (Some Abort) v r = let runs = r _ refl in aborts sc n t _ v runs.active runs.here (λ e. never e)
+instr_happens sc n t (Some Commit) v r = commit_happens sc n t _ v refl (r _ refl)
+instr_happens sc n t (Some (Read a q)) v r = key_happens sc n t (key t q v) (Read a q) (Reads a) v (r _ refl) (read_happens sc n t a q v (r _ refl))
+instr_happens sc n t (Some (Write a q)) v r = key_happens sc n t (key t a v) (Write a q) (access.Writes (key t q v)) v (r _ refl) (write_happens sc n t a q v (r _ refl))
+instr_happens sc n t (Some (Insert a q)) v r = key_happens sc n t (key t a v) (Insert a q) (access.Inserts (key t q v)) v (r _ refl) (insert_happens sc n t a q v (r _ refl))
+
+same_node-true : (a b : Node) → same_node a b ≡ true → a ≡ b
+same_node-true A A e = refl
+same_node-true A B e = absurd (false≢true e)
+same_node-true B A e = absurd (false≢true e)
+same_node-true B B e = refl
+
+run_happens : (sc : Scenario) (n : Node) (t : ℕ) (v : View) → Happens sc n v (run_row sc n t v)
+unfolding run_row
+run_happens sc n t v =
+    cond_both (not (is_active (txn_at v t).status)) _ _ (Happens sc n v)
+    (λ _. rests sc n v _ refl refl)
+    (λ a. cond_both (not (same_node (txn_at v t).node n)) _ _ (Happens sc n v)
+    (λ _. rests sc n v _ refl refl)
+    (λ h. cond_both (is_waiting v.me.mode) _ _ (Happens sc n v)
+    (λ _. rests sc n v _ refl refl)
+    (λ b. instr_happens sc n t _ v (λ i e. record { active = not-false _ a; here = same_node-true _ _ (not-false _ h); begun = b; next = e }))))
+
+-- the client's lines
+start_happens : (sc : Scenario) (v : View) → Happens sc A v (start_row v)
+unfolding start_row
+start_happens sc v =
+    cond_both (is_some (on_start v.me.mode v.them.mode)) _ _ (Happens sc A v)
+    (λ h. let modes = starts_from v.me.mode v.them.mode h in plain sc A v _ (Starts refl modes.0 modes.1 refl) refl refl)
+    (λ _. rests sc A v _ refl refl)
+
+begin_at_happens : (sc : Scenario) (t : ℕ) (o : Option Node) (v : View) → o ≡ home_of v.me.mode v.them.mode → is_new (txn_at v t).status ≡ true
+    → Happens sc A v (begin_at o t v)
+unfolding begin_at
+begin_at_happens sc t None v e s = rests sc A v _ refl refl
+begin_at_happens sc t (Some h) v e s = plain sc A v _ (Begins t h refl s (sym e) refl) refl refl
+
+begin_happens : (sc : Scenario) (t : ℕ) (v : View) → Happens sc A v (begin_row t v)
+unfolding begin_row
+begin_happens sc t v =
+    cond_both (is_new (txn_at v t).status) _ _ (Happens sc A v)
+    (λ s. begin_at_happens sc t _ v refl s)
+    (λ _. rests sc A v _ refl refl)
+
+kill_happens : (sc : Scenario) (n : Node) (t : ℕ) (v : View) → (txn_at v t).node ≡ n → Happens sc n v (kill_row t v)
+unfolding kill_row
+kill_happens sc n t v h =
+    cond_both (is_active (txn_at v t).status) _ _ (Happens sc n v)
+    (λ a. plain sc n v _ (Aborts t why.Killed a h refl) refl refl)
+    (λ _. rests sc n v _ refl refl)
+
+-- the lines of take, where the mode table has one
+strays : (sc : Scenario) (n : Node) (m : Message) (ms : List Message) (v : View) → v.inbox ≡ m ∷ ms → mode_row m v ≡ Stray → Happens sc n v (got_row (mode_row m v) m v (rest v ms))
+unfolding got_row
+strays sc n m ms v f e =
+    subst (λ line. Happens sc n v (got_row line m v (rest v ms))) (sym e)
+    (record { event = Rests refl; lost = λ h. never h; strange = λ _. record { message = m; after = ms; front = f; line = e } })
+
+wire_happens : (sc : Scenario) (n : Node) (lows : List ℕ) (ms : List Message) (v : View) → v.inbox ≡ Wire lows ∷ ms
+    → Happens sc n v (got_row (mode_row (Wire lows) v) (Wire lows) v (rest v ms))
+unfolding got_row
+wire_happens sc n lows ms v f =
+    elim (wire_line v.me.mode (all_here (with_brought (Wire lows) v.me))) [
+      | inl e ↦ strays sc n (Wire lows) ms v f e
+      | inr h ↦ subst (λ line. Happens sc n v (got_row line (Wire lows) v (rest v ms))) (sym h.1) (plain sc n v _ (GotWire lows ms f h.0 refl) refl refl)
+    ]
+
+ready_happens : (sc : Scenario) (n : Node) (ms : List Message) (v : View) → v.inbox ≡ Ready ∷ ms → Happens sc n v (got_row (mode_row Ready v) Ready v (rest v ms))
+unfolding got_row
+ready_happens sc n ms v f =
+    elim (ready_line v.me.mode (all_here (with_brought Ready v.me))) [
+      | inl e ↦ strays sc n Ready ms v f e
+      | inr h ↦ subst (λ line. Happens sc n v (got_row line Ready v (rest v ms))) (sym h.1) (plain sc n v _ (GotReady ms f h.0 refl) refl refl)
+    ]
+
+dual_happens : (sc : Scenario) (n : Node) (ms : List Message) (v : View) → v.inbox ≡ Dual ∷ ms → Happens sc n v (got_row (mode_row Dual v) Dual v (rest v ms))
+unfolding got_row
+dual_happens sc n ms v f =
+    elim (dual_line v.me.mode (all_here (with_brought Dual v.me))) [
+      | inl e ↦ strays sc n Dual ms v f e
+      | inr h ↦ subst (λ line. Happens sc n v (got_row line Dual v (rest v ms))) (sym h.1) (plain sc n v _ (GotDual ms f h.0 refl) refl refl)
+    ]
+
+page_happens : (sc : Scenario) (n : Node) (leaf : Leaf) (ms : List Message) (v : View) → v.inbox ≡ Page leaf ∷ ms
+    → Happens sc n v (got_row (mode_row (Page leaf) v) (Page leaf) v (rest v ms))
+unfolding got_row
+page_happens sc n leaf ms v f =
+    elim (page_line v.me.mode (all_here (with_brought (Page leaf) v.me))) [
+      | inl e ↦ strays sc n (Page leaf) ms v f e
+      | inr h ↦ elim h [
+        | inl more ↦ subst (λ line. Happens sc n v (got_row line (Page leaf) v (rest v ms))) (sym more.1) (plain sc n v _ (GotPage leaf ms f more.0 refl) refl refl)
+        | inr last ↦ subst (λ line. Happens sc n v (got_row line (Page leaf) v (rest v ms))) (sym last.2) (plain sc n v _ (GotLast leaf ms f last.0 last.1 refl) refl refl)
+      ]
+    ]
+
+finish_taken : (sc : Scenario) (n : Node) (ms : List Message) (v : View) → v.inbox ≡ Finish ∷ ms → Happens sc n v (got_row (mode_row Finish v) Finish v (rest v ms))
+unfolding got_row
+finish_taken sc n ms v f =
+    elim (finish_line v.me.mode (all_here (with_brought Finish v.me))) [
+      | inl e ↦ strays sc n Finish ms v f e
+      | inr h ↦ elim h.1 [
+        | inl some ↦ subst (λ line. Happens sc n v (got_row line Finish v (rest v ms))) (sym some.1) (plain sc n v _ (GotFinish ms f h.0 refl) refl refl)
+        | inr all ↦ subst (λ line. Happens sc n v (got_row line Finish v (rest v ms))) (sym all.1) (plain sc n v _ (GotAll ms f h.0 all.0 refl) refl refl)
+      ]
+    ]
+
+done_happens : (sc : Scenario) (n : Node) (ms : List Message) (v : View) → v.inbox ≡ Done ∷ ms → Happens sc n v (got_row (mode_row Done v) Done v (rest v ms))
+unfolding got_row
+done_happens sc n ms v f =
+    elim (done_line v.me.mode (all_here (with_brought Done v.me))) [
+      | inl e ↦ strays sc n Done ms v f e
+      | inr h ↦ subst (λ line. Happens sc n v (got_row line Done v (rest v ms))) (sym h.1) (plain sc n v _ (GotDone ms f h.0 refl) refl refl)
+    ]
+
+pull_turns : (sc : Scenario) (n : Node) (p : ℕ) (ms : List Message) (v : View) (to : NodeMode) → v.inbox ≡ Pull p ∷ ms → is_sending v.me.mode ≡ true
+    → Happens sc n v (pull_row sc p (Turns to (Some kind.Page)) v (rest v ms))
+unfolding pull_row
+pull_turns sc n p ms v to f sends =
+    cond_both (not (owns v.me.pages p)) _ _ (Happens sc n v)
+    (λ _. plain sc n v _ (IsStale p ms f refl) refl refl)
+    (λ own. cond_both (is_held sc.rule && is_locked v.me.locks p) _ _ (Happens sc n v)
+    (λ _. rests sc n v _ refl refl)
+    (λ free. plain sc n v _ (Gives p ms f sends (not-false _ own) free refl) refl refl))
+
+pull_happens : (sc : Scenario) (n : Node) (p : ℕ) (ms : List Message) (v : View) → v.inbox ≡ Pull p ∷ ms
+    → Happens sc n v (pull_row sc p (mode_row (Pull p) v) v (rest v ms))
+unfolding pull_row
+pull_happens sc n p ms v f =
+    elim (pull_line v.me.mode (all_here (with_brought (Pull p) v.me))) [
+      | inl e ↦ subst (λ line. Happens sc n v (pull_row sc p line v (rest v ms))) (sym e)
+          (record { event = Rests refl; lost = λ h. never h; strange = λ _. record { message = Pull p; after = ms; front = f; line = e } })
+      | inr h ↦ subst (λ line. Happens sc n v (pull_row sc p line v (rest v ms))) (sym h.1.1) (pull_turns sc n p ms v h.1.0 f h.0)
+    ]
+
+message_happens : (sc : Scenario) (n : Node) (m : Message) (ms : List Message) (v : View) → v.inbox ≡ m ∷ ms → Happens sc n v (message_row sc m v (rest v ms))
+unfolding message_row
+message_happens sc n (Wire lows) ms v f = wire_happens sc n lows ms v f
+message_happens sc n Ready ms v f = ready_happens sc n ms v f
+message_happens sc n Dual ms v f = dual_happens sc n ms v f
+message_happens sc n (Pull p) ms v f = pull_happens sc n p ms v f
+message_happens sc n (Page leaf) ms v f = page_happens sc n leaf ms v f
+message_happens sc n Finish ms v f = finish_taken sc n ms v f
+message_happens sc n Done ms v f = done_happens sc n ms v f
+
+front_happens : (sc : Scenario) (n : Node) (ms : List Message) (v : View) → v.inbox ≡ ms → Happens sc n v (front_row sc ms v)
+unfolding front_row
+front_happens sc n [] v f = rests sc n v _ refl refl
+front_happens sc n (m ∷ ms) v f = message_happens sc n m ms v f
+
+take_happens : (sc : Scenario) (n : Node) (v : View) → Happens sc n v (take_row sc v)
+unfolding take_row
+take_happens sc n v = front_happens sc n v.inbox v refl
+
+-- the lines of finish and push
+finish_by : (sc : Scenario) (n : Node) (mode : NodeMode) (o : Option ℕ) (t : ℕ) (v : View) → v.me.mode ≡ mode → active_from n 0 v.txns ≡ o
+    → Happens sc n v (finish_if (on_finish mode (is_some o)) t v)
+unfolding finish_if
+finish_by sc n SDual None t v m e = plain sc n v _ (Finishes m e refl) refl refl
+finish_by sc n SDual (Some u) t v m e = rests sc n v _ refl refl
+finish_by sc n Empty o t v m e = rests sc n v _ refl refl
+finish_by sc n Normal o t v m e = rests sc n v _ refl refl
+finish_by sc n SInit o t v m e = rests sc n v _ refl refl
+finish_by sc n SFinish o t v m e = rests sc n v _ refl refl
+finish_by sc n DInit o t v m e = rests sc n v _ refl refl
+finish_by sc n DDual o t v m e = rests sc n v _ refl refl
+finish_by sc n DFinish o t v m e = rests sc n v _ refl refl
+
+finish_happens : (sc : Scenario) (n : Node) (v : View) → Happens sc n v (finish_row n v)
+unfolding finish_row
+finish_happens sc n v = finish_by sc n v.me.mode (active_from n 0 v.txns) _ v refl refl
+
+push_by : (sc : Scenario) (n : Node) (o : Option ℕ) (v : View) → o ≡ least (numbers v.me.pages) → v.me.mode ≡ SFinish → Happens sc n v (push_if o v)
+unfolding push_if
+push_by sc n None v e m = rests sc n v _ refl refl
+push_by sc n (Some p) v e m = plain sc n v _ (Pushes p m (least-owns v.me.pages p (sym e)) refl) refl refl
+
+push_happens : (sc : Scenario) (n : Node) (v : View) → Happens sc n v (push_row v)
+unfolding push_row
+push_happens sc n v =
+    cond_both (may_push v.me.mode) _ _ (Happens sc n v)
+    (λ h. push_by sc n _ v refl (pushes_in_finish v.me.mode h))
+    (λ _. rests sc n v _ refl refl)
+
+node_of : (n : Node) (t : ℕ) (s : State) → (txn_at (facing n s) t).node ≡ (txn_or (slice_get s.txns t)).node
+unfolding txn_at
+node_of A t s = refl
+node_of B t s = refl
+
+-- every row of the table, at the side that it is read from
+pub step_happens : (sc : Scenario) (c : Choice) (s : State) → Happens sc (side_of c s) (facing (side_of c s) s) (move sc c (facing (side_of c s) s))
+unfolding move
+step_happens sc Start s = start_happens sc _
+step_happens sc (Begin t) s = begin_happens sc t _
+step_happens sc (Kill t) s = kill_happens sc _ t _ (node_of (txn_or (slice_get s.txns t)).node t s)
+step_happens sc (Run n t) s = run_happens sc n t _
+step_happens sc (Take n) s = take_happens sc n _
+step_happens sc (Finish_at n) s = finish_happens sc n _
+step_happens sc (Push n) s = push_happens sc n _

@@ -1,0 +1,354 @@
+-- Each row of the table keeps the transactions along their lone runs.
+use Rattle.std.proofs.Common.{List, [], add-one, ap, length, false, inl, inr, refl, subst, sym, true, ℕ, ◌%◌, ◌+◌, ◌^◌, ◌∙◌, ◌++◌, ◌∷◌, ◌≡◌}
+use Rattle.std.specs.Prelude.{None, Option, Some, if◌then◌else◌, is_some, nat_lt, replicate, slice_get, slice_set, unwrap_or, ◌==◌, ◌||◌}
+use Rattle.std.specs.FinMap.{get}
+use Rattle.std.proofs.lemmas.Bool.{cases_eq, eqb-true, false≢true, or_cases}
+use Rattle.zy_isa.specs.Rows.{get_row, put_row}
+use Rattle.zy_isa.specs.Scenario.{Scenario}
+use Rattle.zy_isa.specs.declared.instr.Instr.{Instr}
+use Rattle.zy_isa.specs.declared.instr.Instr.TheVariants.{Add, Beq, Insert, Read, Set, Write}
+use Rattle.zy_isa.specs.declared.instr.Reg.{Reg}
+use Rattle.zy_isa.specs.declared.node.Node.{Node}
+use Rattle.zy_isa.specs.declared.row.Row.{Row}
+use Rattle.zy_locks.specs.Locks.{add_lock}
+use Rattle.zy_locks.specs.declared.lock.LockKind.{LockKind}
+use Rattle.zy_locks.specs.declared.lock.LockKind.TheVariants.{Exclusive, Shared}
+use Rattle.zy_table.specs.Change.{aborted, asks, begun, cut, did, leaves, locked, reg, turns, txn_at, with_lows, with_reg}
+use Rattle.zy_table.specs.Client.{is_active, is_new}
+use Rattle.zy_table.specs.Numbers.{has}
+use Rattle.zy_table.specs.Database.{Map}
+use Rattle.zy_table.specs.Holders.{holds}
+use Rattle.zy_table.specs.Pages.{owns, rows_of}
+use Rattle.zy_table.specs.Play.{step}
+use Rattle.zy_table.specs.Run.{boundary, is_there, program_of}
+use Rattle.zy_table.specs.Serial.{Registers, serial}
+use Rattle.zy_table.specs.declared.status.Status.TheVariants.{Aborted}
+use Rattle.zy_table.specs.State.{Lock, Message, NodeState, Txn, View, other, post, with_me}
+use Rattle.zy_wire.specs.Wireframe.{page_of}
+use Rattle.zy_table.specs.declared.outcome.Why.{Why}
+use Rattle.zy_wire.proofs.Longer.{page_of-cut}
+use Rattle.zy_modes.specs.declared.mode.NodeMode.TheVariants.{Empty, Normal, SInit, SDual, SFinish, DInit, DDual, DFinish}
+use Rattle.zy_laws.proofs.CutValues.{cut_db}
+use Rattle.zy_laws.proofs.Roles.{normal_other}
+use Rattle.zy_laws.proofs.Committing.{committed_serial}
+use Rattle.zy_laws.proofs.Events.{Aborts, Adds, Begins, Commits, Event, Gets, Inserts, Jumps, Rests, Runs, Sets, Writes, has_lock, key, page, value_at, Free, Splits, lows_after, arrived, rest, Asks, Starts, GotWire, GotReady, GotDual, IsStale, Gives, GotPage, GotLast, GotFinish, GotAll, GotDone, Finishes, Pushes}
+use Rattle.zy_laws.proofs.Following.{Follows, Serially, active_not, follows_same, keep_registers, new_not, registers_same}
+use Rattle.zy_laws.proofs.LockingRows.{has_lock_locking, split_on}
+use Rattle.zy_table.proofs.LockLists.{alone_new, holds-drop, holds_more, holds_new}
+use Rattle.zy_laws.proofs.Locking.{Kept, nobody_runs}
+use Rattle.zy_laws.proofs.MovedValues.{arrived_db, leaves_db, same_db}
+use Rattle.zy_laws.proofs.MovingPages.{sent_bare}
+use Rattle.zy_table.specs.Database.{sent_leaves}
+use Rattle.zy_modes.specs.Table.{may_split}
+use Rattle.zy_links.specs.Messages.{Wire, Ready, Dual, Pull, Finish, Done}
+use Rattle.zy_laws.proofs.LoneRuns.{Lone, lone, lone_instr, lone_step, or_else}
+use Rattle.zy_laws.proofs.PageValues.{db, page_value, value_same}
+use Rattle.zy_laws.proofs.Txns.{IsAt, Stands, at_either, at_other, at_same, at_self, not_both_nodes, not_new}
+
+-- rows in which t goes on
+acts_serial : (sc : Scenario) (n : Node) (v w : View) (start : Map) (lows : List ℕ) (t : ℕ) (y : Txn) → Serially sc n v start lows → Kept sc n w lows
+    → IsAt v t n
+    → w.txns ≡ slice_set v.txns t y → y.node ≡ (txn_at v t).node → w.commits ≡ v.commits → w.them ≡ v.them → db w ≡ db v
+    → ((p u : ℕ) → holds v.me.locks p u ≡ true → holds w.me.locks p u ≡ true) → Follows (program_of sc t) (db w) lows w.me.locks t y
+    → Serially sc n w start lows
+acts_serial sc n v w start lows t y s k at e node commits them same grow f = record {
+  kept = k;
+  mine = λ u a. elim (cases_eq u t) [
+    | inl here ↦ subst (λ z. Follows (program_of sc z) (db w) lows w.me.locks z (txn_at w z)) (sym here) (subst (Follows (program_of sc t) (db w) lows w.me.locks t) (sym (at_self v w t y e at.0)) f)
+    | inr far ↦ let now = at_other v w t u y e far in
+        follows_same (program_of sc u) (db v) (db w) lows v.me.locks w.me.locks u (txn_at v u) (txn_at w u) same now (λ p h. grow p u h) (s.mine u (subst (λ x. Stands x n) now a))
+  ];
+  theirs = λ u a. elim (cases_eq u t) [
+    | inl here ↦ absurd (not_both_nodes n y.node (node ∙ at.1) (subst (λ (x : Txn). x.node ≡ other n) (ap (txn_at w) here ∙ at_self v w t y e at.0) a.1))
+    | inr far ↦ let now = at_other v w t u y e far in
+        follows_same (program_of sc u) (db v) (db w) lows v.them.locks w.them.locks u (txn_at v u) (txn_at w u) same now (λ p h. subst (λ (x : NodeState). holds x.locks p u ≡ true) (sym them) h) (s.theirs u (subst (λ x. Stands x (other n)) now a))
+  ];
+  is_serial = same ∙ s.is_serial ∙ ap (serial sc start) (sym commits);
+  registers = keep_registers sc v w start t y e commits (active_not (txn_at v t).status at.0) s.registers;
+}
+
+-- one instruction more of a lone run
+next_run : (d : Map) (program : List Instr) (x : Txn) (keys : List ℕ) (i : Instr) (y : Lone)
+    → lone d program x.done ≡ record { regs = x.regs; pc = x.pc; rows = x.rows; keys = keys; over = false }
+    → slice_get program x.pc ≡ Some i → lone_instr d (Some i) (record { regs = x.regs; pc = x.pc; rows = x.rows; keys = keys; over = false }) ≡ y
+    → lone d program (x.done + 1) ≡ y
+unfolding lone_step
+next_run d program x keys i y run is h =
+    ap (lone d program) (add-one x.done) ∙ ap (lone_step d program) run ∙ ap (λ o. lone_instr d o (record { regs = x.regs; pc = x.pc; rows = x.rows; keys = keys; over = false })) is ∙ h
+
+-- set, add and beq
+plain_follows : (program : List Instr) (d : Map) (lows : List ℕ) (locks : List Lock) (t pc : ℕ) (regs : List ℕ) (x : Txn) (i : Instr)
+    → slice_get program x.pc ≡ Some i
+    → ((keys : List ℕ) → lone_instr d (Some i) (record { regs = x.regs; pc = x.pc; rows = x.rows; keys = keys; over = false }) ≡ record { regs = regs; pc = pc; rows = x.rows; keys = keys; over = false })
+    → Follows program d lows locks t x → Follows program d lows locks t (record x { pc = pc; regs = regs; done = x.done + 1 })
+plain_follows program d lows locks t pc regs x i is step f = record { keys = f.keys; run = next_run d program x f.keys i _ f.run is (step f.keys); covered = f.covered }
+
+set_step : (d : Map) (r : Reg) (z : ℕ) (x : Txn) (keys : List ℕ)
+    → lone_instr d (Some (Set r z)) (record { regs = x.regs; pc = x.pc; rows = x.rows; keys = keys; over = false }) ≡ record { regs = with_reg r z x.regs; pc = x.pc + 1; rows = x.rows; keys = keys; over = false }
+unfolding lone_instr
+set_step d r z x keys = refl
+
+add_step : (d : Map) (r q : Reg) (x : Txn) (keys : List ℕ)
+    → lone_instr d (Some (Add r q)) (record { regs = x.regs; pc = x.pc; rows = x.rows; keys = keys; over = false }) ≡ record { regs = with_reg r ((reg x.regs r + reg x.regs q) % 2 ^ 32) x.regs; pc = x.pc + 1; rows = x.rows; keys = keys; over = false }
+unfolding lone_instr
+add_step d r q x keys = refl
+
+jump_step : (d : Map) (r q : Reg) (to : ℕ) (x : Txn) (keys : List ℕ)
+    → lone_instr d (Some (Beq r q to)) (record { regs = x.regs; pc = x.pc; rows = x.rows; keys = keys; over = false }) ≡ record { regs = x.regs; pc = if reg x.regs r == reg x.regs q then to else x.pc + 1; rows = x.rows; keys = keys; over = false }
+unfolding lone_instr
+jump_step d r q to x keys = refl
+
+goes_serial : (sc : Scenario) (n : Node) (v : View) (start : Map) (lows : List ℕ) (t pc : ℕ) (regs : List ℕ) (i : Instr) → Serially sc n v start lows
+    → Runs sc n t i v
+    → ((keys : List ℕ) → lone_instr (db v) (Some i) (record { regs = (txn_at v t).regs; pc = (txn_at v t).pc; rows = (txn_at v t).rows; keys = keys; over = false }) ≡ record { regs = regs; pc = pc; rows = (txn_at v t).rows; keys = keys; over = false })
+    → Kept sc n (did t pc regs (txn_at v t).rows v) lows → Serially sc n (did t pc regs (txn_at v t).rows v) start lows
+unfolding did
+goes_serial sc n v start lows t pc regs i s runs step k =
+    let at : IsAt v t n = (runs.active, runs.here) in
+    acts_serial sc n v (did t pc regs (txn_at v t).rows v) start lows t _ s k at refl refl refl refl refl (λ p u h. h) (plain_follows (program_of sc t) (db v) lows v.me.locks t pc regs (txn_at v t) i runs.next step (s.mine t at))
+
+-- the key instructions, with the lock taken
+small_read : (d : Map) (r q : Reg) (x : Txn) (keys : List ℕ) (value : ℕ) → nat_lt 65535 (reg x.regs q) ≡ false
+    → value ≡ unwrap_or (or_else (get_row x.rows (reg x.regs q)) (get d (reg x.regs q))) 0
+    → lone_instr d (Some (Read r q)) (record { regs = x.regs; pc = x.pc; rows = x.rows; keys = keys; over = false }) ≡ record { regs = with_reg r value x.regs; pc = x.pc + 1; rows = x.rows; keys = reg x.regs q ∷ keys; over = false }
+unfolding lone_instr
+small_read d r q x keys value small val = rw (small, val) refl
+
+small_write : (d : Map) (r q : Reg) (x : Txn) (keys : List ℕ) → nat_lt 65535 (reg x.regs r) ≡ false
+    → is_some (or_else (get_row x.rows (reg x.regs r)) (get d (reg x.regs r))) ≡ true
+    → lone_instr d (Some (Write r q)) (record { regs = x.regs; pc = x.pc; rows = x.rows; keys = keys; over = false }) ≡ record { regs = x.regs; pc = x.pc + 1; rows = put_row (reg x.regs r) (reg x.regs q) x.rows; keys = reg x.regs r ∷ keys; over = false }
+unfolding lone_instr
+small_write d r q x keys small there = rw (small, there) refl
+
+small_insert : (d : Map) (r q : Reg) (x : Txn) (keys : List ℕ) → nat_lt 65535 (reg x.regs r) ≡ false
+    → is_some (or_else (get_row x.rows (reg x.regs r)) (get d (reg x.regs r))) ≡ false
+    → lone_instr d (Some (Insert r q)) (record { regs = x.regs; pc = x.pc; rows = x.rows; keys = keys; over = false }) ≡ record { regs = x.regs; pc = x.pc + 1; rows = put_row (reg x.regs r) (reg x.regs q) x.rows; keys = reg x.regs r ∷ keys; over = false }
+unfolding lone_instr
+small_insert d r q x keys small there = rw (small, there) refl
+
+some_or : (a b : Option ℕ) → is_some (or_else a b) ≡ (is_some a || is_some b)
+some_or None b = refl
+some_or (Some v) b = refl
+
+key_follows : (program : List Instr) (d : Map) (lows : List ℕ) (locks : List Lock) (kind : LockKind) (t k pc : ℕ) (regs : List ℕ) (rows : List Row) (x : Txn) (i : Instr) → slice_get program x.pc ≡ Some i
+    → ((keys : List ℕ) → lone_instr d (Some i) (record { regs = x.regs; pc = x.pc; rows = x.rows; keys = keys; over = false }) ≡ record { regs = regs; pc = pc; rows = rows; keys = k ∷ keys; over = false })
+    → Follows program d lows locks t x
+    → Follows program d lows (add_lock (page_of lows k) t kind locks) t (record x { pc = pc; regs = regs; rows = rows; done = x.done + 1 })
+key_follows program d lows locks kind t k pc regs rows x i is step f = record {
+  keys = k ∷ f.keys;
+  run = next_run d program x f.keys i _ f.run is (step f.keys);
+  covered = λ j h. elim (or_cases (k == j) (has f.keys j) h) [
+    | inl e ↦ subst (λ z. holds (add_lock (page_of lows k) t kind locks) (page_of lows z) t ≡ true) (eqb-true _ _ e) (holds_new (page_of lows k) t kind locks)
+    | inr e ↦ holds_more (page_of lows k) t kind locks (page_of lows j) t (f.covered j e)
+  ];
+}
+
+key_serial : (sc : Scenario) (n : Node) (v : View) (start : Map) (lows : List ℕ) (t k : ℕ) (kind : LockKind) (pc : ℕ) (regs : List ℕ) (rows : List Row) (i : Instr) → Serially sc n v start lows → Runs sc n t i v
+    → ((keys : List ℕ) → lone_instr (db v) (Some i) (record { regs = (txn_at v t).regs; pc = (txn_at v t).pc; rows = (txn_at v t).rows; keys = keys; over = false }) ≡ record { regs = regs; pc = pc; rows = rows; keys = k ∷ keys; over = false })
+    → Kept sc n (did t pc regs rows (has_lock t k kind v)) lows → Serially sc n (did t pc regs rows (has_lock t k kind v)) start lows
+unfolding did locked txn_at
+key_serial sc n v start lows t k kind pc regs rows i s runs step h =
+    let at : IsAt v t n = (runs.active, runs.here) in
+    let newest : v.me.lows ≡ lows = s.kept.mine.newest (s.kept.mine.busy t at) in
+    let w = did t pc regs rows (has_lock t k kind v) in
+    let y : Txn = record (txn_at v t) { pc = pc; regs = regs; rows = rows; done = (txn_at v t).done + 1 } in
+    acts_serial sc n v w start lows t y s h at refl refl refl refl refl (λ p u g. holds_more (page_of v.me.lows k) t kind v.me.locks p u g)
+    (subst (λ l. Follows (program_of sc t) (db v) lows (add_lock (page_of l k) t kind v.me.locks) t y) (sym newest)
+    (key_follows (program_of sc t) (db v) lows v.me.locks kind t k pc regs rows (txn_at v t) i runs.next step (s.mine t at)))
+
+-- an aborted transaction is no more to be followed
+aborted_serial : (sc : Scenario) (n : Node) (v : View) (start : Map) (lows : List ℕ) (t : ℕ) (why : Why) → Serially sc n v start lows → IsAt v t n
+    → Kept sc n (aborted t why v) lows → Serially sc n (aborted t why v) start lows
+unfolding aborted
+aborted_serial sc n v start lows t why s at k =
+    let w = aborted t why v in
+    let y : Txn = record (txn_at v t) { status = Aborted why; rows = [] } in
+    let far_at : (u : ℕ) (m : Node) → IsAt w u m → u ≡ t → ⊥ = λ u m a same. false≢true (subst (λ (x : Txn). is_active x.status ≡ true) (ap (txn_at w) same ∙ at_self v w t y refl at.0) a.0) in
+    record {
+      kept = k;
+      mine = λ u a. let far = far_at u n a in let now = at_other v w t u y refl far in
+          follows_same (program_of sc u) (db v) (db w) lows v.me.locks w.me.locks u (txn_at v u) (txn_at w u) refl now (λ p h. holds-drop v.me.locks p t u far ∙ h) (s.mine u (subst (λ x. Stands x n) now a));
+      theirs = λ u a. let far = far_at u (other n) a in let now = at_other v w t u y refl far in
+          follows_same (program_of sc u) (db v) (db w) lows v.them.locks v.them.locks u (txn_at v u) (txn_at w u) refl now (λ p h. h) (s.theirs u (subst (λ x. Stands x (other n)) now a));
+      is_serial = s.is_serial;
+      registers = keep_registers sc v w start t y refl refl (active_not (txn_at v t).status at.0) s.registers;
+    }
+
+-- a transaction that begins has done nothing
+fresh_follows : (program : List Instr) (d : Map) (lows : List ℕ) (locks : List Lock) (t : ℕ) (x : Txn) → x.done ≡ 0 → x.regs ≡ replicate 8 0
+    → x.pc ≡ 0 → x.rows ≡ [] → Follows program d lows locks t x
+fresh_follows program d lows locks t x a b c e = record {
+  keys = [];
+  run = ap (lone d program) a ∙ (λ i. record { regs = sym b i; pc = sym c i; rows = sym e i; keys = []; over = false });
+  covered = λ k h. absurd (false≢true h);
+}
+
+begun_follows : (sc : Scenario) (v w : View) (lows : List ℕ) (locks : List Lock) (m : Node) (t u : ℕ) (y : Txn) → w.txns ≡ slice_set v.txns t y
+    → is_active (txn_at v t).status ≡ false → db w ≡ db v
+    → y.done ≡ 0 → y.regs ≡ replicate 8 0 → y.pc ≡ 0 → y.rows ≡ []
+    → ((z : ℕ) → IsAt v z m → Follows (program_of sc z) (db v) lows locks z (txn_at v z)) → IsAt w u m
+    → Follows (program_of sc u) (db w) lows locks u (txn_at w u)
+begun_follows sc v w lows locks m t u y e new same a b c d f at =
+    elim (cases_eq u t) [
+      | inl here ↦ elim (at_either v w t y e) [
+        | inl now ↦ subst (Follows (program_of sc u) (db w) lows locks u) (sym (ap (txn_at w) here ∙ now)) (fresh_follows (program_of sc u) (db w) lows locks u y a b c d)
+        | inr old ↦ absurd (false≢true (sym new ∙ subst (λ (x : Txn). is_active x.status ≡ true) (ap (txn_at w) here ∙ old) at.0))
+      ]
+      | inr far ↦ let now = at_other v w t u y e far in
+          follows_same (program_of sc u) (db v) (db w) lows locks locks u (txn_at v u) (txn_at w u) same now (λ p h. h) (f u (subst (λ x. Stands x m) now at))
+    ]
+
+begun_serial : (sc : Scenario) (n : Node) (v : View) (start : Map) (lows : List ℕ) (t : ℕ) (h : Node) → Serially sc n v start lows
+    → is_new (txn_at v t).status ≡ true → Kept sc n (begun h t v) lows → Serially sc n (begun h t v) start lows
+unfolding begun
+begun_serial sc n v start lows t h s new k =
+    let w = begun h t v in
+    let off = not_new (txn_at v t).status new in
+    record {
+      kept = k;
+      mine = λ u a. begun_follows sc v w lows v.me.locks n t u _ refl off refl refl refl refl refl s.mine a;
+      theirs = λ u a. begun_follows sc v w lows v.them.locks (other n) t u _ refl off refl refl refl refl refl s.theirs a;
+      is_serial = s.is_serial;
+      registers = keep_registers sc v w start t _ refl refl (new_not (txn_at v t).status new) s.registers;
+    }
+
+-- what the database has at a key whose page is here
+here_value : (sc : Scenario) (n : Node) (v : View) (lows : List ℕ) (t k : ℕ) (kind : LockKind) → Kept sc n v lows → IsAt v t n → Free t k kind v
+    → get (db v) k ≡ get_row (rows_of v.me.pages (page_of v.me.lows k)) k
+here_value sc n v lows t k kind h at f =
+    let newest : v.me.lows ≡ lows = h.mine.newest (h.mine.busy t at) in
+    subst (λ l. get (db v) k ≡ get_row (rows_of v.me.pages (page_of l k)) k) (sym newest) (page_value lows v k h.placed h.inv.owned (subst (λ l. owns v.me.pages (page_of l k) ≡ true) newest f.here))
+
+read_value : (sc : Scenario) (n : Node) (v : View) (lows : List ℕ) (t k : ℕ) (kind : LockKind) → Kept sc n v lows → IsAt v t n → Free t k kind v
+    → value_at t k v ≡ unwrap_or (or_else (get_row (txn_at v t).rows k) (get (db v) k)) 0
+read_value sc n v lows t k kind h at f =
+    sym (value_same (get_row (txn_at v t).rows k) (get (db v) k) ∙ ap (λ o. unwrap_or (get_row (txn_at v t).rows k) (unwrap_or o 0)) (here_value sc n v lows t k kind h at f))
+
+there_value : (sc : Scenario) (n : Node) (v : View) (lows : List ℕ) (t k : ℕ) (kind : LockKind) → Kept sc n v lows → IsAt v t n → Free t k kind v
+    → is_some (or_else (get_row (txn_at v t).rows k) (get (db v) k)) ≡ is_there k (page_of v.me.lows k) v.me (txn_at v t)
+there_value sc n v lows t k kind h at f =
+    some_or (get_row (txn_at v t).rows k) (get (db v) k) ∙ ap (λ o. is_some (get_row (txn_at v t).rows k) || is_some o) (here_value sc n v lows t k kind h at f)
+
+-- a split moves the keys of t's page alone
+cut_follows : (program : List Instr) (d e : Map) (more : List ℕ) (locks : List Lock) (q b t u : ℕ) (x : Txn) → e ≡ d → length (0 ∷ more) ≡ q
+    → ((k : ℕ) → page_of (0 ∷ more) b ≡ page_of (0 ∷ more) k → holds locks (page_of (0 ∷ more) k) u ≡ true → u ≡ t) → Follows program d (0 ∷ more) locks u x
+    → Follows program e ((0 ∷ more) ++ b ∷ []) (add_lock q t Exclusive locks) u x
+cut_follows program d e more locks q b t u x same long one f = record {
+  keys = f.keys;
+  run = ap (λ m. lone m program x.done) same ∙ f.run;
+  covered = λ k h.
+      let old = f.covered k h in
+      elim (page_of-cut more b k) [
+        | inl stays ↦ subst (λ z. holds (add_lock q t Exclusive locks) z u ≡ true) (sym stays) (holds_more q t Exclusive locks (page_of (0 ∷ more) k) u old)
+        | inr moves ↦ subst (λ z. holds (add_lock q t Exclusive locks) z u ≡ true) (sym (moves.0 ∙ long)) (subst (λ z. holds (add_lock q t Exclusive locks) q z ≡ true) (sym (one k moves.1 old)) (holds_new q t Exclusive locks))
+      ];
+}
+
+cut_serial : (sc : Scenario) (n : Node) (v : View) (start : Map) (lows : List ℕ) (t k b : ℕ) → Serially sc n v start lows → IsAt v t n → Free t k Exclusive v → may_split v.me.mode ≡ true → page_of v.me.lows b ≡ page_of v.me.lows k
+    → Kept sc n (cut t (page_of v.me.lows k) b (has_lock t k Exclusive v)) (lows ++ b ∷ []) → Serially sc n (cut t (page_of v.me.lows k) b (has_lock t k Exclusive v)) start (lows ++ b ∷ [])
+unfolding cut locked txn_at
+cut_serial sc n v start lows t k b s at f normal on h =
+    let p = page_of v.me.lows k in
+    let v1 = has_lock t k Exclusive v in
+    let w = cut t p b v1 in
+    let locks = add_lock p t Exclusive v.me.locks in
+    let more = s.kept.first.0 in
+    let begins = s.kept.first.1 in
+    let newest : v.me.lows ≡ lows = s.kept.mine.newest (s.kept.mine.busy t at) in
+    let same : db w ≡ db v = cut_db lows v1 t p b s.kept.placed (record { once = s.kept.inv.owned.once }) f.here in
+    let l = has_lock_locking sc n v lows t k Exclusive s.kept at f in
+    let one : (u j : ℕ) → page_of lows b ≡ page_of lows j → holds locks (page_of lows j) u ≡ true → u ≡ t =
+    λ u j e g. sym (l.apart p t u (alone_new p t v.me.locks) (subst (λ z. holds locks z u ≡ true) (sym e ∙ ap (λ z. page_of z b) (sym newest) ∙ on) g)) in
+    let idle = normal_other v s.kept.inv.roles normal in
+    record {
+      kept = h;
+      mine = λ u a. subst (λ z. Follows (program_of sc u) (db w) (z ++ b ∷ []) (add_lock (length v.me.lows) t Exclusive locks) u (txn_at v u)) (sym begins)
+          (cut_follows (program_of sc u) (db v) (db w) more locks (length v.me.lows) b t u (txn_at v u) same (ap length (sym (newest ∙ begins)))
+          (subst (λ z. (j : ℕ) → page_of z b ≡ page_of z j → holds locks (page_of z j) u ≡ true → u ≡ t) begins (one u))
+          (subst (λ z. Follows (program_of sc u) (db v) z locks u (txn_at v u)) begins
+          (follows_same (program_of sc u) (db v) (db v) lows v.me.locks locks u (txn_at v u) (txn_at v u) refl refl (λ q g. holds_more p t Exclusive v.me.locks q u g) (s.mine u a))));
+      theirs = λ u a. absurd (nobody_runs sc (other n) v.them v lows u s.kept.theirs idle.0 a);
+      is_serial = same ∙ s.is_serial;
+      registers = s.registers;
+    }
+
+-- a row that changes no transaction and no lock, and no value
+stays_serial : (sc : Scenario) (n : Node) (v w : View) (start : Map) (lows : List ℕ) → Serially sc n v start lows → w.txns ≡ v.txns → w.commits ≡ v.commits
+    → w.me.locks ≡ v.me.locks → w.them ≡ v.them → db w ≡ db v → Kept sc n w lows → Serially sc n w start lows
+stays_serial sc n v w start lows s txns commits locks them same k = record {
+  kept = k;
+  mine = λ u a. let now = at_same v w u txns in
+      follows_same (program_of sc u) (db v) (db w) lows v.me.locks w.me.locks u (txn_at v u) (txn_at w u) same now (λ p h. subst (λ xs. holds xs p u ≡ true) (sym locks) h) (s.mine u (subst (λ x. Stands x n) now a));
+  theirs = λ u a. let now = at_same v w u txns in
+      follows_same (program_of sc u) (db v) (db w) lows v.them.locks w.them.locks u (txn_at v u) (txn_at w u) same now (λ p h. subst (λ (x : NodeState). holds x.locks p u ≡ true) (sym them) h) (s.theirs u (subst (λ x. Stands x (other n)) now a));
+  is_serial = same ∙ s.is_serial ∙ ap (serial sc start) (sym commits);
+  registers = subst (Registers sc (txn_at w) start) (sym commits) (registers_same sc (txn_at v) (txn_at w) start v.commits (λ u _. at_same v w u txns) s.registers);
+}
+
+asks_serial : (sc : Scenario) (n : Node) (v : View) (start : Map) (lows : List ℕ) (p : ℕ) → Serially sc n v start lows → Kept sc n (asks p v) lows → Serially sc n (asks p v) start lows
+unfolding asks
+asks_serial sc n v start lows p s k = stays_serial sc n v (asks p v) start lows s refl refl refl refl (same_db v (asks p v) refl refl refl (sent_bare v.outbox (Pull p) refl)) k
+
+leaves_serial : (sc : Scenario) (n : Node) (v : View) (start : Map) (lows : List ℕ) (p : ℕ) (ms : List Message) → Serially sc n v start lows → sent_leaves ms ≡ sent_leaves v.inbox → owns v.me.pages p ≡ true
+    → Kept sc n (leaves p (rest v ms)) lows → Serially sc n (leaves p (rest v ms)) start lows
+unfolding leaves
+leaves_serial sc n v start lows p ms s inbox own k =
+    stays_serial sc n v (leaves p (rest v ms)) start lows s refl refl refl refl (leaves_db lows v p ms s.kept.placed s.kept.inv.owned inbox own) k
+
+along : (sc : Scenario) (n : Node) (w x : View) (start : Map) (lows : List ℕ) → w ≡ x → Kept sc n w lows
+    → (Kept sc n x lows → Serially sc n x start lows) → Serially sc n w start lows
+along sc n w x start lows e k f = subst (λ z. Serially sc n z start lows) (sym e) (f (subst (λ z. Kept sc n z lows) e k))
+
+pub serial_event : (sc : Scenario) (n : Node) (v w : View) (start : Map) (lows : List ℕ) → Serially sc n v start lows → (e : Event sc n v w)
+    → Kept sc n w (lows_after sc n v w lows e) → Serially sc n w start (lows_after sc n v w lows e)
+serial_event sc n v w start lows s (Rests e) k = subst (λ x. Serially sc n x start lows) (sym e) s
+serial_event sc n v w start lows s (Begins t h a new home e) k = along sc n w _ start lows e k (begun_serial sc n v start lows t h s new)
+serial_event sc n v w start lows s (Aborts t y active here e) k = along sc n w _ start lows e k (aborted_serial sc n v start lows t y s (active, here))
+serial_event sc n v w start lows s (Sets t r x runs e) k = along sc n w _ start lows e k (goes_serial sc n v start lows t _ _ (Set r x) s runs (set_step (db v) r x (txn_at v t)))
+serial_event sc n v w start lows s (Adds t r q runs e) k = along sc n w _ start lows e k (goes_serial sc n v start lows t _ _ (Add r q) s runs (add_step (db v) r q (txn_at v t)))
+serial_event sc n v w start lows s (Jumps t r q to runs e) k = along sc n w _ start lows e k (goes_serial sc n v start lows t _ _ (Beq r q to) s runs (jump_step (db v) r q to (txn_at v t)))
+serial_event sc n v w start lows s (Gets t r q runs f e) k = along sc n w _ start lows e k
+    (key_serial sc n v start lows t (key t q v) Shared _ _ _ (Read r q) s runs (λ keys. small_read (db v) r q (txn_at v t) keys (value_at t (key t q v) v) f.small (read_value sc n v lows t (key t q v) Shared s.kept (runs.active, runs.here) f)))
+serial_event sc n v w start lows s (Writes t r q runs f there e) k = along sc n w _ start lows e k
+    (key_serial sc n v start lows t (key t r v) Exclusive _ _ _ (Write r q) s runs (λ keys. small_write (db v) r q (txn_at v t) keys f.small (there_value sc n v lows t (key t r v) Exclusive s.kept (runs.active, runs.here) f ∙ there)))
+serial_event sc n v w start lows s (Inserts t r q runs f new room e) k = along sc n w _ start lows e k
+    (key_serial sc n v start lows t (key t r v) Exclusive _ _ _ (Insert r q) s runs (λ keys. small_insert (db v) r q (txn_at v t) keys f.small (there_value sc n v lows t (key t r v) Exclusive s.kept (runs.active, runs.here) f ∙ new)))
+serial_event sc n v w start lows s (Splits t r q runs f new full normal pages e) k =
+    let on = split_on sc n v lows t r q s.kept runs full in
+    along sc n w _ start (lows ++ boundary sc (key t r v) (page t r v) v.me (txn_at v t) ∷ []) e k (cut_serial sc n v start lows t (key t r v) _ s (runs.active, runs.here) f normal on)
+serial_event sc n v w start lows s (Commits t runs all e) k = along sc n w _ start lows e k (committed_serial sc n v start lows t s runs)
+serial_event sc n v w start lows s (Asks p gone pulls asked e) k = along sc n w _ start lows e k (asks_serial sc n v start lows p s)
+serial_event sc n v w start lows s (Starts at_a normal empty e) k =
+    let x : View = post (Wire v.me.lows) (turns SInit v) in
+    along sc n w x start lows e k (stays_serial sc n v x start lows s refl refl refl refl (same_db v x refl refl refl (sent_bare v.outbox (Wire v.me.lows) refl)))
+serial_event sc n v w start lows s (GotWire sent ms f empty e) k =
+    let x : View = post Ready (turns DInit (with_me (with_lows sent v.me) (rest v ms))) in
+    along sc n w x start lows e k (stays_serial sc n v x start lows s refl refl refl refl (same_db v x refl refl (ap sent_leaves (sym f)) (sent_bare v.outbox Ready refl)))
+serial_event sc n v w start lows s (GotReady ms f init e) k =
+    let x : View = post Dual (turns SDual (rest v ms)) in
+    along sc n w x start lows e k (stays_serial sc n v x start lows s refl refl refl refl (same_db v x refl refl (ap sent_leaves (sym f)) (sent_bare v.outbox Dual refl)))
+serial_event sc n v w start lows s (GotDual ms f init e) k =
+    let x : View = turns DDual (rest v ms) in
+    along sc n w x start lows e k (stays_serial sc n v x start lows s refl refl refl refl (same_db v x refl refl (ap sent_leaves (sym f)) refl))
+serial_event sc n v w start lows s (IsStale p ms f e) k =
+    let x : View = rest v ms in
+    along sc n w x start lows e k (stays_serial sc n v x start lows s refl refl refl refl (same_db v x refl refl (ap sent_leaves (sym f)) refl))
+serial_event sc n v w start lows s (Gives p ms f sends own free e) k = along sc n w _ start lows e k (leaves_serial sc n v start lows p ms s (ap sent_leaves (sym f)) own)
+serial_event sc n v w start lows s (GotPage leaf ms f pulls e) k =
+    along sc n w _ start lows e k (stays_serial sc n v (arrived leaf (rest v ms)) start lows s refl refl refl refl (arrived_db lows v leaf ms f s.kept.placed s.kept.inv.owned))
+serial_event sc n v w start lows s (GotLast leaf ms f finish all e) k =
+    let x : View = post Done (turns Normal (arrived leaf (rest v ms))) in
+    along sc n w x start lows e k (stays_serial sc n v x start lows s refl refl refl refl (same_db (arrived leaf (rest v ms)) x refl refl refl (sent_bare v.outbox Done refl) ∙ arrived_db lows v leaf ms f s.kept.placed s.kept.inv.owned))
+serial_event sc n v w start lows s (GotFinish ms f dual e) k =
+    let x : View = turns DFinish (rest v ms) in
+    along sc n w x start lows e k (stays_serial sc n v x start lows s refl refl refl refl (same_db v x refl refl (ap sent_leaves (sym f)) refl))
+serial_event sc n v w start lows s (GotAll ms f dual all e) k =
+    let x : View = post Done (turns Normal (rest v ms)) in
+    along sc n w x start lows e k (stays_serial sc n v x start lows s refl refl refl refl (same_db v x refl refl (ap sent_leaves (sym f)) (sent_bare v.outbox Done refl)))
+serial_event sc n v w start lows s (GotDone ms f finish e) k =
+    let x : View = turns Empty (with_me (with_lows [] v.me) (rest v ms)) in
+    along sc n w x start lows e k (stays_serial sc n v x start lows s refl refl refl refl (same_db v x refl refl (ap sent_leaves (sym f)) refl))
+serial_event sc n v w start lows s (Finishes dual none e) k =
+    let x : View = post Finish (turns SFinish v) in
+    along sc n w x start lows e k (stays_serial sc n v x start lows s refl refl refl refl (same_db v x refl refl refl (sent_bare v.outbox Finish refl)))
+serial_event sc n v w start lows s (Pushes p finish own e) k = along sc n w _ start lows e k (leaves_serial sc n v start lows p v.inbox s refl own)

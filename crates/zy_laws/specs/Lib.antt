@@ -1,0 +1,4 @@
+pub mod OneOwner
+pub mod Journey
+pub mod Travel
+pub mod Counts

@@ -1,0 +1,128 @@
+//! What holds of the table over every schedule: each function is a law, and its contract is all of it.
+ghost use Rattle.std.specs.Prelude.{◌≡◌, ℕ, List, length, true, false};
+ghost use Rattle.zy_isa.specs.declared.choice.Choice.{Choice as AChoice};
+ghost use Rattle.zy_isa.specs.Scenario.{Scenario, IsScenario};
+ghost use Rattle.zy_table.specs.Play.{play, opening, step, side_of};
+ghost use Rattle.zy_modes.specs.declared.mode.NodeMode.TheVariants.{SDual};
+ghost use Rattle.zy_table.specs.State.{facing};
+ghost use Rattle.zy_laws.specs.Journey.{OneWireframe, is_gone, is_source, is_stray};
+ghost use Rattle.zy_laws.specs.Travel.{NeverBack, Travels};
+ghost use Rattle.zy_laws.specs.OneOwner.{OneOwner};
+ghost use Rattle.zy_table.specs.Holders.{ExclusiveAlone, HoldersActive};
+ghost use Rattle.zy_table.specs.Order.{InOrder};
+ghost use Rattle.zy_table.specs.Database.{ValuesAtPages, EachKeyHasPage, HasLows, RowsLie, database, newest, all_leaves};
+ghost use Rattle.zy_laws.specs.Counts.{Safe, Fits};
+ghost use Rattle.zy_table.specs.Serial.{Serializable};
+
+/// The counts that make each sum and index safe: a transaction has done at most one instruction for each choice, it has
+/// eight registers and a place in its program, and there are at most as many commits as transactions.
+pub fn safe_counts()
+    ensures { (sc : Scenario) → IsScenario sc → (choices : List AChoice)
+        → Safe sc (length choices) (play sc (opening sc) choices) }
+{}
+
+/// A transaction that runs finds room for its rows at its commit.
+pub fn room_at_commit()
+    ensures { (sc : Scenario) → IsScenario sc → (choices : List AChoice)
+        → Fits sc (play sc (opening sc) choices) }
+{}
+
+/// Pages rise by number, locks by page and then transaction, rows by key, and there are as many low keys as pages.
+pub fn lists_in_order()
+    ensures { (sc : Scenario) → IsScenario sc → (choices : List AChoice)
+        → InOrder (play sc (opening sc) choices) }
+{}
+
+/// Each page stands once: at a node or in one message.
+pub fn one_owner()
+    ensures { (sc : Scenario) (choices : List AChoice) → OneOwner (play sc (opening sc) choices) }
+{}
+
+/// No message ever comes to a node whose mode does not know it.
+pub fn never_stray()
+    ensures { (sc : Scenario) (choices : List AChoice) (choice : AChoice)
+        → is_stray (step sc choice (play sc (opening sc) choices)).outcome ≡ false }
+{}
+
+/// Of two wireframes one is the source's, which begins the destination's; they are the same until the destination is
+/// Normal. Who has a wireframe on its way is the source, and that wireframe is its own.
+pub fn one_wireframe()
+    ensures { (sc : Scenario) (choices : List AChoice) → OneWireframe (play sc (opening sc) choices) }
+{}
+
+/// A page appears at the Normal node that splits, leaves a source in a message, arrives from the other node at one whose
+/// mode takes pages (DDual or DFinish), and moves in no other way.
+pub fn pages_travel()
+    ensures { (sc : Scenario) (choices : List AChoice) (choice : AChoice) (p : ℕ)
+        → let s = play sc (opening sc) choices in Travels p (side_of choice s) s (step sc choice s).after }
+{}
+
+/// B is never in a source's mode (SInit, SDual or SFinish); so, with `pages_travel`, no page leaves it.
+pub fn b_never_sends()
+    ensures { (sc : Scenario) (choices : List AChoice) → is_source (play sc (opening sc) choices).b.mode ≡ false }
+{}
+
+/// No page goes back: one that is at B stays there, and one in a message from A is later in a message from A or at B,
+/// whatever is chosen.
+pub fn none_goes_back()
+    ensures { (sc : Scenario) (choices more : List AChoice) (p : ℕ)
+        → let s = play sc (opening sc) choices in NeverBack p s (play sc s more) }
+{}
+
+/// A transaction is told that its page has gone only at a source in the dual mode.
+pub fn gone_in_dual()
+    ensures { (sc : Scenario) → IsScenario sc → (choices : List AChoice) (choice : AChoice)
+        → let s = play sc (opening sc) choices in
+        is_gone (step sc choice s).outcome ≡ true → (facing (side_of choice s) s).me.mode ≡ SDual }
+{}
+
+/// Each page shows the low key that the wireframe has for it.
+pub fn lows_match()
+    ensures { (sc : Scenario) → IsScenario sc → (choices : List AChoice)
+        → let s = play sc (opening sc) choices in
+        HasLows (newest s) (all_leaves s) }
+{}
+
+/// Each row lies on the page that the wireframe names for its key.
+pub fn rows_match()
+    ensures { (sc : Scenario) → IsScenario sc → (choices : List AChoice)
+        → let s = play sc (opening sc) choices in RowsLie (newest s) (all_leaves s) }
+{}
+
+/// Each key has a page, wherever that page is.
+pub fn each_key_has_page()
+    ensures { (sc : Scenario) → IsScenario sc → (choices : List AChoice)
+        → EachKeyHasPage (play sc (opening sc) choices) }
+{}
+
+/// What the database has at a key stands on the page that the wireframe names for it.
+pub fn value_at_page()
+    ensures { (sc : Scenario) → IsScenario sc → (choices : List AChoice)
+        → ValuesAtPages (play sc (opening sc) choices) }
+{}
+
+/// Who holds a page's exclusive lock is the only one that holds the page.
+pub fn exclusive_alone()
+    ensures { (sc : Scenario) → IsScenario sc → (choices : List AChoice)
+        → ExclusiveAlone (play sc (opening sc) choices) }
+{}
+
+/// Who holds a lock is active, at that node.
+pub fn holders_active()
+    ensures { (sc : Scenario) → IsScenario sc → (choices : List AChoice)
+        → HoldersActive (play sc (opening sc) choices) }
+{}
+
+/// The database is that of the programs in the commit list, run one by one in its order; a transaction stands there once
+/// where it is committed, and else not at all; and each has the registers of its lone run.
+pub fn serializable()
+    ensures { (sc : Scenario) → IsScenario sc → (choices : List AChoice)
+        → Serializable sc (play sc (opening sc) choices) }
+{}
+
+/// Only commits change values: a step that commits nothing leaves the database as it was, a split among them.
+pub fn commits_alone()
+    ensures { (sc : Scenario) → IsScenario sc → (choices : List AChoice) (choice : AChoice)
+        → let s = play sc (opening sc) choices in
+        (step sc choice s).after.commits ≡ s.commits → database (step sc choice s).after ≡ database s }
+{}
