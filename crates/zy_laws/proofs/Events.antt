@@ -145,8 +145,14 @@ pub record Strange (v : View) : Type 0 where
   pub front : v.inbox ≡ message ∷ after
   pub line : mode_row message v ≡ Stray
 
+-- a split's outcome tells the number of the new page
+abbrev pub Told : {sc : Scenario} {n : Node} {v w : View} → Event sc n v w → Outcome → Type 0
+Told {v = v} (Splits t r q runs f new full normal pages e) o = (p b : ℕ) × (o ≡ outcome.Split p (length v.me.lows) b)
+Told e o = Unit {0}
+
 pub record Happens (sc : Scenario) (n : Node) (v : View) (m : Move) : Type 0 where
   pub event : Event sc n v m.after
+  pub told : Told event m.outcome
   pub lost : is_gone m.outcome ≡ true → Lost n v
   pub strange : is_stray m.outcome ≡ true → Strange v
 
@@ -154,23 +160,23 @@ never : {X : Type 0} → false ≡ true → X
 never e = absurd (false≢true e)
 
 -- a row that gives neither of these outcomes
-plain : (sc : Scenario) (n : Node) (v : View) (m : Move) → Event sc n v m.after → is_gone m.outcome ≡ false → is_stray m.outcome ≡ false → Happens sc n v m
-plain sc n v m e g s = record { event = e; lost = λ h. never (sym g ∙ h); strange = λ h. never (sym s ∙ h) }
+plain : (sc : Scenario) (n : Node) (v : View) (m : Move) (e : Event sc n v m.after) → is_gone m.outcome ≡ false → is_stray m.outcome ≡ false → Told e m.outcome → Happens sc n v m
+plain sc n v m e g s told = record { event = e; told = told; lost = λ h. never (sym g ∙ h); strange = λ h. never (sym s ∙ h) }
 
 rests : (sc : Scenario) (n : Node) (v : View) (o : Outcome) → is_gone o ≡ false → is_stray o ≡ false → Happens sc n v (quiet v o)
-rests sc n v o g s = plain sc n v (quiet v o) (Rests refl) g s
+rests sc n v o g s = plain sc n v (quiet v o) (Rests refl) g s tt
 
 -- the lines of run
 aborts : (sc : Scenario) (n : Node) (t : ℕ) (y : Why) (v : View) → is_active (txn_at v t).status ≡ true → (txn_at v t).node ≡ n
     → (is_gone (outcome.Aborted y) ≡ true → Lost n v) → Happens sc n v (abort_row t y v)
 unfolding abort_row
-aborts sc n t y v a h lost = record { event = Aborts t y a h refl; lost = lost; strange = λ e. never e }
+aborts sc n t y v a h lost = record { event = Aborts t y a h refl; told = tt; lost = lost; strange = λ e. never e }
 
 -- the same with the page's lock taken
 aborts_locked : (sc : Scenario) (n : Node) (t p : ℕ) (kind : LockKind) (y : Why) (v : View) → is_active (txn_at v t).status ≡ true
     → (txn_at v t).node ≡ n → is_gone (outcome.Aborted y) ≡ false → Happens sc n v (abort_row t y (locked t p kind v))
 unfolding abort_row
-aborts_locked sc n t p kind y v a h g = plain sc n v _ (Aborts t y a h (aborted-locked t p kind y v)) g refl
+aborts_locked sc n t p kind y v a h g = plain sc n v _ (Aborts t y a h (aborted-locked t p kind y v)) g refl tt
 
 full_happens : (sc : Scenario) (n : Node) (t : ℕ) (r q : Reg) (v : View) → Runs sc n t (Insert r q) v → Free t (key t r v) Exclusive v → is_there (key t r v) (page t r v) v.me (txn_at v t) ≡ false → has_room sc (page t r v) v.me (txn_at v t) ≡ false
     → Happens sc n v (full_row sc t (key t r v) (page t r v) (has_lock t (key t r v) Exclusive v))
@@ -180,7 +186,7 @@ full_happens sc n t r q v runs f new full =
     (λ _. aborts_locked sc n t (page t r v) Exclusive _ v runs.active runs.here refl)
     (λ normal. cond_both (nat_le sc.pages (length v.me.lows)) _ _ (Happens sc n v)
     (λ _. aborts_locked sc n t (page t r v) Exclusive _ v runs.active runs.here refl)
-    (λ more. plain sc n v _ (Splits t r q runs f new full (not-false _ normal) more refl) refl refl))
+    (λ more. plain sc n v _ (Splits t r q runs f new full (not-false _ normal) more refl) refl refl (_, _, refl)))
 
 insert_happens : (sc : Scenario) (n : Node) (t : ℕ) (r q : Reg) (v : View) → Runs sc n t (Insert r q) v → Free t (key t r v) Exclusive v
     → Happens sc n v (insert_row sc t (key t r v) (key t q v) (page t r v) (has_lock t (key t r v) Exclusive v))
@@ -189,7 +195,7 @@ insert_happens sc n t r q v runs f =
     cond_both (is_there (key t r v) (page t r v) v.me (txn_at v t)) _ _ (Happens sc n v)
     (λ _. aborts_locked sc n t (page t r v) Exclusive _ v runs.active runs.here refl)
     (λ new. cond_both (has_room sc (page t r v) v.me (txn_at v t)) _ _ (Happens sc n v)
-    (λ room. plain sc n v _ (Inserts t r q runs f new room refl) refl refl)
+    (λ room. plain sc n v _ (Inserts t r q runs f new room refl) refl refl tt)
     (λ full. full_happens sc n t r q v runs f new full))
 
 write_happens : (sc : Scenario) (n : Node) (t : ℕ) (r q : Reg) (v : View) → Runs sc n t (Write r q) v → Free t (key t r v) Exclusive v
@@ -197,13 +203,13 @@ write_happens : (sc : Scenario) (n : Node) (t : ℕ) (r q : Reg) (v : View) → 
 unfolding write_row locked txn_at
 write_happens sc n t r q v runs f =
     cond_both (is_there (key t r v) (page t r v) v.me (txn_at v t)) _ _ (Happens sc n v)
-    (λ there. plain sc n v _ (Writes t r q runs f there refl) refl refl)
+    (λ there. plain sc n v _ (Writes t r q runs f there refl) refl refl tt)
     (λ _. aborts_locked sc n t (page t r v) Exclusive _ v runs.active runs.here refl)
 
 read_happens : (sc : Scenario) (n : Node) (t : ℕ) (r q : Reg) (v : View) → Runs sc n t (Read r q) v → Free t (key t q v) Shared v
     → Happens sc n v (read_row t r (key t q v) (page t q v) (has_lock t (key t q v) Shared v))
 unfolding read_row locked txn_at
-read_happens sc n t r q v runs f = plain sc n v _ (Gets t r q runs f refl) refl refl
+read_happens sc n t r q v runs f = plain sc n v _ (Gets t r q runs f refl) refl refl tt
 
 -- a page that is not here
 absent_happens : (sc : Scenario) (n : Node) (t k : ℕ) (i : Instr) (v : View) → Runs sc n t i v → owns v.me.pages (page_of v.me.lows k) ≡ false
@@ -214,7 +220,7 @@ absent_happens sc n t k i v r gone =
     (λ s. aborts sc n t _ v r.active r.here (λ _. record { txn = t; key = k; active = r.active; here = r.here; begun = r.begun; gone = gone; cause = inl (not-true _ s) }))
     (λ s. cond_both (has v.me.asked (page_of v.me.lows k)) _ _ (Happens sc n v)
     (λ _. rests sc n v _ refl refl)
-    (λ h. plain sc n v _ (Asks (page_of v.me.lows k) gone (not-false _ s) h refl) refl refl))
+    (λ h. plain sc n v _ (Asks (page_of v.me.lows k) gone (not-false _ s) h refl) refl refl tt))
 
 -- a key instruction, where it has the lock, is one of these
 key_happens : (sc : Scenario) (n : Node) (t k : ℕ) (i : Instr) (x : Access) (v : View) → Runs sc n t i v
@@ -248,15 +254,15 @@ commit_happens sc n t (Some p) v e r =
     aborts sc n t (why.Gone p) v r.active r.here (λ _.
     let l = gone_key v.me (txn_at v t).rows (txn_at v t).rows (λ k h. h) p (sym e) in
     record { txn = t; key = l.0; active = r.active; here = r.here; begun = r.begun; gone = l.2; cause = inr l.1 })
-commit_happens sc n t None v e r = plain sc n v _ (Commits t r (sym e) refl) refl refl
+commit_happens sc n t None v e r = plain sc n v _ (Commits t r (sym e) refl) refl refl tt
 
 instr_happens : (sc : Scenario) (n : Node) (t : ℕ) (o : Option Instr) (v : View) → ((i : Instr) → o ≡ Some i → Runs sc n t i v)
     → Happens sc n v (instr_row sc t o (txn_at v t).regs v)
 unfolding instr_row set_row jump_row commit_row access_row
 instr_happens sc n t None v r = rests sc n v _ refl refl
-instr_happens sc n t (Some (Set a x)) v r = plain sc n v _ (Sets t a x (r _ refl) refl) refl refl
-instr_happens sc n t (Some (Add a q)) v r = plain sc n v _ (Adds t a q (r _ refl) refl) refl refl
-instr_happens sc n t (Some (Beq a q to)) v r = plain sc n v _ (Jumps t a q to (r _ refl) refl) refl refl
+instr_happens sc n t (Some (Set a x)) v r = plain sc n v _ (Sets t a x (r _ refl) refl) refl refl tt
+instr_happens sc n t (Some (Add a q)) v r = plain sc n v _ (Adds t a q (r _ refl) refl) refl refl tt
+instr_happens sc n t (Some (Beq a q to)) v r = plain sc n v _ (Jumps t a q to (r _ refl) refl) refl refl tt
 instr_happens sc n t (Some Abort) v r = let runs = r _ refl in aborts sc n t _ v runs.active runs.here (λ e. never e)
 instr_happens sc n t (Some Commit) v r = commit_happens sc n t _ v refl (r _ refl)
 instr_happens sc n t (Some (Read a q)) v r = key_happens sc n t (key t q v) (Read a q) (Reads a) v (r _ refl) (read_happens sc n t a q v (r _ refl))
@@ -285,14 +291,14 @@ start_happens : (sc : Scenario) (v : View) → Happens sc A v (start_row v)
 unfolding start_row
 start_happens sc v =
     cond_both (is_some (on_start v.me.mode v.them.mode)) _ _ (Happens sc A v)
-    (λ h. let modes = starts_from v.me.mode v.them.mode h in plain sc A v _ (Starts refl modes.0 modes.1 refl) refl refl)
+    (λ h. let modes = starts_from v.me.mode v.them.mode h in plain sc A v _ (Starts refl modes.0 modes.1 refl) refl refl tt)
     (λ _. rests sc A v _ refl refl)
 
 begin_at_happens : (sc : Scenario) (t : ℕ) (o : Option Node) (v : View) → o ≡ home_of v.me.mode v.them.mode → is_new (txn_at v t).status ≡ true
     → Happens sc A v (begin_at o t v)
 unfolding begin_at
 begin_at_happens sc t None v e s = rests sc A v _ refl refl
-begin_at_happens sc t (Some h) v e s = plain sc A v _ (Begins t h refl s (sym e) refl) refl refl
+begin_at_happens sc t (Some h) v e s = plain sc A v _ (Begins t h refl s (sym e) refl) refl refl tt
 
 begin_happens : (sc : Scenario) (t : ℕ) (v : View) → Happens sc A v (begin_row t v)
 unfolding begin_row
@@ -305,7 +311,7 @@ kill_happens : (sc : Scenario) (n : Node) (t : ℕ) (v : View) → (txn_at v t).
 unfolding kill_row
 kill_happens sc n t v h =
     cond_both (is_active (txn_at v t).status) _ _ (Happens sc n v)
-    (λ a. plain sc n v _ (Aborts t why.Killed a h refl) refl refl)
+    (λ a. plain sc n v _ (Aborts t why.Killed a h refl) refl refl tt)
     (λ _. rests sc n v _ refl refl)
 
 -- the lines of take, where the mode table has one
@@ -313,7 +319,7 @@ strays : (sc : Scenario) (n : Node) (m : Message) (ms : List Message) (v : View)
 unfolding got_row
 strays sc n m ms v f e =
     subst (λ line. Happens sc n v (got_row line m v (rest v ms))) (sym e)
-    (record { event = Rests refl; lost = λ h. never h; strange = λ _. record { message = m; after = ms; front = f; line = e } })
+    (record { event = Rests refl; told = tt; lost = λ h. never h; strange = λ _. record { message = m; after = ms; front = f; line = e } })
 
 wire_happens : (sc : Scenario) (n : Node) (lows : List ℕ) (ms : List Message) (v : View) → v.inbox ≡ Wire lows ∷ ms
     → Happens sc n v (got_row (mode_row (Wire lows) v) (Wire lows) v (rest v ms))
@@ -321,7 +327,7 @@ unfolding got_row
 wire_happens sc n lows ms v f =
     elim (wire_line v.me.mode (all_here (with_brought (Wire lows) v.me))) [
       | inl e ↦ strays sc n (Wire lows) ms v f e
-      | inr h ↦ subst (λ line. Happens sc n v (got_row line (Wire lows) v (rest v ms))) (sym h.1) (plain sc n v _ (GotWire lows ms f h.0 refl) refl refl)
+      | inr h ↦ subst (λ line. Happens sc n v (got_row line (Wire lows) v (rest v ms))) (sym h.1) (plain sc n v _ (GotWire lows ms f h.0 refl) refl refl tt)
     ]
 
 ready_happens : (sc : Scenario) (n : Node) (ms : List Message) (v : View) → v.inbox ≡ Ready ∷ ms → Happens sc n v (got_row (mode_row Ready v) Ready v (rest v ms))
@@ -329,7 +335,7 @@ unfolding got_row
 ready_happens sc n ms v f =
     elim (ready_line v.me.mode (all_here (with_brought Ready v.me))) [
       | inl e ↦ strays sc n Ready ms v f e
-      | inr h ↦ subst (λ line. Happens sc n v (got_row line Ready v (rest v ms))) (sym h.1) (plain sc n v _ (GotReady ms f h.0 refl) refl refl)
+      | inr h ↦ subst (λ line. Happens sc n v (got_row line Ready v (rest v ms))) (sym h.1) (plain sc n v _ (GotReady ms f h.0 refl) refl refl tt)
     ]
 
 dual_happens : (sc : Scenario) (n : Node) (ms : List Message) (v : View) → v.inbox ≡ Dual ∷ ms → Happens sc n v (got_row (mode_row Dual v) Dual v (rest v ms))
@@ -337,7 +343,7 @@ unfolding got_row
 dual_happens sc n ms v f =
     elim (dual_line v.me.mode (all_here (with_brought Dual v.me))) [
       | inl e ↦ strays sc n Dual ms v f e
-      | inr h ↦ subst (λ line. Happens sc n v (got_row line Dual v (rest v ms))) (sym h.1) (plain sc n v _ (GotDual ms f h.0 refl) refl refl)
+      | inr h ↦ subst (λ line. Happens sc n v (got_row line Dual v (rest v ms))) (sym h.1) (plain sc n v _ (GotDual ms f h.0 refl) refl refl tt)
     ]
 
 page_happens : (sc : Scenario) (n : Node) (leaf : Leaf) (ms : List Message) (v : View) → v.inbox ≡ Page leaf ∷ ms
@@ -347,8 +353,8 @@ page_happens sc n leaf ms v f =
     elim (page_line v.me.mode (all_here (with_brought (Page leaf) v.me))) [
       | inl e ↦ strays sc n (Page leaf) ms v f e
       | inr h ↦ elim h [
-        | inl more ↦ subst (λ line. Happens sc n v (got_row line (Page leaf) v (rest v ms))) (sym more.1) (plain sc n v _ (GotPage leaf ms f more.0 refl) refl refl)
-        | inr last ↦ subst (λ line. Happens sc n v (got_row line (Page leaf) v (rest v ms))) (sym last.2) (plain sc n v _ (GotLast leaf ms f last.0 last.1 refl) refl refl)
+        | inl more ↦ subst (λ line. Happens sc n v (got_row line (Page leaf) v (rest v ms))) (sym more.1) (plain sc n v _ (GotPage leaf ms f more.0 refl) refl refl tt)
+        | inr last ↦ subst (λ line. Happens sc n v (got_row line (Page leaf) v (rest v ms))) (sym last.2) (plain sc n v _ (GotLast leaf ms f last.0 last.1 refl) refl refl tt)
       ]
     ]
 
@@ -358,8 +364,8 @@ finish_taken sc n ms v f =
     elim (finish_line v.me.mode (all_here (with_brought Finish v.me))) [
       | inl e ↦ strays sc n Finish ms v f e
       | inr h ↦ elim h.1 [
-        | inl some ↦ subst (λ line. Happens sc n v (got_row line Finish v (rest v ms))) (sym some.1) (plain sc n v _ (GotFinish ms f h.0 refl) refl refl)
-        | inr all ↦ subst (λ line. Happens sc n v (got_row line Finish v (rest v ms))) (sym all.1) (plain sc n v _ (GotAll ms f h.0 all.0 refl) refl refl)
+        | inl some ↦ subst (λ line. Happens sc n v (got_row line Finish v (rest v ms))) (sym some.1) (plain sc n v _ (GotFinish ms f h.0 refl) refl refl tt)
+        | inr all ↦ subst (λ line. Happens sc n v (got_row line Finish v (rest v ms))) (sym all.1) (plain sc n v _ (GotAll ms f h.0 all.0 refl) refl refl tt)
       ]
     ]
 
@@ -368,7 +374,7 @@ unfolding got_row
 done_happens sc n ms v f =
     elim (done_line v.me.mode (all_here (with_brought Done v.me))) [
       | inl e ↦ strays sc n Done ms v f e
-      | inr h ↦ subst (λ line. Happens sc n v (got_row line Done v (rest v ms))) (sym h.1) (plain sc n v _ (GotDone ms f h.0 refl) refl refl)
+      | inr h ↦ subst (λ line. Happens sc n v (got_row line Done v (rest v ms))) (sym h.1) (plain sc n v _ (GotDone ms f h.0 refl) refl refl tt)
     ]
 
 pull_turns : (sc : Scenario) (n : Node) (p : ℕ) (ms : List Message) (v : View) (to : NodeMode) → v.inbox ≡ Pull p ∷ ms → is_sending v.me.mode ≡ true
@@ -376,10 +382,10 @@ pull_turns : (sc : Scenario) (n : Node) (p : ℕ) (ms : List Message) (v : View)
 unfolding pull_row
 pull_turns sc n p ms v to f sends =
     cond_both (not (owns v.me.pages p)) _ _ (Happens sc n v)
-    (λ _. plain sc n v _ (IsStale p ms f refl) refl refl)
+    (λ _. plain sc n v _ (IsStale p ms f refl) refl refl tt)
     (λ own. cond_both (is_held sc.rule && is_locked v.me.locks p) _ _ (Happens sc n v)
     (λ _. rests sc n v _ refl refl)
-    (λ free. plain sc n v _ (Gives p ms f sends (not-false _ own) free refl) refl refl))
+    (λ free. plain sc n v _ (Gives p ms f sends (not-false _ own) free refl) refl refl tt))
 
 pull_happens : (sc : Scenario) (n : Node) (p : ℕ) (ms : List Message) (v : View) → v.inbox ≡ Pull p ∷ ms
     → Happens sc n v (pull_row sc p (mode_row (Pull p) v) v (rest v ms))
@@ -387,7 +393,7 @@ unfolding pull_row
 pull_happens sc n p ms v f =
     elim (pull_line v.me.mode (all_here (with_brought (Pull p) v.me))) [
       | inl e ↦ subst (λ line. Happens sc n v (pull_row sc p line v (rest v ms))) (sym e)
-          (record { event = Rests refl; lost = λ h. never h; strange = λ _. record { message = Pull p; after = ms; front = f; line = e } })
+          (record { event = Rests refl; told = tt; lost = λ h. never h; strange = λ _. record { message = Pull p; after = ms; front = f; line = e } })
       | inr h ↦ subst (λ line. Happens sc n v (pull_row sc p line v (rest v ms))) (sym h.1.1) (pull_turns sc n p ms v h.1.0 f h.0)
     ]
 
@@ -414,7 +420,7 @@ take_happens sc n v = front_happens sc n v.inbox v refl
 finish_by : (sc : Scenario) (n : Node) (mode : NodeMode) (o : Option ℕ) (t : ℕ) (v : View) → v.me.mode ≡ mode → active_from n 0 v.txns ≡ o
     → Happens sc n v (finish_if (on_finish mode (is_some o)) t v)
 unfolding finish_if
-finish_by sc n SDual None t v m e = plain sc n v _ (Finishes m e refl) refl refl
+finish_by sc n SDual None t v m e = plain sc n v _ (Finishes m e refl) refl refl tt
 finish_by sc n SDual (Some u) t v m e = rests sc n v _ refl refl
 finish_by sc n Empty o t v m e = rests sc n v _ refl refl
 finish_by sc n Normal o t v m e = rests sc n v _ refl refl
@@ -431,7 +437,7 @@ finish_happens sc n v = finish_by sc n v.me.mode (active_from n 0 v.txns) _ v re
 push_by : (sc : Scenario) (n : Node) (o : Option ℕ) (v : View) → o ≡ least (numbers v.me.pages) → v.me.mode ≡ SFinish → Happens sc n v (push_if o v)
 unfolding push_if
 push_by sc n None v e m = rests sc n v _ refl refl
-push_by sc n (Some p) v e m = plain sc n v _ (Pushes p m (least-owns v.me.pages p (sym e)) refl) refl refl
+push_by sc n (Some p) v e m = plain sc n v _ (Pushes p m (least-owns v.me.pages p (sym e)) refl) refl refl tt
 
 push_happens : (sc : Scenario) (n : Node) (v : View) → Happens sc n v (push_row v)
 unfolding push_row

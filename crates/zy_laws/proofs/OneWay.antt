@@ -9,7 +9,7 @@ use Rattle.zy_table.specs.Change.{aborted, asks, begun, committed, cut, did, lea
 use Rattle.zy_laws.specs.Journey.{is_source}
 use Rattle.zy_laws.specs.Travel.{Travels, Stays, Appears, Leaves, Arrives, NeverBack, is_passed}
 use Rattle.zy_table.specs.Play.{move, opening, play, side_of, step}
-use Rattle.zy_table.specs.State.{State, View, facing, seen_from}
+use Rattle.zy_table.specs.State.{Step, State, View, facing, seen_from}
 use Rattle.zy_laws.proofs.Events.{Aborts, Adds, Asks, Begins, Commits, Event, Finishes, Gets, Gives, GotAll, GotDone, GotDual, GotFinish, GotLast, GotPage, GotReady, GotWire, Inserts, IsStale, Jumps, Pushes, Rests, Sets, Splits, Starts, Writes, step_happens}
 use Rattle.zy_laws.proofs.OneOwner.{play_inv, step_inv}
 use Rattle.zy_laws.proofs.PlayPush.{play-keeps}
@@ -72,21 +72,21 @@ pub b_never_sends : (sc : Scenario) (cs : List Choice) → is_source (play sc (o
 b_never_sends sc cs = play-keeps sc (λ s. is_source s.b.mode ≡ false) (step_b sc) cs (opening sc) (opening_b sc)
 
 -- one row beside a B that is no source
-goes_on : (p : ℕ) (n : Node) (s after : State) → is_source s.b.mode ≡ false → Travels p n s after → NeverBack p s after
-goes_on p n s after off (Stays same) = record { passed = λ h. ap is_passed same ∙ h; there = λ h. same ∙ h }
-goes_on p n s after off (Appears splits none here) =
+goes_on : (p : ℕ) (n : Node) (s : State) (m : Step) → is_source s.b.mode ≡ false → Travels p n s m → NeverBack p s m.after
+goes_on p n s m off (Stays same) = record { passed = λ h. ap is_passed same ∙ h; there = λ h. same ∙ h }
+goes_on p n s m off (Appears q b told splits none here) =
     record { passed = λ h. absurd (false≢true (sym (ap is_passed none) ∙ h)); there = λ h. absurd cc }
-goes_on p A s after off (Leaves source here gone) = record { passed = λ _. ap is_passed gone; there = λ h. absurd cc }
-goes_on p B s after off (Leaves source here gone) = absurd (false≢true (sym off ∙ source))
-goes_on p A s after off (Arrives pulls coming here) =
+goes_on p A s m off (Leaves source here gone) = record { passed = λ _. ap is_passed gone; there = λ h. absurd cc }
+goes_on p B s m off (Leaves source here gone) = absurd (false≢true (sym off ∙ source))
+goes_on p A s m off (Arrives pulls coming here) =
     record { passed = λ h. absurd (false≢true (sym (ap is_passed coming) ∙ h)); there = λ h. absurd cc }
-goes_on p B s after off (Arrives pulls coming here) = record { passed = λ _. ap is_passed here; there = λ _. here }
+goes_on p B s m off (Arrives pulls coming here) = record { passed = λ _. ap is_passed here; there = λ _. here }
 
 never_back : (sc : Scenario) (cs : List Choice) (s : State) (p : ℕ) → Inv (facing A s) → is_source s.b.mode ≡ false → NeverBack p s (play sc s cs)
 never_back sc [] s p i off = record { passed = λ h. h; there = λ h. h }
 never_back sc (c ∷ cs) s p i off =
     let next = step_inv sc c s i in
-    let one = goes_on p (side_of c s) s (step sc c s).after off (step_travels sc c s p i next) in
+    let one = goes_on p (side_of c s) s (step sc c s) off (step_travels sc c s p i next) in
     let more = never_back sc cs (step sc c s).after p next (step_b sc c s off) in
     record { passed = λ h. more.passed (one.passed h); there = λ h. more.there (one.there h) }
 

@@ -11,6 +11,8 @@ use Rattle.zy_isa.specs.declared.node.Node.TheVariants.{A, B}
 use Rattle.zy_links.specs.Messages.{Wire, Ready, Dual, Pull, Page, Finish, Done}
 use Rattle.zy_locks.specs.declared.lock.LockKind.TheVariants.{Exclusive}
 use Rattle.zy_modes.specs.Table.{may_pull, may_split}
+use Rattle.zy_table.specs.declared.outcome.Outcome.{Outcome}
+use Rattle.zy_table.specs.declared.outcome.Outcome.TheVariants.{Split}
 use Rattle.zy_table.specs.declared.place.Place.{Place}
 use Rattle.zy_table.specs.declared.place.Place.TheVariants.{Nowhere, At, Moving}
 use Rattle.zy_table.specs.Change.{aborted, asks, begun, committed, cut, did, leaves, locked, txn_at}
@@ -21,13 +23,14 @@ use Rattle.zy_table.specs.Places.{place_of}
 use Rattle.zy_laws.specs.Travel.{Travels, Stays, Appears, Leaves, Arrives}
 use Rattle.zy_table.specs.Play.{move, opening, play, side_of, step}
 use Rattle.zy_table.specs.Run.{boundary}
-use Rattle.zy_table.specs.State.{Leaf, Message, State, View, facing, other, seen_from}
+use Rattle.zy_table.specs.State.{Leaf, Message, Move, State, View, as_step, facing, other, seen_from}
 use Rattle.zy_table.proofs.PageLists.{owns-lowered, owns-with_page}
-use Rattle.zy_laws.proofs.Events.{Aborts, Adds, Asks, Begins, Commits, Event, Finishes, Gets, Gives, GotAll, GotDone, GotDual, GotFinish, GotLast, GotPage, GotReady, GotWire, Inserts, IsStale, Jumps, Pushes, Rests, Sets, Splits, Starts, Writes, has_lock, key, page, rest, step_happens}
+use Rattle.zy_laws.proofs.Events.{Told, Aborts, Adds, Asks, Begins, Commits, Event, Finishes, Gets, Gives, GotAll, GotDone, GotDual, GotFinish, GotLast, GotPage, GotReady, GotWire, Inserts, IsStale, Jumps, Pushes, Rests, Sets, Splits, Starts, Writes, has_lock, key, page, rest, step_happens}
 use Rattle.zy_laws.proofs.Installing.{owns-installed}
 use Rattle.zy_laws.proofs.MovingPages.{leaf_at-number, owns-sent_post, owns-without, owns-without_other, sent_bare}
 use Rattle.zy_laws.proofs.OneOwner.{inv_from, locks_inv, play_inv, pulled_inv, sends_source, step_inv}
 use Rattle.zy_laws.proofs.PageCounts.{owns-times, owns_none, times-sent_leaves, times_sent}
+use Rattle.zy_laws.proofs.ModeLines.{splits_in_normal}
 use Rattle.zy_laws.proofs.Roles.{Inv, Owned, normal_other}
 
 -- the place of a page as n sees it
@@ -40,20 +43,20 @@ place_in p n v =
     else Nowhere
 
 -- what a row does to it
-data Goes (p : ℕ) (n : Node) (v w : View) : Type 0 where
-  Same : place_in p n w ≡ place_in p n v → Goes p n v w
-  New : may_split v.me.mode ≡ true → place_in p n v ≡ Nowhere → place_in p n w ≡ At n → Goes p n v w
-  Out : is_source v.me.mode ≡ true → place_in p n v ≡ At n → place_in p n w ≡ Moving n → Goes p n v w
-  In : may_pull v.me.mode ≡ true → place_in p n v ≡ Moving (other n) → place_in p n w ≡ At n → Goes p n v w
+data Goes (p : ℕ) (n : Node) (o : Outcome) (v w : View) : Type 0 where
+  Same : place_in p n w ≡ place_in p n v → Goes p n o v w
+  New : (q b : ℕ) → o ≡ Split q p b → may_split v.me.mode ≡ true → place_in p n v ≡ Nowhere → place_in p n w ≡ At n → Goes p n o v w
+  Out : is_source v.me.mode ≡ true → place_in p n v ≡ At n → place_in p n w ≡ Moving n → Goes p n o v w
+  In : may_pull v.me.mode ≡ true → place_in p n v ≡ Moving (other n) → place_in p n w ≡ At n → Goes p n o v w
 
 same_place : (p : ℕ) (n : Node) (v w : View) → owns w.me.pages p ≡ owns v.me.pages p → w.them ≡ v.them → owns (sent_leaves w.outbox) p ≡ owns (sent_leaves v.outbox) p
     → owns (sent_leaves w.inbox) p ≡ owns (sent_leaves v.inbox) p → place_in p n w ≡ place_in p n v
 same_place p n v w a b c d = λ i. if a i then At n else if owns (b i).pages p then At (other n) else if c i then Moving n else if d i then Moving (other n) else Nowhere
 
 -- messages came and went, and no page did
-stays : (p : ℕ) (n : Node) (v w : View) → owns w.me.pages p ≡ owns v.me.pages p → w.them ≡ v.them
-    → sent_leaves w.outbox ≡ sent_leaves v.outbox → sent_leaves w.inbox ≡ sent_leaves v.inbox → Goes p n v w
-stays p n v w me them outbox inbox = Same (same_place p n v w me them (ap (λ xs. owns xs p) outbox) (ap (λ xs. owns xs p) inbox))
+stays : (p : ℕ) (n : Node) (o : Outcome) (v w : View) → owns w.me.pages p ≡ owns v.me.pages p → w.them ≡ v.them
+    → sent_leaves w.outbox ≡ sent_leaves v.outbox → sent_leaves w.inbox ≡ sent_leaves v.inbox → Goes p n o v w
+stays p n o v w me them outbox inbox = Same (same_place p n v w me them (ap (λ xs. owns xs p) outbox) (ap (λ xs. owns xs p) inbox))
 
 at_me : (p : ℕ) (n : Node) (v : View) → owns v.me.pages p ≡ true → place_in p n v ≡ At n
 at_me p n v a = rw a refl
@@ -70,32 +73,32 @@ in_none : (p : ℕ) (n : Node) (v : View) → owns v.me.pages p ≡ false → ow
 in_none p n v a b c d = rw (a, b, c, d) refl
 
 -- a page leaves
-leaves_goes : (p : ℕ) (n : Node) (v : View) (q : ℕ) → Owned v → is_source v.me.mode ≡ true → owns v.me.pages q ≡ true → Goes p n v (leaves q v)
+leaves_goes : (p : ℕ) (n : Node) (o : Outcome) (v : View) (q : ℕ) → Owned v → is_source v.me.mode ≡ true → owns v.me.pages q ≡ true → Goes p n o v (leaves q v)
 unfolding leaves
-leaves_goes p n v q o source own =
+leaves_goes p n o v q owned source own =
     let leaf = leaf_at v.me.pages q in
     let number = leaf_at-number v.me.pages q in
     elim (cases_eq p q) [
       | inl here ↦
-          let k = o.once q in
+          let k = owned.once q in
           let one = owns-times q v.me.pages own in
           let them = owns_none q v.them.pages (grind (arith, nat_tests, k, one)) in
           let posted = owns-sent_post q v.outbox leaf ∙ or_right (owns (sent_leaves v.outbox) q) _ (eq-eqb _ _ number) in
-          subst (λ z. Goes z n v (leaves q v)) (sym here) (Out source (at_me q n v own) (in_out q n (leaves q v) (owns-without q v.me.pages) them posted))
+          subst (λ z. Goes z n o v (leaves q v)) (sym here) (Out source (at_me q n v own) (in_out q n (leaves q v) (owns-without q v.me.pages) them posted))
       | inr far ↦
           let posted = owns-sent_post p v.outbox leaf ∙ ap (λ b. owns (sent_leaves v.outbox) p || b) (ne_eqb _ _ (λ h. far (sym h ∙ number))) ∙ or-false (owns (sent_leaves v.outbox) p) in
           Same (same_place p n v (leaves q v) (owns-without_other q p v.me.pages far) refl posted refl)
     ]
 
 -- a page comes
-arrives_goes : (p : ℕ) (n : Node) (v w : View) (leaf : Leaf) (ms : List Message) → Owned v → may_pull v.me.mode ≡ true → v.inbox ≡ Page leaf ∷ ms → w.me.pages ≡ with_page leaf v.me.pages → w.them ≡ v.them
-    → sent_leaves w.outbox ≡ sent_leaves v.outbox → w.inbox ≡ ms → Goes p n v w
-arrives_goes p n v w leaf ms o pulls f me them outbox inbox =
+arrives_goes : (p : ℕ) (n : Node) (o : Outcome) (v w : View) (leaf : Leaf) (ms : List Message) → Owned v → may_pull v.me.mode ≡ true → v.inbox ≡ Page leaf ∷ ms → w.me.pages ≡ with_page leaf v.me.pages → w.them ≡ v.them
+    → sent_leaves w.outbox ≡ sent_leaves v.outbox → w.inbox ≡ ms → Goes p n o v w
+arrives_goes p n o v w leaf ms once pulls f me them outbox inbox =
     let owned : owns w.me.pages p ≡ ((leaf.number == p) || owns v.me.pages p) = ap (λ xs. owns xs p) me ∙ owns-with_page p leaf v.me.pages in
     let sent : owns (sent_leaves v.inbox) p ≡ ((leaf.number == p) || owns (sent_leaves ms) p) = ap (λ xs. owns (sent_leaves xs) p) f in
     elim (cases_eq leaf.number p) [
       | inl here ↦
-          let k = o.once p in
+          let k = once.once p in
           let s : times_sent p v.inbox ≡ (if leaf.number == p then 1 else 0) + times_sent p ms = ap (times_sent p) f in
           let z = times-sent_leaves p v.outbox in
           let a = owns_none p v.me.pages (grind (arith, nat_tests, k, s, here)) in
@@ -110,9 +113,9 @@ arrives_goes p n v w leaf ms o pulls f me them outbox inbox =
     ]
 
 -- a page is split off
-cut_goes : (p : ℕ) (n : Node) (v : View) (t q b : ℕ) → Inv v → may_split v.me.mode ≡ true → Goes p n v (cut t q b v)
+cut_goes : (p : ℕ) (n : Node) (o : Outcome) (v : View) (t q b : ℕ) → Inv v → may_split v.me.mode ≡ true → (x y : ℕ) × (o ≡ Split x (length v.me.lows) y) → Goes p n o v (cut t q b v)
 unfolding cut
-cut_goes p n v t q b i normal =
+cut_goes p n o v t q b i normal told =
     let owned : owns (cut t q b v).me.pages p ≡ ((length v.me.lows == p) || owns v.me.pages p) =
     owns-with_page p _ (lowered q b v.me.pages) ∙ ap (λ c. (length v.me.lows == p) || c) (owns-lowered q b v.me.pages p) in
     elim (cases_eq (length v.me.lows) p) [
@@ -121,53 +124,53 @@ cut_goes p n v t q b i normal =
           let wide = (normal_other v i.roles normal).1 in
           let x = times-sent_leaves p v.outbox in
           let y = times-sent_leaves p v.inbox in
-          New normal
+          New told.0 told.1 (told.2 ∙ ap (λ z. Split told.0 z told.1) here) normal
           (in_none p n v (owns_none p v.me.pages (grind (arith, nat_tests, k, wide, here))) (owns_none p v.them.pages (grind (arith, nat_tests, k, wide, here)))
           (owns_none p (sent_leaves v.outbox) (grind (arith, nat_tests, k, wide, here, x))) (owns_none p (sent_leaves v.inbox) (grind (arith, nat_tests, k, wide, here, y))))
           (at_me p n (cut t q b v) (owned ∙ or_left _ _ (eq-eqb _ _ here)))
-      | inr far ↦ stays p n v (cut t q b v) (owned ∙ ap (λ c. c || owns v.me.pages p) (ne_eqb _ _ far)) refl refl refl
+      | inr far ↦ stays p n o v (cut t q b v) (owned ∙ ap (λ c. c || owns v.me.pages p) (ne_eqb _ _ far)) refl refl refl
     ]
 
 -- what a row does from a view that differs in nothing that counts here
-from_same : (p : ℕ) (n : Node) (v x w : View) → place_in p n v ≡ place_in p n x → x.me.mode ≡ v.me.mode → Goes p n x w → Goes p n v w
-from_same p n v x w same mode (Same h) = Same (h ∙ sym same)
-from_same p n v x w same mode (New a b c) = New (ap may_split (sym mode) ∙ a) (same ∙ b) c
-from_same p n v x w same mode (Out a b c) = Out (ap is_source (sym mode) ∙ a) (same ∙ b) c
-from_same p n v x w same mode (In a b c) = In (ap may_pull (sym mode) ∙ a) (same ∙ b) c
+from_same : (p : ℕ) (n : Node) (o : Outcome) (v x w : View) → place_in p n v ≡ place_in p n x → x.me.mode ≡ v.me.mode → Goes p n o x w → Goes p n o v w
+from_same p n o v x w same mode (Same h) = Same (h ∙ sym same)
+from_same p n o v x w same mode (New q y told a b c) = New q y told (ap may_split (sym mode) ∙ a) (same ∙ b) c
+from_same p n o v x w same mode (Out a b c) = Out (ap is_source (sym mode) ∙ a) (same ∙ b) c
+from_same p n o v x w same mode (In a b c) = In (ap may_pull (sym mode) ∙ a) (same ∙ b) c
 
-goes_event : (sc : Scenario) (n : Node) (v w : View) (p : ℕ) → Inv v → Event sc n v w → Goes p n v w
+goes_event : (sc : Scenario) (n : Node) (o : Outcome) (v w : View) (p : ℕ) → Inv v → (e : Event sc n v w) → Told e o → Goes p n o v w
 unfolding did locked txn_at aborted begun committed asks
-goes_event sc n v w p i (Rests e) = rw e (Same refl)
-goes_event sc n v w p i (Begins t h a new home e) = rw e (Same refl)
-goes_event sc n v w p i (Aborts t y active here e) = rw e (Same refl)
-goes_event sc n v w p i (Sets t r x runs e) = rw e (Same refl)
-goes_event sc n v w p i (Adds t r q runs e) = rw e (Same refl)
-goes_event sc n v w p i (Jumps t r q to runs e) = rw e (Same refl)
-goes_event sc n v w p i (Gets t r q runs f e) = rw e (Same refl)
-goes_event sc n v w p i (Writes t r q runs f there e) = rw e (Same refl)
-goes_event sc n v w p i (Inserts t r q runs f new room e) = rw e (Same refl)
-goes_event sc n v w p i (Splits t r q runs f new full normal pages e) =
+goes_event sc n o v w p i (Rests e) told = rw e (Same refl)
+goes_event sc n o v w p i (Begins t h a new home e) told = rw e (Same refl)
+goes_event sc n o v w p i (Aborts t y active here e) told = rw e (Same refl)
+goes_event sc n o v w p i (Sets t r x runs e) told = rw e (Same refl)
+goes_event sc n o v w p i (Adds t r q runs e) told = rw e (Same refl)
+goes_event sc n o v w p i (Jumps t r q to runs e) told = rw e (Same refl)
+goes_event sc n o v w p i (Gets t r q runs f e) told = rw e (Same refl)
+goes_event sc n o v w p i (Writes t r q runs f there e) told = rw e (Same refl)
+goes_event sc n o v w p i (Inserts t r q runs f new room e) told = rw e (Same refl)
+goes_event sc n o v w p i (Splits t r q runs f new full normal pages e) told =
     let x = has_lock t (key t r v) Exclusive v in
     let locked = locks_inv v x (refl, refl, refl) refl refl refl i in
-    rw e (from_same p n v x _ refl refl (cut_goes p n x t (page t r v) (boundary sc (key t r v) (page t r v) v.me (txn_at v t)) locked normal))
-goes_event sc n v w p i (Commits t runs all e) = rw e (stays p n v _ (owns-installed v.me.lows (txn_at v t).rows v.me.pages p) refl refl refl)
-goes_event sc n v w p i (Asks q gone pulls new e) = rw e (stays p n v _ refl refl (sent_bare v.outbox (Pull q) refl) refl)
-goes_event sc n v w p i (Starts at_a normal empty e) = rw e (stays p n v _ refl refl (sent_bare v.outbox (Wire v.me.lows) refl) refl)
-goes_event sc n v w p i (GotWire lows ms f empty e) = rw e (stays p n v _ refl refl (sent_bare v.outbox Ready refl) (ap sent_leaves (sym f)))
-goes_event sc n v w p i (GotReady ms f init e) = rw e (stays p n v _ refl refl (sent_bare v.outbox Dual refl) (ap sent_leaves (sym f)))
-goes_event sc n v w p i (GotDual ms f init e) = rw e (stays p n v _ refl refl refl (ap sent_leaves (sym f)))
-goes_event sc n v w p i (IsStale q ms f e) = rw e (stays p n v _ refl refl refl (ap sent_leaves (sym f)))
-goes_event sc n v w p i (Gives q ms f sends own free e) =
+    rw e (from_same p n o v x _ refl refl (cut_goes p n o x t (page t r v) (boundary sc (key t r v) (page t r v) v.me (txn_at v t)) locked normal told))
+goes_event sc n o v w p i (Commits t runs all e) told = rw e (stays p n o v _ (owns-installed v.me.lows (txn_at v t).rows v.me.pages p) refl refl refl)
+goes_event sc n o v w p i (Asks q gone pulls new e) told = rw e (stays p n o v _ refl refl (sent_bare v.outbox (Pull q) refl) refl)
+goes_event sc n o v w p i (Starts at_a normal empty e) told = rw e (stays p n o v _ refl refl (sent_bare v.outbox (Wire v.me.lows) refl) refl)
+goes_event sc n o v w p i (GotWire lows ms f empty e) told = rw e (stays p n o v _ refl refl (sent_bare v.outbox Ready refl) (ap sent_leaves (sym f)))
+goes_event sc n o v w p i (GotReady ms f init e) told = rw e (stays p n o v _ refl refl (sent_bare v.outbox Dual refl) (ap sent_leaves (sym f)))
+goes_event sc n o v w p i (GotDual ms f init e) told = rw e (stays p n o v _ refl refl refl (ap sent_leaves (sym f)))
+goes_event sc n o v w p i (IsStale q ms f e) told = rw e (stays p n o v _ refl refl refl (ap sent_leaves (sym f)))
+goes_event sc n o v w p i (Gives q ms f sends own free e) told =
     let x = rest v ms in
     let same = same_place p n x v refl refl refl (ap (λ xs. owns (sent_leaves xs) p) f) in
-    rw e (from_same p n v x _ same refl (leaves_goes p n x q (pulled_inv v q ms i f).owned (sends_source v.me.mode sends) own))
-goes_event sc n v w p i (GotPage leaf ms f pulls e) = rw e (arrives_goes p n v _ leaf ms i.owned pulls f refl refl refl refl)
-goes_event sc n v w p i (GotLast leaf ms f finish all e) = rw e (arrives_goes p n v _ leaf ms i.owned (ap may_pull finish) f refl refl (sent_bare v.outbox Done refl) refl)
-goes_event sc n v w p i (GotFinish ms f dual e) = rw e (stays p n v _ refl refl refl (ap sent_leaves (sym f)))
-goes_event sc n v w p i (GotAll ms f dual all e) = rw e (stays p n v _ refl refl (sent_bare v.outbox Done refl) (ap sent_leaves (sym f)))
-goes_event sc n v w p i (GotDone ms f finish e) = rw e (stays p n v _ refl refl refl (ap sent_leaves (sym f)))
-goes_event sc n v w p i (Finishes dual none e) = rw e (stays p n v _ refl refl (sent_bare v.outbox Finish refl) refl)
-goes_event sc n v w p i (Pushes q finish own e) = rw e (leaves_goes p n v q i.owned (ap is_source finish) own)
+    rw e (from_same p n o v x _ same refl (leaves_goes p n o x q (pulled_inv v q ms i f).owned (sends_source v.me.mode sends) own))
+goes_event sc n o v w p i (GotPage leaf ms f pulls e) told = rw e (arrives_goes p n o v _ leaf ms i.owned pulls f refl refl refl refl)
+goes_event sc n o v w p i (GotLast leaf ms f finish all e) told = rw e (arrives_goes p n o v _ leaf ms i.owned (ap may_pull finish) f refl refl (sent_bare v.outbox Done refl) refl)
+goes_event sc n o v w p i (GotFinish ms f dual e) told = rw e (stays p n o v _ refl refl refl (ap sent_leaves (sym f)))
+goes_event sc n o v w p i (GotAll ms f dual all e) told = rw e (stays p n o v _ refl refl (sent_bare v.outbox Done refl) (ap sent_leaves (sym f)))
+goes_event sc n o v w p i (GotDone ms f finish e) told = rw e (stays p n o v _ refl refl refl (ap sent_leaves (sym f)))
+goes_event sc n o v w p i (Finishes dual none e) told = rw e (stays p n o v _ refl refl (sent_bare v.outbox Finish refl) refl)
+goes_event sc n o v w p i (Pushes q finish own e) told = rw e (leaves_goes p n o v q i.owned (ap is_source finish) own)
 
 -- the place is the same from either side
 place_order : (a b c d : Bool) → (a ≡ true → b ≡ false) → (c ≡ true → d ≡ false)
@@ -195,18 +198,18 @@ place_facing : (p : ℕ) (n : Node) (s : State) → Owned (facing n s) → place
 place_facing p A s o = refl
 place_facing p B s o = place_seen p B (facing B s) o
 
-travel : (p : ℕ) (n : Node) (s : State) (w : View) → place_in p n (facing n s) ≡ place_of p s → place_in p n w ≡ place_of p (seen_from n w) → Goes p n (facing n s) w
-    → Travels p n s (seen_from n w)
-travel p n s w x y (Same h) = Stays (sym y ∙ h ∙ x)
-travel p n s w x y (New a b c) = Appears a (sym x ∙ b) (sym y ∙ c)
-travel p n s w x y (Out a b c) = Leaves a (sym x ∙ b) (sym y ∙ c)
-travel p n s w x y (In a b c) = Arrives a (sym x ∙ b) (sym y ∙ c)
+travel : (p : ℕ) (n : Node) (s : State) (m : Move) → place_in p n (facing n s) ≡ place_of p s → place_in p n m.after ≡ place_of p (seen_from n m.after) → Goes p n m.outcome (facing n s) m.after
+    → Travels p n s (as_step n m)
+travel p n s m x y (Same h) = Stays (sym y ∙ h ∙ x)
+travel p n s m x y (New q b told a h k) = Appears q b told (splits_in_normal _ a) (sym x ∙ h) (sym y ∙ k)
+travel p n s m x y (Out a b c) = Leaves a (sym x ∙ b) (sym y ∙ c)
+travel p n s m x y (In a b c) = Arrives a (sym x ∙ b) (sym y ∙ c)
 
 inv_seen : (n : Node) (w : View) → Inv (facing n (seen_from n w)) → Inv w
 inv_seen A w i = i
 inv_seen B w i = i
 
-pub step_travels : (sc : Scenario) (c : Choice) (s : State) (p : ℕ) → Inv (facing A s) → Inv (facing A (step sc c s).after) → Travels p (side_of c s) s (step sc c s).after
+pub step_travels : (sc : Scenario) (c : Choice) (s : State) (p : ℕ) → Inv (facing A s) → Inv (facing A (step sc c s).after) → Travels p (side_of c s) s (step sc c s)
 unfolding step
 step_travels sc c s p i j =
     let n = side_of c s in
@@ -214,10 +217,11 @@ step_travels sc c s p i j =
     let w = (move sc c v).after in
     let before = inv_from n s i in
     let after = inv_seen n w (inv_from n (seen_from n w) j) in
-    travel p n s w (place_facing p n s before.owned) (place_seen p n w after.owned) (goes_event sc n v w p before (step_happens sc c s).event)
+    let h = step_happens sc c s in
+    travel p n s (move sc c v) (place_facing p n s before.owned) (place_seen p n w after.owned) (goes_event sc n _ v w p before h.event h.told)
 
 -- in every state that is reached
-pub pages_travel : (sc : Scenario) (cs : List Choice) (next : Choice) (p : ℕ) → let s = play sc (opening sc) cs in Travels p (side_of next s) s (step sc next s).after
+pub pages_travel : (sc : Scenario) (cs : List Choice) (next : Choice) (p : ℕ) → let s = play sc (opening sc) cs in Travels p (side_of next s) s (step sc next s)
 pages_travel sc cs next p =
     let s = play sc (opening sc) cs in
     let i = play_inv sc cs in

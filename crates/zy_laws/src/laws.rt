@@ -50,11 +50,11 @@ pub fn one_wireframe()
     ensures { (sc : Scenario) (choices : List AChoice) → OneWireframe (play sc (opening sc) choices) }
 {}
 
-/// A page appears at the Normal node that splits, leaves a source in a message, arrives from the other node at one whose
-/// mode takes pages (DDual or DFinish), and moves in no other way.
+/// A page appears at the Normal node that splits it off, under the number that the outcome tells, leaves a source in a
+/// message, arrives from the other node at one whose mode takes pages (DDual or DFinish), and moves in no other way.
 pub fn pages_travel()
     ensures { (sc : Scenario) (choices : List AChoice) (choice : AChoice) (p : ℕ)
-        → let s = play sc (opening sc) choices in Travels p (side_of choice s) s (step sc choice s).after }
+        → let s = play sc (opening sc) choices in Travels p (side_of choice s) s (step sc choice s) }
 {}
 
 /// B is never in a source's mode (SInit, SDual or SFinish); so, with `pages_travel`, no page leaves it.
