@@ -11,8 +11,8 @@ use Rattle.zy_table.specs.declared.outcome.Why.{Why}
 use Rattle.zy_table.specs.declared.outcome.Why.TheVariants.{Own, Killed, BadKey, Missing, Duplicate, Frozen, NoPage, Gone}
 use Rattle.zy_table.specs.declared.outcome.Outcome.{Outcome}
 use Rattle.zy_table.specs.declared.outcome.Outcome.TheVariants as outcome
-use Rattle.zy_modes.specs.declared.kind.Kind.{Kind}
-use Rattle.zy_modes.specs.declared.kind.Kind.TheVariants as kind
+use Rattle.zy_links.specs.declared.kind.Kind.{Kind}
+use Rattle.zy_links.specs.declared.kind.Kind.TheVariants as kind
 use Rattle.zy_modes.specs.declared.mode.NodeMode.{NodeMode}
 use Rattle.zy_modes.specs.declared.mode.NodeMode.TheVariants.{Empty, Normal, SInit, SDual, SFinish, DInit, DDual, DFinish}
 use Rattle.zy_links.specs.Messages.{Message, Pull, Page, kind_of}

@@ -17,9 +17,9 @@ use Rattle.zy_locks.specs.declared.lock.LockKind.TheVariants.{Shared, Exclusive}
 use Rattle.zy_locks.specs.Locks.{conflict, is_locked}
 use Rattle.zy_modes.specs.declared.mode.NodeMode.{NodeMode}
 use Rattle.zy_modes.specs.declared.mode.NodeMode.TheVariants.{Empty, Normal, SInit, SDual, SFinish, DInit, DDual, DFinish}
-use Rattle.zy_modes.specs.declared.kind.Kind.TheVariants as kind
+use Rattle.zy_links.specs.declared.kind.Kind.TheVariants as kind
 use Rattle.zy_modes.specs.declared.table.MsgRow.TheVariants.{Stray, Turns}
-use Rattle.zy_modes.specs.Table.{on_start, on_finish, home_of, may_split, may_pull, may_push, is_waiting}
+use Rattle.zy_modes.specs.Table.{may_start, on_finish, home_of, may_split, may_pull, may_push, is_waiting}
 use Rattle.zy_links.specs.Messages.{Wire, Ready, Dual, Pull, Page, Finish, Done}
 use Rattle.zy_table.specs.declared.outcome.Why.{Why}
 use Rattle.zy_table.specs.declared.outcome.Why.TheVariants as why
@@ -39,7 +39,7 @@ use Rattle.zy_table.specs.Take.{is_held, all_here, with_brought, got_row, pull_r
 use Rattle.zy_table.specs.Push.{active_from, finish_if, finish_row, push_if, push_row}
 use Rattle.zy_laws.specs.Journey.{is_gone, is_stray}
 use Rattle.zy_table.specs.Play.{move, side_of}
-use Rattle.zy_laws.proofs.ModeLines.{is_sending, wire_line, ready_line, dual_line, pull_line, page_line, finish_line, done_line, starts_from, pushes_in_finish}
+use Rattle.zy_laws.proofs.ModeLines.{is_sending, wire_line, ready_line, dual_line, pull_line, page_line, finish_line, done_line, starts_at_a, starts_from, pushes_in_finish}
 use Rattle.zy_table.proofs.PageLists.{least-owns}
 use Rattle.zy_table.proofs.AbortedLocks.{aborted-locked}
 
@@ -287,12 +287,12 @@ run_happens sc n t v =
     (λ b. instr_happens sc n t _ v (λ i e. record { active = not-false _ a; here = same_node-true _ _ (not-false _ h); begun = b; next = e }))))
 
 -- the client's lines
-start_happens : (sc : Scenario) (v : View) → Happens sc A v (start_row v)
+start_happens : (sc : Scenario) (n : Node) (v : View) → n ≡ A → Happens sc n v (start_row v)
 unfolding start_row
-start_happens sc v =
-    cond_both (is_some (on_start v.me.mode v.them.mode)) _ _ (Happens sc A v)
-    (λ h. let modes = starts_from v.me.mode v.them.mode h in plain sc A v _ (Starts refl modes.0 modes.1 refl) refl refl tt)
-    (λ _. rests sc A v _ refl refl)
+start_happens sc n v at_a =
+    cond_both (may_start v.me.mode v.them.mode) _ _ (Happens sc n v)
+    (λ h. let modes = starts_from v.me.mode v.them.mode h in plain sc n v _ (Starts at_a modes.0 modes.1 refl) refl refl tt)
+    (λ _. rests sc n v _ refl refl)
 
 begin_at_happens : (sc : Scenario) (t : ℕ) (o : Option Node) (v : View) → o ≡ home_of v.me.mode v.them.mode → is_new (txn_at v t).status ≡ true
     → Happens sc A v (begin_at o t v)
@@ -452,9 +452,9 @@ node_of A t s = refl
 node_of B t s = refl
 
 -- every row of the table, at the side that it is read from
-pub step_happens : (sc : Scenario) (c : Choice) (s : State) → Happens sc (side_of c s) (facing (side_of c s) s) (move sc c (facing (side_of c s) s))
+pub step_happens : (sc : Scenario) (c : Choice) (s : State) → Happens sc (side_of sc c s) (facing (side_of sc c s) s) (move sc c (facing (side_of sc c s) s))
 unfolding move
-step_happens sc Start s = start_happens sc _
+step_happens sc Start s = start_happens sc _ _ (starts_at_a s.a.mode s.b.mode sc.version)
 step_happens sc (Begin t) s = begin_happens sc t _
 step_happens sc (Kill t) s = kill_happens sc _ t _ (node_of (txn_or (slice_get s.txns t)).node t s)
 step_happens sc (Run n t) s = run_happens sc n t _

@@ -49,10 +49,10 @@ lost_in_dual sc n v lows k l =
     ]
 
 pub gone_in_dual : (sc : Scenario) → IsScenario sc → (cs : List Choice) (next : Choice) → let s = play sc (opening sc) cs in
-    is_gone (step sc next s).outcome ≡ true → (facing (side_of next s) s).me.mode ≡ SDual
+    is_gone (step sc next s).outcome ≡ true → (facing (side_of sc next s) s).me.mode ≡ SDual
 unfolding step
 gone_in_dual sc ok cs next gone =
     let s = play sc (opening sc) cs in
-    let n = side_of next s in
+    let n = side_of sc next s in
     let r = reached sc ok cs in
     lost_in_dual sc n (facing n s) r.lows (kept_from sc n s r.lows r.kept) ((step_happens sc next s).lost gone)

@@ -104,7 +104,7 @@ told_to B w h = λ t. h t ∙ sym (ap counts (at_back B w t))
 step_listed : (sc : Scenario) (c : Choice) (s : State) → Listed s → Listed (step sc c s).after
 unfolding step
 step_listed sc c s h =
-    let n = side_of c s in
+    let n = side_of sc c s in
     let v = facing n s in
     let w = (move sc c v).after in
     told_to n w (λ t. told sc n v w t (step_happens sc c s).event (told_from n s t h))

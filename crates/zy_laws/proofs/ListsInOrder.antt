@@ -46,7 +46,7 @@ ordered_to B w o = turned_ordered w o
 step_ordered : (sc : Scenario) (c : Choice) (s : State) → Inv (facing A s) → Ordered (facing A s) → Ordered (facing A (step sc c s).after)
 unfolding step
 step_ordered sc c s i o =
-    let n = side_of c s in
+    let n = side_of sc c s in
     let v = facing n s in
     let w = (move sc c v).after in
     ordered_to n w (ordered_event sc n v w (inv_from n s i) (ordered_from n s o) (step_happens sc c s).event)

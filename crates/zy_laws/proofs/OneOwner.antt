@@ -354,7 +354,7 @@ inv_to B w i = turned_inv w i
 pub step_inv : (sc : Scenario) (c : Choice) (s : State) → Inv (facing A s) → Inv (facing A (step sc c s).after)
 unfolding step
 step_inv sc c s i =
-    let n = side_of c s in
+    let n = side_of sc c s in
     let v = facing n s in
     let w = (move sc c v).after in
     inv_to n w (inv_event sc n v w (inv_from n s i) (step_happens sc c s).event)

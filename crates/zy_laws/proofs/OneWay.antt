@@ -59,7 +59,7 @@ b_after B s w x h = x.off refl h
 step_b : (sc : Scenario) (c : Choice) (s : State) → is_source s.b.mode ≡ false → is_source (step sc c s).after.b.mode ≡ false
 unfolding step
 step_b sc c s h =
-    let n = side_of c s in
+    let n = side_of sc c s in
     let v = facing n s in
     b_after n s (move sc c v).after (sourced sc n v (move sc c v).after (step_happens sc c s).event) h
 
@@ -86,7 +86,7 @@ never_back : (sc : Scenario) (cs : List Choice) (s : State) (p : ℕ) → Inv (f
 never_back sc [] s p i off = record { passed = λ h. h; there = λ h. h }
 never_back sc (c ∷ cs) s p i off =
     let next = step_inv sc c s i in
-    let one = goes_on p (side_of c s) s (step sc c s) off (step_travels sc c s p i next) in
+    let one = goes_on p (side_of sc c s) s (step sc c s) off (step_travels sc c s p i next) in
     let more = never_back sc cs (step sc c s).after p next (step_b sc c s off) in
     record { passed = λ h. more.passed (one.passed h); there = λ h. more.there (one.there h) }
 

@@ -58,7 +58,7 @@ record Filled (sc : Scenario) (s : State) : Type 0 where
 step_fit : (sc : Scenario) → 2 ≤ sc.cap → (c : Choice) (s : State) → Tidy s → Filled sc s → Filled sc (step sc c s).after
 unfolding step
 step_fit sc two c s x a =
-    let n = side_of c s in
+    let n = side_of sc c s in
     let v = facing n s in
     let w = (move sc c v).after in
     let before = kept_from sc n s a.lows a.kept in

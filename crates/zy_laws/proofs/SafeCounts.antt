@@ -232,7 +232,7 @@ sums_after sc count more B s w each k x = record { each = λ t h. subst (Counted
 step_sums : (sc : Scenario) (count : ℕ) (c : Choice) (s : State) → IsScenario sc → Sums sc count s → Sums sc (count + 1) (step sc c s).after
 unfolding step
 step_sums sc count c s ok x =
-    let n = side_of c s in
+    let n = side_of sc c s in
     let v = facing n s in
     let w = (move sc c v).after in
     let event = (step_happens sc c s).event in

@@ -100,7 +100,7 @@ record Holds (sc : Scenario) (start : Map) (s : State) : Type 0 where
 step_holds : (sc : Scenario) (start : Map) → 2 ≤ sc.cap → (c : Choice) (s : State) → Tidy s → Holds sc start s → Holds sc start (step sc c s).after
 unfolding step
 step_holds sc start two c s x h =
-    let n = side_of c s in
+    let n = side_of sc c s in
     let v = facing n s in
     let w = (move sc c v).after in
     let event = (step_happens sc c s).event in

@@ -63,7 +63,7 @@ pub never_stray : (sc : Scenario) (cs : List Choice) (next : Choice) → is_stra
 unfolding step
 never_stray sc cs next =
     let s = play sc (opening sc) cs in
-    let n = side_of next s in
+    let n = side_of sc next s in
     let v = facing n s in
     false_from_ne_true _ (λ h.
     let strange = (step_happens sc next s).strange h in

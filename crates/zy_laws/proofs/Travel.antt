@@ -209,10 +209,10 @@ inv_seen : (n : Node) (w : View) → Inv (facing n (seen_from n w)) → Inv w
 inv_seen A w i = i
 inv_seen B w i = i
 
-pub step_travels : (sc : Scenario) (c : Choice) (s : State) (p : ℕ) → Inv (facing A s) → Inv (facing A (step sc c s).after) → Travels p (side_of c s) s (step sc c s)
+pub step_travels : (sc : Scenario) (c : Choice) (s : State) (p : ℕ) → Inv (facing A s) → Inv (facing A (step sc c s).after) → Travels p (side_of sc c s) s (step sc c s)
 unfolding step
 step_travels sc c s p i j =
-    let n = side_of c s in
+    let n = side_of sc c s in
     let v = facing n s in
     let w = (move sc c v).after in
     let before = inv_from n s i in
@@ -221,7 +221,7 @@ step_travels sc c s p i j =
     travel p n s (move sc c v) (place_facing p n s before.owned) (place_seen p n w after.owned) (goes_event sc n _ v w p before h.event h.told)
 
 -- in every state that is reached
-pub pages_travel : (sc : Scenario) (cs : List Choice) (next : Choice) (p : ℕ) → let s = play sc (opening sc) cs in Travels p (side_of next s) s (step sc next s)
+pub pages_travel : (sc : Scenario) (cs : List Choice) (next : Choice) (p : ℕ) → let s = play sc (opening sc) cs in Travels p (side_of sc next s) s (step sc next s)
 pages_travel sc cs next p =
     let s = play sc (opening sc) cs in
     let i = play_inv sc cs in

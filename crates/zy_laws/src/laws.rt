@@ -54,7 +54,7 @@ pub fn one_wireframe()
 /// message, arrives from the other node at one whose mode takes pages (DDual or DFinish), and moves in no other way.
 pub fn pages_travel()
     ensures { (sc : Scenario) (choices : List AChoice) (choice : AChoice) (p : ℕ)
-        → let s = play sc (opening sc) choices in Travels p (side_of choice s) s (step sc choice s) }
+        → let s = play sc (opening sc) choices in Travels p (side_of sc choice s) s (step sc choice s) }
 {}
 
 /// B is never in a source's mode (SInit, SDual or SFinish); so, with `pages_travel`, no page leaves it.
@@ -73,7 +73,7 @@ pub fn none_goes_back()
 pub fn gone_in_dual()
     ensures { (sc : Scenario) → IsScenario sc → (choices : List AChoice) (choice : AChoice)
         → let s = play sc (opening sc) choices in
-        is_gone (step sc choice s).outcome ≡ true → (facing (side_of choice s) s).me.mode ≡ SDual }
+        is_gone (step sc choice s).outcome ≡ true → (facing (side_of sc choice s) s).me.mode ≡ SDual }
 {}
 
 /// Each page shows the low key that the wireframe has for it.

@@ -1,7 +1,7 @@
 -- The messages between the nodes as everyone sees them.
 use Rattle.std.specs.Prelude.{ℕ, List, map}
-use Rattle.zy_modes.specs.declared.kind.Kind.{Kind}
-use Rattle.zy_modes.specs.declared.kind.Kind.TheVariants as kind
+use Rattle.zy_links.specs.declared.kind.Kind.{Kind}
+use Rattle.zy_links.specs.declared.kind.Kind.TheVariants as kind
 use Rattle.zy_page.specs.Leaf.{Leaf}
 use Rattle.zy_links.specs.declared.message.Message.{Message as Sent}
 use Rattle.zy_links.specs.declared.message.Message.TheVariants as sent

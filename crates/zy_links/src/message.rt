@@ -3,7 +3,7 @@ ghost use Rattle.std.specs.Prelude.{◌≡◌, IfOk};
 ghost use Rattle.zy_links.specs.Messages.{kind_of, limit_of, message_of};
 
 use std::alloc::{AllocError, Global};
-use zy_modes::kind::Kind;
+use crate::kind::Kind;
 use zy_page::page::Page;
 use zy_wire::wire::Wire;
 

@@ -3,7 +3,7 @@ use crate::link::Link;
 use crate::message::Message;
 use std::alloc::{AllocError, Global};
 use std::test::Fail;
-use zy_modes::kind::Kind;
+use crate::kind::Kind;
 use zy_page::page::Page;
 use zy_wire::wire::Wire;
 

@@ -1,6 +1,6 @@
 //! The locks of one node.
-ghost use Rattle.std.specs.Prelude.{◌≡◌, ◌==◌, ◌+◌, ◌<◌, ◌≤◌, IfOk, OnOk, OnErr, IsOk, [], length, slice_index_or};
-ghost use Rattle.zy_locks.specs.Locks.{is_shared as is_shared_lem, stronger as stronger_lem, clashes as clashes_lem, conflict, is_locked, drop_locks};
+ghost use Rattle.std.specs.Prelude.{◌≡◌, ◌==◌, ◌+◌, ◌<◌, ◌≤◌, IfOk, OnOk, OnErr, IsOk, false, [], length, slice_index_or};
+ghost use Rattle.zy_locks.specs.Locks.{add_lock, is_shared as is_shared_lem, stronger as stronger_lem, clashes as clashes_lem, conflict, is_locked, drop_locks};
 ghost use Rattle.zy_locks.specs.LockTable.{Tries};
 ghost use Rattle.zy_locks.specs.Order.{comes_before as comes_before_lem, is_held_by as is_held_by_lem, LocksRise, IsPlace, Finds};
 
@@ -120,18 +120,24 @@ impl Locks {
         if self.conflicts(page, txn, kind) {
             return Tried::Conflict;
         }
+        if self.reserve(1).is_err() {
+            return Tried::Memory;
+        }
+        self.lock(page, txn, kind);
+        Tried::Granted
+    }
+
+    /// Locks the page for `txn`, or makes the lock that it has stronger, where nothing is in the way and there is room. It
+    /// takes no memory.
+    pub fn lock(&mut self, page: u16, txn: u8, kind: LockKind)
+        requires free { conflict self.old.locks page txn kind ≡ false }
+        requires room { 1 ≤ self.old.spare }
+        ensures locks { self.new.locks ≡ add_lock page txn kind self.old.locks }
+        ensures room { self.old.spare ≤ self.new.spare + 1 }
+    {
         match search(&self.locks, page, txn) {
-            Ok(at) => {
-                self.locks[at].kind = stronger(self.locks[at].kind, kind);
-                Tried::Granted
-            }
-            Err(at) => {
-                if self.locks.reserve(1).is_err() {
-                    return Tried::Memory;
-                }
-                self.locks.insert(at, Lock { page, txn, kind }).unwrap();
-                Tried::Granted
-            }
+            Ok(at) => self.locks[at].kind = stronger(self.locks[at].kind, kind),
+            Err(at) => self.locks.insert(at, Lock { page, txn, kind }).unwrap(),
         }
     }
 

@@ -1,18 +1,16 @@
 -- A line made on the parts of one node, as a step of the store.
-use Rattle.std.proofs.Common.{◌≡◌, ℕ, Result, Ok, Err, ap}
+use Rattle.std.proofs.Common.{◌≡◌, Result, Ok, Err, ap}
 use Rattle.zy_isa.specs.declared.node.Node.TheVariants.{A, B}
-use Rattle.zy_isa.specs.Scenario.{Scenario}
 use Rattle.zy_table.specs.State.{Move, facing, seen_from}
 use Rattle.zy_node.specs.declared.node_store.NodeStore.{NodeStore}
 use Rattle.zy_txns.specs.Books.{Ledger}
 use Rattle.zy_table.specs.declared.answer.Answer.{Answer}
 use Rattle.zy_run.specs.Parts.{here}
 use Rattle.zy_table.specs.Answers.{Makes as MakesHere}
-use Rattle.zy_run.specs.Ready.{IsReady as IsReadyHere}
 use Rattle.zy_node.specs.Mail.{Mail}
 use Rattle.zy_moves.specs.Fronts.{meets}
 use Rattle.zy_machine.specs.declared.store.Store.{Store}
-use Rattle.zy_machine.specs.Stores.{shown, IsReady, Makes}
+use Rattle.zy_machine.specs.Stores.{shown, Makes}
 
 pub at-a : {E : Type 0} (old : Store) (x : NodeStore) (b : Ledger) (r : Result Answer E) (m : Move)
     → (let v = facing A (shown old) in MakesHere (here old.a old.book v) (here x b v) r m) → Makes A old (record old { a = x; book = b }) r m
@@ -23,24 +21,6 @@ pub at-b : {E : Type 0} (old : Store) (x : NodeStore) (b : Ledger) (r : Result A
     → (let v = facing B (shown old) in MakesHere (here old.b old.book v) (here x b v) r m) → Makes B old (record old { b = x; book = b }) r m
 at-b old x b (Ok y) m h = (ap (λ (z : Move). seen_from B z.after) h, ap (λ (z : Move). z.outcome) h, ap (λ (z : Move). z.sent) h)
 at-b old x b (Err e) m h = ap (seen_from B) h
-
-pub ready-a : (sc : Scenario) (t : ℕ) (s : Store) → IsReady sc A t s → IsReadyHere sc A t s.a s.book
-ready-a sc t s h = record {
-  counts = h.counts;
-  program = h.program;
-  place = h.place;
-  rooms = λ e g. let room = h.rooms e g in record { commits = room.commits; rows = room.rows };
-  splits = h.splits;
-}
-
-pub ready-b : (sc : Scenario) (t : ℕ) (s : Store) → IsReady sc B t s → IsReadyHere sc B t s.b s.book
-ready-b sc t s h = record {
-  counts = h.counts;
-  program = h.program;
-  place = h.place;
-  rooms = λ e g. let room = h.rooms e g in record { commits = room.commits; rows = room.rows };
-  splits = h.splits;
-}
 
 -- the same of a line made on a node and the link to it
 pub meets-a : {E : Type 0} (old : Store) (x : NodeStore) (i : Mail) (r : Result Answer E) (m : Move)

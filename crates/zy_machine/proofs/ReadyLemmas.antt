@@ -10,7 +10,10 @@ use Rattle.zy_isa.specs.Choices.{names_below}
 use Rattle.zy_isa.specs.Scenario.{Scenario, IsScenario}
 use Rattle.zy_wire.specs.Wireframe.{page_of}
 use Rattle.zy_machine.specs.declared.store.Store.{Store}
-use Rattle.zy_table.specs.State.{State, Txn, facing}
+use Rattle.zy_table.specs.State.{NodeState, State, Txn, facing}
+use Rattle.zy_node.specs.declared.node_store.NodeStore.{NodeStore}
+use Rattle.zy_node.specs.Nodes.{node_shown}
+use Rattle.zy_node.specs.Install.{AreRoomy}
 use Rattle.zy_table.specs.Change.{txn_at, txn_or}
 use Rattle.zy_table.specs.Client.{is_active}
 use Rattle.zy_table.specs.Pages.{owns, rows_of}
@@ -21,9 +24,9 @@ use Rattle.zy_laws.specs.Counts.{Safe, Fits}
 use Rattle.zy_table.specs.Order.{InOrder}
 use Rattle.zy_modes.specs.Table.{may_split as splits_in}
 use Rattle.zy_moves.specs.Arrivals.{MayTake}
-use Rattle.zy_run.specs.Ready.{MaySplit}
+use Rattle.zy_run.specs.Ready.{IsReady, MaySplit, Rooms}
 use Rattle.zy_txns.specs.Books.{Countable, txn_in}
-use Rattle.zy_machine.specs.Stores.{shown, Rooms, IsPossible}
+use Rattle.zy_machine.specs.Stores.{shown, IsPossible}
 use Rattle.zy_machine.proofs.ArrivalLemmas.{may_take}
 use Rattle.zy_table.proofs.PageFinds.{absent_page}
 use Rattle.zy_laws.proofs.OneOwner.{inv_from, play_inv}
@@ -89,31 +92,44 @@ countable sc count t s k below =
     let short = program_is sc.programs t k.tested.programs below in
     record { there = omega (arith, k.safe.txns); place = omega (arith, c.place, short.few); done = omega (arith, c.done, k.few) }
 
-rooms : (sc : Scenario) (count t : ℕ) (n : Node) (s : Store) → Known sc count s → is_active (txn_in t s.book).status ≡ true → (txn_in t s.book).node ≡ n → Rooms n t s
-rooms sc count t n s k active here =
+-- x is the node n of a store
+abbrev IsNode : Node → NodeStore → Store → Type 0
+IsNode n x s = (facing n (shown s)).me ≡ node_shown x
+
+rooms : (sc : Scenario) (count t : ℕ) (n : Node) (x : NodeStore) (s : Store) → IsNode n x s → Known sc count s → is_active (txn_in t s.book).status ≡ true → (txn_in t s.book).node ≡ n → Rooms t x s.book
+rooms sc count t n x s is k active here =
     let f = facing n (shown s) in
     let same = txn_at-facing n t (shown s) in
     let rows = (txn_in t s.book).rows in
     let own : (p : ℕ) → length (own_inserts p f.me (txn_at f t)) ≡ need f.me.lows p (rows_of f.me.pages p) rows =
-    λ p. ap (λ (x : Txn). length (rows_not_in (rows_on f.me.lows p x.rows) (rows_of f.me.pages p))) same ∙ need_is f.me.lows p (rows_of f.me.pages p) rows in
+    λ p. ap (λ (y : Txn). length (rows_not_in (rows_on f.me.lows p y.rows) (rows_of f.me.pages p))) same ∙ need_is f.me.lows p (rows_of f.me.pages p) rows in
     record {
       commits = omega (arith, k.safe.commits, k.tested.few_programs);
-      rows = roomy sc.cap f.me.lows rows f.me.pages k.tested.cap_most ((k.order.nodes n).rows)
-          (λ p owned. let h = k.fits n t p (ap (λ (x : Txn). is_active x.status) same ∙ active, ap (λ (x : Txn). x.node) same ∙ here) owned in omega (arith, h, own p));
+      rows = subst (λ (m : NodeState). AreRoomy m.lows rows m.pages) is (roomy sc.cap f.me.lows rows f.me.pages k.tested.cap_most ((k.order.nodes n).rows)
+          (λ p owned. let h = k.fits n t p (ap (λ (y : Txn). is_active y.status) same ∙ active, ap (λ (y : Txn). y.node) same ∙ here) owned in omega (arith, h, own p)));
     }
 
-splits : (sc : Scenario) (count t : ℕ) (n : Node) (s : Store) → Known sc count s → is_active (txn_in t s.book).status ≡ true → (txn_in t s.book).node ≡ n → MaySplit sc (facing n (shown s)).me (txn_in t s.book)
-splits sc count t n s k active here =
+splits : (sc : Scenario) (count t : ℕ) (n : Node) (x : NodeStore) (s : Store) → IsNode n x s → Known sc count s → is_active (txn_in t s.book).status ≡ true → (txn_in t s.book).node ≡ n
+    → MaySplit sc (node_shown x) (txn_in t s.book)
+splits sc count t n x s is k active here =
     let same = txn_at-facing n t (shown s) in
-    subst (MaySplit sc (facing n (shown s)).me) same (k.splits n t (ap (λ (x : Txn). is_active x.status) same ∙ active, ap (λ (x : Txn). x.node) same ∙ here))
+    subst (λ m. MaySplit sc m (txn_in t s.book)) is (subst (MaySplit sc (facing n (shown s)).me) same (k.splits n t (ap (λ (y : Txn). is_active y.status) same ∙ active, ap (λ (y : Txn). y.node) same ∙ here)))
+
+ready : (sc : Scenario) (count t : ℕ) (n : Node) (x : NodeStore) (s : Store) → IsNode n x s → Known sc count s → t < length sc.programs → IsReady sc n t x s.book
+ready sc count t n x s is k below = record {
+  counts = countable sc count t s k below;
+  program = below;
+  place = (k.safe.each t below).place;
+  rooms = rooms sc count t n x s is k;
+  splits = splits sc count t n x s is k;
+}
 
 pub possible : (sc : Scenario) (count : ℕ) (c : Choice) (s : Store) → Known sc count s → names_below (length sc.programs) c ≡ true → IsPossible sc c s
 possible sc count Start s k named = tt
 possible sc count (Begin t) s k named = (countable sc count t s k (ltb-true _ _ named)).there
 possible sc count (Kill t) s k named = (countable sc count t s k (ltb-true _ _ named)).there
-possible sc count (Run n t) s k named =
-    let below = ltb-true t (length sc.programs) named in
-    record { counts = countable sc count t s k below; program = below; place = (k.safe.each t below).place; rooms = rooms sc count t n s k; splits = splits sc count t n s k }
+possible sc count (Run A t) s k named = ready sc count t A s.a s refl k (ltb-true t (length sc.programs) named)
+possible sc count (Run B t) s k named = ready sc count t B s.b s refl k (ltb-true t (length sc.programs) named)
 possible sc count (Take n) s k named = k.takes n
 possible sc count (Finish n) s k named = omega (arith, k.safe.txns, k.tested.few_programs)
 possible sc count (Push n) s k named = tt

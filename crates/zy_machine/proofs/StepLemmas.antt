@@ -13,10 +13,10 @@ use Rattle.zy_table.specs.Client.{start_row, begin_row, kill_row}
 use Rattle.zy_table.specs.Push.{finish_row, push_row}
 use Rattle.zy_table.specs.Run.{run_row}
 use Rattle.zy_table.specs.Take.{take_row}
-use Rattle.zy_table.specs.Play.{step, move}
+use Rattle.zy_table.specs.Play.{side_of, step, move}
 use Rattle.zy_machine.specs.Stores.{shown, IsMade, Makes, Steps}
 
-pub start-steps : {E : Type 0} (sc : Scenario) (old new : Store) (r : Result Answer E) → Makes A old new r (start_row (facing A (shown old))) → Steps old new r (step sc Start (shown old))
+pub start-steps : {E : Type 0} (sc : Scenario) (old new : Store) (r : Result Answer E) → (let n = side_of sc Start (shown old) in Makes n old new r (start_row (facing n (shown old)))) → Steps old new r (step sc Start (shown old))
 unfolding step move
 start-steps sc old new (Ok x) h = h
 start-steps sc old new (Err e) h = h

@@ -1,5 +1,5 @@
 -- What a store shows of the state, and what a call on it may do.
-use Rattle.std.specs.Prelude.{◌≡◌, ◌<◌, ◌+◌, ◌^◌, ◌≤◌, ℕ, length, Contains, Result, Ok, Err, None, true, false}
+use Rattle.std.specs.Prelude.{◌≡◌, ◌<◌, ◌≤◌, ℕ, length, Result, Ok, Err}
 use Rattle.zy_isa.specs.declared.node.Node.{Node}
 use Rattle.zy_isa.specs.declared.node.Node.TheVariants.{A, B}
 use Rattle.zy_isa.specs.Scenario.{Scenario}
@@ -7,31 +7,18 @@ use Rattle.zy_isa.specs.declared.choice.Choice.{Choice}
 use Rattle.zy_isa.specs.declared.choice.Choice.TheVariants.{Start, Begin, Kill, Run, Take, Finish, Push}
 use Rattle.zy_table.specs.State.{State, Move, Step, facing, seen_from}
 use Rattle.zy_moves.specs.Arrivals.{MayTake}
-use Rattle.zy_table.specs.Client.{is_active}
-use Rattle.zy_table.specs.Run.{program_of}
-use Rattle.zy_node.specs.declared.node_store.NodeStore.{NodeStore}
 use Rattle.zy_node.specs.Nodes.{node_shown}
-use Rattle.zy_node.specs.Install.{AreRoomy}
-use Rattle.zy_txns.specs.Books.{Countable, txn_in}
 use Rattle.zy_table.specs.declared.answer.Answer.{Answer}
-use Rattle.zy_run.specs.Ready.{MaySplit}
+use Rattle.zy_run.specs.Ready.{IsReady as IsReadyHere}
 use Rattle.zy_machine.specs.declared.store.Store.{Store}
 
 abbrev pub shown : Store → State
 shown s = record { a = node_shown s.a; b = node_shown s.b; ab = s.a.outbox.messages; ba = s.b.outbox.messages; txns = s.book.txns; commits = s.book.commits }
 
--- t's commit at n can be numbered, and its rows find room
-pub record Rooms (n : Node) (t : ℕ) (s : Store) : Type 0 where
-  pub commits : length s.book.commits ≤ 64
-  pub rows : AreRoomy (facing n (shown s)).me.lows (txn_in t s.book).rows (facing n (shown s)).me.pages
-
--- a run of t at n is safe: its counts, its place in its program, and its commit if it comes
-pub record IsReady (sc : Scenario) (n : Node) (t : ℕ) (s : Store) : Type 0 where
-  pub counts : Countable t s.book
-  pub program : t < length sc.programs
-  pub place : (txn_in t s.book).pc < length (program_of sc t)
-  pub rooms : is_active (txn_in t s.book).status ≡ true → (txn_in t s.book).node ≡ n → Rooms n t s
-  pub splits : is_active (txn_in t s.book).status ≡ true → (txn_in t s.book).node ≡ n → MaySplit sc (facing n (shown s)).me (txn_in t s.book)
+-- a run of t at n is safe on the parts of n
+abbrev pub IsReady : Scenario → Node → ℕ → Store → Type 0
+IsReady sc A t s = IsReadyHere sc A t s.a s.book
+IsReady sc B t s = IsReadyHere sc B t s.b s.book
 
 -- the call answered as the line tells, and left what it tells
 abbrev pub IsMade : Node → Store → Answer → Move → Type 0

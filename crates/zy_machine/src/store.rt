@@ -4,7 +4,8 @@ ghost use Rattle.zy_isa.specs.declared.node.Node.TheVariants.{A};
 ghost use Rattle.zy_table.specs.State.{facing};
 ghost use Rattle.zy_table.specs.Client.{start_row as start_row_lem, begin_row as begin_row_lem, kill_row as kill_row_lem};
 ghost use Rattle.zy_table.specs.Push.{finish_row as finish_row_lem, push_row as push_row_lem};
-ghost use Rattle.zy_table.specs.Play.{step as step_lem};
+ghost use Rattle.zy_isa.specs.declared.choice.Choice.TheVariants.{Start};
+ghost use Rattle.zy_table.specs.Play.{side_of, step as step_lem};
 ghost use Rattle.zy_txns.specs.Books.{txn_in};
 ghost use Rattle.zy_table.specs.Run.{run_row as run_row_lem};
 ghost use Rattle.zy_table.specs.Take.{take_row as take_row_lem};
@@ -15,6 +16,7 @@ use std::alloc::{AllocError, Global};
 use zy_isa::choice::Choice;
 use zy_isa::node::Node;
 use zy_isa::scenario::Scenario;
+use zy_modes::table::on_start;
 use zy_moves::client::{begin_row, kill_row, start_row};
 use zy_moves::push::{finish_row, push_row};
 use zy_moves::take::take_row;
@@ -81,11 +83,15 @@ impl Store {
         }
     }
 
-    /// `C start`.
-    fn start_row(&mut self) -> Result<Answer, AllocError>
-        ensures { Makes A self.old self.new result (start_row_lem (facing A (shown self.old))) }
+    /// `C start`, at the node that the mode table names.
+    fn start_row(&mut self, scenario: &Scenario) -> Result<Answer, AllocError>
+        ensures { let n = side_of scenario.now Start (shown self.old) in Makes n self.old self.new result (start_row_lem (facing n (shown self.old))) }
     {
-        start_row(self.alloc, &mut self.a, &self.b)
+        let source = on_start(self.a.mode, self.b.mode, scenario.version());
+        match source.unwrap_or(Node::A) {
+            Node::A => start_row(self.alloc, &mut self.a, &self.b),
+            Node::B => start_row(self.alloc, &mut self.b, &self.a),
+        }
     }
 
     /// `C begin t`.
@@ -113,7 +119,7 @@ impl Store {
         ensures { Steps self.old self.new result (step_lem scenario.now choice (shown self.old)) }
     {
         match choice {
-            Choice::Start => self.start_row(),
+            Choice::Start => self.start_row(scenario),
             Choice::Begin(t) => Ok(self.begin_row(t)),
             Choice::Kill(t) => Ok(self.kill_row(t)),
             Choice::Run(n, t) => self.run_row(scenario, n, t),

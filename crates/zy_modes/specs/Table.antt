@@ -1,9 +1,9 @@
 -- The mode table, a line for each line of it.
-use Rattle.std.specs.Prelude.{◌≡◌, Bool, true, false, if◌then◌else◌, Option, Some, None}
+use Rattle.std.specs.Prelude.{◌≡◌, ℕ, Bool, true, false, if◌then◌else◌, Option, Some, None}
 use Rattle.zy_isa.specs.declared.node.Node.{Node}
 use Rattle.zy_isa.specs.declared.node.Node.TheVariants.{A, B}
-use Rattle.zy_modes.specs.declared.kind.Kind.{Kind}
-use Rattle.zy_modes.specs.declared.kind.Kind.TheVariants.{Wire, Ready, Dual, Pull, Page, Finish, Done}
+use Rattle.zy_links.specs.declared.kind.Kind.{Kind}
+use Rattle.zy_links.specs.declared.kind.Kind.TheVariants.{Wire, Ready, Dual, Pull, Page, Finish, Done}
 use Rattle.zy_modes.specs.declared.mode.NodeMode.{NodeMode}
 use Rattle.zy_modes.specs.declared.mode.NodeMode.TheVariants.{Empty, Normal, SInit, SDual, SFinish, DInit, DDual, DFinish}
 use Rattle.zy_modes.specs.declared.table.MsgRow.{MsgRow}
@@ -35,10 +35,14 @@ HandsOver all (Turns Normal sent) = (all ≡ true) × (sent ≡ Some Done)
 HandsOver all (Turns mode (Some Done)) = ⊥
 HandsOver all row = Unit {0}
 
--- the node from which a migration starts
-abbrev pub on_start : NodeMode → NodeMode → Option Node
-on_start Normal Empty = Some A
-on_start a b = None
+-- a node in this mode may start a migration to one in that mode
+abbrev pub may_start : NodeMode → NodeMode → Bool
+may_start Normal Empty = true
+may_start mode other = false
+
+-- the node from which a migration starts, by the modes of A and B and the version
+abbrev pub on_start : NodeMode → NodeMode → ℕ → Option Node
+on_start a b version = if may_start a b then Some A else None
 
 -- finish at a node in this mode; active: a transaction is active there
 abbrev pub on_finish : NodeMode → Bool → FinRow

@@ -1,7 +1,6 @@
 //! The mode table: what a node does with a message, and when a migration starts and finishes, by the modes alone.
 #![tactic(auto)]
 
-pub mod kind;
 pub mod mode;
 pub mod table;
 #[cfg(test)]

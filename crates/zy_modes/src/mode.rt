@@ -1,6 +1,6 @@
 //! Where a node stands in a migration.
 ghost use Rattle.std.specs.Prelude.{◌≡◌};
-ghost use Rattle.zy_modes.specs.Table.{may_split, is_waiting, may_pull, may_push};
+ghost use Rattle.zy_modes.specs.Table.{may_start, may_split, is_waiting, may_pull, may_push};
 
 /// A node's mode. Those of a source begin with S, those of a destination with D.
 #[derive(Clone, Copy, Debug, PartialEq, Eq)]
@@ -24,6 +24,13 @@ pub enum NodeMode {
 }
 
 impl NodeMode {
+    /// Whether a node may start a migration to one in that mode.
+    pub fn may_start(self, other: NodeMode) -> bool
+        ensures { result ≡ may_start self other }
+    {
+        matches!((self, other), (NodeMode::Normal, NodeMode::Empty))
+    }
+
     /// Whether a node may split a page.
     pub fn may_split(self) -> bool
         ensures { result ≡ may_split self }

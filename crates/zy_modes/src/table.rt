@@ -2,7 +2,7 @@
 ghost use Rattle.std.specs.Prelude.{◌≡◌};
 ghost use Rattle.zy_modes.specs.Table.{finishes as finishes_lem, on_message as on_message_lem, on_start as on_start_lem, on_finish as on_finish_lem, home_of as home_of_lem, HandsOver};
 
-use crate::kind::Kind;
+use zy_links::kind::Kind;
 use crate::mode::NodeMode;
 use zy_isa::node::Node;
 
@@ -27,8 +27,8 @@ pub enum FinRow {
 }
 
 /// What a message of this kind does at a node in this mode. `all_here`: with the page that it brings none is missing.
-/// A page that is asked for goes out only if it may leave, which is not told here.
-pub fn on_message(mode: NodeMode, kind: Kind, all_here: bool) -> MsgRow
+/// A page that is asked for goes out only if it may leave, which is not told here. No line depends on the version.
+pub fn on_message(mode: NodeMode, kind: Kind, all_here: bool, _version: u8) -> MsgRow
     ensures row { result ≡ on_message_lem mode kind all_here }
     ensures hands_over { HandsOver all_here result }
 {
@@ -57,14 +57,11 @@ fn finishes(all_here: bool) -> MsgRow
     }
 }
 
-/// The node from which a migration starts, by the modes of A and B.
-pub fn on_start(a: NodeMode, b: NodeMode) -> Option<Node>
-    ensures { result ≡ on_start_lem a b }
+/// The node from which a migration starts, by the modes of A and B and the version of the scenario.
+pub fn on_start(a: NodeMode, b: NodeMode, version: u8) -> Option<Node>
+    ensures { result ≡ on_start_lem a b version }
 {
-    match (a, b) {
-        (NodeMode::Normal, NodeMode::Empty) => Some(Node::A),
-        _ => None,
-    }
+    if a.may_start(b) { Some(Node::A) } else { None }
 }
 
 /// What `finish` does at a node in this mode. `active`: a transaction is active there.

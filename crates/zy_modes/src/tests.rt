@@ -1,5 +1,5 @@
 //! Every pair of mode and kind, and every pair of modes, against tables written by hand.
-use crate::kind::Kind;
+use zy_links::kind::Kind;
 use crate::mode::NodeMode;
 use crate::table::{FinRow, MsgRow, home_of, on_finish, on_message, on_start};
 use zy_isa::node::Node;
@@ -121,7 +121,7 @@ fn every_message_in_every_mode(rt: HostRuntime) {
     for (mode, line) in MODES.iter().zip(&MISSING) {
         for (kind, want) in KINDS.iter().zip(line) {
             assert_eq!(rt;
-                words(on_message(*mode, *kind, false)),
+                words(on_message(*mode, *kind, false, 1)),
                 *want,
                 "{mode:?} {kind:?}"
             );
@@ -130,7 +130,7 @@ fn every_message_in_every_mode(rt: HostRuntime) {
     for (mode, line) in MODES.iter().zip(&ALL_HERE) {
         for (kind, want) in KINDS.iter().zip(line) {
             assert_eq!(rt;
-                words(on_message(*mode, *kind, true)),
+                words(on_message(*mode, *kind, true, 1)),
                 *want,
                 "{mode:?} {kind:?}"
             );
@@ -184,7 +184,7 @@ fn every_pair_of_modes(rt: HostRuntime) {
             assert_eq!(rt; letter(home_of(*a, *b)), *want, "{a:?} {b:?}");
             let starts = *a == NodeMode::Normal && *b == NodeMode::Empty;
             assert_eq!(rt;
-                on_start(*a, *b),
+                on_start(*a, *b, 1),
                 if starts { Some(Node::A) } else { None },
                 "{a:?} {b:?}"
             );

@@ -9,16 +9,16 @@ ghost use Rattle.zy_moves.specs.Sides.{beside};
 
 use std::alloc::{AllocError, Global};
 use zy_links::message::Message;
-use zy_modes::kind::Kind;
+use zy_links::kind::Kind;
 use zy_modes::mode::NodeMode;
-use zy_modes::table::{home_of, on_start};
+use zy_modes::table::home_of;
 use zy_node::node_store::NodeStore;
 use zy_table::answer::Answer;
 use zy_run::run::abort_row;
 use zy_table::outcome::{Outcome, Why};
 use zy_txns::book::Book;
 
-/// `C start`, at A beside B.
+/// `C start`, at the node that starts, beside the other.
 #[tactic(auto, unfolding(zy_table::specs::Client::start_row))]
 pub fn start_row(
     alloc: Global,
@@ -27,7 +27,7 @@ pub fn start_row(
 ) -> Result<Answer, AllocError>
     ensures { (v : View) → Makes (beside me.old them.now v) (beside me.new them.now v) result (start_row_lem (beside me.old them.now v)) }
 {
-    if on_start(me.mode, them.mode).is_none() {
+    if !me.mode.may_start(them.mode) {
         return Ok(Answer::quiet(Outcome::BadMode));
     }
     me.reserve_post()?;

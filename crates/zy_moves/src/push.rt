@@ -12,7 +12,7 @@ use crate::take::leave;
 use std::alloc::AllocError;
 use zy_isa::node::Node;
 use zy_links::message::Message;
-use zy_modes::kind::Kind;
+use zy_links::kind::Kind;
 use zy_modes::mode::NodeMode;
 use zy_modes::table::{FinRow, on_finish};
 use zy_node::node_store::NodeStore;

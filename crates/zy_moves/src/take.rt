@@ -16,7 +16,7 @@ use std::alloc::{AllocError, Global};
 use zy_isa::rule::Rule;
 use zy_isa::scenario::Scenario;
 use zy_links::message::Message;
-use zy_modes::kind::Kind;
+use zy_links::kind::Kind;
 use zy_modes::mode::NodeMode;
 use zy_modes::table::{MsgRow, on_message};
 use zy_node::frame::Frame;
@@ -59,7 +59,7 @@ fn lacks(me: &NodeStore, more: usize) -> bool
 }
 
 /// The line of the mode table for a message.
-fn line(me: &NodeStore, message: &Message) -> MsgRow
+fn line(scenario: &Scenario, me: &NodeStore, message: &Message) -> MsgRow
     requires named { IsNamed (node_shown me.now) }
     requires new { IsNew (message_of message.now) (node_shown me.now) }
     ensures { let m = message_of message.now in let x = node_shown me.now in
@@ -75,7 +75,7 @@ fn line(me: &NodeStore, message: &Message) -> MsgRow
         Message::Pull(_) => false,
         Message::Done => false,
     };
-    on_message(me.mode, message.kind(), all)
+    on_message(me.mode, message.kind(), all, scenario.version())
 }
 
 /// Keeps what a message brings.
@@ -172,14 +172,14 @@ impl Front {
 }
 
 /// What stands at the front of the link to a node.
-fn at_front(me: &NodeStore, inbox: &Mailbox) -> Front
+fn at_front(scenario: &Scenario, me: &NodeStore, inbox: &Mailbox) -> Front
     requires { MayTake inbox.now.messages (node_shown me.now) }
     ensures { IsFront result (node_shown me.now) inbox.now.messages }
 {
     let Some(message) = inbox.front() else {
         return Front::Nothing;
     };
-    Front::of(message, line(me, message))
+    Front::of(message, line(scenario, me, message))
 }
 
 /// Makes room for the answer, if there is one.
@@ -204,7 +204,7 @@ pub fn take_row(
     requires { MayTake inbox.old.messages (node_shown me.old) }
     ensures { Takes me.old inbox.old me.new inbox.new result (take_row_lem scenario.now) }
 {
-    match at_front(me, inbox) {
+    match at_front(scenario, me, inbox) {
         Front::Nothing => Ok(Answer::quiet(Outcome::NoMessage)),
         Front::Asks(p, line) => pull_row(scenario, me, inbox, p, line),
         Front::Brings(line) => got_row(alloc, me, inbox, line),

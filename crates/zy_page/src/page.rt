@@ -108,6 +108,14 @@ impl Page {
         self.rows.put(new_key, value);
     }
 
+    /// Puts a row, over one of the same key if there is one. It takes no memory.
+    pub fn install(&mut self, key: u16, value: u32)
+        requires { get_row self.old.rows key ≡ None → length self.old.rows < 16 }
+        ensures { self.new ≡ record self.old { rows = put_row key value self.old.rows } }
+    {
+        self.rows.put(key, value);
+    }
+
     /// Moves the rows at or above `boundary` into a new page with this number, whose low key is the boundary.
     pub fn split_at(
         &mut self,

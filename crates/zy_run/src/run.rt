@@ -19,7 +19,7 @@ use zy_isa::instr::{Instr, Reg};
 use zy_isa::node::Node;
 use zy_isa::scenario::Scenario;
 use zy_locks::lock::LockKind;
-use zy_modes::kind::Kind;
+use zy_links::kind::Kind;
 use zy_node::node_store::{NodeStore, gone_page, new_rows};
 use zy_table::access::Access;
 use zy_table::answer::Answer;
@@ -365,8 +365,9 @@ fn value(me: &NodeStore, txn: &Txn, key: u16, p: u16) -> u32
 fn has_room(scenario: &Scenario, me: &NodeStore, txn: &Txn, p: u16) -> bool
     ensures { result ≡ has_room_lem scenario.now p (node_shown me.now) txn.now }
 {
-    let cap = usize::from(scenario.cap());
-    new_rows(me, p, txn.rows()) < cap.saturating_sub(me.page_len(p))
+    let free = usize::from(scenario.cap()).saturating_sub(me.page_len(p));
+    let rows = txn.rows();
+    rows.len() < free || new_rows(me, p, rows) < free
 }
 
 /// The key at which a full page is split for an insert: that at index `(cap + 1) / 2` among the keys of the page,

@@ -11,7 +11,7 @@ use std::fmt::Write;
 use zy_isa::section::{Line, Lines, Section, append_number, append_numbered, write_lines};
 use zy_isa::stream::Sink;
 use zy_isa::writing::TextFault;
-use zy_modes::kind::Kind;
+use zy_links::kind::Kind;
 use zy_table::entry::Entry;
 use zy_table::outcome::Outcome;
 

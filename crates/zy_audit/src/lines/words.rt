@@ -5,7 +5,7 @@ ghost use Rattle.zy_audit.specs.Texts.{why_text, kind_text, mode_word as mode_wo
 
 use std::alloc::AllocError;
 use zy_isa::section::append_numbered;
-use zy_modes::kind::Kind;
+use zy_links::kind::Kind;
 use zy_modes::mode::NodeMode;
 use zy_table::outcome::Why;
 
