@@ -10,7 +10,7 @@
      empty N     the Nth write to standard output takes no byte
      signal N    the Nth write to standard output is interrupted (EINTR)
      tell N      the Nth write to standard error fails (EIO)
-     bytes 0     nothing; but each read and each write moves one byte
+     bytes 0     each read and each write moves one byte; those that asked for more are refused the rest
      nothing 0   nothing
 
    When the program ends, one line goes to the descriptor that REPORT names: how many requests, reads, writes to standard
@@ -126,6 +126,14 @@ static ssize_t fails(int error) {
     return -1;
 }
 
+/* How many bytes a read or a write may move that asks for so many. */
+static size_t allowed(size_t count) {
+    if (!is("bytes") || count < 2)
+        return count;
+    refused++;
+    return 1;
+}
+
 ssize_t read(int descriptor, void *bytes, size_t count) {
     if (FROM_PROGRAM) {
         counted[READS]++;
@@ -133,8 +141,7 @@ ssize_t read(int descriptor, void *bytes, size_t count) {
             return fails(EIO);
         if (is_chosen("broken", READS))
             return fails(EINTR);
-        if (is("bytes") && count > 1)
-            count = 1;
+        count = allowed(count);
     }
     return syscall(SYS_read, descriptor, bytes, count);
 }
@@ -153,7 +160,7 @@ ssize_t write(int descriptor, const void *bytes, size_t count) {
         if (is_chosen("empty", WRITES))
             return 0;
     }
-    if (FROM_PROGRAM && is("bytes") && count > 1)
-        count = 1;
+    if (FROM_PROGRAM)
+        count = allowed(count);
     return syscall(SYS_write, descriptor, bytes, count);
 }
