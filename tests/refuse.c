@@ -41,13 +41,15 @@ static unsigned long counted[KINDS], refused, chosen;
 static char what[16] = "nothing";
 static uintptr_t code_begin, code_end;
 
-/* The first object that is listed is the program. */
+/* The first object that is listed is the program. Its parts rise by address. */
 static int find_code(struct dl_phdr_info *object, size_t size, void *unused) {
     for (int i = 0; i < object->dlpi_phnum; i++) {
         const ElfW(Phdr) *part = &object->dlpi_phdr[i];
         if (part->p_type == PT_LOAD && (part->p_flags & PF_X)) {
-            code_begin = object->dlpi_addr + part->p_vaddr;
-            code_end = code_begin + part->p_memsz;
+            uintptr_t begin = object->dlpi_addr + part->p_vaddr;
+            if (code_begin == 0)
+                code_begin = begin;
+            code_end = begin + part->p_memsz;
         }
     }
     return 1;
@@ -81,11 +83,12 @@ static int is_chosen(const char *word, int kind) {
 
 static int has_no_memory(void) {
     counted[REQUESTS]++;
-    if (is("famine") && counted[REQUESTS] > chosen) {
-        refused++;
+    if (is_chosen("memory", REQUESTS))
         return 1;
-    }
-    return is_chosen("memory", REQUESTS) || is_chosen("famine", REQUESTS);
+    if (!is("famine") || counted[REQUESTS] < chosen)
+        return 0;
+    refused++;
+    return 1;
 }
 
 #define REFUSE_MEMORY                                                                                                    \
