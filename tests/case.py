@@ -1,0 +1,77 @@
+"""The cases in tests/cases. Each is a folder with these files:
+
+  cmd      the words after the program's name
+  stdin    the input; or
+  example  the file of examples/ that is the input; with neither of the two the input is empty
+  pad      a number: the input goes on with empty lines up to this many bytes
+  to       where standard output goes, in place of being read: `closed`, or a path such as /dev/full
+  stdout   the output that is wanted; none: nothing
+  status   the exit status that is wanted
+  fault    where the run is refused, the fault's name as standard error tells it: one line `zy_bench: FAULT: words`"""
+
+import os
+import re
+import subprocess
+
+TOP = os.path.dirname(os.path.dirname(os.path.abspath(__file__)))
+CASES = os.path.join(TOP, 'tests', 'cases')
+EXAMPLES = os.path.join(TOP, 'examples')
+PROGRAM = os.path.join(TOP, 'crates', 'zy_bench', 'out', 'zy_bench')
+
+
+def content(path):
+    """The bytes of a file; none where there is no such file."""
+    if not os.path.exists(path):
+        return b''
+    with open(path, 'rb') as file:
+        return file.read()
+
+
+class Case:
+    def __init__(self, name):
+        self.name = name
+        self.words = self.text('cmd').split()
+        self.example = self.text('example')
+        self.text_given = content(os.path.join(EXAMPLES, self.example)) if self.example else self.part('stdin')
+        self.pad = int(self.text('pad') or 0)
+        self.to = self.text('to')
+        self.output = self.part('stdout')
+        self.status = int(self.text('status'))
+        self.fault = self.text('fault')
+
+    def part(self, name):
+        return content(os.path.join(CASES, self.name, name))
+
+    def text(self, name):
+        return self.part(name).decode().strip()
+
+    def input(self):
+        return self.text_given + b'\n' * (self.pad - len(self.text_given))
+
+    def run(self, more=None, **how):
+        """The status, the output (None where it went elsewhere) and standard error of a run. What `more` has goes into the
+        environment; the rest is for subprocess.run, the input too."""
+        how.update(stderr=subprocess.PIPE, timeout=60, env={**os.environ, **(more or {})})
+        if self.to == 'closed':
+            done = subprocess.run([PROGRAM] + self.words, preexec_fn=lambda: os.close(1), **how)
+        elif self.to:
+            with open(self.to, 'wb') as place:
+                done = subprocess.run([PROGRAM] + self.words, stdout=place, **how)
+        else:
+            done = subprocess.run([PROGRAM] + self.words, stdout=subprocess.PIPE, **how)
+        return done.returncode, done.stdout, done.stderr
+
+
+def tells(errors, fault):
+    """Whether standard error is one line that tells this fault."""
+    return re.fullmatch(r'zy_bench: %s: .+\n' % re.escape(fault), errors.decode(errors='replace')) is not None
+
+
+def all_cases():
+    return [Case(name) for name in sorted(os.listdir(CASES))]
+
+
+def is_built():
+    """Whether the program is there, once ./zy_bench has built it where it was not."""
+    words = [os.path.join(TOP, 'zy_bench'), '--version']
+    return os.path.exists(words[0]) and subprocess.run(words, stdout=subprocess.DEVNULL).returncode == 0

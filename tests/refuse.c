@@ -1,0 +1,169 @@
+/* Preloaded into a program, this refuses what the program asks of the C library.
+
+   The variable REFUSE says what is refused, N counting the program's calls from 1:
+
+     memory N    the Nth request for memory
+     famine N    the Nth request for memory and each one after it
+     read N      the Nth read fails (EIO)
+     broken N    the Nth read is interrupted (EINTR)
+     write N     the Nth write to standard output fails (EIO)
+     empty N     the Nth write to standard output takes no byte
+     signal N    the Nth write to standard output is interrupted (EINTR)
+     tell N      the Nth write to standard error fails (EIO)
+     bytes 0     each read and each write moves one byte; those that asked for more are refused the rest
+     nothing 0   nothing
+
+   When the program ends, one line goes to the descriptor that REPORT names: how many requests, reads, writes to standard
+   output and writes to standard error there were, and how many of all of them were refused.
+
+   Only calls from the program's own code count: those whose return address lies in it. What the loader and the C library
+   ask for themselves is theirs, before `main` and after, and is never refused. */
+
+#define _GNU_SOURCE
+#include <errno.h>
+#include <link.h>
+#include <stdint.h>
+#include <stdio.h>
+#include <stdlib.h>
+#include <string.h>
+#include <sys/syscall.h>
+#include <unistd.h>
+
+/* The C library's own, under the names by which it can be reached from here. */
+void *__libc_malloc(size_t size);
+void *__libc_calloc(size_t count, size_t size);
+void *__libc_realloc(void *block, size_t size);
+void *__libc_memalign(size_t alignment, size_t size);
+
+enum { REQUESTS, READS, WRITES, TELLS, KINDS };
+
+static unsigned long counted[KINDS], refused, chosen;
+static char what[16] = "nothing";
+static uintptr_t code_begin, code_end;
+
+/* The first object that is listed is the program. Its parts rise by address. */
+static int find_code(struct dl_phdr_info *object, size_t size, void *unused) {
+    for (int i = 0; i < object->dlpi_phnum; i++) {
+        const ElfW(Phdr) *part = &object->dlpi_phdr[i];
+        if (part->p_type == PT_LOAD && (part->p_flags & PF_X)) {
+            uintptr_t begin = object->dlpi_addr + part->p_vaddr;
+            if (code_begin == 0)
+                code_begin = begin;
+            code_end = begin + part->p_memsz;
+        }
+    }
+    return 1;
+}
+
+__attribute__((constructor)) static void begin(void) {
+    const char *words = getenv("REFUSE");
+    if (words != NULL && sscanf(words, "%15s %lu", what, &chosen) == 2)
+        dl_iterate_phdr(find_code, NULL);
+}
+
+__attribute__((destructor)) static void report(void) {
+    char line[128];
+    const char *descriptor = getenv("REPORT");
+    int length = snprintf(line, sizeof line, "%lu %lu %lu %lu %lu\n", counted[REQUESTS], counted[READS], counted[WRITES],
+                          counted[TELLS], refused);
+    if (descriptor != NULL)
+        syscall(SYS_write, atoi(descriptor), line, (size_t)length);
+}
+
+#define FROM_PROGRAM ((uintptr_t)__builtin_return_address(0) - code_begin < code_end - code_begin)
+
+static int is(const char *word) { return strcmp(what, word) == 0; }
+
+/* Whether this call, which has been counted, is to be refused. */
+static int is_chosen(const char *word, int kind) {
+    int hit = is(word) && counted[kind] == chosen;
+    refused += hit;
+    return hit;
+}
+
+static int has_no_memory(void) {
+    counted[REQUESTS]++;
+    if (is_chosen("memory", REQUESTS))
+        return 1;
+    if (!is("famine") || counted[REQUESTS] < chosen)
+        return 0;
+    refused++;
+    return 1;
+}
+
+#define REFUSE_MEMORY                                                                                                    \
+    if (FROM_PROGRAM && has_no_memory()) {                                                                               \
+        errno = ENOMEM;                                                                                                  \
+        return NULL;                                                                                                     \
+    }
+
+void *malloc(size_t size) {
+    REFUSE_MEMORY
+    return __libc_malloc(size);
+}
+
+void *calloc(size_t count, size_t size) {
+    REFUSE_MEMORY
+    return __libc_calloc(count, size);
+}
+
+void *realloc(void *block, size_t size) {
+    REFUSE_MEMORY
+    return __libc_realloc(block, size);
+}
+
+void *aligned_alloc(size_t alignment, size_t size) {
+    REFUSE_MEMORY
+    return __libc_memalign(alignment, size);
+}
+
+int posix_memalign(void **block, size_t alignment, size_t size) {
+    if (FROM_PROGRAM && has_no_memory())
+        return ENOMEM;
+    *block = __libc_memalign(alignment, size);
+    return *block == NULL ? ENOMEM : 0;
+}
+
+static ssize_t fails(int error) {
+    errno = error;
+    return -1;
+}
+
+/* How many bytes a read or a write may move that asks for so many. */
+static size_t allowed(size_t count) {
+    if (!is("bytes") || count < 2)
+        return count;
+    refused++;
+    return 1;
+}
+
+ssize_t read(int descriptor, void *bytes, size_t count) {
+    if (FROM_PROGRAM) {
+        counted[READS]++;
+        if (is_chosen("read", READS))
+            return fails(EIO);
+        if (is_chosen("broken", READS))
+            return fails(EINTR);
+        count = allowed(count);
+    }
+    return syscall(SYS_read, descriptor, bytes, count);
+}
+
+ssize_t write(int descriptor, const void *bytes, size_t count) {
+    if (FROM_PROGRAM && descriptor == STDERR_FILENO) {
+        counted[TELLS]++;
+        if (is_chosen("tell", TELLS))
+            return fails(EIO);
+    } else if (FROM_PROGRAM) {
+        counted[WRITES]++;
+        if (is_chosen("write", WRITES))
+            return fails(EIO);
+        if (is_chosen("signal", WRITES))
+            return fails(EINTR);
+        if (is_chosen("empty", WRITES))
+            return 0;
+    }
+    if (FROM_PROGRAM)
+        count = allowed(count);
+    return syscall(SYS_write, descriptor, bytes, count);
+}
