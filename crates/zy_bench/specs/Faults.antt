@@ -1,5 +1,6 @@
 -- The faults of an engine.
-use Rattle.std.specs.Prelude.{ℕ, Result, Ok, Err}
+use Rattle.std.specs.Prelude.{ℕ, List, Option, Result, Ok, Err}
+use Rattle.zy_isa.specs.Streams.{ReadWhole, ReadSome, ReadTooMuch}
 use Rattle.zy_isa.specs.declared.reading.ReadFault.{ReadFault}
 use Rattle.zy_isa.specs.declared.reading.ReadFault.TheVariants as reading
 use Rattle.zy_isa.specs.declared.writing.TextFault.{TextFault}
@@ -32,6 +33,15 @@ status_of TooLong = 1
 status_of Memory = 3
 status_of Read = 5
 status_of Write = 5
+
+-- what was read of the input, whose bytes went from old to new
+abbrev pub ReadsInput : {X : Type 0} → Option (List ℕ) → Option (List ℕ) → Result X BenchFault → Type 0
+ReadsInput old new (Ok x) = ReadWhole old new
+ReadsInput old new (Err (Input f)) = ReadWhole old new
+ReadsInput old new (Err Write) = ReadWhole old new
+ReadsInput old new (Err TooLong) = ReadTooMuch old new
+ReadsInput old new (Err Read) = ReadSome old new
+ReadsInput old new (Err Memory) = ReadSome old new
 
 -- how many calls of the reader failed
 abbrev pub failed_reads : {X : Type 0} → Result X BenchFault → ℕ
