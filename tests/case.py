@@ -7,7 +7,10 @@
   to       where standard output goes, in place of being read: `closed`, or a path such as /dev/full
   stdout   the output that is wanted; none: nothing
   status   the exit status that is wanted
-  fault    where the run is refused, the fault's name as standard error tells it: one line `zy_bench: FAULT: words`"""
+  fault    where the run is refused, the fault's name as standard error tells it: one line `zy_bench: FAULT: words`
+  words    the words of that line; none: any
+
+Each line of tests/refused is a text that `zy_bench run` refuses, with its fault and words."""
 
 import os
 import re
@@ -15,6 +18,7 @@ import subprocess
 
 TOP = os.path.dirname(os.path.dirname(os.path.abspath(__file__)))
 CASES = os.path.join(TOP, 'tests', 'cases')
+REFUSED = os.path.join(TOP, 'tests', 'refused')
 EXAMPLES = os.path.join(TOP, 'examples')
 PROGRAM = os.path.join(TOP, 'crates', 'zy_bench', 'out', 'zy_bench')
 
@@ -38,6 +42,7 @@ class Case:
         self.output = self.part('stdout')
         self.status = int(self.text('status'))
         self.fault = self.text('fault')
+        self.said = self.text('words')
 
     def part(self, name):
         return content(os.path.join(CASES, self.name, name))
@@ -62,13 +67,33 @@ class Case:
         return done.returncode, done.stdout, done.stderr
 
 
-def tells(errors, fault):
-    """Whether standard error is one line that tells this fault."""
-    return re.fullmatch(r'zy_bench: %s: .+\n' % re.escape(fault), errors.decode(errors='replace')) is not None
+class Refused(Case):
+    """A text that is refused."""
+
+    HEAD = 'zephyr 1\\ncap 4\\npages 1\\nrule held\\n'
+
+    def __init__(self, line):
+        fault, self.said, text = (part.strip() for part in line.split('|'))
+        kind, number = fault.rstrip(')').split('(')
+        self.name = 'refused: %s' % text
+        self.words, self.example, self.pad, self.to, self.output, self.status = ['run'], '', 0, '', b'', 1
+        self.fault = 'Input(line %s, %s)' % (number, kind)
+        self.text_given = text.replace('HEAD ', self.HEAD).encode().decode('unicode_escape').encode()
+
+
+def tells(errors, fault, words=''):
+    """Whether standard error is one line that tells this fault, in these words if there are any."""
+    line = r'zy_bench: %s: %s\n' % (re.escape(fault), re.escape(words) if words else '.+')
+    return re.fullmatch(line, errors.decode(errors='replace')) is not None
 
 
 def all_cases():
     return [Case(name) for name in sorted(os.listdir(CASES))]
+
+
+def all_refused():
+    with open(REFUSED, encoding='utf-8') as file:
+        return [Refused(line) for line in file if line.strip() and not line.startswith('#')]
 
 
 def is_built():

@@ -1,3 +1,4 @@
+pub mod Reasons
 pub mod Steps
 pub mod Instructions
 pub mod Choices

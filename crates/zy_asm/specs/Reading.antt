@@ -13,6 +13,9 @@ use Rattle.zy_isa.specs.Scenario.{opening_pages_for}
 use Rattle.zy_asm.specs.declared.faults.AsmKind.{AsmKind}
 use Rattle.zy_asm.specs.declared.faults.AsmKind.TheVariants as kinds
 use Rattle.zy_asm.specs.declared.faults.AsmFault.{AsmFault}
+use Rattle.zy_asm.specs.declared.faults.Reason.{Reason}
+use Rattle.zy_asm.specs.declared.faults.Refusal.{Refusal}
+use Rattle.zy_asm.specs.Reasons.{kind_of, fault_of}
 use Rattle.zy_asm.specs.declared.choices.Action.{Action}
 use Rattle.zy_asm.specs.declared.choices.Action.TheVariants.{Txn, Plain}
 use Rattle.zy_asm.specs.declared.choices.TxnAction.{TxnAction}
@@ -232,16 +235,16 @@ reading text = read_lines nothing_seen 1 (lines_of text)
 -- ---- calls that may want memory
 
 -- a call did the step, unless there was no memory
-abbrev pub Steps : Result (Unit {0}) AsmKind → Seen → Result Seen AsmKind → Type 0
+abbrev pub Steps : Result (Unit {0}) Reason → Seen → Result Seen AsmKind → Type 0
 Steps (Ok x) new read = read ≡ Ok new
-Steps (Err e) new read = (e ≡ kinds.Memory) ⊎ (read ≡ Err e)
+Steps (Err r) new read = (kind_of r ≡ kinds.Memory) ⊎ (read ≡ Err (kind_of r))
 
 -- the answer is what was given, unless there was no memory
-abbrev pub Gives : {X : Type 0} → Result X AsmKind → Result X AsmKind → Type 0
+abbrev pub Gives : {X : Type 0} → Result X Reason → Result X AsmKind → Type 0
 Gives (Ok x) given = given ≡ Ok x
-Gives (Err e) given = (e ≡ kinds.Memory) ⊎ (given ≡ Err e)
+Gives (Err r) given = (kind_of r ≡ kinds.Memory) ⊎ (given ≡ Err (kind_of r))
 
 -- the answer is what reading gives, unless there was no memory
-abbrev pub Reads : Result Reader AsmFault → Result Seen AsmFault → Type 0
-Reads (Ok r) read = read ≡ Ok (seen r)
-Reads (Err f) read = (f.kind ≡ kinds.Memory) ⊎ (read ≡ Err f)
+abbrev pub Reads : Result Reader Refusal → Result Seen AsmFault → Type 0
+Reads (Ok x) read = read ≡ Ok (seen x)
+Reads (Err r) read = (kind_of r.reason ≡ kinds.Memory) ⊎ (read ≡ Err (fault_of r))

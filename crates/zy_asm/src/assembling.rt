@@ -5,9 +5,10 @@ ghost use Rattle.zy_isa.specs.Canon.{canon};
 ghost use Rattle.zy_isa.specs.Text.{Means};
 ghost use Rattle.zy_asm.specs.Reading.{reading};
 ghost use Rattle.zy_asm.specs.Input.{utf8_fault, input_fault};
+ghost use Rattle.zy_asm.specs.Reasons.{fault_of};
 ghost use Rattle.zy_asm.specs.Assembling.{GivesScenario};
 
-use crate::faults::{AsmFault, AsmKind};
+use crate::faults::{AsmKind, Refusal};
 use crate::reading::read;
 use crate::state::Reader;
 use crate::text::text_of;
@@ -16,16 +17,16 @@ use zy_isa::rule::Rule;
 use zy_isa::scenario::Scenario;
 
 /// The scenario that a text means. It takes memory for what the scenario has, and for the words of one line at a time.
-pub fn assemble(alloc: Global, text: &str) -> Result<Scenario, AsmFault>
+pub fn assemble(alloc: Global, text: &str) -> Result<Scenario, Refusal>
     // What is read is meant.
     ensures found { IfOk result (λ s. Means text.now s) }
     // What is meant is read, unless there is no memory.
     ensures only { (s : isa.Scenario) → Means text.now s → GivesScenario result s }
     // The fault is that of the first faulty line.
-    ensures fault { IfErr result (λ f. (f.kind ≡ AsmKind.Memory) ⊎ (reading text.now ≡ Err f)) }
+    ensures fault { IfErr result (λ r. ((fault_of r).kind ≡ AsmKind.Memory) ⊎ (reading text.now ≡ Err (fault_of r))) }
 {
     match read(alloc, text) {
-        Err(fault) => Err(fault),
+        Err(refusal) => Err(refusal),
         Ok(reader) => {
             let Reader {
                 alloc: _,
@@ -50,13 +51,13 @@ pub fn assemble(alloc: Global, text: &str) -> Result<Scenario, AsmFault>
 }
 
 /// The scenario that bytes mean, where they are UTF-8.
-pub fn assemble_bytes(alloc: Global, bytes: &[u8]) -> Result<Scenario, AsmFault>
+pub fn assemble_bytes(alloc: Global, bytes: &[u8]) -> Result<Scenario, Refusal>
     // What is read is meant, and the bytes have no fault.
     ensures found { IfOk result (λ s. Means bytes.now s × (input_fault bytes.now ≡ None)) }
     // What is meant is read, unless there is no memory.
     ensures only { (s : isa.Scenario) → utf8_fault bytes.now ≡ None → Means bytes.now s → GivesScenario result s }
     // The fault is the first one of the bytes.
-    ensures fault { IfErr result (λ f. (f.kind ≡ AsmKind.Memory) ⊎ (input_fault bytes.now ≡ Some f)) }
+    ensures fault { IfErr result (λ r. ((fault_of r).kind ≡ AsmKind.Memory) ⊎ (input_fault bytes.now ≡ Some (fault_of r))) }
 {
     match text_of(bytes) {
         Ok(text) => assemble(alloc, text),

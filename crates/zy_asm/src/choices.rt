@@ -1,9 +1,11 @@
 //! The choice of a line, and how often it is made.
 ghost use Rattle.std.specs.Prelude.{◌≡◌, ◌≤◌, IfOk};
+ghost use Rattle.zy_asm.specs.Reasons.{by_kind, kind_of};
 ghost use Rattle.zy_asm.specs.Steps.{texts};
 ghost use Rattle.zy_asm.specs.Choices.{actor_of as actor_of_lem, client_action as client_action_lem, node_action as node_action_lem, action_of as action_of_lem, chosen as chosen_lem, are_times as are_times_lem, times_of as times_of_lem, transaction as transaction_lem};
 
-use crate::faults::AsmKind;
+use crate::faults::{AsmKind, Reason};
+use crate::shown::Shown;
 use crate::words::{is, number_in, number_of};
 use zy_isa::choice::Choice;
 use zy_isa::node::{Actor, Node};
@@ -99,15 +101,17 @@ pub fn chosen(action: TxnAction, t: u8) -> Choice
 }
 
 /// The number of a transaction, of which there are `count`.
-pub fn transaction(count: usize, word: &[u8]) -> Result<u8, AsmKind>
+pub fn transaction(count: usize, word: &[u8]) -> Result<u8, Reason>
     requires { count ≤ 64 }
-    ensures { result ≡ transaction_lem count word.now }
+    ensures { by_kind result ≡ transaction_lem count word.now }
 {
-    let number = number_of(word).ok_or(AsmKind::Number)?;
+    let Some(number) = number_of(word) else {
+        return Err(Reason::NotDigits(Shown::of(word)));
+    };
     if number < count as u64 {
         Ok(number as u8)
     } else {
-        Err(AsmKind::Label)
+        Err(Reason::NoTransaction { number, count })
     }
 }
 
@@ -122,14 +126,24 @@ pub fn are_times(words: &[&[u8]]) -> bool
     }
 }
 
+/// Why such words are neither `x` and another one nor none.
+pub fn not_times(words: &[&[u8]]) -> Reason
+    ensures { kind_of result ≡ AsmKind.Word }
+{
+    match words {
+        [word, _] => Reason::NotKnown(Shown::of(word)),
+        _ => Reason::WordCount,
+    }
+}
+
 /// How often the words behind a choice say that it is made.
-pub fn times_of(words: &[&[u8]]) -> Result<u64, AsmKind>
-    ensures value { result ≡ times_of_lem (texts words.now) }
+pub fn times_of(words: &[&[u8]]) -> Result<u64, Reason>
+    ensures value { by_kind result ≡ times_of_lem (texts words.now) }
     ensures few { IfOk result (λ n. n ≤ 4096) }
 {
     match words {
         [] => Ok(1),
         [_, number] => number_in(number, 1, MAX_CHOICES as u64),
-        _ => Err(AsmKind::Word),
+        _ => Err(Reason::WordCount),
     }
 }

@@ -1,46 +1,198 @@
 //! Why a text is no scenario.
+ghost use Rattle.std.specs.Prelude.{◌≡◌};
+ghost use Rattle.zy_asm.specs.Reasons.{kind_of, fault_of};
 
-use thiserror::Error;
+use crate::shown::Shown;
+use std::fmt;
+use zy_isa::program::ProgFault;
 
 /// Why a line is refused. Of several reasons the first is told, in the order in which the line is judged.
-#[derive(Clone, Copy, Debug, PartialEq, Eq, Error)]
+#[derive(Clone, Copy, Debug, PartialEq, Eq)]
 pub enum AsmKind {
     /// 1: this is not the statement of the header that stands here.
-    #[error("the header is zephyr 1, cap N, pages N and rule held")]
     Header,
     /// 2: a word is not known here, or there are too few or too many.
-    #[error("the statement has a wrong word or a wrong number of words")]
     Word,
     /// 3: a word is not 1 to 10 digits where a number is due.
-    #[error("a number is 1 to 10 digits")]
     Number,
     /// 4: a number is too small or too large.
-    #[error("a number is out of its range")]
     Range,
     /// 5: the statement may not stand here, or the key of a row is not above the one before it.
-    #[error("the statement may not stand here")]
     Order,
     /// 6: a transaction is not known, or has another number.
-    #[error("there is no such transaction here")]
     Label,
     /// 7: the program above is no program.
-    #[error("the program above has a target outside it or does not end")]
     Program,
     /// 8: there are too many rows, transactions, instructions or choices.
-    #[error("there is one too many of these")]
     Count,
     /// 9: the text goes on below its end, or has none.
-    #[error("the text ends with the line end")]
     End,
     /// 10: there was no memory for what the line says.
-    #[error("there is no memory for the scenario")]
     Memory,
 }
 
 /// The first faulty line, from 1, and why it is refused.
-#[derive(Clone, Copy, Debug, PartialEq, Eq, Error)]
-#[error("line {line}: {kind}")]
+#[derive(Clone, Copy, Debug, PartialEq, Eq)]
 pub struct AsmFault {
     pub line: usize,
     pub kind: AsmKind,
+}
+
+/// What is wrong with a line. The test that failed makes it, and its text tells it in words.
+#[derive(Clone, Copy, Debug, PartialEq, Eq)]
+pub enum Reason {
+    /// This is not the statement of the header that stands here.
+    NotTheHeader,
+    /// The bytes are not UTF-8.
+    NotText,
+    /// This word is not known here.
+    NotKnown(Shown),
+    /// There are too few words or too many.
+    WordCount,
+    /// This word is not 1 to 10 digits.
+    NotDigits(Shown),
+    /// This number is not from `least` to `most`.
+    OutOfRange { number: u64, least: u64, most: u64 },
+    /// The statement may not stand here.
+    Misplaced,
+    /// The key of a row is not above the last one.
+    NotAbove { key: u16, last: u16 },
+    /// There is no transaction of this number, but so many others.
+    NoTransaction { number: u64, count: usize },
+    /// A program has this number and not its own.
+    NotOwnNumber { number: u64, own: usize },
+    /// The instructions of the program of this number are no program.
+    NoProgram { number: usize, fault: ProgFault },
+    /// There is a row too many.
+    RowCount,
+    /// The rows need more opening pages than there may be.
+    PageCount { pages: u16 },
+    /// There is an instruction too many.
+    InstrCount,
+    /// There is a program too many.
+    ProgramCount,
+    /// There is a choice too many.
+    ChoiceCount,
+    /// The text goes on below its end.
+    BelowEnd,
+    /// The text has no end.
+    NoEnd,
+    /// There was no memory for what the line says.
+    NoMemory,
+}
+
+impl Reason {
+    /// The kind of fault that it is.
+    pub fn kind(self) -> AsmKind
+        ensures { result ≡ kind_of self }
+    {
+        match self {
+            Reason::NotTheHeader => AsmKind::Header,
+            Reason::NotText => AsmKind::Word,
+            Reason::NotKnown(_) => AsmKind::Word,
+            Reason::WordCount => AsmKind::Word,
+            Reason::NotDigits(_) => AsmKind::Number,
+            Reason::OutOfRange { .. } => AsmKind::Range,
+            Reason::Misplaced => AsmKind::Order,
+            Reason::NotAbove { .. } => AsmKind::Order,
+            Reason::NoTransaction { .. } => AsmKind::Label,
+            Reason::NotOwnNumber { .. } => AsmKind::Label,
+            Reason::NoProgram { .. } => AsmKind::Program,
+            Reason::RowCount => AsmKind::Count,
+            Reason::PageCount { .. } => AsmKind::Count,
+            Reason::InstrCount => AsmKind::Count,
+            Reason::ProgramCount => AsmKind::Count,
+            Reason::ChoiceCount => AsmKind::Count,
+            Reason::BelowEnd => AsmKind::End,
+            Reason::NoEnd => AsmKind::End,
+            Reason::NoMemory => AsmKind::Memory,
+        }
+    }
+}
+
+impl fmt::Display for Reason {
+    fn fmt<W: fmt::Write>(&self, f: &mut fmt::Formatter<W>) -> fmt::Result {
+        match self {
+            Reason::NotTheHeader => f.write_str(
+                "the header is zephyr 1, cap N, pages N and rule held",
+            ),
+            Reason::NotText => f.write_str("a byte of this line is not UTF-8"),
+            Reason::NotKnown(word) => write!(f, "the word {word} is not known here"),
+            Reason::WordCount => f.write_str("the statement has too few words or too many"),
+            Reason::NotDigits(word) => write!(f, "a number is 1 to 10 digits, and not {word}"),
+            Reason::OutOfRange {
+                number,
+                least,
+                most,
+            } => write!(f, "{number} is not from {least} to {most}"),
+            Reason::Misplaced => f.write_str("the statement may not stand here"),
+            Reason::NotAbove { key, last } => write!(
+                f,
+                "the key {key} is not above the last one, {last}"
+            ),
+            Reason::NoTransaction { number, count } => {
+                write!(
+                    f,
+                    "there is no transaction {number}: the number of programs is {count}"
+                )
+            }
+            Reason::NotOwnNumber { number, own } => {
+                write!(
+                    f,
+                    "the program that begins here has the number {own}, and not {number}"
+                )
+            }
+            Reason::NoProgram { number, fault } => tell_program(f, *number, *fault),
+            Reason::RowCount => f.write_str("there are at most 256 rows"),
+            Reason::PageCount { pages } => write!(
+                f,
+                "the rows up to here need more opening pages than {pages}"
+            ),
+            Reason::InstrCount => f.write_str("a program has at most 64 instructions"),
+            Reason::ProgramCount => f.write_str("there are at most 64 programs"),
+            Reason::ChoiceCount => f.write_str("there are at most 4096 choices"),
+            Reason::BelowEnd => f.write_str("the text goes on below the line end"),
+            Reason::NoEnd => f.write_str("the text stops before the line end"),
+            Reason::NoMemory => f.write_str("there is no memory for the scenario"),
+        }
+    }
+}
+
+/// Tells why a list of instructions is no program.
+fn tell_program<W: fmt::Write>(
+    f: &mut fmt::Formatter<W>,
+    number: usize,
+    fault: ProgFault,
+) -> fmt::Result {
+    match fault {
+        ProgFault::Empty => write!(f, "program {number} has no instruction"),
+        ProgFault::Target(at) => {
+            write!(
+                f,
+                "program {number}: the target of instruction {at} (from 0) is outside the program"
+            )
+        }
+        ProgFault::NoEnd => write!(f, "program {number} does not end with commit or abort"),
+        ProgFault::TooLong => write!(f, "program {number} has more than 64 instructions"),
+        ProgFault::Memory => write!(f, "there is no memory for program {number}"),
+    }
+}
+
+/// The first faulty line, from 1, and what is wrong with it.
+#[derive(Clone, Copy, Debug, PartialEq, Eq)]
+pub struct Refusal {
+    pub line: usize,
+    pub reason: Reason,
+}
+
+impl Refusal {
+    /// The fault that it is.
+    pub fn fault(self) -> AsmFault
+        ensures { result ≡ fault_of self }
+    {
+        AsmFault {
+            line: self.line,
+            kind: self.reason.kind(),
+        }
+    }
 }

@@ -1,9 +1,11 @@
 //! The instruction of a line.
 ghost use Rattle.std.specs.Prelude.{◌≡◌};
+ghost use Rattle.zy_asm.specs.Reasons.{by_kind};
 ghost use Rattle.zy_asm.specs.Steps.{texts};
 ghost use Rattle.zy_asm.specs.Instructions.{register_of as register_of_lem, two as two_lem, pair_of as pair_of_lem, target_of as target_of_lem, operation_of as operation_of_lem, set_of as set_of_lem, beq_of as beq_of_lem, alone as alone_lem, instr_of as instr_of_lem};
 
-use crate::faults::AsmKind;
+use crate::faults::Reason;
+use crate::shown::Shown;
 use crate::words::{is, number_in};
 use zy_isa::instr::{Instr, Reg};
 
@@ -46,8 +48,8 @@ pub fn operation_of(word: &[u8]) -> Option<Operation>
 }
 
 /// The register that a word names.
-fn register_of(word: &[u8]) -> Result<Reg, AsmKind>
-    ensures { result ≡ register_of_lem word.now }
+fn register_of(word: &[u8]) -> Result<Reg, Reason>
+    ensures { by_kind result ≡ register_of_lem word.now }
 {
     match word {
         b"r0" => Ok(Reg::R0),
@@ -58,76 +60,76 @@ fn register_of(word: &[u8]) -> Result<Reg, AsmKind>
         b"r5" => Ok(Reg::R5),
         b"r6" => Ok(Reg::R6),
         b"r7" => Ok(Reg::R7),
-        _ => Err(AsmKind::Word),
+        _ => Err(Reason::NotKnown(Shown::of(word))),
     }
 }
 
-fn two(a: &[u8], b: &[u8]) -> Result<(Reg, Reg), AsmKind>
-    ensures { result ≡ two_lem a.now b.now }
+fn two(a: &[u8], b: &[u8]) -> Result<(Reg, Reg), Reason>
+    ensures { by_kind result ≡ two_lem a.now b.now }
 {
     Ok((register_of(a)?, register_of(b)?))
 }
 
 /// Two registers and no more.
-fn pair_of(words: &[&[u8]]) -> Result<(Reg, Reg), AsmKind>
-    ensures { result ≡ pair_of_lem (texts words.now) }
+fn pair_of(words: &[&[u8]]) -> Result<(Reg, Reg), Reason>
+    ensures { by_kind result ≡ pair_of_lem (texts words.now) }
 {
     match words {
         [a, b] => two(a, b),
-        _ => Err(AsmKind::Word),
+        _ => Err(Reason::WordCount),
     }
 }
 
 /// The target `@N`.
-fn target_of(word: &[u8]) -> Result<u32, AsmKind>
-    ensures { result ≡ target_of_lem word.now }
+fn target_of(word: &[u8]) -> Result<u32, Reason>
+    ensures { by_kind result ≡ target_of_lem word.now }
 {
     match word {
         [b'@', number @ ..] => Ok(number_in(number, 0, u64::from(u32::MAX))? as u32),
-        _ => Err(AsmKind::Word),
+        _ => Err(Reason::NotKnown(Shown::of(word))),
     }
 }
 
 /// What follows `set`.
-fn set_of(words: &[&[u8]]) -> Result<Instr, AsmKind>
-    ensures { result ≡ set_of_lem (texts words.now) }
+fn set_of(words: &[&[u8]]) -> Result<Instr, Reason>
+    ensures { by_kind result ≡ set_of_lem (texts words.now) }
 {
     match words {
         [a, number] => {
             let a = register_of(a)?;
             Ok(Instr::Set(a, number_in(number, 0, u64::from(u32::MAX))? as u32))
         }
-        _ => Err(AsmKind::Word),
+        _ => Err(Reason::WordCount),
     }
 }
 
 /// What follows `beq`.
-fn beq_of(words: &[&[u8]]) -> Result<Instr, AsmKind>
-    ensures { result ≡ beq_of_lem (texts words.now) }
+fn beq_of(words: &[&[u8]]) -> Result<Instr, Reason>
+    ensures { by_kind result ≡ beq_of_lem (texts words.now) }
 {
     match words {
         [a, b, target] => {
             let (a, b) = two(a, b)?;
             Ok(Instr::Beq(a, b, target_of(target)?))
         }
-        _ => Err(AsmKind::Word),
+        _ => Err(Reason::WordCount),
     }
 }
 
 /// An instruction of one word, where none follows.
-fn alone(words: &[&[u8]], instr: Instr) -> Result<Instr, AsmKind>
-    ensures { result ≡ alone_lem (texts words.now) instr }
+fn alone(words: &[&[u8]], instr: Instr) -> Result<Instr, Reason>
+    ensures { by_kind result ≡ alone_lem (texts words.now) instr }
 {
     if words.is_empty() {
         Ok(instr)
     } else {
-        Err(AsmKind::Word)
+        Err(Reason::WordCount)
     }
 }
 
 /// The instruction of an operation with the words behind it.
-pub fn instr_of(operation: Operation, words: &[&[u8]]) -> Result<Instr, AsmKind>
-    ensures { result ≡ instr_of_lem operation (texts words.now) }
+pub fn instr_of(operation: Operation, words: &[&[u8]]) -> Result<Instr, Reason>
+    ensures { by_kind result ≡ instr_of_lem operation (texts words.now) }
 {
     match operation {
         Operation::Set => set_of(words),

@@ -6,6 +6,7 @@ mod choices;
 pub mod faults;
 mod instructions;
 mod reading;
+pub mod shown;
 mod state;
 #[cfg(test)]
 mod tests;

@@ -1,14 +1,16 @@
 //! Reads a text line by line.
-ghost use Rattle.std.specs.Prelude.{◌≡◌, ◌≤◌, ◌<◌, length, IfOk};
+ghost use Rattle.std.specs.Prelude.{◌≡◌, ◌≤◌, ◌<◌, length, IfOk, Some};
+ghost use Rattle.zy_asm.specs.Reasons.{by_kind};
 ghost use Rattle.zy_asm.specs.Steps.{texts};
 ghost use Rattle.zy_asm.specs.Reading.{Steps, Gives, Reads, seen, keyword_of as keyword_of_lem, are_two as are_two_lem, headed as headed_lem, zephyr_line, cap_line, pages_line, rule_line, row_of as row_of_lem, add_row, row_at, instr_line, instr_at, judged, closed, own_number as own_number_lem, open_line, txn_at, repeat_choice, repeat_line, plain_line, txn_action_line, choice_line, end_line, statement, body_line, step, ended as ended_lem, reading};
 ghost use Rattle.zy_isa.specs.Programs.{prog_fault};
 
 use crate::choices::{
-    Action, TxnAction, action_of, actor_of, are_times, chosen, times_of, transaction,
+    Action, TxnAction, action_of, actor_of, are_times, chosen, not_times, times_of, transaction,
 };
-use crate::faults::{AsmFault, AsmKind};
+use crate::faults::{Reason, Refusal};
 use crate::instructions::{Operation, instr_of, operation_of};
+use crate::shown::Shown;
 use crate::state::{Reader, Stage};
 use crate::words::{first_line, is, number_in, number_of, take_words};
 use std::alloc::Global;
@@ -70,19 +72,19 @@ fn are_two(words: &[&[u8]], first: &[u8], second: &[u8]) -> bool
 }
 
 /// The number of a header line with this first word.
-fn headed(words: &[&[u8]], name: &[u8], least: u64, most: u64) -> Result<u64, AsmKind>
-    ensures value { result ≡ headed_lem (texts words.now) name.now least most }
+fn headed(words: &[&[u8]], name: &[u8], least: u64, most: u64) -> Result<u64, Reason>
+    ensures value { by_kind result ≡ headed_lem (texts words.now) name.now least most }
     ensures range { IfOk result (λ n. (least ≤ n) × (n ≤ most)) }
 {
     match words {
         [first, number] if *first == name => number_in(number, least, most),
-        _ => Err(AsmKind::Header),
+        _ => Err(Reason::NotTheHeader),
     }
 }
 
 /// The row of the words behind `row`.
-fn row_of(words: &[&[u8]]) -> Result<Row, AsmKind>
-    ensures { result ≡ row_of_lem (texts words.now) }
+fn row_of(words: &[&[u8]]) -> Result<Row, Reason>
+    ensures { by_kind result ≡ row_of_lem (texts words.now) }
 {
     match words {
         [key, value] => {
@@ -90,44 +92,46 @@ fn row_of(words: &[&[u8]]) -> Result<Row, AsmKind>
             let value = number_in(value, 0, u64::from(u32::MAX))? as u32;
             Ok(Row { key, value })
         }
-        _ => Err(AsmKind::Word),
+        _ => Err(Reason::WordCount),
     }
 }
 
-/// The program of these instructions.
-fn program_of(alloc: Global, instrs: &[Instr]) -> Result<Program, AsmKind>
+/// The program of these instructions, which has this number.
+fn program_of(alloc: Global, number: usize, instrs: &[Instr]) -> Result<Program, Reason>
     ensures { Gives result (judged (prog_fault instrs.now) instrs.now) }
 {
     match Program::verify(alloc, instrs) {
         Ok(program) => Ok(program),
-        Err(ProgFault::Memory) => Err(AsmKind::Memory),
-        Err(_) => Err(AsmKind::Program),
+        Err(ProgFault::Memory) => Err(Reason::NoMemory),
+        Err(fault) => Err(Reason::NoProgram { number, fault }),
     }
 }
 
 /// The number of a program, of which so many stand above.
-fn own_number(count: usize, word: &[u8]) -> Result<usize, AsmKind>
-    ensures { result ≡ own_number_lem count word.now }
+fn own_number(count: usize, word: &[u8]) -> Result<usize, Reason>
+    ensures { by_kind result ≡ own_number_lem count word.now }
 {
-    let number = number_of(word).ok_or(AsmKind::Number)?;
+    let Some(number) = number_of(word) else {
+        return Err(Reason::NotDigits(Shown::of(word)));
+    };
     if number != count as u64 {
-        return Err(AsmKind::Label);
+        return Err(Reason::NotOwnNumber { number, own: count });
     }
     Ok(count)
 }
 
 impl Reader {
-    fn zephyr_line(&mut self, words: &[&[u8]]) -> Result<(), AsmKind>
+    fn zephyr_line(&mut self, words: &[&[u8]]) -> Result<(), Reason>
         ensures { Steps result (seen self.new) (zephyr_line (seen self.old) (texts words.now)) }
     {
         if !are_two(words, b"zephyr", b"1") {
-            return Err(AsmKind::Header);
+            return Err(Reason::NotTheHeader);
         }
         self.stage = Stage::Cap;
         Ok(())
     }
 
-    fn cap_line(&mut self, words: &[&[u8]]) -> Result<(), AsmKind>
+    fn cap_line(&mut self, words: &[&[u8]]) -> Result<(), Reason>
         ensures { Steps result (seen self.new) (cap_line (seen self.old) (texts words.now)) }
     {
         self.cap = headed(words, b"cap", 2, u64::from(MAX_CAP))? as u8;
@@ -135,7 +139,7 @@ impl Reader {
         Ok(())
     }
 
-    fn pages_line(&mut self, words: &[&[u8]]) -> Result<(), AsmKind>
+    fn pages_line(&mut self, words: &[&[u8]]) -> Result<(), Reason>
         ensures { Steps result (seen self.new) (pages_line (seen self.old) (texts words.now)) }
     {
         self.pages = headed(words, b"pages", 1, u64::from(MAX_PAGES))? as u16;
@@ -143,194 +147,206 @@ impl Reader {
         Ok(())
     }
 
-    fn rule_line(&mut self, words: &[&[u8]]) -> Result<(), AsmKind>
+    fn rule_line(&mut self, words: &[&[u8]]) -> Result<(), Reason>
         ensures { Steps result (seen self.new) (rule_line (seen self.old) (texts words.now)) }
     {
         if !are_two(words, b"rule", b"held") {
-            return Err(AsmKind::Header);
+            return Err(Reason::NotTheHeader);
         }
         self.stage = Stage::Rows;
         Ok(())
     }
 
-    fn add_row(&mut self, row: Row) -> Result<(), AsmKind>
+    fn add_row(&mut self, row: Row) -> Result<(), Reason>
         ensures { Steps result (seen self.new) (add_row (seen self.old) row) }
     {
         let count = self.rows.len();
-        if count >= MAX_ROWS || opening_pages_for(self.cap, count + 1) > usize::from(self.pages) {
-            return Err(AsmKind::Count);
+        if count >= MAX_ROWS {
+            return Err(Reason::RowCount);
         }
-        if self.rows.last().is_some_and(|last| row.key <= last.key) {
-            return Err(AsmKind::Order);
+        if opening_pages_for(self.cap, count + 1) > usize::from(self.pages) {
+            return Err(Reason::PageCount { pages: self.pages });
         }
-        self.rows.push(row).map_err(|_| AsmKind::Memory)?;
+        if let Some(last) = self.rows.last() {
+            if row.key <= last.key {
+                return Err(Reason::NotAbove {
+                    key: row.key,
+                    last: last.key,
+                });
+            }
+        }
+        self.rows.push(row).map_err(|_| Reason::NoMemory)?;
         Ok(())
     }
 
-    fn row_line(&mut self, words: &[&[u8]]) -> Result<(), AsmKind>
+    fn row_line(&mut self, words: &[&[u8]]) -> Result<(), Reason>
         ensures { Steps result (seen self.new) (row_at self.old.stage (seen self.old) (texts words.now)) }
     {
         if self.stage != Stage::Rows {
-            return Err(AsmKind::Order);
+            return Err(Reason::Misplaced);
         }
         let row = row_of(words)?;
         self.add_row(row)
     }
 
-    fn instr_line(&mut self, operation: Operation, words: &[&[u8]]) -> Result<(), AsmKind>
+    fn instr_line(&mut self, operation: Operation, words: &[&[u8]]) -> Result<(), Reason>
         ensures { Steps result (seen self.new) (instr_at self.old.stage (seen self.old) operation (texts words.now)) }
     {
         if self.stage != Stage::Program {
-            return Err(AsmKind::Order);
+            return Err(Reason::Misplaced);
         }
         let instr = instr_of(operation, words)?;
         if self.instrs.len() >= MAX_INSTRS {
-            return Err(AsmKind::Count);
+            return Err(Reason::InstrCount);
         }
-        self.instrs.push(instr).map_err(|_| AsmKind::Memory)?;
+        self.instrs.push(instr).map_err(|_| Reason::NoMemory)?;
         Ok(())
     }
 
     /// Closes the program that is open.
-    fn close(&mut self) -> Result<(), AsmKind>
+    fn close(&mut self) -> Result<(), Reason>
         ensures { Steps result (seen self.new) (closed (seen self.old)) }
     {
         if self.stage == Stage::Program {
-            let program = program_of(self.alloc, self.instrs.as_slice())?;
+            let program = program_of(self.alloc, self.programs.len(), self.instrs.as_slice())?;
             self.stage = Stage::Choices;
             if self.programs.push(program).is_err() {
-                return Err(AsmKind::Memory);
+                return Err(Reason::NoMemory);
             }
             self.instrs.clear();
         }
         Ok(())
     }
 
-    fn open_line(&mut self, words: &[&[u8]]) -> Result<(), AsmKind>
+    fn open_line(&mut self, words: &[&[u8]]) -> Result<(), Reason>
         ensures { Steps result (seen self.new) (open_line (seen self.old) (texts words.now)) }
     {
         match words {
             [t] => {
                 if own_number(self.programs.len(), t)? >= MAX_TXNS {
-                    return Err(AsmKind::Count);
+                    return Err(Reason::ProgramCount);
                 }
                 self.stage = Stage::Program;
                 Ok(())
             }
-            _ => Err(AsmKind::Word),
+            _ => Err(Reason::WordCount),
         }
     }
 
-    fn txn_line(&mut self, words: &[&[u8]]) -> Result<(), AsmKind>
+    fn txn_line(&mut self, words: &[&[u8]]) -> Result<(), Reason>
         ensures { Steps result (seen self.new) (txn_at self.old.stage (seen self.old) (texts words.now)) }
     {
         if self.stage == Stage::Choices {
-            return Err(AsmKind::Order);
+            return Err(Reason::Misplaced);
         }
         self.close()?;
         self.open_line(words)
     }
 
-    fn repeat_choice(&mut self, choice: Choice, times: u64) -> Result<(), AsmKind>
+    fn repeat_choice(&mut self, choice: Choice, times: u64) -> Result<(), Reason>
         requires { times ≤ 4096 }
         ensures { Steps result (seen self.new) (repeat_choice (seen self.old) choice times) }
     {
         let all = self.choices.len() + times as usize;
         if all > MAX_CHOICES {
-            return Err(AsmKind::Count);
+            return Err(Reason::ChoiceCount);
         }
         self.stage = Stage::Choices;
         if self.choices.resize(all, choice).is_err() {
-            return Err(AsmKind::Memory);
+            return Err(Reason::NoMemory);
         }
         Ok(())
     }
 
     /// Makes a choice as often as the words behind it say.
-    fn repeat_line(&mut self, choice: Choice, times: &[&[u8]]) -> Result<(), AsmKind>
+    fn repeat_line(&mut self, choice: Choice, times: &[&[u8]]) -> Result<(), Reason>
         ensures { Steps result (seen self.new) (repeat_line (seen self.old) choice (texts times.now)) }
     {
         let times = times_of(times)?;
         self.repeat_choice(choice, times)
     }
 
-    fn plain_line(&mut self, choice: Choice, times: &[&[u8]]) -> Result<(), AsmKind>
+    fn plain_line(&mut self, choice: Choice, times: &[&[u8]]) -> Result<(), Reason>
         ensures { Steps result (seen self.new) (plain_line (seen self.old) choice (texts times.now)) }
     {
         if !are_times(times) {
-            return Err(AsmKind::Word);
+            return Err(not_times(times));
         }
         self.repeat_line(choice, times)
     }
 
-    fn txn_action_line(&mut self, action: TxnAction, words: &[&[u8]]) -> Result<(), AsmKind>
+    fn txn_action_line(&mut self, action: TxnAction, words: &[&[u8]]) -> Result<(), Reason>
         ensures { Steps result (seen self.new) (txn_action_line (seen self.old) action (texts words.now)) }
     {
         match words {
             [t, times @ ..] => {
                 if !are_times(times) {
-                    return Err(AsmKind::Word);
+                    return Err(not_times(times));
                 }
                 let t = transaction(self.programs.len(), t)?;
                 self.repeat_line(chosen(action, t), times)
             }
-            [] => Err(AsmKind::Word),
+            [] => Err(Reason::WordCount),
         }
     }
 
-    fn choice_line(&mut self, actor: Actor, words: &[&[u8]]) -> Result<(), AsmKind>
+    fn choice_line(&mut self, actor: Actor, words: &[&[u8]]) -> Result<(), Reason>
         ensures { Steps result (seen self.new) (choice_line (seen self.old) actor (texts words.now)) }
     {
         let Some((action, rest)) = words.split_first() else {
-            return Err(AsmKind::Word);
+            return Err(Reason::WordCount);
         };
-        match action_of(actor, action).ok_or(AsmKind::Word)? {
-            Action::Txn(action) => self.txn_action_line(action, rest),
-            Action::Plain(choice) => self.plain_line(choice, rest),
+        match action_of(actor, action) {
+            Some(Action::Txn(action)) => self.txn_action_line(action, rest),
+            Some(Action::Plain(choice)) => self.plain_line(choice, rest),
+            None => Err(Reason::NotKnown(Shown::of(action))),
         }
     }
 
-    fn end_line(&mut self, words: &[&[u8]]) -> Result<(), AsmKind>
+    fn end_line(&mut self, words: &[&[u8]]) -> Result<(), Reason>
         ensures { Steps result (seen self.new) (end_line (seen self.old) (texts words.now)) }
     {
         if !words.is_empty() {
-            return Err(AsmKind::Word);
+            return Err(Reason::WordCount);
         }
         self.stage = Stage::Done;
         Ok(())
     }
 
-    fn statement(&mut self, keyword: Option<Keyword>, words: &[&[u8]]) -> Result<(), AsmKind>
-        ensures { Steps result (seen self.new) (statement keyword (seen self.old) (texts words.now)) }
+    /// Takes a line below the header, whose first word is this keyword.
+    fn statement(&mut self, keyword: Keyword, words: &[&[u8]]) -> Result<(), Reason>
+        ensures { Steps result (seen self.new) (statement (Some keyword) (seen self.old) (texts words.now)) }
     {
         match keyword {
-            None => Err(AsmKind::Word),
-            Some(Keyword::Header) => Err(AsmKind::Order),
-            Some(Keyword::Row) => self.row_line(words),
-            Some(Keyword::Txn) => self.txn_line(words),
-            Some(Keyword::Instr(operation)) => self.instr_line(operation, words),
-            Some(Keyword::Choice(actor)) => {
+            Keyword::Header => Err(Reason::Misplaced),
+            Keyword::Row => self.row_line(words),
+            Keyword::Txn => self.txn_line(words),
+            Keyword::Instr(operation) => self.instr_line(operation, words),
+            Keyword::Choice(actor) => {
                 self.close()?;
                 self.choice_line(actor, words)
             }
-            Some(Keyword::End) => {
+            Keyword::End => {
                 self.close()?;
                 self.end_line(words)
             }
         }
     }
 
-    fn body_line(&mut self, words: &[&[u8]]) -> Result<(), AsmKind>
+    fn body_line(&mut self, words: &[&[u8]]) -> Result<(), Reason>
         ensures { Steps result (seen self.new) (body_line (seen self.old) (texts words.now)) }
     {
         let Some((first, rest)) = words.split_first() else {
-            return Err(AsmKind::Word);
+            return Err(Reason::WordCount);
         };
-        self.statement(keyword_of(first), rest)
+        match keyword_of(first) {
+            Some(keyword) => self.statement(keyword, rest),
+            None => Err(Reason::NotKnown(Shown::of(first))),
+        }
     }
 
     /// Takes a line with words.
-    pub fn line(&mut self, words: &[&[u8]]) -> Result<(), AsmKind>
+    pub fn line(&mut self, words: &[&[u8]]) -> Result<(), Reason>
         ensures { Steps result (seen self.new) (step (seen self.old) (texts words.now)) }
     {
         match self.stage {
@@ -338,23 +354,23 @@ impl Reader {
             Stage::Cap => self.cap_line(words),
             Stage::Pages => self.pages_line(words),
             Stage::Rule => self.rule_line(words),
-            Stage::Done => Err(AsmKind::End),
+            Stage::Done => Err(Reason::BelowEnd),
             _ => self.body_line(words),
         }
     }
 }
 
-fn ended(stage: Stage) -> Result<(), AsmKind>
-    ensures { result ≡ ended_lem stage }
+fn ended(stage: Stage) -> Result<(), Reason>
+    ensures { by_kind result ≡ ended_lem stage }
 {
     match stage {
         Stage::Done => Ok(()),
-        _ => Err(AsmKind::End),
+        _ => Err(Reason::NoEnd),
     }
 }
 
 /// Reads a whole text.
-pub fn read(alloc: Global, text: &str) -> Result<Reader, AsmFault>
+pub fn read(alloc: Global, text: &str) -> Result<Reader, Refusal>
     ensures { Reads result (reading text.now) }
 {
     let mut reader = Reader {
@@ -373,14 +389,14 @@ pub fn read(alloc: Global, text: &str) -> Result<Reader, AsmFault>
     while !rest.is_empty() {
         let (first, after) = first_line(rest);
         let Ok(()) = take_words(&mut words, first) else {
-            return Err(AsmFault {
+            return Err(Refusal {
                 line,
-                kind: AsmKind::Memory,
+                reason: Reason::NoMemory,
             });
         };
         if !words.is_empty() {
-            if let Err(kind) = reader.line(words.as_slice()) {
-                return Err(AsmFault { line, kind });
+            if let Err(reason) = reader.line(words.as_slice()) {
+                return Err(Refusal { line, reason });
             }
         }
         rest = after;
@@ -388,6 +404,6 @@ pub fn read(alloc: Global, text: &str) -> Result<Reader, AsmFault>
     }
     match ended(reader.stage) {
         Ok(()) => Ok(reader),
-        Err(kind) => Err(AsmFault { line, kind }),
+        Err(reason) => Err(Refusal { line, reason }),
     }
 }

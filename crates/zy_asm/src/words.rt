@@ -2,9 +2,11 @@
 ghost use Rattle.std.specs.Prelude.{◌≡◌, ◌<◌, ◌≤◌, IfOk, OnOk, map, length, position, ◌==◌, ◌∷◌};
 ghost use Rattle.std.specs.Str.{bytes_eq};
 ghost use Rattle.zy_isa.specs.Words.{words_of as words_of_lem, number_of as number_of_lem, is_space as is_space_lem, without_comment as without_comment_lem, lines_of};
+ghost use Rattle.zy_asm.specs.Reasons.{by_kind};
 ghost use Rattle.zy_asm.specs.Steps.{number_in as number_in_lem};
 
-use crate::faults::AsmKind;
+use crate::faults::Reason;
+use crate::shown::Shown;
 use std::alloc::AllocError;
 
 /// The most digits of a number.
@@ -82,13 +84,19 @@ pub fn number_of(word: &[u8]) -> Option<u64>
 }
 
 /// The number that a word spells, from `least` to `most`.
-pub fn number_in(word: &[u8], least: u64, most: u64) -> Result<u64, AsmKind>
-    ensures value { result ≡ number_in_lem word.now least most }
+pub fn number_in(word: &[u8], least: u64, most: u64) -> Result<u64, Reason>
+    ensures value { by_kind result ≡ number_in_lem word.now least most }
     ensures range { IfOk result (λ n. (least ≤ n) × (n ≤ most)) }
 {
-    let number = number_of(word).ok_or(AsmKind::Number)?;
+    let Some(number) = number_of(word) else {
+        return Err(Reason::NotDigits(Shown::of(word)));
+    };
     if number < least || most < number {
-        return Err(AsmKind::Range);
+        return Err(Reason::OutOfRange {
+            number,
+            least,
+            most,
+        });
     }
     Ok(number)
 }

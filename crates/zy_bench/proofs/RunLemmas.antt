@@ -1,5 +1,5 @@
 -- What an engine's parts make together.
-use Rattle.std.proofs.Common.{◌≡◌, ◌∙◌, ℕ, List, [], ◌∷◌, ◌++◌, Option, None, Some, IfSome, Result, Ok, Err, refl, sym, ap, subst, append-nil}
+use Rattle.std.proofs.Common.{◌≡◌, ◌≢◌, ◌∙◌, ℕ, List, [], ◌∷◌, ◌++◌, Option, None, Some, IfSome, Result, Ok, Err, refl, sym, ap, subst, append-nil}
 use Rattle.std.specs.Result.{result_err}
 use Rattle.std.specs.Io.KnownBytes.{Appends}
 use Rattle.std.proofs.KnownBytes.{Appends-nil}
@@ -59,3 +59,9 @@ pub silent-of-told : (told : Option (List ℕ)) (bytes : List ℕ) (a b : Option
     → IfSome told (λ t. bytes ≡ t) → Means bytes scenario → IfSome told (λ t. ((sc : Scenario) → Means t sc → ⊥) → b ≡ a)
 silent-of-told None bytes a b scenario same means = tt
 silent-of-told (Some t) bytes a b scenario same means = λ none. absurd (none scenario (subst (λ x. Means x scenario) same means))
+
+-- bytes that were accepted are not bytes with a fault
+pub unwritten-of-told : (told : Option (List ℕ)) (bytes : List ℕ) (a b : Option (List ℕ))
+    → IfSome told (λ t. bytes ≡ t) → input_fault bytes ≡ None → IfSome told (λ t. input_fault t ≢ None → b ≡ a)
+unwritten-of-told None bytes a b same right = tt
+unwritten-of-told (Some t) bytes a b same right = λ faulty. absurd (faulty (ap input_fault (sym same) ∙ right))

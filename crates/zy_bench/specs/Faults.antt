@@ -1,5 +1,6 @@
 -- The faults of an engine.
-use Rattle.std.specs.Prelude.{ℕ, Result, Ok, Err}
+use Rattle.std.specs.Prelude.{ℕ, List, Option, Result, Ok, Err}
+use Rattle.zy_isa.specs.Streams.{ReadWhole, ReadSome, ReadTooMuch}
 use Rattle.zy_isa.specs.declared.reading.ReadFault.{ReadFault}
 use Rattle.zy_isa.specs.declared.reading.ReadFault.TheVariants as reading
 use Rattle.zy_isa.specs.declared.writing.TextFault.{TextFault}
@@ -7,6 +8,8 @@ use Rattle.zy_isa.specs.declared.writing.TextFault.TheVariants as writing
 use Rattle.zy_asm.specs.declared.faults.AsmKind.{AsmKind}
 use Rattle.zy_asm.specs.declared.faults.AsmKind.TheVariants as kinds
 use Rattle.zy_asm.specs.declared.faults.AsmFault.{AsmFault}
+use Rattle.zy_asm.specs.declared.faults.Refusal.{Refusal}
+use Rattle.zy_asm.specs.Reasons.{kind_of, fault_of}
 use Rattle.zy_bench.specs.declared.faults.BenchFault.{BenchFault}
 use Rattle.zy_bench.specs.declared.faults.BenchFault.TheVariants.{Input, TooLong, Read, Write, Memory}
 
@@ -15,28 +18,37 @@ of_reading reading.Read = Read
 of_reading reading.TooLong = TooLong
 of_reading reading.Memory = Memory
 
-abbrev pub of_kind : AsmKind → AsmFault → BenchFault
-of_kind kinds.Memory f = Memory
-of_kind _ f = Input f
+abbrev pub of_kind : AsmKind → Refusal → BenchFault
+of_kind kinds.Memory r = Memory
+of_kind _ r = Input r
 
-abbrev pub of_asm : AsmFault → BenchFault
-of_asm f = of_kind f.kind f
+abbrev pub of_refusal : Refusal → BenchFault
+of_refusal r = of_kind (kind_of r.reason) r
 
 abbrev pub of_writing : TextFault → BenchFault
 of_writing writing.Write = Write
 of_writing writing.Memory = Memory
 
 abbrev pub status_of : BenchFault → ℕ
-status_of (Input f) = 1
+status_of (Input r) = 1
 status_of TooLong = 1
 status_of Memory = 3
 status_of Read = 5
 status_of Write = 5
 
+-- what was read of the input, whose bytes went from old to new
+abbrev pub ReadsInput : {X : Type 0} → Option (List ℕ) → Option (List ℕ) → Result X BenchFault → Type 0
+ReadsInput old new (Ok x) = ReadWhole old new
+ReadsInput old new (Err (Input r)) = ReadWhole old new
+ReadsInput old new (Err Write) = ReadWhole old new
+ReadsInput old new (Err TooLong) = ReadTooMuch old new
+ReadsInput old new (Err Read) = ReadSome old new
+ReadsInput old new (Err Memory) = ReadSome old new
+
 -- how many calls of the reader failed
 abbrev pub failed_reads : {X : Type 0} → Result X BenchFault → ℕ
 failed_reads (Ok x) = 0
-failed_reads (Err (Input f)) = 0
+failed_reads (Err (Input r)) = 0
 failed_reads (Err TooLong) = 0
 failed_reads (Err Read) = 1
 failed_reads (Err Write) = 0
@@ -45,7 +57,7 @@ failed_reads (Err Memory) = 0
 -- how many calls of the writer failed or took no byte
 abbrev pub failed_writes : {X : Type 0} → Result X BenchFault → ℕ
 failed_writes (Ok x) = 0
-failed_writes (Err (Input f)) = 0
+failed_writes (Err (Input r)) = 0
 failed_writes (Err TooLong) = 0
 failed_writes (Err Read) = 0
 failed_writes (Err Write) = 1
@@ -53,14 +65,14 @@ failed_writes (Err Memory) = 0
 
 -- a fault after which nothing was written
 abbrev pub IsQuiet : BenchFault → Type 0
-IsQuiet (Input f) = Unit {0}
+IsQuiet (Input r) = Unit {0}
 IsQuiet TooLong = Unit {0}
 IsQuiet Read = Unit {0}
 IsQuiet Write = ⊥
 IsQuiet Memory = ⊥
 
 abbrev pub IfInput : BenchFault → (AsmFault → Type 0) → Type 0
-IfInput (Input f) P = P f
+IfInput (Input r) P = P (fault_of r)
 IfInput TooLong P = Unit {0}
 IfInput Read P = Unit {0}
 IfInput Write P = Unit {0}

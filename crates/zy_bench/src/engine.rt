@@ -1,19 +1,19 @@
 //! The engines: bytes in, bytes out.
-ghost use Rattle.std.specs.Prelude.{◌≡◌, ◌<◌, ◌+◌, Some, Err, IfErr, IfSome, OnOk, length};
+ghost use Rattle.std.specs.Prelude.{◌≡◌, ◌≢◌, ◌<◌, ◌+◌, Some, None, IfErr, IfSome, OnOk};
 ghost use Rattle.std.specs.Io.KnownBytes.{Appends};
 ghost use Rattle.zy_asm.specs.Input.{input_fault};
 ghost use Rattle.zy_isa.specs.Scenario.{Scenario as AScenario};
 ghost use Rattle.zy_isa.specs.Streams.{WroteFront};
 ghost use Rattle.zy_isa.specs.Text.{Means};
 ghost use Rattle.zy_isa.specs.Writing.{Wrote};
-ghost use Rattle.zy_bench.specs.Faults.{failed_reads, failed_writes, IsQuiet, IfInput};
+ghost use Rattle.zy_bench.specs.Faults.{ReadsInput, failed_reads, failed_writes, IsQuiet, IfInput};
 ghost use Rattle.zy_bench.specs.Run.{listing_run};
 
 use crate::faults::BenchFault;
 use std::alloc::Global;
 use zy_asm::assembling::assemble_bytes;
 use zy_audit::listing::write_listing;
-use zy_isa::reading::{MAX_INPUT, read_all};
+use zy_isa::reading::read_all;
 use zy_isa::scenario::Scenario;
 use zy_isa::stream::{Sink, Source};
 use zy_isa::writing::TextFault;
@@ -37,13 +37,17 @@ pub fn run_bytes<S: Source, K: Sink>(
     // A refused input is told by its first fault.
     ensures fault { IfErr result (λ f. IfInput f (λ first.
         IfSome (S.left source.old) (λ told. input_fault told ≡ Some first))) }
-    // An input that is too long is too long.
-    ensures long { result ≡ Err BenchFault.TooLong
-        → IfSome (S.left source.old) (λ told. MAX_INPUT < length told) }
+    // The input is read whole; only where it has more than 4194304 bytes is it too long, and then one byte more is read.
+    ensures input { ReadsInput (S.left source.old) (S.left source.new) result }
+    // What is accepted has no fault.
+    ensures accepted { OnOk result (IfSome (S.left source.old) (λ told. input_fault told ≡ None)) }
     // Before the input is read and accepted nothing is written.
     ensures quiet { IfErr result (λ f. IsQuiet f → K.written sink.new ≡ K.written sink.old) }
     // Where the input means no scenario nothing is written, whatever the fault.
     ensures silent { IfSome (S.left source.old) (λ told. ((sc : AScenario) → Means told sc → ⊥)
+        → K.written sink.new ≡ K.written sink.old) }
+    // Nor is anything written where it has a fault.
+    ensures refused { IfSome (S.left source.old) (λ told. input_fault told ≢ None
         → K.written sink.new ≡ K.written sink.old) }
     // Each fault of the reader and of the writer is one failed call.
     ensures reads { S.failures source.new ≡ S.failures source.old + failed_reads result }

@@ -1,19 +1,19 @@
 //! Why a run was refused.
 ghost use Rattle.std.specs.Prelude.{◌≡◌};
-ghost use Rattle.zy_bench.specs.Faults.{of_reading, of_asm, of_writing, status_of};
+ghost use Rattle.zy_bench.specs.Faults.{of_reading, of_refusal, of_writing, status_of};
 
 use std::alloc::AllocError;
 use thiserror::Error;
-use zy_asm::faults::{AsmFault, AsmKind};
+use zy_asm::faults::{AsmKind, Refusal};
 use zy_isa::reading::ReadFault;
 use zy_isa::writing::TextFault;
 
-/// Why an engine gave up. Its text names the fault, and says what was expected.
+/// Why an engine gave up. Its text names the fault, and says what is wrong.
 #[derive(Clone, Copy, Debug, PartialEq, Eq, Error)]
 pub enum BenchFault {
     /// 1: the scenario text is refused, from this line on.
-    #[error("Input(line {}, {:?}): {}", .0.line, .0.kind, .0.kind)]
-    Input(AsmFault),
+    #[error("Input(line {}, {:?}): {}", .0.line, .0.reason.kind(), .0.reason)]
+    Input(Refusal),
     /// 3: the input is longer than an engine takes.
     #[error("TooLong: an input has at most 4194304 bytes")]
     TooLong,
@@ -55,13 +55,13 @@ impl From<ReadFault> for BenchFault {
     }
 }
 
-impl From<AsmFault> for BenchFault {
-    ghost from_gives = { λ f e. e ≡ of_asm f };
+impl From<Refusal> for BenchFault {
+    ghost from_gives = { λ r e. e ≡ of_refusal r };
 
-    fn from(fault: AsmFault) -> BenchFault {
-        match fault.kind {
+    fn from(refusal: Refusal) -> BenchFault {
+        match refusal.reason.kind() {
             AsmKind::Memory => BenchFault::Memory,
-            _ => BenchFault::Input(fault),
+            _ => BenchFault::Input(refusal),
         }
     }
 }

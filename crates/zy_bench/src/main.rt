@@ -40,9 +40,8 @@ fn run<R: Print + Input + AllocGlobal>(rt: &R, request: Request) -> Result<(), B
     }
 }
 
-/// Tells want of memory on standard error, and gives the exit status.
-fn no_memory(rt: &impl Eprint) -> u8 {
-    let fault = BenchFault::Memory;
+/// Tells a fault on standard error, and gives the exit status.
+fn tell(rt: &impl Eprint, fault: BenchFault) -> u8 {
     let _ = eprintln!(rt; "zy_bench: {fault}");
     fault.status()
 }
@@ -50,43 +49,56 @@ fn no_memory(rt: &impl Eprint) -> u8 {
 /// Tells on standard error why the words could not be read, and gives the exit status.
 fn no_words(rt: &impl Eprint, error: &io::Error) -> u8 {
     if error.kind() == io::ErrorKind::OutOfMemory {
-        return no_memory(rt);
+        return tell(rt, BenchFault::Memory);
     }
     let _ = eprintln!(rt; "zy_bench: the words of the command line are UTF-8");
     COMMAND_LINE
 }
 
-/// Carries a request out, tells a fault on standard error, and gives the exit status.
+/// Prints the help, the version, or what is wrong with the command line, and gives the exit status.
+fn say(rt: &(impl Print + Eprint), said: &clap::Error) -> u8 {
+    let printed = said.print(rt);
+    if said.use_stderr() {
+        return COMMAND_LINE;
+    }
+    match printed {
+        Ok(()) => DONE,
+        Err(error) => tell(rt, unprinted(&error)),
+    }
+}
+
+/// Why a text could not be printed.
+fn unprinted(error: &io::Error) -> BenchFault {
+    if error.kind() == io::ErrorKind::OutOfMemory {
+        BenchFault::Memory
+    } else {
+        BenchFault::Write
+    }
+}
+
+/// Carries a request out, and gives the exit status.
 fn carry_out(rt: &(impl Print + Eprint + Input + AllocGlobal), request: Request) -> u8 {
     match run(rt, request) {
         Ok(()) => DONE,
-        Err(fault) => {
-            let _ = eprintln!(rt; "zy_bench: {fault}");
-            fault.status()
-        }
+        Err(fault) => tell(rt, fault),
     }
 }
 
 /// The exit status of a run with these words.
 fn status<'a>(rt: &(impl Print + Eprint + Input + AllocGlobal), words: &'a [String]) -> u8 {
     let Ok(command) = command(rt.alloc()) else {
-        return no_memory(rt);
+        return tell(rt, BenchFault::Memory);
     };
     match command.try_get_matches_from(words) {
         Ok(matches) => match request_of(&matches) {
             Some(request) => carry_out(rt, request),
             None => COMMAND_LINE,
         },
-        Err(error) => {
-            if error.kind() == ErrorKind::OutOfMemory {
-                return no_memory(rt);
+        Err(said) => {
+            if said.kind() == ErrorKind::OutOfMemory {
+                return tell(rt, BenchFault::Memory);
             }
-            let _ = error.print(rt);
-            if error.use_stderr() {
-                COMMAND_LINE
-            } else {
-                DONE
-            }
+            say(rt, &said)
         }
     }
 }
@@ -99,6 +111,6 @@ fn main(rt: HostRuntime) -> ExitCode {
     let words: Result<Vec<String>, _> = args.collect(rt.alloc());
     match words {
         Ok(words) => ExitCode::from(status(&rt, words.as_slice())),
-        Err(_) => ExitCode::from(no_memory(&rt)),
+        Err(_) => ExitCode::from(tell(&rt, BenchFault::Memory)),
     }
 }

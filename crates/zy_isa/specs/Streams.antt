@@ -3,7 +3,6 @@ use Rattle.std.specs.Prelude.{◌≡◌, ℕ, ◌==◌, ◌+◌, ◌≤◌, List
 use Rattle.std.specs.declared.vec.Vec.{Vec}
 use Rattle.std.specs.declared.alloc.Global.{Global}
 use Rattle.std.specs.Io.KnownBytes.{Appends, Consumes, IsAtEnd}
-use Rattle.zy_isa.specs.declared.reading.TheConstants.{MAX_INPUT}
 use Rattle.zy_isa.specs.declared.reading.ReadFault.{ReadFault}
 use Rattle.zy_isa.specs.declared.reading.ReadFault.TheVariants.{Read, TooLong, Memory}
 
@@ -25,19 +24,31 @@ TookAtMost old new most = (taken : List ℕ) × Consumes old new taken × (lengt
 abbrev pub Took : Option (List ℕ) → Option (List ℕ) → ℕ → Type 0
 Took old new count = (taken : List ℕ) × Consumes old new taken × (length taken ≡ count)
 
+-- the input was read to its end, and has at most 4194304 bytes
+abbrev pub ReadWhole : Option (List ℕ) → Option (List ℕ) → Type 0
+ReadWhole old new = TookAtMost old new 4194304 × IsAtEnd new
+
+-- at most 4194304 bytes were read
+abbrev pub ReadSome : Option (List ℕ) → Option (List ℕ) → Type 0
+ReadSome old new = TookAtMost old new 4194304
+
+-- reading stopped at the first byte after 4194304
+abbrev pub ReadTooMuch : Option (List ℕ) → Option (List ℕ) → Type 0
+ReadTooMuch old new = Took old new 4194305
+
 -- a front of the text went out
 abbrev pub WroteFront : Option (List ℕ) → Option (List ℕ) → List ℕ → Type 0
 WroteFront old new text = (front : List ℕ) × (back : List ℕ) × (text ≡ front ++ back) × Appends old new front
 
 -- A call went from the bytes old and the number of failures before to new and after.
 module _ (old new : Option (List ℕ)) (before after : ℕ) where
-  -- at Ok these are all the bytes that were left, and none is left; else a front of them was taken,
-  -- and Read comes where a call failed
+  -- at Ok these are all the bytes that were left, and none is left; else a front of them was taken.
+  -- TooLong comes where more than 4194304 were, and Read where a call failed
   abbrev pub ReadsAll : Result (Vec ℕ Global) ReadFault → Type 0
-  ReadsAll (Ok bytes) = Consumes old new bytes.items × IsAtEnd new × (vec_len bytes ≤ MAX_INPUT) × (after ≡ before)
-  ReadsAll (Err Read) = TookAtMost old new MAX_INPUT × (after ≡ before + 1)
-  ReadsAll (Err TooLong) = Took old new (MAX_INPUT + 1) × (after ≡ before)
-  ReadsAll (Err Memory) = TookAtMost old new (MAX_INPUT + 1) × (after ≡ before)
+  ReadsAll (Ok bytes) = Consumes old new bytes.items × IsAtEnd new × (vec_len bytes ≤ 4194304) × (after ≡ before)
+  ReadsAll (Err Read) = ReadSome old new × (after ≡ before + 1)
+  ReadsAll (Err TooLong) = ReadTooMuch old new × (after ≡ before)
+  ReadsAll (Err Memory) = ReadSome old new × (after ≡ before)
 
   -- at Ok all of the text went out; else a front of it, since a call failed or took none
   abbrev pub WritesAll : {X E : Type 0} → Result X E → List ℕ → Type 0

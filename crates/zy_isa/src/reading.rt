@@ -45,19 +45,21 @@ pub fn read_all<S: Source>(alloc: Global, source: &mut S) -> Result<Vec<u8>, Rea
     // What is told beforehand says which bytes these are, and when they are too many.
     ensures whole { IfOk result (λ bytes. IfSome (S.left source.old) (λ told. bytes.items ≡ told)) }
     ensures long { result ≡ Err ReadFault.TooLong
-        → IfSome (S.left source.old) (λ told. MAX_INPUT < length told) }
+        → IfSome (S.left source.old) (λ told. 4194304 < length told) }
 {
     let mut bytes = Vec::new(alloc);
     let mut piece = [0u8; PIECE];
-    while bytes.len() <= MAX_INPUT {
-        let room = PIECE.min(MAX_INPUT + 1 - bytes.len());
-        let Ok(count) = source.pull(&mut piece[..room]) else {
+    loop {
+        let room = MAX_INPUT - bytes.len();
+        let Ok(count) = source.pull(&mut piece[..PIECE.min(room + 1)]) else {
             return Err(ReadFault::Read);
         };
         if count == 0 {
             return Ok(bytes);
         }
+        if count > room {
+            return Err(ReadFault::TooLong);
+        }
         bytes.extend_from_slice(&piece[..count])?;
     }
-    Err(ReadFault::TooLong)
 }

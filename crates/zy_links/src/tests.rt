@@ -91,6 +91,7 @@ fn a_copy_stays_when_its_source_is_emptied(rt: HostRuntime) -> Result<(), Fail> 
         drop(link.take());
     }
     assert!(rt; link.is_empty());
+    assert_eq!(rt; copy.len(), KINDS.len());
     for (kind, brought) in KINDS.iter().zip(&BROUGHT) {
         let Some(message) = copy.take() else {
             continue;

@@ -4,7 +4,8 @@ use Rattle.zy_isa.specs.declared.scenario.ScenarioFault.{ScenarioFault}
 use Rattle.zy_isa.specs.Scenario.{IsScenario}
 use Rattle.zy_isa.specs.Text.{Means}
 use Rattle.zy_asm.specs.Reading.{seen}
-use Rattle.zy_asm.proofs.OnlyLemmas.{read_text, Means-from_read, only_of, fault_of}
+use Rattle.zy_asm.specs.Reasons.{fault_of}
+use Rattle.zy_asm.proofs.OnlyLemmas.{read_text, Means-from_read, only_of, fault_of as memory_fault}
 use Rattle.zy_asm.proofs.assembling.assemble.Goals as goal
 
 neither : (o : Option ScenarioFault) (f : ScenarioFault) → o ≡ None → o ≡ Some f → ⊥
@@ -14,7 +15,7 @@ pub unreachable-requires : goal.unreachable-requires
 unreachable-requires c = neither _ c.in-Err-new.field-0 (read_text c.args.text.now c.in-Ok.reader c.in-Ok.ensures).tested c.in-Err-new.ensures
 
 pub returns-in-Err-clause-only : goal.returns-in-Err-clause-only
-returns-in-Err-clause-only c = λ s q. fault_of c.args.text.now c.in-Err.fault s c.in-Err.ensures q
+returns-in-Err-clause-only c = λ s q. memory_fault c.args.text.now (fault_of c.in-Err.refusal) s c.in-Err.ensures q
 
 pub returns-in-Ok-new-clause-found : goal.returns-in-Ok-new-clause-found
 returns-in-Ok-new-clause-found c =

@@ -2,6 +2,7 @@
 use Rattle.std.proofs.Common.{◌≡◌, ℕ, ◌≤◌, ◌<◌, List, [], ◌∷◌, length, get_or, Err, Bor, arith, refl, sym}
 use Rattle.std.proofs.lemmas.Result.{err_from_is_err_and}
 use Rattle.zy_asm.specs.declared.faults.AsmKind.{AsmKind}
+use Rattle.zy_asm.specs.Reasons.{kind_of}
 use Rattle.zy_asm.specs.Steps.{texts}
 use Rattle.zy_asm.specs.Instructions.{beq_of, two}
 use Rattle.zy_asm.proofs.instructions.beq_of.Goals as goal
@@ -16,4 +17,4 @@ beq_err (a ∷ b ∷ t ∷ u ∷ us) d e p q h = absurd (omega arith)
 pub returns-in_err-a-in-len3 : goal.returns-in_err-a-in-len3
 returns-in_err-a-in-len3 c =
     let p = err_from_is_err_and c.from_residual.result c.from_residual.ensures.1 in
-    rw (p.1, p.2) (sym (beq_err c.args.words.now _ c.in_err-a-in-len3.field-0.0 c.in-len3.len_at_least c.in-len3.len_below c.in_err-a-in-len3.ensures))
+    rw (p.1, p.2) (sym (beq_err c.args.words.now _ (kind_of c.in_err-a-in-len3.field-0.0) c.in-len3.len_at_least c.in-len3.len_below c.in_err-a-in-len3.ensures))

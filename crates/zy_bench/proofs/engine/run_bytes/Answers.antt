@@ -1,6 +1,6 @@
 -- What went out is a front of the listing of what the input means.
 use Rattle.zy_bench.specs.Run.{listing_run}
-use Rattle.zy_bench.proofs.RunLemmas.{Wrote-front, front-of-told, silent-of-told}
+use Rattle.zy_bench.proofs.RunLemmas.{Wrote-front, front-of-told, silent-of-told, unwritten-of-told}
 use Rattle.zy_bench.proofs.engine.run_bytes.Goals as goal
 
 pub returns-clause-front : goal.returns-clause-front
@@ -16,3 +16,8 @@ pub returns-clause-silent : goal.returns-clause-silent
 returns-clause-silent g c =
     silent-of-told (g.S.Source.left c.args.source.now) c.as_slice.result.now (g.K.Sink.written c.args.sink.now) (g.K.Sink.written c.run_scenario.new.sink) c.in_ok-scenario.scenario
     (rw c.as_slice.ensures.value c.in_ok-bytes.ensures.whole) c.in_ok-scenario.ensures.found.0
+
+pub returns-clause-refused : goal.returns-clause-refused
+returns-clause-refused g c =
+    unwritten-of-told (g.S.Source.left c.args.source.now) c.as_slice.result.now (g.K.Sink.written c.args.sink.now) (g.K.Sink.written c.run_scenario.new.sink)
+    (rw c.as_slice.ensures.value c.in_ok-bytes.ensures.whole) c.in_ok-scenario.ensures.found.1

@@ -1,4 +1,4 @@
--- There was no memory for what the last call gave.
+-- What the last call gave was too much, or there was no memory for it.
 use Rattle.std.proofs.Common.{arith}
 use Rattle.std.proofs.lemmas.Grind.{common_steps}
 use Rattle.std.proofs.lemmas.Result.{err_from_is_err_and}
@@ -12,8 +12,18 @@ returns-in_err-extend_from_slice-clause-reads g c =
     rw (p.1, p.2) (
       (
         _,
-        Consumes-trans _ _ _ _ _ c.loop-piece.invariant.so_far c.in-Ok.ensures.bytes.0,
+        Consumes-trans _ _ _ _ _ c.loop-count.invariant.so_far c.in-Ok.ensures.bytes.0,
         grind (arith, common_steps),
       ),
-      omega (arith, c.in-Ok.ensures.failed, c.loop-piece.invariant.none_failed),
+      omega (arith, c.in-Ok.ensures.failed, c.loop-count.invariant.none_failed),
     )
+
+pub returns-then-count-room-clause-reads : goal.returns-then-count-room-clause-reads
+returns-then-count-room-clause-reads g c = (
+  (
+    _,
+    Consumes-trans _ _ _ _ _ c.loop-count.invariant.so_far c.in-Ok.ensures.bytes.0,
+    grind (arith, common_steps),
+  ),
+  omega (arith, c.in-Ok.ensures.failed, c.loop-count.invariant.none_failed),
+)

@@ -3,12 +3,12 @@ use Rattle.std.proofs.Common.{◌≡◌, ◌≤◌, ◌-◌, vec_len}
 use Rattle.std.specs.Io.KnownBytes.{Consumes}
 use Rattle.zy_isa.proofs.reading.read_all.Given as goal
 
-abbrev pub invariant-loop-piece : goal.invariant-loop-piece
-invariant-loop-piece g l = record {
+abbrev pub invariant-loop-count : goal.invariant-loop-count
+invariant-loop-count g l = record {
   so_far : Consumes (g.S.Source.left l.initial.source) (g.S.Source.left l.source) l.bytes.items;
   none_failed : g.S.Source.failures l.source ≡ g.S.Source.failures l.initial.source;
-  room : vec_len l.bytes ≤ 4194305;
+  room : vec_len l.bytes ≤ 4194304;
 }
 
-abbrev pub decreases-loop-piece : goal.decreases-loop-piece
-decreases-loop-piece g l = 4194305 - vec_len l.bytes
+abbrev pub decreases-loop-count : goal.decreases-loop-count
+decreases-loop-count g l = 4194305 - vec_len l.bytes

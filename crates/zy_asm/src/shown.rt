@@ -1,0 +1,43 @@
+//! A word of a text, as a fault shows it.
+
+use std::fmt;
+
+/// How many bytes of a word are shown.
+const MOST: usize = 24;
+
+/// The front of a word.
+#[derive(Clone, Copy, Debug, PartialEq, Eq)]
+pub struct Shown {
+    bytes: [u8; MOST],
+    count: usize,
+    is_cut: bool,
+}
+
+impl Shown {
+    /// The word, or its front where it is long.
+    pub fn of(word: &[u8]) -> Shown {
+        let count = word.len().min(MOST);
+        let mut bytes = [0u8; MOST];
+        bytes[..count].copy_from_slice(&word[..count]);
+        Shown {
+            bytes,
+            count,
+            is_cut: word.len() > MOST,
+        }
+    }
+}
+
+/// In quotes; a byte that does not print is shown as `\xNN`, and what was cut off as two dots.
+impl fmt::Display for Shown {
+    fn fmt<W: fmt::Write>(&self, f: &mut fmt::Formatter<W>) -> fmt::Result {
+        f.write_str("'")?;
+        for byte in self.bytes.iter().take(self.count) {
+            if byte.is_ascii_graphic() {
+                f.write_char(char::from(*byte))?;
+            } else {
+                write!(f, "\\x{byte:02x}")?;
+            }
+        }
+        f.write_str(if self.is_cut { "'.." } else { "'" })
+    }
+}
