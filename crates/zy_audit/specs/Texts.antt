@@ -135,9 +135,12 @@ number_text message = []
 abbrev pub message_text : Message → List ℕ
 message_text m = codes " " ++ (kind_text (kind_of m) ++ number_text m)
 
+abbrev pub messages_text : List Message → List ℕ
+messages_text messages = flat_map message_text messages
+
 -- the link from a node, with its messages
 abbrev pub link_text : Node → List Message → List ℕ
-link_text n messages = codes "link " ++ (link_word n ++ flat_map message_text messages)
+link_text n messages = codes "link " ++ (link_word n ++ messages_text messages)
 
 abbrev pub reg_text : ℕ → List ℕ
 reg_text r = codes " " ++ decimal r

@@ -12,7 +12,7 @@ use crate::lines::taken::Taken;
 use crate::serial::same;
 use std::alloc::Global;
 use zy_disasm::head::Head;
-use zy_isa::section::{Both, Fixed, One, Section};
+use zy_isa::section::{Both, One, Section};
 use zy_isa::stream::Sink;
 use zy_isa::writing::TextFault;
 use zy_machine::machine::Machine;
@@ -30,12 +30,9 @@ pub(crate) fn write_listing_as<K: Sink>(
 {
     let mut line = String::new(alloc);
     let entries = machine.entries();
-    let scenario = Both(
-        Head(machine.scenario()),
-        Both(Taken(entries), Fixed(&["end"])),
-    );
-    let steps = Both(Fixed(&["steps"]), Steps(entries));
-    let last = Both(One(SerialLine(same)), Fixed(&["end"]));
+    let scenario = Both(Head(machine.scenario()), Both(Taken(entries), One("end")));
+    let steps = Both(One("steps"), Steps(entries));
+    let last = Both(One(SerialLine(same)), One("end"));
     let ending = Both(steps, Both(FinalState(machine), last));
     Both(scenario, ending).write(sink, &mut line)
 }

@@ -4,7 +4,7 @@ ghost use Rattle.zy_disasm.specs.Lines.{program_parts, head_texts};
 use crate::lines::{Number, RuleLine};
 use zy_isa::program::Program;
 use zy_isa::scenario::Scenario;
-use zy_isa::section::{Both, Each, Fixed, One, Parts, Section, write_parts};
+use zy_isa::section::{Both, Each, One, Parts, Section, write_parts};
 use zy_isa::stream::Sink;
 use zy_isa::writing::TextFault;
 
@@ -19,7 +19,7 @@ impl Section for Head<'_> {
         let scenario = self.0;
         let header = Both(
             Both(
-                Fixed(&["zephyr 1"]),
+                One("zephyr 1"),
                 One(Number {
                     word: "cap",
                     number: usize::from(scenario.cap()),

@@ -2,9 +2,8 @@
 ghost use Rattle.zy_disasm.specs.Lines.{number_text, rule_line};
 
 use std::alloc::AllocError;
-use std::fmt::Write;
+use zy_isa::line::{Decimal, Joined, Line};
 use zy_isa::rule::Rule;
-use zy_isa::section::Line;
 
 /// A word, and a number.
 #[derive(Clone, Copy)]
@@ -17,7 +16,7 @@ impl Line for Number<'_> {
     ghost text = { λ l. number_text l.word.now l.number };
 
     fn append(&self, line: &mut String) -> Result<(), AllocError> {
-        write!(line, "{} {}", self.word, self.number)
+        Joined(self.word, Joined(" ", Decimal(self.number))).append(line)
     }
 }
 
@@ -29,6 +28,6 @@ impl Line for RuleLine {
     ghost text = { λ l. rule_line l.0 };
 
     fn append(&self, line: &mut String) -> Result<(), AllocError> {
-        write!(line, "rule {}", self.0)
+        Joined("rule ", self.0).append(line)
     }
 }

@@ -6,7 +6,7 @@ ghost use Rattle.zy_isa.specs.Writing.{Wrote};
 use crate::head::Head;
 use std::alloc::Global;
 use zy_isa::scenario::Scenario;
-use zy_isa::section::{Both, Each, Fixed, Section};
+use zy_isa::section::{Both, Each, One, Section};
 use zy_isa::stream::Sink;
 use zy_isa::writing::TextFault;
 
@@ -21,6 +21,6 @@ pub fn write_text<K: Sink>(
         (K.failures sink.new) result (canon scenario.now) }
 {
     let mut line = String::new(alloc);
-    let tail = Both(Each(scenario.choices()), Fixed(&["end"]));
+    let tail = Both(Each(scenario.choices()), One("end"));
     Both(Head(scenario), tail).write(sink, &mut line)
 }

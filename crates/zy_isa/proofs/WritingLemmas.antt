@@ -7,7 +7,31 @@ use Rattle.std.proofs.KnownBytes.{Appends-trans, Appends-nil}
 use Rattle.zy_isa.specs.Streams.{WroteFront}
 use Rattle.zy_isa.specs.declared.writing.TextFault.{TextFault}
 use Rattle.zy_isa.specs.declared.writing.TextFault.TheVariants.{Write, Memory}
-use Rattle.zy_isa.specs.Writing.{Wrote}
+use Rattle.std.specs.declared.alloc.Global.{Global}
+use Rattle.std.specs.declared.string.String.{String}
+use Rattle.std.specs.String.{string_bytes}
+use Rattle.std.specs.Prelude.{is_ok, if◌then◌else◌}
+use Rattle.zy_isa.specs.Writing.{Appended, AppendedFront, Wrote}
+
+-- all of the text was appended, or nothing
+pub Appended-whole : {X E : Type 0} (r : Result X E) (a b : String Global) (text : List ℕ) → string_bytes b ≡ (if is_ok r then string_bytes a ++ text else string_bytes a) → Appended r a b text
+Appended-whole (Ok x) a b text e = e
+Appended-whole (Err x) a b text e = ([], text, refl, e ∙ sym (append-nil (string_bytes a)))
+
+-- the first text's fault is that of both
+pub Appended-stops : {X E : Type 0} (a b : String Global) (e : E) (r : Result X E) (xs ys : List ℕ) → AppendedFront a b xs → r ≡ Err e → Appended r a b (xs ++ ys)
+Appended-stops a b e r xs ys (front, back, is, now) err =
+    rw err (front, back ++ ys, ap (λ l. l ++ ys) is ∙ append_assoc front back ys, now)
+
+-- what came of the second text, which follows the whole of the first, came of both
+pub Appended-then : {X E : Type 0} (a b c : String Global) (r : Result X E) (xs ys : List ℕ) → string_bytes b ≡ string_bytes a ++ xs → Appended r b c ys → Appended r a c (xs ++ ys)
+Appended-then a b c (Ok x) xs ys first second = second ∙ ap (λ l. l ++ ys) first ∙ append_assoc (string_bytes a) xs ys
+Appended-then a b c (Err e) xs ys first (front, back, is, now) = (
+  xs ++ front,
+  back,
+  ap (λ l. xs ++ l) is ∙ sym (append_assoc xs front back),
+  now ∙ ap (λ l. l ++ front) first ∙ append_assoc (string_bytes a) xs front,
+)
 
 -- a front of the second part, after the whole first
 pub WroteFront-after : (a b c : Option (List ℕ)) (xs ys more text : List ℕ) → Appends a b xs → WroteFront b c ys → text ≡ xs ++ (ys ++ more) → WroteFront a c text
@@ -69,3 +93,16 @@ pub flat_map-flat_map : {X : Type 0} (f : X → List ℕ) (parts : List (List X)
 flat_map-flat_map f [] = refl
 flat_map-flat_map f (part ∷ parts) =
     flat_map-append f part (flat_map (λ x. x) parts) ∙ ap (λ l. flat_map f part ++ l) (flat_map-flat_map f parts)
+
+-- the fault of one element's text, which stands behind those before it, is that of the whole list
+pub Appended-element-stops : {X E Z : Type 0} (f : Z → List ℕ) (xs : List Z) (i : ℕ) (d : Z) (a b c : String Global) (e : E) (r : Result X E)
+    → i < length xs → string_bytes b ≡ string_bytes a ++ flat_map f (take i xs) → AppendedFront b c (f (get_or xs i d)) → r ≡ Err e → Appended r a c (flat_map f xs)
+Appended-element-stops f xs i d a b c e r h so_far (front, back, is, now) err =
+    let after = flat_map f (drop (suc i) xs) in
+    let before = flat_map f (take i xs) in
+    rw err (
+      before ++ front,
+      back ++ after,
+      flat_map-split f xs i d h ∙ ap (λ l. before ++ (l ++ after)) is ∙ ap (λ l. before ++ l) (append_assoc front back after) ∙ sym (append_assoc before front (back ++ after)),
+      now ∙ ap (λ l. l ++ front) so_far ∙ append_assoc (string_bytes a) before front,
+    )

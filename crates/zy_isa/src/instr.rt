@@ -1,10 +1,7 @@
 //! Registers and instructions.
-ghost use Rattle.std.specs.Prelude.{◌≡◌, ◌<◌, Some};
+ghost use Rattle.std.specs.Prelude.{◌≡◌, ◌<◌};
 ghost use Rattle.zy_isa.specs.Registers.{number_of};
 ghost use Rattle.zy_isa.specs.Programs.{ends as ends_lem, targets_below as targets_below_lem};
-ghost use Rattle.zy_isa.specs.Canon.{reg_text, instr_text};
-
-use std::fmt;
 
 /// A register of a transaction. All are 0 when it begins.
 #[derive(Clone, Copy, Debug, PartialEq, Eq)]
@@ -91,42 +88,6 @@ impl Instr {
             Instr::Write(_, _) => true,
             Instr::Insert(_, _) => true,
             Instr::Add(_, _) => true,
-        }
-    }
-}
-
-/// `r0` to `r7`.
-impl fmt::Display for Reg {
-    ghost output = { λ r. Some (reg_text r) };
-
-    fn fmt<W: fmt::Write>(&self, f: &mut fmt::Formatter<W>) -> fmt::Result {
-        match self {
-            Reg::R0 => write!(f, "r0"),
-            Reg::R1 => write!(f, "r1"),
-            Reg::R2 => write!(f, "r2"),
-            Reg::R3 => write!(f, "r3"),
-            Reg::R4 => write!(f, "r4"),
-            Reg::R5 => write!(f, "r5"),
-            Reg::R6 => write!(f, "r6"),
-            Reg::R7 => write!(f, "r7"),
-        }
-    }
-}
-
-/// The instruction as the scenario text writes it.
-impl fmt::Display for Instr {
-    ghost output = { λ i. Some (instr_text i) };
-
-    fn fmt<W: fmt::Write>(&self, f: &mut fmt::Formatter<W>) -> fmt::Result {
-        match self {
-            Instr::Set(a, number) => write!(f, "set {a} {number}"),
-            Instr::Read(a, b) => write!(f, "read {a} {b}"),
-            Instr::Write(a, b) => write!(f, "write {a} {b}"),
-            Instr::Insert(a, b) => write!(f, "insert {a} {b}"),
-            Instr::Add(a, b) => write!(f, "add {a} {b}"),
-            Instr::Beq(a, b, target) => write!(f, "beq {a} {b} @{target}"),
-            Instr::Commit => write!(f, "commit"),
-            Instr::Abort => write!(f, "abort"),
         }
     }
 }

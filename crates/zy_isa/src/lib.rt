@@ -3,6 +3,7 @@
 
 pub mod choice;
 pub mod instr;
+pub mod line;
 pub mod memory;
 pub mod node;
 pub mod program;

@@ -1,82 +1,13 @@
 //! Text in lines: each is made in one `String` that is used again, and goes out whole.
-ghost use Rattle.std.specs.Prelude.{◌≡◌, ◌<◌, ◌++◌, [], ◌∷◌, ℕ, List, OnOk, length, map, slice_index_or};
-ghost use Rattle.std.specs.Fmt.{decimal};
+ghost use Rattle.std.specs.Prelude.{◌≡◌, ◌<◌, ◌++◌, [], ◌∷◌, ℕ, List, length, map, slice_index_or};
 ghost use Rattle.std.specs.List.{flat_map};
 ghost use Rattle.std.specs.String.{string_bytes};
-ghost use Rattle.zy_isa.specs.Writing.{line_of, Wrote};
-ghost use Rattle.zy_isa.specs.Canon.{row_text, instr_text, choice_text};
+ghost use Rattle.zy_isa.specs.Writing.{line_of, Appended, Wrote};
 
-use crate::choice::Choice;
-use crate::instr::Instr;
-use crate::node::Node;
-use crate::row::Row;
+use crate::line::Line;
 use crate::stream::Sink;
 use crate::writing::{TextFault, write_all};
-use itoa::Buffer;
 use std::alloc::AllocError;
-use std::fmt::Write;
-
-/// What has the text of one line.
-pub trait Line {
-    // The text, without the line's end.
-    ghost text: { Self → List ℕ };
-
-    /// Puts its text behind what the `String` holds. At an error a part of it may stand there.
-    fn append(&self, line: &mut String) -> Result<(), AllocError>
-        ensures { OnOk result (string_bytes line.new ≡ string_bytes line.old ++ text self.now) };
-}
-
-impl Line for Row {
-    ghost text = { row_text };
-
-    fn append(&self, line: &mut String) -> Result<(), AllocError> {
-        write!(line, "{self}")
-    }
-}
-
-impl Line for Instr {
-    ghost text = { instr_text };
-
-    fn append(&self, line: &mut String) -> Result<(), AllocError> {
-        write!(line, "{self}")
-    }
-}
-
-/// A listing has two for each step, so it goes without a `Formatter`.
-impl Line for Choice {
-    ghost text = { choice_text };
-
-    fn append(&self, line: &mut String) -> Result<(), AllocError> {
-        match self {
-            Choice::Start => line.push_str("C start"),
-            Choice::Begin(t) => append_numbered(line, "C begin ", u64::from(*t)),
-            Choice::Kill(t) => append_numbered(line, "C kill ", u64::from(*t)),
-            Choice::Run(Node::A, t) => append_numbered(line, "A run ", u64::from(*t)),
-            Choice::Run(Node::B, t) => append_numbered(line, "B run ", u64::from(*t)),
-            Choice::Take(Node::A) => line.push_str("A take"),
-            Choice::Take(Node::B) => line.push_str("B take"),
-            Choice::Finish(Node::A) => line.push_str("A finish"),
-            Choice::Finish(Node::B) => line.push_str("B finish"),
-            Choice::Push(Node::A) => line.push_str("A push"),
-            Choice::Push(Node::B) => line.push_str("B push"),
-        }
-    }
-}
-
-/// Puts the digits of a number behind what the `String` holds.
-pub fn append_number(line: &mut String, number: u64) -> Result<(), AllocError>
-    ensures { OnOk result (string_bytes line.new ≡ string_bytes line.old ++ decimal number) }
-{
-    line.push_str(Buffer::new().format(number))
-}
-
-/// Puts words and the digits of a number behind what the `String` holds. At an error a part of both may stand there.
-pub fn append_numbered(line: &mut String, words: &str, number: u64) -> Result<(), AllocError>
-    ensures { OnOk result (string_bytes line.new ≡ string_bytes line.old ++ (words.now ++ decimal number)) }
-{
-    line.push_str(words)?;
-    append_number(line, number)
-}
 
 /// A list of lines that are made one at a time.
 pub trait Lines {
@@ -88,11 +19,10 @@ pub trait Lines {
         ensures { result ≡ length (texts self.now) };
 
     /// Puts the text of a line, by its place in the list, behind what the `String` holds. At an error a
-    /// part of it may stand there.
+    /// front of it may stand there.
     fn append(&self, place: usize, line: &mut String) -> Result<(), AllocError>
         requires { place < length (texts self.now) }
-        ensures { OnOk result (string_bytes line.new
-            ≡ string_bytes line.old ++ slice_index_or (texts self.now) place []) };
+        ensures { Appended result line.old line.new (slice_index_or (texts self.now) place []) };
 }
 
 /// A part of a text that writes its own lines.
@@ -222,30 +152,6 @@ impl<D: Line> Lines for Each<'_, D> {
 
 impl<D: Line> Section for Each<'_, D> {
     ghost texts = { λ s. map D.text s.0.now };
-
-    fn write<K: Sink>(&self, sink: &mut K, line: &mut String) -> Result<(), TextFault> {
-        write_lines(sink, line, self)
-    }
-}
-
-/// These lines.
-#[derive(Clone, Copy)]
-pub struct Fixed<'a>(pub &'a [&'a str]);
-
-impl Lines for Fixed<'_> {
-    ghost texts = { λ s. map (λ text. text.now) s.0.now };
-
-    fn len(&self) -> usize {
-        self.0.len()
-    }
-
-    fn append(&self, place: usize, line: &mut String) -> Result<(), AllocError> {
-        line.push_str(self.0[place])
-    }
-}
-
-impl Section for Fixed<'_> {
-    ghost texts = { λ s. map (λ text. text.now) s.0.now };
 
     fn write<K: Sink>(&self, sink: &mut K, line: &mut String) -> Result<(), TextFault> {
         write_lines(sink, line, self)

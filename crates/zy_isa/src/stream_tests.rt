@@ -2,12 +2,10 @@
 ghost use Rattle.std.specs.Prelude.{◌++◌, Some, None, codes, map};
 ghost use Rattle.std.specs.Fmt.{decimal};
 
+use crate::line::{Decimal, Joined, Line};
 use crate::memory::{SliceSource, VecSink};
 use crate::reading::{MAX_INPUT, ReadFault, read_all};
-use crate::section::{
-    Both, Each, Fixed, Line, One, Parts, Section, append_number, append_numbered, write_line,
-    write_lines, write_parts,
-};
+use crate::section::{Both, Each, One, Parts, Section, write_line, write_lines, write_parts};
 use crate::stream::{CountingReader, CountingWriter, Sink, Source};
 use crate::writing::{TextFault, WriteFault, write_all};
 use std::alloc::AllocError;
@@ -104,8 +102,7 @@ impl Line for Pair {
     ghost text = { λ p. decimal p.0 ++ codes "=" ++ decimal p.1 };
 
     fn append(&self, line: &mut String) -> Result<(), AllocError> {
-        append_number(line, u64::from(self.0))?;
-        append_numbered(line, "=", u64::from(self.1))
+        Joined(Decimal(self.0), Joined("=", Decimal(self.1))).append(line)
     }
 }
 
@@ -134,10 +131,10 @@ const LISTING: &[u8] = b"head\n\n1=2\n3=4\n50=60\nend\n";
 
 fn listing<'a>(
     pairs: &'a [Pair],
-) -> Both<Fixed<'static>, Both<One<Pair>, Both<Each<'a, Pair>, Fixed<'static>>>> {
+) -> Both<Each<'static, &'static str>, Both<One<Pair>, Both<Each<'a, Pair>, One<&'static str>>>> {
     Both(
-        Fixed(&["head", ""]),
-        Both(One(Pair(1, 2)), Both(Each(pairs), Fixed(&["end"]))),
+        Each(&["head", ""]),
+        Both(One(Pair(1, 2)), Both(Each(pairs), One("end"))),
     )
 }
 
@@ -223,7 +220,7 @@ fn writes_lines(rt: HostRuntime) -> Result<(), Fail> {
     listing(&[Pair(3, 4), Pair(50, 60)]).write(&mut sink, &mut line)?;
     assert_eq!(rt; sink.bytes(), LISTING);
     write_line(&mut sink, &mut line, &Pair(7, 8))?;
-    write_lines(&mut sink, &mut line, &Fixed(&["9"]))?;
+    write_lines(&mut sink, &mut line, &Each(&["9"]))?;
     write_lines(&mut sink, &mut line, &Each(&[Pair(0, 1)]))?;
     let groups = Groups(&[&[Pair(0, 2)], &[], &[Pair(0, 3), Pair(0, 4)]]);
     write_parts(&mut sink, &mut line, &groups)?;

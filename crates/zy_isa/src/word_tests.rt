@@ -18,8 +18,8 @@ fn each_instruction_has_its_word(rt: HostRuntime) {
         (Instr::Commit, [6, 0, 0, 0, 0, 0, 0, 0]),
         (Instr::Abort, [7, 0, 0, 0, 0, 0, 0, 0]),
     ] {
-        assert_eq!(rt; encode(instr), word, "{instr}");
-        assert_eq!(rt; decode(word), Some(instr), "{instr}");
+        assert_eq!(rt; encode(instr), word, "{instr:?}");
+        assert_eq!(rt; decode(word), Some(instr), "{instr:?}");
     }
 }
 

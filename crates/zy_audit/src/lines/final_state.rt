@@ -6,7 +6,7 @@ use crate::lines::mode::ModeLine;
 use crate::lines::page::Pages;
 use crate::lines::txn::Txns;
 use zy_isa::node::Node;
-use zy_isa::section::{Both, Fixed, One, Section};
+use zy_isa::section::{Both, One, Section};
 use zy_isa::stream::Sink;
 use zy_isa::writing::TextFault;
 use zy_machine::machine::Machine;
@@ -40,7 +40,7 @@ impl Section for FinalState<'_> {
                 link: machine.link(Node::B),
             }),
         );
-        let head = Both(Fixed(&["final"]), modes);
+        let head = Both(One("final"), modes);
         let parts = Both(Pages(machine), Both(links, Txns(machine)));
         Both(head, parts).write(sink, line)
     }

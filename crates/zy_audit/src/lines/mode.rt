@@ -1,11 +1,10 @@
 //! The mode of a node.
 ghost use Rattle.zy_audit.specs.Texts.{mode_text};
 
-use crate::lines::words::mode_word;
+use crate::lines::words::ModeText;
 use std::alloc::AllocError;
-use std::fmt::Write;
+use zy_isa::line::{Joined, Line};
 use zy_isa::node::Node;
-use zy_isa::section::Line;
 use zy_modes::mode::NodeMode;
 
 /// A node and its mode.
@@ -19,6 +18,6 @@ impl Line for ModeLine {
     ghost text = { λ l. mode_text l.node l.mode };
 
     fn append(&self, line: &mut String) -> Result<(), AllocError> {
-        write!(line, "mode {} {}", self.node, mode_word(self.mode))
+        Joined("mode ", Joined(self.node, Joined(" ", ModeText(self.mode)))).append(line)
     }
 }

@@ -1,15 +1,15 @@
 //! A page, wherever it is.
-ghost use Rattle.std.specs.Prelude.{◌≡◌, ◌++◌, Some, OnOk, IsSome};
-ghost use Rattle.std.specs.String.{string_bytes};
+ghost use Rattle.std.specs.Prelude.{IsSome};
+ghost use Rattle.zy_isa.specs.Writing.{Appended};
 ghost use Rattle.zy_table.specs.Pages.{page_in};
 ghost use Rattle.zy_table.specs.Database.{all_leaves};
-ghost use Rattle.zy_audit.specs.Texts.{place_text, leaf_text, page_text};
+ghost use Rattle.zy_audit.specs.Texts.{leaf_text, page_text};
 ghost use Rattle.zy_audit.specs.Listing.{page_texts};
 
-use crate::lines::link::link_word;
-use crate::lines::rows::append_rows;
+use crate::lines::rows::Rows;
+use crate::lines::words::PlaceText;
 use std::alloc::AllocError;
-use std::fmt::{self, Write};
+use zy_isa::line::{Decimal, Joined, Line};
 use zy_isa::section::{Lines, Section, write_lines};
 use zy_isa::stream::Sink;
 use zy_isa::writing::TextFault;
@@ -17,37 +17,35 @@ use zy_machine::machine::Machine;
 use zy_page::page::Page;
 use zy_table::place::Place;
 
-/// Where a page is.
+/// A page and where it is.
 #[derive(Clone, Copy)]
-struct PlaceText(Place);
+struct PageLine<'a> {
+    place: Place,
+    page: &'a Page,
+}
 
-impl fmt::Display for PlaceText {
-    ghost output = { λ p. Some (place_text p.0) };
+impl Line for PageLine<'_> {
+    ghost text = { λ l. leaf_text l.place l.page.now };
 
-    fn fmt<W: fmt::Write>(&self, f: &mut fmt::Formatter<W>) -> fmt::Result {
-        match self.0 {
-            Place::Nowhere => write!(f, "nowhere"),
-            Place::At(node) => write!(f, "{node}"),
-            Place::Moving(node) => write!(f, "{}", link_word(node)),
-        }
+    fn append(&self, line: &mut String) -> Result<(), AllocError> {
+        let (number, low) = (self.page.number(), self.page.low());
+        let rows = Joined(" rows", Rows(self.page.rows()));
+        let contents = Joined(" low ", Joined(Decimal(low), rows));
+        let place = Joined(" ", Joined(PlaceText(self.place), contents));
+        Joined("page ", Joined(Decimal(number), place)).append(line)
     }
 }
 
-/// Appends a page and where it is.
-fn append_page(line: &mut String, place: Place, page: &Page) -> Result<(), AllocError>
-    ensures { OnOk result (string_bytes line.new ≡ string_bytes line.old ++ leaf_text place page.now) }
-{
-    let (number, low) = (page.number(), page.low());
-    write!(line, "page {number} {} low {low} rows", PlaceText(place))?;
-    append_rows(line, page.rows())
-}
-
-/// Appends the line of a page, without its end. At an error a part of it may stand there.
+/// Appends the line of a page, without its end. At an error a front of it may stand there.
 pub fn page_line(machine: &Machine, p: u16, line: &mut String) -> Result<(), AllocError>
     requires { IsSome (page_in p (all_leaves machine.now.state)) }
-    ensures { OnOk result (string_bytes line.new ≡ string_bytes line.old ++ page_text machine.now.state p) }
+    ensures { Appended result line.old line.new (page_text machine.now.state p) }
 {
-    append_page(line, machine.place(p), machine.page(p).unwrap())
+    PageLine {
+        place: machine.place(p),
+        page: machine.page(p).unwrap(),
+    }
+    .append(line)
 }
 
 /// All pages, by number.

@@ -1,28 +1,49 @@
-//! Rows and registers behind a line.
-ghost use Rattle.std.specs.Prelude.{◌≡◌, ◌++◌, OnOk};
-ghost use Rattle.std.specs.String.{string_bytes};
-ghost use Rattle.zy_audit.specs.Texts.{rows_text, regs_text};
+//! Rows and registers, as they stand at the end of a line.
+ghost use Rattle.zy_audit.specs.Texts.{cell_text, regs_text, rows_text};
 
 use std::alloc::AllocError;
-use std::fmt::Write;
+use zy_isa::line::{Decimal, Joined, Line};
 use zy_isa::row::Row;
 
-/// Appends each row.
-pub(crate) fn append_rows(line: &mut String, rows: &[Row]) -> Result<(), AllocError>
-    ensures { OnOk result (string_bytes line.new ≡ string_bytes line.old ++ rows_text rows.now) }
-{
-    for row in rows {
-        write!(line, " {}={}", row.key, row.value)?;
+/// One row.
+#[derive(Clone, Copy)]
+struct Cell(Row);
+
+impl Line for Cell {
+    ghost text = { λ c. cell_text c.0 };
+
+    fn append(&self, line: &mut String) -> Result<(), AllocError> {
+        let Row { key, value } = self.0;
+        Joined(" ", Joined(Decimal(key), Joined("=", Decimal(value)))).append(line)
     }
-    Ok(())
 }
 
-/// Appends each register.
-pub(crate) fn append_regs(line: &mut String, regs: &[u32]) -> Result<(), AllocError>
-    ensures { OnOk result (string_bytes line.new ≡ string_bytes line.old ++ regs_text regs.now) }
-{
-    for value in regs {
-        write!(line, " {value}")?;
+/// Rows.
+#[derive(Clone, Copy)]
+pub(crate) struct Rows<'a>(pub &'a [Row]);
+
+impl Line for Rows<'_> {
+    ghost text = { λ r. rows_text r.0.now };
+
+    fn append(&self, line: &mut String) -> Result<(), AllocError> {
+        for row in self.0 {
+            Cell(*row).append(line)?;
+        }
+        Ok(())
     }
-    Ok(())
+}
+
+/// Registers.
+#[derive(Clone, Copy)]
+pub(crate) struct Regs<'a>(pub &'a [u32]);
+
+impl Line for Regs<'_> {
+    ghost text = { λ r. regs_text r.0.now };
+
+    fn append(&self, line: &mut String) -> Result<(), AllocError> {
+        for value in self.0 {
+            Joined(" ", Decimal(*value)).append(line)?;
+        }
+        Ok(())
+    }
 }

@@ -2,7 +2,7 @@
 ghost use Rattle.zy_audit.specs.Texts.{serial_text};
 
 use std::alloc::AllocError;
-use zy_isa::section::Line;
+use zy_isa::line::Line;
 
 /// Whether the serial run gives the same.
 #[derive(Clone, Copy)]
@@ -13,9 +13,9 @@ impl Line for SerialLine {
 
     fn append(&self, line: &mut String) -> Result<(), AllocError> {
         if self.0 {
-            line.push_str("serial same")
+            "serial same".append(line)
         } else {
-            line.push_str("serial differs")
+            "serial differs".append(line)
         }
     }
 }

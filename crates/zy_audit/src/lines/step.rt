@@ -1,97 +1,121 @@
 //! The steps, each with what came of it.
-ghost use Rattle.std.specs.Prelude.{◌≡◌, ◌++◌, OnOk};
-ghost use Rattle.std.specs.String.{string_bytes};
 ghost use Rattle.zy_table.specs.declared.outcome.Outcome.TheVariants as outcome;
 ghost use Rattle.zy_audit.specs.Texts.{outcome_text, sent_text, step_text};
 ghost use Rattle.zy_audit.specs.Listing.{step_texts};
 
-use crate::lines::words::{append_why, kind_word};
+use crate::lines::words::{KindText, WhyText};
 use std::alloc::AllocError;
-use std::fmt::Write;
-use zy_isa::section::{Line, Lines, Section, append_number, append_numbered, write_lines};
+use zy_isa::line::{Decimal, Joined, Line};
+use zy_isa::section::{Lines, Section, write_lines};
 use zy_isa::stream::Sink;
 use zy_isa::writing::TextFault;
 use zy_links::kind::Kind;
 use zy_table::entry::Entry;
 use zy_table::outcome::Outcome;
 
-/// Appends which page was cut, its new upper part, and where.
-fn append_split(
-    line: &mut String,
+/// Which page was cut, its new upper part, and where.
+#[derive(Clone, Copy)]
+struct SplitText {
     page: u16,
     new_page: u16,
     boundary: u16,
-) -> Result<(), AllocError>
-    ensures { OnOk result (string_bytes line.new ≡ string_bytes line.old ++ outcome_text (outcome.Split page new_page boundary)) }
-{
-    append_numbered(line, "split ", u64::from(page))?;
-    append_numbered(line, " ", u64::from(new_page))?;
-    append_numbered(line, " ", u64::from(boundary))
 }
 
-/// Appends what came of a step.
-fn append_outcome(line: &mut String, outcome: Outcome) -> Result<(), AllocError>
-    ensures { OnOk result (string_bytes line.new ≡ string_bytes line.old ++ outcome_text outcome) }
-{
-    match outcome {
-        Outcome::Started => line.push_str("started"),
-        Outcome::BadMode => line.push_str("badmode"),
-        Outcome::Began(node) => write!(line, "began {node}"),
-        Outcome::Idle => line.push_str("idle"),
-        Outcome::Elsewhere => line.push_str("elsewhere"),
-        Outcome::NotYet => line.push_str("notyet"),
-        Outcome::Did => line.push_str("did"),
-        Outcome::Split {
-            page,
-            new_page,
-            boundary,
-        } => append_split(line, page, new_page, boundary),
-        Outcome::Aborted(why) => {
-            line.push_str("aborted ")?;
-            append_why(line, why)
+impl Line for SplitText {
+    ghost text = { λ s. outcome_text (outcome.Split s.page s.new_page s.boundary) };
+
+    fn append(&self, line: &mut String) -> Result<(), AllocError> {
+        let upper = Joined(Decimal(self.new_page), Joined(" ", Decimal(self.boundary)));
+        Joined("split ", Joined(Decimal(self.page), Joined(" ", upper))).append(line)
+    }
+}
+
+/// What came of a step.
+#[derive(Clone, Copy)]
+struct OutcomeText(Outcome);
+
+impl Line for OutcomeText {
+    ghost text = { λ o. outcome_text o.0 };
+
+    fn append(&self, line: &mut String) -> Result<(), AllocError> {
+        match self.0 {
+            Outcome::Started => "started".append(line),
+            Outcome::BadMode => "badmode".append(line),
+            Outcome::Began(node) => Joined("began ", node).append(line),
+            Outcome::Idle => "idle".append(line),
+            Outcome::Elsewhere => "elsewhere".append(line),
+            Outcome::NotYet => "notyet".append(line),
+            Outcome::Did => "did".append(line),
+            Outcome::Split {
+                page,
+                new_page,
+                boundary,
+            } => {
+                let split = SplitText {
+                    page,
+                    new_page,
+                    boundary,
+                };
+                split.append(line)
+            }
+            Outcome::Aborted(why) => Joined("aborted ", WhyText(why)).append(line),
+            Outcome::Committed(place) => Joined("committed ", Decimal(place)).append(line),
+            Outcome::Waits(page) => Joined("waits ", Decimal(page)).append(line),
+            Outcome::Pulls(page) => Joined("pulls ", Decimal(page)).append(line),
+            Outcome::Awaits(page) => Joined("awaits ", Decimal(page)).append(line),
+            Outcome::NoMessage => "nomessage".append(line),
+            Outcome::GotWire => "got wire".append(line),
+            Outcome::GotReady => "got ready".append(line),
+            Outcome::GotDual => "got dual".append(line),
+            Outcome::Stale(page) => Joined("stale ", Decimal(page)).append(line),
+            Outcome::Held(page) => Joined("held ", Decimal(page)).append(line),
+            Outcome::GotPull(page) => Joined("got pull ", Decimal(page)).append(line),
+            Outcome::GotPage(page) => Joined("got page ", Decimal(page)).append(line),
+            Outcome::GotFinish => "got finish".append(line),
+            Outcome::GotDone => "got done".append(line),
+            Outcome::Stray => "stray".append(line),
+            Outcome::Finishing => "finishing".append(line),
+            Outcome::Active(t) => Joined("active ", Decimal(t)).append(line),
+            Outcome::Pushed(page) => Joined("pushed ", Decimal(page)).append(line),
+            Outcome::NoPush => "nopush".append(line),
         }
-        Outcome::Committed(place) => append_numbered(line, "committed ", u64::from(place)),
-        Outcome::Waits(page) => append_numbered(line, "waits ", u64::from(page)),
-        Outcome::Pulls(page) => append_numbered(line, "pulls ", u64::from(page)),
-        Outcome::Awaits(page) => append_numbered(line, "awaits ", u64::from(page)),
-        Outcome::NoMessage => line.push_str("nomessage"),
-        Outcome::GotWire => line.push_str("got wire"),
-        Outcome::GotReady => line.push_str("got ready"),
-        Outcome::GotDual => line.push_str("got dual"),
-        Outcome::Stale(page) => append_numbered(line, "stale ", u64::from(page)),
-        Outcome::Held(page) => append_numbered(line, "held ", u64::from(page)),
-        Outcome::GotPull(page) => append_numbered(line, "got pull ", u64::from(page)),
-        Outcome::GotPage(page) => append_numbered(line, "got page ", u64::from(page)),
-        Outcome::GotFinish => line.push_str("got finish"),
-        Outcome::GotDone => line.push_str("got done"),
-        Outcome::Stray => line.push_str("stray"),
-        Outcome::Finishing => line.push_str("finishing"),
-        Outcome::Active(t) => append_numbered(line, "active ", u64::from(t)),
-        Outcome::Pushed(page) => append_numbered(line, "pushed ", u64::from(page)),
-        Outcome::NoPush => line.push_str("nopush"),
     }
 }
 
-/// Appends the message that was sent, if one was.
-fn append_sent(line: &mut String, sent: Option<Kind>) -> Result<(), AllocError>
-    ensures { OnOk result (string_bytes line.new ≡ string_bytes line.old ++ sent_text sent) }
-{
-    match sent {
-        None => Ok(()),
-        Some(kind) => write!(line, " ! {}", kind_word(kind)),
+/// The message that was sent, if one was.
+#[derive(Clone, Copy)]
+struct SentText(Option<Kind>);
+
+impl Line for SentText {
+    ghost text = { λ s. sent_text s.0 };
+
+    fn append(&self, line: &mut String) -> Result<(), AllocError> {
+        match self.0 {
+            None => "".append(line),
+            Some(kind) => Joined(" ! ", KindText(kind)).append(line),
+        }
     }
 }
 
-/// Appends a step under its number. At an error a part of it may stand there.
-fn append_step(line: &mut String, number: usize, entry: &Entry) -> Result<(), AllocError>
-    ensures { OnOk result (string_bytes line.new ≡ string_bytes line.old ++ step_text number entry.now) }
-{
-    append_number(line, number as u64)?;
-    line.push_str(" ")?;
-    entry.choice.append(line)?;
-    line.push_str(" -> ")?;
-    append_outcome(line, entry.outcome)?;
-    append_sent(line, entry.sent)
+/// A step under its number.
+#[derive(Clone, Copy)]
+struct StepLine<'a> {
+    number: usize,
+    entry: &'a Entry,
+}
+
+impl Line for StepLine<'_> {
+    ghost text = { λ s. step_text s.number s.entry.now };
+
+    fn append(&self, line: &mut String) -> Result<(), AllocError> {
+        let Entry {
+            choice,
+            outcome,
+            sent,
+        } = *self.entry;
+        let came = Joined(" -> ", Joined(OutcomeText(outcome), SentText(sent)));
+        Joined(Decimal(self.number), Joined(" ", Joined(choice, came))).append(line)
+    }
 }
 
 /// All steps, numbered from 1.
@@ -107,7 +131,8 @@ impl Lines for Steps<'_> {
 
     fn append(&self, place: usize, line: &mut String) -> Result<(), AllocError> {
         let number = place + 1;
-        append_step(line, number, &self.0[place])
+        let entry = &self.0[place];
+        StepLine { number, entry }.append(line)
     }
 }
 

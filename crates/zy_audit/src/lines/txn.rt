@@ -1,13 +1,13 @@
 //! A transaction.
-ghost use Rattle.std.specs.Prelude.{◌≡◌, ◌==◌, ◌++◌, ◌<◌, OnOk, IfSome, length, position};
-ghost use Rattle.std.specs.String.{string_bytes};
+ghost use Rattle.std.specs.Prelude.{◌≡◌, ◌==◌, ◌<◌, IfSome, length, position};
+ghost use Rattle.zy_isa.specs.Writing.{Appended};
 ghost use Rattle.zy_audit.specs.Texts.{commit_place as commit_place_lem, done_text, active_text, committed_text, aborted_text, status_text, txn_text};
 ghost use Rattle.zy_audit.specs.Listing.{txn_texts};
 
-use crate::lines::rows::{append_regs, append_rows};
-use crate::lines::words::append_why;
+use crate::lines::rows::{Regs, Rows};
+use crate::lines::words::WhyText;
 use std::alloc::AllocError;
-use std::fmt::Write;
+use zy_isa::line::{Decimal, Joined, Line};
 use zy_isa::section::{Lines, Section, write_lines};
 use zy_isa::stream::Sink;
 use zy_isa::writing::TextFault;
@@ -35,66 +35,105 @@ fn commit_place(t: u8, commits: &[CommitRec]) -> usize
     }
 }
 
-/// Appends how much a transaction did, and its registers.
-fn append_done(line: &mut String, txn: &Txn) -> Result<(), AllocError>
-    ensures { OnOk result (string_bytes line.new ≡ string_bytes line.old ++ done_text txn.now) }
-{
-    write!(line, " done {} regs", txn.done())?;
-    append_regs(line, txn.regs())
-}
+/// How much a transaction did, and its registers.
+#[derive(Clone, Copy)]
+struct DoneText<'a>(&'a Txn);
 
-/// Appends what is told of one that runs.
-fn append_active(line: &mut String, txn: &Txn) -> Result<(), AllocError>
-    ensures { OnOk result (string_bytes line.new ≡ string_bytes line.old ++ active_text txn.now) }
-{
-    write!(line, " active {} pc {}", txn.node(), txn.place())?;
-    append_done(line, txn)?;
-    write!(line, " private")?;
-    append_rows(line, txn.rows())
-}
+impl Line for DoneText<'_> {
+    ghost text = { λ d. done_text d.0.now };
 
-/// Appends what is told of one that was committed, by its place in commit order.
-fn append_committed(line: &mut String, txn: &Txn, place: usize) -> Result<(), AllocError>
-    ensures { OnOk result (string_bytes line.new ≡ string_bytes line.old ++ committed_text txn.now place) }
-{
-    write!(line, " committed {} {place}", txn.node())?;
-    append_done(line, txn)
-}
-
-/// Appends what is told of one that was aborted.
-fn append_aborted(line: &mut String, txn: &Txn, why: Why) -> Result<(), AllocError>
-    ensures { OnOk result (string_bytes line.new ≡ string_bytes line.old ++ aborted_text txn.now why) }
-{
-    write!(line, " aborted {} ", txn.node())?;
-    append_why(line, why)?;
-    append_done(line, txn)
-}
-
-/// Appends what is told of a transaction, by how far it is.
-fn append_status(
-    line: &mut String,
-    commits: &[CommitRec],
-    t: u8,
-    txn: &Txn,
-) -> Result<(), AllocError>
-    ensures { OnOk result (string_bytes line.new
-        ≡ string_bytes line.old ++ status_text commits.now t txn.now txn.now.status) }
-{
-    match txn.status() {
-        Status::New => line.push_str(" new"),
-        Status::Active => append_active(line, txn),
-        Status::Committed => append_committed(line, txn, commit_place(t, commits)),
-        Status::Aborted(why) => append_aborted(line, txn, why),
+    fn append(&self, line: &mut String) -> Result<(), AllocError> {
+        let regs = Joined(" regs", Regs(self.0.regs()));
+        Joined(" done ", Joined(Decimal(self.0.done()), regs)).append(line)
     }
 }
 
-/// Appends the line of a transaction, without its end. At an error a part of it may stand there.
+/// What is told of one that runs.
+#[derive(Clone, Copy)]
+struct ActiveText<'a>(&'a Txn);
+
+impl Line for ActiveText<'_> {
+    ghost text = { λ a. active_text a.0.now };
+
+    fn append(&self, line: &mut String) -> Result<(), AllocError> {
+        let txn = self.0;
+        let rows = Joined(" private", Rows(txn.rows()));
+        let place = Joined(
+            " pc ",
+            Joined(Decimal(txn.place()), Joined(DoneText(txn), rows)),
+        );
+        Joined(" active ", Joined(txn.node(), place)).append(line)
+    }
+}
+
+/// What is told of one that was committed, with its place in commit order.
+#[derive(Clone, Copy)]
+struct CommittedText<'a> {
+    txn: &'a Txn,
+    place: usize,
+}
+
+impl Line for CommittedText<'_> {
+    ghost text = { λ c. committed_text c.txn.now c.place };
+
+    fn append(&self, line: &mut String) -> Result<(), AllocError> {
+        let place = Joined(" ", Joined(Decimal(self.place), DoneText(self.txn)));
+        Joined(" committed ", Joined(self.txn.node(), place)).append(line)
+    }
+}
+
+/// What is told of one that was aborted.
+#[derive(Clone, Copy)]
+struct AbortedText<'a> {
+    txn: &'a Txn,
+    why: Why,
+}
+
+impl Line for AbortedText<'_> {
+    ghost text = { λ a. aborted_text a.txn.now a.why };
+
+    fn append(&self, line: &mut String) -> Result<(), AllocError> {
+        let why = Joined(" ", Joined(WhyText(self.why), DoneText(self.txn)));
+        Joined(" aborted ", Joined(self.txn.node(), why)).append(line)
+    }
+}
+
+/// What is told of a transaction, by how far it is.
+#[derive(Clone, Copy)]
+struct StatusText<'a> {
+    commits: &'a [CommitRec],
+    t: u8,
+    txn: &'a Txn,
+}
+
+impl Line for StatusText<'_> {
+    ghost text = { λ s. status_text s.commits.now s.t s.txn.now s.txn.now.status };
+
+    fn append(&self, line: &mut String) -> Result<(), AllocError> {
+        let txn = self.txn;
+        match txn.status() {
+            Status::New => " new".append(line),
+            Status::Active => ActiveText(txn).append(line),
+            Status::Committed => {
+                let place = commit_place(self.t, self.commits);
+                CommittedText { txn, place }.append(line)
+            }
+            Status::Aborted(why) => AbortedText { txn, why }.append(line),
+        }
+    }
+}
+
+/// Appends the line of a transaction, without its end. At an error a front of it may stand there.
 pub fn txn_line(machine: &Machine, t: u8, line: &mut String) -> Result<(), AllocError>
     requires { t < length machine.now.state.txns }
-    ensures { OnOk result (string_bytes line.new ≡ string_bytes line.old ++ txn_text machine.now.state t) }
+    ensures { Appended result line.old line.new (txn_text machine.now.state t) }
 {
-    write!(line, "txn {t}")?;
-    append_status(line, machine.commits(), t, machine.txn(t))
+    let status = StatusText {
+        commits: machine.commits(),
+        t,
+        txn: machine.txn(t),
+    };
+    Joined("txn ", Joined(Decimal(t), status)).append(line)
 }
 
 /// All transactions, by number.

@@ -1,57 +1,103 @@
 //! The words of the machine's plain types.
-ghost use Rattle.std.specs.Prelude.{◌≡◌, ◌++◌, OnOk};
-ghost use Rattle.std.specs.String.{string_bytes};
-ghost use Rattle.zy_audit.specs.Texts.{why_text, kind_text, mode_word as mode_word_lem};
+ghost use Rattle.zy_audit.specs.Texts.{kind_text, link_word, mode_word, place_text, why_text};
 
 use std::alloc::AllocError;
-use zy_isa::section::append_numbered;
+use zy_isa::line::{Decimal, Joined, Line};
+use zy_isa::node::Node;
 use zy_links::kind::Kind;
 use zy_modes::mode::NodeMode;
 use zy_table::outcome::Why;
+use zy_table::place::Place;
 
-/// Appends why a transaction was aborted.
-pub(crate) fn append_why(line: &mut String, why: Why) -> Result<(), AllocError>
-    ensures { OnOk result (string_bytes line.new ≡ string_bytes line.old ++ why_text why) }
-{
-    match why {
-        Why::Own => line.push_str("own"),
-        Why::Killed => line.push_str("killed"),
-        Why::BadKey => line.push_str("badkey"),
-        Why::Missing => line.push_str("missing"),
-        Why::Duplicate => line.push_str("duplicate"),
-        Why::Frozen(page) => append_numbered(line, "frozen ", u64::from(page)),
-        Why::NoPage => line.push_str("nopage"),
-        Why::Gone(page) => append_numbered(line, "gone ", u64::from(page)),
+/// Why a transaction was aborted.
+#[derive(Clone, Copy)]
+pub(crate) struct WhyText(pub Why);
+
+impl Line for WhyText {
+    ghost text = { λ w. why_text w.0 };
+
+    fn append(&self, line: &mut String) -> Result<(), AllocError> {
+        match self.0 {
+            Why::Own => "own".append(line),
+            Why::Killed => "killed".append(line),
+            Why::BadKey => "badkey".append(line),
+            Why::Missing => "missing".append(line),
+            Why::Duplicate => "duplicate".append(line),
+            Why::Frozen(page) => Joined("frozen ", Decimal(page)).append(line),
+            Why::NoPage => "nopage".append(line),
+            Why::Gone(page) => Joined("gone ", Decimal(page)).append(line),
+        }
     }
 }
 
 /// A kind of message.
-pub(crate) fn kind_word(kind: Kind) -> &'static str
-    ensures { result.now ≡ kind_text kind }
-{
-    match kind {
-        Kind::Wire => "wire",
-        Kind::Ready => "ready",
-        Kind::Dual => "dual",
-        Kind::Pull => "pull",
-        Kind::Page => "page",
-        Kind::Finish => "finish",
-        Kind::Done => "done",
+#[derive(Clone, Copy)]
+pub(crate) struct KindText(pub Kind);
+
+impl Line for KindText {
+    ghost text = { λ k. kind_text k.0 };
+
+    fn append(&self, line: &mut String) -> Result<(), AllocError> {
+        match self.0 {
+            Kind::Wire => "wire".append(line),
+            Kind::Ready => "ready".append(line),
+            Kind::Dual => "dual".append(line),
+            Kind::Pull => "pull".append(line),
+            Kind::Page => "page".append(line),
+            Kind::Finish => "finish".append(line),
+            Kind::Done => "done".append(line),
+        }
     }
 }
 
 /// A node's mode.
-pub(crate) fn mode_word(mode: NodeMode) -> &'static str
-    ensures { result.now ≡ mode_word_lem mode }
-{
-    match mode {
-        NodeMode::Empty => "empty",
-        NodeMode::Normal => "normal",
-        NodeMode::SInit => "sinit",
-        NodeMode::SDual => "sdual",
-        NodeMode::SFinish => "sfinish",
-        NodeMode::DInit => "dinit",
-        NodeMode::DDual => "ddual",
-        NodeMode::DFinish => "dfinish",
+#[derive(Clone, Copy)]
+pub(crate) struct ModeText(pub NodeMode);
+
+impl Line for ModeText {
+    ghost text = { λ m. mode_word m.0 };
+
+    fn append(&self, line: &mut String) -> Result<(), AllocError> {
+        match self.0 {
+            NodeMode::Empty => "empty".append(line),
+            NodeMode::Normal => "normal".append(line),
+            NodeMode::SInit => "sinit".append(line),
+            NodeMode::SDual => "sdual".append(line),
+            NodeMode::SFinish => "sfinish".append(line),
+            NodeMode::DInit => "dinit".append(line),
+            NodeMode::DDual => "ddual".append(line),
+            NodeMode::DFinish => "dfinish".append(line),
+        }
+    }
+}
+
+/// The name of the link from a node.
+#[derive(Clone, Copy)]
+pub(crate) struct LinkText(pub Node);
+
+impl Line for LinkText {
+    ghost text = { λ l. link_word l.0 };
+
+    fn append(&self, line: &mut String) -> Result<(), AllocError> {
+        match self.0 {
+            Node::A => "AB".append(line),
+            Node::B => "BA".append(line),
+        }
+    }
+}
+
+/// Where a page is.
+#[derive(Clone, Copy)]
+pub(crate) struct PlaceText(pub Place);
+
+impl Line for PlaceText {
+    ghost text = { λ p. place_text p.0 };
+
+    fn append(&self, line: &mut String) -> Result<(), AllocError> {
+        match self.0 {
+            Place::Nowhere => "nowhere".append(line),
+            Place::At(node) => node.append(line),
+            Place::Moving(node) => LinkText(node).append(line),
+        }
     }
 }

@@ -8,4 +8,4 @@ use Rattle.zy_audit.proofs.lines.page.page_line.Goals as goal
 pub returns : goal.returns
 returns c =
     let leaves = all_leaves c.args.machine.now.state in
-    rw (leaf_at-some c.args.p c.unwrap.result.now leaves (sym c.page.ensures ∙ ap option_copied c.unwrap.ensures), ← c.place.ensures) c.append_page.ensures
+    rw (leaf_at-some c.args.p c.unwrap.result.now leaves (sym c.page.ensures ∙ ap option_copied c.unwrap.ensures), ← c.place.ensures) c.append.ensures

@@ -1,7 +1,6 @@
 -- A place among the texts is that of a step.
-use Rattle.std.proofs.Common.{◌<◌, ◌≡◌, ◌++◌, length, arith, rules}
-use Rattle.std.specs.Prelude.{OnOk}
-use Rattle.std.specs.String.{string_bytes}
+use Rattle.std.proofs.Common.{◌<◌, length, arith, rules}
+use Rattle.zy_isa.specs.Writing.{Appended}
 use Rattle.zy_audit.proofs.ListingLemmas.{length-steps, step-line}
 use Rattle.zy_audit.proofs.lines.step.StepsLines.append.Goals as goal
 
@@ -20,4 +19,4 @@ bounds-self-place c = omega (arith, c.requires, length-steps 1 c.args.self.now.0
 
 pub returns : goal.returns
 returns c =
-    step-line (λ text. OnOk c.append_step.result (string_bytes c.append_step.new.line ≡ string_bytes c.args.line.now ++ text)) c.args.place _ c.args.self.now.0.now c.requires c.append_step.ensures
+    step-line (Appended c.append.result c.args.line.now c.append.new.line) c.args.place _ c.args.self.now.0.now c.requires c.append.ensures

@@ -2,7 +2,7 @@
 use Rattle.std.proofs.Common.{◌≡◌, ◌++◌}
 use Rattle.std.specs.String.{string_bytes}
 use Rattle.zy_audit.proofs.LinkLemmas.{first_texts}
-use Rattle.zy_audit.proofs.lines.link.append_messages.Given as goal
+use Rattle.zy_audit.proofs.lines.link.MessagesLine.append.Given as goal
 
 abbrev pub invariant-loop-i : goal.invariant-loop-i
-invariant-loop-i l = string_bytes l.line ≡ string_bytes l.initial.line ++ first_texts l.i l.link.messages
+invariant-loop-i l = string_bytes l.line ≡ string_bytes l.initial.line ++ first_texts l.i l.self.0.now.messages

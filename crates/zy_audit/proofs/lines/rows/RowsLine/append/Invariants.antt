@@ -2,7 +2,7 @@
 use Rattle.std.proofs.Common.{◌≡◌, ◌++◌, take}
 use Rattle.std.specs.String.{string_bytes}
 use Rattle.zy_audit.specs.Texts.{rows_text}
-use Rattle.zy_audit.proofs.lines.rows.append_rows.Given as goal
+use Rattle.zy_audit.proofs.lines.rows.RowsLine.append.Given as goal
 
 abbrev pub invariant-loop-row : goal.invariant-loop-row
-invariant-loop-row l = string_bytes l.line ≡ string_bytes l.initial.line ++ rows_text (take l.row-index l.rows)
+invariant-loop-row l = string_bytes l.line ≡ string_bytes l.initial.line ++ rows_text (take l.row-index l.self.0.now)

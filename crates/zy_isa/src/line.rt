@@ -1,0 +1,163 @@
+//! What has the text of one line or of a part of one, and puts it behind what a `String` holds.
+ghost use Rattle.std.specs.Prelude.{[], ◌∷◌, ◌++◌, ℕ, List};
+ghost use Rattle.zy_isa.specs.Words.{spaced};
+ghost use Rattle.zy_isa.specs.Writing.{Appended};
+ghost use Rattle.zy_isa.specs.Canon.{node_text, rule_text, reg_text, row_text, instr_text, choice_text};
+
+use crate::choice::Choice;
+use crate::instr::{Instr, Reg};
+use crate::node::Node;
+use crate::row::Row;
+use crate::rule::Rule;
+use itoa::{Buffer, Integer};
+use std::alloc::AllocError;
+
+/// What has the text of one line or of a part of one.
+pub trait Line {
+    // The text, without the line's end.
+    ghost text: { Self → List ℕ };
+
+    /// Puts its text behind what the `String` holds. At an error a front of it may stand there.
+    fn append(&self, line: &mut String) -> Result<(), AllocError>
+        ensures { Appended result line.old line.new (text self.now) };
+}
+
+/// Words.
+impl Line for &str {
+    ghost text = { λ words. words.now };
+
+    fn append(&self, line: &mut String) -> Result<(), AllocError> {
+        line.push_str(self)
+    }
+}
+
+/// A number, in decimal digits.
+#[derive(Clone, Copy)]
+pub struct Decimal<I>(pub I);
+
+impl<I: Integer> Line for Decimal<I> {
+    ghost text = { λ d. I.text d.0 };
+
+    fn append(&self, line: &mut String) -> Result<(), AllocError> {
+        line.push_str(Buffer::new().format(self.0))
+    }
+}
+
+/// One text and then another, on one line.
+#[derive(Clone, Copy)]
+pub struct Joined<A, B>(pub A, pub B);
+
+impl<A: Line, B: Line> Line for Joined<A, B> {
+    ghost text = { λ j. A.text j.0 ++ B.text j.1 };
+
+    fn append(&self, line: &mut String) -> Result<(), AllocError> {
+        self.0.append(line)?;
+        self.1.append(line)
+    }
+}
+
+impl Line for Node {
+    ghost text = { node_text };
+
+    fn append(&self, line: &mut String) -> Result<(), AllocError> {
+        match self {
+            Node::A => "A".append(line),
+            Node::B => "B".append(line),
+        }
+    }
+}
+
+impl Line for Rule {
+    ghost text = { rule_text };
+
+    fn append(&self, line: &mut String) -> Result<(), AllocError> {
+        match self {
+            Rule::Held => "held".append(line),
+        }
+    }
+}
+
+impl Line for Reg {
+    ghost text = { reg_text };
+
+    fn append(&self, line: &mut String) -> Result<(), AllocError> {
+        match self {
+            Reg::R0 => "r0".append(line),
+            Reg::R1 => "r1".append(line),
+            Reg::R2 => "r2".append(line),
+            Reg::R3 => "r3".append(line),
+            Reg::R4 => "r4".append(line),
+            Reg::R5 => "r5".append(line),
+            Reg::R6 => "r6".append(line),
+            Reg::R7 => "r7".append(line),
+        }
+    }
+}
+
+impl Line for Row {
+    ghost text = { row_text };
+
+    fn append(&self, line: &mut String) -> Result<(), AllocError> {
+        Joined(
+            "row ",
+            Joined(Decimal(self.key), Joined(" ", Decimal(self.value))),
+        )
+        .append(line)
+    }
+}
+
+/// Two registers.
+#[derive(Clone, Copy)]
+struct Pair(Reg, Reg);
+
+impl Line for Pair {
+    ghost text = { λ p. spaced (reg_text p.0 ∷ reg_text p.1 ∷ []) };
+
+    fn append(&self, line: &mut String) -> Result<(), AllocError> {
+        Joined(self.0, Joined(" ", self.1)).append(line)
+    }
+}
+
+impl Line for Instr {
+    ghost text = { instr_text };
+
+    fn append(&self, line: &mut String) -> Result<(), AllocError> {
+        match self {
+            Instr::Set(a, number) => Joined(
+                "set ",
+                Joined(*a, Joined(" ", Decimal(*number))),
+            ).append(line),
+            Instr::Read(a, b) => Joined("read ", Pair(*a, *b)).append(line),
+            Instr::Write(a, b) => Joined("write ", Pair(*a, *b)).append(line),
+            Instr::Insert(a, b) => Joined("insert ", Pair(*a, *b)).append(line),
+            Instr::Add(a, b) => Joined("add ", Pair(*a, *b)).append(line),
+            Instr::Beq(a, b, target) => Joined(
+                "beq ",
+                Joined(Pair(*a, *b), Joined(" @", Decimal(*target))),
+            ).append(line),
+            Instr::Commit => "commit".append(line),
+            Instr::Abort => "abort".append(line),
+        }
+    }
+}
+
+/// A listing has two for each step, so that its words stand in few pieces.
+impl Line for Choice {
+    ghost text = { choice_text };
+
+    fn append(&self, line: &mut String) -> Result<(), AllocError> {
+        match self {
+            Choice::Start => "C start".append(line),
+            Choice::Begin(t) => Joined("C begin ", Decimal(*t)).append(line),
+            Choice::Kill(t) => Joined("C kill ", Decimal(*t)).append(line),
+            Choice::Run(Node::A, t) => Joined("A run ", Decimal(*t)).append(line),
+            Choice::Run(Node::B, t) => Joined("B run ", Decimal(*t)).append(line),
+            Choice::Take(Node::A) => "A take".append(line),
+            Choice::Take(Node::B) => "B take".append(line),
+            Choice::Finish(Node::A) => "A finish".append(line),
+            Choice::Finish(Node::B) => "B finish".append(line),
+            Choice::Push(Node::A) => "A push".append(line),
+            Choice::Push(Node::B) => "B push".append(line),
+        }
+    }
+}
