@@ -2,7 +2,7 @@
 ghost use Rattle.std.specs.Prelude.{◌≡◌, ◌≤◌, IfOk};
 ghost use Rattle.zy_asm.specs.Reasons.{by_kind, kind_of};
 ghost use Rattle.zy_asm.specs.Steps.{texts};
-ghost use Rattle.zy_asm.specs.Choices.{actor_of as actor_of_lem, client_action as client_action_lem, node_action as node_action_lem, action_of as action_of_lem, chosen as chosen_lem, are_times as are_times_lem, times_of as times_of_lem, transaction as transaction_lem};
+ghost use Rattle.zy_asm.specs.Choices.{actor_of as actor_of_spec, client_action as client_action_spec, node_action as node_action_spec, action_of as action_of_spec, chosen as chosen_spec, are_times as are_times_spec, times_of as times_of_spec, transaction as transaction_spec};
 
 use crate::faults::{AsmKind, Reason};
 use crate::shown::Shown;
@@ -33,7 +33,7 @@ pub enum Action {
 
 /// The actor that a word names.
 pub fn actor_of(word: &[u8]) -> Option<Actor>
-    ensures { result ≡ actor_of_lem word.now }
+    ensures { result ≡ actor_of_spec word.now }
 {
     if is(word, b"C") {
         Some(Actor::C)
@@ -48,7 +48,7 @@ pub fn actor_of(word: &[u8]) -> Option<Actor>
 
 /// The action of the client that a word names.
 fn client_action(word: &[u8]) -> Option<Action>
-    ensures { result ≡ client_action_lem word.now }
+    ensures { result ≡ client_action_spec word.now }
 {
     if is(word, b"start") {
         Some(Action::Plain(Choice::Start))
@@ -63,7 +63,7 @@ fn client_action(word: &[u8]) -> Option<Action>
 
 /// The action of this node that a word names.
 fn node_action(node: Node, word: &[u8]) -> Option<Action>
-    ensures { result ≡ node_action_lem node word.now }
+    ensures { result ≡ node_action_spec node word.now }
 {
     if is(word, b"run") {
         Some(Action::Txn(TxnAction::Run(node)))
@@ -80,7 +80,7 @@ fn node_action(node: Node, word: &[u8]) -> Option<Action>
 
 /// The action of this actor that a word names.
 pub fn action_of(actor: Actor, word: &[u8]) -> Option<Action>
-    ensures { result ≡ action_of_lem actor word.now }
+    ensures { result ≡ action_of_spec actor word.now }
 {
     match actor {
         Actor::C => client_action(word),
@@ -91,7 +91,7 @@ pub fn action_of(actor: Actor, word: &[u8]) -> Option<Action>
 
 /// The action with this transaction.
 pub fn chosen(action: TxnAction, t: u8) -> Choice
-    ensures { result ≡ chosen_lem action t }
+    ensures { result ≡ chosen_spec action t }
 {
     match action {
         TxnAction::Begin => Choice::Begin(t),
@@ -103,7 +103,7 @@ pub fn chosen(action: TxnAction, t: u8) -> Choice
 /// The number of a transaction, of which there are `count`.
 pub fn transaction(count: usize, word: &[u8]) -> Result<u8, Reason>
     requires { count ≤ 64 }
-    ensures { by_kind result ≡ transaction_lem count word.now }
+    ensures { by_kind result ≡ transaction_spec count word.now }
 {
     let Some(number) = number_of(word) else {
         return Err(Reason::NotDigits(Shown::of(word)));
@@ -117,7 +117,7 @@ pub fn transaction(count: usize, word: &[u8]) -> Result<u8, Reason>
 
 /// Whether these words are `x` and another one, or none.
 pub fn are_times(words: &[&[u8]]) -> bool
-    ensures { result ≡ are_times_lem (texts words.now) }
+    ensures { result ≡ are_times_spec (texts words.now) }
 {
     match words {
         [] => true,
@@ -138,7 +138,7 @@ pub fn not_times(words: &[&[u8]]) -> Reason
 
 /// How often the words behind a choice say that it is made.
 pub fn times_of(words: &[&[u8]]) -> Result<u64, Reason>
-    ensures value { by_kind result ≡ times_of_lem (texts words.now) }
+    ensures value { by_kind result ≡ times_of_spec (texts words.now) }
     ensures few { IfOk result (λ n. n ≤ 4096) }
 {
     match words {

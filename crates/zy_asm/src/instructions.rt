@@ -2,7 +2,7 @@
 ghost use Rattle.std.specs.Prelude.{◌≡◌};
 ghost use Rattle.zy_asm.specs.Reasons.{by_kind};
 ghost use Rattle.zy_asm.specs.Steps.{texts};
-ghost use Rattle.zy_asm.specs.Instructions.{register_of as register_of_lem, two as two_lem, pair_of as pair_of_lem, target_of as target_of_lem, operation_of as operation_of_lem, set_of as set_of_lem, beq_of as beq_of_lem, alone as alone_lem, instr_of as instr_of_lem};
+ghost use Rattle.zy_asm.specs.Instructions.{register_of as register_of_spec, two as two_spec, pair_of as pair_of_spec, target_of as target_of_spec, operation_of as operation_of_spec, set_of as set_of_spec, beq_of as beq_of_spec, alone as alone_spec, instr_of as instr_of_spec};
 
 use crate::faults::Reason;
 use crate::shown::Shown;
@@ -24,7 +24,7 @@ pub enum Operation {
 
 /// The operation that a word names.
 pub fn operation_of(word: &[u8]) -> Option<Operation>
-    ensures { result ≡ operation_of_lem word.now }
+    ensures { result ≡ operation_of_spec word.now }
 {
     if is(word, b"set") {
         Some(Operation::Set)
@@ -49,7 +49,7 @@ pub fn operation_of(word: &[u8]) -> Option<Operation>
 
 /// The register that a word names.
 fn register_of(word: &[u8]) -> Result<Reg, Reason>
-    ensures { by_kind result ≡ register_of_lem word.now }
+    ensures { by_kind result ≡ register_of_spec word.now }
 {
     match word {
         b"r0" => Ok(Reg::R0),
@@ -65,14 +65,14 @@ fn register_of(word: &[u8]) -> Result<Reg, Reason>
 }
 
 fn two(a: &[u8], b: &[u8]) -> Result<(Reg, Reg), Reason>
-    ensures { by_kind result ≡ two_lem a.now b.now }
+    ensures { by_kind result ≡ two_spec a.now b.now }
 {
     Ok((register_of(a)?, register_of(b)?))
 }
 
 /// Two registers and no more.
 fn pair_of(words: &[&[u8]]) -> Result<(Reg, Reg), Reason>
-    ensures { by_kind result ≡ pair_of_lem (texts words.now) }
+    ensures { by_kind result ≡ pair_of_spec (texts words.now) }
 {
     match words {
         [a, b] => two(a, b),
@@ -82,7 +82,7 @@ fn pair_of(words: &[&[u8]]) -> Result<(Reg, Reg), Reason>
 
 /// The target `@N`.
 fn target_of(word: &[u8]) -> Result<u32, Reason>
-    ensures { by_kind result ≡ target_of_lem word.now }
+    ensures { by_kind result ≡ target_of_spec word.now }
 {
     match word {
         [b'@', number @ ..] => Ok(number_in(number, 0, u64::from(u32::MAX))? as u32),
@@ -92,7 +92,7 @@ fn target_of(word: &[u8]) -> Result<u32, Reason>
 
 /// What follows `set`.
 fn set_of(words: &[&[u8]]) -> Result<Instr, Reason>
-    ensures { by_kind result ≡ set_of_lem (texts words.now) }
+    ensures { by_kind result ≡ set_of_spec (texts words.now) }
 {
     match words {
         [a, number] => {
@@ -105,7 +105,7 @@ fn set_of(words: &[&[u8]]) -> Result<Instr, Reason>
 
 /// What follows `beq`.
 fn beq_of(words: &[&[u8]]) -> Result<Instr, Reason>
-    ensures { by_kind result ≡ beq_of_lem (texts words.now) }
+    ensures { by_kind result ≡ beq_of_spec (texts words.now) }
 {
     match words {
         [a, b, target] => {
@@ -118,7 +118,7 @@ fn beq_of(words: &[&[u8]]) -> Result<Instr, Reason>
 
 /// An instruction of one word, where none follows.
 fn alone(words: &[&[u8]], instr: Instr) -> Result<Instr, Reason>
-    ensures { by_kind result ≡ alone_lem (texts words.now) instr }
+    ensures { by_kind result ≡ alone_spec (texts words.now) instr }
 {
     if words.is_empty() {
         Ok(instr)
@@ -129,7 +129,7 @@ fn alone(words: &[&[u8]], instr: Instr) -> Result<Instr, Reason>
 
 /// The instruction of an operation with the words behind it.
 pub fn instr_of(operation: Operation, words: &[&[u8]]) -> Result<Instr, Reason>
-    ensures { by_kind result ≡ instr_of_lem operation (texts words.now) }
+    ensures { by_kind result ≡ instr_of_spec operation (texts words.now) }
 {
     match operation {
         Operation::Set => set_of(words),

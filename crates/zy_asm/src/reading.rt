@@ -2,7 +2,7 @@
 ghost use Rattle.std.specs.Prelude.{◌≡◌, ◌≤◌, ◌<◌, length, IfOk, Some};
 ghost use Rattle.zy_asm.specs.Reasons.{by_kind};
 ghost use Rattle.zy_asm.specs.Steps.{texts};
-ghost use Rattle.zy_asm.specs.Reading.{Steps, Gives, Reads, seen, keyword_of as keyword_of_lem, are_two as are_two_lem, headed as headed_lem, zephyr_line, cap_line, pages_line, rule_line, row_of as row_of_lem, add_row, row_at, instr_line, instr_at, judged, closed, own_number as own_number_lem, open_line, txn_at, repeat_choice, repeat_line, plain_line, txn_action_line, choice_line, end_line, statement, body_line, step, ended as ended_lem, reading};
+ghost use Rattle.zy_asm.specs.Reading.{Steps, Gives, Reads, seen, keyword_of as keyword_of_spec, are_two as are_two_spec, headed as headed_spec, zephyr_line, cap_line, pages_line, rule_line, row_of as row_of_spec, add_row, row_at, instr_line, instr_at, judged, closed, own_number as own_number_spec, open_line, txn_at, repeat_choice, repeat_line, plain_line, txn_action_line, choice_line, end_line, statement, body_line, step, ended as ended_spec, reading};
 ghost use Rattle.zy_isa.specs.Programs.{prog_fault};
 
 use crate::choices::{
@@ -40,7 +40,7 @@ pub enum Keyword {
 
 /// The keyword that a word is.
 fn keyword_of(word: &[u8]) -> Option<Keyword>
-    ensures { result ≡ keyword_of_lem word.now }
+    ensures { result ≡ keyword_of_spec word.now }
 {
     if let Some(operation) = operation_of(word) {
         return Some(Keyword::Instr(operation));
@@ -63,7 +63,7 @@ fn keyword_of(word: &[u8]) -> Option<Keyword>
 
 /// Whether these are the words.
 fn are_two(words: &[&[u8]], first: &[u8], second: &[u8]) -> bool
-    ensures { result ≡ are_two_lem (texts words.now) first.now second.now }
+    ensures { result ≡ are_two_spec (texts words.now) first.now second.now }
 {
     match words {
         [w, v] => *w == first && *v == second,
@@ -73,7 +73,7 @@ fn are_two(words: &[&[u8]], first: &[u8], second: &[u8]) -> bool
 
 /// The number of a header line with this first word.
 fn headed(words: &[&[u8]], name: &[u8], least: u64, most: u64) -> Result<u64, Reason>
-    ensures value { by_kind result ≡ headed_lem (texts words.now) name.now least most }
+    ensures value { by_kind result ≡ headed_spec (texts words.now) name.now least most }
     ensures range { IfOk result (λ n. (least ≤ n) × (n ≤ most)) }
 {
     match words {
@@ -84,7 +84,7 @@ fn headed(words: &[&[u8]], name: &[u8], least: u64, most: u64) -> Result<u64, Re
 
 /// The row of the words behind `row`.
 fn row_of(words: &[&[u8]]) -> Result<Row, Reason>
-    ensures { by_kind result ≡ row_of_lem (texts words.now) }
+    ensures { by_kind result ≡ row_of_spec (texts words.now) }
 {
     match words {
         [key, value] => {
@@ -109,7 +109,7 @@ fn program_of(alloc: Global, number: usize, instrs: &[Instr]) -> Result<Program,
 
 /// The number of a program, of which so many stand above.
 fn own_number(count: usize, word: &[u8]) -> Result<usize, Reason>
-    ensures { by_kind result ≡ own_number_lem count word.now }
+    ensures { by_kind result ≡ own_number_spec count word.now }
 {
     let Some(number) = number_of(word) else {
         return Err(Reason::NotDigits(Shown::of(word)));
@@ -361,7 +361,7 @@ impl Reader {
 }
 
 fn ended(stage: Stage) -> Result<(), Reason>
-    ensures { by_kind result ≡ ended_lem stage }
+    ensures { by_kind result ≡ ended_spec stage }
 {
     match stage {
         Stage::Done => Ok(()),

@@ -1,9 +1,9 @@
 //! The lines of a text, the words of a line, and what numbers they spell.
 ghost use Rattle.std.specs.Prelude.{◌≡◌, ◌<◌, ◌≤◌, IfOk, OnOk, map, length, position, ◌==◌, ◌∷◌};
 ghost use Rattle.std.specs.Str.{bytes_eq};
-ghost use Rattle.zy_isa.specs.Words.{words_of as words_of_lem, number_of as number_of_lem, is_space as is_space_lem, without_comment as without_comment_lem, lines_of};
+ghost use Rattle.zy_isa.specs.Words.{words_of as words_of_spec, number_of as number_of_spec, is_space as is_space_spec, without_comment as without_comment_spec, lines_of};
 ghost use Rattle.zy_asm.specs.Reasons.{by_kind};
-ghost use Rattle.zy_asm.specs.Steps.{number_in as number_in_lem};
+ghost use Rattle.zy_asm.specs.Steps.{number_in as number_in_spec};
 
 use crate::faults::Reason;
 use crate::shown::Shown;
@@ -13,7 +13,7 @@ use std::alloc::AllocError;
 const MAX_DIGITS: usize = 10;
 
 fn is_space(byte: u8) -> bool
-    ensures { result ≡ is_space_lem byte }
+    ensures { result ≡ is_space_spec byte }
 {
     byte == b' ' || byte == b'\t' || byte == b'\r'
 }
@@ -27,7 +27,7 @@ fn first_place(bytes: &[u8], sought: u8) -> Option<usize>
 
 /// The bytes before a comment.
 fn without_comment(line: &[u8]) -> &[u8]
-    ensures { result.now ≡ without_comment_lem line.entry.now }
+    ensures { result.now ≡ without_comment_spec line.entry.now }
 {
     match first_place(line, b';') {
         Some(end) => &line[..end],
@@ -49,7 +49,7 @@ pub fn first_line(text: &[u8]) -> (&[u8], &[u8])
 
 /// Puts the words of a line, without its comment, in place of what the `Vec` holds. At an error some of them stand there.
 pub fn take_words<'a>(words: &mut Vec<&'a [u8]>, line: &'a [u8]) -> Result<(), AllocError>
-    ensures { OnOk result (map (λ w. w.now) words.new.items ≡ words_of_lem line.entry.now) }
+    ensures { OnOk result (map (λ w. w.now) words.new.items ≡ words_of_spec line.entry.now) }
 {
     words.clear();
     words.extend(
@@ -68,7 +68,7 @@ pub fn is(word: &[u8], text: &[u8]) -> bool
 
 /// The number that 1 to 10 digits spell.
 pub fn number_of(word: &[u8]) -> Option<u64>
-    ensures { result ≡ number_of_lem word.now }
+    ensures { result ≡ number_of_spec word.now }
 {
     if word.is_empty() || word.len() > MAX_DIGITS {
         return None;
@@ -85,7 +85,7 @@ pub fn number_of(word: &[u8]) -> Option<u64>
 
 /// The number that a word spells, from `least` to `most`.
 pub fn number_in(word: &[u8], least: u64, most: u64) -> Result<u64, Reason>
-    ensures value { by_kind result ≡ number_in_lem word.now least most }
+    ensures value { by_kind result ≡ number_in_spec word.now least most }
     ensures range { IfOk result (λ n. (least ≤ n) × (n ≤ most)) }
 {
     let Some(number) = number_of(word) else {

@@ -1,6 +1,6 @@
 //! Choices: what a schedule is made of.
 ghost use Rattle.std.specs.Prelude.{◌≡◌};
-ghost use Rattle.zy_isa.specs.Choices.{actor_of, names_below as names_below_lem};
+ghost use Rattle.zy_isa.specs.Choices.{actor_of, names_below as names_below_spec};
 
 use crate::node::{Actor, Node};
 
@@ -41,7 +41,7 @@ impl Choice {
 
     /// Whether the transaction that it names, if it names one, has a number below `count`.
     pub fn names_below(self, count: usize) -> bool
-        ensures { result ≡ names_below_lem count self }
+        ensures { result ≡ names_below_spec count self }
     {
         match self {
             Choice::Start => true,

@@ -1,7 +1,7 @@
 //! Registers and instructions.
 ghost use Rattle.std.specs.Prelude.{◌≡◌, ◌<◌};
 ghost use Rattle.zy_isa.specs.Registers.{number_of};
-ghost use Rattle.zy_isa.specs.Programs.{ends as ends_lem, targets_below as targets_below_lem};
+ghost use Rattle.zy_isa.specs.Programs.{ends as ends_spec, targets_below as targets_below_spec};
 
 /// A register of a transaction. All are 0 when it begins.
 #[derive(Clone, Copy, Debug, PartialEq, Eq)]
@@ -59,7 +59,7 @@ impl Reg {
 impl Instr {
     /// Whether a program may end with it.
     pub fn ends(self) -> bool
-        ensures { result ≡ ends_lem self }
+        ensures { result ≡ ends_spec self }
     {
         match self {
             Instr::Commit => true,
@@ -77,7 +77,7 @@ impl Instr {
 impl Instr {
     /// Whether its target, if it has one, is below `count`.
     pub fn targets_below(self, count: usize) -> bool
-        ensures { result ≡ targets_below_lem count self }
+        ensures { result ≡ targets_below_spec count self }
     {
         match self {
             Instr::Beq(_, _, target) => u64::from(target) < count as u64,

@@ -1,6 +1,6 @@
 //! Programs that are verified.
 ghost use Rattle.std.specs.Prelude.{◌≡◌, ◌<◌, ◌≤◌, Some, IfOk, length, slice_index_or};
-ghost use Rattle.zy_isa.specs.Programs.{ends_well as ends_well_lem, stray_target as stray_target_lem, IsProgram, IsVerified, Values};
+ghost use Rattle.zy_isa.specs.Programs.{ends_well as ends_well_spec, stray_target as stray_target_spec, IsProgram, IsVerified, Values};
 
 use crate::instr::Instr;
 use std::alloc::{AllocError, Global};
@@ -51,7 +51,7 @@ impl Model for Program {
 
 /// Whether the last instruction ends the program.
 fn ends_well(instrs: &[Instr]) -> bool
-    ensures { result ≡ ends_well_lem instrs.now }
+    ensures { result ≡ ends_well_spec instrs.now }
 {
     match instrs.last() {
         Some(last) => last.ends(),
@@ -61,7 +61,7 @@ fn ends_well(instrs: &[Instr]) -> bool
 
 /// The first instruction whose target is not below the number of instructions.
 fn stray_target(instrs: &[Instr]) -> Option<usize>
-    ensures { result ≡ stray_target_lem instrs.now }
+    ensures { result ≡ stray_target_spec instrs.now }
 {
     let count = instrs.len();
     instrs.iter().position(|instr| !instr.targets_below(count))

@@ -1,7 +1,7 @@
 //! Scenarios that are within the limits.
 ghost use Rattle.std.specs.Prelude.{◌≡◌, ◌<◌, ◌≤◌, IfOk, IfSome, length};
-ghost use Rattle.zy_isa.specs.Rows.{RowsFit, misplaced_row as misplaced_row_lem};
-ghost use Rattle.zy_isa.specs.Scenario.{IsScenario, IsTested, ArePrograms, misnamed_choice as misnamed_choice_lem, opening_rows as opening_rows_lem, opening_pages_for as opening_pages_for_lem};
+ghost use Rattle.zy_isa.specs.Rows.{RowsFit, misplaced_row as misplaced_row_spec};
+ghost use Rattle.zy_isa.specs.Scenario.{IsScenario, IsTested, ArePrograms, misnamed_choice as misnamed_choice_spec, opening_rows as opening_rows_spec, opening_pages_for as opening_pages_for_spec};
 
 use crate::choice::Choice;
 use crate::program::Program;
@@ -79,7 +79,7 @@ impl Model for Scenario {
 
 /// How many rows an opening page takes: half of what it has room for, rounded up.
 pub fn opening_rows(cap: u8) -> usize
-    ensures { result ≡ opening_rows_lem cap }
+    ensures { result ≡ opening_rows_spec cap }
 {
     (usize::from(cap) + 1) / 2
 }
@@ -87,7 +87,7 @@ pub fn opening_rows(cap: u8) -> usize
 /// How many pages so many rows open with.
 pub fn opening_pages_for(cap: u8, rows: usize) -> usize
     requires { 1 ≤ cap }
-    ensures { result ≡ opening_pages_for_lem cap rows }
+    ensures { result ≡ opening_pages_for_spec cap rows }
 {
     match rows.checked_sub(1) {
         None => 1,
@@ -97,7 +97,7 @@ pub fn opening_pages_for(cap: u8, rows: usize) -> usize
 
 /// The index of the first row whose key is not above the one before it.
 fn misplaced_row(rows: &[Row]) -> Option<usize>
-    ensures value { result ≡ misplaced_row_lem rows.now }
+    ensures value { result ≡ misplaced_row_spec rows.now }
     ensures bound { IfSome result (λ i. i < length rows.now) }
 {
     let (first, rest) = rows.split_first()?;
@@ -113,7 +113,7 @@ fn misplaced_row(rows: &[Row]) -> Option<usize>
 
 /// The index of the first choice that names no transaction.
 fn misnamed_choice(count: usize, choices: &[Choice]) -> Option<usize>
-    ensures value { result ≡ misnamed_choice_lem count choices.now }
+    ensures value { result ≡ misnamed_choice_spec count choices.now }
     ensures bound { IfSome result (λ i. i < length choices.now) }
 {
     choices.iter().position(|choice| !choice.names_below(count))

@@ -1,7 +1,7 @@
 //! The words of instructions, as an image has them.
 ghost use Rattle.std.specs.Prelude.{◌≡◌, IfSome, Some};
 ghost use Rattle.zy_isa.specs.Registers.{number_of};
-ghost use Rattle.zy_isa.specs.InstrWords.{IsWordOf, word as word_lem, word_of};
+ghost use Rattle.zy_isa.specs.InstrWords.{IsWordOf, word as word_spec, word_of};
 ghost use Rattle.zy_isa.specs.WordFields.{register_at, registers_at, instr_at};
 ghost use Rattle.zy_isa.specs.declared.instr.Instr.{Instr};
 
@@ -19,7 +19,7 @@ fn byte_of(register: Reg) -> u8
 
 /// The word of these fields.
 fn word(operation: u8, a: u8, b: u8, number: u32) -> [u8; WORD_BYTES]
-    ensures { result ≡ word_lem operation a b number }
+    ensures { result ≡ word_spec operation a b number }
 {
     let [n0, n1, n2, n3] = number.to_be_bytes();
     [operation, a, b, 0, n0, n1, n2, n3]

@@ -1,8 +1,8 @@
 //! The locks of one node.
 ghost use Rattle.std.specs.Prelude.{◌≡◌, ◌==◌, ◌+◌, ◌<◌, ◌≤◌, IfOk, OnOk, OnErr, IsOk, false, [], length, slice_index_or};
-ghost use Rattle.zy_locks.specs.Locks.{add_lock, is_shared as is_shared_lem, stronger as stronger_lem, clashes as clashes_lem, conflict, is_locked, drop_locks};
+ghost use Rattle.zy_locks.specs.Locks.{add_lock, is_shared as is_shared_spec, stronger as stronger_spec, clashes as clashes_spec, conflict, is_locked, drop_locks};
 ghost use Rattle.zy_locks.specs.LockTable.{Tries};
-ghost use Rattle.zy_locks.specs.Order.{comes_before as comes_before_lem, is_held_by as is_held_by_lem, LocksRise, IsPlace, Finds};
+ghost use Rattle.zy_locks.specs.Order.{comes_before as comes_before_spec, is_held_by as is_held_by_spec, LocksRise, IsPlace, Finds};
 
 use crate::lock::{Lock, LockKind};
 use std::alloc::{AllocError, Global};
@@ -161,14 +161,14 @@ impl Locks {
 
 /// Whether a lock comes before `txn`'s lock on the page.
 fn comes_before(lock: &Lock, page: u16, txn: u8) -> bool
-    ensures { result ≡ comes_before_lem lock.now page txn }
+    ensures { result ≡ comes_before_spec lock.now page txn }
 {
     (lock.page, lock.txn) < (page, txn)
 }
 
 /// Whether it is `txn`'s lock on the page.
 fn is_held_by(lock: &Lock, page: u16, txn: u8) -> bool
-    ensures { result ≡ is_held_by_lem lock.now page txn }
+    ensures { result ≡ is_held_by_spec lock.now page txn }
 {
     lock.page == page && lock.txn == txn
 }
@@ -196,13 +196,13 @@ fn search(locks: &[Lock], page: u16, txn: u8) -> Result<usize, usize>
 
 /// Whether a lock keeps `txn` from locking the page.
 fn clashes(lock: &Lock, page: u16, txn: u8, kind: LockKind) -> bool
-    ensures { result ≡ clashes_lem page txn kind lock.now }
+    ensures { result ≡ clashes_spec page txn kind lock.now }
 {
     lock.page == page && lock.txn != txn && !(is_shared(lock.kind) && is_shared(kind))
 }
 
 fn is_shared(kind: LockKind) -> bool
-    ensures { result ≡ is_shared_lem kind }
+    ensures { result ≡ is_shared_spec kind }
 {
     match kind {
         LockKind::Shared => true,
@@ -212,7 +212,7 @@ fn is_shared(kind: LockKind) -> bool
 
 /// What a lock becomes by a further ask.
 fn stronger(held: LockKind, asked: LockKind) -> LockKind
-    ensures { result ≡ stronger_lem held asked }
+    ensures { result ≡ stronger_spec held asked }
 {
     match held {
         LockKind::Shared => asked,

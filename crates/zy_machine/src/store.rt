@@ -2,13 +2,13 @@
 ghost use Rattle.std.specs.Prelude.{◌≤◌, ◌<◌, length};
 ghost use Rattle.zy_isa.specs.declared.node.Node.TheVariants.{A};
 ghost use Rattle.zy_table.specs.State.{facing};
-ghost use Rattle.zy_table.specs.Client.{start_row as start_row_lem, begin_row as begin_row_lem, kill_row as kill_row_lem};
-ghost use Rattle.zy_table.specs.Push.{finish_row as finish_row_lem, push_row as push_row_lem};
+ghost use Rattle.zy_table.specs.Client.{start_row as start_row_spec, begin_row as begin_row_spec, kill_row as kill_row_spec};
+ghost use Rattle.zy_table.specs.Push.{finish_row as finish_row_spec, push_row as push_row_spec};
 ghost use Rattle.zy_isa.specs.declared.choice.Choice.TheVariants.{Start};
-ghost use Rattle.zy_table.specs.Play.{side_of, step as step_lem};
+ghost use Rattle.zy_table.specs.Play.{side_of, step as step_spec};
 ghost use Rattle.zy_txns.specs.Books.{txn_in};
-ghost use Rattle.zy_table.specs.Run.{run_row as run_row_lem};
-ghost use Rattle.zy_table.specs.Take.{take_row as take_row_lem};
+ghost use Rattle.zy_table.specs.Run.{run_row as run_row_spec};
+ghost use Rattle.zy_table.specs.Take.{take_row as take_row_spec};
 ghost use Rattle.zy_moves.specs.Arrivals.{MayTake};
 ghost use Rattle.zy_machine.specs.Stores.{shown, IsMade, IsPossible, IsReady, Makes, Steps};
 
@@ -43,7 +43,7 @@ impl Store {
         t: u8,
     ) -> Result<Answer, AllocError>
         requires { IsReady scenario.now n t self.old }
-        ensures { Makes n self.old self.new result (run_row_lem scenario.now n t (facing n (shown self.old))) }
+        ensures { Makes n self.old self.new result (run_row_spec scenario.now n t (facing n (shown self.old))) }
     {
         match n {
             Node::A => run_row(scenario, self.alloc, n, &mut self.a, &mut self.book, t),
@@ -54,7 +54,7 @@ impl Store {
     /// The lines of `n take`.
     fn take_row(&mut self, scenario: &Scenario, n: Node) -> Result<Answer, AllocError>
         requires { let v = facing n (shown self.old) in MayTake v.inbox v.me }
-        ensures { Makes n self.old self.new result (take_row_lem scenario.now (facing n (shown self.old))) }
+        ensures { Makes n self.old self.new result (take_row_spec scenario.now (facing n (shown self.old))) }
     {
         match n {
             Node::A => take_row(scenario, self.alloc, &mut self.a, &mut self.b.outbox),
@@ -64,7 +64,7 @@ impl Store {
 
     /// `n push`.
     fn push_row(&mut self, n: Node) -> Result<Answer, AllocError>
-        ensures { Makes n self.old self.new result (push_row_lem (facing n (shown self.old))) }
+        ensures { Makes n self.old self.new result (push_row_spec (facing n (shown self.old))) }
     {
         match n {
             Node::A => push_row(&mut self.a),
@@ -75,7 +75,7 @@ impl Store {
     /// `n finish`.
     fn finish_row(&mut self, n: Node) -> Result<Answer, AllocError>
         requires { length self.old.book.txns ≤ 64 }
-        ensures { Makes n self.old self.new result (finish_row_lem n (facing n (shown self.old))) }
+        ensures { Makes n self.old self.new result (finish_row_spec n (facing n (shown self.old))) }
     {
         match n {
             Node::A => finish_row(n, &mut self.a, &self.book),
@@ -85,7 +85,7 @@ impl Store {
 
     /// `C start`, at the node that the mode table names.
     fn start_row(&mut self, scenario: &Scenario) -> Result<Answer, AllocError>
-        ensures { let n = side_of scenario.now Start (shown self.old) in Makes n self.old self.new result (start_row_lem (facing n (shown self.old))) }
+        ensures { let n = side_of scenario.now Start (shown self.old) in Makes n self.old self.new result (start_row_spec (facing n (shown self.old))) }
     {
         let source = on_start(self.a.mode, self.b.mode, scenario.version());
         match source.unwrap_or(Node::A) {
@@ -97,7 +97,7 @@ impl Store {
     /// `C begin t`.
     fn begin_row(&mut self, t: u8) -> Answer
         requires { t < length self.old.book.txns }
-        ensures { IsMade A self.new result (begin_row_lem t (facing A (shown self.old))) }
+        ensures { IsMade A self.new result (begin_row_spec t (facing A (shown self.old))) }
     {
         begin_row(&self.a, &self.b, &mut self.book, t)
     }
@@ -105,7 +105,7 @@ impl Store {
     /// `C kill t`.
     fn kill_row(&mut self, t: u8) -> Answer
         requires { t < length self.old.book.txns }
-        ensures { let n = (txn_in t self.old.book).node in IsMade n self.new result (kill_row_lem t (facing n (shown self.old))) }
+        ensures { let n = (txn_in t self.old.book).node in IsMade n self.new result (kill_row_spec t (facing n (shown self.old))) }
     {
         match self.book.txn(t).node() {
             Node::A => kill_row(&mut self.a, &mut self.book, t),
@@ -116,7 +116,7 @@ impl Store {
     /// The step that a choice makes.
     pub(crate) fn step(&mut self, scenario: &Scenario, choice: Choice) -> Result<Answer, AllocError>
         requires { IsPossible scenario.now choice self.old }
-        ensures { Steps self.old self.new result (step_lem scenario.now choice (shown self.old)) }
+        ensures { Steps self.old self.new result (step_spec scenario.now choice (shown self.old)) }
     {
         match choice {
             Choice::Start => self.start_row(scenario),

@@ -1,6 +1,6 @@
 //! The mode table: each function is the lines of its definition.
 ghost use Rattle.std.specs.Prelude.{◌≡◌};
-ghost use Rattle.zy_modes.specs.Table.{finishes as finishes_lem, on_message as on_message_lem, on_start as on_start_lem, on_finish as on_finish_lem, home_of as home_of_lem, HandsOver};
+ghost use Rattle.zy_modes.specs.Table.{finishes as finishes_spec, on_message as on_message_spec, on_start as on_start_spec, on_finish as on_finish_spec, home_of as home_of_spec, HandsOver};
 
 use zy_links::kind::Kind;
 use crate::mode::NodeMode;
@@ -29,7 +29,7 @@ pub enum FinRow {
 /// What a message of this kind does at a node in this mode. `all_here`: with the page that it brings none is missing.
 /// A page that is asked for goes out only if it may leave, which is not told here. No line depends on the version.
 pub fn on_message(mode: NodeMode, kind: Kind, all_here: bool, _version: u8) -> MsgRow
-    ensures row { result ≡ on_message_lem mode kind all_here }
+    ensures row { result ≡ on_message_spec mode kind all_here }
     ensures hands_over { HandsOver all_here result }
 {
     match (mode, kind) {
@@ -47,7 +47,7 @@ pub fn on_message(mode: NodeMode, kind: Kind, all_here: bool, _version: u8) -> M
 
 /// What becomes of a destination whose source runs nothing any more.
 fn finishes(all_here: bool) -> MsgRow
-    ensures row { result ≡ finishes_lem all_here }
+    ensures row { result ≡ finishes_spec all_here }
     ensures hands_over { HandsOver all_here result }
 {
     if all_here {
@@ -59,14 +59,14 @@ fn finishes(all_here: bool) -> MsgRow
 
 /// The node from which a migration starts, by the modes of A and B and the version of the scenario.
 pub fn on_start(a: NodeMode, b: NodeMode, version: u8) -> Option<Node>
-    ensures { result ≡ on_start_lem a b version }
+    ensures { result ≡ on_start_spec a b version }
 {
     if a.may_start(b) { Some(Node::A) } else { None }
 }
 
 /// What `finish` does at a node in this mode. `active`: a transaction is active there.
 pub fn on_finish(mode: NodeMode, active: bool) -> FinRow
-    ensures { result ≡ on_finish_lem mode active }
+    ensures { result ≡ on_finish_spec mode active }
 {
     match mode {
         NodeMode::SDual if active => FinRow::Active,
@@ -77,7 +77,7 @@ pub fn on_finish(mode: NodeMode, active: bool) -> FinRow
 
 /// The node where a transaction begins, by the modes of A and B.
 pub fn home_of(a: NodeMode, b: NodeMode) -> Option<Node>
-    ensures { result ≡ home_of_lem a b }
+    ensures { result ≡ home_of_spec a b }
 {
     match (a, b) {
         (NodeMode::Normal | NodeMode::SInit, _) => Some(Node::A),

@@ -1,7 +1,7 @@
 //! The client's lines: each function is the line of its name.
 ghost use Rattle.std.specs.Prelude.{◌≡◌, ◌<◌, length};
 ghost use Rattle.zy_table.specs.State.{View};
-ghost use Rattle.zy_table.specs.Client.{start_row as start_row_lem, begin_row as begin_row_lem, kill_row as kill_row_lem};
+ghost use Rattle.zy_table.specs.Client.{start_row as start_row_spec, begin_row as begin_row_spec, kill_row as kill_row_spec};
 ghost use Rattle.zy_txns.specs.Books.{noted};
 ghost use Rattle.zy_run.specs.Parts.{here};
 ghost use Rattle.zy_table.specs.Answers.{made, Makes};
@@ -25,7 +25,7 @@ pub fn start_row(
     me: &mut NodeStore,
     them: &NodeStore,
 ) -> Result<Answer, AllocError>
-    ensures { (v : View) → Makes (beside me.old them.now v) (beside me.new them.now v) result (start_row_lem (beside me.old them.now v)) }
+    ensures { (v : View) → Makes (beside me.old them.now v) (beside me.new them.now v) result (start_row_spec (beside me.old them.now v)) }
 {
     if !me.mode.may_start(them.mode) {
         return Ok(Answer::quiet(Outcome::BadMode));
@@ -41,7 +41,7 @@ pub fn start_row(
 #[tactic(auto, unfolding(zy_table::specs::Client::begin_row, zy_table::specs::Client::begin_at, zy_table::specs::Change::begun, zy_table::specs::Change::txn_at))]
 pub fn begin_row(me: &NodeStore, them: &NodeStore, book: &mut Book, t: u8) -> Answer
     requires { t < length book.old.txns }
-    ensures { (v : View) → made result (beside me.now them.now (noted book.new v)) ≡ begin_row_lem t (beside me.now them.now (noted book.old v)) }
+    ensures { (v : View) → made result (beside me.now them.now (noted book.new v)) ≡ begin_row_spec t (beside me.now them.now (noted book.old v)) }
 {
     if !book.txn(t).is_new() {
         return Answer::quiet(Outcome::Idle);
@@ -59,7 +59,7 @@ pub fn begin_row(me: &NodeStore, them: &NodeStore, book: &mut Book, t: u8) -> An
 #[tactic(auto, unfolding(zy_table::specs::Client::kill_row, zy_table::specs::Run::abort_row, zy_table::specs::Change::txn_at))]
 pub fn kill_row(me: &mut NodeStore, book: &mut Book, t: u8) -> Answer
     requires { t < length book.old.txns }
-    ensures { (v : View) → made result (here me.new book.new v) ≡ kill_row_lem t (here me.old book.old v) }
+    ensures { (v : View) → made result (here me.new book.new v) ≡ kill_row_spec t (here me.old book.old v) }
 {
     if !book.txn(t).is_active() {
         return Answer::quiet(Outcome::Idle);

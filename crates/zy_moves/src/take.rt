@@ -1,12 +1,12 @@
 //! `n take`: each function is the lines of its name.
 ghost use Rattle.std.specs.Prelude.{◌≡◌, ◌≤◌, ◌+◌, ◌==◌, ◌++◌, ◌∷◌, [], OnOk, IfSome, Some, ℕ, true, false, is_some, length, option_map, slice_get};
 ghost use Rattle.zy_links.specs.Messages.{Message as AMessage, Page, kind_of, message_of};
-ghost use Rattle.zy_modes.specs.Table.{on_message as on_message_lem};
+ghost use Rattle.zy_modes.specs.Table.{on_message as on_message_spec};
 ghost use Rattle.zy_modes.specs.declared.table.MsgRow.TheVariants.{Turns};
 ghost use Rattle.zy_table.specs.State.{View};
 ghost use Rattle.zy_table.specs.Order.{NumbersRise};
-ghost use Rattle.zy_table.specs.Pages.{leaf_at, numbers, owns as owns_lem, without};
-ghost use Rattle.zy_table.specs.Take.{is_held as is_held_lem, all_here, with_brought, got as got_lem, with_answer, take_row as take_row_lem, got_row as got_row_lem, pull_row as pull_row_lem};
+ghost use Rattle.zy_table.specs.Pages.{leaf_at, numbers, owns as owns_spec, without};
+ghost use Rattle.zy_table.specs.Take.{is_held as is_held_spec, all_here, with_brought, got as got_spec, with_answer, take_row as take_row_spec, got_row as got_row_spec, pull_row as pull_row_spec};
 ghost use Rattle.zy_node.specs.Mail.{HasRoom, IsWhole};
 ghost use Rattle.zy_node.specs.Nodes.{node_shown};
 ghost use Rattle.zy_moves.specs.Arrivals.{IsNamed, IsNew, MayTake};
@@ -27,7 +27,7 @@ use zy_table::outcome::Outcome;
 
 /// Whether a locked page stays.
 fn is_held(rule: Rule) -> bool
-    ensures { result ≡ is_held_lem rule }
+    ensures { result ≡ is_held_spec rule }
 {
     match rule {
         Rule::Held => true,
@@ -36,7 +36,7 @@ fn is_held(rule: Rule) -> bool
 
 /// The outcome of a message that the node's mode knows.
 fn got(message: &Message) -> Outcome
-    ensures { result ≡ got_lem (message_of message.now) }
+    ensures { result ≡ got_spec (message_of message.now) }
 {
     match message {
         Message::Wire(_) => Outcome::GotWire,
@@ -63,7 +63,7 @@ fn line(scenario: &Scenario, me: &NodeStore, message: &Message) -> MsgRow
     requires named { IsNamed (node_shown me.now) }
     requires new { IsNew (message_of message.now) (node_shown me.now) }
     ensures { let m = message_of message.now in let x = node_shown me.now in
-        result ≡ on_message_lem x.mode (kind_of m) (all_here (with_brought m x)) }
+        result ≡ on_message_spec x.mode (kind_of m) (all_here (with_brought m x)) }
 {
     // The table asks it of these two messages alone.
     let all = match message {
@@ -121,7 +121,7 @@ fn answer(me: &mut NodeStore, sent: Option<Kind>)
 
 /// Hands a page over.
 pub(crate) fn leave(me: &mut NodeStore, p: u16)
-    requires owned { owns_lem me.old.pages p ≡ true }
+    requires owned { owns_spec me.old.pages p ≡ true }
     requires room { 1 ≤ me.old.outbox.spare }
     ensures node { let x = node_shown me.old in node_shown me.new ≡ record x { pages = without p x.pages } }
     ensures outbox { me.new.outbox.messages ≡ me.old.outbox.messages ++ Page (leaf_at me.old.pages p) ∷ [] }
@@ -202,7 +202,7 @@ pub fn take_row(
     inbox: &mut Mailbox,
 ) -> Result<Answer, AllocError>
     requires { MayTake inbox.old.messages (node_shown me.old) }
-    ensures { Takes me.old inbox.old me.new inbox.new result (take_row_lem scenario.now) }
+    ensures { Takes me.old inbox.old me.new inbox.new result (take_row_spec scenario.now) }
 {
     match at_front(scenario, me, inbox) {
         Front::Nothing => Ok(Answer::quiet(Outcome::NoMessage)),
@@ -221,7 +221,7 @@ fn got_row(
 ) -> Result<Answer, AllocError>
     requires may { MayTake inbox.old.messages (node_shown me.old) }
     requires some { is_some (slice_get inbox.old.messages 0) ≡ true }
-    ensures { (m : AMessage) → slice_get inbox.old.messages 0 ≡ Some m → Takes me.old inbox.old me.new inbox.new result (λ v. got_row_lem line m v (rest v)) }
+    ensures { (m : AMessage) → slice_get inbox.old.messages 0 ≡ Some m → Takes me.old inbox.old me.new inbox.new result (λ v. got_row_spec line m v (rest v)) }
 {
     match line {
         MsgRow::Stray => Ok(Answer::quiet(Outcome::Stray)),
@@ -239,7 +239,7 @@ fn turn_row(
 ) -> Result<Answer, AllocError>
     requires may { MayTake inbox.old.messages (node_shown me.old) }
     requires some { is_some (slice_get inbox.old.messages 0) ≡ true }
-    ensures { (m : AMessage) → slice_get inbox.old.messages 0 ≡ Some m → Takes me.old inbox.old me.new inbox.new result (λ v. got_row_lem (Turns mode sent) m v (rest v)) }
+    ensures { (m : AMessage) → slice_get inbox.old.messages 0 ≡ Some m → Takes me.old inbox.old me.new inbox.new result (λ v. got_row_spec (Turns mode sent) m v (rest v)) }
 {
     reserve_answer(me, sent)?;
     let Some(message) = inbox.take() else {
@@ -259,7 +259,7 @@ fn pull_row(
     p: u16,
     line: MsgRow,
 ) -> Result<Answer, AllocError>
-    ensures { Takes me.old inbox.old me.new inbox.new result (λ v. pull_row_lem scenario.now p line v (rest v)) }
+    ensures { Takes me.old inbox.old me.new inbox.new result (λ v. pull_row_spec scenario.now p line v (rest v)) }
 {
     let MsgRow::Turns(_, _) = line else {
         return Ok(Answer::quiet(Outcome::Stray));

@@ -3,11 +3,11 @@ ghost use Rattle.std.specs.Prelude.{◌≡◌, ◌<◌, ◌≤◌, Ok, Some, IfO
 ghost use Rattle.zy_isa.specs.Rows.{get_row};
 ghost use Rattle.zy_locks.specs.declared.lock.LockKind.TheVariants.{Shared, Exclusive};
 ghost use Rattle.zy_modes.specs.Table.{may_split};
-ghost use Rattle.zy_wire.specs.Wireframe.{page_of as page_of_lem};
+ghost use Rattle.zy_wire.specs.Wireframe.{page_of as page_of_spec};
 ghost use Rattle.zy_table.specs.State.{View};
 ghost use Rattle.zy_table.specs.Pages.{owns, rows_of};
 ghost use Rattle.zy_table.specs.Change.{txn_at, locked};
-ghost use Rattle.zy_table.specs.Run.{abort_row as abort_row_lem, set_row as set_row_lem, jump_row as jump_row_lem, commit_row as commit_row_lem, absent_row as absent_row_lem, read_row as read_row_lem, write_row as write_row_lem, insert_row as insert_row_lem, full_row as full_row_lem, split_row as split_row_lem, page_row as page_row_lem, key_row as key_row_lem, instr_row as instr_row_lem, run_row as run_row_lem, is_there as is_there_lem, has_room as has_room_lem, boundary as boundary_lem, program_of};
+ghost use Rattle.zy_table.specs.Run.{abort_row as abort_row_spec, set_row as set_row_spec, jump_row as jump_row_spec, commit_row as commit_row_spec, absent_row as absent_row_spec, read_row as read_row_spec, write_row as write_row_spec, insert_row as insert_row_spec, full_row as full_row_spec, split_row as split_row_spec, page_row as page_row_spec, key_row as key_row_spec, instr_row as instr_row_spec, run_row as run_row_spec, is_there as is_there_spec, has_room as has_room_spec, boundary as boundary_spec, program_of};
 ghost use Rattle.zy_node.specs.Nodes.{node_shown, IsFree};
 ghost use Rattle.zy_txns.specs.Books.{txn_in, noted, Countable};
 ghost use Rattle.zy_run.specs.Parts.{here, Runs};
@@ -38,7 +38,7 @@ pub fn run_row(
     t: u8,
 ) -> Result<Answer, AllocError>
     requires { IsReady scenario.now n t me.old book.old }
-    ensures { Runs me.old book.old me.new book.new result (run_row_lem scenario.now n t) }
+    ensures { Runs me.old book.old me.new book.new result (run_row_spec scenario.now n t) }
 {
     let txn = book.txn(t);
     if !txn.is_active() {
@@ -67,7 +67,7 @@ fn instr_row(
     requires counts { Countable t book.old }
     requires room { Rooms t me.old book.old }
     requires splits { MaySplit scenario.now (node_shown me.old) (txn_in t book.old) }
-    ensures { Runs me.old book.old me.new book.new result (λ v. instr_row_lem scenario.now t (Some instr) (txn_at v t).regs v) }
+    ensures { Runs me.old book.old me.new book.new result (λ v. instr_row_spec scenario.now t (Some instr) (txn_at v t).regs v) }
 {
     let txn = book.txn(t);
     match instr {
@@ -101,7 +101,7 @@ fn instr_row(
 #[tactic(auto, unfolding(zy_table::specs::Run::abort_row, zy_table::specs::Change::aborted, zy_table::specs::Change::txn_at))]
 pub fn abort_row(me: &mut NodeStore, book: &mut Book, t: u8, why: Why) -> Answer
     requires { t < length book.old.txns }
-    ensures { (v : View) → made result (here me.new book.new v) ≡ abort_row_lem t why (here me.old book.old v) }
+    ensures { (v : View) → made result (here me.new book.new v) ≡ abort_row_spec t why (here me.old book.old v) }
 {
     me.release(t);
     book.abort(t, why);
@@ -112,7 +112,7 @@ pub fn abort_row(me: &mut NodeStore, book: &mut Book, t: u8, why: Why) -> Answer
 #[tactic(auto, unfolding(zy_table::specs::Run::set_row, zy_table::specs::Change::did, zy_table::specs::Change::txn_at))]
 fn set_row(book: &mut Book, t: u8, r: Reg, value: u32) -> Answer
     requires { Countable t book.old }
-    ensures { (v : View) → made result (noted book.new v) ≡ set_row_lem t r value (noted book.old v) }
+    ensures { (v : View) → made result (noted book.new v) ≡ set_row_spec t r value (noted book.old v) }
 {
     book.set(t, r, value);
     Answer::quiet(Outcome::Did)
@@ -122,7 +122,7 @@ fn set_row(book: &mut Book, t: u8, r: Reg, value: u32) -> Answer
 #[tactic(auto, unfolding(zy_table::specs::Run::jump_row, zy_table::specs::Change::did, zy_table::specs::Change::txn_at))]
 fn jump_row(book: &mut Book, t: u8, taken: bool, target: u32) -> Answer
     requires { Countable t book.old }
-    ensures { (v : View) → made result (noted book.new v) ≡ jump_row_lem t taken target (noted book.old v) }
+    ensures { (v : View) → made result (noted book.new v) ≡ jump_row_spec t taken target (noted book.old v) }
 {
     let next = book.txn(t).place() + 1;
     book.go_to(t, place_after(taken, target, next));
@@ -134,7 +134,7 @@ fn jump_row(book: &mut Book, t: u8, taken: bool, target: u32) -> Answer
 fn commit_row(me: &mut NodeStore, book: &mut Book, t: u8) -> Result<Answer, AllocError>
     requires counts { Countable t book.old }
     requires room { Rooms t me.old book.old }
-    ensures { Runs me.old book.old me.new book.new result (commit_row_lem t) }
+    ensures { Runs me.old book.old me.new book.new result (commit_row_spec t) }
 {
     if let Some(p) = gone_page(me, book.txn(t).rows()) {
         return Ok(abort_row(me, book, t, Why::Gone(p)));
@@ -160,7 +160,7 @@ fn key_row(
 ) -> Result<Answer, AllocError>
     requires counts { Countable t book.old }
     requires splits { MaySplit scenario.now (node_shown me.old) (txn_in t book.old) }
-    ensures { Runs me.old book.old me.new book.new result (key_row_lem scenario.now t access key) }
+    ensures { Runs me.old book.old me.new book.new result (key_row_spec scenario.now t access key) }
 {
     let Ok(key) = u16::try_from(key) else {
         return Ok(abort_row(me, book, t, Why::BadKey));
@@ -179,7 +179,7 @@ fn absent_row(
 ) -> Result<Answer, AllocError>
     requires there { t < length book.old.txns }
     requires few { p < 512 }
-    ensures { Runs me.old book.old me.new book.new result (absent_row_lem t p) }
+    ensures { Runs me.old book.old me.new book.new result (absent_row_spec t p) }
 {
     if !me.mode.may_pull() {
         return Ok(abort_row(me, book, t, Why::Gone(p)));
@@ -204,7 +204,7 @@ fn read_row(
 ) -> Answer
     requires counts { Countable t book.old }
     requires free { IsFree p t Shared me.old }
-    ensures { (v : View) → made result (here me.new book.new v) ≡ read_row_lem t r key p (locked t p Shared (here me.old book.old v)) }
+    ensures { (v : View) → made result (here me.new book.new v) ≡ read_row_spec t r key p (locked t p Shared (here me.old book.old v)) }
 {
     let value = value(me, book.txn(t), key, p);
     me.lock(p, t, LockKind::Shared);
@@ -224,7 +224,7 @@ fn write_row(
 ) -> Result<Answer, AllocError>
     requires counts { Countable t book.old }
     requires free { IsFree p t Exclusive me.old }
-    ensures { Runs me.old book.old me.new book.new result (λ v. write_row_lem t key value p (locked t p Exclusive v)) }
+    ensures { Runs me.old book.old me.new book.new result (λ v. write_row_spec t key value p (locked t p Exclusive v)) }
 {
     if !is_there(me, book.txn(t), key, p) {
         return Ok(abort_row(me, book, t, Why::Missing));
@@ -248,10 +248,10 @@ fn insert_row(
 ) -> Result<Answer, AllocError>
     requires counts { Countable t book.old }
     requires splits { MaySplit scenario.now (node_shown me.old) (txn_in t book.old) }
-    requires on { p ≡ page_of_lem me.old.wire.lows key }
+    requires on { p ≡ page_of_spec me.old.wire.lows key }
     requires free { IsFree p t Exclusive me.old }
     requires owned { owns me.old.pages p ≡ true }
-    ensures { Runs me.old book.old me.new book.new result (λ v. insert_row_lem scenario.now t key value p (locked t p Exclusive v)) }
+    ensures { Runs me.old book.old me.new book.new result (λ v. insert_row_spec scenario.now t key value p (locked t p Exclusive v)) }
 {
     if is_there(me, book.txn(t), key, p) {
         return Ok(abort_row(me, book, t, Why::Duplicate));
@@ -276,7 +276,7 @@ fn full_row(
     p: u16,
 ) -> Result<Answer, AllocError>
     requires { IsFull scenario.now t key p me.old book.old }
-    ensures { Runs me.old book.old me.new book.new result (λ v. full_row_lem scenario.now t key p (locked t p Exclusive v)) }
+    ensures { Runs me.old book.old me.new book.new result (λ v. full_row_spec scenario.now t key p (locked t p Exclusive v)) }
 {
     if !me.mode.may_split() {
         return Ok(abort_row(me, book, t, Why::Frozen(p)));
@@ -300,7 +300,7 @@ fn split_row(
     requires full { IsFull scenario.now t key p me.old book.now }
     requires normal { may_split me.old.mode ≡ true }
     requires more { length me.old.wire.lows < scenario.now.pages }
-    ensures { Runs me.old book.now me.new book.now result (λ v. split_row_lem scenario.now t key p (locked t p Exclusive v)) }
+    ensures { Runs me.old book.now me.new book.now result (λ v. split_row_spec scenario.now t key p (locked t p Exclusive v)) }
 {
     let new_page = me.wire.len() as u16;
     let boundary = boundary(scenario, alloc, me, book.txn(t), p, key)?;
@@ -326,9 +326,9 @@ fn page_row(
 ) -> Result<Answer, AllocError>
     requires counts { Countable t book.old }
     requires splits { MaySplit scenario.now (node_shown me.old) (txn_in t book.old) }
-    requires on { p ≡ page_of_lem me.old.wire.lows key }
+    requires on { p ≡ page_of_spec me.old.wire.lows key }
     requires few { p < 512 }
-    ensures { Runs me.old book.old me.new book.new result (page_row_lem scenario.now t access key p) }
+    ensures { Runs me.old book.old me.new book.new result (page_row_spec scenario.now t access key p) }
 {
     if !me.pages.owns(p) {
         return absent_row(me, book, t, p);
@@ -346,7 +346,7 @@ fn page_row(
 
 /// Whether a key is private to a transaction or committed on a page.
 fn is_there(me: &NodeStore, txn: &Txn, key: u16, p: u16) -> bool
-    ensures { result ≡ is_there_lem key p (node_shown me.now) txn.now }
+    ensures { result ≡ is_there_spec key p (node_shown me.now) txn.now }
 {
     txn.get(key).is_some() || me.value(p, key).is_some()
 }
@@ -363,7 +363,7 @@ fn value(me: &NodeStore, txn: &Txn, key: u16, p: u16) -> u32
 
 /// Whether a page has room for a row more, beside the transaction's own new rows.
 fn has_room(scenario: &Scenario, me: &NodeStore, txn: &Txn, p: u16) -> bool
-    ensures { result ≡ has_room_lem scenario.now p (node_shown me.now) txn.now }
+    ensures { result ≡ has_room_spec scenario.now p (node_shown me.now) txn.now }
 {
     let free = usize::from(scenario.cap()).saturating_sub(me.page_len(p));
     let rows = txn.rows();
@@ -380,8 +380,8 @@ fn boundary(
     p: u16,
     key: u16,
 ) -> Result<u16, AllocError>
-    requires { has_room_lem scenario.now p (node_shown me.now) txn.now ≡ false }
-    ensures { IfOk result (λ b. b ≡ boundary_lem scenario.now key p (node_shown me.now) txn.now) }
+    requires { has_room_spec scenario.now p (node_shown me.now) txn.now ≡ false }
+    ensures { IfOk result (λ b. b ≡ boundary_spec scenario.now key p (node_shown me.now) txn.now) }
 {
     let cap = usize::from(scenario.cap());
     let keys = me.keys_with(alloc, p, txn.rows(), key)?;

@@ -1,6 +1,6 @@
 //! The wireframe of a node.
 ghost use Rattle.std.specs.Prelude.{◌≡◌, ◌==◌, ◌↔◌, ◌+◌, ◌<◌, ◌≤◌, ◌++◌, ◌∷◌, [], OnOk, OnErr, IfOk, IsOk, IsTrue, Err, Contains, length, slice_index};
-ghost use Rattle.zy_wire.specs.Wireframe.{page_of as page_of_lem, IsGreatest};
+ghost use Rattle.zy_wire.specs.Wireframe.{page_of as page_of_spec, IsGreatest};
 ghost use Rattle.zy_wire.specs.ByLow.{RiseFrom, IsPlace};
 
 use crate::entry::Entry;
@@ -113,7 +113,7 @@ impl Wire {
 
     /// The page that a key lies on; 0 where every low key is above it.
     pub fn page_of(&self, key: u16) -> u16
-        ensures value { result ≡ page_of_lem self.now.lows key }
+        ensures value { result ≡ page_of_spec self.now.lows key }
         ensures within { 0 < length self.now.lows → result < length self.now.lows }
         ensures greatest { IsGreatest self.now.lows key result }
     {
