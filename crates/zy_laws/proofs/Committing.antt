@@ -1,4 +1,5 @@
 -- The row of commit: its private rows are laid over the database, which becomes that of the longer serial run.
+use Rattle.zy_table.specs.Take.{is_held}
 use Rattle.std.proofs.Common.{List, [], add-one, ap, arith, false, inl, inr, refl, subst, suc, sym, true, ℕ, ◌++◌, ◌+◌, ◌∙◌, ◌∷◌, ◌≡◌}
 use Rattle.std.specs.Prelude.{None, Option, Some, is_some, slice_get, slice_set}
 use Rattle.std.specs.FinMap.{get, nat_cmp-IsAntisymmetric, same_map}
@@ -61,9 +62,9 @@ by_row : (rows : List Row) (k : ℕ) (o : Option ℕ) (new old : Option ℕ) (re
 by_row rows k None new old rest e some none = rw (none e, e) refl
 by_row rows k (Some w) new old rest e some none = rw (some w e, e) refl
 
-commit_db : (sc : Scenario) (n : Node) (v : View) (lows : List ℕ) (t : ℕ) → Kept sc n v lows → IsAt v t n → (k : ℕ)
+commit_db : (sc : Scenario) (n : Node) (v : View) (lows : List ℕ) (t : ℕ) → Kept sc n v lows → is_held sc.rule ≡ true → IsAt v t n → (k : ℕ)
     → get (db (committed t v)) k ≡ or_else (get_row (txn_at v t).rows k) (get (db v) k)
-commit_db sc n v lows t h at k =
+commit_db sc n v lows t h held at k =
     let x = txn_at v t in
     let same : v.me.lows ≡ lows = h.mine.newest (h.mine.busy t at) in
     let front = (placed_front lows v.me.pages (rest_of v) h.placed).0 in
@@ -72,7 +73,7 @@ commit_db sc n v lows t h at k =
     ∙ ap (λ l. or_else (found (installed l x.rows v.me.pages) k) (found (rest_of v) k)) same in
     let before : get (db v) k ≡ or_else (found v.me.pages k) (found (rest_of v) k) = get-leaves (whole v) k ∙ found-append v.me.pages (rest_of v) k in
     after ∙ by_row x.rows k (get_row x.rows k) (found (installed lows x.rows v.me.pages) k) (found v.me.pages k) (found (rest_of v) k) refl
-    (λ w g. installed_some lows x.rows v.me.pages k w g front (h.mine.kept (page_of lows k) t (exclusive_holds v.me.locks (page_of lows k) t (h.mine.private t k at (ap is_some g)))))
+    (λ w g. installed_some lows x.rows v.me.pages k w g front (h.mine.kept (page_of lows k) t (inl held) (exclusive_holds v.me.locks (page_of lows k) t (h.mine.private t k at (ap is_some g)))))
     (installed_none lows x.rows v.me.pages k)
     ∙ ap (or_else (get_row x.rows k)) (sym before)
 
@@ -100,20 +101,20 @@ commit_serial sc n v start lows t s at is =
     let pc : (alone (db v) program x.done).pc ≡ x.pc = run.pc ∙ ap (λ (y : Lone). y.pc) m.run in
     let last : (alone (db v) program (suc x.done)).map ≡ laid x.rows (db v) =
     alone_commit (db v) program (alone (db v) program x.done) run.over (ap (slice_get program) pc ∙ is) ∙ run.map ∙ ap (λ r. laid r (db v)) rows in
-    let both : db (committed t v) ≡ laid x.rows (db v) = same_map nat_cmp_total nat_cmp-IsAntisymmetric _ _ (λ k. commit_db sc n v lows t s.kept at k ∙ sym (get-laid x.rows (db v) k)) in
+    let both : db (committed t v) ≡ laid x.rows (db v) = same_map nat_cmp_total nat_cmp-IsAntisymmetric _ _ (λ k. commit_db sc n v lows t s.kept s.held at k ∙ sym (get-laid x.rows (db v) k)) in
     both ∙ sym last ∙ ap (λ j. (alone (db v) program j).map) (sym (add-one x.done)) ∙ ap (λ d. (alone d program (x.done + 1)).map) s.is_serial
     ∙ sym (serial-push sc start v.commits (record { txn = t; done = x.done + 1 }))
 
 -- the others' lone runs do not see the rows of a commit
 commit_follows : (sc : Scenario) (n : Node) (v : View) (lows : List ℕ) (t u : ℕ) (locks more : List Lock) (program : List Instr) (x : Txn)
-    → Kept sc n v lows → IsAt v t n
+    → Kept sc n v lows → is_held sc.rule ≡ true → IsAt v t n
     → ((p : ℕ) → holds_alone v.me.locks p t ≡ true → holds locks p u ≡ true → ⊥) → ((p : ℕ) → holds locks p u ≡ true → holds more p u ≡ true)
     → Follows program (db v) lows locks u x → Follows program (db (committed t v)) lows more u x
-commit_follows sc n v lows t u locks more program x h at clash grow f =
+commit_follows sc n v lows t u locks more program x h held at clash grow f =
     let agree : Agree (db v) (db (committed t v)) f.keys = record {
       each = λ k g.
           let none : get_row (txn_at v t).rows k ≡ None = none_else (get_row (txn_at v t).rows k) (λ is. clash (page_of lows k) (h.mine.private t k at is) (f.covered k g)) in
-          commit_db sc n v lows t h at k ∙ ap (λ o. or_else o (get (db v) k)) none;
+          commit_db sc n v lows t h held at k ∙ ap (λ o. or_else o (get (db v) k)) none;
     } in
     let on : (lone (db v) program x.done).over ≡ false = ap (λ (z : Lone). z.over) f.run in
     let keys : (lone (db v) program x.done).keys ≡ f.keys = ap (λ (z : Lone). z.keys) f.run in
@@ -124,11 +125,11 @@ commit_follows sc n v lows t u locks more program x h at clash grow f =
     }
 
 -- both nodes cannot have a lock on one page
-apart_nodes : (sc : Scenario) (n : Node) (v : View) (lows : List ℕ) (p t u : ℕ) → Kept sc n v lows → holds v.me.locks p t ≡ true
+apart_nodes : (sc : Scenario) (n : Node) (v : View) (lows : List ℕ) (p t u : ℕ) → Kept sc n v lows → is_held sc.rule ≡ true → holds v.me.locks p t ≡ true
     → holds v.them.locks p u ≡ true → ⊥
-apart_nodes sc n v lows p t u h a b =
-    let one = owns-times p v.me.pages (h.mine.kept p t a) in
-    let two = owns-times p v.them.pages (h.theirs.kept p u b) in
+apart_nodes sc n v lows p t u h held a b =
+    let one = owns-times p v.me.pages (h.mine.kept p t (inl held) a) in
+    let two = owns-times p v.them.pages (h.theirs.kept p u (inl held) b) in
     let k = h.inv.owned.once p in
     grind (arith, nat_tests, k)
 
@@ -174,13 +175,14 @@ committed_serial sc n v start lows t s runs k =
     let far_at : (u : ℕ) (m : Node) → IsAt w u m → u ≡ t → ⊥ = λ u m a same. false≢true (subst (λ (x : Txn). is_active x.status ≡ true) (ap (txn_at w) same ∙ at_self v w t y set at.0) a.0) in
     record {
       kept = k;
+      held = s.held;
       mine = λ u a. let far = far_at u n a in let now = at_other v w t u y set far in
           subst (Follows (program_of sc u) (db w) lows w.me.locks u) (sym now)
-          (commit_follows sc n v lows t u v.me.locks w.me.locks (program_of sc u) (txn_at v u) s.kept at (λ p b c. far (sym (s.kept.mine.apart p t u b c)))
+          (commit_follows sc n v lows t u v.me.locks w.me.locks (program_of sc u) (txn_at v u) s.kept s.held at (λ p b c. far (sym (s.kept.mine.apart p t u b c)))
           (λ p h. ap (λ xs. holds xs p u) (committed_locks t v) ∙ holds-drop v.me.locks p t u far ∙ h) (s.mine u (subst (λ x. Stands x n) now a)));
       theirs = λ u a. let far = far_at u (other n) a in let now = at_other v w t u y set far in
           subst (Follows (program_of sc u) (db w) lows w.them.locks u) (sym now)
-          (commit_follows sc n v lows t u v.them.locks w.them.locks (program_of sc u) (txn_at v u) s.kept at (λ p b c. apart_nodes sc n v lows p t u s.kept (exclusive_holds v.me.locks p t b) c)
+          (commit_follows sc n v lows t u v.them.locks w.them.locks (program_of sc u) (txn_at v u) s.kept s.held at (λ p b c. apart_nodes sc n v lows p t u s.kept s.held (exclusive_holds v.me.locks p t b) c)
           (λ p h. ap (λ (x : NodeState). holds x.locks p u) (committed_them t v) ∙ h) (s.theirs u (subst (λ x. Stands x (other n)) now a)));
       is_serial = commit_serial sc n v start lows t s at runs.next ∙ ap (serial sc start) (sym (committed_list t v));
       registers = commit_registers sc n v start lows t s at runs.next;

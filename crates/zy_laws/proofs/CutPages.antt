@@ -1,6 +1,6 @@
 -- The pages of a node when one of them is cut: what they have, and where its keys lie.
-use Rattle.std.proofs.Common.{◌≡◌, ℕ, ◌<◌, ◌≤◌, List, [], ◌∷◌, ◌++◌, length, zero, suc, true, false, refl, sym, ap, ◌∙◌, Bool}
-use Rattle.std.specs.Prelude.{if◌then◌else◌, ◌==◌, nat_lt, ◌||◌, Some, None, is_some, slice_get, Contains}
+use Rattle.std.proofs.Common.{◌≡◌, ℕ, ◌<◌, ◌≤◌, List, [], ◌∷◌, ◌++◌, length, zero, suc, true, false, refl, sym, ap, ◌∙◌}
+use Rattle.std.specs.Prelude.{if◌then◌else◌, ◌==◌, nat_lt, Some, None, is_some, slice_get, Contains}
 use Rattle.std.proofs.lemmas.Bool.{cond_both, false≢true, eqb-true, eqb-false, or_parts, ltb-true, ltb-false}
 use Rattle.zy_isa.specs.declared.row.Row.{Row}
 use Rattle.zy_isa.specs.Rows.{get_row}

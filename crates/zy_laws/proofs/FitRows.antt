@@ -1,5 +1,8 @@
 -- Each row of the table keeps room on the pages.
-use Rattle.std.proofs.Common.{ap, List, [], arith, inl, inr, length, refl, subst, sym, true, ℕ, ◌++◌, ◌+◌, ◌<◌, ◌∙◌, ◌∷◌, ◌≡◌, ◌≤◌}
+use Rattle.zy_modes.specs.Table.{may_pull}
+use Rattle.zy_laws.proofs.ModeLines.{pulls_in}
+use Rattle.zy_laws.specs.Journey.{is_source}
+use Rattle.std.proofs.Common.{false, ap, List, [], arith, inl, inr, length, refl, subst, sym, true, ℕ, ◌++◌, ◌+◌, ◌<◌, ◌∙◌, ◌∷◌, ◌≡◌, ◌≤◌}
 use Rattle.std.specs.Prelude.{slice_set, ◌⊎◌}
 use Rattle.std.proofs.lemmas.Bool.{cases_Bool, false≢true, ltb-true}
 use Rattle.std.proofs.lemmas.Bool.Decides.{nat_tests}
@@ -142,11 +145,15 @@ leaves_fit sc n v lows p f own =
       theirs = f.theirs;
     }
 
+-- a node that asks for pages hands none on
+takes_in : (m : NodeMode) → may_pull m ≡ true → is_source m ≡ false
+takes_in m pulls = elim (pulls_in m pulls) [ inl e ↦ ap is_source e | inr e ↦ ap is_source e ]
+
 -- a page comes: no private row lies on it yet
-arrived_fit : (sc : Scenario) (n : Node) (v : View) (lows : List ℕ) (leaf : Leaf) (ms : List Message) → v.inbox ≡ Page leaf ∷ ms → Kept sc n v lows → Fit sc n v lows
+arrived_fit : (sc : Scenario) (n : Node) (v : View) (lows : List ℕ) (leaf : Leaf) (ms : List Message) → v.inbox ≡ Page leaf ∷ ms → is_source v.me.mode ≡ false → Kept sc n v lows → Fit sc n v lows
     → Fit sc n (arrived leaf (rest v ms)) lows
 unfolding txn_at
-arrived_fit sc n v lows leaf ms e k f =
+arrived_fit sc n v lows leaf ms e takes k f =
     let others = sent_leaves ms ++ sent_leaves v.outbox in
     let a = each_front (Sized sc.cap) v.me.pages (v.them.pages ++ (leaf ∷ others)) (subst (Each (Sized sc.cap)) (whole-front v leaf ms e) f.sized) in
     let b = each_front (Sized sc.cap) v.them.pages (leaf ∷ others) a.1 in
@@ -156,7 +163,7 @@ arrived_fit sc n v lows leaf ms e k f =
       mine = λ t at. each_with_page (Room sc.cap lows (txn_at v t).rows) leaf v.me.pages
           (let none = need_none lows leaf.number leaf.rows (txn_at v t).rows (λ j is on.
           let mine = exclusive_holds v.me.locks (page_of lows j) t (k.mine.private t j at is) in
-          false≢true (sym (not_here v leaf ms k.inv.owned e) ∙ subst (λ z. owns v.me.pages z ≡ true) on (k.mine.kept (page_of lows j) t mine))) in
+          false≢true (sym (not_here v leaf ms k.inv.owned e) ∙ subst (λ z. owns v.me.pages z ≡ true) on (k.mine.kept (page_of lows j) t (inr takes) mine))) in
           let s = b.1.0.0 in omega (arith, none, s)) (f.mine t at);
       theirs = f.theirs;
     }
@@ -210,8 +217,8 @@ fit_event sc n v w lows two k f (GotReady ms g m e) = fit_along sc n w _ lows e 
 fit_event sc n v w lows two k f (GotDual ms g m e) = fit_along sc n w _ lows e (turns_fit sc n _ lows DDual (rest_fit sc n v lows Dual ms f g refl))
 fit_event sc n v w lows two k f (IsStale p ms g e) = fit_along sc n w _ lows e (rest_fit sc n v lows (Pull p) ms f g refl)
 fit_event sc n v w lows two k f (Gives p ms g m own free e) = fit_along sc n w _ lows e (leaves_fit sc n (rest v ms) lows p (rest_fit sc n v lows (Pull p) ms f g refl) own)
-fit_event sc n v w lows two k f (GotPage leaf ms g m e) = fit_along sc n w _ lows e (arrived_fit sc n v lows leaf ms g k f)
-fit_event sc n v w lows two k f (GotLast leaf ms g m all e) = fit_along sc n w _ lows e (post_fit sc n _ lows Done (turns_fit sc n _ lows Normal (arrived_fit sc n v lows leaf ms g k f)) refl)
+fit_event sc n v w lows two k f (GotPage leaf ms g m e) = fit_along sc n w _ lows e (arrived_fit sc n v lows leaf ms g (takes_in v.me.mode m) k f)
+fit_event sc n v w lows two k f (GotLast leaf ms g m all e) = fit_along sc n w _ lows e (post_fit sc n _ lows Done (turns_fit sc n _ lows Normal (arrived_fit sc n v lows leaf ms g (ap is_source m) k f)) refl)
 fit_event sc n v w lows two k f (GotFinish ms g m e) = fit_along sc n w _ lows e (turns_fit sc n _ lows DFinish (rest_fit sc n v lows Finish ms f g refl))
 fit_event sc n v w lows two k f (GotAll ms g m all e) = fit_along sc n w _ lows e (post_fit sc n _ lows Done (turns_fit sc n _ lows Normal (rest_fit sc n v lows Finish ms f g refl)) refl)
 fit_event sc n v w lows two k f (GotDone ms g m e) = fit_along sc n w _ lows e (turns_fit sc n _ lows Empty (lows_fit sc n (rest v ms) lows [] (rest_fit sc n v lows Done ms f g refl)))

@@ -1,4 +1,5 @@
 -- Each transaction that runs has come as far as its lone run on the database, which is that of the committed programs.
+use Rattle.zy_table.specs.Take.{is_held}
 use Rattle.std.proofs.Common.{List, [], ap, false, inl, inr, subst, sym, true, ℕ, ◌++◌, ◌∙◌, ◌∷◌, ◌≡◌}
 use Rattle.std.specs.Prelude.{slice_set}
 use Rattle.std.proofs.lemmas.Bool.{cases_eq, false≢true}
@@ -30,6 +31,7 @@ pub record Follows (program : List Instr) (d : Map) (lows : List ℕ) (locks : L
 
 pub record Serially (sc : Scenario) (n : Node) (v : View) (start : Map) (lows : List ℕ) : Type 0 where
   pub kept : Kept sc n v lows
+  pub held : is_held sc.rule ≡ true
   pub mine : (t : ℕ) → IsAt v t n → Follows (program_of sc t) (db v) lows v.me.locks t (txn_at v t)
   pub theirs : (t : ℕ) → IsAt v t (other n) → Follows (program_of sc t) (db v) lows v.them.locks t (txn_at v t)
   pub is_serial : db v ≡ serial sc start v.commits

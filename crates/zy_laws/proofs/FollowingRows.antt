@@ -53,6 +53,7 @@ acts_serial : (sc : Scenario) (n : Node) (v w : View) (start : Map) (lows : List
     → Serially sc n w start lows
 acts_serial sc n v w start lows t y s k at e node commits them same grow f = record {
   kept = k;
+  held = s.held;
   mine = λ u a. elim (cases_eq u t) [
     | inl here ↦ subst (λ z. Follows (program_of sc z) (db w) lows w.me.locks z (txn_at w z)) (sym here) (subst (Follows (program_of sc t) (db w) lows w.me.locks t) (sym (at_self v w t y e at.0)) f)
     | inr far ↦ let now = at_other v w t u y e far in
@@ -166,6 +167,7 @@ aborted_serial sc n v start lows t why s at k =
     let far_at : (u : ℕ) (m : Node) → IsAt w u m → u ≡ t → ⊥ = λ u m a same. false≢true (subst (λ (x : Txn). is_active x.status ≡ true) (ap (txn_at w) same ∙ at_self v w t y refl at.0) a.0) in
     record {
       kept = k;
+      held = s.held;
       mine = λ u a. let far = far_at u n a in let now = at_other v w t u y refl far in
           follows_same (program_of sc u) (db v) (db w) lows v.me.locks w.me.locks u (txn_at v u) (txn_at w u) refl now (λ p h. holds-drop v.me.locks p t u far ∙ h) (s.mine u (subst (λ x. Stands x n) now a));
       theirs = λ u a. let far = far_at u (other n) a in let now = at_other v w t u y refl far in
@@ -206,6 +208,7 @@ begun_serial sc n v start lows t h s new k =
     let off = not_new (txn_at v t).status new in
     record {
       kept = k;
+      held = s.held;
       mine = λ u a. begun_follows sc v w lows v.me.locks n t u _ refl off refl refl refl refl refl s.mine a;
       theirs = λ u a. begun_follows sc v w lows v.them.locks (other n) t u _ refl off refl refl refl refl refl s.theirs a;
       is_serial = s.is_serial;
@@ -262,6 +265,7 @@ cut_serial sc n v start lows t k b s at f normal on h =
     let idle = normal_other v s.kept.inv.roles normal in
     record {
       kept = h;
+      held = s.held;
       mine = λ u a. subst (λ z. Follows (program_of sc u) (db w) (z ++ b ∷ []) (add_lock (length v.me.lows) t Exclusive locks) u (txn_at v u)) (sym begins)
           (cut_follows (program_of sc u) (db v) (db w) more locks (length v.me.lows) b t u (txn_at v u) same (ap length (sym (newest ∙ begins)))
           (subst (λ z. (j : ℕ) → page_of z b ≡ page_of z j → holds locks (page_of z j) u ≡ true → u ≡ t) begins (one u))
@@ -277,6 +281,7 @@ stays_serial : (sc : Scenario) (n : Node) (v w : View) (start : Map) (lows : Lis
     → w.me.locks ≡ v.me.locks → w.them ≡ v.them → db w ≡ db v → Kept sc n w lows → Serially sc n w start lows
 stays_serial sc n v w start lows s txns commits locks them same k = record {
   kept = k;
+  held = s.held;
   mine = λ u a. let now = at_same v w u txns in
       follows_same (program_of sc u) (db v) (db w) lows v.me.locks w.me.locks u (txn_at v u) (txn_at w u) same now (λ p h. subst (λ xs. holds xs p u ≡ true) (sym locks) h) (s.mine u (subst (λ x. Stands x n) now a));
   theirs = λ u a. let now = at_same v w u txns in

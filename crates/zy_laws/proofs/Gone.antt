@@ -10,7 +10,7 @@ use Rattle.zy_modes.specs.declared.mode.NodeMode.TheVariants.{Empty, Normal, SIn
 use Rattle.zy_modes.specs.Table.{is_waiting, may_pull}
 use Rattle.zy_wire.specs.Wireframe.{page_of}
 use Rattle.zy_wire.proofs.PageOf.{page_of-within}
-use Rattle.zy_laws.specs.Journey.{is_gone}
+use Rattle.zy_laws.specs.Journey.{is_gone, is_source}
 use Rattle.zy_table.specs.Pages.{owns}
 use Rattle.zy_table.specs.Play.{opening, play, side_of, step}
 use Rattle.zy_table.specs.State.{View, facing}
@@ -31,21 +31,32 @@ left_mode DInit a b c = absurd (false≢true (sym b))
 left_mode DDual a b c = absurd (false≢true (sym c))
 left_mode DFinish a b c = absurd (false≢true (sym c))
 
--- a private row's page is locked, and so is here; and a node that is whole has every page
+-- a node where transactions run hands no page on, or has all of them, or is in the dual mode
+hands_on : (m : NodeMode) → is_idle m ≡ false → (is_source m ≡ false) ⊎ ((is_whole m ≡ true) ⊎ (m ≡ SDual))
+hands_on Empty busy = inl refl
+hands_on Normal busy = inl refl
+hands_on SInit busy = inr (inl refl)
+hands_on SDual busy = inr (inr refl)
+hands_on SFinish busy = absurd (false≢true (sym busy))
+hands_on DInit busy = inl refl
+hands_on DDual busy = inl refl
+hands_on DFinish busy = inl refl
+
+-- a private row's page is locked, and so is here unless the node hands pages on; and a node that is whole has every page
 lost_in_dual : (sc : Scenario) (n : Node) (v : View) (lows : List ℕ) → Kept sc n v lows → Lost n v → v.me.mode ≡ SDual
 lost_in_dual sc n v lows k l =
     let busy = k.mine.busy l.txn (l.active, l.here) in
     let newest : v.me.lows ≡ lows = k.mine.newest busy in
+    let within : page_of v.me.lows l.key < length v.me.lows = subst (λ z. page_of z l.key < length z) (sym (newest ∙ k.first.1)) (page_of-within (0 ∷ k.first.0) l.key (omega arith)) in
+    let whole : is_whole v.me.mode ≡ true → ⊥ = λ all. false≢true (sym l.gone ∙ all_owned v k.inv all k.inv.roles (page_of v.me.lows l.key) within) in
     elim l.cause [
-      | inl still ↦ elim (left_mode v.me.mode busy l.begun still) [
-        | inl all ↦
-            let within : page_of v.me.lows l.key < length v.me.lows = subst (λ z. page_of z l.key < length z) (sym (newest ∙ k.first.1)) (page_of-within (0 ∷ k.first.0) l.key (omega arith)) in
-            absurd (false≢true (sym l.gone ∙ all_owned v k.inv all k.inv.roles (page_of v.me.lows l.key) within))
-        | inr dual ↦ dual
+      | inl still ↦ elim (left_mode v.me.mode busy l.begun still) [ inl all ↦ absurd (whole all) | inr dual ↦ dual ]
+      | inr private ↦ elim (hands_on v.me.mode busy) [
+        | inl off ↦
+            let mine = exclusive_holds v.me.locks (page_of lows l.key) l.txn (k.mine.private l.txn l.key (l.active, l.here) private) in
+            absurd (false≢true (sym l.gone ∙ subst (λ z. owns v.me.pages (page_of z l.key) ≡ true) (sym newest) (k.mine.kept (page_of lows l.key) l.txn (inr off) mine)))
+        | inr source ↦ elim source [ inl all ↦ absurd (whole all) | inr dual ↦ dual ]
       ]
-      | inr private ↦
-          let mine = exclusive_holds v.me.locks (page_of lows l.key) l.txn (k.mine.private l.txn l.key (l.active, l.here) private) in
-          absurd (false≢true (sym l.gone ∙ subst (λ z. owns v.me.pages (page_of z l.key) ≡ true) (sym newest) (k.mine.kept (page_of lows l.key) l.txn mine)))
     ]
 
 pub gone_in_dual : (sc : Scenario) → IsScenario sc → (cs : List Choice) (next : Choice) → let s = play sc (opening sc) cs in

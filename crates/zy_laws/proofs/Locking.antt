@@ -1,5 +1,5 @@
 -- Locks, the transactions that have them, and the private rows that they cover: what each kind of row keeps.
-use Rattle.std.proofs.Common.{List, [], ap, false, inl, inr, refl, subst, sym, true, ℕ, ◌++◌, ◌∙◌, ◌∷◌, ◌≡◌}
+use Rattle.std.proofs.Common.{List, [], ap, false, inl, inr, length, refl, subst, sym, true, ℕ, ◌++◌, ◌<◌, ◌∙◌, ◌∷◌, ◌≡◌}
 use Rattle.std.specs.Prelude.{is_some, slice_set, ◌⊎◌}
 use Rattle.std.proofs.lemmas.Bool.{cases_eq, false≢true}
 use Rattle.zy_isa.specs.Rows.{get_row}
@@ -9,6 +9,9 @@ use Rattle.zy_locks.specs.Locks.{add_lock, conflict, drop_locks}
 use Rattle.zy_locks.specs.declared.lock.LockKind.{LockKind}
 use Rattle.zy_locks.specs.declared.lock.LockKind.TheVariants.{Exclusive}
 use Rattle.zy_table.specs.Change.{txn_at}
+use Rattle.zy_modes.specs.declared.mode.NodeMode.{NodeMode}
+use Rattle.zy_table.specs.Take.{is_held}
+use Rattle.zy_laws.specs.Journey.{is_source}
 use Rattle.zy_table.specs.Client.{is_active}
 use Rattle.zy_table.specs.Database.{sent_leaves}
 use Rattle.zy_table.specs.Holders.{holds, holds_alone}
@@ -24,12 +27,17 @@ use Rattle.zy_laws.proofs.Txns.{IsAt, Stands, at_either, at_other, at_same, at_s
 abbrev pub whole : View → List Leaf
 whole v = v.me.pages ++ (v.them.pages ++ (sent_leaves v.inbox ++ sent_leaves v.outbox))
 
+-- the rule keeps locked pages at a node, or the node hands none on
+abbrev pub Stay : Scenario → NodeMode → Type 0
+Stay sc mode = (is_held sc.rule ≡ true) ⊎ (is_source mode ≡ false)
+
 -- node x, named n, whose newest low keys are these
 pub record Locking (sc : Scenario) (n : Node) (x : NodeState) (v : View) (lows : List ℕ) : Type 0 where
   pub busy : (t : ℕ) → IsAt v t n → is_idle x.mode ≡ false
   pub newest : is_idle x.mode ≡ false → x.lows ≡ lows
   pub runs : (p t : ℕ) → holds x.locks p t ≡ true → IsAt v t n
-  pub kept : (p t : ℕ) → holds x.locks p t ≡ true → owns x.pages p ≡ true
+  pub below : (p t : ℕ) → holds x.locks p t ≡ true → p < length lows
+  pub kept : (p t : ℕ) → Stay sc x.mode → holds x.locks p t ≡ true → owns x.pages p ≡ true
   pub apart : (p t u : ℕ) → holds_alone x.locks p t ≡ true → holds x.locks p u ≡ true → t ≡ u
   pub private : (t k : ℕ) → IsAt v t n → is_some (get_row (txn_at v t).rows k) ≡ true → holds_alone x.locks (page_of lows k) t ≡ true
 
@@ -50,13 +58,14 @@ pub record Seen (n : Node) (v w : View) : Type 0 where
 pub steady : (sc : Scenario) (n : Node) (x y : NodeState) (v w : View) (lows : List ℕ) → Locking sc n x v lows → Seen n v w → y.locks ≡ x.locks
     → ((t : ℕ) → IsAt v t n → is_idle y.mode ≡ false)
     → (is_idle y.mode ≡ false → y.lows ≡ lows)
-    → ((p t : ℕ) → holds x.locks p t ≡ true → owns y.pages p ≡ true)
+    → ((p t : ℕ) → Stay sc y.mode → holds x.locks p t ≡ true → owns y.pages p ≡ true)
     → Locking sc n y w lows
 steady sc n x y v w lows l seen same busy newest kept = record {
   busy = λ t at. busy t (seen.back t at).0;
   newest = newest;
   runs = λ p t h. seen.forth t (l.runs p t (subst (λ xs. holds xs p t ≡ true) same h));
-  kept = λ p t h. kept p t (subst (λ xs. holds xs p t ≡ true) same h);
+  below = λ p t h. l.below p t (subst (λ xs. holds xs p t ≡ true) same h);
+  kept = λ p t s h. kept p t s (subst (λ xs. holds xs p t ≡ true) same h);
   apart = λ p t u a b. l.apart p t u (subst (λ xs. holds_alone xs p t ≡ true) same a) (subst (λ xs. holds xs p u ≡ true) same b);
   private = λ t k at h. let b = seen.back t at in subst (λ xs. holds_alone xs (page_of lows k) t ≡ true) (sym same) (l.private t k b.0 (subst (λ rows. is_some (get_row rows k) ≡ true) b.1 h));
 }
@@ -120,7 +129,8 @@ idle_locking sc n x y v w lows more l idle still same locks =
       busy = λ t at. absurd (none t at);
       newest = λ h. absurd (false≢true (sym h ∙ still));
       runs = λ p t h. absurd (free p t h);
-      kept = λ p t h. absurd (free p t h);
+      below = λ p t h. absurd (free p t h);
+      kept = λ p t s h. absurd (free p t h);
       apart = λ p t u a b. absurd (free p u b);
       private = λ t k at h. absurd (none t at);
     }
@@ -128,18 +138,19 @@ idle_locking sc n x y v w lows more l idle still same locks =
 -- t's lock is taken, and its private rows grow by keys of that page
 pub lock_taken : (sc : Scenario) (n : Node) (v w : View) (y : NodeState) (lows : List ℕ) (t p : ℕ) (kind : LockKind) → Locking sc n v.me v lows
     → IsAt v t n
-    → owns v.me.pages p ≡ true → conflict v.me.locks p t kind ≡ false → y.locks ≡ add_lock p t kind v.me.locks → y.mode ≡ v.me.mode
+    → p < length lows → owns v.me.pages p ≡ true → conflict v.me.locks p t kind ≡ false → y.locks ≡ add_lock p t kind v.me.locks → y.mode ≡ v.me.mode
     → y.lows ≡ v.me.lows → y.pages ≡ v.me.pages
     → ((u : ℕ) → IsAt w u n → IsAt v u n) → ((u : ℕ) → IsAt v u n → IsAt w u n)
     → ((u k : ℕ) → IsAt w u n → is_some (get_row (txn_at w u).rows k) ≡ true → (is_some (get_row (txn_at v u).rows k) ≡ true) ⊎ ((u ≡ t) × (page_of lows k ≡ p) × (kind ≡ Exclusive)))
     → Locking sc n y w lows
-lock_taken sc n v w y lows t p kind l at own free locks mode low pages back forth rows =
+lock_taken sc n v w y lows t p kind l at small own free locks mode low pages back forth rows =
     let old : (q u : ℕ) → holds y.locks q u ≡ true → (holds v.me.locks q u ≡ true) ⊎ ((p ≡ q) × (t ≡ u)) = λ q u h. holds-add p t kind v.me.locks q u (subst (λ xs. holds xs q u ≡ true) locks h) in
     record {
       busy = λ u a. ap is_idle mode ∙ l.busy u (back u a);
       newest = λ h. low ∙ l.newest (ap is_idle (sym mode) ∙ h);
       runs = λ q u h. forth u (elim (old q u h) [ inl i ↦ l.runs q u i | inr i ↦ subst (λ z. IsAt v z n) i.1 at ]);
-      kept = λ q u h. ap (λ xs. owns xs q) pages ∙ elim (old q u h) [ inl i ↦ l.kept q u i | inr i ↦ subst (λ z. owns v.me.pages z ≡ true) i.0 own ];
+      below = λ q u h. elim (old q u h) [ inl i ↦ l.below q u i | inr i ↦ subst (λ z. z < length lows) i.0 small ];
+      kept = λ q u s h. ap (λ xs. owns xs q) pages ∙ elim (old q u h) [ inl i ↦ l.kept q u (subst (Stay sc) mode s) i | inr i ↦ subst (λ z. owns v.me.pages z ≡ true) i.0 own ];
       apart = λ q a b ha hb.
           elim (alone-add p t kind v.me.locks q a (subst (λ xs. holds_alone xs q a ≡ true) locks ha)) [
             | inl i ↦ elim (old q b hb) [
@@ -172,7 +183,8 @@ freed sc n v w z lows t y l at e over locks mode low pages =
       busy = λ u a. ap is_idle mode ∙ l.busy u (subst (λ x. Stands x n) (now u (far_at u a)) a);
       newest = λ h. low ∙ l.newest (ap is_idle (sym mode) ∙ h);
       runs = λ q u h. subst (λ x. Stands x n) (sym (now u (far q u h))) (l.runs q u (old q u h));
-      kept = λ q u h. pages q ∙ l.kept q u (old q u h);
+      below = λ q u h. l.below q u (old q u h);
+      kept = λ q u s h. pages q ∙ l.kept q u (subst (Stay sc) mode s) (old q u h);
       apart = λ q a b ha hb.
           let far_a : a ≡ t → ⊥ = far q a (subst (λ xs. holds xs q a ≡ true) (sym locks) (exclusive_holds (drop_locks t v.me.locks) q a (subst (λ xs. holds_alone xs q a ≡ true) locks ha))) in
           l.apart q a b (sym (holds_alone-drop v.me.locks q t a far_a) ∙ subst (λ xs. holds_alone xs q a ≡ true) locks ha) (old q b hb);
@@ -199,6 +211,7 @@ began sc n h x v w lows t y l new e node rows busy =
       busy = λ u a. elim (now u a) [ inl i ↦ l.busy u i.0 | inr i ↦ busy i.1 ];
       newest = l.newest;
       runs = λ p u h'. let a = l.runs p u h' in subst (λ z. Stands z n) (sym (at_other v w t u y e (far u a))) a;
+      below = l.below;
       kept = l.kept;
       apart = l.apart;
       private = λ u k a s. elim (now u a) [

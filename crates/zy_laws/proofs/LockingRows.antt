@@ -1,5 +1,8 @@
 -- Each row of the table keeps locks, private rows and the places of rows.
-use Rattle.std.proofs.Common.{List, [], ap, false, inl, inr, length, refl, subst, suc, sym, true, zero, ℕ, ◌++◌, ◌+◌, ◌≤◌, ◌∙◌, ◌∷◌, ◌≡◌}
+use Rattle.zy_laws.specs.Journey.{is_source}
+use Rattle.zy_laws.proofs.OneOwner.{sends_source}
+use Rattle.zy_wire.proofs.PageOf.{page_of-within}
+use Rattle.std.proofs.Common.{List, [], ap, false, inl, inr, length, refl, subst, suc, sym, true, zero, ℕ, ◌++◌, ◌+◌, ◌≤◌, ◌∙◌, ◌∷◌, ◌≡◌, length-append, arith, ◌<◌}
 use Rattle.std.specs.Prelude.{Contains, None, Option, Some, if◌then◌else◌, is_some, slice_get, ◌==◌, ◌&&◌, ◌⊎◌}
 use Rattle.std.proofs.lemmas.Bool.{and_from, cases_eq, cond_both, eq-eqb, eqb-true, false≢true, or_left, or_right}
 use Rattle.zy_isa.specs.Rows.{get_row, put_row}
@@ -9,8 +12,6 @@ use Rattle.zy_isa.specs.declared.instr.Reg.{Reg}
 use Rattle.zy_isa.specs.declared.node.Node.{Node}
 use Rattle.zy_isa.specs.declared.node.Node.TheVariants.{A, B}
 use Rattle.zy_isa.specs.declared.row.Row.{Row}
-use Rattle.zy_isa.specs.declared.rule.Rule.{Rule}
-use Rattle.zy_isa.specs.declared.rule.Rule.TheVariants.{Held}
 use Rattle.zy_locks.specs.Locks.{add_lock, is_locked}
 use Rattle.zy_locks.specs.declared.lock.LockKind.{LockKind}
 use Rattle.zy_locks.specs.declared.lock.LockKind.TheVariants.{Exclusive, Shared}
@@ -37,14 +38,14 @@ use Rattle.zy_laws.proofs.CutPages.{placed_cut}
 use Rattle.zy_laws.proofs.Events.{arrived, rest, page, Runs, Event, Free, has_lock, key, lows_after, Rests, Begins, Aborts, Sets, Adds, Jumps, Gets, Writes, Inserts, Splits, Commits, Asks, Starts, GotWire, GotReady, GotDual, IsStale, Gives, GotPage, GotLast, GotFinish, GotAll, GotDone, Finishes, Pushes}
 use Rattle.zy_laws.proofs.Installing.{Placed, placed_front, owns-installed, placed_installed}
 use Rattle.zy_table.proofs.LockLists.{alone-add, alone_more, alone_new, exclusive_holds, holds-add, locked_of}
-use Rattle.zy_laws.proofs.Locking.{Kept, Locking, began, freed, idle_locking, lock_taken, nobody_runs, seen_same, whole, seen_other, seen_step, steady, untouched}
+use Rattle.zy_laws.proofs.Locking.{Kept, Locking, Stay, began, freed, idle_locking, lock_taken, nobody_runs, seen_same, whole, seen_other, seen_step, steady, untouched}
 use Rattle.zy_laws.proofs.LoneRuns.{get_row-put}
 use Rattle.zy_laws.proofs.MovedPages.{arrived_placed, leaves_placed, whole_same}
 use Rattle.zy_laws.proofs.MovingPages.{owns-without_other, sent_bare}
 use Rattle.zy_laws.proofs.Ordered.{Ordered, rows_at}
 use Rattle.zy_laws.proofs.PageValues.{rest_lacks, rest_of}
 use Rattle.zy_laws.proofs.PhaseSteps.{is_taker, taker_of, wire_came}
-use Rattle.zy_laws.proofs.Roles.{Inv, Roles, fresh_number, is_idle, normal_other}
+use Rattle.zy_laws.proofs.Roles.{Inv, Roles, is_idle, normal_other}
 use Rattle.zy_laws.proofs.Txns.{IsAt, Stands, at_other, at_self, not_both_nodes, not_new}
 
 -- t does an instruction without a key
@@ -58,6 +59,12 @@ goes_kept sc n v lows t pc regs k at i = record {
   mine = untouched sc n v.me v _ lows k.mine (seen_step n v _ t _ refl at.0 refl refl refl);
   theirs = untouched sc (other n) v.them v _ lows k.theirs (seen_step (other n) v _ t _ refl at.0 refl refl refl);
 }
+
+-- a key's page is one of the wireframe
+within : (sc : Scenario) (n : Node) (v : View) (lows : List ℕ) (t k : ℕ) → Kept sc n v lows → IsAt v t n → page_of v.me.lows k < length lows
+within sc n v lows t k h at =
+    let some = subst (λ l. page_of l k < length l) (sym h.first.1) (page_of-within (0 ∷ h.first.0) k (omega arith)) in
+    subst (λ l. page_of l k < length lows) (sym (h.mine.newest (h.mine.busy t at))) some
 
 -- t does an instruction on a key, with the lock that it takes
 lock_kept : (sc : Scenario) (n : Node) (v : View) (lows : List ℕ) (t k : ℕ) (kind : LockKind) (pc : ℕ) (regs : List ℕ) (rows : List Row)
@@ -76,7 +83,7 @@ lock_kept sc n v lows t k kind pc regs rows h at f grow i =
       inv = i;
       first = h.first;
       placed = h.placed;
-      mine = lock_taken sc n v w w.me lows t p kind h.mine at f.here f.free refl refl refl refl
+      mine = lock_taken sc n v w w.me lows t p kind h.mine at (within sc n v lows t k h at) f.here f.free refl refl refl refl
           (λ u a. elim (cases_eq u t) [ inl same ↦ subst (λ z. IsAt v z n) (sym same) at | inr far ↦ subst (λ (z : Txn). Stands z n) (at_other v w t u y refl far) a ])
           (λ u a. elim (cases_eq u t) [ inl same ↦ subst (λ z. IsAt w z n) (sym same) (subst (λ (z : Txn). Stands z n) (sym self) at) | inr far ↦ subst (λ (z : Txn). Stands z n) (sym (at_other v w t u y refl far)) a ])
           (λ u j a s. elim (cases_eq u t) [
@@ -191,24 +198,30 @@ pub has_lock_locking : (sc : Scenario) (n : Node) (v : View) (lows : List ℕ) (
     → Locking sc n (has_lock t k kind v).me (has_lock t k kind v) lows
 unfolding locked txn_at
 has_lock_locking sc n v lows t k kind h at f =
-    lock_taken sc n v (has_lock t k kind v) _ lows t (page_of v.me.lows k) kind h.mine at f.here f.free refl refl refl refl (λ u a. a) (λ u a. a) (λ u j a s. inl s)
+    lock_taken sc n v (has_lock t k kind v) _ lows t (page_of v.me.lows k) kind h.mine at (within sc n v lows t k h at) f.here f.free refl refl refl refl (λ u a. a) (λ u a. a) (λ u j a s. inl s)
 
 -- t has page p alone, and gets the new page alone
 cut_locking : (sc : Scenario) (n : Node) (v : View) (lows more : List ℕ) (t p b : ℕ) → Locking sc n v.me v lows → lows ≡ 0 ∷ more → holds_alone v.me.locks p t ≡ true → page_of lows b ≡ p
-    → owns v.me.pages (length v.me.lows) ≡ false → Locking sc n (cut t p b v).me (cut t p b v) (lows ++ b ∷ [])
+    → Locking sc n (cut t p b v).me (cut t p b v) (lows ++ b ∷ [])
 unfolding cut txn_at
-cut_locking sc n v lows more t p b l begins mine on fresh =
+cut_locking sc n v lows more t p b l begins mine on =
     let q = length v.me.lows in
     let at : IsAt v t n = l.runs p t (exclusive_holds v.me.locks p t mine) in
     let newest : v.me.lows ≡ lows = l.newest (l.busy t at) in
-    let none : (u : ℕ) → holds v.me.locks q u ≡ true → ⊥ = λ u h. false≢true (sym fresh ∙ l.kept q u h) in
+    let count : q ≡ length lows = ap length newest in
+    let none : (u : ℕ) → holds v.me.locks q u ≡ true → ⊥ = λ u h. let under = l.below q u h in omega (arith, under, count) in
+    let longer : length (lows ++ b ∷ []) ≡ length lows + 1 = length-append lows (b ∷ []) in
     let there : (z u : ℕ) → holds (add_lock q t Exclusive v.me.locks) z u ≡ true → (holds v.me.locks z u ≡ true) ⊎ ((q ≡ z) × (t ≡ u)) = λ z u h. holds-add q t Exclusive v.me.locks z u h in
     record {
       busy = l.busy;
       newest = λ _. ap (λ xs. xs ++ b ∷ []) newest;
       runs = λ z u h. elim (there z u h) [ inl i ↦ l.runs z u i | inr i ↦ subst (λ j. IsAt v j n) i.1 at ];
-      kept = λ z u h. owns-with_page z _ (lowered p b v.me.pages) ∙ elim (there z u h) [
-        | inl i ↦ or_right _ _ (owns-lowered p b v.me.pages z ∙ l.kept z u i)
+      below = λ z u h. elim (there z u h) [
+        | inl i ↦ let under = l.below z u i in omega (arith, under, longer)
+        | inr i ↦ let same = i.0 in omega (arith, same, count, longer)
+      ];
+      kept = λ z u s h. owns-with_page z _ (lowered p b v.me.pages) ∙ elim (there z u h) [
+        | inl i ↦ or_right _ _ (owns-lowered p b v.me.pages z ∙ l.kept z u s i)
         | inr i ↦ or_left _ _ (eq-eqb _ _ i.0)
       ];
       apart = λ z u j a c. elim (alone-add q t Exclusive v.me.locks z u a) [
@@ -249,8 +262,7 @@ cut_kept sc n v lows t k b h at f normal on new i =
       inv = i;
       first = (more ++ b ∷ [], ap (λ l. l ++ b ∷ []) h.first.1);
       placed = subst (λ l. Placed (l ++ b ∷ []) (pages (length v.me.lows))) (sym h.first.1) (subst (λ l. Placed ((0 ∷ more) ++ b ∷ []) (pages (length l))) (sym begins) now);
-      mine = cut_locking sc n (has_lock t k Exclusive v) lows more t p b (has_lock_locking sc n v lows t k Exclusive h at f) h.first.1 (alone_new p t v.me.locks) (ap (λ l. page_of l b) (sym newest) ∙ on)
-          (fresh_number v h.inv.owned idle.1);
+      mine = cut_locking sc n (has_lock t k Exclusive v) lows more t p b (has_lock_locking sc n v lows t k Exclusive h at f) h.first.1 (alone_new p t v.me.locks) (ap (λ l. page_of l b) (sym newest) ∙ on);
       theirs = idle_locking sc (other n) v.them v.them v _ lows (lows ++ b ∷ []) h.theirs idle.0 idle.0 refl refl;
     }
 
@@ -258,9 +270,15 @@ cut_kept sc n v lows t k b h at f normal on new i =
 
 -- a node that turns to another mode in which transactions run
 turned_locking : (sc : Scenario) (n : Node) (v w : View) (y : NodeState) (lows : List ℕ) → Locking sc n v.me v lows → is_idle v.me.mode ≡ false → is_idle y.mode ≡ false
-    → y.lows ≡ v.me.lows → y.locks ≡ v.me.locks → ((p : ℕ) → owns v.me.pages p ≡ true → owns y.pages p ≡ true) → w.txns ≡ v.txns → Locking sc n y w lows
-turned_locking sc n v w y lows l runs still low locks pages same =
-    steady sc n v.me y v w lows l (seen_same n v w same) locks (λ t at. still) (λ _. low ∙ l.newest runs) (λ p t h. pages p (l.kept p t h))
+    → y.lows ≡ v.me.lows → y.locks ≡ v.me.locks → ((p : ℕ) → owns v.me.pages p ≡ true → owns y.pages p ≡ true) → (Stay sc y.mode → Stay sc v.me.mode) → w.txns ≡ v.txns
+    → Locking sc n y w lows
+turned_locking sc n v w y lows l runs still low locks pages stay same =
+    steady sc n v.me y v w lows l (seen_same n v w same) locks (λ t at. still) (λ _. low ∙ l.newest runs) (λ p t s h. pages p (l.kept p t (stay s) h))
+
+-- a source that turns to another source's mode keeps what it kept
+still_source : (sc : Scenario) (m k : NodeMode) → is_source k ≡ true → Stay sc k → Stay sc m
+still_source sc m k source (inl held) = inl held
+still_source sc m k source (inr off) = absurd (false≢true (sym off ∙ source))
 
 -- a row that changes no transaction, and not the other node
 node_kept : (sc : Scenario) (n : Node) (v w : View) (lows : List ℕ) → Kept sc n v lows → Inv w → w.txns ≡ v.txns → w.them ≡ v.them → Placed lows (whole w) → Locking sc n w.me w lows
@@ -287,20 +305,19 @@ asks_kept sc n v lows p k i =
 
 -- a page that nobody has locked leaves, and perhaps the front of the inbox with it
 leaves_kept : (sc : Scenario) (n : Node) (v : View) (lows : List ℕ) (p : ℕ) (ms : List Message) → Kept sc n v lows → sent_leaves ms ≡ sent_leaves v.inbox → owns v.me.pages p ≡ true
-    → ((q t : ℕ) → holds v.me.locks q t ≡ true → q ≡ p → ⊥) → Inv (leaves p (rest v ms)) → Kept sc n (leaves p (rest v ms)) lows
+    → (Stay sc v.me.mode → (q t : ℕ) → holds v.me.locks q t ≡ true → q ≡ p → ⊥) → Inv (leaves p (rest v ms)) → Kept sc n (leaves p (rest v ms)) lows
 unfolding leaves
 leaves_kept sc n v lows p ms k inbox own free i =
     let r = rest v ms in
     node_kept sc n v (leaves p r) lows k i refl refl (leaves_placed lows r p (subst (Placed lows) (sym (whole_same v r refl refl inbox refl)) k.placed) own)
-    (steady sc n v.me _ v _ lows k.mine (seen_same n v _ refl) refl k.mine.busy k.mine.newest (λ q t h. owns-without_other p q v.me.pages (free q t h) ∙ k.mine.kept q t h))
+    (steady sc n v.me _ v _ lows k.mine (seen_same n v _ refl) refl k.mine.busy k.mine.newest (λ q t s h. owns-without_other p q v.me.pages (free s q t h) ∙ k.mine.kept q t s h))
 
--- a page that is handed over is locked by nobody
-always_held : (r : Rule) → is_held r ≡ true
-always_held Held = refl
-
-pub give_free : (sc : Scenario) (v : View) (p : ℕ) → (is_held sc.rule && is_locked v.me.locks p) ≡ false → (q t : ℕ) → holds v.me.locks q t ≡ true → q ≡ p → ⊥
-give_free sc v p free q t h same =
-    false≢true (sym free ∙ and_from _ _ (always_held sc.rule) (subst (λ z. is_locked v.me.locks z ≡ true) same (locked_of v.me.locks q t h)))
+-- a page that is handed over is locked by nobody, where locked pages stay
+pub give_free : (sc : Scenario) (v : View) (p : ℕ) → is_source v.me.mode ≡ true → (is_held sc.rule && is_locked v.me.locks p) ≡ false → Stay sc v.me.mode
+    → (q t : ℕ) → holds v.me.locks q t ≡ true → q ≡ p → ⊥
+give_free sc v p source free (inl held) q t h same =
+    false≢true (sym free ∙ and_from _ _ held (subst (λ z. is_locked v.me.locks z ≡ true) same (locked_of v.me.locks q t h)))
+give_free sc v p source free (inr off) q t h same = false≢true (sym off ∙ source)
 
 -- a page that comes leaves the others
 owns_more : (leaf : Leaf) (xs : List Leaf) (p : ℕ) → owns xs p ≡ true → owns (with_page leaf xs) p ≡ true
@@ -363,41 +380,41 @@ kept_event sc n v w lows two o k i (Asks p gone pulls asked e) = along sc n w _ 
 kept_event sc n v w lows two o k i (Starts at_a normal empty e) =
     let x : View = post (Wire v.me.lows) (turns SInit v) in
     along sc n w x lows e i (λ j. links_kept sc n v x lows k j refl refl refl refl (sent_bare v.outbox (Wire v.me.lows) refl)
-    (turned_locking sc n v x x.me lows k.mine (ap is_idle normal) refl refl refl (λ p h. h) refl))
+    (turned_locking sc n v x x.me lows k.mine (ap is_idle normal) refl refl refl (λ p h. h) (λ _. inr (ap is_source normal)) refl))
 kept_event sc n v w lows two o k i (GotWire sent ms f empty e) =
     let x : View = post Ready (turns DInit (with_me (with_lows sent v.me) (rest v ms))) in
     let from = wire_front v sent ms f empty k.inv.roles in
     along sc n w x lows e i (λ j. links_kept sc n v x lows k j refl refl refl (ap sent_leaves (sym f)) (sent_bare v.outbox Ready refl)
-    (steady sc n v.me x.me v x lows k.mine (seen_same n v x refl) refl (λ t at. refl) (λ _. from.0 ∙ k.theirs.newest (ap is_idle from.1)) k.mine.kept))
+    (steady sc n v.me x.me v x lows k.mine (seen_same n v x refl) refl (λ t at. refl) (λ _. from.0 ∙ k.theirs.newest (ap is_idle from.1)) (λ p t _ h. k.mine.kept p t (inr (ap is_source empty)) h)))
 kept_event sc n v w lows two o k i (GotReady ms f init e) =
     let x : View = post Dual (turns SDual (rest v ms)) in
     along sc n w x lows e i (λ j. links_kept sc n v x lows k j refl refl refl (ap sent_leaves (sym f)) (sent_bare v.outbox Dual refl)
-    (turned_locking sc n v x x.me lows k.mine (ap is_idle init) refl refl refl (λ p h. h) refl))
+    (turned_locking sc n v x x.me lows k.mine (ap is_idle init) refl refl refl (λ p h. h) (still_source sc v.me.mode SDual refl) refl))
 kept_event sc n v w lows two o k i (GotDual ms f init e) =
     let x : View = turns DDual (rest v ms) in
     along sc n w x lows e i (λ j. links_kept sc n v x lows k j refl refl refl (ap sent_leaves (sym f)) refl
-    (turned_locking sc n v x x.me lows k.mine (ap is_idle init) refl refl refl (λ p h. h) refl))
+    (turned_locking sc n v x x.me lows k.mine (ap is_idle init) refl refl refl (λ p h. h) (λ _. inr (ap is_source init)) refl))
 kept_event sc n v w lows two o k i (IsStale p ms f e) =
     let x : View = rest v ms in
     along sc n w x lows e i (λ j. links_kept sc n v x lows k j refl refl refl (ap sent_leaves (sym f)) refl (untouched sc n v.me v x lows k.mine (seen_same n v x refl)))
-kept_event sc n v w lows two o k i (Gives p ms f sends own free e) = along sc n w _ lows e i (leaves_kept sc n v lows p ms k (ap sent_leaves (sym f)) own (give_free sc v p free))
+kept_event sc n v w lows two o k i (Gives p ms f sends own free e) = along sc n w _ lows e i (leaves_kept sc n v lows p ms k (ap sent_leaves (sym f)) own (give_free sc v p (sends_source v.me.mode sends) free))
 kept_event sc n v w lows two o k i (GotPage leaf ms f pulls e) =
     let x : View = arrived leaf (rest v ms) in
     along sc n w x lows e i (λ j. node_kept sc n v x lows k j refl refl (arrived_placed lows v leaf ms f k.placed)
-    (steady sc n v.me x.me v x lows k.mine (seen_same n v x refl) refl k.mine.busy k.mine.newest (λ p t h. owns_more leaf v.me.pages p (k.mine.kept p t h))))
+    (steady sc n v.me x.me v x lows k.mine (seen_same n v x refl) refl k.mine.busy k.mine.newest (λ p t s h. owns_more leaf v.me.pages p (k.mine.kept p t s h))))
 kept_event sc n v w lows two o k i (GotLast leaf ms f finish all e) =
     let x : View = post Done (turns Normal (arrived leaf (rest v ms))) in
     let pages = whole_same (arrived leaf (rest v ms)) x refl refl refl (sent_bare v.outbox Done refl) in
     along sc n w x lows e i (λ j. node_kept sc n v x lows k j refl refl (subst (Placed lows) (sym pages) (arrived_placed lows v leaf ms f k.placed))
-    (turned_locking sc n v x x.me lows k.mine (ap is_idle finish) refl refl refl (owns_more leaf v.me.pages) refl))
+    (turned_locking sc n v x x.me lows k.mine (ap is_idle finish) refl refl refl (owns_more leaf v.me.pages) (λ _. inr (ap is_source finish)) refl))
 kept_event sc n v w lows two o k i (GotFinish ms f dual e) =
     let x : View = turns DFinish (rest v ms) in
     along sc n w x lows e i (λ j. links_kept sc n v x lows k j refl refl refl (ap sent_leaves (sym f)) refl
-    (turned_locking sc n v x x.me lows k.mine (ap is_idle dual) refl refl refl (λ p h. h) refl))
+    (turned_locking sc n v x x.me lows k.mine (ap is_idle dual) refl refl refl (λ p h. h) (λ _. inr (ap is_source dual)) refl))
 kept_event sc n v w lows two o k i (GotAll ms f dual all e) =
     let x : View = post Done (turns Normal (rest v ms)) in
     along sc n w x lows e i (λ j. links_kept sc n v x lows k j refl refl refl (ap sent_leaves (sym f)) (sent_bare v.outbox Done refl)
-    (turned_locking sc n v x x.me lows k.mine (ap is_idle dual) refl refl refl (λ p h. h) refl))
+    (turned_locking sc n v x x.me lows k.mine (ap is_idle dual) refl refl refl (λ p h. h) (λ _. inr (ap is_source dual)) refl))
 kept_event sc n v w lows two o k i (GotDone ms f finish e) =
     let x : View = turns Empty (with_me (with_lows [] v.me) (rest v ms)) in
     along sc n w x lows e i (λ j. links_kept sc n v x lows k j refl refl refl (ap sent_leaves (sym f)) refl
@@ -405,6 +422,6 @@ kept_event sc n v w lows two o k i (GotDone ms f finish e) =
 kept_event sc n v w lows two o k i (Finishes dual none e) =
     let x : View = post Finish (turns SFinish v) in
     along sc n w x lows e i (λ j. links_kept sc n v x lows k j refl refl refl refl (sent_bare v.outbox Finish refl)
-    (steady sc n v.me x.me v x lows k.mine (seen_same n v x refl) refl (λ t at. absurd (no_active n v t none at)) (λ h. absurd (false≢true (sym h))) k.mine.kept))
+    (steady sc n v.me x.me v x lows k.mine (seen_same n v x refl) refl (λ t at. absurd (no_active n v t none at)) (λ h. absurd (false≢true (sym h))) (λ p t s h. k.mine.kept p t (still_source sc v.me.mode SFinish refl s) h)))
 kept_event sc n v w lows two o k i (Pushes p finish own e) =
-    along sc n w _ lows e i (leaves_kept sc n v lows p v.inbox k refl own (λ q t h same. nobody_runs sc n v.me v lows t k.mine (ap is_idle finish) (k.mine.runs q t h)))
+    along sc n w _ lows e i (leaves_kept sc n v lows p v.inbox k refl own (λ s q t h same. nobody_runs sc n v.me v lows t k.mine (ap is_idle finish) (k.mine.runs q t h)))

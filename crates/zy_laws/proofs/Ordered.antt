@@ -1,7 +1,7 @@
 -- Each row of the table leaves every list in its order.
 use Rattle.std.proofs.Common.{List, [], ap, arith, false, true, inl, inr, length, length-append, refl, subst, suc, sym, ℕ, ◌++◌, ◌+◌, ◌∙◌, ◌∷◌, ◌≡◌, ◌≤◌}
 use Rattle.std.specs.Prelude.{if◌then◌else◌, nat_lt, nat_le, slice_set, ◌==◌}
-use Rattle.std.proofs.lemmas.Bool.{cases_eq, cond_both, eqb-false, leb-false, leb-true, ltb-false, ltb-true, or_parts}
+use Rattle.std.proofs.lemmas.Bool.{cases_eq, cond_both, eqb-false, leb-false, leb-true, or_parts}
 use Rattle.zy_isa.specs.Rows.{Rising}
 use Rattle.zy_isa.specs.Scenario.{Scenario}
 use Rattle.zy_isa.specs.declared.instr.Reg.{Reg}

@@ -1,6 +1,6 @@
 -- How often a page stands in lists of pages.
-use Rattle.std.proofs.Common.{List, [], ap, arith, false, inl, inr, refl, true, ℕ, ◌++◌, ◌+◌, ◌∙◌, ◌∷◌, ◌≡◌, ◌≤◌, sym, subst}
-use Rattle.std.specs.Prelude.{◌⊎◌, if◌then◌else◌, nat_lt, ◌==◌, Some}
+use Rattle.std.proofs.Common.{List, [], ap, arith, false, inl, inr, refl, true, ℕ, ◌++◌, ◌+◌, ◌∙◌, ◌∷◌, ◌≡◌, ◌≤◌}
+use Rattle.std.specs.Prelude.{if◌then◌else◌, nat_lt, ◌==◌}
 use Rattle.std.proofs.lemmas.Bool.{cond_both, eqb-true, eqb-false, cases_eq, eq-eqb, false_from_ne_true, false≢true, or_cases, or_left, or_right}
 use Rattle.std.proofs.lemmas.Bool.Decides.{nat_tests}
 use Rattle.zy_isa.specs.declared.row.Row.{Row}
@@ -8,8 +8,7 @@ use Rattle.zy_table.specs.Change.{installed}
 use Rattle.zy_table.specs.Database.{all_leaves, sent_leaves}
 use Rattle.zy_links.specs.Messages.{Done, Dual, Finish, Page, Pull, Ready, Wire}
 use Rattle.zy_laws.specs.OneOwner.{times}
-use Rattle.zy_table.specs.Pages.{lowered, numbers, owns, with_page, without}
-use Rattle.zy_table.specs.Numbers.{least, least_with}
+use Rattle.zy_table.specs.Pages.{lowered, owns, with_page, without}
 use Rattle.zy_table.specs.State.{Leaf, Message, State}
 
 -- how often page p stands in a message, and in a link

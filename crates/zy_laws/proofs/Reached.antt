@@ -89,7 +89,8 @@ opening_node sc n x v lows none free newest =
       busy = λ t at. absurd (none t at);
       newest = newest;
       runs = λ p t h. absurd (nobody p t h);
-      kept = λ p t h. absurd (nobody p t h);
+      below = λ p t h. absurd (nobody p t h);
+      kept = λ p t s h. absurd (nobody p t h);
       apart = λ p t u a b. absurd (nobody p u b);
       private = λ t k at _. absurd (none t at);
     }

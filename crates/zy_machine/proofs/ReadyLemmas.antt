@@ -60,7 +60,10 @@ may_split sc ok cs n t at =
       room = ok.cap_least;
       pages = ok.pages_most;
       absent = λ splits. absent_page (length v.me.lows) v.me.pages (fresh splits);
-      unheld = λ splits u. false_from_ne_true _ (λ h. false≢true (sym (fresh splits) ∙ k.mine.kept (length v.me.lows) u h));
+      unheld = λ splits u. false_from_ne_true _ (λ h.
+          let under = k.mine.below (length v.me.lows) u h in
+          let count : length v.me.lows ≡ length r.lows = ap length (k.mine.newest (k.mine.busy t at)) in
+          omega (arith, under, count));
       other = λ key new full. boundary_new sc t key (page_of v.me.lows key) v k.first.0 (k.mine.newest (k.mine.busy t at) ∙ k.first.1) ok.cap_least (home_placed sc n v r.lows t k at) refl full (rows_at (page_of v.me.lows key) v.me.pages o.mine.rows) (o.private t) new;
     }
 
