@@ -1,26 +1,24 @@
-//! Worked runs, one by one, and the comparison after a machine's run.
+//! Worked runs, one by one.
 ghost use Rattle.std.specs.Prelude.{◌≡◌, ◌<◌, All, true};
 
-use crate::serial::{same, serial};
+use crate::serial::serial;
 use crate::table::Table;
 use std::alloc::{AllocError, Global};
 use std::process::Abort;
 use std::test::Fail;
 use zy_isa::choice::Choice;
 use zy_isa::instr::{Instr, Reg};
-use zy_isa::node::Node;
 use zy_isa::program::Program;
 use zy_isa::row::Row;
 use zy_isa::rule::Rule;
 use zy_isa::scenario::Scenario;
-use zy_machine::machine::Machine;
 use zy_table::entry::CommitRec;
 
 fn row(key: u16, value: u32) -> Row {
     Row { key, value }
 }
 
-fn commit(txn: u8, done: u32) -> CommitRec {
+pub(crate) fn commit(txn: u8, done: u32) -> CommitRec {
     CommitRec { txn, done }
 }
 
@@ -89,7 +87,7 @@ fn add_all(alloc: Global, programs: &mut Vec<Program>) -> Result<(), Fail> {
 }
 
 /// Those programs over the rows 10 and 20.
-fn scenario(alloc: Global, choices: &[Choice]) -> Result<Scenario, Fail> {
+pub(crate) fn scenario(alloc: Global, choices: &[Choice]) -> Result<Scenario, Fail> {
     let rows = [row(10, 7), row(20, 9)].to_vec(alloc)?;
     let choices = choices.to_vec(alloc)?;
     let mut programs = Vec::new(alloc);
@@ -199,40 +197,5 @@ fn runs_in_order(rt: HostRuntime) -> Result<(), Fail> {
     let copied = [row(10, 1), row(11, 7), row(20, 9)];
     assert!(rt; leave(&rt, rt.alloc(), &[commit(1, 8), commit(0, 5)], &counted)?);
     assert!(rt; leave(&rt, rt.alloc(), &[commit(0, 5), commit(1, 8)], &copied)?);
-    Ok(())
-}
-
-/// 1 and 2 run in turn, eight times each: 1 to its commit.
-const IN_TURN: &[Choice] = &[
-    Choice::Begin(1),
-    Choice::Begin(2),
-    Choice::Run(Node::A, 1),
-    Choice::Run(Node::A, 2),
-    Choice::Run(Node::A, 1),
-    Choice::Run(Node::A, 2),
-    Choice::Run(Node::A, 1),
-    Choice::Run(Node::A, 2),
-    Choice::Run(Node::A, 1),
-    Choice::Run(Node::A, 2),
-    Choice::Run(Node::A, 1),
-    Choice::Run(Node::A, 2),
-    Choice::Run(Node::A, 1),
-    Choice::Run(Node::A, 2),
-    Choice::Run(Node::A, 1),
-    Choice::Run(Node::A, 2),
-    Choice::Run(Node::A, 1),
-    Choice::Run(Node::A, 2),
-];
-
-/// Whether 1 has committed, and what it wrote is there.
-fn has_counted(machine: &Machine) -> bool {
-    machine.commits() == [commit(1, 8)].as_slice() && machine.value(10) == Some(1)
-}
-
-#[test]
-fn pages_have_the_same(rt: HostRuntime) -> Result<(), Fail> {
-    let machine = Machine::run_all(rt.alloc(), scenario(rt.alloc(), IN_TURN)?)?;
-    assert!(rt; has_counted(&machine));
-    assert!(rt; same(rt.alloc(), &machine)?);
     Ok(())
 }
