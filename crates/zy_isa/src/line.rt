@@ -26,6 +26,7 @@ pub trait Line {
 impl Line for &str {
     ghost text = { λ words. words.now };
 
+    #[inline(always)]
     fn append(&self, line: &mut String) -> Result<(), AllocError> {
         line.push_str(self)
     }
@@ -38,6 +39,7 @@ pub struct Decimal<I>(pub I);
 impl<I: Integer> Line for Decimal<I> {
     ghost text = { λ d. I.text d.0 };
 
+    #[inline]
     fn append(&self, line: &mut String) -> Result<(), AllocError> {
         line.push_str(Buffer::new().format(self.0))
     }
@@ -50,6 +52,7 @@ pub struct Joined<A, B>(pub A, pub B);
 impl<A: Line, B: Line> Line for Joined<A, B> {
     ghost text = { λ j. A.text j.0 ++ B.text j.1 };
 
+    #[inline(always)]
     fn append(&self, line: &mut String) -> Result<(), AllocError> {
         self.0.append(line)?;
         self.1.append(line)

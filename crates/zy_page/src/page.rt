@@ -109,11 +109,11 @@ impl Page {
     }
 
     /// Puts a row, over one of the same key if there is one. It takes no memory.
-    pub fn install(&mut self, key: u16, value: u32)
+    pub fn install(&mut self, key: u16, new_value: u32)
         requires { get_row self.old.rows key ≡ None → length self.old.rows < 16 }
-        ensures { self.new ≡ record self.old { rows = put_row key value self.old.rows } }
+        ensures { self.new ≡ record self.old { rows = put_row key new_value self.old.rows } }
     {
-        self.rows.put(key, value);
+        self.rows.put(key, new_value);
     }
 
     /// Moves the rows at or above `boundary` into a new page with this number, whose low key is the boundary.

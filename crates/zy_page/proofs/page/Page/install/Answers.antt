@@ -10,7 +10,7 @@ some_or_none (Some x) = inr refl
 
 pub invariant_of-self : goal.invariant_of-self
 invariant_of-self c =
-    let most = rw (← c.put.ensures.rows) at (length-put_row_most c.args.key c.args.value c.self.inside.rows.rows) in
+    let most = rw (← c.put.ensures.rows) at (length-put_row_most c.args.key c.args.new_value c.self.inside.rows.rows) in
     elim (some_or_none (get_row c.self.inside.rows.rows c.args.key)) [
       | inl absent ↦
           let few = rw (← c.self.view_is) at c.requires in
