@@ -1,14 +1,12 @@
-//! Each call once with ample memory, and a page's rows before and after a split.
+//! Each call once with ample memory, on worked rows.
 use crate::page::Page;
 use crate::row_list::RowList;
 use std::alloc::{AllocError, Global};
-use std::process::Abort;
 use zy_isa::row::Row;
 
-/// Rows 10=1 and 20=2.
 const ROWS: [Row; 2] = [Row { key: 10, value: 1 }, Row { key: 20, value: 2 }];
 
-/// A list of these rows, which are put in the other order.
+/// These rows, put in the other order.
 fn list(alloc: Global) -> Result<RowList, AllocError> {
     let mut list = RowList::new(alloc);
     list.reserve(2)?;
@@ -22,22 +20,17 @@ fn copied_rows(alloc: Global, list: &RowList) -> Result<usize, AllocError> {
     Ok(list.copy(alloc)?.len())
 }
 
-fn check_list(rt: &impl Abort, list: &RowList) {
-    assert_eq!(rt; list.rows(), ROWS.as_slice());
-    assert!(rt; list.contains(10) && !list.contains(11));
-}
-
 #[test]
 fn rows_in_key_order(rt: HostRuntime) -> Result<(), AllocError> {
     let mut list = list(rt.alloc())?;
-    check_list(&rt, &list);
-    assert_eq!(rt; copied_rows(rt.alloc(), &list), Ok(2));
+    assert!(rt; list.rows() == ROWS.as_slice() && list.contains(10));
+    assert!(rt; copied_rows(rt.alloc(), &list) == Ok(2));
     list.clear();
     assert!(rt; list.is_empty());
     Ok(())
 }
 
-/// Page 1 with these rows, from key 5 on.
+/// These rows on page 1, whose keys begin at 5.
 fn page(alloc: Global) -> Result<Page, AllocError> {
     let mut page = Page::new(alloc, 1, 5)?;
     page.add(20, 3);
@@ -46,28 +39,29 @@ fn page(alloc: Global) -> Result<Page, AllocError> {
     Ok(page)
 }
 
-/// How many rows a copy has.
-fn copied_page(alloc: Global, page: &Page) -> Result<usize, AllocError> {
-    Ok(page.copy(alloc)?.len())
+/// Whether these are its number, its low key and its one row.
+fn is_page(page: &Page, number: u16, low: u16, row: Row) -> bool {
+    page.number() == number && page.low() == low && page.len() == 1 && page.row_at(0) == row
 }
 
-/// What the page number, low key and first row of the upper half are.
-fn upper(alloc: Global, page: &mut Page) -> Result<(u16, u16, Option<u32>), AllocError> {
+/// Whether a copy has its rows.
+fn copies(alloc: Global, page: &Page) -> Result<bool, AllocError> {
+    let copy = page.copy(alloc)?;
+    Ok(!copy.is_empty() && copy.get(20) == Some(2))
+}
+
+/// Whether the page that is split off at 20 is the one that it must be.
+fn splits(alloc: Global, page: &mut Page) -> Result<bool, AllocError> {
     let upper = page.split_at(alloc, 20, 2)?;
-    Ok((upper.number(), upper.low(), upper.get(20)))
-}
-
-fn check_page(rt: &impl Abort, page: &Page) {
-    assert_eq!(rt; page.rows(), ROWS.as_slice());
-    assert!(rt; page.number() == 1 && page.low() == 5 && !page.is_empty());
+    Ok(is_page(&upper, 2, 20, ROWS[1]))
 }
 
 #[test]
 fn a_page_is_split(rt: HostRuntime) -> Result<(), AllocError> {
     let mut page = page(rt.alloc())?;
-    check_page(&rt, &page);
-    assert_eq!(rt; copied_page(rt.alloc(), &page), Ok(2));
-    assert_eq!(rt; upper(rt.alloc(), &mut page), Ok((2, 20, Some(2))));
-    assert_eq!(rt; page.len(), 1);
+    assert!(rt; page.rows() == ROWS.as_slice());
+    assert!(rt; copies(rt.alloc(), &page) == Ok(true));
+    assert!(rt; splits(rt.alloc(), &mut page) == Ok(true));
+    assert!(rt; is_page(&page, 1, 5, ROWS[0]));
     Ok(())
 }
