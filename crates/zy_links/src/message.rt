@@ -2,8 +2,8 @@
 ghost use Rattle.std.specs.Prelude.{◌≡◌, IfOk};
 ghost use Rattle.zy_links.specs.Messages.{kind_of, limit_of, message_of};
 
-use std::alloc::{AllocError, Global};
 use crate::kind::Kind;
+use std::alloc::{AllocError, Global};
 use zy_page::page::Page;
 use zy_wire::wire::Wire;
 
