@@ -2,9 +2,9 @@
 ghost use Rattle.std.specs.Prelude.{◌≡◌};
 ghost use Rattle.zy_modes.specs.Table.{finishes as finishes_spec, on_message as on_message_spec, on_start as on_start_spec, on_finish as on_finish_spec, home_of as home_of_spec, HandsOver};
 
-use zy_links::kind::Kind;
 use crate::mode::NodeMode;
 use zy_isa::node::Node;
+use zy_links::kind::Kind;
 
 /// What a message does at a node.
 #[derive(Clone, Copy, Debug, PartialEq, Eq)]

@@ -1,8 +1,9 @@
 //! Every pair of mode and kind, and every pair of modes, against tables written by hand.
-use zy_links::kind::Kind;
 use crate::mode::NodeMode;
 use crate::table::{FinRow, MsgRow, home_of, on_finish, on_message, on_start};
+use std::process::Abort;
 use zy_isa::node::Node;
+use zy_links::kind::Kind;
 
 const MODES: [NodeMode; 8] = [
     NodeMode::Empty,
@@ -25,117 +26,63 @@ const KINDS: [Kind; 7] = [
     Kind::Done,
 ];
 
-/// A line of the table in two words: the new mode and the kind sent.
-fn words(row: MsgRow) -> (&'static str, &'static str) {
-    match row {
-        MsgRow::Stray => ("stray", ""),
-        MsgRow::Turns(mode, sent) => (mode_word(mode), sent.map_or("", kind_word)),
-    }
-}
-
-fn mode_word(mode: NodeMode) -> &'static str {
-    match mode {
-        NodeMode::Empty => "empty",
-        NodeMode::Normal => "normal",
-        NodeMode::SInit => "sinit",
-        NodeMode::SDual => "sdual",
-        NodeMode::SFinish => "sfinish",
-        NodeMode::DInit => "dinit",
-        NodeMode::DDual => "ddual",
-        NodeMode::DFinish => "dfinish",
-    }
-}
-
-fn kind_word(kind: Kind) -> &'static str {
-    match kind {
-        Kind::Wire => "wire",
-        Kind::Ready => "ready",
-        Kind::Dual => "dual",
-        Kind::Pull => "pull",
-        Kind::Page => "page",
-        Kind::Finish => "finish",
-        Kind::Done => "done",
-    }
-}
-
-const STRAY: (&str, &str) = ("stray", "");
-
-/// While pages are missing: a line for each mode, a column for each kind.
-const MISSING: [[(&str, &str); 7]; 8] = [
-    [("dinit", "ready"), STRAY, STRAY, STRAY, STRAY, STRAY, STRAY],
-    [STRAY, STRAY, STRAY, STRAY, STRAY, STRAY, STRAY],
-    [STRAY, ("sdual", "dual"), STRAY, STRAY, STRAY, STRAY, STRAY],
-    [STRAY, STRAY, STRAY, ("sdual", "page"), STRAY, STRAY, STRAY],
-    [
-        STRAY,
-        STRAY,
-        STRAY,
-        ("sfinish", "page"),
-        STRAY,
-        STRAY,
-        ("empty", ""),
-    ],
-    [STRAY, STRAY, ("ddual", ""), STRAY, STRAY, STRAY, STRAY],
-    [
-        STRAY,
-        STRAY,
-        STRAY,
-        STRAY,
-        ("ddual", ""),
-        ("dfinish", ""),
-        STRAY,
-    ],
-    [STRAY, STRAY, STRAY, STRAY, ("dfinish", ""), STRAY, STRAY],
+/// While pages are missing, a line for each mode and a column for each kind: the number of the new mode in MODES, or a dot.
+const MISSING: [&[u8; 7]; 8] = [
+    b"5......", b".......", b".3.....", b"...3...", b"...4..0", b"..6....", b"....67.", b"....7..",
 ];
 
 /// The same where all pages are here.
-const ALL_HERE: [[(&str, &str); 7]; 8] = [
-    [("dinit", "ready"), STRAY, STRAY, STRAY, STRAY, STRAY, STRAY],
-    [STRAY, STRAY, STRAY, STRAY, STRAY, STRAY, STRAY],
-    [STRAY, ("sdual", "dual"), STRAY, STRAY, STRAY, STRAY, STRAY],
-    [STRAY, STRAY, STRAY, ("sdual", "page"), STRAY, STRAY, STRAY],
-    [
-        STRAY,
-        STRAY,
-        STRAY,
-        ("sfinish", "page"),
-        STRAY,
-        STRAY,
-        ("empty", ""),
-    ],
-    [STRAY, STRAY, ("ddual", ""), STRAY, STRAY, STRAY, STRAY],
-    [
-        STRAY,
-        STRAY,
-        STRAY,
-        STRAY,
-        ("ddual", ""),
-        ("normal", "done"),
-        STRAY,
-    ],
-    [STRAY, STRAY, STRAY, STRAY, ("normal", "done"), STRAY, STRAY],
+const ALL_HERE: [&[u8; 7]; 8] = [
+    b"5......", b".......", b".3.....", b"...3...", b"...4..0", b"..6....", b"....61.", b"....1..",
 ];
+
+fn digit(mode: NodeMode) -> u8 {
+    match mode {
+        NodeMode::Empty => b'0',
+        NodeMode::Normal => b'1',
+        NodeMode::SInit => b'2',
+        NodeMode::SDual => b'3',
+        NodeMode::SFinish => b'4',
+        NodeMode::DInit => b'5',
+        NodeMode::DDual => b'6',
+        NodeMode::DFinish => b'7',
+    }
+}
+
+/// What a node sends that turns to this mode at a message of this kind.
+fn sent(kind: Kind, mode: NodeMode) -> Option<Kind> {
+    match kind {
+        Kind::Wire => Some(Kind::Ready),
+        Kind::Ready => Some(Kind::Dual),
+        Kind::Pull => Some(Kind::Page),
+        _ if mode == NodeMode::Normal => Some(Kind::Done),
+        _ => None,
+    }
+}
+
+/// Whether a line is what the table has.
+fn is_line(row: MsgRow, kind: Kind, want: u8) -> bool {
+    match row {
+        MsgRow::Stray => want == b'.',
+        MsgRow::Turns(mode, told) => want == digit(mode) && told == sent(kind, mode),
+    }
+}
+
+fn check_messages(rt: &impl Abort, table: &[&[u8; 7]; 8], all_here: bool) {
+    for (mode, line) in MODES.iter().zip(table) {
+        for (kind, want) in KINDS.iter().zip(line.iter()) {
+            assert!(rt;
+                is_line(on_message(*mode, *kind, all_here, 1), *kind, *want),
+                "{mode:?} {kind:?}"
+            );
+        }
+    }
+}
 
 #[test]
 fn every_message_in_every_mode(rt: HostRuntime) {
-    for (mode, line) in MODES.iter().zip(&MISSING) {
-        for (kind, want) in KINDS.iter().zip(line) {
-            assert_eq!(rt;
-                words(on_message(*mode, *kind, false, 1)),
-                *want,
-                "{mode:?} {kind:?}"
-            );
-        }
-    }
-    for (mode, line) in MODES.iter().zip(&ALL_HERE) {
-        for (kind, want) in KINDS.iter().zip(line) {
-            assert_eq!(rt;
-                words(on_message(*mode, *kind, true, 1)),
-                *want,
-                "{mode:?} {kind:?}"
-            );
-        }
-    }
+    check_messages(&rt, &MISSING, false);
+    check_messages(&rt, &ALL_HERE, true);
 }
 
 #[test]
@@ -152,8 +99,10 @@ fn finish_in_every_mode(rt: HostRuntime) {
         } else {
             FinRow::BadMode
         };
-        assert_eq!(rt; on_finish(*mode, false), idle, "{mode:?}");
-        assert_eq!(rt; on_finish(*mode, true), busy, "{mode:?}");
+        assert!(rt;
+            on_finish(*mode, false) == idle && on_finish(*mode, true) == busy,
+            "{mode:?}"
+        );
     }
 }
 
@@ -181,13 +130,10 @@ fn letter(node: Option<Node>) -> u8 {
 fn every_pair_of_modes(rt: HostRuntime) {
     for (a, line) in MODES.iter().zip(&HOMES) {
         for (b, want) in MODES.iter().zip(line.iter()) {
-            assert_eq!(rt; letter(home_of(*a, *b)), *want, "{a:?} {b:?}");
             let starts = *a == NodeMode::Normal && *b == NodeMode::Empty;
-            assert_eq!(rt;
-                on_start(*a, *b, 1),
-                if starts { Some(Node::A) } else { None },
-                "{a:?} {b:?}"
-            );
+            let start = if starts { b'A' } else { b'.' };
+            assert!(rt; letter(home_of(*a, *b)) == *want, "{a:?} {b:?}");
+            assert!(rt; letter(on_start(*a, *b, 1)) == start, "{a:?} {b:?}");
         }
     }
 }
