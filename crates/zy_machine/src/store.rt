@@ -21,8 +21,8 @@ use zy_moves::client::{begin_row, kill_row, start_row};
 use zy_moves::push::{finish_row, push_row};
 use zy_moves::take::take_row;
 use zy_node::node_store::NodeStore;
-use zy_table::answer::Answer;
 use zy_run::run::run_row;
+use zy_table::answer::Answer;
 use zy_txns::book::Book;
 
 /// The state: both nodes, the transactions and commits; and where new pages come from.
@@ -36,12 +36,7 @@ pub(crate) struct Store {
 
 impl Store {
     /// The lines of a node's run.
-    fn run_row(
-        &mut self,
-        scenario: &Scenario,
-        n: Node,
-        t: u8,
-    ) -> Result<Answer, AllocError>
+    fn run_row(&mut self, scenario: &Scenario, n: Node, t: u8) -> Result<Answer, AllocError>
         requires { IsReady scenario.now n t self.old }
         ensures { Makes n self.old self.new result (run_row_spec scenario.now n t (facing n (shown self.old))) }
     {

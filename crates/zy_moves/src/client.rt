@@ -8,23 +8,19 @@ ghost use Rattle.zy_table.specs.Answers.{made, Makes};
 ghost use Rattle.zy_moves.specs.Sides.{beside};
 
 use std::alloc::{AllocError, Global};
-use zy_links::message::Message;
 use zy_links::kind::Kind;
+use zy_links::message::Message;
 use zy_modes::mode::NodeMode;
 use zy_modes::table::home_of;
 use zy_node::node_store::NodeStore;
-use zy_table::answer::Answer;
 use zy_run::run::abort_row;
+use zy_table::answer::Answer;
 use zy_table::outcome::{Outcome, Why};
 use zy_txns::book::Book;
 
 /// `C start`, at the node that starts, beside the other.
 #[tactic(auto, unfolding(zy_table::specs::Client::start_row))]
-pub fn start_row(
-    alloc: Global,
-    me: &mut NodeStore,
-    them: &NodeStore,
-) -> Result<Answer, AllocError>
+pub fn start_row(alloc: Global, me: &mut NodeStore, them: &NodeStore) -> Result<Answer, AllocError>
     ensures { (v : View) → Makes (beside me.old them.now v) (beside me.new them.now v) result (start_row_spec (beside me.old them.now v)) }
 {
     if !me.mode.may_start(them.mode) {

@@ -18,8 +18,8 @@ use std::alloc::{AllocError, Global};
 use zy_isa::instr::{Instr, Reg};
 use zy_isa::node::Node;
 use zy_isa::scenario::Scenario;
-use zy_locks::lock::LockKind;
 use zy_links::kind::Kind;
+use zy_locks::lock::LockKind;
 use zy_node::node_store::{NodeStore, gone_page, new_rows};
 use zy_table::access::Access;
 use zy_table::answer::Answer;
@@ -171,12 +171,7 @@ fn key_row(
 
 /// A page that is not here: it is asked for, or the transaction has lost it.
 #[tactic(auto, unfolding(zy_table::specs::Run::absent_row, zy_table::specs::Change::asks))]
-fn absent_row(
-    me: &mut NodeStore,
-    book: &mut Book,
-    t: u8,
-    p: u16,
-) -> Result<Answer, AllocError>
+fn absent_row(me: &mut NodeStore, book: &mut Book, t: u8, p: u16) -> Result<Answer, AllocError>
     requires there { t < length book.old.txns }
     requires few { p < 512 }
     ensures { Runs me.old book.old me.new book.new result (absent_row_spec t p) }
@@ -194,14 +189,7 @@ fn absent_row(
 
 /// `read` on a page that is free for it.
 #[tactic(auto, unfolding(zy_table::specs::Run::read_row, zy_table::specs::Change::locked, zy_table::specs::Change::did, zy_table::specs::Change::txn_at))]
-fn read_row(
-    me: &mut NodeStore,
-    book: &mut Book,
-    t: u8,
-    r: Reg,
-    key: u16,
-    p: u16,
-) -> Answer
+fn read_row(me: &mut NodeStore, book: &mut Book, t: u8, r: Reg, key: u16, p: u16) -> Answer
     requires counts { Countable t book.old }
     requires free { IsFree p t Shared me.old }
     ensures { (v : View) → made result (here me.new book.new v) ≡ read_row_spec t r key p (locked t p Shared (here me.old book.old v)) }

@@ -12,10 +12,10 @@ use zy_isa::section::{Lines, Section, write_lines};
 use zy_isa::stream::Sink;
 use zy_isa::writing::TextFault;
 use zy_machine::machine::Machine;
-use zy_txns::txn::Txn;
 use zy_table::entry::CommitRec;
 use zy_table::outcome::Why;
 use zy_table::status::Status;
+use zy_txns::txn::Txn;
 
 /// The index of a transaction's commit.
 fn commit_index(t: u8, commits: &[CommitRec]) -> Option<usize>

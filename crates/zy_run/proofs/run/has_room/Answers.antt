@@ -13,5 +13,5 @@ returns-then-rows-free c =
     let few = length-new x.wire.lows p c.args.txn.now.rows (rows_of x.pages p) in
     let all = ap length c.rows-rows.ensures.value in
     let room : length (rows_of x.pages p) + length (own_inserts p (node_shown x) c.args.txn.now) < c.args.scenario.now.cap =
-        omega (arith, few, all, c.if-rows-free.true, c.saturating_sub-free.ensures, c.page_len.ensures.value, c.from.ensures, c.cap.ensures.value) in
+    omega (arith, few, all, c.if-rows-free.true, c.saturating_sub-free.ensures, c.page_len.ensures.value, c.from.ensures, c.cap.ensures.value) in
     lt-ltb _ _ c.if-rows-free.true ∙ sym (lt-ltb _ _ room)
