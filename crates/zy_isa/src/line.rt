@@ -39,7 +39,7 @@ pub struct Decimal<I>(pub I);
 impl<I: Integer> Line for Decimal<I> {
     ghost text = { λ d. I.text d.0 };
 
-    #[inline]
+    #[inline(always)]
     fn append(&self, line: &mut String) -> Result<(), AllocError> {
         line.push_str(Buffer::new().format(self.0))
     }
@@ -148,6 +148,7 @@ impl Line for Instr {
 impl Line for Choice {
     ghost text = { choice_text };
 
+    #[inline(always)]
     fn append(&self, line: &mut String) -> Result<(), AllocError> {
         match self {
             Choice::Start => "C start".append(line),
