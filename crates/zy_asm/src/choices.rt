@@ -62,6 +62,7 @@ fn client_action(word: &[u8]) -> Option<Action>
 }
 
 /// The action of this node that a word names.
+#[inline(always)]
 fn node_action(node: Node, word: &[u8]) -> Option<Action>
     ensures { result ≡ node_action_spec node word.now }
 {

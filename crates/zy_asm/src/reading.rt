@@ -204,6 +204,7 @@ impl Reader {
     }
 
     /// Closes the program that is open.
+    #[inline(always)]
     fn close(&mut self) -> Result<(), Reason>
         ensures { Steps result (seen self.new) (closed (seen self.old)) }
     {
@@ -259,6 +260,7 @@ impl Reader {
     }
 
     /// Makes a choice as often as the words behind it say.
+    #[inline(always)]
     fn repeat_line(&mut self, choice: Choice, times: &[&[u8]]) -> Result<(), Reason>
         ensures { Steps result (seen self.new) (repeat_line (seen self.old) choice (texts times.now)) }
     {

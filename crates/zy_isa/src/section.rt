@@ -60,6 +60,7 @@ pub trait Parts {
 }
 
 /// Ends the line, and writes it.
+#[inline(always)]
 fn finish_line<K: Sink>(sink: &mut K, line: &mut String) -> Result<(), TextFault>
     requires { K.failures sink.old < u64.MAX }
     ensures { Wrote (K.written sink.old) (K.written sink.new) (K.failures sink.old)
