@@ -4,18 +4,14 @@
 ghost use Rattle.std.specs.Prelude.{◌≡◌, ◌<◌};
 
 mod command_line;
-pub mod engine;
-pub mod faults;
-#[cfg(test)]
-mod tests;
 
 use clap::error::ErrorKind;
 use command_line::{Request, command, request_of};
-use engine::run_bytes;
-use faults::BenchFault;
 use std::io;
 use std::io::BufWriter;
 use std::process::ExitCode;
+use zy_engine::engine::run_bytes;
+use zy_engine::faults::BenchFault;
 use zy_isa::stream::{CountingReader, CountingWriter};
 
 /// The exit status where all went well.

@@ -1,7 +1,7 @@
 -- What went out is a front of the listing of what the input means.
-use Rattle.zy_bench.specs.Run.{listing_run}
-use Rattle.zy_bench.proofs.RunLemmas.{Wrote-front, front-of-told, silent-of-told, unwritten-of-told}
-use Rattle.zy_bench.proofs.engine.run_bytes.Goals as goal
+use Rattle.zy_engine.specs.Run.{listing_run}
+use Rattle.zy_engine.proofs.RunLemmas.{Wrote-front, front-of-told, silent-of-told, unwritten-of-told}
+use Rattle.zy_engine.proofs.engine.run_bytes.Goals as goal
 
 pub returns-clause-front : goal.returns-clause-front
 returns-clause-front g c =

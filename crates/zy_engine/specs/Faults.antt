@@ -10,8 +10,8 @@ use Rattle.zy_asm.specs.declared.faults.AsmKind.TheVariants as kinds
 use Rattle.zy_asm.specs.declared.faults.AsmFault.{AsmFault}
 use Rattle.zy_asm.specs.declared.faults.Refusal.{Refusal}
 use Rattle.zy_asm.specs.Reasons.{kind_of, fault_of}
-use Rattle.zy_bench.specs.declared.faults.BenchFault.{BenchFault}
-use Rattle.zy_bench.specs.declared.faults.BenchFault.TheVariants.{Input, TooLong, Read, Write, Memory}
+use Rattle.zy_engine.specs.declared.faults.BenchFault.{BenchFault}
+use Rattle.zy_engine.specs.declared.faults.BenchFault.TheVariants.{Input, TooLong, Read, Write, Memory}
 
 abbrev pub of_reading : ReadFault → BenchFault
 of_reading reading.Read = Read

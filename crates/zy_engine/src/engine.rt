@@ -6,8 +6,8 @@ ghost use Rattle.zy_isa.specs.Scenario.{Scenario as AScenario};
 ghost use Rattle.zy_isa.specs.Streams.{WroteFront};
 ghost use Rattle.zy_isa.specs.Text.{Means};
 ghost use Rattle.zy_isa.specs.Writing.{Wrote};
-ghost use Rattle.zy_bench.specs.Faults.{ReadsInput, failed_reads, failed_writes, IsQuiet, IfInput};
-ghost use Rattle.zy_bench.specs.Run.{listing_run};
+ghost use Rattle.zy_engine.specs.Faults.{ReadsInput, failed_reads, failed_writes, IsQuiet, IfInput};
+ghost use Rattle.zy_engine.specs.Run.{listing_run};
 
 use crate::faults::BenchFault;
 use std::alloc::Global;

@@ -16,7 +16,7 @@ use Rattle.zy_machine.specs.Histories.{History, choices_of}
 use Rattle.zy_table.specs.Play.{step, play, entries, opening}
 use Rattle.zy_audit.specs.Listing.{listing}
 use Rattle.zy_audit.specs.SameMaps.{is_serial}
-use Rattle.zy_bench.specs.Run.{listing_run}
+use Rattle.zy_engine.specs.Run.{listing_run}
 
 choices-entries : (sc : Scenario) (s : State) (cs : List Choice) → choices_of (entries sc s cs) ≡ cs
 choices-entries sc s [] = refl

@@ -1,8 +1,8 @@
 -- What was written is the listing of the whole run.
 use Rattle.std.proofs.Common.{ℕ, List, subst}
 use Rattle.zy_isa.specs.Writing.{Wrote}
-use Rattle.zy_bench.proofs.RunLemmas.{listing-whole}
-use Rattle.zy_bench.proofs.engine.run_scenario.Goals as goal
+use Rattle.zy_engine.proofs.RunLemmas.{listing-whole}
+use Rattle.zy_engine.proofs.engine.run_scenario.Goals as goal
 
 pub returns : goal.returns
 returns g c =

@@ -1,6 +1,6 @@
 //! Why a run was refused.
 ghost use Rattle.std.specs.Prelude.{◌≡◌};
-ghost use Rattle.zy_bench.specs.Faults.{of_reading, of_refusal, of_writing, status_of};
+ghost use Rattle.zy_engine.specs.Faults.{of_reading, of_refusal, of_writing, status_of};
 
 use std::alloc::AllocError;
 use thiserror::Error;
@@ -78,7 +78,7 @@ impl From<TextFault> for BenchFault {
 }
 
 impl From<AllocError> for BenchFault {
-    ghost use Rattle.zy_bench.specs.declared.faults.BenchFault.TheVariants.{Memory};
+    ghost use Rattle.zy_engine.specs.declared.faults.BenchFault.TheVariants.{Memory};
 
     ghost from_gives = { λ _ e. e ≡ Memory };
 

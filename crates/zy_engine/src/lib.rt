@@ -1,0 +1,7 @@
+//! What each command of the program does, as functions from bytes to bytes, and why one gives up.
+#![tactic(auto)]
+
+pub mod engine;
+pub mod faults;
+#[cfg(test)]
+mod tests;
