@@ -1,5 +1,6 @@
 -- Lists of rows in key order.
-use Rattle.std.specs.Prelude.{◌==◌, ◌+◌, ◌<◌, ◌≤◌, ◌^◌, nat_lt, ℕ, List, [], ◌∷◌, Option, Some, None, if◌then◌else◌}
+use Rattle.std.specs.Prelude.{◌==◌, ◌+◌, ◌-◌, ◌<◌, ◌≤◌, ◌^◌, nat_le, nat_lt, Bool, false, slice_get, length, ℕ, List, [], ◌∷◌, Option, Some, None, if◌then◌else◌}
+use Rattle.std.specs.Option.{option_map_or}
 use Rattle.zy_isa.specs.declared.row.Row.{Row}
 
 abbrev pub row : ℕ → ℕ → Row
@@ -34,3 +35,10 @@ misplaced_after last i (r ∷ rows) = if nat_lt last r.key then misplaced_after 
 abbrev pub misplaced_row : List Row → Option ℕ
 misplaced_row [] = None
 misplaced_row (r ∷ rows) = misplaced_after r.key 1 rows
+
+abbrev pub last_row : List Row → Option Row
+last_row rows = slice_get rows (length rows - 1)
+
+-- a key that is not above the one of the last row
+abbrev pub is_low : ℕ → Option Row → Bool
+is_low key last = option_map_or (λ r. nat_le key r.key) last false

@@ -1,5 +1,6 @@
 -- What the fields of a word give, for the steps of decoding.
-use Rattle.std.specs.Prelude.{◌==◌, ℕ, Option, Some, None, if◌then◌else◌, option_map}
+use Rattle.std.specs.Prelude.{◌==◌, ℕ, List, drop, get_or, Option, Some, None, if◌then◌else◌, option_map}
+use Rattle.std.specs.Int.{w32, from_be_bytes}
 use Rattle.zy_isa.specs.declared.instr.Reg.{Reg}
 use Rattle.zy_isa.specs.declared.instr.Reg.TheVariants.{R0, R1, R2, R3, R4, R5, R6, R7}
 use Rattle.zy_isa.specs.declared.instr.Instr.{Instr}
@@ -52,3 +53,7 @@ instr_at operation a b n =
     if operation == 6 then bare_at Commit a b n else
     if operation == 7 then bare_at Abort a b n else
     None
+
+-- the instruction of a word of eight bytes, if there is one
+abbrev pub decoded : List ℕ → Option Instr
+decoded w = if get_or w 3 0 == 0 then instr_at (get_or w 0 0) (get_or w 1 0) (get_or w 2 0) (from_be_bytes w32 (drop 4 w)) else None

@@ -2,7 +2,7 @@
 ghost use Rattle.std.specs.Prelude.{◌≡◌, IfSome, Some};
 ghost use Rattle.zy_isa.specs.Registers.{number_of};
 ghost use Rattle.zy_isa.specs.InstrWords.{IsWordOf, word as word_spec, word_of};
-ghost use Rattle.zy_isa.specs.WordFields.{register_at, registers_at, instr_at};
+ghost use Rattle.zy_isa.specs.WordFields.{register_at, registers_at, instr_at, decoded};
 ghost use Rattle.zy_isa.specs.declared.instr.Instr.{Instr};
 
 use crate::instr::{Instr, Reg};
@@ -84,6 +84,7 @@ fn instr_of(operation: u8, a: u8, b: u8, number: u32) -> Option<Instr>
 
 /// The instruction whose word these bytes are: at most one has it, and most bytes are no word.
 pub fn decode(word: [u8; WORD_BYTES]) -> Option<Instr>
+    ensures value { result ≡ decoded word }
     ensures found { IfSome result (IsWordOf word) }
     ensures only { (i : Instr) → IsWordOf word i → result ≡ Some i }
 {

@@ -1,0 +1,207 @@
+-- Reading an image field by field, up to the first check that fails. The size is that of the whole input.
+use Rattle.std.specs.Prelude.{◌≡◌, ◌==◌, ◌-◌, ◌⊎◌, ◌||◌, ℕ, zero, suc, nat_lt, List, [], ◌∷◌, ◌++◌, length, take, drop, get_or, Option, Some, None, Result, Ok, Err, ok_or, if◌then◌else◌}
+use Rattle.std.specs.Result.{result_err}
+use Rattle.std.specs.Int.{w16, w32, from_be_bytes}
+use Rattle.std.specs.Str.{bytes_eq}
+use Rattle.std.specs.Borrow.{Bor}
+use Rattle.zy_isa.specs.declared.rule.Rule.{Rule}
+use Rattle.zy_isa.specs.declared.rule.Rule.TheVariants.{Held}
+use Rattle.zy_isa.specs.declared.row.Row.{Row}
+use Rattle.zy_isa.specs.declared.node.Node.{Node}
+use Rattle.zy_isa.specs.declared.node.Node.TheVariants as node
+use Rattle.zy_isa.specs.declared.instr.Instr.{Instr}
+use Rattle.zy_isa.specs.declared.program.ProgFault.{ProgFault}
+use Rattle.zy_isa.specs.declared.program.ProgFault.TheVariants as prog
+use Rattle.zy_isa.specs.declared.choice.Choice.{Choice}
+use Rattle.zy_isa.specs.declared.choice.Choice.TheVariants.{Start, Begin, Kill, Run, Take, Finish, Push}
+use Rattle.zy_isa.specs.Rows.{last_row, is_low}
+use Rattle.zy_isa.specs.Programs.{prog_fault}
+use Rattle.zy_isa.specs.WordFields.{decoded}
+use Rattle.zy_isa.specs.Scenario.{Scenario, is_outside, opening_pages_for}
+use Rattle.zy_image.specs.declared.faults.LoadFault.{LoadFault}
+use Rattle.zy_image.specs.declared.faults.LoadFault.TheVariants as fault
+use Rattle.zy_image.specs.declared.head.Head.{Head}
+use Rattle.zy_image.specs.Image.{magic}
+
+-- what was read, and the bytes behind it; or the first fault
+abbrev pub Read : Type 0 → Type 0
+Read X = Result (X × List ℕ) LoadFault
+
+-- the next step, unless this one failed
+infixl 10 ◌>>=◌
+abbrev pub ◌>>=◌ : {A B E : Type 0} → Result A E → (A → Result B E) → Result B E
+(Ok x) >>= f = f x
+(Err e) >>= f = Err e
+
+-- ---- fields
+
+-- a field of n bytes
+abbrev pub field : ℕ → ℕ → List ℕ → Read (List ℕ)
+field n size bytes = if nat_lt (length bytes) n then Err (fault.Truncated size) else Ok (take n bytes, drop n bytes)
+
+-- a number of one byte
+abbrev pub byte : ℕ → List ℕ → Read ℕ
+byte size bytes = field 1 size bytes >>= λ f. Ok (get_or f.0 0 0, f.1)
+
+-- a number of two bytes
+abbrev pub half : ℕ → List ℕ → Read ℕ
+half size bytes = field 2 size bytes >>= λ f. Ok (from_be_bytes w16 f.0, f.1)
+
+-- ---- the head
+
+abbrev pub magic_field : ℕ → List ℕ → Result (List ℕ) LoadFault
+magic_field size bytes = field 4 size bytes >>= λ f. if bytes_eq f.0 magic then Ok f.1 else Err fault.Magic
+
+abbrev pub cap_field : ℕ → List ℕ → Read ℕ
+cap_field size bytes = byte size bytes >>= λ n. if is_outside 2 16 n.0 then Err fault.Cap else Ok n
+
+abbrev pub pages_field : ℕ → List ℕ → Read ℕ
+pages_field size bytes = half size bytes >>= λ n. if is_outside 1 512 n.0 then Err fault.Pages else Ok n
+
+abbrev pub rule_at : ℕ → Option Rule
+rule_at n = if n == 0 then Some Held else None
+
+abbrev pub rule_field : ℕ → List ℕ → Read Rule
+rule_field size bytes = do
+  n ← byte size bytes
+  rule ← ok_or (rule_at n.0) fault.Rule
+  Ok (rule, n.1)
+
+abbrev pub head_fields : ℕ → List ℕ → Read Head
+head_fields size bytes = do
+  left ← magic_field size bytes
+  cap ← cap_field size left
+  pages ← pages_field size cap.1
+  rule ← rule_field size pages.1
+  Ok (record { cap = cap.0; pages = pages.0; rule = rule.0 }, rule.1)
+
+-- ---- lists
+
+-- so many items more, each read behind those that stand before it
+abbrev pub read_items : {X : Type 0} → (List X → List ℕ → Read X) → List X → ℕ → List ℕ → Read (List X)
+read_items next xs zero bytes = Ok (xs, bytes)
+read_items next xs (suc n) bytes = next xs bytes >>= λ x. read_items next (xs ++ x.0 ∷ []) n x.1
+
+-- ---- rows
+
+abbrev pub row_at : List ℕ → Row
+row_at f = record { key = from_be_bytes w16 (take 2 f); value = from_be_bytes w32 (drop 2 f) }
+
+abbrev pub next_row : ℕ → List Row → List ℕ → Read Row
+next_row size rows bytes = field 6 size bytes >>= λ f. if is_low (row_at f.0).key (last_row rows) then Err (fault.RowOrder (length rows)) else Ok (row_at f.0, f.1)
+
+abbrev pub row_count : Head → ℕ → List ℕ → Read ℕ
+row_count h size bytes = half size bytes >>= λ n. if nat_lt 256 n.0 || nat_lt h.pages (opening_pages_for h.cap n.0) then Err fault.RowCount else Ok n
+
+abbrev pub rows : Head → ℕ → List ℕ → Read (List Row)
+rows h size bytes = row_count h size bytes >>= λ n. read_items (next_row size) [] n.0 n.1
+
+-- ---- programs
+
+abbrev pub next_instr : ℕ → ℕ → List Instr → List ℕ → Read Instr
+next_instr t size is bytes = do
+  f ← field 8 size bytes
+  i ← ok_or (decoded f.0) (fault.Word t (length is))
+  Ok (i, f.1)
+
+abbrev pub instr_count : ℕ → ℕ → List ℕ → Read ℕ
+instr_count t size bytes = byte size bytes >>= λ n. if n.0 == 0 then Err (fault.Program t prog.Empty) else if nat_lt 64 n.0 then Err (fault.Program t prog.TooLong) else Ok n
+
+abbrev pub judged : {X : Type 0} → ℕ → Option ProgFault → X → Result X LoadFault
+judged t None x = Ok x
+judged t (Some f) x = Err (fault.Program t f)
+
+abbrev pub instrs : ℕ → ℕ → List ℕ → Read (List Instr)
+instrs t size bytes = instr_count t size bytes >>= λ n. read_items (next_instr t size) [] n.0 n.1
+
+abbrev pub next_program : ℕ → List (List Instr) → List ℕ → Read (List Instr)
+next_program size ps bytes = instrs (length ps) size bytes >>= λ is. judged (length ps) (prog_fault is.0) is
+
+abbrev pub program_count : ℕ → List ℕ → Read ℕ
+program_count size bytes = byte size bytes >>= λ n. if nat_lt 64 n.0 then Err fault.TxnCount else Ok n
+
+abbrev pub programs : ℕ → List ℕ → Read (List (List Instr))
+programs size bytes = program_count size bytes >>= λ n. read_items (next_program size) [] n.0 n.1
+
+-- ---- choices
+
+-- a choice with a transaction, of which there are `count`
+abbrev pub named : ℕ → ℕ → Choice → Option Choice
+named count t c = if nat_lt t count then Some c else None
+
+-- a choice without a transaction
+abbrev pub plain : ℕ → Choice → Option Choice
+plain t c = if t == 0 then Some c else None
+
+abbrev pub client_choice : ℕ → ℕ → ℕ → Option Choice
+client_choice count action t =
+    if action == 0 then plain t Start else
+    if action == 1 then named count t (Begin t) else
+    if action == 2 then named count t (Kill t) else
+    None
+
+abbrev pub node_choice : ℕ → Node → ℕ → ℕ → Option Choice
+node_choice count n action t =
+    if action == 3 then named count t (Run n t) else
+    if action == 4 then plain t (Take n) else
+    if action == 5 then plain t (Finish n) else
+    if action == 6 then plain t (Push n) else
+    None
+
+abbrev pub choice_at : ℕ → ℕ → ℕ → ℕ → Option Choice
+choice_at count actor action t =
+    if actor == 0 then client_choice count action t else
+    if actor == 1 then node_choice count node.A action t else
+    if actor == 2 then node_choice count node.B action t else
+    None
+
+abbrev pub next_choice : ℕ → ℕ → List Choice → List ℕ → Read Choice
+next_choice count size cs bytes = do
+  f ← field 3 size bytes
+  c ← ok_or (choice_at count (get_or f.0 0 0) (get_or f.0 1 0) (get_or f.0 2 0)) (fault.Choice (length cs))
+  Ok (c, f.1)
+
+abbrev pub choice_count : ℕ → List ℕ → Read ℕ
+choice_count size bytes = half size bytes >>= λ n. if nat_lt 4096 n.0 then Err fault.ChoiceCount else Ok n
+
+abbrev pub choices : ℕ → ℕ → List ℕ → Read (List Choice)
+choices count size bytes = choice_count size bytes >>= λ n. read_items (next_choice count size) [] n.0 n.1
+
+-- ---- the whole image
+
+abbrev pub ended : {X : Type 0} → ℕ → X × List ℕ → Result X LoadFault
+ended size x = if length x.1 == 0 then Ok x.0 else Err (fault.Trailing (size - length x.1))
+
+abbrev pub of_parts : Head → List Row → List (List Instr) → List Choice → Scenario
+of_parts h rs ps cs = record { version = 1; cap = h.cap; pages = h.pages; rule = h.rule; rows = rs; programs = ps; choices = cs }
+
+-- what an image gives, or its first fault
+abbrev pub reading : List ℕ → Result Scenario LoadFault
+reading bytes = do
+  h ← head_fields (length bytes) bytes
+  rs ← rows h.0 (length bytes) h.1
+  ps ← programs (length bytes) rs.1
+  cs ← choices (length ps.0) (length bytes) ps.1
+  last ← ended (length bytes) cs
+  Ok (of_parts h.0 rs.0 ps.0 last)
+
+-- the first fault of bytes that are to be an image
+abbrev pub image_fault : List ℕ → Option LoadFault
+image_fault bytes = result_err (reading bytes)
+
+-- ---- calls that may want memory
+
+-- the answer is what was read and what is left, unless there was no memory
+abbrev pub Gives : {X : Type 0} → Result (X × Bor (List ℕ)) LoadFault → Read X → Type 0
+Gives (Ok x) read = read ≡ Ok (x.0, x.1.now)
+Gives (Err e) read = (e ≡ fault.Memory) ⊎ (read ≡ Err e)
+
+-- the answer is what is left, unless there was no memory
+abbrev pub GivesLeft : Result (Bor (List ℕ)) LoadFault → Result (List ℕ) LoadFault → Type 0
+GivesLeft (Ok left) read = read ≡ Ok left.now
+GivesLeft (Err e) read = (e ≡ fault.Memory) ⊎ (read ≡ Err e)
+
+-- the answer is this scenario, unless there was no memory
+abbrev pub GivesScenario : Result Scenario LoadFault → Scenario → Type 0
+GivesScenario (Ok t) s = t ≡ s
+GivesScenario (Err e) s = e ≡ fault.Memory

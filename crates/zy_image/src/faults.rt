@@ -1,0 +1,64 @@
+//! Why bytes are no image.
+
+use thiserror::Error;
+use std::alloc::AllocError;
+use zy_isa::program::ProgFault;
+
+/// Why bytes are no image of a scenario. The first that comes in the order of reading is told; places in the input, rows,
+/// transactions, instructions and choices count from 0.
+#[derive(Clone, Copy, Debug, PartialEq, Eq, Error)]
+pub enum LoadFault {
+    /// 1: the first four bytes are not `ZPH1`.
+    #[error("an image begins with ZPH1")]
+    Magic,
+    /// 2: the bytes, of which there are so many, end inside a field.
+    #[error("the image ends inside a field, at byte {0}")]
+    Truncated(usize),
+    /// 3: here, behind the last field, the bytes go on.
+    #[error("the image ends at byte {0}, and the input goes on")]
+    Trailing(usize),
+    /// 4: a page would have room for too few or too many rows.
+    #[error("cap is 2 to 16")]
+    Cap,
+    /// 5: there would be no page, or too many.
+    #[error("pages is 1 to 512")]
+    Pages,
+    /// 6: there is no such rule.
+    #[error("the rule is 0 (held)")]
+    Rule,
+    /// 7: there are too many rows, or they need too many pages.
+    #[error("the rows are at most 256 and open with at most `pages` pages")]
+    RowCount,
+    /// 8: the key of this row is not above the one before it.
+    #[error("the key of row {0} is above the key before it")]
+    RowOrder(usize),
+    /// 9: there are too many transactions.
+    #[error("there are at most 64 transactions")]
+    TxnCount,
+    /// 10: the instructions of this transaction are no program.
+    #[error("transaction {0}: {1}")]
+    Program(usize, ProgFault),
+    /// 11: the word of this instruction of this transaction is no word.
+    #[error("transaction {0}: the word of instruction {1} is none")]
+    Word(usize, usize),
+    /// 12: there are too many choices.
+    #[error("there are at most 4096 choices")]
+    ChoiceCount,
+    /// 13: this choice is none, or names a transaction that is not there.
+    #[error("choice {0} is none, or names no transaction")]
+    Choice(usize),
+    /// 14: there was no memory for the scenario.
+    #[error("there is no memory for the scenario")]
+    Memory,
+}
+
+impl From<AllocError> for LoadFault {
+    ghost use Rattle.std.specs.Prelude.{◌≡◌};
+    ghost use Rattle.zy_image.specs.declared.faults.LoadFault.TheVariants.{Memory};
+
+    ghost from_gives = { λ _ e. e ≡ Memory };
+
+    fn from(_e: AllocError) -> LoadFault {
+        LoadFault::Memory
+    }
+}

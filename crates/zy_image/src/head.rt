@@ -1,0 +1,70 @@
+//! The fields in front of the rows.
+ghost use Rattle.zy_image.specs.Reading.{Gives, cap_field as cap_field_spec, head_fields as head_fields_spec, pages_field as pages_field_spec, rule_at as rule_at_spec, rule_field as rule_field_spec};
+ghost use Rattle.std.specs.Prelude.{◌≡◌};
+
+use crate::faults::LoadFault;
+use crate::fields::{byte, half, magic_field};
+use zy_isa::rule::Rule;
+use zy_isa::scenario::{MAX_CAP, MAX_PAGES};
+
+/// What the fields in front of the rows say.
+#[derive(Clone, Copy, Debug, PartialEq, Eq)]
+pub struct Head {
+    pub cap: u8,
+    pub pages: u16,
+    pub rule: Rule,
+}
+
+/// How many rows a page has room for.
+fn cap_field(size: usize, bytes: &[u8]) -> Result<(u8, &[u8]), LoadFault>
+    ensures { Gives result (cap_field_spec size bytes.entry.now) }
+{
+    let (cap, left) = byte(size, bytes)?;
+    if cap < 2 || cap > MAX_CAP {
+        return Err(LoadFault::Cap);
+    }
+    Ok((cap, left))
+}
+
+/// How many pages there may be.
+fn pages_field(size: usize, bytes: &[u8]) -> Result<(u16, &[u8]), LoadFault>
+    ensures { Gives result (pages_field_spec size bytes.entry.now) }
+{
+    let (pages, left) = half(size, bytes)?;
+    if pages < 1 || pages > MAX_PAGES {
+        return Err(LoadFault::Pages);
+    }
+    Ok((pages, left))
+}
+
+/// The rule that a byte stands for.
+fn rule_at(byte: u8) -> Option<Rule>
+    ensures { result ≡ rule_at_spec byte }
+{
+    match byte {
+        0 => Some(Rule::Held),
+        _ => None,
+    }
+}
+
+/// The rule for locked pages.
+fn rule_field(size: usize, bytes: &[u8]) -> Result<(Rule, &[u8]), LoadFault>
+    ensures { Gives result (rule_field_spec size bytes.entry.now) }
+{
+    let (rule, left) = byte(size, bytes)?;
+    match rule_at(rule) {
+        Some(rule) => Ok((rule, left)),
+        None => Err(LoadFault::Rule),
+    }
+}
+
+/// The fields in front of the rows.
+pub fn head_fields(size: usize, bytes: &[u8]) -> Result<(Head, &[u8]), LoadFault>
+    ensures { Gives result (head_fields_spec size bytes.entry.now) }
+{
+    let left = magic_field(size, bytes)?;
+    let (cap, left) = cap_field(size, left)?;
+    let (pages, left) = pages_field(size, left)?;
+    let (rule, left) = rule_field(size, left)?;
+    Ok((Head { cap, pages, rule }, left))
+}

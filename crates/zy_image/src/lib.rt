@@ -1,0 +1,9 @@
+//! Scenarios as images: bytes that a program reads quickly, each field at its own place.
+#![tactic(auto)]
+
+pub mod faults;
+mod fields;
+mod head;
+mod lists;
+
+

@@ -1,0 +1,43 @@
+//! Lists: a number of items, and then each of them.
+ghost use Rattle.std.specs.Prelude.{◌≡◌, ℕ, List, []};
+ghost use Rattle.zy_image.specs.Reading.{Gives, Read, read_items as read_items_spec};
+
+use crate::faults::LoadFault;
+use std::alloc::Global;
+
+/// How the items of a list are read.
+pub trait Items {
+    type Item: Drop;
+
+    // The next item, behind those that stand before it.
+    ghost next: { Self → List Self.Item → List ℕ → Read Self.Item };
+
+    /// Reads the next item, behind those that stand before it.
+    fn next<'a>(
+        &self,
+        before: &[Self::Item],
+        bytes: &'a [u8],
+    ) -> Result<(Self::Item, &'a [u8]), LoadFault>
+        ensures { Gives result (next self.now before.now bytes.entry.now) };
+}
+
+/// Reads so many items.
+pub fn read_items<'a, I: Items>(
+    alloc: Global,
+    kind: &I,
+    count: usize,
+    bytes: &'a [u8],
+) -> Result<(Vec<I::Item>, &'a [u8]), LoadFault>
+    ensures { Gives result (read_items_spec (I.next kind.now) [] count bytes.entry.now) }
+{
+    let mut items = Vec::with_capacity(alloc, count)?;
+    let mut left = bytes;
+    for _ in 0..count {
+        let (item, rest) = kind.next(items.as_slice(), left)?;
+        if items.push(item).is_err() {
+            return Err(LoadFault::Memory);
+        }
+        left = rest;
+    }
+    Ok((items, left))
+}
