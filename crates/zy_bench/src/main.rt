@@ -16,7 +16,7 @@ use faults::BenchFault;
 use std::io;
 use std::io::BufWriter;
 use std::process::ExitCode;
-use zy_isa::stream::{CountingReader, CountingWriter};
+use zy_io::stream::{CountingReader, CountingWriter};
 
 /// The exit status where all went well.
 const DONE: u8 = 0;
