@@ -19,7 +19,7 @@ use Rattle.zy_isa.specs.declared.choice.Choice.{Choice}
 use Rattle.zy_isa.specs.declared.choice.Choice.TheVariants.{Start, Begin, Kill, Run, Take, Finish, Push}
 use Rattle.zy_isa.specs.Words.{is_space, is_word, without_comment, lines_of, has_words, lines_with_words, number_of, digits_after, spaced}
 use Rattle.zy_isa.specs.Canon.{node_text, rule_text, reg_text, instr_words, choice_words, row_words, program_words, canon_words, canon}
-use Rattle.zy_isa.specs.Writing.{line_of}
+use Rattle.zy_io.specs.Writing.{line_of}
 use Rattle.zy_isa.specs.Rows.{RowsFit}
 use Rattle.zy_isa.specs.Programs.{HasValue, Values}
 use Rattle.zy_isa.specs.Choices.{names_below}

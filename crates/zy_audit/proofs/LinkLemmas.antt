@@ -6,8 +6,8 @@ use Rattle.std.specs.String.{string_bytes}
 use Rattle.std.specs.declared.alloc.Global.{Global}
 use Rattle.std.specs.declared.string.String.{String}
 use Rattle.std.proofs.lemmas.List.Folds.{flat_map-map}
-use Rattle.zy_isa.specs.Writing.{Appended, AppendedFront}
-use Rattle.zy_isa.proofs.WritingLemmas.{Appended-element-stops}
+use Rattle.zy_io.specs.Writing.{Appended, AppendedFront}
+use Rattle.zy_io.proofs.WritingLemmas.{Appended-element-stops}
 use Rattle.zy_links.specs.declared.message.Message.{Message as Sent}
 use Rattle.zy_links.specs.Messages.{message_of, messages_of}
 use Rattle.zy_audit.specs.Texts.{message_text}

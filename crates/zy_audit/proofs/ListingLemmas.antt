@@ -3,7 +3,7 @@ use Rattle.std.proofs.Common.{◌≡◌, ◌∙◌, ℕ, zero, suc, ◌+◌, ◌
 use Rattle.std.specs.List.{flat_map}
 use Rattle.std.proofs.lemmas.Grind.{flat_map-append}
 use Rattle.zy_isa.specs.Canon.{canon}
-use Rattle.zy_isa.specs.Writing.{line_of}
+use Rattle.zy_io.specs.Writing.{line_of}
 use Rattle.zy_disasm.specs.Lines.{head_texts, end_texts}
 use Rattle.zy_disasm.proofs.CanonLemmas.{canon-parts}
 use Rattle.zy_table.specs.Play.{entries, opening}

@@ -1,6 +1,6 @@
 //! The whole listing.
 ghost use Rattle.std.specs.Prelude.{◌<◌};
-ghost use Rattle.zy_isa.specs.Writing.{Wrote};
+ghost use Rattle.zy_io.specs.Writing.{Wrote};
 ghost use Rattle.zy_machine.specs.Histories.{choices_of};
 ghost use Rattle.zy_audit.specs.Listing.{listing};
 ghost use Rattle.zy_audit.specs.SameMaps.{is_serial};
@@ -12,9 +12,9 @@ use crate::lines::taken::Taken;
 use crate::serial::same;
 use std::alloc::Global;
 use zy_disasm::head::Head;
-use zy_isa::section::{Both, One, Section};
-use zy_isa::stream::Sink;
-use zy_isa::writing::TextFault;
+use zy_io::section::{Both, One, Section};
+use zy_io::stream::Sink;
+use zy_io::writing::TextFault;
 use zy_machine::machine::Machine;
 
 /// Writes the listing of a machine, a line at a time; `same` is what the test against the serial run says.

@@ -9,8 +9,8 @@ use crate::serial_tests::{commit, scenario};
 use std::alloc::{AllocError, Global};
 use std::process::Abort;
 use std::test::Fail;
+use zy_io::line::Line;
 use zy_isa::choice::Choice;
-use zy_isa::line::Line;
 use zy_isa::node::Node;
 use zy_machine::machine::Machine;
 

@@ -12,7 +12,7 @@ use std::io::BufWriter;
 use std::process::ExitCode;
 use zy_engine::engine::run_bytes;
 use zy_engine::faults::BenchFault;
-use zy_isa::stream::{CountingReader, CountingWriter};
+use zy_io::stream::{CountingReader, CountingWriter};
 
 /// The exit status where all went well.
 const DONE: u8 = 0;

@@ -2,11 +2,11 @@
 ghost use Rattle.zy_disasm.specs.Lines.{program_parts, head_texts};
 
 use crate::lines::{Number, RuleLine};
+use zy_io::section::{Both, Each, One, Parts, Section, write_parts};
+use zy_io::stream::Sink;
+use zy_io::writing::TextFault;
 use zy_isa::program::Program;
 use zy_isa::scenario::Scenario;
-use zy_isa::section::{Both, Each, One, Parts, Section, write_parts};
-use zy_isa::stream::Sink;
-use zy_isa::writing::TextFault;
 
 /// The header, the rows and the programs of a scenario.
 #[derive(Clone, Copy)]

@@ -2,7 +2,7 @@
 ghost use Rattle.zy_disasm.specs.Lines.{number_text, rule_line};
 
 use std::alloc::AllocError;
-use zy_isa::line::{Decimal, Joined, Line};
+use zy_io::line::{Decimal, Joined, Line};
 use zy_isa::rule::Rule;
 
 /// A word, and a number.

@@ -3,9 +3,9 @@
 use crate::text::write_text;
 use std::alloc::Global;
 use std::test::Fail;
+use zy_io::memory::VecSink;
 use zy_isa::choice::Choice;
 use zy_isa::instr::{Instr, Reg};
-use zy_isa::memory::VecSink;
 use zy_isa::node::Node;
 use zy_isa::program::Program;
 use zy_isa::row::Row;

@@ -1,14 +1,14 @@
 //! The whole text.
 ghost use Rattle.std.specs.Prelude.{◌<◌};
 ghost use Rattle.zy_isa.specs.Canon.{canon};
-ghost use Rattle.zy_isa.specs.Writing.{Wrote};
+ghost use Rattle.zy_io.specs.Writing.{Wrote};
 
 use crate::head::Head;
 use std::alloc::Global;
+use zy_io::section::{Both, Each, One, Section};
+use zy_io::stream::Sink;
+use zy_io::writing::TextFault;
 use zy_isa::scenario::Scenario;
-use zy_isa::section::{Both, Each, One, Section};
-use zy_isa::stream::Sink;
-use zy_isa::writing::TextFault;
 
 /// Writes the canonical text of a scenario, a line at a time.
 pub fn write_text<K: Sink>(

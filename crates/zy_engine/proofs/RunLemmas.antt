@@ -3,12 +3,12 @@ use Rattle.std.proofs.Common.{◌≡◌, ◌≢◌, ◌∙◌, ℕ, List, [], �
 use Rattle.std.specs.Result.{result_err}
 use Rattle.std.proofs.KnownBytes.{Appends-nil}
 use Rattle.zy_isa.specs.declared.choice.Choice.{Choice}
-use Rattle.zy_isa.specs.declared.writing.TextFault.{TextFault}
-use Rattle.zy_isa.specs.declared.writing.TextFault.TheVariants.{Write, Memory}
+use Rattle.zy_io.specs.declared.writing.TextFault.{TextFault}
+use Rattle.zy_io.specs.declared.writing.TextFault.TheVariants.{Write, Memory}
 use Rattle.zy_isa.specs.Scenario.{Scenario}
-use Rattle.zy_isa.specs.Streams.{WroteFront}
+use Rattle.zy_io.specs.Streams.{WroteFront}
 use Rattle.zy_isa.specs.Text.{Means}
-use Rattle.zy_isa.specs.Writing.{Wrote}
+use Rattle.zy_io.specs.Writing.{Wrote}
 use Rattle.zy_asm.specs.declared.faults.AsmFault.{AsmFault}
 use Rattle.zy_asm.specs.Input.{input_fault, utf8_fault, unless_faulty}
 use Rattle.zy_table.specs.State.{State}

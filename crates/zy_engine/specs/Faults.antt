@@ -1,10 +1,10 @@
 -- The faults of an engine.
 use Rattle.std.specs.Prelude.{ℕ, List, Option, Result, Ok, Err}
-use Rattle.zy_isa.specs.Streams.{ReadWhole, ReadSome, ReadTooMuch}
-use Rattle.zy_isa.specs.declared.reading.ReadFault.{ReadFault}
-use Rattle.zy_isa.specs.declared.reading.ReadFault.TheVariants as reading
-use Rattle.zy_isa.specs.declared.writing.TextFault.{TextFault}
-use Rattle.zy_isa.specs.declared.writing.TextFault.TheVariants as writing
+use Rattle.zy_io.specs.Streams.{ReadWhole, ReadSome, ReadTooMuch}
+use Rattle.zy_io.specs.declared.reading.ReadFault.{ReadFault}
+use Rattle.zy_io.specs.declared.reading.ReadFault.TheVariants as reading
+use Rattle.zy_io.specs.declared.writing.TextFault.{TextFault}
+use Rattle.zy_io.specs.declared.writing.TextFault.TheVariants as writing
 use Rattle.zy_asm.specs.declared.faults.AsmKind.{AsmKind}
 use Rattle.zy_asm.specs.declared.faults.AsmKind.TheVariants as kinds
 use Rattle.zy_asm.specs.declared.faults.AsmFault.{AsmFault}

@@ -3,9 +3,9 @@ ghost use Rattle.std.specs.Prelude.{◌≡◌, ◌≢◌, ◌<◌, ◌+◌, Some
 ghost use Rattle.std.specs.Io.KnownBytes.{Appends};
 ghost use Rattle.zy_asm.specs.Input.{input_fault};
 ghost use Rattle.zy_isa.specs.Scenario.{Scenario as AScenario};
-ghost use Rattle.zy_isa.specs.Streams.{WroteFront};
+ghost use Rattle.zy_io.specs.Streams.{WroteFront};
 ghost use Rattle.zy_isa.specs.Text.{Means};
-ghost use Rattle.zy_isa.specs.Writing.{Wrote};
+ghost use Rattle.zy_io.specs.Writing.{Wrote};
 ghost use Rattle.zy_engine.specs.Faults.{ReadsInput, failed_reads, failed_writes, IsQuiet, IfInput};
 ghost use Rattle.zy_engine.specs.Run.{listing_run};
 
@@ -13,10 +13,10 @@ use crate::faults::BenchFault;
 use std::alloc::Global;
 use zy_asm::assembling::assemble_bytes;
 use zy_audit::listing::write_listing;
-use zy_isa::reading::read_all;
+use zy_io::reading::read_all;
+use zy_io::stream::{Sink, Source};
+use zy_io::writing::TextFault;
 use zy_isa::scenario::Scenario;
-use zy_isa::stream::{Sink, Source};
-use zy_isa::writing::TextFault;
 use zy_machine::machine::Machine;
 
 /// Reads a scenario text whole, makes its choices, and writes its listing. Nothing is written before the input is read

@@ -5,8 +5,8 @@ ghost use Rattle.zy_engine.specs.Faults.{of_reading, of_refusal, of_writing, sta
 use std::alloc::AllocError;
 use thiserror::Error;
 use zy_asm::faults::{AsmKind, Refusal};
-use zy_isa::reading::ReadFault;
-use zy_isa::writing::TextFault;
+use zy_io::reading::ReadFault;
+use zy_io::writing::TextFault;
 
 /// Why an engine gave up. Its text names the fault, and says what is wrong.
 #[derive(Clone, Copy, Debug, PartialEq, Eq, Error)]

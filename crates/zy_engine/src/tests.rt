@@ -5,8 +5,8 @@ use crate::faults::BenchFault;
 use std::io;
 use std::io::{ErrorKind, Read, Write};
 use std::test::Fail;
-use zy_isa::memory::{SliceSource, VecSink};
-use zy_isa::stream::{CountingReader, CountingWriter};
+use zy_io::memory::{SliceSource, VecSink};
+use zy_io::stream::{CountingReader, CountingWriter};
 
 const SMALLEST: &[u8] = b"zephyr 1\ncap 2\npages 1\nrule held\nend\n";
 

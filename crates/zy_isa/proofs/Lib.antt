@@ -1,4 +1,2 @@
 pub mod ScenarioLemmas
-pub mod StreamLemmas
-pub mod WritingLemmas
 pub mod WordLemmas

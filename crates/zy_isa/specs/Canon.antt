@@ -14,7 +14,7 @@ use Rattle.zy_isa.specs.declared.instr.Instr.TheVariants.{Set, Read, Write, Inse
 use Rattle.zy_isa.specs.declared.choice.Choice.{Choice}
 use Rattle.zy_isa.specs.declared.choice.Choice.TheVariants.{Start, Begin, Kill, Run, Take, Finish, Push}
 use Rattle.zy_isa.specs.Words.{spaced}
-use Rattle.zy_isa.specs.Writing.{line_of}
+use Rattle.zy_io.specs.Writing.{line_of}
 use Rattle.zy_isa.specs.Scenario.{Scenario}
 
 abbrev pub node_text : Node → List ℕ

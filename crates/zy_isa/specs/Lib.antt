@@ -3,8 +3,6 @@ pub mod Programs
 pub mod Choices
 pub mod Rows
 pub mod Scenario
-pub mod Streams
-pub mod Writing
 pub mod Words
 pub mod Canon
 pub mod InstrWords

@@ -1,16 +1,14 @@
 //! Programs and scenarios with ample memory, and without.
 use crate::choice::Choice;
 use crate::instr::{Instr, Reg};
-use crate::line::Line;
-use crate::memory::SliceSource;
 use crate::node::{Actor, Node};
 use crate::program::{ProgFault, Program};
-use crate::reading::{ReadFault, read_all};
 use crate::row::Row;
 use crate::rule::Rule;
 use crate::scenario::{Scenario, ScenarioFault, opening_pages_for, opening_rows};
 use std::alloc::{AllocError, Global};
 use std::test::Fail;
+use zy_io::line::Line;
 
 const COUNTING: [Instr; 4] = [
     Instr::Set(Reg::R1, 4_294_967_295),
@@ -266,21 +264,4 @@ fn refused_scenario_copy(rt: HostRuntime) {
         assert!(rt; is_sample(&copy));
     }
     assert!(rt; is_sample(&scenario));
-}
-
-/// Any of its growths may be refused: what is left of the source is an end of it.
-#[test]
-fn refused_reading(rt: HostRuntime) {
-    let input = [7u8; 20_000];
-    let mut source = SliceSource::new(input.as_slice());
-    match read_all(rt.alloc(), &mut source) {
-        Ok(bytes) => {
-            assert_eq!(rt; bytes.as_slice(), input.as_slice());
-            assert!(rt; source.left().is_empty());
-        }
-        Err(fault) => {
-            assert_eq!(rt; fault, ReadFault::Memory);
-            assert!(rt; input.ends_with(source.left()));
-        }
-    }
 }

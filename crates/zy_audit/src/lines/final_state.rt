@@ -5,10 +5,10 @@ use crate::lines::link::LinkLine;
 use crate::lines::mode::ModeLine;
 use crate::lines::page::Pages;
 use crate::lines::txn::Txns;
+use zy_io::section::{Both, One, Section};
+use zy_io::stream::Sink;
+use zy_io::writing::TextFault;
 use zy_isa::node::Node;
-use zy_isa::section::{Both, One, Section};
-use zy_isa::stream::Sink;
-use zy_isa::writing::TextFault;
 use zy_machine::machine::Machine;
 
 /// The modes, the pages, the links and the transactions of a machine.

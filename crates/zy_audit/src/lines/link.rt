@@ -1,12 +1,12 @@
 //! A link between the nodes, with the messages that are on their way.
-ghost use Rattle.zy_isa.specs.Writing.{Appended};
+ghost use Rattle.zy_io.specs.Writing.{Appended};
 ghost use Rattle.zy_links.specs.Messages.{message_of, messages_of};
 ghost use Rattle.zy_table.specs.State.{facing};
 ghost use Rattle.zy_audit.specs.Texts.{link_text, message_text, messages_text};
 
 use crate::lines::words::LinkText;
 use std::alloc::AllocError;
-use zy_isa::line::{Decimal, Joined, Line};
+use zy_io::line::{Decimal, Joined, Line};
 use zy_isa::node::Node;
 use zy_links::link::Link;
 use zy_links::message::Message;

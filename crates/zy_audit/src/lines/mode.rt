@@ -3,7 +3,7 @@ ghost use Rattle.zy_audit.specs.Texts.{mode_text};
 
 use crate::lines::words::ModeText;
 use std::alloc::AllocError;
-use zy_isa::line::{Joined, Line};
+use zy_io::line::{Joined, Line};
 use zy_isa::node::Node;
 use zy_modes::mode::NodeMode;
 

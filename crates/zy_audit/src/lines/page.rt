@@ -1,6 +1,6 @@
 //! A page, wherever it is.
 ghost use Rattle.std.specs.Prelude.{IsSome};
-ghost use Rattle.zy_isa.specs.Writing.{Appended};
+ghost use Rattle.zy_io.specs.Writing.{Appended};
 ghost use Rattle.zy_table.specs.Pages.{page_in};
 ghost use Rattle.zy_table.specs.Database.{all_leaves};
 ghost use Rattle.zy_audit.specs.Texts.{leaf_text, page_text};
@@ -9,10 +9,10 @@ ghost use Rattle.zy_audit.specs.Listing.{page_texts};
 use crate::lines::rows::Rows;
 use crate::lines::words::PlaceText;
 use std::alloc::AllocError;
-use zy_isa::line::{Decimal, Joined, Line};
-use zy_isa::section::{Lines, Section, write_lines};
-use zy_isa::stream::Sink;
-use zy_isa::writing::TextFault;
+use zy_io::line::{Decimal, Joined, Line};
+use zy_io::section::{Lines, Section, write_lines};
+use zy_io::stream::Sink;
+use zy_io::writing::TextFault;
 use zy_machine::machine::Machine;
 use zy_page::page::Page;
 use zy_table::place::Place;

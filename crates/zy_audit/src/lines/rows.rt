@@ -2,7 +2,7 @@
 ghost use Rattle.zy_audit.specs.Texts.{cell_text, regs_text, rows_text};
 
 use std::alloc::AllocError;
-use zy_isa::line::{Decimal, Joined, Line};
+use zy_io::line::{Decimal, Joined, Line};
 use zy_isa::row::Row;
 
 /// One row.

@@ -2,7 +2,7 @@
 ghost use Rattle.zy_audit.specs.Texts.{serial_text};
 
 use std::alloc::AllocError;
-use zy_isa::line::Line;
+use zy_io::line::Line;
 
 /// Whether the serial run gives the same.
 #[derive(Clone, Copy)]

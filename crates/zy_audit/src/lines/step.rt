@@ -5,10 +5,10 @@ ghost use Rattle.zy_audit.specs.Listing.{step_texts};
 
 use crate::lines::words::{KindText, WhyText};
 use std::alloc::AllocError;
-use zy_isa::line::{Decimal, Joined, Line};
-use zy_isa::section::{Lines, Section, write_lines};
-use zy_isa::stream::Sink;
-use zy_isa::writing::TextFault;
+use zy_io::line::{Decimal, Joined, Line};
+use zy_io::section::{Lines, Section, write_lines};
+use zy_io::stream::Sink;
+use zy_io::writing::TextFault;
 use zy_links::kind::Kind;
 use zy_table::entry::Entry;
 use zy_table::outcome::Outcome;

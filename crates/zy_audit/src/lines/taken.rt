@@ -4,10 +4,10 @@ ghost use Rattle.zy_isa.specs.Canon.{choice_text};
 ghost use Rattle.zy_machine.specs.Histories.{choices_of};
 
 use std::alloc::AllocError;
-use zy_isa::line::Line;
-use zy_isa::section::{Lines, Section, write_lines};
-use zy_isa::stream::Sink;
-use zy_isa::writing::TextFault;
+use zy_io::line::Line;
+use zy_io::section::{Lines, Section, write_lines};
+use zy_io::stream::Sink;
+use zy_io::writing::TextFault;
 use zy_table::entry::Entry;
 
 /// The choices of these steps, in order.

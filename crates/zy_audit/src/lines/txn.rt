@@ -1,16 +1,16 @@
 //! A transaction.
 ghost use Rattle.std.specs.Prelude.{◌≡◌, ◌==◌, ◌<◌, IfSome, length, position};
-ghost use Rattle.zy_isa.specs.Writing.{Appended};
+ghost use Rattle.zy_io.specs.Writing.{Appended};
 ghost use Rattle.zy_audit.specs.Texts.{commit_place as commit_place_spec, done_text, active_text, committed_text, aborted_text, status_text, txn_text};
 ghost use Rattle.zy_audit.specs.Listing.{txn_texts};
 
 use crate::lines::rows::{Regs, Rows};
 use crate::lines::words::WhyText;
 use std::alloc::AllocError;
-use zy_isa::line::{Decimal, Joined, Line};
-use zy_isa::section::{Lines, Section, write_lines};
-use zy_isa::stream::Sink;
-use zy_isa::writing::TextFault;
+use zy_io::line::{Decimal, Joined, Line};
+use zy_io::section::{Lines, Section, write_lines};
+use zy_io::stream::Sink;
+use zy_io::writing::TextFault;
 use zy_machine::machine::Machine;
 use zy_table::entry::CommitRec;
 use zy_table::outcome::Why;

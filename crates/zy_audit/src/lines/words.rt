@@ -2,7 +2,7 @@
 ghost use Rattle.zy_audit.specs.Texts.{kind_text, link_word, mode_word, place_text, why_text};
 
 use std::alloc::AllocError;
-use zy_isa::line::{Decimal, Joined, Line};
+use zy_io::line::{Decimal, Joined, Line};
 use zy_isa::node::Node;
 use zy_links::kind::Kind;
 use zy_modes::mode::NodeMode;

@@ -1,6 +1,6 @@
 -- The lines that were written are the listing.
 use Rattle.std.proofs.Common.{ℕ, List, subst}
-use Rattle.zy_isa.specs.Writing.{Wrote}
+use Rattle.zy_io.specs.Writing.{Wrote}
 use Rattle.zy_audit.proofs.ListingLemmas.{listing-lines}
 use Rattle.zy_audit.proofs.listing.write_listing_as.Goals as goal
 

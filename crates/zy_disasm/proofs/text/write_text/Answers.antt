@@ -1,6 +1,6 @@
 -- The lines that were written are the canonical text.
 use Rattle.std.proofs.Common.{ℕ, List, subst}
-use Rattle.zy_isa.specs.Writing.{Wrote}
+use Rattle.zy_io.specs.Writing.{Wrote}
 use Rattle.zy_disasm.proofs.CanonLemmas.{canon-parts}
 use Rattle.zy_disasm.proofs.text.write_text.Goals as goal
 

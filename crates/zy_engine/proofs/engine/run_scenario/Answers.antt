@@ -1,6 +1,6 @@
 -- What was written is the listing of the whole run.
 use Rattle.std.proofs.Common.{ℕ, List, subst}
-use Rattle.zy_isa.specs.Writing.{Wrote}
+use Rattle.zy_io.specs.Writing.{Wrote}
 use Rattle.zy_engine.proofs.RunLemmas.{listing-whole}
 use Rattle.zy_engine.proofs.engine.run_scenario.Goals as goal
 

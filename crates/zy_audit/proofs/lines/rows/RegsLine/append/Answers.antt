@@ -1,7 +1,7 @@
 -- The fault of one register's text is that of all.
 use Rattle.std.proofs.Common.{Err, ap, ◌∙◌}
 use Rattle.std.proofs.lemmas.Result.{err_from_is_err_and}
-use Rattle.zy_isa.proofs.WritingLemmas.{Appended-element-stops}
+use Rattle.zy_io.proofs.WritingLemmas.{Appended-element-stops}
 use Rattle.zy_audit.specs.Texts.{reg_text}
 use Rattle.zy_audit.proofs.lines.rows.RegsLine.append.Goals as goal
 

@@ -1,6 +1,6 @@
 -- A place among the texts is that of a step.
 use Rattle.std.proofs.Common.{◌<◌, length, arith, rules}
-use Rattle.zy_isa.specs.Writing.{Appended}
+use Rattle.zy_io.specs.Writing.{Appended}
 use Rattle.zy_audit.proofs.ListingLemmas.{length-steps, step-line}
 use Rattle.zy_audit.proofs.lines.step.StepsLines.append.Goals as goal
 

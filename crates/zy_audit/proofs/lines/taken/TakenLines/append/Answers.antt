@@ -1,5 +1,5 @@
 -- A place among the texts is that of a step.
-use Rattle.zy_isa.specs.Writing.{Appended}
+use Rattle.zy_io.specs.Writing.{Appended}
 use Rattle.zy_audit.proofs.ListingLemmas.{taken-line}
 use Rattle.zy_audit.proofs.lines.taken.TakenLines.append.Goals as goal
 

@@ -1,0 +1,108 @@
+-- One text written after another: the fault of either is that of both.
+use Rattle.std.proofs.Common.{◌≡◌, ℕ, ◌+◌, List, [], ◌∷◌, ◌++◌, Option, Result, Ok, Err, refl, sym, ap, ◌∙◌, append_assoc, append-nil, take, drop, arith, zero, suc, ◌<◌, length, get_or}
+use Rattle.std.specs.List.{flat_map}
+use Rattle.std.proofs.lemmas.Grind.{flat_map-append}
+use Rattle.std.specs.Io.KnownBytes.{Appends}
+use Rattle.std.proofs.KnownBytes.{Appends-trans, Appends-nil}
+use Rattle.zy_io.specs.Streams.{WroteFront}
+use Rattle.zy_io.specs.declared.writing.TextFault.{TextFault}
+use Rattle.zy_io.specs.declared.writing.TextFault.TheVariants.{Write, Memory}
+use Rattle.std.specs.declared.alloc.Global.{Global}
+use Rattle.std.specs.declared.string.String.{String}
+use Rattle.std.specs.String.{string_bytes}
+use Rattle.std.specs.Prelude.{is_ok, if◌then◌else◌}
+use Rattle.zy_io.specs.Writing.{Appended, AppendedFront, Wrote}
+
+-- all of the text was appended, or nothing
+pub Appended-whole : {X E : Type 0} (r : Result X E) (a b : String Global) (text : List ℕ) → string_bytes b ≡ (if is_ok r then string_bytes a ++ text else string_bytes a) → Appended r a b text
+Appended-whole (Ok x) a b text e = e
+Appended-whole (Err x) a b text e = ([], text, refl, e ∙ sym (append-nil (string_bytes a)))
+
+-- the first text's fault is that of both
+pub Appended-stops : {X E : Type 0} (a b : String Global) (e : E) (r : Result X E) (xs ys : List ℕ) → AppendedFront a b xs → r ≡ Err e → Appended r a b (xs ++ ys)
+Appended-stops a b e r xs ys (front, back, is, now) err =
+    rw err (front, back ++ ys, ap (λ l. l ++ ys) is ∙ append_assoc front back ys, now)
+
+-- what came of the second text, which follows the whole of the first, came of both
+pub Appended-then : {X E : Type 0} (a b c : String Global) (r : Result X E) (xs ys : List ℕ) → string_bytes b ≡ string_bytes a ++ xs → Appended r b c ys → Appended r a c (xs ++ ys)
+Appended-then a b c (Ok x) xs ys first second = second ∙ ap (λ l. l ++ ys) first ∙ append_assoc (string_bytes a) xs ys
+Appended-then a b c (Err e) xs ys first (front, back, is, now) = (
+  xs ++ front,
+  back,
+  ap (λ l. xs ++ l) is ∙ sym (append_assoc xs front back),
+  now ∙ ap (λ l. l ++ front) first ∙ append_assoc (string_bytes a) xs front,
+)
+
+-- a front of the second part, after the whole first
+pub WroteFront-after : (a b c : Option (List ℕ)) (xs ys more text : List ℕ) → Appends a b xs → WroteFront b c ys → text ≡ xs ++ (ys ++ more) → WroteFront a c text
+WroteFront-after a b c xs ys more text p q e = (
+  xs ++ q.0,
+  q.1 ++ more,
+  e ∙ ap (λ l. xs ++ (l ++ more)) q.2 ∙ ap (λ l. xs ++ l) (append_assoc q.0 q.1 more) ∙ sym (append_assoc xs q.0 (q.1 ++ more)),
+  Appends-trans a b c xs q.0 p q.3,
+)
+
+-- the fault of a part ys of the text, which follows the whole of xs, is that of the text
+pub Wrote-stops : {Y : Type 0} (a b c : Option (List ℕ)) (m n k : ℕ) (f : TextFault) (r : Result Y TextFault) (xs ys more text : List ℕ)
+    → Appends a b xs → n ≡ m → Wrote b c n k {X = Unit {0}} (Err f) ys → text ≡ xs ++ (ys ++ more) → r ≡ Err f → Wrote a c m k r text
+Wrote-stops a b c m n k Write r xs ys more text p same q e is =
+    rw is (WroteFront-after a b c xs ys more text p q.0 e, q.1 ∙ ap (λ x. x + 1) same)
+Wrote-stops a b c m n k Memory r xs ys more text p same q e is =
+    rw is (WroteFront-after a b c xs ys more text p q.0 e, q.1 ∙ same)
+
+-- the first text's fault is that of both
+pub Wrote-first-stops : {Y : Type 0} (a b : Option (List ℕ)) (m n : ℕ) (f : TextFault) (r : Result Y TextFault) (xs ys : List ℕ)
+    → Wrote a b m n {X = Unit {0}} (Err f) xs → r ≡ Err f → Wrote a b m n r (xs ++ ys)
+Wrote-first-stops a b m n f r xs ys q is = Wrote-stops a a b m m n f r [] xs ys (xs ++ ys) (Appends-nil a) refl q refl is
+
+-- the second text's fault is that of both
+pub Wrote-second-stops : {Y : Type 0} (a b c : Option (List ℕ)) (m n k : ℕ) (f : TextFault) (r : Result Y TextFault) (xs ys : List ℕ)
+    → Appends a b xs × (n ≡ m) → Wrote b c n k {X = Unit {0}} (Err f) ys → r ≡ Err f → Wrote a c m k r (xs ++ ys)
+Wrote-second-stops a b c m n k f r xs ys p q is =
+    Wrote-stops a b c m n k f r xs ys [] (xs ++ ys) p.0 p.1 q (ap (λ l. xs ++ l) (sym (append-nil ys))) is
+
+-- one text after another, both whole
+pub Wrote-both : (a b c : Option (List ℕ)) (m n k : ℕ) (xs ys : List ℕ) → Appends a b xs × (n ≡ m) → Appends b c ys × (k ≡ n) → Appends a c (xs ++ ys) × (k ≡ m)
+Wrote-both a b c m n k xs ys p q = (Appends-trans a b c xs ys p.0 q.0, q.1 ∙ p.1)
+
+-- one text after another, whatever came of the second
+pub Wrote-then : {X : Type 0} (a b c : Option (List ℕ)) (m n k : ℕ) (r : Result X TextFault) (xs ys : List ℕ) → Appends a b xs × (n ≡ m) → Wrote b c n k r ys → Wrote a c m k r (xs ++ ys)
+Wrote-then a b c m n k (Ok u) xs ys p q = Wrote-both a b c m n k xs ys p q
+Wrote-then {X} a b c m n k (Err f) xs ys p q = Wrote-second-stops {Y = X} a b c m n k f (Err f) xs ys p q refl
+
+-- nothing is written, and all is well
+pub Wrote-nothing : {X : Type 0} (a : Option (List ℕ)) (m : ℕ) (x : X) → Wrote a a m m (Ok x) []
+Wrote-nothing a m x = (Appends-nil a, refl)
+
+-- the text of a list is that of its front, of one element and of what follows
+pub flat_map-split : {X : Type 0} (f : X → List ℕ) (xs : List X) (i : ℕ) (d : X) → i < length xs
+    → flat_map f xs ≡ flat_map f (take i xs) ++ (f (get_or xs i d) ++ flat_map f (drop (suc i) xs))
+flat_map-split f [] i d h = absurd (omega arith)
+flat_map-split f (x ∷ xs) zero d h = refl
+flat_map-split f (x ∷ xs) (suc i) d h =
+    ap (λ l. f x ++ l) (flat_map-split f xs i d (omega arith)) ∙ sym (append_assoc (f x) (flat_map f (take i xs)) (f (get_or xs i d) ++ flat_map f (drop (suc i) xs)))
+
+-- the fault of one element's text, which follows those before it, is that of the whole list
+pub Wrote-element-stops : {Y Z : Type 0} (f : Z → List ℕ) (xs : List Z) (i : ℕ) (d : Z) (a b c : Option (List ℕ)) (m n k : ℕ) (fault : TextFault) (r : Result Y TextFault)
+    → i < length xs → Appends a b (flat_map f (take i xs)) → n ≡ m → Wrote b c n k {X = Unit {0}} (Err fault) (f (get_or xs i d)) → r ≡ Err fault → Wrote a c m k r (flat_map f xs)
+Wrote-element-stops f xs i d a b c m n k fault r h p same q is =
+    Wrote-stops a b c m n k fault r _ _ (flat_map f (drop (suc i) xs)) _ p same q (flat_map-split f xs i d h) is
+
+-- the lines of a list of parts are those of each part, one after another
+pub flat_map-flat_map : {X : Type 0} (f : X → List ℕ) (parts : List (List X)) → flat_map f (flat_map (λ part. part) parts) ≡ flat_map (flat_map f) parts
+flat_map-flat_map f [] = refl
+flat_map-flat_map f (part ∷ parts) =
+    flat_map-append f part (flat_map (λ x. x) parts) ∙ ap (λ l. flat_map f part ++ l) (flat_map-flat_map f parts)
+
+-- the fault of one element's text, which stands behind those before it, is that of the whole list
+pub Appended-element-stops : {X E Z : Type 0} (f : Z → List ℕ) (xs : List Z) (i : ℕ) (d : Z) (a b c : String Global) (e : E) (r : Result X E)
+    → i < length xs → string_bytes b ≡ string_bytes a ++ flat_map f (take i xs) → AppendedFront b c (f (get_or xs i d)) → r ≡ Err e → Appended r a c (flat_map f xs)
+Appended-element-stops f xs i d a b c e r h so_far (front, back, is, now) err =
+    let after = flat_map f (drop (suc i) xs) in
+    let before = flat_map f (take i xs) in
+    rw err (
+      before ++ front,
+      back ++ after,
+      flat_map-split f xs i d h ∙ ap (λ l. before ++ (l ++ after)) is ∙ ap (λ l. before ++ l) (append_assoc front back after) ∙ sym (append_assoc before front (back ++ after)),
+      now ∙ ap (λ l. l ++ front) so_far ∙ append_assoc (string_bytes a) before front,
+    )

@@ -1,0 +1,12 @@
+-- The fault of one line is that of all.
+use Rattle.std.proofs.Common.{[], Err, ap, ◌∙◌, arith}
+use Rattle.std.proofs.lemmas.Result.{err_from_is_err_and}
+use Rattle.zy_io.specs.Writing.{line_of}
+use Rattle.zy_io.proofs.WritingLemmas.{Wrote-element-stops}
+use Rattle.zy_io.proofs.section.write_lines.Goals as goal
+
+pub returns-in_err-write_place : goal.returns-in_err-write_place
+returns-in_err-write_place g c =
+    let p = err_from_is_err_and c.from_residual.result c.from_residual.ensures.1 in
+    Wrote-element-stops line_of (g.L.Lines.texts c.args.lines.now) c.loop-place.place [] _ _ _ _ _ _ c.in_err-write_place.field-0.0 _ (omega arith) c.loop-place.invariant.so_far
+    c.loop-place.invariant.none_failed c.in_err-write_place.ensures (p.1 ∙ ap Err p.2)

@@ -1,0 +1,11 @@
+-- One more call took a front of the rest.
+use Rattle.std.proofs.Common.{rules}
+use Rattle.zy_io.proofs.StreamLemmas.{Remains-more}
+use Rattle.zy_io.proofs.writing.write_all.Goals as goal
+
+pub loop-rest-preserved : goal.loop-rest-preserved
+loop-rest-preserved g c = record {
+  so_far =
+      rw c.split_at.ensures.back (Remains-more _ _ _ _ _ c.in-Ok.count c.loop-rest.invariant.so_far c.in-Ok.ensures.bytes);
+  none_failed = search rules;
+}

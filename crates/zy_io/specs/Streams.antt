@@ -1,0 +1,56 @@
+-- What calls of a source and a sink do to the bytes that they tell, and to the number of calls that failed.
+use Rattle.std.specs.Prelude.{◌≡◌, ℕ, ◌==◌, ◌+◌, ◌≤◌, List, ◌++◌, length, vec_len, Result, Ok, Err, Option, ◌&&◌, not, if◌then◌else◌}
+use Rattle.std.specs.declared.vec.Vec.{Vec}
+use Rattle.std.specs.declared.alloc.Global.{Global}
+use Rattle.std.specs.Io.KnownBytes.{Appends, Consumes, IsAtEnd}
+use Rattle.zy_io.specs.declared.reading.ReadFault.{ReadFault}
+use Rattle.zy_io.specs.declared.reading.ReadFault.TheVariants.{Read, TooLong, Memory}
+
+-- the call failed
+abbrev pub pull_faults : {E : Type 0} → Result ℕ E → ℕ
+pull_faults (Ok n) = 0
+pull_faults (Err e) = 1
+
+-- the call failed or, given bytes to write, took none
+abbrev pub put_faults : {E : Type 0} → Result ℕ E → List ℕ → ℕ
+put_faults (Ok n) bytes = if n == 0 && not (length bytes == 0) then 1 else 0
+put_faults (Err e) bytes = 1
+
+-- some bytes were taken, at most so many
+abbrev pub TookAtMost : Option (List ℕ) → Option (List ℕ) → ℕ → Type 0
+TookAtMost old new most = (taken : List ℕ) × Consumes old new taken × (length taken ≤ most)
+
+-- some bytes were taken, so many
+abbrev pub Took : Option (List ℕ) → Option (List ℕ) → ℕ → Type 0
+Took old new count = (taken : List ℕ) × Consumes old new taken × (length taken ≡ count)
+
+-- the input was read to its end, and has at most 4194304 bytes
+abbrev pub ReadWhole : Option (List ℕ) → Option (List ℕ) → Type 0
+ReadWhole old new = TookAtMost old new 4194304 × IsAtEnd new
+
+-- at most 4194304 bytes were read
+abbrev pub ReadSome : Option (List ℕ) → Option (List ℕ) → Type 0
+ReadSome old new = TookAtMost old new 4194304
+
+-- reading stopped at the first byte after 4194304
+abbrev pub ReadTooMuch : Option (List ℕ) → Option (List ℕ) → Type 0
+ReadTooMuch old new = Took old new 4194305
+
+-- a front of the text went out
+abbrev pub WroteFront : Option (List ℕ) → Option (List ℕ) → List ℕ → Type 0
+WroteFront old new text = (front : List ℕ) × (back : List ℕ) × (text ≡ front ++ back) × Appends old new front
+
+-- A call went from the bytes old and the number of failures before to new and after.
+module _ (old new : Option (List ℕ)) (before after : ℕ) where
+  -- at Ok these are all the bytes that were left, and none is left; else a front of them was taken.
+  -- TooLong comes where more than 4194304 were, and Read where a call failed
+  abbrev pub ReadsAll : Result (Vec ℕ Global) ReadFault → Type 0
+  ReadsAll (Ok bytes) = Consumes old new bytes.items × IsAtEnd new × (vec_len bytes ≤ 4194304) × (after ≡ before)
+  ReadsAll (Err Read) = ReadSome old new × (after ≡ before + 1)
+  ReadsAll (Err TooLong) = ReadTooMuch old new × (after ≡ before)
+  ReadsAll (Err Memory) = ReadSome old new × (after ≡ before)
+
+  -- at Ok all of the text went out; else a front of it, since a call failed or took none
+  abbrev pub WritesAll : {X E : Type 0} → Result X E → List ℕ → Type 0
+  WritesAll (Ok x) text = Appends old new text × (after ≡ before)
+  WritesAll (Err e) text = WroteFront old new text × (after ≡ before + 1)

@@ -1,0 +1,30 @@
+-- What a call that writes lines of text did.
+use Rattle.std.specs.Prelude.{◌≡◌, ℕ, ◌+◌, List, [], ◌∷◌, ◌++◌, Option, Result, Ok, Err}
+use Rattle.std.specs.declared.alloc.Global.{Global}
+use Rattle.std.specs.declared.string.String.{String}
+use Rattle.std.specs.Io.KnownBytes.{Appends}
+use Rattle.std.specs.String.{string_bytes}
+use Rattle.zy_io.specs.Streams.{WroteFront}
+use Rattle.zy_io.specs.declared.writing.TextFault.{TextFault}
+use Rattle.zy_io.specs.declared.writing.TextFault.TheVariants.{Write, Memory}
+
+-- a text and the end of its line
+abbrev pub line_of : List ℕ → List ℕ
+line_of text = text ++ 10 ∷ []
+
+-- a front of the text was put behind what the string held
+abbrev pub AppendedFront : String Global → String Global → List ℕ → Type 0
+AppendedFront old new text = (front : List ℕ) × (back : List ℕ) × (text ≡ front ++ back) × (string_bytes new ≡ string_bytes old ++ front)
+
+-- at Ok all of the text was; else a front of it
+abbrev pub Appended : {X E : Type 0} → Result X E → String Global → String Global → List ℕ → Type 0
+Appended (Ok x) old new text = string_bytes new ≡ string_bytes old ++ text
+Appended (Err e) old new text = AppendedFront old new text
+
+-- A call that writes went from the bytes old and the number of failures before to new and after.
+module _ (old new : Option (List ℕ)) (before after : ℕ) where
+  -- at Ok all of the text went out; else a front of it, and Write comes where a call failed or took none
+  abbrev pub Wrote : {X : Type 0} → Result X TextFault → List ℕ → Type 0
+  Wrote (Ok x) text = Appends old new text × (after ≡ before)
+  Wrote (Err Write) text = WroteFront old new text × (after ≡ before + 1)
+  Wrote (Err Memory) text = WroteFront old new text × (after ≡ before)

@@ -1,0 +1,65 @@
+//! Reads an input whole.
+ghost use Rattle.std.specs.Prelude.{◌≡◌, ◌<◌, ◌≤◌, ◌+◌, Err, ℕ, List, IfOk, IfSome, length};
+ghost use Rattle.zy_io.specs.Streams.{ReadsAll};
+
+use crate::stream::Source;
+use std::alloc::{AllocError, Global};
+use thiserror::Error;
+
+/// The most bytes of an input.
+pub const MAX_INPUT: usize = 4_194_304;
+
+/// How many bytes one call asks for.
+const PIECE: usize = 4096;
+
+/// Why an input was not read to its end.
+#[derive(Clone, Copy, Debug, PartialEq, Eq, Error)]
+pub enum ReadFault {
+    /// 1: a call failed.
+    #[error("the input could not be read")]
+    Read,
+    /// 2: there are over 4,194,304 bytes.
+    #[error("the input has at most 4194304 bytes")]
+    TooLong,
+    /// 3: there was no memory for the bytes.
+    #[error("there is no memory for the input")]
+    Memory,
+}
+
+impl From<AllocError> for ReadFault {
+    ghost use Rattle.zy_io.specs.declared.reading.ReadFault.TheVariants.{Memory};
+
+    ghost from_gives = { λ _ e. e ≡ Memory };
+
+    fn from(_e: AllocError) -> ReadFault {
+        ReadFault::Memory
+    }
+}
+
+/// Reads to the end, to a call that fails, or to the byte after the longest input.
+pub fn read_all<S: Source>(alloc: Global, source: &mut S) -> Result<Vec<u8>, ReadFault>
+    requires { S.failures source.old < u64.MAX }
+    ensures reads { ReadsAll (S.left source.old) (S.left source.new)
+        (S.failures source.old) (S.failures source.new) result }
+
+    // What is told beforehand says which bytes these are, and when they are too many.
+    ensures whole { IfOk result (λ bytes. IfSome (S.left source.old) (λ told. bytes.items ≡ told)) }
+    ensures long { result ≡ Err ReadFault.TooLong
+        → IfSome (S.left source.old) (λ told. 4194304 < length told) }
+{
+    let mut bytes = Vec::new(alloc);
+    let mut piece = [0u8; PIECE];
+    loop {
+        let room = MAX_INPUT - bytes.len();
+        let Ok(count) = source.pull(&mut piece[..PIECE.min(room + 1)]) else {
+            return Err(ReadFault::Read);
+        };
+        if count == 0 {
+            return Ok(bytes);
+        }
+        if count > room {
+            return Err(ReadFault::TooLong);
+        }
+        bytes.extend_from_slice(&piece[..count])?;
+    }
+}

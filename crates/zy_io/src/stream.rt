@@ -1,0 +1,169 @@
+//! Where bytes come from and go to, one call at a time, with a count of the calls that failed.
+ghost use Rattle.std.specs.Prelude.{◌≡◌, ◌<◌, ◌≤◌, ◌+◌, ℕ, List, Option, IfOk, length, is_err, if◌then◌else◌};
+ghost use Rattle.std.specs.Io.{ReadsAtMost, WritesAtMost};
+ghost use Rattle.std.specs.Io.KnownBytes.{ReadConsumes, WriteAppends, Keeps};
+ghost use Rattle.zy_io.specs.Streams.{pull_faults, put_faults};
+
+use std::io;
+use std::io::{Read, Write};
+use std::marker::Model;
+
+/// Where bytes come from.
+pub trait Source {
+    // The bytes that are left, where they are told.
+    ghost left: { Self → Option (List ℕ) };
+
+    // How many calls failed so far.
+    ghost failures: { Self → ℕ };
+
+    /// Fills a front of the buffer; no byte, where there is room, means the end.
+    fn pull(&mut self, buffer: &mut [u8]) -> io::Result<usize>
+        requires { failures self.old < u64.MAX }
+        ensures bound { ReadsAtMost result buffer.new }
+        ensures bytes { ReadConsumes (left self.old) (left self.new) result buffer.new }
+        ensures failed { failures self.new ≡ failures self.old + pull_faults result };
+}
+
+/// Where bytes go.
+pub trait Sink {
+    // The bytes that were written, where they are told.
+    ghost written: { Self → Option (List ℕ) };
+
+    // How many calls so far failed or, given bytes, took none.
+    ghost failures: { Self → ℕ };
+
+    /// Takes a front of the bytes.
+    fn put(&mut self, bytes: &[u8]) -> io::Result<usize>
+        requires { failures self.old < u64.MAX }
+        ensures bound { WritesAtMost result bytes.now }
+        ensures bytes { WriteAppends (written self.old) (written self.new) result bytes.now }
+        ensures failed { failures self.new ≡ failures self.old + put_faults result bytes.now };
+}
+
+/// A reader of std, with the number of its calls that failed. A clause sees the pair of both.
+#[derive(Drop)]
+pub struct CountingReader<R> {
+    reader: R,
+    failures: u64,
+}
+
+impl<R> Model for CountingReader<R> {
+    ghost use Rattle.std.specs.Prelude.{ℕ};
+
+    ghost Value = { R × ℕ };
+
+    ghost view = { λ s. (s.reader, s.failures) };
+}
+
+impl<R> CountingReader<R> {
+    /// No call has failed yet.
+    pub fn new(reader: R) -> CountingReader<R>
+        ensures { result ≡ (reader, 0) }
+    {
+        CountingReader {
+            reader,
+            failures: 0,
+        }
+    }
+
+    /// How many calls failed so far.
+    pub fn failures(&self) -> u64
+        ensures { result ≡ self.now.1 }
+    {
+        self.failures
+    }
+
+    /// The reader, with what it has left.
+    pub fn into_inner(self) -> R
+        ensures { result ≡ self.0 }
+    {
+        self.reader
+    }
+}
+
+impl<R: Read> Source for CountingReader<R> {
+    ghost left = { λ s. R.remaining s.0 };
+
+    ghost failures = { λ s. s.1 };
+
+    fn pull(&mut self, buffer: &mut [u8]) -> io::Result<usize> {
+        let outcome = self.reader.read(buffer);
+        if outcome.is_err() {
+            self.failures += 1;
+        }
+        outcome
+    }
+}
+
+/// A writer of std, with the number of its calls that failed or, given bytes, took none. A clause
+/// sees the pair of both.
+#[derive(Drop)]
+pub struct CountingWriter<W> {
+    writer: W,
+    faults: u64,
+}
+
+impl<W> Model for CountingWriter<W> {
+    ghost use Rattle.std.specs.Prelude.{ℕ};
+
+    ghost Value = { W × ℕ };
+
+    ghost view = { λ s. (s.writer, s.faults) };
+}
+
+impl<W> CountingWriter<W> {
+    /// No call has failed yet.
+    pub fn new(writer: W) -> CountingWriter<W>
+        ensures { result ≡ (writer, 0) }
+    {
+        CountingWriter { writer, faults: 0 }
+    }
+
+    /// How many calls so far failed or, given bytes, took none.
+    pub fn failures(&self) -> u64
+        ensures { result ≡ self.now.1 }
+    {
+        self.faults
+    }
+
+    /// The writer, with what it holds.
+    pub fn into_inner(self) -> W
+        ensures { result ≡ self.0 }
+    {
+        self.writer
+    }
+}
+
+impl<W: Write> CountingWriter<W> {
+    /// Passes on what the writer still keeps back; a call that fails is counted too.
+    pub fn flush(&mut self) -> io::Result<()>
+        requires { self.old.1 < u64.MAX }
+        ensures bytes { Keeps (W.contents self.old.0) (W.contents self.new.0) }
+        ensures failed { self.new.1 ≡ self.old.1 + (if is_err result then 1 else 0) }
+    {
+        let outcome = self.writer.flush();
+        if outcome.is_err() {
+            self.faults += 1;
+        }
+        outcome
+    }
+}
+
+impl<W: Write> Sink for CountingWriter<W> {
+    ghost written = { λ s. W.contents s.0 };
+
+    ghost failures = { λ s. s.1 };
+
+    fn put(&mut self, bytes: &[u8]) -> io::Result<usize> {
+        let outcome = self.writer.write(bytes);
+        match outcome {
+            Ok(count) => {
+                if count == 0 && !bytes.is_empty() {
+                    self.faults += 1;
+                }
+            }
+            Err(_) => self.faults += 1,
+        }
+        outcome
+    }
+}

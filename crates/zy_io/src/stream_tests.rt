@@ -1,0 +1,323 @@
+//! Reading and writing over streams that give and take little, fail, or never end.
+ghost use Rattle.std.specs.Prelude.{◌++◌, Some, None, codes, map};
+ghost use Rattle.std.specs.Fmt.{decimal};
+
+use crate::line::{Decimal, Joined, Line};
+use crate::memory::{SliceSource, VecSink};
+use crate::reading::{MAX_INPUT, ReadFault, read_all};
+use crate::section::{Both, Each, One, Parts, Section, write_line, write_lines, write_parts};
+use crate::stream::{CountingReader, CountingWriter, Sink, Source};
+use crate::writing::{TextFault, WriteFault, write_all};
+use std::alloc::AllocError;
+use std::io::{self, ErrorKind, Read, Write};
+use std::test::Fail;
+
+/// Gives one byte a call; one call fails.
+#[derive(Drop)]
+struct Trickle<'a> {
+    bytes: &'a [u8],
+    bad: u64,
+    kind: ErrorKind,
+    calls: u64,
+}
+
+impl Read for Trickle<'_> {
+    fn read(&mut self, buffer: &mut [u8]) -> io::Result<usize> {
+        self.calls = self.calls.saturating_add(1);
+        if self.calls == self.bad {
+            return Err(io::Error::from(self.kind));
+        }
+        let [first, rest @ ..] = self.bytes else {
+            return Ok(0);
+        };
+        if buffer.is_empty() {
+            return Ok(0);
+        }
+        buffer[0] = *first;
+        self.bytes = rest;
+        Ok(1)
+    }
+}
+
+/// Gives so many bytes, and counts them.
+#[derive(Drop)]
+struct Plenty {
+    left: usize,
+    given: usize,
+}
+
+impl Source for Plenty {
+    ghost left = { λ _. None };
+
+    ghost failures = { λ _. 0 };
+
+    fn pull(&mut self, buffer: &mut [u8]) -> io::Result<usize> {
+        let count = buffer.len().min(self.left);
+        self.left -= count;
+        self.given = self.given.saturating_add(count);
+        Ok(count)
+    }
+}
+
+/// Takes one byte a call; one call fails, or takes none.
+#[derive(Drop)]
+struct Drip {
+    held: Vec<u8>,
+    bad: u64,
+    fails: bool,
+    calls: u64,
+}
+
+impl Write for Drip {
+    fn write(&mut self, bytes: &[u8]) -> io::Result<usize> {
+        self.calls = self.calls.saturating_add(1);
+        if self.calls == self.bad {
+            return if self.fails {
+                Err(io::Error::from(ErrorKind::Interrupted))
+            } else {
+                Ok(0)
+            };
+        }
+        let [first, ..] = bytes else {
+            return Ok(0);
+        };
+        self.held.push(*first)?;
+        Ok(1)
+    }
+
+    fn flush(&mut self) -> io::Result<()> {
+        if self.fails {
+            Err(io::Error::from(ErrorKind::Other))
+        } else {
+            Ok(())
+        }
+    }
+}
+
+/// A line of a test.
+#[derive(Clone, Copy)]
+struct Pair(u16, u32);
+
+impl Line for Pair {
+    ghost text = { λ p. decimal p.0 ++ codes "=" ++ decimal p.1 };
+
+    fn append(&self, line: &mut String) -> Result<(), AllocError> {
+        Joined(Decimal(self.0), Joined("=", Decimal(self.1))).append(line)
+    }
+}
+
+/// A list of lists of lines.
+#[derive(Clone, Copy)]
+struct Groups<'a>(&'a [&'a [Pair]]);
+
+impl Parts for Groups<'_> {
+    ghost parts = { λ s. map (λ group. map (λ p. decimal p.0 ++ codes "=" ++ decimal p.1) group.now) s.0.now };
+
+    fn len(&self) -> usize {
+        self.0.len()
+    }
+
+    fn write_part<K: Sink>(
+        &self,
+        place: usize,
+        sink: &mut K,
+        line: &mut String,
+    ) -> Result<(), TextFault> {
+        Each(self.0[place]).write(sink, line)
+    }
+}
+
+const LISTING: &[u8] = b"head\n\n1=2\n3=4\n50=60\nend\n";
+
+fn listing<'a>(
+    pairs: &'a [Pair],
+) -> Both<Each<'static, &'static str>, Both<One<Pair>, Both<Each<'a, Pair>, One<&'static str>>>> {
+    Both(
+        Each(&["head", ""]),
+        Both(One(Pair(1, 2)), Both(Each(pairs), One("end"))),
+    )
+}
+
+#[test]
+fn reads_to_the_end(rt: HostRuntime) -> Result<(), Fail> {
+    let mut source = SliceSource::new(b"abc");
+    let bytes = read_all(rt.alloc(), &mut source)?;
+    assert_eq!(rt; bytes.as_slice(), b"abc".as_slice());
+    assert!(rt; source.left().is_empty());
+    let mut source = CountingReader::new(b"abc".as_slice());
+    let bytes = read_all(rt.alloc(), &mut source)?;
+    assert_eq!(rt; bytes.as_slice(), b"abc".as_slice());
+    assert_eq!(rt; source.failures(), 0);
+    assert!(rt; source.into_inner().is_empty());
+    Ok(())
+}
+
+#[test]
+fn a_failed_read_is_told_at_once(rt: HostRuntime) -> Result<(), Fail> {
+    for kind in [ErrorKind::Interrupted, ErrorKind::Other] {
+        for bad in 1..=5 {
+            let mut source = CountingReader::new(Trickle {
+                bytes: b"abc",
+                bad,
+                kind,
+                calls: 0,
+            });
+            let outcome = read_all(rt.alloc(), &mut source);
+            if bad <= 4 {
+                assert_eq!(rt; outcome.err(), Some(ReadFault::Read), "call {bad}");
+                assert_eq!(rt; source.failures(), 1);
+                assert_eq!(rt; source.into_inner().calls, bad);
+            } else {
+                assert_eq!(rt; outcome?.as_slice(), b"abc".as_slice());
+                assert_eq!(rt; source.failures(), 0);
+            }
+        }
+    }
+    Ok(())
+}
+
+#[test]
+fn the_longest_input_is_read(rt: HostRuntime) -> Result<(), Fail> {
+    let mut source = Plenty {
+        left: MAX_INPUT,
+        given: 0,
+    };
+    assert_eq!(rt; read_all(rt.alloc(), &mut source)?.len(), 4_194_304);
+    Ok(())
+}
+
+#[test]
+fn a_longer_input_is_refused(rt: HostRuntime) -> Result<(), Fail> {
+    for left in [MAX_INPUT + 1, usize::MAX] {
+        let mut source = Plenty { left, given: 0 };
+        let outcome = read_all(rt.alloc(), &mut source);
+        assert_eq!(rt; outcome.err(), Some(ReadFault::TooLong));
+        assert_eq!(rt; source.given, 4_194_305);
+    }
+    Ok(())
+}
+
+#[test]
+fn writes_whole(rt: HostRuntime) -> Result<(), Fail> {
+    let mut sink = VecSink::new(b"ab".to_vec(rt.alloc())?);
+    write_all(&mut sink, b"cd")?;
+    write_all(&mut sink, b"")?;
+    assert_eq!(rt; sink.bytes(), b"abcd".as_slice());
+    assert_eq!(rt; sink.failures(), 0);
+    assert_eq!(rt; sink.into_bytes().as_slice(), b"abcd".as_slice());
+    let mut sink = CountingWriter::new(Vec::new(rt.alloc()));
+    write_all(&mut sink, b"abcd")?;
+    sink.flush()?;
+    assert_eq!(rt; sink.failures(), 0);
+    assert_eq!(rt; sink.into_inner().as_slice(), b"abcd".as_slice());
+    Ok(())
+}
+
+#[test]
+fn writes_lines(rt: HostRuntime) -> Result<(), Fail> {
+    let mut sink = VecSink::new(Vec::new(rt.alloc()));
+    let mut line = String::from_str(rt.alloc(), "old")?;
+    listing(&[Pair(3, 4), Pair(50, 60)]).write(&mut sink, &mut line)?;
+    assert_eq!(rt; sink.bytes(), LISTING);
+    write_line(&mut sink, &mut line, &Pair(7, 8))?;
+    write_lines(&mut sink, &mut line, &Each(&["9"]))?;
+    write_lines(&mut sink, &mut line, &Each(&[Pair(0, 1)]))?;
+    let groups = Groups(&[&[Pair(0, 2)], &[], &[Pair(0, 3), Pair(0, 4)]]);
+    write_parts(&mut sink, &mut line, &groups)?;
+    let bytes = sink.into_bytes();
+    assert!(rt; bytes.ends_with(b"\nend\n7=8\n9\n0=1\n0=2\n0=3\n0=4\n"));
+    Ok(())
+}
+
+#[test]
+fn a_failed_write_leaves_a_front(rt: HostRuntime) -> Result<(), Fail> {
+    let mut line = String::new(rt.alloc());
+    for fails in [false, true] {
+        for bad in 1..=25 {
+            let mut sink = CountingWriter::new(Drip {
+                held: Vec::new(rt.alloc()),
+                bad,
+                fails,
+                calls: 0,
+            });
+            let outcome = listing(&[Pair(3, 4), Pair(50, 60)]).write(&mut sink, &mut line);
+            let wanted = if bad <= 24 {
+                Err(TextFault::Write)
+            } else {
+                Ok(())
+            };
+            assert_eq!(rt; outcome, wanted, "call {bad}");
+            assert_eq!(rt; sink.failures(), u64::from(bad <= 24));
+            let drip = sink.into_inner();
+            assert!(rt; LISTING.starts_with(&drip.held));
+            assert_eq!(rt; drip.held.len() as u64, bad - 1);
+        }
+    }
+    Ok(())
+}
+
+#[test]
+fn a_failed_flush_is_counted(rt: HostRuntime) -> Result<(), Fail> {
+    for fails in [false, true] {
+        let mut sink = CountingWriter::new(Drip {
+            held: Vec::new(rt.alloc()),
+            bad: 1,
+            fails,
+            calls: 0,
+        });
+        assert_eq!(rt; sink.flush().is_err(), fails);
+        assert_eq!(rt; sink.failures(), u64::from(fails));
+        assert_eq!(rt; write_all(&mut sink, b"a"), Err(WriteFault));
+    }
+    Ok(())
+}
+
+#[test]
+fn a_sink_counts_what_it_could_not_take(rt: HostRuntime) -> Result<(), Fail> {
+    let mut sink = CountingWriter::new(Drip {
+        held: Vec::new(rt.alloc()),
+        bad: 2,
+        fails: false,
+        calls: 0,
+    });
+    assert_eq!(rt; sink.put(b"")?, 0);
+    assert_eq!(rt; sink.failures(), 0);
+    assert_eq!(rt; sink.put(b"a")?, 0);
+    assert_eq!(rt; sink.failures(), 1);
+    Ok(())
+}
+
+#[test]
+fn faults_are_told_in_words(rt: HostRuntime) -> Result<(), Fail> {
+    let told = format!(in rt.alloc();
+        "{}; {}; {}",
+        ReadFault::Read,
+        ReadFault::TooLong,
+        ReadFault::Memory
+    )?;
+    let wanted =
+        "the input could not be read; the input has at most 4194304 bytes; there is no memory for the input";
+    assert_eq!(rt; told.as_str(), wanted);
+    let told = format!(in rt.alloc(); "{WriteFault}; {}; {}", TextFault::Write, TextFault::Memory)?;
+    let wanted =
+        "the output could not be written; the output could not be written; there is no memory for a line of the output";
+    assert_eq!(rt; told.as_str(), wanted);
+    Ok(())
+}
+
+/// Any of its growths may be refused: what is left of the source is an end of it.
+#[test]
+fn refused_reading(rt: HostRuntime) {
+    let input = [7u8; 20_000];
+    let mut source = SliceSource::new(input.as_slice());
+    match read_all(rt.alloc(), &mut source) {
+        Ok(bytes) => {
+            assert_eq!(rt; bytes.as_slice(), input.as_slice());
+            assert!(rt; source.left().is_empty());
+        }
+        Err(fault) => {
+            assert_eq!(rt; fault, ReadFault::Memory);
+            assert!(rt; input.ends_with(source.left()));
+        }
+    }
+}

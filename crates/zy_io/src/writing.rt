@@ -1,0 +1,63 @@
+//! Writes bytes whole.
+ghost use Rattle.std.specs.Prelude.{◌≡◌, ◌<◌};
+ghost use Rattle.zy_io.specs.Streams.{WritesAll};
+
+use crate::stream::Sink;
+use std::alloc::AllocError;
+use thiserror::Error;
+
+/// A call failed or, given bytes, took none.
+#[derive(Clone, Copy, Debug, PartialEq, Eq, Error)]
+#[error("the output could not be written")]
+pub struct WriteFault;
+
+/// Why a text was not written whole.
+#[derive(Clone, Copy, Debug, PartialEq, Eq, Error)]
+pub enum TextFault {
+    /// 1: a call failed or, given bytes, took none.
+    #[error("the output could not be written")]
+    Write,
+    /// 2: there was no memory for a line.
+    #[error("there is no memory for a line of the output")]
+    Memory,
+}
+
+impl From<AllocError> for TextFault {
+    ghost use Rattle.zy_io.specs.declared.writing.TextFault.TheVariants.{Memory};
+
+    ghost from_gives = { λ _ e. e ≡ Memory };
+
+    fn from(_e: AllocError) -> TextFault {
+        TextFault::Memory
+    }
+}
+
+impl From<WriteFault> for TextFault {
+    ghost use Rattle.zy_io.specs.declared.writing.TextFault.TheVariants.{Write};
+
+    ghost from_gives = { λ _ e. e ≡ Write };
+
+    fn from(_e: WriteFault) -> TextFault {
+        TextFault::Write
+    }
+}
+
+/// Writes all of the bytes, or up to the first call that fails or takes none.
+pub fn write_all<K: Sink>(sink: &mut K, bytes: &[u8]) -> Result<(), WriteFault>
+    requires { K.failures sink.old < u64.MAX }
+    ensures { WritesAll (K.written sink.old) (K.written sink.new)
+        (K.failures sink.old) (K.failures sink.new) result bytes.now }
+{
+    let mut rest = bytes;
+    while !rest.is_empty() {
+        let Ok(count) = sink.put(rest) else {
+            return Err(WriteFault);
+        };
+        if count == 0 {
+            return Err(WriteFault);
+        }
+        let (_, left) = rest.split_at(count);
+        rest = left;
+    }
+    Ok(())
+}
