@@ -3,7 +3,11 @@
 
 pub mod faults;
 mod fields;
+mod choices;
 mod head;
 mod lists;
+pub mod load;
+mod programs;
+mod rows;
 
 

@@ -1,0 +1,117 @@
+//! The choices of an image.
+ghost use Rattle.std.specs.Prelude.{◌≡◌, ◌⊎◌, Ok, Err, MatchResult};
+ghost use Rattle.zy_image.specs.declared.faults.LoadFault.TheVariants.{Memory};
+ghost use Rattle.zy_image.specs.Reading.{Gives, choice_at as choice_at_spec, choice_count as choice_count_spec, choices as choices_spec, client_choice as client_choice_spec, named as named_spec, next_choice, node_choice as node_choice_spec, plain as plain_spec};
+
+use crate::faults::LoadFault;
+use crate::fields::{field, half};
+use crate::lists::{Items, read_items};
+use std::alloc::Global;
+use zy_isa::choice::Choice;
+use zy_isa::node::Node;
+use zy_isa::scenario::MAX_CHOICES;
+
+/// A choice with a transaction, of which there are `count`.
+fn named(count: usize, txn: u8, choice: Choice) -> Option<Choice>
+    ensures { result ≡ named_spec count txn choice }
+{
+    if usize::from(txn) < count {
+        Some(choice)
+    } else {
+        None
+    }
+}
+
+/// A choice without a transaction, whose last byte is 0.
+fn plain(txn: u8, choice: Choice) -> Option<Choice>
+    ensures { result ≡ plain_spec txn choice }
+{
+    if txn == 0 { Some(choice) } else { None }
+}
+
+/// The choice of the client with this action.
+fn client_choice(count: usize, action: u8, txn: u8) -> Option<Choice>
+    ensures { result ≡ client_choice_spec count action txn }
+{
+    match action {
+        0 => plain(txn, Choice::Start),
+        1 => named(count, txn, Choice::Begin(txn)),
+        2 => named(count, txn, Choice::Kill(txn)),
+        _ => None,
+    }
+}
+
+/// The choice of a node with this action.
+fn node_choice(count: usize, node: Node, action: u8, txn: u8) -> Option<Choice>
+    ensures { result ≡ node_choice_spec count node action txn }
+{
+    match action {
+        3 => named(count, txn, Choice::Run(node, txn)),
+        4 => plain(txn, Choice::Take(node)),
+        5 => plain(txn, Choice::Finish(node)),
+        6 => plain(txn, Choice::Push(node)),
+        _ => None,
+    }
+}
+
+/// The choice of this actor with this action.
+fn choice_at(count: usize, actor: u8, action: u8, txn: u8) -> Option<Choice>
+    ensures { result ≡ choice_at_spec count actor action txn }
+{
+    match actor {
+        0 => client_choice(count, action, txn),
+        1 => node_choice(count, Node::A, action, txn),
+        2 => node_choice(count, Node::B, action, txn),
+        _ => None,
+    }
+}
+
+/// How choices are read, where there are `count` transactions.
+#[derive(Clone, Copy)]
+struct ChoiceItems {
+    count: usize,
+    size: usize,
+}
+
+impl Items for ChoiceItems {
+    type Item = Choice;
+
+    ghost next = { λ s. next_choice s.count s.size };
+
+    fn next<'a>(
+        &self,
+        before: &[Choice],
+        bytes: &'a [u8],
+    ) -> Result<(Choice, &'a [u8]), LoadFault> {
+        let ([actor, action, txn], left) = field::<3>(self.size, bytes)?;
+        match choice_at(self.count, actor, action, txn) {
+            Some(choice) => Ok((choice, left)),
+            None => Err(LoadFault::Choice(before.len())),
+        }
+    }
+}
+
+/// How many choices there are.
+fn choice_count(size: usize, bytes: &[u8]) -> Result<(usize, &[u8]), LoadFault>
+    ensures { Gives result (choice_count_spec size bytes.entry.now) }
+{
+    let (count, left) = half(size, bytes)?;
+    if usize::from(count) > MAX_CHOICES {
+        return Err(LoadFault::ChoiceCount);
+    }
+    Ok((usize::from(count), left))
+}
+
+/// The choices, by their number, where there are `count` transactions.
+pub fn choices(
+    alloc: Global,
+    count: usize,
+    size: usize,
+    bytes: &[u8],
+) -> Result<(Vec<Choice>, &[u8]), LoadFault>
+    ensures { let read = choices_spec count size bytes.entry.now in
+        MatchResult result (λ x. read ≡ Ok (x.0.items, x.1.now)) (λ e. (e ≡ Memory) ⊎ (read ≡ Err e)) }
+{
+    let (number, left) = choice_count(size, bytes)?;
+    read_items(alloc, &ChoiceItems { count, size }, number, left)
+}

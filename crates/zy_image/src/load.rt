@@ -1,0 +1,78 @@
+//! Bytes as a scenario.
+ghost use Rattle.std.specs.Prelude.{◌≡◌, ◌⊎◌, ◌≤◌, IfOk, IfErr, MatchResult, None, Some, Ok, Err, length};
+ghost use Rattle.zy_isa.specs.Scenario as isa;
+ghost use Rattle.zy_image.specs.declared.faults.LoadFault.TheVariants.{Memory};
+ghost use Rattle.zy_image.specs.Image.{IsImage, image_of};
+ghost use Rattle.zy_image.specs.Reading.{GivesScenario, image_fault, of_parts, reading};
+
+use crate::choices::choices;
+use crate::faults::LoadFault;
+use crate::head::{Head, head_fields};
+use crate::programs::programs;
+use crate::rows::rows;
+use std::alloc::Global;
+use zy_isa::choice::Choice;
+use zy_isa::program::Program;
+use zy_isa::row::Row;
+use zy_isa::scenario::Scenario;
+
+/// What an image gives.
+#[derive(Drop)]
+struct Parts {
+    head: Head,
+    rows: Vec<Row>,
+    programs: Vec<Program>,
+    choices: Vec<Choice>,
+}
+
+/// Reads all fields of an image, and nothing behind them.
+fn read(alloc: Global, bytes: &[u8]) -> Result<Parts, LoadFault>
+    ensures { MatchResult result (λ p. reading bytes.now ≡ Ok (of_parts p.head p.rows.items p.programs.items p.choices.items))
+        (λ e. (e ≡ Memory) ⊎ (reading bytes.now ≡ Err e)) }
+{
+    let size = bytes.len();
+    let (head, left) = head_fields(size, bytes)?;
+    let (rows, left) = rows(alloc, head, size, left)?;
+    let (programs, left) = programs(alloc, size, left)?;
+    let (choices, left) = choices(alloc, programs.len(), size, left)?;
+    if !left.is_empty() {
+        return Err(LoadFault::Trailing(size - left.len()));
+    }
+    Ok(Parts {
+        head,
+        rows,
+        programs,
+        choices,
+    })
+}
+
+/// The scenario whose image these bytes are. It takes memory for what the scenario has.
+pub fn load(alloc: Global, bytes: &[u8]) -> Result<Scenario, LoadFault>
+    // What is loaded has this image, and the bytes have no fault.
+    ensures found { IfOk result (λ s. IsImage bytes.now s × (image_fault bytes.now ≡ None)) }
+    // What has this image is loaded, unless there is no memory.
+    ensures only { (s : isa.Scenario) → IsImage bytes.now s → GivesScenario result s }
+    // The fault is the first one of the bytes.
+    ensures fault { IfErr result (λ e. (e ≡ Memory) ⊎ (image_fault bytes.now ≡ Some e)) }
+{
+    let Parts {
+        head,
+        rows,
+        programs,
+        choices,
+    } = read(alloc, bytes)?;
+    let Head { cap, pages, rule } = head;
+    match Scenario::new(1, cap, pages, rule, rows, programs, choices) {
+        Ok(scenario) => {
+            // A scenario that tells its version is tested.
+            let _version = scenario.version();
+            Ok(scenario)
+        }
+        Err(_) => unreachable!(),
+    }
+}
+
+/// The image of a scenario is read as it.
+pub fn image_is_read()
+    ensures { (s : isa.Scenario) → isa.IsScenario s → reading (image_of s) ≡ Ok s }
+{}

@@ -1,0 +1,83 @@
+//! The rows of an image.
+ghost use Rattle.std.specs.Prelude.{◌≡◌, ◌⊎◌, ◌≤◌, Ok, Err, IfOk, MatchResult};
+ghost use Rattle.zy_isa.specs.Rows.{is_low as is_low_spec, last_row};
+ghost use Rattle.zy_image.specs.declared.faults.LoadFault.TheVariants.{Memory};
+ghost use Rattle.zy_image.specs.Reading.{Gives, next_row, row_at as row_at_spec, row_count as row_count_spec, rows as rows_spec};
+
+use crate::faults::LoadFault;
+use crate::fields::{field, half};
+use crate::head::Head;
+use crate::lists::{Items, read_items};
+use std::alloc::Global;
+use zy_isa::row::Row;
+use zy_isa::scenario::{MAX_ROWS, opening_pages_for};
+
+/// How rows are read.
+#[derive(Clone, Copy)]
+struct RowItems {
+    size: usize,
+}
+
+/// The row of a field.
+fn row_at(field: [u8; 6]) -> Row
+    ensures { result ≡ row_at_spec field }
+{
+    let [k0, k1, v0, v1, v2, v3] = field;
+    Row {
+        key: u16::from_be_bytes([k0, k1]),
+        value: u32::from_be_bytes([v0, v1, v2, v3]),
+    }
+}
+
+/// Whether a key is not above that of the last of these rows.
+fn is_low(key: u16, before: &[Row]) -> bool
+    ensures { result ≡ is_low_spec key (last_row before.now) }
+{
+    match before.last() {
+        Some(row) => key <= row.key,
+        None => false,
+    }
+}
+
+impl Items for RowItems {
+    type Item = Row;
+
+    ghost next = { λ s. next_row s.size };
+
+    fn next<'a>(&self, before: &[Row], bytes: &'a [u8]) -> Result<(Row, &'a [u8]), LoadFault> {
+        let (field, left) = field::<6>(self.size, bytes)?;
+        let row = row_at(field);
+        if is_low(row.key, before) {
+            return Err(LoadFault::RowOrder(before.len()));
+        }
+        Ok((row, left))
+    }
+}
+
+/// How many rows there are, where there may be so many, and pages for them.
+fn row_count(head: Head, size: usize, bytes: &[u8]) -> Result<(usize, &[u8]), LoadFault>
+    requires { 2 ≤ head.cap }
+    ensures { Gives result (row_count_spec head size bytes.entry.now) }
+{
+    let (count, left) = half(size, bytes)?;
+    let count = usize::from(count);
+    if count > MAX_ROWS || opening_pages_for(head.cap, count) > usize::from(head.pages) {
+        return Err(LoadFault::RowCount);
+    }
+    Ok((count, left))
+}
+
+/// The rows, by their number.
+pub fn rows(
+    alloc: Global,
+    head: Head,
+    size: usize,
+    bytes: &[u8],
+) -> Result<(Vec<Row>, &[u8]), LoadFault>
+    requires { 2 ≤ head.cap }
+    ensures { let read = rows_spec head size bytes.entry.now in
+        MatchResult result (λ x. read ≡ Ok (x.0.items, x.1.now)) (λ e. (e ≡ Memory) ⊎ (read ≡ Err e)) }
+{
+    let (count, left) = row_count(head, size, bytes)?;
+    read_items(alloc, &RowItems { size }, count, left)
+}
