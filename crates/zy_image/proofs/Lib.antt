@@ -1,1 +1,5 @@
+pub mod FieldLemmas
+pub mod ListImages
 pub mod ListLemmas
+pub mod PartLemmas
+pub mod WholeImage

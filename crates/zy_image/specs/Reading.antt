@@ -14,6 +14,7 @@ use Rattle.zy_isa.specs.declared.program.ProgFault.{ProgFault}
 use Rattle.zy_isa.specs.declared.program.ProgFault.TheVariants as prog
 use Rattle.zy_isa.specs.declared.choice.Choice.{Choice}
 use Rattle.zy_isa.specs.declared.choice.Choice.TheVariants.{Start, Begin, Kill, Run, Take, Finish, Push}
+use Rattle.zy_isa.specs.Results.{◌>>=◌}
 use Rattle.zy_isa.specs.Rows.{last_row, is_low}
 use Rattle.zy_isa.specs.Programs.{prog_fault}
 use Rattle.zy_isa.specs.WordFields.{decoded}
@@ -26,12 +27,6 @@ use Rattle.zy_image.specs.Image.{magic}
 -- what was read, and the bytes behind it; or the first fault
 abbrev pub Read : Type 0 → Type 0
 Read X = Result (X × List ℕ) LoadFault
-
--- the next step, unless this one failed
-infixl 10 ◌>>=◌
-abbrev pub ◌>>=◌ : {A B E : Type 0} → Result A E → (A → Result B E) → Result B E
-(Ok x) >>= f = f x
-(Err e) >>= f = Err e
 
 -- ---- fields
 

@@ -1,7 +1,7 @@
 //! Why bytes are no image.
 
-use thiserror::Error;
 use std::alloc::AllocError;
+use thiserror::Error;
 use zy_isa::program::ProgFault;
 
 /// Why bytes are no image of a scenario. The first that comes in the order of reading is told; places in the input, rows,

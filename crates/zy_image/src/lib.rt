@@ -1,13 +1,12 @@
 //! Scenarios as images: bytes that a program reads quickly, each field at its own place.
 #![tactic(auto)]
 
+mod choices;
 pub mod faults;
 mod fields;
-mod choices;
 mod head;
 mod lists;
 pub mod load;
 mod programs;
 mod rows;
-
-
+pub mod save;

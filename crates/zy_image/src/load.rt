@@ -36,7 +36,7 @@ fn read(alloc: Global, bytes: &[u8]) -> Result<Parts, LoadFault>
     let (programs, left) = programs(alloc, size, left)?;
     let (choices, left) = choices(alloc, programs.len(), size, left)?;
     if !left.is_empty() {
-        return Err(LoadFault::Trailing(size - left.len()));
+        return Err(LoadFault::Trailing(size.saturating_sub(left.len())));
     }
     Ok(Parts {
         head,

@@ -1,2 +1,4 @@
 pub mod ScenarioLemmas
 pub mod WordLemmas
+pub mod ResultLemmas
+pub mod RowLemmas

@@ -1,5 +1,5 @@
 -- What the tests of a scenario show.
-use Rattle.std.proofs.Common.{◌≡◌, ◌+◌, ◌≤◌, ℕ, List, [], ◌∷◌, Bool, true, false, cond, None, refl, arith, length, inl, inr}
+use Rattle.std.proofs.Common.{◌≡◌, ◌+◌, ◌≤◌, ℕ, List, [], ◌∷◌, ◌++◌, Bool, true, false, cond, None, refl, arith, length, inl, inr}
 use Rattle.std.specs.Prelude.{not, position}
 use Rattle.std.specs.List.{position_or_len}
 use Rattle.std.proofs.lemmas.Bool.{cases_lt, lt-ltb, le-ltb}
@@ -7,7 +7,8 @@ use Rattle.zy_isa.specs.declared.row.Row.{Row}
 use Rattle.zy_isa.specs.declared.choice.Choice.{Choice}
 use Rattle.zy_isa.specs.Rows.{Rising, misplaced_row, misplaced_after}
 use Rattle.zy_isa.specs.Choices.{names_below}
-use Rattle.zy_isa.specs.Scenario.{misnamed_choice, AreNamed}
+use Rattle.zy_isa.specs.Scenario.{Scenario, misnamed_choice, AreNamed, opening_pages_for, scenario_fault}
+use Rattle.zy_isa.proofs.ResultLemmas.{out_of_neither, over_not}
 
 rising_after : (last i : ℕ) (rows : List Row) → misplaced_after last i rows ≡ None → Rising (last + 1) rows
 rising_after last i [] e = tt
@@ -41,3 +42,31 @@ named_each count (c ∷ cs) h = named_first count c cs (names_below count c) (na
 -- choices of which none is misnamed name transactions
 pub are_named : (count : ℕ) (choices : List Choice) → misnamed_choice count choices ≡ None → AreNamed count choices
 are_named count choices e = named_each count choices (none_passes _ choices e)
+
+all_named : (count : ℕ) (cs : List Choice) → AreNamed count cs → position_or_len (λ c. not (names_below count c)) cs ≡ length cs
+all_named count [] h = refl
+all_named count (c ∷ cs) h = rw h.0 (omega (arith, all_named count cs h.1))
+
+pub none_misnamed : (count : ℕ) (cs : List Choice) → AreNamed count cs → misnamed_choice count cs ≡ None
+none_misnamed count cs h = rw (all_named count cs h, over_not (length cs) (length cs) (omega arith)) refl
+
+-- a choice more that names a transaction
+pub named_more : (count : ℕ) (cs : List Choice) (c : Choice) → AreNamed count cs → names_below count c ≡ true → AreNamed count (cs ++ c ∷ [])
+named_more count [] c h n = (n, tt)
+named_more count (x ∷ cs) c h n = (h.0, named_more count cs c h.1 n)
+
+-- parts within the limits make a scenario without a fault
+pub no_fault : (s : Scenario) → s.version ≡ 1 → 2 ≤ s.cap → s.cap ≤ 16 → 1 ≤ s.pages → s.pages ≤ 512 → length s.rows ≤ 256 → opening_pages_for s.cap (length s.rows) ≤ s.pages
+    → misplaced_row s.rows ≡ None → length s.programs ≤ 64 → length s.choices ≤ 4096 → AreNamed (length s.programs) s.choices → scenario_fault s ≡ None
+no_fault s v c2 c16 p1 p512 rows pages order programs choices named =
+    rw (
+      v,
+      out_of_neither s.cap 2 16 c2 c16,
+      out_of_neither s.pages 1 512 p1 p512,
+      over_not (length s.rows) 256 rows,
+      over_not (opening_pages_for s.cap (length s.rows)) s.pages pages,
+      order,
+      over_not (length s.programs) 64 programs,
+      over_not (length s.choices) 4096 choices,
+      none_misnamed (length s.programs) s.choices named,
+    ) refl

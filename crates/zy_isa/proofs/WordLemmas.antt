@@ -12,6 +12,7 @@ use Rattle.zy_isa.specs.declared.instr.Instr.TheVariants.{Set, Read, Write, Inse
 use Rattle.zy_isa.specs.Registers.{number_of}
 use Rattle.zy_isa.specs.Programs.{HasValue}
 use Rattle.zy_isa.specs.InstrWords.{word, word_of, IsWordOf}
+use Rattle.zy_isa.specs.WordFields.{decoded}
 use Rattle.zy_isa.specs.WordFields.{register_at, pair_of, registers_at, set_at, pair_at, beq_at, bare_at, instr_at}
 use borrow.Author.Tests.{tests}
 
@@ -147,3 +148,37 @@ back Abort v = refl
 pub only : (w : List ℕ) (n : ℕ) (o : Option Instr) → n ≡ from_be_bytes w32 (number_bytes w) → o ≡ instr_at (get_or w 0 0) (get_or w 1 0) (get_or w 2 0) n
     → (i : Instr) → IsWordOf w i → o ≡ Some i
 only w n o e g i h = g ∙ ap (instr_at (get_or w 0 0) (get_or w 1 0) (get_or w 2 0)) e ∙ ap given h.1 ∙ back i h.0
+
+-- ---- eight bytes
+
+back_of_eight : (w : List ℕ) → length w ≡ 8 → drop 4 w ≡ number_bytes w
+back_of_eight w q =
+    more w 4 _ (omega (arith, q)) (more w 5 _ (omega (arith, q)) (more w 6 _ (omega (arith, q)) (more w 7 _ (omega (arith, q)) (drop_all 8 w (omega (arith, q))))))
+
+four_fit : (bs : List ℕ) → length bs ≡ 4 → ((i : ℕ) → get_or bs i 0 < 256) → from_be_bytes w32 bs < 2 ^ 32
+four_fit [] h f = absurd (omega (arith, h))
+four_fit (a ∷ []) h f = absurd (omega (arith, h))
+four_fit (a ∷ b ∷ []) h f = absurd (omega (arith, h))
+four_fit (a ∷ b ∷ c ∷ []) h f = absurd (omega (arith, h))
+four_fit (a ∷ b ∷ c ∷ d ∷ []) h f = omega (arith, f 0, f 1, f 2, f 3)
+four_fit (a ∷ b ∷ c ∷ d ∷ e ∷ bs) h f = absurd (omega (arith, h))
+
+-- the instruction of eight bytes has them as its word
+pub decoded_found : (w : List ℕ) → length w ≡ 8 → ((i : ℕ) → get_or w i 0 < 256) → IfSome (decoded w) (IsWordOf w)
+decoded_found w len fits =
+    let number = from_be_bytes w32 (drop 4 w) in
+    let e : number ≡ from_be_bytes w32 (number_bytes w) = ap (from_be_bytes w32) (back_of_eight w len) in
+    let v : number < 2 ^ 32 = rw e (four_fit (number_bytes w) refl (number_fits w fits)) in
+    cond_both (get_or w 3 0 == 0) _ _ (λ o. IfSome o (IsWordOf w))
+    (λ z. found w number _ len fits (same_number (get_or w 3 0) 0 z) e v refl) (λ _. tt)
+
+-- the word of an instruction gives it
+pub decoded_only : (i : Instr) → HasValue i → decoded (word_of i) ≡ Some i
+decoded_only (Set a n) v = back (Set a n) v
+decoded_only (Read a b) v = back (Read a b) v
+decoded_only (Write a b) v = back (Write a b) v
+decoded_only (Insert a b) v = back (Insert a b) v
+decoded_only (Add a b) v = back (Add a b) v
+decoded_only (Beq a b n) v = back (Beq a b n) v
+decoded_only Commit v = back Commit v
+decoded_only Abort v = back Abort v

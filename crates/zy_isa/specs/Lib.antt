@@ -1,4 +1,5 @@
 pub mod Registers
+pub mod Results
 pub mod Programs
 pub mod Choices
 pub mod Rows

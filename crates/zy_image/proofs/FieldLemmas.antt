@@ -1,0 +1,135 @@
+-- A field is the front of the bytes, and its number has it as its bytes.
+use Rattle.std.proofs.Common.{◌≡◌, ℕ, zero, suc, ◌+◌, ◌<◌, ◌≤◌, ◌^◌, true, false, nat_lt, List, [], ◌∷◌, ◌++◌, length, get_or, Result, Ok, Err, refl, sym, ap, ◌∙◌, subst, arith, if◌then◌else◌}
+use Rattle.std.proofs.lemmas.List.{take-append-drop, length-take-le, length-append}
+use Rattle.std.proofs.Math.Seq.{take-append_seam, drop-append_seam}
+use Rattle.std.proofs.lemmas.Nat.{be_bytes_2, be_bytes_4, from_be_bytes-to_be_bytes_2, from_be_bytes-to_be_bytes_4}
+use Rattle.std.specs.Prelude.{take, drop}
+use Rattle.std.specs.Int.{w16, w32, to_be_bytes, from_be_bytes}
+use Rattle.zy_isa.specs.Results.{◌>>=◌}
+use Rattle.zy_isa.proofs.ResultLemmas.{bind_ok, if_err, not_over, over_not}
+use Rattle.zy_image.specs.declared.faults.LoadFault.{LoadFault}
+use Rattle.zy_image.specs.declared.faults.LoadFault.TheVariants as fault
+use Rattle.zy_image.specs.Reading.{Read, field, byte, half}
+
+-- each is a byte
+abbrev pub AreBytes : List ℕ → Type 0
+AreBytes [] = Unit {0}
+AreBytes (b ∷ bs) = (b < 256) × AreBytes bs
+
+pub byte_at : (bs : List ℕ) → AreBytes bs → (i : ℕ) → get_or bs i 0 < 256
+byte_at [] h i = omega arith
+byte_at (b ∷ bs) h zero = h.0
+byte_at (b ∷ bs) h (suc i) = byte_at bs h.1 i
+
+pub are_bytes : (bs : List ℕ) → ((i : ℕ) → get_or bs i 0 < 256) → AreBytes bs
+are_bytes [] h = tt
+are_bytes (b ∷ bs) h = (h 0, are_bytes bs (λ i. h (suc i)))
+
+pub front_bytes : (xs ys : List ℕ) → AreBytes (xs ++ ys) → AreBytes xs
+front_bytes [] ys h = tt
+front_bytes (x ∷ xs) ys h = (h.0, front_bytes xs ys h.1)
+
+pub back_bytes : (xs ys : List ℕ) → AreBytes (xs ++ ys) → AreBytes ys
+back_bytes [] ys h = h
+back_bytes (x ∷ xs) ys h = back_bytes xs ys h.1
+
+-- ---- a field
+
+abbrev value_of : {A E : Type 0} → A → Result A E → A
+value_of a (Ok b) = b
+value_of a (Err e) = a
+
+-- two answers that are one have one value
+pub same_value : {A E : Type 0} (r : Result A E) (a b : A) → r ≡ Ok a → r ≡ Ok b → a ≡ b
+same_value r a b g h = sym (ap (value_of a) g) ∙ ap (value_of a) h
+
+abbrev first_of : {A B E : Type 0} → A → Result (A × B) E → A
+first_of a (Ok p) = p.0
+first_of a (Err e) = a
+
+abbrev second_of : {A B E : Type 0} → B → Result (A × B) E → B
+second_of b (Ok p) = p.1
+second_of b (Err e) = b
+
+-- two answers that are one have one value, and leave the same
+pub same_answer : {A B E : Type 0} (r : Result (A × B) E) (a c : A) (b d : B) → r ≡ Ok (a, b) → r ≡ Ok (c, d) → (a ≡ c) × (b ≡ d)
+same_answer r a c b d g h = (sym (ap (first_of a) g) ∙ ap (first_of a) h, sym (ap (second_of b) g) ∙ ap (second_of b) h)
+
+-- the front of the bytes was read: so many bytes
+pub record Front (n : ℕ) (bytes w left : List ℕ) : Type 0 where
+  pub same : bytes ≡ w ++ left
+  pub size : length w ≡ n
+  pub front : AreBytes w
+  pub back : AreBytes left
+
+pub field_found : (n size : ℕ) (bytes w left : List ℕ) → AreBytes bytes → field n size bytes ≡ Ok (w, left) → Front n bytes w left
+field_found n size bytes w left fit h =
+    let d = if_err (nat_lt (length bytes) n) (Ok (take n bytes, drop n bytes)) (fault.Truncated size) (w, left) h in
+    let p = same_answer (Ok (take n bytes, drop n bytes)) (take n bytes) w (drop n bytes) left refl d.1 in
+    let e = p.0 in
+    let f = p.1 in
+    let all : bytes ≡ w ++ left = sym (take-append-drop n bytes) ∙ rw (e, f) refl in
+    record {
+      same = all;
+      size = rw (sym e) (length-take-le n bytes (not_over n (length bytes) d.0));
+      front = front_bytes w left (subst AreBytes all fit);
+      back = back_bytes w left (subst AreBytes all fit);
+    }
+
+pub field_gives : (size : ℕ) (w left : List ℕ) → field (length w) size (w ++ left) ≡ Ok (w, left)
+field_gives size w left =
+    let enough : nat_lt (length (w ++ left)) (length w) ≡ false = over_not (length w) (length (w ++ left)) (omega (arith, length-append w left)) in
+    rw (enough, take-append_seam w left, drop-append_seam w left) refl
+
+-- ---- numbers
+
+-- a number in front of the bytes
+pub record Number (most : ℕ) (image : ℕ → List ℕ) (bytes : List ℕ) (n : ℕ) (left : List ℕ) : Type 0 where
+  pub same : bytes ≡ image n ++ left
+  pub fits : n < most
+  pub back : AreBytes left
+
+one_byte : (w : List ℕ) → length w ≡ 1 → w ≡ get_or w 0 0 ∷ []
+one_byte [] h = absurd (omega (arith, h))
+one_byte (b ∷ []) h = refl
+one_byte (b ∷ c ∷ w) h = absurd (omega (arith, h))
+
+pub byte_found : (size : ℕ) (bytes : List ℕ) (n : ℕ) (left : List ℕ) → AreBytes bytes → byte size bytes ≡ Ok (n, left) → Number 256 (λ b. b ∷ []) bytes n left
+byte_found size bytes n left fit h =
+    let f = bind_ok (field 1 size bytes) (λ f. Ok (get_or f.0 0 0, f.1)) (n, left) h in
+    let w = f.0.0 in
+    let d = field_found 1 size bytes w f.0.1 fit f.1 in
+    let p = same_answer (Ok (get_or w 0 0, f.0.1)) (get_or w 0 0) n f.0.1 left refl f.2 in
+    let e = p.0 in
+    let l = p.1 in
+    record {
+      same = d.same ∙ ap (λ x. x ++ f.0.1) (one_byte w d.size) ∙ rw (e, l) refl;
+      fits = rw (sym e) (byte_at w d.front 0);
+      back = rw (sym l) d.back;
+    }
+
+pub byte_gives : (size n : ℕ) (left : List ℕ) → byte size (n ∷ left) ≡ Ok (n, left)
+byte_gives size n left = rw (field_gives size (n ∷ []) left) refl
+
+pub half_found : (size : ℕ) (bytes : List ℕ) (n : ℕ) (left : List ℕ) → AreBytes bytes → half size bytes ≡ Ok (n, left) → Number (2 ^ 16) (to_be_bytes w16) bytes n left
+half_found size bytes n left fit h =
+    let f = bind_ok (field 2 size bytes) (λ f. Ok (from_be_bytes w16 f.0, f.1)) (n, left) h in
+    let w = f.0.0 in
+    let d = field_found 2 size bytes w f.0.1 fit f.1 in
+    let p = same_answer (Ok (from_be_bytes w16 w, f.0.1)) (from_be_bytes w16 w) n f.0.1 left refl f.2 in
+    let e = p.0 in
+    let l = p.1 in
+    record {
+      same = d.same ∙ ap (λ x. x ++ f.0.1) (sym (be_bytes_2 w n d.size (byte_at w d.front) (sym e))) ∙ rw l refl;
+      fits = rw (sym e) (half_fits w d.size d.front);
+      back = rw (sym l) d.back;
+    }
+  where
+    half_fits : (w : List ℕ) → length w ≡ 2 → AreBytes w → from_be_bytes w16 w < 2 ^ 16
+    half_fits [] h b = absurd (omega (arith, h))
+    half_fits (x ∷ []) h b = absurd (omega (arith, h))
+    half_fits (x ∷ y ∷ []) h b = omega (arith, b.0, b.1.0)
+    half_fits (x ∷ y ∷ z ∷ w) h b = absurd (omega (arith, h))
+
+pub half_gives : (size n : ℕ) (left : List ℕ) → n < 2 ^ 16 → half size (to_be_bytes w16 n ++ left) ≡ Ok (n, left)
+half_gives size n left fits = rw (field_gives size (to_be_bytes w16 n) left, from_be_bytes-to_be_bytes_2 n fits) refl

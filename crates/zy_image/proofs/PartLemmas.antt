@@ -1,0 +1,197 @@
+-- Rows, programs and choices: what was read has its image, and an image is read as what it shows.
+use Rattle.std.proofs.Common.{◌≡◌, ◌==◌, ℕ, zero, suc, ◌+◌, ◌-◌, ◌<◌, ◌≤◌, ◌^◌, ◌||◌, Bool, true, false, nat_lt, List, [], ◌∷◌, ◌++◌, length, get_or, Option, Some, None, IfSome, Result, Ok, Err, refl, sym, ap, ◌∙◌, subst, append_assoc, append-nil, arith, if◌then◌else◌, ok_or}
+use Rattle.std.proofs.lemmas.Bool.{cond_both}
+use Rattle.std.proofs.lemmas.List.{take-append-drop, length-take-le, length-drop}
+use Rattle.std.proofs.lemmas.Nat.{be_bytes_2, be_bytes_4, from_be_bytes-to_be_bytes_2, from_be_bytes-to_be_bytes_4}
+use Rattle.std.specs.Prelude.{take, drop}
+use Rattle.std.specs.List.{flat_map}
+use Rattle.std.specs.Int.{w16, w32, to_be_bytes, from_be_bytes}
+use Rattle.zy_isa.specs.Results.{◌>>=◌}
+use Rattle.zy_isa.specs.declared.row.Row.{Row}
+use Rattle.zy_isa.specs.declared.instr.Instr.{Instr}
+use Rattle.zy_isa.specs.declared.node.Node.{Node}
+use Rattle.zy_isa.specs.declared.node.Node.TheVariants as node
+use Rattle.zy_isa.specs.declared.program.ProgFault.{ProgFault}
+use Rattle.zy_isa.specs.declared.choice.Choice.{Choice}
+use Rattle.zy_isa.specs.declared.choice.Choice.TheVariants.{Start, Begin, Kill, Run, Take, Finish, Push}
+use Rattle.zy_isa.specs.declared.instr.Instr.TheVariants.{Set, Read as read, Write, Insert, Add, Beq, Commit, Abort}
+use Rattle.zy_isa.specs.InstrWords.{word_of, IsWordOf}
+use Rattle.zy_isa.specs.WordFields.{decoded}
+use Rattle.zy_isa.specs.Programs.{prog_fault, HasValue, Values}
+use Rattle.zy_isa.specs.Rows.{Rising, RowsFit, misplaced_row, last_row, is_low}
+use Rattle.zy_isa.specs.Choices.{names_below}
+use Rattle.zy_isa.specs.Scenario.{AreNamed}
+use Rattle.zy_isa.proofs.ResultLemmas.{bind_ok, if_err, ok_or_ok, not_over, over_not}
+use Rattle.zy_isa.proofs.RowLemmas.{order_more, Above, above_more}
+use Rattle.zy_isa.proofs.ScenarioLemmas.{named_more}
+use Rattle.zy_isa.proofs.WordLemmas.{decoded_found, decoded_only}
+use Rattle.zy_image.specs.declared.faults.LoadFault.{LoadFault}
+use Rattle.zy_image.specs.declared.faults.LoadFault.TheVariants as fault
+use Rattle.zy_image.specs.Image.{row_image, program_image, choice_image, node_byte}
+use Rattle.zy_image.specs.Reading.{Read, field, row_at, next_row, next_instr, next_choice, named, plain, client_choice, node_choice, choice_at}
+use Rattle.zy_image.proofs.FieldLemmas.{AreBytes, byte_at, front_bytes, back_bytes, same_answer, field_found, field_gives}
+use Rattle.zy_image.proofs.ListLemmas.{TookItem, AreRead}
+use borrow.Author.Tests.{tests}
+
+-- ---- rows
+
+row_back : (w : List ℕ) → length w ≡ 6 → AreBytes w → row_image (row_at w) ≡ w
+row_back w size fit =
+    let all = take-append-drop 2 w in
+    let b : AreBytes (take 2 w ++ drop 2 w) = subst AreBytes (sym all) fit in
+    let k = be_bytes_2 (take 2 w) (row_at w).key (length-take-le 2 w (omega (arith, size))) (byte_at (take 2 w) (front_bytes (take 2 w) (drop 2 w) b)) refl in
+    let v = be_bytes_4 (drop 2 w) (row_at w).value (length-drop 2 w ∙ omega (arith, size)) (byte_at (drop 2 w) (back_bytes (take 2 w) (drop 2 w) b)) refl in
+    ap (λ x. x ++ to_be_bytes w32 (row_at w).value) k ∙ ap (λ x. take 2 w ++ x) v ∙ all
+
+abbrev pub InOrder : List Row → Type 0
+InOrder rows = misplaced_row rows ≡ None
+
+pub row_found : (size : ℕ) (rows : List Row) (bytes : List ℕ) (r : Row) (left : List ℕ) → InOrder rows → AreBytes bytes → next_row size rows bytes ≡ Ok (r, left) → TookItem row_image InOrder rows bytes r left
+row_found size rows bytes r left order fit h =
+    let f = bind_ok (field 6 size bytes) _ (r, left) h in
+    let w = f.0.0 in
+    let d = field_found 6 size bytes w f.0.1 fit f.1 in
+    let t = if_err (is_low (row_at w).key (last_row rows)) (Ok (row_at w, f.0.1)) (fault.RowOrder (length rows)) (r, left) f.2 in
+    let s = same_answer (Ok (row_at w, f.0.1)) (row_at w) r f.0.1 left refl t.1 in
+    record {
+      same = d.same ∙ ap (λ x. x ++ f.0.1) (sym (row_back w d.size d.front)) ∙ ap (λ x. row_image x ++ f.0.1) s.0 ∙ ap (λ x. row_image r ++ x) s.1;
+      back = subst AreBytes s.1 d.back;
+      kept = subst (λ x. InOrder (rows ++ x ∷ [])) s.0 (order_more rows (row_at w) order t.0);
+    }
+
+row_shown : (r : Row) → r.key < 2 ^ 16 → r.value < 2 ^ 32 → row_at (row_image r) ≡ r
+row_shown r k v = rw (from_be_bytes-to_be_bytes_2 r.key k, from_be_bytes-to_be_bytes_4 r.value v) refl
+
+-- a row of a field, if its key is above that of the last one
+abbrev in_order : List Row → List ℕ → Row → Read Row
+in_order before left x = if is_low x.key (last_row before) then Err (fault.RowOrder (length before)) else Ok (x, left)
+
+row_gives : (size : ℕ) (before : List Row) (r : Row) (left : List ℕ) → r.key < 2 ^ 16 → r.value < 2 ^ 32 → is_low r.key (last_row before) ≡ false → next_row size before (row_image r ++ left) ≡ Ok (r, left)
+row_gives size before r left k v low =
+    let e : next_row size before (row_image r ++ left) ≡ in_order before left (row_at (row_image r)) = rw (field_gives size (row_image r) left) refl in
+    e ∙ ap (in_order before left) (row_shown r k v) ∙ rw low refl
+
+pub rows_read : (size low : ℕ) (rows before : List Row) → Rising low rows → RowsFit rows → Above low before → AreRead row_image (next_row size) before rows
+rows_read size low [] before rise fit above = tt
+rows_read size low (r ∷ rows) before rise fit above = (
+  (λ left. row_gives size before r left fit.0 fit.1 (above r.key rise.0)),
+  rows_read size (r.key + 1) rows (before ++ r ∷ []) rise.1 fit.2 (above_more before r),
+)
+
+-- ---- instructions
+
+abbrev pub AnyInstrs : List Instr → Type 0
+AnyInstrs is = Unit {0}
+
+pub instr_found : (t size : ℕ) (is : List Instr) (bytes : List ℕ) (i : Instr) (left : List ℕ) → AnyInstrs is → AreBytes bytes → next_instr t size is bytes ≡ Ok (i, left) → TookItem word_of AnyInstrs is bytes i left
+instr_found t size is bytes i left any fit h =
+    let f = bind_ok (field 8 size bytes) _ (i, left) h in
+    let w = f.0.0 in
+    let d = field_found 8 size bytes w f.0.1 fit f.1 in
+    let g = bind_ok (ok_or (decoded w) (fault.Word t (length is))) _ (i, left) f.2 in
+    let x = ok_or_ok (decoded w) (fault.Word t (length is)) g.0 g.1 in
+    let s = same_answer (Ok (g.0, f.0.1)) g.0 i f.0.1 left refl g.2 in
+    let is_word : IsWordOf w g.0 = subst (λ o. IfSome o (IsWordOf w)) x (decoded_found w d.size (byte_at w d.front)) in
+    record {
+      same = d.same ∙ ap (λ x. x ++ f.0.1) is_word.1 ∙ ap (λ x. word_of x ++ f.0.1) s.0 ∙ ap (λ x. word_of i ++ x) s.1;
+      back = subst AreBytes s.1 d.back;
+      kept = tt;
+    }
+
+word_size : (i : Instr) → length (word_of i) ≡ 8
+word_size (Set a n) = refl
+word_size (read a b) = refl
+word_size (Write a b) = refl
+word_size (Insert a b) = refl
+word_size (Add a b) = refl
+word_size (Beq a b n) = refl
+word_size Commit = refl
+word_size Abort = refl
+
+instr_gives : (t size : ℕ) (before : List Instr) (i : Instr) (left : List ℕ) → HasValue i → next_instr t size before (word_of i ++ left) ≡ Ok (i, left)
+instr_gives t size before i left v =
+    let e : field 8 size (word_of i ++ left) ≡ Ok (word_of i, left) = subst (λ n. field n size (word_of i ++ left) ≡ Ok (word_of i, left)) (word_size i) (field_gives size (word_of i) left) in
+    rw e (rw (decoded_only i v) refl)
+
+pub instrs_read : (t size : ℕ) (is before : List Instr) → Values is → AreRead word_of (next_instr t size) before is
+instrs_read t size [] before values = tt
+instrs_read t size (i ∷ is) before values = ((λ left. instr_gives t size before i left values.0), instrs_read t size is (before ++ i ∷ []) values.1)
+
+-- ---- choices
+
+-- a choice of these bytes, if there is one
+module _ (count a k t : ℕ) where
+  abbrev IsOf : Choice → Type 0
+  IsOf c = (choice_image c ≡ a ∷ k ∷ t ∷ []) × (names_below count c ≡ true)
+
+  abbrev MayBe : Option Choice → Type 0
+  MayBe o = IfSome o IsOf
+
+  same_number : (n m : ℕ) → (n == m) ≡ true → m ≡ n
+  same_number n m e = grind (arith, tests)
+
+  named_is : (c : Choice) → (nat_lt t count ≡ true → IsOf c) → MayBe (named count t c)
+  named_is c h = cond_both (nat_lt t count) _ _ MayBe h (λ _. tt)
+
+  plain_is : (c : Choice) → (0 ≡ t → IsOf c) → MayBe (plain t c)
+  plain_is c h = cond_both (t == 0) _ _ MayBe (λ e. h (same_number t 0 e)) (λ _. tt)
+
+  client_is : 0 ≡ a → MayBe (client_choice count k t)
+  client_is x =
+      cond_both (k == 0) _ _ MayBe (λ e. plain_is Start (λ z. (rw (← x, ← same_number k 0 e, ← z) refl, refl))) (λ _.
+      cond_both (k == 1) _ _ MayBe (λ e. named_is (Begin t) (λ n. (rw (← x, ← same_number k 1 e) refl, n))) (λ _.
+      cond_both (k == 2) _ _ MayBe (λ e. named_is (Kill t) (λ n. (rw (← x, ← same_number k 2 e) refl, n))) (λ _. tt)))
+
+  node_is : (n : Node) → node_byte n ≡ a → MayBe (node_choice count n k t)
+  node_is n x =
+      cond_both (k == 3) _ _ MayBe (λ e. named_is (Run n t) (λ m. (rw (← x, ← same_number k 3 e) refl, m))) (λ _.
+      cond_both (k == 4) _ _ MayBe (λ e. plain_is (Take n) (λ z. (rw (← x, ← same_number k 4 e, ← z) refl, refl))) (λ _.
+      cond_both (k == 5) _ _ MayBe (λ e. plain_is (Finish n) (λ z. (rw (← x, ← same_number k 5 e, ← z) refl, refl))) (λ _.
+      cond_both (k == 6) _ _ MayBe (λ e. plain_is (Push n) (λ z. (rw (← x, ← same_number k 6 e, ← z) refl, refl))) (λ _. tt))))
+
+  choice_is : MayBe (choice_at count a k t)
+  choice_is =
+      cond_both (a == 0) _ _ MayBe (λ e. client_is (same_number a 0 e)) (λ _.
+      cond_both (a == 1) _ _ MayBe (λ e. node_is node.A (same_number a 1 e)) (λ _.
+      cond_both (a == 2) _ _ MayBe (λ e. node_is node.B (same_number a 2 e)) (λ _. tt)))
+
+three : (w : List ℕ) → length w ≡ 3 → w ≡ get_or w 0 0 ∷ get_or w 1 0 ∷ get_or w 2 0 ∷ []
+three [] h = absurd (omega (arith, h))
+three (a ∷ []) h = absurd (omega (arith, h))
+three (a ∷ b ∷ []) h = absurd (omega (arith, h))
+three (a ∷ b ∷ c ∷ []) h = refl
+three (a ∷ b ∷ c ∷ d ∷ w) h = absurd (omega (arith, h))
+
+pub choice_found : (count size : ℕ) (cs : List Choice) (bytes : List ℕ) (c : Choice) (left : List ℕ) → AreNamed count cs → AreBytes bytes → next_choice count size cs bytes ≡ Ok (c, left)
+    → TookItem choice_image (AreNamed count) cs bytes c left
+choice_found count size cs bytes c left named fit h =
+    let f = bind_ok (field 3 size bytes) _ (c, left) h in
+    let w = f.0.0 in
+    let d = field_found 3 size bytes w f.0.1 fit f.1 in
+    let o = choice_at count (get_or w 0 0) (get_or w 1 0) (get_or w 2 0) in
+    let g = bind_ok (ok_or o (fault.Choice (length cs))) _ (c, left) f.2 in
+    let x = ok_or_ok o (fault.Choice (length cs)) g.0 g.1 in
+    let s = same_answer (Ok (g.0, f.0.1)) g.0 c f.0.1 left refl g.2 in
+    let is : IsOf count (get_or w 0 0) (get_or w 1 0) (get_or w 2 0) g.0 = subst (MayBe count (get_or w 0 0) (get_or w 1 0) (get_or w 2 0)) x (choice_is count (get_or w 0 0) (get_or w 1 0) (get_or w 2 0)) in
+    record {
+      same = d.same ∙ ap (λ x. x ++ f.0.1) (three w d.size ∙ sym is.0) ∙ ap (λ x. choice_image x ++ f.0.1) s.0 ∙ ap (λ x. choice_image c ++ x) s.1;
+      back = subst AreBytes s.1 d.back;
+      kept = subst (λ x. AreNamed count (cs ++ x ∷ [])) s.0 (named_more count cs g.0 named is.1);
+    }
+
+choice_gives : (count size : ℕ) (before : List Choice) (c : Choice) (left : List ℕ) → names_below count c ≡ true → next_choice count size before (choice_image c ++ left) ≡ Ok (c, left)
+choice_gives count size before Start left n = rw (field_gives size (choice_image Start) left) refl
+choice_gives count size before (Begin t) left n = rw (field_gives size (choice_image (Begin t)) left) (rw n refl)
+choice_gives count size before (Kill t) left n = rw (field_gives size (choice_image (Kill t)) left) (rw n refl)
+choice_gives count size before (Run node.A t) left n = rw (field_gives size (choice_image (Run node.A t)) left) (rw n refl)
+choice_gives count size before (Run node.B t) left n = rw (field_gives size (choice_image (Run node.B t)) left) (rw n refl)
+choice_gives count size before (Take node.A) left n = rw (field_gives size (choice_image (Take node.A)) left) refl
+choice_gives count size before (Take node.B) left n = rw (field_gives size (choice_image (Take node.B)) left) refl
+choice_gives count size before (Finish node.A) left n = rw (field_gives size (choice_image (Finish node.A)) left) refl
+choice_gives count size before (Finish node.B) left n = rw (field_gives size (choice_image (Finish node.B)) left) refl
+choice_gives count size before (Push node.A) left n = rw (field_gives size (choice_image (Push node.A)) left) refl
+choice_gives count size before (Push node.B) left n = rw (field_gives size (choice_image (Push node.B)) left) refl
+
+pub choices_read : (count size : ℕ) (cs before : List Choice) → AreNamed count cs → AreRead choice_image (next_choice count size) before cs
+choices_read count size [] before named = tt
+choices_read count size (c ∷ cs) before named = ((λ left. choice_gives count size before c left named.0), choices_read count size cs (before ++ c ∷ []) named.1)
