@@ -26,7 +26,7 @@ use Rattle.zy_isa.specs.Choices.{names_below}
 use Rattle.zy_isa.specs.Scenario.{Scenario, IsScenario, ArePrograms, AreNamed}
 use Rattle.zy_isa.specs.Text as m
 use Rattle.zy_isa.specs.Text.{Times, Statement, Spells, SpellsInstr, SpellsChoice, SpellEach, program_statements, repeated, statements, Means}
-use Rattle.zy_asm.proofs.Bind.{both}
+use Rattle.zy_isa.proofs.ResultLemmas.{both}
 use Rattle.zy_asm.proofs.LineLemmas.{one_plus}
 use borrow.Author.Tests.{tests}
 

@@ -1,8 +1,7 @@
 -- What is read is meant.
-use Rattle.std.proofs.Common.{◌≡◌, ℕ, ◌+◌, ◌-◌, ◌<◌, ◌≤◌, Bool, true, false, List, [], ◌∷◌, ◌++◌, length, map, codes, Result, Ok, Option, Some, None, refl, sym, ap, ◌∙◌, subst, inl, inr, ◌⊎◌, arith, append_assoc, append-nil, length-append, if◌then◌else◌, nat_le, nat_lt, zero, suc, slice_get, ok_or}
+use Rattle.std.proofs.Common.{◌≡◌, ℕ, ◌+◌, ◌<◌, ◌≤◌, true, false, List, [], ◌∷◌, ◌++◌, length, map, codes, Result, Ok, Option, Some, None, refl, sym, ap, ◌∙◌, subst, inl, inr, ◌⊎◌, arith, append_assoc, append-nil, length-append, nat_le, nat_lt, zero, suc, ok_or}
 use Rattle.std.proofs.lemmas.List.{length-replicate}
-use Rattle.std.specs.Prelude.{replicate, not}
-use Rattle.std.specs.List.{position_or_len}
+use Rattle.std.specs.Prelude.{replicate}
 use Rattle.std.specs.Str.{bytes_eq}
 use Rattle.zy_isa.specs.declared.rule.Rule.TheVariants.{Held}
 use Rattle.zy_isa.specs.declared.row.Row.{Row}
@@ -11,10 +10,10 @@ use Rattle.zy_isa.specs.declared.program.ProgFault.{ProgFault}
 use Rattle.zy_isa.specs.declared.choice.Choice.{Choice}
 use Rattle.zy_isa.specs.declared.node.Actor.{Actor}
 use Rattle.zy_isa.specs.Words.{number_of}
-use Rattle.zy_isa.specs.Rows.{misplaced_row, misplaced_after}
+use Rattle.zy_isa.specs.Rows.{misplaced_row}
 use Rattle.zy_isa.specs.Programs.{prog_fault}
 use Rattle.zy_isa.specs.Choices.{names_below}
-use Rattle.zy_isa.specs.Scenario.{Scenario, AreNamed, opening_pages_for, misnamed_choice, scenario_fault}
+use Rattle.zy_isa.specs.Scenario.{Scenario, AreNamed, opening_pages_for, scenario_fault}
 use Rattle.zy_isa.specs.Text as m
 use Rattle.zy_isa.specs.Text.{Times, Statement, Spells, SpellEach, program_statements, repeated, statements}
 use Rattle.zy_asm.specs.declared.faults.AsmKind.{AsmKind}
@@ -26,11 +25,15 @@ use Rattle.zy_asm.specs.declared.reading.Keyword.{Keyword}
 use Rattle.zy_asm.specs.declared.reading.Keyword.TheVariants as k
 use Rattle.zy_asm.specs.declared.state.Stage.{Stage}
 use Rattle.zy_asm.specs.declared.state.Stage.TheVariants as stage
-use Rattle.zy_asm.specs.Steps.{◌>>=◌, number_in}
+use Rattle.zy_isa.specs.Results.{◌>>=◌}
+use Rattle.zy_asm.specs.Steps.{number_in}
 use Rattle.zy_asm.specs.Instructions.{instr_of}
 use Rattle.zy_asm.specs.Choices.{action_of}
-use Rattle.zy_asm.specs.Reading.{Seen, keyword_of, are_two, headed, row_of, is_full, last_row, is_low, add_row, row_at, instr_line, judged, own_number, open_line, action_line, choice_line, end_line, statement, body_line, step, finish, nothing_seen}
-use Rattle.zy_asm.proofs.Bind.{bind_ok, if_ok, if_err, both, neither, below, not_over, over_not, above, out_of_neither, same}
+use Rattle.zy_isa.specs.Rows.{last_row, is_low}
+use Rattle.zy_asm.specs.Reading.{Seen, keyword_of, are_two, headed, row_of, is_full, add_row, row_at, instr_line, judged, own_number, open_line, action_line, choice_line, end_line, statement, body_line, step, finish, nothing_seen}
+use Rattle.zy_isa.proofs.RowLemmas.{order_more}
+use Rattle.zy_isa.proofs.ScenarioLemmas.{no_fault}
+use Rattle.zy_isa.proofs.ResultLemmas.{bind_ok, if_ok, if_err, both, neither, below, not_over, same}
 use Rattle.zy_asm.proofs.SpellLemmas.{op_word, actor_word, keyword_ok, number_in_ok, instr_ok, row_ok, own_ok, Chose, choice_ok}
 
 -- a state
@@ -356,24 +359,6 @@ record Placed (c p : ℕ) (R : List Row) : Type 0 where
   few_pages : opening_pages_for c (length R) ≤ p
   in_order : misplaced_row R ≡ None
 
-low_test : (a b i : ℕ) → nat_le a b ≡ false → (if nat_lt b a then None else Some i) ≡ (let o : Option ℕ = None in o)
-low_test a b i h = rw (above b a h) refl
-
-misplaced_more : (x : Row) (i : ℕ) (R : List Row) (r : Row) → misplaced_after x.key i R ≡ None → is_low r.key (slice_get (x ∷ R) (length R)) ≡ false → misplaced_after x.key i (R ++ r ∷ []) ≡ None
-misplaced_more x i [] r h low = low_test r.key x.key i low
-misplaced_more x i (y ∷ R) r h low = split (nat_lt x.key y.key) h (λ g. misplaced_more y (i + 1) R r g low)
-  where
-    split : (b : Bool) → (if b then misplaced_after y.key (i + 1) R else Some i) ≡ None → (misplaced_after y.key (i + 1) R ≡ None → misplaced_after y.key (i + 1) (R ++ r ∷ []) ≡ None)
-        → (if b then misplaced_after y.key (i + 1) (R ++ r ∷ []) else Some i) ≡ None
-    split true g ih = ih g
-    split false g ih = cc
-
-order_more : (R : List Row) (r : Row) → misplaced_row R ≡ None → is_low r.key (last_row R) ≡ false → misplaced_row (R ++ r ∷ []) ≡ None
-order_more [] r h low = refl
-order_more (x ∷ R) r h low =
-    let e : length (x ∷ R) - 1 ≡ length R = omega arith in
-    misplaced_more x 1 R r h (subst (λ n. is_low r.key (slice_get (x ∷ R) n) ≡ false) e low)
-
 placed_more : (c p : ℕ) (R : List Row) (r : Row) → Placed c p R → length R < 256 → opening_pages_for c (length R + 1) ≤ p → is_low r.key (last_row R) ≡ false → Placed c p (R ++ r ∷ [])
 placed_more c p R r h few pages low =
     let e : length (R ++ r ∷ []) ≡ length R + 1 = length-append R (r ∷ []) in
@@ -478,29 +463,6 @@ found_cap (l ∷ ls) t h =
     let n = headed_ok l (codes "cap") 2 16 a.0 a.1 in
     record { cap = a.0; line = l; more = ls; lines = refl; spelled = (n.0, n.1, n.2); least = n.3; most = n.4; pages = found_pages ls a.0 t (rw e at k.2) }
 
--- ---- a scenario without a fault
-
-all_named : (count : ℕ) (cs : List Choice) → AreNamed count cs → position_or_len (λ c. not (names_below count c)) cs ≡ length cs
-all_named count [] h = refl
-all_named count (c ∷ cs) h = rw h.0 (omega (arith, all_named count cs h.1))
-
-none_misnamed : (count : ℕ) (cs : List Choice) → AreNamed count cs → misnamed_choice count cs ≡ None
-none_misnamed count cs h = rw (all_named count cs h, over_not (length cs) (length cs) (omega arith)) refl
-
-no_fault : (c p : ℕ) (R : List Row) (P : List (List Instr)) (C : List Choice) → 2 ≤ c → c ≤ 16 → 1 ≤ p → p ≤ 512 → Placed c p R → length P ≤ 64 → length C ≤ 4096 → AreNamed (length P) C
-    → scenario_fault (record { version = 1; cap = c; pages = p; rule = Held; rows = R; programs = P; choices = C }) ≡ None
-no_fault c p R P C c2 c16 p1 p512 placed few choices named =
-    rw (
-      out_of_neither c 2 16 c2 c16,
-      out_of_neither p 1 512 p1 p512,
-      over_not (length R) 256 placed.few,
-      over_not (opening_pages_for c (length R)) p placed.few_pages,
-      placed.in_order,
-      over_not (length P) 64 few,
-      over_not (length C) 4096 choices,
-      none_misnamed (length P) C named,
-    ) refl
-
 -- ---- the whole text
 
 -- the state at the end shows the scenario
@@ -525,7 +487,7 @@ whole a ls t z f =
       choices = r.choices;
       repeats = refl;
       spelled = (z, (f.spelled, (g.spelled, (i.spelled, j.spelled))));
-      tested = no_fault f.cap g.pages j.rows r.programs (repeated r.choices) f.least f.most g.least g.most j.placed r.few r.few_choices r.named;
+      tested = no_fault (shows u) refl f.least f.most g.least g.most j.placed.few j.placed.few_pages j.placed.in_order r.few r.few_choices r.named;
     } in
     subst (λ x. FoundText (a ∷ x) t) (sym lines) (subst (FoundText (a ∷ f.line ∷ g.line ∷ i.line ∷ i.more)) (sym r.same) all)
 

@@ -28,8 +28,9 @@ use Rattle.zy_asm.specs.declared.state.Stage.TheVariants as stage
 use Rattle.zy_asm.specs.Steps.{number_in}
 use Rattle.zy_asm.specs.Instructions.{register_of, two, instr_of}
 use Rattle.zy_asm.specs.Choices.{node_action, action_of, chosen, are_times, times_of}
-use Rattle.zy_asm.specs.Reading.{Seen, is_low, last_row, instr_line, repeat_line, step, choice_line}
-use Rattle.zy_asm.proofs.Bind.{out_of_neither, not_below, over_not}
+use Rattle.zy_isa.specs.Rows.{is_low, last_row}
+use Rattle.zy_asm.specs.Reading.{Seen, instr_line, repeat_line, step, choice_line}
+use Rattle.zy_isa.proofs.ResultLemmas.{out_of_neither, not_below, over_not}
 use Rattle.zy_asm.proofs.SpellLemmas.{op_word, actor_word, node_word}
 use Rattle.zy_asm.proofs.FoundLemmas.{at}
 

@@ -1,6 +1,5 @@
 pub mod LineLemmas
 pub mod CodeLemmas
-pub mod Bind
 pub mod SpellLemmas
 pub mod FoundLemmas
 pub mod GivesLemmas

@@ -1,5 +1,5 @@
 -- What is meant is read.
-use Rattle.std.proofs.Common.{◌≡◌, ℕ, ◌+◌, ◌-◌, ◌/◌, ◌<◌, ◌≤◌, true, false, List, [], ◌∷◌, ◌++◌, length, map, filter, codes, Result, Ok, Err, Some, None, refl, sym, ap, ◌∙◌, subst, inl, inr, ◌⊎◌, arith, append_assoc, append-nil, length-append, suc, zero, ◌==◌, nat_le, slice_get}
+use Rattle.std.proofs.Common.{◌≡◌, ℕ, ◌+◌, ◌/◌, ◌<◌, ◌≤◌, true, false, List, [], ◌∷◌, ◌++◌, length, map, filter, codes, Result, Ok, Err, None, refl, sym, ap, ◌∙◌, subst, inl, inr, ◌⊎◌, arith, append_assoc, append-nil, length-append, suc, zero, ◌==◌}
 use Rattle.std.proofs.lemmas.List.{length-replicate}
 use Rattle.std.proofs.lemmas.Nat.{le-div}
 use Rattle.std.proofs.Math.Nat.{div-mul-le_self}
@@ -27,9 +27,10 @@ use Rattle.zy_asm.specs.declared.faults.AsmFault.{AsmFault}
 use Rattle.zy_asm.specs.declared.state.Stage.{Stage}
 use Rattle.zy_asm.specs.declared.state.Stage.TheVariants as stage
 use Rattle.zy_asm.specs.declared.state.Reader.{Reader}
-use Rattle.zy_asm.specs.Steps.{◌>>=◌}
-use Rattle.zy_asm.specs.Reading.{Seen, seen, is_low, last_row, choice_line, step, line_step, at_line, read_lines, reading, finish, nothing_seen}
-use Rattle.zy_asm.proofs.Bind.{bind_ok, not_below, over_not}
+use Rattle.zy_isa.specs.Results.{◌>>=◌}
+use Rattle.zy_asm.specs.Reading.{Seen, seen, choice_line, step, line_step, at_line, read_lines, reading, finish, nothing_seen}
+use Rattle.zy_isa.proofs.RowLemmas.{Above, above_more}
+use Rattle.zy_isa.proofs.ResultLemmas.{bind_ok, not_below, over_not}
 use Rattle.zy_asm.proofs.SpellLemmas.{actor_word, node_word}
 use Rattle.zy_asm.proofs.FoundLemmas.{at, fold_lines, choice_same, found_text, FoundText, shows}
 use Rattle.zy_asm.proofs.GivesLemmas.{number_in_gives, program_line_gives, choice_gives, row_gives}
@@ -180,23 +181,6 @@ fewer_pages c p zero zero least h pages = pages
 fewer_pages c p zero (suc m) least h pages = omega (arith, pages)
 fewer_pages c p (suc n) zero least h pages = absurd (omega arith)
 fewer_pages c p (suc n) (suc m) least h pages = omega (arith, pages, div_more n m (opening_rows c) (half c least) (omega arith))
-
-last_more : (rows : List Row) (r : Row) → last_row (rows ++ r ∷ []) ≡ Some r
-last_more rows r = rw length-append (let e : length rows + 1 - 1 ≡ length rows = omega arith in rw e (slice_get_seam rows r))
-  where
-    slice_get_seam : (xs : List Row) (y : Row) → slice_get (xs ++ y ∷ []) (length xs) ≡ Some y
-    slice_get_seam [] y = refl
-    slice_get_seam (x ∷ xs) y = slice_get_seam xs y
-
--- keys from low on are above the last row's
-abbrev Above : ℕ → List Row → Type 0
-Above low R = (key : ℕ) → low ≤ key → is_low key (last_row R) ≡ false
-
-above_one : (key a : ℕ) → a + 1 ≤ key → nat_le key a ≡ false
-above_one key a h = grind (arith, tests)
-
-above_more : (R : List Row) (r : Row) → Above (r.key + 1) (R ++ r ∷ [])
-above_more R r key h = rw (last_more R r) (above_one key r.key h)
 
 only_rows : (rows : List Row) (xs : List Statement) (ls : List (List (List ℕ))) (c p low : ℕ) (R : List Row) → 2 ≤ c
     → SpellEach (map m.row rows ++ xs) ls → Rising low rows → RowsFit rows → Above low R → length R + length rows ≤ 256 → opening_pages_for c (length R + length rows) ≤ p

@@ -14,7 +14,8 @@ use Rattle.zy_asm.specs.declared.choices.Action.{Action}
 use Rattle.zy_asm.specs.declared.choices.Action.TheVariants.{Txn, Plain}
 use Rattle.zy_asm.specs.declared.choices.TxnAction.{TxnAction}
 use Rattle.zy_asm.specs.declared.choices.TxnAction.TheVariants.{Begin, Kill, Run}
-use Rattle.zy_asm.specs.Steps.{◌>>=◌, number_in}
+use Rattle.zy_isa.specs.Results.{◌>>=◌}
+use Rattle.zy_asm.specs.Steps.{number_in}
 
 abbrev pub actor_of : List ℕ → Option Actor
 actor_of w =

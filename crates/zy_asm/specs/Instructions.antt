@@ -9,7 +9,8 @@ use Rattle.zy_asm.specs.declared.faults.AsmKind.{AsmKind}
 use Rattle.zy_asm.specs.declared.faults.AsmKind.TheVariants as kinds
 use Rattle.zy_asm.specs.declared.instructions.Operation.{Operation}
 use Rattle.zy_asm.specs.declared.instructions.Operation.TheVariants as op
-use Rattle.zy_asm.specs.Steps.{◌>>=◌, number_in}
+use Rattle.zy_isa.specs.Results.{◌>>=◌}
+use Rattle.zy_asm.specs.Steps.{number_in}
 
 abbrev pub operation_of : List ℕ → Option Operation
 operation_of w =

@@ -1,6 +1,6 @@
 -- Reading a text, line by line, up to the first fault.
-use Rattle.std.specs.Prelude.{◌≡◌, ◌==◌, ◌+◌, ◌-◌, ◌⊎◌, ◌&&◌, ◌||◌, ℕ, List, [], ◌∷◌, ◌++◌, length, codes, Option, Some, None, Bool, false, Result, Ok, Err, ok_or, option_map, slice_get, if◌then◌else◌, nat_le, nat_lt, replicate}
-use Rattle.std.specs.Option.{option_map_or, option_or}
+use Rattle.std.specs.Prelude.{◌≡◌, ◌==◌, ◌+◌, ◌⊎◌, ◌&&◌, ◌||◌, ℕ, List, [], ◌∷◌, ◌++◌, length, codes, Option, Some, None, Bool, false, Result, Ok, Err, ok_or, option_map, if◌then◌else◌, nat_le, nat_lt, replicate}
+use Rattle.std.specs.Option.{option_or}
 use Rattle.std.specs.Str.{bytes_eq}
 use Rattle.zy_isa.specs.declared.node.Actor.{Actor}
 use Rattle.zy_isa.specs.declared.row.Row.{Row}
@@ -8,6 +8,7 @@ use Rattle.zy_isa.specs.declared.instr.Instr.{Instr}
 use Rattle.zy_isa.specs.declared.program.ProgFault.{ProgFault}
 use Rattle.zy_isa.specs.declared.choice.Choice.{Choice}
 use Rattle.zy_isa.specs.Words.{lines_of, words_of, number_of}
+use Rattle.zy_isa.specs.Rows.{last_row, is_low}
 use Rattle.zy_isa.specs.Programs.{prog_fault}
 use Rattle.zy_isa.specs.Scenario.{opening_pages_for}
 use Rattle.zy_asm.specs.declared.faults.AsmKind.{AsmKind}
@@ -25,7 +26,8 @@ use Rattle.zy_asm.specs.declared.reading.Keyword.TheVariants as k
 use Rattle.zy_asm.specs.declared.state.Stage.{Stage}
 use Rattle.zy_asm.specs.declared.state.Stage.TheVariants.{Zephyr, Cap, Pages, Rule, Rows, Program, Choices, Done}
 use Rattle.zy_asm.specs.declared.state.Reader.{Reader}
-use Rattle.zy_asm.specs.Steps.{◌>>=◌, number_in}
+use Rattle.zy_isa.specs.Results.{◌>>=◌}
+use Rattle.zy_asm.specs.Steps.{number_in}
 use Rattle.zy_asm.specs.Instructions.{operation_of, instr_of}
 use Rattle.zy_asm.specs.Choices.{actor_of, action_of, chosen, transaction, are_times, times_of}
 
@@ -88,12 +90,6 @@ row_of _ = Err kinds.Word
 -- there is no place for a row more
 abbrev pub is_full : Seen → Bool
 is_full s = nat_le 256 (length s.rows) || nat_lt s.pages (opening_pages_for s.cap (length s.rows + 1))
-
-abbrev pub last_row : List Row → Option Row
-last_row rows = slice_get rows (length rows - 1)
-
-abbrev pub is_low : ℕ → Option Row → Bool
-is_low key last = option_map_or (λ r. nat_le key r.key) last false
 
 abbrev pub add_row : Seen → Row → Result Seen AsmKind
 add_row s row =

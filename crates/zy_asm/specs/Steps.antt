@@ -1,15 +1,10 @@
--- Steps that may fail, and numbers in their ranges.
+-- The words that references point to, and numbers in their ranges.
 use Rattle.std.specs.Prelude.{◌||◌, nat_lt, ℕ, List, map, Result, Ok, Err, ok_or, if◌then◌else◌}
 use Rattle.std.specs.Borrow.{Bor}
+use Rattle.zy_isa.specs.Results.{◌>>=◌}
 use Rattle.zy_isa.specs.Words.{number_of}
 use Rattle.zy_asm.specs.declared.faults.AsmKind.{AsmKind}
 use Rattle.zy_asm.specs.declared.faults.AsmKind.TheVariants as kinds
-
--- the next step, unless this one failed
-infixl 10 ◌>>=◌
-abbrev pub ◌>>=◌ : {A B E : Type 0} → Result A E → (A → Result B E) → Result B E
-(Ok x) >>= f = f x
-(Err e) >>= f = Err e
 
 -- the words that references point to
 abbrev pub texts : List (Bor (List ℕ)) → List (List ℕ)

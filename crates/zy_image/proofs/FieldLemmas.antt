@@ -1,15 +1,13 @@
 -- A field is the front of the bytes, and its number has it as its bytes.
-use Rattle.std.proofs.Common.{◌≡◌, ℕ, zero, suc, ◌+◌, ◌<◌, ◌≤◌, ◌^◌, true, false, nat_lt, List, [], ◌∷◌, ◌++◌, length, get_or, Result, Ok, Err, refl, sym, ap, ◌∙◌, subst, arith, if◌then◌else◌}
+use Rattle.std.proofs.Common.{◌≡◌, ℕ, zero, suc, ◌<◌, ◌^◌, false, nat_lt, List, [], ◌∷◌, ◌++◌, length, get_or, Result, Ok, Err, refl, sym, ap, ◌∙◌, subst, arith}
 use Rattle.std.proofs.lemmas.List.{take-append-drop, length-take-le, length-append}
 use Rattle.std.proofs.Math.Seq.{take-append_seam, drop-append_seam}
-use Rattle.std.proofs.lemmas.Nat.{be_bytes_2, be_bytes_4, from_be_bytes-to_be_bytes_2, from_be_bytes-to_be_bytes_4}
+use Rattle.std.proofs.lemmas.Nat.{be_bytes_2, from_be_bytes-to_be_bytes_2}
 use Rattle.std.specs.Prelude.{take, drop}
-use Rattle.std.specs.Int.{w16, w32, to_be_bytes, from_be_bytes}
-use Rattle.zy_isa.specs.Results.{◌>>=◌}
+use Rattle.std.specs.Int.{w16, to_be_bytes, from_be_bytes}
 use Rattle.zy_isa.proofs.ResultLemmas.{bind_ok, if_err, not_over, over_not}
-use Rattle.zy_image.specs.declared.faults.LoadFault.{LoadFault}
 use Rattle.zy_image.specs.declared.faults.LoadFault.TheVariants as fault
-use Rattle.zy_image.specs.Reading.{Read, field, byte, half}
+use Rattle.zy_image.specs.Reading.{field, byte, half}
 
 -- each is a byte
 abbrev pub AreBytes : List ℕ → Type 0

@@ -1,33 +1,29 @@
 -- Rows, programs and choices: what was read has its image, and an image is read as what it shows.
-use Rattle.std.proofs.Common.{◌≡◌, ◌==◌, ℕ, zero, suc, ◌+◌, ◌-◌, ◌<◌, ◌≤◌, ◌^◌, ◌||◌, Bool, true, false, nat_lt, List, [], ◌∷◌, ◌++◌, length, get_or, Option, Some, None, IfSome, Result, Ok, Err, refl, sym, ap, ◌∙◌, subst, append_assoc, append-nil, arith, if◌then◌else◌, ok_or}
+use Rattle.std.proofs.Common.{◌≡◌, ◌==◌, ℕ, ◌+◌, ◌<◌, ◌^◌, true, false, nat_lt, List, [], ◌∷◌, ◌++◌, length, get_or, Option, None, IfSome, Ok, Err, refl, sym, ap, ◌∙◌, subst, arith, if◌then◌else◌, ok_or}
 use Rattle.std.proofs.lemmas.Bool.{cond_both}
 use Rattle.std.proofs.lemmas.List.{take-append-drop, length-take-le, length-drop}
 use Rattle.std.proofs.lemmas.Nat.{be_bytes_2, be_bytes_4, from_be_bytes-to_be_bytes_2, from_be_bytes-to_be_bytes_4}
 use Rattle.std.specs.Prelude.{take, drop}
-use Rattle.std.specs.List.{flat_map}
-use Rattle.std.specs.Int.{w16, w32, to_be_bytes, from_be_bytes}
-use Rattle.zy_isa.specs.Results.{◌>>=◌}
+use Rattle.std.specs.Int.{w32, to_be_bytes}
 use Rattle.zy_isa.specs.declared.row.Row.{Row}
 use Rattle.zy_isa.specs.declared.instr.Instr.{Instr}
 use Rattle.zy_isa.specs.declared.node.Node.{Node}
 use Rattle.zy_isa.specs.declared.node.Node.TheVariants as node
-use Rattle.zy_isa.specs.declared.program.ProgFault.{ProgFault}
 use Rattle.zy_isa.specs.declared.choice.Choice.{Choice}
 use Rattle.zy_isa.specs.declared.choice.Choice.TheVariants.{Start, Begin, Kill, Run, Take, Finish, Push}
 use Rattle.zy_isa.specs.declared.instr.Instr.TheVariants.{Set, Read as read, Write, Insert, Add, Beq, Commit, Abort}
 use Rattle.zy_isa.specs.InstrWords.{word_of, IsWordOf}
 use Rattle.zy_isa.specs.WordFields.{decoded}
-use Rattle.zy_isa.specs.Programs.{prog_fault, HasValue, Values}
+use Rattle.zy_isa.specs.Programs.{HasValue, Values}
 use Rattle.zy_isa.specs.Rows.{Rising, RowsFit, misplaced_row, last_row, is_low}
 use Rattle.zy_isa.specs.Choices.{names_below}
 use Rattle.zy_isa.specs.Scenario.{AreNamed}
-use Rattle.zy_isa.proofs.ResultLemmas.{bind_ok, if_err, ok_or_ok, not_over, over_not}
+use Rattle.zy_isa.proofs.ResultLemmas.{bind_ok, if_err, ok_or_ok}
 use Rattle.zy_isa.proofs.RowLemmas.{order_more, Above, above_more}
 use Rattle.zy_isa.proofs.ScenarioLemmas.{named_more}
 use Rattle.zy_isa.proofs.WordLemmas.{decoded_found, decoded_only}
-use Rattle.zy_image.specs.declared.faults.LoadFault.{LoadFault}
 use Rattle.zy_image.specs.declared.faults.LoadFault.TheVariants as fault
-use Rattle.zy_image.specs.Image.{row_image, program_image, choice_image, node_byte}
+use Rattle.zy_image.specs.Image.{row_image, choice_image, node_byte}
 use Rattle.zy_image.specs.Reading.{Read, field, row_at, next_row, next_instr, next_choice, named, plain, client_choice, node_choice, choice_at}
 use Rattle.zy_image.proofs.FieldLemmas.{AreBytes, byte_at, front_bytes, back_bytes, same_answer, field_found, field_gives}
 use Rattle.zy_image.proofs.ListLemmas.{TookItem, AreRead}

@@ -1,22 +1,17 @@
 -- The whole image: what was read has it as its image, and the image of a scenario is read as it.
-use Rattle.std.proofs.Common.{◌≡◌, ◌==◌, ℕ, ◌+◌, ◌-◌, ◌<◌, ◌≤◌, ◌^◌, ◌||◌, Bool, true, false, nat_lt, List, [], ◌∷◌, ◌++◌, length, Option, Some, None, Result, Ok, Err, refl, sym, ap, ◌∙◌, subst, append_assoc, append-nil, arith, if◌then◌else◌, ok_or}
+use Rattle.std.proofs.Common.{◌≡◌, ◌==◌, ℕ, ◌-◌, ◌≤◌, Bool, true, false, List, [], ◌∷◌, ◌++◌, length, Some, None, Ok, Err, refl, sym, ap, ◌∙◌, subst, append-nil, arith, if◌then◌else◌, ok_or}
 use Rattle.std.specs.Int.{w16, to_be_bytes}
 use Rattle.std.specs.Str.{bytes_eq}
-use Rattle.zy_isa.specs.Results.{◌>>=◌}
 use Rattle.zy_isa.specs.declared.rule.Rule.{Rule}
 use Rattle.zy_isa.specs.declared.rule.Rule.TheVariants.{Held}
-use Rattle.zy_isa.specs.declared.row.Row.{Row}
-use Rattle.zy_isa.specs.declared.instr.Instr.{Instr}
-use Rattle.zy_isa.specs.declared.choice.Choice.{Choice}
 use Rattle.zy_isa.specs.Scenario.{Scenario, IsScenario, scenario_fault, is_outside}
 use Rattle.zy_isa.proofs.ResultLemmas.{bind_ok, if_ok, if_err, ok_or_ok, same, in_range, out_of_neither}
 use Rattle.zy_isa.proofs.ScenarioLemmas.{no_fault}
-use Rattle.zy_image.specs.declared.faults.LoadFault.{LoadFault}
 use Rattle.zy_image.specs.declared.faults.LoadFault.TheVariants as fault
 use Rattle.zy_image.specs.declared.head.Head.{Head}
-use Rattle.zy_image.specs.Image.{magic, rule_byte, head_image, rows_image, programs_image, choices_image, image_of, IsImage}
-use Rattle.zy_image.specs.Reading.{Read, field, byte, half, magic_field, cap_field, pages_field, rule_at, rule_field, head_fields, rows, programs, choices, ended, of_parts, reading}
-use Rattle.zy_image.proofs.FieldLemmas.{AreBytes, same_value, same_answer, field_found, field_gives, Number, byte_found, byte_gives, half_found, half_gives}
+use Rattle.zy_image.specs.Image.{magic, rule_byte, rows_image, programs_image, choices_image, image_of, IsImage}
+use Rattle.zy_image.specs.Reading.{field, byte, half, magic_field, cap_field, pages_field, rule_at, rule_field, head_fields, rows, programs, choices, ended, of_parts, reading}
+use Rattle.zy_image.proofs.FieldLemmas.{AreBytes, same_value, same_answer, field_found, field_gives, byte_found, byte_gives, half_found, half_gives}
 use Rattle.zy_image.proofs.ListImages.{rows_found, rows_give, programs_found, programs_give, choices_found, choices_give}
 use borrow.Author.Tests.{tests}
 

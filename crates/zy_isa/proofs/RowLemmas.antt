@@ -1,5 +1,5 @@
 -- Rows in order, and one row more behind them.
-use Rattle.std.proofs.Common.{◌≡◌, ℕ, ◌+◌, ◌-◌, ◌<◌, ◌≤◌, Bool, true, false, List, [], ◌∷◌, ◌++◌, length, Option, Some, None, refl, subst, arith, if◌then◌else◌, nat_le, nat_lt, slice_get}
+use Rattle.std.proofs.Common.{◌≡◌, ℕ, ◌+◌, ◌-◌, ◌≤◌, Bool, true, false, List, [], ◌∷◌, ◌++◌, length, Option, Some, None, refl, subst, arith, if◌then◌else◌, nat_le, nat_lt, slice_get}
 use Rattle.std.proofs.lemmas.List.{length-append}
 use Rattle.zy_isa.specs.declared.row.Row.{Row}
 use Rattle.zy_isa.specs.Rows.{misplaced_row, misplaced_after, last_row, is_low}

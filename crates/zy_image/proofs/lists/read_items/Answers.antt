@@ -1,5 +1,5 @@
 -- A list is read as its items are.
-use Rattle.std.proofs.Common.{◌≡◌, ◌++◌, ◌∷◌, [], Err, inl, inr, sym, ap, ◌∙◌, arith, rules}
+use Rattle.std.proofs.Common.{◌≡◌, ◌++◌, ◌∷◌, [], Err, inl, inr, sym, ap, ◌∙◌, rules}
 use Rattle.std.proofs.lemmas.Result.{err_from_is_err_and}
 use Rattle.zy_image.proofs.ListLemmas.{item_more, item_fails}
 use Rattle.zy_image.proofs.lists.read_items.Goals as goal

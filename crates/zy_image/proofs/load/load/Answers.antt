@@ -1,8 +1,7 @@
 -- What was read has its image and no fault, and what has an image is read.
-use Rattle.std.proofs.Common.{◌≡◌, Err, Ok, None, inl, inr, sym, ap, ◌∙◌, subst, rules}
+use Rattle.std.proofs.Common.{inl, inr, sym, ap, ◌∙◌, rules}
 use Rattle.std.specs.Result.{result_err}
 use Rattle.std.proofs.lemmas.Result.{err_from_is_err_and}
-use Rattle.zy_isa.specs.Scenario.{scenario_fault}
 use Rattle.zy_image.specs.Reading.{reading, of_parts}
 use Rattle.zy_image.proofs.FieldLemmas.{are_bytes, same_value}
 use Rattle.zy_image.proofs.WholeImage.{image_found, only_image}
