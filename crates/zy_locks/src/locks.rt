@@ -1,23 +1,11 @@
 //! The locks of one node.
 ghost use Rattle.std.specs.Prelude.{◌≡◌, ◌==◌, ◌+◌, ◌<◌, ◌≤◌, IfOk, OnOk, OnErr, IsOk, false, [], length, slice_index_or};
 ghost use Rattle.zy_locks.specs.Locks.{add_lock, is_shared as is_shared_spec, stronger as stronger_spec, clashes as clashes_spec, conflict, is_locked, drop_locks};
-ghost use Rattle.zy_locks.specs.LockTable.{Tries};
 ghost use Rattle.zy_locks.specs.Order.{comes_before as comes_before_spec, is_held_by as is_held_by_spec, LocksRise, IsPlace, Finds};
 
 use crate::lock::{Lock, LockKind};
 use std::alloc::{AllocError, Global};
 use std::marker::Model;
-
-/// What became of a try to lock a page.
-#[derive(Clone, Copy, Debug, PartialEq, Eq)]
-pub enum Tried {
-    /// The transaction holds the lock.
-    Granted,
-    /// Another's lock is in the way.
-    Conflict,
-    /// There was no memory for one lock more.
-    Memory,
-}
 
 /// The locks of one node, in order of page and then transaction, so that a page's locks stand together.
 #[derive(Drop)]
@@ -111,20 +99,6 @@ impl Locks {
             }
         }
         false
-    }
-
-    /// Locks the page for `txn`, or makes the lock that it has stronger, unless another's is in the way.
-    pub fn try_lock(&mut self, page: u16, txn: u8, kind: LockKind) -> Tried
-        ensures { Tries page txn kind self.old self.new result }
-    {
-        if self.conflicts(page, txn, kind) {
-            return Tried::Conflict;
-        }
-        if self.reserve(1).is_err() {
-            return Tried::Memory;
-        }
-        self.lock(page, txn, kind);
-        Tried::Granted
     }
 
     /// Locks the page for `txn`, or makes the lock that it has stronger, where nothing is in the way and there is room. It

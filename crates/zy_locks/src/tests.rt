@@ -1,6 +1,6 @@
 //! Each call once with ample memory, on worked locks.
 use crate::lock::{Lock, LockKind};
-use crate::locks::{Locks, Tried};
+use crate::locks::Locks;
 use std::alloc::{AllocError, Global};
 use std::process::Abort;
 
@@ -23,22 +23,22 @@ const LOCKS: [Lock; 3] = [
     },
 ];
 
-/// What becomes of tries, one after the other.
-const TRIES: [(u16, u8, LockKind, Tried); 6] = [
-    (7, 1, LockKind::Shared, Tried::Granted),
-    (7, 0, LockKind::Shared, Tried::Granted),
-    (7, 1, LockKind::Exclusive, Tried::Conflict),
-    (9, 1, LockKind::Shared, Tried::Granted),
-    (9, 1, LockKind::Exclusive, Tried::Granted),
-    (9, 0, LockKind::Shared, Tried::Conflict),
+/// Who asks for a page, and whether the page is free for it, one after the other.
+const ASKS: [(u16, u8, LockKind, bool); 6] = [
+    (7, 1, LockKind::Shared, true),
+    (7, 0, LockKind::Shared, true),
+    (7, 1, LockKind::Exclusive, false),
+    (9, 1, LockKind::Shared, true),
+    (9, 1, LockKind::Exclusive, true),
+    (9, 0, LockKind::Shared, false),
 ];
 
 /// A lock where nothing is in the way.
-fn locks_page(locks: &mut Locks, page: u16, txn: u8) -> Result<bool, AllocError> {
+fn locks_page(locks: &mut Locks, page: u16, txn: u8, kind: LockKind) -> Result<bool, AllocError> {
     locks.reserve(1)?;
-    let free = !locks.conflicts(page, txn, LockKind::Shared);
+    let free = !locks.conflicts(page, txn, kind);
     if free {
-        locks.lock(page, txn, LockKind::Shared);
+        locks.lock(page, txn, kind);
     }
     Ok(free)
 }
@@ -48,21 +48,21 @@ fn copied_locks(alloc: Global, locks: &Locks) -> Result<usize, AllocError> {
     Ok(locks.copy(alloc)?.len())
 }
 
-fn check_tries(rt: &impl Abort, locks: &mut Locks) {
-    for (page, txn, kind, want) in TRIES {
-        assert!(rt; locks.try_lock(page, txn, kind) == want);
+fn check_asks(rt: &impl Abort, locks: &mut Locks) {
+    for (page, txn, kind, free) in ASKS {
+        assert!(rt; locks_page(locks, page, txn, kind) == Ok(free));
     }
 }
 
 #[test]
 fn readers_share_and_writers_do_not(rt: HostRuntime) -> Result<(), AllocError> {
     let mut locks = Locks::new(rt.alloc());
-    check_tries(&rt, &mut locks);
+    check_asks(&rt, &mut locks);
     assert!(rt; locks.locks() == LOCKS.as_slice() && locks.locked(9));
     assert!(rt; copied_locks(rt.alloc(), &locks) == Ok(3));
     locks.release_all(1);
     assert!(rt; locks.len() == 1 && locks.lock_at(0) == LOCKS[0]);
-    assert!(rt; locks_page(&mut locks, 9, 0) == Ok(true));
+    assert!(rt; locks_page(&mut locks, 9, 0, LockKind::Shared) == Ok(true));
     assert!(rt; locks.len() == 2 && !locks.is_empty());
     Ok(())
 }

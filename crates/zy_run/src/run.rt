@@ -139,7 +139,7 @@ fn commit_row(me: &mut NodeStore, book: &mut Book, t: u8) -> Result<Answer, Allo
     if let Some(p) = gone_page(me, book.txn(t).rows()) {
         return Ok(abort_row(me, book, t, Why::Gone(p)));
     }
-    let place = book.commit_count() as u8 + 1;
+    let place = book.commits().len() as u8 + 1;
     book.reserve_commit()?;
     me.install(book.txn(t).rows());
     me.release(t);

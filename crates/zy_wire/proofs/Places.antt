@@ -1,10 +1,8 @@
 -- Where a key stands among pages in order of low key.
-use Rattle.std.proofs.Common.{◌≡◌, ◌∙◌, ℕ, zero, suc, ◌+◌, ◌<◌, ◌≤◌, true, List, [], ◌∷◌, length, get_or, sym, ap, eqb, arith, ◌↔◌, inl, inr}
-use Rattle.std.specs.Prelude.{Contains}
+use Rattle.std.proofs.Common.{◌≡◌, ◌∙◌, ℕ, zero, suc, ◌+◌, ◌<◌, ◌≤◌, true, List, [], ◌∷◌, length, get_or, sym, ap, eqb, arith, inl, inr}
 use Rattle.std.specs.List.{list_any}
 use Rattle.std.specs.List.Sorted.{IsNonDecreasingBy}
 use Rattle.std.proofs.lemmas.Bool.{eqb-true, or_cases, cases_lt, cases_order}
-use Rattle.std.proofs.lemmas.List.{get_or_default}
 use Rattle.zy_wire.specs.declared.entry.Entry.{Entry}
 use Rattle.zy_wire.specs.Wireframe.{page_of}
 use Rattle.zy_wire.specs.ByLow.{RiseFrom, Match, HavePages, IsPlace}
@@ -93,26 +91,3 @@ page_first lows es k match whole at =
     let above = at.2 e.at d (omega arith) e.within in
     let low = e.low d in
     omega arith)
-
--- and a low key is there only as that of the last entry before its place
-pub low_last : (lows : List ℕ) (es : List Entry) (low i : ℕ) (d : Entry) → RiseFrom 0 es → Match lows es → HavePages (length lows) es → IsPlace low es (i + 1) → ((get_or es i d).low ≡ low) ↔ Contains lows low
-low_last lows es low i d rise match whole at =
-    let within : i < length es = omega (arith, at.0) in
-    let here = match_at lows es i d match within in (
-      (λ same. ((get_or es i d).page, here.0, get_or_default lows _ low 0 here.0 ∙ (here.1 ∙ same))),
-      (λ there.
-          let e = entry_of lows es there.0 match whole there.1 in
-          let is : get_or lows there.0 0 ≡ low = get_or_default lows there.0 0 low there.1 ∙ there.2 in
-          let up = most lows es low i there.0 d rise at e (omega arith) in
-          let le = at.1 i d (omega arith) (omega arith) in
-          omega arith),
-    )
-
-pub low_none : (lows : List ℕ) (es : List Entry) (low : ℕ) → Match lows es → HavePages (length lows) es → IsPlace low es 0 → Contains lows low → ⊥
-low_none lows es low match whole at there =
-    let d : Entry = record { low = 0; page = 0 } in
-    let e = entry_of lows es there.0 match whole there.1 in
-    let is : get_or lows there.0 0 ≡ low = get_or_default lows there.0 0 low there.1 ∙ there.2 in
-    let same = e.low d in
-    let above = at.2 e.at d (omega arith) e.within in
-    omega arith

@@ -1,5 +1,5 @@
 //! The wireframe of a node.
-ghost use Rattle.std.specs.Prelude.{◌≡◌, ◌==◌, ◌↔◌, ◌+◌, ◌<◌, ◌≤◌, ◌++◌, ◌∷◌, [], OnOk, OnErr, IfOk, IsOk, IsTrue, Err, Contains, length, slice_index};
+ghost use Rattle.std.specs.Prelude.{◌≡◌, ◌==◌, ◌↔◌, ◌+◌, ◌<◌, ◌≤◌, ◌++◌, ◌∷◌, [], OnOk, OnErr, IfOk, IsOk, Err, Contains, length, slice_index};
 ghost use Rattle.zy_wire.specs.Wireframe.{page_of as page_of_spec, IsGreatest};
 ghost use Rattle.zy_wire.specs.ByLow.{RiseFrom, IsPlace};
 
@@ -99,16 +99,6 @@ impl Wire {
         ensures { result ≡ slice_index self.now.lows page }
     {
         self.lows[usize::from(page)]
-    }
-
-    /// Whether a page has this low key.
-    pub fn has_low(&self, low: u16) -> bool
-        ensures { IsTrue result ↔ Contains self.now.lows low }
-    {
-        match place(&self.by_low, low) {
-            0 => false,
-            count => self.by_low[count - 1].low == low,
-        }
     }
 
     /// The page that a key lies on; 0 where every low key is above it.
