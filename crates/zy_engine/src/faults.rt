@@ -1,10 +1,11 @@
 //! Why a run was refused.
 ghost use Rattle.std.specs.Prelude.{◌≡◌};
-ghost use Rattle.zy_engine.specs.Faults.{of_reading, of_refusal, of_writing, status_of};
+ghost use Rattle.zy_engine.specs.Faults.{of_loading, of_reading, of_refusal, of_writing, status_of};
 
 use std::alloc::AllocError;
 use thiserror::Error;
 use zy_asm::faults::{AsmKind, Refusal};
+use zy_image::faults::LoadFault;
 use zy_io::reading::ReadFault;
 use zy_io::writing::TextFault;
 
@@ -14,6 +15,9 @@ pub enum BenchFault {
     /// 1: the scenario text is refused, from this line on.
     #[error("Input(line {}, {:?}): {}", .0.line, .0.reason.kind(), .0.reason)]
     Input(Refusal),
+    /// 2: the image is refused.
+    #[error("Image({0:?}): {0}")]
+    Image(LoadFault),
     /// 3: the input is longer than an engine takes.
     #[error("TooLong: an input has at most 4194304 bytes")]
     TooLong,
@@ -35,6 +39,7 @@ impl BenchFault {
     {
         match self {
             BenchFault::Input(_) => 1,
+            BenchFault::Image(_) => 1,
             BenchFault::TooLong => 1,
             BenchFault::Memory => 3,
             BenchFault::Read => 5,
@@ -62,6 +67,17 @@ impl From<Refusal> for BenchFault {
         match refusal.reason.kind() {
             AsmKind::Memory => BenchFault::Memory,
             _ => BenchFault::Input(refusal),
+        }
+    }
+}
+
+impl From<LoadFault> for BenchFault {
+    ghost from_gives = { λ f e. e ≡ of_loading f };
+
+    fn from(fault: LoadFault) -> BenchFault {
+        match fault {
+            LoadFault::Memory => BenchFault::Memory,
+            _ => BenchFault::Image(fault),
         }
     }
 }

@@ -3,5 +3,7 @@
 
 pub mod engine;
 pub mod faults;
+pub mod format;
+pub mod output;
 #[cfg(test)]
 mod tests;

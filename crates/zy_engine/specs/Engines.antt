@@ -1,0 +1,37 @@
+-- What an engine does: it reads a scenario in a format, and writes something of it.
+use Rattle.std.specs.Prelude.{◌≡◌, ◌≢◌, ◌+◌, ℕ, List, Option, Result, IfErr, IfSome, OnOk}
+use Rattle.std.specs.Io.KnownBytes.{Appends}
+use Rattle.zy_io.specs.Streams.{WroteFront}
+use Rattle.zy_isa.specs.Scenario.{Scenario}
+use Rattle.zy_engine.specs.declared.faults.BenchFault.{BenchFault}
+use Rattle.zy_engine.specs.declared.format.Format.{Format}
+use Rattle.zy_engine.specs.Faults.{ReadsInput, failed_reads, failed_writes, IsQuiet, IfRefused}
+use Rattle.zy_engine.specs.Inputs.{StandsFor, HasNoFault, IsRefusal}
+
+-- the bytes that the reader tells and that the writer holds, and the calls of each that failed
+pub record Streams : Type 0 where
+  pub left : Option (List ℕ)
+  pub written : Option (List ℕ)
+  pub reads : ℕ
+  pub writes : ℕ
+
+pub record Converts {X : Type 0} (format : Format) (output : Scenario → List ℕ) (old new : Streams) (result : Result X BenchFault) : Type 0 where
+  -- at Ok the input stands for a scenario, and just its output went out
+  pub written : OnOk result (IfSome old.left (λ told. (sc : Scenario) × StandsFor format told sc × Appends old.written new.written (output sc)))
+  -- whatever comes, nothing but a front of the output of a scenario that the input stands for went out
+  pub front : IfSome old.left (λ told. (sc : Scenario) → StandsFor format told sc → WroteFront old.written new.written (output sc))
+  -- a refused input is told by its first fault
+  pub fault : IfErr result (λ f. IfRefused f (IfSome old.left (λ told. IsRefusal format told f)))
+  -- the input is read whole; only where it has more than 4194304 bytes is it too long, and then one byte more is read
+  pub input : ReadsInput old.left new.left result
+  -- what is accepted has no fault
+  pub accepted : OnOk result (IfSome old.left (HasNoFault format))
+  -- before the input is read and accepted nothing is written
+  pub quiet : IfErr result (λ f. IsQuiet f → new.written ≡ old.written)
+  -- where the input stands for no scenario nothing is written, whatever the fault
+  pub silent : IfSome old.left (λ told. ((sc : Scenario) → StandsFor format told sc → ⊥) → new.written ≡ old.written)
+  -- nor is anything written where it has a fault
+  pub refused : IfSome old.left (λ told. (HasNoFault format told → ⊥) → new.written ≡ old.written)
+  -- each fault of the reader and of the writer is one failed call
+  pub reads : new.reads ≡ old.reads + failed_reads result
+  pub writes : new.writes ≡ old.writes + failed_writes result

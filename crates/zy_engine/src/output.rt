@@ -1,0 +1,88 @@
+//! What the engines write of a scenario.
+ghost use Rattle.std.specs.Prelude.{◌<◌, ℕ, List};
+ghost use Rattle.zy_isa.specs.Canon.{canon};
+ghost use Rattle.zy_isa.specs.Scenario.{Scenario as AScenario};
+ghost use Rattle.zy_image.specs.Image.{image_of};
+ghost use Rattle.zy_io.specs.Writing.{Wrote};
+ghost use Rattle.zy_engine.specs.Run.{listing_run};
+
+use std::alloc::Global;
+use zy_audit::listing::write_listing;
+use zy_disasm::text::write_text;
+use zy_image::save::save;
+use zy_io::stream::Sink;
+use zy_io::writing::{TextFault, write_all};
+use zy_isa::scenario::Scenario;
+use zy_machine::machine::Machine;
+
+/// What can be written of a scenario.
+pub trait Output {
+    // Its bytes.
+    ghost bytes: { Self → AScenario → List ℕ };
+
+    /// Writes it, or a front of it.
+    fn write<K: Sink>(
+        &self,
+        alloc: Global,
+        scenario: Scenario,
+        sink: &mut K,
+    ) -> Result<(), TextFault>
+        requires { K.failures sink.old < u64.MAX }
+        ensures { Wrote (K.written sink.old) (K.written sink.new) (K.failures sink.old)
+            (K.failures sink.new) result (bytes self.now scenario) };
+}
+
+/// The listing of its run.
+#[derive(Clone, Copy)]
+pub struct Listing;
+
+impl Output for Listing {
+    ghost bytes = { λ _. listing_run };
+
+    /// Makes the choices of the scenario first.
+    fn write<K: Sink>(
+        &self,
+        alloc: Global,
+        scenario: Scenario,
+        sink: &mut K,
+    ) -> Result<(), TextFault> {
+        let machine = Machine::run_all(alloc, scenario)?;
+        write_listing(alloc, &machine, sink)
+    }
+}
+
+/// Its image.
+#[derive(Clone, Copy)]
+pub struct Saved;
+
+impl Output for Saved {
+    ghost bytes = { λ _. image_of };
+
+    fn write<K: Sink>(
+        &self,
+        alloc: Global,
+        scenario: Scenario,
+        sink: &mut K,
+    ) -> Result<(), TextFault> {
+        let image = save(alloc, &scenario)?;
+        write_all(sink, image.as_slice())?;
+        Ok(())
+    }
+}
+
+/// Its canonical text.
+#[derive(Clone, Copy)]
+pub struct Canonical;
+
+impl Output for Canonical {
+    ghost bytes = { λ _. canon };
+
+    fn write<K: Sink>(
+        &self,
+        alloc: Global,
+        scenario: Scenario,
+        sink: &mut K,
+    ) -> Result<(), TextFault> {
+        write_text(alloc, &scenario, sink)
+    }
+}
