@@ -4,18 +4,18 @@ use std::alloc::AllocError;
 use thiserror::Error;
 use zy_isa::program::ProgFault;
 
-/// Why bytes are no image of a scenario. The first that comes in the order of reading is told; places in the input, rows,
-/// transactions, instructions and choices count from 0.
+/// Why bytes are no image of a scenario. The first that comes in the order of reading is told; rows, transactions,
+/// instructions and choices count from 0.
 #[derive(Clone, Copy, Debug, PartialEq, Eq, Error)]
 pub enum LoadFault {
     /// 1: the first four bytes are not `ZPH1`.
     #[error("an image begins with ZPH1")]
     Magic,
-    /// 2: the bytes, of which there are so many, end inside a field.
-    #[error("the image ends inside a field, at byte {0}")]
+    /// 2: the input, of so many bytes, ends inside a field.
+    #[error("the input ends after {0} bytes, inside a field")]
     Truncated(usize),
-    /// 3: here, behind the last field, the bytes go on.
-    #[error("the image ends at byte {0}, and the input goes on")]
+    /// 3: the last field ends after so many bytes, and the input goes on.
+    #[error("the image ends after {0} bytes, and the input goes on")]
     Trailing(usize),
     /// 4: a page would have room for too few or too many rows.
     #[error("cap is 2 to 16")]
@@ -38,14 +38,14 @@ pub enum LoadFault {
     /// 10: the instructions of this transaction are no program.
     #[error("transaction {0}: {1}")]
     Program(usize, ProgFault),
-    /// 11: the word of this instruction of this transaction is no word.
-    #[error("transaction {0}: the word of instruction {1} is none")]
+    /// 11: in this transaction, the eight bytes of this instruction are no word.
+    #[error("transaction {0}: the bytes of instruction {1} are no instruction")]
     Word(usize, usize),
     /// 12: there are too many choices.
     #[error("there are at most 4096 choices")]
     ChoiceCount,
     /// 13: this choice is none, or names a transaction that is not there.
-    #[error("choice {0} is none, or names no transaction")]
+    #[error("choice {0} is none, or names a transaction that is not there")]
     Choice(usize),
     /// 14: there was no memory for the scenario.
     #[error("there is no memory for the scenario")]

@@ -10,8 +10,11 @@ use zy_isa::scenario::{MAX_CAP, MAX_PAGES};
 /// What the fields in front of the rows say.
 #[derive(Clone, Copy, Debug, PartialEq, Eq)]
 pub struct Head {
+    /// How many rows a page has room for, 2 to 16.
     pub cap: u8,
+    /// How many pages there may be, 1 to 512.
     pub pages: u16,
+    /// What is done with a locked page that is asked for.
     pub rule: Rule,
 }
 

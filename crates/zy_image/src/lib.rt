@@ -10,3 +10,5 @@ pub mod load;
 mod programs;
 mod rows;
 pub mod save;
+#[cfg(test)]
+mod tests;

@@ -46,7 +46,8 @@ fn read(alloc: Global, bytes: &[u8]) -> Result<Parts, LoadFault>
     })
 }
 
-/// The scenario whose image these bytes are. It takes memory for what the scenario has.
+/// The scenario whose image these bytes are, with nothing behind it, or the first fault in the order of reading. A list's
+/// number is tested before its memory is taken, so no input makes it take more than the largest scenario has.
 pub fn load(alloc: Global, bytes: &[u8]) -> Result<Scenario, LoadFault>
     // What is loaded has this image, and the bytes have no fault.
     ensures found { IfOk result (λ s. IsImage bytes.now s × (image_fault bytes.now ≡ None)) }
@@ -72,7 +73,7 @@ pub fn load(alloc: Global, bytes: &[u8]) -> Result<Scenario, LoadFault>
     }
 }
 
-/// The image of a scenario is read as it.
+/// The image of a scenario is read as it: no two scenarios have the same image. It does nothing when called.
 pub fn image_is_read()
     ensures { (s : isa.Scenario) → isa.IsScenario s → reading (image_of s) ≡ Ok s }
 {}

@@ -148,7 +148,7 @@ fn put_choices(out: &mut Vec<u8>, choices: &[Choice]) -> Result<(), AllocError>
     put_all(out, choices)
 }
 
-/// The image of a scenario; no other scenario has it.
+/// The image of a scenario, 13 to 46669 bytes; no other scenario has it.
 pub fn save(alloc: Global, scenario: &Scenario) -> Result<Vec<u8>, AllocError>
     ensures { IfOk result (λ out. out.items ≡ image_of scenario.now) }
 {

@@ -1,0 +1,141 @@
+//! A worked image and the faults of inputs near it, told from the page on the formats.
+
+use crate::faults::LoadFault;
+use crate::load::load;
+use crate::save::save;
+use std::alloc::Global;
+use std::test::Fail;
+use zy_isa::choice::Choice;
+use zy_isa::instr::{Instr, Reg};
+use zy_isa::node::Node;
+use zy_isa::program::ProgFault;
+use zy_isa::rule::Rule;
+use zy_isa::scenario::Scenario;
+
+/// Cap 4, one page, no rows, one program of three instructions, and three choices.
+const IMAGE: [u8; 47] =
+    *b"ZPH1\x04\x00\x01\x00\x00\x00\x01\x03\x05\x00\x01\x00\x00\x00\x00\x02\x07\x00\x00\x00\x00\x00\x00\x00\x06\x00\x00\x00\x00\x00\x00\x00\x00\x03\x00\x01\x00\x01\x03\x00\x01\x03\x00";
+
+const PROGRAM: [Instr; 3] = [Instr::Beq(Reg::R0, Reg::R1, 2), Instr::Abort, Instr::Commit];
+
+const CHOICES: [Choice; 3] = [
+    Choice::Begin(0),
+    Choice::Run(Node::A, 0),
+    Choice::Run(Node::A, 0),
+];
+
+/// Whether the scenario is that of the worked image.
+fn is_worked(scenario: &Scenario) -> bool {
+    let head = (scenario.version(), scenario.cap(), scenario.pages()) == (1, 4, 1)
+        && scenario.rule() == Rule::Held;
+    let lists = scenario.rows().is_empty() && scenario.choices() == CHOICES.as_slice();
+    match scenario.programs() {
+        [program] => head && lists && program.instrs() == PROGRAM.as_slice(),
+        _ => false,
+    }
+}
+
+/// The fault of an input, unless it is an image.
+fn fault_of(alloc: Global, bytes: &[u8]) -> Option<LoadFault> {
+    load(alloc, bytes).err()
+}
+
+/// The fault of the worked image with another byte in this place.
+fn fault_with(alloc: Global, at: usize, byte: u8) -> Option<LoadFault> {
+    let mut bytes = IMAGE;
+    if let Some(place) = bytes.get_mut(at) {
+        *place = byte;
+    }
+    fault_of(alloc, bytes.as_slice())
+}
+
+#[test]
+fn an_image_is_loaded(rt: HostRuntime) -> Result<(), Fail> {
+    let scenario = load(rt.alloc(), IMAGE.as_slice())?;
+    assert!(rt; is_worked(&scenario));
+    Ok(())
+}
+
+#[test]
+fn what_is_loaded_is_saved_as_it_was(rt: HostRuntime) -> Result<(), Fail> {
+    let scenario = load(rt.alloc(), IMAGE.as_slice())?;
+    let bytes = save(rt.alloc(), &scenario)?;
+    assert_eq!(rt; bytes.as_slice(), IMAGE.as_slice());
+    Ok(())
+}
+
+#[test]
+fn a_wrong_byte_has_its_fault(rt: HostRuntime) {
+    for (at, byte, fault) in [
+        (3, 50, LoadFault::Magic),
+        (4, 1, LoadFault::Cap),
+        (4, 17, LoadFault::Cap),
+        (6, 0, LoadFault::Pages),
+        (7, 1, LoadFault::Rule),
+        (8, 1, LoadFault::RowCount),
+        (10, 65, LoadFault::TxnCount),
+        (11, 0, LoadFault::Program(0, ProgFault::Empty)),
+        (11, 65, LoadFault::Program(0, ProgFault::TooLong)),
+        (12, 8, LoadFault::Word(0, 0)),
+        (21, 1, LoadFault::Word(0, 1)),
+        (19, 3, LoadFault::Program(0, ProgFault::Target(0))),
+        (28, 0, LoadFault::Program(0, ProgFault::NoEnd)),
+        (37, 4, LoadFault::Truncated(47)),
+        (37, 2, LoadFault::Trailing(44)),
+        (38, 3, LoadFault::Choice(0)),
+        (40, 1, LoadFault::Choice(0)),
+        (42, 1, LoadFault::Choice(1)),
+        (46, 1, LoadFault::Choice(2)),
+    ] {
+        assert_eq!(rt;
+            fault_with(rt.alloc(), at, byte),
+            Some(fault),
+            "{at}: {byte}"
+        );
+    }
+}
+
+#[test]
+fn other_inputs_have_their_faults(rt: HostRuntime) {
+    for (bytes, fault) in [
+        (b"".as_slice(), LoadFault::Truncated(0)),
+        (b"ZPH".as_slice(), LoadFault::Truncated(3)),
+        (b"ZPH2\x01".as_slice(), LoadFault::Magic),
+        (b"ZPH1\x02\x02\x01".as_slice(), LoadFault::Pages),
+        (
+            b"ZPH1\x04\x02\x00\x00\x01\x01".as_slice(),
+            LoadFault::RowCount,
+        ),
+        (
+            b"ZPH1\x04\x02\x00\x00\x01\x00".as_slice(),
+            LoadFault::Truncated(10),
+        ),
+        (
+            b"ZPH1\x04\x00\x01\x00\x00\x02\x00\x05\x00\x00\x00\x01\x00\x05\x00\x00\x00\x02".as_slice(),
+            LoadFault::RowOrder(1),
+        ),
+        (
+            b"ZPH1\x04\x00\x01\x00\x00\x00\x00\x10\x01".as_slice(),
+            LoadFault::ChoiceCount,
+        ),
+        (
+            b"ZPH1\x04\x00\x01\x00\x00\x00\x00\x00\x01\x00\x00\x01".as_slice(),
+            LoadFault::Choice(0),
+        ),
+    ] {
+        assert_eq!(rt; fault_of(rt.alloc(), bytes), Some(fault));
+    }
+}
+
+#[test]
+fn a_byte_less_or_more_has_its_fault(rt: HostRuntime) -> Result<(), Fail> {
+    let (front, _) = IMAGE.as_slice().split_at(46);
+    assert_eq!(rt; fault_of(rt.alloc(), front), Some(LoadFault::Truncated(46)));
+    let mut longer = IMAGE.as_slice().to_vec(rt.alloc())?;
+    longer.push(0)?;
+    assert_eq!(rt;
+        fault_of(rt.alloc(), longer.as_slice()),
+        Some(LoadFault::Trailing(47))
+    );
+    Ok(())
+}
