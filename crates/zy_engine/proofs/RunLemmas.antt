@@ -1,16 +1,18 @@
 -- What an engine's parts make together.
 use Rattle.std.proofs.Common.{◌≡◌, ◌≢◌, ◌∙◌, ℕ, List, [], ◌∷◌, Option, None, Some, IfSome, Result, Ok, Err, refl, sym, ap, subst, append-nil}
-use Rattle.std.specs.Result.{result_err}
 use Rattle.std.proofs.KnownBytes.{Appends-nil}
 use Rattle.zy_isa.specs.declared.choice.Choice.{Choice}
 use Rattle.zy_io.specs.declared.writing.TextFault.{TextFault}
 use Rattle.zy_io.specs.declared.writing.TextFault.TheVariants.{Write, Memory}
 use Rattle.zy_isa.specs.Scenario.{Scenario}
-use Rattle.zy_io.specs.Streams.{WroteFront}
-use Rattle.zy_isa.specs.Text.{Means}
+use Rattle.zy_io.specs.Streams.{WroteFront, ReadWhole}
 use Rattle.zy_io.specs.Writing.{Wrote}
-use Rattle.zy_asm.specs.declared.faults.AsmFault.{AsmFault}
-use Rattle.zy_asm.specs.Input.{input_fault, utf8_fault, unless_faulty}
+use Rattle.zy_engine.specs.declared.faults.BenchFault.{BenchFault}
+use Rattle.zy_engine.specs.declared.faults.BenchFault.TheVariants as bench
+use Rattle.zy_engine.specs.declared.format.Format.{Format}
+use Rattle.zy_engine.specs.declared.format.Format.TheVariants as format
+use Rattle.zy_engine.specs.Faults.{ReadsInput, failed_reads, failed_writes, IfRefused}
+use Rattle.zy_engine.specs.Inputs.{StandsFor, HasNoFault, IsRefusal}
 use Rattle.zy_table.specs.State.{State}
 use Rattle.zy_machine.specs.Histories.{History, choices_of}
 use Rattle.zy_table.specs.Play.{step, play, entries, opening}
@@ -41,26 +43,50 @@ Wrote-front a b m n (Ok x) text w = (text, [], sym (append-nil text), w.0)
 Wrote-front a b m n (Err Write) text w = w.0
 Wrote-front a b m n (Err Memory) text w = w.0
 
-no-fault : (u : Option AsmFault) (bytes : List ℕ) → result_err (unless_faulty u bytes) ≡ None → u ≡ None
-no-fault None bytes h = refl
-no-fault (Some f) bytes h = h
+-- what went out is a front of the output of any scenario that the told bytes stand for
+pub front-of-told : (format : Format) (output : Scenario → List ℕ) (told : Option (List ℕ)) (bytes : List ℕ) (a b : Option (List ℕ)) (scenario : Scenario)
+    → IfSome told (λ t. bytes ≡ t) → ((s : Scenario) → StandsFor format bytes s → scenario ≡ s)
+    → WroteFront a b (output scenario) → IfSome told (λ t. (sc : Scenario) → StandsFor format t sc → WroteFront a b (output sc))
+front-of-told format output None bytes a b scenario same only w = tt
+front-of-told format output (Some t) bytes a b scenario same only w = λ sc stands.
+    subst (λ x. WroteFront a b (output x)) (only sc (subst (λ x. StandsFor format x sc) (sym same) stands)) w
 
--- what went out is a front of the listing of any scenario that the told bytes mean
-pub front-of-told : (told : Option (List ℕ)) (bytes : List ℕ) (a b : Option (List ℕ)) (scenario : Scenario)
-    → IfSome told (λ t. bytes ≡ t) → input_fault bytes ≡ None → ((s : Scenario) → utf8_fault bytes ≡ None → Means bytes s → scenario ≡ s)
-    → WroteFront a b (listing_run scenario) → IfSome told (λ t. (sc : Scenario) → Means t sc → WroteFront a b (listing_run sc))
-front-of-told None bytes a b scenario same right only w = tt
-front-of-told (Some t) bytes a b scenario same right only w = λ sc means.
-    subst (λ x. WroteFront a b (listing_run x)) (only sc (no-fault (utf8_fault bytes) bytes right) (subst (λ x. Means x sc) (sym same) means)) w
-
--- bytes that mean a scenario are not bytes that mean none
-pub silent-of-told : (told : Option (List ℕ)) (bytes : List ℕ) (a b : Option (List ℕ)) (scenario : Scenario)
-    → IfSome told (λ t. bytes ≡ t) → Means bytes scenario → IfSome told (λ t. ((sc : Scenario) → Means t sc → ⊥) → b ≡ a)
-silent-of-told None bytes a b scenario same means = tt
-silent-of-told (Some t) bytes a b scenario same means = λ none. absurd (none scenario (subst (λ x. Means x scenario) same means))
+-- bytes that stand for a scenario are not bytes that stand for none
+pub silent-of-told : (format : Format) (told : Option (List ℕ)) (bytes : List ℕ) (a b : Option (List ℕ)) (scenario : Scenario)
+    → IfSome told (λ t. bytes ≡ t) → StandsFor format bytes scenario → IfSome told (λ t. ((sc : Scenario) → StandsFor format t sc → ⊥) → b ≡ a)
+silent-of-told format None bytes a b scenario same stands = tt
+silent-of-told format (Some t) bytes a b scenario same stands = λ none. absurd (none scenario (subst (λ x. StandsFor format x scenario) same stands))
 
 -- bytes that were accepted are not bytes with a fault
-pub unwritten-of-told : (told : Option (List ℕ)) (bytes : List ℕ) (a b : Option (List ℕ))
-    → IfSome told (λ t. bytes ≡ t) → input_fault bytes ≡ None → IfSome told (λ t. input_fault t ≢ None → b ≡ a)
-unwritten-of-told None bytes a b same right = tt
-unwritten-of-told (Some t) bytes a b same right = λ faulty. absurd (faulty (ap input_fault (sym same) ∙ right))
+pub unwritten-of-told : (format : Format) (told : Option (List ℕ)) (bytes : List ℕ) (a b : Option (List ℕ))
+    → IfSome told (λ t. bytes ≡ t) → HasNoFault format bytes → IfSome told (λ t. (HasNoFault format t → ⊥) → b ≡ a)
+unwritten-of-told format None bytes a b same right = tt
+unwritten-of-told format (Some t) bytes a b same right = λ faulty. absurd (faulty (subst (HasNoFault format) same right))
+
+-- what is told of the bytes holds of what the reader told
+pub told-of : (P : List ℕ → Type 0) (told : Option (List ℕ)) (bytes : List ℕ) → IfSome told (λ t. bytes ≡ t) → P bytes → IfSome told P
+told-of P None bytes same h = tt
+told-of P (Some t) bytes same h = subst P same h
+
+-- an input that is refused was read whole, and no call failed
+pub record Refused (format : Format) (told left : Option (List ℕ)) (f : BenchFault) : Type 0 where
+  pub fault : IfRefused f (IfSome told (λ t. IsRefusal format t f))
+  pub input : ReadsInput {X = Unit {0}} told left (Err f)
+  pub reads : failed_reads {X = Unit {0}} (Err f) ≡ 0
+  pub writes : failed_writes {X = Unit {0}} (Err f) ≡ 0
+
+pub refused : (format : Format) (told left : Option (List ℕ)) (bytes : List ℕ) (f : BenchFault) → IfSome told (λ t. bytes ≡ t) → IsRefusal format bytes f → ReadWhole told left → Refused format told left f
+refused format told left bytes (bench.Input r) same h whole = record { fault = told-of (λ t. IsRefusal format t (bench.Input r)) told bytes same h; input = whole; reads = refl; writes = refl }
+refused format told left bytes (bench.Image f) same h whole = record { fault = told-of (λ t. IsRefusal format t (bench.Image f)) told bytes same h; input = whole; reads = refl; writes = refl }
+refused format.Text told left bytes bench.TooLong same h whole = absurd h
+refused format.Image told left bytes bench.TooLong same h whole = absurd h
+refused format.Text told left bytes bench.Read same h whole = absurd h
+refused format.Image told left bytes bench.Read same h whole = absurd h
+refused format.Text told left bytes bench.Write same h whole = absurd h
+refused format.Image told left bytes bench.Write same h whole = absurd h
+refused format told left bytes bench.Memory same h whole = record { fault = tt; input = whole.0; reads = refl; writes = refl }
+
+-- what holds of all bytes holds of those that the reader told
+pub of-any : (P : List ℕ → Type 0) (told : Option (List ℕ)) → ((t : List ℕ) → P t) → IfSome told P
+of-any P None h = tt
+of-any P (Some t) h = h t
