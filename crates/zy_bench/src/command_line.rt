@@ -1,34 +1,79 @@
 //! The command line.
 
-use clap::{ArgMatches, Command};
+use clap::{Arg, ArgAction, ArgMatches, Command};
 use std::alloc::{AllocError, Global};
+use zy_engine::format::Format;
 
 /// What is asked for.
 #[derive(Clone, Copy, Debug, PartialEq, Eq)]
 pub enum Request {
     /// Run a scenario, and print its listing.
-    Run,
+    Run(Format),
+    /// Print the image of a scenario text.
+    Asm,
+    /// Print the text of an image.
+    Dis,
+}
+
+/// `run`.
+fn run_command<'a>(alloc: Global) -> Result<Command<'a>, AllocError> {
+    let image = Arg::new(alloc, "image")
+        .long("image")
+        .action(ArgAction::SetTrue)
+        .help("The input is an image, as asm writes it, and not a text");
+    Command::new(alloc, "run")
+        .about("Runs the scenario on standard input, and prints its listing")
+        .after_help(
+            "Example:\n  zy_bench run < examples/first_run.zephyr\n\nStatus: 0 done, 1 the input is refused, 2 the command line is wrong,\n3 want of memory, 5 the input or the output failed.\nThe text, the image and the listing are told in docs/formats.md.",
+        )
+        .arg(image)
+}
+
+/// `asm`.
+fn asm_command<'a>(alloc: Global) -> Command<'a> {
+    Command::new(alloc, "asm")
+        .about("Reads a scenario text on standard input, and writes its image")
+        .after_help(
+            "Example:\n  zy_bench asm < examples/first_run.zephyr > first_run.image\n\nStatus: 0 done, 1 the input is refused, 2 the command line is wrong,\n3 want of memory, 5 the input or the output failed.\nThe text and the image are told in docs/formats.md.",
+        )
+}
+
+/// `dis`.
+fn dis_command<'a>(alloc: Global) -> Command<'a> {
+    Command::new(alloc, "dis")
+        .about("Reads the image of a scenario on standard input, and prints its canonical text")
+        .after_help(
+            "Example:\n  zy_bench dis < first_run.image\n\nStatus: 0 done, 1 the input is refused, 2 the command line is wrong,\n3 want of memory, 5 the input or the output failed.\nThe text and the image are told in docs/formats.md.",
+        )
 }
 
 /// The command line that is understood.
 pub fn command<'a>(alloc: Global) -> Result<Command<'a>, AllocError> {
-    let run = Command::new(alloc, "run")
-        .about("Runs the scenario text on standard input, and prints its listing")
-        .after_help("Example:\n  zy_bench run < examples/first_run.zephyr");
-    Ok(
-        Command::new(alloc, "zy_bench")
-            .version("0.1.0")
-            .about("Runs transaction programs on a migrating store, under any schedule")
-            .after_help("Example:\n  zy_bench run < examples/first_run.zephyr")
-            .subcommand_required(true)
-            .subcommand(run)?,
-    )
+    Command::new(alloc, "zy_bench")
+        .version("0.1.0")
+        .about("Runs transaction programs on a migrating store, under any schedule")
+        .after_help("Example:\n  zy_bench run < examples/first_run.zephyr")
+        .subcommand_required(true)
+        .subcommand(run_command(alloc)?)?
+        .subcommand(asm_command(alloc))?
+        .subcommand(dis_command(alloc))
 }
 
 /// What the words ask for.
 pub fn request_of(matches: &ArgMatches<'_>) -> Option<Request> {
     match matches.subcommand() {
-        Some(("run", _)) => Some(Request::Run),
+        Some(("run", run)) => Some(Request::Run(format_of(run))),
+        Some(("asm", _)) => Some(Request::Asm),
+        Some(("dis", _)) => Some(Request::Dis),
         _ => None,
+    }
+}
+
+/// What the input of `run` is written in.
+fn format_of(run: &ArgMatches<'_>) -> Format {
+    if run.get_flag("image") {
+        Format::Image
+    } else {
+        Format::Text
     }
 }

@@ -10,7 +10,7 @@ use command_line::{Request, command, request_of};
 use std::io;
 use std::io::BufWriter;
 use std::process::ExitCode;
-use zy_engine::engine::run_bytes;
+use zy_engine::engine::{asm_bytes, dis_bytes, run_bytes};
 use zy_engine::faults::BenchFault;
 use zy_io::stream::{CountingReader, CountingWriter};
 
@@ -28,7 +28,9 @@ fn run<R: Print + Input + AllocGlobal>(rt: &R, request: Request) -> Result<(), B
     let mut source = CountingReader::new(rt.reader());
     let mut sink = CountingWriter::new(buffer);
     match request {
-        Request::Run => run_bytes(rt.alloc(), &mut source, &mut sink)?,
+        Request::Run(format) => run_bytes(rt.alloc(), format, &mut source, &mut sink)?,
+        Request::Asm => asm_bytes(rt.alloc(), &mut source, &mut sink)?,
+        Request::Dis => dis_bytes(rt.alloc(), &mut source, &mut sink)?,
     }
     match sink.flush() {
         Ok(()) => Ok(()),

@@ -1,7 +1,8 @@
 //! The engine over streams that give and take little, and fail in mid-stream. Whole runs are in tests/cases.
 
-use crate::engine::run_bytes;
+use crate::engine::{asm_bytes, dis_bytes, run_bytes};
 use crate::faults::BenchFault;
+use crate::format::Format;
 use std::io;
 use std::io::{ErrorKind, Read, Write};
 use std::test::Fail;
@@ -9,6 +10,9 @@ use zy_io::memory::{SliceSource, VecSink};
 use zy_io::stream::{CountingReader, CountingWriter};
 
 const SMALLEST: &[u8] = b"zephyr 1\ncap 2\npages 1\nrule held\nend\n";
+
+/// Its image.
+const SMALLEST_IMAGE: &[u8] = b"ZPH1\x02\x00\x01\x00\x00\x00\x00\x00\x00";
 
 /// Gives one byte a call; one call fails.
 #[derive(Drop)]
@@ -70,7 +74,7 @@ fn a_failed_read_writes_nothing(rt: HostRuntime) -> Result<(), Fail> {
         calls: 0,
     });
     let mut sink = VecSink::new(Vec::new(rt.alloc()));
-    let outcome = run_bytes(rt.alloc(), &mut source, &mut sink);
+    let outcome = run_bytes(rt.alloc(), Format::Text, &mut source, &mut sink);
     assert_eq!(rt; outcome, Err(BenchFault::Read));
     assert!(rt; sink.bytes().is_empty());
     Ok(())
@@ -84,11 +88,24 @@ fn a_failed_write_leaves_a_front(rt: HostRuntime) -> Result<(), Fail> {
         bad: 16,
         calls: 0,
     });
-    let outcome = run_bytes(rt.alloc(), &mut source, &mut sink);
+    let outcome = run_bytes(rt.alloc(), Format::Text, &mut source, &mut sink);
     assert_eq!(rt; outcome, Err(BenchFault::Write));
     assert_eq!(rt;
         sink.into_inner().held.as_slice(),
         b"zephyr 1\ncap 2\n".as_slice()
     );
+    Ok(())
+}
+
+#[test]
+fn a_text_has_its_image_and_an_image_its_text(rt: HostRuntime) -> Result<(), Fail> {
+    let mut text = SliceSource::new(SMALLEST);
+    let mut image = VecSink::new(Vec::new(rt.alloc()));
+    assert_eq!(rt; asm_bytes(rt.alloc(), &mut text, &mut image), Ok(()));
+    assert_eq!(rt; image.bytes(), SMALLEST_IMAGE);
+    let mut image = SliceSource::new(SMALLEST_IMAGE);
+    let mut text = VecSink::new(Vec::new(rt.alloc()));
+    assert_eq!(rt; dis_bytes(rt.alloc(), &mut image, &mut text), Ok(()));
+    assert_eq!(rt; text.bytes(), SMALLEST);
     Ok(())
 }
