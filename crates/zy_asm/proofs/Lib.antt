@@ -1,9 +1,6 @@
 pub mod LineLemmas
 pub mod CodeLemmas
+pub mod NameLemmas
+pub mod PendingLemmas
 pub mod SpellLemmas
-pub mod FoundLemmas
-pub mod GivesLemmas
-pub mod OnlyLemmas
-pub mod CanonLemmas
-pub mod InputLemmas
 pub mod ExtendLemmas

@@ -1,7 +1,8 @@
 -- What a line that is read spells.
-use Rattle.std.proofs.Common.{◌≡◌, ℕ, ◌+◌, ◌≤◌, true, ◌||◌, ◌==◌, nat_lt, List, [], ◌∷◌, ◌++◌, length, codes, Result, Ok, Err, Some, None, refl, sym, ap, ◌∙◌, subst, inl, inr, arith, ok_or}
+use Rattle.std.proofs.Common.{◌≡◌, ℕ, ◌+◌, ◌<◌, ◌≤◌, ◌⊎◌, Bool, Option, true, false, is_some, if◌then◌else◌, append-nil, lt-ltb, ◌||◌, ◌==◌, nat_lt, List, [], ◌∷◌, ◌++◌, length, codes, Result, Ok, Err, Some, None, refl, sym, ap, ◌∙◌, subst, inl, inr, arith, ok_or}
 use Rattle.std.specs.Prelude.{replicate}
 use Rattle.std.specs.Str.{bytes_eq}
+use Rattle.std.specs.Char.{is_ascii_digit}
 use Rattle.zy_isa.specs.declared.node.Node.{Node}
 use Rattle.zy_isa.specs.declared.node.Node.TheVariants as node
 use Rattle.zy_isa.specs.declared.node.Actor.{Actor}
@@ -17,7 +18,7 @@ use Rattle.zy_isa.specs.Words.{number_of}
 use Rattle.zy_isa.specs.Canon.{reg_text, node_text}
 use Rattle.zy_isa.specs.Choices.{names_below, actor_at}
 use Rattle.zy_isa.specs.Text as m
-use Rattle.zy_isa.specs.Text.{Times, Spells, SpellsInstr, SpellsChoice, SpellsTimes}
+use Rattle.zy_isa.specs.Text.{Times, Spells, SpellsInstr, SpellsChoice, SpellsTimes, Refers, name_in}
 use Rattle.zy_asm.specs.declared.faults.AsmKind.{AsmKind}
 use Rattle.zy_asm.specs.declared.faults.AsmKind.TheVariants as kinds
 use Rattle.zy_asm.specs.declared.instructions.Operation.{Operation}
@@ -30,11 +31,15 @@ use Rattle.zy_asm.specs.declared.reading.Keyword.{Keyword}
 use Rattle.zy_asm.specs.declared.reading.Keyword.TheVariants as k
 use Rattle.zy_asm.specs.declared.state.Stage.TheVariants as stage
 use Rattle.zy_asm.specs.Steps.{number_in}
-use Rattle.zy_asm.specs.Instructions.{operation_of, register_of, two, pair_of, target_of, set_of, beq_of, alone, instr_of}
-use Rattle.zy_asm.specs.Choices.{actor_of, client_action, node_action, action_of, chosen, transaction, are_times, times_of}
-use Rattle.zy_asm.specs.Reading.{Seen, keyword_of, row_of, repeat_choice, repeat_line, action_line, choice_line, own_number}
+use Rattle.zy_isa.specs.Names.{Mark, is_letter, is_name, place, AreNew}
+use Rattle.zy_isa.specs.Results.{◌>>=◌}
+use Rattle.zy_asm.specs.Names.{is_numeral}
+use Rattle.zy_asm.specs.Pending.{Pending, whole, jump, resolved}
+use Rattle.zy_asm.specs.Instructions.{operation_of, register_of, two, pair_of, jump_to, set_of, beq_of, alone, instr_of}
+use Rattle.zy_asm.specs.Choices.{actor_of, client_action, node_action, action_of, chosen, numbered, transaction, are_times, times_of}
+use Rattle.zy_asm.specs.Reading.{Seen, keyword_of, row_of, repeat_choice, repeat_line, action_line, choice_line, own_number, head_line}
 use Rattle.zy_isa.proofs.ResultLemmas.{bind_ok, if_ok, if_err, ok_or_ok, chosen_by, first_or, in_range, not_over, same}
-use borrow.Author.Tests.{eqb-true}
+use borrow.Author.Tests.{eqb-true, tests}
 
 -- ---- first words
 
@@ -206,65 +211,102 @@ pair_ok (a ∷ []) p h = cc
 pair_ok (a ∷ b ∷ []) p h = let q = two_ok a b p h in rw (q.0, q.1) refl
 pair_ok (a ∷ b ∷ d ∷ ws) p h = cc
 
-target_ok : (w : List ℕ) (n : ℕ) → target_of w ≡ Ok n → (v : List ℕ) × (w ≡ 64 ∷ v) × (number_of v ≡ Some n)
-target_ok [] n h = cc
-target_ok (c ∷ cs) n h =
-    let p = if_ok (c == 64) (number_in cs 0 4294967295) kinds.Word n h in
-    (cs, ap (λ x. x ∷ cs) (eqb-true c 64 p.0), (number_in_ok cs 0 4294967295 n p.1).0)
-
 -- ---- instructions
 
-set_ok : (ws : List (List ℕ)) (i : Instr) → set_of ws ≡ Ok i → SpellsInstr i (codes "set" ∷ ws)
-set_ok [] i h = cc
-set_ok (a ∷ []) i h = cc
-set_ok (a ∷ w ∷ []) i h =
+-- whatever the labels, the words spell what the instruction is with them
+abbrev pub SpellsPending : Pending → List (List ℕ) → Type 0
+SpellsPending p ws = (labels : List Mark) (i : Instr) → resolved labels p ≡ Ok i → SpellsInstr labels i ws
+
+whole_ok : (i : Instr) (p : Pending) (ws : List (List ℕ)) → whole i ≡ p → ((labels : List Mark) → SpellsInstr labels i ws) → SpellsPending p ws
+whole_ok i p ws q h = subst (λ x. SpellsPending x ws) q (λ labels j e. same_instr labels j (let g : i ≡ j = cc in g))
+  where
+    same_instr : (labels : List Mark) (j : Instr) → i ≡ j → SpellsInstr labels j ws
+    same_instr labels j g = subst (λ x. SpellsInstr labels x ws) g (h labels)
+
+set_ok : (ws : List (List ℕ)) (i : Instr) → set_of ws ≡ Ok i → (labels : List Mark) → SpellsInstr labels i (codes "set" ∷ ws)
+set_ok [] i h labels = cc
+set_ok (a ∷ []) i h labels = cc
+set_ok (a ∷ w ∷ []) i h labels =
     let p = bind_ok (register_of a) _ i h in
     let n = bind_ok (number_in w 0 4294967295) _ i p.2 in
     let q : i ≡ Set p.0 n.0 = cc (n.2) in
     rw q (w, ap (λ r. codes "set" ∷ r ∷ w ∷ []) (register_ok a p.0 p.1), (number_in_ok w 0 4294967295 n.0 n.1).0)
-set_ok (a ∷ w ∷ v ∷ ws) i h = cc
+set_ok (a ∷ w ∷ v ∷ ws) i h labels = cc
 
-beq_words : (a b w v : List ℕ) (x y : Reg) → a ≡ reg_text x → b ≡ reg_text y → w ≡ 64 ∷ v → codes "beq" ∷ a ∷ b ∷ w ∷ [] ≡ codes "beq" ∷ reg_text x ∷ reg_text y ∷ (64 ∷ v) ∷ []
-beq_words a b w v x y e f g = rw (e, f, g) refl
+abbrev beq_words : Reg → Reg → List ℕ → List (List ℕ)
+beq_words a b w = codes "beq" ∷ reg_text a ∷ reg_text b ∷ w ∷ []
 
-beq_ok : (ws : List (List ℕ)) (i : Instr) → beq_of ws ≡ Ok i → SpellsInstr i (codes "beq" ∷ ws)
-beq_ok [] i h = cc
-beq_ok (a ∷ []) i h = cc
-beq_ok (a ∷ b ∷ []) i h = cc
-beq_ok (a ∷ b ∷ w ∷ []) i h =
-    let p = bind_ok (two a b) _ i h in
-    let n = bind_ok (target_of w) _ i p.2 in
-    let q : i ≡ Beq p.0.0 p.0.1 n.0 = cc (n.2) in
-    let r = two_ok a b p.0 p.1 in
-    let t = target_ok w n.0 n.1 in
-    rw q (t.0, beq_words a b w t.0 p.0.0 p.0.1 r.0 r.1 t.1, t.2)
-beq_ok (a ∷ b ∷ w ∷ v ∷ ws) i h = cc
+same_words : (a b w : List ℕ) (x y : Reg) → a ≡ reg_text x → b ≡ reg_text y → codes "beq" ∷ a ∷ b ∷ w ∷ [] ≡ beq_words x y w
+same_words a b w x y e f = rw (e, f) refl
+
+named_ok : (a b : Reg) (w : List ℕ) (p : Pending) → is_name w ≡ true → jump a b w ≡ p → SpellsPending p (beq_words a b w)
+named_ok a b w p n q = subst (λ x. SpellsPending x (beq_words a b w)) q found
+  where
+    found : SpellsPending (jump a b w) (beq_words a b w)
+    found labels i h =
+        let g = bind_ok (ok_or (place w labels) kinds.Label) _ i h in
+        let e : Beq a b g.0 ≡ i = cc (g.2) in
+        subst (λ x. SpellsInstr labels x (beq_words a b w)) e (w, refl, inr (n, ok_or_ok (place w labels) kinds.Label g.0 g.1))
+
+jump_ok : (a b : Reg) (t : List ℕ) (p : Pending) → jump_to a b t ≡ Ok p → SpellsPending p (beq_words a b t)
+jump_ok a b [] p h = cc
+jump_ok a b (c ∷ cs) p h =
+    elim (chosen_by (c == 64) _ _ _ h) [
+      | inl e ↦ at_number e.0 (bind_ok (number_in cs 0 4294967295) _ p e.1)
+      | inr e ↦ let d = if_ok (is_name (c ∷ cs)) (Ok (jump a b (c ∷ cs))) kinds.Word p e.1 in named_ok a b (c ∷ cs) p d.0 (let q : jump a b (c ∷ cs) ≡ p = cc (d.1) in q)
+    ]
+  where
+    at_number : (c == 64) ≡ true → ((n : ℕ) × (number_in cs 0 4294967295 ≡ Ok n) × ((let r : Result Pending AsmKind = Ok (whole (Beq a b n)) in r) ≡ Ok p)) → SpellsPending p (beq_words a b (c ∷ cs))
+    at_number e n =
+        let q : whole (Beq a b n.0) ≡ p = cc (n.2) in
+        whole_ok (Beq a b n.0) p (beq_words a b (c ∷ cs)) q (λ labels. (c ∷ cs, refl, inl (cs, ap (λ x. x ∷ cs) (eqb-true c 64 e), (number_in_ok cs 0 4294967295 n.0 n.1).0)))
+
+beq_ok : (ws : List (List ℕ)) (p : Pending) → beq_of ws ≡ Ok p → SpellsPending p (codes "beq" ∷ ws)
+beq_ok [] p h = cc
+beq_ok (a ∷ []) p h = cc
+beq_ok (a ∷ b ∷ []) p h = cc
+beq_ok (a ∷ b ∷ t ∷ []) p h =
+    let r = bind_ok (two a b) _ p h in
+    let q = two_ok a b r.0 r.1 in
+    subst (SpellsPending p) (sym (same_words a b t r.0.0 r.0.1 q.0 q.1)) (jump_ok r.0.0 r.0.1 t p r.2)
+beq_ok (a ∷ b ∷ t ∷ u ∷ ws) p h = cc
 
 alone_ok : (ws : List (List ℕ)) (i j : Instr) → alone ws i ≡ Ok j → (ws ≡ []) × (j ≡ i)
 alone_ok [] i j h = (refl, cc)
 alone_ok (w ∷ ws) i j h = cc
 
-pub instr_ok : (o : Operation) (ws : List (List ℕ)) (i : Instr) → instr_of o ws ≡ Ok i → SpellsInstr i (op_word o ∷ ws)
-instr_ok op.Set ws i h = set_ok ws i h
-instr_ok op.Read ws i h =
-    let p = bind_ok (pair_of ws) _ i h in
-    let q : i ≡ Read p.0.0 p.0.1 = cc (p.2) in
-    rw q (ap (λ x. codes "read" ∷ x) (pair_ok ws p.0 p.1))
-instr_ok op.Write ws i h =
-    let p = bind_ok (pair_of ws) _ i h in
-    let q : i ≡ Write p.0.0 p.0.1 = cc (p.2) in
-    rw q (ap (λ x. codes "write" ∷ x) (pair_ok ws p.0 p.1))
-instr_ok op.Insert ws i h =
-    let p = bind_ok (pair_of ws) _ i h in
-    let q : i ≡ Insert p.0.0 p.0.1 = cc (p.2) in
-    rw q (ap (λ x. codes "insert" ∷ x) (pair_ok ws p.0 p.1))
-instr_ok op.Add ws i h =
-    let p = bind_ok (pair_of ws) _ i h in
-    let q : i ≡ Add p.0.0 p.0.1 = cc (p.2) in
-    rw q (ap (λ x. codes "add" ∷ x) (pair_ok ws p.0 p.1))
-instr_ok op.Beq ws i h = beq_ok ws i h
-instr_ok op.Commit ws i h = let p = alone_ok ws Commit i h in rw p.1 (ap (λ x. codes "commit" ∷ x) p.0)
-instr_ok op.Abort ws i h = let p = alone_ok ws Abort i h in rw p.1 (ap (λ x. codes "abort" ∷ x) p.0)
+-- an instruction of one word
+sole_ok : (w : List ℕ) (ws : List (List ℕ)) (i : Instr) (p : Pending) → ((labels : List Mark) → SpellsInstr labels i (w ∷ [])) → (alone ws i >>= λ j. Ok (whole j)) ≡ Ok p → SpellsPending p (w ∷ ws)
+sole_ok w ws i p spelled h =
+    let g = bind_ok (alone ws i) _ p h in
+    let a = alone_ok ws i g.0 g.1 in
+    let q : whole g.0 ≡ p = cc (g.2) in
+    whole_ok i p (w ∷ ws) (ap whole (sym a.1) ∙ q) (λ labels. subst (λ x. SpellsInstr labels i (w ∷ x)) (sym a.0) (spelled labels))
+
+pub instr_ok : (o : Operation) (ws : List (List ℕ)) (p : Pending) → instr_of o ws ≡ Ok p → SpellsPending p (op_word o ∷ ws)
+instr_ok op.Set ws p h =
+    let g = bind_ok (set_of ws) _ p h in
+    let q : whole g.0 ≡ p = cc (g.2) in
+    whole_ok g.0 p (codes "set" ∷ ws) q (set_ok ws g.0 g.1)
+instr_ok op.Read ws p h =
+    let g = bind_ok (pair_of ws) _ p h in
+    let q : whole (Read g.0.0 g.0.1) ≡ p = cc (g.2) in
+    whole_ok (Read g.0.0 g.0.1) p (codes "read" ∷ ws) q (λ labels. ap (λ x. codes "read" ∷ x) (pair_ok ws g.0 g.1))
+instr_ok op.Write ws p h =
+    let g = bind_ok (pair_of ws) _ p h in
+    let q : whole (Write g.0.0 g.0.1) ≡ p = cc (g.2) in
+    whole_ok (Write g.0.0 g.0.1) p (codes "write" ∷ ws) q (λ labels. ap (λ x. codes "write" ∷ x) (pair_ok ws g.0 g.1))
+instr_ok op.Insert ws p h =
+    let g = bind_ok (pair_of ws) _ p h in
+    let q : whole (Insert g.0.0 g.0.1) ≡ p = cc (g.2) in
+    whole_ok (Insert g.0.0 g.0.1) p (codes "insert" ∷ ws) q (λ labels. ap (λ x. codes "insert" ∷ x) (pair_ok ws g.0 g.1))
+instr_ok op.Add ws p h =
+    let g = bind_ok (pair_of ws) _ p h in
+    let q : whole (Add g.0.0 g.0.1) ≡ p = cc (g.2) in
+    whole_ok (Add g.0.0 g.0.1) p (codes "add" ∷ ws) q (λ labels. ap (λ x. codes "add" ∷ x) (pair_ok ws g.0 g.1))
+instr_ok op.Beq ws p h = beq_ok ws p h
+instr_ok op.Commit ws p h = sole_ok (codes "commit") ws Commit p (λ labels. refl) h
+instr_ok op.Abort ws p h = sole_ok (codes "abort") ws Abort p (λ labels. refl) h
 
 -- ---- rows
 
@@ -278,15 +320,64 @@ row_ok (k ∷ v ∷ []) r h =
     rw e (k, v, refl, (number_in_ok k 0 65535 q.0 q.1).0, (number_in_ok v 0 4294967295 o.0 o.1).0)
 row_ok (k ∷ v ∷ y ∷ ys) r h = cc
 
--- ---- programs
+-- ---- names
 
-pub own_ok : (count : ℕ) (w : List ℕ) (n : ℕ) → own_number count w ≡ Ok n → (number_of w ≡ Some count) × (n ≡ count)
+letter_digit : (b : ℕ) → is_ascii_digit b ≡ true → is_letter b ≡ false
+letter_digit b h = grind (arith, tests)
+
+pub no_name : (w : List ℕ) → is_numeral w ≡ true → is_name w ≡ false
+no_name [] h = refl
+no_name (b ∷ bs) h = rw (letter_digit b h) refl
+
+pub not_some : {X : Type 0} (o : Option X) → is_some o ≡ false → o ≡ None
+not_some None h = refl
+not_some (Some x) h = cc
+
+own_ok : (count : ℕ) (w : List ℕ) (n : ℕ) → own_number count w ≡ Ok n → number_of w ≡ Some count
 own_ok count w n h =
     let p = bind_ok (ok_or (number_of w) kinds.Number) _ n h in
     let q = if_ok (p.0 == count) (Ok p.0) kinds.Label n p.2 in
-    let e : p.0 ≡ n = cc (q.1) in
-    let f = eqb-true p.0 count q.0 in
-    (ok_or_ok (number_of w) kinds.Number p.0 p.1 ∙ ap Some f, sym e ∙ f)
+    ok_or_ok (number_of w) kinds.Number p.0 p.1 ∙ ap Some (eqb-true p.0 count q.0)
+
+-- what a head did
+pub record HeadStep (s : Seen) (w : List ℕ) (t : Seen) : Type 0 where
+  pub kind : (is_name w ≡ true) ⊎ (number_of w ≡ Some (length s.programs))
+  pub new : AreNew s.names (name_in w (length s.programs))
+  pub after : t ≡ record s { names = s.names ++ name_in w (length s.programs) }
+
+pub head_ok : (s : Seen) (w : List ℕ) (t : Seen) → head_line s w ≡ Ok t → HeadStep s w t
+head_ok s w t h = split (is_numeral w) refl
+  where
+    split : (b : Bool) → is_numeral w ≡ b → HeadStep s w t
+    split true e =
+        let p = bind_ok (own_number (length s.programs) w) _ t (rw e at h) in
+        let n = no_name w e in
+        record {
+          kind = inr (own_ok (length s.programs) w p.0 p.1);
+          new = rw n tt;
+          after = (let g : t ≡ s = cc (p.2) in g) ∙ ap (λ x. record s { names = x }) (sym (append-nil s.names)) ∙ ap (λ x. record s { names = s.names ++ (if x then (w, length s.programs) ∷ [] else []) }) (sym n);
+        }
+    split false e =
+        let p = if_ok (is_name w) _ kinds.Word t (rw e at h) in
+        let q = if_err (is_some (place w s.names)) _ kinds.Label t p.1 in
+        record {
+          kind = inl p.0;
+          new = rw p.0 (not_some (place w s.names) q.0, tt);
+          after = (let g : t ≡ record s { names = s.names ++ (w, length s.programs) ∷ [] } = cc (q.1) in g) ∙ ap (λ x. record s { names = s.names ++ (if x then (w, length s.programs) ∷ [] else []) }) (sym p.0);
+        }
+
+-- the numbers of names are below the count
+abbrev pub AreBelow : ℕ → List Mark → Type 0
+AreBelow n [] = Unit {0}
+AreBelow n (m ∷ ms) = (m.1 < n) × AreBelow n ms
+
+place_below : (n : ℕ) (w : List ℕ) (ms : List Mark) (t : ℕ) → AreBelow n ms → place w ms ≡ Some t → t < n
+place_below n w [] t h e = cc
+place_below n w (x ∷ xs) t h e = split (bytes_eq w x.0) refl (λ g. place_below n w xs t h.1 g)
+  where
+    split : (b : Bool) → bytes_eq w x.0 ≡ b → (place w xs ≡ Some t → t < n) → t < n
+    split true q ih = let g : Some x.1 ≡ Some t = rw q at e in let g2 : x.1 ≡ t = cc in rw g2 at (h.0)
+    split false q ih = ih (rw q at e)
 
 -- ---- choices
 
@@ -296,57 +387,67 @@ node_word node.A = refl
 node_word node.B = refl
 
 -- an action that this word names
-abbrev SpellsAction : Actor → List ℕ → Action → Type 0
-SpellsAction a w (Txn x) = (who : List ℕ) (i : ℕ) → number_of who ≡ Some i → SpellsChoice (chosen x i) (actor_word a ∷ w ∷ who ∷ [])
-SpellsAction a w (Plain c) = SpellsChoice c (actor_word a ∷ w ∷ []) × ((count : ℕ) → names_below count c ≡ true)
+abbrev SpellsAction : List Mark → Actor → List ℕ → Action → Type 0
+SpellsAction names a w (Txn x) = (who : List ℕ) (i : ℕ) → Refers names i who → SpellsChoice names (chosen x i) (actor_word a ∷ w ∷ who ∷ [])
+SpellsAction names a w (Plain c) = SpellsChoice names c (actor_word a ∷ w ∷ []) × ((count : ℕ) → names_below count c ≡ true)
 
-this_action : (a : Actor) (w v : List ℕ) (x y : Action) → SpellsAction a v x → bytes_eq w v ≡ true → Some x ≡ Some y → SpellsAction a w y
-this_action a w v x y s e h = let q : x ≡ y = cc in subst (SpellsAction a w) q (subst (λ u. SpellsAction a u x) (sym (same w v e)) s)
+this_action : (names : List Mark) (a : Actor) (w v : List ℕ) (x y : Action) → SpellsAction names a v x → bytes_eq w v ≡ true → Some x ≡ Some y → SpellsAction names a w y
+this_action names a w v x y s e h = let q : x ≡ y = cc in subst (SpellsAction names a w) q (subst (λ u. SpellsAction names a u x) (sym (same w v e)) s)
 
-client_ok : (w : List ℕ) (x : Action) → client_action w ≡ Some x → SpellsAction actor.C w x
-client_ok w x h =
+client_ok : (names : List Mark) (w : List ℕ) (x : Action) → client_action w ≡ Some x → SpellsAction names actor.C w x
+client_ok names w x h =
     elim (chosen_by (bytes_eq w (codes "start")) _ _ _ h) [
-      | inl a ↦ this_action actor.C w (codes "start") (Plain choice.Start) x (refl, λ count. refl) a.0 a.1
+      | inl a ↦ this_action names actor.C w (codes "start") (Plain choice.Start) x (refl, λ count. refl) a.0 a.1
       | inr a ↦
           elim (chosen_by (bytes_eq w (codes "begin")) _ _ _ a.1) [
-            | inl b ↦ this_action actor.C w (codes "begin") (Txn Begin) x (λ who i n. (who, refl, n)) b.0 b.1
+            | inl b ↦ this_action names actor.C w (codes "begin") (Txn Begin) x (λ who i n. (who, refl, n)) b.0 b.1
             | inr b ↦
-                elim (chosen_by (bytes_eq w (codes "kill")) _ _ _ b.1) [ inl d ↦ this_action actor.C w (codes "kill") (Txn Kill) x (λ who i n. (who, refl, n)) d.0 d.1 | inr d ↦ absurd (nothing x d.1) ]
+                elim (chosen_by (bytes_eq w (codes "kill")) _ _ _ b.1) [ inl d ↦ this_action names actor.C w (codes "kill") (Txn Kill) x (λ who i n. (who, refl, n)) d.0 d.1 | inr d ↦ absurd (nothing x d.1) ]
           ]
     ]
 
-node_ok : (n : Node) (w : List ℕ) (x : Action) → node_action n w ≡ Some x → SpellsAction (actor_at n) w x
-node_ok n w x h =
+node_ok : (names : List Mark) (n : Node) (w : List ℕ) (x : Action) → node_action n w ≡ Some x → SpellsAction names (actor_at n) w x
+node_ok names n w x h =
     elim (chosen_by (bytes_eq w (codes "run")) _ _ _ h) [
-      | inl a ↦ this_action (actor_at n) w (codes "run") (Txn (Run n)) x (λ who i k. (who, ap (λ v. v ∷ codes "run" ∷ who ∷ []) (node_word n), k)) a.0 a.1
+      | inl a ↦ this_action names (actor_at n) w (codes "run") (Txn (Run n)) x (λ who i k. (who, ap (λ v. v ∷ codes "run" ∷ who ∷ []) (node_word n), k)) a.0 a.1
       | inr a ↦
           elim (chosen_by (bytes_eq w (codes "take")) _ _ _ a.1) [
-            | inl b ↦ this_action (actor_at n) w (codes "take") (Plain (choice.Take n)) x (ap (λ v. v ∷ codes "take" ∷ []) (node_word n), λ count. refl) b.0 b.1
+            | inl b ↦ this_action names (actor_at n) w (codes "take") (Plain (choice.Take n)) x (ap (λ v. v ∷ codes "take" ∷ []) (node_word n), λ count. refl) b.0 b.1
             | inr b ↦
                 elim (chosen_by (bytes_eq w (codes "finish")) _ _ _ b.1) [
-                  | inl d ↦ this_action (actor_at n) w (codes "finish") (Plain (choice.Finish n)) x (ap (λ v. v ∷ codes "finish" ∷ []) (node_word n), λ count. refl) d.0 d.1
+                  | inl d ↦ this_action names (actor_at n) w (codes "finish") (Plain (choice.Finish n)) x (ap (λ v. v ∷ codes "finish" ∷ []) (node_word n), λ count. refl) d.0 d.1
                   | inr d ↦
-                      elim (chosen_by (bytes_eq w (codes "push")) _ _ _ d.1) [ inl e ↦ this_action (actor_at n) w (codes "push") (Plain (choice.Push n)) x (ap (λ v. v ∷ codes "push" ∷ []) (node_word n), λ count. refl) e.0 e.1 | inr e ↦ absurd (nothing x e.1) ]
+                      elim (chosen_by (bytes_eq w (codes "push")) _ _ _ d.1) [ inl e ↦ this_action names (actor_at n) w (codes "push") (Plain (choice.Push n)) x (ap (λ v. v ∷ codes "push" ∷ []) (node_word n), λ count. refl) e.0 e.1 | inr e ↦ absurd (nothing x e.1) ]
                 ]
           ]
     ]
 
-action_ok : (a : Actor) (w : List ℕ) (x : Action) → action_of a w ≡ Some x → SpellsAction a w x
-action_ok actor.C w x h = client_ok w x h
-action_ok actor.A w x h = node_ok node.A w x h
-action_ok actor.B w x h = node_ok node.B w x h
+action_ok : (names : List Mark) (a : Actor) (w : List ℕ) (x : Action) → action_of a w ≡ Some x → SpellsAction names a w x
+action_ok names actor.C w x h = client_ok names w x h
+action_ok names actor.A w x h = node_ok names node.A w x h
+action_ok names actor.B w x h = node_ok names node.B w x h
 
 names_chosen : (count i : ℕ) (a : TxnAction) → names_below count (chosen a i) ≡ nat_lt i count
 names_chosen count i Begin = refl
 names_chosen count i Kill = refl
 names_chosen count i (Run n) = refl
 
-transaction_ok : (count : ℕ) (w : List ℕ) (i : ℕ) → transaction count w ≡ Ok i → (number_of w ≡ Some i) × (nat_lt i count ≡ true)
-transaction_ok count w i h =
+numbered_ok : (count : ℕ) (w : List ℕ) (i : ℕ) → numbered count w ≡ Ok i → (number_of w ≡ Some i) × (nat_lt i count ≡ true)
+numbered_ok count w i h =
     let p = bind_ok (ok_or (number_of w) kinds.Number) _ i h in
     let q = if_ok (nat_lt p.0 count) (Ok p.0) kinds.Label i p.2 in
     let e : p.0 ≡ i = cc (q.1) in
     (ok_or_ok (number_of w) kinds.Number p.0 p.1 ∙ ap Some e, ap (λ x. nat_lt x count) (sym e) ∙ q.0)
+
+transaction_ok : (count : ℕ) (names : List Mark) (w : List ℕ) (i : ℕ) → AreBelow count names → transaction count names w ≡ Ok i → Refers names i w × (nat_lt i count ≡ true)
+transaction_ok count names w i low h =
+    elim (chosen_by (is_numeral w) _ _ _ h) [
+      | inl e ↦ let n = numbered_ok count w i e.1 in (inl n.0, n.1)
+      | inr e ↦
+          let d = if_ok (is_name w) (ok_or (place w names) kinds.Label) kinds.Word i e.1 in
+          let p = ok_or_ok (place w names) kinds.Label i d.1 in
+          (inr (d.0, p), lt-ltb i count (place_below count w names i low p))
+    ]
 
 times_ok : (ws : List (List ℕ)) (n : ℕ) → are_times ws ≡ true → times_of ws ≡ Ok n → SpellsTimes n ws
 times_ok [] n e h = inl (refl, cc)
@@ -357,12 +458,12 @@ times_ok (x ∷ w ∷ v ∷ ws) n e h = cc
 -- what a choice did
 pub record Chose (s : Seen) (a : Actor) (ws : List (List ℕ)) (t : Seen) : Type 0 where
   pub made : Times
-  pub spelled : Spells (m.choice made) (actor_word a ∷ ws)
+  pub spelled : Spells (m.choice s.names made) (actor_word a ∷ ws)
   pub named : names_below (length s.programs) made.choice ≡ true
   pub few : length s.choices + made.times ≤ 4096
   pub after : t ≡ record s { stage = stage.Choices; choices = s.choices ++ replicate made.times made.choice }
 
-repeat_ok : (s t : Seen) (a : Actor) (front times : List (List ℕ)) (c : Choice) → SpellsChoice c (actor_word a ∷ front) → names_below (length s.programs) c ≡ true
+repeat_ok : (s t : Seen) (a : Actor) (front times : List (List ℕ)) (c : Choice) → SpellsChoice s.names c (actor_word a ∷ front) → names_below (length s.programs) c ≡ true
     → are_times times ≡ true → repeat_line s c times ≡ Ok t → Chose s a (front ++ times) t
 repeat_ok s t a front times c spelled named are h =
     let n = bind_ok (times_of times) (repeat_choice s c) t h in
@@ -375,19 +476,19 @@ repeat_ok s t a front times c spelled named are h =
       after = cc (f.1);
     }
 
-action_line_ok : (s t : Seen) (a : Actor) (w : List ℕ) (x : Action) (ws : List (List ℕ)) → SpellsAction a w x → action_line s x ws ≡ Ok t → Chose s a (w ∷ ws) t
-action_line_ok s t a w (Txn x) [] spelled h = cc
-action_line_ok s t a w (Txn x) (who ∷ times) spelled h =
+action_line_ok : (s t : Seen) (a : Actor) (w : List ℕ) (x : Action) (ws : List (List ℕ)) → AreBelow (length s.programs) s.names → SpellsAction s.names a w x → action_line s x ws ≡ Ok t → Chose s a (w ∷ ws) t
+action_line_ok s t a w (Txn x) [] low spelled h = cc
+action_line_ok s t a w (Txn x) (who ∷ times) low spelled h =
     let p = if_ok (are_times times) _ kinds.Word t h in
-    let i = bind_ok (transaction (length s.programs) who) _ t p.1 in
-    let j = transaction_ok (length s.programs) who i.0 i.1 in
+    let i = bind_ok (transaction (length s.programs) s.names who) _ t p.1 in
+    let j = transaction_ok (length s.programs) s.names who i.0 low i.1 in
     repeat_ok s t a (w ∷ who ∷ []) times (chosen x i.0) (spelled who i.0 j.0) (names_chosen (length s.programs) i.0 x ∙ j.1) p.0 i.2
-action_line_ok s t a w (Plain c) times spelled h =
+action_line_ok s t a w (Plain c) times low spelled h =
     let p = if_ok (are_times times) _ kinds.Word t h in
     repeat_ok s t a (w ∷ []) times c spelled.0 (spelled.1 (length s.programs)) p.0 p.1
 
-pub choice_ok : (s t : Seen) (a : Actor) (ws : List (List ℕ)) → choice_line s a ws ≡ Ok t → Chose s a ws t
-choice_ok s t a [] h = cc
-choice_ok s t a (w ∷ ws) h =
+pub choice_ok : (s t : Seen) (a : Actor) (ws : List (List ℕ)) → AreBelow (length s.programs) s.names → choice_line s a ws ≡ Ok t → Chose s a ws t
+choice_ok s t a [] low h = cc
+choice_ok s t a (w ∷ ws) low h =
     let x = bind_ok (ok_or (action_of a w) kinds.Word) _ t h in
-    action_line_ok s t a w x.0 ws (action_ok a w x.0 (ok_or_ok (action_of a w) kinds.Word x.0 x.1)) x.2
+    action_line_ok s t a w x.0 ws low (action_ok s.names a w x.0 (ok_or_ok (action_of a w) kinds.Word x.0 x.1)) x.2

@@ -15,6 +15,8 @@ use Rattle.zy_asm.specs.declared.choices.Action.TheVariants.{Txn, Plain}
 use Rattle.zy_asm.specs.declared.choices.TxnAction.{TxnAction}
 use Rattle.zy_asm.specs.declared.choices.TxnAction.TheVariants.{Begin, Kill, Run}
 use Rattle.zy_isa.specs.Results.{◌>>=◌}
+use Rattle.zy_isa.specs.Names.{Mark, is_name, place}
+use Rattle.zy_asm.specs.Names.{is_numeral}
 use Rattle.zy_asm.specs.Steps.{number_in}
 
 abbrev pub actor_of : List ℕ → Option Actor
@@ -50,10 +52,17 @@ chosen Kill t = choice.Kill t
 chosen (Run n) t = choice.Run n t
 
 -- the number of one of so many transactions
-abbrev pub transaction : ℕ → List ℕ → Result ℕ AsmKind
-transaction count w = do
+abbrev pub numbered : ℕ → List ℕ → Result ℕ AsmKind
+numbered count w = do
   n ← ok_or (number_of w) kinds.Number
   if nat_lt n count then Ok n else Err kinds.Label
+
+-- a transaction, by its number or its name
+abbrev pub transaction : ℕ → List Mark → List ℕ → Result ℕ AsmKind
+transaction count names w =
+    if is_numeral w then numbered count w else
+    if is_name w then ok_or (place w names) kinds.Label else
+    Err kinds.Word
 
 -- `x` and a word, or nothing
 abbrev pub are_times : List (List ℕ) → Bool

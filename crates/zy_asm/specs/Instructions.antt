@@ -10,7 +10,9 @@ use Rattle.zy_asm.specs.declared.faults.AsmKind.TheVariants as kinds
 use Rattle.zy_asm.specs.declared.instructions.Operation.{Operation}
 use Rattle.zy_asm.specs.declared.instructions.Operation.TheVariants as op
 use Rattle.zy_isa.specs.Results.{◌>>=◌}
+use Rattle.zy_isa.specs.Names.{is_name}
 use Rattle.zy_asm.specs.Steps.{number_in}
+use Rattle.zy_asm.specs.Pending.{Pending, whole, jump}
 
 abbrev pub operation_of : List ℕ → Option Operation
 operation_of w =
@@ -46,23 +48,29 @@ abbrev pub pair_of : List (List ℕ) → Result (Reg × Reg) AsmKind
 pair_of (a ∷ b ∷ []) = two a b
 pair_of _ = Err kinds.Word
 
--- `@N`
-abbrev pub target_of : List ℕ → Result ℕ AsmKind
-target_of [] = Err kinds.Word
-target_of (c ∷ cs) = if c == 64 then number_in cs 0 4294967295 else Err kinds.Word
-
-abbrev pub set_of : List (List ℕ) → Result Instr AsmKind
-set_of (a ∷ n ∷ []) = do
+abbrev pub set_to : List ℕ → List ℕ → Result Instr AsmKind
+set_to a n = do
   x ← register_of a
   i ← number_in n 0 4294967295
   Ok (Set x i)
+
+abbrev pub set_of : List (List ℕ) → Result Instr AsmKind
+set_of (a ∷ n ∷ []) = set_to a n
 set_of _ = Err kinds.Word
 
-abbrev pub beq_of : List (List ℕ) → Result Instr AsmKind
-beq_of (a ∷ b ∷ t ∷ []) = do
-  p ← two a b
-  n ← target_of t
-  Ok (Beq p.0 p.1 n)
+-- to `@N`, or to a label
+abbrev pub jump_to : Reg → Reg → List ℕ → Result Pending AsmKind
+jump_to a b [] = Err kinds.Word
+jump_to a b (c ∷ cs) =
+    if c == 64 then (number_in cs 0 4294967295 >>= λ n. Ok (whole (Beq a b n))) else
+    if is_name (c ∷ cs) then Ok (jump a b (c ∷ cs)) else
+    Err kinds.Word
+
+abbrev pub jump_where : List ℕ → List ℕ → List ℕ → Result Pending AsmKind
+jump_where a b t = two a b >>= λ p. jump_to p.0 p.1 t
+
+abbrev pub beq_of : List (List ℕ) → Result Pending AsmKind
+beq_of (a ∷ b ∷ t ∷ []) = jump_where a b t
 beq_of _ = Err kinds.Word
 
 abbrev pub alone : List (List ℕ) → Instr → Result Instr AsmKind
@@ -70,12 +78,12 @@ alone [] i = Ok i
 alone (w ∷ ws) i = Err kinds.Word
 
 -- an operation with the words behind it
-abbrev pub instr_of : Operation → List (List ℕ) → Result Instr AsmKind
-instr_of op.Set ws = set_of ws
-instr_of op.Read ws = pair_of ws >>= λ p. Ok (Read p.0 p.1)
-instr_of op.Write ws = pair_of ws >>= λ p. Ok (Write p.0 p.1)
-instr_of op.Insert ws = pair_of ws >>= λ p. Ok (Insert p.0 p.1)
-instr_of op.Add ws = pair_of ws >>= λ p. Ok (Add p.0 p.1)
+abbrev pub instr_of : Operation → List (List ℕ) → Result Pending AsmKind
+instr_of op.Set ws = set_of ws >>= λ i. Ok (whole i)
+instr_of op.Read ws = pair_of ws >>= λ p. Ok (whole (Read p.0 p.1))
+instr_of op.Write ws = pair_of ws >>= λ p. Ok (whole (Write p.0 p.1))
+instr_of op.Insert ws = pair_of ws >>= λ p. Ok (whole (Insert p.0 p.1))
+instr_of op.Add ws = pair_of ws >>= λ p. Ok (whole (Add p.0 p.1))
 instr_of op.Beq ws = beq_of ws
-instr_of op.Commit ws = alone ws Commit
-instr_of op.Abort ws = alone ws Abort
+instr_of op.Commit ws = alone ws Commit >>= λ i. Ok (whole i)
+instr_of op.Abort ws = alone ws Abort >>= λ i. Ok (whole i)

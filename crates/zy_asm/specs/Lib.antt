@@ -1,5 +1,7 @@
 pub mod Reasons
 pub mod Steps
+pub mod Names
+pub mod Pending
 pub mod Instructions
 pub mod Choices
 pub mod Stages

@@ -1,15 +1,15 @@
 -- Reading a text, line by line, up to the first fault.
-use Rattle.std.specs.Prelude.{◌≡◌, ◌==◌, ◌+◌, ◌⊎◌, ◌&&◌, ◌||◌, ℕ, List, [], ◌∷◌, ◌++◌, length, codes, Option, Some, None, Bool, false, Result, Ok, Err, ok_or, option_map, if◌then◌else◌, nat_le, nat_lt, replicate}
+use Rattle.std.specs.Prelude.{is_some, map, ◌≡◌, ◌==◌, ◌+◌, ◌⊎◌, ◌&&◌, ◌||◌, ℕ, List, [], ◌∷◌, ◌++◌, length, codes, Option, Some, None, Bool, false, Result, Ok, Err, ok_or, option_map, if◌then◌else◌, nat_le, nat_lt, replicate}
 use Rattle.std.specs.Option.{option_or}
 use Rattle.std.specs.Str.{bytes_eq}
 use Rattle.zy_isa.specs.declared.node.Actor.{Actor}
+use Rattle.zy_isa.specs.declared.rule.Rule.{Rule as LockRule}
+use Rattle.zy_isa.specs.declared.rule.Rule.TheVariants.{Held}
 use Rattle.zy_isa.specs.declared.row.Row.{Row}
 use Rattle.zy_isa.specs.declared.instr.Instr.{Instr}
-use Rattle.zy_isa.specs.declared.program.ProgFault.{ProgFault}
 use Rattle.zy_isa.specs.declared.choice.Choice.{Choice}
 use Rattle.zy_isa.specs.Words.{lines_of, words_of, number_of}
 use Rattle.zy_isa.specs.Rows.{last_row, is_low}
-use Rattle.zy_isa.specs.Programs.{prog_fault}
 use Rattle.zy_isa.specs.Scenario.{opening_pages_for}
 use Rattle.zy_asm.specs.declared.faults.AsmKind.{AsmKind}
 use Rattle.zy_asm.specs.declared.faults.AsmKind.TheVariants as kinds
@@ -26,7 +26,10 @@ use Rattle.zy_asm.specs.declared.reading.Keyword.TheVariants as k
 use Rattle.zy_asm.specs.declared.state.Stage.{Stage}
 use Rattle.zy_asm.specs.declared.state.Stage.TheVariants.{Zephyr, Cap, Pages, Rule, Rows, Program, Choices, Done}
 use Rattle.zy_asm.specs.declared.state.Reader.{Reader}
+use Rattle.zy_isa.specs.Names.{Mark, is_name, place}
 use Rattle.zy_isa.specs.Results.{◌>>=◌}
+use Rattle.zy_asm.specs.Names.{is_numeral, label_of}
+use Rattle.zy_asm.specs.Pending.{Pending, shown, program_of}
 use Rattle.zy_asm.specs.Steps.{number_in}
 use Rattle.zy_asm.specs.Instructions.{operation_of, instr_of}
 use Rattle.zy_asm.specs.Choices.{actor_of, action_of, chosen, transaction, are_times, times_of}
@@ -34,15 +37,31 @@ use Rattle.zy_asm.specs.Choices.{actor_of, action_of, chosen, transaction, are_t
 -- what the lines so far gave
 pub record Seen : Type 0 where
   pub stage : Stage
+  pub version : ℕ
   pub cap : ℕ
   pub pages : ℕ
+  pub rule : LockRule
   pub rows : List Row
+  pub names : List Mark
   pub programs : List (List Instr)
-  pub instrs : List Instr
+  pub labels : List Mark
+  pub instrs : List Pending
   pub choices : List Choice
 
 abbrev pub seen : Reader → Seen
-seen r = record { stage = r.stage; cap = r.cap; pages = r.pages; rows = r.rows.items; programs = r.programs.items; instrs = r.instrs.items; choices = r.choices.items }
+seen r = record {
+  stage = r.stage;
+  version = r.version;
+  cap = r.cap;
+  pages = r.pages;
+  rule = r.rule;
+  rows = r.rows.items;
+  names = r.names;
+  programs = r.programs.items;
+  labels = r.labels;
+  instrs = map shown r.instrs.items;
+  choices = r.choices.items;
+}
 
 -- the first word of a statement below the header
 abbrev pub keyword_of : List ℕ → Option Keyword
@@ -57,34 +76,55 @@ keyword_of w =
 
 -- ---- the header
 
-abbrev pub are_two : List (List ℕ) → List ℕ → List ℕ → Bool
-are_two (w ∷ v ∷ []) x y = bytes_eq w x && bytes_eq v y
-are_two _ x y = false
+-- the word behind the name of a header line
+abbrev pub headed : List (List ℕ) → List ℕ → Result (List ℕ) AsmKind
+headed (w ∷ v ∷ []) name = if bytes_eq w name then Ok v else Err kinds.Header
+headed _ name = Err kinds.Header
 
--- `NAME N`
-abbrev pub headed : List (List ℕ) → List ℕ → ℕ → ℕ → Result ℕ AsmKind
-headed (w ∷ n ∷ []) name least most = if bytes_eq w name then number_in n least most else Err kinds.Header
-headed _ name least most = Err kinds.Header
+abbrev pub version_of : List ℕ → Option ℕ
+version_of w =
+    if bytes_eq w (codes "1") then Some 1 else
+    None
+
+abbrev pub rule_of : List ℕ → Option LockRule
+rule_of w =
+    if bytes_eq w (codes "held") then Some Held else
+    None
 
 abbrev pub zephyr_line : Seen → List (List ℕ) → Result Seen AsmKind
-zephyr_line s ws = if are_two ws (codes "zephyr") (codes "1") then Ok (record s { stage = Cap }) else Err kinds.Header
+zephyr_line s ws = do
+  w ← headed ws (codes "zephyr")
+  v ← ok_or (version_of w) kinds.Header
+  Ok (record s { stage = Cap; version = v })
 
 abbrev pub cap_line : Seen → List (List ℕ) → Result Seen AsmKind
-cap_line s ws = headed ws (codes "cap") 2 16 >>= λ n. Ok (record s { stage = Pages; cap = n })
+cap_line s ws = do
+  w ← headed ws (codes "cap")
+  n ← number_in w 2 16
+  Ok (record s { stage = Pages; cap = n })
 
 abbrev pub pages_line : Seen → List (List ℕ) → Result Seen AsmKind
-pages_line s ws = headed ws (codes "pages") 1 512 >>= λ n. Ok (record s { stage = Rule; pages = n })
+pages_line s ws = do
+  w ← headed ws (codes "pages")
+  n ← number_in w 1 512
+  Ok (record s { stage = Rule; pages = n })
 
 abbrev pub rule_line : Seen → List (List ℕ) → Result Seen AsmKind
-rule_line s ws = if are_two ws (codes "rule") (codes "held") then Ok (record s { stage = Rows }) else Err kinds.Header
+rule_line s ws = do
+  w ← headed ws (codes "rule")
+  r ← ok_or (rule_of w) kinds.Header
+  Ok (record s { stage = Rows; rule = r })
 
 -- ---- rows
 
-abbrev pub row_of : List (List ℕ) → Result Row AsmKind
-row_of (k ∷ v ∷ []) = do
+abbrev pub row_with : List ℕ → List ℕ → Result Row AsmKind
+row_with k v = do
   key ← number_in k 0 65535
   value ← number_in v 0 4294967295
   Ok (record { key = key; value = value })
+
+abbrev pub row_of : List (List ℕ) → Result Row AsmKind
+row_of (k ∷ v ∷ []) = row_with k v
 row_of _ = Err kinds.Word
 
 -- there is no place for a row more
@@ -110,13 +150,29 @@ abbrev pub instr_at : Stage → Seen → Operation → List (List ℕ) → Resul
 instr_at Program s op ws = instr_line s op ws
 instr_at _ s op ws = Err kinds.Order
 
-abbrev pub judged : Option ProgFault → List Instr → Result (List Instr) AsmKind
-judged None is = Ok is
-judged (Some f) is = Err kinds.Program
+-- a label is noted once, with the index of the next instruction
+abbrev pub note_label : Seen → List ℕ → Result Seen AsmKind
+note_label s name = if is_some (place name s.labels) then Err kinds.Label else Ok (record s { labels = s.labels ++ (name, length s.instrs) ∷ [] })
+
+-- behind a label stands an instruction, or nothing
+abbrev pub labelled : Option Keyword → Seen → List (List ℕ) → Result Seen AsmKind
+labelled (Some (k.Instr op)) s ws = instr_line s op ws
+labelled _ s ws = Err kinds.Word
+
+abbrev pub behind_label : Seen → List (List ℕ) → Result Seen AsmKind
+behind_label s [] = Ok s
+behind_label s (w ∷ ws) = labelled (keyword_of w) s ws
+
+abbrev pub label_at : Stage → Seen → List ℕ → List (List ℕ) → Result Seen AsmKind
+label_at Program s name ws = note_label s name >>= λ u. behind_label u ws
+label_at _ s name ws = Err kinds.Order
+
+abbrev pub label_line : Seen → List ℕ → List (List ℕ) → Result Seen AsmKind
+label_line s name ws = if is_name name then label_at s.stage s name ws else Err kinds.Word
 
 -- a program is closed by the line below it
 abbrev pub closed_at : Stage → Seen → Result Seen AsmKind
-closed_at Program s = judged (prog_fault s.instrs) s.instrs >>= λ p. Ok (record s { stage = Choices; programs = s.programs ++ p ∷ []; instrs = [] })
+closed_at Program s = program_of s.labels s.instrs >>= λ p. Ok (record s { stage = Choices; programs = s.programs ++ p ∷ []; labels = []; instrs = [] })
 closed_at _ s = Ok s
 
 abbrev pub closed : Seen → Result Seen AsmKind
@@ -128,8 +184,19 @@ own_number count w = do
   n ← ok_or (number_of w) kinds.Number
   if n == count then Ok n else Err kinds.Label
 
+-- a name is noted once, with the program's number
+abbrev pub note_name : Seen → List ℕ → Result Seen AsmKind
+note_name s name = if is_some (place name s.names) then Err kinds.Label else Ok (record s { names = s.names ++ (name, length s.programs) ∷ [] })
+
+-- the head of a program: its own number, or a new name
+abbrev pub head_line : Seen → List ℕ → Result Seen AsmKind
+head_line s w =
+    if is_numeral w then (own_number (length s.programs) w >>= λ _. Ok s) else
+    if is_name w then note_name s w else
+    Err kinds.Word
+
 abbrev pub open_line : Seen → List (List ℕ) → Result Seen AsmKind
-open_line s (t ∷ []) = own_number (length s.programs) t >>= λ n. if nat_le 64 n then Err kinds.Count else Ok (record s { stage = Program })
+open_line s (t ∷ []) = head_line s t >>= λ u. if nat_le 64 (length u.programs) then Err kinds.Count else Ok (record u { stage = Program })
 open_line s _ = Err kinds.Word
 
 abbrev pub txn_at : Stage → Seen → List (List ℕ) → Result Seen AsmKind
@@ -152,7 +219,7 @@ plain_line s c times = if are_times times then repeat_line s c times else Err ki
 -- a transaction's action, with its number behind it
 abbrev pub txn_action_line : Seen → TxnAction → List (List ℕ) → Result Seen AsmKind
 txn_action_line s a (t ∷ times) = if are_times times then (do
-  i ← transaction (length s.programs) t
+  i ← transaction (length s.programs) s.names t
   repeat_line s (chosen a i) times) else Err kinds.Word
 txn_action_line s a [] = Err kinds.Word
 
@@ -181,10 +248,15 @@ statement (Some (k.Instr op)) s ws = instr_at s.stage s op ws
 statement (Some (k.Choice a)) s ws = closed s >>= λ u. choice_line u a ws
 statement (Some k.End) s ws = closed s >>= λ u. end_line u ws
 
+-- a line that a label begins, or one that its keyword tells
+abbrev pub led_by : Option (List ℕ) → Seen → List ℕ → List (List ℕ) → Result Seen AsmKind
+led_by (Some name) s w ws = label_line s name ws
+led_by None s w ws = statement (keyword_of w) s ws
+
 -- a line below the header
 abbrev pub body_line : Seen → List (List ℕ) → Result Seen AsmKind
 body_line s [] = Err kinds.Word
-body_line s (w ∷ ws) = statement (keyword_of w) s ws
+body_line s (w ∷ ws) = led_by (label_of w) s w ws
 
 abbrev pub line_at : Stage → Seen → List (List ℕ) → Result Seen AsmKind
 line_at Zephyr s ws = zephyr_line s ws
@@ -222,7 +294,7 @@ read_lines s n [] = at_line n (finish s)
 read_lines s n (l ∷ ls) = at_line n (line_step s (words_of l)) >>= λ t. read_lines t (n + 1) ls
 
 abbrev pub nothing_seen : Seen
-nothing_seen = record { stage = Zephyr; cap = 2; pages = 1; rows = []; programs = []; instrs = []; choices = [] }
+nothing_seen = record { stage = Zephyr; version = 1; cap = 2; pages = 1; rule = Held; rows = []; names = []; programs = []; labels = []; instrs = []; choices = [] }
 
 -- what a text gives, or its first fault
 abbrev pub reading : List ℕ → Result Seen AsmFault
@@ -234,11 +306,6 @@ reading text = read_lines nothing_seen 1 (lines_of text)
 abbrev pub Steps : Result (Unit {0}) Reason → Seen → Result Seen AsmKind → Type 0
 Steps (Ok x) new read = read ≡ Ok new
 Steps (Err r) new read = (kind_of r ≡ kinds.Memory) ⊎ (read ≡ Err (kind_of r))
-
--- the answer is what was given, unless there was no memory
-abbrev pub Gives : {X : Type 0} → Result X Reason → Result X AsmKind → Type 0
-Gives (Ok x) given = given ≡ Ok x
-Gives (Err r) given = (kind_of r ≡ kinds.Memory) ⊎ (given ≡ Err (kind_of r))
 
 -- the answer is what reading gives, unless there was no memory
 abbrev pub Reads : Result Reader Refusal → Result Seen AsmFault → Type 0

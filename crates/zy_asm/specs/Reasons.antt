@@ -1,5 +1,6 @@
 -- The kind of fault that a reason is.
-use Rattle.std.specs.Prelude.{Result, Ok, Err}
+use Rattle.std.specs.Prelude.{◌≡◌, ◌⊎◌, ℕ, List, Result, Ok, Err}
+use Rattle.std.specs.Borrow.{Bor}
 use Rattle.zy_asm.specs.declared.faults.AsmKind.{AsmKind}
 use Rattle.zy_asm.specs.declared.faults.AsmKind.TheVariants as kinds
 use Rattle.zy_asm.specs.declared.faults.AsmFault.{AsmFault}
@@ -11,6 +12,8 @@ abbrev pub kind_of : Reason → AsmKind
 kind_of why.NotTheHeader = kinds.Header
 kind_of why.NotText = kinds.Word
 kind_of (why.NotKnown word) = kinds.Word
+kind_of (why.NotAName word) = kinds.Word
+kind_of (why.NotAnInstr word) = kinds.Word
 kind_of why.WordCount = kinds.Word
 kind_of (why.NotDigits word) = kinds.Number
 kind_of (why.OutOfRange number least most) = kinds.Range
@@ -18,6 +21,10 @@ kind_of why.Misplaced = kinds.Order
 kind_of (why.NotAbove key last) = kinds.Order
 kind_of (why.NoTransaction number count) = kinds.Label
 kind_of (why.NotOwnNumber number own) = kinds.Label
+kind_of (why.NoName name) = kinds.Label
+kind_of (why.NameTwice name) = kinds.Label
+kind_of (why.NoLabel name) = kinds.Label
+kind_of (why.LabelTwice name) = kinds.Label
 kind_of (why.NoProgram number fault) = kinds.Program
 kind_of why.RowCount = kinds.Count
 kind_of (why.PageCount pages) = kinds.Count
@@ -35,3 +42,13 @@ fault_of r = record { line = r.line; kind = kind_of r.reason }
 abbrev pub by_kind : {X : Type 0} → Result X Reason → Result X AsmKind
 by_kind (Ok x) = Ok x
 by_kind (Err r) = Err (kind_of r)
+
+-- the word that an answer lends
+abbrev pub seen_word : Result (Bor (List ℕ)) Reason → Result (List ℕ) AsmKind
+seen_word (Ok w) = Ok w.now
+seen_word (Err r) = Err (kind_of r)
+
+-- the answer, seen so, is what was given, unless there was no memory
+abbrev pub Gives : {X Y : Type 0} → (X → Y) → Result X Reason → Result Y AsmKind → Type 0
+Gives view (Ok x) given = given ≡ Ok (view x)
+Gives view (Err r) given = (kind_of r ≡ kinds.Memory) ⊎ (given ≡ Err (kind_of r))

@@ -2,10 +2,12 @@
 ghost use Rattle.std.specs.Prelude.{◌≡◌, ◌≤◌, IfOk};
 ghost use Rattle.zy_asm.specs.Reasons.{by_kind, kind_of};
 ghost use Rattle.zy_asm.specs.Steps.{texts};
-ghost use Rattle.zy_asm.specs.Choices.{actor_of as actor_of_spec, client_action as client_action_spec, node_action as node_action_spec, action_of as action_of_spec, chosen as chosen_spec, are_times as are_times_spec, times_of as times_of_spec, transaction as transaction_spec};
+ghost use Rattle.zy_asm.specs.Choices.{actor_of as actor_of_spec, client_action as client_action_spec, node_action as node_action_spec, action_of as action_of_spec, chosen as chosen_spec, are_times as are_times_spec, times_of as times_of_spec, numbered as numbered_spec, transaction as transaction_spec};
 
 use crate::faults::{AsmKind, Reason};
+use crate::names::{is_name, is_numeral};
 use crate::shown::Shown;
+use crate::table::Table;
 use crate::words::{is, number_in, number_of};
 use zy_isa::choice::Choice;
 use zy_isa::node::{Actor, Node};
@@ -102,9 +104,9 @@ pub fn chosen(action: TxnAction, t: u8) -> Choice
 }
 
 /// The number of a transaction, of which there are `count`.
-pub fn transaction(count: usize, word: &[u8]) -> Result<u8, Reason>
+fn numbered(count: usize, word: &[u8]) -> Result<u8, Reason>
     requires { count ≤ 64 }
-    ensures { by_kind result ≡ transaction_spec count word.now }
+    ensures { by_kind result ≡ numbered_spec count word.now }
 {
     let Some(number) = number_of(word) else {
         return Err(Reason::NotDigits(Shown::of(word)));
@@ -113,6 +115,23 @@ pub fn transaction(count: usize, word: &[u8]) -> Result<u8, Reason>
         Ok(number as u8)
     } else {
         Err(Reason::NoTransaction { number, count })
+    }
+}
+
+/// The transaction of this number or name, where there are `count`, and those with names have these.
+pub fn transaction(count: usize, names: &Table, word: &[u8]) -> Result<u8, Reason>
+    requires { count ≤ 64 }
+    ensures { by_kind result ≡ transaction_spec count names.now word.now }
+{
+    if is_numeral(word) {
+        return numbered(count, word);
+    }
+    if !is_name(word) {
+        return Err(Reason::NotAName(Shown::of(word)));
+    }
+    match names.find(word) {
+        Some(number) => Ok(number),
+        None => Err(Reason::NoName(Shown::of(word))),
     }
 }
 

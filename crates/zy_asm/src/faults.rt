@@ -19,7 +19,7 @@ pub enum AsmKind {
     Range,
     /// 5: the statement may not stand here, or the key of a row is not above the one before it.
     Order,
-    /// 6: a transaction is not known, or has another number.
+    /// 6: a transaction or a label is not known or stands twice, or a program has another number.
     Label,
     /// 7: the program above is no program.
     Program,
@@ -47,6 +47,10 @@ pub enum Reason {
     NotText,
     /// This word is not known here.
     NotKnown(Shown),
+    /// This word, which stands where a name is due, is none.
+    NotAName(Shown),
+    /// This word, which stands behind a label, is no instruction.
+    NotAnInstr(Shown),
     /// There are too few words or too many.
     WordCount,
     /// This word is not 1 to 10 digits.
@@ -61,6 +65,14 @@ pub enum Reason {
     NoTransaction { number: u64, count: usize },
     /// A program has this number and not its own.
     NotOwnNumber { number: u64, own: usize },
+    /// No program above has this name.
+    NoName(Shown),
+    /// A program above has this name already.
+    NameTwice(Shown),
+    /// This label stands nowhere in the program above.
+    NoLabel(Shown),
+    /// This label stands in the program already.
+    LabelTwice(Shown),
     /// The instructions of the program of this number are no program.
     NoProgram { number: usize, fault: ProgFault },
     /// There is a row too many.
@@ -90,6 +102,8 @@ impl Reason {
             Reason::NotTheHeader => AsmKind::Header,
             Reason::NotText => AsmKind::Word,
             Reason::NotKnown(_) => AsmKind::Word,
+            Reason::NotAName(_) => AsmKind::Word,
+            Reason::NotAnInstr(_) => AsmKind::Word,
             Reason::WordCount => AsmKind::Word,
             Reason::NotDigits(_) => AsmKind::Number,
             Reason::OutOfRange { .. } => AsmKind::Range,
@@ -97,6 +111,10 @@ impl Reason {
             Reason::NotAbove { .. } => AsmKind::Order,
             Reason::NoTransaction { .. } => AsmKind::Label,
             Reason::NotOwnNumber { .. } => AsmKind::Label,
+            Reason::NoName(_) => AsmKind::Label,
+            Reason::NameTwice(_) => AsmKind::Label,
+            Reason::NoLabel(_) => AsmKind::Label,
+            Reason::LabelTwice(_) => AsmKind::Label,
             Reason::NoProgram { .. } => AsmKind::Program,
             Reason::RowCount => AsmKind::Count,
             Reason::PageCount { .. } => AsmKind::Count,
@@ -118,6 +136,14 @@ impl fmt::Display for Reason {
             ),
             Reason::NotText => f.write_str("a byte of this line is not UTF-8"),
             Reason::NotKnown(word) => write!(f, "the word {word} is not known here"),
+            Reason::NotAName(word) => write!(
+                f,
+                "a name is a letter or _, then letters, digits and _, at most 32 in all, and not {word}"
+            ),
+            Reason::NotAnInstr(word) => write!(
+                f,
+                "behind a label stands an instruction, and not {word}"
+            ),
             Reason::WordCount => f.write_str("the statement has too few words or too many"),
             Reason::NotDigits(word) => write!(f, "a number is 1 to 10 digits, and not {word}"),
             Reason::OutOfRange {
@@ -142,6 +168,10 @@ impl fmt::Display for Reason {
                     "the program that begins here has the number {own}, and not {number}"
                 )
             }
+            Reason::NoName(name) => write!(f, "no program above has the name {name}"),
+            Reason::NameTwice(name) => write!(f, "a program above has the name {name} already"),
+            Reason::NoLabel(name) => write!(f, "the label {name} stands nowhere in the program above"),
+            Reason::LabelTwice(name) => write!(f, "the label {name} stands in this program already"),
             Reason::NoProgram { number, fault } => tell_program(f, *number, *fault),
             Reason::RowCount => f.write_str("there are at most 256 rows"),
             Reason::PageCount { pages } => write!(

@@ -1,12 +1,16 @@
 //! The instruction of a line.
 ghost use Rattle.std.specs.Prelude.{◌≡◌};
-ghost use Rattle.zy_asm.specs.Reasons.{by_kind};
+ghost use Rattle.zy_asm.specs.Reasons.{by_kind, Gives};
 ghost use Rattle.zy_asm.specs.Steps.{texts};
-ghost use Rattle.zy_asm.specs.Instructions.{register_of as register_of_spec, two as two_spec, pair_of as pair_of_spec, target_of as target_of_spec, operation_of as operation_of_spec, set_of as set_of_spec, beq_of as beq_of_spec, alone as alone_spec, instr_of as instr_of_spec};
+ghost use Rattle.zy_asm.specs.Pending.{shown};
+ghost use Rattle.zy_asm.specs.Instructions.{register_of as register_of_spec, two as two_spec, pair_of as pair_of_spec, jump_to as jump_to_spec, operation_of as operation_of_spec, set_to as set_to_spec, set_of as set_of_spec, jump_where as jump_where_spec, beq_of as beq_of_spec, alone as alone_spec, instr_of as instr_of_spec};
 
 use crate::faults::Reason;
+use crate::names::is_name;
+use crate::pending::Unresolved;
 use crate::shown::Shown;
 use crate::words::{is, number_in};
+use std::alloc::Global;
 use zy_isa::instr::{Instr, Reg};
 
 /// The first words of instructions.
@@ -80,14 +84,33 @@ fn pair_of(words: &[&[u8]]) -> Result<(Reg, Reg), Reason>
     }
 }
 
-/// The target `@N`.
-fn target_of(word: &[u8]) -> Result<u32, Reason>
-    ensures { by_kind result ≡ target_of_spec word.now }
+/// `beq` to the target `@N`, or to a label.
+fn jump_to(alloc: Global, a: Reg, b: Reg, target: &[u8]) -> Result<Unresolved, Reason>
+    ensures { Gives shown result (jump_to_spec a b target.now) }
 {
-    match word {
-        [b'@', number @ ..] => Ok(number_in(number, 0, u64::from(u32::MAX))? as u32),
-        _ => Err(Reason::NotKnown(Shown::of(word))),
+    match target {
+        [] => Err(Reason::NotAName(Shown::of(target))),
+        [b'@', number @ ..] => {
+            let number = number_in(number, 0, u64::from(u32::MAX))?;
+            Ok(Unresolved::Whole(Instr::Beq(a, b, number as u32)))
+        }
+        _ => {
+            if !is_name(target) {
+                return Err(Reason::NotAName(Shown::of(target)));
+            }
+            match target.to_vec(alloc) {
+                Ok(label) => Ok(Unresolved::Jump(a, b, label)),
+                Err(_) => Err(Reason::NoMemory),
+            }
+        }
     }
+}
+
+fn set_to(a: &[u8], number: &[u8]) -> Result<Instr, Reason>
+    ensures { by_kind result ≡ set_to_spec a.now number.now }
+{
+    let a = register_of(a)?;
+    Ok(Instr::Set(a, number_in(number, 0, u64::from(u32::MAX))? as u32))
 }
 
 /// What follows `set`.
@@ -95,23 +118,25 @@ fn set_of(words: &[&[u8]]) -> Result<Instr, Reason>
     ensures { by_kind result ≡ set_of_spec (texts words.now) }
 {
     match words {
-        [a, number] => {
-            let a = register_of(a)?;
-            Ok(Instr::Set(a, number_in(number, 0, u64::from(u32::MAX))? as u32))
-        }
+        [a, number] => set_to(a, number),
         _ => Err(Reason::WordCount),
     }
 }
 
+/// `beq` of these registers and this target.
+fn jump_where(alloc: Global, a: &[u8], b: &[u8], target: &[u8]) -> Result<Unresolved, Reason>
+    ensures { Gives shown result (jump_where_spec a.now b.now target.now) }
+{
+    let (a, b) = two(a, b)?;
+    jump_to(alloc, a, b, target)
+}
+
 /// What follows `beq`.
-fn beq_of(words: &[&[u8]]) -> Result<Instr, Reason>
-    ensures { by_kind result ≡ beq_of_spec (texts words.now) }
+fn beq_of(alloc: Global, words: &[&[u8]]) -> Result<Unresolved, Reason>
+    ensures { Gives shown result (beq_of_spec (texts words.now)) }
 {
     match words {
-        [a, b, target] => {
-            let (a, b) = two(a, b)?;
-            Ok(Instr::Beq(a, b, target_of(target)?))
-        }
+        [a, b, target] => jump_where(alloc, a, b, target),
         _ => Err(Reason::WordCount),
     }
 }
@@ -127,30 +152,34 @@ fn alone(words: &[&[u8]], instr: Instr) -> Result<Instr, Reason>
     }
 }
 
-/// The instruction of an operation with the words behind it.
-pub fn instr_of(operation: Operation, words: &[&[u8]]) -> Result<Instr, Reason>
-    ensures { by_kind result ≡ instr_of_spec operation (texts words.now) }
+/// The instruction of an operation with the words behind it. A label takes memory.
+pub fn instr_of(
+    alloc: Global,
+    operation: Operation,
+    words: &[&[u8]],
+) -> Result<Unresolved, Reason>
+    ensures { Gives shown result (instr_of_spec operation (texts words.now)) }
 {
     match operation {
-        Operation::Set => set_of(words),
+        Operation::Set => Ok(Unresolved::Whole(set_of(words)?)),
         Operation::Read => {
             let (a, b) = pair_of(words)?;
-            Ok(Instr::Read(a, b))
+            Ok(Unresolved::Whole(Instr::Read(a, b)))
         }
         Operation::Write => {
             let (a, b) = pair_of(words)?;
-            Ok(Instr::Write(a, b))
+            Ok(Unresolved::Whole(Instr::Write(a, b)))
         }
         Operation::Insert => {
             let (a, b) = pair_of(words)?;
-            Ok(Instr::Insert(a, b))
+            Ok(Unresolved::Whole(Instr::Insert(a, b)))
         }
         Operation::Add => {
             let (a, b) = pair_of(words)?;
-            Ok(Instr::Add(a, b))
+            Ok(Unresolved::Whole(Instr::Add(a, b)))
         }
-        Operation::Beq => beq_of(words),
-        Operation::Commit => alone(words, Instr::Commit),
-        Operation::Abort => alone(words, Instr::Abort),
+        Operation::Beq => beq_of(alloc, words),
+        Operation::Commit => Ok(Unresolved::Whole(alone(words, Instr::Commit)?)),
+        Operation::Abort => Ok(Unresolved::Whole(alone(words, Instr::Abort)?)),
     }
 }

@@ -5,9 +5,12 @@ pub mod assembling;
 mod choices;
 pub mod faults;
 mod instructions;
+mod names;
+mod pending;
 mod reading;
 pub mod shown;
 mod state;
+mod table;
 #[cfg(test)]
 mod tests;
 pub mod text;

@@ -1,24 +1,26 @@
 //! Reads a text line by line.
 ghost use Rattle.std.specs.Prelude.{◌≡◌, ◌≤◌, ◌<◌, length, IfOk, Some};
-ghost use Rattle.zy_asm.specs.Reasons.{by_kind};
+ghost use Rattle.zy_asm.specs.Reasons.{by_kind, seen_word};
 ghost use Rattle.zy_asm.specs.Steps.{texts};
-ghost use Rattle.zy_asm.specs.Reading.{Steps, Gives, Reads, seen, keyword_of as keyword_of_spec, are_two as are_two_spec, headed as headed_spec, zephyr_line, cap_line, pages_line, rule_line, row_of as row_of_spec, add_row, row_at, instr_line, instr_at, judged, closed, own_number as own_number_spec, open_line, txn_at, repeat_choice, repeat_line, plain_line, txn_action_line, choice_line, end_line, statement, body_line, step, ended as ended_spec, reading};
-ghost use Rattle.zy_isa.specs.Programs.{prog_fault};
+ghost use Rattle.zy_asm.specs.Reading.{Steps, Reads, seen, keyword_of as keyword_of_spec, headed as headed_spec, version_of as version_of_spec, rule_of as rule_of_spec, zephyr_line, cap_line, pages_line, rule_line, row_with as row_with_spec, row_of as row_of_spec, add_row, row_at, instr_line, instr_at, note_label, behind_label, label_line, closed, own_number as own_number_spec, note_name, head_line, open_line, txn_at, repeat_choice, repeat_line, plain_line, txn_action_line, choice_line, end_line, statement, body_line, step, ended as ended_spec, reading};
 
 use crate::choices::{
     Action, TxnAction, action_of, actor_of, are_times, chosen, not_times, times_of, transaction,
 };
 use crate::faults::{Reason, Refusal};
 use crate::instructions::{Operation, instr_of, operation_of};
+use crate::names::{is_name, is_numeral, label_of};
+use crate::pending::program_of;
 use crate::shown::Shown;
 use crate::state::{Reader, Stage};
+use crate::table::Table;
 use crate::words::{first_line, is, number_in, number_of, take_words};
 use std::alloc::Global;
 use zy_isa::choice::Choice;
-use zy_isa::instr::Instr;
 use zy_isa::node::Actor;
-use zy_isa::program::{MAX_INSTRS, ProgFault, Program};
+use zy_isa::program::MAX_INSTRS;
 use zy_isa::row::Row;
+use zy_isa::rule::Rule;
 use zy_isa::scenario::{MAX_CAP, MAX_CHOICES, MAX_PAGES, MAX_ROWS, MAX_TXNS, opening_pages_for};
 
 /// What the first word of a line below the header says that the line is.
@@ -61,25 +63,41 @@ fn keyword_of(word: &[u8]) -> Option<Keyword>
     }
 }
 
-/// Whether these are the words.
-fn are_two(words: &[&[u8]], first: &[u8], second: &[u8]) -> bool
-    ensures { result ≡ are_two_spec (texts words.now) first.now second.now }
+/// The word behind this one in a line of the header.
+fn headed<'a>(words: &[&'a [u8]], name: &[u8]) -> Result<&'a [u8], Reason>
+    ensures { seen_word result ≡ headed_spec (texts words.now) name.now }
 {
     match words {
-        [w, v] => *w == first && *v == second,
-        _ => false,
+        [first, word] if *first == name => Ok(word),
+        _ => Err(Reason::NotTheHeader),
     }
 }
 
-/// The number of a header line with this first word.
-fn headed(words: &[&[u8]], name: &[u8], least: u64, most: u64) -> Result<u64, Reason>
-    ensures value { by_kind result ≡ headed_spec (texts words.now) name.now least most }
-    ensures range { IfOk result (λ n. (least ≤ n) × (n ≤ most)) }
+/// The version that a word names.
+fn version_of(word: &[u8]) -> Option<u8>
+    ensures { result ≡ version_of_spec word.now }
 {
-    match words {
-        [first, number] if *first == name => number_in(number, least, most),
-        _ => Err(Reason::NotTheHeader),
+    if is(word, b"1") { Some(1) } else { None }
+}
+
+/// The rule that a word names.
+fn rule_of(word: &[u8]) -> Option<Rule>
+    ensures { result ≡ rule_of_spec word.now }
+{
+    if is(word, b"held") {
+        Some(Rule::Held)
+    } else {
+        None
     }
+}
+
+/// The row with this key and this value.
+fn row_with(key: &[u8], value: &[u8]) -> Result<Row, Reason>
+    ensures { by_kind result ≡ row_with_spec key.now value.now }
+{
+    let key = number_in(key, 0, u64::from(u16::MAX))? as u16;
+    let value = number_in(value, 0, u64::from(u32::MAX))? as u32;
+    Ok(Row { key, value })
 }
 
 /// The row of the words behind `row`.
@@ -87,23 +105,8 @@ fn row_of(words: &[&[u8]]) -> Result<Row, Reason>
     ensures { by_kind result ≡ row_of_spec (texts words.now) }
 {
     match words {
-        [key, value] => {
-            let key = number_in(key, 0, u64::from(u16::MAX))? as u16;
-            let value = number_in(value, 0, u64::from(u32::MAX))? as u32;
-            Ok(Row { key, value })
-        }
+        [key, value] => row_with(key, value),
         _ => Err(Reason::WordCount),
-    }
-}
-
-/// The program of these instructions, which has this number.
-fn program_of(alloc: Global, number: usize, instrs: &[Instr]) -> Result<Program, Reason>
-    ensures { Gives result (judged (prog_fault instrs.now) instrs.now) }
-{
-    match Program::verify(alloc, instrs) {
-        Ok(program) => Ok(program),
-        Err(ProgFault::Memory) => Err(Reason::NoMemory),
-        Err(fault) => Err(Reason::NoProgram { number, fault }),
     }
 }
 
@@ -124,9 +127,10 @@ impl Reader {
     fn zephyr_line(&mut self, words: &[&[u8]]) -> Result<(), Reason>
         ensures { Steps result (seen self.new) (zephyr_line (seen self.old) (texts words.now)) }
     {
-        if !are_two(words, b"zephyr", b"1") {
+        let Some(version) = version_of(headed(words, b"zephyr")?) else {
             return Err(Reason::NotTheHeader);
-        }
+        };
+        self.version = version;
         self.stage = Stage::Cap;
         Ok(())
     }
@@ -134,7 +138,7 @@ impl Reader {
     fn cap_line(&mut self, words: &[&[u8]]) -> Result<(), Reason>
         ensures { Steps result (seen self.new) (cap_line (seen self.old) (texts words.now)) }
     {
-        self.cap = headed(words, b"cap", 2, u64::from(MAX_CAP))? as u8;
+        self.cap = number_in(headed(words, b"cap")?, 2, u64::from(MAX_CAP))? as u8;
         self.stage = Stage::Pages;
         Ok(())
     }
@@ -142,7 +146,7 @@ impl Reader {
     fn pages_line(&mut self, words: &[&[u8]]) -> Result<(), Reason>
         ensures { Steps result (seen self.new) (pages_line (seen self.old) (texts words.now)) }
     {
-        self.pages = headed(words, b"pages", 1, u64::from(MAX_PAGES))? as u16;
+        self.pages = number_in(headed(words, b"pages")?, 1, u64::from(MAX_PAGES))? as u16;
         self.stage = Stage::Rule;
         Ok(())
     }
@@ -150,9 +154,10 @@ impl Reader {
     fn rule_line(&mut self, words: &[&[u8]]) -> Result<(), Reason>
         ensures { Steps result (seen self.new) (rule_line (seen self.old) (texts words.now)) }
     {
-        if !are_two(words, b"rule", b"held") {
+        let Some(rule) = rule_of(headed(words, b"rule")?) else {
             return Err(Reason::NotTheHeader);
-        }
+        };
+        self.rule = rule;
         self.stage = Stage::Rows;
         Ok(())
     }
@@ -190,17 +195,61 @@ impl Reader {
     }
 
     fn instr_line(&mut self, operation: Operation, words: &[&[u8]]) -> Result<(), Reason>
-        ensures { Steps result (seen self.new) (instr_at self.old.stage (seen self.old) operation (texts words.now)) }
+        ensures { Steps result (seen self.new) (instr_line (seen self.old) operation (texts words.now)) }
     {
-        if self.stage != Stage::Program {
-            return Err(Reason::Misplaced);
-        }
-        let instr = instr_of(operation, words)?;
+        let instr = instr_of(self.alloc, operation, words)?;
         if self.instrs.len() >= MAX_INSTRS {
             return Err(Reason::InstrCount);
         }
         self.instrs.push(instr).map_err(|_| Reason::NoMemory)?;
         Ok(())
+    }
+
+    fn program_line(&mut self, operation: Operation, words: &[&[u8]]) -> Result<(), Reason>
+        ensures { Steps result (seen self.new) (instr_at self.old.stage (seen self.old) operation (texts words.now)) }
+    {
+        if self.stage != Stage::Program {
+            return Err(Reason::Misplaced);
+        }
+        self.instr_line(operation, words)
+    }
+
+    fn note_label(&mut self, name: &[u8]) -> Result<(), Reason>
+        ensures { Steps result (seen self.new) (note_label (seen self.old) name.now) }
+    {
+        if self.labels.find(name).is_some() {
+            return Err(Reason::LabelTwice(Shown::of(name)));
+        }
+        let at = self.instrs.len() as u8;
+        if self.labels.add(self.alloc, name, at).is_err() {
+            return Err(Reason::NoMemory);
+        }
+        Ok(())
+    }
+
+    fn behind_label(&mut self, words: &[&[u8]]) -> Result<(), Reason>
+        ensures { Steps result (seen self.new) (behind_label (seen self.old) (texts words.now)) }
+    {
+        let Some((first, rest)) = words.split_first() else {
+            return Ok(());
+        };
+        match keyword_of(first) {
+            Some(Keyword::Instr(operation)) => self.instr_line(operation, rest),
+            _ => Err(Reason::NotAnInstr(Shown::of(first))),
+        }
+    }
+
+    fn label_line(&mut self, name: &[u8], words: &[&[u8]]) -> Result<(), Reason>
+        ensures { Steps result (seen self.new) (label_line (seen self.old) name.now (texts words.now)) }
+    {
+        if !is_name(name) {
+            return Err(Reason::NotAName(Shown::of(name)));
+        }
+        if self.stage != Stage::Program {
+            return Err(Reason::Misplaced);
+        }
+        self.note_label(name)?;
+        self.behind_label(words)
     }
 
     /// Closes the program that is open.
@@ -209,14 +258,43 @@ impl Reader {
         ensures { Steps result (seen self.new) (closed (seen self.old)) }
     {
         if self.stage == Stage::Program {
-            let program = program_of(self.alloc, self.programs.len(), self.instrs.as_slice())?;
+            let number = self.programs.len();
+            let program = program_of(self.alloc, number, &self.labels, self.instrs.as_slice())?;
             self.stage = Stage::Choices;
             if self.programs.push(program).is_err() {
                 return Err(Reason::NoMemory);
             }
+            self.labels.clear();
             self.instrs.clear();
         }
         Ok(())
+    }
+
+    fn note_name(&mut self, name: &[u8]) -> Result<(), Reason>
+        requires { length self.old.programs.items ≤ 64 }
+        ensures { Steps result (seen self.new) (note_name (seen self.old) name.now) }
+    {
+        if self.names.find(name).is_some() {
+            return Err(Reason::NameTwice(Shown::of(name)));
+        }
+        let number = self.programs.len() as u8;
+        if self.names.add(self.alloc, name, number).is_err() {
+            return Err(Reason::NoMemory);
+        }
+        Ok(())
+    }
+
+    fn head_line(&mut self, word: &[u8]) -> Result<(), Reason>
+        ensures { Steps result (seen self.new) (head_line (seen self.old) word.now) }
+    {
+        if is_numeral(word) {
+            own_number(self.programs.len(), word)?;
+            Ok(())
+        } else if is_name(word) {
+            self.note_name(word)
+        } else {
+            Err(Reason::NotAName(Shown::of(word)))
+        }
     }
 
     fn open_line(&mut self, words: &[&[u8]]) -> Result<(), Reason>
@@ -224,7 +302,8 @@ impl Reader {
     {
         match words {
             [t] => {
-                if own_number(self.programs.len(), t)? >= MAX_TXNS {
+                self.head_line(t)?;
+                if self.programs.len() >= MAX_TXNS {
                     return Err(Reason::ProgramCount);
                 }
                 self.stage = Stage::Program;
@@ -285,7 +364,7 @@ impl Reader {
                 if !are_times(times) {
                     return Err(not_times(times));
                 }
-                let t = transaction(self.programs.len(), t)?;
+                let t = transaction(self.programs.len(), &self.names, t)?;
                 self.repeat_line(chosen(action, t), times)
             }
             [] => Err(Reason::WordCount),
@@ -323,7 +402,7 @@ impl Reader {
             Keyword::Header => Err(Reason::Misplaced),
             Keyword::Row => self.row_line(words),
             Keyword::Txn => self.txn_line(words),
-            Keyword::Instr(operation) => self.instr_line(operation, words),
+            Keyword::Instr(operation) => self.program_line(operation, words),
             Keyword::Choice(actor) => {
                 self.close()?;
                 self.choice_line(actor, words)
@@ -341,6 +420,9 @@ impl Reader {
         let Some((first, rest)) = words.split_first() else {
             return Err(Reason::WordCount);
         };
+        if let Some(label) = label_of(first) {
+            return self.label_line(label, rest);
+        }
         match keyword_of(first) {
             Some(keyword) => self.statement(keyword, rest),
             None => Err(Reason::NotKnown(Shown::of(first))),
@@ -378,10 +460,14 @@ pub fn read(alloc: Global, text: &str) -> Result<Reader, Refusal>
     let mut reader = Reader {
         alloc,
         stage: Stage::Zephyr,
+        version: 1,
         cap: 2,
         pages: 1,
+        rule: Rule::Held,
         rows: Vec::new(alloc),
+        names: Table::new(alloc),
         programs: Vec::new(alloc),
+        labels: Table::new(alloc),
         instrs: Vec::new(alloc),
         choices: Vec::new(alloc),
     };

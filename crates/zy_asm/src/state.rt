@@ -1,12 +1,14 @@
 //! What the lines so far gave.
-ghost use Rattle.std.specs.Prelude.{◌≤◌, ◌+◌, length};
+ghost use Rattle.std.specs.Prelude.{◌≡◌, ◌≤◌, ◌+◌, length};
 ghost use Rattle.zy_asm.specs.Stages.{open_programs};
 
+use crate::pending::Unresolved;
+use crate::table::Table;
 use std::alloc::Global;
 use zy_isa::choice::Choice;
-use zy_isa::instr::Instr;
 use zy_isa::program::Program;
 use zy_isa::row::Row;
+use zy_isa::rule::Rule;
 
 /// What may come next.
 #[derive(Clone, Copy, Debug, PartialEq, Eq)]
@@ -29,18 +31,25 @@ pub enum Stage {
     Done,
 }
 
-/// What the lines so far gave. Cap is 2 and pages 1 until the header tells them.
+/// What the lines so far gave: until the header tells them version and pages 1, cap 2 and rule `held`.
+/// The names are those of the programs, also of the open one; labels and instructions are those of the open program.
 #[derive(Drop)]
 pub struct Reader {
     pub alloc: Global,
     pub stage: Stage,
+    pub version: u8,
     pub cap: u8,
     pub pages: u16,
+    pub rule: Rule,
     pub rows: Vec<Row>,
+    pub names: Table,
     pub programs: Vec<Program>,
-    pub instrs: Vec<Instr>,
+    pub labels: Table,
+    pub instrs: Vec<Unresolved>,
     pub choices: Vec<Choice>,
+    pub ghost first_version: { version ≡ 1 },
     pub ghost some_cap: { 2 ≤ cap },
     pub ghost few_programs: { open_programs stage + length programs.items ≤ 64 },
+    pub ghost few_instrs: { length instrs.items ≤ 64 },
     pub ghost few_choices: { length choices.items ≤ 4096 },
 }

@@ -5,6 +5,7 @@ pub mod Choices
 pub mod Rows
 pub mod Scenario
 pub mod Words
+pub mod Names
 pub mod Canon
 pub mod InstrWords
 pub mod WordFields

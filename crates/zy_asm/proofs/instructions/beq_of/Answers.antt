@@ -1,20 +1,12 @@
--- Where a register is wrong, so is the line.
-use Rattle.std.proofs.Common.{◌≡◌, ℕ, ◌≤◌, ◌<◌, List, [], ◌∷◌, length, get_or, Err, Bor, arith, refl, sym}
-use Rattle.std.proofs.lemmas.Result.{err_from_is_err_and}
-use Rattle.zy_asm.specs.declared.faults.AsmKind.{AsmKind}
-use Rattle.zy_asm.specs.Reasons.{kind_of}
-use Rattle.zy_asm.specs.Steps.{texts}
-use Rattle.zy_asm.specs.Instructions.{beq_of, two}
+-- Three words follow.
+use Rattle.std.proofs.Common.{inr, rules}
+use Rattle.zy_asm.proofs.CodeLemmas.{beq_few, beq_many}
 use Rattle.zy_asm.proofs.instructions.beq_of.Goals as goal
+use Rattle.zy_asm.proofs.instructions.beq_of.Goals.{in_default-via-then-words-lt3, in_default-via-else-words-lt3+else-words-lt4}
 
-beq_err : (ws : List (Bor (List ℕ))) (d : Bor (List ℕ)) (e : AsmKind) → 3 ≤ length ws → length ws < 4 → Err e ≡ two (get_or ws 0 d).now (get_or ws 1 d).now → beq_of (texts ws) ≡ Err e
-beq_err [] d e p q h = absurd (omega arith)
-beq_err (a ∷ []) d e p q h = absurd (omega arith)
-beq_err (a ∷ b ∷ []) d e p q h = absurd (omega arith)
-beq_err (a ∷ b ∷ t ∷ []) d e p q h = rw (← h) refl
-beq_err (a ∷ b ∷ t ∷ u ∷ us) d e p q h = absurd (omega arith)
-
-pub returns-in_err-a-in-len3 : goal.returns-in_err-a-in-len3
-returns-in_err-a-in-len3 c =
-    let p = err_from_is_err_and c.from_residual.result c.from_residual.ensures.1 in
-    rw (p.1, p.2) (sym (beq_err c.args.words.now _ (kind_of c.in_err-a-in-len3.field-0.0) c.in-len3.len_at_least c.in-len3.len_below c.in_err-a-in-len3.ensures))
+pub returns-in_default : goal.returns-in_default
+returns-in_default c =
+    elim c.in_default.branch [
+      | in_default-via-then-words-lt3 w ↦ inr (beq_few c.args.words.now (search rules))
+      | in_default-via-else-words-lt3+else-words-lt4 w ↦ inr (beq_many c.args.words.now (search rules))
+    ]

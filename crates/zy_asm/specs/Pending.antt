@@ -1,0 +1,41 @@
+-- Instructions of a program that is still open, and what they are once its labels are known.
+use Rattle.std.specs.Prelude.{ℕ, List, [], ◌∷◌, map, Option, Some, None, Result, Ok, Err, ok_or}
+use Rattle.zy_isa.specs.declared.instr.Reg.{Reg}
+use Rattle.zy_isa.specs.declared.instr.Instr.{Instr}
+use Rattle.zy_isa.specs.declared.instr.Instr.TheVariants.{Beq}
+use Rattle.zy_isa.specs.declared.program.ProgFault.{ProgFault}
+use Rattle.zy_isa.specs.Names.{Mark, place}
+use Rattle.zy_isa.specs.Programs.{prog_fault}
+use Rattle.zy_isa.specs.Results.{◌>>=◌}
+use Rattle.zy_asm.specs.declared.faults.AsmKind.{AsmKind}
+use Rattle.zy_asm.specs.declared.faults.AsmKind.TheVariants as kinds
+use Rattle.zy_asm.specs.declared.pending.Unresolved.{Unresolved}
+use Rattle.zy_asm.specs.declared.pending.Unresolved.TheVariants.{Whole, Jump}
+
+-- an instruction, or a jump to a label
+pub data Pending : Type 0 where
+  whole : Instr → Pending
+  jump : Reg → Reg → List ℕ → Pending
+
+abbrev pub shown : Unresolved → Pending
+shown (Whole i) = whole i
+shown (Jump a b name) = jump a b name.items
+
+abbrev pub resolved : List Mark → Pending → Result Instr AsmKind
+resolved labels (whole i) = Ok i
+resolved labels (jump a b name) = ok_or (place name labels) kinds.Label >>= λ n. Ok (Beq a b n)
+
+abbrev pub all_resolved : List Mark → List Pending → Result (List Instr) AsmKind
+all_resolved labels [] = Ok []
+all_resolved labels (p ∷ ps) = do
+  i ← resolved labels p
+  is ← all_resolved labels ps
+  Ok (i ∷ is)
+
+abbrev pub judged : Option ProgFault → List Instr → Result (List Instr) AsmKind
+judged None is = Ok is
+judged (Some f) is = Err kinds.Program
+
+-- the program of these labels and instructions
+abbrev pub program_of : List Mark → List Pending → Result (List Instr) AsmKind
+program_of labels ps = all_resolved labels ps >>= λ is. judged (prog_fault is) is

@@ -1,0 +1,74 @@
+//! The instructions of a program that is still open, and the program once its labels are known.
+ghost use Rattle.std.specs.Prelude.{◌≡◌, map};
+ghost use Rattle.zy_asm.specs.Reasons.{by_kind, Gives};
+ghost use Rattle.zy_asm.specs.Pending.{shown, resolved as resolved_spec, all_resolved as all_resolved_spec, judged as judged_spec, program_of as program_of_spec};
+ghost use Rattle.zy_isa.specs.Programs.{prog_fault};
+
+use crate::faults::Reason;
+use crate::shown::Shown;
+use crate::table::Table;
+use std::alloc::Global;
+use zy_isa::instr::{Instr, Reg};
+use zy_isa::program::{ProgFault, Program};
+
+/// An instruction whose label, if it has one, is still to be found.
+#[derive(Debug, Drop)]
+pub enum Unresolved {
+    /// An instruction that names no label.
+    Whole(Instr),
+    /// `beq` with two registers and this label.
+    Jump(Reg, Reg, Vec<u8>),
+}
+
+/// The instruction, where the labels of its program are these.
+fn resolved(labels: &Table, instr: &Unresolved) -> Result<Instr, Reason>
+    ensures { by_kind result ≡ resolved_spec labels.now (shown instr.now) }
+{
+    match instr {
+        Unresolved::Whole(instr) => Ok(*instr),
+        Unresolved::Jump(a, b, label) => {
+            let Some(target) = labels.find(label.as_slice()) else {
+                return Err(Reason::NoLabel(Shown::of(label.as_slice())));
+            };
+            Ok(Instr::Beq(*a, *b, u32::from(target)))
+        }
+    }
+}
+
+/// The instructions, where the labels of their program are these.
+fn all_resolved(alloc: Global, labels: &Table, instrs: &[Unresolved]) -> Result<Vec<Instr>, Reason>
+    ensures { Gives (λ v. v.items) result (all_resolved_spec labels.now (map shown instrs.now)) }
+{
+    let mut all = Vec::new(alloc);
+    for instr in instrs {
+        let instr = resolved(labels, instr)?;
+        if all.push(instr).is_err() {
+            return Err(Reason::NoMemory);
+        }
+    }
+    Ok(all)
+}
+
+/// The program of these instructions, which has this number.
+fn judged(alloc: Global, number: usize, instrs: &[Instr]) -> Result<Program, Reason>
+    ensures { Gives (λ p. p) result (judged_spec (prog_fault instrs.now) instrs.now) }
+{
+    match Program::verify(alloc, instrs) {
+        Ok(program) => Ok(program),
+        Err(ProgFault::Memory) => Err(Reason::NoMemory),
+        Err(fault) => Err(Reason::NoProgram { number, fault }),
+    }
+}
+
+/// The program of this number, which has these labels and instructions.
+pub fn program_of(
+    alloc: Global,
+    number: usize,
+    labels: &Table,
+    instrs: &[Unresolved],
+) -> Result<Program, Reason>
+    ensures { Gives (λ p. p) result (program_of_spec labels.now (map shown instrs.now)) }
+{
+    let instrs = all_resolved(alloc, labels, instrs)?;
+    judged(alloc, number, instrs.as_slice())
+}
