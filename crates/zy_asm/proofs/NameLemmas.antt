@@ -46,3 +46,19 @@ label-not w b h = label-last w b ∙ rw (not58 b (b == 58) refl h) refl
 pub label-none : (w : List ℕ) → length w ≡ 0 → label_of w ≡ None
 label-none [] h = refl
 label-none (b ∷ bs) h = absurd (omega arith)
+
+option_some : (b : ℕ) (o : Option (List ℕ)) (v : List ℕ) → option_map (λ w. b ∷ w) o ≡ Some v → (u : List ℕ) × (o ≡ Some u) × (v ≡ b ∷ u)
+option_some b None v h = cc
+option_some b (Some u) v h = (u, refl, cc)
+
+-- a label's word is its name with a colon behind it
+pub label_ok : (w v : List ℕ) → label_of w ≡ Some v → w ≡ v ++ 58 ∷ []
+label_ok [] v h = cc
+label_ok (b ∷ []) v h = last (b == 58) refl h
+  where
+    last : (t : Bool) → (b == 58) ≡ t → (if t then Some [] else None) ≡ Some v → b ∷ [] ≡ v ++ 58 ∷ []
+    last true e q = let p : [] ≡ v = cc in ap (λ x. x ∷ []) (eqb-true b 58 e) ∙ ap (λ u. u ++ 58 ∷ []) p
+    last false e q = cc
+label_ok (b ∷ c ∷ bs) v h =
+    let p = option_some b (label_of (c ∷ bs)) v h in
+    ap (λ u. b ∷ u) (label_ok (c ∷ bs) p.0 p.1) ∙ ap (λ u. u ++ 58 ∷ []) (sym p.2)
