@@ -5,4 +5,6 @@ pub mod PendingLemmas
 pub mod SpellLemmas
 pub mod DraftLemmas
 pub mod FoundLemmas
+pub mod GivesLemmas
+pub mod OnlyLemmas
 pub mod ExtendLemmas
