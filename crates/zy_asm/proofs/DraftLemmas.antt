@@ -1,5 +1,5 @@
 -- The lines of a program as they are read, and what they are once its labels are known.
-use Rattle.std.proofs.Common.{◌≡◌, ℕ, ◌+◌, ◌<◌, List, [], ◌∷◌, ◌++◌, length, map, Bool, true, false, Option, Some, None, Ok, if◌then◌else◌, refl, sym, ap, ◌∙◌, append-nil, arith}
+use Rattle.std.proofs.Common.{◌≡◌, ℕ, ◌+◌, List, [], ◌∷◌, ◌++◌, length, map, Bool, true, false, Option, Some, None, Ok, if◌then◌else◌, refl, sym, ap, ◌∙◌, append-nil, arith}
 use Rattle.zy_isa.specs.declared.instr.Instr.{Instr}
 use Rattle.zy_isa.specs.Names.{Mark, is_name, AreNew}
 use Rattle.zy_isa.specs.Text as m

@@ -36,11 +36,11 @@ use Rattle.zy_asm.specs.Pending.{Pending, all_resolved, judged, program_of}
 use Rattle.zy_asm.specs.Instructions.{instr_of}
 use Rattle.zy_asm.specs.Choices.{action_of}
 use Rattle.zy_isa.specs.Rows.{last_row, is_low}
-use Rattle.zy_asm.specs.Reading.{Seen, keyword_of, headed, version_of, rule_of, row_of, is_full, add_row, row_at, instr_line, note_label, labelled, behind_label, label_at as label_at_spec, label_line, head_line, open_line, action_line, choice_line, end_line, statement, led_by, body_line, step, finish, nothing_seen}
+use Rattle.zy_asm.specs.Reading.{Seen, keyword_of, headed, version_of, rule_of, row_of, is_full, add_row, row_at, instr_line, note_label, labelled, behind_label, label_line, head_line, open_line, action_line, choice_line, end_line, statement, led_by, body_line, step, finish, nothing_seen}
 use Rattle.zy_isa.proofs.RowLemmas.{order_more}
 use Rattle.zy_isa.proofs.ScenarioLemmas.{no_fault}
 use Rattle.zy_isa.proofs.ResultLemmas.{bind_ok, if_ok, if_err, chosen_by, neither, below, not_over, same, ok_or_ok}
-use Rattle.zy_asm.proofs.SpellLemmas.{op_word, actor_word, keyword_ok, number_in_ok, SpellsPending, instr_ok, row_ok, not_some, HeadStep, head_ok, AreBelow, Chose, choice_ok}
+use Rattle.zy_asm.proofs.SpellLemmas.{op_word, actor_word, keyword_ok, number_in_ok, SpellsPending, instr_ok, row_ok, not_some, head_ok, AreBelow, Chose, choice_ok}
 use Rattle.zy_asm.proofs.NameLemmas.{label_ok}
 use Rattle.zy_asm.proofs.DraftLemmas.{Line, SpellsLine, SpellBody, pending_in, pendings, marks, coded, new_label, new_name, below_name}
 

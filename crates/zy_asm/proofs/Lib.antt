@@ -7,4 +7,6 @@ pub mod DraftLemmas
 pub mod FoundLemmas
 pub mod GivesLemmas
 pub mod OnlyLemmas
+pub mod CanonLemmas
+pub mod InputLemmas
 pub mod ExtendLemmas

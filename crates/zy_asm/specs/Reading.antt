@@ -1,5 +1,5 @@
 -- Reading a text, line by line, up to the first fault.
-use Rattle.std.specs.Prelude.{is_some, map, ◌≡◌, ◌==◌, ◌+◌, ◌⊎◌, ◌&&◌, ◌||◌, ℕ, List, [], ◌∷◌, ◌++◌, length, codes, Option, Some, None, Bool, false, Result, Ok, Err, ok_or, option_map, if◌then◌else◌, nat_le, nat_lt, replicate}
+use Rattle.std.specs.Prelude.{is_some, map, ◌≡◌, ◌==◌, ◌+◌, ◌⊎◌, ◌||◌, ℕ, List, [], ◌∷◌, ◌++◌, length, codes, Option, Some, None, Bool, Result, Ok, Err, ok_or, option_map, if◌then◌else◌, nat_le, nat_lt, replicate}
 use Rattle.std.specs.Option.{option_or}
 use Rattle.std.specs.Str.{bytes_eq}
 use Rattle.zy_isa.specs.declared.node.Actor.{Actor}

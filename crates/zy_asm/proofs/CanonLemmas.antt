@@ -1,0 +1,400 @@
+-- The canonical text means its scenario.
+use Rattle.std.proofs.Common.{◌≡◌, ℕ, ◌+◌, ◌-◌, ◌*◌, ◌^◌, ◌<◌, ◌≤◌, Bool, true, false, not, ◌&&◌, ◌==◌, nat_le, nat_lt, List, [], ◌∷◌, ◌++◌, length, map, filter, Some, None, refl, sym, ap, subst, arith, rules, append_assoc, append-nil, lit<, codes, inl, inr}
+use Rattle.std.specs.Fmt.{decimal}
+use Rattle.std.specs.List.{flat_map, slice_split, prefix_len}
+use Rattle.std.specs.Str.{all_ascii_digits}
+use Rattle.std.specs.Char.{is_ascii_digit}
+use Rattle.std.proofs.lemmas.Str.Parse.{IsNumeralModel, numerals_by_fold}
+use Rattle.std.proofs.lemmas.Fmt.{digits_decimal, digits_value-decimal, length-decimal-le, decimal_nonempty}
+use Rattle.zy_isa.specs.declared.node.Node.{Node}
+use Rattle.zy_isa.specs.declared.node.Node.TheVariants.{A, B}
+use Rattle.zy_isa.specs.declared.rule.Rule.{Rule}
+use Rattle.zy_isa.specs.declared.rule.Rule.TheVariants.{Held}
+use Rattle.zy_isa.specs.declared.row.Row.{Row}
+use Rattle.zy_isa.specs.declared.instr.Reg.{Reg}
+use Rattle.zy_isa.specs.declared.instr.Reg.TheVariants.{R0, R1, R2, R3, R4, R5, R6, R7}
+use Rattle.zy_isa.specs.declared.instr.Instr.{Instr}
+use Rattle.zy_isa.specs.declared.instr.Instr.TheVariants.{Set, Read, Write, Insert, Add, Beq, Commit, Abort}
+use Rattle.zy_isa.specs.declared.choice.Choice.{Choice}
+use Rattle.zy_isa.specs.declared.choice.Choice.TheVariants.{Start, Begin, Kill, Run, Take, Finish, Push}
+use Rattle.zy_isa.specs.Words.{is_space, is_word, without_comment, lines_of, has_words, lines_with_words, number_of, digits_after, spaced}
+use Rattle.zy_isa.specs.Canon.{node_text, rule_text, reg_text, instr_words, choice_words, row_words, program_words, canon_words, canon}
+use Rattle.zy_io.specs.Writing.{line_of}
+use Rattle.zy_isa.specs.Rows.{RowsFit}
+use Rattle.zy_isa.specs.Programs.{HasValue, Values}
+use Rattle.zy_isa.specs.Choices.{names_below}
+use Rattle.zy_isa.specs.Scenario.{Scenario, IsScenario, ArePrograms, AreNamed}
+use Rattle.zy_isa.specs.Text as m
+use Rattle.zy_isa.specs.Names.{Mark, AreNew}
+use Rattle.zy_isa.specs.Text.{Code, Written, Times, Draft, Statement, Spells, SpellsInstr, SpellsChoice, SpellEach, instrs_of, labels_of, names_of, Headed, Labelled, IsDraftOf, program_statements, repeated, statements, Means}
+use Rattle.zy_isa.proofs.ResultLemmas.{both}
+use Rattle.zy_asm.proofs.LineLemmas.{one_plus}
+use Rattle.zy_asm.proofs.SpellLemmas.{no_name}
+use Rattle.zy_asm.proofs.GivesLemmas.{numeral_ok}
+use borrow.Author.Tests.{tests}
+
+-- a byte that may stand in a word
+abbrev is_plain : ℕ → Bool
+is_plain b = not (is_space b) && not (b == 59) && not (b == 10)
+
+abbrev is_clean : List ℕ → Bool
+is_clean [] = true
+is_clean (b ∷ bs) = is_plain b && is_clean bs
+
+-- words that have a byte, all plain
+abbrev are_clean : List (List ℕ) → Bool
+are_clean [] = true
+are_clean (w ∷ ws) = is_word w && is_clean w && are_clean ws
+
+not_true : (b : Bool) → not b ≡ true → b ≡ false
+not_true true h = cc
+not_true false h = refl
+
+plain_parts : (b : ℕ) → is_plain b ≡ true → (is_space b ≡ false) × ((b == 59) ≡ false) × ((b == 10) ≡ false)
+plain_parts b h =
+    let p = both (not (is_space b) && not (b == 59)) (not (b == 10)) h in
+    let q = both (not (is_space b)) (not (b == 59)) p.0 in
+    (not_true _ q.0, not_true _ q.1, not_true _ p.1)
+
+split_word : (w rest : List ℕ) → is_clean w ≡ true → slice_split is_space (w ++ 32 ∷ rest) ≡ w ∷ slice_split is_space rest
+split_word [] rest h = refl
+split_word (b ∷ bs) rest h =
+    let p = both (is_plain b) (is_clean bs) h in
+    rw ((plain_parts b p.0).0, split_word bs rest p.1) refl
+
+split_last : (w : List ℕ) → is_clean w ≡ true → slice_split is_space w ≡ w ∷ []
+split_last [] h = refl
+split_last (b ∷ bs) h =
+    let p = both (is_plain b) (is_clean bs) h in
+    rw ((plain_parts b p.0).0, split_last bs p.1) refl
+
+-- the words of spaced words
+split_spaced : (ws : List (List ℕ)) → are_clean ws ≡ true → filter is_word (slice_split is_space (spaced ws)) ≡ ws
+split_spaced [] h = refl
+split_spaced (w ∷ []) h =
+    let p = both (is_word w && is_clean w) true h in
+    let q = both (is_word w) (is_clean w) p.0 in
+    rw (split_last w q.1, q.0) refl
+split_spaced (w ∷ v ∷ ws) h =
+    let p = both (is_word w && is_clean w) (are_clean (v ∷ ws)) h in
+    let q = both (is_word w) (is_clean w) p.0 in
+    rw (split_word w (spaced (v ∷ ws)) q.1, q.0, split_spaced (v ∷ ws) p.1) refl
+
+-- no comment, and one line
+abbrev is_text : List ℕ → Bool
+is_text [] = true
+is_text (b ∷ bs) = not (b == 59) && not (b == 10) && is_text bs
+
+text_append : (xs ys : List ℕ) → is_clean xs ≡ true → is_text ys ≡ true → is_text (xs ++ ys) ≡ true
+text_append [] ys h k = k
+text_append (b ∷ bs) ys h k =
+    let p = both (is_plain b) (is_clean bs) h in
+    let q = plain_parts b p.0 in
+    rw (q.1, q.2, text_append bs ys p.1 k) refl
+
+text_spaced : (ws : List (List ℕ)) → are_clean ws ≡ true → is_text (spaced ws) ≡ true
+text_spaced [] h = refl
+text_spaced (w ∷ []) h =
+    let p = both (is_word w && is_clean w) true h in
+    subst (λ x. is_text x ≡ true) (append-nil w) (text_append w [] (both (is_word w) (is_clean w) p.0).1 refl)
+text_spaced (w ∷ v ∷ ws) h =
+    let p = both (is_word w && is_clean w) (are_clean (v ∷ ws)) h in
+    text_append w (32 ∷ spaced (v ∷ ws)) (both (is_word w) (is_clean w) p.0).1 (text_spaced (v ∷ ws) p.1)
+
+text_parts : (b : ℕ) (bs : List ℕ) → is_text (b ∷ bs) ≡ true → ((b == 59) ≡ false) × ((b == 10) ≡ false) × (is_text bs ≡ true)
+text_parts b bs h =
+    let p = both (not (b == 59) && not (b == 10)) (is_text bs) h in
+    let q = both (not (b == 59)) (not (b == 10)) p.0 in
+    (not_true _ q.0, not_true _ q.1, p.1)
+
+uncommented : (xs : List ℕ) → is_text xs ≡ true → without_comment xs ≡ xs
+uncommented [] h = refl
+uncommented (b ∷ bs) h = let p = text_parts b bs h in rw (p.0, one_plus (prefix_len (λ c. not (c == 59)) bs)) (ap (λ l. b ∷ l) (uncommented bs p.2))
+
+first_of_text : (xs rest : List ℕ) → is_text xs ≡ true → lines_of (xs ++ 10 ∷ rest) ≡ xs ∷ lines_of rest
+first_of_text [] rest h = refl
+first_of_text (b ∷ bs) rest h = let p = text_parts b bs h in rw (p.1, first_of_text bs rest p.2) refl
+
+-- ---- numbers
+
+abbrev read_on : ℕ → List ℕ → ℕ
+read_on n [] = n
+read_on n (c ∷ cs) = read_on (10 * n + (c - 48)) cs
+
+own : IsNumeralModel (λ ds. all_ascii_digits ds ≡ true) (read_on 0)
+own = numerals_by_fold _ (search rules) read_on (search rules)
+
+digit_plain : (d : ℕ) → is_ascii_digit d ≡ true → is_plain d ≡ true
+digit_plain d h = grind (arith, tests)
+
+digits_clean : (ds : List ℕ) → all_ascii_digits ds ≡ true → is_clean ds ≡ true
+digits_clean [] h = refl
+digits_clean (d ∷ ds) h = let p = both (is_ascii_digit d) (all_ascii_digits ds) h in rw (digit_plain d p.0, digits_clean ds p.1) refl
+
+digits_read : (n : ℕ) (ds : List ℕ) → all_ascii_digits ds ≡ true → digits_after n ds ≡ Some (read_on n ds)
+digits_read n [] h = refl
+digits_read n (d ∷ ds) h = let p = both (is_ascii_digit d) (all_ascii_digits ds) h in rw (p.0, digits_read (10 * n + (d - 48)) ds p.1) refl
+
+some_length : (xs : List ℕ) → 0 < length xs → is_word xs ≡ true
+some_length xs h = some (length xs) h
+  where
+    some : (n : ℕ) → 0 < n → not (n == 0) ≡ true
+    some n k = grind (arith, tests)
+
+number_of-decimal : (n : ℕ) → n < 2 ^ 32 → number_of (decimal n) ≡ Some n
+number_of-decimal n h =
+    let wide : n < 2 ^ 64 = omega arith in
+    let few : length (decimal n) ≤ 10 = length-decimal-le 10 n (lit< tt) (omega arith) wide in
+    rw (some_length (decimal n) (decimal_nonempty n wide), small (length (decimal n)) few, digits_read 0 (decimal n) (digits_decimal own n wide), digits_value-decimal own n wide) refl
+  where
+    small : (k : ℕ) → k ≤ 10 → nat_le k 10 ≡ true
+    small k e = grind (arith, tests)
+
+-- ---- the canonical text
+
+number_clean : (n : ℕ) → n < 2 ^ 32 → (is_word (decimal n) ≡ true) × (is_clean (decimal n) ≡ true)
+number_clean n h =
+    let wide : n < 2 ^ 64 = omega arith in
+    (some_length (decimal n) (decimal_nonempty n wide), digits_clean (decimal n) (digits_decimal own n wide))
+
+-- ---- each line is spelled
+
+SpellEach-append : (xs ys : List Statement) (ls ms : List (List (List ℕ))) → SpellEach xs ls → SpellEach ys ms → SpellEach (xs ++ ys) (ls ++ ms)
+SpellEach-append [] ys [] ms h g = g
+SpellEach-append [] ys (l ∷ ls) ms h g = absurd h
+SpellEach-append (x ∷ xs) ys [] ms h g = absurd h
+SpellEach-append (x ∷ xs) ys (l ∷ ls) ms h g = (h.0, SpellEach-append xs ys ls ms h.1 g)
+
+spell_rows : (rows : List Row) → RowsFit rows → SpellEach (map m.row rows) (map row_words rows)
+spell_rows [] h = tt
+spell_rows (r ∷ rows) h = ((decimal r.key, decimal r.value, refl, number_of-decimal r.key (omega (arith, h.0)), number_of-decimal r.value h.1), spell_rows rows h.2)
+
+spell_instr : (labels : List Mark) (i : Instr) → HasValue i → SpellsInstr labels i (instr_words i)
+spell_instr labels (Set a n) h = (decimal n, refl, number_of-decimal n h)
+spell_instr labels (Read a b) h = refl
+spell_instr labels (Write a b) h = refl
+spell_instr labels (Insert a b) h = refl
+spell_instr labels (Add a b) h = refl
+spell_instr labels (Beq a b n) h = (64 ∷ decimal n, refl, inl (decimal n, refl, number_of-decimal n h))
+spell_instr labels Commit h = refl
+spell_instr labels Abort h = refl
+
+-- ---- the draft of the canonical text: numbers for names, and no labels
+
+abbrev plain_code : Instr → Code
+plain_code i = record { label = None; instr = Some i }
+
+abbrev plain_programs : ℕ → List (List Instr) → List Written
+plain_programs k [] = []
+plain_programs k (p ∷ ps) = record { head = decimal k; body = map plain_code p } ∷ plain_programs (k + 1) ps
+
+plain_instrs : (is : List Instr) → instrs_of (map plain_code is) ≡ is
+plain_instrs [] = refl
+plain_instrs (i ∷ is) = ap (λ xs. i ∷ xs) (plain_instrs is)
+
+plain_bodies : (k : ℕ) (ps : List (List Instr)) → map (λ (p : Written). instrs_of p.body) (plain_programs k ps) ≡ ps
+plain_bodies k [] = refl
+plain_bodies k (p ∷ ps) = rw (plain_instrs p, plain_bodies (k + 1) ps) refl
+
+plain_labels : (k : ℕ) (is : List Instr) → labels_of k (map plain_code is) ≡ []
+plain_labels k [] = refl
+plain_labels k (i ∷ is) = plain_labels (k + 1) is
+
+plain_names : (k : ℕ) (ps : List (List Instr)) → k + length ps ≤ 64 → names_of k (plain_programs k ps) ≡ []
+plain_names k [] few = refl
+plain_names k (p ∷ ps) few = rw (no_name (decimal k) (numeral_ok (decimal k) k (number_of-decimal k (omega arith)))) (plain_names (k + 1) ps (omega arith))
+
+plain_heads : (k : ℕ) (ps : List (List Instr)) → k + length ps ≤ 64 → Headed k (plain_programs k ps)
+plain_heads k [] few = tt
+plain_heads k (p ∷ ps) few = (inr (number_of-decimal k (omega arith)), plain_heads (k + 1) ps (omega arith))
+
+plain_labelled : (k : ℕ) (ps : List (List Instr)) → Labelled (plain_programs k ps)
+plain_labelled k [] = tt
+plain_labelled k (p ∷ ps) = (rw (plain_labels 0 p) tt, plain_labelled (k + 1) ps)
+
+spell_codes : (labels : List Mark) (is : List Instr) → Values is → SpellEach (map (m.code labels) (map plain_code is)) (map instr_words is)
+spell_codes labels [] h = tt
+spell_codes labels (i ∷ is) h = (([], instr_words i, refl, refl, spell_instr labels i h.0), spell_codes labels is h.1)
+
+spell_programs : (ps : List (List Instr)) (k : ℕ) → ArePrograms ps → SpellEach (flat_map program_statements (plain_programs k ps)) (program_words k ps)
+spell_programs [] k h = tt
+spell_programs (p ∷ ps) k h =
+    let labels = labels_of 0 (map plain_code p) in
+    (refl, SpellEach-append (map (m.code labels) (map plain_code p)) (flat_map program_statements (plain_programs (k + 1) ps)) (map instr_words p) (program_words (k + 1) ps) (spell_codes labels p h.0.values) (spell_programs ps (k + 1) h.1))
+
+-- each choice made once
+abbrev once : List Choice → List Times
+once cs = map (λ c. record { choice = c; times = 1 }) cs
+
+once_repeated : (cs : List Choice) → repeated (once cs) ≡ cs
+once_repeated [] = refl
+once_repeated (c ∷ cs) = ap (λ xs. c ∷ xs) (once_repeated cs)
+
+under : (t count : ℕ) → count ≤ 64 → nat_lt t count ≡ true → t < 2 ^ 32
+under t count few h = let low : t < count = grind (arith, tests) in omega arith
+
+spell_choice : (names : List Mark) (c : Choice) (count : ℕ) → count ≤ 64 → names_below count c ≡ true → SpellsChoice names c (choice_words c)
+spell_choice names Start count few h = refl
+spell_choice names (Begin t) count few h = (decimal t, refl, inl (number_of-decimal t (under t count few h)))
+spell_choice names (Kill t) count few h = (decimal t, refl, inl (number_of-decimal t (under t count few h)))
+spell_choice names (Run n t) count few h = (decimal t, refl, inl (number_of-decimal t (under t count few h)))
+spell_choice names (Take n) count few h = refl
+spell_choice names (Finish n) count few h = refl
+spell_choice names (Push n) count few h = refl
+
+spell_choices : (names : List Mark) (cs : List Choice) (count : ℕ) → count ≤ 64 → AreNamed count cs → SpellEach (map (m.choice names) (once cs)) (map choice_words cs)
+spell_choices names [] count few h = tt
+spell_choices names (c ∷ cs) count few h = ((choice_words c, [], sym (append-nil (choice_words c)), spell_choice names c count few h.0, inl (refl, refl)), spell_choices names cs count few h.1)
+
+-- ---- the lines of the text
+
+abbrev AreClean : List (List (List ℕ)) → Type 0
+AreClean [] = Unit {0}
+AreClean (l ∷ ls) = (are_clean l ≡ true) × (has_words l ≡ true) × AreClean ls
+
+AreClean-append : (ls ms : List (List (List ℕ))) → AreClean ls → AreClean ms → AreClean (ls ++ ms)
+AreClean-append [] ms h g = g
+AreClean-append (l ∷ ls) ms h g = (h.0, h.1, AreClean-append ls ms h.2 g)
+
+reg_clean : (r : Reg) → (is_word (reg_text r) ≡ true) × (is_clean (reg_text r) ≡ true)
+reg_clean R0 = (refl, refl)
+reg_clean R1 = (refl, refl)
+reg_clean R2 = (refl, refl)
+reg_clean R3 = (refl, refl)
+reg_clean R4 = (refl, refl)
+reg_clean R5 = (refl, refl)
+reg_clean R6 = (refl, refl)
+reg_clean R7 = (refl, refl)
+
+node_clean : (n : Node) → (is_word (node_text n) ≡ true) × (is_clean (node_text n) ≡ true)
+node_clean A = (refl, refl)
+node_clean B = (refl, refl)
+
+rule_clean : (r : Rule) → are_clean (codes "rule" ∷ rule_text r ∷ []) ≡ true
+rule_clean Held = refl
+
+-- a first word and two more, of which the last is a number
+pair_clean : (w : List ℕ) (a b : Reg) → is_word w ≡ true → is_clean w ≡ true → are_clean (w ∷ reg_text a ∷ reg_text b ∷ []) ≡ true
+pair_clean w a b h g = rw (h, g, (reg_clean a).0, (reg_clean a).1, (reg_clean b).0, (reg_clean b).1) refl
+
+number_last : (w v : List ℕ) (n : ℕ) → n < 2 ^ 32 → is_word w ≡ true → is_clean w ≡ true → is_word v ≡ true → is_clean v ≡ true → are_clean (w ∷ v ∷ decimal n ∷ []) ≡ true
+number_last w v n few h g i j = let p = number_clean n few in rw (h, g, i, j, p.0, p.1) refl
+
+target_clean : (n : ℕ) → n < 2 ^ 32 → (is_word (64 ∷ decimal n) ≡ true) × (is_clean (64 ∷ decimal n) ≡ true)
+target_clean n h = (some_length (64 ∷ decimal n) (omega arith), (number_clean n h).1)
+
+beq_clean : (a b : Reg) (v : List ℕ) → is_word v ≡ true → is_clean v ≡ true → are_clean (codes "beq" ∷ reg_text a ∷ reg_text b ∷ v ∷ []) ≡ true
+beq_clean a b v h g = rw ((reg_clean a).0, (reg_clean a).1, (reg_clean b).0, (reg_clean b).1, h, g) refl
+
+clean_instr : (i : Instr) → HasValue i → (are_clean (instr_words i) ≡ true) × (has_words (instr_words i) ≡ true)
+clean_instr (Set a n) h = (number_last (codes "set") (reg_text a) n h refl refl (reg_clean a).0 (reg_clean a).1, refl)
+clean_instr (Read a b) h = (pair_clean (codes "read") a b refl refl, refl)
+clean_instr (Write a b) h = (pair_clean (codes "write") a b refl refl, refl)
+clean_instr (Insert a b) h = (pair_clean (codes "insert") a b refl refl, refl)
+clean_instr (Add a b) h = (pair_clean (codes "add") a b refl refl, refl)
+clean_instr (Beq a b n) h = let t = target_clean n h in (beq_clean a b (64 ∷ decimal n) t.0 t.1, refl)
+clean_instr Commit h = (refl, refl)
+clean_instr Abort h = (refl, refl)
+
+clean_instrs : (is : List Instr) → Values is → AreClean (map instr_words is)
+clean_instrs [] h = tt
+clean_instrs (i ∷ is) h = let p = clean_instr i h.0 in (p.0, p.1, clean_instrs is h.1)
+
+clean_one : (w : List ℕ) (n : ℕ) → n < 2 ^ 32 → is_word w ≡ true → is_clean w ≡ true → are_clean (w ∷ decimal n ∷ []) ≡ true
+clean_one w n few h g = let p = number_clean n few in rw (h, g, p.0, p.1) refl
+
+clean_rows : (rows : List Row) → RowsFit rows → AreClean (map row_words rows)
+clean_rows [] h = tt
+clean_rows (r ∷ rows) h =
+    let k = number_clean r.key (omega (arith, h.0)) in
+    (number_last (codes "row") (decimal r.key) r.value h.1 refl refl k.0 k.1, refl, clean_rows rows h.2)
+
+clean_programs : (ps : List (List Instr)) (k : ℕ) → k + length ps ≤ 64 → ArePrograms ps → AreClean (program_words k ps)
+clean_programs [] k few h = tt
+clean_programs (p ∷ ps) k few h = (
+  clean_one (codes "txn") k (omega arith) refl refl,
+  refl,
+  AreClean-append (map instr_words p) (program_words (k + 1) ps) (clean_instrs p h.0.values) (clean_programs ps (k + 1) (omega arith) h.1),
+)
+
+plain_clean : (n : Node) (w : List ℕ) → is_word w ≡ true → is_clean w ≡ true → are_clean (node_text n ∷ w ∷ []) ≡ true
+plain_clean n w h g = rw ((node_clean n).0, (node_clean n).1, h, g) refl
+
+clean_choice : (c : Choice) (count : ℕ) → count ≤ 64 → names_below count c ≡ true → (are_clean (choice_words c) ≡ true) × (has_words (choice_words c) ≡ true)
+clean_choice Start count few h = (refl, refl)
+clean_choice (Begin t) count few h = (number_last (codes "C") (codes "begin") t (under t count few h) refl refl refl refl, refl)
+clean_choice (Kill t) count few h = (number_last (codes "C") (codes "kill") t (under t count few h) refl refl refl refl, refl)
+clean_choice (Run n t) count few h = (number_last (node_text n) (codes "run") t (under t count few h) (node_clean n).0 (node_clean n).1 refl refl, refl)
+clean_choice (Take n) count few h = (plain_clean n (codes "take") refl refl, refl)
+clean_choice (Finish n) count few h = (plain_clean n (codes "finish") refl refl, refl)
+clean_choice (Push n) count few h = (plain_clean n (codes "push") refl refl, refl)
+
+clean_choices : (cs : List Choice) (count : ℕ) → count ≤ 64 → AreNamed count cs → AreClean (map choice_words cs)
+clean_choices [] count few h = tt
+clean_choices (c ∷ cs) count few h = let p = clean_choice c count few h.0 in (p.0, p.1, clean_choices cs count few h.1)
+
+abbrev text_of : List (List (List ℕ)) → List ℕ
+text_of ls = flat_map (λ ws. line_of (spaced ws)) ls
+
+lines_back : (ls : List (List (List ℕ))) → AreClean ls → lines_with_words (text_of ls) ≡ ls
+lines_back [] h = refl
+lines_back (l ∷ ls) h =
+    let text = text_spaced l h.0 in
+    rw (append_assoc, first_of_text (spaced l) (text_of ls) text, uncommented (spaced l) text, split_spaced l h.0, h.1) (ap (λ x. l ∷ x) (lines_back ls h.2))
+
+canon_clean : (s : Scenario) → IsScenario s → AreClean (canon_words s)
+canon_clean s h = (
+  refl,
+  refl,
+  (
+    clean_one (codes "cap") s.cap (omega (arith, h.cap_most)) refl refl,
+    refl,
+    (
+      clean_one (codes "pages") s.pages (omega (arith, h.pages_most)) refl refl,
+      refl,
+      (
+        rule_clean s.rule,
+        refl,
+        AreClean-append (map row_words s.rows) _ (clean_rows s.rows h.rows_fit)
+            (AreClean-append (program_words 0 s.programs) _ (clean_programs s.programs 0 (omega (arith, h.few_programs)) h.programs)
+            (AreClean-append (map choice_words s.choices) _ (clean_choices s.choices (length s.programs) h.few_programs h.choices_named) (refl, refl, tt))),
+      ),
+    ),
+  ),
+)
+
+-- the draft of the canonical text
+abbrev plain : Scenario → Draft
+plain s = record { programs = plain_programs 0 s.programs; choices = once s.choices }
+
+plain_drafts : (s : Scenario) → IsScenario s → IsDraftOf (plain s) s
+plain_drafts s h = record {
+  programs = plain_bodies 0 s.programs;
+  choices = once_repeated s.choices;
+  headed = plain_heads 0 s.programs (omega (arith, h.few_programs));
+  names_new = subst (AreNew []) (sym (plain_names 0 s.programs (omega (arith, h.few_programs)))) tt;
+  labelled = plain_labelled 0 s.programs;
+}
+
+canon_spelled : (s : Scenario) → IsScenario s → SpellEach (statements s (plain s)) (canon_words s)
+canon_spelled s h =
+    let names = names_of 0 (plain_programs 0 s.programs) in
+    (
+      refl,
+      (
+        (decimal s.cap, refl, number_of-decimal s.cap (omega (arith, h.cap_most))),
+        (
+          (decimal s.pages, refl, number_of-decimal s.pages (omega (arith, h.pages_most))),
+          (
+            refl,
+            SpellEach-append (map m.row s.rows) _ (map row_words s.rows) _ (spell_rows s.rows h.rows_fit)
+            (SpellEach-append (flat_map program_statements (plain_programs 0 s.programs)) _ (program_words 0 s.programs) _ (spell_programs s.programs 0 h.programs)
+            (SpellEach-append (map (m.choice names) (once s.choices)) (m.end ∷ []) (map choice_words s.choices) ((codes "end" ∷ []) ∷ []) (spell_choices names s.choices (length s.programs) h.few_programs h.choices_named) (refl, tt))),
+          ),
+        ),
+      ),
+    )
+
+-- the canonical text means its scenario
+pub Means-canon : (s : Scenario) → IsScenario s → Means (canon s) s
+Means-canon s h = (h, (plain s, plain_drafts s h, subst (SpellEach (statements s (plain s))) (sym (lines_back (canon_words s) (canon_clean s h))) (canon_spelled s h)))
