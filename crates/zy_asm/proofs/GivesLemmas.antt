@@ -1,6 +1,7 @@
 -- A line that spells something is read as it.
 use Rattle.std.proofs.Common.{◌≡◌, ℕ, ◌+◌, ◌<◌, ◌≤◌, ◌^◌, true, false, nat_lt, List, [], ◌∷◌, ◌++◌, length, codes, Ok, Some, refl, sym, ap, ◌∙◌, inl, inr, arith}
 use Rattle.std.specs.Prelude.{replicate}
+use Rattle.zy_isa.specs.declared.rule.Rule.{Rule}
 use Rattle.zy_isa.specs.declared.node.Node.{Node}
 use Rattle.zy_isa.specs.declared.node.Node.TheVariants as node
 use Rattle.zy_isa.specs.declared.node.Actor.{Actor}
@@ -72,26 +73,26 @@ instr_gives (Beq a b n) ws h v = (reg_text a ∷ reg_text b ∷ (64 ∷ h.0) ∷
 instr_gives Commit ws h v = ([], h, refl)
 instr_gives Abort ws h v = ([], h, refl)
 
-instr_line_gives : (c p : ℕ) (R : List Row) (P : List (List Instr)) (I : List Instr) (i : Instr) (rest : List (List ℕ)) → instr_of (op_of i) rest ≡ Ok i → length I < 64
-    → instr_line (at stage.Program c p R P I []) (op_of i) rest ≡ Ok (at stage.Program c p R P (I ++ i ∷ []) [])
-instr_line_gives c p R P I i rest e few = rw (e, not_below (length I) 64 few) refl
+instr_line_gives : (c p : ℕ) (U : Rule) (R : List Row) (P : List (List Instr)) (I : List Instr) (i : Instr) (rest : List (List ℕ)) → instr_of (op_of i) rest ≡ Ok i → length I < 64
+    → instr_line (at stage.Program c p U R P I []) (op_of i) rest ≡ Ok (at stage.Program c p U R P (I ++ i ∷ []) [])
+instr_line_gives c p U R P I i rest e few = rw (e, not_below (length I) 64 few) refl
 
-op_line : (o : Operation) (c p : ℕ) (R : List Row) (P : List (List Instr)) (I : List Instr) (rest : List (List ℕ))
-    → step (at stage.Program c p R P I []) (op_word o ∷ rest) ≡ instr_line (at stage.Program c p R P I []) o rest
-op_line op.Set c p R P I rest = refl
-op_line op.Read c p R P I rest = refl
-op_line op.Write c p R P I rest = refl
-op_line op.Insert c p R P I rest = refl
-op_line op.Add c p R P I rest = refl
-op_line op.Beq c p R P I rest = refl
-op_line op.Commit c p R P I rest = refl
-op_line op.Abort c p R P I rest = refl
+op_line : (o : Operation) (c p : ℕ) (U : Rule) (R : List Row) (P : List (List Instr)) (I : List Instr) (rest : List (List ℕ))
+    → step (at stage.Program c p U R P I []) (op_word o ∷ rest) ≡ instr_line (at stage.Program c p U R P I []) o rest
+op_line op.Set c p U R P I rest = refl
+op_line op.Read c p U R P I rest = refl
+op_line op.Write c p U R P I rest = refl
+op_line op.Insert c p U R P I rest = refl
+op_line op.Add c p U R P I rest = refl
+op_line op.Beq c p U R P I rest = refl
+op_line op.Commit c p U R P I rest = refl
+op_line op.Abort c p U R P I rest = refl
 
-pub program_line_gives : (c p : ℕ) (R : List Row) (P : List (List Instr)) (I : List Instr) (i : Instr) (ws : List (List ℕ)) → SpellsInstr i ws → HasValue i → length I < 64
-    → step (at stage.Program c p R P I []) ws ≡ Ok (at stage.Program c p R P (I ++ i ∷ []) [])
-program_line_gives c p R P I i ws h v few =
+pub program_line_gives : (c p : ℕ) (U : Rule) (R : List Row) (P : List (List Instr)) (I : List Instr) (i : Instr) (ws : List (List ℕ)) → SpellsInstr i ws → HasValue i → length I < 64
+    → step (at stage.Program c p U R P I []) ws ≡ Ok (at stage.Program c p U R P (I ++ i ∷ []) [])
+program_line_gives c p U R P I i ws h v few =
     let g = instr_gives i ws h v in
-    ap (step (at stage.Program c p R P I [])) g.1 ∙ op_line (op_of i) c p R P I g.0 ∙ instr_line_gives c p R P I i g.0 g.2 few
+    ap (step (at stage.Program c p U R P I [])) g.1 ∙ op_line (op_of i) c p U R P I g.0 ∙ instr_line_gives c p U R P I i g.0 g.2 few
 
 -- ---- choices
 
@@ -146,8 +147,8 @@ choice_gives s d ws h named few = by d.choice h.3 named
 
 -- ---- rows
 
-pub row_gives : (c p : ℕ) (R : List Row) (r : Row) (l : List (List ℕ)) → Spells (m.row r) l → r.key < 2 ^ 16 → r.value < 2 ^ 32 → length R < 256 → opening_pages_for c (length R + 1) ≤ p → is_low r.key (last_row R) ≡ false
-    → step (at stage.Rows c p R [] [] []) l ≡ Ok (at stage.Rows c p (R ++ r ∷ []) [] [] [])
-row_gives c p R r l q k v few pages low =
+pub row_gives : (c p : ℕ) (U : Rule) (R : List Row) (r : Row) (l : List (List ℕ)) → Spells (m.row r) l → r.key < 2 ^ 16 → r.value < 2 ^ 32 → length R < 256 → opening_pages_for c (length R + 1) ≤ p → is_low r.key (last_row R) ≡ false
+    → step (at stage.Rows c p U R [] [] []) l ≡ Ok (at stage.Rows c p U (R ++ r ∷ []) [] [] [])
+row_gives c p U R r l q k v few pages low =
     rw (q.2, number_in_gives q.0 0 65535 r.key q.3 (omega arith) (omega arith), number_in_gives q.1 0 4294967295 r.value q.4 (omega arith) (omega arith))
     (rw (not_below (length R) 256 few, over_not (opening_pages_for c (length R + 1)) p pages, low) refl)

@@ -4,6 +4,8 @@ use Rattle.std.specs.Option.{option_or}
 use Rattle.std.specs.Str.{bytes_eq}
 use Rattle.zy_isa.specs.declared.node.Actor.{Actor}
 use Rattle.zy_isa.specs.declared.row.Row.{Row}
+use Rattle.zy_isa.specs.declared.rule.Rule.{Rule as ARule}
+use Rattle.zy_isa.specs.declared.rule.Rule.TheVariants.{Held, Loose}
 use Rattle.zy_isa.specs.declared.instr.Instr.{Instr}
 use Rattle.zy_isa.specs.declared.program.ProgFault.{ProgFault}
 use Rattle.zy_isa.specs.declared.choice.Choice.{Choice}
@@ -36,13 +38,14 @@ pub record Seen : Type 0 where
   pub stage : Stage
   pub cap : ℕ
   pub pages : ℕ
+  pub rule : ARule
   pub rows : List Row
   pub programs : List (List Instr)
   pub instrs : List Instr
   pub choices : List Choice
 
 abbrev pub seen : Reader → Seen
-seen r = record { stage = r.stage; cap = r.cap; pages = r.pages; rows = r.rows.items; programs = r.programs.items; instrs = r.instrs.items; choices = r.choices.items }
+seen r = record { stage = r.stage; cap = r.cap; pages = r.pages; rule = r.rule; rows = r.rows.items; programs = r.programs.items; instrs = r.instrs.items; choices = r.choices.items }
 
 -- the first word of a statement below the header
 abbrev pub keyword_of : List ℕ → Option Keyword
@@ -75,8 +78,16 @@ cap_line s ws = headed ws (codes "cap") 2 16 >>= λ n. Ok (record s { stage = Pa
 abbrev pub pages_line : Seen → List (List ℕ) → Result Seen AsmKind
 pages_line s ws = headed ws (codes "pages") 1 512 >>= λ n. Ok (record s { stage = Rule; pages = n })
 
+abbrev pub rule_of : List ℕ → Option ARule
+rule_of w = if bytes_eq w (codes "held") then Some Held else if bytes_eq w (codes "loose") then Some Loose else None
+
+-- `rule held` or `rule loose`
+abbrev pub ruled : List (List ℕ) → Option ARule
+ruled (w ∷ v ∷ []) = if bytes_eq w (codes "rule") then rule_of v else None
+ruled _ = None
+
 abbrev pub rule_line : Seen → List (List ℕ) → Result Seen AsmKind
-rule_line s ws = if are_two ws (codes "rule") (codes "held") then Ok (record s { stage = Rows }) else Err kinds.Header
+rule_line s ws = ok_or (ruled ws) kinds.Header >>= λ r. Ok (record s { stage = Rows; rule = r })
 
 -- ---- rows
 
@@ -222,7 +233,7 @@ read_lines s n [] = at_line n (finish s)
 read_lines s n (l ∷ ls) = at_line n (line_step s (words_of l)) >>= λ t. read_lines t (n + 1) ls
 
 abbrev pub nothing_seen : Seen
-nothing_seen = record { stage = Zephyr; cap = 2; pages = 1; rows = []; programs = []; instrs = []; choices = [] }
+nothing_seen = record { stage = Zephyr; cap = 2; pages = 1; rule = Held; rows = []; programs = []; instrs = []; choices = [] }
 
 -- what a text gives, or its first fault
 abbrev pub reading : List ℕ → Result Seen AsmFault

@@ -13,7 +13,6 @@ use crate::reading::read;
 use crate::state::Reader;
 use crate::text::text_of;
 use std::alloc::Global;
-use zy_isa::rule::Rule;
 use zy_isa::scenario::Scenario;
 
 /// The scenario that a text means. It takes memory for what the scenario has, and for the words of one line at a time.
@@ -33,12 +32,13 @@ pub fn assemble(alloc: Global, text: &str) -> Result<Scenario, Refusal>
                 stage: _,
                 cap,
                 pages,
+                rule,
                 rows,
                 programs,
                 instrs: _,
                 choices,
             } = reader;
-            match Scenario::new(1, cap, pages, Rule::Held, rows, programs, choices) {
+            match Scenario::new(1, cap, pages, rule, rows, programs, choices) {
                 Ok(scenario) => {
                     // A scenario that tells its version is tested.
                     let _version = scenario.version();

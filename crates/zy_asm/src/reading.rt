@@ -2,7 +2,7 @@
 ghost use Rattle.std.specs.Prelude.{◌≡◌, ◌≤◌, ◌<◌, length, IfOk, Some};
 ghost use Rattle.zy_asm.specs.Reasons.{by_kind};
 ghost use Rattle.zy_asm.specs.Steps.{texts};
-ghost use Rattle.zy_asm.specs.Reading.{Steps, Gives, Reads, seen, keyword_of as keyword_of_spec, are_two as are_two_spec, headed as headed_spec, zephyr_line, cap_line, pages_line, rule_line, row_of as row_of_spec, add_row, row_at, instr_line, instr_at, judged, closed, own_number as own_number_spec, open_line, txn_at, repeat_choice, repeat_line, plain_line, txn_action_line, choice_line, end_line, statement, body_line, step, ended as ended_spec, reading};
+ghost use Rattle.zy_asm.specs.Reading.{Steps, Gives, Reads, seen, keyword_of as keyword_of_spec, are_two as are_two_spec, headed as headed_spec, zephyr_line, cap_line, pages_line, rule_line, rule_of as rule_of_spec, ruled as ruled_spec, row_of as row_of_spec, add_row, row_at, instr_line, instr_at, judged, closed, own_number as own_number_spec, open_line, txn_at, repeat_choice, repeat_line, plain_line, txn_action_line, choice_line, end_line, statement, body_line, step, ended as ended_spec, reading};
 ghost use Rattle.zy_isa.specs.Programs.{prog_fault};
 
 use crate::choices::{
@@ -19,6 +19,7 @@ use zy_isa::instr::Instr;
 use zy_isa::node::Actor;
 use zy_isa::program::{MAX_INSTRS, ProgFault, Program};
 use zy_isa::row::Row;
+use zy_isa::rule::Rule;
 use zy_isa::scenario::{MAX_CAP, MAX_CHOICES, MAX_PAGES, MAX_ROWS, MAX_TXNS, opening_pages_for};
 
 /// What the first word of a line below the header says that the line is.
@@ -79,6 +80,29 @@ fn headed(words: &[&[u8]], name: &[u8], least: u64, most: u64) -> Result<u64, Re
     match words {
         [first, number] if *first == name => number_in(number, least, most),
         _ => Err(Reason::NotTheHeader),
+    }
+}
+
+/// The rule that a word names.
+fn rule_of(word: &[u8]) -> Option<Rule>
+    ensures { result ≡ rule_of_spec word.now }
+{
+    if is(word, b"held") {
+        Some(Rule::Held)
+    } else if is(word, b"loose") {
+        Some(Rule::Loose)
+    } else {
+        None
+    }
+}
+
+/// The rule that the words of a header line tell.
+fn ruled(words: &[&[u8]]) -> Option<Rule>
+    ensures { result ≡ ruled_spec (texts words.now) }
+{
+    match words {
+        [first, rule] if is(first, b"rule") => rule_of(rule),
+        _ => None,
     }
 }
 
@@ -150,9 +174,10 @@ impl Reader {
     fn rule_line(&mut self, words: &[&[u8]]) -> Result<(), Reason>
         ensures { Steps result (seen self.new) (rule_line (seen self.old) (texts words.now)) }
     {
-        if !are_two(words, b"rule", b"held") {
+        let Some(rule) = ruled(words) else {
             return Err(Reason::NotTheHeader);
-        }
+        };
+        self.rule = rule;
         self.stage = Stage::Rows;
         Ok(())
     }
@@ -380,6 +405,7 @@ pub fn read(alloc: Global, text: &str) -> Result<Reader, Refusal>
         stage: Stage::Zephyr,
         cap: 2,
         pages: 1,
+        rule: Rule::Held,
         rows: Vec::new(alloc),
         programs: Vec::new(alloc),
         instrs: Vec::new(alloc),

@@ -7,6 +7,7 @@ use zy_isa::choice::Choice;
 use zy_isa::instr::Instr;
 use zy_isa::program::Program;
 use zy_isa::row::Row;
+use zy_isa::rule::Rule;
 
 /// What may come next.
 #[derive(Clone, Copy, Debug, PartialEq, Eq)]
@@ -29,13 +30,14 @@ pub enum Stage {
     Done,
 }
 
-/// What the lines so far gave. Cap is 2 and pages 1 until the header tells them.
+/// What the lines so far gave. Cap is 2, pages 1 and the rule `held` until the header tells them.
 #[derive(Drop)]
 pub struct Reader {
     pub alloc: Global,
     pub stage: Stage,
     pub cap: u8,
     pub pages: u16,
+    pub rule: Rule,
     pub rows: Vec<Row>,
     pub programs: Vec<Program>,
     pub instrs: Vec<Instr>,
