@@ -113,7 +113,7 @@ fn each_choice_has_its_actor(rt: HostRuntime) {
 }
 
 /// Whether this is the item's line.
-fn is_shown<L: Line>(alloc: Global, item: L, text: &str) -> Result<bool, AllocError> {
+fn is_shown<L: Line + Copy>(alloc: Global, item: L, text: &str) -> Result<bool, AllocError> {
     let mut line = String::new(alloc);
     item.append(&mut line)?;
     Ok(line.as_str() == text)
