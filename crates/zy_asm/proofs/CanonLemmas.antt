@@ -9,7 +9,7 @@ use Rattle.std.proofs.lemmas.Fmt.{digits_decimal, digits_value-decimal, length-d
 use Rattle.zy_isa.specs.declared.node.Node.{Node}
 use Rattle.zy_isa.specs.declared.node.Node.TheVariants.{A, B}
 use Rattle.zy_isa.specs.declared.rule.Rule.{Rule}
-use Rattle.zy_isa.specs.declared.rule.Rule.TheVariants.{Held}
+use Rattle.zy_isa.specs.declared.rule.Rule.TheVariants.{Held, Loose}
 use Rattle.zy_isa.specs.declared.row.Row.{Row}
 use Rattle.zy_isa.specs.declared.instr.Reg.{Reg}
 use Rattle.zy_isa.specs.declared.instr.Reg.TheVariants.{R0, R1, R2, R3, R4, R5, R6, R7}
@@ -272,6 +272,7 @@ node_clean B = (refl, refl)
 
 rule_clean : (r : Rule) → are_clean (codes "rule" ∷ rule_text r ∷ []) ≡ true
 rule_clean Held = refl
+rule_clean Loose = refl
 
 -- a first word and two more, of which the last is a number
 pair_clean : (w : List ℕ) (a b : Reg) → is_word w ≡ true → is_clean w ≡ true → are_clean (w ∷ reg_text a ∷ reg_text b ∷ []) ≡ true

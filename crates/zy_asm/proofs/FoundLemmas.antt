@@ -593,6 +593,24 @@ rule_ok w r h = elim (chosen_by (bytes_eq w (codes "held")) _ _ _ h) [ inl a ↦
     no : (x : Rule) → None ≡ Some x → ⊥
     no x e = cc
 
+rule_word_ok : (a b : Bool) (v : List ℕ) (r : Rule) → bytes_eq v (codes "held") ≡ a → bytes_eq v (codes "loose") ≡ b → (if a then Some Held else if b then Some Loose else None) ≡ Some r → v ≡ rule_text r
+rule_word_ok true b v Held e f h = same v (codes "held") e
+rule_word_ok true b v Loose e f h = cc
+rule_word_ok false true v Held e f h = cc
+rule_word_ok false true v Loose e f h = same v (codes "loose") f
+rule_word_ok false false v Held e f h = cc
+rule_word_ok false false v Loose e f h = cc
+
+rule_named : (b : Bool) (w v : List ℕ) (r : Rule) → bytes_eq w (codes "rule") ≡ b → (if b then rule_of v else None) ≡ Some r → w ∷ v ∷ [] ≡ codes "rule" ∷ rule_text r ∷ []
+rule_named true w v r e h = rw (same w (codes "rule") e, rule_word_ok (bytes_eq v (codes "held")) (bytes_eq v (codes "loose")) v r refl refl h) refl
+rule_named false w v r e h = cc
+
+ruled_ok : (ws : List (List ℕ)) (r : Rule) → ruled ws ≡ Some r → ws ≡ codes "rule" ∷ rule_text r ∷ []
+ruled_ok [] r h = cc
+ruled_ok (w ∷ []) r h = cc
+ruled_ok (w ∷ v ∷ []) r h = rule_named (bytes_eq w (codes "rule")) w v r refl h
+ruled_ok (w ∷ v ∷ u ∷ us) r h = cc
+
 record FoundRule (c p : ℕ) (ls : List (List (List ℕ))) (t : Seen) : Type 0 where
   rule : Rule
   line : List (List ℕ)

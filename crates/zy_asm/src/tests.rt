@@ -2,6 +2,8 @@
 
 use crate::assembling::assemble_bytes;
 use crate::faults::{AsmFault, AsmKind};
+use std::alloc::Global;
+use zy_isa::rule::Rule;
 
 #[test]
 fn a_text_is_read(rt: HostRuntime) {
@@ -15,6 +17,20 @@ fn a_text_is_read(rt: HostRuntime) {
             assert_eq!(rt; scenario.choices().len(), 2);
         }
     }
+}
+
+/// The rule of a text, unless it is refused.
+fn rule_read(alloc: Global, text: &[u8]) -> Option<Rule> {
+    let scenario = assemble_bytes(alloc, text).ok()?;
+    Some(scenario.rule())
+}
+
+#[test]
+fn each_rule_is_read(rt: HostRuntime) {
+    let held = b"zephyr 1\ncap 2\npages 1\nrule held\nend\n";
+    let loose = b"zephyr 1\ncap 2\npages 1\nrule loose\nend\n";
+    assert_eq!(rt; rule_read(rt.alloc(), held), Some(Rule::Held));
+    assert_eq!(rt; rule_read(rt.alloc(), loose), Some(Rule::Loose));
 }
 
 #[test]

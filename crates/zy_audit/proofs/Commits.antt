@@ -1,18 +1,19 @@
 -- One commit after the other.
-use Rattle.std.proofs.Common.{List, [], ap, arith, get_or, length, subst, suc, sym, true, zero, ℕ, ◌<◌, ◌∷◌, ◌≡◌}
+use Rattle.std.proofs.Common.{Bool, List, [], ap, arith, false, get_or, length, refl, subst, suc, sym, true, zero, ℕ, if◌then◌else◌, ◌<◌, ◌≤◌, ◌∷◌, ◌≡◌}
 use Rattle.std.specs.Prelude.{drop, slice_get}
 use Rattle.std.proofs.lemmas.Bool.{false≢true}
+use Rattle.std.proofs.lemmas.Bool.Decides.{nat_tests}
 use Rattle.zy_isa.specs.Scenario.{Scenario}
 use Rattle.zy_table.specs.Change.{txn_or}
 use Rattle.zy_table.specs.Database.{Map}
 use Rattle.zy_machine.specs.Histories.{History, IsReplay, choices_of}
 use Rattle.zy_table.specs.Play.{opening, play}
 use Rattle.zy_table.specs.Run.{program_of}
-use Rattle.zy_table.specs.Serial.{Registers, alone, is_committed, serial}
+use Rattle.zy_table.specs.Serial.{Listed, alone, is_committed, serial, times_listed}
 use Rattle.zy_table.specs.declared.entry.CommitRec.{CommitRec}
 use Rattle.zy_table.specs.State.{State, Txn}
 use Rattle.zy_laws.proofs.SafeCounts.{safe}
-use Rattle.zy_laws.proofs.Serializable.{serializable}
+use Rattle.zy_laws.proofs.Listed.{listed}
 
 -- the run of one commit leads to those behind it
 pub serial-more : (sc : Scenario) (m n : Map) (cs : List CommitRec) (i : ℕ) (d : CommitRec) → i < length cs
@@ -27,11 +28,20 @@ committed_within [] t h = absurd (false≢true h)
 committed_within (x ∷ txns) zero h = omega arith
 committed_within (x ∷ txns) (suc t) h = let rest = committed_within txns t h in omega arith
 
-registers_named : (sc : Scenario) (txns : List Txn) (m : Map) (cs : List CommitRec) (k : ℕ) (d : CommitRec) → Registers sc (λ (t : ℕ). txn_or (slice_get txns t)) m cs
-    → k < length cs → (get_or cs k d).txn < length txns
-registers_named sc txns m [] k d h lt = absurd (omega arith)
-registers_named sc txns m (c ∷ cs) zero d h lt = committed_within txns c.txn h.0.0
-registers_named sc txns m (c ∷ cs) (suc k) d h lt = registers_named sc txns (alone m (program_of sc c.txn) c.done).map cs k d h.1 (omega arith)
+-- a commit of the list is listed
+listed_once : (cs : List CommitRec) (k : ℕ) (d : CommitRec) → k < length cs → 1 ≤ times_listed (get_or cs k d).txn cs
+listed_once [] k d lt = absurd (omega arith)
+listed_once (c ∷ cs) zero d lt = grind (arith, nat_tests)
+listed_once (c ∷ cs) (suc k) d lt = let more = listed_once cs k d (omega arith) in omega (arith, more)
+
+counted : (b : Bool) → 1 ≤ (if b then 1 else 0) → b ≡ true
+counted true h = refl
+counted false h = absurd (omega (arith, h))
+
+listed_named : (s : State) (k : ℕ) (d : CommitRec) → Listed s → k < length s.commits → (get_or s.commits k d).txn < length s.txns
+listed_named s k d h lt =
+    let t = (get_or s.commits k d).txn in
+    committed_within s.txns t (counted _ (subst (λ n. 1 ≤ n) (h t) (listed_once s.commits k d lt)))
 
 record Named (sc : Scenario) (s : State) : Type 0 where
   each : (k : ℕ) (d : CommitRec) → k < length s.commits → (get_or s.commits k d).txn < length sc.programs
@@ -42,7 +52,7 @@ named_played h is = record {
       let sc = h.scenario in
       let s = play sc (opening sc) (choices_of h.entries) in
       subst (λ n. (get_or s.commits k d).txn < n) (safe sc is.tested (choices_of h.entries)).txns
-      (registers_named sc s.txns _ s.commits k d (serializable sc is.tested (choices_of h.entries)).registers lt);
+      (listed_named s k d (listed sc (choices_of h.entries)) lt);
 }
 
 -- each commit of a machine names a transaction

@@ -3,7 +3,7 @@ use Rattle.std.proofs.Common.{◌≡◌, ◌==◌, ℕ, ◌-◌, ◌≤◌, Bool
 use Rattle.std.specs.Int.{w16, to_be_bytes}
 use Rattle.std.specs.Str.{bytes_eq}
 use Rattle.zy_isa.specs.declared.rule.Rule.{Rule}
-use Rattle.zy_isa.specs.declared.rule.Rule.TheVariants.{Held}
+use Rattle.zy_isa.specs.declared.rule.Rule.TheVariants.{Held, Loose}
 use Rattle.zy_isa.specs.Scenario.{Scenario, IsScenario, scenario_fault, is_outside}
 use Rattle.zy_isa.proofs.ResultLemmas.{bind_ok, if_ok, if_err, ok_or_ok, same, in_range, out_of_neither}
 use Rattle.zy_isa.proofs.ScenarioLemmas.{no_fault}
@@ -57,12 +57,17 @@ record FoundRule (bytes : List ℕ) (r : Rule) (left : List ℕ) : Type 0 where
   same_bytes : bytes ≡ rule_byte r ∷ left
   back : AreBytes left
 
+-- the byte by which a chain of tests chose a rule
+chosen_byte : (n : ℕ) (r : Rule) (a b : Bool) → (n == 0) ≡ a → (n == 1) ≡ b → (if a then Some Held else if b then Some Loose else None) ≡ Some r → n ≡ rule_byte r
+chosen_byte n Held true b e f h = grind (arith, tests)
+chosen_byte n Held false true e f h = cc
+chosen_byte n Held false false e f h = cc
+chosen_byte n Loose true b e f h = cc
+chosen_byte n Loose false true e f h = grind (arith, tests)
+chosen_byte n Loose false false e f h = cc
+
 rule_is : (n : ℕ) (r : Rule) → rule_at n ≡ Some r → n ≡ rule_byte r
-rule_is n Held h = decide (n == 0) refl h
-  where
-    decide : (b : Bool) → (n == 0) ≡ b → (if b then Some Held else None) ≡ Some Held → n ≡ 0
-    decide true e g = grind (arith, tests)
-    decide false e g = cc
+rule_is n r h = chosen_byte n r (n == 0) (n == 1) refl refl h
 
 rule_found : (size : ℕ) (bytes : List ℕ) (r : Rule) (left : List ℕ) → AreBytes bytes → rule_field size bytes ≡ Ok (r, left) → FoundRule bytes r left
 rule_found size bytes r left fit h =
@@ -75,6 +80,7 @@ rule_found size bytes r left fit h =
 
 rule_gives : (size : ℕ) (r : Rule) (left : List ℕ) → rule_field size (rule_byte r ∷ left) ≡ Ok (r, left)
 rule_gives size Held left = rw (byte_gives size 0 left) refl
+rule_gives size Loose left = rw (byte_gives size 1 left) refl
 
 -- the bytes in front of the rows
 abbrev front_of : Head → List ℕ

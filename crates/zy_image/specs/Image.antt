@@ -3,7 +3,7 @@ use Rattle.std.specs.Prelude.{◌≡◌, ℕ, List, [], ◌∷◌, ◌++◌, len
 use Rattle.std.specs.List.{flat_map}
 use Rattle.std.specs.Int.{w16, w32, to_be_bytes}
 use Rattle.zy_isa.specs.declared.rule.Rule.{Rule}
-use Rattle.zy_isa.specs.declared.rule.Rule.TheVariants.{Held}
+use Rattle.zy_isa.specs.declared.rule.Rule.TheVariants.{Held, Loose}
 use Rattle.zy_isa.specs.declared.row.Row.{Row}
 use Rattle.zy_isa.specs.declared.node.Node.{Node}
 use Rattle.zy_isa.specs.declared.node.Node.TheVariants.{A, B}
@@ -18,6 +18,7 @@ magic = codes "ZPH1"
 
 abbrev pub rule_byte : Rule → ℕ
 rule_byte Held = 0
+rule_byte Loose = 1
 
 abbrev pub head_image : Scenario → List ℕ
 head_image s = magic ++ (s.cap ∷ to_be_bytes w16 s.pages ++ rule_byte s.rule ∷ [])

@@ -5,7 +5,7 @@ use Rattle.std.specs.Int.{w16, w32, from_be_bytes}
 use Rattle.std.specs.Str.{bytes_eq}
 use Rattle.std.specs.Borrow.{Bor}
 use Rattle.zy_isa.specs.declared.rule.Rule.{Rule}
-use Rattle.zy_isa.specs.declared.rule.Rule.TheVariants.{Held}
+use Rattle.zy_isa.specs.declared.rule.Rule.TheVariants.{Held, Loose}
 use Rattle.zy_isa.specs.declared.row.Row.{Row}
 use Rattle.zy_isa.specs.declared.node.Node.{Node}
 use Rattle.zy_isa.specs.declared.node.Node.TheVariants as node
@@ -54,7 +54,7 @@ abbrev pub pages_field : ℕ → List ℕ → Read ℕ
 pages_field size bytes = half size bytes >>= λ n. if is_outside 1 512 n.0 then Err fault.Pages else Ok n
 
 abbrev pub rule_at : ℕ → Option Rule
-rule_at n = if n == 0 then Some Held else None
+rule_at n = if n == 0 then Some Held else if n == 1 then Some Loose else None
 
 abbrev pub rule_field : ℕ → List ℕ → Read Rule
 rule_field size bytes = do

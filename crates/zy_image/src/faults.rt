@@ -24,7 +24,7 @@ pub enum LoadFault {
     #[error("pages is 1 to 512")]
     Pages,
     /// 6: there is no such rule.
-    #[error("the rule is 0 (held)")]
+    #[error("the rule is 0 (held) or 1 (loose)")]
     Rule,
     /// 7: there are too many rows, or they need too many pages.
     #[error("the rows are at most 256 and open with at most `pages` pages")]

@@ -46,6 +46,7 @@ fn rule_at(byte: u8) -> Option<Rule>
 {
     match byte {
         0 => Some(Rule::Held),
+        1 => Some(Rule::Loose),
         _ => None,
     }
 }

@@ -109,6 +109,7 @@ fn rule_byte(rule: Rule) -> u8
 {
     match rule {
         Rule::Held => 0,
+        Rule::Loose => 1,
     }
 }
 

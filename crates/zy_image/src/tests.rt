@@ -65,13 +65,26 @@ fn what_is_loaded_is_saved_as_it_was(rt: HostRuntime) -> Result<(), Fail> {
 }
 
 #[test]
+fn byte_1_is_the_loose_rule(rt: HostRuntime) -> Result<(), Fail> {
+    let mut bytes = IMAGE;
+    if let Some(place) = bytes.get_mut(7) {
+        *place = 1;
+    }
+    let scenario = load(rt.alloc(), bytes.as_slice())?;
+    assert_eq!(rt; scenario.rule(), Rule::Loose);
+    let saved = save(rt.alloc(), &scenario)?;
+    assert_eq!(rt; saved.as_slice(), bytes.as_slice());
+    Ok(())
+}
+
+#[test]
 fn a_wrong_byte_has_its_fault(rt: HostRuntime) {
     for (at, byte, fault) in [
         (3, 50, LoadFault::Magic),
         (4, 1, LoadFault::Cap),
         (4, 17, LoadFault::Cap),
         (6, 0, LoadFault::Pages),
-        (7, 1, LoadFault::Rule),
+        (7, 2, LoadFault::Rule),
         (8, 1, LoadFault::RowCount),
         (10, 65, LoadFault::TxnCount),
         (11, 0, LoadFault::Program(0, ProgFault::Empty)),

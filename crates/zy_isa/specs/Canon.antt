@@ -5,7 +5,7 @@ use Rattle.std.specs.List.{flat_map}
 use Rattle.zy_isa.specs.declared.node.Node.{Node}
 use Rattle.zy_isa.specs.declared.node.Node.TheVariants.{A, B}
 use Rattle.zy_isa.specs.declared.rule.Rule.{Rule}
-use Rattle.zy_isa.specs.declared.rule.Rule.TheVariants.{Held}
+use Rattle.zy_isa.specs.declared.rule.Rule.TheVariants.{Held, Loose}
 use Rattle.zy_isa.specs.declared.row.Row.{Row}
 use Rattle.zy_isa.specs.declared.instr.Reg.{Reg}
 use Rattle.zy_isa.specs.declared.instr.Reg.TheVariants.{R0, R1, R2, R3, R4, R5, R6, R7}
@@ -23,6 +23,7 @@ node_text B = codes "B"
 
 abbrev pub rule_text : Rule → List ℕ
 rule_text Held = codes "held"
+rule_text Loose = codes "loose"
 
 abbrev pub reg_text : Reg → List ℕ
 reg_text R0 = codes "r0"

@@ -28,6 +28,7 @@ impl Line for Rule {
     fn append(&self, line: &mut String) -> Result<(), AllocError> {
         match self {
             Rule::Held => "held".append(line),
+            Rule::Loose => "loose".append(line),
         }
     }
 }

@@ -5,4 +5,6 @@
 pub enum Rule {
     /// A locked page is not pulled: the request waits at the front of its link.
     Held,
+    /// A locked page is pulled like any other; its locks stay where they are.
+    Loose,
 }

@@ -112,10 +112,10 @@ fn each_choice_has_its_actor(rt: HostRuntime) {
     }
 }
 
-/// Whether this is the choice's line.
-fn is_shown(alloc: Global, choice: Choice, text: &str) -> Result<bool, AllocError> {
+/// Whether this is the item's line.
+fn is_shown<L: Line + Copy>(alloc: Global, item: L, text: &str) -> Result<bool, AllocError> {
     let mut line = String::new(alloc);
-    choice.append(&mut line)?;
+    item.append(&mut line)?;
     Ok(line.as_str() == text)
 }
 
@@ -132,6 +132,14 @@ fn each_choice_has_its_line(rt: HostRuntime) -> Result<(), Fail> {
         (Choice::Push(Node::B), "B push"),
     ] {
         assert!(rt; is_shown(rt.alloc(), choice, text)?, "{text}");
+    }
+    Ok(())
+}
+
+#[test]
+fn each_rule_has_its_word(rt: HostRuntime) -> Result<(), Fail> {
+    for (rule, text) in [(Rule::Held, "held"), (Rule::Loose, "loose")] {
+        assert!(rt; is_shown(rt.alloc(), rule, text)?, "{text}");
     }
     Ok(())
 }

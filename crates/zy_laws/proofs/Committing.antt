@@ -52,7 +52,7 @@ committed_them : (t : ℕ) (v : View) → (committed t v).them ≡ v.them
 unfolding committed
 committed_them t v = refl
 
-committed_list : (t : ℕ) (v : View) → (committed t v).commits ≡ v.commits ++ record { txn = t; done = (txn_at v t).done + 1 } ∷ []
+pub committed_list : (t : ℕ) (v : View) → (committed t v).commits ≡ v.commits ++ record { txn = t; done = (txn_at v t).done + 1 } ∷ []
 unfolding committed
 committed_list t v = refl
 

@@ -13,7 +13,7 @@ use Rattle.zy_isa.specs.declared.row.Row.{Row}
 use Rattle.zy_locks.specs.Locks.{add_lock}
 use Rattle.zy_locks.specs.declared.lock.LockKind.{LockKind}
 use Rattle.zy_locks.specs.declared.lock.LockKind.TheVariants.{Exclusive, Shared}
-use Rattle.zy_table.specs.Change.{aborted, asks, begun, cut, did, leaves, locked, reg, turns, txn_at, with_lows, with_reg}
+use Rattle.zy_table.specs.Change.{aborted, asks, begun, cut, did, leaves, locked, reg, txn_at, with_reg}
 use Rattle.zy_table.specs.Client.{is_active, is_new}
 use Rattle.zy_table.specs.Numbers.{has}
 use Rattle.zy_table.specs.Database.{Map}
@@ -23,24 +23,20 @@ use Rattle.zy_table.specs.Play.{step}
 use Rattle.zy_table.specs.Run.{boundary, is_there, program_of}
 use Rattle.zy_table.specs.Serial.{Registers, serial}
 use Rattle.zy_table.specs.declared.status.Status.TheVariants.{Aborted}
-use Rattle.zy_table.specs.State.{Lock, Message, NodeState, Txn, View, other, post, with_me}
+use Rattle.zy_table.specs.State.{Lock, NodeState, Txn, View, other}
 use Rattle.zy_wire.specs.Wireframe.{page_of}
 use Rattle.zy_table.specs.declared.outcome.Why.{Why}
 use Rattle.zy_wire.proofs.Longer.{page_of-cut}
-use Rattle.zy_modes.specs.declared.mode.NodeMode.TheVariants.{Empty, Normal, SInit, SDual, SFinish, DInit, DDual, DFinish}
+use Rattle.zy_laws.proofs.Values.{event_db}
 use Rattle.zy_laws.proofs.CutValues.{cut_db}
 use Rattle.zy_laws.proofs.Roles.{normal_other}
 use Rattle.zy_laws.proofs.Committing.{committed_serial}
-use Rattle.zy_laws.proofs.Events.{Aborts, Adds, Begins, Commits, Event, Gets, Inserts, Jumps, Rests, Runs, Sets, Writes, has_lock, key, page, value_at, Free, Splits, lows_after, arrived, rest, Asks, Starts, GotWire, GotReady, GotDual, IsStale, Gives, GotPage, GotLast, GotFinish, GotAll, GotDone, Finishes, Pushes}
+use Rattle.zy_laws.proofs.Events.{Aborts, Adds, Begins, Commits, Event, Gets, Inserts, Jumps, Rests, Runs, Sets, Writes, has_lock, key, page, value_at, Free, Splits, lows_after, Asks, Starts, GotWire, GotReady, GotDual, IsStale, Gives, GotPage, GotLast, GotFinish, GotAll, GotDone, Finishes, Pushes}
 use Rattle.zy_laws.proofs.Following.{Follows, Serially, active_not, follows_same, keep_registers, new_not, registers_same}
 use Rattle.zy_laws.proofs.LockingRows.{has_lock_locking, split_on}
 use Rattle.zy_table.proofs.LockLists.{alone_new, holds-drop, holds_more, holds_new}
 use Rattle.zy_laws.proofs.Locking.{Kept, nobody_runs}
-use Rattle.zy_laws.proofs.MovedValues.{arrived_db, leaves_db, same_db}
-use Rattle.zy_laws.proofs.MovingPages.{sent_bare}
-use Rattle.zy_table.specs.Database.{sent_leaves}
 use Rattle.zy_modes.specs.Table.{may_split}
-use Rattle.zy_links.specs.Messages.{Wire, Ready, Dual, Pull, Finish, Done}
 use Rattle.zy_laws.proofs.LoneRuns.{Lone, lone, lone_instr, lone_step, or_else}
 use Rattle.zy_laws.proofs.PageValues.{db, page_value, value_same}
 use Rattle.zy_laws.proofs.Txns.{IsAt, Stands, at_either, at_other, at_same, at_self, not_both_nodes, not_new}
@@ -290,22 +286,13 @@ stays_serial sc n v w start lows s txns commits locks them same k = record {
   registers = subst (Registers sc (txn_at w) start) (sym commits) (registers_same sc (txn_at v) (txn_at w) start v.commits (λ u _. at_same v w u txns) s.registers);
 }
 
-asks_serial : (sc : Scenario) (n : Node) (v : View) (start : Map) (lows : List ℕ) (p : ℕ) → Serially sc n v start lows → Kept sc n (asks p v) lows → Serially sc n (asks p v) start lows
-unfolding asks
-asks_serial sc n v start lows p s k = stays_serial sc n v (asks p v) start lows s refl refl refl refl (same_db v (asks p v) refl refl refl (sent_bare v.outbox (Pull p) refl)) k
-
-leaves_serial : (sc : Scenario) (n : Node) (v : View) (start : Map) (lows : List ℕ) (p : ℕ) (ms : List Message) → Serially sc n v start lows → sent_leaves ms ≡ sent_leaves v.inbox → owns v.me.pages p ≡ true
-    → Kept sc n (leaves p (rest v ms)) lows → Serially sc n (leaves p (rest v ms)) start lows
-unfolding leaves
-leaves_serial sc n v start lows p ms s inbox own k =
-    stays_serial sc n v (leaves p (rest v ms)) start lows s refl refl refl refl (leaves_db lows v p ms s.kept.placed s.kept.inv.owned inbox own) k
-
 along : (sc : Scenario) (n : Node) (w x : View) (start : Map) (lows : List ℕ) → w ≡ x → Kept sc n w lows
     → (Kept sc n x lows → Serially sc n x start lows) → Serially sc n w start lows
 along sc n w x start lows e k f = subst (λ z. Serially sc n z start lows) (sym e) (f (subst (λ z. Kept sc n z lows) e k))
 
 pub serial_event : (sc : Scenario) (n : Node) (v w : View) (start : Map) (lows : List ℕ) → Serially sc n v start lows → (e : Event sc n v w)
     → Kept sc n w (lows_after sc n v w lows e) → Serially sc n w start (lows_after sc n v w lows e)
+unfolding asks leaves
 serial_event sc n v w start lows s (Rests e) k = subst (λ x. Serially sc n x start lows) (sym e) s
 serial_event sc n v w start lows s (Begins t h a new home e) k = along sc n w _ start lows e k (begun_serial sc n v start lows t h s new)
 serial_event sc n v w start lows s (Aborts t y active here e) k = along sc n w _ start lows e k (aborted_serial sc n v start lows t y s (active, here))
@@ -322,38 +309,17 @@ serial_event sc n v w start lows s (Splits t r q runs f new full normal pages e)
     let on = split_on sc n v lows t r q s.kept runs full in
     along sc n w _ start (lows ++ boundary sc (key t r v) (page t r v) v.me (txn_at v t) ∷ []) e k (cut_serial sc n v start lows t (key t r v) _ s (runs.active, runs.here) f normal on)
 serial_event sc n v w start lows s (Commits t runs all e) k = along sc n w _ start lows e k (committed_serial sc n v start lows t s runs)
-serial_event sc n v w start lows s (Asks p gone pulls asked e) k = along sc n w _ start lows e k (asks_serial sc n v start lows p s)
-serial_event sc n v w start lows s (Starts at_a normal empty e) k =
-    let x : View = post (Wire v.me.lows) (turns SInit v) in
-    along sc n w x start lows e k (stays_serial sc n v x start lows s refl refl refl refl (same_db v x refl refl refl (sent_bare v.outbox (Wire v.me.lows) refl)))
-serial_event sc n v w start lows s (GotWire sent ms f empty e) k =
-    let x : View = post Ready (turns DInit (with_me (with_lows sent v.me) (rest v ms))) in
-    along sc n w x start lows e k (stays_serial sc n v x start lows s refl refl refl refl (same_db v x refl refl (ap sent_leaves (sym f)) (sent_bare v.outbox Ready refl)))
-serial_event sc n v w start lows s (GotReady ms f init e) k =
-    let x : View = post Dual (turns SDual (rest v ms)) in
-    along sc n w x start lows e k (stays_serial sc n v x start lows s refl refl refl refl (same_db v x refl refl (ap sent_leaves (sym f)) (sent_bare v.outbox Dual refl)))
-serial_event sc n v w start lows s (GotDual ms f init e) k =
-    let x : View = turns DDual (rest v ms) in
-    along sc n w x start lows e k (stays_serial sc n v x start lows s refl refl refl refl (same_db v x refl refl (ap sent_leaves (sym f)) refl))
-serial_event sc n v w start lows s (IsStale p ms f e) k =
-    let x : View = rest v ms in
-    along sc n w x start lows e k (stays_serial sc n v x start lows s refl refl refl refl (same_db v x refl refl (ap sent_leaves (sym f)) refl))
-serial_event sc n v w start lows s (Gives p ms f sends own free e) k = along sc n w _ start lows e k (leaves_serial sc n v start lows p ms s (ap sent_leaves (sym f)) own)
-serial_event sc n v w start lows s (GotPage leaf ms f pulls e) k =
-    along sc n w _ start lows e k (stays_serial sc n v (arrived leaf (rest v ms)) start lows s refl refl refl refl (arrived_db lows v leaf ms f s.kept.placed s.kept.inv.owned))
-serial_event sc n v w start lows s (GotLast leaf ms f finish all e) k =
-    let x : View = post Done (turns Normal (arrived leaf (rest v ms))) in
-    along sc n w x start lows e k (stays_serial sc n v x start lows s refl refl refl refl (same_db (arrived leaf (rest v ms)) x refl refl refl (sent_bare v.outbox Done refl) ∙ arrived_db lows v leaf ms f s.kept.placed s.kept.inv.owned))
-serial_event sc n v w start lows s (GotFinish ms f dual e) k =
-    let x : View = turns DFinish (rest v ms) in
-    along sc n w x start lows e k (stays_serial sc n v x start lows s refl refl refl refl (same_db v x refl refl (ap sent_leaves (sym f)) refl))
-serial_event sc n v w start lows s (GotAll ms f dual all e) k =
-    let x : View = post Done (turns Normal (rest v ms)) in
-    along sc n w x start lows e k (stays_serial sc n v x start lows s refl refl refl refl (same_db v x refl refl (ap sent_leaves (sym f)) (sent_bare v.outbox Done refl)))
-serial_event sc n v w start lows s (GotDone ms f finish e) k =
-    let x : View = turns Empty (with_me (with_lows [] v.me) (rest v ms)) in
-    along sc n w x start lows e k (stays_serial sc n v x start lows s refl refl refl refl (same_db v x refl refl (ap sent_leaves (sym f)) refl))
-serial_event sc n v w start lows s (Finishes dual none e) k =
-    let x : View = post Finish (turns SFinish v) in
-    along sc n w x start lows e k (stays_serial sc n v x start lows s refl refl refl refl (same_db v x refl refl refl (sent_bare v.outbox Finish refl)))
-serial_event sc n v w start lows s (Pushes p finish own e) k = along sc n w _ start lows e k (leaves_serial sc n v start lows p v.inbox s refl own)
+serial_event sc n v w start lows s (Asks p gone pulls asked e) k = along sc n w _ start lows e k (stays_serial sc n v _ start lows s refl refl refl refl (event_db sc n v _ lows s.kept (Asks p gone pulls asked refl) refl))
+serial_event sc n v w start lows s (Starts at_a normal empty e) k = along sc n w _ start lows e k (stays_serial sc n v _ start lows s refl refl refl refl (event_db sc n v _ lows s.kept (Starts at_a normal empty refl) refl))
+serial_event sc n v w start lows s (GotWire sent ms f empty e) k = along sc n w _ start lows e k (stays_serial sc n v _ start lows s refl refl refl refl (event_db sc n v _ lows s.kept (GotWire sent ms f empty refl) refl))
+serial_event sc n v w start lows s (GotReady ms f init e) k = along sc n w _ start lows e k (stays_serial sc n v _ start lows s refl refl refl refl (event_db sc n v _ lows s.kept (GotReady ms f init refl) refl))
+serial_event sc n v w start lows s (GotDual ms f init e) k = along sc n w _ start lows e k (stays_serial sc n v _ start lows s refl refl refl refl (event_db sc n v _ lows s.kept (GotDual ms f init refl) refl))
+serial_event sc n v w start lows s (IsStale p ms f e) k = along sc n w _ start lows e k (stays_serial sc n v _ start lows s refl refl refl refl (event_db sc n v _ lows s.kept (IsStale p ms f refl) refl))
+serial_event sc n v w start lows s (Gives p ms f sends own free e) k = along sc n w _ start lows e k (stays_serial sc n v _ start lows s refl refl refl refl (event_db sc n v _ lows s.kept (Gives p ms f sends own free refl) refl))
+serial_event sc n v w start lows s (GotPage leaf ms f pulls e) k = along sc n w _ start lows e k (stays_serial sc n v _ start lows s refl refl refl refl (event_db sc n v _ lows s.kept (GotPage leaf ms f pulls refl) refl))
+serial_event sc n v w start lows s (GotLast leaf ms f finish all e) k = along sc n w _ start lows e k (stays_serial sc n v _ start lows s refl refl refl refl (event_db sc n v _ lows s.kept (GotLast leaf ms f finish all refl) refl))
+serial_event sc n v w start lows s (GotFinish ms f dual e) k = along sc n w _ start lows e k (stays_serial sc n v _ start lows s refl refl refl refl (event_db sc n v _ lows s.kept (GotFinish ms f dual refl) refl))
+serial_event sc n v w start lows s (GotAll ms f dual all e) k = along sc n w _ start lows e k (stays_serial sc n v _ start lows s refl refl refl refl (event_db sc n v _ lows s.kept (GotAll ms f dual all refl) refl))
+serial_event sc n v w start lows s (GotDone ms f finish e) k = along sc n w _ start lows e k (stays_serial sc n v _ start lows s refl refl refl refl (event_db sc n v _ lows s.kept (GotDone ms f finish refl) refl))
+serial_event sc n v w start lows s (Finishes dual none e) k = along sc n w _ start lows e k (stays_serial sc n v _ start lows s refl refl refl refl (event_db sc n v _ lows s.kept (Finishes dual none refl) refl))
+serial_event sc n v w start lows s (Pushes p finish own e) k = along sc n w _ start lows e k (stays_serial sc n v _ start lows s refl refl refl refl (event_db sc n v _ lows s.kept (Pushes p finish own refl) refl))

@@ -35,6 +35,7 @@ pub mod CutValues
 pub mod MovedValues
 pub mod Following
 pub mod Committing
+pub mod Values
 pub mod FollowingRows
 pub mod Serializable
 pub mod Travel

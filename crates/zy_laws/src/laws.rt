@@ -1,6 +1,7 @@
 //! What holds of the table over every schedule: each function is a law, and its contract is all of it.
 ghost use Rattle.std.specs.Prelude.{◌≡◌, ℕ, List, length, true, false};
 ghost use Rattle.zy_isa.specs.declared.choice.Choice.{Choice as AChoice};
+ghost use Rattle.zy_isa.specs.declared.rule.Rule.TheVariants.{Held};
 ghost use Rattle.zy_isa.specs.Scenario.{Scenario, IsScenario};
 ghost use Rattle.zy_table.specs.Play.{play, opening, step, side_of};
 ghost use Rattle.zy_modes.specs.declared.mode.NodeMode.TheVariants.{SDual};
@@ -12,7 +13,7 @@ ghost use Rattle.zy_table.specs.Holders.{ExclusiveAlone, HoldersActive};
 ghost use Rattle.zy_table.specs.Order.{InOrder};
 ghost use Rattle.zy_table.specs.Database.{ValuesAtPages, EachKeyHasPage, HasLows, RowsLie, database, newest, all_leaves};
 ghost use Rattle.zy_laws.specs.Counts.{Safe, Fits};
-ghost use Rattle.zy_table.specs.Serial.{Serializable};
+ghost use Rattle.zy_table.specs.Serial.{Listed, Serializable};
 
 /// The counts that make each sum and index safe: a transaction has done at most one instruction for each choice, it has
 /// eight registers and a place in its program, and there are at most as many commits as transactions.
@@ -113,10 +114,16 @@ pub fn holders_active()
         → HoldersActive (play sc (opening sc) choices) }
 {}
 
-/// The database is that of the programs in the commit list, run one by one in its order; a transaction stands there once
-/// where it is committed, and else not at all; and each has the registers of its lone run.
+/// A transaction stands in the commit list once where it is committed, and else not at all.
+pub fn commits_listed()
+    ensures { (sc : Scenario) (choices : List AChoice) → Listed (play sc (opening sc) choices) }
+{}
+
+/// Under the rule `held` the database is that of the programs in the commit list, run one by one in its order; a
+/// transaction stands there once where it is committed, and else not at all; and each has the registers of its lone run.
+/// Under `loose` it need not be.
 pub fn serializable()
-    ensures { (sc : Scenario) → IsScenario sc → (choices : List AChoice)
+    ensures { (sc : Scenario) → IsScenario sc → sc.rule ≡ Held → (choices : List AChoice)
         → Serializable sc (play sc (opening sc) choices) }
 {}
 

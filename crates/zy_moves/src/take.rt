@@ -31,6 +31,7 @@ fn is_held(rule: Rule) -> bool
 {
     match rule {
         Rule::Held => true,
+        Rule::Loose => false,
     }
 }
 

@@ -7,6 +7,6 @@ use Rattle.zy_audit.proofs.Entries.{same_map-true}
 use Rattle.zy_audit.proofs.laws.always_same.Goals as goal
 
 pub returns : goal.returns
-returns c sc ok choices =
+returns c sc ok held choices =
     let s = play sc (opening sc) choices in
-    same_map-true (database s) (serial sc (map_of sc.rows) s.commits) (serializable sc ok choices).one_by_one
+    same_map-true (database s) (serial sc (map_of sc.rows) s.commits) (serializable sc ok held choices).one_by_one
