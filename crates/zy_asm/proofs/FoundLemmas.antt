@@ -5,7 +5,7 @@ use Rattle.std.specs.Prelude.{replicate}
 use Rattle.std.specs.List.{flat_map}
 use Rattle.std.specs.Str.{bytes_eq}
 use Rattle.zy_isa.specs.declared.rule.Rule.{Rule}
-use Rattle.zy_isa.specs.declared.rule.Rule.TheVariants.{Held}
+use Rattle.zy_isa.specs.declared.rule.Rule.TheVariants.{Held, Loose}
 use Rattle.zy_isa.specs.declared.row.Row.{Row}
 use Rattle.zy_isa.specs.declared.instr.Instr.{Instr}
 use Rattle.zy_isa.specs.declared.program.ProgFault.{ProgFault}
@@ -588,28 +588,15 @@ this_rule : (w : List ℕ) (a r : Rule) → bytes_eq w (rule_text a) ≡ true �
 this_rule w a r e h = let q : a ≡ r = cc in same w (rule_text a) e ∙ ap rule_text q
 
 rule_ok : (w : List ℕ) (r : Rule) → rule_of w ≡ Some r → w ≡ rule_text r
-rule_ok w r h = elim (chosen_by (bytes_eq w (codes "held")) _ _ _ h) [ inl a ↦ this_rule w Held r a.0 a.1 | inr a ↦ absurd (no r a.1) ]
+rule_ok w r h =
+    elim (chosen_by (bytes_eq w (codes "held")) _ _ _ h) [
+      | inl a ↦ this_rule w Held r a.0 a.1
+      | inr a ↦
+          elim (chosen_by (bytes_eq w (codes "loose")) _ _ _ a.1) [ inl b ↦ this_rule w Loose r b.0 b.1 | inr b ↦ absurd (no r b.1) ]
+    ]
   where
     no : (x : Rule) → None ≡ Some x → ⊥
     no x e = cc
-
-rule_word_ok : (a b : Bool) (v : List ℕ) (r : Rule) → bytes_eq v (codes "held") ≡ a → bytes_eq v (codes "loose") ≡ b → (if a then Some Held else if b then Some Loose else None) ≡ Some r → v ≡ rule_text r
-rule_word_ok true b v Held e f h = same v (codes "held") e
-rule_word_ok true b v Loose e f h = cc
-rule_word_ok false true v Held e f h = cc
-rule_word_ok false true v Loose e f h = same v (codes "loose") f
-rule_word_ok false false v Held e f h = cc
-rule_word_ok false false v Loose e f h = cc
-
-rule_named : (b : Bool) (w v : List ℕ) (r : Rule) → bytes_eq w (codes "rule") ≡ b → (if b then rule_of v else None) ≡ Some r → w ∷ v ∷ [] ≡ codes "rule" ∷ rule_text r ∷ []
-rule_named true w v r e h = rw (same w (codes "rule") e, rule_word_ok (bytes_eq v (codes "held")) (bytes_eq v (codes "loose")) v r refl refl h) refl
-rule_named false w v r e h = cc
-
-ruled_ok : (ws : List (List ℕ)) (r : Rule) → ruled ws ≡ Some r → ws ≡ codes "rule" ∷ rule_text r ∷ []
-ruled_ok [] r h = cc
-ruled_ok (w ∷ []) r h = cc
-ruled_ok (w ∷ v ∷ []) r h = rule_named (bytes_eq w (codes "rule")) w v r refl h
-ruled_ok (w ∷ v ∷ u ∷ us) r h = cc
 
 record FoundRule (c p : ℕ) (ls : List (List (List ℕ))) (t : Seen) : Type 0 where
   rule : Rule

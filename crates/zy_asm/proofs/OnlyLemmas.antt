@@ -309,6 +309,7 @@ all_of s N = at stage.Done (base s.cap s.pages s.rule s.rows) N s.programs [] []
 
 rule_gives : (r : Rule) → rule_of (rule_text r) ≡ Some r
 rule_gives Held = refl
+rule_gives Loose = refl
 
 only_body : (s : Scenario) (d : Draft) (ls : List (List (List ℕ))) → IsScenario s → IsDraftOf d s → Worded ls
     → SpellEach (map m.row s.rows ++ following [] 0 d.programs d.choices) ls

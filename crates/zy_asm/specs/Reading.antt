@@ -4,10 +4,8 @@ use Rattle.std.specs.Option.{option_or}
 use Rattle.std.specs.Str.{bytes_eq}
 use Rattle.zy_isa.specs.declared.node.Actor.{Actor}
 use Rattle.zy_isa.specs.declared.rule.Rule.{Rule as LockRule}
-use Rattle.zy_isa.specs.declared.rule.Rule.TheVariants.{Held}
-use Rattle.zy_isa.specs.declared.row.Row.{Row}
-use Rattle.zy_isa.specs.declared.rule.Rule.{Rule as ARule}
 use Rattle.zy_isa.specs.declared.rule.Rule.TheVariants.{Held, Loose}
+use Rattle.zy_isa.specs.declared.row.Row.{Row}
 use Rattle.zy_isa.specs.declared.instr.Instr.{Instr}
 use Rattle.zy_isa.specs.declared.choice.Choice.{Choice}
 use Rattle.zy_isa.specs.Words.{lines_of, words_of, number_of}
@@ -91,6 +89,7 @@ version_of w =
 abbrev pub rule_of : List ℕ → Option LockRule
 rule_of w =
     if bytes_eq w (codes "held") then Some Held else
+    if bytes_eq w (codes "loose") then Some Loose else
     None
 
 abbrev pub zephyr_line : Seen → List (List ℕ) → Result Seen AsmKind
@@ -110,14 +109,6 @@ pages_line s ws = do
   w ← headed ws (codes "pages")
   n ← number_in w 1 512
   Ok (record s { stage = Rule; pages = n })
-
-abbrev pub rule_of : List ℕ → Option ARule
-rule_of w = if bytes_eq w (codes "held") then Some Held else if bytes_eq w (codes "loose") then Some Loose else None
-
--- `rule held` or `rule loose`
-abbrev pub ruled : List (List ℕ) → Option ARule
-ruled (w ∷ v ∷ []) = if bytes_eq w (codes "rule") then rule_of v else None
-ruled _ = None
 
 abbrev pub rule_line : Seen → List (List ℕ) → Result Seen AsmKind
 rule_line s ws = do

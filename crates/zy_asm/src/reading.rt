@@ -86,6 +86,8 @@ fn rule_of(word: &[u8]) -> Option<Rule>
 {
     if is(word, b"held") {
         Some(Rule::Held)
+    } else if is(word, b"loose") {
+        Some(Rule::Loose)
     } else {
         None
     }
