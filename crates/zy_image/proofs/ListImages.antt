@@ -1,5 +1,5 @@
 -- The lists of an image, with their counts in front.
-use Rattle.std.proofs.Common.{◌≡◌, ◌==◌, ℕ, ◌<◌, ◌≤◌, ◌||◌, false, nat_lt, List, [], ◌∷◌, ◌++◌, length, Option, Some, None, Ok, Err, refl, sym, ap, ◌∙◌, subst, append_assoc, arith, if◌then◌else◌}
+use Rattle.std.proofs.Common.{◌≡◌, ◌==◌, ℕ, ◌≤◌, ◌||◌, false, nat_lt, List, [], ◌∷◌, ◌++◌, length, Option, Some, None, Ok, Err, refl, sym, ap, ◌∙◌, subst, append_assoc, arith, if◌then◌else◌}
 use Rattle.std.specs.List.{flat_map}
 use Rattle.std.specs.Int.{w16, to_be_bytes}
 use Rattle.zy_isa.specs.declared.row.Row.{Row}
@@ -11,6 +11,7 @@ use Rattle.zy_isa.specs.InstrWords.{word_of}
 use Rattle.zy_isa.specs.Programs.{prog_fault, IsProgram}
 use Rattle.zy_isa.specs.Rows.{Rising, RowsFit}
 use Rattle.zy_isa.specs.Scenario.{ArePrograms, AreNamed, opening_pages_for}
+use Rattle.zy_isa.proofs.ProgramLemmas.{is_some, no_prog_fault}
 use Rattle.zy_isa.proofs.ResultLemmas.{bind_ok, if_err, neither, not_over, over_not}
 use Rattle.zy_isa.proofs.RowLemmas.{Above}
 use Rattle.zy_image.specs.declared.faults.LoadFault.TheVariants as fault
@@ -20,7 +21,6 @@ use Rattle.zy_image.specs.Reading.{byte, half, read_items, next_row, row_count, 
 use Rattle.zy_image.proofs.FieldLemmas.{AreBytes, same_answer, byte_found, byte_gives, half_found, half_gives}
 use Rattle.zy_image.proofs.ListLemmas.{TookItem, items_found, AreRead, items_give}
 use Rattle.zy_image.proofs.PartLemmas.{InOrder, row_found, rows_read, AnyInstrs, instr_found, instrs_read, choice_found, choices_read}
-use borrow.Author.Tests.{tests}
 
 -- ---- rows
 
@@ -91,14 +91,6 @@ program_found size ps bytes is left any fit h =
       kept = tt;
     }
 
-no_prog_fault : (is : List Instr) → IsProgram is → prog_fault is ≡ None
-no_prog_fault is p =
-    let some : (length is == 0) ≡ false = is_some (length is) p.some in
-    rw (some, over_not (length is) 64 p.few, p.targets, p.last) refl
-  where
-    is_some : (n : ℕ) → 0 < n → (n == 0) ≡ false
-    is_some n h = grind (arith, tests)
-
 program_gives : (size : ℕ) (before : List (List Instr)) (is : List Instr) (left : List ℕ) → IsProgram is → next_program size before (program_image is ++ left) ≡ Ok (is, left)
 program_gives size before is left p =
     let t = length before in
@@ -107,9 +99,6 @@ program_gives size before is left p =
     rw (byte_gives size (length is) (flat_map word_of is ++ left)) (rw (some, over_not (length is) 64 p.few) refl) in
     let read : instrs t size (length is ∷ (flat_map word_of is ++ left)) ≡ Ok (is, left) = rw count (items_give word_of (next_instr t size) is [] left (instrs_read t size is [] p.values)) in
     rw read (rw (no_prog_fault is p) refl)
-  where
-    is_some : (n : ℕ) → 0 < n → (n == 0) ≡ false
-    is_some n h = grind (arith, tests)
 
 programs_read : (size : ℕ) (ps before : List (List Instr)) → ArePrograms ps → AreRead program_image (next_program size) before ps
 programs_read size [] before h = tt

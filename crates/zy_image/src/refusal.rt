@@ -89,7 +89,7 @@ impl ImageRefusal {
         ensures { result.fault ≡ fault }
     {
         let at = place(fault, bytes);
-        let found = found(fault, bytes, at);
+        let found = found_at(fault, bytes, at);
         ImageRefusal { fault, at, found }
     }
 }
@@ -130,7 +130,7 @@ fn place(fault: LoadFault, bytes: &[u8]) -> usize {
 }
 
 /// What a program has at the place of its fault.
-fn program_found(txn: usize, fault: ProgFault, bytes: &[u8], at: usize) -> Found {
+fn program_found_at(txn: usize, fault: ProgFault, bytes: &[u8], at: usize) -> Found {
     match fault {
         ProgFault::TooLong => Found::Number(byte_at(bytes, at)),
         ProgFault::Target(_) => Found::Target {
@@ -143,7 +143,7 @@ fn program_found(txn: usize, fault: ProgFault, bytes: &[u8], at: usize) -> Found
 }
 
 /// What stands in these bytes at the place of a fault of theirs.
-fn found(fault: LoadFault, bytes: &[u8], at: usize) -> Found {
+fn found_at(fault: LoadFault, bytes: &[u8], at: usize) -> Found {
     match fault {
         LoadFault::Magic => Found::Beginning(bytes_at(bytes, at)),
         LoadFault::Truncated(size) => Found::Cut {
@@ -164,7 +164,7 @@ fn found(fault: LoadFault, bytes: &[u8], at: usize) -> Found {
             key: half_at(bytes, at),
             last: half_at(bytes, at.saturating_sub(6)),
         },
-        LoadFault::Program(txn, fault) => program_found(txn, fault, bytes, at),
+        LoadFault::Program(txn, fault) => program_found_at(txn, fault, bytes, at),
         LoadFault::Word(_, _) => Found::Word(bytes_at(bytes, at)),
         LoadFault::Choice(_) => Found::Choice {
             bytes: bytes_at(bytes, at),
