@@ -1,5 +1,5 @@
 -- The lists of an image, with their counts in front.
-use Rattle.std.proofs.Common.{◌≡◌, ◌==◌, ℕ, ◌≤◌, ◌||◌, false, nat_lt, List, [], ◌∷◌, ◌++◌, length, Option, Some, None, Ok, Err, refl, sym, ap, ◌∙◌, subst, append_assoc, arith, if◌then◌else◌}
+use Rattle.std.proofs.Common.{◌≡◌, ◌==◌, ℕ, ◌≤◌, ◌||◌, false, nat_lt, List, [], ◌∷◌, ◌++◌, length, Option, Some, None, Ok, Err, refl, ap, ◌∙◌, subst, append_assoc, arith, if◌then◌else◌}
 use Rattle.std.specs.List.{flat_map}
 use Rattle.std.specs.Int.{w16, to_be_bytes}
 use Rattle.zy_isa.specs.declared.row.Row.{Row}
@@ -19,7 +19,7 @@ use Rattle.zy_image.specs.declared.head.Head.{Head}
 use Rattle.zy_image.specs.Image.{row_image, rows_image, program_image, programs_image, choice_image, choices_image}
 use Rattle.zy_image.specs.Reading.{byte, half, read_items, next_row, row_count, rows, next_instr, instr_count, instrs, judged, next_program, program_count, programs, next_choice, choice_count, choices}
 use Rattle.zy_image.proofs.FieldLemmas.{AreBytes, same_answer, byte_found, byte_gives, half_found, half_gives}
-use Rattle.zy_image.proofs.ListLemmas.{TookItem, items_found, AreRead, items_give}
+use Rattle.zy_image.proofs.ListLemmas.{TookItem, list_found, AreRead, items_give}
 use Rattle.zy_image.proofs.PartLemmas.{InOrder, row_found, rows_read, AnyInstrs, instr_found, instrs_read, choice_found, choices_read}
 
 -- ---- rows
@@ -39,11 +39,10 @@ rows_found h size bytes rs left fit e =
     let s = same_answer (Ok g.0) g.0.0 f.0.0 g.0.1 f.0.1 refl t.1 in
     let n = half_found size bytes f.0.0 f.0.1 fit (g.1 ∙ t.1) in
     let limits = neither (nat_lt 256 g.0.0) (nat_lt h.pages (opening_pages_for h.cap g.0.0)) t.0 in
-    let i = items_found row_image (next_row size) InOrder (row_found size) f.0.0 [] f.0.1 rs left refl n.back f.2 in
-    let count : f.0.0 ≡ length rs = sym i.count ∙ ap length (sym i.all) in
-    let number : g.0.0 ≡ length rs = s.0 ∙ count in
+    let i = list_found row_image (next_row size) InOrder (row_found size) f.0.0 f.0.1 rs left refl n.back f.2 in
+    let number : g.0.0 ≡ length rs = s.0 ∙ i.count in
     record {
-      same = n.same ∙ ap (λ x. to_be_bytes w16 f.0.0 ++ x) (i.same ∙ ap (λ x. flat_map row_image x ++ left) (sym i.all)) ∙ ap (λ x. to_be_bytes w16 x ++ (flat_map row_image rs ++ left)) count;
+      same = n.same ∙ ap (λ x. to_be_bytes w16 f.0.0 ++ x) i.same ∙ ap (λ x. to_be_bytes w16 x ++ (flat_map row_image rs ++ left)) i.count;
       back = i.back;
       few = subst (λ x. x ≤ 256) number (not_over g.0.0 256 limits.0);
       few_pages = subst (λ x. opening_pages_for h.cap x ≤ h.pages) number (not_over (opening_pages_for h.cap g.0.0) h.pages limits.1);
@@ -83,10 +82,9 @@ program_found size ps bytes is left any fit h =
     let g = bind_ok (byte size bytes) _ f.0 f.1 in
     let m : g.0 ≡ f.0 = count_ok t g.0 f.0 g.2 in
     let n = byte_found size bytes f.0.0 f.0.1 fit (g.1 ∙ ap Ok m) in
-    let i = items_found word_of (next_instr t size) AnyInstrs (instr_found t size) f.0.0 [] f.0.1 is left tt n.back f.2 in
-    let count : f.0.0 ≡ length is = sym i.count ∙ ap length (sym i.all) in
+    let i = list_found word_of (next_instr t size) AnyInstrs (instr_found t size) f.0.0 f.0.1 is left tt n.back f.2 in
     record {
-      same = n.same ∙ ap (λ x. f.0.0 ∷ x) (i.same ∙ ap (λ x. flat_map word_of x ++ left) (sym i.all)) ∙ ap (λ x. x ∷ (flat_map word_of is ++ left)) count;
+      same = n.same ∙ ap (λ x. f.0.0 ∷ x) i.same ∙ ap (λ x. x ∷ (flat_map word_of is ++ left)) i.count;
       back = i.back;
       kept = tt;
     }
@@ -116,12 +114,11 @@ programs_found size bytes ps left fit e =
     let t = if_err (nat_lt 64 g.0.0) (Ok g.0) fault.TxnCount f.0 g.2 in
     let s = same_answer (Ok g.0) g.0.0 f.0.0 g.0.1 f.0.1 refl t.1 in
     let n = byte_found size bytes f.0.0 f.0.1 fit (g.1 ∙ t.1) in
-    let i = items_found program_image (next_program size) AnyPrograms (program_found size) f.0.0 [] f.0.1 ps left tt n.back f.2 in
-    let count : f.0.0 ≡ length ps = sym i.count ∙ ap length (sym i.all) in
+    let i = list_found program_image (next_program size) AnyPrograms (program_found size) f.0.0 f.0.1 ps left tt n.back f.2 in
     record {
-      same = n.same ∙ ap (λ x. f.0.0 ∷ x) (i.same ∙ ap (λ x. flat_map program_image x ++ left) (sym i.all)) ∙ ap (λ x. x ∷ (flat_map program_image ps ++ left)) count;
+      same = n.same ∙ ap (λ x. f.0.0 ∷ x) i.same ∙ ap (λ x. x ∷ (flat_map program_image ps ++ left)) i.count;
       back = i.back;
-      few = subst (λ x. x ≤ 64) (s.0 ∙ count) (not_over g.0.0 64 t.0);
+      few = subst (λ x. x ≤ 64) (s.0 ∙ i.count) (not_over g.0.0 64 t.0);
     }
 
 pub programs_give : (size : ℕ) (ps : List (List Instr)) (left : List ℕ) → length ps ≤ 64 → ArePrograms ps → programs size (programs_image ps ++ left) ≡ Ok (ps, left)
@@ -144,11 +141,10 @@ choices_found k size bytes cs left fit e =
     let t = if_err (nat_lt 4096 g.0.0) (Ok g.0) fault.ChoiceCount f.0 g.2 in
     let s = same_answer (Ok g.0) g.0.0 f.0.0 g.0.1 f.0.1 refl t.1 in
     let n = half_found size bytes f.0.0 f.0.1 fit (g.1 ∙ t.1) in
-    let i = items_found choice_image (next_choice k size) (AreNamed k) (choice_found k size) f.0.0 [] f.0.1 cs left tt n.back f.2 in
-    let count : f.0.0 ≡ length cs = sym i.count ∙ ap length (sym i.all) in
+    let i = list_found choice_image (next_choice k size) (AreNamed k) (choice_found k size) f.0.0 f.0.1 cs left tt n.back f.2 in
     record {
-      same = n.same ∙ ap (λ x. to_be_bytes w16 f.0.0 ++ x) (i.same ∙ ap (λ x. flat_map choice_image x ++ left) (sym i.all)) ∙ ap (λ x. to_be_bytes w16 x ++ (flat_map choice_image cs ++ left)) count;
-      few = subst (λ x. x ≤ 4096) (s.0 ∙ count) (not_over g.0.0 4096 t.0);
+      same = n.same ∙ ap (λ x. to_be_bytes w16 f.0.0 ++ x) i.same ∙ ap (λ x. to_be_bytes w16 x ++ (flat_map choice_image cs ++ left)) i.count;
+      few = subst (λ x. x ≤ 4096) (s.0 ∙ i.count) (not_over g.0.0 4096 t.0);
       named = i.kept;
     }
 

@@ -35,6 +35,13 @@ pub record TookItem {X : Type 0} (image : X → List ℕ) (P : List X → Type 0
   pub back : AreBytes left
   pub kept : P (xs ++ x ∷ [])
 
+-- so many items were read, and these are all of them
+pub record TookList {X : Type 0} (image : X → List ℕ) (P : List X → Type 0) (n : ℕ) (bytes : List ℕ) (ys : List X) (left : List ℕ) : Type 0 where
+  pub count : n ≡ length ys
+  pub same : bytes ≡ flat_map image ys ++ left
+  pub back : AreBytes left
+  pub kept : P ys
+
 module _ {X : Type 0} (image : X → List ℕ) (next : List X → List ℕ → Read X) (P : List X → Type 0)
     (one : (xs : List X) (bytes : List ℕ) (x : X) (left : List ℕ) → P xs → AreBytes bytes → next xs bytes ≡ Ok (x, left) → TookItem image P xs bytes x left) where
   pub items_found : (n : ℕ) (xs : List X) (bytes : List ℕ) (ys : List X) (left : List ℕ) → P xs → AreBytes bytes → read_items next xs n bytes ≡ Ok (ys, left) → TookItems image P xs n bytes ys left
@@ -52,6 +59,17 @@ module _ {X : Type 0} (image : X → List ℕ) (next : List X → List ℕ → R
         same = t.same ∙ ap (λ z. image d.0.0 ++ z) r.same ∙ sym (append_assoc (image d.0.0) (flat_map image r.more) left);
         back = r.back;
         kept = r.kept;
+      }
+
+  -- the same where nothing stands before them
+  pub list_found : (n : ℕ) (bytes : List ℕ) (ys : List X) (left : List ℕ) → P [] → AreBytes bytes → read_items next [] n bytes ≡ Ok (ys, left) → TookList image P n bytes ys left
+  list_found n bytes ys left p fit h =
+      let i = items_found n [] bytes ys left p fit h in
+      record {
+        count = sym i.count ∙ ap length (sym i.all);
+        same = i.same ∙ ap (λ x. flat_map image x ++ left) (sym i.all);
+        back = i.back;
+        kept = i.kept;
       }
 
 -- ---- an image is read as what it shows
