@@ -18,7 +18,7 @@ use Rattle.zy_image.specs.declared.faults.LoadFault.TheVariants as fault
 use Rattle.zy_image.specs.declared.head.Head.{Head}
 use Rattle.zy_image.specs.Image.{row_image, rows_image, program_image, programs_image, choice_image, choices_image}
 use Rattle.zy_image.specs.Reading.{byte, half, read_items, next_row, row_count, rows, next_instr, instr_count, instrs, judged, next_program, program_count, programs, next_choice, choice_count, choices}
-use Rattle.zy_image.proofs.FieldLemmas.{AreBytes, same_answer, byte_found, byte_gives, half_found, half_gives}
+use Rattle.zy_image.proofs.FieldLemmas.{AreBytes, one_answer, byte_found, byte_gives, half_found, half_gives}
 use Rattle.zy_image.proofs.ListLemmas.{TookItem, list_found, AreRead, items_give}
 use Rattle.zy_image.proofs.PartLemmas.{InOrder, row_found, rows_read, AnyInstrs, instr_found, instrs_read, choice_found, choices_read}
 
@@ -36,7 +36,7 @@ rows_found h size bytes rs left fit e =
     let f = bind_ok (row_count h size bytes) (λ n. read_items (next_row size) [] n.0 n.1) (rs, left) e in
     let g = bind_ok (half size bytes) _ f.0 f.1 in
     let t = if_err (nat_lt 256 g.0.0 || nat_lt h.pages (opening_pages_for h.cap g.0.0)) (Ok g.0) fault.RowCount f.0 g.2 in
-    let s = same_answer (Ok g.0) g.0.0 f.0.0 g.0.1 f.0.1 refl t.1 in
+    let s = one_answer g.0.0 f.0.0 g.0.1 f.0.1 t.1 in
     let n = half_found size bytes f.0.0 f.0.1 fit (g.1 ∙ t.1) in
     let limits = neither (nat_lt 256 g.0.0) (nat_lt h.pages (opening_pages_for h.cap g.0.0)) t.0 in
     let i = list_found row_image (next_row size) InOrder (row_found size) f.0.0 f.0.1 rs left refl n.back f.2 in
@@ -112,7 +112,7 @@ programs_found size bytes ps left fit e =
     let f = bind_ok (program_count size bytes) (λ n. read_items (next_program size) [] n.0 n.1) (ps, left) e in
     let g = bind_ok (byte size bytes) _ f.0 f.1 in
     let t = if_err (nat_lt 64 g.0.0) (Ok g.0) fault.TxnCount f.0 g.2 in
-    let s = same_answer (Ok g.0) g.0.0 f.0.0 g.0.1 f.0.1 refl t.1 in
+    let s = one_answer g.0.0 f.0.0 g.0.1 f.0.1 t.1 in
     let n = byte_found size bytes f.0.0 f.0.1 fit (g.1 ∙ t.1) in
     let i = list_found program_image (next_program size) AnyPrograms (program_found size) f.0.0 f.0.1 ps left tt n.back f.2 in
     record {
@@ -139,7 +139,7 @@ choices_found k size bytes cs left fit e =
     let f = bind_ok (choice_count size bytes) (λ n. read_items (next_choice k size) [] n.0 n.1) (cs, left) e in
     let g = bind_ok (half size bytes) _ f.0 f.1 in
     let t = if_err (nat_lt 4096 g.0.0) (Ok g.0) fault.ChoiceCount f.0 g.2 in
-    let s = same_answer (Ok g.0) g.0.0 f.0.0 g.0.1 f.0.1 refl t.1 in
+    let s = one_answer g.0.0 f.0.0 g.0.1 f.0.1 t.1 in
     let n = half_found size bytes f.0.0 f.0.1 fit (g.1 ∙ t.1) in
     let i = list_found choice_image (next_choice k size) (AreNamed k) (choice_found k size) f.0.0 f.0.1 cs left tt n.back f.2 in
     record {

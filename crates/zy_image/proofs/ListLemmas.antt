@@ -4,7 +4,7 @@ use Rattle.std.specs.List.{flat_map}
 use Rattle.zy_isa.proofs.ResultLemmas.{bind_ok}
 use Rattle.zy_image.specs.declared.faults.LoadFault.{LoadFault}
 use Rattle.zy_image.specs.Reading.{Read, read_items}
-use Rattle.zy_image.proofs.FieldLemmas.{AreBytes, same_answer}
+use Rattle.zy_image.proofs.FieldLemmas.{AreBytes, one_answer}
 
 module _ {X : Type 0} (next : List X → List ℕ → Read X) (xs : List X) (bytes : List ℕ) where
   one_left : (k n : ℕ) → k < n → read_items next xs (n - k) bytes ≡ read_items next xs (suc (n - (k + 1))) bytes
@@ -46,7 +46,7 @@ module _ {X : Type 0} (image : X → List ℕ) (next : List X → List ℕ → R
     (one : (xs : List X) (bytes : List ℕ) (x : X) (left : List ℕ) → P xs → AreBytes bytes → next xs bytes ≡ Ok (x, left) → TookItem image P xs bytes x left) where
   pub items_found : (n : ℕ) (xs : List X) (bytes : List ℕ) (ys : List X) (left : List ℕ) → P xs → AreBytes bytes → read_items next xs n bytes ≡ Ok (ys, left) → TookItems image P xs n bytes ys left
   items_found zero xs bytes ys left p fit h =
-      let s = same_answer (Ok (xs, bytes)) xs ys bytes left refl h in
+      let s = one_answer xs ys bytes left h in
       record { more = []; all = sym s.0 ∙ sym (append-nil xs); count = refl; same = s.1; back = subst AreBytes s.1 fit; kept = subst P s.0 p }
   items_found (suc n) xs bytes ys left p fit h =
       let d = bind_ok (next xs bytes) (λ x. read_items next (xs ++ x.0 ∷ []) n x.1) (ys, left) h in

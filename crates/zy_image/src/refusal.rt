@@ -15,23 +15,39 @@ pub enum Found {
     /// Another beginning.
     Beginning([u8; 4]),
     /// This field, of which so many bytes are there.
-    Cut { field: Field, there: usize },
+    Cut {
+        field: Field,
+        there: usize,
+    },
     /// So many bytes more.
     More(usize),
     /// This number.
     Number(usize),
     /// So many rows, of which a page opens with `each`.
-    Rows { rows: usize, each: usize, pages: usize },
+    Rows {
+        rows: usize,
+        each: usize,
+        pages: usize,
+    },
     /// This key behind the last one.
-    Keys { key: usize, last: usize },
+    Keys {
+        key: usize,
+        last: usize,
+    },
     /// This target, where there are so many instructions.
-    Target { target: u32, count: usize },
+    Target {
+        target: u32,
+        count: usize,
+    },
     /// Another last word.
     LastWord([u8; 8]),
     /// This word.
     Word([u8; 8]),
     /// This choice, where there are so many transactions.
-    Choice { bytes: [u8; 3], txns: usize },
+    Choice {
+        bytes: [u8; 3],
+        txns: usize,
+    },
 }
 
 impl fmt::Display for Found {
@@ -46,11 +62,17 @@ impl fmt::Display for Found {
             Found::More(count) => write!(f, " for {count} more"),
             Found::Number(number) => write!(f, ", not {number}"),
             Found::Rows { rows, each, pages } => {
-                write!(f, ": there are {rows}, {each} on each page, and pages is {pages}")
+                write!(
+                    f,
+                    ": there are {rows}, {each} on each page, and pages is {pages}"
+                )
             }
             Found::Keys { key, last } => write!(f, ": {key} comes behind {last}"),
             Found::Target { target, count } => {
-                write!(f, ": it is {target}, and the number of instructions is {count}")
+                write!(
+                    f,
+                    ": it is {target}, and the number of instructions is {count}"
+                )
             }
             Found::LastWord(word) => tell_bytes(f, ", not with", word.as_slice()),
             Found::Word(word) => tell_bytes(f, ":", word.as_slice()),
@@ -63,11 +85,7 @@ impl fmt::Display for Found {
 }
 
 /// Tells some bytes, in hexadecimal digits.
-fn tell_bytes<W: fmt::Write>(
-    f: &mut fmt::Formatter<W>,
-    before: &str,
-    bytes: &[u8],
-) -> fmt::Result {
+fn tell_bytes<W: fmt::Write>(f: &mut fmt::Formatter<W>, before: &str, bytes: &[u8]) -> fmt::Result {
     f.write_str(before)?;
     for byte in bytes {
         write!(f, " {byte:02x}")?;
