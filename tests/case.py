@@ -10,7 +10,8 @@
   fault    where the run is refused, the fault's name as standard error tells it: one line `zy_bench: FAULT: words`
   words    the words of that line; none: any
 
-Each line of tests/refused is a text that `zy_bench run` refuses, with its fault and words."""
+Each line of tests/refused is a text that `zy_bench run` refuses, with its fault and words; each line of tests/refused-images an
+image that `zy_bench dis` refuses."""
 
 import os
 import re
@@ -19,8 +20,13 @@ import subprocess
 TOP = os.path.dirname(os.path.dirname(os.path.abspath(__file__)))
 CASES = os.path.join(TOP, 'tests', 'cases')
 REFUSED = os.path.join(TOP, 'tests', 'refused')
+REFUSED_IMAGES = os.path.join(TOP, 'tests', 'refused-images')
 EXAMPLES = os.path.join(TOP, 'examples')
 PROGRAM = os.path.join(TOP, 'crates', 'zy_bench', 'out', 'zy_bench')
+
+# The worked image of docs/formats.md. zephyr 1, cap 4, pages 1, rule held; txn 0: beq r0 r1 @2, abort, commit; C begin 0,
+# A run 0, A run 0; end
+WORKED = bytes.fromhex('5a5048310400010000000103' '0500010000000002' '0700000000000000' '0600000000000000' '0003' '000100' '010300' '010300')
 
 
 def content(path):
@@ -81,6 +87,29 @@ class Refused(Case):
         self.text_given = text.replace('HEAD ', self.HEAD).encode().decode('unicode_escape').encode()
 
 
+class RefusedImage(Case):
+    """An image that is refused."""
+
+    def __init__(self, line):
+        self.fault, self.said, image = (part.strip() for part in line.split('|'))
+        self.name = 'refused image: %s' % image
+        self.words, self.example, self.pad, self.to, self.output, self.status = ['dis'], '', 0, '', b'', 1
+        self.text_given = bytes_of(image)
+
+
+def bytes_of(image):
+    """An image as a line of tests/refused-images tells it."""
+    if '=' in image:
+        changed = bytearray(WORKED)
+        for change in image.split():
+            at, byte = change.split('=')
+            changed[int(at)] = int(byte, 16)
+        return bytes(changed)
+    if image.startswith('front '):
+        return WORKED[:int(image.split()[1])]
+    return bytes.fromhex(image)
+
+
 def tells(errors, fault, words=''):
     """Whether standard error is one line that tells this fault, in these words if there are any."""
     line = r'zy_bench: %s: %s\n' % (re.escape(fault), re.escape(words) if words else '.+')
@@ -91,9 +120,13 @@ def all_cases():
     return [Case(name) for name in sorted(os.listdir(CASES))]
 
 
+def lines_of(path):
+    with open(path, encoding='utf-8') as file:
+        return [line for line in file if line.strip() and not line.startswith('#')]
+
+
 def all_refused():
-    with open(REFUSED, encoding='utf-8') as file:
-        return [Refused(line) for line in file if line.strip() and not line.startswith('#')]
+    return [Refused(line) for line in lines_of(REFUSED)] + [RefusedImage(line) for line in lines_of(REFUSED_IMAGES)]
 
 
 def is_built():

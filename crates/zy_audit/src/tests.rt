@@ -57,7 +57,7 @@ fn shows(
     Ok(line.as_str() == lines)
 }
 
-/// Whether the run is told as it was. A test that owns a machine takes a minute to prove, so that one owns it for all.
+/// Whether the run is told as it was. It borrows the machine, since to let one go is proved anew in each function that owns one.
 fn is_told(rt: &impl Abort, alloc: Global, machine: &Machine) -> Result<bool, AllocError> {
     let lines = "page 0 A low 0 rows 10=1 20=9txn 0 newlink BA";
     Ok(has_counted(machine) && same(alloc, machine)? && shows(rt, alloc, machine, lines)?)

@@ -15,6 +15,23 @@ pub enum Request {
     Dis,
 }
 
+/// What stands below the options of a command: what it reads and what it writes, and an example.
+macro_rules! below {
+    ($input:literal, $output:literal, $example:literal) => {
+        concat!(
+            "Input:   ",
+            $input,
+            ", at most 4194304 bytes\nOutput:  ",
+            $output,
+            "; a fault is one line on standard error\n",
+            "Status:  0 done, 1 the input is refused, 2 the command line is wrong,\n",
+            "         3 want of memory, 5 the input or the output failed\n",
+            "Formats: docs/formats.md\n\nExample:\n  ",
+            $example
+        )
+    };
+}
+
 /// `run`.
 fn run_command<'a>(alloc: Global) -> Result<Command<'a>, AllocError> {
     let image = Arg::new(alloc, "image")
@@ -23,9 +40,11 @@ fn run_command<'a>(alloc: Global) -> Result<Command<'a>, AllocError> {
         .help("The input is an image, as asm writes it, and not a text");
     Command::new(alloc, "run")
         .about("Runs the scenario on standard input, and prints its listing")
-        .after_help(
-            "Example:\n  zy_bench run < examples/first_run.zephyr\n\nStatus: 0 done, 1 the input is refused, 2 the command line is wrong,\n3 want of memory, 5 the input or the output failed.\nThe text, the image and the listing are told in docs/formats.md.",
-        )
+        .after_help(below!(
+            "a scenario text, or with --image an image",
+            "the listing",
+            "zy_bench run < examples/first_run.zephyr"
+        ))
         .arg(image)
 }
 
@@ -33,18 +52,22 @@ fn run_command<'a>(alloc: Global) -> Result<Command<'a>, AllocError> {
 fn asm_command<'a>(alloc: Global) -> Command<'a> {
     Command::new(alloc, "asm")
         .about("Reads a scenario text on standard input, and writes its image")
-        .after_help(
-            "Example:\n  zy_bench asm < examples/first_run.zephyr > first_run.image\n\nStatus: 0 done, 1 the input is refused, 2 the command line is wrong,\n3 want of memory, 5 the input or the output failed.\nThe text and the image are told in docs/formats.md.",
-        )
+        .after_help(below!(
+            "a scenario text",
+            "its image",
+            "zy_bench asm < examples/first_run.zephyr > first_run.image"
+        ))
 }
 
 /// `dis`.
 fn dis_command<'a>(alloc: Global) -> Command<'a> {
     Command::new(alloc, "dis")
         .about("Reads the image of a scenario on standard input, and prints its canonical text")
-        .after_help(
-            "Example:\n  zy_bench dis < first_run.image\n\nStatus: 0 done, 1 the input is refused, 2 the command line is wrong,\n3 want of memory, 5 the input or the output failed.\nThe text and the image are told in docs/formats.md.",
-        )
+        .after_help(below!(
+            "the image of a scenario, as asm writes it",
+            "its canonical text",
+            "zy_bench dis < first_run.image"
+        ))
 }
 
 /// The command line that is understood.

@@ -11,6 +11,7 @@ use Rattle.zy_asm.specs.declared.faults.Refusal.{Refusal}
 use Rattle.zy_asm.specs.Reasons.{kind_of}
 use Rattle.zy_image.specs.declared.faults.LoadFault.{LoadFault}
 use Rattle.zy_image.specs.declared.faults.LoadFault.TheVariants as loading
+use Rattle.zy_image.specs.declared.refusal.ImageRefusal.{ImageRefusal}
 use Rattle.zy_engine.specs.declared.faults.BenchFault.{BenchFault}
 use Rattle.zy_engine.specs.declared.faults.BenchFault.TheVariants.{Input, Image, TooLong, Read, Write, Memory}
 
@@ -26,9 +27,12 @@ of_kind _ r = Input r
 abbrev pub of_refusal : Refusal → BenchFault
 of_refusal r = of_kind (kind_of r.reason) r
 
-abbrev pub of_loading : LoadFault → BenchFault
-of_loading loading.Memory = Memory
-of_loading f = Image f
+abbrev pub of_load_fault : LoadFault → ImageRefusal → BenchFault
+of_load_fault loading.Memory r = Memory
+of_load_fault _ r = Image r
+
+abbrev pub of_image_refusal : ImageRefusal → BenchFault
+of_image_refusal r = of_load_fault r.fault r
 
 abbrev pub of_writing : TextFault → BenchFault
 of_writing writing.Write = Write
@@ -36,7 +40,7 @@ of_writing writing.Memory = Memory
 
 abbrev pub status_of : BenchFault → ℕ
 status_of (Input r) = 1
-status_of (Image f) = 1
+status_of (Image r) = 1
 status_of TooLong = 1
 status_of Memory = 3
 status_of Read = 5
@@ -46,7 +50,7 @@ status_of Write = 5
 abbrev pub ReadsInput : {X : Type 0} → Option (List ℕ) → Option (List ℕ) → Result X BenchFault → Type 0
 ReadsInput old new (Ok x) = ReadWhole old new
 ReadsInput old new (Err (Input r)) = ReadWhole old new
-ReadsInput old new (Err (Image f)) = ReadWhole old new
+ReadsInput old new (Err (Image r)) = ReadWhole old new
 ReadsInput old new (Err Write) = ReadWhole old new
 ReadsInput old new (Err TooLong) = ReadTooMuch old new
 ReadsInput old new (Err Read) = ReadSome old new
@@ -56,7 +60,7 @@ ReadsInput old new (Err Memory) = ReadSome old new
 abbrev pub failed_reads : {X : Type 0} → Result X BenchFault → ℕ
 failed_reads (Ok x) = 0
 failed_reads (Err (Input r)) = 0
-failed_reads (Err (Image f)) = 0
+failed_reads (Err (Image r)) = 0
 failed_reads (Err TooLong) = 0
 failed_reads (Err Read) = 1
 failed_reads (Err Write) = 0
@@ -66,7 +70,7 @@ failed_reads (Err Memory) = 0
 abbrev pub failed_writes : {X : Type 0} → Result X BenchFault → ℕ
 failed_writes (Ok x) = 0
 failed_writes (Err (Input r)) = 0
-failed_writes (Err (Image f)) = 0
+failed_writes (Err (Image r)) = 0
 failed_writes (Err TooLong) = 0
 failed_writes (Err Read) = 0
 failed_writes (Err Write) = 1
@@ -75,7 +79,7 @@ failed_writes (Err Memory) = 0
 -- a fault after which nothing was written
 abbrev pub IsQuiet : BenchFault → Type 0
 IsQuiet (Input r) = Unit {0}
-IsQuiet (Image f) = Unit {0}
+IsQuiet (Image r) = Unit {0}
 IsQuiet TooLong = Unit {0}
 IsQuiet Read = Unit {0}
 IsQuiet Write = ⊥
@@ -84,7 +88,7 @@ IsQuiet Memory = ⊥
 -- a fault of what was read: told by its first fault
 abbrev pub IfRefused : BenchFault → Type 0 → Type 0
 IfRefused (Input r) P = P
-IfRefused (Image f) P = P
+IfRefused (Image r) P = P
 IfRefused TooLong P = Unit {0}
 IfRefused Read P = Unit {0}
 IfRefused Write P = Unit {0}

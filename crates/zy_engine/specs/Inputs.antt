@@ -27,7 +27,7 @@ IsTextFault bytes _ = ⊥
 
 -- the same for an image
 abbrev pub IsImageFault : List ℕ → BenchFault → Type 0
-IsImageFault bytes (Image f) = image_fault bytes ≡ Some f
+IsImageFault bytes (Image r) = image_fault bytes ≡ Some r.fault
 IsImageFault bytes Memory = Unit {0}
 IsImageFault bytes _ = ⊥
 

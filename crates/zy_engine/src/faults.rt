@@ -1,11 +1,12 @@
 //! Why a run was refused.
 ghost use Rattle.std.specs.Prelude.{◌≡◌};
-ghost use Rattle.zy_engine.specs.Faults.{of_loading, of_reading, of_refusal, of_writing, status_of};
+ghost use Rattle.zy_engine.specs.Faults.{of_image_refusal, of_reading, of_refusal, of_writing, status_of};
 
 use std::alloc::AllocError;
 use thiserror::Error;
 use zy_asm::faults::{AsmKind, Refusal};
 use zy_image::faults::LoadFault;
+use zy_image::refusal::ImageRefusal;
 use zy_io::reading::ReadFault;
 use zy_io::writing::TextFault;
 
@@ -16,8 +17,8 @@ pub enum BenchFault {
     #[error("Input(line {}, {:?}): {}", .0.line, .0.reason.kind(), .0.reason)]
     Input(Refusal),
     /// 2: the image is refused.
-    #[error("Image({0:?}): {0}")]
-    Image(LoadFault),
+    #[error("Image({:?}): {}", .0.fault, .0)]
+    Image(ImageRefusal),
     /// 3: the input is longer than an engine takes.
     #[error("TooLong: an input has at most 4194304 bytes")]
     TooLong,
@@ -71,13 +72,13 @@ impl From<Refusal> for BenchFault {
     }
 }
 
-impl From<LoadFault> for BenchFault {
-    ghost from_gives = { λ f e. e ≡ of_loading f };
+impl From<ImageRefusal> for BenchFault {
+    ghost from_gives = { λ r e. e ≡ of_image_refusal r };
 
-    fn from(fault: LoadFault) -> BenchFault {
-        match fault {
+    fn from(refusal: ImageRefusal) -> BenchFault {
+        match refusal.fault {
             LoadFault::Memory => BenchFault::Memory,
-            _ => BenchFault::Image(fault),
+            _ => BenchFault::Image(refusal),
         }
     }
 }

@@ -7,6 +7,7 @@ use crate::faults::BenchFault;
 use std::alloc::Global;
 use zy_asm::assembling::assemble_bytes;
 use zy_image::load::load;
+use zy_image::refusal::ImageRefusal;
 use zy_isa::scenario::Scenario;
 
 /// What an input is written in.
@@ -32,9 +33,9 @@ pub fn accept(alloc: Global, format: Format, bytes: &[u8]) -> Result<Scenario, B
             let scenario = assemble_bytes(alloc, bytes)?;
             Ok(scenario)
         }
-        Format::Image => {
-            let scenario = load(alloc, bytes)?;
-            Ok(scenario)
-        }
+        Format::Image => match load(alloc, bytes) {
+            Ok(scenario) => Ok(scenario),
+            Err(fault) => Err(BenchFault::from(ImageRefusal::of(fault, bytes))),
+        },
     }
 }

@@ -41,6 +41,12 @@ value_of a (Err e) = a
 pub same_value : {A E : Type 0} (r : Result A E) (a b : A) → r ≡ Ok a → r ≡ Ok b → a ≡ b
 same_value r a b g h = sym (ap (value_of a) g) ∙ ap (value_of a) h
 
+abbrev value : {A E : Type 0} → A → Result A E
+value a = Ok a
+
+pub one_value : {A E : Type 0} (a b : A) → value {A = A} {E = E} a ≡ value b → a ≡ b
+one_value a b h = ap (value_of a) h
+
 abbrev first_of : {A B E : Type 0} → A → Result (A × B) E → A
 first_of a (Ok p) = p.0
 first_of a (Err e) = a
@@ -50,8 +56,8 @@ second_of b (Ok p) = p.1
 second_of b (Err e) = b
 
 -- two answers that are one have one value, and leave the same
-pub same_answer : {A B E : Type 0} (r : Result (A × B) E) (a c : A) (b d : B) → r ≡ Ok (a, b) → r ≡ Ok (c, d) → (a ≡ c) × (b ≡ d)
-same_answer r a c b d g h = (sym (ap (first_of a) g) ∙ ap (first_of a) h, sym (ap (second_of b) g) ∙ ap (second_of b) h)
+pub one_answer : {A B E : Type 0} (a c : A) (b d : B) → value {A = A × B} {E = E} (a, b) ≡ value (c, d) → (a ≡ c) × (b ≡ d)
+one_answer a c b d h = (ap (first_of a) h, ap (second_of b) h)
 
 -- the front of the bytes was read: so many bytes
 pub record Front (n : ℕ) (bytes w left : List ℕ) : Type 0 where
@@ -63,7 +69,7 @@ pub record Front (n : ℕ) (bytes w left : List ℕ) : Type 0 where
 pub field_found : (n size : ℕ) (bytes w left : List ℕ) → AreBytes bytes → field n size bytes ≡ Ok (w, left) → Front n bytes w left
 field_found n size bytes w left fit h =
     let d = if_err (nat_lt (length bytes) n) (Ok (take n bytes, drop n bytes)) (fault.Truncated size) (w, left) h in
-    let p = same_answer (Ok (take n bytes, drop n bytes)) (take n bytes) w (drop n bytes) left refl d.1 in
+    let p = one_answer (take n bytes) w (drop n bytes) left d.1 in
     let e = p.0 in
     let f = p.1 in
     let all : bytes ≡ w ++ left = sym (take-append-drop n bytes) ∙ rw (e, f) refl in
@@ -97,7 +103,7 @@ byte_found size bytes n left fit h =
     let f = bind_ok (field 1 size bytes) (λ f. Ok (get_or f.0 0 0, f.1)) (n, left) h in
     let w = f.0.0 in
     let d = field_found 1 size bytes w f.0.1 fit f.1 in
-    let p = same_answer (Ok (get_or w 0 0, f.0.1)) (get_or w 0 0) n f.0.1 left refl f.2 in
+    let p = one_answer (get_or w 0 0) n f.0.1 left f.2 in
     let e = p.0 in
     let l = p.1 in
     record {
@@ -114,7 +120,7 @@ half_found size bytes n left fit h =
     let f = bind_ok (field 2 size bytes) (λ f. Ok (from_be_bytes w16 f.0, f.1)) (n, left) h in
     let w = f.0.0 in
     let d = field_found 2 size bytes w f.0.1 fit f.1 in
-    let p = same_answer (Ok (from_be_bytes w16 w, f.0.1)) (from_be_bytes w16 w) n f.0.1 left refl f.2 in
+    let p = one_answer (from_be_bytes w16 w) n f.0.1 left f.2 in
     let e = p.0 in
     let l = p.1 in
     record {

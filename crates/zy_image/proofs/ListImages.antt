@@ -1,5 +1,5 @@
 -- The lists of an image, with their counts in front.
-use Rattle.std.proofs.Common.{◌≡◌, ◌==◌, ℕ, ◌<◌, ◌≤◌, ◌||◌, false, nat_lt, List, [], ◌∷◌, ◌++◌, length, Option, Some, None, Ok, Err, refl, sym, ap, ◌∙◌, subst, append_assoc, arith, if◌then◌else◌}
+use Rattle.std.proofs.Common.{◌≡◌, ◌==◌, ℕ, ◌≤◌, ◌||◌, false, nat_lt, List, [], ◌∷◌, ◌++◌, length, Option, Some, None, Ok, Err, refl, ap, ◌∙◌, subst, append_assoc, arith, if◌then◌else◌}
 use Rattle.std.specs.List.{flat_map}
 use Rattle.std.specs.Int.{w16, to_be_bytes}
 use Rattle.zy_isa.specs.declared.row.Row.{Row}
@@ -11,16 +11,16 @@ use Rattle.zy_isa.specs.InstrWords.{word_of}
 use Rattle.zy_isa.specs.Programs.{prog_fault, IsProgram}
 use Rattle.zy_isa.specs.Rows.{Rising, RowsFit}
 use Rattle.zy_isa.specs.Scenario.{ArePrograms, AreNamed, opening_pages_for}
+use Rattle.zy_isa.proofs.ProgramLemmas.{is_some, no_prog_fault}
 use Rattle.zy_isa.proofs.ResultLemmas.{bind_ok, if_err, neither, not_over, over_not}
 use Rattle.zy_isa.proofs.RowLemmas.{Above}
 use Rattle.zy_image.specs.declared.faults.LoadFault.TheVariants as fault
 use Rattle.zy_image.specs.declared.head.Head.{Head}
 use Rattle.zy_image.specs.Image.{row_image, rows_image, program_image, programs_image, choice_image, choices_image}
 use Rattle.zy_image.specs.Reading.{byte, half, read_items, next_row, row_count, rows, next_instr, instr_count, instrs, judged, next_program, program_count, programs, next_choice, choice_count, choices}
-use Rattle.zy_image.proofs.FieldLemmas.{AreBytes, same_answer, byte_found, byte_gives, half_found, half_gives}
-use Rattle.zy_image.proofs.ListLemmas.{TookItem, items_found, AreRead, items_give}
+use Rattle.zy_image.proofs.FieldLemmas.{AreBytes, one_answer, byte_found, byte_gives, half_found, half_gives}
+use Rattle.zy_image.proofs.ListLemmas.{TookItem, list_found, AreRead, items_give}
 use Rattle.zy_image.proofs.PartLemmas.{InOrder, row_found, rows_read, AnyInstrs, instr_found, instrs_read, choice_found, choices_read}
-use borrow.Author.Tests.{tests}
 
 -- ---- rows
 
@@ -36,14 +36,13 @@ rows_found h size bytes rs left fit e =
     let f = bind_ok (row_count h size bytes) (λ n. read_items (next_row size) [] n.0 n.1) (rs, left) e in
     let g = bind_ok (half size bytes) _ f.0 f.1 in
     let t = if_err (nat_lt 256 g.0.0 || nat_lt h.pages (opening_pages_for h.cap g.0.0)) (Ok g.0) fault.RowCount f.0 g.2 in
-    let s = same_answer (Ok g.0) g.0.0 f.0.0 g.0.1 f.0.1 refl t.1 in
+    let s = one_answer g.0.0 f.0.0 g.0.1 f.0.1 t.1 in
     let n = half_found size bytes f.0.0 f.0.1 fit (g.1 ∙ t.1) in
     let limits = neither (nat_lt 256 g.0.0) (nat_lt h.pages (opening_pages_for h.cap g.0.0)) t.0 in
-    let i = items_found row_image (next_row size) InOrder (row_found size) f.0.0 [] f.0.1 rs left refl n.back f.2 in
-    let count : f.0.0 ≡ length rs = sym i.count ∙ ap length (sym i.all) in
-    let number : g.0.0 ≡ length rs = s.0 ∙ count in
+    let i = list_found row_image (next_row size) InOrder (row_found size) f.0.0 f.0.1 rs left refl n.back f.2 in
+    let number : g.0.0 ≡ length rs = s.0 ∙ i.count in
     record {
-      same = n.same ∙ ap (λ x. to_be_bytes w16 f.0.0 ++ x) (i.same ∙ ap (λ x. flat_map row_image x ++ left) (sym i.all)) ∙ ap (λ x. to_be_bytes w16 x ++ (flat_map row_image rs ++ left)) count;
+      same = n.same ∙ ap (λ x. to_be_bytes w16 f.0.0 ++ x) i.same ∙ ap (λ x. to_be_bytes w16 x ++ (flat_map row_image rs ++ left)) i.count;
       back = i.back;
       few = subst (λ x. x ≤ 256) number (not_over g.0.0 256 limits.0);
       few_pages = subst (λ x. opening_pages_for h.cap x ≤ h.pages) number (not_over (opening_pages_for h.cap g.0.0) h.pages limits.1);
@@ -83,21 +82,12 @@ program_found size ps bytes is left any fit h =
     let g = bind_ok (byte size bytes) _ f.0 f.1 in
     let m : g.0 ≡ f.0 = count_ok t g.0 f.0 g.2 in
     let n = byte_found size bytes f.0.0 f.0.1 fit (g.1 ∙ ap Ok m) in
-    let i = items_found word_of (next_instr t size) AnyInstrs (instr_found t size) f.0.0 [] f.0.1 is left tt n.back f.2 in
-    let count : f.0.0 ≡ length is = sym i.count ∙ ap length (sym i.all) in
+    let i = list_found word_of (next_instr t size) AnyInstrs (instr_found t size) f.0.0 f.0.1 is left tt n.back f.2 in
     record {
-      same = n.same ∙ ap (λ x. f.0.0 ∷ x) (i.same ∙ ap (λ x. flat_map word_of x ++ left) (sym i.all)) ∙ ap (λ x. x ∷ (flat_map word_of is ++ left)) count;
+      same = n.same ∙ ap (λ x. f.0.0 ∷ x) i.same ∙ ap (λ x. x ∷ (flat_map word_of is ++ left)) i.count;
       back = i.back;
       kept = tt;
     }
-
-no_prog_fault : (is : List Instr) → IsProgram is → prog_fault is ≡ None
-no_prog_fault is p =
-    let some : (length is == 0) ≡ false = is_some (length is) p.some in
-    rw (some, over_not (length is) 64 p.few, p.targets, p.last) refl
-  where
-    is_some : (n : ℕ) → 0 < n → (n == 0) ≡ false
-    is_some n h = grind (arith, tests)
 
 program_gives : (size : ℕ) (before : List (List Instr)) (is : List Instr) (left : List ℕ) → IsProgram is → next_program size before (program_image is ++ left) ≡ Ok (is, left)
 program_gives size before is left p =
@@ -107,9 +97,6 @@ program_gives size before is left p =
     rw (byte_gives size (length is) (flat_map word_of is ++ left)) (rw (some, over_not (length is) 64 p.few) refl) in
     let read : instrs t size (length is ∷ (flat_map word_of is ++ left)) ≡ Ok (is, left) = rw count (items_give word_of (next_instr t size) is [] left (instrs_read t size is [] p.values)) in
     rw read (rw (no_prog_fault is p) refl)
-  where
-    is_some : (n : ℕ) → 0 < n → (n == 0) ≡ false
-    is_some n h = grind (arith, tests)
 
 programs_read : (size : ℕ) (ps before : List (List Instr)) → ArePrograms ps → AreRead program_image (next_program size) before ps
 programs_read size [] before h = tt
@@ -125,14 +112,13 @@ programs_found size bytes ps left fit e =
     let f = bind_ok (program_count size bytes) (λ n. read_items (next_program size) [] n.0 n.1) (ps, left) e in
     let g = bind_ok (byte size bytes) _ f.0 f.1 in
     let t = if_err (nat_lt 64 g.0.0) (Ok g.0) fault.TxnCount f.0 g.2 in
-    let s = same_answer (Ok g.0) g.0.0 f.0.0 g.0.1 f.0.1 refl t.1 in
+    let s = one_answer g.0.0 f.0.0 g.0.1 f.0.1 t.1 in
     let n = byte_found size bytes f.0.0 f.0.1 fit (g.1 ∙ t.1) in
-    let i = items_found program_image (next_program size) AnyPrograms (program_found size) f.0.0 [] f.0.1 ps left tt n.back f.2 in
-    let count : f.0.0 ≡ length ps = sym i.count ∙ ap length (sym i.all) in
+    let i = list_found program_image (next_program size) AnyPrograms (program_found size) f.0.0 f.0.1 ps left tt n.back f.2 in
     record {
-      same = n.same ∙ ap (λ x. f.0.0 ∷ x) (i.same ∙ ap (λ x. flat_map program_image x ++ left) (sym i.all)) ∙ ap (λ x. x ∷ (flat_map program_image ps ++ left)) count;
+      same = n.same ∙ ap (λ x. f.0.0 ∷ x) i.same ∙ ap (λ x. x ∷ (flat_map program_image ps ++ left)) i.count;
       back = i.back;
-      few = subst (λ x. x ≤ 64) (s.0 ∙ count) (not_over g.0.0 64 t.0);
+      few = subst (λ x. x ≤ 64) (s.0 ∙ i.count) (not_over g.0.0 64 t.0);
     }
 
 pub programs_give : (size : ℕ) (ps : List (List Instr)) (left : List ℕ) → length ps ≤ 64 → ArePrograms ps → programs size (programs_image ps ++ left) ≡ Ok (ps, left)
@@ -153,13 +139,12 @@ choices_found k size bytes cs left fit e =
     let f = bind_ok (choice_count size bytes) (λ n. read_items (next_choice k size) [] n.0 n.1) (cs, left) e in
     let g = bind_ok (half size bytes) _ f.0 f.1 in
     let t = if_err (nat_lt 4096 g.0.0) (Ok g.0) fault.ChoiceCount f.0 g.2 in
-    let s = same_answer (Ok g.0) g.0.0 f.0.0 g.0.1 f.0.1 refl t.1 in
+    let s = one_answer g.0.0 f.0.0 g.0.1 f.0.1 t.1 in
     let n = half_found size bytes f.0.0 f.0.1 fit (g.1 ∙ t.1) in
-    let i = items_found choice_image (next_choice k size) (AreNamed k) (choice_found k size) f.0.0 [] f.0.1 cs left tt n.back f.2 in
-    let count : f.0.0 ≡ length cs = sym i.count ∙ ap length (sym i.all) in
+    let i = list_found choice_image (next_choice k size) (AreNamed k) (choice_found k size) f.0.0 f.0.1 cs left tt n.back f.2 in
     record {
-      same = n.same ∙ ap (λ x. to_be_bytes w16 f.0.0 ++ x) (i.same ∙ ap (λ x. flat_map choice_image x ++ left) (sym i.all)) ∙ ap (λ x. to_be_bytes w16 x ++ (flat_map choice_image cs ++ left)) count;
-      few = subst (λ x. x ≤ 4096) (s.0 ∙ count) (not_over g.0.0 4096 t.0);
+      same = n.same ∙ ap (λ x. to_be_bytes w16 f.0.0 ++ x) i.same ∙ ap (λ x. to_be_bytes w16 x ++ (flat_map choice_image cs ++ left)) i.count;
+      few = subst (λ x. x ≤ 4096) (s.0 ∙ i.count) (not_over g.0.0 4096 t.0);
       named = i.kept;
     }
 

@@ -4,7 +4,7 @@ use Rattle.std.specs.List.{flat_map}
 use Rattle.zy_isa.proofs.ResultLemmas.{bind_ok}
 use Rattle.zy_image.specs.declared.faults.LoadFault.{LoadFault}
 use Rattle.zy_image.specs.Reading.{Read, read_items}
-use Rattle.zy_image.proofs.FieldLemmas.{AreBytes, same_answer}
+use Rattle.zy_image.proofs.FieldLemmas.{AreBytes, one_answer}
 
 module _ {X : Type 0} (next : List X → List ℕ → Read X) (xs : List X) (bytes : List ℕ) where
   one_left : (k n : ℕ) → k < n → read_items next xs (n - k) bytes ≡ read_items next xs (suc (n - (k + 1))) bytes
@@ -35,11 +35,18 @@ pub record TookItem {X : Type 0} (image : X → List ℕ) (P : List X → Type 0
   pub back : AreBytes left
   pub kept : P (xs ++ x ∷ [])
 
+-- so many items were read, and these are all of them
+pub record TookList {X : Type 0} (image : X → List ℕ) (P : List X → Type 0) (n : ℕ) (bytes : List ℕ) (ys : List X) (left : List ℕ) : Type 0 where
+  pub count : n ≡ length ys
+  pub same : bytes ≡ flat_map image ys ++ left
+  pub back : AreBytes left
+  pub kept : P ys
+
 module _ {X : Type 0} (image : X → List ℕ) (next : List X → List ℕ → Read X) (P : List X → Type 0)
     (one : (xs : List X) (bytes : List ℕ) (x : X) (left : List ℕ) → P xs → AreBytes bytes → next xs bytes ≡ Ok (x, left) → TookItem image P xs bytes x left) where
   pub items_found : (n : ℕ) (xs : List X) (bytes : List ℕ) (ys : List X) (left : List ℕ) → P xs → AreBytes bytes → read_items next xs n bytes ≡ Ok (ys, left) → TookItems image P xs n bytes ys left
   items_found zero xs bytes ys left p fit h =
-      let s = same_answer (Ok (xs, bytes)) xs ys bytes left refl h in
+      let s = one_answer xs ys bytes left h in
       record { more = []; all = sym s.0 ∙ sym (append-nil xs); count = refl; same = s.1; back = subst AreBytes s.1 fit; kept = subst P s.0 p }
   items_found (suc n) xs bytes ys left p fit h =
       let d = bind_ok (next xs bytes) (λ x. read_items next (xs ++ x.0 ∷ []) n x.1) (ys, left) h in
@@ -52,6 +59,17 @@ module _ {X : Type 0} (image : X → List ℕ) (next : List X → List ℕ → R
         same = t.same ∙ ap (λ z. image d.0.0 ++ z) r.same ∙ sym (append_assoc (image d.0.0) (flat_map image r.more) left);
         back = r.back;
         kept = r.kept;
+      }
+
+  -- the same where nothing stands before them
+  pub list_found : (n : ℕ) (bytes : List ℕ) (ys : List X) (left : List ℕ) → P [] → AreBytes bytes → read_items next [] n bytes ≡ Ok (ys, left) → TookList image P n bytes ys left
+  list_found n bytes ys left p fit h =
+      let i = items_found n [] bytes ys left p fit h in
+      record {
+        count = sym i.count ∙ ap length (sym i.all);
+        same = i.same ∙ ap (λ x. flat_map image x ++ left) (sym i.all);
+        back = i.back;
+        kept = i.kept;
       }
 
 -- ---- an image is read as what it shows

@@ -25,7 +25,7 @@ use Rattle.zy_isa.proofs.WordLemmas.{decoded_found, decoded_only}
 use Rattle.zy_image.specs.declared.faults.LoadFault.TheVariants as fault
 use Rattle.zy_image.specs.Image.{row_image, choice_image, node_byte}
 use Rattle.zy_image.specs.Reading.{Read, field, row_at, next_row, next_instr, next_choice, named, plain, client_choice, node_choice, choice_at}
-use Rattle.zy_image.proofs.FieldLemmas.{AreBytes, byte_at, front_bytes, back_bytes, same_answer, field_found, field_gives}
+use Rattle.zy_image.proofs.FieldLemmas.{AreBytes, byte_at, front_bytes, back_bytes, one_answer, field_found, field_gives}
 use Rattle.zy_image.proofs.ListLemmas.{TookItem, AreRead}
 use borrow.Author.Tests.{tests}
 
@@ -48,7 +48,7 @@ row_found size rows bytes r left order fit h =
     let w = f.0.0 in
     let d = field_found 6 size bytes w f.0.1 fit f.1 in
     let t = if_err (is_low (row_at w).key (last_row rows)) (Ok (row_at w, f.0.1)) (fault.RowOrder (length rows)) (r, left) f.2 in
-    let s = same_answer (Ok (row_at w, f.0.1)) (row_at w) r f.0.1 left refl t.1 in
+    let s = one_answer (row_at w) r f.0.1 left t.1 in
     record {
       same = d.same ∙ ap (λ x. x ++ f.0.1) (sym (row_back w d.size d.front)) ∙ ap (λ x. row_image x ++ f.0.1) s.0 ∙ ap (λ x. row_image r ++ x) s.1;
       back = subst AreBytes s.1 d.back;
@@ -86,7 +86,7 @@ instr_found t size is bytes i left any fit h =
     let d = field_found 8 size bytes w f.0.1 fit f.1 in
     let g = bind_ok (ok_or (decoded w) (fault.Word t (length is))) _ (i, left) f.2 in
     let x = ok_or_ok (decoded w) (fault.Word t (length is)) g.0 g.1 in
-    let s = same_answer (Ok (g.0, f.0.1)) g.0 i f.0.1 left refl g.2 in
+    let s = one_answer g.0 i f.0.1 left g.2 in
     let is_word : IsWordOf w g.0 = subst (λ o. IfSome o (IsWordOf w)) x (decoded_found w d.size (byte_at w d.front)) in
     record {
       same = d.same ∙ ap (λ x. x ++ f.0.1) is_word.1 ∙ ap (λ x. word_of x ++ f.0.1) s.0 ∙ ap (λ x. word_of i ++ x) s.1;
@@ -167,7 +167,7 @@ choice_found count size cs bytes c left named fit h =
     let o = choice_at count (get_or w 0 0) (get_or w 1 0) (get_or w 2 0) in
     let g = bind_ok (ok_or o (fault.Choice (length cs))) _ (c, left) f.2 in
     let x = ok_or_ok o (fault.Choice (length cs)) g.0 g.1 in
-    let s = same_answer (Ok (g.0, f.0.1)) g.0 c f.0.1 left refl g.2 in
+    let s = one_answer g.0 c f.0.1 left g.2 in
     let is : IsOf count (get_or w 0 0) (get_or w 1 0) (get_or w 2 0) g.0 = subst (MayBe count (get_or w 0 0) (get_or w 1 0) (get_or w 2 0)) x (choice_is count (get_or w 0 0) (get_or w 1 0) (get_or w 2 0)) in
     record {
       same = d.same ∙ ap (λ x. x ++ f.0.1) (three w d.size ∙ sym is.0) ∙ ap (λ x. choice_image x ++ f.0.1) s.0 ∙ ap (λ x. choice_image c ++ x) s.1;

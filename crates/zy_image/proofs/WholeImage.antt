@@ -11,7 +11,7 @@ use Rattle.zy_image.specs.declared.faults.LoadFault.TheVariants as fault
 use Rattle.zy_image.specs.declared.head.Head.{Head}
 use Rattle.zy_image.specs.Image.{magic, rule_byte, rows_image, programs_image, choices_image, image_of, IsImage}
 use Rattle.zy_image.specs.Reading.{field, byte, half, magic_field, cap_field, pages_field, rule_at, rule_field, head_fields, rows, programs, choices, ended, of_parts, reading}
-use Rattle.zy_image.proofs.FieldLemmas.{AreBytes, same_value, same_answer, field_found, field_gives, byte_found, byte_gives, half_found, half_gives}
+use Rattle.zy_image.proofs.FieldLemmas.{AreBytes, one_value, one_answer, field_found, field_gives, byte_found, byte_gives, half_found, half_gives}
 use Rattle.zy_image.proofs.ListImages.{rows_found, rows_give, programs_found, programs_give, choices_found, choices_give}
 use borrow.Author.Tests.{tests}
 
@@ -41,7 +41,7 @@ cap_found : (size : ℕ) (bytes : List ℕ) (n : ℕ) (left : List ℕ) → AreB
 cap_found size bytes n left fit h =
     let f = bind_ok (byte size bytes) (λ n. if is_outside 2 16 n.0 then Err fault.Cap else Ok n) (n, left) h in
     let t = if_err (is_outside 2 16 f.0.0) (Ok f.0) fault.Cap (n, left) f.2 in
-    let s = same_answer (Ok f.0) f.0.0 n f.0.1 left refl t.1 in
+    let s = one_answer f.0.0 n f.0.1 left t.1 in
     let b = byte_found size bytes n left fit (f.1 ∙ t.1) in
     record { same_bytes = b.same; back = b.back; range = subst (λ x. (2 ≤ x) × (x ≤ 16)) s.0 (in_range f.0.0 2 16 t.0) }
 
@@ -49,7 +49,7 @@ pages_found : (size : ℕ) (bytes : List ℕ) (n : ℕ) (left : List ℕ) → Ar
 pages_found size bytes n left fit h =
     let f = bind_ok (half size bytes) (λ n. if is_outside 1 512 n.0 then Err fault.Pages else Ok n) (n, left) h in
     let t = if_err (is_outside 1 512 f.0.0) (Ok f.0) fault.Pages (n, left) f.2 in
-    let s = same_answer (Ok f.0) f.0.0 n f.0.1 left refl t.1 in
+    let s = one_answer f.0.0 n f.0.1 left t.1 in
     let b = half_found size bytes n left fit (f.1 ∙ t.1) in
     record { same_bytes = b.same; back = b.back; range = subst (λ x. (1 ≤ x) × (x ≤ 512)) s.0 (in_range f.0.0 1 512 t.0) }
 
@@ -75,7 +75,7 @@ rule_found size bytes r left fit h =
     let b = byte_found size bytes f.0.0 f.0.1 fit f.1 in
     let g = bind_ok (ok_or (rule_at f.0.0) fault.Rule) _ (r, left) f.2 in
     let x = ok_or_ok (rule_at f.0.0) fault.Rule g.0 g.1 in
-    let s = same_answer (Ok (g.0, f.0.1)) g.0 r f.0.1 left refl g.2 in
+    let s = one_answer g.0 r f.0.1 left g.2 in
     record { same_bytes = b.same ∙ ap (λ z. z ∷ f.0.1) (rule_is f.0.0 g.0 x ∙ ap rule_byte s.0) ∙ ap (λ z. rule_byte r ∷ z) s.1; back = subst AreBytes s.1 b.back }
 
 rule_gives : (size : ℕ) (r : Rule) (left : List ℕ) → rule_field size (rule_byte r ∷ left) ≡ Ok (r, left)
@@ -103,7 +103,7 @@ head_found size bytes h left fit e =
     let f = bind_ok (rule_field size d.0.1) _ (h, left) d.2 in
     let r = rule_found size d.0.1 f.0.0 f.0.1 p.back f.1 in
     let head : Head = record { cap = b.0.0; pages = d.0.0; rule = f.0.0 } in
-    let s = same_answer (Ok (head, f.0.1)) head h f.0.1 left refl f.2 in
+    let s = one_answer head h f.0.1 left f.2 in
     let all : bytes ≡ front_of head ++ f.0.1 =
     m.same_bytes ∙ ap (λ x. magic ++ x) (c.same_bytes ∙ ap (λ x. b.0.0 ∷ x) (p.same_bytes ∙ ap (λ x. to_be_bytes w16 d.0.0 ++ x) r.same_bytes)) in
     record {
@@ -147,7 +147,7 @@ image_found bytes s fit e =
     let last : d.0.0 ≡ f.0 = cc (g.1) in
     let none : d.0.1 ≡ [] = no_bytes d.0.1 g.0 in
     let t = of_parts a.0.0 b.0.0 c.0.0 d.0.0 in
-    let same : t ≡ s = ap (of_parts a.0.0 b.0.0 c.0.0) last ∙ same_value (Ok (of_parts a.0.0 b.0.0 c.0.0 f.0)) (of_parts a.0.0 b.0.0 c.0.0 f.0) s refl f.2 in
+    let same : t ≡ s = ap (of_parts a.0.0 b.0.0 c.0.0) last ∙ one_value (of_parts a.0.0 b.0.0 c.0.0 f.0) s f.2 in
     let all : bytes ≡ image_of t =
     h.same_bytes ∙ ap (λ x. front_of a.0.0 ++ x) (r.same ∙ ap (λ x. rows_image b.0.0 ++ x) (p.same ∙ ap (λ x. programs_image c.0.0 ++ x) (q.same ∙ ap (λ x. choices_image d.0.0 ++ x) none ∙ append-nil (choices_image d.0.0)))) in
     record {

@@ -1,5 +1,5 @@
 -- Reading an image field by field, up to the first check that fails. The size is that of the whole input.
-use Rattle.std.specs.Prelude.{◌≡◌, ◌==◌, ◌-◌, ◌⊎◌, ◌||◌, ℕ, zero, suc, nat_lt, List, [], ◌∷◌, ◌++◌, length, take, drop, get_or, Option, Some, None, Result, Ok, Err, ok_or, if◌then◌else◌}
+use Rattle.std.specs.Prelude.{◌≡◌, ◌==◌, ◌-◌, ◌⊎◌, ◌||◌, ℕ, zero, suc, nat_lt, List, [], ◌∷◌, ◌++◌, length, take, drop, get_or, Option, Some, None, Result, Ok, Err, ok_or, option_map, if◌then◌else◌}
 use Rattle.std.specs.Result.{result_err}
 use Rattle.std.specs.Int.{w16, w32, from_be_bytes}
 use Rattle.std.specs.Str.{bytes_eq}
@@ -18,7 +18,7 @@ use Rattle.zy_isa.specs.Results.{◌>>=◌}
 use Rattle.zy_isa.specs.Rows.{last_row, is_low}
 use Rattle.zy_isa.specs.Programs.{prog_fault}
 use Rattle.zy_isa.specs.WordFields.{decoded}
-use Rattle.zy_isa.specs.Scenario.{Scenario, is_outside, opening_pages_for}
+use Rattle.zy_isa.specs.Scenario.{Scenario, is_outside, misnamed_choice, opening_pages_for}
 use Rattle.zy_image.specs.declared.faults.LoadFault.{LoadFault}
 use Rattle.zy_image.specs.declared.faults.LoadFault.TheVariants as fault
 use Rattle.zy_image.specs.declared.head.Head.{Head}
@@ -200,3 +200,16 @@ GivesLeft (Err e) read = (e ≡ fault.Memory) ⊎ (read ≡ Err e)
 abbrev pub GivesScenario : Result Scenario LoadFault → Scenario → Type 0
 GivesScenario (Ok t) s = t ≡ s
 GivesScenario (Err e) s = e ≡ fault.Memory
+
+-- ---- other choices
+
+-- the first fault of choices among so many transactions
+abbrev pub choices_fault : ℕ → List Choice → Option LoadFault
+choices_fault count cs =
+    if nat_lt 4096 (length cs) then Some fault.ChoiceCount else
+    option_map fault.Choice (misnamed_choice count cs)
+
+-- the answer is the scenario with these choices in place of its own, or their first fault
+abbrev pub HasChoices : Result Scenario LoadFault → Scenario → List Choice → Type 0
+HasChoices (Ok t) s cs = (choices_fault (length s.programs) cs ≡ None) × (t ≡ record s { choices = cs })
+HasChoices (Err e) s cs = choices_fault (length s.programs) cs ≡ Some e

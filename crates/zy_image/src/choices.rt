@@ -1,7 +1,7 @@
 //! The choices of an image.
 ghost use Rattle.std.specs.Prelude.{◌≡◌, ◌⊎◌, Ok, Err, MatchResult};
 ghost use Rattle.zy_image.specs.declared.faults.LoadFault.TheVariants.{Memory};
-ghost use Rattle.zy_image.specs.Reading.{Gives, choice_at as choice_at_spec, choice_count as choice_count_spec, choices as choices_spec, client_choice as client_choice_spec, named as named_spec, next_choice, node_choice as node_choice_spec, plain as plain_spec};
+ghost use Rattle.zy_image.specs.Reading.{Gives, HasChoices, choice_at as choice_at_spec, choice_count as choice_count_spec, choices as choices_spec, client_choice as client_choice_spec, named as named_spec, next_choice, node_choice as node_choice_spec, plain as plain_spec};
 
 use crate::faults::LoadFault;
 use crate::fields::{field, half};
@@ -9,7 +9,7 @@ use crate::lists::{Items, read_items};
 use std::alloc::Global;
 use zy_isa::choice::Choice;
 use zy_isa::node::Node;
-use zy_isa::scenario::MAX_CHOICES;
+use zy_isa::scenario::{MAX_CHOICES, Scenario, ScenarioFault};
 
 /// A choice with a transaction, of which there are `count`.
 fn named(count: usize, txn: u8, choice: Choice) -> Option<Choice>
@@ -114,4 +114,16 @@ pub fn choices(
 {
     let (number, left) = choice_count(size, bytes)?;
     read_items(alloc, &ChoiceItems { count, size }, number, left)
+}
+
+/// The scenario with these choices in place of its own. Both are dropped where the choices are refused. It takes no memory.
+pub fn with_choices(scenario: Scenario, choices: Vec<Choice>) -> Result<Scenario, LoadFault>
+    ensures { HasChoices result scenario choices.items }
+{
+    match scenario.with_choices(choices) {
+        Ok(scenario) => Ok(scenario),
+        Err(ScenarioFault::ChoiceCount) => Err(LoadFault::ChoiceCount),
+        Err(ScenarioFault::Choice(i)) => Err(LoadFault::Choice(usize::from(i))),
+        Err(_) => unreachable!(),
+    }
 }

@@ -18,10 +18,10 @@ pub enum LoadFault {
     #[error("the image ends after {0} bytes, and the input goes on")]
     Trailing(usize),
     /// 4: a page would have room for too few or too many rows.
-    #[error("cap is 2 to 16")]
+    #[error("a page takes 2 to 16 rows")]
     Cap,
     /// 5: there would be no page, or too many.
-    #[error("pages is 1 to 512")]
+    #[error("there are 1 to 512 pages")]
     Pages,
     /// 6: there is no such rule.
     #[error("the rule is 0 (held) or 1 (loose)")]

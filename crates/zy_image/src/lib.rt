@@ -1,4 +1,4 @@
-//! Scenarios as images: bytes that a program reads quickly, each field at its own place.
+//! Scenarios as images: bytes that a program reads quickly, one field behind the other.
 #![tactic(auto)]
 
 mod choices;
@@ -7,7 +7,9 @@ mod fields;
 mod head;
 mod lists;
 pub mod load;
+pub mod places;
 mod programs;
+pub mod refusal;
 mod rows;
 pub mod save;
 #[cfg(test)]

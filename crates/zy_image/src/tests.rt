@@ -1,5 +1,6 @@
 //! A worked image and the faults of inputs near it, told from the page on the formats.
 
+use crate::choices::with_choices;
 use crate::faults::LoadFault;
 use crate::load::load;
 use crate::save::save;
@@ -150,5 +151,27 @@ fn a_byte_less_or_more_has_its_fault(rt: HostRuntime) -> Result<(), Fail> {
         fault_of(rt.alloc(), longer.as_slice()),
         Some(LoadFault::Trailing(47))
     );
+    Ok(())
+}
+
+/// The fault of these choices in the worked scenario.
+fn fault_of_choices(alloc: Global, choices: &[Choice]) -> Result<Option<LoadFault>, Fail> {
+    let scenario = load(alloc, IMAGE.as_slice())?;
+    Ok(with_choices(scenario, choices.to_vec(alloc)?).err())
+}
+
+#[test]
+fn a_loaded_scenario_takes_other_choices(rt: HostRuntime) -> Result<(), Fail> {
+    let others = [Choice::Start, Choice::Take(Node::B)];
+    let scenario = load(rt.alloc(), IMAGE.as_slice())?;
+    let other = with_choices(scenario, others.as_slice().to_vec(rt.alloc())?)?;
+    assert_eq!(rt; other.choices(), others.as_slice());
+    let strange = [Choice::Start, Choice::Begin(1)];
+    for (choices, fault) in [
+        ([Choice::Start; 4097].as_slice(), LoadFault::ChoiceCount),
+        (strange.as_slice(), LoadFault::Choice(1)),
+    ] {
+        assert_eq!(rt; fault_of_choices(rt.alloc(), choices)?, Some(fault));
+    }
     Ok(())
 }

@@ -1,14 +1,15 @@
 -- What the tests of a scenario show.
-use Rattle.std.proofs.Common.{◌≡◌, ◌+◌, ◌≤◌, ℕ, List, [], ◌∷◌, ◌++◌, Bool, true, false, cond, None, refl, arith, length, inl, inr}
-use Rattle.std.specs.Prelude.{not, position}
+use Rattle.std.proofs.Common.{◌≡◌, ◌+◌, ◌≤◌, ℕ, List, [], ◌∷◌, ◌++◌, Bool, true, false, cond, Option, None, Some, nat_lt, if◌then◌else◌, refl, arith, length, inl, inr}
+use Rattle.std.specs.Prelude.{not, position, option_map}
 use Rattle.std.specs.List.{position_or_len}
 use Rattle.std.proofs.lemmas.Bool.{cases_lt, lt-ltb, le-ltb}
 use Rattle.zy_isa.specs.declared.row.Row.{Row}
 use Rattle.zy_isa.specs.declared.choice.Choice.{Choice}
+use Rattle.zy_isa.specs.declared.scenario.ScenarioFault.TheVariants as fault
 use Rattle.zy_isa.specs.Rows.{Rising, misplaced_row, misplaced_after}
 use Rattle.zy_isa.specs.Choices.{names_below}
-use Rattle.zy_isa.specs.Scenario.{Scenario, misnamed_choice, AreNamed, opening_pages_for, scenario_fault}
-use Rattle.zy_isa.proofs.ResultLemmas.{out_of_neither, over_not}
+use Rattle.zy_isa.specs.Scenario.{Scenario, misnamed_choice, choices_fault, AreNamed, opening_pages_for, scenario_fault}
+use Rattle.zy_isa.proofs.ResultLemmas.{not_over, out_of_neither, over_not}
 
 rising_after : (last i : ℕ) (rows : List Row) → misplaced_after last i rows ≡ None → Rising (last + 1) rows
 rising_after last i [] e = tt
@@ -22,6 +23,10 @@ rising_after last i (r ∷ rows) e =
 pub rising : (rows : List Row) → misplaced_row rows ≡ None → Rising 0 rows
 rising [] e = tt
 rising (r ∷ rows) e = (omega arith, rising_after r.key 1 rows e)
+
+no_option : {X Y : Type 0} (f : X → Y) (o : Option X) → option_map f o ≡ None → o ≡ None
+no_option f None h = refl
+no_option f (Some x) h = cc
 
 none_passes : {X : Type 0} (p : X → Bool) (xs : List X) → position p xs ≡ None → length xs ≤ position_or_len p xs
 none_passes p xs e =
@@ -42,6 +47,17 @@ named_each count (c ∷ cs) h = named_first count c cs (names_below count c) (na
 -- choices of which none is misnamed name transactions
 pub are_named : (count : ℕ) (choices : List Choice) → misnamed_choice count choices ≡ None → AreNamed count choices
 are_named count choices e = named_each count choices (none_passes _ choices e)
+
+fit_if : (count : ℕ) (cs : List Choice) (b : Bool) → nat_lt 4096 (length cs) ≡ b → (if b then Some fault.ChoiceCount else option_map fault.Choice (misnamed_choice count cs)) ≡ None
+    → (length cs ≤ 4096) × (misnamed_choice count cs ≡ None)
+fit_if count cs true e h = cc
+fit_if count cs false e h = (not_over (length cs) 4096 e, no_option fault.Choice (misnamed_choice count cs) h)
+
+-- choices without a fault are few, and name transactions
+pub fit_choices : (count : ℕ) (cs : List Choice) → choices_fault count cs ≡ None → (length cs ≤ 4096) × AreNamed count cs
+fit_choices count cs h =
+    let f = fit_if count cs (nat_lt 4096 (length cs)) refl h in
+    (f.0, are_named count cs f.1)
 
 all_named : (count : ℕ) (cs : List Choice) → AreNamed count cs → position_or_len (λ c. not (names_below count c)) cs ≡ length cs
 all_named count [] h = refl

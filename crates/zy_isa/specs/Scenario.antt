@@ -40,6 +40,12 @@ is_outside least most n = nat_lt n least || nat_lt most n
 abbrev pub has_many_rows : Scenario → Bool
 has_many_rows s = nat_lt 256 (length s.rows) || nat_lt s.pages (opening_pages_for s.cap (length s.rows))
 
+-- the first fault of choices among so many transactions
+abbrev pub choices_fault : ℕ → List Choice → Option ScenarioFault
+choices_fault count cs =
+    if nat_lt 4096 (length cs) then Some fault.ChoiceCount else
+    option_map fault.Choice (misnamed_choice count cs)
+
 -- the first fault of a scenario whose programs are verified
 abbrev pub scenario_fault : Scenario → Option ScenarioFault
 scenario_fault s =
@@ -49,8 +55,7 @@ scenario_fault s =
     if has_many_rows s then Some fault.RowCount else
     option_or (option_map fault.RowOrder (misplaced_row s.rows)) (
     if nat_lt 64 (length s.programs) then Some fault.TxnCount else
-    if nat_lt 4096 (length s.choices) then Some fault.ChoiceCount else
-    option_map fault.Choice (misnamed_choice (length s.programs) s.choices))
+    choices_fault (length s.programs) s.choices)
 
 abbrev pub ArePrograms : List (List Instr) → Type 0
 ArePrograms [] = Unit {0}
@@ -81,3 +86,8 @@ pub record IsScenario (s : Scenario) : Type 0 where
 abbrev pub IsTested : Result Scenario ScenarioFault → Scenario → Type 0
 IsTested (Ok t) s = (scenario_fault s ≡ None) × (t ≡ s)
 IsTested (Err e) s = scenario_fault s ≡ Some e
+
+-- the answer is the scenario with these choices in place of its own, or their first fault
+abbrev pub HasChoices : Result Scenario ScenarioFault → Scenario → List Choice → Type 0
+HasChoices (Ok t) s cs = (choices_fault (length s.programs) cs ≡ None) × (t ≡ record s { choices = cs })
+HasChoices (Err e) s cs = choices_fault (length s.programs) cs ≡ Some e

@@ -1,7 +1,7 @@
 //! Scenarios that are within the limits.
 ghost use Rattle.std.specs.Prelude.{◌≡◌, ◌<◌, ◌≤◌, IfOk, IfSome, length};
 ghost use Rattle.zy_isa.specs.Rows.{RowsFit, misplaced_row as misplaced_row_spec};
-ghost use Rattle.zy_isa.specs.Scenario.{IsScenario, IsTested, ArePrograms, misnamed_choice as misnamed_choice_spec, opening_rows as opening_rows_spec, opening_pages_for as opening_pages_for_spec};
+ghost use Rattle.zy_isa.specs.Scenario.{IsScenario, IsTested, ArePrograms, HasChoices, choices_fault as choices_fault_spec, misnamed_choice as misnamed_choice_spec, opening_rows as opening_rows_spec, opening_pages_for as opening_pages_for_spec};
 
 use crate::choice::Choice;
 use crate::program::Program;
@@ -119,6 +119,17 @@ fn misnamed_choice(count: usize, choices: &[Choice]) -> Option<usize>
     choices.iter().position(|choice| !choice.names_below(count))
 }
 
+/// The first fault of choices among so many transactions.
+fn choices_fault(count: usize, choices: &[Choice]) -> Option<ScenarioFault>
+    ensures { result ≡ choices_fault_spec count choices.now }
+{
+    if choices.len() > MAX_CHOICES {
+        return Some(ScenarioFault::ChoiceCount);
+    }
+    let i = misnamed_choice(count, choices)?;
+    Some(ScenarioFault::Choice(i as u16))
+}
+
 /// Reads each row, which shows that its numbers fit.
 fn have_rows(rows: &[Row])
     ensures { RowsFit rows.now }
@@ -178,11 +189,8 @@ impl Scenario {
         if programs.len() > MAX_TXNS {
             return Err(ScenarioFault::TxnCount);
         }
-        if choices.len() > MAX_CHOICES {
-            return Err(ScenarioFault::ChoiceCount);
-        }
-        if let Some(i) = misnamed_choice(programs.len(), choices.as_slice()) {
-            return Err(ScenarioFault::Choice(i as u16));
+        if let Some(fault) = choices_fault(programs.len(), choices.as_slice()) {
+            return Err(fault);
         }
         have_rows(rows.as_slice());
         are_programs(programs.as_slice());
@@ -195,6 +203,16 @@ impl Scenario {
             programs,
             choices,
         })
+    }
+
+    /// The same scenario with these choices in place of its own. Both are dropped where they are refused. It takes no memory.
+    pub fn with_choices(self, choices: Vec<Choice>) -> Result<Scenario, ScenarioFault>
+        ensures { HasChoices result self choices.items }
+    {
+        if let Some(fault) = choices_fault(self.programs.len(), choices.as_slice()) {
+            return Err(fault);
+        }
+        Ok(Scenario { choices, ..self })
     }
 
     /// The version, 1.

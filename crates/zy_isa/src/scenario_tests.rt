@@ -179,6 +179,37 @@ fn a_scenario_out_of_its_limits_is_refused(rt: HostRuntime) {
     }
 }
 
+/// The sample with these choices in place of its own, or why they are refused.
+fn chosen(alloc: Global, choices: &[Choice]) -> Option<Result<Scenario, ScenarioFault>> {
+    let scenario = sample(alloc)?;
+    let choices = choices.to_vec(alloc).ok()?;
+    Some(scenario.with_choices(choices))
+}
+
+/// The fault of these choices in the sample.
+fn fault_of_choices(alloc: Global, choices: &[Choice]) -> Option<ScenarioFault> {
+    chosen(alloc, choices)?.err()
+}
+
+#[test]
+fn a_scenario_takes_other_choices(rt: HostRuntime) {
+    let others = [Choice::Kill(0), Choice::Start];
+    let kept = match chosen(rt.alloc(), others.as_slice()) {
+        Some(Ok(scenario)) => {
+            scenario.choices() == others.as_slice() && scenario.rows() == ROWS.as_slice()
+        }
+        _ => false,
+    };
+    assert!(rt; kept);
+    let strange = [Choice::Begin(1), Choice::Run(Node::B, 2)];
+    for (choices, fault) in [
+        ([Choice::Start; 4097].as_slice(), ScenarioFault::ChoiceCount),
+        (strange.as_slice(), ScenarioFault::Choice(1)),
+    ] {
+        assert_eq!(rt; fault_of_choices(rt.alloc(), choices), Some(fault));
+    }
+}
+
 #[test]
 fn faults_are_told_in_words(rt: HostRuntime) -> Result<(), Fail> {
     let told = format!(in rt.alloc(); "{}; {}", ProgFault::Empty, ProgFault::Target(3))?;

@@ -1,12 +1,13 @@
-use Rattle.std.proofs.Common.{◌≡◌, ◌∙◌, None, ap, subst, sym, arith, length}
+use Rattle.std.proofs.Common.{◌∙◌, ap, subst, sym, arith, length, rules}
 use Rattle.zy_isa.specs.Rows.{RowsFit, misplaced_row}
-use Rattle.zy_isa.specs.Scenario.{ArePrograms, misnamed_choice, opening_pages_for}
-use Rattle.zy_isa.proofs.ScenarioLemmas.{rising, are_named}
+use Rattle.zy_isa.specs.Scenario.{ArePrograms, opening_pages_for}
+use Rattle.zy_isa.proofs.ScenarioLemmas.{fit_choices, rising}
 use Rattle.zy_isa.proofs.scenario.Scenario.new.Goals as goal
 
 pub invariant_of-result : goal.invariant_of-result
 invariant_of-result c =
     let rows = c.args.rows.items in
+    let named = fit_choices (length c.args.programs.items) c.args.choices.items (search rules) in
     record {
       version = omega arith;
       cap_least = omega arith;
@@ -19,10 +20,6 @@ invariant_of-result c =
       rows_fit = subst RowsFit c.as_slice-3.ensures.value c.have_rows.ensures;
       few_programs = omega arith;
       programs = subst ArePrograms c.as_slice-4.ensures.value c.are_programs.ensures;
-      few_choices = omega arith;
-      choices_named =
-          let count = c.len-4.ensures ∙ sym c.as_slice-4.ensures.len ∙ ap length c.as_slice-4.ensures.value in
-          are_named (length c.args.programs.items) c.args.choices.items
-          (subst (λ n. misnamed_choice n c.args.choices.items ≡ None) count
-          (sym (c.in_default-misnamed_choice.ensures.value ∙ ap (misnamed_choice c.len-4.result) c.as_slice-2.ensures.value)));
+      few_choices = named.0;
+      choices_named = named.1;
     }

@@ -1,0 +1,193 @@
+//! What a person wants to know of a fault: where in the image it stands, and what stands there.
+ghost use Rattle.std.specs.Prelude.{◌≡◌};
+
+use crate::faults::LoadFault;
+use crate::places::{Field, byte_at, bytes_at, cut_field, half_at, instr_count, txn_count};
+use std::fmt;
+use zy_isa::program::ProgFault;
+use zy_isa::scenario::opening_rows;
+
+/// What stands at the place of a fault.
+#[derive(Clone, Copy, Debug, PartialEq, Eq)]
+pub enum Found {
+    /// Nothing that the fault does not tell.
+    Nothing,
+    /// Another beginning.
+    Beginning([u8; 4]),
+    /// This field, of which so many bytes are there.
+    Cut {
+        field: Field,
+        there: usize,
+    },
+    /// So many bytes more.
+    More(usize),
+    /// This number.
+    Number(usize),
+    /// So many rows, of which a page opens with `each`.
+    Rows {
+        rows: usize,
+        each: usize,
+        pages: usize,
+    },
+    /// This key behind the last one.
+    Keys {
+        key: usize,
+        last: usize,
+    },
+    /// This target, where there are so many instructions.
+    Target {
+        target: u32,
+        count: usize,
+    },
+    /// Another last word.
+    LastWord([u8; 8]),
+    /// This word.
+    Word([u8; 8]),
+    /// This choice, where there are so many transactions.
+    Choice {
+        bytes: [u8; 3],
+        txns: usize,
+    },
+}
+
+impl fmt::Display for Found {
+    fn fmt<W: fmt::Write>(&self, f: &mut fmt::Formatter<W>) -> fmt::Result {
+        match self {
+            Found::Nothing => Ok(()),
+            Found::Beginning(bytes) => tell_bytes(f, ", not with", bytes.as_slice()),
+            Found::Cut { field, there } => {
+                let size = field.size();
+                write!(f, ": {field} takes {size}, of which {there} are there")
+            }
+            Found::More(count) => write!(f, " for {count} more"),
+            Found::Number(number) => write!(f, ", not {number}"),
+            Found::Rows { rows, each, pages } => {
+                write!(
+                    f,
+                    ": there are {rows}, {each} on each page, and pages is {pages}"
+                )
+            }
+            Found::Keys { key, last } => write!(f, ": {key} comes behind {last}"),
+            Found::Target { target, count } => {
+                write!(
+                    f,
+                    ": it is {target}, and the number of instructions is {count}"
+                )
+            }
+            Found::LastWord(word) => tell_bytes(f, ", not with", word.as_slice()),
+            Found::Word(word) => tell_bytes(f, ":", word.as_slice()),
+            Found::Choice { bytes, txns } => {
+                tell_bytes(f, ":", bytes.as_slice())?;
+                write!(f, ", and the number of transactions is {txns}")
+            }
+        }
+    }
+}
+
+/// Tells some bytes, in hexadecimal digits.
+fn tell_bytes<W: fmt::Write>(f: &mut fmt::Formatter<W>, before: &str, bytes: &[u8]) -> fmt::Result {
+    f.write_str(before)?;
+    for byte in bytes {
+        write!(f, " {byte:02x}")?;
+    }
+    Ok(())
+}
+
+/// A fault of an image, its place there, and what stands at it.
+#[derive(Clone, Copy, Debug, PartialEq, Eq)]
+pub struct ImageRefusal {
+    pub fault: LoadFault,
+    pub at: usize,
+    pub found: Found,
+}
+
+impl ImageRefusal {
+    /// A fault of these bytes.
+    pub fn of(fault: LoadFault, bytes: &[u8]) -> ImageRefusal
+        ensures { result.fault ≡ fault }
+    {
+        let at = place(fault, bytes);
+        let found = found_at(fault, bytes, at);
+        ImageRefusal { fault, at, found }
+    }
+}
+
+impl fmt::Display for ImageRefusal {
+    fn fmt<W: fmt::Write>(&self, f: &mut fmt::Formatter<W>) -> fmt::Result {
+        write!(f, "at offset {}: {}{}", self.at, self.fault, self.found)
+    }
+}
+
+/// The field that the fault of a program is told of.
+fn program_field(txn: usize, fault: ProgFault, bytes: &[u8]) -> Field {
+    match fault {
+        ProgFault::Target(instr) => Field::Word(txn, usize::from(instr)),
+        ProgFault::NoEnd => Field::Word(txn, instr_count(bytes, txn).saturating_sub(1)),
+        _ => Field::InstrCount(txn),
+    }
+}
+
+/// Where in these bytes a fault of theirs stands.
+fn place(fault: LoadFault, bytes: &[u8]) -> usize {
+    let field = match fault {
+        LoadFault::Magic | LoadFault::Memory => Field::Magic,
+        LoadFault::Truncated(_) => cut_field(bytes),
+        LoadFault::Trailing(size) => return size,
+        LoadFault::Cap => Field::Cap,
+        LoadFault::Pages => Field::Pages,
+        LoadFault::Rule => Field::Rule,
+        LoadFault::RowCount => Field::RowCount,
+        LoadFault::RowOrder(row) => Field::Row(row),
+        LoadFault::TxnCount => Field::TxnCount,
+        LoadFault::Program(txn, fault) => program_field(txn, fault, bytes),
+        LoadFault::Word(txn, instr) => Field::Word(txn, instr),
+        LoadFault::ChoiceCount => Field::ChoiceCount,
+        LoadFault::Choice(choice) => Field::Choice(choice),
+    };
+    field.start(bytes)
+}
+
+/// What a program has at the place of its fault.
+fn program_found_at(txn: usize, fault: ProgFault, bytes: &[u8], at: usize) -> Found {
+    match fault {
+        ProgFault::TooLong => Found::Number(byte_at(bytes, at)),
+        ProgFault::Target(_) => Found::Target {
+            target: u32::from_be_bytes(bytes_at(bytes, at.saturating_add(4))),
+            count: instr_count(bytes, txn),
+        },
+        ProgFault::NoEnd => Found::LastWord(bytes_at(bytes, at)),
+        ProgFault::Empty | ProgFault::Memory => Found::Nothing,
+    }
+}
+
+/// What stands in these bytes at the place of a fault of theirs.
+fn found_at(fault: LoadFault, bytes: &[u8], at: usize) -> Found {
+    match fault {
+        LoadFault::Magic => Found::Beginning(bytes_at(bytes, at)),
+        LoadFault::Truncated(size) => Found::Cut {
+            field: cut_field(bytes),
+            there: size.saturating_sub(at),
+        },
+        LoadFault::Trailing(size) => Found::More(bytes.len().saturating_sub(size)),
+        LoadFault::Cap | LoadFault::Rule | LoadFault::TxnCount => {
+            Found::Number(byte_at(bytes, at))
+        }
+        LoadFault::Pages | LoadFault::ChoiceCount => Found::Number(half_at(bytes, at)),
+        LoadFault::RowCount => Found::Rows {
+            rows: half_at(bytes, at),
+            each: opening_rows(bytes_at::<1>(bytes, 4)[0]),
+            pages: half_at(bytes, 5),
+        },
+        LoadFault::RowOrder(_) => Found::Keys {
+            key: half_at(bytes, at),
+            last: half_at(bytes, at.saturating_sub(6)),
+        },
+        LoadFault::Program(txn, fault) => program_found_at(txn, fault, bytes, at),
+        LoadFault::Word(_, _) => Found::Word(bytes_at(bytes, at)),
+        LoadFault::Choice(_) => Found::Choice {
+            bytes: bytes_at(bytes, at),
+            txns: txn_count(bytes),
+        },
+        LoadFault::Memory => Found::Nothing,
+    }
+}
