@@ -20,20 +20,6 @@ use Rattle.zy_audit.specs.Listing.{listing}
 use Rattle.zy_audit.specs.SameMaps.{is_serial}
 use Rattle.zy_engine.specs.Run.{listing_run}
 
-choices-entries : (sc : Scenario) (s : State) (cs : List Choice) → choices_of (entries sc s cs) ≡ cs
-choices-entries sc s [] = refl
-choices-entries sc s (c ∷ cs) = ap (λ l. c ∷ l) (choices-entries sc (step sc c s).after cs)
-
--- the machine that has made all choices
-abbrev pub whole_run : Scenario → History
-whole_run sc = record { scenario = sc; state = play sc (opening sc) sc.choices; entries = entries sc (opening sc) sc.choices }
-
--- its listing is that of the scenario
-pub listing-whole : (sc : Scenario) (h : History) → h ≡ whole_run sc → listing h.scenario (choices_of h.entries) (is_serial h.scenario h.state) ≡ listing_run sc
-listing-whole sc h made =
-    ap (λ (x : History). listing x.scenario (choices_of x.entries) (is_serial x.scenario x.state)) made
-    ∙ ap (λ cs. listing sc cs (is_serial sc (play sc (opening sc) sc.choices))) (choices-entries sc (opening sc) sc.choices)
-
 -- where nothing went out, nothing but a front did
 pub WroteFront-nothing : (a : Option (List ℕ)) (text : List ℕ) → WroteFront a a text
 WroteFront-nothing a text = ([], text, refl, Appends-nil a)

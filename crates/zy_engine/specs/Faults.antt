@@ -11,6 +11,8 @@ use Rattle.zy_asm.specs.declared.faults.Refusal.{Refusal}
 use Rattle.zy_asm.specs.Reasons.{kind_of}
 use Rattle.zy_image.specs.declared.faults.LoadFault.{LoadFault}
 use Rattle.zy_image.specs.declared.faults.LoadFault.TheVariants as loading
+use Rattle.zy_check.specs.declared.faults.CheckFault.{CheckFault}
+use Rattle.zy_check.specs.declared.faults.CheckFault.TheVariants as checking
 use Rattle.zy_engine.specs.declared.faults.BenchFault.{BenchFault}
 use Rattle.zy_engine.specs.declared.faults.BenchFault.TheVariants.{Input, Image, TooLong, Read, Write, Memory}
 
@@ -29,6 +31,12 @@ of_refusal r = of_kind (kind_of r.reason) r
 abbrev pub of_loading : LoadFault → BenchFault
 of_loading loading.Memory = Memory
 of_loading f = Image f
+
+abbrev pub of_checking : CheckFault → BenchFault
+of_checking (checking.Scenario r) = Input r
+of_checking checking.Read = Read
+of_checking checking.Memory = Memory
+of_checking checking.TooLong = TooLong
 
 abbrev pub of_writing : TextFault → BenchFault
 of_writing writing.Write = Write
