@@ -16,21 +16,23 @@ impl<'a> Excerpt<'a> {
     pub fn of(input: &'a [u8], number: usize) -> Option<Excerpt<'a>> {
         let mut rest = input;
         for _ in 1..number {
-            rest = below(rest);
+            let (_, below) = first_line(rest);
+            rest = below;
         }
-        if rest.is_empty() {
-            return None;
+        let (line, _) = first_line(rest);
+        if line.is_empty() {
+            None
+        } else {
+            Some(Excerpt { line })
         }
-        let (line, _) = rest.split_at(rest.len() - below(rest).len());
-        Some(Excerpt { line })
     }
 }
 
-/// What follows the first line feed.
-fn below(text: &[u8]) -> &[u8] {
+/// The first line of a text with its end, and what follows it.
+fn first_line(text: &[u8]) -> (&[u8], &[u8]) {
     match text.iter().position(|byte| *byte == b'\n') {
-        Some(end) => &text[end + 1..],
-        None => &[],
+        Some(end) => text.split_at(end + 1),
+        None => (text, &[]),
     }
 }
 
