@@ -10,7 +10,7 @@ use clap::error::ErrorKind;
 use command_line::{Conversion, Request, command, request_of};
 use excerpt::Excerpt;
 use std::io;
-use std::io::BufWriter;
+use std::io::{BufWriter, Write};
 use std::process::ExitCode;
 use zy_check::verdict::Verdict;
 use zy_engine::checking::check_bytes;
@@ -29,6 +29,16 @@ const COMMAND_LINE: u8 = 2;
 /// The exit status where the input is not the listing that it should be.
 const NOT_TABLE: u8 = 4;
 
+/// Passes on what is kept back for standard output.
+fn flush<W: Write>(sink: &mut CountingWriter<W>) -> Result<(), BenchFault>
+    requires { sink.old.1 < u64.MAX }
+{
+    match sink.flush() {
+        Ok(()) => Ok(()),
+        Err(_) => Err(BenchFault::Write),
+    }
+}
+
 /// Runs an engine from standard input to standard output, and gives the exit status.
 fn convert<R: Print + Input + AllocGlobal>(
     rt: &R,
@@ -44,18 +54,21 @@ fn convert<R: Print + Input + AllocGlobal>(
         Conversion::Asm => asm_bytes(rt.alloc(), &mut source, &mut sink)?,
         Conversion::Dis => dis_bytes(rt.alloc(), &mut source, &mut sink)?,
     }
-    match sink.flush() {
-        Ok(()) => Ok(DONE),
-        Err(_) => Err(BenchFault::Write),
-    }
+    flush(&mut sink)?;
+    Ok(DONE)
 }
 
 /// Checks the listing on standard input, and gives the exit status. The input is kept, so that its line can be shown.
 fn check<R: Print + Eprint + Input + AllocGlobal>(rt: &R) -> Result<u8, BenchFault> {
+    let Ok(buffer) = BufWriter::new(rt.alloc(), io::writer(rt)) else {
+        return Err(BenchFault::Memory);
+    };
     let input = read_all(rt.alloc(), &mut CountingReader::new(rt.reader()))?;
     let mut source = SliceSource::new(input.as_slice());
-    let mut sink = CountingWriter::new(io::writer(rt));
-    match check_bytes(rt.alloc(), &mut source, &mut sink)? {
+    let mut sink = CountingWriter::new(buffer);
+    let verdict = check_bytes(rt.alloc(), &mut source, &mut sink)?;
+    flush(&mut sink)?;
+    match verdict {
         Verdict::Table => Ok(DONE),
         Verdict::NotTable(line) => {
             show(rt, input.as_slice(), line);
