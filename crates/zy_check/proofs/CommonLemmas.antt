@@ -1,6 +1,9 @@
 -- The common prefix, byte by byte.
-use Rattle.std.proofs.Common.{◌≡◌, ◌==◌, ◌≤◌, ◌+◌, ℕ, suc, Bool, true, false, List, [], ◌∷◌, ◌++◌, length, take, drop, refl, ap, ◌∙◌, ◌⊎◌, inl, inr, arith, append-nil}
+use Rattle.std.proofs.Common.{◌≡◌, ◌==◌, ◌≤◌, ◌+◌, ℕ, suc, Bool, true, false, List, [], ◌∷◌, ◌++◌, length, take, drop, refl, sym, ap, ◌∙◌, ◌⊎◌, inl, inr, arith, append-nil}
+use Rattle.std.specs.List.{starts_with}
 use Rattle.std.specs.Str.{bytes_eq}
+use Rattle.std.proofs.lemmas.Bool.Decides.{Decides-eqb}
+use Rattle.std.proofs.lemmas.Slice.Eq.{starts_is}
 use Rattle.std.proofs.lemmas.List.{drop_all}
 use borrow.Author.Tests.{tests}
 use Rattle.zy_check.specs.Differs.{common, feeds, differs}
@@ -88,3 +91,13 @@ apart_eq y (x ∷ xs) ys h = elim (either (x == y)) [ inl e ↦ not_cons x (comm
 -- two texts with a common front and nothing behind it
 pub differs_shared : (fs xs ys : List ℕ) → common xs ys ≡ [] → differs (fs ++ xs) (fs ++ ys) ≡ feeds fs + 1
 differs_shared fs xs ys h = ap (λ l. feeds l + 1) (common_shared fs xs ys ∙ ap (λ l. fs ++ l) h ∙ append-nil fs)
+
+-- a text that is a front of the other
+common_front : (ys rest : List ℕ) → common (ys ++ rest) ys ≡ ys
+common_front ys rest =
+    ap (common (ys ++ rest)) (sym (append-nil ys)) ∙ common_shared ys rest [] ∙ ap (λ l. ys ++ l) (common-nil rest) ∙ append-nil ys
+
+pub starting_common : (xs ys : List ℕ) (r : Bool) → r ≡ starts_with (λ a b. a == b) xs ys → r ≡ true → length ys ≡ length (common xs ys)
+starting_common xs ys r h t =
+    let front = (starts_is Decides-eqb xs ys r h).0 t in
+    sym (ap (λ l. length (common l ys)) front ∙ ap length (common_front ys (drop (length ys) xs)))

@@ -1,5 +1,5 @@
 //! A sink that compares.
-ghost use Rattle.std.specs.Prelude.{◌≡◌, ◌<◌, ◌++◌, [], ◌∷◌, ℕ, List, Some, length};
+ghost use Rattle.std.specs.Prelude.{◌≡◌, ◌<◌, ◌≤◌, ◌+◌, ◌++◌, [], ◌∷◌, ℕ, List, Some, length, take};
 ghost use Rattle.zy_check.specs.Differs.{common, feeds, verdict as verdict_spec};
 ghost use Rattle.zy_check.specs.Comparing.{told};
 
@@ -12,6 +12,16 @@ use zy_io::stream::Sink;
 fn common_len(x: &[u8], y: &[u8]) -> usize
     ensures { result ≡ length (common x.now y.now) }
 {
+    if x.starts_with(y) {
+        return y.len();
+    }
+    first_difference(x, y)
+}
+
+/// The same, byte by byte.
+fn first_difference(x: &[u8], y: &[u8]) -> usize
+    ensures { result ≡ length (common x.now y.now) }
+{
     let mut at = 0;
     while at < x.len() && at < y.len() && x[at] == y[at] {
         at += 1;
@@ -19,11 +29,13 @@ fn common_len(x: &[u8], y: &[u8]) -> usize
     at
 }
 
-/// How many LF stand in these bytes.
-fn line_ends(bytes: &[u8]) -> usize
-    ensures { result ≡ feeds bytes.now }
+/// The line, from 1, to which so many bytes of a text lead.
+fn line_after(text: &[u8], count: usize) -> usize
+    requires { count ≤ length text.now }
+    ensures { result ≡ feeds (take count text.now) + 1 }
 {
-    bytes.iter().filter(|byte| **byte == b'\n').count()
+    let (front, _) = text.split_at(count);
+    front.iter().filter(|byte| **byte == b'\n').count() + 1
 }
 
 /// Compares what it is given with an input, and keeps none of it but the first byte that differs. It takes
@@ -32,7 +44,6 @@ fn line_ends(bytes: &[u8]) -> usize
 pub struct Comparing<'a> {
     input: &'a [u8],
     at: usize,
-    lines: usize,
     other: Option<u8>,
     refusals: u64,
 }
@@ -46,7 +57,7 @@ impl<'a> Model for Comparing<'a> {
 
     ghost view = { λ s. record { input = s.input.now; text = take s.at s.input.now ++ option_to_list s.other; refusals = s.refusals } };
 
-    ghost invariant = { λ s. AreCompared s.input.now s.at s.lines s.other s.refusals };
+    ghost invariant = { λ s. AreCompared s.input.now s.at s.other s.refusals };
 }
 
 impl<'a> Comparing<'a> {
@@ -57,7 +68,6 @@ impl<'a> Comparing<'a> {
         Comparing {
             input,
             at: 0,
-            lines: 0,
             other: None,
             refusals: 0,
         }
@@ -69,12 +79,12 @@ impl<'a> Comparing<'a> {
         ensures front { 0 < self.now.refusals → (back : List ℕ) → result ≡ verdict_spec self.now.input (self.now.text ++ back) }
     {
         if self.other.is_some() {
-            return Verdict::NotTable(self.lines + 1);
+            return Verdict::NotTable(line_after(self.input, self.at));
         }
         if self.at == self.input.len() {
             Verdict::Table
         } else {
-            Verdict::NotTable(self.lines + 1)
+            Verdict::NotTable(line_after(self.input, self.at))
         }
     }
 }
@@ -93,9 +103,8 @@ impl Sink for Comparing<'_> {
         }
         let (_, rest) = self.input.split_at(self.at);
         let same = common_len(rest, bytes);
-        let (front, back) = bytes.split_at(same);
+        let (_, back) = bytes.split_at(same);
         self.at += same;
-        self.lines += line_ends(front);
         if let Some(byte) = back.first() {
             self.other = Some(*byte);
             return Ok(same + 1);

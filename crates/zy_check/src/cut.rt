@@ -1,5 +1,5 @@
 //! Where the scenario part of an input ends.
-ghost use Rattle.std.specs.Prelude.{◌≡◌, ◌==◌, ◌+◌, ◌<◌, ◌∷◌, length, min, position, codes};
+ghost use Rattle.std.specs.Prelude.{◌≡◌, ◌==◌, ◌+◌, ◌<◌, ◌∷◌, true, false, length, min, position, codes};
 ghost use Rattle.std.specs.List.{list_all};
 ghost use Rattle.std.specs.Str.{bytes_eq};
 ghost use Rattle.zy_isa.specs.Words.{is_space as is_space_spec, without_comment as without_comment_spec, words_of, lines_of};
@@ -60,10 +60,23 @@ fn each_is_end(line: &[u8]) -> bool
         .all(|word| word == b"end".as_slice())
 }
 
+/// Whether the first byte tells that the line's first word is another than `end`.
+fn begins_otherwise(line: &[u8]) -> bool
+    ensures { result ≡ true → is_end line.now ≡ false }
+{
+    match line.first() {
+        Some(byte) => !is_space(*byte) && *byte != b';' && *byte != b'e',
+        None => false,
+    }
+}
+
 /// Whether the line's only word is `end`.
 fn is_end_line(line: &[u8]) -> bool
     ensures { result ≡ is_end line.now }
 {
+    if begins_otherwise(line) {
+        return false;
+    }
     word_count(line) == 1 && each_is_end(line)
 }
 
