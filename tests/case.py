@@ -9,6 +9,7 @@
   status   the exit status that is wanted
   fault    where the run is refused, the fault's name as standard error tells it: one line `zy_bench: FAULT: words`
   words    the words of that line; none: any
+  told     all that standard error is to tell, where that is no fault; none: anything
 
 Each line of tests/refused is a text that `zy_bench run` refuses, with its fault and words; each line of tests/refused-images an
 image that `zy_bench dis` refuses."""
@@ -49,6 +50,7 @@ class Case:
         self.status = int(self.text('status'))
         self.fault = self.text('fault')
         self.said = self.text('words')
+        self.told = self.part('told')
 
     def part(self, name):
         return content(os.path.join(CASES, self.name, name))
@@ -81,7 +83,7 @@ class Refused(Case):
     def __init__(self, line):
         fault, self.said, text = (part.strip() for part in line.split('|'))
         kind, number = fault.rstrip(')').split('(')
-        self.name = 'refused: %s' % text
+        self.name, self.told = 'refused: %s' % text, b''
         self.words, self.example, self.pad, self.to, self.output, self.status = ['run'], '', 0, '', b'', 1
         self.fault = 'Input(line %s, %s)' % (number, kind)
         self.text_given = text.replace('HEAD ', self.HEAD).encode().decode('unicode_escape').encode()

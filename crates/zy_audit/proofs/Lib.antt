@@ -6,3 +6,4 @@ mod Gathered
 mod Entries
 mod Commits
 mod LinkLemmas
+mod RunLemmas

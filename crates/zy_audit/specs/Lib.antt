@@ -2,3 +2,4 @@ pub mod Texts
 pub mod Listing
 pub mod Lone
 pub mod SameMaps
+pub mod Run

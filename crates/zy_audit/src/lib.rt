@@ -6,6 +6,7 @@ pub mod laws;
 pub mod lines;
 pub mod listing;
 mod lone;
+pub mod run;
 pub mod serial;
 #[cfg(test)]
 mod serial_tests;

@@ -7,11 +7,20 @@ use zy_engine::format::Format;
 /// What is asked for.
 #[derive(Clone, Copy, Debug, PartialEq, Eq)]
 pub enum Request {
-    /// Run a scenario, and print its listing.
+    /// Print something of a scenario.
+    Convert(Conversion),
+    /// Say whether the input is a listing.
+    Check,
+}
+
+/// What is printed of a scenario.
+#[derive(Clone, Copy, Debug, PartialEq, Eq)]
+pub enum Conversion {
+    /// The listing of its run.
     Run(Format),
-    /// Print the image of a scenario text.
+    /// The image of a text.
     Asm,
-    /// Print the text of an image.
+    /// The text of an image.
     Dis,
 }
 
@@ -70,6 +79,15 @@ fn dis_command<'a>(alloc: Global) -> Command<'a> {
         ))
 }
 
+/// `check`.
+fn check_command<'a>(alloc: Global) -> Command<'a> {
+    Command::new(alloc, "check")
+        .about("Reads a listing on standard input, and says whether it is right")
+        .after_help(
+            "The scenario at its head, up to and with its first line end, is run. Where the input is its\nlisting, byte for byte, the output is table, else not table L: L is the first line of the input\nthat differs, and standard error shows it.\n\nExample:\n  zy_bench run < examples/first_run.zephyr | zy_bench check\n\nStatus: 0 table, 1 the scenario is refused, 2 the command line is wrong,\n3 want of memory, 4 not table, 5 the input or the output failed.\nThe listing is told in docs/formats.md.",
+        )
+}
+
 /// The command line that is understood.
 pub fn command<'a>(alloc: Global) -> Result<Command<'a>, AllocError> {
     Command::new(alloc, "zy_bench")
@@ -79,15 +97,17 @@ pub fn command<'a>(alloc: Global) -> Result<Command<'a>, AllocError> {
         .subcommand_required(true)
         .subcommand(run_command(alloc)?)?
         .subcommand(asm_command(alloc))?
-        .subcommand(dis_command(alloc))
+        .subcommand(dis_command(alloc))?
+        .subcommand(check_command(alloc))
 }
 
 /// What the words ask for.
 pub fn request_of(matches: &ArgMatches<'_>) -> Option<Request> {
     match matches.subcommand() {
-        Some(("run", run)) => Some(Request::Run(format_of(run))),
-        Some(("asm", _)) => Some(Request::Asm),
-        Some(("dis", _)) => Some(Request::Dis),
+        Some(("run", run)) => Some(Request::Convert(Conversion::Run(format_of(run)))),
+        Some(("asm", _)) => Some(Request::Convert(Conversion::Asm)),
+        Some(("dis", _)) => Some(Request::Convert(Conversion::Dis)),
+        Some(("check", _)) => Some(Request::Check),
         _ => None,
     }
 }

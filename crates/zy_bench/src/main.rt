@@ -4,14 +4,20 @@
 ghost use Rattle.std.specs.Prelude.{◌≡◌, ◌<◌};
 
 mod command_line;
+mod excerpt;
 
 use clap::error::ErrorKind;
-use command_line::{Request, command, request_of};
+use command_line::{Conversion, Request, command, request_of};
+use excerpt::Excerpt;
 use std::io;
-use std::io::BufWriter;
+use std::io::{BufWriter, Write};
 use std::process::ExitCode;
+use zy_check::verdict::Verdict;
+use zy_engine::checking::check_bytes;
 use zy_engine::engine::{asm_bytes, dis_bytes, run_bytes};
 use zy_engine::faults::BenchFault;
+use zy_io::memory::SliceSource;
+use zy_io::reading::read_all;
 use zy_io::stream::{CountingReader, CountingWriter};
 
 /// The exit status where all went well.
@@ -20,22 +26,65 @@ const DONE: u8 = 0;
 /// The exit status of a command line that is not understood.
 const COMMAND_LINE: u8 = 2;
 
-/// Runs an engine from standard input to standard output.
-fn run<R: Print + Input + AllocGlobal>(rt: &R, request: Request) -> Result<(), BenchFault> {
+/// The exit status where the input is not the listing that it should be.
+const NOT_TABLE: u8 = 4;
+
+/// Passes on what is kept back for standard output.
+fn flush<W: Write>(sink: &mut CountingWriter<W>) -> Result<(), BenchFault>
+    requires { sink.old.1 < u64.MAX }
+{
+    match sink.flush() {
+        Ok(()) => Ok(()),
+        Err(_) => Err(BenchFault::Write),
+    }
+}
+
+/// Runs an engine from standard input to standard output, and gives the exit status.
+fn convert<R: Print + Input + AllocGlobal>(
+    rt: &R,
+    conversion: Conversion,
+) -> Result<u8, BenchFault> {
     let Ok(buffer) = BufWriter::new(rt.alloc(), io::writer(rt)) else {
         return Err(BenchFault::Memory);
     };
     let mut source = CountingReader::new(rt.reader());
     let mut sink = CountingWriter::new(buffer);
-    match request {
-        Request::Run(format) => run_bytes(rt.alloc(), format, &mut source, &mut sink)?,
-        Request::Asm => asm_bytes(rt.alloc(), &mut source, &mut sink)?,
-        Request::Dis => dis_bytes(rt.alloc(), &mut source, &mut sink)?,
+    match conversion {
+        Conversion::Run(format) => run_bytes(rt.alloc(), format, &mut source, &mut sink)?,
+        Conversion::Asm => asm_bytes(rt.alloc(), &mut source, &mut sink)?,
+        Conversion::Dis => dis_bytes(rt.alloc(), &mut source, &mut sink)?,
     }
-    match sink.flush() {
-        Ok(()) => Ok(()),
-        Err(_) => Err(BenchFault::Write),
+    flush(&mut sink)?;
+    Ok(DONE)
+}
+
+/// Checks the listing on standard input, and gives the exit status. The input is kept, so that its line can be shown.
+fn check<R: Print + Eprint + Input + AllocGlobal>(rt: &R) -> Result<u8, BenchFault> {
+    let Ok(buffer) = BufWriter::new(rt.alloc(), io::writer(rt)) else {
+        return Err(BenchFault::Memory);
+    };
+    let input = read_all(rt.alloc(), &mut CountingReader::new(rt.reader()))?;
+    let mut source = SliceSource::new(input.as_slice());
+    let mut sink = CountingWriter::new(buffer);
+    let verdict = check_bytes(rt.alloc(), &mut source, &mut sink)?;
+    flush(&mut sink)?;
+    match verdict {
+        Verdict::Table => Ok(DONE),
+        Verdict::NotTable(line) => {
+            show(rt, input.as_slice(), line);
+            Ok(NOT_TABLE)
+        }
     }
+}
+
+/// Shows on standard error the line of an input at which it is not the listing.
+fn show(rt: &impl Eprint, input: &[u8], line: usize) {
+    let _ = match Excerpt::of(input, line) {
+        Some(excerpt) => {
+            eprintln!(rt; "zy_bench: line {line} is not that of the listing: {excerpt}")
+        }
+        None => eprintln!(rt; "zy_bench: the listing goes on with line {line}"),
+    };
 }
 
 /// Tells a fault on standard error, and gives the exit status.
@@ -76,8 +125,12 @@ fn unprinted(error: &io::Error) -> BenchFault {
 
 /// Carries a request out, and gives the exit status.
 fn carry_out(rt: &(impl Print + Eprint + Input + AllocGlobal), request: Request) -> u8 {
-    match run(rt, request) {
-        Ok(()) => DONE,
+    let outcome = match request {
+        Request::Convert(conversion) => convert(rt, conversion),
+        Request::Check => check(rt),
+    };
+    match outcome {
+        Ok(status) => status,
         Err(fault) => tell(rt, fault),
     }
 }

@@ -1,1 +1,2 @@
 mod RunLemmas
+mod CheckLemmas

@@ -1,7 +1,6 @@
 -- What an engine's parts make together.
-use Rattle.std.proofs.Common.{◌≡◌, ◌≢◌, ◌∙◌, ℕ, List, [], ◌∷◌, Option, None, Some, IfSome, Result, Ok, Err, refl, sym, ap, subst, append-nil}
+use Rattle.std.proofs.Common.{◌≡◌, ℕ, List, [], Option, None, Some, IfSome, Result, Ok, Err, refl, sym, subst, append-nil}
 use Rattle.std.proofs.KnownBytes.{Appends-nil}
-use Rattle.zy_isa.specs.declared.choice.Choice.{Choice}
 use Rattle.zy_io.specs.declared.writing.TextFault.{TextFault}
 use Rattle.zy_io.specs.declared.writing.TextFault.TheVariants.{Write, Memory}
 use Rattle.zy_isa.specs.Scenario.{Scenario}
@@ -13,26 +12,6 @@ use Rattle.zy_engine.specs.declared.format.Format.{Format}
 use Rattle.zy_engine.specs.declared.format.Format.TheVariants as format
 use Rattle.zy_engine.specs.Faults.{ReadsInput, failed_reads, failed_writes, IfRefused}
 use Rattle.zy_engine.specs.Inputs.{StandsFor, HasNoFault, IsRefusal}
-use Rattle.zy_table.specs.State.{State}
-use Rattle.zy_machine.specs.Histories.{History, choices_of}
-use Rattle.zy_table.specs.Play.{step, play, entries, opening}
-use Rattle.zy_audit.specs.Listing.{listing}
-use Rattle.zy_audit.specs.SameMaps.{is_serial}
-use Rattle.zy_engine.specs.Run.{listing_run}
-
-choices-entries : (sc : Scenario) (s : State) (cs : List Choice) → choices_of (entries sc s cs) ≡ cs
-choices-entries sc s [] = refl
-choices-entries sc s (c ∷ cs) = ap (λ l. c ∷ l) (choices-entries sc (step sc c s).after cs)
-
--- the machine that has made all choices
-abbrev pub whole_run : Scenario → History
-whole_run sc = record { scenario = sc; state = play sc (opening sc) sc.choices; entries = entries sc (opening sc) sc.choices }
-
--- its listing is that of the scenario
-pub listing-whole : (sc : Scenario) (h : History) → h ≡ whole_run sc → listing h.scenario (choices_of h.entries) (is_serial h.scenario h.state) ≡ listing_run sc
-listing-whole sc h made =
-    ap (λ (x : History). listing x.scenario (choices_of x.entries) (is_serial x.scenario x.state)) made
-    ∙ ap (λ cs. listing sc cs (is_serial sc (play sc (opening sc) sc.choices))) (choices-entries sc (opening sc) sc.choices)
 
 -- where nothing went out, nothing but a front did
 pub WroteFront-nothing : (a : Option (List ℕ)) (text : List ℕ) → WroteFront a a text

@@ -12,6 +12,8 @@ use Rattle.zy_asm.specs.Reasons.{kind_of}
 use Rattle.zy_image.specs.declared.faults.LoadFault.{LoadFault}
 use Rattle.zy_image.specs.declared.faults.LoadFault.TheVariants as loading
 use Rattle.zy_image.specs.declared.refusal.ImageRefusal.{ImageRefusal}
+use Rattle.zy_check.specs.declared.faults.CheckFault.{CheckFault}
+use Rattle.zy_check.specs.declared.faults.CheckFault.TheVariants as checking
 use Rattle.zy_engine.specs.declared.faults.BenchFault.{BenchFault}
 use Rattle.zy_engine.specs.declared.faults.BenchFault.TheVariants.{Input, Image, TooLong, Read, Write, Memory}
 
@@ -33,6 +35,12 @@ of_load_fault _ r = Image r
 
 abbrev pub of_image_refusal : ImageRefusal → BenchFault
 of_image_refusal r = of_load_fault r.fault r
+
+abbrev pub of_checking : CheckFault → BenchFault
+of_checking (checking.Scenario r) = Input r
+of_checking checking.Read = Read
+of_checking checking.Memory = Memory
+of_checking checking.TooLong = TooLong
 
 abbrev pub of_writing : TextFault → BenchFault
 of_writing writing.Write = Write

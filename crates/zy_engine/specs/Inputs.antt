@@ -9,7 +9,7 @@ use Rattle.zy_image.specs.Reading.{image_fault}
 use Rattle.zy_engine.specs.declared.format.Format.{Format}
 use Rattle.zy_engine.specs.declared.format.Format.TheVariants as format
 use Rattle.zy_engine.specs.declared.faults.BenchFault.{BenchFault}
-use Rattle.zy_engine.specs.declared.faults.BenchFault.TheVariants.{Input, Image, TooLong, Read, Write, Memory}
+use Rattle.zy_engine.specs.declared.faults.BenchFault.TheVariants.{Input, Image, Memory}
 
 abbrev pub StandsFor : Format → List ℕ → Scenario → Type 0
 StandsFor format.Text bytes s = Means bytes s

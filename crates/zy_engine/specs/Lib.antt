@@ -1,4 +1,4 @@
 pub mod Faults
 pub mod Inputs
-pub mod Run
 pub mod Engines
+pub mod Checks

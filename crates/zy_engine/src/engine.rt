@@ -4,7 +4,7 @@ ghost use Rattle.zy_isa.specs.Canon.{canon};
 ghost use Rattle.zy_image.specs.Image.{image_of};
 ghost use Rattle.zy_engine.specs.declared.format.Format.TheVariants.{Text, Image};
 ghost use Rattle.zy_engine.specs.Engines.{Converts};
-ghost use Rattle.zy_engine.specs.Run.{listing_run};
+ghost use Rattle.zy_audit.specs.Run.{listing_run};
 
 use crate::faults::BenchFault;
 use crate::format::{Format, accept};

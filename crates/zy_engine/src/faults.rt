@@ -1,10 +1,11 @@
 //! Why a run was refused.
 ghost use Rattle.std.specs.Prelude.{◌≡◌};
-ghost use Rattle.zy_engine.specs.Faults.{of_image_refusal, of_reading, of_refusal, of_writing, status_of};
+ghost use Rattle.zy_engine.specs.Faults.{of_checking, of_image_refusal, of_reading, of_refusal, of_writing, status_of};
 
 use std::alloc::AllocError;
 use thiserror::Error;
 use zy_asm::faults::{AsmKind, Refusal};
+use zy_check::faults::CheckFault;
 use zy_image::faults::LoadFault;
 use zy_image::refusal::ImageRefusal;
 use zy_io::reading::ReadFault;
@@ -79,6 +80,19 @@ impl From<ImageRefusal> for BenchFault {
         match refusal.fault {
             LoadFault::Memory => BenchFault::Memory,
             _ => BenchFault::Image(refusal),
+        }
+    }
+}
+
+impl From<CheckFault> for BenchFault {
+    ghost from_gives = { λ f e. e ≡ of_checking f };
+
+    fn from(fault: CheckFault) -> BenchFault {
+        match fault {
+            CheckFault::Scenario(refusal) => BenchFault::Input(refusal),
+            CheckFault::Read => BenchFault::Read,
+            CheckFault::Memory => BenchFault::Memory,
+            CheckFault::TooLong => BenchFault::TooLong,
         }
     }
 }

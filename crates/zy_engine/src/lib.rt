@@ -1,6 +1,7 @@
 //! What each command of the program does, as functions from bytes to bytes, and why one gives up.
 #![tactic(auto)]
 
+pub mod checking;
 pub mod engine;
 pub mod faults;
 pub mod format;

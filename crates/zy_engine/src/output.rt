@@ -4,16 +4,15 @@ ghost use Rattle.zy_isa.specs.Canon.{canon};
 ghost use Rattle.zy_isa.specs.Scenario.{Scenario as AScenario};
 ghost use Rattle.zy_image.specs.Image.{image_of};
 ghost use Rattle.zy_io.specs.Writing.{Wrote};
-ghost use Rattle.zy_engine.specs.Run.{listing_run};
+ghost use Rattle.zy_audit.specs.Run.{listing_run};
 
 use std::alloc::Global;
-use zy_audit::listing::write_listing;
+use zy_audit::run::write_run;
 use zy_disasm::text::write_text;
 use zy_image::save::save;
 use zy_io::stream::Sink;
 use zy_io::writing::{TextFault, write_all};
 use zy_isa::scenario::Scenario;
-use zy_machine::machine::Machine;
 
 /// What can be written of a scenario.
 pub trait Output {
@@ -39,15 +38,13 @@ pub struct Listing;
 impl Output for Listing {
     ghost bytes = { λ _. listing_run };
 
-    /// Makes the choices of the scenario first.
     fn write<K: Sink>(
         &self,
         alloc: Global,
         scenario: Scenario,
         sink: &mut K,
     ) -> Result<(), TextFault> {
-        let machine = Machine::run_all(alloc, scenario)?;
-        write_listing(alloc, &machine, sink)
+        write_run(alloc, scenario, sink)
     }
 }
 

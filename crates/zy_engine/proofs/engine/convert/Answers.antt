@@ -1,10 +1,10 @@
 -- What went out is a front of what is written of the scenario that the input stands for.
-use Rattle.std.proofs.Common.{◌≡◌, ◌+◌, ℕ, List, IfSome, length, Ok, Err, refl, sym, ap, ◌∙◌, rules, arith}
+use Rattle.std.proofs.Common.{◌≡◌, IfSome, refl, rules, arith}
 use Rattle.std.specs.Io.KnownBytes.{Appends}
 use Rattle.std.proofs.lemmas.Result.{err_from_is_err_and}
 use Rattle.zy_isa.specs.Scenario.{Scenario}
 use Rattle.zy_io.specs.Streams.{ReadWhole, WroteFront}
-use Rattle.zy_engine.specs.Inputs.{StandsFor, HasNoFault, IsRefusal}
+use Rattle.zy_engine.specs.Inputs.{StandsFor, HasNoFault}
 use Rattle.zy_engine.proofs.RunLemmas.{Wrote-front, WroteFront-nothing, front-of-told, silent-of-told, unwritten-of-told, told-of, of-any, refused}
 use Rattle.zy_engine.proofs.engine.convert.Goals as goal
 

@@ -1,8 +1,8 @@
 -- What was written is the listing of the whole run.
 use Rattle.std.proofs.Common.{ℕ, List, subst}
 use Rattle.zy_io.specs.Writing.{Wrote}
-use Rattle.zy_engine.proofs.RunLemmas.{listing-whole}
-use Rattle.zy_engine.proofs.output.ListingOutput.write.Goals as goal
+use Rattle.zy_audit.proofs.RunLemmas.{listing-whole}
+use Rattle.zy_audit.proofs.run.write_run.Goals as goal
 
 pub returns : goal.returns
 returns g c =

@@ -1,0 +1,21 @@
+//! A whole run: all choices of a scenario, and their listing.
+ghost use Rattle.std.specs.Prelude.{◌<◌};
+ghost use Rattle.zy_io.specs.Writing.{Wrote};
+ghost use Rattle.zy_audit.specs.Run.{listing_run};
+
+use crate::listing::write_listing;
+use std::alloc::Global;
+use zy_io::stream::Sink;
+use zy_io::writing::TextFault;
+use zy_isa::scenario::Scenario;
+use zy_machine::machine::Machine;
+
+/// Makes the choices of a scenario, and writes the listing.
+pub fn write_run<K: Sink>(alloc: Global, scenario: Scenario, sink: &mut K) -> Result<(), TextFault>
+    requires { K.failures sink.old < u64.MAX }
+    ensures { Wrote (K.written sink.old) (K.written sink.new) (K.failures sink.old) (K.failures sink.new) result
+        (listing_run scenario) }
+{
+    let machine = Machine::run_all(alloc, scenario)?;
+    write_listing(alloc, &machine, sink)
+}

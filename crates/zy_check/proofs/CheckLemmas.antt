@@ -1,0 +1,30 @@
+-- The scenario part of an input, and what it means.
+use Rattle.std.proofs.Common.{◌≡◌, ◌∙◌, ℕ, List, Option, Some, None, length, take, refl, sym, ap}
+use Rattle.std.specs.Result.{result_err}
+use Rattle.std.proofs.lemmas.List.{length-take, take_min}
+use Rattle.zy_isa.specs.Scenario.{Scenario}
+use Rattle.zy_isa.specs.Text.{Means}
+use Rattle.zy_isa.specs.Words.{lines_of}
+use Rattle.zy_asm.specs.declared.faults.AsmFault.{AsmFault}
+use Rattle.zy_asm.specs.Input.{utf8_fault, input_fault, unless_faulty}
+use Rattle.zy_audit.specs.Run.{listing_run}
+use Rattle.zy_check.specs.declared.verdict.Verdict.{Verdict}
+use Rattle.zy_check.specs.Cut.{cut, bytes_through_end}
+use Rattle.zy_check.specs.Differs.{verdict}
+use Rattle.zy_check.specs.Verdicts.{IsVerdict}
+
+pub cut_taken : (text : List ℕ) → take (length (cut text)) text ≡ cut text
+cut_taken text = ap (λ n. take n text) (length-take (bytes_through_end (lines_of text)) text) ∙ take_min (bytes_through_end (lines_of text)) text
+
+not_faulty : (f : Option AsmFault) (bytes : List ℕ) → result_err (unless_faulty f bytes) ≡ None → f ≡ None
+not_faulty None bytes h = refl
+not_faulty (Some f) bytes h = absurd (cc)
+
+-- bytes without a fault are UTF-8
+pub utf8_of : (bytes : List ℕ) → input_fault bytes ≡ None → utf8_fault bytes ≡ None
+utf8_of bytes h = not_faulty (utf8_fault bytes) bytes h
+
+-- whatever scenario it means, the verdict is the same
+pub one_verdict : (input : List ℕ) (v : Verdict) → ((sc : Scenario) → utf8_fault (cut input) ≡ None → Means (cut input) sc → v ≡ verdict input (listing_run sc))
+    → input_fault (cut input) ≡ None → (other : Verdict) → IsVerdict input other → v ≡ other
+one_verdict input v only right other found = only found.0 (utf8_of (cut input) right) found.1 ∙ sym found.2

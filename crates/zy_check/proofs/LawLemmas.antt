@@ -1,0 +1,76 @@
+-- The verdict in the words of equality, and of the longest text that two texts begin with.
+use Rattle.std.proofs.Common.{◌≡◌, ◌≢◌, ◌≤◌, ◌==◌, ◌+◌, ◌∙◌, ℕ, true, false, List, [], ◌∷◌, ◌++◌, length, refl, sym, ap, arith, inl, inr}
+use Rattle.std.specs.Str.{bytes_eq}
+use Rattle.std.proofs.lemmas.List.{length-append}
+use Rattle.std.proofs.lemmas.Slice.Eq.{bytes_eq-Decides}
+use Rattle.zy_check.specs.declared.verdict.Verdict.TheVariants.{Table, NotTable}
+use Rattle.zy_check.specs.Differs.{common, feeds, differs, verdict, IsFront, IsLongestShared}
+use Rattle.zy_check.proofs.CommonLemmas.{either, same_number, cons_same, cons_other, common_shared}
+use Rattle.zy_check.proofs.JudgeLemmas.{same_parts}
+
+-- ---- equality
+
+verdict_of-true : (x y : List ℕ) → bytes_eq x y ≡ true → verdict x y ≡ Table
+verdict_of-true x y e = rw e refl
+
+verdict_of-false : (x y : List ℕ) → bytes_eq x y ≡ false → verdict x y ≡ NotTable (differs x y)
+verdict_of-false x y e = rw e refl
+
+no_table : {Q : Type 0} (x y : List ℕ) → bytes_eq x y ≡ false → verdict x y ≡ Table → Q
+no_table x y e h = let n = verdict_of-false x y e in absurd (cc)
+
+pub verdict-table : (x y : List ℕ) → verdict x y ≡ Table → x ≡ y
+verdict-table x y h = elim (either (bytes_eq x y)) [ inl e ↦ (bytes_eq-Decides x y).0 e | inr e ↦ no_table x y e h ]
+
+pub verdict-same : (x y : List ℕ) → x ≡ y → verdict x y ≡ Table
+verdict-same x y e = verdict_of-true x y ((bytes_eq-Decides x y).1 e)
+
+-- ---- the longest text that both begin with
+
+left_same : (x y : ℕ) (xs ys : List ℕ) → (x == y) ≡ true → IsFront (common xs ys) xs → IsFront (common (x ∷ xs) (y ∷ ys)) (x ∷ xs)
+left_same x y xs ys e h = (h.0, rw (cons_same x y xs ys e) (ap (λ l. x ∷ l) h.1))
+
+right_same : (x y : ℕ) (xs ys : List ℕ) → (x == y) ≡ true → IsFront (common xs ys) ys → IsFront (common (x ∷ xs) (y ∷ ys)) (y ∷ ys)
+right_same x y xs ys e h = (h.0, rw (cons_same x y xs ys e, same_number x y e) (ap (λ l. y ∷ l) h.1))
+
+left_other : (x y : ℕ) (xs ys : List ℕ) → (x == y) ≡ false → IsFront (common (x ∷ xs) (y ∷ ys)) (x ∷ xs)
+left_other x y xs ys e = (x ∷ xs, rw (cons_other x y xs ys e) refl)
+
+right_other : (x y : ℕ) (xs ys : List ℕ) → (x == y) ≡ false → IsFront (common (x ∷ xs) (y ∷ ys)) (y ∷ ys)
+right_other x y xs ys e = (y ∷ ys, rw (cons_other x y xs ys e) refl)
+
+common_left : (xs ys : List ℕ) → IsFront (common xs ys) xs
+common_left [] ys = ([], refl)
+common_left (x ∷ xs) [] = (x ∷ xs, refl)
+common_left (x ∷ xs) (y ∷ ys) = elim (either (x == y)) [ inl e ↦ left_same x y xs ys e (common_left xs ys) | inr e ↦ left_other x y xs ys e ]
+
+common_right : (xs ys : List ℕ) → IsFront (common xs ys) ys
+common_right [] ys = (ys, refl)
+common_right (x ∷ xs) [] = ([], refl)
+common_right (x ∷ xs) (y ∷ ys) = elim (either (x == y)) [ inl e ↦ right_same x y xs ys e (common_right xs ys) | inr e ↦ right_other x y xs ys e ]
+
+-- what both begin with is no longer
+front_le : (fs xs ys : List ℕ) → length fs ≤ length (common (fs ++ xs) (fs ++ ys))
+front_le fs xs ys = rw (common_shared fs xs ys) (omega (arith, length-append fs (common xs ys)))
+
+fronts_le : (fs x y : List ℕ) → IsFront fs x → IsFront fs y → length fs ≤ length (common x y)
+fronts_le fs x y p q = rw (p.1, q.1) (front_le fs p.0 q.0)
+
+pub common-longest : (x y : List ℕ) → IsLongestShared (common x y) x y
+common-longest x y = record { left = common_left x y; right = common_right x y; longest = λ other p q. fronts_le other x y p q }
+
+-- there is no other of that length
+same_front : (fs gs x : List ℕ) → length fs ≡ length gs → IsFront fs x → IsFront gs x → fs ≡ gs
+same_front fs gs x e p q = (same_parts fs gs p.0 q.0 e (sym p.1 ∙ q.1)).0
+
+shared-common : (shared x y : List ℕ) → IsLongestShared shared x y → shared ≡ common x y
+shared-common shared x y h =
+    let c = common-longest x y in
+    same_front shared (common x y) x (omega (arith, c.longest shared h.left h.right, h.longest (common x y) c.left c.right)) h.left c.left
+
+pub verdict-line : (x y shared : List ℕ) → IsLongestShared shared x y → x ≢ y → verdict x y ≡ NotTable (feeds shared + 1)
+verdict-line x y shared h other =
+    elim (either (bytes_eq x y)) [
+      | inl e ↦ absurd (other ((bytes_eq-Decides x y).0 e))
+      | inr e ↦ verdict_of-false x y e ∙ ap (λ l. NotTable (feeds l + 1)) (sym (shared-common shared x y h))
+    ]

@@ -1,0 +1,6 @@
+pub mod CheckLemmas
+pub mod CommonLemmas
+pub mod CompareLemmas
+pub mod CutLemmas
+pub mod JudgeLemmas
+pub mod LawLemmas

@@ -1,0 +1,22 @@
+-- The scenario that the front means is the one that was run.
+use Rattle.std.proofs.Common.{◌≡◌, ◌∙◌, None, take, sym, ap, subst}
+use Rattle.zy_isa.specs.Scenario.{Scenario}
+use Rattle.zy_isa.specs.Text.{Means}
+use Rattle.zy_asm.specs.Input.{utf8_fault, input_fault}
+use Rattle.zy_audit.specs.Run.{listing_run}
+use Rattle.zy_check.specs.Differs.{verdict}
+use Rattle.zy_check.proofs.CheckLemmas.{cut_taken, one_verdict}
+use Rattle.zy_check.proofs.check.verdict_of.Goals as goal
+
+pub returns-clause-only : goal.returns-clause-only
+returns-clause-only c =
+    let input = c.args.input.now in
+    let part = c.split_at.ensures.front ∙ ap (λ n. take n input) c.cut_len.ensures ∙ cut_taken input in
+    λ sc right means. c.in_ok-compare.ensures ∙ ap (λ (s : Scenario). verdict input (listing_run s))
+    (c.in_ok-scenario.ensures.only sc (subst (λ t. utf8_fault t ≡ None) (sym part) right) (subst (λ t. Means t sc) (sym part) means))
+
+pub returns-clause-one : goal.returns-clause-one
+returns-clause-one c =
+    let input = c.args.input.now in
+    let part = c.split_at.ensures.front ∙ ap (λ n. take n input) c.cut_len.ensures ∙ cut_taken input in
+    one_verdict input _ (returns-clause-only c) (subst (λ t. input_fault t ≡ None) part c.in_ok-scenario.ensures.found.1)

@@ -1,0 +1,5 @@
+pub mod Cut
+pub mod Differs
+pub mod Faults
+pub mod Verdicts
+pub mod Comparing

@@ -1,0 +1,22 @@
+-- What a check finds.
+use Rattle.std.specs.Prelude.{◌≡◌, ℕ, List, Result, Ok, Err}
+use Rattle.zy_isa.specs.Scenario.{Scenario}
+use Rattle.zy_isa.specs.Text.{Means}
+use Rattle.zy_audit.specs.Run.{listing_run}
+use Rattle.zy_check.specs.declared.faults.CheckFault.{CheckFault}
+use Rattle.zy_check.specs.declared.faults.CheckFault.TheVariants.{Scenario as InScenario, Read, Memory, TooLong}
+use Rattle.zy_check.specs.declared.verdict.Verdict.{Verdict}
+use Rattle.zy_check.specs.Cut.{cut}
+use Rattle.zy_check.specs.Differs.{verdict}
+
+-- the scenario part means a scenario, and this is the verdict on the input and that scenario's listing
+abbrev pub IsVerdict : List ℕ → Verdict → Type 0
+IsVerdict input v = (sc : Scenario) × Means (cut input) sc × (v ≡ verdict input (listing_run sc))
+
+-- the answer is this verdict, unless a call failed or there was no memory
+abbrev pub GivesVerdict : Result Verdict CheckFault → Verdict → Type 0
+GivesVerdict (Ok v) w = v ≡ w
+GivesVerdict (Err (InScenario r)) w = ⊥
+GivesVerdict (Err Read) w = Unit {0}
+GivesVerdict (Err Memory) w = Unit {0}
+GivesVerdict (Err TooLong) w = ⊥

@@ -1,0 +1,75 @@
+//! Checks a listing.
+ghost use Rattle.std.specs.Prelude.{◌≡◌, ◌<◌, ◌≤◌, ◌+◌, Some, None, IfOk, IfErr, IfSome, length};
+ghost use Rattle.zy_isa.specs.Scenario.{Scenario as AScenario};
+ghost use Rattle.zy_isa.specs.Text.{Means};
+ghost use Rattle.zy_asm.specs.Input.{utf8_fault, input_fault};
+ghost use Rattle.zy_asm.specs.Reasons.{fault_of};
+ghost use Rattle.zy_audit.specs.Run.{listing_run};
+ghost use Rattle.zy_check.specs.declared.verdict.Verdict.{Verdict as AVerdict};
+ghost use Rattle.zy_check.specs.Cut.{cut as cut_spec};
+ghost use Rattle.zy_check.specs.Differs.{verdict as verdict_spec};
+ghost use Rattle.zy_check.specs.Faults.{failed_reads, IfScenario, IsOfScenario, ReadsInput};
+ghost use Rattle.zy_check.specs.Verdicts.{GivesVerdict, IsVerdict};
+
+use crate::comparing::Comparing;
+use crate::cut::cut_len;
+use crate::faults::CheckFault;
+use crate::verdict::Verdict;
+use std::alloc::{AllocError, Global};
+use zy_asm::assembling::assemble_bytes;
+use zy_audit::run::write_run;
+use zy_io::reading::read_all;
+use zy_io::stream::Source;
+use zy_io::writing::TextFault;
+use zy_isa::scenario::Scenario;
+
+/// Makes the choices of a scenario, and compares its listing with an input.
+fn compare(alloc: Global, input: &[u8], scenario: Scenario) -> Result<Verdict, AllocError>
+    ensures { IfOk result (λ v. v ≡ verdict_spec input.now (listing_run scenario)) }
+{
+    let mut sink = Comparing::new(input);
+    match write_run(alloc, scenario, &mut sink) {
+        Ok(()) => Ok(sink.verdict()),
+        // A byte differs, and the sink took none behind it.
+        Err(TextFault::Write) => Ok(sink.verdict()),
+        Err(TextFault::Memory) => Err(AllocError),
+    }
+}
+
+/// What is to be said of an input.
+fn verdict_of(alloc: Global, input: &[u8]) -> Result<Verdict, CheckFault>
+    ensures found { IfOk result (λ v. IsVerdict input.now v × (input_fault (cut_spec input.now) ≡ None)) }
+    ensures one { IfOk result (λ v. (other : AVerdict) → IsVerdict input.now other → v ≡ other) }
+    ensures only { (sc : AScenario) → utf8_fault (cut_spec input.now) ≡ None → Means (cut_spec input.now) sc
+        → GivesVerdict result (verdict_spec input.now (listing_run sc)) }
+    ensures fault { IfErr result (λ f. IsOfScenario (cut_spec input.now) f) }
+{
+    let (part, _) = input.split_at(cut_len(input));
+    let scenario = assemble_bytes(alloc, part)?;
+    Ok(compare(alloc, input, scenario)?)
+}
+
+/// Whether the input is, byte for byte, the listing of the scenario at its head.
+pub fn check<S: Source>(alloc: Global, source: &mut S) -> Result<Verdict, CheckFault>
+    requires { S.failures source.old < u64.MAX }
+    // At a verdict the scenario part means a scenario, and the verdict is that of the input against its listing.
+    ensures found { IfOk result (λ v. IfSome (S.left source.old) (λ told. IsVerdict told v)) }
+    // An input has no other verdict.
+    ensures one { IfOk result (λ v. IfSome (S.left source.old) (λ told. (other : AVerdict) → IsVerdict told other → v ≡ other)) }
+    // Where the scenario part means a scenario, that verdict comes, unless a call failed or there was no memory.
+    ensures only { IfSome (S.left source.old) (λ told. (sc : AScenario) → length told ≤ 4194304
+        → utf8_fault (cut_spec told) ≡ None → Means (cut_spec told) sc
+        → GivesVerdict result (verdict_spec told (listing_run sc))) }
+    // A refused scenario part is told by its first fault.
+    ensures fault { IfErr result (λ f. IfScenario f (λ r.
+        IfSome (S.left source.old) (λ told. input_fault (cut_spec told) ≡ Some (fault_of r)))) }
+    // What is accepted has no fault.
+    ensures accepted { IfOk result (λ v. IfSome (S.left source.old) (λ told. input_fault (cut_spec told) ≡ None)) }
+    // The input is read whole; only where it has more than 4194304 bytes is it too long, and then one byte more is read.
+    ensures input { ReadsInput (S.left source.old) (S.left source.new) result }
+    // Read comes just where a call failed.
+    ensures reads { S.failures source.new ≡ S.failures source.old + failed_reads result }
+{
+    let bytes = read_all(alloc, source)?;
+    verdict_of(alloc, bytes.as_slice())
+}

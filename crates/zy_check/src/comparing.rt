@@ -1,0 +1,114 @@
+//! A sink that compares.
+ghost use Rattle.std.specs.Prelude.{◌≡◌, ◌<◌, ◌≤◌, ◌+◌, ◌++◌, [], ◌∷◌, ℕ, List, Some, length, take};
+ghost use Rattle.zy_check.specs.Differs.{common, feeds, verdict as verdict_spec};
+ghost use Rattle.zy_check.specs.Comparing.{told};
+
+use crate::verdict::Verdict;
+use std::io;
+use std::marker::Model;
+use zy_io::stream::Sink;
+
+/// How many bytes two texts have in common at their front.
+fn common_len(x: &[u8], y: &[u8]) -> usize
+    ensures { result ≡ length (common x.now y.now) }
+{
+    if x.starts_with(y) {
+        return y.len();
+    }
+    first_difference(x, y)
+}
+
+/// The same, byte by byte.
+fn first_difference(x: &[u8], y: &[u8]) -> usize
+    ensures { result ≡ length (common x.now y.now) }
+{
+    let mut at = 0;
+    while at < x.len() && at < y.len() && x[at] == y[at] {
+        at += 1;
+    }
+    at
+}
+
+/// The line, from 1, to which so many bytes of a text lead.
+fn line_after(text: &[u8], count: usize) -> usize
+    requires { count ≤ length text.now }
+    ensures { result ≡ feeds (take count text.now) + 1 }
+{
+    let (front, _) = text.split_at(count);
+    front.iter().filter(|byte| **byte == b'\n').count() + 1
+}
+
+/// Compares what it is given with an input, and keeps none of it but the first byte that differs. It takes
+/// all bytes through that one, and none behind it, so a writer stops there.
+#[derive(Drop)]
+pub struct Comparing<'a> {
+    input: &'a [u8],
+    at: usize,
+    other: Option<u8>,
+    refusals: u64,
+}
+
+impl<'a> Model for Comparing<'a> {
+    ghost use Rattle.std.specs.Prelude.{take, ◌++◌};
+    ghost use Rattle.zy_check.specs.Comparing.{Compared, AreCompared};
+    ghost use Rattle.std.specs.Option.{option_to_list};
+
+    ghost Value = { Compared };
+
+    ghost view = { λ s. record { input = s.input.now; text = take s.at s.input.now ++ option_to_list s.other; refusals = s.refusals } };
+
+    ghost invariant = { λ s. AreCompared s.input.now s.at s.other s.refusals };
+}
+
+impl<'a> Comparing<'a> {
+    /// Nothing is taken yet.
+    pub fn new(input: &'a [u8]) -> Comparing<'a>
+        ensures { result ≡ record { input = input.now; text = []; refusals = 0 } }
+    {
+        Comparing {
+            input,
+            at: 0,
+            other: None,
+            refusals: 0,
+        }
+    }
+
+    /// What is to be said of the input and the text that was taken. Where bytes were refused, no text behind it changes that.
+    pub fn verdict(&self) -> Verdict
+        ensures whole { result ≡ verdict_spec self.now.input self.now.text }
+        ensures front { 0 < self.now.refusals → (back : List ℕ) → result ≡ verdict_spec self.now.input (self.now.text ++ back) }
+    {
+        if self.other.is_some() {
+            return Verdict::NotTable(line_after(self.input, self.at));
+        }
+        if self.at == self.input.len() {
+            Verdict::Table
+        } else {
+            Verdict::NotTable(line_after(self.input, self.at))
+        }
+    }
+}
+
+impl Sink for Comparing<'_> {
+    ghost written = { λ s. Some (told s) };
+
+    ghost failures = { λ s. s.refusals };
+
+    fn put(&mut self, bytes: &[u8]) -> io::Result<usize> {
+        if self.other.is_some() {
+            if !bytes.is_empty() {
+                self.refusals += 1;
+            }
+            return Ok(0);
+        }
+        let (_, rest) = self.input.split_at(self.at);
+        let same = common_len(rest, bytes);
+        let (_, back) = bytes.split_at(same);
+        self.at += same;
+        if let Some(byte) = back.first() {
+            self.other = Some(*byte);
+            return Ok(same + 1);
+        }
+        Ok(same)
+    }
+}

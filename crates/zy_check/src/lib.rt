@@ -1,0 +1,11 @@
+//! Whether an input is the listing of the scenario at its head.
+#![tactic(auto)]
+
+pub mod check;
+pub mod comparing;
+pub mod cut;
+pub mod faults;
+pub mod laws;
+#[cfg(test)]
+mod tests;
+pub mod verdict;

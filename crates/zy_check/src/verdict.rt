@@ -1,0 +1,26 @@
+//! What a check says.
+ghost use Rattle.zy_check.specs.Differs.{verdict_text};
+
+use std::alloc::AllocError;
+use zy_io::line::{Decimal, Joined, Line};
+
+/// Whether an input is the listing of its scenario.
+#[derive(Clone, Copy, Debug, PartialEq, Eq)]
+pub enum Verdict {
+    /// It is, byte for byte.
+    Table,
+    /// It is not; from 1, the line in which they first differ.
+    NotTable(usize),
+}
+
+/// Its words: `table`, or `not table` and the line.
+impl Line for Verdict {
+    ghost text = { λ v. verdict_text v };
+
+    fn append(&self, line: &mut String) -> Result<(), AllocError> {
+        match self {
+            Verdict::Table => "table".append(line),
+            Verdict::NotTable(number) => Joined("not table ", Decimal(*number)).append(line),
+        }
+    }
+}

@@ -1,0 +1,85 @@
+//! The engine that checks a listing.
+ghost use Rattle.std.specs.Prelude.{◌≡◌, ◌<◌, ◌≤◌, ◌+◌, None, IfErr, IfOk, IfSome, length};
+ghost use Rattle.std.specs.Io.KnownBytes.{Appends};
+ghost use Rattle.std.specs.String.{string_bytes};
+ghost use Rattle.zy_io.specs.Streams.{WroteFront};
+ghost use Rattle.zy_isa.specs.Scenario.{Scenario as AScenario};
+ghost use Rattle.zy_isa.specs.Text.{Means};
+ghost use Rattle.zy_asm.specs.Input.{input_fault, utf8_fault};
+ghost use Rattle.zy_audit.specs.Run.{listing_run};
+ghost use Rattle.zy_check.specs.declared.verdict.Verdict.{Verdict as AVerdict};
+ghost use Rattle.zy_check.specs.Cut.{cut};
+ghost use Rattle.zy_check.specs.Differs.{verdict as verdict_spec};
+ghost use Rattle.zy_check.specs.Verdicts.{IsVerdict};
+ghost use Rattle.zy_engine.specs.Checks.{GivesVerdict, IsBefore, WroteOrNothing, verdict_line};
+ghost use Rattle.zy_engine.specs.Faults.{IfRefused, ReadsInput, failed_reads, failed_writes};
+ghost use Rattle.zy_engine.specs.Inputs.{IsTextFault};
+
+use crate::faults::BenchFault;
+use std::alloc::{AllocError, Global};
+use zy_check::check::check;
+use zy_check::verdict::Verdict;
+use zy_io::line::Line;
+use zy_io::stream::{Sink, Source};
+use zy_io::writing::{TextFault, write_all};
+
+/// The words of a verdict, and the end of their line.
+fn line_of(alloc: Global, verdict: Verdict) -> Result<String, AllocError>
+    ensures { IfOk result (λ line. string_bytes line ≡ verdict_line verdict) }
+{
+    let mut line = String::new(alloc);
+    verdict.append(&mut line)?;
+    line.push('\n')?;
+    Ok(line)
+}
+
+/// Writes the words of a verdict, once they are all there.
+fn tell<K: Sink>(alloc: Global, verdict: Verdict, sink: &mut K) -> Result<(), TextFault>
+    requires { K.failures sink.old < u64.MAX }
+    ensures { WroteOrNothing (K.written sink.old) (K.written sink.new) (K.failures sink.old)
+        (K.failures sink.new) result (verdict_line verdict) }
+{
+    let line = line_of(alloc, verdict)?;
+    write_all(sink, line.as_bytes())?;
+    Ok(())
+}
+
+/// Reads an input whole, and writes whether it is the listing of the scenario at its head: `table`, or `not table` and the
+/// line in which they first differ. Nothing is written before that is known.
+pub fn check_bytes<S: Source, K: Sink>(
+    alloc: Global,
+    source: &mut S,
+    sink: &mut K,
+) -> Result<Verdict, BenchFault>
+    requires source { S.failures source.old < u64.MAX }
+    requires sink { K.failures sink.old < u64.MAX }
+    // At Ok the scenario part means a scenario, and the verdict is that of the input against its listing.
+    ensures found { IfOk result (λ v. IfSome (S.left source.old) (λ told. IsVerdict told v)) }
+    // Just the words of that verdict went out.
+    ensures written { IfOk result (λ v. Appends (K.written sink.old) (K.written sink.new) (verdict_line v)) }
+    // Where the scenario part means a scenario, that verdict comes, unless a call failed or there was no memory.
+    ensures only { IfSome (S.left source.old) (λ told. (sc : AScenario) → length told ≤ 4194304
+        → utf8_fault (cut told) ≡ None → Means (cut told) sc
+        → GivesVerdict result (verdict_spec told (listing_run sc))) }
+    // Whatever comes, nothing but a front of the words of the input's verdict went out.
+    ensures front { IfSome (S.left source.old) (λ told. (v : AVerdict) → IsVerdict told v
+        → WroteFront (K.written sink.old) (K.written sink.new) (verdict_line v)) }
+    // Only after a failed write may less than a verdict have gone out: before any other fault nothing is written.
+    ensures quiet { IfErr result (λ f. IsBefore f → K.written sink.new ≡ K.written sink.old) }
+    // A refused scenario part is told by its first fault.
+    ensures fault { IfErr result (λ f. IfRefused f (IfSome (S.left source.old) (λ told. IsTextFault (cut told) f))) }
+    // What is accepted has no fault.
+    ensures accepted { IfOk result (λ v. IfSome (S.left source.old) (λ told. input_fault (cut told) ≡ None)) }
+    // Where it has a fault nothing is written, whatever comes.
+    ensures refused { IfSome (S.left source.old) (λ told. (input_fault (cut told) ≡ None → ⊥)
+        → K.written sink.new ≡ K.written sink.old) }
+    // The input is read whole; only where it has more than 4194304 bytes is it too long, and then one byte more is read.
+    ensures input { ReadsInput (S.left source.old) (S.left source.new) result }
+    // Each fault of the reader and of the writer is one failed call.
+    ensures reads { S.failures source.new ≡ S.failures source.old + failed_reads result }
+    ensures writes { K.failures sink.new ≡ K.failures sink.old + failed_writes result }
+{
+    let verdict = check(alloc, source)?;
+    tell(alloc, verdict, sink)?;
+    Ok(verdict)
+}
