@@ -1,4 +1,4 @@
-//! Whole checks, and sinks that are written piece by piece.
+//! One check of each kind, the cut, and a sink that is written piece by piece. Worked checks are in tests/cases.
 
 use crate::check::check;
 use crate::comparing::Comparing;
@@ -15,18 +15,6 @@ const LISTING: &str =
     "zephyr 1\ncap 2\npages 1\nrule held\nend\nsteps\nfinal\nmode A normal\nmode B empty\n\
     page 0 A low 0 rows\nlink AB\nlink BA\nserial same\nend\n";
 
-const ANOTHER_MODE: &str =
-    "zephyr 1\ncap 2\npages 1\nrule held\nend\nsteps\nfinal\nmode A sinit\nmode B empty\n\
-    page 0 A low 0 rows\nlink AB\nlink BA\nserial same\nend\n";
-
-const NO_LAST_LINE: &str =
-    "zephyr 1\ncap 2\npages 1\nrule held\nend\nsteps\nfinal\nmode A normal\nmode B empty\n\
-    page 0 A low 0 rows\nlink AB\nlink BA\nserial same\n";
-
-const ONE_BYTE_MORE: &str =
-    "zephyr 1\ncap 2\npages 1\nrule held\nend\nsteps\nfinal\nmode A normal\nmode B empty\n\
-    page 0 A low 0 rows\nlink AB\nlink BA\nserial same\nend\n\n";
-
 const A_COMMENT: &str = "zephyr 1 ; x\ncap 2\npages 1\nrule held\nend\n";
 
 fn said(alloc: Global, text: &str) -> Result<Verdict, CheckFault> {
@@ -37,9 +25,6 @@ fn said(alloc: Global, text: &str) -> Result<Verdict, CheckFault> {
 #[test]
 fn listings_are_judged(rt: HostRuntime) -> Result<(), Fail> {
     assert_eq!(rt; said(rt.alloc(), LISTING), Ok(Verdict::Table));
-    assert_eq!(rt; said(rt.alloc(), ANOTHER_MODE), Ok(Verdict::NotTable(8)));
-    assert_eq!(rt; said(rt.alloc(), NO_LAST_LINE), Ok(Verdict::NotTable(14)));
-    assert_eq!(rt; said(rt.alloc(), ONE_BYTE_MORE), Ok(Verdict::NotTable(15)));
     assert_eq!(rt; said(rt.alloc(), A_COMMENT), Ok(Verdict::NotTable(1)));
     let fault = Refusal {
         line: 5,

@@ -1,11 +1,13 @@
 //! The engine over streams that give and take little, and fail in mid-stream. Whole runs are in tests/cases.
 
+use crate::checking::check_bytes;
 use crate::engine::{asm_bytes, dis_bytes, run_bytes};
 use crate::faults::BenchFault;
 use crate::format::Format;
 use std::io;
 use std::io::{ErrorKind, Read, Write};
 use std::test::Fail;
+use zy_check::verdict::Verdict;
 use zy_io::memory::{SliceSource, VecSink};
 use zy_io::stream::{CountingReader, CountingWriter};
 
@@ -107,5 +109,29 @@ fn a_text_has_its_image_and_an_image_its_text(rt: HostRuntime) -> Result<(), Fai
     let mut text = VecSink::new(Vec::new(rt.alloc()));
     assert_eq!(rt; dis_bytes(rt.alloc(), &mut image, &mut text), Ok(()));
     assert_eq!(rt; text.bytes(), SMALLEST);
+    Ok(())
+}
+
+#[test]
+fn a_verdict_is_written(rt: HostRuntime) -> Result<(), Fail> {
+    let mut source = SliceSource::new(SMALLEST);
+    let mut sink = VecSink::new(Vec::new(rt.alloc()));
+    let outcome = check_bytes(rt.alloc(), &mut source, &mut sink);
+    assert_eq!(rt; outcome, Ok(Verdict::NotTable(6)));
+    assert_eq!(rt; sink.bytes(), b"not table 6\n".as_slice());
+    Ok(())
+}
+
+#[test]
+fn a_failed_write_leaves_a_front_of_the_verdict(rt: HostRuntime) -> Result<(), Fail> {
+    let mut source = SliceSource::new(SMALLEST);
+    let mut sink = CountingWriter::new(Drip {
+        held: Vec::new(rt.alloc()),
+        bad: 5,
+        calls: 0,
+    });
+    let outcome = check_bytes(rt.alloc(), &mut source, &mut sink);
+    assert_eq!(rt; outcome, Err(BenchFault::Write));
+    assert_eq!(rt; sink.into_inner().held.as_slice(), b"not ".as_slice());
     Ok(())
 }
