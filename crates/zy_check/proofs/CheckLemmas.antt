@@ -1,5 +1,5 @@
 -- The scenario part of an input, and what it means.
-use Rattle.std.proofs.Common.{◌≡◌, ◌∙◌, ℕ, List, Option, Some, None, length, take, refl, sym, ap}
+use Rattle.std.proofs.Common.{◌≡◌, ◌∙◌, ℕ, List, Option, Some, None, Err, length, take, refl, sym, ap, inl, inr, ◌⊎◌}
 use Rattle.std.specs.Result.{result_err}
 use Rattle.std.proofs.lemmas.List.{length-take, take_min}
 use Rattle.zy_isa.specs.Scenario.{Scenario}
@@ -11,7 +11,12 @@ use Rattle.zy_audit.specs.Run.{listing_run}
 use Rattle.zy_check.specs.declared.verdict.Verdict.{Verdict}
 use Rattle.zy_check.specs.Cut.{cut, bytes_through_end}
 use Rattle.zy_check.specs.Differs.{verdict}
-use Rattle.zy_check.specs.Verdicts.{IsVerdict}
+use Rattle.zy_asm.specs.declared.faults.AsmKind.{AsmKind}
+use Rattle.zy_asm.specs.declared.faults.AsmKind.TheVariants as kinds
+use Rattle.zy_asm.specs.declared.faults.Refusal.{Refusal}
+use Rattle.zy_asm.specs.Reasons.{kind_of, fault_of}
+use Rattle.zy_check.specs.Faults.{of_kind, of_refusal, IsOfScenario}
+use Rattle.zy_check.specs.Verdicts.{IsVerdict, GivesVerdict}
 
 pub cut_taken : (text : List ℕ) → take (length (cut text)) text ≡ cut text
 cut_taken text = ap (λ n. take n text) (length-take (bytes_through_end (lines_of text)) text) ∙ take_min (bytes_through_end (lines_of text)) text
@@ -28,3 +33,23 @@ utf8_of bytes h = not_faulty (utf8_fault bytes) bytes h
 pub one_verdict : (input : List ℕ) (v : Verdict) → ((sc : Scenario) → utf8_fault (cut input) ≡ None → Means (cut input) sc → v ≡ verdict input (listing_run sc))
     → input_fault (cut input) ≡ None → (other : Verdict) → IsVerdict input other → v ≡ other
 one_verdict input v only right other found = only found.0 (utf8_of (cut input) right) found.1 ∙ sym found.2
+
+-- what a refusal's kind says of the fault
+by_kind : (part : List ℕ) (r : Refusal) (k : AsmKind) → (k ≡ kinds.Memory) ⊎ (input_fault part ≡ Some (fault_of r)) → IsOfScenario part (of_kind k r)
+by_kind part r kinds.Header h = elim h [ inl e ↦ absurd (cc) | inr e ↦ e ]
+by_kind part r kinds.Word h = elim h [ inl e ↦ absurd (cc) | inr e ↦ e ]
+by_kind part r kinds.Number h = elim h [ inl e ↦ absurd (cc) | inr e ↦ e ]
+by_kind part r kinds.Range h = elim h [ inl e ↦ absurd (cc) | inr e ↦ e ]
+by_kind part r kinds.Order h = elim h [ inl e ↦ absurd (cc) | inr e ↦ e ]
+by_kind part r kinds.Label h = elim h [ inl e ↦ absurd (cc) | inr e ↦ e ]
+by_kind part r kinds.Program h = elim h [ inl e ↦ absurd (cc) | inr e ↦ e ]
+by_kind part r kinds.Count h = elim h [ inl e ↦ absurd (cc) | inr e ↦ e ]
+by_kind part r kinds.End h = elim h [ inl e ↦ absurd (cc) | inr e ↦ e ]
+by_kind part r kinds.Memory h = tt
+
+-- a refused scenario part is told, unless there was no memory
+pub refusal_told : (part : List ℕ) (r : Refusal) → (kind_of r.reason ≡ kinds.Memory) ⊎ (input_fault part ≡ Some (fault_of r)) → IsOfScenario part (of_refusal r)
+refusal_told part r h = by_kind part r (kind_of r.reason) h
+
+pub memory_gives : (r : Refusal) (v : Verdict) → kind_of r.reason ≡ kinds.Memory → GivesVerdict (Err (of_refusal r)) v
+memory_gives r v e = rw e tt
