@@ -94,7 +94,7 @@ class RefusedImage(Case):
 
     def __init__(self, line):
         self.fault, self.said, image = (part.strip() for part in line.split('|'))
-        self.name = 'refused image: %s' % image
+        self.name, self.told = 'refused image: %s' % image, b''
         self.words, self.example, self.pad, self.to, self.output, self.status = ['dis'], '', 0, '', b'', 1
         self.text_given = bytes_of(image)
 

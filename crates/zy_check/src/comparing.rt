@@ -8,7 +8,8 @@ use std::io;
 use std::marker::Model;
 use zy_io::stream::Sink;
 
-/// How many bytes two texts have in common at their front.
+/// How many bytes two texts have in common at their front. Where the second is a front of the first, whole groups of bytes are
+/// compared.
 fn common_len(x: &[u8], y: &[u8]) -> usize
     ensures { result ≡ length (common x.now y.now) }
 {
@@ -43,8 +44,11 @@ fn line_after(text: &[u8], count: usize) -> usize
 #[derive(Drop)]
 pub struct Comparing<'a> {
     input: &'a [u8],
+    // So many bytes of it came.
     at: usize,
+    // This byte came behind them, and the input has none there or another.
     other: Option<u8>,
+    // So many calls took nothing.
     refusals: u64,
 }
 
