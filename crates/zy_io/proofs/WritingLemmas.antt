@@ -4,7 +4,8 @@ use Rattle.std.specs.List.{flat_map}
 use Rattle.std.proofs.lemmas.Grind.{flat_map-append}
 use Rattle.std.specs.Io.KnownBytes.{Appends}
 use Rattle.std.proofs.KnownBytes.{Appends-trans, Appends-nil}
-use Rattle.zy_io.specs.Streams.{WroteFront}
+use Rattle.zy_io.specs.Streams.{Remains, WroteFront}
+use Rattle.zy_io.proofs.StreamLemmas.{Remains-stops, WroteFront-more}
 use Rattle.zy_io.specs.declared.writing.TextFault.{TextFault}
 use Rattle.zy_io.specs.declared.writing.TextFault.TheVariants.{Write, Memory}
 use Rattle.std.specs.declared.alloc.Global.{Global}
@@ -106,3 +107,26 @@ Appended-element-stops f xs i d a b c e r h so_far (front, back, is, now) err =
       flat_map-split f xs i d h ∙ ap (λ l. before ++ (l ++ after)) is ∙ ap (λ l. before ++ l) (append_assoc front back after) ∙ sym (append_assoc before front (back ++ after)),
       now ∙ ap (λ l. l ++ front) so_far ∙ append_assoc (string_bytes a) before front,
     )
+
+-- what stands behind the elements before it is their text and its own
+pub flat_map-take : {X : Type 0} (f : X → List ℕ) (xs : List X) (i : ℕ) (d : X) → i < length xs → flat_map f (take (suc i) xs) ≡ flat_map f (take i xs) ++ f (get_or xs i d)
+flat_map-take f [] i d h = absurd (omega arith)
+flat_map-take f (x ∷ xs) zero d h = append-nil (f x)
+flat_map-take f (x ∷ xs) (suc i) d h = ap (λ l. f x ++ l) (flat_map-take f xs i d (omega arith)) ∙ sym (append_assoc (f x) (flat_map f (take i xs)) (f (get_or xs i d)))
+
+-- the same, where what stood before it went out but for a rest
+pub Wrote-rest-stops : {Y Z : Type 0} (f : Z → List ℕ) (xs : List Z) (i : ℕ) (d : Z) (a b c : Option (List ℕ)) (m n k : ℕ) (rest : List ℕ) (fault : TextFault) (r : Result Y TextFault)
+    → i < length xs → Remains a b (flat_map f (take i xs)) rest → n ≡ m → Wrote b c n k {X = Unit {0}} (Err fault) (rest ++ f (get_or xs i d)) → r ≡ Err fault → Wrote a c m k r (flat_map f xs)
+Wrote-rest-stops f xs i d a b c m n k rest fault r h p same q is = rw is (stops fault q)
+  where
+    before : List ℕ
+    before = flat_map f (take i xs)
+
+    front : WroteFront b c (rest ++ f (get_or xs i d)) → WroteFront a c (flat_map f xs)
+    front w =
+        WroteFront-more a c (before ++ f (get_or xs i d)) (flat_map f (drop (suc i) xs)) (flat_map f xs) (Remains-stops a b c before (f (get_or xs i d)) rest p w)
+        (flat_map-split f xs i d h ∙ sym (append_assoc before (f (get_or xs i d)) (flat_map f (drop (suc i) xs))))
+
+    stops : (e : TextFault) → Wrote b c n k {X = Unit {0}} (Err e) (rest ++ f (get_or xs i d)) → Wrote a c m k {X = Unit {0}} (Err e) (flat_map f xs)
+    stops Write w = (front w.0, w.1 ∙ ap (λ x. x + 1) same)
+    stops Memory w = (front w.0, w.1 ∙ same)

@@ -40,6 +40,10 @@ ReadTooMuch old new = Took old new 4194305
 abbrev pub WroteFront : Option (List ℕ) → Option (List ℕ) → List ℕ → Type 0
 WroteFront old new text = (front : List ℕ) × (back : List ℕ) × (text ≡ front ++ back) × Appends old new front
 
+-- a front of the text went out, and the rest did not
+abbrev pub Remains : Option (List ℕ) → Option (List ℕ) → List ℕ → List ℕ → Type 0
+Remains old new text rest = (front : List ℕ) × (text ≡ front ++ rest) × Appends old new front
+
 -- A call went from the bytes old and the number of failures before to new and after.
 module _ (old new : Option (List ℕ)) (before after : ℕ) where
   -- at Ok these are all the bytes that were left, and none is left; else a front of them was taken.

@@ -4,7 +4,7 @@ use Rattle.std.specs.declared.alloc.Global.{Global}
 use Rattle.std.specs.declared.string.String.{String}
 use Rattle.std.specs.Io.KnownBytes.{Appends}
 use Rattle.std.specs.String.{string_bytes}
-use Rattle.zy_io.specs.Streams.{WroteFront}
+use Rattle.zy_io.specs.Streams.{Remains, WroteFront}
 use Rattle.zy_io.specs.declared.writing.TextFault.{TextFault}
 use Rattle.zy_io.specs.declared.writing.TextFault.TheVariants.{Write, Memory}
 
@@ -28,3 +28,13 @@ module _ (old new : Option (List ℕ)) (before after : ℕ) where
   Wrote (Ok x) text = Appends old new text × (after ≡ before)
   Wrote (Err Write) text = WroteFront old new text × (after ≡ before + 1)
   Wrote (Err Memory) text = WroteFront old new text × (after ≡ before)
+
+  -- at Ok a front of the text went out, and the rest is kept; else a front of it went out, since a call failed or took none
+  abbrev pub Passed : {X E : Type 0} → Result X E → List ℕ → List ℕ → Type 0
+  Passed (Ok x) text rest = Remains old new text rest × (after ≡ before)
+  Passed (Err e) text rest = WroteFront old new text × (after ≡ before + 1)
+
+  -- the same, where memory may be wanted too
+  abbrev pub Gathered : {X : Type 0} → Result X TextFault → List ℕ → List ℕ → Type 0
+  Gathered (Ok x) text rest = Remains old new text rest × (after ≡ before)
+  Gathered (Err f) text rest = Wrote {X = Unit {0}} (Err f) text

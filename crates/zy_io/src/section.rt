@@ -2,11 +2,11 @@
 ghost use Rattle.std.specs.Prelude.{◌≡◌, ◌<◌, ◌++◌, [], ◌∷◌, ℕ, List, length, map, slice_index_or};
 ghost use Rattle.std.specs.List.{flat_map};
 ghost use Rattle.std.specs.String.{string_bytes};
-ghost use Rattle.zy_io.specs.Writing.{line_of, Appended, Wrote};
+ghost use Rattle.zy_io.specs.Writing.{line_of, Appended, Gathered, Passed, Wrote};
 
 use crate::line::Line;
 use crate::stream::Sink;
-use crate::writing::{TextFault, write_all};
+use crate::writing::{TextFault, WriteFault, write_all};
 use std::alloc::AllocError;
 
 /// A list of lines that are made one at a time.
@@ -86,8 +86,26 @@ pub fn write_line<K: Sink, D: Line>(
     finish_line(sink, line)
 }
 
-/// Writes the line at a place of the list.
-fn write_place<K: Sink, L: Lines>(
+/// How many bytes of lines are gathered before they go out.
+const MANY: usize = 4096;
+
+/// Writes what the `String` holds where that is much, and leaves it empty then.
+#[inline(always)]
+fn write_much<K: Sink>(sink: &mut K, line: &mut String) -> Result<(), WriteFault>
+    requires { K.failures sink.old < u64.MAX }
+    ensures { Passed (K.written sink.old) (K.written sink.new) (K.failures sink.old)
+        (K.failures sink.new) result (string_bytes line.old) (string_bytes line.new) }
+{
+    if line.len() >= MANY {
+        write_all(sink, line.as_bytes())?;
+        line.clear();
+    }
+    Ok(())
+}
+
+/// Puts the line at a place of the list behind what the `String` holds, and writes that where it is much.
+#[inline(always)]
+fn gather_place<K: Sink, L: Lines>(
     sink: &mut K,
     line: &mut String,
     lines: &L,
@@ -95,12 +113,13 @@ fn write_place<K: Sink, L: Lines>(
 ) -> Result<(), TextFault>
     requires failures { K.failures sink.old < u64.MAX }
     requires within { place < length (L.texts lines.now) }
-    ensures { Wrote (K.written sink.old) (K.written sink.new) (K.failures sink.old)
-        (K.failures sink.new) result (line_of (slice_index_or (L.texts lines.now) place [])) }
+    ensures { Gathered (K.written sink.old) (K.written sink.new) (K.failures sink.old) (K.failures sink.new)
+        result (string_bytes line.old ++ line_of (slice_index_or (L.texts lines.now) place [])) (string_bytes line.new) }
 {
-    line.clear();
     lines.append(place, line)?;
-    finish_line(sink, line)
+    line.push('\n')?;
+    write_much(sink, line)?;
+    Ok(())
 }
 
 /// Writes each line of the list, in the `String`, whose old text is lost.
@@ -113,9 +132,11 @@ pub fn write_lines<K: Sink, L: Lines>(
     ensures { Wrote (K.written sink.old) (K.written sink.new) (K.failures sink.old)
         (K.failures sink.new) result (flat_map line_of (L.texts lines.now)) }
 {
+    line.clear();
     for place in 0..lines.len() {
-        write_place(sink, line, lines, place)?;
+        gather_place(sink, line, lines, place)?;
     }
+    write_all(sink, line.as_bytes())?;
     Ok(())
 }
 

@@ -1,6 +1,6 @@
 -- What went out is a front of the text, and the rest is its back.
 use Rattle.std.proofs.Common.{◌≡◌, length}
-use Rattle.zy_io.proofs.StreamLemmas.{Remains}
+use Rattle.zy_io.specs.Streams.{Remains}
 use Rattle.zy_io.proofs.writing.write_all.Given as goal
 
 abbrev pub invariant-loop-rest : goal.invariant-loop-rest
