@@ -379,8 +379,7 @@ plain_drafts s h = record {
 
 canon_spelled : (s : Scenario) → IsScenario s → SpellEach (statements s (plain s)) (canon_words s)
 canon_spelled s h =
-    let names = names_of 0 (plain_programs 0 s.programs) in
-    (
+    let names = names_of 0 (plain_programs 0 s.programs) in (
       refl,
       (
         (decimal s.cap, refl, number_of-decimal s.cap (omega (arith, h.cap_most))),
@@ -389,8 +388,8 @@ canon_spelled s h =
           (
             refl,
             SpellEach-append (map m.row s.rows) _ (map row_words s.rows) _ (spell_rows s.rows h.rows_fit)
-            (SpellEach-append (flat_map program_statements (plain_programs 0 s.programs)) _ (program_words 0 s.programs) _ (spell_programs s.programs 0 h.programs)
-            (SpellEach-append (map (m.choice names) (once s.choices)) (m.end ∷ []) (map choice_words s.choices) ((codes "end" ∷ []) ∷ []) (spell_choices names s.choices (length s.programs) h.few_programs h.choices_named) (refl, tt))),
+                (SpellEach-append (flat_map program_statements (plain_programs 0 s.programs)) _ (program_words 0 s.programs) _ (spell_programs s.programs 0 h.programs)
+                (SpellEach-append (map (m.choice names) (once s.choices)) (m.end ∷ []) (map choice_words s.choices) ((codes "end" ∷ []) ∷ []) (spell_choices names s.choices (length s.programs) h.few_programs h.choices_named) (refl, tt))),
           ),
         ),
       ),

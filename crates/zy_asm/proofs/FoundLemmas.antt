@@ -440,8 +440,7 @@ one_more b N P l ls u t d f =
     let one = name_in d.head n in
     let names : N ++ one ++ names_of (n + 1) r.programs ≡ N ++ (one ++ names_of (n + 1) r.programs) = append_assoc N one (names_of (n + 1) r.programs) in
     let c = coded (marks 0 f.body) f.body f.program (following (N ++ one) (n + 1) r.programs r.choices) ls f.resolves f.follows.1 in
-    let all : P ++ f.program ∷ [] ++ bodies r.programs ≡ P ++ (instrs_of c.codes ∷ bodies r.programs) = append_assoc P (f.program ∷ []) (bodies r.programs) ∙ ap (λ (x : List Instr). P ++ (x ∷ bodies r.programs)) (sym c.instrs) in
-    (
+    let all : P ++ f.program ∷ [] ++ bodies r.programs ≡ P ++ (instrs_of c.codes ∷ bodies r.programs) = append_assoc P (f.program ∷ []) (bodies r.programs) ∙ ap (λ (x : List Instr). P ++ (x ∷ bodies r.programs)) (sym c.instrs) in (
       record {
         programs = record { head = d.head; body = c.codes } ∷ r.programs;
         choices = r.choices;

@@ -170,8 +170,14 @@ impl fmt::Display for Reason {
             }
             Reason::NoName(name) => write!(f, "no program above has the name {name}"),
             Reason::NameTwice(name) => write!(f, "a program above has the name {name} already"),
-            Reason::NoLabel(name) => write!(f, "the label {name} stands nowhere in the program above"),
-            Reason::LabelTwice(name) => write!(f, "the label {name} stands in this program already"),
+            Reason::NoLabel(name) => write!(
+                f,
+                "the label {name} stands nowhere in the program above"
+            ),
+            Reason::LabelTwice(name) => write!(
+                f,
+                "the label {name} stands in this program already"
+            ),
             Reason::NoProgram { number, fault } => tell_program(f, *number, *fault),
             Reason::RowCount => f.write_str("there are at most 256 rows"),
             Reason::PageCount { pages } => write!(

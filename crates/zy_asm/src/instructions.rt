@@ -153,11 +153,7 @@ fn alone(words: &[&[u8]], instr: Instr) -> Result<Instr, Reason>
 }
 
 /// The instruction of an operation with the words behind it. A label takes memory.
-pub fn instr_of(
-    alloc: Global,
-    operation: Operation,
-    words: &[&[u8]],
-) -> Result<Unresolved, Reason>
+pub fn instr_of(alloc: Global, operation: Operation, words: &[&[u8]]) -> Result<Unresolved, Reason>
     ensures { Gives shown result (instr_of_spec operation (texts words.now)) }
 {
     match operation {

@@ -16,7 +16,9 @@ fn is_letter(byte: u8) -> bool
 fn are_parts(bytes: &[u8]) -> bool
     ensures { result ≡ are_parts_spec bytes.now }
 {
-    bytes.iter().all(|byte| is_letter(*byte) || byte.is_ascii_digit())
+    bytes
+        .iter()
+        .all(|byte| is_letter(*byte) || byte.is_ascii_digit())
 }
 
 /// Whether a word is a name.
