@@ -2,3 +2,4 @@ pub mod OneOwner
 pub mod Journey
 pub mod Travel
 pub mod Counts
+pub mod Throughout
