@@ -1,0 +1,4 @@
+pub mod LabelLemmas
+pub mod FeedLemmas
+pub mod LineLemmas
+pub mod KeptLemmas
