@@ -28,7 +28,7 @@ use Rattle.zy_isa.specs.Text as m
 use Rattle.zy_isa.specs.Names.{Mark, AreNew}
 use Rattle.zy_isa.specs.Text.{Code, Written, Times, Draft, Statement, Spells, SpellsInstr, SpellsChoice, SpellEach, instrs_of, labels_of, names_of, Headed, Labelled, IsDraftOf, program_statements, repeated, statements, Means}
 use Rattle.zy_isa.proofs.ResultLemmas.{both}
-use Rattle.zy_asm.proofs.LineLemmas.{one_plus}
+use Rattle.zy_words.proofs.FeedLemmas.{one_plus}
 use Rattle.zy_asm.proofs.SpellLemmas.{no_name}
 use Rattle.zy_asm.proofs.GivesLemmas.{numeral_ok}
 use borrow.Author.Tests.{tests}

@@ -1,9 +1,11 @@
 -- Laws that the code's answers cite.
-use Rattle.std.proofs.Common.{◌≡◌, ℕ, ◌<◌, ◌==◌, true, false, List, [], ◌∷◌, length, Result, Ok, Err, refl, sym, ap, ◌∙◌, arith, Bor, Some, eq-eqb}
+use Rattle.std.proofs.Common.{◌≡◌, ℕ, ◌<◌, ◌==◌, ◌+◌, true, false, List, [], ◌∷◌, length, Result, Ok, Err, refl, sym, ap, ◌∙◌, arith, Bor, Some, eq-eqb}
 use borrow.Author.Tests.{eqb-true}
 use Rattle.zy_isa.specs.Words.{lines_of, words_of, number_of}
-use Rattle.zy_asm.specs.Steps.{texts}
-use Rattle.zy_asm.specs.Reading.{Seen, step, line_step, read_lines, ended, own_number}
+use Rattle.zy_words.specs.Lines.{texts, first_words, first_line, lines_below}
+use Rattle.zy_words.proofs.LineLemmas.{lines_parted}
+use Rattle.zy_asm.proofs.FirstWords.{line_first}
+use Rattle.zy_asm.specs.Reading.{Seen, line_step, read_lines, ended, own_number}
 use Rattle.zy_asm.specs.declared.faults.AsmFault.{AsmFault}
 use Rattle.zy_asm.specs.declared.faults.AsmKind.{AsmKind}
 use Rattle.zy_asm.specs.declared.faults.AsmKind.TheVariants as kinds
@@ -13,15 +15,20 @@ pub empty_lines : (xs : List ℕ) → (length xs == 0) ≡ true → lines_of xs 
 empty_lines [] h = refl
 empty_lines (x ∷ xs) h = absurd (omega (arith, eqb-true (length (x ∷ xs)) 0 h))
 
-words_fault : (s : Seen) (k : AsmKind) (ws : List (Bor (List ℕ))) → (length ws == 0) ≡ false → step s (texts ws) ≡ Err k → line_step s (texts ws) ≡ Err k
-words_fault s k [] h e = cc
-words_fault s k (w ∷ ws) h e = e
+-- a text that is left begins with a line, and goes on below it
+pub line_taken : (text below : List ℕ) → (length text == 0) ≡ false → lines_of below ≡ lines_below text → lines_of text ≡ first_line text ∷ lines_of below
+line_taken [] below some h = cc
+line_taken (b ∷ bs) below some h = lines_parted (b ∷ bs) (omega arith) ∙ ap (λ ls. first_line (b ∷ bs) ∷ ls) (sym h)
 
 -- the fault of a line
-pub fault_at : (s : Seen) (n : ℕ) (ls rest : List (List ℕ)) (l : List ℕ) (k : AsmKind) (r : Result Seen AsmFault) (ws : List (Bor (List ℕ)))
-    → read_lines s n ls ≡ r → ls ≡ l ∷ rest → (length ws == 0) ≡ false → texts ws ≡ words_of l → step s (texts ws) ≡ Err k
-    → r ≡ Err (record { line = n; kind = k })
-fault_at s n ls rest l k r ws h e some same f = sym h ∙ ap (read_lines s n) e ∙ rw (sym same, words_fault s k ws some f) refl
+pub fault_at : (s : Seen) (n : ℕ) (ls rest : List (List ℕ)) (l : List ℕ) (k : AsmKind) (r : Result Seen AsmFault)
+    → read_lines s n ls ≡ r → ls ≡ l ∷ rest → line_step s (first_words (words_of l)) ≡ Err k → r ≡ Err (record { line = n; kind = k })
+fault_at s n ls rest l k r h e f = sym h ∙ ap (read_lines s n) e ∙ rw (sym (line_first s (words_of l)) ∙ f) refl
+
+-- what is left after a line
+pub line_done : (s t : Seen) (n : ℕ) (ls rest : List (List ℕ)) (l : List ℕ) (r : Result Seen AsmFault)
+    → read_lines s n ls ≡ r → ls ≡ l ∷ rest → line_step s (first_words (words_of l)) ≡ Ok t → read_lines t (n + 1) rest ≡ r
+line_done s t n ls rest l r h e f = sym (rw (sym (line_first s (words_of l)) ∙ f) refl) ∙ (sym (ap (read_lines s n) e) ∙ h)
 
 -- the fault of the end
 pub fault_end : (s : Seen) (n : ℕ) (ls : List (List ℕ)) (k : AsmKind) (r : Result Seen AsmFault) → read_lines s n ls ≡ r → ls ≡ [] → ended s.stage ≡ Err k

@@ -31,7 +31,7 @@ use Rattle.zy_asm.specs.declared.state.Stage.{Stage}
 use Rattle.zy_asm.specs.declared.state.Stage.TheVariants as stage
 use Rattle.zy_isa.specs.Results.{◌>>=◌}
 use Rattle.zy_asm.specs.Steps.{number_in}
-use Rattle.zy_asm.specs.Names.{label_of}
+use Rattle.zy_words.specs.Names.{label_of}
 use Rattle.zy_asm.specs.Pending.{Pending, all_resolved, judged, program_of}
 use Rattle.zy_asm.specs.Instructions.{instr_of}
 use Rattle.zy_asm.specs.Choices.{action_of}
@@ -41,7 +41,7 @@ use Rattle.zy_isa.proofs.RowLemmas.{order_more}
 use Rattle.zy_isa.proofs.ScenarioLemmas.{no_fault}
 use Rattle.zy_isa.proofs.ResultLemmas.{bind_ok, if_ok, if_err, chosen_by, neither, below, not_over, same, ok_or_ok}
 use Rattle.zy_asm.proofs.SpellLemmas.{op_word, actor_word, keyword_ok, number_in_ok, SpellsPending, instr_ok, row_ok, not_some, head_ok, AreBelow, Chose, choice_ok}
-use Rattle.zy_asm.proofs.NameLemmas.{label_ok}
+use Rattle.zy_words.proofs.LabelLemmas.{label_ok}
 use Rattle.zy_asm.proofs.DraftLemmas.{Line, SpellsLine, SpellBody, pending_in, pendings, marks, coded, new_label, new_name, below_name}
 
 -- what the header and the rows gave

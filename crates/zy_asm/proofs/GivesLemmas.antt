@@ -30,14 +30,14 @@ use Rattle.zy_asm.specs.declared.state.Stage.{Stage}
 use Rattle.zy_asm.specs.declared.state.Stage.TheVariants as stage
 use Rattle.zy_asm.specs.Steps.{number_in}
 use Rattle.zy_asm.specs.Instructions.{register_of, two, instr_of}
-use Rattle.zy_asm.specs.Names.{is_numeral}
+use Rattle.zy_words.specs.Names.{is_numeral}
 use Rattle.zy_asm.specs.Pending.{Pending, whole, jump, resolved, all_resolved}
 use Rattle.zy_asm.specs.Choices.{node_action, action_of, chosen, transaction, are_times, times_of}
 use Rattle.zy_isa.specs.Rows.{is_low, last_row}
 use Rattle.zy_asm.specs.Reading.{Seen, instr_line, behind_label, led_by, head_line, repeat_line, step, choice_line}
 use Rattle.zy_isa.proofs.ResultLemmas.{out_of_neither, not_below, over_not, both}
 use Rattle.zy_asm.proofs.SpellLemmas.{op_word, actor_word, node_word, no_name}
-use Rattle.zy_asm.proofs.NameLemmas.{label-last}
+use Rattle.zy_words.proofs.LabelLemmas.{label-last}
 use Rattle.zy_asm.proofs.CodeLemmas.{own_gives}
 use Rattle.zy_asm.proofs.FoundLemmas.{Base, at, top}
 use borrow.Author.Tests.{tests}

@@ -1,4 +1,4 @@
-pub mod LineLemmas
+pub mod FirstWords
 pub mod CodeLemmas
 pub mod NameLemmas
 pub mod PendingLemmas
@@ -9,4 +9,3 @@ pub mod GivesLemmas
 pub mod OnlyLemmas
 pub mod CanonLemmas
 pub mod InputLemmas
-pub mod ExtendLemmas

@@ -30,7 +30,7 @@ use Rattle.zy_asm.specs.declared.state.Stage.{Stage}
 use Rattle.zy_asm.specs.declared.state.Stage.TheVariants as stage
 use Rattle.zy_asm.specs.declared.state.Reader.{Reader}
 use Rattle.zy_isa.specs.Results.{◌>>=◌}
-use Rattle.zy_asm.specs.Names.{is_numeral}
+use Rattle.zy_words.specs.Names.{is_numeral}
 use Rattle.zy_asm.specs.Pending.{Pending, resolved, all_resolved, program_of}
 use Rattle.zy_asm.specs.Reading.{Seen, seen, rule_of, own_number, open_line, choice_line, step, line_step, at_line, read_lines, reading, finish, nothing_seen}
 use Rattle.zy_isa.proofs.RowLemmas.{Above, above_more}

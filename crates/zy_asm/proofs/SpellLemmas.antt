@@ -33,7 +33,7 @@ use Rattle.zy_asm.specs.declared.state.Stage.TheVariants as stage
 use Rattle.zy_asm.specs.Steps.{number_in}
 use Rattle.zy_isa.specs.Names.{Mark, is_letter, is_name, place, AreNew}
 use Rattle.zy_isa.specs.Results.{◌>>=◌}
-use Rattle.zy_asm.specs.Names.{is_numeral}
+use Rattle.zy_words.specs.Names.{is_numeral}
 use Rattle.zy_asm.specs.Pending.{Pending, whole, jump, resolved}
 use Rattle.zy_asm.specs.Instructions.{operation_of, register_of, two, pair_of, jump_to, set_of, beq_of, alone, instr_of}
 use Rattle.zy_asm.specs.Choices.{actor_of, client_action, node_action, action_of, chosen, numbered, transaction, are_times, times_of}

@@ -16,7 +16,7 @@ use Rattle.zy_asm.specs.declared.choices.TxnAction.{TxnAction}
 use Rattle.zy_asm.specs.declared.choices.TxnAction.TheVariants.{Begin, Kill, Run}
 use Rattle.zy_isa.specs.Results.{◌>>=◌}
 use Rattle.zy_isa.specs.Names.{Mark, is_name, place}
-use Rattle.zy_asm.specs.Names.{is_numeral}
+use Rattle.zy_words.specs.Names.{is_numeral}
 use Rattle.zy_asm.specs.Steps.{number_in}
 
 abbrev pub actor_of : List ℕ → Option Actor

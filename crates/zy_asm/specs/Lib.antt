@@ -1,6 +1,5 @@
 pub mod Reasons
 pub mod Steps
-pub mod Names
 pub mod Pending
 pub mod Instructions
 pub mod Choices

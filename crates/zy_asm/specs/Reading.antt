@@ -28,7 +28,7 @@ use Rattle.zy_asm.specs.declared.state.Stage.TheVariants.{Zephyr, Cap, Pages, Ru
 use Rattle.zy_asm.specs.declared.state.Reader.{Reader}
 use Rattle.zy_isa.specs.Names.{Mark, is_name, place}
 use Rattle.zy_isa.specs.Results.{◌>>=◌}
-use Rattle.zy_asm.specs.Names.{is_numeral, label_of}
+use Rattle.zy_words.specs.Names.{is_numeral, label_of}
 use Rattle.zy_asm.specs.Pending.{Pending, shown, program_of}
 use Rattle.zy_asm.specs.Steps.{number_in}
 use Rattle.zy_asm.specs.Instructions.{operation_of, instr_of}

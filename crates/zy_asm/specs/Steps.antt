@@ -1,14 +1,9 @@
--- The words that references point to, and numbers in their ranges.
-use Rattle.std.specs.Prelude.{◌||◌, nat_lt, ℕ, List, map, Result, Ok, Err, ok_or, if◌then◌else◌}
-use Rattle.std.specs.Borrow.{Bor}
+-- Numbers in their ranges.
+use Rattle.std.specs.Prelude.{◌||◌, nat_lt, ℕ, List, Result, Ok, Err, ok_or, if◌then◌else◌}
 use Rattle.zy_isa.specs.Results.{◌>>=◌}
 use Rattle.zy_isa.specs.Words.{number_of}
 use Rattle.zy_asm.specs.declared.faults.AsmKind.{AsmKind}
 use Rattle.zy_asm.specs.declared.faults.AsmKind.TheVariants as kinds
-
--- the words that references point to
-abbrev pub texts : List (Bor (List ℕ)) → List (List ℕ)
-texts ws = map (λ w. w.now) ws
 
 -- a number from least to most
 abbrev pub number_in : List ℕ → ℕ → ℕ → Result ℕ AsmKind

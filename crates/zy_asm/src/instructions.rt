@@ -1,17 +1,17 @@
 //! The instruction of a line.
 ghost use Rattle.std.specs.Prelude.{◌≡◌};
 ghost use Rattle.zy_asm.specs.Reasons.{by_kind, Gives};
-ghost use Rattle.zy_asm.specs.Steps.{texts};
+ghost use Rattle.zy_words.specs.Lines.{texts};
 ghost use Rattle.zy_asm.specs.Pending.{shown};
 ghost use Rattle.zy_asm.specs.Instructions.{register_of as register_of_spec, two as two_spec, pair_of as pair_of_spec, jump_to as jump_to_spec, operation_of as operation_of_spec, set_to as set_to_spec, set_of as set_of_spec, jump_where as jump_where_spec, beq_of as beq_of_spec, alone as alone_spec, instr_of as instr_of_spec};
 
 use crate::faults::Reason;
-use crate::names::is_name;
+use crate::numbers::number_in;
 use crate::pending::Unresolved;
 use crate::shown::Shown;
-use crate::words::{is, number_in};
 use std::alloc::Global;
 use zy_isa::instr::{Instr, Reg};
+use zy_words::names::{is, is_name};
 
 /// The first words of instructions.
 #[derive(Clone, Copy, Debug, PartialEq, Eq)]

@@ -5,7 +5,7 @@ pub mod assembling;
 mod choices;
 pub mod faults;
 mod instructions;
-mod names;
+mod numbers;
 mod pending;
 mod reading;
 pub mod shown;
@@ -14,4 +14,3 @@ mod table;
 #[cfg(test)]
 mod tests;
 pub mod text;
-mod words;

@@ -1,20 +1,19 @@
 //! Reads a text line by line.
 ghost use Rattle.std.specs.Prelude.{◌≡◌, ◌≤◌, ◌<◌, length, IfOk, Some};
 ghost use Rattle.zy_asm.specs.Reasons.{by_kind, seen_word};
-ghost use Rattle.zy_asm.specs.Steps.{texts};
-ghost use Rattle.zy_asm.specs.Reading.{Steps, Reads, seen, keyword_of as keyword_of_spec, headed as headed_spec, version_of as version_of_spec, rule_of as rule_of_spec, zephyr_line, cap_line, pages_line, rule_line, row_with as row_with_spec, row_of as row_of_spec, add_row, row_at, instr_line, instr_at, note_label, behind_label, label_line, closed, own_number as own_number_spec, note_name, head_line, open_line, txn_at, repeat_choice, repeat_line, plain_line, txn_action_line, choice_line, end_line, statement, body_line, step, ended as ended_spec, reading};
+ghost use Rattle.zy_words.specs.Lines.{texts};
+ghost use Rattle.zy_asm.specs.Reading.{Steps, Reads, seen, keyword_of as keyword_of_spec, headed as headed_spec, version_of as version_of_spec, rule_of as rule_of_spec, zephyr_line, cap_line, pages_line, rule_line, row_with as row_with_spec, row_of as row_of_spec, add_row, row_at, instr_line, instr_at, note_label, behind_label, label_line, closed, own_number as own_number_spec, note_name, head_line, open_line, txn_at, repeat_choice, repeat_line, plain_line, txn_action_line, choice_line, end_line, statement, body_line, step, line_step, ended as ended_spec, reading};
 
 use crate::choices::{
     Action, TxnAction, action_of, actor_of, are_times, chosen, not_times, times_of, transaction,
 };
 use crate::faults::{Reason, Refusal};
 use crate::instructions::{Operation, instr_of, operation_of};
-use crate::names::{is_name, is_numeral, label_of};
+use crate::numbers::number_in;
 use crate::pending::program_of;
 use crate::shown::Shown;
 use crate::state::{Reader, Stage};
 use crate::table::Table;
-use crate::words::{first_line, is, number_in, number_of, take_words};
 use std::alloc::Global;
 use zy_isa::choice::Choice;
 use zy_isa::node::Actor;
@@ -22,6 +21,9 @@ use zy_isa::program::MAX_INSTRS;
 use zy_isa::row::Row;
 use zy_isa::rule::Rule;
 use zy_isa::scenario::{MAX_CAP, MAX_CHOICES, MAX_PAGES, MAX_ROWS, MAX_TXNS, opening_pages_for};
+use zy_words::line::{Words, take_line};
+use zy_words::names::{is, is_name, is_numeral, label_of};
+use zy_words::numbers::number_of;
 
 /// What the first word of a line below the header says that the line is.
 #[derive(Clone, Copy, Debug, PartialEq, Eq)]
@@ -432,7 +434,7 @@ impl Reader {
     }
 
     /// Takes a line with words.
-    pub fn line(&mut self, words: &[&[u8]]) -> Result<(), Reason>
+    fn worded_line(&mut self, words: &[&[u8]]) -> Result<(), Reason>
         ensures { Steps result (seen self.new) (step (seen self.old) (texts words.now)) }
     {
         match self.stage {
@@ -443,6 +445,16 @@ impl Reader {
             Stage::Done => Err(Reason::BelowEnd),
             _ => self.body_line(words),
         }
+    }
+
+    /// Takes a line.
+    fn line(&mut self, words: &[&[u8]]) -> Result<(), Reason>
+        ensures { Steps result (seen self.new) (line_step (seen self.old) (texts words.now)) }
+    {
+        if words.is_empty() {
+            return Ok(());
+        }
+        self.worded_line(words)
     }
 }
 
@@ -473,23 +485,14 @@ pub fn read(alloc: Global, text: &str) -> Result<Reader, Refusal>
         instrs: Vec::new(alloc),
         choices: Vec::new(alloc),
     };
-    let mut words: Vec<&[u8]> = Vec::new(alloc);
+    let mut words = Words::new();
     let mut rest = text.as_bytes();
     let mut line = 1usize;
     while !rest.is_empty() {
-        let (first, after) = first_line(rest);
-        let Ok(()) = take_words(&mut words, first) else {
-            return Err(Refusal {
-                line,
-                reason: Reason::NoMemory,
-            });
-        };
-        if !words.is_empty() {
-            if let Err(reason) = reader.line(words.as_slice()) {
-                return Err(Refusal { line, reason });
-            }
+        rest = take_line(&mut words, rest);
+        if let Err(reason) = reader.line(words.as_slice()) {
+            return Err(Refusal { line, reason });
         }
-        rest = after;
         line += 1;
     }
     match ended(reader.stage) {

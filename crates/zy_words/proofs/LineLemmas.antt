@@ -90,18 +90,18 @@ plain : (b : ℕ) → ends_word b ≡ false → Plain b
 plain b h = elim (either (is_space b)) [
   | inl e ↦ cc
   | inr e ↦ elim (either (b == 10)) [
-      | inl f ↦ cc
-      | inr f ↦ elim (either (b == 59)) [ inl g ↦ cc | inr g ↦ record { space = e; lf = f; semi = g } ]
-    ]
+    | inl f ↦ cc
+    | inr f ↦ elim (either (b == 59)) [ inl g ↦ cc | inr g ↦ record { space = e; lf = f; semi = g } ]
+  ]
 ]
 
 parts_stop : (b : ℕ) (bs : List ℕ) → ends_word b ≡ true → parts (b ∷ bs) ≡ [] ∷ drop 1 (parts (b ∷ bs))
 parts_stop b bs h = elim (either (is_space b)) [
   | inl e ↦ by_head (parts_space b bs e)
   | inr e ↦ elim (either (b == 10)) [
-      | inl f ↦ by_head (parts_lf b bs f)
-      | inr f ↦ elim (either (b == 59)) [ inl g ↦ by_head (parts_semi b bs g) | inr g ↦ cc ]
-    ]
+    | inl f ↦ by_head (parts_lf b bs f)
+    | inr f ↦ elim (either (b == 59)) [ inl g ↦ by_head (parts_semi b bs g) | inr g ↦ cc ]
+  ]
 ]
   where
     by_head : {ps qs : List (List ℕ)} → ps ≡ [] ∷ qs → ps ≡ [] ∷ drop 1 ps

@@ -1,6 +1,7 @@
 //! Words that are names, labels or numbers, by their form alone.
 ghost use Rattle.std.specs.Prelude.{◌≡◌};
 ghost use Rattle.std.specs.Option.{option_copied};
+ghost use Rattle.std.specs.Str.{bytes_eq};
 ghost use Rattle.zy_isa.specs.Names.{is_letter as is_letter_spec, are_parts as are_parts_spec, is_name as is_name_spec};
 ghost use Rattle.zy_words.specs.Names.{is_numeral as is_numeral_spec, label_of as label_of_spec};
 
@@ -49,4 +50,11 @@ pub fn label_of(word: &[u8]) -> Option<&[u8]>
         Some((last, name)) if *last == b':' => Some(name),
         _ => None,
     }
+}
+
+/// Whether a word is this text.
+pub fn is(word: &[u8], text: &[u8]) -> bool
+    ensures { result ≡ bytes_eq word.now text.now }
+{
+    word == text
 }

@@ -1,23 +1,33 @@
--- The fault of a line, and of the end.
-use Rattle.std.proofs.Common.{◌≡◌, ◌∙◌, ◌==◌, ap, sym, inl, inr, length, false}
+-- A line that was done, the fault of a line, and that of the end.
+use Rattle.std.proofs.Common.{◌∙◌, arith, ap, sym, inl, inr}
 use Rattle.zy_isa.specs.Words.{lines_of}
+use Rattle.zy_words.specs.Lines.{first_line}
 use Rattle.zy_asm.specs.Reasons.{kind_of}
-use Rattle.zy_asm.specs.Steps.{texts}
-use Rattle.zy_asm.specs.Reading.{seen, reading}
-use Rattle.zy_asm.proofs.CodeLemmas.{empty_lines, fault_at, fault_end}
+use Rattle.zy_asm.specs.Reading.{seen, reading, line_step}
+use Rattle.zy_asm.proofs.CodeLemmas.{empty_lines, line_taken, fault_at, fault_end, line_done}
 use Rattle.zy_asm.proofs.reading.read.Goals as goal
+
+pub loop-words-preserved : goal.loop-words-preserved
+loop-words-preserved c =
+    let some = sym c.is_empty.ensures ∙ c.loop-words-test.true in
+    let words = c.as_slice.ensures ∙ c.take_line-rest.ensures.words in
+    record {
+      same = line_done (seen c.loop-words.reader) (seen c.line.new.self) c.loop-words.line (lines_of c.loop-words.rest.now) (lines_of c.take_line-rest.result.now) (first_line c.loop-words.rest.now) (reading c.args.text.now)
+          c.loop-words.invariant.same (line_taken c.loop-words.rest.now c.take_line-rest.result.now some c.take_line-rest.ensures.below) (ap (line_step (seen c.loop-words.reader)) (sym words) ∙ c.in_default.ensures);
+      few = omega (arith, c.take_line-rest.ensures.shorter, c.loop-words.invariant.few);
+    }
 
 pub returns-in-Err : goal.returns-in-Err
 returns-in-Err c =
-    let value = c.as_slice.ensures.value in
-    let some : (length c.as_slice.result.now == 0) ≡ false = ap (λ n. n == 0) c.as_slice.ensures.len ∙ sym c.is_empty-in-loop-rest.ensures ∙ c.if-not-is_empty.true in
+    let some = sym c.is_empty.ensures ∙ c.loop-words-test.true in
+    let words = c.as_slice.ensures ∙ c.take_line-rest.ensures.words in
     elim c.in-Err.ensures [
       | inl e ↦ inl e
-      | inr e ↦ inr (fault_at (seen c.loop-rest.reader) c.loop-rest.line (lines_of c.loop-rest.rest.now) (lines_of c.first_line.result.1.now) c.first_line.result.0.now (kind_of c.in-Err.reason) (reading c.args.text.now) c.as_slice.result.now
-          c.loop-rest.invariant.same c.first_line.ensures.lines some (ap texts value ∙ c.in-Ok.ensures) e)
+      | inr e ↦ inr (fault_at (seen c.loop-words.reader) c.loop-words.line (lines_of c.loop-words.rest.now) (lines_of c.take_line-rest.result.now) (first_line c.loop-words.rest.now) (kind_of c.in-Err.reason) (reading c.args.text.now)
+          c.loop-words.invariant.same (line_taken c.loop-words.rest.now c.take_line-rest.result.now some c.take_line-rest.ensures.below) (ap (line_step (seen c.loop-words.reader)) (sym words) ∙ e))
     ]
 
 pub returns-in-Err-ended : goal.returns-in-Err-ended
 returns-in-Err-ended c =
-    inr (fault_end (seen c.loop-rest.reader) c.loop-rest.line (lines_of c.loop-rest.rest.now) (kind_of c.in-Err-ended.reason) (reading c.args.text.now)
-    c.loop-rest.invariant.same (empty_lines c.loop-rest.rest.now (sym c.is_empty.ensures ∙ c.loop-rest-test.false)) (sym c.in-Err-ended.ensures))
+    inr (fault_end (seen c.loop-words.reader) c.loop-words.line (lines_of c.loop-words.rest.now) (kind_of c.in-Err-ended.reason) (reading c.args.text.now)
+    c.loop-words.invariant.same (empty_lines c.loop-words.rest.now (sym c.is_empty.ensures ∙ c.loop-words-test.false)) (sym c.in-Err-ended.ensures))

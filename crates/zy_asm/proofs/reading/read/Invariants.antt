@@ -4,11 +4,11 @@ use Rattle.zy_isa.specs.Words.{lines_of}
 use Rattle.zy_asm.specs.Reading.{seen, reading, read_lines}
 use Rattle.zy_asm.proofs.reading.read.Given as goal
 
-abbrev pub invariant-loop-rest : goal.invariant-loop-rest
-invariant-loop-rest l = record {
+abbrev pub invariant-loop-words : goal.invariant-loop-words
+invariant-loop-words l = record {
   same : read_lines (seen l.reader) l.line (lines_of l.rest) ≡ reading l.text;
   few : l.line + length l.rest ≤ length l.text + 1;
 }
 
-abbrev pub decreases-loop-rest : goal.decreases-loop-rest
-decreases-loop-rest l = length l.rest
+abbrev pub decreases-loop-words : goal.decreases-loop-words
+decreases-loop-words l = length l.rest
