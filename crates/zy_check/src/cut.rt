@@ -2,14 +2,10 @@
 ghost use Rattle.std.specs.Prelude.{◌≡◌, ◌==◌, ◌+◌, ◌<◌, ◌∷◌, true, false, length, min, position, codes};
 ghost use Rattle.std.specs.List.{list_all};
 ghost use Rattle.std.specs.Str.{bytes_eq};
-ghost use Rattle.zy_isa.specs.Words.{is_space as is_space_spec, without_comment as without_comment_spec, words_of, lines_of};
+ghost use Rattle.zy_isa.specs.Words.{without_comment as without_comment_spec, words_of, lines_of};
 ghost use Rattle.zy_check.specs.Cut.{cut, is_end};
 
-fn is_space(byte: u8) -> bool
-    ensures { result ≡ is_space_spec byte }
-{
-    byte == b' ' || byte == b'\t' || byte == b'\r'
-}
+use zy_words::line::is_space;
 
 /// Where a byte stands first.
 fn first_place(bytes: &[u8], sought: u8) -> Option<usize>

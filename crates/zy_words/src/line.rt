@@ -61,7 +61,8 @@ impl<'a> Words<'a> {
     }
 }
 
-fn is_space(byte: u8) -> bool
+/// Whether a byte parts words: a space, a tab or a carriage return.
+pub fn is_space(byte: u8) -> bool
     ensures { result ≡ is_space_spec byte }
 {
     byte == b' ' || byte == b'\t' || byte == b'\r'
