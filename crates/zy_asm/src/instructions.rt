@@ -56,14 +56,14 @@ fn register_of(word: &[u8]) -> Result<Reg, Reason>
     ensures { by_kind result ≡ register_of_spec word.now }
 {
     match word {
-        b"r0" => Ok(Reg::R0),
-        b"r1" => Ok(Reg::R1),
-        b"r2" => Ok(Reg::R2),
-        b"r3" => Ok(Reg::R3),
-        b"r4" => Ok(Reg::R4),
-        b"r5" => Ok(Reg::R5),
-        b"r6" => Ok(Reg::R6),
-        b"r7" => Ok(Reg::R7),
+        [b'r', b'0'] => Ok(Reg::R0),
+        [b'r', b'1'] => Ok(Reg::R1),
+        [b'r', b'2'] => Ok(Reg::R2),
+        [b'r', b'3'] => Ok(Reg::R3),
+        [b'r', b'4'] => Ok(Reg::R4),
+        [b'r', b'5'] => Ok(Reg::R5),
+        [b'r', b'6'] => Ok(Reg::R6),
+        [b'r', b'7'] => Ok(Reg::R7),
         _ => Err(Reason::NotKnown(Shown::of(word))),
     }
 }

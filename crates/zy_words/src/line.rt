@@ -2,7 +2,7 @@
 ghost use Rattle.std.specs.Prelude.{◌≡◌, ◌==◌, ◌<◌, ◌≤◌, ◌∷◌, ◌++◌, [], length, drop, position};
 ghost use Rattle.std.specs.List.{position_or_len, before_first};
 ghost use Rattle.zy_isa.specs.Words.{is_space as is_space_spec, lines_of, words_of};
-ghost use Rattle.zy_words.specs.Lines.{first_line, lines_below, first_words, texts, ends_word};
+ghost use Rattle.zy_words.specs.Lines.{first_line, lines_below, first_words, texts, ends_word as ends_word_spec};
 
 use std::marker::Model;
 
@@ -68,19 +68,28 @@ pub fn is_space(byte: u8) -> bool
     byte == b' ' || byte == b'\t' || byte == b'\r'
 }
 
+/// Whether a byte ends a word. Most bytes are above the space.
+fn ends_word(byte: u8) -> bool
+    ensures { result ≡ ends_word_spec byte }
+{
+    if byte > b' ' {
+        byte == b';'
+    } else {
+        is_space(byte) || byte == b'\n'
+    }
+}
+
 /// Where the word ends that a text begins with, unless it ends with the text.
 fn word_end(text: &[u8]) -> Option<usize>
-    ensures { result ≡ position ends_word text.now }
+    ensures { result ≡ position ends_word_spec text.now }
 {
-    text.iter().position(|byte| {
-        *byte == b' ' || *byte == b'\t' || *byte == b'\r' || *byte == b'\n' || *byte == b';'
-    })
+    text.iter().position(|byte| ends_word(*byte))
 }
 
 /// The word that a text begins with, and what stands behind it.
 fn first_word(text: &[u8]) -> (&[u8], &[u8])
-    ensures word { result.0.now ≡ before_first ends_word text.entry.now }
-    ensures behind { result.1.now ≡ drop (position_or_len ends_word text.entry.now) text.entry.now }
+    ensures word { result.0.now ≡ before_first ends_word_spec text.entry.now }
+    ensures behind { result.1.now ≡ drop (position_or_len ends_word_spec text.entry.now) text.entry.now }
 {
     match word_end(text) {
         Some(end) => text.split_at(end),
@@ -116,18 +125,16 @@ pub fn take_line<'a>(words: &mut Words<'a>, text: &'a [u8]) -> &'a [u8]
     words.clear();
     let mut rest = text;
     while let Some((byte, after)) = rest.split_first() {
-        if *byte == b'\n' {
-            return after;
-        }
-        if *byte == b';' {
-            return below(after);
-        }
-        if is_space(*byte) {
-            rest = after;
-        } else {
+        if !ends_word(*byte) {
             let (word, behind) = first_word(rest);
             words.push(word);
             rest = behind;
+        } else if is_space(*byte) {
+            rest = after;
+        } else if *byte == b'\n' {
+            return after;
+        } else {
+            return below(after);
         }
     }
     rest

@@ -3,12 +3,12 @@ use Rattle.std.proofs.Common.{◌≡◌, ◌∙◌, ◌++◌, ◌∷◌, [], ◌
 use Rattle.std.specs.List.{before_first, position_or_len}
 use Rattle.zy_isa.specs.Words.{words_of}
 use Rattle.zy_words.specs.Lines.{first_line, lines_below, first_words, ends_word}
-use Rattle.zy_words.proofs.LineLemmas.{words_space, below_space, word_first, word_below, word_some, in_word}
+use Rattle.zy_words.proofs.LineLemmas.{words_space, below_space, word_first, word_below, word_some}
 use Rattle.zy_words.proofs.KeptLemmas.{kept_front, few_words}
 use Rattle.zy_words.proofs.line.take_line.Goals as goal
 
-pub loop-byte-preserved-then-is_space : goal.loop-byte-preserved-then-is_space
-loop-byte-preserved-then-is_space c =
+pub loop-byte-preserved : goal.loop-byte-preserved
+loop-byte-preserved c =
     let space = sym c.is_space.ensures ∙ c.if-is_space.true in
     let rest = c.in-Some.ensures.cases.0 in
     record {
@@ -18,10 +18,10 @@ loop-byte-preserved-then-is_space c =
       left = omega (arith, ap length rest, c.loop-byte.invariant.left);
     }
 
-pub loop-byte-preserved : goal.loop-byte-preserved
-loop-byte-preserved c =
+pub loop-byte-preserved-then-not-ends_word : goal.loop-byte-preserved-then-not-ends_word
+loop-byte-preserved-then-not-ends_word c =
     let rest = c.in-Some.ensures.cases.0 in
-    let begins : ends_word c.in-Some.byte.now ≡ false = in_word c.in-Some.byte.now (sym c.is_space.ensures ∙ c.if-is_space.false) c.if-byte-eq10.false c.if-byte-eq59.false in
+    let begins : ends_word c.in-Some.byte.now ≡ false = sym c.ends_word.ensures ∙ c.if-not-ends_word.true in
     let some : 0 < length (before_first ends_word c.loop-byte.rest.now) = subst (λ r. 0 < length (before_first ends_word r)) (sym rest) (word_some c.in-Some.byte.now c.in-Some.after.now begins) in
     let behind = c.first_word.ensures.behind in
     let word = c.first_word.ensures.word in
