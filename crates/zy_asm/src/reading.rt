@@ -336,7 +336,13 @@ impl Reader {
             return Err(Reason::ChoiceCount);
         }
         self.stage = Stage::Choices;
-        if self.choices.resize(all, choice).is_err() {
+        // Most choices are made once.
+        let added = if times == 1 {
+            self.choices.push(choice).is_ok()
+        } else {
+            self.choices.resize(all, choice).is_ok()
+        };
+        if !added {
             return Err(Reason::NoMemory);
         }
         Ok(())

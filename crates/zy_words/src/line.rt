@@ -79,21 +79,36 @@ fn ends_word(byte: u8) -> bool
     }
 }
 
-/// Where the word ends that a text begins with, unless it ends with the text.
+/// Where the first byte stands that ends a word.
 fn word_end(text: &[u8]) -> Option<usize>
     ensures { result ≡ position ends_word_spec text.now }
 {
-    text.iter().position(|byte| ends_word(*byte))
+    text.iter().position(|byte| {
+        *byte == b' ' || *byte == b'\t' || *byte == b'\r' || *byte == b'\n' || *byte == b';'
+    })
 }
 
 /// The word that a text begins with, and what stands behind it.
 fn first_word(text: &[u8]) -> (&[u8], &[u8])
+    requires { 0 < position_or_len ends_word_spec text.now }
     ensures word { result.0.now ≡ before_first ends_word_spec text.entry.now }
     ensures behind { result.1.now ≡ drop (position_or_len ends_word_spec text.entry.now) text.entry.now }
 {
-    match word_end(text) {
-        Some(end) => text.split_at(end),
+    match word_end(&text[1..]) {
+        Some(end) => text.split_at(end + 1),
         None => (text, &[]),
+    }
+}
+
+/// What stands behind the space that a text begins with, if it does: most words have one behind them.
+fn past_space(text: &[u8]) -> &[u8]
+    ensures words { words_of (first_line result.now) ≡ words_of (first_line text.entry.now) }
+    ensures below { lines_below result.now ≡ lines_below text.entry.now }
+    ensures few { length result.now ≤ length text.entry.now }
+{
+    match text.split_first() {
+        Some((byte, after)) if is_space(*byte) => after,
+        _ => text,
     }
 }
 
@@ -128,7 +143,7 @@ pub fn take_line<'a>(words: &mut Words<'a>, text: &'a [u8]) -> &'a [u8]
         if !ends_word(*byte) {
             let (word, behind) = first_word(rest);
             words.push(word);
-            rest = behind;
+            rest = past_space(behind);
         } else if is_space(*byte) {
             rest = after;
         } else if *byte == b'\n' {

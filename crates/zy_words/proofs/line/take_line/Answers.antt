@@ -27,12 +27,13 @@ loop-byte-preserved-then-not-ends_word c =
     let word = c.first_word.ensures.word in
     record {
       words =
-          ap (λ ws. first_words (ws ++ words_of (first_line c.first_word.result.1.now))) c.push.ensures
+          ap (λ ws. first_words (c.push.new.self ++ ws)) c.past_space-rest.ensures.words
+          ∙ ap (λ ws. first_words (ws ++ words_of (first_line c.first_word.result.1.now))) c.push.ensures
           ∙ kept_front (c.loop-byte.words ++ c.first_word.result.0.now ∷ []) (words_of (first_line c.first_word.result.1.now))
           ∙ ap first_words (append_assoc c.loop-byte.words (c.first_word.result.0.now ∷ []) (words_of (first_line c.first_word.result.1.now)))
           ∙ ap (λ ws. first_words (c.loop-byte.words ++ ws)) (rw (word, behind) (sym (word_first c.loop-byte.rest.now some)))
           ∙ c.loop-byte.invariant.words;
-      below = ap lines_below behind ∙ sym (word_below c.loop-byte.rest.now) ∙ c.loop-byte.invariant.below;
+      below = c.past_space-rest.ensures.below ∙ ap lines_below behind ∙ sym (word_below c.loop-byte.rest.now) ∙ c.loop-byte.invariant.below;
       few = rw c.push.ensures (few_words (c.loop-byte.words ++ c.first_word.result.0.now ∷ []));
-      left = omega (arith, ap length behind, length-drop (position_or_len ends_word c.loop-byte.rest.now) c.loop-byte.rest.now, c.loop-byte.invariant.left);
+      left = omega (arith, c.past_space-rest.ensures.few, ap length behind, length-drop (position_or_len ends_word c.loop-byte.rest.now) c.loop-byte.rest.now, c.loop-byte.invariant.left);
     }
