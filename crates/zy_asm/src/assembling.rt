@@ -15,7 +15,7 @@ use crate::text::text_of;
 use std::alloc::Global;
 use zy_isa::scenario::Scenario;
 
-/// The scenario that a text means. It takes memory for what the scenario has, and for the words of one line at a time.
+/// The scenario that a text means. It takes memory for what the scenario has, and for names and labels.
 pub fn assemble(alloc: Global, text: &str) -> Result<Scenario, Refusal>
     // What is read is meant.
     ensures found { IfOk result (λ s. Means text.now s) }
