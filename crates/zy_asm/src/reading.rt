@@ -327,6 +327,7 @@ impl Reader {
         self.open_line(words)
     }
 
+    #[inline(always)]
     fn repeat_choice(&mut self, choice: Choice, times: u64) -> Result<(), Reason>
         requires { times ≤ 4096 }
         ensures { Steps result (seen self.new) (repeat_choice (seen self.old) choice times) }
