@@ -14,4 +14,4 @@ mod table;
 #[cfg(test)]
 mod tests;
 pub mod text;
-mod words;
+pub mod words;

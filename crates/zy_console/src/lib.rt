@@ -1,0 +1,4 @@
+//! The debugger's lines: the command that a line spells, the reply to it, and a whole session.
+#![tactic(auto)]
+
+pub mod command;
