@@ -1,5 +1,6 @@
 //! The debugger's lines: the command that a line spells, the reply to it, and a whole session.
 #![tactic(auto)]
 
+mod answer;
 pub mod command;
 mod shown;
