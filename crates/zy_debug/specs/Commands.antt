@@ -1,5 +1,5 @@
 -- What each command refuses, where it goes, and what it replies.
-use Rattle.std.specs.Prelude.{ℕ, ◌≡◌, ◌+◌, ◌-◌, ◌==◌, ◌&&◌, Bool, true, false, not, nat_le, nat_lt, length, is_none, slice_get, Option, Some, None, Result, Ok, Err, if◌then◌else◌}
+use Rattle.std.specs.Prelude.{ℕ, ◌≡◌, ◌+◌, ◌-◌, ◌==◌, ◌&&◌, Bool, true, false, not, nat_le, nat_lt, length, is_none, slice_get, Option, Some, None, Result, Ok, Err}
 use Rattle.zy_scan.specs.declared.stop.Stop.{Stop}
 use Rattle.zy_scan.specs.declared.stop.Stop.TheVariants as stop
 use Rattle.zy_scan.specs.Stops.{Slots}

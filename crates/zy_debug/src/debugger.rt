@@ -1,5 +1,5 @@
 //! The debugger: a position and sixteen stops.
-ghost use Rattle.std.specs.Prelude.{◌≡◌, ◌≤◌, ◌<◌, ◌==◌, ◌&&◌, ◌-◌, not, IfOk, OnOk, OnErr, length, replicate, None, nat_le, nat_lt, slice_get};
+ghost use Rattle.std.specs.Prelude.{◌≡◌, ◌≤◌, ◌<◌, ◌==◌, ◌&&◌, ◌-◌, not, IfOk, IfSome, OnOk, OnErr, length, replicate, None, nat_le, nat_lt, slice_get};
 ghost use Rattle.zy_scan.specs.declared.stop.Stop.TheVariants as stop;
 ghost use Rattle.zy_scan.specs.Scans.{Conts, RConts, LastIn};
 ghost use Rattle.zy_scan.specs.Slots.{free_slot, with_stop, without_stop, is_set};
@@ -209,6 +209,7 @@ impl Debugger {
     /// Goes on to the next position at which a stop fires, and tells the lowest slot that does; else to the end.
     fn cont(&mut self) -> Result<Option<usize>, AllocError>
         ensures stops { IfOk result (λ i. Conts self.old.scenario self.old.stops self.old.position i self.new.position) }
+        ensures slot { IfOk result (λ i. IfSome i (λ n. n < 16)) }
         ensures kept { self.new ≡ goes self.old self.new.position }
         ensures err { OnErr result (self.new ≡ self.old) }
     {
@@ -222,6 +223,7 @@ impl Debugger {
     /// Goes back to the last position below at which a stop fires, and tells the lowest slot that does; else to the start.
     fn rcont(&mut self) -> Result<Option<usize>, AllocError>
         ensures stops { IfOk result (λ i. RConts self.old.scenario self.old.stops self.old.position i self.new.position) }
+        ensures slot { IfOk result (λ i. IfSome i (λ n. n < 16)) }
         ensures kept { self.new ≡ goes self.old self.new.position }
         ensures err { OnErr result (self.new ≡ self.old) }
     {
@@ -241,6 +243,7 @@ impl Debugger {
     /// The last position below at which a stop fires, and the lowest slot that does.
     fn find_back(&self) -> Result<Option<(usize, usize)>, AllocError>
         ensures found { IfOk result (λ found. LastIn self.now.scenario self.now.stops 0 self.now.position found) }
+        ensures slot { IfOk result (λ found. IfSome found (λ f. f.1 < 16)) }
         ensures most { self.now.position ≤ length self.now.scenario.choices }
     {
         if self.machine.len() == 0 {

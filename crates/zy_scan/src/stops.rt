@@ -69,8 +69,9 @@ impl Stops {
     }
 
     /// The slots in order.
-    pub fn slots(&self) -> &[Option<Stop>; 16]
-        ensures { result.now ≡ self.entry.now }
+    pub fn slots(&self) -> &[Option<Stop>]
+        ensures slots { result.now ≡ self.entry.now }
+        ensures count { length result.now ≡ 16 }
     {
         &self.slots
     }
