@@ -45,6 +45,8 @@ const SESSION: &[(Command, Result<Reply, DebugFault>)] = &[
     (Command::Page(0), Ok(Reply::Shown)),
     (Command::Txn(0), Err(DebugFault::Range)),
     (Command::Links, Ok(Reply::Shown)),
+    (Command::BreakAbort, Ok(Reply::Set(3))),
+    (Command::Position, Ok(Reply::Shown)),
 ];
 
 /// A scenario of one row, 7 at key 10.

@@ -100,10 +100,10 @@ pub fn last_firing(
     let mut last = None;
     for m in machine.len() + 1..end {
         let outcome = advance(machine)?;
-        match first(&watched, machine, outcome) {
-            Some(i) => last = Some((m, i)),
-            None => {}
-        }
+        last = match first(&watched, machine, outcome) {
+            Some(i) => Some((m, i)),
+            None => last,
+        };
         renew(&mut watched, machine);
     }
     Ok(last)
