@@ -3,4 +3,5 @@
 
 mod answer;
 pub mod command;
+pub mod session;
 mod shown;
