@@ -1,9 +1,10 @@
 -- What goes out in a session, line by line.
-use Rattle.std.specs.Prelude.{◌≡◌, ℕ, ◌+◌, List, [], ◌∷◌, ◌++◌, Option, Some, None, Result, Ok, Err}
+use Rattle.std.specs.Prelude.{◌≡◌, ℕ, ◌+◌, List, [], ◌∷◌, ◌++◌, replicate, Option, Some, None, Result, Ok, Err}
 use Rattle.std.specs.Io.KnownBytes.{Appends}
 use Rattle.zy_io.specs.Streams.{WroteFront}
 use Rattle.zy_io.specs.declared.writing.TextFault.{TextFault}
 use Rattle.zy_io.specs.declared.writing.TextFault.TheVariants.{Write, Memory}
+use Rattle.zy_isa.specs.Scenario.{Scenario}
 use Rattle.zy_isa.specs.Words.{words_of}
 use Rattle.zy_debug.specs.Commands.{refusal, Does}
 use Rattle.zy_debug.specs.Sessions.{Session}
@@ -34,6 +35,10 @@ Says s [] t out = (t ≡ s) × (out ≡ [])
 Says s (l ∷ ls) t out =
     (u : Session) × (first rest : List ℕ) × LineSays s (words_of l) u first × Says u ls t rest × (out ≡ first ++ rest)
 
+-- a session on a scenario, at its start and without stops
+abbrev pub opened : Scenario → Session
+opened sc = record { scenario = sc; position = 0; stops = replicate 16 None }
+
 -- a front of what the first of the lines say went out, where the bytes went from old to new
 pub record SaysFront (old new : Option (List ℕ)) (s : Session) (lines : List (List ℕ)) : Type 0 where
   pub read : List (List ℕ)
@@ -51,3 +56,7 @@ module _ (old new : Option (List ℕ)) (before after : ℕ) where
   WroteSession (Ok x) s lines t = (out : List ℕ) × Says s lines t out × Appends old new out × (after ≡ before)
   WroteSession (Err Write) s lines t = SaysFront old new s lines × (after ≡ before + 1)
   WroteSession (Err Memory) s lines t = SaysFront old new s lines × (after ≡ before)
+
+  -- the same, in whatever session it ends
+  abbrev pub WroteReplies : {X : Type 0} → Result X TextFault → Session → List (List ℕ) → Type 0
+  WroteReplies result s lines = (t : Session) × WroteSession result s lines t

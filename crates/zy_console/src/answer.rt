@@ -68,11 +68,7 @@ fn obey(debugger: &mut Debugger, command: Command, line: &mut String) -> Result<
 }
 
 /// Answers the words of a line, in place of what the `String` holds.
-pub fn answer(
-    debugger: &mut Debugger,
-    words: &[&[u8]],
-    line: &mut String,
-) -> Result<(), AllocError>
+pub fn answer(debugger: &mut Debugger, words: &[&[u8]], line: &mut String) -> Result<(), AllocError>
     ensures { OnOk result (LineSays debugger.old (texts words.now) debugger.new (string_bytes line.new)) }
 {
     line.clear();

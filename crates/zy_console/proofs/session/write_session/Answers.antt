@@ -19,8 +19,8 @@ returns-in_err-write_all g c =
     let front = subst (WroteFront (written c.loop-rest.sink) (written c.write_all.new.sink)) c.as_bytes.ensures.value c.in_err-write_all.ensures.0 in
     rw p.1 (rw p.2 (
       said_torn (written c.args.sink.now) (written c.loop-rest.sink) (written c.write_all.new.sink) c.args.debugger.now c.loop-rest.debugger c.answer.new.debugger
-      (lines_of c.args.commands.now) (lines_of c.loop-rest.rest.now) (lines_of c.first_line.result.1.now) c.first_line.result.0.now (string_bytes c.answer.new.line)
-      c.loop-rest.invariant.said c.first_line.ensures.lines says front,
+          (lines_of c.args.commands.now) (lines_of c.loop-rest.rest.now) (lines_of c.first_line.result.1.now) c.first_line.result.0.now (string_bytes c.answer.new.line)
+          c.loop-rest.invariant.said c.first_line.ensures.lines says front,
       omega (arith, c.in_err-write_all.ensures.1, c.loop-rest.invariant.same),
     ))
 
@@ -32,7 +32,7 @@ loop-rest-preserved g c =
     let wrote = subst (Appends (written c.loop-rest.sink) (written c.write_all.new.sink)) c.as_bytes.ensures.value c.in_ok-write_all.ensures.0 in
     record {
       said = said_more (written c.args.sink.now) (written c.loop-rest.sink) (written c.write_all.new.sink) c.args.debugger.now c.loop-rest.debugger c.answer.new.debugger
-        (lines_of c.args.commands.now) (lines_of c.loop-rest.rest.now) (lines_of c.first_line.result.1.now) c.first_line.result.0.now (string_bytes c.answer.new.line)
-        c.loop-rest.invariant.said c.first_line.ensures.lines says wrote;
+          (lines_of c.args.commands.now) (lines_of c.loop-rest.rest.now) (lines_of c.first_line.result.1.now) c.first_line.result.0.now (string_bytes c.answer.new.line)
+          c.loop-rest.invariant.said c.first_line.ensures.lines says wrote;
       same = omega (arith, c.in_ok-write_all.ensures.1, c.loop-rest.invariant.same);
     }
