@@ -1,5 +1,5 @@
 -- Machines that are kept.
-use Rattle.std.proofs.Common.{◌≡◌, ◌∙◌, ℕ, ◌-◌, List, [], ◌∷◌, ◌++◌, length, refl, sym, ap, subst, suc, zero, true, false, Bool, Some, Option, if◌then◌else◌}
+use Rattle.std.proofs.Common.{◌≡◌, ℕ, ◌-◌, List, [], ◌∷◌, ◌++◌, length, subst, suc, zero, true, false, Bool, Some, if◌then◌else◌}
 use Rattle.std.specs.Prelude.{drop, slice_get}
 use Rattle.circular_buffer.specs.Buffer.{keep_last}
 use Rattle.zy_isa.specs.Scenario.{Scenario}
