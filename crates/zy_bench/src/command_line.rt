@@ -15,13 +15,13 @@ pub enum Request {
     Debug(Checkpoints),
 }
 
-/// How checkpoints are to be kept.
+/// Which checkpoints are kept.
 #[derive(Clone, Copy, Debug, PartialEq, Eq)]
 pub struct Checkpoints {
     /// One at each multiple of this.
-    pub every: u16,
+    pub every: usize,
     /// The last so many.
-    pub ring: u8,
+    pub ring: usize,
 }
 
 /// What is printed of a scenario.
@@ -105,16 +105,16 @@ fn debug_command<'a>(alloc: Global) -> Result<Command<'a>, AllocError> {
         .long("every")
         .value_name("N")
         .value_parser(value_parser!(u16).range(1..=4096))
-        .help("1 to 4096, or 64 where it is left out: see below");
+        .help("Keeps a copy of the state at each multiple of N: 1 to 4096, else 64");
     let ring = Arg::new(alloc, "ring")
         .long("ring")
         .value_name("N")
         .value_parser(value_parser!(u8).range(1..=64))
-        .help("1 to 64, or 16 where it is left out: see below");
+        .help("Keeps the last N copies: 1 to 64, else 16");
     Command::new(alloc, "debug")
         .about("Answers commands on the run of a scenario, one a line")
         .after_help(
-            "Input:   a scenario text through its first line end, and below it commands, one a line;\n         at most 4194304 bytes\nOutput:  the replies; a fault is one line on standard error\nStatus:  0 done, 1 the scenario is refused, 2 the command line is wrong,\n         3 want of memory, 5 the input or the output failed\n\nCommands: step N, back N, goto N, cont, rcont, break page P, break mode, break abort,\nwatch K, delete I, page P, txn T, links, where. docs/debugger.md tells them all.\n\n--every and --ring are for checkpoints, of which none are kept yet: every command replays\nfrom the start today. They are tested, and change no reply.\n\nExample:\n  (cat examples/gone.zephyr; echo 'break abort'; echo cont) | zy_bench debug",
+            "Input:   a scenario text through its first line end, and below it commands, one a line;\n         at most 4194304 bytes\nOutput:  the replies; a fault is one line on standard error\nStatus:  0 done, 1 the scenario is refused, 2 the command line is wrong,\n         3 want of memory, 5 the input or the output failed\n\nCommands: step N, back N, goto N, cont, rcont, break page P, break mode, break abort,\nwatch K, delete I, page P, txn T, links, where. docs/debugger.md tells them all.\n\nA command replays from the copy nearest below its target, or from the start. The two numbers\nchange how long that takes and how much memory, and no reply.\n\nExample:\n  (cat examples/gone.zephyr; echo 'break abort'; echo cont) | zy_bench debug",
         )
         .arg(every)?
         .arg(ring)

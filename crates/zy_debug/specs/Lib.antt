@@ -1,2 +1,3 @@
 pub mod Sessions
 pub mod Commands
+pub mod Checkpoints

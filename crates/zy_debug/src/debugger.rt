@@ -4,15 +4,17 @@ ghost use Rattle.zy_scan.specs.declared.stop.Stop.TheVariants as stop;
 ghost use Rattle.zy_scan.specs.Scans.{Conts, RConts, LastIn};
 ghost use Rattle.zy_scan.specs.Slots.{free_slot, with_stop, without_stop, is_set};
 ghost use Rattle.zy_debug.specs.Commands.{refusal, Does, Obeys, Moves, GoesOn, GoesBack, Sets, Deletes, Stays, has_room, has_room_in_range, has_stop, in_range, unless};
+ghost use Rattle.zy_debug.specs.Checkpoints.{IsReplayOf};
 ghost use Rattle.zy_debug.specs.declared.command.DebugFault.TheVariants as fault;
 ghost use Rattle.zy_debug.specs.Sessions.{Shows, goes};
 
+use crate::checkpoints::Checkpoints;
 use crate::command::{Command, DebugFault, Reply};
 use std::alloc::{AllocError, Global};
 use std::marker::Model;
 use zy_isa::scenario::Scenario;
 use zy_machine::machine::Machine;
-use zy_scan::replay::replay;
+use zy_scan::replay::start;
 use zy_scan::scan::{cont, last_firing};
 use zy_scan::stop::Stop;
 use zy_scan::stops::Stops;
@@ -23,30 +25,41 @@ pub struct Debugger {
     alloc: Global,
     machine: Machine,
     stops: Stops,
+    checkpoints: Checkpoints,
 }
 
 impl Model for Debugger {
     ghost use Rattle.std.specs.Prelude.{length};
     ghost use Rattle.zy_debug.specs.Sessions.{Session};
     ghost use Rattle.zy_scan.specs.Scans.{Follows};
+    ghost use Rattle.zy_debug.specs.Checkpoints.{AreReplaysOf};
 
     ghost Value = { Session };
 
     ghost view = { λ d. record { scenario = d.machine.scenario; position = length d.machine.entries; stops = d.stops } };
 
-    ghost invariant = { λ d. Follows d.machine };
+    ghost invariant = { λ d. Follows d.machine × AreReplaysOf d.machine.scenario d.checkpoints.machines };
 }
 
 impl Debugger {
-    /// A debugger at the start, without stops. The scenario is dropped where there is no memory.
-    pub fn open(alloc: Global, scenario: Scenario) -> Result<Debugger, AllocError>
+    /// A debugger at the start, without stops. A replay that passes a multiple of `every` keeps a copy of the machine there,
+    /// and of these copies the last `ring`. The scenario is dropped where there is no memory.
+    pub fn open(
+        alloc: Global,
+        scenario: Scenario,
+        every: usize,
+        ring: usize,
+    ) -> Result<Debugger, AllocError>
+        requires { 1 ≤ every }
         ensures { IfOk result (λ d. d ≡ record { scenario = scenario; position = 0; stops = replicate 16 None }) }
     {
-        let machine = replay(alloc, scenario, 0)?;
+        let machine = start(alloc, scenario)?;
+        let checkpoints = Checkpoints::new(alloc, every, ring)?;
         Ok(Debugger {
             alloc,
             machine,
             stops: Stops::new(),
+            checkpoints,
         })
     }
 
@@ -200,10 +213,36 @@ impl Debugger {
         ensures ok { OnOk result (self.new ≡ goes self.old target) }
         ensures err { OnErr result (self.new ≡ self.old) }
     {
-        let scenario = self.machine.scenario().copy(self.alloc)?;
-        let machine = replay(self.alloc, scenario, target)?;
+        let machine = self.reach(target)?;
         self.machine = machine;
         Ok(())
+    }
+
+    /// A machine at a position, and with it the copies that are due on the way.
+    fn reach(&mut self, target: usize) -> Result<Machine, AllocError>
+        requires { target ≤ length self.old.scenario.choices }
+        ensures replay { IfOk result (IsReplayOf self.old.scenario) }
+        ensures position { IfOk result (λ m. length m.entries ≡ target) }
+        ensures kept { self.new ≡ self.old }
+    {
+        let mut machine = self.nearest(target)?;
+        self.checkpoints
+            .replay_to(self.alloc, &mut machine, target)?;
+        Ok(machine)
+    }
+
+    /// A machine at the kept position that is nearest below or at another, or at the start.
+    fn nearest(&self, target: usize) -> Result<Machine, AllocError>
+        ensures replay { IfOk result (IsReplayOf self.now.scenario) }
+        ensures below { IfOk result (λ m. length m.entries ≤ target) }
+    {
+        match self.checkpoints.copy_nearest(self.alloc, target)? {
+            Some(machine) => Ok(machine),
+            None => {
+                let scenario = self.machine.scenario().copy(self.alloc)?;
+                start(self.alloc, scenario)
+            }
+        }
     }
 
     /// Goes on to the next position at which a stop fires, and tells the lowest slot that does; else to the end.
@@ -213,8 +252,7 @@ impl Debugger {
         ensures kept { self.new ≡ goes self.old self.new.position }
         ensures err { OnErr result (self.new ≡ self.old) }
     {
-        let scenario = self.machine.scenario().copy(self.alloc)?;
-        let mut machine = replay(self.alloc, scenario, self.machine.len())?;
+        let mut machine = self.machine.copy(self.alloc)?;
         let slot = cont(self.alloc, &mut machine, self.stops.slots())?;
         self.machine = machine;
         Ok(slot)
@@ -250,7 +288,7 @@ impl Debugger {
             return Ok(None);
         }
         let scenario = self.machine.scenario().copy(self.alloc)?;
-        let mut machine = replay(self.alloc, scenario, 0)?;
+        let mut machine = start(self.alloc, scenario)?;
         last_firing(
             self.alloc,
             &mut machine,

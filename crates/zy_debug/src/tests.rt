@@ -1,4 +1,6 @@
 //! One session on a scenario in which a migration starts and a page moves, with each kind of command.
+ghost use Rattle.std.specs.Prelude.{◌≤◌};
+
 use crate::command::{Command, DebugFault, Reply};
 use crate::debugger::Debugger;
 use std::alloc::Global;
@@ -56,8 +58,16 @@ fn scenario(alloc: Global) -> Result<Scenario, Fail> {
     Ok(Scenario::new(1, 4, 4, Rule::Held, rows, Vec::new(alloc), choices)?)
 }
 
-/// Checks the answers.
-fn check_session(rt: &impl Abort, debugger: &mut Debugger) {
+/// Checks the answers of a debugger that keeps copies so often, and so many.
+fn check_session(rt: &impl Abort, alloc: Global, every: usize, ring: usize) -> Result<(), Fail>
+    requires { 1 ≤ every }
+{
+    let mut debugger = Debugger::open(alloc, scenario(alloc)?, every, ring)?;
+    check_answers(rt, &mut debugger);
+    Ok(())
+}
+
+fn check_answers(rt: &impl Abort, debugger: &mut Debugger) {
     for (command, answer) in SESSION {
         assert_eq!(rt; debugger.command(*command), *answer);
     }
@@ -67,7 +77,58 @@ fn check_session(rt: &impl Abort, debugger: &mut Debugger) {
 
 #[test]
 fn commands_are_answered(rt: HostRuntime) -> Result<(), Fail> {
-    let mut debugger = Debugger::open(rt.alloc(), scenario(rt.alloc())?)?;
-    check_session(&rt, &mut debugger);
+    check_session(&rt, rt.alloc(), 64, 16)?;
+    check_session(&rt, rt.alloc(), 2, 1)?;
+    check_session(&rt, rt.alloc(), 1, 64)
+}
+
+/// The command of a number. Some are refused.
+fn command_of(number: u32) -> Command {
+    let n = number / 16 % 12;
+    match number % 16 {
+        0 => Command::Goto(n),
+        1 => Command::Step(n),
+        2 => Command::Step(1),
+        3 => Command::Back(n),
+        4 => Command::Back(1),
+        5 => Command::Cont,
+        6 => Command::RCont,
+        7 => Command::BreakPage(n),
+        8 => Command::BreakMode,
+        9 => Command::BreakAbort,
+        10 => Command::Watch(n),
+        11 => Command::Page(n),
+        _ => Command::Delete(n),
+    }
+}
+
+/// Asks two debuggers the same commands, which follow from one another by a fixed rule.
+fn check_same(rt: &impl Abort, debugger: &mut Debugger, plain: &mut Debugger) {
+    let mut number: u32 = 2026;
+    for _ in 0..500 {
+        number = number.wrapping_mul(1_664_525).wrapping_add(1_013_904_223);
+        let command = command_of(number >> 8);
+        assert_eq!(rt; debugger.command(command), plain.command(command));
+        assert_eq!(rt; debugger.position(), plain.position());
+    }
+}
+
+/// Compares a debugger that keeps copies so often, and so many, with one that keeps none.
+fn check_copies(rt: &impl Abort, alloc: Global, every: usize, ring: usize) -> Result<(), Fail>
+    requires { 1 ≤ every }
+{
+    let mut plain = Debugger::open(alloc, scenario(alloc)?, 1, 0)?;
+    let mut debugger = Debugger::open(alloc, scenario(alloc)?, every, ring)?;
+    check_same(rt, &mut debugger, &mut plain);
+    Ok(())
+}
+
+#[test]
+fn copies_change_no_answer(rt: HostRuntime) -> Result<(), Fail> {
+    for every in 1..5 {
+        for ring in 1..5 {
+            check_copies(&rt, rt.alloc(), every, ring)?;
+        }
+    }
     Ok(())
 }

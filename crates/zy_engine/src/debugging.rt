@@ -19,26 +19,29 @@ use zy_isa::scenario::Scenario;
 fn write_replies<K: Sink>(
     alloc: Global,
     scenario: Scenario,
+    every: usize,
+    ring: usize,
     commands: &[u8],
     sink: &mut K,
 ) -> Result<(), TextFault>
-    requires { K.failures sink.old < u64.MAX }
+    requires every { 1 ≤ every }
+    requires sink { K.failures sink.old < u64.MAX }
     ensures { WroteReplies (K.written sink.old) (K.written sink.new) (K.failures sink.old) (K.failures sink.new) result
         (opened scenario) (lines_of commands.now) }
 {
-    let mut debugger = Debugger::open(alloc, scenario)?;
+    let mut debugger = Debugger::open(alloc, scenario, every, ring)?;
     write_session(alloc, &mut debugger, commands, sink)
 }
 
 /// Reads an input whole: a scenario text through its first line whose only word is `end`, and below it commands, one a line.
 /// Writes the replies. Nothing is written before the scenario is accepted.
 ///
-/// A checkpoint is to be kept at each multiple of `every`, and the last `ring` of them. There are none yet: every command
-/// replays from the start today, and the two numbers change nothing.
+/// A replay that passes a multiple of `every` keeps a copy of the machine there, and of these copies the last `ring`: no reply
+/// shows it.
 pub fn debug_bytes<S: Source, K: Sink>(
     alloc: Global,
-    every: u16,
-    ring: u8,
+    every: usize,
+    ring: usize,
     source: &mut S,
     sink: &mut K,
 ) -> Result<(), BenchFault>
@@ -57,6 +60,6 @@ pub fn debug_bytes<S: Source, K: Sink>(
     let input = bytes.as_slice();
     let (part, commands) = input.split_at(cut_len(input));
     let scenario = accept(alloc, Format::Text, part)?;
-    write_replies(alloc, scenario, commands, sink)?;
+    write_replies(alloc, scenario, every, ring, commands, sink)?;
     Ok(())
 }

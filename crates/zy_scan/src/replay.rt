@@ -1,5 +1,5 @@
 //! Replays of a scenario's own choices.
-ghost use Rattle.std.specs.Prelude.{◌≡◌, ◌<◌, ◌≤◌, ◌+◌, IfOk, OnOk, OnErr, length};
+ghost use Rattle.std.specs.Prelude.{◌≡◌, ◌<◌, ◌+◌, [], IfOk, OnOk, length};
 ghost use Rattle.zy_scan.specs.Scans.{Follows};
 ghost use Rattle.zy_scan.specs.Stops.{outcome_at};
 
@@ -22,16 +22,12 @@ pub fn advance(machine: &mut Machine) -> Result<Outcome, Fault>
     Ok(entry.outcome)
 }
 
-/// A machine that has made so many choices of its scenario.
-pub fn replay(alloc: Global, scenario: Scenario, target: usize) -> Result<Machine, Fault>
-    requires { target ≤ length scenario.choices }
+/// A machine that has made no choice of its scenario yet.
+pub fn start(alloc: Global, scenario: Scenario) -> Result<Machine, Fault>
     ensures scenario { IfOk result (λ m. m.scenario ≡ scenario) }
     ensures follows { IfOk result (λ m. Follows m) }
-    ensures position { IfOk result (λ m. length m.entries ≡ target) }
+    ensures position { IfOk result (λ m. m.entries ≡ []) }
 {
-    let mut machine = Machine::open(alloc, scenario)?;
-    for _ in 0..target {
-        advance(&mut machine)?;
-    }
+    let machine = Machine::open(alloc, scenario)?;
     Ok(machine)
 }
