@@ -2,7 +2,8 @@
 
   cmd      the words after the program's name
   stdin    the input; or
-  example  the file of examples/ that is the input; with neither of the two the input is empty
+  example  the file of examples/ that is the input; or
+  like     the case whose input it has too; with none of the three the input is empty
   pad      a number: the input goes on with empty lines up to this many bytes
   to       where standard output goes, in place of being read: `closed`, or a path such as /dev/full
   stdout   the output that is wanted; none: nothing
@@ -43,7 +44,9 @@ class Case:
         self.name = name
         self.words = self.text('cmd').split()
         self.example = self.text('example')
-        self.text_given = content(os.path.join(EXAMPLES, self.example)) if self.example else self.part('stdin')
+        self.like = self.text('like')
+        given = content(os.path.join(CASES, self.like or name, 'stdin'))
+        self.text_given = content(os.path.join(EXAMPLES, self.example)) if self.example else given
         self.pad = int(self.text('pad') or 0)
         self.to = self.text('to')
         self.output = self.part('stdout')
@@ -83,7 +86,7 @@ class Refused(Case):
     def __init__(self, line):
         fault, self.said, text = (part.strip() for part in line.split('|'))
         kind, number = fault.rstrip(')').split('(')
-        self.name, self.told = 'refused: %s' % text, b''
+        self.name, self.told, self.like = 'refused: %s' % text, b'', ''
         self.words, self.example, self.pad, self.to, self.output, self.status = ['run'], '', 0, '', b'', 1
         self.fault = 'Input(line %s, %s)' % (number, kind)
         self.text_given = text.replace('HEAD ', self.HEAD).encode().decode('unicode_escape').encode()
@@ -94,7 +97,7 @@ class RefusedImage(Case):
 
     def __init__(self, line):
         self.fault, self.said, image = (part.strip() for part in line.split('|'))
-        self.name, self.told = 'refused image: %s' % image, b''
+        self.name, self.told, self.like = 'refused image: %s' % image, b'', ''
         self.words, self.example, self.pad, self.to, self.output, self.status = ['dis'], '', 0, '', b'', 1
         self.text_given = bytes_of(image)
 

@@ -9,4 +9,4 @@ pub(crate) mod serial;
 pub(crate) mod step;
 pub(crate) mod taken;
 pub mod txn;
-mod words;
+pub mod words;

@@ -1,6 +1,6 @@
 //! The command line.
 
-use clap::{Arg, ArgAction, ArgMatches, Command};
+use clap::{Arg, ArgAction, ArgMatches, Command, value_parser};
 use std::alloc::{AllocError, Global};
 use zy_engine::format::Format;
 
@@ -11,6 +11,17 @@ pub enum Request {
     Convert(Conversion),
     /// Say whether the input is a listing.
     Check,
+    /// Answer commands on the run of a scenario.
+    Debug(Checkpoints),
+}
+
+/// Which checkpoints are kept.
+#[derive(Clone, Copy, Debug, PartialEq, Eq)]
+pub struct Checkpoints {
+    /// One at each multiple of this.
+    pub every: usize,
+    /// The last so many.
+    pub ring: usize,
 }
 
 /// What is printed of a scenario.
@@ -88,6 +99,27 @@ fn check_command<'a>(alloc: Global) -> Command<'a> {
         )
 }
 
+/// `debug`.
+fn debug_command<'a>(alloc: Global) -> Result<Command<'a>, AllocError> {
+    let every = Arg::new(alloc, "every")
+        .long("every")
+        .value_name("N")
+        .value_parser(value_parser!(u16).range(1..=4096))
+        .help("Keeps a copy of the state at each multiple of N: 1 to 4096, else 64");
+    let ring = Arg::new(alloc, "ring")
+        .long("ring")
+        .value_name("N")
+        .value_parser(value_parser!(u8).range(1..=64))
+        .help("Keeps the last N copies: 1 to 64, else 16");
+    Command::new(alloc, "debug")
+        .about("Answers commands on the run of a scenario, one a line")
+        .after_help(
+            "Input:   a scenario text through its first line end, and below it commands, one a line;\n         at most 4194304 bytes\nOutput:  the replies; a fault is one line on standard error\nStatus:  0 done, 1 the scenario is refused, 2 the command line is wrong,\n         3 want of memory, 5 the input or the output failed\n\nCommands: step N, back N, goto N, cont, rcont, break page P, break mode, break abort,\nwatch K, delete I, page P, txn T, links, where. docs/debugger.md tells them all.\n\nA command replays from the copy nearest below its target, or from the start. The two numbers\nchange how long that takes and how much memory, and no reply.\n\nExample:\n  (cat examples/gone.zephyr; echo 'break abort'; echo cont) | zy_bench debug",
+        )
+        .arg(every)?
+        .arg(ring)
+}
+
 /// The command line that is understood.
 pub fn command<'a>(alloc: Global) -> Result<Command<'a>, AllocError> {
     Command::new(alloc, "zy_bench")
@@ -98,7 +130,8 @@ pub fn command<'a>(alloc: Global) -> Result<Command<'a>, AllocError> {
         .subcommand(run_command(alloc)?)?
         .subcommand(asm_command(alloc))?
         .subcommand(dis_command(alloc))?
-        .subcommand(check_command(alloc))
+        .subcommand(check_command(alloc))?
+        .subcommand(debug_command(alloc)?)
 }
 
 /// What the words ask for.
@@ -108,7 +141,16 @@ pub fn request_of(matches: &ArgMatches<'_>) -> Option<Request> {
         Some(("asm", _)) => Some(Request::Convert(Conversion::Asm)),
         Some(("dis", _)) => Some(Request::Convert(Conversion::Dis)),
         Some(("check", _)) => Some(Request::Check),
+        Some(("debug", debug)) => Some(Request::Debug(checkpoints_of(debug))),
         _ => None,
+    }
+}
+
+/// The numbers of `debug`; those that were left out are 64 and 16.
+fn checkpoints_of(debug: &ArgMatches<'_>) -> Checkpoints {
+    Checkpoints {
+        every: debug.get_one("every").unwrap_or(64),
+        ring: debug.get_one("ring").unwrap_or(16),
     }
 }
 

@@ -7,13 +7,14 @@ mod command_line;
 mod excerpt;
 
 use clap::error::ErrorKind;
-use command_line::{Conversion, Request, command, request_of};
+use command_line::{Checkpoints, Conversion, Request, command, request_of};
 use excerpt::Excerpt;
 use std::io;
 use std::io::{BufWriter, Write};
 use std::process::ExitCode;
 use zy_check::verdict::Verdict;
 use zy_engine::checking::check_bytes;
+use zy_engine::debugging::debug_bytes;
 use zy_engine::engine::{asm_bytes, dis_bytes, run_bytes};
 use zy_engine::faults::BenchFault;
 use zy_io::memory::SliceSource;
@@ -77,6 +78,25 @@ fn check<R: Print + Eprint + Input + AllocGlobal>(rt: &R) -> Result<u8, BenchFau
     }
 }
 
+/// Answers the commands on standard input, and gives the exit status.
+fn debug<R: Print + Input + AllocGlobal>(
+    rt: &R,
+    checkpoints: Checkpoints,
+) -> Result<u8, BenchFault> {
+    let Checkpoints { every, ring } = checkpoints;
+    if !(1..=4096).contains(&every) || !(1..=64).contains(&ring) {
+        return Ok(COMMAND_LINE);
+    }
+    let Ok(buffer) = BufWriter::new(rt.alloc(), io::writer(rt)) else {
+        return Err(BenchFault::Memory);
+    };
+    let mut source = CountingReader::new(rt.reader());
+    let mut sink = CountingWriter::new(buffer);
+    debug_bytes(rt.alloc(), every, ring, &mut source, &mut sink)?;
+    flush(&mut sink)?;
+    Ok(DONE)
+}
+
 /// Shows on standard error the line of an input at which it is not the listing.
 fn show(rt: &impl Eprint, input: &[u8], line: usize) {
     let _ = match Excerpt::of(input, line) {
@@ -128,6 +148,7 @@ fn carry_out(rt: &(impl Print + Eprint + Input + AllocGlobal), request: Request)
     let outcome = match request {
         Request::Convert(conversion) => convert(rt, conversion),
         Request::Check => check(rt),
+        Request::Debug(checkpoints) => debug(rt, checkpoints),
     };
     match outcome {
         Ok(status) => status,

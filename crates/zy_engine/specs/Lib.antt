@@ -2,3 +2,4 @@ pub mod Faults
 pub mod Inputs
 pub mod Engines
 pub mod Checks
+pub mod Debugs

@@ -2,6 +2,7 @@
 #![tactic(auto)]
 
 pub mod checking;
+pub mod debugging;
 pub mod engine;
 pub mod faults;
 pub mod format;

@@ -1,6 +1,7 @@
 //! The engine over streams that give and take little, and fail in mid-stream. Whole runs are in tests/cases.
 
 use crate::checking::check_bytes;
+use crate::debugging::debug_bytes;
 use crate::engine::{asm_bytes, dis_bytes, run_bytes};
 use crate::faults::BenchFault;
 use crate::format::Format;
@@ -133,5 +134,38 @@ fn a_failed_write_leaves_a_front_of_the_verdict(rt: HostRuntime) -> Result<(), F
     let outcome = check_bytes(rt.alloc(), &mut source, &mut sink);
     assert_eq!(rt; outcome, Err(BenchFault::Write));
     assert_eq!(rt; sink.into_inner().held.as_slice(), b"not ".as_slice());
+    Ok(())
+}
+
+/// The smallest scenario, with commands below it.
+const SESSION: &[u8] = b"zephyr 1\ncap 2\npages 1\nrule held\nend\nwhere\n\njump\ngoto 1\n";
+
+#[test]
+fn commands_are_answered(rt: HostRuntime) -> Result<(), Fail> {
+    let mut source = SliceSource::new(SESSION);
+    let mut sink = VecSink::new(Vec::new(rt.alloc()));
+    let outcome = debug_bytes(rt.alloc(), 64, 16, &mut source, &mut sink);
+    assert_eq!(rt; outcome, Ok(()));
+    assert_eq!(rt;
+        sink.bytes(),
+        b"at 0 of 0 modes normal empty\nbad command\nout of range\n".as_slice()
+    );
+    Ok(())
+}
+
+#[test]
+fn a_failed_write_leaves_a_front_of_the_replies(rt: HostRuntime) -> Result<(), Fail> {
+    let mut source = SliceSource::new(SESSION);
+    let mut sink = CountingWriter::new(Drip {
+        held: Vec::new(rt.alloc()),
+        bad: 33,
+        calls: 0,
+    });
+    let outcome = debug_bytes(rt.alloc(), 1, 1, &mut source, &mut sink);
+    assert_eq!(rt; outcome, Err(BenchFault::Write));
+    assert_eq!(rt;
+        sink.into_inner().held.as_slice(),
+        b"at 0 of 0 modes normal empty\nbad".as_slice()
+    );
     Ok(())
 }

@@ -1,5 +1,5 @@
 //! The state of both nodes.
-ghost use Rattle.std.specs.Prelude.{◌≤◌, ◌<◌, length};
+ghost use Rattle.std.specs.Prelude.{◌≡◌, ◌≤◌, ◌<◌, IfOk, length};
 ghost use Rattle.zy_isa.specs.declared.node.Node.TheVariants.{A};
 ghost use Rattle.zy_table.specs.State.{facing};
 ghost use Rattle.zy_table.specs.Client.{start_row as start_row_spec, begin_row as begin_row_spec, kill_row as kill_row_spec};
@@ -35,6 +35,16 @@ pub(crate) struct Store {
 }
 
 impl Store {
+    /// The same state once more.
+    pub(crate) fn copy(&self, alloc: Global) -> Result<Store, AllocError>
+        ensures { IfOk result (λ copy. shown copy ≡ shown self.now) }
+    {
+        let a = self.a.copy(alloc)?;
+        let b = self.b.copy(alloc)?;
+        let book = self.book.copy(alloc)?;
+        Ok(Store { alloc, a, b, book })
+    }
+
     /// The lines of a node's run.
     fn run_row(&mut self, scenario: &Scenario, n: Node, t: u8) -> Result<Answer, AllocError>
         requires { IsReady scenario.now n t self.old }

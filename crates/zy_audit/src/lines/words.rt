@@ -52,7 +52,7 @@ impl Line for KindText {
 
 /// A node's mode.
 #[derive(Clone, Copy)]
-pub(crate) struct ModeText(pub NodeMode);
+pub struct ModeText(pub NodeMode);
 
 impl Line for ModeText {
     ghost text = { λ m. mode_word m.0 };

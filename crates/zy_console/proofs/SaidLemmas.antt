@@ -1,0 +1,90 @@
+-- What the lines so far have said, and one line more.
+use Rattle.std.proofs.Common.{◌≡◌, ℕ, ◌==◌, List, [], ◌∷◌, ◌++◌, Option, length, true, false, refl, sym, ap, subst, ◌∙◌, arith, append_assoc, append-nil}
+use Rattle.std.proofs.lemmas.Bool.{eqb-true}
+use Rattle.std.specs.Io.KnownBytes.{Appends}
+use Rattle.std.proofs.KnownBytes.{Appends-trans, Appends-nil}
+use Rattle.zy_io.specs.Streams.{WroteFront}
+use Rattle.zy_isa.specs.Words.{lines_of, words_of}
+use Rattle.zy_words.specs.Lines.{first_words, first_line, lines_below}
+use Rattle.zy_words.proofs.LineLemmas.{lines_parted}
+use Rattle.zy_debug.specs.Sessions.{Session}
+use Rattle.zy_console.specs.Console.{LineSays, Says, SaysFront}
+
+pub no_lines : (xs : List ℕ) → (length xs == 0) ≡ true → lines_of xs ≡ []
+no_lines [] h = refl
+no_lines (x ∷ xs) h = absurd (omega (arith, eqb-true (length (x ∷ xs)) 0 h))
+
+-- one line more
+says_more : (s t u : Session) (ls : List (List ℕ)) (l out more : List ℕ) → Says s ls t out → LineSays t (words_of l) u more → Says s (ls ++ l ∷ []) u (out ++ more)
+says_more s t u [] l out more (same, none) h = (
+  u,
+  more,
+  [],
+  subst (λ x. LineSays x (words_of l) u more) same h,
+  (refl, refl),
+  ap (λ o. o ++ more) none ∙ sym (append-nil more),
+)
+says_more s t u (k ∷ ls) l out more (v, first, rest, here, below, is) h = (
+  v,
+  first,
+  rest ++ more,
+  here,
+  says_more v t u ls l rest more below h,
+  ap (λ o. o ++ more) is ∙ append_assoc first rest more,
+)
+
+-- the first of the lines led from s to t, and what they say went out; the last ones are left
+pub record Said (old new : Option (List ℕ)) (s : Session) (lines last : List (List ℕ)) (t : Session) : Type 0 where
+  pub read : List (List ℕ)
+  pub parted : lines ≡ read ++ last
+  pub out : List ℕ
+  pub says : Says s read t out
+  pub wrote : Appends old new out
+
+pub said_nothing : (a : Option (List ℕ)) (s : Session) (lines : List (List ℕ)) → Said a a s lines lines s
+said_nothing a s lines = record { read = []; parted = refl; out = []; says = (refl, refl); wrote = Appends-nil a }
+
+-- no more goes out
+pub said_stops : (a b : Option (List ℕ)) (s t : Session) (lines last : List (List ℕ)) → Said a b s lines last t → SaysFront a b s lines
+said_stops a b s t lines last h = record {
+  read = h.read;
+  left = last;
+  parted = h.parted;
+  session = t;
+  out = h.out;
+  says = h.says;
+  front = (h.out, [], sym (append-nil h.out), h.wrote);
+}
+
+line_over : (read : List (List ℕ)) (l : List ℕ) (last : List (List ℕ)) → read ++ l ∷ last ≡ (read ++ l ∷ []) ++ last
+line_over read l last = sym (append_assoc read (l ∷ []) last)
+
+-- all that the next line says goes out
+pub said_more : (a b c : Option (List ℕ)) (s t u : Session) (lines all last : List (List ℕ)) (l more : List ℕ) → Said a b s lines all t → all ≡ l ∷ last
+    → LineSays t (words_of l) u more → Appends b c more → Said a c s lines last u
+said_more a b c s t u lines all last l more h first says wrote = record {
+  read = h.read ++ l ∷ [];
+  parted = h.parted ∙ ap (λ x. h.read ++ x) first ∙ line_over h.read l last;
+  out = h.out ++ more;
+  says = says_more s t u h.read l h.out more h.says says;
+  wrote = Appends-trans a b c h.out more h.wrote wrote;
+}
+
+-- a front of what the next line says goes out
+pub said_torn : (a b c : Option (List ℕ)) (s t u : Session) (lines all last : List (List ℕ)) (l more : List ℕ) → Said a b s lines all t → all ≡ l ∷ last
+    → LineSays t (words_of l) u more → WroteFront b c more → SaysFront a c s lines
+said_torn a b c s t u lines all last l more h first says (front, back, is, wrote) = record {
+  read = h.read ++ l ∷ [];
+  left = last;
+  parted = h.parted ∙ ap (λ x. h.read ++ x) first ∙ line_over h.read l last;
+  session = u;
+  out = h.out ++ more;
+  says = says_more s t u h.read l h.out more h.says says;
+  front = (h.out ++ front, back, ap (λ x. h.out ++ x) is ∙ sym (append_assoc h.out front back), Appends-trans a b c h.out front h.wrote wrote);
+}
+
+-- no line is left
+pub said_all : (a b : Option (List ℕ)) (s t : Session) (lines last : List (List ℕ)) → Said a b s lines last t → last ≡ [] → (out : List ℕ) × Says s lines t out × Appends a b out
+said_all a b s t lines last h none =
+    let whole : lines ≡ h.read = h.parted ∙ ap (λ x. h.read ++ x) none ∙ append-nil h.read in
+    (h.out, subst (λ x. Says s x t h.out) (sym whole) h.says, h.wrote)

@@ -1,0 +1,94 @@
+-- The lines that go out for a command, each with its end.
+use Rattle.std.specs.Prelude.{ℕ, ◌==◌, ◌<◌, List, [], ◌++◌, codes, length, is_some, if◌then◌else◌}
+use Rattle.std.specs.Fmt.{decimal}
+use Rattle.std.specs.List.{flat_map}
+use Rattle.zy_isa.specs.Canon.{node_text}
+use Rattle.zy_isa.specs.declared.node.Node.{Node}
+use Rattle.zy_isa.specs.declared.node.Node.TheVariants.{A, B}
+use Rattle.zy_io.specs.Writing.{line_of}
+use Rattle.zy_locks.specs.declared.lock.Lock.{Lock}
+use Rattle.zy_locks.specs.declared.lock.LockKind.{LockKind}
+use Rattle.zy_locks.specs.declared.lock.LockKind.TheVariants.{Shared, Exclusive}
+use Rattle.zy_table.specs.State.{State}
+use Rattle.zy_table.specs.Pages.{page_in}
+use Rattle.zy_table.specs.Database.{all_leaves}
+use Rattle.zy_machine.specs.Histories.{History}
+use Rattle.zy_audit.specs.Texts.{page_text, txn_text, link_text, mode_word}
+use Rattle.zy_scan.specs.Stops.{state_at}
+use Rattle.zy_debug.specs.Sessions.{Session}
+use Rattle.zy_debug.specs.declared.command.Command.{Command}
+use Rattle.zy_debug.specs.declared.command.Command.TheVariants as command
+use Rattle.zy_debug.specs.declared.command.Reply.{Reply}
+use Rattle.zy_debug.specs.declared.command.Reply.TheVariants as reply
+use Rattle.zy_debug.specs.declared.command.DebugFault.{DebugFault}
+use Rattle.zy_debug.specs.declared.command.DebugFault.TheVariants as fault
+
+-- ---- a page and its locks
+
+abbrev pub kind_word : LockKind → List ℕ
+kind_word Shared = codes "s"
+kind_word Exclusive = codes "x"
+
+-- ` N:T:s` or ` N:T:x`
+abbrev pub lock_text : Node → Lock → List ℕ
+lock_text n x = codes " " ++ (node_text n ++ (codes ":" ++ (decimal x.txn ++ (codes ":" ++ kind_word x.kind))))
+
+-- the same of a lock on page p, and nothing of another
+abbrev pub lock_on : Node → ℕ → Lock → List ℕ
+lock_on n p x = if x.page == p then lock_text n x else []
+
+-- the locks of a node on page p, as they stand there: by transaction
+abbrev pub locks_on : Node → ℕ → List Lock → List ℕ
+locks_on n p locks = flat_map (lock_on n p) locks
+
+-- the listing's line, and behind it the locks, those of A first
+abbrev pub locked_page : State → ℕ → List ℕ
+locked_page s p = page_text s p ++ (codes " locks" ++ (locks_on A p s.a.locks ++ locks_on B p s.b.locks))
+
+abbrev pub no_page : ℕ → List ℕ
+no_page p = codes "page " ++ (decimal p ++ codes " none")
+
+abbrev pub page_reply : State → ℕ → List ℕ
+page_reply s p = if is_some (page_in p (all_leaves s)) then locked_page s p else no_page p
+
+-- ---- what is read from a state at position m of l
+
+abbrev pub modes_text : State → List ℕ
+modes_text s = codes " modes " ++ (mode_word s.a.mode ++ (codes " " ++ mode_word s.b.mode))
+
+abbrev pub where_text : ℕ → ℕ → State → List ℕ
+where_text m l s = codes "at " ++ (decimal m ++ (codes " of " ++ (decimal l ++ modes_text s)))
+
+-- the lines of the listing; the other commands show nothing
+abbrev pub shown_text : ℕ → ℕ → State → Command → List ℕ
+shown_text m l s (command.Page p) = line_of (page_reply s p)
+shown_text m l s (command.Txn t) = line_of (txn_text s t)
+shown_text m l s command.Links = line_of (link_text A s.ab) ++ line_of (link_text B s.ba)
+shown_text m l s command.Position = line_of (where_text m l s)
+shown_text m l s c = []
+
+-- what a command shows is there
+abbrev pub IsThere : History → Command → Type 0
+IsThere h (command.Page p) = p < h.scenario.pages
+IsThere h (command.Txn t) = t < length h.scenario.programs
+IsThere h c = Unit {0}
+
+-- ---- replies and refusals
+
+-- the reply to a command that led to session t
+abbrev pub reply_text : Session → Command → Reply → List ℕ
+reply_text t c (reply.At m) = line_of (codes "at " ++ decimal m)
+reply_text t c (reply.Stop i m) = line_of (codes "stop " ++ (decimal i ++ (codes " at " ++ decimal m)))
+reply_text t c (reply.Set i) = line_of (codes "stop " ++ (decimal i ++ codes " set"))
+reply_text t c (reply.Deleted i) = line_of (codes "deleted " ++ decimal i)
+reply_text t c reply.Shown = shown_text t.position (length t.scenario.choices) (state_at t.scenario t.position) c
+
+-- want of memory ends the session, and says nothing
+abbrev pub refusal_text : DebugFault → List ℕ
+refusal_text fault.NoSuchStop = line_of (codes "no such stop")
+refusal_text fault.Range = line_of (codes "out of range")
+refusal_text fault.TooManyStops = line_of (codes "too many stops")
+refusal_text fault.Memory = []
+
+abbrev pub bad_command : List ℕ
+bad_command = line_of (codes "bad command")

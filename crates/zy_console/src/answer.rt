@@ -1,0 +1,82 @@
+//! What a line is answered.
+ghost use Rattle.std.specs.Prelude.{◌≡◌, ◌≢◌, ◌++◌, None, OnOk};
+ghost use Rattle.std.specs.String.{string_bytes};
+ghost use Rattle.zy_io.specs.Writing.{line_of};
+ghost use Rattle.zy_words.specs.Lines.{texts};
+ghost use Rattle.zy_debug.specs.Commands.{refusal};
+ghost use Rattle.zy_console.specs.Replies.{refusal_text, reply_text};
+ghost use Rattle.zy_console.specs.Console.{LineSays, Obeyed};
+
+use crate::command::command_of;
+use crate::shown::append_shown;
+use std::alloc::AllocError;
+use zy_debug::command::{Command, DebugFault, Reply};
+use zy_debug::debugger::Debugger;
+use zy_io::line::{Decimal, Joined, Line};
+
+/// Appends a text and the end of its line.
+fn append_line<D: Line>(item: &D, line: &mut String) -> Result<(), AllocError>
+    ensures { OnOk result (string_bytes line.new ≡ string_bytes line.old ++ line_of (D.text item.now)) }
+{
+    item.append(line)?;
+    line.push('\n')
+}
+
+/// Appends the reply to a command, which has been done.
+fn append_reply(
+    debugger: &Debugger,
+    command: Command,
+    reply: Reply,
+    line: &mut String,
+) -> Result<(), AllocError>
+    requires { reply ≡ Reply.Shown → refusal debugger.now command ≡ None }
+    ensures { OnOk result (string_bytes line.new ≡ string_bytes line.old ++ reply_text debugger.now command reply) }
+{
+    match reply {
+        Reply::At(m) => append_line(&Joined("at ", Decimal(m)), line),
+        Reply::Stop(i, m) => {
+            let place = Joined(" at ", Decimal(m));
+            append_line(&Joined("stop ", Joined(Decimal(i), place)), line)
+        }
+        Reply::Set(i) => append_line(&Joined("stop ", Joined(Decimal(i), " set")), line),
+        Reply::Deleted(i) => append_line(&Joined("deleted ", Decimal(i)), line),
+        Reply::Shown => append_shown(debugger.machine(), command, line),
+    }
+}
+
+/// Appends why a command is refused. At want of memory there is no more to be said.
+fn append_refusal(fault: DebugFault, line: &mut String) -> Result<(), AllocError>
+    ensures { OnOk result ((string_bytes line.new ≡ string_bytes line.old ++ refusal_text fault) × (fault ≢ DebugFault.Memory)) }
+{
+    match fault {
+        DebugFault::NoSuchStop => append_line(&"no such stop", line),
+        DebugFault::Range => append_line(&"out of range", line),
+        DebugFault::TooManyStops => append_line(&"too many stops", line),
+        DebugFault::Memory => Err(AllocError),
+    }
+}
+
+/// Does a command, and puts what is to be said of it in place of what the `String` holds.
+fn obey(debugger: &mut Debugger, command: Command, line: &mut String) -> Result<(), AllocError>
+    ensures ok { OnOk result (Obeyed (refusal debugger.old command) debugger.old command debugger.new (string_bytes line.new)) }
+{
+    line.clear();
+    match debugger.command(command) {
+        Ok(reply) => append_reply(debugger, command, reply, line),
+        Err(fault) => append_refusal(fault, line),
+    }
+}
+
+/// Answers the words of a line, in place of what the `String` holds.
+pub fn answer(debugger: &mut Debugger, words: &[&[u8]], line: &mut String) -> Result<(), AllocError>
+    ensures { OnOk result (LineSays debugger.old (texts words.now) debugger.new (string_bytes line.new)) }
+{
+    line.clear();
+    if words.is_empty() {
+        return Ok(());
+    }
+    match command_of(words) {
+        Some(command) => obey(debugger, command, line),
+        None => append_line(&"bad command", line),
+    }
+}

@@ -1,0 +1,113 @@
+//! The command of a line.
+ghost use Rattle.std.specs.Prelude.{◌≡◌};
+ghost use Rattle.zy_words.specs.Lines.{texts};
+ghost use Rattle.zy_console.specs.Lines.{bare as bare_spec, break_at as break_at_spec, command_of as command_of_spec, count_of as count_of_spec, numbered as numbered_spec, of_three as of_three_spec, of_two as of_two_spec};
+
+use zy_debug::command::Command;
+
+/// The number that a word spells, where it is a `u32`.
+fn count_of(word: &[u8]) -> Option<u32>
+    ensures { result ≡ count_of_spec word.now }
+{
+    match number_of(word) {
+        Some(number) => {
+            if number <= u64::from(u32::MAX) {
+                Some(number as u32)
+            } else {
+                None
+            }
+        }
+        None => None,
+    }
+}
+
+/// The command that is one word.
+fn bare(word: &[u8]) -> Option<Command>
+    ensures { result ≡ bare_spec word.now }
+{
+    if is(word, b"cont") {
+        Some(Command::Cont)
+    } else if is(word, b"rcont") {
+        Some(Command::RCont)
+    } else if is(word, b"links") {
+        Some(Command::Links)
+    } else if is(word, b"where") {
+        Some(Command::Position)
+    } else {
+        None
+    }
+}
+
+/// The command that a word and a number spell.
+fn numbered(word: &[u8], number: u32) -> Option<Command>
+    ensures { result ≡ numbered_spec word.now number }
+{
+    if is(word, b"step") {
+        Some(Command::Step(number))
+    } else if is(word, b"back") {
+        Some(Command::Back(number))
+    } else if is(word, b"goto") {
+        Some(Command::Goto(number))
+    } else if is(word, b"watch") {
+        Some(Command::Watch(number))
+    } else if is(word, b"delete") {
+        Some(Command::Delete(number))
+    } else if is(word, b"page") {
+        Some(Command::Page(number))
+    } else if is(word, b"txn") {
+        Some(Command::Txn(number))
+    } else {
+        None
+    }
+}
+
+/// The command that `break` and a word spell.
+fn break_at(word: &[u8]) -> Option<Command>
+    ensures { result ≡ break_at_spec word.now }
+{
+    if is(word, b"mode") {
+        Some(Command::BreakMode)
+    } else if is(word, b"abort") {
+        Some(Command::BreakAbort)
+    } else {
+        None
+    }
+}
+
+/// The command that two words spell.
+fn of_two(first: &[u8], second: &[u8]) -> Option<Command>
+    ensures { result ≡ of_two_spec first.now second.now }
+{
+    if is(first, b"break") {
+        return break_at(second);
+    }
+    match count_of(second) {
+        Some(number) => numbered(first, number),
+        None => None,
+    }
+}
+
+/// The command that three words spell.
+fn of_three(first: &[u8], second: &[u8], third: &[u8]) -> Option<Command>
+    ensures { result ≡ of_three_spec first.now second.now third.now }
+{
+    if !(is(first, b"break") && is(second, b"page")) {
+        return None;
+    }
+    match count_of(third) {
+        Some(number) => Some(Command::BreakPage(number)),
+        None => None,
+    }
+}
+
+/// The command that the words of a line spell, if they spell one.
+pub fn command_of(words: &[&[u8]]) -> Option<Command>
+    ensures { result ≡ command_of_spec (texts words.now) }
+{
+    match words {
+        [first] => bare(first),
+        [first, second] => of_two(first, second),
+        [first, second, third] => of_three(first, second, third),
+        _ => None,
+    }
+}

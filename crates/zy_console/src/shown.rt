@@ -1,0 +1,174 @@
+//! What a command reads from a machine.
+ghost use Rattle.std.specs.Prelude.{◌≡◌, ◌<◌, ◌++◌, OnOk, length};
+ghost use Rattle.std.specs.String.{string_bytes};
+ghost use Rattle.zy_io.specs.Writing.{line_of};
+ghost use Rattle.zy_isa.specs.declared.node.Node.TheVariants.{A, B};
+ghost use Rattle.zy_audit.specs.Texts.{link_text, txn_text};
+ghost use Rattle.zy_console.specs.Replies.{IsThere, kind_word, lock_on, lock_text, locks_on, modes_text, page_reply, shown_text, where_text};
+
+use std::alloc::AllocError;
+use zy_audit::lines::link::link_line;
+use zy_audit::lines::page::page_line;
+use zy_audit::lines::txn::txn_line;
+use zy_audit::lines::words::ModeText;
+use zy_debug::command::Command;
+use zy_io::line::{Decimal, Joined, Line};
+use zy_isa::node::Node;
+use zy_laws::laws::safe_counts;
+use zy_locks::lock::{Lock, LockKind};
+use zy_machine::machine::Machine;
+
+/// How a page is locked: `s` or `x`.
+#[derive(Clone, Copy)]
+struct KindText(LockKind);
+
+impl Line for KindText {
+    ghost text = { λ k. kind_word k.0 };
+
+    fn append(&self, line: &mut String) -> Result<(), AllocError> {
+        match self.0 {
+            LockKind::Shared => "s".append(line),
+            LockKind::Exclusive => "x".append(line),
+        }
+    }
+}
+
+/// A lock of a node.
+#[derive(Clone, Copy)]
+struct LockText {
+    node: Node,
+    lock: Lock,
+}
+
+impl Line for LockText {
+    ghost text = { λ l. lock_text l.node l.lock };
+
+    fn append(&self, line: &mut String) -> Result<(), AllocError> {
+        let Lock { page: _, txn, kind } = self.lock;
+        let holder = Joined(Decimal(txn), Joined(":", KindText(kind)));
+        Joined(" ", Joined(self.node, Joined(":", holder))).append(line)
+    }
+}
+
+/// A lock of a node, where it is on this page.
+#[derive(Clone, Copy)]
+struct LockOn {
+    node: Node,
+    page: u16,
+    lock: Lock,
+}
+
+impl Line for LockOn {
+    ghost text = { λ l. lock_on l.node l.page l.lock };
+
+    fn append(&self, line: &mut String) -> Result<(), AllocError> {
+        let LockOn { node, page, lock } = *self;
+        if lock.page == page {
+            LockText { node, lock }.append(line)
+        } else {
+            Ok(())
+        }
+    }
+}
+
+/// The locks of a node on a page.
+#[derive(Clone, Copy)]
+struct LocksOn<'a> {
+    node: Node,
+    page: u16,
+    locks: &'a [Lock],
+}
+
+impl Line for LocksOn<'_> {
+    ghost text = { λ l. locks_on l.node l.page l.locks.now };
+
+    fn append(&self, line: &mut String) -> Result<(), AllocError> {
+        let (node, page) = (self.node, self.page);
+        for lock in self.locks {
+            LockOn {
+                node,
+                page,
+                lock: *lock,
+            }
+            .append(line)?;
+        }
+        Ok(())
+    }
+}
+
+/// Appends a page with its locks, or that it is not there.
+fn append_page(machine: &Machine, page: u16, line: &mut String) -> Result<(), AllocError>
+    ensures { OnOk result (string_bytes line.new ≡ string_bytes line.old ++ page_reply machine.now.state page) }
+{
+    if machine.page(page).is_none() {
+        return Joined("page ", Joined(Decimal(page), " none")).append(line);
+    }
+    let locks_of_a = LocksOn {
+        node: Node::A,
+        page,
+        locks: machine.locks(Node::A),
+    };
+    let locks_of_b = LocksOn {
+        node: Node::B,
+        page,
+        locks: machine.locks(Node::B),
+    };
+    page_line(machine, page, line)?;
+    Joined(" locks", Joined(locks_of_a, locks_of_b)).append(line)
+}
+
+/// Appends where a machine is in its choices, and the modes there.
+fn append_where(machine: &Machine, line: &mut String) -> Result<(), AllocError>
+    ensures { OnOk result (string_bytes line.new ≡ string_bytes line.old
+        ++ where_text (length machine.now.entries) (length machine.now.scenario.choices) machine.now.state) }
+{
+    let a = ModeText(machine.mode(Node::A));
+    let b = ModeText(machine.mode(Node::B));
+    let modes = Joined(" modes ", Joined(a, Joined(" ", b)));
+    let all = Decimal(machine.scenario().choices().len());
+    let position = Joined(Decimal(machine.len()), Joined(" of ", Joined(all, modes)));
+    Joined("at ", position).append(line)
+}
+
+/// Appends the lines of both links, each with its end.
+fn append_links(machine: &Machine, line: &mut String) -> Result<(), AllocError>
+    ensures { OnOk result (string_bytes line.new ≡ string_bytes line.old
+        ++ (line_of (link_text A machine.now.state.ab) ++ line_of (link_text B machine.now.state.ba))) }
+{
+    link_line(machine, Node::A, line)?;
+    line.push('\n')?;
+    link_line(machine, Node::B, line)?;
+    line.push('\n')
+}
+
+/// Appends the line of a transaction.
+fn append_txn(machine: &Machine, t: u32, line: &mut String) -> Result<(), AllocError>
+    requires { t < length machine.now.scenario.programs }
+    ensures { OnOk result (string_bytes line.new ≡ string_bytes line.old ++ txn_text machine.now.state t) }
+{
+    safe_counts();
+    let _scenario = machine.scenario().programs();
+    let _count = machine.txn_count();
+    txn_line(machine, t as u8, line)
+}
+
+/// Appends the lines that a command shows of a machine, each with its end.
+pub fn append_shown(
+    machine: &Machine,
+    command: Command,
+    line: &mut String,
+) -> Result<(), AllocError>
+    requires { IsThere machine.now command }
+    ensures { OnOk result (string_bytes line.new ≡ string_bytes line.old
+        ++ shown_text (length machine.now.entries) (length machine.now.scenario.choices) machine.now.state command) }
+{
+    let _pages = machine.scenario().pages();
+    match command {
+        Command::Page(page) => append_page(machine, page as u16, line)?,
+        Command::Txn(t) => append_txn(machine, t, line)?,
+        Command::Links => return append_links(machine, line),
+        Command::Position => append_where(machine, line)?,
+        _ => return Ok(()),
+    }
+    line.push('\n')
+}

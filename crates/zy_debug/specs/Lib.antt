@@ -1,0 +1,3 @@
+pub mod Sessions
+pub mod Commands
+pub mod Checkpoints

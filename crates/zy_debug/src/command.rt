@@ -1,0 +1,80 @@
+//! Commands, replies and refusals.
+ghost use Rattle.std.specs.Prelude.{◌≡◌};
+
+use std::alloc::AllocError;
+use thiserror::Error;
+
+/// What a session is asked.
+#[derive(Clone, Copy, Debug, PartialEq, Eq)]
+pub enum Command {
+    /// So many choices on.
+    Step(u32),
+    /// So many choices back.
+    Back(u32),
+    /// To a position.
+    Goto(u32),
+    /// On to the next position at which a stop fires.
+    Cont,
+    /// Back to the last position below at which a stop fires.
+    RCont,
+    /// A stop where this page changes its place.
+    BreakPage(u32),
+    /// A stop where a node changes its mode.
+    BreakMode,
+    /// A stop where a choice ends in an abort.
+    BreakAbort,
+    /// A stop where the committed value at this key changes.
+    Watch(u32),
+    /// Takes the stop of this number away.
+    Delete(u32),
+    /// Shows a page and its locks.
+    Page(u32),
+    /// Shows a transaction.
+    Txn(u32),
+    /// Shows both links.
+    Links,
+    /// Shows the position and the modes.
+    Position,
+}
+
+/// What a command that is not refused says.
+#[derive(Clone, Copy, Debug, PartialEq, Eq)]
+pub enum Reply {
+    /// The session is at this position.
+    At(usize),
+    /// The stop of this number fires at this position, and the session is there.
+    Stop(usize, usize),
+    /// The stop has this number.
+    Set(usize),
+    /// The stop of this number is gone.
+    Deleted(u32),
+    /// What was asked for is read from the session's machine.
+    Shown,
+}
+
+/// Why a command is refused.
+#[derive(Clone, Copy, Debug, PartialEq, Eq, Error)]
+pub enum DebugFault {
+    /// 1: there is no stop of this number.
+    #[error("no such stop")]
+    NoSuchStop,
+    /// 2: there is no such position, page, key or transaction.
+    #[error("out of range")]
+    Range,
+    /// 3: sixteen stops are set.
+    #[error("too many stops")]
+    TooManyStops,
+    /// 4: there was no memory.
+    #[error("there is not enough memory for this session")]
+    Memory,
+}
+
+impl From<AllocError> for DebugFault {
+    ghost use Rattle.zy_debug.specs.declared.command.DebugFault.TheVariants.{Memory};
+
+    ghost from_gives = { λ _ e. e ≡ Memory };
+
+    fn from(_e: AllocError) -> DebugFault {
+        DebugFault::Memory
+    }
+}

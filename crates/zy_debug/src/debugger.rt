@@ -1,0 +1,299 @@
+//! The debugger: a position and sixteen stops.
+ghost use Rattle.std.specs.Prelude.{◌≡◌, ◌≤◌, ◌<◌, ◌==◌, ◌&&◌, ◌-◌, not, IfOk, IfSome, OnOk, OnErr, length, replicate, None, nat_le, nat_lt, slice_get};
+ghost use Rattle.zy_scan.specs.declared.stop.Stop.TheVariants as stop;
+ghost use Rattle.zy_scan.specs.Scans.{Conts, RConts, LastIn};
+ghost use Rattle.zy_scan.specs.Slots.{free_slot, with_stop, without_stop, is_set};
+ghost use Rattle.zy_debug.specs.Commands.{refusal, Does, Obeys, Moves, GoesOn, GoesBack, Sets, Deletes, Stays, has_room, has_room_in_range, has_stop, in_range, unless};
+ghost use Rattle.zy_debug.specs.Checkpoints.{IsReplayOf};
+ghost use Rattle.zy_debug.specs.declared.command.DebugFault.TheVariants as fault;
+ghost use Rattle.zy_debug.specs.Sessions.{Shows, goes};
+
+use crate::checkpoints::Checkpoints;
+use crate::command::{Command, DebugFault, Reply};
+use std::alloc::{AllocError, Global};
+use std::marker::Model;
+use zy_isa::scenario::Scenario;
+use zy_machine::machine::Machine;
+use zy_scan::replay::start;
+use zy_scan::scan::{cont, last_firing};
+use zy_scan::stop::Stop;
+use zy_scan::stops::Stops;
+
+/// A scenario, a position in its choices, and stops.
+#[derive(Drop)]
+pub struct Debugger {
+    alloc: Global,
+    machine: Machine,
+    stops: Stops,
+    checkpoints: Checkpoints,
+}
+
+impl Model for Debugger {
+    ghost use Rattle.std.specs.Prelude.{length};
+    ghost use Rattle.zy_debug.specs.Sessions.{Session};
+    ghost use Rattle.zy_scan.specs.Scans.{Follows};
+    ghost use Rattle.zy_debug.specs.Checkpoints.{AreReplaysOf};
+
+    ghost Value = { Session };
+
+    ghost view = { λ d. record { scenario = d.machine.scenario; position = length d.machine.entries; stops = d.stops } };
+
+    ghost invariant = { λ d. Follows d.machine × AreReplaysOf d.machine.scenario d.checkpoints.machines };
+}
+
+impl Debugger {
+    /// A debugger at the start, without stops. A replay that passes a multiple of `every` keeps a copy of the machine there,
+    /// and of these copies the last `ring`. The scenario is dropped where there is no memory.
+    pub fn open(
+        alloc: Global,
+        scenario: Scenario,
+        every: usize,
+        ring: usize,
+    ) -> Result<Debugger, AllocError>
+        requires { 1 ≤ every }
+        ensures { IfOk result (λ d. d ≡ record { scenario = scenario; position = 0; stops = replicate 16 None }) }
+    {
+        let machine = start(alloc, scenario)?;
+        let checkpoints = Checkpoints::new(alloc, every, ring)?;
+        Ok(Debugger {
+            alloc,
+            machine,
+            stops: Stops::new(),
+            checkpoints,
+        })
+    }
+
+    /// How many choices are done.
+    pub fn position(&self) -> usize
+        ensures value { result ≡ self.now.position }
+        ensures few { result ≤ 4096 }
+        ensures most { result ≤ length self.now.scenario.choices }
+    {
+        self.machine.len()
+    }
+
+    /// How many choices there are.
+    fn choices(&self) -> usize
+        ensures { result ≡ length self.now.scenario.choices }
+    {
+        self.machine.scenario().choices().len()
+    }
+
+    /// The machine that has made the choices which are done.
+    pub fn machine(&self) -> &Machine
+        ensures { Shows self.entry.now result.now }
+    {
+        &self.machine
+    }
+
+    /// Does a command. After a refusal position and stops are what they were.
+    pub fn command(&mut self, command: Command) -> Result<Reply, DebugFault>
+        ensures { Obeys (refusal self.old command) (Does self.old command) self.old self.new result }
+    {
+        match command {
+            Command::Step(n) => self.go_to(self.position() + n as usize),
+            Command::Back(n) => self.back(n as usize),
+            Command::Goto(n) => self.go_to(n as usize),
+            Command::Cont => self.go_on(),
+            Command::RCont => self.go_back(),
+            Command::BreakPage(p) => self.break_page(p),
+            Command::BreakMode => self.set(Stop::Mode),
+            Command::BreakAbort => self.set(Stop::Abort),
+            Command::Watch(k) => self.watch(k),
+            Command::Delete(i) => self.delete(i),
+            Command::Page(p) => self.shown(p < u32::from(self.machine.scenario().pages())),
+            Command::Txn(t) => self.shown((t as usize) < self.machine.scenario().programs().len()),
+            Command::Links => self.shown(true),
+            Command::Position => self.shown(true),
+        }
+    }
+
+    /// To a position.
+    fn go_to(&mut self, target: usize) -> Result<Reply, DebugFault>
+        ensures { Obeys (in_range (nat_le target (length self.old.scenario.choices))) (Moves self.old target) self.old self.new result }
+    {
+        if target <= self.choices() {
+            self.go(target)?;
+            Ok(Reply::At(target))
+        } else {
+            Err(DebugFault::Range)
+        }
+    }
+
+    /// So many choices back.
+    fn back(&mut self, n: usize) -> Result<Reply, DebugFault>
+        ensures { Obeys (in_range (nat_le n self.old.position)) (Moves self.old (self.old.position - n)) self.old self.new result }
+    {
+        let position = self.position();
+        if n <= position {
+            self.go(position - n)?;
+            Ok(Reply::At(position - n))
+        } else {
+            Err(DebugFault::Range)
+        }
+    }
+
+    /// On to the next position at which a stop fires, or to the end.
+    fn go_on(&mut self) -> Result<Reply, DebugFault>
+        ensures { Obeys None (GoesOn self.old) self.old self.new result }
+    {
+        match self.cont()? {
+            Some(slot) => Ok(Reply::Stop(slot + 1, self.position())),
+            None => Ok(Reply::At(self.position())),
+        }
+    }
+
+    /// Back to the last position below at which a stop fires, or to the start.
+    fn go_back(&mut self) -> Result<Reply, DebugFault>
+        ensures { Obeys None (GoesBack self.old) self.old self.new result }
+    {
+        match self.rcont()? {
+            Some(slot) => Ok(Reply::Stop(slot + 1, self.position())),
+            None => Ok(Reply::At(self.position())),
+        }
+    }
+
+    /// A stop where a page changes its place.
+    fn break_page(&mut self, p: u32) -> Result<Reply, DebugFault>
+        ensures { Obeys (has_room_in_range (nat_lt p self.old.scenario.pages) self.old) (Sets self.old (stop.Page p)) self.old self.new result }
+    {
+        if p < u32::from(self.machine.scenario().pages()) {
+            self.set(Stop::Page(p as u16))
+        } else {
+            Err(DebugFault::Range)
+        }
+    }
+
+    /// A stop where the committed value at a key changes.
+    fn watch(&mut self, k: u32) -> Result<Reply, DebugFault>
+        ensures { Obeys (has_room_in_range (nat_le k 65535) self.old) (Sets self.old (stop.Watch k)) self.old self.new result }
+    {
+        if k <= 65535 {
+            self.set(Stop::Watch(k as u16))
+        } else {
+            Err(DebugFault::Range)
+        }
+    }
+
+    /// A stop more, in the lowest free slot.
+    fn set(&mut self, stop: Stop) -> Result<Reply, DebugFault>
+        ensures { Obeys (has_room self.old) (Sets self.old stop) self.old self.new result }
+    {
+        match self.stops.add(stop) {
+            Some(slot) => Ok(Reply::Set(slot + 1)),
+            None => Err(DebugFault::TooManyStops),
+        }
+    }
+
+    /// A stop less.
+    fn delete(&mut self, n: u32) -> Result<Reply, DebugFault>
+        ensures { Obeys (unless (has_stop n self.old.stops) fault.NoSuchStop) (Deletes self.old n) self.old self.new result }
+    {
+        if n != 0 && self.stops.delete(n as usize - 1) {
+            Ok(Reply::Deleted(n))
+        } else {
+            Err(DebugFault::NoSuchStop)
+        }
+    }
+
+    /// What is there can be read.
+    fn shown(&self, is_there: bool) -> Result<Reply, DebugFault>
+        ensures { Obeys (in_range is_there) (Stays self.now) self.now self.now result }
+    {
+        if is_there {
+            Ok(Reply::Shown)
+        } else {
+            Err(DebugFault::Range)
+        }
+    }
+
+    /// Goes to a position.
+    fn go(&mut self, target: usize) -> Result<(), AllocError>
+        requires { target ≤ length self.old.scenario.choices }
+        ensures ok { OnOk result (self.new ≡ goes self.old target) }
+        ensures err { OnErr result (self.new ≡ self.old) }
+    {
+        let machine = self.reach(target)?;
+        self.machine = machine;
+        Ok(())
+    }
+
+    /// A machine at a position, and with it the copies that are due on the way.
+    fn reach(&mut self, target: usize) -> Result<Machine, AllocError>
+        requires { target ≤ length self.old.scenario.choices }
+        ensures replay { IfOk result (IsReplayOf self.old.scenario) }
+        ensures position { IfOk result (λ m. length m.entries ≡ target) }
+        ensures kept { self.new ≡ self.old }
+    {
+        let mut machine = self.nearest(target)?;
+        self.checkpoints
+            .replay_to(self.alloc, &mut machine, target)?;
+        Ok(machine)
+    }
+
+    /// A machine at the kept position that is nearest below or at another, or at the start.
+    fn nearest(&self, target: usize) -> Result<Machine, AllocError>
+        ensures replay { IfOk result (IsReplayOf self.now.scenario) }
+        ensures below { IfOk result (λ m. length m.entries ≤ target) }
+    {
+        match self.checkpoints.copy_nearest(self.alloc, target)? {
+            Some(machine) => Ok(machine),
+            None => {
+                let scenario = self.machine.scenario().copy(self.alloc)?;
+                start(self.alloc, scenario)
+            }
+        }
+    }
+
+    /// Goes on to the next position at which a stop fires, and tells the lowest slot that does; else to the end.
+    fn cont(&mut self) -> Result<Option<usize>, AllocError>
+        ensures stops { IfOk result (λ i. Conts self.old.scenario self.old.stops self.old.position i self.new.position) }
+        ensures slot { IfOk result (λ i. IfSome i (λ n. n < 16)) }
+        ensures kept { self.new ≡ goes self.old self.new.position }
+        ensures err { OnErr result (self.new ≡ self.old) }
+    {
+        let mut machine = self.machine.copy(self.alloc)?;
+        let slot = cont(self.alloc, &mut machine, self.stops.slots())?;
+        self.machine = machine;
+        Ok(slot)
+    }
+
+    /// Goes back to the last position below at which a stop fires, and tells the lowest slot that does; else to the start.
+    fn rcont(&mut self) -> Result<Option<usize>, AllocError>
+        ensures stops { IfOk result (λ i. RConts self.old.scenario self.old.stops self.old.position i self.new.position) }
+        ensures slot { IfOk result (λ i. IfSome i (λ n. n < 16)) }
+        ensures kept { self.new ≡ goes self.old self.new.position }
+        ensures err { OnErr result (self.new ≡ self.old) }
+    {
+        let found = self.find_back()?;
+        match found {
+            Some((m, slot)) => {
+                self.go(m)?;
+                Ok(Some(slot))
+            }
+            None => {
+                self.go(0)?;
+                Ok(None)
+            }
+        }
+    }
+
+    /// The last position below at which a stop fires, and the lowest slot that does.
+    fn find_back(&self) -> Result<Option<(usize, usize)>, AllocError>
+        ensures found { IfOk result (λ found. LastIn self.now.scenario self.now.stops 0 self.now.position found) }
+        ensures slot { IfOk result (λ found. IfSome found (λ f. f.1 < 16)) }
+        ensures most { self.now.position ≤ length self.now.scenario.choices }
+    {
+        if self.machine.len() == 0 {
+            return Ok(None);
+        }
+        let scenario = self.machine.scenario().copy(self.alloc)?;
+        let mut machine = start(self.alloc, scenario)?;
+        last_firing(
+            self.alloc,
+            &mut machine,
+            self.stops.slots(),
+            self.machine.len(),
+        )
+    }
+}

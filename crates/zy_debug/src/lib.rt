@@ -1,0 +1,8 @@
+//! The debugger: a session on a scenario, with a position and stops.
+#![tactic(auto)]
+
+mod checkpoints;
+pub mod command;
+pub mod debugger;
+#[cfg(test)]
+mod tests;

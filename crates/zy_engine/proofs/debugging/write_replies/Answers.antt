@@ -1,0 +1,20 @@
+-- The session begins at the start.
+use Rattle.std.proofs.Common.{refl, subst}
+use Rattle.std.proofs.lemmas.Result.{err_from_is_err_and}
+use Rattle.zy_isa.specs.Words.{lines_of}
+use Rattle.zy_console.specs.Console.{WroteSession, opened}
+use Rattle.zy_engine.proofs.DebugLemmas.{nothing_said}
+use Rattle.zy_engine.proofs.debugging.write_replies.Goals as goal
+
+pub returns-in_err-debugger : goal.returns-in_err-debugger
+returns-in_err-debugger g c =
+    let p = err_from_is_err_and c.from_residual.result c.from_residual.ensures.1 in
+    let start = opened c.args.scenario in
+    (start, rw p.1 (rw p.2 (nothing_said (g.K.Sink.written c.args.sink.now) start (lines_of c.args.commands.now), refl)))
+
+pub returns : goal.returns
+returns g c = (
+  c.write_session.new.debugger,
+  subst (λ s. WroteSession (g.K.Sink.written c.args.sink.now) (g.K.Sink.written c.write_session.new.sink) (g.K.Sink.failures c.args.sink.now) (g.K.Sink.failures c.write_session.new.sink) c.write_session.result s (lines_of c.args.commands.now) c.write_session.new.debugger)
+      c.in_ok-debugger.ensures c.write_session.ensures,
+)

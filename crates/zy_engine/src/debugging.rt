@@ -1,0 +1,65 @@
+//! The engine that debugs a scenario.
+ghost use Rattle.std.specs.Prelude.{◌≡◌, ◌<◌, ◌≤◌};
+ghost use Rattle.zy_isa.specs.Words.{lines_of};
+ghost use Rattle.zy_console.specs.Console.{WroteReplies, opened};
+ghost use Rattle.zy_engine.specs.Debugs.{Debugs};
+
+use crate::faults::BenchFault;
+use crate::format::{Format, accept};
+use std::alloc::Global;
+use zy_check::cut::cut_len;
+use zy_console::session::write_session;
+use zy_debug::debugger::Debugger;
+use zy_io::reading::read_all;
+use zy_io::stream::{Sink, Source};
+use zy_io::writing::TextFault;
+use zy_isa::scenario::Scenario;
+
+/// A session on a scenario: does the commands, one a line, and writes what is to be said of each.
+fn write_replies<K: Sink>(
+    alloc: Global,
+    scenario: Scenario,
+    every: usize,
+    ring: usize,
+    commands: &[u8],
+    sink: &mut K,
+) -> Result<(), TextFault>
+    requires every { 1 ≤ every }
+    requires sink { K.failures sink.old < u64.MAX }
+    ensures { WroteReplies (K.written sink.old) (K.written sink.new) (K.failures sink.old) (K.failures sink.new) result
+        (opened scenario) (lines_of commands.now) }
+{
+    let mut debugger = Debugger::open(alloc, scenario, every, ring)?;
+    write_session(alloc, &mut debugger, commands, sink)
+}
+
+/// Reads an input whole: a scenario text through its first line whose only word is `end`, and below it commands, one a line.
+/// Writes the replies. Nothing is written before the scenario is accepted.
+///
+/// A replay that passes a multiple of `every` keeps a copy of the machine there, and of these copies the last `ring`: no reply
+/// shows it.
+pub fn debug_bytes<S: Source, K: Sink>(
+    alloc: Global,
+    every: usize,
+    ring: usize,
+    source: &mut S,
+    sink: &mut K,
+) -> Result<(), BenchFault>
+    requires every_least { 1 ≤ every }
+    requires every_most { every ≤ 4096 }
+    requires ring_least { 1 ≤ ring }
+    requires ring_most { ring ≤ 64 }
+    requires source { S.failures source.old < u64.MAX }
+    requires sink { K.failures sink.old < u64.MAX }
+    ensures { Debugs
+        (record { left = S.left source.old; written = K.written sink.old; reads = S.failures source.old; writes = K.failures sink.old })
+        (record { left = S.left source.new; written = K.written sink.new; reads = S.failures source.new; writes = K.failures sink.new })
+        result }
+{
+    let bytes = read_all(alloc, source)?;
+    let input = bytes.as_slice();
+    let (part, commands) = input.split_at(cut_len(input));
+    let scenario = accept(alloc, Format::Text, part)?;
+    write_replies(alloc, scenario, every, ring, commands, sink)?;
+    Ok(())
+}

@@ -1,0 +1,3 @@
+pub mod Stops
+pub mod Scans
+pub mod Slots

@@ -1,0 +1,7 @@
+//! Where a stop fires: stops, what they read, and scans over the choices of a scenario.
+#![tactic(auto)]
+
+pub mod replay;
+pub mod scan;
+pub mod stop;
+pub mod stops;

@@ -1,0 +1,33 @@
+//! Replays of a scenario's own choices.
+ghost use Rattle.std.specs.Prelude.{◌≡◌, ◌<◌, ◌+◌, [], IfOk, OnOk, length};
+ghost use Rattle.zy_scan.specs.Scans.{Follows};
+ghost use Rattle.zy_scan.specs.Stops.{outcome_at};
+
+use std::alloc::Global;
+use zy_isa::scenario::Scenario;
+use zy_machine::machine::{Fault, Machine};
+use zy_table::outcome::Outcome;
+
+/// Makes the next choice of the machine's scenario.
+pub fn advance(machine: &mut Machine) -> Result<Outcome, Fault>
+    requires follows { Follows machine.old }
+    requires more { length machine.old.entries < length machine.old.scenario.choices }
+    ensures scenario { machine.new.scenario ≡ machine.old.scenario }
+    ensures follows { Follows machine.new }
+    ensures position { OnOk result (length machine.new.entries ≡ length machine.old.entries + 1) }
+    ensures outcome { IfOk result (λ o. o ≡ outcome_at machine.old.scenario (length machine.old.entries + 1)) }
+{
+    let choice = machine.scenario().choices()[machine.len()];
+    let entry = machine.step(choice)?;
+    Ok(entry.outcome)
+}
+
+/// A machine that has made no choice of its scenario yet.
+pub fn start(alloc: Global, scenario: Scenario) -> Result<Machine, Fault>
+    ensures scenario { IfOk result (λ m. m.scenario ≡ scenario) }
+    ensures follows { IfOk result (λ m. Follows m) }
+    ensures position { IfOk result (λ m. m.entries ≡ []) }
+{
+    let machine = Machine::open(alloc, scenario)?;
+    Ok(machine)
+}
