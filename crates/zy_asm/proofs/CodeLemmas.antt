@@ -3,7 +3,6 @@ use Rattle.std.proofs.Common.{◌≡◌, ℕ, ◌<◌, ◌==◌, ◌+◌, true, 
 use borrow.Author.Tests.{eqb-true}
 use Rattle.zy_isa.specs.Words.{lines_of, words_of, number_of}
 use Rattle.zy_words.specs.Lines.{texts, first_words, first_line, lines_below}
-use Rattle.zy_words.proofs.LineLemmas.{lines_parted}
 use Rattle.zy_asm.proofs.FirstWords.{line_first}
 use Rattle.zy_asm.specs.Reading.{Seen, line_step, read_lines, ended, own_number}
 use Rattle.zy_asm.specs.declared.faults.AsmFault.{AsmFault}
@@ -14,11 +13,6 @@ use Rattle.zy_asm.specs.Instructions.{beq_of}
 pub empty_lines : (xs : List ℕ) → (length xs == 0) ≡ true → lines_of xs ≡ []
 empty_lines [] h = refl
 empty_lines (x ∷ xs) h = absurd (omega (arith, eqb-true (length (x ∷ xs)) 0 h))
-
--- a text that is left begins with a line, and goes on below it
-pub line_taken : (text below : List ℕ) → (length text == 0) ≡ false → lines_of below ≡ lines_below text → lines_of text ≡ first_line text ∷ lines_of below
-line_taken [] below some h = cc
-line_taken (b ∷ bs) below some h = lines_parted (b ∷ bs) (omega arith) ∙ ap (λ ls. first_line (b ∷ bs) ∷ ls) (sym h)
 
 -- the fault of a line
 pub fault_at : (s : Seen) (n : ℕ) (ls rest : List (List ℕ)) (l : List ℕ) (k : AsmKind) (r : Result Seen AsmFault)

@@ -1,18 +1,26 @@
 -- What the lines so far have said, and one line more.
-use Rattle.std.proofs.Common.{◌≡◌, ℕ, ◌==◌, List, [], ◌∷◌, ◌++◌, Option, length, true, false, refl, sym, ap, subst, ◌∙◌, arith, append_assoc, append-nil}
+use Rattle.std.proofs.Common.{◌≡◌, ℕ, ◌==◌, List, [], ◌∷◌, ◌++◌, Option, length, true, refl, sym, ap, subst, ◌∙◌, arith, append_assoc, append-nil}
 use Rattle.std.proofs.lemmas.Bool.{eqb-true}
 use Rattle.std.specs.Io.KnownBytes.{Appends}
 use Rattle.std.proofs.KnownBytes.{Appends-trans, Appends-nil}
 use Rattle.zy_io.specs.Streams.{WroteFront}
 use Rattle.zy_isa.specs.Words.{lines_of, words_of}
-use Rattle.zy_words.specs.Lines.{first_words, first_line, lines_below}
-use Rattle.zy_words.proofs.LineLemmas.{lines_parted}
+use Rattle.zy_words.specs.Lines.{first_words}
+use Rattle.zy_words.specs.Lines.{first_words}
 use Rattle.zy_debug.specs.Sessions.{Session}
 use Rattle.zy_console.specs.Console.{LineSays, Says, SaysFront}
 
 pub no_lines : (xs : List ℕ) → (length xs == 0) ≡ true → lines_of xs ≡ []
 no_lines [] h = refl
 no_lines (x ∷ xs) h = absurd (omega (arith, eqb-true (length (x ∷ xs)) 0 h))
+
+-- behind six words nothing changes what a line says
+pub says_first : (s t : Session) (ws : List (List ℕ)) (out : List ℕ) → LineSays s (first_words ws) t out → LineSays s ws t out
+says_first s t [] out h = h
+says_first s t (a ∷ []) out h = h
+says_first s t (a ∷ b ∷ []) out h = h
+says_first s t (a ∷ b ∷ c ∷ []) out h = h
+says_first s t (a ∷ b ∷ c ∷ d ∷ ws) out h = h
 
 -- one line more
 says_more : (s t u : Session) (ls : List (List ℕ)) (l out more : List ℕ) → Says s ls t out → LineSays t (words_of l) u more → Says s (ls ++ l ∷ []) u (out ++ more)

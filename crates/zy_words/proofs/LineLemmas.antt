@@ -166,10 +166,15 @@ differs b k h = elim (either (b == k)) [ inl e ↦ absurd (h (eqb-true b k e)) |
 pub in_word : (b : ℕ) → is_space b ≡ false → (b ≡ 10 → ⊥) → (b ≡ 59 → ⊥) → ends_word b ≡ false
 in_word b s f g = rw (s, differs b 10 f, differs b 59 g) refl
 
-pub lines_parted : (bs : List ℕ) → 0 < length bs → lines_of bs ≡ first_line bs ∷ lines_below bs
+lines_parted : (bs : List ℕ) → 0 < length bs → lines_of bs ≡ first_line bs ∷ lines_below bs
 lines_parted [] h = absurd (omega (arith, h))
 lines_parted (b ∷ bs) h = elim (either (b == 10)) [ inl e ↦ rw e refl | inr e ↦ rw e (onto_parted b (lines_of bs)) ]
   where
     onto_parted : (b : ℕ) (ls : List (List ℕ)) → onto_first b ls ≡ get_or (onto_first b ls) 0 [] ∷ drop 1 (onto_first b ls)
     onto_parted b [] = refl
     onto_parted b (l ∷ ls) = refl
+
+-- a text that is left begins with a line, and goes on below it
+pub line_taken : (text below : List ℕ) → (length text == 0) ≡ false → lines_of below ≡ lines_below text → lines_of text ≡ first_line text ∷ lines_of below
+line_taken [] below some h = cc
+line_taken (b ∷ bs) below some h = lines_parted (b ∷ bs) (omega arith) ∙ ap (λ ls. first_line (b ∷ bs) ∷ ls) (sym h)

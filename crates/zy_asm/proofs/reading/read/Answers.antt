@@ -4,7 +4,8 @@ use Rattle.zy_isa.specs.Words.{lines_of}
 use Rattle.zy_words.specs.Lines.{first_line}
 use Rattle.zy_asm.specs.Reasons.{kind_of}
 use Rattle.zy_asm.specs.Reading.{seen, reading, line_step}
-use Rattle.zy_asm.proofs.CodeLemmas.{empty_lines, line_taken, fault_at, fault_end, line_done}
+use Rattle.zy_asm.proofs.CodeLemmas.{empty_lines, fault_at, fault_end, line_done}
+use Rattle.zy_words.proofs.LineLemmas.{line_taken}
 use Rattle.zy_asm.proofs.reading.read.Goals as goal
 
 pub loop-words-preserved : goal.loop-words-preserved

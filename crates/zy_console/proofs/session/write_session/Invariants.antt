@@ -4,13 +4,13 @@ use Rattle.zy_isa.specs.Words.{lines_of}
 use Rattle.zy_console.proofs.SaidLemmas.{Said}
 use Rattle.zy_console.proofs.session.write_session.Given as goal
 
-abbrev pub invariant-loop-rest : goal.invariant-loop-rest
-invariant-loop-rest g l =
+abbrev pub invariant-loop-words : goal.invariant-loop-words
+invariant-loop-words g l =
     let written = g.K.Sink.written in
     record {
       said : Said (written l.fn.sink) (written l.sink) l.fn.debugger (lines_of l.commands) (lines_of l.rest) l.debugger;
       same : g.K.Sink.failures l.sink ≡ g.K.Sink.failures l.fn.sink;
     }
 
-abbrev pub decreases-loop-rest : goal.decreases-loop-rest
-decreases-loop-rest g l = length l.rest
+abbrev pub decreases-loop-words : goal.decreases-loop-words
+decreases-loop-words g l = length l.rest
