@@ -254,7 +254,7 @@ impl Debugger {
     {
         let mut machine = self.machine.copy(self.alloc)?;
         let slot = cont(self.alloc, &mut machine, self.stops.slots())?;
-        self.machine = machine;
+        self.go(machine.len())?;
         Ok(slot)
     }
 

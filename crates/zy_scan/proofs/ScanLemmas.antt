@@ -1,5 +1,6 @@
 -- One choice more, and where stops fire.
-use Rattle.std.proofs.Common.{◌≡◌, ◌∙◌, ℕ, ◌+◌, ◌-◌, ◌<◌, ◌≤◌, List, [], ◌∷◌, ◌++◌, length, map, refl, sym, ap, arith, length-append, Bool, true, false, not, nat_le, nat_eq, suc, get_or, position, Option, Some, None, IfSome}
+use Rattle.std.proofs.Common.{◌≡◌, ◌∙◌, ℕ, ◌+◌, ◌-◌, ◌<◌, ◌≤◌, List, [], ◌∷◌, ◌++◌, length, map, refl, sym, ap, arith, length-append, Bool, true, false, not, nat_le, nat_eq, get_or, position, Option, Some, None, IfSome}
+use Rattle.std.proofs.lemmas.List.{length-map}
 use Rattle.std.proofs.lemmas.List.Quantifiers.{position-Some}
 use Rattle.std.specs.List.{prefix_len}
 use Rattle.zy_isa.specs.declared.choice.Choice.{Choice}
@@ -48,16 +49,12 @@ pub opens : (h : History) → h.state ≡ opening h.scenario → h.entries ≡ [
 unfolding state_at
 opens h es ee = rw ee (record { most = omega arith; state = es; entries = refl })
 
-pub prefix_len-map : {X Y : Type 0} (p : Y → Bool) (f : X → Y) (xs : List X) → prefix_len p (map f xs) ≡ prefix_len (λ x. p (f x)) xs
+prefix_len-map : {X Y : Type 0} (p : Y → Bool) (f : X → Y) (xs : List X) → prefix_len p (map f xs) ≡ prefix_len (λ x. p (f x)) xs
 prefix_len-map p f [] = refl
 prefix_len-map p f (x ∷ xs) = rw (prefix_len-map p f xs) refl
 
-pub length_map : {X Y : Type 0} (f : X → Y) (xs : List X) → length (map f xs) ≡ length xs
-length_map f [] = refl
-length_map f (x ∷ xs) = ap suc (length_map f xs)
-
-pub position-map : {X Y : Type 0} (p : Y → Bool) (f : X → Y) (xs : List X) → position p (map f xs) ≡ position (λ x. p (f x)) xs
-position-map p f xs = rw (prefix_len-map (λ x. not (p x)) f xs, length_map f xs) refl
+position-map : {X Y : Type 0} (p : Y → Bool) (f : X → Y) (xs : List X) → position p (map f xs) ≡ position (λ x. p (f x)) xs
+position-map p f xs = rw (prefix_len-map (λ x. not (p x)) f xs, length-map xs f) refl
 
 -- what the watched slots tell at a step is what fires there
 pub firing_is : (sc : Scenario) (slots : Slots) (m : ℕ) (s t : State) (o : Outcome) → s ≡ state_at sc m → t ≡ state_at sc (m + 1) → o ≡ outcome_at sc (m + 1)
