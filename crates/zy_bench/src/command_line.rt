@@ -18,6 +18,8 @@ pub enum Request {
 pub enum Conversion {
     /// The listing of its run.
     Run(Format),
+    /// The listing of its run by three threads.
+    Threads(Format),
     /// The image of a text.
     Asm,
     /// The text of an image.
@@ -41,12 +43,28 @@ macro_rules! below {
     };
 }
 
-/// `run`.
-fn run_command<'a>(alloc: Global) -> Result<Command<'a>, AllocError> {
-    let image = Arg::new(alloc, "image")
+/// `--image`.
+fn image_flag<'a>(alloc: Global) -> Arg<'a> {
+    Arg::new(alloc, "image")
         .long("image")
         .action(ArgAction::SetTrue)
-        .help("The input is an image, as asm writes it, and not a text");
+        .help("The input is an image, as asm writes it, and not a text")
+}
+
+/// `threads`.
+fn threads_command<'a>(alloc: Global) -> Result<Command<'a>, AllocError> {
+    Command::new(alloc, "threads")
+        .about("Runs the scenario on standard input by three threads, and prints its listing")
+        .after_help(below!(
+            "a scenario text, or with --image an image",
+            "the listing in the order that the threads took, which may be another each time",
+            "zy_bench threads < examples/migration.zephyr | zy_bench check"
+        ))
+        .arg(image_flag(alloc))
+}
+
+/// `run`.
+fn run_command<'a>(alloc: Global) -> Result<Command<'a>, AllocError> {
     Command::new(alloc, "run")
         .about("Runs the scenario on standard input, and prints its listing")
         .after_help(below!(
@@ -54,7 +72,7 @@ fn run_command<'a>(alloc: Global) -> Result<Command<'a>, AllocError> {
             "the listing",
             "zy_bench run < examples/first_run.zephyr"
         ))
-        .arg(image)
+        .arg(image_flag(alloc))
 }
 
 /// `asm`.
@@ -98,7 +116,8 @@ pub fn command<'a>(alloc: Global) -> Result<Command<'a>, AllocError> {
         .subcommand(run_command(alloc)?)?
         .subcommand(asm_command(alloc))?
         .subcommand(dis_command(alloc))?
-        .subcommand(check_command(alloc))
+        .subcommand(check_command(alloc))?
+        .subcommand(threads_command(alloc)?)
 }
 
 /// What the words ask for.
@@ -108,11 +127,12 @@ pub fn request_of(matches: &ArgMatches<'_>) -> Option<Request> {
         Some(("asm", _)) => Some(Request::Convert(Conversion::Asm)),
         Some(("dis", _)) => Some(Request::Convert(Conversion::Dis)),
         Some(("check", _)) => Some(Request::Check),
+        Some(("threads", threads)) => Some(Request::Convert(Conversion::Threads(format_of(threads)))),
         _ => None,
     }
 }
 
-/// What the input of `run` is written in.
+/// What the input of `run` or `threads` is written in.
 fn format_of(run: &ArgMatches<'_>) -> Format {
     if run.get_flag("image") {
         Format::Image

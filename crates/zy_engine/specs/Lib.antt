@@ -1,4 +1,5 @@
 pub mod Faults
 pub mod Inputs
 pub mod Engines
+pub mod Threads
 pub mod Checks
