@@ -1,2 +1,3 @@
 mod RunLemmas
 mod CheckLemmas
+mod MergeLemmas

@@ -15,7 +15,7 @@ use zy_isa::scenario::Scenario;
 use zy_threads::gate::Gate;
 use zy_threads::run::run_threads;
 
-/// Makes the choices of a scenario by three threads, and writes the listing in the order that was taken.
+/// Makes the choices of a scenario by three threads, and writes the listing in the order that they took.
 fn write_threads<R: Threads + Wait + Sync, G: Gate + Sync, K: Sink>(
     rt: &R,
     alloc: Global,
@@ -27,11 +27,10 @@ fn write_threads<R: Threads + Wait + Sync, G: Gate + Sync, K: Sink>(
     ensures { WroteMerge scenario (K.written sink.old) (K.written sink.new) (K.failures sink.old) (K.failures sink.new) result }
 {
     let machine = run_threads(rt, alloc, scenario, gate)?;
-    machine.len();
     write_listing(alloc, &machine, sink)
 }
 
-/// Reads a scenario whole, makes its choices by three threads, and writes its listing in the order that was taken. Nothing is
+/// Reads a scenario whole, makes its choices by three threads, and writes its listing in the order that they took. Nothing is
 /// written before the input is read to its end and found to be a scenario.
 pub fn threads_bytes<S: Source, K: Sink, R: Threads + Wait + Sync, G: Gate + Sync>(
     rt: &R,
