@@ -57,8 +57,8 @@ fn threads_command<'a>(alloc: Global) -> Result<Command<'a>, AllocError> {
         .about("Runs the scenario on standard input by three threads, and prints its listing")
         .after_help(below!(
             "a scenario text, or with --image an image",
-            "the listing in the order that the threads took, which may be another each time",
-            "zy_bench threads < examples/migration.zephyr | zy_bench check"
+            "the listing, with the choices in the order that the threads took",
+            "zy_bench threads < examples/migration.zephyr"
         ))
         .arg(image_flag(alloc))
 }
@@ -123,18 +123,18 @@ pub fn command<'a>(alloc: Global) -> Result<Command<'a>, AllocError> {
 /// What the words ask for.
 pub fn request_of(matches: &ArgMatches<'_>) -> Option<Request> {
     match matches.subcommand() {
-        Some(("run", run)) => Some(Request::Convert(Conversion::Run(format_of(run)))),
+        Some(("run", words)) => Some(Request::Convert(Conversion::Run(format_of(words)))),
         Some(("asm", _)) => Some(Request::Convert(Conversion::Asm)),
         Some(("dis", _)) => Some(Request::Convert(Conversion::Dis)),
         Some(("check", _)) => Some(Request::Check),
-        Some(("threads", threads)) => Some(Request::Convert(Conversion::Threads(format_of(threads)))),
+        Some(("threads", words)) => Some(Request::Convert(Conversion::Threads(format_of(words)))),
         _ => None,
     }
 }
 
 /// What the input of `run` or `threads` is written in.
-fn format_of(run: &ArgMatches<'_>) -> Format {
-    if run.get_flag("image") {
+fn format_of(words: &ArgMatches<'_>) -> Format {
+    if words.get_flag("image") {
         Format::Image
     } else {
         Format::Text

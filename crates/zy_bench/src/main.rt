@@ -131,7 +131,10 @@ fn unprinted(error: &io::Error) -> BenchFault {
 }
 
 /// Carries a request out, and gives the exit status.
-fn carry_out(rt: &(impl Print + Eprint + Input + AllocGlobal + Threads + Wait + Sync), request: Request) -> u8 {
+fn carry_out(
+    rt: &(impl Print + Eprint + Input + AllocGlobal + Threads + Wait + Sync),
+    request: Request,
+) -> u8 {
     let outcome = match request {
         Request::Convert(conversion) => convert(rt, conversion),
         Request::Check => check(rt),
@@ -143,7 +146,10 @@ fn carry_out(rt: &(impl Print + Eprint + Input + AllocGlobal + Threads + Wait + 
 }
 
 /// The exit status of a run with these words.
-fn status<'a>(rt: &(impl Print + Eprint + Input + AllocGlobal + Threads + Wait + Sync), words: &'a [String]) -> u8 {
+fn status<'a>(
+    rt: &(impl Print + Eprint + Input + AllocGlobal + Threads + Wait + Sync),
+    words: &'a [String],
+) -> u8 {
     let Ok(command) = command(rt.alloc()) else {
         return tell(rt, BenchFault::Memory);
     };

@@ -6,6 +6,6 @@ pub mod engine;
 pub mod faults;
 pub mod format;
 pub mod output;
-pub mod threading;
 #[cfg(test)]
 mod tests;
+pub mod threading;

@@ -19,7 +19,6 @@ use Rattle.zy_threads.specs.Orders.{reordered, IsRunOf}
 use Rattle.zy_machine.specs.Histories.{History, IsReplay, choices_of}
 use Rattle.zy_table.specs.Play.{opening, move, step, play, entries, entry_of}
 
-
 key : (sc : Scenario) (order : List Choice) (t : ℕ) (x : Access) (k : ℕ) (s : View) → key_row (reordered sc order) t x k s ≡ key_row sc t x k s
 unfolding key_row page_row access_row insert_row full_row split_row
 key sc order t (Reads r) k s = refl
@@ -88,8 +87,7 @@ opening-reordered sc order = refl
 pub is_run : (h : History) → IsReplay h → IsRunOf (reordered h.scenario (choices_of h.entries)) h
 is_run h r =
     let sc = h.scenario in
-    let order = choices_of h.entries in
-    (
+    let order = choices_of h.entries in (
       r.state ∙ sym (rw (opening-reordered sc order) (play-reordered sc order (opening sc) order)),
       r.entries ∙ sym (rw (opening-reordered sc order) (entries-reordered sc order (opening sc) order)),
     )

@@ -4,10 +4,10 @@
 use crate::board::Board;
 use crate::gate::{Allowance, Gate, Unlimited};
 use crate::run::{run_allowed, run_threads};
-use std::alloc::Global;
+use std::alloc::{AllocError, Global};
 use std::process::Abort;
-use std::sync::Wait;
 use std::sync::atomic::{AtomicU64, Ordering};
+use std::sync::{OnceLock, Wait};
 use std::test::Fail;
 use std::thread::{Threads, yield_now};
 use zy_isa::choice::Choice;
@@ -38,12 +38,17 @@ const CHOICES: &[Choice] = &[
 /// How often a gate looks for what it waits for: long enough, and never for ever.
 const TURNS: u32 = 1_000_000_000;
 
-fn scenario(alloc: Global) -> Result<Scenario, Fail> {
-    let program = Program::verify(alloc, &[Instr::Set(Reg::R0, 5), Instr::Commit])?;
+fn scenario(alloc: Global) -> Result<Scenario, AllocError> {
+    let Ok(program) = Program::verify(alloc, &[Instr::Set(Reg::R0, 5), Instr::Commit]) else {
+        return Err(AllocError);
+    };
     let mut programs = Vec::new(alloc);
     programs.push(program)?;
     let choices = CHOICES.to_vec(alloc)?;
-    Ok(Scenario::new(1, 4, 1, Rule::Held, Vec::new(alloc), programs, choices)?)
+    match Scenario::new(1, 4, 1, Rule::Held, Vec::new(alloc), programs, choices) {
+        Ok(scenario) => Ok(scenario),
+        Err(_) => Err(AllocError),
+    }
 }
 
 /// Whether the number came up to this within the turns.
@@ -76,6 +81,12 @@ fn are_own(steps: &[Entry], actor: Actor) -> bool {
         .filter(|choice| choice.actor() == actor);
     let taken = steps.iter().map(|entry| entry.choice);
     taken.filter(|choice| choice.actor() == actor).eq(own)
+}
+
+/// Whether the steps are each actor's choices, in order.
+fn are_merged(steps: &[Entry]) -> bool {
+    let each = are_own(steps, Actor::C) && are_own(steps, Actor::A) && are_own(steps, Actor::B);
+    each && steps.len() == CHOICES.len()
 }
 
 /// A node's first step waits until the other's has begun.
@@ -117,10 +128,7 @@ fn two_workers_meet(rt: HostRuntime) -> Result<(), Fail> {
     };
     let steps = steps(&rt, rt.alloc(), &gate, &Unlimited)?;
     assert_eq!(rt; gate.missed.load(Ordering::SeqCst), 0);
-    assert_eq!(rt; steps.len(), CHOICES.len());
-    assert!(rt; are_own(steps.as_slice(), Actor::C));
-    assert!(rt; are_own(steps.as_slice(), Actor::A));
-    assert!(rt; are_own(steps.as_slice(), Actor::B));
+    assert!(rt; are_merged(steps.as_slice()));
     Ok(())
 }
 
@@ -186,21 +194,32 @@ fn the_client_comes_last(rt: HostRuntime) -> Result<(), Fail> {
     Ok(())
 }
 
-/// Counts each actor's calls.
+/// Notes each call: how many each actor had, and the entry that each was handed, in the order of the actors.
 #[derive(Drop)]
-struct Counting {
+struct Noting {
     c: AtomicU64,
     a: AtomicU64,
     b: AtomicU64,
+    notes: [OnceLock<Entry>; 8],
     wrong: AtomicU64,
 }
 
-impl Counting {
-    fn new() -> Counting {
-        Counting {
+impl Noting {
+    fn new() -> Noting {
+        Noting {
             c: AtomicU64::new(0),
             a: AtomicU64::new(0),
             b: AtomicU64::new(0),
+            notes: [
+                OnceLock::new(),
+                OnceLock::new(),
+                OnceLock::new(),
+                OnceLock::new(),
+                OnceLock::new(),
+                OnceLock::new(),
+                OnceLock::new(),
+                OnceLock::new(),
+            ],
             wrong: AtomicU64::new(0),
         }
     }
@@ -213,25 +232,52 @@ impl Counting {
         }
     }
 
+    /// The notes of an actor's calls.
+    fn notes_of(&self, actor: Actor) -> &[OnceLock<Entry>] {
+        let notes = &self.notes[..];
+        match actor {
+            Actor::C => &notes[..2],
+            Actor::A => &notes[2..3],
+            Actor::B => &notes[3..],
+        }
+    }
+
+    /// Whether the actor was called, but for fewer than all its steps.
+    fn is_short(&self, actor: Actor) -> bool {
+        let calls = self.calls(actor).load(Ordering::SeqCst);
+        calls > 0 && calls < self.notes_of(actor).len() as u64
+    }
+
     /// How many actors were called for fewer than all their steps.
     fn short(&self) -> usize {
-        let c = self.c.load(Ordering::SeqCst) < 2;
-        let a = self.a.load(Ordering::SeqCst) < 1;
-        let b = self.b.load(Ordering::SeqCst) < 5;
-        [c, a, b].iter().filter(|is_short| **is_short).count()
+        [Actor::C, Actor::A, Actor::B]
+            .iter()
+            .filter(|actor| self.is_short(**actor))
+            .count()
+    }
+
+    /// Whether each call of an actor was handed the entry of its step before, and the first one none.
+    fn agrees(&self, steps: &[Entry], actor: Actor) -> bool {
+        let own = steps.iter().filter(|entry| entry.choice.actor() == actor);
+        let notes = self.notes_of(actor);
+        let handed = notes.iter().filter_map(|note| note.get());
+        handed.eq(own.take(notes.len().saturating_sub(1)))
     }
 }
 
-impl Gate for Counting {
+impl Gate for Noting {
     fn before(&self, actor: Actor, k: usize, last: Option<&Entry>) {
         let before = self.calls(actor).fetch_add(1, Ordering::SeqCst);
         let in_turn = usize::try_from(before).is_ok_and(|calls| k > 0 && calls == k - 1);
-        let fits = match last {
-            Some(entry) => k > 1 && entry.choice.actor() == actor,
-            None => k == 1,
-        };
-        if !in_turn || !fits {
+        if !in_turn || last.is_none() != (k == 1) {
             self.wrong.store(1, Ordering::SeqCst);
+        }
+        let notes = self.notes_of(actor);
+        if let Some(entry) = last
+            && k > 0
+            && k <= notes.len()
+        {
+            let _ = notes[k - 1].try_set(*entry);
         }
     }
 }
@@ -255,7 +301,7 @@ fn is_refused(
     alloc: Global,
     refused: u64,
 ) -> Result<bool, Fail> {
-    let gate = Counting::new();
+    let gate = Noting::new();
     let allowance = OneRefused {
         asked: AtomicU64::new(0),
         refused,
@@ -274,11 +320,54 @@ fn a_refused_step_stops_one(rt: HostRuntime) -> Result<(), Fail> {
 }
 
 #[test]
-fn nothing_is_refused(rt: HostRuntime) -> Result<(), Fail> {
-    let gate = Counting::new();
-    let machine = run_threads(&rt, rt.alloc(), scenario(rt.alloc())?, &gate)?;
-    assert_eq!(rt; machine.len(), CHOICES.len());
-    assert!(rt; gate.short() == 0 && gate.wrong.load(Ordering::SeqCst) == 0);
+fn each_call_has_the_entry_before(rt: HostRuntime) -> Result<(), Fail> {
+    let gate = Noting::new();
+    let steps = steps(&rt, rt.alloc(), &gate, &Unlimited)?;
+    assert_eq!(rt; gate.wrong.load(Ordering::SeqCst), 0);
+    assert_eq!(rt; gate.short(), 0);
+    assert!(rt; gate.agrees(steps.as_slice(), Actor::C));
+    assert!(rt; gate.agrees(steps.as_slice(), Actor::A));
+    assert!(rt; gate.agrees(steps.as_slice(), Actor::B));
+    Ok(())
+}
+
+/// Run with each request for memory refused in turn (tests/in-crate-refusals): there is a machine, or one actor at most is cut short.
+#[test]
+fn refused_memory_stops_one(rt: HostRuntime) -> Result<(), Fail> {
+    let gate = Noting::new();
+    if let Ok(scenario) = scenario(rt.alloc()) {
+        let answer = run_threads(&rt, rt.alloc(), scenario, &gate);
+        assert!(rt; gate.short() <= usize::from(answer.is_err()));
+    }
+    assert_eq!(rt; gate.wrong.load(Ordering::SeqCst), 0);
+    Ok(())
+}
+
+/// Spends a thousand turns before each step of B.
+#[derive(Drop)]
+struct SlowB {
+    turns: AtomicU64,
+}
+
+impl Gate for SlowB {
+    fn before(&self, actor: Actor, _k: usize, _last: Option<&Entry>) {
+        if actor != Actor::B {
+            return;
+        }
+        for _ in 0..1000 {
+            self.turns.fetch_add(1, Ordering::SeqCst);
+        }
+    }
+}
+
+#[test]
+fn b_may_be_slow(rt: HostRuntime) -> Result<(), Fail> {
+    let gate = SlowB {
+        turns: AtomicU64::new(0),
+    };
+    let steps = steps(&rt, rt.alloc(), &gate, &Unlimited)?;
+    assert_eq!(rt; gate.turns.load(Ordering::SeqCst), 5000);
+    assert!(rt; are_merged(steps.as_slice()));
     Ok(())
 }
 

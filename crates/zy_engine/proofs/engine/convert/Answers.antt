@@ -13,7 +13,7 @@ returns-in_err-scenario g c =
     let same : IfSome told (λ t. c.as_slice.result.now ≡ t) = rw c.as_slice.ensures.value c.in_ok-bytes.ensures.whole in
     let p = err_from_is_err_and c.from_residual-in_err-scenario.result c.from_residual-in_err-scenario.ensures.1 in
     rw (p.1, p.2) (converts-refused c.args.format (g.O.Output.bytes c.args.output.now) told left (g.K.Sink.written c.args.sink.now) (g.S.Source.failures c.args.source.now) (g.S.Source.failures c.read_all.new.source) (g.K.Sink.failures c.args.sink.now)
-        c.as_slice.result.now c.in_err-scenario.field-0.0 same c.in_err-scenario.ensures.fault whole c.in_ok-bytes.ensures.reads.3)
+    c.as_slice.result.now c.in_err-scenario.field-0.0 same c.in_err-scenario.ensures.fault whole c.in_ok-bytes.ensures.reads.3)
 
 pub returns : goal.returns
 returns g c =
@@ -24,5 +24,5 @@ returns g c =
     let same : IfSome told (λ t. bytes ≡ t) = rw c.as_slice.ensures.value c.in_ok-bytes.ensures.whole in
     let accepted = c.in_ok-scenario.ensures in
     converts-wrote c.args.format (g.O.Output.bytes c.args.output.now) told left (g.K.Sink.written c.args.sink.now) (g.K.Sink.written c.write.new.sink)
-        (g.S.Source.failures c.args.source.now) (g.S.Source.failures c.read_all.new.source) (g.K.Sink.failures c.args.sink.now) (g.K.Sink.failures c.write.new.sink)
-        bytes c.in_ok-scenario.scenario (Ok c.in_ok-write.field-0) same accepted.found accepted.only whole c.in_ok-bytes.ensures.reads.3 c.in_ok-write.ensures
+    (g.S.Source.failures c.args.source.now) (g.S.Source.failures c.read_all.new.source) (g.K.Sink.failures c.args.sink.now) (g.K.Sink.failures c.write.new.sink)
+    bytes c.in_ok-scenario.scenario (Ok c.in_ok-write.field-0) same accepted.found accepted.only whole c.in_ok-bytes.ensures.reads.3 c.in_ok-write.ensures

@@ -1,7 +1,6 @@
 -- The order is that of the machine; where there is none, that of the scenario.
 use Rattle.std.proofs.Common.{◌≡◌, IfSome, rules, Ok, Err}
 use Rattle.std.proofs.lemmas.Result.{err_from_is_err_and}
-use Rattle.zy_isa.specs.Scenario.{Scenario}
 use Rattle.zy_io.specs.Streams.{ReadWhole}
 use Rattle.zy_audit.specs.Run.{listing_run}
 use Rattle.zy_threads.specs.Orders.{reordered}
