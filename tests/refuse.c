@@ -70,24 +70,37 @@ __attribute__((destructor)) static void report(void) {
         syscall(SYS_write, atoi(descriptor), line, (size_t)length);
 }
 
+/* A program that may start threads ends by this, and what is to be done at the end of a program is left out. */
+void _exit(int status) {
+    report();
+    syscall(SYS_exit_group, status);
+    __builtin_unreachable();
+}
+
 #define FROM_PROGRAM ((uintptr_t)__builtin_return_address(0) - code_begin < code_end - code_begin)
 
 static int is(const char *word) { return strcmp(what, word) == 0; }
 
-/* Whether this call, which has been counted, is to be refused. */
-static int is_chosen(const char *word, int kind) {
-    int hit = is(word) && counted[kind] == chosen;
-    refused += hit;
+/* The number of this call, from 1. Threads of the program count together. */
+static unsigned long tally(int kind) { return __atomic_add_fetch(&counted[kind], 1, __ATOMIC_SEQ_CST); }
+
+static void refuse(void) { __atomic_add_fetch(&refused, 1, __ATOMIC_SEQ_CST); }
+
+/* Whether the call of this number is to be refused. */
+static int is_chosen(const char *word, unsigned long number) {
+    int hit = is(word) && number == chosen;
+    if (hit)
+        refuse();
     return hit;
 }
 
 static int has_no_memory(void) {
-    counted[REQUESTS]++;
-    if (is_chosen("memory", REQUESTS))
+    unsigned long number = tally(REQUESTS);
+    if (is_chosen("memory", number))
         return 1;
-    if (!is("famine") || counted[REQUESTS] < chosen)
+    if (!is("famine") || number < chosen)
         return 0;
-    refused++;
+    refuse();
     return 1;
 }
 
@@ -133,16 +146,16 @@ static ssize_t fails(int error) {
 static size_t allowed(size_t count) {
     if (!is("bytes") || count < 2)
         return count;
-    refused++;
+    refuse();
     return 1;
 }
 
 ssize_t read(int descriptor, void *bytes, size_t count) {
     if (FROM_PROGRAM) {
-        counted[READS]++;
-        if (is_chosen("read", READS))
+        unsigned long number = tally(READS);
+        if (is_chosen("read", number))
             return fails(EIO);
-        if (is_chosen("broken", READS))
+        if (is_chosen("broken", number))
             return fails(EINTR);
         count = allowed(count);
     }
@@ -151,16 +164,15 @@ ssize_t read(int descriptor, void *bytes, size_t count) {
 
 ssize_t write(int descriptor, const void *bytes, size_t count) {
     if (FROM_PROGRAM && descriptor == STDERR_FILENO) {
-        counted[TELLS]++;
-        if (is_chosen("tell", TELLS))
+        if (is_chosen("tell", tally(TELLS)))
             return fails(EIO);
     } else if (FROM_PROGRAM) {
-        counted[WRITES]++;
-        if (is_chosen("write", WRITES))
+        unsigned long number = tally(WRITES);
+        if (is_chosen("write", number))
             return fails(EIO);
-        if (is_chosen("signal", WRITES))
+        if (is_chosen("signal", number))
             return fails(EINTR);
-        if (is_chosen("empty", WRITES))
+        if (is_chosen("empty", number))
             return 0;
     }
     if (FROM_PROGRAM)

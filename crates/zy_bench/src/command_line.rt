@@ -29,6 +29,8 @@ pub struct Checkpoints {
 pub enum Conversion {
     /// The listing of its run.
     Run(Format),
+    /// The listing of its run by three threads.
+    Threads(Format),
     /// The image of a text.
     Asm,
     /// The text of an image.
@@ -52,12 +54,28 @@ macro_rules! below {
     };
 }
 
-/// `run`.
-fn run_command<'a>(alloc: Global) -> Result<Command<'a>, AllocError> {
-    let image = Arg::new(alloc, "image")
+/// `--image`.
+fn image_flag<'a>(alloc: Global) -> Arg<'a> {
+    Arg::new(alloc, "image")
         .long("image")
         .action(ArgAction::SetTrue)
-        .help("The input is an image, as asm writes it, and not a text");
+        .help("The input is an image, as asm writes it, and not a text")
+}
+
+/// `threads`.
+fn threads_command<'a>(alloc: Global) -> Result<Command<'a>, AllocError> {
+    Command::new(alloc, "threads")
+        .about("Runs the scenario on standard input by three threads, and prints its listing")
+        .after_help(below!(
+            "a scenario text, or with --image an image",
+            "the listing, with the choices in the order that the threads took",
+            "zy_bench threads < examples/migration.zephyr"
+        ))
+        .arg(image_flag(alloc))
+}
+
+/// `run`.
+fn run_command<'a>(alloc: Global) -> Result<Command<'a>, AllocError> {
     Command::new(alloc, "run")
         .about("Runs the scenario on standard input, and prints its listing")
         .after_help(below!(
@@ -65,7 +83,7 @@ fn run_command<'a>(alloc: Global) -> Result<Command<'a>, AllocError> {
             "the listing",
             "zy_bench run < examples/first_run.zephyr"
         ))
-        .arg(image)
+        .arg(image_flag(alloc))
 }
 
 /// `asm`.
@@ -131,17 +149,19 @@ pub fn command<'a>(alloc: Global) -> Result<Command<'a>, AllocError> {
         .subcommand(asm_command(alloc))?
         .subcommand(dis_command(alloc))?
         .subcommand(check_command(alloc))?
+        .subcommand(threads_command(alloc)?)?
         .subcommand(debug_command(alloc)?)
 }
 
 /// What the words ask for.
 pub fn request_of(matches: &ArgMatches<'_>) -> Option<Request> {
     match matches.subcommand() {
-        Some(("run", run)) => Some(Request::Convert(Conversion::Run(format_of(run)))),
+        Some(("run", words)) => Some(Request::Convert(Conversion::Run(format_of(words)))),
         Some(("asm", _)) => Some(Request::Convert(Conversion::Asm)),
         Some(("dis", _)) => Some(Request::Convert(Conversion::Dis)),
         Some(("check", _)) => Some(Request::Check),
         Some(("debug", debug)) => Some(Request::Debug(checkpoints_of(debug))),
+        Some(("threads", words)) => Some(Request::Convert(Conversion::Threads(format_of(words)))),
         _ => None,
     }
 }
@@ -154,9 +174,9 @@ fn checkpoints_of(debug: &ArgMatches<'_>) -> Checkpoints {
     }
 }
 
-/// What the input of `run` is written in.
-fn format_of(run: &ArgMatches<'_>) -> Format {
-    if run.get_flag("image") {
+/// What the input of `run` or `threads` is written in.
+fn format_of(words: &ArgMatches<'_>) -> Format {
+    if words.get_flag("image") {
         Format::Image
     } else {
         Format::Text

@@ -12,14 +12,18 @@ use excerpt::Excerpt;
 use std::io;
 use std::io::{BufWriter, Write};
 use std::process::ExitCode;
+use std::sync::Wait;
+use std::thread::Threads;
 use zy_check::verdict::Verdict;
 use zy_engine::checking::check_bytes;
 use zy_engine::debugging::debug_bytes;
 use zy_engine::engine::{asm_bytes, dis_bytes, run_bytes};
 use zy_engine::faults::BenchFault;
+use zy_engine::threading::threads_bytes;
 use zy_io::memory::SliceSource;
 use zy_io::reading::read_all;
 use zy_io::stream::{CountingReader, CountingWriter};
+use zy_threads::gate::FreeGate;
 
 /// The exit status where all went well.
 const DONE: u8 = 0;
@@ -41,7 +45,7 @@ fn flush<W: Write>(sink: &mut CountingWriter<W>) -> Result<(), BenchFault>
 }
 
 /// Runs an engine from standard input to standard output, and gives the exit status.
-fn convert<R: Print + Input + AllocGlobal>(
+fn convert<R: Print + Input + AllocGlobal + Threads + Wait + Sync>(
     rt: &R,
     conversion: Conversion,
 ) -> Result<u8, BenchFault> {
@@ -52,6 +56,9 @@ fn convert<R: Print + Input + AllocGlobal>(
     let mut sink = CountingWriter::new(buffer);
     match conversion {
         Conversion::Run(format) => run_bytes(rt.alloc(), format, &mut source, &mut sink)?,
+        Conversion::Threads(format) => {
+            threads_bytes(rt, rt.alloc(), format, &mut source, &mut sink, &FreeGate)?
+        }
         Conversion::Asm => asm_bytes(rt.alloc(), &mut source, &mut sink)?,
         Conversion::Dis => dis_bytes(rt.alloc(), &mut source, &mut sink)?,
     }
@@ -144,7 +151,10 @@ fn unprinted(error: &io::Error) -> BenchFault {
 }
 
 /// Carries a request out, and gives the exit status.
-fn carry_out(rt: &(impl Print + Eprint + Input + AllocGlobal), request: Request) -> u8 {
+fn carry_out(
+    rt: &(impl Print + Eprint + Input + AllocGlobal + Threads + Wait + Sync),
+    request: Request,
+) -> u8 {
     let outcome = match request {
         Request::Convert(conversion) => convert(rt, conversion),
         Request::Check => check(rt),
@@ -157,7 +167,10 @@ fn carry_out(rt: &(impl Print + Eprint + Input + AllocGlobal), request: Request)
 }
 
 /// The exit status of a run with these words.
-fn status<'a>(rt: &(impl Print + Eprint + Input + AllocGlobal), words: &'a [String]) -> u8 {
+fn status<'a>(
+    rt: &(impl Print + Eprint + Input + AllocGlobal + Threads + Wait + Sync),
+    words: &'a [String],
+) -> u8 {
     let Ok(command) = command(rt.alloc()) else {
         return tell(rt, BenchFault::Memory);
     };

@@ -1,3 +1,4 @@
 mod RunLemmas
 mod CheckLemmas
 mod DebugLemmas
+mod MergeLemmas

@@ -1,16 +1,20 @@
 -- What an engine's parts make together.
-use Rattle.std.proofs.Common.{◌≡◌, ℕ, List, [], Option, None, Some, IfSome, Result, Ok, Err, refl, sym, subst, append-nil}
+use Rattle.std.proofs.Common.{◌≡◌, ℕ, List, [], Option, None, Some, IfSome, Result, Ok, Err, refl, sym, subst, append-nil, arith}
 use Rattle.std.proofs.KnownBytes.{Appends-nil}
 use Rattle.zy_io.specs.declared.writing.TextFault.{TextFault}
 use Rattle.zy_io.specs.declared.writing.TextFault.TheVariants.{Write, Memory}
 use Rattle.zy_isa.specs.Scenario.{Scenario}
-use Rattle.zy_io.specs.Streams.{WroteFront, ReadWhole}
+use Rattle.zy_io.specs.Streams.{WroteFront, ReadWhole, ReadsAll}
+use Rattle.zy_io.specs.declared.reading.ReadFault.{ReadFault}
+use Rattle.zy_io.specs.declared.reading.ReadFault.TheVariants as reading
 use Rattle.zy_io.specs.Writing.{Wrote}
 use Rattle.zy_engine.specs.declared.faults.BenchFault.{BenchFault}
 use Rattle.zy_engine.specs.declared.faults.BenchFault.TheVariants as bench
 use Rattle.zy_engine.specs.declared.format.Format.{Format}
 use Rattle.zy_engine.specs.declared.format.Format.TheVariants as format
-use Rattle.zy_engine.specs.Faults.{ReadsInput, failed_reads, failed_writes, IfRefused}
+use Rattle.std.specs.Io.KnownBytes.{Appends}
+use Rattle.zy_engine.specs.Engines.{Converts}
+use Rattle.zy_engine.specs.Faults.{of_reading, of_writing, ReadsInput, failed_reads, failed_writes, IfRefused}
 use Rattle.zy_engine.specs.Inputs.{StandsFor, HasNoFault, IsRefusal}
 
 -- where nothing went out, nothing but a front did
@@ -69,3 +73,110 @@ refused format told left bytes bench.Memory same h whole = record { fault = tt; 
 pub of-any : (P : List ℕ → Type 0) (told : Option (List ℕ)) → ((t : List ℕ) → P t) → IfSome told P
 of-any P None h = tt
 of-any P (Some t) h = h t
+
+-- the engine after its input could not be read
+pub converts-unread : (format : Format) (output : Scenario → List ℕ) (told left written : Option (List ℕ)) (reads after writes : ℕ) (f : ReadFault)
+    → ReadsAll told left reads after (Err f)
+    → Converts {X = Unit {0}} format output (record { left = told; written = written; reads = reads; writes = writes }) (record { left = left; written = written; reads = after; writes = writes }) (Err (of_reading f))
+converts-unread format output told left written reads after writes reading.Read read = record {
+  written = tt;
+  front = of-any (λ t. (sc : Scenario) → StandsFor format t sc → WroteFront written written (output sc)) told (λ t sc stands. WroteFront-nothing written (output sc));
+  fault = tt;
+  input = read.0;
+  accepted = tt;
+  quiet = λ q. refl;
+  silent = of-any (λ t. ((sc : Scenario) → StandsFor format t sc → ⊥) → written ≡ written) told (λ t none. refl);
+  refused = of-any (λ t. (HasNoFault format t → ⊥) → written ≡ written) told (λ t faulty. refl);
+  reads = read.1;
+  writes = omega arith;
+}
+converts-unread format output told left written reads after writes reading.TooLong read = record {
+  written = tt;
+  front = of-any (λ t. (sc : Scenario) → StandsFor format t sc → WroteFront written written (output sc)) told (λ t sc stands. WroteFront-nothing written (output sc));
+  fault = tt;
+  input = read.0;
+  accepted = tt;
+  quiet = λ q. refl;
+  silent = of-any (λ t. ((sc : Scenario) → StandsFor format t sc → ⊥) → written ≡ written) told (λ t none. refl);
+  refused = of-any (λ t. (HasNoFault format t → ⊥) → written ≡ written) told (λ t faulty. refl);
+  reads = omega (arith, read.1);
+  writes = omega arith;
+}
+converts-unread format output told left written reads after writes reading.Memory read = record {
+  written = tt;
+  front = of-any (λ t. (sc : Scenario) → StandsFor format t sc → WroteFront written written (output sc)) told (λ t sc stands. WroteFront-nothing written (output sc));
+  fault = tt;
+  input = read.0;
+  accepted = tt;
+  quiet = λ q. refl;
+  silent = of-any (λ t. ((sc : Scenario) → StandsFor format t sc → ⊥) → written ≡ written) told (λ t none. refl);
+  refused = of-any (λ t. (HasNoFault format t → ⊥) → written ≡ written) told (λ t faulty. refl);
+  reads = omega (arith, read.1);
+  writes = omega arith;
+}
+
+-- the engine after its input was refused
+pub converts-refused : (format : Format) (output : Scenario → List ℕ) (told left written : Option (List ℕ)) (reads after writes : ℕ) (bytes : List ℕ) (f : BenchFault)
+    → IfSome told (λ t. bytes ≡ t) → IsRefusal format bytes f → ReadWhole told left → after ≡ reads
+    → Converts {X = Unit {0}} format output (record { left = told; written = written; reads = reads; writes = writes }) (record { left = left; written = written; reads = after; writes = writes }) (Err f)
+converts-refused format output told left written reads after writes bytes f same h whole none =
+    let r = refused format told left bytes f same h whole in
+    record {
+      written = tt;
+      front = of-any (λ t. (sc : Scenario) → StandsFor format t sc → WroteFront written written (output sc)) told (λ t sc stands. WroteFront-nothing written (output sc));
+      fault = r.fault;
+      input = r.input;
+      accepted = tt;
+      quiet = λ q. refl;
+      silent = of-any (λ t. ((sc : Scenario) → StandsFor format t sc → ⊥) → written ≡ written) told (λ t none. refl);
+      refused = of-any (λ t. (HasNoFault format t → ⊥) → written ≡ written) told (λ t faulty. refl);
+      reads = omega (arith, none, r.reads);
+      writes = omega (arith, r.writes);
+    }
+
+-- what an engine answers where its output was written, or a front of it
+abbrev pub of_wrote : Result (Unit {0}) TextFault → Result (Unit {0}) BenchFault
+of_wrote (Ok x) = Ok x
+of_wrote (Err f) = Err (of_writing f)
+
+-- the engine after its input was accepted
+pub converts-wrote : (format : Format) (output : Scenario → List ℕ) (told left old new : Option (List ℕ)) (reads after before writes : ℕ) (bytes : List ℕ) (scenario : Scenario) (w : Result (Unit {0}) TextFault)
+    → IfSome told (λ t. bytes ≡ t) → StandsFor format bytes scenario × HasNoFault format bytes → ((s : Scenario) → StandsFor format bytes s → scenario ≡ s)
+    → ReadWhole told left → after ≡ reads → Wrote old new before writes w (output scenario)
+    → Converts format output (record { left = told; written = old; reads = reads; writes = before }) (record { left = left; written = new; reads = after; writes = writes }) (of_wrote w)
+converts-wrote format output told left old new reads after before writes bytes scenario (Ok x) same found only whole none wrote = record {
+  written = told-of (λ t. (sc : Scenario) × StandsFor format t sc × Appends old new (output sc)) told bytes same (scenario, found.0, wrote.0);
+  front = front-of-told format output told bytes old new scenario same only (Wrote-front old new before writes (Ok x) (output scenario) wrote);
+  fault = tt;
+  input = whole;
+  accepted = told-of (HasNoFault format) told bytes same found.1;
+  quiet = tt;
+  silent = silent-of-told format told bytes old new scenario same found.0;
+  refused = unwritten-of-told format told bytes old new same found.1;
+  reads = omega (arith, none);
+  writes = omega (arith, wrote.1);
+}
+converts-wrote format output told left old new reads after before writes bytes scenario (Err Write) same found only whole none wrote = record {
+  written = tt;
+  front = front-of-told format output told bytes old new scenario same only wrote.0;
+  fault = tt;
+  input = whole;
+  accepted = tt;
+  quiet = λ q. absurd q;
+  silent = silent-of-told format told bytes old new scenario same found.0;
+  refused = unwritten-of-told format told bytes old new same found.1;
+  reads = omega (arith, none);
+  writes = wrote.1;
+}
+converts-wrote format output told left old new reads after before writes bytes scenario (Err Memory) same found only whole none wrote = record {
+  written = tt;
+  front = front-of-told format output told bytes old new scenario same only wrote.0;
+  fault = tt;
+  input = whole.0;
+  accepted = tt;
+  quiet = λ q. absurd q;
+  silent = silent-of-told format told bytes old new scenario same found.0;
+  refused = unwritten-of-told format told bytes old new same found.1;
+  reads = omega (arith, none);
+  writes = omega (arith, wrote.1);
+}

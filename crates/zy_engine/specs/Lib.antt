@@ -1,5 +1,6 @@
 pub mod Faults
 pub mod Inputs
 pub mod Engines
+pub mod Threads
 pub mod Checks
 pub mod Debugs

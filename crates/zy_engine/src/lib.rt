@@ -9,3 +9,4 @@ pub mod format;
 pub mod output;
 #[cfg(test)]
 mod tests;
+pub mod threading;

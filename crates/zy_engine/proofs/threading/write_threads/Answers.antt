@@ -1,0 +1,20 @@
+use Rattle.std.proofs.Common.{◌∙◌, ℕ, List, ap, subst}
+use Rattle.zy_io.specs.Writing.{Wrote}
+use Rattle.zy_isa.specs.Scenario.{Scenario}
+use Rattle.zy_machine.specs.Histories.{choices_of}
+use Rattle.zy_audit.specs.Run.{listing_run}
+use Rattle.zy_threads.specs.Orders.{reordered}
+use Rattle.zy_engine.proofs.MergeLemmas.{listing-again}
+use Rattle.zy_engine.proofs.threading.write_threads.Goals as goal
+
+pub returns : goal.returns
+returns g c =
+    let machine = c.in_ok-machine.machine in
+    let order = choices_of machine.entries in
+    let ran = c.in_ok-machine.ensures in
+    let Told : List ℕ → Type 0 = λ text. Wrote (g.K.Sink.written c.args.sink.now) (g.K.Sink.written c.write_listing.new.sink) (g.K.Sink.failures c.args.sink.now) (g.K.Sink.failures c.write_listing.new.sink) c.write_listing.result text in
+    record {
+      order = order;
+      merge = ran.merge;
+      wrote = subst Told (listing-again machine ran.run ∙ ap (λ (sc : Scenario). listing_run (reordered sc order)) ran.scenario) c.write_listing.ensures;
+    }

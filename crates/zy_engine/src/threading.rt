@@ -1,0 +1,54 @@
+//! The engine of a run by three threads.
+ghost use Rattle.std.specs.Prelude.{◌<◌};
+ghost use Rattle.zy_engine.specs.Threads.{WroteMerge, ConvertsMerged};
+
+use crate::faults::BenchFault;
+use crate::format::{Format, accept};
+use std::alloc::Global;
+use std::sync::Wait;
+use std::thread::Threads;
+use zy_audit::listing::write_listing;
+use zy_io::reading::read_all;
+use zy_io::stream::{Sink, Source};
+use zy_io::writing::TextFault;
+use zy_isa::scenario::Scenario;
+use zy_threads::gate::Gate;
+use zy_threads::run::run_threads;
+
+/// Makes the choices of a scenario by three threads, and writes the listing in the order that they took.
+fn write_threads<R: Threads + Wait + Sync, G: Gate + Sync, K: Sink>(
+    rt: &R,
+    alloc: Global,
+    scenario: Scenario,
+    gate: &G,
+    sink: &mut K,
+) -> Result<(), TextFault>
+    requires { K.failures sink.old < u64.MAX }
+    ensures { WroteMerge scenario (K.written sink.old) (K.written sink.new) (K.failures sink.old) (K.failures sink.new) result }
+{
+    let machine = run_threads(rt, alloc, scenario, gate)?;
+    write_listing(alloc, &machine, sink)
+}
+
+/// Reads a scenario whole, makes its choices by three threads, and writes its listing in the order that they took. Nothing is
+/// written before the input is read to its end and found to be a scenario.
+pub fn threads_bytes<S: Source, K: Sink, R: Threads + Wait + Sync, G: Gate + Sync>(
+    rt: &R,
+    alloc: Global,
+    format: Format,
+    source: &mut S,
+    sink: &mut K,
+    gate: &G,
+) -> Result<(), BenchFault>
+    requires source { S.failures source.old < u64.MAX }
+    requires sink { K.failures sink.old < u64.MAX }
+    ensures { ConvertsMerged format
+        (record { left = S.left source.old; written = K.written sink.old; reads = S.failures source.old; writes = K.failures sink.old })
+        (record { left = S.left source.new; written = K.written sink.new; reads = S.failures source.new; writes = K.failures sink.new })
+        result }
+{
+    let bytes = read_all(alloc, source)?;
+    let scenario = accept(alloc, format, bytes.as_slice())?;
+    write_threads(rt, alloc, scenario, gate, sink)?;
+    Ok(())
+}

@@ -1,0 +1,170 @@
+-- A turn keeps the board's facts.
+use Rattle.std.proofs.Common.{◌≡◌, ℕ, zero, suc, ◌+◌, ◌<◌, ◌≤◌, Bool, true, false, List, [], ◌∷◌, ◌++◌, length, take, get_or, slice_get, Some, refl, sym, ap, ◌∙◌, subst, arith, add-one}
+use Rattle.std.specs.Prelude.{if◌then◌else◌}
+use Rattle.std.proofs.Math.Seq.{take-suc}
+use Rattle.std.proofs.lemmas.List.{length-take-le}
+use Rattle.std.proofs.lemmas.Option.{slice_get_within, get_or_from_slice_get}
+use Rattle.zy_isa.specs.declared.node.Actor.{Actor}
+use Rattle.zy_isa.specs.declared.node.Actor.TheVariants.{C, A, B}
+use Rattle.zy_isa.specs.declared.choice.Choice.{Choice}
+use Rattle.zy_isa.specs.Choices.{actor_of, names_below}
+use Rattle.zy_isa.specs.Scenario.{AreNamed}
+use Rattle.zy_machine.specs.Histories.{History, choices_of}
+use Rattle.zy_machine.proofs.HistoryLemmas.{choices_of-push, length-choices_of}
+use Rattle.zy_threads.specs.Turns.{sub, is_by, is_c, is_a, is_b, Line, Table, line, ahead, entry_at, noted, turned, IsLine, IsBoard}
+
+pushed : (b d : Bool) (x c : Choice) (l m : List Choice) → l ≡ (if d then m ++ c ∷ [] else m) → (if b then x ∷ l else l) ≡ (if d then (if b then x ∷ m else m) ++ c ∷ [] else (if b then x ∷ m else m))
+pushed true true x c l m e = ap (λ (w : List Choice). x ∷ w) e
+pushed true false x c l m e = ap (λ (w : List Choice). x ∷ w) e
+pushed false true x c l m e = e
+pushed false false x c l m e = e
+
+-- a choice of the actor goes to the end of its choices, and another's changes nothing
+sub-push : (a : Actor) (cs : List Choice) (c : Choice) → sub a (cs ++ c ∷ []) ≡ (if is_by a c then sub a cs ++ c ∷ [] else sub a cs)
+sub-push a [] c = refl
+sub-push a (x ∷ cs) c = pushed (is_by a x) (is_by a c) x c (sub a (cs ++ c ∷ [])) (sub a cs) (sub-push a cs c)
+
+take_next : {X : Type 0} (xs : List X) (k : ℕ) (x : X) → slice_get xs k ≡ Some x → take (k + 1) xs ≡ take k xs ++ x ∷ []
+take_next xs k x h =
+    let lt : k < length xs = slice_get_within xs k x h in
+    rw (add-one, take-suc xs k x lt, get_or_from_slice_get xs k x x h) refl
+
+by_step : (x : Actor) (c d : Choice) (cs : List Choice) (k : ℕ) (b : Bool) → is_by x d ≡ b
+    → ((j : ℕ) → slice_get (sub x cs) j ≡ Some c → is_by x c ≡ true) → slice_get (if b then d ∷ sub x cs else sub x cs) k ≡ Some c → is_by x c ≡ true
+by_step x c d cs zero true is rest h = ap (is_by x) (sym (cc (h))) ∙ is
+by_step x c d cs (suc k) true is rest h = rest k h
+by_step x c d cs k false is rest h = rest k h
+
+-- what stands among an actor's choices is the actor's
+sub_by : (x : Actor) (cs : List Choice) (k : ℕ) (c : Choice) → slice_get (sub x cs) k ≡ Some c → is_by x c ≡ true
+sub_by x [] k c h = absurd (cc (h))
+sub_by x (d ∷ cs) k c h = by_step x c d cs k (is_by x d) refl (λ j e. sub_by x cs j c e) h
+
+named_step : (count : ℕ) (x : Actor) (c d : Choice) (cs : List Choice) (k : ℕ) (b : Bool) → names_below count d ≡ true
+    → ((j : ℕ) → slice_get (sub x cs) j ≡ Some c → names_below count c ≡ true) → slice_get (if b then d ∷ sub x cs else sub x cs) k ≡ Some c → names_below count c ≡ true
+named_step count x c d cs zero true is rest h = ap (names_below count) (sym (cc (h))) ∙ is
+named_step count x c d cs (suc k) true is rest h = rest k h
+named_step count x c d cs k false is rest h = rest k h
+
+-- each of an actor's choices names a transaction that exists
+sub_named : (count : ℕ) (x : Actor) (cs : List Choice) (k : ℕ) (c : Choice) → AreNamed count cs → slice_get (sub x cs) k ≡ Some c → names_below count c ≡ true
+sub_named count x [] k c all h = absurd (cc (h))
+sub_named count x (d ∷ cs) k c all h = named_step count x c d cs k (is_by x d) all.0 (λ j e. sub_named count x cs j c all.1 e) h
+
+one_of : (x : Actor) (l m n k : ℕ) → l + m + n ≡ k → (if is_c x then l + 1 else l) + (if is_a x then m + 1 else m) + (if is_b x then n + 1 else n) ≡ k + 1
+one_of C l m n k e = omega arith
+one_of A l m n k e = omega arith
+one_of B l m n k e = omega arith
+
+length_if : {X : Type 0} (b : Bool) (x : X) (xs : List X) → length (if b then x ∷ xs else xs) ≡ (if b then length xs + 1 else length xs)
+length_if true x xs = omega arith
+length_if false x xs = refl
+
+-- each choice is of one actor
+sub_lengths : (cs : List Choice) → length (sub C cs) + length (sub A cs) + length (sub B cs) ≡ length cs
+sub_lengths [] = refl
+sub_lengths (d ∷ cs) =
+    let x = actor_of d in
+    let l : length (sub C (d ∷ cs)) ≡ (if is_c x then length (sub C cs) + 1 else length (sub C cs)) = length_if (is_c x) d (sub C cs) in
+    let m : length (sub A (d ∷ cs)) ≡ (if is_a x then length (sub A cs) + 1 else length (sub A cs)) = length_if (is_a x) d (sub A cs) in
+    let n : length (sub B (d ∷ cs)) ≡ (if is_b x then length (sub B cs) + 1 else length (sub B cs)) = length_if (is_b x) d (sub B cs) in
+    let all = one_of x (length (sub C cs)) (length (sub A cs)) (length (sub B cs)) (length cs) (sub_lengths cs) in
+    (λ i. l i + m i + n i) ∙ all ∙ omega arith
+
+-- the actor's own line, after its choice was taken
+line_ahead : (x : Actor) (m : History) (l : Line) (c : Choice) → IsLine x m l → slice_get l.schedule l.cursor ≡ Some c → IsLine x (noted m c) (ahead l)
+line_ahead x m l c was next =
+    let own : is_by x c ≡ true = sub_by x m.scenario.choices l.cursor c (ap (λ s. slice_get s l.cursor) (sym was.whole) ∙ next) in
+    record {
+      whole = was.whole;
+      taken = ap (sub x) (choices_of-push m.entries (entry_at m c)) ∙ sub-push x (choices_of m.entries) c ∙ ap (λ (b : Bool). if b then sub x (choices_of m.entries) ++ c ∷ [] else sub x (choices_of m.entries)) own
+          ∙ ap (λ w. w ++ c ∷ []) was.taken ∙ sym (take_next l.schedule l.cursor c next);
+      within = omega (arith, slice_get_within l.schedule l.cursor c next);
+    }
+
+-- another's line
+line_beside : (x : Actor) (m : History) (l : Line) (c : Choice) → IsLine x m l → is_by x c ≡ false → IsLine x (noted m c) l
+line_beside x m l c was other = record {
+  whole = was.whole;
+  taken = ap (sub x) (choices_of-push m.entries (entry_at m c)) ∙ sub-push x (choices_of m.entries) c ∙ ap (λ (b : Bool). if b then sub x (choices_of m.entries) ++ c ∷ [] else sub x (choices_of m.entries)) other ∙ was.taken;
+  within = was.within;
+}
+
+only_c : (x : Actor) → is_c x ≡ true → (is_a x ≡ false) × (is_b x ≡ false)
+only_c C h = (refl, refl)
+only_c A h = absurd (cc (h))
+only_c B h = absurd (cc (h))
+
+only_a : (x : Actor) → is_a x ≡ true → (is_c x ≡ false) × (is_b x ≡ false)
+only_a C h = absurd (cc (h))
+only_a A h = (refl, refl)
+only_a B h = absurd (cc (h))
+
+only_b : (x : Actor) → is_b x ≡ true → (is_c x ≡ false) × (is_a x ≡ false)
+only_b C h = absurd (cc (h))
+only_b A h = absurd (cc (h))
+only_b B h = (refl, refl)
+
+own_at : (x : Actor) (m : History) (l : Line) (c : Choice) → IsLine x m l → slice_get l.schedule l.cursor ≡ Some c → is_by x c ≡ true
+own_at x m l c was next = sub_by x m.scenario.choices l.cursor c (ap (λ s. slice_get s l.cursor) (sym was.whole) ∙ next)
+
+-- the board after a turn
+board_turned : (x : Actor) (t : Table) (c : Choice) → IsBoard t → slice_get (line t x).schedule (line t x).cursor ≡ Some c → IsBoard (turned t x c)
+board_turned C t c was next =
+    let others = only_c (actor_of c) (own_at C t.machine t.c c was.of_c next) in
+    record { tested = was.tested; of_c = line_ahead C t.machine t.c c was.of_c next; of_a = line_beside A t.machine t.a c was.of_a others.0; of_b = line_beside B t.machine t.b c was.of_b others.1 }
+board_turned A t c was next =
+    let others = only_a (actor_of c) (own_at A t.machine t.a c was.of_a next) in
+    record { tested = was.tested; of_c = line_beside C t.machine t.c c was.of_c others.0; of_a = line_ahead A t.machine t.a c was.of_a next; of_b = line_beside B t.machine t.b c was.of_b others.1 }
+board_turned B t c was next =
+    let others = only_b (actor_of c) (own_at B t.machine t.b c was.of_b next) in
+    record { tested = was.tested; of_c = line_beside C t.machine t.c c was.of_c others.0; of_a = line_beside A t.machine t.a c was.of_a others.1; of_b = line_ahead B t.machine t.b c was.of_b next }
+
+taken_length : (x : Actor) (m : History) (l : Line) → IsLine x m l → (length (sub x (choices_of m.entries)) ≡ l.cursor) × (l.cursor ≤ length (sub x m.scenario.choices))
+taken_length x m l was =
+    let w : l.cursor ≤ length l.schedule = was.within in
+    let e : length l.schedule ≡ length (sub x m.scenario.choices) = ap length was.whole in
+    (ap length was.taken ∙ length-take-le l.cursor l.schedule w, omega arith)
+
+within_sum : (x : Actor) (t : Table) (c : Choice) → IsBoard t → slice_get (line t x).schedule (line t x).cursor ≡ Some c
+    → t.c.cursor + t.a.cursor + t.b.cursor < length (sub C t.machine.scenario.choices) + length (sub A t.machine.scenario.choices) + length (sub B t.machine.scenario.choices)
+within_sum C t c was next =
+    let lt : t.c.cursor < length t.c.schedule = slice_get_within t.c.schedule t.c.cursor c next in
+    omega (arith, ap length was.of_c.whole, (taken_length A t.machine t.a was.of_a).1, (taken_length B t.machine t.b was.of_b).1)
+within_sum A t c was next =
+    let lt : t.a.cursor < length t.a.schedule = slice_get_within t.a.schedule t.a.cursor c next in
+    omega (arith, ap length was.of_a.whole, (taken_length C t.machine t.c was.of_c).1, (taken_length B t.machine t.b was.of_b).1)
+within_sum B t c was next =
+    let lt : t.b.cursor < length t.b.schedule = slice_get_within t.b.schedule t.b.cursor c next in
+    omega (arith, ap length was.of_b.whole, (taken_length C t.machine t.c was.of_c).1, (taken_length A t.machine t.a was.of_a).1)
+
+-- while an actor has a choice left, the history has room
+pub room : (x : Actor) (t : Table) (c : Choice) → IsBoard t → slice_get (line t x).schedule (line t x).cursor ≡ Some c → length t.machine.entries < 4096
+room x t c was next =
+    omega (arith, (taken_length C t.machine t.c was.of_c).0, (taken_length A t.machine t.a was.of_a).0, (taken_length B t.machine t.b was.of_b).0, sub_lengths (choices_of t.machine.entries), length-choices_of t.machine.entries, sub_lengths t.machine.scenario.choices, within_sum x t c was next, was.tested.few_choices)
+
+own_line : (x : Actor) (t : Table) → IsBoard t → IsLine x t.machine (line t x)
+own_line C t was = was.of_c
+own_line A t was = was.of_a
+own_line B t was = was.of_b
+
+-- an actor's next choice names a transaction that exists
+pub named : (x : Actor) (t : Table) (c : Choice) → IsBoard t → slice_get (line t x).schedule (line t x).cursor ≡ Some c → names_below (length t.machine.scenario.programs) c ≡ true
+named x t c was next =
+    sub_named (length t.machine.scenario.programs) x t.machine.scenario.choices (line t x).cursor c was.tested.choices_named (ap (λ s. slice_get s (line t x).cursor) (sym (own_line x t was).whole) ∙ next)
+
+-- a board u that is t after the turn of x, where a is the actor asked for
+pub turn_kept : (a x : Actor) (s t u : Table) (c : Choice) → a ≡ x → t ≡ s → IsBoard t → slice_get (line s a).schedule (line s a).cursor ≡ Some c → u ≡ turned t x c → IsBoard u
+turn_kept a x s t u c is same was next now =
+    let here : slice_get (line t x).schedule (line t x).cursor ≡ Some c =
+    (λ i. slice_get (line (same i) (sym is i)).schedule (line (same i) (sym is i)).cursor) ∙ next in
+    subst IsBoard (sym now) (board_turned x t c was here)
+
+pub front_within : (a x : Actor) (s t : Table) (c : Choice) → a ≡ x → t ≡ s → slice_get (line s a).schedule (line s a).cursor ≡ Some c → (line t x).cursor < length (line t x).schedule
+front_within a x s t c is same next =
+    slice_get_within (line t x).schedule (line t x).cursor c ((λ i. slice_get (line (same i) (sym is i)).schedule (line (same i) (sym is i)).cursor) ∙ next)
+
+pub sub_take : (x : Actor) (cs : List Choice) (i : ℕ) (d : Choice) (b : Bool) → i < length cs → is_by x (get_or cs i d) ≡ b
+    → sub x (take (i + 1) cs) ≡ (if b then sub x (take i cs) ++ get_or cs i d ∷ [] else sub x (take i cs))
+sub_take x cs i d b lt is =
+    rw (add-one, take-suc cs i d lt) (sub-push x (take i cs) (get_or cs i d) ∙ ap (λ (v : Bool). if v then sub x (take i cs) ++ get_or cs i d ∷ [] else sub x (take i cs)) is)

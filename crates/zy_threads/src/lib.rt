@@ -1,0 +1,10 @@
+//! A board on which each actor takes its own choices in order, and a run of it by three threads.
+#![tactic(auto)]
+
+pub mod board;
+mod desk;
+pub mod gate;
+pub mod run;
+#[cfg(test)]
+mod tests;
+mod work;

@@ -1,0 +1,242 @@
+//! Three workers on one board.
+ghost use Rattle.std.specs.Prelude.{◌≡◌, ℕ, length, IfOk};
+ghost use Rattle.zy_isa.specs.declared.node.Actor.TheVariants.{C as is_c, A as is_a, B as is_b};
+ghost use Rattle.zy_laws.specs.Throughout.{OwnedThroughout, SerialThroughout};
+ghost use Rattle.zy_machine.specs.Histories.{choices_of};
+ghost use Rattle.zy_threads.specs.Orders.{IsRunOf, reordered};
+ghost use Rattle.zy_threads.specs.Turns.{IsMerge, sub};
+
+use crate::board::Board;
+use crate::desk::{Desk, Of, Side};
+use crate::gate::{Allowance, Gate, Unlimited};
+use crate::work::{Done, Seat, take_seat, work_a, work_b, work_c};
+use std::alloc::{AllocError, Global};
+use std::marker::{Brand, PhantomData};
+use std::sync::ledger::{Blank, Book};
+use std::sync::{Mutex, Wait};
+use std::thread;
+use std::thread::Threads;
+use zy_isa::node::Actor;
+use zy_isa::scenario::Scenario;
+use zy_laws::laws::{one_owner, serializable};
+use zy_machine::machine::{Fault, Machine};
+
+/// The desk of a board on which nobody has taken a turn.
+fn open_desk<S: Of, C: Side, A: Side, B: Side>(
+    board: Board,
+    c: Book<C>,
+    a: Book<A>,
+    b: Book<B>,
+) -> Desk<S, C, A, B>
+    requires cursors { (c.total ≡ board.c.cursor) × (a.total ≡ board.a.cursor) × (b.total ≡ board.b.cursor) }
+    requires plan { board.machine.scenario ≡ S.plan }
+{
+    Desk {
+        board,
+        c,
+        a,
+        b,
+        of: PhantomData,
+    }
+}
+
+/// The machine of a board on which every choice was taken.
+fn close<S: Of, C: Side, A: Side, B: Side>(
+    desk: Desk<S, C, A, B>,
+    c: Done<C>,
+    a: Done<A>,
+    b: Done<B>,
+) -> Result<Machine, Fault>
+    requires c { (C.parts ≡ 1) × (C.turns ≡ length (sub is_c S.plan.choices)) }
+    requires a { (A.parts ≡ 1) × (A.turns ≡ length (sub is_a S.plan.choices)) }
+    requires b { (B.parts ≡ 1) × (B.turns ≡ length (sub is_b S.plan.choices)) }
+    ensures scenario { IfOk result (λ m. m.scenario ≡ S.plan) }
+    ensures merge { IfOk result (λ m. IsMerge (choices_of m.entries) S.plan.choices) }
+{
+    if c.refused || a.refused || b.refused {
+        return Err(AllocError);
+    }
+    let Desk {
+        board,
+        c: mut book_c,
+        a: mut book_a,
+        b: mut book_b,
+        of: _,
+    } = desk;
+    let Done {
+        share: mut share_c,
+        taken: _,
+        refused: _,
+    } = c;
+    let Done {
+        share: mut share_a,
+        taken: _,
+        refused: _,
+    } = a;
+    let Done {
+        share: mut share_b,
+        taken: _,
+        refused: _,
+    } = b;
+    book_c.audit(&mut share_c);
+    book_a.audit(&mut share_a);
+    book_b.audit(&mut share_b);
+    Ok(board.finished())
+}
+
+/// What the three workers hand back: nothing where a worker could not be started.
+#[derive(Drop)]
+struct Crew<C: Side, A: Side, B: Side> {
+    c: Option<Done<C>>,
+    a: Option<Done<A>>,
+    b: Option<Done<B>>,
+}
+
+/// Starts the three workers, and waits for each that was started.
+fn run_crew<'x, S, C, A, B, R, G, W>(
+    rt: &'x R,
+    gate: &'x G,
+    allowance: &'x W,
+    desk: &'x Mutex<Desk<S, C, A, B>>,
+    c: Seat<C>,
+    a: Seat<A>,
+    b: Seat<B>,
+) -> Crew<C, A, B>
+where
+    S: Of + Send + Sync,
+    C: Side + Send + Sync,
+    A: Side + Send + Sync,
+    B: Side + Send + Sync,
+    R: Threads + Wait + Sync,
+    G: Gate + Sync,
+    W: Allowance + Sync,
+    requires c { (C.parts ≡ 1) × (C.turns ≡ length (sub is_c S.plan.choices)) × (c.turns ≡ C.turns) }
+    requires a { (A.parts ≡ 1) × (A.turns ≡ length (sub is_a S.plan.choices)) × (a.turns ≡ A.turns) }
+    requires b { (B.parts ≡ 1) × (B.turns ≡ length (sub is_b S.plan.choices)) × (b.turns ≡ B.turns) }
+{
+    thread::scope(
+        thread::scope_env(),
+        rt,
+        move |scope| -> Crew<C, A, B>
+            requires c { (C.parts ≡ 1) × (C.turns ≡ length (sub is_c S.plan.choices)) × (c.turns ≡ C.turns) }
+            requires a { (A.parts ≡ 1) × (A.turns ≡ length (sub is_a S.plan.choices)) × (a.turns ≡ A.turns) }
+            requires b { (B.parts ≡ 1) × (B.turns ≡ length (sub is_b S.plan.choices)) × (b.turns ≡ B.turns) }
+        {
+            let one = scope.spawn(
+                move || -> Done<C>
+                    requires { (C.parts ≡ 1) × (C.turns ≡ length (sub is_c S.plan.choices)) × (c.turns ≡ C.turns) }
+                { work_c(rt, gate, allowance, desk, c) },
+            );
+            let two = scope.spawn(
+                move || -> Done<A>
+                    requires { (A.parts ≡ 1) × (A.turns ≡ length (sub is_a S.plan.choices)) × (a.turns ≡ A.turns) }
+                { work_a(rt, gate, allowance, desk, a) },
+            );
+            let three = scope.spawn(
+                move || -> Done<B>
+                    requires { (B.parts ≡ 1) × (B.turns ≡ length (sub is_b S.plan.choices)) × (b.turns ≡ B.turns) }
+                { work_b(rt, gate, allowance, desk, b) },
+            );
+            Crew {
+                c: one.ok().map(|thread| thread.join(rt)),
+                a: two.ok().map(|thread| thread.join(rt)),
+                b: three.ok().map(|thread| thread.join(rt)),
+            }
+        },
+    )
+}
+
+/// As `run_allowed`, under the names that the three ledgers have.
+fn run_named<S, C, A, B, R, G, W>(
+    rt: &R,
+    board: Board,
+    gate: &G,
+    allowance: &W,
+    c: Blank,
+    a: Blank,
+    b: Blank,
+) -> Result<Machine, Fault>
+where
+    S: Of + Send + Sync,
+    C: Side + Send + Sync,
+    A: Side + Send + Sync,
+    B: Side + Send + Sync,
+    R: Threads + Wait + Sync,
+    G: Gate + Sync,
+    W: Allowance + Sync,
+    requires board { (board.machine.scenario ≡ S.plan) × (board.c.cursor ≡ 0) × (board.a.cursor ≡ 0) × (board.b.cursor ≡ 0) }
+    requires c { (c.name ≡ C.name) × (c.parts ≡ C.parts) × (C.parts ≡ 1) × (C.turns ≡ length (sub is_c S.plan.choices)) }
+    requires a { (a.name ≡ A.name) × (a.parts ≡ A.parts) × (A.parts ≡ 1) × (A.turns ≡ length (sub is_a S.plan.choices)) }
+    requires b { (b.name ≡ B.name) × (b.parts ≡ B.parts) × (B.parts ≡ 1) × (B.turns ≡ length (sub is_b S.plan.choices)) }
+    ensures scenario { IfOk result (λ m. m.scenario ≡ S.plan) }
+    ensures merge { IfOk result (λ m. IsMerge (choices_of m.entries) S.plan.choices) }
+{
+    let turns_c = board.turns(Actor::C);
+    let turns_a = board.turns(Actor::A);
+    let turns_b = board.turns(Actor::B);
+    let (book_c, share_c) = c.open::<C>();
+    let (book_a, share_a) = a.open::<A>();
+    let (book_b, share_b) = b.open::<B>();
+    let desk = Mutex::new(open_desk::<S, C, A, B>(board, book_c, book_a, book_b));
+    let Crew { c, a, b } = run_crew(
+        rt,
+        gate,
+        allowance,
+        &desk,
+        take_seat(share_c, turns_c),
+        take_seat(share_a, turns_a),
+        take_seat(share_b, turns_b),
+    );
+    let desk = desk.into_inner();
+    let (Some(c), Some(a), Some(b)) = (c, a, b) else {
+        return Err(AllocError);
+    };
+    close(desk, c, a, b)
+}
+
+/// Makes all choices of a scenario by three threads, one for each actor. Where one of them wants memory it stops, the others go
+/// on to their ends, and the answer is want of memory; so it is where a thread cannot be started. It returns once all have ended.
+pub fn run_threads(
+    rt: &(impl Threads + Wait + Sync),
+    alloc: Global,
+    scenario: Scenario,
+    gate: &(impl Gate + Sync),
+) -> Result<Machine, Fault>
+    ensures scenario { IfOk result (λ m. m.scenario ≡ scenario) }
+    ensures merge { IfOk result (λ m. IsMerge (choices_of m.entries) scenario.choices) }
+    // One thread that makes the choices in the order that was taken comes to the same.
+    ensures run { IfOk result (λ m. IsRunOf (reordered m.scenario (choices_of m.entries)) m) }
+    // At every point of it each page stands once, and under `held` the database is that of the commits one by one.
+    ensures owned { IfOk result (λ m. OwnedThroughout m.scenario (choices_of m.entries)) }
+    ensures serial { IfOk result (λ m. SerialThroughout m.scenario (choices_of m.entries)) }
+{
+    one_owner();
+    serializable();
+    let machine = run_allowed(rt, alloc, scenario, gate, &Unlimited)?;
+    // It says of the machine that its state is the replay of its history.
+    machine.entries();
+    Ok(machine)
+}
+
+/// As `run_threads`, under an allowance.
+pub(crate) fn run_allowed<R: Threads + Wait + Sync, G: Gate + Sync, W: Allowance + Sync>(
+    rt: &R,
+    alloc: Global,
+    scenario: Scenario,
+    gate: &G,
+    allowance: &W,
+) -> Result<Machine, Fault>
+    ensures scenario { IfOk result (λ m. m.scenario ≡ scenario) }
+    ensures merge { IfOk result (λ m. IsMerge (choices_of m.entries) scenario.choices) }
+{
+    let board = Board::new(alloc, scenario)?;
+    run_named::<Brand, Brand, Brand, Brand, R, G, W>(
+        rt,
+        board,
+        gate,
+        allowance,
+        Blank::new(1),
+        Blank::new(1),
+        Blank::new(1),
+    )
+}
