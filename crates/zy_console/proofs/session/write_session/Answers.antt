@@ -19,7 +19,7 @@ returns-in_err-write_all g c =
     let line = first_line c.loop-words.rest.now in
     let taken = line_taken c.loop-words.rest.now c.take_line-rest.result.now some c.take_line-rest.ensures.below in
     let says = says_first c.loop-words.debugger c.answer.new.debugger (words_of line) (string_bytes c.answer.new.line)
-        (subst (λ ws. LineSays c.loop-words.debugger ws c.answer.new.debugger (string_bytes c.answer.new.line)) (c.as_slice.ensures ∙ c.take_line-rest.ensures.words) c.in_ok-answer.ensures) in
+    (subst (λ ws. LineSays c.loop-words.debugger ws c.answer.new.debugger (string_bytes c.answer.new.line)) (c.as_slice.ensures ∙ c.take_line-rest.ensures.words) c.in_ok-answer.ensures) in
     let front = subst (WroteFront (written c.loop-words.sink) (written c.write_all.new.sink)) c.as_bytes.ensures.value c.in_err-write_all.ensures.0 in
     rw p.1 (rw p.2 (
       said_torn (written c.args.sink.now) (written c.loop-words.sink) (written c.write_all.new.sink) c.args.debugger.now c.loop-words.debugger c.answer.new.debugger
@@ -35,7 +35,7 @@ loop-words-preserved g c =
     let line = first_line c.loop-words.rest.now in
     let taken = line_taken c.loop-words.rest.now c.take_line-rest.result.now some c.take_line-rest.ensures.below in
     let says = says_first c.loop-words.debugger c.answer.new.debugger (words_of line) (string_bytes c.answer.new.line)
-        (subst (λ ws. LineSays c.loop-words.debugger ws c.answer.new.debugger (string_bytes c.answer.new.line)) (c.as_slice.ensures ∙ c.take_line-rest.ensures.words) c.in_ok-answer.ensures) in
+    (subst (λ ws. LineSays c.loop-words.debugger ws c.answer.new.debugger (string_bytes c.answer.new.line)) (c.as_slice.ensures ∙ c.take_line-rest.ensures.words) c.in_ok-answer.ensures) in
     let wrote = subst (Appends (written c.loop-words.sink) (written c.write_all.new.sink)) c.as_bytes.ensures.value c.in_ok-write_all.ensures.0 in
     record {
       said = said_more (written c.args.sink.now) (written c.loop-words.sink) (written c.write_all.new.sink) c.args.debugger.now c.loop-words.debugger c.answer.new.debugger
