@@ -36,7 +36,7 @@ const CHOICES: &[Choice] = &[
 ];
 
 /// How often a gate looks for what it waits for: long enough, and never for ever.
-const TURNS: u32 = 1_000_000_000;
+const TURNS: u32 = 10_000_000;
 
 fn scenario(alloc: Global) -> Result<Scenario, AllocError> {
     let Ok(program) = Program::verify(alloc, &[Instr::Set(Reg::R0, 5), Instr::Commit]) else {
