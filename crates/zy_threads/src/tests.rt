@@ -36,7 +36,7 @@ const CHOICES: &[Choice] = &[
 ];
 
 /// How often a gate looks for what it waits for: long enough, and never for ever.
-const TURNS: u32 = 1_000_000_000;
+const TURNS: u32 = 10_000_000;
 
 fn scenario(alloc: Global) -> Result<Scenario, AllocError> {
     let Ok(program) = Program::verify(alloc, &[Instr::Set(Reg::R0, 5), Instr::Commit]) else {
@@ -124,6 +124,43 @@ fn two_workers_meet(rt: HostRuntime) -> Result<(), Fail> {
     let gate = Meeting {
         a: AtomicU64::new(0),
         b: AtomicU64::new(0),
+        missed: AtomicU64::new(0),
+    };
+    let steps = steps(&rt, rt.alloc(), &gate, &Unlimited)?;
+    assert_eq!(rt; gate.missed.load(Ordering::SeqCst), 0);
+    assert!(rt; are_merged(steps.as_slice()));
+    Ok(())
+}
+
+/// A's first call waits for B's second, and B's first for the client's second: each of these comes only after a step.
+#[derive(Drop)]
+struct Waiting {
+    b: AtomicU64,
+    c: AtomicU64,
+    missed: AtomicU64,
+}
+
+impl Gate for Waiting {
+    fn before(&self, actor: Actor, k: usize, _last: Option<&Entry>) {
+        let came = match actor {
+            Actor::C => self.c.fetch_add(1, Ordering::SeqCst) < 2,
+            Actor::A => waited(&self.b, 2),
+            Actor::B => {
+                self.b.fetch_add(1, Ordering::SeqCst);
+                k != 1 || waited(&self.c, 2)
+            }
+        };
+        if !came {
+            self.missed.store(1, Ordering::SeqCst);
+        }
+    }
+}
+
+#[test]
+fn others_step_while_one_waits(rt: HostRuntime) -> Result<(), Fail> {
+    let gate = Waiting {
+        b: AtomicU64::new(0),
+        c: AtomicU64::new(0),
         missed: AtomicU64::new(0),
     };
     let steps = steps(&rt, rt.alloc(), &gate, &Unlimited)?;
