@@ -9,3 +9,4 @@ pub mod GivesLemmas
 pub mod OnlyLemmas
 pub mod CanonLemmas
 pub mod InputLemmas
+pub mod UsualLemmas

@@ -1,7 +1,10 @@
 //! The choice of a line, and how often it is made.
-ghost use Rattle.std.specs.Prelude.{◌≡◌, ◌≤◌, IfOk};
+ghost use Rattle.std.specs.Prelude.{◌≡◌, ◌≤◌, IfOk, IfSome, Some, Ok, true, ℕ};
 ghost use Rattle.zy_asm.specs.Reasons.{by_kind, kind_of};
 ghost use Rattle.zy_words.specs.Lines.{texts};
+ghost use Rattle.zy_words.specs.Names.{is_numeral as is_numeral_spec};
+ghost use Rattle.zy_asm.specs.declared.choices.TxnAction.{TxnAction as AnAction};
+ghost use Rattle.zy_asm.specs.declared.choices.Action.TheVariants.{Txn, Plain};
 ghost use Rattle.zy_asm.specs.Choices.{actor_of as actor_of_spec, client_action as client_action_spec, node_action as node_action_spec, action_of as action_of_spec, chosen as chosen_spec, are_times as are_times_spec, times_of as times_of_spec, numbered as numbered_spec, transaction as transaction_spec};
 
 use crate::faults::{AsmKind, Reason};
@@ -35,6 +38,7 @@ pub enum Action {
 }
 
 /// The actor that a word names.
+#[inline(always)]
 pub fn actor_of(word: &[u8]) -> Option<Actor>
     ensures { result ≡ actor_of_spec word.now }
 {
@@ -83,6 +87,7 @@ fn node_action(node: Node, word: &[u8]) -> Option<Action>
 }
 
 /// The action of this actor that a word names.
+#[inline(always)]
 pub fn action_of(actor: Actor, word: &[u8]) -> Option<Action>
     ensures { result ≡ action_of_spec actor word.now }
 {
@@ -134,6 +139,36 @@ pub fn transaction(count: usize, names: &Table, word: &[u8]) -> Result<u8, Reaso
         Some(number) => Ok(number),
         None => Err(Reason::NoName(Shown::of(word))),
     }
+}
+
+/// The choice of an actor's action that names no transaction.
+#[inline(always)]
+pub fn plain_choice(actor: Actor, action: &[u8]) -> Option<Choice>
+    ensures { IfSome result (λ c. action_of_spec actor action.now ≡ Some (Plain c)) }
+{
+    match action_of(actor, action) {
+        Some(Action::Plain(choice)) => Some(choice),
+        _ => None,
+    }
+}
+
+/// The choice of an actor's action with a transaction by its number, where there are `count`.
+#[inline(always)]
+pub fn numbered_choice(actor: Actor, action: &[u8], count: usize, word: &[u8]) -> Option<Choice>
+    requires { count ≤ 64 }
+    ensures { IfSome result (λ c. (a : AnAction) × (i : ℕ) × (action_of_spec actor action.now ≡ Some (Txn a)) × (is_numeral_spec word.now ≡ true) × (numbered_spec count word.now ≡ Ok i) × (c ≡ chosen_spec a i)) }
+{
+    let Some(Action::Txn(action)) = action_of(actor, action) else {
+        return None;
+    };
+    if !is_numeral(word) {
+        return None;
+    }
+    let number = number_of(word)?;
+    if number >= count as u64 {
+        return None;
+    }
+    Some(chosen(action, number as u8))
 }
 
 /// Whether these words are `x` and another one, or none.

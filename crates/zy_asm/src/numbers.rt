@@ -1,26 +1,47 @@
 //! Numbers in their ranges.
-ghost use Rattle.std.specs.Prelude.{◌≡◌, ◌≤◌, IfOk};
-ghost use Rattle.zy_asm.specs.Reasons.{by_kind};
+ghost use Rattle.std.specs.Prelude.{◌≡◌, ◌≤◌, IfOk, IfSome, None, Err};
+ghost use Rattle.std.specs.Result.{result_ok};
+ghost use Rattle.zy_asm.specs.Reasons.{by_kind, kind_of};
 ghost use Rattle.zy_asm.specs.Steps.{number_in as number_in_spec};
 
 use crate::faults::Reason;
 use crate::shown::Shown;
 use zy_words::numbers::number_of;
 
+/// The number that a word spells, where it is from `least` to `most`.
+pub fn within(word: &[u8], least: u64, most: u64) -> Option<u64>
+    ensures value { result ≡ result_ok (number_in_spec word.now least most) }
+    ensures range { IfSome result (λ n. (least ≤ n) × (n ≤ most)) }
+{
+    let number = number_of(word)?;
+    if number < least || most < number {
+        return None;
+    }
+    Some(number)
+}
+
+/// Why a word spells no number from `least` to `most`.
+fn not_within(word: &[u8], least: u64, most: u64) -> Reason
+    requires { result_ok (number_in_spec word.now least most) ≡ None }
+    ensures { number_in_spec word.now least most ≡ Err (kind_of result) }
+{
+    match number_of(word) {
+        Some(number) => Reason::OutOfRange {
+            number,
+            least,
+            most,
+        },
+        None => Reason::NotDigits(Shown::of(word)),
+    }
+}
+
 /// The number that a word spells, from `least` to `most`.
 pub fn number_in(word: &[u8], least: u64, most: u64) -> Result<u64, Reason>
     ensures value { by_kind result ≡ number_in_spec word.now least most }
     ensures range { IfOk result (λ n. (least ≤ n) × (n ≤ most)) }
 {
-    let Some(number) = number_of(word) else {
-        return Err(Reason::NotDigits(Shown::of(word)));
-    };
-    if number < least || most < number {
-        return Err(Reason::OutOfRange {
-            number,
-            least,
-            most,
-        });
+    match within(word, least, most) {
+        Some(number) => Ok(number),
+        None => Err(not_within(word, least, most)),
     }
-    Ok(number)
 }

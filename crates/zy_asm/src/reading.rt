@@ -1,21 +1,24 @@
 //! Reads a text line by line.
-ghost use Rattle.std.specs.Prelude.{◌≡◌, ◌≤◌, ◌<◌, length, IfOk, Some};
+ghost use Rattle.std.specs.Prelude.{◌≡◌, ◌≤◌, ◌<◌, ◌∷◌, ◌++◌, [], length, map, IfOk, IfSome, Ok, Some};
 ghost use Rattle.zy_asm.specs.Reasons.{by_kind, seen_word};
 ghost use Rattle.zy_words.specs.Lines.{texts};
+ghost use Rattle.zy_asm.specs.Pending.{shown, whole};
 ghost use Rattle.zy_asm.specs.Reading.{Steps, Reads, seen, keyword_of as keyword_of_spec, headed as headed_spec, version_of as version_of_spec, rule_of as rule_of_spec, zephyr_line, cap_line, pages_line, rule_line, row_with as row_with_spec, row_of as row_of_spec, add_row, row_at, instr_line, instr_at, note_label, behind_label, label_line, closed, own_number as own_number_spec, note_name, head_line, open_line, txn_at, repeat_choice, repeat_line, plain_line, txn_action_line, choice_line, end_line, statement, body_line, step, line_step, ended as ended_spec, reading};
 
 use crate::choices::{
-    Action, TxnAction, action_of, actor_of, are_times, chosen, not_times, times_of, transaction,
+    Action, TxnAction, action_of, actor_of, are_times, chosen, not_times, numbered_choice,
+    plain_choice, times_of, transaction,
 };
 use crate::faults::{Reason, Refusal};
-use crate::instructions::{Operation, instr_of, operation_of};
+use crate::instructions::{Operation, instr_of, operation_of, whole_of};
 use crate::numbers::number_in;
-use crate::pending::program_of;
+use crate::pending::{Unresolved, program_of};
 use crate::shown::Shown;
 use crate::state::{Reader, Stage};
 use crate::table::Table;
 use std::alloc::Global;
 use zy_isa::choice::Choice;
+use zy_isa::instr::Instr;
 use zy_isa::node::Actor;
 use zy_isa::program::MAX_INSTRS;
 use zy_isa::row::Row;
@@ -441,6 +444,7 @@ impl Reader {
     }
 
     /// Takes a line with words.
+    #[inline(never)]
     fn worded_line(&mut self, words: &[&[u8]]) -> Result<(), Reason>
         ensures { Steps result (seen self.new) (step (seen self.old) (texts words.now)) }
     {
@@ -454,10 +458,77 @@ impl Reader {
         }
     }
 
+    /// The choice of a line, where it is made once and names its transaction by number, as most do, and there is place for it.
+    #[inline(always)]
+    fn usual_choice(&self, actor: &[u8], action: &[u8], t: &[u8]) -> Option<Choice>
+        ensures { IfSome result (λ c. (line_step (seen self.now) (actor.now ∷ action.now ∷ t.now ∷ []) ≡ Ok (record (seen self.now) { choices = self.now.choices.items ++ c ∷ [] })) × (length self.now.choices.items < 4096)) }
+    {
+        if self.stage != Stage::Choices {
+            return None;
+        }
+        if self.choices.len() >= MAX_CHOICES {
+            return None;
+        }
+        let actor = actor_of(actor)?;
+        let choice = numbered_choice(actor, action, self.programs.len(), t)?;
+        Some(choice)
+    }
+
+    /// The choice of a line that names no transaction and is made once, where there is place for it.
+    #[inline(always)]
+    fn usual_plain(&self, actor: &[u8], action: &[u8]) -> Option<Choice>
+        ensures { IfSome result (λ c. (line_step (seen self.now) (actor.now ∷ action.now ∷ []) ≡ Ok (record (seen self.now) { choices = self.now.choices.items ++ c ∷ [] })) × (length self.now.choices.items < 4096)) }
+    {
+        if self.stage != Stage::Choices {
+            return None;
+        }
+        if self.choices.len() >= MAX_CHOICES {
+            return None;
+        }
+        let actor = actor_of(actor)?;
+        let choice = plain_choice(actor, action)?;
+        Some(choice)
+    }
+
+    /// The instruction of a line, where it has two words behind its operation and names no label, as most do, and there is place for it.
+    #[inline(always)]
+    fn usual_instr(&self, operation: &[u8], a: &[u8], b: &[u8]) -> Option<Instr>
+        ensures { IfSome result (λ i. (line_step (seen self.now) (operation.now ∷ a.now ∷ b.now ∷ []) ≡ Ok (record (seen self.now) { instrs = map shown self.now.instrs.items ++ whole i ∷ [] })) × (length self.now.instrs.items < 64)) }
+    {
+        if self.stage != Stage::Program {
+            return None;
+        }
+        if self.instrs.len() >= MAX_INSTRS {
+            return None;
+        }
+        let operation = operation_of(operation)?;
+        let instr = whole_of(operation, a, b)?;
+        Some(instr)
+    }
+
     /// Takes a line.
+    #[inline(always)]
     fn line(&mut self, words: &[&[u8]]) -> Result<(), Reason>
         ensures { Steps result (seen self.new) (line_step (seen self.old) (texts words.now)) }
     {
+        if let [first, second] = words {
+            if let Some(choice) = self.usual_plain(first, second) {
+                self.choices.push(choice).map_err(|_| Reason::NoMemory)?;
+                return Ok(());
+            }
+        }
+        if let [first, second, third] = words {
+            if let Some(choice) = self.usual_choice(first, second, third) {
+                self.choices.push(choice).map_err(|_| Reason::NoMemory)?;
+                return Ok(());
+            }
+            if let Some(instr) = self.usual_instr(first, second, third) {
+                self.instrs
+                    .push(Unresolved::Whole(instr))
+                    .map_err(|_| Reason::NoMemory)?;
+                return Ok(());
+            }
+        }
         if words.is_empty() {
             return Ok(());
         }

@@ -1,5 +1,6 @@
 //! The lines of a listing, a module for each kind.
 
+pub(crate) mod choice;
 pub(crate) mod final_state;
 pub mod link;
 pub(crate) mod mode;

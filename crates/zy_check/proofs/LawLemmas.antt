@@ -1,9 +1,18 @@
 -- The verdict in the words of equality, and of the longest text that two texts begin with.
-use Rattle.std.proofs.Common.{◌≡◌, ◌≢◌, ◌≤◌, ◌==◌, ◌+◌, ◌∙◌, ℕ, true, false, List, [], ◌∷◌, ◌++◌, length, refl, sym, ap, arith, inl, inr}
+use Rattle.std.proofs.Common.{◌≡◌, ◌≢◌, ◌≤◌, ◌==◌, ◌+◌, ◌∙◌, ℕ, true, false, List, [], ◌∷◌, ◌++◌, length, refl, sym, ap, subst, arith, inl, inr}
 use Rattle.std.specs.Str.{bytes_eq}
 use Rattle.std.proofs.lemmas.List.{length-append}
 use Rattle.std.proofs.lemmas.Slice.Eq.{bytes_eq-Decides}
+use Rattle.zy_isa.specs.Scenario.{Scenario, IsScenario}
+use Rattle.zy_isa.specs.Canon.{canon}
+use Rattle.zy_isa.specs.Text.{Means}
+use Rattle.zy_asm.proofs.CanonLemmas.{Means-canon}
+use Rattle.zy_audit.specs.Listing.{listing}
+use Rattle.zy_audit.specs.Run.{listing_run}
 use Rattle.zy_check.specs.declared.verdict.Verdict.TheVariants.{Table, NotTable}
+use Rattle.zy_check.specs.Cut.{cut}
+use Rattle.zy_check.specs.Verdicts.{IsListing, IsVerdict}
+use Rattle.zy_check.proofs.CanonCut.{cut-canon}
 use Rattle.zy_check.specs.Differs.{common, feeds, differs, verdict, IsFront, IsLongestShared}
 use Rattle.zy_check.proofs.CommonLemmas.{either, same_number, cons_same, cons_other, common_shared}
 use Rattle.zy_check.proofs.JudgeLemmas.{same_parts}
@@ -74,3 +83,22 @@ verdict-line x y shared h other =
       | inl e ↦ absurd (other ((bytes_eq-Decides x y).0 e))
       | inr e ↦ verdict_of-false x y e ∙ ap (λ l. NotTable (feeds l + 1)) (sym (shared-common shared x y h))
     ]
+
+-- ---- a listing and its scenario
+
+listing_found : (input : List ℕ) → IsVerdict input Table → IsListing input
+listing_found input v = (v.0, v.1, verdict-table input (listing_run v.0) (sym v.2))
+
+listing_table : (input : List ℕ) → IsListing input → IsVerdict input Table
+listing_table input l = (l.0, l.1, sym (verdict-same input (listing_run l.0) l.2))
+
+pub table-listing : (input : List ℕ) → (IsVerdict input Table → IsListing input) × (IsListing input → IsVerdict input Table)
+table-listing input = (listing_found input, listing_table input)
+
+-- the canonical text stands at the front of a listing
+pub cut-run : (sc : Scenario) → IsScenario sc → cut (listing_run sc) ≡ canon sc
+unfolding listing
+cut-run sc h = cut-canon sc _ h
+
+pub run-table : (sc : Scenario) → IsScenario sc → IsVerdict (listing_run sc) Table
+run-table sc h = listing_table (listing_run sc) (sc, subst (λ t. Means t sc) (sym (cut-run sc h)) (Means-canon sc h), refl)

@@ -1,3 +1,4 @@
+pub mod CanonCut
 pub mod CheckLemmas
 pub mod CommonLemmas
 pub mod CompareLemmas

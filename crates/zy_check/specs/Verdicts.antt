@@ -13,6 +13,10 @@ use Rattle.zy_check.specs.Differs.{verdict}
 abbrev pub IsVerdict : List ℕ → Verdict → Type 0
 IsVerdict input v = (sc : Scenario) × Means (cut input) sc × (v ≡ verdict input (listing_run sc))
 
+-- the input is the listing of the scenario that its scenario part means
+abbrev pub IsListing : List ℕ → Type 0
+IsListing input = (sc : Scenario) × Means (cut input) sc × (input ≡ listing_run sc)
+
 -- the answer is this verdict, unless a call failed or there was no memory
 abbrev pub GivesVerdict : Result Verdict CheckFault → Verdict → Type 0
 GivesVerdict (Ok v) w = v ≡ w

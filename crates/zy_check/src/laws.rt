@@ -1,5 +1,11 @@
 //! What holds of the verdict: each function is a law, and its contract is all of it. None does anything when called.
-ghost use Rattle.std.specs.Prelude.{◌≡◌, ◌↔◌, ◌≢◌, ◌+◌, List, ℕ};
+ghost use Rattle.std.specs.Prelude.{◌≡◌, ◌↔◌, ◌≢◌, ◌+◌, None, List, ℕ};
+ghost use Rattle.zy_isa.specs.Scenario.{Scenario, IsScenario};
+ghost use Rattle.zy_isa.specs.Canon.{canon};
+ghost use Rattle.zy_asm.specs.Input.{utf8_fault};
+ghost use Rattle.zy_audit.specs.Run.{listing_run};
+ghost use Rattle.zy_check.specs.Cut.{cut};
+ghost use Rattle.zy_check.specs.Verdicts.{IsListing, IsVerdict};
 ghost use Rattle.zy_check.specs.declared.verdict.Verdict.TheVariants.{Table, NotTable};
 ghost use Rattle.zy_check.specs.Differs.{common, feeds, verdict, IsLongestShared};
 
@@ -17,4 +23,17 @@ pub fn common_is_longest()
 pub fn line_is_of_longest()
     ensures { (input listing shared : List ℕ) → IsLongestShared shared input listing → input ≢ listing
         → verdict input listing ≡ NotTable (feeds shared + 1) }
+{}
+
+/// The verdict is `Table` just where the input is the listing of the scenario that its own front means.
+pub fn table_is_a_listing()
+    ensures { (input : List ℕ) → IsVerdict input Table ↔ IsListing input }
+{}
+
+/// A listing that `run` writes passes: its front is the canonical text of the scenario with its choices, which is UTF-8, and the
+/// verdict on it is `Table`.
+pub fn runs_are_tables()
+    ensures front { (sc : Scenario) → IsScenario sc → cut (listing_run sc) ≡ canon sc }
+    ensures text { (sc : Scenario) → IsScenario sc → utf8_fault (canon sc) ≡ None }
+    ensures table { (sc : Scenario) → IsScenario sc → IsVerdict (listing_run sc) Table }
 {}

@@ -65,6 +65,11 @@ impl Checkpoints {
         Ok(())
     }
 
+    /// Whether a copy from this position would still be kept at the end of a replay to that one.
+    fn would_stay(&self, position: usize, target: usize) -> bool {
+        target.saturating_sub(position) / self.every < self.ring.capacity()
+    }
+
     /// Which kept machine stands nearest below or at a position.
     fn nearest(&self, target: usize) -> Option<usize>
         ensures { IfSome result (λ i. (h : History) × (slice_get self.now.machines i ≡ Some h) × (length h.entries ≤ target)) }
@@ -80,6 +85,14 @@ impl Checkpoints {
             }
         }
         nearest
+    }
+
+    /// Where the kept machine stands that is nearest below or at a position; 0 where there is none.
+    pub fn nearest_position(&self, target: usize) -> usize {
+        match self.nearest(target) {
+            Some(i) => self.ring.get(i).map_or(0, |kept| kept.len()),
+            None => 0,
+        }
     }
 
     /// A copy of the kept machine that stands nearest below or at a position, if there is one.
@@ -114,7 +127,9 @@ impl Checkpoints {
     {
         for _ in machine.len()..target {
             advance(machine)?;
-            self.note(alloc, machine)?;
+            if self.would_stay(machine.len(), target) {
+                self.note(alloc, machine)?;
+            }
         }
         Ok(())
     }

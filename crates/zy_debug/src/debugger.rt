@@ -14,7 +14,7 @@ use std::alloc::{AllocError, Global};
 use std::marker::Model;
 use zy_isa::scenario::Scenario;
 use zy_machine::machine::Machine;
-use zy_scan::replay::start;
+use zy_scan::replay::{restart, start};
 use zy_scan::scan::{cont, last_firing};
 use zy_scan::stop::Stop;
 use zy_scan::stops::Stops;
@@ -231,17 +231,18 @@ impl Debugger {
         Ok(machine)
     }
 
-    /// A machine at the kept position that is nearest below or at another, or at the start.
+    /// A machine at the position that is nearest below or at another: that of the session, a kept one, or the start.
     fn nearest(&self, target: usize) -> Result<Machine, AllocError>
         ensures replay { IfOk result (IsReplayOf self.now.scenario) }
         ensures below { IfOk result (λ m. length m.entries ≤ target) }
     {
+        let here = self.machine.len();
+        if here <= target && self.checkpoints.nearest_position(target) <= here {
+            return self.machine.copy(self.alloc);
+        }
         match self.checkpoints.copy_nearest(self.alloc, target)? {
             Some(machine) => Ok(machine),
-            None => {
-                let scenario = self.machine.scenario().copy(self.alloc)?;
-                start(self.alloc, scenario)
-            }
+            None => restart(self.alloc, &self.machine),
         }
     }
 
@@ -287,8 +288,7 @@ impl Debugger {
         if self.machine.len() == 0 {
             return Ok(None);
         }
-        let scenario = self.machine.scenario().copy(self.alloc)?;
-        let mut machine = start(self.alloc, scenario)?;
+        let mut machine = restart(self.alloc, &self.machine)?;
         last_firing(
             self.alloc,
             &mut machine,

@@ -118,8 +118,21 @@ fn check_copies(rt: &impl Abort, alloc: Global, every: usize, ring: usize) -> Re
     requires { 1 ≤ every }
 {
     let mut plain = Debugger::open(alloc, scenario(alloc)?, 1, 0)?;
+    check_against(rt, alloc, &mut plain, every, ring)
+}
+
+/// Compares a debugger that keeps copies so often, and so many, with another one.
+fn check_against(
+    rt: &impl Abort,
+    alloc: Global,
+    plain: &mut Debugger,
+    every: usize,
+    ring: usize,
+) -> Result<(), Fail>
+    requires { 1 ≤ every }
+{
     let mut debugger = Debugger::open(alloc, scenario(alloc)?, every, ring)?;
-    check_same(rt, &mut debugger, &mut plain);
+    check_same(rt, &mut debugger, plain);
     Ok(())
 }
 

@@ -52,7 +52,7 @@ impl Message {
             Message::Ready => Message::Ready,
             Message::Dual => Message::Dual,
             Message::Pull(page) => Message::Pull(*page),
-            Message::Page(page) => Message::Page(page.copy(alloc)?),
+            Message::Page(page) => Message::Page(page.copy()),
             Message::Finish => Message::Finish,
             Message::Done => Message::Done,
         };

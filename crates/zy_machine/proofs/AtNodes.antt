@@ -1,5 +1,5 @@
 -- A line made on the parts of one node, as a step of the store.
-use Rattle.std.proofs.Common.{◌≡◌, Result, Ok, Err, ap}
+use Rattle.std.proofs.Common.{Result, Ok, Err, ap}
 use Rattle.zy_isa.specs.declared.node.Node.TheVariants.{A, B}
 use Rattle.zy_table.specs.State.{Move, facing, seen_from}
 use Rattle.zy_node.specs.declared.node_store.NodeStore.{NodeStore}

@@ -1,5 +1,5 @@
 -- A list of rows as everyone sees it, and what it keeps.
-use Rattle.std.specs.Prelude.{ℕ, ◌+◌, ◌≤◌, List, length}
+use Rattle.std.specs.Prelude.{◌≡◌, ℕ, ◌≤◌, List, length, take}
 use Rattle.zy_isa.specs.declared.row.Row.{Row}
 use Rattle.zy_isa.specs.Rows.{Rising, RowsFit}
 
@@ -13,7 +13,8 @@ pub record AreKept (rows : List Row) : Type 0 where
   pub rise : Rising 0 rows
   pub fit : RowsFit rows
 
--- at most 16 rows, and memory for 16
-pub record IsPageful (list : RoomyRows) : Type 0 where
-  pub few : length list.rows ≤ 16
-  pub room : 16 ≤ length list.rows + list.spare
+-- at most 16 rows, which are the first of the cells
+pub record IsPageful (len : ℕ) (cells : List Row) : Type 0 where
+  pub few : len ≤ 16
+  pub full : length cells ≡ 16
+  pub kept : AreKept (take len cells)

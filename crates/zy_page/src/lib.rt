@@ -1,6 +1,7 @@
-//! Leaf pages: rows in key order, with room for as many as a page may have.
+//! Leaf pages, with their rows in them, and lists of rows in key order.
 #![tactic(auto)]
 
+mod finding;
 pub mod page;
 pub mod row_list;
 #[cfg(test)]

@@ -1,40 +1,64 @@
 //! A leaf page.
-ghost use Rattle.std.specs.Prelude.{◌≡◌, ◌==◌, ◌<◌, ◌≤◌, IfOk, OnOk, OnErr, IsSome, None, [], length, slice_index_or};
+ghost use Rattle.std.specs.Prelude.{◌≡◌, ◌==◌, ◌<◌, ◌≤◌, IsSome, None, [], insert, length, slice_index_or};
 ghost use Rattle.zy_isa.specs.Rows.{Rising, RowsFit, get_row, put_row};
 ghost use Rattle.zy_page.specs.Leaf.{rows_below, rows_from};
+ghost use Rattle.zy_page.specs.RowLists.{AreKept};
 
-use crate::row_list::RowList;
-use std::alloc::{AllocError, Global};
+use crate::finding::{place, search, value_at};
 use std::marker::Model;
 use zy_isa::row::Row;
 use zy_isa::scenario::MAX_CAP;
 
-/// A leaf page, with memory for the most rows that a scenario lets a page have: no write needs more.
+/// The most rows of a page.
+const ROOM: usize = MAX_CAP as usize;
+
+/// What stands where a page has no row.
+const BLANK: Row = Row { key: 0, value: 0 };
+
+/// A leaf page. Its rows lie in the page itself, which has a place for each that a scenario lets a page have: nothing that
+/// is done with it takes memory.
 #[derive(Drop)]
 pub struct Page {
     number: u16,
     low: u16,
-    rows: RowList,
+    len: usize,
+    cells: [Row; ROOM],
 }
 
 impl Model for Page {
+    ghost use Rattle.std.specs.Prelude.{take};
     ghost use Rattle.zy_page.specs.Leaf.{Leaf};
     ghost use Rattle.zy_page.specs.RowLists.{IsPageful};
 
     ghost Value = { Leaf };
 
-    ghost view = { λ a. record { number = a.number; low = a.low; rows = a.rows.rows } };
+    ghost view = { λ a. record { number = a.number; low = a.low; rows = take a.len a.cells } };
 
-    ghost invariant = { λ a. IsPageful a.rows };
+    ghost invariant = { λ a. IsPageful a.len a.cells };
 }
 
 impl Page {
     /// A page without rows.
-    pub fn new(alloc: Global, number: u16, low: u16) -> Result<Page, AllocError>
-        ensures { IfOk result (λ page. page ≡ record { number = number; low = low; rows = [] }) }
+    pub fn new(number: u16, low: u16) -> Page
+        ensures { result ≡ record { number = number; low = low; rows = [] } }
     {
-        let rows = RowList::with_room(alloc, usize::from(MAX_CAP))?;
-        Ok(Page { number, low, rows })
+        Page::with_rows(number, low, &[])
+    }
+
+    /// A page with these rows.
+    fn with_rows(number: u16, low: u16, rows: &[Row]) -> Page
+        requires few { length rows.now ≤ 16 }
+        requires kept { AreKept rows.now }
+        ensures { result ≡ record { number = number; low = low; rows = rows.now } }
+    {
+        let mut cells = [BLANK; ROOM];
+        cells[..rows.len()].copy_from_slice(rows);
+        Page {
+            number,
+            low,
+            len: rows.len(),
+            cells,
+        }
     }
 
     /// The page's number.
@@ -56,14 +80,14 @@ impl Page {
         ensures value { result ≡ length self.now.rows }
         ensures bound { result ≤ 16 }
     {
-        self.rows.len()
+        self.rows().len()
     }
 
     /// Whether there are none.
     pub fn is_empty(&self) -> bool
         ensures { result ≡ (length self.now.rows == 0) }
     {
-        self.rows.is_empty()
+        self.len == 0
     }
 
     /// The rows, in key order.
@@ -73,7 +97,7 @@ impl Page {
         ensures fit { RowsFit self.now.rows }
         ensures bound { length self.now.rows ≤ 16 }
     {
-        self.rows.rows()
+        &self.cells[..self.len]
     }
 
     /// The row at index `i`.
@@ -81,70 +105,82 @@ impl Page {
         requires { i < length self.now.rows }
         ensures { result ≡ slice_index_or self.now.rows i result }
     {
-        self.rows.row_at(i)
+        self.rows()[i]
     }
 
     /// The value at `key`.
     pub fn get(&self, key: u16) -> Option<u32>
         ensures { result ≡ get_row self.now.rows key }
     {
-        self.rows.get(key)
+        value_at(self.rows(), key)
     }
 
-    /// Puts a value over that of a key that is there. It takes no memory.
+    /// Puts a value over that of a key that is there.
     pub fn put(&mut self, key: u16, value: u32)
         requires { IsSome (get_row self.old.rows key) }
         ensures { self.new ≡ record self.old { rows = put_row key value self.old.rows } }
     {
-        self.rows.put(key, value);
+        self.install(key, value);
     }
 
-    /// Adds a row at a key that is not there. It takes no memory.
+    /// Adds a row at a key that is not there.
     pub fn add(&mut self, new_key: u16, value: u32)
         requires absent { get_row self.old.rows new_key ≡ None }
         requires room { length self.old.rows < 16 }
         ensures { self.new ≡ record self.old { rows = put_row new_key value self.old.rows } }
     {
-        self.rows.put(new_key, value);
+        self.install(new_key, value);
     }
 
-    /// Puts a row, over one of the same key if there is one. It takes no memory.
+    /// Puts a row, over one of the same key if there is one.
     pub fn install(&mut self, key: u16, new_value: u32)
         requires { get_row self.old.rows key ≡ None → length self.old.rows < 16 }
         ensures { self.new ≡ record self.old { rows = put_row key new_value self.old.rows } }
     {
-        self.rows.put(key, new_value);
+        match search(self.rows(), key) {
+            Ok(at) => self.cells[at].value = new_value,
+            Err(at) => self.insert(
+                at,
+                Row {
+                    key,
+                    value: new_value,
+                },
+            ),
+        }
+    }
+
+    /// Puts a row at an index, and moves those from there on up.
+    fn insert(&mut self, at: usize, row: Row)
+        requires within { at ≤ length self.old.rows }
+        requires room { length self.old.rows < 16 }
+        requires kept { AreKept (insert self.old.rows at row) }
+        ensures { self.new ≡ record self.old { rows = insert self.old.rows at row } }
+    {
+        self.cells.copy_within(at..self.len, at + 1);
+        self.cells[at] = row;
+        self.len += 1;
     }
 
     /// Moves the rows at or above `boundary` into a new page with this number, whose low key is the boundary.
-    pub fn split_at(
-        &mut self,
-        alloc: Global,
-        boundary: u16,
-        number: u16,
-    ) -> Result<Page, AllocError>
-        ensures new_page { IfOk result (λ page. page ≡ record { number = number; low = boundary; rows = rows_from boundary self.old.rows }) }
-        ensures old_page { OnOk result (self.new ≡ record self.old { rows = rows_below boundary self.old.rows }) }
-        ensures kept { OnErr result (self.new ≡ self.old) }
+    pub fn split_at(&mut self, boundary: u16, number: u16) -> Page
+        ensures new_page { result ≡ record { number = number; low = boundary; rows = rows_from boundary self.old.rows } }
+        ensures old_page { self.new ≡ record self.old { rows = rows_below boundary self.old.rows } }
     {
-        let rows = self.rows.split_off(alloc, boundary, usize::from(MAX_CAP))?;
-        Ok(Page {
-            number,
-            low: boundary,
-            rows,
-        })
+        let at = place(self.rows(), boundary);
+        let upper = Page::with_rows(number, boundary, &self.rows()[at..]);
+        self.len = at;
+        upper
     }
 
     /// The same page once more.
-    pub fn copy(&self, alloc: Global) -> Result<Page, AllocError>
-        ensures { IfOk result (λ copy. copy ≡ self.now) }
+    pub fn copy(&self) -> Page
+        ensures { result ≡ self.now }
     {
-        let Page { number, low, rows } = self;
-        let rows = rows.copy_with_room(alloc, usize::from(MAX_CAP))?;
-        Ok(Page {
-            number: *number,
-            low: *low,
-            rows,
-        })
+        Page {
+            number: self.number,
+            low: self.low,
+            len: self.len,
+            cells: self.cells,
+        }
     }
 }

@@ -31,12 +31,12 @@ fn rows_in_key_order(rt: HostRuntime) -> Result<(), AllocError> {
 }
 
 /// These rows on page 1, whose keys begin at 5.
-fn page(alloc: Global) -> Result<Page, AllocError> {
-    let mut page = Page::new(alloc, 1, 5)?;
+fn page() -> Page {
+    let mut page = Page::new(1, 5);
     page.add(20, 3);
     page.put(20, 2);
     page.install(10, 1);
-    Ok(page)
+    page
 }
 
 /// Whether these are its number, its low key and its one row.
@@ -44,24 +44,12 @@ fn is_page(page: &Page, number: u16, low: u16, row: Row) -> bool {
     page.number() == number && page.low() == low && page.len() == 1 && page.row_at(0) == row
 }
 
-/// Whether a copy has its rows.
-fn copies(alloc: Global, page: &Page) -> Result<bool, AllocError> {
-    let copy = page.copy(alloc)?;
-    Ok(!copy.is_empty() && copy.get(20) == Some(2))
-}
-
-/// Whether the page that is split off at 20 is the one that it must be.
-fn splits(alloc: Global, page: &mut Page) -> Result<bool, AllocError> {
-    let upper = page.split_at(alloc, 20, 2)?;
-    Ok(is_page(&upper, 2, 20, ROWS[1]))
-}
-
 #[test]
-fn a_page_is_split(rt: HostRuntime) -> Result<(), AllocError> {
-    let mut page = page(rt.alloc())?;
-    assert!(rt; page.rows() == ROWS.as_slice());
-    assert!(rt; copies(rt.alloc(), &page) == Ok(true));
-    assert!(rt; splits(rt.alloc(), &mut page) == Ok(true));
+fn a_page_is_split(rt: HostRuntime) {
+    let mut page = page();
+    let copy = page.copy();
+    let upper = page.split_at(20, 2);
+    assert!(rt; is_page(&upper, 2, 20, ROWS[1]));
     assert!(rt; is_page(&page, 1, 5, ROWS[0]));
-    Ok(())
+    assert!(rt; !copy.is_empty() && copy.get(20) == Some(2) && copy.rows() == ROWS.as_slice());
 }

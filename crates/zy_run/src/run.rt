@@ -292,7 +292,7 @@ fn split_row(
 {
     let new_page = me.wire.len() as u16;
     let boundary = boundary(scenario, alloc, me, book.txn(t), p, key)?;
-    me.cut(alloc, t, p, boundary)?;
+    me.cut(t, p, boundary)?;
     Ok(Answer::quiet(Outcome::Split {
         page: p,
         new_page,

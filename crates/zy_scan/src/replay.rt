@@ -22,12 +22,25 @@ pub fn advance(machine: &mut Machine) -> Result<Outcome, Fault>
     Ok(entry.outcome)
 }
 
-/// A machine that has made no choice of its scenario yet.
+/// A machine that has made no choice of its scenario yet. The choices are made once here, so that what comes of them stands in memory once
+/// for this machine and all copies of it.
 pub fn start(alloc: Global, scenario: Scenario) -> Result<Machine, Fault>
     ensures scenario { IfOk result (λ m. m.scenario ≡ scenario) }
     ensures follows { IfOk result (λ m. Follows m) }
     ensures position { IfOk result (λ m. m.entries ≡ []) }
 {
-    let machine = Machine::open(alloc, scenario)?;
+    let ran = Machine::run_all(alloc, scenario)?;
+    let whole = ran.share(alloc)?;
+    let machine = whole.reopen(alloc)?;
+    Ok(machine)
+}
+
+/// A machine of the same scenario that has made no choice of it yet.
+pub fn restart(alloc: Global, machine: &Machine) -> Result<Machine, Fault>
+    ensures scenario { IfOk result (λ m. m.scenario ≡ machine.now.scenario) }
+    ensures follows { IfOk result (λ m. Follows m) }
+    ensures position { IfOk result (λ m. m.entries ≡ []) }
+{
+    let machine = machine.reopen(alloc)?;
     Ok(machine)
 }

@@ -152,6 +152,17 @@ low_of_page lows k i lt le =
       | inr one ↦ (let within = found q lows one.0 one.1 (eq-eqb _ _ one.2) in absurd (omega arith))
     ])
 
+-- a key below the low key of a page, but for page 0, does not lie on it
+pub page_of-above : (lows : List ℕ) (k p : ℕ) → (p ≡ 0 → ⊥) → k < get_or lows p 0 → page_of lows k ≡ p → ⊥
+unfolding page_of
+page_of-above lows k p some above =
+    let q : ℕ → Bool = λ low. eqb low (low_under lows k) in
+    let n = position_or_len q lows in
+    let most = low_under-le lows k in
+    cond_both (ltb n (length lows)) (Some n) None (λ o. unwrap_or o 0 ≡ p → ⊥)
+    (λ e same. let low : get_or lows n 0 ≡ low_under lows k = eqb-true _ _ (passes_there q lows (ltb-true _ _ e)) in let up = rw (← same) at above in absurd (omega arith))
+    (λ e same. some (sym same))
+
 pub page_of-greatest : (lows : List ℕ) (k : ℕ) → IsGreatest lows k (page_of lows k)
 page_of-greatest lows k = λ q lt le.
     let low = low_of_page lows k q lt le in

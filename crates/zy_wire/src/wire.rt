@@ -1,5 +1,5 @@
 //! The wireframe of a node.
-ghost use Rattle.std.specs.Prelude.{◌≡◌, ◌==◌, ◌↔◌, ◌+◌, ◌<◌, ◌≤◌, ◌++◌, ◌∷◌, [], OnOk, OnErr, IfOk, IsOk, Err, Contains, length, slice_index};
+ghost use Rattle.std.specs.Prelude.{true, ◌≡◌, ◌==◌, ◌↔◌, ◌+◌, ◌<◌, ◌≤◌, ◌++◌, ◌∷◌, [], OnOk, OnErr, IfOk, IsOk, Err, Contains, length, slice_index};
 ghost use Rattle.zy_wire.specs.Wireframe.{page_of as page_of_spec, IsGreatest};
 ghost use Rattle.zy_wire.specs.ByLow.{RiseFrom, IsPlace};
 
@@ -113,6 +113,23 @@ impl Wire {
         }
     }
 
+    /// Whether a key lies on a page. Of a key below the page's low key it is told without a search.
+    pub fn lies_on(&self, key: u16, page: u16) -> bool
+        ensures { result ≡ (page_of_spec self.now.lows key == page) }
+    {
+        !self.is_below(key, page) && self.page_of(key) == page
+    }
+
+    /// Whether a key is below the low key of a page that is not page 0.
+    fn is_below(&self, key: u16, page: u16) -> bool
+        ensures { result ≡ true → page_of_spec self.now.lows key ≡ page → ⊥ }
+    {
+        match self.lows.get(usize::from(page)) {
+            Some(low) => page != 0 && key < *low,
+            None => false,
+        }
+    }
+
     /// One page more, with the next number and this low key, which no page has yet.
     pub fn grow(&mut self, low: u16) -> Result<(), WireFault>
         requires { ¬ Contains self.old.lows low }
@@ -153,9 +170,13 @@ impl Wire {
     pub fn copy(&self, alloc: Global) -> Result<Wire, AllocError>
         ensures { IfOk result (λ copy. (copy.lows ≡ self.now.lows) × (copy.pages ≡ self.now.pages)) }
     {
+        let mut lows = Vec::with_capacity(alloc, self.len())?;
+        lows.extend_from_slice(&self.lows)?;
+        let mut by_low = Vec::with_capacity(alloc, self.len())?;
+        by_low.extend_from_slice(&self.by_low)?;
         Ok(Wire {
-            lows: self.lows.to_vec(alloc)?,
-            by_low: self.by_low.to_vec(alloc)?,
+            lows,
+            by_low,
             pages: self.pages,
         })
     }

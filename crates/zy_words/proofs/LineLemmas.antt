@@ -1,5 +1,5 @@
 -- A text's first line, byte by byte.
-use Rattle.std.proofs.Common.{◌≡◌, ◌∙◌, ℕ, ◌==◌, ◌<◌, ◌+◌, Bool, true, false, not, List, [], ◌∷◌, length, take, drop, filter, get_or, suc, refl, sym, ap, subst, arith, length-drop, inl, inr, ◌⊎◌}
+use Rattle.std.proofs.Common.{◌++◌, ◌≡◌, ◌∙◌, ℕ, ◌==◌, ◌<◌, ◌+◌, Bool, true, false, not, List, [], ◌∷◌, length, take, drop, filter, get_or, suc, refl, sym, ap, subst, arith, inl, inr, ◌⊎◌}
 use Rattle.std.specs.List.{position_or_len, before_first, slice_split, onto_first, prefix_len}
 use borrow.Author.Tests.{eqb-true}
 use Rattle.zy_isa.specs.Words.{is_space, is_word, lines_of, words_of, without_comment}
@@ -142,29 +142,42 @@ begins (b ∷ bs) =
       | inr e ↦ subst (λ n. Begins n (b ∷ bs)) (sym (len_more b bs e)) (begins_more b bs e (begins bs))
     ]
 
-some_word : (w : List ℕ) (ps : List (List ℕ)) → 0 < length w → filter is_word (w ∷ ps) ≡ w ∷ filter is_word ps
-some_word w ps h = elim (either (length w == 0)) [ inl e ↦ absurd (omega (arith, eqb-true (length w) 0 e, h)) | inr e ↦ rw e refl ]
+kept_or_not : (w : List ℕ) (ps : List (List ℕ)) → filter is_word (w ∷ ps) ≡ filter is_word (w ∷ []) ++ filter is_word ps
+kept_or_not w ps = elim (either (length w == 0)) [ inl e ↦ rw e refl | inr e ↦ rw e refl ]
 
-pub word_first : (bs : List ℕ) → 0 < length (before_first ends_word bs) → words_of (first_line bs) ≡ before_first ends_word bs ∷ words_of (first_line (drop (position_or_len ends_word bs) bs))
-word_first bs h =
+-- what stands in front of the first byte that ends a word is the first word, if it is one
+pub word_taken : (bs : List ℕ) → words_of (first_line bs) ≡ filter is_word (before_first ends_word bs ∷ []) ++ words_of (first_line (drop (position_or_len ends_word bs) bs))
+word_taken bs =
     let here = begins bs in
-    ap (filter is_word) here.whole ∙ some_word (before_first ends_word bs) (drop 1 (parts (drop (len bs) bs))) h ∙ ap (λ ws. before_first ends_word bs ∷ ws) (sym (ap (filter is_word) here.behind))
+    let w = before_first ends_word bs in
+    ap (filter is_word) here.whole ∙ kept_or_not w (drop 1 (parts (drop (len bs) bs))) ∙ ap (λ ws. filter is_word (w ∷ []) ++ ws) (sym (ap (filter is_word) here.behind))
 
 pub word_below : (bs : List ℕ) → lines_below bs ≡ lines_below (drop (position_or_len ends_word bs) bs)
 word_below bs = (begins bs).below
 
--- a text that begins with a byte of a word begins with a word
-pub word_some : (b : ℕ) (bs : List ℕ) → ends_word b ≡ false → 0 < length (before_first ends_word (b ∷ bs))
-word_some b bs e = subst (λ n. 0 < length (take n (b ∷ bs))) (sym (len_more b bs e)) (omega arith)
+pub none_left : (bs : List ℕ) → length bs ≡ 0 → bs ≡ []
+none_left [] h = refl
+none_left (b ∷ bs) h = absurd (omega (arith, h))
 
-pub word_shorter : (b : ℕ) (bs : List ℕ) → ends_word b ≡ false → length (drop (position_or_len ends_word (b ∷ bs)) (b ∷ bs)) < length (b ∷ bs)
-word_shorter b bs e = subst (λ n. length (drop n (b ∷ bs)) < length (b ∷ bs)) (sym (len_more b bs e)) (omega (arith, length-drop (len bs) bs))
+-- the byte behind a word ends it
+pub word_stops : (bs : List ℕ) (b : ℕ) (cs : List ℕ) → drop (position_or_len ends_word bs) bs ≡ b ∷ cs → ends_word b ≡ true
+word_stops [] b cs h = cc
+word_stops (a ∷ bs) b cs h = elim (either (ends_word a)) [
+  | inl e ↦ here (subst (λ n. drop n (a ∷ bs) ≡ b ∷ cs) (len_stop a bs e) h) e
+  | inr e ↦ word_stops bs b cs (subst (λ n. drop n (a ∷ bs) ≡ b ∷ cs) (len_more a bs e) h)
+]
+  where
+    here : {x y : ℕ} {xs ys : List ℕ} → x ∷ xs ≡ y ∷ ys → ends_word x ≡ true → ends_word y ≡ true
+    here {x} {y} h e = let p : x ≡ y = cc (h) in ap ends_word (sym p) ∙ e
 
 differs : (b k : ℕ) → (b ≡ k → ⊥) → (b == k) ≡ false
 differs b k h = elim (either (b == k)) [ inl e ↦ absurd (h (eqb-true b k e)) | inr e ↦ e ]
 
-pub in_word : (b : ℕ) → is_space b ≡ false → (b ≡ 10 → ⊥) → (b ≡ 59 → ⊥) → ends_word b ≡ false
-in_word b s f g = rw (s, differs b 10 f, differs b 59 g) refl
+pub space_of : (b : ℕ) → ends_word b ≡ true → (b ≡ 10 → ⊥) → (b ≡ 59 → ⊥) → is_space b ≡ true
+space_of b h f g = elim (either (is_space b)) [ inl e ↦ e | inr e ↦ absurd (off e) ]
+  where
+    off : is_space b ≡ false → ⊥
+    off e = let p : ends_word b ≡ false = rw (e, differs b 10 f, differs b 59 g) refl in cc (h, p)
 
 lines_parted : (bs : List ℕ) → 0 < length bs → lines_of bs ≡ first_line bs ∷ lines_below bs
 lines_parted [] h = absurd (omega (arith, h))

@@ -1,8 +1,8 @@
 //! The first words of a line.
-ghost use Rattle.std.specs.Prelude.{◌≡◌, ◌==◌, ◌<◌, ◌≤◌, ◌∷◌, ◌++◌, [], length, drop, position};
+ghost use Rattle.std.specs.Prelude.{◌≡◌, ◌==◌, ◌<◌, ◌≤◌, ◌∷◌, ◌++◌, [], length, filter, drop, position};
 ghost use Rattle.std.specs.List.{position_or_len, before_first};
-ghost use Rattle.zy_isa.specs.Words.{is_space as is_space_spec, lines_of, words_of};
-ghost use Rattle.zy_words.specs.Lines.{first_line, lines_below, first_words, texts, ends_word as ends_word_spec};
+ghost use Rattle.zy_isa.specs.Words.{is_space as is_space_spec, is_word, lines_of, words_of};
+ghost use Rattle.zy_words.specs.Lines.{first_line, lines_below, first_words, texts, ends_word};
 
 use std::marker::Model;
 
@@ -43,11 +43,15 @@ impl<'a> Words<'a> {
         self.count = 0;
     }
 
-    /// A word more, unless six are there.
+    /// A word more, if it is one, unless six are there.
+    #[inline(always)]
     fn push(&mut self, word: &'a [u8])
-        ensures { self.new ≡ first_words (self.old ++ word.now ∷ []) }
+        ensures { self.new ≡ first_words (self.old ++ filter is_word (word.now ∷ [])) }
     {
-        if self.count < MOST {
+        if self.count == MOST {
+            return;
+        }
+        if !word.is_empty() {
             self.words[self.count] = word;
             self.count += 1;
         }
@@ -68,47 +72,24 @@ pub fn is_space(byte: u8) -> bool
     byte == b' ' || byte == b'\t' || byte == b'\r'
 }
 
-/// Whether a byte ends a word. Most bytes are above the space.
-fn ends_word(byte: u8) -> bool
-    ensures { result ≡ ends_word_spec byte }
-{
-    if byte > b' ' {
-        byte == b';'
-    } else {
-        is_space(byte) || byte == b'\n'
-    }
-}
-
 /// Where the first byte stands that ends a word.
 fn word_end(text: &[u8]) -> Option<usize>
-    ensures { result ≡ position ends_word_spec text.now }
+    ensures { result ≡ position ends_word text.now }
 {
     text.iter().position(|byte| {
         *byte == b' ' || *byte == b'\t' || *byte == b'\r' || *byte == b'\n' || *byte == b';'
     })
 }
 
-/// The word that a text begins with, and what stands behind it.
+/// What stands in front of the first byte that ends a word, and what from there on.
+#[inline(always)]
 fn first_word(text: &[u8]) -> (&[u8], &[u8])
-    requires { 0 < position_or_len ends_word_spec text.now }
-    ensures word { result.0.now ≡ before_first ends_word_spec text.entry.now }
-    ensures behind { result.1.now ≡ drop (position_or_len ends_word_spec text.entry.now) text.entry.now }
+    ensures word { result.0.now ≡ before_first ends_word text.entry.now }
+    ensures behind { result.1.now ≡ drop (position_or_len ends_word text.entry.now) text.entry.now }
 {
-    match word_end(&text[1..]) {
-        Some(end) => text.split_at(end + 1),
+    match word_end(text) {
+        Some(end) => text.split_at(end),
         None => (text, &[]),
-    }
-}
-
-/// What stands behind the space that a text begins with, if it does: most words have one behind them.
-fn past_space(text: &[u8]) -> &[u8]
-    ensures words { words_of (first_line result.now) ≡ words_of (first_line text.entry.now) }
-    ensures below { lines_below result.now ≡ lines_below text.entry.now }
-    ensures few { length result.now ≤ length text.entry.now }
-{
-    match text.split_first() {
-        Some((byte, after)) if is_space(*byte) => after,
-        _ => text,
     }
 }
 
@@ -131,6 +112,7 @@ fn below(text: &[u8]) -> &[u8]
 }
 
 /// Puts the first words of a text's first line, without its comment, in place of what is there, and gives what stands below the line.
+#[inline(always)]
 pub fn take_line<'a>(words: &mut Words<'a>, text: &'a [u8]) -> &'a [u8]
     requires { 0 < length text.now }
     ensures words { words.new ≡ first_words (words_of (first_line text.entry.now)) }
@@ -139,18 +121,18 @@ pub fn take_line<'a>(words: &mut Words<'a>, text: &'a [u8]) -> &'a [u8]
 {
     words.clear();
     let mut rest = text;
-    while let Some((byte, after)) = rest.split_first() {
-        if !ends_word(*byte) {
-            let (word, behind) = first_word(rest);
-            words.push(word);
-            rest = past_space(behind);
-        } else if is_space(*byte) {
-            rest = after;
-        } else if *byte == b'\n' {
+    loop {
+        let (word, behind) = first_word(rest);
+        words.push(word);
+        let Some((byte, after)) = behind.split_first() else {
+            return behind;
+        };
+        if *byte == b'\n' {
             return after;
-        } else {
+        }
+        if *byte == b';' {
             return below(after);
         }
+        rest = after;
     }
-    rest
 }

@@ -53,6 +53,7 @@ pub fn label_of(word: &[u8]) -> Option<&[u8]>
 }
 
 /// Whether a word is this text.
+#[inline(always)]
 pub fn is(word: &[u8], text: &[u8]) -> bool
     ensures { result ≡ bytes_eq word.now text.now }
 {

@@ -1,8 +1,10 @@
 //! The steps, each with what came of it.
+ghost use Rattle.std.specs.Prelude.{◌++◌, codes};
 ghost use Rattle.zy_table.specs.declared.outcome.Outcome.TheVariants as outcome;
 ghost use Rattle.zy_audit.specs.Texts.{outcome_text, sent_text, step_text};
 ghost use Rattle.zy_audit.specs.Listing.{step_texts};
 
+use crate::lines::choice::SpacedChoice;
 use crate::lines::words::{KindText, WhyText};
 use std::alloc::AllocError;
 use zy_io::line::{Decimal, Joined, Line};
@@ -82,6 +84,22 @@ impl Line for OutcomeText {
     }
 }
 
+/// What came of a step, behind the arrow. Most steps did an instruction, so that the words of those are one piece.
+#[derive(Clone, Copy)]
+struct CameText(Outcome);
+
+impl Line for CameText {
+    ghost text = { λ c. codes " -> " ++ outcome_text c.0 };
+
+    #[inline(always)]
+    fn append(&self, line: &mut String) -> Result<(), AllocError> {
+        match self.0 {
+            Outcome::Did => " -> did".append(line),
+            outcome => Joined(" -> ", OutcomeText(outcome)).append(line),
+        }
+    }
+}
+
 /// The message that was sent, if one was.
 #[derive(Clone, Copy)]
 struct SentText(Option<Kind>);
@@ -89,6 +107,7 @@ struct SentText(Option<Kind>);
 impl Line for SentText {
     ghost text = { λ s. sent_text s.0 };
 
+    #[inline(always)]
     fn append(&self, line: &mut String) -> Result<(), AllocError> {
         match self.0 {
             None => "".append(line),
@@ -107,14 +126,15 @@ struct StepLine<'a> {
 impl Line for StepLine<'_> {
     ghost text = { λ s. step_text s.number s.entry.now };
 
+    #[inline(always)]
     fn append(&self, line: &mut String) -> Result<(), AllocError> {
         let Entry {
             choice,
             outcome,
             sent,
         } = *self.entry;
-        let came = Joined(" -> ", Joined(OutcomeText(outcome), SentText(sent)));
-        Joined(Decimal(self.number), Joined(" ", Joined(choice, came))).append(line)
+        let came = Joined(CameText(outcome), SentText(sent));
+        Joined(Decimal(self.number), Joined(SpacedChoice(choice), came)).append(line)
     }
 }
 

@@ -3,6 +3,7 @@ ghost use Rattle.std.specs.Prelude.{map};
 ghost use Rattle.zy_isa.specs.Canon.{choice_text};
 ghost use Rattle.zy_machine.specs.Histories.{choices_of};
 
+use crate::lines::choice::ChoiceText;
 use std::alloc::AllocError;
 use zy_io::line::Line;
 use zy_io::section::{Lines, Section, write_lines};
@@ -22,7 +23,7 @@ impl Lines for Taken<'_> {
     }
 
     fn append(&self, place: usize, line: &mut String) -> Result<(), AllocError> {
-        self.0[place].choice.append(line)
+        ChoiceText(self.0[place].choice).append(line)
     }
 }
 

@@ -1,4 +1,4 @@
-use Rattle.std.proofs.Common.{◌≡◌, ◌<◌, ◌+◌, ◌∙◌, ap, arith, length, sym}
+use Rattle.std.proofs.Common.{◌<◌, ◌+◌, ◌∙◌, ap, arith, length, sym}
 use Rattle.std.proofs.lemmas.Bool.{lt-ltb}
 use Rattle.zy_table.specs.Pages.{rows_of}
 use Rattle.zy_table.specs.Run.{own_inserts}

@@ -1,5 +1,4 @@
-use Rattle.std.proofs.Common.{◌∙◌, refl, sym}
-use Rattle.zy_locks.specs.declared.lock.LockKind.TheVariants.{Exclusive}
+use Rattle.std.proofs.Common.{refl}
 use Rattle.zy_table.specs.Change.{cut, locked, txn_at}
 use Rattle.zy_table.specs.Run.{split_row}
 use Rattle.zy_run.proofs.SplitRows.{cuttable}

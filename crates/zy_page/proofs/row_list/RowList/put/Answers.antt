@@ -1,20 +1,14 @@
-use Rattle.std.proofs.Common.{ℕ, ◌<◌, ◌^◌, List, sym, arith}
-use Rattle.zy_isa.specs.declared.row.Row.{Row}
-use Rattle.zy_isa.specs.Rows.{put_row}
-use Rattle.zy_page.specs.RowLists.{AreKept}
-use Rattle.zy_page.proofs.Rows.{Rising-put_row, RowsFit-put_row}
+use Rattle.std.proofs.Common.{sym, arith}
+use Rattle.zy_page.proofs.Cells.{AreKept-put_row}
 use Rattle.zy_page.proofs.Found.{put_row_at, put_row_between, none_there, room_for}
 use Rattle.zy_page.proofs.row_list.RowList.put.Goals as goal
-
-kept : (k v : ℕ) (rows : List Row) → AreKept rows → k < 2 ^ 16 → v < 2 ^ 32 → AreKept (put_row k v rows)
-kept k v rows h key value = record { rise = Rising-put_row 0 k v rows h.rise (omega arith); fit = RowsFit-put_row k v rows h.fit key value }
 
 pub invariant_of-self : goal.invariant_of-self
 invariant_of-self c =
     let rows = c.self.inside.rows.items in
     let was = c.index_mut.result.now in
     let found = rw c.deref.ensures.value at c.in-Ok.ensures in
-    let new = kept c.args.key c.args.value rows c.self.invariant c.ranges.key.fits c.ranges.value.fits in
+    let new = AreKept-put_row c.args.key c.args.value rows c.self.invariant c.ranges.key.fits c.ranges.value.fits in
     rw (put_row_at c.args.key c.args.value c.in-Ok.at was rows found.0 found.1 (found.2 was), ← c.index_mut.ensures.value) at new
 
 pub returns-in-Ok-clause-rows : goal.returns-in-Ok-clause-rows
@@ -34,7 +28,7 @@ pub invariant_of-self-in-Err : goal.invariant_of-self-in-Err
 invariant_of-self-in-Err c =
     let rows = c.self.inside.rows.items in
     let found = rw c.deref.ensures.value at c.in-Err.ensures in
-    let new = kept c.args.key c.args.value rows c.self.invariant c.ranges.key.fits c.ranges.value.fits in
+    let new = AreKept-put_row c.args.key c.args.value rows c.self.invariant c.ranges.key.fits c.ranges.value.fits in
     let items = rw c.unwrap.ensures at c.insert.ensures.items in
     rw items (rw (put_row_between c.args.key c.args.value c.in-Err.at rows found.0 found.1) at new)
 

@@ -1,0 +1,72 @@
+-- The lines that most texts have most of: a choice made once with a transaction's number, an instruction of two words.
+use Rattle.std.proofs.Common.{◌≡◌, ◌∙◌, ℕ, ◌<◌, ◌+◌, List, [], ◌∷◌, ◌++◌, length, Ok, Some, true, refl, sym, ap, subst, arith}
+use Rattle.zy_isa.specs.declared.node.Actor.{Actor}
+use Rattle.zy_isa.specs.declared.node.Actor.TheVariants as actor
+use Rattle.zy_isa.specs.declared.instr.Instr.{Instr}
+use Rattle.zy_isa.specs.declared.choice.Choice.{Choice}
+use Rattle.zy_asm.specs.declared.instructions.Operation.{Operation}
+use Rattle.zy_asm.specs.declared.instructions.Operation.TheVariants as op
+use Rattle.zy_asm.specs.declared.choices.Action.TheVariants.{Txn, Plain}
+use Rattle.zy_asm.specs.declared.choices.TxnAction.{TxnAction}
+use Rattle.zy_asm.specs.declared.state.Stage.TheVariants as stage
+use Rattle.zy_words.specs.Names.{is_numeral}
+use Rattle.zy_asm.specs.Pending.{whole}
+use Rattle.zy_asm.specs.Instructions.{operation_of, instr_of}
+use Rattle.zy_asm.specs.Choices.{actor_of, action_of, chosen, numbered}
+use Rattle.zy_asm.specs.Reading.{Seen, line_step, choice_line, repeat_choice, instr_line}
+use Rattle.zy_isa.proofs.ResultLemmas.{over_not, not_below}
+use Rattle.zy_asm.proofs.SpellLemmas.{op_word, actor_word, operation_ok, actor_ok}
+
+-- ---- a choice
+
+one_choice : (u : Seen) (c : Choice) → length u.choices < 4096 → repeat_choice (record u { stage = stage.Choices }) c 1 ≡ Ok (record u { stage = stage.Choices; choices = u.choices ++ c ∷ [] })
+one_choice u c few = rw (over_not (length u.choices + 1) 4096 (omega (arith, few))) refl
+
+choice_read : (u : Seen) (o : Actor) (v t : List ℕ) (a : TxnAction) (i : ℕ) → length u.choices < 4096 → action_of o v ≡ Some (Txn a) → is_numeral t ≡ true → numbered (length u.programs) t ≡ Ok i
+    → choice_line (record u { stage = stage.Choices }) o (v ∷ t ∷ []) ≡ Ok (record u { stage = stage.Choices; choices = u.choices ++ chosen a i ∷ [] })
+choice_read u o v t a i few f n g = rw (f, n, g) (one_choice u (chosen a i) few)
+
+by_actor : (u : Seen) (o : Actor) (vs : List (List ℕ)) → line_step (record u { stage = stage.Choices }) (actor_word o ∷ vs) ≡ choice_line (record u { stage = stage.Choices }) o vs
+by_actor u actor.C vs = refl
+by_actor u actor.A vs = refl
+by_actor u actor.B vs = refl
+
+pub choice_taken : (s : Seen) (w v t : List ℕ) (o : Actor) (a : TxnAction) (i : ℕ) → s.stage ≡ stage.Choices → length s.choices < 4096 → actor_of w ≡ Some o
+    → action_of o v ≡ Some (Txn a) → is_numeral t ≡ true → numbered (length s.programs) t ≡ Ok i → line_step s (w ∷ v ∷ t ∷ []) ≡ Ok (record s { choices = s.choices ++ chosen a i ∷ [] })
+choice_taken s w v t o a i e few h f n g =
+    let same : s ≡ record s { stage = stage.Choices } = ap (λ x. record s { stage = x }) e in
+    let taken = ap (λ x. line_step (record s { stage = stage.Choices }) (x ∷ v ∷ t ∷ [])) (actor_ok w o h) ∙ by_actor s o (v ∷ t ∷ []) ∙ choice_read s o v t a i few f n g in
+    subst (λ (x : Seen). line_step x (w ∷ v ∷ t ∷ []) ≡ Ok (record x { choices = x.choices ++ chosen a i ∷ [] })) (sym same) taken
+
+plain_read : (u : Seen) (o : Actor) (v : List ℕ) (c : Choice) → length u.choices < 4096 → action_of o v ≡ Some (Plain c)
+    → choice_line (record u { stage = stage.Choices }) o (v ∷ []) ≡ Ok (record u { stage = stage.Choices; choices = u.choices ++ c ∷ [] })
+plain_read u o v c few f = rw f (one_choice u c few)
+
+pub plain_taken : (s : Seen) (w v : List ℕ) (o : Actor) (c : Choice) → s.stage ≡ stage.Choices → length s.choices < 4096 → actor_of w ≡ Some o
+    → action_of o v ≡ Some (Plain c) → line_step s (w ∷ v ∷ []) ≡ Ok (record s { choices = s.choices ++ c ∷ [] })
+plain_taken s w v o c e few h f =
+    let same : s ≡ record s { stage = stage.Choices } = ap (λ x. record s { stage = x }) e in
+    let taken = ap (λ x. line_step (record s { stage = stage.Choices }) (x ∷ v ∷ [])) (actor_ok w o h) ∙ by_actor s o (v ∷ []) ∙ plain_read s o v c few f in
+    subst (λ (x : Seen). line_step x (w ∷ v ∷ []) ≡ Ok (record x { choices = x.choices ++ c ∷ [] })) (sym same) taken
+
+-- ---- an instruction
+
+by_operation : (u : Seen) (o : Operation) (vs : List (List ℕ)) → line_step (record u { stage = stage.Program }) (op_word o ∷ vs) ≡ instr_line (record u { stage = stage.Program }) o vs
+by_operation u op.Set vs = refl
+by_operation u op.Read vs = refl
+by_operation u op.Write vs = refl
+by_operation u op.Insert vs = refl
+by_operation u op.Add vs = refl
+by_operation u op.Beq vs = refl
+by_operation u op.Commit vs = refl
+by_operation u op.Abort vs = refl
+
+one_instr : (u : Seen) (o : Operation) (vs : List (List ℕ)) (i : Instr) → length u.instrs < 64 → instr_of o vs ≡ Ok (whole i) → instr_line u o vs ≡ Ok (record u { instrs = u.instrs ++ whole i ∷ [] })
+one_instr u o vs i few h = rw (h, not_below (length u.instrs) 64 few) refl
+
+pub instr_taken : (s : Seen) (w v t : List ℕ) (o : Operation) (i : Instr) → s.stage ≡ stage.Program → length s.instrs < 64 → operation_of w ≡ Some o
+    → instr_of o (v ∷ t ∷ []) ≡ Ok (whole i) → line_step s (w ∷ v ∷ t ∷ []) ≡ Ok (record s { instrs = s.instrs ++ whole i ∷ [] })
+instr_taken s w v t o i e few h f =
+    let same : s ≡ record s { stage = stage.Program } = ap (λ x. record s { stage = x }) e in
+    let taken = ap (λ x. line_step (record s { stage = stage.Program }) (x ∷ v ∷ t ∷ [])) (operation_ok w o h) ∙ by_operation s o (v ∷ t ∷ []) ∙ one_instr (record s { stage = stage.Program }) o (v ∷ t ∷ []) i few f in
+    subst (λ (x : Seen). line_step x (w ∷ v ∷ t ∷ []) ≡ Ok (record x { instrs = x.instrs ++ whole i ∷ [] })) (sym same) taken

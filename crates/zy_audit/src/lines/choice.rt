@@ -1,0 +1,42 @@
+//! Choices. Most of them run an instruction, so that the words of those are one piece.
+ghost use Rattle.std.specs.Prelude.{◌++◌, codes};
+ghost use Rattle.zy_isa.specs.Canon.{choice_text};
+
+use std::alloc::AllocError;
+use zy_io::line::{Decimal, Joined, Line};
+use zy_isa::choice::Choice;
+use zy_isa::node::Node;
+
+/// A choice.
+#[derive(Clone, Copy)]
+pub(crate) struct ChoiceText(pub Choice);
+
+impl Line for ChoiceText {
+    ghost text = { λ c. choice_text c.0 };
+
+    #[inline(always)]
+    fn append(&self, line: &mut String) -> Result<(), AllocError> {
+        match self.0 {
+            Choice::Run(Node::A, t) => Joined("A run ", Decimal(t)).append(line),
+            Choice::Run(Node::B, t) => Joined("B run ", Decimal(t)).append(line),
+            choice => choice.append(line),
+        }
+    }
+}
+
+/// A choice behind a space.
+#[derive(Clone, Copy)]
+pub(crate) struct SpacedChoice(pub Choice);
+
+impl Line for SpacedChoice {
+    ghost text = { λ c. codes " " ++ choice_text c.0 };
+
+    #[inline(always)]
+    fn append(&self, line: &mut String) -> Result<(), AllocError> {
+        match self.0 {
+            Choice::Run(Node::A, t) => Joined(" A run ", Decimal(t)).append(line),
+            Choice::Run(Node::B, t) => Joined(" B run ", Decimal(t)).append(line),
+            choice => Joined(" ", choice).append(line),
+        }
+    }
+}

@@ -1,0 +1,12 @@
+use Rattle.zy_check.proofs.LawLemmas.{cut-run, run-table}
+use Rattle.zy_check.proofs.CanonCut.{canon-utf8}
+use Rattle.zy_check.proofs.laws.runs_are_tables.Goals as goal
+
+pub returns-clause-front : goal.returns-clause-front
+returns-clause-front c = cut-run
+
+pub returns-clause-table : goal.returns-clause-table
+returns-clause-table c = run-table
+
+pub returns-clause-text : goal.returns-clause-text
+returns-clause-text c = canon-utf8

@@ -1,0 +1,16 @@
+use Rattle.std.specs.Arc.{arc_value}
+use Rattle.zy_machine.specs.Histories.{History}
+use Rattle.zy_machine.specs.Pasts.{made, ahead}
+use Rattle.zy_machine.specs.Stores.{shown}
+use Rattle.zy_machine.proofs.KnownLemmas.{known-whole, opened, still-known}
+use Rattle.zy_table.specs.Play.{opening}
+use Rattle.std.proofs.Common.{◌++◌}
+use Rattle.zy_machine.proofs.machine.Machine.reopen.Goals as goal
+
+pub invariant_of-result : goal.invariant_of-result
+invariant_of-result c =
+    let m = c.self.inside in
+    let h : History = record { scenario = arc_value m.scenario; state = shown m.store; entries = made m.past } in
+    let r = c.self.invariant.0 in
+    rw (c.in_ok-scenario.ensures, c.in_ok-store.ensures, c.in_ok-past.ensures.made, c.deref.ensures)
+    (opened h.scenario r.tested, still-known h.scenario (opening h.scenario) (h.entries ++ ahead m.past) (ahead c.in_ok-past.past) c.in_ok-past.ensures.ahead (known-whole h (ahead m.past) r c.self.invariant.1))

@@ -1,0 +1,207 @@
+//! What a machine keeps of the steps that were made.
+ghost use Rattle.std.specs.Prelude.{◌≡◌, ◌<◌, ◌⊎◌, ◌++◌, ◌∷◌, [], IfOk, OnOk, OnErr, true, length, slice_get, take, drop, vec_capacity};
+ghost use Rattle.zy_machine.specs.Pasts.{made, ahead, IsReadyFor, Fits};
+ghost use Rattle.zy_machine.specs.Trails.{IsNext};
+
+use std::alloc::{AllocError, Global};
+use std::marker::Model;
+use std::sync::Arc;
+use zy_isa::choice::Choice;
+use zy_table::entry::Entry;
+
+/// The front of a history that other machines have too.
+#[derive(Drop)]
+pub(crate) struct Known {
+    alloc: Global,
+    all: Arc<Vec<Entry>, Global>,
+    len: usize,
+}
+
+impl Model for Known {
+    ghost use Rattle.std.specs.Prelude.{◌≤◌, length, take, drop};
+    ghost use Rattle.std.specs.Arc.{arc_value};
+    ghost use Rattle.zy_machine.specs.Trails.{Trail};
+
+    ghost Value = { Trail };
+
+    ghost view = { λ k. record { made = take k.len (arc_value k.all).items; ahead = drop k.len (arc_value k.all).items } };
+
+    ghost invariant = { λ k. k.len ≤ length (arc_value k.all).items };
+}
+
+impl Known {
+    /// A history that was made to its end.
+    fn whole(alloc: Global, entries: Vec<Entry>) -> Result<Known, AllocError>
+        ensures { IfOk result (λ k. k ≡ record { made = entries.items; ahead = [] }) }
+    {
+        let len = entries.len();
+        let all = Arc::new(alloc, entries)?;
+        Ok(Known { alloc, all, len })
+    }
+
+    /// The same front once more.
+    fn copy(&self) -> Result<Known, AllocError>
+        ensures { IfOk result (λ k. k ≡ self.now) }
+    {
+        let all = Arc::try_clone(&self.all)?;
+        Ok(Known {
+            alloc: self.alloc,
+            all,
+            len: self.len,
+        })
+    }
+
+    /// The same history, of which no step is made yet.
+    fn restart(&self) -> Result<Known, AllocError>
+        ensures { IfOk result (λ k. k ≡ record { made = []; ahead = self.now.made ++ self.now.ahead }) }
+    {
+        let all = Arc::try_clone(&self.all)?;
+        Ok(Known {
+            alloc: self.alloc,
+            all,
+            len: 0,
+        })
+    }
+
+    /// The steps that were made.
+    fn made(&self) -> &[Entry]
+        ensures { result.now ≡ self.entry.now.made }
+    {
+        &self.all[..self.len]
+    }
+
+    /// Whether the next step is known, and is one by this choice.
+    fn goes_on_by(&self, choice: Choice) -> bool
+        ensures { result ≡ true → IsNext choice self.now.ahead }
+    {
+        match self.all.get(self.len) {
+            Some(entry) => entry.choice == choice,
+            None => false,
+        }
+    }
+
+    /// The steps that were made once more, with room for one more.
+    fn own(&self) -> Result<Vec<Entry>, AllocError>
+        ensures items { IfOk result (λ v. v.items ≡ self.now.made) }
+        ensures room { IfOk result (λ v. length v.items < vec_capacity v) }
+    {
+        let made = self.made();
+        let mut entries = Vec::with_capacity(self.alloc, made.len() + 1)?;
+        entries.extend_from_slice(made)?;
+        Ok(entries)
+    }
+
+    /// The next step is made.
+    fn go_on(&mut self)
+        requires { 0 < length self.old.ahead }
+        ensures made { self.new.made ≡ self.old.made ++ take 1 self.old.ahead }
+        ensures ahead { self.new.ahead ≡ drop 1 self.old.ahead }
+    {
+        self.len += 1;
+    }
+}
+
+/// The steps that were made: a history of its own, or a front of one that others share.
+#[derive(Drop)]
+pub(crate) enum Past {
+    Own(Vec<Entry>),
+    Shared(Known),
+}
+
+impl Past {
+    /// No step yet.
+    pub(crate) fn new(alloc: Global) -> Past
+        ensures made { made result ≡ [] }
+        ensures ahead { ahead result ≡ [] }
+    {
+        Past::Own(Vec::new(alloc))
+    }
+
+    /// The same steps once more. Where the history is shared it stays one.
+    pub(crate) fn copy(&self, alloc: Global) -> Result<Past, AllocError>
+        ensures made { IfOk result (λ copy. made copy ≡ made self.now) }
+        ensures ahead { IfOk result (λ copy. ahead copy ≡ ahead self.now) }
+    {
+        match self {
+            Past::Own(entries) => {
+                let mut copy = Vec::with_capacity(alloc, entries.len())?;
+                copy.extend_from_slice(entries)?;
+                Ok(Past::Own(copy))
+            }
+            Past::Shared(known) => Ok(Past::Shared(known.copy()?)),
+        }
+    }
+
+    /// No step yet. Where the history is shared all of it is known.
+    pub(crate) fn restart(&self, alloc: Global) -> Result<Past, AllocError>
+        ensures made { IfOk result (λ past. made past ≡ []) }
+        ensures ahead { IfOk result (λ past. (ahead past ≡ []) ⊎ (ahead past ≡ made self.now ++ ahead self.now)) }
+    {
+        match self {
+            Past::Own(_) => Ok(Past::Own(Vec::new(alloc))),
+            Past::Shared(known) => Ok(Past::Shared(known.restart()?)),
+        }
+    }
+
+    /// The same steps, to be shared by all copies of what they are part of.
+    pub(crate) fn share(self, alloc: Global) -> Result<Past, AllocError>
+        ensures made { IfOk result (λ past. made past ≡ made self) }
+        ensures ahead { IfOk result (λ past. ahead past ≡ ahead self) }
+    {
+        match self {
+            Past::Own(entries) => Ok(Past::Shared(Known::whole(alloc, entries)?)),
+            Past::Shared(known) => Ok(Past::Shared(known)),
+        }
+    }
+
+    /// The steps in order.
+    pub(crate) fn made(&self) -> &[Entry]
+        ensures { result.now ≡ made self.entry.now }
+    {
+        match self {
+            Past::Own(entries) => entries.as_slice(),
+            Past::Shared(known) => known.made(),
+        }
+    }
+
+    /// How many steps were made.
+    pub(crate) fn len(&self) -> usize
+        ensures { result ≡ length (made self.now) }
+    {
+        match self {
+            Past::Own(entries) => entries.len(),
+            Past::Shared(known) => known.len,
+        }
+    }
+
+    /// Makes room for a step by a choice. A history that is not known to go on so is no longer shared.
+    pub(crate) fn make_room(&mut self, choice: Choice) -> Result<(), AllocError>
+        ensures room { OnOk result (IsReadyFor choice self.new) }
+        ensures made { made self.new ≡ made self.old }
+        ensures ahead { (ahead self.new ≡ []) ⊎ (ahead self.new ≡ ahead self.old) }
+    {
+        match self {
+            Past::Own(entries) => entries.reserve(1),
+            Past::Shared(known) => {
+                if known.goes_on_by(choice) {
+                    return Ok(());
+                }
+                let entries = known.own()?;
+                *self = Past::Own(entries);
+                Ok(())
+            }
+        }
+    }
+
+    /// Notes a step.
+    pub(crate) fn push(&mut self, entry: Entry)
+        requires { Fits entry self.old }
+        ensures made { made self.new ≡ made self.old ++ entry ∷ [] }
+        ensures ahead { ahead self.new ≡ drop 1 (ahead self.old) }
+    {
+        match self {
+            Past::Own(entries) => entries.push(entry).unwrap(),
+            Past::Shared(known) => known.go_on(),
+        }
+    }
+}

@@ -1,0 +1,38 @@
+//! The search for a key in rows in key order.
+ghost use Rattle.std.specs.Prelude.{◌≡◌};
+ghost use Rattle.zy_isa.specs.Rows.{Rising, get_row};
+ghost use Rattle.zy_page.specs.Place.{IsPlace, Finds};
+
+use zy_isa::row::Row;
+
+/// How many keys are below `key`.
+pub(crate) fn place(rows: &[Row], key: u16) -> usize
+    requires { Rising 0 rows.now }
+    ensures { IsPlace key rows.now result }
+{
+    rows.partition_point(|row| row.key < key)
+}
+
+/// The index of the row at `key`, or the one where it would stand.
+pub(crate) fn search(rows: &[Row], key: u16) -> Result<usize, usize>
+    requires { Rising 0 rows.now }
+    ensures { Finds key rows.now result }
+{
+    let at = place(rows, key);
+    if at < rows.len() && rows[at].key == key {
+        Ok(at)
+    } else {
+        Err(at)
+    }
+}
+
+/// The value at `key`.
+pub(crate) fn value_at(rows: &[Row], key: u16) -> Option<u32>
+    requires { Rising 0 rows.now }
+    ensures { result ≡ get_row rows.now key }
+{
+    match search(rows, key) {
+        Ok(at) => Some(rows[at].value),
+        Err(_) => None,
+    }
+}
