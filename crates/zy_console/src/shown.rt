@@ -45,8 +45,8 @@ impl Line for LockText {
 
     fn append(&self, line: &mut String) -> Result<(), AllocError> {
         let Lock { page: _, txn, kind } = self.lock;
-        let holder = Joined(Decimal(txn), Joined(":", KindText(kind)));
-        Joined(" ", Joined(self.node, Joined(":", holder))).append(line)
+        let holder = Joined(Decimal(txn), Joined(':', KindText(kind)));
+        Joined(' ', Joined(self.node, Joined(':', holder))).append(line)
     }
 }
 
@@ -124,7 +124,7 @@ fn append_where(machine: &Machine, line: &mut String) -> Result<(), AllocError>
 {
     let a = ModeText(machine.mode(Node::A));
     let b = ModeText(machine.mode(Node::B));
-    let modes = Joined(" modes ", Joined(a, Joined(" ", b)));
+    let modes = Joined(" modes ", Joined(a, Joined(' ', b)));
     let all = Decimal(machine.scenario().choices().len());
     let position = Joined(Decimal(machine.len()), Joined(" of ", Joined(all, modes)));
     Joined("at ", position).append(line)

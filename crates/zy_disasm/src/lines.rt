@@ -16,7 +16,7 @@ impl Line for Number<'_> {
     ghost text = { λ l. number_text l.word.now l.number };
 
     fn append(&self, line: &mut String) -> Result<(), AllocError> {
-        Joined(self.word, Joined(" ", Decimal(self.number))).append(line)
+        Joined(self.word, Joined(' ', Decimal(self.number))).append(line)
     }
 }
 

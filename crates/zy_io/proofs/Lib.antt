@@ -1,2 +1,3 @@
+pub mod DigitLemmas
 pub mod StreamLemmas
 pub mod WritingLemmas

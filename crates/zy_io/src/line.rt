@@ -1,8 +1,10 @@
 //! What has the text of one line or of a part of one, and puts it behind what a `String` holds.
-ghost use Rattle.std.specs.Prelude.{◌++◌, ℕ, List};
+ghost use Rattle.std.specs.Prelude.{◌≡◌, ◌<◌, ◌++◌, ℕ, List};
+ghost use Rattle.std.specs.Char.{encode_utf8};
+ghost use Rattle.std.specs.Fmt.{decimal};
 ghost use Rattle.zy_io.specs.Writing.{Appended};
 
-use itoa::{Buffer, Integer};
+use itoa::Buffer;
 use std::alloc::AllocError;
 
 /// What has the text of one line or of a part of one.
@@ -25,17 +27,105 @@ impl Line for &str {
     }
 }
 
-/// A number, in decimal digits.
-#[derive(Clone, Copy)]
-pub struct Decimal<I>(pub I);
-
-impl<I: Integer> Line for Decimal<I> {
-    ghost text = { λ d. I.text d.0 };
+/// A sign.
+impl Line for char {
+    ghost text = { encode_utf8 };
 
     #[inline(always)]
     fn append(&self, line: &mut String) -> Result<(), AllocError> {
-        line.push_str(Buffer::new().format(self.0))
+        line.push(*self)
     }
+}
+
+/// A whole number that is not below 0, of at most 64 bits.
+pub trait Unsigned: Copy {
+    // The number.
+    ghost number: { Self → ℕ };
+
+    /// The number in 64 bits.
+    fn widened(self) -> u64
+        ensures { result ≡ number self };
+}
+
+impl Unsigned for u8 {
+    ghost number = { λ n. n };
+
+    #[inline(always)]
+    fn widened(self) -> u64 {
+        u64::from(self)
+    }
+}
+
+impl Unsigned for u16 {
+    ghost number = { λ n. n };
+
+    #[inline(always)]
+    fn widened(self) -> u64 {
+        u64::from(self)
+    }
+}
+
+impl Unsigned for u32 {
+    ghost number = { λ n. n };
+
+    #[inline(always)]
+    fn widened(self) -> u64 {
+        u64::from(self)
+    }
+}
+
+impl Unsigned for usize {
+    ghost number = { λ n. n };
+
+    #[inline(always)]
+    fn widened(self) -> u64 {
+        self as u64
+    }
+}
+
+/// A number, in decimal digits.
+#[derive(Clone, Copy)]
+pub struct Decimal<U>(pub U);
+
+impl<U: Unsigned> Line for Decimal<U> {
+    ghost text = { λ d. decimal (U.number d.0) };
+
+    #[inline(always)]
+    fn append(&self, line: &mut String) -> Result<(), AllocError> {
+        append_number(self.0.widened(), line)
+    }
+}
+
+/// The sign of a digit.
+#[inline(always)]
+fn digit(number: u64) -> char
+    requires { number < 10 }
+    ensures { encode_utf8 result ≡ decimal number }
+{
+    char::from(b'0' + number as u8)
+}
+
+/// Puts a number behind what the `String` holds: one of up to four digits by digits, which is what most lines have.
+fn append_number(number: u64, line: &mut String) -> Result<(), AllocError>
+    ensures { Appended result line.old line.new (decimal number) }
+{
+    let last = number % 10;
+    if number < 10 {
+        return digit(last).append(line);
+    }
+    let tens = number / 10 % 10;
+    if number < 100 {
+        return Joined(digit(tens), digit(last)).append(line);
+    }
+    let hundreds = number / 100 % 10;
+    if number < 1000 {
+        return Joined(digit(hundreds), Joined(digit(tens), digit(last))).append(line);
+    }
+    if number < 10000 {
+        let lower = Joined(digit(hundreds), Joined(digit(tens), digit(last)));
+        return Joined(digit(number / 1000), lower).append(line);
+    }
+    line.push_str(Buffer::new().format(number))
 }
 
 /// One text and then another, on one line.

@@ -167,6 +167,7 @@ impl<D: Line> Lines for Each<'_, D> {
         self.0.len()
     }
 
+    #[inline(always)]
     fn append(&self, place: usize, line: &mut String) -> Result<(), AllocError> {
         self.0[place].append(line)
     }

@@ -1,5 +1,6 @@
 //! The text of each node, rule, register, row, instruction and choice.
-ghost use Rattle.std.specs.Prelude.{[], ◌∷◌};
+ghost use Rattle.std.specs.Prelude.{◌≡◌, ◌++◌, [], ◌∷◌};
+ghost use Rattle.std.specs.Char.{encode_utf8};
 ghost use Rattle.zy_isa.specs.Words.{spaced};
 ghost use Rattle.zy_isa.specs.Canon.{node_text, rule_text, reg_text, row_text, instr_text, choice_text};
 
@@ -16,8 +17,8 @@ impl Line for Node {
 
     fn append(&self, line: &mut String) -> Result<(), AllocError> {
         match self {
-            Node::A => "A".append(line),
-            Node::B => "B".append(line),
+            Node::A => 'A'.append(line),
+            Node::B => 'B'.append(line),
         }
     }
 }
@@ -33,20 +34,30 @@ impl Line for Rule {
     }
 }
 
+impl Reg {
+    /// The sign behind its `r`.
+    fn digit(self) -> char
+        ensures { reg_text self ≡ encode_utf8 114 ++ encode_utf8 result }
+    {
+        match self {
+            Reg::R0 => '0',
+            Reg::R1 => '1',
+            Reg::R2 => '2',
+            Reg::R3 => '3',
+            Reg::R4 => '4',
+            Reg::R5 => '5',
+            Reg::R6 => '6',
+            Reg::R7 => '7',
+        }
+    }
+}
+
 impl Line for Reg {
     ghost text = { reg_text };
 
+    #[inline(always)]
     fn append(&self, line: &mut String) -> Result<(), AllocError> {
-        match self {
-            Reg::R0 => "r0".append(line),
-            Reg::R1 => "r1".append(line),
-            Reg::R2 => "r2".append(line),
-            Reg::R3 => "r3".append(line),
-            Reg::R4 => "r4".append(line),
-            Reg::R5 => "r5".append(line),
-            Reg::R6 => "r6".append(line),
-            Reg::R7 => "r7".append(line),
-        }
+        Joined('r', self.digit()).append(line)
     }
 }
 
@@ -56,7 +67,7 @@ impl Line for Row {
     fn append(&self, line: &mut String) -> Result<(), AllocError> {
         Joined(
             "row ",
-            Joined(Decimal(self.key), Joined(" ", Decimal(self.value))),
+            Joined(Decimal(self.key), Joined(' ', Decimal(self.value))),
         )
         .append(line)
     }
@@ -69,8 +80,9 @@ struct Pair(Reg, Reg);
 impl Line for Pair {
     ghost text = { λ p. spaced (reg_text p.0 ∷ reg_text p.1 ∷ []) };
 
+    #[inline(always)]
     fn append(&self, line: &mut String) -> Result<(), AllocError> {
-        Joined(self.0, Joined(" ", self.1)).append(line)
+        Joined(self.0, Joined(' ', self.1)).append(line)
     }
 }
 
@@ -81,7 +93,7 @@ impl Line for Instr {
         match self {
             Instr::Set(a, number) => Joined(
                 "set ",
-                Joined(*a, Joined(" ", Decimal(*number))),
+                Joined(*a, Joined(' ', Decimal(*number))),
             ).append(line),
             Instr::Read(a, b) => Joined("read ", Pair(*a, *b)).append(line),
             Instr::Write(a, b) => Joined("write ", Pair(*a, *b)).append(line),

@@ -36,7 +36,7 @@ impl Line for SpacedChoice {
         match self.0 {
             Choice::Run(Node::A, t) => Joined(" A run ", Decimal(t)).append(line),
             Choice::Run(Node::B, t) => Joined(" B run ", Decimal(t)).append(line),
-            choice => Joined(" ", choice).append(line),
+            choice => Joined(' ', choice).append(line),
         }
     }
 }

@@ -18,6 +18,6 @@ impl Line for ModeLine {
     ghost text = { λ l. mode_text l.node l.mode };
 
     fn append(&self, line: &mut String) -> Result<(), AllocError> {
-        Joined("mode ", Joined(self.node, Joined(" ", ModeText(self.mode)))).append(line)
+        Joined("mode ", Joined(self.node, Joined(' ', ModeText(self.mode)))).append(line)
     }
 }

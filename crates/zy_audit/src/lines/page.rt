@@ -31,7 +31,7 @@ impl Line for PageLine<'_> {
         let (number, low) = (self.page.number(), self.page.low());
         let rows = Joined(" rows", Rows(self.page.rows()));
         let contents = Joined(" low ", Joined(Decimal(low), rows));
-        let place = Joined(" ", Joined(PlaceText(self.place), contents));
+        let place = Joined(' ', Joined(PlaceText(self.place), contents));
         Joined("page ", Joined(Decimal(number), place)).append(line)
     }
 }

@@ -1,5 +1,5 @@
 //! Rows and registers, as they stand at the end of a line.
-ghost use Rattle.zy_audit.specs.Texts.{cell_text, regs_text, rows_text};
+ghost use Rattle.zy_audit.specs.Texts.{cell_text, reg_text, regs_text, rows_text};
 
 use std::alloc::AllocError;
 use zy_io::line::{Decimal, Joined, Line};
@@ -12,9 +12,10 @@ struct Cell(Row);
 impl Line for Cell {
     ghost text = { λ c. cell_text c.0 };
 
+    #[inline(always)]
     fn append(&self, line: &mut String) -> Result<(), AllocError> {
         let Row { key, value } = self.0;
-        Joined(" ", Joined(Decimal(key), Joined("=", Decimal(value)))).append(line)
+        Joined(' ', Joined(Decimal(key), Joined('=', Decimal(value)))).append(line)
     }
 }
 
@@ -33,6 +34,19 @@ impl Line for Rows<'_> {
     }
 }
 
+/// The value of a register.
+#[derive(Clone, Copy)]
+struct Value(u32);
+
+impl Line for Value {
+    ghost text = { λ v. reg_text v.0 };
+
+    #[inline(always)]
+    fn append(&self, line: &mut String) -> Result<(), AllocError> {
+        Joined(' ', Decimal(self.0)).append(line)
+    }
+}
+
 /// Registers.
 #[derive(Clone, Copy)]
 pub(crate) struct Regs<'a>(pub &'a [u32]);
@@ -42,7 +56,7 @@ impl Line for Regs<'_> {
 
     fn append(&self, line: &mut String) -> Result<(), AllocError> {
         for value in self.0 {
-            Joined(" ", Decimal(*value)).append(line)?;
+            Value(*value).append(line)?;
         }
         Ok(())
     }

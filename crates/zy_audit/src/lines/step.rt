@@ -27,8 +27,8 @@ impl Line for SplitText {
     ghost text = { λ s. outcome_text (outcome.Split s.page s.new_page s.boundary) };
 
     fn append(&self, line: &mut String) -> Result<(), AllocError> {
-        let upper = Joined(Decimal(self.new_page), Joined(" ", Decimal(self.boundary)));
-        Joined("split ", Joined(Decimal(self.page), Joined(" ", upper))).append(line)
+        let upper = Joined(Decimal(self.new_page), Joined(' ', Decimal(self.boundary)));
+        Joined("split ", Joined(Decimal(self.page), Joined(' ', upper))).append(line)
     }
 }
 
@@ -110,7 +110,7 @@ impl Line for SentText {
     #[inline(always)]
     fn append(&self, line: &mut String) -> Result<(), AllocError> {
         match self.0 {
-            None => "".append(line),
+            None => Ok(()),
             Some(kind) => Joined(" ! ", KindText(kind)).append(line),
         }
     }
@@ -149,6 +149,7 @@ impl Lines for Steps<'_> {
         self.0.len()
     }
 
+    #[inline(always)]
     fn append(&self, place: usize, line: &mut String) -> Result<(), AllocError> {
         let number = place + 1;
         let entry = &self.0[place];

@@ -22,6 +22,7 @@ impl Lines for Taken<'_> {
         self.0.len()
     }
 
+    #[inline(always)]
     fn append(&self, place: usize, line: &mut String) -> Result<(), AllocError> {
         ChoiceText(self.0[place].choice).append(line)
     }

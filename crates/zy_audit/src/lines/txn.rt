@@ -77,7 +77,7 @@ impl Line for CommittedText<'_> {
     ghost text = { λ c. committed_text c.txn.now c.place };
 
     fn append(&self, line: &mut String) -> Result<(), AllocError> {
-        let place = Joined(" ", Joined(Decimal(self.place), DoneText(self.txn)));
+        let place = Joined(' ', Joined(Decimal(self.place), DoneText(self.txn)));
         Joined(" committed ", Joined(self.txn.node(), place)).append(line)
     }
 }
@@ -93,7 +93,7 @@ impl Line for AbortedText<'_> {
     ghost text = { λ a. aborted_text a.txn.now a.why };
 
     fn append(&self, line: &mut String) -> Result<(), AllocError> {
-        let why = Joined(" ", Joined(WhyText(self.why), DoneText(self.txn)));
+        let why = Joined(' ', Joined(WhyText(self.why), DoneText(self.txn)));
         Joined(" aborted ", Joined(self.txn.node(), why)).append(line)
     }
 }
