@@ -175,6 +175,7 @@ impl Past {
     }
 
     /// Makes room for a step by a choice. A history that is not known to go on so is no longer shared.
+    #[inline(always)]
     pub(crate) fn make_room(&mut self, choice: Choice) -> Result<(), AllocError>
         ensures room { OnOk result (IsReadyFor choice self.new) }
         ensures made { made self.new ≡ made self.old }
@@ -194,6 +195,7 @@ impl Past {
     }
 
     /// Notes a step.
+    #[inline(always)]
     pub(crate) fn push(&mut self, entry: Entry)
         requires { Fits entry self.old }
         ensures made { made self.new ≡ made self.old ++ entry ∷ [] }

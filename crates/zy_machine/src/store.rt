@@ -119,6 +119,7 @@ impl Store {
     }
 
     /// The step that a choice makes.
+    #[inline(always)]
     pub(crate) fn step(&mut self, scenario: &Scenario, choice: Choice) -> Result<Answer, AllocError>
         requires { IsPossible scenario.now choice self.old }
         ensures { Steps self.old self.new result (step_spec scenario.now choice (shown self.old)) }

@@ -115,7 +115,8 @@ impl RowList {
     pub fn copy(&self, alloc: Global) -> Result<RowList, AllocError>
         ensures { IfOk result (λ copy. copy.rows ≡ self.now.rows) }
     {
-        let rows = self.rows.to_vec(alloc)?;
+        let mut rows = Vec::with_capacity(alloc, self.len())?;
+        rows.extend_from_slice(&self.rows)?;
         Ok(RowList { rows })
     }
 }
