@@ -20,7 +20,7 @@ use zy_isa::node::Node;
 use zy_isa::scenario::Scenario;
 use zy_links::kind::Kind;
 use zy_locks::lock::LockKind;
-use zy_node::node_store::{NodeStore, gone_page, new_rows};
+use zy_node::node_store::{NodeStore, fewer_new_rows, gone_page};
 use zy_table::access::Access;
 use zy_table::answer::Answer;
 use zy_table::outcome::{Outcome, Why};
@@ -367,7 +367,7 @@ fn has_room(scenario: &Scenario, me: &NodeStore, txn: &Txn, p: u16) -> bool
 {
     let free = usize::from(scenario.cap()).saturating_sub(me.page_len(p));
     let rows = txn.rows();
-    rows.len() < free || new_rows(me, p, rows) < free
+    rows.len() < free || fewer_new_rows(me, p, rows, free)
 }
 
 /// The key at which a full page is split for an insert: that at index `(cap + 1) / 2` among the keys of the page,
