@@ -1,3 +1,4 @@
 pub mod Rising
 pub mod Added
 pub mod PageRun
+pub mod Agreeing

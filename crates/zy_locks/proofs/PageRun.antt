@@ -6,9 +6,8 @@ use Rattle.std.proofs.lemmas.List.{get_or-drop, length-drop}
 use Rattle.std.proofs.Math.Bool.{or-true}
 use Rattle.std.specs.List.{list_any}
 use Rattle.zy_locks.specs.declared.lock.Lock.{Lock}
-use Rattle.zy_locks.specs.declared.lock.LockKind.{LockKind}
 use Rattle.zy_locks.specs.Order.{comes_before, LocksBehind, LocksRise, IsPlace}
-use Rattle.zy_locks.specs.Locks.{clashes, is_locked}
+use Rattle.zy_locks.specs.Locks.{is_locked}
 use Rattle.zy_locks.proofs.Rising.{behind_rise, place_rest, front_before}
 
 -- a test that only locks on p pass
@@ -76,6 +75,3 @@ is_locked_at p i x xs h at lt e =
 
 pub is_locked_past : (p i : ℕ) (d : Lock) (xs : List Lock) → LocksRise xs → IsPlace p 0 xs i → length xs ≤ i → is_locked xs p ≡ false
 is_locked_past p i d xs h at le = none_on_page p i 0 (λ (y : Lock). eqb y.page p) d xs (drop i xs) (λ y no. ne_eqb y.page p no) h at refl (λ k e lt. absurd (omega arith)) (λ lt f. absurd (omega (arith, length-drop i xs)))
-
-pub clashes_only : (p t : ℕ) (kind : LockKind) → OnlyOn p (clashes p t kind)
-clashes_only p t kind = λ x ne. rw (ne_eqb x.page p ne) refl

@@ -34,7 +34,7 @@ lock p t kind = record { page = p; txn = t; kind = kind }
 goes_in_front : (p t : ℕ) (kind : LockKind) (x : Lock) → goes_before p t x ≡ true → comes_before (lock p t kind) x.page x.txn ≡ true
 goes_in_front p t kind x h = grind (arith, nat_tests, h)
 
-behind_at : (z : Lock) (i : ℕ) (d : Lock) (xs : List Lock) → LocksBehind z xs → i < length xs → comes_before z (get_or xs i d).page (get_or xs i d).txn ≡ true
+pub behind_at : (z : Lock) (i : ℕ) (d : Lock) (xs : List Lock) → LocksBehind z xs → i < length xs → comes_before z (get_or xs i d).page (get_or xs i d).txn ≡ true
 behind_at z i d [] h lt = absurd (omega arith)
 behind_at z zero d (x ∷ xs) h lt = h.0
 behind_at z (suc i) d (x ∷ xs) h lt =

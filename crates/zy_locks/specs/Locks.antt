@@ -1,5 +1,5 @@
 -- The locks of one node as a list, in order of page and then transaction.
-use Rattle.std.specs.Prelude.{ℕ, ◌==◌, nat_lt, List, [], ◌∷◌, Bool, true, false, ◌&&◌, ◌||◌, not, if◌then◌else◌, filter}
+use Rattle.std.specs.Prelude.{◌≡◌, ℕ, ◌==◌, nat_lt, List, [], ◌∷◌, Bool, true, false, ◌&&◌, ◌||◌, not, if◌then◌else◌, filter}
 use Rattle.std.specs.List.{list_any}
 use Rattle.zy_locks.specs.declared.lock.Lock.{Lock}
 use Rattle.zy_locks.specs.declared.lock.LockKind.{LockKind}
@@ -35,3 +35,8 @@ add_lock p t kind (x ∷ xs) =
 -- the locks of the others
 abbrev pub drop_locks : ℕ → List Lock → List Lock
 drop_locks t xs = filter (λ (x : Lock). not (x.txn == t)) xs
+
+-- no lock is in the way of one in front of it: two on one page are both shared
+abbrev pub LocksAgree : List Lock → Type 0
+LocksAgree [] = Unit {0}
+LocksAgree (x ∷ xs) = (conflict xs x.page x.txn x.kind ≡ false) × LocksAgree xs

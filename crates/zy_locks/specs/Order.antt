@@ -1,7 +1,9 @@
 -- The order of locks: by page, then by transaction.
-use Rattle.std.specs.Prelude.{◌≡◌, ℕ, ◌==◌, nat_lt, ◌<◌, ◌≤◌, Bool, true, false, ◌&&◌, ◌||◌, List, [], ◌∷◌, length, slice_index_or, Result, Ok, Err}
+use Rattle.std.specs.Prelude.{◌≡◌, ℕ, ◌==◌, nat_lt, ◌≤◌, Bool, true, false, ◌&&◌, ◌||◌, List, [], ◌∷◌, length, Option, None, Some}
 use Rattle.std.specs.List.{AllWithin}
 use Rattle.zy_locks.specs.declared.lock.Lock.{Lock}
+use Rattle.zy_locks.specs.declared.lock.LockKind.{LockKind}
+use Rattle.zy_locks.specs.Locks.{conflict}
 
 -- whether a lock comes before t's lock on p: its page is lower, or it is on p and its transaction is lower
 abbrev pub comes_before : Lock → ℕ → ℕ → Bool
@@ -25,7 +27,7 @@ LocksRise (x ∷ xs) = LocksBehind x xs
 abbrev pub IsPlace : ℕ → ℕ → List Lock → ℕ → Type 0
 IsPlace p t xs i = (i ≤ length xs) × AllWithin (λ x. comes_before x p t ≡ true) xs 0 i × AllWithin (λ x. comes_before x p t ≡ false) xs i (length xs)
 
--- the index of t's lock on p, or the one where it would stand
-abbrev pub Finds : ℕ → ℕ → List Lock → Result ℕ ℕ → Type 0
-Finds p t xs (Ok i) = IsPlace p t xs i × (i < length xs) × ((d : Lock) → is_held_by (slice_index_or xs i d) p t ≡ true)
-Finds p t xs (Err i) = IsPlace p t xs i × ((d : Lock) → i < length xs → is_held_by (slice_index_or xs i d) p t ≡ false)
+-- where t's lock on p stands or would stand, if no other's lock is in the way of it
+abbrev pub IsFreePlace : ℕ → ℕ → LockKind → List Lock → Option ℕ → Type 0
+IsFreePlace p t kind xs None = conflict xs p t kind ≡ true
+IsFreePlace p t kind xs (Some i) = (conflict xs p t kind ≡ false) × IsPlace p t xs i

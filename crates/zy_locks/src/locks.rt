@@ -1,7 +1,7 @@
 //! The locks of one node.
 ghost use Rattle.std.specs.Prelude.{◌≡◌, ◌==◌, ◌+◌, ◌<◌, ◌≤◌, IfOk, OnOk, OnErr, IsOk, false, [], length, slice_index_or};
 ghost use Rattle.zy_locks.specs.Locks.{add_lock, is_shared as is_shared_spec, stronger as stronger_spec, clashes as clashes_spec, conflict, is_locked, drop_locks};
-ghost use Rattle.zy_locks.specs.Order.{comes_before as comes_before_spec, is_held_by as is_held_by_spec, LocksRise, IsPlace, Finds};
+ghost use Rattle.zy_locks.specs.Order.{comes_before as comes_before_spec, is_held_by as is_held_by_spec, LocksRise, IsPlace, IsFreePlace};
 
 use crate::lock::{Lock, LockKind};
 use std::alloc::{AllocError, Global};
@@ -17,13 +17,14 @@ impl Model for Locks {
     ghost use Rattle.std.specs.Prelude.{◌-◌, length};
     ghost use Rattle.std.specs.Vec.{vec_capacity};
     ghost use Rattle.zy_locks.specs.LockTable.{LockTable};
+    ghost use Rattle.zy_locks.specs.Locks.{LocksAgree};
     ghost use Rattle.zy_locks.specs.Order.{LocksRise};
 
     ghost Value = { LockTable };
 
     ghost view = { λ a. record { locks = a.locks.items; spare = vec_capacity a.locks - length a.locks.items } };
 
-    ghost invariant = { λ a. LocksRise a.locks.items };
+    ghost invariant = { λ a. LocksRise a.locks.items × LocksAgree a.locks.items };
 }
 
 impl Locks {
@@ -85,20 +86,18 @@ impl Locks {
         at < self.len() && self.locks[at].page == page
     }
 
-    /// Whether another's lock keeps `txn` from locking the page.
-    pub fn conflicts(&self, page: u16, txn: u8, kind: LockKind) -> bool
-        ensures { result ≡ conflict self.now.locks page txn kind }
+    /// Where `txn`'s lock on the page stands or would stand; none where another's lock is in the way.
+    pub fn free_place(&self, page: u16, txn: u8, kind: LockKind) -> Option<usize>
+        ensures { IsFreePlace page txn kind self.now.locks result }
     {
-        let start = place(&self.locks, page, 0);
-        for lock in &self.locks[start..] {
-            if lock.page != page {
-                return false;
-            }
-            if clashes(lock, page, txn, kind) {
-                return true;
-            }
+        let at = place(&self.locks, page, txn);
+        // Others' locks on the page agree with each other, so that those beside the place tell.
+        let near = &self.locks[at.saturating_sub(1)..self.len().min(at + 2)];
+        if any_clashes(near, page, txn, kind) {
+            None
+        } else {
+            Some(at)
         }
-        false
     }
 
     /// Locks the page for `txn`, or makes the lock that it has stronger, where nothing is in the way and there is room. It
@@ -109,9 +108,22 @@ impl Locks {
         ensures locks { self.new.locks ≡ add_lock page txn kind self.old.locks }
         ensures room { self.old.spare ≤ self.new.spare + 1 }
     {
-        match search(&self.locks, page, txn) {
-            Ok(at) => self.locks[at].kind = stronger(self.locks[at].kind, kind),
-            Err(at) => self.locks.insert(at, Lock { page, txn, kind }).unwrap(),
+        let at = place(&self.locks, page, txn);
+        self.put_at(at, page, txn, kind);
+    }
+
+    /// The same, at the place of the lock.
+    pub fn put_at(&mut self, at: usize, page: u16, txn: u8, kind: LockKind)
+        requires place { IsPlace page txn self.old.locks at }
+        requires free { conflict self.old.locks page txn kind ≡ false }
+        requires room { 1 ≤ self.old.spare }
+        ensures locks { self.new.locks ≡ add_lock page txn kind self.old.locks }
+        ensures room { self.old.spare ≤ self.new.spare + 1 }
+    {
+        if at < self.len() && is_held_by(&self.locks[at], page, txn) {
+            self.locks[at].kind = stronger(self.locks[at].kind, kind);
+        } else {
+            self.locks.insert(at, Lock { page, txn, kind }).unwrap();
         }
     }
 
@@ -137,7 +149,7 @@ impl Locks {
 fn comes_before(lock: &Lock, page: u16, txn: u8) -> bool
     ensures { result ≡ comes_before_spec lock.now page txn }
 {
-    (lock.page, lock.txn) < (page, txn)
+    lock.page < page || (lock.page == page && lock.txn < txn)
 }
 
 /// Whether it is `txn`'s lock on the page.
@@ -155,24 +167,18 @@ fn place(locks: &[Lock], page: u16, txn: u8) -> usize
     locks.partition_point(|lock| comes_before(lock, page, txn))
 }
 
-/// The index of `txn`'s lock on the page, or the one where it would stand.
-fn search(locks: &[Lock], page: u16, txn: u8) -> Result<usize, usize>
-    requires { LocksRise locks.now }
-    ensures { Finds page txn locks.now result }
-{
-    let at = place(locks, page, txn);
-    if at < locks.len() && is_held_by(&locks[at], page, txn) {
-        Ok(at)
-    } else {
-        Err(at)
-    }
-}
-
 /// Whether a lock keeps `txn` from locking the page.
 fn clashes(lock: &Lock, page: u16, txn: u8, kind: LockKind) -> bool
     ensures { result ≡ clashes_spec page txn kind lock.now }
 {
     lock.page == page && lock.txn != txn && !(is_shared(lock.kind) && is_shared(kind))
+}
+
+/// Whether one of some locks does.
+fn any_clashes(locks: &[Lock], page: u16, txn: u8, kind: LockKind) -> bool
+    ensures { result ≡ conflict locks.now page txn kind }
+{
+    locks.iter().any(|lock| clashes(lock, page, txn, kind))
 }
 
 fn is_shared(kind: LockKind) -> bool

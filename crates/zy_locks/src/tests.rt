@@ -36,11 +36,21 @@ const ASKS: [(u16, u8, LockKind, bool); 6] = [
 /// A lock where nothing is in the way.
 fn locks_page(locks: &mut Locks, page: u16, txn: u8, kind: LockKind) -> Result<bool, AllocError> {
     locks.reserve(1)?;
-    let free = !locks.conflicts(page, txn, kind);
-    if free {
-        locks.lock(page, txn, kind);
-    }
-    Ok(free)
+    let Some(at) = locks.free_place(page, txn, kind) else {
+        return Ok(false);
+    };
+    locks.put_at(at, page, txn, kind);
+    Ok(true)
+}
+
+/// The same, where the call finds the place itself.
+fn locks_anew(locks: &mut Locks, page: u16, txn: u8, kind: LockKind) -> Result<bool, AllocError> {
+    locks.reserve(1)?;
+    let Some(_) = locks.free_place(page, txn, kind) else {
+        return Ok(false);
+    };
+    locks.lock(page, txn, kind);
+    Ok(true)
 }
 
 /// How many locks a copy has.
@@ -62,7 +72,7 @@ fn readers_share_and_writers_do_not(rt: HostRuntime) -> Result<(), AllocError> {
     assert!(rt; copied_locks(rt.alloc(), &locks) == Ok(3));
     locks.release_all(1);
     assert!(rt; locks.len() == 1 && locks.lock_at(0) == LOCKS[0]);
-    assert!(rt; locks_page(&mut locks, 9, 0, LockKind::Shared) == Ok(true));
+    assert!(rt; locks_anew(&mut locks, 9, 0, LockKind::Shared) == Ok(true));
     assert!(rt; locks.len() == 2 && !locks.is_empty());
     Ok(())
 }

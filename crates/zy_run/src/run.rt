@@ -20,7 +20,7 @@ use zy_isa::node::Node;
 use zy_isa::scenario::Scenario;
 use zy_links::kind::Kind;
 use zy_locks::lock::LockKind;
-use zy_node::node_store::{NodeStore, gone_page, new_rows};
+use zy_node::node_store::{NodeStore, fewer_new_rows, gone_page};
 use zy_table::access::Access;
 use zy_table::answer::Answer;
 use zy_table::outcome::{Outcome, Why};
@@ -189,13 +189,21 @@ fn absent_row(me: &mut NodeStore, book: &mut Book, t: u8, p: u16) -> Result<Answ
 
 /// `read` on a page that is free for it.
 #[tactic(auto, unfolding(zy_table::specs::Run::read_row, zy_table::specs::Change::locked, zy_table::specs::Change::did, zy_table::specs::Change::txn_at))]
-fn read_row(me: &mut NodeStore, book: &mut Book, t: u8, r: Reg, key: u16, p: u16) -> Answer
+fn read_row(
+    me: &mut NodeStore,
+    book: &mut Book,
+    t: u8,
+    r: Reg,
+    key: u16,
+    p: u16,
+    at: usize,
+) -> Answer
     requires counts { Countable t book.old }
-    requires free { IsFree p t Shared me.old }
+    requires free { IsFree at p t Shared me.old }
     ensures { (v : View) → made result (here me.new book.new v) ≡ read_row_spec t r key p (locked t p Shared (here me.old book.old v)) }
 {
     let value = value(me, book.txn(t), key, p);
-    me.lock(p, t, LockKind::Shared);
+    me.lock_at(at, p, t, LockKind::Shared);
     book.set(t, r, value);
     Answer::quiet(Outcome::Did)
 }
@@ -209,16 +217,17 @@ fn write_row(
     key: u16,
     value: u32,
     p: u16,
+    at: usize,
 ) -> Result<Answer, AllocError>
     requires counts { Countable t book.old }
-    requires free { IsFree p t Exclusive me.old }
+    requires free { IsFree at p t Exclusive me.old }
     ensures { Runs me.old book.old me.new book.new result (λ v. write_row_spec t key value p (locked t p Exclusive v)) }
 {
     if !is_there(me, book.txn(t), key, p) {
         return Ok(abort_row(me, book, t, Why::Missing));
     }
     book.put(t, key, value)?;
-    me.lock(p, t, LockKind::Exclusive);
+    me.lock_at(at, p, t, LockKind::Exclusive);
     Ok(Answer::quiet(Outcome::Did))
 }
 
@@ -233,11 +242,12 @@ fn insert_row(
     key: u16,
     value: u32,
     p: u16,
+    at: usize,
 ) -> Result<Answer, AllocError>
     requires counts { Countable t book.old }
     requires splits { MaySplit scenario.now (node_shown me.old) (txn_in t book.old) }
     requires on { p ≡ page_of_spec me.old.wire.lows key }
-    requires free { IsFree p t Exclusive me.old }
+    requires free { IsFree at p t Exclusive me.old }
     requires owned { owns me.old.pages p ≡ true }
     ensures { Runs me.old book.old me.new book.new result (λ v. insert_row_spec scenario.now t key value p (locked t p Exclusive v)) }
 {
@@ -245,10 +255,10 @@ fn insert_row(
         return Ok(abort_row(me, book, t, Why::Duplicate));
     }
     if !has_room(scenario, me, book.txn(t), p) {
-        return full_row(scenario, alloc, me, book, t, key, p);
+        return full_row(scenario, alloc, me, book, t, key, p, at);
     }
     book.put(t, key, value)?;
-    me.lock(p, t, LockKind::Exclusive);
+    me.lock_at(at, p, t, LockKind::Exclusive);
     Ok(Answer::quiet(Outcome::Did))
 }
 
@@ -262,8 +272,9 @@ fn full_row(
     t: u8,
     key: u16,
     p: u16,
+    at: usize,
 ) -> Result<Answer, AllocError>
-    requires { IsFull scenario.now t key p me.old book.old }
+    requires { IsFull scenario.now t key p at me.old book.old }
     ensures { Runs me.old book.old me.new book.new result (λ v. full_row_spec scenario.now t key p (locked t p Exclusive v)) }
 {
     if !me.mode.may_split() {
@@ -272,7 +283,7 @@ fn full_row(
     if me.wire.len() >= usize::from(scenario.pages()) {
         return Ok(abort_row(me, book, t, Why::NoPage));
     }
-    split_row(scenario, alloc, me, book, t, key, p)
+    split_row(scenario, alloc, me, book, t, key, p, at)
 }
 
 /// A full page that is free for it is cut.
@@ -284,15 +295,16 @@ fn split_row(
     t: u8,
     key: u16,
     p: u16,
+    at: usize,
 ) -> Result<Answer, AllocError>
-    requires full { IsFull scenario.now t key p me.old book.now }
+    requires full { IsFull scenario.now t key p at me.old book.now }
     requires normal { may_split me.old.mode ≡ true }
     requires more { length me.old.wire.lows < scenario.now.pages }
     ensures { Runs me.old book.now me.new book.now result (λ v. split_row_spec scenario.now t key p (locked t p Exclusive v)) }
 {
     let new_page = me.wire.len() as u16;
     let boundary = boundary(scenario, alloc, me, book.txn(t), p, key)?;
-    me.cut(t, p, boundary)?;
+    me.cut(t, p, at, boundary)?;
     Ok(Answer::quiet(Outcome::Split {
         page: p,
         new_page,
@@ -300,7 +312,7 @@ fn split_row(
     }))
 }
 
-/// The page: not here, or another's lock is in the way, or the lock is to be taken.
+/// The page: not here, or another's lock is in the way, or the lock is to be taken, at the place that was found for it.
 #[tactic(auto, unfolding(zy_table::specs::Run::page_row, zy_table::specs::Run::access_row))]
 fn page_row(
     scenario: &Scenario,
@@ -321,14 +333,14 @@ fn page_row(
     if !me.pages.owns(p) {
         return absent_row(me, book, t, p);
     }
-    if me.locks.conflicts(p, t, access.lock()) {
+    let Some(at) = me.locks.free_place(p, t, access.lock()) else {
         return Ok(Answer::quiet(Outcome::Waits(p)));
-    }
+    };
     me.reserve_lock()?;
     match access {
-        Access::Reads(r) => Ok(read_row(me, book, t, r, key, p)),
-        Access::Writes(value) => write_row(me, book, t, key, value, p),
-        Access::Inserts(value) => insert_row(scenario, alloc, me, book, t, key, value, p),
+        Access::Reads(r) => Ok(read_row(me, book, t, r, key, p, at)),
+        Access::Writes(value) => write_row(me, book, t, key, value, p, at),
+        Access::Inserts(value) => insert_row(scenario, alloc, me, book, t, key, value, p, at),
     }
 }
 
@@ -355,7 +367,7 @@ fn has_room(scenario: &Scenario, me: &NodeStore, txn: &Txn, p: u16) -> bool
 {
     let free = usize::from(scenario.cap()).saturating_sub(me.page_len(p));
     let rows = txn.rows();
-    rows.len() < free || new_rows(me, p, rows) < free
+    rows.len() < free || fewer_new_rows(me, p, rows, free)
 }
 
 /// The key at which a full page is split for an insert: that at index `(cap + 1) / 2` among the keys of the page,

@@ -7,9 +7,9 @@ use Rattle.zy_run.proofs.run.split_row.Goals as goal
 pub boundary-requires : goal.boundary-requires
 boundary-requires c = rw c.txn.ensures c.requires.full.full
 
-pub cut-requires : goal.cut-requires
-cut-requires c =
-    cuttable c.args.scenario.now c.args.t c.args.key c.args.p c.in_ok-boundary.boundary c.args.me.now c.args.book.now c.requires.full c.requires.normal c.requires.more
+pub cut-requires-clause-cuttable : goal.cut-requires-clause-cuttable
+cut-requires-clause-cuttable c =
+    cuttable c.args.scenario.now c.args.t c.args.key c.args.p c.args.at c.in_ok-boundary.boundary c.args.me.now c.args.book.now c.requires.full c.requires.normal c.requires.more
     (rw c.txn.ensures at c.in_ok-boundary.ensures)
 
 pub returns : goal.returns
