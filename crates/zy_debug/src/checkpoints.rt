@@ -1,112 +1,113 @@
 //! Machines that are kept as they were at some positions.
-ghost use Rattle.std.specs.Prelude.{◌≡◌, ◌≤◌, ℕ, [], IfOk, IfSome, OnOk, OnErr, Some, length, slice_get};
+ghost use Rattle.std.specs.Prelude.{◌≡◌, ◌≤◌, ◌+◌, [], ◌⊎◌, IfOk, IfSome, OnOk, length, option_copied};
 ghost use Rattle.zy_isa.specs.Scenario.{Scenario as AScenario};
-ghost use Rattle.zy_machine.specs.Histories.{History};
-ghost use Rattle.zy_scan.specs.Scans.{Follows};
-ghost use Rattle.zy_debug.specs.Checkpoints.{AreReplaysOf, IsReplayOf, is_due, is_kept, noted};
+ghost use Rattle.zy_debug.specs.Checkpoints.{HoldReplaysOf, IsBelow, IsReplayOf};
 
-use circular_buffer::HeapCircularBuffer;
+use crate::copies::Copies;
+use crate::shelf::Shelf;
 use std::alloc::{AllocError, Global};
 use std::marker::Model;
 use zy_machine::machine::Machine;
-use zy_scan::replay::advance;
+use zy_scan::replay::advance_to;
 
-/// Copies of machines at multiples of a number: the last ones that were noted.
+/// Copies of machines that are spread over the scenario, the last ones that were passed, and those close to where a replay ended.
 #[derive(Drop)]
 pub(crate) struct Checkpoints {
-    every: usize,
-    ring: HeapCircularBuffer<Machine>,
+    copies: Copies,
+    spread: Shelf,
+    passed: Shelf,
+    close: Shelf,
 }
 
 impl Model for Checkpoints {
-    ghost use Rattle.std.specs.Prelude.{◌≤◌};
-    ghost use Rattle.zy_debug.specs.Checkpoints.{Kept};
+    ghost use Rattle.zy_debug.specs.Checkpoints.{Shelves};
 
-    ghost Value = { Kept };
+    ghost Value = { Shelves };
 
-    ghost view = { λ c. record { every = c.every; room = c.ring.capacity; machines = c.ring.items } };
+    ghost view = { λ c. record { spread = c.spread; passed = c.passed; close = c.close } };
+}
 
-    ghost invariant = { λ c. 1 ≤ c.every };
+/// That of two machines which has made more choices.
+pub(crate) fn farther<'a>(x: Option<&'a Machine>, y: Option<&'a Machine>) -> Option<&'a Machine>
+    ensures { (option_copied result ≡ option_copied x.entry) ⊎ (option_copied result ≡ option_copied y.entry) }
+{
+    match (x, y) {
+        (Some(a), Some(b)) if a.len() < b.len() => y,
+        (None, _) => y,
+        _ => x,
+    }
 }
 
 impl Checkpoints {
     /// None yet, and room for so many.
-    pub fn new(alloc: Global, every: usize, room: usize) -> Result<Checkpoints, AllocError>
-        requires { 1 ≤ every }
-        ensures { IfOk result (λ c. c ≡ record { every = every; room = room; machines = [] }) }
+    pub fn new(alloc: Global, copies: Copies) -> Result<Checkpoints, AllocError>
+        ensures room { IfOk result (λ c. c.spread.room + c.passed.room + c.close.room ≡ copies.spread + copies.passed + copies.close) }
+        ensures none { (sc : AScenario) → IfOk result (HoldReplaysOf sc) }
     {
-        let ring = HeapCircularBuffer::with_capacity(alloc, room)?;
-        Ok(Checkpoints { every, ring })
+        Ok(Checkpoints {
+            copies,
+            spread: Shelf::new(alloc, copies.spread)?,
+            passed: Shelf::new(alloc, copies.passed)?,
+            close: Shelf::new(alloc, copies.close)?,
+        })
     }
 
-    /// Whether a machine at this position is kept.
-    fn is_kept(&self, position: usize) -> bool
-        ensures { result ≡ is_kept self.now position }
+    /// The kept machine that stands nearest below or at a position, if there is one.
+    pub fn nearest(&self, target: usize) -> Option<&Machine>
+        ensures below { IfSome (option_copied result) (λ h. length h.entries ≤ target) }
+        ensures kept { (sc : AScenario) → HoldReplaysOf sc self.entry.now → IfSome (option_copied result) (IsReplayOf sc) }
     {
-        self.ring.iter().any(|kept| kept.len() == position)
+        let on_the_way = farther(self.spread.nearest(target), self.passed.nearest(target));
+        farther(on_the_way, self.close.nearest(target))
     }
 
-    /// Whether a machine at this position is to be kept, and is not yet.
-    fn is_due(&self, position: usize) -> bool
-        ensures { result ≡ is_due self.now position }
-    {
-        position % self.every == 0 && !self.is_kept(position)
-    }
-
-    /// Keeps a copy of a machine where one is due.
+    /// Keeps a copy of a machine on its way.
     fn note(&mut self, alloc: Global, machine: &Machine) -> Result<(), AllocError>
-        ensures ok { OnOk result (self.new ≡ noted machine.now self.old) }
-        ensures err { OnErr result (self.new ≡ self.old) }
+        ensures { (sc : AScenario) → HoldReplaysOf sc self.old → IsReplayOf sc machine.now → HoldReplaysOf sc self.new }
     {
-        if self.is_due(machine.len()) {
-            let copy = machine.copy(alloc)?;
-            self.ring.push_back(copy);
+        if self.copies.is_spread(machine.len()) {
+            self.spread.note(alloc, machine)
+        } else {
+            self.passed.note(alloc, machine)
+        }
+    }
+
+    /// Makes a machine's choices up to the last position on the way to another at which a copy is worth its time, and keeps the copies.
+    fn pass(
+        &mut self,
+        alloc: Global,
+        machine: &mut Machine,
+        target: usize,
+    ) -> Result<(), AllocError>
+        requires below { IsBelow machine.old.scenario target machine.old }
+        requires kept { HoldReplaysOf machine.old.scenario self.old }
+        ensures below { OnOk result (IsBelow machine.old.scenario target machine.new) }
+        ensures kept { HoldReplaysOf machine.old.scenario self.new }
+    {
+        'way: while let Some(due) = self.copies.next_due(machine.len(), target) {
+            advance_to(machine, due)?;
+            self.note(alloc, machine)?;
         }
         Ok(())
     }
 
-    /// Whether a copy from this position would still be kept at the end of a replay to that one.
-    fn would_stay(&self, position: usize, target: usize) -> bool {
-        target.saturating_sub(position) / self.every < self.ring.capacity()
-    }
-
-    /// Which kept machine stands nearest below or at a position.
-    fn nearest(&self, target: usize) -> Option<usize>
-        ensures { IfSome result (λ i. (h : History) × (slice_get self.now.machines i ≡ Some h) × (length h.entries ≤ target)) }
+    /// Where the way to a position is long, makes a machine's choices up to the middle, and keeps a copy.
+    fn halve(
+        &mut self,
+        alloc: Global,
+        machine: &mut Machine,
+        target: usize,
+    ) -> Result<(), AllocError>
+        requires below { IsBelow machine.old.scenario target machine.old }
+        requires kept { HoldReplaysOf machine.old.scenario self.old }
+        ensures below { OnOk result (IsBelow machine.old.scenario target machine.new) }
+        ensures kept { HoldReplaysOf machine.old.scenario self.new }
     {
-        let mut nearest: Option<usize> = None;
-        let mut least = 0;
-        for i in 0..self.ring.len() {
-            if let Some(kept) = self.ring.get(i) {
-                if least <= kept.len() && kept.len() <= target {
-                    nearest = Some(i);
-                    least = kept.len();
-                }
-            }
+        if let Some(middle) = self.copies.halfway(machine.len(), target) {
+            advance_to(machine, middle)?;
+            self.close.note(alloc, machine)?;
         }
-        nearest
-    }
-
-    /// Where the kept machine stands that is nearest below or at a position; 0 where there is none.
-    pub fn nearest_position(&self, target: usize) -> usize {
-        match self.nearest(target) {
-            Some(i) => self.ring.get(i).map_or(0, |kept| kept.len()),
-            None => 0,
-        }
-    }
-
-    /// A copy of the kept machine that stands nearest below or at a position, if there is one.
-    pub fn copy_nearest(&self, alloc: Global, target: usize) -> Result<Option<Machine>, AllocError>
-        ensures below { IfOk result (λ found. IfSome found (λ h. length h.entries ≤ target)) }
-        ensures kept { (sc : AScenario) → AreReplaysOf sc self.now.machines → IfOk result (λ found. IfSome found (IsReplayOf sc)) }
-    {
-        let Some(i) = self.nearest(target) else {
-            return Ok(None);
-        };
-        match self.ring.get(i) {
-            Some(kept) => Ok(Some(kept.copy(alloc)?)),
-            None => Ok(None),
-        }
+        Ok(())
     }
 
     /// Makes a machine's choices up to a position, and keeps the copies that are due on the way.
@@ -116,21 +117,14 @@ impl Checkpoints {
         machine: &mut Machine,
         target: usize,
     ) -> Result<(), AllocError>
-        requires follows { Follows machine.old }
-        requires below { length machine.old.entries ≤ target }
-        requires target { target ≤ length machine.old.scenario.choices }
-        requires kept { AreReplaysOf machine.old.scenario self.old.machines }
-        ensures scenario { machine.new.scenario ≡ machine.old.scenario }
-        ensures follows { Follows machine.new }
+        requires below { IsBelow machine.old.scenario target machine.old }
+        requires kept { HoldReplaysOf machine.old.scenario self.old }
+        ensures replay { OnOk result (IsReplayOf machine.old.scenario machine.new) }
         ensures position { OnOk result (length machine.new.entries ≡ target) }
-        ensures kept { AreReplaysOf machine.old.scenario self.new.machines }
+        ensures kept { HoldReplaysOf machine.old.scenario self.new }
     {
-        for _ in machine.len()..target {
-            advance(machine)?;
-            if self.would_stay(machine.len(), target) {
-                self.note(alloc, machine)?;
-            }
-        }
-        Ok(())
+        self.pass(alloc, machine, target)?;
+        self.halve(alloc, machine, target)?;
+        advance_to(machine, target)
     }
 }

@@ -1,5 +1,5 @@
 //! The debugger: a position and sixteen stops.
-ghost use Rattle.std.specs.Prelude.{◌≡◌, ◌≤◌, ◌<◌, ◌==◌, ◌&&◌, ◌-◌, not, IfOk, IfSome, OnOk, OnErr, length, replicate, None, nat_le, nat_lt, slice_get};
+ghost use Rattle.std.specs.Prelude.{◌≡◌, ◌≤◌, ◌<◌, ◌==◌, ◌&&◌, ◌-◌, not, IfOk, IfSome, OnOk, OnErr, length, replicate, None, nat_le, nat_lt, slice_get, option_copied};
 ghost use Rattle.zy_scan.specs.declared.stop.Stop.TheVariants as stop;
 ghost use Rattle.zy_scan.specs.Scans.{Conts, RConts, LastIn};
 ghost use Rattle.zy_scan.specs.Slots.{free_slot, with_stop, without_stop, is_set};
@@ -8,8 +8,9 @@ ghost use Rattle.zy_debug.specs.Checkpoints.{IsReplayOf};
 ghost use Rattle.zy_debug.specs.declared.command.DebugFault.TheVariants as fault;
 ghost use Rattle.zy_debug.specs.Sessions.{Shows, goes};
 
-use crate::checkpoints::Checkpoints;
+use crate::checkpoints::{Checkpoints, farther};
 use crate::command::{Command, DebugFault, Reply};
+use crate::copies::Copies;
 use std::alloc::{AllocError, Global};
 use std::marker::Model;
 use zy_isa::scenario::Scenario;
@@ -32,18 +33,19 @@ impl Model for Debugger {
     ghost use Rattle.std.specs.Prelude.{length};
     ghost use Rattle.zy_debug.specs.Sessions.{Session};
     ghost use Rattle.zy_scan.specs.Scans.{Follows};
-    ghost use Rattle.zy_debug.specs.Checkpoints.{AreReplaysOf};
+    ghost use Rattle.zy_debug.specs.Checkpoints.{HoldReplaysOf};
 
     ghost Value = { Session };
 
     ghost view = { λ d. record { scenario = d.machine.scenario; position = length d.machine.entries; stops = d.stops } };
 
-    ghost invariant = { λ d. Follows d.machine × AreReplaysOf d.machine.scenario d.checkpoints.machines };
+    ghost invariant = { λ d. Follows d.machine × HoldReplaysOf d.machine.scenario d.checkpoints };
 }
 
 impl Debugger {
-    /// A debugger at the start, without stops. A replay that passes a multiple of `every` keeps a copy of the machine there,
-    /// and of these copies the last `ring`. The scenario is dropped where there is no memory.
+    /// A debugger at the start, without stops. It keeps up to `ring` copies of the machine at positions that replays pass. Some are spread over
+    /// the scenario at multiples of `every`, some are the last multiples passed, and some halve the way to the position.
+    /// The scenario is dropped where there is no memory.
     pub fn open(
         alloc: Global,
         scenario: Scenario,
@@ -54,7 +56,8 @@ impl Debugger {
         ensures { IfOk result (λ d. d ≡ record { scenario = scenario; position = 0; stops = replicate 16 None }) }
     {
         let machine = start(alloc, scenario)?;
-        let checkpoints = Checkpoints::new(alloc, every, ring)?;
+        let copies = Copies::new(machine.scenario().choices().len(), every, ring);
+        let checkpoints = Checkpoints::new(alloc, copies)?;
         Ok(Debugger {
             alloc,
             machine,
@@ -236,13 +239,29 @@ impl Debugger {
         ensures replay { IfOk result (IsReplayOf self.now.scenario) }
         ensures below { IfOk result (λ m. length m.entries ≤ target) }
     {
-        let here = self.machine.len();
-        if here <= target && self.checkpoints.nearest_position(target) <= here {
-            return self.machine.copy(self.alloc);
-        }
-        match self.checkpoints.copy_nearest(self.alloc, target)? {
-            Some(machine) => Ok(machine),
+        match self.start_for(target) {
+            Some(machine) => machine.copy(self.alloc),
             None => restart(self.alloc, &self.machine),
+        }
+    }
+
+    /// The machine from which a position is nearest: that of the session or a kept one.
+    fn start_for(&self, target: usize) -> Option<&Machine>
+        ensures below { IfSome (option_copied result) (λ h. length h.entries ≤ target) }
+        ensures replay { IfSome (option_copied result) (IsReplayOf self.entry.now.scenario) }
+    {
+        farther(self.checkpoints.nearest(target), self.here(target))
+    }
+
+    /// The machine of the session, where it is not above a position.
+    fn here(&self, target: usize) -> Option<&Machine>
+        ensures below { IfSome (option_copied result) (λ h. length h.entries ≤ target) }
+        ensures replay { IfSome (option_copied result) (IsReplayOf self.entry.now.scenario) }
+    {
+        if self.machine.len() <= target {
+            Some(&self.machine)
+        } else {
+            None
         }
     }
 

@@ -3,6 +3,8 @@
 
 mod checkpoints;
 pub mod command;
+mod copies;
 pub mod debugger;
+mod shelf;
 #[cfg(test)]
 mod tests;

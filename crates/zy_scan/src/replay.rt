@@ -1,5 +1,5 @@
 //! Replays of a scenario's own choices.
-ghost use Rattle.std.specs.Prelude.{◌≡◌, ◌<◌, ◌+◌, [], IfOk, OnOk, length};
+ghost use Rattle.std.specs.Prelude.{◌≡◌, ◌<◌, ◌≤◌, ◌+◌, [], IfOk, OnOk, length};
 ghost use Rattle.zy_scan.specs.Scans.{Follows};
 ghost use Rattle.zy_scan.specs.Stops.{outcome_at};
 
@@ -20,6 +20,21 @@ pub fn advance(machine: &mut Machine) -> Result<Outcome, Fault>
     let choice = machine.scenario().choices()[machine.len()];
     let entry = machine.step(choice)?;
     Ok(entry.outcome)
+}
+
+/// Makes the machine's choices up to a position.
+pub fn advance_to(machine: &mut Machine, target: usize) -> Result<(), Fault>
+    requires follows { Follows machine.old }
+    requires below { length machine.old.entries ≤ target }
+    requires target { target ≤ length machine.old.scenario.choices }
+    ensures scenario { machine.new.scenario ≡ machine.old.scenario }
+    ensures follows { Follows machine.new }
+    ensures position { OnOk result (length machine.new.entries ≡ target) }
+{
+    for _ in machine.len()..target {
+        advance(machine)?;
+    }
+    Ok(())
 }
 
 /// A machine that has made no choice of its scenario yet. The choices are made once here, so that what comes of them stands in memory once

@@ -1,7 +1,6 @@
 use Rattle.std.proofs.Common.{◌≡◌, length}
 use Rattle.zy_scan.specs.Scans.{Follows}
-use Rattle.zy_debug.specs.Checkpoints.{AreReplaysOf}
-use Rattle.zy_debug.proofs.checkpoints.Checkpoints.replay_to.Given as goal
+use Rattle.zy_scan.proofs.replay.advance_to.Given as goal
 
 abbrev pub invariant-loop : goal.invariant-loop
 invariant-loop l =
@@ -9,5 +8,4 @@ invariant-loop l =
       scenario : l.machine.scenario ≡ l.fn.machine.scenario;
       follows : Follows l.machine;
       position : length l.machine.entries ≡ l.counter;
-      kept : AreReplaysOf l.fn.machine.scenario l.self.machines;
     }

@@ -1,0 +1,80 @@
+//! Which positions are worth a copy.
+ghost use Rattle.std.specs.Prelude.{◌≡◌, ◌≤◌, ◌<◌, ◌+◌, IfSome};
+
+/// How many copies are kept of each kind, and at which positions.
+#[derive(Clone, Copy, Debug)]
+pub(crate) struct Copies {
+    every: usize,
+    /// How far those that are spread over the scenario stand apart; 0 where there are none.
+    stride: usize,
+    /// How many are spread over the scenario.
+    pub spread: usize,
+    /// How many are the last multiples of `every` that were passed.
+    pub passed: usize,
+    /// How many are close to where a replay ended.
+    pub close: usize,
+}
+
+/// The least multiple of a number above a position, as far as there is one.
+fn above(position: usize, number: usize) -> usize {
+    match position.checked_div(number) {
+        Some(count) => count.saturating_add(1).saturating_mul(number),
+        None => usize::MAX,
+    }
+}
+
+/// How far copies stand apart at multiples of a number, where so many are spread over so many choices.
+fn stride(choices: usize, every: usize, spread: usize) -> usize {
+    match choices.checked_div(every.saturating_mul(spread.saturating_add(1))) {
+        Some(count) if spread != 0 => count.saturating_add(1).saturating_mul(every),
+        _ => 0,
+    }
+}
+
+impl Copies {
+    /// Of all copies one half is spread, at most two are close, and the others are the last ones passed.
+    pub fn new(choices: usize, every: usize, ring: usize) -> Copies
+        ensures { result.spread + result.passed + result.close ≡ ring }
+    {
+        let spread = ring / 2;
+        let close = (ring / 3).min(2);
+        Copies {
+            every,
+            stride: stride(choices, every, spread),
+            spread,
+            passed: ring - spread - close,
+            close,
+        }
+    }
+
+    /// Whether a position is one of those that are spread over the scenario.
+    pub fn is_spread(&self, position: usize) -> bool {
+        self.stride != 0 && position % self.stride == 0
+    }
+
+    /// The next position on the way to another at which a copy is worth its time: one that is spread over the scenario, or one of the last
+    /// multiples of `every` there.
+    pub fn next_due(&self, position: usize, target: usize) -> Option<usize>
+        ensures { IfSome result (λ due. (position < due) × (due ≤ target)) }
+    {
+        let front = target.saturating_sub(self.passed.saturating_mul(self.every));
+        let due = above(position, self.stride).min(above(position.max(front), self.every));
+        if position < due && due <= target {
+            Some(due)
+        } else {
+            None
+        }
+    }
+
+    /// The position halfway to another, where the way is longer than a quarter of `every`.
+    pub fn halfway(&self, position: usize, target: usize) -> Option<usize>
+        ensures { IfSome result (λ due. (position < due) × (due ≤ target)) }
+    {
+        let left = target.saturating_sub(position);
+        if self.close != 0 && left > self.every / 4 + 1 {
+            Some(position + left / 2)
+        } else {
+            None
+        }
+    }
+}

@@ -1,0 +1,81 @@
+//! Copies of machines, of which the last ones stay.
+ghost use Rattle.std.specs.Prelude.{◌≡◌, ◌≤◌, [], IfOk, IfSome, OnOk, OnErr, Some, length, slice_get, option_copied};
+ghost use Rattle.zy_isa.specs.Scenario.{Scenario as AScenario};
+ghost use Rattle.zy_machine.specs.Histories.{History};
+ghost use Rattle.zy_debug.specs.Checkpoints.{AreReplaysOf, IsReplayOf, is_kept, noted};
+
+use circular_buffer::HeapCircularBuffer;
+use std::alloc::{AllocError, Global};
+use std::marker::Model;
+use zy_machine::machine::Machine;
+
+/// Copies of machines at some positions: the last ones that were noted.
+#[derive(Drop)]
+pub(crate) struct Shelf {
+    ring: HeapCircularBuffer<Machine>,
+}
+
+impl Model for Shelf {
+    ghost use Rattle.zy_debug.specs.Checkpoints.{Kept};
+
+    ghost Value = { Kept };
+
+    ghost view = { λ s. record { room = s.ring.capacity; machines = s.ring.items } };
+}
+
+impl Shelf {
+    /// None yet, and room for so many.
+    pub fn new(alloc: Global, room: usize) -> Result<Shelf, AllocError>
+        ensures { IfOk result (λ s. s ≡ record { room = room; machines = [] }) }
+    {
+        let ring = HeapCircularBuffer::with_capacity(alloc, room)?;
+        Ok(Shelf { ring })
+    }
+
+    /// Whether a machine at this position is kept.
+    fn is_kept(&self, position: usize) -> bool
+        ensures { result ≡ is_kept self.now position }
+    {
+        self.ring.iter().any(|kept| kept.len() == position)
+    }
+
+    /// Keeps a copy of a machine, unless one of its position is kept.
+    pub fn note(&mut self, alloc: Global, machine: &Machine) -> Result<(), AllocError>
+        ensures ok { OnOk result (self.new ≡ noted machine.now self.old) }
+        ensures err { OnErr result (self.new ≡ self.old) }
+    {
+        if !self.is_kept(machine.len()) {
+            let copy = machine.copy(alloc)?;
+            self.ring.push_back(copy);
+        }
+        Ok(())
+    }
+
+    /// Which kept machine stands nearest below or at a position.
+    fn place_of_nearest(&self, target: usize) -> Option<usize>
+        ensures { IfSome result (λ i. (h : History) × (slice_get self.now.machines i ≡ Some h) × (length h.entries ≤ target)) }
+    {
+        let mut nearest: Option<usize> = None;
+        let mut least = 0;
+        for i in 0..self.ring.len() {
+            if let Some(kept) = self.ring.get(i) {
+                if least <= kept.len() && kept.len() <= target {
+                    nearest = Some(i);
+                    least = kept.len();
+                }
+            }
+        }
+        nearest
+    }
+
+    /// The kept machine that stands nearest below or at a position, if there is one.
+    pub fn nearest(&self, target: usize) -> Option<&Machine>
+        ensures below { IfSome (option_copied result) (λ h. length h.entries ≤ target) }
+        ensures kept { (sc : AScenario) → AreReplaysOf sc self.entry.now.machines → IfSome (option_copied result) (IsReplayOf sc) }
+    {
+        match self.place_of_nearest(target) {
+            Some(i) => self.ring.get(i),
+            None => None,
+        }
+    }
+}
