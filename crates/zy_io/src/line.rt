@@ -105,25 +105,16 @@ fn digit(number: u64) -> char
     char::from(b'0' + number as u8)
 }
 
-/// Puts a number behind what the `String` holds: one of up to four digits by digits, which is what most lines have.
+/// Puts a number behind what the `String` holds: one of up to two digits, which is what most lines have, digit by digit.
+#[inline(always)]
 fn append_number(number: u64, line: &mut String) -> Result<(), AllocError>
     ensures { Appended result line.old line.new (decimal number) }
 {
-    let last = number % 10;
     if number < 10 {
-        return digit(last).append(line);
+        return digit(number).append(line);
     }
-    let tens = number / 10 % 10;
     if number < 100 {
-        return Joined(digit(tens), digit(last)).append(line);
-    }
-    let hundreds = number / 100 % 10;
-    if number < 1000 {
-        return Joined(digit(hundreds), Joined(digit(tens), digit(last))).append(line);
-    }
-    if number < 10000 {
-        let lower = Joined(digit(hundreds), Joined(digit(tens), digit(last)));
-        return Joined(digit(number / 1000), lower).append(line);
+        return Joined(digit(number / 10), digit(number % 10)).append(line);
     }
     line.push_str(Buffer::new().format(number))
 }
