@@ -12,6 +12,7 @@ use crate::lines::taken::Taken;
 use crate::serial::same;
 use std::alloc::Global;
 use zy_disasm::head::Head;
+use zy_io::buffer::LineBuffer;
 use zy_io::section::{Both, One, Section};
 use zy_io::stream::Sink;
 use zy_io::writing::TextFault;
@@ -28,7 +29,7 @@ pub(crate) fn write_listing_as<K: Sink>(
     ensures { Wrote (K.written sink.old) (K.written sink.new) (K.failures sink.old) (K.failures sink.new) result
         (listing machine.now.scenario (choices_of machine.now.entries) same) }
 {
-    let mut line = String::new(alloc);
+    let mut line = LineBuffer::new(alloc);
     let entries = machine.entries();
     let scenario = Both(Head(machine.scenario()), Both(Taken(entries), One("end")));
     let steps = Both(One("steps"), Steps(entries));

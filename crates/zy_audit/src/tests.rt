@@ -9,6 +9,7 @@ use crate::serial_tests::{commit, scenario};
 use std::alloc::{AllocError, Global};
 use std::process::Abort;
 use std::test::Fail;
+use zy_io::buffer::LineBuffer;
 use zy_io::line::Line;
 use zy_isa::choice::Choice;
 use zy_isa::node::Node;
@@ -50,11 +51,11 @@ fn shows(
 ) -> Result<bool, AllocError> {
     assert!(rt; machine.page(0).is_some());
     assert!(rt; machine.txn_count() > 0);
-    let mut line = String::new(alloc);
+    let mut line = LineBuffer::new(alloc);
     page_line(machine, 0, &mut line)?;
     txn_line(machine, 0, &mut line)?;
     link_line(machine, Node::B, &mut line)?;
-    Ok(line.as_str() == lines)
+    Ok(line.as_bytes() == lines.as_bytes())
 }
 
 /// Whether the run is told as it was. It borrows the machine, since to let one go is proved anew in each function that owns one.
@@ -72,8 +73,8 @@ fn a_run_is_told(rt: HostRuntime) -> Result<(), Fail> {
 
 #[test]
 fn tells_that_the_serial_run_differs(rt: HostRuntime) -> Result<(), Fail> {
-    let mut line = String::new(rt.alloc());
+    let mut line = LineBuffer::new(rt.alloc());
     SerialLine(false).append(&mut line)?;
-    assert_eq!(rt; line.as_str(), "serial differs");
+    assert_eq!(rt; line.as_bytes(), b"serial differs".as_slice());
     Ok(())
 }

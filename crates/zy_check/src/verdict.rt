@@ -2,6 +2,7 @@
 ghost use Rattle.zy_check.specs.Differs.{verdict_text};
 
 use std::alloc::AllocError;
+use zy_io::buffer::LineBuffer;
 use zy_io::line::{Decimal, Joined, Line};
 
 /// Whether an input is the listing of its scenario.
@@ -17,7 +18,7 @@ pub enum Verdict {
 impl Line for Verdict {
     ghost text = { λ v. verdict_text v };
 
-    fn append(&self, line: &mut String) -> Result<(), AllocError> {
+    fn append(&self, line: &mut LineBuffer) -> Result<(), AllocError> {
         match self {
             Verdict::Table => "table".append(line),
             Verdict::NotTable(number) => Joined("not table ", Decimal(*number)).append(line),

@@ -1,6 +1,5 @@
 //! What a line is answered.
 ghost use Rattle.std.specs.Prelude.{◌≡◌, ◌≢◌, ◌++◌, None, OnOk};
-ghost use Rattle.std.specs.String.{string_bytes};
 ghost use Rattle.zy_io.specs.Writing.{line_of};
 ghost use Rattle.zy_words.specs.Lines.{texts};
 ghost use Rattle.zy_debug.specs.Commands.{refusal};
@@ -12,11 +11,12 @@ use crate::shown::append_shown;
 use std::alloc::AllocError;
 use zy_debug::command::{Command, DebugFault, Reply};
 use zy_debug::debugger::Debugger;
+use zy_io::buffer::LineBuffer;
 use zy_io::line::{Decimal, Joined, Line};
 
 /// Appends a text and the end of its line.
-fn append_line<D: Line>(item: &D, line: &mut String) -> Result<(), AllocError>
-    ensures { OnOk result (string_bytes line.new ≡ string_bytes line.old ++ line_of (D.text item.now)) }
+fn append_line<D: Line>(item: &D, line: &mut LineBuffer) -> Result<(), AllocError>
+    ensures { OnOk result (line.new ≡ line.old ++ line_of (D.text item.now)) }
 {
     item.append(line)?;
     line.push('\n')
@@ -27,10 +27,10 @@ fn append_reply(
     debugger: &Debugger,
     command: Command,
     reply: Reply,
-    line: &mut String,
+    line: &mut LineBuffer,
 ) -> Result<(), AllocError>
     requires { reply ≡ Reply.Shown → refusal debugger.now command ≡ None }
-    ensures { OnOk result (string_bytes line.new ≡ string_bytes line.old ++ reply_text debugger.now command reply) }
+    ensures { OnOk result (line.new ≡ line.old ++ reply_text debugger.now command reply) }
 {
     match reply {
         Reply::At(m) => append_line(&Joined("at ", Decimal(m)), line),
@@ -45,8 +45,8 @@ fn append_reply(
 }
 
 /// Appends why a command is refused. At want of memory there is no more to be said.
-fn append_refusal(fault: DebugFault, line: &mut String) -> Result<(), AllocError>
-    ensures { OnOk result ((string_bytes line.new ≡ string_bytes line.old ++ refusal_text fault) × (fault ≢ DebugFault.Memory)) }
+fn append_refusal(fault: DebugFault, line: &mut LineBuffer) -> Result<(), AllocError>
+    ensures { OnOk result ((line.new ≡ line.old ++ refusal_text fault) × (fault ≢ DebugFault.Memory)) }
 {
     match fault {
         DebugFault::NoSuchStop => append_line(&"no such stop", line),
@@ -57,8 +57,8 @@ fn append_refusal(fault: DebugFault, line: &mut String) -> Result<(), AllocError
 }
 
 /// Does a command, and puts what is to be said of it in place of what the `String` holds.
-fn obey(debugger: &mut Debugger, command: Command, line: &mut String) -> Result<(), AllocError>
-    ensures ok { OnOk result (Obeyed (refusal debugger.old command) debugger.old command debugger.new (string_bytes line.new)) }
+fn obey(debugger: &mut Debugger, command: Command, line: &mut LineBuffer) -> Result<(), AllocError>
+    ensures ok { OnOk result (Obeyed (refusal debugger.old command) debugger.old command debugger.new line.new) }
 {
     line.clear();
     match debugger.command(command) {
@@ -68,8 +68,8 @@ fn obey(debugger: &mut Debugger, command: Command, line: &mut String) -> Result<
 }
 
 /// Answers the words of a line, in place of what the `String` holds.
-pub fn answer(debugger: &mut Debugger, words: &[&[u8]], line: &mut String) -> Result<(), AllocError>
-    ensures { OnOk result (LineSays debugger.old (texts words.now) debugger.new (string_bytes line.new)) }
+pub fn answer(debugger: &mut Debugger, words: &[&[u8]], line: &mut LineBuffer) -> Result<(), AllocError>
+    ensures { OnOk result (LineSays debugger.old (texts words.now) debugger.new line.new) }
 {
     line.clear();
     if words.is_empty() {

@@ -6,6 +6,7 @@ ghost use Rattle.zy_console.specs.Console.{WroteSession};
 use crate::answer::answer;
 use std::alloc::Global;
 use zy_debug::debugger::Debugger;
+use zy_io::buffer::LineBuffer;
 use zy_io::stream::Sink;
 use zy_io::writing::{TextFault, write_all};
 use zy_words::line::{Words, take_line};
@@ -23,7 +24,7 @@ pub fn write_session<K: Sink>(
         debugger.old (lines_of commands.now) debugger.new }
 {
     let mut words = Words::new();
-    let mut line = String::new(alloc);
+    let mut line = LineBuffer::new(alloc);
     let mut rest = commands;
     while !rest.is_empty() {
         rest = take_line(&mut words, rest);

@@ -1,6 +1,5 @@
 //! What a command reads from a machine.
 ghost use Rattle.std.specs.Prelude.{◌≡◌, ◌<◌, ◌++◌, OnOk, length};
-ghost use Rattle.std.specs.String.{string_bytes};
 ghost use Rattle.zy_io.specs.Writing.{line_of};
 ghost use Rattle.zy_isa.specs.declared.node.Node.TheVariants.{A, B};
 ghost use Rattle.zy_audit.specs.Texts.{link_text, txn_text};
@@ -12,6 +11,7 @@ use zy_audit::lines::page::page_line;
 use zy_audit::lines::txn::txn_line;
 use zy_audit::lines::words::ModeText;
 use zy_debug::command::Command;
+use zy_io::buffer::LineBuffer;
 use zy_io::line::{Decimal, Joined, Line};
 use zy_isa::node::Node;
 use zy_laws::laws::safe_counts;
@@ -25,7 +25,7 @@ struct KindText(LockKind);
 impl Line for KindText {
     ghost text = { λ k. kind_word k.0 };
 
-    fn append(&self, line: &mut String) -> Result<(), AllocError> {
+    fn append(&self, line: &mut LineBuffer) -> Result<(), AllocError> {
         match self.0 {
             LockKind::Shared => "s".append(line),
             LockKind::Exclusive => "x".append(line),
@@ -43,10 +43,10 @@ struct LockText {
 impl Line for LockText {
     ghost text = { λ l. lock_text l.node l.lock };
 
-    fn append(&self, line: &mut String) -> Result<(), AllocError> {
+    fn append(&self, line: &mut LineBuffer) -> Result<(), AllocError> {
         let Lock { page: _, txn, kind } = self.lock;
-        let holder = Joined(Decimal(txn), Joined(':', KindText(kind)));
-        Joined(' ', Joined(self.node, Joined(':', holder))).append(line)
+        let holder = Joined(Decimal(txn), Joined(b':', KindText(kind)));
+        Joined(b' ', Joined(self.node, Joined(b':', holder))).append(line)
     }
 }
 
@@ -61,7 +61,7 @@ struct LockOn {
 impl Line for LockOn {
     ghost text = { λ l. lock_on l.node l.page l.lock };
 
-    fn append(&self, line: &mut String) -> Result<(), AllocError> {
+    fn append(&self, line: &mut LineBuffer) -> Result<(), AllocError> {
         let LockOn { node, page, lock } = *self;
         if lock.page == page {
             LockText { node, lock }.append(line)
@@ -82,7 +82,7 @@ struct LocksOn<'a> {
 impl Line for LocksOn<'_> {
     ghost text = { λ l. locks_on l.node l.page l.locks.now };
 
-    fn append(&self, line: &mut String) -> Result<(), AllocError> {
+    fn append(&self, line: &mut LineBuffer) -> Result<(), AllocError> {
         let (node, page) = (self.node, self.page);
         for lock in self.locks {
             LockOn {
@@ -97,8 +97,8 @@ impl Line for LocksOn<'_> {
 }
 
 /// Appends a page with its locks, or that it is not there.
-fn append_page(machine: &Machine, page: u16, line: &mut String) -> Result<(), AllocError>
-    ensures { OnOk result (string_bytes line.new ≡ string_bytes line.old ++ page_reply machine.now.state page) }
+fn append_page(machine: &Machine, page: u16, line: &mut LineBuffer) -> Result<(), AllocError>
+    ensures { OnOk result (line.new ≡ line.old ++ page_reply machine.now.state page) }
 {
     if machine.page(page).is_none() {
         return Joined("page ", Joined(Decimal(page), " none")).append(line);
@@ -118,21 +118,21 @@ fn append_page(machine: &Machine, page: u16, line: &mut String) -> Result<(), Al
 }
 
 /// Appends where a machine is in its choices, and the modes there.
-fn append_where(machine: &Machine, line: &mut String) -> Result<(), AllocError>
-    ensures { OnOk result (string_bytes line.new ≡ string_bytes line.old
+fn append_where(machine: &Machine, line: &mut LineBuffer) -> Result<(), AllocError>
+    ensures { OnOk result (line.new ≡ line.old
         ++ where_text (length machine.now.entries) (length machine.now.scenario.choices) machine.now.state) }
 {
     let a = ModeText(machine.mode(Node::A));
     let b = ModeText(machine.mode(Node::B));
-    let modes = Joined(" modes ", Joined(a, Joined(' ', b)));
+    let modes = Joined(" modes ", Joined(a, Joined(b' ', b)));
     let all = Decimal(machine.scenario().choices().len());
     let position = Joined(Decimal(machine.len()), Joined(" of ", Joined(all, modes)));
     Joined("at ", position).append(line)
 }
 
 /// Appends the lines of both links, each with its end.
-fn append_links(machine: &Machine, line: &mut String) -> Result<(), AllocError>
-    ensures { OnOk result (string_bytes line.new ≡ string_bytes line.old
+fn append_links(machine: &Machine, line: &mut LineBuffer) -> Result<(), AllocError>
+    ensures { OnOk result (line.new ≡ line.old
         ++ (line_of (link_text A machine.now.state.ab) ++ line_of (link_text B machine.now.state.ba))) }
 {
     link_line(machine, Node::A, line)?;
@@ -142,9 +142,9 @@ fn append_links(machine: &Machine, line: &mut String) -> Result<(), AllocError>
 }
 
 /// Appends the line of a transaction.
-fn append_txn(machine: &Machine, t: u32, line: &mut String) -> Result<(), AllocError>
+fn append_txn(machine: &Machine, t: u32, line: &mut LineBuffer) -> Result<(), AllocError>
     requires { t < length machine.now.scenario.programs }
-    ensures { OnOk result (string_bytes line.new ≡ string_bytes line.old ++ txn_text machine.now.state t) }
+    ensures { OnOk result (line.new ≡ line.old ++ txn_text machine.now.state t) }
 {
     safe_counts();
     let _scenario = machine.scenario().programs();
@@ -156,10 +156,10 @@ fn append_txn(machine: &Machine, t: u32, line: &mut String) -> Result<(), AllocE
 pub fn append_shown(
     machine: &Machine,
     command: Command,
-    line: &mut String,
+    line: &mut LineBuffer,
 ) -> Result<(), AllocError>
     requires { IsThere machine.now command }
-    ensures { OnOk result (string_bytes line.new ≡ string_bytes line.old
+    ensures { OnOk result (line.new ≡ line.old
         ++ shown_text (length machine.now.entries) (length machine.now.scenario.choices) machine.now.state command) }
 {
     let _pages = machine.scenario().pages();

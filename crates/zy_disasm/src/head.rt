@@ -2,6 +2,7 @@
 ghost use Rattle.zy_disasm.specs.Lines.{program_parts, head_texts};
 
 use crate::lines::{Number, RuleLine};
+use zy_io::buffer::LineBuffer;
 use zy_io::section::{Both, Each, One, Parts, Section, write_parts};
 use zy_io::stream::Sink;
 use zy_io::writing::TextFault;
@@ -15,7 +16,7 @@ pub struct Head<'a>(pub &'a Scenario);
 impl Section for Head<'_> {
     ghost texts = { λ s. head_texts s.0.now };
 
-    fn write<K: Sink>(&self, sink: &mut K, line: &mut String) -> Result<(), TextFault> {
+    fn write<K: Sink>(&self, sink: &mut K, line: &mut LineBuffer) -> Result<(), TextFault> {
         let scenario = self.0;
         let header = Both(
             Both(
@@ -53,7 +54,7 @@ impl Parts for Programs<'_> {
         &self,
         place: usize,
         sink: &mut K,
-        line: &mut String,
+        line: &mut LineBuffer,
     ) -> Result<(), TextFault> {
         let title = Number {
             word: "txn",
@@ -69,7 +70,7 @@ impl Section for Programs<'_> {
 
     ghost texts = { λ s. flat_map (λ part. part) (program_parts 0 s.0.now) };
 
-    fn write<K: Sink>(&self, sink: &mut K, line: &mut String) -> Result<(), TextFault> {
+    fn write<K: Sink>(&self, sink: &mut K, line: &mut LineBuffer) -> Result<(), TextFault> {
         write_parts(sink, line, self)
     }
 }

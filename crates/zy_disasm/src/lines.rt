@@ -2,6 +2,7 @@
 ghost use Rattle.zy_disasm.specs.Lines.{number_text, rule_line};
 
 use std::alloc::AllocError;
+use zy_io::buffer::LineBuffer;
 use zy_io::line::{Decimal, Joined, Line};
 use zy_isa::rule::Rule;
 
@@ -15,8 +16,8 @@ pub(crate) struct Number<'a> {
 impl Line for Number<'_> {
     ghost text = { λ l. number_text l.word.now l.number };
 
-    fn append(&self, line: &mut String) -> Result<(), AllocError> {
-        Joined(self.word, Joined(' ', Decimal(self.number))).append(line)
+    fn append(&self, line: &mut LineBuffer) -> Result<(), AllocError> {
+        Joined(self.word, Joined(b' ', Decimal(self.number))).append(line)
     }
 }
 
@@ -27,7 +28,7 @@ pub(crate) struct RuleLine(pub Rule);
 impl Line for RuleLine {
     ghost text = { λ l. rule_line l.0 };
 
-    fn append(&self, line: &mut String) -> Result<(), AllocError> {
+    fn append(&self, line: &mut LineBuffer) -> Result<(), AllocError> {
         Joined("rule ", self.0).append(line)
     }
 }

@@ -5,6 +5,7 @@ ghost use Rattle.zy_io.specs.Writing.{Wrote};
 
 use crate::head::Head;
 use std::alloc::Global;
+use zy_io::buffer::LineBuffer;
 use zy_io::section::{Both, Each, One, Section};
 use zy_io::stream::Sink;
 use zy_io::writing::TextFault;
@@ -20,7 +21,7 @@ pub fn write_text<K: Sink>(
     ensures { Wrote (K.written sink.old) (K.written sink.new) (K.failures sink.old)
         (K.failures sink.new) result (canon scenario.now) }
 {
-    let mut line = String::new(alloc);
+    let mut line = LineBuffer::new(alloc);
     let tail = Both(Each(scenario.choices()), One("end"));
     Both(Head(scenario), tail).write(sink, &mut line)
 }

@@ -1,7 +1,6 @@
 //! The engine that checks a listing.
 ghost use Rattle.std.specs.Prelude.{◌≡◌, ◌<◌, ◌≤◌, ◌+◌, None, IfErr, IfOk, IfSome, length};
 ghost use Rattle.std.specs.Io.KnownBytes.{Appends};
-ghost use Rattle.std.specs.String.{string_bytes};
 ghost use Rattle.zy_io.specs.Streams.{WroteFront};
 ghost use Rattle.zy_isa.specs.Scenario.{Scenario as AScenario};
 ghost use Rattle.zy_isa.specs.Text.{Means};
@@ -19,17 +18,18 @@ use crate::faults::BenchFault;
 use std::alloc::{AllocError, Global};
 use zy_check::check::check;
 use zy_check::verdict::Verdict;
+use zy_io::buffer::LineBuffer;
 use zy_io::line::Line;
 use zy_io::stream::{Sink, Source};
 use zy_io::writing::{TextFault, write_all};
 
 /// The words of a verdict, and the end of their line.
-fn line_of(alloc: Global, verdict: Verdict) -> Result<String, AllocError>
-    ensures { IfOk result (λ line. string_bytes line ≡ verdict_line verdict) }
+fn line_of(alloc: Global, verdict: Verdict) -> Result<LineBuffer, AllocError>
+    ensures { IfOk result (λ line. line ≡ verdict_line verdict) }
 {
-    let mut line = String::new(alloc);
+    let mut line = LineBuffer::new(alloc);
     verdict.append(&mut line)?;
-    line.push('\n')?;
+    line.push(b'\n')?;
     Ok(line)
 }
 

@@ -8,30 +8,27 @@ use Rattle.zy_io.specs.Streams.{Remains, WroteFront}
 use Rattle.zy_io.proofs.StreamLemmas.{Remains-stops, WroteFront-more}
 use Rattle.zy_io.specs.declared.writing.TextFault.{TextFault}
 use Rattle.zy_io.specs.declared.writing.TextFault.TheVariants.{Write, Memory}
-use Rattle.std.specs.declared.alloc.Global.{Global}
-use Rattle.std.specs.declared.string.String.{String}
-use Rattle.std.specs.String.{string_bytes}
 use Rattle.std.specs.Prelude.{is_ok, if◌then◌else◌}
 use Rattle.zy_io.specs.Writing.{Appended, AppendedFront, Wrote}
 
 -- all of the text was appended, or nothing
-pub Appended-whole : {X E : Type 0} (r : Result X E) (a b : String Global) (text : List ℕ) → string_bytes b ≡ (if is_ok r then string_bytes a ++ text else string_bytes a) → Appended r a b text
+pub Appended-whole : {X E : Type 0} (r : Result X E) (a b : List ℕ) (text : List ℕ) → b ≡ (if is_ok r then a ++ text else a) → Appended r a b text
 Appended-whole (Ok x) a b text e = e
-Appended-whole (Err x) a b text e = ([], text, refl, e ∙ sym (append-nil (string_bytes a)))
+Appended-whole (Err x) a b text e = ([], text, refl, e ∙ sym (append-nil a))
 
 -- the first text's fault is that of both
-pub Appended-stops : {X E : Type 0} (a b : String Global) (e : E) (r : Result X E) (xs ys : List ℕ) → AppendedFront a b xs → r ≡ Err e → Appended r a b (xs ++ ys)
+pub Appended-stops : {X E : Type 0} (a b : List ℕ) (e : E) (r : Result X E) (xs ys : List ℕ) → AppendedFront a b xs → r ≡ Err e → Appended r a b (xs ++ ys)
 Appended-stops a b e r xs ys (front, back, is, now) err =
     rw err (front, back ++ ys, ap (λ l. l ++ ys) is ∙ append_assoc front back ys, now)
 
 -- what came of the second text, which follows the whole of the first, came of both
-pub Appended-then : {X E : Type 0} (a b c : String Global) (r : Result X E) (xs ys : List ℕ) → string_bytes b ≡ string_bytes a ++ xs → Appended r b c ys → Appended r a c (xs ++ ys)
-Appended-then a b c (Ok x) xs ys first second = second ∙ ap (λ l. l ++ ys) first ∙ append_assoc (string_bytes a) xs ys
+pub Appended-then : {X E : Type 0} (a b c : List ℕ) (r : Result X E) (xs ys : List ℕ) → b ≡ a ++ xs → Appended r b c ys → Appended r a c (xs ++ ys)
+Appended-then a b c (Ok x) xs ys first second = second ∙ ap (λ l. l ++ ys) first ∙ append_assoc a xs ys
 Appended-then a b c (Err e) xs ys first (front, back, is, now) = (
   xs ++ front,
   back,
   ap (λ l. xs ++ l) is ∙ sym (append_assoc xs front back),
-  now ∙ ap (λ l. l ++ front) first ∙ append_assoc (string_bytes a) xs front,
+  now ∙ ap (λ l. l ++ front) first ∙ append_assoc a xs front,
 )
 
 -- a front of the second part, after the whole first
@@ -96,8 +93,8 @@ flat_map-flat_map f (part ∷ parts) =
     flat_map-append f part (flat_map (λ x. x) parts) ∙ ap (λ l. flat_map f part ++ l) (flat_map-flat_map f parts)
 
 -- the fault of one element's text, which stands behind those before it, is that of the whole list
-pub Appended-element-stops : {X E Z : Type 0} (f : Z → List ℕ) (xs : List Z) (i : ℕ) (d : Z) (a b c : String Global) (e : E) (r : Result X E)
-    → i < length xs → string_bytes b ≡ string_bytes a ++ flat_map f (take i xs) → AppendedFront b c (f (get_or xs i d)) → r ≡ Err e → Appended r a c (flat_map f xs)
+pub Appended-element-stops : {X E Z : Type 0} (f : Z → List ℕ) (xs : List Z) (i : ℕ) (d : Z) (a b c : List ℕ) (e : E) (r : Result X E)
+    → i < length xs → b ≡ a ++ flat_map f (take i xs) → AppendedFront b c (f (get_or xs i d)) → r ≡ Err e → Appended r a c (flat_map f xs)
 Appended-element-stops f xs i d a b c e r h so_far (front, back, is, now) err =
     let after = flat_map f (drop (suc i) xs) in
     let before = flat_map f (take i xs) in
@@ -105,7 +102,7 @@ Appended-element-stops f xs i d a b c e r h so_far (front, back, is, now) err =
       before ++ front,
       back ++ after,
       flat_map-split f xs i d h ∙ ap (λ l. before ++ (l ++ after)) is ∙ ap (λ l. before ++ l) (append_assoc front back after) ∙ sym (append_assoc before front (back ++ after)),
-      now ∙ ap (λ l. l ++ front) so_far ∙ append_assoc (string_bytes a) before front,
+      now ∙ ap (λ l. l ++ front) so_far ∙ append_assoc a before front,
     )
 
 -- what stands behind the elements before it is their text and its own

@@ -1,9 +1,6 @@
 -- What a call that writes lines of text did.
 use Rattle.std.specs.Prelude.{◌≡◌, ℕ, ◌+◌, List, [], ◌∷◌, ◌++◌, Option, Result, Ok, Err}
-use Rattle.std.specs.declared.alloc.Global.{Global}
-use Rattle.std.specs.declared.string.String.{String}
 use Rattle.std.specs.Io.KnownBytes.{Appends}
-use Rattle.std.specs.String.{string_bytes}
 use Rattle.zy_io.specs.Streams.{Remains, WroteFront}
 use Rattle.zy_io.specs.declared.writing.TextFault.{TextFault}
 use Rattle.zy_io.specs.declared.writing.TextFault.TheVariants.{Write, Memory}
@@ -12,13 +9,13 @@ use Rattle.zy_io.specs.declared.writing.TextFault.TheVariants.{Write, Memory}
 abbrev pub line_of : List ℕ → List ℕ
 line_of text = text ++ 10 ∷ []
 
--- a front of the text was put behind what the string held
-abbrev pub AppendedFront : String Global → String Global → List ℕ → Type 0
-AppendedFront old new text = (front : List ℕ) × (back : List ℕ) × (text ≡ front ++ back) × (string_bytes new ≡ string_bytes old ++ front)
+-- a front of the text was put behind what stood there
+abbrev pub AppendedFront : List ℕ → List ℕ → List ℕ → Type 0
+AppendedFront old new text = (front : List ℕ) × (back : List ℕ) × (text ≡ front ++ back) × (new ≡ old ++ front)
 
 -- at Ok all of the text was; else a front of it
-abbrev pub Appended : {X E : Type 0} → Result X E → String Global → String Global → List ℕ → Type 0
-Appended (Ok x) old new text = string_bytes new ≡ string_bytes old ++ text
+abbrev pub Appended : {X E : Type 0} → Result X E → List ℕ → List ℕ → List ℕ → Type 0
+Appended (Ok x) old new text = new ≡ old ++ text
 Appended (Err e) old new text = AppendedFront old new text
 
 -- A call that writes went from the bytes old and the number of failures before to new and after.

@@ -2,6 +2,7 @@
 //! are written whole.
 #![tactic(auto)]
 
+pub mod buffer;
 pub mod line;
 pub mod memory;
 pub mod reading;

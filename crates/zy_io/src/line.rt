@@ -1,10 +1,9 @@
-//! What has the text of one line or of a part of one, and puts it behind what a `String` holds.
-ghost use Rattle.std.specs.Prelude.{◌≡◌, ◌<◌, ◌++◌, ℕ, List};
-ghost use Rattle.std.specs.Char.{encode_utf8};
+//! What has the text of one line or of a part of one, and puts it behind what a buffer holds.
+ghost use Rattle.std.specs.Prelude.{◌≡◌, ◌++◌, ◌∷◌, [], ℕ, List};
 ghost use Rattle.std.specs.Fmt.{decimal};
 ghost use Rattle.zy_io.specs.Writing.{Appended};
 
-use itoa::Buffer;
+use crate::buffer::LineBuffer;
 use std::alloc::AllocError;
 
 /// What has the text of one line or of a part of one.
@@ -12,8 +11,8 @@ pub trait Line {
     // The text, without the line's end.
     ghost text: { Self → List ℕ };
 
-    /// Puts its text behind what the `String` holds. At an error a front of it may stand there.
-    fn append(&self, line: &mut String) -> Result<(), AllocError>
+    /// Puts its text behind what the buffer holds. At an error a front of it may stand there.
+    fn append(&self, line: &mut LineBuffer) -> Result<(), AllocError>
         ensures { Appended result line.old line.new (text self.now) };
 }
 
@@ -22,17 +21,17 @@ impl Line for &str {
     ghost text = { λ words. words.now };
 
     #[inline(always)]
-    fn append(&self, line: &mut String) -> Result<(), AllocError> {
+    fn append(&self, line: &mut LineBuffer) -> Result<(), AllocError> {
         line.push_str(self)
     }
 }
 
-/// A sign.
-impl Line for char {
-    ghost text = { encode_utf8 };
+/// A sign of ASCII.
+impl Line for u8 {
+    ghost text = { λ sign. sign ∷ [] };
 
     #[inline(always)]
-    fn append(&self, line: &mut String) -> Result<(), AllocError> {
+    fn append(&self, line: &mut LineBuffer) -> Result<(), AllocError> {
         line.push(*self)
     }
 }
@@ -91,32 +90,9 @@ impl<U: Unsigned> Line for Decimal<U> {
     ghost text = { λ d. decimal (U.number d.0) };
 
     #[inline(always)]
-    fn append(&self, line: &mut String) -> Result<(), AllocError> {
-        append_number(self.0.widened(), line)
+    fn append(&self, line: &mut LineBuffer) -> Result<(), AllocError> {
+        line.push_number(self.0.widened())
     }
-}
-
-/// The sign of a digit.
-#[inline(always)]
-fn digit(number: u64) -> char
-    requires { number < 10 }
-    ensures { encode_utf8 result ≡ decimal number }
-{
-    char::from(b'0' + number as u8)
-}
-
-/// Puts a number behind what the `String` holds: one of up to two digits, which is what most lines have, digit by digit.
-#[inline(always)]
-fn append_number(number: u64, line: &mut String) -> Result<(), AllocError>
-    ensures { Appended result line.old line.new (decimal number) }
-{
-    if number < 10 {
-        return digit(number).append(line);
-    }
-    if number < 100 {
-        return Joined(digit(number / 10), digit(number % 10)).append(line);
-    }
-    line.push_str(Buffer::new().format(number))
 }
 
 /// One text and then another, on one line.
@@ -127,7 +103,7 @@ impl<A: Line, B: Line> Line for Joined<A, B> {
     ghost text = { λ j. A.text j.0 ++ B.text j.1 };
 
     #[inline(always)]
-    fn append(&self, line: &mut String) -> Result<(), AllocError> {
+    fn append(&self, line: &mut LineBuffer) -> Result<(), AllocError> {
         self.0.append(line)?;
         self.1.append(line)
     }

@@ -1,9 +1,9 @@
-//! Text in lines: each is made in one `String` that is used again, and goes out whole.
+//! Text in lines: each is made in one buffer that is used again, and goes out whole.
 ghost use Rattle.std.specs.Prelude.{◌≡◌, ◌<◌, ◌++◌, [], ◌∷◌, ℕ, List, length, map, slice_index_or};
 ghost use Rattle.std.specs.List.{flat_map};
-ghost use Rattle.std.specs.String.{string_bytes};
 ghost use Rattle.zy_io.specs.Writing.{line_of, Appended, Gathered, Passed, Wrote};
 
+use crate::buffer::LineBuffer;
 use crate::line::Line;
 use crate::stream::Sink;
 use crate::writing::{TextFault, WriteFault, write_all};
@@ -18,9 +18,9 @@ pub trait Lines {
     fn len(&self) -> usize
         ensures { result ≡ length (texts self.now) };
 
-    /// Puts the text of a line, by its place in the list, behind what the `String` holds. At an error a
+    /// Puts the text of a line, by its place in the list, behind what the buffer holds. At an error a
     /// front of it may stand there.
-    fn append(&self, place: usize, line: &mut String) -> Result<(), AllocError>
+    fn append(&self, place: usize, line: &mut LineBuffer) -> Result<(), AllocError>
         requires { place < length (texts self.now) }
         ensures { Appended result line.old line.new (slice_index_or (texts self.now) place []) };
 }
@@ -30,8 +30,8 @@ pub trait Section {
     // The texts of the lines, without their ends.
     ghost texts: { Self → List (List ℕ) };
 
-    /// Writes each line, in the `String`, whose old text is lost.
-    fn write<K: Sink>(&self, sink: &mut K, line: &mut String) -> Result<(), TextFault>
+    /// Writes each line, in the buffer, whose old text is lost.
+    fn write<K: Sink>(&self, sink: &mut K, line: &mut LineBuffer) -> Result<(), TextFault>
         requires { K.failures sink.old < u64.MAX }
         ensures { Wrote (K.written sink.old) (K.written sink.new) (K.failures sink.old)
             (K.failures sink.new) result (flat_map line_of (texts self.now)) };
@@ -46,12 +46,12 @@ pub trait Parts {
     fn len(&self) -> usize
         ensures { result ≡ length (parts self.now) };
 
-    /// Writes the lines of one part, by its place in the list, in the `String`, whose old text is lost.
+    /// Writes the lines of one part, by its place in the list, in the buffer, whose old text is lost.
     fn write_part<K: Sink>(
         &self,
         place: usize,
         sink: &mut K,
-        line: &mut String,
+        line: &mut LineBuffer,
     ) -> Result<(), TextFault>
         requires failures { K.failures sink.old < u64.MAX }
         requires within { place < length (parts self.now) }
@@ -61,20 +61,20 @@ pub trait Parts {
 
 /// Ends the line, and writes it.
 #[inline(always)]
-fn finish_line<K: Sink>(sink: &mut K, line: &mut String) -> Result<(), TextFault>
+fn finish_line<K: Sink>(sink: &mut K, line: &mut LineBuffer) -> Result<(), TextFault>
     requires { K.failures sink.old < u64.MAX }
     ensures { Wrote (K.written sink.old) (K.written sink.new) (K.failures sink.old)
-        (K.failures sink.new) result (line_of (string_bytes line.old)) }
+        (K.failures sink.new) result (line_of line.old) }
 {
-    line.push('\n')?;
+    line.push(b'\n')?;
     write_all(sink, line.as_bytes())?;
     Ok(())
 }
 
-/// Writes one line, in the `String`, whose old text is lost.
+/// Writes one line, in the buffer, whose old text is lost.
 pub fn write_line<K: Sink, D: Line>(
     sink: &mut K,
-    line: &mut String,
+    line: &mut LineBuffer,
     item: &D,
 ) -> Result<(), TextFault>
     requires { K.failures sink.old < u64.MAX }
@@ -89,12 +89,12 @@ pub fn write_line<K: Sink, D: Line>(
 /// How many bytes of lines are gathered before they go out.
 const MANY: usize = 4096;
 
-/// Writes what the `String` holds where that is much, and leaves it empty then.
+/// Writes what the buffer holds where that is much, and leaves it empty then.
 #[inline(always)]
-fn write_much<K: Sink>(sink: &mut K, line: &mut String) -> Result<(), WriteFault>
+fn write_much<K: Sink>(sink: &mut K, line: &mut LineBuffer) -> Result<(), WriteFault>
     requires { K.failures sink.old < u64.MAX }
     ensures { Passed (K.written sink.old) (K.written sink.new) (K.failures sink.old)
-        (K.failures sink.new) result (string_bytes line.old) (string_bytes line.new) }
+        (K.failures sink.new) result line.old line.new }
 {
     if line.len() >= MANY {
         write_all(sink, line.as_bytes())?;
@@ -103,29 +103,29 @@ fn write_much<K: Sink>(sink: &mut K, line: &mut String) -> Result<(), WriteFault
     Ok(())
 }
 
-/// Puts the line at a place of the list behind what the `String` holds, and writes that where it is much.
+/// Puts the line at a place of the list behind what the buffer holds, and writes that where it is much.
 #[inline(always)]
 fn gather_place<K: Sink, L: Lines>(
     sink: &mut K,
-    line: &mut String,
+    line: &mut LineBuffer,
     lines: &L,
     place: usize,
 ) -> Result<(), TextFault>
     requires failures { K.failures sink.old < u64.MAX }
     requires within { place < length (L.texts lines.now) }
     ensures { Gathered (K.written sink.old) (K.written sink.new) (K.failures sink.old) (K.failures sink.new)
-        result (string_bytes line.old ++ line_of (slice_index_or (L.texts lines.now) place [])) (string_bytes line.new) }
+        result (line.old ++ line_of (slice_index_or (L.texts lines.now) place [])) line.new }
 {
     lines.append(place, line)?;
-    line.push('\n')?;
+    line.push(b'\n')?;
     write_much(sink, line)?;
     Ok(())
 }
 
-/// Writes each line of the list, in the `String`, whose old text is lost.
+/// Writes each line of the list, in the buffer, whose old text is lost.
 pub fn write_lines<K: Sink, L: Lines>(
     sink: &mut K,
-    line: &mut String,
+    line: &mut LineBuffer,
     lines: &L,
 ) -> Result<(), TextFault>
     requires { K.failures sink.old < u64.MAX }
@@ -140,10 +140,10 @@ pub fn write_lines<K: Sink, L: Lines>(
     Ok(())
 }
 
-/// Writes the lines of each part of the list, in the `String`, whose old text is lost.
+/// Writes the lines of each part of the list, in the buffer, whose old text is lost.
 pub fn write_parts<K: Sink, P: Parts>(
     sink: &mut K,
-    line: &mut String,
+    line: &mut LineBuffer,
     parts: &P,
 ) -> Result<(), TextFault>
     requires { K.failures sink.old < u64.MAX }
@@ -168,7 +168,7 @@ impl<D: Line> Lines for Each<'_, D> {
     }
 
     #[inline(always)]
-    fn append(&self, place: usize, line: &mut String) -> Result<(), AllocError> {
+    fn append(&self, place: usize, line: &mut LineBuffer) -> Result<(), AllocError> {
         self.0[place].append(line)
     }
 }
@@ -176,7 +176,7 @@ impl<D: Line> Lines for Each<'_, D> {
 impl<D: Line> Section for Each<'_, D> {
     ghost texts = { λ s. map D.text s.0.now };
 
-    fn write<K: Sink>(&self, sink: &mut K, line: &mut String) -> Result<(), TextFault> {
+    fn write<K: Sink>(&self, sink: &mut K, line: &mut LineBuffer) -> Result<(), TextFault> {
         write_lines(sink, line, self)
     }
 }
@@ -188,7 +188,7 @@ pub struct One<D>(pub D);
 impl<D: Line> Section for One<D> {
     ghost texts = { λ s. D.text s.0 ∷ [] };
 
-    fn write<K: Sink>(&self, sink: &mut K, line: &mut String) -> Result<(), TextFault> {
+    fn write<K: Sink>(&self, sink: &mut K, line: &mut LineBuffer) -> Result<(), TextFault> {
         write_line(sink, line, &self.0)
     }
 }
@@ -200,7 +200,7 @@ pub struct Both<A, B>(pub A, pub B);
 impl<A: Section, B: Section> Section for Both<A, B> {
     ghost texts = { λ s. A.texts s.0 ++ B.texts s.1 };
 
-    fn write<K: Sink>(&self, sink: &mut K, line: &mut String) -> Result<(), TextFault> {
+    fn write<K: Sink>(&self, sink: &mut K, line: &mut LineBuffer) -> Result<(), TextFault> {
         self.0.write(sink, line)?;
         self.1.write(sink, line)
     }

@@ -2,6 +2,7 @@
 ghost use Rattle.std.specs.Prelude.{◌<◌, ◌++◌, Some, None, codes, map};
 ghost use Rattle.std.specs.Fmt.{decimal};
 
+use crate::buffer::LineBuffer;
 use crate::line::{Decimal, Joined, Line};
 use crate::memory::{SliceSource, VecSink};
 use crate::reading::{MAX_INPUT, ReadFault, read_all};
@@ -101,7 +102,7 @@ struct Pair(u16, u32);
 impl Line for Pair {
     ghost text = { λ p. decimal p.0 ++ codes "=" ++ decimal p.1 };
 
-    fn append(&self, line: &mut String) -> Result<(), AllocError> {
+    fn append(&self, line: &mut LineBuffer) -> Result<(), AllocError> {
         Joined(Decimal(self.0), Joined("=", Decimal(self.1))).append(line)
     }
 }
@@ -121,7 +122,7 @@ impl Parts for Groups<'_> {
         &self,
         place: usize,
         sink: &mut K,
-        line: &mut String,
+        line: &mut LineBuffer,
     ) -> Result<(), TextFault> {
         Each(self.0[place]).write(sink, line)
     }
@@ -212,7 +213,7 @@ fn writes_whole(rt: HostRuntime) {
 }
 
 /// Writes each kind of list of lines.
-fn write_each(sink: &mut VecSink, line: &mut String) -> Result<(), TextFault>
+fn write_each(sink: &mut VecSink, line: &mut LineBuffer) -> Result<(), TextFault>
     requires { sink.old.1 < u64.MAX }
 {
     listing(&[Pair(3, 4), Pair(50, 60)]).write(sink, line)?;
@@ -227,7 +228,8 @@ fn write_each(sink: &mut VecSink, line: &mut String) -> Result<(), TextFault>
 
 #[test]
 fn writes_lines(rt: HostRuntime) -> Result<(), Fail> {
-    let mut line = String::from_str(rt.alloc(), "old")?;
+    let mut line = LineBuffer::new(rt.alloc());
+    line.push_str("old")?;
     let mut sink = VecSink::new(Vec::new(rt.alloc()));
     assert!(rt; write_each(&mut sink, &mut line).is_ok());
     assert!(rt; sink.bytes().starts_with(LISTING));
@@ -237,7 +239,7 @@ fn writes_lines(rt: HostRuntime) -> Result<(), Fail> {
 
 #[test]
 fn a_failed_write_leaves_a_front(rt: HostRuntime) {
-    let mut line = String::new(rt.alloc());
+    let mut line = LineBuffer::new(rt.alloc());
     for fails in [false, true] {
         for bad in 1..=15 {
             let mut sink = CountingWriter::new(Drip {

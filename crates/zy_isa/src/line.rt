@@ -1,6 +1,5 @@
 //! The text of each node, rule, register, row, instruction and choice.
-ghost use Rattle.std.specs.Prelude.{◌≡◌, ◌++◌, [], ◌∷◌};
-ghost use Rattle.std.specs.Char.{encode_utf8};
+ghost use Rattle.std.specs.Prelude.{◌≡◌, [], ◌∷◌};
 ghost use Rattle.zy_isa.specs.Words.{spaced};
 ghost use Rattle.zy_isa.specs.Canon.{node_text, rule_text, reg_text, row_text, instr_text, choice_text};
 
@@ -10,15 +9,16 @@ use crate::node::Node;
 use crate::row::Row;
 use crate::rule::Rule;
 use std::alloc::AllocError;
+use zy_io::buffer::LineBuffer;
 use zy_io::line::{Decimal, Joined, Line};
 
 impl Line for Node {
     ghost text = { node_text };
 
-    fn append(&self, line: &mut String) -> Result<(), AllocError> {
+    fn append(&self, line: &mut LineBuffer) -> Result<(), AllocError> {
         match self {
-            Node::A => 'A'.append(line),
-            Node::B => 'B'.append(line),
+            Node::A => b'A'.append(line),
+            Node::B => b'B'.append(line),
         }
     }
 }
@@ -26,7 +26,7 @@ impl Line for Node {
 impl Line for Rule {
     ghost text = { rule_text };
 
-    fn append(&self, line: &mut String) -> Result<(), AllocError> {
+    fn append(&self, line: &mut LineBuffer) -> Result<(), AllocError> {
         match self {
             Rule::Held => "held".append(line),
             Rule::Loose => "loose".append(line),
@@ -36,18 +36,18 @@ impl Line for Rule {
 
 impl Reg {
     /// The sign behind its `r`.
-    fn digit(self) -> char
-        ensures { reg_text self ≡ encode_utf8 114 ++ encode_utf8 result }
+    fn digit(self) -> u8
+        ensures { reg_text self ≡ 114 ∷ result ∷ [] }
     {
         match self {
-            Reg::R0 => '0',
-            Reg::R1 => '1',
-            Reg::R2 => '2',
-            Reg::R3 => '3',
-            Reg::R4 => '4',
-            Reg::R5 => '5',
-            Reg::R6 => '6',
-            Reg::R7 => '7',
+            Reg::R0 => b'0',
+            Reg::R1 => b'1',
+            Reg::R2 => b'2',
+            Reg::R3 => b'3',
+            Reg::R4 => b'4',
+            Reg::R5 => b'5',
+            Reg::R6 => b'6',
+            Reg::R7 => b'7',
         }
     }
 }
@@ -56,18 +56,18 @@ impl Line for Reg {
     ghost text = { reg_text };
 
     #[inline(always)]
-    fn append(&self, line: &mut String) -> Result<(), AllocError> {
-        Joined('r', self.digit()).append(line)
+    fn append(&self, line: &mut LineBuffer) -> Result<(), AllocError> {
+        Joined(b'r', self.digit()).append(line)
     }
 }
 
 impl Line for Row {
     ghost text = { row_text };
 
-    fn append(&self, line: &mut String) -> Result<(), AllocError> {
+    fn append(&self, line: &mut LineBuffer) -> Result<(), AllocError> {
         Joined(
             "row ",
-            Joined(Decimal(self.key), Joined(' ', Decimal(self.value))),
+            Joined(Decimal(self.key), Joined(b' ', Decimal(self.value))),
         )
         .append(line)
     }
@@ -81,19 +81,19 @@ impl Line for Pair {
     ghost text = { λ p. spaced (reg_text p.0 ∷ reg_text p.1 ∷ []) };
 
     #[inline(always)]
-    fn append(&self, line: &mut String) -> Result<(), AllocError> {
-        Joined(self.0, Joined(' ', self.1)).append(line)
+    fn append(&self, line: &mut LineBuffer) -> Result<(), AllocError> {
+        Joined(self.0, Joined(b' ', self.1)).append(line)
     }
 }
 
 impl Line for Instr {
     ghost text = { instr_text };
 
-    fn append(&self, line: &mut String) -> Result<(), AllocError> {
+    fn append(&self, line: &mut LineBuffer) -> Result<(), AllocError> {
         match self {
             Instr::Set(a, number) => Joined(
                 "set ",
-                Joined(*a, Joined(' ', Decimal(*number))),
+                Joined(*a, Joined(b' ', Decimal(*number))),
             ).append(line),
             Instr::Read(a, b) => Joined("read ", Pair(*a, *b)).append(line),
             Instr::Write(a, b) => Joined("write ", Pair(*a, *b)).append(line),
@@ -114,7 +114,7 @@ impl Line for Choice {
     ghost text = { choice_text };
 
     #[inline(always)]
-    fn append(&self, line: &mut String) -> Result<(), AllocError> {
+    fn append(&self, line: &mut LineBuffer) -> Result<(), AllocError> {
         match self {
             Choice::Start => "C start".append(line),
             Choice::Begin(t) => Joined("C begin ", Decimal(*t)).append(line),

@@ -8,6 +8,7 @@ use crate::rule::Rule;
 use crate::scenario::{Scenario, ScenarioFault, opening_pages_for, opening_rows};
 use std::alloc::{AllocError, Global};
 use std::test::Fail;
+use zy_io::buffer::LineBuffer;
 use zy_io::line::Line;
 
 const COUNTING: [Instr; 4] = [
@@ -114,9 +115,9 @@ fn each_choice_has_its_actor(rt: HostRuntime) {
 
 /// Whether this is the item's line.
 fn is_shown<L: Line + Copy>(alloc: Global, item: L, text: &str) -> Result<bool, AllocError> {
-    let mut line = String::new(alloc);
+    let mut line = LineBuffer::new(alloc);
     item.append(&mut line)?;
-    Ok(line.as_str() == text)
+    Ok(line.as_bytes() == text.as_bytes())
 }
 
 #[test]

@@ -3,6 +3,7 @@ ghost use Rattle.std.specs.Prelude.{◌++◌, codes};
 ghost use Rattle.zy_isa.specs.Canon.{choice_text};
 
 use std::alloc::AllocError;
+use zy_io::buffer::LineBuffer;
 use zy_io::line::{Decimal, Joined, Line};
 use zy_isa::choice::Choice;
 use zy_isa::node::Node;
@@ -15,7 +16,7 @@ impl Line for ChoiceText {
     ghost text = { λ c. choice_text c.0 };
 
     #[inline(always)]
-    fn append(&self, line: &mut String) -> Result<(), AllocError> {
+    fn append(&self, line: &mut LineBuffer) -> Result<(), AllocError> {
         match self.0 {
             Choice::Run(Node::A, t) => Joined("A run ", Decimal(t)).append(line),
             Choice::Run(Node::B, t) => Joined("B run ", Decimal(t)).append(line),
@@ -32,11 +33,11 @@ impl Line for SpacedChoice {
     ghost text = { λ c. codes " " ++ choice_text c.0 };
 
     #[inline(always)]
-    fn append(&self, line: &mut String) -> Result<(), AllocError> {
+    fn append(&self, line: &mut LineBuffer) -> Result<(), AllocError> {
         match self.0 {
             Choice::Run(Node::A, t) => Joined(" A run ", Decimal(t)).append(line),
             Choice::Run(Node::B, t) => Joined(" B run ", Decimal(t)).append(line),
-            choice => Joined(' ', choice).append(line),
+            choice => Joined(b' ', choice).append(line),
         }
     }
 }

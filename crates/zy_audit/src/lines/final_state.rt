@@ -5,6 +5,7 @@ use crate::lines::link::LinkLine;
 use crate::lines::mode::ModeLine;
 use crate::lines::page::Pages;
 use crate::lines::txn::Txns;
+use zy_io::buffer::LineBuffer;
 use zy_io::section::{Both, One, Section};
 use zy_io::stream::Sink;
 use zy_io::writing::TextFault;
@@ -18,7 +19,7 @@ pub(crate) struct FinalState<'a>(pub &'a Machine);
 impl Section for FinalState<'_> {
     ghost texts = { λ s. final_texts s.0.now.state };
 
-    fn write<K: Sink>(&self, sink: &mut K, line: &mut String) -> Result<(), TextFault> {
+    fn write<K: Sink>(&self, sink: &mut K, line: &mut LineBuffer) -> Result<(), TextFault> {
         let machine = self.0;
         let modes = Both(
             One(ModeLine {

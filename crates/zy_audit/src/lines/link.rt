@@ -6,6 +6,7 @@ ghost use Rattle.zy_audit.specs.Texts.{link_text, message_text, messages_text};
 
 use crate::lines::words::LinkText;
 use std::alloc::AllocError;
+use zy_io::buffer::LineBuffer;
 use zy_io::line::{Decimal, Joined, Line};
 use zy_isa::node::Node;
 use zy_links::link::Link;
@@ -19,7 +20,7 @@ struct MessageText<'a>(&'a Message);
 impl Line for MessageText<'_> {
     ghost text = { λ m. message_text (message_of m.0.now) };
 
-    fn append(&self, line: &mut String) -> Result<(), AllocError> {
+    fn append(&self, line: &mut LineBuffer) -> Result<(), AllocError> {
         match self.0 {
             Message::Wire(_) => " wire".append(line),
             Message::Ready => " ready".append(line),
@@ -39,7 +40,7 @@ struct Messages<'a>(&'a Link);
 impl Line for Messages<'_> {
     ghost text = { λ m. messages_text (messages_of m.0.now.messages) };
 
-    fn append(&self, line: &mut String) -> Result<(), AllocError> {
+    fn append(&self, line: &mut LineBuffer) -> Result<(), AllocError> {
         for i in 0..self.0.len() {
             MessageText(self.0.message_at(i)).append(line)?;
         }
@@ -57,13 +58,13 @@ pub(crate) struct LinkLine<'a> {
 impl Line for LinkLine<'_> {
     ghost text = { λ l. link_text l.node (messages_of l.link.now.messages) };
 
-    fn append(&self, line: &mut String) -> Result<(), AllocError> {
+    fn append(&self, line: &mut LineBuffer) -> Result<(), AllocError> {
         Joined("link ", Joined(LinkText(self.node), Messages(self.link))).append(line)
     }
 }
 
 /// Appends the line of the link from a node, without its end. At an error a front of it may stand there.
-pub fn link_line(machine: &Machine, n: Node, line: &mut String) -> Result<(), AllocError>
+pub fn link_line(machine: &Machine, n: Node, line: &mut LineBuffer) -> Result<(), AllocError>
     ensures { Appended result line.old line.new (link_text n (facing n machine.now.state).outbox) }
 {
     LinkLine {

@@ -3,6 +3,7 @@ ghost use Rattle.zy_audit.specs.Texts.{mode_text};
 
 use crate::lines::words::ModeText;
 use std::alloc::AllocError;
+use zy_io::buffer::LineBuffer;
 use zy_io::line::{Joined, Line};
 use zy_isa::node::Node;
 use zy_modes::mode::NodeMode;
@@ -17,7 +18,7 @@ pub(crate) struct ModeLine {
 impl Line for ModeLine {
     ghost text = { λ l. mode_text l.node l.mode };
 
-    fn append(&self, line: &mut String) -> Result<(), AllocError> {
-        Joined("mode ", Joined(self.node, Joined(' ', ModeText(self.mode)))).append(line)
+    fn append(&self, line: &mut LineBuffer) -> Result<(), AllocError> {
+        Joined("mode ", Joined(self.node, Joined(b' ', ModeText(self.mode)))).append(line)
     }
 }

@@ -9,6 +9,7 @@ ghost use Rattle.zy_audit.specs.Listing.{page_texts};
 use crate::lines::rows::Rows;
 use crate::lines::words::PlaceText;
 use std::alloc::AllocError;
+use zy_io::buffer::LineBuffer;
 use zy_io::line::{Decimal, Joined, Line};
 use zy_io::section::{Lines, Section, write_lines};
 use zy_io::stream::Sink;
@@ -27,17 +28,17 @@ struct PageLine<'a> {
 impl Line for PageLine<'_> {
     ghost text = { λ l. leaf_text l.place l.page.now };
 
-    fn append(&self, line: &mut String) -> Result<(), AllocError> {
+    fn append(&self, line: &mut LineBuffer) -> Result<(), AllocError> {
         let (number, low) = (self.page.number(), self.page.low());
         let rows = Joined(" rows", Rows(self.page.rows()));
         let contents = Joined(" low ", Joined(Decimal(low), rows));
-        let place = Joined(' ', Joined(PlaceText(self.place), contents));
+        let place = Joined(b' ', Joined(PlaceText(self.place), contents));
         Joined("page ", Joined(Decimal(number), place)).append(line)
     }
 }
 
 /// Appends the line of a page, without its end. At an error a front of it may stand there.
-pub fn page_line(machine: &Machine, p: u16, line: &mut String) -> Result<(), AllocError>
+pub fn page_line(machine: &Machine, p: u16, line: &mut LineBuffer) -> Result<(), AllocError>
     requires { IsSome (page_in p (all_leaves machine.now.state)) }
     ensures { Appended result line.old line.new (page_text machine.now.state p) }
 {
@@ -59,7 +60,7 @@ impl Lines for Pages<'_> {
         usize::from(self.0.page_count())
     }
 
-    fn append(&self, place: usize, line: &mut String) -> Result<(), AllocError> {
+    fn append(&self, place: usize, line: &mut LineBuffer) -> Result<(), AllocError> {
         let _count = self.0.page_count();
         page_line(self.0, place as u16, line)
     }
@@ -68,7 +69,7 @@ impl Lines for Pages<'_> {
 impl Section for Pages<'_> {
     ghost texts = { λ s. page_texts s.0.now.state };
 
-    fn write<K: Sink>(&self, sink: &mut K, line: &mut String) -> Result<(), TextFault> {
+    fn write<K: Sink>(&self, sink: &mut K, line: &mut LineBuffer) -> Result<(), TextFault> {
         write_lines(sink, line, self)
     }
 }

@@ -2,6 +2,7 @@
 ghost use Rattle.zy_audit.specs.Texts.{cell_text, reg_text, regs_text, rows_text};
 
 use std::alloc::AllocError;
+use zy_io::buffer::LineBuffer;
 use zy_io::line::{Decimal, Joined, Line};
 use zy_isa::row::Row;
 
@@ -13,9 +14,9 @@ impl Line for Cell {
     ghost text = { λ c. cell_text c.0 };
 
     #[inline(always)]
-    fn append(&self, line: &mut String) -> Result<(), AllocError> {
+    fn append(&self, line: &mut LineBuffer) -> Result<(), AllocError> {
         let Row { key, value } = self.0;
-        Joined(' ', Joined(Decimal(key), Joined('=', Decimal(value)))).append(line)
+        Joined(b' ', Joined(Decimal(key), Joined(b'=', Decimal(value)))).append(line)
     }
 }
 
@@ -26,7 +27,7 @@ pub(crate) struct Rows<'a>(pub &'a [Row]);
 impl Line for Rows<'_> {
     ghost text = { λ r. rows_text r.0.now };
 
-    fn append(&self, line: &mut String) -> Result<(), AllocError> {
+    fn append(&self, line: &mut LineBuffer) -> Result<(), AllocError> {
         for row in self.0 {
             Cell(*row).append(line)?;
         }
@@ -42,8 +43,8 @@ impl Line for Value {
     ghost text = { λ v. reg_text v.0 };
 
     #[inline(always)]
-    fn append(&self, line: &mut String) -> Result<(), AllocError> {
-        Joined(' ', Decimal(self.0)).append(line)
+    fn append(&self, line: &mut LineBuffer) -> Result<(), AllocError> {
+        Joined(b' ', Decimal(self.0)).append(line)
     }
 }
 
@@ -54,7 +55,7 @@ pub(crate) struct Regs<'a>(pub &'a [u32]);
 impl Line for Regs<'_> {
     ghost text = { λ r. regs_text r.0.now };
 
-    fn append(&self, line: &mut String) -> Result<(), AllocError> {
+    fn append(&self, line: &mut LineBuffer) -> Result<(), AllocError> {
         for value in self.0 {
             Value(*value).append(line)?;
         }

@@ -2,6 +2,7 @@
 ghost use Rattle.zy_audit.specs.Texts.{serial_text};
 
 use std::alloc::AllocError;
+use zy_io::buffer::LineBuffer;
 use zy_io::line::Line;
 
 /// Whether the serial run gives the same.
@@ -11,7 +12,7 @@ pub(crate) struct SerialLine(pub bool);
 impl Line for SerialLine {
     ghost text = { λ l. serial_text l.0 };
 
-    fn append(&self, line: &mut String) -> Result<(), AllocError> {
+    fn append(&self, line: &mut LineBuffer) -> Result<(), AllocError> {
         if self.0 {
             "serial same".append(line)
         } else {

@@ -7,6 +7,7 @@ ghost use Rattle.zy_audit.specs.Listing.{step_texts};
 use crate::lines::choice::SpacedChoice;
 use crate::lines::words::{KindText, WhyText};
 use std::alloc::AllocError;
+use zy_io::buffer::LineBuffer;
 use zy_io::line::{Decimal, Joined, Line};
 use zy_io::section::{Lines, Section, write_lines};
 use zy_io::stream::Sink;
@@ -26,9 +27,9 @@ struct SplitText {
 impl Line for SplitText {
     ghost text = { λ s. outcome_text (outcome.Split s.page s.new_page s.boundary) };
 
-    fn append(&self, line: &mut String) -> Result<(), AllocError> {
-        let upper = Joined(Decimal(self.new_page), Joined(' ', Decimal(self.boundary)));
-        Joined("split ", Joined(Decimal(self.page), Joined(' ', upper))).append(line)
+    fn append(&self, line: &mut LineBuffer) -> Result<(), AllocError> {
+        let upper = Joined(Decimal(self.new_page), Joined(b' ', Decimal(self.boundary)));
+        Joined("split ", Joined(Decimal(self.page), Joined(b' ', upper))).append(line)
     }
 }
 
@@ -39,7 +40,7 @@ struct OutcomeText(Outcome);
 impl Line for OutcomeText {
     ghost text = { λ o. outcome_text o.0 };
 
-    fn append(&self, line: &mut String) -> Result<(), AllocError> {
+    fn append(&self, line: &mut LineBuffer) -> Result<(), AllocError> {
         match self.0 {
             Outcome::Started => "started".append(line),
             Outcome::BadMode => "badmode".append(line),
@@ -92,7 +93,7 @@ impl Line for CameText {
     ghost text = { λ c. codes " -> " ++ outcome_text c.0 };
 
     #[inline(always)]
-    fn append(&self, line: &mut String) -> Result<(), AllocError> {
+    fn append(&self, line: &mut LineBuffer) -> Result<(), AllocError> {
         match self.0 {
             Outcome::Did => " -> did".append(line),
             outcome => Joined(" -> ", OutcomeText(outcome)).append(line),
@@ -108,7 +109,7 @@ impl Line for SentText {
     ghost text = { λ s. sent_text s.0 };
 
     #[inline(always)]
-    fn append(&self, line: &mut String) -> Result<(), AllocError> {
+    fn append(&self, line: &mut LineBuffer) -> Result<(), AllocError> {
         match self.0 {
             None => Ok(()),
             Some(kind) => Joined(" ! ", KindText(kind)).append(line),
@@ -127,7 +128,7 @@ impl Line for StepLine<'_> {
     ghost text = { λ s. step_text s.number s.entry.now };
 
     #[inline(always)]
-    fn append(&self, line: &mut String) -> Result<(), AllocError> {
+    fn append(&self, line: &mut LineBuffer) -> Result<(), AllocError> {
         let Entry {
             choice,
             outcome,
@@ -150,7 +151,7 @@ impl Lines for Steps<'_> {
     }
 
     #[inline(always)]
-    fn append(&self, place: usize, line: &mut String) -> Result<(), AllocError> {
+    fn append(&self, place: usize, line: &mut LineBuffer) -> Result<(), AllocError> {
         let number = place + 1;
         let entry = &self.0[place];
         StepLine { number, entry }.append(line)
@@ -160,7 +161,7 @@ impl Lines for Steps<'_> {
 impl Section for Steps<'_> {
     ghost texts = { λ s. step_texts 1 s.0.now };
 
-    fn write<K: Sink>(&self, sink: &mut K, line: &mut String) -> Result<(), TextFault> {
+    fn write<K: Sink>(&self, sink: &mut K, line: &mut LineBuffer) -> Result<(), TextFault> {
         write_lines(sink, line, self)
     }
 }

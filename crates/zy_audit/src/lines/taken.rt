@@ -5,6 +5,7 @@ ghost use Rattle.zy_machine.specs.Histories.{choices_of};
 
 use crate::lines::choice::ChoiceText;
 use std::alloc::AllocError;
+use zy_io::buffer::LineBuffer;
 use zy_io::line::Line;
 use zy_io::section::{Lines, Section, write_lines};
 use zy_io::stream::Sink;
@@ -23,7 +24,7 @@ impl Lines for Taken<'_> {
     }
 
     #[inline(always)]
-    fn append(&self, place: usize, line: &mut String) -> Result<(), AllocError> {
+    fn append(&self, place: usize, line: &mut LineBuffer) -> Result<(), AllocError> {
         ChoiceText(self.0[place].choice).append(line)
     }
 }
@@ -31,7 +32,7 @@ impl Lines for Taken<'_> {
 impl Section for Taken<'_> {
     ghost texts = { λ s. map choice_text (choices_of s.0.now) };
 
-    fn write<K: Sink>(&self, sink: &mut K, line: &mut String) -> Result<(), TextFault> {
+    fn write<K: Sink>(&self, sink: &mut K, line: &mut LineBuffer) -> Result<(), TextFault> {
         write_lines(sink, line, self)
     }
 }

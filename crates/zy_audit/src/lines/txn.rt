@@ -7,6 +7,7 @@ ghost use Rattle.zy_audit.specs.Listing.{txn_texts};
 use crate::lines::rows::{Regs, Rows};
 use crate::lines::words::WhyText;
 use std::alloc::AllocError;
+use zy_io::buffer::LineBuffer;
 use zy_io::line::{Decimal, Joined, Line};
 use zy_io::section::{Lines, Section, write_lines};
 use zy_io::stream::Sink;
@@ -42,7 +43,7 @@ struct DoneText<'a>(&'a Txn);
 impl Line for DoneText<'_> {
     ghost text = { λ d. done_text d.0.now };
 
-    fn append(&self, line: &mut String) -> Result<(), AllocError> {
+    fn append(&self, line: &mut LineBuffer) -> Result<(), AllocError> {
         let regs = Joined(" regs", Regs(self.0.regs()));
         Joined(" done ", Joined(Decimal(self.0.done()), regs)).append(line)
     }
@@ -55,7 +56,7 @@ struct ActiveText<'a>(&'a Txn);
 impl Line for ActiveText<'_> {
     ghost text = { λ a. active_text a.0.now };
 
-    fn append(&self, line: &mut String) -> Result<(), AllocError> {
+    fn append(&self, line: &mut LineBuffer) -> Result<(), AllocError> {
         let txn = self.0;
         let rows = Joined(" private", Rows(txn.rows()));
         let place = Joined(
@@ -76,8 +77,8 @@ struct CommittedText<'a> {
 impl Line for CommittedText<'_> {
     ghost text = { λ c. committed_text c.txn.now c.place };
 
-    fn append(&self, line: &mut String) -> Result<(), AllocError> {
-        let place = Joined(' ', Joined(Decimal(self.place), DoneText(self.txn)));
+    fn append(&self, line: &mut LineBuffer) -> Result<(), AllocError> {
+        let place = Joined(b' ', Joined(Decimal(self.place), DoneText(self.txn)));
         Joined(" committed ", Joined(self.txn.node(), place)).append(line)
     }
 }
@@ -92,8 +93,8 @@ struct AbortedText<'a> {
 impl Line for AbortedText<'_> {
     ghost text = { λ a. aborted_text a.txn.now a.why };
 
-    fn append(&self, line: &mut String) -> Result<(), AllocError> {
-        let why = Joined(' ', Joined(WhyText(self.why), DoneText(self.txn)));
+    fn append(&self, line: &mut LineBuffer) -> Result<(), AllocError> {
+        let why = Joined(b' ', Joined(WhyText(self.why), DoneText(self.txn)));
         Joined(" aborted ", Joined(self.txn.node(), why)).append(line)
     }
 }
@@ -109,7 +110,7 @@ struct StatusText<'a> {
 impl Line for StatusText<'_> {
     ghost text = { λ s. status_text s.commits.now s.t s.txn.now s.txn.now.status };
 
-    fn append(&self, line: &mut String) -> Result<(), AllocError> {
+    fn append(&self, line: &mut LineBuffer) -> Result<(), AllocError> {
         let txn = self.txn;
         match txn.status() {
             Status::New => " new".append(line),
@@ -124,7 +125,7 @@ impl Line for StatusText<'_> {
 }
 
 /// Appends the line of a transaction, without its end. At an error a front of it may stand there.
-pub fn txn_line(machine: &Machine, t: u8, line: &mut String) -> Result<(), AllocError>
+pub fn txn_line(machine: &Machine, t: u8, line: &mut LineBuffer) -> Result<(), AllocError>
     requires { t < length machine.now.state.txns }
     ensures { Appended result line.old line.new (txn_text machine.now.state t) }
 {
@@ -147,7 +148,7 @@ impl Lines for Txns<'_> {
         self.0.txn_count()
     }
 
-    fn append(&self, place: usize, line: &mut String) -> Result<(), AllocError> {
+    fn append(&self, place: usize, line: &mut LineBuffer) -> Result<(), AllocError> {
         let _count = self.0.txn_count();
         txn_line(self.0, place as u8, line)
     }
@@ -156,7 +157,7 @@ impl Lines for Txns<'_> {
 impl Section for Txns<'_> {
     ghost texts = { λ s. txn_texts s.0.now.state };
 
-    fn write<K: Sink>(&self, sink: &mut K, line: &mut String) -> Result<(), TextFault> {
+    fn write<K: Sink>(&self, sink: &mut K, line: &mut LineBuffer) -> Result<(), TextFault> {
         write_lines(sink, line, self)
     }
 }

@@ -2,6 +2,7 @@
 ghost use Rattle.zy_audit.specs.Texts.{kind_text, link_word, mode_word, place_text, why_text};
 
 use std::alloc::AllocError;
+use zy_io::buffer::LineBuffer;
 use zy_io::line::{Decimal, Joined, Line};
 use zy_isa::node::Node;
 use zy_links::kind::Kind;
@@ -16,7 +17,7 @@ pub(crate) struct WhyText(pub Why);
 impl Line for WhyText {
     ghost text = { λ w. why_text w.0 };
 
-    fn append(&self, line: &mut String) -> Result<(), AllocError> {
+    fn append(&self, line: &mut LineBuffer) -> Result<(), AllocError> {
         match self.0 {
             Why::Own => "own".append(line),
             Why::Killed => "killed".append(line),
@@ -37,7 +38,7 @@ pub(crate) struct KindText(pub Kind);
 impl Line for KindText {
     ghost text = { λ k. kind_text k.0 };
 
-    fn append(&self, line: &mut String) -> Result<(), AllocError> {
+    fn append(&self, line: &mut LineBuffer) -> Result<(), AllocError> {
         match self.0 {
             Kind::Wire => "wire".append(line),
             Kind::Ready => "ready".append(line),
@@ -57,7 +58,7 @@ pub struct ModeText(pub NodeMode);
 impl Line for ModeText {
     ghost text = { λ m. mode_word m.0 };
 
-    fn append(&self, line: &mut String) -> Result<(), AllocError> {
+    fn append(&self, line: &mut LineBuffer) -> Result<(), AllocError> {
         match self.0 {
             NodeMode::Empty => "empty".append(line),
             NodeMode::Normal => "normal".append(line),
@@ -78,7 +79,7 @@ pub(crate) struct LinkText(pub Node);
 impl Line for LinkText {
     ghost text = { λ l. link_word l.0 };
 
-    fn append(&self, line: &mut String) -> Result<(), AllocError> {
+    fn append(&self, line: &mut LineBuffer) -> Result<(), AllocError> {
         match self.0 {
             Node::A => "AB".append(line),
             Node::B => "BA".append(line),
@@ -93,7 +94,7 @@ pub(crate) struct PlaceText(pub Place);
 impl Line for PlaceText {
     ghost text = { λ p. place_text p.0 };
 
-    fn append(&self, line: &mut String) -> Result<(), AllocError> {
+    fn append(&self, line: &mut LineBuffer) -> Result<(), AllocError> {
         match self.0 {
             Place::Nowhere => "nowhere".append(line),
             Place::At(node) => node.append(line),

@@ -2,7 +2,6 @@
 use Rattle.std.proofs.Common.{◌∙◌, sym, subst, arith}
 use Rattle.std.proofs.lemmas.Result.{err_from_is_err_and}
 use Rattle.std.specs.Io.KnownBytes.{Appends}
-use Rattle.std.specs.String.{string_bytes}
 use Rattle.zy_io.specs.Streams.{WroteFront}
 use Rattle.zy_isa.specs.Words.{lines_of, words_of}
 use Rattle.zy_words.specs.Lines.{first_line}
@@ -18,12 +17,12 @@ returns-in_err-write_all g c =
     let some = sym c.is_empty.ensures ∙ c.loop-words-test.true in
     let line = first_line c.loop-words.rest.now in
     let taken = line_taken c.loop-words.rest.now c.take_line-rest.result.now some c.take_line-rest.ensures.below in
-    let says = says_first c.loop-words.debugger c.answer.new.debugger (words_of line) (string_bytes c.answer.new.line)
-    (subst (λ ws. LineSays c.loop-words.debugger ws c.answer.new.debugger (string_bytes c.answer.new.line)) (c.as_slice.ensures ∙ c.take_line-rest.ensures.words) c.in_ok-answer.ensures) in
+    let says = says_first c.loop-words.debugger c.answer.new.debugger (words_of line) c.answer.new.line
+    (subst (λ ws. LineSays c.loop-words.debugger ws c.answer.new.debugger c.answer.new.line) (c.as_slice.ensures ∙ c.take_line-rest.ensures.words) c.in_ok-answer.ensures) in
     let front = subst (WroteFront (written c.loop-words.sink) (written c.write_all.new.sink)) c.as_bytes.ensures.value c.in_err-write_all.ensures.0 in
     rw p.1 (rw p.2 (
       said_torn (written c.args.sink.now) (written c.loop-words.sink) (written c.write_all.new.sink) c.args.debugger.now c.loop-words.debugger c.answer.new.debugger
-          (lines_of c.args.commands.now) (lines_of c.loop-words.rest.now) (lines_of c.take_line-rest.result.now) line (string_bytes c.answer.new.line)
+          (lines_of c.args.commands.now) (lines_of c.loop-words.rest.now) (lines_of c.take_line-rest.result.now) line c.answer.new.line
           c.loop-words.invariant.said taken says front,
       omega (arith, c.in_err-write_all.ensures.1, c.loop-words.invariant.same),
     ))
@@ -34,12 +33,12 @@ loop-words-preserved g c =
     let some = sym c.is_empty.ensures ∙ c.loop-words-test.true in
     let line = first_line c.loop-words.rest.now in
     let taken = line_taken c.loop-words.rest.now c.take_line-rest.result.now some c.take_line-rest.ensures.below in
-    let says = says_first c.loop-words.debugger c.answer.new.debugger (words_of line) (string_bytes c.answer.new.line)
-    (subst (λ ws. LineSays c.loop-words.debugger ws c.answer.new.debugger (string_bytes c.answer.new.line)) (c.as_slice.ensures ∙ c.take_line-rest.ensures.words) c.in_ok-answer.ensures) in
+    let says = says_first c.loop-words.debugger c.answer.new.debugger (words_of line) c.answer.new.line
+    (subst (λ ws. LineSays c.loop-words.debugger ws c.answer.new.debugger c.answer.new.line) (c.as_slice.ensures ∙ c.take_line-rest.ensures.words) c.in_ok-answer.ensures) in
     let wrote = subst (Appends (written c.loop-words.sink) (written c.write_all.new.sink)) c.as_bytes.ensures.value c.in_ok-write_all.ensures.0 in
     record {
       said = said_more (written c.args.sink.now) (written c.loop-words.sink) (written c.write_all.new.sink) c.args.debugger.now c.loop-words.debugger c.answer.new.debugger
-          (lines_of c.args.commands.now) (lines_of c.loop-words.rest.now) (lines_of c.take_line-rest.result.now) line (string_bytes c.answer.new.line)
+          (lines_of c.args.commands.now) (lines_of c.loop-words.rest.now) (lines_of c.take_line-rest.result.now) line c.answer.new.line
           c.loop-words.invariant.said taken says wrote;
       same = omega (arith, c.in_ok-write_all.ensures.1, c.loop-words.invariant.same);
     }

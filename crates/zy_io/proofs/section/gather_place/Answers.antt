@@ -1,6 +1,5 @@
 -- Where no line was made nothing goes out; else the line stands behind what was held.
 use Rattle.std.proofs.Common.{◌≡◌, ◌++◌, ◌∷◌, [], append_assoc, ap, sym, refl, ◌∙◌, slice_index_or}
-use Rattle.std.specs.String.{string_bytes}
 use Rattle.std.proofs.lemmas.Result.{err_from_is_err_and}
 use Rattle.zy_io.specs.Writing.{line_of}
 use Rattle.zy_io.proofs.StreamLemmas.{WroteFront-none}
@@ -16,6 +15,6 @@ unfolding lib.Utf8.encode
 returns-in_err-write_much g c =
     let p = err_from_is_err_and c.from_residual-in_err-write_much.result c.from_residual-in_err-write_much.ensures.1 in
     let text = slice_index_or (g.L.Lines.texts c.args.lines.now) c.args.place [] in
-    let grown : string_bytes c.push.new.self ≡ string_bytes c.args.line.now ++ line_of text =
-    c.in_ok-push.ensures.bytes ∙ ap (λ l. l ++ 10 ∷ []) c.in_ok-append.ensures ∙ append_assoc (string_bytes c.args.line.now) text (10 ∷ []) in
+    let grown : c.push.new.self ≡ c.args.line.now ++ line_of text =
+    c.in_ok-push.ensures.bytes ∙ ap (λ l. l ++ 10 ∷ []) c.in_ok-append.ensures ∙ append_assoc c.args.line.now text (10 ∷ []) in
     rw (p.1, p.2) (rw (sym grown) c.in_err-write_much.ensures)
