@@ -19,7 +19,7 @@ fn append_line<D: Line>(item: &D, line: &mut LineBuffer) -> Result<(), AllocErro
     ensures { OnOk result (line.new ≡ line.old ++ line_of (D.text item.now)) }
 {
     item.append(line)?;
-    line.push('\n')
+    line.push(b'\n')
 }
 
 /// Appends the reply to a command, which has been done.
@@ -56,7 +56,7 @@ fn append_refusal(fault: DebugFault, line: &mut LineBuffer) -> Result<(), AllocE
     }
 }
 
-/// Does a command, and puts what is to be said of it in place of what the `String` holds.
+/// Does a command, and puts what is to be said of it in place of what the buffer holds.
 fn obey(debugger: &mut Debugger, command: Command, line: &mut LineBuffer) -> Result<(), AllocError>
     ensures ok { OnOk result (Obeyed (refusal debugger.old command) debugger.old command debugger.new line.new) }
 {
@@ -67,7 +67,7 @@ fn obey(debugger: &mut Debugger, command: Command, line: &mut LineBuffer) -> Res
     }
 }
 
-/// Answers the words of a line, in place of what the `String` holds.
+/// Answers the words of a line, in place of what the buffer holds.
 pub fn answer(debugger: &mut Debugger, words: &[&[u8]], line: &mut LineBuffer) -> Result<(), AllocError>
     ensures { OnOk result (LineSays debugger.old (texts words.now) debugger.new line.new) }
 {

@@ -136,9 +136,9 @@ fn append_links(machine: &Machine, line: &mut LineBuffer) -> Result<(), AllocErr
         ++ (line_of (link_text A machine.now.state.ab) ++ line_of (link_text B machine.now.state.ba))) }
 {
     link_line(machine, Node::A, line)?;
-    line.push('\n')?;
+    line.push(b'\n')?;
     link_line(machine, Node::B, line)?;
-    line.push('\n')
+    line.push(b'\n')
 }
 
 /// Appends the line of a transaction.
@@ -170,5 +170,5 @@ pub fn append_shown(
         Command::Position => append_where(machine, line)?,
         _ => return Ok(()),
     }
-    line.push('\n')
+    line.push(b'\n')
 }
