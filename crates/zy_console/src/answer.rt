@@ -68,7 +68,11 @@ fn obey(debugger: &mut Debugger, command: Command, line: &mut LineBuffer) -> Res
 }
 
 /// Answers the words of a line, in place of what the buffer holds.
-pub fn answer(debugger: &mut Debugger, words: &[&[u8]], line: &mut LineBuffer) -> Result<(), AllocError>
+pub fn answer(
+    debugger: &mut Debugger,
+    words: &[&[u8]],
+    line: &mut LineBuffer,
+) -> Result<(), AllocError>
     ensures { OnOk result (LineSays debugger.old (texts words.now) debugger.new line.new) }
 {
     line.clear();

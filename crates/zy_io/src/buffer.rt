@@ -83,7 +83,9 @@ impl LineBuffer {
         ensures bytes { self.new ≡ (if is_ok result then self.old ++ decimal number else self.old) }
     {
         if number >= 10000 {
-            return self.bytes.extend_from_slice(Buffer::new().format(number).as_bytes());
+            return self
+                .bytes
+                .extend_from_slice(Buffer::new().format(number).as_bytes());
         }
         self.bytes.reserve(4)?;
         put_short(number, &mut self.bytes);

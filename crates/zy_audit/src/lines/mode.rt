@@ -19,6 +19,10 @@ impl Line for ModeLine {
     ghost text = { λ l. mode_text l.node l.mode };
 
     fn append(&self, line: &mut LineBuffer) -> Result<(), AllocError> {
-        Joined("mode ", Joined(self.node, Joined(b' ', ModeText(self.mode)))).append(line)
+        Joined(
+            "mode ",
+            Joined(self.node, Joined(b' ', ModeText(self.mode))),
+        )
+        .append(line)
     }
 }

@@ -22,8 +22,8 @@ returns-then-number-lt1000 c =
     let items = c.args.bytes.now.items in
     rw (decimal_three n (omega arith) (omega arith))
     (c.put_two-then-number-lt1000.ensures.items
-     ∙ ap (λ l. l ++ last_two n) (c.push_reserved-then-number-lt1000.ensures.items ∙ ap (λ d. items ++ d ∷ []) c.digit-then-number-lt1000.ensures)
-     ∙ append_assoc items ((48 + n / 100) ∷ []) (last_two n))
+    ∙ ap (λ l. l ++ last_two n) (c.push_reserved-then-number-lt1000.ensures.items ∙ ap (λ d. items ++ d ∷ []) c.digit-then-number-lt1000.ensures)
+    ∙ append_assoc items ((48 + n / 100) ∷ []) (last_two n))
 
 pub returns : goal.returns
 returns c =
@@ -31,5 +31,5 @@ returns c =
     let items = c.args.bytes.now.items in
     rw (decimal_four n (omega arith) (omega arith))
     (c.put_two-3.ensures.items
-     ∙ ap (λ l. l ++ last_two n) c.put_two-2.ensures.items
-     ∙ append_assoc items ((48 + n / 100 / 10) ∷ (48 + n / 100 % 10) ∷ []) (last_two n))
+    ∙ ap (λ l. l ++ last_two n) c.put_two-2.ensures.items
+    ∙ append_assoc items ((48 + n / 100 / 10) ∷ (48 + n / 100 % 10) ∷ []) (last_two n))
