@@ -37,7 +37,7 @@ pub record Gathered (s : State) (p : ℕ) (rows : List Row) : Type 0 where
   pub each : (k : ℕ) → get_row rows k ≡ (if nat_lt (home s k) p then stands s k else None)
 
 -- a row of a page lies there
-on_its_page : (lows : List ℕ) (xs : List Leaf) (p k : ℕ) → Placed lows xs → is_some (get_row (rows_of xs p) k) ≡ true → page_of lows k ≡ p
+pub on_its_page : (lows : List ℕ) (xs : List Leaf) (p k : ℕ) → Placed lows xs → is_some (get_row (rows_of xs p) k) ≡ true → page_of lows k ≡ p
 on_its_page lows [] p k placed is = absurd (false≢true is)
 on_its_page lows (x ∷ xs) p k placed is =
     elim (cases_eq x.number p) [

@@ -3,6 +3,7 @@ mod Worked
 mod LaidRows
 mod RunRows
 mod Gathered
+mod Covered
 mod Entries
 mod Commits
 mod LinkLemmas

@@ -2,4 +2,5 @@ pub mod Texts
 pub mod Listing
 pub mod Lone
 pub mod SameMaps
+pub mod Covering
 pub mod Run

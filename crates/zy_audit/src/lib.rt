@@ -2,6 +2,7 @@
 //! leave when they are run alone, one by one.
 #![tactic(auto)]
 
+mod covering;
 pub mod laws;
 pub mod lines;
 pub mod listing;

@@ -6,6 +6,7 @@ ghost use Rattle.zy_table.specs.Serial.{serial as serial_spec, alone};
 ghost use Rattle.zy_audit.specs.Lone.{map_of};
 ghost use Rattle.zy_audit.specs.SameMaps.{same_map};
 
+use crate::covering::covers;
 use crate::lone::written;
 use crate::table::Table;
 use std::alloc::{AllocError, Global};
@@ -61,7 +62,10 @@ fn all_rows(alloc: Global, machine: &Machine) -> Result<Table, AllocError>
 pub fn same(alloc: Global, machine: &Machine) -> Result<bool, AllocError>
     ensures { IfOk result (λ b. b ≡ same_map (database machine.now.state) (serial_spec machine.now.scenario (map_of machine.now.scenario.rows) machine.now.state.commits)) }
 {
-    let pages = all_rows(alloc, machine)?;
     let alone = serial(alloc, machine.scenario(), machine.commits())?;
+    if covers(machine, &alone) {
+        return Ok(true);
+    }
+    let pages = all_rows(alloc, machine)?;
     Ok(pages.rows() == alone.rows())
 }

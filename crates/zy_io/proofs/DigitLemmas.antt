@@ -1,5 +1,5 @@
 -- The decimal digits of a number, one after the other.
-use Rattle.std.proofs.Common.{◌≡◌, ℕ, ◌+◌, ◌/◌, ◌%◌, ◌<◌, ◌≤◌, ◌++◌, ◌∷◌, [], ap, ap₂, ◌∙◌, arith}
+use Rattle.std.proofs.Common.{◌≡◌, ℕ, ◌+◌, ◌/◌, ◌%◌, ◌<◌, ◌≤◌, ◌++◌, ◌∷◌, [], ap, ap₂, ◌∙◌, append_assoc, arith}
 use Rattle.std.proofs.lemmas.Fmt.{decimal_digit, decimal_step}
 use Rattle.std.specs.Fmt.{decimal}
 
@@ -13,20 +13,10 @@ two_last n =
     let ones : n % 10 ≡ n % 100 % 10 = omega arith in
     ap₂ (λ t o. (48 + t) ∷ (48 + o) ∷ []) tens ones
 
-pub decimal_three : (n : ℕ) → 100 ≤ n → n < 1000 → decimal n ≡ (48 + n / 100) ∷ (48 + n % 100 / 10) ∷ (48 + n % 100 % 10) ∷ []
-decimal_three n more few =
+pub decimal_hundreds : (n : ℕ) → 100 ≤ n → n < 1000000 → decimal n ≡ decimal (n / 100) ++ (48 + n % 100 / 10) ∷ (48 + n % 100 % 10) ∷ []
+decimal_hundreds n more few =
     let hundreds : n / 10 / 10 ≡ n / 100 = omega arith in
     decimal_step n (omega arith) (omega arith)
-    ∙ ap (λ ds. ds ++ (48 + n % 10) ∷ []) (decimal_two (n / 10) (omega arith) (omega arith))
-    ∙ ap₂ (λ h ds. (48 + h) ∷ ds) hundreds (two_last n)
-
-pub decimal_four : (n : ℕ) → 1000 ≤ n → n < 10000 → decimal n ≡ (48 + n / 100 / 10) ∷ (48 + n / 100 % 10) ∷ (48 + n % 100 / 10) ∷ (48 + n % 100 % 10) ∷ []
-decimal_four n more few =
-    let thousands : n / 10 / 100 ≡ n / 100 / 10 = omega arith in
-    let hundreds : n / 10 % 100 / 10 ≡ n / 100 % 10 = omega arith in
-    let tens : n / 10 % 100 % 10 ≡ n / 10 % 10 = omega arith in
-    decimal_step n (omega arith) (omega arith)
-    ∙ ap (λ ds. ds ++ (48 + n % 10) ∷ []) (decimal_three (n / 10) (omega arith) (omega arith))
-    ∙ ap₂ (λ t h. (48 + t) ∷ (48 + h) ∷ (48 + n / 10 % 100 % 10) ∷ (48 + n % 10) ∷ []) thousands hundreds
-    ∙ ap (λ t. (48 + n / 100 / 10) ∷ (48 + n / 100 % 10) ∷ (48 + t) ∷ (48 + n % 10) ∷ []) tens
-    ∙ ap (λ ds. (48 + n / 100 / 10) ∷ (48 + n / 100 % 10) ∷ ds) (two_last n)
+    ∙ ap (λ ds. ds ++ (48 + n % 10) ∷ []) (decimal_step (n / 10) (omega arith) (omega arith))
+    ∙ append_assoc (decimal (n / 10 / 10)) ((48 + n / 10 % 10) ∷ []) ((48 + n % 10) ∷ [])
+    ∙ ap₂ (λ h ds. decimal h ++ ds) hundreds (two_last n)

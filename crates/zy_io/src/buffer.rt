@@ -2,6 +2,7 @@
 ghost use Rattle.std.specs.Prelude.{◌≡◌, ◌==◌, ◌<◌, ◌≤◌, ◌+◌, ◌/◌, ◌%◌, ◌++◌, ◌∷◌, [], if◌then◌else◌, is_ok, length, vec_capacity, vec_len};
 ghost use Rattle.std.specs.Fmt.{decimal};
 
+use core::mem::replace_with;
 use itoa::Buffer;
 use std::alloc::{AllocError, Global};
 use std::marker::Model;
@@ -74,55 +75,103 @@ impl LineBuffer {
         ensures bytes { self.new ≡ (if is_ok result then self.old ++ words.now else self.old) }
     {
         self.bytes.reserve(words.len())?;
-        copy(words.as_bytes(), &mut self.bytes);
+        replace_with(&mut self.bytes, words.as_bytes(), with_words);
         Ok(())
     }
 
-    /// Puts a number behind the others, in decimal digits: one of up to four digits, which is what most lines have, digit by digit.
+    /// Puts a number behind the others, in decimal digits: one of up to six digits, which is what most lines have, digit by digit.
     pub fn push_number(&mut self, number: u64) -> Result<(), AllocError>
         ensures bytes { self.new ≡ (if is_ok result then self.old ++ decimal number else self.old) }
     {
-        if number >= 10000 {
-            return self
-                .bytes
-                .extend_from_slice(Buffer::new().format(number).as_bytes());
-        }
-        self.bytes.reserve(4)?;
-        put_short(number, &mut self.bytes);
-        Ok(())
+        put_number(number, &mut self.bytes)
     }
 }
 
-/// Puts bytes behind others, where there is room for them.
+/// Puts a number behind other bytes. One of up to six digits, for which there is room, needs no call.
 #[inline(always)]
-fn copy(words: &[u8], bytes: &mut Vec<u8>)
-    requires { vec_len bytes.old + length words.now ≤ vec_capacity bytes.old }
-    ensures { bytes.new.items ≡ bytes.old.items ++ words.now }
+fn put_number(number: u64, bytes: &mut Vec<u8>) -> Result<(), AllocError>
+    ensures { bytes.new.items ≡ (if is_ok result then bytes.old.items ++ decimal number else bytes.old.items) }
+{
+    if number >= 1000000 || room(bytes) < 6 {
+        return put_long(number, bytes);
+    }
+    replace_with(bytes, number, with_number);
+    Ok(())
+}
+
+/// The same for a number of any length, with room or without.
+#[cold]
+#[inline(never)]
+fn put_long(number: u64, bytes: &mut Vec<u8>) -> Result<(), AllocError>
+    ensures { bytes.new.items ≡ (if is_ok result then bytes.old.items ++ decimal number else bytes.old.items) }
+{
+    bytes.extend_from_slice(Buffer::new().format(number).as_bytes())
+}
+
+/// How many more bytes there is room for.
+#[inline(always)]
+fn room(bytes: &Vec<u8>) -> usize
+    ensures { vec_len bytes.now + result ≡ vec_capacity bytes.now }
+{
+    bytes.capacity() - bytes.len()
+}
+
+/// Puts bytes behind others, where there is room for them. The others come by value, so that where they lie need not
+/// be read again after each byte.
+#[inline(always)]
+fn with_words(mut bytes: Vec<u8>, words: &[u8]) -> (Vec<u8>, ())
+    requires { vec_len bytes + length words.now ≤ vec_capacity bytes }
+    ensures { result.0.items ≡ bytes.items ++ words.now }
 {
     for byte in words {
         bytes.push_reserved(*byte);
     }
+    (bytes, ())
 }
 
-/// Puts a number of up to four digits behind other bytes, where there is room for it.
+/// The same for a number of up to six digits.
+#[inline(always)]
+fn with_number(mut bytes: Vec<u8>, number: u64) -> (Vec<u8>, ())
+    requires few { number < 1000000 }
+    requires room { vec_len bytes + 6 ≤ vec_capacity bytes }
+    ensures { result.0.items ≡ bytes.items ++ decimal number }
+{
+    put_short(number, &mut bytes);
+    (bytes, ())
+}
+
+/// Puts a number of up to six digits behind other bytes, where there is room for it.
 #[inline(always)]
 fn put_short(number: u64, bytes: &mut Vec<u8>)
-    requires few { number < 10000 }
-    requires room { vec_len bytes.old + 4 ≤ vec_capacity bytes.old }
+    requires few { number < 1000000 }
+    requires room { vec_len bytes.old + 6 ≤ vec_capacity bytes.old }
     ensures { bytes.new.items ≡ bytes.old.items ++ decimal number }
+{
+    if number < 100 {
+        return put_front(number, bytes);
+    }
+    if number < 10000 {
+        put_front(number / 100, bytes);
+        return put_two(number % 100, bytes);
+    }
+    put_front(number / 10000, bytes);
+    put_two(number / 100 % 100, bytes);
+    put_two(number % 100, bytes);
+}
+
+/// Puts a number of one or two digits behind other bytes, where there is room for it.
+#[inline(always)]
+fn put_front(number: u64, bytes: &mut Vec<u8>)
+    requires few { number < 100 }
+    requires room { vec_len bytes.old + 2 ≤ vec_capacity bytes.old }
+    ensures items { bytes.new.items ≡ bytes.old.items ++ decimal number }
+    ensures len { vec_len bytes.new ≤ vec_len bytes.old + 2 }
+    ensures room { vec_capacity bytes.new ≡ vec_capacity bytes.old }
 {
     if number < 10 {
         return bytes.push_reserved(digit(number));
     }
-    if number < 100 {
-        return put_two(number, bytes);
-    }
-    if number < 1000 {
-        bytes.push_reserved(digit(number / 100));
-        return put_two(number % 100, bytes);
-    }
-    put_two(number / 100, bytes);
-    put_two(number % 100, bytes);
+    put_two(number, bytes);
 }
 
 /// Puts two digits behind other bytes, where there is room for them.
