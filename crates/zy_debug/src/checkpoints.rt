@@ -91,7 +91,7 @@ impl Checkpoints {
         Ok(())
     }
 
-    /// Where the way to a position is long, makes a machine's choices up to the middle, and keeps a copy.
+    /// Where the way to a position is long, makes a machine's choices up to the middle, and keeps a copy, for which copies above the position go.
     fn halve(
         &mut self,
         alloc: Global,
@@ -105,6 +105,7 @@ impl Checkpoints {
     {
         if let Some(middle) = self.copies.halfway(machine.len(), target) {
             advance_to(machine, middle)?;
+            self.close.drop_above(target);
             self.close.note(alloc, machine)?;
         }
         Ok(())

@@ -32,12 +32,12 @@ fn stride(choices: usize, every: usize, spread: usize) -> usize {
 }
 
 impl Copies {
-    /// Of all copies one half is spread, at most two are close, and the others are the last ones passed.
+    /// Of all copies one half is spread, at most three are close, and the others are the last ones passed.
     pub fn new(choices: usize, every: usize, ring: usize) -> Copies
         ensures { result.spread + result.passed + result.close ≡ ring }
     {
         let spread = ring / 2;
-        let close = (ring / 3).min(2);
+        let close = (ring / 3).min(3);
         Copies {
             every,
             stride: stride(choices, every, spread),
@@ -66,12 +66,12 @@ impl Copies {
         }
     }
 
-    /// The position halfway to another, where the way is longer than a quarter of `every`.
+    /// The position halfway to another, where the way is longer than an eighth of `every`.
     pub fn halfway(&self, position: usize, target: usize) -> Option<usize>
         ensures { IfSome result (λ due. (position < due) × (due ≤ target)) }
     {
         let left = target.saturating_sub(position);
-        if self.close != 0 && left > self.every / 4 + 1 {
+        if self.close != 0 && left > self.every / 8 + 1 {
             Some(position + left / 2)
         } else {
             None

@@ -51,6 +51,16 @@ impl Shelf {
         Ok(())
     }
 
+    /// Drops the machines from the first one on that stands above a position.
+    pub fn drop_above(&mut self, target: usize)
+        ensures room { self.new.room ≡ self.old.room }
+        ensures kept { (sc : AScenario) → AreReplaysOf sc self.old.machines → AreReplaysOf sc self.new.machines }
+    {
+        if let Some(first) = self.ring.iter().position(|kept| target < kept.len()) {
+            self.ring.truncate_back(first);
+        }
+    }
+
     /// Which kept machine stands nearest below or at a position.
     fn place_of_nearest(&self, target: usize) -> Option<usize>
         ensures { IfSome result (λ i. (h : History) × (slice_get self.now.machines i ≡ Some h) × (length h.entries ≤ target)) }

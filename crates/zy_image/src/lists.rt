@@ -22,7 +22,8 @@ pub trait Items {
         ensures { Gives result (next self.now before.now bytes.entry.now) };
 }
 
-/// Reads so many items.
+/// Reads so many items. Apart from its caller its loop has registers enough.
+#[inline(never)]
 pub fn read_items<'a, I: Items>(
     alloc: Global,
     kind: &I,

@@ -1,3 +1,4 @@
 pub mod DigitLemmas
+mod PairLemmas
 pub mod StreamLemmas
 pub mod WritingLemmas

@@ -74,12 +74,21 @@ impl LineBuffer {
     pub fn push_str(&mut self, words: &str) -> Result<(), AllocError>
         ensures bytes { self.new ≡ (if is_ok result then self.old ++ words.now else self.old) }
     {
-        self.bytes.reserve(words.len())?;
-        replace_with(&mut self.bytes, words.as_bytes(), with_words);
+        self.push_bytes(words.as_bytes())
+    }
+
+    /// The same for bytes.
+    #[inline(always)]
+    pub fn push_bytes(&mut self, bytes: &[u8]) -> Result<(), AllocError>
+        ensures bytes { self.new ≡ (if is_ok result then self.old ++ bytes.now else self.old) }
+    {
+        self.bytes.reserve(bytes.len())?;
+        replace_with(&mut self.bytes, bytes, with_bytes);
         Ok(())
     }
 
-    /// Puts a number behind the others, in decimal digits: one of up to six digits, which is what most lines have, digit by digit.
+    /// Puts a number behind the others, in decimal digits: one of up to six digits, which is what most lines have, two at a time.
+    #[inline(always)]
     pub fn push_number(&mut self, number: u64) -> Result<(), AllocError>
         ensures bytes { self.new ≡ (if is_ok result then self.old ++ decimal number else self.old) }
     {
@@ -87,7 +96,7 @@ impl LineBuffer {
     }
 }
 
-/// Puts a number behind other bytes. One of up to six digits, for which there is room, needs no call.
+/// Puts a number behind other bytes. One of up to six digits, for which there is room, needs no call: it is laid into the line's own function.
 #[inline(always)]
 fn put_number(number: u64, bytes: &mut Vec<u8>) -> Result<(), AllocError>
     ensures { bytes.new.items ≡ (if is_ok result then bytes.old.items ++ decimal number else bytes.old.items) }
@@ -95,7 +104,7 @@ fn put_number(number: u64, bytes: &mut Vec<u8>) -> Result<(), AllocError>
     if number >= 1000000 || room(bytes) < 6 {
         return put_long(number, bytes);
     }
-    replace_with(bytes, number, with_number);
+    put_short(number, bytes);
     Ok(())
 }
 
@@ -119,24 +128,13 @@ fn room(bytes: &Vec<u8>) -> usize
 /// Puts bytes behind others, where there is room for them. The others come by value, so that where they lie need not
 /// be read again after each byte.
 #[inline(always)]
-fn with_words(mut bytes: Vec<u8>, words: &[u8]) -> (Vec<u8>, ())
-    requires { vec_len bytes + length words.now ≤ vec_capacity bytes }
-    ensures { result.0.items ≡ bytes.items ++ words.now }
+fn with_bytes(mut bytes: Vec<u8>, others: &[u8]) -> (Vec<u8>, ())
+    requires { vec_len bytes + length others.now ≤ vec_capacity bytes }
+    ensures { result.0.items ≡ bytes.items ++ others.now }
 {
-    for byte in words {
+    for byte in others {
         bytes.push_reserved(*byte);
     }
-    (bytes, ())
-}
-
-/// The same for a number of up to six digits.
-#[inline(always)]
-fn with_number(mut bytes: Vec<u8>, number: u64) -> (Vec<u8>, ())
-    requires few { number < 1000000 }
-    requires room { vec_len bytes + 6 ≤ vec_capacity bytes }
-    ensures { result.0.items ≡ bytes.items ++ decimal number }
-{
-    put_short(number, &mut bytes);
     (bytes, ())
 }
 
@@ -174,6 +172,10 @@ fn put_front(number: u64, bytes: &mut Vec<u8>)
     put_two(number, bytes);
 }
 
+/// The two signs of each number below 100, one number after the other.
+const PAIRS: [u8; 200] =
+    *b"00010203040506070809101112131415161718192021222324252627282930313233343536373839404142434445464748495051525354555657585960616263646566676869707172737475767778798081828384858687888990919293949596979899";
+
 /// Puts two digits behind other bytes, where there is room for them.
 #[inline(always)]
 fn put_two(number: u64, bytes: &mut Vec<u8>)
@@ -182,8 +184,9 @@ fn put_two(number: u64, bytes: &mut Vec<u8>)
     ensures items { bytes.new.items ≡ bytes.old.items ++ (48 + number / 10) ∷ (48 + number % 10) ∷ [] }
     ensures room { vec_capacity bytes.new ≡ vec_capacity bytes.old }
 {
-    bytes.push_reserved(digit(number / 10));
-    bytes.push_reserved(digit(number % 10));
+    let at = number as usize * 2;
+    bytes.push_reserved(PAIRS[at]);
+    bytes.push_reserved(PAIRS[at + 1]);
 }
 
 /// The sign of a digit.

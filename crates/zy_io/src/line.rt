@@ -36,6 +36,16 @@ impl Line for u8 {
     }
 }
 
+/// Some signs of ASCII, which are put down in one piece.
+impl<const N: usize> Line for [u8; N] {
+    ghost text = { λ signs. signs };
+
+    #[inline(always)]
+    fn append(&self, line: &mut LineBuffer) -> Result<(), AllocError> {
+        line.push_bytes(self)
+    }
+}
+
 /// A whole number that is not below 0, of at most 64 bits.
 pub trait Unsigned: Copy {
     // The number.

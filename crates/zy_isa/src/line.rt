@@ -57,7 +57,7 @@ impl Line for Reg {
 
     #[inline(always)]
     fn append(&self, line: &mut LineBuffer) -> Result<(), AllocError> {
-        Joined(b'r', self.digit()).append(line)
+        [b'r', self.digit()].append(line)
     }
 }
 
@@ -82,18 +82,19 @@ impl Line for Pair {
 
     #[inline(always)]
     fn append(&self, line: &mut LineBuffer) -> Result<(), AllocError> {
-        Joined(self.0, Joined(b' ', self.1)).append(line)
+        [b'r', self.0.digit(), b' ', b'r', self.1.digit()].append(line)
     }
 }
 
 impl Line for Instr {
     ghost text = { instr_text };
 
+    #[inline(always)]
     fn append(&self, line: &mut LineBuffer) -> Result<(), AllocError> {
         match self {
             Instr::Set(a, number) => Joined(
                 "set ",
-                Joined(*a, Joined(b' ', Decimal(*number))),
+                Joined([b'r', a.digit(), b' '], Decimal(*number)),
             ).append(line),
             Instr::Read(a, b) => Joined("read ", Pair(*a, *b)).append(line),
             Instr::Write(a, b) => Joined("write ", Pair(*a, *b)).append(line),

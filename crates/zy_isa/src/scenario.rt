@@ -119,7 +119,8 @@ fn misnamed_choice(count: usize, choices: &[Choice]) -> Option<usize>
     choices.iter().position(|choice| !choice.names_below(count))
 }
 
-/// The first fault of choices among so many transactions.
+/// The first fault of choices among so many transactions. Apart from its caller its loop has registers enough.
+#[inline(never)]
 fn choices_fault(count: usize, choices: &[Choice]) -> Option<ScenarioFault>
     ensures { result ≡ choices_fault_spec count choices.now }
 {

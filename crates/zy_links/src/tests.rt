@@ -14,7 +14,7 @@ fn sends(link: &mut Link, message: Message) -> Result<(), AllocError> {
 
 /// Sends a wireframe, a page and a request.
 fn sends_all(alloc: Global, link: &mut Link) -> Result<(), AllocError> {
-    sends(link, Message::Wire(Wire::new(alloc, 512)))?;
+    sends(link, Message::Wire(Wire::new(alloc, 512)?))?;
     sends(link, Message::Page(Page::new(3, 100)))?;
     sends(link, Message::Pull(3))
 }

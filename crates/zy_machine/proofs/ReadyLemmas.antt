@@ -12,7 +12,7 @@ use Rattle.zy_wire.specs.Wireframe.{page_of}
 use Rattle.zy_machine.specs.declared.store.Store.{Store}
 use Rattle.zy_table.specs.State.{NodeState, State, Txn, facing}
 use Rattle.zy_node.specs.declared.node_store.NodeStore.{NodeStore}
-use Rattle.zy_node.specs.Nodes.{node_shown}
+use Rattle.zy_node.specs.Nodes.{node_shown, Limits, IsLimited}
 use Rattle.zy_node.specs.Install.{AreRoomy}
 use Rattle.zy_table.specs.Change.{txn_at, txn_or}
 use Rattle.zy_table.specs.Client.{is_active}
@@ -22,11 +22,11 @@ use Rattle.zy_table.specs.Run.{own_inserts}
 use Rattle.zy_table.specs.Play.{play, opening}
 use Rattle.zy_laws.specs.Counts.{Safe, Fits}
 use Rattle.zy_table.specs.Order.{InOrder}
-use Rattle.zy_modes.specs.Table.{may_split as splits_in}
+use Rattle.zy_modes.specs.Table.{may_split as splits_in, may_start as starts_in}
 use Rattle.zy_moves.specs.Arrivals.{MayTake}
 use Rattle.zy_run.specs.Ready.{IsReady, MaySplit, Rooms}
 use Rattle.zy_txns.specs.Books.{Countable, txn_in}
-use Rattle.zy_machine.specs.Stores.{shown, IsPossible}
+use Rattle.zy_machine.specs.Stores.{shown, limits_in, AreLimited, IsPossible, MayStart}
 use Rattle.zy_machine.proofs.ArrivalLemmas.{may_take}
 use Rattle.zy_table.proofs.PageFinds.{absent_page}
 use Rattle.zy_laws.proofs.OneOwner.{inv_from, play_inv}
@@ -39,7 +39,8 @@ use Rattle.zy_laws.proofs.Boundary.{boundary_new}
 use Rattle.zy_laws.proofs.LockingRows.{home_placed}
 use Rattle.zy_laws.proofs.Ordered.{rows_at}
 use Rattle.zy_laws.proofs.Reached.{kept_from, reached}
-use Rattle.zy_laws.proofs.Roles.{fresh_number, normal_other}
+use Rattle.zy_laws.proofs.ModeLines.{starts_from}
+use Rattle.zy_laws.proofs.Roles.{fresh_number, is_idle, normal_other}
 use Rattle.zy_laws.proofs.Txns.{IsAt}
 
 txn_at-facing : (n : Node) (t : ℕ) (s : State) → txn_at (facing n s) t ≡ txn_or (slice_get s.txns t)
@@ -67,6 +68,15 @@ may_split sc ok cs n t at =
       other = λ key new full. boundary_new sc t key (page_of v.me.lows key) v k.first.0 (k.mine.newest (k.mine.busy t at) ∙ k.first.1) ok.cap_least (home_placed sc n v r.lows t k at) refl full (rows_at (page_of v.me.lows key) v.me.pages o.mine.rows) (o.private t) new;
     }
 
+-- a node that may start is Normal, and so has the newest low keys
+may_start : (sc : Scenario) → IsScenario sc → (cs : List Choice) (n : Node) → let v = facing n (play sc (opening sc) cs) in starts_in v.me.mode v.them.mode ≡ true → 0 < length v.me.lows
+may_start sc ok cs n starts =
+    let s = play sc (opening sc) cs in
+    let v = facing n s in
+    let r = reached sc ok cs in
+    let k = kept_from sc n s r.lows r.kept in
+    rw (k.mine.newest (ap is_idle (starts_from v.me.mode v.them.mode starts).0) ∙ k.first.1) (omega arith)
+
 -- what is known of a store after so many choices
 pub record Known (sc : Scenario) (count : ℕ) (s : Store) : Type 0 where
   pub tested : IsScenario sc
@@ -76,9 +86,11 @@ pub record Known (sc : Scenario) (count : ℕ) (s : Store) : Type 0 where
   pub order : InOrder (shown s)
   pub splits : (n : Node) (t : ℕ) → let v = facing n (shown s) in IsAt v t n → MaySplit sc v.me (txn_at v t)
   pub takes : (n : Node) → let v = facing n (shown s) in MayTake v.inbox v.me
+  pub starts : MayStart s
+  pub limited : AreLimited sc.pages s
 
-pub known : (sc : Scenario) (cs : List Choice) (s : Store) → IsScenario sc → length cs < 4096 → shown s ≡ play sc (opening sc) cs → Known sc (length cs) s
-known sc cs s tested few e =
+pub known : (sc : Scenario) (cs : List Choice) (s : Store) → IsScenario sc → length cs < 4096 → shown s ≡ play sc (opening sc) cs → AreLimited sc.pages s → Known sc (length cs) s
+known sc cs s tested few e limited =
     record {
       tested = tested;
       few = few;
@@ -87,6 +99,8 @@ known sc cs s tested few e =
       order = subst InOrder (sym e) (in_order sc tested cs);
       splits = subst (λ (z : State). (n : Node) (t : ℕ) → let v = facing n z in IsAt v t n → MaySplit sc v.me (txn_at v t)) (sym e) (λ n t at. may_split sc tested cs n t at);
       takes = subst (λ (z : State). (n : Node) → let v = facing n z in MayTake v.inbox v.me) (sym e) (λ n. may_take (facing n (play sc (opening sc) cs)) (inv_from n (play sc (opening sc) cs) (play_inv sc cs)));
+      starts = subst (λ (z : State). (n : Node) → let v = facing n z in starts_in v.me.mode v.them.mode ≡ true → 0 < length v.me.lows) (sym e) (λ n. may_start sc tested cs n);
+      limited = limited;
     }
 
 countable : (sc : Scenario) (count t : ℕ) (s : Store) → Known sc count s → t < length sc.programs → Countable t s.book
@@ -118,21 +132,26 @@ splits sc count t n x s is k active here =
     let same = txn_at-facing n t (shown s) in
     subst (λ m. MaySplit sc m (txn_in t s.book)) is (subst (MaySplit sc (facing n (shown s)).me) same (k.splits n t (ap (λ (y : Txn). is_active y.status) same ∙ active, ap (λ (y : Txn). y.node) same ∙ here)))
 
-ready : (sc : Scenario) (count t : ℕ) (n : Node) (x : NodeStore) (s : Store) → IsNode n x s → Known sc count s → t < length sc.programs → IsReady sc n t x s.book
-ready sc count t n x s is k below = record {
+ready : (sc : Scenario) (count t : ℕ) (n : Node) (x : NodeStore) (s : Store) → IsNode n x s → IsLimited sc.pages x → Known sc count s → t < length sc.programs → IsReady sc n t x s.book
+ready sc count t n x s is limited k below = record {
   counts = countable sc count t s k below;
   program = below;
   place = (k.safe.each t below).place;
+  limited = limited;
   rooms = rooms sc count t n x s is k;
   splits = splits sc count t n x s is k;
 }
 
 pub possible : (sc : Scenario) (count : ℕ) (c : Choice) (s : Store) → Known sc count s → names_below (length sc.programs) c ≡ true → IsPossible sc c s
-possible sc count Start s k named = tt
+possible sc count Start s k named = k.starts
 possible sc count (Begin t) s k named = (countable sc count t s k (ltb-true _ _ named)).there
 possible sc count (Kill t) s k named = (countable sc count t s k (ltb-true _ _ named)).there
-possible sc count (Run A t) s k named = ready sc count t A s.a s refl k (ltb-true t (length sc.programs) named)
-possible sc count (Run B t) s k named = ready sc count t B s.b s refl k (ltb-true t (length sc.programs) named)
+possible sc count (Run A t) s k named = ready sc count t A s.a s refl k.limited.a k (ltb-true t (length sc.programs) named)
+possible sc count (Run B t) s k named = ready sc count t B s.b s refl k.limited.b k (ltb-true t (length sc.programs) named)
 possible sc count (Take n) s k named = k.takes n
 possible sc count (Finish n) s k named = omega (arith, k.safe.txns, k.tested.few_programs)
 possible sc count (Push n) s k named = tt
+
+-- a store that may have as many pages in its wireframes as one before it
+pub still_limited : (n : ℕ) (old new : Store) → limits_in new ≡ limits_in old → AreLimited n old → AreLimited n new
+still_limited n old new same h = record { few = h.few; a = ap (λ (l : Limits × Limits). l.0) same ∙ h.a; b = ap (λ (l : Limits × Limits). l.1) same ∙ h.b }

@@ -1,5 +1,5 @@
 -- What a store shows of the state, and what a call on it may do.
-use Rattle.std.specs.Prelude.{◌≡◌, ◌<◌, ◌≤◌, ℕ, length, Result, Ok, Err}
+use Rattle.std.specs.Prelude.{◌≡◌, ◌<◌, ◌≤◌, ℕ, true, length, Result, Ok, Err}
 use Rattle.zy_isa.specs.declared.node.Node.{Node}
 use Rattle.zy_isa.specs.declared.node.Node.TheVariants.{A, B}
 use Rattle.zy_isa.specs.Scenario.{Scenario}
@@ -7,13 +7,28 @@ use Rattle.zy_isa.specs.declared.choice.Choice.{Choice}
 use Rattle.zy_isa.specs.declared.choice.Choice.TheVariants.{Start, Begin, Kill, Run, Take, Finish, Push}
 use Rattle.zy_table.specs.State.{State, Move, Step, facing, seen_from}
 use Rattle.zy_moves.specs.Arrivals.{MayTake}
-use Rattle.zy_node.specs.Nodes.{node_shown}
+use Rattle.zy_node.specs.Nodes.{node_shown, Limits, limits_of, IsLimited}
+use Rattle.zy_modes.specs.Table.{may_start}
 use Rattle.zy_table.specs.declared.answer.Answer.{Answer}
 use Rattle.zy_run.specs.Ready.{IsReady as IsReadyHere}
 use Rattle.zy_machine.specs.declared.store.Store.{Store}
 
 abbrev pub shown : Store → State
 shown s = record { a = node_shown s.a; b = node_shown s.b; ab = s.a.outbox.messages; ba = s.b.outbox.messages; txns = s.book.txns; commits = s.book.commits }
+
+-- how many pages the wireframes of both nodes may have, and those that they send
+abbrev pub limits_in : Store → Limits × Limits
+limits_in s = (limits_of s.a, limits_of s.b)
+
+-- they may have n pages, and a node has a slot for each
+pub record AreLimited (n : ℕ) (s : Store) : Type 0 where
+  pub few : n ≤ 512
+  pub a : IsLimited n s.a
+  pub b : IsLimited n s.b
+
+-- a node that may start has a page
+abbrev pub MayStart : Store → Type 0
+MayStart s = (n : Node) → let v = facing n (shown s) in may_start v.me.mode v.them.mode ≡ true → 0 < length v.me.lows
 
 -- a run of t at n is safe on the parts of n
 abbrev pub IsReady : Scenario → Node → ℕ → Store → Type 0
@@ -29,9 +44,9 @@ abbrev pub Makes : {E : Type 0} → Node → Store → Store → Result Answer E
 Makes n old new (Ok x) m = IsMade n new x m
 Makes n old new (Err e) m = shown new ≡ shown old
 
--- a choice can be made: the transaction that it names is there, and its run is safe
+-- a choice can be made: the transaction that it names is there, and its run is safe; the node that starts has a page
 abbrev pub IsPossible : Scenario → Choice → Store → Type 0
-IsPossible sc Start s = Unit {0}
+IsPossible sc Start s = MayStart s
 IsPossible sc (Begin t) s = t < length s.book.txns
 IsPossible sc (Kill t) s = t < length s.book.txns
 IsPossible sc (Run n t) s = IsReady sc n t s

@@ -10,7 +10,7 @@ ghost use Rattle.zy_txns.specs.Books.{txn_in};
 ghost use Rattle.zy_table.specs.Run.{run_row as run_row_spec};
 ghost use Rattle.zy_table.specs.Take.{take_row as take_row_spec};
 ghost use Rattle.zy_moves.specs.Arrivals.{MayTake};
-ghost use Rattle.zy_machine.specs.Stores.{shown, IsMade, IsPossible, IsReady, Makes, Steps};
+ghost use Rattle.zy_machine.specs.Stores.{shown, limits_in, AreLimited, IsMade, IsPossible, IsReady, Makes, MayStart, Steps};
 
 use std::alloc::{AllocError, Global};
 use zy_isa::choice::Choice;
@@ -37,7 +37,8 @@ pub(crate) struct Store {
 impl Store {
     /// The same state once more.
     pub(crate) fn copy(&self, alloc: Global) -> Result<Store, AllocError>
-        ensures { IfOk result (λ copy. shown copy ≡ shown self.now) }
+        ensures state { IfOk result (λ copy. shown copy ≡ shown self.now) }
+        ensures limits { IfOk result (λ copy. limits_in copy ≡ limits_in self.now) }
     {
         let a = self.a.copy(alloc)?;
         let b = self.b.copy(alloc)?;
@@ -48,7 +49,8 @@ impl Store {
     /// The lines of a node's run.
     fn run_row(&mut self, scenario: &Scenario, n: Node, t: u8) -> Result<Answer, AllocError>
         requires { IsReady scenario.now n t self.old }
-        ensures { Makes n self.old self.new result (run_row_spec scenario.now n t (facing n (shown self.old))) }
+        ensures line { Makes n self.old self.new result (run_row_spec scenario.now n t (facing n (shown self.old))) }
+        ensures limits { limits_in self.new ≡ limits_in self.old }
     {
         match n {
             Node::A => run_row(scenario, self.alloc, n, &mut self.a, &mut self.book, t),
@@ -58,18 +60,21 @@ impl Store {
 
     /// The lines of `n take`.
     fn take_row(&mut self, scenario: &Scenario, n: Node) -> Result<Answer, AllocError>
-        requires { let v = facing n (shown self.old) in MayTake v.inbox v.me }
-        ensures { Makes n self.old self.new result (take_row_spec scenario.now (facing n (shown self.old))) }
+        requires may { let v = facing n (shown self.old) in MayTake v.inbox v.me }
+        requires limited { AreLimited scenario.now.pages self.old }
+        ensures line { Makes n self.old self.new result (take_row_spec scenario.now (facing n (shown self.old))) }
+        ensures limits { limits_in self.new ≡ limits_in self.old }
     {
         match n {
-            Node::A => take_row(scenario, self.alloc, &mut self.a, &mut self.b.outbox),
-            Node::B => take_row(scenario, self.alloc, &mut self.b, &mut self.a.outbox),
+            Node::A => take_row(scenario, &mut self.a, &mut self.b.outbox),
+            Node::B => take_row(scenario, &mut self.b, &mut self.a.outbox),
         }
     }
 
     /// `n push`.
     fn push_row(&mut self, n: Node) -> Result<Answer, AllocError>
-        ensures { Makes n self.old self.new result (push_row_spec (facing n (shown self.old))) }
+        ensures line { Makes n self.old self.new result (push_row_spec (facing n (shown self.old))) }
+        ensures limits { limits_in self.new ≡ limits_in self.old }
     {
         match n {
             Node::A => push_row(&mut self.a),
@@ -80,7 +85,8 @@ impl Store {
     /// `n finish`.
     fn finish_row(&mut self, n: Node) -> Result<Answer, AllocError>
         requires { length self.old.book.txns ≤ 64 }
-        ensures { Makes n self.old self.new result (finish_row_spec n (facing n (shown self.old))) }
+        ensures line { Makes n self.old self.new result (finish_row_spec n (facing n (shown self.old))) }
+        ensures limits { limits_in self.new ≡ limits_in self.old }
     {
         match n {
             Node::A => finish_row(n, &mut self.a, &self.book),
@@ -90,7 +96,10 @@ impl Store {
 
     /// `C start`, at the node that the mode table names.
     fn start_row(&mut self, scenario: &Scenario) -> Result<Answer, AllocError>
-        ensures { let n = side_of scenario.now Start (shown self.old) in Makes n self.old self.new result (start_row_spec (facing n (shown self.old))) }
+        requires may { MayStart self.old }
+        requires limited { AreLimited scenario.now.pages self.old }
+        ensures line { let n = side_of scenario.now Start (shown self.old) in Makes n self.old self.new result (start_row_spec (facing n (shown self.old))) }
+        ensures limits { limits_in self.new ≡ limits_in self.old }
     {
         let source = on_start(self.a.mode, self.b.mode, scenario.version());
         match source.unwrap_or(Node::A) {
@@ -102,7 +111,8 @@ impl Store {
     /// `C begin t`.
     fn begin_row(&mut self, t: u8) -> Answer
         requires { t < length self.old.book.txns }
-        ensures { IsMade A self.new result (begin_row_spec t (facing A (shown self.old))) }
+        ensures line { IsMade A self.new result (begin_row_spec t (facing A (shown self.old))) }
+        ensures limits { limits_in self.new ≡ limits_in self.old }
     {
         begin_row(&self.a, &self.b, &mut self.book, t)
     }
@@ -110,7 +120,8 @@ impl Store {
     /// `C kill t`.
     fn kill_row(&mut self, t: u8) -> Answer
         requires { t < length self.old.book.txns }
-        ensures { let n = (txn_in t self.old.book).node in IsMade n self.new result (kill_row_spec t (facing n (shown self.old))) }
+        ensures line { let n = (txn_in t self.old.book).node in IsMade n self.new result (kill_row_spec t (facing n (shown self.old))) }
+        ensures limits { limits_in self.new ≡ limits_in self.old }
     {
         match self.book.txn(t).node() {
             Node::A => kill_row(&mut self.a, &mut self.book, t),
@@ -121,8 +132,10 @@ impl Store {
     /// The step that a choice makes.
     #[inline(always)]
     pub(crate) fn step(&mut self, scenario: &Scenario, choice: Choice) -> Result<Answer, AllocError>
-        requires { IsPossible scenario.now choice self.old }
-        ensures { Steps self.old self.new result (step_spec scenario.now choice (shown self.old)) }
+        requires possible { IsPossible scenario.now choice self.old }
+        requires limited { AreLimited scenario.now.pages self.old }
+        ensures line { Steps self.old self.new result (step_spec scenario.now choice (shown self.old)) }
+        ensures limits { limits_in self.new ≡ limits_in self.old }
     {
         match choice {
             Choice::Start => self.start_row(scenario),

@@ -1,5 +1,8 @@
 //! The client's lines: each function is the line of its name.
-ghost use Rattle.std.specs.Prelude.{◌≡◌, ◌<◌, length};
+ghost use Rattle.std.specs.Prelude.{◌≡◌, ◌<◌, length, true};
+ghost use Rattle.zy_modes.specs.Table.{may_start};
+ghost use Rattle.zy_node.specs.Nodes.{limits_of, IsLimited};
+ghost use Rattle.zy_node.specs.Wireframes.{lows_in};
 ghost use Rattle.zy_table.specs.State.{View};
 ghost use Rattle.zy_table.specs.Client.{start_row as start_row_spec, begin_row as begin_row_spec, kill_row as kill_row_spec};
 ghost use Rattle.zy_txns.specs.Books.{noted};
@@ -13,6 +16,7 @@ use zy_links::message::Message;
 use zy_modes::mode::NodeMode;
 use zy_modes::table::home_of;
 use zy_node::node_store::NodeStore;
+use zy_node::wireframe::copy;
 use zy_run::run::abort_row;
 use zy_table::answer::Answer;
 use zy_table::outcome::{Outcome, Why};
@@ -21,13 +25,18 @@ use zy_txns::book::Book;
 /// `C start`, at the node that starts, beside the other.
 #[tactic(auto, unfolding(zy_table::specs::Client::start_row))]
 pub fn start_row(alloc: Global, me: &mut NodeStore, them: &NodeStore) -> Result<Answer, AllocError>
-    ensures { (v : View) → Makes (beside me.old them.now v) (beside me.new them.now v) result (start_row_spec (beside me.old them.now v)) }
+    requires some { may_start me.old.mode them.now.mode ≡ true → 0 < length (lows_in me.old.wire) }
+    requires limited { IsLimited me.old.outbox.pages me.old }
+    ensures line { (v : View) → Makes (beside me.old them.now v) (beside me.new them.now v) result (start_row_spec (beside me.old them.now v)) }
+    ensures limits { limits_of me.new ≡ limits_of me.old }
 {
     if !me.mode.may_start(them.mode) {
         return Ok(Answer::quiet(Outcome::BadMode));
     }
     me.reserve_post()?;
-    let wire = me.wire.copy_wire(alloc)?;
+    let Some(wire) = copy(&me.wire, alloc)? else {
+        unreachable!();
+    };
     me.mode = NodeMode::SInit;
     me.outbox.send(Message::Wire(wire));
     Ok(Answer::sends(Outcome::Started, Kind::Wire))
@@ -55,7 +64,8 @@ pub fn begin_row(me: &NodeStore, them: &NodeStore, book: &mut Book, t: u8) -> An
 #[tactic(auto, unfolding(zy_table::specs::Client::kill_row, zy_table::specs::Run::abort_row, zy_table::specs::Change::txn_at))]
 pub fn kill_row(me: &mut NodeStore, book: &mut Book, t: u8) -> Answer
     requires { t < length book.old.txns }
-    ensures { (v : View) → made result (here me.new book.new v) ≡ kill_row_spec t (here me.old book.old v) }
+    ensures line { (v : View) → made result (here me.new book.new v) ≡ kill_row_spec t (here me.old book.old v) }
+    ensures limits { limits_of me.new ≡ limits_of me.old }
 {
     if !book.txn(t).is_active() {
         return Answer::quiet(Outcome::Idle);

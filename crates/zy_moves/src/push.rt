@@ -4,7 +4,7 @@ ghost use Rattle.zy_links.specs.Messages.{Finish};
 ghost use Rattle.zy_modes.specs.declared.mode.NodeMode.TheVariants.{SFinish};
 ghost use Rattle.zy_table.specs.State.{View};
 ghost use Rattle.zy_table.specs.Push.{finish_row as finish_row_spec, push_row as push_row_spec};
-ghost use Rattle.zy_node.specs.Nodes.{node_shown, seen};
+ghost use Rattle.zy_node.specs.Nodes.{node_shown, limits_of, seen};
 ghost use Rattle.zy_run.specs.Parts.{here};
 ghost use Rattle.zy_table.specs.Answers.{Makes};
 
@@ -23,7 +23,8 @@ use zy_txns::book::Book;
 /// `n push`.
 #[tactic(auto, unfolding(zy_table::specs::Push::push_row, zy_table::specs::Push::push_if, zy_table::specs::Change::leaves))]
 pub fn push_row(me: &mut NodeStore) -> Result<Answer, AllocError>
-    ensures { (v : View) → Makes (seen me.old v) (seen me.new v) result (push_row_spec (seen me.old v)) }
+    ensures line { (v : View) → Makes (seen me.old v) (seen me.new v) result (push_row_spec (seen me.old v)) }
+    ensures limits { limits_of me.new ≡ limits_of me.old }
 {
     if !me.mode.may_push() {
         return Ok(Answer::quiet(Outcome::BadMode));
@@ -41,6 +42,7 @@ fn finish(me: &mut NodeStore)
     requires { 1 ≤ me.old.outbox.spare }
     ensures node { let x = node_shown me.old in node_shown me.new ≡ record x { mode = SFinish } }
     ensures outbox { me.new.outbox.messages ≡ me.old.outbox.messages ++ Finish ∷ [] }
+    ensures limits { limits_of me.new ≡ limits_of me.old }
 {
     me.mode = NodeMode::SFinish;
     me.outbox.send(Message::Finish);
@@ -50,7 +52,8 @@ fn finish(me: &mut NodeStore)
 #[tactic(auto, unfolding(zy_table::specs::Push::finish_row, zy_table::specs::Push::finish_if))]
 pub fn finish_row(n: Node, me: &mut NodeStore, book: &Book) -> Result<Answer, AllocError>
     requires { length book.now.txns ≤ 64 }
-    ensures { (v : View) → Makes (here me.old book.now v) (here me.new book.now v) result (finish_row_spec n (here me.old book.now v)) }
+    ensures line { (v : View) → Makes (here me.old book.now v) (here me.new book.now v) result (finish_row_spec n (here me.old book.now v)) }
+    ensures limits { limits_of me.new ≡ limits_of me.old }
 {
     let lowest = book.lowest_active(n);
     match on_finish(me.mode, lowest.is_some()) {

@@ -8,20 +8,21 @@ ghost use Rattle.zy_table.specs.Order.{NumbersRise};
 ghost use Rattle.zy_table.specs.Pages.{leaf_at, numbers, owns as owns_spec, without};
 ghost use Rattle.zy_table.specs.Take.{is_held as is_held_spec, all_here, with_brought, got as got_spec, with_answer, take_row as take_row_spec, got_row as got_row_spec, pull_row as pull_row_spec};
 ghost use Rattle.zy_node.specs.Mail.{HasRoom, IsWhole};
-ghost use Rattle.zy_node.specs.Nodes.{node_shown};
+ghost use Rattle.zy_node.specs.Nodes.{node_shown, limits_of, IsLimited};
+ghost use Rattle.zy_node.specs.Wireframes.{lows_in};
 ghost use Rattle.zy_moves.specs.Arrivals.{IsNamed, IsNew, MayTake};
 ghost use Rattle.zy_moves.specs.Fronts.{front_of, rest, IsFront, Takes};
 
-use std::alloc::{AllocError, Global};
+use std::alloc::AllocError;
 use zy_isa::rule::Rule;
 use zy_isa::scenario::Scenario;
 use zy_links::kind::Kind;
 use zy_links::message::Message;
 use zy_modes::mode::NodeMode;
 use zy_modes::table::{MsgRow, on_message};
-use zy_node::frame::Frame;
 use zy_node::mailbox::Mailbox;
 use zy_node::node_store::NodeStore;
+use zy_node::wireframe::page_count;
 use zy_table::answer::Answer;
 use zy_table::outcome::Outcome;
 
@@ -53,10 +54,10 @@ fn got(message: &Message) -> Outcome
 /// Whether so many pages more are all that are missing of the wireframe.
 fn lacks(me: &NodeStore, more: usize) -> bool
     requires { more ≤ 1 }
-    ensures value { result ≡ (length me.now.pages + more == length me.now.wire.lows) }
+    ensures value { result ≡ (length me.now.pages + more == length (lows_in me.now.wire)) }
     ensures rise { NumbersRise 0 (numbers me.now.pages) }
 {
-    me.pages.len() + more == me.wire.len()
+    me.pages.len() + more == page_count(&me.wire)
 }
 
 /// The line of the mode table for a message.
@@ -80,25 +81,28 @@ fn line(scenario: &Scenario, me: &NodeStore, message: &Message) -> MsgRow
 }
 
 /// Keeps what a message brings.
-fn bring(me: &mut NodeStore, alloc: Global, message: Message)
-    requires whole { IsWhole message }
+fn bring(me: &mut NodeStore, message: Message)
+    requires whole { IsWhole me.old.outbox.pages message }
     requires new { IsNew (message_of message) (node_shown me.old) }
+    requires limited { IsLimited me.old.outbox.pages me.old }
+    requires few { me.old.outbox.pages ≤ 512 }
     ensures node { node_shown me.new ≡ with_brought (message_of message) (node_shown me.old) }
     ensures outbox { me.new.outbox ≡ me.old.outbox }
+    ensures limits { limits_of me.new ≡ limits_of me.old }
 {
     match message {
-        Message::Wire(wire) => me.wire = Frame::of(wire),
+        Message::Wire(wire) => me.wire = Some(wire),
         Message::Ready => (),
         Message::Dual => (),
         Message::Pull(_) => (),
         Message::Page(page) => {
-            // A number of the wireframe is below 512.
-            let _ = me.wire.len();
+            // There is a mark and a slot for each number of the wireframe.
+            let _ = page_count(&me.wire);
             me.asked.drop(page.number());
             me.pages.put(page);
         }
         Message::Finish => (),
-        Message::Done => me.wire = Frame::new(alloc),
+        Message::Done => me.wire = None,
     }
 }
 
@@ -107,6 +111,7 @@ fn answer(me: &mut NodeStore, sent: Option<Kind>)
     requires { HasRoom sent me.old.outbox }
     ensures node { node_shown me.new ≡ node_shown me.old }
     ensures outbox { me.new.outbox.messages ≡ with_answer sent me.old.outbox.messages }
+    ensures limits { limits_of me.new ≡ limits_of me.old }
 {
     match sent {
         Some(Kind::Ready) => me.outbox.send(Message::Ready),
@@ -126,20 +131,24 @@ pub(crate) fn leave(me: &mut NodeStore, p: u16)
     requires room { 1 ≤ me.old.outbox.spare }
     ensures node { let x = node_shown me.old in node_shown me.new ≡ record x { pages = without p x.pages } }
     ensures outbox { me.new.outbox.messages ≡ me.old.outbox.messages ++ Page (leaf_at me.old.pages p) ∷ [] }
+    ensures limits { limits_of me.new ≡ limits_of me.old }
 {
     let page = me.pages.take(p);
     me.outbox.send(Message::Page(page));
 }
 
 /// Keeps what a message brings, turns to a mode, and sends the answer.
-fn take_in(me: &mut NodeStore, alloc: Global, message: Message, mode: NodeMode, sent: Option<Kind>)
-    requires whole { IsWhole message }
+fn take_in(me: &mut NodeStore, message: Message, mode: NodeMode, sent: Option<Kind>)
+    requires whole { IsWhole me.old.outbox.pages message }
     requires new { IsNew (message_of message) (node_shown me.old) }
+    requires limited { IsLimited me.old.outbox.pages me.old }
+    requires few { me.old.outbox.pages ≤ 512 }
     requires room { HasRoom sent me.old.outbox }
     ensures node { let x = with_brought (message_of message) (node_shown me.old) in node_shown me.new ≡ record x { mode = mode } }
     ensures outbox { me.new.outbox.messages ≡ with_answer sent me.old.outbox.messages }
+    ensures limits { limits_of me.new ≡ limits_of me.old }
 {
-    bring(me, alloc, message);
+    bring(me, message);
     me.mode = mode;
     answer(me, sent);
 }
@@ -188,6 +197,7 @@ fn reserve_answer(me: &mut NodeStore, sent: Option<Kind>) -> Result<(), AllocErr
     ensures outbox { me.new.outbox.messages ≡ me.old.outbox.messages }
     ensures room { OnOk result (HasRoom sent me.new.outbox) }
     ensures others { me.new ≡ record me.old { outbox = me.new.outbox } }
+    ensures limits { limits_of me.new ≡ limits_of me.old }
 {
     match sent {
         Some(_) => me.reserve_post(),
@@ -198,41 +208,42 @@ fn reserve_answer(me: &mut NodeStore, sent: Option<Kind>) -> Result<(), AllocErr
 /// The lines of `n take`, at a node and the link to it.
 pub fn take_row(
     scenario: &Scenario,
-    alloc: Global,
     me: &mut NodeStore,
     inbox: &mut Mailbox,
 ) -> Result<Answer, AllocError>
-    requires { MayTake inbox.old.messages (node_shown me.old) }
-    ensures { Takes me.old inbox.old me.new inbox.new result (take_row_spec scenario.now) }
+    requires may { MayTake inbox.old.messages (node_shown me.old) }
+    requires limited { IsLimited inbox.old.pages me.old }
+    requires few { inbox.old.pages ≤ 512 }
+    ensures line { Takes me.old inbox.old me.new inbox.new result (take_row_spec scenario.now) }
+    ensures limits { limits_of me.new ≡ limits_of me.old }
+    ensures pages { inbox.new.pages ≡ inbox.old.pages }
 {
     match at_front(scenario, me, inbox) {
         Front::Nothing => Ok(Answer::quiet(Outcome::NoMessage)),
         Front::Asks(p, line) => pull_row(scenario, me, inbox, p, line),
-        Front::Brings(line) => got_row(alloc, me, inbox, line),
+        Front::Brings(line) => got_row(me, inbox, line),
     }
 }
 
 /// A message that the mode table speaks of.
 #[tactic(auto, unfolding(zy_table::specs::Take::got_row))]
-fn got_row(
-    alloc: Global,
-    me: &mut NodeStore,
-    inbox: &mut Mailbox,
-    line: MsgRow,
-) -> Result<Answer, AllocError>
+fn got_row(me: &mut NodeStore, inbox: &mut Mailbox, line: MsgRow) -> Result<Answer, AllocError>
     requires may { MayTake inbox.old.messages (node_shown me.old) }
     requires some { is_some (slice_get inbox.old.messages 0) ≡ true }
-    ensures { (m : AMessage) → slice_get inbox.old.messages 0 ≡ Some m → Takes me.old inbox.old me.new inbox.new result (λ v. got_row_spec line m v (rest v)) }
+    requires limited { IsLimited inbox.old.pages me.old }
+    requires few { inbox.old.pages ≤ 512 }
+    ensures line { (m : AMessage) → slice_get inbox.old.messages 0 ≡ Some m → Takes me.old inbox.old me.new inbox.new result (λ v. got_row_spec line m v (rest v)) }
+    ensures limits { limits_of me.new ≡ limits_of me.old }
+    ensures pages { inbox.new.pages ≡ inbox.old.pages }
 {
     match line {
         MsgRow::Stray => Ok(Answer::quiet(Outcome::Stray)),
-        MsgRow::Turns(mode, sent) => turn_row(alloc, me, inbox, mode, sent),
+        MsgRow::Turns(mode, sent) => turn_row(me, inbox, mode, sent),
     }
 }
 
 /// A message that the node's mode knows.
 fn turn_row(
-    alloc: Global,
     me: &mut NodeStore,
     inbox: &mut Mailbox,
     mode: NodeMode,
@@ -240,14 +251,18 @@ fn turn_row(
 ) -> Result<Answer, AllocError>
     requires may { MayTake inbox.old.messages (node_shown me.old) }
     requires some { is_some (slice_get inbox.old.messages 0) ≡ true }
-    ensures { (m : AMessage) → slice_get inbox.old.messages 0 ≡ Some m → Takes me.old inbox.old me.new inbox.new result (λ v. got_row_spec (Turns mode sent) m v (rest v)) }
+    requires limited { IsLimited inbox.old.pages me.old }
+    requires few { inbox.old.pages ≤ 512 }
+    ensures line { (m : AMessage) → slice_get inbox.old.messages 0 ≡ Some m → Takes me.old inbox.old me.new inbox.new result (λ v. got_row_spec (Turns mode sent) m v (rest v)) }
+    ensures limits { limits_of me.new ≡ limits_of me.old }
+    ensures pages { inbox.new.pages ≡ inbox.old.pages }
 {
     reserve_answer(me, sent)?;
     let Some(message) = inbox.take() else {
         unreachable!();
     };
     let outcome = got(&message);
-    take_in(me, alloc, message, mode, sent);
+    take_in(me, message, mode, sent);
     Ok(Answer { outcome, sent })
 }
 
@@ -260,7 +275,9 @@ fn pull_row(
     p: u16,
     line: MsgRow,
 ) -> Result<Answer, AllocError>
-    ensures { Takes me.old inbox.old me.new inbox.new result (λ v. pull_row_spec scenario.now p line v (rest v)) }
+    ensures line { Takes me.old inbox.old me.new inbox.new result (λ v. pull_row_spec scenario.now p line v (rest v)) }
+    ensures limits { limits_of me.new ≡ limits_of me.old }
+    ensures pages { inbox.new.pages ≡ inbox.old.pages }
 {
     let MsgRow::Turns(_, _) = line else {
         return Ok(Answer::quiet(Outcome::Stray));

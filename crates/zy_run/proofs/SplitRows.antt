@@ -1,8 +1,11 @@
 -- What makes a split safe, and which line an insert into a full page leads to.
-use Rattle.std.proofs.Common.{List, [], arith, false, inl, inr, length, refl, subst, sym, true, ℕ, ◌<◌, ◌∙◌, ◌∷◌, ◌≡◌}
-use Rattle.std.specs.Prelude.{Contains, not, ◌&&◌, ◌==◌}
+use Rattle.std.proofs.Common.{List, [], None, ap, arith, false, inl, inr, length, refl, subst, sym, true, ℕ, ◌<◌, ◌∙◌, ◌∷◌, ◌≡◌}
+use Rattle.std.specs.Prelude.{Contains, is_some, not, ◌&&◌, ◌==◌}
 use Rattle.std.proofs.lemmas.Bool.{and_from, and_parts, eq-eqb, eqb-false, false≢true, false_from_ne_true, not-true, or_cases, or_left, or_right}
 use Rattle.zy_isa.specs.Scenario.{Scenario}
+use Rattle.zy_page.specs.Leaf.{Leaf}
+use Rattle.zy_wire.specs.Wireframe.{page_of}
+use Rattle.zy_table.specs.Pages.{owns, page_in}
 use Rattle.zy_locks.specs.Locks.{add_lock, clashes, conflict, is_shared}
 use Rattle.zy_locks.specs.declared.lock.LockKind.{LockKind}
 use Rattle.zy_locks.specs.declared.lock.LockKind.TheVariants.{Exclusive}
@@ -11,10 +14,13 @@ use Rattle.zy_node.specs.declared.node_store.NodeStore.{NodeStore}
 use Rattle.zy_table.specs.Holders.{holds}
 use Rattle.zy_table.specs.Run.{boundary, has_room, is_there}
 use Rattle.zy_node.specs.Nodes.{node_shown, IsCuttable}
+use Rattle.zy_node.specs.Wireframes.{lows_in, limit_or}
+use Rattle.zy_node.proofs.LimitLemmas.{limit_left}
 use Rattle.zy_txns.specs.Books.{Ledger, txn_in}
 use Rattle.zy_locks.specs.declared.lock.Lock.{Lock}
 use Rattle.zy_run.specs.Ready.{IsFull}
 use Rattle.zy_table.proofs.LockLists.{holds-add}
+use Rattle.zy_table.proofs.PageFinds.{owns-page_in}
 
 -- where nobody else holds a page, nobody is in the way
 conflict_none : (xs : List Lock) (q t : ℕ) (kind : LockKind) → ((u : ℕ) → (u ≡ t → ⊥) → holds xs q u ≡ true → ⊥) → conflict xs q t kind ≡ false
@@ -33,9 +39,9 @@ alone_there : (xs : List Lock) (p q t : ℕ) → ((u : ℕ) → holds xs q u ≡
 alone_there xs p q t free = conflict_none (add_lock p t Exclusive xs) q t Exclusive (λ u far h.
     elim (holds-add p t Exclusive xs q u h) [ inl old ↦ false≢true (sym (free u) ∙ old) | inr new ↦ far (sym new.1) ])
 
-pub cuttable : (sc : Scenario) (t k p at b : ℕ) (x : NodeStore) (book : Ledger) → IsFull sc t k p at x book → may_split x.mode ≡ true → length x.wire.lows < sc.pages → b ≡ boundary sc k p (node_shown x) (txn_in t book) → IsCuttable t p b (node_shown x)
+pub cuttable : (sc : Scenario) (t k p at b : ℕ) (x : NodeStore) (book : Ledger) → IsFull sc t k p at x book → may_split x.mode ≡ true → length (lows_in x.wire) < sc.pages → b ≡ boundary sc k p (node_shown x) (txn_in t book) → IsCuttable t p b (node_shown x)
 cuttable sc t k p at b x book f normal more is =
-    let lows = x.wire.lows in
+    let lows = lows_in x.wire in
     let v = node_shown x in
     let y = txn_in t book in
     record {
@@ -46,3 +52,13 @@ cuttable sc t k p at b x book f normal more is =
       absent = f.splits.absent normal;
       owned = f.owned;
     }
+
+-- a node that owns the page of a key, and none with the next number, has a page
+has_page : (lows : List ℕ) (k p : ℕ) (pages : List Leaf) → p ≡ page_of lows k → page_in (length lows) pages ≡ None → owns pages p ≡ true → 0 < length lows
+unfolding page_of
+has_page [] k p pages on absent owned = absurd (false≢true (sym (owns-page_in 0 pages ∙ ap is_some absent) ∙ subst (λ q. owns pages q ≡ true) on owned))
+has_page (low ∷ lows) k p pages on absent owned = omega arith
+
+-- so its wireframe can grow
+pub growable : (sc : Scenario) (t k p at : ℕ) (x : NodeStore) (book : Ledger) → IsFull sc t k p at x book → may_split x.mode ≡ true → length (lows_in x.wire) < sc.pages → length (lows_in x.wire) < limit_or 0 x.wire
+growable sc t k p at x book f normal more = limit_left sc.pages x f.limited (has_page (lows_in x.wire) k p x.pages f.on (f.splits.absent normal) f.owned) more

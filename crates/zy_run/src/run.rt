@@ -8,7 +8,8 @@ ghost use Rattle.zy_table.specs.State.{View};
 ghost use Rattle.zy_table.specs.Pages.{owns, rows_of};
 ghost use Rattle.zy_table.specs.Change.{txn_at, locked};
 ghost use Rattle.zy_table.specs.Run.{abort_row as abort_row_spec, set_row as set_row_spec, jump_row as jump_row_spec, commit_row as commit_row_spec, absent_row as absent_row_spec, read_row as read_row_spec, write_row as write_row_spec, insert_row as insert_row_spec, full_row as full_row_spec, split_row as split_row_spec, page_row as page_row_spec, key_row as key_row_spec, instr_row as instr_row_spec, run_row as run_row_spec, is_there as is_there_spec, has_room as has_room_spec, boundary as boundary_spec, program_of};
-ghost use Rattle.zy_node.specs.Nodes.{node_shown, IsFree};
+ghost use Rattle.zy_node.specs.Nodes.{node_shown, limits_of, IsFree, IsLimited};
+ghost use Rattle.zy_node.specs.Wireframes.{lows_in};
 ghost use Rattle.zy_txns.specs.Books.{txn_in, noted, Countable};
 ghost use Rattle.zy_run.specs.Parts.{here, Runs};
 ghost use Rattle.zy_table.specs.Answers.{made};
@@ -21,6 +22,7 @@ use zy_isa::scenario::Scenario;
 use zy_links::kind::Kind;
 use zy_locks::lock::LockKind;
 use zy_node::node_store::{NodeStore, fewer_new_rows, gone_page};
+use zy_node::wireframe::{page_count, page_of};
 use zy_table::access::Access;
 use zy_table::answer::Answer;
 use zy_table::outcome::{Outcome, Why};
@@ -38,7 +40,8 @@ pub fn run_row(
     t: u8,
 ) -> Result<Answer, AllocError>
     requires { IsReady scenario.now n t me.old book.old }
-    ensures { Runs me.old book.old me.new book.new result (run_row_spec scenario.now n t) }
+    ensures line { Runs me.old book.old me.new book.new result (run_row_spec scenario.now n t) }
+    ensures limits { limits_of me.new ≡ limits_of me.old }
 {
     let txn = book.txn(t);
     if !txn.is_active() {
@@ -67,7 +70,9 @@ fn instr_row(
     requires counts { Countable t book.old }
     requires room { Rooms t me.old book.old }
     requires splits { MaySplit scenario.now (node_shown me.old) (txn_in t book.old) }
-    ensures { Runs me.old book.old me.new book.new result (λ v. instr_row_spec scenario.now t (Some instr) (txn_at v t).regs v) }
+    requires limited { IsLimited scenario.now.pages me.old }
+    ensures line { Runs me.old book.old me.new book.new result (λ v. instr_row_spec scenario.now t (Some instr) (txn_at v t).regs v) }
+    ensures limits { limits_of me.new ≡ limits_of me.old }
 {
     let txn = book.txn(t);
     match instr {
@@ -101,7 +106,8 @@ fn instr_row(
 #[tactic(auto, unfolding(zy_table::specs::Run::abort_row, zy_table::specs::Change::aborted, zy_table::specs::Change::txn_at))]
 pub fn abort_row(me: &mut NodeStore, book: &mut Book, t: u8, why: Why) -> Answer
     requires { t < length book.old.txns }
-    ensures { (v : View) → made result (here me.new book.new v) ≡ abort_row_spec t why (here me.old book.old v) }
+    ensures line { (v : View) → made result (here me.new book.new v) ≡ abort_row_spec t why (here me.old book.old v) }
+    ensures limits { limits_of me.new ≡ limits_of me.old }
 {
     me.release(t);
     book.abort(t, why);
@@ -134,7 +140,8 @@ fn jump_row(book: &mut Book, t: u8, taken: bool, target: u32) -> Answer
 fn commit_row(me: &mut NodeStore, book: &mut Book, t: u8) -> Result<Answer, AllocError>
     requires counts { Countable t book.old }
     requires room { Rooms t me.old book.old }
-    ensures { Runs me.old book.old me.new book.new result (commit_row_spec t) }
+    ensures line { Runs me.old book.old me.new book.new result (commit_row_spec t) }
+    ensures limits { limits_of me.new ≡ limits_of me.old }
 {
     if let Some(p) = gone_page(me, book.txn(t).rows()) {
         return Ok(abort_row(me, book, t, Why::Gone(p)));
@@ -160,12 +167,14 @@ fn key_row(
 ) -> Result<Answer, AllocError>
     requires counts { Countable t book.old }
     requires splits { MaySplit scenario.now (node_shown me.old) (txn_in t book.old) }
-    ensures { Runs me.old book.old me.new book.new result (key_row_spec scenario.now t access key) }
+    requires limited { IsLimited scenario.now.pages me.old }
+    ensures line { Runs me.old book.old me.new book.new result (key_row_spec scenario.now t access key) }
+    ensures limits { limits_of me.new ≡ limits_of me.old }
 {
     let Ok(key) = u16::try_from(key) else {
         return Ok(abort_row(me, book, t, Why::BadKey));
     };
-    let p = me.wire.page_of(key);
+    let p = page_of(&me.wire, key);
     page_row(scenario, alloc, me, book, t, access, key, p)
 }
 
@@ -174,7 +183,8 @@ fn key_row(
 fn absent_row(me: &mut NodeStore, book: &mut Book, t: u8, p: u16) -> Result<Answer, AllocError>
     requires there { t < length book.old.txns }
     requires few { p < 512 }
-    ensures { Runs me.old book.old me.new book.new result (absent_row_spec t p) }
+    ensures line { Runs me.old book.old me.new book.new result (absent_row_spec t p) }
+    ensures limits { limits_of me.new ≡ limits_of me.old }
 {
     if !me.mode.may_pull() {
         return Ok(abort_row(me, book, t, Why::Gone(p)));
@@ -200,7 +210,8 @@ fn read_row(
 ) -> Answer
     requires counts { Countable t book.old }
     requires free { IsFree at p t Shared me.old }
-    ensures { (v : View) → made result (here me.new book.new v) ≡ read_row_spec t r key p (locked t p Shared (here me.old book.old v)) }
+    ensures line { (v : View) → made result (here me.new book.new v) ≡ read_row_spec t r key p (locked t p Shared (here me.old book.old v)) }
+    ensures limits { limits_of me.new ≡ limits_of me.old }
 {
     let value = value(me, book.txn(t), key, p);
     me.lock_at(at, p, t, LockKind::Shared);
@@ -221,7 +232,8 @@ fn write_row(
 ) -> Result<Answer, AllocError>
     requires counts { Countable t book.old }
     requires free { IsFree at p t Exclusive me.old }
-    ensures { Runs me.old book.old me.new book.new result (λ v. write_row_spec t key value p (locked t p Exclusive v)) }
+    ensures line { Runs me.old book.old me.new book.new result (λ v. write_row_spec t key value p (locked t p Exclusive v)) }
+    ensures limits { limits_of me.new ≡ limits_of me.old }
 {
     if !is_there(me, book.txn(t), key, p) {
         return Ok(abort_row(me, book, t, Why::Missing));
@@ -246,10 +258,12 @@ fn insert_row(
 ) -> Result<Answer, AllocError>
     requires counts { Countable t book.old }
     requires splits { MaySplit scenario.now (node_shown me.old) (txn_in t book.old) }
-    requires on { p ≡ page_of_spec me.old.wire.lows key }
+    requires limited { IsLimited scenario.now.pages me.old }
+    requires on { p ≡ page_of_spec (lows_in me.old.wire) key }
     requires free { IsFree at p t Exclusive me.old }
     requires owned { owns me.old.pages p ≡ true }
-    ensures { Runs me.old book.old me.new book.new result (λ v. insert_row_spec scenario.now t key value p (locked t p Exclusive v)) }
+    ensures line { Runs me.old book.old me.new book.new result (λ v. insert_row_spec scenario.now t key value p (locked t p Exclusive v)) }
+    ensures limits { limits_of me.new ≡ limits_of me.old }
 {
     if is_there(me, book.txn(t), key, p) {
         return Ok(abort_row(me, book, t, Why::Duplicate));
@@ -275,12 +289,13 @@ fn full_row(
     at: usize,
 ) -> Result<Answer, AllocError>
     requires { IsFull scenario.now t key p at me.old book.old }
-    ensures { Runs me.old book.old me.new book.new result (λ v. full_row_spec scenario.now t key p (locked t p Exclusive v)) }
+    ensures line { Runs me.old book.old me.new book.new result (λ v. full_row_spec scenario.now t key p (locked t p Exclusive v)) }
+    ensures limits { limits_of me.new ≡ limits_of me.old }
 {
     if !me.mode.may_split() {
         return Ok(abort_row(me, book, t, Why::Frozen(p)));
     }
-    if me.wire.len() >= usize::from(scenario.pages()) {
+    if page_count(&me.wire) >= usize::from(scenario.pages()) {
         return Ok(abort_row(me, book, t, Why::NoPage));
     }
     split_row(scenario, alloc, me, book, t, key, p, at)
@@ -299,10 +314,11 @@ fn split_row(
 ) -> Result<Answer, AllocError>
     requires full { IsFull scenario.now t key p at me.old book.now }
     requires normal { may_split me.old.mode ≡ true }
-    requires more { length me.old.wire.lows < scenario.now.pages }
-    ensures { Runs me.old book.now me.new book.now result (λ v. split_row_spec scenario.now t key p (locked t p Exclusive v)) }
+    requires more { length (lows_in me.old.wire) < scenario.now.pages }
+    ensures line { Runs me.old book.now me.new book.now result (λ v. split_row_spec scenario.now t key p (locked t p Exclusive v)) }
+    ensures limits { limits_of me.new ≡ limits_of me.old }
 {
-    let new_page = me.wire.len() as u16;
+    let new_page = page_count(&me.wire) as u16;
     let boundary = boundary(scenario, alloc, me, book.txn(t), p, key)?;
     me.cut(t, p, at, boundary)?;
     Ok(Answer::quiet(Outcome::Split {
@@ -326,9 +342,11 @@ fn page_row(
 ) -> Result<Answer, AllocError>
     requires counts { Countable t book.old }
     requires splits { MaySplit scenario.now (node_shown me.old) (txn_in t book.old) }
-    requires on { p ≡ page_of_spec me.old.wire.lows key }
+    requires limited { IsLimited scenario.now.pages me.old }
+    requires on { p ≡ page_of_spec (lows_in me.old.wire) key }
     requires few { p < 512 }
-    ensures { Runs me.old book.old me.new book.new result (page_row_spec scenario.now t access key p) }
+    ensures line { Runs me.old book.old me.new book.new result (page_row_spec scenario.now t access key p) }
+    ensures limits { limits_of me.new ≡ limits_of me.old }
 {
     if !me.pages.owns(p) {
         return absent_row(me, book, t, p);

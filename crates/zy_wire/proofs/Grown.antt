@@ -69,6 +69,7 @@ IsSound-grown pages lows i new es h none at last few =
       rise = RiseFrom-insert lows 0 i new es none h.match h.rise (omega arith) at;
       match = Match-insert (lows ++ new.low ∷ []) i new es (omega arith) (get_or_at lows new.low [] 0 new.page (sym last)) (Match-push lows new.low es h.match);
       whole = rw more (HavePages-insert (length lows) i new es last h.whole);
+      some = omega arith;
+      first = get_or_append_left lows (new.low ∷ []) 0 0 h.some ∙ h.first;
       few = omega arith;
-      most = h.most;
     }

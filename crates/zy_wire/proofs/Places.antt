@@ -6,7 +6,7 @@ use Rattle.std.proofs.lemmas.Bool.{eqb-true, or_cases, cases_lt, cases_order}
 use Rattle.zy_wire.specs.declared.entry.Entry.{Entry}
 use Rattle.zy_wire.specs.Wireframe.{page_of}
 use Rattle.zy_wire.specs.ByLow.{RiseFrom, Match, HavePages, IsPlace}
-use Rattle.zy_wire.proofs.PageOf.{page_of-is, page_of-none}
+use Rattle.zy_wire.proofs.PageOf.{page_of-is}
 
 low_from : (low i : ℕ) (d : Entry) (es : List Entry) → RiseFrom low es → i < length es → low ≤ (get_or es i d).low
 low_from low i d [] h lt = absurd (omega arith)
@@ -82,12 +82,12 @@ page_before lows es k i d rise match whole at =
     (λ q lt low. rw here.1 (most lows es k i q d rise at (entry_of lows es q match whole lt) low))
     (λ q below same. let one = apart lows es i q d rise within (entry_of lows es q match whole (omega (arith, here.0))) (same ∙ here.1) in absurd (omega arith))
 
--- and where none stands before it, it lies on page 0
-pub page_first : (lows : List ℕ) (es : List Entry) (k : ℕ) → Match lows es → HavePages (length lows) es → IsPlace k es 0 → page_of lows k ≡ 0
-page_first lows es k match whole at =
+-- where a page begins at 0 one stands before each place
+pub place_some : (lows : List ℕ) (es : List Entry) (k i : ℕ) → Match lows es → HavePages (length lows) es → 1 ≤ length lows → get_or lows 0 0 ≡ 0 → IsPlace k es i → 1 ≤ i
+place_some lows es k zero match whole some first at =
     let d : Entry = record { low = 0; page = 0 } in
-    page_of-none lows k (λ q lt.
-    let e = entry_of lows es q match whole lt in
+    let e = entry_of lows es 0 match whole some in
     let above = at.2 e.at d (omega arith) e.within in
     let low = e.low d in
-    omega arith)
+    omega arith
+place_some lows es k (suc i) match whole some first at = omega arith

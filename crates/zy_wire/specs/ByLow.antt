@@ -17,13 +17,14 @@ Match lows (e ∷ es) = (e.page < length lows) × (slice_index lows e.page ≡ e
 abbrev pub HavePages : ℕ → List Entry → Type 0
 HavePages n es = (p : ℕ) → p < n → list_any (λ (e : Entry). e.page == p) es ≡ true
 
--- the entries are the pages with these low keys, in order, and no more than there may be
+-- the entries are the pages with these low keys, in order, from page 0 at 0 on, and no more than there may be
 pub record IsSound (pages : ℕ) (lows : List ℕ) (entries : List Entry) : Type 0 where
   pub rise : RiseFrom 0 entries
   pub match : Match lows entries
   pub whole : HavePages (length lows) entries
+  pub some : 1 ≤ length lows
+  pub first : slice_index lows 0 ≡ 0
   pub few : length lows ≤ pages
-  pub most : pages ≤ 512
 
 -- i low keys are not above k, and the others are
 abbrev pub IsPlace : ℕ → List Entry → ℕ → Type 0

@@ -1,5 +1,5 @@
 //! The wireframe of a node.
-ghost use Rattle.std.specs.Prelude.{true, ◌≡◌, ◌==◌, ◌↔◌, ◌+◌, ◌<◌, ◌≤◌, ◌++◌, ◌∷◌, [], OnOk, OnErr, IfOk, IsOk, Err, Contains, length, slice_index};
+ghost use Rattle.std.specs.Prelude.{true, ◌≡◌, ◌==◌, ◌↔◌, ◌+◌, ◌^◌, ◌<◌, ◌≤◌, ◌++◌, ◌∷◌, [], OnOk, OnErr, IfOk, IsOk, Err, Contains, length, slice_index};
 ghost use Rattle.zy_wire.specs.Wireframe.{page_of as page_of_spec, IsGreatest};
 ghost use Rattle.zy_wire.specs.ByLow.{RiseFrom, IsPlace};
 
@@ -29,7 +29,7 @@ impl From<AllocError> for WireFault {
     }
 }
 
-/// The low keys of the pages, by number: a key lies on the page with the greatest low key that is not above it.
+/// The low keys of the pages, by number, the first of which is 0: a key lies on the page with the greatest low key that is not above it.
 /// Beside them the pages stand in order of low key, so that a search looks at few of them.
 #[derive(Drop)]
 pub struct Wire {
@@ -52,16 +52,21 @@ impl Model for Wire {
 }
 
 impl Wire {
-    /// No page yet, and at most `pages` of them. It takes no memory.
-    pub fn new(alloc: Global, pages: u16) -> Wire
-        requires { pages ≤ 512 }
-        ensures { result ≡ record { lows = []; pages = pages; spare = 0 } }
+    /// Page 0 alone, whose low key is 0, and at most `pages` pages in the end.
+    pub fn new(alloc: Global, pages: u16) -> Result<Wire, AllocError>
+        requires { 1 ≤ pages }
+        ensures lows { IfOk result (λ wire. wire.lows ≡ 0 ∷ []) }
+        ensures pages { IfOk result (λ wire. wire.pages ≡ pages) }
     {
-        Wire {
-            lows: Vec::new(alloc),
-            by_low: Vec::new(alloc),
+        let mut lows = Vec::with_capacity(alloc, 1)?;
+        lows.push_reserved(0);
+        let mut by_low = Vec::with_capacity(alloc, 1)?;
+        by_low.push_reserved(Entry { low: 0, page: 0 });
+        Ok(Wire {
+            lows,
+            by_low,
             pages,
-        }
+        })
     }
 
     /// Makes room for one page more.
@@ -77,40 +82,37 @@ impl Wire {
         self.by_low.reserve(1)
     }
 
-    /// How many pages there are.
+    /// How many pages there are: never none.
     pub fn len(&self) -> usize
         ensures value { result ≡ length self.now.lows }
+        ensures some { 1 ≤ result }
         ensures few { result ≤ self.now.pages }
-        ensures most { self.now.pages ≤ 512 }
+        ensures numbered { result < 2 ^ 16 }
     {
+        // There may be at most as many as a `u16` counts.
+        let _pages = self.pages;
         self.lows.len()
     }
 
-    /// Whether there are none.
-    pub fn is_empty(&self) -> bool
-        ensures { result ≡ (length self.now.lows == 0) }
-    {
-        self.lows.is_empty()
-    }
-
-    /// The low key of a page.
+    /// The low key of a page, which is 0 for page 0.
     pub fn low_of(&self, page: u16) -> u16
         requires { page < length self.now.lows }
-        ensures { result ≡ slice_index self.now.lows page }
+        ensures value { result ≡ slice_index self.now.lows page }
+        ensures first { page ≡ 0 → result ≡ 0 }
     {
         self.lows[usize::from(page)]
     }
 
-    /// The page that a key lies on; 0 where every low key is above it.
+    /// The page that a key lies on.
     pub fn page_of(&self, key: u16) -> u16
         ensures value { result ≡ page_of_spec self.now.lows key }
-        ensures within { 0 < length self.now.lows → result < length self.now.lows }
+        ensures within { result < length self.now.lows }
+        ensures few { result < self.now.pages }
+        ensures under { slice_index self.now.lows result ≤ key }
         ensures greatest { IsGreatest self.now.lows key result }
     {
-        match place(&self.by_low, key) {
-            0 => 0,
-            count => self.by_low[count - 1].page,
-        }
+        // Page 0 begins at 0, so that no key is below all.
+        self.by_low[place(&self.by_low, key) - 1].page
     }
 
     /// Whether a key lies on a page. Of a key below the page's low key it is told without a search.
@@ -120,12 +122,12 @@ impl Wire {
         !self.is_below(key, page) && self.page_of(key) == page
     }
 
-    /// Whether a key is below the low key of a page that is not page 0.
+    /// Whether a key is below the low key of a page.
     fn is_below(&self, key: u16, page: u16) -> bool
         ensures { result ≡ true → page_of_spec self.now.lows key ≡ page → ⊥ }
     {
         match self.lows.get(usize::from(page)) {
-            Some(low) => page != 0 && key < *low,
+            Some(low) => key < *low,
             None => false,
         }
     }

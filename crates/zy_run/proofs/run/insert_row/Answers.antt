@@ -5,8 +5,8 @@ use Rattle.zy_run.specs.Parts.{here}
 use Rattle.zy_run.proofs.RowLemmas.{insert-duplicate}
 use Rattle.zy_run.proofs.run.insert_row.Goals as goal
 
-pub returns-then-is_there : goal.returns-then-is_there
+pub returns-then-is_there-clause-line : goal.returns-then-is_there-clause-line
 unfolding txn_at
-returns-then-is_there c v =
+returns-then-is_there-clause-line c v =
     let there = rw c.txn.ensures at (sym c.is_there.ensures ∙ c.if-is_there.true) in
-    c.abort_row.ensures v ∙ sym (insert-duplicate c.args.scenario.now c.args.t c.args.key c.args.value c.args.p Exclusive (here c.args.me.now c.args.book.now v) there)
+    c.abort_row.ensures.line v ∙ sym (insert-duplicate c.args.scenario.now c.args.t c.args.key c.args.value c.args.p Exclusive (here c.args.me.now c.args.book.now v) there)

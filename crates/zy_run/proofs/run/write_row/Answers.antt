@@ -5,8 +5,8 @@ use Rattle.zy_run.specs.Parts.{here}
 use Rattle.zy_run.proofs.RowLemmas.{write-missing}
 use Rattle.zy_run.proofs.run.write_row.Goals as goal
 
-pub returns-then-not-is_there : goal.returns-then-not-is_there
+pub returns-then-not-is_there-clause-line : goal.returns-then-not-is_there-clause-line
 unfolding txn_at
-returns-then-not-is_there c v =
+returns-then-not-is_there-clause-line c v =
     let none = rw c.txn.ensures at (sym c.is_there.ensures ∙ c.if-not-is_there.true) in
-    c.abort_row.ensures v ∙ sym (write-missing c.args.t c.args.key c.args.value c.args.p Exclusive (here c.args.me.now c.args.book.now v) none)
+    c.abort_row.ensures.line v ∙ sym (write-missing c.args.t c.args.key c.args.value c.args.p Exclusive (here c.args.me.now c.args.book.now v) none)

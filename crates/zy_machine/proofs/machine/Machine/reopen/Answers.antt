@@ -12,5 +12,5 @@ invariant_of-result c =
     let m = c.self.inside in
     let h : History = record { scenario = arc_value m.scenario; state = shown m.store; entries = made m.past } in
     let r = c.self.invariant.0 in
-    rw (c.in_ok-scenario.ensures, c.in_ok-store.ensures, c.in_ok-past.ensures.made, c.deref.ensures)
-    (opened h.scenario r.tested, still-known h.scenario (opening h.scenario) (h.entries ++ ahead m.past) (ahead c.in_ok-past.past) c.in_ok-past.ensures.ahead (known-whole h (ahead m.past) r c.self.invariant.1))
+    rw (c.in_ok-scenario.ensures, c.in_ok-store.ensures.state, c.in_ok-past.ensures.made, c.deref.ensures)
+    (opened h.scenario r.tested, still-known h.scenario (opening h.scenario) (h.entries ++ ahead m.past) (ahead c.in_ok-past.past) c.in_ok-past.ensures.ahead (known-whole h (ahead m.past) r c.self.invariant.1), rw c.deref.ensures at c.in_ok-store.ensures.limited)
