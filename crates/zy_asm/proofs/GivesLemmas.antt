@@ -39,7 +39,7 @@ use Rattle.zy_isa.proofs.ResultLemmas.{out_of_neither, not_below, over_not, both
 use Rattle.zy_asm.proofs.SpellLemmas.{op_word, actor_word, node_word, no_name}
 use Rattle.zy_words.proofs.LabelLemmas.{label-last}
 use Rattle.zy_asm.proofs.CodeLemmas.{own_gives}
-use Rattle.zy_asm.proofs.FoundLemmas.{Base, at, top}
+use Rattle.zy_asm.proofs.FoundSteps.{Base, at, top}
 use borrow.Author.Tests.{tests}
 
 pub number_in_gives : (w : List ℕ) (a b n : ℕ) → number_of w ≡ Some n → a ≤ n → n ≤ b → number_in w a b ≡ Ok n

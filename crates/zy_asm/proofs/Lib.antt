@@ -5,6 +5,8 @@ pub mod PendingLemmas
 pub mod SpellLemmas
 pub mod DraftLemmas
 pub mod FoundLemmas
+pub mod FoundPrograms
+pub mod FoundSteps
 pub mod GivesLemmas
 pub mod OnlyLemmas
 pub mod CanonLemmas

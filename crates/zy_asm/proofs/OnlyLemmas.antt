@@ -36,7 +36,9 @@ use Rattle.zy_asm.specs.Reading.{Seen, seen, rule_of, own_number, open_line, cho
 use Rattle.zy_isa.proofs.RowLemmas.{Above, above_more}
 use Rattle.zy_isa.proofs.ResultLemmas.{bind_ok, not_below, over_not}
 use Rattle.zy_asm.proofs.SpellLemmas.{actor_word, node_word}
-use Rattle.zy_asm.proofs.FoundLemmas.{Base, base, at, top, fold_lines, choice_same, bodies, following, found_text, FoundText, shows}
+use Rattle.zy_asm.proofs.FoundSteps.{Base, base, at, top, fold_lines, choice_same}
+use Rattle.zy_asm.proofs.FoundPrograms.{bodies, following}
+use Rattle.zy_asm.proofs.FoundLemmas.{found_text, FoundText, shows}
 use Rattle.zy_asm.proofs.GivesLemmas.{number_in_gives, code_gives, choice_gives, row_gives, head_gives}
 use borrow.Author.Tests.{tests}
 

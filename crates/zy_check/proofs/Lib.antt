@@ -5,3 +5,4 @@ pub mod CompareLemmas
 pub mod CutLemmas
 pub mod JudgeLemmas
 pub mod LawLemmas
+pub mod PlaceLemmas

@@ -5,13 +5,14 @@ ghost use Rattle.std.specs.Str.{bytes_eq};
 ghost use Rattle.zy_isa.specs.Words.{without_comment as without_comment_spec, words_of, lines_of};
 ghost use Rattle.zy_check.specs.Cut.{cut, is_end};
 
+use memchr::memchr;
 use zy_words::line::is_space;
 
 /// Where a byte stands first.
 fn first_place(bytes: &[u8], sought: u8) -> Option<usize>
     ensures { result ≡ position (λ b. b == sought) bytes.now }
 {
-    bytes.iter().position(|byte| *byte == sought)
+    memchr(sought, bytes)
 }
 
 /// The bytes before a comment.

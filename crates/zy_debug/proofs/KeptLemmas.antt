@@ -4,7 +4,7 @@ use Rattle.std.specs.Prelude.{drop, slice_get, take}
 use Rattle.circular_buffer.specs.Buffer.{keep_last}
 use Rattle.zy_isa.specs.Scenario.{Scenario}
 use Rattle.zy_machine.specs.Histories.{History}
-use Rattle.zy_debug.specs.Checkpoints.{Kept, Shelves, AreReplaysOf, HoldReplaysOf, IsReplayOf, is_kept, noted}
+use Rattle.zy_debug.specs.Checkpoints.{Kept, AreReplaysOf, IsReplayOf, is_kept, noted}
 
 AreReplaysOf-drop : (sc : Scenario) (n : ℕ) (hs : List History) → AreReplaysOf sc hs → AreReplaysOf sc (drop n hs)
 AreReplaysOf-drop sc zero hs a = a
@@ -45,12 +45,6 @@ pub AreReplaysOf-tried : {X Y : Type 0} (sc : Scenario) (h : History) (k j : Kep
     → AreReplaysOf sc k.machines → IsReplayOf sc h → AreReplaysOf sc j.machines
 AreReplaysOf-tried sc h k j (Ok x) o e a r = rw o (AreReplaysOf-noted sc h k a r)
 AreReplaysOf-tried sc h k j (Err x) o e a r = rw e a
-
--- among those close to a position one more is kept, or there was no memory for it
-pub HoldReplaysOf-close : {X Y : Type 0} (sc : Scenario) (s : Shelves) (h : History) (k j : Kept) (r : Result X Y) → HoldReplaysOf sc s
-    → AreReplaysOf sc k.machines → OnOk r (j ≡ noted h k) → OnErr r (j ≡ k) → IsReplayOf sc h → HoldReplaysOf sc (record s { close = j })
-HoldReplaysOf-close sc s h k j r kept a o e is =
-    record { spread = kept.spread; passed = kept.passed; close = AreReplaysOf-tried sc h k j r o e a is }
 
 -- what is so of both is so of either
 pub IfSome-either : {X : Type 0} (P : X → Type 0) (r x y : Option X) → (r ≡ x) ⊎ (r ≡ y) → IfSome x P → IfSome y P → IfSome r P

@@ -1,5 +1,5 @@
 //! Machines that are kept as they were at some positions.
-ghost use Rattle.std.specs.Prelude.{◌≡◌, ◌≤◌, ◌+◌, [], ◌⊎◌, IfOk, IfSome, OnOk, length, option_copied};
+ghost use Rattle.std.specs.Prelude.{◌≡◌, ◌≤◌, ◌<◌, ◌+◌, [], ◌⊎◌, IfOk, IfSome, OnOk, length, option_copied};
 ghost use Rattle.zy_isa.specs.Scenario.{Scenario as AScenario};
 ghost use Rattle.zy_debug.specs.Checkpoints.{HoldReplaysOf, IsBelow, IsReplayOf};
 
@@ -91,7 +91,34 @@ impl Checkpoints {
         Ok(())
     }
 
-    /// Where the way to a position is long, makes a machine's choices up to the middle, and keeps a copy, for which copies above the position go.
+    /// Takes out the kept machine that stands at a position, if there is one among those close to where a replay ended. Those above go.
+    pub fn take(&mut self, target: usize) -> Option<Machine>
+        ensures position { IfSome result (λ h. length h.entries ≡ target) }
+        ensures taken { (sc : AScenario) → HoldReplaysOf sc self.old → IfSome result (IsReplayOf sc) }
+        ensures kept { (sc : AScenario) → HoldReplaysOf sc self.old → HoldReplaysOf sc self.new }
+    {
+        self.close.take(target)
+    }
+
+    /// Keeps a copy of a machine close to where its way ends.
+    fn note_close(&mut self, alloc: Global, machine: &Machine) -> Result<(), AllocError>
+        ensures { (sc : AScenario) → HoldReplaysOf sc self.old → IsReplayOf sc machine.now → HoldReplaysOf sc self.new }
+    {
+        self.close.note(alloc, machine)
+    }
+
+    /// The position halfway to another, where the way is long and there is room for a copy close to its end.
+    fn halfway(&self, position: usize, target: usize) -> Option<usize>
+        ensures { IfSome result (λ due. (position < due) × (due ≤ target)) }
+    {
+        if self.close.is_free(self.copies.least_close(target)) {
+            self.copies.halfway(position, target)
+        } else {
+            None
+        }
+    }
+
+    /// As long as the way to a position is long and there is room, makes half of a machine's choices on it, and keeps a copy.
     fn halve(
         &mut self,
         alloc: Global,
@@ -103,10 +130,9 @@ impl Checkpoints {
         ensures below { OnOk result (IsBelow machine.old.scenario target machine.new) }
         ensures kept { HoldReplaysOf machine.old.scenario self.new }
     {
-        if let Some(middle) = self.copies.halfway(machine.len(), target) {
+        'way: while let Some(middle) = self.halfway(machine.len(), target) {
             advance_to(machine, middle)?;
-            self.close.drop_above(target);
-            self.close.note(alloc, machine)?;
+            self.note_close(alloc, machine)?;
         }
         Ok(())
     }
@@ -124,8 +150,11 @@ impl Checkpoints {
         ensures position { OnOk result (length machine.new.entries ≡ target) }
         ensures kept { HoldReplaysOf machine.old.scenario self.new }
     {
+        let is_short = self.copies.is_short(machine.len(), target);
         self.pass(alloc, machine, target)?;
-        self.halve(alloc, machine, target)?;
+        if is_short {
+            self.halve(alloc, machine, target)?;
+        }
         advance_to(machine, target)
     }
 }

@@ -66,12 +66,22 @@ impl Copies {
         }
     }
 
-    /// The position halfway to another, where the way is longer than an eighth of `every`.
+    /// Whether a way is so short that a session may well stay near its end.
+    pub fn is_short(&self, position: usize, target: usize) -> bool {
+        target.saturating_sub(position) <= self.every
+    }
+
+    /// From where on copies are close to a position.
+    pub fn least_close(&self, position: usize) -> usize {
+        position.saturating_sub(self.every)
+    }
+
+    /// The position halfway to another, where the way is longer than a sixteenth of `every`.
     pub fn halfway(&self, position: usize, target: usize) -> Option<usize>
         ensures { IfSome result (λ due. (position < due) × (due ≤ target)) }
     {
         let left = target.saturating_sub(position);
-        if self.close != 0 && left > self.every / 8 + 1 {
+        if left > self.every / 16 + 1 {
             Some(position + left / 2)
         } else {
             None

@@ -228,6 +228,28 @@ impl Debugger {
         ensures position { IfOk result (λ m. length m.entries ≡ target) }
         ensures kept { self.new ≡ self.old }
     {
+        match self.take_kept(target) {
+            Some(machine) => Ok(machine),
+            None => self.replay(target),
+        }
+    }
+
+    /// The kept machine that stands at a position, if there is one among those close to where a replay ended.
+    fn take_kept(&mut self, target: usize) -> Option<Machine>
+        ensures replay { IfSome result (IsReplayOf self.old.scenario) }
+        ensures position { IfSome result (λ m. length m.entries ≡ target) }
+        ensures kept { self.new ≡ self.old }
+    {
+        self.checkpoints.take(target)
+    }
+
+    /// A machine that makes the choices up to a position from the nearest one below or at it.
+    fn replay(&mut self, target: usize) -> Result<Machine, AllocError>
+        requires { target ≤ length self.old.scenario.choices }
+        ensures replay { IfOk result (IsReplayOf self.old.scenario) }
+        ensures position { IfOk result (λ m. length m.entries ≡ target) }
+        ensures kept { self.new ≡ self.old }
+    {
         let mut machine = self.nearest(target)?;
         self.checkpoints
             .replay_to(self.alloc, &mut machine, target)?;

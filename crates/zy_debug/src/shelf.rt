@@ -1,5 +1,6 @@
 //! Copies of machines, of which the last ones stay.
-ghost use Rattle.std.specs.Prelude.{◌≡◌, ◌≤◌, [], IfOk, IfSome, OnOk, OnErr, Some, length, slice_get, option_copied};
+ghost use Rattle.std.specs.Prelude.{◌≡◌, true, ◌≤◌, [], IfOk, IfSome, OnOk, OnErr, Some, length, slice_get, option_copied};
+ghost use Rattle.circular_buffer.specs.Buffer.{last_item};
 ghost use Rattle.zy_isa.specs.Scenario.{Scenario as AScenario};
 ghost use Rattle.zy_machine.specs.Histories.{History};
 ghost use Rattle.zy_debug.specs.Checkpoints.{AreReplaysOf, IsReplayOf, is_kept, noted};
@@ -58,6 +59,39 @@ impl Shelf {
     {
         if let Some(first) = self.ring.iter().position(|kept| target < kept.len()) {
             self.ring.truncate_back(first);
+        }
+    }
+
+    /// Takes out the last machine, where it stands at a position. Those from the first one on that stands above it are dropped.
+    pub fn take(&mut self, target: usize) -> Option<Machine>
+        ensures room { self.new.room ≡ self.old.room }
+        ensures position { IfSome result (λ h. length h.entries ≡ target) }
+        ensures taken { (sc : AScenario) → AreReplaysOf sc self.old.machines → IfSome result (IsReplayOf sc) }
+        ensures kept { (sc : AScenario) → AreReplaysOf sc self.old.machines → AreReplaysOf sc self.new.machines }
+    {
+        self.drop_above(target);
+        if self.ends_at(target) {
+            self.ring.pop_back()
+        } else {
+            None
+        }
+    }
+
+    /// Whether the last machine stands at a position.
+    fn ends_at(&self, target: usize) -> bool
+        ensures { result ≡ true → IfSome (last_item self.now.machines) (λ h. length h.entries ≡ target) }
+    {
+        match self.ring.back() {
+            Some(kept) => kept.len() == target,
+            None => false,
+        }
+    }
+
+    /// Whether one more can be kept without the loss of one that stands at or above a position.
+    pub fn is_free(&self, position: usize) -> bool {
+        match self.ring.front() {
+            Some(kept) if self.ring.is_full() => kept.len() < position,
+            _ => !self.ring.is_full(),
         }
     }
 

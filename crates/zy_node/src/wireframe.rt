@@ -1,9 +1,11 @@
 //! The wireframe of a node: a node without pages has none. What is told of a number `n` holds of each that is not below the wireframe's limit.
 ghost use Rattle.std.specs.Prelude.{◌≡◌, ◌==◌, ◌<◌, ◌≤◌, ◌++◌, ◌∷◌, [], ℕ, IfOk, IfSome, OnOk, Contains, length};
 ghost use Rattle.zy_wire.specs.Wireframe.{page_of as page_of_spec};
+ghost use Rattle.zy_wire.specs.Ranges.{in_range};
 ghost use Rattle.zy_node.specs.Wireframes.{lows_in, limit_or};
 
 use std::alloc::{AllocError, Global};
+use zy_wire::key_range::KeyRange;
 use zy_wire::wire::Wire;
 
 /// How many pages there are.
@@ -29,14 +31,15 @@ pub fn page_of(wire: &Option<Wire>, key: u16) -> u16
     }
 }
 
-/// Whether a key lies on a page.
+/// The keys that lie on a page. Without pages every key is told to lie on page 0, as by `page_of`.
 #[tactic(auto, unfolding(zy_wire::specs::Wireframe::page_of))]
-pub fn lies_on(wire: &Option<Wire>, key: u16, page: u16) -> bool
-    ensures { result ≡ (page_of_spec (lows_in wire.now) key == page) }
+pub fn keys_of(wire: &Option<Wire>, page: u16) -> KeyRange
+    ensures { (k : ℕ) → in_range result k ≡ (page_of_spec (lows_in wire.now) k == page) }
 {
     match wire {
-        Some(wire) => wire.lies_on(key, page),
-        None => page == 0,
+        Some(wire) => wire.keys_of(page),
+        None if page == 0 => KeyRange::ALL,
+        None => KeyRange::NONE,
     }
 }
 

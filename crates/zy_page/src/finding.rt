@@ -6,7 +6,7 @@ ghost use Rattle.zy_page.specs.Place.{IsPlace, Finds};
 use zy_isa::row::Row;
 
 /// How many keys are below `key`.
-pub(crate) fn place(rows: &[Row], key: u16) -> usize
+pub fn place(rows: &[Row], key: u16) -> usize
     requires { Rising 0 rows.now }
     ensures { IsPlace key rows.now result }
 {
@@ -14,7 +14,7 @@ pub(crate) fn place(rows: &[Row], key: u16) -> usize
 }
 
 /// The index of the row at `key`, or the one where it would stand.
-pub(crate) fn search(rows: &[Row], key: u16) -> Result<usize, usize>
+pub fn search(rows: &[Row], key: u16) -> Result<usize, usize>
     requires { Rising 0 rows.now }
     ensures { Finds key rows.now result }
 {
@@ -27,7 +27,7 @@ pub(crate) fn search(rows: &[Row], key: u16) -> Result<usize, usize>
 }
 
 /// The value at `key`.
-pub(crate) fn value_at(rows: &[Row], key: u16) -> Option<u32>
+pub fn value_at(rows: &[Row], key: u16) -> Option<u32>
     requires { Rising 0 rows.now }
     ensures { result ≡ get_row rows.now key }
 {

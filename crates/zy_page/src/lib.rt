@@ -1,7 +1,7 @@
 //! Leaf pages, with their rows in them, and lists of rows in key order.
 #![tactic(auto)]
 
-mod finding;
+pub mod finding;
 pub mod page;
 pub mod row_list;
 #[cfg(test)]

@@ -30,6 +30,7 @@ use zy_txns::book::Book;
 use zy_txns::txn::Txn;
 
 /// The lines of a node's run.
+#[inline(always)]
 #[tactic(auto, unfolding(zy_table::specs::Run::run_row, zy_table::specs::Change::txn_at))]
 pub fn run_row(
     scenario: &Scenario,
@@ -58,6 +59,7 @@ pub fn run_row(
 }
 
 /// The lines of one instruction.
+#[inline(always)]
 #[tactic(auto, unfolding(zy_table::specs::Run::instr_row, zy_table::specs::Change::txn_at))]
 fn instr_row(
     scenario: &Scenario,
@@ -103,6 +105,7 @@ fn instr_row(
 }
 
 /// An abort.
+#[inline(never)]
 #[tactic(auto, unfolding(zy_table::specs::Run::abort_row, zy_table::specs::Change::aborted, zy_table::specs::Change::txn_at))]
 pub fn abort_row(me: &mut NodeStore, book: &mut Book, t: u8, why: Why) -> Answer
     requires { t < length book.old.txns }
@@ -136,6 +139,7 @@ fn jump_row(book: &mut Book, t: u8, taken: bool, target: u32) -> Answer
 }
 
 /// `commit`.
+#[inline(never)]
 #[tactic(auto, unfolding(zy_table::specs::Run::commit_row, zy_table::specs::Run::commit_or_gone, zy_table::specs::Change::committed, zy_table::specs::Change::txn_at))]
 fn commit_row(me: &mut NodeStore, book: &mut Book, t: u8) -> Result<Answer, AllocError>
     requires counts { Countable t book.old }
@@ -155,6 +159,7 @@ fn commit_row(me: &mut NodeStore, book: &mut Book, t: u8) -> Result<Answer, Allo
 }
 
 /// A key and its page.
+#[inline(never)]
 #[tactic(auto, unfolding(zy_table::specs::Run::key_row))]
 fn key_row(
     scenario: &Scenario,

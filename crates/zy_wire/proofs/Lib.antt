@@ -3,3 +3,4 @@ pub mod Longer
 pub mod Places
 pub mod Grown
 pub mod Scan
+pub mod RangeLemmas

@@ -28,7 +28,7 @@ in_order es h = λ i j d le lt.
       | inr (inr down) ↦ absurd (omega arith)
     ]
 
-match_at : (lows : List ℕ) (es : List Entry) (j : ℕ) (d : Entry) → Match lows es → j < length es → ((get_or es j d).page < length lows) × (get_or lows (get_or es j d).page 0 ≡ (get_or es j d).low)
+pub match_at : (lows : List ℕ) (es : List Entry) (j : ℕ) (d : Entry) → Match lows es → j < length es → ((get_or es j d).page < length lows) × (get_or lows (get_or es j d).page 0 ≡ (get_or es j d).low)
 match_at lows [] j d h lt = absurd (omega arith)
 match_at lows (e ∷ es) zero d h lt = (h.0, h.1)
 match_at lows (e ∷ es) (suc j) d h lt = match_at lows es j d h.2 (omega arith)
@@ -63,7 +63,7 @@ most lows es k i q d rise at e le =
     ]
 
 -- no two pages have one low key
-apart : (lows : List ℕ) (es : List Entry) (i q : ℕ) (d : Entry) → RiseFrom 0 es → i < length es → EntryOf lows es q → get_or lows q 0 ≡ (get_or es i d).low → q ≡ (get_or es i d).page
+pub apart : (lows : List ℕ) (es : List Entry) (i q : ℕ) (d : Entry) → RiseFrom 0 es → i < length es → EntryOf lows es q → get_or lows q 0 ≡ (get_or es i d).low → q ≡ (get_or es i d).page
 apart lows es i q d rise lt e same =
     let low = e.low d in
     elim (cases_order e.at i) [

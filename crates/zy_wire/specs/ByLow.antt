@@ -1,5 +1,5 @@
 -- The pages in order of low key.
-use Rattle.std.specs.Prelude.{◌≡◌, ◌==◌, ℕ, ◌+◌, ◌<◌, ◌≤◌, true, List, [], ◌∷◌, length, slice_index}
+use Rattle.std.specs.Prelude.{◌≡◌, ◌==◌, ℕ, ◌+◌, ◌<◌, ◌≤◌, true, List, [], ◌∷◌, length, slice_index, slice_index_or, Option, None, Some}
 use Rattle.std.specs.List.{AllWithin, list_any}
 use Rattle.zy_wire.specs.declared.entry.Entry.{Entry}
 
@@ -29,3 +29,8 @@ pub record IsSound (pages : ℕ) (lows : List ℕ) (entries : List Entry) : Type
 -- i low keys are not above k, and the others are
 abbrev pub IsPlace : ℕ → List Entry → ℕ → Type 0
 IsPlace k es i = (i ≤ length es) × AllWithin (λ e. e.low ≤ k) es 0 i × AllWithin (λ e. k < e.low) es i (length es)
+
+-- the low key at place i, none where there are no more
+abbrev pub EndsAt : Option ℕ → List Entry → ℕ → Type 0
+EndsAt None es i = length es ≤ i
+EndsAt (Some end) es i = (i < length es) × ((d : Entry) → (slice_index_or es i d).low ≡ end)

@@ -1,2 +1,3 @@
 pub mod ByLow
 pub mod Wireframe
+pub mod Ranges

@@ -2,6 +2,7 @@
 #![tactic(auto)]
 
 pub mod entry;
+pub mod key_range;
 #[cfg(test)]
 mod tests;
 pub mod wire;

@@ -1,9 +1,11 @@
 //! The wireframe of a node.
-ghost use Rattle.std.specs.Prelude.{true, ◌≡◌, ◌==◌, ◌↔◌, ◌+◌, ◌^◌, ◌<◌, ◌≤◌, ◌++◌, ◌∷◌, [], OnOk, OnErr, IfOk, IsOk, Err, Contains, length, slice_index};
+ghost use Rattle.std.specs.Prelude.{true, ◌≡◌, ◌==◌, ◌↔◌, ◌+◌, ◌^◌, ◌<◌, ◌≤◌, ◌++◌, ◌∷◌, [], OnOk, OnErr, IfOk, IsOk, Err, Contains, ℕ, length, slice_index};
 ghost use Rattle.zy_wire.specs.Wireframe.{page_of as page_of_spec, IsGreatest};
-ghost use Rattle.zy_wire.specs.ByLow.{RiseFrom, IsPlace};
+ghost use Rattle.zy_wire.specs.ByLow.{RiseFrom, IsPlace, EndsAt};
+ghost use Rattle.zy_wire.specs.Ranges.{in_range};
 
 use crate::entry::Entry;
+use crate::key_range::KeyRange;
 use std::alloc::{AllocError, Global};
 use std::marker::Model;
 use thiserror::Error;
@@ -115,21 +117,25 @@ impl Wire {
         self.by_low[place(&self.by_low, key) - 1].page
     }
 
-    /// Whether a key lies on a page. Of a key below the page's low key it is told without a search.
-    pub fn lies_on(&self, key: u16, page: u16) -> bool
-        ensures { result ≡ (page_of_spec self.now.lows key == page) }
+    /// The keys that lie on a page; none where there is no such page.
+    pub fn keys_of(&self, page: u16) -> KeyRange
+        ensures { (k : ℕ) → in_range result k ≡ (page_of_spec self.now.lows k == page) }
     {
-        !self.is_below(key, page) && self.page_of(key) == page
+        if usize::from(page) < self.len() {
+            self.range_of(page)
+        } else {
+            KeyRange::NONE
+        }
     }
 
-    /// Whether a key is below the low key of a page.
-    fn is_below(&self, key: u16, page: u16) -> bool
-        ensures { result ≡ true → page_of_spec self.now.lows key ≡ page → ⊥ }
+    /// From the low key of a page on, and below the next one.
+    fn range_of(&self, page: u16) -> KeyRange
+        requires { page < length self.now.lows }
+        ensures { (k : ℕ) → in_range result k ≡ (page_of_spec self.now.lows k == page) }
     {
-        match self.lows.get(usize::from(page)) {
-            Some(low) => key < *low,
-            None => false,
-        }
+        let low = self.low_of(page);
+        let end = low_at(&self.by_low, place(&self.by_low, low));
+        KeyRange { low, end }
     }
 
     /// One page more, with the next number and this low key, which no page has yet.
@@ -190,4 +196,14 @@ fn place(entries: &[Entry], key: u16) -> usize
     ensures { IsPlace key entries.now result }
 {
     entries.partition_point(|entry| entry.low <= key)
+}
+
+/// The low key at a place, if there is one.
+fn low_at(entries: &[Entry], i: usize) -> Option<u16>
+    ensures { EndsAt result entries.now i }
+{
+    match entries.get(i) {
+        Some(entry) => Some(entry.low),
+        None => None,
+    }
 }
