@@ -41,14 +41,7 @@ pub fn assemble(alloc: Global, text: &str) -> Result<Scenario, Refusal>
                 instrs: _,
                 choices,
             } = reader;
-            match Scenario::new(version, cap, pages, rule, rows, programs, choices) {
-                Ok(scenario) => {
-                    // A scenario that tells its version is tested.
-                    let _version = scenario.version();
-                    Ok(scenario)
-                }
-                Err(_) => unreachable!(),
-            }
+            Ok(Scenario::of_parts(version, cap, pages, rule, rows, programs, choices))
         }
     }
 }

@@ -63,14 +63,7 @@ pub fn load(alloc: Global, bytes: &[u8]) -> Result<Scenario, LoadFault>
         choices,
     } = read(alloc, bytes)?;
     let Head { cap, pages, rule } = head;
-    match Scenario::new(1, cap, pages, rule, rows, programs, choices) {
-        Ok(scenario) => {
-            // A scenario that tells its version is tested.
-            let _version = scenario.version();
-            Ok(scenario)
-        }
-        Err(_) => unreachable!(),
-    }
+    Ok(Scenario::of_parts(1, cap, pages, rule, rows, programs, choices))
 }
 
 /// The image of a scenario is read as it: no two scenarios have the same image. It does nothing when called.

@@ -1,15 +1,16 @@
 -- What the tests of a scenario show.
 use Rattle.std.proofs.Common.{◌≡◌, ◌+◌, ◌≤◌, ℕ, List, [], ◌∷◌, ◌++◌, Bool, true, false, cond, Option, None, Some, nat_lt, if◌then◌else◌, refl, arith, length, inl, inr}
-use Rattle.std.specs.Prelude.{not, position, option_map}
+use Rattle.std.specs.Prelude.{◌==◌, not, position, option_map}
 use Rattle.std.specs.List.{position_or_len}
-use Rattle.std.proofs.lemmas.Bool.{cases_lt, lt-ltb, le-ltb}
+use Rattle.std.specs.Option.{option_or}
+use Rattle.std.proofs.lemmas.Bool.{cases_lt, eqb-true, lt-ltb, le-ltb}
 use Rattle.zy_isa.specs.declared.row.Row.{Row}
 use Rattle.zy_isa.specs.declared.choice.Choice.{Choice}
 use Rattle.zy_isa.specs.declared.scenario.ScenarioFault.TheVariants as fault
-use Rattle.zy_isa.specs.Rows.{Rising, misplaced_row, misplaced_after}
+use Rattle.zy_isa.specs.Rows.{Rising, RowsFit, misplaced_row, misplaced_after}
 use Rattle.zy_isa.specs.Choices.{names_below}
-use Rattle.zy_isa.specs.Scenario.{Scenario, misnamed_choice, choices_fault, AreNamed, opening_pages_for, scenario_fault}
-use Rattle.zy_isa.proofs.ResultLemmas.{not_over, out_of_neither, over_not}
+use Rattle.zy_isa.specs.Scenario.{Scenario, misnamed_choice, choices_fault, is_outside, has_many_rows, AreNamed, ArePrograms, IsScenario, opening_pages_for, scenario_fault}
+use Rattle.zy_isa.proofs.ResultLemmas.{in_range, neither, not_over, out_of_neither, over_not}
 
 rising_after : (last i : ℕ) (rows : List Row) → misplaced_after last i rows ≡ None → Rising (last + 1) rows
 rising_after last i [] e = tt
@@ -86,3 +87,45 @@ no_fault s v c2 c16 p1 p512 rows pages order programs choices named =
       over_not (length s.choices) 4096 choices,
       none_misnamed (length s.programs) s.choices named,
     ) refl
+
+-- a test that found nothing, and those behind it
+past : {F : Type 0} (b : Bool) (f : F) (rest : Option F) → (if b then Some f else rest) ≡ None → (b ≡ false) × (rest ≡ None)
+past true f rest h = cc
+past false f rest h = (refl, h)
+
+past_first : {F : Type 0} (first rest : Option F) → option_or first rest ≡ None → (first ≡ None) × (rest ≡ None)
+past_first None rest h = (refl, h)
+past_first (Some f) rest h = cc
+
+not_not : (b : Bool) → not b ≡ false → b ≡ true
+not_not true h = refl
+not_not false h = cc
+
+-- parts without a fault make a scenario within the limits
+pub scenario_of : (s : Scenario) → scenario_fault s ≡ None → RowsFit s.rows → ArePrograms s.programs → IsScenario s
+scenario_of s e fit programs =
+    let version = past (not (s.version == 1)) fault.Version _ e in
+    let cap = past (is_outside 2 16 s.cap) fault.Cap _ version.1 in
+    let pages = past (is_outside 1 512 s.pages) fault.Pages _ cap.1 in
+    let rows = past (has_many_rows s) fault.RowCount _ pages.1 in
+    let order = past_first (option_map fault.RowOrder (misplaced_row s.rows)) _ rows.1 in
+    let few = past (nat_lt 64 (length s.programs)) fault.TxnCount _ order.1 in
+    let named = fit_choices (length s.programs) s.choices few.1 in
+    let cap_within = in_range s.cap 2 16 cap.0 in
+    let pages_within = in_range s.pages 1 512 pages.0 in
+    let many = neither (nat_lt 256 (length s.rows)) (nat_lt s.pages (opening_pages_for s.cap (length s.rows))) rows.0 in
+    record {
+      version = eqb-true s.version 1 (not_not (s.version == 1) version.0);
+      cap_least = cap_within.0;
+      cap_most = cap_within.1;
+      pages_least = pages_within.0;
+      pages_most = pages_within.1;
+      few_rows = not_over (length s.rows) 256 many.0;
+      few_opening_pages = not_over _ s.pages many.1;
+      rows_rise = rising s.rows (no_option fault.RowOrder (misplaced_row s.rows) order.0);
+      rows_fit = fit;
+      few_programs = not_over (length s.programs) 64 few.0;
+      programs = programs;
+      few_choices = named.0;
+      choices_named = named.1;
+    }

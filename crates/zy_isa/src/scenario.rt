@@ -1,7 +1,7 @@
 //! Scenarios that are within the limits.
-ghost use Rattle.std.specs.Prelude.{◌≡◌, ◌<◌, ◌≤◌, IfOk, IfSome, length};
+ghost use Rattle.std.specs.Prelude.{◌≡◌, ◌<◌, ◌≤◌, IfOk, IfSome, None, length};
 ghost use Rattle.zy_isa.specs.Rows.{RowsFit, misplaced_row as misplaced_row_spec};
-ghost use Rattle.zy_isa.specs.Scenario.{IsScenario, IsTested, ArePrograms, HasChoices, choices_fault as choices_fault_spec, misnamed_choice as misnamed_choice_spec, opening_rows as opening_rows_spec, opening_pages_for as opening_pages_for_spec};
+ghost use Rattle.zy_isa.specs.Scenario.{IsScenario, IsTested, ArePrograms, HasChoices, choices_fault as choices_fault_spec, scenario_fault, misnamed_choice as misnamed_choice_spec, opening_rows as opening_rows_spec, opening_pages_for as opening_pages_for_spec};
 
 use crate::choice::Choice;
 use crate::program::Program;
@@ -193,9 +193,26 @@ impl Scenario {
         if let Some(fault) = choices_fault(programs.len(), choices.as_slice()) {
             return Err(fault);
         }
+        Ok(Scenario::of_parts(version, cap, pages, rule, rows, programs, choices))
+    }
+
+    /// The scenario of parts that were tested where they were read: nothing is tested once more. It takes no memory.
+    pub fn of_parts(
+        version: u8,
+        cap: u8,
+        pages: u16,
+        rule: Rule,
+        rows: Vec<Row>,
+        programs: Vec<Program>,
+        choices: Vec<Choice>,
+    ) -> Scenario
+        requires { scenario_fault (record { version = version; cap = cap; pages = pages; rule = rule; rows = rows.items; programs = programs.items; choices = choices.items }) ≡ None }
+        ensures value { result ≡ record { version = version; cap = cap; pages = pages; rule = rule; rows = rows.items; programs = programs.items; choices = choices.items } }
+        ensures tested { IsScenario result }
+    {
         have_rows(rows.as_slice());
         are_programs(programs.as_slice());
-        Ok(Scenario {
+        Scenario {
             version,
             cap,
             pages,
@@ -203,7 +220,7 @@ impl Scenario {
             rows,
             programs,
             choices,
-        })
+        }
     }
 
     /// The same scenario with these choices in place of its own. Both are dropped where they are refused. It takes no memory.

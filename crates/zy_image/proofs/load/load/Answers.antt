@@ -15,26 +15,21 @@ returns-in_err-head-clause-only c s image =
       | inr e ↦ let clash = sym e ∙ only_image c.args.bytes.now s image in cc
     ])
 
-pub unreachable-requires : goal.unreachable-requires
-unreachable-requires c =
+pub of_parts-requires : goal.of_parts-requires
+of_parts-requires c =
     let p = c.in_ok-head.field-0 in
     let s = of_parts p.head p.rows.items p.programs.items p.choices.items in
-    let f = image_found c.args.bytes.now s (are_bytes c.args.bytes.now (search rules)) c.in_ok-head.ensures in
-    let tested = rw c.in-Err.is at c.new.ensures in
-    let clash = sym f.no_fault ∙ tested in
-    cc
+    (image_found c.args.bytes.now s (are_bytes c.args.bytes.now (search rules)) c.in_ok-head.ensures).no_fault
 
 pub returns-clause-found : goal.returns-clause-found
 returns-clause-found c =
     let p = c.in_ok-head.field-0 in
     let s = of_parts p.head p.rows.items p.programs.items p.choices.items in
     let f = image_found c.args.bytes.now s (are_bytes c.args.bytes.now (search rules)) c.in_ok-head.ensures in
-    let tested = rw c.in-Ok.is at c.new.ensures in
-    rw tested.1 ((rw (← tested.1) c.version-version.ensures.tested, f.same_bytes), ap result_err c.in_ok-head.ensures)
+    rw c.of_parts.ensures.value ((rw (← c.of_parts.ensures.value) c.of_parts.ensures.tested, f.same_bytes), ap result_err c.in_ok-head.ensures)
 
 pub returns-clause-only : goal.returns-clause-only
 returns-clause-only c s image =
     let p = c.in_ok-head.field-0 in
     let t = of_parts p.head p.rows.items p.programs.items p.choices.items in
-    let tested = rw c.in-Ok.is at c.new.ensures in
-    tested.1 ∙ same_value (reading c.args.bytes.now) t s c.in_ok-head.ensures (only_image c.args.bytes.now s image)
+    c.of_parts.ensures.value ∙ same_value (reading c.args.bytes.now) t s c.in_ok-head.ensures (only_image c.args.bytes.now s image)
