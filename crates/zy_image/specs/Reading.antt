@@ -143,6 +143,10 @@ node_choice count n action t =
     if action == 6 then plain t (Push n) else
     None
 
+-- the node of an actor's number
+abbrev pub node_of : ℕ → Option Node
+node_of actor = if actor == 1 then Some node.A else if actor == 2 then Some node.B else None
+
 abbrev pub choice_at : ℕ → ℕ → ℕ → ℕ → Option Choice
 choice_at count actor action t =
     if actor == 0 then client_choice count action t else

@@ -1,7 +1,7 @@
 //! The choices of an image.
-ghost use Rattle.std.specs.Prelude.{◌≡◌, ◌⊎◌, Ok, Err, MatchResult};
+ghost use Rattle.std.specs.Prelude.{◌≡◌, ◌⊎◌, ℕ, Ok, Err, MatchResult};
 ghost use Rattle.zy_image.specs.declared.faults.LoadFault.TheVariants.{Memory};
-ghost use Rattle.zy_image.specs.Reading.{Gives, HasChoices, choice_at as choice_at_spec, choice_count as choice_count_spec, choices as choices_spec, client_choice as client_choice_spec, named as named_spec, next_choice, node_choice as node_choice_spec, plain as plain_spec};
+ghost use Rattle.zy_image.specs.Reading.{Gives, HasChoices, choice_at as choice_at_spec, choice_count as choice_count_spec, choices as choices_spec, client_choice as client_choice_spec, named as named_spec, next_choice, node_of as node_of_spec, node_choice as node_choice_spec, plain as plain_spec};
 
 use crate::faults::LoadFault;
 use crate::fields::{field, half};
@@ -41,15 +41,38 @@ fn client_choice(count: usize, action: u8, txn: u8) -> Option<Choice>
     }
 }
 
-/// The choice of a node with this action.
+/// The choice of a node with this action, which names no transaction.
+fn plain_choice(node: Node, action: u8, txn: u8) -> Option<Choice>
+    requires { (action ≡ 3) → ⊥ }
+    ensures { (count : ℕ) → result ≡ node_choice_spec count node action txn }
+{
+    let choice = match action {
+        4 => Choice::Take(node),
+        5 => Choice::Finish(node),
+        6 => Choice::Push(node),
+        _ => return None,
+    };
+    plain(txn, choice)
+}
+
+/// The choice of a node with this action. Most are those that a transaction runs.
 fn node_choice(count: usize, node: Node, action: u8, txn: u8) -> Option<Choice>
     ensures { result ≡ node_choice_spec count node action txn }
 {
-    match action {
-        3 => named(count, txn, Choice::Run(node, txn)),
-        4 => plain(txn, Choice::Take(node)),
-        5 => plain(txn, Choice::Finish(node)),
-        6 => plain(txn, Choice::Push(node)),
+    if action == 3 {
+        named(count, txn, Choice::Run(node, txn))
+    } else {
+        plain_choice(node, action, txn)
+    }
+}
+
+/// The node of an actor's number; none where it is not a node's.
+fn node_of(actor: u8) -> Option<Node>
+    ensures { result ≡ node_of_spec actor }
+{
+    match actor {
+        1 => Some(Node::A),
+        2 => Some(Node::B),
         _ => None,
     }
 }
@@ -58,11 +81,10 @@ fn node_choice(count: usize, node: Node, action: u8, txn: u8) -> Option<Choice>
 fn choice_at(count: usize, actor: u8, action: u8, txn: u8) -> Option<Choice>
     ensures { result ≡ choice_at_spec count actor action txn }
 {
-    match actor {
-        0 => client_choice(count, action, txn),
-        1 => node_choice(count, Node::A, action, txn),
-        2 => node_choice(count, Node::B, action, txn),
-        _ => None,
+    match node_of(actor) {
+        Some(node) => node_choice(count, node, action, txn),
+        None if actor == 0 => client_choice(count, action, txn),
+        None => None,
     }
 }
 

@@ -37,9 +37,7 @@ pub fn read_items<'a, I: Items>(
     let mut left = bytes;
     for _ in 0..count {
         let (item, rest) = kind.next(items.as_slice(), left)?;
-        if items.push(item).is_err() {
-            return Err(LoadFault::Memory);
-        }
+        items.push_reserved(item);
         left = rest;
     }
     Ok((items, left))
