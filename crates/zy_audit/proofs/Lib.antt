@@ -8,3 +8,4 @@ mod Entries
 mod Commits
 mod LinkLemmas
 mod RunLemmas
+mod Laying

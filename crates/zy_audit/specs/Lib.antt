@@ -4,3 +4,4 @@ pub mod Lone
 pub mod SameMaps
 pub mod Covering
 pub mod Run
+pub mod Laying
