@@ -1,4 +1,4 @@
-use Rattle.std.proofs.Common.{length, subst}
+use Rattle.std.proofs.Common.{subst}
 use Rattle.std.proofs.lemmas.Bool.{eqb-true}
 use Rattle.zy_page.specs.Place.{IsPlace}
 use Rattle.zy_audit.proofs.Laying.{put_rows_append}

@@ -1,4 +1,4 @@
-use Rattle.std.proofs.Common.{◌≡◌, ◌∷◌, List, add-one, ap, arith, drop, drop-cons, get_or, length, subst, suc, take}
+use Rattle.std.proofs.Common.{◌≡◌, ◌∷◌, add-one, ap, arith, drop, drop-cons, get_or, length, subst, suc, take}
 use Rattle.zy_isa.specs.Rows.{Rising}
 use Rattle.zy_isa.specs.declared.row.Row.{Row}
 use Rattle.zy_table.proofs.RisingRows.{rises_drop}

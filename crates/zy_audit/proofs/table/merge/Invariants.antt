@@ -9,5 +9,5 @@ invariant-loop-row l = record {
   laid : l.list.items ++ put_rows (drop l.row-index l.rows) l.left ≡ l.initial.list.items ++ put_rows l.rows l.others;
   rise : Rising 0 l.left;
   room : vec_len l.list + length l.left + length (drop l.row-index l.rows) ≤ vec_capacity l.list;
-  fit : RowsFit (drop l.row-index l.rows) → RowsFit l.rows
+  fit : RowsFit (drop l.row-index l.rows) → RowsFit l.rows;
 }
