@@ -91,6 +91,11 @@ impl Checkpoints {
         Ok(())
     }
 
+    /// Whether a machine close to where a replay ended stands at a position.
+    pub fn has_close(&self, target: usize) -> bool {
+        self.close.is_kept(target)
+    }
+
     /// Takes out the kept machine that stands at a position, if there is one among those close to where a replay ended. Those above go.
     pub fn take(&mut self, target: usize) -> Option<Machine>
         ensures position { IfSome result (λ h. length h.entries ≡ target) }
@@ -137,7 +142,7 @@ impl Checkpoints {
         Ok(())
     }
 
-    /// Makes a machine's choices up to a position, and keeps the copies that are due on the way.
+    /// Makes a machine's choices up to a position, and keeps the copies that are due on the way. Those close to its end that stand above it go.
     pub fn replay_to(
         &mut self,
         alloc: Global,
@@ -150,6 +155,7 @@ impl Checkpoints {
         ensures position { OnOk result (length machine.new.entries ≡ target) }
         ensures kept { HoldReplaysOf machine.old.scenario self.new }
     {
+        self.close.drop_above(target);
         let is_short = self.copies.is_short(machine.len(), target);
         self.pass(alloc, machine, target)?;
         if is_short {

@@ -76,12 +76,12 @@ impl Copies {
         position.saturating_sub(self.every)
     }
 
-    /// The position halfway to another, where the way is longer than a sixteenth of `every`.
+    /// The position halfway to another, where the way is longer than a thirty-second of `every`.
     pub fn halfway(&self, position: usize, target: usize) -> Option<usize>
         ensures { IfSome result (λ due. (position < due) × (due ≤ target)) }
     {
         let left = target.saturating_sub(position);
-        if left > self.every / 16 + 1 {
+        if left > self.every / 32 + 1 {
             Some(position + left / 2)
         } else {
             None

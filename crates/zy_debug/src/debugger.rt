@@ -1,5 +1,5 @@
 //! The debugger: a position and sixteen stops.
-ghost use Rattle.std.specs.Prelude.{◌≡◌, ◌≤◌, ◌<◌, ◌==◌, ◌&&◌, ◌-◌, not, IfOk, IfSome, OnOk, OnErr, length, replicate, None, nat_le, nat_lt, slice_get, option_copied};
+ghost use Rattle.std.specs.Prelude.{◌≡◌, true, false, ◌≤◌, ◌<◌, ◌==◌, ◌&&◌, ◌-◌, not, IfOk, IfSome, OnOk, OnErr, length, replicate, None, nat_le, nat_lt, slice_get, option_copied};
 ghost use Rattle.zy_scan.specs.declared.stop.Stop.TheVariants as stop;
 ghost use Rattle.zy_scan.specs.Scans.{Conts, RConts, LastIn};
 ghost use Rattle.zy_scan.specs.Slots.{free_slot, with_stop, without_stop, is_set};
@@ -210,50 +210,47 @@ impl Debugger {
         }
     }
 
-    /// Goes to a position.
+    /// Goes to a position: takes the kept machine that stands there, or replays. A machine is large, and so it is moved straight to its place.
     fn go(&mut self, target: usize) -> Result<(), AllocError>
         requires { target ≤ length self.old.scenario.choices }
         ensures ok { OnOk result (self.new ≡ goes self.old target) }
         ensures err { OnErr result (self.new ≡ self.old) }
     {
-        let machine = self.reach(target)?;
-        self.machine = machine;
-        Ok(())
+        if self.checkpoints.has_close(target) && self.take_kept(target) {
+            return Ok(());
+        }
+        self.replay(target)
     }
 
-    /// A machine at a position, and with it the copies that are due on the way.
-    fn reach(&mut self, target: usize) -> Result<Machine, AllocError>
-        requires { target ≤ length self.old.scenario.choices }
-        ensures replay { IfOk result (IsReplayOf self.old.scenario) }
-        ensures position { IfOk result (λ m. length m.entries ≡ target) }
-        ensures kept { self.new ≡ self.old }
+    /// Takes the kept machine that stands at a position for that of the session, if there is one among those close to where a replay ended.
+    fn take_kept(&mut self, target: usize) -> bool
+        ensures taken { result ≡ true → self.new ≡ goes self.old target }
+        ensures kept { result ≡ false → self.new ≡ self.old }
     {
-        match self.take_kept(target) {
-            Some(machine) => Ok(machine),
-            None => self.replay(target),
+        match self.checkpoints.take(target) {
+            Some(machine) => {
+                self.machine = machine;
+                true
+            }
+            None => false,
         }
     }
 
-    /// The kept machine that stands at a position, if there is one among those close to where a replay ended.
-    fn take_kept(&mut self, target: usize) -> Option<Machine>
-        ensures replay { IfSome result (IsReplayOf self.old.scenario) }
-        ensures position { IfSome result (λ m. length m.entries ≡ target) }
-        ensures kept { self.new ≡ self.old }
-    {
-        self.checkpoints.take(target)
-    }
-
-    /// A machine that makes the choices up to a position from the nearest one below or at it.
-    fn replay(&mut self, target: usize) -> Result<Machine, AllocError>
+    /// Makes the choices up to a position from the nearest one below or at it, and keeps the copies that are due on the way.
+    fn replay(&mut self, target: usize) -> Result<(), AllocError>
         requires { target ≤ length self.old.scenario.choices }
-        ensures replay { IfOk result (IsReplayOf self.old.scenario) }
-        ensures position { IfOk result (λ m. length m.entries ≡ target) }
-        ensures kept { self.new ≡ self.old }
+        ensures ok { OnOk result (self.new ≡ goes self.old target) }
+        ensures err { OnErr result (self.new ≡ self.old) }
     {
-        let mut machine = self.nearest(target)?;
-        self.checkpoints
-            .replay_to(self.alloc, &mut machine, target)?;
-        Ok(machine)
+        match self.nearest(target) {
+            Ok(mut machine) => {
+                self.checkpoints
+                    .replay_to(self.alloc, &mut machine, target)?;
+                self.machine = machine;
+                Ok(())
+            }
+            Err(wanted) => Err(wanted),
+        }
     }
 
     /// A machine at the position that is nearest below or at another: that of the session, a kept one, or the start.

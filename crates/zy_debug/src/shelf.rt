@@ -34,7 +34,7 @@ impl Shelf {
     }
 
     /// Whether a machine at this position is kept.
-    fn is_kept(&self, position: usize) -> bool
+    pub fn is_kept(&self, position: usize) -> bool
         ensures { result ≡ is_kept self.now position }
     {
         self.ring.iter().any(|kept| kept.len() == position)
