@@ -32,12 +32,12 @@ fn stride(choices: usize, every: usize, spread: usize) -> usize {
 }
 
 impl Copies {
-    /// Of all copies one half is spread, at most three are close, and the others are the last ones passed.
+    /// Of all copies a quarter, at most four, are close; of the others one half is spread, and the rest are the last ones passed.
     pub fn new(choices: usize, every: usize, ring: usize) -> Copies
         ensures { result.spread + result.passed + result.close ≡ ring }
     {
-        let spread = ring / 2;
-        let close = (ring / 3).min(3);
+        let close = (ring / 4).min(4);
+        let spread = (ring - close) / 2;
         Copies {
             every,
             stride: stride(choices, every, spread),
@@ -76,12 +76,12 @@ impl Copies {
         position.saturating_sub(self.every)
     }
 
-    /// The position halfway to another, where the way is longer than a thirty-second of `every`.
+    /// The position halfway to another, where the way is longer than a sixty-fourth of `every`.
     pub fn halfway(&self, position: usize, target: usize) -> Option<usize>
         ensures { IfSome result (λ due. (position < due) × (due ≤ target)) }
     {
         let left = target.saturating_sub(position);
-        if left > self.every / 32 + 1 {
+        if left > 1 && left > self.every / 64 {
             Some(position + left / 2)
         } else {
             None

@@ -47,6 +47,7 @@ impl Store {
     }
 
     /// The lines of a node's run.
+    #[inline(always)]
     fn run_row(&mut self, scenario: &Scenario, n: Node, t: u8) -> Result<Answer, AllocError>
         requires { IsReady scenario.now n t self.old }
         ensures line { Makes n self.old self.new result (run_row_spec scenario.now n t (facing n (shown self.old))) }
