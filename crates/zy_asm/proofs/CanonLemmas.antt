@@ -14,19 +14,24 @@ use Rattle.zy_isa.specs.declared.row.Row.{Row}
 use Rattle.zy_isa.specs.declared.instr.Reg.{Reg}
 use Rattle.zy_isa.specs.declared.instr.Reg.TheVariants.{R0, R1, R2, R3, R4, R5, R6, R7}
 use Rattle.zy_isa.specs.declared.instr.Instr.{Instr}
-use Rattle.zy_isa.specs.declared.instr.Instr.TheVariants.{Set, Read, Write, Insert, Add, Beq, Commit, Abort}
+use Rattle.zy_isa.specs.declared.operation.Operation.{Operation}
+use Rattle.zy_isa.specs.declared.operation.Operation.TheVariants as op
+use Rattle.zy_isa.specs.declared.operation.Parts.{Parts}
+use Rattle.zy_isa.specs.declared.operation.Parts.TheVariants.{Number, Pair, Jump, Lone}
 use Rattle.zy_isa.specs.declared.choice.Choice.{Choice}
 use Rattle.zy_isa.specs.declared.choice.Choice.TheVariants.{Start, Begin, Kill, Run, Take, Finish, Push}
 use Rattle.zy_isa.specs.Words.{is_space, is_word, without_comment, lines_of, has_words, lines_with_words, number_of, digits_after, spaced}
-use Rattle.zy_isa.specs.Canon.{node_text, rule_text, reg_text, instr_words, choice_words, row_words, program_words, canon_words, canon}
+use Rattle.zy_isa.specs.Operations.{mnemonic, parts_of}
+use Rattle.zy_isa.specs.Canon.{node_text, rule_text, reg_text, parts_words, instr_words, choice_words, row_words, program_words, canon_words, canon}
 use Rattle.zy_io.specs.Writing.{line_of}
 use Rattle.zy_isa.specs.Rows.{RowsFit}
-use Rattle.zy_isa.specs.Programs.{HasValue, Values}
+use Rattle.zy_isa.specs.Programs.{PartsFit, HasValue, Values}
 use Rattle.zy_isa.specs.Choices.{names_below}
 use Rattle.zy_isa.specs.Scenario.{Scenario, IsScenario, ArePrograms, AreNamed}
 use Rattle.zy_isa.specs.Text as m
 use Rattle.zy_isa.specs.Names.{Mark, AreNew}
-use Rattle.zy_isa.specs.Text.{Code, Written, Times, Draft, Statement, Spells, SpellsInstr, SpellsChoice, SpellEach, instrs_of, labels_of, names_of, Headed, Labelled, IsDraftOf, program_statements, repeated, statements, Means}
+use Rattle.zy_isa.specs.Text.{Code, Written, Times, Draft, Statement, Spells, SpellsParts, SpellsInstr, SpellsChoice, SpellEach, instrs_of, labels_of, names_of, Headed, Labelled, IsDraftOf, program_statements, repeated, statements, Means}
+use Rattle.zy_isa.proofs.OperationLemmas.{each}
 use Rattle.zy_isa.proofs.ResultLemmas.{both}
 use Rattle.zy_words.proofs.FeedLemmas.{one_plus}
 use Rattle.zy_asm.proofs.SpellLemmas.{no_name}
@@ -169,15 +174,14 @@ spell_rows : (rows : List Row) → RowsFit rows → SpellEach (map m.row rows) (
 spell_rows [] h = tt
 spell_rows (r ∷ rows) h = ((decimal r.key, decimal r.value, refl, number_of-decimal r.key (omega (arith, h.0)), number_of-decimal r.value h.1), spell_rows rows h.2)
 
+spell_parts : (labels : List Mark) (p : Parts) → PartsFit p → SpellsParts labels p (parts_words p)
+spell_parts labels (Number o a n) h = (decimal n, refl, number_of-decimal n h)
+spell_parts labels (Pair o a b) h = refl
+spell_parts labels (Jump o a b n) h = (64 ∷ decimal n, refl, inl (decimal n, refl, number_of-decimal n h))
+spell_parts labels (Lone o) h = refl
+
 spell_instr : (labels : List Mark) (i : Instr) → HasValue i → SpellsInstr labels i (instr_words i)
-spell_instr labels (Set a n) h = (decimal n, refl, number_of-decimal n h)
-spell_instr labels (Read a b) h = refl
-spell_instr labels (Write a b) h = refl
-spell_instr labels (Insert a b) h = refl
-spell_instr labels (Add a b) h = refl
-spell_instr labels (Beq a b n) h = (64 ∷ decimal n, refl, inl (decimal n, refl, number_of-decimal n h))
-spell_instr labels Commit h = refl
-spell_instr labels Abort h = refl
+spell_instr labels i h = spell_parts labels (parts_of i) h
 
 -- ---- the draft of the canonical text: numbers for names, and no labels
 
@@ -284,18 +288,23 @@ number_last w v n few h g i j = let p = number_clean n few in rw (h, g, i, j, p.
 target_clean : (n : ℕ) → n < 2 ^ 32 → (is_word (64 ∷ decimal n) ≡ true) × (is_clean (64 ∷ decimal n) ≡ true)
 target_clean n h = (some_length (64 ∷ decimal n) (omega arith), (number_clean n h).1)
 
-beq_clean : (a b : Reg) (v : List ℕ) → is_word v ≡ true → is_clean v ≡ true → are_clean (codes "beq" ∷ reg_text a ∷ reg_text b ∷ v ∷ []) ≡ true
-beq_clean a b v h g = rw ((reg_clean a).0, (reg_clean a).1, (reg_clean b).0, (reg_clean b).1, h, g) refl
+operation_clean : (o : Operation) → (is_word (mnemonic o) ≡ true) × (is_clean (mnemonic o) ≡ true)
+operation_clean o = both (is_word (mnemonic o)) (is_clean (mnemonic o)) (each (λ x. is_word (mnemonic x) && is_clean (mnemonic x)) refl o)
+
+target_last : (w v : List ℕ) (a b : Reg) → is_word w ≡ true → is_clean w ≡ true → is_word v ≡ true → is_clean v ≡ true → are_clean (w ∷ reg_text a ∷ reg_text b ∷ v ∷ []) ≡ true
+target_last w v a b h g i j = rw (h, g, (reg_clean a).0, (reg_clean a).1, (reg_clean b).0, (reg_clean b).1, i, j) refl
+
+parts_clean : (p : Parts) → PartsFit p → (are_clean (parts_words p) ≡ true) × (has_words (parts_words p) ≡ true)
+parts_clean (Number o a n) h = let w = operation_clean (op.Number o) in (number_last (mnemonic (op.Number o)) (reg_text a) n h w.0 w.1 (reg_clean a).0 (reg_clean a).1, refl)
+parts_clean (Pair o a b) h = let w = operation_clean (op.Pair o) in (pair_clean (mnemonic (op.Pair o)) a b w.0 w.1, refl)
+parts_clean (Jump o a b n) h =
+    let w = operation_clean (op.Jump o) in
+    let t = target_clean n h in
+    (target_last (mnemonic (op.Jump o)) (64 ∷ decimal n) a b w.0 w.1 t.0 t.1, refl)
+parts_clean (Lone o) h = let w = operation_clean (op.Lone o) in (rw (w.0, w.1) refl, refl)
 
 clean_instr : (i : Instr) → HasValue i → (are_clean (instr_words i) ≡ true) × (has_words (instr_words i) ≡ true)
-clean_instr (Set a n) h = (number_last (codes "set") (reg_text a) n h refl refl (reg_clean a).0 (reg_clean a).1, refl)
-clean_instr (Read a b) h = (pair_clean (codes "read") a b refl refl, refl)
-clean_instr (Write a b) h = (pair_clean (codes "write") a b refl refl, refl)
-clean_instr (Insert a b) h = (pair_clean (codes "insert") a b refl refl, refl)
-clean_instr (Add a b) h = (pair_clean (codes "add") a b refl refl, refl)
-clean_instr (Beq a b n) h = let t = target_clean n h in (beq_clean a b (64 ∷ decimal n) t.0 t.1, refl)
-clean_instr Commit h = (refl, refl)
-clean_instr Abort h = (refl, refl)
+clean_instr i h = parts_clean (parts_of i) h
 
 clean_instrs : (is : List Instr) → Values is → AreClean (map instr_words is)
 clean_instrs [] h = tt

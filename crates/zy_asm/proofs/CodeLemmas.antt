@@ -8,7 +8,8 @@ use Rattle.zy_asm.specs.Reading.{Seen, line_step, read_lines, ended, own_number}
 use Rattle.zy_asm.specs.declared.faults.AsmFault.{AsmFault}
 use Rattle.zy_asm.specs.declared.faults.AsmKind.{AsmKind}
 use Rattle.zy_asm.specs.declared.faults.AsmKind.TheVariants as kinds
-use Rattle.zy_asm.specs.Instructions.{beq_of}
+use Rattle.zy_isa.specs.declared.operation.JumpOperation.{JumpOperation}
+use Rattle.zy_asm.specs.Instructions.{with_target}
 
 pub empty_lines : (xs : List ℕ) → (length xs == 0) ≡ true → lines_of xs ≡ []
 empty_lines [] h = refl
@@ -33,16 +34,16 @@ fault_end s n ls k r h e f = sym h ∙ ap (read_lines s n) e ∙ rw f refl
 pub own_gives : (count : ℕ) (w : List ℕ) → number_of w ≡ Some count → own_number count w ≡ Ok count
 own_gives count w e = rw (e, eq-eqb count count refl) refl
 
--- `beq` has three words behind it
-pub beq_few : (ws : List (Bor (List ℕ))) → length ws < 3 → beq_of (texts ws) ≡ Err kinds.Word
-beq_few [] h = refl
-beq_few (a ∷ []) h = refl
-beq_few (a ∷ b ∷ []) h = refl
-beq_few (a ∷ b ∷ t ∷ ws) h = absurd (omega arith)
+-- an operation with a target has three words behind it
+pub target_few : (o : JumpOperation) (ws : List (Bor (List ℕ))) → length ws < 3 → with_target o (texts ws) ≡ Err kinds.Word
+target_few o [] h = refl
+target_few o (a ∷ []) h = refl
+target_few o (a ∷ b ∷ []) h = refl
+target_few o (a ∷ b ∷ t ∷ ws) h = absurd (omega arith)
 
-pub beq_many : (ws : List (Bor (List ℕ))) → 3 < length ws → beq_of (texts ws) ≡ Err kinds.Word
-beq_many [] h = absurd (omega arith)
-beq_many (a ∷ []) h = absurd (omega arith)
-beq_many (a ∷ b ∷ []) h = absurd (omega arith)
-beq_many (a ∷ b ∷ t ∷ []) h = absurd (omega arith)
-beq_many (a ∷ b ∷ t ∷ u ∷ us) h = refl
+pub target_many : (o : JumpOperation) (ws : List (Bor (List ℕ))) → 3 < length ws → with_target o (texts ws) ≡ Err kinds.Word
+target_many o [] h = absurd (omega arith)
+target_many o (a ∷ []) h = absurd (omega arith)
+target_many o (a ∷ b ∷ []) h = absurd (omega arith)
+target_many o (a ∷ b ∷ t ∷ []) h = absurd (omega arith)
+target_many o (a ∷ b ∷ t ∷ u ∷ us) h = refl

@@ -10,8 +10,8 @@ use Rattle.zy_asm.specs.declared.faults.AsmKind.{AsmKind}
 use Rattle.zy_asm.specs.declared.faults.AsmKind.TheVariants as kinds
 use Rattle.zy_asm.specs.declared.choices.Action.{Action}
 use Rattle.zy_asm.specs.declared.choices.Action.TheVariants.{Txn, Plain}
-use Rattle.zy_asm.specs.declared.instructions.Operation.{Operation}
-use Rattle.zy_asm.specs.declared.instructions.Operation.TheVariants.{Set, Read, Write, Insert, Add, Beq, Commit, Abort}
+use Rattle.zy_isa.specs.declared.operation.Operation.{Operation}
+use Rattle.zy_isa.specs.declared.operation.Operation.TheVariants.{Number, Pair, Jump, Lone}
 use Rattle.zy_asm.specs.declared.reading.Keyword.{Keyword}
 use Rattle.zy_asm.specs.declared.reading.Keyword.TheVariants as k
 use Rattle.zy_asm.specs.declared.state.Stage.{Stage}
@@ -25,14 +25,10 @@ bind_same (Ok x) f g h = h x
 bind_same (Err e) f g h = refl
 
 too_many : (op : Operation) (c d e f : List ℕ) (ws : List (List ℕ)) → instr_of op (c ∷ d ∷ e ∷ f ∷ ws) ≡ Err kinds.Word
-too_many Set c d e f ws = refl
-too_many Read c d e f ws = refl
-too_many Write c d e f ws = refl
-too_many Insert c d e f ws = refl
-too_many Add c d e f ws = refl
-too_many Beq c d e f ws = refl
-too_many Commit c d e f ws = refl
-too_many Abort c d e f ws = refl
+too_many (Number o) c d e f ws = refl
+too_many (Pair o) c d e f ws = refl
+too_many (Jump o) c d e f ws = refl
+too_many (Lone o) c d e f ws = refl
 
 instr_fault : (s : Seen) (op : Operation) (c d e f : List ℕ) (ws : List (List ℕ)) → instr_line s op (c ∷ d ∷ e ∷ f ∷ ws) ≡ Err kinds.Word
 instr_fault s op c d e f ws = rw (too_many op c d e f ws) refl

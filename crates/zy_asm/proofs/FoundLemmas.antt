@@ -11,11 +11,10 @@ use Rattle.zy_isa.specs.Scenario.{Scenario, opening_pages_for, scenario_fault}
 use Rattle.zy_isa.specs.Text as m
 use Rattle.zy_isa.specs.Text.{Draft, Spells, SpellEach, names_of, IsDraftOf, repeated, statements}
 use Rattle.zy_asm.specs.declared.faults.AsmKind.TheVariants as kinds
-use Rattle.zy_asm.specs.declared.reading.Keyword.TheVariants as k
 use Rattle.zy_asm.specs.declared.state.Stage.TheVariants as stage
 use Rattle.zy_asm.specs.Steps.{number_in}
 use Rattle.zy_isa.specs.Rows.{last_row, is_low}
-use Rattle.zy_asm.specs.Reading.{Seen, headed, version_of, rule_of, labelled, body_line, step, nothing_seen}
+use Rattle.zy_asm.specs.Reading.{Seen, headed, version_of, rule_of, body_line, step, nothing_seen}
 use Rattle.zy_isa.proofs.RowLemmas.{order_more}
 use Rattle.zy_isa.proofs.ScenarioLemmas.{no_fault}
 use Rattle.zy_isa.proofs.ResultLemmas.{bind_ok, if_ok, chosen_by, same, ok_or_ok}

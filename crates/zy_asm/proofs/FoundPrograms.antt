@@ -10,12 +10,11 @@ use Rattle.zy_isa.specs.Choices.{names_below}
 use Rattle.zy_isa.specs.Scenario.{AreNamed}
 use Rattle.zy_isa.specs.Text as m
 use Rattle.zy_isa.specs.Text.{Code, Written, Times, Statement, SpellEach, instrs_of, label_at, labels_of, name_in, names_of, Headed, Labelled, program_statements, choice_statements, repeated}
-use Rattle.zy_asm.specs.declared.reading.Keyword.TheVariants as k
 use Rattle.zy_asm.specs.declared.state.Stage.{Stage}
 use Rattle.zy_asm.specs.declared.state.Stage.TheVariants as stage
 use Rattle.zy_asm.specs.Pending.{Pending, all_resolved}
-use Rattle.zy_asm.specs.Reading.{Seen, headed, labelled, body_line, step}
-use Rattle.zy_isa.proofs.ResultLemmas.{bind_ok, same}
+use Rattle.zy_asm.specs.Reading.{Seen, body_line, step}
+use Rattle.zy_isa.proofs.ResultLemmas.{bind_ok}
 use Rattle.zy_asm.proofs.SpellLemmas.{AreBelow}
 use Rattle.zy_asm.proofs.DraftLemmas.{Line, SpellBody, pending_in, pendings, marks, coded, new_label, new_name, below_name}
 use Rattle.zy_asm.proofs.FoundSteps.{Base, at, fold_lines, TxnStep, EndStep, ChoiceStep, Next, CodeStep, inside_ok, below_ok}

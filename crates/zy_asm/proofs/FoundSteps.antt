@@ -4,8 +4,10 @@ use Rattle.zy_isa.specs.declared.rule.Rule.{Rule}
 use Rattle.zy_isa.specs.declared.row.Row.{Row}
 use Rattle.zy_isa.specs.declared.instr.Instr.{Instr}
 use Rattle.zy_isa.specs.declared.program.ProgFault.{ProgFault}
+use Rattle.zy_isa.specs.declared.operation.Operation.{Operation}
 use Rattle.zy_isa.specs.declared.choice.Choice.{Choice}
 use Rattle.zy_isa.specs.declared.node.Actor.{Actor}
+use Rattle.zy_isa.specs.Operations.{mnemonic}
 use Rattle.zy_isa.specs.Words.{number_of}
 use Rattle.zy_isa.specs.Names.{Mark, is_name, place, AreNew}
 use Rattle.zy_isa.specs.Programs.{prog_fault}
@@ -16,7 +18,6 @@ use Rattle.zy_asm.specs.declared.faults.AsmKind.{AsmKind}
 use Rattle.zy_asm.specs.declared.faults.AsmKind.TheVariants as kinds
 use Rattle.zy_asm.specs.declared.choices.Action.{Action}
 use Rattle.zy_asm.specs.declared.choices.Action.TheVariants.{Txn, Plain}
-use Rattle.zy_asm.specs.declared.instructions.Operation.{Operation}
 use Rattle.zy_asm.specs.declared.reading.Keyword.{Keyword}
 use Rattle.zy_asm.specs.declared.reading.Keyword.TheVariants as k
 use Rattle.zy_asm.specs.declared.state.Stage.{Stage}
@@ -29,7 +30,7 @@ use Rattle.zy_asm.specs.Choices.{action_of}
 use Rattle.zy_isa.specs.Rows.{last_row, is_low}
 use Rattle.zy_asm.specs.Reading.{Seen, keyword_of, row_of, is_full, add_row, row_at, instr_line, note_label, labelled, behind_label, label_line, head_line, open_line, action_line, choice_line, end_line, statement, led_by, body_line, step, finish}
 use Rattle.zy_isa.proofs.ResultLemmas.{bind_ok, if_ok, if_err, neither, below, not_over}
-use Rattle.zy_asm.proofs.SpellLemmas.{op_word, actor_word, keyword_ok, SpellsPending, instr_ok, row_ok, not_some, head_ok, AreBelow, Chose, choice_ok}
+use Rattle.zy_asm.proofs.SpellLemmas.{actor_word, keyword_ok, SpellsPending, instr_ok, row_ok, not_some, head_ok, AreBelow, Chose, choice_ok}
 use Rattle.zy_words.proofs.LabelLemmas.{label_ok}
 use Rattle.zy_asm.proofs.DraftLemmas.{Line, SpellsLine, pending_in}
 
@@ -157,13 +158,13 @@ pub record InstrStep (s : Seen) (ws : List (List ℕ)) (t : Seen) : Type 0 where
   pub spelled : SpellsPending pending ws
   pub after : t ≡ record s { instrs = s.instrs ++ pending ∷ [] }
 
-instr_step : (s : Seen) (o : Operation) (ws : List (List ℕ)) (t : Seen) → instr_line s o ws ≡ Ok t → InstrStep s (op_word o ∷ ws) t
+instr_step : (s : Seen) (o : Operation) (ws : List (List ℕ)) (t : Seen) → instr_line s o ws ≡ Ok t → InstrStep s (mnemonic o ∷ ws) t
 instr_step s o ws t h =
     let a = bind_ok (instr_of o ws) _ t h in
     let b = if_err (nat_le 64 (length s.instrs)) _ kinds.Count t a.2 in
     record { pending = a.0; spelled = instr_ok o ws a.0 a.1; after = cc (b.1) }
 
-plain_line : (b : Base) (N : List Mark) (P : List (List Instr)) (M : List Mark) (O : List Pending) (o : Operation) (w : List ℕ) (ws : List (List ℕ)) (t : Seen) → w ≡ op_word o
+plain_line : (b : Base) (N : List Mark) (P : List (List Instr)) (M : List Mark) (O : List Pending) (o : Operation) (w : List ℕ) (ws : List (List ℕ)) (t : Seen) → w ≡ mnemonic o
     → instr_line (at stage.Program b N P M O []) o ws ≡ Ok t → CodeStep b N P M O (w ∷ ws) t
 plain_line b N P M O o w ws t e h =
     let p = instr_step (at stage.Program b N P M O []) o ws t h in
@@ -175,7 +176,7 @@ plain_line b N P M O o w ws t e h =
     }
 
 labelled_line : (b : Base) (N : List Mark) (P : List (List Instr)) (M : List Mark) (O : List Pending) (v : List ℕ) (o : Operation) (w x : List ℕ) (ws : List (List ℕ)) (t : Seen)
-    → x ≡ v ++ 58 ∷ [] → is_name v ≡ true → place v M ≡ None → w ≡ op_word o
+    → x ≡ v ++ 58 ∷ [] → is_name v ≡ true → place v M ≡ None → w ≡ mnemonic o
     → instr_line (at stage.Program b N P (M ++ (v, length O) ∷ []) O []) o ws ≡ Ok t → CodeStep b N P M O (x ∷ w ∷ ws) t
 labelled_line b N P M O v o w x ws t q n new e h =
     let p = instr_step (at stage.Program b N P (M ++ (v, length O) ∷ []) O []) o ws t h in

@@ -1,5 +1,5 @@
 -- A line that spells something is read as it.
-use Rattle.std.proofs.Common.{◌≡◌, ℕ, ◌+◌, ◌<◌, ◌≤◌, ◌^◌, ◌==◌, ◌&&◌, ◌⊎◌, Bool, true, false, nat_lt, nat_le, List, [], ◌∷◌, ◌++◌, length, codes, Ok, Option, Some, None, if◌then◌else◌, refl, sym, ap, ◌∙◌, inl, inr, arith, append-nil}
+use Rattle.std.proofs.Common.{◌≡◌, ℕ, ◌+◌, ◌<◌, ◌≤◌, ◌^◌, ◌==◌, ◌&&◌, ◌⊎◌, Bool, true, false, nat_lt, nat_le, List, [], ◌∷◌, ◌++◌, length, codes, Ok, Option, Some, None, if◌then◌else◌, refl, sym, ap, ◌∙◌, subst, inl, inr, arith, append-nil}
 use Rattle.std.specs.Prelude.{replicate}
 use Rattle.std.specs.Char.{is_ascii_digit}
 use Rattle.zy_isa.specs.declared.node.Node.{Node}
@@ -10,19 +10,22 @@ use Rattle.zy_isa.specs.declared.row.Row.{Row}
 use Rattle.zy_isa.specs.declared.instr.Reg.{Reg}
 use Rattle.zy_isa.specs.declared.instr.Reg.TheVariants.{R0, R1, R2, R3, R4, R5, R6, R7}
 use Rattle.zy_isa.specs.declared.instr.Instr.{Instr}
-use Rattle.zy_isa.specs.declared.instr.Instr.TheVariants.{Set, Read, Write, Insert, Add, Beq, Commit, Abort}
+use Rattle.zy_isa.specs.declared.operation.JumpOperation.{JumpOperation}
+use Rattle.zy_isa.specs.declared.operation.Operation.{Operation}
+use Rattle.zy_isa.specs.declared.operation.Operation.TheVariants as op
+use Rattle.zy_isa.specs.declared.operation.Parts.{Parts}
+use Rattle.zy_isa.specs.declared.operation.Parts.TheVariants.{Number, Pair, Jump, Lone}
 use Rattle.zy_isa.specs.declared.choice.Choice.{Choice}
 use Rattle.zy_isa.specs.declared.choice.Choice.TheVariants as choice
 use Rattle.zy_isa.specs.Words.{is_word, number_of, has_words}
+use Rattle.zy_isa.specs.Operations.{mnemonic, instr_with, parts_of}
 use Rattle.zy_isa.specs.Canon.{reg_text, node_text}
-use Rattle.zy_isa.specs.Programs.{HasValue, Values}
+use Rattle.zy_isa.specs.Programs.{PartsFit, HasValue, Values}
 use Rattle.zy_isa.specs.Choices.{names_below, actor_at}
 use Rattle.zy_isa.specs.Scenario.{opening_pages_for}
 use Rattle.zy_isa.specs.Text as m
-use Rattle.zy_isa.specs.Text.{Times, Spells, SpellsTarget, SpellsInstr, MaySpell, SpellsLabel, Refers, SpellsChoice, SpellsTimes, instr_in, label_at, name_in}
+use Rattle.zy_isa.specs.Text.{Times, Spells, SpellsTarget, SpellsParts, SpellsInstr, MaySpell, SpellsLabel, Refers, SpellsChoice, SpellsTimes, instr_in, label_at, name_in}
 use Rattle.zy_isa.specs.Names.{Mark, is_letter, are_parts, is_name, place, AreNew}
-use Rattle.zy_asm.specs.declared.instructions.Operation.{Operation}
-use Rattle.zy_asm.specs.declared.instructions.Operation.TheVariants as op
 use Rattle.zy_asm.specs.declared.choices.Action.TheVariants.{Txn, Plain}
 use Rattle.zy_asm.specs.declared.choices.TxnAction.{TxnAction}
 use Rattle.zy_asm.specs.declared.choices.TxnAction.TheVariants.{Begin, Kill, Run}
@@ -35,8 +38,9 @@ use Rattle.zy_asm.specs.Pending.{Pending, whole, jump, resolved, all_resolved}
 use Rattle.zy_asm.specs.Choices.{node_action, action_of, chosen, transaction, are_times, times_of}
 use Rattle.zy_isa.specs.Rows.{is_low, last_row}
 use Rattle.zy_asm.specs.Reading.{Seen, instr_line, behind_label, led_by, head_line, repeat_line, step, choice_line}
+use Rattle.zy_isa.proofs.OperationLemmas.{named_back, instr_again}
 use Rattle.zy_isa.proofs.ResultLemmas.{out_of_neither, not_below, over_not, both}
-use Rattle.zy_asm.proofs.SpellLemmas.{op_word, actor_word, node_word, no_name}
+use Rattle.zy_asm.proofs.SpellLemmas.{no_label, actor_word, node_word, no_name}
 use Rattle.zy_words.proofs.LabelLemmas.{label-last}
 use Rattle.zy_asm.proofs.CodeLemmas.{own_gives}
 use Rattle.zy_asm.proofs.FoundSteps.{Base, at, top}
@@ -60,15 +64,14 @@ register_gives R7 = refl
 two_gives : (a b : Reg) → two (reg_text a) (reg_text b) ≡ Ok (a, b)
 two_gives a b = rw (register_gives a, register_gives b) refl
 
+abbrev pub operation_in : Parts → Operation
+operation_in (Number o a n) = op.Number o
+operation_in (Pair o a b) = op.Pair o
+operation_in (Jump o a b n) = op.Jump o
+operation_in (Lone o) = op.Lone o
+
 abbrev pub op_of : Instr → Operation
-op_of (Set a n) = op.Set
-op_of (Read a b) = op.Read
-op_of (Write a b) = op.Write
-op_of (Insert a b) = op.Insert
-op_of (Add a b) = op.Add
-op_of (Beq a b n) = op.Beq
-op_of Commit = op.Commit
-op_of Abort = op.Abort
+op_of i = operation_in (parts_of i)
 
 letter_no_at : (b : ℕ) → is_letter b ≡ true → (b == 64) ≡ false
 letter_no_at b h = grind (arith, tests)
@@ -79,57 +82,46 @@ pub record Given (labels : List Mark) (o : Operation) (rest : List (List ℕ)) (
   pub given : instr_of o rest ≡ Ok pending
   pub resolves : resolved labels pending ≡ Ok i
 
-jump_gives : (labels : List Mark) (a b : Reg) (n : ℕ) (w : List ℕ) → is_name w ≡ true → place w labels ≡ Some n → Given labels op.Beq (reg_text a ∷ reg_text b ∷ w ∷ []) (Beq a b n)
-jump_gives labels a b n [] h e = cc
-jump_gives labels a b n (c ∷ cs) h e =
+jump_gives : (labels : List Mark) (o : JumpOperation) (a b : Reg) (n : ℕ) (w : List ℕ) → is_name w ≡ true → place w labels ≡ Some n → Given labels (op.Jump o) (reg_text a ∷ reg_text b ∷ w ∷ []) (instr_with (Jump o a b n))
+jump_gives labels o a b n [] h e = cc
+jump_gives labels o a b n (c ∷ cs) h e =
     let l = both (is_letter c && are_parts cs) (nat_le (length cs) 31) h in
     let first = both (is_letter c) (are_parts cs) l.0 in
-    record { pending = jump a b (c ∷ cs); given = rw (two_gives a b, letter_no_at c first.0, h) refl; resolves = rw e refl }
+    record { pending = jump o a b (c ∷ cs); given = rw (two_gives a b, letter_no_at c first.0, h) refl; resolves = rw e refl }
 
-target_gives : (labels : List Mark) (a b : Reg) (n : ℕ) (w : List ℕ) → SpellsTarget labels n w → n < 2 ^ 32 → Given labels op.Beq (reg_text a ∷ reg_text b ∷ w ∷ []) (Beq a b n)
-target_gives labels a b n w h v = elim h [
-  | inl d ↦ record { pending = whole (Beq a b n); given = rw (two_gives a b, d.1, number_in_gives d.0 0 4294967295 n d.2 (omega arith) (omega arith)) refl; resolves = refl }
-  | inr d ↦ jump_gives labels a b n w d.0 d.1
+target_gives : (labels : List Mark) (o : JumpOperation) (a b : Reg) (n : ℕ) (w : List ℕ) → SpellsTarget labels n w → n < 2 ^ 32 → Given labels (op.Jump o) (reg_text a ∷ reg_text b ∷ w ∷ []) (instr_with (Jump o a b n))
+target_gives labels o a b n w h v = elim h [
+  | inl d ↦ record { pending = whole (instr_with (Jump o a b n)); given = rw (two_gives a b, d.1, number_in_gives d.0 0 4294967295 n d.2 (omega arith) (omega arith)) refl; resolves = refl }
+  | inr d ↦ jump_gives labels o a b n w d.0 d.1
 ]
 
 whole_given : (labels : List Mark) (o : Operation) (rest : List (List ℕ)) (i : Instr) → instr_of o rest ≡ Ok (whole i) → Given labels o rest i
 whole_given labels o rest i e = record { pending = whole i; given = e; resolves = refl }
 
-pub instr_gives : (labels : List Mark) (i : Instr) (ws : List (List ℕ)) → SpellsInstr labels i ws → HasValue i → (rest : List (List ℕ)) × (ws ≡ op_word (op_of i) ∷ rest) × Given labels (op_of i) rest i
-instr_gives labels (Set a n) ws h v = (reg_text a ∷ h.0 ∷ [], h.1, whole_given labels op.Set _ (Set a n) (rw (register_gives a, number_in_gives h.0 0 4294967295 n h.2 (omega arith) (omega arith)) refl))
-instr_gives labels (Read a b) ws h v = (reg_text a ∷ reg_text b ∷ [], h, whole_given labels op.Read _ (Read a b) (rw (two_gives a b) refl))
-instr_gives labels (Write a b) ws h v = (reg_text a ∷ reg_text b ∷ [], h, whole_given labels op.Write _ (Write a b) (rw (two_gives a b) refl))
-instr_gives labels (Insert a b) ws h v = (reg_text a ∷ reg_text b ∷ [], h, whole_given labels op.Insert _ (Insert a b) (rw (two_gives a b) refl))
-instr_gives labels (Add a b) ws h v = (reg_text a ∷ reg_text b ∷ [], h, whole_given labels op.Add _ (Add a b) (rw (two_gives a b) refl))
-instr_gives labels (Beq a b n) ws h v = (reg_text a ∷ reg_text b ∷ h.0 ∷ [], h.1, target_gives labels a b n h.0 h.2 v)
-instr_gives labels Commit ws h v = ([], h, whole_given labels op.Commit [] Commit refl)
-instr_gives labels Abort ws h v = ([], h, whole_given labels op.Abort [] Abort refl)
+-- the words behind the operation, and what they give
+abbrev Gives : List Mark → Operation → List (List ℕ) → Instr → Type 0
+Gives labels o ws i = (rest : List (List ℕ)) × (ws ≡ mnemonic o ∷ rest) × Given labels o rest i
+
+parts_give : (labels : List Mark) (p : Parts) (ws : List (List ℕ)) → SpellsParts labels p ws → PartsFit p → Gives labels (operation_in p) ws (instr_with p)
+parts_give labels (Number o a n) ws h v = (reg_text a ∷ h.0 ∷ [], h.1, whole_given labels (op.Number o) _ _ (rw (register_gives a, number_in_gives h.0 0 4294967295 n h.2 (omega arith) (omega arith)) refl))
+parts_give labels (Pair o a b) ws h v = (reg_text a ∷ reg_text b ∷ [], h, whole_given labels (op.Pair o) _ _ (rw (two_gives a b) refl))
+parts_give labels (Jump o a b n) ws h v = (reg_text a ∷ reg_text b ∷ h.0 ∷ [], h.1, target_gives labels o a b n h.0 h.2 v)
+parts_give labels (Lone o) ws h v = ([], h, whole_given labels (op.Lone o) [] _ refl)
+
+pub instr_gives : (labels : List Mark) (i : Instr) (ws : List (List ℕ)) → SpellsInstr labels i ws → HasValue i → Gives labels (op_of i) ws i
+instr_gives labels i ws h v = subst (Gives labels (op_of i) ws) (instr_again i) (parts_give labels (parts_of i) ws h v)
 
 instr_line_gives : (s : Seen) (o : Operation) (rest : List (List ℕ)) (p : Pending) → instr_of o rest ≡ Ok p → length s.instrs < 64 → instr_line s o rest ≡ Ok (record s { instrs = s.instrs ++ p ∷ [] })
 instr_line_gives s o rest p e few = rw (e, not_below (length s.instrs) 64 few) refl
 
 -- a line of an open program that begins with an operation
 op_line : (o : Operation) (b : Base) (N : List Mark) (P : List (List Instr)) (M : List Mark) (O : List Pending) (rest : List (List ℕ))
-    → step (at stage.Program b N P M O []) (op_word o ∷ rest) ≡ instr_line (at stage.Program b N P M O []) o rest
-op_line op.Set b N P M O rest = refl
-op_line op.Read b N P M O rest = refl
-op_line op.Write b N P M O rest = refl
-op_line op.Insert b N P M O rest = refl
-op_line op.Add b N P M O rest = refl
-op_line op.Beq b N P M O rest = refl
-op_line op.Commit b N P M O rest = refl
-op_line op.Abort b N P M O rest = refl
+    → step (at stage.Program b N P M O []) (mnemonic o ∷ rest) ≡ instr_line (at stage.Program b N P M O []) o rest
+op_line o b N P M O rest = rw (no_label o, named_back o) refl
 
 -- what stands behind a label
-behind_op : (o : Operation) (s : Seen) (rest : List (List ℕ)) → behind_label s (op_word o ∷ rest) ≡ instr_line s o rest
-behind_op op.Set s rest = refl
-behind_op op.Read s rest = refl
-behind_op op.Write s rest = refl
-behind_op op.Insert s rest = refl
-behind_op op.Add s rest = refl
-behind_op op.Beq s rest = refl
-behind_op op.Commit s rest = refl
-behind_op op.Abort s rest = refl
+behind_op : (o : Operation) (s : Seen) (rest : List (List ℕ)) → behind_label s (mnemonic o ∷ rest) ≡ instr_line s o rest
+behind_op o s rest = rw (named_back o) refl
 
 -- a line of an open program that begins with a new label
 label_gives : (b : Base) (N : List Mark) (P : List (List Instr)) (M : List Mark) (O : List Pending) (name : List ℕ) (ws : List (List ℕ)) → is_name name ≡ true → place name M ≡ None
@@ -156,7 +148,7 @@ code_gives labels b N P M O None None l front back e f g some values new few = a
     no_words q h = let x : has_words [] ≡ true = rw q at h in (cc)
 code_gives labels b N P M O None (Some i) l front back e f g some values new few =
     let d = instr_gives labels i back g values.0 in
-    let line : l ≡ op_word (op_of i) ∷ d.0 = e ∙ ap (λ x. x ++ back) f ∙ d.1 in
+    let line : l ≡ mnemonic (op_of i) ∷ d.0 = e ∙ ap (λ x. x ++ back) f ∙ d.1 in
     record {
       more = d.2.pending ∷ [];
       resolves = alone_resolved labels d.2.pending i d.2.resolves;
@@ -174,13 +166,13 @@ code_gives labels b N P M O (Some name) None l front back e f g some values new 
     }
 code_gives labels b N P M O (Some name) (Some i) l front back e f g some values new few =
     let d = instr_gives labels i back g values.0 in
-    let line : l ≡ (name ++ 58 ∷ []) ∷ op_word (op_of i) ∷ d.0 = e ∙ ap (λ x. x ++ back) f.0 ∙ ap (λ x. (name ++ 58 ∷ []) ∷ x) d.1 in
+    let line : l ≡ (name ++ 58 ∷ []) ∷ mnemonic (op_of i) ∷ d.0 = e ∙ ap (λ x. x ++ back) f.0 ∙ ap (λ x. (name ++ 58 ∷ []) ∷ x) d.1 in
     let s = at stage.Program b N P (M ++ (name, length O) ∷ []) O [] in
     record {
       more = d.2.pending ∷ [];
       resolves = alone_resolved labels d.2.pending i d.2.resolves;
       count = refl;
-      same = ap (step (at stage.Program b N P M O [])) line ∙ label_gives b N P M O name (op_word (op_of i) ∷ d.0) f.1 new.0 ∙ behind_op (op_of i) s d.0
+      same = ap (step (at stage.Program b N P M O [])) line ∙ label_gives b N P M O name (mnemonic (op_of i) ∷ d.0) f.1 new.0 ∙ behind_op (op_of i) s d.0
           ∙ instr_line_gives s (op_of i) d.0 d.2.pending d.2.given (omega (arith, few));
     }
 

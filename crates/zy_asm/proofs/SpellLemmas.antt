@@ -1,6 +1,7 @@
 -- What a line that is read spells.
-use Rattle.std.proofs.Common.{◌≡◌, ℕ, ◌+◌, ◌<◌, ◌≤◌, ◌⊎◌, Bool, Option, true, false, is_some, if◌then◌else◌, append-nil, lt-ltb, ◌||◌, ◌==◌, nat_lt, List, [], ◌∷◌, ◌++◌, length, codes, Result, Ok, Err, Some, None, refl, sym, ap, ◌∙◌, subst, inl, inr, arith, ok_or}
-use Rattle.std.specs.Prelude.{replicate}
+use Rattle.std.proofs.Common.{◌≡◌, ℕ, ◌+◌, ◌<◌, ◌≤◌, ◌⊎◌, Bool, Option, true, false, is_some, if◌then◌else◌, append-nil, lt-ltb, ◌||◌, ◌==◌, nat_lt, List, [], ◌∷◌, ◌++◌, length, codes, Result, Ok, Some, None, refl, sym, ap, ◌∙◌, subst, inl, inr, arith, ok_or}
+use Rattle.std.specs.Prelude.{replicate, is_none}
+use Rattle.std.specs.List.{find}
 use Rattle.std.specs.Str.{bytes_eq}
 use Rattle.std.specs.Char.{is_ascii_digit}
 use Rattle.zy_isa.specs.declared.node.Node.{Node}
@@ -9,20 +10,24 @@ use Rattle.zy_isa.specs.declared.node.Actor.{Actor}
 use Rattle.zy_isa.specs.declared.node.Actor.TheVariants as actor
 use Rattle.zy_isa.specs.declared.row.Row.{Row}
 use Rattle.zy_isa.specs.declared.instr.Reg.{Reg}
-use Rattle.zy_isa.specs.declared.instr.Reg.TheVariants.{R0, R1, R2, R3, R4, R5, R6, R7}
 use Rattle.zy_isa.specs.declared.instr.Instr.{Instr}
-use Rattle.zy_isa.specs.declared.instr.Instr.TheVariants.{Set, Read, Write, Insert, Add, Beq, Commit, Abort}
+use Rattle.zy_isa.specs.declared.operation.NumberOperation.{NumberOperation}
+use Rattle.zy_isa.specs.declared.operation.JumpOperation.{JumpOperation}
+use Rattle.zy_isa.specs.declared.operation.Operation.{Operation}
+use Rattle.zy_isa.specs.declared.operation.Operation.TheVariants as op
+use Rattle.zy_isa.specs.declared.operation.Parts.{Parts}
+use Rattle.zy_isa.specs.declared.operation.Parts.TheVariants.{Number, Pair, Jump, Lone}
 use Rattle.zy_isa.specs.declared.choice.Choice.{Choice}
 use Rattle.zy_isa.specs.declared.choice.Choice.TheVariants as choice
 use Rattle.zy_isa.specs.Words.{number_of}
+use Rattle.zy_isa.specs.Registers.{registers}
+use Rattle.zy_isa.specs.Operations.{mnemonic, named, instr_with}
 use Rattle.zy_isa.specs.Canon.{reg_text, node_text}
 use Rattle.zy_isa.specs.Choices.{names_below, actor_at}
 use Rattle.zy_isa.specs.Text as m
-use Rattle.zy_isa.specs.Text.{Times, Spells, SpellsInstr, SpellsChoice, SpellsTimes, Refers, name_in}
+use Rattle.zy_isa.specs.Text.{Times, Spells, SpellsParts, SpellsInstr, SpellsChoice, SpellsTimes, Refers, name_in}
 use Rattle.zy_asm.specs.declared.faults.AsmKind.{AsmKind}
 use Rattle.zy_asm.specs.declared.faults.AsmKind.TheVariants as kinds
-use Rattle.zy_asm.specs.declared.instructions.Operation.{Operation}
-use Rattle.zy_asm.specs.declared.instructions.Operation.TheVariants as op
 use Rattle.zy_asm.specs.declared.choices.Action.{Action}
 use Rattle.zy_asm.specs.declared.choices.Action.TheVariants.{Txn, Plain}
 use Rattle.zy_asm.specs.declared.choices.TxnAction.{TxnAction}
@@ -32,26 +37,16 @@ use Rattle.zy_asm.specs.declared.reading.Keyword.TheVariants as k
 use Rattle.zy_asm.specs.declared.state.Stage.TheVariants as stage
 use Rattle.zy_asm.specs.Steps.{number_in}
 use Rattle.zy_isa.specs.Names.{Mark, is_letter, is_name, place, AreNew}
-use Rattle.zy_isa.specs.Results.{◌>>=◌}
-use Rattle.zy_words.specs.Names.{is_numeral}
+use Rattle.zy_words.specs.Names.{is_numeral, label_of}
 use Rattle.zy_asm.specs.Pending.{Pending, whole, jump, resolved}
-use Rattle.zy_asm.specs.Instructions.{operation_of, register_of, two, pair_of, jump_to, set_of, beq_of, alone, instr_of}
+use Rattle.zy_asm.specs.Instructions.{register_of, two, pair_of, with_number, jump_to, with_target, alone, instr_of}
 use Rattle.zy_asm.specs.Choices.{actor_of, client_action, node_action, action_of, chosen, numbered, transaction, are_times, times_of}
 use Rattle.zy_asm.specs.Reading.{Seen, keyword_of, row_of, repeat_choice, repeat_line, action_line, choice_line, own_number, head_line}
+use Rattle.zy_isa.proofs.OperationLemmas.{found_passes, named_is, each, parts_again}
 use Rattle.zy_isa.proofs.ResultLemmas.{bind_ok, if_ok, if_err, ok_or_ok, chosen_by, first_or, in_range, not_over, same}
 use borrow.Author.Tests.{eqb-true, tests}
 
 -- ---- first words
-
-abbrev pub op_word : Operation → List ℕ
-op_word op.Set = codes "set"
-op_word op.Read = codes "read"
-op_word op.Write = codes "write"
-op_word op.Insert = codes "insert"
-op_word op.Add = codes "add"
-op_word op.Beq = codes "beq"
-op_word op.Commit = codes "commit"
-op_word op.Abort = codes "abort"
 
 abbrev pub actor_word : Actor → List ℕ
 actor_word actor.C = codes "C"
@@ -60,41 +55,6 @@ actor_word actor.B = codes "B"
 
 nothing : {X : Type 0} (x : X) → None ≡ Some x → ⊥
 nothing x h = cc
-
-this_op : (w : List ℕ) (a b : Operation) → bytes_eq w (op_word a) ≡ true → Some a ≡ Some b → w ≡ op_word b
-this_op w a b e h = let q : a ≡ b = cc in same w (op_word a) e ∙ ap op_word q
-
-pub operation_ok : (w : List ℕ) (o : Operation) → operation_of w ≡ Some o → w ≡ op_word o
-operation_ok w o h =
-    elim (chosen_by (bytes_eq w (codes "set")) _ _ _ h) [
-      | inl a ↦ this_op w op.Set o a.0 a.1
-      | inr a ↦
-          elim (chosen_by (bytes_eq w (codes "read")) _ _ _ a.1) [
-            | inl b ↦ this_op w op.Read o b.0 b.1
-            | inr b ↦
-                elim (chosen_by (bytes_eq w (codes "write")) _ _ _ b.1) [
-                  | inl d ↦ this_op w op.Write o d.0 d.1
-                  | inr d ↦
-                      elim (chosen_by (bytes_eq w (codes "insert")) _ _ _ d.1) [
-                        | inl e ↦ this_op w op.Insert o e.0 e.1
-                        | inr e ↦
-                            elim (chosen_by (bytes_eq w (codes "add")) _ _ _ e.1) [
-                              | inl f ↦ this_op w op.Add o f.0 f.1
-                              | inr f ↦
-                                  elim (chosen_by (bytes_eq w (codes "beq")) _ _ _ f.1) [
-                                    | inl g ↦ this_op w op.Beq o g.0 g.1
-                                    | inr g ↦
-                                        elim (chosen_by (bytes_eq w (codes "commit")) _ _ _ g.1) [
-                                          | inl i ↦ this_op w op.Commit o i.0 i.1
-                                          | inr i ↦
-                                              elim (chosen_by (bytes_eq w (codes "abort")) _ _ _ i.1) [ inl j ↦ this_op w op.Abort o j.0 j.1 | inr j ↦ absurd (nothing o j.1) ]
-                                        ]
-                                  ]
-                            ]
-                      ]
-                ]
-          ]
-    ]
 
 this_actor : (w : List ℕ) (a b : Actor) → bytes_eq w (actor_word a) ≡ true → Some a ≡ Some b → w ≡ actor_word b
 this_actor w a b e h = let q : a ≡ b = cc in same w (actor_word a) e ∙ ap actor_word q
@@ -111,12 +71,20 @@ actor_ok w o h =
           ]
     ]
 
+-- no operation's word is a label
+pub no_label : (o : Operation) → label_of (mnemonic o) ≡ None
+no_label o = none (label_of (mnemonic o)) (each (λ x. is_none (label_of (mnemonic x))) refl o)
+  where
+    none : (x : Option (List ℕ)) → is_none x ≡ true → x ≡ None
+    none None h = refl
+    none (Some w) h = cc
+
 -- what a keyword says of its word
 abbrev pub IsWordOf : Keyword → List ℕ → Type 0
 IsWordOf k.Header w = Unit {0}
 IsWordOf k.Row w = w ≡ codes "row"
 IsWordOf k.Txn w = w ≡ codes "txn"
-IsWordOf (k.Instr o) w = w ≡ op_word o
+IsWordOf (k.Instr o) w = w ≡ mnemonic o
 IsWordOf (k.Choice a) w = w ≡ actor_word a
 IsWordOf k.End w = w ≡ codes "end"
 
@@ -128,8 +96,8 @@ some_key w a key h e = let q : a ≡ key = cc in by_key w a key h q
 
 pub keyword_ok : (w : List ℕ) (key : Keyword) → keyword_of w ≡ Some key → IsWordOf key w
 keyword_ok w key h =
-    elim (first_or k.Instr (operation_of w) _ key h) [
-      | inl a ↦ by_key w (k.Instr a.0) key (operation_ok w a.0 a.1) a.2
+    elim (first_or k.Instr (named w) _ key h) [
+      | inl a ↦ by_key w (k.Instr a.0) key (named_is w a.0 a.1) a.2
       | inr a ↦
           elim (first_or k.Choice (actor_of w) _ key a) [
             | inl b ↦ by_key w (k.Choice b.0) key (actor_ok w b.0 b.1) b.2
@@ -160,43 +128,8 @@ number_in_ok w a b n h =
     let r = in_range p.0 a b q.0 in
     (ok_or_ok (number_of w) kinds.Number p.0 p.1 ∙ ap Some e, omega arith, omega arith)
 
-this_reg : (w : List ℕ) (a r : Reg) → bytes_eq w (reg_text a) ≡ true → (let x : Result Reg AsmKind = Ok a in x) ≡ Ok r → w ≡ reg_text r
-this_reg w a r e h = let q : a ≡ r = cc in same w (reg_text a) e ∙ ap reg_text q
-
-no_reg : (r : Reg) → (let x : Result Reg AsmKind = Err kinds.Word in x) ≡ Ok r → ⊥
-no_reg r h = cc
-
 pub register_ok : (w : List ℕ) (r : Reg) → register_of w ≡ Ok r → w ≡ reg_text r
-register_ok w r h =
-    elim (chosen_by (bytes_eq w (codes "r0")) _ _ _ h) [
-      | inl a ↦ this_reg w R0 r a.0 a.1
-      | inr a ↦
-          elim (chosen_by (bytes_eq w (codes "r1")) _ _ _ a.1) [
-            | inl b ↦ this_reg w R1 r b.0 b.1
-            | inr b ↦
-                elim (chosen_by (bytes_eq w (codes "r2")) _ _ _ b.1) [
-                  | inl d ↦ this_reg w R2 r d.0 d.1
-                  | inr d ↦
-                      elim (chosen_by (bytes_eq w (codes "r3")) _ _ _ d.1) [
-                        | inl e ↦ this_reg w R3 r e.0 e.1
-                        | inr e ↦
-                            elim (chosen_by (bytes_eq w (codes "r4")) _ _ _ e.1) [
-                              | inl f ↦ this_reg w R4 r f.0 f.1
-                              | inr f ↦
-                                  elim (chosen_by (bytes_eq w (codes "r5")) _ _ _ f.1) [
-                                    | inl g ↦ this_reg w R5 r g.0 g.1
-                                    | inr g ↦
-                                        elim (chosen_by (bytes_eq w (codes "r6")) _ _ _ g.1) [
-                                          | inl i ↦ this_reg w R6 r i.0 i.1
-                                          | inr i ↦
-                                              elim (chosen_by (bytes_eq w (codes "r7")) _ _ _ i.1) [ inl j ↦ this_reg w R7 r j.0 j.1 | inr j ↦ absurd (no_reg r j.1) ]
-                                        ]
-                                  ]
-                            ]
-                      ]
-                ]
-          ]
-    ]
+register_ok w r h = same w (reg_text r) (found_passes (λ x. bytes_eq w (reg_text x)) registers r (ok_or_ok (find (λ x. bytes_eq w (reg_text x)) registers) kinds.Word r h))
 
 two_ok : (a b : List ℕ) (p : Reg × Reg) → two a b ≡ Ok p → (a ≡ reg_text p.0) × (b ≡ reg_text p.1)
 two_ok a b p h =
@@ -223,90 +156,80 @@ whole_ok i p ws q h = subst (λ x. SpellsPending x ws) q (λ labels j e. same_in
     same_instr : (labels : List Mark) (j : Instr) → i ≡ j → SpellsInstr labels j ws
     same_instr labels j g = subst (λ x. SpellsInstr labels x ws) g (h labels)
 
-set_ok : (ws : List (List ℕ)) (i : Instr) → set_of ws ≡ Ok i → (labels : List Mark) → SpellsInstr labels i (codes "set" ∷ ws)
-set_ok [] i h labels = cc
-set_ok (a ∷ []) i h labels = cc
-set_ok (a ∷ w ∷ []) i h labels =
+spelled_whole : (labels : List Mark) (p : Parts) (ws : List (List ℕ)) → SpellsParts labels p ws → SpellsInstr labels (instr_with p) ws
+spelled_whole labels p ws h = subst (λ x. SpellsParts labels x ws) (sym (parts_again p)) h
+
+number_ok : (o : NumberOperation) (ws : List (List ℕ)) (i : Instr) → with_number o ws ≡ Ok i → (labels : List Mark) → SpellsInstr labels i (mnemonic (op.Number o) ∷ ws)
+number_ok o [] i h labels = cc
+number_ok o (a ∷ []) i h labels = cc
+number_ok o (a ∷ w ∷ []) i h labels =
     let p = bind_ok (register_of a) _ i h in
     let n = bind_ok (number_in w 0 4294967295) _ i p.2 in
-    let q : i ≡ Set p.0 n.0 = cc (n.2) in
-    rw q (w, ap (λ r. codes "set" ∷ r ∷ w ∷ []) (register_ok a p.0 p.1), (number_in_ok w 0 4294967295 n.0 n.1).0)
-set_ok (a ∷ w ∷ v ∷ ws) i h labels = cc
+    let q : i ≡ instr_with (Number o p.0 n.0) = cc (n.2) in
+    rw q (spelled_whole labels (Number o p.0 n.0) _ (w, ap (λ r. mnemonic (op.Number o) ∷ r ∷ w ∷ []) (register_ok a p.0 p.1), (number_in_ok w 0 4294967295 n.0 n.1).0))
+number_ok o (a ∷ w ∷ v ∷ ws) i h labels = cc
 
-abbrev beq_words : Reg → Reg → List ℕ → List (List ℕ)
-beq_words a b w = codes "beq" ∷ reg_text a ∷ reg_text b ∷ w ∷ []
+abbrev jump_words : JumpOperation → Reg → Reg → List ℕ → List (List ℕ)
+jump_words o a b w = mnemonic (op.Jump o) ∷ reg_text a ∷ reg_text b ∷ w ∷ []
 
-same_words : (a b w : List ℕ) (x y : Reg) → a ≡ reg_text x → b ≡ reg_text y → codes "beq" ∷ a ∷ b ∷ w ∷ [] ≡ beq_words x y w
-same_words a b w x y e f = rw (e, f) refl
+same_words : (o : JumpOperation) (a b w : List ℕ) (x y : Reg) → a ≡ reg_text x → b ≡ reg_text y → mnemonic (op.Jump o) ∷ a ∷ b ∷ w ∷ [] ≡ jump_words o x y w
+same_words o a b w x y e f = rw (e, f) refl
 
-named_ok : (a b : Reg) (w : List ℕ) (p : Pending) → is_name w ≡ true → jump a b w ≡ p → SpellsPending p (beq_words a b w)
-named_ok a b w p n q = subst (λ x. SpellsPending x (beq_words a b w)) q found
+named_ok : (o : JumpOperation) (a b : Reg) (w : List ℕ) (p : Pending) → is_name w ≡ true → jump o a b w ≡ p → SpellsPending p (jump_words o a b w)
+named_ok o a b w p n q = subst (λ x. SpellsPending x (jump_words o a b w)) q found
   where
-    found : SpellsPending (jump a b w) (beq_words a b w)
+    found : SpellsPending (jump o a b w) (jump_words o a b w)
     found labels i h =
         let g = bind_ok (ok_or (place w labels) kinds.Label) _ i h in
-        let e : Beq a b g.0 ≡ i = cc (g.2) in
-        subst (λ x. SpellsInstr labels x (beq_words a b w)) e (w, refl, inr (n, ok_or_ok (place w labels) kinds.Label g.0 g.1))
+        let e : instr_with (Jump o a b g.0) ≡ i = cc (g.2) in
+        subst (λ x. SpellsInstr labels x (jump_words o a b w)) e (spelled_whole labels (Jump o a b g.0) _ (w, refl, inr (n, ok_or_ok (place w labels) kinds.Label g.0 g.1)))
 
-jump_ok : (a b : Reg) (t : List ℕ) (p : Pending) → jump_to a b t ≡ Ok p → SpellsPending p (beq_words a b t)
-jump_ok a b [] p h = cc
-jump_ok a b (c ∷ cs) p h =
+jump_ok : (o : JumpOperation) (a b : Reg) (t : List ℕ) (p : Pending) → jump_to o a b t ≡ Ok p → SpellsPending p (jump_words o a b t)
+jump_ok o a b [] p h = cc
+jump_ok o a b (c ∷ cs) p h =
     elim (chosen_by (c == 64) _ _ _ h) [
       | inl e ↦ at_number e.0 (bind_ok (number_in cs 0 4294967295) _ p e.1)
-      | inr e ↦ let d = if_ok (is_name (c ∷ cs)) (Ok (jump a b (c ∷ cs))) kinds.Word p e.1 in named_ok a b (c ∷ cs) p d.0 (let q : jump a b (c ∷ cs) ≡ p = cc (d.1) in q)
+      | inr e ↦ let d = if_ok (is_name (c ∷ cs)) (Ok (jump o a b (c ∷ cs))) kinds.Word p e.1 in named_ok o a b (c ∷ cs) p d.0 (let q : jump o a b (c ∷ cs) ≡ p = cc (d.1) in q)
     ]
   where
-    at_number : (c == 64) ≡ true → ((n : ℕ) × (number_in cs 0 4294967295 ≡ Ok n) × ((let r : Result Pending AsmKind = Ok (whole (Beq a b n)) in r) ≡ Ok p)) → SpellsPending p (beq_words a b (c ∷ cs))
+    at_number : (c == 64) ≡ true → ((n : ℕ) × (number_in cs 0 4294967295 ≡ Ok n) × ((let r : Result Pending AsmKind = Ok (whole (instr_with (Jump o a b n))) in r) ≡ Ok p)) → SpellsPending p (jump_words o a b (c ∷ cs))
     at_number e n =
-        let q : whole (Beq a b n.0) ≡ p = cc (n.2) in
-        whole_ok (Beq a b n.0) p (beq_words a b (c ∷ cs)) q (λ labels. (c ∷ cs, refl, inl (cs, ap (λ x. x ∷ cs) (eqb-true c 64 e), (number_in_ok cs 0 4294967295 n.0 n.1).0)))
+        let i = instr_with (Jump o a b n.0) in
+        let q : whole i ≡ p = cc (n.2) in
+        whole_ok i p (jump_words o a b (c ∷ cs)) q
+        (λ labels. spelled_whole labels (Jump o a b n.0) _ (c ∷ cs, refl, inl (cs, ap (λ x. x ∷ cs) (eqb-true c 64 e), (number_in_ok cs 0 4294967295 n.0 n.1).0)))
 
-beq_ok : (ws : List (List ℕ)) (p : Pending) → beq_of ws ≡ Ok p → SpellsPending p (codes "beq" ∷ ws)
-beq_ok [] p h = cc
-beq_ok (a ∷ []) p h = cc
-beq_ok (a ∷ b ∷ []) p h = cc
-beq_ok (a ∷ b ∷ t ∷ []) p h =
+target_ok : (o : JumpOperation) (ws : List (List ℕ)) (p : Pending) → with_target o ws ≡ Ok p → SpellsPending p (mnemonic (op.Jump o) ∷ ws)
+target_ok o [] p h = cc
+target_ok o (a ∷ []) p h = cc
+target_ok o (a ∷ b ∷ []) p h = cc
+target_ok o (a ∷ b ∷ t ∷ []) p h =
     let r = bind_ok (two a b) _ p h in
     let q = two_ok a b r.0 r.1 in
-    subst (SpellsPending p) (sym (same_words a b t r.0.0 r.0.1 q.0 q.1)) (jump_ok r.0.0 r.0.1 t p r.2)
-beq_ok (a ∷ b ∷ t ∷ u ∷ ws) p h = cc
+    subst (SpellsPending p) (sym (same_words o a b t r.0.0 r.0.1 q.0 q.1)) (jump_ok o r.0.0 r.0.1 t p r.2)
+target_ok o (a ∷ b ∷ t ∷ u ∷ ws) p h = cc
 
 alone_ok : (ws : List (List ℕ)) (i j : Instr) → alone ws i ≡ Ok j → (ws ≡ []) × (j ≡ i)
 alone_ok [] i j h = (refl, cc)
 alone_ok (w ∷ ws) i j h = cc
 
--- an instruction of one word
-sole_ok : (w : List ℕ) (ws : List (List ℕ)) (i : Instr) (p : Pending) → ((labels : List Mark) → SpellsInstr labels i (w ∷ [])) → (alone ws i >>= λ j. Ok (whole j)) ≡ Ok p → SpellsPending p (w ∷ ws)
-sole_ok w ws i p spelled h =
+pub instr_ok : (o : Operation) (ws : List (List ℕ)) (p : Pending) → instr_of o ws ≡ Ok p → SpellsPending p (mnemonic o ∷ ws)
+instr_ok (op.Number o) ws p h =
+    let g = bind_ok (with_number o ws) _ p h in
+    let q : whole g.0 ≡ p = cc (g.2) in
+    whole_ok g.0 p (mnemonic (op.Number o) ∷ ws) q (number_ok o ws g.0 g.1)
+instr_ok (op.Pair o) ws p h =
+    let g = bind_ok (pair_of ws) _ p h in
+    let i = instr_with (Pair o g.0.0 g.0.1) in
+    let q : whole i ≡ p = cc (g.2) in
+    whole_ok i p (mnemonic (op.Pair o) ∷ ws) q (λ labels. spelled_whole labels (Pair o g.0.0 g.0.1) _ (ap (λ x. mnemonic (op.Pair o) ∷ x) (pair_ok ws g.0 g.1)))
+instr_ok (op.Jump o) ws p h = target_ok o ws p h
+instr_ok (op.Lone o) ws p h =
+    let i = instr_with (Lone o) in
     let g = bind_ok (alone ws i) _ p h in
     let a = alone_ok ws i g.0 g.1 in
     let q : whole g.0 ≡ p = cc (g.2) in
-    whole_ok i p (w ∷ ws) (ap whole (sym a.1) ∙ q) (λ labels. subst (λ x. SpellsInstr labels i (w ∷ x)) (sym a.0) (spelled labels))
-
-pub instr_ok : (o : Operation) (ws : List (List ℕ)) (p : Pending) → instr_of o ws ≡ Ok p → SpellsPending p (op_word o ∷ ws)
-instr_ok op.Set ws p h =
-    let g = bind_ok (set_of ws) _ p h in
-    let q : whole g.0 ≡ p = cc (g.2) in
-    whole_ok g.0 p (codes "set" ∷ ws) q (set_ok ws g.0 g.1)
-instr_ok op.Read ws p h =
-    let g = bind_ok (pair_of ws) _ p h in
-    let q : whole (Read g.0.0 g.0.1) ≡ p = cc (g.2) in
-    whole_ok (Read g.0.0 g.0.1) p (codes "read" ∷ ws) q (λ labels. ap (λ x. codes "read" ∷ x) (pair_ok ws g.0 g.1))
-instr_ok op.Write ws p h =
-    let g = bind_ok (pair_of ws) _ p h in
-    let q : whole (Write g.0.0 g.0.1) ≡ p = cc (g.2) in
-    whole_ok (Write g.0.0 g.0.1) p (codes "write" ∷ ws) q (λ labels. ap (λ x. codes "write" ∷ x) (pair_ok ws g.0 g.1))
-instr_ok op.Insert ws p h =
-    let g = bind_ok (pair_of ws) _ p h in
-    let q : whole (Insert g.0.0 g.0.1) ≡ p = cc (g.2) in
-    whole_ok (Insert g.0.0 g.0.1) p (codes "insert" ∷ ws) q (λ labels. ap (λ x. codes "insert" ∷ x) (pair_ok ws g.0 g.1))
-instr_ok op.Add ws p h =
-    let g = bind_ok (pair_of ws) _ p h in
-    let q : whole (Add g.0.0 g.0.1) ≡ p = cc (g.2) in
-    whole_ok (Add g.0.0 g.0.1) p (codes "add" ∷ ws) q (λ labels. ap (λ x. codes "add" ∷ x) (pair_ok ws g.0 g.1))
-instr_ok op.Beq ws p h = beq_ok ws p h
-instr_ok op.Commit ws p h = sole_ok (codes "commit") ws Commit p (λ labels. refl) h
-instr_ok op.Abort ws p h = sole_ok (codes "abort") ws Abort p (λ labels. refl) h
+    whole_ok i p (mnemonic (op.Lone o) ∷ ws) (ap whole (sym a.1) ∙ q) (λ labels. spelled_whole labels (Lone o) _ (ap (λ x. mnemonic (op.Lone o) ∷ x) a.0))
 
 -- ---- rows
 

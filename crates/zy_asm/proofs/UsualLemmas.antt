@@ -3,19 +3,20 @@ use Rattle.std.proofs.Common.{◌≡◌, ◌∙◌, ℕ, ◌<◌, ◌+◌, List,
 use Rattle.zy_isa.specs.declared.node.Actor.{Actor}
 use Rattle.zy_isa.specs.declared.node.Actor.TheVariants as actor
 use Rattle.zy_isa.specs.declared.instr.Instr.{Instr}
+use Rattle.zy_isa.specs.declared.operation.Operation.{Operation}
 use Rattle.zy_isa.specs.declared.choice.Choice.{Choice}
-use Rattle.zy_asm.specs.declared.instructions.Operation.{Operation}
-use Rattle.zy_asm.specs.declared.instructions.Operation.TheVariants as op
+use Rattle.zy_isa.specs.Operations.{mnemonic, named}
 use Rattle.zy_asm.specs.declared.choices.Action.TheVariants.{Txn, Plain}
 use Rattle.zy_asm.specs.declared.choices.TxnAction.{TxnAction}
 use Rattle.zy_asm.specs.declared.state.Stage.TheVariants as stage
 use Rattle.zy_words.specs.Names.{is_numeral}
 use Rattle.zy_asm.specs.Pending.{whole}
-use Rattle.zy_asm.specs.Instructions.{operation_of, instr_of}
+use Rattle.zy_asm.specs.Instructions.{instr_of}
 use Rattle.zy_asm.specs.Choices.{actor_of, action_of, chosen, numbered}
 use Rattle.zy_asm.specs.Reading.{Seen, line_step, choice_line, repeat_choice, instr_line}
+use Rattle.zy_isa.proofs.OperationLemmas.{named_is, named_back}
 use Rattle.zy_isa.proofs.ResultLemmas.{over_not, not_below}
-use Rattle.zy_asm.proofs.SpellLemmas.{op_word, actor_word, operation_ok, actor_ok}
+use Rattle.zy_asm.proofs.SpellLemmas.{no_label, actor_word, actor_ok}
 
 -- ---- a choice
 
@@ -51,22 +52,15 @@ plain_taken s w v o c e few h f =
 
 -- ---- an instruction
 
-by_operation : (u : Seen) (o : Operation) (vs : List (List ℕ)) → line_step (record u { stage = stage.Program }) (op_word o ∷ vs) ≡ instr_line (record u { stage = stage.Program }) o vs
-by_operation u op.Set vs = refl
-by_operation u op.Read vs = refl
-by_operation u op.Write vs = refl
-by_operation u op.Insert vs = refl
-by_operation u op.Add vs = refl
-by_operation u op.Beq vs = refl
-by_operation u op.Commit vs = refl
-by_operation u op.Abort vs = refl
+by_operation : (u : Seen) (o : Operation) (vs : List (List ℕ)) → line_step (record u { stage = stage.Program }) (mnemonic o ∷ vs) ≡ instr_line (record u { stage = stage.Program }) o vs
+by_operation u o vs = rw (no_label o, named_back o) refl
 
 one_instr : (u : Seen) (o : Operation) (vs : List (List ℕ)) (i : Instr) → length u.instrs < 64 → instr_of o vs ≡ Ok (whole i) → instr_line u o vs ≡ Ok (record u { instrs = u.instrs ++ whole i ∷ [] })
 one_instr u o vs i few h = rw (h, not_below (length u.instrs) 64 few) refl
 
-pub instr_taken : (s : Seen) (w v t : List ℕ) (o : Operation) (i : Instr) → s.stage ≡ stage.Program → length s.instrs < 64 → operation_of w ≡ Some o
+pub instr_taken : (s : Seen) (w v t : List ℕ) (o : Operation) (i : Instr) → s.stage ≡ stage.Program → length s.instrs < 64 → named w ≡ Some o
     → instr_of o (v ∷ t ∷ []) ≡ Ok (whole i) → line_step s (w ∷ v ∷ t ∷ []) ≡ Ok (record s { instrs = s.instrs ++ whole i ∷ [] })
 instr_taken s w v t o i e few h f =
     let same : s ≡ record s { stage = stage.Program } = ap (λ x. record s { stage = x }) e in
-    let taken = ap (λ x. line_step (record s { stage = stage.Program }) (x ∷ v ∷ t ∷ [])) (operation_ok w o h) ∙ by_operation s o (v ∷ t ∷ []) ∙ one_instr (record s { stage = stage.Program }) o (v ∷ t ∷ []) i few f in
+    let taken = ap (λ x. line_step (record s { stage = stage.Program }) (x ∷ v ∷ t ∷ [])) (named_is w o h) ∙ by_operation s o (v ∷ t ∷ []) ∙ one_instr (record s { stage = stage.Program }) o (v ∷ t ∷ []) i few f in
     subst (λ (x : Seen). line_step x (w ∷ v ∷ t ∷ []) ≡ Ok (record x { instrs = x.instrs ++ whole i ∷ [] })) (sym same) taken

@@ -2,9 +2,11 @@
 use Rattle.std.specs.Prelude.{ℕ, List, [], ◌∷◌, Option, Some, None, Result, Ok, Err, ok_or}
 use Rattle.zy_isa.specs.declared.instr.Reg.{Reg}
 use Rattle.zy_isa.specs.declared.instr.Instr.{Instr}
-use Rattle.zy_isa.specs.declared.instr.Instr.TheVariants.{Beq}
+use Rattle.zy_isa.specs.declared.operation.JumpOperation.{JumpOperation}
+use Rattle.zy_isa.specs.declared.operation.Parts.TheVariants as parts
 use Rattle.zy_isa.specs.declared.program.ProgFault.{ProgFault}
 use Rattle.zy_isa.specs.Names.{Mark, place}
+use Rattle.zy_isa.specs.Operations.{instr_with}
 use Rattle.zy_isa.specs.Programs.{prog_fault}
 use Rattle.zy_isa.specs.Results.{◌>>=◌}
 use Rattle.zy_asm.specs.declared.faults.AsmKind.{AsmKind}
@@ -15,15 +17,15 @@ use Rattle.zy_asm.specs.declared.pending.Unresolved.TheVariants.{Whole, Jump}
 -- an instruction, or a jump to a label
 pub data Pending : Type 0 where
   whole : Instr → Pending
-  jump : Reg → Reg → List ℕ → Pending
+  jump : JumpOperation → Reg → Reg → List ℕ → Pending
 
 abbrev pub shown : Unresolved → Pending
 shown (Whole i) = whole i
-shown (Jump a b name) = jump a b name.items
+shown (Jump o a b name) = jump o a b name.items
 
 abbrev pub resolved : List Mark → Pending → Result Instr AsmKind
 resolved labels (whole i) = Ok i
-resolved labels (jump a b name) = ok_or (place name labels) kinds.Label >>= λ n. Ok (Beq a b n)
+resolved labels (jump o a b name) = ok_or (place name labels) kinds.Label >>= λ n. Ok (instr_with (parts.Jump o a b n))
 
 abbrev pub all_resolved : List Mark → List Pending → Result (List Instr) AsmKind
 all_resolved labels [] = Ok []

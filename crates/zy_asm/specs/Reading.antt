@@ -7,7 +7,9 @@ use Rattle.zy_isa.specs.declared.rule.Rule.{Rule as LockRule}
 use Rattle.zy_isa.specs.declared.rule.Rule.TheVariants.{Held, Loose}
 use Rattle.zy_isa.specs.declared.row.Row.{Row}
 use Rattle.zy_isa.specs.declared.instr.Instr.{Instr}
+use Rattle.zy_isa.specs.declared.operation.Operation.{Operation}
 use Rattle.zy_isa.specs.declared.choice.Choice.{Choice}
+use Rattle.zy_isa.specs.Operations.{named}
 use Rattle.zy_isa.specs.Words.{lines_of, words_of, number_of}
 use Rattle.zy_isa.specs.Rows.{last_row, is_low}
 use Rattle.zy_isa.specs.Scenario.{opening_pages_for}
@@ -20,7 +22,6 @@ use Rattle.zy_asm.specs.Reasons.{kind_of, fault_of}
 use Rattle.zy_asm.specs.declared.choices.Action.{Action}
 use Rattle.zy_asm.specs.declared.choices.Action.TheVariants.{Txn, Plain}
 use Rattle.zy_asm.specs.declared.choices.TxnAction.{TxnAction}
-use Rattle.zy_asm.specs.declared.instructions.Operation.{Operation}
 use Rattle.zy_asm.specs.declared.reading.Keyword.{Keyword}
 use Rattle.zy_asm.specs.declared.reading.Keyword.TheVariants as k
 use Rattle.zy_asm.specs.declared.state.Stage.{Stage}
@@ -31,7 +32,7 @@ use Rattle.zy_isa.specs.Results.{◌>>=◌}
 use Rattle.zy_words.specs.Names.{is_numeral, label_of}
 use Rattle.zy_asm.specs.Pending.{Pending, shown, program_of}
 use Rattle.zy_asm.specs.Steps.{number_in}
-use Rattle.zy_asm.specs.Instructions.{operation_of, instr_of}
+use Rattle.zy_asm.specs.Instructions.{instr_of}
 use Rattle.zy_asm.specs.Choices.{actor_of, action_of, chosen, transaction, are_times, times_of}
 
 -- what the lines so far gave
@@ -66,7 +67,7 @@ seen r = record {
 -- the first word of a statement below the header
 abbrev pub keyword_of : List ℕ → Option Keyword
 keyword_of w =
-    option_or (option_map k.Instr (operation_of w)) (
+    option_or (option_map k.Instr (named w)) (
     option_or (option_map k.Choice (actor_of w)) (
     if bytes_eq w (codes "row") then Some k.Row else
     if bytes_eq w (codes "txn") then Some k.Txn else

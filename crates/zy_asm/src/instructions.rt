@@ -3,7 +3,7 @@ ghost use Rattle.std.specs.Prelude.{◌≡◌, ◌∷◌, [], Ok, IfSome, ok_or}
 ghost use Rattle.zy_asm.specs.Reasons.{by_kind, kind_of, Gives};
 ghost use Rattle.zy_words.specs.Lines.{texts};
 ghost use Rattle.zy_asm.specs.Pending.{shown, whole};
-ghost use Rattle.zy_asm.specs.Instructions.{register_of as register_of_spec, two as two_spec, pair_of as pair_of_spec, jump_to as jump_to_spec, operation_of as operation_of_spec, set_to as set_to_spec, set_of as set_of_spec, jump_where as jump_where_spec, beq_of as beq_of_spec, alone as alone_spec, instr_of as instr_of_spec};
+ghost use Rattle.zy_asm.specs.Instructions.{register_of as register_of_spec, two as two_spec, pair_of as pair_of_spec, jump_to as jump_to_spec, number_to as number_to_spec, with_number as with_number_spec, jump_where as jump_where_spec, with_target as with_target_spec, alone as alone_spec, instr_of as instr_of_spec};
 
 use crate::faults::{AsmKind, Reason};
 use crate::numbers::{number_in, within};
@@ -11,46 +11,8 @@ use crate::pending::Unresolved;
 use crate::shown::Shown;
 use std::alloc::Global;
 use zy_isa::instr::{Instr, Reg};
-use zy_words::names::{is, is_name};
-
-/// The first words of instructions.
-#[derive(Clone, Copy, Debug, PartialEq, Eq)]
-pub enum Operation {
-    Set,
-    Read,
-    Write,
-    Insert,
-    Add,
-    Beq,
-    Commit,
-    Abort,
-}
-
-/// The operation that a word names.
-#[inline(always)]
-pub fn operation_of(word: &[u8]) -> Option<Operation>
-    ensures { result ≡ operation_of_spec word.now }
-{
-    if is(word, b"set") {
-        Some(Operation::Set)
-    } else if is(word, b"read") {
-        Some(Operation::Read)
-    } else if is(word, b"write") {
-        Some(Operation::Write)
-    } else if is(word, b"insert") {
-        Some(Operation::Insert)
-    } else if is(word, b"add") {
-        Some(Operation::Add)
-    } else if is(word, b"beq") {
-        Some(Operation::Beq)
-    } else if is(word, b"commit") {
-        Some(Operation::Commit)
-    } else if is(word, b"abort") {
-        Some(Operation::Abort)
-    } else {
-        None
-    }
-}
+use zy_isa::operation::{JumpOperation, NumberOperation, Operation, Parts};
+use zy_words::names::is_name;
 
 /// The register that a word names.
 #[inline(always)]
@@ -109,64 +71,81 @@ fn not_pair(words: &[&[u8]]) -> Reason
     }
 }
 
-/// `beq` to the target `@N`, or to a label.
-fn jump_to(alloc: Global, a: Reg, b: Reg, target: &[u8]) -> Result<Unresolved, Reason>
-    ensures { Gives shown result (jump_to_spec a b target.now) }
+/// An operation with two registers, and with the target `@N` or a label.
+fn jump_to(
+    alloc: Global,
+    operation: JumpOperation,
+    a: Reg,
+    b: Reg,
+    target: &[u8],
+) -> Result<Unresolved, Reason>
+    ensures { Gives shown result (jump_to_spec operation a b target.now) }
 {
     match target {
         [] => Err(Reason::NotAName(Shown::of(target))),
         [b'@', number @ ..] => {
             let number = number_in(number, 0, u64::from(u32::MAX))?;
-            Ok(Unresolved::Whole(Instr::Beq(a, b, number as u32)))
+            Ok(Unresolved::Whole(Parts::Jump(operation, a, b, number as u32).instr()))
         }
         _ => {
             if !is_name(target) {
                 return Err(Reason::NotAName(Shown::of(target)));
             }
             match target.to_vec(alloc) {
-                Ok(label) => Ok(Unresolved::Jump(a, b, label)),
+                Ok(label) => Ok(Unresolved::Jump(operation, a, b, label)),
                 Err(_) => Err(Reason::NoMemory),
             }
         }
     }
 }
 
-fn set_to(a: &[u8], number: &[u8]) -> Result<Instr, Reason>
-    ensures { by_kind result ≡ set_to_spec a.now number.now }
+/// An operation with the register and the number that two words name.
+fn number_to(operation: NumberOperation, a: &[u8], number: &[u8]) -> Result<Instr, Reason>
+    ensures { by_kind result ≡ number_to_spec operation a.now number.now }
 {
     let Some(register) = register_of(a) else {
         return Err(Reason::NotKnown(Shown::of(a)));
     };
     let number = number_in(number, 0, u64::from(u32::MAX))? as u32;
-    Ok(Instr::Set(register, number))
+    Ok(Parts::Number(operation, register, number).instr())
 }
 
-/// What follows `set`.
-fn set_of(words: &[&[u8]]) -> Result<Instr, Reason>
-    ensures { by_kind result ≡ set_of_spec (texts words.now) }
+/// The same with the words behind the operation.
+fn with_number(operation: NumberOperation, words: &[&[u8]]) -> Result<Instr, Reason>
+    ensures { by_kind result ≡ with_number_spec operation (texts words.now) }
 {
     match words {
-        [a, number] => set_to(a, number),
+        [a, number] => number_to(operation, a, number),
         _ => Err(Reason::WordCount),
     }
 }
 
-/// `beq` of these registers and this target.
-fn jump_where(alloc: Global, a: &[u8], b: &[u8], target: &[u8]) -> Result<Unresolved, Reason>
-    ensures { Gives shown result (jump_where_spec a.now b.now target.now) }
+/// An operation with the registers and the target that three words name.
+fn jump_where(
+    alloc: Global,
+    operation: JumpOperation,
+    a: &[u8],
+    b: &[u8],
+    target: &[u8],
+) -> Result<Unresolved, Reason>
+    ensures { Gives shown result (jump_where_spec operation a.now b.now target.now) }
 {
     match two(a, b) {
-        Some((a, b)) => jump_to(alloc, a, b, target),
+        Some((a, b)) => jump_to(alloc, operation, a, b, target),
         None => Err(not_two(a, b)),
     }
 }
 
-/// What follows `beq`.
-fn beq_of(alloc: Global, words: &[&[u8]]) -> Result<Unresolved, Reason>
-    ensures { Gives shown result (beq_of_spec (texts words.now)) }
+/// The same with the words behind the operation.
+fn with_target(
+    alloc: Global,
+    operation: JumpOperation,
+    words: &[&[u8]],
+) -> Result<Unresolved, Reason>
+    ensures { Gives shown result (with_target_spec operation (texts words.now)) }
 {
     match words {
-        [a, b, target] => jump_where(alloc, a, b, target),
+        [a, b, target] => jump_where(alloc, operation, a, b, target),
         _ => Err(Reason::WordCount),
     }
 }
@@ -188,27 +167,17 @@ pub fn whole_of(operation: Operation, a: &[u8], b: &[u8]) -> Option<Instr>
     ensures { IfSome result (λ i. instr_of_spec operation (a.now ∷ b.now ∷ []) ≡ Ok (whole i)) }
 {
     match operation {
-        Operation::Set => Some(Instr::Set(
-            register_of(a)?,
-            within(b, 0, u64::from(u32::MAX))? as u32,
-        )),
-        Operation::Read => {
-            let (a, b) = two(a, b)?;
-            Some(Instr::Read(a, b))
+        Operation::Number(operation) => {
+            let register = register_of(a)?;
+            let number = within(b, 0, u64::from(u32::MAX))? as u32;
+            Some(Parts::Number(operation, register, number).instr())
         }
-        Operation::Write => {
+        Operation::Pair(operation) => {
             let (a, b) = two(a, b)?;
-            Some(Instr::Write(a, b))
+            Some(Parts::Pair(operation, a, b).instr())
         }
-        Operation::Insert => {
-            let (a, b) = two(a, b)?;
-            Some(Instr::Insert(a, b))
-        }
-        Operation::Add => {
-            let (a, b) = two(a, b)?;
-            Some(Instr::Add(a, b))
-        }
-        _ => None,
+        Operation::Jump(_) => None,
+        Operation::Lone(_) => None,
     }
 }
 
@@ -217,26 +186,13 @@ pub fn instr_of(alloc: Global, operation: Operation, words: &[&[u8]]) -> Result<
     ensures { Gives shown result (instr_of_spec operation (texts words.now)) }
 {
     let instr = match operation {
-        Operation::Set => set_of(words)?,
-        Operation::Read => match pair_of(words) {
-            Some((a, b)) => Instr::Read(a, b),
+        Operation::Number(operation) => with_number(operation, words)?,
+        Operation::Pair(operation) => match pair_of(words) {
+            Some((a, b)) => Parts::Pair(operation, a, b).instr(),
             None => return Err(not_pair(words)),
         },
-        Operation::Write => match pair_of(words) {
-            Some((a, b)) => Instr::Write(a, b),
-            None => return Err(not_pair(words)),
-        },
-        Operation::Insert => match pair_of(words) {
-            Some((a, b)) => Instr::Insert(a, b),
-            None => return Err(not_pair(words)),
-        },
-        Operation::Add => match pair_of(words) {
-            Some((a, b)) => Instr::Add(a, b),
-            None => return Err(not_pair(words)),
-        },
-        Operation::Beq => return beq_of(alloc, words),
-        Operation::Commit => alone(words, Instr::Commit)?,
-        Operation::Abort => alone(words, Instr::Abort)?,
+        Operation::Jump(operation) => return with_target(alloc, operation, words),
+        Operation::Lone(operation) => alone(words, Parts::Lone(operation).instr())?,
     };
     Ok(Unresolved::Whole(instr))
 }

@@ -9,15 +9,16 @@ use crate::shown::Shown;
 use crate::table::Table;
 use std::alloc::Global;
 use zy_isa::instr::{Instr, Reg};
-use zy_isa::program::{ProgFault, Program};
+use zy_isa::operation::{JumpOperation, Parts};
+use zy_isa::program::Program;
 
 /// An instruction whose label, if it has one, is still to be found.
 #[derive(Debug, Drop)]
 pub enum Unresolved {
     /// An instruction that names no label.
     Whole(Instr),
-    /// `beq` with two registers and this label.
-    Jump(Reg, Reg, Vec<u8>),
+    /// An operation with two registers and this label.
+    Jump(JumpOperation, Reg, Reg, Vec<u8>),
 }
 
 /// The instruction, where the labels of its program are these.
@@ -26,11 +27,11 @@ fn resolved(labels: &Table, instr: &Unresolved) -> Result<Instr, Reason>
 {
     match instr {
         Unresolved::Whole(instr) => Ok(*instr),
-        Unresolved::Jump(a, b, label) => {
+        Unresolved::Jump(operation, a, b, label) => {
             let Some(target) = labels.find(label.as_slice()) else {
                 return Err(Reason::NoLabel(Shown::of(label.as_slice())));
             };
-            Ok(Instr::Beq(*a, *b, u32::from(target)))
+            Ok(Parts::Jump(*operation, *a, *b, u32::from(target)).instr())
         }
     }
 }
@@ -50,12 +51,11 @@ fn all_resolved(alloc: Global, labels: &Table, instrs: &[Unresolved]) -> Result<
 }
 
 /// The program of these instructions, which has this number.
-fn judged(alloc: Global, number: usize, instrs: &[Instr]) -> Result<Program, Reason>
-    ensures { Gives (λ p. p) result (judged_spec (prog_fault instrs.now) instrs.now) }
+fn judged(number: usize, instrs: Vec<Instr>) -> Result<Program, Reason>
+    ensures { Gives (λ p. p) result (judged_spec (prog_fault instrs.items) instrs.items) }
 {
-    match Program::verify(alloc, instrs) {
+    match Program::of_instrs(instrs) {
         Ok(program) => Ok(program),
-        Err(ProgFault::Memory) => Err(Reason::NoMemory),
         Err(fault) => Err(Reason::NoProgram { number, fault }),
     }
 }
@@ -70,5 +70,5 @@ pub fn program_of(
     ensures { Gives (λ p. p) result (program_of_spec labels.now (map shown instrs.now)) }
 {
     let instrs = all_resolved(alloc, labels, instrs)?;
-    judged(alloc, number, instrs.as_slice())
+    judged(number, instrs)
 }

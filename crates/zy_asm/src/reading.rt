@@ -10,7 +10,7 @@ use crate::choices::{
     plain_choice, times_of, transaction,
 };
 use crate::faults::{Reason, Refusal};
-use crate::instructions::{Operation, instr_of, operation_of, whole_of};
+use crate::instructions::{instr_of, whole_of};
 use crate::numbers::number_in;
 use crate::pending::{Unresolved, program_of};
 use crate::shown::Shown;
@@ -20,6 +20,7 @@ use std::alloc::Global;
 use zy_isa::choice::Choice;
 use zy_isa::instr::Instr;
 use zy_isa::node::Actor;
+use zy_isa::operation::Operation;
 use zy_isa::program::MAX_INSTRS;
 use zy_isa::row::Row;
 use zy_isa::rule::Rule;
@@ -49,7 +50,7 @@ pub enum Keyword {
 fn keyword_of(word: &[u8]) -> Option<Keyword>
     ensures { result ≡ keyword_of_spec word.now }
 {
-    if let Some(operation) = operation_of(word) {
+    if let Some(operation) = Operation::named(word) {
         return Some(Keyword::Instr(operation));
     }
     if let Some(actor) = actor_of(word) {
@@ -501,7 +502,7 @@ impl Reader {
         if self.instrs.len() >= MAX_INSTRS {
             return None;
         }
-        let operation = operation_of(operation)?;
+        let operation = Operation::named(operation)?;
         let instr = whole_of(operation, a, b)?;
         Some(instr)
     }

@@ -21,15 +21,20 @@ use Rattle.zy_isa.specs.declared.row.Row.{Row}
 use Rattle.zy_isa.specs.declared.instr.Reg.{Reg}
 use Rattle.zy_isa.specs.declared.instr.Reg.TheVariants.{R0, R1, R2, R3, R4, R5, R6, R7}
 use Rattle.zy_isa.specs.declared.instr.Instr.{Instr}
-use Rattle.zy_isa.specs.declared.instr.Instr.TheVariants.{Set, Read, Write, Insert, Add, Beq, Commit, Abort}
+use Rattle.zy_isa.specs.declared.operation.Operation.{Operation}
+use Rattle.zy_isa.specs.declared.operation.Operation.TheVariants as op
+use Rattle.zy_isa.specs.declared.operation.Parts.{Parts}
+use Rattle.zy_isa.specs.declared.operation.Parts.TheVariants.{Number, Pair, Jump, Lone}
 use Rattle.zy_isa.specs.declared.choice.Choice.{Choice}
 use Rattle.zy_isa.specs.declared.choice.Choice.TheVariants.{Start, Begin, Kill, Run, Take, Finish, Push}
 use Rattle.zy_isa.specs.Words.{is_space, is_word, lines_of, spaced}
-use Rattle.zy_isa.specs.Canon.{node_text, rule_text, reg_text, instr_words, choice_words, row_words, header_words, program_words, canon}
+use Rattle.zy_isa.specs.Operations.{mnemonic, parts_of}
+use Rattle.zy_isa.specs.Canon.{node_text, rule_text, reg_text, parts_words, instr_words, choice_words, row_words, header_words, program_words, canon}
 use Rattle.zy_isa.specs.Rows.{RowsFit}
-use Rattle.zy_isa.specs.Programs.{HasValue, Values}
+use Rattle.zy_isa.specs.Programs.{PartsFit, HasValue, Values}
 use Rattle.zy_isa.specs.Choices.{names_below}
 use Rattle.zy_isa.specs.Scenario.{Scenario, IsScenario, ArePrograms, AreNamed}
+use Rattle.zy_isa.proofs.OperationLemmas.{each}
 use Rattle.zy_isa.proofs.ResultLemmas.{both}
 use Rattle.zy_words.proofs.FeedLemmas.{one_plus}
 use Rattle.zy_asm.specs.Input.{utf8_fault}
@@ -182,18 +187,24 @@ number_last w v n few h g = rw (h, g, number_plain n few) refl
 number_second : (w : List ℕ) (n : ℕ) → n < 2 ^ 32 → are_plain w ≡ true → all_plain (w ∷ decimal n ∷ []) ≡ true
 number_second w n few h = rw (h, number_plain n few) refl
 
-beq_plain : (a b : Reg) (n : ℕ) → n < 2 ^ 32 → all_plain (codes "beq" ∷ reg_text a ∷ reg_text b ∷ (64 ∷ decimal n) ∷ []) ≡ true
-beq_plain a b n h = rw (reg_plain a, reg_plain b, number_plain n h) refl
+target_last : (w : List ℕ) (a b : Reg) (n : ℕ) → n < 2 ^ 32 → are_plain w ≡ true → all_plain (w ∷ reg_text a ∷ reg_text b ∷ (64 ∷ decimal n) ∷ []) ≡ true
+target_last w a b n few h = rw (h, reg_plain a, reg_plain b, number_plain n few) refl
+
+operation_plain : (o : Operation) → (are_plain (mnemonic o) ≡ true) × (opens (mnemonic o) ≡ true)
+operation_plain o = both (are_plain (mnemonic o)) (opens (mnemonic o)) (each (λ x. are_plain (mnemonic x) && opens (mnemonic x)) refl o)
+
+opens_more : (w v : List ℕ) → opens w ≡ true → opens (w ++ v) ≡ true
+opens_more [] v h = absurd (cc)
+opens_more (b ∷ bs) v h = h
+
+plain_parts : (p : Parts) → PartsFit p → (all_plain (parts_words p) ≡ true) × (opens (spaced (parts_words p)) ≡ true)
+plain_parts (Number o a n) h = let w = operation_plain (op.Number o) in (number_last (mnemonic (op.Number o)) (reg_text a) n h w.0 (reg_plain a), opens_more (mnemonic (op.Number o)) _ w.1)
+plain_parts (Pair o a b) h = let w = operation_plain (op.Pair o) in (pair_plain (mnemonic (op.Pair o)) a b w.0, opens_more (mnemonic (op.Pair o)) _ w.1)
+plain_parts (Jump o a b n) h = let w = operation_plain (op.Jump o) in (target_last (mnemonic (op.Jump o)) a b n h w.0, opens_more (mnemonic (op.Jump o)) _ w.1)
+plain_parts (Lone o) h = let w = operation_plain (op.Lone o) in (rw w.0 refl, w.1)
 
 plain_instr : (i : Instr) → HasValue i → (all_plain (instr_words i) ≡ true) × (opens (spaced (instr_words i)) ≡ true)
-plain_instr (Set a n) h = (number_last (codes "set") (reg_text a) n h refl (reg_plain a), refl)
-plain_instr (Read a b) h = (pair_plain (codes "read") a b refl, refl)
-plain_instr (Write a b) h = (pair_plain (codes "write") a b refl, refl)
-plain_instr (Insert a b) h = (pair_plain (codes "insert") a b refl, refl)
-plain_instr (Add a b) h = (pair_plain (codes "add") a b refl, refl)
-plain_instr (Beq a b n) h = (beq_plain a b n h, refl)
-plain_instr Commit h = (refl, refl)
-plain_instr Abort h = (refl, refl)
+plain_instr i h = plain_parts (parts_of i) h
 
 plain_instrs : (is : List Instr) → Values is → ArePlain (map instr_words is)
 plain_instrs [] h = tt

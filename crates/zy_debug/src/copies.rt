@@ -76,7 +76,7 @@ impl Copies {
         position.saturating_sub(self.every)
     }
 
-    /// The position halfway to another, where the way is longer than a sixty-fourth of `every`.
+    /// The position halfway to another, where the way is longer than a sixty-fourth of `every`; a way of one choice has none.
     pub fn halfway(&self, position: usize, target: usize) -> Option<usize>
         ensures { IfSome result (λ due. (position < due) × (due ≤ target)) }
     {

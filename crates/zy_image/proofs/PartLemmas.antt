@@ -11,8 +11,10 @@ use Rattle.zy_isa.specs.declared.node.Node.{Node}
 use Rattle.zy_isa.specs.declared.node.Node.TheVariants as node
 use Rattle.zy_isa.specs.declared.choice.Choice.{Choice}
 use Rattle.zy_isa.specs.declared.choice.Choice.TheVariants.{Start, Begin, Kill, Run, Take, Finish, Push}
-use Rattle.zy_isa.specs.declared.instr.Instr.TheVariants.{Set, Read as read, Write, Insert, Add, Beq, Commit, Abort}
-use Rattle.zy_isa.specs.InstrWords.{word_of, IsWordOf}
+use Rattle.zy_isa.specs.declared.operation.Parts.{Parts}
+use Rattle.zy_isa.specs.declared.operation.Parts.TheVariants.{Number, Pair, Jump, Lone}
+use Rattle.zy_isa.specs.InstrWords.{word_with, word_of, IsWordOf}
+use Rattle.zy_isa.specs.Operations.{parts_of}
 use Rattle.zy_isa.specs.WordFields.{decoded}
 use Rattle.zy_isa.specs.Programs.{HasValue, Values}
 use Rattle.zy_isa.specs.Rows.{Rising, RowsFit, misplaced_row, last_row, is_low}
@@ -94,19 +96,15 @@ instr_found t size is bytes i left any fit h =
       kept = tt;
     }
 
-word_size : (i : Instr) → length (word_of i) ≡ 8
-word_size (Set a n) = refl
-word_size (read a b) = refl
-word_size (Write a b) = refl
-word_size (Insert a b) = refl
-word_size (Add a b) = refl
-word_size (Beq a b n) = refl
-word_size Commit = refl
-word_size Abort = refl
+word_size : (p : Parts) → length (word_with p) ≡ 8
+word_size (Number o a n) = refl
+word_size (Pair o a b) = refl
+word_size (Jump o a b n) = refl
+word_size (Lone o) = refl
 
 instr_gives : (t size : ℕ) (before : List Instr) (i : Instr) (left : List ℕ) → HasValue i → next_instr t size before (word_of i ++ left) ≡ Ok (i, left)
 instr_gives t size before i left v =
-    let e : field 8 size (word_of i ++ left) ≡ Ok (word_of i, left) = subst (λ n. field n size (word_of i ++ left) ≡ Ok (word_of i, left)) (word_size i) (field_gives size (word_of i) left) in
+    let e : field 8 size (word_of i ++ left) ≡ Ok (word_of i, left) = subst (λ n. field n size (word_of i ++ left) ≡ Ok (word_of i, left)) (word_size (parts_of i)) (field_gives size (word_of i) left) in
     rw e (rw (decoded_only i v) refl)
 
 pub instrs_read : (t size : ℕ) (is before : List Instr) → Values is → AreRead word_of (next_instr t size) before is

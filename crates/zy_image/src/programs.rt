@@ -63,13 +63,11 @@ fn instrs(
 }
 
 /// The program of a transaction with these instructions.
-fn verified(alloc: Global, txn: usize, instrs: &[Instr]) -> Result<Program, LoadFault>
-    ensures { MatchResult result (λ p. judged txn (prog_fault instrs.now) instrs.now ≡ Ok p)
-        (λ e. (e ≡ Memory) ⊎ (judged txn (prog_fault instrs.now) instrs.now ≡ Err e)) }
+fn verified(txn: usize, instrs: Vec<Instr>) -> Result<Program, LoadFault>
+    ensures { result ≡ judged txn (prog_fault instrs.items) instrs.items }
 {
-    match Program::verify(alloc, instrs) {
+    match Program::of_instrs(instrs) {
         Ok(program) => Ok(program),
-        Err(ProgFault::Memory) => Err(LoadFault::Memory),
         Err(fault) => Err(LoadFault::Program(txn, fault)),
     }
 }
@@ -93,7 +91,7 @@ impl Items for ProgramItems {
     ) -> Result<(Program, &'a [u8]), LoadFault> {
         let txn = before.len();
         let (instrs, left) = instrs(self.alloc, txn, self.size, bytes)?;
-        let program = verified(self.alloc, txn, instrs.as_slice())?;
+        let program = verified(txn, instrs)?;
         Ok((program, left))
     }
 }

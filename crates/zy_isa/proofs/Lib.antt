@@ -1,4 +1,5 @@
 pub mod ScenarioLemmas
+pub mod OperationLemmas
 pub mod WordLemmas
 pub mod ProgramLemmas
 pub mod ResultLemmas

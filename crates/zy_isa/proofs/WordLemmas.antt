@@ -1,5 +1,5 @@
 -- A word gives the instruction whose word it is.
-use Rattle.std.proofs.Common.{◌≡◌, ◌==◌, ℕ, zero, suc, ◌+◌, ◌<◌, ◌^◌, true, List, [], ◌∷◌, length, get_or, Option, Some, None, IfSome, refl, sym, ap, ◌∙◌, subst, arith}
+use Rattle.std.proofs.Common.{◌≡◌, ◌==◌, ℕ, zero, suc, ◌+◌, ◌<◌, ◌^◌, ◌&&◌, List, [], ◌∷◌, length, get_or, Option, Some, None, IfSome, refl, sym, ap, ◌∙◌, subst, arith}
 use Rattle.std.proofs.lemmas.Bool.{cond_both}
 use Rattle.std.proofs.lemmas.List.{drop_more, drop_all}
 use Rattle.std.proofs.lemmas.Nat.{be_bytes_4, from_be_bytes-to_be_bytes_4}
@@ -8,16 +8,17 @@ use Rattle.std.specs.Int.{w32, to_be_bytes, from_be_bytes}
 use Rattle.zy_isa.specs.declared.instr.Reg.{Reg}
 use Rattle.zy_isa.specs.declared.instr.Reg.TheVariants.{R0, R1, R2, R3, R4, R5, R6, R7}
 use Rattle.zy_isa.specs.declared.instr.Instr.{Instr}
-use Rattle.zy_isa.specs.declared.instr.Instr.TheVariants.{Set, Read, Write, Insert, Add, Beq, Commit, Abort}
-use Rattle.zy_isa.specs.Registers.{number_of}
-use Rattle.zy_isa.specs.Programs.{HasValue}
-use Rattle.zy_isa.specs.InstrWords.{word, word_of, IsWordOf}
-use Rattle.zy_isa.specs.WordFields.{decoded}
-use Rattle.zy_isa.specs.WordFields.{register_at, pair_of, registers_at, set_at, pair_at, beq_at, bare_at, instr_at}
-use borrow.Author.Tests.{tests}
-
-same_number : (n k : ℕ) → (n == k) ≡ true → n ≡ k
-same_number n k e = grind (arith, tests)
+use Rattle.zy_isa.specs.declared.operation.Operation.{Operation}
+use Rattle.zy_isa.specs.declared.operation.Operation.TheVariants as op
+use Rattle.zy_isa.specs.declared.operation.Parts.{Parts}
+use Rattle.zy_isa.specs.declared.operation.Parts.TheVariants.{Number, Pair, Jump, Lone}
+use Rattle.zy_isa.specs.Registers.{number_of, registers}
+use Rattle.zy_isa.specs.Programs.{HasValue, PartsFit}
+use Rattle.zy_isa.specs.Operations.{opcode, coded, instr_with, parts_of}
+use Rattle.zy_isa.specs.InstrWords.{word, word_with, word_of, IsWordOf}
+use Rattle.zy_isa.specs.WordFields.{register_at, pair_of, registers_at, parts_at, instr_at, decoded}
+use Rattle.zy_isa.proofs.ResultLemmas.{both}
+use Rattle.zy_isa.proofs.OperationLemmas.{same_number, found_passes, coded_is, coded_back, instr_again, parts_again}
 
 -- ---- what the fields give has them
 
@@ -25,15 +26,11 @@ abbrev Names : ℕ → Option Reg → Type 0
 Names n o = IfSome o (λ r. n ≡ number_of r)
 
 register_names : (n : ℕ) → Names n (register_at n)
-register_names n =
-    cond_both (n == 0) _ _ (Names n) (λ e. same_number n 0 e) (λ _.
-    cond_both (n == 1) _ _ (Names n) (λ e. same_number n 1 e) (λ _.
-    cond_both (n == 2) _ _ (Names n) (λ e. same_number n 2 e) (λ _.
-    cond_both (n == 3) _ _ (Names n) (λ e. same_number n 3 e) (λ _.
-    cond_both (n == 4) _ _ (Names n) (λ e. same_number n 4 e) (λ _.
-    cond_both (n == 5) _ _ (Names n) (λ e. same_number n 5 e) (λ _.
-    cond_both (n == 6) _ _ (Names n) (λ e. same_number n 6 e) (λ _.
-    cond_both (n == 7) _ _ (Names n) (λ e. same_number n 7 e) (λ _. tt))))))))
+register_names n = if_some (register_at n) (λ r. n ≡ number_of r) (λ r h. same_number n (number_of r) (found_passes (λ x. n == number_of x) registers r h))
+  where
+    if_some : {X : Type 0} (o : Option X) (P : X → Type 0) → ((x : X) → o ≡ Some x → P x) → IfSome o P
+    if_some None P h = tt
+    if_some (Some x) P h = h x refl
 
 abbrev NamePair : ℕ → ℕ → Option (Reg × Reg) → Type 0
 NamePair a b o = IfSome o (λ p. (a ≡ number_of p.0) × (b ≡ number_of p.1))
@@ -50,42 +47,34 @@ mapped : {X Y : Type 0} (f : X → Y) (o : Option X) (P : X → Type 0) (Q : Y �
 mapped f None P Q k h = tt
 mapped f (Some x) P Q k h = k x h
 
--- the instruction, if there is one, has these fields
-module _ (o a b n : ℕ) where
-  abbrev Has : Instr → Type 0
-  Has i = HasValue i × (word o a b n ≡ word_of i)
+-- the operands, if the fields hold them, have these fields
+module _ (o : Operation) (a b n : ℕ) where
+  abbrev Has : Parts → Type 0
+  Has p = PartsFit p × (word (opcode o) a b n ≡ word_with p)
 
-  abbrev MayHave : Option Instr → Type 0
+  abbrev MayHave : Option Parts → Type 0
   MayHave x = IfSome x Has
 
-  set_has : o ≡ 0 → n < 2 ^ 32 → MayHave (set_at a b n)
-  set_has e v = cond_both (b == 0) _ _ MayHave (λ z. mapped (λ r. Set r n) (register_at a) (λ r. a ≡ number_of r) Has (λ r g. (v, rw (e, g, same_number b 0 z) refl)) (register_names a)) (λ _. tt)
+parts_have : (o : Operation) (a b n : ℕ) → n < 2 ^ 32 → MayHave o a b n (parts_at o a b n)
+parts_have (op.Number o) a b n v =
+    cond_both (b == 0) _ _ (MayHave (op.Number o) a b n)
+    (λ z. mapped (λ r. Number o r n) (register_at a) (λ r. a ≡ number_of r) (Has (op.Number o) a b n) (λ r g. (v, rw (g, same_number b 0 z) refl)) (register_names a)) (λ _. tt)
+parts_have (op.Pair o) a b n v =
+    cond_both (n == 0) _ _ (MayHave (op.Pair o) a b n)
+    (λ z. mapped (λ p. Pair o p.0 p.1) (registers_at a b) _ (Has (op.Pair o) a b n) (λ p g. (tt, rw (g.0, g.1, same_number n 0 z) refl)) (registers_name a b)) (λ _. tt)
+parts_have (op.Jump o) a b n v = mapped (λ p. Jump o p.0 p.1 n) (registers_at a b) _ (Has (op.Jump o) a b n) (λ p g. (v, rw (g.0, g.1) refl)) (registers_name a b)
+parts_have (op.Lone o) a b n v =
+    cond_both (a == 0 && b == 0 && n == 0) _ _ (MayHave (op.Lone o) a b n)
+    (λ z.
+    let x = both (a == 0 && b == 0) (n == 0) z in
+    let y = both (a == 0) (b == 0) x.0 in
+    (tt, rw (same_number a 0 y.0, same_number b 0 y.1, same_number n 0 x.1) refl)) (λ _. tt)
 
-  pair_has : (f : Reg → Reg → Instr) (k : ℕ) → o ≡ k → ((x y : Reg) → HasValue (f x y) × (word k (number_of x) (number_of y) 0 ≡ word_of (f x y))) → MayHave (pair_at f a b n)
-  pair_has f k e h =
-      cond_both (n == 0) _ _ MayHave
-      (λ z. mapped (λ p. f p.0 p.1) (registers_at a b) _ Has (λ p g. ((h p.0 p.1).0, rw (e, g.0, g.1, same_number n 0 z) ((h p.0 p.1).1))) (registers_name a b)) (λ _. tt)
-
-  beq_has : o ≡ 5 → n < 2 ^ 32 → MayHave (beq_at a b n)
-  beq_has e v = mapped (λ p. Beq p.0 p.1 n) (registers_at a b) _ Has (λ p g. (v, rw (e, g.0, g.1) refl)) (registers_name a b)
-
-  bare_has : (i : Instr) (k : ℕ) → o ≡ k → HasValue i → word k 0 0 0 ≡ word_of i → MayHave (bare_at i a b n)
-  bare_has i k e v h =
-      cond_both (a == 0) _ _ MayHave (λ x.
-      cond_both (b == 0) _ _ MayHave (λ y.
-      cond_both (n == 0) _ _ MayHave (λ z. (v, rw (e, same_number a 0 x, same_number b 0 y, same_number n 0 z) h))
-      (λ _. tt)) (λ _. tt)) (λ _. tt)
-
-  instr_has : n < 2 ^ 32 → MayHave (instr_at o a b n)
-  instr_has v =
-      cond_both (o == 0) _ _ MayHave (λ e. set_has (same_number o 0 e) v) (λ _.
-      cond_both (o == 1) _ _ MayHave (λ e. pair_has Read 1 (same_number o 1 e) (λ x y. (tt, refl))) (λ _.
-      cond_both (o == 2) _ _ MayHave (λ e. pair_has Write 2 (same_number o 2 e) (λ x y. (tt, refl))) (λ _.
-      cond_both (o == 3) _ _ MayHave (λ e. pair_has Insert 3 (same_number o 3 e) (λ x y. (tt, refl))) (λ _.
-      cond_both (o == 4) _ _ MayHave (λ e. pair_has Add 4 (same_number o 4 e) (λ x y. (tt, refl))) (λ _.
-      cond_both (o == 5) _ _ MayHave (λ e. beq_has (same_number o 5 e) v) (λ _.
-      cond_both (o == 6) _ _ MayHave (λ e. bare_has Commit 6 (same_number o 6 e) tt refl) (λ _.
-      cond_both (o == 7) _ _ MayHave (λ e. bare_has Abort 7 (same_number o 7 e) tt refl) (λ _. tt))))))))
+instr_has : (k a b n : ℕ) (x : Option Operation) → coded k ≡ x → n < 2 ^ 32 → IfSome (instr_at x a b n) (λ i. HasValue i × (word k a b n ≡ word_of i))
+instr_has k a b n None e v = tt
+instr_has k a b n (Some o) e v =
+    mapped instr_with (parts_at o a b n) (Has o a b n) (λ i. HasValue i × (word k a b n ≡ word_of i))
+    (λ p h. (subst PartsFit (sym (parts_again p)) h.0, ap (λ x. word x a b n) (coded_is k o e) ∙ h.1 ∙ ap word_with (sym (parts_again p)))) (parts_have o a b n v)
 
 -- ---- eight bytes are a word of their fields
 
@@ -115,10 +104,10 @@ word_again w n len fits z e =
     ap (λ x. get_or w 0 0 ∷ get_or w 1 0 ∷ get_or w 2 0 ∷ 0 ∷ x) bytes ∙ ap (λ x. get_or w 0 0 ∷ get_or w 1 0 ∷ get_or w 2 0 ∷ x ∷ number_bytes w) (sym z) ∙ sym (eight w len)
 
 pub found : (w : List ℕ) (n : ℕ) (o : Option Instr) → length w ≡ 8 → ((i : ℕ) → get_or w i 0 < 256) → get_or w 3 0 ≡ 0 → n ≡ from_be_bytes w32 (number_bytes w) → n < 2 ^ 32
-    → o ≡ instr_at (get_or w 0 0) (get_or w 1 0) (get_or w 2 0) n → IfSome o (IsWordOf w)
+    → o ≡ instr_at (coded (get_or w 0 0)) (get_or w 1 0) (get_or w 2 0) n → IfSome o (IsWordOf w)
 found w n o len fits z e v g =
     let all = word_again w n len fits z e in
-    rw g (subst (λ x. IfSome (instr_at (get_or w 0 0) (get_or w 1 0) (get_or w 2 0) n) (λ i. HasValue i × (x ≡ word_of i))) all (instr_has (get_or w 0 0) (get_or w 1 0) (get_or w 2 0) n v))
+    rw g (subst (λ x. IfSome (instr_at (coded (get_or w 0 0)) (get_or w 1 0) (get_or w 2 0) n) (λ i. HasValue i × (x ≡ word_of i))) all (instr_has (get_or w 0 0) (get_or w 1 0) (get_or w 2 0) n (coded (get_or w 0 0)) refl v))
 
 -- ---- the fields of an instruction give it
 
@@ -133,21 +122,17 @@ register_back R6 = refl
 register_back R7 = refl
 
 abbrev given : List ℕ → Option Instr
-given w = instr_at (get_or w 0 0) (get_or w 1 0) (get_or w 2 0) (from_be_bytes w32 (number_bytes w))
+given w = instr_at (coded (get_or w 0 0)) (get_or w 1 0) (get_or w 2 0) (from_be_bytes w32 (number_bytes w))
 
-back : (i : Instr) → HasValue i → given (word_of i) ≡ Some i
-back (Set a n) v = rw (from_be_bytes-to_be_bytes_4 n v, register_back a) refl
-back (Read a b) v = rw (register_back a, register_back b) refl
-back (Write a b) v = rw (register_back a, register_back b) refl
-back (Insert a b) v = rw (register_back a, register_back b) refl
-back (Add a b) v = rw (register_back a, register_back b) refl
-back (Beq a b n) v = rw (from_be_bytes-to_be_bytes_4 n v, register_back a, register_back b) refl
-back Commit v = refl
-back Abort v = refl
+back : (p : Parts) → PartsFit p → given (word_with p) ≡ Some (instr_with p)
+back (Number o a n) v = rw (coded_back (op.Number o), from_be_bytes-to_be_bytes_4 n v, register_back a) refl
+back (Pair o a b) v = rw (coded_back (op.Pair o), register_back a, register_back b) refl
+back (Jump o a b n) v = rw (coded_back (op.Jump o), from_be_bytes-to_be_bytes_4 n v, register_back a, register_back b) refl
+back (Lone o) v = rw (coded_back (op.Lone o)) refl
 
-pub only : (w : List ℕ) (n : ℕ) (o : Option Instr) → n ≡ from_be_bytes w32 (number_bytes w) → o ≡ instr_at (get_or w 0 0) (get_or w 1 0) (get_or w 2 0) n
+pub only : (w : List ℕ) (n : ℕ) (o : Option Instr) → n ≡ from_be_bytes w32 (number_bytes w) → o ≡ instr_at (coded (get_or w 0 0)) (get_or w 1 0) (get_or w 2 0) n
     → (i : Instr) → IsWordOf w i → o ≡ Some i
-only w n o e g i h = g ∙ ap (instr_at (get_or w 0 0) (get_or w 1 0) (get_or w 2 0)) e ∙ ap given h.1 ∙ back i h.0
+only w n o e g i h = g ∙ ap (instr_at (coded (get_or w 0 0)) (get_or w 1 0) (get_or w 2 0)) e ∙ ap given h.1 ∙ back (parts_of i) h.0 ∙ ap Some (instr_again i)
 
 -- ---- eight bytes
 
@@ -172,13 +157,12 @@ decoded_found w len fits =
     cond_both (get_or w 3 0 == 0) _ _ (λ o. IfSome o (IsWordOf w))
     (λ z. found w number _ len fits (same_number (get_or w 3 0) 0 z) e v refl) (λ _. tt)
 
+decoded_back : (p : Parts) → PartsFit p → decoded (word_with p) ≡ Some (instr_with p)
+decoded_back (Number o a n) v = back (Number o a n) v
+decoded_back (Pair o a b) v = back (Pair o a b) v
+decoded_back (Jump o a b n) v = back (Jump o a b n) v
+decoded_back (Lone o) v = back (Lone o) v
+
 -- the word of an instruction gives it
 pub decoded_only : (i : Instr) → HasValue i → decoded (word_of i) ≡ Some i
-decoded_only (Set a n) v = back (Set a n) v
-decoded_only (Read a b) v = back (Read a b) v
-decoded_only (Write a b) v = back (Write a b) v
-decoded_only (Insert a b) v = back (Insert a b) v
-decoded_only (Add a b) v = back (Add a b) v
-decoded_only (Beq a b n) v = back (Beq a b n) v
-decoded_only Commit v = back Commit v
-decoded_only Abort v = back Abort v
+decoded_only i v = decoded_back (parts_of i) v ∙ ap Some (instr_again i)

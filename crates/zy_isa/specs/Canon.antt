@@ -10,10 +10,13 @@ use Rattle.zy_isa.specs.declared.row.Row.{Row}
 use Rattle.zy_isa.specs.declared.instr.Reg.{Reg}
 use Rattle.zy_isa.specs.declared.instr.Reg.TheVariants.{R0, R1, R2, R3, R4, R5, R6, R7}
 use Rattle.zy_isa.specs.declared.instr.Instr.{Instr}
-use Rattle.zy_isa.specs.declared.instr.Instr.TheVariants.{Set, Read, Write, Insert, Add, Beq, Commit, Abort}
+use Rattle.zy_isa.specs.declared.operation.Operation.TheVariants as op
+use Rattle.zy_isa.specs.declared.operation.Parts.{Parts}
+use Rattle.zy_isa.specs.declared.operation.Parts.TheVariants.{Number, Pair, Jump, Lone}
 use Rattle.zy_isa.specs.declared.choice.Choice.{Choice}
 use Rattle.zy_isa.specs.declared.choice.Choice.TheVariants.{Start, Begin, Kill, Run, Take, Finish, Push}
 use Rattle.zy_isa.specs.Words.{spaced}
+use Rattle.zy_isa.specs.Operations.{mnemonic, parts_of}
 use Rattle.zy_io.specs.Writing.{line_of}
 use Rattle.zy_isa.specs.Scenario.{Scenario}
 
@@ -35,15 +38,14 @@ reg_text R5 = codes "r5"
 reg_text R6 = codes "r6"
 reg_text R7 = codes "r7"
 
+abbrev pub parts_words : Parts → List (List ℕ)
+parts_words (Number o a n) = mnemonic (op.Number o) ∷ reg_text a ∷ decimal n ∷ []
+parts_words (Pair o a b) = mnemonic (op.Pair o) ∷ reg_text a ∷ reg_text b ∷ []
+parts_words (Jump o a b n) = mnemonic (op.Jump o) ∷ reg_text a ∷ reg_text b ∷ (64 ∷ decimal n) ∷ []
+parts_words (Lone o) = mnemonic (op.Lone o) ∷ []
+
 abbrev pub instr_words : Instr → List (List ℕ)
-instr_words (Set a n) = codes "set" ∷ reg_text a ∷ decimal n ∷ []
-instr_words (Read a b) = codes "read" ∷ reg_text a ∷ reg_text b ∷ []
-instr_words (Write a b) = codes "write" ∷ reg_text a ∷ reg_text b ∷ []
-instr_words (Insert a b) = codes "insert" ∷ reg_text a ∷ reg_text b ∷ []
-instr_words (Add a b) = codes "add" ∷ reg_text a ∷ reg_text b ∷ []
-instr_words (Beq a b n) = codes "beq" ∷ reg_text a ∷ reg_text b ∷ (64 ∷ decimal n) ∷ []
-instr_words Commit = codes "commit" ∷ []
-instr_words Abort = codes "abort" ∷ []
+instr_words i = parts_words (parts_of i)
 
 abbrev pub choice_words : Choice → List (List ℕ)
 choice_words Start = codes "C" ∷ codes "start" ∷ []

@@ -6,6 +6,7 @@ pub mod Rows
 pub mod Scenario
 pub mod Words
 pub mod Names
+pub mod Operations
 pub mod Canon
 pub mod InstrWords
 pub mod WordFields

@@ -3,8 +3,11 @@ use Rattle.std.specs.Prelude.{◌≡◌, ◌==◌, ◌-◌, ◌<◌, ◌≤◌, 
 use Rattle.std.specs.Option.{option_map_or, option_or}
 use Rattle.zy_isa.specs.declared.instr.Instr.{Instr}
 use Rattle.zy_isa.specs.declared.instr.Instr.TheVariants.{Set, Read, Write, Insert, Add, Beq, Commit, Abort}
+use Rattle.zy_isa.specs.declared.operation.Parts.{Parts}
+use Rattle.zy_isa.specs.declared.operation.Parts.TheVariants.{Number, Pair, Jump, Lone}
 use Rattle.zy_isa.specs.declared.program.ProgFault.{ProgFault}
 use Rattle.zy_isa.specs.declared.program.ProgFault.TheVariants as fault
+use Rattle.zy_isa.specs.Operations.{parts_of}
 
 -- a program may end with it
 abbrev pub ends : Instr → Bool
@@ -18,15 +21,14 @@ ends Commit = true
 ends Abort = true
 
 -- where it may jump to is below count
+abbrev pub target_below : ℕ → Parts → Bool
+target_below count (Number o a n) = true
+target_below count (Pair o a b) = true
+target_below count (Jump o a b n) = nat_lt n count
+target_below count (Lone o) = true
+
 abbrev pub targets_below : ℕ → Instr → Bool
-targets_below count (Set r x) = true
-targets_below count (Read r q) = true
-targets_below count (Write r q) = true
-targets_below count (Insert r q) = true
-targets_below count (Add r q) = true
-targets_below count (Beq r q to) = nat_lt to count
-targets_below count Commit = true
-targets_below count Abort = true
+targets_below count i = target_below count (parts_of i)
 
 -- the last instruction ends the program
 abbrev pub ends_well : List Instr → Bool
@@ -46,15 +48,14 @@ prog_fault is =
     Some fault.NoEnd)
 
 -- the values in an instruction fit their fields
+abbrev pub PartsFit : Parts → Type 0
+PartsFit (Number o a n) = n < 2 ^ 32
+PartsFit (Pair o a b) = Unit {0}
+PartsFit (Jump o a b n) = n < 2 ^ 32
+PartsFit (Lone o) = Unit {0}
+
 abbrev pub HasValue : Instr → Type 0
-HasValue (Set r x) = x < 2 ^ 32
-HasValue (Read r q) = Unit {0}
-HasValue (Write r q) = Unit {0}
-HasValue (Insert r q) = Unit {0}
-HasValue (Add r q) = Unit {0}
-HasValue (Beq r q to) = to < 2 ^ 32
-HasValue Commit = Unit {0}
-HasValue Abort = Unit {0}
+HasValue i = PartsFit (parts_of i)
 
 abbrev pub Values : List Instr → Type 0
 Values [] = Unit {0}
@@ -67,6 +68,11 @@ pub record IsProgram (is : List Instr) : Type 0 where
   pub targets : stray_target is ≡ None
   pub last : ends_well is ≡ true
   pub values : Values is
+
+-- the answer is the program, or the first fault
+abbrev pub IsKept : Result (List Instr) ProgFault → List Instr → Type 0
+IsKept (Ok p) is = (prog_fault is ≡ None) × (p ≡ is)
+IsKept (Err e) is = prog_fault is ≡ Some e
 
 -- the answer is the program, or the first fault, or want of memory where there is none
 abbrev pub IsVerified : Result (List Instr) ProgFault → List Instr → Type 0

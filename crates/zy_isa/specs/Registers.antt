@@ -1,5 +1,5 @@
 -- The eight registers.
-use Rattle.std.specs.Prelude.{ℕ}
+use Rattle.std.specs.Prelude.{ℕ, List, [], ◌∷◌}
 use Rattle.zy_isa.specs.declared.instr.Reg.{Reg}
 use Rattle.zy_isa.specs.declared.instr.Reg.TheVariants.{R0, R1, R2, R3, R4, R5, R6, R7}
 
@@ -12,3 +12,6 @@ number_of R4 = 4
 number_of R5 = 5
 number_of R6 = 6
 number_of R7 = 7
+
+abbrev pub registers : List Reg
+registers = R0 ∷ R1 ∷ R2 ∷ R3 ∷ R4 ∷ R5 ∷ R6 ∷ R7 ∷ []

@@ -4,11 +4,14 @@ use Rattle.std.specs.List.{flat_map}
 use Rattle.zy_isa.specs.declared.rule.Rule.{Rule}
 use Rattle.zy_isa.specs.declared.row.Row.{Row}
 use Rattle.zy_isa.specs.declared.instr.Instr.{Instr}
-use Rattle.zy_isa.specs.declared.instr.Instr.TheVariants.{Set, Read, Write, Insert, Add, Beq, Commit, Abort}
+use Rattle.zy_isa.specs.declared.operation.Operation.TheVariants as op
+use Rattle.zy_isa.specs.declared.operation.Parts.{Parts}
+use Rattle.zy_isa.specs.declared.operation.Parts.TheVariants.{Number, Pair, Jump, Lone}
 use Rattle.zy_isa.specs.declared.choice.Choice.{Choice}
 use Rattle.zy_isa.specs.declared.choice.Choice.TheVariants.{Start, Begin, Kill, Run, Take, Finish, Push}
 use Rattle.zy_isa.specs.Words.{number_of, lines_with_words}
 use Rattle.zy_isa.specs.Names.{Mark, is_name, place, AreNew}
+use Rattle.zy_isa.specs.Operations.{mnemonic, parts_of}
 use Rattle.zy_isa.specs.Canon.{node_text, rule_text, reg_text}
 use Rattle.zy_isa.specs.Scenario.{Scenario, IsScenario}
 
@@ -52,15 +55,14 @@ pub data Statement : Type 0 where
 abbrev pub SpellsTarget : List Mark → ℕ → List ℕ → Type 0
 SpellsTarget labels n w = ((d : List ℕ) × (w ≡ 64 ∷ d) × (number_of d ≡ Some n)) ⊎ ((is_name w ≡ true) × (place w labels ≡ Some n))
 
+abbrev pub SpellsParts : List Mark → Parts → List (List ℕ) → Type 0
+SpellsParts labels (Number o a n) ws = (w : List ℕ) × (ws ≡ mnemonic (op.Number o) ∷ reg_text a ∷ w ∷ []) × (number_of w ≡ Some n)
+SpellsParts labels (Pair o a b) ws = ws ≡ mnemonic (op.Pair o) ∷ reg_text a ∷ reg_text b ∷ []
+SpellsParts labels (Jump o a b n) ws = (w : List ℕ) × (ws ≡ mnemonic (op.Jump o) ∷ reg_text a ∷ reg_text b ∷ w ∷ []) × SpellsTarget labels n w
+SpellsParts labels (Lone o) ws = ws ≡ mnemonic (op.Lone o) ∷ []
+
 abbrev pub SpellsInstr : List Mark → Instr → List (List ℕ) → Type 0
-SpellsInstr labels (Set a n) ws = (w : List ℕ) × (ws ≡ codes "set" ∷ reg_text a ∷ w ∷ []) × (number_of w ≡ Some n)
-SpellsInstr labels (Read a b) ws = ws ≡ codes "read" ∷ reg_text a ∷ reg_text b ∷ []
-SpellsInstr labels (Write a b) ws = ws ≡ codes "write" ∷ reg_text a ∷ reg_text b ∷ []
-SpellsInstr labels (Insert a b) ws = ws ≡ codes "insert" ∷ reg_text a ∷ reg_text b ∷ []
-SpellsInstr labels (Add a b) ws = ws ≡ codes "add" ∷ reg_text a ∷ reg_text b ∷ []
-SpellsInstr labels (Beq a b n) ws = (w : List ℕ) × (ws ≡ codes "beq" ∷ reg_text a ∷ reg_text b ∷ w ∷ []) × SpellsTarget labels n w
-SpellsInstr labels Commit ws = ws ≡ codes "commit" ∷ []
-SpellsInstr labels Abort ws = ws ≡ codes "abort" ∷ []
+SpellsInstr labels i ws = SpellsParts labels (parts_of i) ws
 
 -- no word where there is no instruction
 abbrev pub MaySpell : List Mark → Option Instr → List (List ℕ) → Type 0

@@ -3,6 +3,8 @@ ghost use Rattle.std.specs.Prelude.{◌≡◌, ◌<◌};
 ghost use Rattle.zy_isa.specs.Registers.{number_of};
 ghost use Rattle.zy_isa.specs.Programs.{ends as ends_spec, targets_below as targets_below_spec};
 
+use crate::operation::Parts;
+
 /// A register of a transaction. All are 0 when it begins.
 #[derive(Clone, Copy, Debug, PartialEq, Eq)]
 pub enum Reg {
@@ -79,15 +81,11 @@ impl Instr {
     pub fn targets_below(self, count: usize) -> bool
         ensures { result ≡ targets_below_spec count self }
     {
-        match self {
-            Instr::Beq(_, _, target) => u64::from(target) < count as u64,
-            Instr::Commit => true,
-            Instr::Abort => true,
-            Instr::Set(_, _) => true,
-            Instr::Read(_, _) => true,
-            Instr::Write(_, _) => true,
-            Instr::Insert(_, _) => true,
-            Instr::Add(_, _) => true,
+        match self.parts() {
+            Parts::Jump(_, _, _, target) => u64::from(target) < count as u64,
+            Parts::Number(_, _, _) => true,
+            Parts::Pair(_, _, _) => true,
+            Parts::Lone(_) => true,
         }
     }
 }

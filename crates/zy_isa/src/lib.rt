@@ -5,6 +5,7 @@ pub mod choice;
 pub mod instr;
 mod line;
 pub mod node;
+pub mod operation;
 pub mod program;
 pub mod row;
 pub mod rule;

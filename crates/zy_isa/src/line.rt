@@ -6,6 +6,7 @@ ghost use Rattle.zy_isa.specs.Canon.{node_text, rule_text, reg_text, row_text, i
 use crate::choice::Choice;
 use crate::instr::{Instr, Reg};
 use crate::node::Node;
+use crate::operation::{Operation, Parts};
 use crate::row::Row;
 use crate::rule::Rule;
 use std::alloc::AllocError;
@@ -73,16 +74,16 @@ impl Line for Row {
     }
 }
 
-/// Two registers.
+/// Two registers, each behind a space.
 #[derive(Clone, Copy)]
-struct Pair(Reg, Reg);
+struct Registers(Reg, Reg);
 
-impl Line for Pair {
-    ghost text = { λ p. spaced (reg_text p.0 ∷ reg_text p.1 ∷ []) };
+impl Line for Registers {
+    ghost text = { λ p. 32 ∷ spaced (reg_text p.0 ∷ reg_text p.1 ∷ []) };
 
     #[inline(always)]
     fn append(&self, line: &mut LineBuffer) -> Result<(), AllocError> {
-        [b'r', self.0.digit(), b' ', b'r', self.1.digit()].append(line)
+        [b' ', b'r', self.0.digit(), b' ', b'r', self.1.digit()].append(line)
     }
 }
 
@@ -91,21 +92,22 @@ impl Line for Instr {
 
     #[inline(always)]
     fn append(&self, line: &mut LineBuffer) -> Result<(), AllocError> {
-        match self {
-            Instr::Set(a, number) => Joined(
-                "set ",
-                Joined([b'r', a.digit(), b' '], Decimal(*number)),
+        match self.parts() {
+            Parts::Number(operation, a, number) => Joined(
+                Operation::Number(operation),
+                Joined([b' ', b'r', a.digit(), b' '], Decimal(number)),
+            )
+            .append(line),
+            Parts::Pair(operation, a, b) => Joined(
+                Operation::Pair(operation),
+                Registers(a, b),
             ).append(line),
-            Instr::Read(a, b) => Joined("read ", Pair(*a, *b)).append(line),
-            Instr::Write(a, b) => Joined("write ", Pair(*a, *b)).append(line),
-            Instr::Insert(a, b) => Joined("insert ", Pair(*a, *b)).append(line),
-            Instr::Add(a, b) => Joined("add ", Pair(*a, *b)).append(line),
-            Instr::Beq(a, b, target) => Joined(
-                "beq ",
-                Joined(Pair(*a, *b), Joined(" @", Decimal(*target))),
-            ).append(line),
-            Instr::Commit => "commit".append(line),
-            Instr::Abort => "abort".append(line),
+            Parts::Jump(operation, a, b, target) => Joined(
+                Operation::Jump(operation),
+                Joined(Registers(a, b), Joined(" @", Decimal(target))),
+            )
+            .append(line),
+            Parts::Lone(operation) => Operation::Lone(operation).append(line),
         }
     }
 }

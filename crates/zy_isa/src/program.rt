@@ -1,6 +1,6 @@
 //! Programs that are verified.
-ghost use Rattle.std.specs.Prelude.{◌≡◌, ◌<◌, ◌≤◌, Some, IfOk, length, slice_index_or};
-ghost use Rattle.zy_isa.specs.Programs.{ends_well as ends_well_spec, stray_target as stray_target_spec, IsProgram, IsVerified, Values};
+ghost use Rattle.std.specs.Prelude.{◌≡◌, ◌<◌, ◌≤◌, Some, IfOk, IfNone, length, slice_index_or};
+ghost use Rattle.zy_isa.specs.Programs.{ends_well as ends_well_spec, stray_target as stray_target_spec, prog_fault, IsKept, IsProgram, IsVerified, Values};
 
 use crate::instr::Instr;
 use std::alloc::{AllocError, Global};
@@ -78,27 +78,48 @@ fn have_values(instrs: &[Instr])
     }
 }
 
+/// Why a list of instructions is no program, if it is none.
+fn fault_of(instrs: &[Instr]) -> Option<ProgFault>
+    ensures fault { result ≡ prog_fault instrs.now }
+    ensures none { IfNone result (IsProgram instrs.now) }
+{
+    if instrs.is_empty() {
+        return Some(ProgFault::Empty);
+    }
+    if instrs.len() > MAX_INSTRS {
+        return Some(ProgFault::TooLong);
+    }
+    if let Some(i) = stray_target(instrs) {
+        return Some(ProgFault::Target(i as u8));
+    }
+    if !ends_well(instrs) {
+        return Some(ProgFault::NoEnd);
+    }
+    have_values(instrs);
+    None
+}
+
 impl Program {
     /// Tests a list of instructions, and keeps a copy of it.
     pub fn verify(alloc: Global, instrs: &[Instr]) -> Result<Program, ProgFault>
         ensures { IsVerified result instrs.now }
     {
-        if instrs.is_empty() {
-            return Err(ProgFault::Empty);
+        if let Some(fault) = fault_of(instrs) {
+            return Err(fault);
         }
-        if instrs.len() > MAX_INSTRS {
-            return Err(ProgFault::TooLong);
-        }
-        if let Some(i) = stray_target(instrs) {
-            return Err(ProgFault::Target(i as u8));
-        }
-        if !ends_well(instrs) {
-            return Err(ProgFault::NoEnd);
-        }
-        have_values(instrs);
         match instrs.to_vec(alloc) {
             Ok(instrs) => Ok(Program { instrs }),
             Err(_) => Err(ProgFault::Memory),
+        }
+    }
+
+    /// Tests a list of instructions, and keeps it. One that is no program is dropped.
+    pub fn of_instrs(instrs: Vec<Instr>) -> Result<Program, ProgFault>
+        ensures { IsKept result instrs.items }
+    {
+        match fault_of(instrs.as_slice()) {
+            Some(fault) => Err(fault),
+            None => Ok(Program { instrs }),
         }
     }
 

@@ -2,10 +2,12 @@
 ghost use Rattle.std.specs.Prelude.{◌≡◌, IfSome, Some};
 ghost use Rattle.zy_isa.specs.Registers.{number_of};
 ghost use Rattle.zy_isa.specs.InstrWords.{IsWordOf, word as word_spec, word_of};
-ghost use Rattle.zy_isa.specs.WordFields.{register_at, registers_at, instr_at, decoded};
+ghost use Rattle.zy_isa.specs.WordFields.{register_at, registers_at, parts_at as parts_at_spec, instr_at as instr_at_spec, decoded};
+ghost use Rattle.zy_isa.specs.Operations.{opcode, coded};
 ghost use Rattle.zy_isa.specs.declared.instr.Instr.{Instr};
 
 use crate::instr::{Instr, Reg};
+use crate::operation::{Operation, Parts};
 
 /// How many bytes a word has.
 pub const WORD_BYTES: usize = 8;
@@ -17,27 +19,27 @@ fn byte_of(register: Reg) -> u8
     register.index() as u8
 }
 
-/// The word of these fields.
-fn word(operation: u8, a: u8, b: u8, number: u32) -> [u8; WORD_BYTES]
-    ensures { result ≡ word_spec operation a b number }
+/// The word of an operation with these fields behind it.
+fn word(operation: Operation, a: u8, b: u8, number: u32) -> [u8; WORD_BYTES]
+    ensures { result ≡ word_spec (opcode operation) a b number }
 {
     let [n0, n1, n2, n3] = number.to_be_bytes();
-    [operation, a, b, 0, n0, n1, n2, n3]
+    [operation.opcode(), a, b, 0, n0, n1, n2, n3]
 }
 
 /// The word of an instruction; no other instruction has it.
 pub fn encode(instr: Instr) -> [u8; WORD_BYTES]
     ensures { result ≡ word_of instr }
 {
-    match instr {
-        Instr::Set(a, number) => word(0, byte_of(a), 0, number),
-        Instr::Read(a, b) => word(1, byte_of(a), byte_of(b), 0),
-        Instr::Write(a, b) => word(2, byte_of(a), byte_of(b), 0),
-        Instr::Insert(a, b) => word(3, byte_of(a), byte_of(b), 0),
-        Instr::Add(a, b) => word(4, byte_of(a), byte_of(b), 0),
-        Instr::Beq(a, b, target) => word(5, byte_of(a), byte_of(b), target),
-        Instr::Commit => word(6, 0, 0, 0),
-        Instr::Abort => word(7, 0, 0, 0),
+    match instr.parts() {
+        Parts::Number(operation, a, number) => {
+            word(Operation::Number(operation), byte_of(a), 0, number)
+        }
+        Parts::Pair(operation, a, b) => word(Operation::Pair(operation), byte_of(a), byte_of(b), 0),
+        Parts::Jump(operation, a, b, target) => {
+            word(Operation::Jump(operation), byte_of(a), byte_of(b), target)
+        }
+        Parts::Lone(operation) => word(Operation::Lone(operation), 0, 0, 0),
     }
 }
 
@@ -65,21 +67,32 @@ fn registers(a: u8, b: u8) -> Option<(Reg, Reg)>
     Some((register(a)?, register(b)?))
 }
 
-/// The instruction of these fields, if there is one.
-fn instr_of(operation: u8, a: u8, b: u8, number: u32) -> Option<Instr>
-    ensures { result ≡ instr_at operation a b number }
+/// The operation with the operands in these fields, if they hold such operands and no more.
+fn parts_at(operation: Operation, a: u8, b: u8, number: u32) -> Option<Parts>
+    ensures { result ≡ parts_at_spec operation a b number }
 {
     match (operation, a, b, number) {
-        (0, a, 0, number) => register(a).map(|a| Instr::Set(a, number)),
-        (1, a, b, 0) => registers(a, b).map(|(a, b)| Instr::Read(a, b)),
-        (2, a, b, 0) => registers(a, b).map(|(a, b)| Instr::Write(a, b)),
-        (3, a, b, 0) => registers(a, b).map(|(a, b)| Instr::Insert(a, b)),
-        (4, a, b, 0) => registers(a, b).map(|(a, b)| Instr::Add(a, b)),
-        (5, a, b, target) => registers(a, b).map(|(a, b)| Instr::Beq(a, b, target)),
-        (6, 0, 0, 0) => Some(Instr::Commit),
-        (7, 0, 0, 0) => Some(Instr::Abort),
+        (Operation::Number(operation), a, 0, number) => {
+            register(a).map(|a| Parts::Number(operation, a, number))
+        }
+        (Operation::Pair(operation), a, b, 0) => {
+            registers(a, b).map(|(a, b)| Parts::Pair(operation, a, b))
+        }
+        (Operation::Jump(operation), a, b, target) => {
+            registers(a, b).map(|(a, b)| Parts::Jump(operation, a, b, target))
+        }
+        (Operation::Lone(operation), 0, 0, 0) => Some(Parts::Lone(operation)),
         _ => None,
     }
+}
+
+/// The instruction of these fields, if there is one.
+fn instr_at(opcode: u8, a: u8, b: u8, number: u32) -> Option<Instr>
+    ensures { result ≡ instr_at_spec (coded opcode) a b number }
+{
+    let operation = Operation::coded(opcode)?;
+    let parts = parts_at(operation, a, b, number)?;
+    Some(parts.instr())
 }
 
 /// The instruction whose word these bytes are: at most one has it, and most bytes are no word.
@@ -88,8 +101,8 @@ pub fn decode(word: [u8; WORD_BYTES]) -> Option<Instr>
     ensures found { IfSome result (IsWordOf word) }
     ensures only { (i : Instr) → IsWordOf word i → result ≡ Some i }
 {
-    let [operation, a, b, 0, n0, n1, n2, n3] = word else {
+    let [opcode, a, b, 0, n0, n1, n2, n3] = word else {
         return None;
     };
-    instr_of(operation, a, b, u32::from_be_bytes([n0, n1, n2, n3]))
+    instr_at(opcode, a, b, u32::from_be_bytes([n0, n1, n2, n3]))
 }

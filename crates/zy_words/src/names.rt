@@ -1,9 +1,10 @@
 //! Words that are names, labels or numbers, by their form alone.
 ghost use Rattle.std.specs.Prelude.{◌≡◌};
 ghost use Rattle.std.specs.Option.{option_copied};
-ghost use Rattle.std.specs.Str.{bytes_eq};
 ghost use Rattle.zy_isa.specs.Names.{is_letter as is_letter_spec, are_parts as are_parts_spec, is_name as is_name_spec};
 ghost use Rattle.zy_words.specs.Names.{is_numeral as is_numeral_spec, label_of as label_of_spec};
+
+pub use zy_isa::operation::is;
 
 /// The most bytes behind the first one of a name.
 const MAX_PARTS: usize = 31;
@@ -50,12 +51,4 @@ pub fn label_of(word: &[u8]) -> Option<&[u8]>
         Some((last, name)) if *last == b':' => Some(name),
         _ => None,
     }
-}
-
-/// Whether a word is this text.
-#[inline(always)]
-pub fn is(word: &[u8], text: &[u8]) -> bool
-    ensures { result ≡ bytes_eq word.now text.now }
-{
-    word == text
 }

@@ -1,0 +1,64 @@
+-- The operations: what each is in an image and in a text, and the instruction that it makes with its operands.
+use Rattle.std.specs.Prelude.{◌==◌, ℕ, List, [], ◌∷◌, codes, Option}
+use Rattle.std.specs.List.{find}
+use Rattle.std.specs.Str.{bytes_eq}
+use Rattle.zy_isa.specs.declared.instr.Instr.{Instr}
+use Rattle.zy_isa.specs.declared.instr.Instr.TheVariants as instr
+use Rattle.zy_isa.specs.declared.operation.NumberOperation.TheVariants.{Set}
+use Rattle.zy_isa.specs.declared.operation.PairOperation.TheVariants.{Read, Write, Insert, Add}
+use Rattle.zy_isa.specs.declared.operation.JumpOperation.TheVariants.{Beq}
+use Rattle.zy_isa.specs.declared.operation.LoneOperation.TheVariants.{Commit, Abort}
+use Rattle.zy_isa.specs.declared.operation.Operation.{Operation}
+use Rattle.zy_isa.specs.declared.operation.Operation.TheVariants as op
+use Rattle.zy_isa.specs.declared.operation.Parts.{Parts}
+use Rattle.zy_isa.specs.declared.operation.Parts.TheVariants.{Number, Pair, Jump, Lone}
+
+-- the number of each operation in an image, and its word in a text
+abbrev pub table : Operation → ℕ × List ℕ
+table (op.Number Set) = (0, codes "set")
+table (op.Pair Read) = (1, codes "read")
+table (op.Pair Write) = (2, codes "write")
+table (op.Pair Insert) = (3, codes "insert")
+table (op.Pair Add) = (4, codes "add")
+table (op.Jump Beq) = (5, codes "beq")
+table (op.Lone Commit) = (6, codes "commit")
+table (op.Lone Abort) = (7, codes "abort")
+
+abbrev pub opcode : Operation → ℕ
+opcode o = (table o).0
+
+abbrev pub mnemonic : Operation → List ℕ
+mnemonic o = (table o).1
+
+abbrev pub operations : List Operation
+operations = op.Number Set ∷ op.Pair Read ∷ op.Pair Write ∷ op.Pair Insert ∷ op.Pair Add ∷ op.Jump Beq ∷ op.Lone Commit ∷ op.Lone Abort ∷ []
+
+-- the operation with this number
+abbrev pub coded : ℕ → Option Operation
+coded n = find (λ o. n == opcode o) operations
+
+-- the operation with this word
+abbrev pub named : List ℕ → Option Operation
+named w = find (λ o. bytes_eq w (mnemonic o)) operations
+
+-- the instruction of an operation with its operands
+abbrev pub instr_with : Parts → Instr
+instr_with (Number Set a n) = instr.Set a n
+instr_with (Pair Read a b) = instr.Read a b
+instr_with (Pair Write a b) = instr.Write a b
+instr_with (Pair Insert a b) = instr.Insert a b
+instr_with (Pair Add a b) = instr.Add a b
+instr_with (Jump Beq a b n) = instr.Beq a b n
+instr_with (Lone Commit) = instr.Commit
+instr_with (Lone Abort) = instr.Abort
+
+-- the operation of an instruction, and its operands
+abbrev pub parts_of : Instr → Parts
+parts_of (instr.Set a n) = Number Set a n
+parts_of (instr.Read a b) = Pair Read a b
+parts_of (instr.Write a b) = Pair Write a b
+parts_of (instr.Insert a b) = Pair Insert a b
+parts_of (instr.Add a b) = Pair Add a b
+parts_of (instr.Beq a b n) = Jump Beq a b n
+parts_of instr.Commit = Lone Commit
+parts_of instr.Abort = Lone Abort
