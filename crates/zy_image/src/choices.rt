@@ -4,7 +4,7 @@ ghost use Rattle.zy_image.specs.declared.faults.LoadFault.TheVariants.{Memory};
 ghost use Rattle.zy_image.specs.Reading.{Gives, HasChoices, choice_at as choice_at_spec, choice_count as choice_count_spec, choices as choices_spec, client_choice as client_choice_spec, named as named_spec, next_choice, node_of as node_of_spec, node_choice as node_choice_spec, plain as plain_spec};
 
 use crate::faults::LoadFault;
-use crate::fields::{field, half};
+use crate::fields::half;
 use crate::lists::{Items, read_items};
 use std::alloc::Global;
 use zy_isa::choice::Choice;
@@ -105,8 +105,10 @@ impl Items for ChoiceItems {
         before: &[Choice],
         bytes: &'a [u8],
     ) -> Result<(Choice, &'a [u8]), LoadFault> {
-        let ([actor, action, txn], left) = field::<3>(self.size, bytes)?;
-        match choice_at(self.count, actor, action, txn) {
+        let [actor, action, txn, left @ ..] = bytes else {
+            return Err(LoadFault::Truncated(self.size));
+        };
+        match choice_at(self.count, *actor, *action, *txn) {
             Some(choice) => Ok((choice, left)),
             None => Err(LoadFault::Choice(before.len())),
         }
