@@ -1,7 +1,7 @@
 //! Scenarios as images: bytes that a program reads quickly, one field behind the other.
 #![tactic(auto)]
 
-mod choices;
+pub mod choices;
 pub mod faults;
 mod fields;
 mod head;
