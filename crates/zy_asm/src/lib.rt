@@ -11,6 +11,4 @@ mod reading;
 pub mod shown;
 mod state;
 mod table;
-#[cfg(test)]
-mod tests;
 pub mod text;

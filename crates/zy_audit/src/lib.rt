@@ -9,8 +9,4 @@ pub mod listing;
 mod lone;
 pub mod run;
 pub mod serial;
-#[cfg(test)]
-mod serial_tests;
 pub mod table;
-#[cfg(test)]
-mod tests;

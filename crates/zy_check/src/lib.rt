@@ -6,6 +6,4 @@ pub mod comparing;
 pub mod cut;
 pub mod faults;
 pub mod laws;
-#[cfg(test)]
-mod tests;
 pub mod verdict;

@@ -6,5 +6,3 @@ pub mod command;
 mod copies;
 pub mod debugger;
 mod shelf;
-#[cfg(test)]
-mod tests;

@@ -3,6 +3,4 @@
 
 pub mod head;
 mod lines;
-#[cfg(test)]
-mod tests;
 pub mod text;

@@ -7,6 +7,4 @@ pub mod engine;
 pub mod faults;
 pub mod format;
 pub mod output;
-#[cfg(test)]
-mod tests;
 pub mod threading;

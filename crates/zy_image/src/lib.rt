@@ -12,5 +12,3 @@ mod programs;
 pub mod refusal;
 mod rows;
 pub mod save;
-#[cfg(test)]
-mod tests;

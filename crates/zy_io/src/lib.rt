@@ -8,6 +8,4 @@ pub mod memory;
 pub mod reading;
 pub mod section;
 pub mod stream;
-#[cfg(test)]
-mod stream_tests;
 pub mod writing;

@@ -10,8 +10,4 @@ pub mod program;
 pub mod row;
 pub mod rule;
 pub mod scenario;
-#[cfg(test)]
-mod scenario_tests;
 pub mod word;
-#[cfg(test)]
-mod word_tests;

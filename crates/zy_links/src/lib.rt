@@ -4,5 +4,3 @@
 pub mod kind;
 pub mod link;
 pub mod message;
-#[cfg(test)]
-mod tests;

@@ -3,5 +3,3 @@
 
 pub mod lock;
 pub mod locks;
-#[cfg(test)]
-mod tests;

@@ -3,5 +3,3 @@
 
 pub mod mode;
 pub mod table;
-#[cfg(test)]
-mod tests;

@@ -4,5 +4,3 @@
 pub mod finding;
 pub mod page;
 pub mod row_list;
-#[cfg(test)]
-mod tests;

@@ -3,6 +3,4 @@
 
 pub mod entry;
 pub mod key_range;
-#[cfg(test)]
-mod tests;
 pub mod wire;

@@ -2,13 +2,13 @@
 ghost use Rattle.std.specs.Prelude.{◌<◌, ◌++◌, Some, None, codes, map};
 ghost use Rattle.std.specs.Fmt.{decimal};
 
-use crate::buffer::LineBuffer;
-use crate::line::{Decimal, Joined, Line};
-use crate::memory::{SliceSource, VecSink};
-use crate::reading::{MAX_INPUT, ReadFault, read_all};
-use crate::section::{Both, Each, One, Parts, Section, write_line, write_lines, write_parts};
-use crate::stream::{CountingReader, CountingWriter, Sink, Source};
-use crate::writing::{TextFault, WriteFault, write_all};
+use zy_io::buffer::LineBuffer;
+use zy_io::line::{Decimal, Joined, Line};
+use zy_io::memory::{SliceSource, VecSink};
+use zy_io::reading::{MAX_INPUT, ReadFault, read_all};
+use zy_io::section::{Both, Each, One, Parts, Section, write_line, write_lines, write_parts};
+use zy_io::stream::{CountingReader, CountingWriter, Sink, Source};
+use zy_io::writing::{TextFault, WriteFault, write_all};
 use std::alloc::{AllocError, Global};
 use std::io::{self, ErrorKind, Read, Write};
 use std::test::Fail;

@@ -1,10 +1,10 @@
 //! The engine over streams that give and take little, and fail in mid-stream. Whole runs are in tests/cases.
 
-use crate::checking::check_bytes;
-use crate::debugging::debug_bytes;
-use crate::engine::{asm_bytes, dis_bytes, run_bytes};
-use crate::faults::BenchFault;
-use crate::format::Format;
+use zy_engine::checking::check_bytes;
+use zy_engine::debugging::debug_bytes;
+use zy_engine::engine::{asm_bytes, dis_bytes, run_bytes};
+use zy_engine::faults::BenchFault;
+use zy_engine::format::Format;
 use std::io;
 use std::io::{ErrorKind, Read, Write};
 use std::test::Fail;

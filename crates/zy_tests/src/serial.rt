@@ -1,8 +1,8 @@
 //! Worked runs, one by one.
 ghost use Rattle.std.specs.Prelude.{◌≡◌, ◌<◌, All, true};
 
-use crate::serial::serial;
-use crate::table::Table;
+use zy_audit::serial::serial;
+use zy_audit::table::Table;
 use std::alloc::{AllocError, Global};
 use std::process::Abort;
 use std::test::Fail;

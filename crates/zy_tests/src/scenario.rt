@@ -1,11 +1,11 @@
 //! Programs and scenarios with ample memory, and without.
-use crate::choice::Choice;
-use crate::instr::{Instr, Reg};
-use crate::node::{Actor, Node};
-use crate::program::{ProgFault, Program};
-use crate::row::Row;
-use crate::rule::Rule;
-use crate::scenario::{Scenario, ScenarioFault, opening_pages_for, opening_rows};
+use zy_isa::choice::Choice;
+use zy_isa::instr::{Instr, Reg};
+use zy_isa::node::{Actor, Node};
+use zy_isa::program::{ProgFault, Program};
+use zy_isa::row::Row;
+use zy_isa::rule::Rule;
+use zy_isa::scenario::{Scenario, ScenarioFault, opening_pages_for, opening_rows};
 use std::alloc::{AllocError, Global};
 use std::test::Fail;
 use zy_io::buffer::LineBuffer;

@@ -1,6 +1,6 @@
 //! Every pair of mode and kind, and every pair of modes, against tables written by hand.
-use crate::mode::NodeMode;
-use crate::table::{FinRow, MsgRow, home_of, on_finish, on_message, on_start};
+use zy_modes::mode::NodeMode;
+use zy_modes::table::{FinRow, MsgRow, home_of, on_finish, on_message, on_start};
 use std::process::Abort;
 use zy_isa::node::Node;
 use zy_links::kind::Kind;

@@ -1,6 +1,6 @@
 //! Each call once with ample memory, on worked locks.
-use crate::lock::{Lock, LockKind};
-use crate::locks::Locks;
+use zy_locks::lock::{Lock, LockKind};
+use zy_locks::locks::Locks;
 use std::alloc::{AllocError, Global};
 use std::process::Abort;
 

@@ -1,9 +1,9 @@
 //! A worked image and the faults of inputs near it, told from the page on the formats.
 
-use crate::choices::with_choices;
-use crate::faults::LoadFault;
-use crate::load::load;
-use crate::save::save;
+use zy_image::choices::with_choices;
+use zy_image::faults::LoadFault;
+use zy_image::load::load;
+use zy_image::save::save;
 use std::alloc::Global;
 use std::test::Fail;
 use zy_isa::choice::Choice;

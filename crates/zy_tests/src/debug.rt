@@ -1,8 +1,8 @@
 //! One session on a scenario in which a migration starts and a page moves, with each kind of command.
 ghost use Rattle.std.specs.Prelude.{◌≤◌};
 
-use crate::command::{Command, DebugFault, Reply};
-use crate::debugger::Debugger;
+use zy_debug::command::{Command, DebugFault, Reply};
+use zy_debug::debugger::Debugger;
 use std::alloc::Global;
 use std::process::Abort;
 use std::test::Fail;

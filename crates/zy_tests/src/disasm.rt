@@ -1,6 +1,6 @@
 //! The text of a small scenario.
 
-use crate::text::write_text;
+use zy_disasm::text::write_text;
 use std::alloc::Global;
 use zy_io::memory::VecSink;
 use zy_isa::choice::Choice;

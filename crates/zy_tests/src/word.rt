@@ -1,6 +1,6 @@
 //! Words written by hand, and bytes that are no word.
-use crate::instr::{Instr, Reg};
-use crate::word::{decode, encode};
+use zy_isa::instr::{Instr, Reg};
+use zy_isa::word::{decode, encode};
 
 #[test]
 fn each_instruction_has_its_word(rt: HostRuntime) {

@@ -1,6 +1,6 @@
 //! Each call once with ample memory, on worked rows.
-use crate::page::Page;
-use crate::row_list::RowList;
+use zy_page::page::Page;
+use zy_page::row_list::RowList;
 use std::alloc::{AllocError, Global};
 use zy_isa::row::Row;
 

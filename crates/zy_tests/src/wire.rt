@@ -1,5 +1,5 @@
 //! Each call with ample memory, the search against a plain scan, and the words of the faults.
-use crate::wire::{Wire, WireFault};
+use zy_wire::wire::{Wire, WireFault};
 use std::alloc::{AllocError, Global};
 use std::process::Abort;
 
