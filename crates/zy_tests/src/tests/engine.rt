@@ -1,12 +1,12 @@
 //! The engine over streams that give and take little, and fail in mid-stream. Whole runs are in tests/cases.
 
+use super::fakes::{Drip, Trickle};
 use zy_engine::checking::check_bytes;
 use zy_engine::debugging::debug_bytes;
 use zy_engine::engine::{asm_bytes, dis_bytes, run_bytes};
 use zy_engine::faults::BenchFault;
 use zy_engine::format::Format;
-use std::io;
-use std::io::{ErrorKind, Read, Write};
+use std::io::ErrorKind;
 use std::test::Fail;
 use zy_check::verdict::Verdict;
 use zy_io::memory::{SliceSource, VecSink};
@@ -17,63 +17,12 @@ const SMALLEST: &[u8] = b"zephyr 1\ncap 2\npages 1\nrule held\nend\n";
 /// Its image.
 const SMALLEST_IMAGE: &[u8] = b"ZPH1\x02\x00\x01\x00\x00\x00\x00\x00\x00";
 
-/// Gives one byte a call; one call fails.
-#[derive(Drop)]
-struct Trickle<'a> {
-    bytes: &'a [u8],
-    bad: u64,
-    calls: u64,
-}
-
-impl Read for Trickle<'_> {
-    fn read(&mut self, buffer: &mut [u8]) -> io::Result<usize> {
-        self.calls = self.calls.saturating_add(1);
-        if self.calls == self.bad {
-            return Err(io::Error::from(ErrorKind::Interrupted));
-        }
-        let [first, rest @ ..] = self.bytes else {
-            return Ok(0);
-        };
-        if buffer.is_empty() {
-            return Ok(0);
-        }
-        buffer[0] = *first;
-        self.bytes = rest;
-        Ok(1)
-    }
-}
-
-/// Takes one byte a call; one call takes none.
-#[derive(Drop)]
-struct Drip {
-    held: Vec<u8>,
-    bad: u64,
-    calls: u64,
-}
-
-impl Write for Drip {
-    fn write(&mut self, bytes: &[u8]) -> io::Result<usize> {
-        self.calls = self.calls.saturating_add(1);
-        let [first, ..] = bytes else {
-            return Ok(0);
-        };
-        if self.calls == self.bad {
-            return Ok(0);
-        }
-        self.held.push(*first)?;
-        Ok(1)
-    }
-
-    fn flush(&mut self) -> io::Result<()> {
-        Ok(())
-    }
-}
-
 #[test]
 fn a_failed_read_writes_nothing(rt: HostRuntime) -> Result<(), Fail> {
     let mut source = CountingReader::new(Trickle {
         bytes: SMALLEST,
         bad: 20,
+        kind: ErrorKind::Interrupted,
         calls: 0,
     });
     let mut sink = VecSink::new(Vec::new(rt.alloc()));
@@ -89,6 +38,7 @@ fn a_failed_write_leaves_a_front(rt: HostRuntime) -> Result<(), Fail> {
     let mut sink = CountingWriter::new(Drip {
         held: Vec::new(rt.alloc()),
         bad: 16,
+        fails: false,
         calls: 0,
     });
     let outcome = run_bytes(rt.alloc(), Format::Text, &mut source, &mut sink);
@@ -129,6 +79,7 @@ fn a_failed_write_leaves_a_front_of_the_verdict(rt: HostRuntime) -> Result<(), F
     let mut sink = CountingWriter::new(Drip {
         held: Vec::new(rt.alloc()),
         bad: 5,
+        fails: false,
         calls: 0,
     });
     let outcome = check_bytes(rt.alloc(), &mut source, &mut sink);
@@ -159,6 +110,7 @@ fn a_failed_write_leaves_a_front_of_the_replies(rt: HostRuntime) -> Result<(), F
     let mut sink = CountingWriter::new(Drip {
         held: Vec::new(rt.alloc()),
         bad: 33,
+        fails: false,
         calls: 0,
     });
     let outcome = debug_bytes(rt.alloc(), 1, 1, &mut source, &mut sink);

@@ -2,6 +2,10 @@
 ghost use Rattle.std.specs.Prelude.{◌<◌, ◌++◌, Some, None, codes, map};
 ghost use Rattle.std.specs.Fmt.{decimal};
 
+use super::fakes::{Drip, Trickle};
+use std::alloc::{AllocError, Global};
+use std::io::{self, ErrorKind};
+use std::test::Fail;
 use zy_io::buffer::LineBuffer;
 use zy_io::line::{Decimal, Joined, Line};
 use zy_io::memory::{SliceSource, VecSink};
@@ -9,36 +13,6 @@ use zy_io::reading::{MAX_INPUT, ReadFault, read_all};
 use zy_io::section::{Both, Each, One, Parts, Section, write_line, write_lines, write_parts};
 use zy_io::stream::{CountingReader, CountingWriter, Sink, Source};
 use zy_io::writing::{TextFault, WriteFault, write_all};
-use std::alloc::{AllocError, Global};
-use std::io::{self, ErrorKind, Read, Write};
-use std::test::Fail;
-
-/// Gives one byte a call; one call fails.
-#[derive(Drop)]
-struct Trickle<'a> {
-    bytes: &'a [u8],
-    bad: u64,
-    kind: ErrorKind,
-    calls: u64,
-}
-
-impl Read for Trickle<'_> {
-    fn read(&mut self, buffer: &mut [u8]) -> io::Result<usize> {
-        self.calls = self.calls.saturating_add(1);
-        if self.calls == self.bad {
-            return Err(io::Error::from(self.kind));
-        }
-        let [first, rest @ ..] = self.bytes else {
-            return Ok(0);
-        };
-        if buffer.is_empty() {
-            return Ok(0);
-        }
-        buffer[0] = *first;
-        self.bytes = rest;
-        Ok(1)
-    }
-}
 
 /// Gives so many bytes, and counts them.
 #[derive(Drop)]
@@ -57,41 +31,6 @@ impl Source for Plenty {
         self.left -= count;
         self.given = self.given.saturating_add(count);
         Ok(count)
-    }
-}
-
-/// Takes one byte a call; one call fails, or takes none.
-#[derive(Drop)]
-struct Drip {
-    held: Vec<u8>,
-    bad: u64,
-    fails: bool,
-    calls: u64,
-}
-
-impl Write for Drip {
-    fn write(&mut self, bytes: &[u8]) -> io::Result<usize> {
-        self.calls = self.calls.saturating_add(1);
-        if self.calls == self.bad {
-            return if self.fails {
-                Err(io::Error::from(ErrorKind::Interrupted))
-            } else {
-                Ok(0)
-            };
-        }
-        let [first, ..] = bytes else {
-            return Ok(0);
-        };
-        self.held.push(*first)?;
-        Ok(1)
-    }
-
-    fn flush(&mut self) -> io::Result<()> {
-        if self.fails {
-            Err(io::Error::from(ErrorKind::Other))
-        } else {
-            Ok(())
-        }
     }
 }
 

@@ -4,7 +4,7 @@ use zy_audit::lines::link::link_line;
 use zy_audit::lines::page::page_line;
 use zy_audit::lines::txn::txn_line;
 use zy_audit::serial::same;
-use crate::serial::{commit, scenario};
+use super::serial::{commit, scenario};
 use std::alloc::{AllocError, Global};
 use std::process::Abort;
 use std::test::Fail;

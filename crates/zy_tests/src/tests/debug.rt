@@ -1,6 +1,7 @@
 //! One session on a scenario in which a migration starts and a page moves, with each kind of command.
 ghost use Rattle.std.specs.Prelude.{◌≤◌};
 
+use super::fixtures::one_row;
 use zy_debug::command::{Command, DebugFault, Reply};
 use zy_debug::debugger::Debugger;
 use std::alloc::Global;
@@ -8,9 +9,6 @@ use std::process::Abort;
 use std::test::Fail;
 use zy_isa::choice::Choice;
 use zy_isa::node::Node;
-use zy_isa::row::Row;
-use zy_isa::rule::Rule;
-use zy_isa::scenario::Scenario;
 
 /// A migration starts, A pushes the page, and B takes it.
 const CHOICES: &[Choice] = &[
@@ -51,18 +49,11 @@ const SESSION: &[(Command, Result<Reply, DebugFault>)] = &[
     (Command::Position, Ok(Reply::Shown)),
 ];
 
-/// A scenario of one row, 7 at key 10.
-fn scenario(alloc: Global) -> Result<Scenario, Fail> {
-    let rows = [Row { key: 10, value: 7 }].to_vec(alloc)?;
-    let choices = CHOICES.to_vec(alloc)?;
-    Ok(Scenario::new(1, 4, 4, Rule::Held, rows, Vec::new(alloc), choices)?)
-}
-
 /// Checks the answers of a debugger that keeps copies so often, and so many.
 fn check_session(rt: &impl Abort, alloc: Global, every: usize, ring: usize) -> Result<(), Fail>
     requires { 1 ≤ every }
 {
-    let mut debugger = Debugger::open(alloc, scenario(alloc)?, every, ring)?;
+    let mut debugger = Debugger::open(alloc, one_row(alloc, CHOICES)?, every, ring)?;
     check_answers(rt, &mut debugger);
     Ok(())
 }
@@ -117,7 +108,7 @@ fn check_same(rt: &impl Abort, debugger: &mut Debugger, plain: &mut Debugger) {
 fn check_copies(rt: &impl Abort, alloc: Global, every: usize, ring: usize) -> Result<(), Fail>
     requires { 1 ≤ every }
 {
-    let mut plain = Debugger::open(alloc, scenario(alloc)?, 1, 0)?;
+    let mut plain = Debugger::open(alloc, one_row(alloc, CHOICES)?, 1, 0)?;
     check_against(rt, alloc, &mut plain, every, ring)
 }
 
@@ -131,7 +122,7 @@ fn check_against(
 ) -> Result<(), Fail>
     requires { 1 ≤ every }
 {
-    let mut debugger = Debugger::open(alloc, scenario(alloc)?, every, ring)?;
+    let mut debugger = Debugger::open(alloc, one_row(alloc, CHOICES)?, every, ring)?;
     check_same(rt, &mut debugger, plain);
     Ok(())
 }
