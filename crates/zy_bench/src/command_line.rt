@@ -15,12 +15,12 @@ pub enum Request {
     Debug(Checkpoints),
 }
 
-/// Which checkpoints are kept.
+/// Which copies of the machine are kept to replay from.
 #[derive(Clone, Copy, Debug, PartialEq, Eq)]
 pub struct Checkpoints {
-    /// One at each multiple of this.
+    /// Copies stand at multiples of this, but for those close to the position.
     pub every: usize,
-    /// The last so many.
+    /// At most so many.
     pub ring: usize,
 }
 
@@ -113,7 +113,7 @@ fn check_command<'a>(alloc: Global) -> Command<'a> {
     Command::new(alloc, "check")
         .about("Reads a listing on standard input, and says whether it is right")
         .after_help(
-            "The scenario at its head, up to and with its first line end, is run. Where the input is its\nlisting, byte for byte, the output is table, else not table L: L is the first line of the input\nthat differs, and standard error shows it.\n\nExample:\n  zy_bench run < examples/first_run.zephyr | zy_bench check\n\nStatus: 0 table, 1 the scenario is refused, 2 the command line is wrong,\n3 want of memory, 4 not table, 5 the input or the output failed.\nThe listing is told in docs/formats.md.",
+            "The scenario at its head, through its end line, is run. Where the input is its listing, byte\nfor byte, the output is table, else not table L: L is the first line of the input that differs,\nand standard error shows it.\n\nExample:\n  zy_bench run < examples/first_run.zephyr | zy_bench check\n\nStatus: 0 table, 1 the scenario is refused, 2 the command line is wrong,\n3 want of memory, 4 not table, 5 the input or the output failed.\nThe listing is told in docs/formats.md.",
         )
 }
 
@@ -123,16 +123,16 @@ fn debug_command<'a>(alloc: Global) -> Result<Command<'a>, AllocError> {
         .long("every")
         .value_name("N")
         .value_parser(value_parser!(u16).range(1..=4096))
-        .help("Keeps a copy of the state at each multiple of N: 1 to 4096, else 64");
+        .help("Keeps copies of the state at multiples of N: 1 to 4096, else 64");
     let ring = Arg::new(alloc, "ring")
         .long("ring")
         .value_name("N")
         .value_parser(value_parser!(u8).range(1..=64))
-        .help("Keeps the last N copies: 1 to 64, else 16");
+        .help("Keeps at most N copies: 1 to 64, else 16");
     Command::new(alloc, "debug")
         .about("Answers commands on the run of a scenario, one a line")
         .after_help(
-            "Input:   a scenario text through its first line end, and below it commands, one a line;\n         at most 4194304 bytes\nOutput:  the replies; a fault is one line on standard error\nStatus:  0 done, 1 the scenario is refused, 2 the command line is wrong,\n         3 want of memory, 5 the input or the output failed\n\nCommands: step N, back N, goto N, cont, rcont, break page P, break mode, break abort,\nwatch K, delete I, page P, txn T, links, where. docs/debugger.md tells them all.\n\nA command replays from the copy nearest below its target, or from the start. The two numbers\nchange how long that takes and how much memory, and no reply.\n\nExample:\n  (cat examples/gone.zephyr; echo 'break abort'; echo cont) | zy_bench debug",
+            "Input:   a scenario text through its end line, and below it commands, one a line;\n         at most 4194304 bytes\nOutput:  the replies; a fault is one line on standard error\nStatus:  0 done, 1 the scenario is refused, 2 the command line is wrong,\n         3 want of memory, 5 the input or the output failed\n\nCommands: step N, back N, goto N, cont, rcont, break page P, break mode, break abort,\nwatch K, delete I, page P, txn T, links, where. docs/debugger.md tells them all.\n\nA command replays from the copy nearest below its target, or from the start. The two numbers\nchange how long that takes and how much memory, and no reply.\n\nExample:\n  (cat examples/gone.zephyr; echo 'break abort'; echo cont) | zy_bench debug",
         )
         .arg(every)?
         .arg(ring)

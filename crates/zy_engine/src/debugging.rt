@@ -36,8 +36,8 @@ fn write_replies<K: Sink>(
 /// Reads an input whole: a scenario text through its first line whose only word is `end`, and below it commands, one a line.
 /// Writes the replies. Nothing is written before the scenario is accepted.
 ///
-/// A replay that passes a multiple of `every` keeps a copy of the machine there, and of these copies the last `ring`: no reply
-/// shows it.
+/// Copies of the machine are kept to replay from, at multiples of `every` and close to the position, and at most `ring` of them: they
+/// change how long a command takes, and no reply.
 pub fn debug_bytes<S: Source, K: Sink>(
     alloc: Global,
     every: usize,
