@@ -1,8 +1,8 @@
 //! A text that is read, and bytes that are none. What faults there are, and their words, is in tests/cases and tests/refused.
 
+use std::alloc::Global;
 use zy_asm::assembling::assemble_bytes;
 use zy_asm::faults::{AsmFault, AsmKind};
-use std::alloc::Global;
 use zy_isa::rule::Rule;
 
 #[test]

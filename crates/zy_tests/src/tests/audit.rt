@@ -1,13 +1,13 @@
 //! A run of a machine, and what is told of it. Whole listings are in `tests/cases` of the repository.
 
-use zy_audit::lines::link::link_line;
-use zy_audit::lines::page::page_line;
-use zy_audit::lines::txn::txn_line;
-use zy_audit::serial::same;
 use super::serial::{commit, scenario};
 use std::alloc::{AllocError, Global};
 use std::process::Abort;
 use std::test::Fail;
+use zy_audit::lines::link::link_line;
+use zy_audit::lines::page::page_line;
+use zy_audit::lines::txn::txn_line;
+use zy_audit::serial::same;
 use zy_io::buffer::LineBuffer;
 use zy_isa::choice::Choice;
 use zy_isa::node::Node;

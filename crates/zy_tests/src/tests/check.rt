@@ -1,13 +1,13 @@
 //! One check of each kind, the cut, and a sink that is written piece by piece. Worked checks are in tests/cases.
 
+use std::alloc::Global;
+use std::test::Fail;
+use zy_asm::faults::{Reason, Refusal};
 use zy_check::check::check;
 use zy_check::comparing::Comparing;
 use zy_check::cut::cut_len;
 use zy_check::faults::CheckFault;
 use zy_check::verdict::Verdict;
-use std::alloc::Global;
-use std::test::Fail;
-use zy_asm::faults::{Reason, Refusal};
 use zy_io::memory::SliceSource;
 use zy_io::writing::write_all;
 

@@ -2,11 +2,11 @@
 ghost use Rattle.std.specs.Prelude.{◌≤◌};
 
 use super::fixtures::one_row;
-use zy_debug::command::{Command, DebugFault, Reply};
-use zy_debug::debugger::Debugger;
 use std::alloc::Global;
 use std::process::Abort;
 use std::test::Fail;
+use zy_debug::command::{Command, DebugFault, Reply};
+use zy_debug::debugger::Debugger;
 use zy_isa::choice::Choice;
 use zy_isa::node::Node;
 

@@ -1,7 +1,7 @@
 //! The text of a small scenario.
 
-use zy_disasm::text::write_text;
 use std::alloc::Global;
+use zy_disasm::text::write_text;
 use zy_io::memory::VecSink;
 use zy_isa::choice::Choice;
 use zy_isa::instr::{Instr, Reg};

@@ -1,14 +1,14 @@
 //! The engine over streams that give and take little, and fail in mid-stream. Whole runs are in tests/cases.
 
 use super::fakes::{Drip, Trickle};
+use std::io::ErrorKind;
+use std::test::Fail;
+use zy_check::verdict::Verdict;
 use zy_engine::checking::check_bytes;
 use zy_engine::debugging::debug_bytes;
 use zy_engine::engine::{asm_bytes, dis_bytes, run_bytes};
 use zy_engine::faults::BenchFault;
 use zy_engine::format::Format;
-use std::io::ErrorKind;
-use std::test::Fail;
-use zy_check::verdict::Verdict;
 use zy_io::memory::{SliceSource, VecSink};
 use zy_io::stream::{CountingReader, CountingWriter};
 

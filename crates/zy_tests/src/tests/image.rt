@@ -1,11 +1,11 @@
 //! A worked image and the faults of inputs near it, told from the page on the formats.
 
+use std::alloc::Global;
+use std::test::Fail;
 use zy_image::choices::with_choices;
 use zy_image::faults::LoadFault;
 use zy_image::load::load;
 use zy_image::save::save;
-use std::alloc::Global;
-use std::test::Fail;
 use zy_isa::choice::Choice;
 use zy_isa::instr::{Instr, Reg};
 use zy_isa::node::Node;

@@ -1,8 +1,8 @@
 //! Each call once with ample memory, on three messages.
+use std::alloc::{AllocError, Global};
 use zy_links::kind::Kind;
 use zy_links::link::Link;
 use zy_links::message::Message;
-use std::alloc::{AllocError, Global};
 use zy_page::page::Page;
 use zy_wire::wire::Wire;
 

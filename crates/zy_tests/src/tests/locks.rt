@@ -1,8 +1,8 @@
 //! Each call once with ample memory, on worked locks.
-use zy_locks::lock::{Lock, LockKind};
-use zy_locks::locks::Locks;
 use std::alloc::{AllocError, Global};
 use std::process::Abort;
+use zy_locks::lock::{Lock, LockKind};
+use zy_locks::locks::Locks;
 
 /// Two read page 7; one writes page 9.
 const LOCKS: [Lock; 3] = [

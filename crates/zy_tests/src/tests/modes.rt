@@ -1,9 +1,9 @@
 //! Every pair of mode and kind, and every pair of modes, against tables written by hand.
-use zy_modes::mode::NodeMode;
-use zy_modes::table::{FinRow, MsgRow, home_of, on_finish, on_message, on_start};
 use std::process::Abort;
 use zy_isa::node::Node;
 use zy_links::kind::Kind;
+use zy_modes::mode::NodeMode;
+use zy_modes::table::{FinRow, MsgRow, home_of, on_finish, on_message, on_start};
 
 const MODES: [NodeMode; 8] = [
     NodeMode::Empty,

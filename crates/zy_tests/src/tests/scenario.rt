@@ -1,4 +1,8 @@
 //! Programs and scenarios with ample memory, and without.
+use std::alloc::{AllocError, Global};
+use std::test::Fail;
+use zy_io::buffer::LineBuffer;
+use zy_io::line::Line;
 use zy_isa::choice::Choice;
 use zy_isa::instr::{Instr, Reg};
 use zy_isa::node::{Actor, Node};
@@ -6,10 +10,6 @@ use zy_isa::program::{ProgFault, Program};
 use zy_isa::row::Row;
 use zy_isa::rule::Rule;
 use zy_isa::scenario::{Scenario, ScenarioFault, opening_pages_for, opening_rows};
-use std::alloc::{AllocError, Global};
-use std::test::Fail;
-use zy_io::buffer::LineBuffer;
-use zy_io::line::Line;
 
 const COUNTING: [Instr; 4] = [
     Instr::Set(Reg::R1, 4_294_967_295),

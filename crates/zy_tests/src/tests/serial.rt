@@ -1,11 +1,11 @@
 //! Worked runs, one by one.
 ghost use Rattle.std.specs.Prelude.{◌≡◌, ◌<◌, All, true};
 
-use zy_audit::serial::serial;
-use zy_audit::table::Table;
 use std::alloc::{AllocError, Global};
 use std::process::Abort;
 use std::test::Fail;
+use zy_audit::serial::serial;
+use zy_audit::table::Table;
 use zy_isa::choice::Choice;
 use zy_isa::instr::{Instr, Reg};
 use zy_isa::program::Program;
