@@ -17,5 +17,6 @@ mod page;
 mod scenario;
 mod serial;
 mod streams;
+mod threads;
 mod wire;
 mod word;

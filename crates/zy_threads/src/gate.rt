@@ -15,13 +15,14 @@ impl Gate for FreeGate {
     fn before(&self, _actor: Actor, _k: usize, _last: Option<&Entry>) {}
 }
 
-/// What may refuse a step its memory. Tests refuse one of their choice.
-pub(crate) trait Allowance {
+/// What may refuse a step its memory, as an allocator may. A test can refuse one step of its choice.
+pub trait Allowance {
+    /// Whether the next step may ask for memory. Called once for each step, by the worker that holds the lock.
     fn grants(&self) -> bool;
 }
 
 /// Leaves refusals to the allocator.
-pub(crate) struct Unlimited;
+pub struct Unlimited;
 
 impl Allowance for Unlimited {
     fn grants(&self) -> bool {

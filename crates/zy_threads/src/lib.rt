@@ -5,6 +5,4 @@ pub mod board;
 mod desk;
 pub mod gate;
 pub mod run;
-#[cfg(test)]
-mod tests;
 mod work;

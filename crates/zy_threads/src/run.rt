@@ -218,8 +218,8 @@ pub fn run_threads(
     Ok(machine)
 }
 
-/// As `run_threads`, under an allowance.
-pub(crate) fn run_allowed<R: Threads + Wait + Sync, G: Gate + Sync, W: Allowance + Sync>(
+/// As `run_threads`, under an allowance: a worker whose step it refuses stops, as one that is refused memory does.
+pub fn run_allowed<R: Threads + Wait + Sync, G: Gate + Sync, W: Allowance + Sync>(
     rt: &R,
     alloc: Global,
     scenario: Scenario,

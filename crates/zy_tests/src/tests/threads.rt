@@ -1,9 +1,6 @@
 //! The worked run on a node that is not there yet, by three threads: what its gates are called with, in which order it may go, and a
 //! step that is refused memory.
 
-use crate::board::Board;
-use crate::gate::{Allowance, Gate, Unlimited};
-use crate::run::{run_allowed, run_threads};
 use std::alloc::{AllocError, Global};
 use std::process::Abort;
 use std::sync::atomic::{AtomicU64, Ordering};
@@ -18,6 +15,9 @@ use zy_isa::rule::Rule;
 use zy_isa::scenario::Scenario;
 use zy_table::entry::Entry;
 use zy_table::outcome::Outcome;
+use zy_threads::board::Board;
+use zy_threads::gate::{Allowance, Gate, Unlimited};
+use zy_threads::run::{run_allowed, run_threads};
 
 const TAKE_B: Choice = Choice::Take(Node::B);
 
