@@ -354,7 +354,7 @@ lines_back (l ∷ ls) h =
 
 canon_clean : (s : Scenario) → IsScenario s → AreClean (canon_words s)
 canon_clean s h = (
-  refl,
+  clean_one (codes "zephyr") s.version (omega (arith, h.version_most)) refl refl,
   refl,
   (
     clean_one (codes "cap") s.cap (omega (arith, h.cap_most)) refl refl,

@@ -1,5 +1,7 @@
 -- What is read is meant.
 use Rattle.std.proofs.Common.{◌≡◌, ℕ, ◌+◌, ◌<◌, ◌≤◌, true, false, List, [], ◌∷◌, ◌++◌, length, map, codes, Ok, Some, None, refl, sym, ap, ◌∙◌, subst, inl, inr, arith, append_assoc, append-nil, length-append, ok_or}
+use Rattle.std.specs.Fmt.{decimal}
+use Rattle.std.proofs.lemmas.Fmt.{decimal_digit}
 use Rattle.std.specs.Str.{bytes_eq}
 use Rattle.zy_isa.specs.declared.rule.Rule.{Rule}
 use Rattle.zy_isa.specs.declared.rule.Rule.TheVariants.{Held, Loose}
@@ -76,8 +78,16 @@ headed_ok (x ∷ v ∷ []) name w h =
     rw (same x name p.0, e) refl
 headed_ok (x ∷ v ∷ y ∷ ys) name w h = cc
 
-version_ok : (w : List ℕ) (v : ℕ) → version_of w ≡ Some v → (w ≡ codes "1") × (v ≡ 1)
-version_ok w v h = elim (chosen_by (bytes_eq w (codes "1")) _ _ _ h) [ inl a ↦ (same w (codes "1") a.0, (let e : v ≡ 1 = cc (a.1) in e)) | inr a ↦ absurd (no v a.1) ]
+version_ok : (w : List ℕ) (v : ℕ) → version_of w ≡ Some v → (w ≡ decimal v) × (1 ≤ v) × (v ≤ 2)
+version_ok w v h =
+    elim (chosen_by (bytes_eq w (codes "1")) _ _ _ h) [
+      | inl a ↦ let one : v ≡ 1 = cc (a.1) in (same w (codes "1") a.0 ∙ sym (decimal_digit 1 (omega arith)) ∙ ap decimal (sym one), omega (arith, one), omega (arith, one))
+      | inr a ↦
+          elim (chosen_by (bytes_eq w (codes "2")) _ _ _ a.1) [
+            | inl b ↦ let two : v ≡ 2 = cc (b.1) in (same w (codes "2") b.0 ∙ sym (decimal_digit 2 (omega arith)) ∙ ap decimal (sym two), omega (arith, two), omega (arith, two))
+            | inr b ↦ absurd (no v b.1)
+          ]
+    ]
   where
     no : (x : ℕ) → None ≡ Some x → ⊥
     no x e = cc
@@ -96,29 +106,29 @@ rule_ok w r h =
     no : (x : Rule) → None ≡ Some x → ⊥
     no x e = cc
 
-record FoundRule (c p : ℕ) (ls : List (List (List ℕ))) (t : Seen) : Type 0 where
+record FoundRule (v c p : ℕ) (ls : List (List (List ℕ))) (t : Seen) : Type 0 where
   rule : Rule
   line : List (List ℕ)
   more : List (List (List ℕ))
   lines : ls ≡ line ∷ more
   spelled : Spells (m.rule rule) line
-  rows : FoundRows (base c p rule []) more t
+  rows : FoundRows (base v c p rule []) more t
 
-found_rule : (ls : List (List (List ℕ))) (c p : ℕ) (t : Seen) → 1 ≤ p → fold_lines (top stage.Rule (base c p Held []) [] []) ls ≡ Ok t → FoundRule c p ls t
-found_rule [] c p t least h = cc
-found_rule (l ∷ ls) c p t least h =
-    let k = bind_ok (step (top stage.Rule (base c p Held []) [] []) l) (λ u. fold_lines u ls) t h in
+found_rule : (ls : List (List (List ℕ))) (v c p : ℕ) (t : Seen) → 1 ≤ p → fold_lines (top stage.Rule (base v c p Held []) [] []) ls ≡ Ok t → FoundRule v c p ls t
+found_rule [] v c p t least h = cc
+found_rule (l ∷ ls) v c p t least h =
+    let k = bind_ok (step (top stage.Rule (base v c p Held []) [] []) l) (λ u. fold_lines u ls) t h in
     let a = bind_ok (headed l (codes "rule")) _ k.0 k.1 in
     let r = bind_ok (ok_or (rule_of a.0) kinds.Header) _ k.0 a.2 in
-    let e : k.0 ≡ top stage.Rows (base c p r.0 []) [] [] = cc (r.2) in
-    let none : Placed (base c p r.0 []) = record { few = omega arith; few_pages = least; in_order = refl } in
+    let e : k.0 ≡ top stage.Rows (base v c p r.0 []) [] [] = cc (r.2) in
+    let none : Placed (base v c p r.0 []) = record { few = omega arith; few_pages = least; in_order = refl } in
     record {
       rule = r.0;
       line = l;
       more = ls;
       lines = refl;
       spelled = headed_ok l (codes "rule") a.0 a.1 ∙ ap (λ (w : List ℕ). codes "rule" ∷ w ∷ []) (rule_ok a.0 r.0 (ok_or_ok (rule_of a.0) kinds.Header r.0 r.1));
-      rows = found_rows ls (base c p r.0 []) t none (rw e at k.2);
+      rows = found_rows ls (base v c p r.0 []) t none (rw e at k.2);
     }
 
 -- a line of the header that tells a number
@@ -134,40 +144,40 @@ number_line l name w a b n h g =
     let q = number_in_ok w a b n g in
     record { word = w; spelled = headed_ok l name w h; number = q.0; least = q.1; most = q.2 }
 
-record FoundPages (c : ℕ) (ls : List (List (List ℕ))) (t : Seen) : Type 0 where
+record FoundPages (v c : ℕ) (ls : List (List (List ℕ))) (t : Seen) : Type 0 where
   pages : ℕ
   line : List (List ℕ)
   more : List (List (List ℕ))
   lines : ls ≡ line ∷ more
   number : Number (codes "pages") 1 512 line pages
-  rule : FoundRule c pages more t
+  rule : FoundRule v c pages more t
 
-found_pages : (ls : List (List (List ℕ))) (c : ℕ) (t : Seen) → fold_lines (top stage.Pages (base c 1 Held []) [] []) ls ≡ Ok t → FoundPages c ls t
-found_pages [] c t h = cc
-found_pages (l ∷ ls) c t h =
-    let k = bind_ok (step (top stage.Pages (base c 1 Held []) [] []) l) (λ u. fold_lines u ls) t h in
+found_pages : (ls : List (List (List ℕ))) (v c : ℕ) (t : Seen) → fold_lines (top stage.Pages (base v c 1 Held []) [] []) ls ≡ Ok t → FoundPages v c ls t
+found_pages [] v c t h = cc
+found_pages (l ∷ ls) v c t h =
+    let k = bind_ok (step (top stage.Pages (base v c 1 Held []) [] []) l) (λ u. fold_lines u ls) t h in
     let a = bind_ok (headed l (codes "pages")) _ k.0 k.1 in
     let n = bind_ok (number_in a.0 1 512) _ k.0 a.2 in
-    let e : k.0 ≡ top stage.Rule (base c n.0 Held []) [] [] = cc (n.2) in
+    let e : k.0 ≡ top stage.Rule (base v c n.0 Held []) [] [] = cc (n.2) in
     let q = number_line l (codes "pages") a.0 1 512 n.0 a.1 n.1 in
-    record { pages = n.0; line = l; more = ls; lines = refl; number = q; rule = found_rule ls c n.0 t q.least (rw e at k.2) }
+    record { pages = n.0; line = l; more = ls; lines = refl; number = q; rule = found_rule ls v c n.0 t q.least (rw e at k.2) }
 
-record FoundCap (ls : List (List (List ℕ))) (t : Seen) : Type 0 where
+record FoundCap (v : ℕ) (ls : List (List (List ℕ))) (t : Seen) : Type 0 where
   cap : ℕ
   line : List (List ℕ)
   more : List (List (List ℕ))
   lines : ls ≡ line ∷ more
   number : Number (codes "cap") 2 16 line cap
-  pages : FoundPages cap more t
+  pages : FoundPages v cap more t
 
-found_cap : (ls : List (List (List ℕ))) (t : Seen) → fold_lines (top stage.Cap (base 2 1 Held []) [] []) ls ≡ Ok t → FoundCap ls t
-found_cap [] t h = cc
-found_cap (l ∷ ls) t h =
-    let k = bind_ok (step (top stage.Cap (base 2 1 Held []) [] []) l) (λ u. fold_lines u ls) t h in
+found_cap : (ls : List (List (List ℕ))) (v : ℕ) (t : Seen) → fold_lines (top stage.Cap (base v 2 1 Held []) [] []) ls ≡ Ok t → FoundCap v ls t
+found_cap [] v t h = cc
+found_cap (l ∷ ls) v t h =
+    let k = bind_ok (step (top stage.Cap (base v 2 1 Held []) [] []) l) (λ u. fold_lines u ls) t h in
     let a = bind_ok (headed l (codes "cap")) _ k.0 k.1 in
     let n = bind_ok (number_in a.0 2 16) _ k.0 a.2 in
-    let e : k.0 ≡ top stage.Pages (base n.0 1 Held []) [] [] = cc (n.2) in
-    record { cap = n.0; line = l; more = ls; lines = refl; number = number_line l (codes "cap") a.0 2 16 n.0 a.1 n.1; pages = found_pages ls n.0 t (rw e at k.2) }
+    let e : k.0 ≡ top stage.Pages (base v n.0 1 Held []) [] [] = cc (n.2) in
+    record { cap = n.0; line = l; more = ls; lines = refl; number = number_line l (codes "cap") a.0 2 16 n.0 a.1 n.1; pages = found_pages ls v n.0 t (rw e at k.2) }
 
 -- ---- the whole text
 
@@ -181,19 +191,19 @@ pub record FoundText (ls : List (List (List ℕ))) (t : Seen) : Type 0 where
   pub spelled : SpellEach (statements (shows t) draft) ls
   pub tested : scenario_fault (shows t) ≡ None
 
-whole : (a : List (List ℕ)) (ls : List (List (List ℕ))) (t : Seen) → Spells m.zephyr a → FoundCap ls t → FoundText (a ∷ ls) t
-whole a ls t z f =
+whole : (a : List (List ℕ)) (ls : List (List (List ℕ))) (v : ℕ) (t : Seen) → Spells (m.zephyr v) a → 1 ≤ v → v ≤ 2 → FoundCap v ls t → FoundText (a ∷ ls) t
+whole a ls v t z least most f =
     let g = f.pages in
     let i = g.rule in
     let j = i.rows in
     let r = j.rest in
     let lines : ls ≡ f.line ∷ g.line ∷ i.line ∷ i.more = f.lines ∙ ap (λ x. f.line ∷ x) (g.lines ∙ ap (λ x. g.line ∷ x) i.lines) in
-    let u = at stage.Done (base f.cap g.pages i.rule j.rows) (names_of 0 r.programs) (bodies r.programs) [] [] (repeated r.choices) in
+    let u = at stage.Done (base v f.cap g.pages i.rule j.rows) (names_of 0 r.programs) (bodies r.programs) [] [] (repeated r.choices) in
     let all : FoundText (a ∷ f.line ∷ g.line ∷ i.line ∷ i.more) u = record {
       draft = record { programs = r.programs; choices = r.choices };
       drafts = record { programs = refl; choices = refl; headed = r.headed; names_new = r.new; labelled = r.labelled };
       spelled = (z, ((f.number.word, f.number.spelled, f.number.number), ((g.number.word, g.number.spelled, g.number.number), (i.spelled, j.spelled))));
-      tested = no_fault (shows u) refl f.number.least f.number.most g.number.least g.number.most j.placed.few j.placed.few_pages j.placed.in_order r.few r.few_choices r.named;
+      tested = no_fault (shows u) least most f.number.least f.number.most g.number.least g.number.most j.placed.few j.placed.few_pages j.placed.in_order r.few r.few_choices r.named;
     } in
     subst (λ x. FoundText (a ∷ x) t) (sym lines) (subst (FoundText (a ∷ f.line ∷ g.line ∷ i.line ∷ i.more)) (sym r.same) all)
 
@@ -203,7 +213,6 @@ found_text (l ∷ ls) t h =
     let k = bind_ok (step nothing_seen l) (λ u. fold_lines u ls) t h in
     let a = bind_ok (headed l (codes "zephyr")) _ k.0 k.1 in
     let v = bind_ok (ok_or (version_of a.0) kinds.Header) _ k.0 a.2 in
-    let one = version_ok a.0 v.0 (ok_or_ok (version_of a.0) kinds.Header v.0 v.1) in
-    let e : k.0 ≡ record (top stage.Cap (base 2 1 Held []) [] []) { version = v.0 } = cc (v.2) in
-    let e1 : k.0 ≡ top stage.Cap (base 2 1 Held []) [] [] = e ∙ ap (λ n. record (top stage.Cap (base 2 1 Held []) [] []) { version = n }) one.1 in
-    whole l ls t (headed_ok l (codes "zephyr") a.0 a.1 ∙ ap (λ (w : List ℕ). codes "zephyr" ∷ w ∷ []) one.0) (found_cap ls t (rw e1 at k.2))
+    let is = version_ok a.0 v.0 (ok_or_ok (version_of a.0) kinds.Header v.0 v.1) in
+    let e : k.0 ≡ top stage.Cap (base v.0 2 1 Held []) [] [] = cc (v.2) in
+    whole l ls v.0 t (headed_ok l (codes "zephyr") a.0 a.1 ∙ ap (λ (w : List ℕ). codes "zephyr" ∷ w ∷ []) is.0) is.1 is.2 (found_cap ls v.0 t (rw e at k.2))

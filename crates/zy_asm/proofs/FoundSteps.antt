@@ -36,17 +36,18 @@ use Rattle.zy_asm.proofs.DraftLemmas.{Line, SpellsLine, pending_in}
 
 -- what the header and the rows gave
 pub record Base : Type 0 where
+  pub version : ℕ
   pub cap : ℕ
   pub pages : ℕ
   pub rule : Rule
   pub rows : List Row
 
-abbrev pub base : ℕ → ℕ → Rule → List Row → Base
-base c p r R = record { cap = c; pages = p; rule = r; rows = R }
+abbrev pub base : ℕ → ℕ → ℕ → Rule → List Row → Base
+base v c p r R = record { version = v; cap = c; pages = p; rule = r; rows = R }
 
 -- a state
 abbrev pub at : Stage → Base → List Mark → List (List Instr) → List Mark → List Pending → List Choice → Seen
-at st b N P M O C = record { stage = st; version = 1; cap = b.cap; pages = b.pages; rule = b.rule; rows = b.rows; names = N; programs = P; labels = M; instrs = O; choices = C }
+at st b N P M O C = record { stage = st; version = b.version; cap = b.cap; pages = b.pages; rule = b.rule; rows = b.rows; names = N; programs = P; labels = M; instrs = O; choices = C }
 
 -- a state between programs
 abbrev pub top : Stage → Base → List Mark → List (List Instr) → Seen

@@ -5,6 +5,8 @@ use Rattle.std.proofs.lemmas.Nat.{le-div}
 use Rattle.std.proofs.Math.Nat.{div-mul-le_self}
 use Rattle.std.specs.Prelude.{replicate}
 use Rattle.std.specs.List.{flat_map}
+use Rattle.std.specs.Fmt.{decimal}
+use Rattle.std.proofs.lemmas.Fmt.{decimal_digit}
 use Rattle.zy_isa.specs.declared.rule.Rule.{Rule}
 use Rattle.zy_isa.specs.declared.rule.Rule.TheVariants.{Held, Loose}
 use Rattle.zy_isa.specs.declared.node.Node.{Node}
@@ -32,7 +34,7 @@ use Rattle.zy_asm.specs.declared.state.Reader.{Reader}
 use Rattle.zy_isa.specs.Results.{◌>>=◌}
 use Rattle.zy_words.specs.Names.{is_numeral}
 use Rattle.zy_asm.specs.Pending.{Pending, resolved, all_resolved, program_of}
-use Rattle.zy_asm.specs.Reading.{Seen, seen, rule_of, own_number, open_line, choice_line, step, line_step, at_line, read_lines, reading, finish, nothing_seen}
+use Rattle.zy_asm.specs.Reading.{Seen, seen, rule_of, version_of, own_number, open_line, choice_line, step, line_step, at_line, read_lines, reading, finish, nothing_seen}
 use Rattle.zy_isa.proofs.RowLemmas.{Above, above_more}
 use Rattle.zy_isa.proofs.ResultLemmas.{bind_ok, not_below, over_not}
 use Rattle.zy_asm.proofs.SpellLemmas.{actor_word, node_word}
@@ -307,18 +309,24 @@ only_rows (r ∷ rows) xs (l ∷ ls) b low least h w rise fit above few pages =
 
 -- the state that shows the scenario
 abbrev all_of : Scenario → List Mark → Seen
-all_of s N = at stage.Done (base s.cap s.pages s.rule s.rows) N s.programs [] [] s.choices
+all_of s N = at stage.Done (base s.version s.cap s.pages s.rule s.rows) N s.programs [] [] s.choices
 
 rule_gives : (r : Rule) → rule_of (rule_text r) ≡ Some r
 rule_gives Held = refl
 rule_gives Loose = refl
 
+version_gives : (v : ℕ) → 1 ≤ v → v ≤ 2 → version_of (decimal v) ≡ Some v
+version_gives zero least most = absurd (omega arith)
+version_gives (suc zero) least most = ap version_of (decimal_digit 1 (omega arith))
+version_gives (suc (suc zero)) least most = ap version_of (decimal_digit 2 (omega arith))
+version_gives (suc (suc (suc v))) least most = absurd (omega arith)
+
 only_body : (s : Scenario) (d : Draft) (ls : List (List (List ℕ))) → IsScenario s → IsDraftOf d s → Worded ls
     → SpellEach (map m.row s.rows ++ following [] 0 d.programs d.choices) ls
-    → fold_lines (top stage.Rows (base s.cap s.pages s.rule []) [] []) ls ≡ Ok (all_of s (names_of 0 d.programs))
+    → fold_lines (top stage.Rows (base s.version s.cap s.pages s.rule []) [] []) ls ≡ Ok (all_of s (names_of 0 d.programs))
 only_body s d ls fits drafts w h =
     let z : 0 + length s.rows ≡ length s.rows = omega arith in
-    let b = base s.cap s.pages s.rule in
+    let b = base s.version s.cap s.pages s.rule in
     let r = only_rows s.rows (following [] 0 d.programs d.choices) ls (b []) 0 fits.cap_least h w fits.rows_rise fits.rows_fit (λ key h. refl) (omega (arith, fits.few_rows)) (subst (λ k. opening_pages_for s.cap k ≤ s.pages) (sym z) fits.few_opening_pages) in
     let programs : ArePrograms (bodies d.programs) = subst ArePrograms (sym drafts.programs) fits.programs in
     let named : AreNamed (length (bodies d.programs)) (repeated d.choices) =
@@ -337,7 +345,7 @@ only_lines s d (x ∷ y ∷ z ∷ []) fits e w q = absurd q.1.1.1
 only_lines s d (x ∷ y ∷ z ∷ f ∷ ls) fits e w q =
     let cap = q.1.0 in
     let pages = q.1.1.0 in
-    rw (q.0, cap.1, number_in_gives cap.0 2 16 s.cap cap.2 fits.cap_least fits.cap_most)
+    rw (q.0, version_gives s.version fits.version_least fits.version_most, cap.1, number_in_gives cap.0 2 16 s.cap cap.2 fits.cap_least fits.cap_most)
     (rw (pages.1, number_in_gives pages.0 1 512 s.pages pages.2 fits.pages_least fits.pages_most)
     (rw (q.1.1.1.0, rule_gives s.rule) (only_body s d ls fits e w.1.1.1.1 q.1.1.1.1)))
 
@@ -386,11 +394,8 @@ one_answer t u r h k = cc
 not_both : (t : Seen) (f : AsmFault) (r : Result Seen AsmFault) → r ≡ Ok t → r ≡ Err f → ⊥
 not_both t f r h k = cc
 
-shown_back : (s : Scenario) (N : List Mark) → IsScenario s → shows (all_of s N) ≡ s
-shown_back s N h = ap (λ v. record s { version = v }) (sym h.version)
-
 pub only_of : (text : List ℕ) (t : Seen) (s : Scenario) → reading text ≡ Ok t → Means text s → shows t ≡ s
-only_of text t s h q = ap shows (one_answer t (ends_in text s q) (reading text) h (only text s q)) ∙ shown_back s (names_of 0 q.1.0.programs) q.0
+only_of text t s h q = ap shows (one_answer t (ends_in text s q) (reading text) h (only text s q))
 
 pub fault_of : (text : List ℕ) (f : AsmFault) (s : Scenario) → (f.kind ≡ kinds.Memory) ⊎ (reading text ≡ Err f) → Means text s → f.kind ≡ kinds.Memory
 fault_of text f s h q =

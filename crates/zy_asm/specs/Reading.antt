@@ -85,6 +85,7 @@ headed _ name = Err kinds.Header
 abbrev pub version_of : List ℕ → Option ℕ
 version_of w =
     if bytes_eq w (codes "1") then Some 1 else
+    if bytes_eq w (codes "2") then Some 2 else
     None
 
 abbrev pub rule_of : List ℕ → Option LockRule

@@ -132,7 +132,7 @@ impl fmt::Display for Reason {
     fn fmt<W: fmt::Write>(&self, f: &mut fmt::Formatter<W>) -> fmt::Result {
         match self {
             Reason::NotTheHeader => f.write_str(
-                "the header is zephyr 1, cap N, pages N and rule held or rule loose",
+                "the header is zephyr 1 or zephyr 2, cap N, pages N and rule held or rule loose",
             ),
             Reason::NotText => f.write_str("a byte of this line is not UTF-8"),
             Reason::NotKnown(word) => write!(f, "the word {word} is not known here"),

@@ -83,7 +83,13 @@ fn headed<'a>(words: &[&'a [u8]], name: &[u8]) -> Result<&'a [u8], Reason>
 fn version_of(word: &[u8]) -> Option<u8>
     ensures { result ≡ version_of_spec word.now }
 {
-    if is(word, b"1") { Some(1) } else { None }
+    if is(word, b"1") {
+        Some(1)
+    } else if is(word, b"2") {
+        Some(2)
+    } else {
+        None
+    }
 }
 
 /// The rule that a word names.

@@ -47,7 +47,6 @@ pub struct Reader {
     pub labels: Table,
     pub instrs: Vec<Unresolved>,
     pub choices: Vec<Choice>,
-    pub ghost first_version: { version ≡ 1 },
     pub ghost some_cap: { 2 ≤ cap },
     pub ghost few_programs: { open_programs stage + length programs.items ≤ 64 },
     pub ghost few_instrs: { length instrs.items ≤ 64 },

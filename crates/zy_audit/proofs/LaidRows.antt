@@ -1,14 +1,20 @@
 -- Rows laid over rows, and the maps that they make.
-use Rattle.std.proofs.Common.{List, [], ap, refl, sym, ℕ, ◌∙◌, ◌∷◌, ◌≡◌}
-use Rattle.std.specs.Prelude.{None, Some}
+use Rattle.std.proofs.Common.{List, [], ap, refl, sym, ℕ, ◌+◌, ◌∙◌, ◌∷◌, ◌≡◌}
+use Rattle.std.specs.Prelude.{None, Some, unwrap_or}
 use Rattle.std.specs.FinMap.{get, get-empty, insert}
 use Rattle.std.specs.Ordering.{nat_cmp}
 use Rattle.zy_isa.specs.Rows.{get_row}
 use Rattle.zy_isa.specs.declared.row.Row.{Row}
 use Rattle.zy_table.specs.Database.{Map, laid}
+use Rattle.zy_table.specs.Ranges.{range, total}
 use Rattle.zy_table.specs.Rows.{put_rows}
+use Rattle.zy_table.specs.Serial.{value_in}
+use Rattle.zy_table.specs.Sums.{value_beside}
+use Rattle.zy_table.proofs.RangeLists.{total_same}
+use Rattle.zy_table.proofs.RowSums.{own_apart, total_plus}
 use Rattle.zy_laws.proofs.Installing.{or_else_none}
 use Rattle.zy_laws.proofs.LoneRuns.{get-laid, laid_put, or_else}
+use Rattle.zy_laws.proofs.PageValues.{value_same}
 use Rattle.zy_audit.specs.Lone.{map_of}
 
 -- rows put among rows lie over the map as more rows do
@@ -27,3 +33,10 @@ get-own rows table k v e = get-laid rows (map_of table) k ∙ ap (λ o. or_else 
 
 pub get-below : (rows table : List Row) (k : ℕ) → get_row rows k ≡ None → get (laid rows (map_of table)) k ≡ get_row table k
 get-below rows table k e = get-laid rows (map_of table) k ∙ ap (λ o. or_else o (get (map_of table) k)) e ∙ get-map_of table k
+
+-- what they have together: the rows above, and those below at other keys
+pub total-laid : (own table : List Row) (a b : ℕ) → total (value_in (laid own (map_of table))) (range a b) ≡ total (value_beside [] own) (range a b) + total (value_beside own table) (range a b)
+total-laid own table a b =
+    total_same (value_in (laid own (map_of table))) (λ k. value_beside [] own k + value_beside own table k) (range a b) (λ k _.
+    ap (λ o. unwrap_or o 0) (get-laid own (map_of table) k ∙ ap (or_else (get_row own k)) (get-map_of table k)) ∙ value_same (get_row own k) (get_row table k) ∙ own_apart (get_row own k) (get_row table k))
+    ∙ total_plus (value_beside [] own) (value_beside own table) (range a b)

@@ -1,11 +1,12 @@
 //! One program, run alone on a table.
-ghost use Rattle.std.specs.Prelude.{◌≡◌, ◌+◌, ◌<◌, ◌^◌, [], true, false, Some, IfOk, OnOk, if◌then◌else◌, replicate, slice_get};
+ghost use Rattle.std.specs.Prelude.{◌≡◌, ◌+◌, ◌<◌, ◌%◌, ◌^◌, [], true, false, Some, IfOk, OnOk, if◌then◌else◌, replicate, slice_get};
 ghost use Rattle.std.specs.FinMap.{get};
 ghost use Rattle.zy_isa.specs.Rows.{put_row};
 ghost use Rattle.zy_table.specs.Change.{reg, with_reg};
 ghost use Rattle.zy_table.specs.Database.{laid};
-ghost use Rattle.zy_table.specs.Serial.{alone, alone_instr};
-ghost use Rattle.zy_audit.specs.Lone.{map_of, on_map, reads, writes, inserts};
+ghost use Rattle.zy_table.specs.Serial.{alone, alone_instr, value_in};
+ghost use Rattle.zy_table.specs.Ranges.{range, total};
+ghost use Rattle.zy_audit.specs.Lone.{map_of, on_map, reads, writes, inserts, sums};
 
 use crate::table::Table;
 use std::alloc::{AllocError, Global};
@@ -13,6 +14,7 @@ use std::marker::Model;
 use zy_isa::instr::{Instr, Reg};
 use zy_isa::program::Program;
 use zy_page::row_list::RowList;
+use zy_table::sums::sum_of_rows;
 
 /// The rows that a program writes when it is run alone on a table, for so many instructions or to its end: none where it
 /// gives up.
@@ -106,6 +108,7 @@ impl LoneRun {
         match instr {
             Instr::Set(r, value) => self.set(r, value),
             Instr::Add(r, q) => self.set(r, self.reg(r).wrapping_add(self.reg(q))),
+            Instr::Sum(r, q) => self.sum(table, r, self.reg(r), self.reg(q)),
             Instr::Beq(r, q, target) => self.jump(self.reg(r) == self.reg(q), target),
             Instr::Commit => self.over = true,
             Instr::Abort => self.give_up(),
@@ -127,6 +130,22 @@ impl LoneRun {
                 let value = self.value(table, key).unwrap_or(0);
                 self.set(r, value);
             }
+            Err(_) => self.give_up(),
+        }
+    }
+
+    /// `sum` of the keys from one to another.
+    fn sum(&mut self, table: &Table, r: Reg, first: u32, last: u32)
+        requires on { self.old.over ≡ false }
+        requires place { self.old.pc + 1 < 2 ^ 32 }
+        ensures { let m = map_of table.now in on_map m self.new ≡ sums m r first last (on_map m self.old) }
+    {
+        if last < first {
+            self.set(r, 0);
+            return;
+        }
+        match u16::try_from(last) {
+            Ok(last) => self.set(r, self.total(table, first as u16, last)),
             Err(_) => self.give_up(),
         }
     }
@@ -180,6 +199,14 @@ impl LoneRun {
             Some(value) => Some(value),
             None => table.get(key),
         }
+    }
+
+    /// What the run sees at the keys from one to another, together, modulo 2^32.
+    fn total(&self, table: &Table, first: u16, last: u16) -> u32
+        ensures { result ≡ total (value_in (laid self.now.rows (map_of table.now))) (range first last) % 2 ^ 32 }
+    {
+        let own = self.rows.rows();
+        sum_of_rows(own, &[], first, last).wrapping_add(sum_of_rows(table.rows(), own, first, last))
     }
 
     /// A register gets a value, and the run goes on.

@@ -252,7 +252,7 @@ plain_rule Loose = refl
 
 plain_header : (s : Scenario) → IsScenario s → ArePlain (header_words s)
 plain_header s h = (
-  refl,
+  number_second (codes "zephyr") s.version (omega (arith, h.version_most)) refl,
   refl,
   (
     number_second (codes "cap") s.cap (omega (arith, h.cap_most)) refl,

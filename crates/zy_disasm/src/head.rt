@@ -20,7 +20,10 @@ impl Section for Head<'_> {
         let scenario = self.0;
         let header = Both(
             Both(
-                One("zephyr 1"),
+                One(Number {
+                    word: "zephyr",
+                    number: usize::from(scenario.version()),
+                }),
                 One(Number {
                     word: "cap",
                     number: usize::from(scenario.cap()),

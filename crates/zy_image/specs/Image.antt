@@ -1,5 +1,5 @@
 -- The image of a scenario: its fields one behind the other, each number from its highest byte down.
-use Rattle.std.specs.Prelude.{◌≡◌, ℕ, List, [], ◌∷◌, ◌++◌, length, codes}
+use Rattle.std.specs.Prelude.{◌≡◌, ◌+◌, ℕ, List, [], ◌∷◌, ◌++◌, length, codes}
 use Rattle.std.specs.List.{flat_map}
 use Rattle.std.specs.Int.{w16, w32, to_be_bytes}
 use Rattle.zy_isa.specs.declared.rule.Rule.{Rule}
@@ -13,15 +13,16 @@ use Rattle.zy_isa.specs.declared.choice.Choice.TheVariants.{Start, Begin, Kill, 
 use Rattle.zy_isa.specs.InstrWords.{word_of}
 use Rattle.zy_isa.specs.Scenario.{Scenario, IsScenario}
 
-abbrev pub magic : List ℕ
-magic = codes "ZPH1"
+-- the first bytes: ZPH, and the digit of the version
+abbrev pub magic : ℕ → List ℕ
+magic version = codes "ZPH" ++ (48 + version) ∷ []
 
 abbrev pub rule_byte : Rule → ℕ
 rule_byte Held = 0
 rule_byte Loose = 1
 
 abbrev pub head_image : Scenario → List ℕ
-head_image s = magic ++ (s.cap ∷ to_be_bytes w16 s.pages ++ rule_byte s.rule ∷ [])
+head_image s = magic s.version ++ (s.cap ∷ to_be_bytes w16 s.pages ++ rule_byte s.rule ∷ [])
 
 abbrev pub row_image : Row → List ℕ
 row_image r = to_be_bytes w16 r.key ++ to_be_bytes w32 r.value

@@ -44,8 +44,15 @@ half size bytes = field 2 size bytes >>= λ f. Ok (from_be_bytes w16 f.0, f.1)
 
 -- ---- the head
 
-abbrev pub magic_field : ℕ → List ℕ → Result (List ℕ) LoadFault
-magic_field size bytes = field 4 size bytes >>= λ f. if bytes_eq f.0 magic then Ok f.1 else Err fault.Magic
+-- the version that the first bytes tell
+abbrev pub version_at : List ℕ → Option ℕ
+version_at f = if bytes_eq f (magic 1) then Some 1 else if bytes_eq f (magic 2) then Some 2 else None
+
+abbrev pub magic_field : ℕ → List ℕ → Read ℕ
+magic_field size bytes = do
+  f ← field 4 size bytes
+  version ← ok_or (version_at f.0) fault.Magic
+  Ok (version, f.1)
 
 abbrev pub cap_field : ℕ → List ℕ → Read ℕ
 cap_field size bytes = byte size bytes >>= λ n. if is_outside 2 16 n.0 then Err fault.Cap else Ok n
@@ -64,11 +71,11 @@ rule_field size bytes = do
 
 abbrev pub head_fields : ℕ → List ℕ → Read Head
 head_fields size bytes = do
-  left ← magic_field size bytes
-  cap ← cap_field size left
+  version ← magic_field size bytes
+  cap ← cap_field size version.1
   pages ← pages_field size cap.1
   rule ← rule_field size pages.1
-  Ok (record { cap = cap.0; pages = pages.0; rule = rule.0 }, rule.1)
+  Ok (record { version = version.0; cap = cap.0; pages = pages.0; rule = rule.0 }, rule.1)
 
 -- ---- lists
 
@@ -172,7 +179,7 @@ abbrev pub ended : {X : Type 0} → ℕ → X × List ℕ → Result X LoadFault
 ended size x = if length x.1 == 0 then Ok x.0 else Err (fault.Trailing (size - length x.1))
 
 abbrev pub of_parts : Head → List Row → List (List Instr) → List Choice → Scenario
-of_parts h rs ps cs = record { version = 1; cap = h.cap; pages = h.pages; rule = h.rule; rows = rs; programs = ps; choices = cs }
+of_parts h rs ps cs = record { version = h.version; cap = h.cap; pages = h.pages; rule = h.rule; rows = rs; programs = ps; choices = cs }
 
 -- what an image gives, or its first fault
 abbrev pub reading : List ℕ → Result Scenario LoadFault
@@ -194,11 +201,6 @@ image_fault bytes = result_err (reading bytes)
 abbrev pub Gives : {X : Type 0} → Result (X × Bor (List ℕ)) LoadFault → Read X → Type 0
 Gives (Ok x) read = read ≡ Ok (x.0, x.1.now)
 Gives (Err e) read = (e ≡ fault.Memory) ⊎ (read ≡ Err e)
-
--- the answer is what is left, unless there was no memory
-abbrev pub GivesLeft : Result (Bor (List ℕ)) LoadFault → Result (List ℕ) LoadFault → Type 0
-GivesLeft (Ok left) read = read ≡ Ok left.now
-GivesLeft (Err e) read = (e ≡ fault.Memory) ⊎ (read ≡ Err e)
 
 -- the answer is this scenario, unless there was no memory
 abbrev pub GivesScenario : Result Scenario LoadFault → Scenario → Type 0

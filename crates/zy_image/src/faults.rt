@@ -8,8 +8,8 @@ use zy_isa::program::ProgFault;
 /// instructions and choices count from 0.
 #[derive(Clone, Copy, Debug, PartialEq, Eq, Error)]
 pub enum LoadFault {
-    /// 1: the first four bytes are not `ZPH1`.
-    #[error("an image begins with ZPH1")]
+    /// 1: the first four bytes are neither `ZPH1` nor `ZPH2`.
+    #[error("an image begins with ZPH1 or ZPH2")]
     Magic,
     /// 2: the input, of so many bytes, ends inside a field.
     #[error("the input ends after {0} bytes, inside a field")]

@@ -1,11 +1,17 @@
 //! Fields of bytes and of numbers. The size is that of the whole input, for a fault.
-ghost use Rattle.std.specs.Prelude.{◌≡◌};
-ghost use Rattle.zy_image.specs.Reading.{Gives, GivesLeft, byte as byte_spec, field as field_spec, half as half_spec, magic_field as magic_field_spec};
+ghost use Rattle.std.specs.Prelude.{◌≡◌, ◌≤◌};
+ghost use Rattle.zy_image.specs.Image.{magic as magic_spec};
+ghost use Rattle.zy_image.specs.Reading.{Gives, byte as byte_spec, field as field_spec, half as half_spec, magic_field as magic_field_spec, version_at as version_at_spec};
 
 use crate::faults::LoadFault;
 
-/// The first bytes of an image.
-pub const MAGIC: [u8; 4] = *b"ZPH1";
+/// The first bytes of an image, by the version.
+pub fn magic(version: u8) -> [u8; 4]
+    requires { version ≤ 2 }
+    ensures { result ≡ magic_spec version }
+{
+    [b'Z', b'P', b'H', b'0' + version]
+}
 
 /// The next field of N bytes, and what follows it.
 pub fn field<const N: usize>(size: usize, bytes: &[u8]) -> Result<([u8; N], &[u8]), LoadFault>
@@ -33,14 +39,26 @@ pub fn half(size: usize, bytes: &[u8]) -> Result<(u16, &[u8]), LoadFault>
     Ok((u16::from_be_bytes(n), left))
 }
 
-/// Passes over the first bytes of an image.
-pub fn magic_field(size: usize, bytes: &[u8]) -> Result<&[u8], LoadFault>
-    ensures { GivesLeft result (magic_field_spec size bytes.entry.now) }
+/// The version that the first bytes of an image tell.
+fn version_at(bytes: [u8; 4]) -> Option<u8>
+    ensures { result ≡ version_at_spec bytes }
 {
-    let (magic, left) = field::<4>(size, bytes)?;
-    if magic == MAGIC {
-        Ok(left)
+    if bytes == magic(1) {
+        Some(1)
+    } else if bytes == magic(2) {
+        Some(2)
     } else {
-        Err(LoadFault::Magic)
+        None
+    }
+}
+
+/// The version, as the first bytes of an image tell it.
+pub fn magic_field(size: usize, bytes: &[u8]) -> Result<(u8, &[u8]), LoadFault>
+    ensures { Gives result (magic_field_spec size bytes.entry.now) }
+{
+    let (front, left) = field::<4>(size, bytes)?;
+    match version_at(front) {
+        Some(version) => Ok((version, left)),
+        None => Err(LoadFault::Magic),
     }
 }

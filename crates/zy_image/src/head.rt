@@ -10,6 +10,8 @@ use zy_isa::scenario::{MAX_CAP, MAX_PAGES};
 /// What the fields in front of the rows say.
 #[derive(Clone, Copy, Debug, PartialEq, Eq)]
 pub struct Head {
+    /// The version, 1 or 2.
+    pub version: u8,
     /// How many rows a page has room for, 2 to 16.
     pub cap: u8,
     /// How many pages there may be, 1 to 512.
@@ -66,9 +68,15 @@ fn rule_field(size: usize, bytes: &[u8]) -> Result<(Rule, &[u8]), LoadFault>
 pub fn head_fields(size: usize, bytes: &[u8]) -> Result<(Head, &[u8]), LoadFault>
     ensures { Gives result (head_fields_spec size bytes.entry.now) }
 {
-    let left = magic_field(size, bytes)?;
+    let (version, left) = magic_field(size, bytes)?;
     let (cap, left) = cap_field(size, left)?;
     let (pages, left) = pages_field(size, left)?;
     let (rule, left) = rule_field(size, left)?;
-    Ok((Head { cap, pages, rule }, left))
+    let head = Head {
+        version,
+        cap,
+        pages,
+        rule,
+    };
+    Ok((head, left))
 }

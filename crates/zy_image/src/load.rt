@@ -62,8 +62,13 @@ pub fn load(alloc: Global, bytes: &[u8]) -> Result<Scenario, LoadFault>
         programs,
         choices,
     } = read(alloc, bytes)?;
-    let Head { cap, pages, rule } = head;
-    Ok(Scenario::of_parts(1, cap, pages, rule, rows, programs, choices))
+    let Head {
+        version,
+        cap,
+        pages,
+        rule,
+    } = head;
+    Ok(Scenario::of_parts(version, cap, pages, rule, rows, programs, choices))
 }
 
 /// The image of a scenario is read as it: no two scenarios have the same image. It does nothing when called.

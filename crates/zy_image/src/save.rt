@@ -5,7 +5,7 @@ ghost use Rattle.zy_isa.specs.InstrWords.{word_of};
 ghost use Rattle.zy_isa.specs.Programs.{IsProgram};
 ghost use Rattle.zy_image.specs.Image.{choice_image as choice_image_spec, choices_image, head_image, image_of, node_byte as node_byte_spec, program_image, programs_image, row_image as row_image_spec, rows_image, rule_byte as rule_byte_spec};
 
-use crate::fields::MAGIC;
+use crate::fields::magic;
 use std::alloc::{AllocError, Global};
 use zy_isa::choice::Choice;
 use zy_isa::instr::Instr;
@@ -118,7 +118,7 @@ fn put_head(out: &mut Vec<u8>, scenario: &Scenario) -> Result<(), AllocError>
     ensures { OnOk result (out.new.items ≡ out.old.items ++ head_image scenario.now) }
 {
     let [p0, p1] = scenario.pages().to_be_bytes();
-    out.extend_from_slice(&MAGIC)?;
+    out.extend_from_slice(&magic(scenario.version()))?;
     out.extend_from_slice(&[scenario.cap(), p0, p1, rule_byte(scenario.rule())])
 }
 

@@ -5,7 +5,7 @@ use Rattle.std.specs.Str.{bytes_eq}
 use Rattle.zy_isa.specs.declared.instr.Instr.{Instr}
 use Rattle.zy_isa.specs.declared.instr.Instr.TheVariants as instr
 use Rattle.zy_isa.specs.declared.operation.NumberOperation.TheVariants.{Set}
-use Rattle.zy_isa.specs.declared.operation.PairOperation.TheVariants.{Read, Write, Insert, Add}
+use Rattle.zy_isa.specs.declared.operation.PairOperation.TheVariants.{Read, Write, Insert, Add, Sum}
 use Rattle.zy_isa.specs.declared.operation.JumpOperation.TheVariants.{Beq}
 use Rattle.zy_isa.specs.declared.operation.LoneOperation.TheVariants.{Commit, Abort}
 use Rattle.zy_isa.specs.declared.operation.Operation.{Operation}
@@ -39,6 +39,7 @@ coded_back (op.Pair Read) = refl
 coded_back (op.Pair Write) = refl
 coded_back (op.Pair Insert) = refl
 coded_back (op.Pair Add) = refl
+coded_back (op.Pair Sum) = refl
 coded_back (op.Jump Beq) = refl
 coded_back (op.Lone Commit) = refl
 coded_back (op.Lone Abort) = refl
@@ -49,6 +50,7 @@ named_back (op.Pair Read) = refl
 named_back (op.Pair Write) = refl
 named_back (op.Pair Insert) = refl
 named_back (op.Pair Add) = refl
+named_back (op.Pair Sum) = refl
 named_back (op.Jump Beq) = refl
 named_back (op.Lone Commit) = refl
 named_back (op.Lone Abort) = refl
@@ -72,6 +74,7 @@ instr_again (instr.Read a b) = refl
 instr_again (instr.Write a b) = refl
 instr_again (instr.Insert a b) = refl
 instr_again (instr.Add a b) = refl
+instr_again (instr.Sum a b) = refl
 instr_again (instr.Beq a b n) = refl
 instr_again instr.Commit = refl
 instr_again instr.Abort = refl
@@ -82,6 +85,7 @@ parts_again (Pair Read a b) = refl
 parts_again (Pair Write a b) = refl
 parts_again (Pair Insert a b) = refl
 parts_again (Pair Add a b) = refl
+parts_again (Pair Sum a b) = refl
 parts_again (Jump Beq a b n) = refl
 parts_again (Lone Commit) = refl
 parts_again (Lone Abort) = refl

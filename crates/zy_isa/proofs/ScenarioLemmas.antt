@@ -1,9 +1,9 @@
 -- What the tests of a scenario show.
 use Rattle.std.proofs.Common.{◌≡◌, ◌+◌, ◌≤◌, ℕ, List, [], ◌∷◌, ◌++◌, Bool, true, false, cond, Option, None, Some, nat_lt, if◌then◌else◌, refl, arith, length, inl, inr}
-use Rattle.std.specs.Prelude.{◌==◌, not, position, option_map}
+use Rattle.std.specs.Prelude.{not, position, option_map}
 use Rattle.std.specs.List.{position_or_len}
 use Rattle.std.specs.Option.{option_or}
-use Rattle.std.proofs.lemmas.Bool.{cases_lt, eqb-true, lt-ltb, le-ltb}
+use Rattle.std.proofs.lemmas.Bool.{cases_lt, lt-ltb, le-ltb}
 use Rattle.zy_isa.specs.declared.row.Row.{Row}
 use Rattle.zy_isa.specs.declared.choice.Choice.{Choice}
 use Rattle.zy_isa.specs.declared.scenario.ScenarioFault.TheVariants as fault
@@ -73,11 +73,11 @@ named_more count [] c h n = (n, tt)
 named_more count (x ∷ cs) c h n = (h.0, named_more count cs c h.1 n)
 
 -- parts within the limits make a scenario without a fault
-pub no_fault : (s : Scenario) → s.version ≡ 1 → 2 ≤ s.cap → s.cap ≤ 16 → 1 ≤ s.pages → s.pages ≤ 512 → length s.rows ≤ 256 → opening_pages_for s.cap (length s.rows) ≤ s.pages
+pub no_fault : (s : Scenario) → 1 ≤ s.version → s.version ≤ 2 → 2 ≤ s.cap → s.cap ≤ 16 → 1 ≤ s.pages → s.pages ≤ 512 → length s.rows ≤ 256 → opening_pages_for s.cap (length s.rows) ≤ s.pages
     → misplaced_row s.rows ≡ None → length s.programs ≤ 64 → length s.choices ≤ 4096 → AreNamed (length s.programs) s.choices → scenario_fault s ≡ None
-no_fault s v c2 c16 p1 p512 rows pages order programs choices named =
+no_fault s v1 v2 c2 c16 p1 p512 rows pages order programs choices named =
     rw (
-      v,
+      out_of_neither s.version 1 2 v1 v2,
       out_of_neither s.cap 2 16 c2 c16,
       out_of_neither s.pages 1 512 p1 p512,
       over_not (length s.rows) 256 rows,
@@ -97,25 +97,23 @@ past_first : {F : Type 0} (first rest : Option F) → option_or first rest ≡ N
 past_first None rest h = (refl, h)
 past_first (Some f) rest h = cc
 
-not_not : (b : Bool) → not b ≡ false → b ≡ true
-not_not true h = refl
-not_not false h = cc
-
 -- parts without a fault make a scenario within the limits
 pub scenario_of : (s : Scenario) → scenario_fault s ≡ None → RowsFit s.rows → ArePrograms s.programs → IsScenario s
 scenario_of s e fit programs =
-    let version = past (not (s.version == 1)) fault.Version _ e in
+    let version = past (is_outside 1 2 s.version) fault.Version _ e in
     let cap = past (is_outside 2 16 s.cap) fault.Cap _ version.1 in
     let pages = past (is_outside 1 512 s.pages) fault.Pages _ cap.1 in
     let rows = past (has_many_rows s) fault.RowCount _ pages.1 in
     let order = past_first (option_map fault.RowOrder (misplaced_row s.rows)) _ rows.1 in
     let few = past (nat_lt 64 (length s.programs)) fault.TxnCount _ order.1 in
     let named = fit_choices (length s.programs) s.choices few.1 in
+    let version_within = in_range s.version 1 2 version.0 in
     let cap_within = in_range s.cap 2 16 cap.0 in
     let pages_within = in_range s.pages 1 512 pages.0 in
     let many = neither (nat_lt 256 (length s.rows)) (nat_lt s.pages (opening_pages_for s.cap (length s.rows))) rows.0 in
     record {
-      version = eqb-true s.version 1 (not_not (s.version == 1) version.0);
+      version_least = version_within.0;
+      version_most = version_within.1;
       cap_least = cap_within.0;
       cap_most = cap_within.1;
       pages_least = pages_within.0;

@@ -70,7 +70,7 @@ row_text r = spaced (row_words r)
 
 abbrev pub header_words : Scenario → List (List (List ℕ))
 header_words s =
-    (codes "zephyr" ∷ codes "1" ∷ [])
+    (codes "zephyr" ∷ decimal s.version ∷ [])
     ∷ (codes "cap" ∷ decimal s.cap ∷ [])
     ∷ (codes "pages" ∷ decimal s.pages ∷ [])
     ∷ (codes "rule" ∷ rule_text s.rule ∷ []) ∷ []

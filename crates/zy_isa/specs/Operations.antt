@@ -5,7 +5,7 @@ use Rattle.std.specs.Str.{bytes_eq}
 use Rattle.zy_isa.specs.declared.instr.Instr.{Instr}
 use Rattle.zy_isa.specs.declared.instr.Instr.TheVariants as instr
 use Rattle.zy_isa.specs.declared.operation.NumberOperation.TheVariants.{Set}
-use Rattle.zy_isa.specs.declared.operation.PairOperation.TheVariants.{Read, Write, Insert, Add}
+use Rattle.zy_isa.specs.declared.operation.PairOperation.TheVariants.{Read, Write, Insert, Add, Sum}
 use Rattle.zy_isa.specs.declared.operation.JumpOperation.TheVariants.{Beq}
 use Rattle.zy_isa.specs.declared.operation.LoneOperation.TheVariants.{Commit, Abort}
 use Rattle.zy_isa.specs.declared.operation.Operation.{Operation}
@@ -23,6 +23,7 @@ table (op.Pair Add) = (4, codes "add")
 table (op.Jump Beq) = (5, codes "beq")
 table (op.Lone Commit) = (6, codes "commit")
 table (op.Lone Abort) = (7, codes "abort")
+table (op.Pair Sum) = (8, codes "sum")
 
 abbrev pub opcode : Operation → ℕ
 opcode o = (table o).0
@@ -31,7 +32,7 @@ abbrev pub mnemonic : Operation → List ℕ
 mnemonic o = (table o).1
 
 abbrev pub operations : List Operation
-operations = op.Number Set ∷ op.Pair Read ∷ op.Pair Write ∷ op.Pair Insert ∷ op.Pair Add ∷ op.Jump Beq ∷ op.Lone Commit ∷ op.Lone Abort ∷ []
+operations = op.Number Set ∷ op.Pair Read ∷ op.Pair Write ∷ op.Pair Insert ∷ op.Pair Add ∷ op.Jump Beq ∷ op.Lone Commit ∷ op.Lone Abort ∷ op.Pair Sum ∷ []
 
 -- the operation with this number
 abbrev pub coded : ℕ → Option Operation
@@ -48,6 +49,7 @@ instr_with (Pair Read a b) = instr.Read a b
 instr_with (Pair Write a b) = instr.Write a b
 instr_with (Pair Insert a b) = instr.Insert a b
 instr_with (Pair Add a b) = instr.Add a b
+instr_with (Pair Sum a b) = instr.Sum a b
 instr_with (Jump Beq a b n) = instr.Beq a b n
 instr_with (Lone Commit) = instr.Commit
 instr_with (Lone Abort) = instr.Abort
@@ -59,6 +61,7 @@ parts_of (instr.Read a b) = Pair Read a b
 parts_of (instr.Write a b) = Pair Write a b
 parts_of (instr.Insert a b) = Pair Insert a b
 parts_of (instr.Add a b) = Pair Add a b
+parts_of (instr.Sum a b) = Pair Sum a b
 parts_of (instr.Beq a b n) = Jump Beq a b n
 parts_of instr.Commit = Lone Commit
 parts_of instr.Abort = Lone Abort

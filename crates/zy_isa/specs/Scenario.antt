@@ -1,5 +1,5 @@
 -- What a scenario is, which ones are within the limits, and the first fault of one that is not.
-use Rattle.std.specs.Prelude.{◌≡◌, ◌==◌, ◌+◌, ◌/◌, ◌≤◌, ◌||◌, not, nat_lt, ℕ, zero, suc, List, [], ◌∷◌, length, position, option_map, Bool, true, Option, Some, None, Result, Ok, Err, if◌then◌else◌}
+use Rattle.std.specs.Prelude.{◌≡◌, ◌+◌, ◌/◌, ◌≤◌, ◌||◌, not, nat_lt, ℕ, zero, suc, List, [], ◌∷◌, length, position, option_map, Bool, true, Option, Some, None, Result, Ok, Err, if◌then◌else◌}
 use Rattle.std.specs.Option.{option_or}
 use Rattle.zy_isa.specs.declared.rule.Rule.{Rule}
 use Rattle.zy_isa.specs.declared.row.Row.{Row}
@@ -49,7 +49,7 @@ choices_fault count cs =
 -- the first fault of a scenario whose programs are verified
 abbrev pub scenario_fault : Scenario → Option ScenarioFault
 scenario_fault s =
-    if not (s.version == 1) then Some fault.Version else
+    if is_outside 1 2 s.version then Some fault.Version else
     if is_outside 2 16 s.cap then Some fault.Cap else
     if is_outside 1 512 s.pages then Some fault.Pages else
     if has_many_rows s then Some fault.RowCount else
@@ -68,7 +68,8 @@ AreNamed count (c ∷ cs) = (names_below count c ≡ true) × AreNamed count cs
 
 -- what every scenario keeps
 pub record IsScenario (s : Scenario) : Type 0 where
-  pub version : s.version ≡ 1
+  pub version_least : 1 ≤ s.version
+  pub version_most : s.version ≤ 2
   pub cap_least : 2 ≤ s.cap
   pub cap_most : s.cap ≤ 16
   pub pages_least : 1 ≤ s.pages

@@ -1,5 +1,6 @@
 -- What a text means: its lines with words spell statements, and the statements make the scenario.
 use Rattle.std.specs.Prelude.{◌≡◌, ◌⊎◌, ◌≤◌, ◌+◌, true, ℕ, List, [], ◌∷◌, ◌++◌, length, map, codes, Option, Some, None, replicate, if◌then◌else◌}
+use Rattle.std.specs.Fmt.{decimal}
 use Rattle.std.specs.List.{flat_map}
 use Rattle.zy_isa.specs.declared.rule.Rule.{Rule}
 use Rattle.zy_isa.specs.declared.row.Row.{Row}
@@ -39,7 +40,7 @@ pub record Draft : Type 0 where
 
 -- a line of a program stands with the program's labels, a choice with the names of all programs
 pub data Statement : Type 0 where
-  zephyr : Statement
+  zephyr : (n : ℕ) → Statement
   cap : (n : ℕ) → Statement
   pages : (n : ℕ) → Statement
   rule : (r : Rule) → Statement
@@ -92,7 +93,7 @@ abbrev pub SpellsTimes : ℕ → List (List ℕ) → Type 0
 SpellsTimes n ws = ((ws ≡ []) × (n ≡ 1)) ⊎ ((w : List ℕ) × (ws ≡ codes "x" ∷ w ∷ []) × (number_of w ≡ Some n) × (1 ≤ n) × (n ≤ 4096))
 
 abbrev pub Spells : Statement → List (List ℕ) → Type 0
-Spells zephyr ws = ws ≡ codes "zephyr" ∷ codes "1" ∷ []
+Spells (zephyr n) ws = ws ≡ codes "zephyr" ∷ decimal n ∷ []
 Spells (cap n) ws = (w : List ℕ) × (ws ≡ codes "cap" ∷ w ∷ []) × (number_of w ≡ Some n)
 Spells (pages n) ws = (w : List ℕ) × (ws ≡ codes "pages" ∷ w ∷ []) × (number_of w ≡ Some n)
 Spells (rule r) ws = ws ≡ codes "rule" ∷ rule_text r ∷ []
@@ -169,7 +170,7 @@ choice_statements names cs = map (choice names) cs ++ end ∷ []
 -- the statements of a scenario whose programs and choices are written so
 abbrev pub statements : Scenario → Draft → List Statement
 statements s d =
-    zephyr ∷ cap s.cap ∷ pages s.pages ∷ rule s.rule
+    zephyr s.version ∷ cap s.cap ∷ pages s.pages ∷ rule s.rule
     ∷ map row s.rows ++ (flat_map program_statements d.programs ++ choice_statements (names_of 0 d.programs) d.choices)
 
 -- the text means the scenario

@@ -31,6 +31,9 @@ pub enum Instr {
     Insert(Reg, Reg),
     /// The first register becomes the sum of both, modulo 2^32.
     Add(Reg, Reg),
+    /// The first register becomes the sum of the values at the keys from that in the first to that in the second, both
+    /// included, modulo 2^32.
+    Sum(Reg, Reg),
     /// Goes to the instruction of this number, from 0, where the registers are equal.
     Beq(Reg, Reg, u32),
     /// The transaction's rows are installed, and it ends.
@@ -71,6 +74,7 @@ impl Instr {
             Instr::Write(_, _) => false,
             Instr::Insert(_, _) => false,
             Instr::Add(_, _) => false,
+            Instr::Sum(_, _) => false,
             Instr::Beq(_, _, _) => false,
         }
     }

@@ -21,6 +21,7 @@ pub enum PairOperation {
     Write,
     Insert,
     Add,
+    Sum,
 }
 
 /// An operation on two registers, with a target that it may go to.
@@ -77,6 +78,7 @@ impl Operation {
             Operation::Jump(JumpOperation::Beq) => 5,
             Operation::Lone(LoneOperation::Commit) => 6,
             Operation::Lone(LoneOperation::Abort) => 7,
+            Operation::Pair(PairOperation::Sum) => 8,
         }
     }
 
@@ -94,6 +96,7 @@ impl Operation {
             5 => Some(Operation::Jump(JumpOperation::Beq)),
             6 => Some(Operation::Lone(LoneOperation::Commit)),
             7 => Some(Operation::Lone(LoneOperation::Abort)),
+            8 => Some(Operation::Pair(PairOperation::Sum)),
             _ => None,
         }
     }
@@ -119,6 +122,8 @@ impl Operation {
             Some(Operation::Lone(LoneOperation::Commit))
         } else if is(word, b"abort") {
             Some(Operation::Lone(LoneOperation::Abort))
+        } else if is(word, b"sum") {
+            Some(Operation::Pair(PairOperation::Sum))
         } else {
             None
         }
@@ -137,6 +142,7 @@ impl Line for Operation {
             Operation::Pair(PairOperation::Write) => "write".append(line),
             Operation::Pair(PairOperation::Insert) => "insert".append(line),
             Operation::Pair(PairOperation::Add) => "add".append(line),
+            Operation::Pair(PairOperation::Sum) => "sum".append(line),
             Operation::Jump(JumpOperation::Beq) => "beq".append(line),
             Operation::Lone(LoneOperation::Commit) => "commit".append(line),
             Operation::Lone(LoneOperation::Abort) => "abort".append(line),
@@ -157,6 +163,7 @@ impl Instr {
             Instr::Write(a, b) => Parts::Pair(PairOperation::Write, a, b),
             Instr::Insert(a, b) => Parts::Pair(PairOperation::Insert, a, b),
             Instr::Add(a, b) => Parts::Pair(PairOperation::Add, a, b),
+            Instr::Sum(a, b) => Parts::Pair(PairOperation::Sum, a, b),
             Instr::Beq(a, b, target) => Parts::Jump(JumpOperation::Beq, a, b, target),
             Instr::Commit => Parts::Lone(LoneOperation::Commit),
             Instr::Abort => Parts::Lone(LoneOperation::Abort),
@@ -177,6 +184,7 @@ impl Parts {
             Parts::Pair(PairOperation::Write, a, b) => Instr::Write(a, b),
             Parts::Pair(PairOperation::Insert, a, b) => Instr::Insert(a, b),
             Parts::Pair(PairOperation::Add, a, b) => Instr::Add(a, b),
+            Parts::Pair(PairOperation::Sum, a, b) => Instr::Sum(a, b),
             Parts::Jump(JumpOperation::Beq, a, b, target) => Instr::Beq(a, b, target),
             Parts::Lone(LoneOperation::Commit) => Instr::Commit,
             Parts::Lone(LoneOperation::Abort) => Instr::Abort,

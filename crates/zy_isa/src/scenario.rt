@@ -11,6 +11,9 @@ use std::alloc::{AllocError, Global};
 use std::marker::Model;
 use thiserror::Error;
 
+/// The greatest version.
+pub const MAX_VERSION: u8 = 2;
+
 /// The greatest number of rows on a page.
 pub const MAX_CAP: u8 = 16;
 
@@ -30,7 +33,7 @@ pub const MAX_CHOICES: usize = 4096;
 #[derive(Clone, Copy, Debug, PartialEq, Eq, Error)]
 pub enum ScenarioFault {
     /// 1: there is no such version.
-    #[error("the version is 1")]
+    #[error("the version is 1 or 2")]
     Version,
     /// 2: a page would have room for too few or too many rows.
     #[error("cap is 2 to 16")]
@@ -172,7 +175,7 @@ impl Scenario {
     ) -> Result<Scenario, ScenarioFault>
         ensures { IsTested result (record { version = version; cap = cap; pages = pages; rule = rule; rows = rows.items; programs = programs.items; choices = choices.items }) }
     {
-        if version != 1 {
+        if version < 1 || version > MAX_VERSION {
             return Err(ScenarioFault::Version);
         }
         if cap < 2 || cap > MAX_CAP {
@@ -233,7 +236,7 @@ impl Scenario {
         Ok(Scenario { choices, ..self })
     }
 
-    /// The version, 1.
+    /// The version, 1 or 2: in version 2 the roles may turn round.
     pub fn version(&self) -> u8
         ensures value { result ≡ self.now.version }
         ensures tested { IsScenario self.now }

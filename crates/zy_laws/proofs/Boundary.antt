@@ -23,7 +23,7 @@ use Rattle.zy_table.proofs.KeyLists.{length-put_key, length-keys}
 
 -- ---- keys in order
 
-has-put_key : (k : ℕ) (xs : List ℕ) (q : ℕ) → has (put_key k xs) q ≡ true → (k ≡ q) ⊎ (has xs q ≡ true)
+pub has-put_key : (k : ℕ) (xs : List ℕ) (q : ℕ) → has (put_key k xs) q ≡ true → (k ≡ q) ⊎ (has xs q ≡ true)
 has-put_key k [] q h = elim (or_cases (k == q) false h) [ inl e ↦ inl (eqb-true _ _ e) | inr e ↦ absurd (false≢true e) ]
 has-put_key k (x ∷ xs) q h =
     cond_both (nat_le k x) (k ∷ x ∷ xs) (x ∷ put_key k xs) (λ y. has y q ≡ true → (k ≡ q) ⊎ (has (x ∷ xs) q ≡ true))

@@ -1,6 +1,6 @@
 -- What a row did: one case for each line of the table that changes something, with what its conditions say.
 use Rattle.std.proofs.Common.{◌≡◌, ℕ, ◌+◌, ◌%◌, ◌^◌, List, [], ◌∷◌, ◌++◌, length, true, false, refl, sym, ap, ◌∙◌, subst, inl, inr}
-use Rattle.std.specs.Prelude.{◌⊎◌, if◌then◌else◌, ◌==◌, ◌&&◌, nat_lt, nat_le, not, Some, None, Option, slice_get, unwrap_or, is_some}
+use Rattle.std.specs.Prelude.{◌⊎◌, if◌then◌else◌, ◌==◌, ◌&&◌, nat_lt, nat_le, not, Some, None, Option, slice_get, is_some}
 use Rattle.std.proofs.lemmas.Bool.{cond_both, false≢true, not-false, not-true, cases_Bool, eq-eqb}
 use Rattle.zy_isa.specs.declared.node.Node.{Node}
 use Rattle.zy_isa.specs.declared.node.Node.TheVariants.{A, B}
@@ -9,7 +9,7 @@ use Rattle.zy_isa.specs.declared.choice.Choice.TheVariants.{Start, Begin, Kill, 
 use Rattle.zy_isa.specs.declared.row.Row.{Row}
 use Rattle.zy_isa.specs.declared.instr.Reg.{Reg}
 use Rattle.zy_isa.specs.declared.instr.Instr.{Instr}
-use Rattle.zy_isa.specs.declared.instr.Instr.TheVariants.{Set, Read, Write, Insert, Add, Beq, Commit, Abort}
+use Rattle.zy_isa.specs.declared.instr.Instr.TheVariants.{Set, Read, Write, Insert, Add, Sum, Beq, Commit, Abort}
 use Rattle.zy_isa.specs.Rows.{get_row, put_row}
 use Rattle.zy_isa.specs.Scenario.{Scenario}
 use Rattle.zy_locks.specs.declared.lock.LockKind.{LockKind}
@@ -28,11 +28,12 @@ use Rattle.zy_table.specs.declared.outcome.Outcome.TheVariants as outcome
 use Rattle.zy_table.specs.State.{State, View, Move, NodeState, Leaf, Message, facing, post, with_me}
 use Rattle.zy_wire.specs.Wireframe.{page_of}
 use Rattle.zy_table.specs.Numbers.{has, least}
-use Rattle.zy_table.specs.Pages.{owns, rows_of, numbers}
-use Rattle.zy_table.specs.Change.{quiet, begun, aborted, did, txn_at, locked, committed, cut, reg, with_reg, txn_or, asks, leaves, turns, with_arrived, with_lows}
+use Rattle.zy_table.specs.Pages.{owns, numbers}
+use Rattle.zy_table.specs.Change.{quiet, begun, aborted, did, txn_at, locked, shares, committed, cut, reg, with_reg, txn_or, asks, leaves, turns, with_arrived, with_lows}
 use Rattle.zy_table.specs.Client.{is_new, is_active, start_row, begin_row, begin_at, kill_row}
 use Rattle.zy_table.specs.declared.access.Access.TheVariants as access
-use Rattle.zy_table.specs.Run.{boundary, same_node, program_of, abort_row, set_row, jump_row, gone_pages, commit_or_gone, commit_row, absent_row, read_row, write_row, full_row, split_row, insert_row, lock_of, is_there, has_room, access_row, page_row, key_row, instr_row, run_row}
+use Rattle.zy_table.specs.Run.{boundary, same_node, program_of, abort_row, set_row, jump_row, gone_pages, commit_or_gone, commit_row, absent_row, read_row, write_row, full_row, split_row, insert_row, lock_of, is_there, has_room, access_row, page_row, key_row, value_for, first_absent, first_taken, sum_row, sum_or_waits, sum_or_asks, range_row, instr_row, run_row}
+use Rattle.zy_table.specs.Ranges.{range, range_pages, total}
 use Rattle.zy_table.specs.declared.access.Access.{Access}
 use Rattle.zy_table.specs.declared.access.Access.TheVariants.{Reads}
 use Rattle.zy_table.specs.Take.{is_held, all_here, with_brought, got_row, pull_row, mode_row, message_row, front_row, take_row}
@@ -41,6 +42,7 @@ use Rattle.zy_laws.specs.Journey.{is_gone, is_stray}
 use Rattle.zy_table.specs.Play.{move, side_of}
 use Rattle.zy_laws.proofs.ModeLines.{is_sending, wire_line, ready_line, dual_line, pull_line, page_line, finish_line, done_line, starts_at_a, starts_from, pushes_in_finish}
 use Rattle.zy_table.proofs.PageLists.{least-owns}
+use Rattle.zy_table.proofs.RangeLists.{found_has, key_of_page, none_passes}
 use Rattle.zy_table.proofs.AbortedLocks.{aborted-locked}
 
 -- t runs at n, and its next instruction is i
@@ -72,7 +74,21 @@ puts t r q v = did t ((txn_at v t).pc + 1) (txn_at v t).regs (put_row (key t r v
 
 -- what t reads at a key
 abbrev pub value_at : ℕ → ℕ → View → ℕ
-value_at t k v = unwrap_or (get_row (txn_at v t).rows k) (unwrap_or (get_row (rows_of v.me.pages (page_of v.me.lows k)) k) 0)
+value_at t k v = value_for (txn_at v t) v.me k
+
+-- the keys from a to b are keys, their pages are here, and nobody's lock is in the way of sharing them
+pub record FreeRange (t a b : ℕ) (v : View) : Type 0 where
+  pub rises : nat_lt b a ≡ false
+  pub small : nat_lt 65535 b ≡ false
+  pub here : (p : ℕ) → has (range_pages v.me.lows a b) p ≡ true → owns v.me.pages p ≡ true
+  pub free : (p : ℕ) → has (range_pages v.me.lows a b) p ≡ true → conflict v.me.locks p t Shared ≡ false
+
+abbrev pub has_locks : ℕ → ℕ → ℕ → View → View
+has_locks t a b v = shares t (range_pages v.me.lows a b) v
+
+-- what t reads at the keys from a to b, together
+abbrev pub sum_at : ℕ → ℕ → ℕ → View → ℕ
+sum_at t a b v = total (value_for (txn_at v t) v.me) (range a b)
 
 -- the view without the front of its inbox
 abbrev pub rest : View → List Message → View
@@ -96,6 +112,11 @@ pub data Event (sc : Scenario) (n : Node) (v w : View) : Type 0 where
   Gets : (t : ℕ) (r q : Reg) → Runs sc n t (Read r q) v → Free t (key t q v) Shared v
       → w ≡ did t ((txn_at v t).pc + 1) (with_reg r (value_at t (key t q v) v) (txn_at v t).regs) (txn_at v t).rows (has_lock t (key t q v) Shared v)
       → Event sc n v w
+  SumsUp : (t : ℕ) (r q : Reg) → Runs sc n t (Sum r q) v → FreeRange t (key t r v) (key t q v) v
+      → w ≡ did t ((txn_at v t).pc + 1) (with_reg r (sum_at t (key t r v) (key t q v) v % 2 ^ 32) (txn_at v t).regs) (txn_at v t).rows (has_locks t (key t r v) (key t q v) v)
+      → Event sc n v w
+  SumsNone : (t : ℕ) (r q : Reg) → Runs sc n t (Sum r q) v → nat_lt (key t q v) (key t r v) ≡ true
+      → w ≡ did t ((txn_at v t).pc + 1) (with_reg r 0 (txn_at v t).regs) (txn_at v t).rows v → Event sc n v w
   Writes : (t : ℕ) (r q : Reg) → Runs sc n t (Write r q) v → Free t (key t r v) Exclusive v → is_there (key t r v) (page t r v) v.me (txn_at v t) ≡ true
       → w ≡ puts t r q v → Event sc n v w
   Inserts : (t : ℕ) (r q : Reg) → Runs sc n t (Insert r q) v → Free t (key t r v) Exclusive v → is_there (key t r v) (page t r v) v.me (txn_at v t) ≡ false
@@ -105,7 +126,7 @@ pub data Event (sc : Scenario) (n : Node) (v w : View) : Type 0 where
       → w ≡ cut t (page t r v) (boundary sc (key t r v) (page t r v) v.me (txn_at v t)) (has_lock t (key t r v) Exclusive v) → Event sc n v w
   Commits : (t : ℕ) → Runs sc n t Commit v → least (gone_pages v.me (txn_at v t).rows) ≡ None → w ≡ committed t v → Event sc n v w
   Asks : (p : ℕ) → owns v.me.pages p ≡ false → may_pull v.me.mode ≡ true → has v.me.asked p ≡ false → w ≡ asks p v → Event sc n v w
-  Starts : n ≡ A → v.me.mode ≡ Normal → v.them.mode ≡ Empty → w ≡ post (Wire v.me.lows) (turns SInit v) → Event sc n v w
+  Starts : (sc.version ≡ 1 → n ≡ A) → v.me.mode ≡ Normal → v.them.mode ≡ Empty → w ≡ post (Wire v.me.lows) (turns SInit v) → Event sc n v w
   GotWire : (lows : List ℕ) (ms : List Message) → v.inbox ≡ Wire lows ∷ ms → v.me.mode ≡ Empty
       → w ≡ post Ready (turns DInit (with_me (with_lows lows v.me) (rest v ms))) → Event sc n v w
   GotReady : (ms : List Message) → v.inbox ≡ Ready ∷ ms → v.me.mode ≡ SInit → w ≡ post Dual (turns SDual (rest v ms)) → Event sc n v w
@@ -145,9 +166,11 @@ pub record Strange (v : View) : Type 0 where
   pub front : v.inbox ≡ message ∷ after
   pub line : mode_row message v ≡ Stray
 
--- a split's outcome tells the number of the new page
+-- a split's outcome tells the number of the new page, a start's that it acted; and a page that is asked for is that of a key
 abbrev pub Told : {sc : Scenario} {n : Node} {v w : View} → Event sc n v w → Outcome → Type 0
 Told {v = v} (Splits t r q runs f new full normal pages e) o = (p b : ℕ) × (o ≡ outcome.Split p (length v.me.lows) b)
+Told (Starts at_a normal empty e) o = o ≡ outcome.Started
+Told {v = v} (Asks p gone pulls asked e) o = (k : ℕ) × (p ≡ page_of v.me.lows k)
 Told e o = Unit {0}
 
 pub record Happens (sc : Scenario) (n : Node) (v : View) (m : Move) : Type 0 where
@@ -220,7 +243,7 @@ absent_happens sc n t k i v r gone =
     (λ s. aborts sc n t _ v r.active r.here (λ _. record { txn = t; key = k; active = r.active; here = r.here; begun = r.begun; gone = gone; cause = inl (not-true _ s) }))
     (λ s. cond_both (has v.me.asked (page_of v.me.lows k)) _ _ (Happens sc n v)
     (λ _. rests sc n v _ refl refl)
-    (λ h. plain sc n v _ (Asks (page_of v.me.lows k) gone (not-false _ s) h refl) refl refl tt))
+    (λ h. plain sc n v _ (Asks (page_of v.me.lows k) gone (not-false _ s) h refl) refl refl (k, refl)))
 
 -- a key instruction, where it has the lock, is one of these
 key_happens : (sc : Scenario) (n : Node) (t k : ℕ) (i : Instr) (x : Access) (v : View) → Runs sc n t i v
@@ -235,6 +258,40 @@ key_happens sc n t k i x v runs on =
     (λ here. cond_both (conflict v.me.locks (page_of v.me.lows k) t (lock_of x)) _ _ (Happens sc n v)
     (λ _. rests sc n v _ refl refl)
     (λ free. on (record { small = small; here = not-false _ here; free = free }))))
+
+-- the first of a sum's pages that is not here
+sum_absent : (sc : Scenario) (n : Node) (t a b p : ℕ) (i : Instr) (v : View) → Runs sc n t i v → first_absent v.me.pages (range_pages v.me.lows a b) ≡ Some p
+    → Happens sc n v (absent_row t p v)
+sum_absent sc n t a b p i v runs e =
+    let f = found_has (λ (z : ℕ). not (owns v.me.pages z)) (range_pages v.me.lows a b) p e in
+    let k = key_of_page v.me.lows a b p f.0 in
+    subst (λ z. Happens sc n v (absent_row t z v)) k.1 (absent_happens sc n t k.0 i v runs (ap (owns v.me.pages) k.1 ∙ not-true _ f.1))
+
+sum_waits_happens : (sc : Scenario) (n : Node) (t : ℕ) (r q : Reg) (o : Option ℕ) (v : View) → o ≡ first_taken v.me.locks t (range_pages v.me.lows (key t r v) (key t q v))
+    → Runs sc n t (Sum r q) v → nat_lt (key t q v) (key t r v) ≡ false → nat_lt 65535 (key t q v) ≡ false
+    → ((p : ℕ) → has (range_pages v.me.lows (key t r v) (key t q v)) p ≡ true → owns v.me.pages p ≡ true)
+    → Happens sc n v (sum_or_waits t r (key t r v) (key t q v) o v)
+unfolding sum_or_waits sum_row set_row shares txn_at
+sum_waits_happens sc n t r q (Some p) v e runs rises small here = rests sc n v _ refl refl
+sum_waits_happens sc n t r q None v e runs rises small here =
+    plain sc n v _ (SumsUp t r q runs (record { rises = rises; small = small; here = here; free = λ p h. none_passes (λ (z : ℕ). conflict v.me.locks z t Shared) (range_pages v.me.lows (key t r v) (key t q v)) p (sym e) h }) refl) refl refl tt
+
+sum_asks_happens : (sc : Scenario) (n : Node) (t : ℕ) (r q : Reg) (o : Option ℕ) (v : View) → o ≡ first_absent v.me.pages (range_pages v.me.lows (key t r v) (key t q v))
+    → Runs sc n t (Sum r q) v → nat_lt (key t q v) (key t r v) ≡ false → nat_lt 65535 (key t q v) ≡ false
+    → Happens sc n v (sum_or_asks t r (key t r v) (key t q v) o v)
+unfolding sum_or_asks
+sum_asks_happens sc n t r q (Some p) v e runs rises small = sum_absent sc n t (key t r v) (key t q v) p (Sum r q) v runs (sym e)
+sum_asks_happens sc n t r q None v e runs rises small =
+    sum_waits_happens sc n t r q _ v refl runs rises small (λ p h. not-false _ (none_passes (λ (z : ℕ). not (owns v.me.pages z)) (range_pages v.me.lows (key t r v) (key t q v)) p (sym e) h))
+
+range_happens : (sc : Scenario) (n : Node) (t : ℕ) (r q : Reg) (v : View) → Runs sc n t (Sum r q) v → Happens sc n v (range_row t r (key t r v) (key t q v) v)
+unfolding range_row set_row
+range_happens sc n t r q v runs =
+    cond_both (nat_lt (key t q v) (key t r v)) _ _ (Happens sc n v)
+    (λ none. plain sc n v _ (SumsNone t r q runs none refl) refl refl tt)
+    (λ rises. cond_both (nat_lt 65535 (key t q v)) _ _ (Happens sc n v)
+    (λ _. aborts sc n t _ v runs.active runs.here (λ e. never e))
+    (λ small. sum_asks_happens sc n t r q _ v refl runs rises small))
 
 -- a page that has gone has a private row
 gone_key : (x : NodeState) (rows all : List Row) → ((k : ℕ) → is_some (get_row rows k) ≡ true → is_some (get_row all k) ≡ true) → (p : ℕ) → least (gone_pages x rows) ≡ Some p
@@ -262,6 +319,7 @@ unfolding instr_row set_row jump_row commit_row access_row
 instr_happens sc n t None v r = rests sc n v _ refl refl
 instr_happens sc n t (Some (Set a x)) v r = plain sc n v _ (Sets t a x (r _ refl) refl) refl refl tt
 instr_happens sc n t (Some (Add a q)) v r = plain sc n v _ (Adds t a q (r _ refl) refl) refl refl tt
+instr_happens sc n t (Some (Sum a q)) v r = range_happens sc n t a q v (r _ refl)
 instr_happens sc n t (Some (Beq a q to)) v r = plain sc n v _ (Jumps t a q to (r _ refl) refl) refl refl tt
 instr_happens sc n t (Some Abort) v r = let runs = r _ refl in aborts sc n t _ v runs.active runs.here (λ e. never e)
 instr_happens sc n t (Some Commit) v r = commit_happens sc n t _ v refl (r _ refl)
@@ -287,11 +345,11 @@ run_happens sc n t v =
     (λ b. instr_happens sc n t _ v (λ i e. record { active = not-false _ a; here = same_node-true _ _ (not-false _ h); begun = b; next = e }))))
 
 -- the client's lines
-start_happens : (sc : Scenario) (n : Node) (v : View) → n ≡ A → Happens sc n v (start_row v)
+start_happens : (sc : Scenario) (n : Node) (v : View) → (sc.version ≡ 1 → n ≡ A) → Happens sc n v (start_row v)
 unfolding start_row
 start_happens sc n v at_a =
     cond_both (may_start v.me.mode v.them.mode) _ _ (Happens sc n v)
-    (λ h. let modes = starts_from v.me.mode v.them.mode h in plain sc n v _ (Starts at_a modes.0 modes.1 refl) refl refl tt)
+    (λ h. let modes = starts_from v.me.mode v.them.mode h in plain sc n v _ (Starts at_a modes.0 modes.1 refl) refl refl refl)
     (λ _. rests sc n v _ refl refl)
 
 begin_at_happens : (sc : Scenario) (t : ℕ) (o : Option Node) (v : View) → o ≡ home_of v.me.mode v.them.mode → is_new (txn_at v t).status ≡ true

@@ -12,7 +12,7 @@ use Rattle.zy_isa.specs.declared.instr.Reg.{Reg}
 use Rattle.zy_isa.specs.declared.node.Node.{Node}
 use Rattle.zy_locks.specs.declared.lock.LockKind.{LockKind}
 use Rattle.zy_locks.specs.declared.lock.LockKind.TheVariants.{Shared}
-use Rattle.zy_table.specs.Change.{aborted, asks, begun, committed, did, installed, leaves, locked, turns, txn_at, with_lows}
+use Rattle.zy_table.specs.Change.{aborted, asks, begun, committed, did, installed, leaves, locked, shares, turns, txn_at, with_lows}
 use Rattle.zy_table.specs.Client.{is_new}
 use Rattle.zy_table.specs.Database.{sent_leaves}
 use Rattle.zy_table.specs.Holders.{holds, holds_alone}
@@ -31,7 +31,7 @@ use Rattle.zy_laws.proofs.Boundary.{boundary_new}
 use Rattle.zy_laws.proofs.CutFit.{cut_fit}
 use Rattle.zy_laws.proofs.LockingRows.{home_placed, split_on}
 use Rattle.zy_laws.proofs.EachPage.{Each, each_append, each_at, each_both, each_front, each_installed, each_map, each_with_page, each_without}
-use Rattle.zy_laws.proofs.Events.{Aborts, Adds, Begins, Commits, Event, Gets, Inserts, Jumps, Rests, Sets, Writes, Splits, Asks, Starts, GotWire, GotReady, GotDual, IsStale, Gives, GotPage, GotLast, GotFinish, GotAll, GotDone, Finishes, Pushes, has_lock, key, page, puts, lows_after, arrived, rest}
+use Rattle.zy_laws.proofs.Events.{Aborts, Adds, Begins, Commits, Event, Gets, Inserts, Jumps, Rests, Sets, SumsUp, SumsNone, Writes, Splits, Asks, Starts, GotWire, GotReady, GotDual, IsStale, Gives, GotPage, GotLast, GotFinish, GotAll, GotDone, Finishes, Pushes, has_lock, key, page, puts, lows_after, arrived, rest}
 use Rattle.zy_laws.proofs.Fit.{Fit, Room, Sized, commit_room, fit_acts, fit_stays, put_room}
 use Rattle.zy_table.proofs.LockLists.{exclusive_holds}
 use Rattle.zy_laws.proofs.Locking.{Kept, whole}
@@ -70,6 +70,13 @@ unfolding did locked txn_at
 get_fit sc n v lows t k pc regs kind f at =
     let x = txn_at v t in
     goes_fit sc n v (did t pc regs x.rows (has_lock t k kind v)) lows t (record x { pc = pc; regs = regs; done = x.done + 1 }) f at refl refl refl refl refl (f.rising t) (f.mine t at)
+
+sum_fit : (sc : Scenario) (n : Node) (v : View) (lows : List ℕ) (t pc : ℕ) (regs ps : List ℕ) → Fit sc n v lows → IsAt v t n
+    → Fit sc n (did t pc regs (txn_at v t).rows (shares t ps v)) lows
+unfolding did shares txn_at
+sum_fit sc n v lows t pc regs ps f at =
+    let x = txn_at v t in
+    goes_fit sc n v (did t pc regs x.rows (shares t ps v)) lows t (record x { pc = pc; regs = regs; done = x.done + 1 }) f at refl refl refl refl refl (f.rising t) (f.mine t at)
 
 put_fit : (sc : Scenario) (n : Node) (v : View) (lows : List ℕ) (t : ℕ) (r q : Reg) → Kept sc n v lows → Fit sc n v lows → IsAt v t n
     → (is_there (key t r v) (page t r v) v.me (txn_at v t) ≡ true) ⊎ (has_room sc (page t r v) v.me (txn_at v t) ≡ true) → Fit sc n (puts t r q v) lows
@@ -198,6 +205,8 @@ fit_event sc n v w lows two k f (Sets t r x runs e) = fit_along sc n w _ lows e 
 fit_event sc n v w lows two k f (Adds t r q runs e) = fit_along sc n w _ lows e (did_fit sc n v lows t _ _ f (runs.active, runs.here))
 fit_event sc n v w lows two k f (Jumps t r q to runs e) = fit_along sc n w _ lows e (did_fit sc n v lows t _ _ f (runs.active, runs.here))
 fit_event sc n v w lows two k f (Gets t r q runs g e) = fit_along sc n w _ lows e (get_fit sc n v lows t (key t q v) _ _ Shared f (runs.active, runs.here))
+fit_event sc n v w lows two k f (SumsUp t r q runs g e) = fit_along sc n w _ lows e (sum_fit sc n v lows t _ _ _ f (runs.active, runs.here))
+fit_event sc n v w lows two k f (SumsNone t r q runs none e) = fit_along sc n w _ lows e (did_fit sc n v lows t _ _ f (runs.active, runs.here))
 fit_event sc n v w lows two k f (Writes t r q runs g there e) = fit_along sc n w _ lows e (put_fit sc n v lows t r q k f (runs.active, runs.here) (inl there))
 fit_event sc n v w lows two k f (Inserts t r q runs g new room e) = fit_along sc n w _ lows e (put_fit sc n v lows t r q k f (runs.active, runs.here) (inr room))
 fit_event sc n v w lows two k f (Splits t r q runs g new full normal pages e) =

@@ -6,21 +6,22 @@ use Rattle.std.proofs.lemmas.Bool.{cases_eq, eqb-true, false≢true, or_cases}
 use Rattle.zy_isa.specs.Rows.{get_row, put_row}
 use Rattle.zy_isa.specs.Scenario.{Scenario}
 use Rattle.zy_isa.specs.declared.instr.Instr.{Instr}
-use Rattle.zy_isa.specs.declared.instr.Instr.TheVariants.{Add, Beq, Insert, Read, Set, Write}
+use Rattle.zy_isa.specs.declared.instr.Instr.TheVariants.{Add, Beq, Insert, Read, Set, Sum, Write}
 use Rattle.zy_isa.specs.declared.instr.Reg.{Reg}
 use Rattle.zy_isa.specs.declared.node.Node.{Node}
 use Rattle.zy_isa.specs.declared.row.Row.{Row}
 use Rattle.zy_locks.specs.Locks.{add_lock}
 use Rattle.zy_locks.specs.declared.lock.LockKind.{LockKind}
 use Rattle.zy_locks.specs.declared.lock.LockKind.TheVariants.{Exclusive, Shared}
-use Rattle.zy_table.specs.Change.{aborted, asks, begun, cut, did, leaves, locked, reg, txn_at, with_reg}
+use Rattle.zy_table.specs.Change.{aborted, asks, begun, cut, did, leaves, locked, reg, share_all, shares, txn_at, with_reg}
 use Rattle.zy_table.specs.Client.{is_active, is_new}
 use Rattle.zy_table.specs.Numbers.{has}
 use Rattle.zy_table.specs.Database.{Map}
 use Rattle.zy_table.specs.Holders.{holds}
 use Rattle.zy_table.specs.Pages.{owns, rows_of}
 use Rattle.zy_table.specs.Play.{step}
-use Rattle.zy_table.specs.Run.{boundary, is_there, program_of}
+use Rattle.zy_table.specs.Ranges.{range, range_pages, total}
+use Rattle.zy_table.specs.Run.{boundary, is_there, program_of, value_for}
 use Rattle.zy_table.specs.Serial.{Registers, serial}
 use Rattle.zy_table.specs.declared.status.Status.TheVariants.{Aborted}
 use Rattle.zy_table.specs.State.{Lock, NodeState, Txn, View, other}
@@ -31,10 +32,12 @@ use Rattle.zy_laws.proofs.Values.{event_db}
 use Rattle.zy_laws.proofs.CutValues.{cut_db}
 use Rattle.zy_laws.proofs.Roles.{normal_other}
 use Rattle.zy_laws.proofs.Committing.{committed_serial}
-use Rattle.zy_laws.proofs.Events.{Aborts, Adds, Begins, Commits, Event, Gets, Inserts, Jumps, Rests, Runs, Sets, Writes, has_lock, key, page, value_at, Free, Splits, lows_after, Asks, Starts, GotWire, GotReady, GotDual, IsStale, Gives, GotPage, GotLast, GotFinish, GotAll, GotDone, Finishes, Pushes}
+use Rattle.zy_laws.proofs.Events.{Aborts, Adds, Begins, Commits, Event, Gets, Inserts, Jumps, Rests, Runs, Sets, SumsUp, SumsNone, Writes, has_lock, has_locks, key, page, sum_at, value_at, Free, FreeRange, Splits, lows_after, Asks, Starts, GotWire, GotReady, GotDual, IsStale, Gives, GotPage, GotLast, GotFinish, GotAll, GotDone, Finishes, Pushes}
 use Rattle.zy_laws.proofs.Following.{Follows, Serially, active_not, follows_same, keep_registers, new_not, registers_same}
 use Rattle.zy_laws.proofs.LockingRows.{has_lock_locking, split_on}
 use Rattle.zy_table.proofs.LockLists.{alone_new, holds-drop, holds_more, holds_new}
+use Rattle.zy_table.proofs.RangeLists.{has_either, on_range_page, total_same}
+use Rattle.zy_table.proofs.SharedLocks.{holds_more_shared, holds_shared}
 use Rattle.zy_laws.proofs.Locking.{Kept, nobody_runs}
 use Rattle.zy_modes.specs.Table.{may_split}
 use Rattle.zy_laws.proofs.LoneRuns.{Lone, lone, lone_instr, lone_step, or_else}
@@ -212,21 +215,66 @@ begun_serial sc n v start lows t h s new k =
     }
 
 -- what the database has at a key whose page is here
-here_value : (sc : Scenario) (n : Node) (v : View) (lows : List ℕ) (t k : ℕ) (kind : LockKind) → Kept sc n v lows → IsAt v t n → Free t k kind v
+here_value : (sc : Scenario) (n : Node) (v : View) (lows : List ℕ) (t k : ℕ) → Kept sc n v lows → IsAt v t n → owns v.me.pages (page_of v.me.lows k) ≡ true
     → get (db v) k ≡ get_row (rows_of v.me.pages (page_of v.me.lows k)) k
-here_value sc n v lows t k kind h at f =
+here_value sc n v lows t k h at own =
     let newest : v.me.lows ≡ lows = h.mine.newest (h.mine.busy t at) in
-    subst (λ l. get (db v) k ≡ get_row (rows_of v.me.pages (page_of l k)) k) (sym newest) (page_value lows v k h.placed h.inv.owned (subst (λ l. owns v.me.pages (page_of l k) ≡ true) newest f.here))
+    subst (λ l. get (db v) k ≡ get_row (rows_of v.me.pages (page_of l k)) k) (sym newest) (page_value lows v k h.placed h.inv.owned (subst (λ l. owns v.me.pages (page_of l k) ≡ true) newest own))
 
-read_value : (sc : Scenario) (n : Node) (v : View) (lows : List ℕ) (t k : ℕ) (kind : LockKind) → Kept sc n v lows → IsAt v t n → Free t k kind v
+read_value : (sc : Scenario) (n : Node) (v : View) (lows : List ℕ) (t k : ℕ) → Kept sc n v lows → IsAt v t n → owns v.me.pages (page_of v.me.lows k) ≡ true
     → value_at t k v ≡ unwrap_or (or_else (get_row (txn_at v t).rows k) (get (db v) k)) 0
-read_value sc n v lows t k kind h at f =
-    sym (value_same (get_row (txn_at v t).rows k) (get (db v) k) ∙ ap (λ o. unwrap_or (get_row (txn_at v t).rows k) (unwrap_or o 0)) (here_value sc n v lows t k kind h at f))
+read_value sc n v lows t k h at own =
+    sym (value_same (get_row (txn_at v t).rows k) (get (db v) k) ∙ ap (λ o. unwrap_or (get_row (txn_at v t).rows k) (unwrap_or o 0)) (here_value sc n v lows t k h at own))
 
 there_value : (sc : Scenario) (n : Node) (v : View) (lows : List ℕ) (t k : ℕ) (kind : LockKind) → Kept sc n v lows → IsAt v t n → Free t k kind v
     → is_some (or_else (get_row (txn_at v t).rows k) (get (db v) k)) ≡ is_there k (page_of v.me.lows k) v.me (txn_at v t)
 there_value sc n v lows t k kind h at f =
-    some_or (get_row (txn_at v t).rows k) (get (db v) k) ∙ ap (λ o. is_some (get_row (txn_at v t).rows k) || is_some o) (here_value sc n v lows t k kind h at f)
+    some_or (get_row (txn_at v t).rows k) (get (db v) k) ∙ ap (λ o. is_some (get_row (txn_at v t).rows k) || is_some o) (here_value sc n v lows t k h at f.here)
+
+-- what t sums is what the database has, with its private rows over it
+sum_value : (sc : Scenario) (n : Node) (v : View) (lows : List ℕ) (t a b : ℕ) → Kept sc n v lows → IsAt v t n → FreeRange t a b v
+    → sum_at t a b v ≡ total (λ k. unwrap_or (or_else (get_row (txn_at v t).rows k) (get (db v) k)) 0) (range a b)
+sum_value sc n v lows t a b h at f =
+    total_same (value_for (txn_at v t) v.me) _ (range a b) (λ k e. read_value sc n v lows t k h at (f.here (page_of v.me.lows k) (on_range_page v.me.lows a b k e)))
+
+-- a sum, with its pages locked
+small_sum : (d : Map) (r q : Reg) (x : Txn) (keys : List ℕ) (sum : ℕ) → nat_lt (reg x.regs q) (reg x.regs r) ≡ false → nat_lt 65535 (reg x.regs q) ≡ false
+    → sum ≡ total (λ k. unwrap_or (or_else (get_row x.rows k) (get d k)) 0) (range (reg x.regs r) (reg x.regs q))
+    → lone_instr d (Some (Sum r q)) (record { regs = x.regs; pc = x.pc; rows = x.rows; keys = keys; over = false }) ≡ record { regs = with_reg r (sum % 2 ^ 32) x.regs; pc = x.pc + 1; rows = x.rows; keys = range (reg x.regs r) (reg x.regs q) ++ keys; over = false }
+unfolding lone_instr
+small_sum d r q x keys sum rises small val = rw (rises, small, val) refl
+
+no_sum : (d : Map) (r q : Reg) (x : Txn) (keys : List ℕ) → nat_lt (reg x.regs q) (reg x.regs r) ≡ true
+    → lone_instr d (Some (Sum r q)) (record { regs = x.regs; pc = x.pc; rows = x.rows; keys = keys; over = false }) ≡ record { regs = with_reg r 0 x.regs; pc = x.pc + 1; rows = x.rows; keys = keys; over = false }
+unfolding lone_instr
+no_sum d r q x keys none = rw none refl
+
+-- each key of the range lies on a page that t now holds
+range_follows : (program : List Instr) (d : Map) (lows : List ℕ) (locks : List Lock) (t a b pc : ℕ) (regs : List ℕ) (x : Txn) (i : Instr) → slice_get program x.pc ≡ Some i
+    → ((keys : List ℕ) → lone_instr d (Some i) (record { regs = x.regs; pc = x.pc; rows = x.rows; keys = keys; over = false }) ≡ record { regs = regs; pc = pc; rows = x.rows; keys = range a b ++ keys; over = false })
+    → Follows program d lows locks t x
+    → Follows program d lows (share_all (range_pages lows a b) t locks) t (record x { pc = pc; regs = regs; done = x.done + 1 })
+range_follows program d lows locks t a b pc regs x i is step f = record {
+  keys = range a b ++ f.keys;
+  run = next_run d program x f.keys i _ f.run is (step f.keys);
+  covered = λ k h. elim (has_either (range a b) f.keys k h) [
+    | inl new ↦ holds_shared (range_pages lows a b) t locks (page_of lows k) (on_range_page lows a b k new)
+    | inr old ↦ holds_more_shared (range_pages lows a b) t locks (page_of lows k) t (f.covered k old)
+  ];
+}
+
+range_serial : (sc : Scenario) (n : Node) (v : View) (start : Map) (lows : List ℕ) (t a b pc : ℕ) (regs : List ℕ) (i : Instr) → Serially sc n v start lows → Runs sc n t i v
+    → ((keys : List ℕ) → lone_instr (db v) (Some i) (record { regs = (txn_at v t).regs; pc = (txn_at v t).pc; rows = (txn_at v t).rows; keys = keys; over = false }) ≡ record { regs = regs; pc = pc; rows = (txn_at v t).rows; keys = range a b ++ keys; over = false })
+    → Kept sc n (did t pc regs (txn_at v t).rows (has_locks t a b v)) lows → Serially sc n (did t pc regs (txn_at v t).rows (has_locks t a b v)) start lows
+unfolding did shares txn_at
+range_serial sc n v start lows t a b pc regs i s runs step h =
+    let at : IsAt v t n = (runs.active, runs.here) in
+    let newest : v.me.lows ≡ lows = s.kept.mine.newest (s.kept.mine.busy t at) in
+    let w = did t pc regs (txn_at v t).rows (has_locks t a b v) in
+    let y : Txn = record (txn_at v t) { pc = pc; regs = regs; done = (txn_at v t).done + 1 } in
+    acts_serial sc n v w start lows t y s h at refl refl refl refl refl (λ p u g. holds_more_shared (range_pages v.me.lows a b) t v.me.locks p u g)
+    (subst (λ l. Follows (program_of sc t) (db v) lows (share_all (range_pages l a b) t v.me.locks) t y) (sym newest)
+    (range_follows (program_of sc t) (db v) lows v.me.locks t a b pc regs (txn_at v t) i runs.next step (s.mine t at)))
 
 -- a split moves the keys of t's page alone
 cut_follows : (program : List Instr) (d e : Map) (more : List ℕ) (locks : List Lock) (q b t u : ℕ) (x : Txn) → e ≡ d → length (0 ∷ more) ≡ q
@@ -298,9 +346,12 @@ serial_event sc n v w start lows s (Begins t h a new home e) k = along sc n w _ 
 serial_event sc n v w start lows s (Aborts t y active here e) k = along sc n w _ start lows e k (aborted_serial sc n v start lows t y s (active, here))
 serial_event sc n v w start lows s (Sets t r x runs e) k = along sc n w _ start lows e k (goes_serial sc n v start lows t _ _ (Set r x) s runs (set_step (db v) r x (txn_at v t)))
 serial_event sc n v w start lows s (Adds t r q runs e) k = along sc n w _ start lows e k (goes_serial sc n v start lows t _ _ (Add r q) s runs (add_step (db v) r q (txn_at v t)))
+serial_event sc n v w start lows s (SumsUp t r q runs f e) k = along sc n w _ start lows e k
+    (range_serial sc n v start lows t (key t r v) (key t q v) _ _ (Sum r q) s runs (λ keys. small_sum (db v) r q (txn_at v t) keys (sum_at t (key t r v) (key t q v) v) f.rises f.small (sum_value sc n v lows t (key t r v) (key t q v) s.kept (runs.active, runs.here) f)))
+serial_event sc n v w start lows s (SumsNone t r q runs none e) k = along sc n w _ start lows e k (goes_serial sc n v start lows t _ _ (Sum r q) s runs (λ keys. no_sum (db v) r q (txn_at v t) keys none))
 serial_event sc n v w start lows s (Jumps t r q to runs e) k = along sc n w _ start lows e k (goes_serial sc n v start lows t _ _ (Beq r q to) s runs (jump_step (db v) r q to (txn_at v t)))
 serial_event sc n v w start lows s (Gets t r q runs f e) k = along sc n w _ start lows e k
-    (key_serial sc n v start lows t (key t q v) Shared _ _ _ (Read r q) s runs (λ keys. small_read (db v) r q (txn_at v t) keys (value_at t (key t q v) v) f.small (read_value sc n v lows t (key t q v) Shared s.kept (runs.active, runs.here) f)))
+    (key_serial sc n v start lows t (key t q v) Shared _ _ _ (Read r q) s runs (λ keys. small_read (db v) r q (txn_at v t) keys (value_at t (key t q v) v) f.small (read_value sc n v lows t (key t q v) s.kept (runs.active, runs.here) f.here)))
 serial_event sc n v w start lows s (Writes t r q runs f there e) k = along sc n w _ start lows e k
     (key_serial sc n v start lows t (key t r v) Exclusive _ _ _ (Write r q) s runs (λ keys. small_write (db v) r q (txn_at v t) keys f.small (there_value sc n v lows t (key t r v) Exclusive s.kept (runs.active, runs.here) f ∙ there)))
 serial_event sc n v w start lows s (Inserts t r q runs f new room e) k = along sc n w _ start lows e k

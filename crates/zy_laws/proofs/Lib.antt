@@ -40,4 +40,5 @@ pub mod FollowingRows
 pub mod Serializable
 pub mod Travel
 pub mod OneWay
+pub mod Between
 pub mod RoomAtCommit

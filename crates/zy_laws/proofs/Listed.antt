@@ -6,13 +6,13 @@ use Rattle.zy_isa.specs.Scenario.{Scenario}
 use Rattle.zy_isa.specs.declared.choice.Choice.{Choice}
 use Rattle.zy_isa.specs.declared.node.Node.{Node}
 use Rattle.zy_isa.specs.declared.node.Node.TheVariants.{A, B}
-use Rattle.zy_table.specs.Change.{aborted, asks, begun, committed, cut, did, leaves, locked, txn_at}
+use Rattle.zy_table.specs.Change.{aborted, asks, begun, committed, cut, did, leaves, locked, shares, txn_at}
 use Rattle.zy_table.specs.Client.{is_active}
 use Rattle.zy_table.specs.Play.{move, opening, play, side_of, step}
 use Rattle.zy_table.specs.Serial.{Listed, is_committed, times_listed}
 use Rattle.zy_table.specs.declared.entry.CommitRec.{CommitRec}
 use Rattle.zy_table.specs.State.{State, Txn, View, facing, seen_from}
-use Rattle.zy_laws.proofs.Events.{Aborts, Adds, Asks, Begins, Commits, Event, Finishes, Gets, Gives, GotAll, GotDone, GotDual, GotFinish, GotLast, GotPage, GotReady, GotWire, Inserts, IsStale, Jumps, Pushes, Rests, Sets, Splits, Starts, Writes, step_happens}
+use Rattle.zy_laws.proofs.Events.{Aborts, Adds, Asks, Begins, Commits, Event, Finishes, Gets, Gives, GotAll, GotDone, GotDual, GotFinish, GotLast, GotPage, GotReady, GotWire, Inserts, IsStale, Jumps, Pushes, Rests, Sets, SumsUp, SumsNone, Splits, Starts, Writes, step_happens}
 use Rattle.zy_laws.proofs.PlayPush.{play-keeps}
 use Rattle.zy_laws.proofs.Room.{one_if}
 use Rattle.zy_laws.proofs.SafeCounts.{active_off, new_off, txns_of}
@@ -66,7 +66,7 @@ abbrev commits_of : View → List CommitRec
 commits_of v = v.commits
 
 told : (sc : Scenario) (n : Node) (v w : View) (u : ℕ) → Event sc n v w → Told v u → Told w u
-unfolding did locked txn_at aborted begun committed cut asks leaves
+unfolding did locked shares txn_at aborted begun committed cut asks leaves
 told sc n v w u (Rests e) = told_same v w u (ap txns_of e) (ap commits_of e)
 told sc n v w u (Begins t h a new home e) = told_set v w t u _ (ap txns_of e) (ap commits_of e) (sym (new_off (txn_at v t).status new))
 told sc n v w u (Aborts t y active here e) = told_set v w t u _ (ap txns_of e) (ap commits_of e) (sym (active_off (txn_at v t).status active))
@@ -74,6 +74,8 @@ told sc n v w u (Sets t r x runs e) = told_set v w t u _ (ap txns_of e) (ap comm
 told sc n v w u (Adds t r q runs e) = told_set v w t u _ (ap txns_of e) (ap commits_of e) refl
 told sc n v w u (Jumps t r q to runs e) = told_set v w t u _ (ap txns_of e) (ap commits_of e) refl
 told sc n v w u (Gets t r q runs f e) = told_set v w t u _ (ap txns_of e) (ap commits_of e) refl
+told sc n v w u (SumsUp t r q runs f e) = told_set v w t u _ (ap txns_of e) (ap commits_of e) refl
+told sc n v w u (SumsNone t r q runs none e) = told_set v w t u _ (ap txns_of e) (ap commits_of e) refl
 told sc n v w u (Writes t r q runs f there e) = told_set v w t u _ (ap txns_of e) (ap commits_of e) refl
 told sc n v w u (Inserts t r q runs f new room e) = told_set v w t u _ (ap txns_of e) (ap commits_of e) refl
 told sc n v w u (Splits t r q runs f new full normal pages e) = told_same v w u (ap txns_of e) (ap commits_of e)

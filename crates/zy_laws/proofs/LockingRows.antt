@@ -12,7 +12,7 @@ use Rattle.zy_isa.specs.declared.instr.Reg.{Reg}
 use Rattle.zy_isa.specs.declared.node.Node.{Node}
 use Rattle.zy_isa.specs.declared.node.Node.TheVariants.{A, B}
 use Rattle.zy_isa.specs.declared.row.Row.{Row}
-use Rattle.zy_locks.specs.Locks.{add_lock, is_locked}
+use Rattle.zy_locks.specs.Locks.{add_lock, conflict, is_locked}
 use Rattle.zy_locks.specs.declared.lock.LockKind.{LockKind}
 use Rattle.zy_locks.specs.declared.lock.LockKind.TheVariants.{Exclusive, Shared}
 use Rattle.zy_page.specs.Leaf.{rows_from}
@@ -23,19 +23,23 @@ use Rattle.zy_modes.specs.declared.mode.NodeMode.TheVariants.{Empty, Normal, SIn
 use Rattle.zy_modes.specs.Table.{home_of, is_home, is_destination, may_split}
 use Rattle.zy_links.specs.Messages.{Wire, Ready, Dual, Pull, Finish, Done}
 use Rattle.zy_table.specs.declared.outcome.Why.{Why}
-use Rattle.zy_table.specs.Change.{aborted, asks, begun, committed, cut, did, installed, leaves, locked, turns, txn_at, txn_or, with_lows}
+use Rattle.zy_table.specs.Change.{aborted, asks, begun, committed, cut, did, installed, leaves, locked, shares, turns, txn_at, txn_or, with_lows}
 use Rattle.zy_table.specs.Client.{is_active, is_new}
 use Rattle.zy_table.specs.Database.{sent_leaves}
 use Rattle.zy_table.specs.Holders.{holds, holds_alone}
+use Rattle.zy_table.specs.Numbers.{has}
 use Rattle.zy_table.specs.Pages.{lowered, owns, rows_of, with_page}
+use Rattle.zy_table.specs.Ranges.{range_pages}
 use Rattle.zy_table.specs.Push.{active_from}
 use Rattle.zy_table.specs.Run.{boundary, has_room, same_node}
 use Rattle.zy_table.specs.State.{Leaf, Message, NodeState, Txn, View, other, post, with_me}
 use Rattle.zy_table.specs.Take.{is_held}
 use Rattle.zy_laws.proofs.Boundary.{boundary_new, boundary_on}
 use Rattle.zy_table.proofs.PageLists.{owns-lowered, owns-with_page}
+use Rattle.zy_table.proofs.RangeLists.{has_first, key_of_page}
+use Rattle.zy_table.proofs.SharedLocks.{conflict_own}
 use Rattle.zy_laws.proofs.CutPages.{placed_cut}
-use Rattle.zy_laws.proofs.Events.{arrived, rest, page, Runs, Event, Free, has_lock, key, lows_after, Rests, Begins, Aborts, Sets, Adds, Jumps, Gets, Writes, Inserts, Splits, Commits, Asks, Starts, GotWire, GotReady, GotDual, IsStale, Gives, GotPage, GotLast, GotFinish, GotAll, GotDone, Finishes, Pushes}
+use Rattle.zy_laws.proofs.Events.{arrived, rest, page, Runs, Event, Free, has_lock, key, lows_after, Rests, Begins, Aborts, Sets, SumsUp, SumsNone, FreeRange, has_locks, Adds, Jumps, Gets, Writes, Inserts, Splits, Commits, Asks, Starts, GotWire, GotReady, GotDual, IsStale, Gives, GotPage, GotLast, GotFinish, GotAll, GotDone, Finishes, Pushes}
 use Rattle.zy_laws.proofs.Installing.{Placed, placed_front, owns-installed, placed_installed}
 use Rattle.zy_table.proofs.LockLists.{alone-add, alone_more, alone_new, exclusive_holds, holds-add, locked_of}
 use Rattle.zy_laws.proofs.Locking.{Kept, Locking, Stay, began, freed, idle_locking, lock_taken, nobody_runs, seen_same, whole, seen_other, seen_step, steady, untouched}
@@ -94,6 +98,34 @@ lock_kept sc n v lows t k kind pc regs rows h at f grow i =
             | inr far ↦ inl (subst (λ (z : Txn). is_some (get_row z.rows j) ≡ true) (at_other v w t u y refl far) s)
           ]);
       theirs = untouched sc (other n) v.them v w lows h.theirs (seen_other n v w t y refl (λ s. not_both_nodes n x.node at.1 s.1) at);
+    }
+
+-- t shares some pages
+shares_locking : (sc : Scenario) (n : Node) (ps : List ℕ) (v : View) (lows : List ℕ) (t : ℕ) → Locking sc n v.me v lows → IsAt v t n
+    → ((p : ℕ) → has ps p ≡ true → p < length lows) → ((p : ℕ) → has ps p ≡ true → owns v.me.pages p ≡ true)
+    → ((p : ℕ) → has ps p ≡ true → conflict v.me.locks p t Shared ≡ false) → Locking sc n (shares t ps v).me (shares t ps v) lows
+unfolding shares locked txn_at
+shares_locking sc n [] v lows t l at small own free = l
+shares_locking sc n (p ∷ ps) v lows t l at small own free =
+    let w = locked t p Shared v in
+    let here = has_first p ps in
+    let one : Locking sc n w.me w lows = lock_taken sc n v w w.me lows t p Shared l at (small p here) (own p here) (free p here) refl refl refl refl (λ u a. a) (λ u a. a) (λ u j a s. inl s) in
+    shares_locking sc n ps w lows t one at (λ q h. small q (or_right _ _ h)) (λ q h. own q (or_right _ _ h)) (λ q h. conflict_own p t Shared v.me.locks q Shared ∙ free q (or_right _ _ h))
+
+-- t does a sum, with the locks that it takes
+sum_kept : (sc : Scenario) (n : Node) (v : View) (lows : List ℕ) (t a b pc : ℕ) (regs : List ℕ) → Kept sc n v lows → IsAt v t n → FreeRange t a b v
+    → Inv (did t pc regs (txn_at v t).rows (has_locks t a b v)) → Kept sc n (did t pc regs (txn_at v t).rows (has_locks t a b v)) lows
+unfolding did shares txn_at
+sum_kept sc n v lows t a b pc regs h at f i =
+    let x = has_locks t a b v in
+    let w = did t pc regs (txn_at v t).rows x in
+    let small : (p : ℕ) → has (range_pages v.me.lows a b) p ≡ true → p < length lows = λ p e. let k = key_of_page v.me.lows a b p e in subst (λ z. z < length lows) k.1 (within sc n v lows t k.0 h at) in
+    record {
+      inv = i;
+      first = h.first;
+      placed = h.placed;
+      mine = untouched sc n x.me x w lows (shares_locking sc n (range_pages v.me.lows a b) v lows t h.mine at small f.here f.free) (seen_step n x w t _ refl at.0 refl refl refl);
+      theirs = untouched sc (other n) v.them v w lows h.theirs (seen_step (other n) v w t _ refl at.0 refl refl refl);
     }
 
 -- the keys of the private rows after one is put
@@ -363,6 +395,8 @@ kept_event sc n v w lows two o k i (Begins t h a new home e) = begun_event sc n 
 kept_event sc n v w lows two o k i (Aborts t y active here e) = along sc n w _ lows e i (aborted_kept sc n v lows t y k (active, here))
 kept_event sc n v w lows two o k i (Sets t r x runs e) = along sc n w _ lows e i (goes_kept sc n v lows t _ _ k (runs.active, runs.here))
 kept_event sc n v w lows two o k i (Adds t r q runs e) = along sc n w _ lows e i (goes_kept sc n v lows t _ _ k (runs.active, runs.here))
+kept_event sc n v w lows two o k i (SumsUp t r q runs f e) = along sc n w _ lows e i (sum_kept sc n v lows t (key t r v) (key t q v) _ _ k (runs.active, runs.here) f)
+kept_event sc n v w lows two o k i (SumsNone t r q runs none e) = along sc n w _ lows e i (goes_kept sc n v lows t _ _ k (runs.active, runs.here))
 kept_event sc n v w lows two o k i (Jumps t r q to runs e) = along sc n w _ lows e i (goes_kept sc n v lows t _ _ k (runs.active, runs.here))
 kept_event sc n v w lows two o k i (Gets t r q runs f e) = along sc n w _ lows e i (lock_kept sc n v lows t (key t q v) Shared _ _ _ k (runs.active, runs.here) f (λ j h. inl h))
 kept_event sc n v w lows two o k i (Writes t r q runs f there e) = along sc n w _ lows e i (lock_kept sc n v lows t (key t r v) Exclusive _ _ _ k (runs.active, runs.here) f (grown (key t r v) (key t q v) (txn_at v t).rows))

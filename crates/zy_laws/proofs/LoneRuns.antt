@@ -1,5 +1,5 @@
 -- A lone run over a database that it leaves as it is: what it wrote stands in rows of its own.
-use Rattle.std.proofs.Common.{Bool, List, [], ap, arith, false, inl, inr, refl, suc, sym, true, zero, ℕ, ◌%◌, ◌+◌, ◌^◌, ◌∙◌, ◌∷◌, ◌≡◌}
+use Rattle.std.proofs.Common.{Bool, List, [], ap, arith, false, inl, inr, refl, suc, sym, true, zero, ℕ, ◌%◌, ◌++◌, ◌+◌, ◌^◌, ◌∙◌, ◌∷◌, ◌≡◌}
 use Rattle.std.specs.Prelude.{None, Option, Some, if◌then◌else◌, is_some, nat_lt, not, replicate, slice_get, unwrap_or, ◌==◌}
 use Rattle.std.specs.FinMap.{get, get-insert, insert, nat_cmp-IsAntisymmetric, same_map}
 use Rattle.std.specs.Ordering.{eq_by_cmp, nat_cmp}
@@ -8,14 +8,16 @@ use Rattle.std.proofs.lemmas.Bool.Decides.{nat_tests}
 use Rattle.std.proofs.lemmas.Cmp.{nat_cmp_total}
 use Rattle.zy_isa.specs.Rows.{get_row, put_row}
 use Rattle.zy_isa.specs.declared.instr.Instr.{Instr}
-use Rattle.zy_isa.specs.declared.instr.Instr.TheVariants.{Abort, Add, Beq, Commit, Insert, Read, Set, Write}
+use Rattle.zy_isa.specs.declared.instr.Instr.TheVariants.{Abort, Add, Beq, Commit, Insert, Read, Set, Sum, Write}
 use Rattle.zy_isa.specs.declared.instr.Reg.{Reg}
 use Rattle.zy_isa.specs.declared.row.Row.{Row}
 use Rattle.zy_table.specs.Change.{reg, with_reg}
 use Rattle.zy_table.specs.Database.{Map, laid}
 use Rattle.zy_table.specs.Numbers.{has}
-use Rattle.zy_table.specs.Serial.{Alone, alone, alone_instr, alone_step, gives_up, goes_on}
+use Rattle.zy_table.specs.Ranges.{range, total}
+use Rattle.zy_table.specs.Serial.{Alone, alone, alone_instr, alone_step, gives_up, goes_on, value_in}
 use Rattle.zy_table.specs.State.{other}
+use Rattle.zy_table.proofs.RangeLists.{has_back, has_front, total_same}
 use Rattle.zy_laws.proofs.Events.{key}
 
 pub record Lone : Type 0 where
@@ -42,10 +44,24 @@ reads d r k x = record x { regs = with_reg r (unwrap_or (sees d x k) 0) x.regs; 
 abbrev pub stores : ℕ → ℕ → Lone → Lone
 stores k v x = record x { pc = x.pc + 1; rows = put_row k v x.rows; keys = k ∷ x.keys }
 
+-- a sum touches each of its keys, with or without a row
+abbrev pub value_seen : Map → Lone → ℕ → ℕ
+value_seen d x k = unwrap_or (sees d x k) 0
+
+abbrev pub sums : Map → Reg → List ℕ → Lone → Lone
+sums d r ks x = record x { regs = with_reg r (total (value_seen d x) ks % 2 ^ 32) x.regs; pc = x.pc + 1; keys = ks ++ x.keys }
+
+-- by two tests: there is no key, a key is none
+abbrev pub sums_or_ends : Map → Reg → List ℕ → Bool → Bool → Lone → Lone
+sums_or_ends d r ks none far x =
+    if none then record x { regs = with_reg r 0 x.regs; pc = x.pc + 1 } else if far then ended x else sums d r ks x
+
 unfoldable pub lone_instr : Map → Option Instr → Lone → Lone
 lone_instr d None x = ended x
 lone_instr d (Some (Set r v)) x = record x { regs = with_reg r v x.regs; pc = x.pc + 1 }
 lone_instr d (Some (Add r q)) x = record x { regs = with_reg r ((reg x.regs r + reg x.regs q) % 2 ^ 32) x.regs; pc = x.pc + 1 }
+lone_instr d (Some (Sum r q)) x =
+    sums_or_ends d r (range (reg x.regs r) (reg x.regs q)) (nat_lt (reg x.regs q) (reg x.regs r)) (nat_lt 65535 (reg x.regs q)) x
 lone_instr d (Some (Beq r q to)) x = record x { pc = if reg x.regs r == reg x.regs q then to else x.pc + 1 }
 lone_instr d (Some Abort) x = ended x
 lone_instr d (Some Commit) x = ended x
@@ -79,6 +95,12 @@ agree_rest d d' k keys a = record { each = λ q h. a.each q (or_right _ _ h) }
 agree_first : (d d' : Map) (k : ℕ) (keys : List ℕ) → Agree d d' (k ∷ keys) → get d' k ≡ get d k
 agree_first d d' k keys a = a.each k (or_left _ _ (eq-eqb k k refl))
 
+agree_front : (d d' : Map) (ks keys : List ℕ) → Agree d d' (ks ++ keys) → Agree d d' ks
+agree_front d d' ks keys a = record { each = λ q h. a.each q (has_front ks keys q h) }
+
+agree_back : (d d' : Map) (ks keys : List ℕ) → Agree d d' (ks ++ keys) → Agree d d' keys
+agree_back d d' ks keys a = record { each = λ q h. a.each q (has_back ks keys q h) }
+
 -- an instruction that ends nothing: agreement after it gives agreement before it, and the same result
 pub record Alike (d d' : Map) (i : Option Instr) (x : Lone) : Type 0 where
   pub before : Agree d d' x.keys
@@ -109,11 +131,25 @@ alike_read d d' r q x on a =
     let same : sees d' x k ≡ sees d x k = ap (or_else (get_row x.rows k)) (agree_first d d' k x.keys both) in
     record { before = agree_rest d d' k x.keys both; same = ap (λ o. if nat_lt 65535 k then ended x else record x { regs = with_reg r (unwrap_or o 0) x.regs; pc = x.pc + 1; keys = k ∷ x.keys }) same }
 
+sums_alike : (d d' : Map) (r : Reg) (ks : List ℕ) (x : Lone) → Agree d d' ks → sums d' r ks x ≡ sums d r ks x
+sums_alike d d' r ks x a =
+    ap (λ z. record x { regs = with_reg r (z % 2 ^ 32) x.regs; pc = x.pc + 1; keys = ks ++ x.keys })
+    (total_same (value_seen d' x) (value_seen d x) ks (λ k h. ap (λ o. unwrap_or (or_else (get_row x.rows k) o) 0) (a.each k h)))
+
+alike_sum : (d d' : Map) (r : Reg) (ks : List ℕ) (none far : Bool) (x : Lone) → (sums_or_ends d r ks none far x).over ≡ false
+    → Agree d d' (sums_or_ends d r ks none far x).keys → Agree d d' x.keys × (sums_or_ends d' r ks none far x ≡ sums_or_ends d r ks none far x)
+alike_sum d d' r ks true far x on a = (record { each = a.each }, refl)
+alike_sum d d' r ks false true x on a = over_absurd on
+alike_sum d d' r ks false false x on a = (agree_back d d' ks x.keys a, sums_alike d d' r ks x (agree_front d d' ks x.keys a))
+
 alike : (d d' : Map) (i : Option Instr) (x : Lone) → (lone_instr d i x).over ≡ false → Agree d d' (lone_instr d i x).keys → Alike d d' i x
 unfolding lone_instr
 alike d d' None x on a = over_absurd on
 alike d d' (Some (Set r v)) x on a = record { before = record { each = a.each }; same = refl }
 alike d d' (Some (Add r q)) x on a = record { before = record { each = a.each }; same = refl }
+alike d d' (Some (Sum r q)) x on a =
+    let h = alike_sum d d' r (range (reg x.regs r) (reg x.regs q)) (nat_lt (reg x.regs q) (reg x.regs r)) (nat_lt 65535 (reg x.regs q)) x on a in
+    record { before = h.0; same = h.1 }
 alike d d' (Some (Beq r q to)) x on a = record { before = record { each = a.each }; same = refl }
 alike d d' (Some Abort) x on a = over_absurd on
 alike d d' (Some Commit) x on a = over_absurd on
@@ -213,6 +249,17 @@ on_put m x k v true there on = over_absurd on
 on_put m x k v false true on = record { map = laid_put m x.rows k v; regs = refl; pc = refl; over = refl }
 on_put m x k v false false on = over_absurd on
 
+on_sum : (m : Map) (r : Reg) (ks : List ℕ) (none far : Bool) (x : Lone) → (sums_or_ends m r ks none far x).over ≡ false
+    → OnMap m (sums_or_ends m r ks none far x) (if none then goes_on (laid x.rows m) (with_reg r 0 x.regs) (x.pc + 1) else if far then gives_up m (mapped m x) else goes_on (laid x.rows m) (with_reg r (total (value_in (laid x.rows m)) ks % 2 ^ 32) x.regs) (x.pc + 1))
+on_sum m r ks true far x on = record { map = refl; regs = refl; pc = refl; over = refl }
+on_sum m r ks false true x on = over_absurd on
+on_sum m r ks false false x on = record {
+  map = refl;
+  regs = ap (λ z. with_reg r (z % 2 ^ 32) x.regs) (total_same (value_in (laid x.rows m)) (value_seen m x) ks (λ k _. ap (λ o. unwrap_or o 0) (get-laid x.rows m k)));
+  pc = refl;
+  over = refl;
+}
+
 turned_test : {X : Type 0} (b : Bool) (x y : X) → (if not b then x else y) ≡ (if b then y else x)
 turned_test true x y = refl
 turned_test false x y = refl
@@ -222,6 +269,8 @@ unfolding lone_instr alone_instr
 on_instr m None x on = over_absurd on
 on_instr m (Some (Set r v)) x on = record { map = refl; regs = refl; pc = refl; over = refl }
 on_instr m (Some (Add r q)) x on = record { map = refl; regs = refl; pc = refl; over = refl }
+on_instr m (Some (Sum r q)) x on =
+    on_sum m r (range (reg x.regs r) (reg x.regs q)) (nat_lt (reg x.regs q) (reg x.regs r)) (nat_lt 65535 (reg x.regs q)) x on
 on_instr m (Some (Beq r q to)) x on = record { map = refl; regs = refl; pc = refl; over = refl }
 on_instr m (Some Abort) x on = over_absurd on
 on_instr m (Some Commit) x on = over_absurd on

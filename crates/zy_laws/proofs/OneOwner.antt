@@ -14,7 +14,7 @@ use Rattle.zy_locks.specs.declared.lock.LockKind.TheVariants.{Exclusive}
 use Rattle.zy_modes.specs.declared.mode.NodeMode.{NodeMode}
 use Rattle.zy_modes.specs.declared.mode.NodeMode.TheVariants.{Empty, Normal, SInit, SDual, SFinish, DInit, DDual, DFinish}
 use Rattle.zy_modes.specs.Table.{may_pull, may_split}
-use Rattle.zy_table.specs.Change.{aborted, asks, begun, committed, cut, did, installed, leaves, locked, turns, txn_at, with_lows}
+use Rattle.zy_table.specs.Change.{aborted, asks, begun, committed, cut, did, installed, leaves, locked, shares, turns, txn_at, with_lows}
 use Rattle.zy_laws.specs.Journey.{Begins, is_source}
 use Rattle.zy_laws.specs.OneOwner.{OneOwner, times}
 use Rattle.zy_table.specs.Pages.{leaf_at, lowered, owns, without}
@@ -22,7 +22,7 @@ use Rattle.zy_table.specs.Play.{move, opening, opening_leaves, opening_pages, pl
 use Rattle.zy_table.specs.Run.{boundary}
 use Rattle.zy_table.specs.State.{Leaf, Message, NodeState, State, View, facing, post, seen_from, with_me}
 use Rattle.zy_table.specs.Take.{all_here}
-use Rattle.zy_laws.proofs.Events.{Aborts, Adds, Asks, Begins as Begun, Commits, Event, Finishes, Gets, Gives, GotAll, GotDone, GotDual, GotFinish, GotLast, GotPage, GotReady, GotWire, Inserts, IsStale, Jumps, Pushes, Rests, Sets, Splits, Starts, Writes, arrived, has_lock, key, page, rest, step_happens}
+use Rattle.zy_laws.proofs.Events.{Aborts, Adds, Asks, Begins as Begun, Commits, Event, Finishes, Gets, Gives, GotAll, GotDone, GotDual, GotFinish, GotLast, GotPage, GotReady, GotWire, Inserts, IsStale, Jumps, Pushes, Rests, Sets, SumsUp, SumsNone, Splits, Starts, Writes, arrived, has_lock, key, page, rest, step_happens}
 use Rattle.zy_laws.proofs.ModeLines.{is_sending, pulls_in, sends_in, splits_in_normal}
 use Rattle.zy_laws.proofs.MovingPages.{all_below-owns, leaf_at-number}
 use Rattle.zy_laws.proofs.PageCounts.{owns-times, times-all_leaves, times-installed, times-lowered, times-with_page, times-without, times_in, times_sent, times_sent-post}
@@ -307,7 +307,7 @@ done_inv v ms i f finish =
 -- ---- each row
 
 pub inv_event : (sc : Scenario) (n : Node) (v w : View) → Inv v → Event sc n v w → Inv w
-unfolding did locked txn_at aborted begun committed
+unfolding did locked shares txn_at aborted begun committed
 inv_event sc n v w i (Rests e) = rw e i
 inv_event sc n v w i (Begun t h a new home e) = rw e (locks_inv v _ (refl, refl, refl) refl refl refl i)
 inv_event sc n v w i (Aborts t y active here e) = rw e (locks_inv v _ (refl, refl, refl) refl refl refl i)
@@ -315,6 +315,8 @@ inv_event sc n v w i (Sets t r x runs e) = rw e (locks_inv v _ (refl, refl, refl
 inv_event sc n v w i (Adds t r q runs e) = rw e (locks_inv v _ (refl, refl, refl) refl refl refl i)
 inv_event sc n v w i (Jumps t r q to runs e) = rw e (locks_inv v _ (refl, refl, refl) refl refl refl i)
 inv_event sc n v w i (Gets t r q runs f e) = rw e (locks_inv v _ (refl, refl, refl) refl refl refl i)
+inv_event sc n v w i (SumsUp t r q runs f e) = rw e (locks_inv v _ (refl, refl, refl) refl refl refl i)
+inv_event sc n v w i (SumsNone t r q runs none e) = rw e (locks_inv v _ (refl, refl, refl) refl refl refl i)
 inv_event sc n v w i (Writes t r q runs f there e) = rw e (locks_inv v _ (refl, refl, refl) refl refl refl i)
 inv_event sc n v w i (Inserts t r q runs f new room e) = rw e (locks_inv v _ (refl, refl, refl) refl refl refl i)
 inv_event sc n v w i (Splits t r q runs f new full normal pages e) =

@@ -4,6 +4,7 @@ use Rattle.std.specs.Prelude.{◌⊎◌}
 use Rattle.std.proofs.lemmas.Bool.{false≢true}
 use Rattle.zy_isa.specs.Scenario.{Scenario}
 use Rattle.zy_isa.specs.declared.choice.Choice.{Choice}
+use Rattle.zy_isa.specs.declared.node.Node.{Node}
 use Rattle.zy_modes.specs.declared.mode.NodeMode.TheVariants.{Normal}
 use Rattle.zy_links.specs.Messages.{Wire, Ready, Dual, Pull, Page, Finish, Done}
 use Rattle.zy_laws.specs.Journey.{Begins, OneWireframe, Sent, Wireframes, is_source}
@@ -102,6 +103,15 @@ wireframes v (Destination ph) =
       same = λ s. absurd (false≢true (sym f.last ∙ s));
       sent = f.back_sent;
     }
+
+-- at most one node is a source
+one_of : (v : View) → Roles v → is_source v.me.mode ≡ true → is_source v.them.mode ≡ false
+one_of v (Source ph) s = (framed v.me v.them v.outbox v.inbox ph).last
+one_of v (Destination ph) s = absurd (false≢true (sym (framed v.them v.me v.inbox v.outbox ph).last ∙ s))
+
+pub one_source : (sc : Scenario) (cs : List Choice) (n : Node) → let s = play sc (opening sc) cs in
+    is_source (facing n s).me.mode ≡ true → is_source (facing n s).them.mode ≡ false
+one_source sc cs n = let s = play sc (opening sc) cs in one_of (facing n s) (inv_from n s (play_inv sc cs)).roles
 
 pub one_wireframe : (sc : Scenario) (cs : List Choice) → OneWireframe (play sc (opening sc) cs)
 one_wireframe sc cs n = let s = play sc (opening sc) cs in wireframes (facing n s) (inv_from n s (play_inv sc cs)).roles

@@ -9,15 +9,18 @@ use Rattle.zy_isa.specs.declared.node.Node.{Node}
 use Rattle.zy_isa.specs.declared.row.Row.{Row}
 use Rattle.zy_locks.specs.Order.{LocksRise}
 use Rattle.zy_locks.proofs.Rising.{rise_add, rise_drop}
+use Rattle.zy_locks.specs.Locks.{add_lock}
+use Rattle.zy_locks.specs.Order.{LocksRise}
+use Rattle.zy_locks.specs.declared.lock.Lock.{Lock}
 use Rattle.zy_locks.specs.declared.lock.LockKind.{LockKind}
 use Rattle.zy_locks.specs.declared.lock.LockKind.TheVariants.{Exclusive, Shared}
-use Rattle.zy_table.specs.Change.{aborted, asks, begun, committed, cut, did, installed, leaves, locked, txn_at}
+use Rattle.zy_table.specs.Change.{aborted, asks, begun, committed, cut, did, installed, leaves, locked, share_all, shares, txn_at}
 use Rattle.zy_table.specs.Database.{sent_leaves}
 use Rattle.zy_table.specs.Order.{NodeInOrder, NumbersRise, RowsRise}
 use Rattle.zy_table.specs.Rows.{rows_on}
 use Rattle.zy_table.specs.State.{Leaf, Message, NodeState, Txn, View}
 use Rattle.zy_table.specs.declared.outcome.Why.{Why}
-use Rattle.zy_laws.proofs.Events.{Aborts, Adds, Asks, Begins, Commits, Event, Finishes, Gets, Gives, GotAll, GotDone, GotDual, GotFinish, GotLast, GotPage, GotReady, GotWire, Inserts, IsStale, Jumps, Pushes, Rests, Sets, Splits, Starts, Writes, arrived, has_lock, key, page, puts, rest}
+use Rattle.zy_laws.proofs.Events.{Aborts, Adds, Asks, Begins, Commits, Event, Finishes, Gets, Gives, GotAll, GotDone, GotDual, GotFinish, GotLast, GotPage, GotReady, GotWire, Inserts, IsStale, Jumps, Pushes, Rests, Sets, SumsUp, SumsNone, Splits, Starts, Writes, arrived, has_lock, key, page, puts, rest}
 use Rattle.zy_table.proofs.RisingRows.{rises_put, rises_puts, rises_weaker}
 use Rattle.zy_laws.proofs.Roles.{Inv, Owned, fresh_number, normal_other, width}
 use Rattle.zy_laws.proofs.OneOwner.{done_wide, locks_inv, pulled_inv, wire_wide}
@@ -101,6 +104,17 @@ unfolding did locked txn_at
 lock_ordered t p pc kind regs rows v o rises =
     acts_ordered v (did t pc regs rows (locked t p kind v)) t (record (txn_at v t) { pc = pc; regs = regs; rows = rows; done = (txn_at v t).done + 1 }) o refl rises
     (locks_ordered v.me _ o.mine refl refl (rise_add p t kind v.me.locks o.mine.locks)) refl refl refl refl refl
+
+rise_share : (ps : List ℕ) (t : ℕ) (xs : List Lock) → LocksRise xs → LocksRise (share_all ps t xs)
+rise_share [] t xs h = h
+rise_share (p ∷ ps) t xs h = rise_share ps t (add_lock p t Shared xs) (rise_add p t Shared xs h)
+
+-- and one that shares some pages
+sum_ordered : (t pc : ℕ) (regs ps : List ℕ) (v : View) → Ordered v → Ordered (did t pc regs (txn_at v t).rows (shares t ps v))
+unfolding did shares txn_at
+sum_ordered t pc regs ps v o =
+    acts_ordered v (did t pc regs (txn_at v t).rows (shares t ps v)) t (record (txn_at v t) { pc = pc; regs = regs; done = (txn_at v t).done + 1 }) o refl (o.private t)
+    (locks_ordered v.me _ o.mine refl refl (rise_share ps t v.me.locks o.mine.locks)) refl refl refl refl refl
 
 ended_ordered : (t : ℕ) (why : Why) (v : View) → Ordered v → Ordered (aborted t why v)
 unfolding aborted
@@ -343,6 +357,8 @@ ordered_event sc n v w i o (Sets t r x runs e) = along w _ e (goes_ordered t _ _
 ordered_event sc n v w i o (Adds t r q runs e) = along w _ e (goes_ordered t _ _ _ v o (o.private t))
 ordered_event sc n v w i o (Jumps t r q to runs e) = along w _ e (goes_ordered t _ _ _ v o (o.private t))
 ordered_event sc n v w i o (Gets t r q runs f e) = along w _ e (lock_ordered t _ _ Shared _ _ v o (o.private t))
+ordered_event sc n v w i o (SumsUp t r q runs f e) = along w _ e (sum_ordered t _ _ _ v o)
+ordered_event sc n v w i o (SumsNone t r q runs none e) = along w _ e (goes_ordered t _ _ _ v o (o.private t))
 ordered_event sc n v w i o (Writes t r q runs f there e) = along w _ e (puts_ordered t r q v o)
 ordered_event sc n v w i o (Inserts t r q runs f new room e) = along w _ e (puts_ordered t r q v o)
 ordered_event sc n v w i o (Splits t r q runs f new full normal pages e) =

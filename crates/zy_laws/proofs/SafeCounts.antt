@@ -16,7 +16,7 @@ use Rattle.zy_isa.specs.declared.instr.Instr.TheVariants.{Beq}
 use Rattle.zy_isa.specs.declared.instr.Reg.{Reg}
 use Rattle.zy_isa.specs.declared.node.Node.{Node}
 use Rattle.zy_isa.specs.declared.node.Node.TheVariants.{A, B}
-use Rattle.zy_table.specs.Change.{aborted, begun, committed, did, locked, txn_at, txn_or, with_reg, cut, asks, leaves}
+use Rattle.zy_table.specs.Change.{aborted, begun, committed, did, locked, shares, txn_at, txn_or, with_reg, cut, asks, leaves}
 use Rattle.zy_table.specs.Client.{is_active, is_new}
 use Rattle.zy_laws.specs.Counts.{Counted, Safe}
 use Rattle.zy_table.specs.Play.{blank, move, opening, play, side_of, step}
@@ -25,7 +25,7 @@ use Rattle.zy_table.specs.Serial.{is_committed}
 use Rattle.zy_table.specs.declared.status.Status.TheVariants.{Aborted, Active, Committed, New}
 use Rattle.zy_table.specs.State.{State, Txn, View, facing, seen_from}
 use Rattle.zy_table.specs.declared.status.Status.{Status}
-use Rattle.zy_laws.proofs.Events.{Aborts, Adds, Begins, Commits, Event, Gets, Inserts, Jumps, Rests, Runs, Sets, Writes, step_happens, Splits, Asks, Starts, GotWire, GotReady, GotDual, IsStale, Gives, GotPage, GotLast, GotFinish, GotAll, GotDone, Finishes, Pushes}
+use Rattle.zy_laws.proofs.Events.{Aborts, Adds, Begins, Commits, Event, Gets, Inserts, Jumps, Rests, Runs, Sets, SumsUp, SumsNone, Writes, step_happens, Splits, Asks, Starts, GotWire, GotReady, GotDual, IsStale, Gives, GotPage, GotLast, GotFinish, GotAll, GotDone, Finishes, Pushes}
 use Rattle.zy_laws.proofs.Txns.{at_back, at_either, at_other, at_side, blank_at}
 
 -- no element passes the test where none is found
@@ -100,7 +100,7 @@ abbrev pub txns_of : View → List Txn
 txns_of v = v.txns
 
 fate : (sc : Scenario) (n : Node) (v w : View) (u : ℕ) → Event sc n v w → Fate sc u (txn_at v u) (txn_at w u)
-unfolding did locked txn_at aborted begun committed cut asks leaves
+unfolding did locked shares txn_at aborted begun committed cut asks leaves
 fate sc n v w u (Rests e) = rw e (Same refl)
 fate sc n v w u (Begins t h a new home e) = fate_set sc v w t u _ (ap txns_of e) (Fresh refl refl refl)
 fate sc n v w u (Aborts t y active here e) = fate_set sc v w t u _ (ap txns_of e) (Ends (omega arith) refl refl)
@@ -108,6 +108,8 @@ fate sc n v w u (Sets t r x runs e) = fate_set sc v w t u _ (ap txns_of e) (Went
 fate sc n v w u (Adds t r q runs e) = fate_set sc v w t u _ (ap txns_of e) (Went refl (set_length (txn_at v t).regs r _) (next_place sc n t _ v runs refl))
 fate sc n v w u (Jumps t r q to runs e) = fate_set sc v w t u _ (ap txns_of e) (Went refl refl (jump_place sc n t r q to v _ runs))
 fate sc n v w u (Gets t r q runs f e) = fate_set sc v w t u _ (ap txns_of e) (Went refl (set_length (txn_at v t).regs r _) (next_place sc n t _ v runs refl))
+fate sc n v w u (SumsUp t r q runs f e) = fate_set sc v w t u _ (ap txns_of e) (Went refl (set_length (txn_at v t).regs r _) (next_place sc n t _ v runs refl))
+fate sc n v w u (SumsNone t r q runs none e) = fate_set sc v w t u _ (ap txns_of e) (Went refl (set_length (txn_at v t).regs r _) (next_place sc n t _ v runs refl))
 fate sc n v w u (Writes t r q runs f there e) = fate_set sc v w t u _ (ap txns_of e) (Went refl refl (next_place sc n t _ v runs refl))
 fate sc n v w u (Inserts t r q runs f new room e) = fate_set sc v w t u _ (ap txns_of e) (Went refl refl (next_place sc n t _ v runs refl))
 fate sc n v w u (Splits t r q runs f new full normal pages e) = rw e (Same refl)
@@ -188,7 +190,7 @@ tallied_step : (v w : View) (t : ℕ) (y : Txn) → w.txns ≡ slice_set v.txns 
 tallied_step v w t y e c a b = let off = active_off (txn_at v t).status b in tallied_set v w t y e c (ap is_committed a ∙ off) off
 
 tallied : (sc : Scenario) (n : Node) (v w : View) → Event sc n v w → Tallied v w
-unfolding did locked txn_at aborted begun committed cut asks leaves
+unfolding did locked shares txn_at aborted begun committed cut asks leaves
 tallied sc n v w (Rests e) = rw e (tallied_same v v refl refl)
 tallied sc n v w (Begins t h a new home e) = rw e (tallied_set v _ t _ refl refl refl (new_off (txn_at v t).status new))
 tallied sc n v w (Aborts t y active here e) = rw e (tallied_set v _ t _ refl refl refl (active_off (txn_at v t).status active))
@@ -196,6 +198,8 @@ tallied sc n v w (Sets t r x runs e) = rw e (tallied_step v _ t _ refl refl refl
 tallied sc n v w (Adds t r q runs e) = rw e (tallied_step v _ t _ refl refl refl runs.active)
 tallied sc n v w (Jumps t r q to runs e) = rw e (tallied_step v _ t _ refl refl refl runs.active)
 tallied sc n v w (Gets t r q runs f e) = rw e (tallied_step v _ t _ refl refl refl runs.active)
+tallied sc n v w (SumsUp t r q runs f e) = rw e (tallied_step v _ t _ refl refl refl runs.active)
+tallied sc n v w (SumsNone t r q runs none e) = rw e (tallied_step v _ t _ refl refl refl runs.active)
 tallied sc n v w (Writes t r q runs f there e) = rw e (tallied_step v _ t _ refl refl refl runs.active)
 tallied sc n v w (Inserts t r q runs f new room e) = rw e (tallied_step v _ t _ refl refl refl runs.active)
 tallied sc n v w (Splits t r q runs f new full normal pages e) = rw e (tallied_same v _ refl refl)

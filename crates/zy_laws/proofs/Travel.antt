@@ -15,7 +15,7 @@ use Rattle.zy_table.specs.declared.outcome.Outcome.{Outcome}
 use Rattle.zy_table.specs.declared.outcome.Outcome.TheVariants.{Split}
 use Rattle.zy_table.specs.declared.place.Place.{Place}
 use Rattle.zy_table.specs.declared.place.Place.TheVariants.{Nowhere, At, Moving}
-use Rattle.zy_table.specs.Change.{aborted, asks, begun, committed, cut, did, leaves, locked, txn_at}
+use Rattle.zy_table.specs.Change.{aborted, asks, begun, committed, cut, did, leaves, locked, shares, txn_at}
 use Rattle.zy_table.specs.Database.{sent_leaves}
 use Rattle.zy_laws.specs.Journey.{is_source}
 use Rattle.zy_table.specs.Pages.{leaf_at, lowered, owns, with_page}
@@ -25,7 +25,7 @@ use Rattle.zy_table.specs.Play.{move, opening, play, side_of, step}
 use Rattle.zy_table.specs.Run.{boundary}
 use Rattle.zy_table.specs.State.{Leaf, Message, Move, State, View, as_step, facing, other, seen_from}
 use Rattle.zy_table.proofs.PageLists.{owns-lowered, owns-with_page}
-use Rattle.zy_laws.proofs.Events.{Told, Aborts, Adds, Asks, Begins, Commits, Event, Finishes, Gets, Gives, GotAll, GotDone, GotDual, GotFinish, GotLast, GotPage, GotReady, GotWire, Inserts, IsStale, Jumps, Pushes, Rests, Sets, Splits, Starts, Writes, has_lock, key, page, rest, step_happens}
+use Rattle.zy_laws.proofs.Events.{Told, Aborts, Adds, Asks, Begins, Commits, Event, Finishes, Gets, Gives, GotAll, GotDone, GotDual, GotFinish, GotLast, GotPage, GotReady, GotWire, Inserts, IsStale, Jumps, Pushes, Rests, Sets, SumsUp, SumsNone, Splits, Starts, Writes, has_lock, key, page, rest, step_happens}
 use Rattle.zy_laws.proofs.Installing.{owns-installed}
 use Rattle.zy_laws.proofs.MovingPages.{leaf_at-number, owns-sent_post, owns-without, owns-without_other, sent_bare}
 use Rattle.zy_laws.proofs.OneOwner.{inv_from, locks_inv, play_inv, pulled_inv, sends_source, step_inv}
@@ -139,7 +139,7 @@ from_same p n o v x w same mode (Out a b c) = Out (ap is_source (sym mode) ∙ a
 from_same p n o v x w same mode (In a b c) = In (ap may_pull (sym mode) ∙ a) (same ∙ b) c
 
 goes_event : (sc : Scenario) (n : Node) (o : Outcome) (v w : View) (p : ℕ) → Inv v → (e : Event sc n v w) → Told e o → Goes p n o v w
-unfolding did locked txn_at aborted begun committed asks
+unfolding did locked shares txn_at aborted begun committed asks
 goes_event sc n o v w p i (Rests e) told = rw e (Same refl)
 goes_event sc n o v w p i (Begins t h a new home e) told = rw e (Same refl)
 goes_event sc n o v w p i (Aborts t y active here e) told = rw e (Same refl)
@@ -147,6 +147,8 @@ goes_event sc n o v w p i (Sets t r x runs e) told = rw e (Same refl)
 goes_event sc n o v w p i (Adds t r q runs e) told = rw e (Same refl)
 goes_event sc n o v w p i (Jumps t r q to runs e) told = rw e (Same refl)
 goes_event sc n o v w p i (Gets t r q runs f e) told = rw e (Same refl)
+goes_event sc n o v w p i (SumsUp t r q runs f e) told = rw e (Same refl)
+goes_event sc n o v w p i (SumsNone t r q runs none e) told = rw e (Same refl)
 goes_event sc n o v w p i (Writes t r q runs f there e) told = rw e (Same refl)
 goes_event sc n o v w p i (Inserts t r q runs f new room e) told = rw e (Same refl)
 goes_event sc n o v w p i (Splits t r q runs f new full normal pages e) told =

@@ -6,14 +6,14 @@ use Rattle.zy_isa.specs.declared.node.Node.{Node}
 use Rattle.zy_locks.specs.declared.lock.LockKind.TheVariants.{Exclusive}
 use Rattle.zy_links.specs.Messages.{Wire, Ready, Dual, Pull, Finish, Done}
 use Rattle.zy_modes.specs.declared.mode.NodeMode.TheVariants.{Empty, Normal, SInit, SDual, SFinish, DInit, DDual, DFinish}
-use Rattle.zy_table.specs.Change.{aborted, asks, begun, did, leaves, locked, turns, txn_at, with_lows}
+use Rattle.zy_table.specs.Change.{aborted, asks, begun, did, leaves, locked, shares, turns, txn_at, with_lows}
 use Rattle.zy_table.specs.Database.{sent_leaves, database}
 use Rattle.zy_table.specs.Run.{boundary}
 use Rattle.zy_table.specs.State.{View, post, with_me, Leaf, State, facing, seen_from}
 use Rattle.zy_table.specs.declared.entry.CommitRec.{CommitRec}
 use Rattle.zy_laws.proofs.Committing.{committed_list}
 use Rattle.zy_laws.proofs.CutValues.{cut_db}
-use Rattle.zy_laws.proofs.Events.{Aborts, Adds, Asks, Begins, Commits, Event, Finishes, Gets, Gives, GotAll, GotDone, GotDual, GotFinish, GotLast, GotPage, GotReady, GotWire, Inserts, IsStale, Jumps, Pushes, Rests, Sets, Splits, Starts, Writes, arrived, has_lock, key, page, rest, step_happens}
+use Rattle.zy_laws.proofs.Events.{Aborts, Adds, Asks, Begins, Commits, Event, Finishes, Gets, Gives, GotAll, GotDone, GotDual, GotFinish, GotLast, GotPage, GotReady, GotWire, Inserts, IsStale, Jumps, Pushes, Rests, Sets, SumsUp, SumsNone, Splits, Starts, Writes, arrived, has_lock, key, page, rest, step_happens}
 use Rattle.zy_laws.proofs.Locking.{Kept, whole}
 use Rattle.zy_laws.proofs.MovedValues.{arrived_db, leaves_db, same_db}
 use Rattle.zy_laws.proofs.MovingPages.{sent_bare}
@@ -42,7 +42,7 @@ no_longer cs c h =
     omega (arith, a, b)
 
 pub event_db : (sc : Scenario) (n : Node) (v w : View) (lows : List ℕ) → Kept sc n v lows → Event sc n v w → w.commits ≡ v.commits → db w ≡ db v
-unfolding begun aborted did locked asks leaves
+unfolding begun aborted did locked shares asks leaves
 event_db sc n v w lows k (Rests e) c = ap db e
 event_db sc n v w lows k (Begins t h a new home e) c = ap db e
 event_db sc n v w lows k (Aborts t y active here e) c = ap db e
@@ -50,6 +50,8 @@ event_db sc n v w lows k (Sets t r x runs e) c = ap db e
 event_db sc n v w lows k (Adds t r q runs e) c = ap db e
 event_db sc n v w lows k (Jumps t r q to runs e) c = ap db e
 event_db sc n v w lows k (Gets t r q runs f e) c = ap db e
+event_db sc n v w lows k (SumsUp t r q runs f e) c = ap db e
+event_db sc n v w lows k (SumsNone t r q runs none e) c = ap db e
 event_db sc n v w lows k (Writes t r q runs f there e) c = ap db e
 event_db sc n v w lows k (Inserts t r q runs f new room e) c = ap db e
 event_db sc n v w lows k (Splits t r q runs f new full normal pages e) c =

@@ -1,14 +1,17 @@
 //! What holds of the table over every schedule: each function is a law, and its contract is all of it.
 ghost use Rattle.std.specs.Prelude.{◌≡◌, ℕ, List, length, true, false};
 ghost use Rattle.zy_isa.specs.declared.choice.Choice.{Choice as AChoice};
+ghost use Rattle.zy_isa.specs.declared.node.Node.{Node};
+ghost use Rattle.zy_isa.specs.declared.node.Node.TheVariants.{B};
 ghost use Rattle.zy_isa.specs.declared.rule.Rule.TheVariants.{Held};
 ghost use Rattle.zy_isa.specs.Scenario.{Scenario, IsScenario};
-ghost use Rattle.zy_table.specs.Play.{play, opening, step, side_of};
-ghost use Rattle.zy_modes.specs.declared.mode.NodeMode.TheVariants.{SDual};
+ghost use Rattle.zy_table.specs.Play.{entries, play, opening, step, side_of};
+ghost use Rattle.zy_modes.specs.declared.mode.NodeMode.TheVariants.{Empty, Normal, SDual};
 ghost use Rattle.zy_table.specs.State.{facing};
 ghost use Rattle.zy_laws.specs.Journey.{OneWireframe, is_gone, is_source, is_stray};
-ghost use Rattle.zy_laws.specs.Travel.{NeverBack, Travels};
+ghost use Rattle.zy_laws.specs.Travel.{NeverBack, NoneStarted, Travels};
 ghost use Rattle.zy_laws.specs.OneOwner.{OneOwner};
+ghost use Rattle.zy_laws.specs.Between.{NothingLeft};
 ghost use Rattle.zy_table.specs.Holders.{ExclusiveAlone, HoldersActive};
 ghost use Rattle.zy_table.specs.Order.{InOrder};
 ghost use Rattle.zy_table.specs.Database.{ValuesAtPages, EachKeyHasPage, HasLows, RowsLie, database, newest, all_leaves};
@@ -58,16 +61,39 @@ pub fn pages_travel()
         → let s = play sc (opening sc) choices in Travels p (side_of sc choice s) s (step sc choice s) }
 {}
 
-/// B is never in a source's mode (SInit, SDual or SFinish); so, with `pages_travel`, no page leaves it.
-pub fn b_never_sends()
-    ensures { (sc : Scenario) (choices : List AChoice) → is_source (play sc (opening sc) choices).b.mode ≡ false }
+/// At most one node is in a source's mode (SInit, SDual or SFinish), and so, with `pages_travel`, pages leave one node alone.
+pub fn one_source()
+    ensures { (sc : Scenario) (choices : List AChoice) (n : Node)
+        → let s = play sc (opening sc) choices in
+        is_source (facing n s).me.mode ≡ true → is_source (facing n s).them.mode ≡ false }
 {}
 
-/// No page goes back: one that is at B stays there, and one in a message from A is later in a message from A or at B,
-/// whatever is chosen.
+/// A page returns only in another migration. As long as no `start` acts, one that has passed to a node that is no source
+/// does not go back: it is in a message to that node or there, and once there it stays.
+pub fn returns_by_start()
+    ensures { (sc : Scenario) (choices more : List AChoice) (p : ℕ) (n : Node)
+        → let s = play sc (opening sc) choices in
+        NoneStarted (entries sc s more) → is_source (facing n s).me.mode ≡ false → NeverBack p n s (play sc s more) }
+{}
+
+/// In version 1 B is never in a source's mode (SInit, SDual or SFinish); so, with `pages_travel`, no page leaves it.
+pub fn b_never_sends()
+    ensures { (sc : Scenario) → sc.version ≡ 1 → (choices : List AChoice) → is_source (play sc (opening sc) choices).b.mode ≡ false }
+{}
+
+/// In version 1 no page goes back: one that is at B stays there, and one in a message from A is later in a message from A or
+/// at B, whatever is chosen.
 pub fn none_goes_back()
-    ensures { (sc : Scenario) (choices more : List AChoice) (p : ℕ)
-        → let s = play sc (opening sc) choices in NeverBack p s (play sc s more) }
+    ensures { (sc : Scenario) → sc.version ≡ 1 → (choices more : List AChoice) (p : ℕ)
+        → let s = play sc (opening sc) choices in NeverBack p B s (play sc s more) }
+{}
+
+/// Between two migrations, where one node is Empty and the other Normal, nothing is left of the last one: no message is on its
+/// way and no page is asked for, and the empty node has no page and no low key, no lock, and no active transaction.
+pub fn nothing_left()
+    ensures { (sc : Scenario) → IsScenario sc → (choices : List AChoice) (n : Node)
+        → let v = facing n (play sc (opening sc) choices) in
+        v.me.mode ≡ Empty → v.them.mode ≡ Normal → NothingLeft n v }
 {}
 
 /// A transaction is told that its page has gone only at a source in the dual mode.

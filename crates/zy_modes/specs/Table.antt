@@ -1,5 +1,5 @@
 -- The mode table, a line for each line of it.
-use Rattle.std.specs.Prelude.{◌≡◌, ℕ, Bool, true, false, if◌then◌else◌, Option, Some, None}
+use Rattle.std.specs.Prelude.{◌≡◌, ◌==◌, ◌&&◌, ℕ, Bool, true, false, if◌then◌else◌, Option, Some, None}
 use Rattle.zy_isa.specs.declared.node.Node.{Node}
 use Rattle.zy_isa.specs.declared.node.Node.TheVariants.{A, B}
 use Rattle.zy_links.specs.declared.kind.Kind.{Kind}
@@ -40,9 +40,12 @@ abbrev pub may_start : NodeMode → NodeMode → Bool
 may_start Normal Empty = true
 may_start mode other = false
 
--- the node from which a migration starts, by the modes of A and B and the version
+-- the node from which a migration starts, by the modes of A and B and the version: from B in version 2 alone
 abbrev pub on_start : NodeMode → NodeMode → ℕ → Option Node
-on_start a b version = if may_start a b then Some A else None
+on_start a b version =
+    if may_start a b then Some A
+    else if version == 2 && may_start b a then Some B
+    else None
 
 -- finish at a node in this mode; active: a transaction is active there
 abbrev pub on_finish : NodeMode → Bool → FinRow

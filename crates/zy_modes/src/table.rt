@@ -57,11 +57,17 @@ fn finishes(all_here: bool) -> MsgRow
     }
 }
 
-/// The node from which a migration starts, by the modes of A and B and the version of the scenario.
+/// The node from which a migration starts, by the modes of A and B and the version of the scenario: from B in version 2 alone.
 pub fn on_start(a: NodeMode, b: NodeMode, version: u8) -> Option<Node>
     ensures { result ≡ on_start_spec a b version }
 {
-    if a.may_start(b) { Some(Node::A) } else { None }
+    if a.may_start(b) {
+        Some(Node::A)
+    } else if version == 2 && b.may_start(a) {
+        Some(Node::B)
+    } else {
+        None
+    }
 }
 
 /// What `finish` does at a node in this mode. `active`: a transaction is active there.

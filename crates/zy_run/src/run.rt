@@ -1,13 +1,14 @@
 //! `n run t`, line by line: each function is the line of its name, on the node and the book, whatever the rest of the state.
-ghost use Rattle.std.specs.Prelude.{◌≡◌, ◌<◌, ◌≤◌, Ok, Some, IfOk, length, slice_get, unwrap_or, if◌then◌else◌, true, false};
+ghost use Rattle.std.specs.Prelude.{◌≡◌, ◌<◌, ◌≤◌, None, Ok, Some, IfOk, length, slice_get, unwrap_or, if◌then◌else◌, true, false};
 ghost use Rattle.zy_isa.specs.Rows.{get_row};
 ghost use Rattle.zy_locks.specs.declared.lock.LockKind.TheVariants.{Shared, Exclusive};
 ghost use Rattle.zy_modes.specs.Table.{may_split};
 ghost use Rattle.zy_wire.specs.Wireframe.{page_of as page_of_spec};
 ghost use Rattle.zy_table.specs.State.{View};
 ghost use Rattle.zy_table.specs.Pages.{owns, rows_of};
-ghost use Rattle.zy_table.specs.Change.{txn_at, locked};
-ghost use Rattle.zy_table.specs.Run.{abort_row as abort_row_spec, set_row as set_row_spec, jump_row as jump_row_spec, commit_row as commit_row_spec, absent_row as absent_row_spec, read_row as read_row_spec, write_row as write_row_spec, insert_row as insert_row_spec, full_row as full_row_spec, split_row as split_row_spec, page_row as page_row_spec, key_row as key_row_spec, instr_row as instr_row_spec, run_row as run_row_spec, is_there as is_there_spec, has_room as has_room_spec, boundary as boundary_spec, program_of};
+ghost use Rattle.zy_table.specs.Change.{txn_at, locked, shares};
+ghost use Rattle.zy_table.specs.Ranges.{range_pages};
+ghost use Rattle.zy_table.specs.Run.{abort_row as abort_row_spec, set_row as set_row_spec, jump_row as jump_row_spec, commit_row as commit_row_spec, absent_row as absent_row_spec, read_row as read_row_spec, write_row as write_row_spec, insert_row as insert_row_spec, full_row as full_row_spec, split_row as split_row_spec, page_row as page_row_spec, key_row as key_row_spec, range_row as range_row_spec, sum_or_asks as sum_or_asks_spec, sum_or_waits as sum_or_waits_spec, sum_row as sum_row_spec, first_absent, first_taken, instr_row as instr_row_spec, run_row as run_row_spec, is_there as is_there_spec, has_room as has_room_spec, boundary as boundary_spec, program_of};
 ghost use Rattle.zy_node.specs.Nodes.{node_shown, limits_of, IsFree, IsLimited};
 ghost use Rattle.zy_node.specs.Wireframes.{lows_in};
 ghost use Rattle.zy_txns.specs.Books.{txn_in, noted, Countable};
@@ -15,6 +16,7 @@ ghost use Rattle.zy_run.specs.Parts.{here, Runs};
 ghost use Rattle.zy_table.specs.Answers.{made};
 ghost use Rattle.zy_run.specs.Ready.{IsFull, IsReady, MaySplit, Rooms};
 
+use crate::sum::sum;
 use std::alloc::{AllocError, Global};
 use zy_isa::instr::{Instr, Reg};
 use zy_isa::node::Node;
@@ -82,6 +84,10 @@ fn instr_row(
         Instr::Add(r, q) => {
             let sum = txn.reg(r).wrapping_add(txn.reg(q));
             Ok(set_row(book, t, r, sum))
+        }
+        Instr::Sum(r, q) => {
+            let (first, last) = (txn.reg(r), txn.reg(q));
+            range_row(scenario, me, book, t, r, first, last)
         }
         Instr::Beq(r, q, target) => {
             let taken = txn.reg(r) == txn.reg(q);
@@ -181,6 +187,102 @@ fn key_row(
     };
     let p = page_of(&me.wire, key);
     page_row(scenario, alloc, me, book, t, access, key, p)
+}
+
+/// `sum`: no key, a key that is none, or the pages of the keys.
+#[inline(never)]
+#[tactic(auto, unfolding(zy_table::specs::Run::range_row))]
+fn range_row(
+    scenario: &Scenario,
+    me: &mut NodeStore,
+    book: &mut Book,
+    t: u8,
+    r: Reg,
+    first: u32,
+    last: u32,
+) -> Result<Answer, AllocError>
+    requires counts { Countable t book.old }
+    requires slots { scenario.now.pages ≤ 512 }
+    requires limited { IsLimited scenario.now.pages me.old }
+    ensures line { Runs me.old book.old me.new book.new result (range_row_spec t r first last) }
+    ensures limits { limits_of me.new ≡ limits_of me.old }
+{
+    if last < first {
+        return Ok(set_row(book, t, r, 0));
+    }
+    match u16::try_from(last) {
+        Ok(last) => sum_or_asks(scenario, me, book, t, r, first as u16, last),
+        Err(_) => Ok(abort_row(me, book, t, Why::BadKey)),
+    }
+}
+
+/// `sum`, by the first page that is not here.
+#[tactic(auto, unfolding(zy_table::specs::Run::sum_or_asks))]
+fn sum_or_asks(
+    scenario: &Scenario,
+    me: &mut NodeStore,
+    book: &mut Book,
+    t: u8,
+    r: Reg,
+    first: u16,
+    last: u16,
+) -> Result<Answer, AllocError>
+    requires counts { Countable t book.old }
+    requires slots { scenario.now.pages ≤ 512 }
+    requires limited { IsLimited scenario.now.pages me.old }
+    requires rises { first ≤ last }
+    ensures line { Runs me.old book.old me.new book.new result (λ v. sum_or_asks_spec t r first last (first_absent v.me.pages (range_pages v.me.lows first last)) v) }
+    ensures limits { limits_of me.new ≡ limits_of me.old }
+{
+    match me.absent_page(first, last) {
+        Some(p) => absent_row(me, book, t, p),
+        None => sum_or_waits(me, book, t, r, first, last),
+    }
+}
+
+/// `sum` where each page is here, by the first that another has for itself.
+#[tactic(auto, unfolding(zy_table::specs::Run::sum_or_waits))]
+fn sum_or_waits(
+    me: &mut NodeStore,
+    book: &mut Book,
+    t: u8,
+    r: Reg,
+    first: u16,
+    last: u16,
+) -> Result<Answer, AllocError>
+    requires counts { Countable t book.old }
+    requires rises { first ≤ last }
+    ensures line { Runs me.old book.old me.new book.new result (λ v. sum_or_waits_spec t r first last (first_taken v.me.locks t (range_pages v.me.lows first last)) v) }
+    ensures limits { limits_of me.new ≡ limits_of me.old }
+{
+    if let Some(p) = me.taken_page(t, first, last) {
+        return Ok(Answer::quiet(Outcome::Waits(p)));
+    }
+    me.reserve_locks(me.pages_in_range(first, last))?;
+    Ok(sum_row(me, book, t, r, first, last))
+}
+
+/// `sum` on pages that are free to be shared.
+#[tactic(auto, unfolding(zy_table::specs::Run::sum_row, zy_table::specs::Run::set_row, zy_table::specs::Change::shares, zy_table::specs::Change::did, zy_table::specs::Change::txn_at))]
+fn sum_row(
+    me: &mut NodeStore,
+    book: &mut Book,
+    t: u8,
+    r: Reg,
+    first: u16,
+    last: u16,
+) -> Answer
+    requires counts { Countable t book.old }
+    requires rises { first ≤ last }
+    requires free { first_taken me.old.locks.locks t (range_pages (lows_in me.old.wire) first last) ≡ None }
+    requires room { length (range_pages (lows_in me.old.wire) first last) ≤ me.old.locks.spare }
+    ensures line { (v : View) → made result (here me.new book.new v) ≡ sum_row_spec t r first last (shares t (range_pages (lows_in me.old.wire) first last) (here me.old book.old v)) }
+    ensures limits { limits_of me.new ≡ limits_of me.old }
+{
+    let sum = sum(me, book.txn(t), first, last);
+    me.share(t, first, last);
+    book.set(t, r, sum);
+    Answer::quiet(Outcome::Did)
 }
 
 /// A page that is not here: it is asked for, or the transaction has lost it.

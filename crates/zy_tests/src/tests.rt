@@ -18,5 +18,6 @@ mod scenario;
 mod serial;
 mod streams;
 mod threads;
+mod tree;
 mod wire;
 mod word;

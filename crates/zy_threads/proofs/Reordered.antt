@@ -2,7 +2,7 @@
 use Rattle.std.proofs.Common.{◌≡◌, ◌∙◌, ℕ, List, [], ◌∷◌, Option, Some, None, refl, sym, ap, slice_get}
 use Rattle.zy_isa.specs.declared.node.Node.{Node}
 use Rattle.zy_isa.specs.declared.instr.Instr.{Instr}
-use Rattle.zy_isa.specs.declared.instr.Instr.TheVariants.{Set, Read, Write, Insert, Add, Beq, Commit, Abort}
+use Rattle.zy_isa.specs.declared.instr.Instr.TheVariants.{Set, Read, Write, Insert, Add, Sum, Beq, Commit, Abort}
 use Rattle.zy_isa.specs.declared.choice.Choice.{Choice}
 use Rattle.zy_isa.specs.declared.choice.Choice.TheVariants.{Start, Begin, Kill, Run, Take, Finish, Push}
 use Rattle.zy_isa.specs.Scenario.{Scenario}
@@ -30,6 +30,7 @@ unfolding instr_row
 instr sc order t None regs s = refl
 instr sc order t (Some (Set r v)) regs s = refl
 instr sc order t (Some (Add r q)) regs s = refl
+instr sc order t (Some (Sum r q)) regs s = refl
 instr sc order t (Some (Beq r q to)) regs s = refl
 instr sc order t (Some Abort) regs s = refl
 instr sc order t (Some Commit) regs s = refl

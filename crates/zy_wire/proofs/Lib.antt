@@ -1,6 +1,15 @@
 pub mod PageOf
 pub mod Longer
-pub mod Places
-pub mod Grown
 pub mod Scan
+pub mod Cells
+pub mod Entries
+pub mod Descent
+pub mod Spans
+pub mod Held
+pub mod Raised
+pub mod Entered
+pub mod Cut
+pub mod Leaves
+pub mod After
 pub mod RangeLemmas
+pub mod Grown

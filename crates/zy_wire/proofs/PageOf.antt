@@ -1,6 +1,6 @@
 -- Laws of the page that a key lies on.
-use Rattle.std.proofs.Common.{◌≡◌, ◌∙◌, ℕ, zero, suc, ◌+◌, ◌<◌, ◌≤◌, Bool, true, false, List, [], ◌∷◌, length, get_or, refl, sym, eqb, leb, ltb, arith, Some, None, ◌⊎◌, inl, inr}
-use Rattle.std.specs.Prelude.{filter, unwrap_or}
+use Rattle.std.proofs.Common.{◌≡◌, ◌∙◌, ap, ℕ, zero, suc, ◌+◌, ◌<◌, ◌≤◌, Bool, true, false, List, [], ◌∷◌, length, get_or, refl, sym, eqb, leb, ltb, arith, Some, None, ◌⊎◌, inl, inr}
+use Rattle.std.specs.Prelude.{filter, position, unwrap_or}
 use Rattle.std.specs.List.{position_or_len}
 use Rattle.std.proofs.lemmas.Bool.{eq-eqb, ne_eqb, eqb-true, lt-ltb, le-ltb, ltb-true, ltb-false, le-leb, leb-true, cond_both, cases_lt, cases_Bool, true≢false}
 use Rattle.zy_wire.specs.Wireframe.{greatest, low_under, page_of, IsGreatest}
@@ -169,3 +169,31 @@ page_of-greatest lows k = λ q lt le.
     let most = low_under-le lows k in
     let up = le-low_under lows k q lt le in
     (omega arith, omega arith)
+
+page_by_low : (lows : List ℕ) (a k : ℕ) → low_under lows a ≡ low_under lows k → page_of lows a ≡ page_of lows k
+unfolding page_of
+page_by_low lows a k e = ap (λ m. unwrap_or (position (λ low. eqb low m) lows) 0) e
+
+-- a key not below a lies on a's page, or on one whose low key is above a
+pub page_of-from : (lows : List ℕ) (a k : ℕ) → a ≤ k
+    → (page_of lows a ≡ page_of lows k) ⊎ ((i : ℕ) × (i < length lows) × (a < get_or lows i 0) × (get_or lows i 0 ≤ k) × (page_of lows (get_or lows i 0) ≡ page_of lows k))
+page_of-from lows a k le =
+    let m = low_under lows k in
+    let up : low_under lows a ≤ m = low_under-most lows a m (λ i lt low. le-low_under lows k i lt (omega arith)) in
+    let most : m ≤ k = low_under-le lows k in
+    elim (reached lows k) [
+      | inl none ↦ inl (page_by_low lows a k (omega (arith, up, none)))
+      | inr one ↦
+          let i = one.0 in
+          let lt : i < length lows = one.1 in
+          let is : get_or lows i 0 ≡ m = one.2 in
+          elim (cases_lt a (get_or lows i 0)) [
+            | inl above ↦
+                let own : get_or lows i 0 ≤ low_under lows (get_or lows i 0) = le-low_under lows (get_or lows i 0) i lt (omega arith) in
+                let least = low_under-le lows (get_or lows i 0) in
+                inr (i, lt, above, omega (arith, is, most), page_by_low lows (get_or lows i 0) k (omega (arith, own, least, is)))
+            | inr not ↦
+                let down : get_or lows i 0 ≤ low_under lows a = le-low_under lows a i lt (omega (arith, not)) in
+                inl (page_by_low lows a k (omega (arith, up, down, is)))
+          ]
+    ]

@@ -1,3 +1,5 @@
 pub mod ByLow
+pub mod Nodes
+pub mod Pages
 pub mod Wireframe
 pub mod Ranges

@@ -1,8 +1,48 @@
-//! One page in the order of low keys.
+//! One entry of a node.
+ghost use Rattle.std.specs.Prelude.{◌≡◌, ◌^◌, ◌<◌};
 
-/// A page and its low key.
+use crate::node_id::NodeId;
+
+/// A low key, and the number of what begins there: of a page in a node of the lowest level, of a node in one above it.
 #[derive(Clone, Copy, Debug, PartialEq, Eq)]
 pub struct Entry {
     pub low: u16,
-    pub page: u16,
+    to: u32,
+}
+
+impl Entry {
+    /// What stands where there is none.
+    pub const BLANK: Entry = Entry { low: 0, to: 0 };
+
+    /// The entry of a page.
+    pub fn of_page(low: u16, page: u16) -> Entry
+        ensures { result ≡ record { low = low; to = page } }
+    {
+        Entry {
+            low,
+            to: u32::from(page),
+        }
+    }
+
+    /// The entry of a node.
+    pub fn of_node(low: u16, id: NodeId) -> Entry
+        ensures { result ≡ record { low = low; to = id.0 } }
+    {
+        Entry { low, to: id.0 }
+    }
+
+    /// The page that it is of.
+    pub fn page(self) -> u16
+        requires { self.to < 2 ^ 16 }
+        ensures { result ≡ self.to }
+    {
+        self.to as u16
+    }
+
+    /// The node that it is of.
+    pub fn node(self) -> NodeId
+        ensures { result.0 ≡ self.to }
+    {
+        NodeId(self.to)
+    }
 }

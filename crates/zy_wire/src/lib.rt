@@ -1,6 +1,9 @@
 //! The wireframe of a node: which page a key lies on.
 #![tactic(auto)]
 
-pub mod entry;
+mod entry;
 pub mod key_range;
+mod node;
+mod node_id;
+mod tree;
 pub mod wire;

@@ -1,11 +1,11 @@
 //! The wireframe of a node.
-ghost use Rattle.std.specs.Prelude.{true, ◌≡◌, ◌==◌, ◌↔◌, ◌+◌, ◌^◌, ◌<◌, ◌≤◌, ◌++◌, ◌∷◌, [], OnOk, OnErr, IfOk, IsOk, Err, Contains, ℕ, length, slice_index};
-ghost use Rattle.zy_wire.specs.Wireframe.{page_of as page_of_spec, IsGreatest};
-ghost use Rattle.zy_wire.specs.ByLow.{RiseFrom, IsPlace, EndsAt};
+ghost use Rattle.std.specs.Prelude.{◌≡◌, ◌==◌, ◌↔◌, ◌+◌, ◌^◌, ◌<◌, ◌≤◌, ◌++◌, ◌∷◌, [], OnOk, OnErr, IfOk, IfSome, IsOk, Err, Contains, ℕ, length, slice_index};
+ghost use Rattle.zy_wire.specs.Wireframe.{page_of as page_of_spec, IsGreatest, IsNext, IsAfter};
 ghost use Rattle.zy_wire.specs.Ranges.{in_range};
 
 use crate::entry::Entry;
 use crate::key_range::KeyRange;
+use crate::tree::{END, Tree};
 use std::alloc::{AllocError, Global};
 use std::marker::Model;
 use thiserror::Error;
@@ -32,25 +32,25 @@ impl From<AllocError> for WireFault {
 }
 
 /// The low keys of the pages, by number, the first of which is 0: a key lies on the page with the greatest low key that is not above it.
-/// Beside them the pages stand in order of low key, so that a search looks at few of them.
+/// Beside them stands a tree of nodes over the low keys, so that a search looks at few of them.
 #[derive(Drop)]
 pub struct Wire {
     lows: Vec<u16>,
-    by_low: Vec<Entry>,
+    tree: Tree,
     pages: u16,
 }
 
 impl Model for Wire {
-    ghost use Rattle.std.specs.Prelude.{◌-◌, length, min};
+    ghost use Rattle.std.specs.Prelude.{◌+◌, ◌-◌, length, min};
     ghost use Rattle.std.specs.Vec.{vec_capacity};
-    ghost use Rattle.zy_wire.specs.ByLow.{IsSound};
+    ghost use Rattle.zy_wire.specs.Pages.{IsSound};
     ghost use Rattle.zy_wire.specs.Wireframe.{Wireframe};
 
     ghost Value = { Wireframe };
 
-    ghost view = { λ w. record { lows = w.lows.items; pages = w.pages; spare = min (vec_capacity w.lows - length w.lows.items) (vec_capacity w.by_low - length w.by_low.items) } };
+    ghost view = { λ w. record { lows = w.lows.items; pages = w.pages; spare = min 1 (min (vec_capacity w.lows - length w.lows.items) (w.tree.room - (w.tree.top + 1))) } };
 
-    ghost invariant = { λ w. IsSound w.pages w.lows.items w.by_low.items };
+    ghost invariant = { λ w. IsSound w.pages w.lows.items w.tree.nodes w.tree.top };
 }
 
 impl Wire {
@@ -62,16 +62,11 @@ impl Wire {
     {
         let mut lows = Vec::with_capacity(alloc, 1)?;
         lows.push_reserved(0);
-        let mut by_low = Vec::with_capacity(alloc, 1)?;
-        by_low.push_reserved(Entry { low: 0, page: 0 });
-        Ok(Wire {
-            lows,
-            by_low,
-            pages,
-        })
+        let tree = Tree::new(alloc, Entry::of_page(0, 0))?;
+        Ok(Wire { lows, tree, pages })
     }
 
-    /// Makes room for one page more.
+    /// Makes room for one page more: for its low key, for a new node of each level and for a new root.
     pub fn reserve(&mut self) -> Result<(), AllocError>
         ensures lows { self.new.lows ≡ self.old.lows }
         ensures pages { self.new.pages ≡ self.old.pages }
@@ -81,7 +76,7 @@ impl Wire {
         ensures succeeds { 1 ≤ self.old.spare → IsOk result }
     {
         self.lows.reserve(1)?;
-        self.by_low.reserve(1)
+        self.tree.reserve()
     }
 
     /// How many pages there are: never none.
@@ -113,8 +108,38 @@ impl Wire {
         ensures under { slice_index self.now.lows result ≤ key }
         ensures greatest { IsGreatest self.now.lows key result }
     {
-        // Page 0 begins at 0, so that no key is below all.
-        self.by_low[place(&self.by_low, key) - 1].page
+        // A page's number is below the most pages, which a `u16` counts.
+        let _pages = self.pages;
+        self.tree.leaf(key).entry_under(key).page()
+    }
+
+    /// The least low key above `key`, if there is one.
+    fn end_of(&self, key: u16) -> Option<u16>
+        ensures { IsNext self.now.lows key result }
+    {
+        let end = self.tree.leaf(key).end_of(key);
+        if end < END { Some(end as u16) } else { None }
+    }
+
+    /// The page with the least low key above `low`, if there is one. It takes no memory.
+    pub fn after(&self, low: u16) -> Option<u16>
+        ensures next { IsAfter self.now.lows low result }
+        ensures few { IfSome result (λ p. p < self.now.pages) }
+    {
+        // No two pages have one low key.
+        let _lows = &self.lows;
+        match self.end_of(low) {
+            Some(end) => Some(self.page_of(end)),
+            None => None,
+        }
+    }
+
+    /// How many levels the tree has: never more than there are pages.
+    pub fn depth(&self) -> u32
+        ensures some { 1 ≤ result }
+        ensures few { result ≤ length self.now.lows }
+    {
+        u32::from(self.tree.top()) + 1
     }
 
     /// The keys that lie on a page; none where there is no such page.
@@ -133,9 +158,13 @@ impl Wire {
         requires { page < length self.now.lows }
         ensures { (k : ℕ) → in_range result k ≡ (page_of_spec self.now.lows k == page) }
     {
+        // No two pages have one low key.
+        let _lows = &self.lows;
         let low = self.low_of(page);
-        let end = low_at(&self.by_low, place(&self.by_low, low));
-        KeyRange { low, end }
+        KeyRange {
+            low,
+            end: self.end_of(low),
+        }
     }
 
     /// One page more, with the next number and this low key, which no page has yet.
@@ -159,7 +188,7 @@ impl Wire {
         Ok(())
     }
 
-    /// Puts the next page into both lists. It takes no memory.
+    /// Puts the next page into the list and the tree. It takes no memory.
     fn put(&mut self, low: u16)
         requires fresh { ¬ Contains self.old.lows low }
         requires few { length self.old.lows < self.old.pages }
@@ -169,8 +198,8 @@ impl Wire {
         ensures room { self.old.spare ≤ self.new.spare + 1 }
     {
         let page = self.len() as u16;
-        let at = place(&self.by_low, low);
-        self.by_low.insert(at, Entry { low, page }).unwrap();
+        let leaf = self.tree.make_way(low);
+        self.tree.put(leaf, Entry::of_page(low, page));
         self.lows.push_reserved(low);
     }
 
@@ -180,30 +209,10 @@ impl Wire {
     {
         let mut lows = Vec::with_capacity(alloc, self.len())?;
         lows.extend_from_slice(&self.lows)?;
-        let mut by_low = Vec::with_capacity(alloc, self.len())?;
-        by_low.extend_from_slice(&self.by_low)?;
         Ok(Wire {
             lows,
-            by_low,
+            tree: self.tree.copy(alloc)?,
             pages: self.pages,
         })
-    }
-}
-
-/// How many low keys are not above `key`.
-fn place(entries: &[Entry], key: u16) -> usize
-    requires { RiseFrom 0 entries.now }
-    ensures { IsPlace key entries.now result }
-{
-    entries.partition_point(|entry| entry.low <= key)
-}
-
-/// The low key at a place, if there is one.
-fn low_at(entries: &[Entry], i: usize) -> Option<u16>
-    ensures { EndsAt result entries.now i }
-{
-    match entries.get(i) {
-        Some(entry) => Some(entry.low),
-        None => None,
     }
 }

@@ -81,7 +81,7 @@ fn byte_1_is_the_loose_rule(rt: HostRuntime) -> Result<(), Fail> {
 #[test]
 fn a_wrong_byte_has_its_fault(rt: HostRuntime) {
     for (at, byte, fault) in [
-        (3, 50, LoadFault::Magic),
+        (3, 51, LoadFault::Magic),
         (4, 1, LoadFault::Cap),
         (4, 17, LoadFault::Cap),
         (6, 0, LoadFault::Pages),
@@ -110,11 +110,22 @@ fn a_wrong_byte_has_its_fault(rt: HostRuntime) {
 }
 
 #[test]
+fn the_first_bytes_tell_the_version(rt: HostRuntime) -> Result<(), Fail> {
+    let mut bytes = IMAGE;
+    bytes[3] = b'2';
+    let scenario = load(rt.alloc(), bytes.as_slice())?;
+    assert_eq!(rt; scenario.version(), 2);
+    assert!(rt; save(rt.alloc(), &scenario)?.as_slice() == bytes.as_slice());
+    Ok(())
+}
+
+#[test]
 fn other_inputs_have_their_faults(rt: HostRuntime) {
     for (bytes, fault) in [
         (b"".as_slice(), LoadFault::Truncated(0)),
         (b"ZPH".as_slice(), LoadFault::Truncated(3)),
-        (b"ZPH2\x01".as_slice(), LoadFault::Magic),
+        (b"ZPH3\x04".as_slice(), LoadFault::Magic),
+        (b"ZPH2\x01".as_slice(), LoadFault::Cap),
         (b"ZPH1\x02\x02\x01".as_slice(), LoadFault::Pages),
         (
             b"ZPH1\x04\x02\x00\x00\x01\x01".as_slice(),

@@ -134,6 +134,9 @@ fn every_pair_of_modes(rt: HostRuntime) {
             let start = if starts { b'A' } else { b'.' };
             assert!(rt; letter(home_of(*a, *b)) == *want, "{a:?} {b:?}");
             assert!(rt; letter(on_start(*a, *b, 1)) == start, "{a:?} {b:?}");
+            let turned = *a == NodeMode::Empty && *b == NodeMode::Normal;
+            let start = if turned { b'B' } else { start };
+            assert!(rt; letter(on_start(*a, *b, 2)) == start, "{a:?} {b:?}");
         }
     }
 }

@@ -17,6 +17,7 @@ fn each_instruction_has_its_word(rt: HostRuntime) {
         (Instr::Beq(Reg::R6, Reg::R5, 258), [5, 6, 5, 0, 0, 0, 1, 2]),
         (Instr::Commit, [6, 0, 0, 0, 0, 0, 0, 0]),
         (Instr::Abort, [7, 0, 0, 0, 0, 0, 0, 0]),
+        (Instr::Sum(Reg::R0, Reg::R1), [8, 0, 1, 0, 0, 0, 0, 0]),
     ] {
         assert_eq!(rt; encode(instr), word, "{instr:?}");
         assert_eq!(rt; decode(word), Some(instr), "{instr:?}");
@@ -43,7 +44,8 @@ fn other_bytes_are_no_word(rt: HostRuntime) {
         [6, 0, 0, 0, 0, 0, 0, 1],
         [7, 1, 0, 0, 0, 0, 0, 0],
         [7, 0, 0, 0, 0, 1, 0, 0],
-        [8, 0, 0, 0, 0, 0, 0, 0],
+        [8, 1, 2, 0, 0, 0, 0, 1],
+        [9, 0, 0, 0, 0, 0, 0, 0],
         [255, 255, 255, 255, 255, 255, 255, 255],
     ] {
         assert_eq!(rt; decode(word), None);

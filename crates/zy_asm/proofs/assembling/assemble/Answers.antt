@@ -1,6 +1,5 @@
 -- What is read is meant, and has no fault.
-use Rattle.std.proofs.Common.{◌≡◌, ◌∙◌, sym, subst, None, Some, Option}
-use Rattle.zy_isa.specs.declared.scenario.ScenarioFault.{ScenarioFault}
+use Rattle.std.proofs.Common.{◌∙◌, sym, subst}
 use Rattle.zy_isa.specs.Scenario.{IsScenario}
 use Rattle.zy_isa.specs.Text.{Means}
 use Rattle.zy_asm.specs.Reading.{seen}

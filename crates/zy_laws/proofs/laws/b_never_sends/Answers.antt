@@ -2,4 +2,4 @@ use Rattle.zy_laws.proofs.OneWay.{b_never_sends}
 use Rattle.zy_laws.proofs.laws.b_never_sends.Goals as goal
 
 pub returns : goal.returns
-returns c sc choices = b_never_sends sc choices
+returns c sc one choices = b_never_sends sc one choices

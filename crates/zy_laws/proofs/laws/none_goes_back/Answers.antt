@@ -2,4 +2,4 @@ use Rattle.zy_laws.proofs.OneWay.{none_goes_back}
 use Rattle.zy_laws.proofs.laws.none_goes_back.Goals as goal
 
 pub returns : goal.returns
-returns c sc choices more p = none_goes_back sc choices more p
+returns c sc one choices more p = none_goes_back sc one choices more p

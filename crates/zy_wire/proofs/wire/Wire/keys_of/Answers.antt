@@ -1,4 +1,4 @@
-use Rattle.std.proofs.Common.{◌≡◌, ◌∙◌, leb, ltb, sym, arith}
+use Rattle.std.proofs.Common.{◌∙◌, leb, ltb, sym, arith}
 use Rattle.std.proofs.lemmas.Bool.{and_right, le-ltb, ne_eqb}
 use Rattle.zy_wire.specs.Wireframe.{page_of}
 use Rattle.zy_wire.proofs.PageOf.{page_of-within}

@@ -1,0 +1,5 @@
+use Rattle.zy_laws.proofs.OneWay.{returns_by_start}
+use Rattle.zy_laws.proofs.laws.returns_by_start.Goals as goal
+
+pub returns : goal.returns
+returns c sc choices more p n none off = returns_by_start sc choices more p n none off

@@ -1,0 +1,111 @@
+//! The pages of the keys from one to another, one after the other in order of low key.
+ghost use Rattle.std.specs.Prelude.{◌≡◌, ◌<◌, ◌≤◌, ℕ, None, IfSome, length};
+ghost use Rattle.zy_table.specs.Change.{share_all};
+ghost use Rattle.zy_table.specs.Ranges.{range_pages};
+ghost use Rattle.zy_table.specs.Run.{first_absent, first_taken};
+ghost use Rattle.zy_node.specs.Wireframes.{lows_in, limit_or};
+ghost use Rattle.zy_node.specs.RangeSteps.{Leads};
+
+use crate::owned::Owned;
+use crate::wireframe::page_of;
+use zy_locks::lock::LockKind;
+use zy_locks::locks::Locks;
+use zy_wire::wire::Wire;
+
+/// A page and its low key.
+#[derive(Clone, Copy)]
+pub struct Place {
+    pub low: u16,
+    pub page: u16,
+}
+
+/// The page behind one that begins at `low`, or has that key, among those of the keys up to `last`.
+pub fn next_page(wire: &Option<Wire>, low: u16, last: u16) -> Option<Place>
+    ensures next { Leads result (lows_in wire.now) low last }
+    ensures few { (n : ℕ) → limit_or n wire.now ≤ n → IfSome result (λ e. e.page < n) }
+{
+    match wire {
+        Some(wire) => next_of(wire, low, last),
+        None => None,
+    }
+}
+
+/// The same in a wireframe.
+fn next_of(wire: &Wire, low: u16, last: u16) -> Option<Place>
+    ensures next { Leads result wire.now.lows low last }
+    ensures few { IfSome result (λ e. e.page < wire.now.pages) }
+{
+    match wire.after(low) {
+        Some(page) if wire.low_of(page) <= last => Some(Place {
+            low: wire.low_of(page),
+            page,
+        }),
+        _ => None,
+    }
+}
+
+/// The first page that is not among these.
+pub(crate) fn absent_page(wire: &Option<Wire>, pages: &Owned, first: u16, last: u16) -> Option<u16>
+    ensures value { result ≡ first_absent pages.now (range_pages (lows_in wire.now) first last) }
+    ensures few { (n : ℕ) → limit_or n wire.now ≤ n → 0 < n → IfSome result (λ p. p < n) }
+{
+    let mut low = first;
+    let mut page = page_of(wire, first);
+    while pages.owns(page) {
+        let Some(next) = next_page(wire, low, last) else {
+            return None;
+        };
+        low = next.low;
+        page = next.page;
+    }
+    Some(page)
+}
+
+/// The first page on which another's lock is in the way of sharing it.
+pub(crate) fn taken_page(
+    wire: &Option<Wire>,
+    locks: &Locks,
+    t: u8,
+    first: u16,
+    last: u16,
+) -> Option<u16>
+    ensures { result ≡ first_taken locks.now.locks t (range_pages (lows_in wire.now) first last) }
+{
+    let mut low = first;
+    let mut page = page_of(wire, first);
+    while locks.free_place(page, t, LockKind::Shared).is_some() {
+        let Some(next) = next_page(wire, low, last) else {
+            return None;
+        };
+        low = next.low;
+        page = next.page;
+    }
+    Some(page)
+}
+
+/// How many pages there are.
+pub(crate) fn pages_in_range(wire: &Option<Wire>, first: u16, last: u16) -> usize
+    ensures { result ≡ length (range_pages (lows_in wire.now) first last) }
+{
+    let mut count = 1;
+    let mut low = first;
+    while let Some(next) = next_page(wire, low, last) {
+        count += 1;
+        low = next.low;
+    }
+    count
+}
+
+/// Shares each page for `t`, where nothing is in the way and there is room. It takes no memory.
+pub(crate) fn share_pages(wire: &Option<Wire>, locks: &mut Locks, t: u8, first: u16, last: u16)
+    requires free { first_taken locks.old.locks t (range_pages (lows_in wire.now) first last) ≡ None }
+    requires room { length (range_pages (lows_in wire.now) first last) ≤ locks.old.spare }
+    ensures { locks.new.locks ≡ share_all (range_pages (lows_in wire.now) first last) t locks.old.locks }
+{
+    locks.lock(page_of(wire, first), t, LockKind::Shared);
+    let mut low = first;
+    while let Some(next) = next_page(wire, low, last) {
+        locks.lock(next.page, t, LockKind::Shared);
+        low = next.low;
+    }
+}

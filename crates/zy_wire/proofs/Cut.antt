@@ -1,0 +1,393 @@
+-- A full node that is cut, and the entry of its upper half in the node above.
+use Rattle.std.proofs.Common.{add-one, ◌≡◌, ◌∙◌, ℕ, suc, ◌+◌, ◌<◌, ◌≤◌, List, [], ◌∷◌, ◌++◌, length, get_or, set, take, drop, refl, sym, ap, subst, arith, length-take, length-drop, ◌⊎◌, inl, inr}
+use Rattle.std.specs.Prelude.{Contains}
+use Rattle.std.specs.List.{insert}
+use Rattle.std.proofs.lemmas.Bool.{cases_lt, cases_eq}
+use Rattle.std.proofs.lemmas.List.{get_or-set_same, get_or-set_other, length-set, get_or_append_left, get_or_at, get_or_read, length_push}
+use Rattle.std.proofs.lemmas.List.Edits.{length-insert}
+use Rattle.zy_wire.specs.declared.entry.Entry.{Entry}
+use Rattle.zy_wire.specs.ByLow.{front, IsPlace}
+use Rattle.zy_wire.specs.Nodes.{Knot, no_knot, node, low_of, IsKid, Kids, lower_half, upper_half, LeadsTo, Fits, IsAt, IsTree}
+use Rattle.zy_wire.specs.Pages.{Whole, Has, Holds}
+use Rattle.zy_wire.proofs.Entries.{low_rises, low_below, front_drop, front-insert, front-take, Rise-take, Rise-drop, Rise-insert, one_place}
+use Rattle.zy_wire.proofs.Descent.{kid_at}
+use Rattle.zy_wire.proofs.Spans.{Same, Same-is, Kids-lift, Kids-take, Kids-drop, Kids-insert, Fits-lift, IsAt-back, one_parent}
+use Rattle.zy_wire.proofs.Held.{key_at, Keys-take, Keys-drop, Keys-insert, Match-take, Match-drop, Whole-take, Whole-drop}
+
+-- a full child c of p, that of p's entry i
+pub record Full (nodes : List Knot) (p c i : ℕ) : Type 0 where
+  pub there : p < length nodes
+  pub above : 1 ≤ (node nodes p).level
+  pub within : i < length (node nodes p).entries
+  pub is : (d : Entry) → (get_or (node nodes p).entries i d).to ≡ c
+  pub full : length (node nodes c).entries ≡ 8
+
+-- where the upper half begins
+abbrev pub middle : List Knot → ℕ → ℕ
+middle nodes c = front (drop 4 (node nodes c).entries) (node nodes c).end
+
+-- the node above, with the new entry
+abbrev pub widened : List Knot → ℕ → ℕ → ℕ → Knot
+widened nodes p c i = record { level = (node nodes p).level; end = (node nodes p).end; entries = insert (node nodes p).entries (suc i) (record { low = middle nodes c; to = length nodes }) }
+
+-- the nodes afterwards
+abbrev pub after : List Knot → ℕ → ℕ → ℕ → List Knot
+after nodes p c i = set (set nodes c (lower_half (node nodes c)) ++ upper_half (node nodes c) ∷ []) p (widened nodes p c i)
+
+-- what stands where
+pub record Cut (nodes nodes' : List Knot) (p c i : ℕ) : Type 0 where
+  pub more : length nodes' ≡ length nodes + 1
+  pub parent : node nodes' p ≡ widened nodes p c i
+  pub lower : node nodes' c ≡ lower_half (node nodes c)
+  pub upper : node nodes' (length nodes) ≡ upper_half (node nodes c)
+  pub other : (x : ℕ) → x < length nodes → (x ≡ p → ⊥) → (x ≡ c → ⊥) → node nodes' x ≡ node nodes x
+
+-- the child, as the node above knows it
+pub child : (nodes : List Knot) (root top p c i : ℕ) (d : Entry) → IsTree nodes root top → Full nodes p c i → IsKid nodes (node nodes p).level (get_or (node nodes p).entries i d).low (front (drop (suc i) (node nodes p).entries) (node nodes p).end) c
+child nodes root top p c i d t f = rw (f.is d) at (kid_at nodes (node nodes p).level (node nodes p).end i d (node nodes p).entries ((t.each p f.there).kids f.above) f.within)
+
+-- the middle is above the least key of the child and below its end
+pub record Middle (nodes : List Knot) (c : ℕ) : Type 0 where
+  pub up : low_of (node nodes c) < middle nodes c
+  pub down : middle nodes c < (node nodes c).end
+
+pub middle_of : (nodes : List Knot) (c : ℕ) → Fits nodes (node nodes c) → length (node nodes c).entries ≡ 8 → Middle nodes c
+middle_of nodes c fits full =
+    let n = node nodes c in
+    let d : Entry = record { low = 0; to = 0 } in
+    let mid = front_drop 4 d n.entries n.end (omega arith) in
+    let first = front_drop 0 d n.entries n.end (omega arith) in
+    let up = low_rises 0 0 4 d n.entries n.end fits.rise (omega arith) (omega arith) in
+    let down = low_below 0 4 d n.entries n.end fits.rise (omega arith) in
+    record { up = omega arith; down = omega arith }
+
+apart : (nodes : List Knot) (root top p c i : ℕ) → IsTree nodes root top → Full nodes p c i → p ≡ c → ⊥
+apart nodes root top p c i t f same =
+    let kid = child nodes root top p c i (record { low = 0; to = 0 }) t f in
+    let level = ap (λ x. (node nodes x).level) same in
+    omega (arith, kid.level)
+
+pub Cut-is : (nodes : List Knot) (root top p c i : ℕ) → IsTree nodes root top → Full nodes p c i → Cut nodes (after nodes p c i) p c i
+Cut-is nodes root top p c i t f =
+    let kid = child nodes root top p c i (record { low = 0; to = 0 }) t f in
+    let other = apart nodes root top p c i t f in
+    let l = lower_half (node nodes c) in
+    let u = upper_half (node nodes c) in
+    let w = widened nodes p c i in
+    let first = set nodes c l in
+    let second = first ++ u ∷ [] in
+    let one : length first ≡ length nodes = length-set nodes c l in
+    let two : length second ≡ length first + 1 = length_push first u in
+    let three : length (set second p w) ≡ length second = length-set second p w in
+    let lt = f.there in
+    let lt' = kid.there in
+    record {
+      more = omega arith;
+      parent = get_or-set_same second p w no_knot (omega arith);
+      lower = get_or-set_other second p c w no_knot (λ e. other (sym e)) ∙ (get_or_append_left first (u ∷ []) no_knot c (omega arith) ∙ get_or-set_same nodes c l no_knot kid.there);
+      upper = get_or-set_other second p (length nodes) w no_knot (λ e. absurd (omega arith)) ∙ get_or_at first u [] no_knot (length nodes) one;
+      other = λ x in' notp notc. get_or-set_other second p x w no_knot notp ∙ (get_or_append_left first (u ∷ []) no_knot x (omega arith) ∙ get_or-set_other nodes c x l no_knot notc);
+    }
+
+-- every node but the one that is cut has the level and the keys that it had
+kept : (nodes nodes' : List Knot) (root top p c i x : ℕ) → IsTree nodes root top → Full nodes p c i → Cut nodes nodes' p c i → x < length nodes → (x ≡ c → ⊥) → Same nodes nodes' x
+kept nodes nodes' root top p c i x t f k lt notc =
+    let n = node nodes p in
+    elim (cases_eq x p) [
+      | inl here ↦ subst (Same nodes nodes') (sym here) (record {
+        level = ap (λ (m : Knot). m.level) k.parent;
+        low = ap (λ (m : Knot). low_of m) k.parent ∙ front-insert (suc i) (record { low = middle nodes c; to = length nodes }) n.entries n.end (omega arith) (let w = f.within in omega arith);
+        end = ap (λ (m : Knot). m.end) k.parent;
+      })
+      | inr notp ↦ Same-is nodes nodes' x (k.other x lt notp notc)
+    ]
+
+-- the halves, as the node above knows them
+lower_kid : (nodes nodes' : List Knot) (root top p c i : ℕ) (d : Entry) → IsTree nodes root top → Full nodes p c i → Cut nodes nodes' p c i → IsKid nodes' (node nodes p).level (get_or (node nodes p).entries i d).low (middle nodes c) c
+lower_kid nodes nodes' root top p c i d t f k =
+    let kid = child nodes root top p c i d t f in
+    record {
+      there = (let z = kid.there in let m = k.more in omega arith);
+      level = ap (λ (m : Knot). m.level + 1) k.lower ∙ kid.level;
+      low = ap (λ (m : Knot). low_of m) k.lower ∙ (front-take 4 (node nodes c).entries (node nodes c).end ∙ kid.low);
+      end = ap (λ (m : Knot). m.end) k.lower;
+    }
+
+upper_kid : (nodes nodes' : List Knot) (root top p c i : ℕ) (d : Entry) → IsTree nodes root top → Full nodes p c i → Cut nodes nodes' p c i → IsKid nodes' (node nodes p).level (middle nodes c) (front (drop (suc i) (node nodes p).entries) (node nodes p).end) (length nodes)
+upper_kid nodes nodes' root top p c i d t f k =
+    let kid = child nodes root top p c i d t f in
+    record {
+      there = (let m = k.more in omega arith);
+      level = ap (λ (m : Knot). m.level + 1) k.upper ∙ kid.level;
+      low = ap (λ (m : Knot). low_of m) k.upper;
+      end = ap (λ (m : Knot). m.end) k.upper ∙ kid.end;
+    }
+
+-- the node above fits
+parent_fits : (nodes nodes' : List Knot) (root top p c i : ℕ) → IsTree nodes root top → Full nodes p c i → Cut nodes nodes' p c i → Fits nodes' (widened nodes p c i)
+parent_fits nodes nodes' root top p c i t f k =
+    let d : Entry = record { low = 0; to = 0 } in
+    let n = node nodes p in
+    let fits = t.each p f.there in
+    let kid = child nodes root top p c i d t f in
+    let m = middle_of nodes c (t.each c kid.there) f.full in
+    let new : Entry = record { low = middle nodes c; to = length nodes } in
+    let more = k.more in
+    let in' = f.within in
+    record {
+      some = omega (arith, length-insert n.entries (suc i) new (omega arith));
+      rise = Rise-insert 0 (suc i) new n.entries n.end fits.rise (omega arith) (omega arith)
+          (λ j d' lt.
+          let here = child nodes root top p c i d' t f in
+          let low : (get_or n.entries i d').low < middle nodes c = omega (arith, here.low, m.up) in
+          elim (cases_lt j i) [
+            | inl before ↦ (let r = low_rises 0 j i d' n.entries n.end fits.rise before in' in omega arith)
+            | inr past ↦ (let same : j ≡ i = omega arith in let e = ap (λ z. (get_or n.entries z d').low) same in omega arith)
+          ])
+          (omega (arith, kid.end, m.down));
+      kids = λ up. Kids-insert nodes nodes' n.level n.end i d new n.entries (omega arith) (fits.kids up) in'
+          (λ j d' lt not.
+          let at = kid_at nodes n.level n.end j d' n.entries (fits.kids up) lt in
+          kept nodes nodes' root top p c i (get_or n.entries j d').to t f k at.there (λ same.
+          let here = child nodes root top p c i d' t f in
+          let lows : low_of (node nodes (get_or n.entries j d').to) ≡ low_of (node nodes c) = ap (λ z. low_of (node nodes z)) same in
+          elim (cases_lt j i) [
+            | inl before ↦ absurd (let r = low_rises 0 j i d' n.entries n.end fits.rise before in' in omega (arith, at.low, here.low))
+            | inr past ↦ elim (cases_lt i j) [
+              | inl behind ↦ absurd (let r = low_rises 0 i j d' n.entries n.end fits.rise behind lt in omega (arith, at.low, here.low))
+              | inr both ↦ not (omega arith)
+            ]
+          ]))
+          (rw (f.is d) (lower_kid nodes nodes' root top p c i d t f k))
+          (upper_kid nodes nodes' root top p c i d t f k);
+    }
+
+-- the children of the node that is cut are not itself
+child_kept : (nodes nodes' : List Knot) (root top p c i : ℕ) → IsTree nodes root top → Full nodes p c i → Cut nodes nodes' p c i → c < length nodes → 1 ≤ (node nodes c).level → Kids nodes' (node nodes c).level (node nodes c).end (node nodes c).entries
+child_kept nodes nodes' root top p c i t f k there up =
+    let n = node nodes c in
+    let kids = (t.each c there).kids up in
+    Kids-lift nodes nodes' n.level n.end n.entries (let m = k.more in omega arith)
+    (λ j d lt.
+    let at = kid_at nodes n.level n.end j d n.entries kids lt in
+    kept nodes nodes' root top p c i (get_or n.entries j d).to t f k at.there (λ same. let e = ap (λ x. (node nodes x).level) same in omega (arith, at.level)))
+    kids
+
+lower_fits : (nodes nodes' : List Knot) (root top p c i : ℕ) → IsTree nodes root top → Full nodes p c i → Cut nodes nodes' p c i → c < length nodes → Fits nodes' (lower_half (node nodes c))
+lower_fits nodes nodes' root top p c i t f k there =
+    let n = node nodes c in
+    record {
+      some = omega (arith, length-take 4 n.entries, f.full);
+      rise = Rise-take 0 4 n.entries n.end (t.each c there).rise;
+      kids = λ up. Kids-take nodes' n.level n.end 4 n.entries (child_kept nodes nodes' root top p c i t f k there up);
+    }
+
+upper_fits : (nodes nodes' : List Knot) (root top p c i : ℕ) → IsTree nodes root top → Full nodes p c i → Cut nodes nodes' p c i → c < length nodes → Fits nodes' (upper_half (node nodes c))
+upper_fits nodes nodes' root top p c i t f k there =
+    let n = node nodes c in
+    record {
+      some = omega (arith, length-drop 4 n.entries, f.full);
+      rise = Rise-drop 0 4 n.entries n.end (t.each c there).rise;
+      kids = λ up. Kids-drop nodes' n.level n.end 4 n.entries (child_kept nodes nodes' root top p c i t f k there up);
+    }
+
+-- the children of the others are kept: none is the node that is cut
+other_fits : (nodes nodes' : List Knot) (root top p c i x : ℕ) → IsTree nodes root top → Full nodes p c i → Cut nodes nodes' p c i → x < length nodes → (x ≡ p → ⊥) → Fits nodes' (node nodes x)
+other_fits nodes nodes' root top p c i x t f k there notp =
+    let n = node nodes x in
+    Fits-lift nodes nodes' n (let m = k.more in omega arith) (t.each x there)
+    (λ up j d lt.
+    let at = kid_at nodes n.level n.end j d n.entries ((t.each x there).kids up) lt in
+    kept nodes nodes' root top p c i (get_or n.entries j d).to t f k at.there (λ same.
+    notp (one_parent nodes x p j i d t.once there f.there (t.each x there) (t.each p f.there) up f.above lt f.within (same ∙ sym (f.is d)))))
+
+-- the node that had a key
+record Was (nodes nodes' : List Knot) (c x k : ℕ) : Type 0 where
+  old : ℕ
+  at : IsAt nodes old k
+  level : (node nodes' x).level ≡ (node nodes old).level
+  is : ((x ≡ old) × (x ≡ c → k < middle nodes c)) ⊎ ((x ≡ length nodes) × (old ≡ c) × (middle nodes c ≤ k))
+
+was : (nodes nodes' : List Knot) (root top p c i x k : ℕ) → IsTree nodes root top → Full nodes p c i → Cut nodes nodes' p c i → IsAt nodes' x k → Was nodes nodes' c x k
+was nodes nodes' root top p c i x k t f cut h =
+    let d : Entry = record { low = 0; to = 0 } in
+    let kid = child nodes root top p c i d t f in
+    let m = middle_of nodes c (t.each c kid.there) f.full in
+    let there = kid.there in
+    elim (cases_lt x (length nodes)) [
+      | inl lt ↦ elim (cases_eq x c) [
+        | inl here ↦
+            let level = ap (λ (n : Knot). n.level) (ap (λ y. node nodes' y) here ∙ cut.lower) in
+            let low : low_of (node nodes' x) ≡ low_of (node nodes c) = ap (λ (n : Knot). low_of n) (ap (λ y. node nodes' y) here ∙ cut.lower) ∙ front-take 4 (node nodes c).entries (node nodes c).end in
+            let end : (node nodes' x).end ≡ middle nodes c = ap (λ (n : Knot). n.end) (ap (λ y. node nodes' y) here ∙ cut.lower) in
+            let under : k < middle nodes c = (let b = h.below in omega arith) in
+            record { old = c; at = record { there = there; low = (let l = h.low in omega arith); below = omega (arith, m.down) }; level = level; is = inl (here, (λ z. under)) }
+        | inr notc ↦
+            let same = kept nodes nodes' root top p c i x t f cut lt notc in
+            record { old = x; at = IsAt-back nodes nodes' x k lt same h; level = same.level; is = inl (refl, (λ z. absurd (notc z))) }
+      ]
+      | inr past ↦
+          let more = cut.more in
+          let here : x ≡ length nodes = (let l = h.there in omega arith) in
+          let is : node nodes' x ≡ upper_half (node nodes c) = ap (λ y. node nodes' y) here ∙ cut.upper in
+          let low : low_of (node nodes' x) ≡ middle nodes c = ap (λ (n : Knot). low_of n) is in
+          let end : (node nodes' x).end ≡ (node nodes c).end = ap (λ (n : Knot). n.end) is in
+          let over : middle nodes c ≤ k = (let l = h.low in omega arith) in
+          record { old = c; at = record { there = there; low = omega (arith, m.up); below = (let b = h.below in omega arith) }; level = ap (λ (n : Knot). n.level) is; is = inr (here, refl, over) }
+    ]
+
+one : (nodes nodes' : List Knot) (c a b k : ℕ) (x : Was nodes nodes' c a k) (y : Was nodes nodes' c b k) → x.old ≡ y.old → a ≡ b
+one nodes nodes' c a b k x y same =
+    elim x.is [
+      | inl ox ↦ elim y.is [
+        | inl oy ↦ ox.0 ∙ (same ∙ sym oy.0)
+        | inr ny ↦ absurd (let lt = ox.1 (ox.0 ∙ (same ∙ ny.1)) in let le = ny.2 in omega arith)
+      ]
+      | inr nx ↦ elim y.is [
+        | inl oy ↦ absurd (let lt = oy.1 (oy.0 ∙ (sym same ∙ nx.1)) in let le = nx.2 in omega arith)
+        | inr ny ↦ nx.0 ∙ sym ny.0
+      ]
+    ]
+
+pub IsTree-cut : (nodes nodes' : List Knot) (root top p c i : ℕ) → IsTree nodes root top → Full nodes p c i → Cut nodes nodes' p c i → IsTree nodes' root top
+IsTree-cut nodes nodes' root top p c i t f k =
+    let d : Entry = record { low = 0; to = 0 } in
+    let kid = child nodes root top p c i d t f in
+    let more = k.more in
+    let there = kid.there in
+    let notroot : root ≡ c → ⊥ = λ same. (let l = ap (λ x. (node nodes x).level) same in let u = t.under p f.there in let r = t.level in omega (arith, kid.level)) in
+    let r = kept nodes nodes' root top p c i root t f k t.there notroot in
+    record {
+      there = (let z = t.there in omega arith);
+      level = r.level ∙ t.level;
+      low = r.low ∙ t.low;
+      end = r.end ∙ t.end;
+      each = λ x lt. elim (cases_lt x (length nodes)) [
+        | inl old ↦ elim (cases_eq x p) [
+          | inl here ↦ subst (λ y. Fits nodes' (node nodes' y)) (sym here) (subst (Fits nodes') (sym k.parent) (parent_fits nodes nodes' root top p c i t f k))
+          | inr notp ↦ elim (cases_eq x c) [
+            | inl here ↦ subst (λ y. Fits nodes' (node nodes' y)) (sym here) (subst (Fits nodes') (sym k.lower) (lower_fits nodes nodes' root top p c i t f k there))
+            | inr notc ↦ subst (Fits nodes') (sym (k.other x old notp notc)) (other_fits nodes nodes' root top p c i x t f k old notp)
+          ]
+        ]
+        | inr past ↦
+            let here : x ≡ length nodes = omega arith in
+            subst (λ y. Fits nodes' (node nodes' y)) (sym here) (subst (Fits nodes') (sym k.upper) (upper_fits nodes nodes' root top p c i t f k there))
+      ];
+      under = λ x lt. elim (cases_lt x (length nodes)) [
+        | inl old ↦ elim (cases_eq x c) [
+          | inl here ↦ (let l = ap (λ (n : Knot). n.level) (ap (λ y. node nodes' y) here ∙ k.lower) in let u = t.under c there in omega arith)
+          | inr notc ↦ (let s = kept nodes nodes' root top p c i x t f k old notc in let u = t.under x old in omega (arith, s.level))
+        ]
+        | inr past ↦
+            let here : x ≡ length nodes = omega arith in
+            let l = ap (λ (n : Knot). n.level) (ap (λ y. node nodes' y) here ∙ k.upper) in
+            let u = t.under c there in
+            omega arith
+      ];
+      once = λ a b key ha hb level.
+          let x = was nodes nodes' root top p c i a key t f k ha in
+          let y = was nodes nodes' root top p c i b key t f k hb in
+          one nodes nodes' c a b key x y (t.once x.old y.old key x.at y.at (sym x.level ∙ (level ∙ y.level)));
+    }
+
+pub Holds-cut : (lows : List ℕ) (nodes nodes' : List Knot) (root top p c i : ℕ) → IsTree nodes root top → Full nodes p c i → Cut nodes nodes' p c i → Holds lows nodes → Holds lows nodes'
+Holds-cut lows nodes nodes' root top p c i t f k holds = λ x lt.
+    let d : Entry = record { low = 0; to = 0 } in
+    let kid = child nodes root top p c i d t f in
+    let more = k.more in
+    let n = node nodes c in
+    let fits = t.each c kid.there in
+    let m = middle_of nodes c fits f.full in
+    let had = holds c kid.there in
+    let five : 4 < length n.entries = omega (arith, f.full) in
+    let key : Contains lows (middle nodes c) = subst (Contains lows) (sym (front_drop 4 d n.entries n.end five)) (key_at lows 4 d n.entries had.keys five) in
+    elim (cases_lt x (length nodes)) [
+      | inl old ↦ elim (cases_eq x p) [
+        | inl here ↦
+            let hp = holds p f.there in
+            subst (λ y. Has lows (node nodes' y)) (sym here) (subst (Has lows) (sym k.parent) (record {
+              keys = Keys-insert lows (suc i) (record { low = middle nodes c; to = length nodes }) (node nodes p).entries key hp.keys;
+              last = hp.last;
+              match = λ leaf. absurd (let up = f.above in omega arith);
+              whole = λ leaf. absurd (let up = f.above in omega arith);
+            }))
+        | inr notp ↦ elim (cases_eq x c) [
+          | inl here ↦ subst (λ y. Has lows (node nodes' y)) (sym here) (subst (Has lows) (sym k.lower) (record {
+            keys = Keys-take lows 4 n.entries had.keys;
+            last = inr key;
+            match = λ leaf. Match-take lows 4 n.entries (had.match leaf);
+            whole = λ leaf. subst (λ from. Whole lows from (middle nodes c) (take 4 n.entries)) (sym (front-take 4 n.entries n.end)) (Whole-take lows (low_of n) n.end 4 n.entries fits.rise five (had.match leaf) (omega (arith, m.down)) (had.whole leaf));
+          }))
+          | inr notc ↦ subst (Has lows) (sym (k.other x old notp notc)) (holds x old)
+        ]
+      ]
+      | inr past ↦
+          let here : x ≡ length nodes = omega arith in
+          subst (λ y. Has lows (node nodes' y)) (sym here) (subst (Has lows) (sym k.upper) (record {
+            keys = Keys-drop lows 4 n.entries had.keys;
+            last = had.last;
+            match = λ leaf. Match-drop lows 4 n.entries (had.match leaf);
+            whole = λ leaf. Whole-drop lows (low_of n) n.end 4 n.entries fits.rise five (had.match leaf) (omega (arith, m.up)) (had.whole leaf);
+          }))
+    ]
+
+-- the nodes as they are written, one after the other
+pub record Writes (nodes pushed : List Knot) (p c ip ic at : ℕ) (x l u y w : Knot) (new : Entry) : Type 0 where
+  pub at_c : ic ≡ c
+  pub at_p : ip ≡ p
+  pub read_c : x ≡ get_or nodes ic x
+  pub lower : l ≡ lower_half x
+  pub upper : u ≡ upper_half x
+  pub push : pushed ≡ set nodes ic l ++ u ∷ []
+  pub low : new.low ≡ low_of u
+  pub to : new.to ≡ length nodes
+  pub read_p : y ≡ get_or pushed ip y
+  pub wide : w ≡ record { level = y.level; end = y.end; entries = insert y.entries at new }
+
+pub after_is : (nodes pushed : List Knot) (root top p c i ip ic at : ℕ) (x l u y w : Knot) (new : Entry) → IsTree nodes root top → Full nodes p c i → at ≡ suc i → Writes nodes pushed p c ip ic at x l u y w new → set pushed ip w ≡ after nodes p c i
+after_is nodes pushed root top p c i ip ic at x l u y w new t f place h =
+    let kid = child nodes root top p c i (record { low = 0; to = 0 }) t f in
+    let other = apart nodes root top p c i t f in
+    let lower = lower_half (node nodes c) in
+    let upper = upper_half (node nodes c) in
+    let second = set nodes c lower ++ upper ∷ [] in
+    let same : x ≡ node nodes c = get_or_read nodes c x kid.there (rw h.at_c at h.read_c) no_knot in
+    let isl : l ≡ lower = h.lower ∙ ap (λ n. lower_half n) same in
+    let isu : u ≡ upper = h.upper ∙ ap (λ n. upper_half n) same in
+    let push : pushed ≡ second = rw (isl, isu, h.at_c) at h.push in
+    let one : length (set nodes c lower) ≡ length nodes = length-set nodes c lower in
+    let two : length second ≡ length (set nodes c lower) + 1 = length_push (set nodes c lower) upper in
+    let there = f.there in
+    let read : y ≡ get_or second p y = rw (push, h.at_p) at h.read_p in
+    let old : y ≡ node nodes p = get_or_read second p y (omega arith) read no_knot ∙ (get_or_append_left (set nodes c lower) (upper ∷ []) no_knot p (omega arith) ∙ get_or-set_other nodes c p lower no_knot other) in
+    let low : new.low ≡ middle nodes c = h.low ∙ ap (λ n. low_of n) isu in
+    let entry : new ≡ record { low = middle nodes c; to = length nodes } = (λ z. record { low = low z; to = h.to z }) in
+    let wide : w ≡ widened nodes p c i = rw (old, entry, place) at h.wide in
+    rw (push, h.at_p, wide) refl
+
+-- what is known before the nodes are written
+pub record Ready (nodes : List Knot) (root top p c k : ℕ) : Type 0 where
+  pub tree : IsTree nodes root top
+  pub at : IsAt nodes p k
+  pub above : 1 ≤ (node nodes p).level
+  pub leads : LeadsTo k (node nodes p).entries c
+  pub full : length (node nodes c).entries ≡ 8
+
+pub full_of : (nodes : List Knot) (root top p c k : ℕ) (r : Ready nodes root top p c k) → Full nodes p c r.leads.at
+full_of nodes root top p c k r = record { there = r.at.there; above = r.above; within = (let w = r.leads.place.0 in omega arith); is = r.leads.is; full = r.full }
+
+pub child_there : (nodes : List Knot) (root top p c k : ℕ) → Ready nodes root top p c k → c < length nodes
+child_there nodes root top p c k r = (child nodes root top p c r.leads.at (record { low = 0; to = 0 }) r.tree (full_of nodes root top p c k r)).there
+
+pub child_full : (nodes : List Knot) (root top p c k ic : ℕ) (x : Knot) → Ready nodes root top p c k → ic ≡ c → x ≡ get_or nodes ic x → length x.entries ≡ 8
+child_full nodes root top p c k ic x r here read =
+    let same : x ≡ node nodes c = get_or_read nodes c x (child_there nodes root top p c k r) (rw here at read) no_knot in
+    ap (λ (n : Knot). length n.entries) same ∙ r.full
+
+-- the nodes as they are written are those of a cut
+pub Cut-made : (nodes pushed : List Knot) (root top p c k ip ic at : ℕ) (x l u y w : Knot) (new : Entry) (r : Ready nodes root top p c k) → IsPlace k (node nodes p).entries at → Writes nodes pushed p c ip ic at x l u y w new → Cut nodes (set pushed ip w) p c r.leads.at
+Cut-made nodes pushed root top p c k ip ic at x l u y w new r placed h =
+    let f = full_of nodes root top p c k r in
+    let place : at ≡ suc r.leads.at = one_place k at (r.leads.at + 1) (node nodes p).entries placed r.leads.place ∙ add-one r.leads.at in
+    rw (after_is nodes pushed root top p c r.leads.at ip ic at x l u y w new r.tree f place h) (Cut-is nodes root top p c r.leads.at r.tree f)

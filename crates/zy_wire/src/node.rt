@@ -1,0 +1,178 @@
+//! A node of the tree.
+ghost use Rattle.std.specs.Prelude.{◌≡◌, ◌==◌, ℕ, ◌+◌, ◌<◌, ◌≤◌, ◌∷◌, [], take, drop, insert, length, slice_index_or};
+ghost use Rattle.zy_wire.specs.ByLow.{Rise, IsPlace, Leads, front};
+
+use crate::entry::Entry;
+use std::marker::Model;
+
+/// The most entries of a node.
+const ROOM: usize = 8;
+
+/// How many entries stay where a full node is cut.
+const HALF: usize = 4;
+
+/// Entries in order of low key, with every low key from the first one on and below an end. Those of level 0 are of pages,
+/// and those of each other level of nodes of the level below.
+#[derive(Drop)]
+pub struct Node {
+    level: u16,
+    end: u32,
+    len: usize,
+    cells: [Entry; ROOM],
+}
+
+impl Model for Node {
+    ghost use Rattle.std.specs.Prelude.{take};
+    ghost use Rattle.zy_wire.specs.Nodes.{Knot, IsCells};
+
+    ghost Value = { Knot };
+
+    ghost view = { λ n. record { level = n.level; end = n.end; entries = take n.len n.cells } };
+
+    ghost invariant = { λ n. IsCells n.len n.cells };
+}
+
+impl Node {
+    /// A node with one entry.
+    pub fn with(level: u16, end: u32, entry: Entry) -> Node
+        ensures { result ≡ record { level = level; end = end; entries = entry ∷ [] } }
+    {
+        Node::of(level, end, &[entry])
+    }
+
+    /// A node with these entries.
+    fn of(level: u16, end: u32, entries: &[Entry]) -> Node
+        requires { length entries.now ≤ 8 }
+        ensures { result ≡ record { level = level; end = end; entries = entries.now } }
+    {
+        let mut cells = [Entry::BLANK; ROOM];
+        cells[..entries.len()].copy_from_slice(entries);
+        Node {
+            level,
+            end,
+            len: entries.len(),
+            cells,
+        }
+    }
+
+    /// How many levels are below it.
+    pub fn level(&self) -> u16
+        ensures { result ≡ self.now.level }
+    {
+        self.level
+    }
+
+    /// The least key of the node.
+    pub fn low(&self) -> u16
+        requires { 1 ≤ length self.now.entries }
+        ensures { result ≡ front self.now.entries self.now.end }
+    {
+        self.entries()[0].low
+    }
+
+    /// The least number above the keys of the node.
+    pub fn end(&self) -> u32
+        ensures { result ≡ self.now.end }
+    {
+        self.end
+    }
+
+    /// The entries, in order of low key.
+    pub fn entries(&self) -> &[Entry]
+        ensures value { result.now ≡ self.now.entries }
+        ensures bound { length self.now.entries ≤ 8 }
+    {
+        &self.cells[..self.len]
+    }
+
+    /// Whether there is no place for one entry more.
+    pub fn is_full(&self) -> bool
+        ensures value { result ≡ (length self.now.entries == 8) }
+        ensures bound { length self.now.entries ≤ 8 }
+    {
+        self.entries().len() == ROOM
+    }
+
+    /// How many low keys are not above `key`.
+    pub fn place(&self, key: u16) -> usize
+        requires rise { Rise 0 self.now.entries self.now.end }
+        requires some { 1 ≤ length self.now.entries }
+        requires under { front self.now.entries self.now.end ≤ key }
+        ensures { IsPlace key self.now.entries result }
+    {
+        place(self.entries(), key, self.end)
+    }
+
+    /// The last entry whose low key is not above `key`.
+    pub fn entry_under(&self, key: u16) -> Entry
+        requires rise { Rise 0 self.now.entries self.now.end }
+        requires some { 1 ≤ length self.now.entries }
+        requires under { front self.now.entries self.now.end ≤ key }
+        ensures { Leads key self.now.entries result }
+    {
+        self.entries()[self.place(key) - 1]
+    }
+
+    /// The least low key above `key`, or the end of the node.
+    pub fn end_of(&self, key: u16) -> u32
+        requires rise { Rise 0 self.now.entries self.now.end }
+        requires some { 1 ≤ length self.now.entries }
+        requires under { front self.now.entries self.now.end ≤ key }
+        ensures { (i : ℕ) × IsPlace key self.now.entries i × (result ≡ front (drop i self.now.entries) self.now.end) }
+    {
+        match self.entries().get(self.place(key)) {
+            Some(entry) => u32::from(entry.low),
+            None => self.end,
+        }
+    }
+
+    /// Puts an entry at a place, and moves those from there on up.
+    pub fn insert(&mut self, at: usize, entry: Entry)
+        requires within { at ≤ length self.old.entries }
+        requires room { length self.old.entries < 8 }
+        ensures { self.new ≡ record self.old { entries = insert self.old.entries at entry } }
+    {
+        self.cells.copy_within(at..self.len, at + 1);
+        self.cells[at] = entry;
+        self.len += 1;
+    }
+
+    /// Moves the upper half of a full node's entries into a new one.
+    pub fn cut(&mut self) -> Node
+        requires { length self.old.entries ≡ 8 }
+        ensures upper { result ≡ record self.old { entries = drop 4 self.old.entries } }
+        ensures lower { self.new ≡ record self.old { end = front (drop 4 self.old.entries) self.old.end; entries = take 4 self.old.entries } }
+    {
+        let upper = Node::of(self.level, self.end, &self.entries()[HALF..]);
+        self.end = u32::from(self.cells[HALF].low);
+        self.len = HALF;
+        upper
+    }
+
+    /// The same node once more.
+    pub fn copy(&self) -> Node
+        ensures { result ≡ self.now }
+    {
+        Node {
+            level: self.level,
+            end: self.end,
+            len: self.len,
+            cells: self.cells,
+        }
+    }
+}
+
+/// How many low keys are not above `key`, as the first is not.
+fn place(entries: &[Entry], key: u16, end: u32) -> usize
+    requires rise { Rise 0 entries.now end }
+    requires some { 1 ≤ length entries.now }
+    requires under { front entries.now end ≤ key }
+    ensures { IsPlace key entries.now result }
+{
+    for i in 1..entries.len() {
+        if key < entries[i].low {
+            return i;
+        }
+    }
+    entries.len()
+}
