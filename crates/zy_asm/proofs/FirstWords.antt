@@ -49,7 +49,7 @@ module _ (b c d e f : List ℕ) (ws : List (List ℕ)) where
   label_same stage.Pages s name = refl
   label_same stage.Rule s name = refl
   label_same stage.Rows s name = refl
-  label_same stage.Program s name = bind_same (note_label s name) _ _ (labelled_same (keyword_of b))
+  label_same stage.Program s name = bind_same (note_label s name) _ _ (λ u. labelled_same (keyword_of u.version b) u)
   label_same stage.Choices s name = refl
   label_same stage.Done s name = refl
 
@@ -101,7 +101,7 @@ module _ (b c d e f : List ℕ) (ws : List (List ℕ)) where
 
   led_same : (o : Option (List ℕ)) (s : Seen) (w : List ℕ) → led_by o s w (b ∷ c ∷ d ∷ e ∷ f ∷ []) ≡ led_by o s w (b ∷ c ∷ d ∷ e ∷ f ∷ ws)
   led_same (Some name) s w = ap (λ x. if is_name name then x else Err kinds.Word) (label_same s.stage s name)
-  led_same None s w = statement_same (keyword_of w) s
+  led_same None s w = statement_same (keyword_of s.version w) s
 
   line_same : (x : Stage) (s : Seen) (w : List ℕ) → line_at x s (w ∷ b ∷ c ∷ d ∷ e ∷ f ∷ []) ≡ line_at x s (w ∷ b ∷ c ∷ d ∷ e ∷ f ∷ ws)
   line_same stage.Zephyr s w = refl

@@ -64,7 +64,7 @@ found_rows (l ∷ ls) b t placed h =
     let a = bind_ok (body_line (top stage.Rows b [] []) l) (λ u. fold_lines u ls) t h in
     elim (rows_ok b l a.0 a.1) [
       | inl d ↦ row_more b d.line l ls t d.spelled (found_rows ls (record b { rows = b.rows ++ d.line ∷ [] }) t (placed_more b d.line placed d.few d.few_pages d.rises) (rw d.after at a.2))
-      | inr n ↦ rows_over b (l ∷ ls) t placed (next_line b [] [] l ls a.0 t (omega arith) tt (found_all ls t) n a.2)
+      | inr n ↦ rows_over b (l ∷ ls) t placed (next_line b [] [] l ls a.0 t (omega arith) tt tt (found_all ls t) n a.2)
     ]
 
 -- ---- the header
@@ -203,7 +203,7 @@ whole a ls v t z least most f =
       draft = record { programs = r.programs; choices = r.choices };
       drafts = record { programs = refl; choices = refl; headed = r.headed; names_new = r.new; labelled = r.labelled };
       spelled = (z, ((f.number.word, f.number.spelled, f.number.number), ((g.number.word, g.number.spelled, g.number.number), (i.spelled, j.spelled))));
-      tested = no_fault (shows u) least most f.number.least f.number.most g.number.least g.number.most j.placed.few j.placed.few_pages j.placed.in_order r.few r.few_choices r.named;
+      tested = no_fault (shows u) least most f.number.least f.number.most g.number.least g.number.most j.placed.few j.placed.few_pages j.placed.in_order r.few r.few_choices r.named r.known;
     } in
     subst (λ x. FoundText (a ∷ x) t) (sym lines) (subst (FoundText (a ∷ f.line ∷ g.line ∷ i.line ∷ i.more)) (sym r.same) all)
 

@@ -7,7 +7,8 @@ use Rattle.zy_isa.specs.declared.instr.Instr.{Instr}
 use Rattle.zy_isa.specs.declared.choice.Choice.{Choice}
 use Rattle.zy_isa.specs.Names.{Mark, AreNew}
 use Rattle.zy_isa.specs.Choices.{names_below}
-use Rattle.zy_isa.specs.Scenario.{AreNamed}
+use Rattle.zy_isa.specs.Scenario.{AreKnown, AreNamed}
+use Rattle.zy_isa.proofs.ScenarioLemmas.{program_more}
 use Rattle.zy_isa.specs.Text as m
 use Rattle.zy_isa.specs.Text.{Code, Written, Times, Statement, SpellEach, instrs_of, label_at, labels_of, name_in, names_of, Headed, Labelled, program_statements, choice_statements, repeated}
 use Rattle.zy_asm.specs.declared.state.Stage.{Stage}
@@ -17,6 +18,7 @@ use Rattle.zy_asm.specs.Reading.{Seen, body_line, step}
 use Rattle.zy_isa.proofs.ResultLemmas.{bind_ok}
 use Rattle.zy_asm.proofs.SpellLemmas.{AreBelow}
 use Rattle.zy_asm.proofs.DraftLemmas.{Line, SpellBody, pending_in, pendings, marks, coded, new_label, new_name, below_name}
+use Rattle.zy_asm.proofs.FitLemmas.{AllFit, all_fit-append, all_known}
 use Rattle.zy_asm.proofs.FoundSteps.{Base, at, fold_lines, TxnStep, EndStep, ChoiceStep, Next, CodeStep, inside_ok, below_ok}
 
 -- ---- the choices and the end
@@ -88,6 +90,7 @@ pub record Rest (b : Base) (N : List Mark) (k : ℕ) (P : List (List Instr)) (t 
   pub labelled : Labelled programs
   pub few : length (P ++ bodies programs) ≤ 64
   pub named : AreNamed (length (P ++ bodies programs)) (repeated choices)
+  pub known : AreKnown b.version (P ++ bodies programs)
   pub few_choices : length (repeated choices) ≤ 4096
   pub same : t ≡ at stage.Done b (N ++ names_of k programs) (P ++ bodies programs) [] [] (repeated choices)
 
@@ -110,8 +113,8 @@ pub record FoundInside (b : Base) (N : List Mark) (P : List (List Instr)) (M : L
   pub follows : Follows b N (length P + 1) (P ++ program ∷ []) body ls t
 
 -- the programs are over
-no_more : (b : Base) (N : List Mark) (P : List (List Instr)) (ls : List (List (List ℕ))) (t : Seen) → length P ≤ 64 → FoundChoices b N P [] ls t → FoundNext b N P ls t
-no_more b N P ls t few f = (
+no_more : (b : Base) (N : List Mark) (P : List (List Instr)) (ls : List (List (List ℕ))) (t : Seen) → length P ≤ 64 → AreKnown b.version P → FoundChoices b N P [] ls t → FoundNext b N P ls t
+no_more b N P ls t few known f = (
   record {
     programs = [];
     choices = f.choices;
@@ -120,6 +123,7 @@ no_more b N P ls t few f = (
     labelled = tt;
     few = rw append-nil few;
     named = rw append-nil f.named;
+    known = rw append-nil known;
     few_choices = f.few;
     same = f.same ∙ rw (append-nil, append-nil) refl;
   },
@@ -144,6 +148,7 @@ one_more b N P l ls u t d f =
         labelled = (rw (c.same 0) f.new, r.labelled);
         few = subst (λ (x : List (List Instr)). length x ≤ 64) all r.few;
         named = subst (λ (x : List (List Instr)). AreNamed (length x) (repeated r.choices)) all r.named;
+        known = subst (AreKnown b.version) all r.known;
         few_choices = r.few_choices;
         same = r.same ∙ ap (λ (x : List Mark). at stage.Done b x (P ++ f.program ∷ [] ++ bodies r.programs) [] [] (repeated r.choices)) names
             ∙ ap (λ (x : List (List Instr)). at stage.Done b (N ++ (one ++ names_of (n + 1) r.programs)) x [] [] (repeated r.choices)) all;
@@ -161,17 +166,17 @@ one_more b N P l ls u t d f =
 
 -- what is shown of the lines ls, in each state that has no choice and no row more
 pub record Found (ls : List (List (List ℕ))) (t : Seen) : Type 0 where
-  pub inside : (b : Base) (N : List Mark) (P : List (List Instr)) (M : List Mark) (O : List Pending) → length P < 64 → AreBelow (length P + 1) N
+  pub inside : (b : Base) (N : List Mark) (P : List (List Instr)) (M : List Mark) (O : List Pending) → length P < 64 → AreBelow (length P + 1) N → AllFit b.version O → AreKnown b.version P
       → fold_lines (at stage.Program b N P M O []) ls ≡ Ok t → FoundInside b N P M O ls t
 
-pub next_line : (b : Base) (N : List Mark) (P : List (List Instr)) (l : List (List ℕ)) (ls : List (List (List ℕ))) (u t : Seen) → length P ≤ 64 → AreBelow (length P) N → Found ls t
+pub next_line : (b : Base) (N : List Mark) (P : List (List Instr)) (l : List (List ℕ)) (ls : List (List (List ℕ))) (u t : Seen) → length P ≤ 64 → AreBelow (length P) N → AreKnown b.version P → Found ls t
     → Next b N P l u → fold_lines u ls ≡ Ok t → FoundNext b N P (l ∷ ls) t
-next_line b N P l ls u t few low ih n h =
+next_line b N P l ls u t few low known ih n h =
     elim n [
-      | inl d ↦ one_more b N P l ls u t d (ih.inside b (N ++ name_in d.head (length P)) P [] [] d.few (below_name (length P) N d.head low) (rw d.after at h))
+      | inl d ↦ one_more b N P l ls u t d (ih.inside b (N ++ name_in d.head (length P)) P [] [] d.few (below_name (length P) N d.head low) tt known (rw d.after at h))
       | inr x ↦ elim x [
-        | inl d ↦ no_more b N P (l ∷ ls) t few (choice_more b N P [] stage.Rows l ls u t d (λ D f g. found_choices ls b N P D t low f g) h)
-        | inr d ↦ no_more b N P (l ∷ ls) t few (end_here b N P [] stage.Rows l ls u t (omega arith) d h)
+        | inl d ↦ no_more b N P (l ∷ ls) t few known (choice_more b N P [] stage.Rows l ls u t d (λ D f g. found_choices ls b N P D t low f g) h)
+        | inr d ↦ no_more b N P (l ∷ ls) t few known (end_here b N P [] stage.Rows l ls u t (omega arith) d h)
       ]
     ]
 
@@ -202,18 +207,19 @@ close_here b N P M O ls t p e f = record {
   follows = subst (λ n. Follows b N n (P ++ p ∷ []) [] ls t) (length-append P (p ∷ [])) f;
 }
 
-inside_line : (b : Base) (N : List Mark) (P : List (List Instr)) (M : List Mark) (O : List Pending) (l : List (List ℕ)) (ls : List (List (List ℕ))) (u t : Seen) → length P < 64 → AreBelow (length P + 1) N → Found ls t
+inside_line : (b : Base) (N : List Mark) (P : List (List Instr)) (M : List Mark) (O : List Pending) (l : List (List ℕ)) (ls : List (List (List ℕ))) (u t : Seen) → length P < 64 → AreBelow (length P + 1) N → AllFit b.version O → AreKnown b.version P → Found ls t
     → body_line (at stage.Program b N P M O []) l ≡ Ok u → fold_lines u ls ≡ Ok t → FoundInside b N P M O (l ∷ ls) t
-inside_line b N P M O l ls u t few low ih e h =
+inside_line b N P M O l ls u t few low fit known ih e h =
     elim (inside_ok b N P M O l u low e) [
-      | inl d ↦ code_more b N P M O l ls u t d (ih.inside b N P (M ++ label_at d.line.label (length O)) (O ++ pending_in d.line.pending) few low (rw d.after at h))
+      | inl d ↦ code_more b N P M O l ls u t d (ih.inside b N P (M ++ label_at d.line.label (length O)) (O ++ pending_in d.line.pending) few low (all_fit-append b.version O (pending_in d.line.pending) fit d.fits) known (rw d.after at h))
       | inr x ↦
           let n : length (P ++ x.program ∷ []) ≡ length P + 1 = length-append P (x.program ∷ []) in
-          close_here b N P M O (l ∷ ls) t x.program x.resolves (next_line b N (P ++ x.program ∷ []) l ls u t (omega (arith, few, n)) (subst (λ k. AreBelow k N) (sym n) low) ih x.next h)
+          close_here b N P M O (l ∷ ls) t x.program x.resolves (next_line b N (P ++ x.program ∷ []) l ls u t (omega (arith, few, n)) (subst (λ k. AreBelow k N) (sym n) low)
+          (program_more b.version P x.program known (all_known b.version M O x.program fit x.resolves)) ih x.next h)
     ]
 
 pub found_all : (ls : List (List (List ℕ))) (t : Seen) → Found ls t
-found_all [] t = record { inside = λ b N P M O few low h. cc }
+found_all [] t = record { inside = λ b N P M O few low fit known h. cc }
 found_all (l ∷ ls) t =
     let ih = found_all ls t in
-    record { inside = λ b N P M O few low h. let a = bind_ok (body_line (at stage.Program b N P M O []) l) (λ u. fold_lines u ls) t h in inside_line b N P M O l ls a.0 t few low ih a.1 a.2 }
+    record { inside = λ b N P M O few low fit known h. let a = bind_ok (body_line (at stage.Program b N P M O []) l) (λ u. fold_lines u ls) t h in inside_line b N P M O l ls a.0 t few low fit known ih a.1 a.2 }

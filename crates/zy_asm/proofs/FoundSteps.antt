@@ -7,7 +7,7 @@ use Rattle.zy_isa.specs.declared.program.ProgFault.{ProgFault}
 use Rattle.zy_isa.specs.declared.operation.Operation.{Operation}
 use Rattle.zy_isa.specs.declared.choice.Choice.{Choice}
 use Rattle.zy_isa.specs.declared.node.Actor.{Actor}
-use Rattle.zy_isa.specs.Operations.{mnemonic}
+use Rattle.zy_isa.specs.Operations.{is_of, mnemonic}
 use Rattle.zy_isa.specs.Words.{number_of}
 use Rattle.zy_isa.specs.Names.{Mark, is_name, place, AreNew}
 use Rattle.zy_isa.specs.Programs.{prog_fault}
@@ -33,6 +33,7 @@ use Rattle.zy_isa.proofs.ResultLemmas.{bind_ok, if_ok, if_err, neither, below, n
 use Rattle.zy_asm.proofs.SpellLemmas.{actor_word, keyword_ok, SpellsPending, instr_ok, row_ok, not_some, head_ok, AreBelow, Chose, choice_ok}
 use Rattle.zy_words.proofs.LabelLemmas.{label_ok}
 use Rattle.zy_asm.proofs.DraftLemmas.{Line, SpellsLine, pending_in}
+use Rattle.zy_asm.proofs.FitLemmas.{FitsIn, AllFit, spelled_fits}
 
 -- what the header and the rows gave
 pub record Base : Type 0 where
@@ -133,17 +134,17 @@ pub rows_ok : (b : Base) (ws : List (List ℕ)) (t : Seen) → body_line (top st
 rows_ok b [] t h = cc
 rows_ok b (w ∷ ws) t h = split (label_of w) h
   where
-    by : (o : Option Keyword) → keyword_of w ≡ o → statement o (top stage.Rows b [] []) ws ≡ Ok t → RowStep b (w ∷ ws) t ⊎ Next b [] [] (w ∷ ws) t
+    by : (o : Option Keyword) → keyword_of b.version w ≡ o → statement o (top stage.Rows b [] []) ws ≡ Ok t → RowStep b (w ∷ ws) t ⊎ Next b [] [] (w ∷ ws) t
     by None e g = cc
     by (Some k.Header) e g = cc
-    by (Some k.Row) e g = inl (rw (keyword_ok w k.Row e) (row_step b ws t g))
-    by (Some k.Txn) e g = inr (inl (rw (keyword_ok w k.Txn e) (txn_step stage.Rows b [] [] ws t g)))
+    by (Some k.Row) e g = inl (rw (keyword_ok b.version w k.Row e) (row_step b ws t g))
+    by (Some k.Txn) e g = inr (inl (rw (keyword_ok b.version w k.Txn e) (txn_step stage.Rows b [] [] ws t g)))
     by (Some (k.Instr o)) e g = cc
-    by (Some (k.Choice a)) e g = inr (inr (inl (a, ws, first w (actor_word a) ws (keyword_ok w (k.Choice a) e), choice_ok (top stage.Rows b [] []) t a ws tt g)))
-    by (Some k.End) e g = inr (inr (inr (rw (keyword_ok w k.End e) (end_step (top stage.Rows b [] []) ws t g))))
+    by (Some (k.Choice a)) e g = inr (inr (inl (a, ws, first w (actor_word a) ws (keyword_ok b.version w (k.Choice a) e), choice_ok (top stage.Rows b [] []) t a ws tt g)))
+    by (Some k.End) e g = inr (inr (inr (rw (keyword_ok b.version w k.End e) (end_step (top stage.Rows b [] []) ws t g))))
 
     split : (o : Option (List ℕ)) → led_by o (top stage.Rows b [] []) w ws ≡ Ok t → RowStep b (w ∷ ws) t ⊎ Next b [] [] (w ∷ ws) t
-    split None g = by (keyword_of w) refl g
+    split None g = by (keyword_of b.version w) refl g
     split (Some v) g = no_label (is_name v) t g
 
 -- ---- a line inside a program is a line of it, or it closes it
@@ -152,39 +153,44 @@ pub record CodeStep (b : Base) (N : List Mark) (P : List (List Instr)) (M : List
   pub line : Line
   pub spelled : SpellsLine line ws
   pub new : AreNew M (label_at line.label (length O))
+  pub fits : AllFit b.version (pending_in line.pending)
   pub after : t ≡ at stage.Program b N P (M ++ label_at line.label (length O)) (O ++ pending_in line.pending) []
 
 pub record InstrStep (s : Seen) (ws : List (List ℕ)) (t : Seen) : Type 0 where
   pub pending : Pending
   pub spelled : SpellsPending pending ws
+  pub fits : FitsIn s.version pending
   pub after : t ≡ record s { instrs = s.instrs ++ pending ∷ [] }
 
-instr_step : (s : Seen) (o : Operation) (ws : List (List ℕ)) (t : Seen) → instr_line s o ws ≡ Ok t → InstrStep s (mnemonic o ∷ ws) t
-instr_step s o ws t h =
+instr_step : (s : Seen) (o : Operation) (ws : List (List ℕ)) (t : Seen) → is_of s.version o ≡ true → instr_line s o ws ≡ Ok t → InstrStep s (mnemonic o ∷ ws) t
+instr_step s o ws t known h =
     let a = bind_ok (instr_of o ws) _ t h in
     let b = if_err (nat_le 64 (length s.instrs)) _ kinds.Count t a.2 in
-    record { pending = a.0; spelled = instr_ok o ws a.0 a.1; after = cc (b.1) }
+    let spelled = instr_ok o ws a.0 a.1 in
+    record { pending = a.0; spelled = spelled; fits = spelled_fits s.version o ws a.0 known spelled; after = cc (b.1) }
 
-plain_line : (b : Base) (N : List Mark) (P : List (List Instr)) (M : List Mark) (O : List Pending) (o : Operation) (w : List ℕ) (ws : List (List ℕ)) (t : Seen) → w ≡ mnemonic o
+plain_line : (b : Base) (N : List Mark) (P : List (List Instr)) (M : List Mark) (O : List Pending) (o : Operation) (w : List ℕ) (ws : List (List ℕ)) (t : Seen) → (w ≡ mnemonic o) × (is_of b.version o ≡ true)
     → instr_line (at stage.Program b N P M O []) o ws ≡ Ok t → CodeStep b N P M O (w ∷ ws) t
 plain_line b N P M O o w ws t e h =
-    let p = instr_step (at stage.Program b N P M O []) o ws t h in
+    let p = instr_step (at stage.Program b N P M O []) o ws t e.1 h in
     record {
       line = record { label = None; pending = Some p.pending };
-      spelled = ([], w ∷ ws, refl, refl, rw e p.spelled);
+      spelled = ([], w ∷ ws, refl, refl, rw e.0 p.spelled);
       new = tt;
+      fits = (p.fits, tt);
       after = p.after ∙ ap (λ x. at stage.Program b N P x (O ++ p.pending ∷ []) []) (sym (append-nil M));
     }
 
 labelled_line : (b : Base) (N : List Mark) (P : List (List Instr)) (M : List Mark) (O : List Pending) (v : List ℕ) (o : Operation) (w x : List ℕ) (ws : List (List ℕ)) (t : Seen)
-    → x ≡ v ++ 58 ∷ [] → is_name v ≡ true → place v M ≡ None → w ≡ mnemonic o
+    → x ≡ v ++ 58 ∷ [] → is_name v ≡ true → place v M ≡ None → (w ≡ mnemonic o) × (is_of b.version o ≡ true)
     → instr_line (at stage.Program b N P (M ++ (v, length O) ∷ []) O []) o ws ≡ Ok t → CodeStep b N P M O (x ∷ w ∷ ws) t
 labelled_line b N P M O v o w x ws t q n new e h =
-    let p = instr_step (at stage.Program b N P (M ++ (v, length O) ∷ []) O []) o ws t h in
+    let p = instr_step (at stage.Program b N P (M ++ (v, length O) ∷ []) O []) o ws t e.1 h in
     record {
       line = record { label = Some v; pending = Some p.pending };
-      spelled = (x ∷ [], w ∷ ws, refl, (ap (λ y. y ∷ []) q, n), rw e p.spelled);
+      spelled = (x ∷ [], w ∷ ws, refl, (ap (λ y. y ∷ []) q, n), rw e.0 p.spelled);
       new = (new, tt);
+      fits = (p.fits, tt);
       after = p.after;
     }
 
@@ -197,13 +203,13 @@ label_step b N P M O v x ws t q h =
     let e : at stage.Program b N P (M ++ (v, length O) ∷ []) O [] ≡ d.0 = cc (f.1) in
     rest ws a.0 (not_some (place v M) f.0) (ap (λ u. behind_label u ws) e ∙ d.2)
   where
-    by : (w : List ℕ) (vs : List (List ℕ)) (o : Option Keyword) → keyword_of w ≡ o → is_name v ≡ true → place v M ≡ None
+    by : (w : List ℕ) (vs : List (List ℕ)) (o : Option Keyword) → keyword_of b.version w ≡ o → is_name v ≡ true → place v M ≡ None
         → labelled o (at stage.Program b N P (M ++ (v, length O) ∷ []) O []) vs ≡ Ok t → CodeStep b N P M O (x ∷ w ∷ vs) t
     by w vs None e n new g = cc
     by w vs (Some k.Header) e n new g = cc
     by w vs (Some k.Row) e n new g = cc
     by w vs (Some k.Txn) e n new g = cc
-    by w vs (Some (k.Instr o)) e n new g = labelled_line b N P M O v o w x vs t q n new (keyword_ok w (k.Instr o) e) g
+    by w vs (Some (k.Instr o)) e n new g = labelled_line b N P M O v o w x vs t q n new (keyword_ok b.version w (k.Instr o) e) g
     by w vs (Some (k.Choice y)) e n new g = cc
     by w vs (Some k.End) e n new g = cc
 
@@ -212,9 +218,10 @@ label_step b N P M O v x ws t q h =
       line = record { label = Some v; pending = None };
       spelled = (x ∷ [], [], refl, (ap (λ y. y ∷ []) q, n), refl);
       new = (new, tt);
+      fits = tt;
       after = (let e : t ≡ at stage.Program b N P (M ++ (v, length O) ∷ []) O [] = cc in e) ∙ ap (λ y. at stage.Program b N P (M ++ (v, length O) ∷ []) y []) (sym (append-nil O));
     }
-    rest (w ∷ vs) n new g = by w vs (keyword_of w) refl n new g
+    rest (w ∷ vs) n new g = by w vs (keyword_of b.version w) refl n new g
 
 judged_ok : (o : Option ProgFault) (is p : List Instr) → judged o is ≡ Ok p → p ≡ is
 judged_ok None is p h = cc
@@ -273,26 +280,26 @@ inside_ok b N P M O (w ∷ ws) t low h = split (label_of w) refl h
     low_after : (p : List Instr) → AreBelow (length (P ++ p ∷ [])) N
     low_after p = subst (λ n. AreBelow n N) (sym (length-append P (p ∷ []))) low
 
-    by : (o : Option Keyword) → keyword_of w ≡ o → statement o (at stage.Program b N P M O []) ws ≡ Ok t → Inside b N P M O (w ∷ ws) t
+    by : (o : Option Keyword) → keyword_of b.version w ≡ o → statement o (at stage.Program b N P M O []) ws ≡ Ok t → Inside b N P M O (w ∷ ws) t
     by None e g = cc
     by (Some k.Header) e g = cc
     by (Some k.Row) e g = cc
     by (Some k.Txn) e g =
         let q = closing M O t (λ p. top stage.Choices b N (P ++ p ∷ [])) (λ u. open_line u ws) g in
-        inr (record { program = q.program; resolves = q.resolves; next = inl (rw (keyword_ok w k.Txn e) (txn_step stage.Choices b N (P ++ q.program ∷ []) ws t q.after)) })
-    by (Some (k.Instr o)) e g = inl (plain_line b N P M O o w ws t (keyword_ok w (k.Instr o) e) g)
+        inr (record { program = q.program; resolves = q.resolves; next = inl (rw (keyword_ok b.version w k.Txn e) (txn_step stage.Choices b N (P ++ q.program ∷ []) ws t q.after)) })
+    by (Some (k.Instr o)) e g = inl (plain_line b N P M O o w ws t (keyword_ok b.version w (k.Instr o) e) g)
     by (Some (k.Choice a)) e g =
         let q = closing M O t (λ p. top stage.Choices b N (P ++ p ∷ [])) (λ u. choice_line u a ws) g in
         let s = top stage.Rows b N (P ++ q.program ∷ []) in
         let made = choice_ok s t a ws (low_after q.program) (sym (choice_same b N (P ++ q.program ∷ []) a ws) ∙ q.after) in
-        inr (record { program = q.program; resolves = q.resolves; next = inr (inl (a, ws, first w (actor_word a) ws (keyword_ok w (k.Choice a) e), made)) })
+        inr (record { program = q.program; resolves = q.resolves; next = inr (inl (a, ws, first w (actor_word a) ws (keyword_ok b.version w (k.Choice a) e), made)) })
     by (Some k.End) e g =
         let q = closing M O t (λ p. top stage.Choices b N (P ++ p ∷ [])) (λ u. end_line u ws) g in
         let s = top stage.Rows b N (P ++ q.program ∷ []) in
-        inr (record { program = q.program; resolves = q.resolves; next = inr (inr (rw (keyword_ok w k.End e) (end_step s ws t (end_same b N (P ++ q.program ∷ []) ws t q.after)))) })
+        inr (record { program = q.program; resolves = q.resolves; next = inr (inr (rw (keyword_ok b.version w k.End e) (end_step s ws t (end_same b N (P ++ q.program ∷ []) ws t q.after)))) })
 
     split : (o : Option (List ℕ)) → label_of w ≡ o → led_by o (at stage.Program b N P M O []) w ws ≡ Ok t → Inside b N P M O (w ∷ ws) t
-    split None e g = by (keyword_of w) refl g
+    split None e g = by (keyword_of b.version w) refl g
     split (Some v) e g = inl (label_step b N P M O v w ws t (label_ok w v e) g)
 
 -- ---- a line below a choice
@@ -302,15 +309,15 @@ pub below_ok : (b : Base) (N : List Mark) (P : List (List Instr)) (C : List Choi
 below_ok b N P C [] t low h = cc
 below_ok b N P C (w ∷ ws) t low h = split (label_of w) h
   where
-    by : (o : Option Keyword) → keyword_of w ≡ o → statement o (at stage.Choices b N P [] [] C) ws ≡ Ok t → Below (at stage.Choices b N P [] [] C) (w ∷ ws) t
+    by : (o : Option Keyword) → keyword_of b.version w ≡ o → statement o (at stage.Choices b N P [] [] C) ws ≡ Ok t → Below (at stage.Choices b N P [] [] C) (w ∷ ws) t
     by None e g = cc
     by (Some k.Header) e g = cc
     by (Some k.Row) e g = cc
     by (Some k.Txn) e g = cc
     by (Some (k.Instr o)) e g = cc
-    by (Some (k.Choice a)) e g = inl (a, ws, first w (actor_word a) ws (keyword_ok w (k.Choice a) e), choice_ok (at stage.Choices b N P [] [] C) t a ws low g)
-    by (Some k.End) e g = inr (rw (keyword_ok w k.End e) (end_step (at stage.Choices b N P [] [] C) ws t g))
+    by (Some (k.Choice a)) e g = inl (a, ws, first w (actor_word a) ws (keyword_ok b.version w (k.Choice a) e), choice_ok (at stage.Choices b N P [] [] C) t a ws low g)
+    by (Some k.End) e g = inr (rw (keyword_ok b.version w k.End e) (end_step (at stage.Choices b N P [] [] C) ws t g))
 
     split : (o : Option (List ℕ)) → led_by o (at stage.Choices b N P [] [] C) w ws ≡ Ok t → Below (at stage.Choices b N P [] [] C) (w ∷ ws) t
-    split None g = by (keyword_of w) refl g
+    split None g = by (keyword_of b.version w) refl g
     split (Some v) g = no_label (is_name v) t g

@@ -18,9 +18,9 @@ use Rattle.zy_isa.specs.declared.operation.Parts.TheVariants.{Number, Pair, Jump
 use Rattle.zy_isa.specs.declared.choice.Choice.{Choice}
 use Rattle.zy_isa.specs.declared.choice.Choice.TheVariants as choice
 use Rattle.zy_isa.specs.Words.{is_word, number_of, has_words}
-use Rattle.zy_isa.specs.Operations.{mnemonic, instr_with, parts_of}
+use Rattle.zy_isa.specs.Operations.{is_of, mnemonic, instr_with, operation_of, parts_of}
 use Rattle.zy_isa.specs.Canon.{reg_text, node_text}
-use Rattle.zy_isa.specs.Programs.{PartsFit, HasValue, Values}
+use Rattle.zy_isa.specs.Programs.{PartsFit, HasValue, IsKnown, Values}
 use Rattle.zy_isa.specs.Choices.{names_below, actor_at}
 use Rattle.zy_isa.specs.Scenario.{opening_pages_for}
 use Rattle.zy_isa.specs.Text as m
@@ -64,14 +64,8 @@ register_gives R7 = refl
 two_gives : (a b : Reg) → two (reg_text a) (reg_text b) ≡ Ok (a, b)
 two_gives a b = rw (register_gives a, register_gives b) refl
 
-abbrev pub operation_in : Parts → Operation
-operation_in (Number o a n) = op.Number o
-operation_in (Pair o a b) = op.Pair o
-operation_in (Jump o a b n) = op.Jump o
-operation_in (Lone o) = op.Lone o
-
 abbrev pub op_of : Instr → Operation
-op_of i = operation_in (parts_of i)
+op_of i = operation_of (parts_of i)
 
 letter_no_at : (b : ℕ) → is_letter b ≡ true → (b == 64) ≡ false
 letter_no_at b h = grind (arith, tests)
@@ -102,7 +96,7 @@ whole_given labels o rest i e = record { pending = whole i; given = e; resolves 
 abbrev Gives : List Mark → Operation → List (List ℕ) → Instr → Type 0
 Gives labels o ws i = (rest : List (List ℕ)) × (ws ≡ mnemonic o ∷ rest) × Given labels o rest i
 
-parts_give : (labels : List Mark) (p : Parts) (ws : List (List ℕ)) → SpellsParts labels p ws → PartsFit p → Gives labels (operation_in p) ws (instr_with p)
+parts_give : (labels : List Mark) (p : Parts) (ws : List (List ℕ)) → SpellsParts labels p ws → PartsFit p → Gives labels (operation_of p) ws (instr_with p)
 parts_give labels (Number o a n) ws h v = (reg_text a ∷ h.0 ∷ [], h.1, whole_given labels (op.Number o) _ _ (rw (register_gives a, number_in_gives h.0 0 4294967295 n h.2 (omega arith) (omega arith)) refl))
 parts_give labels (Pair o a b) ws h v = (reg_text a ∷ reg_text b ∷ [], h, whole_given labels (op.Pair o) _ _ (rw (two_gives a b) refl))
 parts_give labels (Jump o a b n) ws h v = (reg_text a ∷ reg_text b ∷ h.0 ∷ [], h.1, target_gives labels o a b n h.0 h.2 v)
@@ -115,13 +109,13 @@ instr_line_gives : (s : Seen) (o : Operation) (rest : List (List ℕ)) (p : Pend
 instr_line_gives s o rest p e few = rw (e, not_below (length s.instrs) 64 few) refl
 
 -- a line of an open program that begins with an operation
-op_line : (o : Operation) (b : Base) (N : List Mark) (P : List (List Instr)) (M : List Mark) (O : List Pending) (rest : List (List ℕ))
+op_line : (o : Operation) (b : Base) (N : List Mark) (P : List (List Instr)) (M : List Mark) (O : List Pending) (rest : List (List ℕ)) → is_of b.version o ≡ true
     → step (at stage.Program b N P M O []) (mnemonic o ∷ rest) ≡ instr_line (at stage.Program b N P M O []) o rest
-op_line o b N P M O rest = rw (no_label o, named_back o) refl
+op_line o b N P M O rest known = rw (no_label o, named_back o, known) refl
 
 -- what stands behind a label
-behind_op : (o : Operation) (s : Seen) (rest : List (List ℕ)) → behind_label s (mnemonic o ∷ rest) ≡ instr_line s o rest
-behind_op o s rest = rw (named_back o) refl
+behind_op : (o : Operation) (s : Seen) (rest : List (List ℕ)) → is_of s.version o ≡ true → behind_label s (mnemonic o ∷ rest) ≡ instr_line s o rest
+behind_op o s rest known = rw (named_back o, known) refl
 
 -- a line of an open program that begins with a new label
 label_gives : (b : Base) (N : List Mark) (P : List (List Instr)) (M : List Mark) (O : List Pending) (name : List ℕ) (ws : List (List ℕ)) → is_name name ≡ true → place name M ≡ None
@@ -140,23 +134,23 @@ alone_resolved : (labels : List Mark) (p : Pending) (i : Instr) → resolved lab
 alone_resolved labels p i e = rw e refl
 
 pub code_gives : (labels : List Mark) (b : Base) (N : List Mark) (P : List (List Instr)) (M : List Mark) (O : List Pending) (v : Option (List ℕ)) (i : Option Instr) (l front back : List (List ℕ))
-    → l ≡ front ++ back → SpellsLabel v front → MaySpell labels i back → has_words l ≡ true → Values (instr_in i) → AreNew M (label_at v (length O)) → length O + length (instr_in i) ≤ 64
+    → l ≡ front ++ back → SpellsLabel v front → MaySpell labels i back → has_words l ≡ true → Values (instr_in i) → IsKnown b.version (instr_in i) → AreNew M (label_at v (length O)) → length O + length (instr_in i) ≤ 64
     → Codes labels b N P M O l v i
-code_gives labels b N P M O None None l front back e f g some values new few = absurd (no_words (e ∙ rw (f, g) refl) some)
+code_gives labels b N P M O None None l front back e f g some values known new few = absurd (no_words (e ∙ rw (f, g) refl) some)
   where
     no_words : l ≡ [] → has_words l ≡ true → ⊥
     no_words q h = let x : has_words [] ≡ true = rw q at h in (cc)
-code_gives labels b N P M O None (Some i) l front back e f g some values new few =
+code_gives labels b N P M O None (Some i) l front back e f g some values known new few =
     let d = instr_gives labels i back g values.0 in
     let line : l ≡ mnemonic (op_of i) ∷ d.0 = e ∙ ap (λ x. x ++ back) f ∙ d.1 in
     record {
       more = d.2.pending ∷ [];
       resolves = alone_resolved labels d.2.pending i d.2.resolves;
       count = refl;
-      same = ap (step (at stage.Program b N P M O [])) line ∙ op_line (op_of i) b N P M O d.0 ∙ instr_line_gives (at stage.Program b N P M O []) (op_of i) d.0 d.2.pending d.2.given (omega (arith, few))
+      same = ap (step (at stage.Program b N P M O [])) line ∙ op_line (op_of i) b N P M O d.0 known.0 ∙ instr_line_gives (at stage.Program b N P M O []) (op_of i) d.0 d.2.pending d.2.given (omega (arith, few))
           ∙ ap (λ x. Ok (at stage.Program b N P x (O ++ d.2.pending ∷ []) [])) (sym (append-nil M));
     }
-code_gives labels b N P M O (Some name) None l front back e f g some values new few =
+code_gives labels b N P M O (Some name) None l front back e f g some values known new few =
     let line : l ≡ (name ++ 58 ∷ []) ∷ [] = e ∙ rw (f.0, g) refl in
     record {
       more = [];
@@ -164,7 +158,7 @@ code_gives labels b N P M O (Some name) None l front back e f g some values new 
       count = refl;
       same = ap (step (at stage.Program b N P M O [])) line ∙ label_gives b N P M O name [] f.1 new.0 ∙ ap (λ x. Ok (at stage.Program b N P (M ++ (name, length O) ∷ []) x [])) (sym (append-nil O));
     }
-code_gives labels b N P M O (Some name) (Some i) l front back e f g some values new few =
+code_gives labels b N P M O (Some name) (Some i) l front back e f g some values known new few =
     let d = instr_gives labels i back g values.0 in
     let line : l ≡ (name ++ 58 ∷ []) ∷ mnemonic (op_of i) ∷ d.0 = e ∙ ap (λ x. x ++ back) f.0 ∙ ap (λ x. (name ++ 58 ∷ []) ∷ x) d.1 in
     let s = at stage.Program b N P (M ++ (name, length O) ∷ []) O [] in
@@ -172,7 +166,7 @@ code_gives labels b N P M O (Some name) (Some i) l front back e f g some values 
       more = d.2.pending ∷ [];
       resolves = alone_resolved labels d.2.pending i d.2.resolves;
       count = refl;
-      same = ap (step (at stage.Program b N P M O [])) line ∙ label_gives b N P M O name (mnemonic (op_of i) ∷ d.0) f.1 new.0 ∙ behind_op (op_of i) s d.0
+      same = ap (step (at stage.Program b N P M O [])) line ∙ label_gives b N P M O name (mnemonic (op_of i) ∷ d.0) f.1 new.0 ∙ behind_op (op_of i) s d.0 known.0
           ∙ instr_line_gives s (op_of i) d.0 d.2.pending d.2.given (omega (arith, few));
     }
 

@@ -6,6 +6,7 @@ pub mod SpellLemmas
 pub mod DraftLemmas
 pub mod FoundLemmas
 pub mod FoundPrograms
+pub mod FitLemmas
 pub mod FoundSteps
 pub mod GivesLemmas
 pub mod OnlyLemmas

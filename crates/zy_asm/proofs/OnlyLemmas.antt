@@ -19,9 +19,9 @@ use Rattle.zy_isa.specs.declared.choice.Choice.TheVariants as choice
 use Rattle.zy_isa.specs.Words.{words_of, lines_of, number_of, has_words, lines_with_words}
 use Rattle.zy_isa.specs.Canon.{node_text, rule_text}
 use Rattle.zy_isa.specs.Rows.{Rising, RowsFit}
-use Rattle.zy_isa.specs.Programs.{prog_fault, IsProgram, Values}
+use Rattle.zy_isa.specs.Programs.{prog_fault, IsKnown, IsProgram, Values}
 use Rattle.zy_isa.specs.Choices.{names_below, actor_at}
-use Rattle.zy_isa.specs.Scenario.{Scenario, IsScenario, ArePrograms, AreNamed, opening_pages_for, opening_rows}
+use Rattle.zy_isa.specs.Scenario.{Scenario, IsScenario, ArePrograms, AreKnown, AreNamed, opening_pages_for, opening_rows}
 use Rattle.zy_isa.specs.Text as m
 use Rattle.zy_isa.specs.Names.{Mark, is_name, place, AreNew}
 use Rattle.zy_isa.specs.Text.{Code, Written, Times, Draft, Statement, Spells, SpellEach, SpellsChoice, SpellsTimes, instr_in, instrs_of, label_at, labels_of, name_in, names_of, Headed, Labelled, IsDraftOf, program_statements, choice_statements, repeated, statements, Means}
@@ -123,6 +123,10 @@ values_first : (i : Option Instr) (is : List Instr) → Values (instr_in i ++ is
 values_first None is h = (tt, h)
 values_first (Some i) is h = ((h.0, tt), h.1)
 
+known_first : (version : ℕ) (i : Option Instr) (is : List Instr) → IsKnown version (instr_in i ++ is) → IsKnown version (instr_in i) × IsKnown version is
+known_first version None is h = (tt, h)
+known_first version (Some i) is h = ((h.0, tt), h.1)
+
 all_resolved-append : (labels : List Mark) (O Q : List Pending) (I J : List Instr) → all_resolved labels O ≡ Ok I → all_resolved labels Q ≡ Ok J → all_resolved labels (O ++ Q) ≡ Ok (I ++ J)
 all_resolved-append labels [] Q I J e f = let q : I ≡ [] = cc in rw q f
 all_resolved-append labels (p ∷ O) Q I J e f =
@@ -138,25 +142,26 @@ record Coded (labels : List Mark) (xs : List Statement) (ls : List (List (List �
   passed : Passed xs ls (at stage.Program b N P M O []) (at stage.Program b N P (M ++ labels_of (length O) codes) instrs [])
 
 only_codes : (labels : List Mark) (cs : List Code) (xs : List Statement) (ls : List (List (List ℕ))) (b : Base) (N : List Mark) (P : List (List Instr)) (M : List Mark) (O : List Pending) (I : List Instr)
-    → SpellEach (map (m.code labels) cs ++ xs) ls → Worded ls → Values (instrs_of cs) → AreNew M (labels_of (length O) cs) → all_resolved labels O ≡ Ok I → length O + length (instrs_of cs) ≤ 64
+    → SpellEach (map (m.code labels) cs ++ xs) ls → Worded ls → Values (instrs_of cs) → IsKnown b.version (instrs_of cs) → AreNew M (labels_of (length O) cs) → all_resolved labels O ≡ Ok I → length O + length (instrs_of cs) ≤ 64
     → Coded labels xs ls b N P M O cs I
-only_codes labels [] xs ls b N P M O I h w v new e few = record {
+only_codes labels [] xs ls b N P M O I h w v known new e few = record {
   instrs = O;
   resolves = e ∙ ap Ok (sym (append-nil I));
   passed = record { rest = ls; spelled = h; worded = w; same = ap (λ (x : List Mark). fold_lines (at stage.Program b N P x O []) ls) (sym (append-nil M)) };
 }
-only_codes labels (c ∷ cs) xs [] b N P M O I h w v new e few = absurd h
-only_codes labels (c ∷ cs) xs (l ∷ ls) b N P M O I h w v new e few =
+only_codes labels (c ∷ cs) xs [] b N P M O I h w v known new e few = absurd h
+only_codes labels (c ∷ cs) xs (l ∷ ls) b N P M O I h w v known new e few =
     let k = length O in
     let ii = instr_in c.instr in
     let mk = label_at c.label k in
     let n = label_first M c.label k (labels_of (k + length ii) cs) new in
     let value = values_first c.instr (instrs_of cs) v in
+    let parts = known_first b.version c.instr (instrs_of cs) known in
     let sum : length (ii ++ instrs_of cs) ≡ length ii + length (instrs_of cs) = length-append ii (instrs_of cs) in
-    let g = code_gives labels b N P M O c.label c.instr l h.0.0 h.0.1 h.0.2 h.0.3 h.0.4 w.0 value.0 n.0 (omega (arith, few, sum)) in
+    let g = code_gives labels b N P M O c.label c.instr l h.0.0 h.0.1 h.0.2 h.0.3 h.0.4 w.0 value.0 parts.0 n.0 (omega (arith, few, sum)) in
     let len : length (O ++ g.more) ≡ k + length ii = length-append O g.more ∙ ap (λ x. k + x) g.count in
     let new_rest : AreNew (M ++ mk) (labels_of (length (O ++ g.more)) cs) = subst (λ x. AreNew (M ++ mk) (labels_of x cs)) (sym len) n.1 in
-    let r = only_codes labels cs xs ls b N P (M ++ mk) (O ++ g.more) (I ++ ii) h.1 w.1 value.1 new_rest (all_resolved-append labels O g.more I ii e g.resolves) (omega (arith, few, sum, len)) in
+    let r = only_codes labels cs xs ls b N P (M ++ mk) (O ++ g.more) (I ++ ii) h.1 w.1 value.1 parts.1 new_rest (all_resolved-append labels O g.more I ii e g.resolves) (omega (arith, few, sum, len)) in
     let marks : M ++ mk ++ labels_of (length (O ++ g.more)) cs ≡ M ++ (mk ++ labels_of (k + length ii) cs) = ap (λ x. M ++ mk ++ labels_of x cs) len ∙ append_assoc M mk (labels_of (k + length ii) cs) in
     record {
       instrs = r.instrs;
@@ -243,14 +248,14 @@ top_actor b N P actor.A ws = refl
 top_actor b N P actor.B ws = refl
 
 only_programs : (ps : List Written) (cs : List Times) (ls : List (List (List ℕ))) (b : Base) (N : List Mark) (k : ℕ) (P : List (List Instr)) → k ≡ length P
-    → SpellEach (following N k ps cs) ls → Worded ls → Headed k ps → AreNew N (names_of k ps) → Labelled ps → ArePrograms (bodies ps)
+    → SpellEach (following N k ps cs) ls → Worded ls → Headed k ps → AreNew N (names_of k ps) → Labelled ps → ArePrograms (bodies ps) → AreKnown b.version (bodies ps)
     → AreNamed (length (P ++ bodies ps)) (repeated cs) → length (P ++ bodies ps) ≤ 64 → length (repeated cs) ≤ 4096
     → fold_lines (top stage.Rows b N P) ls ≡ Ok (at stage.Done b (N ++ names_of k ps) (P ++ bodies ps) [] [] (repeated cs))
-only_programs [] cs ls b N k P e h w heads new labels fit named few room =
+only_programs [] cs ls b N k P e h w heads new labels fit known named few room =
     only_choices cs ls stage.Rows b N P [] (top_actor b N P) refl (subst (λ (x : List Mark). SpellEach (choice_statements x cs) ls) (append-nil N) h) (rw append-nil at named) (omega (arith, room))
     ∙ ap (λ (x : List Mark). Ok (at stage.Done b x P [] [] (repeated cs))) (sym (append-nil N)) ∙ ap (λ (x : List (List Instr)). Ok (at stage.Done b (N ++ []) x [] [] (repeated cs))) (sym (append-nil P))
-only_programs (q ∷ ps) cs [] b N k P e h w heads new labels fit named few room = absurd h
-only_programs (q ∷ ps) cs (l ∷ ls) b N k P e h w heads new labels fit named few room =
+only_programs (q ∷ ps) cs [] b N k P e h w heads new labels fit known named few room = absurd h
+only_programs (q ∷ ps) cs (l ∷ ls) b N k P e h w heads new labels fit known named few room =
     let I = instrs_of q.body in
     let L = labels_of 0 q.body in
     let one = name_in q.head k in
@@ -261,11 +266,11 @@ only_programs (q ∷ ps) cs (l ∷ ls) b N k P e h w heads new labels fit named 
     let names : N ++ (one ++ names_of (k + 1) ps) ≡ N ++ one ++ names_of (k + 1) ps = sym (append_assoc N one (names_of (k + 1) ps)) in
     let lines = subst (λ xs. SpellEach xs ls) (append_assoc (map (m.code L) q.body) (flat_map program_statements ps) (choice_statements (N ++ (one ++ names_of (k + 1) ps)) cs)) h.1 in
     let lines2 = subst (λ (x : List Mark). SpellEach (map (m.code L) q.body ++ (flat_map program_statements ps ++ choice_statements x cs)) ls) names lines in
-    let c = only_codes L q.body (following (N ++ one) (k + 1) ps cs) ls b (N ++ one) P [] [] [] lines2 w.1 fit.0.values labels.0 refl (omega (arith, fit.0.few)) in
+    let c = only_codes L q.body (following (N ++ one) (k + 1) ps cs) ls b (N ++ one) P [] [] [] lines2 w.1 fit.0.values known.0 labels.0 refl (omega (arith, fit.0.few)) in
     let close = only_close ps cs (N ++ one ++ names_of (k + 1) ps) c.passed.rest b (N ++ one) P L c.instrs I c.passed.spelled (program_gives L c.instrs I c.resolves fit.0) in
     let all : P ++ I ∷ [] ++ bodies ps ≡ P ++ (I ∷ bodies ps) = append_assoc P (I ∷ []) (bodies ps) in
     let count : k + 1 ≡ length (P ++ I ∷ []) = omega (arith, e, length-append P (I ∷ [])) in
-    let rest = only_programs ps cs c.passed.rest b (N ++ one) (k + 1) (P ++ I ∷ []) count c.passed.spelled c.passed.worded heads.1 n.1 labels.1 fit.1
+    let rest = only_programs ps cs c.passed.rest b (N ++ one) (k + 1) (P ++ I ∷ []) count c.passed.spelled c.passed.worded heads.1 n.1 labels.1 fit.1 known.1
     (subst (λ (x : List (List Instr)). AreNamed (length x) (repeated cs)) (sym all) named) (subst (λ (x : List (List Instr)). length x ≤ 64) (sym all) few) room in
     rw first (c.passed.same ∙ close ∙ rest ∙ ap (λ (x : List Mark). Ok (at stage.Done b x (P ++ I ∷ [] ++ bodies ps) [] [] (repeated cs))) (sym names) ∙ ap (λ (x : List (List Instr)). Ok (at stage.Done b (N ++ (one ++ names_of (k + 1) ps)) x [] [] (repeated cs))) all)
   where
@@ -329,11 +334,12 @@ only_body s d ls fits drafts w h =
     let b = base s.version s.cap s.pages s.rule in
     let r = only_rows s.rows (following [] 0 d.programs d.choices) ls (b []) 0 fits.cap_least h w fits.rows_rise fits.rows_fit (λ key h. refl) (omega (arith, fits.few_rows)) (subst (λ k. opening_pages_for s.cap k ≤ s.pages) (sym z) fits.few_opening_pages) in
     let programs : ArePrograms (bodies d.programs) = subst ArePrograms (sym drafts.programs) fits.programs in
+    let known : AreKnown s.version (bodies d.programs) = subst (AreKnown s.version) (sym drafts.programs) fits.instrs_known in
     let named : AreNamed (length (bodies d.programs)) (repeated d.choices) =
     subst (λ (x : List (List Instr)). AreNamed (length x) (repeated d.choices)) (sym drafts.programs) (subst (AreNamed (length s.programs)) (sym drafts.choices) fits.choices_named) in
     let few : length (bodies d.programs) ≤ 64 = subst (λ (x : List (List Instr)). length x ≤ 64) (sym drafts.programs) fits.few_programs in
     let room : length (repeated d.choices) ≤ 4096 = subst (λ (x : List Choice). length x ≤ 4096) (sym drafts.choices) fits.few_choices in
-    r.same ∙ only_programs d.programs d.choices r.rest (b s.rows) [] 0 [] refl r.spelled r.worded drafts.headed drafts.names_new drafts.labelled programs named few room
+    r.same ∙ only_programs d.programs d.choices r.rest (b s.rows) [] 0 [] refl r.spelled r.worded drafts.headed drafts.names_new drafts.labelled programs known named few room
     ∙ ap (λ (x : List (List Instr)). Ok (at stage.Done (b s.rows) (names_of 0 d.programs) x [] [] (repeated d.choices))) drafts.programs
     ∙ ap (λ (x : List Choice). Ok (at stage.Done (b s.rows) (names_of 0 d.programs) s.programs [] [] x)) drafts.choices
 

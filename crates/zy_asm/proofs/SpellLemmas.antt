@@ -21,7 +21,7 @@ use Rattle.zy_isa.specs.declared.choice.Choice.{Choice}
 use Rattle.zy_isa.specs.declared.choice.Choice.TheVariants as choice
 use Rattle.zy_isa.specs.Words.{number_of}
 use Rattle.zy_isa.specs.Registers.{registers}
-use Rattle.zy_isa.specs.Operations.{mnemonic, named, instr_with}
+use Rattle.zy_isa.specs.Operations.{has, is_of, mnemonic, named_in, named, instr_with, operation_of, parts_of}
 use Rattle.zy_isa.specs.Canon.{reg_text, node_text}
 use Rattle.zy_isa.specs.Choices.{names_below, actor_at}
 use Rattle.zy_isa.specs.Text as m
@@ -42,7 +42,7 @@ use Rattle.zy_asm.specs.Pending.{Pending, whole, jump, resolved}
 use Rattle.zy_asm.specs.Instructions.{register_of, two, pair_of, with_number, jump_to, with_target, alone, instr_of}
 use Rattle.zy_asm.specs.Choices.{actor_of, client_action, node_action, action_of, chosen, numbered, transaction, are_times, times_of}
 use Rattle.zy_asm.specs.Reading.{Seen, keyword_of, row_of, repeat_choice, repeat_line, action_line, choice_line, own_number, head_line}
-use Rattle.zy_isa.proofs.OperationLemmas.{found_passes, named_is, each, parts_again}
+use Rattle.zy_isa.proofs.OperationLemmas.{found_in, found_passes, named_is, each, parts_again, same_operation}
 use Rattle.zy_isa.proofs.ResultLemmas.{bind_ok, if_ok, if_err, ok_or_ok, chosen_by, first_or, in_range, not_over, same}
 use borrow.Author.Tests.{eqb-true, tests}
 
@@ -80,38 +80,41 @@ no_label o = none (label_of (mnemonic o)) (each (λ x. is_none (label_of (mnemon
     none (Some w) h = cc
 
 -- what a keyword says of its word
-abbrev pub IsWordOf : Keyword → List ℕ → Type 0
-IsWordOf k.Header w = Unit {0}
-IsWordOf k.Row w = w ≡ codes "row"
-IsWordOf k.Txn w = w ≡ codes "txn"
-IsWordOf (k.Instr o) w = w ≡ mnemonic o
-IsWordOf (k.Choice a) w = w ≡ actor_word a
-IsWordOf k.End w = w ≡ codes "end"
+abbrev pub IsWordOf : ℕ → Keyword → List ℕ → Type 0
+IsWordOf version k.Header w = Unit {0}
+IsWordOf version k.Row w = w ≡ codes "row"
+IsWordOf version k.Txn w = w ≡ codes "txn"
+IsWordOf version (k.Instr o) w = (w ≡ mnemonic o) × (is_of version o ≡ true)
+IsWordOf version (k.Choice a) w = w ≡ actor_word a
+IsWordOf version k.End w = w ≡ codes "end"
 
-by_key : (w : List ℕ) (a key : Keyword) → IsWordOf a w → a ≡ key → IsWordOf key w
-by_key w a key h e = rw e at h
+by_key : (version : ℕ) (w : List ℕ) (a key : Keyword) → IsWordOf version a w → a ≡ key → IsWordOf version key w
+by_key version w a key h e = rw e at h
 
-some_key : (w : List ℕ) (a key : Keyword) → IsWordOf a w → Some a ≡ Some key → IsWordOf key w
-some_key w a key h e = let q : a ≡ key = cc in by_key w a key h q
+some_key : (version : ℕ) (w : List ℕ) (a key : Keyword) → IsWordOf version a w → Some a ≡ Some key → IsWordOf version key w
+some_key version w a key h e = let q : a ≡ key = cc in by_key version w a key h q
 
-pub keyword_ok : (w : List ℕ) (key : Keyword) → keyword_of w ≡ Some key → IsWordOf key w
-keyword_ok w key h =
-    elim (first_or k.Instr (named w) _ key h) [
-      | inl a ↦ by_key w (k.Instr a.0) key (named_is w a.0 a.1) a.2
+operation_ok : (version : ℕ) (w : List ℕ) (o : Operation) → named_in version w ≡ Some o → IsWordOf version (k.Instr o) w
+operation_ok version w o h = let f = found_in version (named w) o h in (named_is w o f.0, f.1)
+
+pub keyword_ok : (version : ℕ) (w : List ℕ) (key : Keyword) → keyword_of version w ≡ Some key → IsWordOf version key w
+keyword_ok version w key h =
+    elim (first_or k.Instr (named_in version w) _ key h) [
+      | inl a ↦ by_key version w (k.Instr a.0) key (operation_ok version w a.0 a.1) a.2
       | inr a ↦
           elim (first_or k.Choice (actor_of w) _ key a) [
-            | inl b ↦ by_key w (k.Choice b.0) key (actor_ok w b.0 b.1) b.2
+            | inl b ↦ by_key version w (k.Choice b.0) key (actor_ok w b.0 b.1) b.2
             | inr b ↦
                 elim (chosen_by (bytes_eq w (codes "row")) _ _ _ b) [
-                  | inl d ↦ some_key w k.Row key (same w (codes "row") d.0) d.1
+                  | inl d ↦ some_key version w k.Row key (same w (codes "row") d.0) d.1
                   | inr d ↦
                       elim (chosen_by (bytes_eq w (codes "txn")) _ _ _ d.1) [
-                        | inl e ↦ some_key w k.Txn key (same w (codes "txn") e.0) e.1
+                        | inl e ↦ some_key version w k.Txn key (same w (codes "txn") e.0) e.1
                         | inr e ↦
                             elim (chosen_by (bytes_eq w (codes "end")) _ _ _ e.1) [
-                              | inl f ↦ some_key w k.End key (same w (codes "end") f.0) f.1
+                              | inl f ↦ some_key version w k.End key (same w (codes "end") f.0) f.1
                               | inr f ↦
-                                  elim (chosen_by (bytes_eq w (codes "zephyr") || bytes_eq w (codes "cap") || bytes_eq w (codes "pages") || bytes_eq w (codes "rule")) _ _ _ f.1) [ inl g ↦ some_key w k.Header key tt g.1 | inr g ↦ absurd (nothing key g.1) ]
+                                  elim (chosen_by (bytes_eq w (codes "zephyr") || bytes_eq w (codes "cap") || bytes_eq w (codes "pages") || bytes_eq w (codes "rule")) _ _ _ f.1) [ inl g ↦ some_key version w k.Header key tt g.1 | inr g ↦ absurd (nothing key g.1) ]
                             ]
                       ]
                 ]

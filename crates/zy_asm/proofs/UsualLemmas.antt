@@ -5,7 +5,7 @@ use Rattle.zy_isa.specs.declared.node.Actor.TheVariants as actor
 use Rattle.zy_isa.specs.declared.instr.Instr.{Instr}
 use Rattle.zy_isa.specs.declared.operation.Operation.{Operation}
 use Rattle.zy_isa.specs.declared.choice.Choice.{Choice}
-use Rattle.zy_isa.specs.Operations.{mnemonic, named}
+use Rattle.zy_isa.specs.Operations.{is_of, mnemonic, named, named_in}
 use Rattle.zy_asm.specs.declared.choices.Action.TheVariants.{Txn, Plain}
 use Rattle.zy_asm.specs.declared.choices.TxnAction.{TxnAction}
 use Rattle.zy_asm.specs.declared.state.Stage.TheVariants as stage
@@ -14,7 +14,7 @@ use Rattle.zy_asm.specs.Pending.{whole}
 use Rattle.zy_asm.specs.Instructions.{instr_of}
 use Rattle.zy_asm.specs.Choices.{actor_of, action_of, chosen, numbered}
 use Rattle.zy_asm.specs.Reading.{Seen, line_step, choice_line, repeat_choice, instr_line}
-use Rattle.zy_isa.proofs.OperationLemmas.{named_is, named_back}
+use Rattle.zy_isa.proofs.OperationLemmas.{found_in, named_is, named_back}
 use Rattle.zy_isa.proofs.ResultLemmas.{over_not, not_below}
 use Rattle.zy_asm.proofs.SpellLemmas.{no_label, actor_word, actor_ok}
 
@@ -52,15 +52,16 @@ plain_taken s w v o c e few h f =
 
 -- ---- an instruction
 
-by_operation : (u : Seen) (o : Operation) (vs : List (List ℕ)) → line_step (record u { stage = stage.Program }) (mnemonic o ∷ vs) ≡ instr_line (record u { stage = stage.Program }) o vs
-by_operation u o vs = rw (no_label o, named_back o) refl
+by_operation : (u : Seen) (o : Operation) (vs : List (List ℕ)) → is_of u.version o ≡ true → line_step (record u { stage = stage.Program }) (mnemonic o ∷ vs) ≡ instr_line (record u { stage = stage.Program }) o vs
+by_operation u o vs known = rw (no_label o, named_back o, known) refl
 
 one_instr : (u : Seen) (o : Operation) (vs : List (List ℕ)) (i : Instr) → length u.instrs < 64 → instr_of o vs ≡ Ok (whole i) → instr_line u o vs ≡ Ok (record u { instrs = u.instrs ++ whole i ∷ [] })
 one_instr u o vs i few h = rw (h, not_below (length u.instrs) 64 few) refl
 
-pub instr_taken : (s : Seen) (w v t : List ℕ) (o : Operation) (i : Instr) → s.stage ≡ stage.Program → length s.instrs < 64 → named w ≡ Some o
+pub instr_taken : (s : Seen) (w v t : List ℕ) (o : Operation) (i : Instr) → s.stage ≡ stage.Program → length s.instrs < 64 → named_in s.version w ≡ Some o
     → instr_of o (v ∷ t ∷ []) ≡ Ok (whole i) → line_step s (w ∷ v ∷ t ∷ []) ≡ Ok (record s { instrs = s.instrs ++ whole i ∷ [] })
 instr_taken s w v t o i e few h f =
     let same : s ≡ record s { stage = stage.Program } = ap (λ x. record s { stage = x }) e in
-    let taken = ap (λ x. line_step (record s { stage = stage.Program }) (x ∷ v ∷ t ∷ [])) (named_is w o h) ∙ by_operation s o (v ∷ t ∷ []) ∙ one_instr (record s { stage = stage.Program }) o (v ∷ t ∷ []) i few f in
+    let there = found_in s.version (named w) o h in
+    let taken = ap (λ x. line_step (record s { stage = stage.Program }) (x ∷ v ∷ t ∷ [])) (named_is w o there.0) ∙ by_operation s o (v ∷ t ∷ []) there.1 ∙ one_instr (record s { stage = stage.Program }) o (v ∷ t ∷ []) i few f in
     subst (λ (x : Seen). line_step x (w ∷ v ∷ t ∷ []) ≡ Ok (record x { instrs = x.instrs ++ whole i ∷ [] })) (sym same) taken

@@ -9,7 +9,7 @@ use Rattle.zy_isa.specs.declared.row.Row.{Row}
 use Rattle.zy_isa.specs.declared.instr.Instr.{Instr}
 use Rattle.zy_isa.specs.declared.operation.Operation.{Operation}
 use Rattle.zy_isa.specs.declared.choice.Choice.{Choice}
-use Rattle.zy_isa.specs.Operations.{named}
+use Rattle.zy_isa.specs.Operations.{named_in}
 use Rattle.zy_isa.specs.Words.{lines_of, words_of, number_of}
 use Rattle.zy_isa.specs.Rows.{last_row, is_low}
 use Rattle.zy_isa.specs.Scenario.{opening_pages_for}
@@ -64,10 +64,10 @@ seen r = record {
   choices = r.choices.items;
 }
 
--- the first word of a statement below the header
-abbrev pub keyword_of : List ℕ → Option Keyword
-keyword_of w =
-    option_or (option_map k.Instr (named w)) (
+-- the first word of a statement below the header of a version
+abbrev pub keyword_of : ℕ → List ℕ → Option Keyword
+keyword_of version w =
+    option_or (option_map k.Instr (named_in version w)) (
     option_or (option_map k.Choice (actor_of w)) (
     if bytes_eq w (codes "row") then Some k.Row else
     if bytes_eq w (codes "txn") then Some k.Txn else
@@ -164,7 +164,7 @@ labelled _ s ws = Err kinds.Word
 
 abbrev pub behind_label : Seen → List (List ℕ) → Result Seen AsmKind
 behind_label s [] = Ok s
-behind_label s (w ∷ ws) = labelled (keyword_of w) s ws
+behind_label s (w ∷ ws) = labelled (keyword_of s.version w) s ws
 
 abbrev pub label_at : Stage → Seen → List ℕ → List (List ℕ) → Result Seen AsmKind
 label_at Program s name ws = note_label s name >>= λ u. behind_label u ws
@@ -254,7 +254,7 @@ statement (Some k.End) s ws = closed s >>= λ u. end_line u ws
 -- a line that a label begins, or one that its keyword tells
 abbrev pub led_by : Option (List ℕ) → Seen → List ℕ → List (List ℕ) → Result Seen AsmKind
 led_by (Some name) s w ws = label_line s name ws
-led_by None s w ws = statement (keyword_of w) s ws
+led_by None s w ws = statement (keyword_of s.version w) s ws
 
 -- a line below the header
 abbrev pub body_line : Seen → List (List ℕ) → Result Seen AsmKind

@@ -10,7 +10,7 @@ use crate::table::Table;
 use std::alloc::Global;
 use zy_isa::instr::{Instr, Reg};
 use zy_isa::operation::{JumpOperation, Parts};
-use zy_isa::program::Program;
+use zy_isa::program::{ProgFault, Program};
 
 /// An instruction whose label, if it has one, is still to be found.
 #[derive(Debug, Drop)]
@@ -51,11 +51,12 @@ fn all_resolved(alloc: Global, labels: &Table, instrs: &[Unresolved]) -> Result<
 }
 
 /// The program of these instructions, which has this number.
-fn judged(number: usize, instrs: Vec<Instr>) -> Result<Program, Reason>
-    ensures { Gives (λ p. p) result (judged_spec (prog_fault instrs.items) instrs.items) }
+fn judged(alloc: Global, number: usize, instrs: &[Instr]) -> Result<Program, Reason>
+    ensures { Gives (λ p. p) result (judged_spec (prog_fault instrs.now) instrs.now) }
 {
-    match Program::of_instrs(instrs) {
+    match Program::verify(alloc, instrs) {
         Ok(program) => Ok(program),
+        Err(ProgFault::Memory) => Err(Reason::NoMemory),
         Err(fault) => Err(Reason::NoProgram { number, fault }),
     }
 }
@@ -70,5 +71,5 @@ pub fn program_of(
     ensures { Gives (λ p. p) result (program_of_spec labels.now (map shown instrs.now)) }
 {
     let instrs = all_resolved(alloc, labels, instrs)?;
-    judged(number, instrs)
+    judged(alloc, number, instrs.as_slice())
 }

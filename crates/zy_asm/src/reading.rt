@@ -46,11 +46,11 @@ pub enum Keyword {
     End,
 }
 
-/// The keyword that a word is.
-fn keyword_of(word: &[u8]) -> Option<Keyword>
-    ensures { result ≡ keyword_of_spec word.now }
+/// The keyword that a word is in a version.
+fn keyword_of(version: u8, word: &[u8]) -> Option<Keyword>
+    ensures { result ≡ keyword_of_spec version word.now }
 {
-    if let Some(operation) = Operation::named(word) {
+    if let Some(operation) = Operation::named_in(version, word) {
         return Some(Keyword::Instr(operation));
     }
     if let Some(actor) = actor_of(word) {
@@ -247,7 +247,7 @@ impl Reader {
         let Some((first, rest)) = words.split_first() else {
             return Ok(());
         };
-        match keyword_of(first) {
+        match keyword_of(self.version, first) {
             Some(Keyword::Instr(operation)) => self.instr_line(operation, rest),
             _ => Err(Reason::NotAnInstr(Shown::of(first))),
         }
@@ -444,7 +444,7 @@ impl Reader {
         if let Some(label) = label_of(first) {
             return self.label_line(label, rest);
         }
-        match keyword_of(first) {
+        match keyword_of(self.version, first) {
             Some(keyword) => self.statement(keyword, rest),
             None => Err(Reason::NotKnown(Shown::of(first))),
         }
@@ -508,7 +508,7 @@ impl Reader {
         if self.instrs.len() >= MAX_INSTRS {
             return None;
         }
-        let operation = Operation::named(operation)?;
+        let operation = Operation::named_in(self.version, operation)?;
         let instr = whole_of(operation, a, b)?;
         Some(instr)
     }

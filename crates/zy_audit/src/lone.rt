@@ -88,13 +88,12 @@ impl LoneRun {
         ensures { OnOk result (let m = map_of table.now in
             on_map m self.new ≡ alone_instr m (slice_get program.now self.old.pc) (on_map m self.old)) }
     {
-        match program.instrs().get(self.place as usize) {
-            Some(instr) => self.instr(table, *instr),
-            None => {
-                self.give_up();
-                Ok(())
-            }
+        let place = self.place as usize;
+        if place < program.len() {
+            return self.instr(table, program.instr(place));
         }
+        self.give_up();
+        Ok(())
     }
 
     /// An instruction.

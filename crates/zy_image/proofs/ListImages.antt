@@ -1,5 +1,6 @@
 -- The lists of an image, with their counts in front.
-use Rattle.std.proofs.Common.{◌≡◌, ◌==◌, ℕ, ◌≤◌, ◌||◌, false, nat_lt, List, [], ◌∷◌, ◌++◌, length, Option, Some, None, Ok, Err, refl, ap, ◌∙◌, subst, append_assoc, arith, if◌then◌else◌}
+use Rattle.std.proofs.Common.{◌≡◌, ◌==◌, ℕ, ◌≤◌, ◌||◌, false, nat_lt, List, [], ◌∷◌, ◌++◌, length, map, Option, Some, None, Result, Ok, Err, refl, ap, ◌∙◌, subst, append_assoc, arith, if◌then◌else◌}
+use Rattle.std.specs.Prelude.{OnOk}
 use Rattle.std.specs.List.{flat_map}
 use Rattle.std.specs.Int.{w16, to_be_bytes}
 use Rattle.zy_isa.specs.declared.row.Row.{Row}
@@ -8,19 +9,20 @@ use Rattle.zy_isa.specs.declared.program.ProgFault.{ProgFault}
 use Rattle.zy_isa.specs.declared.program.ProgFault.TheVariants as prog
 use Rattle.zy_isa.specs.declared.choice.Choice.{Choice}
 use Rattle.zy_isa.specs.InstrWords.{word_of}
-use Rattle.zy_isa.specs.Programs.{prog_fault, IsProgram}
+use Rattle.zy_isa.specs.Programs.{prog_fault, IsKnown, IsProgram}
 use Rattle.zy_isa.specs.Rows.{Rising, RowsFit}
-use Rattle.zy_isa.specs.Scenario.{ArePrograms, AreNamed, opening_pages_for}
+use Rattle.zy_isa.specs.Scenario.{ArePrograms, AreKnown, AreNamed, opening_pages_for}
 use Rattle.zy_isa.proofs.ProgramLemmas.{is_some, no_prog_fault}
 use Rattle.zy_isa.proofs.ResultLemmas.{bind_ok, if_err, neither, not_over, over_not}
 use Rattle.zy_isa.proofs.RowLemmas.{Above}
+use Rattle.zy_isa.proofs.ScenarioLemmas.{program_more}
 use Rattle.zy_image.specs.declared.faults.LoadFault.TheVariants as fault
 use Rattle.zy_image.specs.declared.head.Head.{Head}
 use Rattle.zy_image.specs.Image.{row_image, rows_image, program_image, programs_image, choice_image, choices_image}
 use Rattle.zy_image.specs.Reading.{byte, half, read_items, next_row, row_count, rows, next_instr, instr_count, instrs, judged, next_program, program_count, programs, next_choice, choice_count, choices}
 use Rattle.zy_image.proofs.FieldLemmas.{AreBytes, one_answer, byte_found, byte_gives, half_found, half_gives}
 use Rattle.zy_image.proofs.ListLemmas.{TookItem, list_found, AreRead, items_give}
-use Rattle.zy_image.proofs.PartLemmas.{InOrder, row_found, rows_read, AnyInstrs, instr_found, instrs_read, choice_found, choices_read}
+use Rattle.zy_image.proofs.PartLemmas.{InOrder, row_found, rows_read, instr_found, instrs_read, choice_found, choices_read}
 
 -- ---- rows
 
@@ -59,9 +61,6 @@ rows_give h size rs left few pages rise fit =
 
 -- ---- programs
 
-abbrev pub AnyPrograms : List (List Instr) → Type 0
-AnyPrograms ps = Unit {0}
-
 judged_ok : {X : Type 0} (t : ℕ) (o : Option ProgFault) (x y : X) → judged t o x ≡ Ok y → x ≡ y
 judged_ok t None x y h = cc
 judged_ok t (Some f) x y h = cc
@@ -72,60 +71,63 @@ count_ok t n m h =
     let b = if_err (nat_lt 64 n.0) (Ok n) (fault.Program t prog.TooLong) m a.1 in
     cc (b.1)
 
-pub program_found : (size : ℕ) (ps : List (List Instr)) (bytes : List ℕ) (is : List Instr) (left : List ℕ) → AnyPrograms ps → AreBytes bytes → next_program size ps bytes ≡ Ok (is, left)
-    → TookItem program_image AnyPrograms ps bytes is left
-program_found size ps bytes is left any fit h =
+pub program_found : (version size : ℕ) (ps : List (List Instr)) (bytes : List ℕ) (is : List Instr) (left : List ℕ) → AreKnown version ps → AreBytes bytes
+    → next_program version size ps bytes ≡ Ok (is, left) → TookItem program_image (AreKnown version) ps bytes is left
+program_found version size ps bytes is left known fit h =
     let t = length ps in
-    let a = bind_ok (instrs t size bytes) (λ x. judged t (prog_fault x.0) x) (is, left) h in
+    let a = bind_ok (instrs version t size bytes) (λ x. judged t (prog_fault x.0) x) (is, left) h in
     let j : a.0 ≡ (is, left) = judged_ok t (prog_fault a.0.0) a.0 (is, left) a.2 in
-    let f = bind_ok (instr_count t size bytes) (λ n. read_items (next_instr t size) [] n.0 n.1) (is, left) (a.1 ∙ ap Ok j) in
+    let f = bind_ok (instr_count t size bytes) (λ n. read_items (next_instr version t size) [] n.0 n.1) (is, left) (a.1 ∙ ap Ok j) in
     let g = bind_ok (byte size bytes) _ f.0 f.1 in
     let m : g.0 ≡ f.0 = count_ok t g.0 f.0 g.2 in
     let n = byte_found size bytes f.0.0 f.0.1 fit (g.1 ∙ ap Ok m) in
-    let i = list_found word_of (next_instr t size) AnyInstrs (instr_found t size) f.0.0 f.0.1 is left tt n.back f.2 in
+    let i = list_found word_of (next_instr version t size) (IsKnown version) (instr_found version t size) f.0.0 f.0.1 is left tt n.back f.2 in
     record {
       same = n.same ∙ ap (λ x. f.0.0 ∷ x) i.same ∙ ap (λ x. x ∷ (flat_map word_of is ++ left)) i.count;
       back = i.back;
-      kept = tt;
+      kept = program_more version ps is known i.kept;
     }
 
-program_gives : (size : ℕ) (before : List (List Instr)) (is : List Instr) (left : List ℕ) → IsProgram is → next_program size before (program_image is ++ left) ≡ Ok (is, left)
-program_gives size before is left p =
+program_gives : (version size : ℕ) (before : List (List Instr)) (is : List Instr) (left : List ℕ) → IsProgram is → IsKnown version is → next_program version size before (program_image is ++ left) ≡ Ok (is, left)
+program_gives version size before is left p known =
     let t = length before in
     let some : (length is == 0) ≡ false = is_some (length is) p.some in
     let count : instr_count t size (length is ∷ (flat_map word_of is ++ left)) ≡ Ok (length is, flat_map word_of is ++ left) =
     rw (byte_gives size (length is) (flat_map word_of is ++ left)) (rw (some, over_not (length is) 64 p.few) refl) in
-    let read : instrs t size (length is ∷ (flat_map word_of is ++ left)) ≡ Ok (is, left) = rw count (items_give word_of (next_instr t size) is [] left (instrs_read t size is [] p.values)) in
+    let read : instrs version t size (length is ∷ (flat_map word_of is ++ left)) ≡ Ok (is, left) = rw count (items_give word_of (next_instr version t size) is [] left (instrs_read version t size is [] p.values known)) in
     rw read (rw (no_prog_fault is p) refl)
 
-programs_read : (size : ℕ) (ps before : List (List Instr)) → ArePrograms ps → AreRead program_image (next_program size) before ps
-programs_read size [] before h = tt
-programs_read size (p ∷ ps) before h = ((λ left. program_gives size before p left h.0), programs_read size ps (before ++ p ∷ []) h.1)
+programs_read : (version size : ℕ) (ps before : List (List Instr)) → ArePrograms ps → AreKnown version ps → AreRead program_image (next_program version size) before ps
+programs_read version size [] before h known = tt
+programs_read version size (p ∷ ps) before h known =
+    ((λ left. program_gives version size before p left h.0 known.0), programs_read version size ps (before ++ p ∷ []) h.1 known.1)
 
-pub record FoundPrograms (bytes : List ℕ) (ps : List (List Instr)) (left : List ℕ) : Type 0 where
+pub record FoundPrograms (version : ℕ) (bytes : List ℕ) (ps : List (List Instr)) (left : List ℕ) : Type 0 where
   pub same : bytes ≡ programs_image ps ++ left
   pub back : AreBytes left
   pub few : length ps ≤ 64
+  pub known : AreKnown version ps
 
-pub programs_found : (size : ℕ) (bytes : List ℕ) (ps : List (List Instr)) (left : List ℕ) → AreBytes bytes → programs size bytes ≡ Ok (ps, left) → FoundPrograms bytes ps left
-programs_found size bytes ps left fit e =
-    let f = bind_ok (program_count size bytes) (λ n. read_items (next_program size) [] n.0 n.1) (ps, left) e in
+pub programs_found : (version size : ℕ) (bytes : List ℕ) (ps : List (List Instr)) (left : List ℕ) → AreBytes bytes → programs version size bytes ≡ Ok (ps, left) → FoundPrograms version bytes ps left
+programs_found version size bytes ps left fit e =
+    let f = bind_ok (program_count size bytes) (λ n. read_items (next_program version size) [] n.0 n.1) (ps, left) e in
     let g = bind_ok (byte size bytes) _ f.0 f.1 in
     let t = if_err (nat_lt 64 g.0.0) (Ok g.0) fault.TxnCount f.0 g.2 in
     let s = one_answer g.0.0 f.0.0 g.0.1 f.0.1 t.1 in
     let n = byte_found size bytes f.0.0 f.0.1 fit (g.1 ∙ t.1) in
-    let i = list_found program_image (next_program size) AnyPrograms (program_found size) f.0.0 f.0.1 ps left tt n.back f.2 in
+    let i = list_found program_image (next_program version size) (AreKnown version) (program_found version size) f.0.0 f.0.1 ps left tt n.back f.2 in
     record {
       same = n.same ∙ ap (λ x. f.0.0 ∷ x) i.same ∙ ap (λ x. x ∷ (flat_map program_image ps ++ left)) i.count;
       back = i.back;
       few = subst (λ x. x ≤ 64) (s.0 ∙ i.count) (not_over g.0.0 64 t.0);
+      known = i.kept;
     }
 
-pub programs_give : (size : ℕ) (ps : List (List Instr)) (left : List ℕ) → length ps ≤ 64 → ArePrograms ps → programs size (programs_image ps ++ left) ≡ Ok (ps, left)
-programs_give size ps left few h =
+pub programs_give : (version size : ℕ) (ps : List (List Instr)) (left : List ℕ) → length ps ≤ 64 → ArePrograms ps → AreKnown version ps → programs version size (programs_image ps ++ left) ≡ Ok (ps, left)
+programs_give version size ps left few h known =
     let count : program_count size (length ps ∷ (flat_map program_image ps ++ left)) ≡ Ok (length ps, flat_map program_image ps ++ left) =
     rw (byte_gives size (length ps) (flat_map program_image ps ++ left)) (rw (over_not (length ps) 64 few) refl) in
-    rw count (items_give program_image (next_program size) ps [] left (programs_read size ps [] h))
+    rw count (items_give program_image (next_program version size) ps [] left (programs_read version size ps [] h known))
 
 -- ---- choices
 
@@ -153,3 +155,14 @@ choices_give k size cs left few named =
     let count : choice_count size (to_be_bytes w16 (length cs) ++ (flat_map choice_image cs ++ left)) ≡ Ok (length cs, flat_map choice_image cs ++ left) =
     rw (half_gives size (length cs) (flat_map choice_image cs ++ left) (omega (arith, few))) (rw (over_not (length cs) 4096 few) refl) in
     ap (choices k size) (append_assoc (to_be_bytes w16 (length cs)) (flat_map choice_image cs) left) ∙ rw count (items_give choice_image (next_choice k size) cs [] left (choices_read k size cs [] named))
+
+-- ---- the words of a program that is saved
+
+pub saved : (is : List Instr) → flat_map (λ w. w) (map word_of is) ≡ flat_map word_of is
+saved [] = refl
+saved (i ∷ is) = ap (λ x. word_of i ++ x) (saved is)
+
+-- a number, and bytes behind it
+pub put-behind : {A E : Type 0} (r : Result A E) (new out pushed x y : List ℕ) (n : ℕ) → OnOk r (new ≡ pushed ++ x) → pushed ≡ out ++ n ∷ [] → x ≡ y → OnOk r (new ≡ out ++ (n ∷ y))
+put-behind (Ok a) new out pushed x y n h p e = h ∙ ap (λ z. z ++ x) p ∙ append_assoc out (n ∷ []) x ∙ ap (λ z. out ++ (n ∷ z)) e
+put-behind (Err f) new out pushed x y n h p e = tt

@@ -1,5 +1,5 @@
 -- Rows, programs and choices: what was read has its image, and an image is read as what it shows.
-use Rattle.std.proofs.Common.{◌≡◌, ◌==◌, ℕ, ◌+◌, ◌<◌, ◌^◌, true, false, nat_lt, List, [], ◌∷◌, ◌++◌, length, get_or, Option, None, IfSome, Ok, Err, refl, sym, ap, ◌∙◌, subst, arith, if◌then◌else◌, ok_or}
+use Rattle.std.proofs.Common.{◌≡◌, ◌==◌, ℕ, ◌+◌, ◌<◌, ◌^◌, Bool, true, false, nat_lt, List, [], ◌∷◌, ◌++◌, length, get_or, Option, None, Some, IfSome, Ok, Err, refl, sym, ap, ◌∙◌, subst, arith, if◌then◌else◌, ok_or}
 use Rattle.std.proofs.lemmas.Bool.{cond_both}
 use Rattle.std.proofs.lemmas.List.{take-append-drop, length-take-le, length-drop}
 use Rattle.std.proofs.lemmas.Nat.{be_bytes_2, be_bytes_4, from_be_bytes-to_be_bytes_2, from_be_bytes-to_be_bytes_4}
@@ -14,19 +14,19 @@ use Rattle.zy_isa.specs.declared.choice.Choice.TheVariants.{Start, Begin, Kill, 
 use Rattle.zy_isa.specs.declared.operation.Parts.{Parts}
 use Rattle.zy_isa.specs.declared.operation.Parts.TheVariants.{Number, Pair, Jump, Lone}
 use Rattle.zy_isa.specs.InstrWords.{word_with, word_of, IsWordOf}
-use Rattle.zy_isa.specs.Operations.{parts_of}
+use Rattle.zy_isa.specs.Operations.{has, parts_of}
 use Rattle.zy_isa.specs.WordFields.{decoded}
-use Rattle.zy_isa.specs.Programs.{HasValue, Values}
+use Rattle.zy_isa.specs.Programs.{HasValue, IsKnown, Values}
 use Rattle.zy_isa.specs.Rows.{Rising, RowsFit, misplaced_row, last_row, is_low}
 use Rattle.zy_isa.specs.Choices.{names_below}
 use Rattle.zy_isa.specs.Scenario.{AreNamed}
 use Rattle.zy_isa.proofs.ResultLemmas.{bind_ok, if_err, ok_or_ok}
 use Rattle.zy_isa.proofs.RowLemmas.{order_more, Above, above_more}
-use Rattle.zy_isa.proofs.ScenarioLemmas.{named_more}
+use Rattle.zy_isa.proofs.ScenarioLemmas.{known_more, named_more}
 use Rattle.zy_isa.proofs.WordLemmas.{decoded_found, decoded_only}
 use Rattle.zy_image.specs.declared.faults.LoadFault.TheVariants as fault
 use Rattle.zy_image.specs.Image.{row_image, choice_image, node_byte}
-use Rattle.zy_image.specs.Reading.{Read, field, row_at, next_row, next_instr, next_choice, named, plain, client_choice, node_choice, choice_at}
+use Rattle.zy_image.specs.Reading.{Read, field, row_at, next_row, if_known, next_instr, next_choice, named, plain, client_choice, node_choice, choice_at}
 use Rattle.zy_image.proofs.FieldLemmas.{AreBytes, byte_at, front_bytes, back_bytes, one_answer, field_found, field_gives}
 use Rattle.zy_image.proofs.ListLemmas.{TookItem, AreRead}
 use borrow.Author.Tests.{tests}
@@ -78,22 +78,28 @@ rows_read size low (r ∷ rows) before rise fit above = (
 
 -- ---- instructions
 
-abbrev pub AnyInstrs : List Instr → Type 0
-AnyInstrs is = Unit {0}
+known_found : (version : ℕ) (o : Option Instr) (i : Instr) → if_known version o ≡ Some i → (o ≡ Some i) × (has version i ≡ true)
+known_found version None i h = cc
+known_found version (Some x) i h = by (has version x) refl h
+  where
+    by : (b : Bool) → has version x ≡ b → (if b then Some x else None) ≡ Some i → (Some x ≡ Some i) × (has version i ≡ true)
+    by true e g = (g, subst (λ z. has version z ≡ true) (let q : x ≡ i = cc in q) e)
+    by false e g = cc
 
-pub instr_found : (t size : ℕ) (is : List Instr) (bytes : List ℕ) (i : Instr) (left : List ℕ) → AnyInstrs is → AreBytes bytes → next_instr t size is bytes ≡ Ok (i, left) → TookItem word_of AnyInstrs is bytes i left
-instr_found t size is bytes i left any fit h =
+pub instr_found : (version t size : ℕ) (is : List Instr) (bytes : List ℕ) (i : Instr) (left : List ℕ) → IsKnown version is → AreBytes bytes → next_instr version t size is bytes ≡ Ok (i, left)
+    → TookItem word_of (IsKnown version) is bytes i left
+instr_found version t size is bytes i left known fit h =
     let f = bind_ok (field 8 size bytes) _ (i, left) h in
     let w = f.0.0 in
     let d = field_found 8 size bytes w f.0.1 fit f.1 in
-    let g = bind_ok (ok_or (decoded w) (fault.Word t (length is))) _ (i, left) f.2 in
-    let x = ok_or_ok (decoded w) (fault.Word t (length is)) g.0 g.1 in
+    let g = bind_ok (ok_or (if_known version (decoded w)) (fault.Word t (length is))) _ (i, left) f.2 in
+    let x = known_found version (decoded w) g.0 (ok_or_ok (if_known version (decoded w)) (fault.Word t (length is)) g.0 g.1) in
     let s = one_answer g.0 i f.0.1 left g.2 in
-    let is_word : IsWordOf w g.0 = subst (λ o. IfSome o (IsWordOf w)) x (decoded_found w d.size (byte_at w d.front)) in
+    let is_word : IsWordOf w g.0 = subst (λ o. IfSome o (IsWordOf w)) x.0 (decoded_found w d.size (byte_at w d.front)) in
     record {
       same = d.same ∙ ap (λ x. x ++ f.0.1) is_word.1 ∙ ap (λ x. word_of x ++ f.0.1) s.0 ∙ ap (λ x. word_of i ++ x) s.1;
       back = subst AreBytes s.1 d.back;
-      kept = tt;
+      kept = subst (λ z. IsKnown version (is ++ z ∷ [])) s.0 (known_more version is g.0 known x.1);
     }
 
 word_size : (p : Parts) → length (word_with p) ≡ 8
@@ -102,14 +108,15 @@ word_size (Pair o a b) = refl
 word_size (Jump o a b n) = refl
 word_size (Lone o) = refl
 
-instr_gives : (t size : ℕ) (before : List Instr) (i : Instr) (left : List ℕ) → HasValue i → next_instr t size before (word_of i ++ left) ≡ Ok (i, left)
-instr_gives t size before i left v =
+instr_gives : (version t size : ℕ) (before : List Instr) (i : Instr) (left : List ℕ) → HasValue i → has version i ≡ true → next_instr version t size before (word_of i ++ left) ≡ Ok (i, left)
+instr_gives version t size before i left v known =
     let e : field 8 size (word_of i ++ left) ≡ Ok (word_of i, left) = subst (λ n. field n size (word_of i ++ left) ≡ Ok (word_of i, left)) (word_size (parts_of i)) (field_gives size (word_of i) left) in
-    rw e (rw (decoded_only i v) refl)
+    rw e (rw (decoded_only i v) (rw known refl))
 
-pub instrs_read : (t size : ℕ) (is before : List Instr) → Values is → AreRead word_of (next_instr t size) before is
-instrs_read t size [] before values = tt
-instrs_read t size (i ∷ is) before values = ((λ left. instr_gives t size before i left values.0), instrs_read t size is (before ++ i ∷ []) values.1)
+pub instrs_read : (version t size : ℕ) (is before : List Instr) → Values is → IsKnown version is → AreRead word_of (next_instr version t size) before is
+instrs_read version t size [] before values known = tt
+instrs_read version t size (i ∷ is) before values known =
+    ((λ left. instr_gives version t size before i left values.0 known.0), instrs_read version t size is (before ++ i ∷ []) values.1 known.1)
 
 -- ---- choices
 

@@ -151,8 +151,8 @@ image_found bytes s fit e =
     let h = head_found size bytes a.0.0 a.0.1 fit a.1 in
     let b = bind_ok (rows a.0.0 size a.0.1) _ s a.2 in
     let r = rows_found a.0.0 size a.0.1 b.0.0 b.0.1 h.back b.1 in
-    let c = bind_ok (programs size b.0.1) _ s b.2 in
-    let p = programs_found size b.0.1 c.0.0 c.0.1 r.back c.1 in
+    let c = bind_ok (programs a.0.0.version size b.0.1) _ s b.2 in
+    let p = programs_found a.0.0.version size b.0.1 c.0.0 c.0.1 r.back c.1 in
     let d = bind_ok (choices (length c.0.0) size c.0.1) _ s c.2 in
     let q = choices_found (length c.0.0) size c.0.1 d.0.0 d.0.1 p.back d.1 in
     let f = bind_ok (ended size d.0) _ s d.2 in
@@ -165,7 +165,7 @@ image_found bytes s fit e =
     h.same_bytes ∙ ap (λ x. front_of a.0.0 ++ x) (r.same ∙ ap (λ x. rows_image b.0.0 ++ x) (p.same ∙ ap (λ x. programs_image c.0.0 ++ x) (q.same ∙ ap (λ x. choices_image d.0.0 ++ x) none ∙ append-nil (choices_image d.0.0)))) in
     record {
       same_bytes = all ∙ ap image_of same;
-      no_fault = subst (λ x. scenario_fault x ≡ None) same (no_fault t h.version.0 h.version.1 h.cap.0 h.cap.1 h.pages.0 h.pages.1 r.few r.few_pages r.order p.few q.few q.named);
+      no_fault = subst (λ x. scenario_fault x ≡ None) same (no_fault t h.version.0 h.version.1 h.cap.0 h.cap.1 h.pages.0 h.pages.1 r.few r.few_pages r.order p.few q.few q.named p.known);
     }
 
 pub image_gives : (s : Scenario) → IsScenario s → reading (image_of s) ≡ Ok s
@@ -176,7 +176,7 @@ image_gives s i =
     let more : List ℕ = programs_image s.programs ++ last in
     let head = head_gives size h (rows_image s.rows ++ more) i.version_least i.version_most i.cap_least i.cap_most i.pages_least i.pages_most in
     let r = rows_give h size s.rows more i.few_rows i.few_opening_pages i.rows_rise i.rows_fit in
-    let p = programs_give size s.programs last i.few_programs i.programs in
+    let p = programs_give s.version size s.programs last i.few_programs i.programs i.instrs_known in
     let c : choices (length s.programs) size last ≡ Ok (s.choices, []) = ap (choices (length s.programs) size) (sym (append-nil last)) ∙ choices_give (length s.programs) size s.choices [] i.few_choices i.choices_named in
     rw head (rw r (rw p (rw c refl)))
 

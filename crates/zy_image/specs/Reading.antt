@@ -16,6 +16,7 @@ use Rattle.zy_isa.specs.declared.choice.Choice.{Choice}
 use Rattle.zy_isa.specs.declared.choice.Choice.TheVariants.{Start, Begin, Kill, Run, Take, Finish, Push}
 use Rattle.zy_isa.specs.Results.{◌>>=◌}
 use Rattle.zy_isa.specs.Rows.{last_row, is_low}
+use Rattle.zy_isa.specs.Operations.{has}
 use Rattle.zy_isa.specs.Programs.{prog_fault}
 use Rattle.zy_isa.specs.WordFields.{decoded}
 use Rattle.zy_isa.specs.Scenario.{Scenario, is_outside, misnamed_choice, opening_pages_for}
@@ -100,10 +101,15 @@ rows h size bytes = row_count h size bytes >>= λ n. read_items (next_row size) 
 
 -- ---- programs
 
-abbrev pub next_instr : ℕ → ℕ → List Instr → List ℕ → Read Instr
-next_instr t size is bytes = do
+-- an instruction that the version has
+abbrev pub if_known : ℕ → Option Instr → Option Instr
+if_known version None = None
+if_known version (Some i) = if has version i then Some i else None
+
+abbrev pub next_instr : ℕ → ℕ → ℕ → List Instr → List ℕ → Read Instr
+next_instr version t size is bytes = do
   f ← field 8 size bytes
-  i ← ok_or (decoded f.0) (fault.Word t (length is))
+  i ← ok_or (if_known version (decoded f.0)) (fault.Word t (length is))
   Ok (i, f.1)
 
 abbrev pub instr_count : ℕ → ℕ → List ℕ → Read ℕ
@@ -113,17 +119,17 @@ abbrev pub judged : {X : Type 0} → ℕ → Option ProgFault → X → Result X
 judged t None x = Ok x
 judged t (Some f) x = Err (fault.Program t f)
 
-abbrev pub instrs : ℕ → ℕ → List ℕ → Read (List Instr)
-instrs t size bytes = instr_count t size bytes >>= λ n. read_items (next_instr t size) [] n.0 n.1
+abbrev pub instrs : ℕ → ℕ → ℕ → List ℕ → Read (List Instr)
+instrs version t size bytes = instr_count t size bytes >>= λ n. read_items (next_instr version t size) [] n.0 n.1
 
-abbrev pub next_program : ℕ → List (List Instr) → List ℕ → Read (List Instr)
-next_program size ps bytes = instrs (length ps) size bytes >>= λ is. judged (length ps) (prog_fault is.0) is
+abbrev pub next_program : ℕ → ℕ → List (List Instr) → List ℕ → Read (List Instr)
+next_program version size ps bytes = instrs version (length ps) size bytes >>= λ is. judged (length ps) (prog_fault is.0) is
 
 abbrev pub program_count : ℕ → List ℕ → Read ℕ
 program_count size bytes = byte size bytes >>= λ n. if nat_lt 64 n.0 then Err fault.TxnCount else Ok n
 
-abbrev pub programs : ℕ → List ℕ → Read (List (List Instr))
-programs size bytes = program_count size bytes >>= λ n. read_items (next_program size) [] n.0 n.1
+abbrev pub programs : ℕ → ℕ → List ℕ → Read (List (List Instr))
+programs version size bytes = program_count size bytes >>= λ n. read_items (next_program version size) [] n.0 n.1
 
 -- ---- choices
 
@@ -186,7 +192,7 @@ abbrev pub reading : List ℕ → Result Scenario LoadFault
 reading bytes = do
   h ← head_fields (length bytes) bytes
   rs ← rows h.0 (length bytes) h.1
-  ps ← programs (length bytes) rs.1
+  ps ← programs h.0.version (length bytes) rs.1
   cs ← choices (length ps.0) (length bytes) ps.1
   last ← ended (length bytes) cs
   Ok (of_parts h.0 rs.0 ps.0 last)

@@ -33,7 +33,7 @@ fn read(alloc: Global, bytes: &[u8]) -> Result<Parts, LoadFault>
     let size = bytes.len();
     let (head, left) = head_fields(size, bytes)?;
     let (rows, left) = rows(alloc, head, size, left)?;
-    let (programs, left) = programs(alloc, size, left)?;
+    let (programs, left) = programs(alloc, head.version, size, left)?;
     let (choices, left) = choices(alloc, programs.len(), size, left)?;
     if !left.is_empty() {
         return Err(LoadFault::Trailing(size.saturating_sub(left.len())));

@@ -1,20 +1,18 @@
 //! A scenario as bytes.
 ghost use Rattle.std.specs.Prelude.{◌≡◌, ◌++◌, ◌≤◌, ℕ, List, IfOk, OnOk, length};
 ghost use Rattle.std.specs.List.{flat_map};
-ghost use Rattle.zy_isa.specs.InstrWords.{word_of};
 ghost use Rattle.zy_isa.specs.Programs.{IsProgram};
 ghost use Rattle.zy_image.specs.Image.{choice_image as choice_image_spec, choices_image, head_image, image_of, node_byte as node_byte_spec, program_image, programs_image, row_image as row_image_spec, rows_image, rule_byte as rule_byte_spec};
 
 use crate::fields::magic;
 use std::alloc::{AllocError, Global};
 use zy_isa::choice::Choice;
-use zy_isa::instr::Instr;
 use zy_isa::node::Node;
 use zy_isa::program::Program;
 use zy_isa::row::Row;
 use zy_isa::rule::Rule;
 use zy_isa::scenario::Scenario;
-use zy_isa::word::encode;
+use zy_isa::word::WORD_BYTES;
 
 /// What has an image.
 trait Imaged {
@@ -53,11 +51,11 @@ impl Imaged for Row {
     }
 }
 
-impl Imaged for Instr {
-    ghost image = { word_of };
+impl Imaged for [u8; WORD_BYTES] {
+    ghost image = { λ word. word };
 
     fn put(&self, out: &mut Vec<u8>) -> Result<(), AllocError> {
-        out.extend_from_slice(&encode(*self))
+        out.extend_from_slice(self.as_slice())
     }
 }
 
@@ -66,7 +64,7 @@ impl Imaged for Program {
 
     fn put(&self, out: &mut Vec<u8>) -> Result<(), AllocError> {
         out.push(self.len() as u8)?;
-        put_all(out, self.instrs())
+        put_all(out, self.words())
     }
 }
 

@@ -1,5 +1,5 @@
 -- Operations are told apart by their numbers and by their words; an instruction is its parts.
-use Rattle.std.proofs.Common.{◌≡◌, ◌==◌, ℕ, Bool, true, List, [], ◌∷◌, Some, inl, inr, refl, arith}
+use Rattle.std.proofs.Common.{◌≡◌, ◌∙◌, ◌==◌, ℕ, Bool, true, false, List, [], ◌∷◌, Option, None, Some, inl, inr, refl, sym, ap, subst, arith, if◌then◌else◌}
 use Rattle.std.specs.List.{find, list_all}
 use Rattle.std.specs.Str.{bytes_eq}
 use Rattle.zy_isa.specs.declared.instr.Instr.{Instr}
@@ -12,7 +12,7 @@ use Rattle.zy_isa.specs.declared.operation.Operation.{Operation}
 use Rattle.zy_isa.specs.declared.operation.Operation.TheVariants as op
 use Rattle.zy_isa.specs.declared.operation.Parts.{Parts}
 use Rattle.zy_isa.specs.declared.operation.Parts.TheVariants.{Number, Pair, Jump, Lone}
-use Rattle.zy_isa.specs.Operations.{opcode, mnemonic, operations, coded, named, instr_with, parts_of}
+use Rattle.zy_isa.specs.Operations.{opcode, mnemonic, operations, coded, named, has, if_of, is_of, instr_with, operation_of, parts_of}
 use Rattle.zy_isa.proofs.ResultLemmas.{chosen_by, both, same}
 use borrow.Author.Tests.{tests}
 
@@ -89,3 +89,16 @@ parts_again (Pair Sum a b) = refl
 parts_again (Jump Beq a b n) = refl
 parts_again (Lone Commit) = refl
 parts_again (Lone Abort) = refl
+
+-- an operation is told by its word
+pub same_operation : (o q : Operation) → mnemonic o ≡ mnemonic q → o ≡ q
+same_operation o q e = let same : Some o ≡ Some q = sym (named_back o) ∙ ap named e ∙ named_back q in cc
+
+-- what is found in a version is there, and the version has it
+pub found_in : (version : ℕ) (r : Option Operation) (o : Operation) → if_of version r ≡ Some o → (r ≡ Some o) × (is_of version o ≡ true)
+found_in version None o h = cc
+found_in version (Some x) o h = by (is_of version x) refl h
+  where
+    by : (b : Bool) → is_of version x ≡ b → (if b then Some x else None) ≡ Some o → (Some x ≡ Some o) × (is_of version o ≡ true)
+    by true e g = (g, subst (λ z. is_of version z ≡ true) (let q : x ≡ o = cc in q) e)
+    by false e g = cc

@@ -6,10 +6,13 @@ use Rattle.std.specs.Option.{option_or}
 use Rattle.std.proofs.lemmas.Bool.{cases_lt, lt-ltb, le-ltb}
 use Rattle.zy_isa.specs.declared.row.Row.{Row}
 use Rattle.zy_isa.specs.declared.choice.Choice.{Choice}
+use Rattle.zy_isa.specs.declared.instr.Instr.{Instr}
 use Rattle.zy_isa.specs.declared.scenario.ScenarioFault.TheVariants as fault
 use Rattle.zy_isa.specs.Rows.{Rising, RowsFit, misplaced_row, misplaced_after}
 use Rattle.zy_isa.specs.Choices.{names_below}
-use Rattle.zy_isa.specs.Scenario.{Scenario, misnamed_choice, choices_fault, is_outside, has_many_rows, AreNamed, ArePrograms, IsScenario, opening_pages_for, scenario_fault}
+use Rattle.zy_isa.specs.Operations.{has}
+use Rattle.zy_isa.specs.Programs.{IsKnown, unknown, unknown_from}
+use Rattle.zy_isa.specs.Scenario.{Scenario, misnamed_choice, choices_fault, instrs_fault, AreKnown, is_outside, has_many_rows, AreNamed, ArePrograms, IsScenario, opening_pages_for, scenario_fault}
 use Rattle.zy_isa.proofs.ResultLemmas.{in_range, neither, not_over, out_of_neither, over_not}
 
 rising_after : (last i : ℕ) (rows : List Row) → misplaced_after last i rows ≡ None → Rising (last + 1) rows
@@ -72,10 +75,55 @@ pub named_more : (count : ℕ) (cs : List Choice) (c : Choice) → AreNamed coun
 named_more count [] c h n = (n, tt)
 named_more count (x ∷ cs) c h n = (h.0, named_more count cs c h.1 n)
 
+-- a test that found nothing, and those behind it
+past : {F : Type 0} (b : Bool) (f : F) (rest : Option F) → (if b then Some f else rest) ≡ None → (b ≡ false) × (rest ≡ None)
+past true f rest h = cc
+past false f rest h = (refl, h)
+
+past_first : {F : Type 0} (first rest : Option F) → option_or first rest ≡ None → (first ≡ None) × (rest ≡ None)
+past_first None rest h = (refl, h)
+past_first (Some f) rest h = cc
+
+-- ---- instructions that a version has
+
+known_first : (version n : ℕ) (i : Instr) (is : List Instr) (b : Bool) → has version i ≡ b → ((m : ℕ) → unknown_from version m is ≡ None → IsKnown version is)
+    → (if b then unknown_from version (n + 1) is else Some n) ≡ None → IsKnown version (i ∷ is)
+known_first version n i is true e rest h = (e, rest (n + 1) h)
+known_first version n i is false e rest h = cc
+
+is_known : (version : ℕ) (is : List Instr) (n : ℕ) → unknown_from version n is ≡ None → IsKnown version is
+is_known version [] n h = tt
+is_known version (i ∷ is) n h = known_first version n i is (has version i) refl (is_known version is) h
+
+none_unknown : (version n : ℕ) (is : List Instr) → IsKnown version is → unknown_from version n is ≡ None
+none_unknown version n [] h = refl
+none_unknown version n (i ∷ is) h = rw h.0 (none_unknown version (n + 1) is h.1)
+
+-- programs without a fault have instructions of the version alone
+pub are_known : (version t : ℕ) (ps : List (List Instr)) → instrs_fault version t ps ≡ None → AreKnown version ps
+are_known version t [] e = tt
+are_known version t (p ∷ ps) e =
+    let d = past_first (option_map (fault.Instruction t) (unknown version p)) _ e in
+    (is_known version p 0 (no_option (fault.Instruction t) (unknown version p) d.0), are_known version (t + 1) ps d.1)
+
+pub no_instrs_fault : (version t : ℕ) (ps : List (List Instr)) → AreKnown version ps → instrs_fault version t ps ≡ None
+no_instrs_fault version t [] h = refl
+no_instrs_fault version t (p ∷ ps) h = rw (none_unknown version 0 p h.0) (no_instrs_fault version (t + 1) ps h.1)
+
+-- an instruction more, and a program more
+pub known_more : (version : ℕ) (is : List Instr) (i : Instr) → IsKnown version is → has version i ≡ true → IsKnown version (is ++ i ∷ [])
+known_more version [] i h e = (e, tt)
+known_more version (x ∷ is) i h e = (h.0, known_more version is i h.1 e)
+
+pub program_more : (version : ℕ) (ps : List (List Instr)) (p : List Instr) → AreKnown version ps → IsKnown version p → AreKnown version (ps ++ p ∷ [])
+program_more version [] p h e = (e, tt)
+program_more version (x ∷ ps) p h e = (h.0, program_more version ps p h.1 e)
+
 -- parts within the limits make a scenario without a fault
 pub no_fault : (s : Scenario) → 1 ≤ s.version → s.version ≤ 2 → 2 ≤ s.cap → s.cap ≤ 16 → 1 ≤ s.pages → s.pages ≤ 512 → length s.rows ≤ 256 → opening_pages_for s.cap (length s.rows) ≤ s.pages
-    → misplaced_row s.rows ≡ None → length s.programs ≤ 64 → length s.choices ≤ 4096 → AreNamed (length s.programs) s.choices → scenario_fault s ≡ None
-no_fault s v1 v2 c2 c16 p1 p512 rows pages order programs choices named =
+    → misplaced_row s.rows ≡ None → length s.programs ≤ 64 → length s.choices ≤ 4096 → AreNamed (length s.programs) s.choices
+    → AreKnown s.version s.programs → scenario_fault s ≡ None
+no_fault s v1 v2 c2 c16 p1 p512 rows pages order programs choices named known =
     rw (
       out_of_neither s.version 1 2 v1 v2,
       out_of_neither s.cap 2 16 c2 c16,
@@ -86,16 +134,8 @@ no_fault s v1 v2 c2 c16 p1 p512 rows pages order programs choices named =
       over_not (length s.programs) 64 programs,
       over_not (length s.choices) 4096 choices,
       none_misnamed (length s.programs) s.choices named,
+      no_instrs_fault s.version 0 s.programs known,
     ) refl
-
--- a test that found nothing, and those behind it
-past : {F : Type 0} (b : Bool) (f : F) (rest : Option F) → (if b then Some f else rest) ≡ None → (b ≡ false) × (rest ≡ None)
-past true f rest h = cc
-past false f rest h = (refl, h)
-
-past_first : {F : Type 0} (first rest : Option F) → option_or first rest ≡ None → (first ≡ None) × (rest ≡ None)
-past_first None rest h = (refl, h)
-past_first (Some f) rest h = cc
 
 -- parts without a fault make a scenario within the limits
 pub scenario_of : (s : Scenario) → scenario_fault s ≡ None → RowsFit s.rows → ArePrograms s.programs → IsScenario s
@@ -106,7 +146,8 @@ scenario_of s e fit programs =
     let rows = past (has_many_rows s) fault.RowCount _ pages.1 in
     let order = past_first (option_map fault.RowOrder (misplaced_row s.rows)) _ rows.1 in
     let few = past (nat_lt 64 (length s.programs)) fault.TxnCount _ order.1 in
-    let named = fit_choices (length s.programs) s.choices few.1 in
+    let last = past_first (choices_fault (length s.programs) s.choices) _ few.1 in
+    let named = fit_choices (length s.programs) s.choices last.0 in
     let version_within = in_range s.version 1 2 version.0 in
     let cap_within = in_range s.cap 2 16 cap.0 in
     let pages_within = in_range s.pages 1 512 pages.0 in
@@ -126,4 +167,5 @@ scenario_of s e fit programs =
       programs = programs;
       few_choices = named.0;
       choices_named = named.1;
+      instrs_known = are_known s.version 0 s.programs last.1;
     }

@@ -10,4 +10,5 @@ pub mod Operations
 pub mod Canon
 pub mod InstrWords
 pub mod WordFields
+pub mod ProgramWords
 pub mod Text

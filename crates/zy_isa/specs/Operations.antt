@@ -1,5 +1,5 @@
 -- The operations: what each is in an image and in a text, and the instruction that it makes with its operands.
-use Rattle.std.specs.Prelude.{◌==◌, ℕ, List, [], ◌∷◌, codes, Option}
+use Rattle.std.specs.Prelude.{◌==◌, nat_lt, ℕ, Bool, true, List, [], ◌∷◌, codes, Option, Some, None, if◌then◌else◌}
 use Rattle.std.specs.List.{find}
 use Rattle.std.specs.Str.{bytes_eq}
 use Rattle.zy_isa.specs.declared.instr.Instr.{Instr}
@@ -42,6 +42,26 @@ coded n = find (λ o. n == opcode o) operations
 abbrev pub named : List ℕ → Option Operation
 named w = find (λ o. bytes_eq w (mnemonic o)) operations
 
+-- version 1 has no sum
+abbrev pub is_of : ℕ → Operation → Bool
+is_of version (op.Number o) = true
+is_of version (op.Pair Read) = true
+is_of version (op.Pair Write) = true
+is_of version (op.Pair Insert) = true
+is_of version (op.Pair Add) = true
+is_of version (op.Pair Sum) = nat_lt 1 version
+is_of version (op.Jump o) = true
+is_of version (op.Lone o) = true
+
+-- an operation that the version has
+abbrev pub if_of : ℕ → Option Operation → Option Operation
+if_of version None = None
+if_of version (Some o) = if is_of version o then Some o else None
+
+-- the operation with this word in a version
+abbrev pub named_in : ℕ → List ℕ → Option Operation
+named_in version w = if_of version (named w)
+
 -- the instruction of an operation with its operands
 abbrev pub instr_with : Parts → Instr
 instr_with (Number Set a n) = instr.Set a n
@@ -65,3 +85,14 @@ parts_of (instr.Sum a b) = Pair Sum a b
 parts_of (instr.Beq a b n) = Jump Beq a b n
 parts_of instr.Commit = Lone Commit
 parts_of instr.Abort = Lone Abort
+
+-- the operation that has these operands
+abbrev pub operation_of : Parts → Operation
+operation_of (Number o a n) = op.Number o
+operation_of (Pair o a b) = op.Pair o
+operation_of (Jump o a b n) = op.Jump o
+operation_of (Lone o) = op.Lone o
+
+-- whether a version has an instruction
+abbrev pub has : ℕ → Instr → Bool
+has version i = is_of version (operation_of (parts_of i))

@@ -1,5 +1,5 @@
 -- Which lists of instructions are programs.
-use Rattle.std.specs.Prelude.{◌≡◌, ◌==◌, ◌-◌, ◌<◌, ◌≤◌, ◌^◌, ◌⊎◌, nat_lt, not, ℕ, List, [], ◌∷◌, length, position, slice_get, option_map, Bool, true, false, Option, Some, None, Result, Ok, Err, if◌then◌else◌}
+use Rattle.std.specs.Prelude.{◌≡◌, ◌==◌, ◌+◌, ◌-◌, ◌<◌, ◌≤◌, ◌^◌, ◌⊎◌, nat_lt, not, ℕ, List, [], ◌∷◌, length, position, slice_get, option_map, Bool, true, false, Option, Some, None, Result, Ok, Err, if◌then◌else◌}
 use Rattle.std.specs.Option.{option_map_or, option_or}
 use Rattle.zy_isa.specs.declared.instr.Instr.{Instr}
 use Rattle.zy_isa.specs.declared.instr.Instr.TheVariants.{Set, Read, Write, Insert, Add, Sum, Beq, Commit, Abort}
@@ -7,7 +7,7 @@ use Rattle.zy_isa.specs.declared.operation.Parts.{Parts}
 use Rattle.zy_isa.specs.declared.operation.Parts.TheVariants.{Number, Pair, Jump, Lone}
 use Rattle.zy_isa.specs.declared.program.ProgFault.{ProgFault}
 use Rattle.zy_isa.specs.declared.program.ProgFault.TheVariants as fault
-use Rattle.zy_isa.specs.Operations.{parts_of}
+use Rattle.zy_isa.specs.Operations.{has, parts_of}
 
 -- a program may end with it
 abbrev pub ends : Instr → Bool
@@ -70,10 +70,18 @@ pub record IsProgram (is : List Instr) : Type 0 where
   pub last : ends_well is ≡ true
   pub values : Values is
 
--- the answer is the program, or the first fault
-abbrev pub IsKept : Result (List Instr) ProgFault → List Instr → Type 0
-IsKept (Ok p) is = (prog_fault is ≡ None) × (p ≡ is)
-IsKept (Err e) is = prog_fault is ≡ Some e
+-- the index of the first instruction that a version does not have, where the first of these has index n
+abbrev pub unknown_from : ℕ → ℕ → List Instr → Option ℕ
+unknown_from version n [] = None
+unknown_from version n (i ∷ is) = if has version i then unknown_from version (n + 1) is else Some n
+
+abbrev pub unknown : ℕ → List Instr → Option ℕ
+unknown version is = unknown_from version 0 is
+
+-- a version has each instruction
+abbrev pub IsKnown : ℕ → List Instr → Type 0
+IsKnown version [] = Unit {0}
+IsKnown version (i ∷ is) = (has version i ≡ true) × IsKnown version is
 
 -- the answer is the program, or the first fault, or want of memory where there is none
 abbrev pub IsVerified : Result (List Instr) ProgFault → List Instr → Type 0

@@ -8,7 +8,7 @@ use Rattle.zy_isa.specs.declared.choice.Choice.{Choice}
 use Rattle.zy_isa.specs.declared.scenario.ScenarioFault.{ScenarioFault}
 use Rattle.zy_isa.specs.declared.scenario.ScenarioFault.TheVariants as fault
 use Rattle.zy_isa.specs.Rows.{Rising, RowsFit, misplaced_row}
-use Rattle.zy_isa.specs.Programs.{IsProgram}
+use Rattle.zy_isa.specs.Programs.{IsProgram, IsKnown, unknown}
 use Rattle.zy_isa.specs.Choices.{names_below}
 
 pub record Scenario : Type 0 where
@@ -46,6 +46,11 @@ choices_fault count cs =
     if nat_lt 4096 (length cs) then Some fault.ChoiceCount else
     option_map fault.Choice (misnamed_choice count cs)
 
+-- the first instruction that a version does not have, in programs from number t on
+abbrev pub instrs_fault : ℕ → ℕ → List (List Instr) → Option ScenarioFault
+instrs_fault version t [] = None
+instrs_fault version t (p ∷ ps) = option_or (option_map (fault.Instruction t) (unknown version p)) (instrs_fault version (t + 1) ps)
+
 -- the first fault of a scenario whose programs are verified
 abbrev pub scenario_fault : Scenario → Option ScenarioFault
 scenario_fault s =
@@ -55,11 +60,17 @@ scenario_fault s =
     if has_many_rows s then Some fault.RowCount else
     option_or (option_map fault.RowOrder (misplaced_row s.rows)) (
     if nat_lt 64 (length s.programs) then Some fault.TxnCount else
-    choices_fault (length s.programs) s.choices)
+    option_or (choices_fault (length s.programs) s.choices) (
+    instrs_fault s.version 0 s.programs))
 
 abbrev pub ArePrograms : List (List Instr) → Type 0
 ArePrograms [] = Unit {0}
 ArePrograms (p ∷ ps) = IsProgram p × ArePrograms ps
+
+-- a version has each instruction of each program
+abbrev pub AreKnown : ℕ → List (List Instr) → Type 0
+AreKnown version [] = Unit {0}
+AreKnown version (p ∷ ps) = IsKnown version p × AreKnown version ps
 
 -- each choice that names a transaction names one that exists
 abbrev pub AreNamed : ℕ → List Choice → Type 0
@@ -82,6 +93,7 @@ pub record IsScenario (s : Scenario) : Type 0 where
   pub programs : ArePrograms s.programs
   pub few_choices : length s.choices ≤ 4096
   pub choices_named : AreNamed (length s.programs) s.choices
+  pub instrs_known : AreKnown s.version s.programs
 
 -- the answer is the scenario, or its first fault
 abbrev pub IsTested : Result Scenario ScenarioFault → Scenario → Type 0

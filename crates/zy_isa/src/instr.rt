@@ -1,6 +1,7 @@
 //! Registers and instructions.
 ghost use Rattle.std.specs.Prelude.{◌≡◌, ◌<◌};
 ghost use Rattle.zy_isa.specs.Registers.{number_of};
+ghost use Rattle.zy_isa.specs.Operations.{has};
 ghost use Rattle.zy_isa.specs.Programs.{ends as ends_spec, targets_below as targets_below_spec};
 
 use crate::operation::Parts;
@@ -91,5 +92,12 @@ impl Instr {
             Parts::Pair(_, _, _) => true,
             Parts::Lone(_) => true,
         }
+    }
+
+    /// Whether a version has it: version 1 has no `sum`.
+    pub fn is_of(self, version: u8) -> bool
+        ensures { result ≡ has version self }
+    {
+        self.parts().operation().is_of(version)
     }
 }

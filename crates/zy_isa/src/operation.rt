@@ -1,7 +1,7 @@
 //! The operations: what each is in an image and in a text, which operands it takes, and the instruction that it makes with them.
 ghost use Rattle.std.specs.Prelude.{◌≡◌};
 ghost use Rattle.std.specs.Str.{bytes_eq};
-ghost use Rattle.zy_isa.specs.Operations.{opcode as opcode_spec, mnemonic, coded as coded_spec, named as named_spec, parts_of, instr_with};
+ghost use Rattle.zy_isa.specs.Operations.{opcode as opcode_spec, mnemonic, coded as coded_spec, named as named_spec, named_in as named_in_spec, is_of as is_of_spec, operation_of, parts_of, instr_with};
 
 use crate::instr::{Instr, Reg};
 use std::alloc::AllocError;
@@ -130,6 +130,38 @@ impl Operation {
     }
 }
 
+impl Operation {
+    /// Whether a version has it: version 1 has no `sum`.
+    #[inline(always)]
+    pub fn is_of(self, version: u8) -> bool
+        ensures { result ≡ is_of_spec version self }
+    {
+        match self {
+            Operation::Pair(PairOperation::Sum) => version > 1,
+            Operation::Pair(PairOperation::Read) => true,
+            Operation::Pair(PairOperation::Write) => true,
+            Operation::Pair(PairOperation::Insert) => true,
+            Operation::Pair(PairOperation::Add) => true,
+            Operation::Number(_) => true,
+            Operation::Jump(_) => true,
+            Operation::Lone(_) => true,
+        }
+    }
+
+    /// The operation with this word in a text of a version.
+    #[inline(always)]
+    pub fn named_in(version: u8, word: &[u8]) -> Option<Operation>
+        ensures { result ≡ named_in_spec version word.now }
+    {
+        let operation = Operation::named(word)?;
+        if operation.is_of(version) {
+            Some(operation)
+        } else {
+            None
+        }
+    }
+}
+
 /// Its word in a text.
 impl Line for Operation {
     ghost text = { mnemonic };
@@ -188,6 +220,19 @@ impl Parts {
             Parts::Jump(JumpOperation::Beq, a, b, target) => Instr::Beq(a, b, target),
             Parts::Lone(LoneOperation::Commit) => Instr::Commit,
             Parts::Lone(LoneOperation::Abort) => Instr::Abort,
+        }
+    }
+
+    /// The operation that has these operands.
+    #[inline(always)]
+    pub fn operation(self) -> Operation
+        ensures { result ≡ operation_of self }
+    {
+        match self {
+            Parts::Number(operation, _, _) => Operation::Number(operation),
+            Parts::Pair(operation, _, _) => Operation::Pair(operation),
+            Parts::Jump(operation, _, _, _) => Operation::Jump(operation),
+            Parts::Lone(operation) => Operation::Lone(operation),
         }
     }
 }

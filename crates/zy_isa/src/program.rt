@@ -1,8 +1,12 @@
 //! Programs that are verified.
-ghost use Rattle.std.specs.Prelude.{◌≡◌, ◌<◌, ◌≤◌, Some, IfOk, IfNone, length, slice_index_or};
-ghost use Rattle.zy_isa.specs.Programs.{ends_well as ends_well_spec, stray_target as stray_target_spec, prog_fault, IsKept, IsProgram, IsVerified, Values};
+ghost use Rattle.std.specs.Prelude.{◌≡◌, ◌<◌, ◌≤◌, Some, IfOk, IfNone, IfSome, length, map, slice_index_or};
+ghost use Rattle.zy_isa.specs.Programs.{ends_well as ends_well_spec, stray_target as stray_target_spec, prog_fault, unknown as unknown_spec, IsProgram, IsVerified, Values};
+ghost use Rattle.zy_isa.specs.Operations.{has as has_spec};
+ghost use Rattle.zy_isa.specs.InstrWords.{word_of};
+ghost use Rattle.zy_isa.specs.ProgramWords.{instr_of_word, instrs_of_words};
 
 use crate::instr::Instr;
+use crate::word::{WORD_BYTES, decode, encode};
 use std::alloc::{AllocError, Global};
 use std::marker::Model;
 use thiserror::Error;
@@ -31,9 +35,10 @@ pub enum ProgFault {
 }
 
 /// A program of 1 to 64 instructions that ends with `commit` or `abort` and whose targets are in it: whoever holds one need not test it again.
+/// It is kept as the words of its instructions.
 #[derive(Drop)]
 pub struct Program {
-    instrs: Vec<Instr>,
+    words: Vec<[u8; WORD_BYTES]>,
 }
 
 impl Model for Program {
@@ -43,10 +48,11 @@ impl Model for Program {
     ghost Value = { List Instr };
 
     ghost use Rattle.zy_isa.specs.Programs.{IsProgram};
+    ghost use Rattle.zy_isa.specs.ProgramWords.{AreWords, instrs_of_words};
 
-    ghost view = { λ p. p.instrs.items };
+    ghost view = { λ p. instrs_of_words p.words.items };
 
-    ghost invariant = { λ p. IsProgram p.instrs.items };
+    ghost invariant = { λ p. AreWords p.words.items × IsProgram (instrs_of_words p.words.items) };
 }
 
 /// Whether the last instruction ends the program.
@@ -99,27 +105,51 @@ fn fault_of(instrs: &[Instr]) -> Option<ProgFault>
     None
 }
 
+/// The words of instructions.
+fn words_of(alloc: Global, instrs: &[Instr]) -> Result<Vec<[u8; WORD_BYTES]>, AllocError>
+    ensures { IfOk result (λ words. words.items ≡ map word_of instrs.now) }
+{
+    let mut words = Vec::with_capacity(alloc, instrs.len())?;
+    for instr in instrs {
+        words.push(encode(*instr))?;
+    }
+    Ok(words)
+}
+
+/// Whether a version has the instruction of a word.
+fn has(version: u8, word: [u8; WORD_BYTES]) -> bool
+    ensures { result ≡ has_spec version (instr_of_word word) }
+{
+    match decode(word) {
+        Some(instr) => instr.is_of(version),
+        None => true,
+    }
+}
+
+/// The index of the first of these words whose instruction a version does not have.
+fn unknown(version: u8, words: &[[u8; WORD_BYTES]]) -> Option<usize>
+    ensures value { result ≡ unknown_spec version (instrs_of_words words.now) }
+    ensures bound { IfSome result (λ i. i < length words.now) }
+{
+    for (i, word) in words.iter().enumerate() {
+        if !has(version, *word) {
+            return Some(i);
+        }
+    }
+    None
+}
+
 impl Program {
-    /// Tests a list of instructions, and keeps a copy of it.
+    /// Tests a list of instructions, and keeps their words.
     pub fn verify(alloc: Global, instrs: &[Instr]) -> Result<Program, ProgFault>
         ensures { IsVerified result instrs.now }
     {
         if let Some(fault) = fault_of(instrs) {
             return Err(fault);
         }
-        match instrs.to_vec(alloc) {
-            Ok(instrs) => Ok(Program { instrs }),
+        match words_of(alloc, instrs) {
+            Ok(words) => Ok(Program { words }),
             Err(_) => Err(ProgFault::Memory),
-        }
-    }
-
-    /// Tests a list of instructions, and keeps it. One that is no program is dropped.
-    pub fn of_instrs(instrs: Vec<Instr>) -> Result<Program, ProgFault>
-        ensures { IsKept result instrs.items }
-    {
-        match fault_of(instrs.as_slice()) {
-            Some(fault) => Err(fault),
-            None => Ok(Program { instrs }),
         }
     }
 
@@ -128,31 +158,43 @@ impl Program {
         ensures value { result ≡ length self.now }
         ensures verified { IsProgram self.now }
     {
-        self.instrs.len()
+        self.words.len()
     }
 
     /// The instruction at a place.
+    #[inline(always)]
     pub fn instr(&self, i: usize) -> Instr
         requires { i < length self.now }
         ensures value { result ≡ slice_index_or self.now i result }
         ensures verified { IsProgram self.now }
     {
-        self.instrs[i]
+        match decode(self.words[i]) {
+            Some(instr) => instr,
+            None => unreachable!(),
+        }
     }
 
-    /// The instructions in order.
-    pub fn instrs(&self) -> &[Instr]
-        ensures value { result.now ≡ self.entry.now }
+    /// The words of the instructions in order.
+    pub fn words(&self) -> &[[u8; WORD_BYTES]]
+        ensures value { result.now ≡ map word_of self.entry.now }
         ensures verified { IsProgram self.entry.now }
     {
-        self.instrs.as_slice()
+        self.words.as_slice()
+    }
+
+    /// The index of the first instruction that a version does not have.
+    pub fn unknown(&self, version: u8) -> Option<usize>
+        ensures value { result ≡ unknown_spec version self.now }
+        ensures few { IfSome result (λ i. i < 64) }
+    {
+        unknown(version, self.words.as_slice())
     }
 
     /// The same program once more.
     pub fn copy(&self, alloc: Global) -> Result<Program, AllocError>
         ensures { IfOk result (λ p. p ≡ self.now) }
     {
-        let instrs = self.instrs.as_slice().to_vec(alloc)?;
-        Ok(Program { instrs })
+        let words = self.words.as_slice().to_vec(alloc)?;
+        Ok(Program { words })
     }
 }

@@ -1,7 +1,7 @@
 //! Scenarios that are within the limits.
 ghost use Rattle.std.specs.Prelude.{◌≡◌, ◌<◌, ◌≤◌, IfOk, IfSome, None, length};
 ghost use Rattle.zy_isa.specs.Rows.{RowsFit, misplaced_row as misplaced_row_spec};
-ghost use Rattle.zy_isa.specs.Scenario.{IsScenario, IsTested, ArePrograms, HasChoices, choices_fault as choices_fault_spec, scenario_fault, misnamed_choice as misnamed_choice_spec, opening_rows as opening_rows_spec, opening_pages_for as opening_pages_for_spec};
+ghost use Rattle.zy_isa.specs.Scenario.{IsScenario, IsTested, ArePrograms, HasChoices, choices_fault as choices_fault_spec, instrs_fault as instrs_fault_spec, scenario_fault, misnamed_choice as misnamed_choice_spec, opening_rows as opening_rows_spec, opening_pages_for as opening_pages_for_spec};
 
 use crate::choice::Choice;
 use crate::program::Program;
@@ -56,6 +56,9 @@ pub enum ScenarioFault {
     /// 8: this choice names a transaction that is not there.
     #[error("choice {0} names a transaction that exists")]
     Choice(u16),
+    /// 9: in this transaction, the version does not have this instruction.
+    #[error("transaction {0}: version 1 does not have instruction {1}")]
+    Instruction(u8, u8),
 }
 
 /// A scenario within the limits: whoever holds one need not test it again.
@@ -134,6 +137,19 @@ fn choices_fault(count: usize, choices: &[Choice]) -> Option<ScenarioFault>
     Some(ScenarioFault::Choice(i as u16))
 }
 
+/// The first instruction that a version does not have.
+fn instrs_fault(version: u8, programs: &[Program]) -> Option<ScenarioFault>
+    requires { length programs.now ≤ 64 }
+    ensures { result ≡ instrs_fault_spec version 0 programs.now }
+{
+    for (t, program) in programs.iter().enumerate() {
+        if let Some(i) = program.unknown(version) {
+            return Some(ScenarioFault::Instruction(t as u8, i as u8));
+        }
+    }
+    None
+}
+
 /// Reads each row, which shows that its numbers fit.
 fn have_rows(rows: &[Row])
     ensures { RowsFit rows.now }
@@ -196,6 +212,9 @@ impl Scenario {
         if let Some(fault) = choices_fault(programs.len(), choices.as_slice()) {
             return Err(fault);
         }
+        if let Some(fault) = instrs_fault(version, programs.as_slice()) {
+            return Err(fault);
+        }
         Ok(Scenario::of_parts(version, cap, pages, rule, rows, programs, choices))
     }
 
@@ -236,7 +255,7 @@ impl Scenario {
         Ok(Scenario { choices, ..self })
     }
 
-    /// The version, 1 or 2: in version 2 the roles may turn round.
+    /// The version, 1 or 2: in version 2 the roles may turn round, and there is `sum`.
     pub fn version(&self) -> u8
         ensures value { result ≡ self.now.version }
         ensures tested { IsScenario self.now }

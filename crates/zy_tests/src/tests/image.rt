@@ -1,5 +1,6 @@
 //! A worked image and the faults of inputs near it, told from the page on the formats.
 
+use super::fixtures::has_instrs;
 use std::alloc::Global;
 use std::test::Fail;
 use zy_image::choices::with_choices;
@@ -31,7 +32,7 @@ fn is_worked(scenario: &Scenario) -> bool {
         && scenario.rule() == Rule::Held;
     let lists = scenario.rows().is_empty() && scenario.choices() == CHOICES.as_slice();
     match scenario.programs() {
-        [program] => head && lists && program.instrs() == PROGRAM.as_slice(),
+        [program] => head && lists && has_instrs(program, PROGRAM.as_slice()),
         _ => false,
     }
 }
@@ -91,9 +92,11 @@ fn a_wrong_byte_has_its_fault(rt: HostRuntime) {
         (11, 0, LoadFault::Program(0, ProgFault::Empty)),
         (11, 65, LoadFault::Program(0, ProgFault::TooLong)),
         (12, 8, LoadFault::Word(0, 0)),
+        (20, 8, LoadFault::Word(0, 1)),
         (21, 1, LoadFault::Word(0, 1)),
         (19, 3, LoadFault::Program(0, ProgFault::Target(0))),
         (28, 0, LoadFault::Program(0, ProgFault::NoEnd)),
+        (28, 8, LoadFault::Word(0, 2)),
         (37, 4, LoadFault::Truncated(47)),
         (37, 2, LoadFault::Trailing(44)),
         (38, 3, LoadFault::Choice(0)),
@@ -116,6 +119,27 @@ fn the_first_bytes_tell_the_version(rt: HostRuntime) -> Result<(), Fail> {
     let scenario = load(rt.alloc(), bytes.as_slice())?;
     assert_eq!(rt; scenario.version(), 2);
     assert!(rt; save(rt.alloc(), &scenario)?.as_slice() == bytes.as_slice());
+    Ok(())
+}
+
+/// The worked image of version 2, with another byte in this place.
+fn second_with(at: usize, byte: u8) -> [u8; 47] {
+    let mut bytes = IMAGE;
+    bytes[3] = b'2';
+    if let Some(place) = bytes.get_mut(at) {
+        *place = byte;
+    }
+    bytes
+}
+
+#[test]
+fn version_2_has_sum(rt: HostRuntime) -> Result<(), Fail> {
+    let bytes = second_with(20, 8);
+    let scenario = load(rt.alloc(), bytes.as_slice())?;
+    assert!(rt; save(rt.alloc(), &scenario)?.as_slice() == bytes.as_slice());
+    let last = second_with(28, 8);
+    let no_end = LoadFault::Program(0, ProgFault::NoEnd);
+    assert_eq!(rt; fault_of(rt.alloc(), last.as_slice()), Some(no_end));
     Ok(())
 }
 

@@ -22,4 +22,5 @@ invariant_of-result c =
       programs = old.programs;
       few_choices = named.0;
       choices_named = named.1;
+      instrs_known = old.instrs_known;
     }
