@@ -6,6 +6,9 @@ use Rattle.std.specs.Str.{all_ascii_digits}
 use Rattle.std.specs.Char.{is_ascii_digit}
 use Rattle.std.proofs.lemmas.Str.Parse.{IsNumeralModel, numerals_by_fold}
 use Rattle.std.proofs.lemmas.Fmt.{digits_decimal, digits_value-decimal, length-decimal-le, decimal_nonempty}
+use Rattle.zy_isa.specs.declared.version.Version.TheVariants.{One, Two}
+use Rattle.zy_isa.specs.declared.version.Version.{Version}
+use Rattle.zy_isa.specs.Versions.{word as version_word}
 use Rattle.zy_isa.specs.declared.node.Node.{Node}
 use Rattle.zy_isa.specs.declared.node.Node.TheVariants.{A, B}
 use Rattle.zy_isa.specs.declared.rule.Rule.{Rule}
@@ -352,9 +355,13 @@ lines_back (l ∷ ls) h =
     let text = text_spaced l h.0 in
     rw (append_assoc, first_of_text (spaced l) (text_of ls) text, uncommented (spaced l) text, split_spaced l h.0, h.1) (ap (λ x. l ∷ x) (lines_back ls h.2))
 
+version_clean : (v : Version) → are_clean (codes "zephyr" ∷ version_word v ∷ []) ≡ true
+version_clean One = refl
+version_clean Two = refl
+
 canon_clean : (s : Scenario) → IsScenario s → AreClean (canon_words s)
 canon_clean s h = (
-  clean_one (codes "zephyr") s.version (omega (arith, h.version_most)) refl refl,
+  version_clean s.version,
   refl,
   (
     clean_one (codes "cap") s.cap (omega (arith, h.cap_most)) refl refl,

@@ -1,5 +1,6 @@
 -- Instructions of a program that is still open are of the version, and so are those of the program.
 use Rattle.std.proofs.Common.{◌≡◌, ◌∙◌, ℕ, true, List, [], ◌∷◌, ◌++◌, Ok, sym, ap, subst}
+use Rattle.zy_isa.specs.declared.version.Version.{Version}
 use Rattle.zy_isa.specs.declared.instr.Instr.{Instr}
 use Rattle.zy_isa.specs.declared.operation.Operation.{Operation}
 use Rattle.zy_isa.specs.declared.operation.Parts.{Parts}
@@ -14,10 +15,10 @@ use Rattle.zy_asm.specs.Pending.{Pending, resolved, all_resolved}
 use Rattle.zy_asm.proofs.SpellLemmas.{SpellsPending}
 
 -- what it is once the labels are known, the version has
-abbrev pub FitsIn : ℕ → Pending → Type 0
+abbrev pub FitsIn : Version → Pending → Type 0
 FitsIn version p = (labels : List Mark) (i : Instr) → resolved labels p ≡ Ok i → has version i ≡ true
 
-abbrev pub AllFit : ℕ → List Pending → Type 0
+abbrev pub AllFit : Version → List Pending → Type 0
 AllFit version [] = Unit {0}
 AllFit version (p ∷ ps) = FitsIn version p × AllFit version ps
 
@@ -28,17 +29,17 @@ spelled_by labels (Pair o a b) w ws h = cc h
 spelled_by labels (Jump o a b n) w ws h = cc (h.1)
 spelled_by labels (Lone o) w ws h = cc h
 
-pub spelled_fits : (version : ℕ) (o : Operation) (ws : List (List ℕ)) (p : Pending) → is_of version o ≡ true → SpellsPending p (mnemonic o ∷ ws) → FitsIn version p
+pub spelled_fits : (version : Version) (o : Operation) (ws : List (List ℕ)) (p : Pending) → is_of version o ≡ true → SpellsPending p (mnemonic o ∷ ws) → FitsIn version p
 spelled_fits version o ws p known spelled labels i e =
     let same = same_operation o (operation_of (parts_of i)) (spelled_by labels (parts_of i) (mnemonic o) ws (spelled labels i e)) in
     subst (λ x. is_of version x ≡ true) same known
 
-pub all_fit-append : (version : ℕ) (O Q : List Pending) → AllFit version O → AllFit version Q → AllFit version (O ++ Q)
+pub all_fit-append : (version : Version) (O Q : List Pending) → AllFit version O → AllFit version Q → AllFit version (O ++ Q)
 all_fit-append version [] Q h g = g
 all_fit-append version (p ∷ O) Q h g = (h.0, all_fit-append version O Q h.1 g)
 
 -- the program is of the version
-pub all_known : (version : ℕ) (labels : List Mark) (ps : List Pending) (is : List Instr) → AllFit version ps → all_resolved labels ps ≡ Ok is → IsKnown version is
+pub all_known : (version : Version) (labels : List Mark) (ps : List Pending) (is : List Instr) → AllFit version ps → all_resolved labels ps ≡ Ok is → IsKnown version is
 all_known version labels [] is h e = let none : [] ≡ is = cc in subst (IsKnown version) none tt
 all_known version labels (p ∷ ps) is h e =
     let a = bind_ok (resolved labels p) _ is e in

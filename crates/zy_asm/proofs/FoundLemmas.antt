@@ -1,8 +1,9 @@
 -- What is read is meant.
 use Rattle.std.proofs.Common.{◌≡◌, ℕ, ◌+◌, ◌<◌, ◌≤◌, true, false, List, [], ◌∷◌, ◌++◌, length, map, codes, Ok, Some, None, refl, sym, ap, ◌∙◌, subst, inl, inr, arith, append_assoc, append-nil, length-append, ok_or}
-use Rattle.std.specs.Fmt.{decimal}
-use Rattle.std.proofs.lemmas.Fmt.{decimal_digit}
 use Rattle.std.specs.Str.{bytes_eq}
+use Rattle.zy_isa.proofs.VersionLemmas.{named_is as version_is}
+use Rattle.zy_isa.specs.declared.version.Version.{Version}
+use Rattle.zy_isa.specs.Versions.{word as version_word, named as version_named}
 use Rattle.zy_isa.specs.declared.rule.Rule.{Rule}
 use Rattle.zy_isa.specs.declared.rule.Rule.TheVariants.{Held, Loose}
 use Rattle.zy_isa.specs.declared.row.Row.{Row}
@@ -16,7 +17,7 @@ use Rattle.zy_asm.specs.declared.faults.AsmKind.TheVariants as kinds
 use Rattle.zy_asm.specs.declared.state.Stage.TheVariants as stage
 use Rattle.zy_asm.specs.Steps.{number_in}
 use Rattle.zy_isa.specs.Rows.{last_row, is_low}
-use Rattle.zy_asm.specs.Reading.{Seen, headed, version_of, rule_of, body_line, step, nothing_seen}
+use Rattle.zy_asm.specs.Reading.{Seen, headed, rule_of, body_line, step, nothing_seen}
 use Rattle.zy_isa.proofs.RowLemmas.{order_more}
 use Rattle.zy_isa.proofs.ScenarioLemmas.{no_fault}
 use Rattle.zy_isa.proofs.ResultLemmas.{bind_ok, if_ok, chosen_by, same, ok_or_ok}
@@ -78,20 +79,6 @@ headed_ok (x ∷ v ∷ []) name w h =
     rw (same x name p.0, e) refl
 headed_ok (x ∷ v ∷ y ∷ ys) name w h = cc
 
-version_ok : (w : List ℕ) (v : ℕ) → version_of w ≡ Some v → (w ≡ decimal v) × (1 ≤ v) × (v ≤ 2)
-version_ok w v h =
-    elim (chosen_by (bytes_eq w (codes "1")) _ _ _ h) [
-      | inl a ↦ let one : v ≡ 1 = cc (a.1) in (same w (codes "1") a.0 ∙ sym (decimal_digit 1 (omega arith)) ∙ ap decimal (sym one), omega (arith, one), omega (arith, one))
-      | inr a ↦
-          elim (chosen_by (bytes_eq w (codes "2")) _ _ _ a.1) [
-            | inl b ↦ let two : v ≡ 2 = cc (b.1) in (same w (codes "2") b.0 ∙ sym (decimal_digit 2 (omega arith)) ∙ ap decimal (sym two), omega (arith, two), omega (arith, two))
-            | inr b ↦ absurd (no v b.1)
-          ]
-    ]
-  where
-    no : (x : ℕ) → None ≡ Some x → ⊥
-    no x e = cc
-
 this_rule : (w : List ℕ) (a r : Rule) → bytes_eq w (rule_text a) ≡ true → Some a ≡ Some r → w ≡ rule_text r
 this_rule w a r e h = let q : a ≡ r = cc in same w (rule_text a) e ∙ ap rule_text q
 
@@ -106,7 +93,7 @@ rule_ok w r h =
     no : (x : Rule) → None ≡ Some x → ⊥
     no x e = cc
 
-record FoundRule (v c p : ℕ) (ls : List (List (List ℕ))) (t : Seen) : Type 0 where
+record FoundRule (v : Version) (c p : ℕ) (ls : List (List (List ℕ))) (t : Seen) : Type 0 where
   rule : Rule
   line : List (List ℕ)
   more : List (List (List ℕ))
@@ -114,7 +101,7 @@ record FoundRule (v c p : ℕ) (ls : List (List (List ℕ))) (t : Seen) : Type 0
   spelled : Spells (m.rule rule) line
   rows : FoundRows (base v c p rule []) more t
 
-found_rule : (ls : List (List (List ℕ))) (v c p : ℕ) (t : Seen) → 1 ≤ p → fold_lines (top stage.Rule (base v c p Held []) [] []) ls ≡ Ok t → FoundRule v c p ls t
+found_rule : (ls : List (List (List ℕ))) (v : Version) (c p : ℕ) (t : Seen) → 1 ≤ p → fold_lines (top stage.Rule (base v c p Held []) [] []) ls ≡ Ok t → FoundRule v c p ls t
 found_rule [] v c p t least h = cc
 found_rule (l ∷ ls) v c p t least h =
     let k = bind_ok (step (top stage.Rule (base v c p Held []) [] []) l) (λ u. fold_lines u ls) t h in
@@ -144,7 +131,7 @@ number_line l name w a b n h g =
     let q = number_in_ok w a b n g in
     record { word = w; spelled = headed_ok l name w h; number = q.0; least = q.1; most = q.2 }
 
-record FoundPages (v c : ℕ) (ls : List (List (List ℕ))) (t : Seen) : Type 0 where
+record FoundPages (v : Version) (c : ℕ) (ls : List (List (List ℕ))) (t : Seen) : Type 0 where
   pages : ℕ
   line : List (List ℕ)
   more : List (List (List ℕ))
@@ -152,7 +139,7 @@ record FoundPages (v c : ℕ) (ls : List (List (List ℕ))) (t : Seen) : Type 0 
   number : Number (codes "pages") 1 512 line pages
   rule : FoundRule v c pages more t
 
-found_pages : (ls : List (List (List ℕ))) (v c : ℕ) (t : Seen) → fold_lines (top stage.Pages (base v c 1 Held []) [] []) ls ≡ Ok t → FoundPages v c ls t
+found_pages : (ls : List (List (List ℕ))) (v : Version) (c : ℕ) (t : Seen) → fold_lines (top stage.Pages (base v c 1 Held []) [] []) ls ≡ Ok t → FoundPages v c ls t
 found_pages [] v c t h = cc
 found_pages (l ∷ ls) v c t h =
     let k = bind_ok (step (top stage.Pages (base v c 1 Held []) [] []) l) (λ u. fold_lines u ls) t h in
@@ -162,7 +149,7 @@ found_pages (l ∷ ls) v c t h =
     let q = number_line l (codes "pages") a.0 1 512 n.0 a.1 n.1 in
     record { pages = n.0; line = l; more = ls; lines = refl; number = q; rule = found_rule ls v c n.0 t q.least (rw e at k.2) }
 
-record FoundCap (v : ℕ) (ls : List (List (List ℕ))) (t : Seen) : Type 0 where
+record FoundCap (v : Version) (ls : List (List (List ℕ))) (t : Seen) : Type 0 where
   cap : ℕ
   line : List (List ℕ)
   more : List (List (List ℕ))
@@ -170,7 +157,7 @@ record FoundCap (v : ℕ) (ls : List (List (List ℕ))) (t : Seen) : Type 0 wher
   number : Number (codes "cap") 2 16 line cap
   pages : FoundPages v cap more t
 
-found_cap : (ls : List (List (List ℕ))) (v : ℕ) (t : Seen) → fold_lines (top stage.Cap (base v 2 1 Held []) [] []) ls ≡ Ok t → FoundCap v ls t
+found_cap : (ls : List (List (List ℕ))) (v : Version) (t : Seen) → fold_lines (top stage.Cap (base v 2 1 Held []) [] []) ls ≡ Ok t → FoundCap v ls t
 found_cap [] v t h = cc
 found_cap (l ∷ ls) v t h =
     let k = bind_ok (step (top stage.Cap (base v 2 1 Held []) [] []) l) (λ u. fold_lines u ls) t h in
@@ -191,8 +178,8 @@ pub record FoundText (ls : List (List (List ℕ))) (t : Seen) : Type 0 where
   pub spelled : SpellEach (statements (shows t) draft) ls
   pub tested : scenario_fault (shows t) ≡ None
 
-whole : (a : List (List ℕ)) (ls : List (List (List ℕ))) (v : ℕ) (t : Seen) → Spells (m.zephyr v) a → 1 ≤ v → v ≤ 2 → FoundCap v ls t → FoundText (a ∷ ls) t
-whole a ls v t z least most f =
+whole : (a : List (List ℕ)) (ls : List (List (List ℕ))) (v : Version) (t : Seen) → Spells (m.zephyr v) a → FoundCap v ls t → FoundText (a ∷ ls) t
+whole a ls v t z f =
     let g = f.pages in
     let i = g.rule in
     let j = i.rows in
@@ -203,7 +190,7 @@ whole a ls v t z least most f =
       draft = record { programs = r.programs; choices = r.choices };
       drafts = record { programs = refl; choices = refl; headed = r.headed; names_new = r.new; labelled = r.labelled };
       spelled = (z, ((f.number.word, f.number.spelled, f.number.number), ((g.number.word, g.number.spelled, g.number.number), (i.spelled, j.spelled))));
-      tested = no_fault (shows u) least most f.number.least f.number.most g.number.least g.number.most j.placed.few j.placed.few_pages j.placed.in_order r.few r.few_choices r.named r.known;
+      tested = no_fault (shows u) f.number.least f.number.most g.number.least g.number.most j.placed.few j.placed.few_pages j.placed.in_order r.few r.few_choices r.named r.known;
     } in
     subst (λ x. FoundText (a ∷ x) t) (sym lines) (subst (FoundText (a ∷ f.line ∷ g.line ∷ i.line ∷ i.more)) (sym r.same) all)
 
@@ -212,7 +199,7 @@ found_text [] t h = cc
 found_text (l ∷ ls) t h =
     let k = bind_ok (step nothing_seen l) (λ u. fold_lines u ls) t h in
     let a = bind_ok (headed l (codes "zephyr")) _ k.0 k.1 in
-    let v = bind_ok (ok_or (version_of a.0) kinds.Header) _ k.0 a.2 in
-    let is = version_ok a.0 v.0 (ok_or_ok (version_of a.0) kinds.Header v.0 v.1) in
+    let v = bind_ok (ok_or (version_named a.0) kinds.Header) _ k.0 a.2 in
+    let is = version_is a.0 v.0 (ok_or_ok (version_named a.0) kinds.Header v.0 v.1) in
     let e : k.0 ≡ top stage.Cap (base v.0 2 1 Held []) [] [] = cc (v.2) in
-    whole l ls v.0 t (headed_ok l (codes "zephyr") a.0 a.1 ∙ ap (λ (w : List ℕ). codes "zephyr" ∷ w ∷ []) is.0) is.1 is.2 (found_cap ls v.0 t (rw e at k.2))
+    whole l ls v.0 t (headed_ok l (codes "zephyr") a.0 a.1 ∙ ap (λ (w : List ℕ). codes "zephyr" ∷ w ∷ []) is) (found_cap ls v.0 t (rw e at k.2))

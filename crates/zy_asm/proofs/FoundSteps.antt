@@ -1,5 +1,6 @@
 -- What one line that is read means.
 use Rattle.std.proofs.Common.{◌≡◌, ℕ, ◌+◌, ◌<◌, ◌≤◌, Bool, true, false, List, [], ◌∷◌, ◌++◌, length, codes, Result, Ok, Err, Option, Some, None, is_some, if◌then◌else◌, refl, sym, ap, ◌∙◌, subst, inl, inr, ◌⊎◌, append-nil, length-append, nat_le, nat_lt, ok_or}
+use Rattle.zy_isa.specs.declared.version.Version.{Version}
 use Rattle.zy_isa.specs.declared.rule.Rule.{Rule}
 use Rattle.zy_isa.specs.declared.row.Row.{Row}
 use Rattle.zy_isa.specs.declared.instr.Instr.{Instr}
@@ -37,13 +38,13 @@ use Rattle.zy_asm.proofs.FitLemmas.{FitsIn, AllFit, spelled_fits}
 
 -- what the header and the rows gave
 pub record Base : Type 0 where
-  pub version : ℕ
+  pub version : Version
   pub cap : ℕ
   pub pages : ℕ
   pub rule : Rule
   pub rows : List Row
 
-abbrev pub base : ℕ → ℕ → ℕ → Rule → List Row → Base
+abbrev pub base : Version → ℕ → ℕ → Rule → List Row → Base
 base v c p r R = record { version = v; cap = c; pages = p; rule = r; rows = R }
 
 -- a state

@@ -7,6 +7,8 @@ use Rattle.std.specs.Prelude.{replicate}
 use Rattle.std.specs.List.{flat_map}
 use Rattle.std.specs.Fmt.{decimal}
 use Rattle.std.proofs.lemmas.Fmt.{decimal_digit}
+use Rattle.zy_isa.specs.declared.version.Version.{Version}
+use Rattle.zy_isa.proofs.VersionLemmas.{named_back as version_back}
 use Rattle.zy_isa.specs.declared.rule.Rule.{Rule}
 use Rattle.zy_isa.specs.declared.rule.Rule.TheVariants.{Held, Loose}
 use Rattle.zy_isa.specs.declared.node.Node.{Node}
@@ -34,7 +36,7 @@ use Rattle.zy_asm.specs.declared.state.Reader.{Reader}
 use Rattle.zy_isa.specs.Results.{◌>>=◌}
 use Rattle.zy_words.specs.Names.{is_numeral}
 use Rattle.zy_asm.specs.Pending.{Pending, resolved, all_resolved, program_of}
-use Rattle.zy_asm.specs.Reading.{Seen, seen, rule_of, version_of, own_number, open_line, choice_line, step, line_step, at_line, read_lines, reading, finish, nothing_seen}
+use Rattle.zy_asm.specs.Reading.{Seen, seen, rule_of, own_number, open_line, choice_line, step, line_step, at_line, read_lines, reading, finish, nothing_seen}
 use Rattle.zy_isa.proofs.RowLemmas.{Above, above_more}
 use Rattle.zy_isa.proofs.ResultLemmas.{bind_ok, not_below, over_not}
 use Rattle.zy_asm.proofs.SpellLemmas.{actor_word, node_word}
@@ -123,7 +125,7 @@ values_first : (i : Option Instr) (is : List Instr) → Values (instr_in i ++ is
 values_first None is h = (tt, h)
 values_first (Some i) is h = ((h.0, tt), h.1)
 
-known_first : (version : ℕ) (i : Option Instr) (is : List Instr) → IsKnown version (instr_in i ++ is) → IsKnown version (instr_in i) × IsKnown version is
+known_first : (version : Version) (i : Option Instr) (is : List Instr) → IsKnown version (instr_in i ++ is) → IsKnown version (instr_in i) × IsKnown version is
 known_first version None is h = (tt, h)
 known_first version (Some i) is h = ((h.0, tt), h.1)
 
@@ -320,12 +322,6 @@ rule_gives : (r : Rule) → rule_of (rule_text r) ≡ Some r
 rule_gives Held = refl
 rule_gives Loose = refl
 
-version_gives : (v : ℕ) → 1 ≤ v → v ≤ 2 → version_of (decimal v) ≡ Some v
-version_gives zero least most = absurd (omega arith)
-version_gives (suc zero) least most = ap version_of (decimal_digit 1 (omega arith))
-version_gives (suc (suc zero)) least most = ap version_of (decimal_digit 2 (omega arith))
-version_gives (suc (suc (suc v))) least most = absurd (omega arith)
-
 only_body : (s : Scenario) (d : Draft) (ls : List (List (List ℕ))) → IsScenario s → IsDraftOf d s → Worded ls
     → SpellEach (map m.row s.rows ++ following [] 0 d.programs d.choices) ls
     → fold_lines (top stage.Rows (base s.version s.cap s.pages s.rule []) [] []) ls ≡ Ok (all_of s (names_of 0 d.programs))
@@ -351,7 +347,7 @@ only_lines s d (x ∷ y ∷ z ∷ []) fits e w q = absurd q.1.1.1
 only_lines s d (x ∷ y ∷ z ∷ f ∷ ls) fits e w q =
     let cap = q.1.0 in
     let pages = q.1.1.0 in
-    rw (q.0, version_gives s.version fits.version_least fits.version_most, cap.1, number_in_gives cap.0 2 16 s.cap cap.2 fits.cap_least fits.cap_most)
+    rw (q.0, version_back s.version, cap.1, number_in_gives cap.0 2 16 s.cap cap.2 fits.cap_least fits.cap_most)
     (rw (pages.1, number_in_gives pages.0 1 512 s.pages pages.2 fits.pages_least fits.pages_most)
     (rw (q.1.1.1.0, rule_gives s.rule) (only_body s d ls fits e w.1.1.1.1 q.1.1.1.1)))
 

@@ -4,6 +4,7 @@ use Rattle.std.specs.Prelude.{replicate, is_none}
 use Rattle.std.specs.List.{find}
 use Rattle.std.specs.Str.{bytes_eq}
 use Rattle.std.specs.Char.{is_ascii_digit}
+use Rattle.zy_isa.specs.declared.version.Version.{Version}
 use Rattle.zy_isa.specs.declared.node.Node.{Node}
 use Rattle.zy_isa.specs.declared.node.Node.TheVariants as node
 use Rattle.zy_isa.specs.declared.node.Actor.{Actor}
@@ -80,7 +81,7 @@ no_label o = none (label_of (mnemonic o)) (each (λ x. is_none (label_of (mnemon
     none (Some w) h = cc
 
 -- what a keyword says of its word
-abbrev pub IsWordOf : ℕ → Keyword → List ℕ → Type 0
+abbrev pub IsWordOf : Version → Keyword → List ℕ → Type 0
 IsWordOf version k.Header w = Unit {0}
 IsWordOf version k.Row w = w ≡ codes "row"
 IsWordOf version k.Txn w = w ≡ codes "txn"
@@ -88,16 +89,16 @@ IsWordOf version (k.Instr o) w = (w ≡ mnemonic o) × (is_of version o ≡ true
 IsWordOf version (k.Choice a) w = w ≡ actor_word a
 IsWordOf version k.End w = w ≡ codes "end"
 
-by_key : (version : ℕ) (w : List ℕ) (a key : Keyword) → IsWordOf version a w → a ≡ key → IsWordOf version key w
+by_key : (version : Version) (w : List ℕ) (a key : Keyword) → IsWordOf version a w → a ≡ key → IsWordOf version key w
 by_key version w a key h e = rw e at h
 
-some_key : (version : ℕ) (w : List ℕ) (a key : Keyword) → IsWordOf version a w → Some a ≡ Some key → IsWordOf version key w
+some_key : (version : Version) (w : List ℕ) (a key : Keyword) → IsWordOf version a w → Some a ≡ Some key → IsWordOf version key w
 some_key version w a key h e = let q : a ≡ key = cc in by_key version w a key h q
 
-operation_ok : (version : ℕ) (w : List ℕ) (o : Operation) → named_in version w ≡ Some o → IsWordOf version (k.Instr o) w
+operation_ok : (version : Version) (w : List ℕ) (o : Operation) → named_in version w ≡ Some o → IsWordOf version (k.Instr o) w
 operation_ok version w o h = let f = found_in version (named w) o h in (named_is w o f.0, f.1)
 
-pub keyword_ok : (version : ℕ) (w : List ℕ) (key : Keyword) → keyword_of version w ≡ Some key → IsWordOf version key w
+pub keyword_ok : (version : Version) (w : List ℕ) (key : Keyword) → keyword_of version w ≡ Some key → IsWordOf version key w
 keyword_ok version w key h =
     elim (first_or k.Instr (named_in version w) _ key h) [
       | inl a ↦ by_key version w (k.Instr a.0) key (operation_ok version w a.0 a.1) a.2

@@ -9,6 +9,9 @@ use Rattle.zy_isa.specs.declared.row.Row.{Row}
 use Rattle.zy_isa.specs.declared.instr.Instr.{Instr}
 use Rattle.zy_isa.specs.declared.operation.Operation.{Operation}
 use Rattle.zy_isa.specs.declared.choice.Choice.{Choice}
+use Rattle.zy_isa.specs.declared.version.Version.{Version}
+use Rattle.zy_isa.specs.declared.version.Version.TheVariants.{One}
+use Rattle.zy_isa.specs.Versions.{named as version_named}
 use Rattle.zy_isa.specs.Operations.{named_in}
 use Rattle.zy_isa.specs.Words.{lines_of, words_of, number_of}
 use Rattle.zy_isa.specs.Rows.{last_row, is_low}
@@ -38,7 +41,7 @@ use Rattle.zy_asm.specs.Choices.{actor_of, action_of, chosen, transaction, are_t
 -- what the lines so far gave
 pub record Seen : Type 0 where
   pub stage : Stage
-  pub version : ℕ
+  pub version : Version
   pub cap : ℕ
   pub pages : ℕ
   pub rule : LockRule
@@ -65,7 +68,7 @@ seen r = record {
 }
 
 -- the first word of a statement below the header of a version
-abbrev pub keyword_of : ℕ → List ℕ → Option Keyword
+abbrev pub keyword_of : Version → List ℕ → Option Keyword
 keyword_of version w =
     option_or (option_map k.Instr (named_in version w)) (
     option_or (option_map k.Choice (actor_of w)) (
@@ -82,12 +85,6 @@ abbrev pub headed : List (List ℕ) → List ℕ → Result (List ℕ) AsmKind
 headed (w ∷ v ∷ []) name = if bytes_eq w name then Ok v else Err kinds.Header
 headed _ name = Err kinds.Header
 
-abbrev pub version_of : List ℕ → Option ℕ
-version_of w =
-    if bytes_eq w (codes "1") then Some 1 else
-    if bytes_eq w (codes "2") then Some 2 else
-    None
-
 abbrev pub rule_of : List ℕ → Option LockRule
 rule_of w =
     if bytes_eq w (codes "held") then Some Held else
@@ -97,7 +94,7 @@ rule_of w =
 abbrev pub zephyr_line : Seen → List (List ℕ) → Result Seen AsmKind
 zephyr_line s ws = do
   w ← headed ws (codes "zephyr")
-  v ← ok_or (version_of w) kinds.Header
+  v ← ok_or (version_named w) kinds.Header
   Ok (record s { stage = Cap; version = v })
 
 abbrev pub cap_line : Seen → List (List ℕ) → Result Seen AsmKind
@@ -297,7 +294,7 @@ read_lines s n [] = at_line n (finish s)
 read_lines s n (l ∷ ls) = at_line n (line_step s (words_of l)) >>= λ t. read_lines t (n + 1) ls
 
 abbrev pub nothing_seen : Seen
-nothing_seen = record { stage = Zephyr; version = 1; cap = 2; pages = 1; rule = Held; rows = []; names = []; programs = []; labels = []; instrs = []; choices = [] }
+nothing_seen = record { stage = Zephyr; version = One; cap = 2; pages = 1; rule = Held; rows = []; names = []; programs = []; labels = []; instrs = []; choices = [] }
 
 -- what a text gives, or its first fault
 abbrev pub reading : List ℕ → Result Seen AsmFault

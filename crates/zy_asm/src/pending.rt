@@ -10,7 +10,8 @@ use crate::table::Table;
 use std::alloc::Global;
 use zy_isa::instr::{Instr, Reg};
 use zy_isa::operation::{JumpOperation, Parts};
-use zy_isa::program::{ProgFault, Program};
+use zy_isa::program::Program;
+use zy_isa::word::Word;
 
 /// An instruction whose label, if it has one, is still to be found.
 #[derive(Debug, Drop)]
@@ -36,27 +37,26 @@ fn resolved(labels: &Table, instr: &Unresolved) -> Result<Instr, Reason>
     }
 }
 
-/// The instructions, where the labels of their program are these.
-fn all_resolved(alloc: Global, labels: &Table, instrs: &[Unresolved]) -> Result<Vec<Instr>, Reason>
+/// The words of the instructions, where the labels of their program are these.
+fn all_resolved(alloc: Global, labels: &Table, instrs: &[Unresolved]) -> Result<Vec<Word>, Reason>
     ensures { Gives (λ v. v.items) result (all_resolved_spec labels.now (map shown instrs.now)) }
 {
     let mut all = Vec::new(alloc);
     for instr in instrs {
         let instr = resolved(labels, instr)?;
-        if all.push(instr).is_err() {
+        if all.push(Word::of(instr)).is_err() {
             return Err(Reason::NoMemory);
         }
     }
     Ok(all)
 }
 
-/// The program of these instructions, which has this number.
-fn judged(alloc: Global, number: usize, instrs: &[Instr]) -> Result<Program, Reason>
-    ensures { Gives (λ p. p) result (judged_spec (prog_fault instrs.now) instrs.now) }
+/// The program of these words, which has this number.
+fn judged(number: usize, words: Vec<Word>) -> Result<Program, Reason>
+    ensures { by_kind result ≡ judged_spec (prog_fault words.items) words.items }
 {
-    match Program::verify(alloc, instrs) {
+    match Program::of_words(words) {
         Ok(program) => Ok(program),
-        Err(ProgFault::Memory) => Err(Reason::NoMemory),
         Err(fault) => Err(Reason::NoProgram { number, fault }),
     }
 }
@@ -70,6 +70,6 @@ pub fn program_of(
 ) -> Result<Program, Reason>
     ensures { Gives (λ p. p) result (program_of_spec labels.now (map shown instrs.now)) }
 {
-    let instrs = all_resolved(alloc, labels, instrs)?;
-    judged(alloc, number, instrs.as_slice())
+    let words = all_resolved(alloc, labels, instrs)?;
+    judged(number, words)
 }

@@ -3,7 +3,7 @@ ghost use Rattle.std.specs.Prelude.{◌≡◌, ◌≤◌, ◌<◌, ◌∷◌, �
 ghost use Rattle.zy_asm.specs.Reasons.{by_kind, seen_word};
 ghost use Rattle.zy_words.specs.Lines.{texts};
 ghost use Rattle.zy_asm.specs.Pending.{shown, whole};
-ghost use Rattle.zy_asm.specs.Reading.{Steps, Reads, seen, keyword_of as keyword_of_spec, headed as headed_spec, version_of as version_of_spec, rule_of as rule_of_spec, zephyr_line, cap_line, pages_line, rule_line, row_with as row_with_spec, row_of as row_of_spec, add_row, row_at, instr_line, instr_at, note_label, behind_label, label_line, closed, own_number as own_number_spec, note_name, head_line, open_line, txn_at, repeat_choice, repeat_line, plain_line, txn_action_line, choice_line, end_line, statement, body_line, step, line_step, ended as ended_spec, reading};
+ghost use Rattle.zy_asm.specs.Reading.{Steps, Reads, seen, keyword_of as keyword_of_spec, headed as headed_spec, rule_of as rule_of_spec, zephyr_line, cap_line, pages_line, rule_line, row_with as row_with_spec, row_of as row_of_spec, add_row, row_at, instr_line, instr_at, note_label, behind_label, label_line, closed, own_number as own_number_spec, note_name, head_line, open_line, txn_at, repeat_choice, repeat_line, plain_line, txn_action_line, choice_line, end_line, statement, body_line, step, line_step, ended as ended_spec, reading};
 
 use crate::choices::{
     Action, TxnAction, action_of, actor_of, are_times, chosen, not_times, numbered_choice,
@@ -25,6 +25,7 @@ use zy_isa::program::MAX_INSTRS;
 use zy_isa::row::Row;
 use zy_isa::rule::Rule;
 use zy_isa::scenario::{MAX_CAP, MAX_CHOICES, MAX_PAGES, MAX_ROWS, MAX_TXNS, opening_pages_for};
+use zy_isa::version::Version;
 use zy_words::line::{Words, take_line};
 use zy_words::names::{is, is_name, is_numeral, label_of};
 use zy_words::numbers::number_of;
@@ -47,7 +48,7 @@ pub enum Keyword {
 }
 
 /// The keyword that a word is in a version.
-fn keyword_of(version: u8, word: &[u8]) -> Option<Keyword>
+fn keyword_of(version: Version, word: &[u8]) -> Option<Keyword>
     ensures { result ≡ keyword_of_spec version word.now }
 {
     if let Some(operation) = Operation::named_in(version, word) {
@@ -76,19 +77,6 @@ fn headed<'a>(words: &[&'a [u8]], name: &[u8]) -> Result<&'a [u8], Reason>
     match words {
         [first, word] if *first == name => Ok(word),
         _ => Err(Reason::NotTheHeader),
-    }
-}
-
-/// The version that a word names.
-fn version_of(word: &[u8]) -> Option<u8>
-    ensures { result ≡ version_of_spec word.now }
-{
-    if is(word, b"1") {
-        Some(1)
-    } else if is(word, b"2") {
-        Some(2)
-    } else {
-        None
     }
 }
 
@@ -141,7 +129,7 @@ impl Reader {
     fn zephyr_line(&mut self, words: &[&[u8]]) -> Result<(), Reason>
         ensures { Steps result (seen self.new) (zephyr_line (seen self.old) (texts words.now)) }
     {
-        let Some(version) = version_of(headed(words, b"zephyr")?) else {
+        let Some(version) = Version::named(headed(words, b"zephyr")?) else {
             return Err(Reason::NotTheHeader);
         };
         self.version = version;
@@ -559,7 +547,7 @@ pub fn read(alloc: Global, text: &str) -> Result<Reader, Refusal>
     let mut reader = Reader {
         alloc,
         stage: Stage::Zephyr,
-        version: 1,
+        version: Version::One,
         cap: 2,
         pages: 1,
         rule: Rule::Held,

@@ -9,6 +9,7 @@ use zy_isa::choice::Choice;
 use zy_isa::program::Program;
 use zy_isa::row::Row;
 use zy_isa::rule::Rule;
+use zy_isa::version::Version;
 
 /// What may come next.
 #[derive(Clone, Copy, Debug, PartialEq, Eq)]
@@ -37,7 +38,7 @@ pub enum Stage {
 pub struct Reader {
     pub alloc: Global,
     pub stage: Stage,
-    pub version: u8,
+    pub version: Version,
     pub cap: u8,
     pub pages: u16,
     pub rule: Rule,

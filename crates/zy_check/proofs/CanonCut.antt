@@ -12,6 +12,9 @@ use Rattle.std.proofs.lemmas.Str.{IsAscii-append, IsUtf8-from_ascii, is_utf8-fro
 use Rattle.std.proofs.lemmas.Str.Ascii.{IsAscii-nil, IsAscii-cons}
 use Rattle.std.proofs.lemmas.Str.Parse.{numerals_by_value, tells_all_ascii_digits}
 use borrow.Author.Tests.{tests}
+use Rattle.zy_isa.specs.declared.version.Version.TheVariants.{One, Two}
+use Rattle.zy_isa.specs.declared.version.Version.{Version}
+use Rattle.zy_isa.specs.Versions.{word as version_word}
 use Rattle.zy_io.specs.Writing.{line_of}
 use Rattle.zy_isa.specs.declared.node.Node.{Node}
 use Rattle.zy_isa.specs.declared.node.Node.TheVariants.{A, B}
@@ -250,9 +253,13 @@ plain_rule : (r : Rule) → all_plain (codes "rule" ∷ rule_text r ∷ []) ≡ 
 plain_rule Held = refl
 plain_rule Loose = refl
 
+plain_version : (v : Version) → all_plain (codes "zephyr" ∷ version_word v ∷ []) ≡ true
+plain_version One = refl
+plain_version Two = refl
+
 plain_header : (s : Scenario) → IsScenario s → ArePlain (header_words s)
 plain_header s h = (
-  number_second (codes "zephyr") s.version (omega (arith, h.version_most)) refl,
+  plain_version s.version,
   refl,
   (
     number_second (codes "cap") s.cap (omega (arith, h.cap_most)) refl,

@@ -2,11 +2,16 @@
 use Rattle.std.specs.Prelude.{ℕ, ◌+◌, List, [], ◌∷◌, ◌++◌, map, codes}
 use Rattle.std.specs.Fmt.{decimal}
 use Rattle.std.specs.List.{flat_map}
+use Rattle.zy_isa.specs.declared.version.Version.{Version}
 use Rattle.zy_isa.specs.declared.rule.Rule.{Rule}
 use Rattle.zy_isa.specs.declared.instr.Instr.{Instr}
+use Rattle.zy_isa.specs.Versions.{word}
 use Rattle.zy_isa.specs.Words.{spaced}
 use Rattle.zy_isa.specs.Canon.{rule_text, row_text, instr_text}
 use Rattle.zy_isa.specs.Scenario.{Scenario}
+
+abbrev pub version_line : Version → List ℕ
+version_line v = spaced (codes "zephyr" ∷ word v ∷ [])
 
 -- a word, and a number
 abbrev pub number_text : List ℕ → ℕ → List ℕ
@@ -17,7 +22,7 @@ rule_line r = spaced (codes "rule" ∷ rule_text r ∷ [])
 
 abbrev pub header_texts : Scenario → List (List ℕ)
 header_texts s =
-    number_text (codes "zephyr") s.version ∷ number_text (codes "cap") s.cap ∷ number_text (codes "pages") s.pages ∷ rule_line s.rule ∷ []
+    version_line s.version ∷ number_text (codes "cap") s.cap ∷ number_text (codes "pages") s.pages ∷ rule_line s.rule ∷ []
 
 -- a program under its number
 abbrev pub program_texts : ℕ → List Instr → List (List ℕ)

@@ -1,11 +1,9 @@
 //! What stands before the choices: the header, the rows and the programs.
 ghost use Rattle.zy_disasm.specs.Lines.{program_parts, head_texts};
 
-use crate::lines::{Number, RuleLine};
-use std::alloc::AllocError;
+use crate::lines::{Number, RuleLine, VersionLine};
 use zy_io::buffer::LineBuffer;
-use zy_io::line::Line;
-use zy_io::section::{Both, Each, Lines, One, Parts, Section, write_lines, write_parts};
+use zy_io::section::{Both, Each, One, Parts, Section, write_parts};
 use zy_io::stream::Sink;
 use zy_io::writing::TextFault;
 use zy_isa::program::Program;
@@ -22,10 +20,7 @@ impl Section for Head<'_> {
         let scenario = self.0;
         let header = Both(
             Both(
-                One(Number {
-                    word: "zephyr",
-                    number: usize::from(scenario.version()),
-                }),
+                One(VersionLine(scenario.version())),
                 One(Number {
                     word: "cap",
                     number: usize::from(scenario.cap()),
@@ -41,36 +36,6 @@ impl Section for Head<'_> {
         );
         let body = Both(Each(scenario.rows()), Programs(scenario.programs()));
         Both(header, body).write(sink, line)
-    }
-}
-
-/// The instructions of a program.
-#[derive(Clone, Copy)]
-struct Body<'a>(&'a Program);
-
-impl Lines for Body<'_> {
-    ghost use Rattle.std.specs.Prelude.{map};
-    ghost use Rattle.zy_isa.specs.Canon.{instr_text};
-
-    ghost texts = { λ s. map instr_text s.0.now };
-
-    fn len(&self) -> usize {
-        self.0.len()
-    }
-
-    fn append(&self, place: usize, line: &mut LineBuffer) -> Result<(), AllocError> {
-        self.0.instr(place).append(line)
-    }
-}
-
-impl Section for Body<'_> {
-    ghost use Rattle.std.specs.Prelude.{map};
-    ghost use Rattle.zy_isa.specs.Canon.{instr_text};
-
-    ghost texts = { λ s. map instr_text s.0.now };
-
-    fn write<K: Sink>(&self, sink: &mut K, line: &mut LineBuffer) -> Result<(), TextFault> {
-        write_lines(sink, line, self)
     }
 }
 
@@ -95,7 +60,7 @@ impl Parts for Programs<'_> {
             word: "txn",
             number: place,
         };
-        Both(One(title), Body(&self.0[place])).write(sink, line)
+        Both(One(title), Each(self.0[place].words())).write(sink, line)
     }
 }
 

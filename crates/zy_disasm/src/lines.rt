@@ -1,10 +1,23 @@
 //! The lines of a scenario's text that are no single item of it.
-ghost use Rattle.zy_disasm.specs.Lines.{number_text, rule_line};
+ghost use Rattle.zy_disasm.specs.Lines.{version_line, number_text, rule_line};
 
 use std::alloc::AllocError;
 use zy_io::buffer::LineBuffer;
 use zy_io::line::{Decimal, Joined, Line};
 use zy_isa::rule::Rule;
+use zy_isa::version::Version;
+
+/// The first line.
+#[derive(Clone, Copy)]
+pub(crate) struct VersionLine(pub Version);
+
+impl Line for VersionLine {
+    ghost text = { λ l. version_line l.0 };
+
+    fn append(&self, line: &mut LineBuffer) -> Result<(), AllocError> {
+        Joined("zephyr ", self.0).append(line)
+    }
+}
 
 /// A word, and a number.
 #[derive(Clone, Copy)]

@@ -3,6 +3,7 @@ use Rattle.std.proofs.Common.{◌≡◌, ◌==◌, ℕ, ◌≤◌, ◌||◌, fal
 use Rattle.std.specs.Prelude.{OnOk}
 use Rattle.std.specs.List.{flat_map}
 use Rattle.std.specs.Int.{w16, to_be_bytes}
+use Rattle.zy_isa.specs.declared.version.Version.{Version}
 use Rattle.zy_isa.specs.declared.row.Row.{Row}
 use Rattle.zy_isa.specs.declared.instr.Instr.{Instr}
 use Rattle.zy_isa.specs.declared.program.ProgFault.{ProgFault}
@@ -71,7 +72,7 @@ count_ok t n m h =
     let b = if_err (nat_lt 64 n.0) (Ok n) (fault.Program t prog.TooLong) m a.1 in
     cc (b.1)
 
-pub program_found : (version size : ℕ) (ps : List (List Instr)) (bytes : List ℕ) (is : List Instr) (left : List ℕ) → AreKnown version ps → AreBytes bytes
+pub program_found : (version : Version) (size : ℕ) (ps : List (List Instr)) (bytes : List ℕ) (is : List Instr) (left : List ℕ) → AreKnown version ps → AreBytes bytes
     → next_program version size ps bytes ≡ Ok (is, left) → TookItem program_image (AreKnown version) ps bytes is left
 program_found version size ps bytes is left known fit h =
     let t = length ps in
@@ -88,7 +89,7 @@ program_found version size ps bytes is left known fit h =
       kept = program_more version ps is known i.kept;
     }
 
-program_gives : (version size : ℕ) (before : List (List Instr)) (is : List Instr) (left : List ℕ) → IsProgram is → IsKnown version is → next_program version size before (program_image is ++ left) ≡ Ok (is, left)
+program_gives : (version : Version) (size : ℕ) (before : List (List Instr)) (is : List Instr) (left : List ℕ) → IsProgram is → IsKnown version is → next_program version size before (program_image is ++ left) ≡ Ok (is, left)
 program_gives version size before is left p known =
     let t = length before in
     let some : (length is == 0) ≡ false = is_some (length is) p.some in
@@ -97,18 +98,18 @@ program_gives version size before is left p known =
     let read : instrs version t size (length is ∷ (flat_map word_of is ++ left)) ≡ Ok (is, left) = rw count (items_give word_of (next_instr version t size) is [] left (instrs_read version t size is [] p.values known)) in
     rw read (rw (no_prog_fault is p) refl)
 
-programs_read : (version size : ℕ) (ps before : List (List Instr)) → ArePrograms ps → AreKnown version ps → AreRead program_image (next_program version size) before ps
+programs_read : (version : Version) (size : ℕ) (ps before : List (List Instr)) → ArePrograms ps → AreKnown version ps → AreRead program_image (next_program version size) before ps
 programs_read version size [] before h known = tt
 programs_read version size (p ∷ ps) before h known =
     ((λ left. program_gives version size before p left h.0 known.0), programs_read version size ps (before ++ p ∷ []) h.1 known.1)
 
-pub record FoundPrograms (version : ℕ) (bytes : List ℕ) (ps : List (List Instr)) (left : List ℕ) : Type 0 where
+pub record FoundPrograms (version : Version) (bytes : List ℕ) (ps : List (List Instr)) (left : List ℕ) : Type 0 where
   pub same : bytes ≡ programs_image ps ++ left
   pub back : AreBytes left
   pub few : length ps ≤ 64
   pub known : AreKnown version ps
 
-pub programs_found : (version size : ℕ) (bytes : List ℕ) (ps : List (List Instr)) (left : List ℕ) → AreBytes bytes → programs version size bytes ≡ Ok (ps, left) → FoundPrograms version bytes ps left
+pub programs_found : (version : Version) (size : ℕ) (bytes : List ℕ) (ps : List (List Instr)) (left : List ℕ) → AreBytes bytes → programs version size bytes ≡ Ok (ps, left) → FoundPrograms version bytes ps left
 programs_found version size bytes ps left fit e =
     let f = bind_ok (program_count size bytes) (λ n. read_items (next_program version size) [] n.0 n.1) (ps, left) e in
     let g = bind_ok (byte size bytes) _ f.0 f.1 in
@@ -123,7 +124,7 @@ programs_found version size bytes ps left fit e =
       known = i.kept;
     }
 
-pub programs_give : (version size : ℕ) (ps : List (List Instr)) (left : List ℕ) → length ps ≤ 64 → ArePrograms ps → AreKnown version ps → programs version size (programs_image ps ++ left) ≡ Ok (ps, left)
+pub programs_give : (version : Version) (size : ℕ) (ps : List (List Instr)) (left : List ℕ) → length ps ≤ 64 → ArePrograms ps → AreKnown version ps → programs version size (programs_image ps ++ left) ≡ Ok (ps, left)
 programs_give version size ps left few h known =
     let count : program_count size (length ps ∷ (flat_map program_image ps ++ left)) ≡ Ok (length ps, flat_map program_image ps ++ left) =
     rw (byte_gives size (length ps) (flat_map program_image ps ++ left)) (rw (over_not (length ps) 64 few) refl) in

@@ -5,6 +5,7 @@ use Rattle.std.proofs.lemmas.List.{take-append-drop, length-take-le, length-drop
 use Rattle.std.proofs.lemmas.Nat.{be_bytes_2, be_bytes_4, from_be_bytes-to_be_bytes_2, from_be_bytes-to_be_bytes_4}
 use Rattle.std.specs.Prelude.{take, drop}
 use Rattle.std.specs.Int.{w32, to_be_bytes}
+use Rattle.zy_isa.specs.declared.version.Version.{Version}
 use Rattle.zy_isa.specs.declared.row.Row.{Row}
 use Rattle.zy_isa.specs.declared.instr.Instr.{Instr}
 use Rattle.zy_isa.specs.declared.node.Node.{Node}
@@ -78,7 +79,7 @@ rows_read size low (r ∷ rows) before rise fit above = (
 
 -- ---- instructions
 
-known_found : (version : ℕ) (o : Option Instr) (i : Instr) → if_known version o ≡ Some i → (o ≡ Some i) × (has version i ≡ true)
+known_found : (version : Version) (o : Option Instr) (i : Instr) → if_known version o ≡ Some i → (o ≡ Some i) × (has version i ≡ true)
 known_found version None i h = cc
 known_found version (Some x) i h = by (has version x) refl h
   where
@@ -86,7 +87,7 @@ known_found version (Some x) i h = by (has version x) refl h
     by true e g = (g, subst (λ z. has version z ≡ true) (let q : x ≡ i = cc in q) e)
     by false e g = cc
 
-pub instr_found : (version t size : ℕ) (is : List Instr) (bytes : List ℕ) (i : Instr) (left : List ℕ) → IsKnown version is → AreBytes bytes → next_instr version t size is bytes ≡ Ok (i, left)
+pub instr_found : (version : Version) (t size : ℕ) (is : List Instr) (bytes : List ℕ) (i : Instr) (left : List ℕ) → IsKnown version is → AreBytes bytes → next_instr version t size is bytes ≡ Ok (i, left)
     → TookItem word_of (IsKnown version) is bytes i left
 instr_found version t size is bytes i left known fit h =
     let f = bind_ok (field 8 size bytes) _ (i, left) h in
@@ -108,12 +109,12 @@ word_size (Pair o a b) = refl
 word_size (Jump o a b n) = refl
 word_size (Lone o) = refl
 
-instr_gives : (version t size : ℕ) (before : List Instr) (i : Instr) (left : List ℕ) → HasValue i → has version i ≡ true → next_instr version t size before (word_of i ++ left) ≡ Ok (i, left)
+instr_gives : (version : Version) (t size : ℕ) (before : List Instr) (i : Instr) (left : List ℕ) → HasValue i → has version i ≡ true → next_instr version t size before (word_of i ++ left) ≡ Ok (i, left)
 instr_gives version t size before i left v known =
     let e : field 8 size (word_of i ++ left) ≡ Ok (word_of i, left) = subst (λ n. field n size (word_of i ++ left) ≡ Ok (word_of i, left)) (word_size (parts_of i)) (field_gives size (word_of i) left) in
     rw e (rw (decoded_only i v) (rw known refl))
 
-pub instrs_read : (version t size : ℕ) (is before : List Instr) → Values is → IsKnown version is → AreRead word_of (next_instr version t size) before is
+pub instrs_read : (version : Version) (t size : ℕ) (is before : List Instr) → Values is → IsKnown version is → AreRead word_of (next_instr version t size) before is
 instrs_read version t size [] before values known = tt
 instrs_read version t size (i ∷ is) before values known =
     ((λ left. instr_gives version t size before i left values.0 known.0), instrs_read version t size is (before ++ i ∷ []) values.1 known.1)

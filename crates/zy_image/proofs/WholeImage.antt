@@ -1,16 +1,18 @@
 -- The whole image: what was read has it as its image, and the image of a scenario is read as it.
 use Rattle.std.proofs.Common.{◌≡◌, ◌==◌, ℕ, zero, suc, inl, inr, ◌-◌, ◌≤◌, Bool, true, false, List, [], ◌∷◌, ◌++◌, length, Some, None, Ok, Err, refl, sym, ap, ◌∙◌, subst, append-nil, arith, if◌then◌else◌, ok_or}
 use Rattle.std.specs.Int.{w16, to_be_bytes}
-use Rattle.std.specs.Str.{bytes_eq}
+use Rattle.zy_isa.specs.declared.version.Version.{Version}
+use Rattle.zy_isa.specs.Versions.{magic, marked}
+use Rattle.zy_isa.proofs.VersionLemmas.{marked_is, marked_back}
 use Rattle.zy_isa.specs.declared.rule.Rule.{Rule}
 use Rattle.zy_isa.specs.declared.rule.Rule.TheVariants.{Held, Loose}
 use Rattle.zy_isa.specs.Scenario.{Scenario, IsScenario, scenario_fault, is_outside}
-use Rattle.zy_isa.proofs.ResultLemmas.{bind_ok, chosen_by, if_ok, if_err, ok_or_ok, same, in_range, out_of_neither}
+use Rattle.zy_isa.proofs.ResultLemmas.{bind_ok, if_ok, if_err, ok_or_ok, in_range, out_of_neither}
 use Rattle.zy_isa.proofs.ScenarioLemmas.{no_fault}
 use Rattle.zy_image.specs.declared.faults.LoadFault.TheVariants as fault
 use Rattle.zy_image.specs.declared.head.Head.{Head}
-use Rattle.zy_image.specs.Image.{magic, rule_byte, rows_image, programs_image, choices_image, image_of, IsImage}
-use Rattle.zy_image.specs.Reading.{field, byte, half, version_at, magic_field, cap_field, pages_field, rule_at, rule_field, head_fields, rows, programs, choices, ended, of_parts, reading}
+use Rattle.zy_image.specs.Image.{rule_byte, rows_image, programs_image, choices_image, image_of, IsImage}
+use Rattle.zy_image.specs.Reading.{field, byte, half, magic_field, cap_field, pages_field, rule_at, rule_field, head_fields, rows, programs, choices, ended, of_parts, reading}
 use Rattle.zy_image.proofs.FieldLemmas.{AreBytes, one_value, one_answer, field_found, field_gives, byte_found, byte_gives, half_found, half_gives}
 use Rattle.zy_image.proofs.ListImages.{rows_found, rows_give, programs_found, programs_give, choices_found, choices_give}
 use borrow.Author.Tests.{tests}
@@ -22,31 +24,17 @@ record FoundNumber (least most : ℕ) (image : ℕ → List ℕ) (bytes : List �
   back : AreBytes left
   range : (least ≤ n) × (n ≤ most)
 
--- the version that a chain of tests chose
-version_is : (f : List ℕ) (v : ℕ) → version_at f ≡ Some v → (f ≡ magic v) × (1 ≤ v) × (v ≤ 2)
-version_is f v h =
-    elim (chosen_by (bytes_eq f (magic 1)) _ _ _ h) [
-      | inl a ↦ let one : v ≡ 1 = cc (a.1) in (same f (magic 1) a.0 ∙ ap magic (sym one), omega (arith, one), omega (arith, one))
-      | inr a ↦ elim (chosen_by (bytes_eq f (magic 2)) _ _ _ a.1) [
-        | inl b ↦ let two : v ≡ 2 = cc (b.1) in (same f (magic 2) b.0 ∙ ap magic (sym two), omega (arith, two), omega (arith, two))
-        | inr b ↦ absurd cc
-      ]
-    ]
-
-magic_found : (size : ℕ) (bytes : List ℕ) (v : ℕ) (left : List ℕ) → AreBytes bytes → magic_field size bytes ≡ Ok (v, left) → FoundNumber 1 2 magic bytes v left
+magic_found : (size : ℕ) (bytes : List ℕ) (v : Version) (left : List ℕ) → AreBytes bytes → magic_field size bytes ≡ Ok (v, left) → (bytes ≡ magic v ++ left) × AreBytes left
 magic_found size bytes v left fit h =
     let f = bind_ok (field 4 size bytes) _ (v, left) h in
     let d = field_found 4 size bytes f.0.0 f.0.1 fit f.1 in
-    let g = bind_ok (ok_or (version_at f.0.0) fault.Magic) _ (v, left) f.2 in
+    let g = bind_ok (ok_or (marked f.0.0) fault.Magic) _ (v, left) f.2 in
     let s = one_answer g.0 v f.0.1 left g.2 in
-    let x = version_is f.0.0 v (ok_or_ok (version_at f.0.0) fault.Magic g.0 g.1 ∙ ap (λ n. Some n) s.0) in
-    record { same_bytes = d.same ∙ ap (λ z. z ++ f.0.1) x.0 ∙ ap (λ z. magic v ++ z) s.1; back = subst AreBytes s.1 d.back; range = (x.1, x.2) }
+    let x = marked_is f.0.0 v (ok_or_ok (marked f.0.0) fault.Magic g.0 g.1 ∙ ap (λ n. Some n) s.0) in
+    (d.same ∙ ap (λ z. z ++ f.0.1) x ∙ ap (λ z. magic v ++ z) s.1, subst AreBytes s.1 d.back)
 
-magic_gives : (size v : ℕ) (left : List ℕ) → 1 ≤ v → v ≤ 2 → magic_field size (magic v ++ left) ≡ Ok (v, left)
-magic_gives size zero left least most = absurd (omega arith)
-magic_gives size (suc zero) left least most = rw (field_gives size (magic 1) left) refl
-magic_gives size (suc (suc zero)) left least most = rw (field_gives size (magic 2) left) refl
-magic_gives size (suc (suc (suc n))) left least most = absurd (omega arith)
+magic_gives : (size : ℕ) (v : Version) (left : List ℕ) → magic_field size (magic v ++ left) ≡ Ok (v, left)
+magic_gives size v left = rw (field_gives size (magic v) left, marked_back v) refl
 
 cap_found : (size : ℕ) (bytes : List ℕ) (n : ℕ) (left : List ℕ) → AreBytes bytes → cap_field size bytes ≡ Ok (n, left) → FoundNumber 2 16 (λ b. b ∷ []) bytes n left
 cap_found size bytes n left fit h =
@@ -100,7 +88,6 @@ front_of h = magic h.version ++ (h.cap ∷ to_be_bytes w16 h.pages ++ rule_byte 
 record FoundHead (bytes : List ℕ) (h : Head) (left : List ℕ) : Type 0 where
   same_bytes : bytes ≡ front_of h ++ left
   back : AreBytes left
-  version : (1 ≤ h.version) × (h.version ≤ 2)
   cap : (2 ≤ h.cap) × (h.cap ≤ 16)
   pages : (1 ≤ h.pages) × (h.pages ≤ 512)
 
@@ -109,7 +96,7 @@ head_found size bytes h left fit e =
     let a = bind_ok (magic_field size bytes) _ (h, left) e in
     let m = magic_found size bytes a.0.0 a.0.1 fit a.1 in
     let b = bind_ok (cap_field size a.0.1) _ (h, left) a.2 in
-    let c = cap_found size a.0.1 b.0.0 b.0.1 m.back b.1 in
+    let c = cap_found size a.0.1 b.0.0 b.0.1 m.1 b.1 in
     let d = bind_ok (pages_field size b.0.1) _ (h, left) b.2 in
     let p = pages_found size b.0.1 d.0.0 d.0.1 c.back d.1 in
     let f = bind_ok (rule_field size d.0.1) _ (h, left) d.2 in
@@ -117,22 +104,21 @@ head_found size bytes h left fit e =
     let head : Head = record { version = a.0.0; cap = b.0.0; pages = d.0.0; rule = f.0.0 } in
     let s = one_answer head h f.0.1 left f.2 in
     let all : bytes ≡ front_of head ++ f.0.1 =
-    m.same_bytes ∙ ap (λ x. magic a.0.0 ++ x) (c.same_bytes ∙ ap (λ x. b.0.0 ∷ x) (p.same_bytes ∙ ap (λ x. to_be_bytes w16 d.0.0 ++ x) r.same_bytes)) in
+    m.0 ∙ ap (λ x. magic a.0.0 ++ x) (c.same_bytes ∙ ap (λ x. b.0.0 ∷ x) (p.same_bytes ∙ ap (λ x. to_be_bytes w16 d.0.0 ++ x) r.same_bytes)) in
     record {
       same_bytes = all ∙ ap (λ x. front_of x ++ f.0.1) s.0 ∙ ap (λ x. front_of h ++ x) s.1;
       back = subst AreBytes s.1 r.back;
-      version = subst (λ (x : Head). (1 ≤ x.version) × (x.version ≤ 2)) s.0 m.range;
       cap = subst (λ (x : Head). (2 ≤ x.cap) × (x.cap ≤ 16)) s.0 c.range;
       pages = subst (λ (x : Head). (1 ≤ x.pages) × (x.pages ≤ 512)) s.0 p.range;
     }
 
-head_gives : (size : ℕ) (h : Head) (left : List ℕ) → 1 ≤ h.version → h.version ≤ 2 → 2 ≤ h.cap → h.cap ≤ 16 → 1 ≤ h.pages → h.pages ≤ 512 → head_fields size (front_of h ++ left) ≡ Ok (h, left)
-head_gives size h left v1 v2 c2 c16 p1 p512 =
+head_gives : (size : ℕ) (h : Head) (left : List ℕ) → 2 ≤ h.cap → h.cap ≤ 16 → 1 ≤ h.pages → h.pages ≤ 512 → head_fields size (front_of h ++ left) ≡ Ok (h, left)
+head_gives size h left c2 c16 p1 p512 =
     let rest : List ℕ = rule_byte h.rule ∷ left in
     let pages_on : List ℕ = to_be_bytes w16 h.pages ++ rest in
     let cap : cap_field size (h.cap ∷ pages_on) ≡ Ok (h.cap, pages_on) = rw (byte_gives size h.cap pages_on) (rw (out_of_neither h.cap 2 16 c2 c16) refl) in
     let pages : pages_field size pages_on ≡ Ok (h.pages, rest) = rw (half_gives size h.pages rest (omega (arith, p512))) (rw (out_of_neither h.pages 1 512 p1 p512) refl) in
-    rw (magic_gives size h.version (h.cap ∷ pages_on) v1 v2) (rw cap (rw pages (rw (rule_gives size h.rule left) refl)))
+    rw (magic_gives size h.version (h.cap ∷ pages_on)) (rw cap (rw pages (rw (rule_gives size h.rule left) refl)))
 
 -- ---- the whole
 
@@ -165,7 +151,7 @@ image_found bytes s fit e =
     h.same_bytes ∙ ap (λ x. front_of a.0.0 ++ x) (r.same ∙ ap (λ x. rows_image b.0.0 ++ x) (p.same ∙ ap (λ x. programs_image c.0.0 ++ x) (q.same ∙ ap (λ x. choices_image d.0.0 ++ x) none ∙ append-nil (choices_image d.0.0)))) in
     record {
       same_bytes = all ∙ ap image_of same;
-      no_fault = subst (λ x. scenario_fault x ≡ None) same (no_fault t h.version.0 h.version.1 h.cap.0 h.cap.1 h.pages.0 h.pages.1 r.few r.few_pages r.order p.few q.few q.named p.known);
+      no_fault = subst (λ x. scenario_fault x ≡ None) same (no_fault t h.cap.0 h.cap.1 h.pages.0 h.pages.1 r.few r.few_pages r.order p.few q.few q.named p.known);
     }
 
 pub image_gives : (s : Scenario) → IsScenario s → reading (image_of s) ≡ Ok s
@@ -174,7 +160,7 @@ image_gives s i =
     let h : Head = record { version = s.version; cap = s.cap; pages = s.pages; rule = s.rule } in
     let last : List ℕ = choices_image s.choices in
     let more : List ℕ = programs_image s.programs ++ last in
-    let head = head_gives size h (rows_image s.rows ++ more) i.version_least i.version_most i.cap_least i.cap_most i.pages_least i.pages_most in
+    let head = head_gives size h (rows_image s.rows ++ more) i.cap_least i.cap_most i.pages_least i.pages_most in
     let r = rows_give h size s.rows more i.few_rows i.few_opening_pages i.rows_rise i.rows_fit in
     let p = programs_give s.version size s.programs last i.few_programs i.programs i.instrs_known in
     let c : choices (length s.programs) size last ≡ Ok (s.choices, []) = ap (choices (length s.programs) size) (sym (append-nil last)) ∙ choices_give (length s.programs) size s.choices [] i.few_choices i.choices_named in

@@ -1,5 +1,5 @@
 -- The image of a scenario: its fields one behind the other, each number from its highest byte down.
-use Rattle.std.specs.Prelude.{◌≡◌, ◌+◌, ℕ, List, [], ◌∷◌, ◌++◌, length, codes}
+use Rattle.std.specs.Prelude.{◌≡◌, ◌+◌, ℕ, List, [], ◌∷◌, ◌++◌, length}
 use Rattle.std.specs.List.{flat_map}
 use Rattle.std.specs.Int.{w16, w32, to_be_bytes}
 use Rattle.zy_isa.specs.declared.rule.Rule.{Rule}
@@ -10,12 +10,9 @@ use Rattle.zy_isa.specs.declared.node.Node.TheVariants.{A, B}
 use Rattle.zy_isa.specs.declared.instr.Instr.{Instr}
 use Rattle.zy_isa.specs.declared.choice.Choice.{Choice}
 use Rattle.zy_isa.specs.declared.choice.Choice.TheVariants.{Start, Begin, Kill, Run, Take, Finish, Push}
+use Rattle.zy_isa.specs.Versions.{magic}
 use Rattle.zy_isa.specs.InstrWords.{word_of}
 use Rattle.zy_isa.specs.Scenario.{Scenario, IsScenario}
-
--- the first bytes: ZPH, and the digit of the version
-abbrev pub magic : ℕ → List ℕ
-magic version = codes "ZPH" ++ (48 + version) ∷ []
 
 abbrev pub rule_byte : Rule → ℕ
 rule_byte Held = 0

@@ -2,8 +2,9 @@
 use Rattle.std.specs.Prelude.{◌≡◌, ◌==◌, ◌-◌, ◌⊎◌, ◌||◌, ℕ, zero, suc, nat_lt, List, [], ◌∷◌, ◌++◌, length, take, drop, get_or, Option, Some, None, Result, Ok, Err, ok_or, option_map, if◌then◌else◌}
 use Rattle.std.specs.Result.{result_err}
 use Rattle.std.specs.Int.{w16, w32, from_be_bytes}
-use Rattle.std.specs.Str.{bytes_eq}
 use Rattle.std.specs.Borrow.{Bor}
+use Rattle.zy_isa.specs.declared.version.Version.{Version}
+use Rattle.zy_isa.specs.Versions.{marked}
 use Rattle.zy_isa.specs.declared.rule.Rule.{Rule}
 use Rattle.zy_isa.specs.declared.rule.Rule.TheVariants.{Held, Loose}
 use Rattle.zy_isa.specs.declared.row.Row.{Row}
@@ -23,7 +24,6 @@ use Rattle.zy_isa.specs.Scenario.{Scenario, is_outside, misnamed_choice, opening
 use Rattle.zy_image.specs.declared.faults.LoadFault.{LoadFault}
 use Rattle.zy_image.specs.declared.faults.LoadFault.TheVariants as fault
 use Rattle.zy_image.specs.declared.head.Head.{Head}
-use Rattle.zy_image.specs.Image.{magic}
 
 -- what was read, and the bytes behind it; or the first fault
 abbrev pub Read : Type 0 → Type 0
@@ -45,14 +45,10 @@ half size bytes = field 2 size bytes >>= λ f. Ok (from_be_bytes w16 f.0, f.1)
 
 -- ---- the head
 
--- the version that the first bytes tell
-abbrev pub version_at : List ℕ → Option ℕ
-version_at f = if bytes_eq f (magic 1) then Some 1 else if bytes_eq f (magic 2) then Some 2 else None
-
-abbrev pub magic_field : ℕ → List ℕ → Read ℕ
+abbrev pub magic_field : ℕ → List ℕ → Read Version
 magic_field size bytes = do
   f ← field 4 size bytes
-  version ← ok_or (version_at f.0) fault.Magic
+  version ← ok_or (marked f.0) fault.Magic
   Ok (version, f.1)
 
 abbrev pub cap_field : ℕ → List ℕ → Read ℕ
@@ -102,11 +98,11 @@ rows h size bytes = row_count h size bytes >>= λ n. read_items (next_row size) 
 -- ---- programs
 
 -- an instruction that the version has
-abbrev pub if_known : ℕ → Option Instr → Option Instr
+abbrev pub if_known : Version → Option Instr → Option Instr
 if_known version None = None
 if_known version (Some i) = if has version i then Some i else None
 
-abbrev pub next_instr : ℕ → ℕ → ℕ → List Instr → List ℕ → Read Instr
+abbrev pub next_instr : Version → ℕ → ℕ → List Instr → List ℕ → Read Instr
 next_instr version t size is bytes = do
   f ← field 8 size bytes
   i ← ok_or (if_known version (decoded f.0)) (fault.Word t (length is))
@@ -119,16 +115,16 @@ abbrev pub judged : {X : Type 0} → ℕ → Option ProgFault → X → Result X
 judged t None x = Ok x
 judged t (Some f) x = Err (fault.Program t f)
 
-abbrev pub instrs : ℕ → ℕ → ℕ → List ℕ → Read (List Instr)
+abbrev pub instrs : Version → ℕ → ℕ → List ℕ → Read (List Instr)
 instrs version t size bytes = instr_count t size bytes >>= λ n. read_items (next_instr version t size) [] n.0 n.1
 
-abbrev pub next_program : ℕ → ℕ → List (List Instr) → List ℕ → Read (List Instr)
+abbrev pub next_program : Version → ℕ → List (List Instr) → List ℕ → Read (List Instr)
 next_program version size ps bytes = instrs version (length ps) size bytes >>= λ is. judged (length ps) (prog_fault is.0) is
 
 abbrev pub program_count : ℕ → List ℕ → Read ℕ
 program_count size bytes = byte size bytes >>= λ n. if nat_lt 64 n.0 then Err fault.TxnCount else Ok n
 
-abbrev pub programs : ℕ → ℕ → List ℕ → Read (List (List Instr))
+abbrev pub programs : Version → ℕ → List ℕ → Read (List (List Instr))
 programs version size bytes = program_count size bytes >>= λ n. read_items (next_program version size) [] n.0 n.1
 
 -- ---- choices

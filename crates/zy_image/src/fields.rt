@@ -1,17 +1,8 @@
 //! Fields of bytes and of numbers. The size is that of the whole input, for a fault.
-ghost use Rattle.std.specs.Prelude.{◌≡◌, ◌≤◌};
-ghost use Rattle.zy_image.specs.Image.{magic as magic_spec};
-ghost use Rattle.zy_image.specs.Reading.{Gives, byte as byte_spec, field as field_spec, half as half_spec, magic_field as magic_field_spec, version_at as version_at_spec};
+ghost use Rattle.zy_image.specs.Reading.{Gives, byte as byte_spec, field as field_spec, half as half_spec, magic_field as magic_field_spec};
 
 use crate::faults::LoadFault;
-
-/// The first bytes of an image, by the version.
-pub fn magic(version: u8) -> [u8; 4]
-    requires { version ≤ 2 }
-    ensures { result ≡ magic_spec version }
-{
-    [b'Z', b'P', b'H', b'0' + version]
-}
+use zy_isa::version::Version;
 
 /// The next field of N bytes, and what follows it.
 pub fn field<const N: usize>(size: usize, bytes: &[u8]) -> Result<([u8; N], &[u8]), LoadFault>
@@ -39,25 +30,12 @@ pub fn half(size: usize, bytes: &[u8]) -> Result<(u16, &[u8]), LoadFault>
     Ok((u16::from_be_bytes(n), left))
 }
 
-/// The version that the first bytes of an image tell.
-fn version_at(bytes: [u8; 4]) -> Option<u8>
-    ensures { result ≡ version_at_spec bytes }
-{
-    if bytes == magic(1) {
-        Some(1)
-    } else if bytes == magic(2) {
-        Some(2)
-    } else {
-        None
-    }
-}
-
 /// The version, as the first bytes of an image tell it.
-pub fn magic_field(size: usize, bytes: &[u8]) -> Result<(u8, &[u8]), LoadFault>
+pub fn magic_field(size: usize, bytes: &[u8]) -> Result<(Version, &[u8]), LoadFault>
     ensures { Gives result (magic_field_spec size bytes.entry.now) }
 {
     let (front, left) = field::<4>(size, bytes)?;
-    match version_at(front) {
+    match Version::marked(front) {
         Some(version) => Ok((version, left)),
         None => Err(LoadFault::Magic),
     }

@@ -6,12 +6,13 @@ use crate::faults::LoadFault;
 use crate::fields::{byte, half, magic_field};
 use zy_isa::rule::Rule;
 use zy_isa::scenario::{MAX_CAP, MAX_PAGES};
+use zy_isa::version::Version;
 
 /// What the fields in front of the rows say.
 #[derive(Clone, Copy, Debug, PartialEq, Eq)]
 pub struct Head {
-    /// The version, 1 or 2.
-    pub version: u8,
+    /// The version.
+    pub version: Version,
     /// How many rows a page has room for, 2 to 16.
     pub cap: u8,
     /// How many pages there may be, 1 to 512.

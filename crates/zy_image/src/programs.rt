@@ -9,18 +9,18 @@ use crate::faults::LoadFault;
 use crate::fields::{byte, field};
 use crate::lists::{Items, read_items};
 use std::alloc::Global;
-use zy_isa::instr::Instr;
 use zy_isa::program::{MAX_INSTRS, ProgFault, Program};
 use zy_isa::scenario::MAX_TXNS;
-use zy_isa::word::{WORD_BYTES, decode};
+use zy_isa::version::Version;
+use zy_isa::word::{WORD_BYTES, Word};
 
-/// The instruction of a word, where the version has it.
-fn instr_in(version: u8, word: [u8; WORD_BYTES]) -> Option<Instr>
-    ensures { result ≡ if_known version (decoded word) }
+/// The word that these bytes are, where the version has its instruction.
+fn word_in(version: Version, bytes: [u8; WORD_BYTES]) -> Option<Word>
+    ensures { result ≡ if_known version (decoded bytes) }
 {
-    let instr = decode(word)?;
-    if instr.is_of(version) {
-        Some(instr)
+    let word = Word::read(bytes)?;
+    if word.instr().is_of(version) {
+        Some(word)
     } else {
         None
     }
@@ -29,20 +29,20 @@ fn instr_in(version: u8, word: [u8; WORD_BYTES]) -> Option<Instr>
 /// How the instructions of a transaction are read.
 #[derive(Clone, Copy)]
 struct InstrItems {
-    version: u8,
+    version: Version,
     txn: usize,
     size: usize,
 }
 
 impl Items for InstrItems {
-    type Item = Instr;
+    type Item = Word;
 
     ghost next = { λ s. next_instr s.version s.txn s.size };
 
-    fn next<'a>(&self, before: &[Instr], bytes: &'a [u8]) -> Result<(Instr, &'a [u8]), LoadFault> {
-        let (word, left) = field::<8>(self.size, bytes)?;
-        match instr_in(self.version, word) {
-            Some(instr) => Ok((instr, left)),
+    fn next<'a>(&self, before: &[Word], bytes: &'a [u8]) -> Result<(Word, &'a [u8]), LoadFault> {
+        let (bytes, left) = field::<8>(self.size, bytes)?;
+        match word_in(self.version, bytes) {
+            Some(word) => Ok((word, left)),
             None => Err(LoadFault::Word(self.txn, before.len())),
         }
     }
@@ -62,14 +62,14 @@ fn instr_count(txn: usize, size: usize, bytes: &[u8]) -> Result<(usize, &[u8]), 
     Ok((usize::from(count), left))
 }
 
-/// The instructions of a transaction, by their number.
+/// The words of a transaction's instructions, by their number.
 fn instrs(
     alloc: Global,
-    version: u8,
+    version: Version,
     txn: usize,
     size: usize,
     bytes: &[u8],
-) -> Result<(Vec<Instr>, &[u8]), LoadFault>
+) -> Result<(Vec<Word>, &[u8]), LoadFault>
     ensures { let read = instrs_spec version txn size bytes.entry.now in
         MatchResult result (λ x. read ≡ Ok (x.0.items, x.1.now)) (λ e. (e ≡ Memory) ⊎ (read ≡ Err e)) }
 {
@@ -78,14 +78,13 @@ fn instrs(
     read_items(alloc, &kind, count, left)
 }
 
-/// The program of a transaction with these instructions.
-fn verified(alloc: Global, txn: usize, instrs: &[Instr]) -> Result<Program, LoadFault>
-    ensures { let program = judged txn (prog_fault instrs.now) instrs.now in
-        MatchResult result (λ p. program ≡ Ok p) (λ e. (e ≡ Memory) ⊎ (program ≡ Err e)) }
+/// The program of a transaction with these words.
+fn verified(txn: usize, words: Vec<Word>) -> Result<Program, LoadFault>
+    ensures { let program = judged txn (prog_fault words.items) words.items in
+        MatchResult result (λ p. program ≡ Ok p) (λ e. program ≡ Err e) }
 {
-    match Program::verify(alloc, instrs) {
+    match Program::of_words(words) {
         Ok(program) => Ok(program),
-        Err(ProgFault::Memory) => Err(LoadFault::Memory),
         Err(fault) => Err(LoadFault::Program(txn, fault)),
     }
 }
@@ -94,7 +93,7 @@ fn verified(alloc: Global, txn: usize, instrs: &[Instr]) -> Result<Program, Load
 #[derive(Clone, Copy)]
 struct ProgramItems {
     alloc: Global,
-    version: u8,
+    version: Version,
     size: usize,
 }
 
@@ -109,8 +108,8 @@ impl Items for ProgramItems {
         bytes: &'a [u8],
     ) -> Result<(Program, &'a [u8]), LoadFault> {
         let txn = before.len();
-        let (instrs, left) = instrs(self.alloc, self.version, txn, self.size, bytes)?;
-        let program = verified(self.alloc, txn, instrs.as_slice())?;
+        let (words, left) = instrs(self.alloc, self.version, txn, self.size, bytes)?;
+        let program = verified(txn, words)?;
         Ok((program, left))
     }
 }
@@ -129,7 +128,7 @@ fn program_count(size: usize, bytes: &[u8]) -> Result<(usize, &[u8]), LoadFault>
 /// The programs, by their number.
 pub fn programs(
     alloc: Global,
-    version: u8,
+    version: Version,
     size: usize,
     bytes: &[u8],
 ) -> Result<(Vec<Program>, &[u8]), LoadFault>

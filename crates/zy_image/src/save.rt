@@ -2,9 +2,9 @@
 ghost use Rattle.std.specs.Prelude.{◌≡◌, ◌++◌, ◌≤◌, ℕ, List, IfOk, OnOk, length};
 ghost use Rattle.std.specs.List.{flat_map};
 ghost use Rattle.zy_isa.specs.Programs.{IsProgram};
+ghost use Rattle.zy_isa.specs.InstrWords.{word_of};
 ghost use Rattle.zy_image.specs.Image.{choice_image as choice_image_spec, choices_image, head_image, image_of, node_byte as node_byte_spec, program_image, programs_image, row_image as row_image_spec, rows_image, rule_byte as rule_byte_spec};
 
-use crate::fields::magic;
 use std::alloc::{AllocError, Global};
 use zy_isa::choice::Choice;
 use zy_isa::node::Node;
@@ -12,7 +12,7 @@ use zy_isa::program::Program;
 use zy_isa::row::Row;
 use zy_isa::rule::Rule;
 use zy_isa::scenario::Scenario;
-use zy_isa::word::WORD_BYTES;
+use zy_isa::word::Word;
 
 /// What has an image.
 trait Imaged {
@@ -51,11 +51,11 @@ impl Imaged for Row {
     }
 }
 
-impl Imaged for [u8; WORD_BYTES] {
-    ghost image = { λ word. word };
+impl Imaged for Word {
+    ghost image = { word_of };
 
     fn put(&self, out: &mut Vec<u8>) -> Result<(), AllocError> {
-        out.extend_from_slice(self.as_slice())
+        out.extend_from_slice(&self.bytes())
     }
 }
 
@@ -116,7 +116,7 @@ fn put_head(out: &mut Vec<u8>, scenario: &Scenario) -> Result<(), AllocError>
     ensures { OnOk result (out.new.items ≡ out.old.items ++ head_image scenario.now) }
 {
     let [p0, p1] = scenario.pages().to_be_bytes();
-    out.extend_from_slice(&magic(scenario.version()))?;
+    out.extend_from_slice(&scenario.version().magic())?;
     out.extend_from_slice(&[scenario.cap(), p0, p1, rule_byte(scenario.rule())])
 }
 

@@ -1,7 +1,7 @@
 pub mod ScenarioLemmas
+pub mod VersionLemmas
 pub mod OperationLemmas
 pub mod WordLemmas
 pub mod ProgramLemmas
-pub mod ProgramWords
 pub mod ResultLemmas
 pub mod RowLemmas

@@ -2,6 +2,7 @@
 use Rattle.std.proofs.Common.{◌≡◌, ◌∙◌, ◌==◌, ℕ, Bool, true, false, List, [], ◌∷◌, Option, None, Some, inl, inr, refl, sym, ap, subst, arith, if◌then◌else◌}
 use Rattle.std.specs.List.{find, list_all}
 use Rattle.std.specs.Str.{bytes_eq}
+use Rattle.zy_isa.specs.declared.version.Version.{Version}
 use Rattle.zy_isa.specs.declared.instr.Instr.{Instr}
 use Rattle.zy_isa.specs.declared.instr.Instr.TheVariants as instr
 use Rattle.zy_isa.specs.declared.operation.NumberOperation.TheVariants.{Set}
@@ -95,7 +96,7 @@ pub same_operation : (o q : Operation) → mnemonic o ≡ mnemonic q → o ≡ q
 same_operation o q e = let same : Some o ≡ Some q = sym (named_back o) ∙ ap named e ∙ named_back q in cc
 
 -- what is found in a version is there, and the version has it
-pub found_in : (version : ℕ) (r : Option Operation) (o : Operation) → if_of version r ≡ Some o → (r ≡ Some o) × (is_of version o ≡ true)
+pub found_in : (version : Version) (r : Option Operation) (o : Operation) → if_of version r ≡ Some o → (r ≡ Some o) × (is_of version o ≡ true)
 found_in version None o h = cc
 found_in version (Some x) o h = by (is_of version x) refl h
   where

@@ -4,6 +4,7 @@ use Rattle.std.specs.Prelude.{not, position, option_map}
 use Rattle.std.specs.List.{position_or_len}
 use Rattle.std.specs.Option.{option_or}
 use Rattle.std.proofs.lemmas.Bool.{cases_lt, lt-ltb, le-ltb}
+use Rattle.zy_isa.specs.declared.version.Version.{Version}
 use Rattle.zy_isa.specs.declared.row.Row.{Row}
 use Rattle.zy_isa.specs.declared.choice.Choice.{Choice}
 use Rattle.zy_isa.specs.declared.instr.Instr.{Instr}
@@ -86,46 +87,45 @@ past_first (Some f) rest h = cc
 
 -- ---- instructions that a version has
 
-known_first : (version n : ℕ) (i : Instr) (is : List Instr) (b : Bool) → has version i ≡ b → ((m : ℕ) → unknown_from version m is ≡ None → IsKnown version is)
+known_first : (version : Version) (n : ℕ) (i : Instr) (is : List Instr) (b : Bool) → has version i ≡ b → ((m : ℕ) → unknown_from version m is ≡ None → IsKnown version is)
     → (if b then unknown_from version (n + 1) is else Some n) ≡ None → IsKnown version (i ∷ is)
 known_first version n i is true e rest h = (e, rest (n + 1) h)
 known_first version n i is false e rest h = cc
 
-is_known : (version : ℕ) (is : List Instr) (n : ℕ) → unknown_from version n is ≡ None → IsKnown version is
+is_known : (version : Version) (is : List Instr) (n : ℕ) → unknown_from version n is ≡ None → IsKnown version is
 is_known version [] n h = tt
 is_known version (i ∷ is) n h = known_first version n i is (has version i) refl (is_known version is) h
 
-none_unknown : (version n : ℕ) (is : List Instr) → IsKnown version is → unknown_from version n is ≡ None
+none_unknown : (version : Version) (n : ℕ) (is : List Instr) → IsKnown version is → unknown_from version n is ≡ None
 none_unknown version n [] h = refl
 none_unknown version n (i ∷ is) h = rw h.0 (none_unknown version (n + 1) is h.1)
 
 -- programs without a fault have instructions of the version alone
-pub are_known : (version t : ℕ) (ps : List (List Instr)) → instrs_fault version t ps ≡ None → AreKnown version ps
+pub are_known : (version : Version) (t : ℕ) (ps : List (List Instr)) → instrs_fault version t ps ≡ None → AreKnown version ps
 are_known version t [] e = tt
 are_known version t (p ∷ ps) e =
     let d = past_first (option_map (fault.Instruction t) (unknown version p)) _ e in
     (is_known version p 0 (no_option (fault.Instruction t) (unknown version p) d.0), are_known version (t + 1) ps d.1)
 
-pub no_instrs_fault : (version t : ℕ) (ps : List (List Instr)) → AreKnown version ps → instrs_fault version t ps ≡ None
+pub no_instrs_fault : (version : Version) (t : ℕ) (ps : List (List Instr)) → AreKnown version ps → instrs_fault version t ps ≡ None
 no_instrs_fault version t [] h = refl
 no_instrs_fault version t (p ∷ ps) h = rw (none_unknown version 0 p h.0) (no_instrs_fault version (t + 1) ps h.1)
 
 -- an instruction more, and a program more
-pub known_more : (version : ℕ) (is : List Instr) (i : Instr) → IsKnown version is → has version i ≡ true → IsKnown version (is ++ i ∷ [])
+pub known_more : (version : Version) (is : List Instr) (i : Instr) → IsKnown version is → has version i ≡ true → IsKnown version (is ++ i ∷ [])
 known_more version [] i h e = (e, tt)
 known_more version (x ∷ is) i h e = (h.0, known_more version is i h.1 e)
 
-pub program_more : (version : ℕ) (ps : List (List Instr)) (p : List Instr) → AreKnown version ps → IsKnown version p → AreKnown version (ps ++ p ∷ [])
+pub program_more : (version : Version) (ps : List (List Instr)) (p : List Instr) → AreKnown version ps → IsKnown version p → AreKnown version (ps ++ p ∷ [])
 program_more version [] p h e = (e, tt)
 program_more version (x ∷ ps) p h e = (h.0, program_more version ps p h.1 e)
 
 -- parts within the limits make a scenario without a fault
-pub no_fault : (s : Scenario) → 1 ≤ s.version → s.version ≤ 2 → 2 ≤ s.cap → s.cap ≤ 16 → 1 ≤ s.pages → s.pages ≤ 512 → length s.rows ≤ 256 → opening_pages_for s.cap (length s.rows) ≤ s.pages
+pub no_fault : (s : Scenario) → 2 ≤ s.cap → s.cap ≤ 16 → 1 ≤ s.pages → s.pages ≤ 512 → length s.rows ≤ 256 → opening_pages_for s.cap (length s.rows) ≤ s.pages
     → misplaced_row s.rows ≡ None → length s.programs ≤ 64 → length s.choices ≤ 4096 → AreNamed (length s.programs) s.choices
     → AreKnown s.version s.programs → scenario_fault s ≡ None
-no_fault s v1 v2 c2 c16 p1 p512 rows pages order programs choices named known =
+no_fault s c2 c16 p1 p512 rows pages order programs choices named known =
     rw (
-      out_of_neither s.version 1 2 v1 v2,
       out_of_neither s.cap 2 16 c2 c16,
       out_of_neither s.pages 1 512 p1 p512,
       over_not (length s.rows) 256 rows,
@@ -140,21 +140,17 @@ no_fault s v1 v2 c2 c16 p1 p512 rows pages order programs choices named known =
 -- parts without a fault make a scenario within the limits
 pub scenario_of : (s : Scenario) → scenario_fault s ≡ None → RowsFit s.rows → ArePrograms s.programs → IsScenario s
 scenario_of s e fit programs =
-    let version = past (is_outside 1 2 s.version) fault.Version _ e in
-    let cap = past (is_outside 2 16 s.cap) fault.Cap _ version.1 in
+    let cap = past (is_outside 2 16 s.cap) fault.Cap _ e in
     let pages = past (is_outside 1 512 s.pages) fault.Pages _ cap.1 in
     let rows = past (has_many_rows s) fault.RowCount _ pages.1 in
     let order = past_first (option_map fault.RowOrder (misplaced_row s.rows)) _ rows.1 in
     let few = past (nat_lt 64 (length s.programs)) fault.TxnCount _ order.1 in
     let last = past_first (choices_fault (length s.programs) s.choices) _ few.1 in
     let named = fit_choices (length s.programs) s.choices last.0 in
-    let version_within = in_range s.version 1 2 version.0 in
     let cap_within = in_range s.cap 2 16 cap.0 in
     let pages_within = in_range s.pages 1 512 pages.0 in
     let many = neither (nat_lt 256 (length s.rows)) (nat_lt s.pages (opening_pages_for s.cap (length s.rows))) rows.0 in
     record {
-      version_least = version_within.0;
-      version_most = version_within.1;
       cap_least = cap_within.0;
       cap_most = cap_within.1;
       pages_least = pages_within.0;

@@ -15,6 +15,7 @@ use Rattle.zy_isa.specs.declared.operation.Parts.{Parts}
 use Rattle.zy_isa.specs.declared.operation.Parts.TheVariants.{Number, Pair, Jump, Lone}
 use Rattle.zy_isa.specs.declared.choice.Choice.{Choice}
 use Rattle.zy_isa.specs.declared.choice.Choice.TheVariants.{Start, Begin, Kill, Run, Take, Finish, Push}
+use Rattle.zy_isa.specs.Versions.{word}
 use Rattle.zy_isa.specs.Words.{spaced}
 use Rattle.zy_isa.specs.Operations.{mnemonic, parts_of}
 use Rattle.zy_io.specs.Writing.{line_of}
@@ -70,7 +71,7 @@ row_text r = spaced (row_words r)
 
 abbrev pub header_words : Scenario → List (List (List ℕ))
 header_words s =
-    (codes "zephyr" ∷ decimal s.version ∷ [])
+    (codes "zephyr" ∷ word s.version ∷ [])
     ∷ (codes "cap" ∷ decimal s.cap ∷ [])
     ∷ (codes "pages" ∷ decimal s.pages ∷ [])
     ∷ (codes "rule" ∷ rule_text s.rule ∷ []) ∷ []

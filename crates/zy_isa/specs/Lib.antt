@@ -1,3 +1,4 @@
+pub mod Versions
 pub mod Registers
 pub mod Results
 pub mod Programs
@@ -10,5 +11,4 @@ pub mod Operations
 pub mod Canon
 pub mod InstrWords
 pub mod WordFields
-pub mod ProgramWords
 pub mod Text

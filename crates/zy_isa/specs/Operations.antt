@@ -1,9 +1,12 @@
 -- The operations: what each is in an image and in a text, and the instruction that it makes with its operands.
-use Rattle.std.specs.Prelude.{◌==◌, nat_lt, ℕ, Bool, true, List, [], ◌∷◌, codes, Option, Some, None, if◌then◌else◌}
+use Rattle.std.specs.Prelude.{◌==◌, ℕ, Bool, List, [], ◌∷◌, codes, Option, Some, None, if◌then◌else◌}
 use Rattle.std.specs.List.{find}
 use Rattle.std.specs.Str.{bytes_eq}
 use Rattle.zy_isa.specs.declared.instr.Instr.{Instr}
 use Rattle.zy_isa.specs.declared.instr.Instr.TheVariants as instr
+use Rattle.zy_isa.specs.declared.version.Version.{Version}
+use Rattle.zy_isa.specs.declared.version.Version.TheVariants as version
+use Rattle.zy_isa.specs.Versions.{has_since}
 use Rattle.zy_isa.specs.declared.operation.NumberOperation.TheVariants.{Set}
 use Rattle.zy_isa.specs.declared.operation.PairOperation.TheVariants.{Read, Write, Insert, Add, Sum}
 use Rattle.zy_isa.specs.declared.operation.JumpOperation.TheVariants.{Beq}
@@ -31,6 +34,11 @@ opcode o = (table o).0
 abbrev pub mnemonic : Operation → List ℕ
 mnemonic o = (table o).1
 
+-- the version that an operation came with
+abbrev pub since : Operation → Version
+since (op.Pair Sum) = version.Two
+since o = version.One
+
 abbrev pub operations : List Operation
 operations = op.Number Set ∷ op.Pair Read ∷ op.Pair Write ∷ op.Pair Insert ∷ op.Pair Add ∷ op.Jump Beq ∷ op.Lone Commit ∷ op.Lone Abort ∷ op.Pair Sum ∷ []
 
@@ -42,24 +50,17 @@ coded n = find (λ o. n == opcode o) operations
 abbrev pub named : List ℕ → Option Operation
 named w = find (λ o. bytes_eq w (mnemonic o)) operations
 
--- version 1 has no sum
-abbrev pub is_of : ℕ → Operation → Bool
-is_of version (op.Number o) = true
-is_of version (op.Pair Read) = true
-is_of version (op.Pair Write) = true
-is_of version (op.Pair Insert) = true
-is_of version (op.Pair Add) = true
-is_of version (op.Pair Sum) = nat_lt 1 version
-is_of version (op.Jump o) = true
-is_of version (op.Lone o) = true
+-- a version has an operation
+abbrev pub is_of : Version → Operation → Bool
+is_of version o = has_since (since o) version
 
 -- an operation that the version has
-abbrev pub if_of : ℕ → Option Operation → Option Operation
+abbrev pub if_of : Version → Option Operation → Option Operation
 if_of version None = None
 if_of version (Some o) = if is_of version o then Some o else None
 
 -- the operation with this word in a version
-abbrev pub named_in : ℕ → List ℕ → Option Operation
+abbrev pub named_in : Version → List ℕ → Option Operation
 named_in version w = if_of version (named w)
 
 -- the instruction of an operation with its operands
@@ -94,5 +95,5 @@ operation_of (Jump o a b n) = op.Jump o
 operation_of (Lone o) = op.Lone o
 
 -- whether a version has an instruction
-abbrev pub has : ℕ → Instr → Bool
+abbrev pub has : Version → Instr → Bool
 has version i = is_of version (operation_of (parts_of i))

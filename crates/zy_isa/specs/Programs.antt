@@ -5,6 +5,7 @@ use Rattle.zy_isa.specs.declared.instr.Instr.{Instr}
 use Rattle.zy_isa.specs.declared.instr.Instr.TheVariants.{Set, Read, Write, Insert, Add, Sum, Beq, Commit, Abort}
 use Rattle.zy_isa.specs.declared.operation.Parts.{Parts}
 use Rattle.zy_isa.specs.declared.operation.Parts.TheVariants.{Number, Pair, Jump, Lone}
+use Rattle.zy_isa.specs.declared.version.Version.{Version}
 use Rattle.zy_isa.specs.declared.program.ProgFault.{ProgFault}
 use Rattle.zy_isa.specs.declared.program.ProgFault.TheVariants as fault
 use Rattle.zy_isa.specs.Operations.{has, parts_of}
@@ -71,15 +72,15 @@ pub record IsProgram (is : List Instr) : Type 0 where
   pub values : Values is
 
 -- the index of the first instruction that a version does not have, where the first of these has index n
-abbrev pub unknown_from : ℕ → ℕ → List Instr → Option ℕ
+abbrev pub unknown_from : Version → ℕ → List Instr → Option ℕ
 unknown_from version n [] = None
 unknown_from version n (i ∷ is) = if has version i then unknown_from version (n + 1) is else Some n
 
-abbrev pub unknown : ℕ → List Instr → Option ℕ
+abbrev pub unknown : Version → List Instr → Option ℕ
 unknown version is = unknown_from version 0 is
 
 -- a version has each instruction
-abbrev pub IsKnown : ℕ → List Instr → Type 0
+abbrev pub IsKnown : Version → List Instr → Type 0
 IsKnown version [] = Unit {0}
 IsKnown version (i ∷ is) = (has version i ≡ true) × IsKnown version is
 
@@ -87,3 +88,8 @@ IsKnown version (i ∷ is) = (has version i ≡ true) × IsKnown version is
 abbrev pub IsVerified : Result (List Instr) ProgFault → List Instr → Type 0
 IsVerified (Ok p) is = (prog_fault is ≡ None) × (p ≡ is)
 IsVerified (Err e) is = (prog_fault is ≡ Some e) ⊎ ((prog_fault is ≡ None) × (e ≡ fault.Memory))
+
+-- the answer is the program, or its first fault
+abbrev pub IsKept : Result (List Instr) ProgFault → List Instr → Type 0
+IsKept (Ok p) is = (prog_fault is ≡ None) × (p ≡ is)
+IsKept (Err e) is = prog_fault is ≡ Some e

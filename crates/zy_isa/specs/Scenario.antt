@@ -1,6 +1,7 @@
 -- What a scenario is, which ones are within the limits, and the first fault of one that is not.
 use Rattle.std.specs.Prelude.{◌≡◌, ◌+◌, ◌/◌, ◌≤◌, ◌||◌, not, nat_lt, ℕ, zero, suc, List, [], ◌∷◌, length, position, option_map, Bool, true, Option, Some, None, Result, Ok, Err, if◌then◌else◌}
 use Rattle.std.specs.Option.{option_or}
+use Rattle.zy_isa.specs.declared.version.Version.{Version}
 use Rattle.zy_isa.specs.declared.rule.Rule.{Rule}
 use Rattle.zy_isa.specs.declared.row.Row.{Row}
 use Rattle.zy_isa.specs.declared.instr.Instr.{Instr}
@@ -12,7 +13,7 @@ use Rattle.zy_isa.specs.Programs.{IsProgram, IsKnown, unknown}
 use Rattle.zy_isa.specs.Choices.{names_below}
 
 pub record Scenario : Type 0 where
-  pub version : ℕ
+  pub version : Version
   pub cap : ℕ
   pub pages : ℕ
   pub rule : Rule
@@ -47,14 +48,13 @@ choices_fault count cs =
     option_map fault.Choice (misnamed_choice count cs)
 
 -- the first instruction that a version does not have, in programs from number t on
-abbrev pub instrs_fault : ℕ → ℕ → List (List Instr) → Option ScenarioFault
+abbrev pub instrs_fault : Version → ℕ → List (List Instr) → Option ScenarioFault
 instrs_fault version t [] = None
 instrs_fault version t (p ∷ ps) = option_or (option_map (fault.Instruction t) (unknown version p)) (instrs_fault version (t + 1) ps)
 
 -- the first fault of a scenario whose programs are verified
 abbrev pub scenario_fault : Scenario → Option ScenarioFault
 scenario_fault s =
-    if is_outside 1 2 s.version then Some fault.Version else
     if is_outside 2 16 s.cap then Some fault.Cap else
     if is_outside 1 512 s.pages then Some fault.Pages else
     if has_many_rows s then Some fault.RowCount else
@@ -68,7 +68,7 @@ ArePrograms [] = Unit {0}
 ArePrograms (p ∷ ps) = IsProgram p × ArePrograms ps
 
 -- a version has each instruction of each program
-abbrev pub AreKnown : ℕ → List (List Instr) → Type 0
+abbrev pub AreKnown : Version → List (List Instr) → Type 0
 AreKnown version [] = Unit {0}
 AreKnown version (p ∷ ps) = IsKnown version p × AreKnown version ps
 
@@ -79,8 +79,6 @@ AreNamed count (c ∷ cs) = (names_below count c ≡ true) × AreNamed count cs
 
 -- what every scenario keeps
 pub record IsScenario (s : Scenario) : Type 0 where
-  pub version_least : 1 ≤ s.version
-  pub version_most : s.version ≤ 2
   pub cap_least : 2 ≤ s.cap
   pub cap_most : s.cap ≤ 16
   pub pages_least : 1 ≤ s.pages
@@ -99,6 +97,11 @@ pub record IsScenario (s : Scenario) : Type 0 where
 abbrev pub IsTested : Result Scenario ScenarioFault → Scenario → Type 0
 IsTested (Ok t) s = (scenario_fault s ≡ None) × (t ≡ s)
 IsTested (Err e) s = scenario_fault s ≡ Some e
+
+-- the same of parts that have the number of their version, or none: the scenario that they make in a version
+abbrev pub IsTestedIn : Result Scenario ScenarioFault → Option Version → (Version → Scenario) → Type 0
+IsTestedIn r None of = r ≡ Err fault.Version
+IsTestedIn r (Some version) of = IsTested r (of version)
 
 -- the answer is the scenario with these choices in place of its own, or their first fault
 abbrev pub HasChoices : Result Scenario ScenarioFault → Scenario → List Choice → Type 0

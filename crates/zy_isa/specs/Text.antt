@@ -1,7 +1,7 @@
 -- What a text means: its lines with words spell statements, and the statements make the scenario.
 use Rattle.std.specs.Prelude.{◌≡◌, ◌⊎◌, ◌≤◌, ◌+◌, true, ℕ, List, [], ◌∷◌, ◌++◌, length, map, codes, Option, Some, None, replicate, if◌then◌else◌}
-use Rattle.std.specs.Fmt.{decimal}
 use Rattle.std.specs.List.{flat_map}
+use Rattle.zy_isa.specs.declared.version.Version.{Version}
 use Rattle.zy_isa.specs.declared.rule.Rule.{Rule}
 use Rattle.zy_isa.specs.declared.row.Row.{Row}
 use Rattle.zy_isa.specs.declared.instr.Instr.{Instr}
@@ -10,6 +10,7 @@ use Rattle.zy_isa.specs.declared.operation.Parts.{Parts}
 use Rattle.zy_isa.specs.declared.operation.Parts.TheVariants.{Number, Pair, Jump, Lone}
 use Rattle.zy_isa.specs.declared.choice.Choice.{Choice}
 use Rattle.zy_isa.specs.declared.choice.Choice.TheVariants.{Start, Begin, Kill, Run, Take, Finish, Push}
+use Rattle.zy_isa.specs.Versions.{word}
 use Rattle.zy_isa.specs.Words.{number_of, lines_with_words}
 use Rattle.zy_isa.specs.Names.{Mark, is_name, place, AreNew}
 use Rattle.zy_isa.specs.Operations.{mnemonic, parts_of}
@@ -40,7 +41,7 @@ pub record Draft : Type 0 where
 
 -- a line of a program stands with the program's labels, a choice with the names of all programs
 pub data Statement : Type 0 where
-  zephyr : (n : ℕ) → Statement
+  zephyr : (v : Version) → Statement
   cap : (n : ℕ) → Statement
   pages : (n : ℕ) → Statement
   rule : (r : Rule) → Statement
@@ -93,7 +94,7 @@ abbrev pub SpellsTimes : ℕ → List (List ℕ) → Type 0
 SpellsTimes n ws = ((ws ≡ []) × (n ≡ 1)) ⊎ ((w : List ℕ) × (ws ≡ codes "x" ∷ w ∷ []) × (number_of w ≡ Some n) × (1 ≤ n) × (n ≤ 4096))
 
 abbrev pub Spells : Statement → List (List ℕ) → Type 0
-Spells (zephyr n) ws = ws ≡ codes "zephyr" ∷ decimal n ∷ []
+Spells (zephyr v) ws = ws ≡ codes "zephyr" ∷ word v ∷ []
 Spells (cap n) ws = (w : List ℕ) × (ws ≡ codes "cap" ∷ w ∷ []) × (number_of w ≡ Some n)
 Spells (pages n) ws = (w : List ℕ) × (ws ≡ codes "pages" ∷ w ∷ []) × (number_of w ≡ Some n)
 Spells (rule r) ws = ws ≡ codes "rule" ∷ rule_text r ∷ []

@@ -1,9 +1,10 @@
 -- What the fields of a word give, for the steps of decoding.
-use Rattle.std.specs.Prelude.{◌==◌, ◌&&◌, ℕ, List, drop, get_or, Option, Some, None, if◌then◌else◌, option_map}
+use Rattle.std.specs.Prelude.{◌==◌, ◌&&◌, ℕ, List, drop, get_or, unwrap_or, Option, Some, None, if◌then◌else◌, option_map}
 use Rattle.std.specs.List.{find}
 use Rattle.std.specs.Int.{w32, from_be_bytes}
 use Rattle.zy_isa.specs.declared.instr.Reg.{Reg}
 use Rattle.zy_isa.specs.declared.instr.Instr.{Instr}
+use Rattle.zy_isa.specs.declared.instr.Instr.TheVariants.{Abort}
 use Rattle.zy_isa.specs.declared.operation.Operation.{Operation}
 use Rattle.zy_isa.specs.declared.operation.Operation.TheVariants as op
 use Rattle.zy_isa.specs.declared.operation.Parts.{Parts}
@@ -36,3 +37,7 @@ instr_at (Some o) a b n = option_map instr_with (parts_at o a b n)
 -- the instruction of a word of eight bytes, if there is one
 abbrev pub decoded : List ℕ → Option Instr
 decoded w = if get_or w 3 0 == 0 then instr_at (coded (get_or w 0 0)) (get_or w 1 0) (get_or w 2 0) (from_be_bytes w32 (drop 4 w)) else None
+
+-- the same; abort where there is none
+abbrev pub instr_of_word : List ℕ → Instr
+instr_of_word w = unwrap_or (decoded w) Abort

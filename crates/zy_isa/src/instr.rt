@@ -5,6 +5,7 @@ ghost use Rattle.zy_isa.specs.Operations.{has};
 ghost use Rattle.zy_isa.specs.Programs.{ends as ends_spec, targets_below as targets_below_spec};
 
 use crate::operation::Parts;
+use crate::version::Version;
 
 /// A register of a transaction. All are 0 when it begins.
 #[derive(Clone, Copy, Debug, PartialEq, Eq)]
@@ -94,8 +95,8 @@ impl Instr {
         }
     }
 
-    /// Whether a version has it: version 1 has no `sum`.
-    pub fn is_of(self, version: u8) -> bool
+    /// Whether a version has it.
+    pub fn is_of(self, version: Version) -> bool
         ensures { result ≡ has version self }
     {
         self.parts().operation().is_of(version)

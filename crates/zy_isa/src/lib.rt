@@ -10,4 +10,5 @@ pub mod program;
 pub mod row;
 pub mod rule;
 pub mod scenario;
+pub mod version;
 pub mod word;

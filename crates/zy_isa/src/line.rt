@@ -9,6 +9,7 @@ use crate::node::Node;
 use crate::operation::{Operation, Parts};
 use crate::row::Row;
 use crate::rule::Rule;
+use crate::word::Word;
 use std::alloc::AllocError;
 use zy_io::buffer::LineBuffer;
 use zy_io::line::{Decimal, Joined, Line};
@@ -109,6 +110,14 @@ impl Line for Instr {
             .append(line),
             Parts::Lone(operation) => Operation::Lone(operation).append(line),
         }
+    }
+}
+
+impl Line for Word {
+    ghost text = { instr_text };
+
+    fn append(&self, line: &mut LineBuffer) -> Result<(), AllocError> {
+        self.instr().append(line)
     }
 }
 

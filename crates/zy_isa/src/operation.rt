@@ -1,9 +1,10 @@
 //! The operations: what each is in an image and in a text, which operands it takes, and the instruction that it makes with them.
 ghost use Rattle.std.specs.Prelude.{◌≡◌};
 ghost use Rattle.std.specs.Str.{bytes_eq};
-ghost use Rattle.zy_isa.specs.Operations.{opcode as opcode_spec, mnemonic, coded as coded_spec, named as named_spec, named_in as named_in_spec, is_of as is_of_spec, operation_of, parts_of, instr_with};
+ghost use Rattle.zy_isa.specs.Operations.{opcode as opcode_spec, mnemonic, coded as coded_spec, named as named_spec, named_in as named_in_spec, is_of as is_of_spec, since as since_spec, operation_of, parts_of, instr_with};
 
 use crate::instr::{Instr, Reg};
+use crate::version::Version;
 use std::alloc::AllocError;
 use zy_io::buffer::LineBuffer;
 use zy_io::line::Line;
@@ -131,26 +132,28 @@ impl Operation {
 }
 
 impl Operation {
-    /// Whether a version has it: version 1 has no `sum`.
+    /// The version that it came with.
     #[inline(always)]
-    pub fn is_of(self, version: u8) -> bool
-        ensures { result ≡ is_of_spec version self }
+    fn since(self) -> Version
+        ensures { result ≡ since_spec self }
     {
         match self {
-            Operation::Pair(PairOperation::Sum) => version > 1,
-            Operation::Pair(PairOperation::Read) => true,
-            Operation::Pair(PairOperation::Write) => true,
-            Operation::Pair(PairOperation::Insert) => true,
-            Operation::Pair(PairOperation::Add) => true,
-            Operation::Number(_) => true,
-            Operation::Jump(_) => true,
-            Operation::Lone(_) => true,
+            Operation::Pair(PairOperation::Sum) => Version::Two,
+            _ => Version::One,
         }
+    }
+
+    /// Whether a version has it.
+    #[inline(always)]
+    pub fn is_of(self, version: Version) -> bool
+        ensures { result ≡ is_of_spec version self }
+    {
+        version.has_since(self.since())
     }
 
     /// The operation with this word in a text of a version.
     #[inline(always)]
-    pub fn named_in(version: u8, word: &[u8]) -> Option<Operation>
+    pub fn named_in(version: Version, word: &[u8]) -> Option<Operation>
         ensures { result ≡ named_in_spec version word.now }
     {
         let operation = Operation::named(word)?;

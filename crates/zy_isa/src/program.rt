@@ -1,12 +1,11 @@
 //! Programs that are verified.
-ghost use Rattle.std.specs.Prelude.{◌≡◌, ◌<◌, ◌≤◌, Some, IfOk, IfNone, IfSome, length, map, slice_index_or};
-ghost use Rattle.zy_isa.specs.Programs.{ends_well as ends_well_spec, stray_target as stray_target_spec, prog_fault, unknown as unknown_spec, IsProgram, IsVerified, Values};
-ghost use Rattle.zy_isa.specs.Operations.{has as has_spec};
-ghost use Rattle.zy_isa.specs.InstrWords.{word_of};
-ghost use Rattle.zy_isa.specs.ProgramWords.{instr_of_word, instrs_of_words};
+ghost use Rattle.std.specs.Prelude.{◌≡◌, ◌<◌, None, IfOk, IfSome, List, length, slice_index_or};
+ghost use Rattle.zy_isa.specs.declared.instr.Instr.{Instr as AnInstr};
+ghost use Rattle.zy_isa.specs.Programs.{ends_well as ends_well_spec, stray_target as stray_target_spec, prog_fault, unknown as unknown_spec, IsKept, IsProgram, IsVerified, Values};
 
 use crate::instr::Instr;
-use crate::word::{WORD_BYTES, decode, encode};
+use crate::version::Version;
+use crate::word::Word;
 use std::alloc::{AllocError, Global};
 use std::marker::Model;
 use thiserror::Error;
@@ -38,7 +37,7 @@ pub enum ProgFault {
 /// It is kept as the words of its instructions.
 #[derive(Drop)]
 pub struct Program {
-    words: Vec<[u8; WORD_BYTES]>,
+    words: Vec<Word>,
 }
 
 impl Model for Program {
@@ -48,11 +47,28 @@ impl Model for Program {
     ghost Value = { List Instr };
 
     ghost use Rattle.zy_isa.specs.Programs.{IsProgram};
-    ghost use Rattle.zy_isa.specs.ProgramWords.{AreWords, instrs_of_words};
 
-    ghost view = { λ p. instrs_of_words p.words.items };
+    ghost view = { λ p. p.words.items };
 
-    ghost invariant = { λ p. AreWords p.words.items × IsProgram (instrs_of_words p.words.items) };
+    ghost invariant = { λ p. IsProgram p.words.items };
+}
+
+/// The first instruction whose target is not below the number of instructions.
+fn stray_target(instrs: &[Instr]) -> Option<usize>
+    ensures value { result ≡ stray_target_spec instrs.now }
+    ensures bound { IfSome result (λ i. i < length instrs.now) }
+{
+    let count = instrs.len();
+    instrs.iter().position(|instr| !instr.targets_below(count))
+}
+
+/// The same over their words.
+fn stray_word(words: &[Word]) -> Option<usize>
+    ensures value { result ≡ stray_target_spec words.now }
+    ensures bound { IfSome result (λ i. i < length words.now) }
+{
+    let count = words.len();
+    words.iter().position(|word| !word.instr().targets_below(count))
 }
 
 /// Whether the last instruction ends the program.
@@ -65,74 +81,63 @@ fn ends_well(instrs: &[Instr]) -> bool
     }
 }
 
-/// The first instruction whose target is not below the number of instructions.
-fn stray_target(instrs: &[Instr]) -> Option<usize>
-    ensures { result ≡ stray_target_spec instrs.now }
+/// The same over their words.
+fn word_ends_well(words: &[Word]) -> bool
+    ensures { result ≡ ends_well_spec words.now }
 {
-    let count = instrs.len();
-    instrs.iter().position(|instr| !instr.targets_below(count))
-}
-
-/// Reads each value, which shows that each fits its field.
-fn have_values(instrs: &[Instr])
-    ensures { Values instrs.now }
-{
-    for instr in instrs {
-        if let Instr::Set(_, number) | Instr::Beq(_, _, number) = instr {
-            let _number = *number;
-        }
+    match words.last() {
+        Some(last) => last.instr().ends(),
+        None => false,
     }
 }
 
-/// Why a list of instructions is no program, if it is none.
-fn fault_of(instrs: &[Instr]) -> Option<ProgFault>
-    ensures fault { result ≡ prog_fault instrs.now }
-    ensures none { IfNone result (IsProgram instrs.now) }
+/// Why so many instructions are no program, by what the tests of them say.
+fn fault_of(count: usize, stray: Option<usize>, ends: bool) -> Option<ProgFault>
+    requires { IfSome stray (λ i. i < count) }
+    ensures { (is : List AnInstr) → count ≡ length is → stray ≡ stray_target_spec is → ends ≡ ends_well_spec is → result ≡ prog_fault is }
 {
-    if instrs.is_empty() {
+    if count == 0 {
         return Some(ProgFault::Empty);
     }
-    if instrs.len() > MAX_INSTRS {
+    if count > MAX_INSTRS {
         return Some(ProgFault::TooLong);
     }
-    if let Some(i) = stray_target(instrs) {
+    if let Some(i) = stray {
         return Some(ProgFault::Target(i as u8));
     }
-    if !ends_well(instrs) {
+    if !ends {
         return Some(ProgFault::NoEnd);
     }
-    have_values(instrs);
     None
 }
 
+/// Asks each word its instruction, which shows that its value fits its field.
+fn have_values(words: &[Word])
+    ensures { Values words.now }
+{
+    for word in words {
+        let _instr = word.instr();
+    }
+}
+
 /// The words of instructions.
-fn words_of(alloc: Global, instrs: &[Instr]) -> Result<Vec<[u8; WORD_BYTES]>, AllocError>
-    ensures { IfOk result (λ words. words.items ≡ map word_of instrs.now) }
+fn words_of(alloc: Global, instrs: &[Instr]) -> Result<Vec<Word>, AllocError>
+    ensures { IfOk result (λ words. words.items ≡ instrs.now) }
 {
     let mut words = Vec::with_capacity(alloc, instrs.len())?;
     for instr in instrs {
-        words.push(encode(*instr))?;
+        words.push(Word::of(*instr))?;
     }
     Ok(words)
 }
 
-/// Whether a version has the instruction of a word.
-fn has(version: u8, word: [u8; WORD_BYTES]) -> bool
-    ensures { result ≡ has_spec version (instr_of_word word) }
-{
-    match decode(word) {
-        Some(instr) => instr.is_of(version),
-        None => true,
-    }
-}
-
 /// The index of the first of these words whose instruction a version does not have.
-fn unknown(version: u8, words: &[[u8; WORD_BYTES]]) -> Option<usize>
-    ensures value { result ≡ unknown_spec version (instrs_of_words words.now) }
+fn unknown(version: Version, words: &[Word]) -> Option<usize>
+    ensures value { result ≡ unknown_spec version words.now }
     ensures bound { IfSome result (λ i. i < length words.now) }
 {
     for (i, word) in words.iter().enumerate() {
-        if !has(version, *word) {
+        if !word.instr().is_of(version) {
             return Some(i);
         }
     }
@@ -144,13 +149,34 @@ impl Program {
     pub fn verify(alloc: Global, instrs: &[Instr]) -> Result<Program, ProgFault>
         ensures { IsVerified result instrs.now }
     {
-        if let Some(fault) = fault_of(instrs) {
+        let fault = fault_of(instrs.len(), stray_target(instrs), ends_well(instrs));
+        if let Some(fault) = fault {
             return Err(fault);
         }
         match words_of(alloc, instrs) {
-            Ok(words) => Ok(Program { words }),
+            Ok(words) => Ok(Program::kept(words)),
             Err(_) => Err(ProgFault::Memory),
         }
+    }
+
+    /// Tests the words of instructions, and keeps them. Those that are no program are dropped.
+    pub fn of_words(words: Vec<Word>) -> Result<Program, ProgFault>
+        ensures { IsKept result words.items }
+    {
+        let tested = words.as_slice();
+        match fault_of(tested.len(), stray_word(tested), word_ends_well(tested)) {
+            Some(fault) => Err(fault),
+            None => Ok(Program::kept(words)),
+        }
+    }
+
+    /// The program of words that were tested.
+    fn kept(words: Vec<Word>) -> Program
+        requires { prog_fault words.items ≡ None }
+        ensures { result ≡ words.items }
+    {
+        have_values(words.as_slice());
+        Program { words }
     }
 
     /// The number of instructions, 1 to 64.
@@ -168,33 +194,33 @@ impl Program {
         ensures value { result ≡ slice_index_or self.now i result }
         ensures verified { IsProgram self.now }
     {
-        match decode(self.words[i]) {
-            Some(instr) => instr,
-            None => unreachable!(),
-        }
+        self.words[i].instr()
     }
 
     /// The words of the instructions in order.
-    pub fn words(&self) -> &[[u8; WORD_BYTES]]
-        ensures value { result.now ≡ map word_of self.entry.now }
+    pub fn words(&self) -> &[Word]
+        ensures value { result.now ≡ self.entry.now }
         ensures verified { IsProgram self.entry.now }
     {
         self.words.as_slice()
     }
 
     /// The index of the first instruction that a version does not have.
-    pub fn unknown(&self, version: u8) -> Option<usize>
+    pub fn unknown(&self, version: Version) -> Option<usize>
         ensures value { result ≡ unknown_spec version self.now }
         ensures few { IfSome result (λ i. i < 64) }
     {
         unknown(version, self.words.as_slice())
     }
 
-    /// The same program once more.
+    /// The same program again.
     pub fn copy(&self, alloc: Global) -> Result<Program, AllocError>
         ensures { IfOk result (λ p. p ≡ self.now) }
     {
-        let words = self.words.as_slice().to_vec(alloc)?;
+        let mut words = Vec::with_capacity(alloc, self.words.len())?;
+        for word in self.words.as_slice() {
+            words.push(word.copy())?;
+        }
         Ok(Program { words })
     }
 }

@@ -1,18 +1,17 @@
 //! Scenarios that are within the limits.
 ghost use Rattle.std.specs.Prelude.{◌≡◌, ◌<◌, ◌≤◌, IfOk, IfSome, None, length};
+ghost use Rattle.zy_isa.specs.Versions.{numbered};
 ghost use Rattle.zy_isa.specs.Rows.{RowsFit, misplaced_row as misplaced_row_spec};
-ghost use Rattle.zy_isa.specs.Scenario.{IsScenario, IsTested, ArePrograms, HasChoices, choices_fault as choices_fault_spec, instrs_fault as instrs_fault_spec, scenario_fault, misnamed_choice as misnamed_choice_spec, opening_rows as opening_rows_spec, opening_pages_for as opening_pages_for_spec};
+ghost use Rattle.zy_isa.specs.Scenario.{IsScenario, IsTested, IsTestedIn, ArePrograms, HasChoices, choices_fault as choices_fault_spec, instrs_fault as instrs_fault_spec, scenario_fault, misnamed_choice as misnamed_choice_spec, opening_rows as opening_rows_spec, opening_pages_for as opening_pages_for_spec};
 
 use crate::choice::Choice;
 use crate::program::Program;
 use crate::row::Row;
 use crate::rule::Rule;
+use crate::version::Version;
 use std::alloc::{AllocError, Global};
 use std::marker::Model;
 use thiserror::Error;
-
-/// The greatest version.
-pub const MAX_VERSION: u8 = 2;
 
 /// The greatest number of rows on a page.
 pub const MAX_CAP: u8 = 16;
@@ -64,7 +63,7 @@ pub enum ScenarioFault {
 /// A scenario within the limits: whoever holds one need not test it again.
 #[derive(Drop)]
 pub struct Scenario {
-    version: u8,
+    version: Version,
     cap: u8,
     pages: u16,
     rule: Rule,
@@ -138,7 +137,7 @@ fn choices_fault(count: usize, choices: &[Choice]) -> Option<ScenarioFault>
 }
 
 /// The first instruction that a version does not have.
-fn instrs_fault(version: u8, programs: &[Program]) -> Option<ScenarioFault>
+fn instrs_fault(version: Version, programs: &[Program]) -> Option<ScenarioFault>
     requires { length programs.now ≤ 64 }
     ensures { result ≡ instrs_fault_spec version 0 programs.now }
 {
@@ -179,7 +178,7 @@ fn copy_programs(alloc: Global, programs: &[Program]) -> Result<Vec<Program>, Al
 }
 
 impl Scenario {
-    /// Tests the parts of a scenario, which are dropped where they are refused. It takes no memory.
+    /// Tests the parts of a scenario, with the number of its version; they are dropped where they are refused. It takes no memory.
     pub fn new(
         version: u8,
         cap: u8,
@@ -189,11 +188,26 @@ impl Scenario {
         programs: Vec<Program>,
         choices: Vec<Choice>,
     ) -> Result<Scenario, ScenarioFault>
+        ensures { IsTestedIn result (numbered version) (λ v. record { version = v; cap = cap; pages = pages; rule = rule; rows = rows.items; programs = programs.items; choices = choices.items }) }
+    {
+        match Version::numbered(version) {
+            Some(version) => Scenario::tested(version, cap, pages, rule, rows, programs, choices),
+            None => Err(ScenarioFault::Version),
+        }
+    }
+
+    /// Tests the parts of a scenario in a version.
+    fn tested(
+        version: Version,
+        cap: u8,
+        pages: u16,
+        rule: Rule,
+        rows: Vec<Row>,
+        programs: Vec<Program>,
+        choices: Vec<Choice>,
+    ) -> Result<Scenario, ScenarioFault>
         ensures { IsTested result (record { version = version; cap = cap; pages = pages; rule = rule; rows = rows.items; programs = programs.items; choices = choices.items }) }
     {
-        if version < 1 || version > MAX_VERSION {
-            return Err(ScenarioFault::Version);
-        }
         if cap < 2 || cap > MAX_CAP {
             return Err(ScenarioFault::Cap);
         }
@@ -218,9 +232,9 @@ impl Scenario {
         Ok(Scenario::of_parts(version, cap, pages, rule, rows, programs, choices))
     }
 
-    /// The scenario of parts that were tested where they were read: nothing is tested once more. It takes no memory.
+    /// The scenario of parts that were tested where they were read: nothing is tested again. It takes no memory.
     pub fn of_parts(
-        version: u8,
+        version: Version,
         cap: u8,
         pages: u16,
         rule: Rule,
@@ -255,8 +269,8 @@ impl Scenario {
         Ok(Scenario { choices, ..self })
     }
 
-    /// The version, 1 or 2: in version 2 the roles may turn round, and there is `sum`.
-    pub fn version(&self) -> u8
+    /// The version.
+    pub fn version(&self) -> Version
         ensures value { result ≡ self.now.version }
         ensures tested { IsScenario self.now }
     {
@@ -311,7 +325,7 @@ impl Scenario {
         self.choices.as_slice()
     }
 
-    /// The same scenario once more.
+    /// The same scenario again.
     pub fn copy(&self, alloc: Global) -> Result<Scenario, AllocError>
         ensures { IfOk result (λ s. s ≡ self.now) }
     {

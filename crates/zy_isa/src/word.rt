@@ -1,16 +1,37 @@
 //! The words of instructions, as an image has them.
 ghost use Rattle.std.specs.Prelude.{◌≡◌, IfSome, Some};
 ghost use Rattle.zy_isa.specs.Registers.{number_of};
-ghost use Rattle.zy_isa.specs.InstrWords.{IsWordOf, word as word_spec, word_of};
+ghost use Rattle.zy_isa.specs.InstrWords.{IsWordOf, word, word_of};
+ghost use Rattle.zy_isa.specs.Programs.{HasValue};
 ghost use Rattle.zy_isa.specs.WordFields.{register_at, registers_at, parts_at as parts_at_spec, instr_at as instr_at_spec, decoded};
 ghost use Rattle.zy_isa.specs.Operations.{opcode, coded};
 ghost use Rattle.zy_isa.specs.declared.instr.Instr.{Instr};
 
 use crate::instr::{Instr, Reg};
 use crate::operation::{Operation, Parts};
+use std::marker::Model;
 
 /// How many bytes a word has.
 pub const WORD_BYTES: usize = 8;
+
+/// The word of an instruction. Whoever holds one need not test its bytes again.
+#[derive(Drop)]
+pub struct Word {
+    bytes: [u8; WORD_BYTES],
+}
+
+impl Model for Word {
+    ghost use Rattle.zy_isa.specs.declared.instr.Instr.{Instr};
+
+    ghost Value = { Instr };
+
+    ghost use Rattle.zy_isa.specs.InstrWords.{IsWordOf};
+    ghost use Rattle.zy_isa.specs.WordFields.{instr_of_word};
+
+    ghost view = { λ w. instr_of_word w.bytes };
+
+    ghost invariant = { λ w. IsWordOf w.bytes (instr_of_word w.bytes) };
+}
 
 /// The byte of a register.
 fn byte_of(register: Reg) -> u8
@@ -20,8 +41,8 @@ fn byte_of(register: Reg) -> u8
 }
 
 /// The word of an operation with these fields behind it.
-fn word(operation: Operation, a: u8, b: u8, number: u32) -> [u8; WORD_BYTES]
-    ensures { result ≡ word_spec (opcode operation) a b number }
+fn with_fields(operation: Operation, a: u8, b: u8, number: u32) -> [u8; WORD_BYTES]
+    ensures { result ≡ word (opcode operation) a b number }
 {
     let [n0, n1, n2, n3] = number.to_be_bytes();
     [operation.opcode(), a, b, 0, n0, n1, n2, n3]
@@ -29,21 +50,23 @@ fn word(operation: Operation, a: u8, b: u8, number: u32) -> [u8; WORD_BYTES]
 
 /// The word of an instruction; no other instruction has it.
 pub fn encode(instr: Instr) -> [u8; WORD_BYTES]
-    ensures { result ≡ word_of instr }
+    ensures value { result ≡ word_of instr }
+    ensures fits { HasValue instr }
 {
     match instr.parts() {
         Parts::Number(operation, a, number) => {
-            word(Operation::Number(operation), byte_of(a), 0, number)
+            with_fields(Operation::Number(operation), byte_of(a), 0, number)
         }
-        Parts::Pair(operation, a, b) => word(Operation::Pair(operation), byte_of(a), byte_of(b), 0),
+        Parts::Pair(operation, a, b) => with_fields(Operation::Pair(operation), byte_of(a), byte_of(b), 0),
         Parts::Jump(operation, a, b, target) => {
-            word(Operation::Jump(operation), byte_of(a), byte_of(b), target)
+            with_fields(Operation::Jump(operation), byte_of(a), byte_of(b), target)
         }
-        Parts::Lone(operation) => word(Operation::Lone(operation), 0, 0, 0),
+        Parts::Lone(operation) => with_fields(Operation::Lone(operation), 0, 0, 0),
     }
 }
 
 /// The register that a byte names.
+#[inline(always)]
 fn register(byte: u8) -> Option<Reg>
     ensures { result ≡ register_at byte }
 {
@@ -61,6 +84,7 @@ fn register(byte: u8) -> Option<Reg>
 }
 
 /// The two registers that two bytes name.
+#[inline(always)]
 fn registers(a: u8, b: u8) -> Option<(Reg, Reg)>
     ensures { result ≡ registers_at a b }
 {
@@ -68,6 +92,7 @@ fn registers(a: u8, b: u8) -> Option<(Reg, Reg)>
 }
 
 /// The operation with the operands in these fields, if they hold such operands and no more.
+#[inline(always)]
 fn parts_at(operation: Operation, a: u8, b: u8, number: u32) -> Option<Parts>
     ensures { result ≡ parts_at_spec operation a b number }
 {
@@ -87,6 +112,7 @@ fn parts_at(operation: Operation, a: u8, b: u8, number: u32) -> Option<Parts>
 }
 
 /// The instruction of these fields, if there is one.
+#[inline(always)]
 fn instr_at(opcode: u8, a: u8, b: u8, number: u32) -> Option<Instr>
     ensures { result ≡ instr_at_spec (coded opcode) a b number }
 {
@@ -96,6 +122,7 @@ fn instr_at(opcode: u8, a: u8, b: u8, number: u32) -> Option<Instr>
 }
 
 /// The instruction whose word these bytes are: at most one has it, and most bytes are no word.
+#[inline(always)]
 pub fn decode(word: [u8; WORD_BYTES]) -> Option<Instr>
     ensures value { result ≡ decoded word }
     ensures found { IfSome result (IsWordOf word) }
@@ -105,4 +132,47 @@ pub fn decode(word: [u8; WORD_BYTES]) -> Option<Instr>
         return None;
     };
     instr_at(opcode, a, b, u32::from_be_bytes([n0, n1, n2, n3]))
+}
+
+impl Word {
+    /// The word of an instruction.
+    pub fn of(instr: Instr) -> Word
+        ensures { result ≡ instr }
+    {
+        Word { bytes: encode(instr) }
+    }
+
+    /// The word that these bytes are: most bytes are none.
+    pub fn read(bytes: [u8; WORD_BYTES]) -> Option<Word>
+        ensures { result ≡ decoded bytes }
+    {
+        decode(bytes)?;
+        Some(Word { bytes })
+    }
+
+    /// The same word again.
+    pub fn copy(&self) -> Word
+        ensures { result ≡ self.now }
+    {
+        Word { bytes: self.bytes }
+    }
+
+    /// Its bytes.
+    pub fn bytes(&self) -> [u8; WORD_BYTES]
+        ensures { result ≡ word_of self.now }
+    {
+        self.bytes
+    }
+
+    /// The instruction whose word it is.
+    #[inline(always)]
+    pub fn instr(&self) -> Instr
+        ensures value { result ≡ self.now }
+        ensures fits { HasValue self.now }
+    {
+        match decode(self.bytes) {
+            Some(instr) => instr,
+            None => unreachable!(),
+        }
+    }
 }

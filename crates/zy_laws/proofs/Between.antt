@@ -2,6 +2,7 @@
 use Rattle.std.proofs.Common.{List, [], ap, arith, false, inl, inr, length, refl, subst, sym, true, ℕ, ◌<◌, ◌∙◌, ◌∷◌, ◌≡◌}
 use Rattle.std.specs.Prelude.{◌==◌, ◌&&◌, ◌||◌}
 use Rattle.std.proofs.lemmas.Bool.{cond_both, eq-eqb, eqb-true, false≢true, ne_eqb, or_cases, or_left, or_right}
+use Rattle.zy_modes.specs.Families.{is_taker, is_sending, is_bare, is_idle}
 use Rattle.zy_isa.specs.Scenario.{IsScenario, Scenario}
 use Rattle.zy_isa.specs.declared.choice.Choice.{Choice}
 use Rattle.zy_isa.specs.declared.node.Node.{Node}
@@ -26,15 +27,14 @@ use Rattle.zy_laws.proofs.Events.{Told, Aborts, Adds, Asks, Begins, Commits, Eve
 use Rattle.zy_laws.proofs.Installing.{owns-installed}
 use Rattle.zy_laws.proofs.Locking.{Kept, nobody_runs}
 use Rattle.zy_laws.proofs.ListsInOrder.{Tidy, opening_tidy, step_tidy}
-use Rattle.zy_laws.proofs.ModeLines.{is_sending, pulls_in, sends_in, splits_in_normal}
+use Rattle.zy_laws.proofs.ModeLines.{pulls_in, sends_in, splits_in_normal}
 use Rattle.zy_laws.proofs.MovingPages.{all_below-owns}
 use Rattle.zy_laws.proofs.OneWay.{sourced}
 use Rattle.zy_laws.proofs.Opening.{laid_out}
 use Rattle.zy_laws.proofs.Phases.{Phase, Resting, Wire_sent, Ready_sent, Dual_sent, Both_sent, In_dual, Finish_sent, In_finish, Done_sent}
-use Rattle.zy_laws.proofs.PhaseSteps.{is_taker, taker_of}
+use Rattle.zy_laws.proofs.PhaseSteps.{taker_of}
 use Rattle.zy_laws.proofs.PlayPush.{play-keeps-with}
 use Rattle.zy_laws.proofs.Reached.{Reached, kept_from, lows_then, opening_reached, reached, step_kept}
-use Rattle.zy_laws.proofs.Roles.{is_bare, is_idle}
 use Rattle.zy_laws.proofs.Txns.{IsAt}
 
 -- ---- the pages that a node asked for

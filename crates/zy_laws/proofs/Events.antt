@@ -2,6 +2,8 @@
 use Rattle.std.proofs.Common.{◌≡◌, ℕ, ◌+◌, ◌%◌, ◌^◌, List, [], ◌∷◌, ◌++◌, length, true, false, refl, sym, ap, ◌∙◌, subst, inl, inr}
 use Rattle.std.specs.Prelude.{◌⊎◌, if◌then◌else◌, ◌==◌, ◌&&◌, nat_lt, nat_le, not, Some, None, Option, slice_get, is_some}
 use Rattle.std.proofs.lemmas.Bool.{cond_both, false≢true, not-false, not-true, cases_Bool, eq-eqb}
+use Rattle.zy_isa.specs.declared.version.Version.TheVariants.{One}
+use Rattle.zy_modes.specs.Families.{is_sending}
 use Rattle.zy_isa.specs.declared.node.Node.{Node}
 use Rattle.zy_isa.specs.declared.node.Node.TheVariants.{A, B}
 use Rattle.zy_isa.specs.declared.choice.Choice.{Choice}
@@ -40,7 +42,7 @@ use Rattle.zy_table.specs.Take.{is_held, all_here, with_brought, got_row, pull_r
 use Rattle.zy_table.specs.Push.{active_from, finish_if, finish_row, push_if, push_row}
 use Rattle.zy_laws.specs.Journey.{is_gone, is_stray}
 use Rattle.zy_table.specs.Play.{move, side_of}
-use Rattle.zy_laws.proofs.ModeLines.{is_sending, wire_line, ready_line, dual_line, pull_line, page_line, finish_line, done_line, starts_at_a, starts_from, pushes_in_finish}
+use Rattle.zy_laws.proofs.ModeLines.{wire_line, ready_line, dual_line, pull_line, page_line, finish_line, done_line, starts_at_a, starts_from, pushes_in_finish}
 use Rattle.zy_table.proofs.PageLists.{least-owns}
 use Rattle.zy_table.proofs.RangeLists.{found_has, key_of_page, none_passes}
 use Rattle.zy_table.proofs.AbortedLocks.{aborted-locked}
@@ -126,7 +128,7 @@ pub data Event (sc : Scenario) (n : Node) (v w : View) : Type 0 where
       → w ≡ cut t (page t r v) (boundary sc (key t r v) (page t r v) v.me (txn_at v t)) (has_lock t (key t r v) Exclusive v) → Event sc n v w
   Commits : (t : ℕ) → Runs sc n t Commit v → least (gone_pages v.me (txn_at v t).rows) ≡ None → w ≡ committed t v → Event sc n v w
   Asks : (p : ℕ) → owns v.me.pages p ≡ false → may_pull v.me.mode ≡ true → has v.me.asked p ≡ false → w ≡ asks p v → Event sc n v w
-  Starts : (sc.version ≡ 1 → n ≡ A) → v.me.mode ≡ Normal → v.them.mode ≡ Empty → w ≡ post (Wire v.me.lows) (turns SInit v) → Event sc n v w
+  Starts : (sc.version ≡ One → n ≡ A) → v.me.mode ≡ Normal → v.them.mode ≡ Empty → w ≡ post (Wire v.me.lows) (turns SInit v) → Event sc n v w
   GotWire : (lows : List ℕ) (ms : List Message) → v.inbox ≡ Wire lows ∷ ms → v.me.mode ≡ Empty
       → w ≡ post Ready (turns DInit (with_me (with_lows lows v.me) (rest v ms))) → Event sc n v w
   GotReady : (ms : List Message) → v.inbox ≡ Ready ∷ ms → v.me.mode ≡ SInit → w ≡ post Dual (turns SDual (rest v ms)) → Event sc n v w
@@ -345,7 +347,7 @@ run_happens sc n t v =
     (λ b. instr_happens sc n t _ v (λ i e. record { active = not-false _ a; here = same_node-true _ _ (not-false _ h); begun = b; next = e }))))
 
 -- the client's lines
-start_happens : (sc : Scenario) (n : Node) (v : View) → (sc.version ≡ 1 → n ≡ A) → Happens sc n v (start_row v)
+start_happens : (sc : Scenario) (n : Node) (v : View) → (sc.version ≡ One → n ≡ A) → Happens sc n v (start_row v)
 unfolding start_row
 start_happens sc n v at_a =
     cond_both (may_start v.me.mode v.them.mode) _ _ (Happens sc n v)

@@ -1,7 +1,7 @@
 -- Each row of the table keeps room on the pages.
+use Rattle.zy_modes.specs.Families.{is_source}
 use Rattle.zy_modes.specs.Table.{may_pull}
 use Rattle.zy_laws.proofs.ModeLines.{pulls_in}
-use Rattle.zy_laws.specs.Journey.{is_source}
 use Rattle.std.proofs.Common.{false, ap, List, [], arith, inl, inr, length, refl, subst, sym, true, ℕ, ◌++◌, ◌+◌, ◌<◌, ◌∙◌, ◌∷◌, ◌≡◌, ◌≤◌}
 use Rattle.std.specs.Prelude.{slice_set, ◌⊎◌}
 use Rattle.std.proofs.lemmas.Bool.{cases_Bool, false≢true, ltb-true}

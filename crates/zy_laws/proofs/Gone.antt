@@ -2,6 +2,7 @@
 use Rattle.std.proofs.Common.{◌≡◌, ◌∙◌, ℕ, ◌<◌, List, length, true, false, refl, sym, subst, arith, inl, inr, ◌∷◌}
 use Rattle.std.specs.Prelude.{◌⊎◌}
 use Rattle.std.proofs.lemmas.Bool.{false≢true}
+use Rattle.zy_modes.specs.Families.{is_home, is_source, is_idle}
 use Rattle.zy_isa.specs.Scenario.{IsScenario, Scenario}
 use Rattle.zy_isa.specs.declared.choice.Choice.{Choice}
 use Rattle.zy_isa.specs.declared.node.Node.{Node}
@@ -10,7 +11,7 @@ use Rattle.zy_modes.specs.declared.mode.NodeMode.TheVariants.{Empty, Normal, SIn
 use Rattle.zy_modes.specs.Table.{is_waiting, may_pull}
 use Rattle.zy_wire.specs.Wireframe.{page_of}
 use Rattle.zy_wire.proofs.PageOf.{page_of-within}
-use Rattle.zy_laws.specs.Journey.{is_gone, is_source}
+use Rattle.zy_laws.specs.Journey.{is_gone}
 use Rattle.zy_table.specs.Pages.{owns}
 use Rattle.zy_table.specs.Play.{opening, play, side_of, step}
 use Rattle.zy_table.specs.State.{View, facing}
@@ -18,10 +19,10 @@ use Rattle.zy_laws.proofs.Events.{Lost, step_happens}
 use Rattle.zy_table.proofs.LockLists.{exclusive_holds}
 use Rattle.zy_laws.proofs.Locking.{Kept}
 use Rattle.zy_laws.proofs.Reached.{kept_from, reached}
-use Rattle.zy_laws.proofs.Roles.{all_owned, is_idle, is_whole}
+use Rattle.zy_laws.proofs.Roles.{all_owned}
 
 -- a node where transactions run, and that asks for no page
-left_mode : (m : NodeMode) → is_idle m ≡ false → is_waiting m ≡ false → may_pull m ≡ false → (is_whole m ≡ true) ⊎ (m ≡ SDual)
+left_mode : (m : NodeMode) → is_idle m ≡ false → is_waiting m ≡ false → may_pull m ≡ false → (is_home m ≡ true) ⊎ (m ≡ SDual)
 left_mode Empty a b c = absurd (false≢true (sym a))
 left_mode Normal a b c = inl refl
 left_mode SInit a b c = inl refl
@@ -32,7 +33,7 @@ left_mode DDual a b c = absurd (false≢true (sym c))
 left_mode DFinish a b c = absurd (false≢true (sym c))
 
 -- a node where transactions run hands no page on, or has all of them, or is in the dual mode
-hands_on : (m : NodeMode) → is_idle m ≡ false → (is_source m ≡ false) ⊎ ((is_whole m ≡ true) ⊎ (m ≡ SDual))
+hands_on : (m : NodeMode) → is_idle m ≡ false → (is_source m ≡ false) ⊎ ((is_home m ≡ true) ⊎ (m ≡ SDual))
 hands_on Empty busy = inl refl
 hands_on Normal busy = inl refl
 hands_on SInit busy = inr (inl refl)
@@ -48,7 +49,7 @@ lost_in_dual sc n v lows k l =
     let busy = k.mine.busy l.txn (l.active, l.here) in
     let newest : v.me.lows ≡ lows = k.mine.newest busy in
     let within : page_of v.me.lows l.key < length v.me.lows = subst (λ z. page_of z l.key < length z) (sym (newest ∙ k.first.1)) (page_of-within (0 ∷ k.first.0) l.key (omega arith)) in
-    let whole : is_whole v.me.mode ≡ true → ⊥ = λ all. false≢true (sym l.gone ∙ all_owned v k.inv all k.inv.roles (page_of v.me.lows l.key) within) in
+    let whole : is_home v.me.mode ≡ true → ⊥ = λ all. false≢true (sym l.gone ∙ all_owned v k.inv all k.inv.roles (page_of v.me.lows l.key) within) in
     elim l.cause [
       | inl still ↦ elim (left_mode v.me.mode busy l.begun still) [ inl all ↦ absurd (whole all) | inr dual ↦ dual ]
       | inr private ↦ elim (hands_on v.me.mode busy) [

@@ -2,6 +2,7 @@
 use Rattle.std.proofs.Common.{List, [], ap, false, inl, inr, length, refl, subst, sym, true, ℕ, ◌++◌, ◌<◌, ◌∙◌, ◌∷◌, ◌≡◌}
 use Rattle.std.specs.Prelude.{is_some, slice_set, ◌⊎◌}
 use Rattle.std.proofs.lemmas.Bool.{cases_eq, false≢true}
+use Rattle.zy_modes.specs.Families.{is_source, is_idle}
 use Rattle.zy_isa.specs.Rows.{get_row}
 use Rattle.zy_isa.specs.Scenario.{Scenario}
 use Rattle.zy_isa.specs.declared.node.Node.{Node}
@@ -11,7 +12,6 @@ use Rattle.zy_locks.specs.declared.lock.LockKind.TheVariants.{Exclusive}
 use Rattle.zy_table.specs.Change.{txn_at}
 use Rattle.zy_modes.specs.declared.mode.NodeMode.{NodeMode}
 use Rattle.zy_table.specs.Take.{is_held}
-use Rattle.zy_laws.specs.Journey.{is_source}
 use Rattle.zy_table.specs.Client.{is_active}
 use Rattle.zy_table.specs.Database.{sent_leaves}
 use Rattle.zy_table.specs.Holders.{holds, holds_alone}
@@ -20,7 +20,7 @@ use Rattle.zy_table.specs.State.{Leaf, NodeState, Txn, View, other}
 use Rattle.zy_wire.specs.Wireframe.{page_of}
 use Rattle.zy_laws.proofs.Installing.{Placed}
 use Rattle.zy_table.proofs.LockLists.{alone-add, alone_more, alone_new, exclusive_holds, free_all, free_alone, holds-add, holds-drop, holds-dropped, holds_alone-drop}
-use Rattle.zy_laws.proofs.Roles.{Inv, is_idle}
+use Rattle.zy_laws.proofs.Roles.{Inv}
 use Rattle.zy_laws.proofs.Txns.{IsAt, Stands, at_either, at_other, at_same, at_self, not_both_nodes}
 
 -- all pages

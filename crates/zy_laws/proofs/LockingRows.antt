@@ -1,5 +1,5 @@
 -- Each row of the table keeps locks, private rows and the places of rows.
-use Rattle.zy_laws.specs.Journey.{is_source}
+use Rattle.zy_modes.specs.Families.{is_home, is_source, is_destination, is_taker, is_idle}
 use Rattle.zy_laws.proofs.OneOwner.{sends_source}
 use Rattle.zy_wire.proofs.PageOf.{page_of-within}
 use Rattle.std.proofs.Common.{List, [], ap, false, inl, inr, length, refl, subst, suc, sym, true, zero, ℕ, ◌++◌, ◌+◌, ◌≤◌, ◌∙◌, ◌∷◌, ◌≡◌, length-append, arith, ◌<◌}
@@ -20,7 +20,7 @@ use Rattle.zy_wire.specs.Wireframe.{page_of}
 use Rattle.zy_wire.proofs.Longer.{page_of-cut}
 use Rattle.zy_modes.specs.declared.mode.NodeMode.{NodeMode}
 use Rattle.zy_modes.specs.declared.mode.NodeMode.TheVariants.{Empty, Normal, SInit, SDual, SFinish, DInit, DDual, DFinish}
-use Rattle.zy_modes.specs.Table.{home_of, is_home, is_destination, may_split}
+use Rattle.zy_modes.specs.Table.{home_of, may_split}
 use Rattle.zy_links.specs.Messages.{Wire, Ready, Dual, Pull, Finish, Done}
 use Rattle.zy_table.specs.declared.outcome.Why.{Why}
 use Rattle.zy_table.specs.Change.{aborted, asks, begun, committed, cut, did, installed, leaves, locked, shares, turns, txn_at, txn_or, with_lows}
@@ -48,8 +48,8 @@ use Rattle.zy_laws.proofs.MovedPages.{arrived_placed, leaves_placed, whole_same}
 use Rattle.zy_laws.proofs.MovingPages.{owns-without_other, sent_bare}
 use Rattle.zy_laws.proofs.Ordered.{Ordered, rows_at}
 use Rattle.zy_laws.proofs.PageValues.{rest_lacks, rest_of}
-use Rattle.zy_laws.proofs.PhaseSteps.{is_taker, taker_of, wire_came}
-use Rattle.zy_laws.proofs.Roles.{Inv, Roles, is_idle, normal_other}
+use Rattle.zy_laws.proofs.PhaseSteps.{taker_of, wire_came}
+use Rattle.zy_laws.proofs.Roles.{Inv, Roles, normal_other}
 use Rattle.zy_laws.proofs.Txns.{IsAt, Stands, at_other, at_self, not_both_nodes, not_new}
 
 -- t does an instruction without a key

@@ -4,6 +4,7 @@ use Rattle.std.specs.Prelude.{drop, if◌then◌else◌, map, max, nat_lt, ◌==
 use Rattle.std.proofs.lemmas.Bool.{cases_eq, cases_lt, false≢true}
 use Rattle.std.proofs.lemmas.Bool.Decides.{nat_tests}
 use Rattle.std.proofs.lemmas.List.{length-map}
+use Rattle.zy_modes.specs.Families.{is_source, is_taker, is_sending, is_bare}
 use Rattle.zy_isa.specs.Scenario.{Scenario, opening_rows}
 use Rattle.zy_isa.specs.declared.choice.Choice.{Choice}
 use Rattle.zy_isa.specs.declared.node.Node.{Node}
@@ -15,7 +16,7 @@ use Rattle.zy_modes.specs.declared.mode.NodeMode.{NodeMode}
 use Rattle.zy_modes.specs.declared.mode.NodeMode.TheVariants.{Empty, Normal, SInit, SDual, SFinish, DInit, DDual, DFinish}
 use Rattle.zy_modes.specs.Table.{may_pull, may_split}
 use Rattle.zy_table.specs.Change.{aborted, asks, begun, committed, cut, did, installed, leaves, locked, shares, turns, txn_at, with_lows}
-use Rattle.zy_laws.specs.Journey.{Begins, is_source}
+use Rattle.zy_laws.specs.Journey.{Begins}
 use Rattle.zy_laws.specs.OneOwner.{OneOwner, times}
 use Rattle.zy_table.specs.Pages.{leaf_at, lowered, owns, without}
 use Rattle.zy_table.specs.Play.{move, opening, opening_leaves, opening_pages, play, side_of, step}
@@ -23,13 +24,13 @@ use Rattle.zy_table.specs.Run.{boundary}
 use Rattle.zy_table.specs.State.{Leaf, Message, NodeState, State, View, facing, post, seen_from, with_me}
 use Rattle.zy_table.specs.Take.{all_here}
 use Rattle.zy_laws.proofs.Events.{Aborts, Adds, Asks, Begins as Begun, Commits, Event, Finishes, Gets, Gives, GotAll, GotDone, GotDual, GotFinish, GotLast, GotPage, GotReady, GotWire, Inserts, IsStale, Jumps, Pushes, Rests, Sets, SumsUp, SumsNone, Splits, Starts, Writes, arrived, has_lock, key, page, rest, step_happens}
-use Rattle.zy_laws.proofs.ModeLines.{is_sending, pulls_in, sends_in, splits_in_normal}
+use Rattle.zy_laws.proofs.ModeLines.{pulls_in, sends_in, splits_in_normal}
 use Rattle.zy_laws.proofs.MovingPages.{all_below-owns, leaf_at-number}
 use Rattle.zy_laws.proofs.PageCounts.{owns-times, times-all_leaves, times-installed, times-lowered, times-with_page, times-without, times_in, times_sent, times_sent-post}
 use Rattle.zy_laws.proofs.Phases.{AllPages, AllThere, Phase, Resting, Ready_sent, Done_sent, begins_length, done_post}
-use Rattle.zy_laws.proofs.PhaseSteps.{SameShape, asked_for, cut_source, cut_taker, destination_same, done_came, dual_came, finish_came, finished, in_finish, is_taker, no_pull, page_came, page_left, pull_came, ready_came, sending_lows, source_of, source_same, started, taker_of, wire_came}
+use Rattle.zy_laws.proofs.PhaseSteps.{SameShape, asked_for, cut_source, cut_taker, destination_same, done_came, dual_came, finish_came, finished, in_finish, no_pull, page_came, page_left, pull_came, ready_came, sending_lows, source_of, source_same, started, taker_of, wire_came}
 use Rattle.zy_laws.proofs.PlayPush.{play-keeps}
-use Rattle.zy_laws.proofs.Roles.{Bare, Destination, Inv, Owned, Roles, Source, is_bare, normal_other, places, turned, turned_inv, width}
+use Rattle.zy_laws.proofs.Roles.{Bare, Destination, Inv, Owned, Roles, Source, normal_other, places, turned, turned_inv, width}
 
 roles_same : (v w : View) → SameShape v.me w.me → w.them ≡ v.them → w.inbox ≡ v.inbox → w.outbox ≡ v.outbox → Roles v → Roles w
 roles_same v w s a b c (Source ph) = Source (rw (a, b, c) (source_same v.me w.me v.them v.outbox v.inbox s ph))

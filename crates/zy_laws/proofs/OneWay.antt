@@ -2,6 +2,8 @@
 use Rattle.std.proofs.Common.{List, [], ap, false, inl, inr, refl, subst, sym, ℕ, ◌∙◌, ◌∷◌, ◌≡◌}
 use Rattle.std.specs.Prelude.{◌⊎◌}
 use Rattle.std.proofs.lemmas.Bool.{false≢true}
+use Rattle.zy_isa.specs.declared.version.Version.TheVariants.{One}
+use Rattle.zy_modes.specs.Families.{is_source}
 use Rattle.zy_isa.proofs.ResultLemmas.{neither}
 use Rattle.zy_isa.specs.Scenario.{Scenario}
 use Rattle.zy_isa.specs.declared.choice.Choice.{Choice}
@@ -10,7 +12,6 @@ use Rattle.zy_isa.specs.declared.node.Node.TheVariants.{A, B}
 use Rattle.zy_table.specs.declared.outcome.Outcome.{Outcome}
 use Rattle.zy_table.specs.declared.outcome.Outcome.TheVariants.{Started}
 use Rattle.zy_table.specs.Change.{aborted, asks, begun, committed, cut, did, leaves, locked, shares, txn_at}
-use Rattle.zy_laws.specs.Journey.{is_source}
 use Rattle.zy_laws.specs.Travel.{Travels, Stays, Appears, Leaves, Arrives, IsPassed, NeverBack, NoneStarted, is_started}
 use Rattle.zy_table.specs.Play.{entries, move, opening, play, side_of, step}
 use Rattle.zy_table.specs.State.{Step, State, View, facing, seen_from}
@@ -23,7 +24,7 @@ use Rattle.zy_laws.proofs.Travel.{step_travels}
 -- a row changes its own node alone, and makes a source of it where it is a start that acts: in version 1 at A
 pub record Sourced (sc : Scenario) (n : Node) (o : Outcome) (v w : View) : Type 0 where
   pub them : w.them ≡ v.them
-  pub off : is_source v.me.mode ≡ false → (is_source w.me.mode ≡ false) ⊎ ((o ≡ Started) × (sc.version ≡ 1 → n ≡ A))
+  pub off : is_source v.me.mode ≡ false → (is_source w.me.mode ≡ false) ⊎ ((o ≡ Started) × (sc.version ≡ One → n ≡ A))
 
 in_mode : (sc : Scenario) (n : Node) (o : Outcome) (v w : View) → w.them ≡ v.them → w.me.mode ≡ v.me.mode → Sourced sc n o v w
 in_mode sc n o v w them mode = record { them = them; off = λ h. inl (ap is_source mode ∙ h) }
@@ -60,7 +61,7 @@ sourced sc n o v w (Pushes p finish own e) told = rw e (in_mode sc n o v _ refl 
 
 -- node m is no source after a row that is no start at it
 abbrev Bars : Scenario → Node → Outcome → Node → Type 0
-Bars sc n o m = o ≡ Started → (sc.version ≡ 1 → n ≡ A) → n ≡ m → ⊥
+Bars sc n o m = o ≡ Started → (sc.version ≡ One → n ≡ A) → n ≡ m → ⊥
 
 off_after : (sc : Scenario) (m n : Node) (o : Outcome) (s : State) (w : View) → Bars sc n o m → Sourced sc n o (facing n s) w
     → is_source (facing m s).me.mode ≡ false → is_source (facing m (seen_from n w)).me.mode ≡ false
@@ -79,7 +80,7 @@ step_off sc c s m bar h =
     off_after sc m n (move sc c v).outcome s (move sc c v).after bar (sourced sc n (move sc c v).outcome v (move sc c v).after x.event x.told) h
 
 -- in version 1 no start acts at B
-not_at_b : (sc : Scenario) (n : Node) (o : Outcome) → sc.version ≡ 1 → Bars sc n o B
+not_at_b : (sc : Scenario) (n : Node) (o : Outcome) → sc.version ≡ One → Bars sc n o B
 not_at_b sc n o one started at_a at_b = let a : n ≡ A = at_a one in absurd cc
 
 opening_b : (sc : Scenario) → is_source (opening sc).b.mode ≡ false
@@ -87,7 +88,7 @@ unfolding opening
 opening_b sc = refl
 
 -- in every state that is reached
-pub b_never_sends : (sc : Scenario) → sc.version ≡ 1 → (cs : List Choice) → is_source (play sc (opening sc) cs).b.mode ≡ false
+pub b_never_sends : (sc : Scenario) → sc.version ≡ One → (cs : List Choice) → is_source (play sc (opening sc) cs).b.mode ≡ false
 b_never_sends sc one cs = play-keeps sc (λ s. is_source s.b.mode ≡ false) (λ c s h. step_off sc c s B (not_at_b sc _ _ one) h) cs (opening sc) (opening_b sc)
 
 -- one row beside a node that is no source
@@ -106,7 +107,7 @@ goes_on p B B s x off (Arrives pulls coming here) = record { passed = λ _. inr 
 
 -- no start acts at m: in version 1 m is B, or none acts at all
 abbrev Calm : Scenario → Node → State → List Choice → Type 0
-Calm sc m s cs = ((sc.version ≡ 1) × (m ≡ B)) ⊎ NoneStarted (entries sc s cs)
+Calm sc m s cs = ((sc.version ≡ One) × (m ≡ B)) ⊎ NoneStarted (entries sc s cs)
 
 calm_first : (sc : Scenario) (m : Node) (s : State) (c : Choice) (cs : List Choice) → Calm sc m s (c ∷ cs) → Bars sc (side_of sc c s) (step sc c s).outcome m
 calm_first sc m s c cs (inl one) = subst (Bars sc (side_of sc c s) (step sc c s).outcome) (sym one.1) (not_at_b sc _ _ one.0)
@@ -125,7 +126,7 @@ never_back sc (c ∷ cs) s p m calm i off =
     let more = never_back sc cs (step sc c s).after p m (calm_rest sc m s c cs calm) next (step_off sc c s m (calm_first sc m s c cs calm) off) in
     record { passed = λ h. more.passed (one.passed h); there = λ h. more.there (one.there h) }
 
-pub none_goes_back : (sc : Scenario) → sc.version ≡ 1 → (cs more : List Choice) (p : ℕ) → let s = play sc (opening sc) cs in NeverBack p B s (play sc s more)
+pub none_goes_back : (sc : Scenario) → sc.version ≡ One → (cs more : List Choice) (p : ℕ) → let s = play sc (opening sc) cs in NeverBack p B s (play sc s more)
 none_goes_back sc one cs more p = never_back sc more (play sc (opening sc) cs) p B (inl (one, refl)) (play_inv sc cs) (b_never_sends sc one cs)
 
 pub returns_by_start : (sc : Scenario) (cs more : List Choice) (p : ℕ) (n : Node) → let s = play sc (opening sc) cs in

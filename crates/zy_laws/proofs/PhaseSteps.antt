@@ -1,23 +1,15 @@
 -- What each line of the table does to the phase of a migration.
 use Rattle.std.proofs.Common.{◌≡◌, ℕ, ◌≤◌, List, [], ◌∷◌, ◌++◌, length, Bool, true, false, refl, sym, ap, ◌∙◌, arith, subst, append_assoc}
+use Rattle.zy_modes.specs.Families.{is_source, is_taker, is_sending}
 use Rattle.zy_modes.specs.declared.mode.NodeMode.{NodeMode}
 use Rattle.zy_modes.specs.declared.mode.NodeMode.TheVariants.{Empty, Normal, SInit, SDual, SFinish, DInit, DDual, DFinish}
 use Rattle.zy_modes.specs.Table.{may_pull}
 use Rattle.zy_links.specs.Messages.{Wire, Ready, Dual, Pull, Page, Finish, Done}
 use Rattle.zy_table.specs.State.{NodeState, Leaf, Message, View}
-use Rattle.zy_laws.specs.Journey.{Begins, is_source}
+use Rattle.zy_laws.specs.Journey.{Begins}
 use Rattle.zy_laws.specs.OneOwner.{times}
-use Rattle.zy_laws.proofs.ModeLines.{is_sending}
 use Rattle.zy_laws.proofs.Phases.{Phase, AllPages, PagesAndFinish, AllPulls, PullsAndDone, AllThere, Resting, Wire_sent, Ready_sent, Dual_sent, Both_sent, In_dual, Finish_sent, In_finish, Done_sent, begins_length, pages_post, finish_post, pages_finish_post, pulls_post}
 use Rattle.zy_laws.proofs.Roles.{Roles, Source, Destination, mode_clash}
-
--- a node to which pages go, or none has come yet
-abbrev pub is_taker : NodeMode → Bool
-is_taker Empty = true
-is_taker DInit = true
-is_taker DDual = true
-is_taker DFinish = true
-is_taker mode = false
 
 -- which of the two a node is, by its mode
 pub source_of : (v : View) → Roles v → is_source v.me.mode ≡ true → Phase v.me v.them v.outbox v.inbox

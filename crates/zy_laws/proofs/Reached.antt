@@ -2,6 +2,7 @@
 use Rattle.std.proofs.Common.{List, [], ap, false, refl, subst, sym, true, ℕ, ◌++◌, ◌∙◌, ◌∷◌, ◌≡◌, ◌≤◌}
 use Rattle.std.specs.Prelude.{map, slice_get}
 use Rattle.std.proofs.lemmas.Bool.{false≢true}
+use Rattle.zy_modes.specs.Families.{is_idle}
 use Rattle.zy_isa.specs.Scenario.{IsScenario, Scenario, opening_rows}
 use Rattle.zy_isa.specs.declared.choice.Choice.{Choice}
 use Rattle.zy_isa.specs.declared.instr.Instr.{Instr}
@@ -23,7 +24,7 @@ use Rattle.zy_laws.proofs.Opening.{LaidOut, laid_out}
 use Rattle.zy_laws.proofs.OneOwner.{opening_inv, step_inv}
 use Rattle.zy_laws.proofs.ListsInOrder.{Tidy, opening_tidy, ordered_from, step_tidy}
 use Rattle.zy_laws.proofs.PlayPush.{play-keeps-with}
-use Rattle.zy_laws.proofs.Roles.{Inv, is_idle, turned, turned_inv}
+use Rattle.zy_laws.proofs.Roles.{Inv, turned, turned_inv}
 use Rattle.zy_laws.proofs.Txns.{IsAt, blank_at}
 
 turned_placed : (lows : List ℕ) (v : View) → Placed lows (whole v) → Placed lows (whole (turned v))

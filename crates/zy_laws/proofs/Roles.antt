@@ -3,6 +3,7 @@ use Rattle.std.proofs.Common.{Bool, [], ◌∷◌, List, ap, arith, false, lengt
 use Rattle.std.specs.Prelude.{if◌then◌else◌, max, nat_lt}
 use Rattle.std.proofs.lemmas.Bool.{false≢true}
 use Rattle.std.proofs.lemmas.Bool.Decides.{nat_tests}
+use Rattle.zy_modes.specs.Families.{is_home, is_bare, is_idle}
 use Rattle.zy_modes.specs.declared.mode.NodeMode.{NodeMode}
 use Rattle.zy_modes.specs.declared.mode.NodeMode.TheVariants.{Empty, Normal, SInit, SDual, SFinish, DInit, DDual, DFinish}
 use Rattle.zy_modes.specs.Table.{may_split}
@@ -26,12 +27,6 @@ width v = max (length v.me.lows) (length v.them.lows)
 
 pub record Owned (v : View) : Type 0 where
   pub once : (p : ℕ) → places p v ≡ (if nat_lt p (width v) then 1 else 0)
-
--- a node without a wireframe of its own, or with one that has just come, has no page
-abbrev pub is_bare : NodeMode → Bool
-is_bare Empty = true
-is_bare DInit = true
-is_bare mode = false
 
 pub record Bare (x : NodeState) : Type 0 where
   pub none : is_bare x.mode ≡ true → x.pages ≡ []
@@ -62,18 +57,6 @@ turned_inv v i = record {
   theirs = i.mine;
 }
 
--- a node in a mode in which it has every page of its wireframe
-abbrev pub is_whole : NodeMode → Bool
-is_whole Normal = true
-is_whole SInit = true
-is_whole mode = false
-
--- a node where no transaction runs
-abbrev pub is_idle : NodeMode → Bool
-is_idle Empty = true
-is_idle SFinish = true
-is_idle mode = false
-
 sole : (v : View) (inbox outbox : List Message) → Owned v → v.them.pages ≡ [] → v.inbox ≡ inbox → v.outbox ≡ outbox
     → ((p : ℕ) → times_sent p inbox + times_sent p outbox ≡ 0) → (p : ℕ) → p < length v.me.lows → owns v.me.pages p ≡ true
 sole v inbox outbox o none a b sent p h =
@@ -84,24 +67,24 @@ sole v inbox outbox o none a b sent p h =
     let s = sent p in
     owns_from p v.me.pages (grind (arith, nat_tests, k, x, y, z, s))
 
-pub all_owned : (v : View) → Inv v → is_whole v.me.mode ≡ true → Roles v → (p : ℕ) → p < length v.me.lows → owns v.me.pages p ≡ true
+pub all_owned : (v : View) → Inv v → is_home v.me.mode ≡ true → Roles v → (p : ℕ) → p < length v.me.lows → owns v.me.pages p ≡ true
 all_owned v i s (Source (Resting a b c d f)) = sole v [] [] i.owned (i.theirs.none (ap is_bare b)) f d (λ p. refl)
 all_owned v i s (Source (Wire_sent a b c d f)) = sole v [] (Wire v.me.lows ∷ []) i.owned (i.theirs.none (ap is_bare b)) f d (λ p. refl)
 all_owned v i s (Source (Ready_sent a b c d f)) = sole v (Ready ∷ []) [] i.owned (i.theirs.none (ap is_bare b)) f d (λ p. refl)
-all_owned v i s (Source (Dual_sent xs a b c d all f)) = mode_clash is_whole SDual v.me.mode a refl s
-all_owned v i s (Source (Both_sent xs a b c d all f)) = mode_clash is_whole SFinish v.me.mode a refl s
-all_owned v i s (Source (In_dual a b c d f)) = mode_clash is_whole SDual v.me.mode a refl s
-all_owned v i s (Source (Finish_sent a b c d f)) = mode_clash is_whole SFinish v.me.mode a refl s
-all_owned v i s (Source (In_finish a b c d f)) = mode_clash is_whole SFinish v.me.mode a refl s
-all_owned v i s (Source (Done_sent a b c all d f)) = mode_clash is_whole SFinish v.me.mode a refl s
-all_owned v i s (Destination (Resting a b c d f)) = mode_clash is_whole Empty v.me.mode b refl s
-all_owned v i s (Destination (Wire_sent a b c d f)) = mode_clash is_whole Empty v.me.mode b refl s
-all_owned v i s (Destination (Ready_sent a b c d f)) = mode_clash is_whole DInit v.me.mode b refl s
-all_owned v i s (Destination (Dual_sent xs a b c d all f)) = mode_clash is_whole DInit v.me.mode b refl s
-all_owned v i s (Destination (Both_sent xs a b c d all f)) = mode_clash is_whole DInit v.me.mode b refl s
-all_owned v i s (Destination (In_dual a b c d f)) = mode_clash is_whole DDual v.me.mode b refl s
-all_owned v i s (Destination (Finish_sent a b c d f)) = mode_clash is_whole DDual v.me.mode b refl s
-all_owned v i s (Destination (In_finish a b c d f)) = mode_clash is_whole DFinish v.me.mode b refl s
+all_owned v i s (Source (Dual_sent xs a b c d all f)) = mode_clash is_home SDual v.me.mode a refl s
+all_owned v i s (Source (Both_sent xs a b c d all f)) = mode_clash is_home SFinish v.me.mode a refl s
+all_owned v i s (Source (In_dual a b c d f)) = mode_clash is_home SDual v.me.mode a refl s
+all_owned v i s (Source (Finish_sent a b c d f)) = mode_clash is_home SFinish v.me.mode a refl s
+all_owned v i s (Source (In_finish a b c d f)) = mode_clash is_home SFinish v.me.mode a refl s
+all_owned v i s (Source (Done_sent a b c all d f)) = mode_clash is_home SFinish v.me.mode a refl s
+all_owned v i s (Destination (Resting a b c d f)) = mode_clash is_home Empty v.me.mode b refl s
+all_owned v i s (Destination (Wire_sent a b c d f)) = mode_clash is_home Empty v.me.mode b refl s
+all_owned v i s (Destination (Ready_sent a b c d f)) = mode_clash is_home DInit v.me.mode b refl s
+all_owned v i s (Destination (Dual_sent xs a b c d all f)) = mode_clash is_home DInit v.me.mode b refl s
+all_owned v i s (Destination (Both_sent xs a b c d all f)) = mode_clash is_home DInit v.me.mode b refl s
+all_owned v i s (Destination (In_dual a b c d f)) = mode_clash is_home DDual v.me.mode b refl s
+all_owned v i s (Destination (Finish_sent a b c d f)) = mode_clash is_home DDual v.me.mode b refl s
+all_owned v i s (Destination (In_finish a b c d f)) = mode_clash is_home DFinish v.me.mode b refl s
 all_owned v i s (Destination (Done_sent a b c all d f)) = λ p h. owns_from p v.me.pages (all.each p h)
 
 -- beside a node in Normal nothing runs, and the other wireframe is no longer

@@ -4,6 +4,7 @@ use Rattle.std.specs.Prelude.{if◌then◌else◌, ◌==◌, ◌||◌}
 use Rattle.std.proofs.Math.Bool.{or-false}
 use Rattle.std.proofs.lemmas.Bool.{cases_eq, eq-eqb, false≢true, ne_eqb, or_left, or_right}
 use Rattle.std.proofs.lemmas.Bool.Decides.{nat_tests}
+use Rattle.zy_modes.specs.Families.{is_source}
 use Rattle.zy_isa.specs.Scenario.{Scenario}
 use Rattle.zy_isa.specs.declared.choice.Choice.{Choice}
 use Rattle.zy_isa.specs.declared.node.Node.{Node}
@@ -17,7 +18,6 @@ use Rattle.zy_table.specs.declared.place.Place.{Place}
 use Rattle.zy_table.specs.declared.place.Place.TheVariants.{Nowhere, At, Moving}
 use Rattle.zy_table.specs.Change.{aborted, asks, begun, committed, cut, did, leaves, locked, shares, txn_at}
 use Rattle.zy_table.specs.Database.{sent_leaves}
-use Rattle.zy_laws.specs.Journey.{is_source}
 use Rattle.zy_table.specs.Pages.{leaf_at, lowered, owns, with_page}
 use Rattle.zy_table.specs.Places.{place_of}
 use Rattle.zy_laws.specs.Travel.{Travels, Stays, Appears, Leaves, Arrives}

@@ -5,6 +5,7 @@ use Rattle.std.specs.FinMap.{get}
 use Rattle.std.proofs.lemmas.Bool.{cond_both, ltb-false, ltb-true}
 use Rattle.std.proofs.lemmas.Bool.Decides.{nat_tests}
 use Rattle.std.proofs.lemmas.List.{nil_from_length}
+use Rattle.zy_modes.specs.Families.{is_idle}
 use Rattle.zy_isa.specs.Rows.{get_row}
 use Rattle.zy_isa.specs.Scenario.{IsScenario, Scenario}
 use Rattle.zy_isa.specs.declared.choice.Choice.{Choice}
@@ -23,7 +24,7 @@ use Rattle.zy_laws.proofs.PageCounts.{owns_from, times-append, times-sent_leaves
 use Rattle.zy_laws.proofs.Reached.{reached}
 use Rattle.zy_laws.proofs.PageValues.{db, found_once, rest_of}
 use Rattle.zy_laws.proofs.Phases.{Phase, Resting, Wire_sent, Ready_sent, Dual_sent, Both_sent, In_dual, Finish_sent, In_finish, Done_sent}
-use Rattle.zy_laws.proofs.Roles.{Destination, Owned, Roles, Source, is_idle, width}
+use Rattle.zy_laws.proofs.Roles.{Destination, Owned, Roles, Source, width}
 use Rattle.zy_wire.proofs.PageOf.{page_of-within}
 
 -- ---- where the newest low keys are

@@ -1,6 +1,7 @@
 -- How a page moves.
 use Rattle.std.specs.Prelude.{◌≡◌, ◌⊎◌, ℕ, List, Bool, true, false}
 use Rattle.std.specs.List.{list_any}
+use Rattle.zy_modes.specs.Families.{is_source}
 use Rattle.zy_isa.specs.declared.node.Node.{Node}
 use Rattle.zy_modes.specs.Table.{may_pull}
 use Rattle.zy_modes.specs.declared.mode.NodeMode.TheVariants.{Normal}
@@ -11,7 +12,6 @@ use Rattle.zy_table.specs.declared.entry.Entry.{Entry}
 use Rattle.zy_table.specs.declared.outcome.Outcome.{Outcome}
 use Rattle.zy_table.specs.declared.outcome.Outcome.TheVariants.{Split, Started}
 use Rattle.zy_table.specs.Places.{place_of}
-use Rattle.zy_laws.specs.Journey.{is_source}
 
 -- what a row of n's side does to the place of page p: a page appears where a Normal node splits it off, under the number that
 -- the outcome tells; it leaves a source, and a destination takes it

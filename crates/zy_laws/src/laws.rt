@@ -1,5 +1,6 @@
 //! What holds of the table over every schedule: each function is a law, and its contract is all of it.
 ghost use Rattle.std.specs.Prelude.{◌≡◌, ℕ, List, length, true, false};
+ghost use Rattle.zy_isa.specs.declared.version.Version.TheVariants.{One};
 ghost use Rattle.zy_isa.specs.declared.choice.Choice.{Choice as AChoice};
 ghost use Rattle.zy_isa.specs.declared.node.Node.{Node};
 ghost use Rattle.zy_isa.specs.declared.node.Node.TheVariants.{B};
@@ -8,7 +9,8 @@ ghost use Rattle.zy_isa.specs.Scenario.{Scenario, IsScenario};
 ghost use Rattle.zy_table.specs.Play.{entries, play, opening, step, side_of};
 ghost use Rattle.zy_modes.specs.declared.mode.NodeMode.TheVariants.{Empty, Normal, SDual};
 ghost use Rattle.zy_table.specs.State.{facing};
-ghost use Rattle.zy_laws.specs.Journey.{OneWireframe, is_gone, is_source, is_stray};
+ghost use Rattle.zy_modes.specs.Families.{is_source};
+ghost use Rattle.zy_laws.specs.Journey.{OneWireframe, is_gone, is_stray};
 ghost use Rattle.zy_laws.specs.Travel.{NeverBack, NoneStarted, Travels};
 ghost use Rattle.zy_laws.specs.OneOwner.{OneOwner};
 ghost use Rattle.zy_laws.specs.Between.{NothingLeft};
@@ -78,13 +80,13 @@ pub fn returns_by_start()
 
 /// In version 1 B is never in a source's mode (SInit, SDual or SFinish); so, with `pages_travel`, no page leaves it.
 pub fn b_never_sends()
-    ensures { (sc : Scenario) → sc.version ≡ 1 → (choices : List AChoice) → is_source (play sc (opening sc) choices).b.mode ≡ false }
+    ensures { (sc : Scenario) → sc.version ≡ One → (choices : List AChoice) → is_source (play sc (opening sc) choices).b.mode ≡ false }
 {}
 
 /// In version 1 no page goes back: one that is at B stays there, and one in a message from A is later in a message from A or
 /// at B, whatever is chosen.
 pub fn none_goes_back()
-    ensures { (sc : Scenario) → sc.version ≡ 1 → (choices more : List AChoice) (p : ℕ)
+    ensures { (sc : Scenario) → sc.version ≡ One → (choices more : List AChoice) (p : ℕ)
         → let s = play sc (opening sc) choices in NeverBack p B s (play sc s more) }
 {}
 

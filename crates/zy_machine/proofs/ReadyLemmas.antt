@@ -2,6 +2,7 @@
 use Rattle.std.proofs.Common.{◌≡◌, ◌∙◌, ℕ, ◌<◌, List, false, refl, length, sym, ap, subst, arith, true}
 use Rattle.std.specs.Prelude.{slice_get}
 use Rattle.std.proofs.lemmas.Bool.{false_from_ne_true, ltb-true}
+use Rattle.zy_modes.specs.Families.{is_idle}
 use Rattle.zy_isa.specs.declared.node.Node.{Node}
 use Rattle.zy_isa.specs.declared.node.Node.TheVariants.{A, B}
 use Rattle.zy_isa.specs.declared.choice.Choice.{Choice}
@@ -40,7 +41,7 @@ use Rattle.zy_laws.proofs.LockingRows.{home_placed}
 use Rattle.zy_laws.proofs.Ordered.{rows_at}
 use Rattle.zy_laws.proofs.Reached.{kept_from, reached}
 use Rattle.zy_laws.proofs.ModeLines.{starts_from}
-use Rattle.zy_laws.proofs.Roles.{fresh_number, is_idle, normal_other}
+use Rattle.zy_laws.proofs.Roles.{fresh_number, normal_other}
 use Rattle.zy_laws.proofs.Txns.{IsAt}
 
 txn_at-facing : (n : Node) (t : ℕ) (s : State) → txn_at (facing n s) t ≡ txn_or (slice_get s.txns t)

@@ -1,9 +1,13 @@
 -- The mode table, a line for each line of it.
-use Rattle.std.specs.Prelude.{◌≡◌, ◌==◌, ◌&&◌, ℕ, Bool, true, false, if◌then◌else◌, Option, Some, None}
+use Rattle.std.specs.Prelude.{◌≡◌, ◌&&◌, Bool, true, false, if◌then◌else◌, Option, Some, None}
 use Rattle.zy_isa.specs.declared.node.Node.{Node}
 use Rattle.zy_isa.specs.declared.node.Node.TheVariants.{A, B}
 use Rattle.zy_links.specs.declared.kind.Kind.{Kind}
 use Rattle.zy_links.specs.declared.kind.Kind.TheVariants.{Wire, Ready, Dual, Pull, Page, Finish, Done}
+use Rattle.zy_isa.specs.declared.version.Version.{Version}
+use Rattle.zy_isa.specs.declared.version.Version.TheVariants.{Two}
+use Rattle.zy_isa.specs.Versions.{has_since}
+use Rattle.zy_modes.specs.Families.{is_home, is_destination}
 use Rattle.zy_modes.specs.declared.mode.NodeMode.{NodeMode}
 use Rattle.zy_modes.specs.declared.mode.NodeMode.TheVariants.{Empty, Normal, SInit, SDual, SFinish, DInit, DDual, DFinish}
 use Rattle.zy_modes.specs.declared.table.MsgRow.{MsgRow}
@@ -41,10 +45,10 @@ may_start Normal Empty = true
 may_start mode other = false
 
 -- the node from which a migration starts, by the modes of A and B and the version: from B in version 2 alone
-abbrev pub on_start : NodeMode → NodeMode → ℕ → Option Node
+abbrev pub on_start : NodeMode → NodeMode → Version → Option Node
 on_start a b version =
     if may_start a b then Some A
-    else if version == 2 && may_start b a then Some B
+    else if has_since Two version && may_start b a then Some B
     else None
 
 -- finish at a node in this mode; active: a transaction is active there
@@ -52,19 +56,6 @@ abbrev pub on_finish : NodeMode → Bool → FinRow
 on_finish SDual true = Active
 on_finish SDual false = Finishing
 on_finish mode active = BadMode
-
--- the node that runs all transactions
-abbrev pub is_home : NodeMode → Bool
-is_home Normal = true
-is_home SInit = true
-is_home mode = false
-
--- the node to which the pages go
-abbrev pub is_destination : NodeMode → Bool
-is_destination DInit = true
-is_destination DDual = true
-is_destination DFinish = true
-is_destination mode = false
 
 -- the node where a transaction begins: one that runs all of them, else the destination, and A before B
 abbrev pub home_of : NodeMode → NodeMode → Option Node

@@ -4,6 +4,7 @@ ghost use Rattle.zy_modes.specs.Table.{finishes as finishes_spec, on_message as 
 
 use crate::mode::NodeMode;
 use zy_isa::node::Node;
+use zy_isa::version::Version;
 use zy_links::kind::Kind;
 
 /// What a message does at a node.
@@ -28,7 +29,7 @@ pub enum FinRow {
 
 /// What a message of this kind does at a node in this mode. `all_here`: with the page that it brings none is missing.
 /// A page that is asked for goes out only if it may leave, which is not told here. No line depends on the version.
-pub fn on_message(mode: NodeMode, kind: Kind, all_here: bool, _version: u8) -> MsgRow
+pub fn on_message(mode: NodeMode, kind: Kind, all_here: bool, _version: Version) -> MsgRow
     ensures row { result ≡ on_message_spec mode kind all_here }
     ensures hands_over { HandsOver all_here result }
 {
@@ -58,12 +59,12 @@ fn finishes(all_here: bool) -> MsgRow
 }
 
 /// The node from which a migration starts, by the modes of A and B and the version of the scenario: from B in version 2 alone.
-pub fn on_start(a: NodeMode, b: NodeMode, version: u8) -> Option<Node>
+pub fn on_start(a: NodeMode, b: NodeMode, version: Version) -> Option<Node>
     ensures { result ≡ on_start_spec a b version }
 {
     if a.may_start(b) {
         Some(Node::A)
-    } else if version == 2 && b.may_start(a) {
+    } else if version.has_since(Version::Two) && b.may_start(a) {
         Some(Node::B)
     } else {
         None

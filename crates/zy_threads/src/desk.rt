@@ -21,9 +21,10 @@ pub trait Of {
 
 impl Of for Brand {
     ghost use Rattle.std.specs.Prelude.{[]};
+    ghost use Rattle.zy_isa.specs.declared.version.Version.TheVariants.{One};
     ghost use Rattle.zy_isa.specs.declared.rule.Rule.TheVariants.{Held};
 
-    ghost plan = { record { version = 1; cap = 2; pages = 1; rule = Held; rows = []; programs = []; choices = [] } };
+    ghost plan = { record { version = One; cap = 2; pages = 1; rule = Held; rows = []; programs = []; choices = [] } };
 }
 
 /// The ledger of one actor, and how many choices the actor has.

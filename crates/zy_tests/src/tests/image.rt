@@ -13,6 +13,7 @@ use zy_isa::node::Node;
 use zy_isa::program::ProgFault;
 use zy_isa::rule::Rule;
 use zy_isa::scenario::Scenario;
+use zy_isa::version::Version;
 
 /// Cap 4, one page, no rows, one program of three instructions, and three choices.
 const IMAGE: [u8; 47] =
@@ -28,7 +29,7 @@ const CHOICES: [Choice; 3] = [
 
 /// Whether the scenario is that of the worked image.
 fn is_worked(scenario: &Scenario) -> bool {
-    let head = (scenario.version(), scenario.cap(), scenario.pages()) == (1, 4, 1)
+    let head = (scenario.version(), scenario.cap(), scenario.pages()) == (Version::One, 4, 1)
         && scenario.rule() == Rule::Held;
     let lists = scenario.rows().is_empty() && scenario.choices() == CHOICES.as_slice();
     match scenario.programs() {
@@ -117,7 +118,7 @@ fn the_first_bytes_tell_the_version(rt: HostRuntime) -> Result<(), Fail> {
     let mut bytes = IMAGE;
     bytes[3] = b'2';
     let scenario = load(rt.alloc(), bytes.as_slice())?;
-    assert_eq!(rt; scenario.version(), 2);
+    assert_eq!(rt; scenario.version(), Version::Two);
     assert!(rt; save(rt.alloc(), &scenario)?.as_slice() == bytes.as_slice());
     Ok(())
 }

@@ -1,6 +1,7 @@
 //! Every pair of mode and kind, and every pair of modes, against tables written by hand.
 use std::process::Abort;
 use zy_isa::node::Node;
+use zy_isa::version::Version;
 use zy_links::kind::Kind;
 use zy_modes::mode::NodeMode;
 use zy_modes::table::{FinRow, MsgRow, home_of, on_finish, on_message, on_start};
@@ -72,7 +73,7 @@ fn check_messages(rt: &impl Abort, table: &[&[u8; 7]; 8], all_here: bool) {
     for (mode, line) in MODES.iter().zip(table) {
         for (kind, want) in KINDS.iter().zip(line.iter()) {
             assert!(rt;
-                is_line(on_message(*mode, *kind, all_here, 1), *kind, *want),
+                is_line(on_message(*mode, *kind, all_here, Version::One), *kind, *want),
                 "{mode:?} {kind:?}"
             );
         }
@@ -133,10 +134,10 @@ fn every_pair_of_modes(rt: HostRuntime) {
             let starts = *a == NodeMode::Normal && *b == NodeMode::Empty;
             let start = if starts { b'A' } else { b'.' };
             assert!(rt; letter(home_of(*a, *b)) == *want, "{a:?} {b:?}");
-            assert!(rt; letter(on_start(*a, *b, 1)) == start, "{a:?} {b:?}");
+            assert!(rt; letter(on_start(*a, *b, Version::One)) == start, "{a:?} {b:?}");
             let turned = *a == NodeMode::Empty && *b == NodeMode::Normal;
             let start = if turned { b'B' } else { start };
-            assert!(rt; letter(on_start(*a, *b, 2)) == start, "{a:?} {b:?}");
+            assert!(rt; letter(on_start(*a, *b, Version::Two)) == start, "{a:?} {b:?}");
         }
     }
 }

@@ -11,6 +11,7 @@ use zy_isa::program::{ProgFault, Program};
 use zy_isa::row::Row;
 use zy_isa::rule::Rule;
 use zy_isa::scenario::{Scenario, ScenarioFault, opening_pages_for, opening_rows};
+use zy_isa::version::Version;
 
 const COUNTING: [Instr; 4] = [
     Instr::Set(Reg::R1, 4_294_967_295),
@@ -52,7 +53,7 @@ fn sample(alloc: Global) -> Option<Scenario> {
 
 /// Whether the scenario has the parts of the sample.
 fn is_sample(scenario: &Scenario) -> bool {
-    let header = (scenario.version(), scenario.cap(), scenario.pages()) == (1, 3, 2)
+    let header = (scenario.version(), scenario.cap(), scenario.pages()) == (Version::One, 3, 2)
         && scenario.rule() == Rule::Held;
     let lists = scenario.rows() == ROWS.as_slice() && scenario.choices() == CHOICES.as_slice();
     match scenario.programs() {

@@ -15,4 +15,4 @@ pub returns : goal.returns
 returns g c =
     let ps = c.args.self.now.0.now in
     let h : c.args.place < length ps = omega (arith, c.requires.within, length-parts 0 ps) in
-    rw (parts-at 0 c.args.place c.index-self-place.result ps h, zero-add c.args.place) c.write.ensures
+    rw (parts-at 0 c.args.place c.index-self-place.result ps h, zero-add c.args.place) (rw (c.words.ensures.value) at c.write.ensures)

@@ -8,8 +8,6 @@ invariant_of-result c =
     let old = c.self.invariant in
     let named = fit_choices (length c.self.inside.programs.items) c.args.choices.items (search rules) in
     record {
-      version_least = old.version_least;
-      version_most = old.version_most;
       cap_least = old.cap_least;
       cap_most = old.cap_most;
       pages_least = old.pages_least;

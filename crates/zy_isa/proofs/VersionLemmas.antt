@@ -1,0 +1,22 @@
+-- Versions are told apart by their words and by the first bytes of their images.
+use Rattle.std.proofs.Common.{◌≡◌, ℕ, List, Option, Some, refl, ap, ◌∙◌, sym}
+use Rattle.std.specs.Str.{bytes_eq}
+use Rattle.zy_isa.specs.declared.version.Version.{Version}
+use Rattle.zy_isa.specs.declared.version.Version.TheVariants.{One, Two}
+use Rattle.zy_isa.specs.Versions.{word, magic, versions, named, marked}
+use Rattle.zy_isa.proofs.ResultLemmas.{same}
+use Rattle.zy_isa.proofs.OperationLemmas.{found_passes}
+
+pub named_is : (w : List ℕ) (v : Version) → named w ≡ Some v → w ≡ word v
+named_is w v h = same w (word v) (found_passes (λ x. bytes_eq w (word x)) versions v h)
+
+pub named_back : (v : Version) → named (word v) ≡ Some v
+named_back One = refl
+named_back Two = refl
+
+pub marked_is : (bytes : List ℕ) (v : Version) → marked bytes ≡ Some v → bytes ≡ magic v
+marked_is bytes v h = same bytes (magic v) (found_passes (λ x. bytes_eq bytes (magic x)) versions v h)
+
+pub marked_back : (v : Version) → marked (magic v) ≡ Some v
+marked_back One = refl
+marked_back Two = refl

@@ -1,0 +1,101 @@
+//! The versions of scenarios, and how each is spelled.
+ghost use Rattle.std.specs.Prelude.{◌≡◌, [], ◌∷◌};
+ghost use Rattle.zy_isa.specs.Versions.{number as number_spec, digit as digit_spec, word, magic as magic_spec, numbered as numbered_spec, named as named_spec, marked as marked_spec, has_since as has_since_spec};
+
+use crate::operation::is;
+use std::alloc::AllocError;
+use zy_io::buffer::LineBuffer;
+use zy_io::line::Line;
+
+/// A version of scenarios. A later one has all that an earlier one has.
+#[derive(Clone, Copy, Debug, PartialEq, Eq)]
+pub enum Version {
+    /// Version 1: a migration goes from A to B, and there is one at most.
+    One,
+    /// Version 2: once a migration has ended, the next one goes back; and there is the instruction `sum`.
+    Two,
+}
+
+impl Version {
+    /// Its number, 1 or 2.
+    pub fn number(self) -> u8
+        ensures { result ≡ number_spec self }
+    {
+        match self {
+            Version::One => 1,
+            Version::Two => 2,
+        }
+    }
+
+    /// The version with this number.
+    pub fn numbered(number: u8) -> Option<Version>
+        ensures { result ≡ numbered_spec number }
+    {
+        match number {
+            1 => Some(Version::One),
+            2 => Some(Version::Two),
+            _ => None,
+        }
+    }
+
+    /// Its number as a character of a text.
+    fn digit(self) -> u8
+        ensures { result ≡ digit_spec self }
+    {
+        b'0' + self.number()
+    }
+
+    /// The version that the word behind `zephyr` names.
+    pub fn named(word: &[u8]) -> Option<Version>
+        ensures { result ≡ named_spec word.now }
+    {
+        if is(word, b"1") {
+            Some(Version::One)
+        } else if is(word, b"2") {
+            Some(Version::Two)
+        } else {
+            None
+        }
+    }
+
+    /// The bytes that its images begin with.
+    pub fn magic(self) -> [u8; 4]
+        ensures { result ≡ magic_spec self }
+    {
+        [b'Z', b'P', b'H', self.digit()]
+    }
+
+    /// The version whose images begin with these bytes.
+    pub fn marked(bytes: [u8; 4]) -> Option<Version>
+        ensures { result ≡ marked_spec bytes }
+    {
+        if is(&bytes, &Version::One.magic()) {
+            Some(Version::One)
+        } else if is(&bytes, &Version::Two.magic()) {
+            Some(Version::Two)
+        } else {
+            None
+        }
+    }
+
+    /// Whether this version has what came with that one.
+    #[inline(always)]
+    pub fn has_since(self, first: Version) -> bool
+        ensures { result ≡ has_since_spec first self }
+    {
+        match (first, self) {
+            (Version::Two, Version::One) => false,
+            (Version::Two, Version::Two) => true,
+            (Version::One, _) => true,
+        }
+    }
+}
+
+/// Its word in a text.
+impl Line for Version {
+    ghost text = { word };
+
+    fn append(&self, line: &mut LineBuffer) -> Result<(), AllocError> {
+        self.digit().append(line)
+    }
+}
