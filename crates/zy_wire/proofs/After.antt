@@ -19,17 +19,20 @@ pub after_key : (lows : List ℕ) (k end : ℕ) → Apart lows → 1 ≤ length 
 after_key lows k end apart some next =
     let p = page_of lows end in
     let is = at_key lows end next.0 in
-    let within = page_of-within lows end (omega (arith, some)) in
-    (within, (let up = next.1 in omega (arith, up, is)), λ q lt up.
-      let least = next.2 q lt up in
-      elim (cases_order q p) [
-        | inl same ↦ inl same
-        | inr (inl before) ↦ inr (elim (cases_lt end (get_or lows q 0)) [
-          | inl over ↦ omega (arith, over, is)
-          | inr not ↦ absurd (apart q p before within (omega (arith, least, not, is)))
-        ])
-        | inr (inr past) ↦ inr (elim (cases_lt end (get_or lows q 0)) [
-          | inl over ↦ omega (arith, over, is)
-          | inr not ↦ absurd (apart p q past lt (omega (arith, least, not, is)))
-        ])
-      ])
+    let within = page_of-within lows end (omega (arith, some)) in (
+      within,
+      (let up = next.1 in omega (arith, up, is)),
+      λ q lt up.
+          let least = next.2 q lt up in
+          elim (cases_order q p) [
+            | inl same ↦ inl same
+            | inr (inl before) ↦ inr (elim (cases_lt end (get_or lows q 0)) [
+              | inl over ↦ omega (arith, over, is)
+              | inr not ↦ absurd (apart q p before within (omega (arith, least, not, is)))
+            ])
+            | inr (inr past) ↦ inr (elim (cases_lt end (get_or lows q 0)) [
+              | inl over ↦ omega (arith, over, is)
+              | inr not ↦ absurd (apart p q past lt (omega (arith, least, not, is)))
+            ])
+          ],
+    )

@@ -3,7 +3,7 @@ ghost use Rattle.std.specs.Prelude.{◌≡◌, ◌^◌, ◌<◌};
 
 use crate::node_id::NodeId;
 
-/// A low key, and the number of what begins there: of a page in a node of the lowest level, of a node in one above it.
+/// A low key, and the number of what begins there: of a page in a node of the lowest level, of a node in any other.
 #[derive(Clone, Copy, Debug, PartialEq, Eq)]
 pub struct Entry {
     pub low: u16,
@@ -11,7 +11,7 @@ pub struct Entry {
 }
 
 impl Entry {
-    /// What stands where there is none.
+    /// A place without an entry.
     pub const BLANK: Entry = Entry { low: 0, to: 0 };
 
     /// The entry of a page.

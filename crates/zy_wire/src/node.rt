@@ -149,7 +149,7 @@ impl Node {
         upper
     }
 
-    /// The same node once more.
+    /// The same node again.
     pub fn copy(&self) -> Node
         ensures { result ≡ self.now }
     {

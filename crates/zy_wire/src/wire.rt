@@ -10,7 +10,7 @@ use std::alloc::{AllocError, Global};
 use std::marker::Model;
 use thiserror::Error;
 
-/// Why there is no page more.
+/// Why no page is added.
 #[derive(Clone, Copy, Debug, PartialEq, Eq, Error)]
 pub enum WireFault {
     /// 1: there are as many pages as there may be.
@@ -32,7 +32,7 @@ impl From<AllocError> for WireFault {
 }
 
 /// The low keys of the pages, by number, the first of which is 0: a key lies on the page with the greatest low key that is not above it.
-/// Beside them stands a tree of nodes over the low keys, so that a search looks at few of them.
+/// A tree of nodes over the low keys finds it, so that a search reads few of them.
 #[derive(Drop)]
 pub struct Wire {
     lows: Vec<u16>,
@@ -174,7 +174,7 @@ impl Wire {
         ensures pages { self.new.pages ≡ self.old.pages }
         ensures room { OnOk result (self.old.spare ≤ self.new.spare + 1) }
 
-        // Each refusal comes just where it must, and changes nothing.
+        // Each refusal comes if and only if it must, and changes nothing.
         ensures full { (result ≡ Err WireFault.Full) ↔ (length self.old.lows ≡ self.old.pages) }
         ensures memory { result ≡ Err WireFault.Memory → self.old.spare ≡ 0 }
         ensures succeeds { length self.old.lows < self.old.pages → 1 ≤ self.old.spare → IsOk result }
@@ -203,7 +203,7 @@ impl Wire {
         self.lows.push_reserved(low);
     }
 
-    /// The same low keys once more, with the same greatest number of pages.
+    /// The same low keys again, with the same greatest number of pages.
     pub fn copy(&self, alloc: Global) -> Result<Wire, AllocError>
         ensures { IfOk result (λ copy. (copy.lows ≡ self.now.lows) × (copy.pages ≡ self.now.pages)) }
     {
