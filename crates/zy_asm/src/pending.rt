@@ -22,17 +22,18 @@ pub enum Unresolved {
     Jump(JumpOperation, Reg, Reg, Vec<u8>),
 }
 
-/// The instruction, where the labels of its program are these.
-fn resolved(labels: &Table, instr: &Unresolved) -> Result<Instr, Reason>
+/// The word of the instruction, where the labels of its program are these.
+fn resolved(labels: &Table, instr: &Unresolved) -> Result<Word, Reason>
     ensures { by_kind result ≡ resolved_spec labels.now (shown instr.now) }
 {
     match instr {
-        Unresolved::Whole(instr) => Ok(*instr),
+        Unresolved::Whole(instr) => Ok(Word::of(*instr)),
         Unresolved::Jump(operation, a, b, label) => {
             let Some(target) = labels.find(label.as_slice()) else {
                 return Err(Reason::NoLabel(Shown::of(label.as_slice())));
             };
-            Ok(Parts::Jump(*operation, *a, *b, u32::from(target)).instr())
+            let jump = Parts::Jump(*operation, *a, *b, u32::from(target));
+            Ok(Word::of(jump.instr()))
         }
     }
 }
@@ -43,8 +44,8 @@ fn all_resolved(alloc: Global, labels: &Table, instrs: &[Unresolved]) -> Result<
 {
     let mut all = Vec::new(alloc);
     for instr in instrs {
-        let instr = resolved(labels, instr)?;
-        if all.push(Word::of(instr)).is_err() {
+        let word = resolved(labels, instr)?;
+        if all.push(word).is_err() {
             return Err(Reason::NoMemory);
         }
     }

@@ -156,14 +156,3 @@ choices_give k size cs left few named =
     let count : choice_count size (to_be_bytes w16 (length cs) ++ (flat_map choice_image cs ++ left)) ≡ Ok (length cs, flat_map choice_image cs ++ left) =
     rw (half_gives size (length cs) (flat_map choice_image cs ++ left) (omega (arith, few))) (rw (over_not (length cs) 4096 few) refl) in
     ap (choices k size) (append_assoc (to_be_bytes w16 (length cs)) (flat_map choice_image cs) left) ∙ rw count (items_give choice_image (next_choice k size) cs [] left (choices_read k size cs [] named))
-
--- ---- the words of a program that is saved
-
-pub saved : (is : List Instr) → flat_map (λ w. w) (map word_of is) ≡ flat_map word_of is
-saved [] = refl
-saved (i ∷ is) = ap (λ x. word_of i ++ x) (saved is)
-
--- a number, and bytes behind it
-pub put-behind : {A E : Type 0} (r : Result A E) (new out pushed x y : List ℕ) (n : ℕ) → OnOk r (new ≡ pushed ++ x) → pushed ≡ out ++ n ∷ [] → x ≡ y → OnOk r (new ≡ out ++ (n ∷ y))
-put-behind (Ok a) new out pushed x y n h p e = h ∙ ap (λ z. z ++ x) p ∙ append_assoc out (n ∷ []) x ∙ ap (λ z. out ++ (n ∷ z)) e
-put-behind (Err f) new out pushed x y n h p e = tt
