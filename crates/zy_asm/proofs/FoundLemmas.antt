@@ -3,7 +3,7 @@ use Rattle.std.proofs.Common.{◌≡◌, ℕ, ◌+◌, ◌<◌, ◌≤◌, true,
 use Rattle.std.specs.Str.{bytes_eq}
 use Rattle.zy_isa.proofs.VersionLemmas.{named_is as version_is}
 use Rattle.zy_isa.specs.declared.version.Version.{Version}
-use Rattle.zy_isa.specs.Versions.{word as version_word, named as version_named}
+use Rattle.zy_isa.specs.Versions.{named as version_named}
 use Rattle.zy_isa.specs.declared.rule.Rule.{Rule}
 use Rattle.zy_isa.specs.declared.rule.Rule.TheVariants.{Held, Loose}
 use Rattle.zy_isa.specs.declared.row.Row.{Row}

@@ -5,8 +5,6 @@ use Rattle.std.proofs.lemmas.Nat.{le-div}
 use Rattle.std.proofs.Math.Nat.{div-mul-le_self}
 use Rattle.std.specs.Prelude.{replicate}
 use Rattle.std.specs.List.{flat_map}
-use Rattle.std.specs.Fmt.{decimal}
-use Rattle.std.proofs.lemmas.Fmt.{decimal_digit}
 use Rattle.zy_isa.specs.declared.version.Version.{Version}
 use Rattle.zy_isa.proofs.VersionLemmas.{named_back as version_back}
 use Rattle.zy_isa.specs.declared.rule.Rule.{Rule}

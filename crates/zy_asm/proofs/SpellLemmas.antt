@@ -22,7 +22,7 @@ use Rattle.zy_isa.specs.declared.choice.Choice.{Choice}
 use Rattle.zy_isa.specs.declared.choice.Choice.TheVariants as choice
 use Rattle.zy_isa.specs.Words.{number_of}
 use Rattle.zy_isa.specs.Registers.{registers}
-use Rattle.zy_isa.specs.Operations.{has, is_of, mnemonic, named_in, named, instr_with, operation_of, parts_of}
+use Rattle.zy_isa.specs.Operations.{is_of, mnemonic, named_in, named, instr_with}
 use Rattle.zy_isa.specs.Canon.{reg_text, node_text}
 use Rattle.zy_isa.specs.Choices.{names_below, actor_at}
 use Rattle.zy_isa.specs.Text as m
@@ -43,7 +43,7 @@ use Rattle.zy_asm.specs.Pending.{Pending, whole, jump, resolved}
 use Rattle.zy_asm.specs.Instructions.{register_of, two, pair_of, with_number, jump_to, with_target, alone, instr_of}
 use Rattle.zy_asm.specs.Choices.{actor_of, client_action, node_action, action_of, chosen, numbered, transaction, are_times, times_of}
 use Rattle.zy_asm.specs.Reading.{Seen, keyword_of, row_of, repeat_choice, repeat_line, action_line, choice_line, own_number, head_line}
-use Rattle.zy_isa.proofs.OperationLemmas.{found_in, found_passes, named_is, each, parts_again, same_operation}
+use Rattle.zy_isa.proofs.OperationLemmas.{found_in, found_passes, named_is, each, parts_again}
 use Rattle.zy_isa.proofs.ResultLemmas.{bind_ok, if_ok, if_err, ok_or_ok, chosen_by, first_or, in_range, not_over, same}
 use borrow.Author.Tests.{eqb-true, tests}
 

@@ -13,7 +13,7 @@ use Rattle.zy_isa.specs.declared.operation.Operation.{Operation}
 use Rattle.zy_isa.specs.declared.operation.Operation.TheVariants as op
 use Rattle.zy_isa.specs.declared.operation.Parts.{Parts}
 use Rattle.zy_isa.specs.declared.operation.Parts.TheVariants.{Number, Pair, Jump, Lone}
-use Rattle.zy_isa.specs.Operations.{opcode, mnemonic, operations, coded, named, has, if_of, is_of, instr_with, operation_of, parts_of}
+use Rattle.zy_isa.specs.Operations.{opcode, mnemonic, operations, coded, named, if_of, is_of, instr_with, parts_of}
 use Rattle.zy_isa.proofs.ResultLemmas.{chosen_by, both, same}
 use borrow.Author.Tests.{tests}
 

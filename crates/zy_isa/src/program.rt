@@ -68,7 +68,9 @@ fn stray_word(words: &[Word]) -> Option<usize>
     ensures bound { IfSome result (λ i. i < length words.now) }
 {
     let count = words.len();
-    words.iter().position(|word| !word.instr().targets_below(count))
+    words
+        .iter()
+        .position(|word| !word.instr().targets_below(count))
 }
 
 /// Whether the last instruction ends the program.

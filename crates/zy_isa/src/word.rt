@@ -57,7 +57,12 @@ pub fn encode(instr: Instr) -> [u8; WORD_BYTES]
         Parts::Number(operation, a, number) => {
             with_fields(Operation::Number(operation), byte_of(a), 0, number)
         }
-        Parts::Pair(operation, a, b) => with_fields(Operation::Pair(operation), byte_of(a), byte_of(b), 0),
+        Parts::Pair(operation, a, b) => with_fields(
+            Operation::Pair(operation),
+            byte_of(a),
+            byte_of(b),
+            0,
+        ),
         Parts::Jump(operation, a, b, target) => {
             with_fields(Operation::Jump(operation), byte_of(a), byte_of(b), target)
         }
@@ -139,7 +144,9 @@ impl Word {
     pub fn of(instr: Instr) -> Word
         ensures { result ≡ instr }
     {
-        Word { bytes: encode(instr) }
+        Word {
+            bytes: encode(instr),
+        }
     }
 
     /// The word that these bytes are: most bytes are none.

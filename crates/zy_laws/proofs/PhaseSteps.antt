@@ -1,7 +1,6 @@
 -- What each line of the table does to the phase of a migration.
-use Rattle.std.proofs.Common.{◌≡◌, ℕ, ◌≤◌, List, [], ◌∷◌, ◌++◌, length, Bool, true, false, refl, sym, ap, ◌∙◌, arith, subst, append_assoc}
+use Rattle.std.proofs.Common.{◌≡◌, ℕ, ◌≤◌, List, [], ◌∷◌, ◌++◌, length, true, refl, sym, ap, ◌∙◌, arith, subst, append_assoc}
 use Rattle.zy_modes.specs.Families.{is_source, is_taker, is_sending}
-use Rattle.zy_modes.specs.declared.mode.NodeMode.{NodeMode}
 use Rattle.zy_modes.specs.declared.mode.NodeMode.TheVariants.{Empty, Normal, SInit, SDual, SFinish, DInit, DDual, DFinish}
 use Rattle.zy_modes.specs.Table.{may_pull}
 use Rattle.zy_links.specs.Messages.{Wire, Ready, Dual, Pull, Page, Finish, Done}

@@ -5,7 +5,7 @@ use Rattle.std.proofs.lemmas.Bool.{false≢true}
 use Rattle.std.proofs.lemmas.Bool.Decides.{nat_tests}
 use Rattle.zy_modes.specs.Families.{is_home, is_bare, is_idle}
 use Rattle.zy_modes.specs.declared.mode.NodeMode.{NodeMode}
-use Rattle.zy_modes.specs.declared.mode.NodeMode.TheVariants.{Empty, Normal, SInit, SDual, SFinish, DInit, DDual, DFinish}
+use Rattle.zy_modes.specs.declared.mode.NodeMode.TheVariants.{Empty, SInit, SDual, SFinish, DInit, DDual, DFinish}
 use Rattle.zy_modes.specs.Table.{may_split}
 use Rattle.zy_links.specs.Messages.{Wire, Ready}
 use Rattle.zy_laws.specs.OneOwner.{times}

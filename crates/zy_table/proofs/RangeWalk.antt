@@ -1,5 +1,5 @@
 -- The pages of a range, one after the other.
-use Rattle.std.proofs.Common.{Bool, List, [], ap, arith, false, get_or, inl, inr, length, refl, suc, sym, true, zero, ℕ, ◌+◌, ◌<◌, ◌≤◌, ◌∙◌, ◌∷◌, ◌≡◌}
+use Rattle.std.proofs.Common.{List, [], ap, arith, false, get_or, inl, inr, length, refl, suc, sym, true, zero, ℕ, ◌<◌, ◌≤◌, ◌∙◌, ◌∷◌, ◌≡◌}
 use Rattle.std.specs.Prelude.{if◌then◌else◌, nat_le, nat_lt, ◌&&◌, ◌⊎◌}
 use Rattle.std.proofs.lemmas.Bool.{and_from, and_left, and_parts, cases_Bool, cond_both, eqb-true, false≢true, false_from_ne_true, le-leb, leb-true, lt-ltb, ltb-true, or_cases}
 use Rattle.zy_wire.specs.Wireframe.{page_of}

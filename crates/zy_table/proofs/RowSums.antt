@@ -4,7 +4,6 @@ use Rattle.std.specs.Prelude.{if◌then◌else◌, is_some, nat_le, not, unwrap_
 use Rattle.std.proofs.lemmas.Bool.{cases_Bool, cases_eq, cases_lt, eq-eqb, false≢true, false_from_ne_true, leb-false, leb-true, ne_eqb}
 use Rattle.zy_isa.specs.Rows.{Rising, get_row}
 use Rattle.zy_isa.specs.declared.row.Row.{Row}
-use Rattle.zy_table.specs.Numbers.{has}
 use Rattle.zy_table.specs.Ranges.{keys_on, range, total}
 use Rattle.zy_table.specs.Sums.{value_beside}
 use Rattle.zy_table.proofs.RangeLists.{total_same}
