@@ -264,14 +264,7 @@ fn sum_or_waits(
 
 /// `sum` on pages that are free to be shared.
 #[tactic(auto, unfolding(zy_table::specs::Run::sum_row, zy_table::specs::Run::set_row, zy_table::specs::Change::shares, zy_table::specs::Change::did, zy_table::specs::Change::txn_at))]
-fn sum_row(
-    me: &mut NodeStore,
-    book: &mut Book,
-    t: u8,
-    r: Reg,
-    first: u16,
-    last: u16,
-) -> Answer
+fn sum_row(me: &mut NodeStore, book: &mut Book, t: u8, r: Reg, first: u16, last: u16) -> Answer
     requires counts { Countable t book.old }
     requires rises { first ≤ last }
     requires free { first_taken me.old.locks.locks t (range_pages (lows_in me.old.wire) first last) ≡ None }

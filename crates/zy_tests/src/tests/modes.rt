@@ -73,7 +73,11 @@ fn check_messages(rt: &impl Abort, table: &[&[u8; 7]; 8], all_here: bool) {
     for (mode, line) in MODES.iter().zip(table) {
         for (kind, want) in KINDS.iter().zip(line.iter()) {
             assert!(rt;
-                is_line(on_message(*mode, *kind, all_here, Version::One), *kind, *want),
+                is_line(
+                    on_message(*mode, *kind, all_here, Version::One),
+                    *kind,
+                    *want
+                ),
                 "{mode:?} {kind:?}"
             );
         }
@@ -134,10 +138,16 @@ fn every_pair_of_modes(rt: HostRuntime) {
             let starts = *a == NodeMode::Normal && *b == NodeMode::Empty;
             let start = if starts { b'A' } else { b'.' };
             assert!(rt; letter(home_of(*a, *b)) == *want, "{a:?} {b:?}");
-            assert!(rt; letter(on_start(*a, *b, Version::One)) == start, "{a:?} {b:?}");
+            assert!(rt;
+                letter(on_start(*a, *b, Version::One)) == start,
+                "{a:?} {b:?}"
+            );
             let turned = *a == NodeMode::Empty && *b == NodeMode::Normal;
             let start = if turned { b'B' } else { start };
-            assert!(rt; letter(on_start(*a, *b, Version::Two)) == start, "{a:?} {b:?}");
+            assert!(rt;
+                letter(on_start(*a, *b, Version::Two)) == start,
+                "{a:?} {b:?}"
+            );
         }
     }
 }
