@@ -1,8 +1,7 @@
-use Rattle.std.proofs.Common.{arith, refl, sym, ap, ◌∙◌, ◌∷◌, ◌≡◌, ◌≤◌, None, length}
+use Rattle.std.proofs.Common.{arith, refl, sym, ap, ◌∙◌, ◌∷◌, ◌≡◌, length}
 use Rattle.std.specs.Prelude.{map}
 use Rattle.zy_wire.specs.Wireframe.{page_of}
 use Rattle.zy_table.specs.Change.{share_all}
-use Rattle.zy_table.specs.Run.{first_taken}
 use Rattle.zy_table.proofs.SharedLocks.{free_others}
 use Rattle.zy_node.specs.Wireframes.{lows_in}
 use Rattle.zy_node.proofs.RangeSteps.{behind}
