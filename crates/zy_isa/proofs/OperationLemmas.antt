@@ -91,7 +91,7 @@ parts_again (Jump Beq a b n) = refl
 parts_again (Lone Commit) = refl
 parts_again (Lone Abort) = refl
 
--- an operation is told by its word
+-- two operations with one word are the same
 pub same_operation : (o q : Operation) → mnemonic o ≡ mnemonic q → o ≡ q
 same_operation o q e = let same : Some o ≡ Some q = sym (named_back o) ∙ ap named e ∙ named_back q in cc
 

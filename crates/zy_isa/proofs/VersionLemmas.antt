@@ -1,4 +1,4 @@
--- Versions are told apart by their words and by the first bytes of their images.
+-- A version is known by its word, and by the first bytes of its images.
 use Rattle.std.proofs.Common.{◌≡◌, ℕ, List, Some, refl}
 use Rattle.std.specs.Str.{bytes_eq}
 use Rattle.zy_isa.specs.declared.version.Version.{Version}

@@ -93,7 +93,7 @@ fn word_ends_well(words: &[Word]) -> bool
     }
 }
 
-/// Why so many instructions are no program, by what the tests of them say.
+/// Why instructions are no program, by their number and by what the tests of them say.
 fn fault_of(count: usize, stray: Option<usize>, ends: bool) -> Option<ProgFault>
     requires { IfSome stray (λ i. i < count) }
     ensures { (is : List AnInstr) → count ≡ length is → stray ≡ stray_target_spec is → ends ≡ ends_well_spec is → result ≡ prog_fault is }
