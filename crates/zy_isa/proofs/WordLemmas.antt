@@ -3,12 +3,11 @@ use Rattle.std.proofs.Common.{◌≡◌, ◌==◌, ℕ, zero, suc, ◌+◌, ◌<
 use Rattle.std.proofs.lemmas.Bool.{cond_both}
 use Rattle.std.proofs.lemmas.List.{drop_more, drop_all}
 use Rattle.std.proofs.lemmas.Nat.{be_bytes_4, from_be_bytes-to_be_bytes_4}
-use Rattle.std.specs.Prelude.{option_map, drop, unwrap_or}
+use Rattle.std.specs.Prelude.{option_map, drop}
 use Rattle.std.specs.Int.{w32, to_be_bytes, from_be_bytes}
 use Rattle.zy_isa.specs.declared.instr.Reg.{Reg}
 use Rattle.zy_isa.specs.declared.instr.Reg.TheVariants.{R0, R1, R2, R3, R4, R5, R6, R7}
 use Rattle.zy_isa.specs.declared.instr.Instr.{Instr}
-use Rattle.zy_isa.specs.declared.instr.Instr.TheVariants.{Abort}
 use Rattle.zy_isa.specs.declared.operation.Operation.{Operation}
 use Rattle.zy_isa.specs.declared.operation.Operation.TheVariants as op
 use Rattle.zy_isa.specs.declared.operation.Parts.{Parts}
@@ -17,7 +16,7 @@ use Rattle.zy_isa.specs.Registers.{number_of, registers}
 use Rattle.zy_isa.specs.Programs.{HasValue, PartsFit}
 use Rattle.zy_isa.specs.Operations.{opcode, coded, instr_with, parts_of}
 use Rattle.zy_isa.specs.InstrWords.{word, word_with, word_of, IsWordOf}
-use Rattle.zy_isa.specs.WordFields.{register_at, pair_of, registers_at, parts_at, instr_at, decoded, instr_of_word}
+use Rattle.zy_isa.specs.WordFields.{register_at, pair_of, registers_at, parts_at, instr_at, decoded, instr_in}
 use Rattle.zy_isa.proofs.ResultLemmas.{both}
 use Rattle.zy_isa.proofs.OperationLemmas.{same_number, found_passes, coded_is, coded_back, instr_again, parts_again}
 
@@ -168,9 +167,17 @@ decoded_back (Lone o) v = back (Lone o) v
 pub decoded_only : (i : Instr) → HasValue i → decoded (word_of i) ≡ Some i
 decoded_only i v = decoded_back (parts_of i) v ∙ ap Some (instr_again i)
 
--- the word of an instruction, as it is kept
-pub word_gives : (i : Instr) → HasValue i → instr_of_word (word_of i) ≡ i
-word_gives i v = ap (λ o. unwrap_or o Abort) (decoded_only i v)
+-- ---- a word that is known to be one
 
-pub is_word : (i : Instr) → HasValue i → IsWordOf (word_of i) (instr_of_word (word_of i))
+reads_parts : (p : Parts) → PartsFit p → instr_in (word_with p) ≡ instr_with p
+reads_parts (Number o a n) v = rw (coded_back (op.Number o), from_be_bytes-to_be_bytes_4 n v, register_back a) refl
+reads_parts (Pair o a b) v = rw (coded_back (op.Pair o), register_back a, register_back b) refl
+reads_parts (Jump o a b n) v = rw (coded_back (op.Jump o), from_be_bytes-to_be_bytes_4 n v, register_back a, register_back b) refl
+reads_parts (Lone o) v = rw (coded_back (op.Lone o)) refl
+
+-- the word of an instruction gives it
+pub word_gives : (i : Instr) → HasValue i → instr_in (word_of i) ≡ i
+word_gives i v = reads_parts (parts_of i) v ∙ instr_again i
+
+pub is_word : (i : Instr) → HasValue i → IsWordOf (word_of i) (instr_in (word_of i))
 is_word i v = rw (word_gives i v) (v, refl)

@@ -3,10 +3,11 @@ use Rattle.std.specs.Prelude.{◌==◌, ◌&&◌, ℕ, List, drop, get_or, unwra
 use Rattle.std.specs.List.{find}
 use Rattle.std.specs.Int.{w32, from_be_bytes}
 use Rattle.zy_isa.specs.declared.instr.Reg.{Reg}
+use Rattle.zy_isa.specs.declared.instr.Reg.TheVariants.{R7}
 use Rattle.zy_isa.specs.declared.instr.Instr.{Instr}
-use Rattle.zy_isa.specs.declared.instr.Instr.TheVariants.{Abort}
 use Rattle.zy_isa.specs.declared.operation.Operation.{Operation}
 use Rattle.zy_isa.specs.declared.operation.Operation.TheVariants as op
+use Rattle.zy_isa.specs.declared.operation.LoneOperation.TheVariants.{Abort}
 use Rattle.zy_isa.specs.declared.operation.Parts.{Parts}
 use Rattle.zy_isa.specs.declared.operation.Parts.TheVariants.{Number, Pair, Jump, Lone}
 use Rattle.zy_isa.specs.Registers.{number_of, registers}
@@ -38,6 +39,21 @@ instr_at (Some o) a b n = option_map instr_with (parts_at o a b n)
 abbrev pub decoded : List ℕ → Option Instr
 decoded w = if get_or w 3 0 == 0 then instr_at (coded (get_or w 0 0)) (get_or w 1 0) (get_or w 2 0) (from_be_bytes w32 (drop 4 w)) else None
 
--- the same; abort where there is none
-abbrev pub instr_of_word : List ℕ → Instr
-instr_of_word w = unwrap_or (decoded w) Abort
+-- ---- a word that is known to be one: no field is tested
+
+abbrev pub register_in : ℕ → Reg
+register_in n = unwrap_or (register_at n) R7
+
+abbrev pub operation_in : ℕ → Operation
+operation_in n = unwrap_or (coded n) (op.Lone Abort)
+
+-- an operation with the operands in these fields
+abbrev pub parts_in : Operation → ℕ → ℕ → ℕ → Parts
+parts_in (op.Number o) a b n = Number o (register_in a) n
+parts_in (op.Pair o) a b n = Pair o (register_in a) (register_in b)
+parts_in (op.Jump o) a b n = Jump o (register_in a) (register_in b) n
+parts_in (op.Lone o) a b n = Lone o
+
+-- the instruction of a word
+abbrev pub instr_in : List ℕ → Instr
+instr_in w = instr_with (parts_in (operation_in (get_or w 0 0)) (get_or w 1 0) (get_or w 2 0) (from_be_bytes w32 (drop 4 w)))

@@ -3,12 +3,12 @@ ghost use Rattle.std.specs.Prelude.{◌≡◌, IfSome, Some};
 ghost use Rattle.zy_isa.specs.Registers.{number_of};
 ghost use Rattle.zy_isa.specs.InstrWords.{IsWordOf, word, word_of};
 ghost use Rattle.zy_isa.specs.Programs.{HasValue};
-ghost use Rattle.zy_isa.specs.WordFields.{register_at, registers_at, parts_at as parts_at_spec, instr_at as instr_at_spec, decoded};
+ghost use Rattle.zy_isa.specs.WordFields.{register_at, registers_at, parts_at as parts_at_spec, instr_at as instr_at_spec, decoded, register_in as register_in_spec, operation_in as operation_in_spec, parts_in as parts_in_spec};
 ghost use Rattle.zy_isa.specs.Operations.{opcode, coded};
 ghost use Rattle.zy_isa.specs.declared.instr.Instr.{Instr};
 
 use crate::instr::{Instr, Reg};
-use crate::operation::{Operation, Parts};
+use crate::operation::{LoneOperation, Operation, Parts};
 use std::marker::Model;
 
 /// How many bytes a word has.
@@ -26,11 +26,11 @@ impl Model for Word {
     ghost Value = { Instr };
 
     ghost use Rattle.zy_isa.specs.InstrWords.{IsWordOf};
-    ghost use Rattle.zy_isa.specs.WordFields.{instr_of_word};
+    ghost use Rattle.zy_isa.specs.WordFields.{instr_in};
 
-    ghost view = { λ w. instr_of_word w.bytes };
+    ghost view = { λ w. instr_in w.bytes };
 
-    ghost invariant = { λ w. IsWordOf w.bytes (instr_of_word w.bytes) };
+    ghost invariant = { λ w. IsWordOf w.bytes (instr_in w.bytes) };
 }
 
 /// The byte of a register.
@@ -89,7 +89,6 @@ fn register(byte: u8) -> Option<Reg>
 }
 
 /// The two registers that two bytes name.
-#[inline(always)]
 fn registers(a: u8, b: u8) -> Option<(Reg, Reg)>
     ensures { result ≡ registers_at a b }
 {
@@ -97,7 +96,6 @@ fn registers(a: u8, b: u8) -> Option<(Reg, Reg)>
 }
 
 /// The operation with the operands in these fields, if they hold such operands and no more.
-#[inline(always)]
 fn parts_at(operation: Operation, a: u8, b: u8, number: u32) -> Option<Parts>
     ensures { result ≡ parts_at_spec operation a b number }
 {
@@ -117,7 +115,6 @@ fn parts_at(operation: Operation, a: u8, b: u8, number: u32) -> Option<Parts>
 }
 
 /// The instruction of these fields, if there is one.
-#[inline(always)]
 fn instr_at(opcode: u8, a: u8, b: u8, number: u32) -> Option<Instr>
     ensures { result ≡ instr_at_spec (coded opcode) a b number }
 {
@@ -127,7 +124,6 @@ fn instr_at(opcode: u8, a: u8, b: u8, number: u32) -> Option<Instr>
 }
 
 /// The instruction whose word these bytes are: at most one has it, and most bytes are no word.
-#[inline(always)]
 pub fn decode(word: [u8; WORD_BYTES]) -> Option<Instr>
     ensures value { result ≡ decoded word }
     ensures found { IfSome result (IsWordOf word) }
@@ -137,6 +133,37 @@ pub fn decode(word: [u8; WORD_BYTES]) -> Option<Instr>
         return None;
     };
     instr_at(opcode, a, b, u32::from_be_bytes([n0, n1, n2, n3]))
+}
+
+/// The register of a byte that names one.
+#[inline(always)]
+fn register_in(byte: u8) -> Reg
+    ensures { result ≡ register_in_spec byte }
+{
+    register(byte).unwrap_or(Reg::R7)
+}
+
+/// The operation of a number that is one's.
+#[inline(always)]
+fn operation_in(opcode: u8) -> Operation
+    ensures { result ≡ operation_in_spec opcode }
+{
+    Operation::coded(opcode).unwrap_or(Operation::Lone(LoneOperation::Abort))
+}
+
+/// The operation with the operands in the fields of its word.
+#[inline(always)]
+fn parts_in(operation: Operation, a: u8, b: u8, number: u32) -> Parts
+    ensures { result ≡ parts_in_spec operation a b number }
+{
+    match operation {
+        Operation::Number(operation) => Parts::Number(operation, register_in(a), number),
+        Operation::Pair(operation) => Parts::Pair(operation, register_in(a), register_in(b)),
+        Operation::Jump(operation) => {
+            Parts::Jump(operation, register_in(a), register_in(b), number)
+        }
+        Operation::Lone(operation) => Parts::Lone(operation),
+    }
 }
 
 impl Word {
@@ -171,15 +198,14 @@ impl Word {
         self.bytes
     }
 
-    /// The instruction whose word it is.
+    /// The instruction whose word it is. Its fields are known to be those of an instruction, so none is tested.
     #[inline(always)]
     pub fn instr(&self) -> Instr
         ensures value { result ≡ self.now }
         ensures fits { HasValue self.now }
     {
-        match decode(self.bytes) {
-            Some(instr) => instr,
-            None => unreachable!(),
-        }
+        let [opcode, a, b, _, n0, n1, n2, n3] = self.bytes;
+        let number = u32::from_be_bytes([n0, n1, n2, n3]);
+        parts_in(operation_in(opcode), a, b, number).instr()
     }
 }
