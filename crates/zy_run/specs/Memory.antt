@@ -1,51 +1,63 @@
--- What a run needs no memory for: a lock that stands, or has room, and a row over one that is there.
-use Rattle.std.specs.Prelude.{◌≡◌, ℕ, ◌≤◌, ◌∷◌, [], IsSome, IfSome, None, slice_get, true}
+-- What a run needs no memory for: what has its place already, and what is not done.
+use Rattle.std.specs.Prelude.{◌≡◌, ◌⊎◌, ℕ, ◌≤◌, List, ◌∷◌, [], IsSome, IfSome, None, slice_get, true, false}
 use Rattle.zy_isa.specs.Rows.{get_row}
 use Rattle.zy_isa.specs.Scenario.{Scenario}
 use Rattle.zy_isa.specs.declared.instr.Instr.{Instr}
 use Rattle.zy_isa.specs.declared.instr.Instr.TheVariants.{Set, Read, Write, Insert, Add, Sum, Beq, Commit, Abort}
+use Rattle.zy_locks.specs.Locks.{conflict}
 use Rattle.zy_locks.specs.LockTable.{HasPlaces}
+use Rattle.zy_modes.specs.Table.{may_pull}
 use Rattle.zy_wire.specs.Wireframe.{page_of}
-use Rattle.zy_table.specs.State.{Txn}
 use Rattle.zy_table.specs.Change.{reg}
+use Rattle.zy_table.specs.Numbers.{has}
 use Rattle.zy_table.specs.Pages.{owns}
 use Rattle.zy_table.specs.Ranges.{range_pages}
-use Rattle.zy_table.specs.Run.{first_absent, program_of}
+use Rattle.zy_table.specs.Run.{first_absent, first_taken, is_there, lock_of, program_of}
+use Rattle.zy_table.specs.State.{Txn}
 use Rattle.zy_table.specs.declared.access.Access.{Access}
 use Rattle.zy_table.specs.declared.access.Access.TheVariants.{Reads, Writes, Inserts}
 use Rattle.zy_node.specs.declared.node_store.NodeStore.{NodeStore}
+use Rattle.zy_node.specs.Nodes.{node_shown}
 use Rattle.zy_node.specs.Wireframes.{lows_in}
 use Rattle.zy_txns.specs.Books.{Ledger, txn_in}
 
--- an access to k puts no row, or one over a private row that is there
-abbrev pub PutsNone : Access → ℕ → Txn → Type 0
-PutsNone (Reads r) k y = Unit {0}
-PutsNone (Writes v) k y = IsSome (get_row y.rows k)
-PutsNone (Inserts v) k y = IsSome (get_row y.rows k)
+-- page p is not here: no page is pulled, or p is asked for already, or there is room for the message
+abbrev pub AbsentNeedsNone : ℕ → NodeStore → Type 0
+AbsentNeedsNone p x = (may_pull x.mode ≡ false) ⊎ (has x.asked p ≡ true) ⊎ (1 ≤ x.outbox.spare)
 
--- an access of t to k on page p needs no memory: the page is here, and t's lock on it and the row have places
-pub record NeedsNone (t : ℕ) (access : Access) (k p : ℕ) (x : NodeStore) (b : Ledger) : Type 0 where
-  pub owned : owns x.pages p ≡ true
-  pub lock : HasPlaces (p ∷ []) t x.locks
-  pub row : PutsNone access k (txn_in t b)
+-- page p is free for t's access to k: t's lock on p has a place, and a row goes over a private one; or t aborts
+abbrev pub AccessNeedsNone : ℕ → Access → ℕ → ℕ → NodeStore → Txn → Type 0
+AccessNeedsNone t (Reads r) k p x y = HasPlaces (p ∷ []) t x.locks
+AccessNeedsNone t (Writes v) k p x y = (is_there k p (node_shown x) y ≡ false) ⊎ (HasPlaces (p ∷ []) t x.locks × IsSome (get_row y.rows k))
+AccessNeedsNone t (Inserts v) k p x y = is_there k p (node_shown x) y ≡ true
 
--- nor does a sum of t over the keys from first to last: their pages are here, and t's locks on them have places
-pub record SumNeedsNone (t first last : ℕ) (x : NodeStore) : Type 0 where
-  pub owned : first_absent x.pages (range_pages (lows_in x.wire) first last) ≡ None
-  pub locks : HasPlaces (range_pages (lows_in x.wire) first last) t x.locks
+-- t's access to k on page p; where another's lock is in the way t waits
+pub record PageNeedsNone (t : ℕ) (access : Access) (k p : ℕ) (x : NodeStore) (b : Ledger) : Type 0 where
+  pub absent : owns x.pages p ≡ false → AbsentNeedsNone p x
+  pub free : owns x.pages p ≡ true → conflict x.locks.locks p t (lock_of access) ≡ false → AccessNeedsNone t access k p x (txn_in t b)
 
--- nor does an instruction of t: a commit has room to be noted
-abbrev pub InstrNeedsNone : ℕ → Instr → NodeStore → Ledger → Type 0
-InstrNeedsNone t (Set r v) x b = Unit {0}
-InstrNeedsNone t (Add r q) x b = Unit {0}
-InstrNeedsNone t (Sum r q) x b = let regs = (txn_in t b).regs in SumNeedsNone t (reg regs r) (reg regs q) x
-InstrNeedsNone t (Beq r q to) x b = Unit {0}
-InstrNeedsNone t Abort x b = Unit {0}
-InstrNeedsNone t Commit x b = 1 ≤ b.spare
-InstrNeedsNone t (Read r q) x b = let k = reg (txn_in t b).regs q in NeedsNone t (Reads r) k (page_of (lows_in x.wire) k) x b
-InstrNeedsNone t (Write r q) x b = let k = reg (txn_in t b).regs r in NeedsNone t (Writes (reg (txn_in t b).regs q)) k (page_of (lows_in x.wire) k) x b
-InstrNeedsNone t (Insert r q) x b = let k = reg (txn_in t b).regs r in NeedsNone t (Inserts (reg (txn_in t b).regs q)) k (page_of (lows_in x.wire) k) x b
+-- t's sum over the keys from a to b: t's locks on their pages have places
+pub record SumNeedsNone (t a b : ℕ) (x : NodeStore) : Type 0 where
+  pub absent : IfSome (first_absent x.pages (range_pages (lows_in x.wire) a b)) (λ p. AbsentNeedsNone p x)
+  pub free : first_taken x.locks.locks t (range_pages (lows_in x.wire) a b) ≡ None → HasPlaces (range_pages (lows_in x.wire) a b) t x.locks
 
--- nor does a run of t: its next instruction does not
+-- t's access to k
+abbrev pub KeyNeedsNone : ℕ → Access → ℕ → NodeStore → Ledger → Type 0
+KeyNeedsNone t access k x b = PageNeedsNone t access k (page_of (lows_in x.wire) k) x b
+
+-- an instruction of t: there is room to note a commit
+abbrev pub InstrNeedsNone : ℕ → Instr → List ℕ → NodeStore → Ledger → Type 0
+InstrNeedsNone t (Set r v) regs x b = Unit {0}
+InstrNeedsNone t (Add r q) regs x b = Unit {0}
+InstrNeedsNone t (Sum r q) regs x b = SumNeedsNone t (reg regs r) (reg regs q) x
+InstrNeedsNone t (Beq r q to) regs x b = Unit {0}
+InstrNeedsNone t Abort regs x b = Unit {0}
+InstrNeedsNone t Commit regs x b = 1 ≤ b.spare
+InstrNeedsNone t (Read r q) regs x b = KeyNeedsNone t (Reads r) (reg regs q) x b
+InstrNeedsNone t (Write r q) regs x b = KeyNeedsNone t (Writes (reg regs q)) (reg regs r) x b
+InstrNeedsNone t (Insert r q) regs x b = KeyNeedsNone t (Inserts (reg regs q)) (reg regs r) x b
+
+-- the next instruction of t
 abbrev pub RunNeedsNone : Scenario → ℕ → NodeStore → Ledger → Type 0
-RunNeedsNone sc t x b = IfSome (slice_get (program_of sc t) (txn_in t b).pc) (λ (i : Instr). InstrNeedsNone t i x b)
+RunNeedsNone sc t x b =
+    let y = txn_in t b in IfSome (slice_get (program_of sc t) y.pc) (λ (i : Instr). InstrNeedsNone t i y.regs x b)
