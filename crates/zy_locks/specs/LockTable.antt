@@ -1,5 +1,5 @@
 -- The locks of a node and the room for more, and what an attempt to lock a page does.
-use Rattle.std.specs.Prelude.{◌≡◌, ◌≤◌, ℕ, ◌∷◌, [], length, true, false, List}
+use Rattle.std.specs.Prelude.{◌≡◌, ◌≤◌, ℕ, length, true, false, List}
 use Rattle.zy_locks.specs.declared.attempt.Attempt.{Attempt}
 use Rattle.zy_locks.specs.declared.attempt.Attempt.TheVariants.{Granted, Conflict, Memory}
 use Rattle.zy_locks.specs.declared.lock.Lock.{Lock}

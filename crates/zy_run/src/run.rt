@@ -1,7 +1,6 @@
 //! `n run t`, line by line: each function is the line of its name, on the node and the book, whatever the rest of the state.
-ghost use Rattle.std.specs.Prelude.{◌≡◌, ◌<◌, ◌≤◌, ◌∷◌, [], None, Ok, Some, IfOk, IsOk, length, slice_get, unwrap_or, if◌then◌else◌, true, false};
+ghost use Rattle.std.specs.Prelude.{◌≡◌, ◌<◌, ◌≤◌, ◌⊎◌, ◌∷◌, [], None, Ok, Some, IfOk, IsOk, IsSome, length, slice_get, unwrap_or, if◌then◌else◌, true, false};
 ghost use Rattle.zy_isa.specs.Rows.{get_row};
-ghost use Rattle.zy_table.specs.declared.access.Access.TheVariants.{Reads, Writes, Inserts};
 ghost use Rattle.zy_locks.specs.LockTable.{HasPlaces};
 ghost use Rattle.zy_locks.specs.declared.lock.LockKind.TheVariants.{Shared, Exclusive};
 ghost use Rattle.zy_modes.specs.Table.{may_split};
@@ -16,7 +15,7 @@ ghost use Rattle.zy_node.specs.Wireframes.{lows_in};
 ghost use Rattle.zy_txns.specs.Books.{txn_in, noted, Countable};
 ghost use Rattle.zy_run.specs.Parts.{here, Runs};
 ghost use Rattle.zy_table.specs.Answers.{made};
-ghost use Rattle.zy_run.specs.Memory.{AbsentNeedsNone, AccessNeedsNone, InstrNeedsNone, KeyNeedsNone, PageNeedsNone, RunNeedsNone, SumNeedsNone};
+ghost use Rattle.zy_run.specs.Memory.{AbsentNeedsNone, InstrNeedsNone, IsUncut, KeyNeedsNone, PageNeedsNone, PagesNeedNone, RunNeedsNone, SumNeedsNone};
 ghost use Rattle.zy_run.specs.Ready.{IsFull, IsReady, MaySplit, Rooms};
 
 use crate::sum::sum;
@@ -80,7 +79,7 @@ fn instr_row(
     requires splits { MaySplit scenario.now (node_shown me.old) (txn_in t book.old) }
     requires limited { IsLimited scenario.now.pages me.old }
     ensures line { Runs me.old book.old me.new book.new result (λ v. instr_row_spec scenario.now t (Some instr) (txn_at v t).regs v) }
-    ensures memory { InstrNeedsNone t instr (txn_in t book.old).regs me.old book.old → IsOk result }
+    ensures memory { InstrNeedsNone scenario.now t instr (txn_in t book.old).regs me.old book.old → IsOk result }
     ensures limits { limits_of me.new ≡ limits_of me.old }
 {
     let txn = book.txn(t);
@@ -186,7 +185,7 @@ fn key_row(
     requires splits { MaySplit scenario.now (node_shown me.old) (txn_in t book.old) }
     requires limited { IsLimited scenario.now.pages me.old }
     ensures line { Runs me.old book.old me.new book.new result (key_row_spec scenario.now t access key) }
-    ensures memory { KeyNeedsNone t access key me.old book.old → IsOk result }
+    ensures memory { KeyNeedsNone scenario.now t access key me.old book.old → IsOk result }
     ensures limits { limits_of me.new ≡ limits_of me.old }
 {
     let Ok(key) = u16::try_from(key) else {
@@ -240,7 +239,7 @@ fn sum_or_asks(
     requires limited { IsLimited scenario.now.pages me.old }
     requires rises { first ≤ last }
     ensures line { Runs me.old book.old me.new book.new result (λ v. sum_or_asks_spec t r first last (first_absent v.me.pages (range_pages v.me.lows first last)) v) }
-    ensures memory { SumNeedsNone t first last me.old → IsOk result }
+    ensures memory { PagesNeedNone t first last me.old → IsOk result }
     ensures limits { limits_of me.new ≡ limits_of me.old }
 {
     match me.absent_page(first, last) {
@@ -322,7 +321,7 @@ fn read_row(
     requires counts { Countable t book.old }
     requires free { IsFree at p t Shared me.old }
     ensures line { Runs me.old book.old me.new book.new result (λ v. read_row_spec t r key p (locked t p Shared v)) }
-    ensures memory { AccessNeedsNone t (Reads r) key p me.old (txn_in t book.old) → IsOk result }
+    ensures memory { HasPlaces (p ∷ []) t me.old.locks → IsOk result }
     ensures limits { limits_of me.new ≡ limits_of me.old }
 {
     me.reserve_lock(at, p, t)?;
@@ -346,7 +345,7 @@ fn write_row(
     requires counts { Countable t book.old }
     requires free { IsFree at p t Exclusive me.old }
     ensures line { Runs me.old book.old me.new book.new result (λ v. write_row_spec t key value p (locked t p Exclusive v)) }
-    ensures memory { AccessNeedsNone t (Writes value) key p me.old (txn_in t book.old) → IsOk result }
+    ensures memory { let y = txn_in t book.old in (is_there_spec key p (node_shown me.old) y ≡ false) ⊎ (HasPlaces (p ∷ []) t me.old.locks × IsSome (get_row y.rows key)) → IsOk result }
     ensures limits { limits_of me.new ≡ limits_of me.old }
 {
     if !is_there(me, book.txn(t), key, p) {
@@ -378,7 +377,7 @@ fn insert_row(
     requires free { IsFree at p t Exclusive me.old }
     requires owned { owns me.old.pages p ≡ true }
     ensures line { Runs me.old book.old me.new book.new result (λ v. insert_row_spec scenario.now t key value p (locked t p Exclusive v)) }
-    ensures memory { AccessNeedsNone t (Inserts value) key p me.old (txn_in t book.old) → IsOk result }
+    ensures memory { let y = txn_in t book.old in (is_there_spec key p (node_shown me.old) y ≡ true) ⊎ ((has_room_spec scenario.now p (node_shown me.old) y ≡ false) × IsUncut scenario.now me.old) → IsOk result }
     ensures limits { limits_of me.new ≡ limits_of me.old }
 {
     if is_there(me, book.txn(t), key, p) {
@@ -407,6 +406,7 @@ fn full_row(
 ) -> Result<Answer, AllocError>
     requires { IsFull scenario.now t key p at me.old book.old }
     ensures line { Runs me.old book.old me.new book.new result (λ v. full_row_spec scenario.now t key p (locked t p Exclusive v)) }
+    ensures memory { IsUncut scenario.now me.old → IsOk result }
     ensures limits { limits_of me.new ≡ limits_of me.old }
 {
     if !me.mode.may_split() {
@@ -463,7 +463,7 @@ fn page_row(
     requires on { p ≡ page_of_spec (lows_in me.old.wire) key }
     requires few { p < 512 }
     ensures line { Runs me.old book.old me.new book.new result (page_row_spec scenario.now t access key p) }
-    ensures memory { PageNeedsNone t access key p me.old book.old → IsOk result }
+    ensures memory { PageNeedsNone scenario.now t access key p me.old book.old → IsOk result }
     ensures limits { limits_of me.new ≡ limits_of me.old }
 {
     if !me.pages.owns(p) {

@@ -1,6 +1,6 @@
 use Rattle.zy_node.proofs.RangeSteps.{leads_next, leads_none, leads_past}
 use Rattle.zy_node.proofs.range.next_of.Goals as goal
-use Rattle.std.proofs.Common.{arith, ◌<◌}
+use Rattle.std.proofs.Common.{arith}
 
 pub returns-in-Some-clause-next : goal.returns-in-Some-clause-next
 returns-in-Some-clause-next c =

@@ -1,9 +1,8 @@
-use Rattle.std.proofs.Common.{refl, sym, ap, ◌∙◌, ◌∷◌, ◌≡◌, None}
+use Rattle.std.proofs.Common.{refl, sym, ap, ◌∙◌, ◌∷◌, ◌≡◌}
 use Rattle.std.specs.Prelude.{map}
 use Rattle.zy_wire.specs.Wireframe.{page_of}
 use Rattle.zy_locks.specs.declared.lock.LockKind.TheVariants.{Shared}
 use Rattle.zy_table.specs.Change.{share_all}
-use Rattle.zy_table.specs.Run.{first_taken}
 use Rattle.zy_table.proofs.SharedLocks.{free_others}
 use Rattle.zy_node.specs.Wireframes.{lows_in}
 use Rattle.zy_node.proofs.LockPlaces.{places_rest}

@@ -1,9 +1,8 @@
-use Rattle.std.proofs.Common.{◌≡◌, ◌∙◌, ◌<◌, Bool, List, length, get_or, sym, ap, arith, false, true}
+use Rattle.std.proofs.Common.{◌≡◌, ◌∙◌, sym, arith, false, true}
 use Rattle.std.proofs.Math.ListN.{set}
 use Rattle.std.proofs.lemmas.Bool.{false≢true}
 use Rattle.std.proofs.lemmas.List.{get_or_default}
-use Rattle.zy_locks.specs.declared.lock.Lock.{Lock}
-use Rattle.zy_locks.specs.Locks.{add_lock, holds, stronger}
+use Rattle.zy_locks.specs.Locks.{add_lock, stronger}
 use Rattle.zy_locks.proofs.Added.{add_lock_at, add_lock_between}
 use Rattle.zy_locks.proofs.Agreeing.{agree_add}
 use Rattle.zy_locks.proofs.Alone.{alone_kept, exclusive_holds}
