@@ -1,7 +1,7 @@
 //! One program, run alone on a table.
-ghost use Rattle.std.specs.Prelude.{◌≡◌, ◌+◌, ◌<◌, ◌%◌, ◌^◌, [], true, false, Some, IfOk, OnOk, if◌then◌else◌, replicate, slice_get};
+ghost use Rattle.std.specs.Prelude.{◌≡◌, ◌+◌, ◌<◌, ◌%◌, ◌^◌, [], true, false, Some, IfOk, IsOk, IsSome, OnOk, if◌then◌else◌, replicate, slice_get};
 ghost use Rattle.std.specs.FinMap.{get};
-ghost use Rattle.zy_isa.specs.Rows.{put_row};
+ghost use Rattle.zy_isa.specs.Rows.{get_row, put_row};
 ghost use Rattle.zy_table.specs.Change.{reg, with_reg};
 ghost use Rattle.zy_table.specs.Database.{laid};
 ghost use Rattle.zy_table.specs.Serial.{alone, alone_instr, value_in};
@@ -228,9 +228,10 @@ impl LoneRun {
     /// A row is written, and the run goes on.
     fn put(&mut self, key: u16, value: u32) -> Result<(), AllocError>
         requires { self.old.pc + 1 < 2 ^ 32 }
-        ensures { OnOk result (self.new ≡ record self.old { pc = self.old.pc + 1; rows = put_row key value self.old.rows }) }
+        ensures ok { OnOk result (self.new ≡ record self.old { pc = self.old.pc + 1; rows = put_row key value self.old.rows }) }
+        ensures over { IsSome (get_row self.old.rows key) → IsOk result }
     {
-        self.rows.reserve(1)?;
+        self.rows.reserve_for(key)?;
         self.rows.put(key, value);
         self.place += 1;
         Ok(())

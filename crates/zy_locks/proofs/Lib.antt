@@ -2,3 +2,5 @@ pub mod Rising
 pub mod Added
 pub mod PageRun
 pub mod Agreeing
+pub mod Held
+pub mod Alone

@@ -19,6 +19,21 @@ conflict xs p t kind = list_any (clashes p t kind) xs
 abbrev pub is_locked : List Lock → ℕ → Bool
 is_locked xs p = list_any (λ (x : Lock). x.page == p) xs
 
+-- t has a lock on p
+abbrev pub holds : List Lock → ℕ → ℕ → Bool
+holds xs p t = list_any (λ (x : Lock). (x.page == p) && (x.txn == t)) xs
+
+abbrev pub is_exclusive : LockKind → Bool
+is_exclusive kind = not (is_shared kind)
+
+-- t has an exclusive lock on p
+abbrev pub holds_alone : List Lock → ℕ → ℕ → Bool
+holds_alone xs p t = list_any (λ (x : Lock). (x.page == p) && ((x.txn == t) && is_exclusive x.kind)) xs
+
+-- the pages of these on which t has no lock
+abbrev pub unheld : List ℕ → ℕ → List Lock → List ℕ
+unheld ps t xs = filter (λ (p : ℕ). not (holds xs p t)) ps
+
 -- what a lock becomes by a further ask: exclusive stays exclusive
 abbrev pub stronger : LockKind → LockKind → LockKind
 stronger Exclusive k = Exclusive

@@ -1,8 +1,11 @@
 //! The locks of one node.
-ghost use Rattle.std.specs.Prelude.{◌≡◌, ◌==◌, ◌+◌, ◌<◌, ◌≤◌, IfOk, OnOk, OnErr, IsOk, false, [], length, slice_index_or};
-ghost use Rattle.zy_locks.specs.Locks.{add_lock, is_shared as is_shared_spec, stronger as stronger_spec, clashes as clashes_spec, conflict, is_locked, drop_locks};
+ghost use Rattle.std.specs.Prelude.{◌≡◌, ◌==◌, ◌+◌, ◌<◌, ◌≤◌, IfOk, OnOk, OnErr, IsOk, IsSome, true, false, [], ◌∷◌, length, slice_index_or};
+ghost use Rattle.zy_locks.specs.Locks.{add_lock, is_shared as is_shared_spec, stronger as stronger_spec, clashes as clashes_spec, conflict, is_locked, holds as holds_spec, holds_alone, unheld, drop_locks};
+ghost use Rattle.zy_locks.specs.LockTable.{Attempts, HasPlaces};
+ghost use Rattle.zy_locks.specs.declared.attempt.Attempt.TheVariants.{Granted};
 ghost use Rattle.zy_locks.specs.Order.{comes_before as comes_before_spec, is_held_by as is_held_by_spec, LocksRise, IsPlace, IsFreePlace};
 
+use crate::attempt::Attempt;
 use crate::lock::{Lock, LockKind};
 use std::alloc::{AllocError, Global};
 use std::marker::Model;
@@ -88,7 +91,8 @@ impl Locks {
 
     /// Where `txn`'s lock on the page stands or would stand; none where another's lock is in the way.
     pub fn free_place(&self, page: u16, txn: u8, kind: LockKind) -> Option<usize>
-        ensures { IsFreePlace page txn kind self.now.locks result }
+        ensures place { IsFreePlace page txn kind self.now.locks result }
+        ensures alone { holds_alone self.now.locks page txn ≡ true → IsSome result }
     {
         let at = place(&self.locks, page, txn);
         // Others' locks on the page agree with each other, so that those beside the place tell.
@@ -100,27 +104,77 @@ impl Locks {
         }
     }
 
-    /// Locks the page for `txn`, or makes the lock that it has stronger, where nothing is in the way and there is room. It
+    /// Whether `txn` has a lock on the page.
+    pub fn holds(&self, page: u16, txn: u8) -> bool
+        ensures { result ≡ holds_spec self.now.locks page txn }
+    {
+        let at = place(&self.locks, page, txn);
+        self.holds_at(at, page, txn)
+    }
+
+    /// The same, at the place of the lock.
+    pub fn holds_at(&self, at: usize, page: u16, txn: u8) -> bool
+        requires { IsPlace page txn self.now.locks at }
+        ensures { result ≡ holds_spec self.now.locks page txn }
+    {
+        at < self.len() && is_held_by(&self.locks[at], page, txn)
+    }
+
+    /// Makes room for `txn`'s lock on the page, which stands or would stand at `at`. A lock that is there has its place.
+    pub fn reserve_at(&mut self, at: usize, page: u16, txn: u8) -> Result<(), AllocError>
+        requires { IsPlace page txn self.old.locks at }
+        ensures locks { self.new.locks ≡ self.old.locks }
+        ensures room { OnOk result (HasPlaces (page ∷ []) txn self.new) }
+        ensures kept { OnErr result (self.new ≡ self.old) }
+        ensures succeeds { HasPlaces (page ∷ []) txn self.old → IsOk result }
+    {
+        if self.holds_at(at, page, txn) {
+            Ok(())
+        } else {
+            self.reserve(1)
+        }
+    }
+
+    /// Locks the page for `txn`, or makes the lock that it has stronger, if no other's is in the way: one call for a caller with
+    /// nothing else to test or to make room for. One that has looks for the place by `free_place`, makes all of its room, and
+    /// takes the lock by `put_at`, which cannot fail.
+    #[tactic(auto, using(crate::proofs::Alone::alone_has_place))]
+    pub fn try_lock(&mut self, page: u16, txn: u8, kind: LockKind) -> Attempt
+        ensures attempt { Attempts page txn kind self.old self.new result }
+        ensures alone { holds_alone self.old.locks page txn ≡ true → (result ≡ Granted) × (self.new.locks ≡ self.old.locks) }
+    {
+        let Some(at) = self.free_place(page, txn, kind) else {
+            return Attempt::Conflict;
+        };
+        if self.reserve_at(at, page, txn).is_err() {
+            return Attempt::Memory;
+        }
+        self.put_at(at, page, txn, kind);
+        Attempt::Granted
+    }
+
+    /// Locks the page for `txn`, or makes the lock that it has stronger, where nothing is in the way and the lock has a place. It
     /// takes no memory.
     pub fn lock(&mut self, page: u16, txn: u8, kind: LockKind)
         requires free { conflict self.old.locks page txn kind ≡ false }
-        requires room { 1 ≤ self.old.spare }
+        requires room { HasPlaces (page ∷ []) txn self.old }
         ensures locks { self.new.locks ≡ add_lock page txn kind self.old.locks }
-        ensures room { self.old.spare ≤ self.new.spare + 1 }
+        ensures room { self.new.spare + length (unheld (page ∷ []) txn self.old.locks) ≡ self.old.spare }
     {
         let at = place(&self.locks, page, txn);
         self.put_at(at, page, txn, kind);
     }
 
-    /// The same, at the place of the lock.
+    /// The same, at the place of the lock. Who has the page alone keeps it so, whatever is asked for.
     pub fn put_at(&mut self, at: usize, page: u16, txn: u8, kind: LockKind)
         requires place { IsPlace page txn self.old.locks at }
         requires free { conflict self.old.locks page txn kind ≡ false }
-        requires room { 1 ≤ self.old.spare }
+        requires room { HasPlaces (page ∷ []) txn self.old }
         ensures locks { self.new.locks ≡ add_lock page txn kind self.old.locks }
-        ensures room { self.old.spare ≤ self.new.spare + 1 }
+        ensures room { self.new.spare + length (unheld (page ∷ []) txn self.old.locks) ≡ self.old.spare }
+        ensures alone { holds_alone self.old.locks page txn ≡ true → self.new.locks ≡ self.old.locks }
     {
-        if at < self.len() && is_held_by(&self.locks[at], page, txn) {
+        if self.holds_at(at, page, txn) {
             self.locks[at].kind = stronger(self.locks[at].kind, kind);
         } else {
             self.locks.insert(at, Lock { page, txn, kind }).unwrap();

@@ -1,5 +1,5 @@
 -- The wireframe of a node: a node without pages has none.
-use Rattle.std.specs.Prelude.{ℕ, List, [], Option, None, Some}
+use Rattle.std.specs.Prelude.{ℕ, ◌≤◌, List, [], Option, None, Some, IfSome}
 use Rattle.zy_wire.specs.Wireframe.{Wireframe}
 
 -- the low keys of the pages
@@ -11,3 +11,7 @@ lows_in (Some wire) = wire.lows
 abbrev pub limit_or : ℕ → Option Wireframe → ℕ
 limit_or n None = n
 limit_or n (Some wire) = wire.pages
+
+-- there is memory for one page more
+abbrev pub CanGrow : Option Wireframe → Type 0
+CanGrow wire = IfSome wire (λ (w : Wireframe). 1 ≤ w.spare)

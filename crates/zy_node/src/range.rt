@@ -1,5 +1,7 @@
 //! The pages of the keys from one to another, one after the other in order of low key.
-ghost use Rattle.std.specs.Prelude.{◌≡◌, ◌<◌, ◌≤◌, ℕ, None, IfSome, length};
+ghost use Rattle.std.specs.Prelude.{◌≡◌, ◌<◌, ◌≤◌, ℕ, ◌∷◌, [], None, IfSome, length};
+ghost use Rattle.zy_locks.specs.Locks.{unheld};
+ghost use Rattle.zy_locks.specs.LockTable.{HasPlaces};
 ghost use Rattle.zy_table.specs.Change.{share_all};
 ghost use Rattle.zy_table.specs.Ranges.{range_pages};
 ghost use Rattle.zy_table.specs.Run.{first_absent, first_taken};
@@ -83,23 +85,37 @@ pub(crate) fn taken_page(
     Some(page)
 }
 
-/// How many pages there are.
-pub(crate) fn pages_in_range(wire: &Option<Wire>, first: u16, last: u16) -> usize
-    ensures { result ≡ length (range_pages (lows_in wire.now) first last) }
+/// On how many of the pages `t` has no lock.
+pub(crate) fn unheld_pages(
+    wire: &Option<Wire>,
+    locks: &Locks,
+    t: u8,
+    first: u16,
+    last: u16,
+) -> usize
+    ensures { result ≡ length (unheld (range_pages (lows_in wire.now) first last) t locks.now.locks) }
 {
-    let mut count = 1;
+    let mut count = new_places(locks, page_of(wire, first), t);
     let mut low = first;
     while let Some(next) = next_page(wire, low, last) {
-        count += 1;
+        count += new_places(locks, next.page, t);
         low = next.low;
     }
     count
 }
 
-/// Shares each page for `t`, where nothing is in the way and there is room. It takes no memory.
+/// How many places `t`'s lock on a page needs: none where it is there.
+fn new_places(locks: &Locks, page: u16, t: u8) -> usize
+    ensures value { result ≡ length (unheld (page ∷ []) t locks.now.locks) }
+    ensures few { result ≤ 1 }
+{
+    if locks.holds(page, t) { 0 } else { 1 }
+}
+
+/// Shares each page for `t`, where nothing is in the way and its locks have places. It takes no memory.
 pub(crate) fn share_pages(wire: &Option<Wire>, locks: &mut Locks, t: u8, first: u16, last: u16)
     requires free { first_taken locks.old.locks t (range_pages (lows_in wire.now) first last) ≡ None }
-    requires room { length (range_pages (lows_in wire.now) first last) ≤ locks.old.spare }
+    requires room { HasPlaces (range_pages (lows_in wire.now) first last) t locks.old }
     ensures { locks.new.locks ≡ share_all (range_pages (lows_in wire.now) first last) t locks.old.locks }
 {
     locks.lock(page_of(wire, first), t, LockKind::Shared);

@@ -1,8 +1,8 @@
 //! The wireframe of a node: a node without pages has none. What is told of a number `n` holds of each that is not below the wireframe's limit.
-ghost use Rattle.std.specs.Prelude.{◌≡◌, ◌==◌, ◌<◌, ◌≤◌, ◌++◌, ◌∷◌, [], ℕ, IfOk, IfSome, OnOk, Contains, length};
+ghost use Rattle.std.specs.Prelude.{◌≡◌, ◌==◌, ◌<◌, ◌≤◌, ◌++◌, ◌∷◌, [], ℕ, IfOk, IfSome, OnOk, IsOk, Contains, length};
 ghost use Rattle.zy_wire.specs.Wireframe.{page_of as page_of_spec};
 ghost use Rattle.zy_wire.specs.Ranges.{in_range};
-ghost use Rattle.zy_node.specs.Wireframes.{lows_in, limit_or};
+ghost use Rattle.zy_node.specs.Wireframes.{lows_in, limit_or, CanGrow};
 
 use std::alloc::{AllocError, Global};
 use zy_wire::key_range::KeyRange;
@@ -47,7 +47,8 @@ pub fn keys_of(wire: &Option<Wire>, page: u16) -> KeyRange
 pub fn reserve(wire: &mut Option<Wire>) -> Result<(), AllocError>
     ensures lows { lows_in wire.new ≡ lows_in wire.old }
     ensures limit { (n : ℕ) → limit_or n wire.new ≡ limit_or n wire.old }
-    ensures room { OnOk result (IfSome wire.new (λ w. 1 ≤ w.spare)) }
+    ensures room { OnOk result (CanGrow wire.new) }
+    ensures succeeds { CanGrow wire.old → IsOk result }
 {
     match wire {
         Some(wire) => wire.reserve(),
@@ -59,7 +60,7 @@ pub fn reserve(wire: &mut Option<Wire>) -> Result<(), AllocError>
 pub fn grow(wire: &mut Option<Wire>, low: u16)
     requires other { ¬ Contains (lows_in wire.old) low }
     requires few { length (lows_in wire.old) < limit_or 0 wire.old }
-    requires room { IfSome wire.old (λ w. 1 ≤ w.spare) }
+    requires room { CanGrow wire.old }
     ensures lows { lows_in wire.new ≡ lows_in wire.old ++ low ∷ [] }
     ensures limit { (n : ℕ) → limit_or n wire.new ≡ limit_or n wire.old }
 {

@@ -1,12 +1,16 @@
 -- A list of rows as everyone sees it, and what it keeps.
-use Rattle.std.specs.Prelude.{◌≡◌, ℕ, ◌≤◌, List, length, take}
+use Rattle.std.specs.Prelude.{◌≡◌, ◌⊎◌, IsSome, ℕ, ◌≤◌, List, length, take}
 use Rattle.zy_isa.specs.declared.row.Row.{Row}
-use Rattle.zy_isa.specs.Rows.{Rising, RowsFit}
+use Rattle.zy_isa.specs.Rows.{Rising, RowsFit, get_row}
 
 -- rows in key order, and how many more there is memory for
 pub record RoomyRows : Type 0 where
   pub rows : List Row
   pub spare : ℕ
+
+-- a row at k has a place: there is one, or there is memory for it
+abbrev pub HasPlace : ℕ → RoomyRows → Type 0
+HasPlace k x = (1 ≤ x.spare) ⊎ IsSome (get_row x.rows k)
 
 -- each key once, in order, and nothing that a row has no room for
 pub record AreKept (rows : List Row) : Type 0 where

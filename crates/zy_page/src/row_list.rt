@@ -1,6 +1,7 @@
 //! Rows in key order, each key once.
-ghost use Rattle.std.specs.Prelude.{◌≡◌, ◌+◌, ◌-◌, ◌<◌, ◌≤◌, ◌⊎◌, IfOk, OnOk, OnErr, IsOk, IsSome, [], ◌==◌, length, is_some, vec_capacity, slice_index_or};
+ghost use Rattle.std.specs.Prelude.{◌≡◌, ◌+◌, ◌-◌, ◌<◌, ◌≤◌, IfOk, OnOk, OnErr, IsOk, IsSome, [], ◌==◌, length, is_some, vec_capacity, slice_index_or};
 ghost use Rattle.zy_isa.specs.Rows.{Rising, RowsFit, get_row, put_row};
+ghost use Rattle.zy_page.specs.RowLists.{HasPlace};
 
 use crate::finding::{search, value_at};
 use std::alloc::{AllocError, Global};
@@ -44,6 +45,20 @@ impl RowList {
         ensures succeeds { n ≤ self.old.spare → IsOk result }
     {
         self.rows.reserve(n)
+    }
+
+    /// Makes room for a row at `key`. One that is there has its place.
+    pub fn reserve_for(&mut self, key: u16) -> Result<(), AllocError>
+        ensures rows { self.new.rows ≡ self.old.rows }
+        ensures room { OnOk result (HasPlace key self.new) }
+        ensures kept { OnErr result (self.new ≡ self.old) }
+        ensures succeeds { HasPlace key self.old → IsOk result }
+    {
+        if self.contains(key) {
+            Ok(())
+        } else {
+            self.reserve(1)
+        }
     }
 
     /// How many rows there are.
@@ -93,7 +108,7 @@ impl RowList {
 
     /// Puts a row in its place, over one of the same key. It takes no memory.
     pub fn put(&mut self, key: u16, value: u32)
-        requires { (1 ≤ self.old.spare) ⊎ IsSome (get_row self.old.rows key) }
+        requires { HasPlace key self.old }
         ensures rows { self.new.rows ≡ put_row key value self.old.rows }
         ensures room { length self.new.rows + self.new.spare ≡ length self.old.rows + self.old.spare }
         ensures over { IsSome (get_row self.old.rows key) → self.new.spare ≡ self.old.spare }

@@ -1,6 +1,7 @@
 //! `n run t`, line by line: each function is the line of its name, on the node and the book, whatever the rest of the state.
-ghost use Rattle.std.specs.Prelude.{◌≡◌, ◌<◌, ◌≤◌, None, Ok, Some, IfOk, length, slice_get, unwrap_or, if◌then◌else◌, true, false};
+ghost use Rattle.std.specs.Prelude.{◌≡◌, ◌<◌, ◌≤◌, ◌⊎◌, ◌∷◌, [], None, Ok, Some, IfOk, IsOk, IsSome, length, slice_get, unwrap_or, if◌then◌else◌, true, false};
 ghost use Rattle.zy_isa.specs.Rows.{get_row};
+ghost use Rattle.zy_locks.specs.LockTable.{HasPlaces};
 ghost use Rattle.zy_locks.specs.declared.lock.LockKind.TheVariants.{Shared, Exclusive};
 ghost use Rattle.zy_modes.specs.Table.{may_split};
 ghost use Rattle.zy_wire.specs.Wireframe.{page_of as page_of_spec};
@@ -14,6 +15,7 @@ ghost use Rattle.zy_node.specs.Wireframes.{lows_in};
 ghost use Rattle.zy_txns.specs.Books.{txn_in, noted, Countable};
 ghost use Rattle.zy_run.specs.Parts.{here, Runs};
 ghost use Rattle.zy_table.specs.Answers.{made};
+ghost use Rattle.zy_run.specs.Memory.{AbsentNeedsNone, InstrNeedsNone, IsUncut, KeyNeedsNone, PageNeedsNone, PagesNeedNone, RunNeedsNone, SumNeedsNone};
 ghost use Rattle.zy_run.specs.Ready.{IsFull, IsReady, MaySplit, Rooms};
 
 use crate::sum::sum;
@@ -44,6 +46,7 @@ pub fn run_row(
 ) -> Result<Answer, AllocError>
     requires { IsReady scenario.now n t me.old book.old }
     ensures line { Runs me.old book.old me.new book.new result (run_row_spec scenario.now n t) }
+    ensures memory { RunNeedsNone scenario.now t me.old book.old → IsOk result }
     ensures limits { limits_of me.new ≡ limits_of me.old }
 {
     let txn = book.txn(t);
@@ -76,6 +79,7 @@ fn instr_row(
     requires splits { MaySplit scenario.now (node_shown me.old) (txn_in t book.old) }
     requires limited { IsLimited scenario.now.pages me.old }
     ensures line { Runs me.old book.old me.new book.new result (λ v. instr_row_spec scenario.now t (Some instr) (txn_at v t).regs v) }
+    ensures memory { InstrNeedsNone scenario.now t instr (txn_in t book.old).regs me.old book.old → IsOk result }
     ensures limits { limits_of me.new ≡ limits_of me.old }
 {
     let txn = book.txn(t);
@@ -151,6 +155,7 @@ fn commit_row(me: &mut NodeStore, book: &mut Book, t: u8) -> Result<Answer, Allo
     requires counts { Countable t book.old }
     requires room { Rooms t me.old book.old }
     ensures line { Runs me.old book.old me.new book.new result (commit_row_spec t) }
+    ensures memory { 1 ≤ book.old.spare → IsOk result }
     ensures limits { limits_of me.new ≡ limits_of me.old }
 {
     if let Some(p) = gone_page(me, book.txn(t).rows()) {
@@ -180,6 +185,7 @@ fn key_row(
     requires splits { MaySplit scenario.now (node_shown me.old) (txn_in t book.old) }
     requires limited { IsLimited scenario.now.pages me.old }
     ensures line { Runs me.old book.old me.new book.new result (key_row_spec scenario.now t access key) }
+    ensures memory { KeyNeedsNone scenario.now t access key me.old book.old → IsOk result }
     ensures limits { limits_of me.new ≡ limits_of me.old }
 {
     let Ok(key) = u16::try_from(key) else {
@@ -205,6 +211,7 @@ fn range_row(
     requires slots { scenario.now.pages ≤ 512 }
     requires limited { IsLimited scenario.now.pages me.old }
     ensures line { Runs me.old book.old me.new book.new result (range_row_spec t r first last) }
+    ensures memory { SumNeedsNone t first last me.old → IsOk result }
     ensures limits { limits_of me.new ≡ limits_of me.old }
 {
     if last < first {
@@ -232,6 +239,7 @@ fn sum_or_asks(
     requires limited { IsLimited scenario.now.pages me.old }
     requires rises { first ≤ last }
     ensures line { Runs me.old book.old me.new book.new result (λ v. sum_or_asks_spec t r first last (first_absent v.me.pages (range_pages v.me.lows first last)) v) }
+    ensures memory { PagesNeedNone t first last me.old → IsOk result }
     ensures limits { limits_of me.new ≡ limits_of me.old }
 {
     match me.absent_page(first, last) {
@@ -253,12 +261,13 @@ fn sum_or_waits(
     requires counts { Countable t book.old }
     requires rises { first ≤ last }
     ensures line { Runs me.old book.old me.new book.new result (λ v. sum_or_waits_spec t r first last (first_taken v.me.locks t (range_pages v.me.lows first last)) v) }
+    ensures memory { let ps = range_pages (lows_in me.old.wire) first last in (first_taken me.old.locks.locks t ps ≡ None → HasPlaces ps t me.old.locks) → IsOk result }
     ensures limits { limits_of me.new ≡ limits_of me.old }
 {
     if let Some(p) = me.taken_page(t, first, last) {
         return Ok(Answer::quiet(Outcome::Waits(p)));
     }
-    me.reserve_locks(me.pages_in_range(first, last))?;
+    me.reserve_locks(t, first, last)?;
     Ok(sum_row(me, book, t, r, first, last))
 }
 
@@ -268,7 +277,7 @@ fn sum_row(me: &mut NodeStore, book: &mut Book, t: u8, r: Reg, first: u16, last:
     requires counts { Countable t book.old }
     requires rises { first ≤ last }
     requires free { first_taken me.old.locks.locks t (range_pages (lows_in me.old.wire) first last) ≡ None }
-    requires room { length (range_pages (lows_in me.old.wire) first last) ≤ me.old.locks.spare }
+    requires room { HasPlaces (range_pages (lows_in me.old.wire) first last) t me.old.locks }
     ensures line { (v : View) → made result (here me.new book.new v) ≡ sum_row_spec t r first last (shares t (range_pages (lows_in me.old.wire) first last) (here me.old book.old v)) }
     ensures limits { limits_of me.new ≡ limits_of me.old }
 {
@@ -284,6 +293,7 @@ fn absent_row(me: &mut NodeStore, book: &mut Book, t: u8, p: u16) -> Result<Answ
     requires there { t < length book.old.txns }
     requires few { p < 512 }
     ensures line { Runs me.old book.old me.new book.new result (absent_row_spec t p) }
+    ensures memory { AbsentNeedsNone p me.old → IsOk result }
     ensures limits { limits_of me.new ≡ limits_of me.old }
 {
     if !me.mode.may_pull() {
@@ -307,16 +317,18 @@ fn read_row(
     key: u16,
     p: u16,
     at: usize,
-) -> Answer
+) -> Result<Answer, AllocError>
     requires counts { Countable t book.old }
     requires free { IsFree at p t Shared me.old }
-    ensures line { (v : View) → made result (here me.new book.new v) ≡ read_row_spec t r key p (locked t p Shared (here me.old book.old v)) }
+    ensures line { Runs me.old book.old me.new book.new result (λ v. read_row_spec t r key p (locked t p Shared v)) }
+    ensures memory { HasPlaces (p ∷ []) t me.old.locks → IsOk result }
     ensures limits { limits_of me.new ≡ limits_of me.old }
 {
+    me.reserve_lock(at, p, t)?;
     let value = value(me, book.txn(t), key, p);
     me.lock_at(at, p, t, LockKind::Shared);
     book.set(t, r, value);
-    Answer::quiet(Outcome::Did)
+    Ok(Answer::quiet(Outcome::Did))
 }
 
 /// `write` on a page that is free for it.
@@ -333,11 +345,13 @@ fn write_row(
     requires counts { Countable t book.old }
     requires free { IsFree at p t Exclusive me.old }
     ensures line { Runs me.old book.old me.new book.new result (λ v. write_row_spec t key value p (locked t p Exclusive v)) }
+    ensures memory { let y = txn_in t book.old in (is_there_spec key p (node_shown me.old) y ≡ false) ⊎ (HasPlaces (p ∷ []) t me.old.locks × IsSome (get_row y.rows key)) → IsOk result }
     ensures limits { limits_of me.new ≡ limits_of me.old }
 {
     if !is_there(me, book.txn(t), key, p) {
         return Ok(abort_row(me, book, t, Why::Missing));
     }
+    me.reserve_lock(at, p, t)?;
     book.put(t, key, value)?;
     me.lock_at(at, p, t, LockKind::Exclusive);
     Ok(Answer::quiet(Outcome::Did))
@@ -363,6 +377,7 @@ fn insert_row(
     requires free { IsFree at p t Exclusive me.old }
     requires owned { owns me.old.pages p ≡ true }
     ensures line { Runs me.old book.old me.new book.new result (λ v. insert_row_spec scenario.now t key value p (locked t p Exclusive v)) }
+    ensures memory { let y = txn_in t book.old in (is_there_spec key p (node_shown me.old) y ≡ true) ⊎ ((has_room_spec scenario.now p (node_shown me.old) y ≡ false) × IsUncut scenario.now me.old) → IsOk result }
     ensures limits { limits_of me.new ≡ limits_of me.old }
 {
     if is_there(me, book.txn(t), key, p) {
@@ -371,6 +386,7 @@ fn insert_row(
     if !has_room(scenario, me, book.txn(t), p) {
         return full_row(scenario, alloc, me, book, t, key, p, at);
     }
+    me.reserve_lock(at, p, t)?;
     book.put(t, key, value)?;
     me.lock_at(at, p, t, LockKind::Exclusive);
     Ok(Answer::quiet(Outcome::Did))
@@ -390,6 +406,7 @@ fn full_row(
 ) -> Result<Answer, AllocError>
     requires { IsFull scenario.now t key p at me.old book.old }
     ensures line { Runs me.old book.old me.new book.new result (λ v. full_row_spec scenario.now t key p (locked t p Exclusive v)) }
+    ensures memory { IsUncut scenario.now me.old → IsOk result }
     ensures limits { limits_of me.new ≡ limits_of me.old }
 {
     if !me.mode.may_split() {
@@ -446,6 +463,7 @@ fn page_row(
     requires on { p ≡ page_of_spec (lows_in me.old.wire) key }
     requires few { p < 512 }
     ensures line { Runs me.old book.old me.new book.new result (page_row_spec scenario.now t access key p) }
+    ensures memory { PageNeedsNone scenario.now t access key p me.old book.old → IsOk result }
     ensures limits { limits_of me.new ≡ limits_of me.old }
 {
     if !me.pages.owns(p) {
@@ -454,9 +472,8 @@ fn page_row(
     let Some(at) = me.locks.free_place(p, t, access.lock()) else {
         return Ok(Answer::quiet(Outcome::Waits(p)));
     };
-    me.reserve_lock()?;
     match access {
-        Access::Reads(r) => Ok(read_row(me, book, t, r, key, p, at)),
+        Access::Reads(r) => read_row(me, book, t, r, key, p, at),
         Access::Writes(value) => write_row(me, book, t, key, value, p, at),
         Access::Inserts(value) => insert_row(scenario, alloc, me, book, t, key, value, p, at),
     }

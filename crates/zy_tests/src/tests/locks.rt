@@ -1,6 +1,7 @@
 //! Each call once with ample memory, on worked locks.
 use std::alloc::{AllocError, Global};
 use std::process::Abort;
+use zy_locks::attempt::Attempt;
 use zy_locks::lock::{Lock, LockKind};
 use zy_locks::locks::Locks;
 
@@ -23,32 +24,32 @@ const LOCKS: [Lock; 3] = [
     },
 ];
 
-/// Who asks for a page, and whether the page is free for it, one after the other.
-const ASKS: [(u16, u8, LockKind, bool); 6] = [
-    (7, 1, LockKind::Shared, true),
-    (7, 0, LockKind::Shared, true),
-    (7, 1, LockKind::Exclusive, false),
-    (9, 1, LockKind::Shared, true),
-    (9, 1, LockKind::Exclusive, true),
-    (9, 0, LockKind::Shared, false),
+/// Who asks for a page, and what comes of it, one after the other.
+const ASKS: [(u16, u8, LockKind, Attempt); 6] = [
+    (7, 1, LockKind::Shared, Attempt::Granted),
+    (7, 0, LockKind::Shared, Attempt::Granted),
+    (7, 1, LockKind::Exclusive, Attempt::Conflict),
+    (9, 1, LockKind::Shared, Attempt::Granted),
+    (9, 1, LockKind::Exclusive, Attempt::Granted),
+    (9, 0, LockKind::Shared, Attempt::Conflict),
 ];
 
-/// A lock where nothing is in the way.
+/// A lock where nothing is in the way, at the place that was found for it.
 fn locks_page(locks: &mut Locks, page: u16, txn: u8, kind: LockKind) -> Result<bool, AllocError> {
-    locks.reserve(1)?;
     let Some(at) = locks.free_place(page, txn, kind) else {
         return Ok(false);
     };
+    locks.reserve_at(at, page, txn)?;
     locks.put_at(at, page, txn, kind);
     Ok(true)
 }
 
 /// The same, where the call finds the place itself.
 fn locks_anew(locks: &mut Locks, page: u16, txn: u8, kind: LockKind) -> Result<bool, AllocError> {
-    locks.reserve(1)?;
-    let Some(_) = locks.free_place(page, txn, kind) else {
+    let Some(at) = locks.free_place(page, txn, kind) else {
         return Ok(false);
     };
+    locks.reserve_at(at, page, txn)?;
     locks.lock(page, txn, kind);
     Ok(true)
 }
@@ -59,8 +60,8 @@ fn copied_locks(alloc: Global, locks: &Locks) -> Result<usize, AllocError> {
 }
 
 fn check_asks(rt: &impl Abort, locks: &mut Locks) {
-    for (page, txn, kind, free) in ASKS {
-        assert!(rt; locks_page(locks, page, txn, kind) == Ok(free));
+    for (page, txn, kind, attempt) in ASKS {
+        assert!(rt; locks.try_lock(page, txn, kind) == attempt);
     }
 }
 
@@ -73,6 +74,7 @@ fn readers_share_and_writers_do_not(rt: HostRuntime) -> Result<(), AllocError> {
     locks.release_all(1);
     assert!(rt; locks.len() == 1 && locks.lock_at(0) == LOCKS[0]);
     assert!(rt; locks_anew(&mut locks, 9, 0, LockKind::Shared) == Ok(true));
+    assert!(rt; locks_page(&mut locks, 9, 0, LockKind::Exclusive) == Ok(true) && locks.holds(9, 0));
     assert!(rt; locks.len() == 2 && !locks.is_empty());
     Ok(())
 }

@@ -1,67 +1,74 @@
-use Rattle.std.proofs.Common.{◌≡◌, ◌∙◌, ◌<◌, ℕ, Bool, List, length, get_or, sym, subst, arith, false, true}
+use Rattle.std.proofs.Common.{◌≡◌, ◌∙◌, sym, arith, false, true}
+use Rattle.std.proofs.Math.ListN.{set}
+use Rattle.std.proofs.lemmas.Bool.{false≢true}
 use Rattle.std.proofs.lemmas.List.{get_or_default}
-use Rattle.zy_locks.specs.declared.lock.Lock.{Lock}
-use Rattle.zy_locks.specs.Locks.{stronger}
-use Rattle.zy_locks.specs.Order.{is_held_by}
+use Rattle.zy_locks.specs.Locks.{add_lock, stronger}
 use Rattle.zy_locks.proofs.Added.{add_lock_at, add_lock_between}
 use Rattle.zy_locks.proofs.Agreeing.{agree_add}
+use Rattle.zy_locks.proofs.Alone.{alone_kept, exclusive_holds}
+use Rattle.zy_locks.proofs.Held.{held_place, told_at}
 use Rattle.zy_locks.proofs.Rising.{rise_add}
-use Rattle.zy_locks.proofs.locks.Locks.put_at.Goals.{else-at-len-via-then-at-len+else-is_held_by, else-at-len-via-else-at-len}
 use Rattle.zy_locks.proofs.locks.Locks.put_at.Goals as goal
 
--- what was read at an index is what stands there
-held_there : (xs : List Lock) (i p t : ℕ) (x d : Lock) (b : Bool) → i < length xs → x ≡ get_or xs i x → b ≡ is_held_by x p t → is_held_by (get_or xs i d) p t ≡ b
-held_there xs i p t x d b lt e is = subst (λ y. is_held_by y p t ≡ b) (e ∙ get_or_default xs i x d lt) (sym is)
+pub index-requires : goal.index-requires
+index-requires c =
+    let placed = rw (← c.self.view_is) at c.requires.place in
+    let held = rw (← c.self.view_is) at (sym c.holds_at.ensures ∙ c.if-holds_at.true) in
+    omega (arith, held_place c.args.page c.args.txn c.args.at c.self.inside.locks.items c.self.invariant.0 placed held, c.self.inside.locks.ok.0)
+
+pub index_mut-requires : goal.index_mut-requires
+index_mut-requires c =
+    let placed = rw (← c.self.view_is) at c.requires.place in
+    let held = rw (← c.self.view_is) at (sym c.holds_at.ensures ∙ c.if-holds_at.true) in
+    omega (arith, held_place c.args.page c.args.txn c.args.at c.self.inside.locks.items c.self.invariant.0 placed held, c.self.inside.locks.ok.0)
+
+-- the locks with the one at the place made stronger
+raised : (c : goal.After-self-1) → add_lock c.args.page c.args.txn c.args.kind c.self.inside.locks.items ≡ set c.self.inside.locks.items c.args.at (record c.index_mut.result.now { kind = c.stronger.result })
+raised c =
+    let locks = c.self.inside.locks.items in
+    let was = c.index_mut.result.now in
+    let placed = rw (← c.self.view_is) at c.requires.place in
+    let held = rw (← c.self.view_is) at (sym c.holds_at.ensures ∙ c.if-holds_at.true) in
+    let lt = held_place c.args.page c.args.txn c.args.at locks c.self.invariant.0 placed held in
+    let one = c.index.ensures ∙ (get_or_default locks c.args.at c.index.result.now was lt ∙ sym c.index_mut.ensures.value) in
+    let kind : c.stronger.result ≡ stronger was.kind c.args.kind = rw (← one) c.stronger.ensures in
+    let there = told_at c.args.page c.args.txn c.args.at true was locks c.self.invariant.0 placed held lt in
+    rw kind (rw (← c.index_mut.ensures.value) at (add_lock_at c.args.page c.args.txn c.args.at c.args.kind was locks placed lt there))
 
 pub invariant_of-self : goal.invariant_of-self
 invariant_of-self c =
     let locks = c.self.inside.locks.items in
-    let was = c.index_mut.result.now in
-    let placed = rw (← c.self.view_is) at c.requires.place in
     let free = rw (← c.self.view_is) at c.requires.free in
-    let lt : c.args.at < length locks = omega (arith, c.if-at-len.true, rw (← c.self.view_is) at c.len.ensures) in
-    let held = held_there locks c.args.at c.args.page c.args.txn c.index.result.now was true lt c.index.ensures (sym c.if-is_held_by.true ∙ c.is_held_by.ensures) in
-    let one = c.index-then-is_held_by.ensures ∙ (get_or_default locks c.args.at c.index-then-is_held_by.result.now was lt ∙ sym c.index_mut.ensures.value) in
-    let kind : c.stronger.result ≡ stronger was.kind c.args.kind = rw (← one) c.stronger.ensures in
-    let raised = add_lock_at c.args.page c.args.txn c.args.at c.args.kind was locks placed lt held in
     let rise = rise_add c.args.page c.args.txn c.args.kind locks c.self.invariant.0 in
     let agree = agree_add c.args.page c.args.txn c.args.kind locks free c.self.invariant.1 in
-    rw kind (rw (raised, ← c.index_mut.ensures.value) at rise, rw (raised, ← c.index_mut.ensures.value) at agree)
+    (rw (raised c) at rise, rw (raised c) at agree)
 
-pub returns-then-is_held_by-clause-locks : goal.returns-then-is_held_by-clause-locks
-returns-then-is_held_by-clause-locks c =
+pub returns-then-holds_at-clause-locks : goal.returns-then-holds_at-clause-locks
+returns-then-holds_at-clause-locks c = rw (← c.self.view_is) (sym (raised c))
+
+pub returns-then-holds_at-clause-alone : goal.returns-then-holds_at-clause-alone
+returns-then-holds_at-clause-alone c alone =
+    let kept = alone_kept c.args.page c.args.txn c.args.kind c.self.inside.locks.items c.self.invariant.0 (rw (← c.self.view_is) at alone) in
+    rw (← c.self.view_is) (sym (raised c) ∙ kept)
+
+-- the locks with a new one at the place
+put : (c : goal.After-unwrap) → c.insert.new.self.items ≡ add_lock c.args.page c.args.txn c.args.kind c.self.inside.locks.items
+put c =
     let locks = c.self.inside.locks.items in
-    let was = c.index_mut.result.now in
     let placed = rw (← c.self.view_is) at c.requires.place in
-    let lt : c.args.at < length locks = omega (arith, c.if-at-len.true, rw (← c.self.view_is) at c.len.ensures) in
-    let held = held_there locks c.args.at c.args.page c.args.txn c.index.result.now was true lt c.index.ensures (sym c.if-is_held_by.true ∙ c.is_held_by.ensures) in
-    let one = c.index-then-is_held_by.ensures ∙ (get_or_default locks c.args.at c.index-then-is_held_by.result.now was lt ∙ sym c.index_mut.ensures.value) in
-    let kind : c.stronger.result ≡ stronger was.kind c.args.kind = rw (← one) c.stronger.ensures in
-    let raised = rw (← c.index_mut.ensures.value) at (add_lock_at c.args.page c.args.txn c.args.at c.args.kind was locks placed lt held) in
-    rw (kind, ← c.self.view_is) (sym raised)
+    let none = rw (← c.self.view_is) at (sym c.holds_at.ensures ∙ c.if-holds_at.false) in
+    rw c.unwrap.ensures at c.insert.ensures.items
+    ∙ sym (add_lock_between c.args.page c.args.txn c.args.at c.args.kind locks placed (λ d lt. told_at c.args.page c.args.txn c.args.at false d locks c.self.invariant.0 placed none lt))
 
--- it is not held at the place
-none : (c : goal.After-unwrap) → let locks = c.self.inside.locks.items in (d : Lock) → c.args.at < length locks → is_held_by (get_or locks c.args.at d) c.args.page c.args.txn ≡ false
-none c d lt = elim c.else-at-len.branch [
-  | else-at-len-via-then-at-len+else-is_held_by w ↦ held_there c.self.inside.locks.items c.args.at c.args.page c.args.txn w.index.result.now d false lt w.index.ensures (sym w.if-is_held_by.false ∙ w.is_held_by.ensures)
-  | else-at-len-via-else-at-len w ↦ absurd (omega (arith, lt, w.if-at-len.false, rw (← c.self.view_is) at c.len.ensures))
-]
-
-pub invariant_of-self-else-at-len : goal.invariant_of-self-else-at-len
-invariant_of-self-else-at-len c =
+pub invariant_of-self-else-holds_at : goal.invariant_of-self-else-holds_at
+invariant_of-self-else-holds_at c =
     let locks = c.self.inside.locks.items in
-    let items = rw c.unwrap.ensures at c.insert.ensures.items in
-    let placed = rw (← c.self.view_is) at c.requires.place in
     let free = rw (← c.self.view_is) at c.requires.free in
-    let between = add_lock_between c.args.page c.args.txn c.args.at c.args.kind locks placed (none c) in
-    let rise = rise_add c.args.page c.args.txn c.args.kind locks c.self.invariant.0 in
-    let agree = agree_add c.args.page c.args.txn c.args.kind locks free c.self.invariant.1 in
-    rw items (rw between at rise, rw between at agree)
+    rw (put c) (rise_add c.args.page c.args.txn c.args.kind locks c.self.invariant.0, agree_add c.args.page c.args.txn c.args.kind locks free c.self.invariant.1)
 
-pub returns-else-at-len-clause-locks : goal.returns-else-at-len-clause-locks
-returns-else-at-len-clause-locks c =
-    let locks = c.self.inside.locks.items in
-    let items = rw c.unwrap.ensures at c.insert.ensures.items in
-    let placed = rw (← c.self.view_is) at c.requires.place in
-    let between = add_lock_between c.args.page c.args.txn c.args.at c.args.kind locks placed (none c) in
-    rw (← c.self.view_is, items) (sym between)
+pub returns-else-holds_at-clause-locks : goal.returns-else-holds_at-clause-locks
+returns-else-holds_at-clause-locks c = rw (← c.self.view_is) (put c)
+
+pub returns-else-holds_at-clause-alone : goal.returns-else-holds_at-clause-alone
+returns-else-holds_at-clause-alone c alone =
+    absurd (false≢true (sym (sym c.holds_at.ensures ∙ c.if-holds_at.false) ∙ exclusive_holds c.args.self.now.locks c.args.page c.args.txn alone))
