@@ -16,7 +16,7 @@ use Rattle.zy_isa.specs.Registers.{number_of, registers}
 use Rattle.zy_isa.specs.Programs.{HasValue, PartsFit}
 use Rattle.zy_isa.specs.Operations.{opcode, coded, instr_with, parts_of}
 use Rattle.zy_isa.specs.InstrWords.{word, word_with, word_of, IsWordOf}
-use Rattle.zy_isa.specs.WordFields.{register_at, pair_of, registers_at, parts_at, instr_at, decoded, instr_in}
+use Rattle.zy_isa.specs.WordFields.{register_at, pair_of, registers_at, parts_at, instr_at, decoded, register_in, instr_in}
 use Rattle.zy_isa.proofs.ResultLemmas.{both}
 use Rattle.zy_isa.proofs.OperationLemmas.{same_number, found_passes, coded_is, coded_back, instr_again, parts_again}
 
@@ -169,10 +169,20 @@ decoded_only i v = decoded_back (parts_of i) v ∙ ap Some (instr_again i)
 
 -- ---- a word that is known to be one
 
+register_read : (r : Reg) → register_in (number_of r) ≡ r
+register_read R0 = refl
+register_read R1 = refl
+register_read R2 = refl
+register_read R3 = refl
+register_read R4 = refl
+register_read R5 = refl
+register_read R6 = refl
+register_read R7 = refl
+
 reads_parts : (p : Parts) → PartsFit p → instr_in (word_with p) ≡ instr_with p
-reads_parts (Number o a n) v = rw (coded_back (op.Number o), from_be_bytes-to_be_bytes_4 n v, register_back a) refl
-reads_parts (Pair o a b) v = rw (coded_back (op.Pair o), register_back a, register_back b) refl
-reads_parts (Jump o a b n) v = rw (coded_back (op.Jump o), from_be_bytes-to_be_bytes_4 n v, register_back a, register_back b) refl
+reads_parts (Number o a n) v = rw (coded_back (op.Number o), from_be_bytes-to_be_bytes_4 n v, register_read a) refl
+reads_parts (Pair o a b) v = rw (coded_back (op.Pair o), register_read a, register_read b) refl
+reads_parts (Jump o a b n) v = rw (coded_back (op.Jump o), from_be_bytes-to_be_bytes_4 n v, register_read a, register_read b) refl
 reads_parts (Lone o) v = rw (coded_back (op.Lone o)) refl
 
 -- the word of an instruction gives it

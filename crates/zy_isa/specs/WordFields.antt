@@ -1,5 +1,5 @@
 -- What the fields of a word give, for the steps of decoding.
-use Rattle.std.specs.Prelude.{◌==◌, ◌&&◌, ℕ, List, drop, get_or, unwrap_or, Option, Some, None, if◌then◌else◌, option_map}
+use Rattle.std.specs.Prelude.{◌==◌, ◌&&◌, ◌%◌, ℕ, List, drop, get_or, unwrap_or, Option, Some, None, if◌then◌else◌, option_map}
 use Rattle.std.specs.List.{find}
 use Rattle.std.specs.Int.{w32, from_be_bytes}
 use Rattle.zy_isa.specs.declared.instr.Reg.{Reg}
@@ -42,7 +42,7 @@ decoded w = if get_or w 3 0 == 0 then instr_at (coded (get_or w 0 0)) (get_or w 
 -- ---- a word that is known to be one: no field is tested
 
 abbrev pub register_in : ℕ → Reg
-register_in n = unwrap_or (register_at n) R7
+register_in n = unwrap_or (register_at (n % 8)) R7
 
 abbrev pub operation_in : ℕ → Operation
 operation_in n = unwrap_or (coded n) (op.Lone Abort)

@@ -135,12 +135,12 @@ pub fn decode(word: [u8; WORD_BYTES]) -> Option<Instr>
     instr_at(opcode, a, b, u32::from_be_bytes([n0, n1, n2, n3]))
 }
 
-/// The register of a byte that names one.
+/// The register of a byte that names one: its three lowest bits.
 #[inline(always)]
 fn register_in(byte: u8) -> Reg
     ensures { result ≡ register_in_spec byte }
 {
-    register(byte).unwrap_or(Reg::R7)
+    register(byte % 8).unwrap_or(Reg::R7)
 }
 
 /// The operation of a number that is one's.
