@@ -9,4 +9,4 @@ returns c =
     let same : c.in-Ok.key ≡ c.args.key = omega arith in
     let near : c.args.key < 2 ^ 16 = omega arith in
     let new : is_some c.value.result ≡ false = sym c.is_some.ensures ∙ c.if-is_some.false in
-    inserted-new c.put.result (map_of c.args.table.now) c.in-Ok.key c.args.key c.args.value c.args.self.now c.put.new.self c.value.result same near c.requires.on c.value.ensures new c.put.ensures
+    inserted-new c.put.result (map_of c.args.table.now) c.in-Ok.key c.args.key c.args.value c.args.self.now c.put.new.self c.value.result same near c.requires.on c.value.ensures new c.put.ensures.ok

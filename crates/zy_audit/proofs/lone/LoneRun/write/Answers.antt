@@ -9,4 +9,4 @@ returns c =
     let same : c.in-Ok.key ≡ c.args.key = omega arith in
     let near : c.args.key < 2 ^ 16 = omega arith in
     let there : is_some c.value.result ≡ true = c.is_none.ensures ∙ ap not c.if-is_none.false in
-    written-there c.put.result (map_of c.args.table.now) c.in-Ok.key c.args.key c.args.value c.args.self.now c.put.new.self c.value.result same near c.requires.on c.value.ensures there c.put.ensures
+    written-there c.put.result (map_of c.args.table.now) c.in-Ok.key c.args.key c.args.value c.args.self.now c.put.new.self c.value.result same near c.requires.on c.value.ensures there c.put.ensures.ok
