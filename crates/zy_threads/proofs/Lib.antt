@@ -1,2 +1,3 @@
 mod Lines
 pub mod Reordered
+pub mod MergeLemmas

@@ -61,7 +61,7 @@ length_if true x xs = omega arith
 length_if false x xs = refl
 
 -- each choice is of one actor
-sub_lengths : (cs : List Choice) → length (sub C cs) + length (sub A cs) + length (sub B cs) ≡ length cs
+pub sub_lengths : (cs : List Choice) → length (sub C cs) + length (sub A cs) + length (sub B cs) ≡ length cs
 sub_lengths [] = refl
 sub_lengths (d ∷ cs) =
     let x = actor_of d in

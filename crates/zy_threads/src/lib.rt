@@ -4,5 +4,6 @@
 pub mod board;
 mod desk;
 pub mod gate;
+pub mod laws;
 pub mod run;
 mod work;
