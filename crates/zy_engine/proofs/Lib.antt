@@ -2,3 +2,4 @@ mod RunLemmas
 mod CheckLemmas
 mod DebugLemmas
 mod MergeLemmas
+mod AgainLemmas

@@ -6,5 +6,6 @@ pub mod debugging;
 pub mod engine;
 pub mod faults;
 pub mod format;
+pub mod laws;
 pub mod output;
 pub mod threading;

@@ -1,0 +1,17 @@
+-- A listing whose scenario part gives that listing.
+use Rattle.std.specs.Prelude.{◌≡◌, Some, Ok}
+use Rattle.std.specs.Io.KnownBytes.{Appends}
+use Rattle.zy_isa.specs.Canon.{canon}
+use Rattle.zy_isa.specs.Scenario.{Scenario}
+use Rattle.zy_isa.specs.Text.{Means}
+use Rattle.zy_audit.specs.Run.{listing_run}
+use Rattle.zy_check.specs.Cut.{cut}
+use Rattle.zy_engine.specs.declared.format.Format.TheVariants.{Text}
+use Rattle.zy_engine.specs.Engines.{Streams, Converts}
+
+-- the scenario part of the listing is the scenario's canonical text and means it; and run of that part, where it is done, writes the listing
+pub record RunsAgain (sc : Scenario) : Type 0 where
+  pub part : cut (listing_run sc) ≡ canon sc
+  pub means : Means (canon sc) sc
+  pub again : (old new : Streams) → old.left ≡ Some (cut (listing_run sc)) → Converts {X = Unit {0}} Text listing_run old new (Ok tt)
+      → Appends old.written new.written (listing_run sc)
