@@ -1,4 +1,5 @@
 //! Calls that are out of memory once, and what is found then.
+ghost use Rattle.std.specs.Prelude.{◌≡◌, IfOk, Ok};
 
 use crate::digest::Digest;
 use std::alloc::AllocError;
@@ -107,7 +108,9 @@ impl Fault for WireFault {
 }
 
 /// The answer of the call under test.
-pub fn tested<T: Drop, F: Fault + Drop>(answer: Result<T, F>) -> Result<T, Refused> {
+pub fn tested<T: Drop, F: Fault + Drop>(answer: Result<T, F>) -> Result<T, Refused>
+    ensures { IfOk result (λ value. answer ≡ Ok value) }
+{
     match answer {
         Ok(value) => Ok(value),
         Err(fault) if fault.is_memory() => Err(Refused::Memory),
@@ -116,7 +119,9 @@ pub fn tested<T: Drop, F: Fault + Drop>(answer: Result<T, F>) -> Result<T, Refus
 }
 
 /// The answer of a call that only prepares the one under test, or looks at its answer.
-pub fn prepared<T: Drop, F: Fault + Drop>(answer: Result<T, F>) -> Result<T, Refused> {
+pub fn prepared<T: Drop, F: Fault + Drop>(answer: Result<T, F>) -> Result<T, Refused>
+    ensures { IfOk result (λ value. answer ≡ Ok value) }
+{
     match answer {
         Ok(value) => Ok(value),
         Err(fault) if fault.is_memory() => Err(Refused::Setup),
@@ -165,15 +170,23 @@ fn make<C: Calls>(calls: &mut C, place: usize) -> Result<Made, Found> {
     }
 }
 
+/// What is found of a call that was out of memory, by its answer when it is made again.
+pub fn again(answer: Result<u64, Refused>) -> Found {
+    match answer {
+        Ok(digest) => Found::Again(digest),
+        Err(Refused::Different) => Found::NoAnswer(Refused::Different),
+        Err(_) => Found::Lost,
+    }
+}
+
 /// Makes a call that was out of memory.
 fn make_again<C: Calls>(calls: &mut C, place: usize) -> Result<Made, Found> {
-    match calls.call(place) {
-        Ok(answer) => Ok(Made {
+    match again(calls.call(place)) {
+        Found::Again(answer) => Ok(Made {
             answer,
             again: true,
         }),
-        Err(Refused::Different) => Err(Found::NoAnswer(Refused::Different)),
-        Err(_) => Err(Found::Lost),
+        found => Err(found),
     }
 }
 

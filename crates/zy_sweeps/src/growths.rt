@@ -1,4 +1,6 @@
 //! Lists that grow: rows, low keys, locks, messages, private rows and commits.
+ghost use Rattle.std.specs.Prelude.{◌≡◌, true};
+ghost use Rattle.zy_txns.specs.Books.{Countable};
 
 use crate::calls::{Calls, Found, Refused, prepared, sweep, tested};
 use crate::digest::{Digested, digest_of};
@@ -19,7 +21,7 @@ const COUNT: usize = 20;
 
 /// The key of a place, in no order.
 fn key_of(place: usize) -> u16 {
-    (place as u64 * 7 % 23 * 100 + 50) as u16
+    (place % 23) as u16 * 7 % 23 * 100 + 50
 }
 
 /// What grows by one thing at a time.
@@ -117,11 +119,18 @@ impl Growing for Txn {
     }
 }
 
-/// A book of one transaction, which does not begin.
+/// Whether the first transaction of a book can be committed.
+fn can_commit(book: &Book) -> bool
+    ensures { result ≡ true → Countable 0 book.now }
+{
+    book.len() > 0 && book.txn(0).place() < 1000 && book.txn(0).done() < 1000
+}
+
+/// The first transaction is committed at each place.
 impl Growing for Book {
     fn grow_at(&mut self, _place: usize) -> Result<(), Refused> {
         tested(self.reserve_commit())?;
-        if self.len() == 0 || self.txn(0).place() > 1000 || self.txn(0).done() > 1000 {
+        if !can_commit(self) {
             return Err(Refused::Fault);
         }
         self.commit(0);

@@ -80,6 +80,43 @@ impl Calls for Stepping {
     }
 }
 
+/// `Machine::reopen` of a machine.
+#[derive(Drop)]
+struct Reopening {
+    alloc: Global,
+    machine: Machine,
+}
+
+impl Calls for Reopening {
+    fn call(&mut self, _place: usize) -> Result<u64, Refused> {
+        let machine = tested(self.machine.reopen(self.alloc))?;
+        Ok(digest_of(&machine))
+    }
+
+    fn shown(&self) -> u64 {
+        digest_of(&self.machine)
+    }
+}
+
+/// `Machine::share` of a machine, which is made again for each call.
+#[derive(Drop)]
+struct Sharing {
+    alloc: Global,
+    machine: Machine,
+}
+
+impl Calls for Sharing {
+    fn call(&mut self, _place: usize) -> Result<u64, Refused> {
+        let copy = prepared(self.machine.copy(self.alloc))?;
+        let machine = tested(copy.share(self.alloc))?;
+        Ok(digest_of(&machine))
+    }
+
+    fn shown(&self) -> u64 {
+        digest_of(&self.machine)
+    }
+}
+
 fn sweep_open(alloc: Global, input: &[u8]) -> Result<Found, Refused> {
     let scenario = scenario(alloc, input)?;
     Ok(sweep(&mut Opening { alloc, scenario }))
@@ -97,12 +134,36 @@ fn sweep_step(alloc: Global, input: &[u8]) -> Result<Found, Refused> {
     Ok(sweep(&mut Stepping { machine, choices }))
 }
 
+/// A machine goes along a history that another one shares with it, but for the fourth choice.
+fn sweep_step_apart(alloc: Global, input: &[u8]) -> Result<Found, Refused> {
+    let shared = prepared(machine(alloc, input)?.share(alloc))?;
+    let mut choices = prepared(shared.scenario().choices().to_vec(alloc))?;
+    if choices.len() > 3 {
+        let _ = choices.remove(3);
+    }
+    let machine = prepared(shared.reopen(alloc))?;
+    Ok(sweep(&mut Stepping { machine, choices }))
+}
+
+fn sweep_reopen(alloc: Global, input: &[u8]) -> Result<Found, Refused> {
+    let machine = prepared(machine(alloc, input)?.share(alloc))?;
+    Ok(sweep(&mut Reopening { alloc, machine }))
+}
+
+fn sweep_share(alloc: Global, input: &[u8]) -> Result<Found, Refused> {
+    let machine = machine(alloc, input)?;
+    Ok(sweep(&mut Sharing { alloc, machine }))
+}
+
 /// The sweep of this name, over a scenario's text, if it is one of these.
 pub fn sweep_named(name: &str, alloc: Global, input: &[u8]) -> Option<Result<Found, Refused>> {
     match name {
         "open" => Some(sweep_open(alloc, input)),
         "run_all" => Some(sweep_run_all(alloc, input)),
         "step" => Some(sweep_step(alloc, input)),
+        "step_apart" => Some(sweep_step_apart(alloc, input)),
+        "reopen" => Some(sweep_reopen(alloc, input)),
+        "share" => Some(sweep_share(alloc, input)),
         _ => None,
     }
 }

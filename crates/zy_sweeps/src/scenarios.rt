@@ -101,8 +101,9 @@ fn first_instrs(alloc: Global, scenario: &Scenario) -> Result<Vec<Instr>, Refuse
     let Some(program) = scenario.programs().first() else {
         return Err(Refused::Fault);
     };
-    let mut instrs = prepared(Vec::with_capacity(alloc, program.len()))?;
+    let mut instrs = Vec::new(alloc);
     for i in 0..program.len() {
+        prepared(instrs.reserve(1))?;
         instrs.push_reserved(program.instr(i));
     }
     Ok(instrs)

@@ -1,7 +1,7 @@
 //! Runs by three threads.
 ghost use Rattle.std.specs.Prelude.{◌<◌};
 
-use crate::calls::{Calls, Found, Refused, prepared, sweep, tested};
+use crate::calls::{Found, Refused, again, prepared, tested};
 use crate::digest::Digest;
 use crate::scenarios::scenario;
 use crate::texts::{Front, room};
@@ -94,61 +94,41 @@ fn digest_of_turns(machine: &Machine) -> u64 {
 }
 
 /// `zy_threads::run::run_threads`. Where it is out of memory one actor at most is cut short.
-#[derive(Drop)]
-struct Threading<'a, R> {
-    rt: &'a R,
+fn run<R: Threads + Wait + Sync>(
+    rt: &R,
     alloc: Global,
-    scenario: Scenario,
-}
-
-impl<R: Threads + Wait + Sync> Calls for Threading<'_, R> {
-    fn call(&mut self, _place: usize) -> Result<u64, Refused> {
-        let scenario = prepared(self.scenario.copy(self.alloc))?;
-        let gate = Counting::new();
-        let outcome = tested(run_threads(self.rt, self.alloc, scenario, &gate));
-        if gate.short(self.scenario.choices()) > usize::from(outcome.is_err()) {
-            return Err(Refused::Different);
-        }
-        Ok(digest_of_turns(&outcome?))
+    scenario: &Scenario,
+) -> Result<u64, Refused> {
+    let copy = prepared(scenario.copy(alloc))?;
+    let gate = Counting::new();
+    let outcome = tested(run_threads(rt, alloc, copy, &gate));
+    if gate.short(scenario.choices()) > usize::from(outcome.is_err()) {
+        return Err(Refused::Different);
     }
+    Ok(digest_of_turns(&outcome?))
 }
 
-/// `zy_engine::threading::threads_bytes` over an input, whose actors' choices may come in any order.
-#[derive(Drop)]
-struct Merging<'a, R> {
-    rt: &'a R,
-    alloc: Global,
-    input: &'a [u8],
-}
-
-/// What it writes passes `check`.
-impl<R: Threads + Wait + Sync> Calls for Merging<'_, R> {
-    fn call(&mut self, _place: usize) -> Result<u64, Refused> {
-        let mut sink = VecSink::new(room(self.alloc)?);
-        tested(threaded(self.rt, self.alloc, self.input, &mut sink))?;
-        let mut listing = SliceSource::new(sink.bytes());
-        match prepared(check(self.alloc, &mut listing))? {
-            Verdict::Table => Ok(1),
-            Verdict::NotTable(_) => Err(Refused::Different),
-        }
+/// `zy_engine::threading::threads_bytes` over an input, whose actors' choices may come in any order: what it writes passes `check`.
+fn merge<R: Threads + Wait + Sync>(rt: &R, alloc: Global, input: &[u8]) -> Result<u64, Refused> {
+    let mut sink = VecSink::new(room(alloc)?);
+    tested(threaded(rt, alloc, input, &mut sink))?;
+    let mut listing = SliceSource::new(sink.bytes());
+    match prepared(check(alloc, &mut listing))? {
+        Verdict::Table => Ok(1),
+        Verdict::NotTable(_) => Err(Refused::Different),
     }
 }
 
 /// The same over an input of one actor's choices.
-#[derive(Drop)]
-struct Writing<'a, R> {
-    rt: &'a R,
+fn write<R: Threads + Wait + Sync>(
+    rt: &R,
     alloc: Global,
-    input: &'a [u8],
-    front: Front<VecSink>,
-}
-
-impl<R: Threads + Wait + Sync> Calls for Writing<'_, R> {
-    fn call(&mut self, _place: usize) -> Result<u64, Refused> {
-        let mut sink = VecSink::new(room(self.alloc)?);
-        let outcome = tested(threaded(self.rt, self.alloc, self.input, &mut sink));
-        self.front.answer(sink, outcome)
-    }
+    input: &[u8],
+    front: &mut Front<VecSink>,
+) -> Result<u64, Refused> {
+    let mut sink = VecSink::new(room(alloc)?);
+    let outcome = tested(threaded(rt, alloc, input, &mut sink));
+    front.answer(sink, outcome)
 }
 
 /// The engine over an input.
@@ -170,25 +150,36 @@ fn sweep_run<R: Threads + Wait + Sync>(
     input: &[u8],
 ) -> Result<Found, Refused> {
     let scenario = scenario(alloc, input)?;
-    Ok(sweep(&mut Threading {
-        rt,
-        alloc,
-        scenario,
-    }))
+    let first = run(rt, alloc, &scenario);
+    if first == Err(Refused::Memory) {
+        return Ok(again(run(rt, alloc, &scenario)));
+    }
+    Ok(Found::Answered(first?))
 }
 
-fn sweep_merge<R: Threads + Wait + Sync>(rt: &R, alloc: Global, input: &[u8]) -> Found {
-    sweep(&mut Merging { rt, alloc, input })
+fn sweep_merge<R: Threads + Wait + Sync>(
+    rt: &R,
+    alloc: Global,
+    input: &[u8],
+) -> Result<Found, Refused> {
+    let first = merge(rt, alloc, input);
+    if first == Err(Refused::Memory) {
+        return Ok(again(merge(rt, alloc, input)));
+    }
+    Ok(Found::Answered(first?))
 }
 
-fn sweep_write<R: Threads + Wait + Sync>(rt: &R, alloc: Global, input: &[u8]) -> Found {
-    let front = Front::new(VecSink::new(Vec::new(alloc)));
-    sweep(&mut Writing {
-        rt,
-        alloc,
-        input,
-        front,
-    })
+fn sweep_write<R: Threads + Wait + Sync>(
+    rt: &R,
+    alloc: Global,
+    input: &[u8],
+) -> Result<Found, Refused> {
+    let mut front = Front::new(VecSink::new(Vec::new(alloc)));
+    let first = write(rt, alloc, input, &mut front);
+    if first == Err(Refused::Memory) {
+        return Ok(again(write(rt, alloc, input, &mut front)));
+    }
+    Ok(Found::Answered(first?))
 }
 
 /// The sweep of this name, over a scenario's text, if it is one of these. That of `threads_bytes` has the choices of one actor alone.
@@ -200,8 +191,8 @@ pub fn sweep_named<R: Threads + Wait + Sync>(
 ) -> Option<Result<Found, Refused>> {
     match name {
         "run_threads" => Some(sweep_run(rt, alloc, input)),
-        "threads_bytes" => Some(Ok(sweep_write(rt, alloc, input))),
-        "threads_merge" => Some(Ok(sweep_merge(rt, alloc, input))),
+        "threads_bytes" => Some(sweep_write(rt, alloc, input)),
+        "threads_merge" => Some(sweep_merge(rt, alloc, input)),
         _ => None,
     }
 }
