@@ -4,6 +4,7 @@ use Rattle.std.specs.Prelude.{codes}
 use Rattle.std.specs.List.{flat_map}
 use Rattle.std.specs.Fmt.{digits}
 use Rattle.zy_io.specs.Writing.{line_of}
+use Rattle.zy_isa.specs.declared.version.Version.TheVariants.{One}
 use Rattle.zy_isa.specs.declared.node.Node.TheVariants.{A}
 use Rattle.zy_isa.specs.declared.rule.Rule.TheVariants.{Held}
 use Rattle.zy_isa.specs.declared.instr.Reg.TheVariants.{R0, R1, R2}
@@ -24,7 +25,7 @@ unfolding digits listing page_of txn_at begun aborted did locked committed begin
 table = 0
 
 abbrev smallest : Scenario
-smallest = record { version = 1; cap = 2; pages = 1; rule = Held; rows = []; programs = []; choices = [] }
+smallest = record { version = One; cap = 2; pages = 1; rule = Held; rows = []; programs = []; choices = [] }
 
 abbrev lines : List (List ℕ) → List ℕ
 lines texts = flat_map line_of texts
@@ -37,7 +38,7 @@ smallest-listing = refl
 
 abbrev first_run : Scenario
 first_run = record {
-  version = 1;
+  version = One;
   cap = 4;
   pages = 4;
   rule = Held;
