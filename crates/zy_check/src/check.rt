@@ -67,7 +67,9 @@ pub fn check<S: Source>(alloc: Global, source: &mut S) -> Result<Verdict, CheckF
     ensures accepted { IfOk result (λ v. IfSome (S.left source.old) (λ told. input_fault (cut_spec told) ≡ None)) }
     // The input is read whole; only where it has more than 4194304 bytes is it too long, and then one byte more is read.
     ensures input { ReadsInput (S.left source.old) (S.left source.new) result }
-    // Read comes just where a call failed.
+    // Whatever the reader tells of its bytes, its calls give at most one more than the longest input has.
+    ensures bound { S.given source.new ≤ S.given source.old + 4194305 }
+    // Read comes if and only if a call failed.
     ensures reads { S.failures source.new ≡ S.failures source.old + failed_reads result }
 {
     let bytes = read_all(alloc, source)?;

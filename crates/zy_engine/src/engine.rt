@@ -1,5 +1,5 @@
 //! The engines: bytes in, bytes out.
-ghost use Rattle.std.specs.Prelude.{◌<◌};
+ghost use Rattle.std.specs.Prelude.{◌<◌, ◌≤◌, ◌+◌};
 ghost use Rattle.zy_isa.specs.Canon.{canon};
 ghost use Rattle.zy_image.specs.Image.{image_of};
 ghost use Rattle.zy_engine.specs.declared.format.Format.TheVariants.{Text, Image};
@@ -23,10 +23,12 @@ pub fn run_bytes<S: Source, K: Sink>(
 ) -> Result<(), BenchFault>
     requires source { S.failures source.old < u64.MAX }
     requires sink { K.failures sink.old < u64.MAX }
-    ensures { Converts format listing_run
+    ensures converts { Converts format listing_run
         (record { left = S.left source.old; written = K.written sink.old; reads = S.failures source.old; writes = K.failures sink.old })
         (record { left = S.left source.new; written = K.written sink.new; reads = S.failures source.new; writes = K.failures sink.new })
         result }
+    // Whatever the reader tells of its bytes, its calls give at most one more than the longest input has.
+    ensures bound { S.given source.new ≤ S.given source.old + 4194305 }
 {
     convert(alloc, format, &Listing, source, sink)
 }
@@ -39,10 +41,12 @@ pub fn asm_bytes<S: Source, K: Sink>(
 ) -> Result<(), BenchFault>
     requires source { S.failures source.old < u64.MAX }
     requires sink { K.failures sink.old < u64.MAX }
-    ensures { Converts Text image_of
+    ensures converts { Converts Text image_of
         (record { left = S.left source.old; written = K.written sink.old; reads = S.failures source.old; writes = K.failures sink.old })
         (record { left = S.left source.new; written = K.written sink.new; reads = S.failures source.new; writes = K.failures sink.new })
         result }
+    // Whatever the reader tells of its bytes, its calls give at most one more than the longest input has.
+    ensures bound { S.given source.new ≤ S.given source.old + 4194305 }
 {
     convert(alloc, Format::Text, &Saved, source, sink)
 }
@@ -55,10 +59,12 @@ pub fn dis_bytes<S: Source, K: Sink>(
 ) -> Result<(), BenchFault>
     requires source { S.failures source.old < u64.MAX }
     requires sink { K.failures sink.old < u64.MAX }
-    ensures { Converts Image canon
+    ensures converts { Converts Image canon
         (record { left = S.left source.old; written = K.written sink.old; reads = S.failures source.old; writes = K.failures sink.old })
         (record { left = S.left source.new; written = K.written sink.new; reads = S.failures source.new; writes = K.failures sink.new })
         result }
+    // Whatever the reader tells of its bytes, its calls give at most one more than the longest input has.
+    ensures bound { S.given source.new ≤ S.given source.old + 4194305 }
 {
     convert(alloc, Format::Image, &Canonical, source, sink)
 }
@@ -73,10 +79,12 @@ fn convert<S: Source, K: Sink, O: Output>(
 ) -> Result<(), BenchFault>
     requires source { S.failures source.old < u64.MAX }
     requires sink { K.failures sink.old < u64.MAX }
-    ensures { Converts format (O.bytes output.now)
+    ensures converts { Converts format (O.bytes output.now)
         (record { left = S.left source.old; written = K.written sink.old; reads = S.failures source.old; writes = K.failures sink.old })
         (record { left = S.left source.new; written = K.written sink.new; reads = S.failures source.new; writes = K.failures sink.new })
         result }
+    // Whatever the reader tells of its bytes, its calls give at most one more than the longest input has.
+    ensures bound { S.given source.new ≤ S.given source.old + 4194305 }
 {
     let bytes = read_all(alloc, source)?;
     let scenario = accept(alloc, format, bytes.as_slice())?;

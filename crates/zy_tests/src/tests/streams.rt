@@ -14,11 +14,11 @@ use zy_io::section::{Both, Each, One, Parts, Section, write_line, write_lines, w
 use zy_io::stream::{CountingReader, CountingWriter, Sink, Source};
 use zy_io::writing::{TextFault, WriteFault, write_all};
 
-/// Gives so many bytes, and counts them.
+/// Gives as many bytes as are left, and counts them.
 #[derive(Drop)]
 struct Plenty {
     left: usize,
-    given: usize,
+    given: u64,
 }
 
 impl Source for Plenty {
@@ -26,10 +26,12 @@ impl Source for Plenty {
 
     ghost failures = { λ _. 0 };
 
+    ghost given = { λ s. s.given };
+
     fn pull(&mut self, buffer: &mut [u8]) -> io::Result<usize> {
         let count = buffer.len().min(self.left);
         self.left -= count;
-        self.given = self.given.saturating_add(count);
+        self.given = self.given.saturating_add(count as u64);
         Ok(count)
     }
 }
