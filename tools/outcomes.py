@@ -6,6 +6,7 @@ import re
 import bench
 
 FORMATS = os.path.join(bench.TOP, 'docs', 'formats.md')
+TABLE = os.path.join(bench.TOP, 'docs', 'step-table.md')
 
 # How a letter that stands for a number is read out: P is the number of a page, and so on.
 NOUNS = {'P': 'page', 'T': 'transaction'}
@@ -56,3 +57,40 @@ def meanings(outcomes):
     known = list(patterns())
     return {outcome: next((filled(meaning, letters) for pattern, meaning in known
                            for letters in [matched(pattern, outcome)] if letters is not None), '') for outcome in outcomes}
+
+
+def table_rows():
+    """(choice and condition, change, outcomes) of each row of the step table that has an outcome."""
+    with open(TABLE, encoding='utf-8') as file:
+        lines = file.read().split('\n')
+    head, above = None, {}
+    for line in lines:
+        cells = [cell.strip() for cell in line.strip('|').split('|')] if line.startswith('|') else None
+        if not cells or 'Outcome' in cells:
+            head, above = cells, {}
+        elif head and not line.startswith('|---'):
+            row = dict(zip(head, cells))
+            above = {name: row[name] or above.get(name, '') for name in head[:head.index('Change')]}
+            yield ', '.join(filter(None, above.values())), row['Change'], re.findall('`([^`]+)`', row['Outcome'])
+
+
+def words_in(outcome):
+    """The words of an outcome without its numbers and the letters that stand for them."""
+    return [word for word in outcome.split(' ! ')[0].split() if len(word) > 1 and not word.isdigit()]
+
+
+def explained(outcome):
+    """What an outcome means, and each line of the step table that gives it; nothing for what is no outcome."""
+    wanted = words_in(outcome)
+    if not wanted:
+        return []
+    meant = [meaning for meaning in [meanings({outcome})[outcome]] if meaning] or [
+        '%s: %s' % (pattern, meaning) for pattern, meaning in patterns() if words_in(pattern) == wanted]
+    rows = ['  where %s: %s' % (where, change or 'nothing changes') for where, change, given in table_rows()
+            if any(words_in(word) == wanted for word in given)]
+    return [plain(line) for line in meant + rows]
+
+
+def plain(line):
+    """A line of the docs without its marks and links."""
+    return re.sub(r'\[([^]]*)\]\([^)]*\)', r'\1', line).replace('`', '')

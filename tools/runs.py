@@ -164,10 +164,10 @@ def numbered(found, word):
     return [Timeline(found[word, str(number)]) for number in range(count)]
 
 
-def read(text, words=()):
-    """The run of the scenario part of a text; `words` go to the program behind `trace`."""
+def read(text, quiet=False):
+    """The run of the scenario part of a text; `quiet` is for the program's words on standard error."""
     part, _ = bench.cut(text)
-    return Run(bench.ask(['trace', *words], part.encode(**bench.BYTES)), bench.names_of(part))
+    return Run(bench.ask(['trace'], part.encode(**bench.BYTES), quiet=quiet), bench.names_of(part))
 
 
 def read_image(image):

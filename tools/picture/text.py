@@ -18,7 +18,7 @@ def text(picture, part):
     rows = [['step', 'client', opening[0], 'messages', opening[1]]]
     rows += [row_of(run, first, last) for first, last in picture.rows.rows[1:] if part[0] <= last and first <= part[1]]
     widths = [max(len(row[lane]) for row in rows) for lane in range(len(LANES))]
-    return ''.join(line_of(row, widths) + '\n' for row in rows) + '\n' + ''.join(line + '\n' for line in summary(picture))
+    return ''.join(line_of(row, widths) + '\n' for row in rows) + '\n' + ''.join(line + '\n' for line in summary(run, picture.verdict))
 
 
 def line_of(row, widths):
@@ -64,9 +64,9 @@ def put_step(run, step, cells):
         cells['client'] = '%s: %s' % (('%s %s' % (step.action, name)).strip(), step.outcome)
 
 
-def summary(picture):
+def summary(run, verdict):
     """The run in some lines: outcomes, transactions, pages, messages that are on their way, the migration, the verdict."""
-    run, last = picture.run, len(picture.run.steps)
+    last = len(run.steps)
     counted = Counter(step.outcome.split()[0] for step in run.steps)
     yield '%d steps: %s' % (last, ', '.join('%s %d' % pair for pair in counted.most_common()) or 'none')
     yield from transactions(run)
@@ -76,7 +76,7 @@ def summary(picture):
     waiting = ['%s %s' % (message.link, message.text) for message in run.messages if message.taken is None]
     yield 'messages on their way: ' + (', '.join(waiting) or 'none')
     yield 'migration: ' + migration(run)
-    yield picture.verdict
+    yield verdict
 
 
 def transactions(run):
