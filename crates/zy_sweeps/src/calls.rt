@@ -206,7 +206,7 @@ pub fn answered(answers: Answers, again: bool) -> Found {
     }
 }
 
-/// Makes all calls, and tells what is found.
+/// What is found of all calls, made in order.
 pub fn sweep<C: Calls>(calls: &mut C) -> Found {
     let mut digest = Digest::new();
     let mut again = false;

@@ -155,9 +155,9 @@ impl Noting {
 impl Gate for Noting {
     fn before(&self, actor: Actor, k: usize, last: Option<&Entry>) {
         let place = self.next.fetch_add(1, Ordering::SeqCst);
-        if place < self.calls.len() as u64 {
+        if let Some(note) = self.calls.get(place as usize) {
             let last = last.copied();
-            let _ = self.calls[place as usize].try_set(Call { actor, k, last });
+            let _ = note.try_set(Call { actor, k, last });
         }
     }
 }

@@ -67,7 +67,7 @@ fn sweep<R: Input + AllocGlobal + Threads + Wait + Sync>(
     swept(rt, name, rt.alloc(), input.as_slice())
 }
 
-/// What is found, and whether the digest is wanted too.
+/// What is found, and whether the digest is printed too.
 #[derive(Clone, Copy)]
 struct Report {
     found: Found,
@@ -85,7 +85,7 @@ fn words<R: AllocGlobal + Env>(rt: &R) -> Result<Vec<String>, Refused> {
     }
 }
 
-/// Makes the sweep that the first word behind the program's name tells. With a further word its digest is wanted.
+/// Makes the sweep that the first word after the program's name names. A further word asks for its digest.
 fn asked<R: Input + AllocGlobal + Env + Threads + Wait + Sync>(rt: &R) -> Result<Report, Refused> {
     let words = words(rt)?;
     let Some(name) = words.get(1) else {

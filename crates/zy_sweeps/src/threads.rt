@@ -73,7 +73,7 @@ fn digest_of_turns(machine: &Machine) -> u64 {
     digest.value()
 }
 
-/// What is right of a machine that three threads made under a gate.
+/// The digest of a machine that three threads made under a gate, where it and the calls are as they should be.
 fn look_at(alloc: Global, machine: &Machine, gate: &Noting) -> Result<u64, Refused> {
     if !gate.is_quiet() || !gate.is_whole(machine.scenario().choices(), machine.entries()) {
         return Err(Refused::Different);
@@ -82,7 +82,7 @@ fn look_at(alloc: Global, machine: &Machine, gate: &Noting) -> Result<u64, Refus
     Ok(digest_of_turns(machine))
 }
 
-/// What is right of a gate after want of memory.
+/// The refusal of a run that was out of memory, where its gate was called as it should be.
 fn look_at_cut(gate: &Noting, choices: &[Choice]) -> Refused {
     if gate.is_quiet() && gate.is_cut(choices) {
         Refused::Memory
@@ -91,7 +91,7 @@ fn look_at_cut(gate: &Noting, choices: &[Choice]) -> Refused {
     }
 }
 
-/// The machine that three threads make under a gate.
+/// Lets three threads make a machine under a gate, and looks at it.
 fn run_under<R: Threads + Wait + Sync>(
     rt: &R,
     alloc: Global,
