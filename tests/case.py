@@ -137,6 +137,13 @@ def all_refused():
     return [Refused(line) for line in lines_of(REFUSED)] + [RefusedImage(line) for line in lines_of(REFUSED_IMAGES)]
 
 
+def refuser(folder):
+    """tests/refuse.c, which is preloaded, compiled into a folder."""
+    source, made = os.path.join(TOP, 'tests', 'refuse.c'), os.path.join(folder, 'refuse.so')
+    subprocess.run([os.environ.get('CC', 'cc'), '-O2', '-shared', '-fPIC', '-o', made, source], check=True)
+    return made
+
+
 def is_built():
     """Whether the program is there, once ./zy_bench has built it where it was not."""
     words = [os.path.join(TOP, 'zy_bench'), '--version']

@@ -42,3 +42,4 @@ pub mod Travel
 pub mod OneWay
 pub mod Between
 pub mod RoomAtCommit
+pub mod Reordered

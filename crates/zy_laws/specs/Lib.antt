@@ -4,3 +4,4 @@ pub mod Travel
 pub mod Between
 pub mod Counts
 pub mod Throughout
+pub mod Orders

@@ -1,5 +1,5 @@
 //! The state of both nodes.
-ghost use Rattle.std.specs.Prelude.{◌≡◌, ◌≤◌, ◌<◌, IfOk, length};
+ghost use Rattle.std.specs.Prelude.{◌≡◌, ◌≤◌, ◌<◌, IfOk, OnOk, OnErr, length};
 ghost use Rattle.zy_isa.specs.declared.node.Node.TheVariants.{A};
 ghost use Rattle.zy_table.specs.State.{facing};
 ghost use Rattle.zy_table.specs.Client.{start_row as start_row_spec, begin_row as begin_row_spec, kill_row as kill_row_spec};
@@ -35,7 +35,7 @@ pub(crate) struct Store {
 }
 
 impl Store {
-    /// The same state once more.
+    /// A copy of the state.
     pub(crate) fn copy(&self, alloc: Global) -> Result<Store, AllocError>
         ensures state { IfOk result (λ copy. shown copy ≡ shown self.now) }
         ensures limits { IfOk result (λ copy. limits_in copy ≡ limits_in self.now) }
@@ -44,6 +44,22 @@ impl Store {
         let b = self.b.copy(alloc)?;
         let book = self.book.copy(alloc)?;
         Ok(Store { alloc, a, b, book })
+    }
+
+    /// Becomes a copy of another state. Where memory is refused nothing changes.
+    pub(crate) fn set_to(&mut self, other: &Store) -> Result<(), AllocError>
+        ensures ok { OnOk result (shown self.new ≡ shown other.now) }
+        ensures err { OnErr result (shown self.new ≡ shown self.old) }
+        ensures limits { OnOk result (limits_in self.new ≡ limits_in other.now) }
+        ensures kept { OnErr result (limits_in self.new ≡ limits_in self.old) }
+    {
+        let a = other.a.copy_parts(self.alloc)?;
+        let b = other.b.copy_parts(self.alloc)?;
+        let book = other.book.copy(self.alloc)?;
+        self.a.set_to(&other.a, a);
+        self.b.set_to(&other.b, b);
+        self.book = book;
+        Ok(())
     }
 
     /// The lines of a node's run.

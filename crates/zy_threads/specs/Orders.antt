@@ -1,13 +1,9 @@
 -- A scenario whose choices were made in another order.
-use Rattle.std.specs.Prelude.{◌≡◌, List}
-use Rattle.zy_isa.specs.declared.choice.Choice.{Choice}
+use Rattle.std.specs.Prelude.{◌≡◌}
 use Rattle.zy_isa.specs.Scenario.{Scenario}
 use Rattle.zy_table.specs.Play.{play, opening, entries}
 use Rattle.zy_machine.specs.Histories.{History}
-
--- the same but for its choices, which are these
-abbrev pub reordered : Scenario → List Choice → Scenario
-reordered sc order = record sc { choices = order }
+pub use Rattle.zy_laws.specs.Orders.{reordered}
 
 -- the state and the steps are those of the scenario's run by one thread
 abbrev pub IsRunOf : Scenario → History → Type 0

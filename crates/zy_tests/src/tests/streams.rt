@@ -234,20 +234,3 @@ fn faults_are_told_in_words(rt: HostRuntime) -> Result<(), Fail> {
     assert_eq!(rt; told.as_str(), wanted);
     Ok(())
 }
-
-/// Any of its growths may be refused: what is left of the source is an end of it.
-#[test]
-fn refused_reading(rt: HostRuntime) {
-    let input = [7u8; 20_000];
-    let mut source = SliceSource::new(input.as_slice());
-    match read_all(rt.alloc(), &mut source) {
-        Ok(bytes) => {
-            assert_eq!(rt; bytes.as_slice(), input.as_slice());
-            assert!(rt; source.left().is_empty());
-        }
-        Err(fault) => {
-            assert_eq!(rt; fault, ReadFault::Memory);
-            assert!(rt; input.ends_with(source.left()));
-        }
-    }
-}

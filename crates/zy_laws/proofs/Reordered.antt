@@ -1,0 +1,84 @@
+-- A step, and so a run, does not ask for the choices that the scenario itself names.
+use Rattle.std.proofs.Common.{◌≡◌, ◌∙◌, ℕ, List, [], ◌∷◌, Option, Some, None, refl, ap, slice_get}
+use Rattle.zy_isa.specs.declared.node.Node.{Node}
+use Rattle.zy_isa.specs.declared.instr.Instr.{Instr}
+use Rattle.zy_isa.specs.declared.instr.Instr.TheVariants.{Set, Read, Write, Insert, Add, Sum, Beq, Commit, Abort}
+use Rattle.zy_isa.specs.declared.choice.Choice.{Choice}
+use Rattle.zy_isa.specs.declared.choice.Choice.TheVariants.{Start, Begin, Kill, Run, Take, Finish, Push}
+use Rattle.zy_isa.specs.Scenario.{Scenario}
+use Rattle.zy_links.specs.Messages.{Message, Wire, Ready, Dual, Pull, Page, Finish as FinishMessage, Done}
+use Rattle.zy_modes.specs.declared.table.MsgRow.{MsgRow}
+use Rattle.zy_modes.specs.declared.table.MsgRow.TheVariants.{Stray, Turns}
+use Rattle.zy_table.specs.declared.access.Access.{Access}
+use Rattle.zy_table.specs.declared.access.Access.TheVariants.{Reads, Writes, Inserts}
+use Rattle.zy_table.specs.State.{State, View, Step, facing, as_step}
+use Rattle.zy_table.specs.Change.{txn_at}
+use Rattle.zy_table.specs.Run.{run_row, instr_row, key_row, page_row, access_row, insert_row, full_row, split_row, program_of}
+use Rattle.zy_table.specs.Take.{take_row, front_row, message_row, pull_row, mode_row}
+use Rattle.zy_laws.specs.Orders.{reordered}
+use Rattle.zy_table.specs.Play.{opening, move, step, play, entries, entry_of}
+
+key : (sc : Scenario) (order : List Choice) (t : ℕ) (x : Access) (k : ℕ) (s : View) → key_row (reordered sc order) t x k s ≡ key_row sc t x k s
+unfolding key_row page_row access_row insert_row full_row split_row
+key sc order t (Reads r) k s = refl
+key sc order t (Writes v) k s = refl
+key sc order t (Inserts v) k s = refl
+
+instr : (sc : Scenario) (order : List Choice) (t : ℕ) (i : Option Instr) (regs : List ℕ) (s : View) → instr_row (reordered sc order) t i regs s ≡ instr_row sc t i regs s
+unfolding instr_row
+instr sc order t None regs s = refl
+instr sc order t (Some (Set r v)) regs s = refl
+instr sc order t (Some (Add r q)) regs s = refl
+instr sc order t (Some (Sum r q)) regs s = refl
+instr sc order t (Some (Beq r q to)) regs s = refl
+instr sc order t (Some Abort) regs s = refl
+instr sc order t (Some Commit) regs s = refl
+instr sc order t (Some (Read r q)) regs s = (key sc order t _ _ s)
+instr sc order t (Some (Write r q)) regs s = (key sc order t _ _ s)
+instr sc order t (Some (Insert r q)) regs s = (key sc order t _ _ s)
+
+run : (sc : Scenario) (order : List Choice) (n : Node) (t : ℕ) (s : View) → run_row (reordered sc order) n t s ≡ run_row sc n t s
+unfolding run_row
+run sc order n t s = (rw (instr sc order t (slice_get (program_of sc t) (txn_at s t).pc) (txn_at s t).regs s) refl)
+
+pull : (sc : Scenario) (order : List Choice) (p : ℕ) (row : MsgRow) (s r : View) → pull_row (reordered sc order) p row s r ≡ pull_row sc p row s r
+unfolding pull_row
+pull sc order p Stray s r = refl
+pull sc order p (Turns mode sent) s r = refl
+
+message : (sc : Scenario) (order : List Choice) (m : Message) (s r : View) → message_row (reordered sc order) m s r ≡ message_row sc m s r
+unfolding message_row
+message sc order (Wire lows) s r = refl
+message sc order Ready s r = refl
+message sc order Dual s r = refl
+message sc order (Pull p) s r = (pull sc order p (mode_row (Pull p) s) s r)
+message sc order (Page leaf) s r = refl
+message sc order FinishMessage s r = refl
+message sc order Done s r = refl
+
+front : (sc : Scenario) (order : List Choice) (ms : List Message) (s : View) → front_row (reordered sc order) ms s ≡ front_row sc ms s
+unfolding front_row
+front sc order [] s = refl
+front sc order (m ∷ ms) s = (message sc order m s (record s { inbox = ms }))
+
+pub one : (sc : Scenario) (order : List Choice) (c : Choice) (s : State) → step (reordered sc order) c s ≡ step sc c s
+unfolding step move take_row
+one sc order Start s = refl
+one sc order (Begin t) s = refl
+one sc order (Kill t) s = refl
+one sc order (Run n t) s = (ap (as_step n) (run sc order n t (facing n s)))
+one sc order (Take n) s = (ap (as_step n) (front sc order (facing n s).inbox (facing n s)))
+one sc order (Finish n) s = refl
+one sc order (Push n) s = refl
+
+pub play-reordered : (sc : Scenario) (order : List Choice) (s : State) (cs : List Choice) → play (reordered sc order) s cs ≡ play sc s cs
+play-reordered sc order s [] = refl
+play-reordered sc order s (c ∷ cs) = ap (λ (x : Step). play (reordered sc order) x.after cs) (one sc order c s) ∙ play-reordered sc order (step sc c s).after cs
+
+pub entries-reordered : (sc : Scenario) (order : List Choice) (s : State) (cs : List Choice) → entries (reordered sc order) s cs ≡ entries sc s cs
+entries-reordered sc order s [] = refl
+entries-reordered sc order s (c ∷ cs) = ap (λ (x : Step). entry_of c x ∷ entries (reordered sc order) x.after cs) (one sc order c s) ∙ ap (λ es. entry_of c (step sc c s) ∷ es) (entries-reordered sc order (step sc c s).after cs)
+
+pub opening-reordered : (sc : Scenario) (order : List Choice) → opening (reordered sc order) ≡ opening sc
+unfolding opening
+opening-reordered sc order = refl
