@@ -9,6 +9,12 @@ use zy_isa::scenario::Scenario;
 use zy_machine::machine::Machine;
 use zy_table::entry::Entry;
 
+/// The choices of a text.
+pub fn choices(alloc: Global, text: &[u8]) -> Result<Vec<Choice>, Refused> {
+    let scenario = scenario(alloc, text)?;
+    prepared(scenario.choices().to_vec(alloc))
+}
+
 /// The machine that has made all choices of a text.
 pub fn machine(alloc: Global, text: &[u8]) -> Result<Machine, Refused> {
     prepared(Machine::run_all(alloc, scenario(alloc, text)?))
@@ -117,6 +123,33 @@ impl Calls for Sharing {
     }
 }
 
+/// All choices of a text but the fourth.
+fn choices_apart(alloc: Global, text: &[u8]) -> Result<Vec<Choice>, Refused> {
+    let mut choices = choices(alloc, text)?;
+    if choices.len() > 3 {
+        let _ = choices.remove(3);
+    }
+    Ok(choices)
+}
+
+/// A machine that is to make the choices of a text.
+fn opened(alloc: Global, text: &[u8]) -> Result<Machine, Refused> {
+    let scenario = scenario(alloc, text)?;
+    prepared(Machine::open(alloc, scenario))
+}
+
+/// The machine that has made all choices of a text, with a history that others can go along.
+fn shared(alloc: Global, text: &[u8]) -> Result<Machine, Refused> {
+    let machine = machine(alloc, text)?;
+    prepared(machine.share(alloc))
+}
+
+/// A machine at the start of such a history.
+fn reopened(alloc: Global, text: &[u8]) -> Result<Machine, Refused> {
+    let shared = shared(alloc, text)?;
+    prepared(shared.reopen(alloc))
+}
+
 fn sweep_open(alloc: Global, input: &[u8]) -> Result<Found, Refused> {
     let scenario = scenario(alloc, input)?;
     Ok(sweep(&mut Opening { alloc, scenario }))
@@ -127,26 +160,25 @@ fn sweep_run_all(alloc: Global, input: &[u8]) -> Result<Found, Refused> {
     Ok(sweep(&mut Running { alloc, scenario }))
 }
 
+fn sweep_choices(machine: Machine, choices: Vec<Choice>) -> Found {
+    sweep(&mut Stepping { machine, choices })
+}
+
 fn sweep_step(alloc: Global, input: &[u8]) -> Result<Found, Refused> {
-    let scenario = scenario(alloc, input)?;
-    let choices = prepared(scenario.choices().to_vec(alloc))?;
-    let machine = prepared(Machine::open(alloc, scenario))?;
-    Ok(sweep(&mut Stepping { machine, choices }))
+    let choices = choices(alloc, input)?;
+    let machine = opened(alloc, input)?;
+    Ok(sweep_choices(machine, choices))
 }
 
 /// A machine goes along a history that another one shares with it, but for the fourth choice.
 fn sweep_step_apart(alloc: Global, input: &[u8]) -> Result<Found, Refused> {
-    let shared = prepared(machine(alloc, input)?.share(alloc))?;
-    let mut choices = prepared(shared.scenario().choices().to_vec(alloc))?;
-    if choices.len() > 3 {
-        let _ = choices.remove(3);
-    }
-    let machine = prepared(shared.reopen(alloc))?;
-    Ok(sweep(&mut Stepping { machine, choices }))
+    let choices = choices_apart(alloc, input)?;
+    let machine = reopened(alloc, input)?;
+    Ok(sweep_choices(machine, choices))
 }
 
 fn sweep_reopen(alloc: Global, input: &[u8]) -> Result<Found, Refused> {
-    let machine = prepared(machine(alloc, input)?.share(alloc))?;
+    let machine = shared(alloc, input)?;
     Ok(sweep(&mut Reopening { alloc, machine }))
 }
 

@@ -2,6 +2,7 @@
 
 use crate::calls::{Calls, Fault, Found, Refused, prepared, sweep, tested};
 use crate::digest::{Digest, Digested, digest_of};
+use crate::machines::choices;
 use crate::scenarios::scenario;
 use std::alloc::Global;
 use zy_check::cut::cut_len;
@@ -138,10 +139,16 @@ fn sweep_debugger(alloc: Global, input: &[u8]) -> Result<Found, Refused> {
     Ok(sweep(&mut OpeningDebugger { alloc, scenario }))
 }
 
+/// A debugger of a text's scenario.
+fn debugger(alloc: Global, text: &[u8]) -> Result<Debugger, Refused> {
+    let scenario = scenario(alloc, text)?;
+    prepared(Debugger::open(alloc, scenario, EVERY, RING))
+}
+
 fn sweep_commands(alloc: Global, input: &[u8]) -> Result<Found, Refused> {
     let (part, below) = input.split_at(cut_len(input));
     let commands = commands_of(alloc, below)?;
-    let debugger = prepared(Debugger::open(alloc, scenario(alloc, part)?, EVERY, RING))?;
+    let debugger = debugger(alloc, part)?;
     Ok(sweep(&mut Commanding { debugger, commands }))
 }
 
@@ -150,10 +157,15 @@ fn sweep_board(alloc: Global, input: &[u8]) -> Result<Found, Refused> {
     Ok(sweep(&mut OpeningBoard { alloc, scenario }))
 }
 
+/// A board of a text's scenario.
+fn board(alloc: Global, text: &[u8]) -> Result<Board, Refused> {
+    let scenario = scenario(alloc, text)?;
+    prepared(Board::new(alloc, scenario))
+}
+
 fn sweep_turns(alloc: Global, input: &[u8]) -> Result<Found, Refused> {
-    let scenario = scenario(alloc, input)?;
-    let choices = prepared(scenario.choices().to_vec(alloc))?;
-    let board = prepared(Board::new(alloc, scenario))?;
+    let choices = choices(alloc, input)?;
+    let board = board(alloc, input)?;
     Ok(sweep(&mut Turning { board, choices }))
 }
 

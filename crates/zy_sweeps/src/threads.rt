@@ -4,6 +4,7 @@ ghost use Rattle.std.specs.Prelude.{◌<◌};
 use crate::calls::{Answers, Found, Refused, again, answered, prepared, tested};
 use crate::digest::Digest;
 use crate::gates::{ACTORS, Noting, SlowB};
+use crate::machines::choices;
 use crate::scenarios::scenario;
 use crate::texts::{Prefix, room};
 use std::alloc::Global;
@@ -106,9 +107,9 @@ fn run_under<R: Threads + Wait + Sync>(
 
 /// `Job::Run`.
 fn run<R: Threads + Wait + Sync>(rt: &R, alloc: Global, input: &[u8]) -> Result<u64, Refused> {
-    let scenario = scenario(alloc, input)?;
-    let choices = prepared(scenario.choices().to_vec(alloc))?;
+    let choices = choices(alloc, input)?;
     let gate = Noting::new(alloc, choices.len())?;
+    let scenario = scenario(alloc, input)?;
     match run_under(rt, alloc, scenario, &gate) {
         Err(Refused::Memory) => Err(look_at_cut(&gate, choices.as_slice())),
         answer => answer,
@@ -155,10 +156,10 @@ fn merged<R: Threads + Wait + Sync, G: Gate + Sync>(
 
 /// `Job::Slow`.
 fn slow<R: Threads + Wait + Sync>(rt: &R, alloc: Global, input: &[u8]) -> Result<u64, Refused> {
-    let scenario = scenario(alloc, input)?;
+    let choices = choices(alloc, input)?;
     let gate = SlowB::new();
     merged(rt, alloc, input, &gate)?;
-    if gate.is_spent(scenario.choices()) {
+    if gate.is_spent(choices.as_slice()) {
         Ok(0)
     } else {
         Err(Refused::Different)
@@ -167,12 +168,12 @@ fn slow<R: Threads + Wait + Sync>(rt: &R, alloc: Global, input: &[u8]) -> Result
 
 /// `Job::Noted`.
 fn noted<R: Threads + Wait + Sync>(rt: &R, alloc: Global, input: &[u8]) -> Result<u64, Refused> {
-    let scenario = scenario(alloc, input)?;
-    let gate = Noting::new(alloc, scenario.choices().len())?;
+    let choices = choices(alloc, input)?;
+    let gate = Noting::new(alloc, choices.len())?;
     match merged(rt, alloc, input, &gate) {
-        Ok(()) if gate.is_quiet() && gate.is_all(scenario.choices()) => Ok(0),
+        Ok(()) if gate.is_quiet() && gate.is_all(choices.as_slice()) => Ok(0),
         Ok(()) => Err(Refused::Different),
-        Err(Refused::Memory) => Err(look_at_cut(&gate, scenario.choices())),
+        Err(Refused::Memory) => Err(look_at_cut(&gate, choices.as_slice())),
         Err(refused) => Err(refused),
     }
 }
