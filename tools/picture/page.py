@@ -58,8 +58,13 @@ def notable(run, step):
 
 def chips(run):
     """The scenario's header and its sizes."""
-    pages = '%d page%s of at most %s' % (len(run.pages), '' if len(run.pages) == 1 else 's', run.limit)
-    return ['rule ' + run.rule, 'cap ' + run.cap, pages, '%d transactions' % len(run.txns), '%d steps' % len(run.steps)]
+    pages = '%s of at most %s' % (counted(len(run.pages), 'page'), run.limit)
+    return ['version ' + run.version, 'rule ' + run.rule, 'cap ' + run.cap, pages, counted(len(run.txns), 'transaction'),
+            counted(len(run.steps), 'step')]
+
+
+def counted(number, noun):
+    return '%d %s%s' % (number, noun, '' if number == 1 else 's')
 
 
 def verdict(picture):
