@@ -5,10 +5,11 @@ ghost use Rattle.zy_image.specs.Image.{image_of};
 ghost use Rattle.zy_engine.specs.declared.format.Format.TheVariants.{Text, Image};
 ghost use Rattle.zy_engine.specs.Engines.{Converts};
 ghost use Rattle.zy_audit.specs.Run.{listing_run};
+ghost use Rattle.zy_trace.specs.Trace.{trace};
 
 use crate::faults::BenchFault;
 use crate::format::{Format, accept};
-use crate::output::{Canonical, Listing, Output, Saved};
+use crate::output::{Canonical, Listing, Output, Saved, Trace};
 use std::alloc::Global;
 use zy_io::reading::read_all;
 use zy_io::stream::{Sink, Source};
@@ -31,6 +32,23 @@ pub fn run_bytes<S: Source, K: Sink>(
     ensures bound { S.given source.new ≤ S.given source.old + 4194305 }
 {
     convert(alloc, format, &Listing, source, sink)
+}
+
+/// Reads a scenario whole, makes its choices, and writes the trace: each step, and the lines of the state that it changed.
+pub fn trace_bytes<S: Source, K: Sink>(
+    alloc: Global,
+    format: Format,
+    source: &mut S,
+    sink: &mut K,
+) -> Result<(), BenchFault>
+    requires source { S.failures source.old < u64.MAX }
+    requires sink { K.failures sink.old < u64.MAX }
+    ensures { Converts format trace
+        (record { left = S.left source.old; written = K.written sink.old; reads = S.failures source.old; writes = K.failures sink.old })
+        (record { left = S.left source.new; written = K.written sink.new; reads = S.failures source.new; writes = K.failures sink.new })
+        result }
+{
+    convert(alloc, format, &Trace, source, sink)
 }
 
 /// Reads a scenario text whole, and writes its image.

@@ -2,8 +2,8 @@
 use Rattle.std.proofs.Common.{Err, ap, ◌∙◌}
 use Rattle.std.proofs.lemmas.Result.{err_from_is_err_and}
 use Rattle.zy_io.proofs.WritingLemmas.{Appended-element-stops}
-use Rattle.zy_console.specs.Replies.{lock_on}
-use Rattle.zy_console.proofs.shown.LocksOnLine.append.Goals as goal
+use Rattle.zy_audit.specs.Locked.{lock_on}
+use Rattle.zy_audit.proofs.lines.locked.LocksOnLine.append.Goals as goal
 
 pub returns-in_err-append : goal.returns-in_err-append
 returns-in_err-append c =
