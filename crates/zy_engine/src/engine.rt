@@ -43,10 +43,12 @@ pub fn trace_bytes<S: Source, K: Sink>(
 ) -> Result<(), BenchFault>
     requires source { S.failures source.old < u64.MAX }
     requires sink { K.failures sink.old < u64.MAX }
-    ensures { Converts format trace
+    ensures converts { Converts format trace
         (record { left = S.left source.old; written = K.written sink.old; reads = S.failures source.old; writes = K.failures sink.old })
         (record { left = S.left source.new; written = K.written sink.new; reads = S.failures source.new; writes = K.failures sink.new })
         result }
+    // Whatever the reader tells of its bytes, its calls give at most one more than the longest input has.
+    ensures bound { S.given source.new ≤ S.given source.old + 4194305 }
 {
     convert(alloc, format, &Trace, source, sink)
 }
