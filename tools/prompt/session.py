@@ -5,8 +5,9 @@ import re
 import bench
 import outcomes
 import runs
-from picture.text import summary
 from picture.looks import STUCK
+from picture.serial import differences, verdict_line
+from picture.text import summary
 
 # The most lines of the state that a move shows.
 MOST = 20
@@ -14,7 +15,7 @@ MOST = 20
 # The most choices of a scenario.
 LIMIT = 4096
 
-# After these outcomes a choice that is made again changes nothing by itself.
+# After these outcomes the same choice made again changes nothing, or waits for a page.
 STILL = STUCK + ('idle', 'elsewhere', 'badmode', 'nomessage', 'held', 'stray', 'active', 'nopush')
 
 ENDED = ('committed', 'aborted')
@@ -121,7 +122,7 @@ class Session:
         return str(self.run.names.index(word)) if word in self.run.names and word else word
 
     def summary(self):
-        return list(summary(self.run, self.run.verdict))
+        return list(summary(self.run, verdict_line(self.run, differences(self.run))))
 
     # ---- the schedule
 
@@ -186,6 +187,7 @@ def head_of(part):
 
 
 def is_enough(step, until):
-    """Whether a step is one that `until` waits for: the end of its transaction, or also a wait, or nothing."""
+    """Whether a step is one that `until` goes on to: the end of its transaction, or one that changes nothing when it is made again. A page that
+    is asked for is a wait, and not yet the last change on the way to an end."""
     word = step.outcome.split()[0]
-    return word in ENDED or until == 'wait' and word in STILL or word in ('idle', 'elsewhere', 'badmode')
+    return word in ENDED or word in STILL and (until == 'wait' or word != 'pulls')

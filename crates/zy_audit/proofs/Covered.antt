@@ -159,7 +159,7 @@ no_run table (r ∷ run) e = absurd (cc)
 abbrev pub is_kept : State → ℕ → ℕ → Bool
 is_kept s p k = nat_lt (home s k) p && is_some (stands s k)
 
--- their values are the table's, and so many of its rows have them
+-- their values are the table's, and as many of its rows have them
 pub record Covered (s : State) (p : ℕ) (table : List Row) (count : ℕ) : Type 0 where
   pub each : (k v : ℕ) → home s k < p → stands s k ≡ Some v → get_row table k ≡ Some v
   pub total : count ≡ counted (is_kept s p) table

@@ -29,7 +29,7 @@ entries-map_of low (r ∷ (q ∷ rows)) h =
     let lt : r.key < q.key = let a = h.1.0 in omega arith in
     entries-insert nat_cmp_total (map_of (q ∷ rows)) r.key r.value ∙ rw (entries-map_of (r.key + 1) (q ∷ rows) h.1, lt-ltb r.key q.key lt)
 
--- a list of entries is the same as itself, and no other is
+-- a list of entries is the same as itself, and as nothing else
 same_itself : (xs : List (ℕ × ℕ)) → pointwise same_entry xs xs ≡ true
 same_itself [] = refl
 same_itself (x ∷ xs) = rw (eq-eqb x.0 x.0 refl, eq-eqb x.1 x.1 refl) (same_itself xs)

@@ -33,7 +33,7 @@ pub length-taken : (es : List Entry) → length (map choice_text (choices_of es)
 length-taken [] = refl
 length-taken (e ∷ es) = ap (λ n. suc n) (length-taken es)
 
--- what is told of the line at a place of the list is told of its step
+-- what holds of the line at a place of the list holds of its step
 pub step-line : (P : List ℕ → Type 0) (k : ℕ) (d : Entry) (es : List Entry) → k < length (step_texts 1 es) → P (step_text (k + 1) (get_or es k d)) → P (get_or (step_texts 1 es) k [])
 step-line P k d es h told =
     let lt : k < length es = omega (arith, h, length-steps 1 es) in

@@ -165,7 +165,7 @@ committed_text x place = codes " committed " ++ (node_text x.node ++ (codes " " 
 abbrev pub aborted_text : Txn → Why → List ℕ
 aborted_text x why = codes " aborted " ++ (node_text x.node ++ (codes " " ++ (why_text why ++ done_text x)))
 
--- what is told of t, by how far it is
+-- what the line says of t, by how far it is
 abbrev pub status_text : List CommitRec → ℕ → Txn → Status → List ℕ
 status_text commits t x New = codes " new"
 status_text commits t x Active = active_text x

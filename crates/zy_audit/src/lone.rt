@@ -16,7 +16,7 @@ use zy_isa::program::Program;
 use zy_page::row_list::RowList;
 use zy_table::sums::sum_of_rows;
 
-/// The rows that a program writes when it is run alone on a table, for so many instructions or to its end: none where it
+/// The rows that a program writes when it is run alone on a table, for this number of instructions or to its end: none where it
 /// gives up.
 pub(crate) fn written(
     alloc: Global,

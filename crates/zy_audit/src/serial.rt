@@ -36,7 +36,7 @@ pub fn serial(
 }
 
 impl Table {
-    /// Runs a program alone, for so many instructions or to its end, and lays over the table what it wrote.
+    /// Runs a program alone, for this number of instructions or to its end, and lays over the table what it wrote.
     fn run(&mut self, alloc: Global, program: &Program, done: u32) -> Result<(), AllocError>
         ensures { OnOk result (map_of self.new ≡ (alone (map_of self.old) program.now done).map) }
     {

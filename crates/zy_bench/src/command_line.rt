@@ -20,7 +20,7 @@ pub enum Request {
 pub struct Checkpoints {
     /// Copies stand at multiples of this, but for those close to the position.
     pub every: usize,
-    /// At most so many.
+    /// The most copies.
     pub ring: usize,
 }
 
@@ -49,7 +49,7 @@ macro_rules! below {
             $output,
             "; a fault is one line on standard error\n",
             "Status:  0 done, 1 the input is refused, 2 the command line is wrong,\n",
-            "         3 want of memory, 5 the input or the output failed\n",
+            "         3 out of memory, 5 the input or the output failed\n",
             "Formats: docs/formats.md\n\nExample:\n  ",
             $example
         )
@@ -127,7 +127,7 @@ fn check_command<'a>(alloc: Global) -> Command<'a> {
     Command::new(alloc, "check")
         .about("Reads a listing on standard input, and says whether it is right")
         .after_help(
-            "The scenario at its head, through its end line, is run. Where the input is its listing, byte\nfor byte, the output is table, else not table L: L is the first line of the input that differs,\nand standard error shows it.\n\nExample:\n  zy_bench run < examples/first_run.zephyr | zy_bench check\n\nStatus: 0 table, 1 the scenario is refused, 2 the command line is wrong,\n3 want of memory, 4 not table, 5 the input or the output failed.\nThe listing is told in docs/formats.md.",
+            "The scenario at its head, through its end line, is run. Where the input is its listing, byte\nfor byte, the output is table, else not table L: L is the first line of the input that differs,\nand standard error shows it.\n\nExample:\n  zy_bench run < examples/first_run.zephyr | zy_bench check\n\nStatus: 0 table, 1 the scenario is refused, 2 the command line is wrong,\n3 out of memory, 4 not table, 5 the input or the output failed.\nThe listing is told in docs/formats.md.",
         )
 }
 
@@ -146,7 +146,7 @@ fn debug_command<'a>(alloc: Global) -> Result<Command<'a>, AllocError> {
     Command::new(alloc, "debug")
         .about("Answers commands on the run of a scenario, one a line")
         .after_help(
-            "Input:   a scenario text through its end line, and below it commands, one a line;\n         at most 4194304 bytes\nOutput:  the replies; a fault is one line on standard error\nStatus:  0 done, 1 the scenario is refused, 2 the command line is wrong,\n         3 want of memory, 5 the input or the output failed\n\nCommands: step N, back N, goto N, cont, rcont, break page P, break mode, break abort,\nwatch K, delete I, page P, txn T, links, where. docs/debugger.md tells them all.\n\nA command replays from the copy nearest below its target, or from the start. The two numbers\nchange how long that takes and how much memory, and no reply.\n\nExample:\n  (cat examples/gone.zephyr; echo 'break abort'; echo cont) | zy_bench debug",
+            "Input:   a scenario text through its end line, and below it commands, one a line;\n         at most 4194304 bytes\nOutput:  the replies; a fault is one line on standard error\nStatus:  0 done, 1 the scenario is refused, 2 the command line is wrong,\n         3 out of memory, 5 the input or the output failed\n\nCommands: step N, back N, goto N, cont, rcont, break page P, break mode, break abort,\nwatch K, delete I, page P, txn T, links, where. docs/debugger.md tells them all.\n\nA command replays from the copy nearest below its target, or from the start. The two numbers\nchange how long that takes and how much memory, and no reply.\n\nExample:\n  (cat examples/gone.zephyr; echo 'break abort'; echo cont) | zy_bench debug",
         )
         .arg(every)?
         .arg(ring)

@@ -12,7 +12,7 @@ pub struct Excerpt<'a> {
 }
 
 impl<'a> Excerpt<'a> {
-    /// The line of this number, from 1, with its end, if the input has so many.
+    /// The line of this number, from 1, with its end, if the input has as many.
     pub fn of(input: &'a [u8], number: usize) -> Option<Excerpt<'a>> {
         let mut rest = input;
         for _ in 1..number {

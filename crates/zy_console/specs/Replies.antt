@@ -48,7 +48,7 @@ reply_text t c (reply.Set i) = line_of (codes "stop " ++ (decimal i ++ codes " s
 reply_text t c (reply.Deleted i) = line_of (codes "deleted " ++ decimal i)
 reply_text t c reply.Shown = shown_text t.position (length t.scenario.choices) (state_at t.scenario t.position) c
 
--- want of memory ends the session, and says nothing
+-- out of memory, the session ends, and says nothing
 abbrev pub refusal_text : DebugFault → List ℕ
 refusal_text fault.NoSuchStop = line_of (codes "no such stop")
 refusal_text fault.Range = line_of (codes "out of range")

@@ -44,7 +44,7 @@ fn append_reply(
     }
 }
 
-/// Appends why a command is refused. At want of memory there is no more to be said.
+/// Appends why a command is refused. Out of memory, there is no more to say.
 fn append_refusal(fault: DebugFault, line: &mut LineBuffer) -> Result<(), AllocError>
     ensures { OnOk result ((line.new ≡ line.old ++ refusal_text fault) × (fault ≢ DebugFault.Memory)) }
 {
@@ -56,7 +56,7 @@ fn append_refusal(fault: DebugFault, line: &mut LineBuffer) -> Result<(), AllocE
     }
 }
 
-/// Does a command, and puts what is to be said of it in place of what the buffer holds.
+/// Does a command, and puts the reply in place of what the buffer holds.
 fn obey(debugger: &mut Debugger, command: Command, line: &mut LineBuffer) -> Result<(), AllocError>
     ensures ok { OnOk result (Obeyed (refusal debugger.old command) debugger.old command debugger.new line.new) }
 {

@@ -11,7 +11,7 @@ use zy_io::stream::Sink;
 use zy_io::writing::{TextFault, write_all};
 use zy_words::line::{Words, take_line};
 
-/// Does the commands of a text, one a line, and writes what is to be said of each once it is done. It ends at the first call
+/// Does the commands of a text, one a line, and writes the reply to each once it is done. It ends at the first call
 /// that fails or takes no byte, and where there is no memory.
 pub fn write_session<K: Sink>(
     alloc: Global,

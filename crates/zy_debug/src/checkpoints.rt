@@ -39,7 +39,7 @@ pub(crate) fn farther<'a>(x: Option<&'a Machine>, y: Option<&'a Machine>) -> Opt
 }
 
 impl Checkpoints {
-    /// None yet, and room for so many.
+    /// None yet, and room for this number.
     pub fn new(alloc: Global, copies: Copies) -> Result<Checkpoints, AllocError>
         ensures room { IfOk result (λ c. c.spread.room + c.passed.room + c.close.room ≡ copies.spread + copies.passed + copies.close) }
         ensures none { (sc : AScenario) → IfOk result (HoldReplaysOf sc) }

@@ -23,7 +23,7 @@ fn above(position: usize, number: usize) -> usize {
     }
 }
 
-/// How far copies stand apart at multiples of a number, where so many are spread over so many choices.
+/// How far copies stand apart at multiples of a number, where a number of them is spread over a number of choices.
 fn stride(choices: usize, every: usize, spread: usize) -> usize {
     match choices.checked_div(every.saturating_mul(spread.saturating_add(1))) {
         Some(count) if spread != 0 => count.saturating_add(1).saturating_mul(every),

@@ -25,7 +25,7 @@ impl Model for Shelf {
 }
 
 impl Shelf {
-    /// None yet, and room for so many.
+    /// None yet, and room for this number.
     pub fn new(alloc: Global, room: usize) -> Result<Shelf, AllocError>
         ensures { IfOk result (λ s. s ≡ record { room = room; machines = [] }) }
     {

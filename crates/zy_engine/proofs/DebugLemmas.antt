@@ -34,7 +34,7 @@ part_is input part n front cuts = front ∙ ap (λ k. take k input) cuts ∙ cut
 pub below_is : (input below : List ℕ) (n : ℕ) → below ≡ drop n input → n ≡ length (cut input) → lines_of below ≡ commands_of input
 below_is input below n back cuts = ap lines_of (back ∙ ap (λ k. drop k input) cuts)
 
--- a reader that told these bytes and tells left now, and a writer that holds a; so many of their calls failed
+-- a reader that told these bytes and tells left now, and a writer that holds a; the numbers of their calls that failed
 abbrev streams : Option (List ℕ) → Option (List ℕ) → ℕ → ℕ → Streams
 streams left written reads writes = record { left = left; written = written; reads = reads; writes = writes }
 
@@ -75,7 +75,7 @@ module _ (told left a : Option (List ℕ)) (m n w : ℕ) where
   unaccepted bytes bench.Write same whole calls h = absurd h
   unaccepted bytes bench.Memory same whole calls h = record { written = tt; front = no_front; fault = tt; input = whole.0; accepted = tt; quiet = λ q. refl; silent = no_scenario; refused = no_right; reads = omega (arith, calls); writes = omega arith }
 
--- the scenario that the part of an input means, and no other
+-- the scenario that the part of an input means, alone
 pub record Accepted (bytes : List ℕ) (scenario : Scenario) : Type 0 where
   pub meant : Means (cut bytes) scenario
   pub only : (sc : Scenario) → Means (cut bytes) sc → scenario ≡ sc

@@ -26,7 +26,7 @@ Wrote-front a b m n (Ok x) text w = (text, [], sym (append-nil text), w.0)
 Wrote-front a b m n (Err Write) text w = w.0
 Wrote-front a b m n (Err Memory) text w = w.0
 
--- what went out is a front of the output of any scenario that the told bytes stand for
+-- what went out is a prefix of the output of any scenario that the told bytes stand for
 pub front-of-told : (format : Format) (output : Scenario → List ℕ) (told : Option (List ℕ)) (bytes : List ℕ) (a b : Option (List ℕ)) (scenario : Scenario)
     → IfSome told (λ t. bytes ≡ t) → ((s : Scenario) → StandsFor format bytes s → scenario ≡ s)
     → WroteFront a b (output scenario) → IfSome told (λ t. (sc : Scenario) → StandsFor format t sc → WroteFront a b (output sc))
@@ -46,7 +46,7 @@ pub unwritten-of-told : (format : Format) (told : Option (List ℕ)) (bytes : Li
 unwritten-of-told format None bytes a b same right = tt
 unwritten-of-told format (Some t) bytes a b same right = λ faulty. absurd (faulty (subst (HasNoFault format) same right))
 
--- what is told of the bytes holds of what the reader told
+-- what holds of the bytes holds of what the reader told
 pub told-of : (P : List ℕ → Type 0) (told : Option (List ℕ)) (bytes : List ℕ) → IfSome told (λ t. bytes ≡ t) → P bytes → IfSome told P
 told-of P None bytes same h = tt
 told-of P (Some t) bytes same h = subst P same h
@@ -134,7 +134,7 @@ converts-refused format output told left written reads after writes bytes f same
       writes = omega (arith, r.writes);
     }
 
--- what an engine answers where its output was written, or a front of it
+-- what an engine answers where its output was written, or a prefix of it
 abbrev pub of_wrote : Result (Unit {0}) TextFault → Result (Unit {0}) BenchFault
 of_wrote (Ok x) = Ok x
 of_wrote (Err f) = Err (of_writing f)

@@ -35,7 +35,7 @@ IsBefore Memory = Unit {0}
 
 -- A call that writes a text went from the bytes old and the number of failures before to new and after.
 module _ (old new : Option (List ℕ)) (before after : ℕ) where
-  -- at Ok all of the text went out; at Write a front of it, since a call failed or took none; at Memory nothing
+  -- at Ok all of the text went out; at Write a prefix of it, since a call failed or took none; at Memory nothing
   abbrev pub WroteOrNothing : {X : Type 0} → Result X TextFault → List ℕ → Type 0
   WroteOrNothing (Ok x) text = Appends old new text × (after ≡ before)
   WroteOrNothing (Err writing.Write) text = WroteFront old new text × (after ≡ before + 1)

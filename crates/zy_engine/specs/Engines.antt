@@ -18,9 +18,9 @@ pub record Streams : Type 0 where
 pub record Converts {X : Type 0} (format : Format) (output : Scenario → List ℕ) (old new : Streams) (result : Result X BenchFault) : Type 0 where
   -- at Ok the input stands for a scenario, and just its output went out
   pub written : OnOk result (IfSome old.left (λ told. (sc : Scenario) × StandsFor format told sc × Appends old.written new.written (output sc)))
-  -- whatever comes, nothing but a front of the output of a scenario that the input stands for went out
+  -- whatever comes, nothing but a prefix of the output of a scenario that the input stands for went out
   pub front : IfSome old.left (λ told. (sc : Scenario) → StandsFor format told sc → WroteFront old.written new.written (output sc))
-  -- a refused input is told by its first fault
+  -- a refused input is reported by its first fault
   pub fault : IfErr result (λ f. IfRefused f (IfSome old.left (λ told. IsRefusal format told f)))
   -- the input is read whole; only where it has more than 4194304 bytes is it too long, and then one byte more is read
   pub input : ReadsInput old.left new.left result

@@ -31,7 +31,7 @@ IsImageFault bytes (Image r) = image_fault bytes ≡ Some r.fault
 IsImageFault bytes Memory = Unit {0}
 IsImageFault bytes _ = ⊥
 
--- why an input is refused: its first fault, or want of memory
+-- why an input is refused: its first fault, or out of memory
 abbrev pub IsRefusal : Format → List ℕ → BenchFault → Type 0
 IsRefusal format.Text bytes f = IsTextFault bytes f
 IsRefusal format.Image bytes f = IsImageFault bytes f

@@ -61,12 +61,12 @@ pub fn check_bytes<S: Source, K: Sink>(
     ensures only { IfSome (S.left source.old) (λ told. (sc : AScenario) → length told ≤ 4194304
         → utf8_fault (cut told) ≡ None → Means (cut told) sc
         → GivesVerdict result (verdict_spec told (listing_run sc))) }
-    // Whatever comes, nothing but a front of the words of the input's verdict went out.
+    // Whatever comes, nothing but a prefix of the words of the input's verdict went out.
     ensures front { IfSome (S.left source.old) (λ told. (v : AVerdict) → IsVerdict told v
         → WroteFront (K.written sink.old) (K.written sink.new) (verdict_line v)) }
     // Only after a failed write may less than a verdict have gone out: before any other fault nothing is written.
     ensures quiet { IfErr result (λ f. IsBefore f → K.written sink.new ≡ K.written sink.old) }
-    // A refused scenario part is told by its first fault.
+    // A refused scenario part is reported by its first fault.
     ensures fault { IfErr result (λ f. IfRefused f (IfSome (S.left source.old) (λ told. IsTextFault (cut told) f))) }
     // What is accepted has no fault.
     ensures accepted { IfOk result (λ v. IfSome (S.left source.old) (λ told. input_fault (cut told) ≡ None)) }

@@ -15,7 +15,7 @@ use zy_io::stream::{Sink, Source};
 use zy_io::writing::TextFault;
 use zy_isa::scenario::Scenario;
 
-/// A session on a scenario: does the commands, one a line, and writes what is to be said of each.
+/// A session on a scenario: does the commands, one a line, and writes the reply to each.
 fn write_replies<K: Sink>(
     alloc: Global,
     scenario: Scenario,

@@ -35,7 +35,7 @@ pub enum BenchFault {
 }
 
 impl BenchFault {
-    /// The exit status: 1 where the input is refused, 3 for want of memory, 5 where reading or writing failed.
+    /// The exit status: 1 where the input is refused, 3 out of memory, 5 where reading or writing failed.
     pub fn status(self) -> u8
         ensures { result ≡ status_of self }
     {

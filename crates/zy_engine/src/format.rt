@@ -25,7 +25,7 @@ pub fn accept(alloc: Global, format: Format, bytes: &[u8]) -> Result<Scenario, B
     ensures found { IfOk result (λ s. StandsFor format bytes.now s × HasNoFault format bytes.now) }
     // It stands for no other.
     ensures only { IfOk result (λ s. (other : AScenario) → StandsFor format bytes.now other → s ≡ other) }
-    // What is refused is told by its first fault.
+    // What is refused is reported by its first fault.
     ensures fault { IfErr result (IsRefusal format bytes.now) }
 {
     match format {

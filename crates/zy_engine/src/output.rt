@@ -21,7 +21,7 @@ pub trait Output {
     // Its bytes.
     ghost bytes: { Self → AScenario → List ℕ };
 
-    /// Writes it, or a front of it.
+    /// Writes it, or a prefix of it.
     fn write<K: Sink>(
         &self,
         alloc: Global,

@@ -38,7 +38,7 @@ impl Stops {
         Stops { slots: [None; 16] }
     }
 
-    /// A stop more, in the lowest free slot, which is told; none where all are taken.
+    /// A stop more, in the lowest free slot, which is returned; none where all are taken.
     pub fn add(&mut self, stop: Stop) -> Option<usize>
         ensures slot { result ≡ free_slot self.old }
         ensures bound { IfSome result (λ i. i < 16) }

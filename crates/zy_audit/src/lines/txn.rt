@@ -49,7 +49,7 @@ impl Line for DoneText<'_> {
     }
 }
 
-/// What is told of one that runs.
+/// What the line says of one that runs.
 #[derive(Clone, Copy)]
 struct ActiveText<'a>(&'a Txn);
 
@@ -67,7 +67,7 @@ impl Line for ActiveText<'_> {
     }
 }
 
-/// What is told of one that was committed, with its place in commit order.
+/// What the line says of one that was committed, with its place in commit order.
 #[derive(Clone, Copy)]
 struct CommittedText<'a> {
     txn: &'a Txn,
@@ -83,7 +83,7 @@ impl Line for CommittedText<'_> {
     }
 }
 
-/// What is told of one that was aborted.
+/// What the line says of one that was aborted.
 #[derive(Clone, Copy)]
 struct AbortedText<'a> {
     txn: &'a Txn,
@@ -99,7 +99,7 @@ impl Line for AbortedText<'_> {
     }
 }
 
-/// What is told of a transaction, by how far it is.
+/// What the line says of a transaction, by how far it is.
 #[derive(Clone, Copy)]
 struct StatusText<'a> {
     commits: &'a [CommitRec],
@@ -124,7 +124,7 @@ impl Line for StatusText<'_> {
     }
 }
 
-/// Appends the line of a transaction, without its end. At an error a front of it may stand there.
+/// Appends the line of a transaction, without its end. At an error a prefix of it may stand there.
 pub fn txn_line(machine: &Machine, t: u8, line: &mut LineBuffer) -> Result<(), AllocError>
     requires { t < length machine.now.state.txns }
     ensures { Appended result line.old line.new (txn_text machine.now.state t) }

@@ -1,4 +1,4 @@
-//! A run of a machine, and what is told of it. Whole listings are in `tests/cases` of the repository.
+//! A run of a machine, and what its listing says. Whole listings are in `tests/cases` of the repository.
 
 use super::serial::{commit, scenario};
 use std::alloc::{AllocError, Global};
@@ -56,7 +56,7 @@ fn shows(
     Ok(line.as_bytes() == lines.as_bytes())
 }
 
-/// Whether the run is told as it was. It borrows the machine, since to let one go is proved anew in each function that owns one.
+/// Whether the listing is that of the run. It borrows the machine, since to let one go is proved anew in each function that owns one.
 fn is_told(rt: &impl Abort, alloc: Global, machine: &Machine) -> Result<bool, AllocError> {
     let lines = "page 0 A low 0 rows 10=1 20=9txn 0 newlink BA";
     Ok(has_counted(machine) && same(alloc, machine)? && shows(rt, alloc, machine, lines)?)

@@ -49,7 +49,7 @@ const SESSION: &[(Command, Result<Reply, DebugFault>)] = &[
     (Command::Position, Ok(Reply::Shown)),
 ];
 
-/// Checks the answers of a debugger that keeps copies so often, and so many.
+/// Checks the answers of a debugger with these numbers of copies.
 fn check_session(rt: &impl Abort, alloc: Global, every: usize, ring: usize) -> Result<(), Fail>
     requires { 1 ≤ every }
 {
@@ -104,7 +104,7 @@ fn check_same(rt: &impl Abort, debugger: &mut Debugger, plain: &mut Debugger) {
     }
 }
 
-/// Compares a debugger that keeps copies so often, and so many, with one that keeps none.
+/// Compares a debugger with these numbers of copies with one that keeps none.
 fn check_copies(rt: &impl Abort, alloc: Global, every: usize, ring: usize) -> Result<(), Fail>
     requires { 1 ≤ every }
 {
@@ -112,7 +112,7 @@ fn check_copies(rt: &impl Abort, alloc: Global, every: usize, ring: usize) -> Re
     check_against(rt, alloc, &mut plain, every, ring)
 }
 
-/// Compares a debugger that keeps copies so often, and so many, with another one.
+/// Compares a debugger with these numbers of copies with another one.
 fn check_against(
     rt: &impl Abort,
     alloc: Global,

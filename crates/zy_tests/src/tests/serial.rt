@@ -135,7 +135,7 @@ fn leave(
     Ok(has(&table, want))
 }
 
-/// Whether a run of one program, for so many instructions, leaves these rows.
+/// Whether a run of one program, for this number of instructions, leaves these rows.
 fn one_leaves(
     rt: &impl Abort,
     alloc: Global,

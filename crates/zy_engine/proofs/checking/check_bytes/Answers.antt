@@ -1,4 +1,4 @@
--- What went out is a front of the words of the input's one verdict.
+-- What went out is a prefix of the words of the input's one verdict.
 use Rattle.zy_io.specs.Streams.{WroteFront}
 use Rattle.zy_check.specs.declared.verdict.Verdict.{Verdict}
 use Rattle.zy_check.specs.Verdicts.{IsVerdict}

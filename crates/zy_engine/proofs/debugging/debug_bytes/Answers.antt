@@ -1,4 +1,4 @@
--- What went out is a front of what the session on the input's scenario says.
+-- What went out is a prefix of what the session on the input's scenario says.
 use Rattle.std.proofs.Common.{◌≡◌, IfSome, Ok, Err, rules, subst}
 use Rattle.std.proofs.lemmas.Result.{err_from_is_err_and}
 use Rattle.zy_io.specs.Streams.{ReadWhole}

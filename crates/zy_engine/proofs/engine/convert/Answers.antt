@@ -1,4 +1,4 @@
--- What went out is a front of what is written of the scenario that the input stands for.
+-- What went out is a prefix of what is written of the scenario that the input stands for.
 use Rattle.std.proofs.Common.{◌≡◌, IfSome, rules, Ok}
 use Rattle.std.proofs.lemmas.Result.{err_from_is_err_and}
 use Rattle.zy_io.specs.Streams.{ReadWhole}
