@@ -32,7 +32,7 @@ returns-in-Found c =
 
 pub returns-in-Spent : goal.returns-in-Spent
 returns-in-Spent c =
-    let lt = omega (arith, c.len.ensures.value, c.if-len-at.false) in
+    let lt : c.loop-at.at < length c.loop-at.visited = omega (arith, c.len.ensures.value, c.if-len-at.false) in
     spent_below c.args.plan.now.start c.args.plan.now.sought c.loop-at.visited c.expand.new.visited c.loop-at.at c.loop-at.invariant.visits lt c.loop-at.invariant.expanded (rw c.in-Spent.is at c.in_ok-expand.ensures.well)
 
 -- the paths before the n-th are expanded, and so is that one
