@@ -30,6 +30,9 @@ PROGRAM = os.path.join(TOP, 'crates', 'zy_bench', 'out', 'zy_bench')
 # A run 0, A run 0; end
 WORKED = bytes.fromhex('5a5048310400010000000103' '0500010000000002' '0700000000000000' '0600000000000000' '0003' '000100' '010300' '010300')
 
+# The smallest image: zephyr 1, cap 2, pages 1, rule held; no row, no transaction, no choice.
+SMALLEST = bytes.fromhex('5a504831' '02' '0001' '00' '0000' '00' '0000')
+
 
 def content(path):
     """The bytes of a file; none where there is no such file."""
@@ -132,6 +135,13 @@ def lines_of(path):
 
 def all_refused():
     return [Refused(line) for line in lines_of(REFUSED)] + [RefusedImage(line) for line in lines_of(REFUSED_IMAGES)]
+
+
+def refuser(folder):
+    """tests/refuse.c, which is preloaded, compiled into a folder."""
+    source, made = os.path.join(TOP, 'tests', 'refuse.c'), os.path.join(folder, 'refuse.so')
+    subprocess.run([os.environ.get('CC', 'cc'), '-O2', '-shared', '-fPIC', '-o', made, source], check=True)
+    return made
 
 
 def is_built():

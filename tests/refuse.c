@@ -13,6 +13,8 @@
      bytes 0     each read and each write moves one byte; those that asked for more are refused the rest
      nothing 0   nothing
 
+   With PIECES set to `1` each read and each write moves one byte beside, which is not counted as refused.
+
    When the program ends, one line goes to the descriptor that REPORT names: how many requests, reads, writes to standard
    output and writes to standard error there were, and how many of all of them were refused.
 
@@ -39,6 +41,7 @@ enum { REQUESTS, READS, WRITES, TELLS, KINDS };
 
 static unsigned long counted[KINDS], refused, chosen;
 static char what[16] = "nothing";
+static int by_bytes;
 static uintptr_t code_begin, code_end;
 
 /* The first object that is listed is the program. Its parts rise by address. */
@@ -59,6 +62,7 @@ __attribute__((constructor)) static void begin(void) {
     const char *words = getenv("REFUSE");
     if (words != NULL && sscanf(words, "%15s %lu", what, &chosen) == 2)
         dl_iterate_phdr(find_code, NULL);
+    by_bytes = getenv("PIECES") != NULL;
 }
 
 __attribute__((destructor)) static void report(void) {
@@ -142,11 +146,12 @@ static ssize_t fails(int error) {
     return -1;
 }
 
-/* How many bytes a read or a write may move that asks for so many. */
+/* How many bytes a read or a write may move that asks for this number. */
 static size_t allowed(size_t count) {
-    if (!is("bytes") || count < 2)
+    if (count < 2 || !(by_bytes || is("bytes")))
         return count;
-    refuse();
+    if (!by_bytes)
+        refuse();
     return 1;
 }
 

@@ -51,7 +51,7 @@ chosen Begin t = choice.Begin t
 chosen Kill t = choice.Kill t
 chosen (Run n) t = choice.Run n t
 
--- the number of one of so many transactions
+-- the number of one of this number of transactions
 abbrev pub numbered : ℕ → List ℕ → Result ℕ AsmKind
 numbered count w = do
   n ← ok_or (number_of w) kinds.Number

@@ -7,7 +7,7 @@ use Rattle.zy_asm.specs.declared.faults.AsmFault.{AsmFault}
 use Rattle.zy_asm.specs.declared.faults.AsmKind.TheVariants as kinds
 use Rattle.zy_asm.specs.Reading.{Seen, reading}
 
--- the line, from 1, that so many bytes lead to
+-- the line, from 1, that this number of bytes leads to
 abbrev pub line_after : ℕ → List ℕ → ℕ
 line_after n bytes = 1 + count_by (λ b. b == 10) (take n bytes)
 

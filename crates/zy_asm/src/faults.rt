@@ -6,7 +6,7 @@ use crate::shown::Shown;
 use std::fmt;
 use zy_isa::program::ProgFault;
 
-/// Why a line is refused. Of several reasons the first is told, in the order in which the line is judged.
+/// Why a line is refused. Of several reasons the first is reported, in the order in which the line is judged.
 #[derive(Clone, Copy, Debug, PartialEq, Eq)]
 pub enum AsmKind {
     /// 1: this is not the statement of the header that stands here.
@@ -61,7 +61,7 @@ pub enum Reason {
     Misplaced,
     /// The key of a row is not above the last one.
     NotAbove { key: u16, last: u16 },
-    /// There is no transaction of this number, but so many others.
+    /// There is no transaction of the first number; the second is how many there are.
     NoTransaction { number: u64, count: usize },
     /// A program has this number and not its own.
     NotOwnNumber { number: u64, own: usize },

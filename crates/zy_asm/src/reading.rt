@@ -112,7 +112,7 @@ fn row_of(words: &[&[u8]]) -> Result<Row, Reason>
     }
 }
 
-/// The number of a program, of which so many stand above.
+/// The number of a program, of which this number is above.
 fn own_number(count: usize, word: &[u8]) -> Result<usize, Reason>
     ensures { by_kind result ≡ own_number_spec count word.now }
 {

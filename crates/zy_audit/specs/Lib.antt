@@ -1,5 +1,6 @@
 pub mod Texts
 pub mod Listing
+pub mod Locked
 pub mod Lone
 pub mod SameMaps
 pub mod Covering

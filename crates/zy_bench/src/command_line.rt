@@ -42,6 +42,8 @@ pub struct Checkpoints {
 pub enum Conversion {
     /// The listing of its run.
     Run(Format),
+    /// The trace of its run.
+    Trace(Format),
     /// The listing of its run by three threads.
     Threads(Format),
     /// The image of a text.
@@ -95,6 +97,18 @@ fn run_command<'a>(alloc: Global) -> Result<Command<'a>, AllocError> {
             "a scenario text, or with --image an image",
             "the listing",
             "zy_bench run < examples/first_run.zephyr"
+        ))
+        .arg(image_flag(alloc))
+}
+
+/// `trace`.
+fn trace_command<'a>(alloc: Global) -> Result<Command<'a>, AllocError> {
+    Command::new(alloc, "trace")
+        .about("Runs the scenario on standard input, and prints what each step changes")
+        .after_help(below!(
+            "a scenario text, or with --image an image",
+            "the scenario, the lines of its opening state, each step with the lines that it\n         changed, and the end of the listing",
+            "zy_bench trace < examples/first_run.zephyr"
         ))
         .arg(image_flag(alloc))
 }
@@ -200,6 +214,7 @@ pub fn command<'a>(alloc: Global) -> Result<Command<'a>, AllocError> {
         .after_help("Example:\n  zy_bench run < examples/first_run.zephyr")
         .subcommand_required(true)
         .subcommand(run_command(alloc)?)?
+        .subcommand(trace_command(alloc)?)?
         .subcommand(asm_command(alloc))?
         .subcommand(dis_command(alloc))?
         .subcommand(check_command(alloc))?
@@ -212,6 +227,7 @@ pub fn command<'a>(alloc: Global) -> Result<Command<'a>, AllocError> {
 pub fn request_of(matches: &ArgMatches<'_>) -> Option<Request> {
     match matches.subcommand() {
         Some(("run", words)) => Some(Request::Convert(Conversion::Run(format_of(words)))),
+        Some(("trace", words)) => Some(Request::Convert(Conversion::Trace(format_of(words)))),
         Some(("asm", _)) => Some(Request::Convert(Conversion::Asm)),
         Some(("dis", _)) => Some(Request::Convert(Conversion::Dis)),
         Some(("check", _)) => Some(Request::Check),
@@ -265,7 +281,7 @@ fn checkpoints_of(debug: &ArgMatches<'_>) -> Checkpoints {
     }
 }
 
-/// What the input of `run` or `threads` is written in.
+/// What the input of `run`, `trace` or `threads` is written in.
 fn format_of(words: &ArgMatches<'_>) -> Format {
     if words.get_flag("image") {
         Format::Image

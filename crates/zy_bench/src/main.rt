@@ -17,7 +17,7 @@ use std::thread::Threads;
 use zy_check::verdict::Verdict;
 use zy_engine::checking::check_bytes;
 use zy_engine::debugging::debug_bytes;
-use zy_engine::engine::{asm_bytes, dis_bytes, run_bytes};
+use zy_engine::engine::{asm_bytes, dis_bytes, run_bytes, trace_bytes};
 use zy_engine::faults::BenchFault;
 use zy_engine::searching::search_bytes;
 use zy_engine::threading::threads_bytes;
@@ -64,6 +64,7 @@ fn convert<R: Print + Input + AllocGlobal + Threads + Wait + Sync>(
     let mut sink = CountingWriter::new(buffer);
     match conversion {
         Conversion::Run(format) => run_bytes(rt.alloc(), format, &mut source, &mut sink)?,
+        Conversion::Trace(format) => trace_bytes(rt.alloc(), format, &mut source, &mut sink)?,
         Conversion::Threads(format) => {
             threads_bytes(rt, rt.alloc(), format, &mut source, &mut sink, &FreeGate)?
         }

@@ -47,7 +47,7 @@ by_kind part r kinds.Count h = elim h [ inl e ↦ absurd (cc) | inr e ↦ e ]
 by_kind part r kinds.End h = elim h [ inl e ↦ absurd (cc) | inr e ↦ e ]
 by_kind part r kinds.Memory h = tt
 
--- a refused scenario part is told, unless there was no memory
+-- a refused scenario part is reported, unless there was no memory
 pub refusal_told : (part : List ℕ) (r : Refusal) → (kind_of r.reason ≡ kinds.Memory) ⊎ (input_fault part ≡ Some (fault_of r)) → IsOfScenario part (of_refusal r)
 refusal_told part r h = by_kind part r (kind_of r.reason) h
 

@@ -44,7 +44,7 @@ pub eq_shared : (fs xs ys : List ℕ) → bytes_eq (fs ++ xs) (fs ++ ys) ≡ byt
 eq_shared [] xs ys = refl
 eq_shared (a ∷ fs) xs ys = eq_same a (fs ++ xs) (fs ++ ys) ∙ eq_shared fs xs ys
 
--- what is common is a front of both, and what follows it has nothing in common
+-- what is common is a prefix of both, and what follows it has nothing in common
 pub record IsCommon (n : ℕ) (xs ys : List ℕ) : Type 0 where
   pub left : n ≤ length xs
   pub right : n ≤ length ys
@@ -92,7 +92,7 @@ apart_eq y (x ∷ xs) ys h = elim (either (x == y)) [ inl e ↦ not_cons x (comm
 pub differs_shared : (fs xs ys : List ℕ) → common xs ys ≡ [] → differs (fs ++ xs) (fs ++ ys) ≡ feeds fs + 1
 differs_shared fs xs ys h = ap (λ l. feeds l + 1) (common_shared fs xs ys ∙ ap (λ l. fs ++ l) h ∙ append-nil fs)
 
--- a text that is a front of the other
+-- a text that is a prefix of the other
 common_front : (ys rest : List ℕ) → common (ys ++ rest) ys ≡ ys
 common_front ys rest =
     ap (common (ys ++ rest)) (sym (append-nil ys)) ∙ common_shared ys rest [] ∙ ap (λ l. ys ++ l) (common-nil rest) ∙ append-nil ys

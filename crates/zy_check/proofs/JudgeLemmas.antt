@@ -39,7 +39,7 @@ module _ (input listing : List ℕ) (old new : Compared) (v : Verdict) (begun : 
       by_parts input listing listing new v [] (told_parts input listing new (wrote ∙ ap (λ (s : Compared). told s ++ listing) begun)) (sym (append-nil listing))
       (h ∙ ap (verdict new.input) (sym (append-nil new.text)))
 
-  -- a front of it was, and then something was refused
+  -- a prefix of it was, and then something was refused
   pub judged_front : WroteFront (Some (told old)) (Some (told new)) listing → new.refusals ≡ old.refusals + 1
       → (0 < new.refusals → (back : List ℕ) → v ≡ verdict new.input (new.text ++ back)) → v ≡ verdict input listing
   judged_front wrote once h =

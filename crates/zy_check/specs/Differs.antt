@@ -19,7 +19,7 @@ feeds bytes = count_by (λ b. b == 10) bytes
 abbrev pub differs : List ℕ → List ℕ → ℕ
 differs x y = feeds (common x y) + 1
 
--- what is to be said of an input and the listing that it should be
+-- the verdict on an input and the listing that it should be
 abbrev pub verdict : List ℕ → List ℕ → Verdict
 verdict input listing = if bytes_eq input listing then Table else NotTable (differs input listing)
 

@@ -36,7 +36,7 @@ fn compare(alloc: Global, input: &[u8], scenario: Scenario) -> Result<Verdict, A
     }
 }
 
-/// What is to be said of an input.
+/// The verdict on an input.
 fn verdict_of(alloc: Global, input: &[u8]) -> Result<Verdict, CheckFault>
     ensures found { IfOk result (λ v. IsVerdict input.now v × (input_fault (cut_spec input.now) ≡ None)) }
     ensures one { IfOk result (λ v. (other : AVerdict) → IsVerdict input.now other → v ≡ other) }
@@ -60,14 +60,16 @@ pub fn check<S: Source>(alloc: Global, source: &mut S) -> Result<Verdict, CheckF
     ensures only { IfSome (S.left source.old) (λ told. (sc : AScenario) → length told ≤ 4194304
         → utf8_fault (cut_spec told) ≡ None → Means (cut_spec told) sc
         → GivesVerdict result (verdict_spec told (listing_run sc))) }
-    // A refused scenario part is told by its first fault.
+    // A refused scenario part is reported by its first fault.
     ensures fault { IfErr result (λ f. IfScenario f (λ r.
         IfSome (S.left source.old) (λ told. input_fault (cut_spec told) ≡ Some (fault_of r)))) }
     // What is accepted has no fault.
     ensures accepted { IfOk result (λ v. IfSome (S.left source.old) (λ told. input_fault (cut_spec told) ≡ None)) }
     // The input is read whole; only where it has more than 4194304 bytes is it too long, and then one byte more is read.
     ensures input { ReadsInput (S.left source.old) (S.left source.new) result }
-    // Read comes just where a call failed.
+    // Whatever the reader tells of its bytes, its calls give at most one more than the longest input has.
+    ensures bound { S.given source.new ≤ S.given source.old + 4194305 }
+    // Read comes if and only if a call failed.
     ensures reads { S.failures source.new ≡ S.failures source.old + failed_reads result }
 {
     let bytes = read_all(alloc, source)?;

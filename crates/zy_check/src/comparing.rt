@@ -8,7 +8,7 @@ use std::io;
 use std::marker::Model;
 use zy_io::stream::Sink;
 
-/// How many bytes two texts have in common at their front. Where the second is a front of the first, whole groups of bytes are
+/// How many bytes two texts have in common at their front. Where the second is a prefix of the first, whole groups of bytes are
 /// compared.
 fn common_len(x: &[u8], y: &[u8]) -> usize
     ensures { result ≡ length (common x.now y.now) }
@@ -30,7 +30,7 @@ fn first_difference(x: &[u8], y: &[u8]) -> usize
     at
 }
 
-/// The line, from 1, to which so many bytes of a text lead.
+/// The line, from 1, to which this number of bytes of a text leads.
 fn line_after(text: &[u8], count: usize) -> usize
     requires { count ≤ length text.now }
     ensures { result ≡ feeds (take count text.now) + 1 }
@@ -44,11 +44,11 @@ fn line_after(text: &[u8], count: usize) -> usize
 #[derive(Drop)]
 pub struct Comparing<'a> {
     input: &'a [u8],
-    // So many bytes of it came.
+    // How many bytes of it came.
     at: usize,
     // This byte came behind them, and the input has none there or another.
     other: Option<u8>,
-    // So many calls took nothing.
+    // How many calls took nothing.
     refusals: u64,
 }
 
@@ -77,7 +77,7 @@ impl<'a> Comparing<'a> {
         }
     }
 
-    /// What is to be said of the input and the text that was taken. Where bytes were refused, no text behind it changes that.
+    /// The verdict on the input and the text that was taken. Where bytes were refused, no text behind it changes that.
     pub fn verdict(&self) -> Verdict
         ensures whole { result ≡ verdict_spec self.now.input self.now.text }
         ensures front { 0 < self.now.refusals → (back : List ℕ) → result ≡ verdict_spec self.now.input (self.now.text ++ back) }

@@ -9,7 +9,7 @@ ghost use Rattle.zy_check.specs.Verdicts.{IsListing, IsVerdict};
 ghost use Rattle.zy_check.specs.declared.verdict.Verdict.TheVariants.{Table, NotTable};
 ghost use Rattle.zy_check.specs.Differs.{common, feeds, verdict, IsLongestShared};
 
-/// The verdict is `Table` just where the input and the listing are the same bytes.
+/// The verdict is `Table` if and only if the input and the listing are the same bytes.
 pub fn table_is_equality()
     ensures { (input listing : List ℕ) → verdict input listing ≡ Table ↔ input ≡ listing }
 {}
@@ -25,7 +25,7 @@ pub fn line_is_of_longest()
         → verdict input listing ≡ NotTable (feeds shared + 1) }
 {}
 
-/// The verdict is `Table` just where the input is the listing of the scenario that its own front means.
+/// The verdict is `Table` if and only if the input is the listing of the scenario that its own prefix means.
 pub fn table_is_a_listing()
     ensures { (input : List ℕ) → IsVerdict input Table ↔ IsListing input }
 {}

@@ -1,1 +1,2 @@
+mod OneLemmas
 pub mod SaidLemmas

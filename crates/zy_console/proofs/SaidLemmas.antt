@@ -6,9 +6,9 @@ use Rattle.std.proofs.KnownBytes.{Appends-trans, Appends-nil}
 use Rattle.zy_io.specs.Streams.{WroteFront}
 use Rattle.zy_isa.specs.Words.{lines_of, words_of}
 use Rattle.zy_words.specs.Lines.{first_words}
-use Rattle.zy_words.specs.Lines.{first_words}
 use Rattle.zy_debug.specs.Sessions.{Session}
 use Rattle.zy_console.specs.Console.{LineSays, Says, SaysFront}
+use Rattle.zy_console.proofs.OneLemmas.{says_some}
 
 pub no_lines : (xs : List ℕ) → (length xs == 0) ≡ true → lines_of xs ≡ []
 no_lines [] h = refl
@@ -22,24 +22,20 @@ says_first s t (a ∷ b ∷ []) out h = h
 says_first s t (a ∷ b ∷ c ∷ []) out h = h
 says_first s t (a ∷ b ∷ c ∷ d ∷ ws) out h = h
 
--- one line more
-says_more : (s t u : Session) (ls : List (List ℕ)) (l out more : List ℕ) → Says s ls t out → LineSays t (words_of l) u more → Says s (ls ++ l ∷ []) u (out ++ more)
-says_more s t u [] l out more (same, none) h = (
-  u,
-  more,
-  [],
-  subst (λ x. LineSays x (words_of l) u more) same h,
-  (refl, refl),
-  ap (λ o. o ++ more) none ∙ sym (append-nil more),
-)
-says_more s t u (k ∷ ls) l out more (v, first, rest, here, below, is) h = (
+-- lines, and then others
+says_join : (s t u : Session) (ls ks : List (List ℕ)) (out more : List ℕ) → Says s ls t out → Says t ks u more → Says s (ls ++ ks) u (out ++ more)
+says_join s t u [] ks out more (same, none) h = rw none (subst (λ x. Says x ks u more) same h)
+says_join s t u (l ∷ ls) ks out more (v, first, rest, here, below, is) h = (
   v,
   first,
   rest ++ more,
   here,
-  says_more v t u ls l rest more below h,
+  says_join v t u ls ks rest more below h,
   ap (λ o. o ++ more) is ∙ append_assoc first rest more,
 )
+
+one_line : (t u : Session) (l more : List ℕ) → LineSays t (words_of l) u more → Says t (l ∷ []) u more
+one_line t u l more h = (u, more, [], h, (refl, refl), sym (append-nil more))
 
 -- the first of the lines led from s to t, and what they say went out; the last ones are left
 pub record Said (old new : Option (List ℕ)) (s : Session) (lines last : List (List ℕ)) (t : Session) : Type 0 where
@@ -52,17 +48,15 @@ pub record Said (old new : Option (List ℕ)) (s : Session) (lines last : List (
 pub said_nothing : (a : Option (List ℕ)) (s : Session) (lines : List (List ℕ)) → Said a a s lines lines s
 said_nothing a s lines = record { read = []; parted = refl; out = []; says = (refl, refl); wrote = Appends-nil a }
 
--- no more goes out
+-- no more goes out: it is a prefix, since the others say something
 pub said_stops : (a b : Option (List ℕ)) (s t : Session) (lines last : List (List ℕ)) → Said a b s lines last t → SaysFront a b s lines
-said_stops a b s t lines last h = record {
-  read = h.read;
-  left = last;
-  parted = h.parted;
-  session = t;
-  out = h.out;
-  says = h.says;
-  front = (h.out, [], sym (append-nil h.out), h.wrote);
-}
+said_stops a b s t lines last h =
+    let k = says_some t last in record {
+      session = k.0;
+      out = h.out ++ k.1;
+      says = subst (λ ls. Says s ls k.0 (h.out ++ k.1)) (sym h.parted) (says_join s t k.0 h.read last h.out k.1 h.says k.2);
+      front = (h.out, k.1, refl, h.wrote);
+    }
 
 line_over : (read : List (List ℕ)) (l : List ℕ) (last : List (List ℕ)) → read ++ l ∷ last ≡ (read ++ l ∷ []) ++ last
 line_over read l last = sym (append_assoc read (l ∷ []) last)
@@ -74,22 +68,28 @@ said_more a b c s t u lines all last l more h first says wrote = record {
   read = h.read ++ l ∷ [];
   parted = h.parted ∙ ap (λ x. h.read ++ x) first ∙ line_over h.read l last;
   out = h.out ++ more;
-  says = says_more s t u h.read l h.out more h.says says;
+  says = says_join s t u h.read (l ∷ []) h.out more h.says (one_line t u l more says);
   wrote = Appends-trans a b c h.out more h.wrote wrote;
 }
 
--- a front of what the next line says goes out
+-- a prefix of what the next line says goes out
 pub said_torn : (a b c : Option (List ℕ)) (s t u : Session) (lines all last : List (List ℕ)) (l more : List ℕ) → Said a b s lines all t → all ≡ l ∷ last
     → LineSays t (words_of l) u more → WroteFront b c more → SaysFront a c s lines
-said_torn a b c s t u lines all last l more h first says (front, back, is, wrote) = record {
-  read = h.read ++ l ∷ [];
-  left = last;
-  parted = h.parted ∙ ap (λ x. h.read ++ x) first ∙ line_over h.read l last;
-  session = u;
-  out = h.out ++ more;
-  says = says_more s t u h.read l h.out more h.says says;
-  front = (h.out ++ front, back, ap (λ x. h.out ++ x) is ∙ sym (append_assoc h.out front back), Appends-trans a b c h.out front h.wrote wrote);
-}
+said_torn a b c s t u lines all last l more h first says (front, back, is, wrote) =
+    let k = says_some u last in
+    let others : Says t (l ∷ last) k.0 (more ++ k.1) = (u, more, k.1, says, k.2, refl) in
+    let parted : lines ≡ h.read ++ l ∷ last = h.parted ∙ ap (λ x. h.read ++ x) first in
+    record {
+      session = k.0;
+      out = h.out ++ (more ++ k.1);
+      says = subst (λ ls. Says s ls k.0 (h.out ++ (more ++ k.1))) (sym parted) (says_join s t k.0 h.read (l ∷ last) h.out (more ++ k.1) h.says others);
+      front = (
+        h.out ++ front,
+        back ++ k.1,
+        ap (λ x. h.out ++ (x ++ k.1)) is ∙ ap (λ x. h.out ++ x) (append_assoc front back k.1) ∙ sym (append_assoc h.out front (back ++ k.1)),
+        Appends-trans a b c h.out front h.wrote wrote,
+      );
+    }
 
 -- no line is left
 pub said_all : (a b : Option (List ℕ)) (s t : Session) (lines last : List (List ℕ)) → Said a b s lines last t → last ≡ [] → (out : List ℕ) × Says s lines t out × Appends a b out

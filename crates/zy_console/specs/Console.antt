@@ -39,19 +39,16 @@ Says s (l ∷ ls) t out =
 abbrev pub opened : Scenario → Session
 opened sc = record { scenario = sc; position = 0; stops = replicate 16 None }
 
--- a front of what the first of the lines say went out, where the bytes went from old to new
+-- the lines say a text, a prefix of which went out, where the bytes went from old to new
 pub record SaysFront (old new : Option (List ℕ)) (s : Session) (lines : List (List ℕ)) : Type 0 where
-  pub read : List (List ℕ)
-  pub left : List (List ℕ)
-  pub parted : lines ≡ read ++ left
   pub session : Session
   pub out : List ℕ
-  pub says : Says s read session out
+  pub says : Says s lines session out
   pub front : WroteFront old new out
 
 -- Calls that write went from the bytes old and the number of failures before to new and after.
 module _ (old new : Option (List ℕ)) (before after : ℕ) where
-  -- at Ok just what the lines say went out; else a front of what the first of them say, and Write comes where a call failed or took none
+  -- at Ok just what the lines say went out; else a prefix of it, and Write comes where a call failed or took none
   abbrev pub WroteSession : {X : Type 0} → Result X TextFault → Session → List (List ℕ) → Session → Type 0
   WroteSession (Ok x) s lines t = (out : List ℕ) × Says s lines t out × Appends old new out × (after ≡ before)
   WroteSession (Err Write) s lines t = SaysFront old new s lines × (after ≡ before + 1)

@@ -3,5 +3,6 @@
 
 mod answer;
 pub mod command;
+pub mod laws;
 pub mod session;
 mod shown;

@@ -3,11 +3,11 @@ ghost use Rattle.std.specs.Prelude.{◌≡◌, ◌<◌, ◌++◌, OnOk, length};
 ghost use Rattle.zy_io.specs.Writing.{line_of};
 ghost use Rattle.zy_isa.specs.declared.node.Node.TheVariants.{A, B};
 ghost use Rattle.zy_audit.specs.Texts.{link_text, txn_text};
-ghost use Rattle.zy_console.specs.Replies.{IsThere, kind_word, lock_on, lock_text, locks_on, modes_text, page_reply, shown_text, where_text};
+ghost use Rattle.zy_console.specs.Replies.{IsThere, modes_text, shown_text, where_text};
 
 use std::alloc::AllocError;
 use zy_audit::lines::link::link_line;
-use zy_audit::lines::page::page_line;
+use zy_audit::lines::locked::page_reply;
 use zy_audit::lines::txn::txn_line;
 use zy_audit::lines::words::ModeText;
 use zy_debug::command::Command;
@@ -15,107 +15,7 @@ use zy_io::buffer::LineBuffer;
 use zy_io::line::{Decimal, Joined, Line};
 use zy_isa::node::Node;
 use zy_laws::laws::safe_counts;
-use zy_locks::lock::{Lock, LockKind};
 use zy_machine::machine::Machine;
-
-/// How a page is locked: `s` or `x`.
-#[derive(Clone, Copy)]
-struct KindText(LockKind);
-
-impl Line for KindText {
-    ghost text = { λ k. kind_word k.0 };
-
-    fn append(&self, line: &mut LineBuffer) -> Result<(), AllocError> {
-        match self.0 {
-            LockKind::Shared => "s".append(line),
-            LockKind::Exclusive => "x".append(line),
-        }
-    }
-}
-
-/// A lock of a node.
-#[derive(Clone, Copy)]
-struct LockText {
-    node: Node,
-    lock: Lock,
-}
-
-impl Line for LockText {
-    ghost text = { λ l. lock_text l.node l.lock };
-
-    fn append(&self, line: &mut LineBuffer) -> Result<(), AllocError> {
-        let Lock { page: _, txn, kind } = self.lock;
-        let holder = Joined(Decimal(txn), Joined(b':', KindText(kind)));
-        Joined(b' ', Joined(self.node, Joined(b':', holder))).append(line)
-    }
-}
-
-/// A lock of a node, where it is on this page.
-#[derive(Clone, Copy)]
-struct LockOn {
-    node: Node,
-    page: u16,
-    lock: Lock,
-}
-
-impl Line for LockOn {
-    ghost text = { λ l. lock_on l.node l.page l.lock };
-
-    fn append(&self, line: &mut LineBuffer) -> Result<(), AllocError> {
-        let LockOn { node, page, lock } = *self;
-        if lock.page == page {
-            LockText { node, lock }.append(line)
-        } else {
-            Ok(())
-        }
-    }
-}
-
-/// The locks of a node on a page.
-#[derive(Clone, Copy)]
-struct LocksOn<'a> {
-    node: Node,
-    page: u16,
-    locks: &'a [Lock],
-}
-
-impl Line for LocksOn<'_> {
-    ghost text = { λ l. locks_on l.node l.page l.locks.now };
-
-    fn append(&self, line: &mut LineBuffer) -> Result<(), AllocError> {
-        let (node, page) = (self.node, self.page);
-        for lock in self.locks {
-            LockOn {
-                node,
-                page,
-                lock: *lock,
-            }
-            .append(line)?;
-        }
-        Ok(())
-    }
-}
-
-/// Appends a page with its locks, or that it is not there.
-fn append_page(machine: &Machine, page: u16, line: &mut LineBuffer) -> Result<(), AllocError>
-    ensures { OnOk result (line.new ≡ line.old ++ page_reply machine.now.state page) }
-{
-    if machine.page(page).is_none() {
-        return Joined("page ", Joined(Decimal(page), " none")).append(line);
-    }
-    let locks_of_a = LocksOn {
-        node: Node::A,
-        page,
-        locks: machine.locks(Node::A),
-    };
-    let locks_of_b = LocksOn {
-        node: Node::B,
-        page,
-        locks: machine.locks(Node::B),
-    };
-    page_line(machine, page, line)?;
-    Joined(" locks", Joined(locks_of_a, locks_of_b)).append(line)
-}
 
 /// Appends where a machine is in its choices, and the modes there.
 fn append_where(machine: &Machine, line: &mut LineBuffer) -> Result<(), AllocError>
@@ -164,7 +64,7 @@ pub fn append_shown(
 {
     let _pages = machine.scenario().pages();
     match command {
-        Command::Page(page) => append_page(machine, page as u16, line)?,
+        Command::Page(page) => page_reply(machine, page as u16, line)?,
         Command::Txn(t) => append_txn(machine, t, line)?,
         Command::Links => return append_links(machine, line),
         Command::Position => append_where(machine, line)?,

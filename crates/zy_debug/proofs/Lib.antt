@@ -1,1 +1,2 @@
 mod KeptLemmas
+pub mod ReplyLemmas

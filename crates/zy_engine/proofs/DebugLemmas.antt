@@ -23,7 +23,7 @@ use Rattle.zy_engine.specs.Engines.{Streams}
 use Rattle.zy_engine.specs.Debugs.{Debugs, AreReplies, commands_of}
 use Rattle.zy_engine.proofs.RunLemmas.{of-any, told-of}
 
--- where nothing went out, nothing but a front did
+-- where nothing went out, nothing but a prefix did
 pub nothing_said : (a : Option (List ℕ)) (s : Session) (lines : List (List ℕ)) → SaysFront a a s lines
 nothing_said a s lines = said_stops a a s s lines lines (said_nothing a s lines)
 
@@ -107,7 +107,7 @@ module _ (told left a b : Option (List ℕ)) (m n w v : ℕ) (bytes : List ℕ) 
   pub finished : (x : Unit {0}) → WroteReplies a b w v (Ok x) (opened scenario) (commands_of bytes) → Debugs (streams told a m w) (streams left b n v) (Ok x)
   finished x h = record {
     written = told-of (λ t. (out : List ℕ) × AreReplies t out × Appends a b out) told bytes same (h.1.0, record { scenario = scenario; meant = is.meant; session = h.0; says = h.1.1 }, h.1.2);
-    front = some_front (record { read = commands_of bytes; left = []; parted = sym (append-nil (commands_of bytes)); session = h.0; out = h.1.0; says = h.1.1; front = (h.1.0, [], sym (append-nil h.1.0), h.1.2) });
+    front = some_front (record { session = h.0; out = h.1.0; says = h.1.1; front = (h.1.0, [], sym (append-nil h.1.0), h.1.2) });
     fault = tt;
     input = whole;
     accepted = told-of (λ t. input_fault (cut t) ≡ None) told bytes same is.right;

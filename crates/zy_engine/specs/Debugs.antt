@@ -27,7 +27,7 @@ pub record AreReplies (input out : List ℕ) : Type 0 where
 pub record Debugs {X : Type 0} (old new : Streams) (result : Result X BenchFault) : Type 0 where
   -- at Ok just the replies went out
   pub written : OnOk result (IfSome old.left (λ input. (out : List ℕ) × AreReplies input out × Appends old.written new.written out))
-  -- whatever comes, nothing but a front of the replies to the first commands went out
+  -- whatever comes, nothing but a prefix of the replies went out
   pub front : IfSome old.left (λ input. (sc : Scenario) → Means (cut input) sc → SaysFront old.written new.written (opened sc) (commands_of input))
   -- a refused scenario part is told by its first fault
   pub fault : IfErr result (λ f. IfRefused f (IfSome old.left (λ input. IsTextFault (cut input) f)))

@@ -75,6 +75,8 @@ pub fn check_bytes<S: Source, K: Sink>(
         → K.written sink.new ≡ K.written sink.old) }
     // The input is read whole; only where it has more than 4194304 bytes is it too long, and then one byte more is read.
     ensures input { ReadsInput (S.left source.old) (S.left source.new) result }
+    // Whatever the reader tells of its bytes, its calls give at most one more than the longest input has.
+    ensures bound { S.given source.new ≤ S.given source.old + 4194305 }
     // Each fault of the reader and of the writer is one failed call.
     ensures reads { S.failures source.new ≡ S.failures source.old + failed_reads result }
     ensures writes { K.failures sink.new ≡ K.failures sink.old + failed_writes result }

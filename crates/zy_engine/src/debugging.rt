@@ -1,5 +1,5 @@
 //! The engine that debugs a scenario.
-ghost use Rattle.std.specs.Prelude.{◌≡◌, ◌<◌, ◌≤◌};
+ghost use Rattle.std.specs.Prelude.{◌≡◌, ◌<◌, ◌≤◌, ◌+◌};
 ghost use Rattle.zy_isa.specs.Words.{lines_of};
 ghost use Rattle.zy_console.specs.Console.{WroteReplies, opened};
 ghost use Rattle.zy_engine.specs.Debugs.{Debugs};
@@ -51,10 +51,12 @@ pub fn debug_bytes<S: Source, K: Sink>(
     requires ring_most { ring ≤ 64 }
     requires source { S.failures source.old < u64.MAX }
     requires sink { K.failures sink.old < u64.MAX }
-    ensures { Debugs
+    ensures debugs { Debugs
         (record { left = S.left source.old; written = K.written sink.old; reads = S.failures source.old; writes = K.failures sink.old })
         (record { left = S.left source.new; written = K.written sink.new; reads = S.failures source.new; writes = K.failures sink.new })
         result }
+    // Whatever the reader tells of its bytes, its calls give at most one more than the longest input has.
+    ensures bound { S.given source.new ≤ S.given source.old + 4194305 }
 {
     let bytes = read_all(alloc, source)?;
     let input = bytes.as_slice();

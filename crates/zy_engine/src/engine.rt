@@ -1,14 +1,15 @@
 //! The engines: bytes in, bytes out.
-ghost use Rattle.std.specs.Prelude.{◌<◌};
+ghost use Rattle.std.specs.Prelude.{◌<◌, ◌≤◌, ◌+◌};
 ghost use Rattle.zy_isa.specs.Canon.{canon};
 ghost use Rattle.zy_image.specs.Image.{image_of};
 ghost use Rattle.zy_engine.specs.declared.format.Format.TheVariants.{Text, Image};
 ghost use Rattle.zy_engine.specs.Engines.{Converts};
 ghost use Rattle.zy_audit.specs.Run.{listing_run};
+ghost use Rattle.zy_trace.specs.Trace.{trace};
 
 use crate::faults::BenchFault;
 use crate::format::{Format, accept};
-use crate::output::{Canonical, Listing, Output, Saved};
+use crate::output::{Canonical, Listing, Output, Saved, Trace};
 use std::alloc::Global;
 use zy_io::reading::read_all;
 use zy_io::stream::{Sink, Source};
@@ -23,12 +24,33 @@ pub fn run_bytes<S: Source, K: Sink>(
 ) -> Result<(), BenchFault>
     requires source { S.failures source.old < u64.MAX }
     requires sink { K.failures sink.old < u64.MAX }
-    ensures { Converts format listing_run
+    ensures converts { Converts format listing_run
         (record { left = S.left source.old; written = K.written sink.old; reads = S.failures source.old; writes = K.failures sink.old })
         (record { left = S.left source.new; written = K.written sink.new; reads = S.failures source.new; writes = K.failures sink.new })
         result }
+    // Whatever the reader tells of its bytes, its calls give at most one more than the longest input has.
+    ensures bound { S.given source.new ≤ S.given source.old + 4194305 }
 {
     convert(alloc, format, &Listing, source, sink)
+}
+
+/// Reads a scenario whole, makes its choices, and writes the trace: each step, and the lines of the state that it changed.
+pub fn trace_bytes<S: Source, K: Sink>(
+    alloc: Global,
+    format: Format,
+    source: &mut S,
+    sink: &mut K,
+) -> Result<(), BenchFault>
+    requires source { S.failures source.old < u64.MAX }
+    requires sink { K.failures sink.old < u64.MAX }
+    ensures converts { Converts format trace
+        (record { left = S.left source.old; written = K.written sink.old; reads = S.failures source.old; writes = K.failures sink.old })
+        (record { left = S.left source.new; written = K.written sink.new; reads = S.failures source.new; writes = K.failures sink.new })
+        result }
+    // Whatever the reader tells of its bytes, its calls give at most one more than the longest input has.
+    ensures bound { S.given source.new ≤ S.given source.old + 4194305 }
+{
+    convert(alloc, format, &Trace, source, sink)
 }
 
 /// Reads a scenario text whole, and writes its image.
@@ -39,10 +61,12 @@ pub fn asm_bytes<S: Source, K: Sink>(
 ) -> Result<(), BenchFault>
     requires source { S.failures source.old < u64.MAX }
     requires sink { K.failures sink.old < u64.MAX }
-    ensures { Converts Text image_of
+    ensures converts { Converts Text image_of
         (record { left = S.left source.old; written = K.written sink.old; reads = S.failures source.old; writes = K.failures sink.old })
         (record { left = S.left source.new; written = K.written sink.new; reads = S.failures source.new; writes = K.failures sink.new })
         result }
+    // Whatever the reader tells of its bytes, its calls give at most one more than the longest input has.
+    ensures bound { S.given source.new ≤ S.given source.old + 4194305 }
 {
     convert(alloc, Format::Text, &Saved, source, sink)
 }
@@ -55,10 +79,12 @@ pub fn dis_bytes<S: Source, K: Sink>(
 ) -> Result<(), BenchFault>
     requires source { S.failures source.old < u64.MAX }
     requires sink { K.failures sink.old < u64.MAX }
-    ensures { Converts Image canon
+    ensures converts { Converts Image canon
         (record { left = S.left source.old; written = K.written sink.old; reads = S.failures source.old; writes = K.failures sink.old })
         (record { left = S.left source.new; written = K.written sink.new; reads = S.failures source.new; writes = K.failures sink.new })
         result }
+    // Whatever the reader tells of its bytes, its calls give at most one more than the longest input has.
+    ensures bound { S.given source.new ≤ S.given source.old + 4194305 }
 {
     convert(alloc, Format::Image, &Canonical, source, sink)
 }
@@ -73,10 +99,12 @@ fn convert<S: Source, K: Sink, O: Output>(
 ) -> Result<(), BenchFault>
     requires source { S.failures source.old < u64.MAX }
     requires sink { K.failures sink.old < u64.MAX }
-    ensures { Converts format (O.bytes output.now)
+    ensures converts { Converts format (O.bytes output.now)
         (record { left = S.left source.old; written = K.written sink.old; reads = S.failures source.old; writes = K.failures sink.old })
         (record { left = S.left source.new; written = K.written sink.new; reads = S.failures source.new; writes = K.failures sink.new })
         result }
+    // Whatever the reader tells of its bytes, its calls give at most one more than the longest input has.
+    ensures bound { S.given source.new ≤ S.given source.old + 4194305 }
 {
     let bytes = read_all(alloc, source)?;
     let scenario = accept(alloc, format, bytes.as_slice())?;

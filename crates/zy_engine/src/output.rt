@@ -5,6 +5,7 @@ ghost use Rattle.zy_isa.specs.Scenario.{Scenario as AScenario};
 ghost use Rattle.zy_image.specs.Image.{image_of};
 ghost use Rattle.zy_io.specs.Writing.{Wrote};
 ghost use Rattle.zy_audit.specs.Run.{listing_run};
+ghost use Rattle.zy_trace.specs.Trace.{trace};
 
 use std::alloc::Global;
 use zy_audit::run::write_run;
@@ -13,6 +14,7 @@ use zy_image::save::save;
 use zy_io::stream::Sink;
 use zy_io::writing::{TextFault, write_all};
 use zy_isa::scenario::Scenario;
+use zy_trace::trace::write_trace;
 
 /// What can be written of a scenario.
 pub trait Output {
@@ -45,6 +47,23 @@ impl Output for Listing {
         sink: &mut K,
     ) -> Result<(), TextFault> {
         write_run(alloc, scenario, sink)
+    }
+}
+
+/// The trace of its run.
+#[derive(Clone, Copy)]
+pub struct Trace;
+
+impl Output for Trace {
+    ghost bytes = { λ _. trace };
+
+    fn write<K: Sink>(
+        &self,
+        alloc: Global,
+        scenario: Scenario,
+        sink: &mut K,
+    ) -> Result<(), TextFault> {
+        write_trace(alloc, scenario, sink)
     }
 }
 

@@ -59,7 +59,7 @@ second_of b (Err e) = b
 pub one_answer : {A B E : Type 0} (a c : A) (b d : B) → value {A = A × B} {E = E} (a, b) ≡ value (c, d) → (a ≡ c) × (b ≡ d)
 one_answer a c b d h = (ap (first_of a) h, ap (second_of b) h)
 
--- the front of the bytes was read: so many bytes
+-- a prefix of the bytes was read: this number of bytes
 pub record Front (n : ℕ) (bytes w left : List ℕ) : Type 0 where
   pub same : bytes ≡ w ++ left
   pub size : length w ≡ n

@@ -20,7 +20,7 @@ module _ {X : Type 0} (next : List X → List ℕ → Read X) (xs : List X) (byt
 
 -- ---- what was read has its image
 
--- so many items were read: their images stand in front, and what holds of the list is kept
+-- this number of items was read: their images stand in front, and what holds of the list is kept
 pub record TookItems {X : Type 0} (image : X → List ℕ) (P : List X → Type 0) (xs : List X) (n : ℕ) (bytes : List ℕ) (ys : List X) (left : List ℕ) : Type 0 where
   pub more : List X
   pub all : ys ≡ xs ++ more
@@ -35,7 +35,7 @@ pub record TookItem {X : Type 0} (image : X → List ℕ) (P : List X → Type 0
   pub back : AreBytes left
   pub kept : P (xs ++ x ∷ [])
 
--- so many items were read, and these are all of them
+-- this number of items was read, and these are all of them
 pub record TookList {X : Type 0} (image : X → List ℕ) (P : List X → Type 0) (n : ℕ) (bytes : List ℕ) (ys : List X) (left : List ℕ) : Type 0 where
   pub count : n ≡ length ys
   pub same : bytes ≡ flat_map image ys ++ left

@@ -76,7 +76,7 @@ head_fields size bytes = do
 
 -- ---- lists
 
--- so many items more, each read behind those that stand before it
+-- this number of items more, each read behind those that stand before it
 abbrev pub read_items : {X : Type 0} → (List X → List ℕ → Read X) → List X → ℕ → List ℕ → Read (List X)
 read_items next xs zero bytes = Ok (xs, bytes)
 read_items next xs (suc n) bytes = next xs bytes >>= λ x. read_items next (xs ++ x.0 ∷ []) n x.1
@@ -211,7 +211,7 @@ GivesScenario (Err e) s = e ≡ fault.Memory
 
 -- ---- other choices
 
--- the first fault of choices among so many transactions
+-- the first fault of choices among this number of transactions
 abbrev pub choices_fault : ℕ → List Choice → Option LoadFault
 choices_fault count cs =
     if nat_lt 4096 (length cs) then Some fault.ChoiceCount else

@@ -4,17 +4,17 @@ use std::alloc::AllocError;
 use thiserror::Error;
 use zy_isa::program::ProgFault;
 
-/// Why bytes are no image of a scenario. The first that comes in the order of reading is told; rows, transactions,
+/// Why bytes are no image of a scenario. The first that comes in the order of reading is reported; rows, transactions,
 /// instructions and choices count from 0.
 #[derive(Clone, Copy, Debug, PartialEq, Eq, Error)]
 pub enum LoadFault {
     /// 1: the first four bytes are neither `ZPH1` nor `ZPH2`.
     #[error("an image begins with ZPH1 or ZPH2")]
     Magic,
-    /// 2: the input, of so many bytes, ends inside a field.
+    /// 2: the input, of this number of bytes, ends inside a field.
     #[error("the input ends after {0} bytes, inside a field")]
     Truncated(usize),
-    /// 3: the last field ends after so many bytes, and the input goes on.
+    /// 3: the last field ends after this number of bytes, and the input goes on.
     #[error("the image ends after {0} bytes, and the input goes on")]
     Trailing(usize),
     /// 4: a page would have room for too few or too many rows.

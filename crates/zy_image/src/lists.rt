@@ -22,7 +22,7 @@ pub trait Items {
         ensures { Gives result (next self.now before.now bytes.entry.now) };
 }
 
-/// Reads so many items. Apart from its caller its loop has registers enough.
+/// Reads this number of items. Apart from its caller its loop has registers enough.
 #[inline(never)]
 pub fn read_items<'a, I: Items>(
     alloc: Global,

@@ -92,7 +92,7 @@ impl fmt::Display for Field {
     }
 }
 
-/// The place behind so many items of a size, which begin at `from`.
+/// The place behind this number of items of a size, which begin at `from`.
 fn behind(from: usize, items: usize, size: usize) -> usize {
     from.saturating_add(items.saturating_mul(size))
 }
@@ -107,7 +107,7 @@ pub fn half_at(bytes: &[u8], at: usize) -> usize {
     usize::from(u16::from_be_bytes(bytes_at(bytes, at)))
 }
 
-/// So many bytes from a place on.
+/// This number of bytes from a place on.
 pub fn bytes_at<const N: usize>(bytes: &[u8], at: usize) -> [u8; N] {
     let field = bytes.get(at..).and_then(|left| left.first_chunk::<N>());
     field.copied().unwrap_or([0; N])

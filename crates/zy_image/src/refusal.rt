@@ -14,16 +14,16 @@ pub enum Found {
     Nothing,
     /// Another beginning.
     Beginning([u8; 4]),
-    /// This field, of which so many bytes are there.
+    /// This field, of which this number of bytes is there.
     Cut {
         field: Field,
         there: usize,
     },
-    /// So many bytes more.
+    /// This number of bytes more.
     More(usize),
     /// This number.
     Number(usize),
-    /// So many rows, of which a page opens with `each`.
+    /// This number of rows, of which a page opens with `each`.
     Rows {
         rows: usize,
         each: usize,
@@ -34,7 +34,7 @@ pub enum Found {
         key: usize,
         last: usize,
     },
-    /// This target, where there are so many instructions.
+    /// This target, where this is the number of instructions.
     Target {
         target: u32,
         count: usize,
@@ -43,7 +43,7 @@ pub enum Found {
     LastWord([u8; 8]),
     /// This word.
     Word([u8; 8]),
-    /// This choice, where there are so many transactions.
+    /// This choice, where this is the number of transactions.
     Choice {
         bytes: [u8; 3],
         txns: usize,
@@ -118,7 +118,7 @@ impl fmt::Display for ImageRefusal {
     }
 }
 
-/// The field that the fault of a program is told of.
+/// The field that has the fault of a program.
 fn program_field(txn: usize, fault: ProgFault, bytes: &[u8]) -> Field {
     match fault {
         ProgFault::Target(instr) => Field::Word(txn, usize::from(instr)),

@@ -54,7 +54,7 @@ impl Items for RowItems {
     }
 }
 
-/// How many rows there are, where there may be so many, and pages for them.
+/// How many rows there are, where this number may be there, and pages for them.
 fn row_count(head: Head, size: usize, bytes: &[u8]) -> Result<(usize, &[u8]), LoadFault>
     requires { 2 ≤ head.cap }
     ensures { Gives result (row_count_spec head size bytes.entry.now) }

@@ -49,7 +49,7 @@ Remains-then a b c text more rest last p q = (
 pub Remains-last : (a b c : Option (List ℕ)) (text rest : List ℕ) → Remains a b text rest → Appends b c rest → Appends a c text
 Remains-last a b c text rest p q = subst (Appends a c) (sym p.1) (Appends-trans a b c p.0 rest p.2 q)
 
--- a front of the rest and of what follows it went out
+-- a prefix of the rest and of what follows it went out
 pub Remains-stops : (a b c : Option (List ℕ)) (text more rest : List ℕ) → Remains a b text rest → WroteFront b c (rest ++ more) → WroteFront a c (text ++ more)
 Remains-stops a b c text more rest p q = (
   p.0 ++ q.0,
@@ -58,7 +58,7 @@ Remains-stops a b c text more rest p q = (
   Appends-trans a b c p.0 q.0 p.2 q.3,
 )
 
--- a front of the rest went out
+-- a prefix of the rest went out
 pub Remains-cut : (a b c : Option (List ℕ)) (text rest : List ℕ) → Remains a b text rest → WroteFront b c rest → WroteFront a c text
 Remains-cut a b c text rest p q = (
   p.0 ++ q.0,

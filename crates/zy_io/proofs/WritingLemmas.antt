@@ -31,7 +31,7 @@ Appended-then a b c (Err e) xs ys first (front, back, is, now) = (
   now ∙ ap (λ l. l ++ front) first ∙ append_assoc a xs front,
 )
 
--- a front of the second part, after the whole first
+-- a prefix of the second part, after the whole first
 pub WroteFront-after : (a b c : Option (List ℕ)) (xs ys more text : List ℕ) → Appends a b xs → WroteFront b c ys → text ≡ xs ++ (ys ++ more) → WroteFront a c text
 WroteFront-after a b c xs ys more text p q e = (
   xs ++ q.0,

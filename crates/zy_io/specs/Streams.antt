@@ -1,5 +1,5 @@
--- What calls of a source and a sink do to the bytes that they tell, and to the number of calls that failed.
-use Rattle.std.specs.Prelude.{◌≡◌, ℕ, ◌==◌, ◌+◌, ◌≤◌, List, ◌++◌, length, vec_len, Result, Ok, Err, Option, ◌&&◌, not, if◌then◌else◌}
+-- What calls of a source and a sink do to the bytes that are known, to the number of calls that failed, and to the number of bytes given.
+use Rattle.std.specs.Prelude.{◌≡◌, ℕ, ◌==◌, ◌+◌, ◌-◌, ◌^◌, ◌≤◌, min, List, ◌++◌, length, vec_len, Result, Ok, Err, Option, ◌&&◌, not, if◌then◌else◌}
 use Rattle.std.specs.declared.vec.Vec.{Vec}
 use Rattle.std.specs.declared.alloc.Global.{Global}
 use Rattle.std.specs.Io.KnownBytes.{Appends, Consumes, IsAtEnd}
@@ -16,11 +16,26 @@ abbrev pub put_faults : {E : Type 0} → Result ℕ E → List ℕ → ℕ
 put_faults (Ok n) bytes = if n == 0 && not (length bytes == 0) then 1 else 0
 put_faults (Err e) bytes = 1
 
--- some bytes were taken, at most so many
+-- how many bytes the call gave
+abbrev pub pulled_bytes : {E : Type 0} → Result ℕ E → ℕ
+pulled_bytes (Ok n) = n
+pulled_bytes (Err e) = 0
+
+-- a count of bytes and then of more, which stays at the most that 64 bits hold
+abbrev pub counted : ℕ → ℕ → ℕ
+counted before more = min (before + more) (2 ^ 64 - 1)
+
+-- a reader, how many of its calls failed, and how many bytes they gave
+pub record CountedReader (R : Type 0) : Type 0 where
+  pub reader : R
+  pub failures : ℕ
+  pub given : ℕ
+
+-- some bytes were taken, at most this number
 abbrev pub TookAtMost : Option (List ℕ) → Option (List ℕ) → ℕ → Type 0
 TookAtMost old new most = (taken : List ℕ) × Consumes old new taken × (length taken ≤ most)
 
--- some bytes were taken, so many
+-- some bytes were taken, exactly this number
 abbrev pub Took : Option (List ℕ) → Option (List ℕ) → ℕ → Type 0
 Took old new count = (taken : List ℕ) × Consumes old new taken × (length taken ≡ count)
 
@@ -36,17 +51,17 @@ ReadSome old new = TookAtMost old new 4194304
 abbrev pub ReadTooMuch : Option (List ℕ) → Option (List ℕ) → Type 0
 ReadTooMuch old new = Took old new 4194305
 
--- a front of the text went out
+-- a prefix of the text went out
 abbrev pub WroteFront : Option (List ℕ) → Option (List ℕ) → List ℕ → Type 0
 WroteFront old new text = (front : List ℕ) × (back : List ℕ) × (text ≡ front ++ back) × Appends old new front
 
--- a front of the text went out, and the rest did not
+-- a prefix of the text went out, and the rest did not
 abbrev pub Remains : Option (List ℕ) → Option (List ℕ) → List ℕ → List ℕ → Type 0
 Remains old new text rest = (front : List ℕ) × (text ≡ front ++ rest) × Appends old new front
 
 -- A call went from the bytes old and the number of failures before to new and after.
 module _ (old new : Option (List ℕ)) (before after : ℕ) where
-  -- at Ok these are all the bytes that were left, and none is left; else a front of them was taken.
+  -- at Ok these are all the bytes that were left, and none is left; else a prefix of them was taken.
   -- TooLong comes where more than 4194304 were, and Read where a call failed
   abbrev pub ReadsAll : Result (Vec ℕ Global) ReadFault → Type 0
   ReadsAll (Ok bytes) = Consumes old new bytes.items × IsAtEnd new × (vec_len bytes ≤ 4194304) × (after ≡ before)
@@ -54,7 +69,7 @@ module _ (old new : Option (List ℕ)) (before after : ℕ) where
   ReadsAll (Err TooLong) = ReadTooMuch old new × (after ≡ before)
   ReadsAll (Err Memory) = ReadSome old new × (after ≡ before)
 
-  -- at Ok all of the text went out; else a front of it, since a call failed or took none
+  -- at Ok all of the text went out; else a prefix of it, since a call failed or took none
   abbrev pub WritesAll : {X E : Type 0} → Result X E → List ℕ → Type 0
   WritesAll (Ok x) text = Appends old new text × (after ≡ before)
   WritesAll (Err e) text = WroteFront old new text × (after ≡ before + 1)

@@ -9,24 +9,24 @@ use Rattle.zy_io.specs.declared.writing.TextFault.TheVariants.{Write, Memory}
 abbrev pub line_of : List ℕ → List ℕ
 line_of text = text ++ 10 ∷ []
 
--- a front of the text was put behind what stood there
+-- a prefix of the text was put behind what stood there
 abbrev pub AppendedFront : List ℕ → List ℕ → List ℕ → Type 0
 AppendedFront old new text = (front : List ℕ) × (back : List ℕ) × (text ≡ front ++ back) × (new ≡ old ++ front)
 
--- at Ok all of the text was; else a front of it
+-- at Ok all of the text was; else a prefix of it
 abbrev pub Appended : {X E : Type 0} → Result X E → List ℕ → List ℕ → List ℕ → Type 0
 Appended (Ok x) old new text = new ≡ old ++ text
 Appended (Err e) old new text = AppendedFront old new text
 
 -- A call that writes went from the bytes old and the number of failures before to new and after.
 module _ (old new : Option (List ℕ)) (before after : ℕ) where
-  -- at Ok all of the text went out; else a front of it, and Write comes where a call failed or took none
+  -- at Ok all of the text went out; else a prefix of it, and Write comes where a call failed or took none
   abbrev pub Wrote : {X : Type 0} → Result X TextFault → List ℕ → Type 0
   Wrote (Ok x) text = Appends old new text × (after ≡ before)
   Wrote (Err Write) text = WroteFront old new text × (after ≡ before + 1)
   Wrote (Err Memory) text = WroteFront old new text × (after ≡ before)
 
-  -- at Ok a front of the text went out, and the rest is kept; else a front of it went out, since a call failed or took none
+  -- at Ok a prefix of the text went out, and the rest is kept; else a prefix of it went out, since a call failed or took none
   abbrev pub Passed : {X E : Type 0} → Result X E → List ℕ → List ℕ → Type 0
   Passed (Ok x) text rest = Remains old new text rest × (after ≡ before)
   Passed (Err e) text rest = WroteFront old new text × (after ≡ before + 1)

@@ -11,7 +11,7 @@ pub trait Line {
     // The text, without the line's end.
     ghost text: { Self → List ℕ };
 
-    /// Puts its text behind what the buffer holds. At an error a front of it may stand there.
+    /// Puts its text behind what the buffer holds. At an error a prefix of it may be there.
     fn append(&self, line: &mut LineBuffer) -> Result<(), AllocError>
         ensures { Appended result line.old line.new (text self.now) };
 }

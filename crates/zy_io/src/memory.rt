@@ -5,46 +5,53 @@ use crate::stream::{Sink, Source};
 use std::io;
 use std::marker::Model;
 
-/// Gives the bytes of a slice. A clause sees those that are left.
+/// Gives the bytes of a slice. A clause sees the pair of those that are left and the number of those given.
 #[derive(Drop)]
 pub struct SliceSource<'a> {
     rest: &'a [u8],
+    given: u64,
 }
 
 impl<'a> Model for SliceSource<'a> {
     ghost use Rattle.std.specs.Prelude.{ℕ, List};
 
-    ghost Value = { List ℕ };
+    ghost Value = { List ℕ × ℕ };
 
-    ghost view = { λ s. s.rest.now };
+    ghost view = { λ s. (s.rest.now, s.given) };
 }
 
 impl<'a> SliceSource<'a> {
     /// All of the bytes are left.
     pub fn new(bytes: &'a [u8]) -> SliceSource<'a>
-        ensures { result ≡ bytes.now }
+        ensures { result ≡ (bytes.now, 0) }
     {
-        SliceSource { rest: bytes }
+        SliceSource {
+            rest: bytes,
+            given: 0,
+        }
     }
 
     /// The bytes that are left.
     pub fn left(&self) -> &'a [u8]
-        ensures { result.now ≡ self.now }
+        ensures { result.now ≡ self.now.0 }
     {
         self.rest
     }
 }
 
 impl Source for SliceSource<'_> {
-    ghost left = { λ s. Some s };
+    ghost left = { λ s. Some s.0 };
 
     ghost failures = { λ _. 0 };
+
+    ghost given = { λ s. s.1 };
 
     fn pull(&mut self, buffer: &mut [u8]) -> io::Result<usize> {
         let count = buffer.len().min(self.rest.len());
         let (front, rest) = self.rest.split_at(count);
         buffer[..count].copy_from_slice(front);
         self.rest = rest;
+        self.given = self.given.saturating_add(count as u64);
         Ok(count)
     }
 }

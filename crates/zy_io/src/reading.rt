@@ -42,10 +42,13 @@ pub fn read_all<S: Source>(alloc: Global, source: &mut S) -> Result<Vec<u8>, Rea
     ensures reads { ReadsAll (S.left source.old) (S.left source.new)
         (S.failures source.old) (S.failures source.new) result }
 
-    // What is told beforehand says which bytes these are, and when they are too many.
+    // Where the bytes are known beforehand these are they, and it is known when they are too many.
     ensures whole { IfOk result (λ bytes. IfSome (S.left source.old) (λ told. bytes.items ≡ told)) }
     ensures long { result ≡ Err ReadFault.TooLong
         → IfSome (S.left source.old) (λ told. 4194304 < length told) }
+
+    // Whatever is known of the bytes, the calls give at most one byte more than the longest input has.
+    ensures bound { S.given source.new ≤ S.given source.old + 4194305 }
 {
     let mut bytes = Vec::new(alloc);
     let mut piece = [0u8; PIECE];

@@ -1,8 +1,8 @@
-//! Where bytes come from and go to, one call at a time, with a count of the calls that failed.
+//! Where bytes come from and go to, one call at a time, with a count of the calls that failed and of the bytes that were given.
 ghost use Rattle.std.specs.Prelude.{◌≡◌, ◌<◌, ◌≤◌, ◌+◌, ℕ, List, Option, IfOk, length, is_err, if◌then◌else◌};
 ghost use Rattle.std.specs.Io.{ReadsAtMost, WritesAtMost};
 ghost use Rattle.std.specs.Io.KnownBytes.{ReadConsumes, WriteAppends, Keeps};
-ghost use Rattle.zy_io.specs.Streams.{pull_faults, put_faults};
+ghost use Rattle.zy_io.specs.Streams.{counted, pull_faults, pulled_bytes, put_faults};
 
 use std::io;
 use std::io::{Read, Write};
@@ -10,29 +10,33 @@ use std::marker::Model;
 
 /// Where bytes come from.
 pub trait Source {
-    // The bytes that are left, where they are told.
+    // The bytes that are left, where they are known.
     ghost left: { Self → Option (List ℕ) };
 
     // How many calls failed so far.
     ghost failures: { Self → ℕ };
 
-    /// Fills a front of the buffer; no byte, where there is room, means the end.
+    // How many bytes the calls gave so far, whatever is known of them.
+    ghost given: { Self → ℕ };
+
+    /// Fills a prefix of the buffer; no byte, where there is room, means the end.
     fn pull(&mut self, buffer: &mut [u8]) -> io::Result<usize>
         requires { failures self.old < u64.MAX }
         ensures bound { ReadsAtMost result buffer.new }
         ensures bytes { ReadConsumes (left self.old) (left self.new) result buffer.new }
-        ensures failed { failures self.new ≡ failures self.old + pull_faults result };
+        ensures failed { failures self.new ≡ failures self.old + pull_faults result }
+        ensures given { given self.new ≡ counted (given self.old) (pulled_bytes result) };
 }
 
 /// Where bytes go.
 pub trait Sink {
-    // The bytes that were written, where they are told.
+    // The bytes that were written, where they are known.
     ghost written: { Self → Option (List ℕ) };
 
     // How many calls so far failed or, given bytes, took none.
     ghost failures: { Self → ℕ };
 
-    /// Takes a front of the bytes.
+    /// Takes a prefix of the bytes.
     fn put(&mut self, bytes: &[u8]) -> io::Result<usize>
         requires { failures self.old < u64.MAX }
         ensures bound { WritesAtMost result bytes.now }
@@ -40,56 +44,68 @@ pub trait Sink {
         ensures failed { failures self.new ≡ failures self.old + put_faults result bytes.now };
 }
 
-/// A reader of std, with the number of its calls that failed. A clause sees the pair of both.
+/// A reader of std, with the number of its calls that failed and the number of bytes that they gave.
 #[derive(Drop)]
 pub struct CountingReader<R> {
     reader: R,
     failures: u64,
+    given: u64,
 }
 
 impl<R> Model for CountingReader<R> {
-    ghost use Rattle.std.specs.Prelude.{ℕ};
+    ghost use Rattle.zy_io.specs.Streams.{CountedReader};
 
-    ghost Value = { R × ℕ };
+    ghost Value = { CountedReader R };
 
-    ghost view = { λ s. (s.reader, s.failures) };
+    ghost view = { λ s. record { reader = s.reader; failures = s.failures; given = s.given } };
 }
 
 impl<R> CountingReader<R> {
-    /// No call has failed yet.
+    /// No call was made yet.
     pub fn new(reader: R) -> CountingReader<R>
-        ensures { result ≡ (reader, 0) }
+        ensures { result ≡ record { reader = reader; failures = 0; given = 0 } }
     {
         CountingReader {
             reader,
             failures: 0,
+            given: 0,
         }
     }
 
     /// How many calls failed so far.
     pub fn failures(&self) -> u64
-        ensures { result ≡ self.now.1 }
+        ensures { result ≡ self.now.failures }
     {
         self.failures
     }
 
+    /// How many bytes the calls gave so far; `u64::MAX` stands for any number from there on.
+    pub fn given(&self) -> u64
+        ensures { result ≡ self.now.given }
+    {
+        self.given
+    }
+
     /// The reader, with what it has left.
     pub fn into_inner(self) -> R
-        ensures { result ≡ self.0 }
+        ensures { result ≡ self.reader }
     {
         self.reader
     }
 }
 
 impl<R: Read> Source for CountingReader<R> {
-    ghost left = { λ s. R.remaining s.0 };
+    ghost left = { λ s. R.remaining s.reader };
 
-    ghost failures = { λ s. s.1 };
+    ghost failures = { λ s. s.failures };
+
+    ghost given = { λ s. s.given };
 
     fn pull(&mut self, buffer: &mut [u8]) -> io::Result<usize> {
         let outcome = self.reader.read(buffer);
-        if outcome.is_err() {
-            self.failures += 1;
+        match outcome {
+            Ok(count) => self.given = self.given.saturating_add(count as u64),
+            Err(_) => self.failures += 1,
         }
         outcome
     }

@@ -1,4 +1,4 @@
--- Operations are told apart by their numbers and by their words; an instruction is its parts.
+-- Operations differ in their numbers and by their words; an instruction is its parts.
 use Rattle.std.proofs.Common.{◌≡◌, ◌∙◌, ◌==◌, ℕ, Bool, true, false, List, [], ◌∷◌, Option, None, Some, inl, inr, refl, sym, ap, subst, arith, if◌then◌else◌}
 use Rattle.std.specs.List.{find, list_all}
 use Rattle.std.specs.Str.{bytes_eq}

@@ -84,7 +84,7 @@ abbrev pub IsKnown : Version → List Instr → Type 0
 IsKnown version [] = Unit {0}
 IsKnown version (i ∷ is) = (has version i ≡ true) × IsKnown version is
 
--- the answer is the program, or the first fault, or want of memory where there is none
+-- the answer is the program, or the first fault, or out of memory where there is none
 abbrev pub IsVerified : Result (List Instr) ProgFault → List Instr → Type 0
 IsVerified (Ok p) is = (prog_fault is ≡ None) × (p ≡ is)
 IsVerified (Err e) is = (prog_fault is ≡ Some e) ⊎ ((prog_fault is ≡ None) × (e ≡ fault.Memory))

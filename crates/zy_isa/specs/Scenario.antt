@@ -25,7 +25,7 @@ pub record Scenario : Type 0 where
 abbrev pub opening_rows : ℕ → ℕ
 opening_rows cap = (cap + 1) / 2
 
--- how many pages so many rows open with: one more for each full run of rows, and one where there is no row
+-- how many pages this number of rows opens with: one more for each full run of rows, and one where there is no row
 abbrev pub opening_pages_for : ℕ → ℕ → ℕ
 opening_pages_for cap zero = 1
 opening_pages_for cap (suc rows) = rows / opening_rows cap + 1
@@ -41,7 +41,7 @@ is_outside least most n = nat_lt n least || nat_lt most n
 abbrev pub has_many_rows : Scenario → Bool
 has_many_rows s = nat_lt 256 (length s.rows) || nat_lt s.pages (opening_pages_for s.cap (length s.rows))
 
--- the first fault of choices among so many transactions
+-- the first fault of choices among this number of transactions
 abbrev pub choices_fault : ℕ → List Choice → Option ScenarioFault
 choices_fault count cs =
     if nat_lt 4096 (length cs) then Some fault.ChoiceCount else

@@ -13,7 +13,7 @@ use thiserror::Error;
 /// The most instructions of a program.
 pub const MAX_INSTRS: usize = 64;
 
-/// Why a list of instructions is no program. The first that holds is told.
+/// Why a list of instructions is no program. The first that holds is reported.
 #[derive(Clone, Copy, Debug, PartialEq, Eq, Error)]
 pub enum ProgFault {
     /// 1: there is no instruction.

@@ -28,7 +28,7 @@ pub const MAX_TXNS: usize = 64;
 /// The most choices.
 pub const MAX_CHOICES: usize = 4096;
 
-/// Why a scenario is refused. The first that holds is told; rows and choices count from 0.
+/// Why a scenario is refused. The first that holds is reported; rows and choices count from 0.
 #[derive(Clone, Copy, Debug, PartialEq, Eq, Error)]
 pub enum ScenarioFault {
     /// 1: there is no such version.
@@ -89,7 +89,7 @@ pub fn opening_rows(cap: u8) -> usize
     (usize::from(cap) + 1) / 2
 }
 
-/// How many pages so many rows open with.
+/// How many pages this number of rows opens with.
 pub fn opening_pages_for(cap: u8, rows: usize) -> usize
     requires { 1 ≤ cap }
     ensures { result ≡ opening_pages_for_spec cap rows }
@@ -124,7 +124,7 @@ fn misnamed_choice(count: usize, choices: &[Choice]) -> Option<usize>
     choices.iter().position(|choice| !choice.names_below(count))
 }
 
-/// The first fault of choices among so many transactions. Apart from its caller its loop has registers enough.
+/// The first fault of choices among this number of transactions. Apart from its caller its loop has registers enough.
 #[inline(never)]
 fn choices_fault(count: usize, choices: &[Choice]) -> Option<ScenarioFault>
     ensures { result ≡ choices_fault_spec count choices.now }

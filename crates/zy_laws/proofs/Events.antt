@@ -151,7 +151,7 @@ abbrev pub lows_after : (sc : Scenario) (n : Node) (v w : View) (lows : List ℕ
 lows_after sc n v w lows (Splits t r q runs f new full normal pages e) = lows ++ boundary sc (key t r v) (page t r v) v.me (txn_at v t) ∷ []
 lows_after sc n v w lows e = lows
 
--- t is told that a key's page is gone: the page is not here, and cannot be asked for, or the key is a private row's
+-- t aborts since a key's page is gone: the page is not here, and cannot be asked for, or the key is a private row's
 pub record Lost (n : Node) (v : View) : Type 0 where
   pub txn : ℕ
   pub key : ℕ

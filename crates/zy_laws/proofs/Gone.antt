@@ -1,4 +1,4 @@
--- A transaction is told that its page is gone at a node in SDual alone.
+-- A transaction aborts as gone at a node in SDual alone.
 use Rattle.std.proofs.Common.{◌≡◌, ◌∙◌, ℕ, ◌<◌, List, length, true, false, refl, sym, subst, arith, inl, inr, ◌∷◌}
 use Rattle.std.specs.Prelude.{◌⊎◌}
 use Rattle.std.proofs.lemmas.Bool.{false≢true}

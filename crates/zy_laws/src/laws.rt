@@ -98,7 +98,7 @@ pub fn nothing_left()
         v.me.mode ≡ Empty → v.them.mode ≡ Normal → NothingLeft n v }
 {}
 
-/// A transaction is told that its page has gone only at a source in the dual mode.
+/// A transaction aborts as `gone` only at a source in the dual mode.
 pub fn gone_in_dual()
     ensures { (sc : Scenario) → IsScenario sc → (choices : List AChoice) (choice : AChoice)
         → let s = play sc (opening sc) choices in

@@ -96,7 +96,7 @@ impl Link {
         &self.queue[i]
     }
 
-    /// The same messages once more, with wireframes and pages of their own, which may have less room.
+    /// A copy of the messages, with wireframes and pages of their own, which may have less room.
     pub fn copy(&self, alloc: Global) -> Result<Link, AllocError>
         ensures messages { IfOk result (λ copy. messages_of copy.messages ≡ messages_of self.now.messages) }
         ensures limits { IfOk result (λ copy. limits copy.messages ≡ limits self.now.messages) }

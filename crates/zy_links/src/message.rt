@@ -42,7 +42,7 @@ impl Message {
         }
     }
 
-    /// The same message once more, with a wireframe or a page of its own; the wireframe may have less room.
+    /// A copy of the message, with a wireframe or a page of its own; the wireframe may have less room.
     pub fn copy(&self, alloc: Global) -> Result<Message, AllocError>
         ensures message { IfOk result (λ copy. message_of copy ≡ message_of self.now) }
         ensures limit { IfOk result (λ copy. limit_of copy ≡ limit_of self.now) }

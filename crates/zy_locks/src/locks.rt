@@ -189,7 +189,7 @@ impl Locks {
         self.locks.retain(|lock| lock.txn != txn);
     }
 
-    /// The same locks once more.
+    /// A copy of the locks.
     pub fn copy(&self, alloc: Global) -> Result<Locks, AllocError>
         ensures { IfOk result (λ copy. copy.locks ≡ self.now.locks) }
     {

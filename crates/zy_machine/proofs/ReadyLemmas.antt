@@ -78,7 +78,7 @@ may_start sc ok cs n starts =
     let k = kept_from sc n s r.lows r.kept in
     rw (k.mine.newest (ap is_idle (starts_from v.me.mode v.them.mode starts).0) ∙ k.first.1) (omega arith)
 
--- what is known of a store after so many choices
+-- what is known of a store after this number of choices
 pub record Known (sc : Scenario) (count : ℕ) (s : Store) : Type 0 where
   pub tested : IsScenario sc
   pub few : count < 4096

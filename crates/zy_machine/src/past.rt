@@ -39,7 +39,7 @@ impl Known {
         Ok(Known { alloc, all, len })
     }
 
-    /// The same front once more.
+    /// A copy of the prefix.
     fn copy(&self) -> Result<Known, AllocError>
         ensures { IfOk result (λ k. k ≡ self.now) }
     {
@@ -80,7 +80,7 @@ impl Known {
         }
     }
 
-    /// The steps that were made once more, with room for one more.
+    /// A copy of the steps that were made, with room for one more.
     fn own(&self) -> Result<Vec<Entry>, AllocError>
         ensures items { IfOk result (λ v. v.items ≡ self.now.made) }
         ensures room { IfOk result (λ v. length v.items < vec_capacity v) }
@@ -101,7 +101,7 @@ impl Known {
     }
 }
 
-/// The steps that were made: a history of its own, or a front of one that others share.
+/// The steps that were made: a history of its own, or a prefix of one that others share.
 #[derive(Drop)]
 pub(crate) enum Past {
     Own(Vec<Entry>),
@@ -117,7 +117,7 @@ impl Past {
         Past::Own(Vec::new(alloc))
     }
 
-    /// The same steps once more. Where the history is shared it stays one.
+    /// A copy of the steps. Where the history is shared it stays one.
     pub(crate) fn copy(&self, alloc: Global) -> Result<Past, AllocError>
         ensures made { IfOk result (λ copy. made copy ≡ made self.now) }
         ensures ahead { IfOk result (λ copy. ahead copy ≡ ahead self.now) }

@@ -35,7 +35,7 @@ pub(crate) struct Store {
 }
 
 impl Store {
-    /// The same state once more.
+    /// A copy of the state.
     pub(crate) fn copy(&self, alloc: Global) -> Result<Store, AllocError>
         ensures state { IfOk result (λ copy. shown copy ≡ shown self.now) }
         ensures limits { IfOk result (λ copy. limits_in copy ≡ limits_in self.now) }

@@ -51,7 +51,7 @@ fn got(message: &Message) -> Outcome
     }
 }
 
-/// Whether so many pages more are all that are missing of the wireframe.
+/// Whether this number of pages is all that is missing of the wireframe.
 fn lacks(me: &NodeStore, more: usize) -> bool
     requires { more ≤ 1 }
     ensures value { result ≡ (length me.now.pages + more == length (lows_in me.now.wire)) }

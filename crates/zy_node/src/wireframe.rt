@@ -1,4 +1,4 @@
-//! The wireframe of a node: a node without pages has none. What is told of a number `n` holds of each that is not below the wireframe's limit.
+//! The wireframe of a node: a node without pages has none. What is said of a number `n` holds of each that is not below the wireframe's limit.
 ghost use Rattle.std.specs.Prelude.{◌≡◌, ◌==◌, ◌<◌, ◌≤◌, ◌++◌, ◌∷◌, [], ℕ, IfOk, IfSome, OnOk, IsOk, Contains, length};
 ghost use Rattle.zy_wire.specs.Wireframe.{page_of as page_of_spec};
 ghost use Rattle.zy_wire.specs.Ranges.{in_range};
@@ -31,7 +31,7 @@ pub fn page_of(wire: &Option<Wire>, key: u16) -> u16
     }
 }
 
-/// The keys that lie on a page. Without pages every key is told to lie on page 0, as by `page_of`.
+/// The keys that lie on a page. Without pages every key counts as one of page 0, as in `page_of`.
 #[tactic(auto, unfolding(zy_wire::specs::Wireframe::page_of))]
 pub fn keys_of(wire: &Option<Wire>, page: u16) -> KeyRange
     ensures { (k : ℕ) → in_range result k ≡ (page_of_spec (lows_in wire.now) k == page) }
@@ -93,7 +93,7 @@ pub fn open_page(
     Ok(())
 }
 
-/// The same wireframe once more, which may have less room for further pages.
+/// A copy of the wireframe, which may have less room for further pages.
 pub fn copy(wire: &Option<Wire>, alloc: Global) -> Result<Option<Wire>, AllocError>
     ensures lows { IfOk result (λ copy. lows_in copy ≡ lows_in wire.now) }
     ensures limit { IfOk result (λ copy. (n : ℕ) → limit_or n copy ≡ limit_or n wire.now) }

@@ -172,7 +172,7 @@ impl Page {
         upper
     }
 
-    /// The same page once more.
+    /// A copy of the page.
     pub fn copy(&self) -> Page
         ensures { result ≡ self.now }
     {

@@ -126,7 +126,7 @@ impl RowList {
         self.rows.clear();
     }
 
-    /// The same rows once more.
+    /// A copy of the rows.
     pub fn copy(&self, alloc: Global) -> Result<RowList, AllocError>
         ensures { IfOk result (λ copy. copy.rows ≡ self.now.rows) }
     {

@@ -1,1 +1,2 @@
 mod ScanLemmas
+pub mod FiringLemmas

@@ -9,7 +9,7 @@ use zy_machine::machine::{Fault, Machine};
 use zy_table::outcome::Outcome;
 
 /// Makes the next choice of the machine's scenario.
-pub fn advance(machine: &mut Machine) -> Result<Outcome, Fault>
+pub(crate) fn advance(machine: &mut Machine) -> Result<Outcome, Fault>
     requires follows { Follows machine.old }
     requires more { length machine.old.entries < length machine.old.scenario.choices }
     ensures scenario { machine.new.scenario ≡ machine.old.scenario }
@@ -22,7 +22,7 @@ pub fn advance(machine: &mut Machine) -> Result<Outcome, Fault>
     Ok(entry.outcome)
 }
 
-/// Makes the machine's choices up to a position.
+/// Makes the machine's choices up to a position. Out of memory, the machine is left at some position on the way: whoever lends it drops it.
 pub fn advance_to(machine: &mut Machine, target: usize) -> Result<(), Fault>
     requires follows { Follows machine.old }
     requires below { length machine.old.entries ≤ target }

@@ -59,7 +59,8 @@ fn first(watched: &[Watched], machine: &Machine, outcome: Outcome) -> Option<usi
     watched.iter().position(|w| w.fires(machine, outcome))
 }
 
-/// Goes on to the least position at which a stop fires, or to the end. Each position is looked at once.
+/// Goes on to the least position at which a stop fires, or to the end. Each position is looked at once. Out of memory, the machine is left at
+/// some position on the way: whoever lends it drops it.
 pub fn cont(
     alloc: Global,
     machine: &mut Machine,
@@ -83,7 +84,8 @@ pub fn cont(
 }
 
 /// The greatest position above the machine's and below `end` at which a stop fires, and the lowest slot
-/// that fires there. Each position is looked at once, upwards.
+/// that fires there. Each position is looked at once, upwards. The machine is left at the last position that was looked at, which out of memory is
+/// some position on the way: whoever lends it drops it.
 pub fn last_firing(
     alloc: Global,
     machine: &mut Machine,
@@ -93,6 +95,8 @@ pub fn last_firing(
     requires follows { Follows machine.old }
     requires below { length machine.old.entries < end }
     requires end { end ≤ length machine.old.scenario.choices }
+    ensures scenario { machine.new.scenario ≡ machine.old.scenario }
+    ensures follows { Follows machine.new }
     ensures found { IfOk result (λ found. LastIn machine.old.scenario slots.now (length machine.old.entries) end found) }
     ensures slot { IfOk result (λ found. IfSome found (λ f. f.1 < length slots.now)) }
 {

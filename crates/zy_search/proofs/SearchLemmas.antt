@@ -1,5 +1,5 @@
 -- Paths, the states that they lead to, and what a search knows of them.
-use Rattle.std.proofs.Common.{◌≡◌, ◌∙◌, ℕ, zero, suc, ◌+◌, ◌<◌, ◌≤◌, List, [], ◌∷◌, ◌++◌, length, get_or, refl, sym, ap, subst, arith, length-append, Bool, true, false, nat_lt, ◌&&◌}
+use Rattle.std.proofs.Common.{◌≡◌, ◌∙◌, ℕ, zero, suc, ◌+◌, ◌<◌, ◌≤◌, List, [], ◌∷◌, ◌++◌, length, get_or, refl, sym, ap, subst, arith, length-append, Bool, true, false, nat_lt, ◌&&◌, Result, Ok, Err, IfOk}
 use Rattle.std.proofs.lemmas.List.{get_or_append_left}
 use Rattle.std.proofs.lemmas.Bool.Decides.{nat_tests}
 use Rattle.std.proofs.Math.Seq.{get_or-append_seam}
@@ -11,8 +11,10 @@ use Rattle.zy_table.specs.Play.{play, step}
 use Rattle.zy_laws.proofs.PlayPush.{play-push}
 use Rattle.zy_machine.specs.Histories.{History}
 use Rattle.zy_search.specs.declared.sought.Sought.{Sought}
+use Rattle.zy_search.specs.declared.answer.Answer.{Answer}
+use Rattle.zy_search.specs.declared.answer.Report.{Report}
 use Rattle.zy_search.specs.Choices.{is_considered, AreConsidered, is_tried}
-use Rattle.zy_search.specs.Searches.{reached, Shows, Considers, IsPath, NoneBelow, NoneAtAll, Finds, FindsFirst}
+use Rattle.zy_search.specs.Searches.{reached, Shows, Considers, IsPath, NoneBelow, NoneAtAll, Finds, FindsFirst, IsAnswer}
 use Rattle.zy_search.specs.Visits.{path_at, length_at, IsKnown, IsVisited, Visits, AreNear, IsExpanded, AreExpanded, Grows, FindsNext}
 
 -- ---- choices
@@ -191,3 +193,8 @@ visits_first h q room none = record {
 
 pub near_first : AreNear ([] ∷ []) 0
 near_first = λ i lt. rw (one_place i lt) (omega arith)
+
+-- a report has the answer that was found for the same machine
+pub answered : {E : Type 0} (h : History) (q : Sought) (k : History) (p : Sought) (a : Answer) (r : Result Report E) → h ≡ k → q ≡ p → IsAnswer h q a → IfOk r (λ x. x.answer ≡ a) → IfOk r (λ x. IsAnswer k p x.answer)
+answered h q k p a (Ok x) e f is same = subst (IsAnswer k p) (sym same) (subst (λ (s : Sought). IsAnswer k s a) f (subst (λ (g : History). IsAnswer g q a) e is))
+answered h q k p a (Err x) e f is same = tt

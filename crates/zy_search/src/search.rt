@@ -1,6 +1,7 @@
 //! The search.
 ghost use Rattle.std.specs.Prelude.{◌≡◌, ◌≤◌, ◌<◌, ◌+◌, [], ◌∷◌, IfOk, true, length};
 ghost use Rattle.zy_search.specs.declared.sought.Wanted.TheVariants.{Stuck};
+ghost use Rattle.zy_search.specs.Choices.{considered as considered_spec};
 ghost use Rattle.zy_search.specs.Searches.{Shows, IsAnswer};
 ghost use Rattle.zy_search.specs.Visits.{length_at, IsWhole, Visits};
 
@@ -140,21 +141,37 @@ fn search_by(plan: &Plan, visited: &mut Visited) -> Result<Answer, Fault>
     look(plan, visited)
 }
 
-/// Looks for a state that choices lead to from a machine's, and that shows what is looked for. It goes breadth first, so that no fewer
-/// choices lead there, and stops where it would come to more states than `most`.
-pub fn search(alloc: Global, start: &Machine, sought: Sought, most: u32) -> Result<Report, Fault>
-    ensures { IfOk result (λ r. IsAnswer start.now sought r.answer) }
+/// The choices that a search considers from a machine.
+fn choices_from(alloc: Global, kills: bool, machine: &Machine) -> Result<Vec<Choice>, AllocError>
+    ensures { IfOk result (λ v. v.items ≡ considered_spec kills (length machine.now.scenario.programs)) }
 {
-    let start = start.copy(alloc)?.share(alloc)?;
-    let count = start.scenario().programs().len() as u8;
-    let choices = considered(alloc, sought.kills, count)?;
-    let plan = Plan {
+    let programs = machine.scenario().programs();
+    considered(alloc, kills, programs.len() as u8)
+}
+
+/// What a search from a machine goes by.
+fn plan_from(alloc: Global, machine: &Machine, sought: Sought, most: u32) -> Result<Plan, Fault>
+    ensures whole { IfOk result IsWhole }
+    ensures start { IfOk result (λ p. p.start ≡ machine.now) }
+    ensures sought { IfOk result (λ p. p.sought ≡ sought) }
+{
+    let choices = choices_from(alloc, sought.kills, machine)?;
+    let start = machine.copy(alloc)?.share(alloc)?;
+    Ok(Plan {
         alloc,
         start,
         sought,
         choices,
         most,
-    };
+    })
+}
+
+/// Looks for a state that choices lead to from a machine's, and that shows what is looked for. It goes breadth first, so that no fewer
+/// choices lead there, and stops where it would come to more states than `most`.
+pub fn search(alloc: Global, start: &Machine, sought: Sought, most: u32) -> Result<Report, Fault>
+    ensures { IfOk result (λ r. IsAnswer start.now sought r.answer) }
+{
+    let plan = plan_from(alloc, start, sought, most)?;
     let mut visited = Visited::new(alloc, digest(&plan.start))?;
     let answer = search_by(&plan, &mut visited)?;
     report(alloc, &visited, answer)

@@ -129,7 +129,7 @@ impl Board {
         }
     }
 
-    /// Takes the actor's next choice, if it has one left. Where memory is wanted nothing changes.
+    /// Takes the actor's next choice, if it has one left. Out of memory, nothing changes.
     pub fn step_next(&mut self, actor: Actor) -> Result<Option<Entry>, Fault>
         ensures ok { IfOk result (λ r. IsTurn actor self.old r self.new) }
         ensures err { OnErr result (self.new ≡ self.old) }

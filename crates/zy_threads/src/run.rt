@@ -194,8 +194,8 @@ where
     close(desk, c, a, b)
 }
 
-/// Makes all choices of a scenario by three threads, one for each actor. Where one of them wants memory it stops, the others go
-/// on to their ends, and the answer is want of memory; so it is where a thread cannot be started. It returns once all have ended.
+/// Makes all choices of a scenario by three threads, one for each actor. Where one of them is out of memory it stops, the others go
+/// on to their ends, and the answer is out of memory; so it is where a thread cannot be started. It returns once all have ended.
 pub fn run_threads(
     rt: &(impl Threads + Wait + Sync),
     alloc: Global,

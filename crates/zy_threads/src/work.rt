@@ -20,7 +20,7 @@ pub struct Done<L: Side> {
     pub ghost all: { taken ≡ (if refused then taken else L.turns) },
 }
 
-/// What is handed back after so many turns.
+/// What is handed back after this number of turns.
 fn finish<L: Side>(share: Share<L>, taken: usize, refused: bool) -> Done<L>
     requires { (share.parts ≡ 1) × (share.amount ≡ taken) × (taken ≡ (if refused then taken else L.turns)) }
 {

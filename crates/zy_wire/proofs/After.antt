@@ -14,7 +14,7 @@ at_key lows end key =
     let g = page_of-greatest lows end key.0 key.1 (omega arith) in
     omega (arith, g.0, g.1)
 
--- and no other page has it
+-- no other page has it
 pub after_key : (lows : List ℕ) (k end : ℕ) → Apart lows → 1 ≤ length lows → IsNext lows k (Some end) → IsAfter lows k (Some (page_of lows end))
 after_key lows k end apart some next =
     let p = page_of lows end in

@@ -29,7 +29,7 @@ abbrev pub IsNext : List ℕ → ℕ → Option ℕ → Type 0
 IsNext lows k None = (q : ℕ) → q < length lows → slice_index lows q ≤ k
 IsNext lows k (Some end) = Contains lows end × (k < end) × ((q : ℕ) → q < length lows → k < slice_index lows q → end ≤ slice_index lows q)
 
--- p has the least low key above k, and no other page has that one; there is none
+-- p alone has the least low key above k; there is none
 abbrev pub IsAfter : List ℕ → ℕ → Option ℕ → Type 0
 IsAfter lows k None = (q : ℕ) → q < length lows → slice_index lows q ≤ k
 IsAfter lows k (Some p) = (p < length lows) × (k < slice_index lows p) × ((q : ℕ) → q < length lows → k < slice_index lows q → (q ≡ p) ⊎ (slice_index lows p < slice_index lows q))

@@ -14,7 +14,7 @@ use zy_machine::machine::Machine;
 
 /// The modes, the pages, the links and the transactions of a machine.
 #[derive(Clone, Copy)]
-pub(crate) struct FinalState<'a>(pub &'a Machine);
+pub struct FinalState<'a>(pub &'a Machine);
 
 impl Section for FinalState<'_> {
     ghost texts = { λ s. final_texts s.0.now.state };

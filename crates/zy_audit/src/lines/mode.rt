@@ -10,7 +10,7 @@ use zy_modes::mode::NodeMode;
 
 /// A node and its mode.
 #[derive(Clone, Copy)]
-pub(crate) struct ModeLine {
+pub struct ModeLine {
     pub node: Node,
     pub mode: NodeMode,
 }

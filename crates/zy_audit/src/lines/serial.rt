@@ -7,7 +7,7 @@ use zy_io::line::Line;
 
 /// Whether the serial run gives the same.
 #[derive(Clone, Copy)]
-pub(crate) struct SerialLine(pub bool);
+pub struct SerialLine(pub bool);
 
 impl Line for SerialLine {
     ghost text = { λ l. serial_text l.0 };

@@ -119,9 +119,9 @@ impl Line for SentText {
 
 /// A step under its number.
 #[derive(Clone, Copy)]
-struct StepLine<'a> {
-    number: usize,
-    entry: &'a Entry,
+pub struct StepLine<'a> {
+    pub number: usize,
+    pub entry: &'a Entry,
 }
 
 impl Line for StepLine<'_> {

@@ -1,4 +1,4 @@
-//! Programs and scenarios with ample memory, and without.
+//! Programs and scenarios.
 use super::fixtures::has_instrs;
 use std::alloc::{AllocError, Global};
 use std::test::Fail;
@@ -241,37 +241,4 @@ fn faults_are_told_in_words(rt: HostRuntime) -> Result<(), Fail> {
         "the rows are at most 256 and open with at most `pages` pages; choice 9 names a transaction that exists";
     assert_eq!(rt; told.as_str(), wanted);
     Ok(())
-}
-
-/// Its one allocation may be refused.
-#[test]
-fn refused_verify(rt: HostRuntime) {
-    match Program::verify(rt.alloc(), COUNTING.as_slice()) {
-        Ok(program) => assert!(rt; has_instrs(&program, COUNTING.as_slice())),
-        Err(fault) => assert_eq!(rt; fault, ProgFault::Memory),
-    }
-}
-
-/// Either of its allocations may be refused: what is copied stays.
-#[test]
-fn refused_program_copy(rt: HostRuntime) {
-    let Ok(program) = Program::verify(rt.alloc(), COUNTING.as_slice()) else {
-        return;
-    };
-    if let Ok(copy) = program.copy(rt.alloc()) {
-        assert!(rt; has_instrs(&copy, COUNTING.as_slice()));
-    }
-    assert!(rt; has_instrs(&program, COUNTING.as_slice()));
-}
-
-/// Any of its allocations may be refused: what is copied stays.
-#[test]
-fn refused_scenario_copy(rt: HostRuntime) {
-    let Some(scenario) = sample(rt.alloc()) else {
-        return;
-    };
-    if let Ok(copy) = scenario.copy(rt.alloc()) {
-        assert!(rt; is_sample(&copy));
-    }
-    assert!(rt; is_sample(&scenario));
 }

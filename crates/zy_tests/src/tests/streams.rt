@@ -14,11 +14,11 @@ use zy_io::section::{Both, Each, One, Parts, Section, write_line, write_lines, w
 use zy_io::stream::{CountingReader, CountingWriter, Sink, Source};
 use zy_io::writing::{TextFault, WriteFault, write_all};
 
-/// Gives so many bytes, and counts them.
+/// Gives as many bytes as are left, and counts them.
 #[derive(Drop)]
 struct Plenty {
     left: usize,
-    given: usize,
+    given: u64,
 }
 
 impl Source for Plenty {
@@ -26,10 +26,12 @@ impl Source for Plenty {
 
     ghost failures = { λ _. 0 };
 
+    ghost given = { λ s. s.given };
+
     fn pull(&mut self, buffer: &mut [u8]) -> io::Result<usize> {
         let count = buffer.len().min(self.left);
         self.left -= count;
-        self.given = self.given.saturating_add(count);
+        self.given = self.given.saturating_add(count as u64);
         Ok(count)
     }
 }
@@ -231,21 +233,4 @@ fn faults_are_told_in_words(rt: HostRuntime) -> Result<(), Fail> {
         "the output could not be written; the output could not be written; there is no memory for a line of the output";
     assert_eq!(rt; told.as_str(), wanted);
     Ok(())
-}
-
-/// Any of its growths may be refused: what is left of the source is an end of it.
-#[test]
-fn refused_reading(rt: HostRuntime) {
-    let input = [7u8; 20_000];
-    let mut source = SliceSource::new(input.as_slice());
-    match read_all(rt.alloc(), &mut source) {
-        Ok(bytes) => {
-            assert_eq!(rt; bytes.as_slice(), input.as_slice());
-            assert!(rt; source.left().is_empty());
-        }
-        Err(fault) => {
-            assert_eq!(rt; fault, ReadFault::Memory);
-            assert!(rt; input.ends_with(source.left()));
-        }
-    }
 }

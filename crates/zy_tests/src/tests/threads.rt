@@ -17,7 +17,7 @@ use zy_table::entry::Entry;
 use zy_table::outcome::Outcome;
 use zy_threads::board::Board;
 use zy_threads::gate::{Allowance, Gate, Unlimited};
-use zy_threads::run::{run_allowed, run_threads};
+use zy_threads::run::run_allowed;
 
 const TAKE_B: Choice = Choice::Take(Node::B);
 
@@ -365,18 +365,6 @@ fn each_call_has_the_entry_before(rt: HostRuntime) -> Result<(), Fail> {
     assert!(rt; gate.agrees(steps.as_slice(), Actor::C));
     assert!(rt; gate.agrees(steps.as_slice(), Actor::A));
     assert!(rt; gate.agrees(steps.as_slice(), Actor::B));
-    Ok(())
-}
-
-/// Run with each request for memory refused in turn (tests/in-crate-refusals): there is a machine, or one actor at most is cut short.
-#[test]
-fn refused_memory_stops_one(rt: HostRuntime) -> Result<(), Fail> {
-    let gate = Noting::new();
-    if let Ok(scenario) = scenario(rt.alloc()) {
-        let answer = run_threads(&rt, rt.alloc(), scenario, &gate);
-        assert!(rt; gate.short() <= usize::from(answer.is_err()));
-    }
-    assert_eq!(rt; gate.wrong.load(Ordering::SeqCst), 0);
     Ok(())
 }
 

@@ -7,8 +7,18 @@ use Rattle.zy_isa.specs.Words.{lines_of, words_of}
 use Rattle.zy_words.specs.Lines.{first_line}
 use Rattle.zy_words.proofs.LineLemmas.{line_taken}
 use Rattle.zy_console.specs.Console.{LineSays}
-use Rattle.zy_console.proofs.SaidLemmas.{said_more, said_torn, says_first}
+use Rattle.zy_console.proofs.SaidLemmas.{said_more, said_stops, said_torn, says_first}
 use Rattle.zy_console.proofs.session.write_session.Goals as goal
+
+pub returns-in_err-answer : goal.returns-in_err-answer
+returns-in_err-answer g c =
+    let written = g.K.Sink.written in
+    let p = err_from_is_err_and c.from_residual.result c.from_residual.ensures.1 in
+    rw p.1 (rw p.2 (
+      said_stops (written c.args.sink.now) (written c.loop-words.sink) c.args.debugger.now c.loop-words.debugger (lines_of c.args.commands.now) (lines_of c.loop-words.rest.now)
+          c.loop-words.invariant.said,
+      c.loop-words.invariant.same,
+    ))
 
 pub returns-in_err-write_all : goal.returns-in_err-write_all
 returns-in_err-write_all g c =

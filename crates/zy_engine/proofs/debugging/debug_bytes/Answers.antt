@@ -7,8 +7,8 @@ use Rattle.zy_engine.specs.Inputs.{IsTextFault}
 use Rattle.zy_engine.proofs.DebugLemmas.{part_is, below_is, unread, unaccepted, accepted, unfinished, finished}
 use Rattle.zy_engine.proofs.debugging.debug_bytes.Goals as goal
 
-pub returns-in_err-bytes : goal.returns-in_err-bytes
-returns-in_err-bytes g c =
+pub returns-in_err-bytes-clause-debugs : goal.returns-in_err-bytes-clause-debugs
+returns-in_err-bytes-clause-debugs g c =
     let p = err_from_is_err_and c.from_residual.result c.from_residual.ensures.1 in
     rw p.1 (rw p.2 (
     unread (g.S.Source.left c.args.source.now) (g.S.Source.left c.read_all.new.source) (g.K.Sink.written c.args.sink.now)
@@ -16,8 +16,8 @@ returns-in_err-bytes g c =
     c.in_err-bytes.field-0.0 c.in_err-bytes.ensures.reads
     ))
 
-pub returns-in_err-scenario : goal.returns-in_err-scenario
-returns-in_err-scenario g c =
+pub returns-in_err-scenario-clause-debugs : goal.returns-in_err-scenario-clause-debugs
+returns-in_err-scenario-clause-debugs g c =
     let told = g.S.Source.left c.args.source.now in
     let bytes = c.as_slice-input.result.now in
     let whole : ReadWhole told (g.S.Source.left c.read_all.new.source) = search rules in
@@ -31,8 +31,8 @@ returns-in_err-scenario g c =
     (subst (λ t. IsTextFault t c.in_err-scenario.field-0.0) part c.in_err-scenario.ensures.fault)
     ))
 
-pub returns-in_err-write_replies : goal.returns-in_err-write_replies
-returns-in_err-write_replies g c =
+pub returns-in_err-write_replies-clause-debugs : goal.returns-in_err-write_replies-clause-debugs
+returns-in_err-write_replies-clause-debugs g c =
     let told = g.S.Source.left c.args.source.now in
     let old = g.K.Sink.written c.args.sink.now in
     let new = g.K.Sink.written c.write_replies.new.sink in
@@ -50,8 +50,8 @@ returns-in_err-write_replies g c =
     (subst (λ lines. WroteReplies old new (g.K.Sink.failures c.args.sink.now) (g.K.Sink.failures c.write_replies.new.sink) {X = Unit {0}} (Err c.in_err-write_replies.field-0.0) (opened scenario) lines) below c.in_err-write_replies.ensures)
     ))
 
-pub returns : goal.returns
-returns g c =
+pub returns-clause-debugs : goal.returns-clause-debugs
+returns-clause-debugs g c =
     let told = g.S.Source.left c.args.source.now in
     let old = g.K.Sink.written c.args.sink.now in
     let new = g.K.Sink.written c.write_replies.new.sink in

@@ -5,8 +5,8 @@ use Rattle.zy_io.specs.Streams.{ReadWhole}
 use Rattle.zy_engine.proofs.RunLemmas.{converts-refused, converts-wrote}
 use Rattle.zy_engine.proofs.engine.convert.Goals as goal
 
-pub returns-in_err-scenario : goal.returns-in_err-scenario
-returns-in_err-scenario g c =
+pub returns-in_err-scenario-clause-converts : goal.returns-in_err-scenario-clause-converts
+returns-in_err-scenario-clause-converts g c =
     let told = g.S.Source.left c.args.source.now in
     let left = g.S.Source.left c.read_all.new.source in
     let whole : ReadWhole told left = search rules in
@@ -15,8 +15,8 @@ returns-in_err-scenario g c =
     rw (p.1, p.2) (converts-refused c.args.format (g.O.Output.bytes c.args.output.now) told left (g.K.Sink.written c.args.sink.now) (g.S.Source.failures c.args.source.now) (g.S.Source.failures c.read_all.new.source) (g.K.Sink.failures c.args.sink.now)
     c.as_slice.result.now c.in_err-scenario.field-0.0 same c.in_err-scenario.ensures.fault whole c.in_ok-bytes.ensures.reads.3)
 
-pub returns : goal.returns
-returns g c =
+pub returns-clause-converts : goal.returns-clause-converts
+returns-clause-converts g c =
     let told = g.S.Source.left c.args.source.now in
     let left = g.S.Source.left c.read_all.new.source in
     let whole : ReadWhole told left = search rules in

@@ -8,8 +8,8 @@ use Rattle.zy_engine.proofs.RunLemmas.{converts-unread, converts-refused, conver
 use Rattle.zy_engine.proofs.MergeLemmas.{merge-of-self, merge-of-told}
 use Rattle.zy_engine.proofs.threading.threads_bytes.Goals as goal
 
-pub returns-in_err-bytes : goal.returns-in_err-bytes
-returns-in_err-bytes g c =
+pub returns-in_err-bytes-clause-converts : goal.returns-in_err-bytes-clause-converts
+returns-in_err-bytes-clause-converts g c =
     let told = g.S.Source.left c.args.source.now in
     let p = err_from_is_err_and c.from_residual.result c.from_residual.ensures.1 in
     rw (p.1, p.2) (record {
@@ -19,8 +19,8 @@ returns-in_err-bytes g c =
           c.in_err-bytes.field-0.0 c.in_err-bytes.ensures.reads;
     })
 
-pub returns-in_err-scenario : goal.returns-in_err-scenario
-returns-in_err-scenario g c =
+pub returns-in_err-scenario-clause-converts : goal.returns-in_err-scenario-clause-converts
+returns-in_err-scenario-clause-converts g c =
     let told = g.S.Source.left c.args.source.now in
     let left = g.S.Source.left c.read_all.new.source in
     let whole : ReadWhole told left = search rules in
@@ -33,8 +33,8 @@ returns-in_err-scenario g c =
           c.as_slice.result.now c.in_err-scenario.field-0.0 same c.in_err-scenario.ensures.fault whole c.in_ok-bytes.ensures.reads.3;
     })
 
-pub returns-in_err-write_threads : goal.returns-in_err-write_threads
-returns-in_err-write_threads g c =
+pub returns-in_err-write_threads-clause-converts : goal.returns-in_err-write_threads-clause-converts
+returns-in_err-write_threads-clause-converts g c =
     let told = g.S.Source.left c.args.source.now in
     let left = g.S.Source.left c.read_all.new.source in
     let whole : ReadWhole told left = search rules in
@@ -51,8 +51,8 @@ returns-in_err-write_threads g c =
           bytes c.in_ok-scenario.scenario (Err c.in_err-write_threads.field-0.0) same accepted.found accepted.only whole c.in_ok-bytes.ensures.reads.3 c.in_err-write_threads.ensures.wrote;
     })
 
-pub returns : goal.returns
-returns g c =
+pub returns-clause-converts : goal.returns-clause-converts
+returns-clause-converts g c =
     let told = g.S.Source.left c.args.source.now in
     let left = g.S.Source.left c.read_all.new.source in
     let whole : ReadWhole told left = search rules in

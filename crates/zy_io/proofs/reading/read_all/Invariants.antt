@@ -1,5 +1,5 @@
 -- What was taken so far is what is held.
-use Rattle.std.proofs.Common.{◌≡◌, ◌≤◌, ◌-◌, vec_len}
+use Rattle.std.proofs.Common.{◌≡◌, ◌≤◌, ◌+◌, ◌-◌, vec_len}
 use Rattle.std.specs.Io.KnownBytes.{Consumes}
 use Rattle.zy_io.proofs.reading.read_all.Given as goal
 
@@ -7,6 +7,7 @@ abbrev pub invariant-loop-count : goal.invariant-loop-count
 invariant-loop-count g l = record {
   so_far : Consumes (g.S.Source.left l.initial.source) (g.S.Source.left l.source) l.bytes.items;
   none_failed : g.S.Source.failures l.source ≡ g.S.Source.failures l.initial.source;
+  bound : g.S.Source.given l.source ≤ g.S.Source.given l.initial.source + vec_len l.bytes;
   room : vec_len l.bytes ≤ 4194304;
 }
 

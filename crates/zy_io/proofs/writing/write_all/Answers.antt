@@ -1,4 +1,4 @@
--- One more call took a front of the rest.
+-- One more call took a prefix of the rest.
 use Rattle.std.proofs.Common.{rules}
 use Rattle.zy_io.proofs.StreamLemmas.{Remains-more}
 use Rattle.zy_io.proofs.writing.write_all.Goals as goal

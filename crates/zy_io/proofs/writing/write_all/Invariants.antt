@@ -1,4 +1,4 @@
--- What went out is a front of the text, and the rest is its back.
+-- What went out is a prefix of the text, and the rest is its back.
 use Rattle.std.proofs.Common.{◌≡◌, length}
 use Rattle.zy_io.specs.Streams.{Remains}
 use Rattle.zy_io.proofs.writing.write_all.Given as goal

@@ -1,0 +1,35 @@
+# Completion of zy_bench, zview and zdb for bash.
+
+_zy_bench() {
+  local word=${COMP_WORDS[COMP_CWORD]} before=${COMP_WORDS[COMP_CWORD - 1]} options
+  if [[ $COMP_CWORD -eq 1 ]]; then
+    mapfile -t COMPREPLY < <(compgen -W 'run asm dis check threads trace debug search help --help --version' -- "$word")
+    return
+  fi
+  case ${COMP_WORDS[1]} in
+    run | threads | trace) options='--image --help' ;;
+    debug) options='--every --ring --help' ;;
+    search) options='--image --for --kill --states --help' ;;
+    help) options='run asm dis check threads trace debug search' ;;
+    *) options='--help' ;;
+  esac
+  if [[ $before == --for ]]; then
+    options='differs aborted own killed badkey missing duplicate frozen nopage gone committed stuck'
+  fi
+  mapfile -t COMPREPLY < <(compgen -W "$options" -- "$word")
+}
+
+_zview() {
+  local word=${COMP_WORDS[COMP_CWORD]} before=${COMP_WORDS[COMP_CWORD - 1]}
+  if [[ $before == --fold ]]; then
+    mapfile -t COMPREPLY < <(compgen -W 'yes no' -- "$word")
+  elif [[ $word == -* ]]; then
+    mapfile -t COMPREPLY < <(compgen -W '--svg --mermaid --text --image --steps --title --fold --help' -- "$word")
+  else
+    mapfile -t COMPREPLY < <(compgen -f -- "$word")
+  fi
+}
+
+complete -F _zy_bench -o default zy_bench
+complete -F _zview -o filenames zview
+complete -f -W '--help' zdb

@@ -1,0 +1,24 @@
+# Completion of zy_bench, zview and zdb for fish.
+set -l commands run asm dis check threads trace debug search help
+
+complete -c zy_bench -f -n "not __fish_seen_subcommand_from $commands" -a "$commands"
+complete -c zy_bench -l help -s h -d 'Print help'
+complete -c zy_bench -l version -s V -d 'Print the version' -n "not __fish_seen_subcommand_from $commands"
+complete -c zy_bench -l image -d 'The input is an image' -n '__fish_seen_subcommand_from run threads trace search'
+complete -c zy_bench -l every -x -d 'Keep copies at multiples of N' -n '__fish_seen_subcommand_from debug'
+complete -c zy_bench -l ring -x -d 'Keep at most N copies' -n '__fish_seen_subcommand_from debug'
+complete -c zy_bench -l for -x -d 'What to look for' -n '__fish_seen_subcommand_from search' \
+  -a 'differs aborted own killed badkey missing duplicate frozen nopage gone committed stuck'
+complete -c zy_bench -l kill -d 'Transactions may be killed' -n '__fish_seen_subcommand_from search'
+complete -c zy_bench -l states -x -d 'Look at N states at most' -n '__fish_seen_subcommand_from search'
+
+complete -c zview -l svg -d 'The picture alone'
+complete -c zview -l mermaid -d 'A sequenceDiagram'
+complete -c zview -l text -d 'Lanes in the terminal'
+complete -c zview -l image -d 'The input is an image'
+complete -c zview -l steps -x -d 'A part of the run'
+complete -c zview -l title -x -d 'The title'
+complete -c zview -l fold -x -a 'yes no' -d 'Whether like steps share a row'
+complete -c zview -l help -s h -d 'Print help'
+
+complete -c zdb -l help -d 'Print help'

@@ -1,0 +1,96 @@
+-- Each command that is not refused leads to one session and has one reply.
+use Rattle.std.proofs.Common.{◌≡◌, ◌∙◌, ℕ, ◌+◌, ◌-◌, Bool, true, false, not, is_none, nat_le, nat_lt, Option, Some, None, refl, sym, ap, ap₂}
+use Rattle.std.proofs.lemmas.Option.{none-some}
+use Rattle.zy_scan.specs.declared.stop.Stop.{Stop}
+use Rattle.zy_scan.specs.declared.stop.Stop.TheVariants as stop
+use Rattle.zy_scan.specs.Slots.{free_slot, with_stop, without_stop}
+use Rattle.zy_scan.proofs.FiringLemmas.{goes_on, goes_back, goes_on_once, goes_back_once}
+use Rattle.zy_debug.specs.Sessions.{Session, goes}
+use Rattle.zy_debug.specs.Commands.{Does, GoesOn, GoesBack, Moves, Sets, refusal, has_room, has_room_in_range, set_at, stopped, unless}
+use Rattle.zy_debug.specs.declared.command.Command.{Command}
+use Rattle.zy_debug.specs.declared.command.Command.TheVariants as command
+use Rattle.zy_debug.specs.declared.command.DebugFault.TheVariants as fault
+use Rattle.zy_debug.specs.declared.command.Reply.{Reply}
+use Rattle.zy_debug.specs.declared.command.Reply.TheVariants as reply
+
+-- ---- one at most
+
+on_once : (s t u : Session) (r q : Reply) → GoesOn s t r → GoesOn s u q → (t ≡ u) × (r ≡ q)
+on_once s t u r q h k =
+    let e = goes_on_once s.scenario s.stops s.position h.slot k.slot t.position u.position h.conts k.conts in
+    (h.kept ∙ ap (goes s) e.0 ∙ sym k.kept, h.reply ∙ ap₂ stopped e.1 e.0 ∙ sym k.reply)
+
+back_once : (s t u : Session) (r q : Reply) → GoesBack s t r → GoesBack s u q → (t ≡ u) × (r ≡ q)
+back_once s t u r q h k =
+    let e = goes_back_once s.scenario s.stops s.position h.slot k.slot t.position u.position h.rconts k.rconts in
+    (h.kept ∙ ap (goes s) e.0 ∙ sym k.kept, h.reply ∙ ap₂ stopped e.1 e.0 ∙ sym k.reply)
+
+set_once : (o : Option ℕ) (r q : Reply) → set_at o r → set_at o q → r ≡ q
+set_once None r q h k = absurd h
+set_once (Some i) r q h k = h ∙ sym k
+
+sets_once : (s : Session) (x : Stop) (t u : Session) (r q : Reply) → Sets s x t r → Sets s x u q → (t ≡ u) × (r ≡ q)
+sets_once s x t u r q h k = (h.0 ∙ sym k.0, set_once (free_slot s.stops) r q h.1 k.1)
+
+same : (v t u : Session) (w r q : Reply) → (t ≡ v) × (r ≡ w) → (u ≡ v) × (q ≡ w) → (t ≡ u) × (r ≡ q)
+same v t u w r q h k = (h.0 ∙ sym k.0, h.1 ∙ sym k.1)
+
+pub does_once : (s : Session) (c : Command) (t u : Session) (r q : Reply) → Does s c t r → Does s c u q → (t ≡ u) × (r ≡ q)
+does_once s (command.Step n) t u r q h k = same _ t u _ r q h k
+does_once s (command.Back n) t u r q h k = same _ t u _ r q h k
+does_once s (command.Goto n) t u r q h k = same _ t u _ r q h k
+does_once s command.Cont t u r q h k = on_once s t u r q h k
+does_once s command.RCont t u r q h k = back_once s t u r q h k
+does_once s (command.BreakPage p) t u r q h k = sets_once s (stop.Page p) t u r q h k
+does_once s command.BreakMode t u r q h k = sets_once s stop.Mode t u r q h k
+does_once s command.BreakAbort t u r q h k = sets_once s stop.Abort t u r q h k
+does_once s (command.Watch x) t u r q h k = sets_once s (stop.Watch x) t u r q h k
+does_once s (command.Delete n) t u r q h k = same _ t u _ r q h k
+does_once s (command.Page p) t u r q h k = same _ t u _ r q h k
+does_once s (command.Txn n) t u r q h k = same _ t u _ r q h k
+does_once s command.Links t u r q h k = same _ t u _ r q h k
+does_once s command.Position t u r q h k = same _ t u _ r q h k
+
+-- ---- one at least
+
+-- a command leads somewhere and has a reply
+abbrev pub IsDone : Session → Command → Type 0
+IsDone s c = (t : Session) × (r : Reply) × Does s c t r
+
+moves : (s : Session) (m : ℕ) → (t : Session) × (r : Reply) × Moves s m t r
+moves s m = (goes s m, reply.At m, (refl, refl))
+
+on : (s : Session) → (t : Session) × (r : Reply) × GoesOn s t r
+on s = let g = goes_on s.scenario s.stops s.position in
+    (goes s g.0, stopped g.1 g.0, record { slot = g.1; conts = g.2; kept = refl; reply = refl })
+
+back : (s : Session) → (t : Session) × (r : Reply) × GoesBack s t r
+back s = let g = goes_back s.scenario s.stops s.position in
+    (goes s g.0, stopped g.1 g.0, record { slot = g.1; rconts = g.2; kept = refl; reply = refl })
+
+slot_set : (o : Option ℕ) → unless (not (is_none o)) fault.TooManyStops ≡ None → (r : Reply) × set_at o r
+slot_set None h = absurd (none-some fault.TooManyStops (sym h))
+slot_set (Some i) h = (reply.Set (i + 1), refl)
+
+sets : (s : Session) (x : Stop) → has_room s ≡ None → (t : Session) × (r : Reply) × Sets s x t r
+sets s x h = let r = slot_set (free_slot s.stops) h in (record s { stops = with_stop x s.stops }, r.0, (refl, r.1))
+
+in_range_too : (b : Bool) (s : Session) → has_room_in_range b s ≡ None → has_room s ≡ None
+in_range_too true s h = h
+in_range_too false s h = absurd (none-some fault.Range (sym h))
+
+pub is_done : (s : Session) (c : Command) → refusal s c ≡ None → IsDone s c
+is_done s (command.Step n) h = moves s (s.position + n)
+is_done s (command.Back n) h = moves s (s.position - n)
+is_done s (command.Goto n) h = moves s n
+is_done s command.Cont h = on s
+is_done s command.RCont h = back s
+is_done s (command.BreakPage p) h = sets s (stop.Page p) (in_range_too (nat_lt p s.scenario.pages) s h)
+is_done s command.BreakMode h = sets s stop.Mode h
+is_done s command.BreakAbort h = sets s stop.Abort h
+is_done s (command.Watch x) h = sets s (stop.Watch x) (in_range_too (nat_le x 65535) s h)
+is_done s (command.Delete n) h = (record s { stops = without_stop (n - 1) s.stops }, reply.Deleted n, (refl, refl))
+is_done s (command.Page p) h = (s, reply.Shown, (refl, refl))
+is_done s (command.Txn n) h = (s, reply.Shown, (refl, refl))
+is_done s command.Links h = (s, reply.Shown, (refl, refl))
+is_done s command.Position h = (s, reply.Shown, (refl, refl))

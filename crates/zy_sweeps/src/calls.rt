@@ -1,0 +1,226 @@
+//! Calls that are out of memory once, and what is found then.
+ghost use Rattle.std.specs.Prelude.{◌≡◌, IfOk, Ok};
+
+use crate::digest::Digest;
+use std::alloc::AllocError;
+use zy_asm::faults::{AsmKind, Refusal};
+use zy_check::faults::CheckFault;
+use zy_debug::command::DebugFault;
+use zy_engine::faults::BenchFault;
+use zy_image::faults::LoadFault;
+use zy_io::reading::ReadFault;
+use zy_io::writing::TextFault;
+use zy_isa::program::ProgFault;
+use zy_wire::wire::WireFault;
+
+/// Why a call has no answer.
+#[derive(Clone, Copy, Debug, PartialEq, Eq)]
+pub enum Refused {
+    /// What it is made with, or what looks at its answer, is out of memory.
+    Setup,
+    /// It is out of memory itself.
+    Memory,
+    /// It fails in another way.
+    Fault,
+    /// It answers another thing than it should.
+    Different,
+}
+
+/// The answers of some calls.
+#[derive(Clone, Copy, Debug, PartialEq, Eq)]
+pub struct Answers {
+    /// How many there are.
+    pub count: usize,
+    /// A digest of all of them, and of what can be seen at the end.
+    pub digest: u64,
+}
+
+/// What is found of some calls.
+#[derive(Clone, Copy, Debug, PartialEq, Eq)]
+pub enum Found {
+    /// Each answered.
+    Answered(Answers),
+    /// One was out of memory, changed nothing, and answered when it was made again.
+    Again(Answers),
+    /// One was out of memory, and changed something.
+    Changed,
+    /// One was out of memory, and has no answer when it is made again.
+    Lost,
+    /// There is no answer.
+    NoAnswer(Refused),
+}
+
+/// A fault of a library call.
+pub trait Fault {
+    /// Whether it is that there was no memory.
+    fn is_memory(&self) -> bool;
+}
+
+impl Fault for AllocError {
+    fn is_memory(&self) -> bool {
+        true
+    }
+}
+
+impl Fault for Refusal {
+    fn is_memory(&self) -> bool {
+        matches!(self.reason.kind(), AsmKind::Memory)
+    }
+}
+
+impl Fault for LoadFault {
+    fn is_memory(&self) -> bool {
+        matches!(self, LoadFault::Memory)
+    }
+}
+
+impl Fault for ProgFault {
+    fn is_memory(&self) -> bool {
+        matches!(self, ProgFault::Memory)
+    }
+}
+
+impl Fault for ReadFault {
+    fn is_memory(&self) -> bool {
+        matches!(self, ReadFault::Memory)
+    }
+}
+
+impl Fault for TextFault {
+    fn is_memory(&self) -> bool {
+        matches!(self, TextFault::Memory)
+    }
+}
+
+impl Fault for CheckFault {
+    fn is_memory(&self) -> bool {
+        matches!(self, CheckFault::Memory)
+    }
+}
+
+impl Fault for DebugFault {
+    fn is_memory(&self) -> bool {
+        matches!(self, DebugFault::Memory)
+    }
+}
+
+impl Fault for BenchFault {
+    fn is_memory(&self) -> bool {
+        matches!(self, BenchFault::Memory)
+    }
+}
+
+impl Fault for WireFault {
+    fn is_memory(&self) -> bool {
+        matches!(self, WireFault::Memory)
+    }
+}
+
+/// The answer of the call under test.
+pub fn tested<T: Drop, F: Fault + Drop>(answer: Result<T, F>) -> Result<T, Refused>
+    ensures { IfOk result (λ value. answer ≡ Ok value) }
+{
+    match answer {
+        Ok(value) => Ok(value),
+        Err(fault) if fault.is_memory() => Err(Refused::Memory),
+        Err(_) => Err(Refused::Fault),
+    }
+}
+
+/// The answer of a call that only prepares the one under test, or looks at its answer.
+pub fn prepared<T: Drop, F: Fault + Drop>(answer: Result<T, F>) -> Result<T, Refused>
+    ensures { IfOk result (λ value. answer ≡ Ok value) }
+{
+    match answer {
+        Ok(value) => Ok(value),
+        Err(fault) if fault.is_memory() => Err(Refused::Setup),
+        Err(_) => Err(Refused::Fault),
+    }
+}
+
+/// Calls to be made in order. At most one request for memory is refused in a run of the program.
+pub trait Calls {
+    /// How many there are.
+    fn len(&self) -> usize {
+        1
+    }
+
+    /// Makes the call at a place, and gives a digest of its answer.
+    fn call(&mut self, place: usize) -> Result<u64, Refused>;
+
+    /// A digest of all that can be seen of what the calls work on.
+    fn shown(&self) -> u64 {
+        0
+    }
+}
+
+/// The answer of a call, and whether it was out of memory before.
+#[derive(Clone, Copy)]
+struct Made {
+    answer: u64,
+    again: bool,
+}
+
+/// Makes a call, and again where it was out of memory and changed nothing.
+fn make<C: Calls>(calls: &mut C, place: usize) -> Result<Made, Found> {
+    let before = calls.shown();
+    match calls.call(place) {
+        Ok(answer) => Ok(Made {
+            answer,
+            again: false,
+        }),
+        Err(Refused::Memory) => {
+            if calls.shown() != before {
+                return Err(Found::Changed);
+            }
+            make_again(calls, place)
+        }
+        Err(refused) => Err(Found::NoAnswer(refused)),
+    }
+}
+
+/// The answer of a call that was out of memory, when it is made again.
+pub fn again(answer: Result<u64, Refused>) -> Result<u64, Found> {
+    match answer {
+        Ok(digest) => Ok(digest),
+        Err(Refused::Different) => Err(Found::NoAnswer(Refused::Different)),
+        Err(_) => Err(Found::Lost),
+    }
+}
+
+/// Makes a call that was out of memory.
+fn make_again<C: Calls>(calls: &mut C, place: usize) -> Result<Made, Found> {
+    let answer = again(calls.call(place))?;
+    Ok(Made {
+        answer,
+        again: true,
+    })
+}
+
+/// What is found of calls that all answered.
+pub fn answered(answers: Answers, again: bool) -> Found {
+    if again {
+        Found::Again(answers)
+    } else {
+        Found::Answered(answers)
+    }
+}
+
+/// What is found of all calls, made in order.
+pub fn sweep<C: Calls>(calls: &mut C) -> Found {
+    let mut digest = Digest::new();
+    let mut again = false;
+    for place in 0..calls.len() {
+        match make(calls, place) {
+            Ok(made) => {
+                digest.number(made.answer);
+                again = again || made.again;
+            }
+            Err(found) => return found,
+        }
+    }
+    digest.number(calls.shown());
+    let count = calls.len();
+    let digest = digest.value();
+    answered(Answers { count, digest }, again)
+}

@@ -1,0 +1,3 @@
+mod KeptLemmas
+mod LawLemmas
+mod TraceLemmas

@@ -1,0 +1,16 @@
+-- The lines that are shown are those that have changed.
+use Rattle.std.proofs.Common.{◌∙◌, ◌++◌, ap, ap₂, false}
+use Rattle.zy_io.specs.Writing.{line_of}
+use Rattle.zy_audit.specs.Texts.{step_text}
+use Rattle.zy_trace.specs.Subjects.{shown, shown_texts, subjects}
+use Rattle.zy_trace.proofs.TraceLemmas.{lines_each}
+use Rattle.zy_trace.proofs.step.append_changed.Goals as goal
+
+pub returns : goal.returns
+returns c =
+    let s = c.args.before.now.state in
+    let t = c.args.now.now.state in
+    c.in_ok-append_since.ensures
+    ∙ ap₂ (λ l m. l ++ m)
+    (c.in_ok-append_step.ensures ∙ ap₂ (λ l n. l ++ line_of (step_text n c.args.entry.now)) c.clear.ensures c.len.ensures.value)
+    (lines_each (shown false s t) (subjects t))

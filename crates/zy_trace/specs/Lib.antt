@@ -1,0 +1,4 @@
+pub mod Kept
+pub mod Laws
+pub mod Subjects
+pub mod Trace

@@ -1,0 +1,50 @@
+-- The lines of a state, each under what it is of.
+use Rattle.std.specs.Prelude.{ℕ, ◌<◌, ◌&&◌, Bool, false, not, List, [], ◌∷◌, ◌++◌, codes, length, map, if◌then◌else◌}
+use Rattle.std.specs.List.{flat_map}
+use Rattle.std.specs.Str.{bytes_eq}
+use Rattle.zy_isa.specs.declared.node.Node.TheVariants.{A, B}
+use Rattle.zy_io.specs.Writing.{line_of}
+use Rattle.zy_table.specs.State.{State, facing}
+use Rattle.zy_table.specs.Database.{newest}
+use Rattle.zy_audit.specs.Texts.{mode_text, link_text, txn_text}
+use Rattle.zy_audit.specs.Listing.{below}
+use Rattle.zy_audit.specs.Locked.{page_reply}
+use Rattle.zy_trace.specs.declared.subject.Subject.{Subject}
+use Rattle.zy_trace.specs.declared.subject.Subject.TheVariants.{Mode, Page, Link, Txn}
+
+-- the line of a subject; that of a page has its locks, and says none where there is no such page yet
+abbrev pub line_in : State → Subject → List ℕ
+line_in s (Mode n) = mode_text n (facing n s).me.mode
+line_in s (Page p) = page_reply s p
+line_in s (Link n) = link_text n (facing n s).outbox
+line_in s (Txn t) = txn_text s t
+
+-- what has a line in a state, in the order of the lines
+abbrev pub subjects : State → List Subject
+subjects s = (Mode A ∷ Mode B ∷ []) ++ (map Page (below (length (newest s))) ++ ((Link A ∷ Link B ∷ []) ++ map Txn (below (length s.txns))))
+
+-- behind two spaces
+abbrev pub inset : List ℕ → List ℕ
+inset text = codes "  " ++ text
+
+abbrev pub state_lines : State → List (List ℕ)
+state_lines s = map (λ x. inset (line_in s x)) (subjects s)
+
+-- the line of a subject as it is now, where all are shown or it is not what it was
+abbrev pub shown : Bool → State → State → Subject → List (List ℕ)
+shown all before now x = if not all && bytes_eq (line_in before x) (line_in now x) then [] else inset (line_in now x) ∷ []
+
+abbrev pub changed : State → State → List (List ℕ)
+changed before now = flat_map (shown false before now) (subjects now)
+
+-- the same as bytes
+abbrev pub shown_text : Bool → State → State → Subject → List ℕ
+shown_text all before now x = flat_map line_of (shown all before now x)
+
+abbrev pub shown_texts : Bool → State → State → List Subject → List ℕ
+shown_texts all before now xs = flat_map (shown_text all before now) xs
+
+-- a transaction that has a line is there
+abbrev pub HasLine : State → Subject → Type 0
+HasLine s (Txn t) = t < length s.txns
+HasLine s x = Unit {0}

@@ -1,0 +1,97 @@
+//! One step of a trace.
+ghost use Rattle.std.specs.Prelude.{◌≡◌, ◌<◌, ◌+◌, ◌++◌, true, OnOk, get_or, length};
+ghost use Rattle.std.specs.List.{flat_map};
+ghost use Rattle.zy_io.specs.Writing.{line_of};
+ghost use Rattle.zy_isa.specs.Choices.{names_below};
+ghost use Rattle.zy_isa.specs.declared.choice.Choice.TheVariants.{Start};
+ghost use Rattle.zy_table.specs.Play.{step as step_spec};
+ghost use Rattle.zy_audit.specs.Texts.{step_text};
+ghost use Rattle.zy_trace.specs.Subjects.{changed};
+ghost use Rattle.zy_trace.specs.Trace.{Beside, step_lines};
+
+use crate::since::{Since, Texts, append_since};
+use std::alloc::AllocError;
+use zy_audit::lines::step::StepLine;
+use zy_io::buffer::LineBuffer;
+use zy_io::line::Line;
+use zy_isa::choice::Choice;
+use zy_laws::laws::safe_counts;
+use zy_machine::machine::Machine;
+use zy_table::entry::Entry;
+
+/// Appends the line of a step, with its end.
+fn append_step(number: usize, entry: &Entry, line: &mut LineBuffer) -> Result<(), AllocError>
+    ensures { OnOk result (line.new ≡ line.old ++ line_of (step_text number entry.now)) }
+{
+    StepLine { number, entry }.append(line)?;
+    line.push(b'\n')
+}
+
+/// The next choice of a machine's scenario.
+fn next_choice(machine: &Machine) -> Choice
+    requires { length machine.now.entries < length machine.now.scenario.choices }
+    ensures value { result ≡ get_or machine.now.scenario.choices (length machine.now.entries) Start }
+    ensures named { names_below (length machine.now.scenario.programs) result ≡ true }
+    ensures room { length machine.now.entries < 4096 }
+{
+    machine.scenario().choices()[machine.len()]
+}
+
+/// Two machines of a scenario have as many transactions.
+fn same_txns(before: &Machine, now: &Machine)
+    requires { before.now.scenario ≡ now.now.scenario }
+    ensures { length before.now.state.txns ≡ length now.now.state.txns }
+{
+    safe_counts();
+    let _before = before.len();
+    let _now = now.len();
+}
+
+/// Puts the lines of the last step of a machine into the buffer: another one of its scenario stands where it stood before.
+fn append_changed(
+    before: &Machine,
+    now: &Machine,
+    entry: &Entry,
+    texts: &mut Texts,
+    line: &mut LineBuffer,
+) -> Result<(), AllocError>
+    requires { before.now.scenario ≡ now.now.scenario }
+    ensures { OnOk result (line.new
+        ≡ line_of (step_text (length now.now.entries) entry.now) ++ flat_map line_of (changed before.now.state now.now.state)) }
+{
+    line.clear();
+    same_txns(before, now);
+    append_step(now.len(), entry, line)?;
+    let since = Since {
+        before,
+        after: now,
+        all: false,
+    };
+    append_since(&since, texts, line)?;
+    Ok(())
+}
+
+/// Makes the next choice of a scenario on the second of two machines that stand at the same point, puts the lines of the step into the
+/// buffer, and then makes the choice on the first.
+pub(crate) fn trace_step(
+    before: &mut Machine,
+    now: &mut Machine,
+    texts: &mut Texts,
+    line: &mut LineBuffer,
+) -> Result<(), AllocError>
+    requires beside { Beside before.old now.old }
+    requires more { length now.old.entries < length now.old.scenario.choices }
+    ensures beside { OnOk result (Beside before.new now.new) }
+    ensures scenario { OnOk result (now.new.scenario ≡ now.old.scenario) }
+    ensures position { OnOk result (length now.new.entries ≡ length now.old.entries + 1) }
+    ensures state { OnOk result (now.new.state
+        ≡ (step_spec now.old.scenario (get_or now.old.scenario.choices (length now.old.entries) Start) now.old.state).after) }
+    ensures lines { OnOk result (line.new ≡ flat_map line_of (step_lines now.old.scenario (length now.old.entries + 1) now.old.state
+        (get_or now.old.scenario.choices (length now.old.entries) Start))) }
+{
+    let choice = next_choice(now);
+    let entry = now.step(choice)?;
+    append_changed(before, now, &entry, texts, line)?;
+    before.step(choice)?;
+    Ok(())
+}

@@ -1,0 +1,149 @@
+"""Proves and builds zy_bench: each crate once those that it stands on are proved, and some of them side by side.
+
+    build.py
+
+A line on standard error for each crate as it is proved: its time, how many are left, and how long they take by estimate. What rt writes goes
+to crates/build.log."""
+
+import os
+import re
+import subprocess
+import sys
+import time
+
+TOP = os.path.dirname(os.path.dirname(os.path.realpath(__file__)))
+CRATES = os.path.join(TOP, 'crates')
+LOG = os.path.join(CRATES, 'build.log')
+PROGRAM = 'zy_bench'
+
+# What one proof takes of memory, in bytes, at most.
+MEMORY = 3 << 30
+
+# Each proof takes two processors at most, so that two crates side by side have one each on the least machine.
+JOBS = ('--jobs', '2')
+
+FAILED = 70
+
+
+def needs():
+    """The crates that each crate stands on, of those that the program needs."""
+    with open(os.path.join(TOP, 'crates.txt'), encoding='utf-8') as file:
+        lines = dict(line.split(':', 1) for line in file if line.strip() and not line.startswith('#'))
+    all_of = {name.split()[0]: set(libraries.split()) for name, libraries in lines.items()}
+    found, todo = {}, [PROGRAM]
+    while todo:
+        name = todo.pop()
+        if name not in found:
+            found[name] = all_of[name] & all_of.keys()
+            todo += found[name]
+    return found
+
+
+def minutes():
+    """What each crate's proof took when the gate was measured, from docs/map.md."""
+    with open(os.path.join(TOP, 'docs', 'map.md'), encoding='utf-8') as file:
+        rows = re.findall(r'^\| `(\w+)` \|[^|]*\| ([0-9.]+) min', file.read(), re.MULTILINE)
+    return {name: float(took) for name, took in rows}
+
+
+def side_by_side():
+    """How many proofs there is room for."""
+    with open('/proc/meminfo', encoding='ascii') as file:
+        free = int(re.search(r'MemAvailable: *([0-9]+) kB', file.read()).group(1)) << 10
+    return max(1, min(len(os.sched_getaffinity(0)) - 1, free // MEMORY))
+
+
+class Proof:
+    """The proof of a crate that is under way."""
+
+    def __init__(self, name):
+        self.name, self.begun = name, time.monotonic()
+        self.path = os.path.join(CRATES, name, 'build.log')
+        words = ['rt', 'run', *JOBS, '--', '--version'] if name == PROGRAM else ['rt', 'lib', *JOBS]
+        with open(self.path, 'wb') as log:
+            self.process = subprocess.Popen(words, cwd=os.path.join(CRATES, name), stdin=subprocess.DEVNULL, stdout=log, stderr=log)
+
+    def finish(self):
+        """Whether it is proved, and what rt said, once that has gone to the log."""
+        with open(self.path, 'rb') as log:
+            words = log.read()
+        os.remove(self.path)
+        with open(LOG, 'ab') as log:
+            log.write(b'== %s\n%s' % (self.name.encode(), words))
+        return self.process.returncode == 0, words.decode(errors='replace')
+
+
+class Build:
+    """Which crates are proved, and which are under way."""
+
+    def __init__(self):
+        self.needs, self.minutes = needs(), minutes()
+        self.left, self.under_way, self.done = set(self.needs), [], set()
+        self.begun, self.room = time.monotonic(), side_by_side()
+
+    def begin(self):
+        """Begins proofs while there is room; first those on which most of the work waits."""
+        ready = [name for name in self.left if self.needs[name] <= self.done]
+        for name in sorted(ready, key=lambda name: -self.behind(name))[:self.room - len(self.under_way)]:
+            self.left.remove(name)
+            self.under_way.append(Proof(name))
+
+    def behind(self, name):
+        """The longest way of proofs from a crate to the program, in minutes."""
+        above = [self.behind(other) for other, below in self.needs.items() if name in below]
+        return self.cost(name) + max(above, default=0)
+
+    def cost(self, name):
+        return self.minutes.get(name, 1)
+
+    def step(self):
+        """Takes what has finished; False where a proof has failed."""
+        for proof in [proof for proof in self.under_way if proof.process.poll() is not None]:
+            self.under_way.remove(proof)
+            is_proved, words = proof.finish()
+            took = time.monotonic() - proof.begun
+            if not is_proved:
+                say('%s: failed after %d s; the last lines of %s:\n%s' % (proof.name, took, LOG, '\n'.join(words.splitlines()[-20:])))
+                return False
+            self.done.add(proof.name)
+            say('%s: proved in %d s%s' % (proof.name, took, self.outlook()))
+        return True
+
+    def outlook(self):
+        """How many crates are left, and how long they take at the pace so far."""
+        left = len(self.needs) - len(self.done)
+        if not left:
+            return ''
+        pace = (time.monotonic() - self.begun) / sum(self.cost(name) for name in self.done)
+        seconds = pace * sum(self.cost(name) for name in self.needs.keys() - self.done)
+        return '; %d left, about %d min' % (left, -(-seconds // 60))
+
+    def stop(self):
+        for proof in self.under_way:
+            proof.process.terminate()
+            proof.process.wait()
+            proof.finish()
+
+
+def say(line):
+    print(line, file=sys.stderr, flush=True)
+
+
+def main():
+    open(LOG, 'wb').close()
+    build = Build()
+    say('zy_bench is not built, or older than its source: its %d crates are proved now, %d side by side; the log is %s' % (
+        len(build.needs), build.room, LOG))
+    try:
+        while build.left or build.under_way:
+            build.begin()
+            if not build.step():
+                return FAILED
+            time.sleep(0.1)
+    finally:
+        build.stop()
+    return 0
+
+
+if __name__ == '__main__':
+    sys.exit(main())

@@ -1,0 +1,244 @@
+'use strict';
+const D = JSON.parse(document.getElementById('data').textContent);
+const $ = id => document.getElementById(id);
+let now = -1, pinned = -1, zoom = 1;  // the step, the page that was clicked, and how large the picture is
+
+// The entry of a timeline that holds at a position.
+function at(line, n) {
+  let low = 0, high = line.length;
+  while (low < high) { const mid = (low + high) >> 1; if (line[mid][0] <= n) low = mid + 1; else high = mid; }
+  return line[low - 1];
+}
+const fresh = (line, n) => n > 0 && at(line, n)[0] === n;
+
+function el(tag, look, ...inner) {
+  const made = document.createElement(tag);
+  if (look) made.className = look;
+  made.append(...inner);
+  return made;
+}
+
+// Two buttons: to the last and to the next step at which a timeline changes.
+function jumps(line, n) {
+  const last = line.filter(([m]) => m < n).pop(), next = line.find(([m]) => m > n);
+  return el('span', 'jumps', ...[[last, '◂', 'last'], [next, '▸', 'next']].map(([entry, sign, name]) => {
+    const button = el('button', '', sign);
+    button.title = entry ? `the ${name} step at which this changes: ${entry[0]}` : 'no other change';
+    button.disabled = !entry;
+    button.onclick = () => show(entry[0]);
+    return button;
+  }));
+}
+
+// ---- the state
+function page(n, p) {
+  const line = at(D.pages[p], n)[1];
+  if (!line) return null;
+  const words = line.split(' ');
+  const locks = words.indexOf('locks');
+  return {p, place: words[2], low: words[4], rows: words.slice(6, locks), locks: words.slice(locks + 1), fresh: fresh(D.pages[p], n)};
+}
+function pageCard(n, it) {
+  const old = n ? page(n - 1, it.p) : it;
+  const rows = it.rows.map(row => el('code', old && old.rows.includes(row) ? '' : 'new', row));
+  const locks = it.locks.map(lock => {
+    const [node, txn, kind] = lock.split(':');
+    const away = node !== it.place;
+    return el('span', 'lockt' + (away ? ' away' : '') + (old && old.locks.includes(lock) ? '' : ' new'),
+      `${kind === 'x' ? '▌' : '▏'}t${txn} ${kind === 'x' ? 'exclusive' : 'shared'}${away ? ' at ' + node : ''} `);
+  });
+  const head = el('div', it.fresh && old && old.place !== it.place ? 'new' : '', el('b', '', 'page ' + it.p), ' ', el('small', '', '≥ ' + it.low), jumps(D.pages[it.p], n));
+  return el('div', 'card ' + it.place, head, el('div', '', ...(rows.length ? rows : [el('small', '', 'no rows')])), ...(locks.length ? [el('div', '', ...locks)] : []));
+}
+function column(n, name, places, count, pages) {
+  const head = el('b', '', `${name} · ${count}`);
+  if (places.length === 1) {
+    const mode = at(D.modes[places[0]], n)[1];
+    const chip = el('i', fresh(D.modes[places[0]], n) ? 'fresh' : '', mode);
+    chip.style.background = `var(--${mode})`;
+    head.append(chip);
+  }
+  return el('div', 'col', head, ...pages.filter(it => places.includes(it.place)).map(it => pageCard(n, it)));
+}
+function pagesPart(n) {
+  const all = D.pages.map((_, p) => page(n, p)).filter(it => it);
+  const few = all.length <= 24;
+  const shown = few ? all : all.filter(it => it.fresh || it.p === pinned || it.place.length > 1);
+  const part = [el('h2', '', few ? 'pages' : 'pages, and those that move, change or were clicked')];
+  if (!few) part.push(map(all));
+  part.push(el('div', 'three', ...[['A', ['A']], ['on the way', ['AB', 'BA']], ['B', ['B']]].map(([name, places]) =>
+    column(n, name, places, all.filter(it => places.includes(it.place)).length, few ? shown : []))));
+  if (!few) part.push(el('div', 'flow', ...shown.slice(0, 24).map(it => pageCard(n, it))));
+  if (!few && shown.length > 24) part.push(el('small', '', `and ${shown.length - 24} more that are moving`));
+  const locked = all.filter(it => it.locks.length);
+  if (!few && locked.length) part.push(lockList(locked));
+  return part;
+}
+function lockList(locked) {
+  const items = locked.slice(0, 24).map(it => {
+    const item = el('a', it.fresh ? 'new' : '', `${it.p} ${it.locks.join(' ')}`);
+    item.onclick = () => { pinned = it.p; show(now); };
+    return item;
+  });
+  return el('p', 'locks', el('small', '', `${locked.length} locked${locked.length > 24 ? ', the first of them' : ''}: `), ...items.flatMap(item => [item, ' ']));
+}
+function map(all) {
+  const cells = all.map(it => {
+    const cell = el('i', it.place + (it.locks.length ? ' locked' : '') + (it.fresh ? ' fresh' : ''));
+    cell.title = `page ${it.p} from ${it.low}`;
+    cell.onclick = () => { pinned = it.p; show(now); };
+    return cell;
+  });
+  return el('div', 'map', ...cells);
+}
+function queue(n, link, name) {
+  const waiting = D.messages.filter(m => m[0] === link && m[2] <= n && n < m[3]);
+  const items = waiting.slice(0, 12).map(m => { const it = el('span', m[2] === n ? 'new' : '', m[1]); it.title = 'sent at ' + m[2]; return it; });
+  if (waiting.length > 12) items.push(`and ${waiting.length - 12} more`);
+  return el('div', 'queue', el('b', '', name), ...(items.length ? items : [el('small', '', 'empty')]));
+}
+function txn(n, t) {
+  const [position, line] = at(D.txns[t], n);
+  const words = line.split(' '), status = words[2], pc = words.indexOf('pc'), regs = words.indexOf('regs'), own = words.indexOf('private');
+  const why = line.split(' pc ')[0].split(' done ')[0].split(' ').slice(2);
+  const old = n ? at(D.txns[t], n - 1)[1].split(' ') : words;
+  return {t, n, status, why, pc: pc < 0 ? -1 : +words[pc + 1], regs: regs < 0 ? [] : words.slice(regs + 1, regs + 9), fresh: position === n && n > 0,
+    oldRegs: old.includes('regs') ? old.slice(old.indexOf('regs') + 1, old.indexOf('regs') + 9) : [], own: own < 0 ? [] : words.slice(own + 1),
+    oldOwn: old.includes('private') ? old.slice(old.indexOf('private') + 1) : []};
+}
+function txnCard(it, me, open) {
+  const head = el('div', '', el('b', '', D.names[it.t]), el('span', 'tag ' + it.status + (it.fresh && it.status !== 'active' ? ' fresh' : ''), it.why.join(' ')));
+  if (it.pc >= 0) head.append(el('small', '', 'next: '), el('code', '', D.programs[it.t][it.pc]));
+  head.append(el('span', 'fill'), jumps(D.txns[it.t], it.n));
+  const card = el('div', 'tx' + (me ? ' me' : ''), head);
+  if (!open) return card;
+  if (it.regs.length) card.append(el('div', 'regs mono', ...it.regs.map((value, r) => el('span', (value !== '0' ? 'has' : '') + (it.oldRegs.length && it.oldRegs[r] !== value ? ' new' : ''), `r${r}=${value}`))));
+  if (it.own.length) card.append(el('div', '', el('small', '', 'private '), ...it.own.map(row => el('code', it.oldOwn.includes(row) ? '' : 'new', row + ' '))));
+  if (it.pc >= 0) card.append(program(it));
+  return card;
+}
+function program(it) {
+  const all = D.programs[it.t], from = all.length > 9 ? Math.max(0, it.pc - 3) : 0;
+  return el('ol', 'prog mono', ...all.slice(from, from + 9).map((line, k) => el('li', from + k === it.pc ? 'pc' : '', `${from + k} ${line}`)));
+}
+function txnsPart(n) {
+  const all = D.txns.map((_, t) => txn(n, t)), few = all.length <= 6, me = n > 0 ? D.actors[n] : -1;
+  const count = status => all.filter(it => it.status === status).length;
+  const told = ['active', 'committed', 'aborted', 'new'].map(status => `${count(status)} ${status}`).join(', ');
+  const cards = few ? all : [...all.filter(it => it.t === me), ...all.filter(it => it.t !== me && it.status === 'active')];
+  const ended = few ? [] : all.filter(it => it.t !== me && it.why.length > 1 && it.status !== 'active');
+  return [el('h2', '', few ? 'transactions' : 'transactions: ' + told), ...cards.map(it => txnCard(it, it.t === me, few || it.t === me)),
+    el('p', 'ended', ...ended.flatMap(it => [el('span', 'tag ' + it.status, `${D.names[it.t]} ${it.why.slice(1).join(' ')}`), ' ']))];
+}
+
+// ---- the picture, in pieces
+const pieces = D.pieces.map((_, k) => {
+  const piece = document.createElementNS('http://www.w3.org/2000/svg', 'svg');
+  piece.setAttribute('viewBox', `0 ${k * D.chunk} ${D.width} ${Math.min(D.chunk, D.height - k * D.chunk)}`);
+  return piece;
+});
+const row = () => D.row * zoom;
+const place = (box, n) => { box.style.cssText = `top:${D.rowOf[n] * row()}px;height:${row()}px;width:${D.width * zoom}px`; };
+function size(box, width, height) {
+  box.setAttribute('width', width * zoom);
+  box.setAttribute('height', height * zoom);
+}
+// As large as the window lets it be: not too small to read, and larger where the whole run still fits.
+function fit() {
+  const tall = ($('view').clientHeight - 64) / (D.height + 150);
+  zoom = Math.max(0.75, Math.min(1.25, Math.max(1, tall), $('view').clientWidth / D.width));
+  pieces.forEach((piece, k) => {
+    size(piece, D.width, Math.min(D.chunk, D.height - k * D.chunk));
+    piece.style.top = k * D.chunk * zoom + 'px';
+  });
+  for (const fixed of document.querySelectorAll('#top>svg,#below>svg')) size(fixed, D.width, +fixed.dataset.height);
+  for (const box of ['top', 'rows', 'below']) $(box).style.width = D.width * zoom + 'px';
+  $('rows').style.height = D.height * zoom + 'px';
+}
+function drawSight() {
+  const top = $('view').scrollTop, height = $('view').clientHeight - $('top').offsetHeight;
+  pieces.forEach((piece, k) => {
+    const near = (k + 1) * D.chunk * zoom > top - 400 && k * D.chunk * zoom < top + height + 400;
+    if (near && !piece.firstChild) piece.innerHTML = D.pieces[k];
+    if (!near && piece.firstChild) piece.replaceChildren();
+  });
+  const whole = $('strip').clientHeight / (D.height * zoom);
+  $('sight').style.top = top * whole + 'px'; $('sight').style.height = Math.min(D.height * zoom, height) * whole + 'px';
+  light();
+}
+function light() {
+  for (const line of document.querySelectorAll('.msg.on')) line.classList.remove('on');
+  for (const line of document.querySelectorAll(`.msg[data-a="${now}"],.msg[data-b="${now}"]`)) line.classList.add('on');
+}
+function stepAt(event) {
+  const at = Math.floor((event.clientY - $('rows').getBoundingClientRect().top) / row());
+  return D.rowOf.indexOf(Math.max(0, Math.min(at, D.height / D.row - 1)));
+}
+function reveal() {
+  const view = $('view'), y = D.rowOf[now] * row(), height = view.clientHeight - $('top').offsetHeight, margin = Math.min(66, height / 3);
+  if (y < view.scrollTop + margin) view.scrollTop = y - margin;
+  if (y > view.scrollTop + height - margin - row()) view.scrollTop = y - height + margin + row();
+}
+
+// ---- moves
+function show(n) {
+  now = Math.max(0, Math.min(D.last, n));
+  $('slide').value = now;
+  $('where').textContent = `${now} of ${D.last}`;
+  $('line').textContent = D.lines[now].replace('->', '→');
+  $('gloss').textContent = gloss(now);
+  place($('mark'), now);
+  $('now').replaceChildren(...pagesPart(now), el('h2', '', 'links, front first'), queue(now, 'AB', 'A → B'), queue(now, 'BA', 'B → A'), ...txnsPart(now));
+  reveal(); drawSight();
+  try { history.replaceState(null, '', '#' + now); } catch (error) { /* the position is not kept */ }
+}
+function gloss(n) {
+  if (!n) return 'Before the first step.';
+  const blocked = D.lines[n].match(/-> (?:waits|held) (\d+)/);
+  const locks = blocked ? ` Locks on page ${blocked[1]}: ${page(n, +blocked[1]).locks.join(' ')}.` : '';
+  return D.glosses[D.gloss[n - 1]] + (D.instrs[n] ? ` Tried: ${D.instrs[n]}.` : '') + locks;
+}
+function notable(way) {
+  const next = way > 0 ? D.marks.find(m => m > now) : D.marks.filter(m => m < now).pop();
+  show(next === undefined ? (way > 0 ? D.last : 0) : next);
+}
+function find(way) {
+  const sought = $('find').value.trim();
+  if (!sought) return;
+  const having = test => D.lines.flatMap((line, n) => test(` ${line} `) ? [n] : []);
+  const exact = having(line => line.includes(` ${sought} `)), hits = exact.length ? exact : having(line => line.includes(sought));
+  const next = way > 0 ? hits.find(n => n > now) ?? hits[0] : hits.filter(n => n < now).pop() ?? hits[hits.length - 1];
+  if (next !== undefined) show(next);
+  $('found').textContent = hits.length ? `${hits.indexOf(next) + 1} of ${hits.length}` : 'none';
+}
+const KEYS = {ArrowRight: () => show(now + 1), ArrowDown: () => show(now + 1), j: () => show(now + 1), ArrowLeft: () => show(now - 1),
+  ArrowUp: () => show(now - 1), k: () => show(now - 1), PageDown: () => show(now + 20), PageUp: () => show(now - 20), Home: () => show(0),
+  End: () => show(D.last), n: () => notable(1), p: () => notable(-1), '/': () => $('find').focus()};
+document.addEventListener('keydown', event => {
+  if (event.target === $('find')) {
+    if (event.key === 'Enter') find(event.shiftKey ? -1 : 1);
+    if (event.key === 'Escape') $('find').blur();
+  } else if (KEYS[event.key] && !event.ctrlKey && !event.metaKey && !event.altKey) {
+    event.preventDefault();
+    KEYS[event.key]();
+  }
+});
+$('first').onclick = KEYS.Home; $('end').onclick = KEYS.End; $('back').onclick = KEYS.ArrowLeft; $('on').onclick = KEYS.ArrowRight;
+$('slide').oninput = event => show(+event.target.value);
+$('rows').onclick = event => show(stepAt(event));
+$('rows').onmousemove = event => place($('over'), stepAt(event));
+$('rows').onmouseleave = () => { $('over').style.height = 0; };
+$('strip').onmousedown = $('strip').onmousemove = event => {
+  const total = D.height / D.row, at = Math.floor((event.clientY - $('strip').getBoundingClientRect().top) / $('strip').clientHeight * total);
+  if (event.buttons) show(D.rowOf.indexOf(Math.max(0, Math.min(total - 1, at))));
+};
+$('view').addEventListener('scroll', () => requestAnimationFrame(drawSight));
+$('theme').onclick = () => {
+  const dark = matchMedia('(prefers-color-scheme:dark)').matches, root = document.documentElement;
+  root.dataset.theme = (root.dataset.theme || (dark ? 'dark' : 'light')) === 'dark' ? 'light' : 'dark';
+};
+addEventListener('resize', () => { fit(); show(now); });
+addEventListener('hashchange', () => { const n = parseInt(location.hash.slice(1), 10); if (n !== now && n >= 0) show(n); });
+$('rows').append(...pieces);
+fit();
+show(parseInt(location.hash.slice(1), 10) || 0);

@@ -1,0 +1,90 @@
+"""The picture as one HTML file: the drawing in pieces, the state after each step beside it, and the script that shows them."""
+
+import json
+import re
+from html import escape
+
+from outcomes import meanings
+from picture.colours import page_css, part
+from picture.drawing import draw_head_row
+from picture.looks import look_of
+from picture.place import ROW
+from picture.sheet import num
+from picture.svg import draw_key
+from runs import NODES
+
+CHUNK = 60  # as many rows are drawn at a time
+
+
+def html(picture):
+    """The file."""
+    run, place = picture.run, picture.place
+    key, tall = draw_key(place.width)
+    filled = {
+        'title': escape(picture.title), 'css': page_css(), 'script': part('page.js'), 'width': num(place.width),
+        'head': draw_head_row(run, place), 'chips': ''.join('<span class="chip">%s</span>' % chip for chip in chips(run)),
+        'verdict': verdict(picture), 'overview': overview(run, picture.rows), 'whole': 'whole' if len(picture.rows.rows) <= 45 else '',
+        'key': key, 'tall': tall, 'last': len(run.steps),
+        'data': json.dumps(data_of(picture), separators=(',', ':')).replace('</', '<\\/')}
+    return re.sub(r'\{\{(\w+)\}\}', lambda name: str(filled[name.group(1)]), part('page.html'))
+
+
+def data_of(picture):
+    """What the script shows: the pieces of the drawing, and the run."""
+    run, place = picture.run, picture.place
+    glosses, gloss = glossed(run.steps)
+    return {
+        'last': len(run.steps), 'row': ROW, 'rowOf': picture.rows.of, 'width': place.width, 'height': place.height, 'chunk': CHUNK * ROW,
+        'pieces': [picture.sheet.part(top, top + CHUNK * ROW) for top in range(0, place.height, CHUNK * ROW)],
+        'lines': ['0 opening'] + [step.line for step in run.steps], 'instrs': run.instrs, 'glosses': glosses, 'gloss': gloss,
+        'marks': [step.number for step in run.steps if look_of(step) in ('ok', 'bad', 'wait', 'split') or notable(run, step)],
+        'modes': {node: run.modes[node].changes for node in NODES}, 'pages': [page.changes for page in run.pages],
+        'txns': [txn.changes for txn in run.txns], 'names': [run.name(txn) for txn in range(len(run.txns))],
+        'programs': run.programs, 'actors': [0] + [step.txn if step.txn is not None else -1 for step in run.steps],
+        'messages': [(message.link, message.text, message.sent, message.taken or len(run.steps) + 1) for message in run.messages]}
+
+
+def glossed(steps):
+    """The sentences on the outcomes, each once, and for each step the number of its own."""
+    meaning = meanings({step.outcome for step in steps})
+    glosses = sorted(set(meaning.values()))
+    return glosses, [glosses.index(meaning[step.outcome]) for step in steps]
+
+
+def notable(run, step):
+    """Whether a step changes a mode."""
+    return any(start == step.number for node in NODES for start, _ in run.modes[node].changes)
+
+
+def chips(run):
+    """The scenario's header and its sizes."""
+    pages = '%s of at most %s' % (counted(len(run.pages), 'page'), run.limit)
+    return ['version ' + run.version, 'rule ' + run.rule, 'cap ' + run.cap, pages, counted(len(run.txns), 'transaction'),
+            counted(len(run.steps), 'step')]
+
+
+def counted(number, noun):
+    return '%d %s%s' % (number, noun, '' if number == 1 else 's')
+
+
+def verdict(picture):
+    """The verdict of the listing, the rows that differ, and what `check` says of a listing that was given."""
+    chip = '<span class="chip %s">%s</span>'
+    words = chip % ('good' if picture.run.verdict == 'serial same' else 'wrong', escape(picture.verdict))
+    if picture.check:
+        words += chip % ('good' if picture.check == 'table' else 'wrong', 'check: ' + escape(picture.check))
+    return words
+
+
+def overview(run, rows):
+    """The whole run in a strip: the modes at its sides; commits, aborts, waits and pages that move between them."""
+    total = len(rows.rows)
+    parts = []
+    for x, node in ((0, 'A'), (46, 'B')):
+        for start, end, mode in run.modes[node].spans():
+            top, bottom = rows.of[start], total if end is None else rows.of[end]
+            parts.append('<rect class="%s" x="%d" y="%d" width="14" height="%d"/>' % (mode, x, top, bottom - top))
+    for look, x in (('wait', 15), ('take', 21), ('ok', 27), ('bad', 33), ('split', 39)):
+        at = sorted({rows.of[step.number] for step in run.steps if look_of(step) == look and (look != 'take' or 'page' in step.outcome)})
+        parts.append('<path class="tick %s" d="%s"/>' % (look, ''.join('M%d %gh6' % (x, row + 0.5) for row in at)))
+    return '<svg id="overview" viewBox="0 0 60 %d" preserveAspectRatio="none" style="--thick:%g">%s</svg>' % (total, max(1, total / 400), ''.join(parts))

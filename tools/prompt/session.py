@@ -1,0 +1,191 @@
+"""A session: a scenario, the run of it, a position, and stops. What is shown is a trace's, and what is replied is the debugger's."""
+
+import re
+
+import bench
+import outcomes
+import runs
+from picture.text import summary
+from picture.looks import STUCK
+
+# The most lines of the state that a move shows.
+MOST = 20
+
+# The most choices of a scenario.
+LIMIT = 4096
+
+# After these outcomes a choice that is made again changes nothing by itself.
+STILL = STUCK + ('idle', 'elsewhere', 'badmode', 'nomessage', 'held', 'stray', 'active', 'nopush')
+
+ENDED = ('committed', 'aborted')
+
+
+class Fault(Exception):
+    """Why a command is not carried out."""
+
+
+class Session:
+    """The text is kept in three parts: the head with its names, the choices, and what they were before each `do`."""
+
+    def __init__(self, text):
+        part, _ = bench.cut(text)
+        self.head = head_of(part)
+        self.run = runs.read(part)
+        self.choices = choices_of(self.run)
+        self.position, self.stops, self.before = 0, [], []
+        self.shown = self.run.state(0)
+
+    def text(self, choices):
+        """The scenario with these choices."""
+        return '\n'.join(self.head + choices + ['end', ''])
+
+    def last(self):
+        return len(self.run.steps)
+
+    # ---- what the debugger replies
+
+    def ask(self, command):
+        """The debugger's reply to a command at the position, with the stops that are set."""
+        commands = [stop for stop, _ in self.stops] + ['goto %d' % self.position, command, '']
+        given = (self.text(self.choices) + '\n'.join(commands)).encode(**bench.BYTES)
+        return bench.ask(['debug'], given)[len(self.stops) + 1:]
+
+    def move(self, command):
+        """Moves as the debugger does, and shows what is new."""
+        reply = self.ask(command)[-1]
+        found = re.fullmatch(r'(?:stop \d+ )?at (\d+)', reply)
+        if not found:
+            raise Fault('%s: the positions are 0 to %d' % (reply, self.last()))
+        return self.go(int(found.group(1))) + ([reply] if reply.startswith('stop') else []) + self.here()
+
+    def stop(self, command):
+        """Sets or deletes a stop."""
+        reply = self.ask(command)[-1]
+        if not re.fullmatch(r'stop \d+ set|deleted \d+', reply):
+            raise Fault(reply)
+        self.stops.append((command, reply))
+        return [reply]
+
+    def shown_stops(self):
+        """The stops that are set, each by its number and the command that set it."""
+        there = {}
+        for command, reply in self.stops:
+            number = int(re.search(r'\d+', reply).group())
+            if command.startswith('delete'):
+                del there[number]
+            else:
+                there[number] = command
+        return ['%d %s' % stop for stop in sorted(there.items())] or ['no stops']
+
+    # ---- what the trace shows
+
+    def go(self, position):
+        """Goes to a position, and gives the lines of the state that are other ones there."""
+        old, self.position, self.shown = set(self.shown), position, self.run.state(position)
+        changed = [self.named(line) for line in self.shown if line not in old]
+        more = len(changed) - MOST
+        return changed[:MOST] + (['and %d more lines; state shows all' % more] if more > 0 else [])
+
+    def here(self):
+        """The last choice that is done."""
+        return self.around(0) or ['at 0 of %d' % self.last()]
+
+    def around(self, reach):
+        """The choices around the position with what came of each; the last one that is done is marked."""
+        near = range(max(self.position - reach, 1), min(self.position + reach, self.last()) + 1)
+        return [('> ' if number == self.position else '  ') + self.named(self.run.steps[number - 1].line) for number in near]
+
+    def named(self, line):
+        """A line with the name of its transaction behind the number, where it has one."""
+        return re.sub(r'\b(txn|begin|run|kill) (\d+)', lambda found: ' '.join(filter(None, [
+            found.group(), self.run.names[int(found.group(2))]])), line, count=1)
+
+    def find(self, words):
+        """Goes to the next step whose line has these words, from the first one on where there is none above."""
+        lines = [' %s ' % self.named(step.line) for step in self.run.steps]
+        hits = [number for number, line in enumerate(lines, 1) if ' %s ' % words in line]
+        if not hits:
+            raise Fault('no step has %s' % words)
+        return self.go(next((number for number in hits if number > self.position), hits[0])) + self.here()
+
+    def explain(self, words):
+        """What an outcome means, and the lines of the step table that give it."""
+        outcome = words or (self.run.steps[self.position - 1].outcome if self.position else '')
+        found = outcomes.explained(outcome)
+        if not found:
+            raise Fault('%s: no outcome; docs/formats.md has them all' % outcome if outcome else 'no step is done; explain OUTCOME')
+        return found
+
+    def number_of(self, word):
+        """The number of a transaction that is named by its number or its name."""
+        return str(self.run.names.index(word)) if word in self.run.names and word else word
+
+    def summary(self):
+        return list(summary(self.run, self.run.verdict))
+
+    # ---- the schedule
+
+    def make(self, choices):
+        """The run with other choices; a fault says why they are none."""
+        try:
+            return runs.read(self.text(choices), quiet=True)
+        except bench.Refused as refused:
+            raise Fault(refused.words.split(': ', 2)[-1]) from None
+
+    def put(self, choices, run, position):
+        self.choices, self.run = choices, run
+        return self.go(position) + self.here()
+
+    def do(self, choice, times=1, until=None):
+        """Makes a choice behind the position, some times or until something comes of it."""
+        done = self.choices[:self.position]
+        aside = len(self.choices) - self.position
+        run = self.make(done + [choice] * (self.times_until(done, choice, until) if until else times))
+        self.before.append((self.choices, self.run, self.position))
+        choices = choices_of(run)
+        words = ['%d choices behind the position are set aside; undo brings them back' % aside] if aside else []
+        return words + self.put(choices, run, len(choices))
+
+    def times_until(self, done, choice, until):
+        """How often a choice is made until a step of it is enough; at most as often as a scenario has room for."""
+        room = LIMIT - len(done)
+        for times in (16, 256, room):
+            steps = self.make(done + [choice] * min(times, room)).steps[len(done):]
+            enough = next((made for made, step in enumerate(steps, 1) if is_enough(step, until)), None)
+            if enough:
+                return enough
+        return max(1, room)
+
+    def undo(self):
+        """The choices and the position as they were before the last `do`."""
+        if not self.before:
+            raise Fault('nothing was done')
+        choices, run, position = self.before.pop()
+        return self.put(choices, run, position)
+
+    def save(self, path):
+        """Writes the scenario with the choices up to the position."""
+        try:
+            with open(path, 'w', encoding='utf-8', errors='surrogateescape') as file:
+                file.write(self.text(self.choices[:self.position]))
+        except OSError as error:
+            raise Fault(str(error)) from None
+        return ['%s: %d choices' % (path, self.position)]
+
+
+def choices_of(run):
+    """The choices of a run, each once, as the canonical text has them."""
+    return [step.line.split(' -> ')[0].split(' ', 1)[1] for step in run.steps]
+
+
+def head_of(part):
+    """The lines of a scenario part before its choices and its `end`."""
+    lines = part.split('\n')
+    end = next((n for n, line in enumerate(lines) if bench.words_of(line)[:1] in (['A'], ['B'], ['C'], ['end'])), len(lines))
+    return lines[:end]
+
+
+def is_enough(step, until):
+    """Whether a step is one that `until` waits for: the end of its transaction, or also a wait, or nothing."""
+    word = step.outcome.split()[0]
+    return word in ENDED or until == 'wait' and word in STILL or word in ('idle', 'elsewhere', 'badmode')

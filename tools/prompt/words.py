@@ -1,0 +1,49 @@
+"""The words of the prompt: commands, their short forms, and what `help` says of them."""
+
+HELP = """moves     step [N] (s, n)     N choices on (1)            back [N] (bs)       N choices back (1)
+          goto N              to position N               cont (c), rcont (rc)  to the next stop, to the last one
+          find WORDS          to the next step whose line has these words: find held, find aborted
+stops     break page P (b)    where page P moves          break mode          where a mode changes
+          break abort         where a transaction aborts  watch K (w)         where the value at key K changes
+          delete I (d)        takes stop I away           stops (info break)  the stops that are set
+looks     page P (p)          a page and its locks        txn T (t)           a transaction, by number or name
+          links               the messages on their way   where               the position and the modes
+          list [N] (l)        the choices around (5)      state               all lines of the state
+          explain [OUTCOME]   what an outcome means, and when it comes; without words that of the last step
+          summary             the whole run in some lines
+schedule  do CHOICE [x N]     makes a choice behind the position; those that were behind it are set aside
+          do CHOICE until wait    makes it until it waits, ends or changes nothing; until end: until its transaction has ended
+          undo                the choices as they were before the last do
+          save FILE           writes the scenario with the choices up to the position
+          help (h), quit (q)
+A word may be shortened as long as it is the only one that begins so. An empty line does the last move again."""
+
+COMMANDS = ('step', 'back', 'goto', 'cont', 'rcont', 'find', 'break', 'watch', 'delete', 'stops', 'page', 'txn', 'links', 'where', 'list',
+            'state', 'explain', 'summary', 'do', 'undo', 'save', 'help', 'quit')
+
+SHORT = {'s': 'step', 'n': 'step', 'next': 'step', 'bs': 'back', 'g': 'goto', 'c': 'cont', 'continue': 'cont', 'rc': 'rcont', 'b': 'break',
+         'w': 'watch', 'd': 'delete', 'p': 'page', 'print': 'page', 't': 'txn', 'l': 'list', 'f': 'find', 'h': 'help', 'q': 'quit',
+         'exit': 'quit', 'reverse-continue': 'rcont', 'reverse-step': 'back', 'rs': 'back'}
+
+# The commands that an empty line does again.
+MOVES = ('step', 'back', 'cont', 'rcont', 'find')
+
+
+class Unknown(Exception):
+    """A word that is no command, or the beginning of several."""
+
+
+def command_of(word):
+    """The command that a word stands for."""
+    if word in COMMANDS or word in SHORT:
+        return SHORT.get(word, word)
+    begun = [command for command in COMMANDS if command.startswith(word)]
+    if len(begun) != 1:
+        raise Unknown('%s: %s' % (word, 'one of ' + ', '.join(begun) if begun else 'no command; try help'))
+    return begun[0]
+
+
+def complete(text, state):
+    """The commands that begin so, one a call, as readline asks for them."""
+    words = COMMANDS + ('mode', 'abort', 'until', 'wait', 'end')
+    return ([word + ' ' for word in words if word.startswith(text)] + [None])[state]
