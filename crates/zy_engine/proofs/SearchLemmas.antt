@@ -1,8 +1,10 @@
 -- What went out of a search.
-use Rattle.std.proofs.Common.{◌≡◌, ◌∙◌, ◌<◌, ◌++◌, ℕ, List, [], ◌∷◌, Option, None, Some, IfSome, sym, ap, subst, arith, length, map}
+use Rattle.std.proofs.Common.{◌≡◌, ◌∙◌, ◌<◌, ◌++◌, ℕ, List, [], ◌∷◌, Option, None, Some, IfSome, Err, sym, ap, subst, arith, length, map}
 use Rattle.std.specs.List.{flat_map}
 use Rattle.std.proofs.lemmas.List.{map-append}
-use Rattle.zy_io.specs.Writing.{line_of}
+use Rattle.zy_io.specs.Writing.{line_of, Wrote}
+use Rattle.zy_io.specs.declared.writing.TextFault.{TextFault}
+use Rattle.zy_io.specs.declared.writing.TextFault.TheVariants.{Write, Memory}
 use Rattle.zy_isa.specs.declared.choice.Choice.{Choice}
 use Rattle.zy_isa.specs.Canon.{canon, choice_text}
 use Rattle.zy_isa.specs.Scenario.{Scenario}
@@ -38,3 +40,8 @@ pub answer-of-told : (format : Format) (q : Sought) (told : Option (List ℕ)) (
 answer-of-told format q None bytes scenario a same only is = tt
 answer-of-told format q (Some t) bytes scenario a same only is = λ sc stands.
     subst (λ (x : Scenario). IsAnswer (ran x) q a) (only sc (subst (λ x. StandsFor format x sc) (sym same) stands)) is
+
+-- a fault says as much of what went out, whatever the call would have returned
+pub wrote_err : {X Y : Type 0} (old new : Option (List ℕ)) (before after : ℕ) (f : TextFault) (text : List ℕ) → Wrote {X = X} old new before after (Err f) text → Wrote {X = Y} old new before after (Err f) text
+wrote_err old new before after Write text w = w
+wrote_err old new before after Memory text w = w

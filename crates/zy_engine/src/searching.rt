@@ -1,5 +1,5 @@
 //! The engine that searches the schedules of a scenario.
-ghost use Rattle.std.specs.Prelude.{◌<◌, ◌++◌};
+ghost use Rattle.std.specs.Prelude.{◌<◌, ◌≤◌, ◌+◌, ◌++◌};
 ghost use Rattle.zy_io.specs.Writing.{Wrote};
 ghost use Rattle.zy_isa.specs.Canon.{canon};
 ghost use Rattle.zy_threads.specs.Orders.{reordered};
@@ -83,10 +83,12 @@ pub fn search_bytes<S: Source, K: Sink>(
 ) -> Result<Report, BenchFault>
     requires source { S.failures source.old < u64.MAX }
     requires sink { K.failures sink.old < u64.MAX }
-    ensures { ConvertsSearch format sought
+    ensures converts { ConvertsSearch format sought
         (record { left = S.left source.old; written = K.written sink.old; reads = S.failures source.old; writes = K.failures sink.old })
         (record { left = S.left source.new; written = K.written sink.new; reads = S.failures source.new; writes = K.failures sink.new })
         result }
+    // Whatever the reader tells of its bytes, its calls give at most one more than the longest input has.
+    ensures bound { S.given source.new ≤ S.given source.old + 4194305 }
 {
     let bytes = read_all(alloc, source)?;
     let scenario = accept(alloc, format, bytes.as_slice())?;

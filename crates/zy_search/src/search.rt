@@ -14,6 +14,7 @@ use crate::shows::shows;
 use crate::sought::{Sought, Wanted};
 use crate::visited::Visited;
 use std::alloc::{AllocError, Global};
+use zy_isa::choice::Choice;
 use zy_isa::scenario::MAX_CHOICES;
 use zy_machine::machine::{Fault, Machine};
 
