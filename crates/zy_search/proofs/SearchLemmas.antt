@@ -12,6 +12,7 @@ use Rattle.zy_laws.proofs.PlayPush.{play-push}
 use Rattle.zy_machine.specs.Histories.{History}
 use Rattle.zy_search.specs.declared.sought.Sought.{Sought}
 use Rattle.zy_search.specs.declared.answer.Answer.{Answer}
+use Rattle.zy_search.specs.declared.answer.Answer.TheVariants.{Spent}
 use Rattle.zy_search.specs.declared.answer.Report.{Report}
 use Rattle.zy_search.specs.Choices.{is_considered, AreConsidered, is_tried}
 use Rattle.zy_search.specs.Searches.{reached, Shows, Considers, IsPath, NoneBelow, NoneAtAll, Finds, FindsFirst, IsAnswer}
@@ -198,3 +199,8 @@ near_first = λ i lt. rw (one_place i lt) (omega arith)
 pub answered : {E : Type 0} (h : History) (q : Sought) (k : History) (p : Sought) (a : Answer) (r : Result Report E) → h ≡ k → q ≡ p → IsAnswer h q a → IfOk r (λ x. x.answer ≡ a) → IfOk r (λ x. IsAnswer k p x.answer)
 answered h q k p a (Ok x) e f is same = subst (IsAnswer k p) (sym same) (subst (λ (s : Sought). IsAnswer k s a) f (subst (λ (g : History). IsAnswer g q a) e is))
 answered h q k p a (Err x) e f is same = tt
+
+-- where no fewer choices lead there, a call that answers so answers well
+pub spent_well : {E : Type 0} (h : History) (q : Sought) (n : ℕ) (r : Result Answer E) → NoneBelow h q n → IfOk r (λ a. a ≡ Spent n) → IfOk r (IsAnswer h q)
+spent_well h q n (Ok a) below e = subst (IsAnswer h q) (sym e) below
+spent_well h q n (Err x) below e = tt

@@ -57,9 +57,7 @@ fn expand_all(
 }
 
 /// How many states an answer adds to those that none of what is looked for is shown by.
-fn shown_by(answer: &Answer) -> usize
-    ensures { result ≤ 1 }
-{
+fn shown_by(answer: &Answer) -> usize {
     match answer {
         Answer::Found(path) if !path.is_empty() => 1,
         _ => 0,
@@ -70,10 +68,9 @@ fn shown_by(answer: &Answer) -> usize
 fn report(alloc: Global, visited: &Visited, answer: Answer) -> Result<Report, AllocError>
     ensures { IfOk result (λ r. r.answer ≡ answer) }
 {
-    let paths = visited.len();
-    let last = visited.path(alloc, (paths - 1) as u32)?;
+    let last = visited.last(alloc)?;
     Ok(Report {
-        states: paths + shown_by(&answer),
+        states: visited.len().saturating_add(shown_by(&answer)),
         depth: last.len(),
         answer,
     })

@@ -1,5 +1,5 @@
 //! The states that a search has come to.
-ghost use Rattle.std.specs.Prelude.{◌≡◌, ◌<◌, ◌≤◌, ◌^◌, ◌++◌, ◌∷◌, [], IfOk, IfSome, OnOk, OnErr, length, slice_index_or};
+ghost use Rattle.std.specs.Prelude.{◌≡◌, ◌<◌, ◌≤◌, ◌-◌, ◌^◌, ◌++◌, ◌∷◌, [], IfOk, IfSome, OnOk, OnErr, length, slice_index_or};
 
 use crate::branch::Branch;
 use crate::tree::Tree;
@@ -61,6 +61,13 @@ impl Visited {
         ensures { IfOk result (λ v. v.items ≡ slice_index_or self.now i []) }
     {
         self.tree.path(alloc, i as usize)
+    }
+
+    /// The path that was put there last.
+    pub fn last(&self, alloc: Global) -> Result<Vec<Choice>, AllocError>
+        ensures { IfOk result (λ v. v.items ≡ slice_index_or self.now (length self.now - 1) []) }
+    {
+        self.tree.path(alloc, self.tree.len() - 1)
     }
 
     /// The place of the last path that was put there under a digest.

@@ -6,7 +6,7 @@ use Rattle.zy_search.specs.declared.sought.Sought.{Sought}
 use Rattle.zy_search.specs.declared.answer.Answer.{Answer}
 use Rattle.zy_search.specs.Searches.{IsAnswer}
 use Rattle.zy_search.specs.Visits.{AreExpanded, IsExpanded, Expands, length_at}
-use Rattle.zy_search.proofs.SearchLemmas.{none_at_all, finds_first, spent_below, expanded_grown, near_first, near_next}
+use Rattle.zy_search.proofs.SearchLemmas.{none_at_all, finds_first, spent_below, spent_well, expanded_grown, near_first, near_next}
 use Rattle.zy_search.proofs.search.expand_all.Goals as goal
 
 pub loop-at-init : goal.loop-at-init
@@ -32,8 +32,11 @@ returns-in-Found c =
 
 pub returns-in-Spent : goal.returns-in-Spent
 returns-in-Spent c =
+    let h = c.args.plan.now.start in
+    let q = c.args.plan.now.sought in
     let lt : c.loop-at.at < length c.loop-at.visited = omega (arith, c.len.ensures.value, c.if-len-at.false) in
-    spent_below c.args.plan.now.start c.args.plan.now.sought c.loop-at.visited c.expand.new.visited c.loop-at.at c.loop-at.invariant.visits lt c.loop-at.invariant.expanded (rw c.in-Spent.is at c.in_ok-expand.ensures.well)
+    let below = spent_below h q c.loop-at.visited c.expand.new.visited c.loop-at.at c.loop-at.invariant.visits lt c.loop-at.invariant.expanded (rw c.in-Spent.is at c.in_ok-expand.ensures.well) in
+    spent_well h q (length_at c.expand.new.visited c.loop-at.at + 1) c.spent_at.result below c.spent_at.ensures
 
 -- the paths before the n-th are expanded, and so is that one
 next : (h : History) (q : Sought) (cur new : List (List Choice)) (n i : ℕ) (t : Bool) → nat_lt i n ≡ t → n ≤ length cur → AreExpanded h q cur n → Expands h q cur new n → i < n + 1 → IsExpanded h q new i
