@@ -46,7 +46,7 @@ returns-in_err-write_answer g c =
       is = subst (λ (h : History). IsAnswer h c.args.sought report.answer) c.in_ok-machine.ensures.run c.in_ok-report.ensures;
       returned = tt;
       wrote = wrote_err before behind failures after fault (text_of c.args.scenario report.answer)
-          (subst (λ (sc : Scenario). Wrote before behind failures after (Err fault) (text_of sc report.answer)) scenario c.in_err-write_answer.ensures);
+          (subst (λ (sc : Scenario). Wrote before behind failures after {X = Unit {0}} (Err fault) (text_of sc report.answer)) scenario c.in_err-write_answer.ensures);
     })
 
 pub returns : goal.returns
@@ -61,5 +61,5 @@ returns g c =
       answer = report.answer;
       is = subst (λ (h : History). IsAnswer h c.args.sought report.answer) c.in_ok-machine.ensures.run c.in_ok-report.ensures;
       returned = refl;
-      wrote = subst (λ (sc : Scenario). Wrote before behind failures after (Ok c.in_ok-write_answer.field-0) (text_of sc report.answer)) scenario c.in_ok-write_answer.ensures;
+      wrote = subst (λ (sc : Scenario). Wrote before behind failures after {X = Unit {0}} (Ok c.in_ok-write_answer.field-0) (text_of sc report.answer)) scenario c.in_ok-write_answer.ensures;
     }
