@@ -42,6 +42,6 @@ answer-of-told format q (Some t) bytes scenario a same only is = λ sc stands.
     subst (λ (x : Scenario). IsAnswer (ran x) q a) (only sc (subst (λ x. StandsFor format x sc) (sym same) stands)) is
 
 -- a fault says as much of what went out, whatever the call would have returned
-pub wrote_err : {X : Type 0} (old new : Option (List ℕ)) (before after : ℕ) (f : TextFault) (text : List ℕ) → Wrote old new before after {X = Unit {0}} (Err f) text → Wrote old new before after {X = X} (Err f) text
-wrote_err old new before after Write text w = w
-wrote_err old new before after Memory text w = w
+pub wrote_err : (X : Type 0) (old new : Option (List ℕ)) (before after : ℕ) (f : TextFault) (text : List ℕ) → Wrote old new before after {X = Unit {0}} (Err f) text → Wrote old new before after {X = X} (Err f) text
+wrote_err X old new before after Write text w = w
+wrote_err X old new before after Memory text w = w

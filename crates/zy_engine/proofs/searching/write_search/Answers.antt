@@ -5,6 +5,7 @@ use Rattle.zy_io.specs.Writing.{Wrote}
 use Rattle.zy_machine.specs.Histories.{History}
 use Rattle.zy_isa.specs.Scenario.{Scenario}
 use Rattle.zy_search.specs.declared.answer.Answer.TheVariants.{Spent}
+use Rattle.zy_search.specs.declared.answer.Report.{Report}
 use Rattle.zy_search.specs.Searches.{IsAnswer}
 use Rattle.zy_engine.specs.Searching.{ran, text_of}
 use Rattle.zy_engine.proofs.RunLemmas.{WroteFront-nothing}
@@ -45,7 +46,7 @@ returns-in_err-write_answer g c =
       answer = report.answer;
       is = subst (λ (h : History). IsAnswer h c.args.sought report.answer) c.in_ok-machine.ensures.run c.in_ok-report.ensures;
       returned = tt;
-      wrote = wrote_err before behind failures after fault (text_of c.args.scenario report.answer)
+      wrote = wrote_err Report before behind failures after fault (text_of c.args.scenario report.answer)
           (subst (λ (sc : Scenario). Wrote before behind failures after {X = Unit {0}} (Err fault) (text_of sc report.answer)) scenario c.in_err-write_answer.ensures);
     })
 
