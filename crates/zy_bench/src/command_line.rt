@@ -1,8 +1,10 @@
 //! The command line.
 
 use clap::{Arg, ArgAction, ArgMatches, Command, value_parser};
+use clap::builder::ValueParser;
 use std::alloc::{AllocError, Global};
 use zy_engine::format::Format;
+use zy_search::sought::{Reason, Sought, Wanted};
 
 /// What is asked for.
 #[derive(Clone, Copy, Debug, PartialEq, Eq)]
@@ -13,6 +15,17 @@ pub enum Request {
     Check,
     /// Answer commands on the run of a scenario.
     Debug(Checkpoints),
+    /// Look for a schedule.
+    Search(Quest),
+}
+
+/// What a search is to go by.
+#[derive(Clone, Copy, Debug, PartialEq, Eq)]
+pub struct Quest {
+    pub format: Format,
+    pub sought: Sought,
+    /// The most states that it may come to.
+    pub most: u32,
 }
 
 /// Which copies of the machine are kept to replay from.
@@ -152,6 +165,47 @@ fn debug_command<'a>(alloc: Global) -> Result<Command<'a>, AllocError> {
         .arg(ring)
 }
 
+/// `search`.
+fn search_command<'a>(alloc: Global) -> Result<Command<'a>, AllocError> {
+    let words: &'a [&'a str] = &[
+        "differs",
+        "aborted",
+        "own",
+        "killed",
+        "badkey",
+        "missing",
+        "duplicate",
+        "frozen",
+        "nopage",
+        "gone",
+        "committed",
+        "stuck",
+    ];
+    let wanted = Arg::new(alloc, "for")
+        .long("for")
+        .value_name("WHAT")
+        .value_parser(ValueParser::Names(words))
+        .help("What a state is to show; else differs");
+    let kills = Arg::new(alloc, "kill")
+        .long("kill")
+        .action(ArgAction::SetTrue)
+        .help("Considers that the client kills transactions too");
+    let states = Arg::new(alloc, "states")
+        .long("states")
+        .value_name("N")
+        .value_parser(value_parser!(u32).range(1..=4294967295))
+        .help("Comes to at most N states: 1 to 4294967295, else 1000000");
+    Command::new(alloc, "search")
+        .about("Looks for a schedule of the scenario on standard input after which a state shows something")
+        .after_help(
+            "Input:   a scenario text, or with --image an image, at most 4194304 bytes; its choices are steps\n         already taken\nOutput:  the scenario with a shortest list of further choices that leads there; nothing where\n         there is none. Standard error tells how many states were come to; a fault is one line there\nStatus:  0 found, 1 the input is refused, 2 the command line is wrong, 3 out of memory,\n         4 no schedule shows it, 5 the input or the output failed, 6 the states are spent\n\nWHAT:    differs (another database than that of the serial run), aborted or the reason (own, killed,\n         badkey, missing, duplicate, frozen, nopage, gone), committed (all transactions), stuck (a\n         transaction is active, and nothing comes of any choice). docs/search.md tells them all.\n\nExample:\n  zy_bench search --for gone < examples/gone.zephyr | zy_bench run",
+        )
+        .arg(image_flag(alloc))?
+        .arg(wanted)?
+        .arg(kills)?
+        .arg(states)
+}
+
 /// The command line that is understood.
 pub fn command<'a>(alloc: Global) -> Result<Command<'a>, AllocError> {
     Command::new(alloc, "zy_bench")
@@ -165,7 +219,8 @@ pub fn command<'a>(alloc: Global) -> Result<Command<'a>, AllocError> {
         .subcommand(dis_command(alloc))?
         .subcommand(check_command(alloc))?
         .subcommand(threads_command(alloc)?)?
-        .subcommand(debug_command(alloc)?)
+        .subcommand(debug_command(alloc)?)?
+        .subcommand(search_command(alloc)?)
 }
 
 /// What the words ask for.
@@ -178,7 +233,43 @@ pub fn request_of(matches: &ArgMatches<'_>) -> Option<Request> {
         Some(("check", _)) => Some(Request::Check),
         Some(("debug", debug)) => Some(Request::Debug(checkpoints_of(debug))),
         Some(("threads", words)) => Some(Request::Convert(Conversion::Threads(format_of(words)))),
+        Some(("search", words)) => Some(Request::Search(quest_of(words))),
         _ => None,
+    }
+}
+
+/// What a word of `--for` names; none is the first one.
+fn wanted_of(word: &str) -> Wanted {
+    let named = [
+        ("aborted", Wanted::Aborted(Reason::Any)),
+        ("own", Wanted::Aborted(Reason::Own)),
+        ("killed", Wanted::Aborted(Reason::Killed)),
+        ("badkey", Wanted::Aborted(Reason::BadKey)),
+        ("missing", Wanted::Aborted(Reason::Missing)),
+        ("duplicate", Wanted::Aborted(Reason::Duplicate)),
+        ("frozen", Wanted::Aborted(Reason::Frozen)),
+        ("nopage", Wanted::Aborted(Reason::NoPage)),
+        ("gone", Wanted::Aborted(Reason::Gone)),
+        ("committed", Wanted::Committed),
+        ("stuck", Wanted::Stuck),
+    ];
+    for (name, wanted) in &named {
+        if *name == word {
+            return *wanted;
+        }
+    }
+    Wanted::Differs
+}
+
+/// What a search is to go by; what was left out is `differs` and a million states.
+fn quest_of(words: &ArgMatches<'_>) -> Quest {
+    Quest {
+        format: format_of(words),
+        sought: Sought {
+            wanted: wanted_of(words.get_str("for").unwrap_or("differs")),
+            kills: words.get_flag("kill"),
+        },
+        most: words.get_one("states").unwrap_or(1_000_000),
     }
 }
 

@@ -7,7 +7,7 @@ mod command_line;
 mod excerpt;
 
 use clap::error::ErrorKind;
-use command_line::{Checkpoints, Conversion, Request, command, request_of};
+use command_line::{Checkpoints, Conversion, Quest, Request, command, request_of};
 use excerpt::Excerpt;
 use std::io;
 use std::io::{BufWriter, Write};
@@ -19,10 +19,12 @@ use zy_engine::checking::check_bytes;
 use zy_engine::debugging::debug_bytes;
 use zy_engine::engine::{asm_bytes, dis_bytes, run_bytes, trace_bytes};
 use zy_engine::faults::BenchFault;
+use zy_engine::searching::search_bytes;
 use zy_engine::threading::threads_bytes;
 use zy_io::memory::SliceSource;
 use zy_io::reading::read_all;
 use zy_io::stream::{CountingReader, CountingWriter};
+use zy_search::answer::{Answer, Report};
 use zy_threads::gate::FreeGate;
 
 /// The exit status where all went well.
@@ -33,6 +35,12 @@ const COMMAND_LINE: u8 = 2;
 
 /// The exit status where the input is not the listing that it should be.
 const NOT_TABLE: u8 = 4;
+
+/// The exit status where no schedule shows what is looked for.
+const NOWHERE: u8 = 4;
+
+/// The exit status where a search came to no end.
+const SPENT: u8 = 6;
 
 /// Passes on what is kept back for standard output.
 fn flush<W: Write>(sink: &mut CountingWriter<W>) -> Result<(), BenchFault>
@@ -105,6 +113,43 @@ fn debug<R: Print + Input + AllocGlobal>(
     Ok(DONE)
 }
 
+/// Searches the schedules of the scenario on standard input, and gives the exit status.
+fn search<R: Print + Eprint + Input + AllocGlobal>(rt: &R, quest: Quest) -> Result<u8, BenchFault> {
+    let Quest {
+        format,
+        sought,
+        most,
+    } = quest;
+    let Ok(buffer) = BufWriter::new(rt.alloc(), io::writer(rt)) else {
+        return Err(BenchFault::Memory);
+    };
+    let mut source = CountingReader::new(rt.reader());
+    let mut sink = CountingWriter::new(buffer);
+    let report = search_bytes(rt.alloc(), format, sought, most, &mut source, &mut sink)?;
+    flush(&mut sink)?;
+    Ok(sum_up(rt, &report))
+}
+
+/// Tells on standard error what came of a search, and gives the exit status.
+fn sum_up(rt: &impl Eprint, report: &Report) -> u8 {
+    let (states, depth) = (report.states, report.depth);
+    match &report.answer {
+        Answer::Found(path) => {
+            let choices = path.len();
+            let _ = eprintln!(rt; "zy_bench: found after {states} states: {choices} choices lead there");
+            DONE
+        }
+        Answer::Nowhere => {
+            let _ = eprintln!(rt; "zy_bench: none of {states} states shows it, and there are no others: each takes at most {depth} choices");
+            NOWHERE
+        }
+        Answer::Spent(fewer) => {
+            let _ = eprintln!(rt; "zy_bench: spent after {states} states: no schedule of fewer than {fewer} choices shows it");
+            SPENT
+        }
+    }
+}
+
 /// Shows on standard error the line of an input at which it is not the listing.
 fn show(rt: &impl Eprint, input: &[u8], line: usize) {
     let _ = match Excerpt::of(input, line) {
@@ -160,6 +205,7 @@ fn carry_out(
         Request::Convert(conversion) => convert(rt, conversion),
         Request::Check => check(rt),
         Request::Debug(checkpoints) => debug(rt, checkpoints),
+        Request::Search(quest) => search(rt, quest),
     };
     match outcome {
         Ok(status) => status,

@@ -3,3 +3,4 @@ mod CheckLemmas
 mod DebugLemmas
 mod MergeLemmas
 mod AgainLemmas
+mod SearchLemmas

@@ -52,22 +52,22 @@ told-of P None bytes same h = tt
 told-of P (Some t) bytes same h = subst P same h
 
 -- an input that is refused was read whole, and no call failed
-pub record Refused (format : Format) (told left : Option (List ℕ)) (f : BenchFault) : Type 0 where
+pub record Refused (X : Type 0) (format : Format) (told left : Option (List ℕ)) (f : BenchFault) : Type 0 where
   pub fault : IfRefused f (IfSome told (λ t. IsRefusal format t f))
-  pub input : ReadsInput {X = Unit {0}} told left (Err f)
-  pub reads : failed_reads {X = Unit {0}} (Err f) ≡ 0
-  pub writes : failed_writes {X = Unit {0}} (Err f) ≡ 0
+  pub input : ReadsInput {X = X} told left (Err f)
+  pub reads : failed_reads {X = X} (Err f) ≡ 0
+  pub writes : failed_writes {X = X} (Err f) ≡ 0
 
-pub refused : (format : Format) (told left : Option (List ℕ)) (bytes : List ℕ) (f : BenchFault) → IfSome told (λ t. bytes ≡ t) → IsRefusal format bytes f → ReadWhole told left → Refused format told left f
-refused format told left bytes (bench.Input r) same h whole = record { fault = told-of (λ t. IsRefusal format t (bench.Input r)) told bytes same h; input = whole; reads = refl; writes = refl }
-refused format told left bytes (bench.Image f) same h whole = record { fault = told-of (λ t. IsRefusal format t (bench.Image f)) told bytes same h; input = whole; reads = refl; writes = refl }
-refused format.Text told left bytes bench.TooLong same h whole = absurd h
-refused format.Image told left bytes bench.TooLong same h whole = absurd h
-refused format.Text told left bytes bench.Read same h whole = absurd h
-refused format.Image told left bytes bench.Read same h whole = absurd h
-refused format.Text told left bytes bench.Write same h whole = absurd h
-refused format.Image told left bytes bench.Write same h whole = absurd h
-refused format told left bytes bench.Memory same h whole = record { fault = tt; input = whole.0; reads = refl; writes = refl }
+pub refused : (X : Type 0) (format : Format) (told left : Option (List ℕ)) (bytes : List ℕ) (f : BenchFault) → IfSome told (λ t. bytes ≡ t) → IsRefusal format bytes f → ReadWhole told left → Refused X format told left f
+refused X format told left bytes (bench.Input r) same h whole = record { fault = told-of (λ t. IsRefusal format t (bench.Input r)) told bytes same h; input = whole; reads = refl; writes = refl }
+refused X format told left bytes (bench.Image f) same h whole = record { fault = told-of (λ t. IsRefusal format t (bench.Image f)) told bytes same h; input = whole; reads = refl; writes = refl }
+refused X format.Text told left bytes bench.TooLong same h whole = absurd h
+refused X format.Image told left bytes bench.TooLong same h whole = absurd h
+refused X format.Text told left bytes bench.Read same h whole = absurd h
+refused X format.Image told left bytes bench.Read same h whole = absurd h
+refused X format.Text told left bytes bench.Write same h whole = absurd h
+refused X format.Image told left bytes bench.Write same h whole = absurd h
+refused X format told left bytes bench.Memory same h whole = record { fault = tt; input = whole.0; reads = refl; writes = refl }
 
 -- what holds of all bytes holds of those that the reader told
 pub of-any : (P : List ℕ → Type 0) (told : Option (List ℕ)) → ((t : List ℕ) → P t) → IfSome told P
@@ -75,9 +75,9 @@ of-any P None h = tt
 of-any P (Some t) h = h t
 
 -- the engine after its input could not be read
-pub converts-unread : (format : Format) (output : Scenario → List ℕ) (told left written : Option (List ℕ)) (reads after writes : ℕ) (f : ReadFault)
+pub converts-unread : {X : Type 0} (format : Format) (output : Scenario → List ℕ) (told left written : Option (List ℕ)) (reads after writes : ℕ) (f : ReadFault)
     → ReadsAll told left reads after (Err f)
-    → Converts {X = Unit {0}} format output (record { left = told; written = written; reads = reads; writes = writes }) (record { left = left; written = written; reads = after; writes = writes }) (Err (of_reading f))
+    → Converts {X = X} format output (record { left = told; written = written; reads = reads; writes = writes }) (record { left = left; written = written; reads = after; writes = writes }) (Err (of_reading f))
 converts-unread format output told left written reads after writes reading.Read read = record {
   written = tt;
   front = of-any (λ t. (sc : Scenario) → StandsFor format t sc → WroteFront written written (output sc)) told (λ t sc stands. WroteFront-nothing written (output sc));
@@ -116,11 +116,11 @@ converts-unread format output told left written reads after writes reading.Memor
 }
 
 -- the engine after its input was refused
-pub converts-refused : (format : Format) (output : Scenario → List ℕ) (told left written : Option (List ℕ)) (reads after writes : ℕ) (bytes : List ℕ) (f : BenchFault)
+pub converts-refused : {X : Type 0} (format : Format) (output : Scenario → List ℕ) (told left written : Option (List ℕ)) (reads after writes : ℕ) (bytes : List ℕ) (f : BenchFault)
     → IfSome told (λ t. bytes ≡ t) → IsRefusal format bytes f → ReadWhole told left → after ≡ reads
-    → Converts {X = Unit {0}} format output (record { left = told; written = written; reads = reads; writes = writes }) (record { left = left; written = written; reads = after; writes = writes }) (Err f)
-converts-refused format output told left written reads after writes bytes f same h whole none =
-    let r = refused format told left bytes f same h whole in
+    → Converts {X = X} format output (record { left = told; written = written; reads = reads; writes = writes }) (record { left = left; written = written; reads = after; writes = writes }) (Err f)
+converts-refused {X} format output told left written reads after writes bytes f same h whole none =
+    let r = refused X format told left bytes f same h whole in
     record {
       written = tt;
       front = of-any (λ t. (sc : Scenario) → StandsFor format t sc → WroteFront written written (output sc)) told (λ t sc stands. WroteFront-nothing written (output sc));
@@ -135,12 +135,12 @@ converts-refused format output told left written reads after writes bytes f same
     }
 
 -- what an engine answers where its output was written, or a prefix of it
-abbrev pub of_wrote : Result (Unit {0}) TextFault → Result (Unit {0}) BenchFault
+abbrev pub of_wrote : {X : Type 0} → Result X TextFault → Result X BenchFault
 of_wrote (Ok x) = Ok x
 of_wrote (Err f) = Err (of_writing f)
 
 -- the engine after its input was accepted
-pub converts-wrote : (format : Format) (output : Scenario → List ℕ) (told left old new : Option (List ℕ)) (reads after before writes : ℕ) (bytes : List ℕ) (scenario : Scenario) (w : Result (Unit {0}) TextFault)
+pub converts-wrote : {X : Type 0} (format : Format) (output : Scenario → List ℕ) (told left old new : Option (List ℕ)) (reads after before writes : ℕ) (bytes : List ℕ) (scenario : Scenario) (w : Result X TextFault)
     → IfSome told (λ t. bytes ≡ t) → StandsFor format bytes scenario × HasNoFault format bytes → ((s : Scenario) → StandsFor format bytes s → scenario ≡ s)
     → ReadWhole told left → after ≡ reads → Wrote old new before writes w (output scenario)
     → Converts format output (record { left = told; written = old; reads = reads; writes = before }) (record { left = left; written = new; reads = after; writes = writes }) (of_wrote w)

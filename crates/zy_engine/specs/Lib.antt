@@ -5,3 +5,4 @@ pub mod Threads
 pub mod Again
 pub mod Checks
 pub mod Debugs
+pub mod Searching

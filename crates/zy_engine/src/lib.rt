@@ -8,4 +8,5 @@ pub mod faults;
 pub mod format;
 pub mod laws;
 pub mod output;
+pub mod searching;
 pub mod threading;

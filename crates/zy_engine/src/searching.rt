@@ -1,0 +1,97 @@
+//! The engine that searches the schedules of a scenario.
+ghost use Rattle.std.specs.Prelude.{◌<◌, ◌≤◌, ◌+◌, ◌++◌};
+ghost use Rattle.zy_io.specs.Writing.{Wrote};
+ghost use Rattle.zy_isa.specs.Canon.{canon};
+ghost use Rattle.zy_threads.specs.Orders.{reordered};
+ghost use Rattle.zy_engine.specs.Searching.{ConvertsSearch, WroteAnswer, text_of};
+
+use crate::faults::BenchFault;
+use crate::format::{Format, accept};
+use std::alloc::Global;
+use zy_disasm::head::Head;
+use zy_io::buffer::LineBuffer;
+use zy_io::reading::read_all;
+use zy_io::section::{Both, Each, One, Section};
+use zy_io::stream::{Sink, Source};
+use zy_io::writing::TextFault;
+use zy_isa::choice::Choice;
+use zy_isa::scenario::Scenario;
+use zy_machine::machine::Machine;
+use zy_search::answer::{Answer, Report};
+use zy_search::search::search;
+use zy_search::sought::Sought;
+
+/// Writes the canonical text of a scenario with more choices behind its own.
+fn write_found<K: Sink>(
+    alloc: Global,
+    scenario: &Scenario,
+    more: &[Choice],
+    sink: &mut K,
+) -> Result<(), TextFault>
+    requires { K.failures sink.old < u64.MAX }
+    ensures { Wrote (K.written sink.old) (K.written sink.new) (K.failures sink.old) (K.failures sink.new) result
+        (canon (reordered scenario.now (scenario.now.choices ++ more.now))) }
+{
+    let mut line = LineBuffer::new(alloc);
+    let choices = Both(Each(scenario.choices()), Each(more));
+    Both(Head(scenario), Both(choices, One("end"))).write(sink, &mut line)
+}
+
+/// Writes what goes out of an answer.
+fn write_answer<K: Sink>(
+    alloc: Global,
+    scenario: &Scenario,
+    answer: &Answer,
+    sink: &mut K,
+) -> Result<(), TextFault>
+    requires { K.failures sink.old < u64.MAX }
+    ensures { Wrote (K.written sink.old) (K.written sink.new) (K.failures sink.old) (K.failures sink.new) result (text_of scenario.now answer.now) }
+{
+    match answer {
+        Answer::Found(path) => write_found(alloc, scenario, path, sink),
+        Answer::Nowhere => Ok(()),
+        Answer::Spent(_) => Ok(()),
+    }
+}
+
+/// Makes the choices of a scenario, looks at the states that further ones lead to, and writes what goes out of the answer.
+fn write_search<K: Sink>(
+    alloc: Global,
+    scenario: Scenario,
+    sought: Sought,
+    most: u32,
+    sink: &mut K,
+) -> Result<Report, TextFault>
+    requires { K.failures sink.old < u64.MAX }
+    ensures { WroteAnswer scenario sought (K.written sink.old) (K.written sink.new) (K.failures sink.old) (K.failures sink.new) result }
+{
+    let machine = Machine::run_all(alloc, scenario)?;
+    let report = search(alloc, &machine, sought, most)?;
+    write_answer(alloc, machine.scenario(), &report.answer, sink)?;
+    Ok(report)
+}
+
+/// Reads a scenario whole, makes its choices, and looks for a state that further ones lead to and that shows what is sought. Where there is
+/// one, the canonical text of the scenario goes out with a shortest list of such choices behind its own; else nothing does.
+pub fn search_bytes<S: Source, K: Sink>(
+    alloc: Global,
+    format: Format,
+    sought: Sought,
+    most: u32,
+    source: &mut S,
+    sink: &mut K,
+) -> Result<Report, BenchFault>
+    requires source { S.failures source.old < u64.MAX }
+    requires sink { K.failures sink.old < u64.MAX }
+    ensures converts { ConvertsSearch format sought
+        (record { left = S.left source.old; written = K.written sink.old; reads = S.failures source.old; writes = K.failures sink.old })
+        (record { left = S.left source.new; written = K.written sink.new; reads = S.failures source.new; writes = K.failures sink.new })
+        result }
+    // Whatever the reader tells of its bytes, its calls give at most one more than the longest input has.
+    ensures bound { S.given source.new ≤ S.given source.old + 4194305 }
+{
+    let bytes = read_all(alloc, source)?;
+    let scenario = accept(alloc, format, bytes.as_slice())?;
+    let report = write_search(alloc, scenario, sought, most, sink)?;
+    Ok(report)
+}

@@ -1,0 +1,126 @@
+-- The list of the choices that a search considers has just those.
+use Rattle.std.proofs.Common.{◌≡◌, ◌∙◌, ℕ, zero, suc, ◌+◌, ◌<◌, ◌≤◌, List, [], ◌∷◌, ◌++◌, length, get_or, refl, sym, ap, subst, arith, length-append, append_assoc, add-one, Bool, true, false, nat_lt, ◌&&◌}
+use Rattle.std.proofs.lemmas.List.{get_or_append_left, get_or-append-add}
+use Rattle.std.proofs.lemmas.Bool.Decides.{nat_tests}
+use Rattle.std.proofs.Math.Bool.{false≢true}
+use Rattle.zy_isa.specs.declared.node.Node.{Node}
+use Rattle.zy_isa.specs.declared.node.Node.TheVariants.{A, B}
+use Rattle.zy_isa.specs.declared.choice.Choice.{Choice}
+use Rattle.zy_isa.specs.declared.choice.Choice.TheVariants.{Start, Begin, Kill, Run, Take, Finish, Push}
+use Rattle.zy_search.specs.Choices.{is_considered, AreConsidered, considered, each, killing, of_node}
+
+below : (t count : ℕ) → t < count → nat_lt t count ≡ true
+below t count lt = grind (arith, nat_tests, lt)
+
+above : (t count : ℕ) → nat_lt t count ≡ true → t < count
+above t count e = grind (arith, nat_tests, e)
+
+both : (a b : Bool) → a ≡ true → b ≡ true → (a && b) ≡ true
+both true b e f = f
+both false b e f = e
+
+first : (a b : Bool) → (a && b) ≡ true → a ≡ true
+first true b e = refl
+first false b e = e
+
+second : (a b : Bool) → (a && b) ≡ true → b ≡ true
+second true b e = e
+second false b e = absurd (false≢true e)
+
+-- ---- each is considered
+
+append : (kills : Bool) (count : ℕ) (cs ds : List Choice) → AreConsidered kills count cs → AreConsidered kills count ds → AreConsidered kills count (cs ++ ds)
+append kills count [] ds a b = b
+append kills count (c ∷ cs) ds a b = (a.0, append kills count cs ds a.1 b)
+
+each_considered : (kills : Bool) (count n : ℕ) (make : ℕ → Choice) → ((t : ℕ) → t < count → is_considered kills count (make t) ≡ true) → n ≤ count → AreConsidered kills count (each make n)
+each_considered kills count zero make is le = tt
+each_considered kills count (suc n) make is le =
+    append kills count (each make n) (make n ∷ []) (each_considered kills count n make is (omega (arith, le))) (is n (omega (arith, le)), tt)
+
+begins : (kills : Bool) (count : ℕ) → AreConsidered kills count (each Begin count)
+begins kills count = each_considered kills count count Begin (λ t lt. both (nat_lt t count) true (below t count lt) refl) (omega arith)
+
+runs : (kills : Bool) (count : ℕ) (n : Node) → AreConsidered kills count (each (Run n) count)
+runs kills count n = each_considered kills count count (Run n) (λ t lt. both (nat_lt t count) true (below t count lt) refl) (omega arith)
+
+kills_considered : (kills : Bool) (count : ℕ) → AreConsidered kills count (killing kills count)
+kills_considered true count = each_considered true count count Kill (λ t lt. both (nat_lt t count) true (below t count lt) refl) (omega arith)
+kills_considered false count = tt
+
+node_considered : (kills : Bool) (count : ℕ) (n : Node) → AreConsidered kills count (of_node n count)
+node_considered kills count n = append kills count (each (Run n) count) (Take n ∷ Finish n ∷ Push n ∷ []) (runs kills count n) (refl, (refl, (refl, tt)))
+
+all_considered : (kills : Bool) (count : ℕ) → AreConsidered kills count (considered kills count)
+all_considered kills count =
+    append kills count (Start ∷ each Begin count) _ (refl, begins kills count)
+    (append kills count (killing kills count) _ (kills_considered kills count)
+    (append kills count (of_node A count) (of_node B count) (node_considered kills count A) (node_considered kills count B)))
+
+at : (kills : Bool) (count i : ℕ) (d : Choice) (cs : List Choice) → AreConsidered kills count cs → i < length cs → is_considered kills count (get_or cs i d) ≡ true
+at kills count i d [] a lt = absurd (omega (arith, lt))
+at kills count zero d (c ∷ cs) a lt = a.0
+at kills count (suc i) d (c ∷ cs) a lt = at kills count i d cs a.1 (omega (arith, lt))
+
+pub considered_at : (kills : Bool) (count i : ℕ) (d : Choice) → i < length (considered kills count) → is_considered kills count (get_or (considered kills count) i d) ≡ true
+considered_at kills count i d lt = at kills count i d (considered kills count) (all_considered kills count) lt
+
+-- ---- each considered one is there
+
+abbrev pub Has : List Choice → Choice → Type 0
+Has cs c = (j : ℕ) × (j < length cs) × (get_or cs j Start ≡ c)
+
+has_left : (cs ds : List Choice) (c : Choice) → Has cs c → Has (cs ++ ds) c
+has_left cs ds c h = (h.0, omega (arith, h.1, length-append cs ds), get_or_append_left cs ds Start h.0 h.1 ∙ h.2)
+
+has_right : (cs ds : List Choice) (c : Choice) → Has ds c → Has (cs ++ ds) c
+has_right cs ds c h = (length cs + h.0, omega (arith, h.1, length-append cs ds), get_or-append-add cs ds h.0 Start ∙ h.2)
+
+each_by : (make : ℕ → Choice) (n t : ℕ) (b : Bool) → nat_lt t n ≡ b → (nat_lt t n ≡ true → Has (each make n) (make t)) → t < suc n → Has (each make (suc n)) (make t)
+each_by make n t true w h lt = has_left (each make n) (make n ∷ []) (make t) (h w)
+each_by make n t false w h lt =
+    let same : t ≡ n = grind (arith, nat_tests, w, lt) in
+    has_right (each make n) (make n ∷ []) (make t) (0, omega arith, ap make (sym same))
+
+each_has : (make : ℕ → Choice) (n t : ℕ) → t < n → Has (each make n) (make t)
+each_has make zero t lt = absurd (omega (arith, lt))
+each_has make (suc n) t lt = each_by make n t (nat_lt t n) refl (λ w. each_has make n t (above t n w)) lt
+
+client_has : (kills : Bool) (count : ℕ) (c : Choice) → Has (Start ∷ each Begin count) c → Has (considered kills count) c
+client_has kills count c h = has_left (Start ∷ each Begin count) _ c h
+
+begin_has : (count t : ℕ) → nat_lt t count ≡ true → Has (Start ∷ each Begin count) (Begin t)
+begin_has count t e = let h = each_has Begin count t (above t count e) in (suc h.0, omega (arith, h.1), h.2)
+
+kill_has : (kills : Bool) (count t : ℕ) → kills ≡ true → nat_lt t count ≡ true → Has (killing kills count) (Kill t)
+kill_has true count t e lt = each_has Kill count t (above t count lt)
+kill_has false count t e lt = absurd (false≢true e)
+
+a_has : (kills : Bool) (count : ℕ) (c : Choice) → Has (of_node A count) c → Has (considered kills count) c
+a_has kills count c h = has_right (Start ∷ each Begin count) _ c (has_right (killing kills count) _ c (has_left (of_node A count) (of_node B count) c h))
+
+b_has : (kills : Bool) (count : ℕ) (c : Choice) → Has (of_node B count) c → Has (considered kills count) c
+b_has kills count c h = has_right (Start ∷ each Begin count) _ c (has_right (killing kills count) _ c (has_right (of_node A count) (of_node B count) c h))
+
+node_has : (kills : Bool) (count : ℕ) (n : Node) (c : Choice) → Has (of_node n count) c → Has (considered kills count) c
+node_has kills count A c h = a_has kills count c h
+node_has kills count B c h = b_has kills count c h
+
+run_has : (count t : ℕ) (n : Node) → nat_lt t count ≡ true → Has (of_node n count) (Run n t)
+run_has count t n lt = has_left (each (Run n) count) _ (Run n t) (each_has (Run n) count t (above t count lt))
+
+last_has : (count : ℕ) (n : Node) (c : Choice) → Has (Take n ∷ Finish n ∷ Push n ∷ []) c → Has (of_node n count) c
+last_has count n c h = has_right (each (Run n) count) _ c h
+
+pub has_considered : (kills : Bool) (count : ℕ) (c : Choice) → is_considered kills count c ≡ true → Has (considered kills count) c
+has_considered kills count Start e = (0, omega arith, refl)
+has_considered kills count (Begin t) e = client_has kills count (Begin t) (begin_has count t (first _ _ e))
+has_considered kills count (Kill t) e = has_right (Start ∷ each Begin count) _ (Kill t) (has_left (killing kills count) _ (Kill t) (kill_has kills count t (second _ _ e) (first _ _ e)))
+has_considered kills count (Run n t) e = node_has kills count n (Run n t) (run_has count t n (first _ _ e))
+has_considered kills count (Take n) e = node_has kills count n (Take n) (last_has count n (Take n) (0, omega arith, refl))
+has_considered kills count (Finish n) e = node_has kills count n (Finish n) (last_has count n (Finish n) (1, omega arith, refl))
+has_considered kills count (Push n) e = node_has kills count n (Push n) (last_has count n (Push n) (2, omega arith, refl))
+
+-- one more of these choices
+pub each_more : (make : ℕ → Choice) (xs ys old : List Choice) (t : ℕ) → xs ≡ old ++ each make t → ys ≡ xs ++ make t ∷ [] → ys ≡ old ++ each make (t + 1)
+each_more make xs ys old t e f = rw add-one (f ∙ (ap (λ l. l ++ make t ∷ []) e ∙ append_assoc old (each make t) (make t ∷ [])))

@@ -1,0 +1,206 @@
+-- Paths, the states that they lead to, and what a search knows of them.
+use Rattle.std.proofs.Common.{◌≡◌, ◌∙◌, ℕ, zero, suc, ◌+◌, ◌<◌, ◌≤◌, List, [], ◌∷◌, ◌++◌, length, get_or, refl, sym, ap, subst, arith, length-append, Bool, true, false, nat_lt, ◌&&◌, Result, Ok, Err, IfOk}
+use Rattle.std.proofs.lemmas.List.{get_or_append_left}
+use Rattle.std.proofs.lemmas.Bool.Decides.{nat_tests}
+use Rattle.std.proofs.Math.Seq.{get_or-append_seam}
+use Rattle.zy_isa.specs.declared.choice.Choice.{Choice}
+use Rattle.zy_isa.specs.Choices.{names_below}
+use Rattle.zy_isa.specs.Scenario.{Scenario, AreNamed}
+use Rattle.zy_table.specs.State.{State}
+use Rattle.zy_table.specs.Play.{play, step}
+use Rattle.zy_laws.proofs.PlayPush.{play-push}
+use Rattle.zy_machine.specs.Histories.{History}
+use Rattle.zy_search.specs.declared.sought.Sought.{Sought}
+use Rattle.zy_search.specs.declared.answer.Answer.{Answer}
+use Rattle.zy_search.specs.declared.answer.Answer.TheVariants.{Spent}
+use Rattle.zy_search.specs.declared.answer.Report.{Report}
+use Rattle.zy_search.specs.Choices.{is_considered, AreConsidered, is_tried}
+use Rattle.zy_search.specs.Searches.{reached, Shows, Considers, IsPath, NoneBelow, NoneAtAll, Finds, FindsFirst, IsAnswer}
+use Rattle.zy_search.specs.Visits.{path_at, length_at, IsKnown, IsVisited, Visits, AreNear, IsExpanded, AreExpanded, Grows, FindsNext}
+
+-- ---- choices
+
+and_first : (a b : Bool) → (a && b) ≡ true → a ≡ true
+and_first true b e = refl
+and_first false b e = e
+
+pub named_if : (kills : Bool) (count : ℕ) (c : Choice) → is_considered kills count c ≡ true → names_below count c ≡ true
+named_if kills count c e = and_first (names_below count c) (is_tried kills c) e
+
+pub are_named : (kills : Bool) (count : ℕ) (cs : List Choice) → AreConsidered kills count cs → AreNamed count cs
+are_named kills count [] a = tt
+are_named kills count (c ∷ cs) a = (named_if kills count c a.0, are_named kills count cs a.1)
+
+are_more : (kills : Bool) (count : ℕ) (cs : List Choice) (c : Choice) → AreConsidered kills count cs → is_considered kills count c ≡ true → AreConsidered kills count (cs ++ c ∷ [])
+are_more kills count [] c a e = (e, tt)
+are_more kills count (d ∷ cs) c a e = (a.0, are_more kills count cs c a.1 e)
+
+pub path_more : (h : History) (q : Sought) (cs : List Choice) (c : Choice) → Considers h q cs → length h.entries + length cs < 4096 → is_considered q.kills (length h.scenario.programs) c ≡ true → IsPath h q (cs ++ c ∷ [])
+path_more h q cs c a room e = record {
+  considered = are_more q.kills (length h.scenario.programs) cs c a e;
+  room = omega (arith, room, length-append cs (c ∷ []));
+}
+
+pub reached_more : (h : History) (cs : List Choice) (c : Choice) → reached h (cs ++ c ∷ []) ≡ (step h.scenario c (reached h cs)).after
+reached_more h cs c = play-push h.scenario h.state cs c
+
+-- a path that goes on from an earlier one by a choice
+pub named_front : (count : ℕ) (cs : List Choice) (c : Choice) → AreNamed count (cs ++ c ∷ []) → AreNamed count cs
+named_front count [] c a = tt
+named_front count (d ∷ cs) c a = (a.0, named_front count cs c a.1)
+
+pub named_last : (count : ℕ) (cs : List Choice) (c : Choice) → AreNamed count (cs ++ c ∷ []) → names_below count c ≡ true
+named_last count [] c a = a.0
+named_last count (d ∷ cs) c a = named_last count cs c a.1
+
+pub length_more : (p q : List Choice) (c : Choice) → p ≡ q ++ c ∷ [] → length p ≡ length q + 1
+length_more p q c e = ap (λ (l : List Choice). length l) e ∙ length-append q (c ∷ [])
+
+-- a machine that has gone along the earlier one makes the choice
+pub walked : (sc : Scenario) (s x y : State) (p q : List Choice) (c : Choice) → p ≡ q ++ c ∷ [] → x ≡ play sc s q → y ≡ (step sc c x).after → y ≡ play sc s p
+walked sc s x y p q c e f g =
+    g ∙ (ap (λ (z : State). (step sc c z).after) f ∙ (sym (play-push sc s q c) ∙ ap (play sc s) (sym e)))
+
+-- ---- closed under steps
+
+-- the paths of fewer than d choices are before n
+abbrev AreBefore : List (List Choice) → ℕ → ℕ → Type 0
+AreBefore ps n d = (j : ℕ) → j < length ps → length_at ps j < d → j < n
+
+-- where the paths before n are expanded, d choices from the start lead to a state of a path that is no longer
+goes_on : (h : History) (q : Sought) (ps : List (List Choice)) (n d : ℕ) → AreExpanded h q ps n → AreBefore ps n d → (cs : List Choice) → Considers h q cs → (k : ℕ) → k + length cs ≤ d → (s : State) → IsVisited h ps k s
+    → IsVisited h ps (k + length cs) (play h.scenario s cs)
+goes_on h q ps n d e b [] a k le s r = (r.0, r.1, omega (arith, r.2), r.3)
+goes_on h q ps n d e b (c ∷ cs) a k le s r =
+    let x = e r.0 (b r.0 r.1 (omega (arith, r.2, le))) c a.0 in
+    let y : IsVisited h ps (k + 1) (step h.scenario c s).after = (x.0, x.1, omega (arith, x.2, r.2), x.3 ∙ ap (λ (z : State). (step h.scenario c z).after) r.3) in
+    let z = goes_on h q ps n d e b cs a.1 (k + 1) (omega (arith, le)) (step h.scenario c s).after y in
+    (z.0, z.1, omega (arith, z.2), z.3)
+
+none_within : (h : History) (q : Sought) (ps : List (List Choice)) (n d : ℕ) → Visits h q ps → AreExpanded h q ps n → AreBefore ps n d → (cs : List Choice) → Considers h q cs → length cs ≤ d → Shows h.scenario q (reached h cs) → ⊥
+none_within h q ps n d v e b cs a le shown =
+    let first = ap (λ (l : List Choice). length l) v.first in
+    let r = goes_on h q ps n d e b cs a 0 (omega (arith, le)) h.state (0, v.some, omega (arith, first), ap (reached h) v.first) in
+    v.none r.0 r.1 (subst (Shows h.scenario q) (sym r.3) shown)
+
+-- where all paths are expanded no choices lead to a state that shows it
+pub none_at_all : (h : History) (q : Sought) (ps : List (List Choice)) (n : ℕ) → Visits h q ps → AreExpanded h q ps n → length ps ≤ n → NoneAtAll h q
+none_at_all h q ps n v e le = λ cs a. none_within h q ps n (length cs) v e (λ j lt _. omega (arith, lt, le)) cs a (omega arith)
+
+before : (h : History) (q : Sought) (ps : List (List Choice)) (at j : ℕ) (t : Bool) → nat_lt j at ≡ t → Visits h q ps → j < length ps → length_at ps j < length_at ps at → j < at
+before h q ps at j true w v lt short = grind (arith, nat_tests, w)
+before h q ps at j false w v lt short =
+    let le : at ≤ j = grind (arith, nat_tests, w) in
+    absurd (omega (arith, v.order at j le lt, short))
+
+-- where those before one are expanded, no choices do that are as many as that one's, or fewer
+pub none_below : (h : History) (q : Sought) (ps : List (List Choice)) (at : ℕ) → Visits h q ps → AreExpanded h q ps at → NoneBelow h q (length_at ps at + 1)
+none_below h q ps at v e = λ cs a lt. none_within h q ps at (length_at ps at) v e (λ j below short. before h q ps at j (nat_lt j at) refl v below short) cs a (omega (arith, lt))
+
+pub finds_first : (h : History) (q : Sought) (ps : List (List Choice)) (at : ℕ) (cs : List Choice) → Visits h q ps → AreExpanded h q ps at → FindsNext h q ps at cs → FindsFirst h q cs
+finds_first h q ps at cs v e f = record { finds = f.finds; shortest = λ ds a lt. none_below h q ps at v e ds a (omega (arith, lt, f.longer)) }
+
+-- what was not gone on from, with its length where there may be more paths
+pub spent_below : (h : History) (q : Sought) (old new : List (List Choice)) (at : ℕ) → Visits h q old → at < length old → AreExpanded h q old at → Grows old new → NoneBelow h q (length_at new at + 1)
+spent_below h q old new at v lt e g = λ cs a few. none_below h q old at v e cs a (omega (arith, few, ap (λ (l : List Choice). length l) (g.same at lt)))
+
+-- ---- paths grow
+
+pub grows_not : (ps : List (List Choice)) → Grows ps ps
+grows_not ps = record { longer = omega arith; same = λ i lt. refl }
+
+pub grows_push : (ps : List (List Choice)) (p : List Choice) → Grows ps (ps ++ p ∷ [])
+grows_push ps p = record { longer = omega (arith, length-append ps (p ∷ [])); same = λ i lt. get_or_append_left ps (p ∷ []) [] i lt }
+
+pub grows_on : (ps qs rs : List (List Choice)) → Grows ps qs → Grows qs rs → Grows ps rs
+grows_on ps qs rs g h = record {
+  longer = omega (arith, g.longer, h.longer);
+  same = λ i lt. h.same i (omega (arith, lt, g.longer)) ∙ g.same i lt;
+}
+
+length_grown : (ps qs : List (List Choice)) (i : ℕ) → Grows ps qs → i < length ps → length_at qs i ≡ length_at ps i
+length_grown ps qs i g lt = ap (λ (l : List Choice). length l) (g.same i lt)
+
+pub visited_grown : (h : History) (ps qs : List (List Choice)) (n : ℕ) (x : State) → Grows ps qs → IsVisited h ps n x → IsVisited h qs n x
+visited_grown h ps qs n x g r = (r.0, omega (arith, r.1, g.longer), omega (arith, r.2, length_grown ps qs r.0 g r.1), ap (reached h) (g.same r.0 r.1) ∙ r.3)
+
+pub visited_last : (h : History) (ps : List (List Choice)) (p : List Choice) (n : ℕ) → length p ≤ n → IsVisited h (ps ++ p ∷ []) n (reached h p)
+visited_last h ps p n le =
+    let here = get_or-append_seam ps p [] [] in
+    (length ps, omega (arith, length-append ps (p ∷ [])), omega (arith, le, ap (λ (l : List Choice). length l) here), ap (reached h) here)
+
+-- a state of one of some paths, where none of them is much longer than that at a place
+pub near_known : (h : History) (ps : List (List Choice)) (at : ℕ) (x : State) → AreNear ps at → IsKnown h ps x → IsVisited h ps (length_at ps at + 1) x
+near_known h ps at x near k = (k.0, k.1, near k.0 k.1, k.2)
+
+pub expanded_grown : (h : History) (q : Sought) (ps qs : List (List Choice)) (i : ℕ) → Grows ps qs → i < length ps → IsExpanded h q ps i → IsExpanded h q qs i
+expanded_grown h q ps qs i g lt e = λ c a.
+    subst (λ (p : List Choice). IsVisited h qs (length p + 1) (step h.scenario c (reached h p)).after) (sym (g.same i lt)) (visited_grown h ps qs _ _ g (e c a))
+
+each_more : (P : List Choice → Type 0) (ps : List (List Choice)) (p : List Choice) (i : ℕ) (t : Bool) → nat_lt i (length ps) ≡ t → ((j : ℕ) → j < length ps → P (path_at ps j)) → P p → i < length (ps ++ p ∷ []) → P (path_at (ps ++ p ∷ []) i)
+each_more P ps p i true w h last lt =
+    let below : i < length ps = grind (arith, nat_tests, w) in
+    subst P (sym (get_or_append_left ps (p ∷ []) [] i below)) (h i below)
+each_more P ps p i false w h last lt =
+    let more = length-append ps (p ∷ []) in
+    let here : i ≡ length ps = grind (arith, nat_tests, w, lt, more) in
+    rw here (subst P (sym (get_or-append_seam ps p [] [])) last)
+
+-- a path that is no shorter than the others, behind them
+order_push : (ps : List (List Choice)) (p : List Choice) (i j : ℕ) (t : Bool) → nat_lt j (length ps) ≡ t → ((i j : ℕ) → i ≤ j → j < length ps → length_at ps i ≤ length_at ps j) → ((i : ℕ) → i < length ps → length_at ps i ≤ length p)
+    → i ≤ j → j < length (ps ++ p ∷ []) → length_at (ps ++ p ∷ []) i ≤ length_at (ps ++ p ∷ []) j
+order_push ps p i j true w order short le lt =
+    let below : j < length ps = grind (arith, nat_tests, w) in
+    let a = ap (λ (l : List Choice). length l) (get_or_append_left ps (p ∷ []) [] i (omega (arith, le, below))) in
+    let b = ap (λ (l : List Choice). length l) (get_or_append_left ps (p ∷ []) [] j below) in
+    omega (arith, a, b, order i j le below)
+order_push ps p i j false w order short le lt =
+    let more = length-append ps (p ∷ []) in
+    let here : j ≡ length ps = grind (arith, nat_tests, w, lt, more) in
+    let a = each_more (λ x. length x ≤ length p) ps p i (nat_lt i (length ps)) refl short (omega arith) (omega (arith, le, lt)) in
+    let b = ap (λ (l : List Choice). length l) (get_or-append_seam ps p [] []) in
+    rw here (omega (arith, a, b))
+
+pub visits_push : (h : History) (q : Sought) (ps : List (List Choice)) (p : List Choice) → Visits h q ps → IsPath h q p → (Shows h.scenario q (reached h p) → ⊥) → ((i : ℕ) → i < length ps → length_at ps i ≤ length p) → Visits h q (ps ++ p ∷ [])
+visits_push h q ps p v path none short = record {
+  some = omega (arith, v.some, length-append ps (p ∷ []));
+  first = get_or_append_left ps (p ∷ []) [] 0 v.some ∙ v.first;
+  paths = λ i lt. each_more (IsPath h q) ps p i (nat_lt i (length ps)) refl v.paths path lt;
+  none = λ i lt. each_more (λ x. Shows h.scenario q (reached h x) → ⊥) ps p i (nat_lt i (length ps)) refl v.none none lt;
+  order = λ i j le lt. order_push ps p i j (nat_lt j (length ps)) refl v.order short le lt;
+}
+
+pub near_push : (ps : List (List Choice)) (p : List Choice) (at : ℕ) → AreNear ps at → at < length ps → length p ≡ length_at ps at + 1 → AreNear (ps ++ p ∷ []) at
+near_push ps p at near lt e = λ i below.
+    let same = ap (λ (l : List Choice). length l) (get_or_append_left ps (p ∷ []) [] at lt) in
+    let le = each_more (λ x. length x ≤ length_at ps at + 1) ps p i (nat_lt i (length ps)) refl near (omega (arith, e)) below in
+    omega (arith, same, le)
+
+pub near_next : (h : History) (q : Sought) (ps : List (List Choice)) (at : ℕ) → Visits h q ps → AreNear ps at → at + 1 < length ps → AreNear ps (at + 1)
+near_next h q ps at v near lt = λ i below. omega (arith, near i below, v.order at (at + 1) (omega arith) lt)
+
+one_place : (i : ℕ) → i < 1 → i ≡ 0
+one_place i lt = omega (arith, lt)
+
+-- the empty path alone
+pub visits_first : (h : History) (q : Sought) → length h.entries ≤ 4096 → (Shows h.scenario q h.state → ⊥) → Visits h q ([] ∷ [])
+visits_first h q room none = record {
+  some = omega arith;
+  first = refl;
+  paths = λ i lt. rw (one_place i lt) (record { considered = tt; room = omega (arith, room) });
+  none = λ i lt. rw (one_place i lt) none;
+  order = λ i j le lt. rw (one_place i (omega (arith, le, lt)), one_place j lt) (omega arith);
+}
+
+pub near_first : AreNear ([] ∷ []) 0
+near_first = λ i lt. rw (one_place i lt) (omega arith)
+
+-- a report has the answer that was found for the same machine
+pub answered : {E : Type 0} (h : History) (q : Sought) (k : History) (p : Sought) (a : Answer) (r : Result Report E) → h ≡ k → q ≡ p → IsAnswer h q a → IfOk r (λ x. x.answer ≡ a) → IfOk r (λ x. IsAnswer k p x.answer)
+answered h q k p a (Ok x) e f is same = subst (IsAnswer k p) (sym same) (subst (λ (s : Sought). IsAnswer k s a) f (subst (λ (g : History). IsAnswer g q a) e is))
+answered h q k p a (Err x) e f is same = tt
+
+-- where no fewer choices lead there, a call that answers so answers well
+pub spent_well : {E : Type 0} (h : History) (q : Sought) (n : ℕ) (r : Result Answer E) → NoneBelow h q n → IfOk r (λ a. a ≡ Spent n) → IfOk r (IsAnswer h q)
+spent_well h q n (Ok a) below e = subst (IsAnswer h q) (sym e) below
+spent_well h q n (Err x) below e = tt

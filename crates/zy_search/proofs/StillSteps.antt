@@ -1,0 +1,299 @@
+-- Where nothing comes of a step the state is as it was.
+use Rattle.std.proofs.Common.{◌≡◌, ◌∙◌, ℕ, List, [], ◌∷◌, length, ◌<◌, ◌≤◌, ◌+◌, arith, Bool, true, false, not, nat_lt, nat_le, ◌&&◌, Option, Some, None, is_some, unwrap_or, slice_get, refl, sym, ap, subst}
+use Rattle.std.proofs.lemmas.Bool.{cond_both, false≢true}
+use Rattle.zy_isa.specs.declared.node.Node.{Node}
+use Rattle.zy_isa.specs.declared.node.Node.TheVariants.{A, B}
+use Rattle.zy_isa.specs.declared.instr.Reg.{Reg}
+use Rattle.zy_isa.specs.declared.instr.Instr.{Instr}
+use Rattle.zy_isa.specs.declared.instr.Instr.TheVariants.{Set, Read, Write, Insert, Add, Sum, Beq, Commit, Abort}
+use Rattle.zy_isa.specs.declared.choice.Choice.{Choice}
+use Rattle.zy_isa.specs.declared.choice.Choice.TheVariants.{Start, Begin, Kill, Run, Take, Finish as Finish_at, Push}
+use Rattle.zy_isa.specs.Scenario.{Scenario}
+use Rattle.zy_locks.specs.Locks.{conflict, is_locked}
+use Rattle.zy_links.specs.Messages.{Message, Wire, Ready, Dual, Pull, Page, Finish, Done}
+use Rattle.zy_modes.specs.declared.table.MsgRow.{MsgRow}
+use Rattle.zy_modes.specs.declared.table.MsgRow.TheVariants.{Stray, Turns}
+use Rattle.zy_modes.specs.declared.table.FinRow.{FinRow}
+use Rattle.zy_modes.specs.declared.table.FinRow.TheVariants as fin
+use Rattle.zy_modes.specs.Table.{may_start, may_split, may_pull, may_push, is_waiting, home_of, on_finish}
+use Rattle.zy_table.specs.declared.access.Access.{Access}
+use Rattle.zy_table.specs.declared.access.Access.TheVariants.{Reads, Writes, Inserts}
+use Rattle.zy_table.specs.declared.outcome.Why.{Why}
+use Rattle.zy_table.specs.State.{State, View, Move, Step, facing, seen_from, as_step}
+use Rattle.zy_table.specs.Numbers.{has, least}
+use Rattle.zy_table.specs.Pages.{owns, numbers}
+use Rattle.zy_table.specs.Ranges.{range_pages}
+use Rattle.zy_table.specs.Change.{txn_at, txn_or, locked, shares, quiet, reg}
+use Rattle.zy_table.specs.Client.{is_new, is_active, start_row, begin_at, begin_row, kill_row}
+use Rattle.zy_table.specs.Push.{active_from, finish_if, finish_row, push_if, push_row}
+use Rattle.zy_table.specs.Run.{same_node, program_of, abort_row, set_row, jump_row, gone_pages, commit_or_gone, commit_row, absent_row, read_row, is_there, write_row, has_room, split_row, full_row, insert_row, lock_of, access_row, page_row, key_row, first_absent, first_taken, sum_row, sum_or_waits, sum_or_asks, range_row, instr_row, run_row}
+use Rattle.zy_table.specs.Take.{is_held, got, got_row, pull_row, mode_row, message_row, front_row, take_row}
+use Rattle.zy_table.specs.Play.{move, side_of, step}
+use Rattle.zy_machine.specs.Histories.{History}
+use Rattle.zy_search.specs.Stuck.{is_still}
+use Rattle.zy_table.specs.declared.outcome.Outcome.{Outcome}
+use Rattle.zy_search.specs.declared.sought.Sought.{Sought}
+use Rattle.zy_search.specs.Searches.{reached}
+use Rattle.zy_search.specs.Visits.{path_at, length_at, Visits, AreNear, IsHere, IsTwin, Notes}
+use Rattle.zy_search.proofs.SearchLemmas.{grows_not}
+
+abbrev Stays : View → Move → Type 0
+Stays v m = is_still m.outcome ≡ true → m.after ≡ v
+
+never : {X : Type 0} → false ≡ true → X
+never e = absurd (false≢true e)
+
+aborts : (t : ℕ) (w : Why) (s v : View) → Stays v (abort_row t w s)
+unfolding abort_row
+aborts t w s v = never
+
+sets : (t : ℕ) (r : Reg) (x : ℕ) (s v : View) → Stays v (set_row t r x s)
+unfolding set_row
+sets t r x s v = never
+
+-- ---- run
+
+full : (sc : Scenario) (t k p : ℕ) (s v : View) → Stays v (full_row sc t k p s)
+unfolding full_row split_row
+full sc t k p s v =
+    cond_both (not (may_split s.me.mode)) _ _ (Stays v)
+    (λ _. aborts t _ s v)
+    (λ _. cond_both (nat_le sc.pages (length s.me.lows)) _ _ (Stays v)
+    (λ _. aborts t _ s v)
+    (λ _. never))
+
+inserts : (sc : Scenario) (t k x p : ℕ) (s v : View) → Stays v (insert_row sc t k x p s)
+unfolding insert_row
+inserts sc t k x p s v =
+    cond_both (is_there k p s.me (txn_at s t)) _ _ (Stays v)
+    (λ _. aborts t _ s v)
+    (λ _. cond_both (has_room sc p s.me (txn_at s t)) _ _ (Stays v)
+    (λ _. never)
+    (λ _. full sc t k p s v))
+
+writes : (t k x p : ℕ) (s v : View) → Stays v (write_row t k x p s)
+unfolding write_row
+writes t k x p s v =
+    cond_both (is_there k p s.me (txn_at s t)) _ _ (Stays v)
+    (λ _. never)
+    (λ _. aborts t _ s v)
+
+accesses : (sc : Scenario) (t : ℕ) (x : Access) (k p : ℕ) (s v : View) → Stays v (access_row sc t x k p s)
+unfolding access_row read_row
+accesses sc t (Reads r) k p s v = never
+accesses sc t (Writes x) k p s v = writes t k x p s v
+accesses sc t (Inserts x) k p s v = inserts sc t k x p s v
+
+absent : (t p : ℕ) (v : View) → Stays v (absent_row t p v)
+unfolding absent_row
+absent t p v =
+    cond_both (not (may_pull v.me.mode)) _ _ (Stays v)
+    (λ _. aborts t _ v v)
+    (λ _. cond_both (has v.me.asked p) _ _ (Stays v)
+    (λ _ _. refl)
+    (λ _. never))
+
+on_page : (sc : Scenario) (t : ℕ) (x : Access) (k p : ℕ) (v : View) → Stays v (page_row sc t x k p v)
+unfolding page_row
+on_page sc t x k p v =
+    cond_both (not (owns v.me.pages p)) _ _ (Stays v)
+    (λ _. absent t p v)
+    (λ _. cond_both (conflict v.me.locks p t (lock_of x)) _ _ (Stays v)
+    (λ _ _. refl)
+    (λ _. accesses sc t x k p (locked t p (lock_of x) v) v))
+
+on_key : (sc : Scenario) (t : ℕ) (x : Access) (k : ℕ) (v : View) → Stays v (key_row sc t x k v)
+unfolding key_row
+on_key sc t x k v =
+    cond_both (nat_lt 65535 k) _ _ (Stays v)
+    (λ _. aborts t _ v v)
+    (λ _. on_page sc t x k _ v)
+
+sum_waits : (t : ℕ) (r : Reg) (a b : ℕ) (o : Option ℕ) (v : View) → Stays v (sum_or_waits t r a b o v)
+unfolding sum_or_waits sum_row
+sum_waits t r a b (Some p) v = λ _. refl
+sum_waits t r a b None v = sets t r _ _ v
+
+sum_asks : (t : ℕ) (r : Reg) (a b : ℕ) (o : Option ℕ) (v : View) → Stays v (sum_or_asks t r a b o v)
+unfolding sum_or_asks
+sum_asks t r a b (Some p) v = absent t p v
+sum_asks t r a b None v = sum_waits t r a b _ v
+
+sums : (t : ℕ) (r : Reg) (a b : ℕ) (v : View) → Stays v (range_row t r a b v)
+unfolding range_row
+sums t r a b v =
+    cond_both (nat_lt b a) _ _ (Stays v)
+    (λ _. sets t r 0 v v)
+    (λ _. cond_both (nat_lt 65535 b) _ _ (Stays v)
+    (λ _. aborts t _ v v)
+    (λ _. sum_asks t r a b _ v))
+
+commits : (t : ℕ) (o : Option ℕ) (v : View) → Stays v (commit_or_gone t o v)
+unfolding commit_or_gone
+commits t (Some p) v = aborts t _ v v
+commits t None v = never
+
+instr : (sc : Scenario) (t : ℕ) (o : Option Instr) (regs : List ℕ) (v : View) → Stays v (instr_row sc t o regs v)
+unfolding instr_row jump_row commit_row
+instr sc t None regs v = λ _. refl
+instr sc t (Some (Set r x)) regs v = sets t r x v v
+instr sc t (Some (Add r q)) regs v = sets t r _ v v
+instr sc t (Some (Sum r q)) regs v = sums t r _ _ v
+instr sc t (Some (Beq r q to)) regs v = never
+instr sc t (Some Abort) regs v = aborts t _ v v
+instr sc t (Some Commit) regs v = commits t _ v
+instr sc t (Some (Read r q)) regs v = on_key sc t (Reads r) _ v
+instr sc t (Some (Write r q)) regs v = on_key sc t (Writes _) _ v
+instr sc t (Some (Insert r q)) regs v = on_key sc t (Inserts _) _ v
+
+runs : (sc : Scenario) (n : Node) (t : ℕ) (v : View) → Stays v (run_row sc n t v)
+unfolding run_row
+runs sc n t v =
+    cond_both (not (is_active (txn_at v t).status)) _ _ (Stays v)
+    (λ _ _. refl)
+    (λ _. cond_both (not (same_node (txn_at v t).node n)) _ _ (Stays v)
+    (λ _ _. refl)
+    (λ _. cond_both (is_waiting v.me.mode) _ _ (Stays v)
+    (λ _ _. refl)
+    (λ _. instr sc t _ _ v)))
+
+-- ---- the client
+
+starts : (v : View) → Stays v (start_row v)
+unfolding start_row
+starts v =
+    cond_both (may_start v.me.mode v.them.mode) _ _ (Stays v)
+    (λ _. never)
+    (λ _ _. refl)
+
+begins_at : (o : Option Node) (t : ℕ) (v : View) → Stays v (begin_at o t v)
+unfolding begin_at
+begins_at None t v = λ _. refl
+begins_at (Some n) t v = never
+
+begins : (t : ℕ) (v : View) → Stays v (begin_row t v)
+unfolding begin_row
+begins t v =
+    cond_both (is_new (txn_at v t).status) _ _ (Stays v)
+    (λ _. begins_at _ t v)
+    (λ _ _. refl)
+
+kills : (t : ℕ) (v : View) → Stays v (kill_row t v)
+unfolding kill_row
+kills t v =
+    cond_both (is_active (txn_at v t).status) _ _ (Stays v)
+    (λ _. never)
+    (λ _ _. refl)
+
+-- ---- take, finish, push
+
+got_is_no_rest : (m : Message) → is_still (got m) ≡ false
+got_is_no_rest (Wire lows) = refl
+got_is_no_rest Ready = refl
+got_is_no_rest Dual = refl
+got_is_no_rest (Pull p) = refl
+got_is_no_rest (Page leaf) = refl
+got_is_no_rest Finish = refl
+got_is_no_rest Done = refl
+
+takes_got : (row : MsgRow) (m : Message) (v r : View) → Stays v (got_row row m v r)
+unfolding got_row
+takes_got Stray m v r = λ _. refl
+takes_got (Turns mode sent) m v r = λ e. never (sym (got_is_no_rest m) ∙ e)
+
+takes_pull : (sc : Scenario) (p : ℕ) (row : MsgRow) (v r : View) → Stays v (pull_row sc p row v r)
+unfolding pull_row
+takes_pull sc p Stray v r = λ _. refl
+takes_pull sc p (Turns mode sent) v r =
+    cond_both (not (owns v.me.pages p)) _ _ (Stays v)
+    (λ _. never)
+    (λ _. cond_both (is_held sc.rule && is_locked v.me.locks p) _ _ (Stays v)
+    (λ _ _. refl)
+    (λ _. never))
+
+takes_message : (sc : Scenario) (m : Message) (v r : View) → Stays v (message_row sc m v r)
+unfolding message_row
+takes_message sc (Wire lows) v r = takes_got _ (Wire lows) v r
+takes_message sc Ready v r = takes_got _ Ready v r
+takes_message sc Dual v r = takes_got _ Dual v r
+takes_message sc (Pull p) v r = takes_pull sc p _ v r
+takes_message sc (Page leaf) v r = takes_got _ (Page leaf) v r
+takes_message sc Finish v r = takes_got _ Finish v r
+takes_message sc Done v r = takes_got _ Done v r
+
+takes_front : (sc : Scenario) (ms : List Message) (v : View) → Stays v (front_row sc ms v)
+unfolding front_row
+takes_front sc [] v = λ _. refl
+takes_front sc (m ∷ ms) v = takes_message sc m v (record v { inbox = ms })
+
+takes : (sc : Scenario) (v : View) → Stays v (take_row sc v)
+unfolding take_row
+takes sc v = takes_front sc v.inbox v
+
+finishes_if : (row : FinRow) (t : ℕ) (v : View) → Stays v (finish_if row t v)
+unfolding finish_if
+finishes_if fin.BadMode t v = λ _. refl
+finishes_if fin.Active t v = λ _. refl
+finishes_if fin.Finishing t v = never
+
+finishes : (n : Node) (v : View) → Stays v (finish_row n v)
+unfolding finish_row
+finishes n v = finishes_if _ _ v
+
+pushes_if : (o : Option ℕ) (v : View) → Stays v (push_if o v)
+unfolding push_if
+pushes_if None v = λ _. refl
+pushes_if (Some p) v = never
+
+pushes : (v : View) → Stays v (push_row v)
+unfolding push_row
+pushes v =
+    cond_both (may_push v.me.mode) _ _ (Stays v)
+    (λ _. pushes_if _ v)
+    (λ _ _. refl)
+
+moves : (sc : Scenario) (c : Choice) (n : Node) (v : View) → Stays v (move sc c v)
+unfolding move
+moves sc Start n v = starts v
+moves sc (Begin t) n v = begins t v
+moves sc (Kill t) n v = kills t v
+moves sc (Run m t) n v = runs sc m t v
+moves sc (Take m) n v = takes sc v
+moves sc (Finish_at m) n v = finishes m v
+moves sc (Push m) n v = pushes v
+
+back : (n : Node) (s : State) → seen_from n (facing n s) ≡ s
+back A s = refl
+back B s = refl
+
+pub still_stays : (sc : Scenario) (c : Choice) (s : State) → is_still (step sc c s).outcome ≡ true → (step sc c s).after ≡ s
+unfolding step
+still_stays sc c s e =
+    let n = side_of sc c s in
+    ap (seen_from n) (moves sc c n (facing n s) e) ∙ back n s
+
+-- a step that nothing comes of, on a twin: it stays one
+pub twin_still : (m old new : History) (c : Choice) → IsTwin m old → new.scenario ≡ old.scenario → new.state ≡ (step old.scenario c old.state).after → is_still (step old.scenario c old.state).outcome ≡ true → IsTwin m new
+twin_still m old new c t e f still = record {
+  scenario = e ∙ t.scenario;
+  state = f ∙ (still_stays old.scenario c old.state still ∙ t.state);
+}
+
+-- a twin's step is that of the first machine
+pub twin_step : (m twin : History) (c : Choice) → IsTwin m twin → step twin.scenario c twin.state ≡ step m.scenario c m.state
+twin_step m twin c t = ap (λ (sc : Scenario). step sc c twin.state) t.scenario ∙ ap (step m.scenario c) t.state
+
+-- a choice that nothing comes of leads to the state of the path itself
+pub still_known : (h m twin : History) (q : Sought) (ps : List (List Choice)) (at : ℕ) (c : Choice) (o : Outcome) → Visits h q ps → AreNear ps at → at < length ps → IsHere h ps at m → IsTwin m twin
+    → o ≡ (step twin.scenario c twin.state).outcome → is_still o ≡ true → Notes h q ps ps at c
+still_known h m twin q ps at c o v near lt here t oe f =
+    let e : step twin.scenario c twin.state ≡ step h.scenario c (reached h (path_at ps at)) =
+        twin_step m twin c t ∙ (ap (λ (sc : Scenario). step sc c m.state) here.scenario ∙ ap (step h.scenario c) here.state) in
+    let still : is_still (step h.scenario c (reached h (path_at ps at))).outcome ≡ true =
+        sym (ap (λ (x : Step). is_still x.outcome) e) ∙ (sym (ap is_still oe) ∙ f) in
+    record {
+      visits = v;
+      near = near;
+      grows = grows_not ps;
+      known = (at, lt, omega arith, sym (still_stays h.scenario c (reached h (path_at ps at)) still));
+    }

@@ -1,0 +1,10 @@
+use Rattle.std.proofs.Common.{rules, ◌≡◌, ◌∙◌, ◌++◌, append-nil, sym}
+use Rattle.zy_isa.specs.declared.choice.Choice.TheVariants.{Run}
+use Rattle.zy_search.proofs.ChoiceLemmas.{each_more}
+use Rattle.zy_search.proofs.choices.add_runs.Goals as goal
+
+pub loop-t-init : goal.loop-t-init
+loop-t-init c = sym (append-nil _)
+
+pub loop-t-preserved : goal.loop-t-preserved
+loop-t-preserved c = each_more (Run c.args.n) _ _ _ c.loop-t.t c.loop-t.invariant c.in_ok-push.ensures.items

@@ -1,0 +1,15 @@
+use Rattle.std.proofs.Common.{rules, ◌≡◌, ◌∙◌, refl, subst}
+use Rattle.zy_table.specs.State.{State}
+use Rattle.zy_search.specs.Visits.{IsVisited, length_at}
+use Rattle.zy_search.proofs.SearchLemmas.{grows_not, near_known}
+use Rattle.zy_search.proofs.expand.note.Goals as goal
+
+pub returns-in-None-clause-well : goal.returns-in-None-clause-well
+returns-in-None-clause-well c =
+    let known = c.in_ok-free_under.ensures.known c.in-None.is in
+    record {
+      visits = c.requires.visits;
+      near = c.requires.near;
+      grows = grows_not c.args.visited.now;
+      known = near_known c.args.plan.now.start c.args.visited.now c.args.at _ c.requires.near (known.0, known.1, known.2 ∙ c.requires.next.state);
+    }

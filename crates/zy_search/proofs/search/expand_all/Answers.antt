@@ -1,0 +1,60 @@
+use Rattle.std.proofs.Common.{rules, ◌≡◌, ◌∙◌, ◌+◌, ◌<◌, ◌≤◌, ℕ, List, Bool, true, false, nat_lt, length, arith, sym, subst, refl}
+use Rattle.std.proofs.lemmas.Bool.Decides.{nat_tests}
+use Rattle.zy_isa.specs.declared.choice.Choice.{Choice}
+use Rattle.zy_machine.specs.Histories.{History}
+use Rattle.zy_search.specs.declared.sought.Sought.{Sought}
+use Rattle.zy_search.specs.declared.answer.Answer.{Answer}
+use Rattle.zy_search.specs.Searches.{IsAnswer}
+use Rattle.zy_search.specs.Visits.{AreExpanded, IsExpanded, Expands, length_at}
+use Rattle.zy_search.proofs.SearchLemmas.{none_at_all, finds_first, spent_below, spent_well, expanded_grown, near_first, near_next}
+use Rattle.zy_search.proofs.search.expand_all.Goals as goal
+
+pub loop-at-init : goal.loop-at-init
+loop-at-init c =
+    let first = c.requires.first in
+    record {
+      visits = c.requires.visits;
+      within = omega arith;
+      expanded = λ i lt. absurd (omega (arith, lt));
+      near = rw first (λ _. near_first);
+      here = c.requires.here;
+      twin = c.requires.twin;
+      same = c.requires.same;
+    }
+
+pub returns-then-len-at : goal.returns-then-len-at
+returns-then-len-at c =
+    none_at_all c.args.plan.now.start c.args.plan.now.sought c.loop-at.visited c.loop-at.at c.loop-at.invariant.visits c.loop-at.invariant.expanded (omega (arith, c.len.ensures.value, c.if-len-at.true))
+
+pub returns-in-Found : goal.returns-in-Found
+returns-in-Found c =
+    finds_first c.args.plan.now.start c.args.plan.now.sought c.loop-at.visited c.loop-at.at c.in-Found.path.items c.loop-at.invariant.visits c.loop-at.invariant.expanded (rw c.in-Found.is at c.in_ok-expand.ensures.well)
+
+pub returns-in-Spent : goal.returns-in-Spent
+returns-in-Spent c =
+    let h = c.args.plan.now.start in
+    let q = c.args.plan.now.sought in
+    let lt : c.loop-at.at < length c.loop-at.visited = omega (arith, c.len.ensures.value, c.if-len-at.false) in
+    let below = spent_below h q c.loop-at.visited c.expand.new.visited c.loop-at.at c.loop-at.invariant.visits lt c.loop-at.invariant.expanded (rw c.in-Spent.is at c.in_ok-expand.ensures.well) in
+    spent_well h q (length_at c.expand.new.visited c.loop-at.at + 1) c.spent_at.result below c.spent_at.ensures
+
+-- the paths before the n-th are expanded, and so is that one
+next : (h : History) (q : Sought) (cur new : List (List Choice)) (n i : ℕ) (t : Bool) → nat_lt i n ≡ t → n ≤ length cur → AreExpanded h q cur n → Expands h q cur new n → i < n + 1 → IsExpanded h q new i
+next h q cur new n i true w within e x lt = let below : i < n = grind (arith, nat_tests, w) in expanded_grown h q cur new i x.grows (omega (arith, below, within)) (e i below)
+next h q cur new n i false w within e x lt = let here : i ≡ n = grind (arith, nat_tests, w, lt) in rw here x.expanded
+
+pub loop-at-preserved : goal.loop-at-preserved
+loop-at-preserved c =
+    let x = rw c.in-Whole.is at c.in_ok-expand.ensures.well in
+    record {
+      visits = x.visits;
+      within = omega (arith, x.grows.longer, c.len.ensures.value, c.if-len-at.false);
+      expanded = λ i lt. next c.args.plan.now.start c.args.plan.now.sought c.loop-at.visited c.expand.new.visited c.loop-at.at i (nat_lt i c.loop-at.at) refl c.loop-at.invariant.within c.loop-at.invariant.expanded x lt;
+      near = λ lt. near_next c.args.plan.now.start c.args.plan.now.sought c.expand.new.visited c.loop-at.at x.visits x.near lt;
+      here = c.in_ok-expand.ensures.here;
+      twin = c.in_ok-expand.ensures.twin;
+      same = c.in_ok-expand.ensures.same;
+    }
+
+pub returns : goal.returns
+returns c = λ cs a lt. absurd (omega (arith, lt))

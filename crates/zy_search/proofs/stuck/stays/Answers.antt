@@ -1,0 +1,16 @@
+use Rattle.std.proofs.Common.{rules, ◌≡◌, ◌∙◌, sym, ap, subst, true}
+use Rattle.zy_isa.specs.Scenario.{Scenario}
+use Rattle.zy_isa.specs.declared.choice.Choice.{Choice}
+use Rattle.zy_table.specs.declared.entry.Entry.{Entry}
+use Rattle.zy_table.specs.State.{State}
+use Rattle.zy_table.specs.Play.{step}
+use Rattle.zy_machine.specs.Histories.{History}
+use Rattle.zy_search.specs.Stuck.{is_still}
+use Rattle.zy_search.specs.Visits.{IsTwin}
+use Rattle.zy_search.proofs.StillSteps.{twin_still}
+use Rattle.zy_search.proofs.stuck.stays.Goals as goal
+
+pub returns-clause-twin : goal.returns-clause-twin
+returns-clause-twin c = λ e.
+    let o = ap (λ (x : Entry). is_still x.outcome) c.in_ok-entry.ensures.entry in
+    twin_still c.args.machine.now c.make_room.new.twin c.step.new.self c.args.choice c.in_ok-make_room.ensures.twin c.step.ensures.scenario c.in_ok-entry.ensures.state (sym o ∙ (sym c.is_still.ensures ∙ e))

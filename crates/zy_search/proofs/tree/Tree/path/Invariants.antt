@@ -1,0 +1,13 @@
+use Rattle.std.proofs.Common.{◌≡◌, ◌≤◌, ◌++◌, [], length, get_or, reverse}
+use Rattle.zy_search.specs.Paths.{paths_of, AreRooted}
+use Rattle.zy_search.proofs.tree.Tree.path.Given as goal
+
+abbrev pub invariant-loop-at : goal.invariant-loop-at
+invariant-loop-at l =
+    record {
+      within : l.at ≤ length l.self-inside.branches.items;
+      walked : get_or (paths_of l.self-inside.branches.items) l.i [] ≡ get_or (paths_of l.self-inside.branches.items) l.at [] ++ reverse l.path.items;
+    }
+
+abbrev pub decreases-loop-at : goal.decreases-loop-at
+decreases-loop-at l = l.at

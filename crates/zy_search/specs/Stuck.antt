@@ -1,0 +1,31 @@
+-- Where nothing goes on.
+use Rattle.std.specs.Prelude.{◌≡◌, Bool, true, false, length}
+use Rattle.std.specs.List.{list_any}
+use Rattle.zy_isa.specs.declared.choice.Choice.{Choice}
+use Rattle.zy_isa.specs.Scenario.{Scenario}
+use Rattle.zy_table.specs.declared.outcome.Outcome.{Outcome}
+use Rattle.zy_table.specs.declared.outcome.Outcome.TheVariants.{BadMode, Idle, Elsewhere, NotYet, Waits, Awaits, NoMessage, Held, Stray, Active, NoPush}
+use Rattle.zy_table.specs.State.{State, Txn}
+use Rattle.zy_table.specs.Play.{step}
+use Rattle.zy_search.specs.Choices.{is_considered}
+use Rattle.zy_search.specs.Reasons.{is_running}
+
+-- nothing came of a step
+abbrev pub is_still : Outcome → Bool
+is_still BadMode = true
+is_still Idle = true
+is_still Elsewhere = true
+is_still NotYet = true
+is_still (Waits p) = true
+is_still (Awaits p) = true
+is_still NoMessage = true
+is_still (Held p) = true
+is_still Stray = true
+is_still (Active t) = true
+is_still NoPush = true
+is_still o = false
+
+-- a transaction is active, and nothing comes of any considered choice
+pub record IsStuck (sc : Scenario) (kills : Bool) (s : State) : Type 0 where
+  pub active : list_any (λ (x : Txn). is_running x.status) s.txns ≡ true
+  pub still : (c : Choice) → is_considered kills (length sc.programs) c ≡ true → is_still (step sc c s).outcome ≡ true

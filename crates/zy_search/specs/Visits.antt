@@ -1,0 +1,106 @@
+-- What a search keeps, and what each of its parts adds.
+use Rattle.std.specs.Prelude.{ℕ, ◌≡◌, ◌≤◌, ◌<◌, ◌+◌, List, [], ◌∷◌, ◌++◌, true, length, slice_index_or}
+use Rattle.zy_isa.specs.declared.choice.Choice.{Choice}
+use Rattle.zy_table.specs.State.{State}
+use Rattle.zy_table.specs.Play.{step}
+use Rattle.zy_machine.specs.Histories.{History}
+use Rattle.zy_search.specs.declared.sought.Sought.{Sought}
+use Rattle.zy_search.specs.declared.plan.Plan.{Plan}
+use Rattle.zy_search.specs.declared.answer.Met.{Met}
+use Rattle.zy_search.specs.declared.answer.Met.TheVariants as met
+use Rattle.zy_search.specs.declared.answer.Expanded.{Expanded}
+use Rattle.zy_search.specs.declared.answer.Expanded.TheVariants as expanded
+use Rattle.zy_search.specs.Choices.{considered, is_considered}
+use Rattle.zy_search.specs.Searches.{Shows, reached, IsPath, Finds}
+
+-- the choices of a plan are all that its search considers
+abbrev pub IsWhole : Plan → Type 0
+IsWhole p = p.choices.items ≡ considered p.sought.kills (length p.start.scenario.programs)
+
+abbrev pub path_at : List (List Choice) → ℕ → List Choice
+path_at paths i = slice_index_or paths i []
+
+abbrev pub length_at : List (List Choice) → ℕ → ℕ
+length_at paths i = length (path_at paths i)
+
+-- one of some paths leads to this state
+abbrev pub IsKnown : History → List (List Choice) → State → Type 0
+IsKnown h paths x = (i : ℕ) × (i < length paths) × (reached h (path_at paths i) ≡ x)
+
+-- one of at most n choices does
+abbrev pub IsVisited : History → List (List Choice) → ℕ → State → Type 0
+IsVisited h paths n x = (i : ℕ) × (i < length paths) × (length_at paths i ≤ n) × (reached h (path_at paths i) ≡ x)
+
+-- the empty path and others, none of which leads to a state that shows what is looked for, by their lengths
+pub record Visits (h : History) (q : Sought) (ps : List (List Choice)) : Type 0 where
+  pub some : 0 < length ps
+  pub first : path_at ps 0 ≡ []
+  pub paths : (i : ℕ) → i < length ps → IsPath h q (path_at ps i)
+  pub none : (i : ℕ) → i < length ps → Shows h.scenario q (reached h (path_at ps i)) → ⊥
+  pub order : (i j : ℕ) → i ≤ j → j < length ps → length_at ps i ≤ length_at ps j
+
+-- no path has more than one choice more than that at a place
+abbrev pub AreNear : List (List Choice) → ℕ → Type 0
+AreNear ps at = (i : ℕ) → i < length ps → length_at ps i ≤ length_at ps at + 1
+
+-- each choice from the state of the path at i leads to a state of one of the paths, which is at most one choice longer
+abbrev pub IsExpanded : History → Sought → List (List Choice) → ℕ → Type 0
+IsExpanded h q paths i =
+    (c : Choice) → is_considered q.kills (length h.scenario.programs) c ≡ true
+    → IsVisited h paths (length_at paths i + 1) (step h.scenario c (reached h (path_at paths i))).after
+
+-- the same of the first n paths
+abbrev pub AreExpanded : History → Sought → List (List Choice) → ℕ → Type 0
+AreExpanded h q paths n = (i : ℕ) → i < n → IsExpanded h q paths i
+
+-- a machine that has gone along the path at a place
+pub record IsHere (h : History) (paths : List (List Choice)) (at : ℕ) (m : History) : Type 0 where
+  pub scenario : m.scenario ≡ h.scenario
+  pub state : m.state ≡ reached h (path_at paths at)
+  pub entries : length m.entries ≡ length h.entries + length_at paths at
+
+-- another machine in the same state
+pub record IsTwin (m twin : History) : Type 0 where
+  pub scenario : twin.scenario ≡ m.scenario
+  pub state : twin.state ≡ m.state
+
+-- a machine that has made one choice more
+pub record IsNext (h : History) (paths : List (List Choice)) (at : ℕ) (c : Choice) (m : History) : Type 0 where
+  pub scenario : m.scenario ≡ h.scenario
+  pub state : m.state ≡ (step h.scenario c (reached h (path_at paths at))).after
+  pub room : length h.entries + length_at paths at < 4096
+  pub entries : length m.entries < 4096
+
+-- the paths of old stand at their places in new
+pub record Grows (old new : List (List Choice)) : Type 0 where
+  pub longer : length old ≤ length new
+  pub same : (i : ℕ) → i < length old → path_at new i ≡ path_at old i
+
+-- what a choice from the state of the path at a place has led to
+pub record Notes (h : History) (q : Sought) (old new : List (List Choice)) (at : ℕ) (c : Choice) : Type 0 where
+  pub visits : Visits h q new
+  pub near : AreNear new at
+  pub grows : Grows old new
+  pub known : IsVisited h new (length_at old at + 1) (step h.scenario c (reached h (path_at old at))).after
+
+abbrev pub MeetsWell : History → Sought → List (List Choice) → List (List Choice) → ℕ → Choice → Met → Type 0
+MeetsWell h q old new at c met.Noted = Notes h q old new at c
+MeetsWell h q old new at c met.Shown = Shows h.scenario q (reached h (path_at old at ++ c ∷ [])) × Grows old new
+MeetsWell h q old new at c met.Spent = Grows old new
+
+-- each choice from the state of the path at a place leads to a state of one of the paths
+pub record Expands (h : History) (q : Sought) (old new : List (List Choice)) (at : ℕ) : Type 0 where
+  pub visits : Visits h q new
+  pub near : AreNear new at
+  pub grows : Grows old new
+  pub expanded : IsExpanded h q new at
+
+-- one of them shows what is looked for
+pub record FindsNext (h : History) (q : Sought) (old : List (List Choice)) (at : ℕ) (cs : List Choice) : Type 0 where
+  pub finds : Finds h q cs
+  pub longer : length cs ≡ length_at old at + 1
+
+abbrev pub ExpandsWell : History → Sought → List (List Choice) → List (List Choice) → ℕ → Expanded → Type 0
+ExpandsWell h q old new at expanded.Whole = Expands h q old new at
+ExpandsWell h q old new at (expanded.Found v) = FindsNext h q old at v.items
+ExpandsWell h q old new at expanded.Spent = Grows old new

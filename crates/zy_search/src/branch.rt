@@ -1,0 +1,11 @@
+//! How a path goes on from another.
+
+use zy_isa::choice::Choice;
+
+/// A path that goes on from an earlier one by one choice more.
+#[derive(Clone, Copy, Debug, PartialEq, Eq)]
+pub struct Branch {
+    /// The place of the earlier one.
+    pub from: u32,
+    pub by: Choice,
+}

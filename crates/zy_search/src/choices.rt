@@ -1,0 +1,64 @@
+//! The choices that a search considers.
+ghost use Rattle.std.specs.Prelude.{◌≡◌, ◌++◌, IfOk, OnOk};
+ghost use Rattle.zy_isa.specs.declared.choice.Choice.TheVariants.{Begin, Kill, Run};
+ghost use Rattle.zy_search.specs.Choices.{considered as considered_spec, each, of_node};
+
+use std::alloc::{AllocError, Global};
+use zy_isa::choice::Choice;
+use zy_isa::node::Node;
+
+/// The choices that a search considers, in the order in which it makes them: those of so many transactions, with kills or without.
+pub fn considered(alloc: Global, kills: bool, count: u8) -> Result<Vec<Choice>, AllocError>
+    ensures { IfOk result (λ v. v.items ≡ considered_spec kills count) }
+{
+    let mut choices = Vec::new(alloc);
+    choices.push(Choice::Start)?;
+    add_begins(&mut choices, count)?;
+    if kills {
+        add_kills(&mut choices, count)?;
+    }
+    add_of(&mut choices, Node::A, count)?;
+    add_of(&mut choices, Node::B, count)?;
+    Ok(choices)
+}
+
+/// Adds that each transaction begins.
+fn add_begins(choices: &mut Vec<Choice>, count: u8) -> Result<(), AllocError>
+    ensures { OnOk result (choices.new.items ≡ choices.old.items ++ each Begin count) }
+{
+    for t in 0..count {
+        choices.push(Choice::Begin(t))?;
+    }
+    Ok(())
+}
+
+/// Adds that each transaction is killed.
+fn add_kills(choices: &mut Vec<Choice>, count: u8) -> Result<(), AllocError>
+    ensures { OnOk result (choices.new.items ≡ choices.old.items ++ each Kill count) }
+{
+    for t in 0..count {
+        choices.push(Choice::Kill(t))?;
+    }
+    Ok(())
+}
+
+/// Adds that a node runs each transaction.
+fn add_runs(choices: &mut Vec<Choice>, n: Node, count: u8) -> Result<(), AllocError>
+    ensures { OnOk result (choices.new.items ≡ choices.old.items ++ each (Run n) count) }
+{
+    for t in 0..count {
+        choices.push(Choice::Run(n, t))?;
+    }
+    Ok(())
+}
+
+/// Adds the choices of a node.
+fn add_of(choices: &mut Vec<Choice>, n: Node, count: u8) -> Result<(), AllocError>
+    ensures { OnOk result (choices.new.items ≡ choices.old.items ++ of_node n count) }
+{
+    add_runs(choices, n, count)?;
+    choices.push(Choice::Take(n))?;
+    choices.push(Choice::Finish(n))?;
+    choices.push(Choice::Push(n))?;
+    Ok(())
+}

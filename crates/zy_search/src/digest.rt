@@ -1,0 +1,140 @@
+//! Digests of states.
+
+use zy_isa::node::Node;
+use zy_isa::row::Row;
+use zy_links::kind::Kind;
+use zy_links::message::Message;
+use zy_locks::lock::LockKind;
+use zy_machine::machine::Machine;
+use zy_modes::mode::NodeMode;
+use zy_table::place::Place;
+use zy_table::status::Status;
+use zy_txns::txn::Txn;
+
+/// A digest with a number more.
+fn mixed(digest: u64, number: u64) -> u64 {
+    (digest.rotate_left(5) ^ number).wrapping_mul(0x517c_c1b7_2722_0a95)
+}
+
+/// A number that tells most states apart. Nothing is promised of it: a bad one costs time alone.
+pub(crate) fn digest(machine: &Machine) -> u64 {
+    let mut digest = mixed(
+        mode_number(machine.mode(Node::A)),
+        mode_number(machine.mode(Node::B)),
+    );
+    for p in 0..machine.page_count() {
+        digest = mixed(digest, place_number(machine.place(p)));
+        if let Some(page) = machine.page(p) {
+            digest = mixed_rows(mixed(digest, u64::from(page.low())), page.rows());
+        }
+    }
+    for t in 0..machine.txn_count() {
+        digest = mixed_txn(digest, machine.txn(t as u8));
+    }
+    for commit in machine.commits() {
+        digest = mixed(mixed(digest, u64::from(commit.txn)), u64::from(commit.done));
+    }
+    mixed_node(mixed_node(digest, machine, Node::A), machine, Node::B)
+}
+
+fn mixed_rows(digest: u64, rows: &[Row]) -> u64 {
+    let mut digest = mixed(digest, rows.len() as u64);
+    for row in rows {
+        digest = mixed(mixed(digest, u64::from(row.key)), u64::from(row.value));
+    }
+    digest
+}
+
+fn mixed_txn(digest: u64, txn: &Txn) -> u64 {
+    let mut digest = mixed(
+        mixed(digest, status_number(txn.status())),
+        node_number(txn.node()),
+    );
+    digest = mixed(mixed(digest, u64::from(txn.place())), u64::from(txn.done()));
+    for r in txn.regs() {
+        digest = mixed(digest, u64::from(*r));
+    }
+    mixed_rows(digest, txn.rows())
+}
+
+/// With what a node has sent, and its locks.
+fn mixed_node(digest: u64, machine: &Machine, n: Node) -> u64 {
+    let link = machine.link(n);
+    let mut digest = mixed(digest, link.len() as u64);
+    for i in 0..link.len() {
+        digest = mixed_message(digest, link.message_at(i));
+    }
+    for lock in machine.locks(n) {
+        digest = mixed(mixed(digest, u64::from(lock.page)), u64::from(lock.txn));
+        digest = mixed(
+            digest,
+            if matches!(lock.kind, LockKind::Shared) {
+                1
+            } else {
+                2
+            },
+        );
+    }
+    digest
+}
+
+/// With the kind of a message, and the page that it asks for or has.
+fn mixed_message(digest: u64, message: &Message) -> u64 {
+    let digest = mixed(digest, kind_number(message.kind()));
+    match message {
+        Message::Pull(p) => mixed(digest, u64::from(*p)),
+        Message::Page(page) => mixed(digest, u64::from(page.number())),
+        _ => digest,
+    }
+}
+
+fn mode_number(mode: NodeMode) -> u64 {
+    match mode {
+        NodeMode::Empty => 1,
+        NodeMode::Normal => 2,
+        NodeMode::SInit => 3,
+        NodeMode::SDual => 4,
+        NodeMode::SFinish => 5,
+        NodeMode::DInit => 6,
+        NodeMode::DDual => 7,
+        NodeMode::DFinish => 8,
+    }
+}
+
+fn node_number(node: Node) -> u64 {
+    match node {
+        Node::A => 1,
+        Node::B => 2,
+    }
+}
+
+fn place_number(place: Place) -> u64 {
+    match place {
+        Place::Nowhere => 0,
+        Place::At(Node::A) => 1,
+        Place::At(Node::B) => 2,
+        Place::Moving(Node::A) => 3,
+        Place::Moving(Node::B) => 4,
+    }
+}
+
+fn status_number(status: Status) -> u64 {
+    match status {
+        Status::New => 1,
+        Status::Active => 2,
+        Status::Committed => 3,
+        Status::Aborted(_) => 4,
+    }
+}
+
+fn kind_number(kind: Kind) -> u64 {
+    match kind {
+        Kind::Wire => 1,
+        Kind::Ready => 2,
+        Kind::Dual => 3,
+        Kind::Pull => 4,
+        Kind::Page => 5,
+        Kind::Finish => 6,
+        Kind::Done => 7,
+    }
+}

@@ -1,0 +1,40 @@
+//! What an answer says of whole runs: each function is a law, and its contract is all of it.
+ghost use Rattle.std.specs.Prelude.{◌≡◌, List, true};
+ghost use Rattle.zy_isa.specs.declared.choice.Choice.{Choice as AChoice};
+ghost use Rattle.zy_isa.specs.declared.rule.Rule.TheVariants.{Held};
+ghost use Rattle.zy_isa.specs.Scenario.{IsScenario, Scenario as AScenario};
+ghost use Rattle.zy_machine.specs.Histories.{History, IsReplay};
+ghost use Rattle.zy_table.specs.Play.{step};
+ghost use Rattle.zy_table.specs.State.{State};
+ghost use Rattle.zy_search.specs.declared.sought.Sought.{Sought};
+ghost use Rattle.zy_search.specs.declared.sought.Wanted.TheVariants.{Differs};
+ghost use Rattle.zy_search.specs.Schedules.{scheduled, ending};
+ghost use Rattle.zy_search.specs.Searches.{reached, Finds, Shows};
+ghost use Rattle.zy_search.specs.Stuck.{is_still};
+
+use zy_audit::laws::always_same;
+
+/// The scenario with the choices that were found is a scenario, and the state after its run shows what was looked for.
+pub fn found_runs()
+    ensures tested { (h : History) (q : Sought) (cs : List AChoice) → IsReplay h → Finds h q cs → IsScenario (scheduled h cs) }
+    ensures shows { (h : History) (q : Sought) (cs : List AChoice) → IsReplay h → Finds h q cs → Shows (scheduled h cs) q (ending (scheduled h cs)) }
+{}
+
+/// Where choices do not lead to a state that shows it, the state after a run with them does not.
+pub fn nowhere_runs()
+    ensures { (h : History) (q : Sought) (cs : List AChoice) → IsReplay h → (Shows h.scenario q (reached h cs) → ⊥)
+        → Shows (scheduled h cs) q (ending (scheduled h cs)) → ⊥ }
+{}
+
+/// Under the rule `held` no choices lead to another database than that of the serial run: a search for one answers that there is none, or
+/// that it came to no end.
+pub fn never_differs_under_held()
+    ensures { (h : History) (q : Sought) (cs : List AChoice) → IsReplay h → h.scenario.rule ≡ Held → q.wanted ≡ Differs → Finds h q cs → ⊥ }
+{
+    always_same();
+}
+
+/// Where nothing comes of a choice the state is as it was: so what is stuck stays so, whatever is chosen.
+pub fn still_stays()
+    ensures { (sc : AScenario) (c : AChoice) (s : State) → is_still (step sc c s).outcome ≡ true → (step sc c s).after ≡ s }
+{}

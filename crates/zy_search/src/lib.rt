@@ -1,0 +1,19 @@
+//! A search through every state that further choices can lead to.
+#![tactic(auto)]
+
+pub mod answer;
+pub mod branch;
+pub mod choices;
+mod digest;
+mod expand;
+pub mod laws;
+pub mod plan;
+pub mod search;
+mod shows;
+pub mod sought;
+mod still;
+mod stuck;
+pub mod tree;
+mod twin;
+pub mod visited;
+mod walk;

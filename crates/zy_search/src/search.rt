@@ -1,0 +1,176 @@
+//! The search.
+ghost use Rattle.std.specs.Prelude.{◌≡◌, ◌≤◌, ◌<◌, ◌+◌, [], ◌∷◌, IfOk, true, length};
+ghost use Rattle.zy_search.specs.declared.sought.Wanted.TheVariants.{Stuck};
+ghost use Rattle.zy_search.specs.Choices.{considered as considered_spec};
+ghost use Rattle.zy_search.specs.Searches.{Shows, IsAnswer};
+ghost use Rattle.zy_search.specs.Visits.{length_at, IsWhole, Visits};
+
+use crate::answer::{Answer, Expanded, Report};
+use crate::choices::considered;
+use crate::digest::digest;
+use crate::expand::expand;
+use crate::plan::Plan;
+use crate::shows::shows;
+use crate::sought::{Sought, Wanted};
+use crate::visited::Visited;
+use std::alloc::{AllocError, Global};
+use zy_isa::choice::Choice;
+use zy_isa::scenario::MAX_CHOICES;
+use zy_machine::machine::{Fault, Machine};
+
+/// What is known where the path at a place was not gone on from, and all before it were.
+fn spent_at(alloc: Global, visited: &Visited, at: u32) -> Result<Answer, AllocError>
+    requires { at < length visited.now }
+    ensures { IfOk result (λ a. a ≡ Answer.Spent (length_at visited.now at + 1)) }
+{
+    let path = visited.path(alloc, at)?;
+    Ok(Answer::Spent(path.len() + 1))
+}
+
+/// Goes on from each path in turn, those that are added on the way too. The machines are for use by the way.
+fn expand_all(
+    plan: &Plan,
+    visited: &mut Visited,
+    other: &mut Machine,
+    here: &mut Machine,
+    twin: &mut Machine,
+) -> Result<Answer, Fault>
+    requires whole { IsWhole plan.now }
+    requires visits { Visits plan.now.start plan.now.sought visited.old }
+    requires first { visited.old ≡ [] ∷ [] }
+    requires here { here.old.scenario ≡ plan.now.start.scenario }
+    requires twin { twin.old.scenario ≡ plan.now.start.scenario }
+    requires same { other.old.scenario ≡ plan.now.start.scenario }
+    ensures { IfOk result (IsAnswer plan.now.start plan.now.sought) }
+{
+    for at in 0..u32::MAX {
+        if visited.len() <= at as usize {
+            return Ok(Answer::Nowhere);
+        }
+        match expand(plan, visited, other, at, here, twin)? {
+            Expanded::Whole => {}
+            Expanded::Found(path) => return Ok(Answer::Found(path)),
+            Expanded::Spent => return spent_at(plan.alloc, visited, at),
+        }
+    }
+    Ok(Answer::Spent(0))
+}
+
+/// How many states an answer adds to those that none of what is looked for is shown by.
+fn shown_by(answer: &Answer) -> usize {
+    match answer {
+        Answer::Found(path) if !path.is_empty() => 1,
+        _ => 0,
+    }
+}
+
+/// An answer, with how many states were come to and the length of the last path.
+fn report(alloc: Global, visited: &Visited, answer: Answer) -> Result<Report, AllocError>
+    ensures { IfOk result (λ r. r.answer ≡ answer) }
+{
+    let last = visited.last(alloc)?;
+    Ok(Report {
+        states: visited.len().saturating_add(shown_by(&answer)),
+        depth: last.len(),
+        answer,
+    })
+}
+
+/// Looks at the states that choices lead to, with two machines to do it by.
+fn look_by(
+    plan: &Plan,
+    visited: &mut Visited,
+    other: &mut Machine,
+    here: &mut Machine,
+) -> Result<Answer, Fault>
+    requires whole { IsWhole plan.now }
+    requires visits { Visits plan.now.start plan.now.sought visited.old }
+    requires first { visited.old ≡ [] ∷ [] }
+    requires here { here.old.scenario ≡ plan.now.start.scenario }
+    requires same { other.old.scenario ≡ plan.now.start.scenario }
+    ensures { IfOk result (IsAnswer plan.now.start plan.now.sought) }
+{
+    let mut twin = plan.start.copy(plan.alloc)?;
+    expand_all(plan, visited, other, here, &mut twin)
+}
+
+/// The same, with one machine.
+fn look_from(plan: &Plan, visited: &mut Visited, other: &mut Machine) -> Result<Answer, Fault>
+    requires whole { IsWhole plan.now }
+    requires visits { Visits plan.now.start plan.now.sought visited.old }
+    requires first { visited.old ≡ [] ∷ [] }
+    requires same { other.old.scenario ≡ plan.now.start.scenario }
+    ensures { IfOk result (IsAnswer plan.now.start plan.now.sought) }
+{
+    let mut here = plan.start.copy(plan.alloc)?;
+    look_by(plan, visited, other, &mut here)
+}
+
+/// The same, where the state of the start does not show it.
+fn look(plan: &Plan, visited: &mut Visited) -> Result<Answer, Fault>
+    requires whole { IsWhole plan.now }
+    requires visits { Visits plan.now.start plan.now.sought visited.old }
+    requires first { visited.old ≡ [] ∷ [] }
+    ensures { IfOk result (IsAnswer plan.now.start plan.now.sought) }
+{
+    let mut other = plan.start.copy(plan.alloc)?;
+    look_from(plan, visited, &mut other)
+}
+
+/// Whether what is looked for is seen by steps alone.
+fn is_seen_by_steps(wanted: Wanted) -> bool
+    ensures { wanted ≡ Stuck → result ≡ true }
+{
+    matches!(wanted, Wanted::Stuck)
+}
+
+/// Looks at the state of the start, and then at those that choices lead to.
+fn search_by(plan: &Plan, visited: &mut Visited) -> Result<Answer, Fault>
+    requires whole { IsWhole plan.now }
+    requires first { visited.old ≡ [] ∷ [] }
+    ensures { IfOk result (IsAnswer plan.now.start plan.now.sought) }
+{
+    if MAX_CHOICES <= plan.start.len() && is_seen_by_steps(plan.sought.wanted) {
+        return Ok(Answer::Spent(0));
+    }
+    if shows(plan.alloc, plan.sought, &plan.choices, &plan.start)? {
+        return Ok(Answer::Found(Vec::new(plan.alloc)));
+    }
+    look(plan, visited)
+}
+
+/// The choices that a search considers from a machine.
+fn choices_from(alloc: Global, kills: bool, machine: &Machine) -> Result<Vec<Choice>, AllocError>
+    ensures { IfOk result (λ v. v.items ≡ considered_spec kills (length machine.now.scenario.programs)) }
+{
+    let programs = machine.scenario().programs();
+    considered(alloc, kills, programs.len() as u8)
+}
+
+/// What a search from a machine goes by.
+fn plan_from(alloc: Global, machine: &Machine, sought: Sought, most: u32) -> Result<Plan, Fault>
+    ensures whole { IfOk result IsWhole }
+    ensures start { IfOk result (λ p. p.start ≡ machine.now) }
+    ensures sought { IfOk result (λ p. p.sought ≡ sought) }
+{
+    let choices = choices_from(alloc, sought.kills, machine)?;
+    let start = machine.copy(alloc)?.share(alloc)?;
+    Ok(Plan {
+        alloc,
+        start,
+        sought,
+        choices,
+        most,
+    })
+}
+
+/// Looks for a state that choices lead to from a machine's, and that shows what is looked for. It goes breadth first, so that no fewer
+/// choices lead there, and stops where it would come to more states than `most`.
+pub fn search(alloc: Global, start: &Machine, sought: Sought, most: u32) -> Result<Report, Fault>
+    ensures { IfOk result (λ r. IsAnswer start.now sought r.answer) }
+{
+    let plan = plan_from(alloc, start, sought, most)?;
+    let mut visited = Visited::new(alloc, digest(&plan.start))?;
+    let answer = search_by(&plan, &mut visited)?;
+    report(alloc, &visited, answer)
+}

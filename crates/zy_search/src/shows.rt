@@ -1,0 +1,86 @@
+//! Whether a state shows what is looked for.
+ghost use Rattle.std.specs.Prelude.{◌≡◌, IfOk, length};
+ghost use Rattle.std.specs.Bool.{Decides};
+ghost use Rattle.std.specs.List.{list_any, list_all};
+ghost use Rattle.zy_table.specs.State.{Txn};
+ghost use Rattle.zy_search.specs.Choices.{considered};
+ghost use Rattle.zy_search.specs.Reasons.{is_aborted as is_aborted_spec, is_committed as is_committed_spec};
+ghost use Rattle.zy_search.specs.Searches.{MayTry, Shows};
+
+use crate::sought::{Reason, Sought, Wanted, is_for};
+use crate::stuck::is_stuck;
+use std::alloc::Global;
+use zy_audit::serial::same;
+use zy_isa::choice::Choice;
+use zy_machine::machine::{Fault, Machine};
+use zy_table::status::Status;
+
+/// Whether a transaction is aborted for a reason.
+fn is_aborted(reason: Reason, status: Status) -> bool
+    ensures { result ≡ is_aborted_spec reason status }
+{
+    match status {
+        Status::New => false,
+        Status::Active => false,
+        Status::Committed => false,
+        Status::Aborted(why) => is_for(reason, why),
+    }
+}
+
+/// Whether a transaction is committed.
+fn is_committed(status: Status) -> bool
+    ensures { result ≡ is_committed_spec status }
+{
+    match status {
+        Status::New => false,
+        Status::Active => false,
+        Status::Committed => true,
+        Status::Aborted(_) => false,
+    }
+}
+
+/// Whether one of the transactions is aborted for a reason.
+fn any_aborted(reason: Reason, machine: &Machine) -> bool
+    ensures { result ≡ list_any (λ (x : Txn). is_aborted_spec reason x.status) machine.now.state.txns }
+{
+    for t in 0..machine.txn_count() {
+        if is_aborted(reason, machine.txn(t as u8).status()) {
+            return true;
+        }
+    }
+    false
+}
+
+/// Whether all transactions are committed.
+fn all_committed(machine: &Machine) -> bool
+    ensures { result ≡ list_all (λ (x : Txn). is_committed_spec x.status) machine.now.state.txns }
+{
+    for t in 0..machine.txn_count() {
+        if !is_committed(machine.txn(t as u8).status()) {
+            return false;
+        }
+    }
+    true
+}
+
+/// Whether a machine's state shows what is looked for; these are the choices that are considered.
+pub(crate) fn shows(
+    alloc: Global,
+    sought: Sought,
+    choices: &[Choice],
+    machine: &Machine,
+) -> Result<bool, Fault>
+    requires room { MayTry sought machine.now }
+    requires choices { choices.now ≡ considered sought.kills (length machine.now.scenario.programs) }
+    ensures { IfOk result (λ b. Decides b (Shows machine.now.scenario sought machine.now.state)) }
+{
+    match sought.wanted {
+        Wanted::Differs => {
+            let same = same(alloc, machine)?;
+            Ok(!same)
+        }
+        Wanted::Aborted(reason) => Ok(any_aborted(reason, machine)),
+        Wanted::Committed => Ok(all_committed(machine)),
+        Wanted::Stuck => is_stuck(alloc, sought.kills, machine, choices),
+    }
+}

@@ -1,0 +1,96 @@
+//! Whether nothing goes on.
+ghost use Rattle.std.specs.Prelude.{◌≡◌, ◌<◌, true, IfOk, OnOk, length};
+ghost use Rattle.std.specs.Bool.{Decides};
+ghost use Rattle.std.specs.List.{list_any};
+ghost use Rattle.zy_isa.specs.Choices.{names_below};
+ghost use Rattle.zy_table.specs.State.{Txn};
+ghost use Rattle.zy_table.specs.Play.{step as step_spec};
+ghost use Rattle.zy_search.specs.Choices.{considered as considered_spec};
+ghost use Rattle.zy_search.specs.Reasons.{is_running as is_running_spec};
+ghost use Rattle.zy_search.specs.Stuck.{is_still as is_still_spec, IsStuck};
+ghost use Rattle.zy_search.specs.Visits.{IsTwin};
+
+use crate::still::is_still;
+use crate::twin::make_room;
+use std::alloc::Global;
+use zy_isa::choice::Choice;
+use zy_isa::scenario::MAX_CHOICES;
+use zy_machine::machine::{Fault, Machine};
+use zy_table::status::Status;
+
+/// Whether a transaction is active.
+fn is_running(status: Status) -> bool
+    ensures { result ≡ is_running_spec status }
+{
+    match status {
+        Status::New => false,
+        Status::Active => true,
+        Status::Committed => false,
+        Status::Aborted(_) => false,
+    }
+}
+
+/// Whether one of the transactions is active.
+fn any_running(machine: &Machine) -> bool
+    ensures { result ≡ list_any (λ (x : Txn). is_running_spec x.status) machine.now.state.txns }
+{
+    for t in 0..machine.txn_count() {
+        if is_running(machine.txn(t as u8).status()) {
+            return true;
+        }
+    }
+    false
+}
+
+/// Whether nothing comes of a choice. The twin stays one where it answers yes.
+fn stays(alloc: Global, machine: &Machine, twin: &mut Machine, choice: Choice) -> Result<bool, Fault>
+    requires twin { IsTwin machine.now twin.old }
+    requires named { names_below (length machine.now.scenario.programs) choice ≡ true }
+    requires room { length machine.now.entries < 4096 }
+    ensures still { IfOk result (λ b. b ≡ is_still_spec (step_spec machine.now.scenario choice machine.now.state).outcome) }
+    ensures twin { IfOk result (λ b. b ≡ true → IsTwin machine.now twin.new) }
+{
+    make_room(alloc, machine, twin, MAX_CHOICES)?;
+    let entry = twin.step(choice)?;
+    Ok(is_still(entry.outcome))
+}
+
+/// Whether nothing comes of any of the choices that are considered, where a transaction is active.
+fn is_stuck_by(
+    alloc: Global,
+    kills: bool,
+    machine: &Machine,
+    twin: &mut Machine,
+    choices: &[Choice],
+) -> Result<bool, Fault>
+    requires twin { IsTwin machine.now twin.old }
+    requires room { length machine.now.entries < 4096 }
+    requires choices { choices.now ≡ considered_spec kills (length machine.now.scenario.programs) }
+    requires active { list_any (λ (x : Txn). is_running_spec x.status) machine.now.state.txns ≡ true }
+    ensures { IfOk result (λ b. Decides b (IsStuck machine.now.scenario kills machine.now.state)) }
+{
+    for i in 0..choices.len() {
+        if !stays(alloc, machine, twin, choices[i])? {
+            return Ok(false);
+        }
+    }
+    Ok(true)
+}
+
+/// Whether a transaction is active, and nothing comes of any choice that is considered.
+pub(crate) fn is_stuck(
+    alloc: Global,
+    kills: bool,
+    machine: &Machine,
+    choices: &[Choice],
+) -> Result<bool, Fault>
+    requires room { length machine.now.entries < 4096 }
+    requires choices { choices.now ≡ considered_spec kills (length machine.now.scenario.programs) }
+    ensures { IfOk result (λ b. Decides b (IsStuck machine.now.scenario kills machine.now.state)) }
+{
+    if !any_running(machine) {
+        return Ok(false);
+    }
+    let mut twin = machine.copy(alloc)?;
+    is_stuck_by(alloc, kills, machine, &mut twin, choices)
+}
