@@ -140,7 +140,7 @@ fn check_command<'a>(alloc: Global) -> Command<'a> {
     Command::new(alloc, "check")
         .about("Reads a listing on standard input, and says whether it is right")
         .after_help(
-            "The scenario at its head, through its end line, is run. Where the input is its listing, byte\nfor byte, the output is table, else not table L: L is the first line of the input that differs,\nand standard error shows it.\n\nExample:\n  zy_bench run < examples/first_run.zephyr | zy_bench check\n\nStatus: 0 table, 1 the scenario is refused, 2 the command line is wrong,\n3 out of memory, 4 not table, 5 the input or the output failed.\nThe listing is told in docs/formats.md.",
+            "The scenario at its head, through its end line, is run. Where the input is its listing, byte\nfor byte, the output is table, else not table L: L is the first line of the input that differs,\nand standard error shows it.\n\nExample:\n  zy_bench run < examples/first_run.zephyr | zy_bench check\n\nStatus: 0 table, 1 the scenario is refused, 2 the command line is wrong,\n3 out of memory, 4 not table, 5 the input or the output failed.\nFormats: docs/formats.md",
         )
 }
 

@@ -7,7 +7,7 @@ use std::alloc::{AllocError, Global};
 use zy_isa::choice::Choice;
 use zy_isa::node::Node;
 
-/// The choices that a search considers, in the order in which it makes them: those of so many transactions, with kills or without.
+/// The choices that a search considers, in the order in which it makes them: those of this number of transactions, with kills or without.
 pub fn considered(alloc: Global, kills: bool, count: u8) -> Result<Vec<Choice>, AllocError>
     ensures { IfOk result (λ v. v.items ≡ considered_spec kills count) }
 {

@@ -16,7 +16,7 @@ use std::alloc::{AllocError, Global};
 use zy_isa::choice::Choice;
 use zy_machine::machine::{Fault, Machine};
 
-/// How many states with one digest are told apart; more of them cost time and memory, and nothing else.
+/// How many states with one digest are kept; more of them cost time and memory, and nothing else.
 const MOST_ALIKE: u64 = 8;
 
 /// Whether the path that is put under a digest leads to a machine's state. `other` is brought to where that path leads.
