@@ -1,7 +1,7 @@
 //! The command line.
 
-use clap::{Arg, ArgAction, ArgMatches, Command, value_parser};
 use clap::builder::ValueParser;
+use clap::{Arg, ArgAction, ArgMatches, Command, value_parser};
 use std::alloc::{AllocError, Global};
 use zy_engine::format::Format;
 use zy_search::sought::{Reason, Sought, Wanted};
@@ -196,7 +196,9 @@ fn search_command<'a>(alloc: Global) -> Result<Command<'a>, AllocError> {
         .value_parser(value_parser!(u32).range(1..=4294967295))
         .help("Comes to at most N states: 1 to 4294967295, else 1000000");
     Command::new(alloc, "search")
-        .about("Looks for a schedule of the scenario on standard input after which a state shows something")
+        .about(
+            "Looks for a schedule of the scenario on standard input after which a state shows something",
+        )
         .after_help(
             "Input:   a scenario text, or with --image an image, at most 4194304 bytes; its choices are steps\n         already taken\nOutput:  the scenario with a shortest list of further choices that leads there; nothing where\n         there is none. Standard error tells how many states were come to; a fault is one line there\nStatus:  0 found, 1 the input is refused, 2 the command line is wrong, 3 out of memory,\n         4 no schedule shows it, 5 the input or the output failed, 6 the states are spent\n\nWHAT:    differs (another database than that of the serial run), aborted or the reason (own, killed,\n         badkey, missing, duplicate, frozen, nopage, gone), committed (all transactions), stuck (a\n         transaction is active, and nothing comes of any choice). docs/search.md tells them all.\n\nExample:\n  zy_bench search --for gone < examples/gone.zephyr | zy_bench run",
         )

@@ -136,15 +136,21 @@ fn sum_up(rt: &impl Eprint, report: &Report) -> u8 {
     match &report.answer {
         Answer::Found(path) => {
             let choices = path.len();
-            let _ = eprintln!(rt; "zy_bench: found after {states} states: {choices} choices lead there");
+            let _ = eprintln!(rt;
+                "zy_bench: found after {states} states: {choices} choices lead there"
+            );
             DONE
         }
         Answer::Nowhere => {
-            let _ = eprintln!(rt; "zy_bench: none of {states} states shows it, and there are no others: each takes at most {depth} choices");
+            let _ = eprintln!(rt;
+                "zy_bench: none of {states} states shows it, and there are no others: each takes at most {depth} choices"
+            );
             NOWHERE
         }
         Answer::Spent(fewer) => {
-            let _ = eprintln!(rt; "zy_bench: spent after {states} states: no schedule of fewer than {fewer} choices shows it");
+            let _ = eprintln!(rt;
+                "zy_bench: spent after {states} states: no schedule of fewer than {fewer} choices shows it"
+            );
             SPENT
         }
     }

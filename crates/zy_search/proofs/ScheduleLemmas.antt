@@ -1,5 +1,5 @@
 -- The run of the scenario that a search hands out.
-use Rattle.std.proofs.Common.{◌≡◌, ◌∙◌, ◌+◌, ◌≤◌, ◌↔◌, ℕ, List, [], ◌∷◌, ◌++◌, length, refl, sym, ap, subst, arith, length-append, Bool, true, false}
+use Rattle.std.proofs.Common.{◌≡◌, ◌∙◌, ℕ, List, [], ◌∷◌, ◌++◌, length, refl, sym, ap, subst, arith, length-append, Bool, true}
 use Rattle.std.proofs.Math.Bool.{false≢true}
 use Rattle.zy_isa.specs.declared.choice.Choice.{Choice}
 use Rattle.zy_isa.specs.declared.rule.Rule.TheVariants.{Held}
@@ -17,7 +17,7 @@ use Rattle.zy_audit.specs.Lone.{map_of}
 use Rattle.zy_search.specs.declared.sought.Sought.{Sought}
 use Rattle.zy_search.specs.declared.sought.Wanted.{Wanted}
 use Rattle.zy_search.specs.declared.sought.Wanted.TheVariants as wanted
-use Rattle.zy_search.specs.Searches.{reached, Shows, ShowsIt, Finds, Considers}
+use Rattle.zy_search.specs.Searches.{reached, Shows, ShowsIt, Finds}
 use Rattle.zy_search.specs.Stuck.{is_still}
 use Rattle.zy_laws.specs.Orders.{reordered}
 use Rattle.zy_laws.proofs.Reordered.{one, play-reordered, opening-reordered}

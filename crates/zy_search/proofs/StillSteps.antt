@@ -1,5 +1,5 @@
 -- Where nothing comes of a step the state is as it was.
-use Rattle.std.proofs.Common.{◌≡◌, ◌∙◌, ℕ, List, [], ◌∷◌, length, ◌<◌, ◌≤◌, ◌+◌, arith, Bool, true, false, not, nat_lt, nat_le, ◌&&◌, Option, Some, None, is_some, unwrap_or, slice_get, refl, sym, ap, subst}
+use Rattle.std.proofs.Common.{◌≡◌, ◌∙◌, ℕ, List, [], ◌∷◌, length, ◌<◌, arith, true, false, not, nat_lt, nat_le, ◌&&◌, Option, Some, None, refl, sym, ap}
 use Rattle.std.proofs.lemmas.Bool.{cond_both, false≢true}
 use Rattle.zy_isa.specs.declared.node.Node.{Node}
 use Rattle.zy_isa.specs.declared.node.Node.TheVariants.{A, B}
@@ -15,26 +15,25 @@ use Rattle.zy_modes.specs.declared.table.MsgRow.{MsgRow}
 use Rattle.zy_modes.specs.declared.table.MsgRow.TheVariants.{Stray, Turns}
 use Rattle.zy_modes.specs.declared.table.FinRow.{FinRow}
 use Rattle.zy_modes.specs.declared.table.FinRow.TheVariants as fin
-use Rattle.zy_modes.specs.Table.{may_start, may_split, may_pull, may_push, is_waiting, home_of, on_finish}
+use Rattle.zy_modes.specs.Table.{may_start, may_split, may_pull, may_push, is_waiting}
 use Rattle.zy_table.specs.declared.access.Access.{Access}
 use Rattle.zy_table.specs.declared.access.Access.TheVariants.{Reads, Writes, Inserts}
 use Rattle.zy_table.specs.declared.outcome.Why.{Why}
-use Rattle.zy_table.specs.State.{State, View, Move, Step, facing, seen_from, as_step}
-use Rattle.zy_table.specs.Numbers.{has, least}
-use Rattle.zy_table.specs.Pages.{owns, numbers}
-use Rattle.zy_table.specs.Ranges.{range_pages}
-use Rattle.zy_table.specs.Change.{txn_at, txn_or, locked, shares, quiet, reg}
+use Rattle.zy_table.specs.State.{State, View, Move, Step, facing, seen_from}
+use Rattle.zy_table.specs.Numbers.{has}
+use Rattle.zy_table.specs.Pages.{owns}
+use Rattle.zy_table.specs.Change.{txn_at, locked}
 use Rattle.zy_table.specs.Client.{is_new, is_active, start_row, begin_at, begin_row, kill_row}
-use Rattle.zy_table.specs.Push.{active_from, finish_if, finish_row, push_if, push_row}
-use Rattle.zy_table.specs.Run.{same_node, program_of, abort_row, set_row, jump_row, gone_pages, commit_or_gone, commit_row, absent_row, read_row, is_there, write_row, has_room, split_row, full_row, insert_row, lock_of, access_row, page_row, key_row, first_absent, first_taken, sum_row, sum_or_waits, sum_or_asks, range_row, instr_row, run_row}
-use Rattle.zy_table.specs.Take.{is_held, got, got_row, pull_row, mode_row, message_row, front_row, take_row}
+use Rattle.zy_table.specs.Push.{finish_if, finish_row, push_if, push_row}
+use Rattle.zy_table.specs.Run.{same_node, abort_row, set_row, jump_row, commit_or_gone, commit_row, absent_row, read_row, is_there, write_row, has_room, split_row, full_row, insert_row, lock_of, access_row, page_row, key_row, sum_row, sum_or_waits, sum_or_asks, range_row, instr_row, run_row}
+use Rattle.zy_table.specs.Take.{is_held, got, got_row, pull_row, message_row, front_row, take_row}
 use Rattle.zy_table.specs.Play.{move, side_of, step}
 use Rattle.zy_machine.specs.Histories.{History}
 use Rattle.zy_search.specs.Stuck.{is_still}
 use Rattle.zy_table.specs.declared.outcome.Outcome.{Outcome}
 use Rattle.zy_search.specs.declared.sought.Sought.{Sought}
 use Rattle.zy_search.specs.Searches.{reached}
-use Rattle.zy_search.specs.Visits.{path_at, length_at, Visits, AreNear, IsHere, IsTwin, Notes}
+use Rattle.zy_search.specs.Visits.{path_at, Visits, AreNear, IsHere, IsTwin, Notes}
 use Rattle.zy_search.proofs.SearchLemmas.{grows_not}
 
 abbrev Stays : View → Move → Type 0
@@ -288,9 +287,9 @@ pub still_known : (h m twin : History) (q : Sought) (ps : List (List Choice)) (a
     → o ≡ (step twin.scenario c twin.state).outcome → is_still o ≡ true → Notes h q ps ps at c
 still_known h m twin q ps at c o v near lt here t oe f =
     let e : step twin.scenario c twin.state ≡ step h.scenario c (reached h (path_at ps at)) =
-        twin_step m twin c t ∙ (ap (λ (sc : Scenario). step sc c m.state) here.scenario ∙ ap (step h.scenario c) here.state) in
+    twin_step m twin c t ∙ (ap (λ (sc : Scenario). step sc c m.state) here.scenario ∙ ap (step h.scenario c) here.state) in
     let still : is_still (step h.scenario c (reached h (path_at ps at))).outcome ≡ true =
-        sym (ap (λ (x : Step). is_still x.outcome) e) ∙ (sym (ap is_still oe) ∙ f) in
+    sym (ap (λ (x : Step). is_still x.outcome) e) ∙ (sym (ap is_still oe) ∙ f) in
     record {
       visits = v;
       near = near;

@@ -1,5 +1,5 @@
 -- Whether one of the transactions, or each, has a property of its status, seen by number.
-use Rattle.std.proofs.Common.{◌≡◌, ◌∙◌, ◌+◌, ◌<◌, ℕ, zero, suc, List, [], ◌∷◌, length, slice_get, arith, refl, sym, Bool, true, false, nat_lt, ◌||◌, ◌&&◌}
+use Rattle.std.proofs.Common.{◌≡◌, ◌+◌, ◌<◌, ℕ, zero, suc, List, [], ◌∷◌, length, slice_get, arith, refl, sym, Bool, true, false, nat_lt, ◌||◌, ◌&&◌}
 use Rattle.std.specs.List.{list_any, list_all}
 use Rattle.std.proofs.Math.Bool.{false≢true}
 use Rattle.std.proofs.lemmas.Bool.Decides.{nat_tests}

@@ -1,10 +1,10 @@
 -- What a search finds out.
-use Rattle.std.specs.Prelude.{ℕ, ◌≡◌, ◌≤◌, ◌<◌, ◌+◌, List, [], ◌∷◌, ◌++◌, Bool, true, false, length, slice_index_or}
+use Rattle.std.specs.Prelude.{ℕ, ◌≡◌, ◌≤◌, ◌<◌, ◌+◌, List, Bool, true, false, length}
 use Rattle.std.specs.List.{list_any, list_all}
 use Rattle.zy_isa.specs.declared.choice.Choice.{Choice}
 use Rattle.zy_isa.specs.Scenario.{Scenario}
 use Rattle.zy_table.specs.State.{State, Txn}
-use Rattle.zy_table.specs.Play.{play, step}
+use Rattle.zy_table.specs.Play.{play}
 use Rattle.zy_machine.specs.Histories.{History}
 use Rattle.zy_audit.specs.SameMaps.{is_serial}
 use Rattle.zy_search.specs.declared.sought.Sought.{Sought}

@@ -43,7 +43,12 @@ fn any_running(machine: &Machine) -> bool
 }
 
 /// Whether nothing comes of a choice. The twin stays one where it answers yes.
-fn stays(alloc: Global, machine: &Machine, twin: &mut Machine, choice: Choice) -> Result<bool, Fault>
+fn stays(
+    alloc: Global,
+    machine: &Machine,
+    twin: &mut Machine,
+    choice: Choice,
+) -> Result<bool, Fault>
     requires twin { IsTwin machine.now twin.old }
     requires named { names_below (length machine.now.scenario.programs) choice ≡ true }
     requires room { length machine.now.entries < 4096 }

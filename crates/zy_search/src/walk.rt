@@ -29,7 +29,12 @@ fn walk(visited: &Visited, at: u32, machine: &mut Machine) -> Result<(), Fault>
 }
 
 /// Brings a machine to where the path at a place leads.
-pub(crate) fn go_to(plan: &Plan, visited: &Visited, at: u32, machine: &mut Machine) -> Result<(), Fault>
+pub(crate) fn go_to(
+    plan: &Plan,
+    visited: &Visited,
+    at: u32,
+    machine: &mut Machine,
+) -> Result<(), Fault>
     requires there { at < length visited.now }
     requires first { path_at visited.now 0 ≡ [] }
     requires path { IsPath plan.now.start plan.now.sought (path_at visited.now at) }

@@ -1,4 +1,4 @@
-use Rattle.std.proofs.Common.{rules, ◌≡◌, ◌∙◌, ◌++◌, append-nil, sym}
+use Rattle.std.proofs.Common.{append-nil, sym}
 use Rattle.zy_isa.specs.declared.choice.Choice.TheVariants.{Run}
 use Rattle.zy_search.proofs.ChoiceLemmas.{each_more}
 use Rattle.zy_search.proofs.choices.add_runs.Goals as goal

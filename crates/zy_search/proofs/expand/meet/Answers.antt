@@ -1,4 +1,4 @@
-use Rattle.std.proofs.Common.{rules, ◌≡◌, ◌∙◌, sym, ap, true}
+use Rattle.std.proofs.Common.{◌∙◌, sym, ap}
 use Rattle.zy_table.specs.declared.entry.Entry.{Entry}
 use Rattle.zy_search.specs.Stuck.{is_still}
 use Rattle.zy_search.proofs.StillSteps.{twin_still, still_known}

@@ -1,6 +1,4 @@
-use Rattle.std.proofs.Common.{rules, ◌≡◌, ◌∙◌, refl, subst}
-use Rattle.zy_table.specs.State.{State}
-use Rattle.zy_search.specs.Visits.{IsVisited, length_at}
+use Rattle.std.proofs.Common.{◌∙◌}
 use Rattle.zy_search.proofs.SearchLemmas.{grows_not, near_known}
 use Rattle.zy_search.proofs.expand.note.Goals as goal
 

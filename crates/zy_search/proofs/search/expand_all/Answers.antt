@@ -1,10 +1,8 @@
-use Rattle.std.proofs.Common.{rules, ◌≡◌, ◌∙◌, ◌+◌, ◌<◌, ◌≤◌, ℕ, List, Bool, true, false, nat_lt, length, arith, sym, subst, refl}
+use Rattle.std.proofs.Common.{◌≡◌, ◌+◌, ◌<◌, ◌≤◌, ℕ, List, Bool, true, false, nat_lt, length, arith, refl}
 use Rattle.std.proofs.lemmas.Bool.Decides.{nat_tests}
 use Rattle.zy_isa.specs.declared.choice.Choice.{Choice}
 use Rattle.zy_machine.specs.Histories.{History}
 use Rattle.zy_search.specs.declared.sought.Sought.{Sought}
-use Rattle.zy_search.specs.declared.answer.Answer.{Answer}
-use Rattle.zy_search.specs.Searches.{IsAnswer}
 use Rattle.zy_search.specs.Visits.{AreExpanded, IsExpanded, Expands, length_at}
 use Rattle.zy_search.proofs.SearchLemmas.{none_at_all, finds_first, spent_below, spent_well, expanded_grown, near_first, near_next}
 use Rattle.zy_search.proofs.search.expand_all.Goals as goal

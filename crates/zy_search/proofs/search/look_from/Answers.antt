@@ -1,4 +1,4 @@
-use Rattle.std.proofs.Common.{◌≡◌, ap}
+use Rattle.std.proofs.Common.{ap}
 use Rattle.zy_machine.specs.Histories.{History}
 use Rattle.zy_search.proofs.search.look_from.Goals as goal
 

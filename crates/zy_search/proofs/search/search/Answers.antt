@@ -1,9 +1,3 @@
-use Rattle.std.proofs.Common.{rules, ◌≡◌, ◌∙◌, length, arith, ap, subst, List, Result, Ok, Err, IfOk}
-use Rattle.zy_machine.specs.Histories.{History}
-use Rattle.zy_search.specs.declared.sought.Sought.{Sought}
-use Rattle.zy_search.specs.declared.answer.Answer.{Answer}
-use Rattle.zy_search.specs.declared.answer.Report.{Report}
-use Rattle.zy_search.specs.Searches.{IsAnswer}
 use Rattle.zy_search.proofs.SearchLemmas.{answered}
 use Rattle.zy_search.proofs.search.search.Goals as goal
 

@@ -1,4 +1,4 @@
-use Rattle.std.proofs.Common.{rules, ◌≡◌, ◌∙◌, ◌<◌, ◌≤◌, arith, length, sym}
+use Rattle.std.proofs.Common.{◌∙◌, arith, sym}
 use Rattle.std.proofs.Math.Bool.{false≢true}
 use Rattle.zy_search.proofs.SearchLemmas.{visits_first}
 use Rattle.zy_search.proofs.search.search_by.Goals as goal

@@ -1,4 +1,4 @@
-use Rattle.std.proofs.Common.{◌≡◌, ◌<◌, sym, arith, refl, nat_lt, true}
+use Rattle.std.proofs.Common.{◌≡◌, sym, arith, refl, nat_lt, true}
 use Rattle.zy_search.specs.Reasons.{is_committed}
 use Rattle.zy_search.proofs.TxnLemmas.{at, each_at, other_at, more}
 use Rattle.zy_search.proofs.shows.all_committed.Goals as goal

@@ -1,4 +1,3 @@
-use Rattle.std.proofs.Common.{rules, ◌≡◌}
 use Rattle.zy_search.proofs.shows.shows.Goals as goal
 
 pub returns-in-Stuck : goal.returns-in-Stuck

@@ -1,4 +1,4 @@
-use Rattle.std.proofs.Common.{◌≡◌, ◌<◌, sym, arith, refl, nat_lt, false}
+use Rattle.std.proofs.Common.{◌≡◌, sym, arith, refl, nat_lt, false}
 use Rattle.zy_search.specs.Reasons.{is_running}
 use Rattle.zy_search.proofs.TxnLemmas.{at, any_at, none_at, more}
 use Rattle.zy_search.proofs.stuck.any_running.Goals as goal

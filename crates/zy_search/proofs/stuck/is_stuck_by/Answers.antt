@@ -1,5 +1,4 @@
-use Rattle.std.proofs.Common.{rules, ◌≡◌, ◌∙◌, ◌+◌, ◌<◌, ◌≤◌, ℕ, List, Bool, true, false, nat_lt, get_or, sym, ap, subst, length, arith, refl}
-use Rattle.std.proofs.lemmas.Bool.Decides.{nat_tests}
+use Rattle.std.proofs.Common.{◌≡◌, ◌∙◌, ◌<◌, ◌≤◌, ℕ, List, Bool, true, nat_lt, get_or, sym, ap, subst, length, arith, refl}
 use Rattle.std.proofs.Math.Bool.{false≢true}
 use Rattle.zy_isa.specs.declared.choice.Choice.{Choice}
 use Rattle.zy_isa.specs.declared.choice.Choice.TheVariants.{Start}
@@ -7,7 +6,7 @@ use Rattle.zy_isa.specs.Scenario.{Scenario}
 use Rattle.zy_table.specs.State.{State}
 use Rattle.zy_table.specs.Play.{step}
 use Rattle.zy_search.specs.Choices.{is_considered, considered}
-use Rattle.zy_search.specs.Stuck.{is_still, IsStuck}
+use Rattle.zy_search.specs.Stuck.{is_still}
 use Rattle.zy_search.proofs.ChoiceLemmas.{considered_at, has_considered}
 use Rattle.zy_search.proofs.SearchLemmas.{named_if}
 use Rattle.zy_search.proofs.TxnLemmas.{more}

@@ -1,12 +1,6 @@
-use Rattle.std.proofs.Common.{rules, ◌≡◌, ◌∙◌, sym, ap, subst, true}
-use Rattle.zy_isa.specs.Scenario.{Scenario}
-use Rattle.zy_isa.specs.declared.choice.Choice.{Choice}
+use Rattle.std.proofs.Common.{◌∙◌, sym, ap}
 use Rattle.zy_table.specs.declared.entry.Entry.{Entry}
-use Rattle.zy_table.specs.State.{State}
-use Rattle.zy_table.specs.Play.{step}
-use Rattle.zy_machine.specs.Histories.{History}
 use Rattle.zy_search.specs.Stuck.{is_still}
-use Rattle.zy_search.specs.Visits.{IsTwin}
 use Rattle.zy_search.proofs.StillSteps.{twin_still}
 use Rattle.zy_search.proofs.stuck.stays.Goals as goal
 

@@ -1,9 +1,6 @@
-use Rattle.std.proofs.Common.{rules, ◌≡◌, ◌∙◌, ◌+◌, ◌<◌, ◌≤◌, ◌++◌, ◌∷◌, [], ℕ, List, length, length-append, sym, ap, subst, arith}
-use Rattle.zy_isa.specs.declared.choice.Choice.{Choice}
-use Rattle.zy_isa.specs.Scenario.{Scenario, AreNamed}
-use Rattle.zy_table.specs.State.{State}
-use Rattle.zy_table.specs.Play.{play}
-use Rattle.zy_search.specs.Visits.{path_at, length_at}
+use Rattle.std.proofs.Common.{length, subst, arith}
+use Rattle.zy_isa.specs.Scenario.{AreNamed}
+use Rattle.zy_search.specs.Visits.{path_at}
 use Rattle.zy_search.proofs.SearchLemmas.{named_front, named_last, walked, length_more}
 use Rattle.zy_search.proofs.walk.+walk.Goals as goal
 
@@ -11,12 +8,19 @@ pub walk-requires : goal.walk-requires
 walk-requires t c =
     let n = length c.args.machine.now.scenario.programs in
     let q = path_at c.args.visited.now c.branch-branch.result.from in
-    let e = c.branch-branch.ensures.path in
-    (omega (arith, c.branch-branch.ensures.earlier, c.decreases),
-    (omega (arith, c.branch-branch.ensures.earlier, c.requires.there),
-    (c.requires.first,
-    (named_front n q c.branch-branch.result.by (subst (AreNamed n) e c.requires.named),
-    omega (arith, c.requires.room, length_more (path_at c.args.visited.now c.args.at) q c.branch-branch.result.by e)))))
+    let e = c.branch-branch.ensures.path in (
+      omega (arith, c.branch-branch.ensures.earlier, c.decreases),
+      (
+        omega (arith, c.branch-branch.ensures.earlier, c.requires.there),
+        (
+          c.requires.first,
+          (
+            named_front n q c.branch-branch.result.by (subst (AreNamed n) e c.requires.named),
+            omega (arith, c.requires.room, length_more (path_at c.args.visited.now c.args.at) q c.branch-branch.result.by e),
+          ),
+        ),
+      ),
+    )
 
 pub step-requires-clause-named : goal.step-requires-clause-named
 step-requires-clause-named t c =

@@ -1,4 +1,4 @@
-use Rattle.std.proofs.Common.{rules, ◌≡◌, ap, length}
+use Rattle.std.proofs.Common.{ap, length}
 use Rattle.zy_machine.specs.Histories.{History}
 use Rattle.zy_search.specs.Visits.{path_at}
 use Rattle.zy_search.proofs.SearchLemmas.{are_named}

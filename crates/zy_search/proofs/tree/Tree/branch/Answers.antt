@@ -1,6 +1,4 @@
-use Rattle.std.proofs.Common.{rules, ◌≡◌, ◌∙◌, ◌+◌, ◌-◌, ◌<◌, ◌++◌, arith, ap, subst, length, get_or, [], ◌∷◌, List, sym, refl}
-use Rattle.zy_isa.specs.declared.choice.Choice.{Choice}
-use Rattle.zy_search.specs.declared.branch.Branch.{Branch}
+use Rattle.std.proofs.Common.{◌≡◌, ◌+◌, ◌-◌, ◌<◌, arith, length, [], ◌∷◌}
 use Rattle.zy_search.specs.Paths.{paths_of}
 use Rattle.zy_search.proofs.PathLemmas.{length-grown, rooted_at, path_at}
 use Rattle.zy_search.proofs.tree.Tree.branch.Goals as goal

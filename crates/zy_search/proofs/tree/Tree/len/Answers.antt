@@ -1,4 +1,4 @@
-use Rattle.std.proofs.Common.{rules, ◌≡◌, ap, length, arith, sym, [], ◌∷◌}
+use Rattle.std.proofs.Common.{arith, sym, [], ◌∷◌}
 use Rattle.zy_search.proofs.PathLemmas.{length-grown}
 use Rattle.zy_search.proofs.tree.Tree.len.Goals as goal
 

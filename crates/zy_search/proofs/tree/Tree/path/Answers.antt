@@ -1,6 +1,5 @@
-use Rattle.std.proofs.Common.{rules, ◌≡◌, ◌∙◌, ◌+◌, ◌-◌, ◌<◌, ◌++◌, get_or, ap, subst, length, arith, sym, refl, [], ◌∷◌, List, reverse, append-nil}
-use Rattle.zy_search.specs.Paths.{AreRooted, paths_of}
-use Rattle.zy_search.specs.declared.branch.Branch.{Branch}
+use Rattle.std.proofs.Common.{◌≡◌, ◌+◌, ◌-◌, ◌<◌, length, arith, sym, [], ◌∷◌, append-nil}
+use Rattle.zy_search.specs.Paths.{paths_of}
 use Rattle.zy_search.proofs.PathLemmas.{length-grown, rooted_at, path_at, path_none, walked}
 use Rattle.zy_search.proofs.tree.Tree.path.Goals as goal
 

@@ -1,5 +1,5 @@
 use Rattle.std.proofs.Common.{◌≡◌, ◌≤◌, ◌++◌, [], length, get_or, reverse}
-use Rattle.zy_search.specs.Paths.{paths_of, AreRooted}
+use Rattle.zy_search.specs.Paths.{paths_of}
 use Rattle.zy_search.proofs.tree.Tree.path.Given as goal
 
 abbrev pub invariant-loop-at : goal.invariant-loop-at

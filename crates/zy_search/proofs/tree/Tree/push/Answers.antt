@@ -1,6 +1,5 @@
-use Rattle.std.proofs.Common.{rules, ◌≡◌, ◌∙◌, ◌+◌, ◌<◌, ap, subst, length, arith, sym, [], ◌∷◌, List}
-use Rattle.zy_isa.specs.declared.choice.Choice.{Choice}
-use Rattle.zy_search.specs.Paths.{AreRooted, paths_of}
+use Rattle.std.proofs.Common.{◌<◌, length, arith, [], ◌∷◌}
+use Rattle.zy_search.specs.Paths.{paths_of}
 use Rattle.zy_search.specs.declared.branch.Branch.{Branch}
 use Rattle.zy_search.proofs.PathLemmas.{length-grown, grown-push, rooted_push}
 use Rattle.zy_search.proofs.tree.Tree.push.Goals as goal
