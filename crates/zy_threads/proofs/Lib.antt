@@ -1,3 +1,3 @@
-mod Lines
+mod TurnLemmas
 pub mod Reordered
 pub mod MergeLemmas

@@ -8,7 +8,7 @@ use Rattle.zy_isa.specs.Choices.{actor_of, names_below}
 use Rattle.zy_isa.specs.Scenario.{Scenario, IsScenario, AreNamed}
 use Rattle.zy_threads.specs.Orders.{reordered}
 use Rattle.zy_threads.specs.Turns.{sub, is_by, is_c, is_a, is_b, IsMerge}
-use Rattle.zy_threads.proofs.Lines.{sub_lengths}
+use Rattle.zy_threads.proofs.TurnLemmas.{sub_lengths}
 
 kept_step : (count : ℕ) (d : Choice) (ds : List Choice) (b : Bool) → names_below count d ≡ true → AreNamed count ds → AreNamed count (if b then d ∷ ds else ds)
 kept_step count d ds true named rest = (named, rest)

@@ -1,5 +1,5 @@
 -- A replay is the run of a scenario.
-use Rattle.std.proofs.Common.{◌≡◌, ◌∙◌, sym}
+use Rattle.std.proofs.Common.{◌∙◌, sym}
 use Rattle.zy_machine.specs.Histories.{History, IsReplay, choices_of}
 use Rattle.zy_table.specs.Play.{opening}
 use Rattle.zy_threads.specs.Orders.{reordered, IsRunOf}

@@ -1,5 +1,5 @@
 -- A board, and one turn of an actor on it.
-use Rattle.std.specs.Prelude.{◌≡◌, ℕ, ◌+◌, ◌≤◌, Bool, true, false, List, [], ◌∷◌, ◌++◌, length, take, if◌then◌else◌, slice_get, Option, None, Some}
+use Rattle.std.specs.Prelude.{◌≡◌, ℕ, ◌+◌, ◌<◌, ◌≤◌, Bool, true, false, List, [], ◌∷◌, ◌++◌, length, take, if◌then◌else◌, slice_get, Option, None, Some}
 use Rattle.zy_isa.specs.declared.node.Actor.{Actor}
 use Rattle.zy_isa.specs.declared.node.Actor.TheVariants.{C, A, B}
 use Rattle.zy_isa.specs.declared.choice.Choice.{Choice}
@@ -41,23 +41,25 @@ pub record IsMerge (h choices : List Choice) : Type 0 where
   pub of_a : sub A h ≡ sub A choices
   pub of_b : sub B h ≡ sub B choices
 
--- one actor's choices, and how many of them were taken
-pub record Line : Type 0 where
+-- one actor's choices, and how many of them it has taken
+pub record Turns : Type 0 where
   pub schedule : List Choice
   pub cursor : ℕ
 
-pub record Table : Type 0 where
+-- a machine, and the turns of each actor on it
+pub record BoardView : Type 0 where
   pub machine : History
-  pub c : Line
-  pub a : Line
-  pub b : Line
+  pub c : Turns
+  pub a : Turns
+  pub b : Turns
 
-abbrev pub line : Table → Actor → Line
-line t C = t.c
-line t A = t.a
-line t B = t.b
+abbrev pub turns_of : BoardView → Actor → Turns
+turns_of t C = t.c
+turns_of t A = t.a
+turns_of t B = t.b
 
-abbrev pub ahead : Line → Line
+-- one more is taken
+abbrev pub ahead : Turns → Turns
 ahead l = record { schedule = l.schedule; cursor = l.cursor + 1 }
 
 -- what comes of the choice
@@ -65,28 +67,33 @@ abbrev pub entry_at : History → Choice → Entry
 entry_at h c = entry_of c (step h.scenario c h.state)
 
 -- the history with what came of one choice more
-abbrev pub noted : History → Choice → History
-noted h c = record { scenario = h.scenario; state = (step h.scenario c h.state).after; entries = h.entries ++ entry_at h c ∷ [] }
+abbrev pub after_choice : History → Choice → History
+after_choice h c = record { scenario = h.scenario; state = (step h.scenario c h.state).after; entries = h.entries ++ entry_at h c ∷ [] }
 
 -- the choice was made, and the actor's cursor moved by one
-abbrev pub turned : Table → Actor → Choice → Table
-turned t C c = record { machine = noted t.machine c; c = ahead t.c; a = t.a; b = t.b }
-turned t A c = record { machine = noted t.machine c; c = t.c; a = ahead t.a; b = t.b }
-turned t B c = record { machine = noted t.machine c; c = t.c; a = t.a; b = ahead t.b }
+abbrev pub after_turn : BoardView → Actor → Choice → BoardView
+after_turn t C c = record { machine = after_choice t.machine c; c = ahead t.c; a = t.a; b = t.b }
+after_turn t A c = record { machine = after_choice t.machine c; c = t.c; a = ahead t.a; b = t.b }
+after_turn t B c = record { machine = after_choice t.machine c; c = t.c; a = t.a; b = ahead t.b }
 
 -- what a turn of the actor answers, and what is then on the board
-abbrev pub IsTurn : Actor → Table → Option Entry → Table → Type 0
-IsTurn x t None n = (n ≡ t) × ((line t x).cursor ≡ length (line t x).schedule)
-IsTurn x t (Some e) n = (slice_get (line t x).schedule (line t x).cursor ≡ Some e.choice) × (e ≡ entry_at t.machine e.choice) × (n ≡ turned t x e.choice)
+abbrev pub IsTurn : Actor → BoardView → Option Entry → BoardView → Type 0
+IsTurn x t None n = (n ≡ t) × ((turns_of t x).cursor ≡ length (turns_of t x).schedule)
+IsTurn x t (Some e) n = (slice_get (turns_of t x).schedule (turns_of t x).cursor ≡ Some e.choice) × (e ≡ entry_at t.machine e.choice) × (n ≡ after_turn t x e.choice)
 
--- the line has all of the actor's choices, and the history those up to its cursor
-pub record IsLine (x : Actor) (m : History) (l : Line) : Type 0 where
+-- the schedule is all of the actor's choices, and the history has those up to the cursor
+pub record AreTurnsOf (x : Actor) (m : History) (l : Turns) : Type 0 where
   pub whole : l.schedule ≡ sub x m.scenario.choices
   pub taken : sub x (choices_of m.entries) ≡ take l.cursor l.schedule
   pub within : l.cursor ≤ length l.schedule
 
-pub record IsBoard (t : Table) : Type 0 where
+pub record IsBoard (t : BoardView) : Type 0 where
   pub tested : IsScenario t.machine.scenario
-  pub of_c : IsLine C t.machine t.c
-  pub of_a : IsLine A t.machine t.a
-  pub of_b : IsLine B t.machine t.b
+  pub of_c : AreTurnsOf C t.machine t.c
+  pub of_a : AreTurnsOf A t.machine t.a
+  pub of_b : AreTurnsOf B t.machine t.b
+
+-- an actor that has taken n turns and then m: one more, or none where it has taken all
+abbrev pub Counts : ℕ → ℕ → Option Entry → ℕ → Type 0
+Counts turns n None m = (n ≡ turns) × (m ≡ n)
+Counts turns n (Some e) m = (n < turns) × (m ≡ n + 1)

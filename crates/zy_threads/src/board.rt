@@ -2,7 +2,7 @@
 ghost use Rattle.std.specs.Prelude.{◌≡◌, ◌<◌, ◌≤◌, ◌+◌, ℕ, [], IfOk, OnErr, IsTrue, MatchOption, length, slice_get, Some};
 ghost use Rattle.zy_machine.specs.Histories.{choices_of};
 ghost use Rattle.zy_table.specs.Play.{opening};
-ghost use Rattle.zy_threads.specs.Turns.{sub, is_by, line, ahead, IsTurn, IsBoard, IsMerge};
+ghost use Rattle.zy_threads.specs.Turns.{sub, is_by, turns_of, ahead, IsTurn, IsBoard, IsMerge};
 ghost use Rattle.zy_isa.specs.declared.node.Actor.TheVariants.{C as is_c, A as is_a, B as is_b};
 
 use std::alloc::Global;
@@ -22,9 +22,9 @@ struct Lane {
 
 impl Model for Lane {
     ghost use Rattle.std.specs.Prelude.{◌≤◌, length};
-    ghost use Rattle.zy_threads.specs.Turns.{Line};
+    ghost use Rattle.zy_threads.specs.Turns.{Turns};
 
-    ghost Value = { Line };
+    ghost Value = { Turns };
 
     ghost view = { λ l. record { schedule = l.schedule.items; cursor = l.cursor } };
 
@@ -96,9 +96,9 @@ pub struct Board {
 }
 
 impl Model for Board {
-    ghost use Rattle.zy_threads.specs.Turns.{Table, IsBoard};
+    ghost use Rattle.zy_threads.specs.Turns.{BoardView, IsBoard};
 
-    ghost Value = { Table };
+    ghost Value = { BoardView };
 
     ghost view = { λ t. record { machine = t.machine; c = t.c; a = t.a; b = t.b } };
 
@@ -120,7 +120,7 @@ impl Board {
 
     /// The actor's next choice.
     fn next_of(&self, actor: Actor) -> Option<Choice>
-        ensures { MatchOption result ((line self.now actor).cursor ≡ length (line self.now actor).schedule) (λ c. slice_get (line self.now actor).schedule (line self.now actor).cursor ≡ Some c) }
+        ensures { MatchOption result ((turns_of self.now actor).cursor ≡ length (turns_of self.now actor).schedule) (λ c. slice_get (turns_of self.now actor).schedule (turns_of self.now actor).cursor ≡ Some c) }
     {
         match actor {
             Actor::C => self.c.front(),
@@ -148,7 +148,7 @@ impl Board {
 
     /// How many choices the actor has taken.
     pub fn cursor(&self, actor: Actor) -> usize
-        ensures cursor { result ≡ (line self.now actor).cursor }
+        ensures cursor { result ≡ (turns_of self.now actor).cursor }
         ensures board { IsBoard self.now }
     {
         match actor {
@@ -161,7 +161,7 @@ impl Board {
     /// How many choices the actor has, taken or not.
     pub(crate) fn turns(&self, actor: Actor) -> usize
         ensures whole { result ≡ length (sub actor self.now.machine.scenario.choices) }
-        ensures turns { result ≡ length (line self.now actor).schedule }
+        ensures turns { result ≡ length (turns_of self.now actor).schedule }
     {
         match actor {
             Actor::C => self.c.len(),

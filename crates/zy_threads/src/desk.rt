@@ -1,7 +1,7 @@
 //! What lies under the lock.
-ghost use Rattle.std.specs.Prelude.{◌≡◌, ◌<◌, ◌+◌, ℕ, length, None, Some, IfOk, OnErr, MatchOption};
+ghost use Rattle.std.specs.Prelude.{◌≡◌, ℕ, length, IfOk, OnErr};
 ghost use Rattle.zy_isa.specs.declared.node.Actor.TheVariants.{C as is_c, A as is_a, B as is_b};
-ghost use Rattle.zy_threads.specs.Turns.{IsTurn, sub};
+ghost use Rattle.zy_threads.specs.Turns.{Counts, IsTurn, turns_of, sub};
 
 use crate::board::Board;
 use crate::gate::Allowance;
@@ -50,21 +50,82 @@ pub struct Desk<S: Of, C: Side, A: Side, B: Side> {
     pub ghost of_b: { b.total ≡ board.b.cursor },
 }
 
-impl<S: Of, C: Side, A: Side, B: Side> Desk<S, C, A, B> {
-    /// One step of the client, in one hold of the lock.
-    pub fn step_c<W: Allowance>(
+/// One turn of an actor on a board, which its book counts. Nothing is counted where the turn is refused.
+fn take_turn<L: Side, W: Allowance>(
+    board: &mut Board,
+    book: &mut Book<L>,
+    mine: &mut Share<L>,
+    actor: Actor,
+    allowance: &W,
+) -> Result<Option<Entry>, Fault>
+    requires one { (mine.old.parts ≡ 1) × (L.parts ≡ 1) }
+    requires whole { L.turns ≡ length (sub actor board.old.machine.scenario.choices) }
+    requires book { book.old.total ≡ (turns_of board.old actor).cursor }
+    ensures counted { IfOk result (λ r. Counts L.turns mine.old.amount r mine.new.amount) }
+    ensures turn { IfOk result (λ r. IsTurn actor board.old r board.new) }
+    ensures kept { OnErr result ((board.new ≡ board.old) × (mine.new.amount ≡ mine.old.amount)) }
+    ensures parts { mine.new.parts ≡ mine.old.parts }
+    ensures book { book.new.total ≡ (turns_of board.new actor).cursor }
+{
+    book.audit(mine);
+    board.cursor(actor);
+    if !allowance.grants() {
+        return Err(AllocError);
+    }
+    let turn = board.step_next(actor)?;
+    if turn.is_some() {
+        book.add(mine, 1);
+    }
+    Ok(turn)
+}
+
+/// The client, as the worker that takes its turns.
+pub struct Client;
+
+/// Node A, likewise.
+pub struct NodeA;
+
+/// Node B, likewise.
+pub struct NodeB;
+
+/// What lies under a lock, as the worker of one actor sees it.
+pub trait Takes<X> {
+    /// The actor's ledger.
+    type Own: Side;
+
+    /// How many choices the actor has.
+    ghost turns: { ℕ };
+
+    /// The actor.
+    fn actor() -> Actor;
+
+    /// One step of the actor, in one hold of the lock.
+    fn step<W: Allowance>(
+        &mut self,
+        mine: &mut Share<Self::Own>,
+        allowance: &W,
+    ) -> Result<Option<Entry>, Fault>
+        requires one { (mine.old.parts ≡ 1) × (Self.Own.parts ≡ 1) }
+        requires whole { Self.Own.turns ≡ Self.turns }
+        ensures counted { IfOk result (λ r. Counts Self.turns mine.old.amount r mine.new.amount) }
+        ensures kept { OnErr result (mine.new.amount ≡ mine.old.amount) }
+        ensures parts { mine.new.parts ≡ mine.old.parts };
+}
+
+impl<S: Of, C: Side, A: Side, B: Side> Takes<Client> for Desk<S, C, A, B> {
+    type Own = C;
+
+    ghost turns = { length (sub is_c S.plan.choices) };
+
+    fn actor() -> Actor {
+        Actor::C
+    }
+
+    fn step<W: Allowance>(
         &mut self,
         mine: &mut Share<C>,
         allowance: &W,
-    ) -> Result<Option<Entry>, Fault>
-        requires { (mine.old.parts ≡ 1) × (C.parts ≡ 1) × (C.turns ≡ length (sub is_c S.plan.choices)) }
-        ensures all { IfOk result (λ r. MatchOption r (mine.old.amount ≡ C.turns) (λ _. mine.old.amount < C.turns)) }
-        ensures turn { IfOk result (λ r. IsTurn is_c self.old.board r self.new.board) }
-        ensures counted { IfOk result (λ r. MatchOption r (mine.new.amount ≡ mine.old.amount) (λ _. mine.new.amount ≡ mine.old.amount + 1)) }
-        ensures board { OnErr result (self.new.board ≡ self.old.board) }
-        ensures kept { OnErr result (mine.new.amount ≡ mine.old.amount) }
-        ensures parts { mine.new.parts ≡ mine.old.parts }
-    {
+    ) -> Result<Option<Entry>, Fault> {
         let Desk {
             board,
             c: book,
@@ -72,32 +133,24 @@ impl<S: Of, C: Side, A: Side, B: Side> Desk<S, C, A, B> {
             b: _,
             of: _,
         } = self;
-        book.audit(mine);
-        board.cursor(Actor::C);
-        if !allowance.grants() {
-            return Err(AllocError);
-        }
-        let turn = board.step_next(Actor::C)?;
-        if turn.is_some() {
-            book.add(mine, 1);
-        }
-        Ok(turn)
+        take_turn(board, book, mine, Actor::C, allowance)
+    }
+}
+
+impl<S: Of, C: Side, A: Side, B: Side> Takes<NodeA> for Desk<S, C, A, B> {
+    type Own = A;
+
+    ghost turns = { length (sub is_a S.plan.choices) };
+
+    fn actor() -> Actor {
+        Actor::A
     }
 
-    /// One step of node A, in one hold of the lock.
-    pub fn step_a<W: Allowance>(
+    fn step<W: Allowance>(
         &mut self,
         mine: &mut Share<A>,
         allowance: &W,
-    ) -> Result<Option<Entry>, Fault>
-        requires { (mine.old.parts ≡ 1) × (A.parts ≡ 1) × (A.turns ≡ length (sub is_a S.plan.choices)) }
-        ensures all { IfOk result (λ r. MatchOption r (mine.old.amount ≡ A.turns) (λ _. mine.old.amount < A.turns)) }
-        ensures turn { IfOk result (λ r. IsTurn is_a self.old.board r self.new.board) }
-        ensures counted { IfOk result (λ r. MatchOption r (mine.new.amount ≡ mine.old.amount) (λ _. mine.new.amount ≡ mine.old.amount + 1)) }
-        ensures board { OnErr result (self.new.board ≡ self.old.board) }
-        ensures kept { OnErr result (mine.new.amount ≡ mine.old.amount) }
-        ensures parts { mine.new.parts ≡ mine.old.parts }
-    {
+    ) -> Result<Option<Entry>, Fault> {
         let Desk {
             board,
             c: _,
@@ -105,32 +158,24 @@ impl<S: Of, C: Side, A: Side, B: Side> Desk<S, C, A, B> {
             b: _,
             of: _,
         } = self;
-        book.audit(mine);
-        board.cursor(Actor::A);
-        if !allowance.grants() {
-            return Err(AllocError);
-        }
-        let turn = board.step_next(Actor::A)?;
-        if turn.is_some() {
-            book.add(mine, 1);
-        }
-        Ok(turn)
+        take_turn(board, book, mine, Actor::A, allowance)
+    }
+}
+
+impl<S: Of, C: Side, A: Side, B: Side> Takes<NodeB> for Desk<S, C, A, B> {
+    type Own = B;
+
+    ghost turns = { length (sub is_b S.plan.choices) };
+
+    fn actor() -> Actor {
+        Actor::B
     }
 
-    /// One step of node B, in one hold of the lock.
-    pub fn step_b<W: Allowance>(
+    fn step<W: Allowance>(
         &mut self,
         mine: &mut Share<B>,
         allowance: &W,
-    ) -> Result<Option<Entry>, Fault>
-        requires { (mine.old.parts ≡ 1) × (B.parts ≡ 1) × (B.turns ≡ length (sub is_b S.plan.choices)) }
-        ensures all { IfOk result (λ r. MatchOption r (mine.old.amount ≡ B.turns) (λ _. mine.old.amount < B.turns)) }
-        ensures turn { IfOk result (λ r. IsTurn is_b self.old.board r self.new.board) }
-        ensures counted { IfOk result (λ r. MatchOption r (mine.new.amount ≡ mine.old.amount) (λ _. mine.new.amount ≡ mine.old.amount + 1)) }
-        ensures board { OnErr result (self.new.board ≡ self.old.board) }
-        ensures kept { OnErr result (mine.new.amount ≡ mine.old.amount) }
-        ensures parts { mine.new.parts ≡ mine.old.parts }
-    {
+    ) -> Result<Option<Entry>, Fault> {
         let Desk {
             board,
             c: _,
@@ -138,15 +183,6 @@ impl<S: Of, C: Side, A: Side, B: Side> Desk<S, C, A, B> {
             b: book,
             of: _,
         } = self;
-        book.audit(mine);
-        board.cursor(Actor::B);
-        if !allowance.grants() {
-            return Err(AllocError);
-        }
-        let turn = board.step_next(Actor::B)?;
-        if turn.is_some() {
-            book.add(mine, 1);
-        }
-        Ok(turn)
+        take_turn(board, book, mine, Actor::B, allowance)
     }
 }

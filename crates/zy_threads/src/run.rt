@@ -7,9 +7,9 @@ ghost use Rattle.zy_threads.specs.Orders.{IsRunOf, reordered};
 ghost use Rattle.zy_threads.specs.Turns.{IsMerge, sub};
 
 use crate::board::Board;
-use crate::desk::{Desk, Of, Side};
+use crate::desk::{Client, Desk, NodeA, NodeB, Of, Side};
 use crate::gate::{Allowance, Gate, Unlimited};
-use crate::work::{Done, Seat, take_seat, work_a, work_b, work_c};
+use crate::work::{Done, Seat, take_seat, work};
 use std::alloc::{AllocError, Global};
 use std::marker::{Brand, PhantomData};
 use std::sync::ledger::{Blank, Book};
@@ -125,17 +125,17 @@ where
             let one = scope.spawn(
                 move || -> Done<C>
                     requires { (C.parts ≡ 1) × (C.turns ≡ length (sub is_c S.plan.choices)) × (c.turns ≡ C.turns) }
-                { work_c(rt, gate, allowance, desk, c) },
+                { work::<Client, _, _, _, _>(rt, gate, allowance, desk, c) },
             );
             let two = scope.spawn(
                 move || -> Done<A>
                     requires { (A.parts ≡ 1) × (A.turns ≡ length (sub is_a S.plan.choices)) × (a.turns ≡ A.turns) }
-                { work_a(rt, gate, allowance, desk, a) },
+                { work::<NodeA, _, _, _, _>(rt, gate, allowance, desk, a) },
             );
             let three = scope.spawn(
                 move || -> Done<B>
                     requires { (B.parts ≡ 1) × (B.turns ≡ length (sub is_b S.plan.choices)) × (b.turns ≡ B.turns) }
-                { work_b(rt, gate, allowance, desk, b) },
+                { work::<NodeB, _, _, _, _>(rt, gate, allowance, desk, b) },
             );
             Crew {
                 c: one.ok().map(|thread| thread.join(rt)),

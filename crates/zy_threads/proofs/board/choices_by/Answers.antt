@@ -1,7 +1,7 @@
 use Rattle.std.proofs.Common.{List, [], ◌∷◌, ◌++◌, true, false, get_or, ap, sym, ◌∙◌}
 use Rattle.zy_isa.specs.declared.choice.Choice.{Choice}
 use Rattle.zy_isa.specs.declared.choice.Choice.TheVariants.{Start}
-use Rattle.zy_threads.proofs.Lines.{sub_take}
+use Rattle.zy_threads.proofs.TurnLemmas.{sub_take}
 use Rattle.zy_threads.proofs.board.choices_by.Goals as goal
 use Rattle.zy_threads.proofs.board.choices_by.Goals.{then-is_of+in_ok-push, else-is_of}
 

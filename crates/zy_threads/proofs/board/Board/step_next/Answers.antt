@@ -2,15 +2,15 @@ use Rattle.std.proofs.Common.{◌≡◌, ap, ◌∙◌, ◌∷◌, ◌++◌, []}
 use Rattle.std.specs.List.{slice_get}
 use Rattle.zy_isa.specs.declared.node.Actor.TheVariants.{C, A, B}
 use Rattle.zy_table.specs.declared.entry.Entry.{Entry}
-use Rattle.zy_threads.specs.Turns.{Table, line, noted}
-use Rattle.zy_threads.proofs.Lines.{room, named, turn_kept, front_within}
+use Rattle.zy_threads.specs.Turns.{BoardView, turns_of, after_choice}
+use Rattle.zy_threads.proofs.TurnLemmas.{room, named, turn_kept, front_within}
 use Rattle.zy_threads.proofs.board.Board.step_next.Goals as goal
 use Rattle.zy_threads.proofs.board.Board.step_next.Goals.{In_ok-entry}
 
-abbrev before : In_ok-entry → Table
+abbrev before : In_ok-entry → BoardView
 before c = record { machine = c.self.inside.machine; c = c.self.inside.c; a = c.self.inside.a; b = c.self.inside.b }
 
-stepped : (c : In_ok-entry) → c.step.new.self ≡ noted c.self.inside.machine c.in-Some.choice
+stepped : (c : In_ok-entry) → c.step.new.self ≡ after_choice c.self.inside.machine c.in-Some.choice
 stepped c =
     let e = c.in_ok-entry.ensures in
     let grown = e.history ∙ ap (λ (x : Entry). c.self.inside.machine.entries ++ x ∷ []) e.entry in
@@ -18,13 +18,13 @@ stepped c =
 
 pub step-requires-clause-named : goal.step-requires-clause-named
 step-requires-clause-named c =
-    let t : Table = record { machine = c.self.inside.machine; c = c.self.inside.c; a = c.self.inside.a; b = c.self.inside.b } in
-    named c.args.actor t c.in-Some.choice c.self.invariant (ap (λ (s : Table). slice_get (line s c.args.actor).schedule (line s c.args.actor).cursor) c.self.view_is ∙ c.in-Some.ensures)
+    let t : BoardView = record { machine = c.self.inside.machine; c = c.self.inside.c; a = c.self.inside.a; b = c.self.inside.b } in
+    named c.args.actor t c.in-Some.choice c.self.invariant (ap (λ (s : BoardView). slice_get (turns_of s c.args.actor).schedule (turns_of s c.args.actor).cursor) c.self.view_is ∙ c.in-Some.ensures)
 
 pub step-requires-clause-room : goal.step-requires-clause-room
 step-requires-clause-room c =
-    let t : Table = record { machine = c.self.inside.machine; c = c.self.inside.c; a = c.self.inside.a; b = c.self.inside.b } in
-    room c.args.actor t c.in-Some.choice c.self.invariant (ap (λ (s : Table). slice_get (line s c.args.actor).schedule (line s c.args.actor).cursor) c.self.view_is ∙ c.in-Some.ensures)
+    let t : BoardView = record { machine = c.self.inside.machine; c = c.self.inside.c; a = c.self.inside.a; b = c.self.inside.b } in
+    room c.args.actor t c.in-Some.choice c.self.invariant (ap (λ (s : BoardView). slice_get (turns_of s c.args.actor).schedule (turns_of s c.args.actor).cursor) c.self.view_is ∙ c.in-Some.ensures)
 
 pub advance-requires : goal.advance-requires
 advance-requires c = front_within c.args.actor C c.args.self.now _ c.in-Some.choice c.in-C.is c.self.view_is c.in-Some.ensures

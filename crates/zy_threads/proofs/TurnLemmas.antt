@@ -11,7 +11,7 @@ use Rattle.zy_isa.specs.Choices.{actor_of, names_below}
 use Rattle.zy_isa.specs.Scenario.{AreNamed}
 use Rattle.zy_machine.specs.Histories.{History, choices_of}
 use Rattle.zy_machine.proofs.HistoryLemmas.{choices_of-push, length-choices_of}
-use Rattle.zy_threads.specs.Turns.{sub, is_by, is_c, is_a, is_b, Line, Table, line, ahead, entry_at, noted, turned, IsLine, IsBoard}
+use Rattle.zy_threads.specs.Turns.{sub, is_by, is_c, is_a, is_b, Turns, BoardView, turns_of, ahead, entry_at, after_choice, after_turn, AreTurnsOf, IsBoard}
 
 pushed : (b d : Bool) (x c : Choice) (l m : List Choice) → l ≡ (if d then m ++ c ∷ [] else m) → (if b then x ∷ l else l) ≡ (if d then (if b then x ∷ m else m) ++ c ∷ [] else (if b then x ∷ m else m))
 pushed true true x c l m e = ap (λ (w : List Choice). x ∷ w) e
@@ -71,8 +71,8 @@ sub_lengths (d ∷ cs) =
     let all = one_of x (length (sub C cs)) (length (sub A cs)) (length (sub B cs)) (length cs) (sub_lengths cs) in
     (λ i. l i + m i + n i) ∙ all ∙ omega arith
 
--- the actor's own line, after its choice was taken
-line_ahead : (x : Actor) (m : History) (l : Line) (c : Choice) → IsLine x m l → slice_get l.schedule l.cursor ≡ Some c → IsLine x (noted m c) (ahead l)
+-- the actor's own turns, after its choice was taken
+line_ahead : (x : Actor) (m : History) (l : Turns) (c : Choice) → AreTurnsOf x m l → slice_get l.schedule l.cursor ≡ Some c → AreTurnsOf x (after_choice m c) (ahead l)
 line_ahead x m l c was next =
     let own : is_by x c ≡ true = sub_by x m.scenario.choices l.cursor c (ap (λ s. slice_get s l.cursor) (sym was.whole) ∙ next) in
     record {
@@ -82,8 +82,8 @@ line_ahead x m l c was next =
       within = omega (arith, slice_get_within l.schedule l.cursor c next);
     }
 
--- another's line
-line_beside : (x : Actor) (m : History) (l : Line) (c : Choice) → IsLine x m l → is_by x c ≡ false → IsLine x (noted m c) l
+-- another's turns
+line_beside : (x : Actor) (m : History) (l : Turns) (c : Choice) → AreTurnsOf x m l → is_by x c ≡ false → AreTurnsOf x (after_choice m c) l
 line_beside x m l c was other = record {
   whole = was.whole;
   taken = ap (sub x) (choices_of-push m.entries (entry_at m c)) ∙ sub-push x (choices_of m.entries) c ∙ ap (λ (b : Bool). if b then sub x (choices_of m.entries) ++ c ∷ [] else sub x (choices_of m.entries)) other ∙ was.taken;
@@ -105,11 +105,11 @@ only_b C h = absurd (cc (h))
 only_b A h = absurd (cc (h))
 only_b B h = (refl, refl)
 
-own_at : (x : Actor) (m : History) (l : Line) (c : Choice) → IsLine x m l → slice_get l.schedule l.cursor ≡ Some c → is_by x c ≡ true
+own_at : (x : Actor) (m : History) (l : Turns) (c : Choice) → AreTurnsOf x m l → slice_get l.schedule l.cursor ≡ Some c → is_by x c ≡ true
 own_at x m l c was next = sub_by x m.scenario.choices l.cursor c (ap (λ s. slice_get s l.cursor) (sym was.whole) ∙ next)
 
 -- the board after a turn
-board_turned : (x : Actor) (t : Table) (c : Choice) → IsBoard t → slice_get (line t x).schedule (line t x).cursor ≡ Some c → IsBoard (turned t x c)
+board_turned : (x : Actor) (t : BoardView) (c : Choice) → IsBoard t → slice_get (turns_of t x).schedule (turns_of t x).cursor ≡ Some c → IsBoard (after_turn t x c)
 board_turned C t c was next =
     let others = only_c (actor_of c) (own_at C t.machine t.c c was.of_c next) in
     record { tested = was.tested; of_c = line_ahead C t.machine t.c c was.of_c next; of_a = line_beside A t.machine t.a c was.of_a others.0; of_b = line_beside B t.machine t.b c was.of_b others.1 }
@@ -120,13 +120,13 @@ board_turned B t c was next =
     let others = only_b (actor_of c) (own_at B t.machine t.b c was.of_b next) in
     record { tested = was.tested; of_c = line_beside C t.machine t.c c was.of_c others.0; of_a = line_beside A t.machine t.a c was.of_a others.1; of_b = line_ahead B t.machine t.b c was.of_b next }
 
-taken_length : (x : Actor) (m : History) (l : Line) → IsLine x m l → (length (sub x (choices_of m.entries)) ≡ l.cursor) × (l.cursor ≤ length (sub x m.scenario.choices))
+taken_length : (x : Actor) (m : History) (l : Turns) → AreTurnsOf x m l → (length (sub x (choices_of m.entries)) ≡ l.cursor) × (l.cursor ≤ length (sub x m.scenario.choices))
 taken_length x m l was =
     let w : l.cursor ≤ length l.schedule = was.within in
     let e : length l.schedule ≡ length (sub x m.scenario.choices) = ap length was.whole in
     (ap length was.taken ∙ length-take-le l.cursor l.schedule w, omega arith)
 
-within_sum : (x : Actor) (t : Table) (c : Choice) → IsBoard t → slice_get (line t x).schedule (line t x).cursor ≡ Some c
+within_sum : (x : Actor) (t : BoardView) (c : Choice) → IsBoard t → slice_get (turns_of t x).schedule (turns_of t x).cursor ≡ Some c
     → t.c.cursor + t.a.cursor + t.b.cursor < length (sub C t.machine.scenario.choices) + length (sub A t.machine.scenario.choices) + length (sub B t.machine.scenario.choices)
 within_sum C t c was next =
     let lt : t.c.cursor < length t.c.schedule = slice_get_within t.c.schedule t.c.cursor c next in
@@ -139,30 +139,30 @@ within_sum B t c was next =
     omega (arith, ap length was.of_b.whole, (taken_length C t.machine t.c was.of_c).1, (taken_length A t.machine t.a was.of_a).1)
 
 -- while an actor has a choice left, the history has room
-pub room : (x : Actor) (t : Table) (c : Choice) → IsBoard t → slice_get (line t x).schedule (line t x).cursor ≡ Some c → length t.machine.entries < 4096
+pub room : (x : Actor) (t : BoardView) (c : Choice) → IsBoard t → slice_get (turns_of t x).schedule (turns_of t x).cursor ≡ Some c → length t.machine.entries < 4096
 room x t c was next =
     omega (arith, (taken_length C t.machine t.c was.of_c).0, (taken_length A t.machine t.a was.of_a).0, (taken_length B t.machine t.b was.of_b).0, sub_lengths (choices_of t.machine.entries), length-choices_of t.machine.entries, sub_lengths t.machine.scenario.choices, within_sum x t c was next, was.tested.few_choices)
 
-own_line : (x : Actor) (t : Table) → IsBoard t → IsLine x t.machine (line t x)
-own_line C t was = was.of_c
-own_line A t was = was.of_a
-own_line B t was = was.of_b
+own_turns : (x : Actor) (t : BoardView) → IsBoard t → AreTurnsOf x t.machine (turns_of t x)
+own_turns C t was = was.of_c
+own_turns A t was = was.of_a
+own_turns B t was = was.of_b
 
 -- an actor's next choice names a transaction that exists
-pub named : (x : Actor) (t : Table) (c : Choice) → IsBoard t → slice_get (line t x).schedule (line t x).cursor ≡ Some c → names_below (length t.machine.scenario.programs) c ≡ true
+pub named : (x : Actor) (t : BoardView) (c : Choice) → IsBoard t → slice_get (turns_of t x).schedule (turns_of t x).cursor ≡ Some c → names_below (length t.machine.scenario.programs) c ≡ true
 named x t c was next =
-    sub_named (length t.machine.scenario.programs) x t.machine.scenario.choices (line t x).cursor c was.tested.choices_named (ap (λ s. slice_get s (line t x).cursor) (sym (own_line x t was).whole) ∙ next)
+    sub_named (length t.machine.scenario.programs) x t.machine.scenario.choices (turns_of t x).cursor c was.tested.choices_named (ap (λ s. slice_get s (turns_of t x).cursor) (sym (own_turns x t was).whole) ∙ next)
 
 -- a board u that is t after the turn of x, where a is the actor asked for
-pub turn_kept : (a x : Actor) (s t u : Table) (c : Choice) → a ≡ x → t ≡ s → IsBoard t → slice_get (line s a).schedule (line s a).cursor ≡ Some c → u ≡ turned t x c → IsBoard u
+pub turn_kept : (a x : Actor) (s t u : BoardView) (c : Choice) → a ≡ x → t ≡ s → IsBoard t → slice_get (turns_of s a).schedule (turns_of s a).cursor ≡ Some c → u ≡ after_turn t x c → IsBoard u
 turn_kept a x s t u c is same was next now =
-    let here : slice_get (line t x).schedule (line t x).cursor ≡ Some c =
-    (λ i. slice_get (line (same i) (sym is i)).schedule (line (same i) (sym is i)).cursor) ∙ next in
+    let here : slice_get (turns_of t x).schedule (turns_of t x).cursor ≡ Some c =
+    (λ i. slice_get (turns_of (same i) (sym is i)).schedule (turns_of (same i) (sym is i)).cursor) ∙ next in
     subst IsBoard (sym now) (board_turned x t c was here)
 
-pub front_within : (a x : Actor) (s t : Table) (c : Choice) → a ≡ x → t ≡ s → slice_get (line s a).schedule (line s a).cursor ≡ Some c → (line t x).cursor < length (line t x).schedule
+pub front_within : (a x : Actor) (s t : BoardView) (c : Choice) → a ≡ x → t ≡ s → slice_get (turns_of s a).schedule (turns_of s a).cursor ≡ Some c → (turns_of t x).cursor < length (turns_of t x).schedule
 front_within a x s t c is same next =
-    slice_get_within (line t x).schedule (line t x).cursor c ((λ i. slice_get (line (same i) (sym is i)).schedule (line (same i) (sym is i)).cursor) ∙ next)
+    slice_get_within (turns_of t x).schedule (turns_of t x).cursor c ((λ i. slice_get (turns_of (same i) (sym is i)).schedule (turns_of (same i) (sym is i)).cursor) ∙ next)
 
 pub sub_take : (x : Actor) (cs : List Choice) (i : ℕ) (d : Choice) (b : Bool) → i < length cs → is_by x (get_or cs i d) ≡ b
     → sub x (take (i + 1) cs) ≡ (if b then sub x (take i cs) ++ get_or cs i d ∷ [] else sub x (take i cs))

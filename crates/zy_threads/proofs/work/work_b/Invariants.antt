@@ -1,5 +1,0 @@
-use Rattle.std.proofs.Common.{◌≡◌}
-use Rattle.zy_threads.proofs.work.work_b.Given as goal
-
-abbrev pub invariant-loop-taken : goal.invariant-loop-taken
-invariant-loop-taken g l = (l.share.parts ≡ 1) × (l.share.amount ≡ l.taken)
