@@ -1,5 +1,5 @@
 -- What an engine's parts make together.
-use Rattle.std.proofs.Common.{◌≡◌, ℕ, List, [], Option, None, Some, IfSome, Result, Ok, Err, refl, sym, subst, append-nil, arith}
+use Rattle.std.proofs.Common.{◌≡◌, ◌+◌, ℕ, List, [], Option, None, Some, IfSome, Result, Ok, Err, refl, sym, subst, append-nil, arith}
 use Rattle.std.proofs.KnownBytes.{Appends-nil}
 use Rattle.zy_io.specs.declared.writing.TextFault.{TextFault}
 use Rattle.zy_io.specs.declared.writing.TextFault.TheVariants.{Write, Memory}
@@ -51,88 +51,69 @@ pub told-of : (P : List ℕ → Type 0) (told : Option (List ℕ)) (bytes : List
 told-of P None bytes same h = tt
 told-of P (Some t) bytes same h = subst P same h
 
--- an input that is refused was read whole, and no call failed
-pub record Refused (X : Type 0) (format : Format) (told left : Option (List ℕ)) (f : BenchFault) : Type 0 where
-  pub fault : IfRefused f (IfSome told (λ t. IsRefusal format t f))
-  pub input : ReadsInput {X = X} told left (Err f)
-  pub reads : failed_reads {X = X} (Err f) ≡ 0
-  pub writes : failed_writes {X = X} (Err f) ≡ 0
-
-pub refused : (X : Type 0) (format : Format) (told left : Option (List ℕ)) (bytes : List ℕ) (f : BenchFault) → IfSome told (λ t. bytes ≡ t) → IsRefusal format bytes f → ReadWhole told left → Refused X format told left f
-refused X format told left bytes (bench.Input r) same h whole = record { fault = told-of (λ t. IsRefusal format t (bench.Input r)) told bytes same h; input = whole; reads = refl; writes = refl }
-refused X format told left bytes (bench.Image f) same h whole = record { fault = told-of (λ t. IsRefusal format t (bench.Image f)) told bytes same h; input = whole; reads = refl; writes = refl }
-refused X format.Text told left bytes bench.TooLong same h whole = absurd h
-refused X format.Image told left bytes bench.TooLong same h whole = absurd h
-refused X format.Text told left bytes bench.Read same h whole = absurd h
-refused X format.Image told left bytes bench.Read same h whole = absurd h
-refused X format.Text told left bytes bench.Write same h whole = absurd h
-refused X format.Image told left bytes bench.Write same h whole = absurd h
-refused X format told left bytes bench.Memory same h whole = record { fault = tt; input = whole.0; reads = refl; writes = refl }
-
 -- what holds of all bytes holds of those that the reader told
 pub of-any : (P : List ℕ → Type 0) (told : Option (List ℕ)) → ((t : List ℕ) → P t) → IfSome told P
 of-any P None h = tt
 of-any P (Some t) h = h t
 
+-- what a fault says of the input, where nothing was written
+pub record Stopped (X : Type 0) (format : Format) (told left : Option (List ℕ)) (before after : ℕ) (f : BenchFault) : Type 0 where
+  pub fault : IfRefused f (IfSome told (λ t. IsRefusal format t f))
+  pub input : ReadsInput {X = X} told left (Err f)
+  pub reads : after ≡ before + failed_reads {X = X} (Err f)
+  pub writes : failed_writes {X = X} (Err f) ≡ 0
+
+-- an input that could not be read
+unread : (X : Type 0) (format : Format) (told left : Option (List ℕ)) (before after : ℕ) (f : ReadFault) → ReadsAll told left before after (Err f) → Stopped X format told left before after (of_reading f)
+unread X format told left before after reading.Read read = record { fault = tt; input = read.0; reads = read.1; writes = refl }
+unread X format told left before after reading.TooLong read = record { fault = tt; input = read.0; reads = omega (arith, read.1); writes = refl }
+unread X format told left before after reading.Memory read = record { fault = tt; input = read.0; reads = omega (arith, read.1); writes = refl }
+
+-- an input that is refused was read whole, and no call failed
+refused : (X : Type 0) (format : Format) (told left : Option (List ℕ)) (before after : ℕ) (bytes : List ℕ) (f : BenchFault)
+    → IfSome told (λ t. bytes ≡ t) → IsRefusal format bytes f → ReadWhole told left → after ≡ before → Stopped X format told left before after f
+refused X format told left before after bytes (bench.Input r) same h whole none =
+    record { fault = told-of (λ t. IsRefusal format t (bench.Input r)) told bytes same h; input = whole; reads = omega (arith, none); writes = refl }
+refused X format told left before after bytes (bench.Image f) same h whole none =
+    record { fault = told-of (λ t. IsRefusal format t (bench.Image f)) told bytes same h; input = whole; reads = omega (arith, none); writes = refl }
+refused X format.Text told left before after bytes bench.TooLong same h whole none = absurd h
+refused X format.Image told left before after bytes bench.TooLong same h whole none = absurd h
+refused X format.Text told left before after bytes bench.Read same h whole none = absurd h
+refused X format.Image told left before after bytes bench.Read same h whole none = absurd h
+refused X format.Text told left before after bytes bench.Write same h whole none = absurd h
+refused X format.Image told left before after bytes bench.Write same h whole none = absurd h
+refused X format told left before after bytes bench.Memory same h whole none = record { fault = tt; input = whole.0; reads = omega (arith, none); writes = refl }
+
+-- an engine that stops before it writes
+converts-stopped : {X : Type 0} (format : Format) (output : Scenario → List ℕ) (told left written : Option (List ℕ)) (reads after writes : ℕ) (f : BenchFault)
+    → Stopped X format told left reads after f
+    → Converts {X = X} format output (record { left = told; written = written; reads = reads; writes = writes }) (record { left = left; written = written; reads = after; writes = writes }) (Err f)
+converts-stopped format output told left written reads after writes f stopped = record {
+  written = tt;
+  front = of-any (λ t. (sc : Scenario) → StandsFor format t sc → WroteFront written written (output sc)) told (λ t sc stands. WroteFront-nothing written (output sc));
+  fault = stopped.fault;
+  input = stopped.input;
+  accepted = tt;
+  quiet = λ q. refl;
+  silent = of-any (λ t. ((sc : Scenario) → StandsFor format t sc → ⊥) → written ≡ written) told (λ t none. refl);
+  refused = of-any (λ t. (HasNoFault format t → ⊥) → written ≡ written) told (λ t faulty. refl);
+  reads = stopped.reads;
+  writes = omega (arith, stopped.writes);
+}
+
 -- the engine after its input could not be read
 pub converts-unread : {X : Type 0} (format : Format) (output : Scenario → List ℕ) (told left written : Option (List ℕ)) (reads after writes : ℕ) (f : ReadFault)
     → ReadsAll told left reads after (Err f)
     → Converts {X = X} format output (record { left = told; written = written; reads = reads; writes = writes }) (record { left = left; written = written; reads = after; writes = writes }) (Err (of_reading f))
-converts-unread format output told left written reads after writes reading.Read read = record {
-  written = tt;
-  front = of-any (λ t. (sc : Scenario) → StandsFor format t sc → WroteFront written written (output sc)) told (λ t sc stands. WroteFront-nothing written (output sc));
-  fault = tt;
-  input = read.0;
-  accepted = tt;
-  quiet = λ q. refl;
-  silent = of-any (λ t. ((sc : Scenario) → StandsFor format t sc → ⊥) → written ≡ written) told (λ t none. refl);
-  refused = of-any (λ t. (HasNoFault format t → ⊥) → written ≡ written) told (λ t faulty. refl);
-  reads = read.1;
-  writes = omega arith;
-}
-converts-unread format output told left written reads after writes reading.TooLong read = record {
-  written = tt;
-  front = of-any (λ t. (sc : Scenario) → StandsFor format t sc → WroteFront written written (output sc)) told (λ t sc stands. WroteFront-nothing written (output sc));
-  fault = tt;
-  input = read.0;
-  accepted = tt;
-  quiet = λ q. refl;
-  silent = of-any (λ t. ((sc : Scenario) → StandsFor format t sc → ⊥) → written ≡ written) told (λ t none. refl);
-  refused = of-any (λ t. (HasNoFault format t → ⊥) → written ≡ written) told (λ t faulty. refl);
-  reads = omega (arith, read.1);
-  writes = omega arith;
-}
-converts-unread format output told left written reads after writes reading.Memory read = record {
-  written = tt;
-  front = of-any (λ t. (sc : Scenario) → StandsFor format t sc → WroteFront written written (output sc)) told (λ t sc stands. WroteFront-nothing written (output sc));
-  fault = tt;
-  input = read.0;
-  accepted = tt;
-  quiet = λ q. refl;
-  silent = of-any (λ t. ((sc : Scenario) → StandsFor format t sc → ⊥) → written ≡ written) told (λ t none. refl);
-  refused = of-any (λ t. (HasNoFault format t → ⊥) → written ≡ written) told (λ t faulty. refl);
-  reads = omega (arith, read.1);
-  writes = omega arith;
-}
+converts-unread {X} format output told left written reads after writes f read =
+    converts-stopped format output told left written reads after writes (of_reading f) (unread X format told left reads after f read)
 
 -- the engine after its input was refused
 pub converts-refused : {X : Type 0} (format : Format) (output : Scenario → List ℕ) (told left written : Option (List ℕ)) (reads after writes : ℕ) (bytes : List ℕ) (f : BenchFault)
     → IfSome told (λ t. bytes ≡ t) → IsRefusal format bytes f → ReadWhole told left → after ≡ reads
     → Converts {X = X} format output (record { left = told; written = written; reads = reads; writes = writes }) (record { left = left; written = written; reads = after; writes = writes }) (Err f)
 converts-refused {X} format output told left written reads after writes bytes f same h whole none =
-    let r = refused X format told left bytes f same h whole in
-    record {
-      written = tt;
-      front = of-any (λ t. (sc : Scenario) → StandsFor format t sc → WroteFront written written (output sc)) told (λ t sc stands. WroteFront-nothing written (output sc));
-      fault = r.fault;
-      input = r.input;
-      accepted = tt;
-      quiet = λ q. refl;
-      silent = of-any (λ t. ((sc : Scenario) → StandsFor format t sc → ⊥) → written ≡ written) told (λ t none. refl);
-      refused = of-any (λ t. (HasNoFault format t → ⊥) → written ≡ written) told (λ t faulty. refl);
-      reads = omega (arith, none, r.reads);
-      writes = omega (arith, r.writes);
-    }
+    converts-stopped format output told left written reads after writes f (refused X format told left reads after bytes f same h whole none)
 
 -- what an engine answers where its output was written, or a prefix of it
 abbrev pub of_wrote : {X : Type 0} → Result X TextFault → Result X BenchFault

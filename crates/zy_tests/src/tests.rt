@@ -1,13 +1,6 @@
-//! A module has the name of what it tests; `fakes` and `fixtures` have what several of them use.
+//! A module has the name of what it tests; `fakes` has the streams that give or take little.
 
-mod asm;
-mod audit;
-mod check;
-mod debug;
-mod disasm;
-mod engine;
 mod fakes;
-mod fixtures;
 mod image;
 mod links;
 mod locks;
@@ -15,7 +8,6 @@ mod machine;
 mod modes;
 mod page;
 mod scenario;
-mod serial;
 mod streams;
 mod threads;
 mod tree;
