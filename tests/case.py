@@ -6,11 +6,11 @@
   like     the case whose input it has too; with none of the three the input is empty
   pad      a number: the input goes on with empty lines up to this many bytes
   to       where standard output goes, in place of being read: `closed`, or a path such as /dev/full
-  stdout   the output that is wanted; none: nothing
-  status   the exit status that is wanted
-  fault    where the run is refused, the fault's name as standard error tells it: one line `zy_bench: FAULT: words`
+  stdout   the expected output; none: nothing
+  status   the expected exit status
+  fault    where the run is refused, the fault's name on standard error: one line `zy_bench: FAULT: words`
   words    the words of that line; none: any
-  told     all that standard error is to tell, where that is no fault; none: anything
+  told     all of standard error, where that is no fault; none: anything
 
 Each line of tests/refused is a text that `zy_bench run` refuses, with its fault and words; each line of tests/refused-images an
 image that `zy_bench dis` refuses."""
@@ -106,7 +106,7 @@ class RefusedImage(Case):
 
 
 def bytes_of(image):
-    """An image as a line of tests/refused-images tells it."""
+    """An image as a line of tests/refused-images has it."""
     if '=' in image:
         changed = bytearray(WORKED)
         for change in image.split():
@@ -119,7 +119,7 @@ def bytes_of(image):
 
 
 def tells(errors, fault, words=''):
-    """Whether standard error is one line that tells this fault, in these words if there are any."""
+    """Whether standard error is one line with this fault, in these words if there are any."""
     line = r'zy_bench: %s: %s\n' % (re.escape(fault), re.escape(words) if words else '.+')
     return re.fullmatch(line, errors.decode(errors='replace')) is not None
 

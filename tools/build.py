@@ -1,4 +1,4 @@
-"""Proves and builds zy_bench: each crate once those that it stands on are proved, and some of them side by side.
+"""Proves and builds zy_bench: each crate once those that it uses are proved, and some of them side by side.
 
     build.py
 
@@ -26,7 +26,7 @@ FAILED = 70
 
 
 def needs():
-    """The crates that each crate stands on, of those that the program needs."""
+    """The crates that each crate uses, of those that the program needs."""
     with open(os.path.join(TOP, 'crates.txt'), encoding='utf-8') as file:
         lines = dict(line.split(':', 1) for line in file if line.strip() and not line.startswith('#'))
     all_of = {name.split()[0]: set(libraries.split()) for name, libraries in lines.items()}

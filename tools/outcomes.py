@@ -8,7 +8,7 @@ import bench
 FORMATS = os.path.join(bench.TOP, 'docs', 'formats.md')
 TABLE = os.path.join(bench.TOP, 'docs', 'step-table.md')
 
-# How a letter that stands for a number is read out: P is the number of a page, and so on.
+# What a letter in place of a number is called: P is the number of a page, and so on.
 NOUNS = {'P': 'page', 'T': 'transaction'}
 
 
@@ -75,7 +75,7 @@ def table_rows():
 
 
 def words_in(outcome):
-    """The words of an outcome without its numbers and the letters that stand for them."""
+    """The words of an outcome without its numbers and the letters in their place."""
     return [word for word in outcome.split(' ! ')[0].split() if len(word) > 1 and not word.isdigit()]
 
 

@@ -1,4 +1,4 @@
-"""A run as `zy_bench trace` tells it: its steps, and for each line of the state the steps at which it changes."""
+"""A run as `zy_bench trace` writes it: its steps, and for each line of the state the steps at which it changes."""
 
 from bisect import bisect
 from collections import namedtuple

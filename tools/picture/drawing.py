@@ -109,14 +109,14 @@ def draw_text(run, place, sheet, row):
         '<tspan class="%s" x="%s">%s</tspan>' % (cell, num(x), escape(text)) for x, cell, text in cells if text)))
 
 
-HEAD = 44  # the height of what stands above the columns
+HEAD = 44  # the height of the head above the columns
 
 # In version 1 there is one migration, from A to B; in version 2 the nodes change their roles.
 ROLES = {('1', 'A'): 'source', ('1', 'B'): 'destination'}
 
 
 def draw_head_row(run, place):
-    """What stands above the columns."""
+    """The head above the columns."""
     sheet = Sheet()
     sheet.text('head', place.choice, 26, 'listing')
     sheet.text('head mid', place.client, 26, 'client')

@@ -47,7 +47,7 @@ def draw_message(run, place, sheet, message):
 
 
 def draw_kept(place, sheet, message, look, x, way):
-    """A message that was met and left: it stands at the front until it is taken, if it is."""
+    """A message that was met and left: it stays at the front until it is taken, if it is."""
     y, end = place.y(message.met), place.y(message.taken) if message.taken else place.height
     sheet.line(4, 'kept', x, y, x, end)
     if message.taken:
@@ -93,7 +93,7 @@ def draw_client(run, place, sheet, step, life, look, y):
 
 
 def draw_label(place, sheet, step, label, node, x, y, look):
-    """The label of a mark on a bar stands inside of the bars, that of one on the node's line beside it; a thread joins a bar with its label,
+    """The label of a mark on a bar is inside of the bars, that of one on the node's line beside it; a thread joins a bar with its label,
     or with the line where a message goes out."""
     way, on_bar = place.inward(node), x != place.line[node]
     end = place.line[node] if step.sent and not label else place.zone(node) - 3 * way

@@ -28,7 +28,7 @@ class Place:
         self.width = self.pages + max(42, self.ribbon * len(run.pages)) + 18
 
     def place_text(self, texts):
-        """The columns of the listing are as wide as what stands in them."""
+        """The columns of the listing are as wide as their contents."""
         widths = [max(len(text[k]) for text in texts) * CHAR for k in range(4)]
         self.number = 10 + widths[0]
         self.choice = self.number + 10
@@ -75,7 +75,7 @@ class Place:
 
 
 def repeats(top, bottom):
-    """The heights at which a label of something long stands: its top, and each thirtieth row of the picture."""
+    """The heights of the labels of something long: its top, and each thirtieth row of the picture."""
     each = 30 * ROW
     return [top] + [y + 15 for y in range(math.ceil((top + 2 * ROW) / each) * each, max(0, int(bottom)), each)]
 

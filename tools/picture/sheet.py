@@ -14,7 +14,7 @@ class Sheet:
         self.marks = {}
 
     def add(self, layer, top, bottom, text):
-        """Adds a mark to a layer; one that is there already stands once."""
+        """Adds a mark to a layer; one that is there already is not added again."""
         self.marks.setdefault(text, (layer, min(top, bottom), max(top, bottom)))
 
     def rect(self, layer, look, x, y, width, height, round=0, title=''):

@@ -1,6 +1,7 @@
 """A session: a scenario, the run of it, a position, and stops. What is shown is a trace's, and what is replied is the debugger's."""
 
 import re
+from itertools import groupby
 
 import bench
 import outcomes
@@ -49,7 +50,10 @@ class Session:
         """The debugger's reply to a command at the position, with the stops that are set."""
         commands = [stop for stop, _ in self.stops] + ['goto %d' % self.position, command, '']
         given = (self.text(self.choices) + '\n'.join(commands)).encode(**bench.BYTES)
-        return bench.ask(['debug'], given)[len(self.stops) + 1:]
+        replies = bench.ask(['debug'], given)[len(self.stops) + 1:]
+        if replies == ['bad command']:
+            raise Fault('bad command; try help')
+        return replies
 
     def move(self, command):
         """Moves as the debugger does, and shows what is new."""
@@ -57,7 +61,8 @@ class Session:
         found = re.fullmatch(r'(?:stop \d+ )?at (\d+)', reply)
         if not found:
             raise Fault('%s: the positions are 0 to %d' % (reply, self.last()))
-        return self.go(int(found.group(1))) + ([reply] if reply.startswith('stop') else []) + self.here()
+        fired = [reply] if reply.startswith('stop') else ['no stop fires'] if 'cont' in command else []
+        return self.go(int(found.group(1))) + fired + self.here()
 
     def stop(self, command):
         """Sets or deletes a stop."""
@@ -107,7 +112,9 @@ class Session:
         hits = [number for number, line in enumerate(lines, 1) if ' %s ' % words in line]
         if not hits:
             raise Fault('no step has %s' % words)
-        return self.go(next((number for number in hits if number > self.position), hits[0])) + self.here()
+        above = [number for number in hits if number > self.position]
+        wrapped = [] if above else ['no later step has it; the first that has:']
+        return wrapped + self.go((above or hits)[0]) + self.here()
 
     def explain(self, words):
         """What an outcome means, and the lines of the step table that give it."""
@@ -168,10 +175,21 @@ class Session:
         """Writes the scenario with the choices up to the position."""
         try:
             with open(path, 'w', encoding='utf-8', errors='surrogateescape') as file:
-                file.write(self.text(self.choices[:self.position]))
+                file.write(self.text(self.written()))
         except OSError as error:
             raise Fault(str(error)) from None
         return ['%s: %d choices' % (path, self.position)]
+
+
+    def written(self):
+        """The choices up to the position as an author writes them: with names, and like ones in a row as one."""
+        rows = [(choice, len(list(like))) for choice, like in groupby(self.choices[:self.position])]
+        return [self.by_name(choice) + (' x %d' % times if times > 1 else '') for choice, times in rows]
+
+    def by_name(self, choice):
+        """A choice with the name of its transaction, where it has one."""
+        actor, action, *txn = choice.split()
+        return ' '.join([actor, action] + [self.run.names[int(number)] or number for number in txn])
 
 
 def choices_of(run):

@@ -33,14 +33,19 @@ class Unknown(Exception):
     """A word that is no command, or the beginning of several."""
 
 
-def command_of(word):
-    """The command that a word stands for."""
+def command_of(words):
+    """The command that a line calls, and its words."""
+    word, *rest = words
+    if word in ('i', 'info') and rest and 'breakpoints'.startswith(rest[0]):
+        return 'stops', []
+    if word in ('A', 'B', 'C') and rest:
+        raise Unknown('a choice is made by do: do %s' % ' '.join(words))
     if word in COMMANDS or word in SHORT:
-        return SHORT.get(word, word)
+        return SHORT.get(word, word), rest
     begun = [command for command in COMMANDS if command.startswith(word)]
     if len(begun) != 1:
         raise Unknown('%s: %s' % (word, 'one of ' + ', '.join(begun) if begun else 'no command; try help'))
-    return begun[0]
+    return begun[0], rest
 
 
 def complete(text, state):
