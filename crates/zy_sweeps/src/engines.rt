@@ -8,7 +8,7 @@ use std::alloc::Global;
 use zy_audit::run::write_run;
 use zy_engine::checking::check_bytes;
 use zy_engine::debugging::debug_bytes;
-use zy_engine::engine::{asm_bytes, dis_bytes, run_bytes};
+use zy_engine::engine::{asm_bytes, dis_bytes, run_bytes, trace_bytes};
 use zy_engine::faults::BenchFault;
 use zy_engine::format::Format;
 use zy_image::save::save;
@@ -19,6 +19,7 @@ use zy_io::memory::{SliceSource, VecSink};
 enum Engine {
     RunText,
     RunImage,
+    Trace,
     Asm,
     Dis,
     Check,
@@ -37,6 +38,7 @@ fn work(
     match engine {
         Engine::RunText => run_bytes(alloc, Format::Text, source, sink),
         Engine::RunImage => run_bytes(alloc, Format::Image, source, sink),
+        Engine::Trace => trace_bytes(alloc, Format::Text, source, sink),
         Engine::Asm => asm_bytes(alloc, source, sink),
         Engine::Dis => dis_bytes(alloc, source, sink),
         Engine::Check => match check_bytes(alloc, source, sink) {
@@ -93,6 +95,7 @@ pub fn sweep_named(name: &str, alloc: Global, input: &[u8]) -> Option<Result<Fou
     match name {
         "run_bytes" => Some(Ok(sweep_engine(alloc, Engine::RunText, input))),
         "run_image_bytes" => Some(sweep_image(alloc, Engine::RunImage, input)),
+        "trace_bytes" => Some(Ok(sweep_engine(alloc, Engine::Trace, input))),
         "asm_bytes" => Some(Ok(sweep_engine(alloc, Engine::Asm, input))),
         "dis_bytes" => Some(sweep_image(alloc, Engine::Dis, input)),
         "check_bytes" => Some(sweep_listing(alloc, input)),
