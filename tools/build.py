@@ -40,8 +40,8 @@ def needs():
 
 
 def minutes():
-    """What each crate's proof took when the gate was measured, from docs/map.md."""
-    with open(os.path.join(TOP, 'docs', 'map.md'), encoding='utf-8') as file:
+    """What each crate's proof took when the gate was measured, from docs/gate.md."""
+    with open(os.path.join(TOP, 'docs', 'gate.md'), encoding='utf-8') as file:
         rows = re.findall(r'^\| `(\w+)` \|[^|]*\| ([0-9.]+) min', file.read(), re.MULTILINE)
     return {name: float(took) for name, took in rows}
 
