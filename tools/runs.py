@@ -120,6 +120,7 @@ class Run:
         self.messages = [message for link in LINKS for message in messages_of(link, self.links[link])]
         note_met(self.messages, self.steps)
         self.lives = [life_of(txn, timeline) for txn, timeline in enumerate(self.txns)]
+        self.left_locked = {step: number for number, page in enumerate(self.pages) for step in left_locked(page.map(page_words))}
         self.instrs = [''] + [self.instr_of(step) for step in self.steps]
 
     def read_lines(self, lines):
@@ -182,3 +183,14 @@ def page_words(line):
     words = line.split()
     locks = words.index('locks')
     return words[2], words[4], words[6:locks], words[locks + 1:]
+
+
+def is_away(where, locks):
+    """Whether one of a page's locks is at a node where the page is not."""
+    return any(lock[0] != where for lock in locks)
+
+
+def left_locked(page):
+    """The steps at which a page leaves a node where it is locked; of its timeline, in words."""
+    away = page.map(lambda words: bool(words) and is_away(words[0], words[3]))
+    return [position for position, is_so in away.changes if is_so]

@@ -9,7 +9,7 @@ from picture.place import BAND, GAP, ROW, WIDE_PAGES, Place, repeats
 from picture.rows import row_text
 from picture.serial import differences, verdict_line
 from picture.sheet import Sheet, num
-from runs import NODES, Timeline, page_words
+from runs import NODES, Timeline, is_away, left_locked, page_words
 
 
 class Picture:
@@ -45,7 +45,7 @@ def draw_modes(run, place, sheet):
             height = (place.height if end is None else place.y(end)) - top
             sheet.rect(0, 'tint ' + mode, place.left[node], top, place.right[node] - place.left[node], height)
             sheet.rect(1, 'band ' + mode, place.band(node), top, BAND, height)
-            for y in repeats(top + 15, top + height - 8):
+            for y in repeats(min(top + 15, place.height - 3), top + height - 8):
                 sheet.text('mode', place.band(node) + BAND / 2, y, mode)
         sheet.line(2, 'life', place.line[node], 0, place.line[node], place.height)
 
@@ -63,14 +63,23 @@ def draw_ribbon(place, sheet, x, timeline):
     for start, end, where in timeline.map(lambda page: page and page[0]).spans():
         if where:
             draw_stretch(place, sheet, 1, 'at' + where, x + 1, place.ribbon - 3, start, end)
+    middle = x + (place.ribbon - 1) / 2
     for start, end, locks in timeline.map(lambda page: (page[0], page[3]) if page and page[3] else None).spans():
         if locks:
-            away = ' away' if any(lock[0] != locks[0] for lock in locks[1]) else ''
-            wide = 5 if any(lock.endswith('x') for lock in locks[1]) else 2
-            draw_stretch(place, sheet, 2, 'lock' + away, x + (place.ribbon - 1 - wide) / 2, wide, start, end)
+            away = is_away(*locks)
+            wide = 6 if any(lock.endswith('x') for lock in locks[1]) else 3 if away else 2
+            draw_stretch(place, sheet, 2, 'lock away' if away else 'lock', middle - wide / 2, wide, start, end)
+    for position in left_locked(timeline):
+        draw_alarm(sheet, middle, place.y(position))
     for (_, old), (position, new) in zip(timeline.changes, timeline.changes[1:]):
         if old and new and old[2] != new[2]:
-            sheet.dot('rows', x + (place.ribbon - 1) / 2, place.y(position), 3.2)
+            sheet.dot('rows', middle, place.y(position), 3.2)
+
+
+def draw_alarm(sheet, x, y):
+    """A locked page leaves."""
+    sheet.dot('mark bad', x, y, 6.5)
+    sheet.text('mid alarm', x, y + 4, '!')
 
 
 def draw_stretch(place, sheet, layer, look, x, width, start, end):
@@ -79,7 +88,9 @@ def draw_stretch(place, sheet, layer, look, x, width, start, end):
 
 
 def draw_counts(run, place, sheet):
-    """Of many pages: how many are at A, on their way and at B."""
+    """Of many pages: how many are at A, on their way and at B, and where a locked one leaves."""
+    for position in run.left_locked:
+        draw_alarm(sheet, place.pages - 10, place.y(position))
     for start, end, three in counted(run.pages).spans():
         x = place.pages
         for look, count in zip(('atA', 'atAB', 'atB'), three):

@@ -43,4 +43,6 @@ def mermaid_row(run, first, last):
         lines = ['%s-->>C: %s' % (life.node, words)]
     else:
         lines = ['Note over %s: %s' % (step.actor, words)]
+    if first in run.left_locked:
+        lines.append('Note over %s: page %d leaves locked' % (step.actor, run.left_locked[first]))
     return lines + ['Note over %s: %s' % (node, mode) for node in NODES for start, mode in run.modes[node].changes if start == first]

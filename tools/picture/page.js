@@ -48,7 +48,7 @@ function pageCard(n, it) {
       `${kind === 'x' ? '▌' : '▏'}t${txn} ${kind === 'x' ? 'exclusive' : 'shared'}${away ? ' at ' + node : ''} `);
   });
   const head = el('div', it.fresh && old && old.place !== it.place ? 'new' : '', el('b', '', 'page ' + it.p), ' ', el('small', '', '≥ ' + it.low), jumps(D.pages[it.p], n));
-  return el('div', 'card ' + it.place, head, el('div', '', ...(rows.length ? rows : [el('small', '', 'no rows')])), ...(locks.length ? [el('div', '', ...locks)] : []));
+  return el('div', 'card ' + it.place, head, el('div', 'values', ...(rows.length ? rows : [el('small', '', 'no rows')])), ...(locks.length ? [el('div', '', ...locks)] : []));
 }
 function column(n, name, places, count, pages) {
   const head = el('b', '', `${name} · ${count}`);
@@ -196,7 +196,9 @@ function gloss(n) {
   if (!n) return 'Before the first step.';
   const blocked = D.lines[n].match(/-> (?:waits|held) (\d+)/);
   const locks = blocked ? ` Locks on page ${blocked[1]}: ${page(n, +blocked[1]).locks.join(' ')}.` : '';
-  return D.glosses[D.gloss[n - 1]] + (D.instrs[n] ? ` Tried: ${D.instrs[n]}.` : '') + locks;
+  const left = D.pages.map((_, p) => page(n, p)).filter(it => it && it.fresh && it.place.length > 1 && it.locks.length);
+  const behind = left.map(it => ` Locks on page ${it.p} stay behind: ${it.locks.join(' ')}.`).join('');
+  return D.glosses[D.gloss[n - 1]] + (D.instrs[n] ? ` Tried: ${D.instrs[n]}.` : '') + locks + behind;
 }
 function notable(way) {
   const next = way > 0 ? D.marks.find(m => m > now) : D.marks.filter(m => m < now).pop();

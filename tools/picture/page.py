@@ -52,8 +52,8 @@ def glossed(steps):
 
 
 def notable(run, step):
-    """Whether a step changes a mode."""
-    return any(start == step.number for node in NODES for start, _ in run.modes[node].changes)
+    """Whether a step changes a mode, or a locked page leaves."""
+    return step.number in run.left_locked or any(start == step.number for node in NODES for start, _ in run.modes[node].changes)
 
 
 def chips(run):

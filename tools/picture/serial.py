@@ -49,5 +49,5 @@ def differences(run):
 
 def verdict_line(run, differing):
     """The verdict, and the first rows that differ."""
-    rows = ', '.join('row %s is %s and serially %s' % row for row in differing[:3])
+    rows = ', '.join('row %s is %s, in the serial run %s' % row for row in differing[:3])
     return run.verdict + (': ' + rows if rows else '')

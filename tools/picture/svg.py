@@ -78,7 +78,8 @@ KEY = (('<rect class="bar ok" x="9" y="1" width="9" height="16" rx="4"/>', 'comm
        ('<rect class="atB" x="7" y="1" width="12" height="16"/>', 'at B'),
        ('<rect class="atA" x="7" y="1" width="12" height="16"/><rect class="lock" x="12" y="1" width="2" height="16"/>', 'locked shared'),
        ('<rect class="atA" x="7" y="1" width="12" height="16"/><rect class="lock" x="10.5" y="1" width="5" height="16"/>', 'exclusive'),
-       ('<rect class="atB" x="7" y="1" width="12" height="16"/><rect class="lock away" x="11" y="1" width="4" height="16"/>', 'locked where it is not'),
+       ('<rect class="atB" x="7" y="1" width="12" height="16"/><rect class="lock away" x="11.5" y="1" width="3" height="16"/>', 'still locked at the node that it left'),
+       ('<circle class="mark bad" cx="13" cy="9" r="6.5"/><text class="mid alarm" x="13" y="13">!</text>', 'a locked page leaves'),
        ('<rect class="atA" x="7" y="1" width="12" height="16"/><circle class="rows" cx="13" cy="9" r="3.2"/>', 'its rows change'))
 
 

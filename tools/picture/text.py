@@ -44,6 +44,8 @@ def row_of(run, first, last):
     for node in NODES:
         modes = [mode for position, mode in run.modes[node].changes if first <= position <= last]
         cells[node] = (cells[node] + ''.join(' [%s]' % mode for mode in modes)).strip()
+    if first in run.left_locked:
+        cells[step.actor] += ' [page %d leaves locked]' % run.left_locked[first]
     return [cells[lane] for lane in LANES]
 
 
@@ -73,6 +75,8 @@ def summary(run, verdict):
     places = Counter(page_words(page.at(last))[0] for page in run.pages)
     yield 'pages: ' + ', '.join('%d at %s' % (places[node], node) for node in NODES) + ''.join(
         ', %d on link %s' % (places[link], link) for link in LINKS if places[link])
+    if run.left_locked:
+        yield 'left while locked: ' + ', '.join('page %d at step %d' % (page, step) for step, page in sorted(run.left_locked.items()))
     waiting = ['%s %s' % (message.link, message.text) for message in run.messages if message.taken is None]
     yield 'messages on their way: ' + (', '.join(waiting) or 'none')
     yield 'migration: ' + migration(run)

@@ -16,7 +16,7 @@ schedule  do CHOICE [x N]     makes a choice behind the position; those that wer
           undo                the choices as they were before the last do
           save FILE           writes the scenario with the choices up to the position
           help (h), quit (q)
-A word may be shortened as long as it is the only one that begins so. An empty line does the last move again."""
+A word may be shortened as long as only one command begins so. An empty line does the last move again."""
 
 COMMANDS = ('step', 'back', 'goto', 'cont', 'rcont', 'find', 'break', 'watch', 'delete', 'stops', 'page', 'txn', 'links', 'where', 'list',
             'state', 'explain', 'summary', 'do', 'undo', 'save', 'help', 'quit')

@@ -4,8 +4,8 @@ if exists('b:current_syntax')
 endif
 
 syntax case match
-syntax keyword zephyrHeader zephyr cap pages rule
-syntax keyword zephyrRule held loose
+syntax keyword zephyrHeader zephyr cap pages rule nextgroup=zephyrRule skipwhite
+syntax keyword zephyrRule held loose contained
 syntax keyword zephyrStatement row txn end
 syntax keyword zephyrInstruction set read write insert add sum beq commit abort
 syntax keyword zephyrActor A B C AB BA
