@@ -5,7 +5,7 @@
   example  the file of examples/ that is the input; or
   like     the case whose input it has too; with none of the three the input is empty
   pad      a number: the input goes on with empty lines up to this many bytes
-  to       where standard output goes, in place of being read: `closed`, or a path such as /dev/full
+  to       where standard output goes, in place of being read: `closed`, `unread` (a pipe whose reader has gone), or a path such as /dev/full
   stdout   the expected output; none: nothing
   status   the expected exit status
   fault    where the run is refused, the fault's name on standard error: one line `zy_bench: FAULT: words`
@@ -13,7 +13,7 @@
   told     all of standard error, where that is no fault; none: anything
 
 Each line of tests/refused is a text that `zy_bench run` refuses, with its fault and words; each line of tests/refused-images an
-image that `zy_bench dis` refuses."""
+image that `zy_bench dis` refuses; and each line of tests/mistakes a typical mistake, with what standard error tells of it."""
 
 import os
 import re
@@ -22,6 +22,7 @@ import subprocess
 TOP = os.path.dirname(os.path.dirname(os.path.abspath(__file__)))
 CASES = os.path.join(TOP, 'tests', 'cases')
 REFUSED = os.path.join(TOP, 'tests', 'refused')
+MISTAKES = os.path.join(TOP, 'tests', 'mistakes')
 REFUSED_IMAGES = os.path.join(TOP, 'tests', 'refused-images')
 EXAMPLES = os.path.join(TOP, 'examples')
 PROGRAM = os.path.join(TOP, 'crates', 'zy_bench', 'out', 'zy_bench')
@@ -57,6 +58,7 @@ class Case:
         self.fault = self.text('fault')
         self.said = self.text('words')
         self.told = self.part('told')
+        self.last = b''
 
     def part(self, name):
         return content(os.path.join(CASES, self.name, name))
@@ -73,6 +75,11 @@ class Case:
         how.update(stderr=subprocess.PIPE, timeout=60, env={**os.environ, **(more or {})})
         if self.to == 'closed':
             done = subprocess.run([PROGRAM] + self.words, preexec_fn=lambda: os.close(1), **how)
+        elif self.to == 'unread':
+            unread, place = os.pipe()
+            os.close(unread)
+            done = subprocess.run([PROGRAM] + self.words, stdout=place, **how)
+            os.close(place)
         elif self.to:
             with open(self.to, 'wb') as place:
                 done = subprocess.run([PROGRAM] + self.words, stdout=place, **how)
@@ -89,7 +96,7 @@ class Refused(Case):
     def __init__(self, line):
         fault, self.said, text = (part.strip() for part in line.split('|'))
         kind, number = fault.rstrip(')').split('(')
-        self.name, self.told, self.like = 'refused: %s' % text, b'', ''
+        self.name, self.told, self.last, self.like = 'refused: %s' % text, b'', b'', ''
         self.words, self.example, self.pad, self.to, self.output, self.status = ['run'], '', 0, '', b'', 1
         self.fault = 'Input(line %s, %s)' % (number, kind)
         self.text_given = text.replace('HEAD ', self.HEAD).encode().decode('unicode_escape').encode()
@@ -100,9 +107,29 @@ class RefusedImage(Case):
 
     def __init__(self, line):
         self.fault, self.said, image = (part.strip() for part in line.split('|'))
-        self.name, self.told, self.like = 'refused image: %s' % image, b'', ''
+        self.name, self.told, self.last, self.like = 'refused image: %s' % image, b'', b'', ''
         self.words, self.example, self.pad, self.to, self.output, self.status = ['dis'], '', 0, '', b'', 1
         self.text_given = bytes_of(image)
+
+
+class Mistake(Case):
+    """A typical mistake. What stands above the last line of standard error is told of the command line alone."""
+
+    PARTS = {
+        'HEAD': 'zephyr 1\\ncap 4\\npages 2\\nrule held\\n',
+        'HEAD2': 'zephyr 2\\ncap 4\\npages 2\\nrule held\\n',
+        'CLOSE': 'C begin 0\\nend\\n',
+    }
+
+    def __init__(self, line):
+        command, status, words, given = (part.strip() for part in line.split('|'))
+        self.name, self.words, self.status = 'mistake: %s: %s' % (command, given), command.split(), int(status)
+        self.example, self.like, self.pad, self.to, self.fault, self.said = '', '', 0, '', '', ''
+        said = b'zy_bench: %s\n' % words.encode()
+        self.told, self.last = (b'', b'\n' + said) if self.status == 2 else (said, b'')
+        self.output = b'not table %s\n' % re.search(r'line (\d+)', words).group(1).encode() if self.status == 4 else b''
+        text = re.sub(r'^(HEAD2?) |(CLOSE)$', lambda part: self.PARTS[part.group(1) or part.group(2)], given)
+        self.text_given = WORKED if given == 'WORKED' else text.encode().decode('unicode_escape').encode('latin-1')
 
 
 def bytes_of(image):
@@ -135,6 +162,10 @@ def lines_of(path):
 
 def all_refused():
     return [Refused(line) for line in lines_of(REFUSED)] + [RefusedImage(line) for line in lines_of(REFUSED_IMAGES)]
+
+
+def all_mistakes():
+    return [Mistake(line) for line in lines_of(MISTAKES)]
 
 
 def refuser(folder):

@@ -1,59 +1,93 @@
-//! A line of an input, as a person is shown it.
+//! Lines of an input and of a listing, as a person is shown them.
 
 use std::fmt;
+use zy_advice::bytes::Bytes;
 
 /// How many bytes of a line are shown.
 const MOST: usize = 120;
 
-/// The front of a line.
+/// How many bytes are shown in front of the first one that differs.
+const BEFORE: usize = 60;
+
+/// A line of an input that is not that of the listing.
 #[derive(Clone, Copy)]
-pub struct Excerpt<'a> {
-    line: &'a [u8],
+pub struct Differing<'a> {
+    /// Its number, from 1.
+    pub number: usize,
+    /// The line of the input, with its end; empty where the input ends above it.
+    pub is: &'a [u8],
+    /// The line of the listing; empty where the listing ends above it.
+    pub due: &'a [u8],
+    /// Whether the input has nothing below its scenario.
+    pub is_scenario: bool,
 }
 
-impl<'a> Excerpt<'a> {
-    /// The line of this number, from 1, with its end, if the input has as many.
-    pub fn of(input: &'a [u8], number: usize) -> Option<Excerpt<'a>> {
-        let mut rest = input;
-        for _ in 1..number {
-            let (_, below) = first_line(rest);
-            rest = below;
+impl fmt::Display for Differing<'_> {
+    fn fmt<W: fmt::Write>(&self, f: &mut fmt::Formatter<W>) -> fmt::Result {
+        if self.is_scenario {
+            f.write_str("this is a scenario without its listing: ")?;
         }
-        let (line, _) = first_line(rest);
-        if line.is_empty() {
-            None
+        let number = self.number;
+        let at = common(self.is, self.due);
+        let (is, due) = (Excerpt::of(self.is, at), Excerpt::of(self.due, at));
+        if self.due.is_empty() {
+            write!(f, "line {number} is {is}, and the listing ends above it")
+        } else if self.is.is_empty() {
+            write!(f, "the listing goes on with line {number}, {due}")
         } else {
-            Some(Excerpt { line })
+            let column = at.saturating_add(1);
+            write!(
+                f,
+                "line {number} is {is} and should be {due}, from column {column} on"
+            )
         }
     }
 }
 
-/// The first line of a text with its end, and what follows it.
-fn first_line(text: &[u8]) -> (&[u8], &[u8]) {
-    match text.iter().position(|byte| *byte == b'\n') {
-        Some(end) => text.split_at(end + 1),
-        None => (text, &[]),
+/// How many bytes two lines begin with in common.
+fn common(line: &[u8], other: &[u8]) -> usize {
+    let mut count = 0usize;
+    for (byte, there) in line.iter().zip(other.iter()) {
+        if byte != there {
+            return count;
+        }
+        count = count.saturating_add(1);
+    }
+    count
+}
+
+/// The part of a line that is shown.
+#[derive(Clone, Copy)]
+struct Excerpt<'a> {
+    is_cut: bool,
+    shown: &'a [u8],
+    is_cut_behind: bool,
+}
+
+impl<'a> Excerpt<'a> {
+    /// The part of a line around this place.
+    fn of(line: &'a [u8], at: usize) -> Excerpt<'a> {
+        let (_, rest) = line.split_at(at.saturating_sub(BEFORE).min(line.len()));
+        let (shown, behind) = rest.split_at(MOST.min(rest.len()));
+        Excerpt {
+            is_cut: at > BEFORE,
+            shown,
+            is_cut_behind: !behind.is_empty(),
+        }
     }
 }
 
 /// In quotes; a line feed is shown as `\n`, another byte that does not print as `\xNN`, and what was cut off as two dots.
 impl fmt::Display for Excerpt<'_> {
     fn fmt<W: fmt::Write>(&self, f: &mut fmt::Formatter<W>) -> fmt::Result {
-        f.write_str("'")?;
-        for byte in self.line.iter().take(MOST) {
-            show_byte(f, *byte)?;
+        f.write_str(if self.is_cut { "..'" } else { "'" })?;
+        for byte in self.shown {
+            if *byte == b'\n' {
+                f.write_str("\\n")?;
+            } else {
+                write!(f, "{}", Bytes(&[*byte]))?;
+            }
         }
-        f.write_str(if self.line.len() > MOST { "'.." } else { "'" })
-    }
-}
-
-/// Shows one byte.
-fn show_byte<W: fmt::Write>(f: &mut fmt::Formatter<W>, byte: u8) -> fmt::Result {
-    if byte.is_ascii_graphic() || byte == b' ' {
-        f.write_char(char::from(byte))
-    } else if byte == b'\n' {
-        f.write_str("\\n")
-    } else {
-        write!(f, "\\x{byte:02x}")
+        f.write_str(if self.is_cut_behind { "'.." } else { "'" })
     }
 }

@@ -3,22 +3,34 @@
 
 ghost use Rattle.std.specs.Prelude.{◌≡◌, ◌<◌};
 
+mod advised;
 mod command_line;
 mod excerpt;
+mod listing;
+mod output;
+mod redirected;
 
+use advised::Advised;
 use clap::error::ErrorKind;
 use command_line::{Checkpoints, Conversion, Quest, Request, command, request_of};
-use excerpt::Excerpt;
+use excerpt::Differing;
+use listing::LineKept;
+use output::Output;
+use redirected::Redirected;
 use std::io;
 use std::io::{BufWriter, Write};
 use std::process::ExitCode;
 use std::sync::Wait;
 use std::thread::Threads;
+use zy_advice::command::Command as Reader;
+use zy_advice::line::whole_line;
+use zy_check::cut::cut_len;
 use zy_check::verdict::Verdict;
 use zy_engine::checking::check_bytes;
 use zy_engine::debugging::debug_bytes;
 use zy_engine::engine::{asm_bytes, dis_bytes, run_bytes, trace_bytes};
 use zy_engine::faults::BenchFault;
+use zy_engine::format::Format;
 use zy_engine::searching::search_bytes;
 use zy_engine::threading::threads_bytes;
 use zy_io::memory::SliceSource;
@@ -52,64 +64,96 @@ fn flush<W: Write>(sink: &mut CountingWriter<W>) -> Result<(), BenchFault>
     }
 }
 
-/// Runs an engine from standard input to standard output, and gives the exit status.
-fn convert<R: Print + Input + AllocGlobal + Threads + Wait + Sync>(
+/// Passes on what is kept back for standard output.
+fn send<W: Write>(output: &mut Output<W>) -> Result<(), BenchFault>
+    requires { output.old.1 < u64.MAX }
+{
+    match output.flush() {
+        Ok(()) => Ok(()),
+        Err(_) => Err(BenchFault::Write),
+    }
+}
+
+/// Runs an engine over an input, and gives the exit status.
+fn convert<R: AllocGlobal + Threads + Wait + Sync, W: Write>(
     rt: &R,
     conversion: Conversion,
-) -> Result<u8, BenchFault> {
-    let Ok(buffer) = BufWriter::new(rt.alloc(), io::writer(rt)) else {
-        return Err(BenchFault::Memory);
-    };
-    let mut source = CountingReader::new(rt.reader());
-    let mut sink = CountingWriter::new(buffer);
+    input: &[u8],
+    output: &mut Output<W>,
+) -> Result<u8, BenchFault>
+    requires { output.old.1 < u64.MAX }
+{
+    let mut source = SliceSource::new(input);
     match conversion {
-        Conversion::Run(format) => run_bytes(rt.alloc(), format, &mut source, &mut sink)?,
-        Conversion::Trace(format) => trace_bytes(rt.alloc(), format, &mut source, &mut sink)?,
+        Conversion::Run(format) => run_bytes(rt.alloc(), format, &mut source, output)?,
+        Conversion::Trace(format) => trace_bytes(rt.alloc(), format, &mut source, output)?,
         Conversion::Threads(format) => {
-            threads_bytes(rt, rt.alloc(), format, &mut source, &mut sink, &FreeGate)?
+            threads_bytes(rt, rt.alloc(), format, &mut source, output, &FreeGate)?
         }
-        Conversion::Asm => asm_bytes(rt.alloc(), &mut source, &mut sink)?,
-        Conversion::Dis => dis_bytes(rt.alloc(), &mut source, &mut sink)?,
+        Conversion::Asm => asm_bytes(rt.alloc(), &mut source, output)?,
+        Conversion::Dis => dis_bytes(rt.alloc(), &mut source, output)?,
     }
-    flush(&mut sink)?;
+    send(output)?;
     Ok(DONE)
 }
 
-/// Checks the listing on standard input, and gives the exit status. The input is kept, so that its line can be shown.
-fn check<R: Print + Eprint + Input + AllocGlobal>(rt: &R) -> Result<u8, BenchFault> {
-    let Ok(buffer) = BufWriter::new(rt.alloc(), io::writer(rt)) else {
-        return Err(BenchFault::Memory);
-    };
-    let input = read_all(rt.alloc(), &mut CountingReader::new(rt.reader()))?;
-    let mut source = SliceSource::new(input.as_slice());
-    let mut sink = CountingWriter::new(buffer);
-    let verdict = check_bytes(rt.alloc(), &mut source, &mut sink)?;
-    flush(&mut sink)?;
+/// Checks a listing, shows the line at which it is none, and gives the exit status.
+fn check<R: Eprint + AllocGlobal, W: Write>(
+    rt: &R,
+    input: &[u8],
+    output: &mut Output<W>,
+) -> Result<u8, BenchFault>
+    requires { output.old.1 < u64.MAX }
+{
+    let verdict = check_bytes(rt.alloc(), &mut SliceSource::new(input), output)?;
     match verdict {
-        Verdict::Table => Ok(DONE),
+        Verdict::Table => {
+            send(output)?;
+            Ok(DONE)
+        }
         Verdict::NotTable(line) => {
-            show(rt, input.as_slice(), line);
+            let due = line_due(rt, input, line)?;
+            send(output)?;
+            show(rt, input, line, &due);
             Ok(NOT_TABLE)
         }
     }
 }
 
-/// Answers the commands on standard input, and gives the exit status.
-fn debug<R: Print + Input + AllocGlobal>(
+/// The line of this number of the listing that an input is to be.
+fn line_due(rt: &impl AllocGlobal, input: &[u8], line: usize) -> Result<LineKept, BenchFault> {
+    let (part, _) = input.split_at(cut_len(input).min(input.len()));
+    let mut kept = LineKept::new(line);
+    run_bytes(
+        rt.alloc(),
+        Format::Text,
+        &mut SliceSource::new(part),
+        &mut kept,
+    )?;
+    Ok(kept)
+}
+
+/// Answers the commands of an input, and gives the exit status.
+fn debug<R: AllocGlobal, W: Write>(
     rt: &R,
     checkpoints: Checkpoints,
-) -> Result<u8, BenchFault> {
+    input: &[u8],
+    output: &mut Output<W>,
+) -> Result<u8, BenchFault>
+    requires { output.old.1 < u64.MAX }
+{
     let Checkpoints { every, ring } = checkpoints;
     if !(1..=4096).contains(&every) || !(1..=64).contains(&ring) {
         return Ok(COMMAND_LINE);
     }
-    let Ok(buffer) = BufWriter::new(rt.alloc(), io::writer(rt)) else {
-        return Err(BenchFault::Memory);
-    };
-    let mut source = CountingReader::new(rt.reader());
-    let mut sink = CountingWriter::new(buffer);
-    debug_bytes(rt.alloc(), every, ring, &mut source, &mut sink)?;
-    flush(&mut sink)?;
+    debug_bytes(
+        rt.alloc(),
+        every,
+        ring,
+        &mut SliceSource::new(input),
+        output,
+    )?;
+    send(output)?;
     Ok(DONE)
 }
 
@@ -157,13 +201,14 @@ fn sum_up(rt: &impl Eprint, report: &Report) -> u8 {
 }
 
 /// Shows on standard error the line of an input at which it is not the listing.
-fn show(rt: &impl Eprint, input: &[u8], line: usize) {
-    let _ = match Excerpt::of(input, line) {
-        Some(excerpt) => {
-            eprintln!(rt; "zy_bench: line {line} is not that of the listing: {excerpt}")
-        }
-        None => eprintln!(rt; "zy_bench: the listing goes on with line {line}"),
+fn show(rt: &impl Eprint, input: &[u8], line: usize, due: &LineKept) {
+    let differing = Differing {
+        number: line,
+        is: whole_line(input, line),
+        due: due.line(),
+        is_scenario: cut_len(input) == input.len(),
     };
+    let _ = eprintln!(rt; "zy_bench: {differing}");
 }
 
 /// Tells a fault on standard error, and gives the exit status.
@@ -189,6 +234,7 @@ fn say(rt: &(impl Print + Eprint), said: &clap::Error) -> u8 {
     }
     match printed {
         Ok(()) => DONE,
+        Err(error) if error.kind() == io::ErrorKind::BrokenPipe => BenchFault::Write.status(),
         Err(error) => tell(rt, unprinted(&error)),
     }
 }
@@ -202,21 +248,62 @@ fn unprinted(error: &io::Error) -> BenchFault {
     }
 }
 
+/// The command that a request is of.
+fn command_of(request: Request) -> Reader {
+    match request {
+        Request::Convert(Conversion::Run(_)) => Reader::Run,
+        Request::Convert(Conversion::Trace(_)) => Reader::Trace,
+        Request::Convert(Conversion::Threads(_)) => Reader::Threads,
+        Request::Convert(Conversion::Asm) => Reader::Asm,
+        Request::Convert(Conversion::Dis) => Reader::Dis,
+        Request::Check => Reader::Check,
+        Request::Debug(_) => Reader::Debug,
+        Request::Search(_) => Reader::Search,
+    }
+}
+
 /// Carries a request out, and gives the exit status.
-fn carry_out(
-    rt: &(impl Print + Eprint + Input + AllocGlobal + Threads + Wait + Sync),
+fn carry_out<R: Print + Eprint + Input + AllocGlobal + Threads + Wait + Sync>(
+    rt: &R,
     request: Request,
 ) -> u8 {
+    if let Request::Search(quest) = request {
+        return search_status(rt, quest);
+    }
+    let Ok(buffer) = BufWriter::new(rt.alloc(), io::writer(rt)) else {
+        return tell(rt, BenchFault::Memory);
+    };
+    let mut output = Output::new(buffer);
+    let input = match read_all(rt.alloc(), &mut CountingReader::new(rt.reader())) {
+        Ok(input) => input,
+        Err(fault) => return tell(rt, BenchFault::from(fault)),
+    };
     let outcome = match request {
-        Request::Convert(conversion) => convert(rt, conversion),
-        Request::Check => check(rt),
-        Request::Debug(checkpoints) => debug(rt, checkpoints),
-        Request::Search(quest) => search(rt, quest),
+        Request::Convert(conversion) => convert(rt, conversion, input.as_slice(), &mut output),
+        Request::Check => check(rt, input.as_slice(), &mut output),
+        Request::Debug(checkpoints) => debug(rt, checkpoints, input.as_slice(), &mut output),
+        Request::Search(_) => Ok(COMMAND_LINE),
     };
     match outcome {
         Ok(status) => status,
+        Err(BenchFault::Write) if output.is_unread() => BenchFault::Write.status(),
+        Err(fault) => advise(rt, request, input.as_slice(), fault),
+    }
+}
+
+/// Carries a search out, and gives the exit status.
+fn search_status(rt: &(impl Print + Eprint + Input + AllocGlobal), quest: Quest) -> u8 {
+    match search(rt, quest) {
+        Ok(status) => status,
         Err(fault) => tell(rt, fault),
     }
+}
+
+/// Tells a fault of an input on standard error, and what to do about it, and gives the exit status.
+fn advise(rt: &impl Eprint, request: Request, input: &[u8], fault: BenchFault) -> u8 {
+    let advised = Advised::of(command_of(request), input, fault);
+    let _ = eprintln!(rt; "zy_bench: {advised}");
+    fault.status()
 }
 
 /// The exit status of a run with these words.
@@ -236,7 +323,11 @@ fn status<'a>(
             if said.kind() == ErrorKind::OutOfMemory {
                 return tell(rt, BenchFault::Memory);
             }
-            say(rt, &said)
+            let status = say(rt, &said);
+            if let Some(redirected) = Redirected::of(said.kind(), words) {
+                let _ = eprintln!(rt; "zy_bench: {redirected}");
+            }
+            status
         }
     }
 }

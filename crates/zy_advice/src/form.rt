@@ -1,0 +1,189 @@
+//! The forms of statements.
+
+use crate::bytes::Bytes;
+use crate::label::operation_at;
+use crate::line::Statement;
+use std::fmt;
+use zy_isa::operation::Operation;
+use zy_isa::version::Version;
+use zy_words::names::is;
+
+/// What stands behind the first word of a statement, or in a choice behind its second.
+#[derive(Clone, Copy, Debug, PartialEq, Eq)]
+pub enum Shape {
+    /// A key and a value.
+    Row,
+    /// A number or a name.
+    Txn,
+    /// A register and a number.
+    Number,
+    /// Two registers.
+    Pair,
+    /// Two registers and a target.
+    Jump,
+    /// Nothing.
+    Lone,
+    /// An action of the client.
+    Client,
+    /// An action of a node.
+    Node,
+    /// A transaction, and how often.
+    OnTxn,
+    /// How often.
+    Plain,
+}
+
+/// A statement below the header: what it takes, and how it is written.
+#[derive(Clone, Copy)]
+pub struct Form<'a> {
+    pub shape: Shape,
+    /// Where its first word stands among those of its line.
+    pub at: usize,
+    first: &'a [u8],
+    second: &'a [u8],
+}
+
+impl<'a> Form<'a> {
+    /// The form that the first words of a line ask for, if they are known in this version.
+    pub fn of(version: Version, statement: Statement<'a>) -> Option<Form<'a>> {
+        let at = operation_at(statement);
+        let first = statement.text(at);
+        let second = statement.text(at.saturating_add(1));
+        Some(Form {
+            shape: shape_of(version, first, second)?,
+            at,
+            first,
+            second,
+        })
+    }
+
+    /// How many words it has from its first one on, but for `x N`.
+    pub fn words(self) -> usize {
+        match self.shape {
+            Shape::Lone => 1,
+            Shape::Txn | Shape::Client | Shape::Node | Shape::Plain => 2,
+            Shape::Row | Shape::Number | Shape::Pair | Shape::OnTxn => 3,
+            Shape::Jump => 4,
+        }
+    }
+
+    /// Whether it is a choice.
+    pub fn is_choice(self) -> bool {
+        matches!(
+            self.shape,
+            Shape::Client | Shape::Node | Shape::OnTxn | Shape::Plain
+        )
+    }
+
+    /// How it is written.
+    pub fn pattern(self) -> Pattern<'a> {
+        Pattern(self)
+    }
+}
+
+/// The shape of a statement that begins with these words.
+fn shape_of(version: Version, first: &[u8], second: &[u8]) -> Option<Shape> {
+    if let Some(operation) = Operation::named_in(version, first) {
+        return Some(match operation {
+            Operation::Number(_) => Shape::Number,
+            Operation::Pair(_) => Shape::Pair,
+            Operation::Jump(_) => Shape::Jump,
+            Operation::Lone(_) => Shape::Lone,
+        });
+    }
+    if is(first, b"row") {
+        Some(Shape::Row)
+    } else if is(first, b"txn") {
+        Some(Shape::Txn)
+    } else if is(first, b"end") {
+        Some(Shape::Lone)
+    } else if is(first, b"C") {
+        Some(client_shape(second))
+    } else if is(first, b"A") || is(first, b"B") {
+        Some(node_shape(second))
+    } else {
+        None
+    }
+}
+
+/// The shape of a choice of the client with this action.
+fn client_shape(action: &[u8]) -> Shape {
+    if is(action, b"begin") || is(action, b"kill") {
+        Shape::OnTxn
+    } else if is(action, b"start") {
+        Shape::Plain
+    } else {
+        Shape::Client
+    }
+}
+
+/// The shape of a choice of a node with this action.
+fn node_shape(action: &[u8]) -> Shape {
+    if is(action, b"run") {
+        Shape::OnTxn
+    } else if is_plain_of_node(action) {
+        Shape::Plain
+    } else {
+        Shape::Node
+    }
+}
+
+/// Whether a word is an action of a node with no transaction.
+pub fn is_plain_of_node(action: &[u8]) -> bool {
+    is(action, b"take") || is(action, b"push") || is(action, b"finish")
+}
+
+/// What it takes, and how it is written.
+impl fmt::Display for Form<'_> {
+    fn fmt<W: fmt::Write>(&self, f: &mut fmt::Formatter<W>) -> fmt::Result {
+        let (first, second) = (Bytes(self.first), Bytes(self.second));
+        match self.shape {
+            Shape::Client | Shape::Node => write!(f, "behind {first} stands an action")?,
+            Shape::OnTxn => write!(f, "{first} {second} takes one transaction")?,
+            Shape::Plain => write!(f, "{first} {second} takes no transaction")?,
+            _ => write!(f, "{first} takes {}", self.shape)?,
+        }
+        write!(f, ": {}", self.pattern())
+    }
+}
+
+/// What stands behind the first word.
+impl fmt::Display for Shape {
+    fn fmt<W: fmt::Write>(&self, f: &mut fmt::Formatter<W>) -> fmt::Result {
+        f.write_str(match self {
+            Shape::Row => "a key and a value",
+            Shape::Txn => "one number or name",
+            Shape::Number => "a register and a number",
+            Shape::Pair => "two registers",
+            Shape::Jump => "two registers and a target",
+            Shape::Client | Shape::Node => "an action",
+            Shape::OnTxn => "a transaction",
+            Shape::Lone | Shape::Plain => "nothing",
+        })
+    }
+}
+
+/// How a statement is written.
+#[derive(Clone, Copy)]
+pub struct Pattern<'a>(Form<'a>);
+
+impl fmt::Display for Pattern<'_> {
+    fn fmt<W: fmt::Write>(&self, f: &mut fmt::Formatter<W>) -> fmt::Result {
+        let (first, second) = (Bytes(self.0.first), Bytes(self.0.second));
+        match self.0.shape {
+            Shape::Row => f.write_str("row K V"),
+            Shape::Txn => f.write_str("txn T"),
+            Shape::Number => write!(f, "{first} rA N"),
+            Shape::Pair => write!(f, "{first} rA rB"),
+            Shape::Jump => write!(f, "{first} rA rB LABEL, or {first} rA rB @N"),
+            Shape::Lone => write!(f, "{first}"),
+            Shape::Client => f.write_str("C start, C begin T or C kill T"),
+            Shape::Node => write!(
+                f,
+                "{first} run T, {first} take, {first} push or {first} finish"
+            ),
+            Shape::OnTxn => write!(f, "{first} {second} T, or {first} {second} T x N"),
+            Shape::Plain => write!(f, "{first} {second}, or {first} {second} x N"),
+        }
+    }
+}

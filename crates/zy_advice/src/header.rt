@@ -1,0 +1,145 @@
+//! What is wrong with the head of a text, or with its end.
+
+use crate::above::Part;
+use crate::bytes::{Bytes, Quoted};
+use crate::culprit::head;
+use crate::meant::Meant;
+use crate::text::TextAdvice;
+use crate::unknown::begins_other_comment;
+use std::fmt;
+use zy_words::names::is;
+
+/// What a byte order mark is in UTF-8.
+const MARK: &[u8] = b"\xef\xbb\xbf";
+
+/// How a statement of the header is written.
+pub fn head_pattern(part: Part) -> &'static str {
+    match part {
+        Part::Header(0) => "zephyr 1 or zephyr 2",
+        Part::Header(1) => "cap N",
+        Part::Header(2) => "pages N",
+        _ => "rule held or rule loose",
+    }
+}
+
+/// Which statement of the text is due.
+fn ordinal(part: Part) -> &'static str {
+    match part {
+        Part::Header(0) => "first",
+        Part::Header(1) => "second",
+        Part::Header(2) => "third",
+        _ => "fourth",
+    }
+}
+
+/// What stands behind the word that a statement of the header begins with.
+fn head_takes(part: Part) -> &'static str {
+    match part {
+        Part::Header(0) => "zephyr takes one version",
+        Part::Header(1) => "cap takes one number",
+        Part::Header(2) => "pages takes one number",
+        _ => "rule takes one word",
+    }
+}
+
+impl TextAdvice<'_> {
+    /// Tells what is wrong with a line of the header.
+    pub(crate) fn tell_header<W: fmt::Write>(&self, f: &mut fmt::Formatter<W>) -> fmt::Result {
+        let part = self.above.part();
+        let pattern = head_pattern(part);
+        if self.line.number == 1 && self.input.starts_with(MARK) {
+            return f.write_str("a byte order mark stands before the text: save it without one");
+        }
+        if self.statement.bytes.trim_ascii_end().contains(&b'\r') {
+            return f.write_str("a CR ends no line: each line ends with LF");
+        }
+        if !is(self.statement.text(0), head(part).as_bytes()) {
+            return self.tell_other_head(f, part);
+        }
+        match (part, self.statement.count()) {
+            (Part::Header(0), 2) => write!(
+                f,
+                "there is no version {}: {pattern}",
+                Quoted(self.word())
+            ),
+            (Part::Header(3), 2) => write!(
+                f,
+                "there is no rule {}: {pattern}",
+                Quoted(self.word())
+            ),
+            _ => write!(f, "{}: {pattern}", head_takes(part)),
+        }
+    }
+
+    /// Tells what is to stand in the place of another word than the one that a line of the header begins with.
+    fn tell_other_head<W: fmt::Write>(&self, f: &mut fmt::Formatter<W>, part: Part) -> fmt::Result {
+        let (word, due) = (self.statement.text(0), head(part));
+        write!(
+            f,
+            "the {} statement is {}, and not {}",
+            ordinal(part),
+            head_pattern(part),
+            Quoted(word)
+        )?;
+        if begins_other_comment(word) {
+            return f.write_str(": a comment begins with ;");
+        }
+        if let Some(number) = word.strip_prefix(due.as_bytes()) {
+            if number.iter().all(|byte| byte.is_ascii_digit()) {
+                return write!(f, ": {due} {}, with a space between", Bytes(number));
+            }
+        }
+        match Meant::of(word, &[due]) {
+            Some(meant) => write!(f, ": {meant}"),
+            None => Ok(()),
+        }
+    }
+
+    /// Tells what is wrong where a byte is not UTF-8.
+    pub(crate) fn tell_not_text<W: fmt::Write>(&self, f: &mut fmt::Formatter<W>) -> fmt::Result {
+        if self.input.starts_with(b"\xff\xfe") || self.input.starts_with(b"\xfe\xff") {
+            return f.write_str("the text is UTF-16: save it as UTF-8");
+        }
+        write!(f, "{}: save the text as UTF-8", self.reason)
+    }
+
+    /// Tells what stands below the end.
+    pub(crate) fn tell_below_end<W: fmt::Write>(&self, f: &mut fmt::Formatter<W>) -> fmt::Result {
+        write!(f, "{}", self.reason)?;
+        if let Some(line) = self.above.end {
+            write!(f, ", which is line {line}")?;
+        }
+        match self.statement.text(0) {
+            b"steps" => write!(
+                f,
+                ": this is a listing, of which {} takes the lines through end",
+                self.command
+            ),
+            b"trace" => write!(
+                f,
+                ": this is a trace, of which {} takes the lines through end",
+                self.command
+            ),
+            _ => f.write_str(": only comments may stand there"),
+        }
+    }
+
+    /// Tells what is due where the text stops.
+    pub(crate) fn tell_no_end<W: fmt::Write>(&self, f: &mut fmt::Formatter<W>) -> fmt::Result {
+        write!(f, "{}", self.reason)?;
+        if self.input.is_empty() {
+            return f.write_str(": the input is empty");
+        }
+        match self.above.part() {
+            Part::Header(count) => write!(
+                f,
+                ": the next statement is {}",
+                head_pattern(Part::Header(count))
+            ),
+            Part::Program => f.write_str(
+                ": a program ends with commit or abort, and the text with end",
+            ),
+            _ => f.write_str(": write end as its last line"),
+        }
+    }
+}

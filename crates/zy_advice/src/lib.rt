@@ -1,0 +1,21 @@
+//! Words that help: of an input that is refused, what is wrong, what to write, and where. They are read from its bytes again, beside the
+//! reader that refused it, so nothing is proved of them but that each function is safe and ends. None of them takes memory.
+#![tactic(auto)]
+
+mod above;
+pub mod bytes;
+pub mod command;
+mod culprit;
+mod form;
+mod header;
+pub mod image;
+mod label;
+pub mod line;
+mod meant;
+mod order;
+mod place;
+mod program;
+mod programs;
+pub mod text;
+mod unknown;
+mod wording;

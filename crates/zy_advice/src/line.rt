@@ -1,0 +1,116 @@
+//! The lines of an input, and the words of a line.
+
+use zy_words::line::is_space;
+
+/// Whether a byte ends a line.
+pub fn is_line_feed(byte: &u8) -> bool {
+    *byte == b'\n'
+}
+
+/// Whether a byte parts words.
+fn is_gap(byte: &u8) -> bool {
+    is_space(*byte)
+}
+
+/// A line of an input, without its end, and its number, from 1.
+#[derive(Clone, Copy)]
+pub struct Line<'a> {
+    pub number: usize,
+    pub bytes: &'a [u8],
+}
+
+impl<'a> Line<'a> {
+    /// The line of this number; where the input has fewer, it is empty.
+    pub fn of(input: &'a [u8], number: usize) -> Line<'a> {
+        let bytes = input.split(is_line_feed).nth(number.saturating_sub(1));
+        Line {
+            number,
+            bytes: bytes.unwrap_or(&[]),
+        }
+    }
+
+    /// The line as far as its comment.
+    pub fn statement(self) -> Statement<'a> {
+        Statement::of(self.bytes)
+    }
+}
+
+/// The lines of an input above the one of this number.
+pub fn lines_above(input: &[u8], number: usize) -> &[u8] {
+    let mut rest = input;
+    for _ in 1..number {
+        let (_, below) = first_line(rest);
+        rest = below;
+    }
+    let front = input.get(..input.len().saturating_sub(rest.len()));
+    front.unwrap_or(input)
+}
+
+/// The line of this number, from 1, with its end; empty where the input has fewer.
+pub fn whole_line(input: &[u8], number: usize) -> &[u8] {
+    let above = lines_above(input, number);
+    let (line, _) = first_line(input.get(above.len()..).unwrap_or(&[]));
+    line
+}
+
+/// The first line of a text with its end, and what follows it.
+fn first_line(text: &[u8]) -> (&[u8], &[u8]) {
+    match text.iter().position(is_line_feed) {
+        Some(end) => text.split_at(end + 1),
+        None => (text, &[]),
+    }
+}
+
+/// A word of a line, and how many bytes stand in front of it.
+#[derive(Clone, Copy)]
+pub struct Word<'a> {
+    pub start: usize,
+    pub bytes: &'a [u8],
+}
+
+/// A line without its comment.
+#[derive(Clone, Copy)]
+pub struct Statement<'a> {
+    pub bytes: &'a [u8],
+}
+
+impl<'a> Statement<'a> {
+    /// What stands in front of a line's comment.
+    pub fn of(line: &'a [u8]) -> Statement<'a> {
+        let end = line.iter().position(|byte| *byte == b';');
+        let front = end.and_then(|end| line.get(..end));
+        Statement {
+            bytes: front.unwrap_or(line),
+        }
+    }
+
+    /// The word of this number, from 0.
+    pub fn word(self, number: usize) -> Option<Word<'a>> {
+        let mut start = 0usize;
+        let mut count = 0usize;
+        for bytes in self.bytes.split(is_gap) {
+            if !bytes.is_empty() {
+                if count == number {
+                    return Some(Word { start, bytes });
+                }
+                count = count.saturating_add(1);
+            }
+            start = start.saturating_add(bytes.len()).saturating_add(1);
+        }
+        None
+    }
+
+    /// The bytes of the word of this number; none where there are fewer.
+    pub fn text(self, number: usize) -> &'a [u8] {
+        match self.word(number) {
+            Some(word) => word.bytes,
+            None => &[],
+        }
+    }
+
+    /// How many words there are.
+    pub fn count(self) -> usize {
+        let words = self.bytes.split(is_gap);
+        words.filter(|word| !word.is_empty()).count()
+    }
+}

@@ -1,0 +1,100 @@
+//! What a mistyped word was meant to be.
+
+use std::fmt;
+
+/// The word that another one was meant to be.
+#[derive(Clone, Copy)]
+pub enum Meant<'a> {
+    /// This one, in small letters.
+    Small(&'a str),
+    /// This one, from which it differs by one mistake.
+    Near(&'a str),
+}
+
+impl<'a> Meant<'a> {
+    /// Which of these words is meant, if any is.
+    pub fn of(word: &[u8], known: &[&'a str]) -> Option<Meant<'a>> {
+        for name in known {
+            if is_same_word(word, name.as_bytes()) {
+                return Some(Meant::Small(name));
+            }
+        }
+        for name in known {
+            if is_near(word, name.as_bytes()) {
+                return Some(Meant::Near(name));
+            }
+        }
+        None
+    }
+}
+
+impl fmt::Display for Meant<'_> {
+    fn fmt<W: fmt::Write>(&self, f: &mut fmt::Formatter<W>) -> fmt::Result {
+        match self {
+            Meant::Small(name) => write!(f, "write it in small letters, {name}"),
+            Meant::Near(name) => write!(f, "did you mean {name}"),
+        }
+    }
+}
+
+/// Whether two words are the same but for capital letters.
+fn is_same_word(word: &[u8], other: &[u8]) -> bool {
+    let mut pairs = word.iter().zip(other.iter());
+    word.len() == other.len()
+        && pairs.all(|(a, b)| a.to_ascii_lowercase() == b.to_ascii_lowercase())
+}
+
+/// Whether a word may be a mistyped other one.
+pub fn is_alike(word: &[u8], other: &[u8]) -> bool {
+    is_same_word(word, other) || is_near(word, other)
+}
+
+/// Whether a word of two letters or more differs from another by one mistake: a letter that is missing, too many or another, or two that
+/// changed places.
+fn is_near(word: &[u8], other: &[u8]) -> bool {
+    if word.len() < 2 || other.len() < 2 {
+        return false;
+    }
+    let front = common_front(word, other);
+    let word = word.get(front..).unwrap_or(&[]);
+    let other = other.get(front..).unwrap_or(&[]);
+    let back = common_back(word, other);
+    let word = word.get(..word.len().saturating_sub(back));
+    let other = other.get(..other.len().saturating_sub(back));
+    is_one_mistake(word.unwrap_or(&[]), other.unwrap_or(&[]))
+}
+
+/// How many bytes two words begin with in common.
+fn common_front(word: &[u8], other: &[u8]) -> usize {
+    let mut count = 0usize;
+    for (byte, there) in word.iter().zip(other.iter()) {
+        if byte != there {
+            return count;
+        }
+        count = count.saturating_add(1);
+    }
+    count
+}
+
+/// How many bytes two words end with in common.
+fn common_back(word: &[u8], other: &[u8]) -> usize {
+    let mut count = 0usize;
+    for (byte, there) in word.iter().rev().zip(other.iter().rev()) {
+        if byte != there {
+            return count;
+        }
+        count = count.saturating_add(1);
+    }
+    count
+}
+
+/// Whether what differs of two words is one mistake.
+fn is_one_mistake(word: &[u8], other: &[u8]) -> bool {
+    match (word, other) {
+        ([_], []) => true,
+        ([], [_]) => true,
+        ([_], [_]) => true,
+        ([a, b], [c, d]) => a == d && b == c,
+        _ => false,
+    }
+}

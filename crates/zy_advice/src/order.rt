@@ -1,0 +1,58 @@
+//! What is wrong with the order of statements, and with how many there are.
+
+use crate::above::Part;
+use crate::culprit::HEADS;
+use crate::text::TextAdvice;
+use std::fmt;
+use zy_words::names::is;
+
+impl TextAdvice<'_> {
+    /// Tells where a statement may stand that may not stand here.
+    pub(crate) fn tell_misplaced<W: fmt::Write>(&self, f: &mut fmt::Formatter<W>) -> fmt::Result {
+        let word = self.word();
+        write!(f, "{}: ", self.reason)?;
+        if HEADS.iter().any(|head| is(word, head.as_bytes())) {
+            return f.write_str("zephyr, cap, pages and rule stand once, at the head of the text");
+        }
+        if is(word, b"row") {
+            return f.write_str("rows stand above the first program");
+        }
+        if is(word, b"txn") {
+            f.write_str("programs stand above the first choice")?;
+        } else {
+            f.write_str("an instruction or a label stands in a program")?;
+        }
+        match self.above.part() {
+            Part::Choices(line) if is(word, b"txn") => write!(f, ", which is line {line}"),
+            Part::Choices(line) => write!(f, ", above the first choice, which is line {line}"),
+            _ => f.write_str(", below its line txn T"),
+        }
+    }
+
+    /// Tells that a row needs a page too many.
+    pub(crate) fn tell_page_count<W: fmt::Write>(&self, f: &mut fmt::Formatter<W>) -> fmt::Result {
+        let cap = self.above.cap;
+        let rows = cap.saturating_add(1) / 2;
+        write!(
+            f,
+            "{}: a page opens with (cap + 1) / 2 rows, here {rows}: raise pages or cap",
+            self.reason
+        )
+    }
+}
+
+/// Tells that the key of a row is not above the last one.
+pub(crate) fn tell_not_above<W: fmt::Write>(
+    f: &mut fmt::Formatter<W>,
+    key: u16,
+    last: u16,
+) -> fmt::Result {
+    if key == last {
+        write!(f, "the key {key} has a row already: each key has one")
+    } else {
+        write!(
+            f,
+            "the key {key} is not above the last one, {last}: rows stand in the order of their keys"
+        )
+    }
+}

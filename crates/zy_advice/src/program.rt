@@ -1,0 +1,147 @@
+//! The programs of a text.
+
+use crate::bytes::Bytes;
+use crate::label::{label, operation_at, target};
+use crate::line::{Line, Statement, is_line_feed};
+use crate::meant::is_alike;
+use std::fmt;
+use zy_isa::scenario::MAX_TXNS;
+use zy_words::names::{is, is_numeral};
+
+/// A program of a text.
+#[derive(Clone, Copy)]
+pub struct Program<'a> {
+    number: usize,
+    /// The word behind its `txn`.
+    word: &'a [u8],
+    /// The line of its `txn`.
+    pub line: usize,
+    /// The lines below that.
+    below: &'a [u8],
+}
+
+impl<'a> Program<'a> {
+    /// The program of this number in some lines, with which an input begins.
+    pub fn of(lines: &'a [u8], number: usize) -> Option<Program<'a>> {
+        let mut count = 0usize;
+        let mut start = 0usize;
+        for (index, bytes) in lines.split(is_line_feed).enumerate() {
+            start = start.saturating_add(bytes.len()).saturating_add(1);
+            let statement = Statement::of(bytes);
+            if is(statement.text(0), b"txn") {
+                if count == number {
+                    return Some(Program {
+                        number,
+                        word: statement.text(1),
+                        line: index.saturating_add(1),
+                        below: lines.get(start..).unwrap_or(&[]),
+                    });
+                }
+                count = count.saturating_add(1);
+            }
+        }
+        None
+    }
+
+    /// The program of this name.
+    pub fn named(lines: &'a [u8], name: &[u8]) -> Option<Program<'a>> {
+        for number in 0..MAX_TXNS {
+            let program = Program::of(lines, number)?;
+            if is(program.word, name) {
+                return Some(program);
+            }
+        }
+        None
+    }
+
+    /// The program whose name this word was meant to be.
+    pub fn meant(lines: &'a [u8], word: &[u8]) -> Option<Program<'a>> {
+        for number in 0..MAX_TXNS {
+            let program = Program::of(lines, number)?;
+            if !is_numeral(program.word) && is_alike(word, program.word) {
+                return Some(program);
+            }
+        }
+        None
+    }
+
+    /// The number of a line in the program, by its place below `txn`.
+    fn number_at(self, index: usize) -> usize {
+        self.line.saturating_add(1).saturating_add(index)
+    }
+
+    /// How many instructions it has.
+    pub fn count(self) -> usize {
+        let lines = self.below.split(is_line_feed);
+        lines.filter(|line| has_instruction(line)).count()
+    }
+
+    /// The line of its instruction of this number, from 0.
+    pub fn instruction(self, number: usize) -> Option<Line<'a>> {
+        let mut count = 0usize;
+        for (index, bytes) in self.below.split(is_line_feed).enumerate() {
+            if has_instruction(bytes) {
+                if count == number {
+                    return Some(Line {
+                        number: self.number_at(index),
+                        bytes,
+                    });
+                }
+                count = count.saturating_add(1);
+            }
+        }
+        None
+    }
+
+    /// The number of the line that has this label.
+    pub fn line_of_label(self, name: &[u8]) -> Option<usize> {
+        for (index, bytes) in self.below.split(is_line_feed).enumerate() {
+            if label(Statement::of(bytes)) == Some(name) {
+                return Some(self.number_at(index));
+            }
+        }
+        None
+    }
+
+    /// The first line that has a label for its target that is not there, and the label.
+    pub fn missing_label(self) -> Option<(Line<'a>, &'a [u8])> {
+        for (index, bytes) in self.below.split(is_line_feed).enumerate() {
+            if let Some(name) = target(Statement::of(bytes)) {
+                if self.line_of_label(name).is_none() {
+                    let number = self.number_at(index);
+                    return Some((Line { number, bytes }, name));
+                }
+            }
+        }
+        None
+    }
+
+    /// The label that a word was meant to be.
+    pub fn meant_label(self, word: &[u8]) -> Option<&'a [u8]> {
+        for bytes in self.below.split(is_line_feed) {
+            if let Some(name) = label(Statement::of(bytes)) {
+                if is_alike(word, name) {
+                    return Some(name);
+                }
+            }
+        }
+        None
+    }
+}
+
+/// Whether a line of a program has an instruction.
+fn has_instruction(line: &[u8]) -> bool {
+    let statement = Statement::of(line);
+    statement.word(operation_at(statement)).is_some()
+}
+
+/// Its number, and its name if it has one.
+impl fmt::Display for Program<'_> {
+    fn fmt<W: fmt::Write>(&self, f: &mut fmt::Formatter<W>) -> fmt::Result {
+        write!(f, "program {}", self.number)?;
+        if !is_numeral(self.word) {
+            write!(f, " ({})", Bytes(self.word))?;
+        }
+        Ok(())
+    }
+}

@@ -1,0 +1,165 @@
+//! Why a text is refused.
+
+use crate::above::Above;
+use crate::command::{Command, ForImage};
+use crate::culprit::culprit;
+use crate::form::Form;
+use crate::image::is_image;
+use crate::label::operation_at;
+use crate::line::{Line, Statement, Word, lines_above};
+use crate::order::tell_not_above;
+use crate::place::Place;
+use crate::unknown::Unknown;
+use std::fmt;
+use std::str::from_utf8;
+use zy_asm::faults::{Reason, Refusal};
+use zy_isa::program::ProgFault;
+
+/// Why a text is refused: what is wrong, what to write, and where.
+#[derive(Clone, Copy)]
+pub struct TextAdvice<'a> {
+    pub(crate) command: Command,
+    pub(crate) input: &'a [u8],
+    pub(crate) reason: Reason,
+    /// The lines above the refused one.
+    pub(crate) lines: &'a [u8],
+    pub(crate) above: Above,
+    pub(crate) line: Line<'a>,
+    pub(crate) statement: Statement<'a>,
+}
+
+impl<'a> TextAdvice<'a> {
+    /// Why this command refuses this input.
+    pub fn of(command: Command, input: &'a [u8], refusal: Refusal) -> TextAdvice<'a> {
+        let lines = lines_above(input, refusal.line);
+        let line = Line::of(input, refusal.line);
+        TextAdvice {
+            command,
+            input,
+            reason: refusal.reason,
+            lines,
+            above: Above::of(lines),
+            line,
+            statement: line.statement(),
+        }
+    }
+}
+
+impl fmt::Display for TextAdvice<'_> {
+    fn fmt<W: fmt::Write>(&self, f: &mut fmt::Formatter<W>) -> fmt::Result {
+        if is_image(self.input) {
+            return write!(f, "{}", ForImage(self.command));
+        }
+        self.tell(f)?;
+        match self.place() {
+            Some(place) => write!(f, " ({place})"),
+            None => Ok(()),
+        }
+    }
+}
+
+impl<'a> TextAdvice<'a> {
+    /// The form of the line, if its first words are known.
+    pub(crate) fn form(&self) -> Option<Form<'a>> {
+        Form::of(self.above.version, self.statement)
+    }
+
+    /// The number of the word at fault in its line.
+    pub(crate) fn culprit(&self) -> usize {
+        culprit(self.statement, self.above, self.reason)
+    }
+
+    /// The word at fault.
+    pub(crate) fn word(&self) -> &'a [u8] {
+        self.statement.text(self.culprit())
+    }
+
+    /// Tells what is wrong, and what to write.
+    fn tell<W: fmt::Write>(&self, f: &mut fmt::Formatter<W>) -> fmt::Result {
+        match self.reason {
+            Reason::NotTheHeader => self.tell_header(f),
+            Reason::NotText => self.tell_not_text(f),
+            Reason::NotKnown(_) => write!(
+                f,
+                "{}",
+                Unknown {
+                    statement: self.statement,
+                    at: self.culprit(),
+                    above: self.above
+                }
+            ),
+            Reason::NotAName(_) => self.tell_no_name(f),
+            Reason::NotAnInstr(_) => self.tell_no_instruction(f),
+            Reason::WordCount => self.tell_count(f),
+            Reason::NotDigits(_) | Reason::OutOfRange { .. } => self.tell_number(f),
+            Reason::Misplaced => self.tell_misplaced(f),
+            Reason::BelowEnd => self.tell_below_end(f),
+            Reason::NoEnd => self.tell_no_end(f),
+            _ => self.tell_of_others(f),
+        }
+    }
+
+    /// Tells what is wrong with a line that is well formed by itself.
+    fn tell_of_others<W: fmt::Write>(&self, f: &mut fmt::Formatter<W>) -> fmt::Result {
+        match self.reason {
+            Reason::NotAbove { key, last } => tell_not_above(f, key, last),
+            Reason::NoTransaction { number, .. } => {
+                write!(f, "there is no transaction {number}: ")?;
+                self.tell_programs(f)
+            }
+            Reason::NoName(_) => self.tell_no_program_of_name(f),
+            Reason::NotOwnNumber { own, .. } => write!(f, "{}: txn {own}", self.reason),
+            Reason::NameTwice(_) => self.tell_name_twice(f),
+            Reason::NoLabel(_) => self.tell_no_label(f),
+            Reason::LabelTwice(_) => self.tell_label_twice(f),
+            Reason::NoProgram { fault, .. } => self.tell_no_program(f, fault),
+            Reason::PageCount { .. } => self.tell_page_count(f),
+            Reason::InstrCount => match self.program() {
+                Some(program) => write!(f, "{}, and {program} has them already", self.reason),
+                None => write!(f, "{}", self.reason),
+            },
+            _ => write!(f, "{}", self.reason),
+        }
+    }
+
+    /// Where the fault stands.
+    fn place(&self) -> Option<Place<'a>> {
+        match self.reason {
+            Reason::NoEnd | Reason::NoMemory => None,
+            Reason::NotText => self.wrong_byte(),
+            Reason::NoLabel(_) => {
+                let (line, _) = self.program()?.missing_label()?;
+                Place::word_elsewhere(line, operation_at(line.statement()).saturating_add(3))
+            }
+            Reason::NoProgram { fault, .. } => self.place_in_program(fault),
+            _ => Place::word(self.line, self.culprit()),
+        }
+    }
+
+    /// The first byte that is not UTF-8.
+    fn wrong_byte(&self) -> Option<Place<'a>> {
+        let Err(error) = from_utf8(self.input) else {
+            return None;
+        };
+        let start = error.valid_up_to().saturating_sub(self.lines.len());
+        let rest = self.line.bytes.get(start..)?;
+        let bytes = rest.get(..1)?;
+        Some(Place::of(self.line.bytes, Word { start, bytes }))
+    }
+
+    /// The instruction for which the last program is none, or its `txn`.
+    fn place_in_program(&self, fault: ProgFault) -> Option<Place<'a>> {
+        let program = self.program()?;
+        match fault {
+            ProgFault::Target(at) => {
+                let line = program.instruction(usize::from(at))?;
+                Place::word_elsewhere(line, operation_at(line.statement()).saturating_add(3))
+            }
+            ProgFault::NoEnd => {
+                let line = program.instruction(program.count().saturating_sub(1))?;
+                Place::word_elsewhere(line, operation_at(line.statement()))
+            }
+            _ => Place::word_elsewhere(Line::of(self.input, program.line), 0),
+        }
+    }
+}
