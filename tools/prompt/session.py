@@ -107,9 +107,10 @@ class Session:
             found.group(), self.run.names[int(found.group(2))]])), line, count=1)
 
     def find(self, words):
-        """Goes to the next step whose line has these words, from the first one on where there is none above."""
+        """Goes to the next step whose line has these words, or else their letters; from the first one on where there is none above."""
         lines = [' %s ' % self.named(step.line) for step in self.run.steps]
         hits = [number for number, line in enumerate(lines, 1) if ' %s ' % words in line]
+        hits = hits or [number for number, line in enumerate(lines, 1) if words in line]
         if not hits:
             raise Fault('no step has %s' % words)
         above = [number for number in hits if number > self.position]
