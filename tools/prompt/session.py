@@ -118,11 +118,11 @@ class Session:
         return wrapped + self.go((above or hits)[0]) + self.here()
 
     def explain(self, words):
-        """What an outcome means, and the lines of the step table that give it."""
+        """What an outcome means, and the lines of the step table that give it; or a reason of an abort, or a mode."""
         outcome = words or (self.run.steps[self.position - 1].outcome if self.position else '')
         found = outcomes.explained(outcome)
         if not found:
-            raise Fault('%s: no outcome; docs/formats.md has them all' % outcome if outcome else 'no step is done; explain OUTCOME')
+            raise Fault('%s: no outcome, reason or mode; docs/formats.md has them all' % outcome if outcome else 'no step is done; explain OUTCOME')
         return found
 
     def number_of(self, word):
