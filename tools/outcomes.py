@@ -79,8 +79,20 @@ def words_in(outcome):
     return [word for word in outcome.split(' ! ')[0].split() if len(word) > 1 and not word.isdigit()]
 
 
-def explained(outcome):
-    """What an outcome means, and each line of the step table that gives it; nothing for what is no outcome."""
+def explained(words):
+    """What an outcome, the reason of an abort or a mode means; nothing for what is none of them."""
+    return explained_outcome(words) or explained_outcome('aborted ' + words) or explained_mode(words)
+
+
+def explained_mode(mode):
+    """What docs/formats.md says of a mode."""
+    with open(FORMATS, encoding='utf-8') as file:
+        rows = rows_of(file.read(), '| Mode | Meaning |')
+        return [plain('%s: %s' % row) for row in map(tuple, rows) if row[0] == '`%s`' % mode]
+
+
+def explained_outcome(outcome):
+    """What an outcome means, and each line of the step table that gives it."""
     wanted = words_in(outcome)
     if not wanted:
         return []

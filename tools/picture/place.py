@@ -77,7 +77,8 @@ class Place:
 def repeats(top, bottom):
     """The heights of the labels of something long: its top, and between two rows at each thirtieth row of the picture."""
     each = 30 * ROW
-    return [top] + [y + ROW + 3 for y in range(math.ceil((top + 2 * ROW) / each) * each, max(0, int(bottom)), each)]
+    between = [y + ROW + 3 for y in range(math.ceil((top + 2 * ROW) / each) * each, max(0, int(bottom)), each)]
+    return [top] + [y for y in between if y < bottom]
 
 
 def slots_of(lives, last):

@@ -49,5 +49,6 @@ def differences(run):
 
 def verdict_line(run, differing):
     """The verdict, and the first rows that differ."""
-    rows = ', '.join('row %s is %s, in the serial run %s' % row for row in differing[:3])
-    return run.verdict + (': ' + rows if rows else '')
+    rows = ['row %s is %s, in the serial run %s' % row for row in differing[:3]]
+    more = ['and %d more' % (len(differing) - 3)] if len(differing) > 3 else []
+    return run.verdict + (': ' if rows else '') + '; '.join(rows + more)

@@ -107,9 +107,10 @@ class Session:
             found.group(), self.run.names[int(found.group(2))]])), line, count=1)
 
     def find(self, words):
-        """Goes to the next step whose line has these words, from the first one on where there is none above."""
+        """Goes to the next step whose line has these words, or else their letters; from the first one on where there is none above."""
         lines = [' %s ' % self.named(step.line) for step in self.run.steps]
         hits = [number for number, line in enumerate(lines, 1) if ' %s ' % words in line]
+        hits = hits or [number for number, line in enumerate(lines, 1) if words in line]
         if not hits:
             raise Fault('no step has %s' % words)
         above = [number for number in hits if number > self.position]
@@ -117,11 +118,11 @@ class Session:
         return wrapped + self.go((above or hits)[0]) + self.here()
 
     def explain(self, words):
-        """What an outcome means, and the lines of the step table that give it."""
+        """What an outcome means, and the lines of the step table that give it; or a reason of an abort, or a mode."""
         outcome = words or (self.run.steps[self.position - 1].outcome if self.position else '')
         found = outcomes.explained(outcome)
         if not found:
-            raise Fault('%s: no outcome; docs/formats.md has them all' % outcome if outcome else 'no step is done; explain OUTCOME')
+            raise Fault('%s: no outcome, reason or mode; docs/formats.md has them all' % outcome if outcome else 'no step is done; explain OUTCOME')
         return found
 
     def number_of(self, word):
