@@ -20,7 +20,8 @@ def mermaid(picture, part):
             lines += mermaid_row(run, first, last)
     lines += ['%s-x%s: %s stays in the link' % (*message.link, message.text) for message in run.messages
               if part[0] <= message.sent <= part[1] and (message.taken or part[1] + 1) > part[1]]
-    lines += ['Note over C,B: ' + picture.verdict] if part[1] == len(run.steps) else []
+    # To Mermaid a semicolon ends a line.
+    lines += ['Note over C,B: ' + picture.verdict.replace(';', ',')] if part[1] == len(run.steps) else []
     made = 'sequenceDiagram\n' + ''.join('    %s\n' % line for line in lines)
     if len(made) > MOST:
         print('zview: Mermaid draws at most %d letters, and these are %d: try --steps' % (MOST, len(made)), file=sys.stderr)
