@@ -1,11 +1,15 @@
 -- What a search keeps, and what each of its parts adds.
-use Rattle.std.specs.Prelude.{ℕ, ◌≡◌, ◌≤◌, ◌<◌, ◌+◌, List, [], ◌∷◌, ◌++◌, true, length, slice_index_or}
+use Rattle.std.specs.Prelude.{ℕ, ◌≡◌, ◌≤◌, ◌<◌, ◌+◌, List, [], ◌∷◌, ◌++◌, true, length, slice_index_or, IfSome}
+use Rattle.std.specs.List.{All}
 use Rattle.zy_isa.specs.declared.choice.Choice.{Choice}
 use Rattle.zy_table.specs.State.{State}
 use Rattle.zy_table.specs.Play.{step}
 use Rattle.zy_machine.specs.Histories.{History}
 use Rattle.zy_search.specs.declared.sought.Sought.{Sought}
 use Rattle.zy_search.specs.declared.plan.Plan.{Plan}
+use Rattle.zy_search.specs.declared.twin.Twin.{Twin}
+use Rattle.zy_search.specs.declared.shelf.Spot.{Spot}
+use Rattle.zy_search.specs.declared.shelf.Shelf.{Shelf}
 use Rattle.zy_search.specs.declared.answer.Met.{Met}
 use Rattle.zy_search.specs.declared.answer.Met.TheVariants as met
 use Rattle.zy_search.specs.declared.answer.Expanded.{Expanded}
@@ -53,23 +57,38 @@ IsExpanded h q paths i =
 abbrev pub AreExpanded : History → Sought → List (List Choice) → ℕ → Type 0
 AreExpanded h q paths n = (i : ℕ) → i < n → IsExpanded h q paths i
 
--- a machine that has gone along the path at a place
+-- a machine where the path at a place leads: it has made its choices, and may have made more that nothing came of
 pub record IsHere (h : History) (paths : List (List Choice)) (at : ℕ) (m : History) : Type 0 where
   pub scenario : m.scenario ≡ h.scenario
   pub state : m.state ≡ reached h (path_at paths at)
-  pub entries : length m.entries ≡ length h.entries + length_at paths at
+  pub entries : length h.entries + length_at paths at ≤ length m.entries
 
--- another machine in the same state
+-- another machine in the same state, which has made no fewer choices
 pub record IsTwin (m twin : History) : Type 0 where
   pub scenario : twin.scenario ≡ m.scenario
   pub state : twin.state ≡ m.state
+  pub entries : length m.entries ≤ length twin.entries
+
+-- one that is in the same state if it says so
+pub record IsSecond (m : History) (twin : Twin) : Type 0 where
+  pub scenario : twin.machine.scenario ≡ m.scenario
+  pub back : twin.is_back ≡ true → IsTwin m twin.machine
 
 -- a machine that has made one choice more
 pub record IsNext (h : History) (paths : List (List Choice)) (at : ℕ) (c : Choice) (m : History) : Type 0 where
   pub scenario : m.scenario ≡ h.scenario
   pub state : m.state ≡ (step h.scenario c (reached h (path_at paths at))).after
-  pub room : length h.entries + length_at paths at < 4096
-  pub entries : length m.entries < 4096
+  pub longer : length h.entries + length_at paths at < length m.entries
+  pub room : length m.entries < 4096
+
+-- a machine of the scenario, where the path leads that it names
+pub record IsSpot (h : History) (paths : List (List Choice)) (spot : Spot) : Type 0 where
+  pub scenario : spot.machine.scenario ≡ h.scenario
+  pub here : IfSome spot.at (λ at. (at < length paths) × IsHere h paths at spot.machine)
+
+pub record IsShelf (h : History) (paths : List (List Choice)) (shelf : Shelf) : Type 0 where
+  pub spots : All (IsSpot h paths) shelf.spots.items
+  pub spare : shelf.spare.scenario ≡ h.scenario
 
 -- the paths of old stand at their places in new
 pub record Grows (old new : List (List Choice)) : Type 0 where

@@ -3,15 +3,17 @@ ghost use Rattle.std.specs.Prelude.{◌≡◌, ◌≤◌, ◌<◌, ◌+◌, [], 
 ghost use Rattle.zy_search.specs.declared.sought.Wanted.TheVariants.{Stuck};
 ghost use Rattle.zy_search.specs.Choices.{considered as considered_spec};
 ghost use Rattle.zy_search.specs.Searches.{Shows, IsAnswer};
-ghost use Rattle.zy_search.specs.Visits.{length_at, IsWhole, Visits};
+ghost use Rattle.zy_search.specs.Visits.{length_at, IsWhole, IsShelf, Visits};
 
 use crate::answer::{Answer, Expanded, Report};
 use crate::choices::considered;
 use crate::digest::digest;
 use crate::expand::expand;
 use crate::plan::Plan;
+use crate::shelf::Shelf;
 use crate::shows::shows;
 use crate::sought::{Sought, Wanted};
+use crate::twin::Twin;
 use crate::visited::Visited;
 use std::alloc::{AllocError, Global};
 use zy_isa::choice::Choice;
@@ -31,23 +33,23 @@ fn spent_at(alloc: Global, visited: &Visited, at: u32) -> Result<Answer, AllocEr
 fn expand_all(
     plan: &Plan,
     visited: &mut Visited,
-    other: &mut Machine,
+    shelf: &mut Shelf,
     here: &mut Machine,
-    twin: &mut Machine,
+    twin: &mut Twin,
 ) -> Result<Answer, Fault>
     requires whole { IsWhole plan.now }
     requires visits { Visits plan.now.start plan.now.sought visited.old }
     requires first { visited.old ≡ [] ∷ [] }
     requires here { here.old.scenario ≡ plan.now.start.scenario }
-    requires twin { twin.old.scenario ≡ plan.now.start.scenario }
-    requires same { other.old.scenario ≡ plan.now.start.scenario }
+    requires twin { twin.old.machine.scenario ≡ plan.now.start.scenario }
+    requires shelf { IsShelf plan.now.start visited.old shelf.old }
     ensures { IfOk result (IsAnswer plan.now.start plan.now.sought) }
 {
     for at in 0..u32::MAX {
         if visited.len() <= at as usize {
             return Ok(Answer::Nowhere);
         }
-        match expand(plan, visited, other, at, here, twin)? {
+        match expand(plan, visited, shelf, at, here, twin)? {
             Expanded::Whole => {}
             Expanded::Found(path) => return Ok(Answer::Found(path)),
             Expanded::Spent => return spent_at(plan.alloc, visited, at),
@@ -76,45 +78,34 @@ fn report(alloc: Global, visited: &Visited, answer: Answer) -> Result<Report, Al
     })
 }
 
-/// Looks at the states that choices lead to, with two machines to do it by.
+/// Looks at the states that choices lead to, with a machine to do it by.
 fn look_by(
     plan: &Plan,
     visited: &mut Visited,
-    other: &mut Machine,
+    shelf: &mut Shelf,
     here: &mut Machine,
 ) -> Result<Answer, Fault>
     requires whole { IsWhole plan.now }
     requires visits { Visits plan.now.start plan.now.sought visited.old }
     requires first { visited.old ≡ [] ∷ [] }
     requires here { here.old.scenario ≡ plan.now.start.scenario }
-    requires same { other.old.scenario ≡ plan.now.start.scenario }
+    requires shelf { IsShelf plan.now.start visited.old shelf.old }
     ensures { IfOk result (IsAnswer plan.now.start plan.now.sought) }
 {
-    let mut twin = plan.start.copy(plan.alloc)?;
-    expand_all(plan, visited, other, here, &mut twin)
+    let mut twin = Twin::new(plan.alloc, &plan.start)?;
+    expand_all(plan, visited, shelf, here, &mut twin)
 }
 
-/// The same, with one machine.
-fn look_from(plan: &Plan, visited: &mut Visited, other: &mut Machine) -> Result<Answer, Fault>
+/// The same, without a machine.
+fn look(plan: &Plan, visited: &mut Visited, shelf: &mut Shelf) -> Result<Answer, Fault>
     requires whole { IsWhole plan.now }
     requires visits { Visits plan.now.start plan.now.sought visited.old }
     requires first { visited.old ≡ [] ∷ [] }
-    requires same { other.old.scenario ≡ plan.now.start.scenario }
+    requires shelf { IsShelf plan.now.start visited.old shelf.old }
     ensures { IfOk result (IsAnswer plan.now.start plan.now.sought) }
 {
     let mut here = plan.start.copy(plan.alloc)?;
-    look_by(plan, visited, other, &mut here)
-}
-
-/// The same, where the state of the start does not show it.
-fn look(plan: &Plan, visited: &mut Visited) -> Result<Answer, Fault>
-    requires whole { IsWhole plan.now }
-    requires visits { Visits plan.now.start plan.now.sought visited.old }
-    requires first { visited.old ≡ [] ∷ [] }
-    ensures { IfOk result (IsAnswer plan.now.start plan.now.sought) }
-{
-    let mut other = plan.start.copy(plan.alloc)?;
-    look_from(plan, visited, &mut other)
+    look_by(plan, visited, shelf, &mut here)
 }
 
 /// Whether what is looked for is seen by steps alone.
@@ -125,18 +116,36 @@ fn is_seen_by_steps(wanted: Wanted) -> bool
 }
 
 /// Looks at the state of the start, and then at those that choices lead to.
-fn search_by(plan: &Plan, visited: &mut Visited) -> Result<Answer, Fault>
+fn look_first(plan: &Plan, visited: &mut Visited, shelf: &mut Shelf) -> Result<Answer, Fault>
     requires whole { IsWhole plan.now }
     requires first { visited.old ≡ [] ∷ [] }
+    requires spots { shelf.old.spots.items ≡ [] }
+    requires spare { shelf.old.spare.scenario ≡ plan.now.start.scenario }
     ensures { IfOk result (IsAnswer plan.now.start plan.now.sought) }
 {
     if MAX_CHOICES <= plan.start.len() && is_seen_by_steps(plan.sought.wanted) {
         return Ok(Answer::Spent(0));
     }
-    if shows(plan.alloc, plan.sought, &plan.choices, &plan.start)? {
+    if shows(
+        plan.alloc,
+        plan.sought,
+        &plan.choices,
+        &plan.start,
+        &mut shelf.spare,
+    )? {
         return Ok(Answer::Found(Vec::new(plan.alloc)));
     }
-    look(plan, visited)
+    look(plan, visited, shelf)
+}
+
+/// The same, with no machine on the shelf yet.
+fn search_by(plan: &Plan, visited: &mut Visited) -> Result<Answer, Fault>
+    requires whole { IsWhole plan.now }
+    requires first { visited.old ≡ [] ∷ [] }
+    ensures { IfOk result (IsAnswer plan.now.start plan.now.sought) }
+{
+    let mut shelf = Shelf::new(plan.alloc, &plan.start)?;
+    look_first(plan, visited, &mut shelf)
 }
 
 /// The choices that a search considers from a machine.

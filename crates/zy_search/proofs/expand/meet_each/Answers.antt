@@ -61,7 +61,7 @@ returns-in-Shown c =
       well = found c.args.plan.now.start c.args.plan.now.sought c.args.visited.now c.loop-i.visited c.meet.new.visited c.args.at d c.in_ok-path-in-Shown.path.items c.requires.visits c.loop-i.invariant.grows m.1 c.requires.at
           (omega (arith, c.requires.here.entries, c.requires.room)) one m.0 c.in_ok-path-in-Shown.ensures;
       twin = c.in_ok-meet.ensures.twin.scenario ∙ c.requires.here.scenario;
-      same = c.in_ok-meet.ensures.same;
+      shelf = c.in_ok-meet.ensures.shelf;
     }
 
 -- what the choices before the i-th have led to, and what that has
@@ -85,7 +85,7 @@ loop-i-preserved c =
       near = n.near;
       grows = grows_on c.args.visited.now c.loop-i.visited c.meet.new.visited c.loop-i.invariant.grows n.grows;
       twin = c.in_ok-meet.ensures.twin;
-      same = c.in_ok-meet.ensures.same;
+      shelf = c.in_ok-meet.ensures.shelf;
       known = λ j lt. next c.args.plan.now.start c.args.plan.now.sought c.args.visited.now c.loop-i.visited c.meet.new.visited c.args.plan.now.choices.items c.args.at c.loop-i.i j (nat_lt j c.loop-i.i) refl c.requires.at c.loop-i.invariant.grows n c.loop-i.invariant.known lt;
     }
 
@@ -111,5 +111,5 @@ returns c =
             c.loop-i.invariant.grows c.loop-i.invariant.known;
       };
       twin = c.loop-i.invariant.twin.scenario ∙ c.requires.here.scenario;
-      same = c.loop-i.invariant.same;
+      shelf = c.loop-i.invariant.shelf;
     }

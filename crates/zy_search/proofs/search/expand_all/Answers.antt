@@ -17,7 +17,7 @@ loop-at-init c =
       near = rw first (λ _. near_first);
       here = c.requires.here;
       twin = c.requires.twin;
-      same = c.requires.same;
+      shelf = c.requires.shelf;
     }
 
 pub returns-then-len-at : goal.returns-then-len-at
@@ -51,7 +51,7 @@ loop-at-preserved c =
       near = λ lt. near_next c.args.plan.now.start c.args.plan.now.sought c.expand.new.visited c.loop-at.at x.visits x.near lt;
       here = c.in_ok-expand.ensures.here;
       twin = c.in_ok-expand.ensures.twin;
-      same = c.in_ok-expand.ensures.same;
+      shelf = c.in_ok-expand.ensures.shelf;
     }
 
 pub returns : goal.returns

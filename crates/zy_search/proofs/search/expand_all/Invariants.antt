@@ -1,5 +1,5 @@
 use Rattle.std.proofs.Common.{◌≡◌, ◌<◌, ◌≤◌, length}
-use Rattle.zy_search.specs.Visits.{Visits, AreNear, AreExpanded}
+use Rattle.zy_search.specs.Visits.{Visits, AreNear, AreExpanded, IsShelf}
 use Rattle.zy_search.proofs.search.expand_all.Given as goal
 
 abbrev pub invariant-loop-at : goal.invariant-loop-at
@@ -10,6 +10,6 @@ invariant-loop-at l =
       expanded : AreExpanded l.plan.start l.plan.sought l.visited l.at;
       near : l.at < length l.visited → AreNear l.visited l.at;
       here : l.here.scenario ≡ l.plan.start.scenario;
-      twin : l.twin.scenario ≡ l.plan.start.scenario;
-      same : l.other.scenario ≡ l.plan.start.scenario;
+      twin : l.twin.machine.scenario ≡ l.plan.start.scenario;
+      shelf : IsShelf l.plan.start l.visited l.shelf;
     }

@@ -1,8 +1,8 @@
 use Rattle.std.proofs.Common.{◌∙◌, arith, sym}
 use Rattle.std.proofs.Math.Bool.{false≢true}
 use Rattle.zy_search.proofs.SearchLemmas.{visits_first}
-use Rattle.zy_search.proofs.search.search_by.Goals as goal
-use Rattle.zy_search.proofs.search.search_by.Goals.{else-len-ge-MAX_CHOICES-via-then-len-ge-MAX_CHOICES+else-is_seen_by_steps, else-len-ge-MAX_CHOICES-via-else-len-ge-MAX_CHOICES}
+use Rattle.zy_search.proofs.search.look_first.Goals as goal
+use Rattle.zy_search.proofs.search.look_first.Goals.{else-len-ge-MAX_CHOICES-via-then-len-ge-MAX_CHOICES+else-is_seen_by_steps, else-len-ge-MAX_CHOICES-via-else-len-ge-MAX_CHOICES}
 
 pub shows-requires-clause-room : goal.shows-requires-clause-room
 shows-requires-clause-room c = λ e.
@@ -17,11 +17,17 @@ shows-requires-clause-choices c = c.deref.ensures.value ∙ c.requires.whole
 pub look-requires-clause-visits : goal.look-requires-clause-visits
 look-requires-clause-visits c =
     let first = c.requires.first in
-    rw first (visits_first c.args.plan.now.start c.args.plan.now.sought c.len.ensures.replay.few (λ s. false≢true (sym c.if-branch.false ∙ c.in_ok-shows.ensures.1 s)))
+    rw first (visits_first c.args.plan.now.start c.args.plan.now.sought c.len.ensures.replay.few (λ s. false≢true (sym c.if-branch.false ∙ c.in_ok-shows.ensures.shows.1 s)))
 
 pub returns-then-branch : goal.returns-then-branch
 returns-then-branch c =
     rw c.new.ensures.items (record {
-      finds = record { path = record { considered = tt; room = omega (arith, c.len.ensures.replay.few) }; shows = c.in_ok-shows.ensures.0 c.if-branch.true };
+      finds = record { path = record { considered = tt; room = omega (arith, c.len.ensures.replay.few) }; shows = c.in_ok-shows.ensures.shows.0 c.if-branch.true };
       shortest = λ cs a lt. absurd (omega (arith, lt));
     })
+
+pub look-requires-clause-shelf : goal.look-requires-clause-shelf
+look-requires-clause-shelf c = record {
+  spots = rw c.requires.spots (λ k d lt. absurd (omega (arith, lt)));
+  spare = c.in_ok-shows.ensures.spare;
+}
