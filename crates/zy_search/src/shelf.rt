@@ -46,9 +46,9 @@ impl Shelf {
         })
     }
 
-    /// Where the machine of the path at a place would be.
+    /// Where the machine of the path at a place would be. That of the empty path is never there.
     fn spot_of(&self, at: u32) -> usize {
-        at as usize % self.most.max(1)
+        at.saturating_sub(1) as usize % self.most.max(1)
     }
 
     /// Where the machine of the path at a place is, if there is one.
