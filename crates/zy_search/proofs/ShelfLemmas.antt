@@ -1,12 +1,14 @@
 -- What stays true of a shelf.
-use Rattle.std.proofs.Common.{◌≡◌, ◌∙◌, ℕ, ◌+◌, ◌<◌, ◌≤◌, List, [], ◌∷◌, ◌++◌, length, sym, ap, subst, arith, length-append, Option, None, Some, IfSome, Result, Ok, Err, OnOk}
+use Rattle.std.specs.List.{All}
+use Rattle.std.proofs.Common.{◌≡◌, ◌∙◌, ℕ, zero, suc, ◌+◌, ◌<◌, ◌≤◌, List, [], ◌∷◌, ◌++◌, length, refl, sym, ap, subst, true, arith, length-append, Option, None, Some, IfSome, Result, Ok, Err, OnOk}
 use Rattle.std.proofs.Math.Seq.{get_or-append_seam}
 use Rattle.zy_isa.specs.declared.choice.Choice.{Choice}
 use Rattle.zy_machine.specs.Histories.{History}
+use Rattle.zy_search.specs.declared.twin.Twin.{Twin}
 use Rattle.zy_search.specs.declared.shelf.Spot.{Spot}
 use Rattle.zy_search.specs.declared.shelf.Shelf.{Shelf}
 use Rattle.zy_search.specs.Searches.{reached}
-use Rattle.zy_search.specs.Visits.{path_at, length_at, IsHere, IsNext, IsSpot, IsShelf, Grows}
+use Rattle.zy_search.specs.Visits.{path_at, length_at, IsHere, IsNext, IsSecond, IsSpot, IsShelf, Grows}
 use Rattle.zy_search.proofs.SearchLemmas.{grows_push, reached_more}
 
 -- what holds in any case holds where a call succeeds
@@ -14,11 +16,7 @@ pub in_any_case : {X E : Type 0} (P : Type 0) (r : Result X E) → P → OnOk r 
 in_any_case P (Ok x) p = p
 in_any_case P (Err e) p = tt
 
-pub and_so : {X E : Type 0} (P Q : Type 0) (r : Result X E) → (P → Q) → OnOk r P → OnOk r Q
-and_so P Q (Ok x) f p = f p
-and_so P Q (Err e) f p = tt
-
-here_grown : (h : History) (ps qs : List (List Choice)) (at : ℕ) (m : History) → Grows ps qs → at < length ps → IsHere h ps at m → IsHere h qs at m
+pub here_grown : (h : History) (ps qs : List (List Choice)) (at : ℕ) (m : History) → Grows ps qs → at < length ps → IsHere h ps at m → IsHere h qs at m
 here_grown h ps qs at m g lt x = record {
   scenario = x.scenario;
   state = x.state ∙ ap (reached h) (sym (g.same at lt));
@@ -48,10 +46,21 @@ next_here h ps at c m n =
     }
 
 -- the machine of the new path is put there
-pub kept : {X E : Type 0} (h : History) (ps qs : List (List Choice)) (at place : ℕ) (c : Choice) (m : History) (old new : Shelf) (r : Result X E) → IsNext h ps at c m → IsShelf h ps old → qs ≡ ps ++ (path_at ps at ++ c ∷ []) ∷ [] → place ≡ length ps
-    → OnOk r ((k : History) (rs : List (List Choice)) → IsShelf k rs old → place < length rs → IsHere k rs place m → IsShelf k rs new) → OnOk r (IsShelf h qs new)
-kept h ps qs at place c m old new r n s e f put =
+pub kept : (h : History) (ps qs : List (List Choice)) (at place : ℕ) (c : Choice) (m : History) (old new : Shelf) → IsNext h ps at c m → IsShelf h ps old → qs ≡ ps ++ (path_at ps at ++ c ∷ []) ∷ [] → place ≡ length ps
+    → ((k : History) (rs : List (List Choice)) → IsShelf k rs old → place < length rs → IsHere k rs place m → IsShelf k rs new) → IsShelf h qs new
+kept h ps qs at place c m old new n s e f put =
     let p = path_at ps at ++ c ∷ [] in
     let there = subst (λ (i : ℕ). IsHere h (ps ++ p ∷ []) i m) (sym f) (next_here h ps at c m n) in
-    subst (λ (rs : List (List Choice)). OnOk r (IsShelf h rs new)) (sym e)
-    (and_so _ _ r (λ x. x h (ps ++ p ∷ []) (shelf_grown h ps (ps ++ p ∷ []) old (grows_push ps p) s) (omega (arith, f, length-append ps (p ∷ []))) there) put)
+    subst (λ (rs : List (List Choice)). IsShelf h rs new) (sym e)
+    (put h (ps ++ p ∷ []) (shelf_grown h ps (ps ++ p ∷ []) old (grows_push ps p) s) (omega (arith, f, length-append ps (p ∷ []))) there)
+
+-- a second machine that has become a copy of the first one
+pub second : (h m : History) (twin : Twin) → twin.machine.scenario ≡ h.scenario → m.scenario ≡ h.scenario → (twin.is_back ≡ true → twin.machine ≡ m) → IsSecond m twin
+second h m twin e f back = record {
+  scenario = e ∙ sym f;
+  back = λ b. let same = back b in rw same (record { scenario = refl; state = refl; entries = omega arith });
+}
+
+pub one_spot : (h : History) (ps : List (List Choice)) (spot : Spot) → IsSpot h ps spot → All (IsSpot h ps) (spot ∷ [])
+one_spot h ps spot is zero d lt = is
+one_spot h ps spot is (suc k) d lt = absurd (omega (arith, lt))

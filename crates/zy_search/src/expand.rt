@@ -1,7 +1,7 @@
 //! What the choices from one state lead to.
 ghost use Rattle.std.specs.Prelude.{◌≡◌, ◌≤◌, ◌<◌, ◌+◌, ◌^◌, ◌++◌, ◌∷◌, [], IfOk, OnOk, None, true, false, length};
 ghost use Rattle.zy_search.specs.Choices.{is_considered};
-ghost use Rattle.zy_search.specs.Visits.{path_at, length_at, IsWhole, IsKnown, IsHere, IsNext, IsSecond, IsShelf, Visits, AreNear, MeetsWell, ExpandsWell};
+ghost use Rattle.zy_search.specs.Visits.{path_at, length_at, IsWhole, IsKnown, IsHere, IsNext, IsSecond, IsShelf, Visits, AreNear, Grows, MeetsWell, ExpandsWell};
 
 use crate::answer::{Expanded, Met};
 use crate::digest::digest;
@@ -72,22 +72,23 @@ fn keep(
     shelf: &mut Shelf,
     at: u32,
     choice: Choice,
+    here: &Machine,
     twin: &mut Twin,
     digest: u64,
 ) -> Result<(), Fault>
     requires room { length visited.old < 2 ^ 32 }
     requires at { at < length visited.old }
+    requires here { here.now.scenario ≡ plan.now.start.scenario }
     requires next { IsNext plan.now.start visited.old at choice twin.old.machine }
     requires shelf { IsShelf plan.now.start visited.old shelf.old }
     ensures paths { OnOk result (visited.new ≡ visited.old ++ (path_at visited.old at ++ choice ∷ []) ∷ []) }
     ensures shelf { OnOk result (IsShelf plan.now.start visited.new shelf.new) }
-    ensures twin { OnOk result (twin.new.machine.scenario ≡ plan.now.start.scenario) }
-    ensures away { twin.new.is_back ≡ false }
+    ensures twin { OnOk result (IsSecond here.now twin.new) }
 {
-    twin.is_back = false;
     let place = visited.len() as u32;
     visited.push(at, choice, digest)?;
-    shelf.put(plan.alloc, place, &mut twin.machine)
+    twin.is_back = shelf.put(plan.alloc, place, &mut twin.machine, here)?;
+    Ok(())
 }
 
 /// Takes in a state that no path leads to, if it does not show what is looked for and there is room for it.
@@ -127,7 +128,7 @@ fn note_new(
     if plan.most as usize <= visited.len() {
         return Ok(Met::Spent);
     }
-    keep(plan, visited, shelf, at, choice, twin, digest)?;
+    keep(plan, visited, shelf, at, choice, here, twin, digest)?;
     Ok(Met::Noted)
 }
 
@@ -223,6 +224,7 @@ fn meet_each(
     requires twin { IsSecond here.now twin.old }
     requires shelf { IsShelf plan.now.start visited.old shelf.old }
     ensures well { IfOk result (ExpandsWell plan.now.start plan.now.sought visited.old visited.new at) }
+    ensures grows { OnOk result (Grows visited.old visited.new) }
     ensures shelf { OnOk result (IsShelf plan.now.start visited.new shelf.new) }
     ensures twin { OnOk result (twin.new.machine.scenario ≡ plan.now.start.scenario) }
 {
@@ -289,5 +291,7 @@ pub(crate) fn expand(
         return Ok(Expanded::Spent);
     }
     twin.is_back = false;
-    meet_each(plan, visited, shelf, at, here, twin)
+    let expanded = meet_each(plan, visited, shelf, at, here, twin)?;
+    shelf.give_back(at, here);
+    Ok(expanded)
 }

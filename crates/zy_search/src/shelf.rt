@@ -99,9 +99,18 @@ impl Shelf {
         true
     }
 
-    /// Puts the machine of the path at a place there, and takes another one of the scenario for it.
-    pub(crate) fn put(&mut self, alloc: Global, at: u32, machine: &mut Machine) -> Result<(), Fault>
-        ensures scenario { (h : History) (ps : List (List Choice)) → IsShelf h ps self.old → machine.old.scenario ≡ h.scenario → machine.new.scenario ≡ h.scenario }
+    /// Puts the machine of the path at a place there, and takes another one of the scenario for it. It answers yes where that one is a copy
+    /// of `here`.
+    pub(crate) fn put(
+        &mut self,
+        alloc: Global,
+        at: u32,
+        machine: &mut Machine,
+        here: &Machine,
+    ) -> Result<bool, Fault>
+        requires { machine.old.scenario ≡ here.now.scenario }
+        ensures scenario { OnOk result ((h : History) (ps : List (List Choice)) → IsShelf h ps self.old → machine.old.scenario ≡ h.scenario → machine.new.scenario ≡ h.scenario) }
+        ensures back { IfOk result (λ b. b ≡ true → machine.new ≡ here.now) }
         ensures shelf { OnOk result ((h : History) (ps : List (List Choice)) → IsShelf h ps self.old → at < length ps → IsHere h ps at machine.old → IsShelf h ps self.new) }
     {
         let i = self.spot_of(at);
@@ -109,22 +118,37 @@ impl Shelf {
             let spot = &mut self.spots[i];
             mem::swap(&mut spot.machine, machine);
             spot.at = Some(at);
-            return Ok(());
+            return Ok(false);
         }
-        self.add(alloc, at, machine)
+        let fresh = here.copy(alloc)?;
+        let there = mem::replace(machine, fresh);
+        self.add(at, there)?;
+        Ok(true)
     }
 
-    /// Puts a copy of the machine of the path at a place there.
-    fn add(&mut self, alloc: Global, at: u32, machine: &Machine) -> Result<(), Fault>
-        ensures { OnOk result ((h : History) (ps : List (List Choice)) → IsShelf h ps self.old → at < length ps → IsHere h ps at machine.now → IsShelf h ps self.new) }
+    /// Adds the machine of the path at a place.
+    fn add(&mut self, at: u32, machine: Machine) -> Result<(), Fault>
+        ensures { OnOk result ((h : History) (ps : List (List Choice)) → IsShelf h ps self.old → at < length ps → IsHere h ps at machine → IsShelf h ps self.new) }
     {
         self.spots.reserve(1)?;
-        let machine = machine.copy(alloc)?;
         let spot = Spot {
             machine,
             at: Some(at),
         };
         self.spots.push(spot).unwrap();
         Ok(())
+    }
+
+    /// Gives back the machine of the path at a place, for another one of the scenario, if the spot from which it was taken is still free.
+    pub(crate) fn give_back(&mut self, at: u32, machine: &mut Machine)
+        ensures scenario { (h : History) (ps : List (List Choice)) → IsShelf h ps self.old → machine.old.scenario ≡ h.scenario → machine.new.scenario ≡ h.scenario }
+        ensures shelf { (h : History) (ps : List (List Choice)) → IsShelf h ps self.old → at < length ps → IsHere h ps at machine.old → IsShelf h ps self.new }
+    {
+        let i = self.spot_of(at);
+        if i < self.spots.len() && self.spots[i].at.is_none() {
+            let spot = &mut self.spots[i];
+            mem::swap(&mut spot.machine, machine);
+            spot.at = Some(at);
+        }
     }
 }

@@ -60,6 +60,7 @@ returns-in-Shown c =
     record {
       well = found c.args.plan.now.start c.args.plan.now.sought c.args.visited.now c.loop-i.visited c.meet.new.visited c.args.at d c.in_ok-path-in-Shown.path.items c.requires.visits c.loop-i.invariant.grows m.1 c.requires.at
           (omega (arith, c.requires.here.entries, c.requires.room)) one m.0 c.in_ok-path-in-Shown.ensures;
+      grows = grows_on c.args.visited.now c.loop-i.visited c.meet.new.visited c.loop-i.invariant.grows m.1;
       twin = c.in_ok-meet.ensures.twin.scenario ∙ c.requires.here.scenario;
       shelf = c.in_ok-meet.ensures.shelf;
     }
@@ -110,6 +111,7 @@ returns c =
         expanded = whole c.args.plan.now.start c.args.plan.now.sought c.args.visited.now c.loop-i.visited c.args.plan.now.choices.items c.args.at c.loop-i.i c.requires.whole (omega (arith, c.loop-i-test.false, c.len-i-end.ensures)) c.requires.at
             c.loop-i.invariant.grows c.loop-i.invariant.known;
       };
+      grows = c.loop-i.invariant.grows;
       twin = c.loop-i.invariant.twin.scenario ∙ c.requires.here.scenario;
       shelf = c.loop-i.invariant.shelf;
     }
