@@ -6,3 +6,4 @@ pub mod StillSteps
 pub mod TxnLemmas
 pub mod CommitLemmas
 pub mod ShelfLemmas
+pub mod EdgeLemmas

@@ -1,5 +1,5 @@
 -- Where nothing comes of a step the state is as it was.
-use Rattle.std.proofs.Common.{◌≡◌, ◌∙◌, ℕ, List, [], ◌∷◌, ◌++◌, length, length-append, ◌<◌, arith, true, false, not, nat_lt, nat_le, ◌&&◌, Option, Some, None, refl, sym, ap}
+use Rattle.std.proofs.Common.{◌≡◌, ◌∙◌, inl, ℕ, List, [], ◌∷◌, ◌++◌, length, length-append, ◌<◌, arith, true, false, not, nat_lt, nat_le, ◌&&◌, Option, Some, None, refl, sym, ap}
 use Rattle.zy_table.specs.declared.entry.Entry.{Entry}
 use Rattle.std.proofs.lemmas.Bool.{cond_both, false≢true}
 use Rattle.zy_isa.specs.declared.node.Node.{Node}
@@ -34,7 +34,7 @@ use Rattle.zy_search.specs.Stuck.{is_still}
 use Rattle.zy_table.specs.declared.outcome.Outcome.{Outcome}
 use Rattle.zy_search.specs.declared.sought.Sought.{Sought}
 use Rattle.zy_search.specs.Searches.{reached}
-use Rattle.zy_search.specs.Visits.{path_at, Visits, AreNear, IsHere, IsTwin, Notes}
+use Rattle.zy_search.specs.Visits.{path_at, Visits, IsEdge, IsHere, IsTwin, IsNext, Notes}
 use Rattle.zy_search.proofs.SearchLemmas.{grows_not}
 
 abbrev Stays : View → Move → Type 0
@@ -294,7 +294,7 @@ pub here_step : (h m : History) (ps : List (List Choice)) (at : ℕ) (c : Choice
 here_step h m ps at c here = ap (λ (sc : Scenario). step sc c m.state) here.scenario ∙ ap (step h.scenario c) here.state
 
 -- a choice that nothing comes of leads to the state of the path itself
-pub still_known : (h m : History) (q : Sought) (ps : List (List Choice)) (at : ℕ) (c : Choice) (o : Outcome) → Visits h q ps → AreNear ps at → at < length ps → IsHere h ps at m
+pub still_known : (h m : History) (q : Sought) (ps : List (List Choice)) (at : ℕ) (c : Choice) (o : Outcome) → Visits h q ps → IsEdge ps at → at < length ps → IsHere h ps at m
     → o ≡ (step m.scenario c m.state).outcome → is_still o ≡ true → Notes h q ps ps at c
 still_known h m q ps at c o v near lt here oe f =
     let still : is_still (step h.scenario c (reached h (path_at ps at))).outcome ≡ true =
@@ -304,4 +304,18 @@ still_known h m q ps at c o v near lt here oe f =
       near = near;
       grows = grows_not ps;
       known = (at, lt, omega arith, sym (still_stays h.scenario c (reached h (path_at ps at)) still));
+      more = inl refl;
+    }
+
+-- what a choice of which something comes has led a twin to
+pub next : (h m x : History) (ps : List (List Choice)) (at : ℕ) (c : Choice) (o : Outcome) → IsHere h ps at m → x.scenario ≡ m.scenario → o ≡ (step m.scenario c m.state).outcome → x.state ≡ (step m.scenario c m.state).after → is_still o ≡ false
+    → length m.entries < length x.entries → length x.entries < 4096 → IsNext h ps at c x
+next h m x ps at c o here e oe f still longer room =
+    let same = here_step h m ps at c here in
+    record {
+      scenario = e ∙ here.scenario;
+      state = f ∙ ap (λ (y : Step). y.after) same;
+      moved = sym (ap (λ (y : Step). is_still y.outcome) same) ∙ (sym (ap is_still oe) ∙ still);
+      longer = omega (arith, here.entries, longer);
+      room = room;
     }

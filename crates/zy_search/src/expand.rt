@@ -1,7 +1,8 @@
 //! What the choices from one state lead to.
 ghost use Rattle.std.specs.Prelude.{◌≡◌, ◌≤◌, ◌<◌, ◌+◌, ◌^◌, ◌++◌, ◌∷◌, [], IfOk, OnOk, None, true, false, length};
+ghost use Rattle.zy_isa.specs.declared.choice.Choice.{Choice as AChoice};
 ghost use Rattle.zy_search.specs.Choices.{is_considered};
-ghost use Rattle.zy_search.specs.Visits.{path_at, length_at, IsWhole, IsKnown, IsHere, IsNext, IsSecond, IsShelf, Visits, AreNear, Grows, MeetsWell, ExpandsWell};
+ghost use Rattle.zy_search.specs.Visits.{path_at, length_at, IsWhole, IsKnown, IsFresh, IsHere, IsNext, IsSecond, IsShelf, Visits, IsEdge, Grows, MeetsWell, ExpandsWell};
 
 use crate::answer::{Expanded, Met};
 use crate::digest::digest;
@@ -104,14 +105,15 @@ fn note_new(
 ) -> Result<Met, Fault>
     requires whole { IsWhole plan.now }
     requires visits { Visits plan.now.start plan.now.sought visited.old }
-    requires near { AreNear visited.old at }
+    requires near { IsEdge visited.old at }
     requires at { at < length visited.old }
     requires considered { is_considered plan.now.sought.kills (length plan.now.start.scenario.programs) choice ≡ true }
+    requires fresh { IsFresh visited.old at choice }
     requires here { IsHere plan.now.start visited.old at here.now }
     requires next { IsNext plan.now.start visited.old at choice twin.old.machine }
     requires away { twin.old.is_back ≡ false }
     requires shelf { IsShelf plan.now.start visited.old shelf.old }
-    ensures well { IfOk result (MeetsWell plan.now.start plan.now.sought visited.old visited.new at choice) }
+    ensures well { IfOk result (MeetsWell plan.now.start plan.now.sought plan.now.most visited.old visited.new at choice) }
     ensures shelf { OnOk result (IsShelf plan.now.start visited.new shelf.new) }
     ensures twin { OnOk result (IsSecond here.now twin.new) }
 {
@@ -144,14 +146,15 @@ fn note(
 ) -> Result<Met, Fault>
     requires whole { IsWhole plan.now }
     requires visits { Visits plan.now.start plan.now.sought visited.old }
-    requires near { AreNear visited.old at }
+    requires near { IsEdge visited.old at }
     requires at { at < length visited.old }
     requires considered { is_considered plan.now.sought.kills (length plan.now.start.scenario.programs) choice ≡ true }
+    requires fresh { IsFresh visited.old at choice }
     requires here { IsHere plan.now.start visited.old at here.now }
     requires next { IsNext plan.now.start visited.old at choice twin.old.machine }
     requires away { twin.old.is_back ≡ false }
     requires shelf { IsShelf plan.now.start visited.old shelf.old }
-    ensures well { IfOk result (MeetsWell plan.now.start plan.now.sought visited.old visited.new at choice) }
+    ensures well { IfOk result (MeetsWell plan.now.start plan.now.sought plan.now.most visited.old visited.new at choice) }
     ensures shelf { OnOk result (IsShelf plan.now.start visited.new shelf.new) }
     ensures twin { OnOk result (IsSecond here.now twin.new) }
 {
@@ -173,14 +176,15 @@ fn meet(
 ) -> Result<Met, Fault>
     requires whole { IsWhole plan.now }
     requires visits { Visits plan.now.start plan.now.sought visited.old }
-    requires near { AreNear visited.old at }
+    requires near { IsEdge visited.old at }
     requires at { at < length visited.old }
     requires considered { is_considered plan.now.sought.kills (length plan.now.start.scenario.programs) choice ≡ true }
+    requires fresh { IsFresh visited.old at choice }
     requires here { IsHere plan.now.start visited.old at here.now }
     requires room { length here.now.entries + 1 < 4096 }
     requires twin { IsSecond here.now twin.old }
     requires shelf { IsShelf plan.now.start visited.old shelf.old }
-    ensures well { IfOk result (MeetsWell plan.now.start plan.now.sought visited.old visited.new at choice) }
+    ensures well { IfOk result (MeetsWell plan.now.start plan.now.sought plan.now.most visited.old visited.new at choice) }
     ensures shelf { OnOk result (IsShelf plan.now.start visited.new shelf.new) }
     ensures twin { OnOk result (IsSecond here.now twin.new) }
 {
@@ -217,13 +221,14 @@ fn meet_each(
 ) -> Result<Expanded, Fault>
     requires whole { IsWhole plan.now }
     requires visits { Visits plan.now.start plan.now.sought visited.old }
-    requires near { AreNear visited.old at }
+    requires near { IsEdge visited.old at }
     requires at { at < length visited.old }
+    requires end { (c : AChoice) → IsFresh visited.old at c }
     requires here { IsHere plan.now.start visited.old at here.now }
     requires room { length here.now.entries + 1 < 4096 }
     requires twin { IsSecond here.now twin.old }
     requires shelf { IsShelf plan.now.start visited.old shelf.old }
-    ensures well { IfOk result (ExpandsWell plan.now.start plan.now.sought visited.old visited.new at) }
+    ensures well { IfOk result (ExpandsWell plan.now.start plan.now.sought plan.now.most visited.old visited.new at) }
     ensures grows { OnOk result (Grows visited.old visited.new) }
     ensures shelf { OnOk result (IsShelf plan.now.start visited.new shelf.new) }
     ensures twin { OnOk result (twin.new.machine.scenario ≡ plan.now.start.scenario) }
@@ -276,12 +281,13 @@ pub(crate) fn expand(
 ) -> Result<Expanded, Fault>
     requires whole { IsWhole plan.now }
     requires visits { Visits plan.now.start plan.now.sought visited.old }
-    requires near { AreNear visited.old at }
+    requires near { IsEdge visited.old at }
     requires at { at < length visited.old }
+    requires end { (c : AChoice) → IsFresh visited.old at c }
     requires here { here.old.scenario ≡ plan.now.start.scenario }
     requires twin { twin.old.machine.scenario ≡ plan.now.start.scenario }
     requires shelf { IsShelf plan.now.start visited.old shelf.old }
-    ensures well { IfOk result (ExpandsWell plan.now.start plan.now.sought visited.old visited.new at) }
+    ensures well { IfOk result (ExpandsWell plan.now.start plan.now.sought plan.now.most visited.old visited.new at) }
     ensures here { OnOk result (here.new.scenario ≡ plan.now.start.scenario) }
     ensures twin { OnOk result (twin.new.machine.scenario ≡ plan.now.start.scenario) }
     ensures shelf { OnOk result (IsShelf plan.now.start visited.new shelf.new) }

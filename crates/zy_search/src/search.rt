@@ -2,8 +2,8 @@
 ghost use Rattle.std.specs.Prelude.{◌≡◌, ◌≤◌, ◌<◌, ◌+◌, [], ◌∷◌, IfOk, true, length};
 ghost use Rattle.zy_search.specs.declared.sought.Wanted.TheVariants.{Stuck};
 ghost use Rattle.zy_search.specs.Choices.{considered as considered_spec};
-ghost use Rattle.zy_search.specs.Searches.{Shows, IsAnswer};
-ghost use Rattle.zy_search.specs.Visits.{length_at, IsWhole, IsShelf, Visits};
+ghost use Rattle.zy_search.specs.Searches.{Shows, IsAnswer, IsDue};
+ghost use Rattle.zy_search.specs.Visits.{length_at, AreExpanded, IsEdge, IsWhole, IsShelf, Visits};
 
 use crate::answer::{Answer, Expanded, Report};
 use crate::choices::considered;
@@ -21,12 +21,27 @@ use zy_isa::scenario::MAX_CHOICES;
 use zy_machine::machine::{Fault, Machine};
 
 /// What is known where the path at a place was not gone on from, and all before it were.
-fn spent_at(alloc: Global, visited: &Visited, at: u32) -> Result<Answer, AllocError>
+fn spent_at(alloc: Global, visited: &Visited, at: u32) -> Result<Answer, Fault>
     requires { at < length visited.now }
     ensures { IfOk result (λ a. a ≡ Answer.Spent (length_at visited.now at + 1)) }
 {
     let path = visited.path(alloc, at)?;
     Ok(Answer::Spent(path.len() + 1))
+}
+
+/// The answer where all paths before a place were gone on from, and that one is not.
+fn settle(plan: &Plan, visited: &Visited, at: u32) -> Result<Answer, Fault>
+    requires visits { Visits plan.now.start plan.now.sought visited.now }
+    requires expanded { AreExpanded plan.now.start plan.now.sought visited.now at }
+    requires near { at < length visited.now → IsEdge visited.now at }
+    requires many { plan.now.most ≤ at }
+    ensures answer { IfOk result (IsAnswer plan.now.start plan.now.sought) }
+    ensures due { IfOk result (IsDue plan.now.start plan.now.sought plan.now.most) }
+{
+    if visited.len() <= at as usize {
+        return Ok(Answer::Nowhere);
+    }
+    spent_at(plan.alloc, visited, at)
 }
 
 /// Goes on from each path in turn, those that are added on the way too. The machines are for use by the way.
@@ -43,7 +58,8 @@ fn expand_all(
     requires here { here.old.scenario ≡ plan.now.start.scenario }
     requires twin { twin.old.machine.scenario ≡ plan.now.start.scenario }
     requires shelf { IsShelf plan.now.start visited.old shelf.old }
-    ensures { IfOk result (IsAnswer plan.now.start plan.now.sought) }
+    ensures answer { IfOk result (IsAnswer plan.now.start plan.now.sought) }
+    ensures due { IfOk result (IsDue plan.now.start plan.now.sought plan.now.most) }
 {
     for at in 0..u32::MAX {
         if visited.len() <= at as usize {
@@ -55,7 +71,7 @@ fn expand_all(
             Expanded::Spent => return spent_at(plan.alloc, visited, at),
         }
     }
-    Ok(Answer::Spent(0))
+    settle(plan, visited, u32::MAX)
 }
 
 /// How many states an answer adds to those that none of what is looked for is shown by.
@@ -90,7 +106,8 @@ fn look_by(
     requires first { visited.old ≡ [] ∷ [] }
     requires here { here.old.scenario ≡ plan.now.start.scenario }
     requires shelf { IsShelf plan.now.start visited.old shelf.old }
-    ensures { IfOk result (IsAnswer plan.now.start plan.now.sought) }
+    ensures answer { IfOk result (IsAnswer plan.now.start plan.now.sought) }
+    ensures due { IfOk result (IsDue plan.now.start plan.now.sought plan.now.most) }
 {
     let mut twin = Twin::new(plan.alloc, &plan.start)?;
     expand_all(plan, visited, shelf, here, &mut twin)
@@ -102,7 +119,8 @@ fn look(plan: &Plan, visited: &mut Visited, shelf: &mut Shelf) -> Result<Answer,
     requires visits { Visits plan.now.start plan.now.sought visited.old }
     requires first { visited.old ≡ [] ∷ [] }
     requires shelf { IsShelf plan.now.start visited.old shelf.old }
-    ensures { IfOk result (IsAnswer plan.now.start plan.now.sought) }
+    ensures answer { IfOk result (IsAnswer plan.now.start plan.now.sought) }
+    ensures due { IfOk result (IsDue plan.now.start plan.now.sought plan.now.most) }
 {
     let mut here = plan.start.copy(plan.alloc)?;
     look_by(plan, visited, shelf, &mut here)
@@ -121,18 +139,20 @@ fn look_first(plan: &Plan, visited: &mut Visited, shelf: &mut Shelf) -> Result<A
     requires first { visited.old ≡ [] ∷ [] }
     requires spots { shelf.old.spots.items ≡ [] }
     requires spare { shelf.old.spare.scenario ≡ plan.now.start.scenario }
-    ensures { IfOk result (IsAnswer plan.now.start plan.now.sought) }
+    ensures answer { IfOk result (IsAnswer plan.now.start plan.now.sought) }
+    ensures due { IfOk result (IsDue plan.now.start plan.now.sought plan.now.most) }
 {
     if MAX_CHOICES <= plan.start.len() && is_seen_by_steps(plan.sought.wanted) {
         return Ok(Answer::Spent(0));
     }
-    if shows(
+    let is_shown = shows(
         plan.alloc,
         plan.sought,
         &plan.choices,
         &plan.start,
         &mut shelf.spare,
-    )? {
+    )?;
+    if is_shown {
         return Ok(Answer::Found(Vec::new(plan.alloc)));
     }
     look(plan, visited, shelf)
@@ -142,7 +162,8 @@ fn look_first(plan: &Plan, visited: &mut Visited, shelf: &mut Shelf) -> Result<A
 fn search_by(plan: &Plan, visited: &mut Visited) -> Result<Answer, Fault>
     requires whole { IsWhole plan.now }
     requires first { visited.old ≡ [] ∷ [] }
-    ensures { IfOk result (IsAnswer plan.now.start plan.now.sought) }
+    ensures answer { IfOk result (IsAnswer plan.now.start plan.now.sought) }
+    ensures due { IfOk result (IsDue plan.now.start plan.now.sought plan.now.most) }
 {
     let mut shelf = Shelf::new(plan.alloc, &plan.start)?;
     look_first(plan, visited, &mut shelf)
@@ -160,6 +181,7 @@ fn choices_from(alloc: Global, kills: bool, machine: &Machine) -> Result<Vec<Cho
 fn plan_from(alloc: Global, machine: &Machine, sought: Sought, most: u32) -> Result<Plan, Fault>
     ensures whole { IfOk result IsWhole }
     ensures start { IfOk result (λ p. p.start ≡ machine.now) }
+    ensures most { IfOk result (λ p. p.most ≡ most) }
     ensures sought { IfOk result (λ p. p.sought ≡ sought) }
 {
     let choices = choices_from(alloc, sought.kills, machine)?;
@@ -176,7 +198,9 @@ fn plan_from(alloc: Global, machine: &Machine, sought: Sought, most: u32) -> Res
 /// Looks for a state that choices lead to from a machine's, and that shows what is looked for. It goes breadth first, so that no fewer
 /// choices lead there, and stops where it would come to more states than `most`.
 pub fn search(alloc: Global, start: &Machine, sought: Sought, most: u32) -> Result<Report, Fault>
-    ensures { IfOk result (λ r. IsAnswer start.now sought r.answer) }
+    ensures answer { IfOk result (λ r. IsAnswer start.now sought r.answer) }
+    // It gives up only where it must.
+    ensures due { IfOk result (λ r. IsDue start.now sought most r.answer) }
 {
     let plan = plan_from(alloc, start, sought, most)?;
     let mut visited = Visited::new(alloc, digest(&plan.start))?;

@@ -1,5 +1,5 @@
 use Rattle.std.proofs.Common.{◌∙◌, sym}
-use Rattle.zy_search.proofs.StillSteps.{still_known}
+use Rattle.zy_search.proofs.StillSteps.{still_known, next}
 use Rattle.zy_search.proofs.expand.meet.Goals as goal
 
 pub returns-then-is_still-clause-well : goal.returns-then-is_still-clause-well
@@ -9,3 +9,8 @@ returns-then-is_still-clause-well c =
 
 pub note-requires-clause-away : goal.note-requires-clause-away
 note-requires-clause-away c = c.in_ok-outcome.ensures.back ∙ (sym c.is_still.ensures ∙ c.if-is_still.false)
+
+pub note-requires-clause-next : goal.note-requires-clause-next
+note-requires-clause-next c =
+    let o = c.in_ok-outcome.ensures in
+    next c.args.plan.now.start c.args.here.now c.attempt.new.self.machine c.args.visited.now c.args.at c.args.choice c.in_ok-outcome.outcome c.requires.here o.second.scenario o.outcome o.state (sym c.is_still.ensures ∙ c.if-is_still.false) o.longer o.room

@@ -1,5 +1,5 @@
 use Rattle.std.proofs.Common.{◌≡◌, ◌<◌, ◌≤◌, length}
-use Rattle.zy_search.specs.Visits.{Visits, AreNear, AreExpanded, IsShelf}
+use Rattle.zy_search.specs.Visits.{Visits, IsEdge, AreEnds, AreExpanded, IsShelf}
 use Rattle.zy_search.proofs.search.expand_all.Given as goal
 
 abbrev pub invariant-loop-at : goal.invariant-loop-at
@@ -8,7 +8,8 @@ invariant-loop-at l =
       visits : Visits l.plan.start l.plan.sought l.visited;
       within : l.at ≤ length l.visited;
       expanded : AreExpanded l.plan.start l.plan.sought l.visited l.at;
-      near : l.at < length l.visited → AreNear l.visited l.at;
+      near : l.at < length l.visited → IsEdge l.visited l.at;
+      ends : AreEnds l.visited l.at;
       here : l.here.scenario ≡ l.plan.start.scenario;
       twin : l.twin.machine.scenario ≡ l.plan.start.scenario;
       shelf : IsShelf l.plan.start l.visited l.shelf;

@@ -17,17 +17,17 @@ shows-requires-clause-choices c = c.deref.ensures.value ∙ c.requires.whole
 pub look-requires-clause-visits : goal.look-requires-clause-visits
 look-requires-clause-visits c =
     let first = c.requires.first in
-    rw first (visits_first c.args.plan.now.start c.args.plan.now.sought c.len.ensures.replay.few (λ s. false≢true (sym c.if-branch.false ∙ c.in_ok-shows.ensures.shows.1 s)))
+    rw first (visits_first c.args.plan.now.start c.args.plan.now.sought c.len.ensures.replay.few (λ s. false≢true (sym c.if-is_shown.false ∙ c.in_ok-is_shown.ensures.shows.1 s)))
 
-pub returns-then-branch : goal.returns-then-branch
-returns-then-branch c =
+pub returns-then-is_shown-clause-answer : goal.returns-then-is_shown-clause-answer
+returns-then-is_shown-clause-answer c =
     rw c.new.ensures.items (record {
-      finds = record { path = record { considered = tt; room = omega (arith, c.len.ensures.replay.few) }; shows = c.in_ok-shows.ensures.shows.0 c.if-branch.true };
+      finds = record { path = record { considered = tt; moves = tt; room = omega (arith, c.len.ensures.replay.few) }; shows = c.in_ok-is_shown.ensures.shows.0 c.if-is_shown.true };
       shortest = λ cs a lt. absurd (omega (arith, lt));
     })
 
 pub look-requires-clause-shelf : goal.look-requires-clause-shelf
 look-requires-clause-shelf c = record {
   spots = rw c.requires.spots (λ k d lt. absurd (omega (arith, lt)));
-  spare = c.in_ok-shows.ensures.spare;
+  spare = c.in_ok-is_shown.ensures.spare;
 }
