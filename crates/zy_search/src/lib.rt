@@ -18,3 +18,4 @@ pub mod tree;
 pub mod twin;
 pub mod visited;
 mod walk;
+pub mod watch;

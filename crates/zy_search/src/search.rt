@@ -15,6 +15,7 @@ use crate::shows::shows;
 use crate::sought::{Sought, Wanted};
 use crate::twin::Twin;
 use crate::visited::Visited;
+use crate::watch::Watch;
 use std::alloc::{AllocError, Global};
 use zy_isa::choice::Choice;
 use zy_isa::scenario::MAX_CHOICES;
@@ -44,13 +45,29 @@ fn settle(plan: &Plan, visited: &Visited, at: u32) -> Result<Answer, Fault>
     spent_at(plan.alloc, visited, at)
 }
 
+/// How many states are gone on from before the watch is told again.
+const EVERY: u32 = 256;
+
+/// Tells the watch how far the search is, if it is time.
+fn report_to<W: Watch>(watch: &mut W, alloc: Global, visited: &Visited, at: u32)
+    requires { at < length visited.now }
+{
+    if at % EVERY != 0 {
+        return;
+    }
+    if let Ok(path) = visited.path(alloc, at) {
+        watch.look(visited.len(), path.len());
+    }
+}
+
 /// Goes on from each path in turn, those that are added on the way too. The machines are for use by the way.
-fn expand_all(
+fn expand_all<W: Watch>(
     plan: &Plan,
     visited: &mut Visited,
     shelf: &mut Shelf,
     here: &mut Machine,
     twin: &mut Twin,
+    watch: &mut W,
 ) -> Result<Answer, Fault>
     requires whole { IsWhole plan.now }
     requires visits { Visits plan.now.start plan.now.sought visited.old }
@@ -65,6 +82,7 @@ fn expand_all(
         if visited.len() <= at as usize {
             return Ok(Answer::Nowhere);
         }
+        report_to(watch, plan.alloc, visited, at);
         match expand(plan, visited, shelf, at, here, twin)? {
             Expanded::Whole => {}
             Expanded::Found(path) => return Ok(Answer::Found(path)),
@@ -95,11 +113,12 @@ fn report(alloc: Global, visited: &Visited, answer: Answer) -> Result<Report, Al
 }
 
 /// Looks at the states that choices lead to, with a machine to do it by.
-fn look_by(
+fn look_by<W: Watch>(
     plan: &Plan,
     visited: &mut Visited,
     shelf: &mut Shelf,
     here: &mut Machine,
+    watch: &mut W,
 ) -> Result<Answer, Fault>
     requires whole { IsWhole plan.now }
     requires visits { Visits plan.now.start plan.now.sought visited.old }
@@ -110,11 +129,16 @@ fn look_by(
     ensures due { IfOk result (IsDue plan.now.start plan.now.sought plan.now.most) }
 {
     let mut twin = Twin::new(plan.alloc, &plan.start)?;
-    expand_all(plan, visited, shelf, here, &mut twin)
+    expand_all(plan, visited, shelf, here, &mut twin, watch)
 }
 
 /// The same, without a machine.
-fn look(plan: &Plan, visited: &mut Visited, shelf: &mut Shelf) -> Result<Answer, Fault>
+fn look<W: Watch>(
+    plan: &Plan,
+    visited: &mut Visited,
+    shelf: &mut Shelf,
+    watch: &mut W,
+) -> Result<Answer, Fault>
     requires whole { IsWhole plan.now }
     requires visits { Visits plan.now.start plan.now.sought visited.old }
     requires first { visited.old ≡ [] ∷ [] }
@@ -123,7 +147,7 @@ fn look(plan: &Plan, visited: &mut Visited, shelf: &mut Shelf) -> Result<Answer,
     ensures due { IfOk result (IsDue plan.now.start plan.now.sought plan.now.most) }
 {
     let mut here = plan.start.copy(plan.alloc)?;
-    look_by(plan, visited, shelf, &mut here)
+    look_by(plan, visited, shelf, &mut here, watch)
 }
 
 /// Whether what is looked for is seen by steps alone.
@@ -134,7 +158,12 @@ fn is_seen_by_steps(wanted: Wanted) -> bool
 }
 
 /// Looks at the state of the start, and then at those that choices lead to.
-fn look_first(plan: &Plan, visited: &mut Visited, shelf: &mut Shelf) -> Result<Answer, Fault>
+fn look_first<W: Watch>(
+    plan: &Plan,
+    visited: &mut Visited,
+    shelf: &mut Shelf,
+    watch: &mut W,
+) -> Result<Answer, Fault>
     requires whole { IsWhole plan.now }
     requires first { visited.old ≡ [] ∷ [] }
     requires spots { shelf.old.spots.items ≡ [] }
@@ -155,18 +184,18 @@ fn look_first(plan: &Plan, visited: &mut Visited, shelf: &mut Shelf) -> Result<A
     if is_shown {
         return Ok(Answer::Found(Vec::new(plan.alloc)));
     }
-    look(plan, visited, shelf)
+    look(plan, visited, shelf, watch)
 }
 
 /// The same, with no machine on the shelf yet.
-fn search_by(plan: &Plan, visited: &mut Visited) -> Result<Answer, Fault>
+fn search_by<W: Watch>(plan: &Plan, visited: &mut Visited, watch: &mut W) -> Result<Answer, Fault>
     requires whole { IsWhole plan.now }
     requires first { visited.old ≡ [] ∷ [] }
     ensures answer { IfOk result (IsAnswer plan.now.start plan.now.sought) }
     ensures due { IfOk result (IsDue plan.now.start plan.now.sought plan.now.most) }
 {
     let mut shelf = Shelf::new(plan.alloc, &plan.start)?;
-    look_first(plan, visited, &mut shelf)
+    look_first(plan, visited, &mut shelf, watch)
 }
 
 /// The choices that a search considers from a machine.
@@ -196,14 +225,20 @@ fn plan_from(alloc: Global, machine: &Machine, sought: Sought, most: u32) -> Res
 }
 
 /// Looks for a state that choices lead to from a machine's, and that shows what is looked for. It goes breadth first, so that no fewer
-/// choices lead there, and stops where it would come to more states than `most`.
-pub fn search(alloc: Global, start: &Machine, sought: Sought, most: u32) -> Result<Report, Fault>
+/// choices lead there, and stops where it would come to more states than `most`. The watch is told how far it is.
+pub fn search<W: Watch>(
+    alloc: Global,
+    start: &Machine,
+    sought: Sought,
+    most: u32,
+    watch: &mut W,
+) -> Result<Report, Fault>
     ensures answer { IfOk result (λ r. IsAnswer start.now sought r.answer) }
     // It gives up only where it must.
     ensures due { IfOk result (λ r. IsDue start.now sought most r.answer) }
 {
     let plan = plan_from(alloc, start, sought, most)?;
     let mut visited = Visited::new(alloc, digest(&plan.start))?;
-    let answer = search_by(&plan, &mut visited)?;
+    let answer = search_by(&plan, &mut visited, watch)?;
     report(alloc, &visited, answer)
 }

@@ -9,7 +9,7 @@ use Rattle.zy_search.proofs.EdgeLemmas.{ends_first, ends_later}
 use Rattle.zy_search.proofs.search.expand_all.Goals as goal
 
 pub loop-at-init : goal.loop-at-init
-loop-at-init c =
+loop-at-init g c =
     let first = c.requires.first in
     record {
       visits = c.requires.visits;
@@ -23,15 +23,15 @@ loop-at-init c =
     }
 
 pub returns-then-len-at-clause-answer : goal.returns-then-len-at-clause-answer
-returns-then-len-at-clause-answer c =
+returns-then-len-at-clause-answer g c =
     none_at_all c.args.plan.now.start c.args.plan.now.sought c.loop-at.visited c.loop-at.at c.loop-at.invariant.visits c.loop-at.invariant.expanded (omega (arith, c.len.ensures.value, c.if-len-at.true))
 
 pub returns-in-Found-clause-answer : goal.returns-in-Found-clause-answer
-returns-in-Found-clause-answer c =
+returns-in-Found-clause-answer g c =
     finds_first c.args.plan.now.start c.args.plan.now.sought c.loop-at.visited c.loop-at.at c.in-Found.path.items c.loop-at.invariant.visits c.loop-at.invariant.expanded (rw c.in-Found.is at c.in_ok-expand.ensures.well)
 
 pub returns-in-Spent-clause-answer : goal.returns-in-Spent-clause-answer
-returns-in-Spent-clause-answer c =
+returns-in-Spent-clause-answer g c =
     let h = c.args.plan.now.start in
     let q = c.args.plan.now.sought in
     let lt : c.loop-at.at < length c.loop-at.visited = omega (arith, c.len.ensures.value, c.if-len-at.false) in
@@ -44,7 +44,7 @@ next h q cur new n i true w within e x lt = let below : i < n = grind (arith, na
 next h q cur new n i false w within e x lt = let here : i ≡ n = grind (arith, nat_tests, w, lt) in rw here x.expanded
 
 pub loop-at-preserved : goal.loop-at-preserved
-loop-at-preserved c =
+loop-at-preserved g c =
     let x = rw c.in-Whole.is at c.in_ok-expand.ensures.well in
     record {
       visits = x.visits;
@@ -58,7 +58,7 @@ loop-at-preserved c =
     }
 
 pub returns-in-Spent-clause-due : goal.returns-in-Spent-clause-due
-returns-in-Spent-clause-due c =
+returns-in-Spent-clause-due g c =
     let h = c.args.plan.now.start in
     let q = c.args.plan.now.sought in
     let lt : c.loop-at.at < length c.loop-at.visited = omega (arith, c.len.ensures.value, c.if-len-at.false) in
@@ -66,4 +66,4 @@ returns-in-Spent-clause-due c =
     spent_due h q c.args.plan.now.most (length_at c.expand.new.visited c.loop-at.at + 1) c.spent_at.result stop c.spent_at.ensures
 
 pub expand-requires-clause-end : goal.expand-requires-clause-end
-expand-requires-clause-end c = c.loop-at.invariant.ends c.loop-at.at (omega arith) (omega (arith, c.len.ensures.value, c.if-len-at.false))
+expand-requires-clause-end g c = c.loop-at.invariant.ends c.loop-at.at (omega arith) (omega (arith, c.len.ensures.value, c.if-len-at.false))

@@ -3,7 +3,7 @@ use Rattle.zy_search.specs.Visits.{Visits, IsEdge, AreEnds, AreExpanded, IsShelf
 use Rattle.zy_search.proofs.search.expand_all.Given as goal
 
 abbrev pub invariant-loop-at : goal.invariant-loop-at
-invariant-loop-at l =
+invariant-loop-at g l =
     record {
       visits : Visits l.plan.start l.plan.sought l.visited;
       within : l.at ≤ length l.visited;
