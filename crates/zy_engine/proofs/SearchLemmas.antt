@@ -14,7 +14,7 @@ use Rattle.zy_threads.specs.Orders.{reordered}
 use Rattle.zy_search.specs.declared.answer.Answer.{Answer}
 use Rattle.zy_search.specs.declared.answer.Answer.TheVariants.{Spent}
 use Rattle.zy_search.specs.declared.sought.Sought.{Sought}
-use Rattle.zy_search.specs.Searches.{IsAnswer}
+use Rattle.zy_search.specs.Searches.{IsAnswer, IsDue}
 use Rattle.zy_engine.specs.declared.format.Format.{Format}
 use Rattle.zy_engine.specs.Inputs.{StandsFor}
 use Rattle.zy_engine.specs.Searching.{ran}
@@ -40,6 +40,13 @@ pub answer-of-told : (format : Format) (q : Sought) (told : Option (List ℕ)) (
 answer-of-told format q None bytes scenario a same only is = tt
 answer-of-told format q (Some t) bytes scenario a same only is = λ sc stands.
     subst (λ (x : Scenario). IsAnswer (ran x) q a) (only sc (subst (λ x. StandsFor format x sc) (sym same) stands)) is
+
+pub due-of-told : (format : Format) (q : Sought) (most : ℕ) (told : Option (List ℕ)) (bytes : List ℕ) (scenario : Scenario) (a : Answer)
+    → IfSome told (λ t. bytes ≡ t) → ((s : Scenario) → StandsFor format bytes s → scenario ≡ s)
+    → IsDue (ran scenario) q most a → IfSome told (λ t. (sc : Scenario) → StandsFor format t sc → IsDue (ran sc) q most a)
+due-of-told format q most None bytes scenario a same only is = tt
+due-of-told format q most (Some t) bytes scenario a same only is = λ sc stands.
+    subst (λ (x : Scenario). IsDue (ran x) q most a) (only sc (subst (λ x. StandsFor format x sc) (sym same) stands)) is
 
 -- a fault says as much of what went out, whatever the call would have returned
 pub wrote_err : (X : Type 0) (old new : Option (List ℕ)) (before after : ℕ) (f : TextFault) (text : List ℕ) → Wrote old new before after {X = Unit {0}} (Err f) text → Wrote old new before after {X = X} (Err f) text

@@ -20,6 +20,7 @@ use zy_machine::machine::Machine;
 use zy_search::answer::{Answer, Report};
 use zy_search::search::search;
 use zy_search::sought::Sought;
+use zy_search::watch::Watch;
 
 /// Writes the canonical text of a scenario with more choices behind its own.
 fn write_found<K: Sink>(
@@ -55,35 +56,38 @@ fn write_answer<K: Sink>(
 }
 
 /// Makes the choices of a scenario, looks at the states that further ones lead to, and writes what goes out of the answer.
-fn write_search<K: Sink>(
+fn write_search<K: Sink, W: Watch>(
     alloc: Global,
     scenario: Scenario,
     sought: Sought,
     most: u32,
     sink: &mut K,
+    watch: &mut W,
 ) -> Result<Report, TextFault>
     requires { K.failures sink.old < u64.MAX }
-    ensures { WroteAnswer scenario sought (K.written sink.old) (K.written sink.new) (K.failures sink.old) (K.failures sink.new) result }
+    ensures { WroteAnswer scenario sought most (K.written sink.old) (K.written sink.new) (K.failures sink.old) (K.failures sink.new) result }
 {
     let machine = Machine::run_all(alloc, scenario)?;
-    let report = search(alloc, &machine, sought, most)?;
+    let report = search(alloc, &machine, sought, most, watch)?;
     write_answer(alloc, machine.scenario(), &report.answer, sink)?;
     Ok(report)
 }
 
 /// Reads a scenario whole, makes its choices, and looks for a state that further ones lead to and that shows what is sought. Where there is
-/// one, the canonical text of the scenario goes out with a shortest list of such choices behind its own; else nothing does.
-pub fn search_bytes<S: Source, K: Sink>(
+/// one, the canonical text of the scenario goes out with a shortest list of such choices behind its own; else nothing does. The watch is told how far the
+/// search is.
+pub fn search_bytes<S: Source, K: Sink, W: Watch>(
     alloc: Global,
     format: Format,
     sought: Sought,
     most: u32,
     source: &mut S,
     sink: &mut K,
+    watch: &mut W,
 ) -> Result<Report, BenchFault>
     requires source { S.failures source.old < u64.MAX }
     requires sink { K.failures sink.old < u64.MAX }
-    ensures converts { ConvertsSearch format sought
+    ensures converts { ConvertsSearch format sought most
         (record { left = S.left source.old; written = K.written sink.old; reads = S.failures source.old; writes = K.failures sink.old })
         (record { left = S.left source.new; written = K.written sink.new; reads = S.failures source.new; writes = K.failures sink.new })
         result }
@@ -92,6 +96,6 @@ pub fn search_bytes<S: Source, K: Sink>(
 {
     let bytes = read_all(alloc, source)?;
     let scenario = accept(alloc, format, bytes.as_slice())?;
-    let report = write_search(alloc, scenario, sought, most, sink)?;
+    let report = write_search(alloc, scenario, sought, most, sink, watch)?;
     Ok(report)
 }

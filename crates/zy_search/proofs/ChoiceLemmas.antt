@@ -124,3 +124,67 @@ has_considered kills count (Push n) e = node_has kills count n (Push n) (last_ha
 -- one more of these choices
 pub each_more : (make : ℕ → Choice) (xs ys old : List Choice) (t : ℕ) → xs ≡ old ++ each make t → ys ≡ xs ++ make t ∷ [] → ys ≡ old ++ each make (t + 1)
 each_more make xs ys old t e f = rw add-one (f ∙ (ap (λ l. l ++ make t ∷ []) e ∙ append_assoc old (each make t) (make t ∷ [])))
+
+-- ---- each is there once
+
+-- the place of a choice
+abbrev rank : Bool → ℕ → Choice → ℕ
+rank kills count Start = 0
+rank kills count (Begin t) = 1 + t
+rank kills count (Kill t) = 1 + count + t
+rank kills count (Run A t) = 1 + count + length (killing kills count) + t
+rank kills count (Take A) = 1 + count + length (killing kills count) + count
+rank kills count (Finish A) = 2 + count + length (killing kills count) + count
+rank kills count (Push A) = 3 + count + length (killing kills count) + count
+rank kills count (Run B t) = 4 + count + length (killing kills count) + count + t
+rank kills count (Take B) = 4 + count + length (killing kills count) + count + count
+rank kills count (Finish B) = 5 + count + length (killing kills count) + count + count
+rank kills count (Push B) = 6 + count + length (killing kills count) + count + count
+
+abbrev AreRanked : (Choice → ℕ) → ℕ → List Choice → Type 0
+AreRanked f n [] = Unit {0}
+AreRanked f n (c ∷ cs) = (f c ≡ n) × AreRanked f (n + 1) cs
+
+ranked_append : (f : Choice → ℕ) (n m : ℕ) (cs ds : List Choice) → m ≡ n + length cs → AreRanked f n cs → AreRanked f m ds → AreRanked f n (cs ++ ds)
+ranked_append f n m [] ds e a b = let same : n ≡ m = omega (arith, e) in rw same b
+ranked_append f n m (c ∷ cs) ds e a b = (a.0, ranked_append f (n + 1) m cs ds (omega (arith, e)) a.1 b)
+
+length_each : (make : ℕ → Choice) (n : ℕ) → length (each make n) ≡ n
+length_each make zero = refl
+length_each make (suc n) = omega (arith, length-append (each make n) (make n ∷ []), length_each make n)
+
+ranked_each : (f : Choice → ℕ) (m : ℕ) (make : ℕ → Choice) → ((t : ℕ) → f (make t) ≡ m + t) → (n : ℕ) → AreRanked f m (each make n)
+ranked_each f m make is zero = tt
+ranked_each f m make is (suc n) = ranked_append f m (m + n) (each make n) (make n ∷ []) (omega (arith, length_each make n)) (ranked_each f m make is n) (is n, tt)
+
+ranked_kills : (f : Choice → ℕ) (m count : ℕ) (kills : Bool) → ((t : ℕ) → f (Kill t) ≡ m + t) → AreRanked f m (killing kills count)
+ranked_kills f m count true is = ranked_each f m Kill is count
+ranked_kills f m count false is = tt
+
+ranked_node : (f : Choice → ℕ) (m count : ℕ) (n : Node) → ((t : ℕ) → f (Run n t) ≡ m + t) → f (Take n) ≡ m + count → f (Finish n) ≡ m + count + 1 → f (Push n) ≡ m + count + 1 + 1 → AreRanked f m (of_node n count)
+ranked_node f m count n run take finish push =
+    ranked_append f m (m + count) (each (Run n) count) _ (omega (arith, length_each (Run n) count)) (ranked_each f m (Run n) run count) (take, (finish, (push, tt)))
+
+length_node : (n : Node) (count : ℕ) → length (of_node n count) ≡ count + 3
+length_node n count = omega (arith, length-append (each (Run n) count) (Take n ∷ Finish n ∷ Push n ∷ []), length_each (Run n) count)
+
+all_ranked : (kills : Bool) (count : ℕ) → AreRanked (rank kills count) 0 (considered kills count)
+all_ranked kills count =
+    let f = rank kills count in
+    let k = length (killing kills count) in
+    ranked_append f 0 (1 + count) (Start ∷ each Begin count) _ (omega (arith, length_each Begin count)) (refl, ranked_each f 1 Begin (λ t. refl) count)
+    (ranked_append f (1 + count) (1 + count + k) (killing kills count) _ (omega arith) (ranked_kills f (1 + count) count kills (λ t. refl))
+    (ranked_append f (1 + count + k) (4 + count + k + count) (of_node A count) (of_node B count) (omega (arith, length_node A count)) (ranked_node f (1 + count + k) count A (λ t. refl) refl (omega arith) (omega arith))
+    (ranked_node f (4 + count + k + count) count B (λ t. refl) refl (omega arith) (omega arith))))
+
+rank_at : (f : Choice → ℕ) (n i : ℕ) (cs : List Choice) → AreRanked f n cs → i < length cs → f (get_or cs i Start) ≡ n + i
+rank_at f n i [] a lt = absurd (omega (arith, lt))
+rank_at f n zero (c ∷ cs) a lt = omega (arith, a.0)
+rank_at f n (suc i) (c ∷ cs) a lt = omega (arith, rank_at f (n + 1) i cs a.1 (omega (arith, lt)))
+
+pub ranked : (kills : Bool) (count i j : ℕ) → i < length (considered kills count) → j < length (considered kills count) → get_or (considered kills count) i Start ≡ get_or (considered kills count) j Start → i ≡ j
+ranked kills count i j lt lu e =
+    let f = rank kills count in
+    let x = rank_at f 0 i (considered kills count) (all_ranked kills count) lt in
+    let y = rank_at f 0 j (considered kills count) (all_ranked kills count) lu in
+    omega (arith, x, y, ap f e)

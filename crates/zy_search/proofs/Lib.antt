@@ -4,3 +4,6 @@ pub mod SearchLemmas
 pub mod ScheduleLemmas
 pub mod StillSteps
 pub mod TxnLemmas
+pub mod CommitLemmas
+pub mod ShelfLemmas
+pub mod EdgeLemmas

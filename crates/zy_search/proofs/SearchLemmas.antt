@@ -1,6 +1,7 @@
 -- Paths, the states that they lead to, and what a search knows of them.
-use Rattle.std.proofs.Common.{◌≡◌, ◌∙◌, ℕ, ◌+◌, ◌<◌, ◌≤◌, List, [], ◌∷◌, ◌++◌, length, refl, sym, ap, subst, arith, length-append, Bool, true, false, nat_lt, ◌&&◌, Result, Ok, Err, IfOk}
+use Rattle.std.proofs.Common.{◌≡◌, ◌∙◌, ℕ, ◌+◌, ◌<◌, ◌≤◌, ◌⊎◌, inl, inr, List, [], ◌∷◌, ◌++◌, length, refl, sym, ap, subst, arith, length-append, Bool, true, false, nat_lt, ◌&&◌, Result, Ok, Err, IfOk}
 use Rattle.std.proofs.lemmas.List.{get_or_append_left}
+use Rattle.std.proofs.lemmas.List.Elements.{All-from_get_or}
 use Rattle.std.proofs.lemmas.Bool.Decides.{nat_tests}
 use Rattle.std.proofs.Math.Seq.{get_or-append_seam}
 use Rattle.zy_isa.specs.declared.choice.Choice.{Choice}
@@ -14,9 +15,11 @@ use Rattle.zy_search.specs.declared.sought.Sought.{Sought}
 use Rattle.zy_search.specs.declared.answer.Answer.{Answer}
 use Rattle.zy_search.specs.declared.answer.Answer.TheVariants.{Spent}
 use Rattle.zy_search.specs.declared.answer.Report.{Report}
+use Rattle.zy_search.specs.Paths.{AreApart}
+use Rattle.zy_search.specs.Stuck.{is_still, AreMoves}
 use Rattle.zy_search.specs.Choices.{is_considered, AreConsidered, is_tried}
-use Rattle.zy_search.specs.Searches.{reached, Shows, Considers, IsPath, NoneBelow, NoneAtAll, FindsFirst, IsAnswer}
-use Rattle.zy_search.specs.Visits.{path_at, length_at, IsKnown, IsVisited, Visits, AreNear, IsExpanded, AreExpanded, Grows, FindsNext}
+use Rattle.zy_search.specs.Searches.{reached, Shows, Considers, IsPath, NoneBelow, NoneAtAll, FindsFirst, IsAnswer, IsDue, Fills}
+use Rattle.zy_search.specs.Visits.{path_at, length_at, IsKnown, IsVisited, Visits, IsEdge, IsExpanded, AreExpanded, Grows, FindsNext, StopsAt}
 
 -- ---- choices
 
@@ -35,9 +38,14 @@ are_more : (kills : Bool) (count : ℕ) (cs : List Choice) (c : Choice) → AreC
 are_more kills count [] c a e = (e, tt)
 are_more kills count (d ∷ cs) c a e = (a.0, are_more kills count cs c a.1 e)
 
-pub path_more : (h : History) (q : Sought) (cs : List Choice) (c : Choice) → Considers h q cs → length h.entries + length cs < 4096 → is_considered q.kills (length h.scenario.programs) c ≡ true → IsPath h q (cs ++ c ∷ [])
-path_more h q cs c a room e = record {
-  considered = are_more q.kills (length h.scenario.programs) cs c a e;
+moves_more : (sc : Scenario) (s : State) (cs : List Choice) (c : Choice) → AreMoves sc s cs → is_still (step sc c (play sc s cs)).outcome ≡ false → AreMoves sc s (cs ++ c ∷ [])
+moves_more sc s [] c a e = (e, tt)
+moves_more sc s (d ∷ cs) c a e = (a.0, moves_more sc (step sc d s).after cs c a.1 e)
+
+pub path_more : (h : History) (q : Sought) (cs : List Choice) (c : Choice) → IsPath h q cs → length h.entries + length cs < 4096 → is_still (step h.scenario c (reached h cs)).outcome ≡ false → is_considered q.kills (length h.scenario.programs) c ≡ true → IsPath h q (cs ++ c ∷ [])
+path_more h q cs c p room moved e = record {
+  considered = are_more q.kills (length h.scenario.programs) cs c p.considered e;
+  moves = moves_more h.scenario h.state cs c p.moves moved;
   room = omega (arith, room, length-append cs (c ∷ []));
 }
 
@@ -130,8 +138,8 @@ visited_last h ps p n le =
     (length ps, omega (arith, length-append ps (p ∷ [])), omega (arith, le, ap (λ (l : List Choice). length l) here), ap (reached h) here)
 
 -- a state of one of some paths, where none of them is much longer than that at a place
-pub near_known : (h : History) (ps : List (List Choice)) (at : ℕ) (x : State) → AreNear ps at → IsKnown h ps x → IsVisited h ps (length_at ps at + 1) x
-near_known h ps at x near k = (k.0, k.1, near k.0 k.1, k.2)
+pub near_known : (h : History) (ps : List (List Choice)) (at : ℕ) (x : State) → IsEdge ps at → IsKnown h ps x → IsVisited h ps (length_at ps at + 1) x
+near_known h ps at x edge k = (k.0, k.1, edge.near k.0 k.1, k.2)
 
 pub expanded_grown : (h : History) (q : Sought) (ps qs : List (List Choice)) (i : ℕ) → Grows ps qs → i < length ps → IsExpanded h q ps i → IsExpanded h q qs i
 expanded_grown h q ps qs i g lt e = λ c a.
@@ -161,23 +169,28 @@ order_push ps p i j false w order short le lt =
     let b = ap (λ (l : List Choice). length l) (get_or-append_seam ps p [] []) in
     rw here (omega (arith, a, b))
 
-pub visits_push : (h : History) (q : Sought) (ps : List (List Choice)) (p : List Choice) → Visits h q ps → IsPath h q p → (Shows h.scenario q (reached h p) → ⊥) → ((i : ℕ) → i < length ps → length_at ps i ≤ length p) → Visits h q (ps ++ p ∷ [])
-visits_push h q ps p v path none short = record {
+pub visits_push : (h : History) (q : Sought) (ps : List (List Choice)) (p : List Choice) → Visits h q ps → IsPath h q p → (Shows h.scenario q (reached h p) → ⊥) → ((i : ℕ) → i < length ps → length_at ps i ≤ length p) → AreApart (ps ++ p ∷ []) → Visits h q (ps ++ p ∷ [])
+visits_push h q ps p v path none short apart = record {
   some = omega (arith, v.some, length-append ps (p ∷ []));
   first = get_or_append_left ps (p ∷ []) [] 0 v.some ∙ v.first;
   paths = λ i lt. each_more (IsPath h q) ps p i (nat_lt i (length ps)) refl v.paths path lt;
   none = λ i lt. each_more (λ x. Shows h.scenario q (reached h x) → ⊥) ps p i (nat_lt i (length ps)) refl v.none none lt;
   order = λ i j le lt. order_push ps p i j (nat_lt j (length ps)) refl v.order short le lt;
+  apart = apart;
 }
 
-pub near_push : (ps : List (List Choice)) (p : List Choice) (at : ℕ) → AreNear ps at → at < length ps → length p ≡ length_at ps at + 1 → AreNear (ps ++ p ∷ []) at
+pub near_push : (ps : List (List Choice)) (p : List Choice) (at : ℕ) → ((i : ℕ) → i < length ps → length_at ps i ≤ length_at ps at + 1) → at < length ps → length p ≡ length_at ps at + 1
+    → (i : ℕ) → i < length (ps ++ p ∷ []) → length_at (ps ++ p ∷ []) i ≤ length_at (ps ++ p ∷ []) at + 1
 near_push ps p at near lt e = λ i below.
     let same = ap (λ (l : List Choice). length l) (get_or_append_left ps (p ∷ []) [] at lt) in
     let le = each_more (λ x. length x ≤ length_at ps at + 1) ps p i (nat_lt i (length ps)) refl near (omega (arith, e)) below in
     omega (arith, same, le)
 
-pub near_next : (h : History) (q : Sought) (ps : List (List Choice)) (at : ℕ) → Visits h q ps → AreNear ps at → at + 1 < length ps → AreNear ps (at + 1)
-near_next h q ps at v near lt = λ i below. omega (arith, near i below, v.order at (at + 1) (omega arith) lt)
+pub edge_next : (h : History) (q : Sought) (ps : List (List Choice)) (at : ℕ) → Visits h q ps → IsEdge ps at → at + 1 < length ps → IsEdge ps (at + 1)
+edge_next h q ps at v edge lt = record {
+  near = λ i below. omega (arith, edge.near i below, v.order at (at + 1) (omega arith) lt);
+  ends = λ j le. edge.ends j (omega (arith, le));
+}
 
 one_place : (i : ℕ) → i < 1 → i ≡ 0
 one_place i lt = omega (arith, lt)
@@ -187,13 +200,14 @@ pub visits_first : (h : History) (q : Sought) → length h.entries ≤ 4096 → 
 visits_first h q room none = record {
   some = omega arith;
   first = refl;
-  paths = λ i lt. rw (one_place i lt) (record { considered = tt; room = omega (arith, room) });
+  paths = λ i lt. rw (one_place i lt) (record { considered = tt; moves = tt; room = omega (arith, room) });
   none = λ i lt. rw (one_place i lt) none;
   order = λ i j le lt. rw (one_place i (omega (arith, le, lt)), one_place j lt) (omega arith);
+  apart = λ i j less lt. absurd (omega (arith, less, lt));
 }
 
-pub near_first : AreNear ([] ∷ []) 0
-near_first = λ i lt. rw (one_place i lt) (omega arith)
+pub near_first : (i : ℕ) → i < 1 → length_at ([] ∷ []) i ≤ length_at ([] ∷ []) 0 + 1
+near_first i lt = rw (one_place i lt) (omega arith)
 
 -- a report has the answer that was found for the same machine
 pub answered : {E : Type 0} (h : History) (q : Sought) (k : History) (p : Sought) (a : Answer) (r : Result Report E) → h ≡ k → q ≡ p → IsAnswer h q a → IfOk r (λ x. x.answer ≡ a) → IfOk r (λ x. IsAnswer k p x.answer)
@@ -204,3 +218,33 @@ answered h q k p a (Err x) e f is same = tt
 pub spent_well : {E : Type 0} (h : History) (q : Sought) (n : ℕ) (r : Result Answer E) → NoneBelow h q n → IfOk r (λ a. a ≡ Spent n) → IfOk r (IsAnswer h q)
 spent_well h q n (Ok a) below e = subst (IsAnswer h q) (sym e) below
 spent_well h q n (Err x) below e = tt
+
+-- what is due of an answer is due of that of a report on it
+pub due : {E : Type 0} (h : History) (q : Sought) (most : ℕ) (k : History) (p : Sought) (n : ℕ) (a : Answer) (r : Result Report E) → h ≡ k → q ≡ p → most ≡ n → IsDue h q most a → IfOk r (λ x. x.answer ≡ a) → IfOk r (λ x. IsDue k p n x.answer)
+due h q most k p n a (Ok x) e f g is same =
+    subst (IsDue k p n) (sym same) (subst (λ (m : ℕ). IsDue k p m a) g (subst (λ (s : Sought). IsDue k s most a) f (subst (λ (y : History). IsDue y q most a) e is)))
+due h q most k p n a (Err x) e f g is same = tt
+
+pub spent_due : {E : Type 0} (h : History) (q : Sought) (most n : ℕ) (r : Result Answer E) → IsDue h q most (Spent n) → IfOk r (λ a. a ≡ Spent n) → IfOk r (IsDue h q most)
+spent_due h q most n (Ok a) is e = subst (IsDue h q most) (sym e) is
+spent_due h q most n (Err x) is e = tt
+
+abbrev IsKept : History → Sought → ℕ → List Choice → Type 0
+IsKept h q n cs = IsPath h q cs × (length cs ≤ n) × (Shows h.scenario q (reached h cs) → ⊥)
+
+-- as many paths as there may be, none of them much longer than that at a place
+pub fills : (h : History) (q : Sought) (most at : ℕ) (ps : List (List Choice)) → Visits h q ps → IsEdge ps at → most ≤ length ps → Fills h q most (length_at ps at + 1)
+fills h q most at ps v edge many = record {
+  paths = ps;
+  many = many;
+  apart = v.apart;
+  each = All-from_get_or (IsKept h q (length_at ps at + 1)) ps [] (λ i lt. (v.paths i lt, edge.near i lt, v.none i lt));
+}
+
+pub stops : (h : History) (q : Sought) (most at : ℕ) (old new : List (List Choice)) → at < length old → StopsAt h q most old new at → IsDue h q most (Spent (length_at new at + 1))
+stops h q most at old new lt (inl full) = inl (fills h q most at new full.visits full.near full.many)
+stops h q most at old new lt (inr x) = inr (omega (arith, x.1, ap (λ (l : List Choice). length l) (x.0.same at lt)))
+
+pub stops_grown : (h : History) (q : Sought) (most at : ℕ) (old new : List (List Choice)) → StopsAt h q most old new at → Grows old new
+stops_grown h q most at old new (inl full) = full.grows
+stops_grown h q most at old new (inr x) = x.0

@@ -1,5 +1,6 @@
 -- Where nothing comes of a step the state is as it was.
-use Rattle.std.proofs.Common.{◌≡◌, ◌∙◌, ℕ, List, [], ◌∷◌, length, ◌<◌, arith, true, false, not, nat_lt, nat_le, ◌&&◌, Option, Some, None, refl, sym, ap}
+use Rattle.std.proofs.Common.{◌≡◌, ◌∙◌, inl, ℕ, List, [], ◌∷◌, ◌++◌, length, length-append, ◌<◌, arith, true, false, not, nat_lt, nat_le, ◌&&◌, Option, Some, None, refl, sym, ap}
+use Rattle.zy_table.specs.declared.entry.Entry.{Entry}
 use Rattle.std.proofs.lemmas.Bool.{cond_both, false≢true}
 use Rattle.zy_isa.specs.declared.node.Node.{Node}
 use Rattle.zy_isa.specs.declared.node.Node.TheVariants.{A, B}
@@ -33,7 +34,7 @@ use Rattle.zy_search.specs.Stuck.{is_still}
 use Rattle.zy_table.specs.declared.outcome.Outcome.{Outcome}
 use Rattle.zy_search.specs.declared.sought.Sought.{Sought}
 use Rattle.zy_search.specs.Searches.{reached}
-use Rattle.zy_search.specs.Visits.{path_at, Visits, AreNear, IsHere, IsTwin, Notes}
+use Rattle.zy_search.specs.Visits.{path_at, Visits, IsEdge, IsHere, IsTwin, IsNext, Notes}
 use Rattle.zy_search.proofs.SearchLemmas.{grows_not}
 
 abbrev Stays : View → Move → Type 0
@@ -271,28 +272,50 @@ still_stays sc c s e =
     let n = side_of sc c s in
     ap (seen_from n) (moves sc c n (facing n s) e) ∙ back n s
 
+-- a history with an entry more
+pub longer_by : (old new : List Entry) (e : Entry) → new ≡ old ++ e ∷ [] → length old < length new
+longer_by old new e is = omega (arith, ap (λ (es : List Entry). length es) is, length-append old (e ∷ []))
+
 -- a step that nothing comes of, on a twin: it stays one
-pub twin_still : (m old new : History) (c : Choice) → IsTwin m old → new.scenario ≡ old.scenario → new.state ≡ (step old.scenario c old.state).after → is_still (step old.scenario c old.state).outcome ≡ true → IsTwin m new
-twin_still m old new c t e f still = record {
+pub twin_still : (m old new : History) (c : Choice) → IsTwin m old → new.scenario ≡ old.scenario → new.state ≡ (step old.scenario c old.state).after → length old.entries < length new.entries
+    → is_still (step old.scenario c old.state).outcome ≡ true → IsTwin m new
+twin_still m old new c t e f longer still = record {
   scenario = e ∙ t.scenario;
   state = f ∙ (still_stays old.scenario c old.state still ∙ t.state);
+  entries = omega (arith, t.entries, longer);
 }
 
 -- a twin's step is that of the first machine
 pub twin_step : (m twin : History) (c : Choice) → IsTwin m twin → step twin.scenario c twin.state ≡ step m.scenario c m.state
 twin_step m twin c t = ap (λ (sc : Scenario). step sc c twin.state) t.scenario ∙ ap (step m.scenario c) t.state
 
+-- the step of a machine where a path leads is that from the path's state
+pub here_step : (h m : History) (ps : List (List Choice)) (at : ℕ) (c : Choice) → IsHere h ps at m → step m.scenario c m.state ≡ step h.scenario c (reached h (path_at ps at))
+here_step h m ps at c here = ap (λ (sc : Scenario). step sc c m.state) here.scenario ∙ ap (step h.scenario c) here.state
+
 -- a choice that nothing comes of leads to the state of the path itself
-pub still_known : (h m twin : History) (q : Sought) (ps : List (List Choice)) (at : ℕ) (c : Choice) (o : Outcome) → Visits h q ps → AreNear ps at → at < length ps → IsHere h ps at m → IsTwin m twin
-    → o ≡ (step twin.scenario c twin.state).outcome → is_still o ≡ true → Notes h q ps ps at c
-still_known h m twin q ps at c o v near lt here t oe f =
-    let e : step twin.scenario c twin.state ≡ step h.scenario c (reached h (path_at ps at)) =
-    twin_step m twin c t ∙ (ap (λ (sc : Scenario). step sc c m.state) here.scenario ∙ ap (step h.scenario c) here.state) in
+pub still_known : (h m : History) (q : Sought) (ps : List (List Choice)) (at : ℕ) (c : Choice) (o : Outcome) → Visits h q ps → IsEdge ps at → at < length ps → IsHere h ps at m
+    → o ≡ (step m.scenario c m.state).outcome → is_still o ≡ true → Notes h q ps ps at c
+still_known h m q ps at c o v near lt here oe f =
     let still : is_still (step h.scenario c (reached h (path_at ps at))).outcome ≡ true =
-    sym (ap (λ (x : Step). is_still x.outcome) e) ∙ (sym (ap is_still oe) ∙ f) in
+    sym (ap (λ (x : Step). is_still x.outcome) (here_step h m ps at c here)) ∙ (sym (ap is_still oe) ∙ f) in
     record {
       visits = v;
       near = near;
       grows = grows_not ps;
       known = (at, lt, omega arith, sym (still_stays h.scenario c (reached h (path_at ps at)) still));
+      more = inl refl;
+    }
+
+-- what a choice of which something comes has led a twin to
+pub next : (h m x : History) (ps : List (List Choice)) (at : ℕ) (c : Choice) (o : Outcome) → IsHere h ps at m → x.scenario ≡ m.scenario → o ≡ (step m.scenario c m.state).outcome → x.state ≡ (step m.scenario c m.state).after → is_still o ≡ false
+    → length m.entries < length x.entries → length x.entries < 4096 → IsNext h ps at c x
+next h m x ps at c o here e oe f still longer room =
+    let same = here_step h m ps at c here in
+    record {
+      scenario = e ∙ here.scenario;
+      state = f ∙ ap (λ (y : Step). y.after) same;
+      moved = sym (ap (λ (y : Step). is_still y.outcome) same) ∙ (sym (ap is_still oe) ∙ still);
+      longer = omega (arith, here.entries, longer);
+      room = room;
     }

@@ -1,5 +1,5 @@
 -- Paths that each go on from an earlier one.
-use Rattle.std.specs.Prelude.{ℕ, ◌<◌, suc, List, [], ◌∷◌, ◌++◌, slice_index_or}
+use Rattle.std.specs.Prelude.{ℕ, ◌≡◌, ◌<◌, suc, length, List, [], ◌∷◌, ◌++◌, slice_index_or}
 use Rattle.zy_isa.specs.declared.choice.Choice.{Choice}
 use Rattle.zy_search.specs.declared.branch.Branch.{Branch}
 
@@ -16,3 +16,7 @@ paths_of bs = grown ([] ∷ []) bs
 abbrev pub AreRooted : ℕ → List Branch → Type 0
 AreRooted n [] = Unit {0}
 AreRooted n (b ∷ bs) = (b.from < n) × AreRooted (suc n) bs
+
+-- no path is there twice
+abbrev pub AreApart : List (List Choice) → Type 0
+AreApart paths = (i j : ℕ) → i < j → j < length paths → slice_index_or paths i [] ≡ slice_index_or paths j [] → ⊥

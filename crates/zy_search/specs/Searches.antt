@@ -1,6 +1,6 @@
 -- What a search finds out.
-use Rattle.std.specs.Prelude.{ℕ, ◌≡◌, ◌≤◌, ◌<◌, ◌+◌, List, Bool, true, false, length}
-use Rattle.std.specs.List.{list_any, list_all}
+use Rattle.std.specs.Prelude.{ℕ, ◌≡◌, ◌≤◌, ◌<◌, ◌+◌, ◌⊎◌, List, Bool, true, false, length}
+use Rattle.std.specs.List.{All, list_any, list_all}
 use Rattle.zy_isa.specs.declared.choice.Choice.{Choice}
 use Rattle.zy_isa.specs.Scenario.{Scenario}
 use Rattle.zy_table.specs.State.{State, Txn}
@@ -13,8 +13,9 @@ use Rattle.zy_search.specs.declared.sought.Wanted.TheVariants as wanted
 use Rattle.zy_search.specs.declared.answer.Answer.{Answer}
 use Rattle.zy_search.specs.declared.answer.Answer.TheVariants as answer
 use Rattle.zy_search.specs.Reasons.{is_aborted, is_committed}
-use Rattle.zy_search.specs.Stuck.{IsStuck}
+use Rattle.zy_search.specs.Stuck.{AreMoves, IsStuck}
 use Rattle.zy_search.specs.Choices.{AreConsidered}
+use Rattle.zy_search.specs.Paths.{AreApart}
 
 -- a state shows what is wanted
 abbrev pub ShowsIt : Scenario → Bool → Wanted → State → Type 0
@@ -34,9 +35,10 @@ reached h cs = play h.scenario h.state cs
 abbrev pub Considers : History → Sought → List Choice → Type 0
 Considers h q cs = AreConsidered q.kills (length h.scenario.programs) cs
 
--- considered choices for which the history has room
+-- considered choices for which the history has room, and of each of which something comes
 pub record IsPath (h : History) (q : Sought) (cs : List Choice) : Type 0 where
   pub considered : Considers h q cs
+  pub moves : AreMoves h.scenario h.state cs
   pub room : length h.entries + length cs ≤ 4096
 
 -- these choices lead to a state that shows what is looked for
@@ -61,6 +63,19 @@ abbrev pub IsAnswer : History → Sought → Answer → Type 0
 IsAnswer h q (answer.Found v) = FindsFirst h q v.items
 IsAnswer h q answer.Nowhere = NoneAtAll h q
 IsAnswer h q (answer.Spent fewer) = NoneBelow h q fewer
+
+-- at least `most` paths of at most n choices are known, none of them twice, and none leads to a state that shows it
+pub record Fills (h : History) (q : Sought) (most n : ℕ) : Type 0 where
+  pub paths : List (List Choice)
+  pub many : most ≤ length paths
+  pub apart : AreApart paths
+  pub each : All (λ cs. IsPath h q cs × (length cs ≤ n) × (Shows h.scenario q (reached h cs) → ⊥)) paths
+
+-- a search gives up only where it knows as many paths as it may, or where its bound is all that the history has room for
+abbrev pub IsDue : History → Sought → ℕ → Answer → Type 0
+IsDue h q most (answer.Found v) = Unit {0}
+IsDue h q most answer.Nowhere = Unit {0}
+IsDue h q most (answer.Spent fewer) = Fills h q most fewer ⊎ (4096 ≤ length h.entries + fewer)
 
 -- whether a state is stuck is seen by steps, for which the history needs room
 abbrev pub MayTry : Sought → History → Type 0

@@ -1,5 +1,5 @@
 -- Where nothing goes on.
-use Rattle.std.specs.Prelude.{◌≡◌, Bool, true, false, length}
+use Rattle.std.specs.Prelude.{◌≡◌, Bool, true, false, List, [], ◌∷◌, length}
 use Rattle.std.specs.List.{list_any}
 use Rattle.zy_isa.specs.declared.choice.Choice.{Choice}
 use Rattle.zy_isa.specs.Scenario.{Scenario}
@@ -24,6 +24,11 @@ is_still Stray = true
 is_still (Active t) = true
 is_still NoPush = true
 is_still o = false
+
+-- something comes of each of these choices
+abbrev pub AreMoves : Scenario → State → List Choice → Type 0
+AreMoves sc s [] = Unit {0}
+AreMoves sc s (c ∷ cs) = (is_still (step sc c s).outcome ≡ false) × AreMoves sc (step sc c s).after cs
 
 -- a transaction is active, and nothing comes of any considered choice
 pub record IsStuck (sc : Scenario) (kills : Bool) (s : State) : Type 0 where

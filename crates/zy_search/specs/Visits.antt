@@ -1,16 +1,23 @@
 -- What a search keeps, and what each of its parts adds.
-use Rattle.std.specs.Prelude.{ℕ, ◌≡◌, ◌≤◌, ◌<◌, ◌+◌, List, [], ◌∷◌, ◌++◌, true, length, slice_index_or}
+use Rattle.std.specs.Prelude.{ℕ, ◌≡◌, ◌≤◌, ◌<◌, ◌+◌, ◌⊎◌, List, [], ◌∷◌, ◌++◌, true, false, length, slice_index_or, IfSome}
+use Rattle.std.specs.List.{All}
 use Rattle.zy_isa.specs.declared.choice.Choice.{Choice}
+use Rattle.zy_isa.specs.declared.choice.Choice.TheVariants.{Start}
 use Rattle.zy_table.specs.State.{State}
 use Rattle.zy_table.specs.Play.{step}
 use Rattle.zy_machine.specs.Histories.{History}
 use Rattle.zy_search.specs.declared.sought.Sought.{Sought}
 use Rattle.zy_search.specs.declared.plan.Plan.{Plan}
+use Rattle.zy_search.specs.declared.twin.Twin.{Twin}
+use Rattle.zy_search.specs.declared.shelf.Spot.{Spot}
+use Rattle.zy_search.specs.declared.shelf.Shelf.{Shelf}
 use Rattle.zy_search.specs.declared.answer.Met.{Met}
 use Rattle.zy_search.specs.declared.answer.Met.TheVariants as met
 use Rattle.zy_search.specs.declared.answer.Expanded.{Expanded}
 use Rattle.zy_search.specs.declared.answer.Expanded.TheVariants as expanded
 use Rattle.zy_search.specs.Choices.{considered, is_considered}
+use Rattle.zy_search.specs.Paths.{AreApart}
+use Rattle.zy_search.specs.Stuck.{is_still}
 use Rattle.zy_search.specs.Searches.{Shows, reached, IsPath, Finds}
 
 -- the choices of a plan are all that its search considers
@@ -38,10 +45,24 @@ pub record Visits (h : History) (q : Sought) (ps : List (List Choice)) : Type 0 
   pub paths : (i : ℕ) → i < length ps → IsPath h q (path_at ps i)
   pub none : (i : ℕ) → i < length ps → Shows h.scenario q (reached h (path_at ps i)) → ⊥
   pub order : (i j : ℕ) → i ≤ j → j < length ps → length_at ps i ≤ length_at ps j
+  pub apart : AreApart ps
 
--- no path has more than one choice more than that at a place
-abbrev pub AreNear : List (List Choice) → ℕ → Type 0
-AreNear ps at = (i : ℕ) → i < length ps → length_at ps i ≤ length_at ps at + 1
+-- no path goes on from that at a place by this choice
+abbrev pub IsFresh : List (List Choice) → ℕ → Choice → Type 0
+IsFresh ps at c = (i : ℕ) → i < length ps → path_at ps i ≡ path_at ps at ++ c ∷ [] → ⊥
+
+-- none goes on from one of those from n on
+abbrev pub AreEnds : List (List Choice) → ℕ → Type 0
+AreEnds ps n = (j : ℕ) → n ≤ j → j < length ps → (c : Choice) → IsFresh ps j c
+
+-- those that go on from that at a place do so by one of the first n choices
+abbrev pub GoOnBy : List (List Choice) → ℕ → List Choice → ℕ → Type 0
+GoOnBy ps at cs n = (i : ℕ) → i < length ps → (c : Choice) → path_at ps i ≡ path_at ps at ++ c ∷ [] → (k : ℕ) × (k < n) × (slice_index_or cs k Start ≡ c)
+
+-- where that at a place is gone on from: no path has more than one choice more, and none goes on from a later one
+pub record IsEdge (ps : List (List Choice)) (at : ℕ) : Type 0 where
+  pub near : (i : ℕ) → i < length ps → length_at ps i ≤ length_at ps at + 1
+  pub ends : AreEnds ps (at + 1)
 
 -- each choice from the state of the path at i leads to a state of one of the paths, which is at most one choice longer
 abbrev pub IsExpanded : History → Sought → List (List Choice) → ℕ → Type 0
@@ -53,23 +74,39 @@ IsExpanded h q paths i =
 abbrev pub AreExpanded : History → Sought → List (List Choice) → ℕ → Type 0
 AreExpanded h q paths n = (i : ℕ) → i < n → IsExpanded h q paths i
 
--- a machine that has gone along the path at a place
+-- a machine where the path at a place leads: it has made its choices, and may have made more that nothing came of
 pub record IsHere (h : History) (paths : List (List Choice)) (at : ℕ) (m : History) : Type 0 where
   pub scenario : m.scenario ≡ h.scenario
   pub state : m.state ≡ reached h (path_at paths at)
-  pub entries : length m.entries ≡ length h.entries + length_at paths at
+  pub entries : length h.entries + length_at paths at ≤ length m.entries
 
--- another machine in the same state
+-- another machine in the same state, which has made no fewer choices
 pub record IsTwin (m twin : History) : Type 0 where
   pub scenario : twin.scenario ≡ m.scenario
   pub state : twin.state ≡ m.state
+  pub entries : length m.entries ≤ length twin.entries
+
+-- one that is in the same state if it says so
+pub record IsSecond (m : History) (twin : Twin) : Type 0 where
+  pub scenario : twin.machine.scenario ≡ m.scenario
+  pub back : twin.is_back ≡ true → IsTwin m twin.machine
 
 -- a machine that has made one choice more
 pub record IsNext (h : History) (paths : List (List Choice)) (at : ℕ) (c : Choice) (m : History) : Type 0 where
   pub scenario : m.scenario ≡ h.scenario
   pub state : m.state ≡ (step h.scenario c (reached h (path_at paths at))).after
-  pub room : length h.entries + length_at paths at < 4096
-  pub entries : length m.entries < 4096
+  pub moved : is_still (step h.scenario c (reached h (path_at paths at))).outcome ≡ false
+  pub longer : length h.entries + length_at paths at < length m.entries
+  pub room : length m.entries < 4096
+
+-- a machine of the scenario, where the path leads that it names
+pub record IsSpot (h : History) (paths : List (List Choice)) (spot : Spot) : Type 0 where
+  pub scenario : spot.machine.scenario ≡ h.scenario
+  pub here : IfSome spot.at (λ at. (at < length paths) × IsHere h paths at spot.machine)
+
+pub record IsShelf (h : History) (paths : List (List Choice)) (shelf : Shelf) : Type 0 where
+  pub spots : All (IsSpot h paths) shelf.spots.items
+  pub spare : shelf.spare.scenario ≡ h.scenario
 
 -- the paths of old stand at their places in new
 pub record Grows (old new : List (List Choice)) : Type 0 where
@@ -79,19 +116,33 @@ pub record Grows (old new : List (List Choice)) : Type 0 where
 -- what a choice from the state of the path at a place has led to
 pub record Notes (h : History) (q : Sought) (old new : List (List Choice)) (at : ℕ) (c : Choice) : Type 0 where
   pub visits : Visits h q new
-  pub near : AreNear new at
+  pub near : IsEdge new at
   pub grows : Grows old new
   pub known : IsVisited h new (length_at old at + 1) (step h.scenario c (reached h (path_at old at))).after
+  pub more : (new ≡ old) ⊎ (new ≡ old ++ (path_at old at ++ c ∷ []) ∷ [])
 
-abbrev pub MeetsWell : History → Sought → List (List Choice) → List (List Choice) → ℕ → Choice → Met → Type 0
-MeetsWell h q old new at c met.Noted = Notes h q old new at c
-MeetsWell h q old new at c met.Shown = Shows h.scenario q (reached h (path_at old at ++ c ∷ [])) × Grows old new
-MeetsWell h q old new at c met.Spent = Grows old new
+-- one that shows what is looked for
+pub record ShowsNext (h : History) (q : Sought) (old new : List (List Choice)) (at : ℕ) (c : Choice) : Type 0 where
+  pub shows : Shows h.scenario q (reached h (path_at old at ++ c ∷ []))
+  pub moved : is_still (step h.scenario c (reached h (path_at old at))).outcome ≡ false
+  pub grows : Grows old new
+
+-- there are as many paths as there may be
+pub record IsFull (h : History) (q : Sought) (most : ℕ) (old new : List (List Choice)) (at : ℕ) : Type 0 where
+  pub visits : Visits h q new
+  pub near : IsEdge new at
+  pub grows : Grows old new
+  pub many : most ≤ length new
+
+abbrev pub MeetsWell : History → Sought → ℕ → List (List Choice) → List (List Choice) → ℕ → Choice → Met → Type 0
+MeetsWell h q most old new at c met.Noted = Notes h q old new at c
+MeetsWell h q most old new at c met.Shown = ShowsNext h q old new at c
+MeetsWell h q most old new at c met.Spent = IsFull h q most old new at
 
 -- each choice from the state of the path at a place leads to a state of one of the paths
 pub record Expands (h : History) (q : Sought) (old new : List (List Choice)) (at : ℕ) : Type 0 where
   pub visits : Visits h q new
-  pub near : AreNear new at
+  pub near : IsEdge new at
   pub grows : Grows old new
   pub expanded : IsExpanded h q new at
 
@@ -100,7 +151,11 @@ pub record FindsNext (h : History) (q : Sought) (old : List (List Choice)) (at :
   pub finds : Finds h q cs
   pub longer : length cs ≡ length_at old at + 1
 
-abbrev pub ExpandsWell : History → Sought → List (List Choice) → List (List Choice) → ℕ → Expanded → Type 0
-ExpandsWell h q old new at expanded.Whole = Expands h q old new at
-ExpandsWell h q old new at (expanded.Found v) = FindsNext h q old at v.items
-ExpandsWell h q old new at expanded.Spent = Grows old new
+-- the search can go on no more
+abbrev pub StopsAt : History → Sought → ℕ → List (List Choice) → List (List Choice) → ℕ → Type 0
+StopsAt h q most old new at = IsFull h q most old new at ⊎ (Grows old new × (4096 ≤ length h.entries + length_at old at + 1))
+
+abbrev pub ExpandsWell : History → Sought → ℕ → List (List Choice) → List (List Choice) → ℕ → Expanded → Type 0
+ExpandsWell h q most old new at expanded.Whole = Expands h q old new at
+ExpandsWell h q most old new at (expanded.Found v) = FindsNext h q old at v.items
+ExpandsWell h q most old new at expanded.Spent = StopsAt h q most old new at

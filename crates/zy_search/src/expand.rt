@@ -1,42 +1,41 @@
 //! What the choices from one state lead to.
-ghost use Rattle.std.specs.Prelude.{◌≡◌, ◌≤◌, ◌<◌, ◌+◌, ◌^◌, ◌++◌, ◌∷◌, [], IfOk, OnOk, None, true, length};
-ghost use Rattle.std.specs.Bool.{Decides};
+ghost use Rattle.std.specs.Prelude.{◌≡◌, ◌≤◌, ◌<◌, ◌+◌, ◌^◌, ◌++◌, ◌∷◌, [], IfOk, OnOk, None, true, false, length};
+ghost use Rattle.zy_isa.specs.declared.choice.Choice.{Choice as AChoice};
 ghost use Rattle.zy_search.specs.Choices.{is_considered};
-ghost use Rattle.zy_search.specs.Visits.{path_at, IsWhole, IsKnown, IsHere, IsTwin, IsNext, Visits, AreNear, MeetsWell, ExpandsWell};
+ghost use Rattle.zy_search.specs.Visits.{path_at, length_at, IsWhole, IsKnown, IsFresh, IsHere, IsNext, IsSecond, IsShelf, Visits, IsEdge, Grows, MeetsWell, ExpandsWell};
 
 use crate::answer::{Expanded, Met};
 use crate::digest::digest;
 use crate::plan::Plan;
-use crate::shows::shows;
+use crate::shelf::Shelf;
+use crate::shows::shows_next;
 use crate::still::is_still;
-use crate::twin::{bring_back, make_room};
+use crate::twin::Twin;
 use crate::visited::Visited;
 use crate::walk::go_to;
 use std::alloc::{AllocError, Global};
 use zy_isa::choice::Choice;
+use zy_isa::scenario::MAX_CHOICES;
 use zy_machine::machine::{Fault, Machine};
 
 /// How many states with one digest are kept; more of them cost time and memory, and nothing else.
 const MOST_ALIKE: u64 = 8;
 
-/// Whether the path that is put under a digest leads to a machine's state. `other` is brought to where that path leads.
+/// Whether the path that is put under a digest leads to a machine's state.
 fn is_known(
     plan: &Plan,
     visited: &Visited,
-    other: &mut Machine,
+    shelf: &mut Shelf,
     machine: &Machine,
     digest: u64,
 ) -> Result<bool, Fault>
     requires visits { Visits plan.now.start plan.now.sought visited.now }
-    requires same { other.old.scenario ≡ plan.now.start.scenario }
+    requires shelf { IsShelf plan.now.start visited.now shelf.old }
     ensures known { IfOk result (λ b. b ≡ true → IsKnown plan.now.start visited.now machine.now.state) }
-    ensures same { OnOk result (other.new.scenario ≡ plan.now.start.scenario) }
+    ensures shelf { OnOk result (IsShelf plan.now.start visited.now shelf.new) }
 {
     match visited.find(digest) {
-        Some(at) => {
-            go_to(plan, visited, at, other)?;
-            Ok(other.same_state(machine))
-        }
+        Some(at) => shelf.leads_to(plan, visited, at, machine),
         None => Ok(false),
     }
 }
@@ -46,13 +45,13 @@ fn is_known(
 fn free_under(
     plan: &Plan,
     visited: &Visited,
-    other: &mut Machine,
+    shelf: &mut Shelf,
     machine: &Machine,
 ) -> Result<Option<u64>, Fault>
     requires visits { Visits plan.now.start plan.now.sought visited.now }
-    requires same { other.old.scenario ≡ plan.now.start.scenario }
+    requires shelf { IsShelf plan.now.start visited.now shelf.old }
     ensures known { IfOk result (λ free. free ≡ None → IsKnown plan.now.start visited.now machine.now.state) }
-    ensures same { OnOk result (other.new.scenario ≡ plan.now.start.scenario) }
+    ensures shelf { OnOk result (IsShelf plan.now.start visited.now shelf.new) }
 {
     let first = digest(machine);
     for k in 0..MOST_ALIKE {
@@ -60,37 +59,78 @@ fn free_under(
         if visited.find(number).is_none() {
             return Ok(Some(number));
         }
-        if is_known(plan, visited, other, machine, number)? {
+        if is_known(plan, visited, shelf, machine, number)? {
             return Ok(None);
         }
     }
     Ok(Some(first))
 }
 
+/// Takes in a path more, which leads to the state of the twin, and the twin's machine with it.
+fn keep(
+    plan: &Plan,
+    visited: &mut Visited,
+    shelf: &mut Shelf,
+    at: u32,
+    choice: Choice,
+    here: &Machine,
+    twin: &mut Twin,
+    digest: u64,
+) -> Result<(), Fault>
+    requires room { length visited.old < 2 ^ 32 }
+    requires at { at < length visited.old }
+    requires here { here.now.scenario ≡ plan.now.start.scenario }
+    requires next { IsNext plan.now.start visited.old at choice twin.old.machine }
+    requires shelf { IsShelf plan.now.start visited.old shelf.old }
+    ensures paths { OnOk result (visited.new ≡ visited.old ++ (path_at visited.old at ++ choice ∷ []) ∷ []) }
+    ensures shelf { OnOk result (IsShelf plan.now.start visited.new shelf.new) }
+    ensures twin { OnOk result (IsSecond here.now twin.new) }
+{
+    let place = visited.len() as u32;
+    visited.push(at, choice, digest)?;
+    twin.is_back = shelf.put(plan.alloc, place, &mut twin.machine, here)?;
+    Ok(())
+}
+
 /// Takes in a state that no path leads to, if it does not show what is looked for and there is room for it.
 fn note_new(
     plan: &Plan,
     visited: &mut Visited,
+    shelf: &mut Shelf,
     at: u32,
     choice: Choice,
-    next: &Machine,
+    here: &Machine,
+    twin: &mut Twin,
     digest: u64,
 ) -> Result<Met, Fault>
     requires whole { IsWhole plan.now }
     requires visits { Visits plan.now.start plan.now.sought visited.old }
-    requires near { AreNear visited.old at }
+    requires near { IsEdge visited.old at }
     requires at { at < length visited.old }
     requires considered { is_considered plan.now.sought.kills (length plan.now.start.scenario.programs) choice ≡ true }
-    requires next { IsNext plan.now.start visited.old at choice next.now }
-    ensures { IfOk result (MeetsWell plan.now.start plan.now.sought visited.old visited.new at choice) }
+    requires fresh { IsFresh visited.old at choice }
+    requires here { IsHere plan.now.start visited.old at here.now }
+    requires next { IsNext plan.now.start visited.old at choice twin.old.machine }
+    requires away { twin.old.is_back ≡ false }
+    requires shelf { IsShelf plan.now.start visited.old shelf.old }
+    ensures well { IfOk result (MeetsWell plan.now.start plan.now.sought plan.now.most visited.old visited.new at choice) }
+    ensures shelf { OnOk result (IsShelf plan.now.start visited.new shelf.new) }
+    ensures twin { OnOk result (IsSecond here.now twin.new) }
 {
-    if shows(plan.alloc, plan.sought, &plan.choices, next)? {
+    if shows_next(
+        plan.alloc,
+        plan.sought,
+        &plan.choices,
+        here,
+        &twin.machine,
+        &mut shelf.spare,
+    )? {
         return Ok(Met::Shown);
     }
     if plan.most as usize <= visited.len() {
         return Ok(Met::Spent);
     }
-    visited.push(at, choice, digest)?;
+    keep(plan, visited, shelf, at, choice, here, twin, digest)?;
     Ok(Met::Noted)
 }
 
@@ -98,58 +138,61 @@ fn note_new(
 fn note(
     plan: &Plan,
     visited: &mut Visited,
-    other: &mut Machine,
+    shelf: &mut Shelf,
     at: u32,
     choice: Choice,
-    next: &Machine,
+    here: &Machine,
+    twin: &mut Twin,
 ) -> Result<Met, Fault>
     requires whole { IsWhole plan.now }
     requires visits { Visits plan.now.start plan.now.sought visited.old }
-    requires near { AreNear visited.old at }
+    requires near { IsEdge visited.old at }
     requires at { at < length visited.old }
     requires considered { is_considered plan.now.sought.kills (length plan.now.start.scenario.programs) choice ≡ true }
-    requires next { IsNext plan.now.start visited.old at choice next.now }
-    requires same { other.old.scenario ≡ plan.now.start.scenario }
-    ensures well { IfOk result (MeetsWell plan.now.start plan.now.sought visited.old visited.new at choice) }
-    ensures same { OnOk result (other.new.scenario ≡ plan.now.start.scenario) }
+    requires fresh { IsFresh visited.old at choice }
+    requires here { IsHere plan.now.start visited.old at here.now }
+    requires next { IsNext plan.now.start visited.old at choice twin.old.machine }
+    requires away { twin.old.is_back ≡ false }
+    requires shelf { IsShelf plan.now.start visited.old shelf.old }
+    ensures well { IfOk result (MeetsWell plan.now.start plan.now.sought plan.now.most visited.old visited.new at choice) }
+    ensures shelf { OnOk result (IsShelf plan.now.start visited.new shelf.new) }
+    ensures twin { OnOk result (IsSecond here.now twin.new) }
 {
-    match free_under(plan, visited, other, next)? {
+    match free_under(plan, visited, shelf, &twin.machine)? {
         None => Ok(Met::Noted),
-        Some(digest) => note_new(plan, visited, at, choice, next, digest),
+        Some(digest) => note_new(plan, visited, shelf, at, choice, here, twin, digest),
     }
 }
 
-/// Makes a choice on the twin of a machine that has gone along the path at a place.
+/// Makes a choice from the state of a machine where the path at a place leads, on the twin of the machine.
 fn meet(
     plan: &Plan,
     visited: &mut Visited,
-    other: &mut Machine,
+    shelf: &mut Shelf,
     at: u32,
-    here: &Machine,
-    twin: &mut Machine,
     choice: Choice,
+    here: &Machine,
+    twin: &mut Twin,
 ) -> Result<Met, Fault>
     requires whole { IsWhole plan.now }
     requires visits { Visits plan.now.start plan.now.sought visited.old }
-    requires near { AreNear visited.old at }
+    requires near { IsEdge visited.old at }
     requires at { at < length visited.old }
+    requires considered { is_considered plan.now.sought.kills (length plan.now.start.scenario.programs) choice ≡ true }
+    requires fresh { IsFresh visited.old at choice }
     requires here { IsHere plan.now.start visited.old at here.now }
     requires room { length here.now.entries + 1 < 4096 }
-    requires twin { IsTwin here.now twin.old }
-    requires considered { is_considered plan.now.sought.kills (length plan.now.start.scenario.programs) choice ≡ true }
-    requires same { other.old.scenario ≡ plan.now.start.scenario }
-    ensures well { IfOk result (MeetsWell plan.now.start plan.now.sought visited.old visited.new at choice) }
-    ensures twin { OnOk result (IsTwin here.now twin.new) }
-    ensures same { OnOk result (other.new.scenario ≡ plan.now.start.scenario) }
+    requires twin { IsSecond here.now twin.old }
+    requires shelf { IsShelf plan.now.start visited.old shelf.old }
+    ensures well { IfOk result (MeetsWell plan.now.start plan.now.sought plan.now.most visited.old visited.new at choice) }
+    ensures shelf { OnOk result (IsShelf plan.now.start visited.new shelf.new) }
+    ensures twin { OnOk result (IsSecond here.now twin.new) }
 {
-    make_room(plan.alloc, here, twin, 4095)?;
-    let entry = twin.step(choice)?;
-    if is_still(entry.outcome) {
+    let outcome = twin.attempt(plan.alloc, here, choice)?;
+    if is_still(outcome) {
         return Ok(Met::Noted);
     }
-    let met = note(plan, visited, other, at, choice, twin)?;
-    bring_back(plan.alloc, here, twin)?;
-    Ok(met)
+    note(plan, visited, shelf, at, choice, here, twin)
 }
 
 /// The path at a place with one choice more.
@@ -167,30 +210,32 @@ fn with_choice(
     Ok(path)
 }
 
-/// Makes each choice on the twin of a machine that has gone along the path at a place.
+/// Makes each choice from the state of a machine where the path at a place leads, on the twin of the machine.
 fn meet_each(
     plan: &Plan,
     visited: &mut Visited,
-    other: &mut Machine,
+    shelf: &mut Shelf,
     at: u32,
     here: &Machine,
-    twin: &mut Machine,
+    twin: &mut Twin,
 ) -> Result<Expanded, Fault>
     requires whole { IsWhole plan.now }
     requires visits { Visits plan.now.start plan.now.sought visited.old }
-    requires near { AreNear visited.old at }
+    requires near { IsEdge visited.old at }
     requires at { at < length visited.old }
+    requires end { (c : AChoice) → IsFresh visited.old at c }
     requires here { IsHere plan.now.start visited.old at here.now }
     requires room { length here.now.entries + 1 < 4096 }
-    requires twin { IsTwin here.now twin.old }
-    requires same { other.old.scenario ≡ plan.now.start.scenario }
-    ensures well { IfOk result (ExpandsWell plan.now.start plan.now.sought visited.old visited.new at) }
-    ensures twin { OnOk result (twin.new.scenario ≡ plan.now.start.scenario) }
-    ensures same { OnOk result (other.new.scenario ≡ plan.now.start.scenario) }
+    requires twin { IsSecond here.now twin.old }
+    requires shelf { IsShelf plan.now.start visited.old shelf.old }
+    ensures well { IfOk result (ExpandsWell plan.now.start plan.now.sought plan.now.most visited.old visited.new at) }
+    ensures grows { OnOk result (Grows visited.old visited.new) }
+    ensures shelf { OnOk result (IsShelf plan.now.start visited.new shelf.new) }
+    ensures twin { OnOk result (twin.new.machine.scenario ≡ plan.now.start.scenario) }
 {
     for i in 0..plan.choices.len() {
         let choice = plan.choices[i];
-        match meet(plan, visited, other, at, here, twin, choice)? {
+        match meet(plan, visited, shelf, at, choice, here, twin)? {
             Met::Noted => {}
             Met::Shown => {
                 let path = with_choice(plan.alloc, visited, at, choice)?;
@@ -202,31 +247,57 @@ fn meet_each(
     Ok(Expanded::Whole)
 }
 
+/// Brings a machine to where the path at a place leads.
+fn arrive(
+    plan: &Plan,
+    visited: &Visited,
+    shelf: &mut Shelf,
+    at: u32,
+    here: &mut Machine,
+) -> Result<(), Fault>
+    requires visits { Visits plan.now.start plan.now.sought visited.now }
+    requires at { at < length visited.now }
+    requires here { here.old.scenario ≡ plan.now.start.scenario }
+    requires shelf { IsShelf plan.now.start visited.now shelf.old }
+    ensures here { OnOk result (IsHere plan.now.start visited.now at here.new) }
+    // Where its history is full the path itself is long.
+    ensures full { OnOk result (4096 ≤ length here.new.entries + 1 → 4096 ≤ length plan.now.start.entries + length_at visited.now at + 1) }
+    ensures shelf { OnOk result (IsShelf plan.now.start visited.now shelf.new) }
+{
+    if shelf.take(at, here) && here.len() + 1 < MAX_CHOICES {
+        return Ok(());
+    }
+    go_to(plan, visited, at, here)
+}
+
 /// Makes each choice from the state of the path at a place.
 pub(crate) fn expand(
     plan: &Plan,
     visited: &mut Visited,
-    other: &mut Machine,
+    shelf: &mut Shelf,
     at: u32,
     here: &mut Machine,
-    twin: &mut Machine,
+    twin: &mut Twin,
 ) -> Result<Expanded, Fault>
     requires whole { IsWhole plan.now }
     requires visits { Visits plan.now.start plan.now.sought visited.old }
-    requires near { AreNear visited.old at }
+    requires near { IsEdge visited.old at }
     requires at { at < length visited.old }
+    requires end { (c : AChoice) → IsFresh visited.old at c }
     requires here { here.old.scenario ≡ plan.now.start.scenario }
-    requires twin { twin.old.scenario ≡ plan.now.start.scenario }
-    requires same { other.old.scenario ≡ plan.now.start.scenario }
-    ensures well { IfOk result (ExpandsWell plan.now.start plan.now.sought visited.old visited.new at) }
+    requires twin { twin.old.machine.scenario ≡ plan.now.start.scenario }
+    requires shelf { IsShelf plan.now.start visited.old shelf.old }
+    ensures well { IfOk result (ExpandsWell plan.now.start plan.now.sought plan.now.most visited.old visited.new at) }
     ensures here { OnOk result (here.new.scenario ≡ plan.now.start.scenario) }
-    ensures twin { OnOk result (twin.new.scenario ≡ plan.now.start.scenario) }
-    ensures same { OnOk result (other.new.scenario ≡ plan.now.start.scenario) }
+    ensures twin { OnOk result (twin.new.machine.scenario ≡ plan.now.start.scenario) }
+    ensures shelf { OnOk result (IsShelf plan.now.start visited.new shelf.new) }
 {
-    go_to(plan, visited, at, here)?;
-    bring_back(plan.alloc, here, twin)?;
-    if 4095 <= here.len() {
+    arrive(plan, visited, shelf, at, here)?;
+    if MAX_CHOICES <= here.len() + 1 {
         return Ok(Expanded::Spent);
     }
-    meet_each(plan, visited, other, at, here, twin)
+    twin.is_back = false;
+    let expanded = meet_each(plan, visited, shelf, at, here, twin)?;
+    shelf.give_back(at, here);
+    Ok(expanded)
 }

@@ -2,24 +2,27 @@
 ghost use Rattle.std.specs.Prelude.{◌≡◌, ◌≤◌, ◌<◌, ◌+◌, [], ◌∷◌, IfOk, true, length};
 ghost use Rattle.zy_search.specs.declared.sought.Wanted.TheVariants.{Stuck};
 ghost use Rattle.zy_search.specs.Choices.{considered as considered_spec};
-ghost use Rattle.zy_search.specs.Searches.{Shows, IsAnswer};
-ghost use Rattle.zy_search.specs.Visits.{length_at, IsWhole, Visits};
+ghost use Rattle.zy_search.specs.Searches.{Shows, IsAnswer, IsDue};
+ghost use Rattle.zy_search.specs.Visits.{length_at, AreExpanded, IsEdge, IsWhole, IsShelf, Visits};
 
 use crate::answer::{Answer, Expanded, Report};
 use crate::choices::considered;
 use crate::digest::digest;
 use crate::expand::expand;
 use crate::plan::Plan;
+use crate::shelf::Shelf;
 use crate::shows::shows;
 use crate::sought::{Sought, Wanted};
+use crate::twin::Twin;
 use crate::visited::Visited;
+use crate::watch::Watch;
 use std::alloc::{AllocError, Global};
 use zy_isa::choice::Choice;
 use zy_isa::scenario::MAX_CHOICES;
 use zy_machine::machine::{Fault, Machine};
 
 /// What is known where the path at a place was not gone on from, and all before it were.
-fn spent_at(alloc: Global, visited: &Visited, at: u32) -> Result<Answer, AllocError>
+fn spent_at(alloc: Global, visited: &Visited, at: u32) -> Result<Answer, Fault>
     requires { at < length visited.now }
     ensures { IfOk result (λ a. a ≡ Answer.Spent (length_at visited.now at + 1)) }
 {
@@ -27,33 +30,66 @@ fn spent_at(alloc: Global, visited: &Visited, at: u32) -> Result<Answer, AllocEr
     Ok(Answer::Spent(path.len() + 1))
 }
 
+/// The answer where all paths before a place were gone on from, and that one is not.
+fn settle(plan: &Plan, visited: &Visited, at: u32) -> Result<Answer, Fault>
+    requires visits { Visits plan.now.start plan.now.sought visited.now }
+    requires expanded { AreExpanded plan.now.start plan.now.sought visited.now at }
+    requires near { at < length visited.now → IsEdge visited.now at }
+    requires many { plan.now.most ≤ at }
+    ensures answer { IfOk result (IsAnswer plan.now.start plan.now.sought) }
+    ensures due { IfOk result (IsDue plan.now.start plan.now.sought plan.now.most) }
+{
+    if visited.len() <= at as usize {
+        return Ok(Answer::Nowhere);
+    }
+    spent_at(plan.alloc, visited, at)
+}
+
+/// How many states are gone on from before the watch is told again.
+const EVERY: u32 = 256;
+
+/// Tells the watch how far the search is, if it is time.
+fn report_to<W: Watch>(watch: &mut W, alloc: Global, visited: &Visited, at: u32)
+    requires { at < length visited.now }
+{
+    if at % EVERY != 0 {
+        return;
+    }
+    if let Ok(path) = visited.path(alloc, at) {
+        watch.look(visited.len(), path.len());
+    }
+}
+
 /// Goes on from each path in turn, those that are added on the way too. The machines are for use by the way.
-fn expand_all(
+fn expand_all<W: Watch>(
     plan: &Plan,
     visited: &mut Visited,
-    other: &mut Machine,
+    shelf: &mut Shelf,
     here: &mut Machine,
-    twin: &mut Machine,
+    twin: &mut Twin,
+    watch: &mut W,
 ) -> Result<Answer, Fault>
     requires whole { IsWhole plan.now }
     requires visits { Visits plan.now.start plan.now.sought visited.old }
     requires first { visited.old ≡ [] ∷ [] }
     requires here { here.old.scenario ≡ plan.now.start.scenario }
-    requires twin { twin.old.scenario ≡ plan.now.start.scenario }
-    requires same { other.old.scenario ≡ plan.now.start.scenario }
-    ensures { IfOk result (IsAnswer plan.now.start plan.now.sought) }
+    requires twin { twin.old.machine.scenario ≡ plan.now.start.scenario }
+    requires shelf { IsShelf plan.now.start visited.old shelf.old }
+    ensures answer { IfOk result (IsAnswer plan.now.start plan.now.sought) }
+    ensures due { IfOk result (IsDue plan.now.start plan.now.sought plan.now.most) }
 {
     for at in 0..u32::MAX {
         if visited.len() <= at as usize {
             return Ok(Answer::Nowhere);
         }
-        match expand(plan, visited, other, at, here, twin)? {
+        report_to(watch, plan.alloc, visited, at);
+        match expand(plan, visited, shelf, at, here, twin)? {
             Expanded::Whole => {}
             Expanded::Found(path) => return Ok(Answer::Found(path)),
             Expanded::Spent => return spent_at(plan.alloc, visited, at),
         }
     }
-    Ok(Answer::Spent(0))
+    settle(plan, visited, u32::MAX)
 }
 
 /// How many states an answer adds to those that none of what is looked for is shown by.
@@ -76,45 +112,42 @@ fn report(alloc: Global, visited: &Visited, answer: Answer) -> Result<Report, Al
     })
 }
 
-/// Looks at the states that choices lead to, with two machines to do it by.
-fn look_by(
+/// Looks at the states that choices lead to, with a machine to do it by.
+fn look_by<W: Watch>(
     plan: &Plan,
     visited: &mut Visited,
-    other: &mut Machine,
+    shelf: &mut Shelf,
     here: &mut Machine,
+    watch: &mut W,
 ) -> Result<Answer, Fault>
     requires whole { IsWhole plan.now }
     requires visits { Visits plan.now.start plan.now.sought visited.old }
     requires first { visited.old ≡ [] ∷ [] }
     requires here { here.old.scenario ≡ plan.now.start.scenario }
-    requires same { other.old.scenario ≡ plan.now.start.scenario }
-    ensures { IfOk result (IsAnswer plan.now.start plan.now.sought) }
+    requires shelf { IsShelf plan.now.start visited.old shelf.old }
+    ensures answer { IfOk result (IsAnswer plan.now.start plan.now.sought) }
+    ensures due { IfOk result (IsDue plan.now.start plan.now.sought plan.now.most) }
 {
-    let mut twin = plan.start.copy(plan.alloc)?;
-    expand_all(plan, visited, other, here, &mut twin)
+    let mut twin = Twin::new(plan.alloc, &plan.start)?;
+    expand_all(plan, visited, shelf, here, &mut twin, watch)
 }
 
-/// The same, with one machine.
-fn look_from(plan: &Plan, visited: &mut Visited, other: &mut Machine) -> Result<Answer, Fault>
+/// The same, without a machine.
+fn look<W: Watch>(
+    plan: &Plan,
+    visited: &mut Visited,
+    shelf: &mut Shelf,
+    watch: &mut W,
+) -> Result<Answer, Fault>
     requires whole { IsWhole plan.now }
     requires visits { Visits plan.now.start plan.now.sought visited.old }
     requires first { visited.old ≡ [] ∷ [] }
-    requires same { other.old.scenario ≡ plan.now.start.scenario }
-    ensures { IfOk result (IsAnswer plan.now.start plan.now.sought) }
+    requires shelf { IsShelf plan.now.start visited.old shelf.old }
+    ensures answer { IfOk result (IsAnswer plan.now.start plan.now.sought) }
+    ensures due { IfOk result (IsDue plan.now.start plan.now.sought plan.now.most) }
 {
     let mut here = plan.start.copy(plan.alloc)?;
-    look_by(plan, visited, other, &mut here)
-}
-
-/// The same, where the state of the start does not show it.
-fn look(plan: &Plan, visited: &mut Visited) -> Result<Answer, Fault>
-    requires whole { IsWhole plan.now }
-    requires visits { Visits plan.now.start plan.now.sought visited.old }
-    requires first { visited.old ≡ [] ∷ [] }
-    ensures { IfOk result (IsAnswer plan.now.start plan.now.sought) }
-{
-    let mut other = plan.start.copy(plan.alloc)?;
-    look_from(plan, visited, &mut other)
+    look_by(plan, visited, shelf, &mut here, watch)
 }
 
 /// Whether what is looked for is seen by steps alone.
@@ -125,18 +158,44 @@ fn is_seen_by_steps(wanted: Wanted) -> bool
 }
 
 /// Looks at the state of the start, and then at those that choices lead to.
-fn search_by(plan: &Plan, visited: &mut Visited) -> Result<Answer, Fault>
+fn look_first<W: Watch>(
+    plan: &Plan,
+    visited: &mut Visited,
+    shelf: &mut Shelf,
+    watch: &mut W,
+) -> Result<Answer, Fault>
     requires whole { IsWhole plan.now }
     requires first { visited.old ≡ [] ∷ [] }
-    ensures { IfOk result (IsAnswer plan.now.start plan.now.sought) }
+    requires spots { shelf.old.spots.items ≡ [] }
+    requires spare { shelf.old.spare.scenario ≡ plan.now.start.scenario }
+    ensures answer { IfOk result (IsAnswer plan.now.start plan.now.sought) }
+    ensures due { IfOk result (IsDue plan.now.start plan.now.sought plan.now.most) }
 {
     if MAX_CHOICES <= plan.start.len() && is_seen_by_steps(plan.sought.wanted) {
         return Ok(Answer::Spent(0));
     }
-    if shows(plan.alloc, plan.sought, &plan.choices, &plan.start)? {
+    let is_shown = shows(
+        plan.alloc,
+        plan.sought,
+        &plan.choices,
+        &plan.start,
+        &mut shelf.spare,
+    )?;
+    if is_shown {
         return Ok(Answer::Found(Vec::new(plan.alloc)));
     }
-    look(plan, visited)
+    look(plan, visited, shelf, watch)
+}
+
+/// The same, with no machine on the shelf yet.
+fn search_by<W: Watch>(plan: &Plan, visited: &mut Visited, watch: &mut W) -> Result<Answer, Fault>
+    requires whole { IsWhole plan.now }
+    requires first { visited.old ≡ [] ∷ [] }
+    ensures answer { IfOk result (IsAnswer plan.now.start plan.now.sought) }
+    ensures due { IfOk result (IsDue plan.now.start plan.now.sought plan.now.most) }
+{
+    let mut shelf = Shelf::new(plan.alloc, &plan.start)?;
+    look_first(plan, visited, &mut shelf, watch)
 }
 
 /// The choices that a search considers from a machine.
@@ -151,6 +210,7 @@ fn choices_from(alloc: Global, kills: bool, machine: &Machine) -> Result<Vec<Cho
 fn plan_from(alloc: Global, machine: &Machine, sought: Sought, most: u32) -> Result<Plan, Fault>
     ensures whole { IfOk result IsWhole }
     ensures start { IfOk result (λ p. p.start ≡ machine.now) }
+    ensures most { IfOk result (λ p. p.most ≡ most) }
     ensures sought { IfOk result (λ p. p.sought ≡ sought) }
 {
     let choices = choices_from(alloc, sought.kills, machine)?;
@@ -165,12 +225,20 @@ fn plan_from(alloc: Global, machine: &Machine, sought: Sought, most: u32) -> Res
 }
 
 /// Looks for a state that choices lead to from a machine's, and that shows what is looked for. It goes breadth first, so that no fewer
-/// choices lead there, and stops where it would come to more states than `most`.
-pub fn search(alloc: Global, start: &Machine, sought: Sought, most: u32) -> Result<Report, Fault>
-    ensures { IfOk result (λ r. IsAnswer start.now sought r.answer) }
+/// choices lead there, and stops where it would come to more states than `most`. The watch is told how far it is.
+pub fn search<W: Watch>(
+    alloc: Global,
+    start: &Machine,
+    sought: Sought,
+    most: u32,
+    watch: &mut W,
+) -> Result<Report, Fault>
+    ensures answer { IfOk result (λ r. IsAnswer start.now sought r.answer) }
+    // It gives up only where it must.
+    ensures due { IfOk result (λ r. IsDue start.now sought most r.answer) }
 {
     let plan = plan_from(alloc, start, sought, most)?;
     let mut visited = Visited::new(alloc, digest(&plan.start))?;
-    let answer = search_by(&plan, &mut visited)?;
+    let answer = search_by(&plan, &mut visited, watch)?;
     report(alloc, &visited, answer)
 }

@@ -1,8 +1,11 @@
 //! Whether a state shows what is looked for.
-ghost use Rattle.std.specs.Prelude.{◌≡◌, IfOk, length};
+ghost use Rattle.std.specs.Prelude.{◌≡◌, IfOk, OnOk, true, length};
 ghost use Rattle.std.specs.Bool.{Decides};
 ghost use Rattle.std.specs.List.{list_any, list_all};
+ghost use Rattle.zy_isa.specs.declared.choice.Choice.{Choice as AChoice};
 ghost use Rattle.zy_table.specs.State.{Txn};
+ghost use Rattle.zy_table.specs.Play.{step as step_spec};
+ghost use Rattle.zy_search.specs.declared.sought.Wanted.TheVariants.{Differs};
 ghost use Rattle.zy_search.specs.Choices.{considered};
 ghost use Rattle.zy_search.specs.Reasons.{is_aborted as is_aborted_spec, is_committed as is_committed_spec};
 ghost use Rattle.zy_search.specs.Searches.{MayTry, Shows};
@@ -13,6 +16,7 @@ use std::alloc::Global;
 use zy_audit::serial::same;
 use zy_isa::choice::Choice;
 use zy_machine::machine::{Fault, Machine};
+use zy_table::entry::CommitRec;
 use zy_table::status::Status;
 
 /// Whether a transaction is aborted for a reason.
@@ -63,16 +67,19 @@ fn all_committed(machine: &Machine) -> bool
     true
 }
 
-/// Whether a machine's state shows what is looked for; these are the choices that are considered.
+/// Whether a machine's state shows what is looked for; these are the choices that are considered, and another machine to try them on.
 pub(crate) fn shows(
     alloc: Global,
     sought: Sought,
     choices: &[Choice],
     machine: &Machine,
+    spare: &mut Machine,
 ) -> Result<bool, Fault>
     requires room { MayTry sought machine.now }
     requires choices { choices.now ≡ considered sought.kills (length machine.now.scenario.programs) }
-    ensures { IfOk result (λ b. Decides b (Shows machine.now.scenario sought machine.now.state)) }
+    requires spare { spare.old.scenario ≡ machine.now.scenario }
+    ensures shows { IfOk result (λ b. Decides b (Shows machine.now.scenario sought machine.now.state)) }
+    ensures spare { OnOk result (spare.new.scenario ≡ machine.now.scenario) }
 {
     match sought.wanted {
         Wanted::Differs => {
@@ -81,6 +88,45 @@ pub(crate) fn shows(
         }
         Wanted::Aborted(reason) => Ok(any_aborted(reason, machine)),
         Wanted::Committed => Ok(all_committed(machine)),
-        Wanted::Stuck => is_stuck(alloc, sought.kills, machine, choices),
+        Wanted::Stuck => is_stuck(alloc, sought.kills, machine, spare, choices),
     }
+}
+
+/// Whether these are the same commits as those.
+fn same_commits(xs: &[CommitRec], ys: &[CommitRec]) -> bool
+    ensures { result ≡ true → xs.now ≡ ys.now }
+{
+    xs == ys
+}
+
+/// Whether what is looked for is another database than that of the serial run, which only a commit can make.
+fn is_of_commits(wanted: Wanted) -> bool
+    ensures { result ≡ true → wanted ≡ Differs }
+{
+    matches!(wanted, Wanted::Differs)
+}
+
+/// The same of a machine to which a choice has led from the state of one that does not show it.
+pub(crate) fn shows_next(
+    alloc: Global,
+    sought: Sought,
+    choices: &[Choice],
+    before: &Machine,
+    machine: &Machine,
+    spare: &mut Machine,
+) -> Result<bool, Fault>
+    requires scenario { machine.now.scenario ≡ before.now.scenario }
+    requires step { (c : AChoice) × (machine.now.state ≡ (step_spec before.now.scenario c before.now.state).after) }
+    requires none { Shows before.now.scenario sought before.now.state → ⊥ }
+    requires room { MayTry sought machine.now }
+    requires choices { choices.now ≡ considered sought.kills (length machine.now.scenario.programs) }
+    requires spare { spare.old.scenario ≡ machine.now.scenario }
+    ensures shows { IfOk result (λ b. Decides b (Shows machine.now.scenario sought machine.now.state)) }
+    ensures spare { OnOk result (spare.new.scenario ≡ machine.now.scenario) }
+{
+    let _tested = before.scenario();
+    if is_of_commits(sought.wanted) && same_commits(machine.commits(), before.commits()) {
+        return Ok(false);
+    }
+    shows(alloc, sought, choices, machine, spare)
 }

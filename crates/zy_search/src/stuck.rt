@@ -11,7 +11,6 @@ ghost use Rattle.zy_search.specs.Stuck.{is_still as is_still_spec, IsStuck};
 ghost use Rattle.zy_search.specs.Visits.{IsTwin};
 
 use crate::still::is_still;
-use crate::twin::make_room;
 use std::alloc::Global;
 use zy_isa::choice::Choice;
 use zy_isa::scenario::MAX_CHOICES;
@@ -42,7 +41,20 @@ fn any_running(machine: &Machine) -> bool
     false
 }
 
-/// Whether nothing comes of a choice. The twin stays one where it answers yes.
+/// Makes room for a step of a twin, whose history grows by each step that it tries.
+fn make_room(alloc: Global, machine: &Machine, twin: &mut Machine) -> Result<(), Fault>
+    requires twin { IsTwin machine.now twin.old }
+    requires room { length machine.now.entries < 4096 }
+    ensures twin { OnOk result (IsTwin machine.now twin.new) }
+    ensures room { OnOk result (length twin.new.entries < 4096) }
+{
+    if twin.len() < MAX_CHOICES {
+        return Ok(());
+    }
+    twin.set_to(alloc, machine)
+}
+
+/// Whether nothing comes of a choice. The twin is still one where it answers yes.
 fn stays(
     alloc: Global,
     machine: &Machine,
@@ -54,8 +66,9 @@ fn stays(
     requires room { length machine.now.entries < 4096 }
     ensures still { IfOk result (λ b. b ≡ is_still_spec (step_spec machine.now.scenario choice machine.now.state).outcome) }
     ensures twin { IfOk result (λ b. b ≡ true → IsTwin machine.now twin.new) }
+    ensures scenario { OnOk result (twin.new.scenario ≡ machine.now.scenario) }
 {
-    make_room(alloc, machine, twin, MAX_CHOICES)?;
+    make_room(alloc, machine, twin)?;
     let entry = twin.step(choice)?;
     Ok(is_still(entry.outcome))
 }
@@ -72,7 +85,8 @@ fn is_stuck_by(
     requires room { length machine.now.entries < 4096 }
     requires choices { choices.now ≡ considered_spec kills (length machine.now.scenario.programs) }
     requires active { list_any (λ (x : Txn). is_running_spec x.status) machine.now.state.txns ≡ true }
-    ensures { IfOk result (λ b. Decides b (IsStuck machine.now.scenario kills machine.now.state)) }
+    ensures stuck { IfOk result (λ b. Decides b (IsStuck machine.now.scenario kills machine.now.state)) }
+    ensures scenario { OnOk result (twin.new.scenario ≡ machine.now.scenario) }
 {
     for i in 0..choices.len() {
         if !stays(alloc, machine, twin, choices[i])? {
@@ -82,20 +96,23 @@ fn is_stuck_by(
     Ok(true)
 }
 
-/// Whether a transaction is active, and nothing comes of any choice that is considered.
+/// Whether a transaction is active, and nothing comes of any choice that is considered. They are tried on another machine.
 pub(crate) fn is_stuck(
     alloc: Global,
     kills: bool,
     machine: &Machine,
+    spare: &mut Machine,
     choices: &[Choice],
 ) -> Result<bool, Fault>
     requires room { length machine.now.entries < 4096 }
+    requires spare { spare.old.scenario ≡ machine.now.scenario }
     requires choices { choices.now ≡ considered_spec kills (length machine.now.scenario.programs) }
-    ensures { IfOk result (λ b. Decides b (IsStuck machine.now.scenario kills machine.now.state)) }
+    ensures stuck { IfOk result (λ b. Decides b (IsStuck machine.now.scenario kills machine.now.state)) }
+    ensures spare { OnOk result (spare.new.scenario ≡ machine.now.scenario) }
 {
     if !any_running(machine) {
         return Ok(false);
     }
-    let mut twin = machine.copy(alloc)?;
-    is_stuck_by(alloc, kills, machine, &mut twin, choices)
+    spare.set_to(alloc, machine)?;
+    is_stuck_by(alloc, kills, machine, spare, choices)
 }

@@ -1,33 +1,69 @@
-//! A second machine in the state of a first one, on which choices are tried.
-ghost use Rattle.std.specs.Prelude.{◌≡◌, ◌<◌, OnOk, length};
-ghost use Rattle.zy_search.specs.Visits.{IsTwin};
+//! A second machine, on which the choices from the state of a first one are tried.
+ghost use Rattle.std.specs.Prelude.{◌≡◌, ◌<◌, ◌+◌, IfOk, OnOk, true, length};
+ghost use Rattle.zy_isa.specs.Choices.{names_below};
+ghost use Rattle.zy_table.specs.Play.{step as step_spec};
+ghost use Rattle.zy_search.specs.Stuck.{is_still as is_still_spec};
+ghost use Rattle.zy_search.specs.Visits.{IsTwin, IsSecond};
 
+use crate::still::is_still;
 use std::alloc::Global;
+use zy_isa::choice::Choice;
+use zy_isa::scenario::MAX_CHOICES;
 use zy_machine::machine::{Fault, Machine};
+use zy_table::outcome::Outcome;
 
-/// Brings a twin back to where the first one is, whatever it has tried.
-pub(crate) fn bring_back(alloc: Global, here: &Machine, twin: &mut Machine) -> Result<(), Fault>
-    requires { twin.old.scenario ≡ here.now.scenario }
-    ensures twin { OnOk result (IsTwin here.now twin.new) }
-    ensures room { OnOk result (length twin.new.entries ≡ length here.now.entries) }
-{
-    twin.set_to(alloc, here)
+/// A second machine, and whether it is in the state of the first one.
+#[derive(Drop)]
+pub struct Twin {
+    pub machine: Machine,
+    pub is_back: bool,
 }
 
-/// Makes room for steps of a twin, whose history grows by each step that it tries: it has fewer than `limit` then.
-pub(crate) fn make_room(
-    alloc: Global,
-    here: &Machine,
-    twin: &mut Machine,
-    limit: usize,
-) -> Result<(), Fault>
-    requires twin { IsTwin here.now twin.old }
-    requires room { length here.now.entries < limit }
-    ensures twin { OnOk result (IsTwin here.now twin.new) }
-    ensures room { OnOk result (length twin.new.entries < limit) }
-{
-    if twin.len() < limit {
-        return Ok(());
+impl Twin {
+    /// A twin of a machine, and of each other one of its scenario.
+    pub fn new(alloc: Global, machine: &Machine) -> Result<Twin, Fault>
+        ensures { IfOk result (λ t. t.machine ≡ machine.now) }
+    {
+        let machine = machine.copy(alloc)?;
+        Ok(Twin {
+            machine,
+            is_back: false,
+        })
     }
-    bring_back(alloc, here, twin)
+
+    /// Comes back to the state of the first machine, if it is not there or has no room in its history.
+    fn come_back(&mut self, alloc: Global, here: &Machine) -> Result<(), Fault>
+        requires second { IsSecond here.now self.old }
+        requires room { length here.now.entries + 1 < 4096 }
+        ensures twin { OnOk result (IsTwin here.now self.new.machine) }
+        ensures room { OnOk result (length self.new.machine.entries + 1 < 4096) }
+    {
+        if self.is_back && self.machine.len() + 1 < MAX_CHOICES {
+            return Ok(());
+        }
+        self.machine.set_to(alloc, here)
+    }
+
+    /// Makes a choice from the state of the first machine. Where nothing comes of it the twin is still there.
+    pub(crate) fn attempt(
+        &mut self,
+        alloc: Global,
+        here: &Machine,
+        choice: Choice,
+    ) -> Result<Outcome, Fault>
+        requires second { IsSecond here.now self.old }
+        requires room { length here.now.entries + 1 < 4096 }
+        requires named { names_below (length here.now.scenario.programs) choice ≡ true }
+        ensures outcome { IfOk result (λ o. o ≡ (step_spec here.now.scenario choice here.now.state).outcome) }
+        ensures back { IfOk result (λ o. self.new.is_back ≡ is_still_spec o) }
+        ensures state { OnOk result (self.new.machine.state ≡ (step_spec here.now.scenario choice here.now.state).after) }
+        ensures longer { OnOk result (length here.now.entries < length self.new.machine.entries) }
+        ensures room { OnOk result (length self.new.machine.entries < 4096) }
+        ensures second { OnOk result (IsSecond here.now self.new) }
+    {
+        self.come_back(alloc, here)?;
+        let entry = self.machine.step(choice)?;
+        self.is_back = is_still(entry.outcome);
+        Ok(entry.outcome)
+    }
 }

@@ -39,7 +39,8 @@ pub(crate) fn go_to(
     requires first { path_at visited.now 0 ≡ [] }
     requires path { IsPath plan.now.start plan.now.sought (path_at visited.now at) }
     requires same { machine.old.scenario ≡ plan.now.start.scenario }
-    ensures { OnOk result (IsHere plan.now.start visited.now at machine.new) }
+    ensures here { OnOk result (IsHere plan.now.start visited.now at machine.new) }
+    ensures entries { OnOk result (length machine.new.entries ≡ length plan.now.start.entries + length_at visited.now at) }
 {
     machine.set_to(plan.alloc, &plan.start)?;
     walk(visited, at, machine)

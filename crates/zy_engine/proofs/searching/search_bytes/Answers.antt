@@ -5,7 +5,7 @@ use Rattle.zy_io.specs.Streams.{ReadWhole}
 use Rattle.zy_search.specs.declared.answer.Answer.TheVariants.{Spent}
 use Rattle.zy_engine.specs.Searching.{text_of}
 use Rattle.zy_engine.proofs.RunLemmas.{converts-unread, converts-refused, converts-wrote}
-use Rattle.zy_engine.proofs.SearchLemmas.{nothing-of-any, answer-of-told}
+use Rattle.zy_engine.proofs.SearchLemmas.{nothing-of-any, answer-of-told, due-of-told}
 use Rattle.zy_engine.proofs.searching.search_bytes.Goals as goal
 
 pub returns-in_err-bytes-clause-converts : goal.returns-in_err-bytes-clause-converts
@@ -16,6 +16,7 @@ returns-in_err-bytes-clause-converts g c =
       answer = Spent 0;
       is = nothing-of-any c.args.format c.args.sought told;
       returned = tt;
+      due = tt;
       converts = converts-unread c.args.format (λ sc. text_of sc (Spent 0)) told (g.S.Source.left c.read_all.new.source) (g.K.Sink.written c.args.sink.now) (g.S.Source.failures c.args.source.now) (g.S.Source.failures c.read_all.new.source) (g.K.Sink.failures c.args.sink.now)
           c.in_err-bytes.field-0.0 c.in_err-bytes.ensures.reads;
     })
@@ -31,6 +32,7 @@ returns-in_err-scenario-clause-converts g c =
       answer = Spent 0;
       is = nothing-of-any c.args.format c.args.sought told;
       returned = tt;
+      due = tt;
       converts = converts-refused c.args.format (λ sc. text_of sc (Spent 0)) told left (g.K.Sink.written c.args.sink.now) (g.S.Source.failures c.args.source.now) (g.S.Source.failures c.read_all.new.source) (g.K.Sink.failures c.args.sink.now)
           c.as_slice.result.now c.in_err-scenario.field-0.0 same c.in_err-scenario.ensures.fault whole c.in_ok-bytes.ensures.reads.3;
     })
@@ -49,6 +51,7 @@ returns-in_err-report-clause-converts g c =
       answer = answer;
       is = answer-of-told c.args.format c.args.sought told bytes c.in_ok-scenario.scenario answer same accepted.only c.in_err-report.ensures.is;
       returned = tt;
+      due = tt;
       converts = converts-wrote c.args.format (λ sc. text_of sc answer) told left (g.K.Sink.written c.args.sink.now) (g.K.Sink.written c.write_search.new.sink)
           (g.S.Source.failures c.args.source.now) (g.S.Source.failures c.read_all.new.source) (g.K.Sink.failures c.args.sink.now) (g.K.Sink.failures c.write_search.new.sink)
           bytes c.in_ok-scenario.scenario (Err c.in_err-report.field-0.0) same accepted.found accepted.only whole c.in_ok-bytes.ensures.reads.3 c.in_err-report.ensures.wrote;
@@ -67,6 +70,7 @@ returns-clause-converts g c =
       answer = answer;
       is = answer-of-told c.args.format c.args.sought told bytes c.in_ok-scenario.scenario answer same accepted.only c.in_ok-report.ensures.is;
       returned = c.in_ok-report.ensures.returned;
+      due = due-of-told c.args.format c.args.sought c.args.most told bytes c.in_ok-scenario.scenario c.in_ok-report.report.answer same accepted.only c.in_ok-report.ensures.due;
       converts = converts-wrote c.args.format (λ sc. text_of sc answer) told left (g.K.Sink.written c.args.sink.now) (g.K.Sink.written c.write_search.new.sink)
           (g.S.Source.failures c.args.source.now) (g.S.Source.failures c.read_all.new.source) (g.K.Sink.failures c.args.sink.now) (g.K.Sink.failures c.write_search.new.sink)
           bytes c.in_ok-scenario.scenario (Ok c.in_ok-report.report) same accepted.found accepted.only whole c.in_ok-bytes.ensures.reads.3 c.in_ok-report.ensures.wrote;

@@ -6,7 +6,7 @@ use Rattle.zy_machine.specs.Histories.{History}
 use Rattle.zy_isa.specs.Scenario.{Scenario}
 use Rattle.zy_search.specs.declared.answer.Answer.TheVariants.{Spent}
 use Rattle.zy_search.specs.declared.answer.Report.{Report}
-use Rattle.zy_search.specs.Searches.{IsAnswer}
+use Rattle.zy_search.specs.Searches.{IsAnswer, IsDue}
 use Rattle.zy_engine.specs.Searching.{ran, text_of}
 use Rattle.zy_engine.proofs.RunLemmas.{WroteFront-nothing}
 use Rattle.zy_engine.proofs.SearchLemmas.{nothing_known, wrote_err}
@@ -19,6 +19,7 @@ returns-in_err-machine g c =
       answer = Spent 0;
       is = nothing_known c.args.scenario c.args.sought;
       returned = tt;
+      due = tt;
       wrote = (WroteFront-nothing (g.K.Sink.written c.args.sink.now) [], refl);
     })
 
@@ -29,6 +30,7 @@ returns-in_err-report g c =
       answer = Spent 0;
       is = nothing_known c.args.scenario c.args.sought;
       returned = tt;
+      due = tt;
       wrote = (WroteFront-nothing (g.K.Sink.written c.args.sink.now) [], refl);
     })
 
@@ -44,8 +46,9 @@ returns-in_err-write_answer g c =
     let p = err_from_is_err_and c.from_residual-in_err-write_answer.result c.from_residual-in_err-write_answer.ensures.1 in
     rw (p.1, p.2) (record {
       answer = report.answer;
-      is = subst (λ (h : History). IsAnswer h c.args.sought report.answer) c.in_ok-machine.ensures.run c.in_ok-report.ensures;
+      is = subst (λ (h : History). IsAnswer h c.args.sought report.answer) c.in_ok-machine.ensures.run c.in_ok-report.ensures.answer;
       returned = tt;
+      due = tt;
       wrote = wrote_err Report before behind failures after fault (text_of c.args.scenario report.answer)
           (subst (λ (sc : Scenario). Wrote before behind failures after {X = Unit {0}} (Err fault) (text_of sc report.answer)) scenario c.in_err-write_answer.ensures);
     })
@@ -60,7 +63,8 @@ returns g c =
     let scenario = c.scenario.ensures.value ∙ ap (λ (h : History). h.scenario) c.in_ok-machine.ensures.run in
     record {
       answer = report.answer;
-      is = subst (λ (h : History). IsAnswer h c.args.sought report.answer) c.in_ok-machine.ensures.run c.in_ok-report.ensures;
+      is = subst (λ (h : History). IsAnswer h c.args.sought report.answer) c.in_ok-machine.ensures.run c.in_ok-report.ensures.answer;
       returned = refl;
+      due = subst (λ (h : History). IsDue h c.args.sought c.args.most report.answer) c.in_ok-machine.ensures.run c.in_ok-report.ensures.due;
       wrote = subst (λ (sc : Scenario). Wrote before behind failures after {X = Unit {0}} (Ok c.in_ok-write_answer.field-0) (text_of sc report.answer)) scenario c.in_ok-write_answer.ensures;
     }

@@ -1,4 +1,4 @@
-use Rattle.std.proofs.Common.{◌∙◌}
+use Rattle.std.proofs.Common.{◌∙◌, inl, refl}
 use Rattle.zy_search.proofs.SearchLemmas.{grows_not, near_known}
 use Rattle.zy_search.proofs.expand.note.Goals as goal
 
@@ -9,5 +9,6 @@ returns-in-None-clause-well c =
       visits = c.requires.visits;
       near = c.requires.near;
       grows = grows_not c.args.visited.now;
+      more = inl refl;
       known = near_known c.args.plan.now.start c.args.visited.now c.args.at _ c.requires.near (known.0, known.1, known.2 ∙ c.requires.next.state);
     }

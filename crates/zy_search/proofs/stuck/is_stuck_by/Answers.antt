@@ -22,8 +22,8 @@ stays-requires-clause-named c =
     let n = length c.args.machine.now.scenario.programs in
     named_if c.args.kills n (get_or c.args.choices.now c.loop-i.i Start) (is_one c.args.kills n c.loop-i.i c.args.choices.now c.requires.choices c.loop-i-test.true)
 
-pub returns-then-not-branch : goal.returns-then-not-branch
-returns-then-not-branch c =
+pub returns-then-not-branch-clause-stuck : goal.returns-then-not-branch-clause-stuck
+returns-then-not-branch-clause-stuck c =
     let n = length c.args.machine.now.scenario.programs in
     let one = is_one c.args.kills n c.loop-i.i c.args.choices.now c.requires.choices c.loop-i-test.true in
     (λ e. absurd (false≢true e), λ s. sym c.if-not-branch.true ∙ (c.in_ok-stays.ensures.still ∙ s.still (get_or c.args.choices.now c.loop-i.i Start) one))
@@ -45,6 +45,6 @@ whole sc kills s cs n e le h c a =
     let is : get_or cs here.0 Start ≡ c = ap (λ (ds : List Choice). get_or ds here.0 Start) e ∙ here.2 in
     subst (λ (d : Choice). is_still (step sc d s).outcome ≡ true) is (h here.0 (omega (arith, here.1, all, le)))
 
-pub returns : goal.returns
-returns c =
+pub returns-clause-stuck : goal.returns-clause-stuck
+returns-clause-stuck c =
     (λ e. record { active = c.requires.active; still = whole c.args.machine.now.scenario c.args.kills c.args.machine.now.state c.args.choices.now c.loop-i.i c.requires.choices c.loop-i-test.false c.loop-i.invariant.still }, λ s. refl)

@@ -1,6 +1,0 @@
-use Rattle.std.proofs.Common.{ap}
-use Rattle.zy_machine.specs.Histories.{History}
-use Rattle.zy_search.proofs.search.look_from.Goals as goal
-
-pub look_by-requires-clause-here : goal.look_by-requires-clause-here
-look_by-requires-clause-here c = ap (λ (h : History). h.scenario) c.in_ok-here.ensures

@@ -1,0 +1,154 @@
+//! Machines where the last paths lead, so that most states are compared, and gone on from, without making all choices that lead there.
+ghost use Rattle.std.specs.Prelude.{◌≡◌, ◌<◌, ℕ, List, [], IfOk, IfSome, OnOk, Some, true, length, slice_index_or};
+ghost use Rattle.zy_isa.specs.declared.choice.Choice.{Choice};
+ghost use Rattle.zy_machine.specs.Histories.{History};
+ghost use Rattle.zy_search.specs.declared.shelf.Spot.{Spot as ASpot};
+ghost use Rattle.zy_search.specs.Searches.{reached};
+ghost use Rattle.zy_search.specs.Visits.{path_at, IsHere, IsShelf, Visits};
+
+use crate::plan::Plan;
+use crate::visited::Visited;
+use crate::walk::go_to;
+use std::alloc::Global;
+use std::mem;
+use zy_machine::machine::{Fault, Machine};
+
+/// How many pages the machines of a shelf may have together.
+const MOST_PAGES: usize = 8192;
+
+/// A machine, and the place of the path that leads to its state; none where that is not known.
+#[derive(Drop)]
+pub struct Spot {
+    machine: Machine,
+    at: Option<u32>,
+}
+
+/// Machines where some of the last paths lead, and one for use by the way.
+#[derive(Drop)]
+pub struct Shelf {
+    spots: Vec<Spot>,
+    most: usize,
+    pub spare: Machine,
+}
+
+impl Shelf {
+    /// No machine but the one for use by the way. There may be fewer where the scenario has more pages.
+    pub fn new(alloc: Global, start: &Machine) -> Result<Shelf, Fault>
+        ensures spots { IfOk result (λ s. s.spots.items ≡ []) }
+        ensures spare { IfOk result (λ s. s.spare ≡ start.now) }
+    {
+        let spare = start.copy(alloc)?;
+        let pages = usize::from(start.scenario().pages()).max(8);
+        Ok(Shelf {
+            spots: Vec::new(alloc),
+            most: MOST_PAGES / pages,
+            spare,
+        })
+    }
+
+    /// Where the machine of the path at a place would be. That of the empty path is never there.
+    fn spot_of(&self, at: u32) -> usize {
+        at.saturating_sub(1) as usize % self.most.max(1)
+    }
+
+    /// Where the machine of the path at a place is, if there is one.
+    fn find(&self, at: u32) -> Option<usize>
+        ensures there { IfSome result (λ i. i < length self.now.spots.items) }
+        ensures at { IfSome result (λ i. (d : ASpot) → (slice_index_or self.now.spots.items i d).at ≡ Some at) }
+    {
+        let i = self.spot_of(at);
+        if i < self.spots.len() && self.spots[i].at == Some(at) {
+            return Some(i);
+        }
+        None
+    }
+
+    /// Whether the path at a place leads to a machine's state.
+    pub(crate) fn leads_to(
+        &mut self,
+        plan: &Plan,
+        visited: &Visited,
+        at: u32,
+        machine: &Machine,
+    ) -> Result<bool, Fault>
+        requires visits { Visits plan.now.start plan.now.sought visited.now }
+        requires shelf { IsShelf plan.now.start visited.now self.old }
+        requires at { at < length visited.now }
+        ensures known { IfOk result (λ b. b ≡ true → reached plan.now.start (path_at visited.now at) ≡ machine.now.state) }
+        ensures shelf { OnOk result (IsShelf plan.now.start visited.now self.new) }
+    {
+        if let Some(i) = self.find(at) {
+            return Ok(self.spots[i].machine.same_state(machine));
+        }
+        go_to(plan, visited, at, &mut self.spare)?;
+        Ok(self.spare.same_state(machine))
+    }
+
+    /// Takes the machine where the path at a place leads, if there is one, and leaves another one there.
+    pub(crate) fn take(&mut self, at: u32, machine: &mut Machine) -> bool
+        ensures here { (h : History) (ps : List (List Choice)) → IsShelf h ps self.old → result ≡ true → IsHere h ps at machine.new }
+        ensures scenario { (h : History) (ps : List (List Choice)) → IsShelf h ps self.old → machine.old.scenario ≡ h.scenario → machine.new.scenario ≡ h.scenario }
+        ensures shelf { (h : History) (ps : List (List Choice)) → IsShelf h ps self.old → machine.old.scenario ≡ h.scenario → IsShelf h ps self.new }
+    {
+        let Some(i) = self.find(at) else {
+            return false;
+        };
+        let spot = &mut self.spots[i];
+        mem::swap(&mut spot.machine, machine);
+        spot.at = None;
+        true
+    }
+
+    /// Puts the machine of the path at a place there, and takes another one of the scenario for it. It answers yes where that one is a copy
+    /// of `here`.
+    pub(crate) fn put(
+        &mut self,
+        alloc: Global,
+        at: u32,
+        machine: &mut Machine,
+        here: &Machine,
+    ) -> Result<bool, Fault>
+        requires { machine.old.scenario ≡ here.now.scenario }
+        ensures scenario { OnOk result ((h : History) (ps : List (List Choice)) → IsShelf h ps self.old → machine.old.scenario ≡ h.scenario → machine.new.scenario ≡ h.scenario) }
+        ensures back { IfOk result (λ b. b ≡ true → machine.new ≡ here.now) }
+        ensures shelf { OnOk result ((h : History) (ps : List (List Choice)) → IsShelf h ps self.old → at < length ps → IsHere h ps at machine.old → IsShelf h ps self.new) }
+    {
+        let i = self.spot_of(at);
+        if i < self.spots.len() {
+            let spot = &mut self.spots[i];
+            mem::swap(&mut spot.machine, machine);
+            spot.at = Some(at);
+            return Ok(false);
+        }
+        let fresh = here.copy(alloc)?;
+        let there = mem::replace(machine, fresh);
+        self.add(at, there)?;
+        Ok(true)
+    }
+
+    /// Adds the machine of the path at a place.
+    fn add(&mut self, at: u32, machine: Machine) -> Result<(), Fault>
+        ensures { OnOk result ((h : History) (ps : List (List Choice)) → IsShelf h ps self.old → at < length ps → IsHere h ps at machine → IsShelf h ps self.new) }
+    {
+        self.spots.reserve(1)?;
+        let spot = Spot {
+            machine,
+            at: Some(at),
+        };
+        self.spots.push(spot).unwrap();
+        Ok(())
+    }
+
+    /// Gives back the machine of the path at a place, for another one of the scenario, if the spot from which it was taken is still free.
+    pub(crate) fn give_back(&mut self, at: u32, machine: &mut Machine)
+        ensures scenario { (h : History) (ps : List (List Choice)) → IsShelf h ps self.old → machine.old.scenario ≡ h.scenario → machine.new.scenario ≡ h.scenario }
+        ensures shelf { (h : History) (ps : List (List Choice)) → IsShelf h ps self.old → at < length ps → IsHere h ps at machine.old → IsShelf h ps self.new }
+    {
+        let i = self.spot_of(at);
+        if i < self.spots.len() && self.spots[i].at.is_none() {
+            let spot = &mut self.spots[i];
+            mem::swap(&mut spot.machine, machine);
+            spot.at = Some(at);
+        }
+    }
+}

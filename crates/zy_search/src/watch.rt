@@ -1,0 +1,15 @@
+//! Who looks on while a search goes on.
+
+/// Is told now and then how far a search is. The answer does not depend on it.
+pub trait Watch {
+    /// So many states were come to, and each schedule of at most this number of choices was looked at.
+    fn look(&mut self, states: usize, depth: usize);
+}
+
+/// Looks away.
+#[derive(Drop)]
+pub struct Unwatched;
+
+impl Watch for Unwatched {
+    fn look(&mut self, _states: usize, _depth: usize) {}
+}
