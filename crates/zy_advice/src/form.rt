@@ -138,7 +138,7 @@ impl fmt::Display for Form<'_> {
     fn fmt<W: fmt::Write>(&self, f: &mut fmt::Formatter<W>) -> fmt::Result {
         let (first, second) = (Bytes(self.first), Bytes(self.second));
         match self.shape {
-            Shape::Client | Shape::Node => write!(f, "behind {first} stands an action")?,
+            Shape::Client | Shape::Node => write!(f, "behind {first} comes an action")?,
             Shape::OnTxn => write!(f, "{first} {second} takes one transaction")?,
             Shape::Plain => write!(f, "{first} {second} takes no transaction")?,
             _ => write!(f, "{first} takes {}", self.shape)?,

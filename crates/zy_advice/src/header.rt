@@ -48,7 +48,7 @@ impl TextAdvice<'_> {
         let part = self.above.part();
         let pattern = head_pattern(part);
         if self.line.number == 1 && self.input.starts_with(MARK) {
-            return f.write_str("a byte order mark stands before the text: save it without one");
+            return f.write_str("a byte order mark is before the text: save it without one");
         }
         if self.statement.bytes.trim_ascii_end().contains(&b'\r') {
             return f.write_str("a CR ends no line: each line ends with LF");
@@ -120,7 +120,7 @@ impl TextAdvice<'_> {
                 ": this is a trace, of which {} takes the lines through end",
                 self.command
             ),
-            _ => f.write_str(": only comments may stand there"),
+            _ => f.write_str(": only comments may be there"),
         }
     }
 

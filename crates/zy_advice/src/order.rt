@@ -12,15 +12,15 @@ impl TextAdvice<'_> {
         let word = self.word();
         write!(f, "{}: ", self.reason)?;
         if HEADS.iter().any(|head| is(word, head.as_bytes())) {
-            return f.write_str("zephyr, cap, pages and rule stand once, at the head of the text");
+            return f.write_str("zephyr, cap, pages and rule come once, at the head of the text");
         }
         if is(word, b"row") {
-            return f.write_str("rows stand above the first program");
+            return f.write_str("rows come above the first program");
         }
         if is(word, b"txn") {
-            f.write_str("programs stand above the first choice")?;
+            f.write_str("programs come above the first choice")?;
         } else {
-            f.write_str("an instruction or a label stands in a program")?;
+            f.write_str("an instruction or a label belongs in a program")?;
         }
         match self.above.part() {
             Part::Choices(line) if is(word, b"txn") => write!(f, ", which is line {line}"),
@@ -52,7 +52,7 @@ pub(crate) fn tell_not_above<W: fmt::Write>(
     } else {
         write!(
             f,
-            "the key {key} is not above the last one, {last}: rows stand in the order of their keys"
+            "the key {key} is not above the last one, {last}: rows come in the order of their keys"
         )
     }
 }

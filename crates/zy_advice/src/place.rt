@@ -37,7 +37,7 @@ impl<'a> Place<'a> {
         Some(Place::of(statement.bytes, word))
     }
 
-    /// The same, and the line is told too.
+    /// The same, with the number of its line.
     pub fn word_elsewhere(line: Line<'a>, number: usize) -> Option<Place<'a>> {
         let mut place = Place::word(line, number)?;
         place.line = Some(line.number);
@@ -82,7 +82,7 @@ impl fmt::Display for Before<'_> {
     }
 }
 
-/// The front of a word, or of what stands behind it.
+/// The first bytes of a word, or of what is behind it.
 #[derive(Clone, Copy)]
 struct After<'a>(&'a [u8]);
 

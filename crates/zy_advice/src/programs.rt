@@ -16,7 +16,7 @@ impl<'a> TextAdvice<'a> {
     /// Tells which programs there are.
     pub(crate) fn tell_programs<W: fmt::Write>(&self, f: &mut fmt::Formatter<W>) -> fmt::Result {
         match (self.above.programs, self.program()) {
-            (0, _) => f.write_str("no program stands above"),
+            (0, _) => f.write_str("no program is above"),
             (1, Some(program)) => write!(f, "the only one is {program}"),
             (count, _) => write!(f, "the programs are 0 to {}", count.saturating_sub(1)),
         }
@@ -49,7 +49,7 @@ impl<'a> TextAdvice<'a> {
         let (Some(program), Some((_, name))) = (self.program(), missing) else {
             return write!(f, "{}", self.reason);
         };
-        write!(f, "the label {} stands nowhere in {program}", Quoted(name))?;
+        write!(f, "the label {} is not defined in {program}", Quoted(name))?;
         match program.meant_label(name) {
             Some(label) => write!(f, ": did you mean {}", Quoted(label)),
             None => Ok(()),
@@ -66,7 +66,7 @@ impl<'a> TextAdvice<'a> {
             (Some(program), Some(line)) => {
                 write!(
                     f,
-                    "the label {} stands in {program} already, in line {line}",
+                    "the label {} is in {program} already, in line {line}",
                     Quoted(label)
                 )
             }

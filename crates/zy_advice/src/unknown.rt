@@ -57,7 +57,7 @@ impl<'a> Unknown<'a> {
             Shape::OnTxn | Shape::Plain => {
                 write!(
                     f,
-                    "behind a choice stands x N or nothing, and not '{word}': {}",
+                    "behind a choice comes x N or nothing, and not '{word}': {}",
                     form.pattern()
                 )
             }
@@ -168,7 +168,7 @@ fn tell_register<W: fmt::Write>(
     form: Form<'_>,
 ) -> fmt::Result {
     if word.contains(&b',') {
-        f.write_str("spaces stand between words, and no comma: ")?;
+        f.write_str("words have spaces between them, and no comma: ")?;
     }
     write!(f, "{}", form.pattern())
 }
@@ -177,13 +177,13 @@ fn tell_register<W: fmt::Write>(
 fn tell_statements<W: fmt::Write>(f: &mut fmt::Formatter<W>, above: Above) -> fmt::Result {
     match above.part() {
         Part::Choices(_) => f.write_str(
-            "below the first choice stand choices, of A, B and C, and end",
+            "below the first choice come choices, of A, B and C, and end",
         ),
         Part::Program => {
             tell_instructions(f, above)?;
-            f.write_str("; below the program stand txn, the choices of A, B and C, and end")
+            f.write_str("; below the program come txn, the choices of A, B and C, and end")
         }
-        _ => f.write_str("below the header stand row, txn, the choices of A, B and C, and end"),
+        _ => f.write_str("below the header come row, txn, the choices of A, B and C, and end"),
     }
 }
 

@@ -65,7 +65,7 @@ impl TextAdvice<'_> {
             return self.tell_times(f, form);
         }
         if self.statement.bytes.contains(&b',') {
-            f.write_str("spaces stand between words, and no comma: ")?;
+            f.write_str("words have spaces between them, and no comma: ")?;
         }
         write!(f, "{form}")
     }
@@ -76,13 +76,13 @@ impl TextAdvice<'_> {
         if let Some(number) = times_of(word) {
             write!(
                 f,
-                "behind a choice stands x {}, with a space between",
+                "behind a choice comes x {}, with a space between",
                 Bytes(number)
             )
         } else if is(word, b"x") {
-            write!(f, "behind x stands how often: {}", form.pattern())
+            write!(f, "behind x comes how often: {}", form.pattern())
         } else if self.culprit() > form.words() {
-            write!(f, "nothing stands behind x N: {}", form.pattern())
+            write!(f, "nothing comes behind x N: {}", form.pattern())
         } else {
             write!(f, "{form}")
         }

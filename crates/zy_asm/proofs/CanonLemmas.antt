@@ -41,7 +41,7 @@ use Rattle.zy_asm.proofs.SpellLemmas.{no_name}
 use Rattle.zy_asm.proofs.GivesLemmas.{numeral_ok}
 use borrow.Author.Tests.{tests}
 
--- a byte that may stand in a word
+-- a byte that may be in a word
 abbrev is_plain : ℕ → Bool
 is_plain b = not (is_space b) && not (b == 59) && not (b == 10)
 

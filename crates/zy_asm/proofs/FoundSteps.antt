@@ -102,7 +102,7 @@ ChoiceStep s ws t = (a : Actor) × (rest : List (List ℕ)) × (ws ≡ actor_wor
 first : (w a : List ℕ) (ws : List (List ℕ)) → w ≡ a → w ∷ ws ≡ a ∷ ws
 first w a ws e = ap (λ x. x ∷ ws) e
 
--- a label stands in a program alone
+-- a label is in a program alone
 no_label : {Q : Type 0} (b : Bool) (t : Seen) → (if b then Err kinds.Order else Err kinds.Word) ≡ Ok t → Q
 no_label true t h = cc
 no_label false t h = cc

@@ -70,7 +70,7 @@ op_of i = operation_of (parts_of i)
 letter_no_at : (b : ℕ) → is_letter b ≡ true → (b == 64) ≡ false
 letter_no_at b h = grind (arith, tests)
 
--- a label, and what stands in its place
+-- a label, and what is in its place
 pub record Given (labels : List Mark) (o : Operation) (rest : List (List ℕ)) (i : Instr) : Type 0 where
   pub pending : Pending
   pub given : instr_of o rest ≡ Ok pending
@@ -113,7 +113,7 @@ op_line : (o : Operation) (b : Base) (N : List Mark) (P : List (List Instr)) (M 
     → step (at stage.Program b N P M O []) (mnemonic o ∷ rest) ≡ instr_line (at stage.Program b N P M O []) o rest
 op_line o b N P M O rest known = rw (no_label o, named_back o, known) refl
 
--- what stands behind a label
+-- what is behind a label
 behind_op : (o : Operation) (s : Seen) (rest : List (List ℕ)) → is_of s.version o ≡ true → behind_label s (mnemonic o ∷ rest) ≡ instr_line s o rest
 behind_op o s rest known = rw (named_back o, known) refl
 

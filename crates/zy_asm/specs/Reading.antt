@@ -154,7 +154,7 @@ instr_at _ s op ws = Err kinds.Order
 abbrev pub note_label : Seen → List ℕ → Result Seen AsmKind
 note_label s name = if is_some (place name s.labels) then Err kinds.Label else Ok (record s { labels = s.labels ++ (name, length s.instrs) ∷ [] })
 
--- behind a label stands an instruction, or nothing
+-- behind a label is an instruction, or nothing
 abbrev pub labelled : Option Keyword → Seen → List (List ℕ) → Result Seen AsmKind
 labelled (Some (k.Instr op)) s ws = instr_line s op ws
 labelled _ s ws = Err kinds.Word
@@ -300,7 +300,7 @@ nothing_seen = record { stage = Zephyr; version = One; cap = 2; pages = 1; rule 
 abbrev pub reading : List ℕ → Result Seen AsmFault
 reading text = read_lines nothing_seen 1 (lines_of text)
 
--- ---- calls that may want memory
+-- ---- calls that may run out of memory
 
 -- a call did the step, unless there was no memory
 abbrev pub Steps : Result (Unit {0}) Reason → Seen → Result Seen AsmKind → Type 0

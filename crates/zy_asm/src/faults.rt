@@ -9,7 +9,7 @@ use zy_isa::program::ProgFault;
 /// Why a line is refused. Of several reasons the first is reported, in the order in which the line is judged.
 #[derive(Clone, Copy, Debug, PartialEq, Eq)]
 pub enum AsmKind {
-    /// 1: this is not the statement of the header that stands here.
+    /// 1: this is not the statement of the header that belongs here.
     Header,
     /// 2: a word is not known here, or there are too few or too many.
     Word,
@@ -17,9 +17,9 @@ pub enum AsmKind {
     Number,
     /// 4: a number is too small or too large.
     Range,
-    /// 5: the statement may not stand here, or the key of a row is not above the one before it.
+    /// 5: the statement may not be here, or the key of a row is not above the one before it.
     Order,
-    /// 6: a transaction or a label is not known or stands twice, or a program has another number.
+    /// 6: a transaction or a label is not known or is there twice, or a program has another number.
     Label,
     /// 7: the program above is no program.
     Program,
@@ -41,15 +41,15 @@ pub struct AsmFault {
 /// What is wrong with a line. The test that failed makes it, and its text tells it in words.
 #[derive(Clone, Copy, Debug, PartialEq, Eq)]
 pub enum Reason {
-    /// This is not the statement of the header that stands here.
+    /// This is not the statement of the header that belongs here.
     NotTheHeader,
     /// The bytes are not UTF-8.
     NotText,
     /// This word is not known here.
     NotKnown(Shown),
-    /// This word, which stands where a name is due, is none.
+    /// This word, in the place of a name, is none.
     NotAName(Shown),
-    /// This word, which stands behind a label, is no instruction.
+    /// This word, which is behind a label, is no instruction.
     NotAnInstr(Shown),
     /// There are too few words or too many.
     WordCount,
@@ -57,7 +57,7 @@ pub enum Reason {
     NotDigits(Shown),
     /// This number is not from `least` to `most`.
     OutOfRange { number: u64, least: u64, most: u64 },
-    /// The statement may not stand here.
+    /// The statement may not be here.
     Misplaced,
     /// The key of a row is not above the last one.
     NotAbove { key: u16, last: u16 },
@@ -69,9 +69,9 @@ pub enum Reason {
     NoName(Shown),
     /// A program above has this name already.
     NameTwice(Shown),
-    /// This label stands nowhere in the program above.
+    /// This label is nowhere in the program above.
     NoLabel(Shown),
-    /// This label stands in the program already.
+    /// This label is in the program already.
     LabelTwice(Shown),
     /// The instructions of the program of this number are no program.
     NoProgram { number: usize, fault: ProgFault },
@@ -142,7 +142,7 @@ impl fmt::Display for Reason {
             ),
             Reason::NotAnInstr(word) => write!(
                 f,
-                "behind a label stands an instruction, and not {word}"
+                "behind a label comes an instruction, and not {word}"
             ),
             Reason::WordCount => f.write_str("the statement has too few words or too many"),
             Reason::NotDigits(word) => write!(f, "a number is 1 to 10 digits, and not {word}"),
@@ -151,7 +151,7 @@ impl fmt::Display for Reason {
                 least,
                 most,
             } => write!(f, "{number} is not from {least} to {most}"),
-            Reason::Misplaced => f.write_str("the statement may not stand here"),
+            Reason::Misplaced => f.write_str("the statement is not allowed here"),
             Reason::NotAbove { key, last } => write!(
                 f,
                 "the key {key} is not above the last one, {last}"
@@ -172,12 +172,9 @@ impl fmt::Display for Reason {
             Reason::NameTwice(name) => write!(f, "a program above has the name {name} already"),
             Reason::NoLabel(name) => write!(
                 f,
-                "the label {name} stands nowhere in the program above"
+                "the label {name} is not defined in the program above"
             ),
-            Reason::LabelTwice(name) => write!(
-                f,
-                "the label {name} stands in this program already"
-            ),
+            Reason::LabelTwice(name) => write!(f, "the label {name} is in this program already"),
             Reason::NoProgram { number, fault } => tell_program(f, *number, *fault),
             Reason::RowCount => f.write_str("there are at most 256 rows"),
             Reason::PageCount { pages } => write!(

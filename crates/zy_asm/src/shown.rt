@@ -5,7 +5,7 @@ use std::fmt;
 /// How many bytes of a word are shown.
 const MOST: usize = 24;
 
-/// The front of a word.
+/// The first bytes of a word.
 #[derive(Clone, Copy, Debug, PartialEq, Eq)]
 pub struct Shown {
     bytes: [u8; MOST],

@@ -25,7 +25,7 @@ use Rattle.zy_laws.proofs.ValueAtPage.{newest_lows, values_at_pages}
 use Rattle.zy_audit.specs.Lone.{map_of}
 use Rattle.zy_audit.proofs.LaidRows.{get-map_of}
 
--- the page of a key, and what stands there
+-- the page of a key, and what is there
 abbrev pub home : State → ℕ → ℕ
 home s k = page_of (newest s) k
 

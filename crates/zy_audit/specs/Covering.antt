@@ -1,4 +1,4 @@
--- Rows that stand among those of a table.
+-- Rows that are among those of a table.
 use Rattle.std.specs.Prelude.{◌≡◌, ◌++◌, List}
 use Rattle.zy_isa.specs.declared.row.Row.{Row}
 

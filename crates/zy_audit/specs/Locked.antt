@@ -25,7 +25,7 @@ lock_text n x = codes " " ++ (node_text n ++ (codes ":" ++ (decimal x.txn ++ (co
 abbrev pub lock_on : Node → ℕ → Lock → List ℕ
 lock_on n p x = if x.page == p then lock_text n x else []
 
--- the locks of a node on page p, as they stand there: by transaction
+-- the locks of a node on page p, as they are there: by transaction
 abbrev pub locks_on : Node → ℕ → List Lock → List ℕ
 locks_on n p locks = flat_map (lock_on n p) locks
 

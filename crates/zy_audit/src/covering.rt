@@ -1,4 +1,4 @@
-//! Whether the pages have just the rows of a table, told page by page.
+//! Whether the pages have exactly the rows of a table, told page by page.
 ghost use Rattle.std.specs.Prelude.{◌≡◌, true};
 ghost use Rattle.zy_table.specs.Database.{database};
 ghost use Rattle.zy_audit.specs.Covering.{HasRun};
@@ -8,7 +8,7 @@ use crate::table::Table;
 use zy_isa::row::Row;
 use zy_machine::machine::Machine;
 
-/// Whether rows stand side by side among those of a table, from where the first one's key would stand.
+/// Whether rows are side by side among those of a table, from where the first one's key would be.
 fn has_run(table: &[Row], run: &[Row]) -> bool
     ensures { result ≡ true → HasRun table.now run.now }
 {

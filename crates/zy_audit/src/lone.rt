@@ -36,7 +36,7 @@ pub(crate) fn written(
     Ok(run.into_rows())
 }
 
-/// A run as it stands. What it writes is kept from the table until it ends.
+/// A run so far. What it writes is kept from the table until it ends.
 #[derive(Drop)]
 struct LoneRun {
     regs: [u32; 8],

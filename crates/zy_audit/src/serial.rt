@@ -58,7 +58,7 @@ fn all_rows(alloc: Global, machine: &Machine) -> Result<Table, AllocError>
     Ok(table)
 }
 
-/// Whether the pages have just what the committed programs leave when they are run alone, one by one.
+/// Whether the pages have exactly what the committed programs leave when they are run alone, one by one.
 pub fn same(alloc: Global, machine: &Machine) -> Result<bool, AllocError>
     ensures { IfOk result (λ b. b ≡ same_map (database machine.now.state) (serial_spec machine.now.scenario (map_of machine.now.scenario.rows) machine.now.state.commits)) }
 {

@@ -291,7 +291,7 @@ canon_body s =
     ∙ sym (append_assoc (header_words s) (map row_words s.rows ++ (program_words 0 s.programs ++ map choice_words s.choices)) last))
     ∙ flat_map-append (λ ws. line_of (spaced ws)) (body_words s) last
 
--- whatever stands behind it
+-- whatever is behind it
 pub cut-canon : (s : Scenario) (more : List ℕ) → IsScenario s → cut (canon s ++ more) ≡ canon s
 cut-canon s more h =
     ap (λ t. cut (t ++ more)) (canon_body s)

@@ -95,7 +95,7 @@ listing_table input l = (l.0, l.1, sym (verdict-same input (listing_run l.0) l.2
 pub table-listing : (input : List ℕ) → (IsVerdict input Table → IsListing input) × (IsListing input → IsVerdict input Table)
 table-listing input = (listing_found input, listing_table input)
 
--- the canonical text stands at the front of a listing
+-- the canonical text is a prefix of a listing
 pub cut-run : (sc : Scenario) → IsScenario sc → cut (listing_run sc) ≡ canon sc
 unfolding listing
 cut-run sc h = cut-canon sc _ h

@@ -11,7 +11,7 @@ common [] ys = []
 common (x ∷ xs) [] = []
 common (x ∷ xs) (y ∷ ys) = if x == y then x ∷ common xs ys else []
 
--- how many LF stand there
+-- how many LF are there
 abbrev pub feeds : List ℕ → ℕ
 feeds bytes = count_by (λ b. b == 10) bytes
 

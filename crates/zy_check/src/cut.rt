@@ -8,7 +8,7 @@ ghost use Rattle.zy_check.specs.Cut.{cut, is_end};
 use memchr::memchr;
 use zy_words::line::is_space;
 
-/// Where a byte stands first.
+/// Where a byte first occurs.
 fn first_place(bytes: &[u8], sought: u8) -> Option<usize>
     ensures { result ≡ position (λ b. b == sought) bytes.now }
 {

@@ -48,7 +48,7 @@ pub record SaysFront (old new : Option (List ℕ)) (s : Session) (lines : List (
 
 -- Calls that write went from the bytes old and the number of failures before to new and after.
 module _ (old new : Option (List ℕ)) (before after : ℕ) where
-  -- at Ok just what the lines say went out; else a prefix of it, and Write comes where a call failed or took none
+  -- at Ok exactly what the lines say went out; else a prefix of it, and Write comes where a call failed or took none
   abbrev pub WroteSession : {X : Type 0} → Result X TextFault → Session → List (List ℕ) → Session → Type 0
   WroteSession (Ok x) s lines t = (out : List ℕ) × Says s lines t out × Appends old new out × (after ≡ before)
   WroteSession (Err Write) s lines t = SaysFront old new s lines × (after ≡ before + 1)

@@ -34,7 +34,7 @@ numbered w n =
     if bytes_eq w (codes "txn") then Some (command.Txn n) else
     None
 
--- what stands alone behind `break`
+-- the only word behind `break`
 abbrev pub break_at : List ℕ → Option Command
 break_at w =
     if bytes_eq w (codes "mode") then Some command.BreakMode else

@@ -52,7 +52,7 @@ impl Checkpoints {
         })
     }
 
-    /// The kept machine that stands nearest below or at a position, if there is one.
+    /// The kept machine that is nearest below or at a position, if there is one.
     pub fn nearest(&self, target: usize) -> Option<&Machine>
         ensures below { IfSome (option_copied result) (λ h. length h.entries ≤ target) }
         ensures kept { (sc : AScenario) → HoldReplaysOf sc self.entry.now → IfSome (option_copied result) (IsReplayOf sc) }
@@ -91,12 +91,12 @@ impl Checkpoints {
         Ok(())
     }
 
-    /// Whether a machine close to where a replay ended stands at a position.
+    /// Whether a machine close to where a replay ended is at a position.
     pub fn has_close(&self, target: usize) -> bool {
         self.close.is_kept(target)
     }
 
-    /// Takes out the kept machine that stands at a position, if there is one among those close to where a replay ended. Those above go.
+    /// Takes out the kept machine that is at a position, if there is one among those close to where a replay ended. Those above go.
     pub fn take(&mut self, target: usize) -> Option<Machine>
         ensures position { IfSome result (λ h. length h.entries ≡ target) }
         ensures taken { (sc : AScenario) → HoldReplaysOf sc self.old → IfSome result (IsReplayOf sc) }
@@ -142,7 +142,7 @@ impl Checkpoints {
         Ok(())
     }
 
-    /// Makes a machine's choices up to a position, and keeps the copies that are due on the way. Those close to its end that stand above it go.
+    /// Makes a machine's choices up to a position, and keeps the copies that are due on the way. Those close to its end that are above it go.
     pub fn replay_to(
         &mut self,
         alloc: Global,

@@ -7,9 +7,9 @@ use thiserror::Error;
 /// What a session is asked.
 #[derive(Clone, Copy, Debug, PartialEq, Eq)]
 pub enum Command {
-    /// So many choices on.
+    /// Goes this number of choices on.
     Step(u32),
-    /// So many choices back.
+    /// Goes this number of choices back.
     Back(u32),
     /// To a position.
     Goto(u32),

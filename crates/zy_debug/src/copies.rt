@@ -5,7 +5,7 @@ ghost use Rattle.std.specs.Prelude.{◌≡◌, ◌≤◌, ◌<◌, ◌+◌, IfSo
 #[derive(Clone, Copy, Debug)]
 pub(crate) struct Copies {
     every: usize,
-    /// How far those that are spread over the scenario stand apart; 0 where there are none.
+    /// How far those that are spread over the scenario are apart; 0 where there are none.
     stride: usize,
     /// How many are spread over the scenario.
     pub spread: usize,
@@ -23,7 +23,7 @@ fn above(position: usize, number: usize) -> usize {
     }
 }
 
-/// How far copies stand apart at multiples of a number, where a number of them is spread over a number of choices.
+/// How far copies are apart at multiples of a number, where a number of them is spread over a number of choices.
 fn stride(choices: usize, every: usize, spread: usize) -> usize {
     match choices.checked_div(every.saturating_mul(spread.saturating_add(1))) {
         Some(count) if spread != 0 => count.saturating_add(1).saturating_mul(every),

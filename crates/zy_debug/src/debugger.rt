@@ -123,7 +123,7 @@ impl Debugger {
         }
     }
 
-    /// So many choices back.
+    /// Goes this number of choices back.
     fn back(&mut self, n: usize) -> Result<Reply, DebugFault>
         ensures { Obeys (in_range (nat_le n self.old.position)) (Moves self.old (self.old.position - n)) self.old self.new result }
     {
@@ -210,7 +210,7 @@ impl Debugger {
         }
     }
 
-    /// Goes to a position: takes the kept machine that stands there, or replays. A machine is large, and so it is moved straight to its place.
+    /// Goes to a position: takes the kept machine that is there, or replays. A machine is large, and so it is moved straight to its place.
     fn go(&mut self, target: usize) -> Result<(), AllocError>
         requires { target ≤ length self.old.scenario.choices }
         ensures ok { OnOk result (self.new ≡ goes self.old target) }
@@ -222,7 +222,7 @@ impl Debugger {
         self.replay(target)
     }
 
-    /// Takes the kept machine that stands at a position for that of the session, if there is one among those close to where a replay ended.
+    /// Takes the kept machine that is at a position for that of the session, if there is one among those close to where a replay ended.
     fn take_kept(&mut self, target: usize) -> bool
         ensures taken { result ≡ true → self.new ≡ goes self.old target }
         ensures kept { result ≡ false → self.new ≡ self.old }

@@ -52,7 +52,7 @@ impl Shelf {
         Ok(())
     }
 
-    /// Drops the machines from the first one on that stands above a position.
+    /// Drops the machines from the first one on that is above a position.
     pub fn drop_above(&mut self, target: usize)
         ensures room { self.new.room ≡ self.old.room }
         ensures kept { (sc : AScenario) → AreReplaysOf sc self.old.machines → AreReplaysOf sc self.new.machines }
@@ -62,7 +62,7 @@ impl Shelf {
         }
     }
 
-    /// Takes out the last machine, where it stands at a position. Those from the first one on that stands above it are dropped.
+    /// Takes out the last machine, where it is at a position. Those from the first one on that is above it are dropped.
     pub fn take(&mut self, target: usize) -> Option<Machine>
         ensures room { self.new.room ≡ self.old.room }
         ensures position { IfSome result (λ h. length h.entries ≡ target) }
@@ -77,7 +77,7 @@ impl Shelf {
         }
     }
 
-    /// Whether the last machine stands at a position.
+    /// Whether the last machine is at a position.
     fn ends_at(&self, target: usize) -> bool
         ensures { result ≡ true → IfSome (last_item self.now.machines) (λ h. length h.entries ≡ target) }
     {
@@ -87,7 +87,7 @@ impl Shelf {
         }
     }
 
-    /// Whether one more can be kept without the loss of one that stands at or above a position.
+    /// Whether one more can be kept without the loss of one that is at or above a position.
     pub fn is_free(&self, position: usize) -> bool {
         match self.ring.front() {
             Some(kept) if self.ring.is_full() => kept.len() < position,
@@ -95,7 +95,7 @@ impl Shelf {
         }
     }
 
-    /// Which kept machine stands nearest below or at a position.
+    /// Which kept machine is nearest below or at a position.
     fn place_of_nearest(&self, target: usize) -> Option<usize>
         ensures { IfSome result (λ i. (h : History) × (slice_get self.now.machines i ≡ Some h) × (length h.entries ≤ target)) }
     {
@@ -112,7 +112,7 @@ impl Shelf {
         nearest
     }
 
-    /// The kept machine that stands nearest below or at a position, if there is one.
+    /// The kept machine that is nearest below or at a position, if there is one.
     pub fn nearest(&self, target: usize) -> Option<&Machine>
         ensures below { IfSome (option_copied result) (λ h. length h.entries ≤ target) }
         ensures kept { (sc : AScenario) → AreReplaysOf sc self.entry.now.machines → IfSome (option_copied result) (IsReplayOf sc) }

@@ -1,4 +1,4 @@
-//! What stands before the choices: the header, the rows and the programs.
+//! What is before the choices: the header, the rows and the programs.
 ghost use Rattle.zy_disasm.specs.Lines.{program_parts, head_texts};
 
 use crate::lines::{Number, RuleLine, VersionLine};

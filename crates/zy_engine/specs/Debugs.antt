@@ -25,7 +25,7 @@ pub record AreReplies (input out : List ℕ) : Type 0 where
   pub says : Says (opened scenario) (commands_of input) session out
 
 pub record Debugs {X : Type 0} (old new : Streams) (result : Result X BenchFault) : Type 0 where
-  -- at Ok just the replies went out
+  -- at Ok exactly the replies went out
   pub written : OnOk result (IfSome old.left (λ input. (out : List ℕ) × AreReplies input out × Appends old.written new.written out))
   -- whatever comes, nothing but a prefix of the replies went out
   pub front : IfSome old.left (λ input. (sc : Scenario) → Means (cut input) sc → SaysFront old.written new.written (opened sc) (commands_of input))

@@ -16,7 +16,7 @@ pub record Streams : Type 0 where
   pub writes : ℕ
 
 pub record Converts {X : Type 0} (format : Format) (output : Scenario → List ℕ) (old new : Streams) (result : Result X BenchFault) : Type 0 where
-  -- at Ok the input stands for a scenario, and just its output went out
+  -- at Ok the input stands for a scenario, and exactly its output went out
   pub written : OnOk result (IfSome old.left (λ told. (sc : Scenario) × StandsFor format told sc × Appends old.written new.written (output sc)))
   -- whatever comes, nothing but a prefix of the output of a scenario that the input stands for went out
   pub front : IfSome old.left (λ told. (sc : Scenario) → StandsFor format told sc → WroteFront old.written new.written (output sc))

@@ -74,7 +74,7 @@ fn write_search<K: Sink, W: Watch>(
 }
 
 /// Reads a scenario whole, makes its choices, and looks for a state that further ones lead to and that shows what is sought. Where there is
-/// one, the canonical text of the scenario goes out with a shortest list of such choices behind its own; else nothing does. The watch is told how far the
+/// one, the canonical text of the scenario goes out with a shortest list of such choices behind its own; else nothing does. The watch learns how far the
 /// search is.
 pub fn search_bytes<S: Source, K: Sink, W: Watch>(
     alloc: Global,

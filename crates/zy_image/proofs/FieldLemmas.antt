@@ -1,4 +1,4 @@
--- A field is the front of the bytes, and its number has it as its bytes.
+-- A field is a prefix of the bytes, and its number has it as its bytes.
 use Rattle.std.proofs.Common.{◌≡◌, ℕ, zero, suc, ◌<◌, ◌^◌, false, nat_lt, List, [], ◌∷◌, ◌++◌, length, get_or, Result, Ok, Err, refl, sym, ap, ◌∙◌, subst, arith}
 use Rattle.std.proofs.lemmas.List.{take-append-drop, length-take-le, length-append}
 use Rattle.std.proofs.Math.Seq.{take-append_seam, drop-append_seam}
@@ -87,7 +87,7 @@ field_gives size w left =
 
 -- ---- numbers
 
--- a number in front of the bytes
+-- a number before the bytes
 pub record Number (most : ℕ) (image : ℕ → List ℕ) (bytes : List ℕ) (n : ℕ) (left : List ℕ) : Type 0 where
   pub same : bytes ≡ image n ++ left
   pub fits : n < most

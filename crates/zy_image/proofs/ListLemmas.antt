@@ -20,7 +20,7 @@ module _ {X : Type 0} (next : List X → List ℕ → Read X) (xs : List X) (byt
 
 -- ---- what was read has its image
 
--- this number of items was read: their images stand in front, and what holds of the list is kept
+-- this number of items was read: their images are in front, and what holds of the list is kept
 pub record TookItems {X : Type 0} (image : X → List ℕ) (P : List X → Type 0) (xs : List X) (n : ℕ) (bytes : List ℕ) (ys : List X) (left : List ℕ) : Type 0 where
   pub more : List X
   pub all : ys ≡ xs ++ more
@@ -29,7 +29,7 @@ pub record TookItems {X : Type 0} (image : X → List ℕ) (P : List X → Type 
   pub back : AreBytes left
   pub kept : P ys
 
--- an item was read: its image stands in front, and what holds of the list is kept
+-- an item was read: its image is in front, and what holds of the list is kept
 pub record TookItem {X : Type 0} (image : X → List ℕ) (P : List X → Type 0) (xs : List X) (bytes : List ℕ) (x : X) (left : List ℕ) : Type 0 where
   pub same : bytes ≡ image x ++ left
   pub back : AreBytes left
@@ -61,7 +61,7 @@ module _ {X : Type 0} (image : X → List ℕ) (next : List X → List ℕ → R
         kept = r.kept;
       }
 
-  -- the same where nothing stands before them
+  -- the same where nothing is before them
   pub list_found : (n : ℕ) (bytes : List ℕ) (ys : List X) (left : List ℕ) → P [] → AreBytes bytes → read_items next [] n bytes ≡ Ok (ys, left) → TookList image P n bytes ys left
   list_found n bytes ys left p fit h =
       let i = items_found n [] bytes ys left p fit h in

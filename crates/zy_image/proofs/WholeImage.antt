@@ -81,7 +81,7 @@ rule_gives : (size : ℕ) (r : Rule) (left : List ℕ) → rule_field size (rule
 rule_gives size Held left = rw (byte_gives size 0 left) refl
 rule_gives size Loose left = rw (byte_gives size 1 left) refl
 
--- the bytes in front of the rows
+-- the bytes before the rows
 abbrev front_of : Head → List ℕ
 front_of h = magic h.version ++ (h.cap ∷ to_be_bytes w16 h.pages ++ rule_byte h.rule ∷ [])
 

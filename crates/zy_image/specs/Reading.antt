@@ -76,7 +76,7 @@ head_fields size bytes = do
 
 -- ---- lists
 
--- this number of items more, each read behind those that stand before it
+-- this number of items more, each read behind those that are before it
 abbrev pub read_items : {X : Type 0} → (List X → List ℕ → Read X) → List X → ℕ → List ℕ → Read (List X)
 read_items next xs zero bytes = Ok (xs, bytes)
 read_items next xs (suc n) bytes = next xs bytes >>= λ x. read_items next (xs ++ x.0 ∷ []) n x.1
@@ -197,7 +197,7 @@ reading bytes = do
 abbrev pub image_fault : List ℕ → Option LoadFault
 image_fault bytes = result_err (reading bytes)
 
--- ---- calls that may want memory
+-- ---- calls that may run out of memory
 
 -- the answer is what was read and what is left, unless there was no memory
 abbrev pub Gives : {X : Type 0} → Result (X × Bor (List ℕ)) LoadFault → Read X → Type 0

@@ -1,4 +1,4 @@
-//! The fields in front of the rows.
+//! The fields before the rows.
 ghost use Rattle.zy_image.specs.Reading.{Gives, cap_field as cap_field_spec, head_fields as head_fields_spec, pages_field as pages_field_spec, rule_at as rule_at_spec, rule_field as rule_field_spec};
 ghost use Rattle.std.specs.Prelude.{◌≡◌};
 
@@ -8,7 +8,7 @@ use zy_isa::rule::Rule;
 use zy_isa::scenario::{MAX_CAP, MAX_PAGES};
 use zy_isa::version::Version;
 
-/// What the fields in front of the rows say.
+/// What the fields before the rows say.
 #[derive(Clone, Copy, Debug, PartialEq, Eq)]
 pub struct Head {
     /// The version.
@@ -65,7 +65,7 @@ fn rule_field(size: usize, bytes: &[u8]) -> Result<(Rule, &[u8]), LoadFault>
     }
 }
 
-/// The fields in front of the rows.
+/// The fields before the rows.
 pub fn head_fields(size: usize, bytes: &[u8]) -> Result<(Head, &[u8]), LoadFault>
     ensures { Gives result (head_fields_spec size bytes.entry.now) }
 {

@@ -10,10 +10,10 @@ use std::alloc::Global;
 pub trait Items {
     type Item: Drop;
 
-    // The next item, behind those that stand before it.
+    // The next item, behind those that are before it.
     ghost next: { Self → List Self.Item → List ℕ → Read Self.Item };
 
-    /// Reads the next item, behind those that stand before it.
+    /// Reads the next item, behind those that are before it.
     fn next<'a>(
         &self,
         before: &[Self::Item],

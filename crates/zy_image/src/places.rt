@@ -29,7 +29,7 @@ pub enum Field {
     Choice(usize),
 }
 
-/// The fields in front of the rows.
+/// The fields before the rows.
 const HEAD: [Field; 5] = [
     Field::Magic,
     Field::Cap,
@@ -113,7 +113,7 @@ pub fn bytes_at<const N: usize>(bytes: &[u8], at: usize) -> [u8; N] {
     field.copied().unwrap_or([0; N])
 }
 
-/// Where the number of transactions stands.
+/// Where the number of transactions is.
 fn txn_count_at(bytes: &[u8]) -> usize {
     behind(10, half_at(bytes, 8), 6)
 }
@@ -132,7 +132,7 @@ fn program_at(bytes: &[u8], txn: usize) -> usize {
     at
 }
 
-/// Where the number of choices stands.
+/// Where the number of choices is.
 fn choices_at(bytes: &[u8]) -> usize {
     program_at(bytes, txn_count(bytes))
 }

@@ -1,4 +1,4 @@
-//! What a person wants to know of a fault: where in the image it stands, and what stands there.
+//! What a person needs to know of a fault: where in the image it is, and what is there.
 ghost use Rattle.std.specs.Prelude.{◌≡◌};
 
 use crate::faults::LoadFault;
@@ -7,7 +7,7 @@ use std::fmt;
 use zy_isa::program::ProgFault;
 use zy_isa::scenario::opening_rows;
 
-/// What stands at the place of a fault.
+/// What is at the place of a fault.
 #[derive(Clone, Copy, Debug, PartialEq, Eq)]
 pub enum Found {
     /// Nothing that the fault does not tell.
@@ -93,7 +93,7 @@ fn tell_bytes<W: fmt::Write>(f: &mut fmt::Formatter<W>, before: &str, bytes: &[u
     Ok(())
 }
 
-/// A fault of an image, its place there, and what stands at it.
+/// A fault of an image, its place there, and what is at it.
 #[derive(Clone, Copy, Debug, PartialEq, Eq)]
 pub struct ImageRefusal {
     pub fault: LoadFault,
@@ -127,7 +127,7 @@ fn program_field(txn: usize, fault: ProgFault, bytes: &[u8]) -> Field {
     }
 }
 
-/// Where in these bytes a fault of theirs stands.
+/// Where in these bytes a fault of theirs is.
 fn place(fault: LoadFault, bytes: &[u8]) -> usize {
     let field = match fault {
         LoadFault::Magic | LoadFault::Memory => Field::Magic,
@@ -160,7 +160,7 @@ fn program_found_at(txn: usize, fault: ProgFault, bytes: &[u8], at: usize) -> Fo
     }
 }
 
-/// What stands in these bytes at the place of a fault of theirs.
+/// What is in these bytes at the place of a fault of theirs.
 fn found_at(fault: LoadFault, bytes: &[u8], at: usize) -> Found {
     match fault {
         LoadFault::Magic => Found::Beginning(bytes_at(bytes, at)),

@@ -111,7 +111,7 @@ fn rule_byte(rule: Rule) -> u8
     }
 }
 
-/// The fields in front of the rows.
+/// The fields before the rows.
 fn put_head(out: &mut Vec<u8>, scenario: &Scenario) -> Result<(), AllocError>
     ensures { OnOk result (out.new.items ≡ out.old.items ++ head_image scenario.now) }
 {

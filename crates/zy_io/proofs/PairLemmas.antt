@@ -3,7 +3,7 @@ use Rattle.std.proofs.Common.{◌≡◌, ◌==◌, ◌&&◌, ◌+◌, ◌*◌, �
 use Rattle.std.proofs.lemmas.Bool.{and_parts, cases_lt, eqb-true}
 use Rattle.zy_io.specs.declared.buffer.TheConstants.{PAIRS}
 
--- whether a number's two signs stand in their places
+-- whether a number's two signs are in their places
 is_pair : ℕ → Bool
 is_pair n = (slice_index_or PAIRS (n * 2) 0 == 48 + n / 10) && (slice_index_or PAIRS (n * 2 + 1) 0 == 48 + n % 10)
 

@@ -37,7 +37,7 @@ Remains-whole a b text (x ∷ xs) p h = absurd (omega arith)
 pub Remains-kept : (a b c : Option (List ℕ)) (text rest : List ℕ) → Remains a b text rest → Keeps b c → Remains a c text rest
 Remains-kept a b c text rest p q = (p.0, p.1, Appends-kept a b c p.0 p.2 q)
 
--- more of the text went out, of which the rest stood in front
+-- more of the text went out, of which the rest was before it
 pub Remains-then : (a b c : Option (List ℕ)) (text more rest last : List ℕ) → Remains a b text rest → Remains b c (rest ++ more) last → Remains a c (text ++ more) last
 Remains-then a b c text more rest last p q = (
   p.0 ++ q.0,

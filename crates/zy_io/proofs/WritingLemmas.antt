@@ -92,7 +92,7 @@ flat_map-flat_map f [] = refl
 flat_map-flat_map f (part ∷ parts) =
     flat_map-append f part (flat_map (λ x. x) parts) ∙ ap (λ l. flat_map f part ++ l) (flat_map-flat_map f parts)
 
--- the fault of one element's text, which stands behind those before it, is that of the whole list
+-- the fault of one element's text, which is behind those before it, is that of the whole list
 pub Appended-element-stops : {X E Z : Type 0} (f : Z → List ℕ) (xs : List Z) (i : ℕ) (d : Z) (a b c : List ℕ) (e : E) (r : Result X E)
     → i < length xs → b ≡ a ++ flat_map f (take i xs) → AppendedFront b c (f (get_or xs i d)) → r ≡ Err e → Appended r a c (flat_map f xs)
 Appended-element-stops f xs i d a b c e r h so_far (front, back, is, now) err =
@@ -105,13 +105,13 @@ Appended-element-stops f xs i d a b c e r h so_far (front, back, is, now) err =
       now ∙ ap (λ l. l ++ front) so_far ∙ append_assoc a before front,
     )
 
--- what stands behind the elements before it is their text and its own
+-- what is behind the elements before it is their text and its own
 pub flat_map-take : {X : Type 0} (f : X → List ℕ) (xs : List X) (i : ℕ) (d : X) → i < length xs → flat_map f (take (suc i) xs) ≡ flat_map f (take i xs) ++ f (get_or xs i d)
 flat_map-take f [] i d h = absurd (omega arith)
 flat_map-take f (x ∷ xs) zero d h = append-nil (f x)
 flat_map-take f (x ∷ xs) (suc i) d h = ap (λ l. f x ++ l) (flat_map-take f xs i d (omega arith)) ∙ sym (append_assoc (f x) (flat_map f (take i xs)) (f (get_or xs i d)))
 
--- the same, where what stood before it went out but for a rest
+-- the same, where what was before it went out but for a rest
 pub Wrote-rest-stops : {Y Z : Type 0} (f : Z → List ℕ) (xs : List Z) (i : ℕ) (d : Z) (a b c : Option (List ℕ)) (m n k : ℕ) (rest : List ℕ) (fault : TextFault) (r : Result Y TextFault)
     → i < length xs → Remains a b (flat_map f (take i xs)) rest → n ≡ m → Wrote b c n k {X = Unit {0}} (Err fault) (rest ++ f (get_or xs i d)) → r ≡ Err fault → Wrote a c m k r (flat_map f xs)
 Wrote-rest-stops f xs i d a b c m n k rest fault r h p same q is = rw is (stops fault q)

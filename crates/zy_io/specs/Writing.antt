@@ -9,7 +9,7 @@ use Rattle.zy_io.specs.declared.writing.TextFault.TheVariants.{Write, Memory}
 abbrev pub line_of : List ℕ → List ℕ
 line_of text = text ++ 10 ∷ []
 
--- a prefix of the text was put behind what stood there
+-- a prefix of the text was put behind what was there
 abbrev pub AppendedFront : List ℕ → List ℕ → List ℕ → Type 0
 AppendedFront old new text = (front : List ℕ) × (back : List ℕ) × (text ≡ front ++ back) × (new ≡ old ++ front)
 

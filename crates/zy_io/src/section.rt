@@ -19,7 +19,7 @@ pub trait Lines {
         ensures { result ≡ length (texts self.now) };
 
     /// Puts the text of a line, by its place in the list, behind what the buffer holds. At an error a
-    /// front of it may stand there.
+    /// prefix of it may be there.
     fn append(&self, place: usize, line: &mut LineBuffer) -> Result<(), AllocError>
         requires { place < length (texts self.now) }
         ensures { Appended result line.old line.new (slice_index_or (texts self.now) place []) };

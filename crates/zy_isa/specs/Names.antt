@@ -26,7 +26,7 @@ abbrev pub place : List ℕ → List Mark → Option ℕ
 place w [] = None
 place w (m ∷ ms) = if bytes_eq w m.0 then Some m.1 else place w ms
 
--- each name stands neither above nor before
+-- each name occurs neither above nor before
 abbrev pub AreNew : List Mark → List Mark → Type 0
 AreNew above [] = Unit {0}
 AreNew above (m ∷ ms) = (place m.0 above ≡ None) × AreNew (above ++ m ∷ []) ms

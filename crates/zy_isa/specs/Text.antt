@@ -39,7 +39,7 @@ pub record Draft : Type 0 where
   pub programs : List Written
   pub choices : List Times
 
--- a line of a program stands with the program's labels, a choice with the names of all programs
+-- a line of a program is with the program's labels, a choice with the names of all programs
 pub data Statement : Type 0 where
   zephyr : (v : Version) → Statement
   cap : (n : ℕ) → Statement
@@ -124,7 +124,7 @@ abbrev pub label_at : Option (List ℕ) → ℕ → List Mark
 label_at None k = []
 label_at (Some name) k = (name, k) ∷ []
 
--- the labels of a program, k instructions of which stand above: each is the index of the next instruction
+-- the labels of a program, k instructions of which are above: each is the index of the next instruction
 abbrev pub labels_of : ℕ → List Code → List Mark
 labels_of k [] = []
 labels_of k (c ∷ cs) = label_at c.label k ++ labels_of (k + length (instr_in c.instr)) cs
@@ -138,7 +138,7 @@ abbrev pub names_of : ℕ → List Written → List Mark
 names_of k [] = []
 names_of k (p ∷ ps) = name_in p.head k ++ names_of (k + 1) ps
 
--- each program from number k on stands under a name or its number
+-- each program from number k on is under a name or its number
 abbrev pub Headed : ℕ → List Written → Type 0
 Headed k [] = Unit {0}
 Headed k (p ∷ ps) = ((is_name p.head ≡ true) ⊎ (number_of p.head ≡ Some k)) × Headed (k + 1) ps

@@ -12,7 +12,7 @@ lines_of (b ∷ bs) = if b == 10 then [] ∷ lines_of bs else onto_first b (line
 abbrev pub is_space : ℕ → Bool
 is_space c = c == 32 || c == 9 || c == 13
 
--- what stands before a comment
+-- what is before a comment
 abbrev pub without_comment : List ℕ → List ℕ
 without_comment line = take_while (λ c. not (c == 59)) line
 

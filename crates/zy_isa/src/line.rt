@@ -121,7 +121,7 @@ impl Line for Word {
     }
 }
 
-/// A listing has two for each step, so that its words stand in few pieces.
+/// A listing has two for each step, so that its words are in few pieces.
 impl Line for Choice {
     ghost text = { choice_text };
 

@@ -41,7 +41,7 @@ index_has [] i h = absurd (omega arith)
 index_has (x ∷ xs) zero h = or_left _ _ (eq-eqb x x refl)
 index_has (x ∷ xs) (suc i) h = or_right (x == slice_index xs i) _ (index_has xs i (omega arith))
 
--- ---- no key stands twice
+-- ---- no key is twice
 
 rise-put_key : (low k : ℕ) (xs : List ℕ) → low ≤ k → (has xs k ≡ true → ⊥) → NumbersRise low xs → NumbersRise low (put_key k xs)
 rise-put_key low k [] le new h = (le, tt)
@@ -82,7 +82,7 @@ some_append (r ∷ xs) ys q h =
     (λ e _. inl (ap (λ b. is_some (if b then Some r.value else get_row xs q)) e))
     (λ e g. elim (some_append xs ys q g) [ inl i ↦ inl (ap (λ b. is_some (if b then Some r.value else get_row xs q)) e ∙ i) | inr i ↦ inr i ]) h
 
--- a row of a list that has it, whatever stands before
+-- a row of a list that has it, whatever is before
 some_behind : (r : Row) (rows : List Row) (q : ℕ) → is_some (get_row rows q) ≡ true → is_some (get_row (r ∷ rows) q) ≡ true
 some_behind r rows q h = cond_both (r.key == q) (Some r.value) (get_row rows q) (λ o. is_some o ≡ true) (λ _. refl) (λ _. h)
 
@@ -125,7 +125,7 @@ differ_on lows p (r ∷ rs) h =
 
 -- ---- the boundary
 
--- the keys among which it stands
+-- the keys among which it is
 abbrev keys_at : ℕ → ℕ → ℕ → View → List ℕ
 keys_at t k p v = put_key k (keys_of (rows_of v.me.pages p ++ own_inserts p v.me (txn_at v t)))
 

@@ -65,7 +65,7 @@ pub each_in : (xs : List Leaf) → Each (λ p rows. owns xs p ≡ true) xs
 each_in [] = tt
 each_in (x ∷ xs) = (or_left (x.number == x.number) (owns xs x.number) (eq-eqb x.number x.number refl), each_map (λ p rows. owns xs p ≡ true) (λ p rows. owns (x ∷ xs) p ≡ true) xs (λ p rows h. or_right _ _ h) (each_in xs))
 
--- where no number stands twice, a page's rows are those of its number
+-- where no number is twice, a page's rows are those of its number
 pub each_own : (xs : List Leaf) → ((p : ℕ) → times p xs ≤ 1) → Each (λ p rows. rows ≡ rows_of xs p) xs
 each_own [] once = tt
 each_own (x ∷ xs) once = (

@@ -45,7 +45,7 @@ told_set v w t u y e c a h =
     ] in
     ap (times_listed u) c ∙ h ∙ sym same
 
--- t commits, and a record of it stands at the end of the list
+-- t commits, and a record of it is at the end of the list
 told_commit : (v w : View) (t u : ℕ) (y : Txn) (c : CommitRec) → w.txns ≡ slice_set v.txns t y → w.commits ≡ v.commits ++ c ∷ [] → c.txn ≡ t
     → is_committed y.status ≡ true → is_active (txn_at v t).status ≡ true → Told v u → Told w u
 told_commit v w t u y c e more named now active h =

@@ -1,4 +1,4 @@
--- A lone run over a database that it leaves as it is: what it wrote stands in rows of its own.
+-- A lone run over a database that it leaves as it is: what it wrote is in rows of its own.
 use Rattle.std.proofs.Common.{Bool, List, [], ap, arith, false, inl, inr, refl, suc, sym, true, zero, ℕ, ◌%◌, ◌++◌, ◌+◌, ◌^◌, ◌∙◌, ◌∷◌, ◌≡◌}
 use Rattle.std.specs.Prelude.{None, Option, Some, if◌then◌else◌, is_some, nat_lt, not, replicate, slice_get, unwrap_or, ◌==◌}
 use Rattle.std.specs.FinMap.{get, get-insert, insert, nat_cmp-IsAntisymmetric, same_map}

@@ -1,4 +1,4 @@
--- How often a page stands in lists of pages.
+-- How often a page is in lists of pages.
 use Rattle.std.proofs.Common.{List, [], ap, arith, false, inl, inr, refl, true, ℕ, ◌++◌, ◌+◌, ◌∙◌, ◌∷◌, ◌≡◌, ◌≤◌}
 use Rattle.std.specs.Prelude.{if◌then◌else◌, nat_lt, ◌==◌}
 use Rattle.std.proofs.lemmas.Bool.{cond_both, eqb-true, eqb-false, cases_eq, eq-eqb, false_from_ne_true, false≢true, or_cases, or_left, or_right}
@@ -11,7 +11,7 @@ use Rattle.zy_laws.specs.OneOwner.{times}
 use Rattle.zy_table.specs.Pages.{lowered, owns, with_page, without}
 use Rattle.zy_table.specs.State.{Leaf, Message, State}
 
--- how often page p stands in a message, and in a link
+-- how often page p is in a message, and in a link
 abbrev pub times_in : ℕ → Message → ℕ
 times_in p (Wire lows) = 0
 times_in p Ready = 0

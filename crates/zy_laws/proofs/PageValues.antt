@@ -43,7 +43,7 @@ rows_of-here x xs p h = ap (λ b. (if b then x else leaf_at xs p).rows) h
 pub rows_of-past : (x : Leaf) (xs : List Leaf) (p : ℕ) → (x.number == p) ≡ false → rows_of (x ∷ xs) p ≡ rows_of xs p
 rows_of-past x xs p h = ap (λ b. (if b then x else leaf_at xs p).rows) h
 
--- a page stands once in a list: what the list has at a key is what that page has
+-- a page is once in a list: what the list has at a key is what that page has
 pub found_once : (lows : List ℕ) (xs : List Leaf) (k : ℕ) → Placed lows xs → times (page_of lows k) xs ≤ 1
     → found xs k ≡ get_row (rows_of xs (page_of lows k)) k
 found_once lows [] k p h = refl

@@ -1,4 +1,4 @@
--- Where a migration stands, and what is on the links then.
+-- Where a migration is, and what is on the links then.
 use Rattle.std.proofs.Common.{◌≡◌, ℕ, ◌<◌, ◌≤◌, List, [], ◌∷◌, ◌++◌, length, refl, ap, arith, inl, inr, length-append}
 use Rattle.std.specs.Prelude.{◌⊎◌}
 use Rattle.zy_modes.specs.declared.mode.NodeMode.TheVariants.{Empty, Normal, SInit, SDual, SFinish, DInit, DDual, DFinish}
@@ -52,7 +52,7 @@ PullsAndDone (Finish ∷ ms) = ⊥
 pub record AllThere (x : NodeState) : Type 0 where
   pub each : (p : ℕ) → p < length x.lows → 1 ≤ times p x.pages
 
--- where a migration stands, from the source to the destination
+-- where a migration is, from the source to the destination
 pub data Phase (src dst : NodeState) (out back : List Message) : Type 0 where
   Resting : src.mode ≡ Normal → dst.mode ≡ Empty → dst.lows ≡ [] → out ≡ [] → back ≡ [] → Phase src dst out back
   Wire_sent : src.mode ≡ SInit → dst.mode ≡ Empty → dst.lows ≡ [] → out ≡ Wire src.lows ∷ [] → back ≡ [] → Phase src dst out back

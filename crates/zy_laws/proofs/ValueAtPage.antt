@@ -1,4 +1,4 @@
--- Each key's value stands on the page of its key, and each page shows its low key.
+-- Each key's value is on the page of its key, and each page shows its low key.
 use Rattle.std.proofs.Common.{List, [], ap, append-nil, arith, false, inl, inr, length, length-append, subst, sym, true, ℕ, ◌++◌, ◌<◌, ◌∙◌, ◌∷◌, ◌≡◌, ◌≤◌}
 use Rattle.std.specs.Prelude.{◌⊎◌, if◌then◌else◌, max, nat_lt}
 use Rattle.std.specs.FinMap.{get}
@@ -86,7 +86,7 @@ longer_is xs ys lows r =
 pub newest_lows : (sc : Scenario) (s : State) (lows : List ℕ) → Kept sc A (facing A s) lows → newest s ≡ lows
 newest_lows sc s lows k = longer_is s.a.lows s.b.lows lows (newest_of (facing A s) lows k.inv.roles k.mine.newest k.theirs.newest)
 
--- a page stands once among all pages
+-- a page is once among all pages
 once_in_whole : (v : View) (p : ℕ) → Owned v → times p (whole v) ≤ 1
 once_in_whole v p o =
     let once = o.once p in

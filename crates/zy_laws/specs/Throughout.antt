@@ -1,4 +1,4 @@
--- What holds at every point of a schedule: after each front of its choices.
+-- What holds at every point of a schedule: after each prefix of its choices.
 use Rattle.std.specs.Prelude.{ℕ, ◌≡◌, List, take}
 use Rattle.zy_isa.specs.declared.choice.Choice.{Choice}
 use Rattle.zy_isa.specs.declared.rule.Rule.TheVariants.{Held}
@@ -7,7 +7,7 @@ use Rattle.zy_table.specs.Play.{play, opening}
 use Rattle.zy_table.specs.Serial.{Serializable}
 use Rattle.zy_laws.specs.OneOwner.{OneOwner}
 
--- each page stands once: at a node or in one message
+-- each page is in one place: at a node or in one message
 abbrev pub OwnedThroughout : Scenario → List Choice → Type 0
 OwnedThroughout sc choices = (n : ℕ) → OneOwner (play sc (opening sc) (take n choices))
 

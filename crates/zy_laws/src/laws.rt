@@ -39,7 +39,7 @@ pub fn lists_in_order()
         → InOrder (play sc (opening sc) choices) }
 {}
 
-/// Each page stands once: at a node or in one message.
+/// Each page is in one place: at a node or in one message.
 pub fn one_owner()
     ensures { (sc : Scenario) (choices : List AChoice) → OneOwner (play sc (opening sc) choices) }
 {}
@@ -124,7 +124,7 @@ pub fn each_key_has_page()
         → EachKeyHasPage (play sc (opening sc) choices) }
 {}
 
-/// What the database has at a key stands on the page that the wireframe names for it.
+/// What the database has at a key is on the page that the wireframe names for it.
 pub fn value_at_page()
     ensures { (sc : Scenario) → IsScenario sc → (choices : List AChoice)
         → ValuesAtPages (play sc (opening sc) choices) }
@@ -142,13 +142,13 @@ pub fn holders_active()
         → HoldersActive (play sc (opening sc) choices) }
 {}
 
-/// A transaction stands in the commit list once where it is committed, and else not at all.
+/// A transaction is in the commit list once where it is committed, and else not at all.
 pub fn commits_listed()
     ensures { (sc : Scenario) (choices : List AChoice) → Listed (play sc (opening sc) choices) }
 {}
 
 /// Under the rule `held` the database is that of the programs in the commit list, run one by one in its order; a
-/// transaction stands there once where it is committed, and else not at all; and each has the registers of its lone run.
+/// transaction is there once where it is committed, and else not at all; and each has the registers of its lone run.
 /// Under `loose` it need not be.
 pub fn serializable()
     ensures { (sc : Scenario) → IsScenario sc → sc.rule ≡ Held → (choices : List AChoice)

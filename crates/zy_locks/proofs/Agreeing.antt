@@ -117,7 +117,7 @@ between_low x y p t on h k = (grind (arith, nat_tests, on, h, k), grind (arith, 
 between_high : (z y x : Lock) (p t : ℕ) → x.page ≡ p → comes_before z p t ≡ false → comes_before z y.page y.txn ≡ true → comes_before y x.page x.txn ≡ true → (y.page ≡ p) × (t < y.txn) × (y.txn < x.txn)
 between_high z y x p t on h k l = (grind (arith, nat_tests, on, h, k, l), grind (arith, nat_tests, on, h, k, l), grind (arith, nat_tests, on, h, k, l))
 
--- a lock that is in the way of t's lock on p, if one is, stands beside its place
+-- a lock that is in the way of t's lock on p, if one is, is beside its place
 abbrev pub Beside : ℕ → (Lock → Bool) → List Lock → Type 0
 Beside at q xs = (k : ℕ) × (d : Lock) × (at ≤ k + 1) × (k ≤ at + 1) × (k < length xs) × (q (get_or xs k d) ≡ true)
 

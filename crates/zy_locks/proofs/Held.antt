@@ -8,7 +8,7 @@ use Rattle.zy_locks.specs.Locks.{holds, unheld}
 use Rattle.zy_locks.specs.Order.{comes_before, is_held_by, LocksBehind, LocksRise, IsPlace}
 use Rattle.zy_locks.proofs.Rising.{goes_before, before_is_not_held, other_goes_before, place_rest, front_before, behind_rise}
 
--- behind a lock that t's lock on p would stand in front of there is none of t on p
+-- behind a lock that t's lock on p would be before there is none of t on p
 still_before : (x y : Lock) (p t : ℕ) → comes_before x y.page y.txn ≡ true → goes_before p t x ≡ true → goes_before p t y ≡ true
 still_before x y p t h k = grind (arith, nat_tests, h, k)
 
@@ -25,7 +25,7 @@ first_of : (b rest : Bool) → (b ≡ false → rest ≡ false) → (b || rest) 
 first_of true rest h = refl
 first_of false rest h = h refl
 
--- what stands at the place of t's lock on p tells whether there is one
+-- what is at the place of t's lock on p tells whether there is one
 pub holds_at : (p t i : ℕ) (d : Lock) (xs : List Lock) → LocksRise xs → IsPlace p t xs i → i < length xs → holds xs p t ≡ is_held_by (get_or xs i d) p t
 holds_at p t i d [] rise at lt = absurd (omega arith)
 holds_at p t zero d (x ∷ xs) rise at lt =
@@ -39,7 +39,7 @@ holds_past p t zero (x ∷ xs) rise at le = absurd (omega arith)
 holds_past p t (suc i) (x ∷ xs) rise at le =
     rw (before_is_not_held x p t (front_before p t i x xs at)) (holds_past p t i xs (behind_rise x xs rise) (place_rest p t i x xs at) (omega arith))
 
--- so a lock that is there stands at its place, and one that is not does not
+-- so a lock that is there is at its place, and one that is not does not
 pub held_place : (p t i : ℕ) (xs : List Lock) → LocksRise xs → IsPlace p t xs i → holds xs p t ≡ true → i < length xs
 held_place p t i xs rise at h =
     elim (cases_lt i (length xs)) [ inl lt ↦ lt | inr le ↦ absurd (false≢true (sym (holds_past p t i xs rise at le) ∙ h)) ]

@@ -1,4 +1,4 @@
--- The locks of one page stand together, from the place of its first transaction's on.
+-- The locks of one page are together, from the place of its first transaction's on.
 use Rattle.std.proofs.Common.{◌≡◌, ◌∙◌, ℕ, zero, suc, ◌<◌, ◌≤◌, Bool, true, false, List, [], ◌∷◌, length, get_or, drop, refl, ap, eqb, sym, arith, inl, inr}
 use Rattle.std.proofs.lemmas.Bool.{eq-eqb, ne_eqb, cases_eq}
 use Rattle.std.proofs.lemmas.Bool.Decides.{nat_tests}
@@ -29,7 +29,7 @@ page_from x p h = grind (arith, nat_tests, h)
 page_behind : (x : Lock) (p t : ℕ) → comes_before x p t ≡ true → x.page ≤ p
 page_behind x p t h = grind (arith, nat_tests, h)
 
--- nothing in front of the place passes
+-- nothing before the place passes
 none_in_front : (p i : ℕ) (q : Lock → Bool) (xs : List Lock) → OnlyOn p q → IsPlace p 0 xs i → list_any q xs ≡ list_any q (drop i xs)
 none_in_front p zero q [] only at = refl
 none_in_front p zero q (x ∷ xs) only at = refl

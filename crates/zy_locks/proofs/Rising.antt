@@ -12,7 +12,7 @@ use Rattle.zy_locks.specs.Order.{comes_before, is_held_by, LocksBehind, LocksRis
 before_trans : (x y : Lock) (p t : ℕ) → comes_before x y.page y.txn ≡ true → comes_before y p t ≡ true → comes_before x p t ≡ true
 before_trans x y p t h k = grind (arith, nat_tests, h, k)
 
--- where t's lock on p would stand beside x
+-- where t's lock on p would be beside x
 abbrev pub goes_before : ℕ → ℕ → Lock → Bool
 goes_before p t x = nat_lt p x.page || ((x.page == p) && nat_lt t x.txn)
 
@@ -52,7 +52,7 @@ none_after p t (x ∷ xs) zero (suc j) d h le lt e = before_trans x (get_or xs j
 none_after p t (x ∷ xs) (suc i) zero d h le lt e = absurd (omega arith)
 none_after p t (x ∷ xs) (suc i) (suc j) d h le lt e = none_after p t xs i j d (behind_rise x xs h) (omega arith) (omega arith) e
 
--- locks that rise are in order as a search wants it
+-- locks that rise are in order as a search needs it
 pub in_order : (p t : ℕ) (xs : List Lock) → LocksRise xs → IsPartitionedBy (λ x. comes_before x p t) xs
 in_order p t xs h = λ i j d le lt e. none_after p t xs i j d h le lt e
 

@@ -51,7 +51,7 @@ add_lock p t kind (x ∷ xs) =
 abbrev pub drop_locks : ℕ → List Lock → List Lock
 drop_locks t xs = filter (λ (x : Lock). not (x.txn == t)) xs
 
--- no lock is in the way of one in front of it: two on one page are both shared
+-- no lock is in the way of one before it: two on one page are both shared
 abbrev pub LocksAgree : List Lock → Type 0
 LocksAgree [] = Unit {0}
 LocksAgree (x ∷ xs) = (conflict xs x.page x.txn x.kind ≡ false) × LocksAgree xs

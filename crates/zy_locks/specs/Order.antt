@@ -27,7 +27,7 @@ LocksRise (x ∷ xs) = LocksBehind x xs
 abbrev pub IsPlace : ℕ → ℕ → List Lock → ℕ → Type 0
 IsPlace p t xs i = (i ≤ length xs) × AllWithin (λ x. comes_before x p t ≡ true) xs 0 i × AllWithin (λ x. comes_before x p t ≡ false) xs i (length xs)
 
--- where t's lock on p stands or would stand, if no other's lock is in the way of it
+-- where t's lock on p is or would be, if no other's lock is in the way of it
 abbrev pub IsFreePlace : ℕ → ℕ → LockKind → List Lock → Option ℕ → Type 0
 IsFreePlace p t kind xs None = conflict xs p t kind ≡ true
 IsFreePlace p t kind xs (Some i) = (conflict xs p t kind ≡ false) × IsPlace p t xs i

@@ -10,7 +10,7 @@ use crate::lock::{Lock, LockKind};
 use std::alloc::{AllocError, Global};
 use std::marker::Model;
 
-/// The locks of one node, in order of page and then transaction, so that a page's locks stand together.
+/// The locks of one node, in order of page and then transaction, so that a page's locks are together.
 #[derive(Drop)]
 pub struct Locks {
     locks: Vec<Lock>,
@@ -89,7 +89,7 @@ impl Locks {
         at < self.len() && self.locks[at].page == page
     }
 
-    /// Where `txn`'s lock on the page stands or would stand; none where another's lock is in the way.
+    /// Where `txn`'s lock on the page is or would be; none where another's lock is in the way.
     pub fn free_place(&self, page: u16, txn: u8, kind: LockKind) -> Option<usize>
         ensures place { IsFreePlace page txn kind self.now.locks result }
         ensures alone { holds_alone self.now.locks page txn ≡ true → IsSome result }
@@ -120,7 +120,7 @@ impl Locks {
         at < self.len() && is_held_by(&self.locks[at], page, txn)
     }
 
-    /// Makes room for `txn`'s lock on the page, which stands or would stand at `at`. A lock that is there has its place.
+    /// Makes room for `txn`'s lock on the page, which is or would be at `at`. A lock that is there has its place.
     pub fn reserve_at(&mut self, at: usize, page: u16, txn: u8) -> Result<(), AllocError>
         requires { IsPlace page txn self.old.locks at }
         ensures locks { self.new.locks ≡ self.old.locks }

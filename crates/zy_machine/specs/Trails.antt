@@ -12,7 +12,7 @@ pub record Trail : Type 0 where
   pub made : List Entry
   pub ahead : List Entry
 
--- from this state the choices of these entries lead to just these entries
+-- from this state the choices of these entries lead to exactly these entries
 abbrev pub IsKnown : Scenario → State → List Entry → Type 0
 IsKnown sc s es = es ≡ entries sc s (choices_of es)
 

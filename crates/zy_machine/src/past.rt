@@ -9,7 +9,7 @@ use std::sync::Arc;
 use zy_isa::choice::Choice;
 use zy_table::entry::Entry;
 
-/// The front of a history that other machines have too.
+/// A prefix of a history that other machines have too.
 #[derive(Drop)]
 pub(crate) struct Known {
     alloc: Global,

@@ -1,4 +1,4 @@
-//! Where a node stands in a migration.
+//! Which part a node has in a migration.
 ghost use Rattle.std.specs.Prelude.{◌≡◌};
 ghost use Rattle.zy_modes.specs.Table.{may_start, may_split, is_waiting, may_pull, may_push};
 

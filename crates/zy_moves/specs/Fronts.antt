@@ -1,4 +1,4 @@
--- What stands at the front of a link, and a call on a node and the link to it.
+-- What is at the front of a link, and a call on a node and the link to it.
 use Rattle.std.specs.Prelude.{◌≡◌, [], Bool, true, false, List, Some, Result, drop, slice_get}
 use Rattle.zy_modes.specs.declared.table.MsgRow.{MsgRow}
 use Rattle.zy_modes.specs.Table.{on_message}

@@ -153,7 +153,7 @@ fn take_in(me: &mut NodeStore, message: Message, mode: NodeMode, sent: Option<Ki
     answer(me, sent);
 }
 
-/// What stands at the front of a link, and the line of the mode table for it.
+/// What is at the front of a link, and the line of the mode table for it.
 #[derive(Clone, Copy, Debug, PartialEq, Eq)]
 pub(crate) enum Front {
     /// No message.
@@ -181,7 +181,7 @@ impl Front {
     }
 }
 
-/// What stands at the front of the link to a node.
+/// What is at the front of the link to a node.
 fn at_front(scenario: &Scenario, me: &NodeStore, inbox: &Mailbox) -> Front
     requires { MayTake inbox.now.messages (node_shown me.now) }
     ensures { IsFront result (node_shown me.now) inbox.now.messages }

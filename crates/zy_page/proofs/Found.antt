@@ -1,4 +1,4 @@
--- What stands at a key's place.
+-- What is at a key's place.
 use Rattle.std.proofs.Common.{◌≡◌, ℕ, zero, suc, ◌+◌, ◌<◌, ◌≤◌, List, [], ◌∷◌, length, get_or, refl, ap, arith, Some, None, is_some, true, ◌⊎◌, inl, inr}
 use Rattle.std.proofs.Math.ListN.{set}
 use Rattle.std.specs.List.{insert}
@@ -21,7 +21,7 @@ keys_le low zero (suc j) d (r ∷ rows) h le lt = omega (arith, key_from (r.key 
 keys_le low (suc i) zero d (r ∷ rows) h le lt = absurd (omega arith)
 keys_le low (suc i) (suc j) d (r ∷ rows) h le lt = keys_le (r.key + 1) i j d rows h.1 (omega arith) (omega arith)
 
--- rows that rise are in order as a search wants it
+-- rows that rise are in order as a search needs it
 pub in_order : (rows : List Row) → Rising 0 rows → IsNonDecreasingBy (λ (r : Row). r.key) rows
 in_order rows h = λ i j d le lt. keys_le 0 i j d rows h le lt
 
@@ -31,7 +31,7 @@ place_rest k i r rows h = (omega (arith, h.0), (λ j d low high. h.1 (suc j) d (
 pub front_below : (k i : ℕ) (r : Row) (rows : List Row) → IsPlace k (r ∷ rows) (suc i) → r.key < k
 front_below k i r rows h = h.1 0 r (omega arith) (omega arith)
 
--- a key that stands at its place
+-- a key that is at its place
 pub get_row_at : (k i : ℕ) (d : Row) (rows : List Row) → IsPlace k rows i → i < length rows → (get_or rows i d).key ≡ k → get_row rows k ≡ Some (get_or rows i d).value
 get_row_at k i d [] p lt e = absurd (omega arith)
 get_row_at k zero d (r ∷ rows) p lt e = get_row_same k r rows e

@@ -1,4 +1,4 @@
--- Where a key stands in rows that are in order.
+-- Where a key is in rows that are in order.
 use Rattle.std.specs.Prelude.{◌≡◌, ℕ, ◌<◌, ◌≤◌, List, length, slice_index_or, Result, Ok, Err}
 use Rattle.std.specs.List.{AllWithin}
 use Rattle.zy_isa.specs.declared.row.Row.{Row}
@@ -7,7 +7,7 @@ use Rattle.zy_isa.specs.declared.row.Row.{Row}
 abbrev pub IsPlace : ℕ → List Row → ℕ → Type 0
 IsPlace k rows i = (i ≤ length rows) × AllWithin (λ r. r.key < k) rows 0 i × AllWithin (λ r. k ≤ r.key) rows i (length rows)
 
--- the index of the row at k, or the one where it would stand
+-- the index of the row at k, or the one where it would be
 abbrev pub Finds : ℕ → List Row → Result ℕ ℕ → Type 0
 Finds k rows (Ok i) = IsPlace k rows i × (i < length rows) × ((d : Row) → (slice_index_or rows i d).key ≡ k)
 Finds k rows (Err i) = IsPlace k rows i × ((d : Row) → i < length rows → (slice_index_or rows i d).key ≡ k → ⊥)

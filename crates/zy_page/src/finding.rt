@@ -13,7 +13,7 @@ pub fn place(rows: &[Row], key: u16) -> usize
     rows.partition_point(|row| row.key < key)
 }
 
-/// The index of the row at `key`, or the one where it would stand.
+/// The index of the row at `key`, or the one where it would be.
 pub fn search(rows: &[Row], key: u16) -> Result<usize, usize>
     requires { Rising 0 rows.now }
     ensures { Finds key rows.now result }

@@ -12,7 +12,7 @@ use zy_isa::scenario::MAX_CAP;
 /// The most rows of a page.
 const ROOM: usize = MAX_CAP as usize;
 
-/// What stands where a page has no row.
+/// What a place without a row has.
 const BLANK: Row = Row { key: 0, value: 0 };
 
 /// A leaf page. Its rows lie in the page itself, which has a place for each that a scenario lets a page have: nothing that

@@ -37,7 +37,7 @@ pub fn advance_to(machine: &mut Machine, target: usize) -> Result<(), Fault>
     Ok(())
 }
 
-/// A machine that has made no choice of its scenario yet. The choices are made once here, so that what comes of them stands in memory once
+/// A machine that has made no choice of its scenario yet. The choices are made once here, so that what comes of them is in memory once
 /// for this machine and all copies of it.
 pub fn start(alloc: Global, scenario: Scenario) -> Result<Machine, Fault>
     ensures scenario { IfOk result (λ m. m.scenario ≡ scenario) }

@@ -1,4 +1,4 @@
--- The list of the choices that a search considers has just those.
+-- The list of the choices that a search considers has exactly those.
 use Rattle.std.proofs.Common.{◌≡◌, ◌∙◌, ℕ, zero, suc, ◌+◌, ◌<◌, ◌≤◌, List, [], ◌∷◌, ◌++◌, length, get_or, refl, sym, ap, arith, length-append, append_assoc, add-one, Bool, true, false, nat_lt, ◌&&◌}
 use Rattle.std.proofs.lemmas.List.{get_or_append_left, get_or-append-add}
 use Rattle.std.proofs.lemmas.Bool.Decides.{nat_tests}

@@ -108,7 +108,7 @@ pub record IsShelf (h : History) (paths : List (List Choice)) (shelf : Shelf) : 
   pub spots : All (IsSpot h paths) shelf.spots.items
   pub spare : shelf.spare.scenario ≡ h.scenario
 
--- the paths of old stand at their places in new
+-- the paths of old are at their places in new
 pub record Grows (old new : List (List Choice)) : Type 0 where
   pub longer : length old ≤ length new
   pub same : (i : ℕ) → i < length old → path_at new i ≡ path_at old i

@@ -45,7 +45,7 @@ fn settle(plan: &Plan, visited: &Visited, at: u32) -> Result<Answer, Fault>
     spent_at(plan.alloc, visited, at)
 }
 
-/// How many states are gone on from before the watch is told again.
+/// How many states are gone on from before the watch hears of it again.
 const EVERY: u32 = 256;
 
 /// Tells the watch how far the search is, if it is time.
@@ -225,7 +225,7 @@ fn plan_from(alloc: Global, machine: &Machine, sought: Sought, most: u32) -> Res
 }
 
 /// Looks for a state that choices lead to from a machine's, and that shows what is looked for. It goes breadth first, so that no fewer
-/// choices lead there, and stops where it would come to more states than `most`. The watch is told how far it is.
+/// choices lead there, and stops where it would come to more states than `most`. The watch learns how far it is.
 pub fn search<W: Watch>(
     alloc: Global,
     start: &Machine,

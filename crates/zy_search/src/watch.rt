@@ -1,8 +1,8 @@
 //! Who looks on while a search goes on.
 
-/// Is told now and then how far a search is. The answer does not depend on it.
+/// Learns now and then how far a search is. The answer does not depend on it.
 pub trait Watch {
-    /// So many states were come to, and each schedule of at most this number of choices was looked at.
+    /// This number of states were come to, and each schedule of at most this number of choices was looked at.
     fn look(&mut self, states: usize, depth: usize);
 }
 

@@ -9,7 +9,7 @@ use Rattle.zy_table.specs.Numbers.{has}
 use Rattle.zy_table.specs.Ranges.{lows_within}
 use Rattle.zy_table.proofs.RangeLists.{has_first, has_rest}
 
--- a key that is not above others goes in front of them
+-- a key that is not above others goes before them
 put_front : (x : ℕ) (ys : List ℕ) → ((y : ℕ) → has ys y ≡ true → x ≤ y) → put_key x ys ≡ x ∷ ys
 put_front x [] h = refl
 put_front x (y ∷ ys) h =
@@ -43,7 +43,7 @@ above a b (x ∷ xs) q h =
     (λ e g. let up = ltb-true a x (and_parts _ _ e).0 in elim (has-put x (lows_within a b xs) q g) [ inl same ↦ omega (arith, up, same) | inr rest ↦ above a b xs q rest ])
     (λ _ g. above a b xs q g) h
 
--- no low key stands between a and c
+-- no low key is between a and c
 abbrev None_between : ℕ → ℕ → List ℕ → Type 0
 None_between a c xs = (q : ℕ) → q < length xs → a < get_or xs q 0 → c < get_or xs q 0
 

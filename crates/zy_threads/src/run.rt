@@ -206,7 +206,7 @@ pub fn run_threads(
     ensures merge { IfOk result (λ m. IsMerge (choices_of m.entries) scenario.choices) }
     // One thread that makes the choices in the order that was taken comes to the same.
     ensures run { IfOk result (λ m. IsRunOf (reordered m.scenario (choices_of m.entries)) m) }
-    // At every point of it each page stands once, and under `held` the database is that of the commits one by one.
+    // At every point of it each page is in one place, and under `held` the database is that of the commits one by one.
     ensures owned { IfOk result (λ m. OwnedThroughout m.scenario (choices_of m.entries)) }
     ensures serial { IfOk result (λ m. SerialThroughout m.scenario (choices_of m.entries)) }
 {

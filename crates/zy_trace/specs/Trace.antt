@@ -29,7 +29,7 @@ opening_lines s = codes "trace" ∷ codes "0 opening" ∷ state_lines s
 abbrev pub last_lines : State → Bool → List (List ℕ)
 last_lines s same = final_texts s ++ (serial_text same ∷ codes "end" ∷ [])
 
--- what stands below the scenario
+-- what is below the scenario
 abbrev pub trace_lines : Scenario → State → Bool → List (List ℕ)
 trace_lines sc t same = opening_lines (opening sc) ++ (steps_lines sc 1 (opening sc) sc.choices ++ last_lines t same)
 
@@ -40,7 +40,7 @@ trace_from sc t = canon sc ++ flat_map line_of (trace_lines sc t (is_serial sc t
 abbrev pub trace : Scenario → List ℕ
 trace sc = trace_from sc (play sc (opening sc) sc.choices)
 
--- two machines stand at the same point of a scenario
+-- two machines are at the same point of a scenario
 pub record Beside (x y : History) : Type 0 where
   pub scenario : x.scenario ≡ y.scenario
   pub state : x.state ≡ y.state

@@ -47,7 +47,7 @@ fn same_txns(before: &Machine, now: &Machine)
     let _now = now.len();
 }
 
-/// Puts the lines of the last step of a machine into the buffer: another one of its scenario stands where it stood before.
+/// Puts the lines of the last step of a machine into the buffer: another one of its scenario is where it was before.
 fn append_changed(
     before: &Machine,
     now: &Machine,
@@ -71,7 +71,7 @@ fn append_changed(
     Ok(())
 }
 
-/// Makes the next choice of a scenario on the second of two machines that stand at the same point, puts the lines of the step into the
+/// Makes the next choice of a scenario on the second of two machines that are at the same point, puts the lines of the step into the
 /// buffer, and then makes the choice on the first.
 pub(crate) fn trace_step(
     before: &mut Machine,

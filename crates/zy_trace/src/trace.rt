@@ -52,7 +52,7 @@ struct StepsLines<'a> {
     machine: &'a Machine,
 }
 
-/// Makes the choices of a scenario on two machines that stand at its opening, and writes the lines of each step.
+/// Makes the choices of a scenario on two machines that are at its opening, and writes the lines of each step.
 fn write_steps<K: Sink>(
     alloc: Global,
     before: &mut Machine,

@@ -34,7 +34,7 @@ widened nodes p c i = record { level = (node nodes p).level; end = (node nodes p
 abbrev pub after : List Knot → ℕ → ℕ → ℕ → List Knot
 after nodes p c i = set (set nodes c (lower_half (node nodes c)) ++ upper_half (node nodes c) ∷ []) p (widened nodes p c i)
 
--- what stands where
+-- what is where
 pub record Cut (nodes nodes' : List Knot) (p c i : ℕ) : Type 0 where
   pub more : length nodes' ≡ length nodes + 1
   pub parent : node nodes' p ≡ widened nodes p c i

@@ -1,4 +1,4 @@
--- Entries in order of low key: where a key stands, and what a cut and one more leave.
+-- Entries in order of low key: where a key is, and what a cut and one more leave.
 use Rattle.std.proofs.Common.{◌≡◌, ℕ, zero, suc, ◌+◌, ◌<◌, ◌≤◌, List, [], ◌∷◌, length, get_or, take, drop, refl, arith, inl, inr}
 use Rattle.std.specs.List.{insert}
 use Rattle.std.specs.List.Sorted.{IsNonDecreasingBy}
@@ -26,7 +26,7 @@ low_rises from i zero d (e ∷ es) end h up lt = absurd (omega arith)
 low_rises from zero (suc j) d (e ∷ es) end h up lt = omega (arith, low_from (e.low + 1) j d es end h.1 (omega arith))
 low_rises from (suc i) (suc j) d (e ∷ es) end h up lt = low_rises (e.low + 1) i j d es end h.1 (omega arith) (omega arith)
 
--- they are in order as a search wants it
+-- they are in order as a search needs it
 pub in_order : (es : List Entry) (end : ℕ) → Rise 0 es end → IsNonDecreasingBy (λ (e : Entry). e.low) es
 in_order es end h = λ i j d le lt.
     elim (cases_order i j) [
@@ -35,7 +35,7 @@ in_order es end h = λ i j d le lt.
       | inr (inr down) ↦ absurd (omega arith)
     ]
 
--- one entry stands before the place of a key that is not below the first
+-- one entry is before the place of a key that is not below the first
 pub place_some : (k i : ℕ) (es : List Entry) (end : ℕ) → 1 ≤ length es → front es end ≤ k → IsPlace k es i → 1 ≤ i
 place_some k i [] end some under at = absurd (omega arith)
 place_some k zero (e ∷ es) end some under at = (let above = at.2 0 e (omega arith) (omega arith) in absurd (omega arith))
@@ -53,7 +53,7 @@ front_past (suc i) [] end le = refl
 front_past zero (e ∷ es) end le = absurd (omega arith)
 front_past (suc i) (e ∷ es) end le = front_past i es end (omega arith)
 
--- a key is below what stands from its place on
+-- a key is below what is from its place on
 pub below_front : (k i : ℕ) (es : List Entry) (end : ℕ) → IsPlace k es i → k < end → k < front (drop i es) end
 below_front k i es end at below =
     let d : Entry = record { low = 0; to = 0 } in

@@ -34,7 +34,7 @@ pub record PageAt (lows : List ℕ) (k p : ℕ) : Type 0 where
   pub under : get_or lows p 0 ≤ k
   pub is : page_of lows k ≡ p
 
--- a low key not above the entry's key stands no later than the entry
+-- a low key not above the entry's key is no later than the entry
 no_later : (lows : List ℕ) (n : Knot) (k at q : ℕ) (d : Entry) → Leaf lows n k → IsPlace k n.entries (at + 1) → (e : EntryOf n.entries q) → get_or lows q 0 ≤ k → get_or lows q 0 ≤ (get_or n.entries at d).low
 no_later lows n k at q d l place e le =
     let is = low_of_entry lows n.entries q d e (l.has.match l.level) in

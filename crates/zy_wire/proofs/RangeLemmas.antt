@@ -33,7 +33,7 @@ told : (b : Bool) (q p : ℕ) → (b ≡ true → q ≡ p) → (q ≡ p → b �
 told true q p on from = sym (eq-eqb q p (on refl))
 told false q p on from = sym (ne_eqb q p (λ same. true≢false (sym (from same))))
 
--- just the keys from p's low key on and below the next one lie on p
+-- exactly the keys from p's low key on and below the next one lie on p
 pub in_range-is : (lows : List ℕ) (p k : ℕ) (end : Option ℕ) → Apart lows → 1 ≤ length lows → get_or lows 0 0 ≡ 0 → p < length lows → IsNext lows (get_or lows p 0) end
     → (leb (get_or lows p 0) k && is_before end k) ≡ eqb (page_of lows k) p
 in_range-is lows p k end apart some first there next =

@@ -76,7 +76,7 @@ scans (low ∷ lows) k i best found =
       | inr one ↦ inr (later low lows k i best best _ (omega arith) (λ le. let f = first le in omega arith) one)
     ])
 
--- where no low key stands twice the scan finds the page
+-- where no low key is twice the scan finds the page
 pub page_of-scan : (lows : List ℕ) (k : ℕ) → AllPairs (λ x y. x ≡ y → ⊥) lows → page_of lows k ≡ scan_lows lows k 0 0 0
 page_of-scan lows k apart =
     elim (scans lows k 0 0 0) [

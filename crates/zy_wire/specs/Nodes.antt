@@ -34,7 +34,7 @@ upper_half n = record { level = n.level; end = n.end; entries = drop 4 n.entries
 abbrev pub low_of : Knot → ℕ
 low_of n = front n.entries n.end
 
--- the node with this number is of the level below that one, and has just the keys from one on and below another
+-- the node with this number is of the level below that one, and has exactly the keys from one on and below another
 pub record IsKid (nodes : List Knot) (above from to id : ℕ) : Type 0 where
   pub there : id < length nodes
   pub level : (node nodes id).level + 1 ≡ above
@@ -52,7 +52,7 @@ pub record LeadsTo (k : ℕ) (es : List Entry) (id : ℕ) : Type 0 where
   pub place : IsPlace k es (at + 1)
   pub is : (d : Entry) → (slice_index_or es at d).to ≡ id
 
--- a node as it stands among the others
+-- a node among the others
 pub record Fits (nodes : List Knot) (n : Knot) : Type 0 where
   pub some : 1 ≤ length n.entries
   pub rise : Rise 0 n.entries n.end

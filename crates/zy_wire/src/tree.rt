@@ -14,7 +14,7 @@ use std::marker::Model;
 /// The least number above every key.
 pub const END: u32 = 65536;
 
-/// A tree of nodes. Each key is one of just one node of each level, from the root down to level 0.
+/// A tree of nodes. Each key is one of exactly one node of each level, from the root down to level 0.
 #[derive(Drop)]
 pub struct Tree {
     nodes: Vec<Node>,

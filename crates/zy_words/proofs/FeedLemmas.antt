@@ -69,7 +69,7 @@ first_none bs p h =
     let past = ltb-false _ _ (none_is (nat_lt (position_or_len is_lf bs) (length bs)) (position_or_len is_lf bs) h) in
     lines_none bs p (omega (arith, past, prefix_len-le-length (λ b. not (is_lf b)) bs))
 
--- nothing stands below a line that the text ends with
+-- nothing is below a line that the text ends with
 pub none_below : (bs : List ℕ) → None ≡ position is_lf bs → drop 1 (lines_of bs) ≡ []
 none_below [] h = refl
 none_below (b ∷ bs) h = ap (drop 1) (first_none (b ∷ bs) (omega arith) h)

@@ -116,7 +116,7 @@ len_more b bs e = rw e (omega arith)
 len_stop : (b : ℕ) (bs : List ℕ) → ends_word b ≡ true → len (b ∷ bs) ≡ 0
 len_stop b bs e = rw e refl
 
--- the first part is the word that the text begins with, and the others are those of what stands behind it
+-- the first part is the word that the text begins with, and the others are those of what is behind it
 record Begins (n : ℕ) (bs : List ℕ) : Type 0 where
   behind : parts (drop n bs) ≡ [] ∷ drop 1 (parts (drop n bs))
   whole : parts bs ≡ take n bs ∷ drop 1 (parts (drop n bs))
@@ -145,7 +145,7 @@ begins (b ∷ bs) =
 kept_or_not : (w : List ℕ) (ps : List (List ℕ)) → filter is_word (w ∷ ps) ≡ filter is_word (w ∷ []) ++ filter is_word ps
 kept_or_not w ps = elim (either (length w == 0)) [ inl e ↦ rw e refl | inr e ↦ rw e refl ]
 
--- what stands in front of the first byte that ends a word is the first word, if it is one
+-- what is before the first byte that ends a word is the first word, if it is one
 pub word_taken : (bs : List ℕ) → words_of (first_line bs) ≡ filter is_word (before_first ends_word bs ∷ []) ++ words_of (first_line (drop (position_or_len ends_word bs) bs))
 word_taken bs =
     let here = begins bs in

@@ -1,4 +1,4 @@
--- A text's first line, its words, and what stands below it.
+-- A text's first line, its words, and what is below it.
 use Rattle.std.specs.Prelude.{ℕ, ◌==◌, ◌||◌, Bool, List, [], map, take, drop, get_or}
 use Rattle.std.specs.Borrow.{Bor}
 use Rattle.zy_isa.specs.Words.{is_space, lines_of}

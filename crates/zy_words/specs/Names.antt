@@ -7,7 +7,7 @@ abbrev pub is_numeral : List ℕ → Bool
 is_numeral [] = false
 is_numeral (b ∷ bs) = is_ascii_digit b
 
--- the front of a word that ends with a colon
+-- a word that ends with a colon, without it
 abbrev pub label_of : List ℕ → Option (List ℕ)
 label_of [] = None
 label_of (b ∷ []) = if b == 58 then Some [] else None

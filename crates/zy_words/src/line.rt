@@ -72,7 +72,7 @@ pub fn is_space(byte: u8) -> bool
     byte == b' ' || byte == b'\t' || byte == b'\r'
 }
 
-/// Where the first byte stands that ends a word.
+/// Where the first byte is that ends a word.
 fn word_end(text: &[u8]) -> Option<usize>
     ensures { result ≡ position ends_word text.now }
 {
@@ -81,7 +81,7 @@ fn word_end(text: &[u8]) -> Option<usize>
     })
 }
 
-/// What stands in front of the first byte that ends a word, and what from there on.
+/// The bytes before the first one that ends a word, and those from there on.
 #[inline(always)]
 fn first_word(text: &[u8]) -> (&[u8], &[u8])
     ensures word { result.0.now ≡ before_first ends_word text.entry.now }
@@ -93,14 +93,14 @@ fn first_word(text: &[u8]) -> (&[u8], &[u8])
     }
 }
 
-/// Where a text's first line feed stands.
+/// Where a text's first line feed is.
 fn line_end(text: &[u8]) -> Option<usize>
     ensures { result ≡ position (λ b. b == 10) text.now }
 {
     text.iter().position(|byte| *byte == b'\n')
 }
 
-/// What stands below a text's first line.
+/// What is below a text's first line.
 fn below(text: &[u8]) -> &[u8]
     ensures lines { lines_of result.now ≡ lines_below text.entry.now }
     ensures few { length result.now ≤ length text.entry.now }
@@ -111,7 +111,7 @@ fn below(text: &[u8]) -> &[u8]
     }
 }
 
-/// Puts the first words of a text's first line, without its comment, in place of what is there, and gives what stands below the line.
+/// Puts the first words of a text's first line, without its comment, in place of what is there, and gives what is below the line.
 #[inline(always)]
 pub fn take_line<'a>(words: &mut Words<'a>, text: &'a [u8]) -> &'a [u8]
     requires { 0 < length text.now }

@@ -43,7 +43,7 @@ pub fn is_numeral(word: &[u8]) -> bool
     }
 }
 
-/// What stands before the colon that a word ends with.
+/// What is before the colon that a word ends with.
 pub fn label_of(word: &[u8]) -> Option<&[u8]>
     ensures { option_copied result ≡ label_of_spec word.entry.now }
 {

@@ -63,7 +63,7 @@ impl Line for LinkLine<'_> {
     }
 }
 
-/// Appends the line of the link from a node, without its end. At an error a prefix of it may stand there.
+/// Appends the line of the link from a node, without its end. At an error a prefix of it may be there.
 pub fn link_line(machine: &Machine, n: Node, line: &mut LineBuffer) -> Result<(), AllocError>
     ensures { Appended result line.old line.new (link_text n (facing n machine.now.state).outbox) }
 {

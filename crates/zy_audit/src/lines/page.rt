@@ -37,7 +37,7 @@ impl Line for PageLine<'_> {
     }
 }
 
-/// Appends the line of a page, without its end. At an error a prefix of it may stand there.
+/// Appends the line of a page, without its end. At an error a prefix of it may be there.
 pub fn page_line(machine: &Machine, p: u16, line: &mut LineBuffer) -> Result<(), AllocError>
     requires { IsSome (page_in p (all_leaves machine.now.state)) }
     ensures { Appended result line.old line.new (page_text machine.now.state p) }

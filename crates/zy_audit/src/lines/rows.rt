@@ -1,4 +1,4 @@
-//! Rows and registers, as they stand at the end of a line.
+//! Rows and registers, as they are at the end of a line.
 ghost use Rattle.zy_audit.specs.Texts.{cell_text, reg_text, regs_text, rows_text};
 
 use std::alloc::AllocError;

@@ -124,7 +124,7 @@ impl Line for StatusText<'_> {
     }
 }
 
-/// Appends the line of a transaction, without its end. At an error a prefix of it may stand there.
+/// Appends the line of a transaction, without its end. At an error a prefix of it may be there.
 pub fn txn_line(machine: &Machine, t: u8, line: &mut LineBuffer) -> Result<(), AllocError>
     requires { t < length machine.now.state.txns }
     ensures { Appended result line.old line.new (txn_text machine.now.state t) }

@@ -207,7 +207,7 @@ impl Gate for ClientLast {
     }
 }
 
-/// How many steps of B stand before the client's first.
+/// How many steps of B are before the client's first.
 fn of_b_before_client(steps: &[Entry]) -> usize {
     let before = steps
         .iter()

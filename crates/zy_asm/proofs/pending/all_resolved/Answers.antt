@@ -17,7 +17,7 @@ returns-in_err-word c =
     (inr (sym c.loop-instr.invariant ∙ ap (λ us. with_front c.loop-instr.all.items (all_resolved labels (map shown us))) item
     ∙ with_front-fails labels c.loop-instr.all.items (shown c.instr-item.result) (kind_of c.in_err-word.field-0.0) (map shown (drop (suc at) instrs)) (sym c.in_err-word.ensures)))
 
--- an instruction that is resolved stands behind those so far
+-- an instruction that is resolved is behind those so far
 pub loop-instr-preserved : goal.loop-instr-preserved
 loop-instr-preserved c =
     let at = c.loop-instr.instr-index in

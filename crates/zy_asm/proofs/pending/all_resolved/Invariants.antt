@@ -1,4 +1,4 @@
--- The instructions so far, in front of those that are left, are those of the program.
+-- The instructions so far, before those that are left, are those of the program.
 use Rattle.std.proofs.Common.{◌≡◌, drop, map}
 use Rattle.zy_asm.specs.Pending.{shown, all_resolved}
 use Rattle.zy_asm.proofs.PendingLemmas.{with_front}

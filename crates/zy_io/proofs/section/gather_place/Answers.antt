@@ -1,4 +1,4 @@
--- Where no line was made nothing goes out; else the line stands behind what was held.
+-- Where no line was made nothing goes out; else the line is behind what was held.
 use Rattle.std.proofs.Common.{◌≡◌, ◌++◌, ◌∷◌, [], append_assoc, ap, sym, refl, ◌∙◌, slice_index_or}
 use Rattle.std.proofs.lemmas.Result.{err_from_is_err_and}
 use Rattle.zy_io.specs.Writing.{line_of}

@@ -1,4 +1,4 @@
--- The four parts stand one behind another.
+-- The four parts follow one another.
 use Rattle.std.proofs.Common.{[], ◌∷◌, length, map}
 use Rattle.zy_isa.specs.declared.node.Node.TheVariants.{A, B}
 use Rattle.zy_table.specs.Database.{newest}

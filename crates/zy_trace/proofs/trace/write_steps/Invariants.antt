@@ -1,4 +1,4 @@
--- The lines of the steps so far went out, and both machines stand behind them.
+-- The lines of the steps so far went out, and both machines are behind them.
 use Rattle.std.proofs.Common.{◌≡◌, length}
 use Rattle.zy_trace.specs.Trace.{Beside}
 use Rattle.zy_trace.proofs.TraceLemmas.{Written}

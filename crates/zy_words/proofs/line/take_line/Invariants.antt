@@ -1,4 +1,4 @@
--- The words that are there and those of what is left are the line's; what stands below it stands below what is left.
+-- The words that are there and those of what is left are the line's; what is below it is below what is left.
 use Rattle.std.proofs.Common.{◌≡◌, ◌≤◌, ◌++◌, length}
 use Rattle.zy_isa.specs.Words.{words_of}
 use Rattle.zy_words.specs.Lines.{first_line, lines_below, first_words}

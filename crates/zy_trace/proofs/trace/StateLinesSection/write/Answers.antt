@@ -1,4 +1,4 @@
--- What stands in the buffer are the lines of the state.
+-- What is in the buffer are the lines of the state.
 use Rattle.std.proofs.Common.{◌≡◌, ◌++◌, ◌∙◌, ap, subst, true}
 use Rattle.std.specs.List.{flat_map}
 use Rattle.std.specs.Io.KnownBytes.{Appends}
