@@ -5,15 +5,18 @@ ghost use Rattle.std.specs.Prelude.{◌≡◌, ◌<◌};
 
 mod command_line;
 mod excerpt;
+mod progress;
 
 use clap::error::ErrorKind;
 use command_line::{Checkpoints, Conversion, Quest, Request, command, request_of};
 use excerpt::Excerpt;
+use progress::Progress;
 use std::io;
-use std::io::{BufWriter, Write};
+use std::io::{BufWriter, IsTerminal, Write};
 use std::process::ExitCode;
 use std::sync::Wait;
 use std::thread::Threads;
+use std::time::Clock;
 use zy_check::verdict::Verdict;
 use zy_engine::checking::check_bytes;
 use zy_engine::debugging::debug_bytes;
@@ -113,8 +116,13 @@ fn debug<R: Print + Input + AllocGlobal>(
     Ok(DONE)
 }
 
-/// Searches the schedules of the scenario on standard input, and gives the exit status.
-fn search<R: Print + Eprint + Input + AllocGlobal>(rt: &R, quest: Quest) -> Result<u8, BenchFault> {
+/// Searches the schedules of the scenario on standard input, and gives the exit status. It says how far it is where standard error is a
+/// terminal.
+fn search<R: Print + Eprint + Input + AllocGlobal + Clock>(
+    rt: &R,
+    quest: Quest,
+    is_terminal: bool,
+) -> Result<u8, BenchFault> {
     let Quest {
         format,
         sought,
@@ -125,7 +133,18 @@ fn search<R: Print + Eprint + Input + AllocGlobal>(rt: &R, quest: Quest) -> Resu
     };
     let mut source = CountingReader::new(rt.reader());
     let mut sink = CountingWriter::new(buffer);
-    let report = search_bytes(rt.alloc(), format, sought, most, &mut source, &mut sink)?;
+    let mut progress = Progress::new(rt, is_terminal);
+    let searched = search_bytes(
+        rt.alloc(),
+        format,
+        sought,
+        most,
+        &mut source,
+        &mut sink,
+        &mut progress,
+    );
+    progress.clear();
+    let report = searched?;
     flush(&mut sink)?;
     Ok(sum_up(rt, &report))
 }
@@ -204,14 +223,15 @@ fn unprinted(error: &io::Error) -> BenchFault {
 
 /// Carries a request out, and gives the exit status.
 fn carry_out(
-    rt: &(impl Print + Eprint + Input + AllocGlobal + Threads + Wait + Sync),
+    rt: &(impl Print + Eprint + Input + AllocGlobal + Clock + Threads + Wait + Sync),
     request: Request,
+    is_terminal: bool,
 ) -> u8 {
     let outcome = match request {
         Request::Convert(conversion) => convert(rt, conversion),
         Request::Check => check(rt),
         Request::Debug(checkpoints) => debug(rt, checkpoints),
-        Request::Search(quest) => search(rt, quest),
+        Request::Search(quest) => search(rt, quest, is_terminal),
     };
     match outcome {
         Ok(status) => status,
@@ -219,17 +239,18 @@ fn carry_out(
     }
 }
 
-/// The exit status of a run with these words.
+/// The exit status of a run with these words, where standard error may be a terminal.
 fn status<'a>(
-    rt: &(impl Print + Eprint + Input + AllocGlobal + Threads + Wait + Sync),
+    rt: &(impl Print + Eprint + Input + AllocGlobal + Clock + Threads + Wait + Sync),
     words: &'a [String],
+    is_terminal: bool,
 ) -> u8 {
     let Ok(command) = command(rt.alloc()) else {
         return tell(rt, BenchFault::Memory);
     };
     match command.try_get_matches_from(words) {
         Ok(matches) => match request_of(&matches) {
-            Some(request) => carry_out(rt, request),
+            Some(request) => carry_out(rt, request, is_terminal),
             None => COMMAND_LINE,
         },
         Err(said) => {
@@ -246,9 +267,10 @@ fn main(rt: HostRuntime) -> ExitCode {
         Ok(args) => args,
         Err(error) => return ExitCode::from(no_words(&rt, &error)),
     };
+    let is_terminal = rt.stderr().is_terminal();
     let words: Result<Vec<String>, _> = args.collect(rt.alloc());
     match words {
-        Ok(words) => ExitCode::from(status(&rt, words.as_slice())),
+        Ok(words) => ExitCode::from(status(&rt, words.as_slice(), is_terminal)),
         Err(_) => ExitCode::from(tell(&rt, BenchFault::Memory)),
     }
 }
