@@ -8,6 +8,7 @@ mod command_line;
 mod excerpt;
 mod listing;
 mod output;
+mod progress;
 mod redirected;
 
 use advised::Advised;
@@ -16,12 +17,14 @@ use command_line::{Checkpoints, Conversion, Quest, Request, command, request_of}
 use excerpt::Differing;
 use listing::LineKept;
 use output::Output;
+use progress::Progress;
 use redirected::Redirected;
 use std::io;
-use std::io::{BufWriter, Write};
+use std::io::{BufWriter, IsTerminal, Write};
 use std::process::ExitCode;
 use std::sync::Wait;
 use std::thread::Threads;
+use std::time::Clock;
 use zy_advice::command::Command as Reader;
 use zy_advice::line::whole_line;
 use zy_check::cut::cut_len;
@@ -157,20 +160,34 @@ fn debug<R: AllocGlobal, W: Write>(
     Ok(DONE)
 }
 
-/// Searches the schedules of the scenario on standard input, and gives the exit status.
-fn search<R: Print + Eprint + Input + AllocGlobal>(rt: &R, quest: Quest) -> Result<u8, BenchFault> {
+/// Searches the schedules of a scenario, and gives the exit status. It says how far it is where standard error is a terminal.
+fn search<R: Eprint + AllocGlobal + Clock, W: Write>(
+    rt: &R,
+    quest: Quest,
+    input: &[u8],
+    output: &mut Output<W>,
+    is_terminal: bool,
+) -> Result<u8, BenchFault>
+    requires { output.old.1 < u64.MAX }
+{
     let Quest {
         format,
         sought,
         most,
     } = quest;
-    let Ok(buffer) = BufWriter::new(rt.alloc(), io::writer(rt)) else {
-        return Err(BenchFault::Memory);
-    };
-    let mut source = CountingReader::new(rt.reader());
-    let mut sink = CountingWriter::new(buffer);
-    let report = search_bytes(rt.alloc(), format, sought, most, &mut source, &mut sink)?;
-    flush(&mut sink)?;
+    let mut progress = Progress::new(rt, is_terminal);
+    let searched = search_bytes(
+        rt.alloc(),
+        format,
+        sought,
+        most,
+        &mut SliceSource::new(input),
+        output,
+        &mut progress,
+    );
+    progress.clear();
+    let report = searched?;
+    send(output)?;
     Ok(sum_up(rt, &report))
 }
 
@@ -263,13 +280,11 @@ fn command_of(request: Request) -> Reader {
 }
 
 /// Carries a request out, and gives the exit status.
-fn carry_out<R: Print + Eprint + Input + AllocGlobal + Threads + Wait + Sync>(
+fn carry_out<R: Print + Eprint + Input + AllocGlobal + Clock + Threads + Wait + Sync>(
     rt: &R,
     request: Request,
+    is_terminal: bool,
 ) -> u8 {
-    if let Request::Search(quest) = request {
-        return search_status(rt, quest);
-    }
     let Ok(buffer) = BufWriter::new(rt.alloc(), io::writer(rt)) else {
         return tell(rt, BenchFault::Memory);
     };
@@ -282,20 +297,14 @@ fn carry_out<R: Print + Eprint + Input + AllocGlobal + Threads + Wait + Sync>(
         Request::Convert(conversion) => convert(rt, conversion, input.as_slice(), &mut output),
         Request::Check => check(rt, input.as_slice(), &mut output),
         Request::Debug(checkpoints) => debug(rt, checkpoints, input.as_slice(), &mut output),
-        Request::Search(_) => Ok(COMMAND_LINE),
+        Request::Search(quest) => {
+            search(rt, quest, input.as_slice(), &mut output, is_terminal)
+        }
     };
     match outcome {
         Ok(status) => status,
         Err(BenchFault::Write) if output.is_unread() => BenchFault::Write.status(),
         Err(fault) => advise(rt, request, input.as_slice(), fault),
-    }
-}
-
-/// Carries a search out, and gives the exit status.
-fn search_status(rt: &(impl Print + Eprint + Input + AllocGlobal), quest: Quest) -> u8 {
-    match search(rt, quest) {
-        Ok(status) => status,
-        Err(fault) => tell(rt, fault),
     }
 }
 
@@ -306,17 +315,18 @@ fn advise(rt: &impl Eprint, request: Request, input: &[u8], fault: BenchFault) -
     fault.status()
 }
 
-/// The exit status of a run with these words.
+/// The exit status of a run with these words, where standard error may be a terminal.
 fn status<'a>(
-    rt: &(impl Print + Eprint + Input + AllocGlobal + Threads + Wait + Sync),
+    rt: &(impl Print + Eprint + Input + AllocGlobal + Clock + Threads + Wait + Sync),
     words: &'a [String],
+    is_terminal: bool,
 ) -> u8 {
     let Ok(command) = command(rt.alloc()) else {
         return tell(rt, BenchFault::Memory);
     };
     match command.try_get_matches_from(words) {
         Ok(matches) => match request_of(&matches) {
-            Some(request) => carry_out(rt, request),
+            Some(request) => carry_out(rt, request, is_terminal),
             None => COMMAND_LINE,
         },
         Err(said) => {
@@ -337,9 +347,10 @@ fn main(rt: HostRuntime) -> ExitCode {
         Ok(args) => args,
         Err(error) => return ExitCode::from(no_words(&rt, &error)),
     };
+    let is_terminal = rt.stderr().is_terminal();
     let words: Result<Vec<String>, _> = args.collect(rt.alloc());
     match words {
-        Ok(words) => ExitCode::from(status(&rt, words.as_slice())),
+        Ok(words) => ExitCode::from(status(&rt, words.as_slice(), is_terminal)),
         Err(_) => ExitCode::from(tell(&rt, BenchFault::Memory)),
     }
 }
