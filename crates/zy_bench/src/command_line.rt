@@ -31,7 +31,7 @@ pub struct Quest {
 /// Which copies of the machine are kept to replay from.
 #[derive(Clone, Copy, Debug, PartialEq, Eq)]
 pub struct Checkpoints {
-    /// Copies stand at multiples of this, but for those close to the position.
+    /// Copies are kept at multiples of this, but for those close to the position.
     pub every: usize,
     /// The most copies.
     pub ring: usize,
@@ -52,7 +52,7 @@ pub enum Conversion {
     Dis,
 }
 
-/// What stands below the options of a command: what it reads and what it writes, and an example.
+/// What is below the options of a command: what it reads and what it writes, and an example.
 macro_rules! below {
     ($input:literal, $output:literal, $example:literal) => {
         concat!(
@@ -159,7 +159,7 @@ fn debug_command<'a>(alloc: Global) -> Result<Command<'a>, AllocError> {
     Command::new(alloc, "debug")
         .about("Answers commands on the run of a scenario, one a line")
         .after_help(
-            "Input:   a scenario text through its end line, and below it commands, one a line;\n         at most 4194304 bytes\nOutput:  the replies; a fault is one line on standard error\nStatus:  0 done, 1 the scenario is refused, 2 the command line is wrong,\n         3 out of memory, 5 the input or the output failed\n\nCommands: step N, back N, goto N, cont, rcont, break page P, break mode, break abort,\nwatch K, delete I, page P, txn T, links, where. docs/debugger.md tells them all.\n\nA command replays from the copy nearest below its target, or from the start. The two numbers\nchange how long that takes and how much memory, and no reply.\n\nExample:\n  (cat examples/gone.zephyr; echo 'break abort'; echo cont) | zy_bench debug",
+            "Input:   a scenario text through its end line, and below it commands, one a line;\n         at most 4194304 bytes\nOutput:  the replies; a fault is one line on standard error\nStatus:  0 done, 1 the scenario is refused, 2 the command line is wrong,\n         3 out of memory, 5 the input or the output failed\n\nCommands: step N, back N, goto N, cont, rcont, break page P, break mode, break abort,\nwatch K, delete I, page P, txn T, links, where. docs/debugger.md describes them all.\n\nA command replays from the copy nearest below its target, or from the start. The two numbers\nchange how long that takes and how much memory, and no reply.\n\nExample:\n  (cat examples/gone.zephyr; echo 'break abort'; echo cont) | zy_bench debug",
         )
         .arg(every)?
         .arg(ring)
@@ -185,7 +185,7 @@ fn search_command<'a>(alloc: Global) -> Result<Command<'a>, AllocError> {
         .long("for")
         .value_name("WHAT")
         .value_parser(ValueParser::Names(words))
-        .help("What a state is to show; else differs");
+        .help("What a state must show, else differs");
     let kills = Arg::new(alloc, "kill")
         .long("kill")
         .action(ArgAction::SetTrue)
@@ -194,13 +194,13 @@ fn search_command<'a>(alloc: Global) -> Result<Command<'a>, AllocError> {
         .long("states")
         .value_name("N")
         .value_parser(value_parser!(u32).range(1..=4294967295))
-        .help("Comes to at most N states: 1 to 4294967295, else 1000000");
+        .help("Gives up after N states: 1 to 4294967295, else 1000000");
     Command::new(alloc, "search")
         .about(
             "Looks for a schedule of the scenario on standard input after which a state shows something",
         )
         .after_help(
-            "Input:   a scenario text, or with --image an image, at most 4194304 bytes; its choices are steps\n         already taken\nOutput:  the scenario with a shortest list of further choices that leads there; nothing where\n         there is none. Standard error tells how many states were come to; a fault is one line there\nStatus:  0 found, 1 the input is refused, 2 the command line is wrong, 3 out of memory,\n         4 no schedule shows it, 5 the input or the output failed, 6 the states are spent\n\nWHAT:    differs (another database than that of the serial run), aborted or the reason (own, killed,\n         badkey, missing, duplicate, frozen, nopage, gone), committed (all transactions), stuck (a\n         transaction is active, and nothing comes of any choice). docs/search.md tells them all.\n\nExample:\n  zy_bench search --for gone < examples/gone.zephyr | zy_bench run",
+            "Input:   a scenario text, or with --image an image, at most 4194304 bytes; its choices are steps\n         already taken\nOutput:  the scenario with a shortest list of further choices that leads there; nothing where\n         there is none. Standard error has the number of states reached; a fault is one line there\nStatus:  0 found, 1 the input is refused, 2 the command line is wrong, 3 out of memory,\n         4 no schedule shows it, 5 the input or the output failed, 6 it gave up\n\nWHAT:    differs (another database than that of the serial run), aborted or the reason (own, killed,\n         badkey, missing, duplicate, frozen, nopage, gone), committed (all transactions), stuck (a\n         transaction is active, and nothing comes of any choice). docs/search.md describes them all.\n\nExample:\n  zy_bench search --for gone < examples/gone.zephyr | zy_bench run",
         )
         .arg(image_flag(alloc))?
         .arg(wanted)?

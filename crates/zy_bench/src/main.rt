@@ -38,7 +38,7 @@ use zy_engine::searching::search_bytes;
 use zy_engine::threading::threads_bytes;
 use zy_io::memory::SliceSource;
 use zy_io::reading::read_all;
-use zy_io::stream::{CountingReader, CountingWriter};
+use zy_io::stream::CountingReader;
 use zy_search::answer::{Answer, Report};
 use zy_threads::gate::FreeGate;
 
@@ -58,17 +58,7 @@ const NOWHERE: u8 = 4;
 const SPENT: u8 = 6;
 
 /// Passes on what is kept back for standard output.
-fn flush<W: Write>(sink: &mut CountingWriter<W>) -> Result<(), BenchFault>
-    requires { sink.old.1 < u64.MAX }
-{
-    match sink.flush() {
-        Ok(()) => Ok(()),
-        Err(_) => Err(BenchFault::Write),
-    }
-}
-
-/// Passes on what is kept back for standard output.
-fn send<W: Write>(output: &mut Output<W>) -> Result<(), BenchFault>
+fn flush<W: Write>(output: &mut Output<W>) -> Result<(), BenchFault>
     requires { output.old.1 < u64.MAX }
 {
     match output.flush() {
@@ -96,7 +86,7 @@ fn convert<R: AllocGlobal + Threads + Wait + Sync, W: Write>(
         Conversion::Asm => asm_bytes(rt.alloc(), &mut source, output)?,
         Conversion::Dis => dis_bytes(rt.alloc(), &mut source, output)?,
     }
-    send(output)?;
+    flush(output)?;
     Ok(DONE)
 }
 
@@ -111,12 +101,12 @@ fn check<R: Eprint + AllocGlobal, W: Write>(
     let verdict = check_bytes(rt.alloc(), &mut SliceSource::new(input), output)?;
     match verdict {
         Verdict::Table => {
-            send(output)?;
+            flush(output)?;
             Ok(DONE)
         }
         Verdict::NotTable(line) => {
             let due = line_due(rt, input, line)?;
-            send(output)?;
+            flush(output)?;
             show(rt, input, line, &due);
             Ok(NOT_TABLE)
         }
@@ -156,7 +146,7 @@ fn debug<R: AllocGlobal, W: Write>(
         &mut SliceSource::new(input),
         output,
     )?;
-    send(output)?;
+    flush(output)?;
     Ok(DONE)
 }
 
@@ -187,11 +177,11 @@ fn search<R: Eprint + AllocGlobal + Clock, W: Write>(
     );
     progress.clear();
     let report = searched?;
-    send(output)?;
+    flush(output)?;
     Ok(sum_up(rt, &report))
 }
 
-/// Tells on standard error what came of a search, and gives the exit status.
+/// Reports on standard error what came of a search, and gives the exit status.
 fn sum_up(rt: &impl Eprint, report: &Report) -> u8 {
     let (states, depth) = (report.states, report.depth);
     match &report.answer {
@@ -210,7 +200,7 @@ fn sum_up(rt: &impl Eprint, report: &Report) -> u8 {
         }
         Answer::Spent(fewer) => {
             let _ = eprintln!(rt;
-                "zy_bench: spent after {states} states: no schedule of fewer than {fewer} choices shows it"
+                "zy_bench: gave up after {states} states: no schedule of fewer than {fewer} choices shows it"
             );
             SPENT
         }
@@ -228,13 +218,13 @@ fn show(rt: &impl Eprint, input: &[u8], line: usize, due: &LineKept) {
     let _ = eprintln!(rt; "zy_bench: {differing}");
 }
 
-/// Tells a fault on standard error, and gives the exit status.
+/// Reports a fault on standard error, and gives the exit status.
 fn tell(rt: &impl Eprint, fault: BenchFault) -> u8 {
     let _ = eprintln!(rt; "zy_bench: {fault}");
     fault.status()
 }
 
-/// Tells on standard error why the words could not be read, and gives the exit status.
+/// Reports on standard error why the words could not be read, and gives the exit status.
 fn no_words(rt: &impl Eprint, error: &io::Error) -> u8 {
     if error.kind() == io::ErrorKind::OutOfMemory {
         return tell(rt, BenchFault::Memory);
@@ -297,9 +287,7 @@ fn carry_out<R: Print + Eprint + Input + AllocGlobal + Clock + Threads + Wait + 
         Request::Convert(conversion) => convert(rt, conversion, input.as_slice(), &mut output),
         Request::Check => check(rt, input.as_slice(), &mut output),
         Request::Debug(checkpoints) => debug(rt, checkpoints, input.as_slice(), &mut output),
-        Request::Search(quest) => {
-            search(rt, quest, input.as_slice(), &mut output, is_terminal)
-        }
+        Request::Search(quest) => { search(rt, quest, input.as_slice(), &mut output, is_terminal) }
     };
     match outcome {
         Ok(status) => status,
@@ -308,7 +296,7 @@ fn carry_out<R: Print + Eprint + Input + AllocGlobal + Clock + Threads + Wait + 
     }
 }
 
-/// Tells a fault of an input on standard error, and what to do about it, and gives the exit status.
+/// Reports a fault of an input on standard error, and what to do about it, and gives the exit status.
 fn advise(rt: &impl Eprint, request: Request, input: &[u8], fault: BenchFault) -> u8 {
     let advised = Advised::of(command_of(request), input, fault);
     let _ = eprintln!(rt; "zy_bench: {advised}");
