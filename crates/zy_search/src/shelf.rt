@@ -16,6 +16,9 @@ use zy_machine::machine::{Fault, Machine};
 /// How many pages the machines of a shelf may have together.
 const MOST_PAGES: usize = 8192;
 
+/// How many steps a machine of a shelf may have made: a longer history would take more than the rest of it.
+const MOST_STEPS: usize = 1024;
+
 /// A machine, and the place of the path that leads to its state; none where that is not known.
 #[derive(Drop)]
 pub struct Spot {
@@ -100,7 +103,7 @@ impl Shelf {
     }
 
     /// Puts the machine of the path at a place there, and takes another one of the scenario for it. It answers yes where that one is a copy
-    /// of `here`.
+    /// of `here`. A machine with a long history stays where it is.
     pub(crate) fn put(
         &mut self,
         alloc: Global,
@@ -113,6 +116,9 @@ impl Shelf {
         ensures back { IfOk result (λ b. b ≡ true → machine.new ≡ here.now) }
         ensures shelf { OnOk result ((h : History) (ps : List (List Choice)) → IsShelf h ps self.old → at < length ps → IsHere h ps at machine.old → IsShelf h ps self.new) }
     {
+        if machine.len() > MOST_STEPS {
+            return Ok(false);
+        }
         let i = self.spot_of(at);
         if i < self.spots.len() {
             let spot = &mut self.spots[i];
