@@ -6,6 +6,7 @@ ghost use Rattle.std.specs.Prelude.{◌≡◌, ◌<◌};
 mod advised;
 mod command_line;
 mod excerpt;
+mod input;
 mod listing;
 mod output;
 mod progress;
@@ -15,6 +16,7 @@ use advised::Advised;
 use clap::error::ErrorKind;
 use command_line::{Checkpoints, Conversion, Quest, Request, command, request_of};
 use excerpt::Differing;
+use input::Pieces;
 use listing::LineKept;
 use output::Output;
 use progress::Progress;
@@ -36,7 +38,6 @@ use zy_engine::faults::BenchFault;
 use zy_engine::format::Format;
 use zy_engine::searching::search_bytes;
 use zy_engine::threading::threads_bytes;
-use zy_io::memory::SliceSource;
 use zy_io::reading::read_all;
 use zy_io::stream::CountingReader;
 use zy_search::answer::{Answer, Report};
@@ -76,7 +77,7 @@ fn convert<R: AllocGlobal + Threads + Wait + Sync, W: Write>(
 ) -> Result<u8, BenchFault>
     requires { output.old.1 < u64.MAX }
 {
-    let mut source = SliceSource::new(input);
+    let mut source = Pieces::new(input);
     match conversion {
         Conversion::Run(format) => run_bytes(rt.alloc(), format, &mut source, output)?,
         Conversion::Trace(format) => trace_bytes(rt.alloc(), format, &mut source, output)?,
@@ -98,7 +99,7 @@ fn check<R: Eprint + AllocGlobal, W: Write>(
 ) -> Result<u8, BenchFault>
     requires { output.old.1 < u64.MAX }
 {
-    let verdict = check_bytes(rt.alloc(), &mut SliceSource::new(input), output)?;
+    let verdict = check_bytes(rt.alloc(), &mut Pieces::new(input), output)?;
     match verdict {
         Verdict::Table => {
             flush(output)?;
@@ -117,12 +118,7 @@ fn check<R: Eprint + AllocGlobal, W: Write>(
 fn line_due(rt: &impl AllocGlobal, input: &[u8], line: usize) -> Result<LineKept, BenchFault> {
     let (part, _) = input.split_at(cut_len(input).min(input.len()));
     let mut kept = LineKept::new(line);
-    run_bytes(
-        rt.alloc(),
-        Format::Text,
-        &mut SliceSource::new(part),
-        &mut kept,
-    )?;
+    run_bytes(rt.alloc(), Format::Text, &mut Pieces::new(part), &mut kept)?;
     Ok(kept)
 }
 
@@ -139,13 +135,7 @@ fn debug<R: AllocGlobal, W: Write>(
     if !(1..=4096).contains(&every) || !(1..=64).contains(&ring) {
         return Ok(COMMAND_LINE);
     }
-    debug_bytes(
-        rt.alloc(),
-        every,
-        ring,
-        &mut SliceSource::new(input),
-        output,
-    )?;
+    debug_bytes(rt.alloc(), every, ring, &mut Pieces::new(input), output)?;
     flush(output)?;
     Ok(DONE)
 }
@@ -171,7 +161,7 @@ fn search<R: Eprint + AllocGlobal + Clock, W: Write>(
         format,
         sought,
         most,
-        &mut SliceSource::new(input),
+        &mut Pieces::new(input),
         output,
         &mut progress,
     );
