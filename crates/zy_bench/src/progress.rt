@@ -50,6 +50,8 @@ impl<R: Eprint + Clock> Watch for Progress<'_, R> {
         }
         self.last = second;
         let rate = states as u64 / second;
-        let _ = eprint!(self.rt; "\r{states} states, {depth} choices deep, {rate} states a second\x1b[K");
+        let _ = eprint!(self.rt;
+            "\r{states} states, {depth} choices deep, {rate} states a second\x1b[K"
+        );
     }
 }
