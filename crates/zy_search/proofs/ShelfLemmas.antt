@@ -1,6 +1,6 @@
 -- What stays true of a shelf.
 use Rattle.std.specs.List.{All}
-use Rattle.std.proofs.Common.{◌≡◌, ◌∙◌, ℕ, zero, suc, ◌+◌, ◌<◌, ◌≤◌, List, [], ◌∷◌, ◌++◌, length, refl, sym, ap, subst, true, arith, length-append, Option, None, Some, IfSome, Result, Ok, Err, OnOk}
+use Rattle.std.proofs.Common.{◌≡◌, ◌∙◌, ℕ, zero, suc, ◌<◌, List, [], ◌∷◌, ◌++◌, length, refl, sym, ap, subst, true, arith, length-append, Option, None, Some, IfSome, Result, Ok, Err, OnOk}
 use Rattle.std.proofs.Math.Seq.{get_or-append_seam}
 use Rattle.zy_isa.specs.declared.choice.Choice.{Choice}
 use Rattle.zy_machine.specs.Histories.{History}
@@ -8,7 +8,7 @@ use Rattle.zy_search.specs.declared.twin.Twin.{Twin}
 use Rattle.zy_search.specs.declared.shelf.Spot.{Spot}
 use Rattle.zy_search.specs.declared.shelf.Shelf.{Shelf}
 use Rattle.zy_search.specs.Searches.{reached}
-use Rattle.zy_search.specs.Visits.{path_at, length_at, IsHere, IsNext, IsSecond, IsSpot, IsShelf, Grows}
+use Rattle.zy_search.specs.Visits.{path_at, IsHere, IsNext, IsSecond, IsSpot, IsShelf, Grows}
 use Rattle.zy_search.proofs.SearchLemmas.{grows_push, reached_more}
 
 -- what holds in any case holds where a call succeeds

@@ -1,4 +1,4 @@
-use Rattle.std.proofs.Common.{◌+◌, ◌<◌, length, arith}
+use Rattle.std.proofs.Common.{arith}
 use Rattle.zy_search.proofs.ShelfLemmas.{here_grown}
 use Rattle.zy_search.proofs.expand.expand.Goals as goal
 

@@ -1,4 +1,4 @@
-use Rattle.std.proofs.Common.{◌≡◌, ◌+◌, ◌<◌, ℕ, get_or}
+use Rattle.std.proofs.Common.{◌+◌, ◌<◌, ℕ, get_or}
 use Rattle.zy_isa.specs.declared.choice.Choice.TheVariants.{Start}
 use Rattle.zy_table.specs.Play.{step}
 use Rattle.zy_search.specs.Searches.{reached}

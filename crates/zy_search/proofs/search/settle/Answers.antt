@@ -1,4 +1,4 @@
-use Rattle.std.proofs.Common.{◌≡◌, ◌+◌, ◌<◌, ◌≤◌, inl, length, arith}
+use Rattle.std.proofs.Common.{◌+◌, ◌<◌, inl, length, arith}
 use Rattle.zy_search.specs.Visits.{length_at}
 use Rattle.zy_search.proofs.SearchLemmas.{none_at_all, none_below, fills, spent_well, spent_due}
 use Rattle.zy_search.proofs.search.settle.Goals as goal

@@ -1,4 +1,3 @@
-use Rattle.std.proofs.Common.{◌≡◌, false}
 use Rattle.std.proofs.Math.Bool.{false≢true}
 use Rattle.zy_search.proofs.CommitLemmas.{never_by_others}
 use Rattle.zy_search.proofs.shows.shows_next.Goals as goal
