@@ -113,7 +113,7 @@ class RefusedImage(Case):
 
 
 class Mistake(Case):
-    """A typical mistake. What stands above the last line of standard error is told of the command line alone."""
+    """A typical mistake. What is above the last line of standard error is about the command line alone."""
 
     PARTS = {
         'HEAD': 'zephyr 1\\ncap 4\\npages 2\\nrule held\\n',
