@@ -1,12 +1,33 @@
-//! An input that is kept, as an engine reads it.
+//! How an input is read, and how one that is kept is read again.
 ghost use Rattle.std.specs.Prelude.{◌≡◌, Some};
 
 use std::io;
+use std::io::Read;
 use std::marker::Model;
 use zy_io::stream::Source;
 
 /// The most bytes of one call. Pieces of this size are copied 32 bytes at a time, larger ones byte by byte.
 const PIECE: usize = 1024;
+
+/// A reader whose calls give at most a piece.
+#[derive(Drop)]
+pub struct InPieces<R> {
+    reader: R,
+}
+
+impl<R> InPieces<R> {
+    /// Calls of this reader.
+    pub fn new(reader: R) -> InPieces<R> {
+        InPieces { reader }
+    }
+}
+
+impl<R: Read> Read for InPieces<R> {
+    fn read(&mut self, buffer: &mut [u8]) -> io::Result<usize> {
+        let most = buffer.len().min(PIECE);
+        self.reader.read(&mut buffer[..most])
+    }
+}
 
 /// Gives the bytes of an input in pieces. A clause sees the pair of those that are left and the number of those given.
 #[derive(Drop)]

@@ -16,7 +16,7 @@ use advised::Advised;
 use clap::error::ErrorKind;
 use command_line::{Checkpoints, Conversion, Quest, Request, command, request_of};
 use excerpt::Differing;
-use input::Pieces;
+use input::{InPieces, Pieces};
 use listing::LineKept;
 use output::Output;
 use progress::Progress;
@@ -269,7 +269,10 @@ fn carry_out<R: Print + Eprint + Input + AllocGlobal + Clock + Threads + Wait + 
         return tell(rt, BenchFault::Memory);
     };
     let mut output = Output::new(buffer);
-    let input = match read_all(rt.alloc(), &mut CountingReader::new(rt.reader())) {
+    let input = match read_all(
+        rt.alloc(),
+        &mut CountingReader::new(InPieces::new(rt.reader())),
+    ) {
         Ok(input) => input,
         Err(fault) => return tell(rt, BenchFault::from(fault)),
     };
