@@ -6,7 +6,6 @@ ghost use Rattle.std.specs.Prelude.{◌≡◌, ◌<◌};
 mod advised;
 mod command_line;
 mod excerpt;
-mod input;
 mod listing;
 mod output;
 mod progress;
@@ -16,7 +15,6 @@ use advised::Advised;
 use clap::error::ErrorKind;
 use command_line::{Checkpoints, Conversion, Quest, Request, command, request_of};
 use excerpt::Differing;
-use input::{InPieces, Pieces};
 use listing::LineKept;
 use output::Output;
 use progress::Progress;
@@ -38,6 +36,7 @@ use zy_engine::faults::BenchFault;
 use zy_engine::format::Format;
 use zy_engine::searching::search_bytes;
 use zy_engine::threading::threads_bytes;
+use zy_io::memory::SliceSource;
 use zy_io::reading::read_all;
 use zy_io::stream::CountingReader;
 use zy_search::answer::{Answer, Report};
@@ -68,47 +67,57 @@ fn flush<W: Write>(output: &mut Output<W>) -> Result<(), BenchFault>
     }
 }
 
-/// Runs an engine over an input, and gives the exit status.
-fn convert<R: AllocGlobal + Threads + Wait + Sync, W: Write>(
+/// Runs an engine over standard input, whose bytes it leaves in `input`, and gives the exit status.
+fn convert<R: Input + AllocGlobal + Threads + Wait + Sync, W: Write>(
     rt: &R,
     conversion: Conversion,
-    input: &[u8],
+    input: &mut Vec<u8>,
     output: &mut Output<W>,
 ) -> Result<u8, BenchFault>
     requires { output.old.1 < u64.MAX }
 {
-    let mut source = Pieces::new(input);
+    let mut source = CountingReader::new(rt.reader());
     match conversion {
-        Conversion::Run(format) => run_bytes(rt.alloc(), format, &mut source, output)?,
-        Conversion::Trace(format) => trace_bytes(rt.alloc(), format, &mut source, output)?,
+        Conversion::Run(format) => run_bytes(rt.alloc(), format, &mut source, output, input)?,
+        Conversion::Trace(format) => trace_bytes(rt.alloc(), format, &mut source, output, input)?,
         Conversion::Threads(format) => {
-            threads_bytes(rt, rt.alloc(), format, &mut source, output, &FreeGate)?
+            threads_bytes(
+                rt,
+                rt.alloc(),
+                format,
+                &mut source,
+                output,
+                input,
+                &FreeGate,
+            )?
         }
-        Conversion::Asm => asm_bytes(rt.alloc(), &mut source, output)?,
-        Conversion::Dis => dis_bytes(rt.alloc(), &mut source, output)?,
+        Conversion::Asm => asm_bytes(rt.alloc(), &mut source, output, input)?,
+        Conversion::Dis => dis_bytes(rt.alloc(), &mut source, output, input)?,
     }
     flush(output)?;
     Ok(DONE)
 }
 
-/// Checks a listing, shows the line at which it is none, and gives the exit status.
-fn check<R: Eprint + AllocGlobal, W: Write>(
+/// Checks the listing on standard input, shows the line at which it is none, and gives the exit status.
+fn check<R: Eprint + Input + AllocGlobal, W: Write>(
     rt: &R,
-    input: &[u8],
+    input: &mut Vec<u8>,
     output: &mut Output<W>,
 ) -> Result<u8, BenchFault>
     requires { output.old.1 < u64.MAX }
 {
-    let verdict = check_bytes(rt.alloc(), &mut Pieces::new(input), output)?;
+    *input = read_all(rt.alloc(), &mut CountingReader::new(rt.reader()))?;
+    let listing = input.as_slice();
+    let verdict = check_bytes(rt.alloc(), &mut SliceSource::new(listing), output)?;
     match verdict {
         Verdict::Table => {
             flush(output)?;
             Ok(DONE)
         }
         Verdict::NotTable(line) => {
-            let due = line_due(rt, input, line)?;
+            let due = line_due(rt, listing, line)?;
             flush(output)?;
-            show(rt, input, line, &due);
+            show(rt, listing, line, &due);
             Ok(NOT_TABLE)
         }
     }
@@ -118,15 +127,17 @@ fn check<R: Eprint + AllocGlobal, W: Write>(
 fn line_due(rt: &impl AllocGlobal, input: &[u8], line: usize) -> Result<LineKept, BenchFault> {
     let (part, _) = input.split_at(cut_len(input).min(input.len()));
     let mut kept = LineKept::new(line);
-    run_bytes(rt.alloc(), Format::Text, &mut Pieces::new(part), &mut kept)?;
+    let mut source = SliceSource::new(part);
+    let mut input = Vec::new(rt.alloc());
+    run_bytes(rt.alloc(), Format::Text, &mut source, &mut kept, &mut input)?;
     Ok(kept)
 }
 
-/// Answers the commands of an input, and gives the exit status.
-fn debug<R: AllocGlobal, W: Write>(
+/// Answers the commands on standard input, and gives the exit status.
+fn debug<R: Input + AllocGlobal, W: Write>(
     rt: &R,
     checkpoints: Checkpoints,
-    input: &[u8],
+    input: &mut Vec<u8>,
     output: &mut Output<W>,
 ) -> Result<u8, BenchFault>
     requires { output.old.1 < u64.MAX }
@@ -135,16 +146,17 @@ fn debug<R: AllocGlobal, W: Write>(
     if !(1..=4096).contains(&every) || !(1..=64).contains(&ring) {
         return Ok(COMMAND_LINE);
     }
-    debug_bytes(rt.alloc(), every, ring, &mut Pieces::new(input), output)?;
+    let mut source = CountingReader::new(rt.reader());
+    debug_bytes(rt.alloc(), every, ring, &mut source, output, input)?;
     flush(output)?;
     Ok(DONE)
 }
 
-/// Searches the schedules of a scenario, and gives the exit status. It says how far it is where standard error is a terminal.
-fn search<R: Eprint + AllocGlobal + Clock, W: Write>(
+/// Searches the schedules of the scenario on standard input, and gives the exit status. It says how far it is where standard error is a terminal.
+fn search<R: Eprint + Input + AllocGlobal + Clock, W: Write>(
     rt: &R,
     quest: Quest,
-    input: &[u8],
+    input: &mut Vec<u8>,
     output: &mut Output<W>,
     is_terminal: bool,
 ) -> Result<u8, BenchFault>
@@ -155,14 +167,16 @@ fn search<R: Eprint + AllocGlobal + Clock, W: Write>(
         sought,
         most,
     } = quest;
+    let mut source = CountingReader::new(rt.reader());
     let mut progress = Progress::new(rt, is_terminal);
     let searched = search_bytes(
         rt.alloc(),
         format,
         sought,
         most,
-        &mut Pieces::new(input),
+        &mut source,
         output,
+        input,
         &mut progress,
     );
     progress.clear();
@@ -269,18 +283,12 @@ fn carry_out<R: Print + Eprint + Input + AllocGlobal + Clock + Threads + Wait + 
         return tell(rt, BenchFault::Memory);
     };
     let mut output = Output::new(buffer);
-    let input = match read_all(
-        rt.alloc(),
-        &mut CountingReader::new(InPieces::new(rt.reader())),
-    ) {
-        Ok(input) => input,
-        Err(fault) => return tell(rt, BenchFault::from(fault)),
-    };
+    let mut input = Vec::new(rt.alloc());
     let outcome = match request {
-        Request::Convert(conversion) => convert(rt, conversion, input.as_slice(), &mut output),
-        Request::Check => check(rt, input.as_slice(), &mut output),
-        Request::Debug(checkpoints) => debug(rt, checkpoints, input.as_slice(), &mut output),
-        Request::Search(quest) => { search(rt, quest, input.as_slice(), &mut output, is_terminal) }
+        Request::Convert(conversion) => convert(rt, conversion, &mut input, &mut output),
+        Request::Check => check(rt, &mut input, &mut output),
+        Request::Debug(checkpoints) => debug(rt, checkpoints, &mut input, &mut output),
+        Request::Search(quest) => search(rt, quest, &mut input, &mut output, is_terminal),
     };
     match outcome {
         Ok(status) => status,

@@ -38,12 +38,14 @@ fn write_replies<K: Sink>(
 ///
 /// Copies of the machine are kept to replay from, at multiples of `every` and close to the position, and at most `ring` of them: they
 /// change how long a command takes, and no reply.
+/// The bytes that were read are left in `input`.
 pub fn debug_bytes<S: Source, K: Sink>(
     alloc: Global,
     every: usize,
     ring: usize,
     source: &mut S,
     sink: &mut K,
+    input: &mut Vec<u8>,
 ) -> Result<(), BenchFault>
     requires every_least { 1 ≤ every }
     requires every_most { every ≤ 4096 }
@@ -59,8 +61,9 @@ pub fn debug_bytes<S: Source, K: Sink>(
     ensures bound { S.given source.new ≤ S.given source.old + 4194305 }
 {
     let bytes = read_all(alloc, source)?;
-    let input = bytes.as_slice();
-    let (part, commands) = input.split_at(cut_len(input));
+    *input = bytes;
+    let given = input.as_slice();
+    let (part, commands) = given.split_at(cut_len(given));
     let scenario = accept(alloc, Format::Text, part)?;
     write_replies(alloc, scenario, every, ring, commands, sink)?;
     Ok(())

@@ -1,4 +1,4 @@
-//! The engines: bytes in, bytes out.
+//! The engines: bytes in, bytes out. Each leaves what it has read to its caller, who can look at it again where it is refused.
 ghost use Rattle.std.specs.Prelude.{◌<◌, ◌≤◌, ◌+◌};
 ghost use Rattle.zy_isa.specs.Canon.{canon};
 ghost use Rattle.zy_image.specs.Image.{image_of};
@@ -16,11 +16,13 @@ use zy_io::stream::{Sink, Source};
 
 /// Reads a scenario whole, makes its choices, and writes its listing. Nothing is written before the input is read to its
 /// end and found to be a scenario.
+/// The bytes that were read are left in `input`.
 pub fn run_bytes<S: Source, K: Sink>(
     alloc: Global,
     format: Format,
     source: &mut S,
     sink: &mut K,
+    input: &mut Vec<u8>,
 ) -> Result<(), BenchFault>
     requires source { S.failures source.old < u64.MAX }
     requires sink { K.failures sink.old < u64.MAX }
@@ -31,15 +33,17 @@ pub fn run_bytes<S: Source, K: Sink>(
     // Whatever the reader tells of its bytes, its calls give at most one more than the longest input has.
     ensures bound { S.given source.new ≤ S.given source.old + 4194305 }
 {
-    convert(alloc, format, &Listing, source, sink)
+    convert(alloc, format, &Listing, source, sink, input)
 }
 
 /// Reads a scenario whole, makes its choices, and writes the trace: each step, and the lines of the state that it changed.
+/// The bytes that were read are left in `input`.
 pub fn trace_bytes<S: Source, K: Sink>(
     alloc: Global,
     format: Format,
     source: &mut S,
     sink: &mut K,
+    input: &mut Vec<u8>,
 ) -> Result<(), BenchFault>
     requires source { S.failures source.old < u64.MAX }
     requires sink { K.failures sink.old < u64.MAX }
@@ -50,14 +54,16 @@ pub fn trace_bytes<S: Source, K: Sink>(
     // Whatever the reader tells of its bytes, its calls give at most one more than the longest input has.
     ensures bound { S.given source.new ≤ S.given source.old + 4194305 }
 {
-    convert(alloc, format, &Trace, source, sink)
+    convert(alloc, format, &Trace, source, sink, input)
 }
 
 /// Reads a scenario text whole, and writes its image.
+/// The bytes that were read are left in `input`.
 pub fn asm_bytes<S: Source, K: Sink>(
     alloc: Global,
     source: &mut S,
     sink: &mut K,
+    input: &mut Vec<u8>,
 ) -> Result<(), BenchFault>
     requires source { S.failures source.old < u64.MAX }
     requires sink { K.failures sink.old < u64.MAX }
@@ -68,14 +74,16 @@ pub fn asm_bytes<S: Source, K: Sink>(
     // Whatever the reader tells of its bytes, its calls give at most one more than the longest input has.
     ensures bound { S.given source.new ≤ S.given source.old + 4194305 }
 {
-    convert(alloc, Format::Text, &Saved, source, sink)
+    convert(alloc, Format::Text, &Saved, source, sink, input)
 }
 
 /// Reads an image whole, and writes the canonical text of its scenario.
+/// The bytes that were read are left in `input`.
 pub fn dis_bytes<S: Source, K: Sink>(
     alloc: Global,
     source: &mut S,
     sink: &mut K,
+    input: &mut Vec<u8>,
 ) -> Result<(), BenchFault>
     requires source { S.failures source.old < u64.MAX }
     requires sink { K.failures sink.old < u64.MAX }
@@ -86,7 +94,7 @@ pub fn dis_bytes<S: Source, K: Sink>(
     // Whatever the reader tells of its bytes, its calls give at most one more than the longest input has.
     ensures bound { S.given source.new ≤ S.given source.old + 4194305 }
 {
-    convert(alloc, Format::Image, &Canonical, source, sink)
+    convert(alloc, Format::Image, &Canonical, source, sink, input)
 }
 
 /// Reads a scenario whole, and writes something of it.
@@ -96,6 +104,7 @@ fn convert<S: Source, K: Sink, O: Output>(
     output: &O,
     source: &mut S,
     sink: &mut K,
+    input: &mut Vec<u8>,
 ) -> Result<(), BenchFault>
     requires source { S.failures source.old < u64.MAX }
     requires sink { K.failures sink.old < u64.MAX }
@@ -107,7 +116,8 @@ fn convert<S: Source, K: Sink, O: Output>(
     ensures bound { S.given source.new ≤ S.given source.old + 4194305 }
 {
     let bytes = read_all(alloc, source)?;
-    let scenario = accept(alloc, format, bytes.as_slice())?;
+    *input = bytes;
+    let scenario = accept(alloc, format, input.as_slice())?;
     output.write(alloc, scenario, sink)?;
     Ok(())
 }

@@ -76,6 +76,7 @@ fn write_search<K: Sink, W: Watch>(
 /// Reads a scenario whole, makes its choices, and looks for a state that further ones lead to and that shows what is sought. Where there is
 /// one, the canonical text of the scenario goes out with a shortest list of such choices behind its own; else nothing does. The watch learns how far the
 /// search is.
+/// The bytes that were read are left in `input`.
 pub fn search_bytes<S: Source, K: Sink, W: Watch>(
     alloc: Global,
     format: Format,
@@ -83,6 +84,7 @@ pub fn search_bytes<S: Source, K: Sink, W: Watch>(
     most: u32,
     source: &mut S,
     sink: &mut K,
+    input: &mut Vec<u8>,
     watch: &mut W,
 ) -> Result<Report, BenchFault>
     requires source { S.failures source.old < u64.MAX }
@@ -95,7 +97,8 @@ pub fn search_bytes<S: Source, K: Sink, W: Watch>(
     ensures bound { S.given source.new ≤ S.given source.old + 4194305 }
 {
     let bytes = read_all(alloc, source)?;
-    let scenario = accept(alloc, format, bytes.as_slice())?;
+    *input = bytes;
+    let scenario = accept(alloc, format, input.as_slice())?;
     let report = write_search(alloc, scenario, sought, most, sink, watch)?;
     Ok(report)
 }

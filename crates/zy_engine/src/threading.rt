@@ -32,12 +32,14 @@ fn write_threads<R: Threads + Wait + Sync, G: Gate + Sync, K: Sink>(
 
 /// Reads a scenario whole, makes its choices by three threads, and writes its listing in the order that they took. Nothing is
 /// written before the input is read to its end and found to be a scenario.
+/// The bytes that were read are left in `input`.
 pub fn threads_bytes<S: Source, K: Sink, R: Threads + Wait + Sync, G: Gate + Sync>(
     rt: &R,
     alloc: Global,
     format: Format,
     source: &mut S,
     sink: &mut K,
+    input: &mut Vec<u8>,
     gate: &G,
 ) -> Result<(), BenchFault>
     requires source { S.failures source.old < u64.MAX }
@@ -50,7 +52,8 @@ pub fn threads_bytes<S: Source, K: Sink, R: Threads + Wait + Sync, G: Gate + Syn
     ensures bound { S.given source.new ≤ S.given source.old + 4194305 }
 {
     let bytes = read_all(alloc, source)?;
-    let scenario = accept(alloc, format, bytes.as_slice())?;
+    *input = bytes;
+    let scenario = accept(alloc, format, input.as_slice())?;
     write_threads(rt, alloc, scenario, gate, sink)?;
     Ok(())
 }

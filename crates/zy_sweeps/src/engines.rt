@@ -35,17 +35,18 @@ fn work(
 ) -> Result<(), BenchFault>
     requires { sink.old.1 < u64.MAX }
 {
+    let mut input = Vec::new(alloc);
     match engine {
-        Engine::RunText => run_bytes(alloc, Format::Text, source, sink),
-        Engine::RunImage => run_bytes(alloc, Format::Image, source, sink),
-        Engine::Trace => trace_bytes(alloc, Format::Text, source, sink),
-        Engine::Asm => asm_bytes(alloc, source, sink),
-        Engine::Dis => dis_bytes(alloc, source, sink),
+        Engine::RunText => run_bytes(alloc, Format::Text, source, sink, &mut input),
+        Engine::RunImage => run_bytes(alloc, Format::Image, source, sink, &mut input),
+        Engine::Trace => trace_bytes(alloc, Format::Text, source, sink, &mut input),
+        Engine::Asm => asm_bytes(alloc, source, sink, &mut input),
+        Engine::Dis => dis_bytes(alloc, source, sink, &mut input),
         Engine::Check => match check_bytes(alloc, source, sink) {
             Ok(_) => Ok(()),
             Err(fault) => Err(fault),
         },
-        Engine::Debug => debug_bytes(alloc, 2, 1, source, sink),
+        Engine::Debug => debug_bytes(alloc, 2, 1, source, sink, &mut input),
     }
 }
 

@@ -46,7 +46,8 @@ fn repeat(alloc: Global, listing: &[u8]) -> Result<(), Refused> {
     let (part, _) = listing.split_at(cut_len(listing));
     let mut sink = VecSink::new(room(alloc)?);
     let mut source = SliceSource::new(part);
-    prepared(run_bytes(alloc, Format::Text, &mut source, &mut sink))?;
+    let mut input = Vec::new(alloc);
+    prepared(run_bytes(alloc, Format::Text, &mut source, &mut sink, &mut input))?;
     if sink.bytes() == listing {
         Ok(())
     } else {
@@ -120,14 +121,15 @@ fn run<R: Threads + Wait + Sync>(rt: &R, alloc: Global, input: &[u8]) -> Result<
 fn threaded<R: Threads + Wait + Sync, G: Gate + Sync>(
     rt: &R,
     alloc: Global,
-    input: &[u8],
+    text: &[u8],
     sink: &mut VecSink,
     gate: &G,
 ) -> Result<(), BenchFault>
     requires { sink.old.1 < u64.MAX }
 {
-    let mut source = SliceSource::new(input);
-    threads_bytes(rt, alloc, Format::Text, &mut source, sink, gate)
+    let mut source = SliceSource::new(text);
+    let mut input = Vec::new(alloc);
+    threads_bytes(rt, alloc, Format::Text, &mut source, sink, &mut input, gate)
 }
 
 /// `Job::Alone`: what it writes is always the same.

@@ -2,8 +2,15 @@
 use Rattle.std.proofs.Common.{◌≡◌, IfSome, rules, Ok}
 use Rattle.std.proofs.lemmas.Result.{err_from_is_err_and}
 use Rattle.zy_io.specs.Streams.{ReadWhole}
-use Rattle.zy_engine.proofs.RunLemmas.{converts-refused, converts-wrote}
+use Rattle.zy_engine.proofs.RunLemmas.{converts-unread, converts-refused, converts-wrote}
 use Rattle.zy_engine.proofs.engine.convert.Goals as goal
+
+pub returns-in_err-bytes-clause-converts : goal.returns-in_err-bytes-clause-converts
+returns-in_err-bytes-clause-converts g c =
+    let told = g.S.Source.left c.args.source.now in
+    let p = err_from_is_err_and c.from_residual.result c.from_residual.ensures.1 in
+    rw (p.1, p.2) (converts-unread c.args.format (g.O.Output.bytes c.args.output.now) told (g.S.Source.left c.read_all.new.source) (g.K.Sink.written c.args.sink.now) (g.S.Source.failures c.args.source.now) (g.S.Source.failures c.read_all.new.source) (g.K.Sink.failures c.args.sink.now)
+    c.in_err-bytes.field-0.0 c.in_err-bytes.ensures.reads)
 
 pub returns-in_err-scenario-clause-converts : goal.returns-in_err-scenario-clause-converts
 returns-in_err-scenario-clause-converts g c =
