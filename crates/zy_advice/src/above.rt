@@ -5,7 +5,7 @@ use zy_isa::version::Version;
 use zy_words::names::is;
 use zy_words::numbers::number_of;
 
-/// Where in a text a line stands.
+/// Where in a text a line is.
 #[derive(Clone, Copy, Debug, PartialEq, Eq)]
 pub enum Part {
     /// In the header, of which this number of statements is above.
@@ -79,7 +79,7 @@ impl Above {
         }
     }
 
-    /// The part that the line stands in.
+    /// The part that the line is in.
     pub fn part(self) -> Part {
         if self.statements < 4 {
             return Part::Header(self.statements);

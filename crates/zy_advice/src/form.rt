@@ -8,7 +8,7 @@ use zy_isa::operation::Operation;
 use zy_isa::version::Version;
 use zy_words::names::is;
 
-/// What stands behind the first word of a statement, or in a choice behind its second.
+/// What follows the first word of a statement, or in a choice the second.
 #[derive(Clone, Copy, Debug, PartialEq, Eq)]
 pub enum Shape {
     /// A key and a value.
@@ -37,7 +37,7 @@ pub enum Shape {
 #[derive(Clone, Copy)]
 pub struct Form<'a> {
     pub shape: Shape,
-    /// Where its first word stands among those of its line.
+    /// Which of the words of its line is its first one.
     pub at: usize,
     first: &'a [u8],
     second: &'a [u8],
@@ -147,7 +147,7 @@ impl fmt::Display for Form<'_> {
     }
 }
 
-/// What stands behind the first word.
+/// What follows the first word.
 impl fmt::Display for Shape {
     fn fmt<W: fmt::Write>(&self, f: &mut fmt::Formatter<W>) -> fmt::Result {
         f.write_str(match self {

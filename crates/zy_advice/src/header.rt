@@ -32,7 +32,7 @@ fn ordinal(part: Part) -> &'static str {
     }
 }
 
-/// What stands behind the word that a statement of the header begins with.
+/// What follows the word that a statement of the header begins with.
 fn head_takes(part: Part) -> &'static str {
     match part {
         Part::Header(0) => "zephyr takes one version",
@@ -43,7 +43,7 @@ fn head_takes(part: Part) -> &'static str {
 }
 
 impl TextAdvice<'_> {
-    /// Tells what is wrong with a line of the header.
+    /// Says what is wrong with a line of the header.
     pub(crate) fn tell_header<W: fmt::Write>(&self, f: &mut fmt::Formatter<W>) -> fmt::Result {
         let part = self.above.part();
         let pattern = head_pattern(part);
@@ -71,7 +71,7 @@ impl TextAdvice<'_> {
         }
     }
 
-    /// Tells what is to stand in the place of another word than the one that a line of the header begins with.
+    /// Says what to write in place of another word than the one that a line of the header begins with.
     fn tell_other_head<W: fmt::Write>(&self, f: &mut fmt::Formatter<W>, part: Part) -> fmt::Result {
         let (word, due) = (self.statement.text(0), head(part));
         write!(
@@ -95,7 +95,7 @@ impl TextAdvice<'_> {
         }
     }
 
-    /// Tells what is wrong where a byte is not UTF-8.
+    /// Says what is wrong where a byte is not UTF-8.
     pub(crate) fn tell_not_text<W: fmt::Write>(&self, f: &mut fmt::Formatter<W>) -> fmt::Result {
         if self.input.starts_with(b"\xff\xfe") || self.input.starts_with(b"\xfe\xff") {
             return f.write_str("the text is UTF-16: save it as UTF-8");
@@ -103,7 +103,7 @@ impl TextAdvice<'_> {
         write!(f, "{}: save the text as UTF-8", self.reason)
     }
 
-    /// Tells what stands below the end.
+    /// Says what is below the end.
     pub(crate) fn tell_below_end<W: fmt::Write>(&self, f: &mut fmt::Formatter<W>) -> fmt::Result {
         write!(f, "{}", self.reason)?;
         if let Some(line) = self.above.end {
@@ -124,7 +124,7 @@ impl TextAdvice<'_> {
         }
     }
 
-    /// Tells what is due where the text stops.
+    /// Says what is due where the text stops.
     pub(crate) fn tell_no_end<W: fmt::Write>(&self, f: &mut fmt::Formatter<W>) -> fmt::Result {
         write!(f, "{}", self.reason)?;
         if self.input.is_empty() {

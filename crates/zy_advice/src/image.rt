@@ -22,7 +22,7 @@ fn is_text(input: &[u8]) -> bool {
         && front.iter().all(|byte| may_be_of_text(*byte))
 }
 
-/// Whether a byte may stand in a text: one that prints, a space, an end of a line, or one of a character of UTF-8.
+/// Whether a byte may be in a text: one that prints, a space, an end of a line, or one of a character of UTF-8.
 fn may_be_of_text(byte: u8) -> bool {
     byte.is_ascii_graphic() || byte.is_ascii_whitespace() || byte >= 0x80
 }

@@ -61,7 +61,7 @@ fn first_line(text: &[u8]) -> (&[u8], &[u8]) {
     }
 }
 
-/// A word of a line, and how many bytes stand in front of it.
+/// A word of a line, and how many bytes come before it.
 #[derive(Clone, Copy)]
 pub struct Word<'a> {
     pub start: usize,
@@ -75,7 +75,7 @@ pub struct Statement<'a> {
 }
 
 impl<'a> Statement<'a> {
-    /// What stands in front of a line's comment.
+    /// What comes before a line's comment.
     pub fn of(line: &'a [u8]) -> Statement<'a> {
         let end = line.iter().position(|byte| *byte == b';');
         let front = end.and_then(|end| line.get(..end));

@@ -7,7 +7,7 @@ use std::fmt;
 use zy_words::names::is;
 
 impl TextAdvice<'_> {
-    /// Tells where a statement may stand that may not stand here.
+    /// Says where a statement is allowed that is not allowed here.
     pub(crate) fn tell_misplaced<W: fmt::Write>(&self, f: &mut fmt::Formatter<W>) -> fmt::Result {
         let word = self.word();
         write!(f, "{}: ", self.reason)?;
@@ -29,7 +29,7 @@ impl TextAdvice<'_> {
         }
     }
 
-    /// Tells that a row needs a page too many.
+    /// Says that a row needs a page too many.
     pub(crate) fn tell_page_count<W: fmt::Write>(&self, f: &mut fmt::Formatter<W>) -> fmt::Result {
         let cap = self.above.cap;
         let rows = cap.saturating_add(1) / 2;
@@ -41,7 +41,7 @@ impl TextAdvice<'_> {
     }
 }
 
-/// Tells that the key of a row is not above the last one.
+/// Says that the key of a row is not above the last one.
 pub(crate) fn tell_not_above<W: fmt::Write>(
     f: &mut fmt::Formatter<W>,
     key: u16,

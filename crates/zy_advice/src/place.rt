@@ -1,4 +1,4 @@
-//! Where in an input a fault stands.
+//! Where in an input a fault is.
 
 use crate::bytes::Bytes;
 use crate::line::{Line, Word};
@@ -68,7 +68,7 @@ fn characters(bytes: &[u8]) -> usize {
     bytes.iter().filter(|byte| **byte & 0xc0 != 0x80).count()
 }
 
-/// The end of what stands before a word.
+/// The end of what comes before a word.
 #[derive(Clone, Copy)]
 struct Before<'a>(&'a [u8]);
 
@@ -96,7 +96,7 @@ impl fmt::Display for After<'_> {
     }
 }
 
-/// Shows bytes among which a mark stands.
+/// Shows bytes among which a mark is.
 fn show<W: fmt::Write>(f: &mut fmt::Formatter<W>, bytes: &[u8]) -> fmt::Result {
     for byte in bytes {
         match *byte {

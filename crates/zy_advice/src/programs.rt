@@ -13,7 +13,7 @@ impl<'a> TextAdvice<'a> {
         Program::of(self.lines, self.above.programs.saturating_sub(1))
     }
 
-    /// Tells which programs there are.
+    /// Says which programs there are.
     pub(crate) fn tell_programs<W: fmt::Write>(&self, f: &mut fmt::Formatter<W>) -> fmt::Result {
         match (self.above.programs, self.program()) {
             (0, _) => f.write_str("no program is above"),
@@ -22,7 +22,7 @@ impl<'a> TextAdvice<'a> {
         }
     }
 
-    /// Tells that no program has a name.
+    /// Says that no program has a name.
     pub(crate) fn tell_no_program_of_name<W: fmt::Write>(
         &self,
         f: &mut fmt::Formatter<W>,
@@ -34,7 +34,7 @@ impl<'a> TextAdvice<'a> {
         }
     }
 
-    /// Tells which program has a name already.
+    /// Says which program has a name already.
     pub(crate) fn tell_name_twice<W: fmt::Write>(&self, f: &mut fmt::Formatter<W>) -> fmt::Result {
         write!(f, "{}", self.reason)?;
         match Program::named(self.lines, self.word()) {
@@ -43,7 +43,7 @@ impl<'a> TextAdvice<'a> {
         }
     }
 
-    /// Tells which program lacks a label.
+    /// Says which program lacks a label.
     pub(crate) fn tell_no_label<W: fmt::Write>(&self, f: &mut fmt::Formatter<W>) -> fmt::Result {
         let missing = self.program().and_then(|program| program.missing_label());
         let (Some(program), Some((_, name))) = (self.program(), missing) else {
@@ -56,7 +56,7 @@ impl<'a> TextAdvice<'a> {
         }
     }
 
-    /// Tells which line has a label already.
+    /// Says which line has a label already.
     pub(crate) fn tell_label_twice<W: fmt::Write>(&self, f: &mut fmt::Formatter<W>) -> fmt::Result {
         let label = label(self.statement).unwrap_or(&[]);
         let found = self
@@ -74,7 +74,7 @@ impl<'a> TextAdvice<'a> {
         }
     }
 
-    /// Tells why a program is none.
+    /// Says why a program is none.
     pub(crate) fn tell_no_program<W: fmt::Write>(
         &self,
         f: &mut fmt::Formatter<W>,

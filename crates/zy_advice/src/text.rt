@@ -74,7 +74,7 @@ impl<'a> TextAdvice<'a> {
         self.statement.text(self.culprit())
     }
 
-    /// Tells what is wrong, and what to write.
+    /// Says what is wrong, and what to write.
     fn tell<W: fmt::Write>(&self, f: &mut fmt::Formatter<W>) -> fmt::Result {
         match self.reason {
             Reason::NotTheHeader => self.tell_header(f),
@@ -99,7 +99,7 @@ impl<'a> TextAdvice<'a> {
         }
     }
 
-    /// Tells what is wrong with a line that is well formed by itself.
+    /// Says what is wrong with a line that is well formed by itself.
     fn tell_of_others<W: fmt::Write>(&self, f: &mut fmt::Formatter<W>) -> fmt::Result {
         match self.reason {
             Reason::NotAbove { key, last } => tell_not_above(f, key, last),
@@ -122,7 +122,7 @@ impl<'a> TextAdvice<'a> {
         }
     }
 
-    /// Where the fault stands.
+    /// Where the fault is.
     fn place(&self) -> Option<Place<'a>> {
         match self.reason {
             Reason::NoEnd | Reason::NoMemory => None,

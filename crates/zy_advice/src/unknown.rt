@@ -50,7 +50,7 @@ impl<'a> Unknown<'a> {
         self.statement.text(self.at)
     }
 
-    /// Tells what may stand behind a known word.
+    /// Says what may follow a known word.
     fn tell_behind<W: fmt::Write>(&self, f: &mut fmt::Formatter<W>, form: Form<'a>) -> fmt::Result {
         let word = Bytes(self.word());
         match form.shape {
@@ -77,7 +77,7 @@ impl<'a> Unknown<'a> {
         }
     }
 
-    /// Tells what may stand at the beginning of a line.
+    /// Says what may begin a line.
     fn tell_first<W: fmt::Write>(&self, f: &mut fmt::Formatter<W>) -> fmt::Result {
         let word = self.word();
         write!(f, "the word '{}' is not known here: ", Bytes(word))?;
@@ -130,7 +130,7 @@ fn is_of_client(word: &[u8]) -> bool {
     is(word, b"start") || is(word, b"begin") || is(word, b"kill")
 }
 
-/// Tells what the client can do in the place of this.
+/// Says what the client can do in the place of this.
 fn tell_action_of_client<W: fmt::Write>(f: &mut fmt::Formatter<W>, action: &[u8]) -> fmt::Result {
     if is(action, b"run") {
         return f.write_str(", which is a node's: A run T or B run T");
@@ -145,7 +145,7 @@ fn tell_action_of_client<W: fmt::Write>(f: &mut fmt::Formatter<W>, action: &[u8]
     }
 }
 
-/// Tells what a node can do in the place of this.
+/// Says what a node can do in the place of this.
 fn tell_action_of_node<W: fmt::Write>(
     f: &mut fmt::Formatter<W>,
     action: &[u8],
@@ -161,7 +161,7 @@ fn tell_action_of_node<W: fmt::Write>(
     }
 }
 
-/// Tells what is to stand in the place of a word that is no register.
+/// Says what to write in place of a word that is no register.
 fn tell_register<W: fmt::Write>(
     f: &mut fmt::Formatter<W>,
     word: &[u8],
@@ -173,7 +173,7 @@ fn tell_register<W: fmt::Write>(
     write!(f, "{}", form.pattern())
 }
 
-/// Tells with which words a line here may begin.
+/// Says with which words a line here may begin.
 fn tell_statements<W: fmt::Write>(f: &mut fmt::Formatter<W>, above: Above) -> fmt::Result {
     match above.part() {
         Part::Choices(_) => f.write_str(
@@ -187,7 +187,7 @@ fn tell_statements<W: fmt::Write>(f: &mut fmt::Formatter<W>, above: Above) -> fm
     }
 }
 
-/// Tells the words of the instructions.
+/// Says the words of the instructions.
 pub fn tell_instructions<W: fmt::Write>(f: &mut fmt::Formatter<W>, above: Above) -> fmt::Result {
     f.write_str("the instructions are set, read, write, insert, add, beq, commit")?;
     f.write_str(match above.version {

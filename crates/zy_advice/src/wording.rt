@@ -15,7 +15,7 @@ use zy_words::numbers::number_of;
 const MAX_NAME: usize = 32;
 
 impl TextAdvice<'_> {
-    /// Tells what is to stand in the place of a word that is no name.
+    /// Says what to write in place of a word that is no name.
     pub(crate) fn tell_no_name<W: fmt::Write>(&self, f: &mut fmt::Formatter<W>) -> fmt::Result {
         let word = self.word();
         match self.form() {
@@ -33,7 +33,7 @@ impl TextAdvice<'_> {
         }
     }
 
-    /// Tells what is to stand behind a label.
+    /// Says what is to follow a label.
     pub(crate) fn tell_no_instruction<W: fmt::Write>(
         &self,
         f: &mut fmt::Formatter<W>,
@@ -52,7 +52,7 @@ impl TextAdvice<'_> {
         }
     }
 
-    /// Tells how a statement is written that has too few words or too many.
+    /// Says how a statement is written that has too few words or too many.
     pub(crate) fn tell_count<W: fmt::Write>(&self, f: &mut fmt::Formatter<W>) -> fmt::Result {
         let word = self.word();
         let Some(form) = self.form() else {
@@ -70,7 +70,7 @@ impl TextAdvice<'_> {
         write!(f, "{form}")
     }
 
-    /// Tells what may stand behind a choice.
+    /// Says what may follow a choice.
     fn tell_times<W: fmt::Write>(&self, f: &mut fmt::Formatter<W>, form: Form<'_>) -> fmt::Result {
         let word = self.word();
         if let Some(number) = times_of(word) {
@@ -88,7 +88,7 @@ impl TextAdvice<'_> {
         }
     }
 
-    /// Tells how a statement is written that has no number where one is due, or one out of its range.
+    /// Says how a statement is written that has no number where one is due, or one out of its range.
     pub(crate) fn tell_number<W: fmt::Write>(&self, f: &mut fmt::Formatter<W>) -> fmt::Result {
         write!(f, "{}: ", self.reason)?;
         if let Part::Header(count) = self.above.part() {
@@ -101,7 +101,7 @@ impl TextAdvice<'_> {
     }
 }
 
-/// Tells what a target is, in the place of a word that is none.
+/// Says what a target is, in the place of a word that is none.
 fn tell_target<W: fmt::Write>(f: &mut fmt::Formatter<W>, word: &[u8]) -> fmt::Result {
     if word.iter().all(|byte| byte.is_ascii_digit()) {
         return write!(

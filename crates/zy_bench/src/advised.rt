@@ -6,7 +6,7 @@ use zy_advice::image::ImageAdvice;
 use zy_advice::text::TextAdvice;
 use zy_engine::faults::BenchFault;
 
-/// A fault, as standard error tells it.
+/// A fault, as standard error shows it.
 #[derive(Clone, Copy)]
 pub struct Advised<'a> {
     command: Command,
