@@ -19,8 +19,8 @@ PROGRAM = 'zy_bench'
 # What one proof takes of memory, in bytes, at most.
 MEMORY = 3 << 30
 
-# Each proof takes two processors at most, so that two crates side by side have one each on the least machine.
-JOBS = ('--jobs', '2')
+# rt locks what a crate uses while it proves it, so that mostly one proof is at work, on as many processors as gain anything.
+JOBS = ('--jobs', str(min(4, len(os.sched_getaffinity(0)))))
 
 FAILED = 70
 
