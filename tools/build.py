@@ -1,4 +1,4 @@
-"""Proves and builds zy_bench: each crate once those that it uses are proved, and some of them side by side.
+"""Proves and builds zy_bench: each crate once those that it uses are proved, and side by side those that rt lets.
 
     build.py
 
@@ -132,7 +132,7 @@ def say(line):
 def main():
     open(LOG, 'wb').close()
     build = Build()
-    say('zy_bench is not built, or older than its source: its %d crates are proved now, %d side by side; the log is %s' % (
+    say('zy_bench is not built, or older than its source: its %d crates are proved now, at most %d side by side; the log is %s' % (
         len(build.needs), build.room, LOG))
     try:
         while build.left or build.under_way:
