@@ -1,4 +1,4 @@
-"""Proves and builds zy_bench: each crate once those that it uses are proved, and side by side those that rt lets.
+"""Proves and builds zy_bench: each crate once those that it uses are proved, with others side by side.
 
     build.py
 
@@ -7,6 +7,8 @@ to crates/build.log."""
 
 import os
 import re
+import shutil
+import signal
 import subprocess
 import sys
 import time
@@ -15,21 +17,25 @@ TOP = os.path.dirname(os.path.dirname(os.path.realpath(__file__)))
 CRATES = os.path.join(TOP, 'crates')
 LOG = os.path.join(CRATES, 'build.log')
 PROGRAM = 'zy_bench'
+ROOMS = os.path.join(CRATES, PROGRAM, 'out', 'rooms')
 
 # What one proof takes of memory, in bytes, at most.
 MEMORY = 3 << 30
 
-# rt locks what a crate uses while it proves it, so that mostly one proof is at work, on as many processors as gain anything.
-JOBS = ('--jobs', str(min(4, len(os.sched_getaffinity(0)))))
+PROCESSORS = len(os.sched_getaffinity(0))
 
 FAILED = 70
 
 
+def listed():
+    """The lines of crates.txt, by the crates' names."""
+    with open(os.path.join(TOP, 'crates.txt'), encoding='utf-8') as file:
+        return {re.match(r'\w+', line)[0]: line for line in file if line.strip() and not line.startswith('#')}
+
+
 def needs():
     """The crates that each crate uses, of those that the program needs."""
-    with open(os.path.join(TOP, 'crates.txt'), encoding='utf-8') as file:
-        lines = dict(line.split(':', 1) for line in file if line.strip() and not line.startswith('#'))
-    all_of = {name.split()[0]: set(libraries.split()) for name, libraries in lines.items()}
+    all_of = {name: set(line.partition(':')[2].split()) for name, line in listed().items()}
     found, todo = {}, [PROGRAM]
     while todo:
         name = todo.pop()
@@ -50,21 +56,60 @@ def side_by_side():
     """How many proofs there is room for."""
     with open('/proc/meminfo', encoding='ascii') as file:
         free = int(re.search(r'MemAvailable: *([0-9]+) kB', file.read()).group(1)) << 10
-    return max(1, min(len(os.sched_getaffinity(0)) - 1, free // MEMORY))
+    return max(1, min(PROCESSORS, free // MEMORY))
+
+
+def link(source, to):
+    """A second name for a file, or a copy where the file system has no links."""
+    try:
+        os.link(source, to)
+    except OSError:
+        shutil.copy2(source, to)
+
+
+class Room:
+    """A folder in which a crate is proved: its files and those of the crates that it uses, by links.
+
+    rt locks each crate that a proof reads, so that in one folder hardly two proofs are at work at a time."""
+
+    def __init__(self, name, below):
+        self.top, self.home = os.path.join(ROOMS, name), os.path.join(CRATES, name)
+        self.folder = os.path.join(self.top, 'crates', name)
+        os.makedirs(os.path.join(self.top, 'crates'))
+        with open(os.path.join(self.top, 'crates.txt'), 'w', encoding='utf-8') as file:
+            file.writelines(line for crate, line in listed().items() if crate in below or crate == name)
+        for used in below:
+            self.share(used)
+            self.share(os.path.join(used, 'out', 'rlib'))
+        self.share(name)
+        os.makedirs(os.path.join(self.home, 'out'), exist_ok=True)
+        os.rename(os.path.join(self.home, 'out'), os.path.join(self.folder, 'out'))
+
+    def share(self, path):
+        shutil.copytree(os.path.join(CRATES, path), os.path.join(self.top, 'crates', path), copy_function=link, ignore=shutil.ignore_patterns('out'))
+
+    def leave(self):
+        """Brings home what the proof has made."""
+        os.rename(os.path.join(self.folder, 'out'), os.path.join(self.home, 'out'))
+        shutil.rmtree(self.top)
 
 
 class Proof:
     """The proof of a crate that is under way."""
 
-    def __init__(self, name):
+    def __init__(self, name, below, jobs):
         self.name, self.begun = name, time.monotonic()
+        self.room = None if name == PROGRAM else Room(name, below)
         self.path = os.path.join(CRATES, name, 'build.log')
-        words = ['rt', 'run', *JOBS, '--', '--version'] if name == PROGRAM else ['rt', 'lib', *JOBS]
+        words = ['rt', 'lib', '--jobs', str(jobs)] if self.room else ['rt', 'run', '--jobs', str(jobs), '--', '--version']
+        folder = self.room.folder if self.room else os.path.join(CRATES, name)
         with open(self.path, 'wb') as log:
-            self.process = subprocess.Popen(words, cwd=os.path.join(CRATES, name), stdin=subprocess.DEVNULL, stdout=log, stderr=log)
+            self.process = subprocess.Popen(words, cwd=folder, stdin=subprocess.DEVNULL, stdout=log, stderr=log)
 
     def finish(self):
         """Whether it is proved, and what rt said, once that has gone to the log."""
+        if self.room:
+            self.room.leave()
         with open(self.path, 'rb') as log:
             words = log.read()
         os.remove(self.path)
@@ -82,11 +127,17 @@ class Build:
         self.begun, self.room = time.monotonic(), side_by_side()
 
     def begin(self):
-        """Begins proofs while there is room; first those on which most of the work waits."""
-        ready = [name for name in self.left if self.needs[name] <= self.done]
-        for name in sorted(ready, key=lambda name: -self.behind(name))[:self.room - len(self.under_way)]:
+        """Begins proofs while there is room, with the processors shared among them; first those on which most of the work waits."""
+        ready = sorted((name for name in self.left if self.needs[name] <= self.done), key=lambda name: -self.behind(name))
+        ready = ready[:self.room - len(self.under_way)]
+        jobs = -(-PROCESSORS // max(1, len(self.under_way) + len(ready)))
+        for name in ready:
             self.left.remove(name)
-            self.under_way.append(Proof(name))
+            self.under_way.append(Proof(name, self.below(name), jobs))
+
+    def below(self, name):
+        """All crates that a crate uses, by way of others too."""
+        return set().union(*({other} | self.below(other) for other in self.needs[name]))
 
     def behind(self, name):
         """The longest way of proofs from a crate to the program, in minutes."""
@@ -130,7 +181,9 @@ def say(line):
 
 
 def main():
+    signal.signal(signal.SIGTERM, lambda *_: sys.exit(FAILED))
     open(LOG, 'wb').close()
+    shutil.rmtree(ROOMS, ignore_errors=True)
     build = Build()
     say('zy_bench is not built, or older than its source: its %d crates are proved now, at most %d side by side; the log is %s' % (
         len(build.needs), build.room, LOG))
