@@ -127,13 +127,12 @@ class Build:
         self.begun, self.room = time.monotonic(), side_by_side()
 
     def begin(self):
-        """Begins proofs while there is room, with the processors shared among them; first those on which most of the work waits."""
-        ready = sorted((name for name in self.left if self.needs[name] <= self.done), key=lambda name: -self.behind(name))
-        ready = ready[:self.room - len(self.under_way)]
-        jobs = -(-PROCESSORS // max(1, len(self.under_way) + len(ready)))
-        for name in ready:
+        """Begins proofs while there is room; first those on which most of the work waits, the very first of them on all processors."""
+        ready = [name for name in self.left if self.needs[name] <= self.done]
+        first = max(self.left, key=self.behind, default=None)
+        for name in sorted(ready, key=self.behind, reverse=True)[:self.room - len(self.under_way)]:
             self.left.remove(name)
-            self.under_way.append(Proof(name, self.below(name), jobs))
+            self.under_way.append(Proof(name, self.below(name), PROCESSORS if name == first else 1))
 
     def below(self, name):
         """All crates that a crate uses, by way of others too."""
