@@ -123,14 +123,17 @@ class Build:
 
     def __init__(self):
         self.needs, self.minutes = needs(), minutes()
+        self.behind = {}
+        for name in self.needs:
+            self.weigh(name)
         self.left, self.under_way, self.done = set(self.needs), [], set()
         self.begun, self.room = time.monotonic(), side_by_side()
 
     def begin(self):
         """Begins proofs while there is room; first those on which most of the work waits, the very first of them on all processors."""
         ready = [name for name in self.left if self.needs[name] <= self.done]
-        first = max(self.left, key=self.behind, default=None)
-        for name in sorted(ready, key=self.behind, reverse=True)[:self.room - len(self.under_way)]:
+        first = max(self.left, key=self.behind.get, default=None)
+        for name in sorted(ready, key=self.behind.get, reverse=True)[:self.room - len(self.under_way)]:
             self.left.remove(name)
             self.under_way.append(Proof(name, self.below(name), PROCESSORS if name == first else 1))
 
@@ -138,10 +141,12 @@ class Build:
         """All crates that a crate uses, by way of others too."""
         return set().union(*({other} | self.below(other) for other in self.needs[name]))
 
-    def behind(self, name):
-        """The longest way of proofs from a crate to the program, in minutes."""
-        above = [self.behind(other) for other, below in self.needs.items() if name in below]
-        return self.cost(name) + max(above, default=0)
+    def weigh(self, name):
+        """Notes and returns the longest way of proofs from a crate to the program, in minutes."""
+        if name not in self.behind:
+            above = [self.weigh(other) for other, below in self.needs.items() if name in below]
+            self.behind[name] = self.cost(name) + max(above, default=0)
+        return self.behind[name]
 
     def cost(self, name):
         return self.minutes.get(name, 1)
@@ -191,7 +196,7 @@ def main():
             build.begin()
             if not build.step():
                 return FAILED
-            time.sleep(0.1)
+            time.sleep(0.5)
     finally:
         build.stop()
     return 0
