@@ -24,6 +24,8 @@ MEMORY = 3 << 30
 
 PROCESSORS = len(os.sched_getaffinity(0))
 
+RT = (sys.executable, os.path.join(TOP, 'tools', 'rt_once.py'))
+
 FAILED = 70
 
 
@@ -101,10 +103,10 @@ class Proof:
         self.name, self.begun = name, time.monotonic()
         self.room = None if name == PROGRAM else Room(name, below)
         self.path = os.path.join(CRATES, name, 'build.log')
-        words = ['rt', 'lib', '--jobs', str(jobs)] if self.room else ['rt', 'run', '--jobs', str(jobs), '--', '--version']
+        words = ['lib', '--jobs', str(jobs)] if self.room else ['run', '--jobs', str(jobs), '--', '--version']
         folder = self.room.folder if self.room else os.path.join(CRATES, name)
         with open(self.path, 'wb') as log:
-            self.process = subprocess.Popen(words, cwd=folder, stdin=subprocess.DEVNULL, stdout=log, stderr=log)
+            self.process = subprocess.Popen([*RT, *words], cwd=folder, stdin=subprocess.DEVNULL, stdout=log, stderr=log)
 
     def finish(self):
         """Whether it is proved, and what rt said, once that has gone to the log."""
