@@ -99,14 +99,15 @@ class Room:
 class Proof:
     """The proof of a crate that is under way."""
 
-    def __init__(self, name, below, jobs):
+    def __init__(self, name, below, is_first):
         self.name, self.begun = name, time.monotonic()
         self.room = None if name == PROGRAM else Room(name, below)
         self.path = os.path.join(CRATES, name, 'build.log')
-        words = ['lib', '--jobs', str(jobs)] if self.room else ['run', '--jobs', str(jobs), '--', '--version']
+        jobs, before = (str(PROCESSORS), ()) if is_first else ('1', ('nice',))
+        words = ['lib', '--jobs', jobs] if self.room else ['run', '--jobs', jobs, '--', '--version']
         folder = self.room.folder if self.room else os.path.join(CRATES, name)
         with open(self.path, 'wb') as log:
-            self.process = subprocess.Popen([*RT, *words], cwd=folder, stdin=subprocess.DEVNULL, stdout=log, stderr=log)
+            self.process = subprocess.Popen([*before, *RT, *words], cwd=folder, stdin=subprocess.DEVNULL, stdout=log, stderr=log)
 
     def finish(self):
         """Whether it is proved, and what rt said, once that has gone to the log."""
@@ -132,12 +133,12 @@ class Build:
         self.begun, self.room = time.monotonic(), side_by_side()
 
     def begin(self):
-        """Begins proofs while there is room; first those on which most of the work waits, the very first of them on all processors."""
+        """Begins proofs while there is room, first those on which most of the work waits; the very first of them is on all processors, before the others."""
         ready = [name for name in self.left if self.needs[name] <= self.done]
         first = max(self.left, key=self.behind.get, default=None)
         for name in sorted(ready, key=self.behind.get, reverse=True)[:self.room - len(self.under_way)]:
             self.left.remove(name)
-            self.under_way.append(Proof(name, self.below(name), PROCESSORS if name == first else 1))
+            self.under_way.append(Proof(name, self.below(name), name == first))
 
     def below(self, name):
         """All crates that a crate uses, by way of others too."""
