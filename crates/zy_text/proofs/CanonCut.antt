@@ -1,14 +1,14 @@
--- The scenario part of a listing that `run` writes is its canonical text, which is ASCII.
-use Rattle.std.proofs.Common.{◌≡◌, ◌∙◌, ℕ, ◌+◌, ◌<◌, ◌≤◌, ◌^◌, Bool, true, false, not, ◌&&◌, ◌==◌, nat_lt, List, [], ◌∷◌, ◌++◌, length, map, filter, take, None, refl, sym, ap, subst, arith, append_assoc, lit<, codes}
+-- The canonical text is ASCII, and it is the scenario part of each input that begins with it.
+use Rattle.std.proofs.Common.{◌≡◌, ◌∙◌, ℕ, ◌+◌, ◌<◌, ◌≤◌, ◌^◌, Bool, true, false, not, ◌&&◌, ◌==◌, nat_lt, List, [], ◌∷◌, ◌++◌, length, map, filter, take, refl, sym, ap, subst, arith, append_assoc, lit<, codes}
 use Rattle.std.specs.Fmt.{decimal}
 use Rattle.std.specs.List.{flat_map, onto_first, prefix_len, slice_split}
-use Rattle.std.specs.Str.{IsAscii, all_ascii_digits, is_utf8}
+use Rattle.std.specs.Str.{IsAscii, all_ascii_digits}
 use Rattle.std.specs.Char.{is_ascii_digit}
 use Rattle.std.proofs.Math.Seq.{take-append-add}
 use Rattle.std.proofs.lemmas.List.{length-append}
 use Rattle.std.proofs.lemmas.Grind.{flat_map-append}
 use Rattle.std.proofs.lemmas.Fmt.{digits_decimal}
-use Rattle.std.proofs.lemmas.Str.{IsAscii-append, IsUtf8-from_ascii, is_utf8-from_IsUtf8}
+use Rattle.std.proofs.lemmas.Str.{IsAscii-append}
 use Rattle.std.proofs.lemmas.Str.Ascii.{IsAscii-nil, IsAscii-cons}
 use Rattle.std.proofs.lemmas.Str.Parse.{numerals_by_value, tells_all_ascii_digits}
 use borrow.Author.Tests.{tests}
@@ -30,18 +30,17 @@ use Rattle.zy_isa.specs.declared.operation.Parts.{Parts}
 use Rattle.zy_isa.specs.declared.operation.Parts.TheVariants.{Number, Pair, Jump, Lone}
 use Rattle.zy_isa.specs.declared.choice.Choice.{Choice}
 use Rattle.zy_isa.specs.declared.choice.Choice.TheVariants.{Start, Begin, Kill, Run, Take, Finish, Push}
-use Rattle.zy_isa.specs.Words.{is_space, is_word, lines_of, spaced}
+use Rattle.zy_text.specs.Words.{is_space, is_word, lines_of, spaced}
 use Rattle.zy_isa.specs.Operations.{mnemonic, parts_of}
-use Rattle.zy_isa.specs.Canon.{node_text, rule_text, reg_text, parts_words, instr_words, choice_words, row_words, header_words, program_words, canon}
+use Rattle.zy_text.specs.Canon.{node_text, rule_text, reg_text, parts_words, instr_words, choice_words, row_words, header_words, program_words, canon}
 use Rattle.zy_isa.specs.Rows.{RowsFit}
 use Rattle.zy_isa.specs.Programs.{PartsFit, HasValue, Values}
 use Rattle.zy_isa.specs.Choices.{names_below}
 use Rattle.zy_isa.specs.Scenario.{Scenario, IsScenario, ArePrograms, AreNamed}
 use Rattle.zy_isa.proofs.OperationLemmas.{each}
 use Rattle.zy_isa.proofs.ResultLemmas.{both}
-use Rattle.zy_words.proofs.FeedLemmas.{one_plus}
-use Rattle.zy_asm.specs.Input.{utf8_fault}
-use Rattle.zy_check.specs.Cut.{is_only, is_end, bytes_through_end, cut}
+use Rattle.zy_text.proofs.FeedLemmas.{one_plus}
+use Rattle.zy_text.specs.Cut.{is_only, is_end, bytes_through_end, cut}
 
 -- ---- bytes of ASCII that end no line
 
@@ -302,11 +301,5 @@ cut-canon s more h =
 end_ascii : IsAscii end_line
 end_ascii = IsAscii-append (codes "end") (10 ∷ []) (plain_ascii (codes "end") refl) feed_ascii
 
-canon_ascii : (s : Scenario) → IsScenario s → IsAscii (canon s)
-canon_ascii s h = subst IsAscii (sym (canon_body s)) (IsAscii-append (text_of (body_words s)) end_line (text_ascii (body_words s) (plain_body s h)) end_ascii)
-
-no_fault : (bytes : List ℕ) → is_utf8 bytes ≡ true → utf8_fault bytes ≡ None
-no_fault bytes h = rw h refl
-
-pub canon-utf8 : (s : Scenario) → IsScenario s → utf8_fault (canon s) ≡ None
-canon-utf8 s h = no_fault (canon s) (is_utf8-from_IsUtf8 (canon s) (IsUtf8-from_ascii (canon s) (canon_ascii s h)))
+pub canon-ascii : (s : Scenario) → IsScenario s → IsAscii (canon s)
+canon-ascii s h = subst IsAscii (sym (canon_body s)) (IsAscii-append (text_of (body_words s)) end_line (text_ascii (body_words s) (plain_body s h)) end_ascii)

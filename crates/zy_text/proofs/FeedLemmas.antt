@@ -5,7 +5,7 @@ use Rattle.std.proofs.lemmas.List.Quantifiers.{position-Some}
 use Rattle.std.proofs.lemmas.List.Sums.{position_or_len_is, prefix_len-le-length}
 use Rattle.std.specs.Prelude.{if◌then◌else◌, nat_lt, not}
 use Rattle.std.proofs.lemmas.Bool.{ltb-false}
-use Rattle.zy_isa.specs.Words.{lines_of}
+use Rattle.zy_text.specs.Words.{lines_of}
 
 abbrev is_lf : ℕ → Bool
 is_lf b = b == 10

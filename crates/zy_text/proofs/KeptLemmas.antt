@@ -3,10 +3,10 @@ use Rattle.std.proofs.Common.{append_assoc, drop, ◌==◌, true, false, filter,
 use Rattle.std.proofs.lemmas.List.{take_more_set, take_all, map-set, length-append, length-take-le, length-map}
 use Rattle.std.specs.Prelude.{slice_set}
 use Rattle.std.specs.List.{before_first, position_or_len}
-use Rattle.zy_isa.specs.Words.{is_word, words_of}
+use Rattle.zy_text.specs.Words.{is_word, words_of}
 use Rattle.std.specs.Borrow.{Bor}
-use Rattle.zy_words.specs.Lines.{texts, first_words, first_line, ends_word}
-use Rattle.zy_words.proofs.LineLemmas.{word_taken}
+use Rattle.zy_text.specs.Lines.{texts, first_words, first_line, ends_word}
+use Rattle.zy_text.proofs.LineLemmas.{word_taken}
 
 pub kept_more : (ws : List (Bor (List ℕ))) (n : ℕ) (w : Bor (List ℕ)) → n < length ws → n < 6 → take (n + 1) (texts (slice_set ws n w)) ≡ first_words (take n (texts ws) ++ w.now ∷ [])
 kept_more ws n w lt few =

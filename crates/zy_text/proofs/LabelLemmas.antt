@@ -3,7 +3,7 @@ use Rattle.std.proofs.Common.{◌≡◌, ℕ, ◌==◌, Bool, true, false, List,
 use Rattle.std.specs.Prelude.{if◌then◌else◌}
 use Rattle.std.specs.Option.{option_map}
 use borrow.Author.Tests.{eqb-true}
-use Rattle.zy_words.specs.Names.{label_of}
+use Rattle.zy_text.specs.Names.{label_of}
 
 -- a word by its last byte
 pub label-last : (w : List ℕ) (b : ℕ) → label_of (w ++ b ∷ []) ≡ (if b == 58 then Some w else None)

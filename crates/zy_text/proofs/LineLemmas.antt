@@ -2,8 +2,8 @@
 use Rattle.std.proofs.Common.{◌++◌, ◌≡◌, ◌∙◌, ℕ, ◌==◌, ◌<◌, ◌+◌, Bool, true, false, not, List, [], ◌∷◌, length, take, drop, filter, get_or, suc, refl, sym, ap, subst, arith, inl, inr, ◌⊎◌}
 use Rattle.std.specs.List.{position_or_len, before_first, slice_split, onto_first, prefix_len}
 use borrow.Author.Tests.{eqb-true}
-use Rattle.zy_isa.specs.Words.{is_space, is_word, lines_of, words_of, without_comment}
-use Rattle.zy_words.specs.Lines.{first_line, lines_below, ends_word}
+use Rattle.zy_text.specs.Words.{is_space, is_word, lines_of, words_of, without_comment}
+use Rattle.zy_text.specs.Lines.{first_line, lines_below, ends_word}
 
 either : (t : Bool) → (t ≡ true) ⊎ (t ≡ false)
 either true = inl refl

@@ -16,7 +16,7 @@ use Rattle.zy_isa.specs.declared.operation.Parts.TheVariants.{Number, Pair, Jump
 use Rattle.zy_isa.specs.declared.choice.Choice.{Choice}
 use Rattle.zy_isa.specs.declared.choice.Choice.TheVariants.{Start, Begin, Kill, Run, Take, Finish, Push}
 use Rattle.zy_isa.specs.Versions.{word}
-use Rattle.zy_isa.specs.Words.{spaced}
+use Rattle.zy_text.specs.Words.{spaced}
 use Rattle.zy_isa.specs.Operations.{mnemonic, parts_of}
 use Rattle.zy_io.specs.Writing.{line_of}
 use Rattle.zy_isa.specs.Scenario.{Scenario}

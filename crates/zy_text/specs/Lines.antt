@@ -1,7 +1,7 @@
 -- A text's first line, its words, and what is below it.
 use Rattle.std.specs.Prelude.{ℕ, ◌==◌, ◌||◌, Bool, List, [], map, take, drop, get_or}
 use Rattle.std.specs.Borrow.{Bor}
-use Rattle.zy_isa.specs.Words.{is_space, lines_of}
+use Rattle.zy_text.specs.Words.{is_space, lines_of}
 
 -- the words that references point to
 abbrev pub texts : List (Bor (List ℕ)) → List (List ℕ)

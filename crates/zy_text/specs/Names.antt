@@ -1,5 +1,5 @@
 -- Names of transactions and labels, and what they stand for.
-use Rattle.std.specs.Prelude.{◌≡◌, ◌==◌, ◌||◌, ◌&&◌, ◌++◌, nat_le, ℕ, List, [], ◌∷◌, length, Bool, false, Option, Some, None, if◌then◌else◌}
+use Rattle.std.specs.Prelude.{◌≡◌, ◌==◌, ◌||◌, ◌&&◌, ◌++◌, nat_le, ℕ, List, [], ◌∷◌, length, Bool, false, Option, Some, None, option_map, if◌then◌else◌}
 use Rattle.std.specs.Char.{is_ascii_digit}
 use Rattle.std.specs.List.{list_all}
 use Rattle.std.specs.Str.{bytes_eq}
@@ -16,6 +16,12 @@ are_parts bs = list_all (λ b. is_letter b || is_ascii_digit b) bs
 abbrev pub is_name : List ℕ → Bool
 is_name [] = false
 is_name (b ∷ bs) = is_letter b && are_parts bs && nat_le (length bs) 31
+
+-- a word that ends with a colon, without it
+abbrev pub label_of : List ℕ → Option (List ℕ)
+label_of [] = None
+label_of (b ∷ []) = if b == 58 then Some [] else None
+label_of (b ∷ c ∷ bs) = option_map (λ w. b ∷ w) (label_of (c ∷ bs))
 
 -- a name and the number that it stands for
 abbrev pub Mark : Type 0

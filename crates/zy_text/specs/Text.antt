@@ -11,10 +11,10 @@ use Rattle.zy_isa.specs.declared.operation.Parts.TheVariants.{Number, Pair, Jump
 use Rattle.zy_isa.specs.declared.choice.Choice.{Choice}
 use Rattle.zy_isa.specs.declared.choice.Choice.TheVariants.{Start, Begin, Kill, Run, Take, Finish, Push}
 use Rattle.zy_isa.specs.Versions.{word}
-use Rattle.zy_isa.specs.Words.{number_of, lines_with_words}
-use Rattle.zy_isa.specs.Names.{Mark, is_name, place, AreNew}
+use Rattle.zy_text.specs.Words.{number_of, lines_with_words}
+use Rattle.zy_text.specs.Names.{Mark, is_name, place, AreNew}
 use Rattle.zy_isa.specs.Operations.{mnemonic, parts_of}
-use Rattle.zy_isa.specs.Canon.{node_text, rule_text, reg_text}
+use Rattle.zy_text.specs.Canon.{node_text, rule_text, reg_text}
 use Rattle.zy_isa.specs.Scenario.{Scenario, IsScenario}
 
 -- ---- what is written

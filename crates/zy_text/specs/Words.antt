@@ -31,6 +31,11 @@ has_words (w ∷ ws) = true
 abbrev pub lines_with_words : List ℕ → List (List (List ℕ))
 lines_with_words text = filter has_words (map words_of (lines_of text))
 
+-- a word that begins with a digit
+abbrev pub is_numeral : List ℕ → Bool
+is_numeral [] = false
+is_numeral (b ∷ bs) = is_ascii_digit b
+
 -- the number that digits spell after n, if they are digits
 abbrev pub digits_after : ℕ → List ℕ → Option ℕ
 digits_after n [] = Some n

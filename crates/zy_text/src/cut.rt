@@ -2,11 +2,11 @@
 ghost use Rattle.std.specs.Prelude.{◌≡◌, ◌==◌, ◌+◌, ◌<◌, ◌∷◌, true, false, length, min, position, codes};
 ghost use Rattle.std.specs.List.{list_all};
 ghost use Rattle.std.specs.Str.{bytes_eq};
-ghost use Rattle.zy_isa.specs.Words.{without_comment as without_comment_spec, words_of, lines_of};
-ghost use Rattle.zy_check.specs.Cut.{cut, is_end};
+ghost use Rattle.zy_text.specs.Words.{without_comment as without_comment_spec, words_of, lines_of};
+ghost use Rattle.zy_text.specs.Cut.{cut, is_end};
 
+use crate::line::is_space;
 use memchr::memchr;
-use zy_words::line::is_space;
 
 /// Where a byte first occurs.
 fn first_place(bytes: &[u8], sought: u8) -> Option<usize>

@@ -1,8 +1,8 @@
 //! The first words of a line.
 ghost use Rattle.std.specs.Prelude.{◌≡◌, ◌==◌, ◌<◌, ◌≤◌, ◌∷◌, ◌++◌, [], length, filter, drop, position};
 ghost use Rattle.std.specs.List.{position_or_len, before_first};
-ghost use Rattle.zy_isa.specs.Words.{is_space as is_space_spec, is_word, lines_of, words_of};
-ghost use Rattle.zy_words.specs.Lines.{first_line, lines_below, first_words, texts, ends_word};
+ghost use Rattle.zy_text.specs.Words.{is_space as is_space_spec, is_word, lines_of, words_of};
+ghost use Rattle.zy_text.specs.Lines.{first_line, lines_below, first_words, texts, ends_word};
 
 use std::marker::Model;
 
@@ -19,7 +19,7 @@ pub struct Words<'a> {
 
 impl<'a> Model for Words<'a> {
     ghost use Rattle.std.specs.Prelude.{List, ℕ, map, take};
-    ghost use Rattle.zy_words.specs.Lines.{texts};
+    ghost use Rattle.zy_text.specs.Lines.{texts};
 
     ghost Value = { List (List ℕ) };
 

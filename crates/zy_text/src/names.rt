@@ -1,8 +1,8 @@
 //! Words that are names, labels or numbers, by their form alone.
 ghost use Rattle.std.specs.Prelude.{◌≡◌};
 ghost use Rattle.std.specs.Option.{option_copied};
-ghost use Rattle.zy_isa.specs.Names.{is_letter as is_letter_spec, are_parts as are_parts_spec, is_name as is_name_spec};
-ghost use Rattle.zy_words.specs.Names.{is_numeral as is_numeral_spec, label_of as label_of_spec};
+ghost use Rattle.zy_text.specs.Names.{is_letter as is_letter_spec, are_parts as are_parts_spec, is_name as is_name_spec, label_of as label_of_spec};
+ghost use Rattle.zy_text.specs.Words.{is_numeral as is_numeral_spec};
 
 pub use zy_isa::operation::is;
 

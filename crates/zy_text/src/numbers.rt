@@ -1,6 +1,6 @@
 //! Words that are numbers.
 ghost use Rattle.std.specs.Prelude.{◌≡◌};
-ghost use Rattle.zy_isa.specs.Words.{number_of as number_of_spec};
+ghost use Rattle.zy_text.specs.Words.{number_of as number_of_spec};
 
 /// The most digits of a number.
 const MAX_DIGITS: usize = 10;

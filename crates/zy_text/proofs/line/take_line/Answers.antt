@@ -1,11 +1,11 @@
 -- A word, if the text begins with one, and what the byte behind it says.
 use Rattle.std.proofs.Common.{Bool, ◌==◌, ◌∙◌, ◌++◌, ap, sym, arith, length, length-drop, ℕ}
 use Rattle.std.specs.List.{position_or_len}
-use Rattle.zy_isa.specs.Words.{words_of, lines_of}
-use Rattle.zy_words.specs.Lines.{first_line, lines_below, first_words, ends_word}
-use Rattle.zy_words.proofs.LineLemmas.{words_space, words_lf, words_semi, below_space, below_lf, below_semi, word_below, word_stops, space_of, none_left}
-use Rattle.zy_words.proofs.KeptLemmas.{word_pushed, kept_all, few_words}
-use Rattle.zy_words.proofs.line.take_line.Goals as goal
+use Rattle.zy_text.specs.Words.{words_of, lines_of}
+use Rattle.zy_text.specs.Lines.{first_line, lines_below, first_words, ends_word}
+use Rattle.zy_text.proofs.LineLemmas.{words_space, words_lf, words_semi, below_space, below_lf, below_semi, word_below, word_stops, space_of, none_left}
+use Rattle.zy_text.proofs.KeptLemmas.{word_pushed, kept_all, few_words}
+use Rattle.zy_text.proofs.line.take_line.Goals as goal
 
 abbrev is_lf : ℕ → Bool
 is_lf b = b == 10

@@ -1,8 +1,8 @@
 -- The words that are there and those of what is left are the line's; what is below it is below what is left.
 use Rattle.std.proofs.Common.{◌≡◌, ◌≤◌, ◌++◌, length}
-use Rattle.zy_isa.specs.Words.{words_of}
-use Rattle.zy_words.specs.Lines.{first_line, lines_below, first_words}
-use Rattle.zy_words.proofs.line.take_line.Given as goal
+use Rattle.zy_text.specs.Words.{words_of}
+use Rattle.zy_text.specs.Lines.{first_line, lines_below, first_words}
+use Rattle.zy_text.proofs.line.take_line.Given as goal
 
 abbrev pub invariant-loop-byte : goal.invariant-loop-byte
 invariant-loop-byte l = record {

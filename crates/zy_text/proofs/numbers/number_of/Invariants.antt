@@ -1,7 +1,7 @@
 -- The digits so far and the digits that are left spell what the word spells.
 use Rattle.std.proofs.Common.{◌≡◌, ◌<◌, ◌^◌, drop}
-use Rattle.zy_isa.specs.Words.{digits_after}
-use Rattle.zy_words.proofs.numbers.number_of.Given as goal
+use Rattle.zy_text.specs.Words.{digits_after}
+use Rattle.zy_text.proofs.numbers.number_of.Given as goal
 
 abbrev pub invariant-loop-byte : goal.invariant-loop-byte
 invariant-loop-byte l = record {

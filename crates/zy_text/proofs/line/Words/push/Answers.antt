@@ -1,9 +1,9 @@
 -- A word more behind those that are there, or those that are there.
 use Rattle.std.proofs.Common.{◌≡◌, ◌∙◌, ap, sym, arith, filter, length, ◌++◌, ◌∷◌, []}
-use Rattle.zy_isa.specs.Words.{is_word}
-use Rattle.zy_words.specs.Lines.{first_words}
-use Rattle.zy_words.proofs.KeptLemmas.{kept_more, kept_full, seen_count, one_word, no_word}
-use Rattle.zy_words.proofs.line.Words.push.Goals as goal
+use Rattle.zy_text.specs.Words.{is_word}
+use Rattle.zy_text.specs.Lines.{first_words}
+use Rattle.zy_text.proofs.KeptLemmas.{kept_more, kept_full, seen_count, one_word, no_word}
+use Rattle.zy_text.proofs.line.Words.push.Goals as goal
 
 pub returns-then-self-eq-MOST : goal.returns-then-self-eq-MOST
 returns-then-self-eq-MOST c =
