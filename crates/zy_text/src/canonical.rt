@@ -15,7 +15,9 @@ use zy_io::writing::TextFault;
 use zy_isa::choice::Choice;
 use zy_isa::instr::{Instr, Reg};
 use zy_isa::node::Node;
-use zy_isa::operation::{JumpOperation, LoneOperation, NumberOperation, Operation, PairOperation, Parts};
+use zy_isa::operation::{
+    JumpOperation, LoneOperation, NumberOperation, Operation, PairOperation, Parts,
+};
 use zy_isa::row::Row;
 use zy_isa::rule::Rule;
 use zy_isa::version::Version;
