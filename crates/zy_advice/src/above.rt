@@ -2,8 +2,8 @@
 
 use crate::line::{Statement, is_line_feed};
 use zy_isa::version::Version;
-use zy_words::names::is;
-use zy_words::numbers::number_of;
+use zy_text::names::is;
+use zy_text::numbers::number_of;
 
 /// Where in a text a line is.
 #[derive(Clone, Copy, Debug, PartialEq, Eq)]

@@ -4,8 +4,8 @@ use crate::above::{Above, Part};
 use crate::form::{Form, Shape};
 use crate::line::Statement;
 use zy_asm::faults::Reason;
-use zy_words::names::{is, is_name, is_numeral, label_of};
-use zy_words::numbers::number_of;
+use zy_text::names::{is, is_name, is_numeral, label_of};
+use zy_text::numbers::number_of;
 
 /// The number, from 0, of the word for which a line is refused.
 pub fn culprit(statement: Statement<'_>, above: Above, reason: Reason) -> usize {

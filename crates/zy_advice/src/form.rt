@@ -6,7 +6,7 @@ use crate::line::Statement;
 use std::fmt;
 use zy_isa::operation::Operation;
 use zy_isa::version::Version;
-use zy_words::names::is;
+use zy_text::names::is;
 
 /// What follows the first word of a statement, or in a choice the second.
 #[derive(Clone, Copy, Debug, PartialEq, Eq)]

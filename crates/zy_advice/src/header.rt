@@ -7,7 +7,7 @@ use crate::meant::Meant;
 use crate::text::TextAdvice;
 use crate::unknown::begins_other_comment;
 use std::fmt;
-use zy_words::names::is;
+use zy_text::names::is;
 
 /// What a byte order mark is in UTF-8.
 const MARK: &[u8] = b"\xef\xbb\xbf";

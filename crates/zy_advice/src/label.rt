@@ -1,7 +1,7 @@
 //! Labels, and the words that name one.
 
 use crate::line::Statement;
-use zy_words::names::{is, label_of};
+use zy_text::names::{is, label_of};
 
 /// The label that a line begins with.
 pub fn label(statement: Statement<'_>) -> Option<&[u8]> {

@@ -1,6 +1,6 @@
 //! The lines of an input, and the words of a line.
 
-use zy_words::line::is_space;
+use zy_text::line::is_space;
 
 /// Whether a byte ends a line.
 pub fn is_line_feed(byte: &u8) -> bool {

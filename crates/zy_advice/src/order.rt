@@ -4,7 +4,7 @@ use crate::above::Part;
 use crate::culprit::HEADS;
 use crate::text::TextAdvice;
 use std::fmt;
-use zy_words::names::is;
+use zy_text::names::is;
 
 impl TextAdvice<'_> {
     /// Says where a statement is allowed that is not allowed here.

@@ -6,7 +6,7 @@ use crate::line::{Line, Statement, is_line_feed};
 use crate::meant::is_alike;
 use std::fmt;
 use zy_isa::scenario::MAX_TXNS;
-use zy_words::names::{is, is_numeral};
+use zy_text::names::{is, is_numeral};
 
 /// A program of a text.
 #[derive(Clone, Copy)]

@@ -7,7 +7,7 @@ use crate::line::Statement;
 use crate::meant::Meant;
 use std::fmt;
 use zy_isa::version::Version;
-use zy_words::names::is;
+use zy_text::names::is;
 
 /// The words that a line below the header may begin with, in small letters.
 const STATEMENTS: [&'static str; 16] = [

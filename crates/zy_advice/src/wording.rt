@@ -8,8 +8,8 @@ use crate::meant::Meant;
 use crate::text::TextAdvice;
 use crate::unknown::{INSTRUCTIONS, begins_other_comment, tell_instructions};
 use std::fmt;
-use zy_words::names::{is, is_numeral, label_of};
-use zy_words::numbers::number_of;
+use zy_text::names::{is, is_numeral, label_of};
+use zy_text::numbers::number_of;
 
 /// The most bytes of a name.
 const MAX_NAME: usize = 32;

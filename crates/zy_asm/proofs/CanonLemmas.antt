@@ -23,20 +23,20 @@ use Rattle.zy_isa.specs.declared.operation.Parts.{Parts}
 use Rattle.zy_isa.specs.declared.operation.Parts.TheVariants.{Number, Pair, Jump, Lone}
 use Rattle.zy_isa.specs.declared.choice.Choice.{Choice}
 use Rattle.zy_isa.specs.declared.choice.Choice.TheVariants.{Start, Begin, Kill, Run, Take, Finish, Push}
-use Rattle.zy_isa.specs.Words.{is_space, is_word, without_comment, lines_of, has_words, lines_with_words, number_of, digits_after, spaced}
+use Rattle.zy_text.specs.Words.{is_space, is_word, without_comment, lines_of, has_words, lines_with_words, number_of, digits_after, spaced}
 use Rattle.zy_isa.specs.Operations.{mnemonic, parts_of}
-use Rattle.zy_isa.specs.Canon.{node_text, rule_text, reg_text, parts_words, instr_words, choice_words, row_words, program_words, canon_words, canon}
+use Rattle.zy_text.specs.Canon.{node_text, rule_text, reg_text, parts_words, instr_words, choice_words, row_words, program_words, canon_words, canon}
 use Rattle.zy_io.specs.Writing.{line_of}
 use Rattle.zy_isa.specs.Rows.{RowsFit}
 use Rattle.zy_isa.specs.Programs.{PartsFit, HasValue, Values}
 use Rattle.zy_isa.specs.Choices.{names_below}
 use Rattle.zy_isa.specs.Scenario.{Scenario, IsScenario, ArePrograms, AreNamed}
-use Rattle.zy_isa.specs.Text as m
-use Rattle.zy_isa.specs.Names.{Mark, AreNew}
-use Rattle.zy_isa.specs.Text.{Code, Written, Times, Draft, Statement, Spells, SpellsParts, SpellsInstr, SpellsChoice, SpellEach, instrs_of, labels_of, names_of, Headed, Labelled, IsDraftOf, program_statements, repeated, statements, Means}
+use Rattle.zy_text.specs.Text as m
+use Rattle.zy_text.specs.Names.{Mark, AreNew}
+use Rattle.zy_text.specs.Text.{Code, Written, Times, Draft, Statement, Spells, SpellsParts, SpellsInstr, SpellsChoice, SpellEach, instrs_of, labels_of, names_of, Headed, Labelled, IsDraftOf, program_statements, repeated, statements, Means}
 use Rattle.zy_isa.proofs.OperationLemmas.{each}
 use Rattle.zy_isa.proofs.ResultLemmas.{both}
-use Rattle.zy_words.proofs.FeedLemmas.{one_plus}
+use Rattle.zy_text.proofs.FeedLemmas.{one_plus}
 use Rattle.zy_asm.proofs.SpellLemmas.{no_name}
 use Rattle.zy_asm.proofs.GivesLemmas.{numeral_ok}
 use borrow.Author.Tests.{tests}

@@ -1,8 +1,8 @@
 -- Laws that the code's answers cite.
 use Rattle.std.proofs.Common.{◌≡◌, ℕ, ◌<◌, ◌==◌, ◌+◌, true, List, [], ◌∷◌, length, Result, Ok, Err, refl, sym, ap, ◌∙◌, arith, Bor, Some, eq-eqb}
 use borrow.Author.Tests.{eqb-true}
-use Rattle.zy_isa.specs.Words.{lines_of, words_of, number_of}
-use Rattle.zy_words.specs.Lines.{texts, first_words}
+use Rattle.zy_text.specs.Words.{lines_of, words_of, number_of}
+use Rattle.zy_text.specs.Lines.{texts, first_words}
 use Rattle.zy_asm.proofs.FirstWords.{line_first}
 use Rattle.zy_asm.specs.Reading.{Seen, line_step, read_lines, ended, own_number}
 use Rattle.zy_asm.specs.declared.faults.AsmFault.{AsmFault}

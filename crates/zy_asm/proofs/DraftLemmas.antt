@@ -1,9 +1,9 @@
 -- The lines of a program as they are read, and what they are once its labels are known.
 use Rattle.std.proofs.Common.{◌≡◌, ℕ, ◌+◌, List, [], ◌∷◌, ◌++◌, length, map, Bool, true, false, Option, Some, None, Ok, if◌then◌else◌, refl, sym, ap, ◌∙◌, append-nil, arith}
 use Rattle.zy_isa.specs.declared.instr.Instr.{Instr}
-use Rattle.zy_isa.specs.Names.{Mark, is_name, AreNew}
-use Rattle.zy_isa.specs.Text as m
-use Rattle.zy_isa.specs.Text.{Code, Statement, SpellsLabel, SpellEach, instrs_of, label_at, labels_of, name_in}
+use Rattle.zy_text.specs.Names.{Mark, is_name, AreNew}
+use Rattle.zy_text.specs.Text as m
+use Rattle.zy_text.specs.Text.{Code, Statement, SpellsLabel, SpellEach, instrs_of, label_at, labels_of, name_in}
 use Rattle.zy_isa.proofs.ResultLemmas.{bind_ok}
 use Rattle.zy_asm.specs.Pending.{Pending, resolved, all_resolved}
 use Rattle.zy_asm.proofs.SpellLemmas.{SpellsPending, AreBelow}

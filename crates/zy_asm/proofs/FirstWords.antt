@@ -2,10 +2,9 @@
 use Rattle.std.proofs.Common.{◌≡◌, ℕ, List, [], ◌∷◌, Result, Ok, Err, Option, Some, None, refl, sym, ap, ◌∙◌, ok_or}
 use Rattle.std.specs.Prelude.{if◌then◌else◌}
 use Rattle.zy_isa.specs.Results.{◌>>=◌}
-use Rattle.zy_isa.specs.Names.{is_name}
+use Rattle.zy_text.specs.Names.{is_name, label_of}
 use Rattle.zy_isa.specs.declared.node.Actor.{Actor}
-use Rattle.zy_words.specs.Lines.{first_words}
-use Rattle.zy_words.specs.Names.{label_of}
+use Rattle.zy_text.specs.Lines.{first_words}
 use Rattle.zy_asm.specs.declared.faults.AsmKind.{AsmKind}
 use Rattle.zy_asm.specs.declared.faults.AsmKind.TheVariants as kinds
 use Rattle.zy_asm.specs.declared.choices.Action.{Action}

@@ -5,10 +5,10 @@ use Rattle.zy_isa.specs.declared.instr.Instr.{Instr}
 use Rattle.zy_isa.specs.declared.operation.Operation.{Operation}
 use Rattle.zy_isa.specs.declared.operation.Parts.{Parts}
 use Rattle.zy_isa.specs.declared.operation.Parts.TheVariants.{Number, Pair, Jump, Lone}
-use Rattle.zy_isa.specs.Names.{Mark}
+use Rattle.zy_text.specs.Names.{Mark}
 use Rattle.zy_isa.specs.Operations.{has, is_of, mnemonic, operation_of, parts_of}
 use Rattle.zy_isa.specs.Programs.{IsKnown}
-use Rattle.zy_isa.specs.Text.{SpellsParts}
+use Rattle.zy_text.specs.Text.{SpellsParts}
 use Rattle.zy_isa.proofs.OperationLemmas.{same_operation}
 use Rattle.zy_isa.proofs.ResultLemmas.{bind_ok}
 use Rattle.zy_asm.specs.Pending.{Pending, resolved, all_resolved}

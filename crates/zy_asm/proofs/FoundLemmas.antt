@@ -7,12 +7,12 @@ use Rattle.zy_isa.specs.Versions.{named as version_named}
 use Rattle.zy_isa.specs.declared.rule.Rule.{Rule}
 use Rattle.zy_isa.specs.declared.rule.Rule.TheVariants.{Held, Loose}
 use Rattle.zy_isa.specs.declared.row.Row.{Row}
-use Rattle.zy_isa.specs.Words.{number_of}
-use Rattle.zy_isa.specs.Canon.{rule_text}
+use Rattle.zy_text.specs.Words.{number_of}
+use Rattle.zy_text.specs.Canon.{rule_text}
 use Rattle.zy_isa.specs.Rows.{misplaced_row}
 use Rattle.zy_isa.specs.Scenario.{Scenario, opening_pages_for, scenario_fault}
-use Rattle.zy_isa.specs.Text as m
-use Rattle.zy_isa.specs.Text.{Draft, Spells, SpellEach, names_of, IsDraftOf, repeated, statements}
+use Rattle.zy_text.specs.Text as m
+use Rattle.zy_text.specs.Text.{Draft, Spells, SpellEach, names_of, IsDraftOf, repeated, statements}
 use Rattle.zy_asm.specs.declared.faults.AsmKind.TheVariants as kinds
 use Rattle.zy_asm.specs.declared.state.Stage.TheVariants as stage
 use Rattle.zy_asm.specs.Steps.{number_in}

@@ -5,12 +5,12 @@ use Rattle.std.specs.Prelude.{replicate}
 use Rattle.std.specs.List.{flat_map}
 use Rattle.zy_isa.specs.declared.instr.Instr.{Instr}
 use Rattle.zy_isa.specs.declared.choice.Choice.{Choice}
-use Rattle.zy_isa.specs.Names.{Mark, AreNew}
+use Rattle.zy_text.specs.Names.{Mark, AreNew}
 use Rattle.zy_isa.specs.Choices.{names_below}
 use Rattle.zy_isa.specs.Scenario.{AreKnown, AreNamed}
 use Rattle.zy_isa.proofs.ScenarioLemmas.{program_more}
-use Rattle.zy_isa.specs.Text as m
-use Rattle.zy_isa.specs.Text.{Code, Written, Times, Statement, SpellEach, instrs_of, label_at, labels_of, name_in, names_of, Headed, Labelled, program_statements, choice_statements, repeated}
+use Rattle.zy_text.specs.Text as m
+use Rattle.zy_text.specs.Text.{Code, Written, Times, Statement, SpellEach, instrs_of, label_at, labels_of, name_in, names_of, Headed, Labelled, program_statements, choice_statements, repeated}
 use Rattle.zy_asm.specs.declared.state.Stage.{Stage}
 use Rattle.zy_asm.specs.declared.state.Stage.TheVariants as stage
 use Rattle.zy_asm.specs.Pending.{Pending, all_resolved}

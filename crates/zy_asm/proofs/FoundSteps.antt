@@ -9,12 +9,12 @@ use Rattle.zy_isa.specs.declared.operation.Operation.{Operation}
 use Rattle.zy_isa.specs.declared.choice.Choice.{Choice}
 use Rattle.zy_isa.specs.declared.node.Actor.{Actor}
 use Rattle.zy_isa.specs.Operations.{is_of, mnemonic}
-use Rattle.zy_isa.specs.Words.{number_of}
-use Rattle.zy_isa.specs.Names.{Mark, is_name, place, AreNew}
+use Rattle.zy_text.specs.Words.{number_of}
+use Rattle.zy_text.specs.Names.{Mark, is_name, place, AreNew, label_of}
 use Rattle.zy_isa.specs.Programs.{prog_fault}
 use Rattle.zy_isa.specs.Scenario.{opening_pages_for}
-use Rattle.zy_isa.specs.Text as m
-use Rattle.zy_isa.specs.Text.{Spells, label_at, name_in}
+use Rattle.zy_text.specs.Text as m
+use Rattle.zy_text.specs.Text.{Spells, label_at, name_in}
 use Rattle.zy_asm.specs.declared.faults.AsmKind.{AsmKind}
 use Rattle.zy_asm.specs.declared.faults.AsmKind.TheVariants as kinds
 use Rattle.zy_asm.specs.declared.choices.Action.{Action}
@@ -24,7 +24,6 @@ use Rattle.zy_asm.specs.declared.reading.Keyword.TheVariants as k
 use Rattle.zy_asm.specs.declared.state.Stage.{Stage}
 use Rattle.zy_asm.specs.declared.state.Stage.TheVariants as stage
 use Rattle.zy_isa.specs.Results.{◌>>=◌}
-use Rattle.zy_words.specs.Names.{label_of}
 use Rattle.zy_asm.specs.Pending.{Pending, all_resolved, judged, program_of}
 use Rattle.zy_asm.specs.Instructions.{instr_of}
 use Rattle.zy_asm.specs.Choices.{action_of}
@@ -32,7 +31,7 @@ use Rattle.zy_isa.specs.Rows.{last_row, is_low}
 use Rattle.zy_asm.specs.Reading.{Seen, keyword_of, row_of, is_full, add_row, row_at, instr_line, note_label, labelled, behind_label, label_line, head_line, open_line, action_line, choice_line, end_line, statement, led_by, body_line, step, finish}
 use Rattle.zy_isa.proofs.ResultLemmas.{bind_ok, if_ok, if_err, neither, below, not_over}
 use Rattle.zy_asm.proofs.SpellLemmas.{actor_word, keyword_ok, SpellsPending, instr_ok, row_ok, not_some, head_ok, AreBelow, Chose, choice_ok}
-use Rattle.zy_words.proofs.LabelLemmas.{label_ok}
+use Rattle.zy_text.proofs.LabelLemmas.{label_ok}
 use Rattle.zy_asm.proofs.DraftLemmas.{Line, SpellsLine, pending_in}
 use Rattle.zy_asm.proofs.FitLemmas.{FitsIn, AllFit, spelled_fits}
 

@@ -17,15 +17,15 @@ use Rattle.zy_isa.specs.declared.operation.Parts.{Parts}
 use Rattle.zy_isa.specs.declared.operation.Parts.TheVariants.{Number, Pair, Jump, Lone}
 use Rattle.zy_isa.specs.declared.choice.Choice.{Choice}
 use Rattle.zy_isa.specs.declared.choice.Choice.TheVariants as choice
-use Rattle.zy_isa.specs.Words.{is_word, number_of, has_words}
+use Rattle.zy_text.specs.Words.{is_word, number_of, has_words, is_numeral}
 use Rattle.zy_isa.specs.Operations.{is_of, mnemonic, instr_with, operation_of, parts_of}
-use Rattle.zy_isa.specs.Canon.{reg_text, node_text}
+use Rattle.zy_text.specs.Canon.{reg_text, node_text}
 use Rattle.zy_isa.specs.Programs.{PartsFit, HasValue, IsKnown, Values}
 use Rattle.zy_isa.specs.Choices.{names_below, actor_at}
 use Rattle.zy_isa.specs.Scenario.{opening_pages_for}
-use Rattle.zy_isa.specs.Text as m
-use Rattle.zy_isa.specs.Text.{Times, Spells, SpellsTarget, SpellsParts, SpellsInstr, MaySpell, SpellsLabel, Refers, SpellsChoice, SpellsTimes, instr_in, label_at, name_in}
-use Rattle.zy_isa.specs.Names.{Mark, is_letter, are_parts, is_name, place, AreNew}
+use Rattle.zy_text.specs.Text as m
+use Rattle.zy_text.specs.Text.{Times, Spells, SpellsTarget, SpellsParts, SpellsInstr, MaySpell, SpellsLabel, Refers, SpellsChoice, SpellsTimes, instr_in, label_at, name_in}
+use Rattle.zy_text.specs.Names.{Mark, is_letter, are_parts, is_name, place, AreNew}
 use Rattle.zy_asm.specs.declared.choices.Action.TheVariants.{Txn, Plain}
 use Rattle.zy_asm.specs.declared.choices.TxnAction.{TxnAction}
 use Rattle.zy_asm.specs.declared.choices.TxnAction.TheVariants.{Begin, Kill, Run}
@@ -33,7 +33,6 @@ use Rattle.zy_asm.specs.declared.state.Stage.{Stage}
 use Rattle.zy_asm.specs.declared.state.Stage.TheVariants as stage
 use Rattle.zy_asm.specs.Steps.{number_in}
 use Rattle.zy_asm.specs.Instructions.{register_of, two, instr_of}
-use Rattle.zy_words.specs.Names.{is_numeral}
 use Rattle.zy_asm.specs.Pending.{Pending, whole, jump, resolved, all_resolved}
 use Rattle.zy_asm.specs.Choices.{node_action, action_of, chosen, transaction, are_times, times_of}
 use Rattle.zy_isa.specs.Rows.{is_low, last_row}
@@ -41,7 +40,7 @@ use Rattle.zy_asm.specs.Reading.{Seen, instr_line, behind_label, led_by, head_li
 use Rattle.zy_isa.proofs.OperationLemmas.{named_back, instr_again}
 use Rattle.zy_isa.proofs.ResultLemmas.{out_of_neither, not_below, over_not, both}
 use Rattle.zy_asm.proofs.SpellLemmas.{no_label, actor_word, node_word, no_name}
-use Rattle.zy_words.proofs.LabelLemmas.{label-last}
+use Rattle.zy_text.proofs.LabelLemmas.{label-last}
 use Rattle.zy_asm.proofs.CodeLemmas.{own_gives}
 use Rattle.zy_asm.proofs.FoundSteps.{Base, at, top}
 use borrow.Author.Tests.{tests}

@@ -1,7 +1,7 @@
 -- Bytes that mean a scenario have no fault.
 use Rattle.std.proofs.Common.{◌≡◌, ℕ, List, None, Ok, Err, Result, IfOk, subst, refl}
 use Rattle.zy_isa.specs.Scenario.{Scenario}
-use Rattle.zy_isa.specs.Text.{Means}
+use Rattle.zy_text.specs.Text.{Means}
 use Rattle.zy_asm.specs.declared.faults.Refusal.{Refusal}
 use Rattle.zy_asm.specs.Input.{utf8_fault, input_fault}
 use Rattle.zy_asm.proofs.OnlyLemmas.{only}

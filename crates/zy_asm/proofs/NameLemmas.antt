@@ -3,7 +3,7 @@ use Rattle.std.proofs.Common.{◌≡◌, ℕ, List, [], ◌∷◌, ◌++◌, map
 use Rattle.std.proofs.lemmas.List.{map-append}
 use Rattle.std.specs.Map.{lookup}
 use Rattle.std.specs.Str.{bytes_eq}
-use Rattle.zy_isa.specs.Names.{Mark, place}
+use Rattle.zy_text.specs.Names.{Mark, place}
 
 abbrev shown_entry : Vec ℕ Global × ℕ → Mark
 shown_entry e = (e.0.items, e.1)

@@ -16,15 +16,15 @@ use Rattle.zy_isa.specs.declared.node.Actor.{Actor}
 use Rattle.zy_isa.specs.declared.node.Actor.TheVariants as actor
 use Rattle.zy_isa.specs.declared.choice.Choice.{Choice}
 use Rattle.zy_isa.specs.declared.choice.Choice.TheVariants as choice
-use Rattle.zy_isa.specs.Words.{words_of, lines_of, number_of, has_words, lines_with_words}
-use Rattle.zy_isa.specs.Canon.{node_text, rule_text}
+use Rattle.zy_text.specs.Words.{words_of, lines_of, number_of, has_words, lines_with_words, is_numeral}
+use Rattle.zy_text.specs.Canon.{node_text, rule_text}
 use Rattle.zy_isa.specs.Rows.{Rising, RowsFit}
 use Rattle.zy_isa.specs.Programs.{prog_fault, IsKnown, IsProgram, Values}
 use Rattle.zy_isa.specs.Choices.{names_below, actor_at}
 use Rattle.zy_isa.specs.Scenario.{Scenario, IsScenario, ArePrograms, AreKnown, AreNamed, opening_pages_for, opening_rows}
-use Rattle.zy_isa.specs.Text as m
-use Rattle.zy_isa.specs.Names.{Mark, is_name, place, AreNew}
-use Rattle.zy_isa.specs.Text.{Code, Written, Times, Draft, Statement, Spells, SpellEach, SpellsChoice, SpellsTimes, instr_in, instrs_of, label_at, labels_of, name_in, names_of, Headed, Labelled, IsDraftOf, program_statements, choice_statements, repeated, statements, Means}
+use Rattle.zy_text.specs.Text as m
+use Rattle.zy_text.specs.Names.{Mark, is_name, place, AreNew}
+use Rattle.zy_text.specs.Text.{Code, Written, Times, Draft, Statement, Spells, SpellEach, SpellsChoice, SpellsTimes, instr_in, instrs_of, label_at, labels_of, name_in, names_of, Headed, Labelled, IsDraftOf, program_statements, choice_statements, repeated, statements, Means}
 use Rattle.zy_asm.specs.declared.faults.AsmKind.{AsmKind}
 use Rattle.zy_asm.specs.declared.faults.AsmKind.TheVariants as kinds
 use Rattle.zy_asm.specs.declared.faults.AsmFault.{AsmFault}
@@ -32,7 +32,6 @@ use Rattle.zy_asm.specs.declared.state.Stage.{Stage}
 use Rattle.zy_asm.specs.declared.state.Stage.TheVariants as stage
 use Rattle.zy_asm.specs.declared.state.Reader.{Reader}
 use Rattle.zy_isa.specs.Results.{◌>>=◌}
-use Rattle.zy_words.specs.Names.{is_numeral}
 use Rattle.zy_asm.specs.Pending.{Pending, resolved, all_resolved, program_of}
 use Rattle.zy_asm.specs.Reading.{Seen, seen, rule_of, own_number, open_line, choice_line, step, line_step, at_line, read_lines, reading, finish, nothing_seen}
 use Rattle.zy_isa.proofs.RowLemmas.{Above, above_more}

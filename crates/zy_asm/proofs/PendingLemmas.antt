@@ -1,7 +1,7 @@
 -- A program's instructions are resolved one by one.
 use Rattle.std.proofs.Common.{◌≡◌, List, [], ◌∷◌, ◌++◌, Result, Ok, Err, refl, sym, ap, append_assoc}
 use Rattle.zy_isa.specs.declared.instr.Instr.{Instr}
-use Rattle.zy_isa.specs.Names.{Mark}
+use Rattle.zy_text.specs.Names.{Mark}
 use Rattle.zy_isa.specs.Results.{◌>>=◌}
 use Rattle.zy_asm.specs.Pending.{Pending, resolved, all_resolved}
 use Rattle.zy_asm.specs.declared.faults.AsmKind.{AsmKind}

@@ -20,13 +20,13 @@ use Rattle.zy_isa.specs.declared.operation.Parts.{Parts}
 use Rattle.zy_isa.specs.declared.operation.Parts.TheVariants.{Number, Pair, Jump, Lone}
 use Rattle.zy_isa.specs.declared.choice.Choice.{Choice}
 use Rattle.zy_isa.specs.declared.choice.Choice.TheVariants as choice
-use Rattle.zy_isa.specs.Words.{number_of}
+use Rattle.zy_text.specs.Words.{number_of, is_numeral}
 use Rattle.zy_isa.specs.Registers.{registers}
 use Rattle.zy_isa.specs.Operations.{is_of, mnemonic, named_in, named, instr_with}
-use Rattle.zy_isa.specs.Canon.{reg_text, node_text}
+use Rattle.zy_text.specs.Canon.{reg_text, node_text}
 use Rattle.zy_isa.specs.Choices.{names_below, actor_at}
-use Rattle.zy_isa.specs.Text as m
-use Rattle.zy_isa.specs.Text.{Times, Spells, SpellsParts, SpellsInstr, SpellsChoice, SpellsTimes, Refers, name_in}
+use Rattle.zy_text.specs.Text as m
+use Rattle.zy_text.specs.Text.{Times, Spells, SpellsParts, SpellsInstr, SpellsChoice, SpellsTimes, Refers, name_in}
 use Rattle.zy_asm.specs.declared.faults.AsmKind.{AsmKind}
 use Rattle.zy_asm.specs.declared.faults.AsmKind.TheVariants as kinds
 use Rattle.zy_asm.specs.declared.choices.Action.{Action}
@@ -37,8 +37,7 @@ use Rattle.zy_asm.specs.declared.reading.Keyword.{Keyword}
 use Rattle.zy_asm.specs.declared.reading.Keyword.TheVariants as k
 use Rattle.zy_asm.specs.declared.state.Stage.TheVariants as stage
 use Rattle.zy_asm.specs.Steps.{number_in}
-use Rattle.zy_isa.specs.Names.{Mark, is_letter, is_name, place, AreNew}
-use Rattle.zy_words.specs.Names.{is_numeral, label_of}
+use Rattle.zy_text.specs.Names.{Mark, is_letter, is_name, place, AreNew, label_of}
 use Rattle.zy_asm.specs.Pending.{Pending, whole, jump, resolved}
 use Rattle.zy_asm.specs.Instructions.{register_of, two, pair_of, with_number, jump_to, with_target, alone, instr_of}
 use Rattle.zy_asm.specs.Choices.{actor_of, client_action, node_action, action_of, chosen, numbered, transaction, are_times, times_of}

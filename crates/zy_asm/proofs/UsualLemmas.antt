@@ -9,7 +9,7 @@ use Rattle.zy_isa.specs.Operations.{is_of, mnemonic, named, named_in}
 use Rattle.zy_asm.specs.declared.choices.Action.TheVariants.{Txn, Plain}
 use Rattle.zy_asm.specs.declared.choices.TxnAction.{TxnAction}
 use Rattle.zy_asm.specs.declared.state.Stage.TheVariants as stage
-use Rattle.zy_words.specs.Names.{is_numeral}
+use Rattle.zy_text.specs.Words.{is_numeral}
 use Rattle.zy_asm.specs.Pending.{whole}
 use Rattle.zy_asm.specs.Instructions.{instr_of}
 use Rattle.zy_asm.specs.Choices.{actor_of, action_of, chosen, numbered}

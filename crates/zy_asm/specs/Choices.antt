@@ -7,7 +7,7 @@ use Rattle.zy_isa.specs.declared.node.Actor.{Actor}
 use Rattle.zy_isa.specs.declared.node.Actor.TheVariants as actor
 use Rattle.zy_isa.specs.declared.choice.Choice.{Choice}
 use Rattle.zy_isa.specs.declared.choice.Choice.TheVariants as choice
-use Rattle.zy_isa.specs.Words.{number_of}
+use Rattle.zy_text.specs.Words.{number_of, is_numeral}
 use Rattle.zy_asm.specs.declared.faults.AsmKind.{AsmKind}
 use Rattle.zy_asm.specs.declared.faults.AsmKind.TheVariants as kinds
 use Rattle.zy_asm.specs.declared.choices.Action.{Action}
@@ -15,8 +15,7 @@ use Rattle.zy_asm.specs.declared.choices.Action.TheVariants.{Txn, Plain}
 use Rattle.zy_asm.specs.declared.choices.TxnAction.{TxnAction}
 use Rattle.zy_asm.specs.declared.choices.TxnAction.TheVariants.{Begin, Kill, Run}
 use Rattle.zy_isa.specs.Results.{◌>>=◌}
-use Rattle.zy_isa.specs.Names.{Mark, is_name, place}
-use Rattle.zy_words.specs.Names.{is_numeral}
+use Rattle.zy_text.specs.Names.{Mark, is_name, place}
 use Rattle.zy_asm.specs.Steps.{number_in}
 
 abbrev pub actor_of : List ℕ → Option Actor

@@ -13,9 +13,9 @@ use Rattle.zy_asm.specs.declared.faults.AsmKind.{AsmKind}
 use Rattle.zy_asm.specs.declared.faults.AsmKind.TheVariants as kinds
 use Rattle.zy_isa.specs.Registers.{registers}
 use Rattle.zy_isa.specs.Operations.{instr_with}
-use Rattle.zy_isa.specs.Canon.{reg_text}
+use Rattle.zy_text.specs.Canon.{reg_text}
 use Rattle.zy_isa.specs.Results.{◌>>=◌}
-use Rattle.zy_isa.specs.Names.{is_name}
+use Rattle.zy_text.specs.Names.{is_name}
 use Rattle.zy_asm.specs.Steps.{number_in}
 use Rattle.zy_asm.specs.Pending.{Pending, whole, jump}
 

@@ -5,7 +5,7 @@ use Rattle.zy_isa.specs.declared.instr.Instr.{Instr}
 use Rattle.zy_isa.specs.declared.operation.JumpOperation.{JumpOperation}
 use Rattle.zy_isa.specs.declared.operation.Parts.TheVariants as parts
 use Rattle.zy_isa.specs.declared.program.ProgFault.{ProgFault}
-use Rattle.zy_isa.specs.Names.{Mark, place}
+use Rattle.zy_text.specs.Names.{Mark, place}
 use Rattle.zy_isa.specs.Operations.{instr_with}
 use Rattle.zy_isa.specs.Programs.{prog_fault}
 use Rattle.zy_isa.specs.Results.{◌>>=◌}

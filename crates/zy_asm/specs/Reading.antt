@@ -13,7 +13,7 @@ use Rattle.zy_isa.specs.declared.version.Version.{Version}
 use Rattle.zy_isa.specs.declared.version.Version.TheVariants.{One}
 use Rattle.zy_isa.specs.Versions.{named as version_named}
 use Rattle.zy_isa.specs.Operations.{named_in}
-use Rattle.zy_isa.specs.Words.{lines_of, words_of, number_of}
+use Rattle.zy_text.specs.Words.{lines_of, words_of, number_of, is_numeral}
 use Rattle.zy_isa.specs.Rows.{last_row, is_low}
 use Rattle.zy_isa.specs.Scenario.{opening_pages_for}
 use Rattle.zy_asm.specs.declared.faults.AsmKind.{AsmKind}
@@ -30,9 +30,8 @@ use Rattle.zy_asm.specs.declared.reading.Keyword.TheVariants as k
 use Rattle.zy_asm.specs.declared.state.Stage.{Stage}
 use Rattle.zy_asm.specs.declared.state.Stage.TheVariants.{Zephyr, Cap, Pages, Rule, Rows, Program, Choices, Done}
 use Rattle.zy_asm.specs.declared.state.Reader.{Reader}
-use Rattle.zy_isa.specs.Names.{Mark, is_name, place}
+use Rattle.zy_text.specs.Names.{Mark, is_name, place, label_of}
 use Rattle.zy_isa.specs.Results.{◌>>=◌}
-use Rattle.zy_words.specs.Names.{is_numeral, label_of}
 use Rattle.zy_asm.specs.Pending.{Pending, shown, program_of}
 use Rattle.zy_asm.specs.Steps.{number_in}
 use Rattle.zy_asm.specs.Instructions.{instr_of}

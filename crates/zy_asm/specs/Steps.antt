@@ -1,7 +1,7 @@
 -- Numbers in their ranges.
 use Rattle.std.specs.Prelude.{◌||◌, nat_lt, ℕ, List, Result, Ok, Err, ok_or, if◌then◌else◌}
 use Rattle.zy_isa.specs.Results.{◌>>=◌}
-use Rattle.zy_isa.specs.Words.{number_of}
+use Rattle.zy_text.specs.Words.{number_of}
 use Rattle.zy_asm.specs.declared.faults.AsmKind.{AsmKind}
 use Rattle.zy_asm.specs.declared.faults.AsmKind.TheVariants as kinds
 

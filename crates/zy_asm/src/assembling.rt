@@ -1,8 +1,8 @@
 //! A text as a scenario.
 ghost use Rattle.std.specs.Prelude.{◌≡◌, IfOk, IfErr, Some, None, Err, ◌⊎◌, List, ℕ};
 ghost use Rattle.zy_isa.specs.Scenario as isa;
-ghost use Rattle.zy_isa.specs.Canon.{canon};
-ghost use Rattle.zy_isa.specs.Text.{Means};
+ghost use Rattle.zy_text.specs.Canon.{canon};
+ghost use Rattle.zy_text.specs.Text.{Means};
 ghost use Rattle.zy_asm.specs.Reading.{reading};
 ghost use Rattle.zy_asm.specs.Input.{utf8_fault, input_fault};
 ghost use Rattle.zy_asm.specs.Reasons.{fault_of};

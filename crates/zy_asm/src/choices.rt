@@ -1,8 +1,8 @@
 //! The choice of a line, and how often it is made.
 ghost use Rattle.std.specs.Prelude.{◌≡◌, ◌≤◌, IfOk, IfSome, Some, Ok, true, ℕ};
 ghost use Rattle.zy_asm.specs.Reasons.{by_kind, kind_of};
-ghost use Rattle.zy_words.specs.Lines.{texts};
-ghost use Rattle.zy_words.specs.Names.{is_numeral as is_numeral_spec};
+ghost use Rattle.zy_text.specs.Lines.{texts};
+ghost use Rattle.zy_text.specs.Words.{is_numeral as is_numeral_spec};
 ghost use Rattle.zy_asm.specs.declared.choices.TxnAction.{TxnAction as AnAction};
 ghost use Rattle.zy_asm.specs.declared.choices.Action.TheVariants.{Txn, Plain};
 ghost use Rattle.zy_asm.specs.Choices.{actor_of as actor_of_spec, client_action as client_action_spec, node_action as node_action_spec, action_of as action_of_spec, chosen as chosen_spec, are_times as are_times_spec, times_of as times_of_spec, numbered as numbered_spec, transaction as transaction_spec};
@@ -14,8 +14,8 @@ use crate::table::Table;
 use zy_isa::choice::Choice;
 use zy_isa::node::{Actor, Node};
 use zy_isa::scenario::MAX_CHOICES;
-use zy_words::names::{is, is_name, is_numeral};
-use zy_words::numbers::number_of;
+use zy_text::names::{is, is_name, is_numeral};
+use zy_text::numbers::number_of;
 
 /// What is done with a transaction.
 #[derive(Clone, Copy, Debug, PartialEq, Eq)]

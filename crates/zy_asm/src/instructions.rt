@@ -1,7 +1,7 @@
 //! The instruction of a line.
 ghost use Rattle.std.specs.Prelude.{◌≡◌, ◌∷◌, [], Ok, IfSome, ok_or};
 ghost use Rattle.zy_asm.specs.Reasons.{by_kind, kind_of, Gives};
-ghost use Rattle.zy_words.specs.Lines.{texts};
+ghost use Rattle.zy_text.specs.Lines.{texts};
 ghost use Rattle.zy_asm.specs.Pending.{shown, whole};
 ghost use Rattle.zy_asm.specs.Instructions.{register_of as register_of_spec, two as two_spec, pair_of as pair_of_spec, jump_to as jump_to_spec, number_to as number_to_spec, with_number as with_number_spec, jump_where as jump_where_spec, with_target as with_target_spec, alone as alone_spec, instr_of as instr_of_spec};
 
@@ -12,7 +12,7 @@ use crate::shown::Shown;
 use std::alloc::Global;
 use zy_isa::instr::{Instr, Reg};
 use zy_isa::operation::{JumpOperation, NumberOperation, Operation, Parts};
-use zy_words::names::is_name;
+use zy_text::names::is_name;
 
 /// The register that a word names.
 #[inline(always)]

@@ -6,7 +6,7 @@ ghost use Rattle.zy_asm.specs.Steps.{number_in as number_in_spec};
 
 use crate::faults::Reason;
 use crate::shown::Shown;
-use zy_words::numbers::number_of;
+use zy_text::numbers::number_of;
 
 /// The number that a word spells, where it is from `least` to `most`.
 pub fn within(word: &[u8], least: u64, most: u64) -> Option<u64>

@@ -1,7 +1,7 @@
 //! Reads a text line by line.
 ghost use Rattle.std.specs.Prelude.{◌≡◌, ◌≤◌, ◌<◌, ◌∷◌, ◌++◌, [], length, map, IfOk, IfSome, Ok, Some};
 ghost use Rattle.zy_asm.specs.Reasons.{by_kind, seen_word};
-ghost use Rattle.zy_words.specs.Lines.{texts};
+ghost use Rattle.zy_text.specs.Lines.{texts};
 ghost use Rattle.zy_asm.specs.Pending.{shown, whole};
 ghost use Rattle.zy_asm.specs.Reading.{Steps, Reads, seen, keyword_of as keyword_of_spec, headed as headed_spec, rule_of as rule_of_spec, zephyr_line, cap_line, pages_line, rule_line, row_with as row_with_spec, row_of as row_of_spec, add_row, row_at, instr_line, instr_at, note_label, behind_label, label_line, closed, own_number as own_number_spec, note_name, head_line, open_line, txn_at, repeat_choice, repeat_line, plain_line, txn_action_line, choice_line, end_line, statement, body_line, step, line_step, ended as ended_spec, reading};
 
@@ -26,9 +26,9 @@ use zy_isa::row::Row;
 use zy_isa::rule::Rule;
 use zy_isa::scenario::{MAX_CAP, MAX_CHOICES, MAX_PAGES, MAX_ROWS, MAX_TXNS, opening_pages_for};
 use zy_isa::version::Version;
-use zy_words::line::{Words, take_line};
-use zy_words::names::{is, is_name, is_numeral, label_of};
-use zy_words::numbers::number_of;
+use zy_text::line::{Words, take_line};
+use zy_text::names::{is, is_name, is_numeral, label_of};
+use zy_text::numbers::number_of;
 
 /// What the first word of a line below the header says that the line is.
 #[derive(Clone, Copy, Debug, PartialEq, Eq)]

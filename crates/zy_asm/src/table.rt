@@ -1,6 +1,6 @@
 //! Names with the numbers that they stand for.
 ghost use Rattle.std.specs.Prelude.{◌≡◌, None, OnOk, ◌++◌, ◌∷◌, []};
-ghost use Rattle.zy_isa.specs.Names.{place};
+ghost use Rattle.zy_text.specs.Names.{place};
 
 use indexmap::IndexMap;
 use std::alloc::{AllocError, Global};

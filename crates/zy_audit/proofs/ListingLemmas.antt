@@ -2,13 +2,13 @@
 use Rattle.std.proofs.Common.{◌≡◌, ◌∙◌, ℕ, zero, suc, ◌+◌, ◌<◌, List, [], ◌∷◌, ◌++◌, refl, sym, ap, subst, arith, length, get_or, map, Bool}
 use Rattle.std.specs.List.{flat_map}
 use Rattle.std.proofs.lemmas.Grind.{flat_map-append}
-use Rattle.zy_isa.specs.Canon.{canon}
+use Rattle.zy_text.specs.Canon.{canon}
 use Rattle.zy_io.specs.Writing.{line_of}
 use Rattle.zy_disasm.specs.Lines.{head_texts, end_texts}
 use Rattle.zy_disasm.proofs.CanonLemmas.{canon-parts}
 use Rattle.zy_table.specs.Play.{entries, opening}
 use Rattle.zy_table.specs.declared.entry.Entry.{Entry}
-use Rattle.zy_isa.specs.Canon.{choice_text}
+use Rattle.zy_text.specs.Canon.{choice_text}
 use Rattle.zy_machine.specs.Histories.{History, IsReplay, choices_of}
 use Rattle.zy_audit.specs.Texts.{step_text}
 use Rattle.zy_audit.specs.Listing.{step_texts, ending_texts, listing}

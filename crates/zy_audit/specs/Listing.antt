@@ -3,7 +3,7 @@ use Rattle.std.specs.Prelude.{ℕ, ◌+◌, Bool, List, [], ◌∷◌, ◌++◌,
 use Rattle.std.specs.List.{flat_map, range_with_len}
 use Rattle.zy_isa.specs.declared.node.Node.TheVariants.{A, B}
 use Rattle.zy_isa.specs.declared.choice.Choice.{Choice}
-use Rattle.zy_isa.specs.Canon.{canon}
+use Rattle.zy_text.specs.Canon.{canon}
 use Rattle.zy_isa.specs.Scenario.{Scenario}
 use Rattle.zy_io.specs.Writing.{line_of}
 use Rattle.zy_table.specs.declared.entry.Entry.{Entry}

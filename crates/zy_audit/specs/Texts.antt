@@ -6,7 +6,7 @@ use Rattle.std.specs.Option.{option_map_or}
 use Rattle.zy_isa.specs.declared.node.Node.{Node}
 use Rattle.zy_isa.specs.declared.node.Node.TheVariants.{A, B}
 use Rattle.zy_isa.specs.declared.row.Row.{Row}
-use Rattle.zy_isa.specs.Canon.{node_text, choice_text}
+use Rattle.zy_text.specs.Canon.{node_text, choice_text}
 use Rattle.zy_table.specs.declared.outcome.Why.{Why}
 use Rattle.zy_table.specs.declared.outcome.Why.TheVariants.{Own, Killed, BadKey, Missing, Duplicate, Frozen, NoPage, Gone}
 use Rattle.zy_table.specs.declared.outcome.Outcome.{Outcome}

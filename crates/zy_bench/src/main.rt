@@ -27,7 +27,6 @@ use std::thread::Threads;
 use std::time::Clock;
 use zy_advice::command::Command as Reader;
 use zy_advice::line::whole_line;
-use zy_check::cut::cut_len;
 use zy_check::verdict::Verdict;
 use zy_engine::checking::check_bytes;
 use zy_engine::debugging::debug_bytes;
@@ -40,6 +39,7 @@ use zy_io::memory::SliceSource;
 use zy_io::reading::read_all;
 use zy_io::stream::CountingReader;
 use zy_search::answer::{Answer, Report};
+use zy_text::cut::cut_len;
 use zy_threads::gate::FreeGate;
 
 /// The exit status where all went well.

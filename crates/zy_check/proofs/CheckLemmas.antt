@@ -1,15 +1,13 @@
 -- The scenario part of an input, and what it means.
-use Rattle.std.proofs.Common.{◌≡◌, ◌∙◌, ℕ, List, Option, Some, None, Err, length, take, refl, sym, ap, inl, inr, ◌⊎◌}
+use Rattle.std.proofs.Common.{◌≡◌, ◌∙◌, ℕ, List, Option, Some, None, Err, refl, sym, inl, inr, ◌⊎◌}
 use Rattle.std.specs.Result.{result_err}
-use Rattle.std.proofs.lemmas.List.{length-take, take_min}
 use Rattle.zy_isa.specs.Scenario.{Scenario}
-use Rattle.zy_isa.specs.Text.{Means}
-use Rattle.zy_isa.specs.Words.{lines_of}
+use Rattle.zy_text.specs.Text.{Means}
 use Rattle.zy_asm.specs.declared.faults.AsmFault.{AsmFault}
 use Rattle.zy_asm.specs.Input.{utf8_fault, input_fault, unless_faulty}
 use Rattle.zy_audit.specs.Run.{listing_run}
 use Rattle.zy_check.specs.declared.verdict.Verdict.{Verdict}
-use Rattle.zy_check.specs.Cut.{cut, bytes_through_end}
+use Rattle.zy_text.specs.Cut.{cut}
 use Rattle.zy_check.specs.Differs.{verdict}
 use Rattle.zy_asm.specs.declared.faults.AsmKind.{AsmKind}
 use Rattle.zy_asm.specs.declared.faults.AsmKind.TheVariants as kinds
@@ -17,9 +15,6 @@ use Rattle.zy_asm.specs.declared.faults.Refusal.{Refusal}
 use Rattle.zy_asm.specs.Reasons.{kind_of, fault_of}
 use Rattle.zy_check.specs.Faults.{of_kind, of_refusal, IsOfScenario}
 use Rattle.zy_check.specs.Verdicts.{IsVerdict, GivesVerdict}
-
-pub cut_taken : (text : List ℕ) → take (length (cut text)) text ≡ cut text
-cut_taken text = ap (λ n. take n text) (length-take (bytes_through_end (lines_of text)) text) ∙ take_min (bytes_through_end (lines_of text)) text
 
 not_faulty : (f : Option AsmFault) (bytes : List ℕ) → result_err (unless_faulty f bytes) ≡ None → f ≡ None
 not_faulty None bytes h = refl

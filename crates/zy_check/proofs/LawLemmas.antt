@@ -1,18 +1,20 @@
 -- The verdict in the words of equality, and of the longest text that two texts begin with.
-use Rattle.std.proofs.Common.{◌≡◌, ◌≢◌, ◌≤◌, ◌==◌, ◌+◌, ◌∙◌, ℕ, true, false, List, [], ◌∷◌, ◌++◌, length, refl, sym, ap, subst, arith, inl, inr}
-use Rattle.std.specs.Str.{bytes_eq}
+use Rattle.std.proofs.Common.{◌≡◌, ◌≢◌, ◌≤◌, ◌==◌, ◌+◌, ◌∙◌, ℕ, true, false, List, [], ◌∷◌, ◌++◌, None, length, refl, sym, ap, subst, arith, inl, inr}
+use Rattle.std.specs.Str.{bytes_eq, is_utf8}
 use Rattle.std.proofs.lemmas.List.{length-append}
+use Rattle.std.proofs.lemmas.Str.{IsUtf8-from_ascii, is_utf8-from_IsUtf8}
 use Rattle.std.proofs.lemmas.Slice.Eq.{bytes_eq-Decides}
 use Rattle.zy_isa.specs.Scenario.{Scenario, IsScenario}
-use Rattle.zy_isa.specs.Canon.{canon}
-use Rattle.zy_isa.specs.Text.{Means}
+use Rattle.zy_text.specs.Canon.{canon}
+use Rattle.zy_text.specs.Text.{Means}
+use Rattle.zy_asm.specs.Input.{utf8_fault}
 use Rattle.zy_asm.proofs.CanonLemmas.{Means-canon}
 use Rattle.zy_audit.specs.Listing.{listing}
 use Rattle.zy_audit.specs.Run.{listing_run}
 use Rattle.zy_check.specs.declared.verdict.Verdict.TheVariants.{Table, NotTable}
-use Rattle.zy_check.specs.Cut.{cut}
+use Rattle.zy_text.specs.Cut.{cut}
 use Rattle.zy_check.specs.Verdicts.{IsListing, IsVerdict}
-use Rattle.zy_check.proofs.CanonCut.{cut-canon}
+use Rattle.zy_text.proofs.CanonCut.{cut-canon, canon-ascii}
 use Rattle.zy_check.specs.Differs.{common, feeds, differs, verdict, IsFront, IsLongestShared}
 use Rattle.zy_check.proofs.CommonLemmas.{either, same_number, cons_same, cons_other, common_shared}
 use Rattle.zy_check.proofs.JudgeLemmas.{same_parts}
@@ -94,6 +96,13 @@ listing_table input l = (l.0, l.1, sym (verdict-same input (listing_run l.0) l.2
 
 pub table-listing : (input : List ℕ) → (IsVerdict input Table → IsListing input) × (IsListing input → IsVerdict input Table)
 table-listing input = (listing_found input, listing_table input)
+
+no_fault : (bytes : List ℕ) → is_utf8 bytes ≡ true → utf8_fault bytes ≡ None
+no_fault bytes h = rw h refl
+
+-- the canonical text is ASCII, and so UTF-8
+pub canon-utf8 : (sc : Scenario) → IsScenario sc → utf8_fault (canon sc) ≡ None
+canon-utf8 sc h = no_fault (canon sc) (is_utf8-from_IsUtf8 (canon sc) (IsUtf8-from_ascii (canon sc) (canon-ascii sc h)))
 
 -- the canonical text is a prefix of a listing
 pub cut-run : (sc : Scenario) → IsScenario sc → cut (listing_run sc) ≡ canon sc

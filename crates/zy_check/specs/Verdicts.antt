@@ -1,12 +1,12 @@
 -- What a check finds.
 use Rattle.std.specs.Prelude.{◌≡◌, ℕ, List, Result, Ok, Err}
 use Rattle.zy_isa.specs.Scenario.{Scenario}
-use Rattle.zy_isa.specs.Text.{Means}
+use Rattle.zy_text.specs.Text.{Means}
 use Rattle.zy_audit.specs.Run.{listing_run}
 use Rattle.zy_check.specs.declared.faults.CheckFault.{CheckFault}
 use Rattle.zy_check.specs.declared.faults.CheckFault.TheVariants.{Scenario as InScenario, Read, Memory, TooLong}
 use Rattle.zy_check.specs.declared.verdict.Verdict.{Verdict}
-use Rattle.zy_check.specs.Cut.{cut}
+use Rattle.zy_text.specs.Cut.{cut}
 use Rattle.zy_check.specs.Differs.{verdict}
 
 -- the scenario part means a scenario, and this is the verdict on the input and that scenario's listing

@@ -1,18 +1,17 @@
 //! Checks a listing.
 ghost use Rattle.std.specs.Prelude.{◌≡◌, ◌<◌, ◌≤◌, ◌+◌, Some, None, IfOk, IfErr, IfSome, length};
 ghost use Rattle.zy_isa.specs.Scenario.{Scenario as AScenario};
-ghost use Rattle.zy_isa.specs.Text.{Means};
+ghost use Rattle.zy_text.specs.Text.{Means};
 ghost use Rattle.zy_asm.specs.Input.{utf8_fault, input_fault};
 ghost use Rattle.zy_asm.specs.Reasons.{fault_of};
 ghost use Rattle.zy_audit.specs.Run.{listing_run};
 ghost use Rattle.zy_check.specs.declared.verdict.Verdict.{Verdict as AVerdict};
-ghost use Rattle.zy_check.specs.Cut.{cut as cut_spec};
+ghost use Rattle.zy_text.specs.Cut.{cut as cut_spec};
 ghost use Rattle.zy_check.specs.Differs.{verdict as verdict_spec};
 ghost use Rattle.zy_check.specs.Faults.{failed_reads, IfScenario, IsOfScenario, ReadsInput};
 ghost use Rattle.zy_check.specs.Verdicts.{GivesVerdict, IsVerdict};
 
 use crate::comparing::Comparing;
-use crate::cut::cut_len;
 use crate::faults::CheckFault;
 use crate::verdict::Verdict;
 use std::alloc::{AllocError, Global};
@@ -22,6 +21,7 @@ use zy_io::reading::read_all;
 use zy_io::stream::Source;
 use zy_io::writing::TextFault;
 use zy_isa::scenario::Scenario;
+use zy_text::cut::cut_len;
 
 /// Makes the choices of a scenario, and compares its listing with an input.
 fn compare(alloc: Global, input: &[u8], scenario: Scenario) -> Result<Verdict, AllocError>

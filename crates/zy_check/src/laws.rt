@@ -1,10 +1,10 @@
 //! What holds of the verdict: each function is a law, and its contract is all of it. None does anything when called.
 ghost use Rattle.std.specs.Prelude.{◌≡◌, ◌↔◌, ◌≢◌, ◌+◌, None, List, ℕ};
 ghost use Rattle.zy_isa.specs.Scenario.{Scenario, IsScenario};
-ghost use Rattle.zy_isa.specs.Canon.{canon};
+ghost use Rattle.zy_text.specs.Canon.{canon};
 ghost use Rattle.zy_asm.specs.Input.{utf8_fault};
 ghost use Rattle.zy_audit.specs.Run.{listing_run};
-ghost use Rattle.zy_check.specs.Cut.{cut};
+ghost use Rattle.zy_text.specs.Cut.{cut};
 ghost use Rattle.zy_check.specs.Verdicts.{IsListing, IsVerdict};
 ghost use Rattle.zy_check.specs.declared.verdict.Verdict.TheVariants.{Table, NotTable};
 ghost use Rattle.zy_check.specs.Differs.{common, feeds, verdict, IsLongestShared};

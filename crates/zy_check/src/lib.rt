@@ -3,7 +3,6 @@
 
 pub mod check;
 pub mod comparing;
-pub mod cut;
 pub mod faults;
 pub mod laws;
 pub mod verdict;

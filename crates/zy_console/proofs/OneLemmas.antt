@@ -1,6 +1,6 @@
 -- Lines lead to one session and say one text.
 use Rattle.std.proofs.Common.{◌≡◌, ◌∙◌, ℕ, List, [], ◌∷◌, ◌++◌, Option, Some, None, refl, sym, ap₂, subst}
-use Rattle.zy_isa.specs.Words.{words_of}
+use Rattle.zy_text.specs.Words.{words_of}
 use Rattle.zy_debug.specs.Commands.{refusal}
 use Rattle.zy_debug.specs.Sessions.{Session}
 use Rattle.zy_debug.specs.declared.command.Command.{Command}

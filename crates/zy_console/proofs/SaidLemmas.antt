@@ -4,8 +4,8 @@ use Rattle.std.proofs.lemmas.Bool.{eqb-true}
 use Rattle.std.specs.Io.KnownBytes.{Appends}
 use Rattle.std.proofs.KnownBytes.{Appends-trans, Appends-nil}
 use Rattle.zy_io.specs.Streams.{WroteFront}
-use Rattle.zy_isa.specs.Words.{lines_of, words_of}
-use Rattle.zy_words.specs.Lines.{first_words}
+use Rattle.zy_text.specs.Words.{lines_of, words_of}
+use Rattle.zy_text.specs.Lines.{first_words}
 use Rattle.zy_debug.specs.Sessions.{Session}
 use Rattle.zy_console.specs.Console.{LineSays, Says, SaysFront}
 use Rattle.zy_console.proofs.OneLemmas.{says_some}

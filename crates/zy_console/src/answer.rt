@@ -1,7 +1,7 @@
 //! What a line is answered.
 ghost use Rattle.std.specs.Prelude.{◌≡◌, ◌≢◌, ◌++◌, None, OnOk};
 ghost use Rattle.zy_io.specs.Writing.{line_of};
-ghost use Rattle.zy_words.specs.Lines.{texts};
+ghost use Rattle.zy_text.specs.Lines.{texts};
 ghost use Rattle.zy_debug.specs.Commands.{refusal};
 ghost use Rattle.zy_console.specs.Replies.{refusal_text, reply_text};
 ghost use Rattle.zy_console.specs.Console.{LineSays, Obeyed};

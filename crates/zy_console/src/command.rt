@@ -1,11 +1,11 @@
 //! The command of a line.
 ghost use Rattle.std.specs.Prelude.{◌≡◌};
-ghost use Rattle.zy_words.specs.Lines.{texts};
+ghost use Rattle.zy_text.specs.Lines.{texts};
 ghost use Rattle.zy_console.specs.Lines.{bare as bare_spec, break_at as break_at_spec, command_of as command_of_spec, count_of as count_of_spec, numbered as numbered_spec, of_three as of_three_spec, of_two as of_two_spec};
 
 use zy_debug::command::Command;
-use zy_words::names::is;
-use zy_words::numbers::number_of;
+use zy_text::names::is;
+use zy_text::numbers::number_of;
 
 /// The number that a word spells, where it is a `u32`.
 fn count_of(word: &[u8]) -> Option<u32>

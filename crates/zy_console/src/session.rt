@@ -1,6 +1,6 @@
 //! A whole session.
 ghost use Rattle.std.specs.Prelude.{◌<◌};
-ghost use Rattle.zy_isa.specs.Words.{lines_of};
+ghost use Rattle.zy_text.specs.Words.{lines_of};
 ghost use Rattle.zy_console.specs.Console.{WroteSession};
 
 use crate::answer::answer;
@@ -9,7 +9,7 @@ use zy_debug::debugger::Debugger;
 use zy_io::buffer::LineBuffer;
 use zy_io::stream::Sink;
 use zy_io::writing::{TextFault, write_all};
-use zy_words::line::{Words, take_line};
+use zy_text::line::{Words, take_line};
 
 /// Does the commands of a text, one a line, and writes the reply to each once it is done. It ends at the first call
 /// that fails or takes no byte, and where there is no memory.

@@ -6,9 +6,9 @@ use Rattle.std.specs.List.{flat_map}
 use Rattle.std.proofs.lemmas.List.Folds.{flat_map-map}
 use Rattle.std.proofs.lemmas.Grind.{flat_map-append}
 use Rattle.zy_isa.specs.declared.instr.Instr.{Instr}
-use Rattle.zy_isa.specs.Words.{spaced}
+use Rattle.zy_text.specs.Words.{spaced}
 use Rattle.zy_io.specs.Writing.{line_of}
-use Rattle.zy_isa.specs.Canon.{instr_words, row_words, row_text, choice_words, choice_text, program_words, header_words, canon}
+use Rattle.zy_text.specs.Canon.{instr_words, row_words, row_text, choice_words, choice_text, program_words, header_words, canon}
 use Rattle.zy_isa.specs.Scenario.{Scenario}
 use Rattle.zy_disasm.specs.Lines.{number_text, header_texts, program_texts, program_parts, head_texts, end_texts}
 

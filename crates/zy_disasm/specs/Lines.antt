@@ -6,8 +6,8 @@ use Rattle.zy_isa.specs.declared.version.Version.{Version}
 use Rattle.zy_isa.specs.declared.rule.Rule.{Rule}
 use Rattle.zy_isa.specs.declared.instr.Instr.{Instr}
 use Rattle.zy_isa.specs.Versions.{word}
-use Rattle.zy_isa.specs.Words.{spaced}
-use Rattle.zy_isa.specs.Canon.{rule_text, row_text, instr_text}
+use Rattle.zy_text.specs.Words.{spaced}
+use Rattle.zy_text.specs.Canon.{rule_text, row_text, instr_text}
 use Rattle.zy_isa.specs.Scenario.{Scenario}
 
 abbrev pub version_line : Version → List ℕ

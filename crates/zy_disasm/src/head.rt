@@ -3,11 +3,12 @@ ghost use Rattle.zy_disasm.specs.Lines.{program_parts, head_texts};
 
 use crate::lines::{Number, RuleLine, VersionLine};
 use zy_io::buffer::LineBuffer;
-use zy_io::section::{Both, Each, One, Parts, Section, write_parts};
+use zy_io::section::{Both, One, Parts, Section, write_parts};
 use zy_io::stream::Sink;
 use zy_io::writing::TextFault;
 use zy_isa::program::Program;
 use zy_isa::scenario::Scenario;
+use zy_text::canonical::Each;
 
 /// The header, the rows and the programs of a scenario.
 #[derive(Clone, Copy)]

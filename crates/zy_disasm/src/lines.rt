@@ -6,6 +6,7 @@ use zy_io::buffer::LineBuffer;
 use zy_io::line::{Decimal, Joined, Line};
 use zy_isa::rule::Rule;
 use zy_isa::version::Version;
+use zy_text::canonical::Canonical;
 
 /// The first line.
 #[derive(Clone, Copy)]
@@ -15,7 +16,7 @@ impl Line for VersionLine {
     ghost text = { λ l. version_line l.0 };
 
     fn append(&self, line: &mut LineBuffer) -> Result<(), AllocError> {
-        Joined("zephyr ", self.0).append(line)
+        Joined("zephyr ", Canonical(self.0)).append(line)
     }
 }
 
@@ -42,6 +43,6 @@ impl Line for RuleLine {
     ghost text = { λ l. rule_line l.0 };
 
     fn append(&self, line: &mut LineBuffer) -> Result<(), AllocError> {
-        Joined("rule ", self.0).append(line)
+        Joined("rule ", Canonical(self.0)).append(line)
     }
 }

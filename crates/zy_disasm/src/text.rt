@@ -1,15 +1,16 @@
 //! The whole text.
 ghost use Rattle.std.specs.Prelude.{◌<◌};
-ghost use Rattle.zy_isa.specs.Canon.{canon};
+ghost use Rattle.zy_text.specs.Canon.{canon};
 ghost use Rattle.zy_io.specs.Writing.{Wrote};
 
 use crate::head::Head;
 use std::alloc::Global;
 use zy_io::buffer::LineBuffer;
-use zy_io::section::{Both, Each, One, Section};
+use zy_io::section::{Both, One, Section};
 use zy_io::stream::Sink;
 use zy_io::writing::TextFault;
 use zy_isa::scenario::Scenario;
+use zy_text::canonical::Each;
 
 /// Writes the canonical text of a scenario, a line at a time.
 pub fn write_text<K: Sink>(

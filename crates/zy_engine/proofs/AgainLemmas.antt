@@ -2,9 +2,9 @@
 use Rattle.std.proofs.Common.{◌≡◌, ◌∙◌, ℕ, List, IfSome, Option, Some, subst, sym, ap}
 use Rattle.std.specs.Io.KnownBytes.{Appends}
 use Rattle.zy_isa.specs.declared.choice.Choice.{Choice}
-use Rattle.zy_isa.specs.Canon.{canon}
+use Rattle.zy_text.specs.Canon.{canon}
 use Rattle.zy_isa.specs.Scenario.{Scenario, IsScenario}
-use Rattle.zy_isa.specs.Text.{Means}
+use Rattle.zy_text.specs.Text.{Means}
 use Rattle.zy_asm.proofs.CanonLemmas.{Means-canon}
 use Rattle.zy_asm.proofs.OnlyLemmas.{only, only_of}
 use Rattle.zy_audit.specs.Run.{listing_run}

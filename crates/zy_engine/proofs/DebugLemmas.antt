@@ -7,11 +7,11 @@ use Rattle.zy_io.specs.declared.reading.ReadFault.TheVariants as reading
 use Rattle.zy_io.specs.declared.writing.TextFault.{TextFault}
 use Rattle.zy_io.specs.declared.writing.TextFault.TheVariants as writing
 use Rattle.zy_isa.specs.Scenario.{Scenario}
-use Rattle.zy_isa.specs.Text.{Means}
-use Rattle.zy_isa.specs.Words.{lines_of}
+use Rattle.zy_text.specs.Text.{Means}
+use Rattle.zy_text.specs.Words.{lines_of}
 use Rattle.zy_asm.specs.Input.{input_fault}
-use Rattle.zy_check.specs.Cut.{cut}
-use Rattle.zy_check.proofs.CheckLemmas.{cut_taken}
+use Rattle.zy_text.specs.Cut.{cut}
+use Rattle.zy_text.proofs.CutLemmas.{cut_taken}
 use Rattle.zy_debug.specs.Sessions.{Session}
 use Rattle.zy_console.specs.Console.{SaysFront, WroteReplies, opened}
 use Rattle.zy_console.proofs.SaidLemmas.{said_nothing, said_stops}

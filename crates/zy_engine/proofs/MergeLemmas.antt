@@ -6,7 +6,7 @@ use Rattle.zy_table.specs.declared.entry.CommitRec.{CommitRec}
 use Rattle.zy_table.specs.Database.{Map, database}
 use Rattle.std.specs.List.{flat_map}
 use Rattle.zy_io.specs.Writing.{line_of}
-use Rattle.zy_isa.specs.Canon.{canon}
+use Rattle.zy_text.specs.Canon.{canon}
 use Rattle.zy_table.specs.declared.entry.Entry.{Entry}
 use Rattle.zy_table.specs.Play.{opening, play, entries}
 use Rattle.zy_table.specs.Run.{program_of}

@@ -6,7 +6,7 @@ use Rattle.zy_io.specs.Writing.{line_of, Wrote}
 use Rattle.zy_io.specs.declared.writing.TextFault.{TextFault}
 use Rattle.zy_io.specs.declared.writing.TextFault.TheVariants.{Write, Memory}
 use Rattle.zy_isa.specs.declared.choice.Choice.{Choice}
-use Rattle.zy_isa.specs.Canon.{canon, choice_text}
+use Rattle.zy_text.specs.Canon.{canon, choice_text}
 use Rattle.zy_isa.specs.Scenario.{Scenario}
 use Rattle.zy_disasm.specs.Lines.{head_texts, end_texts}
 use Rattle.zy_disasm.proofs.CanonLemmas.{canon-parts}

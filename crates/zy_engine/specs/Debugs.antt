@@ -2,10 +2,10 @@
 use Rattle.std.specs.Prelude.{◌≡◌, ◌+◌, ℕ, List, None, Result, IfErr, IfSome, OnOk, drop, length}
 use Rattle.std.specs.Io.KnownBytes.{Appends}
 use Rattle.zy_isa.specs.Scenario.{Scenario}
-use Rattle.zy_isa.specs.Text.{Means}
-use Rattle.zy_isa.specs.Words.{lines_of}
+use Rattle.zy_text.specs.Text.{Means}
+use Rattle.zy_text.specs.Words.{lines_of}
 use Rattle.zy_asm.specs.Input.{input_fault}
-use Rattle.zy_check.specs.Cut.{cut}
+use Rattle.zy_text.specs.Cut.{cut}
 use Rattle.zy_debug.specs.Sessions.{Session}
 use Rattle.zy_console.specs.Console.{Says, SaysFront, opened}
 use Rattle.zy_engine.specs.declared.faults.BenchFault.{BenchFault}

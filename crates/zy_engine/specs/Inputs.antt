@@ -1,7 +1,7 @@
 -- What an input stands for, in each format, and its first fault.
 use Rattle.std.specs.Prelude.{◌≡◌, ℕ, List, Some, None}
 use Rattle.zy_isa.specs.Scenario.{Scenario}
-use Rattle.zy_isa.specs.Text.{Means}
+use Rattle.zy_text.specs.Text.{Means}
 use Rattle.zy_asm.specs.Input.{input_fault}
 use Rattle.zy_asm.specs.Reasons.{fault_of}
 use Rattle.zy_image.specs.Image.{IsImage}

@@ -3,11 +3,11 @@ ghost use Rattle.std.specs.Prelude.{◌≡◌, ◌<◌, ◌≤◌, ◌+◌, None
 ghost use Rattle.std.specs.Io.KnownBytes.{Appends};
 ghost use Rattle.zy_io.specs.Streams.{WroteFront};
 ghost use Rattle.zy_isa.specs.Scenario.{Scenario as AScenario};
-ghost use Rattle.zy_isa.specs.Text.{Means};
+ghost use Rattle.zy_text.specs.Text.{Means};
 ghost use Rattle.zy_asm.specs.Input.{input_fault, utf8_fault};
 ghost use Rattle.zy_audit.specs.Run.{listing_run};
 ghost use Rattle.zy_check.specs.declared.verdict.Verdict.{Verdict as AVerdict};
-ghost use Rattle.zy_check.specs.Cut.{cut};
+ghost use Rattle.zy_text.specs.Cut.{cut};
 ghost use Rattle.zy_check.specs.Differs.{verdict as verdict_spec};
 ghost use Rattle.zy_check.specs.Verdicts.{IsVerdict};
 ghost use Rattle.zy_engine.specs.Checks.{GivesVerdict, IsBefore, WroteOrNothing, verdict_line};

@@ -1,19 +1,19 @@
 //! The engine that debugs a scenario.
 ghost use Rattle.std.specs.Prelude.{◌≡◌, ◌<◌, ◌≤◌, ◌+◌};
-ghost use Rattle.zy_isa.specs.Words.{lines_of};
+ghost use Rattle.zy_text.specs.Words.{lines_of};
 ghost use Rattle.zy_console.specs.Console.{WroteReplies, opened};
 ghost use Rattle.zy_engine.specs.Debugs.{Debugs};
 
 use crate::faults::BenchFault;
 use crate::format::{Format, accept};
 use std::alloc::Global;
-use zy_check::cut::cut_len;
 use zy_console::session::write_session;
 use zy_debug::debugger::Debugger;
 use zy_io::reading::read_all;
 use zy_io::stream::{Sink, Source};
 use zy_io::writing::TextFault;
 use zy_isa::scenario::Scenario;
+use zy_text::cut::cut_len;
 
 /// A session on a scenario: does the commands, one a line, and writes the reply to each.
 fn write_replies<K: Sink>(

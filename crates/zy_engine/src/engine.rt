@@ -1,6 +1,6 @@
 //! The engines: bytes in, bytes out. Each leaves what it has read to its caller, who can look at it again where it is refused.
 ghost use Rattle.std.specs.Prelude.{◌<◌, ◌≤◌, ◌+◌};
-ghost use Rattle.zy_isa.specs.Canon.{canon};
+ghost use Rattle.zy_text.specs.Canon.{canon};
 ghost use Rattle.zy_image.specs.Image.{image_of};
 ghost use Rattle.zy_engine.specs.declared.format.Format.TheVariants.{Text, Image};
 ghost use Rattle.zy_engine.specs.Engines.{Converts};

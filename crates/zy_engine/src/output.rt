@@ -1,6 +1,6 @@
 //! What the engines write of a scenario.
 ghost use Rattle.std.specs.Prelude.{◌<◌, ℕ, List};
-ghost use Rattle.zy_isa.specs.Canon.{canon};
+ghost use Rattle.zy_text.specs.Canon.{canon};
 ghost use Rattle.zy_isa.specs.Scenario.{Scenario as AScenario};
 ghost use Rattle.zy_image.specs.Image.{image_of};
 ghost use Rattle.zy_io.specs.Writing.{Wrote};

@@ -1,7 +1,7 @@
 //! The engine that searches the schedules of a scenario.
 ghost use Rattle.std.specs.Prelude.{◌<◌, ◌≤◌, ◌+◌, ◌++◌};
 ghost use Rattle.zy_io.specs.Writing.{Wrote};
-ghost use Rattle.zy_isa.specs.Canon.{canon};
+ghost use Rattle.zy_text.specs.Canon.{canon};
 ghost use Rattle.zy_threads.specs.Orders.{reordered};
 ghost use Rattle.zy_engine.specs.Searching.{ConvertsSearch, WroteAnswer, text_of};
 
@@ -11,7 +11,7 @@ use std::alloc::Global;
 use zy_disasm::head::Head;
 use zy_io::buffer::LineBuffer;
 use zy_io::reading::read_all;
-use zy_io::section::{Both, Each, One, Section};
+use zy_io::section::{Both, One, Section};
 use zy_io::stream::{Sink, Source};
 use zy_io::writing::TextFault;
 use zy_isa::choice::Choice;
@@ -21,6 +21,7 @@ use zy_search::answer::{Answer, Report};
 use zy_search::search::search;
 use zy_search::sought::Sought;
 use zy_search::watch::Watch;
+use zy_text::canonical::Each;
 
 /// Writes the canonical text of a scenario with more choices behind its own.
 fn write_found<K: Sink>(

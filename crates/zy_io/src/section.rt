@@ -1,5 +1,5 @@
 //! Text in lines: each is made in one buffer that is used again, and goes out whole.
-ghost use Rattle.std.specs.Prelude.{◌≡◌, ◌<◌, ◌++◌, [], ◌∷◌, ℕ, List, length, map, slice_index_or};
+ghost use Rattle.std.specs.Prelude.{◌≡◌, ◌<◌, ◌++◌, [], ◌∷◌, ℕ, List, length, slice_index_or};
 ghost use Rattle.std.specs.List.{flat_map};
 ghost use Rattle.zy_io.specs.Writing.{line_of, Appended, Gathered, Passed, Wrote};
 
@@ -154,31 +154,6 @@ pub fn write_parts<K: Sink, P: Parts>(
         parts.write_part(place, sink, line)?;
     }
     Ok(())
-}
-
-/// A line for each item.
-#[derive_where(Clone, Copy)]
-pub struct Each<'a, D>(pub &'a [D]);
-
-impl<D: Line> Lines for Each<'_, D> {
-    ghost texts = { λ s. map D.text s.0.now };
-
-    fn len(&self) -> usize {
-        self.0.len()
-    }
-
-    #[inline(always)]
-    fn append(&self, place: usize, line: &mut LineBuffer) -> Result<(), AllocError> {
-        self.0[place].append(line)
-    }
-}
-
-impl<D: Line> Section for Each<'_, D> {
-    ghost texts = { λ s. map D.text s.0.now };
-
-    fn write<K: Sink>(&self, sink: &mut K, line: &mut LineBuffer) -> Result<(), TextFault> {
-        write_lines(sink, line, self)
-    }
 }
 
 /// One line.

@@ -5,10 +5,6 @@ pub mod Programs
 pub mod Choices
 pub mod Rows
 pub mod Scenario
-pub mod Words
-pub mod Names
 pub mod Operations
-pub mod Canon
 pub mod InstrWords
 pub mod WordFields
-pub mod Text

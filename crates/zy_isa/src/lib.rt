@@ -1,9 +1,8 @@
-//! Instructions and their words, programs, choices and scenarios, and what a text means.
+//! Values: rows, registers, instructions and their words, programs, choices and scenarios.
 #![tactic(auto)]
 
 pub mod choice;
 pub mod instr;
-mod line;
 pub mod node;
 pub mod operation;
 pub mod program;

@@ -1,13 +1,10 @@
 //! The operations: what each is in an image and in a text, which operands it takes, and the instruction that it makes with them.
 ghost use Rattle.std.specs.Prelude.{◌≡◌};
 ghost use Rattle.std.specs.Str.{bytes_eq};
-ghost use Rattle.zy_isa.specs.Operations.{opcode as opcode_spec, mnemonic, coded as coded_spec, named as named_spec, named_in as named_in_spec, is_of as is_of_spec, since as since_spec, operation_of, parts_of, instr_with};
+ghost use Rattle.zy_isa.specs.Operations.{opcode as opcode_spec, coded as coded_spec, named as named_spec, named_in as named_in_spec, is_of as is_of_spec, since as since_spec, operation_of, parts_of, instr_with};
 
 use crate::instr::{Instr, Reg};
 use crate::version::Version;
-use std::alloc::AllocError;
-use zy_io::buffer::LineBuffer;
-use zy_io::line::Line;
 
 /// An operation on a register and a number.
 #[derive(Clone, Copy, Debug, PartialEq, Eq)]
@@ -161,26 +158,6 @@ impl Operation {
             Some(operation)
         } else {
             None
-        }
-    }
-}
-
-/// Its word in a text.
-impl Line for Operation {
-    ghost text = { mnemonic };
-
-    #[inline(always)]
-    fn append(&self, line: &mut LineBuffer) -> Result<(), AllocError> {
-        match self {
-            Operation::Number(NumberOperation::Set) => "set".append(line),
-            Operation::Pair(PairOperation::Read) => "read".append(line),
-            Operation::Pair(PairOperation::Write) => "write".append(line),
-            Operation::Pair(PairOperation::Insert) => "insert".append(line),
-            Operation::Pair(PairOperation::Add) => "add".append(line),
-            Operation::Pair(PairOperation::Sum) => "sum".append(line),
-            Operation::Jump(JumpOperation::Beq) => "beq".append(line),
-            Operation::Lone(LoneOperation::Commit) => "commit".append(line),
-            Operation::Lone(LoneOperation::Abort) => "abort".append(line),
         }
     }
 }

@@ -1,11 +1,8 @@
 //! The versions of scenarios, and how each is spelled.
-ghost use Rattle.std.specs.Prelude.{◌≡◌, [], ◌∷◌};
-ghost use Rattle.zy_isa.specs.Versions.{number as number_spec, digit as digit_spec, word, magic as magic_spec, numbered as numbered_spec, named as named_spec, marked as marked_spec, has_since as has_since_spec};
+ghost use Rattle.std.specs.Prelude.{◌≡◌};
+ghost use Rattle.zy_isa.specs.Versions.{number as number_spec, digit as digit_spec, magic as magic_spec, numbered as numbered_spec, named as named_spec, marked as marked_spec, has_since as has_since_spec};
 
 use crate::operation::is;
-use std::alloc::AllocError;
-use zy_io::buffer::LineBuffer;
-use zy_io::line::Line;
 
 /// A version of scenarios. A later one has all that an earlier one has.
 #[derive(Clone, Copy, Debug, PartialEq, Eq)]
@@ -38,8 +35,8 @@ impl Version {
         }
     }
 
-    /// Its number as a character of a text.
-    fn digit(self) -> u8
+    /// Its number as a character, which is its word in a text.
+    pub fn digit(self) -> u8
         ensures { result ≡ digit_spec self }
     {
         b'0' + self.number()
@@ -88,14 +85,5 @@ impl Version {
             (Version::Two, Version::Two) => true,
             (Version::One, _) => true,
         }
-    }
-}
-
-/// Its word in a text.
-impl Line for Version {
-    ghost text = { word };
-
-    fn append(&self, line: &mut LineBuffer) -> Result<(), AllocError> {
-        self.digit().append(line)
     }
 }

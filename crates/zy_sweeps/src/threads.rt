@@ -12,7 +12,6 @@ use std::sync::Wait;
 use std::thread::Threads;
 use zy_audit::listing::write_listing;
 use zy_check::check::check;
-use zy_check::cut::cut_len;
 use zy_check::verdict::Verdict;
 use zy_engine::engine::run_bytes;
 use zy_engine::faults::BenchFault;
@@ -22,6 +21,7 @@ use zy_io::memory::{SliceSource, VecSink};
 use zy_isa::choice::Choice;
 use zy_isa::scenario::Scenario;
 use zy_machine::machine::Machine;
+use zy_text::cut::cut_len;
 use zy_threads::gate::{FreeGate, Gate};
 use zy_threads::run::run_threads;
 

@@ -10,7 +10,7 @@ use Rattle.zy_isa.specs.declared.choice.Choice.{Choice}
 use Rattle.zy_isa.specs.declared.choice.Choice.TheVariants.{Start}
 use Rattle.zy_isa.specs.Scenario.{Scenario}
 use Rattle.zy_isa.specs.Scenario.{IsScenario}
-use Rattle.zy_isa.specs.Canon.{canon, choice_text}
+use Rattle.zy_text.specs.Canon.{canon, choice_text}
 use Rattle.zy_table.specs.declared.entry.Entry.{Entry}
 use Rattle.zy_table.specs.Play.{step, opening, play, entry_of}
 use Rattle.zy_laws.specs.Counts.{Safe}

@@ -4,7 +4,7 @@ ghost use Rattle.std.specs.List.{flat_map};
 ghost use Rattle.zy_io.specs.Writing.{line_of, Wrote};
 ghost use Rattle.zy_table.specs.Play.{opening};
 ghost use Rattle.zy_trace.specs.Subjects.{state_lines};
-ghost use Rattle.zy_isa.specs.Canon.{canon};
+ghost use Rattle.zy_text.specs.Canon.{canon};
 ghost use Rattle.zy_trace.specs.Trace.{steps_lines, trace as trace_spec, trace_from, trace_lines};
 
 use crate::since::{Since, Texts, append_since};
@@ -15,11 +15,12 @@ use zy_audit::lines::serial::SerialLine;
 use zy_audit::serial::same;
 use zy_disasm::head::Head;
 use zy_io::buffer::LineBuffer;
-use zy_io::section::{Both, Each, One, Section};
+use zy_io::section::{Both, One, Section};
 use zy_io::stream::Sink;
 use zy_io::writing::{TextFault, write_all};
 use zy_isa::scenario::Scenario;
 use zy_machine::machine::Machine;
+use zy_text::canonical::Each;
 
 /// The lines of a machine's state.
 #[derive(Clone, Copy)]

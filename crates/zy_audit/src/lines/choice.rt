@@ -1,12 +1,13 @@
 //! Choices. Most of them run an instruction, so that the words of those are one piece.
 ghost use Rattle.std.specs.Prelude.{◌++◌, codes};
-ghost use Rattle.zy_isa.specs.Canon.{choice_text};
+ghost use Rattle.zy_text.specs.Canon.{choice_text};
 
 use std::alloc::AllocError;
 use zy_io::buffer::LineBuffer;
 use zy_io::line::{Decimal, Joined, Line};
 use zy_isa::choice::Choice;
 use zy_isa::node::Node;
+use zy_text::canonical::Canonical;
 
 /// A choice.
 #[derive(Clone, Copy)]
@@ -20,7 +21,7 @@ impl Line for ChoiceText {
         match self.0 {
             Choice::Run(Node::A, t) => Joined("A run ", Decimal(t)).append(line),
             Choice::Run(Node::B, t) => Joined("B run ", Decimal(t)).append(line),
-            choice => choice.append(line),
+            choice => Canonical(choice).append(line),
         }
     }
 }
@@ -37,7 +38,7 @@ impl Line for SpacedChoice {
         match self.0 {
             Choice::Run(Node::A, t) => Joined(" A run ", Decimal(t)).append(line),
             Choice::Run(Node::B, t) => Joined(" B run ", Decimal(t)).append(line),
-            choice => Joined(b' ', choice).append(line),
+            choice => Joined(b' ', Canonical(choice)).append(line),
         }
     }
 }

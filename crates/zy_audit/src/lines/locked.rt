@@ -9,6 +9,7 @@ use zy_io::line::{Decimal, Joined, Line};
 use zy_isa::node::Node;
 use zy_locks::lock::{Lock, LockKind};
 use zy_machine::machine::Machine;
+use zy_text::canonical::Canonical;
 
 /// How a page is locked: `s` or `x`.
 #[derive(Clone, Copy)]
@@ -38,7 +39,7 @@ impl Line for LockText {
     fn append(&self, line: &mut LineBuffer) -> Result<(), AllocError> {
         let Lock { page: _, txn, kind } = self.lock;
         let holder = Joined(Decimal(txn), Joined(b':', KindText(kind)));
-        Joined(b' ', Joined(self.node, Joined(b':', holder))).append(line)
+        Joined(b' ', Joined(Canonical(self.node), Joined(b':', holder))).append(line)
     }
 }
 

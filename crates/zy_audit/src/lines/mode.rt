@@ -7,6 +7,7 @@ use zy_io::buffer::LineBuffer;
 use zy_io::line::{Joined, Line};
 use zy_isa::node::Node;
 use zy_modes::mode::NodeMode;
+use zy_text::canonical::Canonical;
 
 /// A node and its mode.
 #[derive(Clone, Copy)]
@@ -21,7 +22,7 @@ impl Line for ModeLine {
     fn append(&self, line: &mut LineBuffer) -> Result<(), AllocError> {
         Joined(
             "mode ",
-            Joined(self.node, Joined(b' ', ModeText(self.mode))),
+            Joined(Canonical(self.node), Joined(b' ', ModeText(self.mode))),
         )
         .append(line)
     }

@@ -15,6 +15,7 @@ use zy_io::writing::TextFault;
 use zy_links::kind::Kind;
 use zy_table::entry::Entry;
 use zy_table::outcome::Outcome;
+use zy_text::canonical::Canonical;
 
 /// Which page was cut, its new upper part, and where.
 #[derive(Clone, Copy)]
@@ -44,7 +45,7 @@ impl Line for OutcomeText {
         match self.0 {
             Outcome::Started => "started".append(line),
             Outcome::BadMode => "badmode".append(line),
-            Outcome::Began(node) => Joined("began ", node).append(line),
+            Outcome::Began(node) => Joined("began ", Canonical(node)).append(line),
             Outcome::Idle => "idle".append(line),
             Outcome::Elsewhere => "elsewhere".append(line),
             Outcome::NotYet => "notyet".append(line),

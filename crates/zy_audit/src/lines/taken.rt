@@ -1,6 +1,6 @@
 //! The choices that were made.
 ghost use Rattle.std.specs.Prelude.{map};
-ghost use Rattle.zy_isa.specs.Canon.{choice_text};
+ghost use Rattle.zy_text.specs.Canon.{choice_text};
 ghost use Rattle.zy_machine.specs.Histories.{choices_of};
 
 use crate::lines::choice::ChoiceText;

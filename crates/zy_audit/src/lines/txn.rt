@@ -16,6 +16,7 @@ use zy_machine::machine::Machine;
 use zy_table::entry::CommitRec;
 use zy_table::outcome::Why;
 use zy_table::status::Status;
+use zy_text::canonical::Canonical;
 use zy_txns::txn::Txn;
 
 /// The index of a transaction's commit.
@@ -63,7 +64,7 @@ impl Line for ActiveText<'_> {
             " pc ",
             Joined(Decimal(txn.place()), Joined(DoneText(txn), rows)),
         );
-        Joined(" active ", Joined(txn.node(), place)).append(line)
+        Joined(" active ", Joined(Canonical(txn.node()), place)).append(line)
     }
 }
 
@@ -79,7 +80,7 @@ impl Line for CommittedText<'_> {
 
     fn append(&self, line: &mut LineBuffer) -> Result<(), AllocError> {
         let place = Joined(b' ', Joined(Decimal(self.place), DoneText(self.txn)));
-        Joined(" committed ", Joined(self.txn.node(), place)).append(line)
+        Joined(" committed ", Joined(Canonical(self.txn.node()), place)).append(line)
     }
 }
 
@@ -95,7 +96,7 @@ impl Line for AbortedText<'_> {
 
     fn append(&self, line: &mut LineBuffer) -> Result<(), AllocError> {
         let why = Joined(b' ', Joined(WhyText(self.why), DoneText(self.txn)));
-        Joined(" aborted ", Joined(self.txn.node(), why)).append(line)
+        Joined(" aborted ", Joined(Canonical(self.txn.node()), why)).append(line)
     }
 }
 

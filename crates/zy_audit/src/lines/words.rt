@@ -9,6 +9,7 @@ use zy_links::kind::Kind;
 use zy_modes::mode::NodeMode;
 use zy_table::outcome::Why;
 use zy_table::place::Place;
+use zy_text::canonical::Canonical;
 
 /// Why a transaction was aborted.
 #[derive(Clone, Copy)]
@@ -97,7 +98,7 @@ impl Line for PlaceText {
     fn append(&self, line: &mut LineBuffer) -> Result<(), AllocError> {
         match self.0 {
             Place::Nowhere => "nowhere".append(line),
-            Place::At(node) => node.append(line),
+            Place::At(node) => Canonical(node).append(line),
             Place::Moving(node) => LinkText(node).append(line),
         }
     }

@@ -10,9 +10,10 @@ use zy_io::buffer::LineBuffer;
 use zy_io::line::{Decimal, Joined, Line};
 use zy_io::memory::{SliceSource, VecSink};
 use zy_io::reading::{MAX_INPUT, ReadFault, read_all};
-use zy_io::section::{Both, Each, One, Parts, Section, write_line, write_lines, write_parts};
+use zy_io::section::{Both, One, Parts, Section, write_line, write_lines, write_parts};
 use zy_io::stream::{CountingReader, CountingWriter, Sink, Source};
 use zy_io::writing::{TextFault, WriteFault, write_all};
+use zy_text::canonical::{Canonical, CanonicalText, Each};
 
 /// Gives as many bytes as are left, and counts them.
 #[derive(Drop)]
@@ -36,14 +37,14 @@ impl Source for Plenty {
     }
 }
 
-/// A line of a test.
+/// A value of a test.
 #[derive(Clone, Copy)]
 struct Pair(u16, u32);
 
-impl Line for Pair {
+impl CanonicalText for Pair {
     ghost text = { λ p. decimal p.0 ++ codes "=" ++ decimal p.1 };
 
-    fn append(&self, line: &mut LineBuffer) -> Result<(), AllocError> {
+    fn append_text(&self, line: &mut LineBuffer) -> Result<(), AllocError> {
         Joined(Decimal(self.0), Joined("=", Decimal(self.1))).append(line)
     }
 }
@@ -158,8 +159,8 @@ fn write_each(sink: &mut VecSink, line: &mut LineBuffer) -> Result<(), TextFault
     requires { sink.old.1 < u64.MAX }
 {
     listing(&[Pair(3, 4), Pair(50, 60)]).write(sink, line)?;
-    write_line(sink, line, &Pair(7, 8))?;
-    write_lines(sink, line, &Each(&["9"]))?;
+    write_line(sink, line, &Canonical(Pair(7, 8)))?;
+    write_lines(sink, line, &Each(&[Pair(9, 9)]))?;
     write_parts(
         sink,
         line,
@@ -174,7 +175,7 @@ fn writes_lines(rt: HostRuntime) -> Result<(), Fail> {
     let mut sink = VecSink::new(Vec::new(rt.alloc()));
     assert!(rt; write_each(&mut sink, &mut line).is_ok());
     assert!(rt; sink.bytes().starts_with(LISTING));
-    assert!(rt; sink.bytes().ends_with(b"\nend\n7=8\n9\n0=2\n0=3\n0=4\n"));
+    assert!(rt; sink.bytes().ends_with(b"\nend\n7=8\n9=9\n0=2\n0=3\n0=4\n"));
     Ok(())
 }
 

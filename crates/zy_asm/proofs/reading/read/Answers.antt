@@ -1,11 +1,11 @@
 -- A line that was done, the fault of a line, and that of the end.
 use Rattle.std.proofs.Common.{◌∙◌, arith, ap, sym, inl, inr}
-use Rattle.zy_isa.specs.Words.{lines_of}
-use Rattle.zy_words.specs.Lines.{first_line}
+use Rattle.zy_text.specs.Words.{lines_of}
+use Rattle.zy_text.specs.Lines.{first_line}
 use Rattle.zy_asm.specs.Reasons.{kind_of}
 use Rattle.zy_asm.specs.Reading.{seen, reading, line_step}
 use Rattle.zy_asm.proofs.CodeLemmas.{empty_lines, fault_at, fault_end, line_done}
-use Rattle.zy_words.proofs.LineLemmas.{line_taken}
+use Rattle.zy_text.proofs.LineLemmas.{line_taken}
 use Rattle.zy_asm.proofs.reading.read.Goals as goal
 
 pub loop-words-preserved : goal.loop-words-preserved

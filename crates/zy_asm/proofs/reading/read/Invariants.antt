@@ -1,6 +1,6 @@
 -- What was seen and the lines that are left give what the text gives.
 use Rattle.std.proofs.Common.{◌≡◌, ◌≤◌, ◌+◌, length}
-use Rattle.zy_isa.specs.Words.{lines_of}
+use Rattle.zy_text.specs.Words.{lines_of}
 use Rattle.zy_asm.specs.Reading.{seen, reading, read_lines}
 use Rattle.zy_asm.proofs.reading.read.Given as goal
 

@@ -1,13 +1,14 @@
 -- The scenario that the front means is the one that was run.
 use Rattle.std.proofs.Common.{◌≡◌, ◌∙◌, None, take, sym, ap, subst}
 use Rattle.zy_isa.specs.Scenario.{Scenario}
-use Rattle.zy_isa.specs.Text.{Means}
+use Rattle.zy_text.specs.Text.{Means}
 use Rattle.zy_asm.specs.Input.{utf8_fault, input_fault}
 use Rattle.zy_audit.specs.Run.{listing_run}
 use Rattle.std.proofs.lemmas.Result.{err_from_is_err_and}
 use Rattle.zy_check.specs.Differs.{verdict}
 use Rattle.zy_check.specs.Faults.{of_refusal, IsOfScenario}
-use Rattle.zy_check.proofs.CheckLemmas.{cut_taken, one_verdict, memory_gives, refusal_told}
+use Rattle.zy_text.proofs.CutLemmas.{cut_taken}
+use Rattle.zy_check.proofs.CheckLemmas.{one_verdict, memory_gives, refusal_told}
 use Rattle.zy_check.proofs.check.verdict_of.Goals as goal
 
 pub returns-in_err-scenario-clause-only : goal.returns-in_err-scenario-clause-only

@@ -1,5 +1,4 @@
-use Rattle.zy_check.proofs.LawLemmas.{cut-run, run-table}
-use Rattle.zy_check.proofs.CanonCut.{canon-utf8}
+use Rattle.zy_check.proofs.LawLemmas.{canon-utf8, cut-run, run-table}
 use Rattle.zy_check.proofs.laws.runs_are_tables.Goals as goal
 
 pub returns-clause-front : goal.returns-clause-front

@@ -3,9 +3,9 @@ use Rattle.std.proofs.Common.{◌∙◌, sym, subst, arith}
 use Rattle.std.proofs.lemmas.Result.{err_from_is_err_and}
 use Rattle.std.specs.Io.KnownBytes.{Appends}
 use Rattle.zy_io.specs.Streams.{WroteFront}
-use Rattle.zy_isa.specs.Words.{lines_of, words_of}
-use Rattle.zy_words.specs.Lines.{first_line}
-use Rattle.zy_words.proofs.LineLemmas.{line_taken}
+use Rattle.zy_text.specs.Words.{lines_of, words_of}
+use Rattle.zy_text.specs.Lines.{first_line}
+use Rattle.zy_text.proofs.LineLemmas.{line_taken}
 use Rattle.zy_console.specs.Console.{LineSays}
 use Rattle.zy_console.proofs.SaidLemmas.{said_more, said_stops, said_torn, says_first}
 use Rattle.zy_console.proofs.session.write_session.Goals as goal

@@ -1,6 +1,6 @@
 -- What the lines that were read say went out, and the others are left.
 use Rattle.std.proofs.Common.{◌≡◌, length}
-use Rattle.zy_isa.specs.Words.{lines_of}
+use Rattle.zy_text.specs.Words.{lines_of}
 use Rattle.zy_console.proofs.SaidLemmas.{Said}
 use Rattle.zy_console.proofs.session.write_session.Given as goal
 

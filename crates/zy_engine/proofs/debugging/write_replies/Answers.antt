@@ -1,7 +1,7 @@
 -- The session begins at the start.
 use Rattle.std.proofs.Common.{refl, subst}
 use Rattle.std.proofs.lemmas.Result.{err_from_is_err_and}
-use Rattle.zy_isa.specs.Words.{lines_of}
+use Rattle.zy_text.specs.Words.{lines_of}
 use Rattle.zy_console.specs.Console.{WroteSession, opened}
 use Rattle.zy_engine.proofs.DebugLemmas.{nothing_said}
 use Rattle.zy_engine.proofs.debugging.write_replies.Goals as goal

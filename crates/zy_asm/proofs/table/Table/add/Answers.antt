@@ -1,7 +1,7 @@
 -- A new name goes last.
 use Rattle.std.proofs.Common.{◌≡◌, ◌∙◌, ap, List, ℕ, ◌++◌, ◌∷◌, []}
 use Rattle.indexmap.proofs.CallerLemmas.{insert_entry-new}
-use Rattle.zy_isa.specs.Names.{Mark, place}
+use Rattle.zy_text.specs.Names.{Mark, place}
 use Rattle.zy_asm.proofs.NameLemmas.{lookup-place, entries-add}
 use Rattle.zy_asm.proofs.table.Table.add.Goals as goal
 

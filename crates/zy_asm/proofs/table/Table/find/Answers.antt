@@ -1,6 +1,6 @@
 -- A look-up in the map is one in the table.
 use Rattle.std.proofs.Common.{◌∙◌, ap}
-use Rattle.zy_isa.specs.Names.{place}
+use Rattle.zy_text.specs.Names.{place}
 use Rattle.zy_asm.proofs.NameLemmas.{lookup-place}
 use Rattle.zy_asm.proofs.table.Table.find.Goals as goal
 

@@ -1,4 +1,0 @@
-pub mod LabelLemmas
-pub mod FeedLemmas
-pub mod LineLemmas
-pub mod KeptLemmas
