@@ -1,6 +1,6 @@
 -- Each transaction that runs has come as far as its lone run on the database, which is that of the committed programs.
 use Rattle.zy_table.specs.Take.{is_held}
-use Rattle.std.proofs.Common.{List, [], ap, false, inl, inr, subst, sym, true, ℕ, ◌++◌, ◌∙◌, ◌∷◌, ◌≡◌}
+use Rattle.std.proofs.Common.{List, [], ap, inl, inr, subst, sym, true, ℕ, ◌++◌, ◌∙◌, ◌∷◌, ◌≡◌}
 use Rattle.std.specs.Prelude.{slice_set}
 use Rattle.std.proofs.lemmas.Bool.{cases_eq, false≢true}
 use Rattle.zy_isa.specs.Scenario.{Scenario}

@@ -1,6 +1,6 @@
 -- Each row of the table keeps the transactions along their lone runs.
 use Rattle.std.proofs.Common.{List, [], add-one, ap, length, false, inl, inr, refl, subst, sym, true, ℕ, ◌%◌, ◌+◌, ◌^◌, ◌∙◌, ◌++◌, ◌∷◌, ◌≡◌}
-use Rattle.std.specs.Prelude.{None, Option, Some, if◌then◌else◌, is_some, nat_lt, replicate, slice_get, slice_set, unwrap_or, ◌==◌, ◌||◌}
+use Rattle.std.specs.Prelude.{None, Option, Some, is_some, nat_lt, replicate, slice_get, slice_set, unwrap_or, ◌==◌, ◌||◌}
 use Rattle.std.specs.FinMap.{get}
 use Rattle.std.proofs.lemmas.Bool.{cases_eq, eqb-true, false≢true, or_cases}
 use Rattle.zy_isa.specs.Rows.{get_row, put_row}
