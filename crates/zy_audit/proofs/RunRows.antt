@@ -37,14 +37,16 @@ alone-over m program n (suc more) e =
     ap (alone m program) s ∙ ap (alone_step m program) (alone-over m program n more e) ∙ over_stays m program (alone m program n) e
 
 -- a row is written unless memory was wanted
-pub written-there : {E : Type 0} (r : Result (Unit {0}) E) (m : Map) (k v : ℕ) (x y : Lone) (there : Option ℕ) → x.over ≡ false → there ≡ get (laid x.rows m) k → is_some there ≡ true
+pub written-there : {E : Type 0} (r : Result (Unit {0}) E) (m : Map) (k v : ℕ) (x y : Lone) (there : Option ℕ)
+    → x.over ≡ false → there ≡ get (laid x.rows m) k → is_some there ≡ true
     → OnOk r (y ≡ record x { pc = x.pc + 1; rows = put_row k v x.rows }) → OnOk r (on_map m y ≡ alone_access m (Writes v) k (on_map m x))
 written-there (Ok u) m k v x y there on e is put =
     let here : is_some (get (laid x.rows m) k) ≡ true = ap is_some (sym e) ∙ is in
     rw (here, put, on, laid_put m x.rows k v) refl
 written-there (Err e0) m k v x y there on e is put = tt
 
-pub inserted-new : {E : Type 0} (r : Result (Unit {0}) E) (m : Map) (k v : ℕ) (x y : Lone) (there : Option ℕ) → x.over ≡ false → there ≡ get (laid x.rows m) k → is_some there ≡ false
+pub inserted-new : {E : Type 0} (r : Result (Unit {0}) E) (m : Map) (k v : ℕ) (x y : Lone) (there : Option ℕ)
+    → x.over ≡ false → there ≡ get (laid x.rows m) k → is_some there ≡ false
     → OnOk r (y ≡ record x { pc = x.pc + 1; rows = put_row k v x.rows }) → OnOk r (on_map m y ≡ alone_access m (Inserts v) k (on_map m x))
 inserted-new (Ok u) m k v x y there on e is put =
     let none : is_some (get (laid x.rows m) k) ≡ false = ap is_some (sym e) ∙ is in

@@ -182,7 +182,8 @@ impl LoneRun {
     fn sum(&mut self, table: &Table, r: Reg, first: u32, last: u32)
         requires on { self.old.over ≡ false }
         requires place { self.old.pc + 1 < 2 ^ 32 }
-        ensures { let m = map_of table.now in on_map m self.new ≡ alone_effect m (Sums r first last) (on_map m self.old) }
+        ensures { let m = map_of table.now in
+            on_map m self.new ≡ alone_effect m (Sums r first last) (on_map m self.old) }
     {
         if last < first {
             self.set(r, 0);

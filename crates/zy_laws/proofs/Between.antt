@@ -95,7 +95,8 @@ asked_event sc n o v w lows k a (Gets t r key runs f e) told = rw e (asked_same 
 asked_event sc n o v w lows k a (SumsUp t r first last runs f e) told = rw e (asked_same v.me _ refl refl refl (λ p. refl) a)
 asked_event sc n o v w lows k a (Writes t key value runs f there e) told = rw e (asked_same v.me _ refl refl refl (λ p. refl) a)
 asked_event sc n o v w lows k a (Inserts t key value runs f new room e) told = rw e (asked_same v.me _ refl refl refl (λ p. refl) a)
-asked_event sc n o v w lows k a (Splits t key value runs f new full normal pages e) told = rw e (asked_none _ (a.none (ap may_pull (splits_in_normal v.me.mode normal))))
+asked_event sc n o v w lows k a (Splits t key value runs f new full normal pages e) told =
+    rw e (asked_none _ (a.none (ap may_pull (splits_in_normal v.me.mode normal))))
 asked_event sc n o v w lows k a (Commits t runs all e) told = rw e (asked_same v.me _ refl refl refl (λ p. owns-installed v.me.lows (txn_at v t).rows v.me.pages p) a)
 asked_event sc n o v w lows k a (Asks p gone pulls new e) told =
     let first : v.me.lows ≡ 0 ∷ k.first.0 = k.mine.newest (pulls_busy v.me.mode pulls) ∙ k.first.1 in

@@ -102,7 +102,8 @@ commit_serial sc n v start lows t s runs =
     let regs : (alone (db v) program x.done).regs ≡ x.regs = run.regs ∙ ap (λ (y : Lone). y.regs) m.run in
     let pc : (alone (db v) program x.done).pc ≡ x.pc = run.pc ∙ ap (λ (y : Lone). y.pc) m.run in
     let last : (alone (db v) program (suc x.done)).map ≡ laid x.rows (db v) =
-    alone_commit (db v) program runs.instr (alone (db v) program x.done) run.over (ap (slice_get program) pc ∙ runs.next) (ap (effect_of runs.instr) regs ∙ runs.does) ∙ run.map ∙ ap (λ r. laid r (db v)) rows in
+    alone_commit (db v) program runs.instr (alone (db v) program x.done) run.over (ap (slice_get program) pc ∙ runs.next) (ap (effect_of runs.instr) regs ∙ runs.does)
+    ∙ run.map ∙ ap (λ r. laid r (db v)) rows in
     let both : db (committed t v) ≡ laid x.rows (db v) = same_map nat_cmp_total nat_cmp-IsAntisymmetric _ _ (λ k. commit_db sc n v lows t s.kept s.held at k ∙ sym (get-laid x.rows (db v) k)) in
     both ∙ sym last ∙ ap (λ j. (alone (db v) program j).map) (sym (add-one x.done)) ∙ ap (λ d. (alone d program (x.done + 1)).map) s.is_serial
     ∙ sym (serial-push sc start v.commits (record { txn = t; done = x.done + 1 }))
@@ -150,7 +151,8 @@ committed_regs sc n v start lows t s runs =
     let regs : (alone (db v) program x.done).regs ≡ x.regs = run.regs ∙ ap (λ (y : Lone). y.regs) f.run in
     let pc : (alone (db v) program x.done).pc ≡ x.pc = run.pc ∙ ap (λ (y : Lone). y.pc) f.run in
     sym (ap (λ d. (alone d program (x.done + 1)).regs) (sym s.is_serial) ∙ ap (λ j. (alone (db v) program j).regs) (add-one x.done)
-    ∙ alone_last (db v) program runs.instr (alone (db v) program x.done) run.over (ap (slice_get program) pc ∙ runs.next) (ap (effect_of runs.instr) regs ∙ runs.does) ∙ regs)
+    ∙ alone_last (db v) program runs.instr (alone (db v) program x.done) run.over (ap (slice_get program) pc ∙ runs.next) (ap (effect_of runs.instr) regs ∙ runs.does)
+    ∙ regs)
 
 commit_registers : (sc : Scenario) (n : Node) (v : View) (start : Map) (lows : List ℕ) (t : ℕ) → Serially sc n v start lows → Runs sc n t Commits v
     → Registers sc (txn_at (committed t v)) start (committed t v).commits

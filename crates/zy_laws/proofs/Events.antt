@@ -110,7 +110,8 @@ pub data Event (sc : Scenario) (n : Node) (v w : View) : Type 0 where
   Rests : w ≡ v → Event sc n v w
   Begins : (t : ℕ) (h : Node) → n ≡ A → is_new (txn_at v t).status ≡ true → home_of v.me.mode v.them.mode ≡ Some h → w ≡ begun h t v → Event sc n v w
   Aborts : (t : ℕ) (y : Why) → is_active (txn_at v t).status ≡ true → (txn_at v t).node ≡ n → w ≡ aborted t y v → Event sc n v w
-  GoesOn : (t : ℕ) (x : Effect) (pc : ℕ) (regs : List ℕ) → Runs sc n t x v → Leads x (txn_at v t) pc regs → w ≡ did t pc regs (txn_at v t).rows v → Event sc n v w
+  GoesOn : (t : ℕ) (x : Effect) (pc : ℕ) (regs : List ℕ) → Runs sc n t x v → Leads x (txn_at v t) pc regs
+      → w ≡ did t pc regs (txn_at v t).rows v → Event sc n v w
   Gets : (t : ℕ) (r : Reg) (k : ℕ) → Runs sc n t (effect.Accesses (Reads r) k) v → Free t k Shared v
       → w ≡ did t ((txn_at v t).pc + 1) (with_reg r (value_at t k v) (txn_at v t).regs) (txn_at v t).rows (has_lock t k Shared v)
       → Event sc n v w
@@ -201,7 +202,13 @@ aborts_locked : (sc : Scenario) (n : Node) (t p : ℕ) (kind : LockKind) (y : Wh
 unfolding abort_row
 aborts_locked sc n t p kind y v a h g = plain sc n v _ (Aborts t y a h (aborted-locked t p kind y v)) g refl tt
 
-full_happens : (sc : Scenario) (n : Node) (t k x : ℕ) (v : View) → Runs sc n t (effect.Accesses (access.Inserts x) k) v → Free t k Exclusive v → is_there k (page k v) v.me (txn_at v t) ≡ false → has_room sc (page k v) v.me (txn_at v t) ≡ false
+-- an effect that needs no page
+goes_on : (sc : Scenario) (n : Node) (t : ℕ) (e : Effect) (pc : ℕ) (regs : List ℕ) (v : View) → Runs sc n t e v → Leads e (txn_at v t) pc regs
+    → Happens sc n v (quiet (did t pc regs (txn_at v t).rows v) outcome.Did)
+goes_on sc n t e pc regs v runs leads = plain sc n v _ (GoesOn t e pc regs runs leads refl) refl refl tt
+
+full_happens : (sc : Scenario) (n : Node) (t k x : ℕ) (v : View) → Runs sc n t (effect.Accesses (access.Inserts x) k) v → Free t k Exclusive v
+    → is_there k (page k v) v.me (txn_at v t) ≡ false → has_room sc (page k v) v.me (txn_at v t) ≡ false
     → Happens sc n v (full_row sc t k (page k v) (has_lock t k Exclusive v))
 unfolding full_row split_row locked txn_at
 full_happens sc n t k x v runs f new full =
@@ -280,7 +287,9 @@ sum_waits_happens : (sc : Scenario) (n : Node) (t : ℕ) (r : Reg) (a b : ℕ) (
 unfolding sum_or_waits sum_row set_row shares txn_at
 sum_waits_happens sc n t r a b (Some p) v e runs rises small here = rests sc n v _ refl refl
 sum_waits_happens sc n t r a b None v e runs rises small here =
-    plain sc n v _ (SumsUp t r a b runs (record { rises = rises; small = small; here = here; free = λ p h. none_passes (λ (z : ℕ). conflict v.me.locks z t Shared) (range_pages v.me.lows a b) p (sym e) h }) refl) refl refl tt
+    let taken : ℕ → Bool = λ z. conflict v.me.locks z t Shared in
+    let free : FreeRange t a b v = record { rises = rises; small = small; here = here; free = λ p h. none_passes taken (range_pages v.me.lows a b) p (sym e) h } in
+    plain sc n v _ (SumsUp t r a b runs free refl) refl refl tt
 
 sum_asks_happens : (sc : Scenario) (n : Node) (t : ℕ) (r : Reg) (a b : ℕ) (o : Option ℕ) (v : View) → o ≡ first_absent v.me.pages (range_pages v.me.lows a b)
     → Runs sc n t (effect.Sums r a b) v → nat_lt b a ≡ false → nat_lt 65535 b ≡ false
@@ -288,13 +297,14 @@ sum_asks_happens : (sc : Scenario) (n : Node) (t : ℕ) (r : Reg) (a b : ℕ) (o
 unfolding sum_or_asks
 sum_asks_happens sc n t r a b (Some p) v e runs rises small = sum_absent sc n t a b p (effect.Sums r a b) v runs (sym e)
 sum_asks_happens sc n t r a b None v e runs rises small =
-    sum_waits_happens sc n t r a b _ v refl runs rises small (λ p h. not-false _ (none_passes (λ (z : ℕ). not (owns v.me.pages z)) (range_pages v.me.lows a b) p (sym e) h))
+    let absent : ℕ → Bool = λ z. not (owns v.me.pages z) in
+    sum_waits_happens sc n t r a b _ v refl runs rises small (λ p h. not-false _ (none_passes absent (range_pages v.me.lows a b) p (sym e) h))
 
 range_happens : (sc : Scenario) (n : Node) (t : ℕ) (r : Reg) (a b : ℕ) (v : View) → Runs sc n t (effect.Sums r a b) v → Happens sc n v (range_row t r a b v)
 unfolding range_row set_row
 range_happens sc n t r a b v runs =
     cond_both (nat_lt b a) _ _ (Happens sc n v)
-    (λ none. plain sc n v _ (GoesOn t (effect.Sums r a b) ((txn_at v t).pc + 1) (with_reg r 0 (txn_at v t).regs) runs (BySum r a b refl none refl refl) refl) refl refl tt)
+    (λ none. goes_on sc n t (effect.Sums r a b) ((txn_at v t).pc + 1) (with_reg r 0 (txn_at v t).regs) v runs (BySum r a b refl none refl refl))
     (λ rises. cond_both (nat_lt 65535 b) _ _ (Happens sc n v)
     (λ _. aborts sc n t _ v runs.active runs.here (λ e. never e))
     (λ small. sum_asks_happens sc n t r a b _ v refl runs rises small))
@@ -322,9 +332,9 @@ commit_happens sc n t None v e r = plain sc n v _ (Commits t r (sym e) refl) ref
 effect_happens : (sc : Scenario) (n : Node) (t : ℕ) (e : Effect) (v : View) → Runs sc n t e v → Happens sc n v (effect_row sc t e v)
 unfolding effect_row set_row jump_row commit_row
 effect_happens sc n t (effect.Sets r x) v runs =
-    plain sc n v _ (GoesOn t (effect.Sets r x) ((txn_at v t).pc + 1) (with_reg r x (txn_at v t).regs) runs (BySet r x refl refl refl) refl) refl refl tt
+    goes_on sc n t (effect.Sets r x) ((txn_at v t).pc + 1) (with_reg r x (txn_at v t).regs) v runs (BySet r x refl refl refl)
 effect_happens sc n t (effect.Jumps taken to) v runs =
-    plain sc n v _ (GoesOn t (effect.Jumps taken to) (if taken then to else (txn_at v t).pc + 1) (txn_at v t).regs runs (ByJump taken to refl refl refl) refl) refl refl tt
+    goes_on sc n t (effect.Jumps taken to) (if taken then to else (txn_at v t).pc + 1) (txn_at v t).regs v runs (ByJump taken to refl refl refl)
 effect_happens sc n t (effect.Accesses i k) v runs = key_happens sc n t k i v runs
 effect_happens sc n t (effect.Sums r a b) v runs = range_happens sc n t r a b v runs
 effect_happens sc n t effect.Commits v runs = commit_happens sc n t _ v refl runs
@@ -351,7 +361,8 @@ run_happens sc n t v =
     (λ _. rests sc n v _ refl refl)
     (λ h. cond_both (is_waiting v.me.mode) _ _ (Happens sc n v)
     (λ _. rests sc n v _ refl refl)
-    (λ b. instr_happens sc n t _ v (λ i e. record { instr = i; active = not-false _ a; here = same_node-true _ _ (not-false _ h); begun = b; next = e; does = refl }))))
+    (λ b. instr_happens sc n t _ v (λ i e.
+    record { instr = i; active = not-false _ a; here = same_node-true _ _ (not-false _ h); begun = b; next = e; does = refl }))))
 
 -- the client's lines
 start_happens : (sc : Scenario) (n : Node) (v : View) → (sc.version ≡ One → n ≡ A) → Happens sc n v (start_row v)

@@ -203,8 +203,10 @@ fit_event sc n v w lows two k f (Aborts t y active here e) = fit_along sc n w _ 
 fit_event sc n v w lows two k f (GoesOn t x pc regs runs leads e) = fit_along sc n w _ lows e (did_fit sc n v lows t _ _ f (runs.active, runs.here))
 fit_event sc n v w lows two k f (Gets t r key runs g e) = fit_along sc n w _ lows e (get_fit sc n v lows t key _ _ Shared f (runs.active, runs.here))
 fit_event sc n v w lows two k f (SumsUp t r first last runs g e) = fit_along sc n w _ lows e (sum_fit sc n v lows t _ _ _ f (runs.active, runs.here))
-fit_event sc n v w lows two k f (Writes t key value runs g there e) = fit_along sc n w _ lows e (put_fit sc n v lows t key value k f (runs.active, runs.here) (inl there))
-fit_event sc n v w lows two k f (Inserts t key value runs g new room e) = fit_along sc n w _ lows e (put_fit sc n v lows t key value k f (runs.active, runs.here) (inr room))
+fit_event sc n v w lows two k f (Writes t key value runs g there e) =
+    fit_along sc n w _ lows e (put_fit sc n v lows t key value k f (runs.active, runs.here) (inl there))
+fit_event sc n v w lows two k f (Inserts t key value runs g new room e) =
+    fit_along sc n w _ lows e (put_fit sc n v lows t key value k f (runs.active, runs.here) (inr room))
 fit_event sc n v w lows two k f (Splits t key value runs g new full normal pages e) =
     let at : IsAt v t n = (runs.active, runs.here) in
     let p = page key v in

@@ -76,14 +76,16 @@ next_run : (d : Map) (program : List Instr) (x : Txn) (keys : List ℕ) (i : Ins
     → slice_get program x.pc ≡ Some i → effect_of i x.regs ≡ e → lone_effect d e (lone_at x keys) ≡ y → lone d program (x.done + 1) ≡ y
 unfolding lone_step lone_instr
 next_run d program x keys i e y run is does h =
-    ap (lone d program) (add-one x.done) ∙ ap (lone_step d program) run ∙ ap (λ o. lone_instr d o (lone_at x keys)) is ∙ ap (λ z. lone_effect d z (lone_at x keys)) does ∙ h
+    ap (lone d program) (add-one x.done) ∙ ap (lone_step d program) run ∙ ap (λ o. lone_instr d o (lone_at x keys)) is
+    ∙ ap (λ z. lone_effect d z (lone_at x keys)) does ∙ h
 
 -- an effect that needs no page
 plain_follows : (program : List Instr) (d : Map) (lows : List ℕ) (locks : List Lock) (t pc : ℕ) (regs : List ℕ) (x : Txn) (i : Instr) (e : Effect)
     → slice_get program x.pc ≡ Some i → effect_of i x.regs ≡ e
     → ((keys : List ℕ) → lone_effect d e (lone_at x keys) ≡ record { regs = regs; pc = pc; rows = x.rows; keys = keys; over = false })
     → Follows program d lows locks t x → Follows program d lows locks t (record x { pc = pc; regs = regs; done = x.done + 1 })
-plain_follows program d lows locks t pc regs x i e is does step f = record { keys = f.keys; run = next_run d program x f.keys i e _ f.run is does (step f.keys); covered = f.covered }
+plain_follows program d lows locks t pc regs x i e is does step f =
+    record { keys = f.keys; run = next_run d program x f.keys i e _ f.run is does (step f.keys); covered = f.covered }
 
 leads_step : (d : Map) (e : Effect) (x : Txn) (pc : ℕ) (regs keys : List ℕ) → Leads e x pc regs
     → lone_effect d e (lone_at x keys) ≡ record { regs = regs; pc = pc; rows = x.rows; keys = keys; over = false }
@@ -99,24 +101,28 @@ unfolding did
 goes_serial sc n v start lows t e pc regs s runs leads k =
     let at : IsAt v t n = (runs.active, runs.here) in
     acts_serial sc n v (did t pc regs (txn_at v t).rows v) start lows t _ s k at refl refl refl refl refl (λ p u h. h)
-    (plain_follows (program_of sc t) (db v) lows v.me.locks t pc regs (txn_at v t) runs.instr e runs.next runs.does (λ keys. leads_step (db v) e (txn_at v t) pc regs keys leads) (s.mine t at))
+    (plain_follows (program_of sc t) (db v) lows v.me.locks t pc regs (txn_at v t) runs.instr e runs.next runs.does
+    (λ keys. leads_step (db v) e (txn_at v t) pc regs keys leads) (s.mine t at))
 
 -- an access, with its lock taken
 small_read : (d : Map) (r : Reg) (k : ℕ) (x : Txn) (keys : List ℕ) (value : ℕ) → nat_lt 65535 k ≡ false
     → value ≡ unwrap_or (or_else (get_row x.rows k) (get d k)) 0
-    → lone_effect d (effect.Accesses (Reads r) k) (lone_at x keys) ≡ record { regs = with_reg r value x.regs; pc = x.pc + 1; rows = x.rows; keys = k ∷ keys; over = false }
+    → lone_effect d (effect.Accesses (Reads r) k) (lone_at x keys)
+    ≡ record { regs = with_reg r value x.regs; pc = x.pc + 1; rows = x.rows; keys = k ∷ keys; over = false }
 unfolding lone_effect
 small_read d r k x keys value small val = rw (small, val) refl
 
 small_write : (d : Map) (k value : ℕ) (x : Txn) (keys : List ℕ) → nat_lt 65535 k ≡ false
     → is_some (or_else (get_row x.rows k) (get d k)) ≡ true
-    → lone_effect d (effect.Accesses (access.Writes value) k) (lone_at x keys) ≡ record { regs = x.regs; pc = x.pc + 1; rows = put_row k value x.rows; keys = k ∷ keys; over = false }
+    → lone_effect d (effect.Accesses (access.Writes value) k) (lone_at x keys)
+    ≡ record { regs = x.regs; pc = x.pc + 1; rows = put_row k value x.rows; keys = k ∷ keys; over = false }
 unfolding lone_effect
 small_write d k value x keys small there = rw (small, there) refl
 
 small_insert : (d : Map) (k value : ℕ) (x : Txn) (keys : List ℕ) → nat_lt 65535 k ≡ false
     → is_some (or_else (get_row x.rows k) (get d k)) ≡ false
-    → lone_effect d (effect.Accesses (access.Inserts value) k) (lone_at x keys) ≡ record { regs = x.regs; pc = x.pc + 1; rows = put_row k value x.rows; keys = k ∷ keys; over = false }
+    → lone_effect d (effect.Accesses (access.Inserts value) k) (lone_at x keys)
+    ≡ record { regs = x.regs; pc = x.pc + 1; rows = put_row k value x.rows; keys = k ∷ keys; over = false }
 unfolding lone_effect
 small_insert d k value x keys small there = rw (small, there) refl
 
@@ -124,7 +130,8 @@ some_or : (a b : Option ℕ) → is_some (or_else a b) ≡ (is_some a || is_some
 some_or None b = refl
 some_or (Some v) b = refl
 
-key_follows : (program : List Instr) (d : Map) (lows : List ℕ) (locks : List Lock) (kind : LockKind) (t k pc : ℕ) (regs : List ℕ) (rows : List Row) (x : Txn) (i : Instr) (e : Effect)
+key_follows : (program : List Instr) (d : Map) (lows : List ℕ) (locks : List Lock) (kind : LockKind) (t k pc : ℕ) (regs : List ℕ) (rows : List Row) (x : Txn)
+    (i : Instr) (e : Effect)
     → slice_get program x.pc ≡ Some i → effect_of i x.regs ≡ e
     → ((keys : List ℕ) → lone_effect d e (lone_at x keys) ≡ record { regs = regs; pc = pc; rows = rows; keys = k ∷ keys; over = false })
     → Follows program d lows locks t x
@@ -138,7 +145,8 @@ key_follows program d lows locks kind t k pc regs rows x i e is does step f = re
   ];
 }
 
-key_serial : (sc : Scenario) (n : Node) (v : View) (start : Map) (lows : List ℕ) (t k : ℕ) (kind : LockKind) (pc : ℕ) (regs : List ℕ) (rows : List Row) (e : Effect) → Serially sc n v start lows → Runs sc n t e v
+key_serial : (sc : Scenario) (n : Node) (v : View) (start : Map) (lows : List ℕ) (t k : ℕ) (kind : LockKind) (pc : ℕ) (regs : List ℕ) (rows : List Row) (e : Effect)
+    → Serially sc n v start lows → Runs sc n t e v
     → ((keys : List ℕ) → lone_effect (db v) e (lone_at (txn_at v t) keys) ≡ record { regs = regs; pc = pc; rows = rows; keys = k ∷ keys; over = false })
     → Kept sc n (did t pc regs rows (has_lock t k kind v)) lows → Serially sc n (did t pc regs rows (has_lock t k kind v)) start lows
 unfolding did locked txn_at
@@ -235,7 +243,8 @@ sum_value sc n v lows t a b h at f =
 -- a sum, with its pages locked
 small_sum : (d : Map) (r : Reg) (a b : ℕ) (x : Txn) (keys : List ℕ) (sum : ℕ) → nat_lt b a ≡ false → nat_lt 65535 b ≡ false
     → sum ≡ total (λ k. unwrap_or (or_else (get_row x.rows k) (get d k)) 0) (range a b)
-    → lone_effect d (effect.Sums r a b) (lone_at x keys) ≡ record { regs = with_reg r (sum % 2 ^ 32) x.regs; pc = x.pc + 1; rows = x.rows; keys = range a b ++ keys; over = false }
+    → lone_effect d (effect.Sums r a b) (lone_at x keys)
+    ≡ record { regs = with_reg r (sum % 2 ^ 32) x.regs; pc = x.pc + 1; rows = x.rows; keys = range a b ++ keys; over = false }
 unfolding lone_effect
 small_sum d r a b x keys sum rises small val = rw (rises, small, val) refl
 
@@ -254,8 +263,10 @@ range_follows program d lows locks t a b pc regs x i e is does step f = record {
   ];
 }
 
-range_serial : (sc : Scenario) (n : Node) (v : View) (start : Map) (lows : List ℕ) (t a b pc : ℕ) (regs : List ℕ) (e : Effect) → Serially sc n v start lows → Runs sc n t e v
-    → ((keys : List ℕ) → lone_effect (db v) e (lone_at (txn_at v t) keys) ≡ record { regs = regs; pc = pc; rows = (txn_at v t).rows; keys = range a b ++ keys; over = false })
+range_serial : (sc : Scenario) (n : Node) (v : View) (start : Map) (lows : List ℕ) (t a b pc : ℕ) (regs : List ℕ) (e : Effect)
+    → Serially sc n v start lows → Runs sc n t e v
+    → ((keys : List ℕ) → lone_effect (db v) e (lone_at (txn_at v t) keys)
+    ≡ record { regs = regs; pc = pc; rows = (txn_at v t).rows; keys = range a b ++ keys; over = false })
     → Kept sc n (did t pc regs (txn_at v t).rows (has_locks t a b v)) lows → Serially sc n (did t pc regs (txn_at v t).rows (has_locks t a b v)) start lows
 unfolding did shares txn_at
 range_serial sc n v start lows t a b pc regs e s runs step h =
@@ -337,16 +348,21 @@ serial_event sc n v w start lows s (Begins t h a new home e) k = along sc n w _ 
 serial_event sc n v w start lows s (Aborts t y active here e) k = along sc n w _ start lows e k (aborted_serial sc n v start lows t y s (active, here))
 serial_event sc n v w start lows s (GoesOn t x pc regs runs leads e) k = along sc n w _ start lows e k (goes_serial sc n v start lows t x pc regs s runs leads)
 serial_event sc n v w start lows s (SumsUp t r a b runs f e) k = along sc n w _ start lows e k
-    (range_serial sc n v start lows t a b _ _ (effect.Sums r a b) s runs (λ keys. small_sum (db v) r a b (txn_at v t) keys (sum_at t a b v) f.rises f.small (sum_value sc n v lows t a b s.kept (runs.active, runs.here) f)))
+    (range_serial sc n v start lows t a b _ _ (effect.Sums r a b) s runs (λ keys.
+    small_sum (db v) r a b (txn_at v t) keys (sum_at t a b v) f.rises f.small (sum_value sc n v lows t a b s.kept (runs.active, runs.here) f)))
 serial_event sc n v w start lows s (Gets t r key runs f e) k = along sc n w _ start lows e k
-    (key_serial sc n v start lows t key Shared _ _ _ (effect.Accesses (Reads r) key) s runs (λ keys. small_read (db v) r key (txn_at v t) keys (value_at t key v) f.small (read_value sc n v lows t key s.kept (runs.active, runs.here) f.here)))
+    (key_serial sc n v start lows t key Shared _ _ _ (effect.Accesses (Reads r) key) s runs (λ keys.
+    small_read (db v) r key (txn_at v t) keys (value_at t key v) f.small (read_value sc n v lows t key s.kept (runs.active, runs.here) f.here)))
 serial_event sc n v w start lows s (Writes t key value runs f there e) k = along sc n w _ start lows e k
-    (key_serial sc n v start lows t key Exclusive _ _ _ (effect.Accesses (access.Writes value) key) s runs (λ keys. small_write (db v) key value (txn_at v t) keys f.small (there_value sc n v lows t key Exclusive s.kept (runs.active, runs.here) f ∙ there)))
+    (key_serial sc n v start lows t key Exclusive _ _ _ (effect.Accesses (access.Writes value) key) s runs (λ keys.
+    small_write (db v) key value (txn_at v t) keys f.small (there_value sc n v lows t key Exclusive s.kept (runs.active, runs.here) f ∙ there)))
 serial_event sc n v w start lows s (Inserts t key value runs f new room e) k = along sc n w _ start lows e k
-    (key_serial sc n v start lows t key Exclusive _ _ _ (effect.Accesses (access.Inserts value) key) s runs (λ keys. small_insert (db v) key value (txn_at v t) keys f.small (there_value sc n v lows t key Exclusive s.kept (runs.active, runs.here) f ∙ new)))
+    (key_serial sc n v start lows t key Exclusive _ _ _ (effect.Accesses (access.Inserts value) key) s runs (λ keys.
+    small_insert (db v) key value (txn_at v t) keys f.small (there_value sc n v lows t key Exclusive s.kept (runs.active, runs.here) f ∙ new)))
 serial_event sc n v w start lows s (Splits t key value runs f new full normal pages e) k =
     let on = split_on sc n v lows t key value s.kept runs full in
-    along sc n w _ start (lows ++ boundary sc key (page key v) v.me (txn_at v t) ∷ []) e k (cut_serial sc n v start lows t key _ s (runs.active, runs.here) f normal on)
+    along sc n w _ start (lows ++ boundary sc key (page key v) v.me (txn_at v t) ∷ []) e k
+    (cut_serial sc n v start lows t key _ s (runs.active, runs.here) f normal on)
 serial_event sc n v w start lows s (Commits t runs all e) k = along sc n w _ start lows e k (committed_serial sc n v start lows t s runs)
 serial_event sc n v w start lows s (Asks p gone pulls asked e) k = along sc n w _ start lows e k (stays_serial sc n v _ start lows s refl refl refl refl (event_db sc n v _ lows s.kept (Asks p gone pulls asked refl) refl))
 serial_event sc n v w start lows s (Starts at_a normal empty e) k = along sc n w _ start lows e k (stays_serial sc n v _ start lows s refl refl refl refl (event_db sc n v _ lows s.kept (Starts at_a normal empty refl) refl))

@@ -381,7 +381,8 @@ pub home_placed : (sc : Scenario) (n : Node) (v : View) (lows : List ℕ) (t : �
 home_placed sc n v lows t k at = subst (λ l. Placed l v.me.pages) (sym (k.mine.newest (k.mine.busy t at))) (placed_front lows v.me.pages (rest_of v) k.placed).0
 
 -- the boundary of a split lies on the page that is cut
-pub split_on : (sc : Scenario) (n : Node) (v : View) (lows : List ℕ) (t key value : ℕ) → Kept sc n v lows → Runs sc n t (effect.Accesses (access.Inserts value) key) v → has_room sc (page key v) v.me (txn_at v t) ≡ false
+pub split_on : (sc : Scenario) (n : Node) (v : View) (lows : List ℕ) (t key value : ℕ) → Kept sc n v lows
+    → Runs sc n t (effect.Accesses (access.Inserts value) key) v → has_room sc (page key v) v.me (txn_at v t) ≡ false
     → page_of v.me.lows (boundary sc key (page key v) v.me (txn_at v t)) ≡ page key v
 split_on sc n v lows t key value k runs full = boundary_on sc t key (page key v) v (home_placed sc n v lows t k (runs.active, runs.here)) refl full
 
@@ -394,10 +395,14 @@ kept_event sc n v w lows two o k i (Rests e) = along sc n w _ lows e i (λ _. k)
 kept_event sc n v w lows two o k i (Begins t h a new home e) = begun_event sc n v w lows t h k i a new home e
 kept_event sc n v w lows two o k i (Aborts t y active here e) = along sc n w _ lows e i (aborted_kept sc n v lows t y k (active, here))
 kept_event sc n v w lows two o k i (GoesOn t x pc regs runs leads e) = along sc n w _ lows e i (goes_kept sc n v lows t _ _ k (runs.active, runs.here))
-kept_event sc n v w lows two o k i (SumsUp t r first last runs f e) = along sc n w _ lows e i (sum_kept sc n v lows t first last _ _ k (runs.active, runs.here) f)
-kept_event sc n v w lows two o k i (Gets t r key runs f e) = along sc n w _ lows e i (lock_kept sc n v lows t key Shared _ _ _ k (runs.active, runs.here) f (λ j h. inl h))
-kept_event sc n v w lows two o k i (Writes t key value runs f there e) = along sc n w _ lows e i (lock_kept sc n v lows t key Exclusive _ _ _ k (runs.active, runs.here) f (grown key value (txn_at v t).rows))
-kept_event sc n v w lows two o k i (Inserts t key value runs f new room e) = along sc n w _ lows e i (lock_kept sc n v lows t key Exclusive _ _ _ k (runs.active, runs.here) f (grown key value (txn_at v t).rows))
+kept_event sc n v w lows two o k i (SumsUp t r first last runs f e) =
+    along sc n w _ lows e i (sum_kept sc n v lows t first last _ _ k (runs.active, runs.here) f)
+kept_event sc n v w lows two o k i (Gets t r key runs f e) =
+    along sc n w _ lows e i (lock_kept sc n v lows t key Shared _ _ _ k (runs.active, runs.here) f (λ j h. inl h))
+kept_event sc n v w lows two o k i (Writes t key value runs f there e) =
+    along sc n w _ lows e i (lock_kept sc n v lows t key Exclusive _ _ _ k (runs.active, runs.here) f (grown key value (txn_at v t).rows))
+kept_event sc n v w lows two o k i (Inserts t key value runs f new room e) =
+    along sc n w _ lows e i (lock_kept sc n v lows t key Exclusive _ _ _ k (runs.active, runs.here) f (grown key value (txn_at v t).rows))
 kept_event sc n v w lows two o k i (Splits t key value runs f new full normal pages e) =
     let b = boundary sc key (page key v) v.me (txn_at v t) in
     let at : IsAt v t n = (runs.active, runs.here) in

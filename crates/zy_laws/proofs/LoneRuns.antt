@@ -281,7 +281,8 @@ on_effect m (Jumps taken to) x on = record { map = refl; regs = refl; pc = refl;
 on_effect m (Accesses (Reads r) k) x on = on_read m r k x (nat_lt 65535 k) on
 on_effect m (Accesses (Writes v) k) x on = rw get-laid (on_put m x k v (nat_lt 65535 k) (is_some (sees m x k)) on)
 on_effect m (Accesses (Inserts v) k) x on =
-    rw (get-laid, ← turned_test (is_some (sees m x k)) (goes_on (insert (laid x.rows m) k v) x.regs (x.pc + 1)) (gives_up m (mapped m x))) (on_put m x k v (nat_lt 65535 k) (not (is_some (sees m x k))) on)
+    rw (get-laid, ← turned_test (is_some (sees m x k)) (goes_on (insert (laid x.rows m) k v) x.regs (x.pc + 1)) (gives_up m (mapped m x)))
+    (on_put m x k v (nat_lt 65535 k) (not (is_some (sees m x k))) on)
 on_effect m (Sums r a b) x on = on_sum m r (range a b) (nat_lt b a) (nat_lt 65535 b) x on
 on_effect m Commits x on = over_absurd on
 on_effect m Aborts x on = over_absurd on

@@ -359,7 +359,8 @@ ordered_event sc n v w i o (Writes t key value runs f there e) = along w _ e (pu
 ordered_event sc n v w i o (Inserts t key value runs f new room e) = along w _ e (puts_ordered t key value v o)
 ordered_event sc n v w i o (Splits t key value runs f new full normal pages e) =
     let x = has_lock t key Exclusive v in
-    along w _ e (cut_ordered t (page key v) (boundary sc key (page key v) v.me (txn_at v t)) x (has_lock_ordered t key Exclusive v o) (has_lock_inv t key Exclusive v i) normal)
+    let b = boundary sc key (page key v) v.me (txn_at v t) in
+    along w _ e (cut_ordered t (page key v) b x (has_lock_ordered t key Exclusive v o) (has_lock_inv t key Exclusive v i) normal)
 ordered_event sc n v w i o (Commits t runs all e) = along w _ e (committed_ordered t v o)
 ordered_event sc n v w i o (Asks p gone pulls new e) = along w _ e (asks_ordered p v o new)
 ordered_event sc n v w i o (Starts at_a normal empty e) = along w _ e (kept_ordered v _ o refl refl refl refl refl refl (sent_bare v.outbox (Wire v.me.lows) refl) refl)

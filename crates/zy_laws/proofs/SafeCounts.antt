@@ -103,8 +103,8 @@ jump_place sc n t e true to v runs is ok =
 jump_place sc n t e false to v runs is ok = next_place sc n t e v runs (ap is_last is) ok
 
 -- an effect that needs no page leaves a transaction in its program, with as many registers
-leads_place : (sc : Scenario) (n : Node) (t : ℕ) (e : Effect) (pc : ℕ) (regs : List ℕ) (v : View) → Runs sc n t e v → Leads e (txn_at v t) pc regs → IsProgram (program_of sc t)
-    → pc < length (program_of sc t)
+leads_place : (sc : Scenario) (n : Node) (t : ℕ) (e : Effect) (pc : ℕ) (regs : List ℕ) (v : View) → Runs sc n t e v → Leads e (txn_at v t) pc regs
+    → IsProgram (program_of sc t) → pc < length (program_of sc t)
 leads_place sc n t e pc regs v runs (BySet r value is a b) ok = rw a (next_place sc n t e v runs (ap is_last is) ok)
 leads_place sc n t e pc regs v runs (ByJump taken to is a b) ok = rw a (jump_place sc n t e taken to v runs is ok)
 leads_place sc n t e pc regs v runs (BySum r first last is none a b) ok = rw a (next_place sc n t e v runs (ap is_last is) ok)
@@ -122,9 +122,11 @@ unfolding did locked shares txn_at aborted begun committed cut asks leaves
 fate sc n v w u (Rests e) = rw e (Same refl)
 fate sc n v w u (Begins t h a new home e) = fate_set sc v w t u _ (ap txns_of e) (Fresh refl refl refl)
 fate sc n v w u (Aborts t y active here e) = fate_set sc v w t u _ (ap txns_of e) (Ends (omega arith) refl refl)
-fate sc n v w u (GoesOn t x pc regs runs leads e) = fate_set sc v w t u _ (ap txns_of e) (Went refl (leads_length x (txn_at v t) pc regs leads) (leads_place sc n t x pc regs v runs leads))
+fate sc n v w u (GoesOn t x pc regs runs leads e) =
+    fate_set sc v w t u _ (ap txns_of e) (Went refl (leads_length x (txn_at v t) pc regs leads) (leads_place sc n t x pc regs v runs leads))
 fate sc n v w u (Gets t r key runs f e) = fate_set sc v w t u _ (ap txns_of e) (Went refl (set_length (txn_at v t).regs r _) (next_place sc n t _ v runs refl))
-fate sc n v w u (SumsUp t r first last runs f e) = fate_set sc v w t u _ (ap txns_of e) (Went refl (set_length (txn_at v t).regs r _) (next_place sc n t _ v runs refl))
+fate sc n v w u (SumsUp t r first last runs f e) =
+    fate_set sc v w t u _ (ap txns_of e) (Went refl (set_length (txn_at v t).regs r _) (next_place sc n t _ v runs refl))
 fate sc n v w u (Writes t key value runs f there e) = fate_set sc v w t u _ (ap txns_of e) (Went refl refl (next_place sc n t _ v runs refl))
 fate sc n v w u (Inserts t key value runs f new room e) = fate_set sc v w t u _ (ap txns_of e) (Went refl refl (next_place sc n t _ v runs refl))
 fate sc n v w u (Splits t key value runs f new full normal pages e) = rw e (Same refl)
