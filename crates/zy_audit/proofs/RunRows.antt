@@ -1,26 +1,24 @@
 -- The ways of an instruction at a key, and of a run of many.
 use Rattle.std.proofs.Common.{List, Bool, ap, arith, false, refl, suc, sym, true, zero, ℕ, ◌+◌, ◌<◌, ◌^◌, ◌∙◌, ◌≡◌}
 use Rattle.std.specs.Prelude.{Option, Result, Ok, Err, OnOk, if◌then◌else◌, is_some, nat_lt, slice_get}
-use Rattle.std.specs.FinMap.{empty, get, insert}
+use Rattle.std.specs.FinMap.{empty, get}
 use Rattle.std.proofs.lemmas.Bool.{le-ltb}
 use Rattle.zy_isa.specs.declared.instr.Instr.{Instr}
 use Rattle.zy_table.specs.Database.{Map, laid}
-use Rattle.zy_table.specs.Serial.{Alone, alone, alone_instr, alone_step, goes_on}
+use Rattle.zy_table.specs.declared.effect.Effect.TheVariants.{Accesses}
+use Rattle.zy_table.specs.declared.access.Access.{Access}
+use Rattle.zy_table.specs.declared.access.Access.TheVariants.{Writes, Inserts}
+use Rattle.zy_table.specs.Serial.{Alone, alone, alone_access, alone_effect, alone_instr, alone_step}
 use Rattle.zy_isa.specs.Rows.{put_row}
 use Rattle.zy_isa.specs.declared.row.Row.{Row}
 use Rattle.zy_table.specs.Rows.{put_rows}
-use Rattle.zy_audit.specs.Lone.{Lone, map_of, on_map, writes, inserts}
+use Rattle.zy_audit.specs.Lone.{Lone, map_of, on_map}
 use Rattle.zy_laws.proofs.LoneRuns.{laid_put}
 use Rattle.zy_audit.proofs.LaidRows.{laid-put_rows}
 
-near : (k : ℕ) → k < 2 ^ 16 → nat_lt 65535 k ≡ false
-near k h = le-ltb 65535 k (omega arith)
-
-pub writes-there : (m : Map) (k v : ℕ) (x : Alone) → k < 2 ^ 16 → is_some (get x.map k) ≡ true → writes m k v x ≡ goes_on (insert x.map k v) x.regs (x.pc + 1)
-writes-there m k v x h e = rw (near k h, e) refl
-
-pub inserts-new : (m : Map) (k v : ℕ) (x : Alone) → k < 2 ^ 16 → is_some (get x.map k) ≡ false → inserts m k v x ≡ goes_on (insert x.map k v) x.regs (x.pc + 1)
-inserts-new m k v x h e = rw (near k h, e) refl
+-- an access at a key that is one
+pub near_access : (m : Map) (access : Access) (k : ℕ) (x : Alone) → k < 2 ^ 16 → alone_effect m (Accesses access k) x ≡ alone_access m access k x
+near_access m access k x h = let far : nat_lt 65535 k ≡ false = le-ltb 65535 k (omega arith) in rw far refl
 
 -- a run that goes on does its next instruction
 pub alone-on : (m : Map) (program : List Instr) (n : ℕ) (x : Alone) → alone m program n ≡ x → x.over ≡ false → alone m program (suc n) ≡ alone_instr m (slice_get program x.pc) x
@@ -39,17 +37,21 @@ alone-over m program n (suc more) e =
     ap (alone m program) s ∙ ap (alone_step m program) (alone-over m program n more e) ∙ over_stays m program (alone m program n) e
 
 -- a row is written unless memory was wanted
-pub written-there : {E : Type 0} (r : Result (Unit {0}) E) (m : Map) (q k v : ℕ) (x y : Lone) (there : Option ℕ) → q ≡ k → k < 2 ^ 16 → x.over ≡ false → there ≡ get (laid x.rows m) q → is_some there ≡ true
-    → OnOk r (y ≡ record x { pc = x.pc + 1; rows = put_row q v x.rows }) → OnOk r (on_map m y ≡ writes m k v (on_map m x))
-written-there (Ok u) m q k v x y there same h on e is put =
-    rw (writes-there m k v (on_map m x) h (ap (λ n. is_some (get (laid x.rows m) n)) (sym same) ∙ ap is_some (sym e) ∙ is), put, on, same, laid_put m x.rows k v) refl
-written-there (Err e0) m q k v x y there same h on e is put = tt
+pub written-there : {E : Type 0} (r : Result (Unit {0}) E) (m : Map) (k v : ℕ) (x y : Lone) (there : Option ℕ)
+    → x.over ≡ false → there ≡ get (laid x.rows m) k → is_some there ≡ true
+    → OnOk r (y ≡ record x { pc = x.pc + 1; rows = put_row k v x.rows }) → OnOk r (on_map m y ≡ alone_access m (Writes v) k (on_map m x))
+written-there (Ok u) m k v x y there on e is put =
+    let here : is_some (get (laid x.rows m) k) ≡ true = ap is_some (sym e) ∙ is in
+    rw (here, put, on, laid_put m x.rows k v) refl
+written-there (Err e0) m k v x y there on e is put = tt
 
-pub inserted-new : {E : Type 0} (r : Result (Unit {0}) E) (m : Map) (q k v : ℕ) (x y : Lone) (there : Option ℕ) → q ≡ k → k < 2 ^ 16 → x.over ≡ false → there ≡ get (laid x.rows m) q → is_some there ≡ false
-    → OnOk r (y ≡ record x { pc = x.pc + 1; rows = put_row q v x.rows }) → OnOk r (on_map m y ≡ inserts m k v (on_map m x))
-inserted-new (Ok u) m q k v x y there same h on e is put =
-    rw (inserts-new m k v (on_map m x) h (ap (λ n. is_some (get (laid x.rows m) n)) (sym same) ∙ ap is_some (sym e) ∙ is), put, on, same, laid_put m x.rows k v) refl
-inserted-new (Err e0) m q k v x y there same h on e is put = tt
+pub inserted-new : {E : Type 0} (r : Result (Unit {0}) E) (m : Map) (k v : ℕ) (x y : Lone) (there : Option ℕ)
+    → x.over ≡ false → there ≡ get (laid x.rows m) k → is_some there ≡ false
+    → OnOk r (y ≡ record x { pc = x.pc + 1; rows = put_row k v x.rows }) → OnOk r (on_map m y ≡ alone_access m (Inserts v) k (on_map m x))
+inserted-new (Ok u) m k v x y there on e is put =
+    let none : is_some (get (laid x.rows m) k) ≡ false = ap is_some (sym e) ∙ is in
+    rw (none, put, on, laid_put m x.rows k v) refl
+inserted-new (Err e0) m k v x y there on e is put = tt
 
 -- the run of a program, with what it wrote laid over the table
 pub laid-ok : {E : Type 0} (r : Result (Unit {0}) E) (rs x y : List Row) (n : Map) → laid rs (map_of x) ≡ n → OnOk r (y ≡ put_rows rs x) → OnOk r (map_of y ≡ n)

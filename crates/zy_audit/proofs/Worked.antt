@@ -15,13 +15,13 @@ use Rattle.zy_isa.specs.Scenario.{Scenario}
 use Rattle.zy_wire.specs.Wireframe.{page_of}
 use Rattle.zy_table.specs.Change.{txn_at, begun, aborted, did, locked, committed}
 use Rattle.zy_table.specs.Client.{begin_at, begin_row, kill_row}
-use Rattle.zy_table.specs.Run.{abort_row, set_row, jump_row, commit_or_gone, commit_row, read_row, write_row, full_row, insert_row, access_row, page_row, key_row, instr_row, run_row}
+use Rattle.zy_table.specs.Run.{abort_row, set_row, jump_row, commit_or_gone, commit_row, read_row, write_row, full_row, insert_row, access_row, page_row, key_row, effect_row, instr_row, run_row}
 use Rattle.zy_table.specs.Play.{move, step, opening_leaves, opening}
 use Rattle.zy_audit.specs.Listing.{listing}
 
 -- opens the whole table
 unfoldable table : ℕ
-unfolding digits listing page_of txn_at begun aborted did locked committed begin_at begin_row kill_row abort_row set_row jump_row commit_or_gone commit_row read_row write_row full_row insert_row access_row page_row key_row instr_row run_row move step opening_leaves opening
+unfolding digits listing page_of txn_at begun aborted did locked committed begin_at begin_row kill_row abort_row set_row jump_row commit_or_gone commit_row read_row write_row full_row insert_row access_row page_row key_row effect_row instr_row run_row move step opening_leaves opening
 table = 0
 
 abbrev smallest : Scenario

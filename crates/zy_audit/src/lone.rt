@@ -1,19 +1,23 @@
 //! One program, run alone on a table.
-ghost use Rattle.std.specs.Prelude.{◌≡◌, ◌+◌, ◌<◌, ◌%◌, ◌^◌, [], true, false, Some, IfOk, IsOk, IsSome, OnOk, if◌then◌else◌, replicate, slice_get};
+ghost use Rattle.std.specs.Prelude.{◌≡◌, ◌+◌, ◌<◌, ◌%◌, ◌^◌, [], true, false, IfOk, IsOk, IsSome, OnOk, if◌then◌else◌, replicate, slice_get};
 ghost use Rattle.std.specs.FinMap.{get};
 ghost use Rattle.zy_isa.specs.Rows.{get_row, put_row};
-ghost use Rattle.zy_table.specs.Change.{reg, with_reg};
+ghost use Rattle.zy_table.specs.Change.{with_reg};
 ghost use Rattle.zy_table.specs.Database.{laid};
-ghost use Rattle.zy_table.specs.Serial.{alone, alone_instr, value_in};
+ghost use Rattle.zy_table.specs.declared.effect.Effect.TheVariants.{Accesses, Sums};
+ghost use Rattle.zy_table.specs.declared.access.Access.TheVariants.{Reads, Writes, Inserts};
+ghost use Rattle.zy_table.specs.Serial.{alone, alone_access, alone_effect, alone_instr, value_in};
 ghost use Rattle.zy_table.specs.Ranges.{range, total};
-ghost use Rattle.zy_audit.specs.Lone.{map_of, on_map, reads, writes, inserts, sums};
+ghost use Rattle.zy_audit.specs.Lone.{map_of, on_map};
 
 use crate::table::Table;
 use std::alloc::{AllocError, Global};
 use std::marker::Model;
-use zy_isa::instr::{Instr, Reg};
+use zy_isa::instr::Reg;
 use zy_isa::program::Program;
 use zy_page::row_list::RowList;
+use zy_table::access::Access;
+use zy_table::effect::{Effect, effect_of};
 use zy_table::sums::sum_of_rows;
 
 /// The rows that a program writes when it is run alone on a table, for this number of instructions or to its end: none where it
@@ -90,54 +94,96 @@ impl LoneRun {
     {
         let place = self.place as usize;
         if place < program.len() {
-            return self.instr(table, program.instr(place));
+            let effect = effect_of(program.instr(place), &self.regs);
+            return self.effect(table, effect);
         }
         self.give_up();
         Ok(())
     }
 
-    /// An instruction.
-    #[tactic(auto, unfolding(zy_table::specs::Serial::alone_instr))]
-    fn instr(&mut self, table: &Table, instr: Instr) -> Result<(), AllocError>
+    /// The effect of an instruction.
+    fn effect(&mut self, table: &Table, effect: Effect) -> Result<(), AllocError>
         requires on { self.old.over ≡ false }
         requires place { self.old.pc + 1 < 2 ^ 32 }
         ensures { OnOk result (let m = map_of table.now in
-            on_map m self.new ≡ alone_instr m (Some instr) (on_map m self.old)) }
+            on_map m self.new ≡ alone_effect m effect (on_map m self.old)) }
     {
-        match instr {
-            Instr::Set(r, value) => self.set(r, value),
-            Instr::Add(r, q) => self.set(r, self.reg(r).wrapping_add(self.reg(q))),
-            Instr::Sum(r, q) => self.sum(table, r, self.reg(r), self.reg(q)),
-            Instr::Beq(r, q, target) => self.jump(self.reg(r) == self.reg(q), target),
-            Instr::Commit => self.over = true,
-            Instr::Abort => self.give_up(),
-            Instr::Read(r, q) => self.read(table, r, self.reg(q)),
-            Instr::Write(r, q) => return self.write(table, self.reg(r), self.reg(q)),
-            Instr::Insert(r, q) => return self.insert(table, self.reg(r), self.reg(q)),
+        match effect {
+            Effect::Sets(r, value) => self.set(r, value),
+            Effect::Jumps(taken, target) => self.jump(taken, target),
+            Effect::Accesses(access, key) => return self.access(table, access, key),
+            Effect::Sums(r, first, last) => self.sum(table, r, first, last),
+            Effect::Commits => self.over = true,
+            Effect::Aborts => self.give_up(),
         }
         Ok(())
     }
 
-    /// `read` at a key.
-    fn read(&mut self, table: &Table, r: Reg, key: u32)
+    /// An access, if its key is one.
+    fn access(&mut self, table: &Table, access: Access, key: u32) -> Result<(), AllocError>
         requires on { self.old.over ≡ false }
         requires place { self.old.pc + 1 < 2 ^ 32 }
-        ensures { let m = map_of table.now in on_map m self.new ≡ reads m r key (on_map m self.old) }
+        ensures { OnOk result (let m = map_of table.now in
+            on_map m self.new ≡ alone_effect m (Accesses access key) (on_map m self.old)) }
     {
-        match u16::try_from(key) {
-            Ok(key) => {
-                let value = self.value(table, key).unwrap_or(0);
-                self.set(r, value);
+        let Ok(key) = u16::try_from(key) else {
+            self.give_up();
+            return Ok(());
+        };
+        match access {
+            Access::Reads(r) => {
+                self.read(table, r, key);
+                Ok(())
             }
-            Err(_) => self.give_up(),
+            Access::Writes(value) => self.write(table, key, value),
+            Access::Inserts(value) => self.insert(table, key, value),
         }
+    }
+
+    /// `read` at a key.
+    fn read(&mut self, table: &Table, r: Reg, key: u16)
+        requires on { self.old.over ≡ false }
+        requires place { self.old.pc + 1 < 2 ^ 32 }
+        ensures { let m = map_of table.now in on_map m self.new ≡ alone_access m (Reads r) key (on_map m self.old) }
+    {
+        let value = self.value(table, key).unwrap_or(0);
+        self.set(r, value);
+    }
+
+    /// `write` at a key.
+    fn write(&mut self, table: &Table, key: u16, value: u32) -> Result<(), AllocError>
+        requires on { self.old.over ≡ false }
+        requires place { self.old.pc + 1 < 2 ^ 32 }
+        ensures { OnOk result (let m = map_of table.now in
+            on_map m self.new ≡ alone_access m (Writes value) key (on_map m self.old)) }
+    {
+        if self.value(table, key).is_none() {
+            self.give_up();
+            return Ok(());
+        }
+        self.put(key, value)
+    }
+
+    /// `insert` at a key.
+    fn insert(&mut self, table: &Table, key: u16, value: u32) -> Result<(), AllocError>
+        requires on { self.old.over ≡ false }
+        requires place { self.old.pc + 1 < 2 ^ 32 }
+        ensures { OnOk result (let m = map_of table.now in
+            on_map m self.new ≡ alone_access m (Inserts value) key (on_map m self.old)) }
+    {
+        if self.value(table, key).is_some() {
+            self.give_up();
+            return Ok(());
+        }
+        self.put(key, value)
     }
 
     /// `sum` of the keys from one to another.
     fn sum(&mut self, table: &Table, r: Reg, first: u32, last: u32)
         requires on { self.old.over ≡ false }
         requires place { self.old.pc + 1 < 2 ^ 32 }
-        ensures { let m = map_of table.now in on_map m self.new ≡ sums m r first last (on_map m self.old) }
+        ensures { let m = map_of table.now in
+            on_map m self.new ≡ alone_effect m (Sums r first last) (on_map m self.old) }
     {
         if last < first {
             self.set(r, 0);
@@ -147,47 +193,6 @@ impl LoneRun {
             Ok(last) => self.set(r, self.total(table, first as u16, last)),
             Err(_) => self.give_up(),
         }
-    }
-
-    /// `write` at a key.
-    fn write(&mut self, table: &Table, key: u32, value: u32) -> Result<(), AllocError>
-        requires on { self.old.over ≡ false }
-        requires place { self.old.pc + 1 < 2 ^ 32 }
-        ensures { OnOk result (let m = map_of table.now in on_map m self.new ≡ writes m key value (on_map m self.old)) }
-    {
-        let Ok(key) = u16::try_from(key) else {
-            self.give_up();
-            return Ok(());
-        };
-        if self.value(table, key).is_none() {
-            self.give_up();
-            return Ok(());
-        }
-        self.put(key, value)
-    }
-
-    /// `insert` at a key.
-    fn insert(&mut self, table: &Table, key: u32, value: u32) -> Result<(), AllocError>
-        requires on { self.old.over ≡ false }
-        requires place { self.old.pc + 1 < 2 ^ 32 }
-        ensures { OnOk result (let m = map_of table.now in on_map m self.new ≡ inserts m key value (on_map m self.old)) }
-    {
-        let Ok(key) = u16::try_from(key) else {
-            self.give_up();
-            return Ok(());
-        };
-        if self.value(table, key).is_some() {
-            self.give_up();
-            return Ok(());
-        }
-        self.put(key, value)
-    }
-
-    /// The value of a register.
-    fn reg(&self, r: Reg) -> u32
-        ensures { result ≡ reg self.now.regs r }
-    {
-        self.regs[r.index()]
     }
 
     /// What the run sees at a key: the row that it wrote, else the table's.

@@ -23,7 +23,7 @@ use Rattle.zy_table.specs.Take.{all_here}
 use Rattle.zy_table.proofs.PageLists.{owns-with_page}
 use Rattle.zy_laws.specs.Between.{NothingLeft}
 use Rattle.zy_laws.proofs.Boundary.{has-put_key}
-use Rattle.zy_laws.proofs.Events.{Told, Aborts, Adds, Asks, Begins, Commits, Event, Finishes, Gets, Gives, GotAll, GotDone, GotDual, GotFinish, GotLast, GotPage, GotReady, GotWire, Inserts, IsStale, Jumps, Pushes, Rests, Sets, SumsUp, SumsNone, Splits, Starts, Writes, step_happens}
+use Rattle.zy_laws.proofs.Events.{Told, Aborts, Asks, Begins, Commits, Event, Finishes, Gets, Gives, GotAll, GotDone, GotDual, GotFinish, GotLast, GotPage, GotReady, GotWire, Inserts, IsStale, Pushes, Rests, SumsUp, Splits, Starts, Writes, step_happens, GoesOn}
 use Rattle.zy_laws.proofs.Installing.{owns-installed}
 use Rattle.zy_laws.proofs.Locking.{Kept, nobody_runs}
 use Rattle.zy_laws.proofs.ListsInOrder.{Tidy, opening_tidy, step_tidy}
@@ -90,15 +90,13 @@ unfolding did locked shares txn_at aborted begun committed cut asks leaves
 asked_event sc n o v w lows k a (Rests e) told = rw e a
 asked_event sc n o v w lows k a (Begins t h at_a new home e) told = rw e (asked_same v.me _ refl refl refl (λ p. refl) a)
 asked_event sc n o v w lows k a (Aborts t y active here e) told = rw e (asked_same v.me _ refl refl refl (λ p. refl) a)
-asked_event sc n o v w lows k a (Sets t r x runs e) told = rw e (asked_same v.me _ refl refl refl (λ p. refl) a)
-asked_event sc n o v w lows k a (Adds t r q runs e) told = rw e (asked_same v.me _ refl refl refl (λ p. refl) a)
-asked_event sc n o v w lows k a (Jumps t r q to runs e) told = rw e (asked_same v.me _ refl refl refl (λ p. refl) a)
-asked_event sc n o v w lows k a (Gets t r q runs f e) told = rw e (asked_same v.me _ refl refl refl (λ p. refl) a)
-asked_event sc n o v w lows k a (SumsUp t r q runs f e) told = rw e (asked_same v.me _ refl refl refl (λ p. refl) a)
-asked_event sc n o v w lows k a (SumsNone t r q runs none e) told = rw e (asked_same v.me _ refl refl refl (λ p. refl) a)
-asked_event sc n o v w lows k a (Writes t r q runs f there e) told = rw e (asked_same v.me _ refl refl refl (λ p. refl) a)
-asked_event sc n o v w lows k a (Inserts t r q runs f new room e) told = rw e (asked_same v.me _ refl refl refl (λ p. refl) a)
-asked_event sc n o v w lows k a (Splits t r q runs f new full normal pages e) told = rw e (asked_none _ (a.none (ap may_pull (splits_in_normal v.me.mode normal))))
+asked_event sc n o v w lows k a (GoesOn t x pc regs runs leads e) told = rw e (asked_same v.me _ refl refl refl (λ p. refl) a)
+asked_event sc n o v w lows k a (Gets t r key runs f e) told = rw e (asked_same v.me _ refl refl refl (λ p. refl) a)
+asked_event sc n o v w lows k a (SumsUp t r first last runs f e) told = rw e (asked_same v.me _ refl refl refl (λ p. refl) a)
+asked_event sc n o v w lows k a (Writes t key value runs f there e) told = rw e (asked_same v.me _ refl refl refl (λ p. refl) a)
+asked_event sc n o v w lows k a (Inserts t key value runs f new room e) told = rw e (asked_same v.me _ refl refl refl (λ p. refl) a)
+asked_event sc n o v w lows k a (Splits t key value runs f new full normal pages e) told =
+    rw e (asked_none _ (a.none (ap may_pull (splits_in_normal v.me.mode normal))))
 asked_event sc n o v w lows k a (Commits t runs all e) told = rw e (asked_same v.me _ refl refl refl (λ p. owns-installed v.me.lows (txn_at v t).rows v.me.pages p) a)
 asked_event sc n o v w lows k a (Asks p gone pulls new e) told =
     let first : v.me.lows ≡ 0 ∷ k.first.0 = k.mine.newest (pulls_busy v.me.mode pulls) ∙ k.first.1 in

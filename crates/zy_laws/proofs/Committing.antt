@@ -9,12 +9,13 @@ use Rattle.std.proofs.lemmas.Cmp.{nat_cmp_total}
 use Rattle.zy_isa.specs.Rows.{get_row}
 use Rattle.zy_isa.specs.Scenario.{Scenario}
 use Rattle.zy_isa.specs.declared.instr.Instr.{Instr}
-use Rattle.zy_isa.specs.declared.instr.Instr.TheVariants.{Commit}
 use Rattle.zy_isa.specs.declared.node.Node.{Node}
 use Rattle.zy_isa.specs.declared.row.Row.{Row}
 use Rattle.zy_locks.specs.Locks.{drop_locks}
 use Rattle.zy_table.specs.Change.{committed, installed, txn_at}
 use Rattle.zy_table.specs.Client.{is_active}
+use Rattle.zy_table.specs.declared.effect.Effect.TheVariants.{Commits}
+use Rattle.zy_table.specs.Effects.{effect_of}
 use Rattle.zy_table.specs.Database.{Map, laid, laid_leaves}
 use Rattle.zy_table.specs.Holders.{holds, holds_alone}
 use Rattle.zy_table.specs.Run.{program_of}
@@ -83,24 +84,26 @@ serial-push sc m [] c = refl
 serial-push sc m (x ∷ xs) c = serial-push sc (alone m (program_of sc x.txn) x.done).map xs c
 
 -- a lone run that has come to its commit keeps its map
-alone_commit : (m : Map) (program : List Instr) (x : Alone) → x.over ≡ false → slice_get program x.pc ≡ Some Commit
+alone_commit : (m : Map) (program : List Instr) (i : Instr) (x : Alone) → x.over ≡ false → slice_get program x.pc ≡ Some i → effect_of i x.regs ≡ Commits
     → (alone_step m program x).map ≡ x.map
 unfolding alone_step alone_instr
-alone_commit m program x on at = rw (on, at) refl
+alone_commit m program i x on at does = rw (on, at, does) refl
 
-commit_serial : (sc : Scenario) (n : Node) (v : View) (start : Map) (lows : List ℕ) (t : ℕ) → Serially sc n v start lows → IsAt v t n
-    → slice_get (program_of sc t) (txn_at v t).pc ≡ Some Commit
+commit_serial : (sc : Scenario) (n : Node) (v : View) (start : Map) (lows : List ℕ) (t : ℕ) → Serially sc n v start lows → Runs sc n t Commits v
     → db (committed t v) ≡ serial sc start (v.commits ++ record { txn = t; done = (txn_at v t).done + 1 } ∷ [])
-commit_serial sc n v start lows t s at is =
+commit_serial sc n v start lows t s runs =
+    let at : IsAt v t n = (runs.active, runs.here) in
     let x = txn_at v t in
     let program = program_of sc t in
     let m = s.mine t at in
     let on : (lone (db v) program x.done).over ≡ false = ap (λ (y : Lone). y.over) m.run in
     let run = on_map (db v) program x.done on in
     let rows : (lone (db v) program x.done).rows ≡ x.rows = ap (λ (y : Lone). y.rows) m.run in
+    let regs : (alone (db v) program x.done).regs ≡ x.regs = run.regs ∙ ap (λ (y : Lone). y.regs) m.run in
     let pc : (alone (db v) program x.done).pc ≡ x.pc = run.pc ∙ ap (λ (y : Lone). y.pc) m.run in
     let last : (alone (db v) program (suc x.done)).map ≡ laid x.rows (db v) =
-    alone_commit (db v) program (alone (db v) program x.done) run.over (ap (slice_get program) pc ∙ is) ∙ run.map ∙ ap (λ r. laid r (db v)) rows in
+    alone_commit (db v) program runs.instr (alone (db v) program x.done) run.over (ap (slice_get program) pc ∙ runs.next) (ap (effect_of runs.instr) regs ∙ runs.does)
+    ∙ run.map ∙ ap (λ r. laid r (db v)) rows in
     let both : db (committed t v) ≡ laid x.rows (db v) = same_map nat_cmp_total nat_cmp-IsAntisymmetric _ _ (λ k. commit_db sc n v lows t s.kept s.held at k ∙ sym (get-laid x.rows (db v) k)) in
     both ∙ sym last ∙ ap (λ j. (alone (db v) program j).map) (sym (add-one x.done)) ∙ ap (λ d. (alone d program (x.done + 1)).map) s.is_serial
     ∙ sym (serial-push sc start v.commits (record { txn = t; done = x.done + 1 }))
@@ -133,28 +136,29 @@ apart_nodes sc n v lows p t u h held a b =
     let k = h.inv.owned.once p in
     grind (arith, nat_tests, k)
 
-alone_last : (m : Map) (program : List Instr) (x : Alone) → x.over ≡ false → slice_get program x.pc ≡ Some Commit
+alone_last : (m : Map) (program : List Instr) (i : Instr) (x : Alone) → x.over ≡ false → slice_get program x.pc ≡ Some i → effect_of i x.regs ≡ Commits
     → (alone_step m program x).regs ≡ x.regs
 unfolding alone_step alone_instr
-alone_last m program x on at = rw (on, at) refl
+alone_last m program i x on at does = rw (on, at, does) refl
 
-committed_regs : (sc : Scenario) (n : Node) (v : View) (start : Map) (lows : List ℕ) (t : ℕ) → Serially sc n v start lows → IsAt v t n
-    → slice_get (program_of sc t) (txn_at v t).pc ≡ Some Commit
+committed_regs : (sc : Scenario) (n : Node) (v : View) (start : Map) (lows : List ℕ) (t : ℕ) → Serially sc n v start lows → Runs sc n t Commits v
     → (txn_at v t).regs ≡ (alone (serial sc start v.commits) (program_of sc t) ((txn_at v t).done + 1)).regs
-committed_regs sc n v start lows t s at is =
+committed_regs sc n v start lows t s runs =
     let x = txn_at v t in
     let program = program_of sc t in
-    let f = s.mine t at in
+    let f = s.mine t (runs.active, runs.here) in
     let run = on_map (db v) program x.done (ap (λ (y : Lone). y.over) f.run) in
     let regs : (alone (db v) program x.done).regs ≡ x.regs = run.regs ∙ ap (λ (y : Lone). y.regs) f.run in
     let pc : (alone (db v) program x.done).pc ≡ x.pc = run.pc ∙ ap (λ (y : Lone). y.pc) f.run in
     sym (ap (λ d. (alone d program (x.done + 1)).regs) (sym s.is_serial) ∙ ap (λ j. (alone (db v) program j).regs) (add-one x.done)
-    ∙ alone_last (db v) program (alone (db v) program x.done) run.over (ap (slice_get program) pc ∙ is) ∙ regs)
+    ∙ alone_last (db v) program runs.instr (alone (db v) program x.done) run.over (ap (slice_get program) pc ∙ runs.next) (ap (effect_of runs.instr) regs ∙ runs.does)
+    ∙ regs)
 
-commit_registers : (sc : Scenario) (n : Node) (v : View) (start : Map) (lows : List ℕ) (t : ℕ) → Serially sc n v start lows → IsAt v t n
-    → slice_get (program_of sc t) (txn_at v t).pc ≡ Some Commit → Registers sc (txn_at (committed t v)) start (committed t v).commits
+commit_registers : (sc : Scenario) (n : Node) (v : View) (start : Map) (lows : List ℕ) (t : ℕ) → Serially sc n v start lows → Runs sc n t Commits v
+    → Registers sc (txn_at (committed t v)) start (committed t v).commits
 unfolding committed
-commit_registers sc n v start lows t s at is =
+commit_registers sc n v start lows t s runs =
+    let at : IsAt v t n = (runs.active, runs.here) in
     let w = committed t v in
     let y : Txn = record (txn_at v t) { status = Committed; rows = []; done = (txn_at v t).done + 1 } in
     let self : txn_at w t ≡ y = at_self v w t y refl at.0 in
@@ -163,10 +167,10 @@ commit_registers sc n v start lows t s at is =
       | inl same ↦ absurd (active_not (txn_at v t).status at.0 (subst (λ z. is_committed (txn_at v z).status ≡ true) same ended))
       | inr far ↦ at_other v w t u y refl far
     ]) s.registers)
-    (ap (λ (x : Txn). is_committed x.status) self, ap (λ (x : Txn). x.regs) self ∙ committed_regs sc n v start lows t s at is)
+    (ap (λ (x : Txn). is_committed x.status) self, ap (λ (x : Txn). x.regs) self ∙ committed_regs sc n v start lows t s runs)
 
 pub committed_serial : (sc : Scenario) (n : Node) (v : View) (start : Map) (lows : List ℕ) (t : ℕ) → Serially sc n v start lows
-    → Runs sc n t Commit v → Kept sc n (committed t v) lows → Serially sc n (committed t v) start lows
+    → Runs sc n t Commits v → Kept sc n (committed t v) lows → Serially sc n (committed t v) start lows
 committed_serial sc n v start lows t s runs k =
     let at : IsAt v t n = (runs.active, runs.here) in
     let w = committed t v in
@@ -184,6 +188,6 @@ committed_serial sc n v start lows t s runs k =
           subst (Follows (program_of sc u) (db w) lows w.them.locks u) (sym now)
           (commit_follows sc n v lows t u v.them.locks w.them.locks (program_of sc u) (txn_at v u) s.kept s.held at (λ p b c. apart_nodes sc n v lows p t u s.kept s.held (exclusive_holds v.me.locks p t b) c)
           (λ p h. ap (λ (x : NodeState). holds x.locks p u) (committed_them t v) ∙ h) (s.theirs u (subst (λ x. Stands x (other n)) now a)));
-      is_serial = commit_serial sc n v start lows t s at runs.next ∙ ap (serial sc start) (sym (committed_list t v));
-      registers = commit_registers sc n v start lows t s at runs.next;
+      is_serial = commit_serial sc n v start lows t s runs ∙ ap (serial sc start) (sym (committed_list t v));
+      registers = commit_registers sc n v start lows t s runs;
     }

@@ -1,6 +1,6 @@
 -- What a row did: one case for each line of the table that changes something, with what its conditions say.
 use Rattle.std.proofs.Common.{◌≡◌, ℕ, ◌+◌, ◌%◌, ◌^◌, List, [], ◌∷◌, ◌++◌, length, true, false, refl, sym, ap, ◌∙◌, subst, inl, inr}
-use Rattle.std.specs.Prelude.{◌⊎◌, if◌then◌else◌, ◌==◌, ◌&&◌, nat_lt, nat_le, not, Some, None, Option, slice_get, is_some}
+use Rattle.std.specs.Prelude.{◌⊎◌, Bool, if◌then◌else◌, ◌==◌, ◌&&◌, nat_lt, nat_le, not, Some, None, Option, slice_get, is_some}
 use Rattle.std.proofs.lemmas.Bool.{cond_both, false≢true, not-false, not-true, cases_Bool, eq-eqb}
 use Rattle.zy_isa.specs.declared.version.Version.TheVariants.{One}
 use Rattle.zy_modes.specs.Families.{is_sending}
@@ -11,7 +11,6 @@ use Rattle.zy_isa.specs.declared.choice.Choice.TheVariants.{Start, Begin, Kill, 
 use Rattle.zy_isa.specs.declared.row.Row.{Row}
 use Rattle.zy_isa.specs.declared.instr.Reg.{Reg}
 use Rattle.zy_isa.specs.declared.instr.Instr.{Instr}
-use Rattle.zy_isa.specs.declared.instr.Instr.TheVariants.{Set, Read, Write, Insert, Add, Sum, Beq, Commit, Abort}
 use Rattle.zy_isa.specs.Rows.{get_row, put_row}
 use Rattle.zy_isa.specs.Scenario.{Scenario}
 use Rattle.zy_locks.specs.declared.lock.LockKind.{LockKind}
@@ -27,14 +26,17 @@ use Rattle.zy_table.specs.declared.outcome.Why.{Why}
 use Rattle.zy_table.specs.declared.outcome.Why.TheVariants as why
 use Rattle.zy_table.specs.declared.outcome.Outcome.{Outcome}
 use Rattle.zy_table.specs.declared.outcome.Outcome.TheVariants as outcome
-use Rattle.zy_table.specs.State.{State, View, Move, NodeState, Leaf, Message, facing, post, with_me}
+use Rattle.zy_table.specs.State.{State, View, Move, NodeState, Leaf, Message, Txn, facing, post, with_me}
 use Rattle.zy_wire.specs.Wireframe.{page_of}
 use Rattle.zy_table.specs.Numbers.{has, least}
 use Rattle.zy_table.specs.Pages.{owns, numbers}
-use Rattle.zy_table.specs.Change.{quiet, begun, aborted, did, txn_at, locked, shares, committed, cut, reg, with_reg, txn_or, asks, leaves, turns, with_arrived, with_lows}
+use Rattle.zy_table.specs.Change.{quiet, begun, aborted, did, txn_at, locked, shares, committed, cut, with_reg, txn_or, asks, leaves, turns, with_arrived, with_lows}
 use Rattle.zy_table.specs.Client.{is_new, is_active, start_row, begin_row, begin_at, kill_row}
 use Rattle.zy_table.specs.declared.access.Access.TheVariants as access
-use Rattle.zy_table.specs.Run.{boundary, same_node, program_of, abort_row, set_row, jump_row, gone_pages, commit_or_gone, commit_row, absent_row, read_row, write_row, full_row, split_row, insert_row, lock_of, is_there, has_room, access_row, page_row, key_row, value_for, first_absent, first_taken, sum_row, sum_or_waits, sum_or_asks, range_row, instr_row, run_row}
+use Rattle.zy_table.specs.declared.effect.Effect.TheVariants as effect
+use Rattle.zy_table.specs.declared.effect.Effect.{Effect}
+use Rattle.zy_table.specs.Effects.{effect_of}
+use Rattle.zy_table.specs.Run.{boundary, same_node, program_of, abort_row, set_row, jump_row, gone_pages, commit_or_gone, commit_row, absent_row, read_row, write_row, full_row, split_row, insert_row, lock_of, is_there, has_room, access_row, page_row, key_row, value_for, first_absent, first_taken, sum_row, sum_or_waits, sum_or_asks, range_row, effect_row, instr_row, run_row}
 use Rattle.zy_table.specs.Ranges.{range, range_pages, total}
 use Rattle.zy_table.specs.declared.access.Access.{Access}
 use Rattle.zy_table.specs.declared.access.Access.TheVariants.{Reads}
@@ -47,12 +49,20 @@ use Rattle.zy_table.proofs.PageLists.{least-owns}
 use Rattle.zy_table.proofs.RangeLists.{found_has, key_of_page, none_passes}
 use Rattle.zy_table.proofs.AbortedLocks.{aborted-locked}
 
--- t runs at n, and its next instruction is i
-pub record Runs (sc : Scenario) (n : Node) (t : ℕ) (i : Instr) (v : View) : Type 0 where
+-- t runs at n, and e is what its next instruction does
+pub record Runs (sc : Scenario) (n : Node) (t : ℕ) (e : Effect) (v : View) : Type 0 where
+  pub instr : Instr
   pub active : is_active (txn_at v t).status ≡ true
   pub here : (txn_at v t).node ≡ n
   pub begun : is_waiting v.me.mode ≡ false
-  pub next : slice_get (program_of sc t) (txn_at v t).pc ≡ Some i
+  pub next : slice_get (program_of sc t) (txn_at v t).pc ≡ Some instr
+  pub does : effect_of instr (txn_at v t).regs ≡ e
+
+-- where an effect that needs no page leaves a transaction: its place and its registers
+pub data Leads (e : Effect) (x : Txn) (pc : ℕ) (regs : List ℕ) : Type 0 where
+  BySet : (r : Reg) (value : ℕ) → e ≡ effect.Sets r value → pc ≡ x.pc + 1 → regs ≡ with_reg r value x.regs → Leads e x pc regs
+  ByJump : (taken : Bool) (to : ℕ) → e ≡ effect.Jumps taken to → pc ≡ (if taken then to else x.pc + 1) → regs ≡ x.regs → Leads e x pc regs
+  BySum : (r : Reg) (first last : ℕ) → e ≡ effect.Sums r first last → nat_lt last first ≡ true → pc ≡ x.pc + 1 → regs ≡ with_reg r 0 x.regs → Leads e x pc regs
 
 -- the key's page is here, and nobody's lock is in the way
 pub record Free (t k : ℕ) (kind : LockKind) (v : View) : Type 0 where
@@ -63,16 +73,12 @@ pub record Free (t k : ℕ) (kind : LockKind) (v : View) : Type 0 where
 abbrev pub has_lock : ℕ → ℕ → LockKind → View → View
 has_lock t k kind v = locked t (page_of v.me.lows k) kind v
 
--- the key in a register of t, and its page
-abbrev pub key : ℕ → Reg → View → ℕ
-key t r v = reg (txn_at v t).regs r
-
-abbrev pub page : ℕ → Reg → View → ℕ
-page t r v = page_of v.me.lows (key t r v)
+abbrev pub page : ℕ → View → ℕ
+page k v = page_of v.me.lows k
 
 -- t puts a private row, with its page locked
-abbrev pub puts : ℕ → Reg → Reg → View → View
-puts t r q v = did t ((txn_at v t).pc + 1) (txn_at v t).regs (put_row (key t r v) (key t q v) (txn_at v t).rows) (has_lock t (key t r v) Exclusive v)
+abbrev pub puts : ℕ → ℕ → ℕ → View → View
+puts t k x v = did t ((txn_at v t).pc + 1) (txn_at v t).regs (put_row k x (txn_at v t).rows) (has_lock t k Exclusive v)
 
 -- what t reads at a key
 abbrev pub value_at : ℕ → ℕ → View → ℕ
@@ -104,29 +110,22 @@ pub data Event (sc : Scenario) (n : Node) (v w : View) : Type 0 where
   Rests : w ≡ v → Event sc n v w
   Begins : (t : ℕ) (h : Node) → n ≡ A → is_new (txn_at v t).status ≡ true → home_of v.me.mode v.them.mode ≡ Some h → w ≡ begun h t v → Event sc n v w
   Aborts : (t : ℕ) (y : Why) → is_active (txn_at v t).status ≡ true → (txn_at v t).node ≡ n → w ≡ aborted t y v → Event sc n v w
-  Sets : (t : ℕ) (r : Reg) (x : ℕ) → Runs sc n t (Set r x) v
-      → w ≡ did t ((txn_at v t).pc + 1) (with_reg r x (txn_at v t).regs) (txn_at v t).rows v → Event sc n v w
-  Adds : (t : ℕ) (r q : Reg) → Runs sc n t (Add r q) v
-      → w ≡ did t ((txn_at v t).pc + 1) (with_reg r ((reg (txn_at v t).regs r + reg (txn_at v t).regs q) % 2 ^ 32) (txn_at v t).regs) (txn_at v t).rows v → Event sc n v w
-  Jumps : (t : ℕ) (r q : Reg) (to : ℕ) → Runs sc n t (Beq r q to) v
-      → w ≡ did t (if reg (txn_at v t).regs r == reg (txn_at v t).regs q then to else (txn_at v t).pc + 1) (txn_at v t).regs (txn_at v t).rows v
+  GoesOn : (t : ℕ) (x : Effect) (pc : ℕ) (regs : List ℕ) → Runs sc n t x v → Leads x (txn_at v t) pc regs
+      → w ≡ did t pc regs (txn_at v t).rows v → Event sc n v w
+  Gets : (t : ℕ) (r : Reg) (k : ℕ) → Runs sc n t (effect.Accesses (Reads r) k) v → Free t k Shared v
+      → w ≡ did t ((txn_at v t).pc + 1) (with_reg r (value_at t k v) (txn_at v t).regs) (txn_at v t).rows (has_lock t k Shared v)
       → Event sc n v w
-  Gets : (t : ℕ) (r q : Reg) → Runs sc n t (Read r q) v → Free t (key t q v) Shared v
-      → w ≡ did t ((txn_at v t).pc + 1) (with_reg r (value_at t (key t q v) v) (txn_at v t).regs) (txn_at v t).rows (has_lock t (key t q v) Shared v)
+  SumsUp : (t : ℕ) (r : Reg) (a b : ℕ) → Runs sc n t (effect.Sums r a b) v → FreeRange t a b v
+      → w ≡ did t ((txn_at v t).pc + 1) (with_reg r (sum_at t a b v % 2 ^ 32) (txn_at v t).regs) (txn_at v t).rows (has_locks t a b v)
       → Event sc n v w
-  SumsUp : (t : ℕ) (r q : Reg) → Runs sc n t (Sum r q) v → FreeRange t (key t r v) (key t q v) v
-      → w ≡ did t ((txn_at v t).pc + 1) (with_reg r (sum_at t (key t r v) (key t q v) v % 2 ^ 32) (txn_at v t).regs) (txn_at v t).rows (has_locks t (key t r v) (key t q v) v)
-      → Event sc n v w
-  SumsNone : (t : ℕ) (r q : Reg) → Runs sc n t (Sum r q) v → nat_lt (key t q v) (key t r v) ≡ true
-      → w ≡ did t ((txn_at v t).pc + 1) (with_reg r 0 (txn_at v t).regs) (txn_at v t).rows v → Event sc n v w
-  Writes : (t : ℕ) (r q : Reg) → Runs sc n t (Write r q) v → Free t (key t r v) Exclusive v → is_there (key t r v) (page t r v) v.me (txn_at v t) ≡ true
-      → w ≡ puts t r q v → Event sc n v w
-  Inserts : (t : ℕ) (r q : Reg) → Runs sc n t (Insert r q) v → Free t (key t r v) Exclusive v → is_there (key t r v) (page t r v) v.me (txn_at v t) ≡ false
-      → has_room sc (page t r v) v.me (txn_at v t) ≡ true → w ≡ puts t r q v → Event sc n v w
-  Splits : (t : ℕ) (r q : Reg) → Runs sc n t (Insert r q) v → Free t (key t r v) Exclusive v → is_there (key t r v) (page t r v) v.me (txn_at v t) ≡ false
-      → has_room sc (page t r v) v.me (txn_at v t) ≡ false → may_split v.me.mode ≡ true → (nat_le sc.pages (length v.me.lows)) ≡ false
-      → w ≡ cut t (page t r v) (boundary sc (key t r v) (page t r v) v.me (txn_at v t)) (has_lock t (key t r v) Exclusive v) → Event sc n v w
-  Commits : (t : ℕ) → Runs sc n t Commit v → least (gone_pages v.me (txn_at v t).rows) ≡ None → w ≡ committed t v → Event sc n v w
+  Writes : (t k x : ℕ) → Runs sc n t (effect.Accesses (access.Writes x) k) v → Free t k Exclusive v → is_there k (page k v) v.me (txn_at v t) ≡ true
+      → w ≡ puts t k x v → Event sc n v w
+  Inserts : (t k x : ℕ) → Runs sc n t (effect.Accesses (access.Inserts x) k) v → Free t k Exclusive v → is_there k (page k v) v.me (txn_at v t) ≡ false
+      → has_room sc (page k v) v.me (txn_at v t) ≡ true → w ≡ puts t k x v → Event sc n v w
+  Splits : (t k x : ℕ) → Runs sc n t (effect.Accesses (access.Inserts x) k) v → Free t k Exclusive v → is_there k (page k v) v.me (txn_at v t) ≡ false
+      → has_room sc (page k v) v.me (txn_at v t) ≡ false → may_split v.me.mode ≡ true → (nat_le sc.pages (length v.me.lows)) ≡ false
+      → w ≡ cut t (page k v) (boundary sc k (page k v) v.me (txn_at v t)) (has_lock t k Exclusive v) → Event sc n v w
+  Commits : (t : ℕ) → Runs sc n t effect.Commits v → least (gone_pages v.me (txn_at v t).rows) ≡ None → w ≡ committed t v → Event sc n v w
   Asks : (p : ℕ) → owns v.me.pages p ≡ false → may_pull v.me.mode ≡ true → has v.me.asked p ≡ false → w ≡ asks p v → Event sc n v w
   Starts : (sc.version ≡ One → n ≡ A) → v.me.mode ≡ Normal → v.them.mode ≡ Empty → w ≡ post (Wire v.me.lows) (turns SInit v) → Event sc n v w
   GotWire : (lows : List ℕ) (ms : List Message) → v.inbox ≡ Wire lows ∷ ms → v.me.mode ≡ Empty
@@ -148,7 +147,7 @@ pub data Event (sc : Scenario) (n : Node) (v w : View) : Type 0 where
 
 -- the newest low keys after a row: a split alone adds one
 abbrev pub lows_after : (sc : Scenario) (n : Node) (v w : View) (lows : List ℕ) → Event sc n v w → List ℕ
-lows_after sc n v w lows (Splits t r q runs f new full normal pages e) = lows ++ boundary sc (key t r v) (page t r v) v.me (txn_at v t) ∷ []
+lows_after sc n v w lows (Splits t k x runs f new full normal pages e) = lows ++ boundary sc k (page k v) v.me (txn_at v t) ∷ []
 lows_after sc n v w lows e = lows
 
 -- t aborts since a key's page is gone: the page is not here, and cannot be asked for, or the key is a private row's
@@ -170,7 +169,7 @@ pub record Strange (v : View) : Type 0 where
 
 -- a split's outcome tells the number of the new page, a start's that it acted; and a page that is asked for is that of a key
 abbrev pub Told : {sc : Scenario} {n : Node} {v w : View} → Event sc n v w → Outcome → Type 0
-Told {v = v} (Splits t r q runs f new full normal pages e) o = (p b : ℕ) × (o ≡ outcome.Split p (length v.me.lows) b)
+Told {v = v} (Splits t k x runs f new full normal pages e) o = (p b : ℕ) × (o ≡ outcome.Split p (length v.me.lows) b)
 Told (Starts at_a normal empty e) o = o ≡ outcome.Started
 Told {v = v} (Asks p gone pulls asked e) o = (k : ℕ) × (p ≡ page_of v.me.lows k)
 Told e o = Unit {0}
@@ -203,97 +202,112 @@ aborts_locked : (sc : Scenario) (n : Node) (t p : ℕ) (kind : LockKind) (y : Wh
 unfolding abort_row
 aborts_locked sc n t p kind y v a h g = plain sc n v _ (Aborts t y a h (aborted-locked t p kind y v)) g refl tt
 
-full_happens : (sc : Scenario) (n : Node) (t : ℕ) (r q : Reg) (v : View) → Runs sc n t (Insert r q) v → Free t (key t r v) Exclusive v → is_there (key t r v) (page t r v) v.me (txn_at v t) ≡ false → has_room sc (page t r v) v.me (txn_at v t) ≡ false
-    → Happens sc n v (full_row sc t (key t r v) (page t r v) (has_lock t (key t r v) Exclusive v))
+-- an effect that needs no page
+goes_on : (sc : Scenario) (n : Node) (t : ℕ) (e : Effect) (pc : ℕ) (regs : List ℕ) (v : View) → Runs sc n t e v → Leads e (txn_at v t) pc regs
+    → Happens sc n v (quiet (did t pc regs (txn_at v t).rows v) outcome.Did)
+goes_on sc n t e pc regs v runs leads = plain sc n v _ (GoesOn t e pc regs runs leads refl) refl refl tt
+
+full_happens : (sc : Scenario) (n : Node) (t k x : ℕ) (v : View) → Runs sc n t (effect.Accesses (access.Inserts x) k) v → Free t k Exclusive v
+    → is_there k (page k v) v.me (txn_at v t) ≡ false → has_room sc (page k v) v.me (txn_at v t) ≡ false
+    → Happens sc n v (full_row sc t k (page k v) (has_lock t k Exclusive v))
 unfolding full_row split_row locked txn_at
-full_happens sc n t r q v runs f new full =
+full_happens sc n t k x v runs f new full =
     cond_both (not (may_split v.me.mode)) _ _ (Happens sc n v)
-    (λ _. aborts_locked sc n t (page t r v) Exclusive _ v runs.active runs.here refl)
+    (λ _. aborts_locked sc n t (page k v) Exclusive _ v runs.active runs.here refl)
     (λ normal. cond_both (nat_le sc.pages (length v.me.lows)) _ _ (Happens sc n v)
-    (λ _. aborts_locked sc n t (page t r v) Exclusive _ v runs.active runs.here refl)
-    (λ more. plain sc n v _ (Splits t r q runs f new full (not-false _ normal) more refl) refl refl (_, _, refl)))
+    (λ _. aborts_locked sc n t (page k v) Exclusive _ v runs.active runs.here refl)
+    (λ more. plain sc n v _ (Splits t k x runs f new full (not-false _ normal) more refl) refl refl (_, _, refl)))
 
-insert_happens : (sc : Scenario) (n : Node) (t : ℕ) (r q : Reg) (v : View) → Runs sc n t (Insert r q) v → Free t (key t r v) Exclusive v
-    → Happens sc n v (insert_row sc t (key t r v) (key t q v) (page t r v) (has_lock t (key t r v) Exclusive v))
+insert_happens : (sc : Scenario) (n : Node) (t k x : ℕ) (v : View) → Runs sc n t (effect.Accesses (access.Inserts x) k) v → Free t k Exclusive v
+    → Happens sc n v (insert_row sc t k x (page k v) (has_lock t k Exclusive v))
 unfolding insert_row locked txn_at
-insert_happens sc n t r q v runs f =
-    cond_both (is_there (key t r v) (page t r v) v.me (txn_at v t)) _ _ (Happens sc n v)
-    (λ _. aborts_locked sc n t (page t r v) Exclusive _ v runs.active runs.here refl)
-    (λ new. cond_both (has_room sc (page t r v) v.me (txn_at v t)) _ _ (Happens sc n v)
-    (λ room. plain sc n v _ (Inserts t r q runs f new room refl) refl refl tt)
-    (λ full. full_happens sc n t r q v runs f new full))
+insert_happens sc n t k x v runs f =
+    cond_both (is_there k (page k v) v.me (txn_at v t)) _ _ (Happens sc n v)
+    (λ _. aborts_locked sc n t (page k v) Exclusive _ v runs.active runs.here refl)
+    (λ new. cond_both (has_room sc (page k v) v.me (txn_at v t)) _ _ (Happens sc n v)
+    (λ room. plain sc n v _ (Inserts t k x runs f new room refl) refl refl tt)
+    (λ full. full_happens sc n t k x v runs f new full))
 
-write_happens : (sc : Scenario) (n : Node) (t : ℕ) (r q : Reg) (v : View) → Runs sc n t (Write r q) v → Free t (key t r v) Exclusive v
-    → Happens sc n v (write_row t (key t r v) (key t q v) (page t r v) (has_lock t (key t r v) Exclusive v))
+write_happens : (sc : Scenario) (n : Node) (t k x : ℕ) (v : View) → Runs sc n t (effect.Accesses (access.Writes x) k) v → Free t k Exclusive v
+    → Happens sc n v (write_row t k x (page k v) (has_lock t k Exclusive v))
 unfolding write_row locked txn_at
-write_happens sc n t r q v runs f =
-    cond_both (is_there (key t r v) (page t r v) v.me (txn_at v t)) _ _ (Happens sc n v)
-    (λ there. plain sc n v _ (Writes t r q runs f there refl) refl refl tt)
-    (λ _. aborts_locked sc n t (page t r v) Exclusive _ v runs.active runs.here refl)
+write_happens sc n t k x v runs f =
+    cond_both (is_there k (page k v) v.me (txn_at v t)) _ _ (Happens sc n v)
+    (λ there. plain sc n v _ (Writes t k x runs f there refl) refl refl tt)
+    (λ _. aborts_locked sc n t (page k v) Exclusive _ v runs.active runs.here refl)
 
-read_happens : (sc : Scenario) (n : Node) (t : ℕ) (r q : Reg) (v : View) → Runs sc n t (Read r q) v → Free t (key t q v) Shared v
-    → Happens sc n v (read_row t r (key t q v) (page t q v) (has_lock t (key t q v) Shared v))
+read_happens : (sc : Scenario) (n : Node) (t : ℕ) (r : Reg) (k : ℕ) (v : View) → Runs sc n t (effect.Accesses (Reads r) k) v → Free t k Shared v
+    → Happens sc n v (read_row t r k (page k v) (has_lock t k Shared v))
 unfolding read_row locked txn_at
-read_happens sc n t r q v runs f = plain sc n v _ (Gets t r q runs f refl) refl refl tt
+read_happens sc n t r k v runs f = plain sc n v _ (Gets t r k runs f refl) refl refl tt
+
+-- an access that has its lock
+access_happens : (sc : Scenario) (n : Node) (t k : ℕ) (i : Access) (v : View) → Runs sc n t (effect.Accesses i k) v → Free t k (lock_of i) v
+    → Happens sc n v (access_row sc t i k (page k v) (has_lock t k (lock_of i) v))
+unfolding access_row
+access_happens sc n t k (Reads r) v runs f = read_happens sc n t r k v runs f
+access_happens sc n t k (access.Writes x) v runs f = write_happens sc n t k x v runs f
+access_happens sc n t k (access.Inserts x) v runs f = insert_happens sc n t k x v runs f
 
 -- a page that is not here
-absent_happens : (sc : Scenario) (n : Node) (t k : ℕ) (i : Instr) (v : View) → Runs sc n t i v → owns v.me.pages (page_of v.me.lows k) ≡ false
+absent_happens : (sc : Scenario) (n : Node) (t k : ℕ) (e : Effect) (v : View) → Runs sc n t e v → owns v.me.pages (page_of v.me.lows k) ≡ false
     → Happens sc n v (absent_row t (page_of v.me.lows k) v)
 unfolding absent_row
-absent_happens sc n t k i v r gone =
+absent_happens sc n t k e v r gone =
     cond_both (not (may_pull v.me.mode)) _ _ (Happens sc n v)
     (λ s. aborts sc n t _ v r.active r.here (λ _. record { txn = t; key = k; active = r.active; here = r.here; begun = r.begun; gone = gone; cause = inl (not-true _ s) }))
     (λ s. cond_both (has v.me.asked (page_of v.me.lows k)) _ _ (Happens sc n v)
     (λ _. rests sc n v _ refl refl)
     (λ h. plain sc n v _ (Asks (page_of v.me.lows k) gone (not-false _ s) h refl) refl refl (k, refl)))
 
--- a key instruction, where it has the lock, is one of these
-key_happens : (sc : Scenario) (n : Node) (t k : ℕ) (i : Instr) (x : Access) (v : View) → Runs sc n t i v
-    → (Free t k (lock_of x) v → Happens sc n v (access_row sc t x k (page_of v.me.lows k) (has_lock t k (lock_of x) v)))
-    → Happens sc n v (key_row sc t x k v)
+-- an access by its key and its page
+key_happens : (sc : Scenario) (n : Node) (t k : ℕ) (i : Access) (v : View) → Runs sc n t (effect.Accesses i k) v → Happens sc n v (key_row sc t i k v)
 unfolding key_row page_row
-key_happens sc n t k i x v runs on =
+key_happens sc n t k i v runs =
     cond_both (nat_lt 65535 k) _ _ (Happens sc n v)
     (λ _. aborts sc n t _ v runs.active runs.here (λ e. never e))
     (λ small. cond_both (not (owns v.me.pages (page_of v.me.lows k))) _ _ (Happens sc n v)
-    (λ gone. absent_happens sc n t k i v runs (not-true _ gone))
-    (λ here. cond_both (conflict v.me.locks (page_of v.me.lows k) t (lock_of x)) _ _ (Happens sc n v)
+    (λ gone. absent_happens sc n t k (effect.Accesses i k) v runs (not-true _ gone))
+    (λ here. cond_both (conflict v.me.locks (page_of v.me.lows k) t (lock_of i)) _ _ (Happens sc n v)
     (λ _. rests sc n v _ refl refl)
-    (λ free. on (record { small = small; here = not-false _ here; free = free }))))
+    (λ free. access_happens sc n t k i v runs (record { small = small; here = not-false _ here; free = free }))))
 
 -- the first of a sum's pages that is not here
-sum_absent : (sc : Scenario) (n : Node) (t a b p : ℕ) (i : Instr) (v : View) → Runs sc n t i v → first_absent v.me.pages (range_pages v.me.lows a b) ≡ Some p
+sum_absent : (sc : Scenario) (n : Node) (t a b p : ℕ) (i : Effect) (v : View) → Runs sc n t i v → first_absent v.me.pages (range_pages v.me.lows a b) ≡ Some p
     → Happens sc n v (absent_row t p v)
 sum_absent sc n t a b p i v runs e =
     let f = found_has (λ (z : ℕ). not (owns v.me.pages z)) (range_pages v.me.lows a b) p e in
     let k = key_of_page v.me.lows a b p f.0 in
     subst (λ z. Happens sc n v (absent_row t z v)) k.1 (absent_happens sc n t k.0 i v runs (ap (owns v.me.pages) k.1 ∙ not-true _ f.1))
 
-sum_waits_happens : (sc : Scenario) (n : Node) (t : ℕ) (r q : Reg) (o : Option ℕ) (v : View) → o ≡ first_taken v.me.locks t (range_pages v.me.lows (key t r v) (key t q v))
-    → Runs sc n t (Sum r q) v → nat_lt (key t q v) (key t r v) ≡ false → nat_lt 65535 (key t q v) ≡ false
-    → ((p : ℕ) → has (range_pages v.me.lows (key t r v) (key t q v)) p ≡ true → owns v.me.pages p ≡ true)
-    → Happens sc n v (sum_or_waits t r (key t r v) (key t q v) o v)
+sum_waits_happens : (sc : Scenario) (n : Node) (t : ℕ) (r : Reg) (a b : ℕ) (o : Option ℕ) (v : View) → o ≡ first_taken v.me.locks t (range_pages v.me.lows a b)
+    → Runs sc n t (effect.Sums r a b) v → nat_lt b a ≡ false → nat_lt 65535 b ≡ false
+    → ((p : ℕ) → has (range_pages v.me.lows a b) p ≡ true → owns v.me.pages p ≡ true)
+    → Happens sc n v (sum_or_waits t r a b o v)
 unfolding sum_or_waits sum_row set_row shares txn_at
-sum_waits_happens sc n t r q (Some p) v e runs rises small here = rests sc n v _ refl refl
-sum_waits_happens sc n t r q None v e runs rises small here =
-    plain sc n v _ (SumsUp t r q runs (record { rises = rises; small = small; here = here; free = λ p h. none_passes (λ (z : ℕ). conflict v.me.locks z t Shared) (range_pages v.me.lows (key t r v) (key t q v)) p (sym e) h }) refl) refl refl tt
+sum_waits_happens sc n t r a b (Some p) v e runs rises small here = rests sc n v _ refl refl
+sum_waits_happens sc n t r a b None v e runs rises small here =
+    let taken : ℕ → Bool = λ z. conflict v.me.locks z t Shared in
+    let free : FreeRange t a b v = record { rises = rises; small = small; here = here; free = λ p h. none_passes taken (range_pages v.me.lows a b) p (sym e) h } in
+    plain sc n v _ (SumsUp t r a b runs free refl) refl refl tt
 
-sum_asks_happens : (sc : Scenario) (n : Node) (t : ℕ) (r q : Reg) (o : Option ℕ) (v : View) → o ≡ first_absent v.me.pages (range_pages v.me.lows (key t r v) (key t q v))
-    → Runs sc n t (Sum r q) v → nat_lt (key t q v) (key t r v) ≡ false → nat_lt 65535 (key t q v) ≡ false
-    → Happens sc n v (sum_or_asks t r (key t r v) (key t q v) o v)
+sum_asks_happens : (sc : Scenario) (n : Node) (t : ℕ) (r : Reg) (a b : ℕ) (o : Option ℕ) (v : View) → o ≡ first_absent v.me.pages (range_pages v.me.lows a b)
+    → Runs sc n t (effect.Sums r a b) v → nat_lt b a ≡ false → nat_lt 65535 b ≡ false
+    → Happens sc n v (sum_or_asks t r a b o v)
 unfolding sum_or_asks
-sum_asks_happens sc n t r q (Some p) v e runs rises small = sum_absent sc n t (key t r v) (key t q v) p (Sum r q) v runs (sym e)
-sum_asks_happens sc n t r q None v e runs rises small =
-    sum_waits_happens sc n t r q _ v refl runs rises small (λ p h. not-false _ (none_passes (λ (z : ℕ). not (owns v.me.pages z)) (range_pages v.me.lows (key t r v) (key t q v)) p (sym e) h))
+sum_asks_happens sc n t r a b (Some p) v e runs rises small = sum_absent sc n t a b p (effect.Sums r a b) v runs (sym e)
+sum_asks_happens sc n t r a b None v e runs rises small =
+    let absent : ℕ → Bool = λ z. not (owns v.me.pages z) in
+    sum_waits_happens sc n t r a b _ v refl runs rises small (λ p h. not-false _ (none_passes absent (range_pages v.me.lows a b) p (sym e) h))
 
-range_happens : (sc : Scenario) (n : Node) (t : ℕ) (r q : Reg) (v : View) → Runs sc n t (Sum r q) v → Happens sc n v (range_row t r (key t r v) (key t q v) v)
+range_happens : (sc : Scenario) (n : Node) (t : ℕ) (r : Reg) (a b : ℕ) (v : View) → Runs sc n t (effect.Sums r a b) v → Happens sc n v (range_row t r a b v)
 unfolding range_row set_row
-range_happens sc n t r q v runs =
-    cond_both (nat_lt (key t q v) (key t r v)) _ _ (Happens sc n v)
-    (λ none. plain sc n v _ (SumsNone t r q runs none refl) refl refl tt)
-    (λ rises. cond_both (nat_lt 65535 (key t q v)) _ _ (Happens sc n v)
+range_happens sc n t r a b v runs =
+    cond_both (nat_lt b a) _ _ (Happens sc n v)
+    (λ none. goes_on sc n t (effect.Sums r a b) ((txn_at v t).pc + 1) (with_reg r 0 (txn_at v t).regs) v runs (BySum r a b refl none refl refl))
+    (λ rises. cond_both (nat_lt 65535 b) _ _ (Happens sc n v)
     (λ _. aborts sc n t _ v runs.active runs.here (λ e. never e))
-    (λ small. sum_asks_happens sc n t r q _ v refl runs rises small))
+    (λ small. sum_asks_happens sc n t r a b _ v refl runs rises small))
 
 -- a page that has gone has a private row
 gone_key : (x : NodeState) (rows all : List Row) → ((k : ℕ) → is_some (get_row rows k) ≡ true → is_some (get_row all k) ≡ true) → (p : ℕ) → least (gone_pages x rows) ≡ Some p
@@ -306,7 +320,7 @@ gone_key x (r ∷ rows) all sub p e =
       | inr gone ↦ (r.key, sub r.key (ap (λ b. is_some (if b then Some r.value else get_row rows r.key)) (eq-eqb r.key r.key refl)), gone)
     ]
 
-commit_happens : (sc : Scenario) (n : Node) (t : ℕ) (o : Option ℕ) (v : View) → o ≡ least (gone_pages v.me (txn_at v t).rows) → Runs sc n t Commit v
+commit_happens : (sc : Scenario) (n : Node) (t : ℕ) (o : Option ℕ) (v : View) → o ≡ least (gone_pages v.me (txn_at v t).rows) → Runs sc n t effect.Commits v
     → Happens sc n v (commit_or_gone t o v)
 unfolding commit_or_gone
 commit_happens sc n t (Some p) v e r =
@@ -315,19 +329,22 @@ commit_happens sc n t (Some p) v e r =
     record { txn = t; key = l.0; active = r.active; here = r.here; begun = r.begun; gone = l.2; cause = inr l.1 })
 commit_happens sc n t None v e r = plain sc n v _ (Commits t r (sym e) refl) refl refl tt
 
-instr_happens : (sc : Scenario) (n : Node) (t : ℕ) (o : Option Instr) (v : View) → ((i : Instr) → o ≡ Some i → Runs sc n t i v)
+effect_happens : (sc : Scenario) (n : Node) (t : ℕ) (e : Effect) (v : View) → Runs sc n t e v → Happens sc n v (effect_row sc t e v)
+unfolding effect_row set_row jump_row commit_row
+effect_happens sc n t (effect.Sets r x) v runs =
+    goes_on sc n t (effect.Sets r x) ((txn_at v t).pc + 1) (with_reg r x (txn_at v t).regs) v runs (BySet r x refl refl refl)
+effect_happens sc n t (effect.Jumps taken to) v runs =
+    goes_on sc n t (effect.Jumps taken to) (if taken then to else (txn_at v t).pc + 1) (txn_at v t).regs v runs (ByJump taken to refl refl refl)
+effect_happens sc n t (effect.Accesses i k) v runs = key_happens sc n t k i v runs
+effect_happens sc n t (effect.Sums r a b) v runs = range_happens sc n t r a b v runs
+effect_happens sc n t effect.Commits v runs = commit_happens sc n t _ v refl runs
+effect_happens sc n t effect.Aborts v runs = aborts sc n t _ v runs.active runs.here (λ e. never e)
+
+instr_happens : (sc : Scenario) (n : Node) (t : ℕ) (o : Option Instr) (v : View) → ((i : Instr) → o ≡ Some i → Runs sc n t (effect_of i (txn_at v t).regs) v)
     → Happens sc n v (instr_row sc t o (txn_at v t).regs v)
-unfolding instr_row set_row jump_row commit_row access_row
+unfolding instr_row
 instr_happens sc n t None v r = rests sc n v _ refl refl
-instr_happens sc n t (Some (Set a x)) v r = plain sc n v _ (Sets t a x (r _ refl) refl) refl refl tt
-instr_happens sc n t (Some (Add a q)) v r = plain sc n v _ (Adds t a q (r _ refl) refl) refl refl tt
-instr_happens sc n t (Some (Sum a q)) v r = range_happens sc n t a q v (r _ refl)
-instr_happens sc n t (Some (Beq a q to)) v r = plain sc n v _ (Jumps t a q to (r _ refl) refl) refl refl tt
-instr_happens sc n t (Some Abort) v r = let runs = r _ refl in aborts sc n t _ v runs.active runs.here (λ e. never e)
-instr_happens sc n t (Some Commit) v r = commit_happens sc n t _ v refl (r _ refl)
-instr_happens sc n t (Some (Read a q)) v r = key_happens sc n t (key t q v) (Read a q) (Reads a) v (r _ refl) (read_happens sc n t a q v (r _ refl))
-instr_happens sc n t (Some (Write a q)) v r = key_happens sc n t (key t a v) (Write a q) (access.Writes (key t q v)) v (r _ refl) (write_happens sc n t a q v (r _ refl))
-instr_happens sc n t (Some (Insert a q)) v r = key_happens sc n t (key t a v) (Insert a q) (access.Inserts (key t q v)) v (r _ refl) (insert_happens sc n t a q v (r _ refl))
+instr_happens sc n t (Some i) v r = effect_happens sc n t (effect_of i (txn_at v t).regs) v (r i refl)
 
 same_node-true : (a b : Node) → same_node a b ≡ true → a ≡ b
 same_node-true A A e = refl
@@ -344,7 +361,8 @@ run_happens sc n t v =
     (λ _. rests sc n v _ refl refl)
     (λ h. cond_both (is_waiting v.me.mode) _ _ (Happens sc n v)
     (λ _. rests sc n v _ refl refl)
-    (λ b. instr_happens sc n t _ v (λ i e. record { active = not-false _ a; here = same_node-true _ _ (not-false _ h); begun = b; next = e }))))
+    (λ b. instr_happens sc n t _ v (λ i e.
+    record { instr = i; active = not-false _ a; here = same_node-true _ _ (not-false _ h); begun = b; next = e; does = refl }))))
 
 -- the client's lines
 start_happens : (sc : Scenario) (n : Node) (v : View) → (sc.version ≡ One → n ≡ A) → Happens sc n v (start_row v)

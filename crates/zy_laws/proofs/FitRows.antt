@@ -8,7 +8,6 @@ use Rattle.std.proofs.lemmas.Bool.{cases_Bool, false≢true, ltb-true}
 use Rattle.std.proofs.lemmas.Bool.Decides.{nat_tests}
 use Rattle.zy_isa.specs.Rows.{Rising, put_row}
 use Rattle.zy_isa.specs.Scenario.{Scenario}
-use Rattle.zy_isa.specs.declared.instr.Reg.{Reg}
 use Rattle.zy_isa.specs.declared.node.Node.{Node}
 use Rattle.zy_locks.specs.declared.lock.LockKind.{LockKind}
 use Rattle.zy_locks.specs.declared.lock.LockKind.TheVariants.{Shared}
@@ -31,7 +30,7 @@ use Rattle.zy_laws.proofs.Boundary.{boundary_new}
 use Rattle.zy_laws.proofs.CutFit.{cut_fit}
 use Rattle.zy_laws.proofs.LockingRows.{home_placed, split_on}
 use Rattle.zy_laws.proofs.EachPage.{Each, each_append, each_at, each_both, each_front, each_installed, each_map, each_with_page, each_without}
-use Rattle.zy_laws.proofs.Events.{Aborts, Adds, Begins, Commits, Event, Gets, Inserts, Jumps, Rests, Sets, SumsUp, SumsNone, Writes, Splits, Asks, Starts, GotWire, GotReady, GotDual, IsStale, Gives, GotPage, GotLast, GotFinish, GotAll, GotDone, Finishes, Pushes, has_lock, key, page, puts, lows_after, arrived, rest}
+use Rattle.zy_laws.proofs.Events.{Aborts, Begins, Commits, Event, Gets, Inserts, Rests, SumsUp, Writes, Splits, Asks, Starts, GotWire, GotReady, GotDual, IsStale, Gives, GotPage, GotLast, GotFinish, GotAll, GotDone, Finishes, Pushes, has_lock, page, puts, lows_after, arrived, rest, GoesOn}
 use Rattle.zy_laws.proofs.Fit.{Fit, Room, Sized, commit_room, fit_acts, fit_stays, put_room}
 use Rattle.zy_table.proofs.LockLists.{exclusive_holds}
 use Rattle.zy_laws.proofs.Locking.{Kept, whole}
@@ -78,21 +77,21 @@ sum_fit sc n v lows t pc regs ps f at =
     let x = txn_at v t in
     goes_fit sc n v (did t pc regs x.rows (shares t ps v)) lows t (record x { pc = pc; regs = regs; done = x.done + 1 }) f at refl refl refl refl refl (f.rising t) (f.mine t at)
 
-put_fit : (sc : Scenario) (n : Node) (v : View) (lows : List ℕ) (t : ℕ) (r q : Reg) → Kept sc n v lows → Fit sc n v lows → IsAt v t n
-    → (is_there (key t r v) (page t r v) v.me (txn_at v t) ≡ true) ⊎ (has_room sc (page t r v) v.me (txn_at v t) ≡ true) → Fit sc n (puts t r q v) lows
+put_fit : (sc : Scenario) (n : Node) (v : View) (lows : List ℕ) (t key value : ℕ) → Kept sc n v lows → Fit sc n v lows → IsAt v t n
+    → (is_there key (page key v) v.me (txn_at v t) ≡ true) ⊎ (has_room sc (page key v) v.me (txn_at v t) ≡ true) → Fit sc n (puts t key value v) lows
 unfolding did locked txn_at
-put_fit sc n v lows t r q k f at room =
+put_fit sc n v lows t key value k f at room =
     let x = txn_at v t in
     let newest : v.me.lows ≡ lows = k.mine.newest (k.mine.busy t at) in
-    let p = page t r v in
-    let rows = put_row (key t r v) (key t q v) x.rows in
-    let less_than_cap : (is_there (key t r v) p v.me (txn_at v t) ≡ true) ⊎ (length (rows_of v.me.pages p) + need v.me.lows p (rows_of v.me.pages p) x.rows < sc.cap) = elim room [
+    let p = page key v in
+    let rows = put_row key value x.rows in
+    let less_than_cap : (is_there key p v.me (txn_at v t) ≡ true) ⊎ (length (rows_of v.me.pages p) + need v.me.lows p (rows_of v.me.pages p) x.rows < sc.cap) = elim room [
       | inl there ↦ inl there
       | inr less ↦ inr (let a = ltb-true _ _ less in let e = need_is v.me.lows p (rows_of v.me.pages p) x.rows in omega (arith, a, e))
     ] in
-    goes_fit sc n v (puts t r q v) lows t (record x { pc = x.pc + 1; rows = rows; done = x.done + 1 }) f at refl refl refl refl refl (rises_put 0 (key t r v) (key t q v) x.rows (omega arith) (f.rising t))
+    goes_fit sc n v (puts t key value v) lows t (record x { pc = x.pc + 1; rows = rows; done = x.done + 1 }) f at refl refl refl refl refl (rises_put 0 key value x.rows (omega arith) (f.rising t))
     (subst (λ l. Each (Room sc.cap l rows) v.me.pages) newest
-    (put_room sc.cap v.me.lows x.rows (key t r v) (key t q v) v.me.pages (f.rising t) (at_most v k.inv.owned) less_than_cap (subst (λ l. Each (Room sc.cap l x.rows) v.me.pages) (sym newest) (f.mine t at))))
+    (put_room sc.cap v.me.lows x.rows key value v.me.pages (f.rising t) (at_most v k.inv.owned) less_than_cap (subst (λ l. Each (Room sc.cap l x.rows) v.me.pages) (sym newest) (f.mine t at))))
 
 aborted_fit : (sc : Scenario) (n : Node) (v : View) (lows : List ℕ) (t : ℕ) (why : Why) → Fit sc n v lows → IsAt v t n
     → Fit sc n (aborted t why v) lows
@@ -201,23 +200,22 @@ pub fit_event : (sc : Scenario) (n : Node) (v w : View) (lows : List ℕ) → 2 
 fit_event sc n v w lows two k f (Rests e) = fit_along sc n w v lows e f
 fit_event sc n v w lows two k f (Begins t h a new home e) = fit_along sc n w _ lows e (begun_fit sc n v lows t h f new)
 fit_event sc n v w lows two k f (Aborts t y active here e) = fit_along sc n w _ lows e (aborted_fit sc n v lows t y f (active, here))
-fit_event sc n v w lows two k f (Sets t r x runs e) = fit_along sc n w _ lows e (did_fit sc n v lows t _ _ f (runs.active, runs.here))
-fit_event sc n v w lows two k f (Adds t r q runs e) = fit_along sc n w _ lows e (did_fit sc n v lows t _ _ f (runs.active, runs.here))
-fit_event sc n v w lows two k f (Jumps t r q to runs e) = fit_along sc n w _ lows e (did_fit sc n v lows t _ _ f (runs.active, runs.here))
-fit_event sc n v w lows two k f (Gets t r q runs g e) = fit_along sc n w _ lows e (get_fit sc n v lows t (key t q v) _ _ Shared f (runs.active, runs.here))
-fit_event sc n v w lows two k f (SumsUp t r q runs g e) = fit_along sc n w _ lows e (sum_fit sc n v lows t _ _ _ f (runs.active, runs.here))
-fit_event sc n v w lows two k f (SumsNone t r q runs none e) = fit_along sc n w _ lows e (did_fit sc n v lows t _ _ f (runs.active, runs.here))
-fit_event sc n v w lows two k f (Writes t r q runs g there e) = fit_along sc n w _ lows e (put_fit sc n v lows t r q k f (runs.active, runs.here) (inl there))
-fit_event sc n v w lows two k f (Inserts t r q runs g new room e) = fit_along sc n w _ lows e (put_fit sc n v lows t r q k f (runs.active, runs.here) (inr room))
-fit_event sc n v w lows two k f (Splits t r q runs g new full normal pages e) =
+fit_event sc n v w lows two k f (GoesOn t x pc regs runs leads e) = fit_along sc n w _ lows e (did_fit sc n v lows t _ _ f (runs.active, runs.here))
+fit_event sc n v w lows two k f (Gets t r key runs g e) = fit_along sc n w _ lows e (get_fit sc n v lows t key _ _ Shared f (runs.active, runs.here))
+fit_event sc n v w lows two k f (SumsUp t r first last runs g e) = fit_along sc n w _ lows e (sum_fit sc n v lows t _ _ _ f (runs.active, runs.here))
+fit_event sc n v w lows two k f (Writes t key value runs g there e) =
+    fit_along sc n w _ lows e (put_fit sc n v lows t key value k f (runs.active, runs.here) (inl there))
+fit_event sc n v w lows two k f (Inserts t key value runs g new room e) =
+    fit_along sc n w _ lows e (put_fit sc n v lows t key value k f (runs.active, runs.here) (inr room))
+fit_event sc n v w lows two k f (Splits t key value runs g new full normal pages e) =
     let at : IsAt v t n = (runs.active, runs.here) in
-    let p = page t r v in
-    let b = boundary sc (key t r v) p v.me (txn_at v t) in
+    let p = page key v in
+    let b = boundary sc key p v.me (txn_at v t) in
     let front = (each_front (Sized sc.cap) v.me.pages (rest_of v) f.sized).0 in
     let committed = (each_at (Sized sc.cap) p v.me.pages g.here front).1 in
     let newest = k.mine.newest (k.mine.busy t at) in
-    let other = boundary_new sc t (key t r v) p v k.first.0 (newest ∙ k.first.1) two (home_placed sc n v lows t k at) refl full committed (f.rising t) new in
-    fit_along sc n w _ (lows ++ b ∷ []) e (cut_fit sc n v lows t (key t r v) b k f at g normal (split_on sc n v lows t r q k runs full) other)
+    let other = boundary_new sc t key p v k.first.0 (newest ∙ k.first.1) two (home_placed sc n v lows t k at) refl full committed (f.rising t) new in
+    fit_along sc n w _ (lows ++ b ∷ []) e (cut_fit sc n v lows t key b k f at g normal (split_on sc n v lows t key value k runs full) other)
 fit_event sc n v w lows two k f (Commits t runs whole e) = fit_along sc n w _ lows e (committed_fit sc n v lows t k f (runs.active, runs.here))
 fit_event sc n v w lows two k f (Asks p gone may new e) = fit_along sc n w _ lows e (asks_fit sc n v lows p f)
 fit_event sc n v w lows two k f (Starts at_a a b e) = fit_along sc n w _ lows e (post_fit sc n _ lows (Wire v.me.lows) (turns_fit sc n v lows SInit f) refl)

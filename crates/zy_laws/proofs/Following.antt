@@ -1,6 +1,6 @@
 -- Each transaction that runs has come as far as its lone run on the database, which is that of the committed programs.
 use Rattle.zy_table.specs.Take.{is_held}
-use Rattle.std.proofs.Common.{List, [], ap, false, inl, inr, subst, sym, true, ℕ, ◌++◌, ◌∙◌, ◌∷◌, ◌≡◌}
+use Rattle.std.proofs.Common.{List, [], ap, inl, inr, subst, sym, true, ℕ, ◌++◌, ◌∙◌, ◌∷◌, ◌≡◌}
 use Rattle.std.specs.Prelude.{slice_set}
 use Rattle.std.proofs.lemmas.Bool.{cases_eq, false≢true}
 use Rattle.zy_isa.specs.Scenario.{Scenario}
@@ -19,14 +19,14 @@ use Rattle.zy_table.specs.declared.status.Status.{Status}
 use Rattle.zy_wire.specs.Wireframe.{page_of}
 use Rattle.zy_laws.proofs.Locking.{Kept}
 use Rattle.zy_table.specs.Numbers.{has}
-use Rattle.zy_laws.proofs.LoneRuns.{lone}
+use Rattle.zy_laws.proofs.LoneRuns.{lone, lone_at}
 use Rattle.zy_laws.proofs.PageValues.{db}
 use Rattle.zy_laws.proofs.Txns.{IsAt, at_other}
 
 -- a transaction has come as far as its lone run on the database, and holds the page of each key that the run touched
 pub record Follows (program : List Instr) (d : Map) (lows : List ℕ) (locks : List Lock) (t : ℕ) (x : Txn) : Type 0 where
   pub keys : List ℕ
-  pub run : lone d program x.done ≡ record { regs = x.regs; pc = x.pc; rows = x.rows; keys = keys; over = false }
+  pub run : lone d program x.done ≡ lone_at x keys
   pub covered : (k : ℕ) → has keys k ≡ true → holds locks (page_of lows k) t ≡ true
 
 pub record Serially (sc : Scenario) (n : Node) (v : View) (start : Map) (lows : List ℕ) : Type 0 where

@@ -1,20 +1,24 @@
 -- Each row of the table keeps the transactions along their lone runs.
 use Rattle.std.proofs.Common.{List, [], add-one, ap, length, false, inl, inr, refl, subst, sym, true, ℕ, ◌%◌, ◌+◌, ◌^◌, ◌∙◌, ◌++◌, ◌∷◌, ◌≡◌}
-use Rattle.std.specs.Prelude.{None, Option, Some, if◌then◌else◌, is_some, nat_lt, replicate, slice_get, slice_set, unwrap_or, ◌==◌, ◌||◌}
+use Rattle.std.specs.Prelude.{None, Option, Some, is_some, nat_lt, replicate, slice_get, slice_set, unwrap_or, ◌==◌, ◌||◌}
 use Rattle.std.specs.FinMap.{get}
 use Rattle.std.proofs.lemmas.Bool.{cases_eq, eqb-true, false≢true, or_cases}
 use Rattle.zy_isa.specs.Rows.{get_row, put_row}
 use Rattle.zy_isa.specs.Scenario.{Scenario}
 use Rattle.zy_isa.specs.declared.instr.Instr.{Instr}
-use Rattle.zy_isa.specs.declared.instr.Instr.TheVariants.{Add, Beq, Insert, Read, Set, Sum, Write}
 use Rattle.zy_isa.specs.declared.instr.Reg.{Reg}
 use Rattle.zy_isa.specs.declared.node.Node.{Node}
 use Rattle.zy_isa.specs.declared.row.Row.{Row}
 use Rattle.zy_locks.specs.Locks.{add_lock}
 use Rattle.zy_locks.specs.declared.lock.LockKind.{LockKind}
 use Rattle.zy_locks.specs.declared.lock.LockKind.TheVariants.{Exclusive, Shared}
-use Rattle.zy_table.specs.Change.{aborted, asks, begun, cut, did, leaves, locked, reg, share_all, shares, txn_at, with_reg}
+use Rattle.zy_table.specs.Change.{aborted, asks, begun, cut, did, leaves, locked, share_all, shares, txn_at, with_reg}
 use Rattle.zy_table.specs.Client.{is_active, is_new}
+use Rattle.zy_table.specs.declared.effect.Effect.{Effect}
+use Rattle.zy_table.specs.Effects.{effect_of}
+use Rattle.zy_table.specs.declared.access.Access.TheVariants as access
+use Rattle.zy_table.specs.declared.access.Access.TheVariants.{Reads}
+use Rattle.zy_table.specs.declared.effect.Effect.TheVariants as effect
 use Rattle.zy_table.specs.Numbers.{has}
 use Rattle.zy_table.specs.Database.{Map}
 use Rattle.zy_table.specs.Holders.{holds}
@@ -32,7 +36,7 @@ use Rattle.zy_laws.proofs.Values.{event_db}
 use Rattle.zy_laws.proofs.CutValues.{cut_db}
 use Rattle.zy_laws.proofs.Roles.{normal_other}
 use Rattle.zy_laws.proofs.Committing.{committed_serial}
-use Rattle.zy_laws.proofs.Events.{Aborts, Adds, Begins, Commits, Event, Gets, Inserts, Jumps, Rests, Runs, Sets, SumsUp, SumsNone, Writes, has_lock, has_locks, key, page, sum_at, value_at, Free, FreeRange, Splits, lows_after, Asks, Starts, GotWire, GotReady, GotDual, IsStale, Gives, GotPage, GotLast, GotFinish, GotAll, GotDone, Finishes, Pushes}
+use Rattle.zy_laws.proofs.Events.{Aborts, Begins, Commits, Event, Gets, Inserts, Rests, Runs, SumsUp, Writes, has_lock, has_locks, page, sum_at, value_at, Free, FreeRange, Splits, lows_after, Asks, Starts, GotWire, GotReady, GotDual, IsStale, Gives, GotPage, GotLast, GotFinish, GotAll, GotDone, Finishes, Pushes, GoesOn, Leads, BySet, ByJump, BySum}
 use Rattle.zy_laws.proofs.Following.{Follows, Serially, active_not, follows_same, keep_registers, new_not, registers_same}
 use Rattle.zy_laws.proofs.LockingRows.{has_lock_locking, split_on}
 use Rattle.zy_table.proofs.LockLists.{alone_new, holds-drop, holds_more, holds_new}
@@ -40,7 +44,7 @@ use Rattle.zy_table.proofs.RangeLists.{has_either, on_range_page, total_same}
 use Rattle.zy_table.proofs.SharedLocks.{holds_more_shared, holds_shared}
 use Rattle.zy_laws.proofs.Locking.{Kept, nobody_runs}
 use Rattle.zy_modes.specs.Table.{may_split}
-use Rattle.zy_laws.proofs.LoneRuns.{Lone, lone, lone_instr, lone_step, or_else}
+use Rattle.zy_laws.proofs.LoneRuns.{Lone, lone, lone_at, lone_effect, lone_instr, lone_step, or_else}
 use Rattle.zy_laws.proofs.PageValues.{db, page_value, value_same}
 use Rattle.zy_laws.proofs.Txns.{IsAt, Stands, at_either, at_other, at_same, at_self, not_both_nodes, not_new}
 
@@ -68,93 +72,92 @@ acts_serial sc n v w start lows t y s k at e node commits them same grow f = rec
 }
 
 -- one instruction more of a lone run
-next_run : (d : Map) (program : List Instr) (x : Txn) (keys : List ℕ) (i : Instr) (y : Lone)
-    → lone d program x.done ≡ record { regs = x.regs; pc = x.pc; rows = x.rows; keys = keys; over = false }
-    → slice_get program x.pc ≡ Some i → lone_instr d (Some i) (record { regs = x.regs; pc = x.pc; rows = x.rows; keys = keys; over = false }) ≡ y
-    → lone d program (x.done + 1) ≡ y
-unfolding lone_step
-next_run d program x keys i y run is h =
-    ap (lone d program) (add-one x.done) ∙ ap (lone_step d program) run ∙ ap (λ o. lone_instr d o (record { regs = x.regs; pc = x.pc; rows = x.rows; keys = keys; over = false })) is ∙ h
+next_run : (d : Map) (program : List Instr) (x : Txn) (keys : List ℕ) (i : Instr) (e : Effect) (y : Lone) → lone d program x.done ≡ lone_at x keys
+    → slice_get program x.pc ≡ Some i → effect_of i x.regs ≡ e → lone_effect d e (lone_at x keys) ≡ y → lone d program (x.done + 1) ≡ y
+unfolding lone_step lone_instr
+next_run d program x keys i e y run is does h =
+    ap (lone d program) (add-one x.done) ∙ ap (lone_step d program) run ∙ ap (λ o. lone_instr d o (lone_at x keys)) is
+    ∙ ap (λ z. lone_effect d z (lone_at x keys)) does ∙ h
 
--- set, add and beq
-plain_follows : (program : List Instr) (d : Map) (lows : List ℕ) (locks : List Lock) (t pc : ℕ) (regs : List ℕ) (x : Txn) (i : Instr)
-    → slice_get program x.pc ≡ Some i
-    → ((keys : List ℕ) → lone_instr d (Some i) (record { regs = x.regs; pc = x.pc; rows = x.rows; keys = keys; over = false }) ≡ record { regs = regs; pc = pc; rows = x.rows; keys = keys; over = false })
+-- an effect that needs no page
+plain_follows : (program : List Instr) (d : Map) (lows : List ℕ) (locks : List Lock) (t pc : ℕ) (regs : List ℕ) (x : Txn) (i : Instr) (e : Effect)
+    → slice_get program x.pc ≡ Some i → effect_of i x.regs ≡ e
+    → ((keys : List ℕ) → lone_effect d e (lone_at x keys) ≡ record { regs = regs; pc = pc; rows = x.rows; keys = keys; over = false })
     → Follows program d lows locks t x → Follows program d lows locks t (record x { pc = pc; regs = regs; done = x.done + 1 })
-plain_follows program d lows locks t pc regs x i is step f = record { keys = f.keys; run = next_run d program x f.keys i _ f.run is (step f.keys); covered = f.covered }
+plain_follows program d lows locks t pc regs x i e is does step f =
+    record { keys = f.keys; run = next_run d program x f.keys i e _ f.run is does (step f.keys); covered = f.covered }
 
-set_step : (d : Map) (r : Reg) (z : ℕ) (x : Txn) (keys : List ℕ)
-    → lone_instr d (Some (Set r z)) (record { regs = x.regs; pc = x.pc; rows = x.rows; keys = keys; over = false }) ≡ record { regs = with_reg r z x.regs; pc = x.pc + 1; rows = x.rows; keys = keys; over = false }
-unfolding lone_instr
-set_step d r z x keys = refl
+leads_step : (d : Map) (e : Effect) (x : Txn) (pc : ℕ) (regs keys : List ℕ) → Leads e x pc regs
+    → lone_effect d e (lone_at x keys) ≡ record { regs = regs; pc = pc; rows = x.rows; keys = keys; over = false }
+unfolding lone_effect
+leads_step d e x pc regs keys (BySet r value is a b) = rw (is, a, b) refl
+leads_step d e x pc regs keys (ByJump taken to is a b) = rw (is, a, b) refl
+leads_step d e x pc regs keys (BySum r first last is none a b) = rw (is, none, a, b) refl
 
-add_step : (d : Map) (r q : Reg) (x : Txn) (keys : List ℕ)
-    → lone_instr d (Some (Add r q)) (record { regs = x.regs; pc = x.pc; rows = x.rows; keys = keys; over = false }) ≡ record { regs = with_reg r ((reg x.regs r + reg x.regs q) % 2 ^ 32) x.regs; pc = x.pc + 1; rows = x.rows; keys = keys; over = false }
-unfolding lone_instr
-add_step d r q x keys = refl
-
-jump_step : (d : Map) (r q : Reg) (to : ℕ) (x : Txn) (keys : List ℕ)
-    → lone_instr d (Some (Beq r q to)) (record { regs = x.regs; pc = x.pc; rows = x.rows; keys = keys; over = false }) ≡ record { regs = x.regs; pc = if reg x.regs r == reg x.regs q then to else x.pc + 1; rows = x.rows; keys = keys; over = false }
-unfolding lone_instr
-jump_step d r q to x keys = refl
-
-goes_serial : (sc : Scenario) (n : Node) (v : View) (start : Map) (lows : List ℕ) (t pc : ℕ) (regs : List ℕ) (i : Instr) → Serially sc n v start lows
-    → Runs sc n t i v
-    → ((keys : List ℕ) → lone_instr (db v) (Some i) (record { regs = (txn_at v t).regs; pc = (txn_at v t).pc; rows = (txn_at v t).rows; keys = keys; over = false }) ≡ record { regs = regs; pc = pc; rows = (txn_at v t).rows; keys = keys; over = false })
+goes_serial : (sc : Scenario) (n : Node) (v : View) (start : Map) (lows : List ℕ) (t : ℕ) (e : Effect) (pc : ℕ) (regs : List ℕ) → Serially sc n v start lows
+    → Runs sc n t e v → Leads e (txn_at v t) pc regs
     → Kept sc n (did t pc regs (txn_at v t).rows v) lows → Serially sc n (did t pc regs (txn_at v t).rows v) start lows
 unfolding did
-goes_serial sc n v start lows t pc regs i s runs step k =
+goes_serial sc n v start lows t e pc regs s runs leads k =
     let at : IsAt v t n = (runs.active, runs.here) in
-    acts_serial sc n v (did t pc regs (txn_at v t).rows v) start lows t _ s k at refl refl refl refl refl (λ p u h. h) (plain_follows (program_of sc t) (db v) lows v.me.locks t pc regs (txn_at v t) i runs.next step (s.mine t at))
+    acts_serial sc n v (did t pc regs (txn_at v t).rows v) start lows t _ s k at refl refl refl refl refl (λ p u h. h)
+    (plain_follows (program_of sc t) (db v) lows v.me.locks t pc regs (txn_at v t) runs.instr e runs.next runs.does
+    (λ keys. leads_step (db v) e (txn_at v t) pc regs keys leads) (s.mine t at))
 
--- the key instructions, with the lock taken
-small_read : (d : Map) (r q : Reg) (x : Txn) (keys : List ℕ) (value : ℕ) → nat_lt 65535 (reg x.regs q) ≡ false
-    → value ≡ unwrap_or (or_else (get_row x.rows (reg x.regs q)) (get d (reg x.regs q))) 0
-    → lone_instr d (Some (Read r q)) (record { regs = x.regs; pc = x.pc; rows = x.rows; keys = keys; over = false }) ≡ record { regs = with_reg r value x.regs; pc = x.pc + 1; rows = x.rows; keys = reg x.regs q ∷ keys; over = false }
-unfolding lone_instr
-small_read d r q x keys value small val = rw (small, val) refl
+-- an access, with its lock taken
+small_read : (d : Map) (r : Reg) (k : ℕ) (x : Txn) (keys : List ℕ) (value : ℕ) → nat_lt 65535 k ≡ false
+    → value ≡ unwrap_or (or_else (get_row x.rows k) (get d k)) 0
+    → lone_effect d (effect.Accesses (Reads r) k) (lone_at x keys)
+    ≡ record { regs = with_reg r value x.regs; pc = x.pc + 1; rows = x.rows; keys = k ∷ keys; over = false }
+unfolding lone_effect
+small_read d r k x keys value small val = rw (small, val) refl
 
-small_write : (d : Map) (r q : Reg) (x : Txn) (keys : List ℕ) → nat_lt 65535 (reg x.regs r) ≡ false
-    → is_some (or_else (get_row x.rows (reg x.regs r)) (get d (reg x.regs r))) ≡ true
-    → lone_instr d (Some (Write r q)) (record { regs = x.regs; pc = x.pc; rows = x.rows; keys = keys; over = false }) ≡ record { regs = x.regs; pc = x.pc + 1; rows = put_row (reg x.regs r) (reg x.regs q) x.rows; keys = reg x.regs r ∷ keys; over = false }
-unfolding lone_instr
-small_write d r q x keys small there = rw (small, there) refl
+small_write : (d : Map) (k value : ℕ) (x : Txn) (keys : List ℕ) → nat_lt 65535 k ≡ false
+    → is_some (or_else (get_row x.rows k) (get d k)) ≡ true
+    → lone_effect d (effect.Accesses (access.Writes value) k) (lone_at x keys)
+    ≡ record { regs = x.regs; pc = x.pc + 1; rows = put_row k value x.rows; keys = k ∷ keys; over = false }
+unfolding lone_effect
+small_write d k value x keys small there = rw (small, there) refl
 
-small_insert : (d : Map) (r q : Reg) (x : Txn) (keys : List ℕ) → nat_lt 65535 (reg x.regs r) ≡ false
-    → is_some (or_else (get_row x.rows (reg x.regs r)) (get d (reg x.regs r))) ≡ false
-    → lone_instr d (Some (Insert r q)) (record { regs = x.regs; pc = x.pc; rows = x.rows; keys = keys; over = false }) ≡ record { regs = x.regs; pc = x.pc + 1; rows = put_row (reg x.regs r) (reg x.regs q) x.rows; keys = reg x.regs r ∷ keys; over = false }
-unfolding lone_instr
-small_insert d r q x keys small there = rw (small, there) refl
+small_insert : (d : Map) (k value : ℕ) (x : Txn) (keys : List ℕ) → nat_lt 65535 k ≡ false
+    → is_some (or_else (get_row x.rows k) (get d k)) ≡ false
+    → lone_effect d (effect.Accesses (access.Inserts value) k) (lone_at x keys)
+    ≡ record { regs = x.regs; pc = x.pc + 1; rows = put_row k value x.rows; keys = k ∷ keys; over = false }
+unfolding lone_effect
+small_insert d k value x keys small there = rw (small, there) refl
 
 some_or : (a b : Option ℕ) → is_some (or_else a b) ≡ (is_some a || is_some b)
 some_or None b = refl
 some_or (Some v) b = refl
 
-key_follows : (program : List Instr) (d : Map) (lows : List ℕ) (locks : List Lock) (kind : LockKind) (t k pc : ℕ) (regs : List ℕ) (rows : List Row) (x : Txn) (i : Instr) → slice_get program x.pc ≡ Some i
-    → ((keys : List ℕ) → lone_instr d (Some i) (record { regs = x.regs; pc = x.pc; rows = x.rows; keys = keys; over = false }) ≡ record { regs = regs; pc = pc; rows = rows; keys = k ∷ keys; over = false })
+key_follows : (program : List Instr) (d : Map) (lows : List ℕ) (locks : List Lock) (kind : LockKind) (t k pc : ℕ) (regs : List ℕ) (rows : List Row) (x : Txn)
+    (i : Instr) (e : Effect)
+    → slice_get program x.pc ≡ Some i → effect_of i x.regs ≡ e
+    → ((keys : List ℕ) → lone_effect d e (lone_at x keys) ≡ record { regs = regs; pc = pc; rows = rows; keys = k ∷ keys; over = false })
     → Follows program d lows locks t x
     → Follows program d lows (add_lock (page_of lows k) t kind locks) t (record x { pc = pc; regs = regs; rows = rows; done = x.done + 1 })
-key_follows program d lows locks kind t k pc regs rows x i is step f = record {
+key_follows program d lows locks kind t k pc regs rows x i e is does step f = record {
   keys = k ∷ f.keys;
-  run = next_run d program x f.keys i _ f.run is (step f.keys);
+  run = next_run d program x f.keys i e _ f.run is does (step f.keys);
   covered = λ j h. elim (or_cases (k == j) (has f.keys j) h) [
     | inl e ↦ subst (λ z. holds (add_lock (page_of lows k) t kind locks) (page_of lows z) t ≡ true) (eqb-true _ _ e) (holds_new (page_of lows k) t kind locks)
     | inr e ↦ holds_more (page_of lows k) t kind locks (page_of lows j) t (f.covered j e)
   ];
 }
 
-key_serial : (sc : Scenario) (n : Node) (v : View) (start : Map) (lows : List ℕ) (t k : ℕ) (kind : LockKind) (pc : ℕ) (regs : List ℕ) (rows : List Row) (i : Instr) → Serially sc n v start lows → Runs sc n t i v
-    → ((keys : List ℕ) → lone_instr (db v) (Some i) (record { regs = (txn_at v t).regs; pc = (txn_at v t).pc; rows = (txn_at v t).rows; keys = keys; over = false }) ≡ record { regs = regs; pc = pc; rows = rows; keys = k ∷ keys; over = false })
+key_serial : (sc : Scenario) (n : Node) (v : View) (start : Map) (lows : List ℕ) (t k : ℕ) (kind : LockKind) (pc : ℕ) (regs : List ℕ) (rows : List Row) (e : Effect)
+    → Serially sc n v start lows → Runs sc n t e v
+    → ((keys : List ℕ) → lone_effect (db v) e (lone_at (txn_at v t) keys) ≡ record { regs = regs; pc = pc; rows = rows; keys = k ∷ keys; over = false })
     → Kept sc n (did t pc regs rows (has_lock t k kind v)) lows → Serially sc n (did t pc regs rows (has_lock t k kind v)) start lows
 unfolding did locked txn_at
-key_serial sc n v start lows t k kind pc regs rows i s runs step h =
+key_serial sc n v start lows t k kind pc regs rows e s runs step h =
     let at : IsAt v t n = (runs.active, runs.here) in
     let newest : v.me.lows ≡ lows = s.kept.mine.newest (s.kept.mine.busy t at) in
     let w = did t pc regs rows (has_lock t k kind v) in
     let y : Txn = record (txn_at v t) { pc = pc; regs = regs; rows = rows; done = (txn_at v t).done + 1 } in
     acts_serial sc n v w start lows t y s h at refl refl refl refl refl (λ p u g. holds_more (page_of v.me.lows k) t kind v.me.locks p u g)
     (subst (λ l. Follows (program_of sc t) (db v) lows (add_lock (page_of l k) t kind v.me.locks) t y) (sym newest)
-    (key_follows (program_of sc t) (db v) lows v.me.locks kind t k pc regs rows (txn_at v t) i runs.next step (s.mine t at)))
+    (key_follows (program_of sc t) (db v) lows v.me.locks kind t k pc regs rows (txn_at v t) runs.instr e runs.next runs.does step (s.mine t at)))
 
 -- an aborted transaction is no more to be followed
 aborted_serial : (sc : Scenario) (n : Node) (v : View) (start : Map) (lows : List ℕ) (t : ℕ) (why : Why) → Serially sc n v start lows → IsAt v t n
@@ -238,43 +241,42 @@ sum_value sc n v lows t a b h at f =
     total_same (value_for (txn_at v t) v.me) _ (range a b) (λ k e. read_value sc n v lows t k h at (f.here (page_of v.me.lows k) (on_range_page v.me.lows a b k e)))
 
 -- a sum, with its pages locked
-small_sum : (d : Map) (r q : Reg) (x : Txn) (keys : List ℕ) (sum : ℕ) → nat_lt (reg x.regs q) (reg x.regs r) ≡ false → nat_lt 65535 (reg x.regs q) ≡ false
-    → sum ≡ total (λ k. unwrap_or (or_else (get_row x.rows k) (get d k)) 0) (range (reg x.regs r) (reg x.regs q))
-    → lone_instr d (Some (Sum r q)) (record { regs = x.regs; pc = x.pc; rows = x.rows; keys = keys; over = false }) ≡ record { regs = with_reg r (sum % 2 ^ 32) x.regs; pc = x.pc + 1; rows = x.rows; keys = range (reg x.regs r) (reg x.regs q) ++ keys; over = false }
-unfolding lone_instr
-small_sum d r q x keys sum rises small val = rw (rises, small, val) refl
-
-no_sum : (d : Map) (r q : Reg) (x : Txn) (keys : List ℕ) → nat_lt (reg x.regs q) (reg x.regs r) ≡ true
-    → lone_instr d (Some (Sum r q)) (record { regs = x.regs; pc = x.pc; rows = x.rows; keys = keys; over = false }) ≡ record { regs = with_reg r 0 x.regs; pc = x.pc + 1; rows = x.rows; keys = keys; over = false }
-unfolding lone_instr
-no_sum d r q x keys none = rw none refl
+small_sum : (d : Map) (r : Reg) (a b : ℕ) (x : Txn) (keys : List ℕ) (sum : ℕ) → nat_lt b a ≡ false → nat_lt 65535 b ≡ false
+    → sum ≡ total (λ k. unwrap_or (or_else (get_row x.rows k) (get d k)) 0) (range a b)
+    → lone_effect d (effect.Sums r a b) (lone_at x keys)
+    ≡ record { regs = with_reg r (sum % 2 ^ 32) x.regs; pc = x.pc + 1; rows = x.rows; keys = range a b ++ keys; over = false }
+unfolding lone_effect
+small_sum d r a b x keys sum rises small val = rw (rises, small, val) refl
 
 -- each key of the range lies on a page that t now holds
-range_follows : (program : List Instr) (d : Map) (lows : List ℕ) (locks : List Lock) (t a b pc : ℕ) (regs : List ℕ) (x : Txn) (i : Instr) → slice_get program x.pc ≡ Some i
-    → ((keys : List ℕ) → lone_instr d (Some i) (record { regs = x.regs; pc = x.pc; rows = x.rows; keys = keys; over = false }) ≡ record { regs = regs; pc = pc; rows = x.rows; keys = range a b ++ keys; over = false })
+range_follows : (program : List Instr) (d : Map) (lows : List ℕ) (locks : List Lock) (t a b pc : ℕ) (regs : List ℕ) (x : Txn) (i : Instr) (e : Effect)
+    → slice_get program x.pc ≡ Some i → effect_of i x.regs ≡ e
+    → ((keys : List ℕ) → lone_effect d e (lone_at x keys) ≡ record { regs = regs; pc = pc; rows = x.rows; keys = range a b ++ keys; over = false })
     → Follows program d lows locks t x
     → Follows program d lows (share_all (range_pages lows a b) t locks) t (record x { pc = pc; regs = regs; done = x.done + 1 })
-range_follows program d lows locks t a b pc regs x i is step f = record {
+range_follows program d lows locks t a b pc regs x i e is does step f = record {
   keys = range a b ++ f.keys;
-  run = next_run d program x f.keys i _ f.run is (step f.keys);
+  run = next_run d program x f.keys i e _ f.run is does (step f.keys);
   covered = λ k h. elim (has_either (range a b) f.keys k h) [
     | inl new ↦ holds_shared (range_pages lows a b) t locks (page_of lows k) (on_range_page lows a b k new)
     | inr old ↦ holds_more_shared (range_pages lows a b) t locks (page_of lows k) t (f.covered k old)
   ];
 }
 
-range_serial : (sc : Scenario) (n : Node) (v : View) (start : Map) (lows : List ℕ) (t a b pc : ℕ) (regs : List ℕ) (i : Instr) → Serially sc n v start lows → Runs sc n t i v
-    → ((keys : List ℕ) → lone_instr (db v) (Some i) (record { regs = (txn_at v t).regs; pc = (txn_at v t).pc; rows = (txn_at v t).rows; keys = keys; over = false }) ≡ record { regs = regs; pc = pc; rows = (txn_at v t).rows; keys = range a b ++ keys; over = false })
+range_serial : (sc : Scenario) (n : Node) (v : View) (start : Map) (lows : List ℕ) (t a b pc : ℕ) (regs : List ℕ) (e : Effect)
+    → Serially sc n v start lows → Runs sc n t e v
+    → ((keys : List ℕ) → lone_effect (db v) e (lone_at (txn_at v t) keys)
+    ≡ record { regs = regs; pc = pc; rows = (txn_at v t).rows; keys = range a b ++ keys; over = false })
     → Kept sc n (did t pc regs (txn_at v t).rows (has_locks t a b v)) lows → Serially sc n (did t pc regs (txn_at v t).rows (has_locks t a b v)) start lows
 unfolding did shares txn_at
-range_serial sc n v start lows t a b pc regs i s runs step h =
+range_serial sc n v start lows t a b pc regs e s runs step h =
     let at : IsAt v t n = (runs.active, runs.here) in
     let newest : v.me.lows ≡ lows = s.kept.mine.newest (s.kept.mine.busy t at) in
     let w = did t pc regs (txn_at v t).rows (has_locks t a b v) in
     let y : Txn = record (txn_at v t) { pc = pc; regs = regs; done = (txn_at v t).done + 1 } in
     acts_serial sc n v w start lows t y s h at refl refl refl refl refl (λ p u g. holds_more_shared (range_pages v.me.lows a b) t v.me.locks p u g)
     (subst (λ l. Follows (program_of sc t) (db v) lows (share_all (range_pages l a b) t v.me.locks) t y) (sym newest)
-    (range_follows (program_of sc t) (db v) lows v.me.locks t a b pc regs (txn_at v t) i runs.next step (s.mine t at)))
+    (range_follows (program_of sc t) (db v) lows v.me.locks t a b pc regs (txn_at v t) runs.instr e runs.next runs.does step (s.mine t at)))
 
 -- a split moves the keys of t's page alone
 cut_follows : (program : List Instr) (d e : Map) (more : List ℕ) (locks : List Lock) (q b t u : ℕ) (x : Txn) → e ≡ d → length (0 ∷ more) ≡ q
@@ -344,21 +346,23 @@ unfolding asks leaves
 serial_event sc n v w start lows s (Rests e) k = subst (λ x. Serially sc n x start lows) (sym e) s
 serial_event sc n v w start lows s (Begins t h a new home e) k = along sc n w _ start lows e k (begun_serial sc n v start lows t h s new)
 serial_event sc n v w start lows s (Aborts t y active here e) k = along sc n w _ start lows e k (aborted_serial sc n v start lows t y s (active, here))
-serial_event sc n v w start lows s (Sets t r x runs e) k = along sc n w _ start lows e k (goes_serial sc n v start lows t _ _ (Set r x) s runs (set_step (db v) r x (txn_at v t)))
-serial_event sc n v w start lows s (Adds t r q runs e) k = along sc n w _ start lows e k (goes_serial sc n v start lows t _ _ (Add r q) s runs (add_step (db v) r q (txn_at v t)))
-serial_event sc n v w start lows s (SumsUp t r q runs f e) k = along sc n w _ start lows e k
-    (range_serial sc n v start lows t (key t r v) (key t q v) _ _ (Sum r q) s runs (λ keys. small_sum (db v) r q (txn_at v t) keys (sum_at t (key t r v) (key t q v) v) f.rises f.small (sum_value sc n v lows t (key t r v) (key t q v) s.kept (runs.active, runs.here) f)))
-serial_event sc n v w start lows s (SumsNone t r q runs none e) k = along sc n w _ start lows e k (goes_serial sc n v start lows t _ _ (Sum r q) s runs (λ keys. no_sum (db v) r q (txn_at v t) keys none))
-serial_event sc n v w start lows s (Jumps t r q to runs e) k = along sc n w _ start lows e k (goes_serial sc n v start lows t _ _ (Beq r q to) s runs (jump_step (db v) r q to (txn_at v t)))
-serial_event sc n v w start lows s (Gets t r q runs f e) k = along sc n w _ start lows e k
-    (key_serial sc n v start lows t (key t q v) Shared _ _ _ (Read r q) s runs (λ keys. small_read (db v) r q (txn_at v t) keys (value_at t (key t q v) v) f.small (read_value sc n v lows t (key t q v) s.kept (runs.active, runs.here) f.here)))
-serial_event sc n v w start lows s (Writes t r q runs f there e) k = along sc n w _ start lows e k
-    (key_serial sc n v start lows t (key t r v) Exclusive _ _ _ (Write r q) s runs (λ keys. small_write (db v) r q (txn_at v t) keys f.small (there_value sc n v lows t (key t r v) Exclusive s.kept (runs.active, runs.here) f ∙ there)))
-serial_event sc n v w start lows s (Inserts t r q runs f new room e) k = along sc n w _ start lows e k
-    (key_serial sc n v start lows t (key t r v) Exclusive _ _ _ (Insert r q) s runs (λ keys. small_insert (db v) r q (txn_at v t) keys f.small (there_value sc n v lows t (key t r v) Exclusive s.kept (runs.active, runs.here) f ∙ new)))
-serial_event sc n v w start lows s (Splits t r q runs f new full normal pages e) k =
-    let on = split_on sc n v lows t r q s.kept runs full in
-    along sc n w _ start (lows ++ boundary sc (key t r v) (page t r v) v.me (txn_at v t) ∷ []) e k (cut_serial sc n v start lows t (key t r v) _ s (runs.active, runs.here) f normal on)
+serial_event sc n v w start lows s (GoesOn t x pc regs runs leads e) k = along sc n w _ start lows e k (goes_serial sc n v start lows t x pc regs s runs leads)
+serial_event sc n v w start lows s (SumsUp t r a b runs f e) k = along sc n w _ start lows e k
+    (range_serial sc n v start lows t a b _ _ (effect.Sums r a b) s runs (λ keys.
+    small_sum (db v) r a b (txn_at v t) keys (sum_at t a b v) f.rises f.small (sum_value sc n v lows t a b s.kept (runs.active, runs.here) f)))
+serial_event sc n v w start lows s (Gets t r key runs f e) k = along sc n w _ start lows e k
+    (key_serial sc n v start lows t key Shared _ _ _ (effect.Accesses (Reads r) key) s runs (λ keys.
+    small_read (db v) r key (txn_at v t) keys (value_at t key v) f.small (read_value sc n v lows t key s.kept (runs.active, runs.here) f.here)))
+serial_event sc n v w start lows s (Writes t key value runs f there e) k = along sc n w _ start lows e k
+    (key_serial sc n v start lows t key Exclusive _ _ _ (effect.Accesses (access.Writes value) key) s runs (λ keys.
+    small_write (db v) key value (txn_at v t) keys f.small (there_value sc n v lows t key Exclusive s.kept (runs.active, runs.here) f ∙ there)))
+serial_event sc n v w start lows s (Inserts t key value runs f new room e) k = along sc n w _ start lows e k
+    (key_serial sc n v start lows t key Exclusive _ _ _ (effect.Accesses (access.Inserts value) key) s runs (λ keys.
+    small_insert (db v) key value (txn_at v t) keys f.small (there_value sc n v lows t key Exclusive s.kept (runs.active, runs.here) f ∙ new)))
+serial_event sc n v w start lows s (Splits t key value runs f new full normal pages e) k =
+    let on = split_on sc n v lows t key value s.kept runs full in
+    along sc n w _ start (lows ++ boundary sc key (page key v) v.me (txn_at v t) ∷ []) e k
+    (cut_serial sc n v start lows t key _ s (runs.active, runs.here) f normal on)
 serial_event sc n v w start lows s (Commits t runs all e) k = along sc n w _ start lows e k (committed_serial sc n v start lows t s runs)
 serial_event sc n v w start lows s (Asks p gone pulls asked e) k = along sc n w _ start lows e k (stays_serial sc n v _ start lows s refl refl refl refl (event_db sc n v _ lows s.kept (Asks p gone pulls asked refl) refl))
 serial_event sc n v w start lows s (Starts at_a normal empty e) k = along sc n w _ start lows e k (stays_serial sc n v _ start lows s refl refl refl refl (event_db sc n v _ lows s.kept (Starts at_a normal empty refl) refl))

@@ -12,7 +12,7 @@ use Rattle.zy_table.specs.Play.{move, opening, play, side_of, step}
 use Rattle.zy_table.specs.Serial.{Listed, is_committed, times_listed}
 use Rattle.zy_table.specs.declared.entry.CommitRec.{CommitRec}
 use Rattle.zy_table.specs.State.{State, Txn, View, facing, seen_from}
-use Rattle.zy_laws.proofs.Events.{Aborts, Adds, Asks, Begins, Commits, Event, Finishes, Gets, Gives, GotAll, GotDone, GotDual, GotFinish, GotLast, GotPage, GotReady, GotWire, Inserts, IsStale, Jumps, Pushes, Rests, Sets, SumsUp, SumsNone, Splits, Starts, Writes, step_happens}
+use Rattle.zy_laws.proofs.Events.{Aborts, Asks, Begins, Commits, Event, Finishes, Gets, Gives, GotAll, GotDone, GotDual, GotFinish, GotLast, GotPage, GotReady, GotWire, Inserts, IsStale, Pushes, Rests, SumsUp, Splits, Starts, Writes, step_happens, GoesOn}
 use Rattle.zy_laws.proofs.PlayPush.{play-keeps}
 use Rattle.zy_laws.proofs.Room.{one_if}
 use Rattle.zy_laws.proofs.SafeCounts.{active_off, new_off, txns_of}
@@ -70,15 +70,12 @@ unfolding did locked shares txn_at aborted begun committed cut asks leaves
 told sc n v w u (Rests e) = told_same v w u (ap txns_of e) (ap commits_of e)
 told sc n v w u (Begins t h a new home e) = told_set v w t u _ (ap txns_of e) (ap commits_of e) (sym (new_off (txn_at v t).status new))
 told sc n v w u (Aborts t y active here e) = told_set v w t u _ (ap txns_of e) (ap commits_of e) (sym (active_off (txn_at v t).status active))
-told sc n v w u (Sets t r x runs e) = told_set v w t u _ (ap txns_of e) (ap commits_of e) refl
-told sc n v w u (Adds t r q runs e) = told_set v w t u _ (ap txns_of e) (ap commits_of e) refl
-told sc n v w u (Jumps t r q to runs e) = told_set v w t u _ (ap txns_of e) (ap commits_of e) refl
-told sc n v w u (Gets t r q runs f e) = told_set v w t u _ (ap txns_of e) (ap commits_of e) refl
-told sc n v w u (SumsUp t r q runs f e) = told_set v w t u _ (ap txns_of e) (ap commits_of e) refl
-told sc n v w u (SumsNone t r q runs none e) = told_set v w t u _ (ap txns_of e) (ap commits_of e) refl
-told sc n v w u (Writes t r q runs f there e) = told_set v w t u _ (ap txns_of e) (ap commits_of e) refl
-told sc n v w u (Inserts t r q runs f new room e) = told_set v w t u _ (ap txns_of e) (ap commits_of e) refl
-told sc n v w u (Splits t r q runs f new full normal pages e) = told_same v w u (ap txns_of e) (ap commits_of e)
+told sc n v w u (GoesOn t x pc regs runs leads e) = told_set v w t u _ (ap txns_of e) (ap commits_of e) refl
+told sc n v w u (Gets t r key runs f e) = told_set v w t u _ (ap txns_of e) (ap commits_of e) refl
+told sc n v w u (SumsUp t r first last runs f e) = told_set v w t u _ (ap txns_of e) (ap commits_of e) refl
+told sc n v w u (Writes t key value runs f there e) = told_set v w t u _ (ap txns_of e) (ap commits_of e) refl
+told sc n v w u (Inserts t key value runs f new room e) = told_set v w t u _ (ap txns_of e) (ap commits_of e) refl
+told sc n v w u (Splits t key value runs f new full normal pages e) = told_same v w u (ap txns_of e) (ap commits_of e)
 told sc n v w u (Commits t runs whole e) = told_commit v w t u _ _ (ap txns_of e) (ap commits_of e) refl refl runs.active
 told sc n v w u (Asks p gone may new e) = told_same v w u (ap txns_of e) (ap commits_of e)
 told sc n v w u (Starts at_a a b e) = told_same v w u (ap txns_of e) (ap commits_of e)

@@ -7,8 +7,6 @@ use Rattle.std.specs.Prelude.{Contains, None, Option, Some, if◌then◌else◌,
 use Rattle.std.proofs.lemmas.Bool.{and_from, cases_eq, cond_both, eq-eqb, eqb-true, false≢true, or_left, or_right}
 use Rattle.zy_isa.specs.Rows.{get_row, put_row}
 use Rattle.zy_isa.specs.Scenario.{Scenario}
-use Rattle.zy_isa.specs.declared.instr.Instr.TheVariants.{Insert}
-use Rattle.zy_isa.specs.declared.instr.Reg.{Reg}
 use Rattle.zy_isa.specs.declared.node.Node.{Node}
 use Rattle.zy_isa.specs.declared.node.Node.TheVariants.{A, B}
 use Rattle.zy_isa.specs.declared.row.Row.{Row}
@@ -35,11 +33,13 @@ use Rattle.zy_table.specs.Run.{boundary, has_room, same_node}
 use Rattle.zy_table.specs.State.{Leaf, Message, NodeState, Txn, View, other, post, with_me}
 use Rattle.zy_table.specs.Take.{is_held}
 use Rattle.zy_laws.proofs.Boundary.{boundary_new, boundary_on}
+use Rattle.zy_table.specs.declared.access.Access.TheVariants as access
+use Rattle.zy_table.specs.declared.effect.Effect.TheVariants as effect
 use Rattle.zy_table.proofs.PageLists.{owns-lowered, owns-with_page}
 use Rattle.zy_table.proofs.RangeLists.{has_first, key_of_page}
 use Rattle.zy_table.proofs.SharedLocks.{conflict_own}
 use Rattle.zy_laws.proofs.CutPages.{placed_cut}
-use Rattle.zy_laws.proofs.Events.{arrived, rest, page, Runs, Event, Free, has_lock, key, lows_after, Rests, Begins, Aborts, Sets, SumsUp, SumsNone, FreeRange, has_locks, Adds, Jumps, Gets, Writes, Inserts, Splits, Commits, Asks, Starts, GotWire, GotReady, GotDual, IsStale, Gives, GotPage, GotLast, GotFinish, GotAll, GotDone, Finishes, Pushes}
+use Rattle.zy_laws.proofs.Events.{arrived, rest, page, Runs, Event, Free, has_lock, lows_after, Rests, Begins, Aborts, SumsUp, FreeRange, has_locks, Gets, Writes, Inserts, Splits, Commits, Asks, Starts, GotWire, GotReady, GotDual, IsStale, Gives, GotPage, GotLast, GotFinish, GotAll, GotDone, Finishes, Pushes, GoesOn}
 use Rattle.zy_laws.proofs.Installing.{Placed, placed_front, owns-installed, placed_installed}
 use Rattle.zy_table.proofs.LockLists.{alone-add, alone_more, alone_new, exclusive_holds, holds-add, locked_of}
 use Rattle.zy_laws.proofs.Locking.{Kept, Locking, Stay, began, freed, idle_locking, lock_taken, nobody_runs, seen_same, whole, seen_other, seen_step, steady, untouched}
@@ -381,9 +381,10 @@ pub home_placed : (sc : Scenario) (n : Node) (v : View) (lows : List ℕ) (t : �
 home_placed sc n v lows t k at = subst (λ l. Placed l v.me.pages) (sym (k.mine.newest (k.mine.busy t at))) (placed_front lows v.me.pages (rest_of v) k.placed).0
 
 -- the boundary of a split lies on the page that is cut
-pub split_on : (sc : Scenario) (n : Node) (v : View) (lows : List ℕ) (t : ℕ) (r q : Reg) → Kept sc n v lows → Runs sc n t (Insert r q) v → has_room sc (page t r v) v.me (txn_at v t) ≡ false
-    → page_of v.me.lows (boundary sc (key t r v) (page t r v) v.me (txn_at v t)) ≡ page t r v
-split_on sc n v lows t r q k runs full = boundary_on sc t (key t r v) (page t r v) v (home_placed sc n v lows t k (runs.active, runs.here)) refl full
+pub split_on : (sc : Scenario) (n : Node) (v : View) (lows : List ℕ) (t key value : ℕ) → Kept sc n v lows
+    → Runs sc n t (effect.Accesses (access.Inserts value) key) v → has_room sc (page key v) v.me (txn_at v t) ≡ false
+    → page_of v.me.lows (boundary sc key (page key v) v.me (txn_at v t)) ≡ page key v
+split_on sc n v lows t key value k runs full = boundary_on sc t key (page key v) v (home_placed sc n v lows t k (runs.active, runs.here)) refl full
 
 -- along the view that a line makes
 along : (sc : Scenario) (n : Node) (w x : View) (lows : List ℕ) → w ≡ x → Inv w → (Inv x → Kept sc n x lows) → Kept sc n w lows
@@ -393,22 +394,23 @@ pub kept_event : (sc : Scenario) (n : Node) (v w : View) (lows : List ℕ) → 2
 kept_event sc n v w lows two o k i (Rests e) = along sc n w _ lows e i (λ _. k)
 kept_event sc n v w lows two o k i (Begins t h a new home e) = begun_event sc n v w lows t h k i a new home e
 kept_event sc n v w lows two o k i (Aborts t y active here e) = along sc n w _ lows e i (aborted_kept sc n v lows t y k (active, here))
-kept_event sc n v w lows two o k i (Sets t r x runs e) = along sc n w _ lows e i (goes_kept sc n v lows t _ _ k (runs.active, runs.here))
-kept_event sc n v w lows two o k i (Adds t r q runs e) = along sc n w _ lows e i (goes_kept sc n v lows t _ _ k (runs.active, runs.here))
-kept_event sc n v w lows two o k i (SumsUp t r q runs f e) = along sc n w _ lows e i (sum_kept sc n v lows t (key t r v) (key t q v) _ _ k (runs.active, runs.here) f)
-kept_event sc n v w lows two o k i (SumsNone t r q runs none e) = along sc n w _ lows e i (goes_kept sc n v lows t _ _ k (runs.active, runs.here))
-kept_event sc n v w lows two o k i (Jumps t r q to runs e) = along sc n w _ lows e i (goes_kept sc n v lows t _ _ k (runs.active, runs.here))
-kept_event sc n v w lows two o k i (Gets t r q runs f e) = along sc n w _ lows e i (lock_kept sc n v lows t (key t q v) Shared _ _ _ k (runs.active, runs.here) f (λ j h. inl h))
-kept_event sc n v w lows two o k i (Writes t r q runs f there e) = along sc n w _ lows e i (lock_kept sc n v lows t (key t r v) Exclusive _ _ _ k (runs.active, runs.here) f (grown (key t r v) (key t q v) (txn_at v t).rows))
-kept_event sc n v w lows two o k i (Inserts t r q runs f new room e) = along sc n w _ lows e i (lock_kept sc n v lows t (key t r v) Exclusive _ _ _ k (runs.active, runs.here) f (grown (key t r v) (key t q v) (txn_at v t).rows))
-kept_event sc n v w lows two o k i (Splits t r q runs f new full normal pages e) =
-    let b = boundary sc (key t r v) (page t r v) v.me (txn_at v t) in
+kept_event sc n v w lows two o k i (GoesOn t x pc regs runs leads e) = along sc n w _ lows e i (goes_kept sc n v lows t _ _ k (runs.active, runs.here))
+kept_event sc n v w lows two o k i (SumsUp t r first last runs f e) =
+    along sc n w _ lows e i (sum_kept sc n v lows t first last _ _ k (runs.active, runs.here) f)
+kept_event sc n v w lows two o k i (Gets t r key runs f e) =
+    along sc n w _ lows e i (lock_kept sc n v lows t key Shared _ _ _ k (runs.active, runs.here) f (λ j h. inl h))
+kept_event sc n v w lows two o k i (Writes t key value runs f there e) =
+    along sc n w _ lows e i (lock_kept sc n v lows t key Exclusive _ _ _ k (runs.active, runs.here) f (grown key value (txn_at v t).rows))
+kept_event sc n v w lows two o k i (Inserts t key value runs f new room e) =
+    along sc n w _ lows e i (lock_kept sc n v lows t key Exclusive _ _ _ k (runs.active, runs.here) f (grown key value (txn_at v t).rows))
+kept_event sc n v w lows two o k i (Splits t key value runs f new full normal pages e) =
+    let b = boundary sc key (page key v) v.me (txn_at v t) in
     let at : IsAt v t n = (runs.active, runs.here) in
     let newest : v.me.lows ≡ lows = k.mine.newest (k.mine.busy t at) in
     let placed = home_placed sc n v lows t k at in
-    let on = split_on sc n v lows t r q k runs full in
-    let other = boundary_new sc t (key t r v) (page t r v) v k.first.0 (newest ∙ k.first.1) two placed refl full (rows_at (page t r v) v.me.pages o.mine.rows) (o.private t) new in
-    subst (λ x. Kept sc n x (lows ++ b ∷ [])) (sym e) (cut_kept sc n v lows t (key t r v) b k at f normal on other (subst Inv e i))
+    let on = split_on sc n v lows t key value k runs full in
+    let other = boundary_new sc t key (page key v) v k.first.0 (newest ∙ k.first.1) two placed refl full (rows_at (page key v) v.me.pages o.mine.rows) (o.private t) new in
+    subst (λ x. Kept sc n x (lows ++ b ∷ [])) (sym e) (cut_kept sc n v lows t key b k at f normal on other (subst Inv e i))
 kept_event sc n v w lows two o k i (Commits t runs all e) = along sc n w _ lows e i (committed_kept sc n v lows t k (runs.active, runs.here))
 kept_event sc n v w lows two o k i (Asks p gone pulls asked e) = along sc n w _ lows e i (asks_kept sc n v lows p k)
 kept_event sc n v w lows two o k i (Starts at_a normal empty e) =

@@ -8,17 +8,20 @@ use Rattle.std.proofs.lemmas.Bool.Decides.{nat_tests}
 use Rattle.std.proofs.lemmas.Cmp.{nat_cmp_total}
 use Rattle.zy_isa.specs.Rows.{get_row, put_row}
 use Rattle.zy_isa.specs.declared.instr.Instr.{Instr}
-use Rattle.zy_isa.specs.declared.instr.Instr.TheVariants.{Abort, Add, Beq, Commit, Insert, Read, Set, Sum, Write}
 use Rattle.zy_isa.specs.declared.instr.Reg.{Reg}
 use Rattle.zy_isa.specs.declared.row.Row.{Row}
-use Rattle.zy_table.specs.Change.{reg, with_reg}
+use Rattle.zy_table.specs.declared.access.Access.{Access}
+use Rattle.zy_table.specs.declared.access.Access.TheVariants.{Reads, Writes, Inserts}
+use Rattle.zy_table.specs.Change.{with_reg}
 use Rattle.zy_table.specs.Database.{Map, laid}
+use Rattle.zy_table.specs.declared.effect.Effect.{Effect}
+use Rattle.zy_table.specs.declared.effect.Effect.TheVariants.{Sets, Jumps, Accesses, Sums, Commits, Aborts}
+use Rattle.zy_table.specs.Effects.{effect_of}
 use Rattle.zy_table.specs.Numbers.{has}
 use Rattle.zy_table.specs.Ranges.{range, total}
-use Rattle.zy_table.specs.Serial.{Alone, alone, alone_instr, alone_step, gives_up, goes_on, value_in}
-use Rattle.zy_table.specs.State.{other}
+use Rattle.zy_table.specs.Serial.{Alone, alone, alone_effect, alone_instr, alone_step, gives_up, goes_on, value_in}
+use Rattle.zy_table.specs.State.{Txn, other}
 use Rattle.zy_table.proofs.RangeLists.{has_back, has_front, total_same}
-use Rattle.zy_laws.proofs.Events.{key}
 
 pub record Lone : Type 0 where
   pub regs : List ℕ
@@ -26,6 +29,10 @@ pub record Lone : Type 0 where
   pub rows : List Row
   pub keys : List ℕ  -- those it has touched
   pub over : Bool
+
+-- a transaction as a lone run that has touched these keys
+abbrev pub lone_at : Txn → List ℕ → Lone
+lone_at x keys = record { regs = x.regs; pc = x.pc; rows = x.rows; keys = keys; over = false }
 
 abbrev pub ended : Lone → Lone
 ended x = record x { over = true }
@@ -56,24 +63,23 @@ abbrev pub sums_or_ends : Map → Reg → List ℕ → Bool → Bool → Lone �
 sums_or_ends d r ks none far x =
     if none then record x { regs = with_reg r 0 x.regs; pc = x.pc + 1 } else if far then ended x else sums d r ks x
 
+-- an access at a key
+abbrev pub lone_access : Map → Access → ℕ → Lone → Lone
+lone_access d (Reads r) k x = reads d r k x
+lone_access d (Writes v) k x = if is_some (sees d x k) then stores k v x else ended x
+lone_access d (Inserts v) k x = if not (is_some (sees d x k)) then stores k v x else ended x
+
+unfoldable pub lone_effect : Map → Effect → Lone → Lone
+lone_effect d (Sets r v) x = record x { regs = with_reg r v x.regs; pc = x.pc + 1 }
+lone_effect d (Jumps taken to) x = record x { pc = if taken then to else x.pc + 1 }
+lone_effect d (Accesses i k) x = if nat_lt 65535 k then ended x else lone_access d i k x
+lone_effect d (Sums r a b) x = sums_or_ends d r (range a b) (nat_lt b a) (nat_lt 65535 b) x
+lone_effect d Commits x = ended x
+lone_effect d Aborts x = ended x
+
 unfoldable pub lone_instr : Map → Option Instr → Lone → Lone
 lone_instr d None x = ended x
-lone_instr d (Some (Set r v)) x = record x { regs = with_reg r v x.regs; pc = x.pc + 1 }
-lone_instr d (Some (Add r q)) x = record x { regs = with_reg r ((reg x.regs r + reg x.regs q) % 2 ^ 32) x.regs; pc = x.pc + 1 }
-lone_instr d (Some (Sum r q)) x =
-    sums_or_ends d r (range (reg x.regs r) (reg x.regs q)) (nat_lt (reg x.regs q) (reg x.regs r)) (nat_lt 65535 (reg x.regs q)) x
-lone_instr d (Some (Beq r q to)) x = record x { pc = if reg x.regs r == reg x.regs q then to else x.pc + 1 }
-lone_instr d (Some Abort) x = ended x
-lone_instr d (Some Commit) x = ended x
-lone_instr d (Some (Read r q)) x = if nat_lt 65535 (reg x.regs q) then ended x else reads d r (reg x.regs q) x
-lone_instr d (Some (Write r q)) x =
-    if nat_lt 65535 (reg x.regs r) then ended x
-    else if is_some (sees d x (reg x.regs r)) then stores (reg x.regs r) (reg x.regs q) x
-    else ended x
-lone_instr d (Some (Insert r q)) x =
-    if nat_lt 65535 (reg x.regs r) then ended x
-    else if not (is_some (sees d x (reg x.regs r))) then stores (reg x.regs r) (reg x.regs q) x
-    else ended x
+lone_instr d (Some i) x = lone_effect d (effect_of i x.regs) x
 
 unfoldable pub lone_step : Map → List Instr → Lone → Lone
 lone_step d program x = if x.over then x else lone_instr d (slice_get program x.pc) x
@@ -101,19 +107,19 @@ agree_front d d' ks keys a = record { each = λ q h. a.each q (has_front ks keys
 agree_back : (d d' : Map) (ks keys : List ℕ) → Agree d d' (ks ++ keys) → Agree d d' keys
 agree_back d d' ks keys a = record { each = λ q h. a.each q (has_back ks keys q h) }
 
--- an instruction that ends nothing: agreement after it gives agreement before it, and the same result
-pub record Alike (d d' : Map) (i : Option Instr) (x : Lone) : Type 0 where
+-- what x comes to over either database, if it ends nothing: agreement after it gives agreement before it, and the same result
+pub record Alike (d d' : Map) (x y y' : Lone) : Type 0 where
   pub before : Agree d d' x.keys
-  pub same : lone_instr d' i x ≡ lone_instr d i x
+  pub same : y' ≡ y
 
 over_absurd : {P : Type 0} → true ≡ false → P
 over_absurd e = cc
 
 -- by cases of a test, with the result known to go on
-alike_put : (d d' : Map) (i : Option Instr) (x : Lone) (k v : ℕ) (far : Bool) (there : Option ℕ → Bool)
-    → ((e : Map) → lone_instr e i x ≡ (if far then ended x else if there (sees e x k) then stores k v x else ended x))
-    → (lone_instr d i x).over ≡ false → Agree d d' (lone_instr d i x).keys → Alike d d' i x
-alike_put d d' i x k v far there form on a =
+alike_put : (d d' : Map) (e : Effect) (x : Lone) (k v : ℕ) (far : Bool) (there : Option ℕ → Bool)
+    → ((m : Map) → lone_effect m e x ≡ (if far then ended x else if there (sees m x k) then stores k v x else ended x))
+    → (lone_effect d e x).over ≡ false → Agree d d' (lone_effect d e x).keys → Alike d d' x (lone_effect d e x) (lone_effect d' e x)
+alike_put d d' e x k v far there form on a =
     let on' : (if far then ended x else if there (sees d x k) then stores k v x else ended x).over ≡ false = rw form at on in
     let a' : Agree d d' (if far then ended x else if there (sees d x k) then stores k v x else ended x).keys = rw form at a in
     let both : Agree d d' (k ∷ x.keys) = cond_both far (ended x) (if there (sees d x k) then stores k v x else ended x) (λ y. y.over ≡ false → Agree d d' y.keys → Agree d d' (k ∷ x.keys))
@@ -122,11 +128,10 @@ alike_put d d' i x k v far there form on a =
     let same : sees d' x k ≡ sees d x k = ap (or_else (get_row x.rows k)) (agree_first d d' k x.keys both) in
     record { before = agree_rest d d' k x.keys both; same = form d' ∙ ap (λ o. if far then ended x else if there o then stores k v x else ended x) same ∙ sym (form d) }
 
-alike_read : (d d' : Map) (r q : Reg) (x : Lone) → (lone_instr d (Some (Read r q)) x).over ≡ false
-    → Agree d d' (lone_instr d (Some (Read r q)) x).keys → Alike d d' (Some (Read r q)) x
-unfolding lone_instr
-alike_read d d' r q x on a =
-    let k = reg x.regs q in
+alike_read : (d d' : Map) (r : Reg) (k : ℕ) (x : Lone) → (lone_effect d (Accesses (Reads r) k) x).over ≡ false
+    → Agree d d' (lone_effect d (Accesses (Reads r) k) x).keys → Alike d d' x (lone_effect d (Accesses (Reads r) k) x) (lone_effect d' (Accesses (Reads r) k) x)
+unfolding lone_effect
+alike_read d d' r k x on a =
     let both : Agree d d' (k ∷ x.keys) = cond_both (nat_lt 65535 k) (ended x) (reads d r k x) (λ y. y.over ≡ false → Agree d d' y.keys → Agree d d' (k ∷ x.keys)) (λ _ o _. over_absurd o) (λ _ _ h. h) on a in
     let same : sees d' x k ≡ sees d x k = ap (or_else (get_row x.rows k)) (agree_first d d' k x.keys both) in
     record { before = agree_rest d d' k x.keys both; same = ap (λ o. if nat_lt 65535 k then ended x else record x { regs = with_reg r (unwrap_or o 0) x.regs; pc = x.pc + 1; keys = k ∷ x.keys }) same }
@@ -142,20 +147,25 @@ alike_sum d d' r ks true far x on a = (record { each = a.each }, refl)
 alike_sum d d' r ks false true x on a = over_absurd on
 alike_sum d d' r ks false false x on a = (agree_back d d' ks x.keys a, sums_alike d d' r ks x (agree_front d d' ks x.keys a))
 
-alike : (d d' : Map) (i : Option Instr) (x : Lone) → (lone_instr d i x).over ≡ false → Agree d d' (lone_instr d i x).keys → Alike d d' i x
+alike_effect : (d d' : Map) (e : Effect) (x : Lone) → (lone_effect d e x).over ≡ false → Agree d d' (lone_effect d e x).keys
+    → Alike d d' x (lone_effect d e x) (lone_effect d' e x)
+unfolding lone_effect
+alike_effect d d' (Sets r v) x on a = record { before = record { each = a.each }; same = refl }
+alike_effect d d' (Jumps taken to) x on a = record { before = record { each = a.each }; same = refl }
+alike_effect d d' (Accesses (Reads r) k) x on a = alike_read d d' r k x on a
+alike_effect d d' (Accesses (Writes v) k) x on a = alike_put d d' (Accesses (Writes v) k) x k v (nat_lt 65535 k) is_some (λ m. refl) on a
+alike_effect d d' (Accesses (Inserts v) k) x on a = alike_put d d' (Accesses (Inserts v) k) x k v (nat_lt 65535 k) (λ o. not (is_some o)) (λ m. refl) on a
+alike_effect d d' (Sums r first last) x on a =
+    let h = alike_sum d d' r (range first last) (nat_lt last first) (nat_lt 65535 last) x on a in
+    record { before = h.0; same = h.1 }
+alike_effect d d' Commits x on a = over_absurd on
+alike_effect d d' Aborts x on a = over_absurd on
+
+alike : (d d' : Map) (i : Option Instr) (x : Lone) → (lone_instr d i x).over ≡ false → Agree d d' (lone_instr d i x).keys
+    → Alike d d' x (lone_instr d i x) (lone_instr d' i x)
 unfolding lone_instr
 alike d d' None x on a = over_absurd on
-alike d d' (Some (Set r v)) x on a = record { before = record { each = a.each }; same = refl }
-alike d d' (Some (Add r q)) x on a = record { before = record { each = a.each }; same = refl }
-alike d d' (Some (Sum r q)) x on a =
-    let h = alike_sum d d' r (range (reg x.regs r) (reg x.regs q)) (nat_lt (reg x.regs q) (reg x.regs r)) (nat_lt 65535 (reg x.regs q)) x on a in
-    record { before = h.0; same = h.1 }
-alike d d' (Some (Beq r q to)) x on a = record { before = record { each = a.each }; same = refl }
-alike d d' (Some Abort) x on a = over_absurd on
-alike d d' (Some Commit) x on a = over_absurd on
-alike d d' (Some (Read r q)) x on a = alike_read d d' r q x on a
-alike d d' (Some (Write r q)) x on a = alike_put d d' (Some (Write r q)) x (reg x.regs r) (reg x.regs q) (nat_lt 65535 (reg x.regs r)) is_some (λ e. refl) on a
-alike d d' (Some (Insert r q)) x on a = alike_put d d' (Some (Insert r q)) x (reg x.regs r) (reg x.regs q) (nat_lt 65535 (reg x.regs r)) (λ o. not (is_some o)) (λ e. refl) on a
+alike d d' (Some i) x on a = alike_effect d d' (effect_of i x.regs) x on a
 
 -- a run that has not ended had not ended before its last instruction
 before_step : (d : Map) (program : List Instr) (x : Lone) → (lone_step d program x).over ≡ false → x.over ≡ false
@@ -264,23 +274,23 @@ turned_test : {X : Type 0} (b : Bool) (x y : X) → (if not b then x else y) ≡
 turned_test true x y = refl
 turned_test false x y = refl
 
+on_effect : (m : Map) (e : Effect) (x : Lone) → (lone_effect m e x).over ≡ false → OnMap m (lone_effect m e x) (alone_effect m e (mapped m x))
+unfolding lone_effect
+on_effect m (Sets r v) x on = record { map = refl; regs = refl; pc = refl; over = refl }
+on_effect m (Jumps taken to) x on = record { map = refl; regs = refl; pc = refl; over = refl }
+on_effect m (Accesses (Reads r) k) x on = on_read m r k x (nat_lt 65535 k) on
+on_effect m (Accesses (Writes v) k) x on = rw get-laid (on_put m x k v (nat_lt 65535 k) (is_some (sees m x k)) on)
+on_effect m (Accesses (Inserts v) k) x on =
+    rw (get-laid, ← turned_test (is_some (sees m x k)) (goes_on (insert (laid x.rows m) k v) x.regs (x.pc + 1)) (gives_up m (mapped m x)))
+    (on_put m x k v (nat_lt 65535 k) (not (is_some (sees m x k))) on)
+on_effect m (Sums r a b) x on = on_sum m r (range a b) (nat_lt b a) (nat_lt 65535 b) x on
+on_effect m Commits x on = over_absurd on
+on_effect m Aborts x on = over_absurd on
+
 on_instr : (m : Map) (i : Option Instr) (x : Lone) → (lone_instr m i x).over ≡ false → OnMap m (lone_instr m i x) (alone_instr m i (mapped m x))
 unfolding lone_instr alone_instr
 on_instr m None x on = over_absurd on
-on_instr m (Some (Set r v)) x on = record { map = refl; regs = refl; pc = refl; over = refl }
-on_instr m (Some (Add r q)) x on = record { map = refl; regs = refl; pc = refl; over = refl }
-on_instr m (Some (Sum r q)) x on =
-    on_sum m r (range (reg x.regs r) (reg x.regs q)) (nat_lt (reg x.regs q) (reg x.regs r)) (nat_lt 65535 (reg x.regs q)) x on
-on_instr m (Some (Beq r q to)) x on = record { map = refl; regs = refl; pc = refl; over = refl }
-on_instr m (Some Abort) x on = over_absurd on
-on_instr m (Some Commit) x on = over_absurd on
-on_instr m (Some (Read r q)) x on = on_read m r (reg x.regs q) x (nat_lt 65535 (reg x.regs q)) on
-on_instr m (Some (Write r q)) x on =
-    let k = reg x.regs r in
-    rw get-laid (on_put m x k (reg x.regs q) (nat_lt 65535 k) (is_some (sees m x k)) on)
-on_instr m (Some (Insert r q)) x on =
-    let k = reg x.regs r in
-    rw (get-laid, ← turned_test (is_some (sees m x k)) (goes_on (insert (laid x.rows m) k (reg x.regs q)) x.regs (x.pc + 1)) (gives_up m (mapped m x))) (on_put m x k (reg x.regs q) (nat_lt 65535 k) (not (is_some (sees m x k))) on)
+on_instr m (Some i) x on = on_effect m (effect_of i x.regs) x on
 
 pub on_map : (m : Map) (program : List Instr) (n : ℕ) → (lone m program n).over ≡ false → OnMap m (lone m program n) (alone m program n)
 unfolding alone_step

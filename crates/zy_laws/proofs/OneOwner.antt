@@ -23,7 +23,7 @@ use Rattle.zy_table.specs.Play.{move, opening, opening_leaves, opening_pages, pl
 use Rattle.zy_table.specs.Run.{boundary}
 use Rattle.zy_table.specs.State.{Leaf, Message, NodeState, State, View, facing, post, seen_from, with_me}
 use Rattle.zy_table.specs.Take.{all_here}
-use Rattle.zy_laws.proofs.Events.{Aborts, Adds, Asks, Begins as Begun, Commits, Event, Finishes, Gets, Gives, GotAll, GotDone, GotDual, GotFinish, GotLast, GotPage, GotReady, GotWire, Inserts, IsStale, Jumps, Pushes, Rests, Sets, SumsUp, SumsNone, Splits, Starts, Writes, arrived, has_lock, key, page, rest, step_happens}
+use Rattle.zy_laws.proofs.Events.{Aborts, Asks, Begins as Begun, Commits, Event, Finishes, Gets, Gives, GotAll, GotDone, GotDual, GotFinish, GotLast, GotPage, GotReady, GotWire, Inserts, IsStale, Pushes, Rests, SumsUp, Splits, Starts, Writes, arrived, has_lock, page, rest, step_happens, GoesOn}
 use Rattle.zy_laws.proofs.ModeLines.{pulls_in, sends_in, splits_in_normal}
 use Rattle.zy_laws.proofs.MovingPages.{all_below-owns, leaf_at-number}
 use Rattle.zy_laws.proofs.PageCounts.{owns-times, times-all_leaves, times-installed, times-lowered, times-with_page, times-without, times_in, times_sent, times_sent-post}
@@ -312,17 +312,14 @@ unfolding did locked shares txn_at aborted begun committed
 inv_event sc n v w i (Rests e) = rw e i
 inv_event sc n v w i (Begun t h a new home e) = rw e (locks_inv v _ (refl, refl, refl) refl refl refl i)
 inv_event sc n v w i (Aborts t y active here e) = rw e (locks_inv v _ (refl, refl, refl) refl refl refl i)
-inv_event sc n v w i (Sets t r x runs e) = rw e (locks_inv v _ (refl, refl, refl) refl refl refl i)
-inv_event sc n v w i (Adds t r q runs e) = rw e (locks_inv v _ (refl, refl, refl) refl refl refl i)
-inv_event sc n v w i (Jumps t r q to runs e) = rw e (locks_inv v _ (refl, refl, refl) refl refl refl i)
-inv_event sc n v w i (Gets t r q runs f e) = rw e (locks_inv v _ (refl, refl, refl) refl refl refl i)
-inv_event sc n v w i (SumsUp t r q runs f e) = rw e (locks_inv v _ (refl, refl, refl) refl refl refl i)
-inv_event sc n v w i (SumsNone t r q runs none e) = rw e (locks_inv v _ (refl, refl, refl) refl refl refl i)
-inv_event sc n v w i (Writes t r q runs f there e) = rw e (locks_inv v _ (refl, refl, refl) refl refl refl i)
-inv_event sc n v w i (Inserts t r q runs f new room e) = rw e (locks_inv v _ (refl, refl, refl) refl refl refl i)
-inv_event sc n v w i (Splits t r q runs f new full normal pages e) =
-    let locked = locks_inv v (has_lock t (key t r v) Exclusive v) (refl, refl, refl) refl refl refl i in
-    rw e (cut_inv t (page t r v) (boundary sc (key t r v) (page t r v) v.me (txn_at v t)) (has_lock t (key t r v) Exclusive v) normal locked)
+inv_event sc n v w i (GoesOn t x pc regs runs leads e) = rw e (locks_inv v _ (refl, refl, refl) refl refl refl i)
+inv_event sc n v w i (Gets t r key runs f e) = rw e (locks_inv v _ (refl, refl, refl) refl refl refl i)
+inv_event sc n v w i (SumsUp t r first last runs f e) = rw e (locks_inv v _ (refl, refl, refl) refl refl refl i)
+inv_event sc n v w i (Writes t key value runs f there e) = rw e (locks_inv v _ (refl, refl, refl) refl refl refl i)
+inv_event sc n v w i (Inserts t key value runs f new room e) = rw e (locks_inv v _ (refl, refl, refl) refl refl refl i)
+inv_event sc n v w i (Splits t key value runs f new full normal pages e) =
+    let locked = locks_inv v (has_lock t key Exclusive v) (refl, refl, refl) refl refl refl i in
+    rw e (cut_inv t (page key v) (boundary sc key (page key v) v.me (txn_at v t)) (has_lock t key Exclusive v) normal locked)
 inv_event sc n v w i (Commits t runs all e) = rw e (shape_inv v _ (record {
   mode = refl;
   lows = refl;

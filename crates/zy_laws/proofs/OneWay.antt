@@ -15,7 +15,7 @@ use Rattle.zy_table.specs.Change.{aborted, asks, begun, committed, cut, did, lea
 use Rattle.zy_laws.specs.Travel.{Travels, Stays, Appears, Leaves, Arrives, IsPassed, NeverBack, NoneStarted, is_started}
 use Rattle.zy_table.specs.Play.{entries, move, opening, play, side_of, step}
 use Rattle.zy_table.specs.State.{Step, State, View, facing, seen_from}
-use Rattle.zy_laws.proofs.Events.{Told, Aborts, Adds, Asks, Begins, Commits, Event, Finishes, Gets, Gives, GotAll, GotDone, GotDual, GotFinish, GotLast, GotPage, GotReady, GotWire, Inserts, IsStale, Jumps, Pushes, Rests, Sets, SumsUp, SumsNone, Splits, Starts, Writes, step_happens}
+use Rattle.zy_laws.proofs.Events.{Told, Aborts, Asks, Begins, Commits, Event, Finishes, Gets, Gives, GotAll, GotDone, GotDual, GotFinish, GotLast, GotPage, GotReady, GotWire, Inserts, IsStale, Pushes, Rests, SumsUp, Splits, Starts, Writes, step_happens, GoesOn}
 use Rattle.zy_laws.proofs.OneOwner.{play_inv, step_inv}
 use Rattle.zy_laws.proofs.PlayPush.{play-keeps}
 use Rattle.zy_laws.proofs.Roles.{Inv}
@@ -34,15 +34,12 @@ unfolding did locked shares txn_at aborted begun committed cut asks leaves
 sourced sc n o v w (Rests e) told = rw e (in_mode sc n o v _ refl refl)
 sourced sc n o v w (Begins t h a new home e) told = rw e (in_mode sc n o v _ refl refl)
 sourced sc n o v w (Aborts t y active here e) told = rw e (in_mode sc n o v _ refl refl)
-sourced sc n o v w (Sets t r x runs e) told = rw e (in_mode sc n o v _ refl refl)
-sourced sc n o v w (Adds t r q runs e) told = rw e (in_mode sc n o v _ refl refl)
-sourced sc n o v w (Jumps t r q to runs e) told = rw e (in_mode sc n o v _ refl refl)
-sourced sc n o v w (Gets t r q runs f e) told = rw e (in_mode sc n o v _ refl refl)
-sourced sc n o v w (SumsUp t r q runs f e) told = rw e (in_mode sc n o v _ refl refl)
-sourced sc n o v w (SumsNone t r q runs none e) told = rw e (in_mode sc n o v _ refl refl)
-sourced sc n o v w (Writes t r q runs f there e) told = rw e (in_mode sc n o v _ refl refl)
-sourced sc n o v w (Inserts t r q runs f new room e) told = rw e (in_mode sc n o v _ refl refl)
-sourced sc n o v w (Splits t r q runs f new full normal pages e) told = rw e (in_mode sc n o v _ refl refl)
+sourced sc n o v w (GoesOn t x pc regs runs leads e) told = rw e (in_mode sc n o v _ refl refl)
+sourced sc n o v w (Gets t r key runs f e) told = rw e (in_mode sc n o v _ refl refl)
+sourced sc n o v w (SumsUp t r first last runs f e) told = rw e (in_mode sc n o v _ refl refl)
+sourced sc n o v w (Writes t key value runs f there e) told = rw e (in_mode sc n o v _ refl refl)
+sourced sc n o v w (Inserts t key value runs f new room e) told = rw e (in_mode sc n o v _ refl refl)
+sourced sc n o v w (Splits t key value runs f new full normal pages e) told = rw e (in_mode sc n o v _ refl refl)
 sourced sc n o v w (Commits t runs all e) told = rw e (in_mode sc n o v _ refl refl)
 sourced sc n o v w (Asks p gone pulls new e) told = rw e (in_mode sc n o v _ refl refl)
 sourced sc n o v w (Starts at_a normal empty e) told = rw e (record { them = refl; off = λ _. inr (told, at_a) })

@@ -4,7 +4,6 @@ use Rattle.std.specs.Prelude.{if◌then◌else◌, nat_lt, nat_le, slice_set, �
 use Rattle.std.proofs.lemmas.Bool.{cases_eq, cond_both, eqb-false, leb-false, leb-true, or_parts}
 use Rattle.zy_isa.specs.Rows.{Rising}
 use Rattle.zy_isa.specs.Scenario.{Scenario}
-use Rattle.zy_isa.specs.declared.instr.Reg.{Reg}
 use Rattle.zy_isa.specs.declared.node.Node.{Node}
 use Rattle.zy_isa.specs.declared.row.Row.{Row}
 use Rattle.zy_locks.specs.Order.{LocksRise}
@@ -20,7 +19,7 @@ use Rattle.zy_table.specs.Order.{NodeInOrder, NumbersRise, RowsRise}
 use Rattle.zy_table.specs.Rows.{rows_on}
 use Rattle.zy_table.specs.State.{Leaf, Message, NodeState, Txn, View}
 use Rattle.zy_table.specs.declared.outcome.Why.{Why}
-use Rattle.zy_laws.proofs.Events.{Aborts, Adds, Asks, Begins, Commits, Event, Finishes, Gets, Gives, GotAll, GotDone, GotDual, GotFinish, GotLast, GotPage, GotReady, GotWire, Inserts, IsStale, Jumps, Pushes, Rests, Sets, SumsUp, SumsNone, Splits, Starts, Writes, arrived, has_lock, key, page, puts, rest}
+use Rattle.zy_laws.proofs.Events.{Aborts, Asks, Begins, Commits, Event, Finishes, Gets, Gives, GotAll, GotDone, GotDual, GotFinish, GotLast, GotPage, GotReady, GotWire, Inserts, IsStale, Pushes, Rests, SumsUp, Splits, Starts, Writes, arrived, has_lock, page, puts, rest, GoesOn}
 use Rattle.zy_table.proofs.RisingRows.{rises_put, rises_puts, rises_weaker}
 use Rattle.zy_laws.proofs.Roles.{Inv, Owned, fresh_number, normal_other, width}
 use Rattle.zy_laws.proofs.OneOwner.{done_wide, locks_inv, pulled_inv, wire_wide}
@@ -135,8 +134,8 @@ committed_ordered t v o =
       locks = rise_drop t v.me.locks o.mine.locks;
     }) (length-installed v.me.lows rows v.me.pages) refl refl refl refl
 
-puts_ordered : (t : ℕ) (r q : Reg) (v : View) → Ordered v → Ordered (puts t r q v)
-puts_ordered t r q v o = lock_ordered t (page t r v) _ Exclusive _ _ v o (rises_put 0 (key t r v) (key t q v) (txn_at v t).rows (omega arith) (o.private t))
+puts_ordered : (t key value : ℕ) (v : View) → Ordered v → Ordered (puts t key value v)
+puts_ordered t key value v o = lock_ordered t (page key v) _ Exclusive _ _ v o (rises_put 0 key value (txn_at v t).rows (omega arith) (o.private t))
 
 -- ---- a page is cut
 
@@ -353,17 +352,15 @@ unfolding locked
 ordered_event sc n v w i o (Rests e) = along w _ e o
 ordered_event sc n v w i o (Begins t h a new home e) = along w _ e (begun_ordered h t v o)
 ordered_event sc n v w i o (Aborts t y active here e) = along w _ e (ended_ordered t y v o)
-ordered_event sc n v w i o (Sets t r x runs e) = along w _ e (goes_ordered t _ _ _ v o (o.private t))
-ordered_event sc n v w i o (Adds t r q runs e) = along w _ e (goes_ordered t _ _ _ v o (o.private t))
-ordered_event sc n v w i o (Jumps t r q to runs e) = along w _ e (goes_ordered t _ _ _ v o (o.private t))
-ordered_event sc n v w i o (Gets t r q runs f e) = along w _ e (lock_ordered t _ _ Shared _ _ v o (o.private t))
-ordered_event sc n v w i o (SumsUp t r q runs f e) = along w _ e (sum_ordered t _ _ _ v o)
-ordered_event sc n v w i o (SumsNone t r q runs none e) = along w _ e (goes_ordered t _ _ _ v o (o.private t))
-ordered_event sc n v w i o (Writes t r q runs f there e) = along w _ e (puts_ordered t r q v o)
-ordered_event sc n v w i o (Inserts t r q runs f new room e) = along w _ e (puts_ordered t r q v o)
-ordered_event sc n v w i o (Splits t r q runs f new full normal pages e) =
-    let x = has_lock t (key t r v) Exclusive v in
-    along w _ e (cut_ordered t (page t r v) (boundary sc (key t r v) (page t r v) v.me (txn_at v t)) x (has_lock_ordered t (key t r v) Exclusive v o) (has_lock_inv t (key t r v) Exclusive v i) normal)
+ordered_event sc n v w i o (GoesOn t x pc regs runs leads e) = along w _ e (goes_ordered t _ _ _ v o (o.private t))
+ordered_event sc n v w i o (Gets t r key runs f e) = along w _ e (lock_ordered t _ _ Shared _ _ v o (o.private t))
+ordered_event sc n v w i o (SumsUp t r first last runs f e) = along w _ e (sum_ordered t _ _ _ v o)
+ordered_event sc n v w i o (Writes t key value runs f there e) = along w _ e (puts_ordered t key value v o)
+ordered_event sc n v w i o (Inserts t key value runs f new room e) = along w _ e (puts_ordered t key value v o)
+ordered_event sc n v w i o (Splits t key value runs f new full normal pages e) =
+    let x = has_lock t key Exclusive v in
+    let b = boundary sc key (page key v) v.me (txn_at v t) in
+    along w _ e (cut_ordered t (page key v) b x (has_lock_ordered t key Exclusive v o) (has_lock_inv t key Exclusive v i) normal)
 ordered_event sc n v w i o (Commits t runs all e) = along w _ e (committed_ordered t v o)
 ordered_event sc n v w i o (Asks p gone pulls new e) = along w _ e (asks_ordered p v o new)
 ordered_event sc n v w i o (Starts at_a normal empty e) = along w _ e (kept_ordered v _ o refl refl refl refl refl refl (sent_bare v.outbox (Wire v.me.lows) refl) refl)

@@ -2,7 +2,6 @@
 use Rattle.std.proofs.Common.{◌≡◌, ◌∙◌, ℕ, List, [], ◌∷◌, Option, Some, None, refl, ap, slice_get}
 use Rattle.zy_isa.specs.declared.node.Node.{Node}
 use Rattle.zy_isa.specs.declared.instr.Instr.{Instr}
-use Rattle.zy_isa.specs.declared.instr.Instr.TheVariants.{Set, Read, Write, Insert, Add, Sum, Beq, Commit, Abort}
 use Rattle.zy_isa.specs.declared.choice.Choice.{Choice}
 use Rattle.zy_isa.specs.declared.choice.Choice.TheVariants.{Start, Begin, Kill, Run, Take, Finish, Push}
 use Rattle.zy_isa.specs.Scenario.{Scenario}
@@ -13,7 +12,10 @@ use Rattle.zy_table.specs.declared.access.Access.{Access}
 use Rattle.zy_table.specs.declared.access.Access.TheVariants.{Reads, Writes, Inserts}
 use Rattle.zy_table.specs.State.{State, View, Step, facing, as_step}
 use Rattle.zy_table.specs.Change.{txn_at}
-use Rattle.zy_table.specs.Run.{run_row, instr_row, key_row, page_row, access_row, insert_row, full_row, split_row, program_of}
+use Rattle.zy_table.specs.declared.effect.Effect.{Effect}
+use Rattle.zy_table.specs.declared.effect.Effect.TheVariants.{Accesses}
+use Rattle.zy_table.specs.Effects.{effect_of}
+use Rattle.zy_table.specs.Run.{run_row, instr_row, effect_row, key_row, page_row, access_row, insert_row, full_row, split_row, program_of}
 use Rattle.zy_table.specs.Take.{take_row, front_row, message_row, pull_row, mode_row}
 use Rattle.zy_laws.specs.Orders.{reordered}
 use Rattle.zy_table.specs.Play.{opening, move, step, play, entries, entry_of}
@@ -24,18 +26,15 @@ key sc order t (Reads r) k s = refl
 key sc order t (Writes v) k s = refl
 key sc order t (Inserts v) k s = refl
 
+effect : (sc : Scenario) (order : List Choice) (t : ℕ) (e : Effect) (s : View) → effect_row (reordered sc order) t e s ≡ effect_row sc t e s
+unfolding effect_row
+effect sc order t (Accesses i k) s = key sc order t i k s
+effect sc order t e s = refl
+
 instr : (sc : Scenario) (order : List Choice) (t : ℕ) (i : Option Instr) (regs : List ℕ) (s : View) → instr_row (reordered sc order) t i regs s ≡ instr_row sc t i regs s
 unfolding instr_row
 instr sc order t None regs s = refl
-instr sc order t (Some (Set r v)) regs s = refl
-instr sc order t (Some (Add r q)) regs s = refl
-instr sc order t (Some (Sum r q)) regs s = refl
-instr sc order t (Some (Beq r q to)) regs s = refl
-instr sc order t (Some Abort) regs s = refl
-instr sc order t (Some Commit) regs s = refl
-instr sc order t (Some (Read r q)) regs s = (key sc order t _ _ s)
-instr sc order t (Some (Write r q)) regs s = (key sc order t _ _ s)
-instr sc order t (Some (Insert r q)) regs s = (key sc order t _ _ s)
+instr sc order t (Some i) regs s = effect sc order t (effect_of i regs) s
 
 run : (sc : Scenario) (order : List Choice) (n : Node) (t : ℕ) (s : View) → run_row (reordered sc order) n t s ≡ run_row sc n t s
 unfolding run_row

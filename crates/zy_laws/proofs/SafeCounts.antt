@@ -12,12 +12,14 @@ use Rattle.zy_isa.specs.Registers.{number_of}
 use Rattle.zy_isa.specs.Scenario.{ArePrograms, IsScenario, Scenario}
 use Rattle.zy_isa.specs.declared.choice.Choice.{Choice}
 use Rattle.zy_isa.specs.declared.instr.Instr.{Instr}
-use Rattle.zy_isa.specs.declared.instr.Instr.TheVariants.{Beq}
 use Rattle.zy_isa.specs.declared.instr.Reg.{Reg}
 use Rattle.zy_isa.specs.declared.node.Node.{Node}
 use Rattle.zy_isa.specs.declared.node.Node.TheVariants.{A, B}
 use Rattle.zy_table.specs.Change.{aborted, begun, committed, did, locked, shares, txn_at, txn_or, with_reg, cut, asks, leaves}
 use Rattle.zy_table.specs.Client.{is_active, is_new}
+use Rattle.zy_table.specs.declared.effect.Effect.{Effect}
+use Rattle.zy_table.specs.declared.effect.Effect.TheVariants as effect
+use Rattle.zy_table.proofs.InstrEffects.{ends-effect, is_last, jumps_below, target-effect}
 use Rattle.zy_laws.specs.Counts.{Counted, Safe}
 use Rattle.zy_table.specs.Play.{blank, move, opening, play, side_of, step}
 use Rattle.zy_table.specs.Run.{program_of}
@@ -25,7 +27,7 @@ use Rattle.zy_table.specs.Serial.{is_committed}
 use Rattle.zy_table.specs.declared.status.Status.TheVariants.{Aborted, Active, Committed, New}
 use Rattle.zy_table.specs.State.{State, Txn, View, facing, seen_from}
 use Rattle.zy_table.specs.declared.status.Status.{Status}
-use Rattle.zy_laws.proofs.Events.{Aborts, Adds, Begins, Commits, Event, Gets, Inserts, Jumps, Rests, Runs, Sets, SumsUp, SumsNone, Writes, step_happens, Splits, Asks, Starts, GotWire, GotReady, GotDual, IsStale, Gives, GotPage, GotLast, GotFinish, GotAll, GotDone, Finishes, Pushes}
+use Rattle.zy_laws.proofs.Events.{Aborts, Begins, Commits, Event, Gets, Inserts, Rests, Runs, SumsUp, Writes, step_happens, Splits, Asks, Starts, GotWire, GotReady, GotDual, IsStale, Gives, GotPage, GotLast, GotFinish, GotAll, GotDone, Finishes, Pushes, GoesOn, Leads, BySet, ByJump, BySum}
 use Rattle.zy_laws.proofs.Txns.{at_back, at_either, at_other, at_side, blank_at}
 
 -- no element passes the test where none is found
@@ -47,10 +49,10 @@ none_found f xs h =
     (λ far _. ltb-false _ _ far) h
 
 -- each target is in its program
-jump_within : (program : List Instr) (i : ℕ) (r q : Reg) (to : ℕ) → IsProgram program → slice_get program i ≡ Some (Beq r q to) → to < length program
-jump_within program i r q to v at =
-    let stray : Instr → Bool = λ x. not (targets_below (length program) x) in
-    ltb-true _ _ (not-false _ (none_passes stray program i (Beq r q to) at (none_found stray program v.targets)))
+target_within : (program : List Instr) (i : ℕ) (x : Instr) → IsProgram program → slice_get program i ≡ Some x → targets_below (length program) x ≡ true
+target_within program i x v at =
+    let stray : Instr → Bool = λ y. not (targets_below (length program) y) in
+    not-false _ (none_passes stray program i x at (none_found stray program v.targets))
 
 -- an instruction that does not end its program has one behind it
 next_within : (program : List Instr) (i : ℕ) (x : Instr) → IsProgram program → slice_get program i ≡ Some x → ends x ≡ false → i + 1 < length program
@@ -87,14 +89,30 @@ fate_set sc v w t u y e f = elim (cases_eq u t) [
 set_length : (regs : List ℕ) (r : Reg) (x : ℕ) → length (with_reg r x regs) ≡ length regs
 set_length regs r x = length-set regs (number_of r) x
 
-next_place : (sc : Scenario) (n : Node) (t : ℕ) (i : Instr) (v : View) → Runs sc n t i v → ends i ≡ false → IsProgram (program_of sc t)
+next_place : (sc : Scenario) (n : Node) (t : ℕ) (e : Effect) (v : View) → Runs sc n t e v → is_last e ≡ false → IsProgram (program_of sc t)
     → (txn_at v t).pc + 1 < length (program_of sc t)
-next_place sc n t i v runs on ok = next_within (program_of sc t) (txn_at v t).pc i ok runs.next on
+next_place sc n t e v runs on ok =
+    next_within (program_of sc t) (txn_at v t).pc runs.instr ok runs.next (ends-effect runs.instr (txn_at v t).regs ∙ ap is_last runs.does ∙ on)
 
-jump_place : (sc : Scenario) (n : Node) (t : ℕ) (r q : Reg) (to : ℕ) (v : View) (taken : Bool) → Runs sc n t (Beq r q to) v
+jump_place : (sc : Scenario) (n : Node) (t : ℕ) (e : Effect) (taken : Bool) (to : ℕ) (v : View) → Runs sc n t e v → e ≡ effect.Jumps taken to
     → IsProgram (program_of sc t) → (if taken then to else (txn_at v t).pc + 1) < length (program_of sc t)
-jump_place sc n t r q to v true runs ok = jump_within (program_of sc t) (txn_at v t).pc r q to ok runs.next
-jump_place sc n t r q to v false runs ok = next_place sc n t _ v runs refl ok
+jump_place sc n t e true to v runs is ok =
+    let count = length (program_of sc t) in
+    let within = target_within (program_of sc t) (txn_at v t).pc runs.instr ok runs.next in
+    ltb-true _ _ (ap (jumps_below count) (sym is) ∙ ap (jumps_below count) (sym runs.does) ∙ sym (target-effect count runs.instr (txn_at v t).regs) ∙ within)
+jump_place sc n t e false to v runs is ok = next_place sc n t e v runs (ap is_last is) ok
+
+-- an effect that needs no page leaves a transaction in its program, with as many registers
+leads_place : (sc : Scenario) (n : Node) (t : ℕ) (e : Effect) (pc : ℕ) (regs : List ℕ) (v : View) → Runs sc n t e v → Leads e (txn_at v t) pc regs
+    → IsProgram (program_of sc t) → pc < length (program_of sc t)
+leads_place sc n t e pc regs v runs (BySet r value is a b) ok = rw a (next_place sc n t e v runs (ap is_last is) ok)
+leads_place sc n t e pc regs v runs (ByJump taken to is a b) ok = rw a (jump_place sc n t e taken to v runs is ok)
+leads_place sc n t e pc regs v runs (BySum r first last is none a b) ok = rw a (next_place sc n t e v runs (ap is_last is) ok)
+
+leads_length : (e : Effect) (x : Txn) (pc : ℕ) (regs : List ℕ) → Leads e x pc regs → length regs ≡ length x.regs
+leads_length e x pc regs (BySet r value is a b) = ap length b ∙ set_length x.regs r value
+leads_length e x pc regs (ByJump taken to is a b) = ap length b
+leads_length e x pc regs (BySum r first last is none a b) = ap length b ∙ set_length x.regs r 0
 
 abbrev pub txns_of : View → List Txn
 txns_of v = v.txns
@@ -104,15 +122,14 @@ unfolding did locked shares txn_at aborted begun committed cut asks leaves
 fate sc n v w u (Rests e) = rw e (Same refl)
 fate sc n v w u (Begins t h a new home e) = fate_set sc v w t u _ (ap txns_of e) (Fresh refl refl refl)
 fate sc n v w u (Aborts t y active here e) = fate_set sc v w t u _ (ap txns_of e) (Ends (omega arith) refl refl)
-fate sc n v w u (Sets t r x runs e) = fate_set sc v w t u _ (ap txns_of e) (Went refl (set_length (txn_at v t).regs r _) (next_place sc n t _ v runs refl))
-fate sc n v w u (Adds t r q runs e) = fate_set sc v w t u _ (ap txns_of e) (Went refl (set_length (txn_at v t).regs r _) (next_place sc n t _ v runs refl))
-fate sc n v w u (Jumps t r q to runs e) = fate_set sc v w t u _ (ap txns_of e) (Went refl refl (jump_place sc n t r q to v _ runs))
-fate sc n v w u (Gets t r q runs f e) = fate_set sc v w t u _ (ap txns_of e) (Went refl (set_length (txn_at v t).regs r _) (next_place sc n t _ v runs refl))
-fate sc n v w u (SumsUp t r q runs f e) = fate_set sc v w t u _ (ap txns_of e) (Went refl (set_length (txn_at v t).regs r _) (next_place sc n t _ v runs refl))
-fate sc n v w u (SumsNone t r q runs none e) = fate_set sc v w t u _ (ap txns_of e) (Went refl (set_length (txn_at v t).regs r _) (next_place sc n t _ v runs refl))
-fate sc n v w u (Writes t r q runs f there e) = fate_set sc v w t u _ (ap txns_of e) (Went refl refl (next_place sc n t _ v runs refl))
-fate sc n v w u (Inserts t r q runs f new room e) = fate_set sc v w t u _ (ap txns_of e) (Went refl refl (next_place sc n t _ v runs refl))
-fate sc n v w u (Splits t r q runs f new full normal pages e) = rw e (Same refl)
+fate sc n v w u (GoesOn t x pc regs runs leads e) =
+    fate_set sc v w t u _ (ap txns_of e) (Went refl (leads_length x (txn_at v t) pc regs leads) (leads_place sc n t x pc regs v runs leads))
+fate sc n v w u (Gets t r key runs f e) = fate_set sc v w t u _ (ap txns_of e) (Went refl (set_length (txn_at v t).regs r _) (next_place sc n t _ v runs refl))
+fate sc n v w u (SumsUp t r first last runs f e) =
+    fate_set sc v w t u _ (ap txns_of e) (Went refl (set_length (txn_at v t).regs r _) (next_place sc n t _ v runs refl))
+fate sc n v w u (Writes t key value runs f there e) = fate_set sc v w t u _ (ap txns_of e) (Went refl refl (next_place sc n t _ v runs refl))
+fate sc n v w u (Inserts t key value runs f new room e) = fate_set sc v w t u _ (ap txns_of e) (Went refl refl (next_place sc n t _ v runs refl))
+fate sc n v w u (Splits t key value runs f new full normal pages e) = rw e (Same refl)
 fate sc n v w u (Commits t runs whole e) = fate_set sc v w t u _ (ap txns_of e) (Ends (omega arith) refl refl)
 fate sc n v w u (Asks p gone may new e) = rw e (Same refl)
 fate sc n v w u (Starts at_a a b e) = rw e (Same refl)
@@ -194,15 +211,12 @@ unfolding did locked shares txn_at aborted begun committed cut asks leaves
 tallied sc n v w (Rests e) = rw e (tallied_same v v refl refl)
 tallied sc n v w (Begins t h a new home e) = rw e (tallied_set v _ t _ refl refl refl (new_off (txn_at v t).status new))
 tallied sc n v w (Aborts t y active here e) = rw e (tallied_set v _ t _ refl refl refl (active_off (txn_at v t).status active))
-tallied sc n v w (Sets t r x runs e) = rw e (tallied_step v _ t _ refl refl refl runs.active)
-tallied sc n v w (Adds t r q runs e) = rw e (tallied_step v _ t _ refl refl refl runs.active)
-tallied sc n v w (Jumps t r q to runs e) = rw e (tallied_step v _ t _ refl refl refl runs.active)
-tallied sc n v w (Gets t r q runs f e) = rw e (tallied_step v _ t _ refl refl refl runs.active)
-tallied sc n v w (SumsUp t r q runs f e) = rw e (tallied_step v _ t _ refl refl refl runs.active)
-tallied sc n v w (SumsNone t r q runs none e) = rw e (tallied_step v _ t _ refl refl refl runs.active)
-tallied sc n v w (Writes t r q runs f there e) = rw e (tallied_step v _ t _ refl refl refl runs.active)
-tallied sc n v w (Inserts t r q runs f new room e) = rw e (tallied_step v _ t _ refl refl refl runs.active)
-tallied sc n v w (Splits t r q runs f new full normal pages e) = rw e (tallied_same v _ refl refl)
+tallied sc n v w (GoesOn t x pc regs runs leads e) = rw e (tallied_step v _ t _ refl refl refl runs.active)
+tallied sc n v w (Gets t r key runs f e) = rw e (tallied_step v _ t _ refl refl refl runs.active)
+tallied sc n v w (SumsUp t r first last runs f e) = rw e (tallied_step v _ t _ refl refl refl runs.active)
+tallied sc n v w (Writes t key value runs f there e) = rw e (tallied_step v _ t _ refl refl refl runs.active)
+tallied sc n v w (Inserts t key value runs f new room e) = rw e (tallied_step v _ t _ refl refl refl runs.active)
+tallied sc n v w (Splits t key value runs f new full normal pages e) = rw e (tallied_same v _ refl refl)
 tallied sc n v w (Commits t runs whole e) = rw e (record {
   txns = length-set v.txns t _;
   commits = omega (arith, tally_more v.txns t (record (txn_at v t) { status = Committed; rows = []; done = (txn_at v t).done + 1 }) refl runs.active, length-append v.commits (record { txn = t; done = (txn_at v t).done + 1 } ∷ []));

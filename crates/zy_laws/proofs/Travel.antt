@@ -25,7 +25,7 @@ use Rattle.zy_table.specs.Play.{move, opening, play, side_of, step}
 use Rattle.zy_table.specs.Run.{boundary}
 use Rattle.zy_table.specs.State.{Leaf, Message, Move, State, View, as_step, facing, other, seen_from}
 use Rattle.zy_table.proofs.PageLists.{owns-lowered, owns-with_page}
-use Rattle.zy_laws.proofs.Events.{Told, Aborts, Adds, Asks, Begins, Commits, Event, Finishes, Gets, Gives, GotAll, GotDone, GotDual, GotFinish, GotLast, GotPage, GotReady, GotWire, Inserts, IsStale, Jumps, Pushes, Rests, Sets, SumsUp, SumsNone, Splits, Starts, Writes, has_lock, key, page, rest, step_happens}
+use Rattle.zy_laws.proofs.Events.{Told, Aborts, Asks, Begins, Commits, Event, Finishes, Gets, Gives, GotAll, GotDone, GotDual, GotFinish, GotLast, GotPage, GotReady, GotWire, Inserts, IsStale, Pushes, Rests, SumsUp, Splits, Starts, Writes, has_lock, page, rest, step_happens, GoesOn}
 use Rattle.zy_laws.proofs.Installing.{owns-installed}
 use Rattle.zy_laws.proofs.MovingPages.{leaf_at-number, owns-sent_post, owns-without, owns-without_other, sent_bare}
 use Rattle.zy_laws.proofs.OneOwner.{inv_from, locks_inv, play_inv, pulled_inv, sends_source, step_inv}
@@ -143,18 +143,15 @@ unfolding did locked shares txn_at aborted begun committed asks
 goes_event sc n o v w p i (Rests e) told = rw e (Same refl)
 goes_event sc n o v w p i (Begins t h a new home e) told = rw e (Same refl)
 goes_event sc n o v w p i (Aborts t y active here e) told = rw e (Same refl)
-goes_event sc n o v w p i (Sets t r x runs e) told = rw e (Same refl)
-goes_event sc n o v w p i (Adds t r q runs e) told = rw e (Same refl)
-goes_event sc n o v w p i (Jumps t r q to runs e) told = rw e (Same refl)
-goes_event sc n o v w p i (Gets t r q runs f e) told = rw e (Same refl)
-goes_event sc n o v w p i (SumsUp t r q runs f e) told = rw e (Same refl)
-goes_event sc n o v w p i (SumsNone t r q runs none e) told = rw e (Same refl)
-goes_event sc n o v w p i (Writes t r q runs f there e) told = rw e (Same refl)
-goes_event sc n o v w p i (Inserts t r q runs f new room e) told = rw e (Same refl)
-goes_event sc n o v w p i (Splits t r q runs f new full normal pages e) told =
-    let x = has_lock t (key t r v) Exclusive v in
+goes_event sc n o v w p i (GoesOn t x pc regs runs leads e) told = rw e (Same refl)
+goes_event sc n o v w p i (Gets t r key runs f e) told = rw e (Same refl)
+goes_event sc n o v w p i (SumsUp t r first last runs f e) told = rw e (Same refl)
+goes_event sc n o v w p i (Writes t key value runs f there e) told = rw e (Same refl)
+goes_event sc n o v w p i (Inserts t key value runs f new room e) told = rw e (Same refl)
+goes_event sc n o v w p i (Splits t key value runs f new full normal pages e) told =
+    let x = has_lock t key Exclusive v in
     let locked = locks_inv v x (refl, refl, refl) refl refl refl i in
-    rw e (from_same p n o v x _ refl refl (cut_goes p n o x t (page t r v) (boundary sc (key t r v) (page t r v) v.me (txn_at v t)) locked normal told))
+    rw e (from_same p n o v x _ refl refl (cut_goes p n o x t (page key v) (boundary sc key (page key v) v.me (txn_at v t)) locked normal told))
 goes_event sc n o v w p i (Commits t runs all e) told = rw e (stays p n o v _ (owns-installed v.me.lows (txn_at v t).rows v.me.pages p) refl refl refl)
 goes_event sc n o v w p i (Asks q gone pulls new e) told = rw e (stays p n o v _ refl refl (sent_bare v.outbox (Pull q) refl) refl)
 goes_event sc n o v w p i (Starts at_a normal empty e) told = rw e (stays p n o v _ refl refl (sent_bare v.outbox (Wire v.me.lows) refl) refl)

@@ -13,7 +13,7 @@ use Rattle.zy_table.specs.State.{View, post, with_me, Leaf, State, facing, seen_
 use Rattle.zy_table.specs.declared.entry.CommitRec.{CommitRec}
 use Rattle.zy_laws.proofs.Committing.{committed_list}
 use Rattle.zy_laws.proofs.CutValues.{cut_db}
-use Rattle.zy_laws.proofs.Events.{Aborts, Adds, Asks, Begins, Commits, Event, Finishes, Gets, Gives, GotAll, GotDone, GotDual, GotFinish, GotLast, GotPage, GotReady, GotWire, Inserts, IsStale, Jumps, Pushes, Rests, Sets, SumsUp, SumsNone, Splits, Starts, Writes, arrived, has_lock, key, page, rest, step_happens}
+use Rattle.zy_laws.proofs.Events.{Aborts, Asks, Begins, Commits, Event, Finishes, Gets, Gives, GotAll, GotDone, GotDual, GotFinish, GotLast, GotPage, GotReady, GotWire, Inserts, IsStale, Pushes, Rests, SumsUp, Splits, Starts, Writes, arrived, has_lock, page, rest, step_happens, GoesOn}
 use Rattle.zy_laws.proofs.Locking.{Kept, whole}
 use Rattle.zy_laws.proofs.MovedValues.{arrived_db, leaves_db, same_db}
 use Rattle.zy_laws.proofs.MovingPages.{sent_bare}
@@ -46,16 +46,14 @@ unfolding begun aborted did locked shares asks leaves
 event_db sc n v w lows k (Rests e) c = ap db e
 event_db sc n v w lows k (Begins t h a new home e) c = ap db e
 event_db sc n v w lows k (Aborts t y active here e) c = ap db e
-event_db sc n v w lows k (Sets t r x runs e) c = ap db e
-event_db sc n v w lows k (Adds t r q runs e) c = ap db e
-event_db sc n v w lows k (Jumps t r q to runs e) c = ap db e
-event_db sc n v w lows k (Gets t r q runs f e) c = ap db e
-event_db sc n v w lows k (SumsUp t r q runs f e) c = ap db e
-event_db sc n v w lows k (SumsNone t r q runs none e) c = ap db e
-event_db sc n v w lows k (Writes t r q runs f there e) c = ap db e
-event_db sc n v w lows k (Inserts t r q runs f new room e) c = ap db e
-event_db sc n v w lows k (Splits t r q runs f new full normal pages e) c =
-    ap db e ∙ cut_db lows (has_lock t (key t r v) Exclusive v) t (page t r v) (boundary sc (key t r v) (page t r v) v.me (txn_at v t)) k.placed (record { once = k.inv.owned.once }) f.here
+event_db sc n v w lows k (GoesOn t x pc regs runs leads e) c = ap db e
+event_db sc n v w lows k (Gets t r key runs f e) c = ap db e
+event_db sc n v w lows k (SumsUp t r first last runs f e) c = ap db e
+event_db sc n v w lows k (Writes t key value runs f there e) c = ap db e
+event_db sc n v w lows k (Inserts t key value runs f new room e) c = ap db e
+event_db sc n v w lows k (Splits t key value runs f new full normal pages e) c =
+    let b = boundary sc key (page key v) v.me (txn_at v t) in
+    ap db e ∙ cut_db lows (has_lock t key Exclusive v) t (page key v) b k.placed (record { once = k.inv.owned.once }) f.here
 event_db sc n v w lows k (Commits t runs all e) c = absurd (no_longer v.commits _ (sym (committed_list t v) ∙ sym (ap (λ (x : View). x.commits) e) ∙ c))
 event_db sc n v w lows k (Asks p gone pulls asked e) c = ap db e ∙ same_db v (asks p v) refl refl refl (sent_bare v.outbox (Pull p) refl)
 event_db sc n v w lows k (Starts at_a normal empty e) c = ap db e ∙ same_db v (post (Wire v.me.lows) (turns SInit v)) refl refl refl (sent_bare v.outbox (Wire v.me.lows) refl)

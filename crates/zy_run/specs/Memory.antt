@@ -3,12 +3,13 @@ use Rattle.std.specs.Prelude.{◌≡◌, ◌⊎◌, ℕ, ◌≤◌, List, ◌∷
 use Rattle.zy_isa.specs.Rows.{get_row}
 use Rattle.zy_isa.specs.Scenario.{Scenario}
 use Rattle.zy_isa.specs.declared.instr.Instr.{Instr}
-use Rattle.zy_isa.specs.declared.instr.Instr.TheVariants.{Set, Read, Write, Insert, Add, Sum, Beq, Commit, Abort}
 use Rattle.zy_locks.specs.Locks.{conflict}
 use Rattle.zy_locks.specs.LockTable.{HasPlaces}
 use Rattle.zy_modes.specs.Table.{may_pull, may_split}
 use Rattle.zy_wire.specs.Wireframe.{page_of}
-use Rattle.zy_table.specs.Change.{reg}
+use Rattle.zy_table.specs.declared.effect.Effect.{Effect}
+use Rattle.zy_table.specs.declared.effect.Effect.TheVariants.{Sets, Jumps, Accesses, Sums, Commits, Aborts}
+use Rattle.zy_table.specs.Effects.{effect_of}
 use Rattle.zy_table.specs.Numbers.{has}
 use Rattle.zy_table.specs.Pages.{owns}
 use Rattle.zy_table.specs.Ranges.{range_pages}
@@ -53,17 +54,18 @@ pub record PagesNeedNone (t a b : ℕ) (x : NodeStore) : Type 0 where
 abbrev pub SumNeedsNone : ℕ → ℕ → ℕ → NodeStore → Type 0
 SumNeedsNone t a b x = a ≤ b → b ≤ 65535 → PagesNeedNone t a b x
 
--- an instruction of t: there is room to note a commit
+-- an effect of t: there is room to note a commit
+abbrev pub EffectNeedsNone : Scenario → ℕ → Effect → NodeStore → Ledger → Type 0
+EffectNeedsNone sc t (Sets r v) x b = Unit {0}
+EffectNeedsNone sc t (Jumps taken to) x b = Unit {0}
+EffectNeedsNone sc t (Accesses access k) x b = KeyNeedsNone sc t access k x b
+EffectNeedsNone sc t (Sums r first last) x b = SumNeedsNone t first last x
+EffectNeedsNone sc t Commits x b = 1 ≤ b.spare
+EffectNeedsNone sc t Aborts x b = Unit {0}
+
+-- an instruction of t
 abbrev pub InstrNeedsNone : Scenario → ℕ → Instr → List ℕ → NodeStore → Ledger → Type 0
-InstrNeedsNone sc t (Set r v) regs x b = Unit {0}
-InstrNeedsNone sc t (Add r q) regs x b = Unit {0}
-InstrNeedsNone sc t (Sum r q) regs x b = SumNeedsNone t (reg regs r) (reg regs q) x
-InstrNeedsNone sc t (Beq r q to) regs x b = Unit {0}
-InstrNeedsNone sc t Abort regs x b = Unit {0}
-InstrNeedsNone sc t Commit regs x b = 1 ≤ b.spare
-InstrNeedsNone sc t (Read r q) regs x b = KeyNeedsNone sc t (Reads r) (reg regs q) x b
-InstrNeedsNone sc t (Write r q) regs x b = KeyNeedsNone sc t (Writes (reg regs q)) (reg regs r) x b
-InstrNeedsNone sc t (Insert r q) regs x b = KeyNeedsNone sc t (Inserts (reg regs q)) (reg regs r) x b
+InstrNeedsNone sc t i regs x b = EffectNeedsNone sc t (effect_of i regs) x b
 
 -- the next instruction of t
 abbrev pub RunNeedsNone : Scenario → ℕ → NodeStore → Ledger → Type 0

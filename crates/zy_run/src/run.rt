@@ -9,13 +9,13 @@ ghost use Rattle.zy_table.specs.State.{View};
 ghost use Rattle.zy_table.specs.Pages.{owns, rows_of};
 ghost use Rattle.zy_table.specs.Change.{txn_at, locked, shares};
 ghost use Rattle.zy_table.specs.Ranges.{range_pages};
-ghost use Rattle.zy_table.specs.Run.{abort_row as abort_row_spec, set_row as set_row_spec, jump_row as jump_row_spec, commit_row as commit_row_spec, absent_row as absent_row_spec, read_row as read_row_spec, write_row as write_row_spec, insert_row as insert_row_spec, full_row as full_row_spec, split_row as split_row_spec, page_row as page_row_spec, key_row as key_row_spec, range_row as range_row_spec, sum_or_asks as sum_or_asks_spec, sum_or_waits as sum_or_waits_spec, sum_row as sum_row_spec, first_absent, first_taken, instr_row as instr_row_spec, run_row as run_row_spec, is_there as is_there_spec, has_room as has_room_spec, boundary as boundary_spec, program_of};
+ghost use Rattle.zy_table.specs.Run.{abort_row as abort_row_spec, set_row as set_row_spec, jump_row as jump_row_spec, commit_row as commit_row_spec, absent_row as absent_row_spec, read_row as read_row_spec, write_row as write_row_spec, insert_row as insert_row_spec, full_row as full_row_spec, split_row as split_row_spec, page_row as page_row_spec, key_row as key_row_spec, range_row as range_row_spec, sum_or_asks as sum_or_asks_spec, sum_or_waits as sum_or_waits_spec, sum_row as sum_row_spec, first_absent, first_taken, effect_row as effect_row_spec, instr_row as instr_row_spec, run_row as run_row_spec, is_there as is_there_spec, has_room as has_room_spec, boundary as boundary_spec, program_of};
 ghost use Rattle.zy_node.specs.Nodes.{node_shown, limits_of, IsFree, IsLimited};
 ghost use Rattle.zy_node.specs.Wireframes.{lows_in};
 ghost use Rattle.zy_txns.specs.Books.{txn_in, noted, Countable};
 ghost use Rattle.zy_run.specs.Parts.{here, Runs};
 ghost use Rattle.zy_table.specs.Answers.{made};
-ghost use Rattle.zy_run.specs.Memory.{AbsentNeedsNone, InstrNeedsNone, IsUncut, KeyNeedsNone, PageNeedsNone, PagesNeedNone, RunNeedsNone, SumNeedsNone};
+ghost use Rattle.zy_run.specs.Memory.{AbsentNeedsNone, EffectNeedsNone, InstrNeedsNone, IsUncut, KeyNeedsNone, PageNeedsNone, PagesNeedNone, RunNeedsNone, SumNeedsNone};
 ghost use Rattle.zy_run.specs.Ready.{IsFull, IsReady, MaySplit, Rooms};
 
 use crate::sum::sum;
@@ -29,6 +29,7 @@ use zy_node::node_store::{NodeStore, fewer_new_rows, gone_page};
 use zy_node::wireframe::{page_count, page_of};
 use zy_table::access::Access;
 use zy_table::answer::Answer;
+use zy_table::effect::{Effect, effect_of};
 use zy_table::outcome::{Outcome, Why};
 use zy_txns::book::Book;
 use zy_txns::txn::Txn;
@@ -82,35 +83,36 @@ fn instr_row(
     ensures memory { InstrNeedsNone scenario.now t instr (txn_in t book.old).regs me.old book.old → IsOk result }
     ensures limits { limits_of me.new ≡ limits_of me.old }
 {
-    let txn = book.txn(t);
-    match instr {
-        Instr::Set(r, value) => Ok(set_row(book, t, r, value)),
-        Instr::Add(r, q) => {
-            let sum = txn.reg(r).wrapping_add(txn.reg(q));
-            Ok(set_row(book, t, r, sum))
-        }
-        Instr::Sum(r, q) => {
-            let (first, last) = (txn.reg(r), txn.reg(q));
-            range_row(scenario, me, book, t, r, first, last)
-        }
-        Instr::Beq(r, q, target) => {
-            let taken = txn.reg(r) == txn.reg(q);
-            Ok(jump_row(book, t, taken, target))
-        }
-        Instr::Abort => Ok(abort_row(me, book, t, Why::Own)),
-        Instr::Commit => commit_row(me, book, t),
-        Instr::Read(r, q) => {
-            let key = txn.reg(q);
-            key_row(scenario, alloc, me, book, t, Access::Reads(r), key)
-        }
-        Instr::Write(r, q) => {
-            let (key, value) = (txn.reg(r), txn.reg(q));
-            key_row(scenario, alloc, me, book, t, Access::Writes(value), key)
-        }
-        Instr::Insert(r, q) => {
-            let (key, value) = (txn.reg(r), txn.reg(q));
-            key_row(scenario, alloc, me, book, t, Access::Inserts(value), key)
-        }
+    let effect = effect_of(instr, book.txn(t).regs());
+    effect_row(scenario, alloc, me, book, t, effect)
+}
+
+/// The lines of an effect.
+#[inline(always)]
+#[tactic(auto, unfolding(zy_table::specs::Run::effect_row))]
+fn effect_row(
+    scenario: &Scenario,
+    alloc: Global,
+    me: &mut NodeStore,
+    book: &mut Book,
+    t: u8,
+    effect: Effect,
+) -> Result<Answer, AllocError>
+    requires counts { Countable t book.old }
+    requires room { Rooms t me.old book.old }
+    requires splits { MaySplit scenario.now (node_shown me.old) (txn_in t book.old) }
+    requires limited { IsLimited scenario.now.pages me.old }
+    ensures line { Runs me.old book.old me.new book.new result (effect_row_spec scenario.now t effect) }
+    ensures memory { EffectNeedsNone scenario.now t effect me.old book.old → IsOk result }
+    ensures limits { limits_of me.new ≡ limits_of me.old }
+{
+    match effect {
+        Effect::Sets(r, value) => Ok(set_row(book, t, r, value)),
+        Effect::Jumps(taken, target) => Ok(jump_row(book, t, taken, target)),
+        Effect::Accesses(access, key) => key_row(scenario, alloc, me, book, t, access, key),
+        Effect::Sums(r, first, last) => range_row(scenario, me, book, t, r, first, last),
+        Effect::Commits => commit_row(me, book, t),
+        Effect::Aborts => Ok(abort_row(me, book, t, Why::Own)),
     }
 }
 

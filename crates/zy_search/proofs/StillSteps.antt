@@ -6,7 +6,6 @@ use Rattle.zy_isa.specs.declared.node.Node.{Node}
 use Rattle.zy_isa.specs.declared.node.Node.TheVariants.{A, B}
 use Rattle.zy_isa.specs.declared.instr.Reg.{Reg}
 use Rattle.zy_isa.specs.declared.instr.Instr.{Instr}
-use Rattle.zy_isa.specs.declared.instr.Instr.TheVariants.{Set, Read, Write, Insert, Add, Sum, Beq, Commit, Abort}
 use Rattle.zy_isa.specs.declared.choice.Choice.{Choice}
 use Rattle.zy_isa.specs.declared.choice.Choice.TheVariants.{Start, Begin, Kill, Run, Take, Finish as Finish_at, Push}
 use Rattle.zy_isa.specs.Scenario.{Scenario}
@@ -24,9 +23,12 @@ use Rattle.zy_table.specs.State.{State, View, Move, Step, facing, seen_from}
 use Rattle.zy_table.specs.Numbers.{has}
 use Rattle.zy_table.specs.Pages.{owns}
 use Rattle.zy_table.specs.Change.{txn_at, locked}
+use Rattle.zy_table.specs.declared.effect.Effect.{Effect}
+use Rattle.zy_table.specs.declared.effect.Effect.TheVariants.{Sets, Jumps, Accesses, Sums, Commits, Aborts}
+use Rattle.zy_table.specs.Effects.{effect_of}
 use Rattle.zy_table.specs.Client.{is_new, is_active, start_row, begin_at, begin_row, kill_row}
 use Rattle.zy_table.specs.Push.{finish_if, finish_row, push_if, push_row}
-use Rattle.zy_table.specs.Run.{same_node, abort_row, set_row, jump_row, commit_or_gone, commit_row, absent_row, read_row, is_there, write_row, has_room, split_row, full_row, insert_row, lock_of, access_row, page_row, key_row, sum_row, sum_or_waits, sum_or_asks, range_row, instr_row, run_row}
+use Rattle.zy_table.specs.Run.{same_node, abort_row, set_row, jump_row, commit_or_gone, commit_row, absent_row, read_row, is_there, write_row, has_room, split_row, full_row, insert_row, lock_of, access_row, page_row, key_row, sum_row, sum_or_waits, sum_or_asks, range_row, effect_row, instr_row, run_row}
 use Rattle.zy_table.specs.Take.{is_held, got, got_row, pull_row, message_row, front_row, take_row}
 use Rattle.zy_table.specs.Play.{move, side_of, step}
 use Rattle.zy_machine.specs.Histories.{History}
@@ -133,18 +135,19 @@ unfolding commit_or_gone
 commits t (Some p) v = aborts t _ v v
 commits t None v = never
 
+effects : (sc : Scenario) (t : ℕ) (e : Effect) (v : View) → Stays v (effect_row sc t e v)
+unfolding effect_row jump_row commit_row
+effects sc t (Sets r x) v = sets t r x v v
+effects sc t (Jumps taken to) v = never
+effects sc t (Accesses i k) v = on_key sc t i k v
+effects sc t (Sums r a b) v = sums t r a b v
+effects sc t Commits v = commits t _ v
+effects sc t Aborts v = aborts t _ v v
+
 instr : (sc : Scenario) (t : ℕ) (o : Option Instr) (regs : List ℕ) (v : View) → Stays v (instr_row sc t o regs v)
-unfolding instr_row jump_row commit_row
+unfolding instr_row
 instr sc t None regs v = λ _. refl
-instr sc t (Some (Set r x)) regs v = sets t r x v v
-instr sc t (Some (Add r q)) regs v = sets t r _ v v
-instr sc t (Some (Sum r q)) regs v = sums t r _ _ v
-instr sc t (Some (Beq r q to)) regs v = never
-instr sc t (Some Abort) regs v = aborts t _ v v
-instr sc t (Some Commit) regs v = commits t _ v
-instr sc t (Some (Read r q)) regs v = on_key sc t (Reads r) _ v
-instr sc t (Some (Write r q)) regs v = on_key sc t (Writes _) _ v
-instr sc t (Some (Insert r q)) regs v = on_key sc t (Inserts _) _ v
+instr sc t (Some i) regs v = effects sc t (effect_of i regs) v
 
 runs : (sc : Scenario) (n : Node) (t : ℕ) (v : View) → Stays v (run_row sc n t v)
 unfolding run_row

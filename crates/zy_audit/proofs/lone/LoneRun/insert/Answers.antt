@@ -1,4 +1,4 @@
-use Rattle.std.proofs.Common.{◌≡◌, ◌<◌, ◌^◌, ◌∙◌, sym, arith, false}
+use Rattle.std.proofs.Common.{◌≡◌, ◌∙◌, sym, false}
 use Rattle.std.specs.Prelude.{is_some}
 use Rattle.zy_audit.specs.Lone.{map_of}
 use Rattle.zy_audit.proofs.RunRows.{inserted-new}
@@ -6,7 +6,6 @@ use Rattle.zy_audit.proofs.lone.LoneRun.insert.Goals as goal
 
 pub returns : goal.returns
 returns c =
-    let same : c.in-Ok.key ≡ c.args.key = omega arith in
-    let near : c.args.key < 2 ^ 16 = omega arith in
     let new : is_some c.value.result ≡ false = sym c.is_some.ensures ∙ c.if-is_some.false in
-    inserted-new c.put.result (map_of c.args.table.now) c.in-Ok.key c.args.key c.args.value c.args.self.now c.put.new.self c.value.result same near c.requires.on c.value.ensures new c.put.ensures.ok
+    let m = map_of c.args.table.now in
+    inserted-new c.put.result m c.args.key c.args.value c.args.self.now c.put.new.self c.value.result c.requires.on c.value.ensures new c.put.ensures.ok

@@ -1,4 +1,4 @@
-use Rattle.std.proofs.Common.{◌≡◌, ◌<◌, ◌^◌, ◌∙◌, ap, arith, true}
+use Rattle.std.proofs.Common.{◌≡◌, ◌∙◌, ap, true}
 use Rattle.std.specs.Prelude.{is_some, not}
 use Rattle.zy_audit.specs.Lone.{map_of}
 use Rattle.zy_audit.proofs.RunRows.{written-there}
@@ -6,7 +6,6 @@ use Rattle.zy_audit.proofs.lone.LoneRun.write.Goals as goal
 
 pub returns : goal.returns
 returns c =
-    let same : c.in-Ok.key ≡ c.args.key = omega arith in
-    let near : c.args.key < 2 ^ 16 = omega arith in
     let there : is_some c.value.result ≡ true = c.is_none.ensures ∙ ap not c.if-is_none.false in
-    written-there c.put.result (map_of c.args.table.now) c.in-Ok.key c.args.key c.args.value c.args.self.now c.put.new.self c.value.result same near c.requires.on c.value.ensures there c.put.ensures.ok
+    let m = map_of c.args.table.now in
+    written-there c.put.result m c.args.key c.args.value c.args.self.now c.put.new.self c.value.result c.requires.on c.value.ensures there c.put.ensures.ok
