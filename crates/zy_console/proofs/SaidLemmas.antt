@@ -1,18 +1,13 @@
 -- What the lines so far have said, and one line more.
-use Rattle.std.proofs.Common.{◌≡◌, ℕ, ◌==◌, List, [], ◌∷◌, ◌++◌, Option, length, true, refl, sym, ap, subst, ◌∙◌, arith, append_assoc, append-nil}
-use Rattle.std.proofs.lemmas.Bool.{eqb-true}
+use Rattle.std.proofs.Common.{◌≡◌, ℕ, List, [], ◌∷◌, ◌++◌, Option, refl, sym, ap, subst, ◌∙◌, append_assoc, append-nil}
 use Rattle.std.specs.Io.KnownBytes.{Appends}
 use Rattle.std.proofs.KnownBytes.{Appends-trans, Appends-nil}
 use Rattle.zy_io.specs.Streams.{WroteFront}
-use Rattle.zy_isa.specs.Words.{lines_of, words_of}
+use Rattle.zy_isa.specs.Words.{words_of}
 use Rattle.zy_words.specs.Lines.{first_words}
 use Rattle.zy_debug.specs.Sessions.{Session}
 use Rattle.zy_console.specs.Console.{LineSays, Says, SaysFront}
 use Rattle.zy_console.proofs.OneLemmas.{says_some}
-
-pub no_lines : (xs : List ℕ) → (length xs == 0) ≡ true → lines_of xs ≡ []
-no_lines [] h = refl
-no_lines (x ∷ xs) h = absurd (omega (arith, eqb-true (length (x ∷ xs)) 0 h))
 
 -- behind six words nothing changes what a line says
 pub says_first : (s t : Session) (ws : List (List ℕ)) (out : List ℕ) → LineSays s (first_words ws) t out → LineSays s ws t out
@@ -90,9 +85,3 @@ said_torn a b c s t u lines all last l more h first says (front, back, is, wrote
         Appends-trans a b c h.out front h.wrote wrote,
       );
     }
-
--- no line is left
-pub said_all : (a b : Option (List ℕ)) (s t : Session) (lines last : List (List ℕ)) → Said a b s lines last t → last ≡ [] → (out : List ℕ) × Says s lines t out × Appends a b out
-said_all a b s t lines last h none =
-    let whole : lines ≡ h.read = h.parted ∙ ap (λ x. h.read ++ x) none ∙ append-nil h.read in
-    (h.out, subst (λ x. Says s x t h.out) (sym whole) h.says, h.wrote)

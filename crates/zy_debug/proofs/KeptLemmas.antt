@@ -1,5 +1,5 @@
 -- Machines that are kept.
-use Rattle.std.proofs.Common.{◌≡◌, ◌⊎◌, inl, inr, ℕ, ◌-◌, List, [], ◌∷◌, ◌++◌, length, subst, sym, suc, zero, true, false, Bool, Option, Some, None, IfSome, Result, Ok, Err, OnOk, OnErr, if◌then◌else◌}
+use Rattle.std.proofs.Common.{◌≡◌, ℕ, ◌-◌, List, [], ◌∷◌, ◌++◌, length, subst, sym, suc, zero, true, false, Bool, Option, Some, None, IfSome, Result, Ok, Err, OnOk, OnErr, if◌then◌else◌}
 use Rattle.std.specs.Prelude.{drop, slice_get, take}
 use Rattle.circular_buffer.specs.Buffer.{keep_last}
 use Rattle.zy_isa.specs.Scenario.{Scenario}
@@ -45,8 +45,3 @@ pub AreReplaysOf-tried : {X Y : Type 0} (sc : Scenario) (h : History) (k j : Kep
     → AreReplaysOf sc k.machines → IsReplayOf sc h → AreReplaysOf sc j.machines
 AreReplaysOf-tried sc h k j (Ok x) o e a r = rw o (AreReplaysOf-noted sc h k a r)
 AreReplaysOf-tried sc h k j (Err x) o e a r = rw e a
-
--- what is so of both is so of either
-pub IfSome-either : {X : Type 0} (P : X → Type 0) (r x y : Option X) → (r ≡ x) ⊎ (r ≡ y) → IfSome x P → IfSome y P → IfSome r P
-IfSome-either P r x y (inl e) a b = subst (λ o. IfSome o P) (sym e) a
-IfSome-either P r x y (inr e) a b = subst (λ o. IfSome o P) (sym e) b

@@ -285,10 +285,6 @@ twin_still m old new c t e f longer still = record {
   entries = omega (arith, t.entries, longer);
 }
 
--- a twin's step is that of the first machine
-pub twin_step : (m twin : History) (c : Choice) → IsTwin m twin → step twin.scenario c twin.state ≡ step m.scenario c m.state
-twin_step m twin c t = ap (λ (sc : Scenario). step sc c twin.state) t.scenario ∙ ap (step m.scenario c) t.state
-
 -- the step of a machine where a path leads is that from the path's state
 pub here_step : (h m : History) (ps : List (List Choice)) (at : ℕ) (c : Choice) → IsHere h ps at m → step m.scenario c m.state ≡ step h.scenario c (reached h (path_at ps at))
 here_step h m ps at c here = ap (λ (sc : Scenario). step sc c m.state) here.scenario ∙ ap (step h.scenario c) here.state
