@@ -6,6 +6,7 @@ use Rattle.zy_isa.specs.Scenario.{Scenario}
 use Rattle.zy_machine.specs.Histories.{History}
 use Rattle.zy_debug.specs.Checkpoints.{Kept, AreReplaysOf, IsReplayOf, is_kept, noted}
 
+-- the last ones stay
 AreReplaysOf-drop : (sc : Scenario) (n : ℕ) (hs : List History) → AreReplaysOf sc hs → AreReplaysOf sc (drop n hs)
 AreReplaysOf-drop sc zero hs a = a
 AreReplaysOf-drop sc (suc n) [] a = tt
@@ -17,10 +18,12 @@ AreReplaysOf-take sc zero hs a = tt
 AreReplaysOf-take sc (suc n) [] a = tt
 AreReplaysOf-take sc (suc n) (h ∷ hs) a = (a.0, AreReplaysOf-take sc n hs a.1)
 
+-- one more behind them
 AreReplaysOf-push : (sc : Scenario) (hs : List History) (h : History) → AreReplaysOf sc hs → IsReplayOf sc h → AreReplaysOf sc (hs ++ h ∷ [])
 AreReplaysOf-push sc [] h a r = (r, tt)
 AreReplaysOf-push sc (x ∷ hs) h a r = (a.0, AreReplaysOf-push sc hs h a.1 r)
 
+-- one is noted, unless one of its position is kept
 noted_by : (sc : Scenario) (h : History) (k : Kept) (kept : Bool) → AreReplaysOf sc k.machines → IsReplayOf sc h
     → AreReplaysOf sc (if kept then k else record k { machines = keep_last k.room (k.machines ++ h ∷ []) }).machines
 noted_by sc h k true a r = a
@@ -36,6 +39,7 @@ AreReplaysOf-at sc [] i h a e = absurd (cc)
 AreReplaysOf-at sc (x ∷ hs) zero h a e = let same : x ≡ h = cc in subst (IsReplayOf sc) same a.0
 AreReplaysOf-at sc (x ∷ hs) (suc i) h a e = AreReplaysOf-at sc hs i h a.1 e
 
+-- so is the one at an index, if there is one
 pub AreReplaysOf-found : (sc : Scenario) (hs : List History) (i : ℕ) (o : Option History) → AreReplaysOf sc hs → o ≡ slice_get hs i → IfSome o (IsReplayOf sc)
 AreReplaysOf-found sc hs i None a e = tt
 AreReplaysOf-found sc hs i (Some h) a e = AreReplaysOf-at sc hs i h a (sym e)
