@@ -1,5 +1,5 @@
 -- A page that is what it was and where it was, with locks that are what they were, has the same line.
-use Rattle.std.proofs.Common.{◌≡◌, ◌∙◌, ℕ, ◌+◌, ◌==◌, Bool, true, false, not, List, [], ◌∷◌, ◌++◌, Some, ap, ap₂, sym, refl, take, drop, take-append-drop, length}
+use Rattle.std.proofs.Common.{◌≡◌, ◌∙◌, ℕ, ◌==◌, Bool, true, false, not, List, [], ◌∷◌, ◌++◌, Some, ap, ap₂, sym, refl, take, drop, take-append-drop, length}
 use Rattle.std.specs.Prelude.{codes, is_some, if◌then◌else◌, ◌&&◌, ◌-◌}
 use Rattle.std.specs.List.{list_all}
 use Rattle.std.proofs.lemmas.List.{length-drop}

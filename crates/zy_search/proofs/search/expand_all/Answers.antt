@@ -1,4 +1,4 @@
-use Rattle.std.proofs.Common.{◌+◌, ◌<◌, [], ◌∷◌, true, false, length, arith}
+use Rattle.std.proofs.Common.{◌+◌, ◌<◌, [], ◌∷◌, length, arith}
 use Rattle.zy_search.specs.Visits.{IsExpanded, length_at}
 use Rattle.zy_search.proofs.SearchLemmas.{none_at_all, finds_first, spent_below, spent_well, expanded_grown, near_first, edge_next, stops, stops_grown, spent_due}
 use Rattle.zy_search.proofs.EdgeLemmas.{ends_first, ends_later}
