@@ -21,7 +21,3 @@ with_front-next labels front p i ps e = rw e (next (all_resolved labels ps))
 pub with_front-fails : (labels : List Mark) (front : List Instr) (p : Pending) (k : AsmKind) (ps : List Pending) → resolved labels p ≡ Err k
     → with_front front (all_resolved labels (p ∷ ps)) ≡ Err k
 with_front-fails labels front p k ps e = rw e refl
-
-pub with_no_front : (r : Result (List Instr) AsmKind) → with_front [] r ≡ r
-with_no_front (Ok x) = refl
-with_no_front (Err k) = refl

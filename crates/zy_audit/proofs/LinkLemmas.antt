@@ -1,5 +1,5 @@
 -- The text of a link, a message at a time.
-use Rattle.std.proofs.Common.{◌≡◌, ◌∙◌, ℕ, zero, suc, ◌<◌, List, [], ◌∷◌, ◌++◌, length, take, get_or, refl, ap, sym, arith, append-nil, append_assoc}
+use Rattle.std.proofs.Common.{◌≡◌, ◌∙◌, ℕ, ◌<◌, List, ◌++◌, length, take, get_or, ap, sym}
 use Rattle.std.proofs.Common.{Result, Err, subst}
 use Rattle.std.specs.List.{flat_map}
 use Rattle.std.proofs.lemmas.List.Folds.{flat_map-map}
@@ -12,20 +12,6 @@ use Rattle.zy_audit.specs.Texts.{message_text}
 -- the text of the first i messages
 abbrev pub first_texts : ℕ → List Sent → List ℕ
 first_texts i ms = flat_map message_text (messages_of (take i ms))
-
--- one message more
-pub first_texts-more : (i : ℕ) (m : Sent) (ms : List Sent) → i < length ms → m ≡ get_or ms i m → first_texts (suc i) ms ≡ first_texts i ms ++ message_text (message_of m)
-first_texts-more i m [] h e = absurd (omega arith)
-first_texts-more zero m (x ∷ ms) h e = rw (← e) (append-nil (message_text (message_of m)))
-first_texts-more (suc i) m (x ∷ ms) h e =
-    let more = first_texts-more i m ms (omega arith) e in
-    ap (λ text. message_text (message_of x) ++ text) more ∙ sym (append_assoc (message_text (message_of x)) (first_texts i ms) (message_text (message_of m)))
-
-pub first_texts-all : (i : ℕ) (ms : List Sent) → i ≡ length ms → first_texts i ms ≡ flat_map message_text (messages_of ms)
-first_texts-all zero [] e = refl
-first_texts-all (suc i) [] e = absurd (omega arith)
-first_texts-all zero (x ∷ ms) e = absurd (omega arith)
-first_texts-all (suc i) (x ∷ ms) e = ap (λ text. message_text (message_of x) ++ text) (first_texts-all i ms (omega arith))
 
 -- the fault of one message's text is that of all
 pub messages-stop : {X E : Type 0} (ms : List Sent) (i : ℕ) (m : Sent) (a b c : List ℕ) (e : E) (r : Result X E) → i < length ms → m ≡ get_or ms i m

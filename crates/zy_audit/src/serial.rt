@@ -31,6 +31,7 @@ pub fn serial(
         let program = &scenario.programs()[usize::from(commit.txn)];
         table.run(alloc, program, commit.done)?;
     }
+    // Proof: the rows of a table rise by key.
     let _rows = table.rows();
     Ok(table)
 }

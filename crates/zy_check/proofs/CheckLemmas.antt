@@ -16,6 +16,7 @@ use Rattle.zy_asm.specs.Reasons.{kind_of, fault_of}
 use Rattle.zy_check.specs.Faults.{of_kind, of_refusal, IsOfScenario}
 use Rattle.zy_check.specs.Verdicts.{IsVerdict, GivesVerdict}
 
+-- what is not faulty has no fault
 not_faulty : (f : Option AsmFault) (bytes : List ℕ) → result_err (unless_faulty f bytes) ≡ None → f ≡ None
 not_faulty None bytes h = refl
 not_faulty (Some f) bytes h = absurd (cc)
@@ -46,5 +47,6 @@ by_kind part r kinds.Memory h = tt
 pub refusal_told : (part : List ℕ) (r : Refusal) → (kind_of r.reason ≡ kinds.Memory) ⊎ (input_fault part ≡ Some (fault_of r)) → IsOfScenario part (of_refusal r)
 refusal_told part r h = by_kind part r (kind_of r.reason) h
 
+-- where there was no memory any verdict may be
 pub memory_gives : (r : Refusal) (v : Verdict) → kind_of r.reason ≡ kinds.Memory → GivesVerdict (Err (of_refusal r)) v
 memory_gives r v e = rw e tt

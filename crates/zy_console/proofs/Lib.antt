@@ -1,2 +1,3 @@
 mod OneLemmas
 pub mod SaidLemmas
+mod ThereLemmas

@@ -13,43 +13,53 @@ use Rattle.zy_console.specs.Replies.{bad_command, refusal_text, reply_text}
 
 -- ---- one at most
 
-same : (v t u : Session) (text out more : List ℕ) → (t ≡ v) × (out ≡ text) → (u ≡ v) × (more ≡ text) → (t ≡ u) × (out ≡ more)
-same v t u text out more h k = (h.0 ∙ sym k.0, h.1 ∙ sym k.1)
+-- Two ends of one beginning: from s to t, which says out, and from s to u, which says more.
+module _ (s t u : Session) (out more : List ℕ) where
+  -- what both are is one
+  same : (v : Session) (text : List ℕ) → (t ≡ v) × (out ≡ text) → (u ≡ v) × (more ≡ text) → (t ≡ u) × (out ≡ more)
+  same v text h k = (h.0 ∙ sym k.0, h.1 ∙ sym k.1)
 
-obeyed_once : (o : Option DebugFault) (s : Session) (c : Command) (t u : Session) (out more : List ℕ) → Obeyed o s c t out → Obeyed o s c u more → (t ≡ u) × (out ≡ more)
-obeyed_once (Some f) s c t u out more h k = same s t u (refusal_text f) out more h k
-obeyed_once None s c t u out more (r, h, is) (q, k, too) =
-    let e = does_once s c t u r q h k in (e.0, is ∙ ap₂ (λ x a. reply_text x c a) e.0 e.1 ∙ sym too)
+  -- a command that is refused, or done
+  obeyed_once : (o : Option DebugFault) (c : Command) → Obeyed o s c t out → Obeyed o s c u more → (t ≡ u) × (out ≡ more)
+  obeyed_once (Some f) c h k = same s (refusal_text f) h k
+  obeyed_once None c (r, h, is) (q, k, too) = let e = does_once s t u r q c h k in (e.0, is ∙ ap₂ reply_text e.0 e.1 ∙ sym too)
 
-answers_once : (o : Option Command) (s t u : Session) (out more : List ℕ) → Answers o s t out → Answers o s u more → (t ≡ u) × (out ≡ more)
-answers_once None s t u out more h k = same s t u bad_command out more h k
-answers_once (Some c) s t u out more h k = obeyed_once (refusal s c) s c t u out more h k
+  -- words that are a command, or none
+  answers_once : (o : Option Command) → Answers o s t out → Answers o s u more → (t ≡ u) × (out ≡ more)
+  answers_once None h k = same s bad_command h k
+  answers_once (Some c) h k = obeyed_once (refusal s c) c h k
 
-line_once : (s : Session) (ws : List (List ℕ)) (t u : Session) (out more : List ℕ) → LineSays s ws t out → LineSays s ws u more → (t ≡ u) × (out ≡ more)
-line_once s [] t u out more h k = same s t u [] out more h k
-line_once s (w ∷ ws) t u out more h k = answers_once (command_of (w ∷ ws)) s t u out more h k
+  -- a line, with words or without
+  line_once : (ws : List (List ℕ)) → LineSays s ws t out → LineSays s ws u more → (t ≡ u) × (out ≡ more)
+  line_once [] h k = same s [] h k
+  line_once (w ∷ ws) h k = answers_once (command_of (w ∷ ws)) h k
 
+-- lines, one after another
 pub says_once : (s : Session) (ls : List (List ℕ)) (t u : Session) (out more : List ℕ) → Says s ls t out → Says s ls u more → (t ≡ u) × (out ≡ more)
-says_once s [] t u out more h k = same s t u [] out more h k
+says_once s [] t u out more h k = same s t u out more s [] h k
 says_once s (l ∷ ls) t u out more (v, first, rest, here, below, is) (w, head, tail, there, under, too) =
-    let e = line_once s (words_of l) v w first head here there in
+    let e = line_once s v w first head (words_of l) here there in
     let d = says_once w ls t u rest tail (subst (λ x. Says x ls t rest) e.0 below) under in
     (d.0, is ∙ ap₂ (λ a b. a ++ b) e.1 d.1 ∙ sym too)
 
 -- ---- one at least
 
+-- a command that is refused, or done
 obeyed_some : (o : Option DebugFault) (s : Session) (c : Command) → (o ≡ None → IsDone s c) → (t : Session) × (out : List ℕ) × Obeyed o s c t out
 obeyed_some (Some f) s c h = (s, refusal_text f, (refl, refl))
-obeyed_some None s c h = let d = h refl in (d.0, reply_text d.0 c d.1, (d.1, d.2, refl))
+obeyed_some None s c h = let d = h refl in (d.0, reply_text d.0 d.1, (d.1, d.2, refl))
 
+-- words that are a command, or none
 answers_some : (o : Option Command) (s : Session) → (t : Session) × (out : List ℕ) × Answers o s t out
 answers_some None s = (s, bad_command, (refl, refl))
 answers_some (Some c) s = obeyed_some (refusal s c) s c (is_done s c)
 
+-- a line, with words or without
 line_some : (s : Session) (ws : List (List ℕ)) → (t : Session) × (out : List ℕ) × LineSays s ws t out
 line_some s [] = (s, [], (refl, refl))
 line_some s (w ∷ ws) = answers_some (command_of (w ∷ ws)) s
 
+-- lines, one after another
 pub says_some : (s : Session) (ls : List (List ℕ)) → (t : Session) × (out : List ℕ) × Says s ls t out
 says_some s [] = (s, [], (refl, refl))
 says_some s (l ∷ ls) =
@@ -57,6 +67,7 @@ says_some s (l ∷ ls) =
     let k = says_some h.0 ls in
     (k.0, h.1 ++ k.1, (h.0, h.1, k.1, h.2, k.2, refl))
 
+-- one session and one text
 pub says_one : (s : Session) (ls : List (List ℕ)) → SaysOne s ls
 says_one s ls = let h = says_some s ls in record {
   session = h.0;

@@ -1,18 +1,13 @@
 -- What the lines so far have said, and one line more.
-use Rattle.std.proofs.Common.{◌≡◌, ℕ, ◌==◌, List, [], ◌∷◌, ◌++◌, Option, length, true, refl, sym, ap, subst, ◌∙◌, arith, append_assoc, append-nil}
-use Rattle.std.proofs.lemmas.Bool.{eqb-true}
+use Rattle.std.proofs.Common.{◌≡◌, ℕ, List, [], ◌∷◌, ◌++◌, Option, refl, sym, ap, subst, ◌∙◌, append_assoc, append-nil}
 use Rattle.std.specs.Io.KnownBytes.{Appends}
 use Rattle.std.proofs.KnownBytes.{Appends-trans, Appends-nil}
 use Rattle.zy_io.specs.Streams.{WroteFront}
-use Rattle.zy_text.specs.Words.{lines_of, words_of}
+use Rattle.zy_text.specs.Words.{words_of}
 use Rattle.zy_text.specs.Lines.{first_words}
 use Rattle.zy_debug.specs.Sessions.{Session}
 use Rattle.zy_console.specs.Console.{LineSays, Says, SaysFront}
 use Rattle.zy_console.proofs.OneLemmas.{says_some}
-
-pub no_lines : (xs : List ℕ) → (length xs == 0) ≡ true → lines_of xs ≡ []
-no_lines [] h = refl
-no_lines (x ∷ xs) h = absurd (omega (arith, eqb-true (length (x ∷ xs)) 0 h))
 
 -- behind six words nothing changes what a line says
 pub says_first : (s t : Session) (ws : List (List ℕ)) (out : List ℕ) → LineSays s (first_words ws) t out → LineSays s ws t out
@@ -34,6 +29,7 @@ says_join s t u (l ∷ ls) ks out more (v, first, rest, here, below, is) h = (
   ap (λ o. o ++ more) is ∙ append_assoc first rest more,
 )
 
+-- one line alone
 one_line : (t u : Session) (l more : List ℕ) → LineSays t (words_of l) u more → Says t (l ∷ []) u more
 one_line t u l more h = (u, more, [], h, (refl, refl), sym (append-nil more))
 
@@ -45,6 +41,7 @@ pub record Said (old new : Option (List ℕ)) (s : Session) (lines last : List (
   pub says : Says s read t out
   pub wrote : Appends old new out
 
+-- before the first line
 pub said_nothing : (a : Option (List ℕ)) (s : Session) (lines : List (List ℕ)) → Said a a s lines lines s
 said_nothing a s lines = record { read = []; parted = refl; out = []; says = (refl, refl); wrote = Appends-nil a }
 
@@ -58,41 +55,42 @@ said_stops a b s t lines last h =
       front = (h.out, k.1, refl, h.wrote);
     }
 
+-- the line that is read belongs to those that were
 line_over : (read : List (List ℕ)) (l : List ℕ) (last : List (List ℕ)) → read ++ l ∷ last ≡ (read ++ l ∷ []) ++ last
 line_over read l last = sym (append_assoc read (l ∷ []) last)
 
--- all that the next line says goes out
-pub said_more : (a b c : Option (List ℕ)) (s t u : Session) (lines all last : List (List ℕ)) (l more : List ℕ) → Said a b s lines all t → all ≡ l ∷ last
-    → LineSays t (words_of l) u more → Appends b c more → Said a c s lines last u
-said_more a b c s t u lines all last l more h first says wrote = record {
-  read = h.read ++ l ∷ [];
-  parted = h.parted ∙ ap (λ x. h.read ++ x) first ∙ line_over h.read l last;
-  out = h.out ++ more;
-  says = says_join s t u h.read (l ∷ []) h.out more h.says (one_line t u l more says);
-  wrote = Appends-trans a b c h.out more h.wrote wrote;
-}
+-- the first of the lines that are left leads from t to u, and says more
+pub record Next (all last : List (List ℕ)) (t u : Session) (more : List ℕ) : Type 0 where
+  pub line : List ℕ
+  pub first : all ≡ line ∷ last
+  pub says : LineSays t (words_of line) u more
 
--- a prefix of what the next line says goes out
-pub said_torn : (a b c : Option (List ℕ)) (s t u : Session) (lines all last : List (List ℕ)) (l more : List ℕ) → Said a b s lines all t → all ≡ l ∷ last
-    → LineSays t (words_of l) u more → WroteFront b c more → SaysFront a c s lines
-said_torn a b c s t u lines all last l more h first says (front, back, is, wrote) =
-    let k = says_some u last in
-    let others : Says t (l ∷ last) k.0 (more ++ k.1) = (u, more, k.1, says, k.2, refl) in
-    let parted : lines ≡ h.read ++ l ∷ last = h.parted ∙ ap (λ x. h.read ++ x) first in
-    record {
-      session = k.0;
-      out = h.out ++ (more ++ k.1);
-      says = subst (λ ls. Says s ls k.0 (h.out ++ (more ++ k.1))) (sym parted) (says_join s t k.0 h.read (l ∷ last) h.out (more ++ k.1) h.says others);
-      front = (
-        h.out ++ front,
-        back ++ k.1,
-        ap (λ x. h.out ++ (x ++ k.1)) is ∙ ap (λ x. h.out ++ x) (append_assoc front back k.1) ∙ sym (append_assoc h.out front (back ++ k.1)),
-        Appends-trans a b c h.out front h.wrote wrote,
-      );
-    }
+-- The lines so far led from s to t, and the bytes that were written from old to now; then comes the next line.
+module _ (old now : Option (List ℕ)) (s t u : Session) (lines all last : List (List ℕ)) (more : List ℕ) (h : Said old now s lines all t) (n : Next all last t u more) where
+  -- all that it says goes out
+  pub said_more : (new : Option (List ℕ)) → Appends now new more → Said old new s lines last u
+  said_more new wrote = record {
+    read = h.read ++ n.line ∷ [];
+    parted = h.parted ∙ ap (λ x. h.read ++ x) n.first ∙ line_over h.read n.line last;
+    out = h.out ++ more;
+    says = says_join s t u h.read (n.line ∷ []) h.out more h.says (one_line t u n.line more n.says);
+    wrote = Appends-trans old now new h.out more h.wrote wrote;
+  }
 
--- no line is left
-pub said_all : (a b : Option (List ℕ)) (s t : Session) (lines last : List (List ℕ)) → Said a b s lines last t → last ≡ [] → (out : List ℕ) × Says s lines t out × Appends a b out
-said_all a b s t lines last h none =
-    let whole : lines ≡ h.read = h.parted ∙ ap (λ x. h.read ++ x) none ∙ append-nil h.read in
-    (h.out, subst (λ x. Says s x t h.out) (sym whole) h.says, h.wrote)
+  -- a prefix of what it says goes out
+  pub said_torn : (new : Option (List ℕ)) → WroteFront now new more → SaysFront old new s lines
+  said_torn new (front, back, is, wrote) =
+      let k = says_some u last in
+      let others : Says t (n.line ∷ last) k.0 (more ++ k.1) = (u, more, k.1, n.says, k.2, refl) in
+      let parted : lines ≡ h.read ++ n.line ∷ last = h.parted ∙ ap (λ x. h.read ++ x) n.first in
+      record {
+        session = k.0;
+        out = h.out ++ (more ++ k.1);
+        says = subst (λ ls. Says s ls k.0 (h.out ++ (more ++ k.1))) (sym parted) (says_join s t k.0 h.read (n.line ∷ last) h.out (more ++ k.1) h.says others);
+        front = (
+          h.out ++ front,
+          back ++ k.1,
+          ap (λ x. h.out ++ (x ++ k.1)) is ∙ ap (λ x. h.out ++ x) (append_assoc front back k.1) ∙ sym (append_assoc h.out front (back ++ k.1)),
+          Appends-trans old now new h.out front h.wrote wrote,
+        );
+      }

@@ -17,7 +17,7 @@ use Rattle.zy_console.specs.Replies.{reply_text, refusal_text, bad_command}
 -- the command c leads from s to t, and says out: that it is refused, which changes nothing, or its reply
 abbrev pub Obeyed : Option DebugFault → Session → Command → Session → List ℕ → Type 0
 Obeyed (Some f) s c t out = (t ≡ s) × (out ≡ refusal_text f)
-Obeyed None s c t out = (r : Reply) × Does s c t r × (out ≡ reply_text t c r)
+Obeyed None s c t out = (r : Reply) × Does s c t r × (out ≡ reply_text t r)
 
 -- words lead from s to t and say out; words that are no command change nothing
 abbrev pub Answers : Option Command → Session → Session → List ℕ → Type 0

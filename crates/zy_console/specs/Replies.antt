@@ -4,15 +4,15 @@ use Rattle.std.specs.Fmt.{decimal}
 use Rattle.zy_isa.specs.declared.node.Node.TheVariants.{A, B}
 use Rattle.zy_io.specs.Writing.{line_of}
 use Rattle.zy_table.specs.State.{State}
-use Rattle.zy_machine.specs.Histories.{History}
+use Rattle.zy_isa.specs.Scenario.{Scenario}
 use Rattle.zy_audit.specs.Locked.{page_reply}
 use Rattle.zy_audit.specs.Texts.{txn_text, link_text, mode_word}
 use Rattle.zy_scan.specs.Stops.{state_at}
 use Rattle.zy_debug.specs.Sessions.{Session}
-use Rattle.zy_debug.specs.declared.command.Command.{Command}
-use Rattle.zy_debug.specs.declared.command.Command.TheVariants as command
 use Rattle.zy_debug.specs.declared.command.Reply.{Reply}
 use Rattle.zy_debug.specs.declared.command.Reply.TheVariants as reply
+use Rattle.zy_debug.specs.declared.command.Shown.{Shown}
+use Rattle.zy_debug.specs.declared.command.Shown.TheVariants as shown
 use Rattle.zy_debug.specs.declared.command.DebugFault.{DebugFault}
 use Rattle.zy_debug.specs.declared.command.DebugFault.TheVariants as fault
 
@@ -24,29 +24,29 @@ modes_text s = codes " modes " ++ (mode_word s.a.mode ++ (codes " " ++ mode_word
 abbrev pub where_text : ℕ → ℕ → State → List ℕ
 where_text m l s = codes "at " ++ (decimal m ++ (codes " of " ++ (decimal l ++ modes_text s)))
 
--- the lines of the listing; the other commands show nothing
-abbrev pub shown_text : ℕ → ℕ → State → Command → List ℕ
-shown_text m l s (command.Page p) = line_of (page_reply s p)
-shown_text m l s (command.Txn t) = line_of (txn_text s t)
-shown_text m l s command.Links = line_of (link_text A s.ab) ++ line_of (link_text B s.ba)
-shown_text m l s command.Position = line_of (where_text m l s)
-shown_text m l s c = []
+-- the lines of the listing, and for a position its own
+abbrev pub shown_text : ℕ → ℕ → State → Shown → List ℕ
+shown_text m l s (shown.Page p) = line_of (page_reply s p)
+shown_text m l s (shown.Txn t) = line_of (txn_text s t)
+shown_text m l s shown.Links = line_of (link_text A s.ab) ++ line_of (link_text B s.ba)
+shown_text m l s shown.Position = line_of (where_text m l s)
 
--- what a command shows is there
-abbrev pub IsThere : History → Command → Type 0
-IsThere h (command.Page p) = p < h.scenario.pages
-IsThere h (command.Txn t) = t < length h.scenario.programs
-IsThere h c = Unit {0}
+-- what is shown is there
+abbrev pub IsThere : Scenario → Shown → Type 0
+IsThere sc (shown.Page p) = p < sc.pages
+IsThere sc (shown.Txn t) = t < length sc.programs
+IsThere sc shown.Links = Unit {0}
+IsThere sc shown.Position = Unit {0}
 
 -- ---- replies and refusals
 
--- the reply to a command that led to session t
-abbrev pub reply_text : Session → Command → Reply → List ℕ
-reply_text t c (reply.At m) = line_of (codes "at " ++ decimal m)
-reply_text t c (reply.Stop i m) = line_of (codes "stop " ++ (decimal i ++ (codes " at " ++ decimal m)))
-reply_text t c (reply.Set i) = line_of (codes "stop " ++ (decimal i ++ codes " set"))
-reply_text t c (reply.Deleted i) = line_of (codes "deleted " ++ decimal i)
-reply_text t c reply.Shown = shown_text t.position (length t.scenario.choices) (state_at t.scenario t.position) c
+-- a reply that led to session t
+abbrev pub reply_text : Session → Reply → List ℕ
+reply_text t (reply.At m) = line_of (codes "at " ++ decimal m)
+reply_text t (reply.Stop i m) = line_of (codes "stop " ++ (decimal i ++ (codes " at " ++ decimal m)))
+reply_text t (reply.Set i) = line_of (codes "stop " ++ (decimal i ++ codes " set"))
+reply_text t (reply.Deleted i) = line_of (codes "deleted " ++ decimal i)
+reply_text t (reply.Shown x) = shown_text t.position (length t.scenario.choices) (state_at t.scenario t.position) x
 
 -- out of memory, the session ends, and says nothing
 abbrev pub refusal_text : DebugFault → List ℕ

@@ -1,9 +1,10 @@
 //! What a line is answered.
-ghost use Rattle.std.specs.Prelude.{◌≡◌, ◌≢◌, ◌++◌, None, OnOk};
+ghost use Rattle.std.specs.Prelude.{◌≡◌, ◌≢◌, ◌++◌, OnOk, codes};
+ghost use Rattle.std.specs.Fmt.{decimal};
 ghost use Rattle.zy_io.specs.Writing.{line_of};
 ghost use Rattle.zy_text.specs.Lines.{texts};
 ghost use Rattle.zy_debug.specs.Commands.{refusal};
-ghost use Rattle.zy_console.specs.Replies.{refusal_text, reply_text};
+ghost use Rattle.zy_console.specs.Replies.{refusal_text};
 ghost use Rattle.zy_console.specs.Console.{LineSays, Obeyed};
 
 use crate::command::command_of;
@@ -22,26 +23,12 @@ fn append_line<D: Line>(item: &D, line: &mut LineBuffer) -> Result<(), AllocErro
     line.push(b'\n')
 }
 
-/// Appends the reply to a command, which has been done.
-fn append_reply(
-    debugger: &Debugger,
-    command: Command,
-    reply: Reply,
-    line: &mut LineBuffer,
-) -> Result<(), AllocError>
-    requires { reply ≡ Reply.Shown → refusal debugger.now command ≡ None }
-    ensures { OnOk result (line.new ≡ line.old ++ reply_text debugger.now command reply) }
+/// Appends which stop fires, and where.
+fn append_stop(i: usize, m: usize, line: &mut LineBuffer) -> Result<(), AllocError>
+    ensures { OnOk result (line.new ≡ line.old ++ line_of (codes "stop " ++ (decimal i ++ (codes " at " ++ decimal m)))) }
 {
-    match reply {
-        Reply::At(m) => append_line(&Joined("at ", Decimal(m)), line),
-        Reply::Stop(i, m) => {
-            let place = Joined(" at ", Decimal(m));
-            append_line(&Joined("stop ", Joined(Decimal(i), place)), line)
-        }
-        Reply::Set(i) => append_line(&Joined("stop ", Joined(Decimal(i), " set")), line),
-        Reply::Deleted(i) => append_line(&Joined("deleted ", Decimal(i)), line),
-        Reply::Shown => append_shown(debugger.machine(), command, line),
-    }
+    let place = Joined(" at ", Decimal(m));
+    append_line(&Joined("stop ", Joined(Decimal(i), place)), line)
 }
 
 /// Appends why a command is refused. Out of memory, there is no more to say.
@@ -62,7 +49,11 @@ fn obey(debugger: &mut Debugger, command: Command, line: &mut LineBuffer) -> Res
 {
     line.clear();
     match debugger.command(command) {
-        Ok(reply) => append_reply(debugger, command, reply, line),
+        Ok(Reply::At(m)) => append_line(&Joined("at ", Decimal(m)), line),
+        Ok(Reply::Stop(i, m)) => append_stop(i, m, line),
+        Ok(Reply::Set(i)) => append_line(&Joined("stop ", Joined(Decimal(i), " set")), line),
+        Ok(Reply::Deleted(i)) => append_line(&Joined("deleted ", Decimal(i)), line),
+        Ok(Reply::Shown(shown)) => append_shown(debugger.machine(), shown, line),
         Err(fault) => append_refusal(fault, line),
     }
 }

@@ -1,7 +1,8 @@
-//! What a command reads from a machine.
+//! What is shown of a machine.
 ghost use Rattle.std.specs.Prelude.{◌≡◌, ◌<◌, ◌++◌, OnOk, length};
 ghost use Rattle.zy_io.specs.Writing.{line_of};
 ghost use Rattle.zy_isa.specs.declared.node.Node.TheVariants.{A, B};
+ghost use Rattle.zy_audit.specs.Locked.{page_reply as page_reply_spec};
 ghost use Rattle.zy_audit.specs.Texts.{link_text, txn_text};
 ghost use Rattle.zy_console.specs.Replies.{IsThere, modes_text, shown_text, where_text};
 
@@ -10,24 +11,25 @@ use zy_audit::lines::link::link_line;
 use zy_audit::lines::locked::page_reply;
 use zy_audit::lines::txn::txn_line;
 use zy_audit::lines::words::ModeText;
-use zy_debug::command::Command;
+use zy_debug::command::Shown;
 use zy_io::buffer::LineBuffer;
 use zy_io::line::{Decimal, Joined, Line};
 use zy_isa::node::Node;
 use zy_laws::laws::safe_counts;
 use zy_machine::machine::Machine;
 
-/// Appends where a machine is in its choices, and the modes there.
+/// Appends where a machine is in its choices, and the modes there, with their end.
 fn append_where(machine: &Machine, line: &mut LineBuffer) -> Result<(), AllocError>
     ensures { OnOk result (line.new ≡ line.old
-        ++ where_text (length machine.now.entries) (length machine.now.scenario.choices) machine.now.state) }
+        ++ line_of (where_text (length machine.now.entries) (length machine.now.scenario.choices) machine.now.state)) }
 {
     let a = ModeText(machine.mode(Node::A));
     let b = ModeText(machine.mode(Node::B));
     let modes = Joined(" modes ", Joined(a, Joined(b' ', b)));
     let all = Decimal(machine.scenario().choices().len());
     let position = Joined(Decimal(machine.len()), Joined(" of ", Joined(all, modes)));
-    Joined("at ", position).append(line)
+    Joined("at ", position).append(line)?;
+    line.push(b'\n')
 }
 
 /// Appends the lines of both links, each with its end.
@@ -41,34 +43,41 @@ fn append_links(machine: &Machine, line: &mut LineBuffer) -> Result<(), AllocErr
     line.push(b'\n')
 }
 
-/// Appends the line of a transaction.
-fn append_txn(machine: &Machine, t: u32, line: &mut LineBuffer) -> Result<(), AllocError>
+/// Appends the line of a transaction, with its end.
+fn append_txn(machine: &Machine, t: u8, line: &mut LineBuffer) -> Result<(), AllocError>
     requires { t < length machine.now.scenario.programs }
-    ensures { OnOk result (line.new ≡ line.old ++ txn_text machine.now.state t) }
+    ensures { OnOk result (line.new ≡ line.old ++ line_of (txn_text machine.now.state t)) }
 {
+    // Proof: there is a transaction for each program, and at most 64 of them.
     safe_counts();
     let _scenario = machine.scenario().programs();
     let _count = machine.txn_count();
-    txn_line(machine, t as u8, line)
+    txn_line(machine, t, line)?;
+    line.push(b'\n')
 }
 
-/// Appends the lines that a command shows of a machine, each with its end.
+/// Appends the line of a page and its locks, with its end.
+fn append_page(machine: &Machine, page: u16, line: &mut LineBuffer) -> Result<(), AllocError>
+    ensures { OnOk result (line.new ≡ line.old ++ line_of (page_reply_spec machine.now.state page)) }
+{
+    page_reply(machine, page, line)?;
+    line.push(b'\n')
+}
+
+/// Appends the lines that are shown of a machine, each with its end.
 pub fn append_shown(
     machine: &Machine,
-    command: Command,
+    shown: Shown,
     line: &mut LineBuffer,
 ) -> Result<(), AllocError>
-    requires { IsThere machine.now command }
+    requires { IsThere machine.now.scenario shown }
     ensures { OnOk result (line.new ≡ line.old
-        ++ shown_text (length machine.now.entries) (length machine.now.scenario.choices) machine.now.state command) }
+        ++ shown_text (length machine.now.entries) (length machine.now.scenario.choices) machine.now.state shown) }
 {
-    let _pages = machine.scenario().pages();
-    match command {
-        Command::Page(page) => page_reply(machine, page as u16, line)?,
-        Command::Txn(t) => append_txn(machine, t, line)?,
-        Command::Links => return append_links(machine, line),
-        Command::Position => append_where(machine, line)?,
-        _ => return Ok(()),
+    match shown {
+        Shown::Page(page) => append_page(machine, page, line),
+        Shown::Txn(t) => append_txn(machine, t, line),
+        Shown::Links => append_links(machine, line),
+        Shown::Position => append_where(machine, line),
     }
-    line.push(b'\n')
 }

@@ -9,6 +9,8 @@ use Rattle.zy_debug.specs.declared.command.Command.{Command}
 use Rattle.zy_debug.specs.declared.command.Command.TheVariants as command
 use Rattle.zy_debug.specs.declared.command.Reply.{Reply}
 use Rattle.zy_debug.specs.declared.command.Reply.TheVariants as reply
+use Rattle.zy_debug.specs.declared.command.Shown.{Shown}
+use Rattle.zy_debug.specs.declared.command.Shown.TheVariants as shown
 use Rattle.zy_debug.specs.declared.command.DebugFault.{DebugFault}
 use Rattle.zy_debug.specs.declared.command.DebugFault.TheVariants as fault
 use Rattle.zy_debug.specs.Sessions.{Session, goes}
@@ -39,6 +41,8 @@ abbrev pub refusal : Session → Command → Option DebugFault
 refusal s (command.Step n) = in_range (nat_le (s.position + n) (length s.scenario.choices))
 refusal s (command.Back n) = in_range (nat_le n s.position)
 refusal s (command.Goto n) = in_range (nat_le n (length s.scenario.choices))
+refusal s command.Cont = None
+refusal s command.RCont = None
 refusal s (command.BreakPage p) = has_room_in_range (nat_lt p s.scenario.pages) s
 refusal s command.BreakMode = has_room s
 refusal s command.BreakAbort = has_room s
@@ -46,7 +50,8 @@ refusal s (command.Watch k) = has_room_in_range (nat_le k 65535) s
 refusal s (command.Delete n) = unless (has_stop n s.stops) fault.NoSuchStop
 refusal s (command.Page p) = in_range (nat_lt p s.scenario.pages)
 refusal s (command.Txn t) = in_range (nat_lt t (length s.scenario.programs))
-refusal s c = None
+refusal s command.Links = None
+refusal s command.Position = None
 
 -- to a position
 abbrev pub Moves : Session → ℕ → Session → Reply → Type 0
@@ -83,9 +88,9 @@ Sets s x t r = (t ≡ record s { stops = with_stop x s.stops }) × set_at (free_
 abbrev pub Deletes : Session → ℕ → Session → Reply → Type 0
 Deletes s n t r = (t ≡ record s { stops = without_stop (n - 1) s.stops }) × (r ≡ reply.Deleted n)
 
--- nothing changes
-abbrev pub Stays : Session → Session → Reply → Type 0
-Stays s t r = (t ≡ s) × (r ≡ reply.Shown)
+-- nothing changes, and this is shown
+abbrev pub Stays : Session → Shown → Session → Reply → Type 0
+Stays s x t r = (t ≡ s) × (r ≡ reply.Shown x)
 
 -- what a command that is not refused does
 abbrev pub Does : Session → Command → Session → Reply → Type 0
@@ -99,10 +104,10 @@ Does s command.BreakMode t r = Sets s stop.Mode t r
 Does s command.BreakAbort t r = Sets s stop.Abort t r
 Does s (command.Watch k) t r = Sets s (stop.Watch k) t r
 Does s (command.Delete n) t r = Deletes s n t r
-Does s (command.Page p) t r = Stays s t r
-Does s (command.Txn n) t r = Stays s t r
-Does s command.Links t r = Stays s t r
-Does s command.Position t r = Stays s t r
+Does s (command.Page p) t r = Stays s (shown.Page p) t r
+Does s (command.Txn n) t r = Stays s (shown.Txn n) t r
+Does s command.Links t r = Stays s shown.Links t r
+Does s command.Position t r = Stays s shown.Position t r
 
 -- it is done, or there was no memory for it and nothing changes
 abbrev pub DoneOrMemory : (Session → Reply → Type 0) → Session → Session → Result Reply DebugFault → Type 0

@@ -48,8 +48,21 @@ pub enum Reply {
     Set(usize),
     /// The stop of this number is gone.
     Deleted(u32),
-    /// What was asked for is read from the session's machine.
-    Shown,
+    /// This is read from the session's machine.
+    Shown(Shown),
+}
+
+/// What is there to be shown of a session's machine.
+#[derive(Clone, Copy, Debug, PartialEq, Eq)]
+pub enum Shown {
+    /// A page of the scenario, and its locks.
+    Page(u16),
+    /// A transaction of the scenario.
+    Txn(u8),
+    /// Both links.
+    Links,
+    /// The position and the modes.
+    Position,
 }
 
 /// Why a command is refused.

@@ -6,10 +6,11 @@ ghost use Rattle.zy_scan.specs.Slots.{free_slot, with_stop, without_stop, is_set
 ghost use Rattle.zy_debug.specs.Commands.{refusal, Does, Obeys, Moves, GoesOn, GoesBack, Sets, Deletes, Stays, has_room, has_room_in_range, has_stop, in_range, unless};
 ghost use Rattle.zy_debug.specs.Checkpoints.{IsReplayOf};
 ghost use Rattle.zy_debug.specs.declared.command.DebugFault.TheVariants as fault;
+ghost use Rattle.zy_debug.specs.declared.command.Shown.TheVariants as shown;
 ghost use Rattle.zy_debug.specs.Sessions.{Shows, goes};
 
 use crate::checkpoints::{Checkpoints, farther};
-use crate::command::{Command, DebugFault, Reply};
+use crate::command::{Command, DebugFault, Reply, Shown};
 use crate::copies::Copies;
 use std::alloc::{AllocError, Global};
 use std::marker::Model;
@@ -104,10 +105,10 @@ impl Debugger {
             Command::BreakAbort => self.set(Stop::Abort),
             Command::Watch(k) => self.watch(k),
             Command::Delete(i) => self.delete(i),
-            Command::Page(p) => self.shown(p < u32::from(self.machine.scenario().pages())),
-            Command::Txn(t) => self.shown((t as usize) < self.machine.scenario().programs().len()),
-            Command::Links => self.shown(true),
-            Command::Position => self.shown(true),
+            Command::Page(p) => self.show_page(p),
+            Command::Txn(t) => self.show_txn(t),
+            Command::Links => Ok(Reply::Shown(Shown::Links)),
+            Command::Position => Ok(Reply::Shown(Shown::Position)),
         }
     }
 
@@ -199,12 +200,23 @@ impl Debugger {
         }
     }
 
-    /// What is there can be read.
-    fn shown(&self, is_there: bool) -> Result<Reply, DebugFault>
-        ensures { Obeys (in_range is_there) (Stays self.now) self.now self.now result }
+    /// Shows a page.
+    fn show_page(&self, p: u32) -> Result<Reply, DebugFault>
+        ensures { Obeys (in_range (nat_lt p self.now.scenario.pages)) (Stays self.now (shown.Page p)) self.now self.now result }
     {
-        if is_there {
-            Ok(Reply::Shown)
+        if p < u32::from(self.machine.scenario().pages()) {
+            Ok(Reply::Shown(Shown::Page(p as u16)))
+        } else {
+            Err(DebugFault::Range)
+        }
+    }
+
+    /// Shows a transaction.
+    fn show_txn(&self, t: u32) -> Result<Reply, DebugFault>
+        ensures { Obeys (in_range (nat_lt t (length self.now.scenario.programs))) (Stays self.now (shown.Txn t)) self.now self.now result }
+    {
+        if (t as usize) < self.machine.scenario().programs().len() {
+            Ok(Reply::Shown(Shown::Txn(t as u8)))
         } else {
             Err(DebugFault::Range)
         }

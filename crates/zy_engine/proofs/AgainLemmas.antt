@@ -18,6 +18,7 @@ use Rattle.zy_engine.specs.Again.{RunsAgain}
 means_one : (text : List ℕ) (s t : Scenario) → Means text s → Means text t → s ≡ t
 means_one text s t h k = sym (only_of text _ s (only text s h) h) ∙ only_of text _ t (only text s h) k
 
+-- the listing that a text means is the listing of each scenario that it means
 again : (sc : Scenario) (text : List ℕ) (left old new : Option (List ℕ)) → Means text sc → left ≡ Some text
     → IfSome left (λ told. (t : Scenario) × Means told t × Appends old new (listing_run t)) → Appends old new (listing_run sc)
 again sc text left old new means is wrote =
@@ -25,6 +26,7 @@ again sc text left old new means is wrote =
     = subst (λ (l : Option (List ℕ)). IfSome l (λ told. (t : Scenario) × Means told t × Appends old new (listing_run t))) is wrote in
     subst (λ (t : Scenario). Appends old new (listing_run t)) (means_one text found.0 sc found.1 means) found.2
 
+-- the listing of a scenario gives itself again
 scenario_again : (sc : Scenario) → IsScenario sc → RunsAgain sc
 scenario_again sc h = record {
   part = cut-run sc h;
@@ -32,5 +34,6 @@ scenario_again sc h = record {
   again = λ old new is c. again sc (canon sc) old.left old.written new.written (Means-canon sc h) (is ∙ ap (λ t. Some t) (cut-run sc h)) c.written;
 }
 
+-- so does that of a scenario with its choices in another order
 pub merge_again : (sc : Scenario) → IsScenario sc → (order : List Choice) → IsMerge order sc.choices → RunsAgain (reordered sc order)
 merge_again sc h order merge = scenario_again (reordered sc order) (merge_scenario sc h order merge)

@@ -1,5 +1,5 @@
 -- The listing of a run whose choices were made in another order.
-use Rattle.std.proofs.Common.{◌≡◌, ◌∙◌, ℕ, Bool, List, [], ◌∷◌, ◌++◌, IfSome, Option, None, Some, subst, refl, sym, ap}
+use Rattle.std.proofs.Common.{◌≡◌, ◌∙◌, Bool, List, [], ◌∷◌, ◌++◌, refl, sym, ap}
 use Rattle.zy_isa.specs.declared.choice.Choice.{Choice}
 use Rattle.zy_isa.specs.Scenario.{Scenario}
 use Rattle.zy_table.specs.declared.entry.CommitRec.{CommitRec}
@@ -17,19 +17,20 @@ use Rattle.zy_audit.specs.Listing.{listing, ending_texts}
 use Rattle.zy_audit.specs.Lone.{map_of}
 use Rattle.zy_audit.specs.Run.{listing_run}
 use Rattle.zy_audit.specs.SameMaps.{is_serial, same_map}
-use Rattle.zy_engine.specs.declared.format.Format.{Format}
-use Rattle.zy_engine.specs.Inputs.{StandsFor}
 use Rattle.zy_threads.specs.Turns.{IsMerge}
 use Rattle.zy_threads.specs.Orders.{reordered, IsRunOf}
 use Rattle.zy_threads.proofs.Reordered.{opening-reordered, play-reordered, entries-reordered}
 
+-- the serial run does not ask for the choices
 serial-reordered : (sc : Scenario) (order : List Choice) (m : Map) (cs : List CommitRec) → serial (reordered sc order) m cs ≡ serial sc m cs
 serial-reordered sc order m [] = refl
 serial-reordered sc order m (c ∷ cs) = serial-reordered sc order (alone m (program_of sc c.txn) c.done).map cs
 
+-- nor does the test against it
 is_serial-reordered : (sc : Scenario) (order : List Choice) (s : State) → is_serial (reordered sc order) s ≡ is_serial sc s
 is_serial-reordered sc order s = ap (λ m. same_map (database s) m) (serial-reordered sc order (map_of sc.rows) s.commits)
 
+-- nor does the listing, but for its scenario part
 listing-reordered : (sc : Scenario) (order : List Choice) (same : Bool) → listing (reordered sc order) order same ≡ listing sc order same
 unfolding listing
 listing-reordered sc order same =
@@ -40,20 +41,13 @@ listing-reordered sc order same =
     ∙ ap (λ (x : State). canon (reordered sc order) ++ flat_map line_of (ending_texts (entries sc (opening sc) order) x same)) end
 
 -- a machine's listing is that of the run of its scenario with its choices in the order of its history
-pub listing-again : (h : History) → (let order = choices_of h.entries in IsRunOf (reordered h.scenario order) h → listing h.scenario order (is_serial h.scenario h.state) ≡ listing_run (reordered h.scenario order))
+pub listing-again : (h : History)
+    → (let order = choices_of h.entries in IsRunOf (reordered h.scenario order) h → listing h.scenario order (is_serial h.scenario h.state) ≡ listing_run (reordered h.scenario order))
 listing-again h run =
     let order = choices_of h.entries in
     sym (listing-reordered h.scenario order (is_serial h.scenario h.state))
     ∙ ap (listing (reordered h.scenario order) order) (sym (is_serial-reordered h.scenario order h.state) ∙ ap (is_serial (reordered h.scenario order)) run.0)
 
 -- where there is no run, the order that the scenario has will do
-pub merge-of-self : (format : Format) (told : Option (List ℕ)) → IfSome told (λ t. (sc : Scenario) → StandsFor format t sc → IsMerge sc.choices sc.choices)
-merge-of-self format None = tt
-merge-of-self format (Some t) = λ sc stands. record { of_c = refl; of_a = refl; of_b = refl }
-
-pub merge-of-told : (format : Format) (told : Option (List ℕ)) (bytes : List ℕ) (scenario : Scenario) (order : List Choice)
-    → IfSome told (λ t. bytes ≡ t) → ((s : Scenario) → StandsFor format bytes s → scenario ≡ s)
-    → IsMerge order scenario.choices → IfSome told (λ t. (sc : Scenario) → StandsFor format t sc → IsMerge order sc.choices)
-merge-of-told format None bytes scenario order same only merge = tt
-merge-of-told format (Some t) bytes scenario order same only merge = λ sc stands.
-    subst (λ (x : Scenario). IsMerge order x.choices) (only sc (subst (λ x. StandsFor format x sc) (sym same) stands)) merge
+pub merge-self : (sc : Scenario) → IsMerge sc.choices sc.choices
+merge-self sc = record { of_c = refl; of_a = refl; of_b = refl }

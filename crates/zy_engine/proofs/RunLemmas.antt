@@ -1,6 +1,7 @@
--- What an engine's parts make together.
-use Rattle.std.proofs.Common.{◌≡◌, ◌+◌, ℕ, List, [], Option, None, Some, IfSome, Result, Ok, Err, refl, sym, subst, append-nil, arith}
+-- What an engine's parts make together: a scenario is read, or none is, and then something of it is written.
+use Rattle.std.proofs.Common.{◌≡◌, ℕ, List, [], Option, None, Some, IfErr, IfOk, IfSome, Result, Ok, Err, refl, sym, subst, append-nil, arith}
 use Rattle.std.proofs.KnownBytes.{Appends-nil}
+use Rattle.std.specs.Io.KnownBytes.{Appends}
 use Rattle.zy_io.specs.declared.writing.TextFault.{TextFault}
 use Rattle.zy_io.specs.declared.writing.TextFault.TheVariants.{Write, Memory}
 use Rattle.zy_isa.specs.Scenario.{Scenario}
@@ -12,152 +13,180 @@ use Rattle.zy_engine.specs.declared.faults.BenchFault.{BenchFault}
 use Rattle.zy_engine.specs.declared.faults.BenchFault.TheVariants as bench
 use Rattle.zy_engine.specs.declared.format.Format.{Format}
 use Rattle.zy_engine.specs.declared.format.Format.TheVariants as format
-use Rattle.std.specs.Io.KnownBytes.{Appends}
-use Rattle.zy_engine.specs.Engines.{Converts}
-use Rattle.zy_engine.specs.Faults.{of_reading, of_writing, ReadsInput, failed_reads, failed_writes, IfRefused}
-use Rattle.zy_engine.specs.Inputs.{StandsFor, HasNoFault, IsRefusal}
+use Rattle.zy_engine.specs.Engines.{Streams, Converts}
+use Rattle.zy_engine.specs.Faults.{of_reading, of_writing}
+use Rattle.zy_engine.specs.Inputs.{StandsFor, HasNoFault, IsRefusal, Takes, Took, TookNone}
 
--- where nothing went out, nothing but a front did
+-- where nothing went out, nothing but a prefix did
 pub WroteFront-nothing : (a : Option (List ℕ)) (text : List ℕ) → WroteFront a a text
 WroteFront-nothing a text = ([], text, refl, Appends-nil a)
 
+-- whatever came of a call that writes, a prefix of its text went out
 pub Wrote-front : {X : Type 0} (a b : Option (List ℕ)) (m n : ℕ) (r : Result X TextFault) (text : List ℕ) → Wrote a b m n r text → WroteFront a b text
 Wrote-front a b m n (Ok x) text w = (text, [], sym (append-nil text), w.0)
 Wrote-front a b m n (Err Write) text w = w.0
 Wrote-front a b m n (Err Memory) text w = w.0
 
--- what went out is a prefix of the output of any scenario that the told bytes stand for
-pub front-of-told : (format : Format) (output : Scenario → List ℕ) (told : Option (List ℕ)) (bytes : List ℕ) (a b : Option (List ℕ)) (scenario : Scenario)
-    → IfSome told (λ t. bytes ≡ t) → ((s : Scenario) → StandsFor format bytes s → scenario ≡ s)
-    → WroteFront a b (output scenario) → IfSome told (λ t. (sc : Scenario) → StandsFor format t sc → WroteFront a b (output sc))
-front-of-told format output None bytes a b scenario same only w = tt
-front-of-told format output (Some t) bytes a b scenario same only w = λ sc stands.
-    subst (λ x. WroteFront a b (output x)) (only sc (subst (λ x. StandsFor format x sc) (sym same) stands)) w
+-- ---- the bytes that a reader told
 
--- bytes that stand for a scenario are not bytes that stand for none
-pub silent-of-told : (format : Format) (told : Option (List ℕ)) (bytes : List ℕ) (a b : Option (List ℕ)) (scenario : Scenario)
-    → IfSome told (λ t. bytes ≡ t) → StandsFor format bytes scenario → IfSome told (λ t. ((sc : Scenario) → StandsFor format t sc → ⊥) → b ≡ a)
-silent-of-told format None bytes a b scenario same stands = tt
-silent-of-told format (Some t) bytes a b scenario same stands = λ none. absurd (none scenario (subst (λ x. StandsFor format x scenario) same stands))
-
--- bytes that were accepted are not bytes with a fault
-pub unwritten-of-told : (format : Format) (told : Option (List ℕ)) (bytes : List ℕ) (a b : Option (List ℕ))
-    → IfSome told (λ t. bytes ≡ t) → HasNoFault format bytes → IfSome told (λ t. (HasNoFault format t → ⊥) → b ≡ a)
-unwritten-of-told format None bytes a b same right = tt
-unwritten-of-told format (Some t) bytes a b same right = λ faulty. absurd (faulty (subst (HasNoFault format) same right))
-
--- what holds of the bytes holds of what the reader told
+-- what holds of the bytes that were read holds of those that were told
 pub told-of : (P : List ℕ → Type 0) (told : Option (List ℕ)) (bytes : List ℕ) → IfSome told (λ t. bytes ≡ t) → P bytes → IfSome told P
 told-of P None bytes same h = tt
 told-of P (Some t) bytes same h = subst P same h
 
--- what holds of all bytes holds of those that the reader told
+-- what holds of all bytes holds of those that were told
 pub of-any : (P : List ℕ → Type 0) (told : Option (List ℕ)) → ((t : List ℕ) → P t) → IfSome told P
 of-any P None h = tt
 of-any P (Some t) h = h t
 
--- what a fault says of the input, where nothing was written
-pub record Stopped (X : Type 0) (format : Format) (told left : Option (List ℕ)) (before after : ℕ) (f : BenchFault) : Type 0 where
-  pub fault : IfRefused f (IfSome told (λ t. IsRefusal format t f))
-  pub input : ReadsInput {X = X} told left (Err f)
-  pub reads : after ≡ before + failed_reads {X = X} (Err f)
-  pub writes : failed_writes {X = X} (Err f) ≡ 0
+-- what follows for all bytes follows for those that were told
+told-map : (P Q : List ℕ → Type 0) (told : Option (List ℕ)) → ((t : List ℕ) → P t → Q t) → IfSome told P → IfSome told Q
+told-map P Q None f h = tt
+told-map P Q (Some t) f h = f t h
 
--- an input that could not be read
-unread : (X : Type 0) (format : Format) (told left : Option (List ℕ)) (before after : ℕ) (f : ReadFault) → ReadsAll told left before after (Err f) → Stopped X format told left before after (of_reading f)
-unread X format told left before after reading.Read read = record { fault = tt; input = read.0; reads = read.1; writes = refl }
-unread X format told left before after reading.TooLong read = record { fault = tt; input = read.0; reads = omega (arith, read.1); writes = refl }
-unread X format told left before after reading.Memory read = record { fault = tt; input = read.0; reads = omega (arith, read.1); writes = refl }
+-- ---- a scenario is read
 
--- an input that is refused was read whole, and no call failed
-refused : (X : Type 0) (format : Format) (told left : Option (List ℕ)) (before after : ℕ) (bytes : List ℕ) (f : BenchFault)
-    → IfSome told (λ t. bytes ≡ t) → IsRefusal format bytes f → ReadWhole told left → after ≡ before → Stopped X format told left before after f
-refused X format told left before after bytes (bench.Input r) same h whole none =
-    record { fault = told-of (λ t. IsRefusal format t (bench.Input r)) told bytes same h; input = whole; reads = omega (arith, none); writes = refl }
-refused X format told left before after bytes (bench.Image f) same h whole none =
-    record { fault = told-of (λ t. IsRefusal format t (bench.Image f)) told bytes same h; input = whole; reads = omega (arith, none); writes = refl }
-refused X format.Text told left before after bytes bench.TooLong same h whole none = absurd h
-refused X format.Image told left before after bytes bench.TooLong same h whole none = absurd h
-refused X format.Text told left before after bytes bench.Read same h whole none = absurd h
-refused X format.Image told left before after bytes bench.Read same h whole none = absurd h
-refused X format.Text told left before after bytes bench.Write same h whole none = absurd h
-refused X format.Image told left before after bytes bench.Write same h whole none = absurd h
-refused X format told left before after bytes bench.Memory same h whole none = record { fault = tt; input = whole.0; reads = omega (arith, none); writes = refl }
+-- no fault of a call is a refusal
+not_too_long : (format : Format) (bytes : List ℕ) → IsRefusal format bytes bench.TooLong → ⊥
+not_too_long format.Text bytes h = h
+not_too_long format.Image bytes h = h
 
--- an engine that stops before it writes
-converts-stopped : {X : Type 0} (format : Format) (output : Scenario → List ℕ) (told left written : Option (List ℕ)) (reads after writes : ℕ) (f : BenchFault)
-    → Stopped X format told left reads after f
-    → Converts {X = X} format output (record { left = told; written = written; reads = reads; writes = writes }) (record { left = left; written = written; reads = after; writes = writes }) (Err f)
-converts-stopped format output told left written reads after writes f stopped = record {
-  written = tt;
-  front = of-any (λ t. (sc : Scenario) → StandsFor format t sc → WroteFront written written (output sc)) told (λ t sc stands. WroteFront-nothing written (output sc));
-  fault = stopped.fault;
-  input = stopped.input;
-  accepted = tt;
-  quiet = λ q. refl;
-  silent = of-any (λ t. ((sc : Scenario) → StandsFor format t sc → ⊥) → written ≡ written) told (λ t none. refl);
-  refused = of-any (λ t. (HasNoFault format t → ⊥) → written ≡ written) told (λ t faulty. refl);
-  reads = stopped.reads;
-  writes = omega (arith, stopped.writes);
-}
+-- nor is a failed call of the reader
+not_read : (format : Format) (bytes : List ℕ) → IsRefusal format bytes bench.Read → ⊥
+not_read format.Text bytes h = h
+not_read format.Image bytes h = h
 
--- the engine after its input could not be read
-pub converts-unread : {X : Type 0} (format : Format) (output : Scenario → List ℕ) (told left written : Option (List ℕ)) (reads after writes : ℕ) (f : ReadFault)
-    → ReadsAll told left reads after (Err f)
-    → Converts {X = X} format output (record { left = told; written = written; reads = reads; writes = writes }) (record { left = left; written = written; reads = after; writes = writes }) (Err (of_reading f))
-converts-unread {X} format output told left written reads after writes f read =
-    converts-stopped format output told left written reads after writes (of_reading f) (unread X format told left reads after f read)
+-- nor one of the writer
+not_write : (format : Format) (bytes : List ℕ) → IsRefusal format bytes bench.Write → ⊥
+not_write format.Text bytes h = h
+not_write format.Image bytes h = h
 
--- the engine after its input was refused
-pub converts-refused : {X : Type 0} (format : Format) (output : Scenario → List ℕ) (told left written : Option (List ℕ)) (reads after writes : ℕ) (bytes : List ℕ) (f : BenchFault)
-    → IfSome told (λ t. bytes ≡ t) → IsRefusal format bytes f → ReadWhole told left → after ≡ reads
-    → Converts {X = X} format output (record { left = told; written = written; reads = reads; writes = writes }) (record { left = left; written = written; reads = after; writes = writes }) (Err f)
-converts-refused {X} format output told left written reads after writes bytes f same h whole none =
-    converts-stopped format output told left written reads after writes f (refused X format told left reads after bytes f same h whole none)
+module _ (format : Format) (told left : Option (List ℕ)) (before after : ℕ) where
+  -- an input that could not be read to its end
+  pub took-unread : (f : ReadFault) → ReadsAll told left before after (Err f) → TookNone format told left before after (of_reading f)
+  took-unread reading.Read read = record { fault = tt; input = read.0; reads = read.1; writes = refl }
+  took-unread reading.TooLong read = record { fault = tt; input = read.0; reads = omega (arith, read.1); writes = refl }
+  took-unread reading.Memory read = record { fault = tt; input = read.0; reads = omega (arith, read.1); writes = refl }
+
+  module _ (bytes : List ℕ) (same : IfSome told (λ t. bytes ≡ t)) (whole : ReadWhole told left) (calls : after ≡ before) where
+    -- an input that is refused was read whole, and no call failed
+    took-refused : (f : BenchFault) → IsRefusal format bytes f → TookNone format told left before after f
+    took-refused (bench.Input r) h =
+        record { fault = told-of (λ t. IsRefusal format t (bench.Input r)) told bytes same h; input = whole; reads = omega (arith, calls); writes = refl }
+    took-refused (bench.Image f) h =
+        record { fault = told-of (λ t. IsRefusal format t (bench.Image f)) told bytes same h; input = whole; reads = omega (arith, calls); writes = refl }
+    took-refused bench.TooLong h = absurd (not_too_long format bytes h)
+    took-refused bench.Read h = absurd (not_read format bytes h)
+    took-refused bench.Write h = absurd (not_write format bytes h)
+    took-refused bench.Memory h = record { fault = tt; input = whole.0; reads = omega (arith, calls); writes = refl }
+
+    -- so was one that is accepted
+    took-accepted : (scenario : Scenario) → StandsFor format bytes scenario × HasNoFault format bytes
+        → ((other : Scenario) → StandsFor format bytes other → scenario ≡ other)
+        → Took format told left before after scenario
+    took-accepted scenario found only = record {
+      stands = told-of (λ t. StandsFor format t scenario) told bytes same found.0;
+      only = told-of (λ t. (other : Scenario) → StandsFor format t other → scenario ≡ other) told bytes same only;
+      right = told-of (HasNoFault format) told bytes same found.1;
+      whole = whole;
+      calls = calls;
+    }
+
+    -- an input that was read whole
+    pub took-whole : (r : Result Scenario BenchFault) → IfOk r (λ s. StandsFor format bytes s × HasNoFault format bytes)
+        → IfOk r (λ s. (other : Scenario) → StandsFor format bytes other → s ≡ other)
+        → IfErr r (IsRefusal format bytes) → Takes format told left before after r
+    took-whole (Ok scenario) found only fault = took-accepted scenario found only
+    took-whole (Err f) found only fault = took-refused f fault
+
+  -- what holds of the scenario that was taken holds of each that the input stands for
+  pub took-each : (P : Scenario → Type 0) (scenario : Scenario) → Took format told left before after scenario → P scenario
+      → IfSome told (λ t. (sc : Scenario) → StandsFor format t sc → P sc)
+  took-each P scenario took h =
+      told-map (λ t. (sc : Scenario) → StandsFor format t sc → scenario ≡ sc) (λ t. (sc : Scenario) → StandsFor format t sc → P sc) told
+      (λ t only sc stands. subst P (only sc stands) h) took.only
+
+-- what holds of every scenario holds of each that an input stands for
+pub each-of-any : (format : Format) (told : Option (List ℕ)) (P : Scenario → Type 0) → ((sc : Scenario) → P sc)
+    → IfSome told (λ t. (sc : Scenario) → StandsFor format t sc → P sc)
+each-of-any format told P h = of-any (λ t. (sc : Scenario) → StandsFor format t sc → P sc) told (λ t sc stands. h sc)
+
+-- ---- the engine
 
 -- what an engine answers where its output was written, or a prefix of it
 abbrev pub of_wrote : {X : Type 0} → Result X TextFault → Result X BenchFault
 of_wrote (Ok x) = Ok x
 of_wrote (Err f) = Err (of_writing f)
 
--- the engine after its input was accepted
-pub converts-wrote : {X : Type 0} (format : Format) (output : Scenario → List ℕ) (told left old new : Option (List ℕ)) (reads after before writes : ℕ) (bytes : List ℕ) (scenario : Scenario) (w : Result X TextFault)
-    → IfSome told (λ t. bytes ≡ t) → StandsFor format bytes scenario × HasNoFault format bytes → ((s : Scenario) → StandsFor format bytes s → scenario ≡ s)
-    → ReadWhole told left → after ≡ reads → Wrote old new before writes w (output scenario)
-    → Converts format output (record { left = told; written = old; reads = reads; writes = before }) (record { left = left; written = new; reads = after; writes = writes }) (of_wrote w)
-converts-wrote format output told left old new reads after before writes bytes scenario (Ok x) same found only whole none wrote = record {
-  written = told-of (λ t. (sc : Scenario) × StandsFor format t sc × Appends old new (output sc)) told bytes same (scenario, found.0, wrote.0);
-  front = front-of-told format output told bytes old new scenario same only (Wrote-front old new before writes (Ok x) (output scenario) wrote);
-  fault = tt;
-  input = whole;
-  accepted = told-of (HasNoFault format) told bytes same found.1;
-  quiet = tt;
-  silent = silent-of-told format told bytes old new scenario same found.0;
-  refused = unwritten-of-told format told bytes old new same found.1;
-  reads = omega (arith, none);
-  writes = omega (arith, wrote.1);
-}
-converts-wrote format output told left old new reads after before writes bytes scenario (Err Write) same found only whole none wrote = record {
-  written = tt;
-  front = front-of-told format output told bytes old new scenario same only wrote.0;
-  fault = tt;
-  input = whole;
-  accepted = tt;
-  quiet = λ q. absurd q;
-  silent = silent-of-told format told bytes old new scenario same found.0;
-  refused = unwritten-of-told format told bytes old new same found.1;
-  reads = omega (arith, none);
-  writes = wrote.1;
-}
-converts-wrote format output told left old new reads after before writes bytes scenario (Err Memory) same found only whole none wrote = record {
-  written = tt;
-  front = front-of-told format output told bytes old new scenario same only wrote.0;
-  fault = tt;
-  input = whole.0;
-  accepted = tt;
-  quiet = λ q. absurd q;
-  silent = silent-of-told format told bytes old new scenario same found.0;
-  refused = unwritten-of-told format told bytes old new same found.1;
-  reads = omega (arith, none);
-  writes = omega (arith, wrote.1);
-}
+module _ (format : Format) (output : Scenario → List ℕ) (old : Streams) where
+  -- an engine that took no scenario has written nothing
+  pub converts-none : {X : Type 0} (left : Option (List ℕ)) (reads : ℕ) (f : BenchFault) → TookNone format old.left left old.reads reads f
+      → Converts {X = X} format output old (record old { left = left; reads = reads }) (Err f)
+  converts-none left reads f none = record {
+    written = tt;
+    front = each-of-any format old.left (λ sc. WroteFront old.written old.written (output sc)) (λ sc. WroteFront-nothing old.written (output sc));
+    fault = none.fault;
+    input = none.input;
+    accepted = tt;
+    quiet = λ q. refl;
+    silent = of-any (λ t. ((sc : Scenario) → StandsFor format t sc → ⊥) → old.written ≡ old.written) old.left (λ t nothing. refl);
+    refused = of-any (λ t. (HasNoFault format t → ⊥) → old.written ≡ old.written) old.left (λ t faulty. refl);
+    reads = none.reads;
+    writes = omega (arith, none.writes);
+  }
+
+  module _ (new : Streams) (scenario : Scenario) (took : Took format old.left new.left old.reads new.reads scenario) where
+    -- what went out is a prefix of the output of each scenario that the input stands for
+    fronts : WroteFront old.written new.written (output scenario)
+        → IfSome old.left (λ t. (sc : Scenario) → StandsFor format t sc → WroteFront old.written new.written (output sc))
+    fronts wrote = took-each format old.left new.left old.reads new.reads (λ sc. WroteFront old.written new.written (output sc)) scenario took wrote
+
+    -- there is a scenario, and no fault
+    stands-for : IfSome old.left (λ t. ((sc : Scenario) → StandsFor format t sc → ⊥) → new.written ≡ old.written)
+    stands-for = told-map (λ t. StandsFor format t scenario) (λ t. ((sc : Scenario) → StandsFor format t sc → ⊥) → new.written ≡ old.written) old.left
+        (λ t stands none. absurd (none scenario stands)) took.stands
+
+    -- and it has no fault
+    has-no-fault : IfSome old.left (λ t. (HasNoFault format t → ⊥) → new.written ≡ old.written)
+    has-no-fault = told-map (HasNoFault format) (λ t. (HasNoFault format t → ⊥) → new.written ≡ old.written) old.left (λ t right faulty. absurd (faulty right)) took.right
+
+    -- an engine that took a scenario and wrote of it
+    pub converts-wrote : {X : Type 0} (w : Result X TextFault) → Wrote old.written new.written old.writes new.writes w (output scenario)
+        → Converts format output old new (of_wrote w)
+    converts-wrote (Ok x) wrote = record {
+      written = told-map (λ t. StandsFor format t scenario) (λ t. (sc : Scenario) × StandsFor format t sc × Appends old.written new.written (output sc)) old.left
+          (λ t stands. (scenario, stands, wrote.0)) took.stands;
+      front = fronts (Wrote-front old.written new.written old.writes new.writes (Ok x) (output scenario) wrote);
+      fault = tt;
+      input = took.whole;
+      accepted = took.right;
+      quiet = tt;
+      silent = stands-for;
+      refused = has-no-fault;
+      reads = omega (arith, took.calls);
+      writes = omega (arith, wrote.1);
+    }
+    converts-wrote (Err Write) wrote = record {
+      written = tt;
+      front = fronts wrote.0;
+      fault = tt;
+      input = took.whole;
+      accepted = tt;
+      quiet = λ q. absurd q;
+      silent = stands-for;
+      refused = has-no-fault;
+      reads = omega (arith, took.calls);
+      writes = wrote.1;
+    }
+    converts-wrote (Err Memory) wrote = record {
+      written = tt;
+      front = fronts wrote.0;
+      fault = tt;
+      input = took.whole.0;
+      accepted = tt;
+      quiet = λ q. absurd q;
+      silent = stands-for;
+      refused = has-no-fault;
+      reads = omega (arith, took.calls);
+      writes = omega (arith, wrote.1);
+    }

@@ -15,6 +15,11 @@ pub record Streams : Type 0 where
   pub reads : ℕ
   pub writes : ℕ
 
+-- those of a source and a sink, of which these are the members
+abbrev pub streams : {S K : Type 0} → (S → Option (List ℕ)) → (S → ℕ) → (K → Option (List ℕ)) → (K → ℕ) → S → K → Streams
+streams left reads written writes source sink =
+    record { left = left source; written = written sink; reads = reads source; writes = writes sink }
+
 pub record Converts {X : Type 0} (format : Format) (output : Scenario → List ℕ) (old new : Streams) (result : Result X BenchFault) : Type 0 where
   -- at Ok the input stands for a scenario, and exactly its output went out
   pub written : OnOk result (IfSome old.left (λ told. (sc : Scenario) × StandsFor format told sc × Appends old.written new.written (output sc)))

@@ -2,6 +2,7 @@
 ghost use Rattle.std.specs.Prelude.{◌≡◌, ◌<◌, ◌≤◌, ◌+◌};
 ghost use Rattle.zy_text.specs.Words.{lines_of};
 ghost use Rattle.zy_console.specs.Console.{WroteReplies, opened};
+ghost use Rattle.zy_engine.specs.Engines.{streams};
 ghost use Rattle.zy_engine.specs.Debugs.{Debugs};
 
 use crate::faults::BenchFault;
@@ -53,10 +54,8 @@ pub fn debug_bytes<S: Source, K: Sink>(
     requires ring_most { ring ≤ 64 }
     requires source { S.failures source.old < u64.MAX }
     requires sink { K.failures sink.old < u64.MAX }
-    ensures debugs { Debugs
-        (record { left = S.left source.old; written = K.written sink.old; reads = S.failures source.old; writes = K.failures sink.old })
-        (record { left = S.left source.new; written = K.written sink.new; reads = S.failures source.new; writes = K.failures sink.new })
-        result }
+    ensures debugs { let at = streams S.left S.failures K.written K.failures in
+        Debugs (at source.old sink.old) (at source.new sink.new) result }
     // Whatever the reader tells of its bytes, its calls give at most one more than the longest input has.
     ensures bound { S.given source.new ≤ S.given source.old + 4194305 }
 {

@@ -3,15 +3,14 @@ ghost use Rattle.std.specs.Prelude.{◌<◌, ◌≤◌, ◌+◌};
 ghost use Rattle.zy_text.specs.Canon.{canon};
 ghost use Rattle.zy_image.specs.Image.{image_of};
 ghost use Rattle.zy_engine.specs.declared.format.Format.TheVariants.{Text, Image};
-ghost use Rattle.zy_engine.specs.Engines.{Converts};
+ghost use Rattle.zy_engine.specs.Engines.{Converts, streams};
 ghost use Rattle.zy_audit.specs.Run.{listing_run};
 ghost use Rattle.zy_trace.specs.Trace.{trace};
 
 use crate::faults::BenchFault;
-use crate::format::{Format, accept};
+use crate::format::{Format, read_scenario};
 use crate::output::{Canonical, Listing, Output, Saved, Trace};
 use std::alloc::Global;
-use zy_io::reading::read_all;
 use zy_io::stream::{Sink, Source};
 
 /// Reads a scenario whole, makes its choices, and writes its listing. Nothing is written before the input is read to its
@@ -26,10 +25,8 @@ pub fn run_bytes<S: Source, K: Sink>(
 ) -> Result<(), BenchFault>
     requires source { S.failures source.old < u64.MAX }
     requires sink { K.failures sink.old < u64.MAX }
-    ensures converts { Converts format listing_run
-        (record { left = S.left source.old; written = K.written sink.old; reads = S.failures source.old; writes = K.failures sink.old })
-        (record { left = S.left source.new; written = K.written sink.new; reads = S.failures source.new; writes = K.failures sink.new })
-        result }
+    ensures converts { let at = streams S.left S.failures K.written K.failures in
+        Converts format listing_run (at source.old sink.old) (at source.new sink.new) result }
     // Whatever the reader tells of its bytes, its calls give at most one more than the longest input has.
     ensures bound { S.given source.new ≤ S.given source.old + 4194305 }
 {
@@ -47,10 +44,8 @@ pub fn trace_bytes<S: Source, K: Sink>(
 ) -> Result<(), BenchFault>
     requires source { S.failures source.old < u64.MAX }
     requires sink { K.failures sink.old < u64.MAX }
-    ensures converts { Converts format trace
-        (record { left = S.left source.old; written = K.written sink.old; reads = S.failures source.old; writes = K.failures sink.old })
-        (record { left = S.left source.new; written = K.written sink.new; reads = S.failures source.new; writes = K.failures sink.new })
-        result }
+    ensures converts { let at = streams S.left S.failures K.written K.failures in
+        Converts format trace (at source.old sink.old) (at source.new sink.new) result }
     // Whatever the reader tells of its bytes, its calls give at most one more than the longest input has.
     ensures bound { S.given source.new ≤ S.given source.old + 4194305 }
 {
@@ -67,10 +62,8 @@ pub fn asm_bytes<S: Source, K: Sink>(
 ) -> Result<(), BenchFault>
     requires source { S.failures source.old < u64.MAX }
     requires sink { K.failures sink.old < u64.MAX }
-    ensures converts { Converts Text image_of
-        (record { left = S.left source.old; written = K.written sink.old; reads = S.failures source.old; writes = K.failures sink.old })
-        (record { left = S.left source.new; written = K.written sink.new; reads = S.failures source.new; writes = K.failures sink.new })
-        result }
+    ensures converts { let at = streams S.left S.failures K.written K.failures in
+        Converts Text image_of (at source.old sink.old) (at source.new sink.new) result }
     // Whatever the reader tells of its bytes, its calls give at most one more than the longest input has.
     ensures bound { S.given source.new ≤ S.given source.old + 4194305 }
 {
@@ -87,10 +80,8 @@ pub fn dis_bytes<S: Source, K: Sink>(
 ) -> Result<(), BenchFault>
     requires source { S.failures source.old < u64.MAX }
     requires sink { K.failures sink.old < u64.MAX }
-    ensures converts { Converts Image canon
-        (record { left = S.left source.old; written = K.written sink.old; reads = S.failures source.old; writes = K.failures sink.old })
-        (record { left = S.left source.new; written = K.written sink.new; reads = S.failures source.new; writes = K.failures sink.new })
-        result }
+    ensures converts { let at = streams S.left S.failures K.written K.failures in
+        Converts Image canon (at source.old sink.old) (at source.new sink.new) result }
     // Whatever the reader tells of its bytes, its calls give at most one more than the longest input has.
     ensures bound { S.given source.new ≤ S.given source.old + 4194305 }
 {
@@ -108,16 +99,12 @@ fn convert<S: Source, K: Sink, O: Output>(
 ) -> Result<(), BenchFault>
     requires source { S.failures source.old < u64.MAX }
     requires sink { K.failures sink.old < u64.MAX }
-    ensures converts { Converts format (O.bytes output.now)
-        (record { left = S.left source.old; written = K.written sink.old; reads = S.failures source.old; writes = K.failures sink.old })
-        (record { left = S.left source.new; written = K.written sink.new; reads = S.failures source.new; writes = K.failures sink.new })
-        result }
+    ensures converts { let at = streams S.left S.failures K.written K.failures in
+        Converts format (O.bytes output.now) (at source.old sink.old) (at source.new sink.new) result }
     // Whatever the reader tells of its bytes, its calls give at most one more than the longest input has.
     ensures bound { S.given source.new ≤ S.given source.old + 4194305 }
 {
-    let bytes = read_all(alloc, source)?;
-    *input = bytes;
-    let scenario = accept(alloc, format, input.as_slice())?;
+    let scenario = read_scenario(alloc, format, source, input)?;
     output.write(alloc, scenario, sink)?;
     Ok(())
 }

@@ -4,7 +4,7 @@ ghost use Rattle.zy_engine.specs.Faults.{of_checking, of_image_refusal, of_readi
 
 use std::alloc::AllocError;
 use thiserror::Error;
-use zy_asm::faults::{AsmKind, Refusal};
+use zy_asm::faults::Refusal;
 use zy_check::faults::CheckFault;
 use zy_image::faults::LoadFault;
 use zy_image::refusal::ImageRefusal;
@@ -54,11 +54,7 @@ impl From<ReadFault> for BenchFault {
     ghost from_gives = { λ f e. e ≡ of_reading f };
 
     fn from(fault: ReadFault) -> BenchFault {
-        match fault {
-            ReadFault::Read => BenchFault::Read,
-            ReadFault::TooLong => BenchFault::TooLong,
-            ReadFault::Memory => BenchFault::Memory,
-        }
+        BenchFault::from(CheckFault::from(fault))
     }
 }
 
@@ -66,10 +62,7 @@ impl From<Refusal> for BenchFault {
     ghost from_gives = { λ r e. e ≡ of_refusal r };
 
     fn from(refusal: Refusal) -> BenchFault {
-        match refusal.reason.kind() {
-            AsmKind::Memory => BenchFault::Memory,
-            _ => BenchFault::Input(refusal),
-        }
+        BenchFault::from(CheckFault::from(refusal))
     }
 }
 

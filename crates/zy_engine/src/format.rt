@@ -1,13 +1,15 @@
 //! What an input is written in, and the scenario that it stands for.
-ghost use Rattle.std.specs.Prelude.{◌≡◌, IfErr, IfOk};
+ghost use Rattle.std.specs.Prelude.{◌≡◌, ◌<◌, ◌≤◌, ◌+◌, IfErr, IfOk};
 ghost use Rattle.zy_isa.specs.Scenario.{Scenario as AScenario};
-ghost use Rattle.zy_engine.specs.Inputs.{HasNoFault, IsRefusal, StandsFor};
+ghost use Rattle.zy_engine.specs.Inputs.{HasNoFault, IsRefusal, StandsFor, Takes};
 
 use crate::faults::BenchFault;
 use std::alloc::Global;
 use zy_asm::assembling::assemble_bytes;
 use zy_image::load::load;
 use zy_image::refusal::ImageRefusal;
+use zy_io::reading::read_all;
+use zy_io::stream::Source;
 use zy_isa::scenario::Scenario;
 
 /// What an input is written in.
@@ -38,4 +40,21 @@ pub fn accept(alloc: Global, format: Format, bytes: &[u8]) -> Result<Scenario, B
             Err(fault) => Err(BenchFault::from(ImageRefusal::of(fault, bytes))),
         },
     }
+}
+
+/// Reads an input whole, and gives the scenario that it stands for. The bytes that were read are left in `input`.
+pub fn read_scenario<S: Source>(
+    alloc: Global,
+    format: Format,
+    source: &mut S,
+    input: &mut Vec<u8>,
+) -> Result<Scenario, BenchFault>
+    requires { S.failures source.old < u64.MAX }
+    ensures takes { Takes format (S.left source.old) (S.left source.new) (S.failures source.old) (S.failures source.new) result }
+    // Whatever the reader tells of its bytes, its calls give at most one more than the longest input has.
+    ensures bound { S.given source.new ≤ S.given source.old + 4194305 }
+{
+    let bytes = read_all(alloc, source)?;
+    *input = bytes;
+    accept(alloc, format, input.as_slice())
 }

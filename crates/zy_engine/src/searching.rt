@@ -3,14 +3,14 @@ ghost use Rattle.std.specs.Prelude.{◌<◌, ◌≤◌, ◌+◌, ◌++◌};
 ghost use Rattle.zy_io.specs.Writing.{Wrote};
 ghost use Rattle.zy_text.specs.Canon.{canon};
 ghost use Rattle.zy_threads.specs.Orders.{reordered};
+ghost use Rattle.zy_engine.specs.Engines.{streams};
 ghost use Rattle.zy_engine.specs.Searching.{ConvertsSearch, WroteAnswer, text_of};
 
 use crate::faults::BenchFault;
-use crate::format::{Format, accept};
+use crate::format::{Format, read_scenario};
 use std::alloc::Global;
 use zy_disasm::head::Head;
 use zy_io::buffer::LineBuffer;
-use zy_io::reading::read_all;
 use zy_io::section::{Both, One, Section};
 use zy_io::stream::{Sink, Source};
 use zy_io::writing::TextFault;
@@ -90,16 +90,12 @@ pub fn search_bytes<S: Source, K: Sink, W: Watch>(
 ) -> Result<Report, BenchFault>
     requires source { S.failures source.old < u64.MAX }
     requires sink { K.failures sink.old < u64.MAX }
-    ensures converts { ConvertsSearch format sought most
-        (record { left = S.left source.old; written = K.written sink.old; reads = S.failures source.old; writes = K.failures sink.old })
-        (record { left = S.left source.new; written = K.written sink.new; reads = S.failures source.new; writes = K.failures sink.new })
-        result }
+    ensures converts { let at = streams S.left S.failures K.written K.failures in
+        ConvertsSearch format sought most (at source.old sink.old) (at source.new sink.new) result }
     // Whatever the reader tells of its bytes, its calls give at most one more than the longest input has.
     ensures bound { S.given source.new ≤ S.given source.old + 4194305 }
 {
-    let bytes = read_all(alloc, source)?;
-    *input = bytes;
-    let scenario = accept(alloc, format, input.as_slice())?;
+    let scenario = read_scenario(alloc, format, source, input)?;
     let report = write_search(alloc, scenario, sought, most, sink, watch)?;
     Ok(report)
 }

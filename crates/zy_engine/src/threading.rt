@@ -1,14 +1,14 @@
 //! The engine of a run by three threads.
 ghost use Rattle.std.specs.Prelude.{◌<◌, ◌≤◌, ◌+◌};
+ghost use Rattle.zy_engine.specs.Engines.{streams};
 ghost use Rattle.zy_engine.specs.Threads.{WroteMerge, ConvertsMerged};
 
 use crate::faults::BenchFault;
-use crate::format::{Format, accept};
+use crate::format::{Format, read_scenario};
 use std::alloc::Global;
 use std::sync::Wait;
 use std::thread::Threads;
 use zy_audit::listing::write_listing;
-use zy_io::reading::read_all;
 use zy_io::stream::{Sink, Source};
 use zy_io::writing::TextFault;
 use zy_isa::scenario::Scenario;
@@ -44,16 +44,12 @@ pub fn threads_bytes<S: Source, K: Sink, R: Threads + Wait + Sync, G: Gate + Syn
 ) -> Result<(), BenchFault>
     requires source { S.failures source.old < u64.MAX }
     requires sink { K.failures sink.old < u64.MAX }
-    ensures converts { ConvertsMerged format
-        (record { left = S.left source.old; written = K.written sink.old; reads = S.failures source.old; writes = K.failures sink.old })
-        (record { left = S.left source.new; written = K.written sink.new; reads = S.failures source.new; writes = K.failures sink.new })
-        result }
+    ensures converts { let at = streams S.left S.failures K.written K.failures in
+        ConvertsMerged format (at source.old sink.old) (at source.new sink.new) result }
     // Whatever the reader tells of its bytes, its calls give at most one more than the longest input has.
     ensures bound { S.given source.new ≤ S.given source.old + 4194305 }
 {
-    let bytes = read_all(alloc, source)?;
-    *input = bytes;
-    let scenario = accept(alloc, format, input.as_slice())?;
+    let scenario = read_scenario(alloc, format, source, input)?;
     write_threads(rt, alloc, scenario, gate, sink)?;
     Ok(())
 }

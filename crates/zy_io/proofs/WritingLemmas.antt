@@ -3,18 +3,12 @@ use Rattle.std.proofs.Common.{◌≡◌, ℕ, ◌+◌, List, [], ◌∷◌, ◌+
 use Rattle.std.specs.List.{flat_map}
 use Rattle.std.proofs.lemmas.Grind.{flat_map-append}
 use Rattle.std.specs.Io.KnownBytes.{Appends}
-use Rattle.std.proofs.KnownBytes.{Appends-trans, Appends-nil}
+use Rattle.std.proofs.KnownBytes.{Appends-trans}
 use Rattle.zy_io.specs.Streams.{Remains, WroteFront}
 use Rattle.zy_io.proofs.StreamLemmas.{Remains-stops, WroteFront-more}
 use Rattle.zy_io.specs.declared.writing.TextFault.{TextFault}
 use Rattle.zy_io.specs.declared.writing.TextFault.TheVariants.{Write, Memory}
-use Rattle.std.specs.Prelude.{is_ok, if◌then◌else◌}
 use Rattle.zy_io.specs.Writing.{Appended, AppendedFront, Wrote}
-
--- all of the text was appended, or nothing
-pub Appended-whole : {X E : Type 0} (r : Result X E) (a b : List ℕ) (text : List ℕ) → b ≡ (if is_ok r then a ++ text else a) → Appended r a b text
-Appended-whole (Ok x) a b text e = e
-Appended-whole (Err x) a b text e = ([], text, refl, e ∙ sym (append-nil a))
 
 -- the first text's fault is that of both
 pub Appended-stops : {X E : Type 0} (a b : List ℕ) (e : E) (r : Result X E) (xs ys : List ℕ) → AppendedFront a b xs → r ≡ Err e → Appended r a b (xs ++ ys)
@@ -48,11 +42,6 @@ Wrote-stops a b c m n k Write r xs ys more text p same q e is =
 Wrote-stops a b c m n k Memory r xs ys more text p same q e is =
     rw is (WroteFront-after a b c xs ys more text p q.0 e, q.1 ∙ same)
 
--- the first text's fault is that of both
-pub Wrote-first-stops : {Y : Type 0} (a b : Option (List ℕ)) (m n : ℕ) (f : TextFault) (r : Result Y TextFault) (xs ys : List ℕ)
-    → Wrote a b m n {X = Unit {0}} (Err f) xs → r ≡ Err f → Wrote a b m n r (xs ++ ys)
-Wrote-first-stops a b m n f r xs ys q is = Wrote-stops a a b m m n f r [] xs ys (xs ++ ys) (Appends-nil a) refl q refl is
-
 -- the second text's fault is that of both
 pub Wrote-second-stops : {Y : Type 0} (a b c : Option (List ℕ)) (m n k : ℕ) (f : TextFault) (r : Result Y TextFault) (xs ys : List ℕ)
     → Appends a b xs × (n ≡ m) → Wrote b c n k {X = Unit {0}} (Err f) ys → r ≡ Err f → Wrote a c m k r (xs ++ ys)
@@ -67,10 +56,6 @@ Wrote-both a b c m n k xs ys p q = (Appends-trans a b c xs ys p.0 q.0, q.1 ∙ p
 pub Wrote-then : {X : Type 0} (a b c : Option (List ℕ)) (m n k : ℕ) (r : Result X TextFault) (xs ys : List ℕ) → Appends a b xs × (n ≡ m) → Wrote b c n k r ys → Wrote a c m k r (xs ++ ys)
 Wrote-then a b c m n k (Ok u) xs ys p q = Wrote-both a b c m n k xs ys p q
 Wrote-then {X} a b c m n k (Err f) xs ys p q = Wrote-second-stops {Y = X} a b c m n k f (Err f) xs ys p q refl
-
--- nothing is written, and all is well
-pub Wrote-nothing : {X : Type 0} (a : Option (List ℕ)) (m : ℕ) (x : X) → Wrote a a m m (Ok x) []
-Wrote-nothing a m x = (Appends-nil a, refl)
 
 -- the text of a list is that of its front, of one element and of what follows
 pub flat_map-split : {X : Type 0} (f : X → List ℕ) (xs : List X) (i : ℕ) (d : X) → i < length xs

@@ -118,6 +118,7 @@ fn have_values(words: &[Word])
     ensures { Values words.now }
 {
     for word in words {
+        // Proof: the value of an instruction fits its field.
         let _instr = word.instr();
     }
 }
@@ -177,6 +178,7 @@ impl Program {
         requires { prog_fault words.items ≡ None }
         ensures { result ≡ words.items }
     {
+        // Proof: the values of all instructions fit.
         have_values(words.as_slice());
         Program { words }
     }

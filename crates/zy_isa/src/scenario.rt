@@ -154,6 +154,7 @@ fn have_rows(rows: &[Row])
     ensures { RowsFit rows.now }
 {
     for row in rows {
+        // Proof: a key and a value have the range of their types.
         let (_key, _value) = (row.key, row.value);
     }
 }
@@ -163,6 +164,7 @@ fn are_programs(programs: &[Program])
     ensures { ArePrograms programs.now }
 {
     for program in programs {
+        // Proof: a program is verified.
         let _len = program.len();
     }
 }
@@ -246,6 +248,7 @@ impl Scenario {
         ensures value { result ≡ record { version = version; cap = cap; pages = pages; rule = rule; rows = rows.items; programs = programs.items; choices = choices.items } }
         ensures tested { IsScenario result }
     {
+        // Proof: the rows fit, and the programs are verified.
         have_rows(rows.as_slice());
         are_programs(programs.as_slice());
         Scenario {

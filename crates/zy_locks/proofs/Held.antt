@@ -50,6 +50,3 @@ told_at p t i b d xs rise at h lt = sym (holds_at p t i d xs rise at lt) ∙ h
 -- a lock that is there takes no room, any other takes one place
 pub held_takes : (p t : ℕ) (xs : List Lock) → holds xs p t ≡ true → length (unheld (p ∷ []) t xs) ≡ 0
 held_takes p t xs h = rw h refl
-
-pub new_takes : (p t : ℕ) (xs : List Lock) → holds xs p t ≡ false → length (unheld (p ∷ []) t xs) ≡ 1
-new_takes p t xs h = rw h refl

@@ -96,7 +96,7 @@ fn bring(me: &mut NodeStore, message: Message)
         Message::Dual => (),
         Message::Pull(_) => (),
         Message::Page(page) => {
-            // There is a mark and a slot for each number of the wireframe.
+            // Proof: there is a mark and a slot for each number of the wireframe.
             let _ = page_count(&me.wire);
             me.asked.drop(page.number());
             me.pages.put(page);

@@ -1,8 +1,7 @@
 -- Rows in key order, parted at a boundary.
 use Rattle.std.proofs.Common.{Bool, List, None, [], ap, arith, drop, false, inl, inr, leb, length, ltb, refl, suc, take, true, zero, ℕ, ◌+◌, ◌∙◌, ◌∷◌, ◌≡◌, ◌≤◌}
 use Rattle.std.specs.Prelude.{filter, if◌then◌else◌}
-use Rattle.std.proofs.lemmas.Bool.{lt-ltb, le-ltb, le-leb, lt-leb, leb-true, leb-false, cond_both, cases_eq, cases_lt}
-use Rattle.std.proofs.lemmas.List.Filters.{length-filter_both}
+use Rattle.std.proofs.lemmas.Bool.{lt-ltb, le-ltb, le-leb, lt-leb, leb-true, leb-false, cond_both, cases_eq}
 use Rattle.zy_isa.specs.declared.row.Row.{Row}
 use Rattle.zy_isa.specs.Rows.{Rising, RowsFit, get_row}
 use Rattle.zy_page.specs.Leaf.{rows_below, rows_from}
@@ -97,7 +96,3 @@ Rising-rows_from low b (r ∷ rows) h =
     cond_both (leb b r.key) (r ∷ rows_from b rows) (rows_from b rows) (Rising b)
     (λ e. (leb-true _ _ e, Rising-filter (λ (x : Row). leb b x.key) (r.key + 1) rows h.1))
     (λ _. Rising-rows_from (r.key + 1) b rows h.1)
-
--- no row is lost
-pub length-rows_parted : (b : ℕ) (rows : List Row) → length (rows_below b rows) + length (rows_from b rows) ≡ length rows
-length-rows_parted b rows = length-filter_both (λ (r : Row). ltb r.key b) (λ (r : Row). leb b r.key) (λ r. elim (cases_lt r.key b) [ inl below ↦ rw (lt-ltb r.key b below, lt-leb b r.key below) refl | inr above ↦ rw (le-ltb r.key b above, le-leb b r.key above) refl ]) rows

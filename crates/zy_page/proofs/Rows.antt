@@ -1,6 +1,6 @@
 -- Laws of rows in key order.
 use Rattle.std.proofs.Common.{◌≡◌, ℕ, ◌+◌, ◌<◌, ◌≤◌, ◌^◌, List, [], ◌∷◌, length, refl, arith, Some, None, is_some, true, inl, inr}
-use Rattle.std.proofs.lemmas.Bool.{eq-eqb, ne_eqb, lt-ltb, le-ltb, cases_order, cases_eq}
+use Rattle.std.proofs.lemmas.Bool.{eq-eqb, ne_eqb, lt-ltb, le-ltb, cases_order}
 use Rattle.zy_isa.specs.declared.row.Row.{Row}
 use Rattle.zy_isa.specs.Rows.{Rising, RowsFit, row, get_row, put_row}
 
@@ -26,29 +26,6 @@ pub get_row_below : (k low : ℕ) (rows : List Row) → Rising low rows → k < 
 get_row_below k low [] h lt = refl
 get_row_below k low (r ∷ rows) h lt = rw (get_row_past k r rows (λ e. absurd (omega (arith, h.0)))) (get_row_below k (r.key + 1) rows h.1 (omega (arith, h.0)))
 
--- what is put is there
-pub get_row_of_put_row : (k v : ℕ) (rows : List Row) → get_row (put_row k v rows) k ≡ Some v
-get_row_of_put_row k v [] = get_row_same k (row k v) [] refl
-get_row_of_put_row k v (r ∷ rows) =
-    elim (cases_order k r.key) [
-      | inl e ↦ rw (put_row_same k v r rows e) (get_row_same k (row k v) rows refl)
-      | inr (inl lt) ↦ rw (put_row_below k v r rows lt) (get_row_same k (row k v) (r ∷ rows) refl)
-      | inr (inr gt) ↦ rw (put_row_above k v r rows gt, get_row_past k r (put_row k v rows) (λ e. absurd (omega arith))) (get_row_of_put_row k v rows)
-    ]
-
--- and the other keys have the values that they had
-pub get_row_of_put_row_other : (k v q : ℕ) (rows : List Row) → (k ≡ q → ⊥) → get_row (put_row k v rows) q ≡ get_row rows q
-get_row_of_put_row_other k v q [] ne = get_row_past q (row k v) [] ne
-get_row_of_put_row_other k v q (r ∷ rows) ne =
-    elim (cases_order k r.key) [
-      | inl e ↦ rw (put_row_same k v r rows e, get_row_past q (row k v) rows ne, get_row_past q r rows (λ f. ne (omega arith))) refl
-      | inr (inl lt) ↦ rw (put_row_below k v r rows lt, get_row_past q (row k v) (r ∷ rows) ne) refl
-      | inr (inr gt) ↦ rw (put_row_above k v r rows gt) (elim (cases_eq r.key q) [
-        | inl e ↦ rw (get_row_same q r (put_row k v rows) e, get_row_same q r rows e) refl
-        | inr other ↦ rw (get_row_past q r (put_row k v rows) other, get_row_past q r rows other) (get_row_of_put_row_other k v q rows ne)
-      ])
-    ]
-
 -- keys still rise
 pub Rising-put_row : (low k v : ℕ) (rows : List Row) → Rising low rows → low ≤ k → Rising low (put_row k v rows)
 Rising-put_row low k v [] h le = (le, tt)
@@ -69,18 +46,6 @@ RowsFit-put_row k v (r ∷ rows) h key value =
       | inr (inr gt) ↦ rw (put_row_above k v r rows gt) (h.0, h.1, RowsFit-put_row k v rows h.2 key value)
     ]
 
--- a row at a key of its own is one more
-pub length-put_row_new : (k v : ℕ) (rows : List Row) → get_row rows k ≡ None → length (put_row k v rows) ≡ length rows + 1
-length-put_row_new k v [] none = refl
-length-put_row_new k v (r ∷ rows) none =
-    elim (cases_order k r.key) [
-      | inl e ↦ let bad = rw (get_row_same k r rows (omega arith)) at none in cc
-      | inr (inl lt) ↦ rw (put_row_below k v r rows lt) (omega arith)
-      | inr (inr gt) ↦
-          let rest = rw (get_row_past k r rows (λ e. absurd (omega arith))) at none in
-          rw (put_row_above k v r rows gt) (omega (arith, length-put_row_new k v rows rest))
-    ]
-
 -- a row over another is none more
 pub length-put_row_same : (low k v : ℕ) (rows : List Row) → Rising low rows → is_some (get_row rows k) ≡ true → length (put_row k v rows) ≡ length rows
 length-put_row_same low k v [] h some = (cc)
@@ -93,13 +58,4 @@ length-put_row_same low k v (r ∷ rows) h some =
       | inr (inr gt) ↦
           let rest = rw (get_row_past k r rows (λ e. absurd (omega arith))) at some in
           rw (put_row_above k v r rows gt) (omega (arith, length-put_row_same (r.key + 1) k v rows h.1 rest))
-    ]
-
-pub length-put_row_most : (k v : ℕ) (rows : List Row) → length (put_row k v rows) ≤ length rows + 1
-length-put_row_most k v [] = omega arith
-length-put_row_most k v (r ∷ rows) =
-    elim (cases_order k r.key) [
-      | inl e ↦ rw (put_row_same k v r rows e) (omega arith)
-      | inr (inl lt) ↦ rw (put_row_below k v r rows lt) (omega arith)
-      | inr (inr gt) ↦ rw (put_row_above k v r rows gt) (omega (arith, length-put_row_most k v rows))
     ]

@@ -7,3 +7,4 @@ pub mod TxnLemmas
 pub mod CommitLemmas
 pub mod ShelfLemmas
 pub mod EdgeLemmas
+pub mod MeetLemmas

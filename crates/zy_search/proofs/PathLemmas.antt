@@ -10,26 +10,32 @@ use Rattle.zy_search.specs.Paths.{grown, paths_of, AreRooted}
 abbrev pub with_path : List (List Choice) → Branch → List (List Choice)
 with_path ps b = ps ++ (get_or ps b.from [] ++ b.by ∷ []) ∷ []
 
+-- one branch more is one path more
 pub grown-push : (ps : List (List Choice)) (bs : List Branch) (b : Branch) → grown ps (bs ++ b ∷ []) ≡ with_path (grown ps bs) b
 grown-push ps [] b = refl
 grown-push ps (x ∷ bs) b = grown-push (with_path ps x) bs b
 
+-- how many there are then
 length_with : (ps : List (List Choice)) (b : Branch) → length (with_path ps b) ≡ suc (length ps)
 length_with ps b = omega (arith, length-append ps ((get_or ps b.from [] ++ b.by ∷ []) ∷ []))
 
+-- there is a path more for each branch
 pub length-grown : (ps : List (List Choice)) (bs : List Branch) → length (grown ps bs) ≡ length ps + length bs
 length-grown ps [] = omega arith
 length-grown ps (b ∷ bs) = omega (arith, length-grown (with_path ps b) bs, length_with ps b)
 
+-- one more branch that goes on from an earlier path
 pub rooted_push : (n : ℕ) (bs : List Branch) (b : Branch) → AreRooted n bs → b.from < n + length bs → AreRooted n (bs ++ b ∷ [])
 rooted_push n [] b h lt = (omega (arith, lt), tt)
 rooted_push n (x ∷ bs) b h lt = (h.0, rooted_push (suc n) bs b h.1 (omega (arith, lt)))
 
+-- each goes on from an earlier path
 pub rooted_at : (n k : ℕ) (d : Branch) (bs : List Branch) → AreRooted n bs → k < length bs → (get_or bs k d).from < n + k
 rooted_at n k d [] h lt = absurd (omega (arith, lt))
 rooted_at n zero d (b ∷ bs) h lt = omega (arith, h.0)
 rooted_at n (suc k) d (b ∷ bs) h lt = omega (arith, rooted_at (suc n) k d bs h.1 (omega (arith, lt)))
 
+-- the paths that are there stay at their places
 grown_front : (i : ℕ) (ps : List (List Choice)) (bs : List Branch) → i < length ps → get_or (grown ps bs) i [] ≡ get_or ps i []
 grown_front i ps [] lt = refl
 grown_front i ps (b ∷ bs) lt =
@@ -56,6 +62,7 @@ pub path_at : (i : ℕ) (d : Branch) (bs : List Branch) → AreRooted 1 bs → i
     → get_or (paths_of bs) (i + 1) [] ≡ get_or (paths_of bs) (get_or bs i d).from [] ++ (get_or bs i d).by ∷ []
 path_at i d bs h lt = let e : i + 1 ≡ 1 + i = omega arith in rw e (grown_at i d ([] ∷ []) bs h lt)
 
+-- the first path is the empty one
 pub path_none : (bs : List Branch) → get_or (paths_of bs) 0 [] ≡ []
 path_none bs = grown_front 0 ([] ∷ []) bs (omega arith)
 

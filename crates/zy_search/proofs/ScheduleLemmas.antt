@@ -24,10 +24,12 @@ use Rattle.zy_laws.proofs.Reordered.{one, play-reordered, opening-reordered}
 use Rattle.zy_search.specs.Schedules.{scheduled, ending}
 use Rattle.zy_search.proofs.SearchLemmas.{are_named}
 
+-- choices, and then others
 play-append : (sc : Scenario) (s : State) (cs ds : List Choice) → play sc s (cs ++ ds) ≡ play sc (play sc s cs) ds
 play-append sc s [] ds = refl
 play-append sc s (c ∷ cs) ds = play-append sc (step sc c s).after cs ds
 
+-- the serial run does not ask for the choices
 serial-reordered : (sc : Scenario) (order : List Choice) (m : Map) (commits : List CommitRec) → serial (reordered sc order) m commits ≡ serial sc m commits
 serial-reordered sc order m [] = refl
 serial-reordered sc order m (c ∷ commits) = serial-reordered sc order (alone m (program_of sc c.txn) c.done).map commits
@@ -53,6 +55,7 @@ shows_back sc order kills wanted.Stuck s e = record {
   still = λ c a. subst (λ (x : Step). is_still x.outcome ≡ true) (one sc order c s) (e.still c a);
 }
 
+-- nor does what a state shows
 shows_too : (sc : Scenario) (order : List Choice) (kills : Bool) (w : Wanted) (s : State) → ShowsIt sc kills w s → ShowsIt (reordered sc order) kills w s
 shows_too sc order kills wanted.Differs s e = ap (same_map (database s)) (serial-reordered sc order (map_of sc.rows) s.commits) ∙ e
 shows_too sc order kills (wanted.Aborted r) s e = e
@@ -62,14 +65,18 @@ shows_too sc order kills wanted.Stuck s e = record {
   still = λ c a. subst (λ (x : Step). is_still x.outcome ≡ true) (sym (one sc order c s)) (e.still c a);
 }
 
+-- what is found shows itself in a run
 pub found : (h : History) (q : Sought) (cs : List Choice) → IsReplay h → Finds h q cs → Shows (scheduled h cs) q (ending (scheduled h cs))
 found h q cs r f =
     subst (λ (s : State). Shows (scheduled h cs) q s) (sym (ends h cs r)) (shows_too h.scenario (choices_of h.entries ++ cs) q.kills q.wanted (reached h cs) f.shows)
 
-pub not_found : (h : History) (q : Sought) (cs : List Choice) → IsReplay h → (Shows h.scenario q (reached h cs) → ⊥) → Shows (scheduled h cs) q (ending (scheduled h cs)) → ⊥
+-- what does not lead there does not in a run
+pub not_found : (h : History) (q : Sought) (cs : List Choice) → IsReplay h → (Shows h.scenario q (reached h cs) → ⊥)
+    → Shows (scheduled h cs) q (ending (scheduled h cs)) → ⊥
 not_found h q cs r none shown =
     none (shows_back h.scenario (choices_of h.entries ++ cs) q.kills q.wanted (reached h cs) (subst (λ (s : State). Shows (scheduled h cs) q s) (ends h cs r) shown))
 
+-- choices that name transactions that are there, and others
 named_both : (count : ℕ) (cs ds : List Choice) → AreNamed count cs → AreNamed count ds → AreNamed count (cs ++ ds)
 named_both count [] ds a b = b
 named_both count (c ∷ cs) ds a b = (a.0, named_both count cs ds a.1 b)
@@ -96,14 +103,18 @@ is_scenario h q cs r f = record {
 abbrev pub AlwaysSerial : Type 0
 AlwaysSerial = (sc : Scenario) → IsScenario sc → sc.rule ≡ Held → (choices : List Choice) → is_serial sc (play sc (opening sc) choices) ≡ true
 
+-- under held each state that choices lead to has the database of the serial run
 is_held : AlwaysSerial → (h : History) → IsReplay h → h.scenario.rule ≡ Held → (cs : List Choice) → is_serial h.scenario (reached h cs) ≡ true
 is_held always h r held cs =
     let sc = h.scenario in
     let all = play-append sc (opening sc) (choices_of h.entries) cs ∙ ap (λ (x : State). play sc x cs) (sym r.state) in
     subst (λ (x : State). is_serial sc x ≡ true) all (always sc r.tested held (choices_of h.entries ++ cs))
 
+-- a state that has it does not differ
 differs_not : (sc : Scenario) (kills : Bool) (w : Wanted) (s : State) → is_serial sc s ≡ true → w ≡ wanted.Differs → ShowsIt sc kills w s → ⊥
 differs_not sc kills w s same e shown = false≢true (sym (subst (λ (x : Wanted). ShowsIt sc kills x s) e shown) ∙ same)
 
-pub never_differs : AlwaysSerial → (h : History) (q : Sought) (cs : List Choice) → IsReplay h → h.scenario.rule ≡ Held → q.wanted ≡ wanted.Differs → Finds h q cs → ⊥
+-- so none is found that does
+pub never_differs : AlwaysSerial → (h : History) (q : Sought) (cs : List Choice) → IsReplay h → h.scenario.rule ≡ Held → q.wanted ≡ wanted.Differs
+    → Finds h q cs → ⊥
 never_differs always h q cs r held e f = differs_not h.scenario q.kills q.wanted (reached h cs) (is_held always h r held cs) e f.shows

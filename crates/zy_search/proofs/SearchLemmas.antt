@@ -1,8 +1,8 @@
 -- Paths, the states that they lead to, and what a search knows of them.
-use Rattle.std.proofs.Common.{◌≡◌, ◌∙◌, ℕ, ◌+◌, ◌<◌, ◌≤◌, inl, inr, List, [], ◌∷◌, ◌++◌, length, refl, sym, ap, subst, arith, length-append, Bool, true, false, nat_lt, ◌&&◌, Result, Ok, Err, IfOk}
+use Rattle.std.proofs.Common.{◌≡◌, ◌∙◌, ℕ, ◌+◌, ◌<◌, ◌≤◌, ◌⊎◌, inl, inr, List, [], ◌∷◌, ◌++◌, length, refl, sym, ap, subst, arith, length-append, Bool, true, false, ◌&&◌, Result, Ok, Err, IfOk}
 use Rattle.std.proofs.lemmas.List.{get_or_append_left}
 use Rattle.std.proofs.lemmas.List.Elements.{All-from_get_or}
-use Rattle.std.proofs.lemmas.Bool.Decides.{nat_tests}
+use Rattle.std.proofs.lemmas.Bool.{cases_lt}
 use Rattle.std.proofs.Math.Seq.{get_or-append_seam}
 use Rattle.zy_isa.specs.declared.choice.Choice.{Choice}
 use Rattle.zy_isa.specs.Choices.{names_below}
@@ -23,32 +23,42 @@ use Rattle.zy_search.specs.Visits.{path_at, length_at, IsKnown, IsVisited, Visit
 
 -- ---- choices
 
+-- the first of two
 and_first : (a b : Bool) → (a && b) ≡ true → a ≡ true
 and_first true b e = refl
 and_first false b e = e
 
+-- a choice that is considered names a transaction that is there
 pub named_if : (kills : Bool) (count : ℕ) (c : Choice) → is_considered kills count c ≡ true → names_below count c ≡ true
 named_if kills count c e = and_first (names_below count c) (is_tried kills c) e
 
+-- so do choices
 pub are_named : (kills : Bool) (count : ℕ) (cs : List Choice) → AreConsidered kills count cs → AreNamed count cs
 are_named kills count [] a = tt
 are_named kills count (c ∷ cs) a = (named_if kills count c a.0, are_named kills count cs a.1)
 
-are_more : (kills : Bool) (count : ℕ) (cs : List Choice) (c : Choice) → AreConsidered kills count cs → is_considered kills count c ≡ true → AreConsidered kills count (cs ++ c ∷ [])
+-- one more is considered
+are_more : (kills : Bool) (count : ℕ) (cs : List Choice) (c : Choice) → AreConsidered kills count cs → is_considered kills count c ≡ true
+    → AreConsidered kills count (cs ++ c ∷ [])
 are_more kills count [] c a e = (e, tt)
 are_more kills count (d ∷ cs) c a e = (a.0, are_more kills count cs c a.1 e)
 
-moves_more : (sc : Scenario) (s : State) (cs : List Choice) (c : Choice) → AreMoves sc s cs → is_still (step sc c (play sc s cs)).outcome ≡ false → AreMoves sc s (cs ++ c ∷ [])
+-- something comes of one more
+moves_more : (sc : Scenario) (s : State) (cs : List Choice) (c : Choice) → AreMoves sc s cs → is_still (step sc c (play sc s cs)).outcome ≡ false
+    → AreMoves sc s (cs ++ c ∷ [])
 moves_more sc s [] c a e = (e, tt)
 moves_more sc s (d ∷ cs) c a e = (a.0, moves_more sc (step sc d s).after cs c a.1 e)
 
-pub path_more : (h : History) (q : Sought) (cs : List Choice) (c : Choice) → IsPath h q cs → length h.entries + length cs < 4096 → is_still (step h.scenario c (reached h cs)).outcome ≡ false → is_considered q.kills (length h.scenario.programs) c ≡ true → IsPath h q (cs ++ c ∷ [])
+-- a path that goes on by one choice
+pub path_more : (h : History) (q : Sought) (cs : List Choice) (c : Choice) → IsPath h q cs → length h.entries + length cs < 4096
+    → is_still (step h.scenario c (reached h cs)).outcome ≡ false → is_considered q.kills (length h.scenario.programs) c ≡ true → IsPath h q (cs ++ c ∷ [])
 path_more h q cs c p room moved e = record {
   considered = are_more q.kills (length h.scenario.programs) cs c p.considered e;
   moves = moves_more h.scenario h.state cs c p.moves moved;
   room = omega (arith, room, length-append cs (c ∷ []));
 }
 
+-- where it leads
 pub reached_more : (h : History) (cs : List Choice) (c : Choice) → reached h (cs ++ c ∷ []) ≡ (step h.scenario c (reached h cs)).after
 reached_more h cs c = play-push h.scenario h.state cs c
 
@@ -57,10 +67,12 @@ pub named_front : (count : ℕ) (cs : List Choice) (c : Choice) → AreNamed cou
 named_front count [] c a = tt
 named_front count (d ∷ cs) c a = (a.0, named_front count cs c a.1)
 
+-- and its last choice
 pub named_last : (count : ℕ) (cs : List Choice) (c : Choice) → AreNamed count (cs ++ c ∷ []) → names_below count c ≡ true
 named_last count [] c a = a.0
 named_last count (d ∷ cs) c a = named_last count cs c a.1
 
+-- its length
 pub length_more : (p q : List Choice) (c : Choice) → p ≡ q ++ c ∷ [] → length p ≡ length q + 1
 length_more p q c e = ap (λ (l : List Choice). length l) e ∙ length-append q (c ∷ [])
 
@@ -75,63 +87,77 @@ walked sc s x y p q c e f g =
 abbrev AreBefore : List (List Choice) → ℕ → ℕ → Type 0
 AreBefore ps n d = (j : ℕ) → j < length ps → length_at ps j < d → j < n
 
--- where the paths before n are expanded, d choices from the start lead to a state of a path that is no longer
-goes_on : (h : History) (q : Sought) (ps : List (List Choice)) (n d : ℕ) → AreExpanded h q ps n → AreBefore ps n d → (cs : List Choice) → Considers h q cs → (k : ℕ) → k + length cs ≤ d → (s : State) → IsVisited h ps k s
-    → IsVisited h ps (k + length cs) (play h.scenario s cs)
-goes_on h q ps n d e b [] a k le s r = (r.0, r.1, omega (arith, r.2), r.3)
-goes_on h q ps n d e b (c ∷ cs) a k le s r =
-    let x = e r.0 (b r.0 r.1 (omega (arith, r.2, le))) c a.0 in
-    let y : IsVisited h ps (k + 1) (step h.scenario c s).after = (x.0, x.1, omega (arith, x.2, r.2), x.3 ∙ ap (λ (z : State). (step h.scenario c z).after) r.3) in
-    let z = goes_on h q ps n d e b cs a.1 (k + 1) (omega (arith, le)) (step h.scenario c s).after y in
-    (z.0, z.1, omega (arith, z.2), z.3)
+module _ (h : History) (q : Sought) (ps : List (List Choice)) where
+  -- where the paths before n are expanded, d choices from the start lead to a state of a path that is no longer
+  goes_on : (n d : ℕ) → AreExpanded h q ps n → AreBefore ps n d → (cs : List Choice) → Considers h q cs → (k : ℕ) → k + length cs ≤ d → (s : State)
+      → IsVisited h ps k s
+      → IsVisited h ps (k + length cs) (play h.scenario s cs)
+  goes_on n d e b [] a k le s r = (r.0, r.1, omega (arith, r.2), r.3)
+  goes_on n d e b (c ∷ cs) a k le s r =
+      let x = e r.0 (b r.0 r.1 (omega (arith, r.2, le))) c a.0 in
+      let y : IsVisited h ps (k + 1) (step h.scenario c s).after = (x.0, x.1, omega (arith, x.2, r.2), x.3 ∙ ap (λ (z : State). (step h.scenario c z).after) r.3) in
+      let z = goes_on n d e b cs a.1 (k + 1) (omega (arith, le)) (step h.scenario c s).after y in
+      (z.0, z.1, omega (arith, z.2), z.3)
 
-none_within : (h : History) (q : Sought) (ps : List (List Choice)) (n d : ℕ) → Visits h q ps → AreExpanded h q ps n → AreBefore ps n d → (cs : List Choice) → Considers h q cs → length cs ≤ d → Shows h.scenario q (reached h cs) → ⊥
-none_within h q ps n d v e b cs a le shown =
-    let first = ap (λ (l : List Choice). length l) v.first in
-    let r = goes_on h q ps n d e b cs a 0 (omega (arith, le)) h.state (0, v.some, omega (arith, first), ap (reached h) v.first) in
-    v.none r.0 r.1 (subst (Shows h.scenario q) (sym r.3) shown)
+  module _ (v : Visits h q ps) where
+    -- so none of them leads to a state that shows it
+    none_within : (n d : ℕ) → AreExpanded h q ps n → AreBefore ps n d → (cs : List Choice) → Considers h q cs → length cs ≤ d
+        → Shows h.scenario q (reached h cs) → ⊥
+    none_within n d e b cs a le shown =
+        let first = ap (λ (l : List Choice). length l) v.first in
+        let r = goes_on n d e b cs a 0 (omega (arith, le)) h.state (0, v.some, omega (arith, first), ap (reached h) v.first) in
+        v.none r.0 r.1 (subst (Shows h.scenario q) (sym r.3) shown)
 
--- where all paths are expanded no choices lead to a state that shows it
-pub none_at_all : (h : History) (q : Sought) (ps : List (List Choice)) (n : ℕ) → Visits h q ps → AreExpanded h q ps n → length ps ≤ n → NoneAtAll h q
-none_at_all h q ps n v e le = λ cs a. none_within h q ps n (length cs) v e (λ j lt _. omega (arith, lt, le)) cs a (omega arith)
+    -- where all paths are expanded no choices lead to a state that shows it
+    pub none_at_all : (n : ℕ) → AreExpanded h q ps n → length ps ≤ n → NoneAtAll h q
+    none_at_all n e le = λ cs a. none_within n (length cs) e (λ j lt _. omega (arith, lt, le)) cs a (omega arith)
 
-before : (h : History) (q : Sought) (ps : List (List Choice)) (at j : ℕ) (t : Bool) → nat_lt j at ≡ t → Visits h q ps → j < length ps → length_at ps j < length_at ps at → j < at
-before h q ps at j true w v lt short = grind (arith, nat_tests, w)
-before h q ps at j false w v lt short =
-    let le : at ≤ j = grind (arith, nat_tests, w) in
-    absurd (omega (arith, v.order at j le lt, short))
+    -- a shorter path is an earlier one
+    before : (at j : ℕ) → j < length ps → length_at ps j < length_at ps at → j < at
+    before at j lt short =
+        elim (cases_lt j at) [
+          | inl less ↦ less
+          | inr le ↦ absurd (omega (arith, v.order at j le lt, short))
+        ]
 
--- where those before one are expanded, no choices do that are as many as that one's, or fewer
-pub none_below : (h : History) (q : Sought) (ps : List (List Choice)) (at : ℕ) → Visits h q ps → AreExpanded h q ps at → NoneBelow h q (length_at ps at + 1)
-none_below h q ps at v e = λ cs a lt. none_within h q ps at (length_at ps at) v e (λ j below short. before h q ps at j (nat_lt j at) refl v below short) cs a (omega (arith, lt))
+    -- where those before one are expanded, no choices do that are as many as that one's, or fewer
+    pub none_below : (at : ℕ) → AreExpanded h q ps at → NoneBelow h q (length_at ps at + 1)
+    none_below at e = λ cs a lt. none_within at (length_at ps at) e (before at) cs a (omega (arith, lt))
 
-pub finds_first : (h : History) (q : Sought) (ps : List (List Choice)) (at : ℕ) (cs : List Choice) → Visits h q ps → AreExpanded h q ps at → FindsNext h q ps at cs → FindsFirst h q cs
-finds_first h q ps at cs v e f = record { finds = f.finds; shortest = λ ds a lt. none_below h q ps at v e ds a (omega (arith, lt, f.longer)) }
+    -- so one that is a choice longer and leads there is a shortest
+    pub finds_first : (at : ℕ) (cs : List Choice) → AreExpanded h q ps at → FindsNext h q ps at cs → FindsFirst h q cs
+    finds_first at cs e f = record { finds = f.finds; shortest = λ ds a lt. none_below at e ds a (omega (arith, lt, f.longer)) }
 
--- what was not gone on from, with its length where there may be more paths
-pub spent_below : (h : History) (q : Sought) (old new : List (List Choice)) (at : ℕ) → Visits h q old → at < length old → AreExpanded h q old at → Grows old new → NoneBelow h q (length_at new at + 1)
-spent_below h q old new at v lt e g = λ cs a few. none_below h q old at v e cs a (omega (arith, few, ap (λ (l : List Choice). length l) (g.same at lt)))
+    -- what was not gone on from, with its length where there may be more paths
+    pub spent_below : (new : List (List Choice)) (at : ℕ) → at < length ps → AreExpanded h q ps at → Grows ps new → NoneBelow h q (length_at new at + 1)
+    spent_below new at lt e g = λ cs a few. none_below at e cs a (omega (arith, few, ap (λ (l : List Choice). length l) (g.same at lt)))
 
 -- ---- paths grow
 
+-- no path more
 pub grows_not : (ps : List (List Choice)) → Grows ps ps
 grows_not ps = record { longer = omega arith; same = λ i lt. refl }
 
+-- one path more
 pub grows_push : (ps : List (List Choice)) (p : List Choice) → Grows ps (ps ++ p ∷ [])
 grows_push ps p = record { longer = omega (arith, length-append ps (p ∷ [])); same = λ i lt. get_or_append_left ps (p ∷ []) [] i lt }
 
+-- some paths more, and then others
 pub grows_on : (ps qs rs : List (List Choice)) → Grows ps qs → Grows qs rs → Grows ps rs
 grows_on ps qs rs g h = record {
   longer = omega (arith, g.longer, h.longer);
   same = λ i lt. h.same i (omega (arith, lt, g.longer)) ∙ g.same i lt;
 }
 
+-- a path keeps its length
 length_grown : (ps qs : List (List Choice)) (i : ℕ) → Grows ps qs → i < length ps → length_at qs i ≡ length_at ps i
 length_grown ps qs i g lt = ap (λ (l : List Choice). length l) (g.same i lt)
 
+-- a state that was come to is still one
 pub visited_grown : (h : History) (ps qs : List (List Choice)) (n : ℕ) (x : State) → Grows ps qs → IsVisited h ps n x → IsVisited h qs n x
 visited_grown h ps qs n x g r = (r.0, omega (arith, r.1, g.longer), omega (arith, r.2, length_grown ps qs r.0 g r.1), ap (reached h) (g.same r.0 r.1) ∙ r.3)
 
+-- the state of the last path is one
 pub visited_last : (h : History) (ps : List (List Choice)) (p : List Choice) (n : ℕ) → length p ≤ n → IsVisited h (ps ++ p ∷ []) n (reached h p)
 visited_last h ps p n le =
     let here = get_or-append_seam ps p [] [] in
@@ -141,57 +167,82 @@ visited_last h ps p n le =
 pub near_known : (h : History) (ps : List (List Choice)) (at : ℕ) (x : State) → IsEdge ps at → IsKnown h ps x → IsVisited h ps (length_at ps at + 1) x
 near_known h ps at x edge k = (k.0, k.1, edge.near k.0 k.1, k.2)
 
+-- a path that is expanded still is
 pub expanded_grown : (h : History) (q : Sought) (ps qs : List (List Choice)) (i : ℕ) → Grows ps qs → i < length ps → IsExpanded h q ps i → IsExpanded h q qs i
 expanded_grown h q ps qs i g lt e = λ c a.
     subst (λ (p : List Choice). IsVisited h qs (length p + 1) (step h.scenario c (reached h p)).after) (sym (g.same i lt)) (visited_grown h ps qs _ _ g (e c a))
 
-each_more : (P : List Choice → Type 0) (ps : List (List Choice)) (p : List Choice) (i : ℕ) (t : Bool) → nat_lt i (length ps) ≡ t → ((j : ℕ) → j < length ps → P (path_at ps j)) → P p → i < length (ps ++ p ∷ []) → P (path_at (ps ++ p ∷ []) i)
-each_more P ps p i true w h last lt =
-    let below : i < length ps = grind (arith, nat_tests, w) in
-    subst P (sym (get_or_append_left ps (p ∷ []) [] i below)) (h i below)
-each_more P ps p i false w h last lt =
-    let more = length-append ps (p ∷ []) in
-    let here : i ≡ length ps = grind (arith, nat_tests, w, lt, more) in
-    rw here (subst P (sym (get_or-append_seam ps p [] [])) last)
+-- A path more, behind the others.
+module _ (ps : List (List Choice)) (p : List Choice) where
+  -- an old path stays at its place
+  pub before_it : (i : ℕ) → i < length ps → path_at (ps ++ p ∷ []) i ≡ path_at ps i
+  before_it i lt = get_or_append_left ps (p ∷ []) [] i lt
 
--- a path that is no shorter than the others, behind them
-order_push : (ps : List (List Choice)) (p : List Choice) (i j : ℕ) (t : Bool) → nat_lt j (length ps) ≡ t → ((i j : ℕ) → i ≤ j → j < length ps → length_at ps i ≤ length_at ps j) → ((i : ℕ) → i < length ps → length_at ps i ≤ length p)
-    → i ≤ j → j < length (ps ++ p ∷ []) → length_at (ps ++ p ∷ []) i ≤ length_at (ps ++ p ∷ []) j
-order_push ps p i j true w order short le lt =
-    let below : j < length ps = grind (arith, nat_tests, w) in
-    let a = ap (λ (l : List Choice). length l) (get_or_append_left ps (p ∷ []) [] i (omega (arith, le, below))) in
-    let b = ap (λ (l : List Choice). length l) (get_or_append_left ps (p ∷ []) [] j below) in
-    omega (arith, a, b, order i j le below)
-order_push ps p i j false w order short le lt =
-    let more = length-append ps (p ∷ []) in
-    let here : j ≡ length ps = grind (arith, nat_tests, w, lt, more) in
-    let a = each_more (λ x. length x ≤ length p) ps p i (nat_lt i (length ps)) refl short (omega arith) (omega (arith, le, lt)) in
-    let b = ap (λ (l : List Choice). length l) (get_or-append_seam ps p [] []) in
-    rw here (omega (arith, a, b))
+  -- the new one is behind them
+  pub it : (i : ℕ) → i ≡ length ps → path_at (ps ++ p ∷ []) i ≡ p
+  it i e = rw e (get_or-append_seam ps p [] [])
 
-pub visits_push : (h : History) (q : Sought) (ps : List (List Choice)) (p : List Choice) → Visits h q ps → IsPath h q p → (Shows h.scenario q (reached h p) → ⊥) → ((i : ℕ) → i < length ps → length_at ps i ≤ length p) → AreApart (ps ++ p ∷ []) → Visits h q (ps ++ p ∷ [])
-visits_push h q ps p v path none short apart = record {
-  some = omega (arith, v.some, length-append ps (p ∷ []));
-  first = get_or_append_left ps (p ∷ []) [] 0 v.some ∙ v.first;
-  paths = λ i lt. each_more (IsPath h q) ps p i (nat_lt i (length ps)) refl v.paths path lt;
-  none = λ i lt. each_more (λ x. Shows h.scenario q (reached h x) → ⊥) ps p i (nat_lt i (length ps)) refl v.none none lt;
-  order = λ i j le lt. order_push ps p i j (nat_lt j (length ps)) refl v.order short le lt;
-  apart = apart;
-}
+  -- there is no other place
+  pub old_or_new : (i : ℕ) → i < length (ps ++ p ∷ []) → (i < length ps) ⊎ (i ≡ length ps)
+  old_or_new i lt =
+      elim (cases_lt i (length ps)) [
+        | inl below ↦ inl below
+        | inr le ↦ inr (omega (arith, le, lt, length-append ps (p ∷ [])))
+      ]
 
-pub near_push : (ps : List (List Choice)) (p : List Choice) (at : ℕ) → ((i : ℕ) → i < length ps → length_at ps i ≤ length_at ps at + 1) → at < length ps → length p ≡ length_at ps at + 1
-    → (i : ℕ) → i < length (ps ++ p ∷ []) → length_at (ps ++ p ∷ []) i ≤ length_at (ps ++ p ∷ []) at + 1
-near_push ps p at near lt e = λ i below.
-    let same = ap (λ (l : List Choice). length l) (get_or_append_left ps (p ∷ []) [] at lt) in
-    let le = each_more (λ x. length x ≤ length_at ps at + 1) ps p i (nat_lt i (length ps)) refl near (omega (arith, e)) below in
-    omega (arith, same, le)
+  -- what holds of the old paths and of the new one holds of all
+  each_more : (P : List Choice → Type 0) → ((i : ℕ) → i < length ps → P (path_at ps i)) → P p → (i : ℕ) → i < length (ps ++ p ∷ [])
+      → P (path_at (ps ++ p ∷ []) i)
+  each_more P all last i lt =
+      elim (old_or_new i lt) [
+        | inl below ↦ subst P (sym (before_it i below)) (all i below)
+        | inr here ↦ subst P (sym (it i here)) last
+      ]
 
+  -- one that is no shorter than the others may come behind them
+  order_push : ((i j : ℕ) → i ≤ j → j < length ps → length_at ps i ≤ length_at ps j) → ((i : ℕ) → i < length ps → length_at ps i ≤ length p)
+      → (i j : ℕ) → i ≤ j → j < length (ps ++ p ∷ []) → length_at (ps ++ p ∷ []) i ≤ length_at (ps ++ p ∷ []) j
+  order_push order short i j le lt =
+      elim (old_or_new j lt) [
+        | inl below ↦
+            let a = ap (λ (l : List Choice). length l) (before_it i (omega (arith, le, below))) in
+            let b = ap (λ (l : List Choice). length l) (before_it j below) in
+            omega (arith, a, b, order i j le below)
+        | inr here ↦
+            let a = each_more (λ x. length x ≤ length p) short (omega arith) i (omega (arith, le, lt)) in
+            let b = ap (λ (l : List Choice). length l) (it j here) in
+            omega (arith, a, b)
+      ]
+
+  -- one that leads to no state that shows it, and that is no shorter than the others nor one of them
+  pub visits_push : (h : History) (q : Sought) → Visits h q ps → IsPath h q p → (Shows h.scenario q (reached h p) → ⊥)
+      → ((i : ℕ) → i < length ps → length_at ps i ≤ length p) → AreApart (ps ++ p ∷ [])
+      → Visits h q (ps ++ p ∷ [])
+  visits_push h q v path none short apart = record {
+    some = omega (arith, v.some, length-append ps (p ∷ []));
+    first = before_it 0 v.some ∙ v.first;
+    paths = each_more (IsPath h q) v.paths path;
+    none = each_more (λ x. Shows h.scenario q (reached h x) → ⊥) v.none none;
+    order = order_push v.order short;
+    apart = apart;
+  }
+
+  -- one that is a choice longer than that at a place, where none is longer
+  pub near_push : (at : ℕ) → ((i : ℕ) → i < length ps → length_at ps i ≤ length_at ps at + 1) → at < length ps → length p ≡ length_at ps at + 1
+      → (i : ℕ) → i < length (ps ++ p ∷ []) → length_at (ps ++ p ∷ []) i ≤ length_at (ps ++ p ∷ []) at + 1
+  near_push at near lt e = λ i below.
+      let same = ap (λ (l : List Choice). length l) (before_it at lt) in
+      let le = each_more (λ x. length x ≤ length_at ps at + 1) near (omega (arith, e)) i below in
+      omega (arith, same, le)
+
+-- the place behind an edge is one
 pub edge_next : (h : History) (q : Sought) (ps : List (List Choice)) (at : ℕ) → Visits h q ps → IsEdge ps at → at + 1 < length ps → IsEdge ps (at + 1)
 edge_next h q ps at v edge lt = record {
   near = λ i below. omega (arith, edge.near i below, v.order at (at + 1) (omega arith) lt);
   ends = λ j le. edge.ends j (omega (arith, le));
 }
 
+-- the first place
 one_place : (i : ℕ) → i < 1 → i ≡ 0
 one_place i lt = omega (arith, lt)
 
@@ -206,45 +257,47 @@ visits_first h q room none = record {
   apart = λ i j less lt. absurd (omega (arith, less, lt));
 }
 
+-- the empty path alone has no choice too many
 pub near_first : (i : ℕ) → i < 1 → length_at ([] ∷ []) i ≤ length_at ([] ∷ []) 0 + 1
 near_first i lt = rw (one_place i lt) (omega arith)
 
--- a report has the answer that was found for the same machine
-pub answered : {E : Type 0} (h : History) (q : Sought) (k : History) (p : Sought) (a : Answer) (r : Result Report E) → h ≡ k → q ≡ p → IsAnswer h q a → IfOk r (λ x. x.answer ≡ a) → IfOk r (λ x. IsAnswer k p x.answer)
-answered h q k p a (Ok x) e f is same = subst (IsAnswer k p) (sym same) (subst (λ (s : Sought). IsAnswer k s a) f (subst (λ (g : History). IsAnswer g q a) e is))
-answered h q k p a (Err x) e f is same = tt
+-- what holds of an answer holds of that of a report on it
+pub reported : {E : Type 0} (P : Answer → Type 0) (a : Answer) (r : Result Report E) → P a → IfOk r (λ x. x.answer ≡ a) → IfOk r (λ x. P x.answer)
+reported P a (Ok x) p same = subst P (sym same) p
+reported P a (Err x) p same = tt
 
 -- where no fewer choices lead there, a call that answers so answers well
 pub spent_well : {E : Type 0} (h : History) (q : Sought) (n : ℕ) (r : Result Answer E) → NoneBelow h q n → IfOk r (λ a. a ≡ Spent n) → IfOk r (IsAnswer h q)
 spent_well h q n (Ok a) below e = subst (IsAnswer h q) (sym e) below
 spent_well h q n (Err x) below e = tt
 
--- what is due of an answer is due of that of a report on it
-pub due : {E : Type 0} (h : History) (q : Sought) (most : ℕ) (k : History) (p : Sought) (n : ℕ) (a : Answer) (r : Result Report E) → h ≡ k → q ≡ p → most ≡ n → IsDue h q most a → IfOk r (λ x. x.answer ≡ a) → IfOk r (λ x. IsDue k p n x.answer)
-due h q most k p n a (Ok x) e f g is same =
-    subst (IsDue k p n) (sym same) (subst (λ (m : ℕ). IsDue k p m a) g (subst (λ (s : Sought). IsDue k s most a) f (subst (λ (y : History). IsDue y q most a) e is)))
-due h q most k p n a (Err x) e f g is same = tt
-
-pub spent_due : {E : Type 0} (h : History) (q : Sought) (most n : ℕ) (r : Result Answer E) → IsDue h q most (Spent n) → IfOk r (λ a. a ≡ Spent n) → IfOk r (IsDue h q most)
+-- the same of what is due
+pub spent_due : {E : Type 0} (h : History) (q : Sought) (most n : ℕ) (r : Result Answer E) → IsDue h q most (Spent n) → IfOk r (λ a. a ≡ Spent n)
+    → IfOk r (IsDue h q most)
 spent_due h q most n (Ok a) is e = subst (IsDue h q most) (sym e) is
 spent_due h q most n (Err x) is e = tt
 
-abbrev IsKept : History → Sought → ℕ → List Choice → Type 0
-IsKept h q n cs = IsPath h q cs × (length cs ≤ n) × (Shows h.scenario q (reached h cs) → ⊥)
+-- a path of at most n choices that leads to no state that shows it
+abbrev IsCounted : History → Sought → ℕ → List Choice → Type 0
+IsCounted h q n cs = IsPath h q cs × (length cs ≤ n) × (Shows h.scenario q (reached h cs) → ⊥)
 
 -- as many paths as there may be, none of them much longer than that at a place
-pub fills : (h : History) (q : Sought) (most at : ℕ) (ps : List (List Choice)) → Visits h q ps → IsEdge ps at → most ≤ length ps → Fills h q most (length_at ps at + 1)
+pub fills : (h : History) (q : Sought) (most at : ℕ) (ps : List (List Choice)) → Visits h q ps → IsEdge ps at → most ≤ length ps
+    → Fills h q most (length_at ps at + 1)
 fills h q most at ps v edge many = record {
   paths = ps;
   many = many;
   apart = v.apart;
-  each = All-from_get_or (IsKept h q (length_at ps at + 1)) ps [] (λ i lt. (v.paths i lt, edge.near i lt, v.none i lt));
+  each = All-from_get_or (IsCounted h q (length_at ps at + 1)) ps [] (λ i lt. (v.paths i lt, edge.near i lt, v.none i lt));
 }
 
-pub stops : (h : History) (q : Sought) (most at : ℕ) (old new : List (List Choice)) → at < length old → StopsAt h q most old new at → IsDue h q most (Spent (length_at new at + 1))
+-- a search that can go on no more may give up
+pub stops : (h : History) (q : Sought) (most at : ℕ) (old new : List (List Choice)) → at < length old → StopsAt h q most old new at
+    → IsDue h q most (Spent (length_at new at + 1))
 stops h q most at old new lt (inl full) = inl (fills h q most at new full.visits full.near full.many)
 stops h q most at old new lt (inr x) = inr (omega (arith, x.1, ap (λ (l : List Choice). length l) (x.0.same at lt)))
 
+-- no path has gone
 pub stops_grown : (h : History) (q : Sought) (most at : ℕ) (old new : List (List Choice)) → StopsAt h q most old new at → Grows old new
 stops_grown h q most at old new (inl full) = full.grows
 stops_grown h q most at old new (inr x) = x.0

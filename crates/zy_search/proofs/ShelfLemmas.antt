@@ -16,6 +16,7 @@ pub in_any_case : {X E : Type 0} (P : Type 0) (r : Result X E) → P → OnOk r 
 in_any_case P (Ok x) p = p
 in_any_case P (Err e) p = tt
 
+-- a machine where a path leads is there, whatever paths are added
 pub here_grown : (h : History) (ps qs : List (List Choice)) (at : ℕ) (m : History) → Grows ps qs → at < length ps → IsHere h ps at m → IsHere h qs at m
 here_grown h ps qs at m g lt x = record {
   scenario = x.scenario;
@@ -23,7 +24,9 @@ here_grown h ps qs at m g lt x = record {
   entries = omega (arith, x.entries, ap (λ (p : List Choice). length p) (g.same at lt));
 }
 
-named_grown : (h : History) (ps qs : List (List Choice)) (m : History) (o : Option ℕ) → Grows ps qs → IfSome o (λ at. (at < length ps) × IsHere h ps at m) → IfSome o (λ at. (at < length qs) × IsHere h qs at m)
+-- so is that of a spot, if it has one
+named_grown : (h : History) (ps qs : List (List Choice)) (m : History) (o : Option ℕ) → Grows ps qs → IfSome o (λ at. (at < length ps) × IsHere h ps at m)
+    → IfSome o (λ at. (at < length qs) × IsHere h qs at m)
 named_grown h ps qs m None g x = tt
 named_grown h ps qs m (Some at) g x = (omega (arith, x.0, g.longer), here_grown h ps qs at m g x.0 x.1)
 
@@ -35,7 +38,8 @@ shelf_grown h ps qs s g x = record {
 }
 
 -- a machine that has made one choice more is where the new path leads
-pub next_here : (h : History) (ps : List (List Choice)) (at : ℕ) (c : Choice) (m : History) → IsNext h ps at c m → IsHere h (ps ++ (path_at ps at ++ c ∷ []) ∷ []) (length ps) m
+pub next_here : (h : History) (ps : List (List Choice)) (at : ℕ) (c : Choice) (m : History) → IsNext h ps at c m
+    → IsHere h (ps ++ (path_at ps at ++ c ∷ []) ∷ []) (length ps) m
 next_here h ps at c m n =
     let p = path_at ps at ++ c ∷ [] in
     let here = get_or-append_seam ps p [] [] in
@@ -46,21 +50,24 @@ next_here h ps at c m n =
     }
 
 -- the machine of the new path is put there
-pub kept : (h : History) (ps qs : List (List Choice)) (at place : ℕ) (c : Choice) (m : History) (old new : Shelf) → IsNext h ps at c m → IsShelf h ps old → qs ≡ ps ++ (path_at ps at ++ c ∷ []) ∷ [] → place ≡ length ps
-    → ((k : History) (rs : List (List Choice)) → IsShelf k rs old → place < length rs → IsHere k rs place m → IsShelf k rs new) → IsShelf h qs new
-kept h ps qs at place c m old new n s e f put =
-    let p = path_at ps at ++ c ∷ [] in
-    let there = subst (λ (i : ℕ). IsHere h (ps ++ p ∷ []) i m) (sym f) (next_here h ps at c m n) in
-    subst (λ (rs : List (List Choice)). IsShelf h rs new) (sym e)
-    (put h (ps ++ p ∷ []) (shelf_grown h ps (ps ++ p ∷ []) old (grows_push ps p) s) (omega (arith, f, length-append ps (p ∷ []))) there)
+module _ (h : History) (ps : List (List Choice)) (at : ℕ) (c : Choice) (m : History) (n : IsNext h ps at c m) where
+  pub kept : (qs : List (List Choice)) (place : ℕ) (old new : Shelf) → qs ≡ ps ++ (path_at ps at ++ c ∷ []) ∷ [] → place ≡ length ps → IsShelf h ps old
+      → (IsShelf h qs old → place < length qs → IsHere h qs place m → IsShelf h qs new) → IsShelf h qs new
+  kept qs place old new e f s put =
+      let p = path_at ps at ++ c ∷ [] in
+      let grown = subst (λ (rs : List (List Choice)). IsShelf h rs old) (sym e) (shelf_grown h ps (ps ++ p ∷ []) old (grows_push ps p) s) in
+      let there = subst (λ (rs : List (List Choice)). IsHere h rs place m) (sym e) (subst (λ (i : ℕ). IsHere h (ps ++ p ∷ []) i m) (sym f) (next_here h ps at c m n)) in
+      put grown (omega (arith, f, ap (λ (rs : List (List Choice)). length rs) e, length-append ps (p ∷ []))) there
 
 -- a second machine that has become a copy of the first one
-pub second : (h m : History) (twin : Twin) → twin.machine.scenario ≡ h.scenario → m.scenario ≡ h.scenario → (twin.is_back ≡ true → twin.machine ≡ m) → IsSecond m twin
+pub second : (h m : History) (twin : Twin) → twin.machine.scenario ≡ h.scenario → m.scenario ≡ h.scenario → (twin.is_back ≡ true → twin.machine ≡ m)
+    → IsSecond m twin
 second h m twin e f back = record {
   scenario = e ∙ sym f;
   back = λ b. let same = back b in rw same (record { scenario = refl; state = refl; entries = omega arith });
 }
 
+-- one spot alone
 pub one_spot : (h : History) (ps : List (List Choice)) (spot : Spot) → IsSpot h ps spot → All (IsSpot h ps) (spot ∷ [])
 one_spot h ps spot is zero d lt = is
 one_spot h ps spot is (suc k) d lt = absurd (omega (arith, lt))

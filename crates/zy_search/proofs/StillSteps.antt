@@ -42,19 +42,23 @@ use Rattle.zy_search.proofs.SearchLemmas.{grows_not}
 abbrev Stays : View → Move → Type 0
 Stays v m = is_still m.outcome ≡ true → m.after ≡ v
 
+-- something comes of it
 never : {X : Type 0} → false ≡ true → X
 never e = absurd (false≢true e)
 
+-- an abort
 aborts : (t : ℕ) (w : Why) (s v : View) → Stays v (abort_row t w s)
 unfolding abort_row
 aborts t w s v = never
 
+-- a register is set
 sets : (t : ℕ) (r : Reg) (x : ℕ) (s v : View) → Stays v (set_row t r x s)
 unfolding set_row
 sets t r x s v = never
 
 -- ---- run
 
+-- a row on a full page
 full : (sc : Scenario) (t k p : ℕ) (s v : View) → Stays v (full_row sc t k p s)
 unfolding full_row split_row
 full sc t k p s v =
@@ -64,6 +68,7 @@ full sc t k p s v =
     (λ _. aborts t _ s v)
     (λ _. never))
 
+-- a row is inserted
 inserts : (sc : Scenario) (t k x p : ℕ) (s v : View) → Stays v (insert_row sc t k x p s)
 unfolding insert_row
 inserts sc t k x p s v =
@@ -73,6 +78,7 @@ inserts sc t k x p s v =
     (λ _. never)
     (λ _. full sc t k p s v))
 
+-- a row is written
 writes : (t k x p : ℕ) (s v : View) → Stays v (write_row t k x p s)
 unfolding write_row
 writes t k x p s v =
@@ -80,12 +86,14 @@ writes t k x p s v =
     (λ _. never)
     (λ _. aborts t _ s v)
 
+-- a page that is here and free is accessed
 accesses : (sc : Scenario) (t : ℕ) (x : Access) (k p : ℕ) (s v : View) → Stays v (access_row sc t x k p s)
 unfolding access_row read_row
 accesses sc t (Reads r) k p s v = never
 accesses sc t (Writes x) k p s v = writes t k x p s v
 accesses sc t (Inserts x) k p s v = inserts sc t k x p s v
 
+-- a page that is not here
 absent : (t p : ℕ) (v : View) → Stays v (absent_row t p v)
 unfolding absent_row
 absent t p v =
@@ -95,6 +103,7 @@ absent t p v =
     (λ _ _. refl)
     (λ _. never))
 
+-- an access to a page
 on_page : (sc : Scenario) (t : ℕ) (x : Access) (k p : ℕ) (v : View) → Stays v (page_row sc t x k p v)
 unfolding page_row
 on_page sc t x k p v =
@@ -104,6 +113,7 @@ on_page sc t x k p v =
     (λ _ _. refl)
     (λ _. accesses sc t x k p (locked t p (lock_of x) v) v))
 
+-- an access by key
 on_key : (sc : Scenario) (t : ℕ) (x : Access) (k : ℕ) (v : View) → Stays v (key_row sc t x k v)
 unfolding key_row
 on_key sc t x k v =
@@ -111,16 +121,19 @@ on_key sc t x k v =
     (λ _. aborts t _ v v)
     (λ _. on_page sc t x k _ v)
 
+-- a sum, where a page may be locked
 sum_waits : (t : ℕ) (r : Reg) (a b : ℕ) (o : Option ℕ) (v : View) → Stays v (sum_or_waits t r a b o v)
 unfolding sum_or_waits sum_row
 sum_waits t r a b (Some p) v = λ _. refl
 sum_waits t r a b None v = sets t r _ _ v
 
+-- a sum, where a page may be away
 sum_asks : (t : ℕ) (r : Reg) (a b : ℕ) (o : Option ℕ) (v : View) → Stays v (sum_or_asks t r a b o v)
 unfolding sum_or_asks
 sum_asks t r a b (Some p) v = absent t p v
 sum_asks t r a b None v = sum_waits t r a b _ v
 
+-- a sum
 sums : (t : ℕ) (r : Reg) (a b : ℕ) (v : View) → Stays v (range_row t r a b v)
 unfolding range_row
 sums t r a b v =
@@ -130,11 +143,13 @@ sums t r a b v =
     (λ _. aborts t _ v v)
     (λ _. sum_asks t r a b _ v))
 
+-- a commit
 commits : (t : ℕ) (o : Option ℕ) (v : View) → Stays v (commit_or_gone t o v)
 unfolding commit_or_gone
 commits t (Some p) v = aborts t _ v v
 commits t None v = never
 
+-- an effect
 effects : (sc : Scenario) (t : ℕ) (e : Effect) (v : View) → Stays v (effect_row sc t e v)
 unfolding effect_row jump_row commit_row
 effects sc t (Sets r x) v = sets t r x v v
@@ -144,11 +159,13 @@ effects sc t (Sums r a b) v = sums t r a b v
 effects sc t Commits v = commits t _ v
 effects sc t Aborts v = aborts t _ v v
 
+-- an instruction
 instr : (sc : Scenario) (t : ℕ) (o : Option Instr) (regs : List ℕ) (v : View) → Stays v (instr_row sc t o regs v)
 unfolding instr_row
 instr sc t None regs v = λ _. refl
 instr sc t (Some i) regs v = effects sc t (effect_of i regs) v
 
+-- a node runs a transaction
 runs : (sc : Scenario) (n : Node) (t : ℕ) (v : View) → Stays v (run_row sc n t v)
 unfolding run_row
 runs sc n t v =
@@ -162,6 +179,7 @@ runs sc n t v =
 
 -- ---- the client
 
+-- a migration starts
 starts : (v : View) → Stays v (start_row v)
 unfolding start_row
 starts v =
@@ -169,11 +187,13 @@ starts v =
     (λ _. never)
     (λ _ _. refl)
 
+-- a transaction begins at a node, if there is one
 begins_at : (o : Option Node) (t : ℕ) (v : View) → Stays v (begin_at o t v)
 unfolding begin_at
 begins_at None t v = λ _. refl
 begins_at (Some n) t v = never
 
+-- a transaction begins
 begins : (t : ℕ) (v : View) → Stays v (begin_row t v)
 unfolding begin_row
 begins t v =
@@ -181,6 +201,7 @@ begins t v =
     (λ _. begins_at _ t v)
     (λ _ _. refl)
 
+-- one is killed
 kills : (t : ℕ) (v : View) → Stays v (kill_row t v)
 unfolding kill_row
 kills t v =
@@ -190,6 +211,7 @@ kills t v =
 
 -- ---- take, finish, push
 
+-- a message that is taken is something
 got_is_no_rest : (m : Message) → is_still (got m) ≡ false
 got_is_no_rest (Wire lows) = refl
 got_is_no_rest Ready = refl
@@ -199,11 +221,13 @@ got_is_no_rest (Page leaf) = refl
 got_is_no_rest Finish = refl
 got_is_no_rest Done = refl
 
+-- a message is taken, or is stray
 takes_got : (row : MsgRow) (m : Message) (v r : View) → Stays v (got_row row m v r)
 unfolding got_row
 takes_got Stray m v r = λ _. refl
 takes_got (Turns mode sent) m v r = λ e. never (sym (got_is_no_rest m) ∙ e)
 
+-- a page is asked for
 takes_pull : (sc : Scenario) (p : ℕ) (row : MsgRow) (v r : View) → Stays v (pull_row sc p row v r)
 unfolding pull_row
 takes_pull sc p Stray v r = λ _. refl
@@ -214,6 +238,7 @@ takes_pull sc p (Turns mode sent) v r =
     (λ _ _. refl)
     (λ _. never))
 
+-- any message
 takes_message : (sc : Scenario) (m : Message) (v r : View) → Stays v (message_row sc m v r)
 unfolding message_row
 takes_message sc (Wire lows) v r = takes_got _ (Wire lows) v r
@@ -224,30 +249,36 @@ takes_message sc (Page leaf) v r = takes_got _ (Page leaf) v r
 takes_message sc Finish v r = takes_got _ Finish v r
 takes_message sc Done v r = takes_got _ Done v r
 
+-- the first message, if there is one
 takes_front : (sc : Scenario) (ms : List Message) (v : View) → Stays v (front_row sc ms v)
 unfolding front_row
 takes_front sc [] v = λ _. refl
 takes_front sc (m ∷ ms) v = takes_message sc m v (record v { inbox = ms })
 
+-- a node takes
 takes : (sc : Scenario) (v : View) → Stays v (take_row sc v)
 unfolding take_row
 takes sc v = takes_front sc v.inbox v
 
+-- a node ends its part, if it may
 finishes_if : (row : FinRow) (t : ℕ) (v : View) → Stays v (finish_if row t v)
 unfolding finish_if
 finishes_if fin.BadMode t v = λ _. refl
 finishes_if fin.Active t v = λ _. refl
 finishes_if fin.Finishing t v = never
 
+-- a node ends its part
 finishes : (n : Node) (v : View) → Stays v (finish_row n v)
 unfolding finish_row
 finishes n v = finishes_if _ _ v
 
+-- a node pushes a page, if it has one
 pushes_if : (o : Option ℕ) (v : View) → Stays v (push_if o v)
 unfolding push_if
 pushes_if None v = λ _. refl
 pushes_if (Some p) v = never
 
+-- a node pushes
 pushes : (v : View) → Stays v (push_row v)
 unfolding push_row
 pushes v =
@@ -255,6 +286,7 @@ pushes v =
     (λ _. pushes_if _ v)
     (λ _ _. refl)
 
+-- any choice, seen from a node
 moves : (sc : Scenario) (c : Choice) (n : Node) (v : View) → Stays v (move sc c v)
 unfolding move
 moves sc Start n v = starts v
@@ -265,10 +297,12 @@ moves sc (Take m) n v = takes sc v
 moves sc (Finish_at m) n v = finishes m v
 moves sc (Push m) n v = pushes v
 
+-- a state seen from a node is that state
 back : (n : Node) (s : State) → seen_from n (facing n s) ≡ s
 back A s = refl
 back B s = refl
 
+-- any choice
 pub still_stays : (sc : Scenario) (c : Choice) (s : State) → is_still (step sc c s).outcome ≡ true → (step sc c s).after ≡ s
 unfolding step
 still_stays sc c s e =
@@ -280,7 +314,8 @@ pub longer_by : (old new : List Entry) (e : Entry) → new ≡ old ++ e ∷ [] �
 longer_by old new e is = omega (arith, ap (λ (es : List Entry). length es) is, length-append old (e ∷ []))
 
 -- a step that nothing comes of, on a twin: it stays one
-pub twin_still : (m old new : History) (c : Choice) → IsTwin m old → new.scenario ≡ old.scenario → new.state ≡ (step old.scenario c old.state).after → length old.entries < length new.entries
+pub twin_still : (m old new : History) (c : Choice) → IsTwin m old → new.scenario ≡ old.scenario → new.state ≡ (step old.scenario c old.state).after
+    → length old.entries < length new.entries
     → is_still (step old.scenario c old.state).outcome ≡ true → IsTwin m new
 twin_still m old new c t e f longer still = record {
   scenario = e ∙ t.scenario;
@@ -288,37 +323,33 @@ twin_still m old new c t e f longer still = record {
   entries = omega (arith, t.entries, longer);
 }
 
--- a twin's step is that of the first machine
-pub twin_step : (m twin : History) (c : Choice) → IsTwin m twin → step twin.scenario c twin.state ≡ step m.scenario c m.state
-twin_step m twin c t = ap (λ (sc : Scenario). step sc c twin.state) t.scenario ∙ ap (step m.scenario c) t.state
+-- A machine where the path at a place leads makes a choice, and this comes of it.
+module _ (h m : History) (ps : List (List Choice)) (at : ℕ) (here : IsHere h ps at m) (c : Choice) (o : Outcome) (out : o ≡ (step m.scenario c m.state).outcome) where
+  -- the step is that from the path's state
+  here_step : step m.scenario c m.state ≡ step h.scenario c (reached h (path_at ps at))
+  here_step = ap (λ (sc : Scenario). step sc c m.state) here.scenario ∙ ap (step h.scenario c) here.state
 
--- the step of a machine where a path leads is that from the path's state
-pub here_step : (h m : History) (ps : List (List Choice)) (at : ℕ) (c : Choice) → IsHere h ps at m → step m.scenario c m.state ≡ step h.scenario c (reached h (path_at ps at))
-here_step h m ps at c here = ap (λ (sc : Scenario). step sc c m.state) here.scenario ∙ ap (step h.scenario c) here.state
+  -- so is what comes of it
+  same_still : is_still o ≡ is_still (step h.scenario c (reached h (path_at ps at))).outcome
+  same_still = ap is_still out ∙ ap (λ (x : Step). is_still x.outcome) here_step
 
--- a choice that nothing comes of leads to the state of the path itself
-pub still_known : (h m : History) (q : Sought) (ps : List (List Choice)) (at : ℕ) (c : Choice) (o : Outcome) → Visits h q ps → IsEdge ps at → at < length ps → IsHere h ps at m
-    → o ≡ (step m.scenario c m.state).outcome → is_still o ≡ true → Notes h q ps ps at c
-still_known h m q ps at c o v near lt here oe f =
-    let still : is_still (step h.scenario c (reached h (path_at ps at))).outcome ≡ true =
-    sym (ap (λ (x : Step). is_still x.outcome) (here_step h m ps at c here)) ∙ (sym (ap is_still oe) ∙ f) in
-    record {
-      visits = v;
-      near = near;
-      grows = grows_not ps;
-      known = (at, lt, omega arith, sym (still_stays h.scenario c (reached h (path_at ps at)) still));
-      more = inl refl;
-    }
+  -- where that is nothing, the choice leads to the state of the path itself
+  pub still_known : (q : Sought) → Visits h q ps → IsEdge ps at → at < length ps → is_still o ≡ true → Notes h q ps ps at c
+  still_known q v near lt f = record {
+    visits = v;
+    near = near;
+    grows = grows_not ps;
+    known = (at, lt, omega arith, sym (still_stays h.scenario c (reached h (path_at ps at)) (sym same_still ∙ f)));
+    more = inl refl;
+  }
 
--- what a choice of which something comes has led a twin to
-pub next : (h m x : History) (ps : List (List Choice)) (at : ℕ) (c : Choice) (o : Outcome) → IsHere h ps at m → x.scenario ≡ m.scenario → o ≡ (step m.scenario c m.state).outcome → x.state ≡ (step m.scenario c m.state).after → is_still o ≡ false
-    → length m.entries < length x.entries → length x.entries < 4096 → IsNext h ps at c x
-next h m x ps at c o here e oe f still longer room =
-    let same = here_step h m ps at c here in
-    record {
-      scenario = e ∙ here.scenario;
-      state = f ∙ ap (λ (y : Step). y.after) same;
-      moved = sym (ap (λ (y : Step). is_still y.outcome) same) ∙ (sym (ap is_still oe) ∙ still);
-      longer = omega (arith, here.entries, longer);
-      room = room;
-    }
+  -- where it is something, a machine that has made the choice is one choice further
+  pub next : (x : History) → x.scenario ≡ m.scenario → x.state ≡ (step m.scenario c m.state).after → is_still o ≡ false → length m.entries < length x.entries
+      → length x.entries < 4096 → IsNext h ps at c x
+  next x e f moved longer room = record {
+    scenario = e ∙ here.scenario;
+    state = f ∙ ap (λ (y : Step). y.after) here_step;
+    moved = sym same_still ∙ moved;
+    longer = omega (arith, here.entries, longer);
+    room = room;
+  }

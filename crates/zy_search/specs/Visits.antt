@@ -8,6 +8,7 @@ use Rattle.zy_table.specs.Play.{step}
 use Rattle.zy_machine.specs.Histories.{History}
 use Rattle.zy_search.specs.declared.sought.Sought.{Sought}
 use Rattle.zy_search.specs.declared.plan.Plan.{Plan}
+use Rattle.zy_search.specs.declared.branch.Branch.{Branch}
 use Rattle.zy_search.specs.declared.twin.Twin.{Twin}
 use Rattle.zy_search.specs.declared.shelf.Spot.{Spot}
 use Rattle.zy_search.specs.declared.shelf.Shelf.{Shelf}
@@ -108,6 +109,29 @@ pub record IsShelf (h : History) (paths : List (List Choice)) (shelf : Shelf) : 
   pub spots : All (IsSpot h paths) shelf.spots.items
   pub spare : shelf.spare.scenario ≡ h.scenario
 
+-- what a search has come to: paths, and machines where some of them lead
+pub record IsKept (p : Plan) (paths : List (List Choice)) (machines : Shelf) : Type 0 where
+  pub visits : Visits p.start p.sought paths
+  pub shelf : IsShelf p.start paths machines
+
+-- it begins, with the empty path alone
+pub record Begins (p : Plan) (paths : List (List Choice)) (shelf : Shelf) : Type 0 where
+  pub whole : IsWhole p
+  pub kept : IsKept p paths shelf
+  pub first : paths ≡ [] ∷ []
+
+-- it is ready to go on from the path at a place
+pub record IsReady (p : Plan) (paths : List (List Choice)) (shelf : Shelf) (at : ℕ) : Type 0 where
+  pub whole : IsWhole p
+  pub kept : IsKept p paths shelf
+  pub near : IsEdge paths at
+  pub there : at < length paths
+
+-- it considers the choice of a branch, and no path goes on so yet
+pub record IsUntried (p : Plan) (paths : List (List Choice)) (b : Branch) : Type 0 where
+  pub considered : is_considered p.sought.kills (length p.start.scenario.programs) b.by ≡ true
+  pub fresh : IsFresh paths b.from b.by
+
 -- the paths of old are at their places in new
 pub record Grows (old new : List (List Choice)) : Type 0 where
   pub longer : length old ≤ length new
@@ -134,10 +158,11 @@ pub record IsFull (h : History) (q : Sought) (most : ℕ) (old new : List (List 
   pub grows : Grows old new
   pub many : most ≤ length new
 
-abbrev pub MeetsWell : History → Sought → ℕ → List (List Choice) → List (List Choice) → ℕ → Choice → Met → Type 0
-MeetsWell h q most old new at c met.Noted = Notes h q old new at c
-MeetsWell h q most old new at c met.Shown = ShowsNext h q old new at c
-MeetsWell h q most old new at c met.Spent = IsFull h q most old new at
+-- what a choice has led to, where the paths went from old to new
+abbrev pub MeetsWell : Plan → List (List Choice) → List (List Choice) → Branch → Met → Type 0
+MeetsWell p old new b met.Noted = Notes p.start p.sought old new b.from b.by
+MeetsWell p old new b met.Shown = ShowsNext p.start p.sought old new b.from b.by
+MeetsWell p old new b met.Spent = IsFull p.start p.sought p.most old new b.from
 
 -- each choice from the state of the path at a place leads to a state of one of the paths
 pub record Expands (h : History) (q : Sought) (old new : List (List Choice)) (at : ℕ) : Type 0 where
@@ -155,7 +180,8 @@ pub record FindsNext (h : History) (q : Sought) (old : List (List Choice)) (at :
 abbrev pub StopsAt : History → Sought → ℕ → List (List Choice) → List (List Choice) → ℕ → Type 0
 StopsAt h q most old new at = IsFull h q most old new at ⊎ (Grows old new × (4096 ≤ length h.entries + length_at old at + 1))
 
-abbrev pub ExpandsWell : History → Sought → ℕ → List (List Choice) → List (List Choice) → ℕ → Expanded → Type 0
-ExpandsWell h q most old new at expanded.Whole = Expands h q old new at
-ExpandsWell h q most old new at (expanded.Found v) = FindsNext h q old at v.items
-ExpandsWell h q most old new at expanded.Spent = StopsAt h q most old new at
+-- what all considered choices from the path at a place have led to
+abbrev pub ExpandsWell : Plan → List (List Choice) → List (List Choice) → ℕ → Expanded → Type 0
+ExpandsWell p old new at expanded.Whole = Expands p.start p.sought old new at
+ExpandsWell p old new at (expanded.Found v) = FindsNext p.start p.sought old at v.items
+ExpandsWell p old new at expanded.Spent = StopsAt p.start p.sought p.most old new at

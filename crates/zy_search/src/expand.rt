@@ -1,10 +1,10 @@
 //! What the choices from one state lead to.
 ghost use Rattle.std.specs.Prelude.{◌≡◌, ◌≤◌, ◌<◌, ◌+◌, ◌^◌, ◌++◌, ◌∷◌, [], IfOk, OnOk, None, true, false, length};
 ghost use Rattle.zy_isa.specs.declared.choice.Choice.{Choice as AChoice};
-ghost use Rattle.zy_search.specs.Choices.{is_considered};
-ghost use Rattle.zy_search.specs.Visits.{path_at, length_at, IsWhole, IsKnown, IsFresh, IsHere, IsNext, IsSecond, IsShelf, Visits, IsEdge, Grows, MeetsWell, ExpandsWell};
+ghost use Rattle.zy_search.specs.Visits.{path_at, length_at, IsKnown, IsFresh, IsHere, IsKept, IsNext, IsReady, IsSecond, IsShelf, IsUntried, Grows, MeetsWell, ExpandsWell};
 
 use crate::answer::{Expanded, Met};
+use crate::branch::Branch;
 use crate::digest::digest;
 use crate::plan::Plan;
 use crate::shelf::Shelf;
@@ -29,8 +29,7 @@ fn is_known(
     machine: &Machine,
     digest: u64,
 ) -> Result<bool, Fault>
-    requires visits { Visits plan.now.start plan.now.sought visited.now }
-    requires shelf { IsShelf plan.now.start visited.now shelf.old }
+    requires kept { IsKept plan.now visited.now shelf.old }
     ensures known { IfOk result (λ b. b ≡ true → IsKnown plan.now.start visited.now machine.now.state) }
     ensures shelf { OnOk result (IsShelf plan.now.start visited.now shelf.new) }
 {
@@ -48,8 +47,7 @@ fn free_under(
     shelf: &mut Shelf,
     machine: &Machine,
 ) -> Result<Option<u64>, Fault>
-    requires visits { Visits plan.now.start plan.now.sought visited.now }
-    requires shelf { IsShelf plan.now.start visited.now shelf.old }
+    requires kept { IsKept plan.now visited.now shelf.old }
     ensures known { IfOk result (λ free. free ≡ None → IsKnown plan.now.start visited.now machine.now.state) }
     ensures shelf { OnOk result (IsShelf plan.now.start visited.now shelf.new) }
 {
@@ -71,23 +69,22 @@ fn keep(
     plan: &Plan,
     visited: &mut Visited,
     shelf: &mut Shelf,
-    at: u32,
-    choice: Choice,
+    branch: Branch,
     here: &Machine,
     twin: &mut Twin,
     digest: u64,
 ) -> Result<(), Fault>
     requires room { length visited.old < 2 ^ 32 }
-    requires at { at < length visited.old }
+    requires from { branch.from < length visited.old }
     requires here { here.now.scenario ≡ plan.now.start.scenario }
-    requires next { IsNext plan.now.start visited.old at choice twin.old.machine }
+    requires next { IsNext plan.now.start visited.old branch.from branch.by twin.old.machine }
     requires shelf { IsShelf plan.now.start visited.old shelf.old }
-    ensures paths { OnOk result (visited.new ≡ visited.old ++ (path_at visited.old at ++ choice ∷ []) ∷ []) }
+    ensures paths { OnOk result (visited.new ≡ visited.old ++ (path_at visited.old branch.from ++ branch.by ∷ []) ∷ []) }
     ensures shelf { OnOk result (IsShelf plan.now.start visited.new shelf.new) }
     ensures twin { OnOk result (IsSecond here.now twin.new) }
 {
     let place = visited.len() as u32;
-    visited.push(at, choice, digest)?;
+    visited.push(branch, digest)?;
     twin.is_back = shelf.put(plan.alloc, place, &mut twin.machine, here)?;
     Ok(())
 }
@@ -97,23 +94,17 @@ fn note_new(
     plan: &Plan,
     visited: &mut Visited,
     shelf: &mut Shelf,
-    at: u32,
-    choice: Choice,
+    branch: Branch,
     here: &Machine,
     twin: &mut Twin,
     digest: u64,
 ) -> Result<Met, Fault>
-    requires whole { IsWhole plan.now }
-    requires visits { Visits plan.now.start plan.now.sought visited.old }
-    requires near { IsEdge visited.old at }
-    requires at { at < length visited.old }
-    requires considered { is_considered plan.now.sought.kills (length plan.now.start.scenario.programs) choice ≡ true }
-    requires fresh { IsFresh visited.old at choice }
-    requires here { IsHere plan.now.start visited.old at here.now }
-    requires next { IsNext plan.now.start visited.old at choice twin.old.machine }
+    requires ready { IsReady plan.now visited.old shelf.old branch.from }
+    requires choice { IsUntried plan.now visited.old branch }
+    requires here { IsHere plan.now.start visited.old branch.from here.now }
+    requires next { IsNext plan.now.start visited.old branch.from branch.by twin.old.machine }
     requires away { twin.old.is_back ≡ false }
-    requires shelf { IsShelf plan.now.start visited.old shelf.old }
-    ensures well { IfOk result (MeetsWell plan.now.start plan.now.sought plan.now.most visited.old visited.new at choice) }
+    ensures well { IfOk result (MeetsWell plan.now visited.old visited.new branch) }
     ensures shelf { OnOk result (IsShelf plan.now.start visited.new shelf.new) }
     ensures twin { OnOk result (IsSecond here.now twin.new) }
 {
@@ -130,7 +121,7 @@ fn note_new(
     if plan.most as usize <= visited.len() {
         return Ok(Met::Spent);
     }
-    keep(plan, visited, shelf, at, choice, here, twin, digest)?;
+    keep(plan, visited, shelf, branch, here, twin, digest)?;
     Ok(Met::Noted)
 }
 
@@ -139,28 +130,22 @@ fn note(
     plan: &Plan,
     visited: &mut Visited,
     shelf: &mut Shelf,
-    at: u32,
-    choice: Choice,
+    branch: Branch,
     here: &Machine,
     twin: &mut Twin,
 ) -> Result<Met, Fault>
-    requires whole { IsWhole plan.now }
-    requires visits { Visits plan.now.start plan.now.sought visited.old }
-    requires near { IsEdge visited.old at }
-    requires at { at < length visited.old }
-    requires considered { is_considered plan.now.sought.kills (length plan.now.start.scenario.programs) choice ≡ true }
-    requires fresh { IsFresh visited.old at choice }
-    requires here { IsHere plan.now.start visited.old at here.now }
-    requires next { IsNext plan.now.start visited.old at choice twin.old.machine }
+    requires ready { IsReady plan.now visited.old shelf.old branch.from }
+    requires choice { IsUntried plan.now visited.old branch }
+    requires here { IsHere plan.now.start visited.old branch.from here.now }
+    requires next { IsNext plan.now.start visited.old branch.from branch.by twin.old.machine }
     requires away { twin.old.is_back ≡ false }
-    requires shelf { IsShelf plan.now.start visited.old shelf.old }
-    ensures well { IfOk result (MeetsWell plan.now.start plan.now.sought plan.now.most visited.old visited.new at choice) }
+    ensures well { IfOk result (MeetsWell plan.now visited.old visited.new branch) }
     ensures shelf { OnOk result (IsShelf plan.now.start visited.new shelf.new) }
     ensures twin { OnOk result (IsSecond here.now twin.new) }
 {
     match free_under(plan, visited, shelf, &twin.machine)? {
         None => Ok(Met::Noted),
-        Some(digest) => note_new(plan, visited, shelf, at, choice, here, twin, digest),
+        Some(digest) => note_new(plan, visited, shelf, branch, here, twin, digest),
     }
 }
 
@@ -169,30 +154,24 @@ fn meet(
     plan: &Plan,
     visited: &mut Visited,
     shelf: &mut Shelf,
-    at: u32,
-    choice: Choice,
+    branch: Branch,
     here: &Machine,
     twin: &mut Twin,
 ) -> Result<Met, Fault>
-    requires whole { IsWhole plan.now }
-    requires visits { Visits plan.now.start plan.now.sought visited.old }
-    requires near { IsEdge visited.old at }
-    requires at { at < length visited.old }
-    requires considered { is_considered plan.now.sought.kills (length plan.now.start.scenario.programs) choice ≡ true }
-    requires fresh { IsFresh visited.old at choice }
-    requires here { IsHere plan.now.start visited.old at here.now }
+    requires ready { IsReady plan.now visited.old shelf.old branch.from }
+    requires choice { IsUntried plan.now visited.old branch }
+    requires here { IsHere plan.now.start visited.old branch.from here.now }
     requires room { length here.now.entries + 1 < 4096 }
     requires twin { IsSecond here.now twin.old }
-    requires shelf { IsShelf plan.now.start visited.old shelf.old }
-    ensures well { IfOk result (MeetsWell plan.now.start plan.now.sought plan.now.most visited.old visited.new at choice) }
+    ensures well { IfOk result (MeetsWell plan.now visited.old visited.new branch) }
     ensures shelf { OnOk result (IsShelf plan.now.start visited.new shelf.new) }
     ensures twin { OnOk result (IsSecond here.now twin.new) }
 {
-    let outcome = twin.attempt(plan.alloc, here, choice)?;
+    let outcome = twin.attempt(plan.alloc, here, branch.by)?;
     if is_still(outcome) {
         return Ok(Met::Noted);
     }
-    note(plan, visited, shelf, at, choice, here, twin)
+    note(plan, visited, shelf, branch, here, twin)
 }
 
 /// The path at a place with one choice more.
@@ -219,23 +198,23 @@ fn meet_each(
     here: &Machine,
     twin: &mut Twin,
 ) -> Result<Expanded, Fault>
-    requires whole { IsWhole plan.now }
-    requires visits { Visits plan.now.start plan.now.sought visited.old }
-    requires near { IsEdge visited.old at }
-    requires at { at < length visited.old }
+    requires ready { IsReady plan.now visited.old shelf.old at }
     requires end { (c : AChoice) → IsFresh visited.old at c }
     requires here { IsHere plan.now.start visited.old at here.now }
     requires room { length here.now.entries + 1 < 4096 }
     requires twin { IsSecond here.now twin.old }
-    requires shelf { IsShelf plan.now.start visited.old shelf.old }
-    ensures well { IfOk result (ExpandsWell plan.now.start plan.now.sought plan.now.most visited.old visited.new at) }
+    ensures well { IfOk result (ExpandsWell plan.now visited.old visited.new at) }
     ensures grows { OnOk result (Grows visited.old visited.new) }
     ensures shelf { OnOk result (IsShelf plan.now.start visited.new shelf.new) }
     ensures twin { OnOk result (twin.new.machine.scenario ≡ plan.now.start.scenario) }
 {
     for i in 0..plan.choices.len() {
         let choice = plan.choices[i];
-        match meet(plan, visited, shelf, at, choice, here, twin)? {
+        let branch = Branch {
+            from: at,
+            by: choice,
+        };
+        match meet(plan, visited, shelf, branch, here, twin)? {
             Met::Noted => {}
             Met::Shown => {
                 let path = with_choice(plan.alloc, visited, at, choice)?;
@@ -255,10 +234,9 @@ fn arrive(
     at: u32,
     here: &mut Machine,
 ) -> Result<(), Fault>
-    requires visits { Visits plan.now.start plan.now.sought visited.now }
+    requires kept { IsKept plan.now visited.now shelf.old }
     requires at { at < length visited.now }
     requires here { here.old.scenario ≡ plan.now.start.scenario }
-    requires shelf { IsShelf plan.now.start visited.now shelf.old }
     ensures here { OnOk result (IsHere plan.now.start visited.now at here.new) }
     // Where its history is full the path itself is long.
     ensures full { OnOk result (4096 ≤ length here.new.entries + 1 → 4096 ≤ length plan.now.start.entries + length_at visited.now at + 1) }
@@ -279,15 +257,11 @@ pub(crate) fn expand(
     here: &mut Machine,
     twin: &mut Twin,
 ) -> Result<Expanded, Fault>
-    requires whole { IsWhole plan.now }
-    requires visits { Visits plan.now.start plan.now.sought visited.old }
-    requires near { IsEdge visited.old at }
-    requires at { at < length visited.old }
+    requires ready { IsReady plan.now visited.old shelf.old at }
     requires end { (c : AChoice) → IsFresh visited.old at c }
     requires here { here.old.scenario ≡ plan.now.start.scenario }
     requires twin { twin.old.machine.scenario ≡ plan.now.start.scenario }
-    requires shelf { IsShelf plan.now.start visited.old shelf.old }
-    ensures well { IfOk result (ExpandsWell plan.now.start plan.now.sought plan.now.most visited.old visited.new at) }
+    ensures well { IfOk result (ExpandsWell plan.now visited.old visited.new at) }
     ensures here { OnOk result (here.new.scenario ≡ plan.now.start.scenario) }
     ensures twin { OnOk result (twin.new.machine.scenario ≡ plan.now.start.scenario) }
     ensures shelf { OnOk result (IsShelf plan.now.start visited.new shelf.new) }

@@ -31,6 +31,7 @@ pub fn nowhere_runs()
 pub fn never_differs_under_held()
     ensures { (h : History) (q : Sought) (cs : List AChoice) → IsReplay h → h.scenario.rule ≡ Held → q.wanted ≡ Differs → Finds h q cs → ⊥ }
 {
+    // Proof: under `held` the serial run gives the same database.
     always_same();
 }
 

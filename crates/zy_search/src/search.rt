@@ -3,7 +3,7 @@ ghost use Rattle.std.specs.Prelude.{◌≡◌, ◌≤◌, ◌<◌, ◌+◌, [], 
 ghost use Rattle.zy_search.specs.declared.sought.Wanted.TheVariants.{Stuck};
 ghost use Rattle.zy_search.specs.Choices.{considered as considered_spec};
 ghost use Rattle.zy_search.specs.Searches.{Shows, IsAnswer, IsDue};
-ghost use Rattle.zy_search.specs.Visits.{length_at, AreExpanded, IsEdge, IsWhole, IsShelf, Visits};
+ghost use Rattle.zy_search.specs.Visits.{length_at, AreExpanded, Begins, IsEdge, IsWhole, Visits};
 
 use crate::answer::{Answer, Expanded, Report};
 use crate::choices::considered;
@@ -69,12 +69,9 @@ fn expand_all<W: Watch>(
     twin: &mut Twin,
     watch: &mut W,
 ) -> Result<Answer, Fault>
-    requires whole { IsWhole plan.now }
-    requires visits { Visits plan.now.start plan.now.sought visited.old }
-    requires first { visited.old ≡ [] ∷ [] }
+    requires begins { Begins plan.now visited.old shelf.old }
     requires here { here.old.scenario ≡ plan.now.start.scenario }
     requires twin { twin.old.machine.scenario ≡ plan.now.start.scenario }
-    requires shelf { IsShelf plan.now.start visited.old shelf.old }
     ensures answer { IfOk result (IsAnswer plan.now.start plan.now.sought) }
     ensures due { IfOk result (IsDue plan.now.start plan.now.sought plan.now.most) }
 {
@@ -120,11 +117,8 @@ fn look_by<W: Watch>(
     here: &mut Machine,
     watch: &mut W,
 ) -> Result<Answer, Fault>
-    requires whole { IsWhole plan.now }
-    requires visits { Visits plan.now.start plan.now.sought visited.old }
-    requires first { visited.old ≡ [] ∷ [] }
+    requires begins { Begins plan.now visited.old shelf.old }
     requires here { here.old.scenario ≡ plan.now.start.scenario }
-    requires shelf { IsShelf plan.now.start visited.old shelf.old }
     ensures answer { IfOk result (IsAnswer plan.now.start plan.now.sought) }
     ensures due { IfOk result (IsDue plan.now.start plan.now.sought plan.now.most) }
 {
@@ -139,10 +133,7 @@ fn look<W: Watch>(
     shelf: &mut Shelf,
     watch: &mut W,
 ) -> Result<Answer, Fault>
-    requires whole { IsWhole plan.now }
-    requires visits { Visits plan.now.start plan.now.sought visited.old }
-    requires first { visited.old ≡ [] ∷ [] }
-    requires shelf { IsShelf plan.now.start visited.old shelf.old }
+    requires { Begins plan.now visited.old shelf.old }
     ensures answer { IfOk result (IsAnswer plan.now.start plan.now.sought) }
     ensures due { IfOk result (IsDue plan.now.start plan.now.sought plan.now.most) }
 {

@@ -4,7 +4,7 @@ ghost use Rattle.zy_isa.specs.declared.choice.Choice.{Choice};
 ghost use Rattle.zy_machine.specs.Histories.{History};
 ghost use Rattle.zy_search.specs.declared.shelf.Spot.{Spot as ASpot};
 ghost use Rattle.zy_search.specs.Searches.{reached};
-ghost use Rattle.zy_search.specs.Visits.{path_at, IsHere, IsShelf, Visits};
+ghost use Rattle.zy_search.specs.Visits.{path_at, IsHere, IsKept, IsShelf};
 
 use crate::plan::Plan;
 use crate::visited::Visited;
@@ -74,8 +74,7 @@ impl Shelf {
         at: u32,
         machine: &Machine,
     ) -> Result<bool, Fault>
-        requires visits { Visits plan.now.start plan.now.sought visited.now }
-        requires shelf { IsShelf plan.now.start visited.now self.old }
+        requires kept { IsKept plan.now visited.now self.old }
         requires at { at < length visited.now }
         ensures known { IfOk result (λ b. b ≡ true → reached plan.now.start (path_at visited.now at) ≡ machine.now.state) }
         ensures shelf { OnOk result (IsShelf plan.now.start visited.now self.new) }

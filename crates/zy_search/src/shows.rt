@@ -124,6 +124,7 @@ pub(crate) fn shows_next(
     ensures shows { IfOk result (λ b. Decides b (Shows machine.now.scenario sought machine.now.state)) }
     ensures spare { OnOk result (spare.new.scenario ≡ machine.now.scenario) }
 {
+    // Proof: the state before is the replay of a scenario that was tested.
     let _tested = before.scenario();
     if is_of_commits(sought.wanted) && same_commits(machine.commits(), before.commits()) {
         return Ok(false);

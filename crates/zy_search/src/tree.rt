@@ -42,14 +42,14 @@ impl Tree {
         self.branches.len() + 1
     }
 
-    /// A path more, which goes on from that at `from`.
-    pub fn push(&mut self, from: u32, by: Choice) -> Result<(), AllocError>
-        requires { from < length self.old }
-        ensures ok { OnOk result (self.new ≡ self.old ++ (slice_index_or self.old from [] ++ by ∷ []) ∷ []) }
+    /// A path more.
+    pub fn push(&mut self, branch: Branch) -> Result<(), AllocError>
+        requires { branch.from < length self.old }
+        ensures ok { OnOk result (self.new ≡ self.old ++ (slice_index_or self.old branch.from [] ++ branch.by ∷ []) ∷ []) }
         ensures err { OnErr result (self.new ≡ self.old) }
     {
         self.branches.reserve(1)?;
-        self.branches.push(Branch { from, by }).unwrap();
+        self.branches.push(branch).unwrap();
         Ok(())
     }
 

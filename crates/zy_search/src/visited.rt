@@ -82,15 +82,15 @@ impl Visited {
         }
     }
 
-    /// A path more, which goes on from that at `from`, under the digest of its state.
-    pub fn push(&mut self, from: u32, by: Choice, digest: u64) -> Result<(), AllocError>
-        requires from { from < length self.old }
+    /// A path more, under the digest of its state.
+    pub fn push(&mut self, branch: Branch, digest: u64) -> Result<(), AllocError>
+        requires from { branch.from < length self.old }
         requires room { length self.old < 2 ^ 32 }
-        ensures ok { OnOk result (self.new ≡ self.old ++ (slice_index_or self.old from [] ++ by ∷ []) ∷ []) }
+        ensures ok { OnOk result (self.new ≡ self.old ++ (slice_index_or self.old branch.from [] ++ branch.by ∷ []) ∷ []) }
         ensures err { OnErr result (self.new ≡ self.old) }
     {
         let place = self.tree.len() as u32;
         self.places.insert(digest, place)?;
-        self.tree.push(from, by)
+        self.tree.push(branch)
     }
 }

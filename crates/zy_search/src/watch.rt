@@ -5,11 +5,3 @@ pub trait Watch {
     /// This number of states were come to, and each schedule of at most this number of choices was looked at.
     fn look(&mut self, states: usize, depth: usize);
 }
-
-/// Looks away.
-#[derive(Drop)]
-pub struct Unwatched;
-
-impl Watch for Unwatched {
-    fn look(&mut self, _states: usize, _depth: usize) {}
-}

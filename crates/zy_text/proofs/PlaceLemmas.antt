@@ -5,6 +5,7 @@ use Rattle.std.specs.List.{position, position_or_len}
 use Rattle.std.proofs.lemmas.List.Sums.{position_or_len_is}
 use Rattle.memchr.specs.Find.{IsFirstByte, is_byte}
 
+-- what does not hold is false
 is_false : (b : Bool) → (b ≡ true → ⊥) → b ≡ false
 is_false true never = absurd (never refl)
 is_false false never = refl

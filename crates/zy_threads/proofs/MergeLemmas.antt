@@ -10,6 +10,7 @@ use Rattle.zy_threads.specs.Orders.{reordered}
 use Rattle.zy_threads.specs.Turns.{sub, is_by, is_c, is_a, is_b, IsMerge}
 use Rattle.zy_threads.proofs.TurnLemmas.{sub_lengths}
 
+-- one choice more, or not
 kept_step : (count : ℕ) (d : Choice) (ds : List Choice) (b : Bool) → names_below count d ≡ true → AreNamed count ds → AreNamed count (if b then d ∷ ds else ds)
 kept_step count d ds true named rest = (named, rest)
 kept_step count d ds false named rest = rest
@@ -19,7 +20,9 @@ named_kept : (count : ℕ) (x : Actor) (cs : List Choice) → AreNamed count cs 
 named_kept count x [] h = tt
 named_kept count x (d ∷ cs) h = kept_step count d (sub x cs) (is_by x d) h.0 (named_kept count x cs h.1)
 
-back_step : (count : ℕ) (d : Choice) (cs : List Choice) (x : Actor) → (AreNamed count (sub C cs) → AreNamed count (sub A cs) → AreNamed count (sub B cs) → AreNamed count cs)
+-- a choice goes to its actor's list
+back_step : (count : ℕ) (d : Choice) (cs : List Choice) (x : Actor)
+    → (AreNamed count (sub C cs) → AreNamed count (sub A cs) → AreNamed count (sub B cs) → AreNamed count cs)
     → AreNamed count (if is_c x then d ∷ sub C cs else sub C cs) → AreNamed count (if is_a x then d ∷ sub A cs else sub A cs) → AreNamed count (if is_b x then d ∷ sub B cs else sub B cs)
     → AreNamed count (d ∷ cs)
 back_step count d cs C rest c a b = (c.0, rest c.1 a b)
@@ -36,6 +39,7 @@ merge_length : (order choices : List Choice) → IsMerge order choices → lengt
 merge_length order choices m =
     omega (arith, sub_lengths order, sub_lengths choices, ap length m.of_c, ap length m.of_a, ap length m.of_b)
 
+-- choices in another order name the same transactions
 merge_named : (count : ℕ) (order choices : List Choice) → IsMerge order choices → AreNamed count choices → AreNamed count order
 merge_named count order choices m named =
     named_back count order
@@ -43,6 +47,7 @@ merge_named count order choices m named =
     (subst (AreNamed count) (sym m.of_a) (named_kept count A choices named))
     (subst (AreNamed count) (sym m.of_b) (named_kept count B choices named))
 
+-- a scenario with its choices in such an order is one
 pub merge_scenario : (sc : Scenario) → IsScenario sc → (order : List Choice) → IsMerge order sc.choices → IsScenario (reordered sc order)
 merge_scenario sc was order m = record {
   cap_least = was.cap_least;

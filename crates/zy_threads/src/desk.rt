@@ -67,6 +67,7 @@ fn take_turn<L: Side, W: Allowance>(
     ensures parts { mine.new.parts ≡ mine.old.parts }
     ensures book { book.new.total ≡ (turns_of board.new actor).cursor }
 {
+    // Proof: what the worker has counted is its actor's cursor, which is within the actor's choices.
     book.audit(mine);
     board.cursor(actor);
     if !allowance.grants() {

@@ -78,6 +78,7 @@ fn close<S: Of, C: Side, A: Side, B: Side>(
         taken: _,
         refused: _,
     } = b;
+    // Proof: what each worker has counted is its actor's cursor.
     book_c.audit(&mut share_c);
     book_a.audit(&mut share_a);
     book_b.audit(&mut share_b);
@@ -210,10 +211,11 @@ pub fn run_threads(
     ensures owned { IfOk result (λ m. OwnedThroughout m.scenario (choices_of m.entries)) }
     ensures serial { IfOk result (λ m. SerialThroughout m.scenario (choices_of m.entries)) }
 {
+    // Proof: at every point each page is in one place, and under `held` the database is that of the commits one by one.
     one_owner();
     serializable();
     let machine = run_allowed(rt, alloc, scenario, gate, &Unlimited)?;
-    // It says of the machine that its state is the replay of its history.
+    // Proof: the machine's state is the replay of its history.
     machine.entries();
     Ok(machine)
 }

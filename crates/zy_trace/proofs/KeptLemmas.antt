@@ -1,8 +1,7 @@
 -- A page that is what it was and where it was, with locks that are what they were, has the same line.
-use Rattle.std.proofs.Common.{◌≡◌, ◌∙◌, ℕ, ◌+◌, ◌<◌, ◌==◌, Bool, true, false, not, List, [], ◌∷◌, ◌++◌, Option, Some, ap, ap₂, sym, refl, take, drop, take-append-drop, get_or, length, suc, arith}
+use Rattle.std.proofs.Common.{◌≡◌, ◌∙◌, ℕ, ◌==◌, Bool, true, false, not, List, [], ◌∷◌, ◌++◌, Some, ap, ap₂, sym, refl, take, drop, take-append-drop, length}
 use Rattle.std.specs.Prelude.{codes, is_some, if◌then◌else◌, ◌&&◌, ◌-◌}
-use Rattle.std.specs.List.{flat_map, list_all}
-use Rattle.std.proofs.Math.Seq.{take-suc}
+use Rattle.std.specs.List.{list_all}
 use Rattle.std.proofs.lemmas.List.{length-drop}
 use Rattle.std.proofs.lemmas.Grind.{flat_map-append}
 use Rattle.zy_isa.specs.declared.node.Node.{Node}
@@ -25,11 +24,6 @@ rests_say old new i e n p h =
     ∙ (flat_map-append (lock_on n p) (take i old) (drop i old)
     ∙ (ap₂ (λ a b. a ++ b) (ap (locks_on n p) e) h
     ∙ (sym (flat_map-append (lock_on n p) (take i new) (drop i new)) ∙ ap (locks_on n p) (take-append-drop i new))))
-
--- one lock more of a common front
-pub front_more : (old new : List Lock) (i : ℕ) (d : Lock) → i < length old → i < length new → take i old ≡ take i new → get_or old i d ≡ get_or new i d → take (suc i) old ≡ take (suc i) new
-front_more old new i d h k e f =
-    take-suc old i d h ∙ (ap₂ (λ l x. l ++ x ∷ []) e f ∙ sym (take-suc new i d k))
 
 none_here : (b : Bool) (text rest : List ℕ) (more : Bool) → (not b && more) ≡ true → (more ≡ true → rest ≡ []) → (if b then text else []) ++ rest ≡ []
 none_here true text rest more h k = (cc)

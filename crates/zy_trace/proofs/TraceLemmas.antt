@@ -1,7 +1,7 @@
 -- Lines one after another, and what is left of a trace.
 use Rattle.std.proofs.Common.{◌≡◌, ◌∙◌, ℕ, ◌+◌, ◌<◌, ◌≤◌, Bool, true, List, [], ◌∷◌, ◌++◌, Option, Result, Err, refl, sym, ap, arith, append_assoc, append-nil, map, length, subst, drop, get_or, suc, zero}
 use Rattle.std.specs.Io.KnownBytes.{Appends}
-use Rattle.std.proofs.KnownBytes.{Appends-trans, Appends-nil}
+use Rattle.std.proofs.KnownBytes.{Appends-trans}
 use Rattle.std.proofs.lemmas.List.{drop_more}
 use Rattle.zy_io.specs.declared.writing.TextFault.{TextFault}
 use Rattle.zy_io.specs.Writing.{Wrote}
@@ -25,7 +25,7 @@ use Rattle.std.proofs.lemmas.List.FromFn.{map-range_with_len_more}
 use Rattle.zy_io.specs.Writing.{line_of}
 use Rattle.zy_table.specs.State.{State}
 use Rattle.zy_trace.specs.declared.subject.Subject.{Subject}
-use Rattle.zy_trace.specs.Subjects.{line_in, inset, shown, shown_text, shown_texts, changed, state_lines, subjects}
+use Rattle.zy_trace.specs.Subjects.{line_in, inset, shown, shown_texts, state_lines, subjects}
 
 -- one number more
 pub shown_more : (f : Subject → List ℕ) (g : ℕ → Subject) (n : ℕ) → flat_map f (map g (range_with_len 0 (n + 1))) ≡ flat_map f (map g (range_with_len 0 n)) ++ f (g n)
@@ -64,13 +64,6 @@ pub record Written (old new : Option (List ℕ)) (sc : Scenario) (i : ℕ) (s : 
   pub out : List ℕ
   pub whole : flat_map line_of (steps_lines sc 1 (opening sc) sc.choices) ≡ out ++ flat_map line_of (steps_lines sc (i + 1) s (drop i sc.choices))
   pub wrote : Appends old new out
-
-pub written_start : (a : Option (List ℕ)) (h : History) → h ≡ record { scenario = h.scenario; state = opening h.scenario; entries = [] } → Written a a h.scenario (length h.entries) h.state
-written_start a h e = record {
-  out = [];
-  whole = ap (λ (x : History). flat_map line_of (steps_lines h.scenario (length x.entries + 1) x.state (drop (length x.entries) h.scenario.choices))) (sym e);
-  wrote = Appends-nil a;
-}
 
 -- the next step is the first of those that are left
 pub written_next : (a b : Option (List ℕ)) (sc : Scenario) (i : ℕ) (s : State) (h : Written a b sc i s) → i < length sc.choices

@@ -42,6 +42,7 @@ fn same_txns(before: &Machine, now: &Machine)
     requires { before.now.scenario ≡ now.now.scenario }
     ensures { length before.now.state.txns ≡ length now.now.state.txns }
 {
+    // Proof: both states are replays of the scenario, which have a transaction for each of its programs.
     safe_counts();
     let _before = before.len();
     let _now = now.len();
@@ -60,6 +61,7 @@ fn append_changed(
         ≡ line_of (step_text (length now.now.entries) entry.now) ++ flat_map line_of (changed before.now.state now.now.state)) }
 {
     line.clear();
+    // Proof: both machines have as many transactions.
     same_txns(before, now);
     append_step(now.len(), entry, line)?;
     let since = Since {

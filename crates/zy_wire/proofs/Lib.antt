@@ -1,6 +1,5 @@
 pub mod PageOf
 pub mod Longer
-pub mod Scan
 pub mod Cells
 pub mod Entries
 pub mod Descent

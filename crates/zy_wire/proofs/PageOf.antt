@@ -2,7 +2,7 @@
 use Rattle.std.proofs.Common.{◌≡◌, ◌∙◌, ap, ℕ, zero, suc, ◌+◌, ◌<◌, ◌≤◌, Bool, true, false, List, [], ◌∷◌, length, get_or, refl, sym, eqb, leb, ltb, arith, Some, None, ◌⊎◌, inl, inr}
 use Rattle.std.specs.Prelude.{filter, position, unwrap_or}
 use Rattle.std.specs.List.{position_or_len}
-use Rattle.std.proofs.lemmas.Bool.{eq-eqb, ne_eqb, eqb-true, lt-ltb, le-ltb, ltb-true, ltb-false, le-leb, leb-true, cond_both, cases_lt, cases_Bool, true≢false}
+use Rattle.std.proofs.lemmas.Bool.{eq-eqb, ne_eqb, eqb-true, lt-ltb, ltb-true, ltb-false, le-leb, leb-true, cond_both, cases_lt, cases_Bool, true≢false}
 use Rattle.zy_wire.specs.Wireframe.{greatest, low_under, page_of, IsGreatest}
 
 -- the greatest low key that is not above k
@@ -39,12 +39,6 @@ first_at q (x ∷ xs) (suc i) lt passes fails =
     let rest = first_at q xs i (omega arith) passes (λ j below. fails (suc j) (omega arith)) in
     rw (fails 0 (omega arith)) (omega (arith, rest))
 
-never_at : (q : ℕ → Bool) (xs : List ℕ) → ((j : ℕ) → j < length xs → q (get_or xs j 0) ≡ false) → position_or_len q xs ≡ length xs
-never_at q [] fails = refl
-never_at q (x ∷ xs) fails =
-    let rest = never_at q xs (λ j lt. fails (suc j) (omega arith)) in
-    rw (fails 0 (omega arith)) (omega (arith, rest))
-
 passes_there : (q : ℕ → Bool) (xs : List ℕ) → position_or_len q xs < length xs → q (get_or xs (position_or_len q xs) 0) ≡ true
 passes_there q [] lt = absurd (omega arith)
 passes_there q (x ∷ xs) lt =
@@ -79,14 +73,6 @@ page_of-is lows k p lt le most other =
     let same : low_under lows k ≡ get_or lows p 0 = omega arith in
     let at : position_or_len (λ low. eqb low (low_under lows k)) lows ≡ p = first_at (λ low. eqb low (low_under lows k)) lows p lt (eq-eqb _ _ (sym same)) (λ i below. ne_eqb _ _ (λ e. other i below (e ∙ same))) in
     rw (at, lt-ltb p (length lows) lt) refl
-
--- a key below all low keys lies on page 0
-pub page_of-none : (lows : List ℕ) (k : ℕ) → ((i : ℕ) → i < length lows → k < get_or lows i 0) → page_of lows k ≡ 0
-unfolding page_of
-page_of-none lows k above =
-    let least = low_under-most lows k 0 (λ i lt le. absurd (let up = above i lt in omega arith)) in
-    let at : position_or_len (λ low. eqb low (low_under lows k)) lows ≡ length lows = never_at (λ low. eqb low (low_under lows k)) lows (λ i lt. ne_eqb _ _ (λ e. let up = above i lt in absurd (omega arith))) in
-    rw (at, le-ltb (length lows) (length lows) (omega arith)) refl
 
 -- each key lies on a page that is there
 pub page_of-within : (lows : List ℕ) (k : ℕ) → 0 < length lows → page_of lows k < length lows
@@ -151,17 +137,6 @@ low_of_page lows k i lt le =
       | inl none ↦ (let within = found q lows i lt (eq-eqb _ _ (let same : get_or lows i 0 ≡ low_under lows k = omega arith in same)) in absurd (omega arith))
       | inr one ↦ (let within = found q lows one.0 one.1 (eq-eqb _ _ one.2) in absurd (omega arith))
     ])
-
--- a key below the low key of a page, but for page 0, does not lie on it
-pub page_of-above : (lows : List ℕ) (k p : ℕ) → (p ≡ 0 → ⊥) → k < get_or lows p 0 → page_of lows k ≡ p → ⊥
-unfolding page_of
-page_of-above lows k p some above =
-    let q : ℕ → Bool = λ low. eqb low (low_under lows k) in
-    let n = position_or_len q lows in
-    let most = low_under-le lows k in
-    cond_both (ltb n (length lows)) (Some n) None (λ o. unwrap_or o 0 ≡ p → ⊥)
-    (λ e same. let low : get_or lows n 0 ≡ low_under lows k = eqb-true _ _ (passes_there q lows (ltb-true _ _ e)) in let up = rw (← same) at above in absurd (omega arith))
-    (λ e same. some (sym same))
 
 pub page_of-greatest : (lows : List ℕ) (k : ℕ) → IsGreatest lows k (page_of lows k)
 page_of-greatest lows k = λ q lt le.

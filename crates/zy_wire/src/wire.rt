@@ -86,7 +86,7 @@ impl Wire {
         ensures few { result ≤ self.now.pages }
         ensures numbered { result < 2 ^ 16 }
     {
-        // There may be at most as many as a `u16` counts.
+        // Proof: there may be at most as many as a `u16` counts.
         let _pages = self.pages;
         self.lows.len()
     }
@@ -108,7 +108,7 @@ impl Wire {
         ensures under { slice_index self.now.lows result ≤ key }
         ensures greatest { IsGreatest self.now.lows key result }
     {
-        // A page's number is below the most pages, which a `u16` counts.
+        // Proof: a page's number is below the most pages, which a `u16` counts.
         let _pages = self.pages;
         self.tree.leaf(key).entry_under(key).page()
     }
@@ -126,7 +126,7 @@ impl Wire {
         ensures next { IsAfter self.now.lows low result }
         ensures few { IfSome result (λ p. p < self.now.pages) }
     {
-        // No two pages have one low key.
+        // Proof: no two pages have one low key.
         let _lows = &self.lows;
         match self.end_of(low) {
             Some(end) => Some(self.page_of(end)),
@@ -158,7 +158,7 @@ impl Wire {
         requires { page < length self.now.lows }
         ensures { (k : ℕ) → in_range result k ≡ (page_of_spec self.now.lows k == page) }
     {
-        // No two pages have one low key.
+        // Proof: no two pages have one low key.
         let _lows = &self.lows;
         let low = self.low_of(page);
         KeyRange {

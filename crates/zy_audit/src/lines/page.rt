@@ -61,6 +61,7 @@ impl Lines for Pages<'_> {
     }
 
     fn append(&self, place: usize, line: &mut LineBuffer) -> Result<(), AllocError> {
+        // Proof: there are at most 512 pages, and each number below their count is a page's.
         let _count = self.0.page_count();
         page_line(self.0, place as u16, line)
     }

@@ -150,6 +150,7 @@ impl Lines for Txns<'_> {
     }
 
     fn append(&self, place: usize, line: &mut LineBuffer) -> Result<(), AllocError> {
+        // Proof: there are at most 64 transactions.
         let _count = self.0.txn_count();
         txn_line(self.0, place as u8, line)
     }

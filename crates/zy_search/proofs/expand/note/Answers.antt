@@ -6,9 +6,9 @@ pub returns-in-None-clause-well : goal.returns-in-None-clause-well
 returns-in-None-clause-well c =
     let known = c.in_ok-free_under.ensures.known c.in-None.is in
     record {
-      visits = c.requires.visits;
-      near = c.requires.near;
+      visits = c.requires.ready.kept.visits;
+      near = c.requires.ready.near;
       grows = grows_not c.args.visited.now;
       more = inl refl;
-      known = near_known c.args.plan.now.start c.args.visited.now c.args.at _ c.requires.near (known.0, known.1, known.2 ∙ c.requires.next.state);
+      known = near_known c.args.plan.now.start c.args.visited.now c.args.branch.from _ c.requires.ready.near (known.0, known.1, known.2 ∙ c.requires.next.state);
     }

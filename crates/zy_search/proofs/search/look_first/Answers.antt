@@ -14,10 +14,18 @@ shows-requires-clause-room g c = λ e.
 pub shows-requires-clause-choices : goal.shows-requires-clause-choices
 shows-requires-clause-choices g c = c.deref.ensures.value ∙ c.requires.whole
 
-pub look-requires-clause-visits : goal.look-requires-clause-visits
-look-requires-clause-visits g c =
-    let first = c.requires.first in
-    rw first (visits_first c.args.plan.now.start c.args.plan.now.sought c.len.ensures.replay.few (λ s. false≢true (sym c.if-is_shown.false ∙ c.in_ok-is_shown.ensures.shows.1 s)))
+pub look-requires : goal.look-requires
+look-requires g c = record {
+  whole = c.requires.whole;
+  kept = record {
+    visits = rw c.requires.first (visits_first c.args.plan.now.start c.args.plan.now.sought c.len.ensures.replay.few (λ s. false≢true (sym c.if-is_shown.false ∙ c.in_ok-is_shown.ensures.shows.1 s)));
+    shelf = record {
+      spots = rw c.requires.spots (λ k d lt. absurd (omega (arith, lt)));
+      spare = c.in_ok-is_shown.ensures.spare;
+    };
+  };
+  first = c.requires.first;
+}
 
 pub returns-then-is_shown-clause-answer : goal.returns-then-is_shown-clause-answer
 returns-then-is_shown-clause-answer g c =
@@ -25,9 +33,3 @@ returns-then-is_shown-clause-answer g c =
       finds = record { path = record { considered = tt; moves = tt; room = omega (arith, c.len.ensures.replay.few) }; shows = c.in_ok-is_shown.ensures.shows.0 c.if-is_shown.true };
       shortest = λ cs a lt. absurd (omega (arith, lt));
     })
-
-pub look-requires-clause-shelf : goal.look-requires-clause-shelf
-look-requires-clause-shelf g c = record {
-  spots = rw c.requires.spots (λ k d lt. absurd (omega (arith, lt)));
-  spare = c.in_ok-is_shown.ensures.spare;
-}

@@ -1,4 +1,4 @@
-use Rattle.std.proofs.Common.{◌≡◌, sym, arith, refl, nat_lt, true}
+use Rattle.std.proofs.Common.{◌≡◌, sym, arith, true}
 use Rattle.zy_search.specs.Reasons.{is_committed}
 use Rattle.zy_search.proofs.TxnLemmas.{at, each_at, other_at, more}
 use Rattle.zy_search.proofs.shows.all_committed.Goals as goal
@@ -11,7 +11,7 @@ returns-then-not-is_committed c =
 pub loop-t-preserved : goal.loop-t-preserved
 loop-t-preserved c =
     let e = rw (c.status.ensures, c.txn.ensures.value) at c.if-not-is_committed.ensures in
-    λ i lt. more (λ j. at is_committed c.args.machine.now.state.txns j ≡ true) c.loop-t.t i (nat_lt i c.loop-t.t) refl c.loop-t.invariant (sym e) lt
+    more (λ j. at is_committed c.args.machine.now.state.txns j ≡ true) c.loop-t.t c.loop-t.invariant (sym e)
 
 pub returns : goal.returns
 returns c =

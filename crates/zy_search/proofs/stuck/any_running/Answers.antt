@@ -1,4 +1,4 @@
-use Rattle.std.proofs.Common.{◌≡◌, sym, arith, refl, nat_lt, false}
+use Rattle.std.proofs.Common.{◌≡◌, sym, arith, false}
 use Rattle.zy_search.specs.Reasons.{is_running}
 use Rattle.zy_search.proofs.TxnLemmas.{at, any_at, none_at, more}
 use Rattle.zy_search.proofs.stuck.any_running.Goals as goal
@@ -11,7 +11,7 @@ returns-then-is_running c =
 pub loop-t-preserved : goal.loop-t-preserved
 loop-t-preserved c =
     let e = rw (c.status.ensures, c.txn.ensures.value) at c.if-is_running.ensures in
-    λ i lt. more (λ j. at is_running c.args.machine.now.state.txns j ≡ false) c.loop-t.t i (nat_lt i c.loop-t.t) refl c.loop-t.invariant (sym e) lt
+    more (λ j. at is_running c.args.machine.now.state.txns j ≡ false) c.loop-t.t c.loop-t.invariant (sym e)
 
 pub returns : goal.returns
 returns c =

@@ -1,4 +1,4 @@
-use Rattle.std.proofs.Common.{◌≡◌, ◌∙◌, ◌<◌, ◌≤◌, ℕ, List, Bool, true, nat_lt, get_or, sym, ap, subst, length, arith, refl}
+use Rattle.std.proofs.Common.{◌≡◌, ◌∙◌, ◌<◌, ◌≤◌, ℕ, List, Bool, true, get_or, sym, ap, subst, length, arith, refl}
 use Rattle.std.proofs.Math.Bool.{false≢true}
 use Rattle.zy_isa.specs.declared.choice.Choice.{Choice}
 use Rattle.zy_isa.specs.declared.choice.Choice.TheVariants.{Start}
@@ -32,9 +32,8 @@ pub loop-i-preserved : goal.loop-i-preserved
 loop-i-preserved c =
     record {
       twin = c.in_ok-stays.ensures.twin c.if-not-branch.false;
-      still = λ j lt.
-          more (λ k. is_still (step c.args.machine.now.scenario (get_or c.args.choices.now k Start) c.args.machine.now.state).outcome ≡ true) c.loop-i.i j (nat_lt j c.loop-i.i) refl c.loop-i.invariant.still
-          (sym c.in_ok-stays.ensures.still ∙ c.if-not-branch.false) lt;
+      still = more (λ k. is_still (step c.args.machine.now.scenario (get_or c.args.choices.now k Start) c.args.machine.now.state).outcome ≡ true) c.loop-i.i c.loop-i.invariant.still
+          (sym c.in_ok-stays.ensures.still ∙ c.if-not-branch.false);
     }
 
 whole : (sc : Scenario) (kills : Bool) (s : State) (cs : List Choice) (n : ℕ) → cs ≡ considered kills (length sc.programs) → length cs ≤ n
