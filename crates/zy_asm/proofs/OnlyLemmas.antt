@@ -33,7 +33,7 @@ use Rattle.zy_asm.specs.declared.state.Stage.TheVariants as stage
 use Rattle.zy_asm.specs.declared.state.Reader.{Reader}
 use Rattle.zy_isa.specs.Results.{◌>>=◌}
 use Rattle.zy_asm.specs.Pending.{Pending, resolved, all_resolved, program_of}
-use Rattle.zy_asm.specs.Reading.{Seen, seen, rule_of, own_number, open_line, choice_line, step, line_step, at_line, read_lines, reading, finish, nothing_seen}
+use Rattle.zy_asm.specs.Reading.{Seen, progress_of, rule_of, own_number, open_line, choice_line, step, line_step, at_line, read_lines, reading, finish, nothing_seen}
 use Rattle.zy_isa.proofs.RowLemmas.{Above, above_more}
 use Rattle.zy_isa.proofs.ResultLemmas.{bind_ok, not_below, over_not}
 use Rattle.zy_asm.proofs.SpellLemmas.{actor_word, node_word}
@@ -374,8 +374,8 @@ strip_back (l ∷ ls) s t n h = let p = back_at (words_of l) (map words_of ls) s
 
 -- ---- the laws
 
-pub read_text : (text : List ℕ) (r : Reader) → reading text ≡ Ok (seen r) → FoundText (lines_with_words text) (seen r)
-read_text text r h = found_text (lines_with_words text) (seen r) (strip_ok (lines_of text) nothing_seen (seen r) 1 h)
+pub read_text : (text : List ℕ) (r : Reader) → reading text ≡ Ok (progress_of r) → FoundText (lines_with_words text) (progress_of r)
+read_text text r h = found_text (lines_with_words text) (progress_of r) (strip_ok (lines_of text) nothing_seen (progress_of r) 1 h)
 
 pub Means-from_read : (text : List ℕ) (t : Seen) → FoundText (lines_with_words text) t → IsScenario (shows t) → Means text (shows t)
 Means-from_read text t f h = (h, (f.draft, f.drafts, f.spelled))

@@ -19,9 +19,9 @@ pub data Pending : Type 0 where
   whole : Instr → Pending
   jump : JumpOperation → Reg → Reg → List ℕ → Pending
 
-abbrev pub shown : Unresolved → Pending
-shown (Whole i) = whole i
-shown (Jump o a b name) = jump o a b name.items
+abbrev pub pending_of : Unresolved → Pending
+pending_of (Whole i) = whole i
+pending_of (Jump o a b name) = jump o a b name.items
 
 abbrev pub resolved : List Mark → Pending → Result Instr AsmKind
 resolved labels (whole i) = Ok i

@@ -32,7 +32,7 @@ use Rattle.zy_asm.specs.declared.state.Stage.TheVariants.{Zephyr, Cap, Pages, Ru
 use Rattle.zy_asm.specs.declared.state.Reader.{Reader}
 use Rattle.zy_text.specs.Names.{Mark, is_name, place, label_of}
 use Rattle.zy_isa.specs.Results.{◌>>=◌}
-use Rattle.zy_asm.specs.Pending.{Pending, shown, program_of}
+use Rattle.zy_asm.specs.Pending.{Pending, pending_of, program_of}
 use Rattle.zy_asm.specs.Steps.{number_in}
 use Rattle.zy_asm.specs.Instructions.{instr_of}
 use Rattle.zy_asm.specs.Choices.{actor_of, action_of, chosen, transaction, are_times, times_of}
@@ -51,8 +51,8 @@ pub record Seen : Type 0 where
   pub instrs : List Pending
   pub choices : List Choice
 
-abbrev pub seen : Reader → Seen
-seen r = record {
+abbrev pub progress_of : Reader → Seen
+progress_of r = record {
   stage = r.stage;
   version = r.version;
   cap = r.cap;
@@ -62,7 +62,7 @@ seen r = record {
   names = r.names;
   programs = r.programs.items;
   labels = r.labels;
-  instrs = map shown r.instrs.items;
+  instrs = map pending_of r.instrs.items;
   choices = r.choices.items;
 }
 
@@ -308,5 +308,5 @@ Steps (Err r) new read = (kind_of r ≡ kinds.Memory) ⊎ (read ≡ Err (kind_of
 
 -- the answer is what reading gives, unless there was no memory
 abbrev pub Reads : Result Reader Refusal → Result Seen AsmFault → Type 0
-Reads (Ok x) read = read ≡ Ok (seen x)
+Reads (Ok x) read = read ≡ Ok (progress_of x)
 Reads (Err r) read = (kind_of r.reason ≡ kinds.Memory) ⊎ (read ≡ Err (fault_of r))

@@ -10,7 +10,7 @@ ghost use Rattle.zy_asm.specs.Choices.{actor_of as actor_of_spec, client_action 
 use crate::faults::{AsmKind, Reason};
 use crate::numbers::number_in;
 use crate::shown::Shown;
-use crate::table::Table;
+use crate::name_table::NameTable;
 use zy_isa::choice::Choice;
 use zy_isa::node::{Actor, Node};
 use zy_isa::scenario::MAX_CHOICES;
@@ -125,7 +125,7 @@ fn numbered(count: usize, word: &[u8]) -> Result<u8, Reason>
 }
 
 /// The transaction of this number or name, where there are `count`, and those with names have these.
-pub fn transaction(count: usize, names: &Table, word: &[u8]) -> Result<u8, Reason>
+pub fn transaction(count: usize, names: &NameTable, word: &[u8]) -> Result<u8, Reason>
     requires { count ≤ 64 }
     ensures { by_kind result ≡ transaction_spec count names.now word.now }
 {

@@ -2,7 +2,7 @@
 ghost use Rattle.std.specs.Prelude.{◌≡◌, ◌∷◌, [], Ok, IfSome, ok_or};
 ghost use Rattle.zy_asm.specs.Reasons.{by_kind, kind_of, Gives};
 ghost use Rattle.zy_text.specs.Lines.{texts};
-ghost use Rattle.zy_asm.specs.Pending.{shown, whole};
+ghost use Rattle.zy_asm.specs.Pending.{pending_of, whole};
 ghost use Rattle.zy_asm.specs.Instructions.{register_of as register_of_spec, two as two_spec, pair_of as pair_of_spec, jump_to as jump_to_spec, number_to as number_to_spec, with_number as with_number_spec, jump_where as jump_where_spec, with_target as with_target_spec, alone as alone_spec, instr_of as instr_of_spec};
 
 use crate::faults::{AsmKind, Reason};
@@ -79,7 +79,7 @@ fn jump_to(
     b: Reg,
     target: &[u8],
 ) -> Result<Unresolved, Reason>
-    ensures { Gives shown result (jump_to_spec operation a b target.now) }
+    ensures { Gives pending_of result (jump_to_spec operation a b target.now) }
 {
     match target {
         [] => Err(Reason::NotAName(Shown::of(target))),
@@ -128,7 +128,7 @@ fn jump_where(
     b: &[u8],
     target: &[u8],
 ) -> Result<Unresolved, Reason>
-    ensures { Gives shown result (jump_where_spec operation a.now b.now target.now) }
+    ensures { Gives pending_of result (jump_where_spec operation a.now b.now target.now) }
 {
     match two(a, b) {
         Some((a, b)) => jump_to(alloc, operation, a, b, target),
@@ -142,7 +142,7 @@ fn with_target(
     operation: JumpOperation,
     words: &[&[u8]],
 ) -> Result<Unresolved, Reason>
-    ensures { Gives shown result (with_target_spec operation (texts words.now)) }
+    ensures { Gives pending_of result (with_target_spec operation (texts words.now)) }
 {
     match words {
         [a, b, target] => jump_where(alloc, operation, a, b, target),
@@ -183,7 +183,7 @@ pub fn whole_of(operation: Operation, a: &[u8], b: &[u8]) -> Option<Instr>
 
 /// The instruction of an operation with the words behind it. A label takes memory.
 pub fn instr_of(alloc: Global, operation: Operation, words: &[&[u8]]) -> Result<Unresolved, Reason>
-    ensures { Gives shown result (instr_of_spec operation (texts words.now)) }
+    ensures { Gives pending_of result (instr_of_spec operation (texts words.now)) }
 {
     let instr = match operation {
         Operation::Number(operation) => with_number(operation, words)?,

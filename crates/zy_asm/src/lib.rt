@@ -10,5 +10,5 @@ mod pending;
 mod reading;
 pub mod shown;
 mod state;
-mod table;
+mod name_table;
 pub mod text;

@@ -1,12 +1,12 @@
 //! The instructions of a program that is still open, and the program once its labels are known.
 ghost use Rattle.std.specs.Prelude.{◌≡◌, map};
 ghost use Rattle.zy_asm.specs.Reasons.{by_kind, Gives};
-ghost use Rattle.zy_asm.specs.Pending.{shown, resolved as resolved_spec, all_resolved as all_resolved_spec, judged as judged_spec, program_of as program_of_spec};
+ghost use Rattle.zy_asm.specs.Pending.{pending_of, resolved as resolved_spec, all_resolved as all_resolved_spec, judged as judged_spec, program_of as program_of_spec};
 ghost use Rattle.zy_isa.specs.Programs.{prog_fault};
 
 use crate::faults::Reason;
 use crate::shown::Shown;
-use crate::table::Table;
+use crate::name_table::NameTable;
 use std::alloc::Global;
 use zy_isa::instr::{Instr, Reg};
 use zy_isa::operation::{JumpOperation, Parts};
@@ -23,8 +23,8 @@ pub enum Unresolved {
 }
 
 /// The word of the instruction, where the labels of its program are these.
-fn resolved(labels: &Table, instr: &Unresolved) -> Result<Word, Reason>
-    ensures { by_kind result ≡ resolved_spec labels.now (shown instr.now) }
+fn resolved(labels: &NameTable, instr: &Unresolved) -> Result<Word, Reason>
+    ensures { by_kind result ≡ resolved_spec labels.now (pending_of instr.now) }
 {
     match instr {
         Unresolved::Whole(instr) => Ok(Word::of(*instr)),
@@ -39,8 +39,8 @@ fn resolved(labels: &Table, instr: &Unresolved) -> Result<Word, Reason>
 }
 
 /// The words of the instructions, where the labels of their program are these.
-fn all_resolved(alloc: Global, labels: &Table, instrs: &[Unresolved]) -> Result<Vec<Word>, Reason>
-    ensures { Gives (λ v. v.items) result (all_resolved_spec labels.now (map shown instrs.now)) }
+fn all_resolved(alloc: Global, labels: &NameTable, instrs: &[Unresolved]) -> Result<Vec<Word>, Reason>
+    ensures { Gives (λ v. v.items) result (all_resolved_spec labels.now (map pending_of instrs.now)) }
 {
     let mut all = Vec::new(alloc);
     for instr in instrs {
@@ -66,10 +66,10 @@ fn judged(number: usize, words: Vec<Word>) -> Result<Program, Reason>
 pub fn program_of(
     alloc: Global,
     number: usize,
-    labels: &Table,
+    labels: &NameTable,
     instrs: &[Unresolved],
 ) -> Result<Program, Reason>
-    ensures { Gives (λ p. p) result (program_of_spec labels.now (map shown instrs.now)) }
+    ensures { Gives (λ p. p) result (program_of_spec labels.now (map pending_of instrs.now)) }
 {
     let words = all_resolved(alloc, labels, instrs)?;
     judged(number, words)

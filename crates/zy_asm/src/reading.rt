@@ -2,8 +2,8 @@
 ghost use Rattle.std.specs.Prelude.{◌≡◌, ◌≤◌, ◌<◌, ◌∷◌, ◌++◌, [], length, map, IfOk, IfSome, Ok, Some};
 ghost use Rattle.zy_asm.specs.Reasons.{by_kind, seen_word};
 ghost use Rattle.zy_text.specs.Lines.{texts};
-ghost use Rattle.zy_asm.specs.Pending.{shown, whole};
-ghost use Rattle.zy_asm.specs.Reading.{Steps, Reads, seen, keyword_of as keyword_of_spec, headed as headed_spec, rule_of as rule_of_spec, zephyr_line, cap_line, pages_line, rule_line, row_with as row_with_spec, row_of as row_of_spec, add_row, row_at, instr_line, instr_at, note_label, behind_label, label_line, closed, own_number as own_number_spec, note_name, head_line, open_line, txn_at, repeat_choice, repeat_line, plain_line, txn_action_line, choice_line, end_line, statement, body_line, step, line_step, ended as ended_spec, reading};
+ghost use Rattle.zy_asm.specs.Pending.{pending_of, whole};
+ghost use Rattle.zy_asm.specs.Reading.{Steps, Reads, progress_of, keyword_of as keyword_of_spec, headed as headed_spec, rule_of as rule_of_spec, zephyr_line, cap_line, pages_line, rule_line, row_with as row_with_spec, row_of as row_of_spec, add_row, row_at, instr_line, instr_at, note_label, behind_label, label_line, closed, own_number as own_number_spec, note_name, head_line, open_line, txn_at, repeat_choice, repeat_line, plain_line, txn_action_line, choice_line, end_line, statement, body_line, step, line_step, ended as ended_spec, reading};
 
 use crate::choices::{
     Action, TxnAction, action_of, actor_of, are_times, chosen, not_times, numbered_choice,
@@ -15,7 +15,7 @@ use crate::numbers::number_in;
 use crate::pending::{Unresolved, program_of};
 use crate::shown::Shown;
 use crate::state::{Reader, Stage};
-use crate::table::Table;
+use crate::name_table::NameTable;
 use std::alloc::Global;
 use zy_isa::choice::Choice;
 use zy_isa::instr::Instr;
@@ -127,7 +127,7 @@ fn own_number(count: usize, word: &[u8]) -> Result<usize, Reason>
 
 impl Reader {
     fn zephyr_line(&mut self, words: &[&[u8]]) -> Result<(), Reason>
-        ensures { Steps result (seen self.new) (zephyr_line (seen self.old) (texts words.now)) }
+        ensures { Steps result (progress_of self.new) (zephyr_line (progress_of self.old) (texts words.now)) }
     {
         let Some(version) = Version::named(headed(words, b"zephyr")?) else {
             return Err(Reason::NotTheHeader);
@@ -138,7 +138,7 @@ impl Reader {
     }
 
     fn cap_line(&mut self, words: &[&[u8]]) -> Result<(), Reason>
-        ensures { Steps result (seen self.new) (cap_line (seen self.old) (texts words.now)) }
+        ensures { Steps result (progress_of self.new) (cap_line (progress_of self.old) (texts words.now)) }
     {
         self.cap = number_in(headed(words, b"cap")?, 2, u64::from(MAX_CAP))? as u8;
         self.stage = Stage::Pages;
@@ -146,7 +146,7 @@ impl Reader {
     }
 
     fn pages_line(&mut self, words: &[&[u8]]) -> Result<(), Reason>
-        ensures { Steps result (seen self.new) (pages_line (seen self.old) (texts words.now)) }
+        ensures { Steps result (progress_of self.new) (pages_line (progress_of self.old) (texts words.now)) }
     {
         self.pages = number_in(headed(words, b"pages")?, 1, u64::from(MAX_PAGES))? as u16;
         self.stage = Stage::Rule;
@@ -154,7 +154,7 @@ impl Reader {
     }
 
     fn rule_line(&mut self, words: &[&[u8]]) -> Result<(), Reason>
-        ensures { Steps result (seen self.new) (rule_line (seen self.old) (texts words.now)) }
+        ensures { Steps result (progress_of self.new) (rule_line (progress_of self.old) (texts words.now)) }
     {
         let Some(rule) = rule_of(headed(words, b"rule")?) else {
             return Err(Reason::NotTheHeader);
@@ -165,7 +165,7 @@ impl Reader {
     }
 
     fn add_row(&mut self, row: Row) -> Result<(), Reason>
-        ensures { Steps result (seen self.new) (add_row (seen self.old) row) }
+        ensures { Steps result (progress_of self.new) (add_row (progress_of self.old) row) }
     {
         let count = self.rows.len();
         if count >= MAX_ROWS {
@@ -187,7 +187,7 @@ impl Reader {
     }
 
     fn row_line(&mut self, words: &[&[u8]]) -> Result<(), Reason>
-        ensures { Steps result (seen self.new) (row_at self.old.stage (seen self.old) (texts words.now)) }
+        ensures { Steps result (progress_of self.new) (row_at self.old.stage (progress_of self.old) (texts words.now)) }
     {
         if self.stage != Stage::Rows {
             return Err(Reason::Misplaced);
@@ -197,7 +197,7 @@ impl Reader {
     }
 
     fn instr_line(&mut self, operation: Operation, words: &[&[u8]]) -> Result<(), Reason>
-        ensures { Steps result (seen self.new) (instr_line (seen self.old) operation (texts words.now)) }
+        ensures { Steps result (progress_of self.new) (instr_line (progress_of self.old) operation (texts words.now)) }
     {
         let instr = instr_of(self.alloc, operation, words)?;
         if self.instrs.len() >= MAX_INSTRS {
@@ -208,7 +208,7 @@ impl Reader {
     }
 
     fn program_line(&mut self, operation: Operation, words: &[&[u8]]) -> Result<(), Reason>
-        ensures { Steps result (seen self.new) (instr_at self.old.stage (seen self.old) operation (texts words.now)) }
+        ensures { Steps result (progress_of self.new) (instr_at self.old.stage (progress_of self.old) operation (texts words.now)) }
     {
         if self.stage != Stage::Program {
             return Err(Reason::Misplaced);
@@ -217,7 +217,7 @@ impl Reader {
     }
 
     fn note_label(&mut self, name: &[u8]) -> Result<(), Reason>
-        ensures { Steps result (seen self.new) (note_label (seen self.old) name.now) }
+        ensures { Steps result (progress_of self.new) (note_label (progress_of self.old) name.now) }
     {
         if self.labels.find(name).is_some() {
             return Err(Reason::LabelTwice(Shown::of(name)));
@@ -230,7 +230,7 @@ impl Reader {
     }
 
     fn behind_label(&mut self, words: &[&[u8]]) -> Result<(), Reason>
-        ensures { Steps result (seen self.new) (behind_label (seen self.old) (texts words.now)) }
+        ensures { Steps result (progress_of self.new) (behind_label (progress_of self.old) (texts words.now)) }
     {
         let Some((first, rest)) = words.split_first() else {
             return Ok(());
@@ -242,7 +242,7 @@ impl Reader {
     }
 
     fn label_line(&mut self, name: &[u8], words: &[&[u8]]) -> Result<(), Reason>
-        ensures { Steps result (seen self.new) (label_line (seen self.old) name.now (texts words.now)) }
+        ensures { Steps result (progress_of self.new) (label_line (progress_of self.old) name.now (texts words.now)) }
     {
         if !is_name(name) {
             return Err(Reason::NotAName(Shown::of(name)));
@@ -257,7 +257,7 @@ impl Reader {
     /// Closes the program that is open.
     #[inline(always)]
     fn close(&mut self) -> Result<(), Reason>
-        ensures { Steps result (seen self.new) (closed (seen self.old)) }
+        ensures { Steps result (progress_of self.new) (closed (progress_of self.old)) }
     {
         if self.stage == Stage::Program {
             let number = self.programs.len();
@@ -274,7 +274,7 @@ impl Reader {
 
     fn note_name(&mut self, name: &[u8]) -> Result<(), Reason>
         requires { length self.old.programs.items ≤ 64 }
-        ensures { Steps result (seen self.new) (note_name (seen self.old) name.now) }
+        ensures { Steps result (progress_of self.new) (note_name (progress_of self.old) name.now) }
     {
         if self.names.find(name).is_some() {
             return Err(Reason::NameTwice(Shown::of(name)));
@@ -287,7 +287,7 @@ impl Reader {
     }
 
     fn head_line(&mut self, word: &[u8]) -> Result<(), Reason>
-        ensures { Steps result (seen self.new) (head_line (seen self.old) word.now) }
+        ensures { Steps result (progress_of self.new) (head_line (progress_of self.old) word.now) }
     {
         if is_numeral(word) {
             own_number(self.programs.len(), word)?;
@@ -300,7 +300,7 @@ impl Reader {
     }
 
     fn open_line(&mut self, words: &[&[u8]]) -> Result<(), Reason>
-        ensures { Steps result (seen self.new) (open_line (seen self.old) (texts words.now)) }
+        ensures { Steps result (progress_of self.new) (open_line (progress_of self.old) (texts words.now)) }
     {
         match words {
             [t] => {
@@ -316,7 +316,7 @@ impl Reader {
     }
 
     fn txn_line(&mut self, words: &[&[u8]]) -> Result<(), Reason>
-        ensures { Steps result (seen self.new) (txn_at self.old.stage (seen self.old) (texts words.now)) }
+        ensures { Steps result (progress_of self.new) (txn_at self.old.stage (progress_of self.old) (texts words.now)) }
     {
         if self.stage == Stage::Choices {
             return Err(Reason::Misplaced);
@@ -328,7 +328,7 @@ impl Reader {
     #[inline(always)]
     fn repeat_choice(&mut self, choice: Choice, times: u64) -> Result<(), Reason>
         requires { times ≤ 4096 }
-        ensures { Steps result (seen self.new) (repeat_choice (seen self.old) choice times) }
+        ensures { Steps result (progress_of self.new) (repeat_choice (progress_of self.old) choice times) }
     {
         let all = self.choices.len() + times as usize;
         if all > MAX_CHOICES {
@@ -350,14 +350,14 @@ impl Reader {
     /// Makes a choice as often as the words behind it say.
     #[inline(always)]
     fn repeat_line(&mut self, choice: Choice, times: &[&[u8]]) -> Result<(), Reason>
-        ensures { Steps result (seen self.new) (repeat_line (seen self.old) choice (texts times.now)) }
+        ensures { Steps result (progress_of self.new) (repeat_line (progress_of self.old) choice (texts times.now)) }
     {
         let times = times_of(times)?;
         self.repeat_choice(choice, times)
     }
 
     fn plain_line(&mut self, choice: Choice, times: &[&[u8]]) -> Result<(), Reason>
-        ensures { Steps result (seen self.new) (plain_line (seen self.old) choice (texts times.now)) }
+        ensures { Steps result (progress_of self.new) (plain_line (progress_of self.old) choice (texts times.now)) }
     {
         if !are_times(times) {
             return Err(not_times(times));
@@ -366,7 +366,7 @@ impl Reader {
     }
 
     fn txn_action_line(&mut self, action: TxnAction, words: &[&[u8]]) -> Result<(), Reason>
-        ensures { Steps result (seen self.new) (txn_action_line (seen self.old) action (texts words.now)) }
+        ensures { Steps result (progress_of self.new) (txn_action_line (progress_of self.old) action (texts words.now)) }
     {
         match words {
             [t, times @ ..] => {
@@ -381,7 +381,7 @@ impl Reader {
     }
 
     fn choice_line(&mut self, actor: Actor, words: &[&[u8]]) -> Result<(), Reason>
-        ensures { Steps result (seen self.new) (choice_line (seen self.old) actor (texts words.now)) }
+        ensures { Steps result (progress_of self.new) (choice_line (progress_of self.old) actor (texts words.now)) }
     {
         let Some((action, rest)) = words.split_first() else {
             return Err(Reason::WordCount);
@@ -394,7 +394,7 @@ impl Reader {
     }
 
     fn end_line(&mut self, words: &[&[u8]]) -> Result<(), Reason>
-        ensures { Steps result (seen self.new) (end_line (seen self.old) (texts words.now)) }
+        ensures { Steps result (progress_of self.new) (end_line (progress_of self.old) (texts words.now)) }
     {
         if !words.is_empty() {
             return Err(Reason::WordCount);
@@ -405,7 +405,7 @@ impl Reader {
 
     /// Takes a line below the header, whose first word is this keyword.
     fn statement(&mut self, keyword: Keyword, words: &[&[u8]]) -> Result<(), Reason>
-        ensures { Steps result (seen self.new) (statement (Some keyword) (seen self.old) (texts words.now)) }
+        ensures { Steps result (progress_of self.new) (statement (Some keyword) (progress_of self.old) (texts words.now)) }
     {
         match keyword {
             Keyword::Header => Err(Reason::Misplaced),
@@ -424,7 +424,7 @@ impl Reader {
     }
 
     fn body_line(&mut self, words: &[&[u8]]) -> Result<(), Reason>
-        ensures { Steps result (seen self.new) (body_line (seen self.old) (texts words.now)) }
+        ensures { Steps result (progress_of self.new) (body_line (progress_of self.old) (texts words.now)) }
     {
         let Some((first, rest)) = words.split_first() else {
             return Err(Reason::WordCount);
@@ -441,7 +441,7 @@ impl Reader {
     /// Takes a line with words.
     #[inline(never)]
     fn worded_line(&mut self, words: &[&[u8]]) -> Result<(), Reason>
-        ensures { Steps result (seen self.new) (step (seen self.old) (texts words.now)) }
+        ensures { Steps result (progress_of self.new) (step (progress_of self.old) (texts words.now)) }
     {
         match self.stage {
             Stage::Zephyr => self.zephyr_line(words),
@@ -456,7 +456,7 @@ impl Reader {
     /// The choice of a line, where it is made once and names its transaction by number, as most do, and there is place for it.
     #[inline(always)]
     fn usual_choice(&self, actor: &[u8], action: &[u8], t: &[u8]) -> Option<Choice>
-        ensures { IfSome result (λ c. (line_step (seen self.now) (actor.now ∷ action.now ∷ t.now ∷ []) ≡ Ok (record (seen self.now) { choices = self.now.choices.items ++ c ∷ [] })) × (length self.now.choices.items < 4096)) }
+        ensures { IfSome result (λ c. (line_step (progress_of self.now) (actor.now ∷ action.now ∷ t.now ∷ []) ≡ Ok (record (progress_of self.now) { choices = self.now.choices.items ++ c ∷ [] })) × (length self.now.choices.items < 4096)) }
     {
         if self.stage != Stage::Choices {
             return None;
@@ -472,7 +472,7 @@ impl Reader {
     /// The choice of a line that names no transaction and is made once, where there is place for it.
     #[inline(always)]
     fn usual_plain(&self, actor: &[u8], action: &[u8]) -> Option<Choice>
-        ensures { IfSome result (λ c. (line_step (seen self.now) (actor.now ∷ action.now ∷ []) ≡ Ok (record (seen self.now) { choices = self.now.choices.items ++ c ∷ [] })) × (length self.now.choices.items < 4096)) }
+        ensures { IfSome result (λ c. (line_step (progress_of self.now) (actor.now ∷ action.now ∷ []) ≡ Ok (record (progress_of self.now) { choices = self.now.choices.items ++ c ∷ [] })) × (length self.now.choices.items < 4096)) }
     {
         if self.stage != Stage::Choices {
             return None;
@@ -488,7 +488,7 @@ impl Reader {
     /// The instruction of a line, where it has two words behind its operation and names no label, as most do, and there is place for it.
     #[inline(always)]
     fn usual_instr(&self, operation: &[u8], a: &[u8], b: &[u8]) -> Option<Instr>
-        ensures { IfSome result (λ i. (line_step (seen self.now) (operation.now ∷ a.now ∷ b.now ∷ []) ≡ Ok (record (seen self.now) { instrs = map shown self.now.instrs.items ++ whole i ∷ [] })) × (length self.now.instrs.items < 64)) }
+        ensures { IfSome result (λ i. (line_step (progress_of self.now) (operation.now ∷ a.now ∷ b.now ∷ []) ≡ Ok (record (progress_of self.now) { instrs = map pending_of self.now.instrs.items ++ whole i ∷ [] })) × (length self.now.instrs.items < 64)) }
     {
         if self.stage != Stage::Program {
             return None;
@@ -504,7 +504,7 @@ impl Reader {
     /// Takes a line.
     #[inline(always)]
     fn line(&mut self, words: &[&[u8]]) -> Result<(), Reason>
-        ensures { Steps result (seen self.new) (line_step (seen self.old) (texts words.now)) }
+        ensures { Steps result (progress_of self.new) (line_step (progress_of self.old) (texts words.now)) }
     {
         if let [first, second] = words {
             if let Some(choice) = self.usual_plain(first, second) {
@@ -552,9 +552,9 @@ pub fn read(alloc: Global, text: &str) -> Result<Reader, Refusal>
         pages: 1,
         rule: Rule::Held,
         rows: Vec::new(alloc),
-        names: Table::new(alloc),
+        names: NameTable::new(alloc),
         programs: Vec::new(alloc),
-        labels: Table::new(alloc),
+        labels: NameTable::new(alloc),
         instrs: Vec::new(alloc),
         choices: Vec::new(alloc),
     };

@@ -3,7 +3,7 @@ ghost use Rattle.std.specs.Prelude.{◌≡◌, ◌≤◌, ◌+◌, length};
 ghost use Rattle.zy_asm.specs.Stages.{open_programs};
 
 use crate::pending::Unresolved;
-use crate::table::Table;
+use crate::name_table::NameTable;
 use std::alloc::Global;
 use zy_isa::choice::Choice;
 use zy_isa::program::Program;
@@ -43,9 +43,9 @@ pub struct Reader {
     pub pages: u16,
     pub rule: Rule,
     pub rows: Vec<Row>,
-    pub names: Table,
+    pub names: NameTable,
     pub programs: Vec<Program>,
-    pub labels: Table,
+    pub labels: NameTable,
     pub instrs: Vec<Unresolved>,
     pub choices: Vec<Choice>,
     pub ghost some_cap: { 2 ≤ cap },

@@ -1,7 +1,7 @@
 mod ListingLemmas
 mod Worked
 mod LaidRows
-mod RunRows
+mod LoneSteps
 mod Gathered
 mod Covered
 mod Entries

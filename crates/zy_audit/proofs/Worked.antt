@@ -14,14 +14,14 @@ use Rattle.zy_isa.specs.Rows.{row}
 use Rattle.zy_isa.specs.Scenario.{Scenario}
 use Rattle.zy_wire.specs.Wireframe.{page_of}
 use Rattle.zy_table.specs.Change.{txn_at, begun, aborted, did, locked, committed}
-use Rattle.zy_table.specs.Client.{begin_at, begin_row, kill_row}
-use Rattle.zy_table.specs.Run.{abort_row, set_row, jump_row, commit_or_gone, commit_row, read_row, write_row, full_row, insert_row, access_row, page_row, key_row, effect_row, instr_row, run_row}
+use Rattle.zy_table.specs.Client.{begin_at, begin_step, kill_step}
+use Rattle.zy_table.specs.Run.{abort_step, set_step, jump_step, commit_or_gone, commit_step, read_step, write_step, full_step, insert_step, access_step, page_step, key_step, effect_step, instr_step, run_step}
 use Rattle.zy_table.specs.Play.{move, step, opening_leaves, opening}
 use Rattle.zy_audit.specs.Listing.{listing}
 
 -- opens the whole table
 unfoldable table : ℕ
-unfolding digits listing page_of txn_at begun aborted did locked committed begin_at begin_row kill_row abort_row set_row jump_row commit_or_gone commit_row read_row write_row full_row insert_row access_row page_row key_row effect_row instr_row run_row move step opening_leaves opening
+unfolding digits listing page_of txn_at begun aborted did locked committed begin_at begin_step kill_step abort_step set_step jump_step commit_or_gone commit_step read_step write_step full_step insert_step access_step page_step key_step effect_step instr_step run_step move step opening_leaves opening
 table = 0
 
 abbrev smallest : Scenario

@@ -44,7 +44,7 @@ pub(crate) fn written(
 #[derive(Drop)]
 struct LoneRun {
     regs: [u32; 8],
-    place: u32,
+    pc: u32,
     rows: RowList,
     over: bool,
 }
@@ -54,7 +54,7 @@ impl Model for LoneRun {
 
     ghost Value = { Lone };
 
-    ghost view = { λ x. record { regs = x.regs; pc = x.place; rows = x.rows.rows; over = x.over } };
+    ghost view = { λ x. record { regs = x.regs; pc = x.pc; rows = x.rows.rows; over = x.over } };
 }
 
 impl LoneRun {
@@ -64,7 +64,7 @@ impl LoneRun {
     {
         LoneRun {
             regs: [0; 8],
-            place: 0,
+            pc: 0,
             rows: RowList::new(alloc),
             over: false,
         }
@@ -92,9 +92,9 @@ impl LoneRun {
         ensures { OnOk result (let m = map_of table.now in
             on_map m self.new ≡ alone_instr m (slice_get program.now self.old.pc) (on_map m self.old)) }
     {
-        let place = self.place as usize;
-        if place < program.len() {
-            let effect = effect_of(program.instr(place), &self.regs);
+        let pc = self.pc as usize;
+        if pc < program.len() {
+            let effect = effect_of(program.instr(pc), &self.regs);
             return self.effect(table, effect);
         }
         self.give_up();
@@ -104,7 +104,7 @@ impl LoneRun {
     /// The effect of an instruction.
     fn effect(&mut self, table: &Table, effect: Effect) -> Result<(), AllocError>
         requires on { self.old.over ≡ false }
-        requires place { self.old.pc + 1 < 2 ^ 32 }
+        requires pc { self.old.pc + 1 < 2 ^ 32 }
         ensures { OnOk result (let m = map_of table.now in
             on_map m self.new ≡ alone_effect m effect (on_map m self.old)) }
     {
@@ -122,7 +122,7 @@ impl LoneRun {
     /// An access, if its key is one.
     fn access(&mut self, table: &Table, access: Access, key: u32) -> Result<(), AllocError>
         requires on { self.old.over ≡ false }
-        requires place { self.old.pc + 1 < 2 ^ 32 }
+        requires pc { self.old.pc + 1 < 2 ^ 32 }
         ensures { OnOk result (let m = map_of table.now in
             on_map m self.new ≡ alone_effect m (Accesses access key) (on_map m self.old)) }
     {
@@ -143,7 +143,7 @@ impl LoneRun {
     /// `read` at a key.
     fn read(&mut self, table: &Table, r: Reg, key: u16)
         requires on { self.old.over ≡ false }
-        requires place { self.old.pc + 1 < 2 ^ 32 }
+        requires pc { self.old.pc + 1 < 2 ^ 32 }
         ensures { let m = map_of table.now in on_map m self.new ≡ alone_access m (Reads r) key (on_map m self.old) }
     {
         let value = self.value(table, key).unwrap_or(0);
@@ -153,7 +153,7 @@ impl LoneRun {
     /// `write` at a key.
     fn write(&mut self, table: &Table, key: u16, value: u32) -> Result<(), AllocError>
         requires on { self.old.over ≡ false }
-        requires place { self.old.pc + 1 < 2 ^ 32 }
+        requires pc { self.old.pc + 1 < 2 ^ 32 }
         ensures { OnOk result (let m = map_of table.now in
             on_map m self.new ≡ alone_access m (Writes value) key (on_map m self.old)) }
     {
@@ -167,7 +167,7 @@ impl LoneRun {
     /// `insert` at a key.
     fn insert(&mut self, table: &Table, key: u16, value: u32) -> Result<(), AllocError>
         requires on { self.old.over ≡ false }
-        requires place { self.old.pc + 1 < 2 ^ 32 }
+        requires pc { self.old.pc + 1 < 2 ^ 32 }
         ensures { OnOk result (let m = map_of table.now in
             on_map m self.new ≡ alone_access m (Inserts value) key (on_map m self.old)) }
     {
@@ -181,7 +181,7 @@ impl LoneRun {
     /// `sum` of the keys from one to another.
     fn sum(&mut self, table: &Table, r: Reg, first: u32, last: u32)
         requires on { self.old.over ≡ false }
-        requires place { self.old.pc + 1 < 2 ^ 32 }
+        requires pc { self.old.pc + 1 < 2 ^ 32 }
         ensures { let m = map_of table.now in
             on_map m self.new ≡ alone_effect m (Sums r first last) (on_map m self.old) }
     {
@@ -219,7 +219,7 @@ impl LoneRun {
         ensures { self.new ≡ record self.old { pc = self.old.pc + 1; regs = with_reg r value self.old.regs } }
     {
         self.regs[r.index()] = value;
-        self.place += 1;
+        self.pc += 1;
     }
 
     /// The run goes on at a target, or where it is not taken at the next instruction.
@@ -227,7 +227,7 @@ impl LoneRun {
         requires { self.old.pc + 1 < 2 ^ 32 }
         ensures { self.new ≡ record self.old { pc = if taken then target else self.old.pc + 1 } }
     {
-        self.place = if taken { target } else { self.place + 1 };
+        self.pc = if taken { target } else { self.pc + 1 };
     }
 
     /// A row is written, and the run goes on.
@@ -238,7 +238,7 @@ impl LoneRun {
     {
         self.rows.reserve_for(key)?;
         self.rows.put(key, value);
-        self.place += 1;
+        self.pc += 1;
         Ok(())
     }
 

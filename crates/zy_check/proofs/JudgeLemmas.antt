@@ -4,7 +4,7 @@ use Rattle.std.specs.Io.KnownBytes.{Appends}
 use Rattle.zy_io.specs.Streams.{WroteFront}
 use Rattle.zy_check.specs.declared.verdict.Verdict.{Verdict}
 use Rattle.zy_check.specs.Differs.{verdict}
-use Rattle.zy_check.specs.Comparing.{Compared, told}
+use Rattle.zy_check.specs.Comparing.{Compared, written_by}
 
 -- two lists with one more
 longer : (x y : ℕ) (xs ys : List ℕ) → x ≡ y → xs ≡ ys → x ∷ xs ≡ y ∷ ys
@@ -25,22 +25,22 @@ abbrev pub fresh : List ℕ → Compared
 fresh input = record { input = input; text = []; refusals = 0 }
 
 -- what was told since tells which input it is and what was taken
-pub told_parts : (input more : List ℕ) (s : Compared) → told s ≡ told (fresh input) ++ more → (s.input ≡ input) × (s.text ≡ more)
+pub told_parts : (input more : List ℕ) (s : Compared) → written_by s ≡ written_by (fresh input) ++ more → (s.input ≡ input) × (s.text ≡ more)
 told_parts input more s h =
     same_parts s.input input s.text more (ap (λ l. get_or l 0 0) h) (ap (drop 1) h ∙ ap (λ l. l ++ more) (append-nil input))
 
 module _ (input listing : List ℕ) (old new : Compared) (v : Verdict) (begun : old ≡ fresh input) where
   -- a prefix of the listing was taken, and the verdict is that against it and what is behind it
-  by_parts : (more back : List ℕ) → listing ≡ more ++ back → told new ≡ told old ++ more → v ≡ verdict new.input (new.text ++ back) → v ≡ verdict input listing
+  by_parts : (more back : List ℕ) → listing ≡ more ++ back → written_by new ≡ written_by old ++ more → v ≡ verdict new.input (new.text ++ back) → v ≡ verdict input listing
   by_parts more back whole wrote h =
-      let p = told_parts input more new (wrote ∙ ap (λ (s : Compared). told s ++ more) begun) in
+      let p = told_parts input more new (wrote ∙ ap (λ (s : Compared). written_by s ++ more) begun) in
       rw (whole, ← p.0, ← p.1) h
 
   -- all of it was taken
-  pub judged_whole : Appends (Some (told old)) (Some (told new)) listing → v ≡ verdict new.input new.text → v ≡ verdict input listing
+  pub judged_whole : Appends (Some (written_by old)) (Some (written_by new)) listing → v ≡ verdict new.input new.text → v ≡ verdict input listing
   judged_whole wrote h = by_parts listing [] (sym (append-nil listing)) wrote (h ∙ ap (verdict new.input) (sym (append-nil new.text)))
 
   -- a prefix of it was, and then something was refused
-  pub judged_front : WroteFront (Some (told old)) (Some (told new)) listing → new.refusals ≡ old.refusals + 1
+  pub judged_front : WroteFront (Some (written_by old)) (Some (written_by new)) listing → new.refusals ≡ old.refusals + 1
       → (0 < new.refusals → (back : List ℕ) → v ≡ verdict new.input (new.text ++ back)) → v ≡ verdict input listing
   judged_front wrote once h = by_parts wrote.0 wrote.1 wrote.2 wrote.3 (h (omega (arith, once)) wrote.1)

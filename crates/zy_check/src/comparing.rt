@@ -1,7 +1,7 @@
 //! A sink that compares.
 ghost use Rattle.std.specs.Prelude.{◌≡◌, ◌<◌, ◌≤◌, ◌+◌, ◌++◌, [], ◌∷◌, ℕ, List, Some, length, take};
 ghost use Rattle.zy_check.specs.Differs.{common, feeds, verdict as verdict_spec};
-ghost use Rattle.zy_check.specs.Comparing.{told};
+ghost use Rattle.zy_check.specs.Comparing.{written_by};
 
 use crate::verdict::Verdict;
 use std::io;
@@ -94,7 +94,7 @@ impl<'a> Comparing<'a> {
 }
 
 impl Sink for Comparing<'_> {
-    ghost written = { λ s. Some (told s) };
+    ghost written = { λ s. Some (written_by s) };
 
     ghost failures = { λ s. s.refusals };
 

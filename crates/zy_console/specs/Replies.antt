@@ -7,7 +7,7 @@ use Rattle.zy_table.specs.State.{State}
 use Rattle.zy_isa.specs.Scenario.{Scenario}
 use Rattle.zy_audit.specs.Locked.{page_reply}
 use Rattle.zy_audit.specs.Texts.{txn_text, link_text, mode_word}
-use Rattle.zy_scan.specs.Stops.{state_at}
+use Rattle.zy_stops.specs.Stops.{state_at}
 use Rattle.zy_debug.specs.Sessions.{Session}
 use Rattle.zy_debug.specs.declared.command.Reply.{Reply}
 use Rattle.zy_debug.specs.declared.command.Reply.TheVariants as reply

@@ -4,7 +4,7 @@ use Rattle.std.specs.Prelude.{drop, slice_get, take}
 use Rattle.circular_buffer.specs.Buffer.{keep_last}
 use Rattle.zy_isa.specs.Scenario.{Scenario}
 use Rattle.zy_machine.specs.Histories.{History}
-use Rattle.zy_debug.specs.Checkpoints.{Kept, AreReplaysOf, IsReplayOf, is_kept, noted}
+use Rattle.zy_debug.specs.Checkpoints.{Kept, AreReplaysOf, IsReplayOf, is_kept, with_copy}
 
 -- the last ones stay
 AreReplaysOf-drop : (sc : Scenario) (n : ℕ) (hs : List History) → AreReplaysOf sc hs → AreReplaysOf sc (drop n hs)
@@ -30,7 +30,7 @@ noted_by sc h k true a r = a
 noted_by sc h k false a r = AreReplaysOf-drop sc (length (k.machines ++ h ∷ []) - k.room) (k.machines ++ h ∷ []) (AreReplaysOf-push sc k.machines h a r)
 
 -- one more may be kept
-pub AreReplaysOf-noted : (sc : Scenario) (h : History) (k : Kept) → AreReplaysOf sc k.machines → IsReplayOf sc h → AreReplaysOf sc (noted h k).machines
+pub AreReplaysOf-noted : (sc : Scenario) (h : History) (k : Kept) → AreReplaysOf sc k.machines → IsReplayOf sc h → AreReplaysOf sc (with_copy h k).machines
 AreReplaysOf-noted sc h k a r = noted_by sc h k (is_kept k (length h.entries)) a r
 
 -- each of them is one
@@ -45,7 +45,7 @@ AreReplaysOf-found sc hs i None a e = tt
 AreReplaysOf-found sc hs i (Some h) a e = AreReplaysOf-at sc hs i h a (sym e)
 
 -- one more is kept, or there was no memory for it
-pub AreReplaysOf-tried : {X Y : Type 0} (sc : Scenario) (h : History) (k j : Kept) (r : Result X Y) → OnOk r (j ≡ noted h k) → OnErr r (j ≡ k)
+pub AreReplaysOf-tried : {X Y : Type 0} (sc : Scenario) (h : History) (k j : Kept) (r : Result X Y) → OnOk r (j ≡ with_copy h k) → OnErr r (j ≡ k)
     → AreReplaysOf sc k.machines → IsReplayOf sc h → AreReplaysOf sc j.machines
 AreReplaysOf-tried sc h k j (Ok x) o e a r = rw o (AreReplaysOf-noted sc h k a r)
 AreReplaysOf-tried sc h k j (Err x) o e a r = rw e a

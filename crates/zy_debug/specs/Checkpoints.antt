@@ -4,7 +4,7 @@ use Rattle.std.specs.List.{list_any}
 use Rattle.circular_buffer.specs.Buffer.{keep_last}
 use Rattle.zy_isa.specs.Scenario.{Scenario}
 use Rattle.zy_machine.specs.Histories.{History}
-use Rattle.zy_scan.specs.Scans.{Follows}
+use Rattle.zy_stops.specs.Scans.{Follows}
 
 -- the machines in the order in which they came, and how many there may be
 pub record Kept : Type 0 where
@@ -15,8 +15,8 @@ abbrev pub is_kept : Kept → ℕ → Bool
 is_kept k m = list_any (λ (h : History). length h.entries == m) k.machines
 
 -- a copy more, unless one of its position is kept; where there is no room the oldest goes
-abbrev pub noted : History → Kept → Kept
-noted h k = if is_kept k (length h.entries) then k else record k { machines = keep_last k.room (k.machines ++ h ∷ []) }
+abbrev pub with_copy : History → Kept → Kept
+with_copy h k = if is_kept k (length h.entries) then k else record k { machines = keep_last k.room (k.machines ++ h ∷ []) }
 
 -- the copies that are spread over the scenario, the last ones that were passed, and those close to where a replay ended
 pub record Shelves : Type 0 where

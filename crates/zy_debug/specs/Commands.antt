@@ -1,10 +1,10 @@
 -- What each command refuses, where it goes, and what it replies.
 use Rattle.std.specs.Prelude.{ℕ, ◌≡◌, ◌+◌, ◌-◌, ◌==◌, ◌&&◌, Bool, true, false, not, nat_le, nat_lt, length, is_none, slice_get, Option, Some, None, Result, Ok, Err}
-use Rattle.zy_scan.specs.declared.stop.Stop.{Stop}
-use Rattle.zy_scan.specs.declared.stop.Stop.TheVariants as stop
-use Rattle.zy_scan.specs.Stops.{Slots}
-use Rattle.zy_scan.specs.Slots.{free_slot, with_stop, without_stop, is_set}
-use Rattle.zy_scan.specs.Scans.{Conts, RConts}
+use Rattle.zy_stops.specs.declared.stop.Stop.{Stop}
+use Rattle.zy_stops.specs.declared.stop.Stop.TheVariants as stop
+use Rattle.zy_stops.specs.Stops.{Slots}
+use Rattle.zy_stops.specs.Slots.{free_slot, with_stop, without_stop, is_set}
+use Rattle.zy_stops.specs.Scans.{Conts, RConts}
 use Rattle.zy_debug.specs.declared.command.Command.{Command}
 use Rattle.zy_debug.specs.declared.command.Command.TheVariants as command
 use Rattle.zy_debug.specs.declared.command.Reply.{Reply}

@@ -1,8 +1,8 @@
 //! The debugger: a position and sixteen stops.
 ghost use Rattle.std.specs.Prelude.{◌≡◌, true, false, ◌≤◌, ◌<◌, ◌==◌, ◌&&◌, ◌-◌, not, IfOk, IfSome, OnOk, OnErr, length, replicate, None, nat_le, nat_lt, slice_get, option_copied};
-ghost use Rattle.zy_scan.specs.declared.stop.Stop.TheVariants as stop;
-ghost use Rattle.zy_scan.specs.Scans.{Conts, RConts, LastIn};
-ghost use Rattle.zy_scan.specs.Slots.{free_slot, with_stop, without_stop, is_set};
+ghost use Rattle.zy_stops.specs.declared.stop.Stop.TheVariants as stop;
+ghost use Rattle.zy_stops.specs.Scans.{Conts, RConts, LastIn};
+ghost use Rattle.zy_stops.specs.Slots.{free_slot, with_stop, without_stop, is_set};
 ghost use Rattle.zy_debug.specs.Commands.{refusal, Does, Obeys, Moves, GoesOn, GoesBack, Sets, Deletes, Stays, has_room, has_room_in_range, has_stop, in_range, unless};
 ghost use Rattle.zy_debug.specs.Checkpoints.{IsReplayOf};
 ghost use Rattle.zy_debug.specs.declared.command.DebugFault.TheVariants as fault;
@@ -16,10 +16,10 @@ use std::alloc::{AllocError, Global};
 use std::marker::Model;
 use zy_isa::scenario::Scenario;
 use zy_machine::machine::Machine;
-use zy_scan::replay::{restart, start};
-use zy_scan::scan::{cont, last_firing};
-use zy_scan::stop::Stop;
-use zy_scan::stops::Stops;
+use zy_stops::replay::{restart, start};
+use zy_stops::scan::{cont, last_firing};
+use zy_stops::stop::Stop;
+use zy_stops::stops::Stops;
 
 /// A scenario, a position in its choices, and stops.
 #[derive(Drop)]
@@ -33,7 +33,7 @@ pub struct Debugger {
 impl Model for Debugger {
     ghost use Rattle.std.specs.Prelude.{length};
     ghost use Rattle.zy_debug.specs.Sessions.{Session};
-    ghost use Rattle.zy_scan.specs.Scans.{Follows};
+    ghost use Rattle.zy_stops.specs.Scans.{Follows};
     ghost use Rattle.zy_debug.specs.Checkpoints.{HoldReplaysOf};
 
     ghost Value = { Session };

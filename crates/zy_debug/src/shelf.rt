@@ -3,7 +3,7 @@ ghost use Rattle.std.specs.Prelude.{◌≡◌, true, ◌≤◌, [], IfOk, IfSome
 ghost use Rattle.circular_buffer.specs.Buffer.{last_item};
 ghost use Rattle.zy_isa.specs.Scenario.{Scenario as AScenario};
 ghost use Rattle.zy_machine.specs.Histories.{History};
-ghost use Rattle.zy_debug.specs.Checkpoints.{AreReplaysOf, IsReplayOf, is_kept, noted};
+ghost use Rattle.zy_debug.specs.Checkpoints.{AreReplaysOf, IsReplayOf, is_kept, with_copy};
 
 use circular_buffer::HeapCircularBuffer;
 use std::alloc::{AllocError, Global};
@@ -42,7 +42,7 @@ impl Shelf {
 
     /// Keeps a copy of a machine, unless one of its position is kept.
     pub fn note(&mut self, alloc: Global, machine: &Machine) -> Result<(), AllocError>
-        ensures ok { OnOk result (self.new ≡ noted machine.now self.old) }
+        ensures ok { OnOk result (self.new ≡ with_copy machine.now self.old) }
         ensures err { OnErr result (self.new ≡ self.old) }
     {
         if !self.is_kept(machine.len()) {

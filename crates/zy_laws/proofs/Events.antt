@@ -19,7 +19,7 @@ use Rattle.zy_locks.specs.Locks.{conflict, is_locked}
 use Rattle.zy_modes.specs.declared.mode.NodeMode.{NodeMode}
 use Rattle.zy_modes.specs.declared.mode.NodeMode.TheVariants.{Empty, Normal, SInit, SDual, SFinish, DInit, DDual, DFinish}
 use Rattle.zy_links.specs.declared.kind.Kind.TheVariants as kind
-use Rattle.zy_modes.specs.declared.table.MsgRow.TheVariants.{Stray, Turns}
+use Rattle.zy_modes.specs.declared.table.MessageLine.TheVariants.{Stray, Turns}
 use Rattle.zy_modes.specs.Table.{may_start, on_finish, home_of, may_split, may_pull, may_push, is_waiting}
 use Rattle.zy_links.specs.Messages.{Wire, Ready, Dual, Pull, Page, Finish, Done}
 use Rattle.zy_table.specs.declared.outcome.Why.{Why}
@@ -31,17 +31,17 @@ use Rattle.zy_wire.specs.Wireframe.{page_of}
 use Rattle.zy_table.specs.Numbers.{has, least}
 use Rattle.zy_table.specs.Pages.{owns, numbers}
 use Rattle.zy_table.specs.Change.{quiet, begun, aborted, did, txn_at, locked, shares, committed, cut, with_reg, txn_or, asks, leaves, turns, with_arrived, with_lows}
-use Rattle.zy_table.specs.Client.{is_new, is_active, start_row, begin_row, begin_at, kill_row}
+use Rattle.zy_table.specs.Client.{is_new, is_active, start_step, begin_step, begin_at, kill_step}
 use Rattle.zy_table.specs.declared.access.Access.TheVariants as access
 use Rattle.zy_table.specs.declared.effect.Effect.TheVariants as effect
 use Rattle.zy_table.specs.declared.effect.Effect.{Effect}
 use Rattle.zy_table.specs.Effects.{effect_of}
-use Rattle.zy_table.specs.Run.{boundary, same_node, program_of, abort_row, set_row, jump_row, gone_pages, commit_or_gone, commit_row, absent_row, read_row, write_row, full_row, split_row, insert_row, lock_of, is_there, has_room, access_row, page_row, key_row, value_for, first_absent, first_taken, sum_row, sum_or_waits, sum_or_asks, range_row, effect_row, instr_row, run_row}
+use Rattle.zy_table.specs.Run.{boundary, same_node, program_of, abort_step, set_step, jump_step, gone_pages, commit_or_gone, commit_step, absent_step, read_step, write_step, full_step, split_step, insert_step, lock_of, is_there, has_room, access_step, page_step, key_step, value_for, first_absent, first_taken, sum_step, sum_or_waits, sum_or_asks, range_step, effect_step, instr_step, run_step}
 use Rattle.zy_table.specs.Ranges.{range, range_pages, total}
 use Rattle.zy_table.specs.declared.access.Access.{Access}
 use Rattle.zy_table.specs.declared.access.Access.TheVariants.{Reads}
-use Rattle.zy_table.specs.Take.{is_held, all_here, with_brought, got_row, pull_row, mode_row, message_row, front_row, take_row}
-use Rattle.zy_table.specs.Push.{active_from, finish_if, finish_row, push_if, push_row}
+use Rattle.zy_table.specs.Take.{is_held, all_here, with_brought, got_step, pull_step, mode_line, message_step, front_step, take_step}
+use Rattle.zy_table.specs.Push.{active_from, finish_if, finish_step, push_if, push_step}
 use Rattle.zy_laws.specs.Journey.{is_gone, is_stray}
 use Rattle.zy_table.specs.Play.{move, side_of}
 use Rattle.zy_laws.proofs.ModeLines.{wire_line, ready_line, dual_line, pull_line, page_line, finish_line, done_line, starts_at_a, starts_from, pushes_in_finish}
@@ -165,7 +165,7 @@ pub record Strange (v : View) : Type 0 where
   pub message : Message
   pub after : List Message
   pub front : v.inbox ≡ message ∷ after
-  pub line : mode_row message v ≡ Stray
+  pub line : mode_line message v ≡ Stray
 
 -- a split's outcome tells the number of the new page, a start's that it acted; and a page that is asked for is that of a key
 abbrev pub Told : {sc : Scenario} {n : Node} {v w : View} → Event sc n v w → Outcome → Type 0
@@ -192,14 +192,14 @@ rests sc n v o g s = plain sc n v (quiet v o) (Rests refl) g s tt
 
 -- the lines of run
 aborts : (sc : Scenario) (n : Node) (t : ℕ) (y : Why) (v : View) → is_active (txn_at v t).status ≡ true → (txn_at v t).node ≡ n
-    → (is_gone (outcome.Aborted y) ≡ true → Lost n v) → Happens sc n v (abort_row t y v)
-unfolding abort_row
+    → (is_gone (outcome.Aborted y) ≡ true → Lost n v) → Happens sc n v (abort_step t y v)
+unfolding abort_step
 aborts sc n t y v a h lost = record { event = Aborts t y a h refl; told = tt; lost = lost; strange = λ e. never e }
 
 -- the same with the page's lock taken
 aborts_locked : (sc : Scenario) (n : Node) (t p : ℕ) (kind : LockKind) (y : Why) (v : View) → is_active (txn_at v t).status ≡ true
-    → (txn_at v t).node ≡ n → is_gone (outcome.Aborted y) ≡ false → Happens sc n v (abort_row t y (locked t p kind v))
-unfolding abort_row
+    → (txn_at v t).node ≡ n → is_gone (outcome.Aborted y) ≡ false → Happens sc n v (abort_step t y (locked t p kind v))
+unfolding abort_step
 aborts_locked sc n t p kind y v a h g = plain sc n v _ (Aborts t y a h (aborted-locked t p kind y v)) g refl tt
 
 -- an effect that needs no page
@@ -209,8 +209,8 @@ goes_on sc n t e pc regs v runs leads = plain sc n v _ (GoesOn t e pc regs runs 
 
 full_happens : (sc : Scenario) (n : Node) (t k x : ℕ) (v : View) → Runs sc n t (effect.Accesses (access.Inserts x) k) v → Free t k Exclusive v
     → is_there k (page k v) v.me (txn_at v t) ≡ false → has_room sc (page k v) v.me (txn_at v t) ≡ false
-    → Happens sc n v (full_row sc t k (page k v) (has_lock t k Exclusive v))
-unfolding full_row split_row locked txn_at
+    → Happens sc n v (full_step sc t k (page k v) (has_lock t k Exclusive v))
+unfolding full_step split_step locked txn_at
 full_happens sc n t k x v runs f new full =
     cond_both (not (may_split v.me.mode)) _ _ (Happens sc n v)
     (λ _. aborts_locked sc n t (page k v) Exclusive _ v runs.active runs.here refl)
@@ -219,8 +219,8 @@ full_happens sc n t k x v runs f new full =
     (λ more. plain sc n v _ (Splits t k x runs f new full (not-false _ normal) more refl) refl refl (_, _, refl)))
 
 insert_happens : (sc : Scenario) (n : Node) (t k x : ℕ) (v : View) → Runs sc n t (effect.Accesses (access.Inserts x) k) v → Free t k Exclusive v
-    → Happens sc n v (insert_row sc t k x (page k v) (has_lock t k Exclusive v))
-unfolding insert_row locked txn_at
+    → Happens sc n v (insert_step sc t k x (page k v) (has_lock t k Exclusive v))
+unfolding insert_step locked txn_at
 insert_happens sc n t k x v runs f =
     cond_both (is_there k (page k v) v.me (txn_at v t)) _ _ (Happens sc n v)
     (λ _. aborts_locked sc n t (page k v) Exclusive _ v runs.active runs.here refl)
@@ -229,30 +229,30 @@ insert_happens sc n t k x v runs f =
     (λ full. full_happens sc n t k x v runs f new full))
 
 write_happens : (sc : Scenario) (n : Node) (t k x : ℕ) (v : View) → Runs sc n t (effect.Accesses (access.Writes x) k) v → Free t k Exclusive v
-    → Happens sc n v (write_row t k x (page k v) (has_lock t k Exclusive v))
-unfolding write_row locked txn_at
+    → Happens sc n v (write_step t k x (page k v) (has_lock t k Exclusive v))
+unfolding write_step locked txn_at
 write_happens sc n t k x v runs f =
     cond_both (is_there k (page k v) v.me (txn_at v t)) _ _ (Happens sc n v)
     (λ there. plain sc n v _ (Writes t k x runs f there refl) refl refl tt)
     (λ _. aborts_locked sc n t (page k v) Exclusive _ v runs.active runs.here refl)
 
 read_happens : (sc : Scenario) (n : Node) (t : ℕ) (r : Reg) (k : ℕ) (v : View) → Runs sc n t (effect.Accesses (Reads r) k) v → Free t k Shared v
-    → Happens sc n v (read_row t r k (page k v) (has_lock t k Shared v))
-unfolding read_row locked txn_at
+    → Happens sc n v (read_step t r k (page k v) (has_lock t k Shared v))
+unfolding read_step locked txn_at
 read_happens sc n t r k v runs f = plain sc n v _ (Gets t r k runs f refl) refl refl tt
 
 -- an access that has its lock
 access_happens : (sc : Scenario) (n : Node) (t k : ℕ) (i : Access) (v : View) → Runs sc n t (effect.Accesses i k) v → Free t k (lock_of i) v
-    → Happens sc n v (access_row sc t i k (page k v) (has_lock t k (lock_of i) v))
-unfolding access_row
+    → Happens sc n v (access_step sc t i k (page k v) (has_lock t k (lock_of i) v))
+unfolding access_step
 access_happens sc n t k (Reads r) v runs f = read_happens sc n t r k v runs f
 access_happens sc n t k (access.Writes x) v runs f = write_happens sc n t k x v runs f
 access_happens sc n t k (access.Inserts x) v runs f = insert_happens sc n t k x v runs f
 
 -- a page that is not here
 absent_happens : (sc : Scenario) (n : Node) (t k : ℕ) (e : Effect) (v : View) → Runs sc n t e v → owns v.me.pages (page_of v.me.lows k) ≡ false
-    → Happens sc n v (absent_row t (page_of v.me.lows k) v)
-unfolding absent_row
+    → Happens sc n v (absent_step t (page_of v.me.lows k) v)
+unfolding absent_step
 absent_happens sc n t k e v r gone =
     cond_both (not (may_pull v.me.mode)) _ _ (Happens sc n v)
     (λ s. aborts sc n t _ v r.active r.here (λ _. record { txn = t; key = k; active = r.active; here = r.here; begun = r.begun; gone = gone; cause = inl (not-true _ s) }))
@@ -261,8 +261,8 @@ absent_happens sc n t k e v r gone =
     (λ h. plain sc n v _ (Asks (page_of v.me.lows k) gone (not-false _ s) h refl) refl refl (k, refl)))
 
 -- an access by its key and its page
-key_happens : (sc : Scenario) (n : Node) (t k : ℕ) (i : Access) (v : View) → Runs sc n t (effect.Accesses i k) v → Happens sc n v (key_row sc t i k v)
-unfolding key_row page_row
+key_happens : (sc : Scenario) (n : Node) (t k : ℕ) (i : Access) (v : View) → Runs sc n t (effect.Accesses i k) v → Happens sc n v (key_step sc t i k v)
+unfolding key_step page_step
 key_happens sc n t k i v runs =
     cond_both (nat_lt 65535 k) _ _ (Happens sc n v)
     (λ _. aborts sc n t _ v runs.active runs.here (λ e. never e))
@@ -274,17 +274,17 @@ key_happens sc n t k i v runs =
 
 -- the first of a sum's pages that is not here
 sum_absent : (sc : Scenario) (n : Node) (t a b p : ℕ) (i : Effect) (v : View) → Runs sc n t i v → first_absent v.me.pages (range_pages v.me.lows a b) ≡ Some p
-    → Happens sc n v (absent_row t p v)
+    → Happens sc n v (absent_step t p v)
 sum_absent sc n t a b p i v runs e =
     let f = found_has (λ (z : ℕ). not (owns v.me.pages z)) (range_pages v.me.lows a b) p e in
     let k = key_of_page v.me.lows a b p f.0 in
-    subst (λ z. Happens sc n v (absent_row t z v)) k.1 (absent_happens sc n t k.0 i v runs (ap (owns v.me.pages) k.1 ∙ not-true _ f.1))
+    subst (λ z. Happens sc n v (absent_step t z v)) k.1 (absent_happens sc n t k.0 i v runs (ap (owns v.me.pages) k.1 ∙ not-true _ f.1))
 
 sum_waits_happens : (sc : Scenario) (n : Node) (t : ℕ) (r : Reg) (a b : ℕ) (o : Option ℕ) (v : View) → o ≡ first_taken v.me.locks t (range_pages v.me.lows a b)
     → Runs sc n t (effect.Sums r a b) v → nat_lt b a ≡ false → nat_lt 65535 b ≡ false
     → ((p : ℕ) → has (range_pages v.me.lows a b) p ≡ true → owns v.me.pages p ≡ true)
     → Happens sc n v (sum_or_waits t r a b o v)
-unfolding sum_or_waits sum_row set_row shares txn_at
+unfolding sum_or_waits sum_step set_step shares txn_at
 sum_waits_happens sc n t r a b (Some p) v e runs rises small here = rests sc n v _ refl refl
 sum_waits_happens sc n t r a b None v e runs rises small here =
     let taken : ℕ → Bool = λ z. conflict v.me.locks z t Shared in
@@ -300,8 +300,8 @@ sum_asks_happens sc n t r a b None v e runs rises small =
     let absent : ℕ → Bool = λ z. not (owns v.me.pages z) in
     sum_waits_happens sc n t r a b _ v refl runs rises small (λ p h. not-false _ (none_passes absent (range_pages v.me.lows a b) p (sym e) h))
 
-range_happens : (sc : Scenario) (n : Node) (t : ℕ) (r : Reg) (a b : ℕ) (v : View) → Runs sc n t (effect.Sums r a b) v → Happens sc n v (range_row t r a b v)
-unfolding range_row set_row
+range_happens : (sc : Scenario) (n : Node) (t : ℕ) (r : Reg) (a b : ℕ) (v : View) → Runs sc n t (effect.Sums r a b) v → Happens sc n v (range_step t r a b v)
+unfolding range_step set_step
 range_happens sc n t r a b v runs =
     cond_both (nat_lt b a) _ _ (Happens sc n v)
     (λ none. goes_on sc n t (effect.Sums r a b) ((txn_at v t).pc + 1) (with_reg r 0 (txn_at v t).regs) v runs (BySum r a b refl none refl refl))
@@ -329,8 +329,8 @@ commit_happens sc n t (Some p) v e r =
     record { txn = t; key = l.0; active = r.active; here = r.here; begun = r.begun; gone = l.2; cause = inr l.1 })
 commit_happens sc n t None v e r = plain sc n v _ (Commits t r (sym e) refl) refl refl tt
 
-effect_happens : (sc : Scenario) (n : Node) (t : ℕ) (e : Effect) (v : View) → Runs sc n t e v → Happens sc n v (effect_row sc t e v)
-unfolding effect_row set_row jump_row commit_row
+effect_happens : (sc : Scenario) (n : Node) (t : ℕ) (e : Effect) (v : View) → Runs sc n t e v → Happens sc n v (effect_step sc t e v)
+unfolding effect_step set_step jump_step commit_step
 effect_happens sc n t (effect.Sets r x) v runs =
     goes_on sc n t (effect.Sets r x) ((txn_at v t).pc + 1) (with_reg r x (txn_at v t).regs) v runs (BySet r x refl refl refl)
 effect_happens sc n t (effect.Jumps taken to) v runs =
@@ -341,8 +341,8 @@ effect_happens sc n t effect.Commits v runs = commit_happens sc n t _ v refl run
 effect_happens sc n t effect.Aborts v runs = aborts sc n t _ v runs.active runs.here (λ e. never e)
 
 instr_happens : (sc : Scenario) (n : Node) (t : ℕ) (o : Option Instr) (v : View) → ((i : Instr) → o ≡ Some i → Runs sc n t (effect_of i (txn_at v t).regs) v)
-    → Happens sc n v (instr_row sc t o (txn_at v t).regs v)
-unfolding instr_row
+    → Happens sc n v (instr_step sc t o (txn_at v t).regs v)
+unfolding instr_step
 instr_happens sc n t None v r = rests sc n v _ refl refl
 instr_happens sc n t (Some i) v r = effect_happens sc n t (effect_of i (txn_at v t).regs) v (r i refl)
 
@@ -352,8 +352,8 @@ same_node-true A B e = absurd (false≢true e)
 same_node-true B A e = absurd (false≢true e)
 same_node-true B B e = refl
 
-run_happens : (sc : Scenario) (n : Node) (t : ℕ) (v : View) → Happens sc n v (run_row sc n t v)
-unfolding run_row
+run_happens : (sc : Scenario) (n : Node) (t : ℕ) (v : View) → Happens sc n v (run_step sc n t v)
+unfolding run_step
 run_happens sc n t v =
     cond_both (not (is_active (txn_at v t).status)) _ _ (Happens sc n v)
     (λ _. rests sc n v _ refl refl)
@@ -365,8 +365,8 @@ run_happens sc n t v =
     record { instr = i; active = not-false _ a; here = same_node-true _ _ (not-false _ h); begun = b; next = e; does = refl }))))
 
 -- the client's lines
-start_happens : (sc : Scenario) (n : Node) (v : View) → (sc.version ≡ One → n ≡ A) → Happens sc n v (start_row v)
-unfolding start_row
+start_happens : (sc : Scenario) (n : Node) (v : View) → (sc.version ≡ One → n ≡ A) → Happens sc n v (start_step v)
+unfolding start_step
 start_happens sc n v at_a =
     cond_both (may_start v.me.mode v.them.mode) _ _ (Happens sc n v)
     (λ h. let modes = starts_from v.me.mode v.them.mode h in plain sc n v _ (Starts at_a modes.0 modes.1 refl) refl refl refl)
@@ -378,86 +378,86 @@ unfolding begin_at
 begin_at_happens sc t None v e s = rests sc A v _ refl refl
 begin_at_happens sc t (Some h) v e s = plain sc A v _ (Begins t h refl s (sym e) refl) refl refl tt
 
-begin_happens : (sc : Scenario) (t : ℕ) (v : View) → Happens sc A v (begin_row t v)
-unfolding begin_row
+begin_happens : (sc : Scenario) (t : ℕ) (v : View) → Happens sc A v (begin_step t v)
+unfolding begin_step
 begin_happens sc t v =
     cond_both (is_new (txn_at v t).status) _ _ (Happens sc A v)
     (λ s. begin_at_happens sc t _ v refl s)
     (λ _. rests sc A v _ refl refl)
 
-kill_happens : (sc : Scenario) (n : Node) (t : ℕ) (v : View) → (txn_at v t).node ≡ n → Happens sc n v (kill_row t v)
-unfolding kill_row
+kill_happens : (sc : Scenario) (n : Node) (t : ℕ) (v : View) → (txn_at v t).node ≡ n → Happens sc n v (kill_step t v)
+unfolding kill_step
 kill_happens sc n t v h =
     cond_both (is_active (txn_at v t).status) _ _ (Happens sc n v)
     (λ a. plain sc n v _ (Aborts t why.Killed a h refl) refl refl tt)
     (λ _. rests sc n v _ refl refl)
 
 -- the lines of take, where the mode table has one
-strays : (sc : Scenario) (n : Node) (m : Message) (ms : List Message) (v : View) → v.inbox ≡ m ∷ ms → mode_row m v ≡ Stray → Happens sc n v (got_row (mode_row m v) m v (rest v ms))
-unfolding got_row
+strays : (sc : Scenario) (n : Node) (m : Message) (ms : List Message) (v : View) → v.inbox ≡ m ∷ ms → mode_line m v ≡ Stray → Happens sc n v (got_step (mode_line m v) m v (rest v ms))
+unfolding got_step
 strays sc n m ms v f e =
-    subst (λ line. Happens sc n v (got_row line m v (rest v ms))) (sym e)
+    subst (λ line. Happens sc n v (got_step line m v (rest v ms))) (sym e)
     (record { event = Rests refl; told = tt; lost = λ h. never h; strange = λ _. record { message = m; after = ms; front = f; line = e } })
 
 wire_happens : (sc : Scenario) (n : Node) (lows : List ℕ) (ms : List Message) (v : View) → v.inbox ≡ Wire lows ∷ ms
-    → Happens sc n v (got_row (mode_row (Wire lows) v) (Wire lows) v (rest v ms))
-unfolding got_row
+    → Happens sc n v (got_step (mode_line (Wire lows) v) (Wire lows) v (rest v ms))
+unfolding got_step
 wire_happens sc n lows ms v f =
     elim (wire_line v.me.mode (all_here (with_brought (Wire lows) v.me))) [
       | inl e ↦ strays sc n (Wire lows) ms v f e
-      | inr h ↦ subst (λ line. Happens sc n v (got_row line (Wire lows) v (rest v ms))) (sym h.1) (plain sc n v _ (GotWire lows ms f h.0 refl) refl refl tt)
+      | inr h ↦ subst (λ line. Happens sc n v (got_step line (Wire lows) v (rest v ms))) (sym h.1) (plain sc n v _ (GotWire lows ms f h.0 refl) refl refl tt)
     ]
 
-ready_happens : (sc : Scenario) (n : Node) (ms : List Message) (v : View) → v.inbox ≡ Ready ∷ ms → Happens sc n v (got_row (mode_row Ready v) Ready v (rest v ms))
-unfolding got_row
+ready_happens : (sc : Scenario) (n : Node) (ms : List Message) (v : View) → v.inbox ≡ Ready ∷ ms → Happens sc n v (got_step (mode_line Ready v) Ready v (rest v ms))
+unfolding got_step
 ready_happens sc n ms v f =
     elim (ready_line v.me.mode (all_here (with_brought Ready v.me))) [
       | inl e ↦ strays sc n Ready ms v f e
-      | inr h ↦ subst (λ line. Happens sc n v (got_row line Ready v (rest v ms))) (sym h.1) (plain sc n v _ (GotReady ms f h.0 refl) refl refl tt)
+      | inr h ↦ subst (λ line. Happens sc n v (got_step line Ready v (rest v ms))) (sym h.1) (plain sc n v _ (GotReady ms f h.0 refl) refl refl tt)
     ]
 
-dual_happens : (sc : Scenario) (n : Node) (ms : List Message) (v : View) → v.inbox ≡ Dual ∷ ms → Happens sc n v (got_row (mode_row Dual v) Dual v (rest v ms))
-unfolding got_row
+dual_happens : (sc : Scenario) (n : Node) (ms : List Message) (v : View) → v.inbox ≡ Dual ∷ ms → Happens sc n v (got_step (mode_line Dual v) Dual v (rest v ms))
+unfolding got_step
 dual_happens sc n ms v f =
     elim (dual_line v.me.mode (all_here (with_brought Dual v.me))) [
       | inl e ↦ strays sc n Dual ms v f e
-      | inr h ↦ subst (λ line. Happens sc n v (got_row line Dual v (rest v ms))) (sym h.1) (plain sc n v _ (GotDual ms f h.0 refl) refl refl tt)
+      | inr h ↦ subst (λ line. Happens sc n v (got_step line Dual v (rest v ms))) (sym h.1) (plain sc n v _ (GotDual ms f h.0 refl) refl refl tt)
     ]
 
 page_happens : (sc : Scenario) (n : Node) (leaf : Leaf) (ms : List Message) (v : View) → v.inbox ≡ Page leaf ∷ ms
-    → Happens sc n v (got_row (mode_row (Page leaf) v) (Page leaf) v (rest v ms))
-unfolding got_row
+    → Happens sc n v (got_step (mode_line (Page leaf) v) (Page leaf) v (rest v ms))
+unfolding got_step
 page_happens sc n leaf ms v f =
     elim (page_line v.me.mode (all_here (with_brought (Page leaf) v.me))) [
       | inl e ↦ strays sc n (Page leaf) ms v f e
       | inr h ↦ elim h [
-        | inl more ↦ subst (λ line. Happens sc n v (got_row line (Page leaf) v (rest v ms))) (sym more.1) (plain sc n v _ (GotPage leaf ms f more.0 refl) refl refl tt)
-        | inr last ↦ subst (λ line. Happens sc n v (got_row line (Page leaf) v (rest v ms))) (sym last.2) (plain sc n v _ (GotLast leaf ms f last.0 last.1 refl) refl refl tt)
+        | inl more ↦ subst (λ line. Happens sc n v (got_step line (Page leaf) v (rest v ms))) (sym more.1) (plain sc n v _ (GotPage leaf ms f more.0 refl) refl refl tt)
+        | inr last ↦ subst (λ line. Happens sc n v (got_step line (Page leaf) v (rest v ms))) (sym last.2) (plain sc n v _ (GotLast leaf ms f last.0 last.1 refl) refl refl tt)
       ]
     ]
 
-finish_taken : (sc : Scenario) (n : Node) (ms : List Message) (v : View) → v.inbox ≡ Finish ∷ ms → Happens sc n v (got_row (mode_row Finish v) Finish v (rest v ms))
-unfolding got_row
+finish_taken : (sc : Scenario) (n : Node) (ms : List Message) (v : View) → v.inbox ≡ Finish ∷ ms → Happens sc n v (got_step (mode_line Finish v) Finish v (rest v ms))
+unfolding got_step
 finish_taken sc n ms v f =
     elim (finish_line v.me.mode (all_here (with_brought Finish v.me))) [
       | inl e ↦ strays sc n Finish ms v f e
       | inr h ↦ elim h.1 [
-        | inl some ↦ subst (λ line. Happens sc n v (got_row line Finish v (rest v ms))) (sym some.1) (plain sc n v _ (GotFinish ms f h.0 refl) refl refl tt)
-        | inr all ↦ subst (λ line. Happens sc n v (got_row line Finish v (rest v ms))) (sym all.1) (plain sc n v _ (GotAll ms f h.0 all.0 refl) refl refl tt)
+        | inl some ↦ subst (λ line. Happens sc n v (got_step line Finish v (rest v ms))) (sym some.1) (plain sc n v _ (GotFinish ms f h.0 refl) refl refl tt)
+        | inr all ↦ subst (λ line. Happens sc n v (got_step line Finish v (rest v ms))) (sym all.1) (plain sc n v _ (GotAll ms f h.0 all.0 refl) refl refl tt)
       ]
     ]
 
-done_happens : (sc : Scenario) (n : Node) (ms : List Message) (v : View) → v.inbox ≡ Done ∷ ms → Happens sc n v (got_row (mode_row Done v) Done v (rest v ms))
-unfolding got_row
+done_happens : (sc : Scenario) (n : Node) (ms : List Message) (v : View) → v.inbox ≡ Done ∷ ms → Happens sc n v (got_step (mode_line Done v) Done v (rest v ms))
+unfolding got_step
 done_happens sc n ms v f =
     elim (done_line v.me.mode (all_here (with_brought Done v.me))) [
       | inl e ↦ strays sc n Done ms v f e
-      | inr h ↦ subst (λ line. Happens sc n v (got_row line Done v (rest v ms))) (sym h.1) (plain sc n v _ (GotDone ms f h.0 refl) refl refl tt)
+      | inr h ↦ subst (λ line. Happens sc n v (got_step line Done v (rest v ms))) (sym h.1) (plain sc n v _ (GotDone ms f h.0 refl) refl refl tt)
     ]
 
 pull_turns : (sc : Scenario) (n : Node) (p : ℕ) (ms : List Message) (v : View) (to : NodeMode) → v.inbox ≡ Pull p ∷ ms → is_sending v.me.mode ≡ true
-    → Happens sc n v (pull_row sc p (Turns to (Some kind.Page)) v (rest v ms))
-unfolding pull_row
+    → Happens sc n v (pull_step sc p (Turns to (Some kind.Page)) v (rest v ms))
+unfolding pull_step
 pull_turns sc n p ms v to f sends =
     cond_both (not (owns v.me.pages p)) _ _ (Happens sc n v)
     (λ _. plain sc n v _ (IsStale p ms f refl) refl refl tt)
@@ -466,17 +466,17 @@ pull_turns sc n p ms v to f sends =
     (λ free. plain sc n v _ (Gives p ms f sends (not-false _ own) free refl) refl refl tt))
 
 pull_happens : (sc : Scenario) (n : Node) (p : ℕ) (ms : List Message) (v : View) → v.inbox ≡ Pull p ∷ ms
-    → Happens sc n v (pull_row sc p (mode_row (Pull p) v) v (rest v ms))
-unfolding pull_row
+    → Happens sc n v (pull_step sc p (mode_line (Pull p) v) v (rest v ms))
+unfolding pull_step
 pull_happens sc n p ms v f =
     elim (pull_line v.me.mode (all_here (with_brought (Pull p) v.me))) [
-      | inl e ↦ subst (λ line. Happens sc n v (pull_row sc p line v (rest v ms))) (sym e)
+      | inl e ↦ subst (λ line. Happens sc n v (pull_step sc p line v (rest v ms))) (sym e)
           (record { event = Rests refl; told = tt; lost = λ h. never h; strange = λ _. record { message = Pull p; after = ms; front = f; line = e } })
-      | inr h ↦ subst (λ line. Happens sc n v (pull_row sc p line v (rest v ms))) (sym h.1.1) (pull_turns sc n p ms v h.1.0 f h.0)
+      | inr h ↦ subst (λ line. Happens sc n v (pull_step sc p line v (rest v ms))) (sym h.1.1) (pull_turns sc n p ms v h.1.0 f h.0)
     ]
 
-message_happens : (sc : Scenario) (n : Node) (m : Message) (ms : List Message) (v : View) → v.inbox ≡ m ∷ ms → Happens sc n v (message_row sc m v (rest v ms))
-unfolding message_row
+message_happens : (sc : Scenario) (n : Node) (m : Message) (ms : List Message) (v : View) → v.inbox ≡ m ∷ ms → Happens sc n v (message_step sc m v (rest v ms))
+unfolding message_step
 message_happens sc n (Wire lows) ms v f = wire_happens sc n lows ms v f
 message_happens sc n Ready ms v f = ready_happens sc n ms v f
 message_happens sc n Dual ms v f = dual_happens sc n ms v f
@@ -485,13 +485,13 @@ message_happens sc n (Page leaf) ms v f = page_happens sc n leaf ms v f
 message_happens sc n Finish ms v f = finish_taken sc n ms v f
 message_happens sc n Done ms v f = done_happens sc n ms v f
 
-front_happens : (sc : Scenario) (n : Node) (ms : List Message) (v : View) → v.inbox ≡ ms → Happens sc n v (front_row sc ms v)
-unfolding front_row
+front_happens : (sc : Scenario) (n : Node) (ms : List Message) (v : View) → v.inbox ≡ ms → Happens sc n v (front_step sc ms v)
+unfolding front_step
 front_happens sc n [] v f = rests sc n v _ refl refl
 front_happens sc n (m ∷ ms) v f = message_happens sc n m ms v f
 
-take_happens : (sc : Scenario) (n : Node) (v : View) → Happens sc n v (take_row sc v)
-unfolding take_row
+take_happens : (sc : Scenario) (n : Node) (v : View) → Happens sc n v (take_step sc v)
+unfolding take_step
 take_happens sc n v = front_happens sc n v.inbox v refl
 
 -- the lines of finish and push
@@ -508,8 +508,8 @@ finish_by sc n DInit o t v m e = rests sc n v _ refl refl
 finish_by sc n DDual o t v m e = rests sc n v _ refl refl
 finish_by sc n DFinish o t v m e = rests sc n v _ refl refl
 
-finish_happens : (sc : Scenario) (n : Node) (v : View) → Happens sc n v (finish_row n v)
-unfolding finish_row
+finish_happens : (sc : Scenario) (n : Node) (v : View) → Happens sc n v (finish_step n v)
+unfolding finish_step
 finish_happens sc n v = finish_by sc n v.me.mode (active_from n 0 v.txns) _ v refl refl
 
 push_by : (sc : Scenario) (n : Node) (o : Option ℕ) (v : View) → o ≡ least (numbers v.me.pages) → v.me.mode ≡ SFinish → Happens sc n v (push_if o v)
@@ -517,8 +517,8 @@ unfolding push_if
 push_by sc n None v e m = rests sc n v _ refl refl
 push_by sc n (Some p) v e m = plain sc n v _ (Pushes p m (least-owns v.me.pages p (sym e)) refl) refl refl tt
 
-push_happens : (sc : Scenario) (n : Node) (v : View) → Happens sc n v (push_row v)
-unfolding push_row
+push_happens : (sc : Scenario) (n : Node) (v : View) → Happens sc n v (push_step v)
+unfolding push_step
 push_happens sc n v =
     cond_both (may_push v.me.mode) _ _ (Happens sc n v)
     (λ h. push_by sc n _ v refl (pushes_in_finish v.me.mode h))

@@ -18,9 +18,9 @@ pub mod PageValues
 pub mod EachPage
 pub mod Fit
 pub mod Ordered
-pub mod LockingRows
+pub mod LockingSteps
 pub mod CutFit
-pub mod FitRows
+pub mod FitSteps
 pub mod ValueAtPage
 pub mod PhaseSteps
 pub mod MovingPages
@@ -36,7 +36,7 @@ pub mod MovedValues
 pub mod Following
 pub mod Committing
 pub mod Values
-pub mod FollowingRows
+pub mod FollowingSteps
 pub mod Serializable
 pub mod Travel
 pub mod OneWay

@@ -17,7 +17,7 @@ use Rattle.zy_table.specs.Play.{blank, move, opening, opening_leaves, play, side
 use Rattle.zy_table.specs.State.{NodeState, State, Txn, View, facing, other, seen_from}
 use Rattle.zy_laws.proofs.Events.{lows_after, step_happens}
 use Rattle.zy_laws.proofs.Installing.{Placed, placed_append, placed_front}
-use Rattle.zy_laws.proofs.LockingRows.{kept_event}
+use Rattle.zy_laws.proofs.LockingSteps.{kept_event}
 use Rattle.zy_laws.proofs.Locking.{Kept, Locking, seen_same, untouched, whole}
 use Rattle.zy_table.specs.Layout.{lows_of}
 use Rattle.zy_laws.proofs.Opening.{LaidOut, laid_out}

@@ -16,7 +16,7 @@ use Rattle.zy_table.specs.Play.{move, opening, opening_leaves, opening_pages, pl
 use Rattle.zy_table.specs.State.{State, Txn, View, facing, other, seen_from}
 use Rattle.zy_laws.proofs.EachPage.{Each, each_append, each_at, each_front}
 use Rattle.zy_laws.proofs.Events.{step_happens}
-use Rattle.zy_laws.proofs.FitRows.{fit_event}
+use Rattle.zy_laws.proofs.FitSteps.{fit_event}
 use Rattle.zy_laws.proofs.Fit.{Fit, Room, Sized}
 use Rattle.zy_laws.proofs.Locking.{Kept}
 use Rattle.zy_laws.proofs.Opening.{laid_out}

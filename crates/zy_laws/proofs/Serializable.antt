@@ -17,7 +17,7 @@ use Rattle.zy_table.specs.State.{State, View, facing, other, seen_from}
 use Rattle.zy_laws.proofs.Values.{turned_db}
 use Rattle.zy_laws.proofs.Events.{step_happens}
 use Rattle.zy_laws.proofs.Following.{Serially, follows_same, registers_same}
-use Rattle.zy_laws.proofs.LockingRows.{kept_event}
+use Rattle.zy_laws.proofs.LockingSteps.{kept_event}
 use Rattle.zy_laws.proofs.Listed.{listed}
 use Rattle.zy_laws.proofs.Opening.{LaidOut, laid_out, opening_database}
 use Rattle.zy_laws.proofs.OneOwner.{step_inv}
@@ -26,7 +26,7 @@ use Rattle.zy_laws.proofs.PlayPush.{play-keeps-with}
 use Rattle.zy_laws.proofs.Reached.{blank_new, inv_view, lows_then, opening_reached, turned_kept}
 use Rattle.zy_laws.proofs.PageValues.{db}
 use Rattle.zy_laws.proofs.Roles.{turned}
-use Rattle.zy_laws.proofs.FollowingRows.{serial_event}
+use Rattle.zy_laws.proofs.FollowingSteps.{serial_event}
 use Rattle.zy_laws.proofs.Txns.{IsAt, Stands, at_same}
 
 turned_serial : (sc : Scenario) (n m : Node) (v : View) (start : Map) (lows : List ℕ) → other m ≡ n → other n ≡ m → Serially sc n v start lows

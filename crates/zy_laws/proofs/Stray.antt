@@ -5,13 +5,13 @@ use Rattle.zy_isa.specs.Scenario.{Scenario}
 use Rattle.zy_isa.specs.declared.choice.Choice.{Choice}
 use Rattle.zy_modes.specs.declared.mode.NodeMode.{NodeMode}
 use Rattle.zy_modes.specs.declared.mode.NodeMode.TheVariants.{Empty, SInit, SDual, SFinish, DInit, DDual, DFinish}
-use Rattle.zy_modes.specs.declared.table.MsgRow.TheVariants.{Stray}
+use Rattle.zy_modes.specs.declared.table.MessageLine.TheVariants.{Stray}
 use Rattle.zy_modes.specs.Table.{finishes, on_message}
 use Rattle.zy_links.specs.Messages.{Wire, Ready, Dual, Pull, Page, Finish, Done, kind_of}
 use Rattle.zy_laws.specs.Journey.{is_stray}
 use Rattle.zy_table.specs.Play.{opening, play, side_of, step}
 use Rattle.zy_table.specs.State.{Message, View, facing}
-use Rattle.zy_table.specs.Take.{all_here, mode_row, with_brought}
+use Rattle.zy_table.specs.Take.{all_here, mode_line, with_brought}
 use Rattle.zy_laws.proofs.Events.{step_happens}
 use Rattle.zy_laws.proofs.OneOwner.{inv_from, play_inv}
 use Rattle.zy_laws.proofs.Phases.{AllPages, AllPulls, PagesAndFinish, PullsAndDone, Resting, Wire_sent, Ready_sent, Dual_sent, Both_sent, In_dual, Finish_sent, In_finish, Done_sent, done_front, finish_front, heads, no_front, pages_front, pulls_front}
@@ -26,12 +26,12 @@ finishes_known true e = cc
 finishes_known false e = cc
 
 -- the front is x
-known : (v : View) (m x : Message) (mode : NodeMode) → mode_row m v ≡ Stray → m ≡ x → v.me.mode ≡ mode → Knows mode x → ⊥
+known : (v : View) (m x : Message) (mode : NodeMode) → mode_line m v ≡ Stray → m ≡ x → v.me.mode ≡ mode → Knows mode x → ⊥
 known v m x mode line front at knows =
     let all = all_here (with_brought m v.me) in
     knows all (ap (λ y. on_message mode (kind_of y) all) (sym front) ∙ ap (λ y. on_message y (kind_of m) all) (sym at) ∙ line)
 
-knows_front : (v : View) (m : Message) (ms : List Message) → v.inbox ≡ m ∷ ms → mode_row m v ≡ Stray → Roles v → ⊥
+knows_front : (v : View) (m : Message) (ms : List Message) → v.inbox ≡ m ∷ ms → mode_line m v ≡ Stray → Roles v → ⊥
 knows_front v m ms e line (Source (Resting a b c d f)) = no_front _ _ _ e f
 knows_front v m ms e line (Source (Wire_sent a b c d f)) = no_front _ _ _ e f
 knows_front v m ms e line (Source (Ready_sent a b c d f)) = known v m Ready SInit line (heads m Ready ms [] (sym e ∙ f)).0 a (λ all h. cc)

@@ -8,9 +8,9 @@ use Rattle.zy_table.specs.State.{State}
 use Rattle.zy_table.specs.Play.{step, play, entries, entry_of, opening}
 use Rattle.zy_machine.specs.Histories.{History, IsReplay, choices_of}
 use Rattle.zy_machine.specs.Trails.{IsKnown, IsNext}
-use Rattle.zy_machine.specs.declared.past.Past.{Past}
-use Rattle.zy_machine.specs.declared.past.Past.TheVariants.{Own, Shared}
-use Rattle.zy_machine.specs.Pasts.{ahead, IsReadyFor, Fits}
+use Rattle.zy_machine.specs.declared.entry_log.EntryLog.{EntryLog}
+use Rattle.zy_machine.specs.declared.entry_log.EntryLog.TheVariants.{Own, Shared}
+use Rattle.zy_machine.specs.EntryLogs.{ahead, IsReadyFor, Fits}
 
 take-suc : {X : Type 0} (n : ℕ) (xs : List X) → take (suc n) xs ≡ take n xs ++ take 1 (drop n xs)
 take-suc zero xs = refl
@@ -65,11 +65,11 @@ after-known sc s c [] next known = absurd next
 after-known sc s c (x ∷ es) next known = ap (drop 1) known ∙ ap (λ (d : Choice). entries sc (step sc d s).after (choices_of es)) next
 
 -- what comes of a choice that there is room for can be noted
-pub fits : (sc : Scenario) (s : State) (c : Choice) (past : Past) → IsReadyFor c past → IsKnown sc s (ahead past) → Fits (entry_of c (step sc c s)) past
+pub fits : (sc : Scenario) (s : State) (c : Choice) (log : EntryLog) → IsReadyFor c log → IsKnown sc s (ahead log) → Fits (entry_of c (step sc c s)) log
 fits sc s c (Own v) ready known = ready
 fits sc s c (Shared k) ready known = next-known sc s c k.ahead ready known
 
 -- and what is known behind it is known from there
-pub known-after : (sc : Scenario) (s : State) (c : Choice) (past : Past) → IsReadyFor c past → IsKnown sc s (ahead past) → IsKnown sc (step sc c s).after (drop 1 (ahead past))
+pub known-after : (sc : Scenario) (s : State) (c : Choice) (log : EntryLog) → IsReadyFor c log → IsKnown sc s (ahead log) → IsKnown sc (step sc c s).after (drop 1 (ahead log))
 known-after sc s c (Own v) ready known = refl
 known-after sc s c (Shared k) ready known = after-known sc s c k.ahead ready known

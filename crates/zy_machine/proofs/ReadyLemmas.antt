@@ -10,7 +10,7 @@ use Rattle.zy_isa.specs.declared.choice.Choice.TheVariants.{Start, Begin, Kill, 
 use Rattle.zy_isa.specs.Choices.{names_below}
 use Rattle.zy_isa.specs.Scenario.{Scenario, IsScenario}
 use Rattle.zy_wire.specs.Wireframe.{page_of}
-use Rattle.zy_machine.specs.declared.store.Store.{Store}
+use Rattle.zy_machine.specs.declared.node_pair.NodePair.{NodePair}
 use Rattle.zy_table.specs.State.{NodeState, State, Txn, facing}
 use Rattle.zy_node.specs.declared.node_store.NodeStore.{NodeStore}
 use Rattle.zy_node.specs.Nodes.{node_shown, Limits, IsLimited}
@@ -24,10 +24,10 @@ use Rattle.zy_table.specs.Play.{play, opening}
 use Rattle.zy_laws.specs.Counts.{Safe, Fits}
 use Rattle.zy_table.specs.Order.{InOrder}
 use Rattle.zy_modes.specs.Table.{may_split as splits_in, may_start as starts_in}
-use Rattle.zy_moves.specs.Arrivals.{MayTake}
-use Rattle.zy_run.specs.Ready.{IsReady, MaySplit, Rooms}
+use Rattle.zy_steps.specs.Arrivals.{MayTake}
+use Rattle.zy_steps.specs.Ready.{IsReady, MaySplit, Rooms}
 use Rattle.zy_txns.specs.Books.{Countable, txn_in}
-use Rattle.zy_machine.specs.Stores.{shown, limits_in, AreLimited, IsPossible, MayStart}
+use Rattle.zy_machine.specs.NodePairs.{state_of, limits_in, AreLimited, IsPossible, MayStart}
 use Rattle.zy_machine.proofs.ArrivalLemmas.{may_take}
 use Rattle.zy_table.proofs.PageFinds.{absent_page}
 use Rattle.zy_laws.proofs.OneOwner.{inv_from, play_inv}
@@ -37,7 +37,7 @@ use Rattle.zy_laws.proofs.SafeCounts.{safe, program_is}
 use Rattle.zy_laws.proofs.RoomAtCommit.{fits}
 use Rattle.zy_laws.proofs.ListsInOrder.{in_order, ordered_from, tidy}
 use Rattle.zy_laws.proofs.Boundary.{boundary_new}
-use Rattle.zy_laws.proofs.LockingRows.{home_placed}
+use Rattle.zy_laws.proofs.LockingSteps.{home_placed}
 use Rattle.zy_laws.proofs.Ordered.{rows_at}
 use Rattle.zy_laws.proofs.Reached.{kept_from, reached}
 use Rattle.zy_laws.proofs.ModeLines.{starts_from}
@@ -79,18 +79,18 @@ may_start sc ok cs n starts =
     rw (k.mine.newest (ap is_idle (starts_from v.me.mode v.them.mode starts).0) ∙ k.first.1) (omega arith)
 
 -- what is known of a store after this number of choices
-pub record Known (sc : Scenario) (count : ℕ) (s : Store) : Type 0 where
+pub record Known (sc : Scenario) (count : ℕ) (s : NodePair) : Type 0 where
   pub tested : IsScenario sc
   pub few : count < 4096
-  pub safe : Safe sc count (shown s)
-  pub fits : Fits sc (shown s)
-  pub order : InOrder (shown s)
-  pub splits : (n : Node) (t : ℕ) → let v = facing n (shown s) in IsAt v t n → MaySplit sc v.me (txn_at v t)
-  pub takes : (n : Node) → let v = facing n (shown s) in MayTake v.inbox v.me
+  pub safe : Safe sc count (state_of s)
+  pub fits : Fits sc (state_of s)
+  pub order : InOrder (state_of s)
+  pub splits : (n : Node) (t : ℕ) → let v = facing n (state_of s) in IsAt v t n → MaySplit sc v.me (txn_at v t)
+  pub takes : (n : Node) → let v = facing n (state_of s) in MayTake v.inbox v.me
   pub starts : MayStart s
   pub limited : AreLimited sc.pages s
 
-pub known : (sc : Scenario) (cs : List Choice) (s : Store) → IsScenario sc → length cs < 4096 → shown s ≡ play sc (opening sc) cs → AreLimited sc.pages s → Known sc (length cs) s
+pub known : (sc : Scenario) (cs : List Choice) (s : NodePair) → IsScenario sc → length cs < 4096 → state_of s ≡ play sc (opening sc) cs → AreLimited sc.pages s → Known sc (length cs) s
 known sc cs s tested few e limited =
     record {
       tested = tested;
@@ -104,20 +104,20 @@ known sc cs s tested few e limited =
       limited = limited;
     }
 
-countable : (sc : Scenario) (count t : ℕ) (s : Store) → Known sc count s → t < length sc.programs → Countable t s.book
+countable : (sc : Scenario) (count t : ℕ) (s : NodePair) → Known sc count s → t < length sc.programs → Countable t s.book
 countable sc count t s k below =
     let c = k.safe.each t below in
     let short = program_is sc.programs t k.tested.programs below in
-    record { there = omega (arith, k.safe.txns); place = omega (arith, c.place, short.few); done = omega (arith, c.done, k.few) }
+    record { there = omega (arith, k.safe.txns); pc = omega (arith, c.place, short.few); done = omega (arith, c.done, k.few) }
 
 -- x is the node n of a store
-abbrev IsNode : Node → NodeStore → Store → Type 0
-IsNode n x s = (facing n (shown s)).me ≡ node_shown x
+abbrev IsNode : Node → NodeStore → NodePair → Type 0
+IsNode n x s = (facing n (state_of s)).me ≡ node_shown x
 
-rooms : (sc : Scenario) (count t : ℕ) (n : Node) (x : NodeStore) (s : Store) → IsNode n x s → Known sc count s → is_active (txn_in t s.book).status ≡ true → (txn_in t s.book).node ≡ n → Rooms t x s.book
+rooms : (sc : Scenario) (count t : ℕ) (n : Node) (x : NodeStore) (s : NodePair) → IsNode n x s → Known sc count s → is_active (txn_in t s.book).status ≡ true → (txn_in t s.book).node ≡ n → Rooms t x s.book
 rooms sc count t n x s is k active here =
-    let f = facing n (shown s) in
-    let same = txn_at-facing n t (shown s) in
+    let f = facing n (state_of s) in
+    let same = txn_at-facing n t (state_of s) in
     let rows = (txn_in t s.book).rows in
     let own : (p : ℕ) → length (own_inserts p f.me (txn_at f t)) ≡ need f.me.lows p (rows_of f.me.pages p) rows =
     λ p. ap (λ (y : Txn). length (rows_not_in (rows_on f.me.lows p y.rows) (rows_of f.me.pages p))) same ∙ need_is f.me.lows p (rows_of f.me.pages p) rows in
@@ -127,23 +127,23 @@ rooms sc count t n x s is k active here =
           (λ p owned. let h = k.fits n t p (ap (λ (y : Txn). is_active y.status) same ∙ active, ap (λ (y : Txn). y.node) same ∙ here) owned in omega (arith, h, own p)));
     }
 
-splits : (sc : Scenario) (count t : ℕ) (n : Node) (x : NodeStore) (s : Store) → IsNode n x s → Known sc count s → is_active (txn_in t s.book).status ≡ true → (txn_in t s.book).node ≡ n
+splits : (sc : Scenario) (count t : ℕ) (n : Node) (x : NodeStore) (s : NodePair) → IsNode n x s → Known sc count s → is_active (txn_in t s.book).status ≡ true → (txn_in t s.book).node ≡ n
     → MaySplit sc (node_shown x) (txn_in t s.book)
 splits sc count t n x s is k active here =
-    let same = txn_at-facing n t (shown s) in
-    subst (λ m. MaySplit sc m (txn_in t s.book)) is (subst (MaySplit sc (facing n (shown s)).me) same (k.splits n t (ap (λ (y : Txn). is_active y.status) same ∙ active, ap (λ (y : Txn). y.node) same ∙ here)))
+    let same = txn_at-facing n t (state_of s) in
+    subst (λ m. MaySplit sc m (txn_in t s.book)) is (subst (MaySplit sc (facing n (state_of s)).me) same (k.splits n t (ap (λ (y : Txn). is_active y.status) same ∙ active, ap (λ (y : Txn). y.node) same ∙ here)))
 
-ready : (sc : Scenario) (count t : ℕ) (n : Node) (x : NodeStore) (s : Store) → IsNode n x s → IsLimited sc.pages x → Known sc count s → t < length sc.programs → IsReady sc n t x s.book
+ready : (sc : Scenario) (count t : ℕ) (n : Node) (x : NodeStore) (s : NodePair) → IsNode n x s → IsLimited sc.pages x → Known sc count s → t < length sc.programs → IsReady sc n t x s.book
 ready sc count t n x s is limited k below = record {
   counts = countable sc count t s k below;
   program = below;
-  place = (k.safe.each t below).place;
+  pc = (k.safe.each t below).place;
   limited = limited;
   rooms = rooms sc count t n x s is k;
   splits = splits sc count t n x s is k;
 }
 
-pub possible : (sc : Scenario) (count : ℕ) (c : Choice) (s : Store) → Known sc count s → names_below (length sc.programs) c ≡ true → IsPossible sc c s
+pub possible : (sc : Scenario) (count : ℕ) (c : Choice) (s : NodePair) → Known sc count s → names_below (length sc.programs) c ≡ true → IsPossible sc c s
 possible sc count Start s k named = k.starts
 possible sc count (Begin t) s k named = (countable sc count t s k (ltb-true _ _ named)).there
 possible sc count (Kill t) s k named = (countable sc count t s k (ltb-true _ _ named)).there
@@ -154,5 +154,5 @@ possible sc count (Finish n) s k named = omega (arith, k.safe.txns, k.tested.few
 possible sc count (Push n) s k named = tt
 
 -- a store that may have as many pages in its wireframes as one before it
-pub still_limited : (n : ℕ) (old new : Store) → limits_in new ≡ limits_in old → AreLimited n old → AreLimited n new
+pub still_limited : (n : ℕ) (old new : NodePair) → limits_in new ≡ limits_in old → AreLimited n old → AreLimited n new
 still_limited n old new same h = record { few = h.few; a = ap (λ (l : Limits × Limits). l.0) same ∙ h.a; b = ap (λ (l : Limits × Limits). l.1) same ∙ h.b }

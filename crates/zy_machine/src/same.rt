@@ -3,9 +3,9 @@ ghost use Rattle.std.specs.Prelude.{◌≡◌, true};
 ghost use Rattle.zy_links.specs.Messages.{message_of, messages_of};
 ghost use Rattle.zy_node.specs.Nodes.{node_shown};
 ghost use Rattle.zy_node.specs.Wireframes.{lows_in};
-ghost use Rattle.zy_machine.specs.Stores.{shown};
+ghost use Rattle.zy_machine.specs.NodePairs.{state_of};
 
-use crate::store::Store;
+use crate::node_pair::NodePair;
 use zy_isa::node::Node;
 use zy_isa::row::Row;
 use zy_links::link::Link;
@@ -20,10 +20,10 @@ use zy_txns::book::Book;
 use zy_txns::txn::Txn;
 use zy_wire::wire::Wire;
 
-impl Store {
+impl NodePair {
     /// Whether two states are the same.
-    pub(crate) fn same(&self, other: &Store) -> bool
-        ensures { result ≡ true → shown self.now ≡ shown other.now }
+    pub(crate) fn same(&self, other: &NodePair) -> bool
+        ensures { result ≡ true → state_of self.now ≡ state_of other.now }
     {
         if !same_txns(&self.book, &other.book) {
             return false;
@@ -159,7 +159,7 @@ fn same_txn(x: &Txn, y: &Txn) -> bool
     if !is_node(x.node(), y.node()) {
         return false;
     }
-    if x.place() != y.place() {
+    if x.pc() != y.pc() {
         return false;
     }
     if !same_regs(x.regs(), y.regs()) {

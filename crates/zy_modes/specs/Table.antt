@@ -10,18 +10,18 @@ use Rattle.zy_isa.specs.Versions.{has_since}
 use Rattle.zy_modes.specs.Families.{is_home, is_destination}
 use Rattle.zy_modes.specs.declared.mode.NodeMode.{NodeMode}
 use Rattle.zy_modes.specs.declared.mode.NodeMode.TheVariants.{Empty, Normal, SInit, SDual, SFinish, DInit, DDual, DFinish}
-use Rattle.zy_modes.specs.declared.table.MsgRow.{MsgRow}
-use Rattle.zy_modes.specs.declared.table.MsgRow.TheVariants.{Stray, Turns}
-use Rattle.zy_modes.specs.declared.table.FinRow.{FinRow}
-use Rattle.zy_modes.specs.declared.table.FinRow.TheVariants.{BadMode, Active, Finishing}
+use Rattle.zy_modes.specs.declared.table.MessageLine.{MessageLine}
+use Rattle.zy_modes.specs.declared.table.MessageLine.TheVariants.{Stray, Turns}
+use Rattle.zy_modes.specs.declared.table.FinishLine.{FinishLine}
+use Rattle.zy_modes.specs.declared.table.FinishLine.TheVariants.{BadMode, Active, Finishing}
 
 -- a destination whose source runs nothing any more; all: no page is missing
-abbrev pub finishes : Bool → MsgRow
+abbrev pub finishes : Bool → MessageLine
 finishes false = Turns DFinish None
 finishes true = Turns Normal (Some Done)
 
 -- a message at a node in this mode; all: no page is missing there, with the one that the message brings
-abbrev pub on_message : NodeMode → Kind → Bool → MsgRow
+abbrev pub on_message : NodeMode → Kind → Bool → MessageLine
 on_message Empty Wire all = Turns DInit (Some Ready)
 on_message SInit Ready all = Turns SDual (Some Dual)
 on_message DInit Dual all = Turns DDual None
@@ -34,7 +34,7 @@ on_message SFinish Done all = Turns Empty None
 on_message mode kind all = Stray
 
 -- a node turns Normal only where no page is missing, and Done is what it sends then and only then
-abbrev pub HandsOver : Bool → MsgRow → Type 0
+abbrev pub HandsOver : Bool → MessageLine → Type 0
 HandsOver all (Turns Normal sent) = (all ≡ true) × (sent ≡ Some Done)
 HandsOver all (Turns mode (Some Done)) = ⊥
 HandsOver all row = Unit {0}
@@ -52,7 +52,7 @@ on_start a b version =
     else None
 
 -- finish at a node in this mode; active: a transaction is active there
-abbrev pub on_finish : NodeMode → Bool → FinRow
+abbrev pub on_finish : NodeMode → Bool → FinishLine
 on_finish SDual true = Active
 on_finish SDual false = Finishing
 on_finish mode active = BadMode

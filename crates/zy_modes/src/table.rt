@@ -9,7 +9,7 @@ use zy_links::kind::Kind;
 
 /// What a message does at a node.
 #[derive(Clone, Copy, Debug, PartialEq, Eq)]
-pub enum MsgRow {
+pub enum MessageLine {
     /// It has no place there: it stays in the link.
     Stray,
     /// The node turns to this mode, and sends a message of this kind or none.
@@ -18,7 +18,7 @@ pub enum MsgRow {
 
 /// What `finish` does at a node.
 #[derive(Clone, Copy, Debug, PartialEq, Eq)]
-pub enum FinRow {
+pub enum FinishLine {
     /// The node is no source in the dual mode.
     BadMode,
     /// A transaction still runs there.
@@ -29,32 +29,32 @@ pub enum FinRow {
 
 /// What a message of this kind does at a node in this mode. `all_here`: with the page that it brings none is missing.
 /// A page that is asked for goes out only if it may leave, which is not told here. No line depends on the version.
-pub fn on_message(mode: NodeMode, kind: Kind, all_here: bool, _version: Version) -> MsgRow
+pub fn on_message(mode: NodeMode, kind: Kind, all_here: bool, _version: Version) -> MessageLine
     ensures row { result ≡ on_message_spec mode kind all_here }
     ensures hands_over { HandsOver all_here result }
 {
     match (mode, kind) {
-        (NodeMode::Empty, Kind::Wire) => MsgRow::Turns(NodeMode::DInit, Some(Kind::Ready)),
-        (NodeMode::SInit, Kind::Ready) => MsgRow::Turns(NodeMode::SDual, Some(Kind::Dual)),
-        (NodeMode::DInit, Kind::Dual) => MsgRow::Turns(NodeMode::DDual, None),
-        (NodeMode::SDual, Kind::Pull) => MsgRow::Turns(NodeMode::SDual, Some(Kind::Page)),
-        (NodeMode::SFinish, Kind::Pull) => MsgRow::Turns(NodeMode::SFinish, Some(Kind::Page)),
-        (NodeMode::DDual, Kind::Page) => MsgRow::Turns(NodeMode::DDual, None),
+        (NodeMode::Empty, Kind::Wire) => MessageLine::Turns(NodeMode::DInit, Some(Kind::Ready)),
+        (NodeMode::SInit, Kind::Ready) => MessageLine::Turns(NodeMode::SDual, Some(Kind::Dual)),
+        (NodeMode::DInit, Kind::Dual) => MessageLine::Turns(NodeMode::DDual, None),
+        (NodeMode::SDual, Kind::Pull) => MessageLine::Turns(NodeMode::SDual, Some(Kind::Page)),
+        (NodeMode::SFinish, Kind::Pull) => MessageLine::Turns(NodeMode::SFinish, Some(Kind::Page)),
+        (NodeMode::DDual, Kind::Page) => MessageLine::Turns(NodeMode::DDual, None),
         (NodeMode::DFinish, Kind::Page) | (NodeMode::DDual, Kind::Finish) => finishes(all_here),
-        (NodeMode::SFinish, Kind::Done) => MsgRow::Turns(NodeMode::Empty, None),
-        _ => MsgRow::Stray,
+        (NodeMode::SFinish, Kind::Done) => MessageLine::Turns(NodeMode::Empty, None),
+        _ => MessageLine::Stray,
     }
 }
 
 /// What becomes of a destination whose source runs nothing any more.
-fn finishes(all_here: bool) -> MsgRow
+fn finishes(all_here: bool) -> MessageLine
     ensures row { result ≡ finishes_spec all_here }
     ensures hands_over { HandsOver all_here result }
 {
     if all_here {
-        MsgRow::Turns(NodeMode::Normal, Some(Kind::Done))
+        MessageLine::Turns(NodeMode::Normal, Some(Kind::Done))
     } else {
-        MsgRow::Turns(NodeMode::DFinish, None)
+        MessageLine::Turns(NodeMode::DFinish, None)
     }
 }
 
@@ -72,13 +72,13 @@ pub fn on_start(a: NodeMode, b: NodeMode, version: Version) -> Option<Node>
 }
 
 /// What `finish` does at a node in this mode. `active`: a transaction is active there.
-pub fn on_finish(mode: NodeMode, active: bool) -> FinRow
+pub fn on_finish(mode: NodeMode, active: bool) -> FinishLine
     ensures { result ≡ on_finish_spec mode active }
 {
     match mode {
-        NodeMode::SDual if active => FinRow::Active,
-        NodeMode::SDual => FinRow::Finishing,
-        _ => FinRow::BadMode,
+        NodeMode::SDual if active => FinishLine::Active,
+        NodeMode::SDual => FinishLine::Finishing,
+        _ => FinishLine::BadMode,
     }
 }
 

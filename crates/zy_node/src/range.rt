@@ -8,7 +8,7 @@ ghost use Rattle.zy_table.specs.Run.{first_absent, first_taken};
 ghost use Rattle.zy_node.specs.Wireframes.{lows_in, limit_or};
 ghost use Rattle.zy_node.specs.RangeSteps.{Leads};
 
-use crate::owned::Owned;
+use crate::owned_pages::OwnedPages;
 use crate::wireframe::page_of;
 use zy_locks::lock::LockKind;
 use zy_locks::locks::Locks;
@@ -47,7 +47,7 @@ fn next_of(wire: &Wire, low: u16, last: u16) -> Option<Place>
 }
 
 /// The first page that is not among these.
-pub(crate) fn absent_page(wire: &Option<Wire>, pages: &Owned, first: u16, last: u16) -> Option<u16>
+pub(crate) fn absent_page(wire: &Option<Wire>, pages: &OwnedPages, first: u16, last: u16) -> Option<u16>
     ensures value { result ≡ first_absent pages.now (range_pages (lows_in wire.now) first last) }
     ensures few { (n : ℕ) → limit_or n wire.now ≤ n → 0 < n → IfSome result (λ p. p < n) }
 {

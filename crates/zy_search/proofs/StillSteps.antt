@@ -11,10 +11,10 @@ use Rattle.zy_isa.specs.declared.choice.Choice.TheVariants.{Start, Begin, Kill, 
 use Rattle.zy_isa.specs.Scenario.{Scenario}
 use Rattle.zy_locks.specs.Locks.{conflict, is_locked}
 use Rattle.zy_links.specs.Messages.{Message, Wire, Ready, Dual, Pull, Page, Finish, Done}
-use Rattle.zy_modes.specs.declared.table.MsgRow.{MsgRow}
-use Rattle.zy_modes.specs.declared.table.MsgRow.TheVariants.{Stray, Turns}
-use Rattle.zy_modes.specs.declared.table.FinRow.{FinRow}
-use Rattle.zy_modes.specs.declared.table.FinRow.TheVariants as fin
+use Rattle.zy_modes.specs.declared.table.MessageLine.{MessageLine}
+use Rattle.zy_modes.specs.declared.table.MessageLine.TheVariants.{Stray, Turns}
+use Rattle.zy_modes.specs.declared.table.FinishLine.{FinishLine}
+use Rattle.zy_modes.specs.declared.table.FinishLine.TheVariants as fin
 use Rattle.zy_modes.specs.Table.{may_start, may_split, may_pull, may_push, is_waiting}
 use Rattle.zy_table.specs.declared.access.Access.{Access}
 use Rattle.zy_table.specs.declared.access.Access.TheVariants.{Reads, Writes, Inserts}
@@ -26,10 +26,10 @@ use Rattle.zy_table.specs.Change.{txn_at, locked}
 use Rattle.zy_table.specs.declared.effect.Effect.{Effect}
 use Rattle.zy_table.specs.declared.effect.Effect.TheVariants.{Sets, Jumps, Accesses, Sums, Commits, Aborts}
 use Rattle.zy_table.specs.Effects.{effect_of}
-use Rattle.zy_table.specs.Client.{is_new, is_active, start_row, begin_at, begin_row, kill_row}
-use Rattle.zy_table.specs.Push.{finish_if, finish_row, push_if, push_row}
-use Rattle.zy_table.specs.Run.{same_node, abort_row, set_row, jump_row, commit_or_gone, commit_row, absent_row, read_row, is_there, write_row, has_room, split_row, full_row, insert_row, lock_of, access_row, page_row, key_row, sum_row, sum_or_waits, sum_or_asks, range_row, effect_row, instr_row, run_row}
-use Rattle.zy_table.specs.Take.{is_held, got, got_row, pull_row, message_row, front_row, take_row}
+use Rattle.zy_table.specs.Client.{is_new, is_active, start_step, begin_at, begin_step, kill_step}
+use Rattle.zy_table.specs.Push.{finish_if, finish_step, push_if, push_step}
+use Rattle.zy_table.specs.Run.{same_node, abort_step, set_step, jump_step, commit_or_gone, commit_step, absent_step, read_step, is_there, write_step, has_room, split_step, full_step, insert_step, lock_of, access_step, page_step, key_step, sum_step, sum_or_waits, sum_or_asks, range_step, effect_step, instr_step, run_step}
+use Rattle.zy_table.specs.Take.{is_held, outcome_of, got_step, pull_step, message_step, front_step, take_step}
 use Rattle.zy_table.specs.Play.{move, side_of, step}
 use Rattle.zy_machine.specs.Histories.{History}
 use Rattle.zy_search.specs.Stuck.{is_still}
@@ -47,20 +47,20 @@ never : {X : Type 0} → false ≡ true → X
 never e = absurd (false≢true e)
 
 -- an abort
-aborts : (t : ℕ) (w : Why) (s v : View) → Stays v (abort_row t w s)
-unfolding abort_row
+aborts : (t : ℕ) (w : Why) (s v : View) → Stays v (abort_step t w s)
+unfolding abort_step
 aborts t w s v = never
 
 -- a register is set
-sets : (t : ℕ) (r : Reg) (x : ℕ) (s v : View) → Stays v (set_row t r x s)
-unfolding set_row
+sets : (t : ℕ) (r : Reg) (x : ℕ) (s v : View) → Stays v (set_step t r x s)
+unfolding set_step
 sets t r x s v = never
 
 -- ---- run
 
 -- a row on a full page
-full : (sc : Scenario) (t k p : ℕ) (s v : View) → Stays v (full_row sc t k p s)
-unfolding full_row split_row
+full : (sc : Scenario) (t k p : ℕ) (s v : View) → Stays v (full_step sc t k p s)
+unfolding full_step split_step
 full sc t k p s v =
     cond_both (not (may_split s.me.mode)) _ _ (Stays v)
     (λ _. aborts t _ s v)
@@ -69,8 +69,8 @@ full sc t k p s v =
     (λ _. never))
 
 -- a row is inserted
-inserts : (sc : Scenario) (t k x p : ℕ) (s v : View) → Stays v (insert_row sc t k x p s)
-unfolding insert_row
+inserts : (sc : Scenario) (t k x p : ℕ) (s v : View) → Stays v (insert_step sc t k x p s)
+unfolding insert_step
 inserts sc t k x p s v =
     cond_both (is_there k p s.me (txn_at s t)) _ _ (Stays v)
     (λ _. aborts t _ s v)
@@ -79,23 +79,23 @@ inserts sc t k x p s v =
     (λ _. full sc t k p s v))
 
 -- a row is written
-writes : (t k x p : ℕ) (s v : View) → Stays v (write_row t k x p s)
-unfolding write_row
+writes : (t k x p : ℕ) (s v : View) → Stays v (write_step t k x p s)
+unfolding write_step
 writes t k x p s v =
     cond_both (is_there k p s.me (txn_at s t)) _ _ (Stays v)
     (λ _. never)
     (λ _. aborts t _ s v)
 
 -- a page that is here and free is accessed
-accesses : (sc : Scenario) (t : ℕ) (x : Access) (k p : ℕ) (s v : View) → Stays v (access_row sc t x k p s)
-unfolding access_row read_row
+accesses : (sc : Scenario) (t : ℕ) (x : Access) (k p : ℕ) (s v : View) → Stays v (access_step sc t x k p s)
+unfolding access_step read_step
 accesses sc t (Reads r) k p s v = never
 accesses sc t (Writes x) k p s v = writes t k x p s v
 accesses sc t (Inserts x) k p s v = inserts sc t k x p s v
 
 -- a page that is not here
-absent : (t p : ℕ) (v : View) → Stays v (absent_row t p v)
-unfolding absent_row
+absent : (t p : ℕ) (v : View) → Stays v (absent_step t p v)
+unfolding absent_step
 absent t p v =
     cond_both (not (may_pull v.me.mode)) _ _ (Stays v)
     (λ _. aborts t _ v v)
@@ -104,8 +104,8 @@ absent t p v =
     (λ _. never))
 
 -- an access to a page
-on_page : (sc : Scenario) (t : ℕ) (x : Access) (k p : ℕ) (v : View) → Stays v (page_row sc t x k p v)
-unfolding page_row
+on_page : (sc : Scenario) (t : ℕ) (x : Access) (k p : ℕ) (v : View) → Stays v (page_step sc t x k p v)
+unfolding page_step
 on_page sc t x k p v =
     cond_both (not (owns v.me.pages p)) _ _ (Stays v)
     (λ _. absent t p v)
@@ -114,8 +114,8 @@ on_page sc t x k p v =
     (λ _. accesses sc t x k p (locked t p (lock_of x) v) v))
 
 -- an access by key
-on_key : (sc : Scenario) (t : ℕ) (x : Access) (k : ℕ) (v : View) → Stays v (key_row sc t x k v)
-unfolding key_row
+on_key : (sc : Scenario) (t : ℕ) (x : Access) (k : ℕ) (v : View) → Stays v (key_step sc t x k v)
+unfolding key_step
 on_key sc t x k v =
     cond_both (nat_lt 65535 k) _ _ (Stays v)
     (λ _. aborts t _ v v)
@@ -123,7 +123,7 @@ on_key sc t x k v =
 
 -- a sum, where a page may be locked
 sum_waits : (t : ℕ) (r : Reg) (a b : ℕ) (o : Option ℕ) (v : View) → Stays v (sum_or_waits t r a b o v)
-unfolding sum_or_waits sum_row
+unfolding sum_or_waits sum_step
 sum_waits t r a b (Some p) v = λ _. refl
 sum_waits t r a b None v = sets t r _ _ v
 
@@ -134,8 +134,8 @@ sum_asks t r a b (Some p) v = absent t p v
 sum_asks t r a b None v = sum_waits t r a b _ v
 
 -- a sum
-sums : (t : ℕ) (r : Reg) (a b : ℕ) (v : View) → Stays v (range_row t r a b v)
-unfolding range_row
+sums : (t : ℕ) (r : Reg) (a b : ℕ) (v : View) → Stays v (range_step t r a b v)
+unfolding range_step
 sums t r a b v =
     cond_both (nat_lt b a) _ _ (Stays v)
     (λ _. sets t r 0 v v)
@@ -150,8 +150,8 @@ commits t (Some p) v = aborts t _ v v
 commits t None v = never
 
 -- an effect
-effects : (sc : Scenario) (t : ℕ) (e : Effect) (v : View) → Stays v (effect_row sc t e v)
-unfolding effect_row jump_row commit_row
+effects : (sc : Scenario) (t : ℕ) (e : Effect) (v : View) → Stays v (effect_step sc t e v)
+unfolding effect_step jump_step commit_step
 effects sc t (Sets r x) v = sets t r x v v
 effects sc t (Jumps taken to) v = never
 effects sc t (Accesses i k) v = on_key sc t i k v
@@ -160,14 +160,14 @@ effects sc t Commits v = commits t _ v
 effects sc t Aborts v = aborts t _ v v
 
 -- an instruction
-instr : (sc : Scenario) (t : ℕ) (o : Option Instr) (regs : List ℕ) (v : View) → Stays v (instr_row sc t o regs v)
-unfolding instr_row
+instr : (sc : Scenario) (t : ℕ) (o : Option Instr) (regs : List ℕ) (v : View) → Stays v (instr_step sc t o regs v)
+unfolding instr_step
 instr sc t None regs v = λ _. refl
 instr sc t (Some i) regs v = effects sc t (effect_of i regs) v
 
 -- a node runs a transaction
-runs : (sc : Scenario) (n : Node) (t : ℕ) (v : View) → Stays v (run_row sc n t v)
-unfolding run_row
+runs : (sc : Scenario) (n : Node) (t : ℕ) (v : View) → Stays v (run_step sc n t v)
+unfolding run_step
 runs sc n t v =
     cond_both (not (is_active (txn_at v t).status)) _ _ (Stays v)
     (λ _ _. refl)
@@ -180,8 +180,8 @@ runs sc n t v =
 -- ---- the client
 
 -- a migration starts
-starts : (v : View) → Stays v (start_row v)
-unfolding start_row
+starts : (v : View) → Stays v (start_step v)
+unfolding start_step
 starts v =
     cond_both (may_start v.me.mode v.them.mode) _ _ (Stays v)
     (λ _. never)
@@ -194,16 +194,16 @@ begins_at None t v = λ _. refl
 begins_at (Some n) t v = never
 
 -- a transaction begins
-begins : (t : ℕ) (v : View) → Stays v (begin_row t v)
-unfolding begin_row
+begins : (t : ℕ) (v : View) → Stays v (begin_step t v)
+unfolding begin_step
 begins t v =
     cond_both (is_new (txn_at v t).status) _ _ (Stays v)
     (λ _. begins_at _ t v)
     (λ _ _. refl)
 
 -- one is killed
-kills : (t : ℕ) (v : View) → Stays v (kill_row t v)
-unfolding kill_row
+kills : (t : ℕ) (v : View) → Stays v (kill_step t v)
+unfolding kill_step
 kills t v =
     cond_both (is_active (txn_at v t).status) _ _ (Stays v)
     (λ _. never)
@@ -212,7 +212,7 @@ kills t v =
 -- ---- take, finish, push
 
 -- a message that is taken is something
-got_is_no_rest : (m : Message) → is_still (got m) ≡ false
+got_is_no_rest : (m : Message) → is_still (outcome_of m) ≡ false
 got_is_no_rest (Wire lows) = refl
 got_is_no_rest Ready = refl
 got_is_no_rest Dual = refl
@@ -222,14 +222,14 @@ got_is_no_rest Finish = refl
 got_is_no_rest Done = refl
 
 -- a message is taken, or is stray
-takes_got : (row : MsgRow) (m : Message) (v r : View) → Stays v (got_row row m v r)
-unfolding got_row
+takes_got : (row : MessageLine) (m : Message) (v r : View) → Stays v (got_step row m v r)
+unfolding got_step
 takes_got Stray m v r = λ _. refl
 takes_got (Turns mode sent) m v r = λ e. never (sym (got_is_no_rest m) ∙ e)
 
 -- a page is asked for
-takes_pull : (sc : Scenario) (p : ℕ) (row : MsgRow) (v r : View) → Stays v (pull_row sc p row v r)
-unfolding pull_row
+takes_pull : (sc : Scenario) (p : ℕ) (row : MessageLine) (v r : View) → Stays v (pull_step sc p row v r)
+unfolding pull_step
 takes_pull sc p Stray v r = λ _. refl
 takes_pull sc p (Turns mode sent) v r =
     cond_both (not (owns v.me.pages p)) _ _ (Stays v)
@@ -239,8 +239,8 @@ takes_pull sc p (Turns mode sent) v r =
     (λ _. never))
 
 -- any message
-takes_message : (sc : Scenario) (m : Message) (v r : View) → Stays v (message_row sc m v r)
-unfolding message_row
+takes_message : (sc : Scenario) (m : Message) (v r : View) → Stays v (message_step sc m v r)
+unfolding message_step
 takes_message sc (Wire lows) v r = takes_got _ (Wire lows) v r
 takes_message sc Ready v r = takes_got _ Ready v r
 takes_message sc Dual v r = takes_got _ Dual v r
@@ -250,26 +250,26 @@ takes_message sc Finish v r = takes_got _ Finish v r
 takes_message sc Done v r = takes_got _ Done v r
 
 -- the first message, if there is one
-takes_front : (sc : Scenario) (ms : List Message) (v : View) → Stays v (front_row sc ms v)
-unfolding front_row
+takes_front : (sc : Scenario) (ms : List Message) (v : View) → Stays v (front_step sc ms v)
+unfolding front_step
 takes_front sc [] v = λ _. refl
 takes_front sc (m ∷ ms) v = takes_message sc m v (record v { inbox = ms })
 
 -- a node takes
-takes : (sc : Scenario) (v : View) → Stays v (take_row sc v)
-unfolding take_row
+takes : (sc : Scenario) (v : View) → Stays v (take_step sc v)
+unfolding take_step
 takes sc v = takes_front sc v.inbox v
 
 -- a node ends its part, if it may
-finishes_if : (row : FinRow) (t : ℕ) (v : View) → Stays v (finish_if row t v)
+finishes_if : (row : FinishLine) (t : ℕ) (v : View) → Stays v (finish_if row t v)
 unfolding finish_if
 finishes_if fin.BadMode t v = λ _. refl
 finishes_if fin.Active t v = λ _. refl
 finishes_if fin.Finishing t v = never
 
 -- a node ends its part
-finishes : (n : Node) (v : View) → Stays v (finish_row n v)
-unfolding finish_row
+finishes : (n : Node) (v : View) → Stays v (finish_step n v)
+unfolding finish_step
 finishes n v = finishes_if _ _ v
 
 -- a node pushes a page, if it has one
@@ -279,8 +279,8 @@ pushes_if None v = λ _. refl
 pushes_if (Some p) v = never
 
 -- a node pushes
-pushes : (v : View) → Stays v (push_row v)
-unfolding push_row
+pushes : (v : View) → Stays v (push_step v)
+unfolding push_step
 pushes v =
     cond_both (may_push v.me.mode) _ _ (Stays v)
     (λ _. pushes_if _ v)

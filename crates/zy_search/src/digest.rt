@@ -50,7 +50,7 @@ fn mixed_txn(digest: u64, txn: &Txn) -> u64 {
         mixed(digest, status_number(txn.status())),
         node_number(txn.node()),
     );
-    digest = mixed(mixed(digest, u64::from(txn.place())), u64::from(txn.done()));
+    digest = mixed(mixed(digest, u64::from(txn.pc())), u64::from(txn.done()));
     for r in txn.regs() {
         digest = mixed(digest, u64::from(*r));
     }

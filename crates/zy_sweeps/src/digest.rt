@@ -189,7 +189,7 @@ impl Digested for Txn {
     fn put_into(&self, digest: &mut Digest) {
         digest.debug(&self.status());
         digest.debug(&self.node());
-        digest.number(u64::from(self.place()));
+        digest.number(u64::from(self.pc()));
         digest.each(self.regs().as_slice());
         digest.each(self.rows());
         digest.number(u64::from(self.done()));

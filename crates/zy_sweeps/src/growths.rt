@@ -145,7 +145,7 @@ impl Growing for Link {
 
 impl Growing for Txn {
     fn grow_at(&mut self, place: usize) -> Result<(), Refused> {
-        if self.place() > 1000 || self.done() > 1000 {
+        if self.pc() > 1000 || self.done() > 1000 {
             return Err(Refused::Fault);
         }
         tested(self.put(key_of(place), 7))
@@ -156,7 +156,7 @@ impl Growing for Txn {
 fn can_commit(book: &Book) -> bool
     ensures { result ≡ true → Countable 0 book.now }
 {
-    book.len() > 0 && book.txn(0).place() < 1000 && book.txn(0).done() < 1000
+    book.len() > 0 && book.txn(0).pc() < 1000 && book.txn(0).done() < 1000
 }
 
 /// The first transaction is committed at each place.

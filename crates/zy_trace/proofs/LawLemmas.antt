@@ -8,14 +8,14 @@ use Rattle.zy_isa.specs.Scenario.{Scenario}
 use Rattle.zy_table.specs.State.{State}
 use Rattle.zy_table.specs.Play.{step, play}
 use Rattle.zy_trace.specs.declared.subject.Subject.{Subject}
-use Rattle.zy_trace.specs.Subjects.{line_in, inset, shown}
+use Rattle.zy_trace.specs.Subjects.{line_in, inset, lines_of_subject}
 use Rattle.zy_trace.specs.Laws.{or_before, last_shown, LastLines}
 
 kept_or_shown : (same : Bool) (old new : List ℕ) → (same ≡ true → old ≡ new) → or_before (if same then [] else new ∷ []) old ≡ new
 kept_or_shown true old new h = h refl
 kept_or_shown false old new h = refl
 
-shown_now : (s t : State) (x : Subject) → or_before (shown false s t x) (inset (line_in s x)) ≡ inset (line_in t x)
+shown_now : (s t : State) (x : Subject) → or_before (lines_of_subject false s t x) (inset (line_in s x)) ≡ inset (line_in t x)
 shown_now s t x =
     kept_or_shown (bytes_eq (line_in s x) (line_in t x)) (inset (line_in s x)) (inset (line_in t x)) (λ e. ap inset ((bytes_eq-Decides (line_in s x) (line_in t x)).0 e))
 

@@ -25,7 +25,7 @@ use Rattle.std.proofs.lemmas.List.FromFn.{map-range_with_len_more}
 use Rattle.zy_io.specs.Writing.{line_of}
 use Rattle.zy_table.specs.State.{State}
 use Rattle.zy_trace.specs.declared.subject.Subject.{Subject}
-use Rattle.zy_trace.specs.Subjects.{line_in, inset, shown, shown_texts, state_lines, subjects}
+use Rattle.zy_trace.specs.Subjects.{line_in, inset, lines_of_subject, shown_texts, state_lines, subjects}
 
 -- one number more
 pub shown_more : (f : Subject → List ℕ) (g : ℕ → Subject) (n : ℕ) → flat_map f (map g (range_with_len 0 (n + 1))) ≡ flat_map f (map g (range_with_len 0 n)) ++ f (g n)
@@ -49,7 +49,7 @@ lines_each f [] = refl
 lines_each f (x ∷ xs) = ap (λ l. flat_map line_of (f x) ++ l) (lines_each f xs) ∙ sym (flat_map-append line_of (f x) (flat_map f xs))
 
 -- where all are shown they are the lines of the state
-pub all_shown : (before now : State) (xs : List Subject) → flat_map (shown true before now) xs ≡ map (λ x. inset (line_in now x)) xs
+pub all_shown : (before now : State) (xs : List Subject) → flat_map (lines_of_subject true before now) xs ≡ map (λ x. inset (line_in now x)) xs
 all_shown before now [] = refl
 all_shown before now (x ∷ xs) = ap (λ l. inset (line_in now x) ∷ l) (all_shown before now xs)
 
@@ -143,4 +143,4 @@ trace-tested sc t same e = ap (λ b. canon sc ++ flat_map line_of (trace_lines s
 
 -- the bytes of all lines of a state
 pub state_text : (s : State) → shown_texts true s s (subjects s) ≡ flat_map line_of (state_lines s)
-state_text s = lines_each (shown true s s) (subjects s) ∙ ap (flat_map line_of) (all_shown s s (subjects s))
+state_text s = lines_each (lines_of_subject true s s) (subjects s) ∙ ap (flat_map line_of) (all_shown s s (subjects s))

@@ -5,7 +5,7 @@ use Rattle.zy_isa.specs.Scenario.{Scenario}
 use Rattle.zy_table.specs.State.{State}
 use Rattle.zy_table.specs.Play.{step, play}
 use Rattle.zy_trace.specs.declared.subject.Subject.{Subject}
-use Rattle.zy_trace.specs.Subjects.{line_in, inset, shown}
+use Rattle.zy_trace.specs.Subjects.{line_in, inset, lines_of_subject}
 
 -- the line that is shown, and else the one before
 abbrev pub or_before : List (List ℕ) → List ℕ → List ℕ
@@ -15,7 +15,7 @@ or_before (line ∷ lines) before = line
 -- the line of a subject that was shown last in these steps, and else the one before them
 abbrev pub last_shown : Scenario → State → List Choice → Subject → List ℕ → List ℕ
 last_shown sc s [] x before = before
-last_shown sc s (c ∷ cs) x before = let t = (step sc c s).after in last_shown sc t cs x (or_before (shown false s t x) before)
+last_shown sc s (c ∷ cs) x before = let t = (step sc c s).after in last_shown sc t cs x (or_before (lines_of_subject false s t x) before)
 
 -- whoever keeps the last line of each subject has the lines of the last state
 abbrev pub LastLines : Type 0

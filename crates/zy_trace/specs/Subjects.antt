@@ -31,15 +31,15 @@ abbrev pub state_lines : State → List (List ℕ)
 state_lines s = map (λ x. inset (line_in s x)) (subjects s)
 
 -- the line of a subject as it is now, where all are shown or it is not what it was
-abbrev pub shown : Bool → State → State → Subject → List (List ℕ)
-shown all before now x = if not all && bytes_eq (line_in before x) (line_in now x) then [] else inset (line_in now x) ∷ []
+abbrev pub lines_of_subject : Bool → State → State → Subject → List (List ℕ)
+lines_of_subject all before now x = if not all && bytes_eq (line_in before x) (line_in now x) then [] else inset (line_in now x) ∷ []
 
 abbrev pub changed : State → State → List (List ℕ)
-changed before now = flat_map (shown false before now) (subjects now)
+changed before now = flat_map (lines_of_subject false before now) (subjects now)
 
 -- the same as bytes
 abbrev pub shown_text : Bool → State → State → Subject → List ℕ
-shown_text all before now x = flat_map line_of (shown all before now x)
+shown_text all before now x = flat_map line_of (lines_of_subject all before now x)
 
 abbrev pub shown_texts : Bool → State → State → List Subject → List ℕ
 shown_texts all before now xs = flat_map (shown_text all before now) xs

@@ -62,7 +62,7 @@ impl Line for ActiveText<'_> {
         let rows = Joined(" private", Rows(txn.rows()));
         let place = Joined(
             " pc ",
-            Joined(Decimal(txn.place()), Joined(DoneText(txn), rows)),
+            Joined(Decimal(txn.pc()), Joined(DoneText(txn), rows)),
         );
         Joined(" active ", Joined(Canonical(txn.node()), place)).append(line)
     }

@@ -4,7 +4,7 @@ use zy_isa::node::Node;
 use zy_isa::version::Version;
 use zy_links::kind::Kind;
 use zy_modes::mode::NodeMode;
-use zy_modes::table::{FinRow, MsgRow, home_of, on_finish, on_message, on_start};
+use zy_modes::table::{FinishLine, MessageLine, home_of, on_finish, on_message, on_start};
 
 const MODES: [NodeMode; 8] = [
     NodeMode::Empty,
@@ -62,10 +62,10 @@ fn sent(kind: Kind, mode: NodeMode) -> Option<Kind> {
 }
 
 /// Whether a line is what the table has.
-fn is_line(row: MsgRow, kind: Kind, want: u8) -> bool {
+fn is_line(row: MessageLine, kind: Kind, want: u8) -> bool {
     match row {
-        MsgRow::Stray => want == b'.',
-        MsgRow::Turns(mode, told) => want == digit(mode) && told == sent(kind, mode),
+        MessageLine::Stray => want == b'.',
+        MessageLine::Turns(mode, told) => want == digit(mode) && told == sent(kind, mode),
     }
 }
 
@@ -95,14 +95,14 @@ fn finish_in_every_mode(rt: HostRuntime) {
     for mode in &MODES {
         let dual = *mode == NodeMode::SDual;
         let idle = if dual {
-            FinRow::Finishing
+            FinishLine::Finishing
         } else {
-            FinRow::BadMode
+            FinishLine::BadMode
         };
         let busy = if dual {
-            FinRow::Active
+            FinishLine::Active
         } else {
-            FinRow::BadMode
+            FinishLine::BadMode
         };
         assert!(rt;
             on_finish(*mode, false) == idle && on_finish(*mode, true) == busy,

@@ -1,7 +1,7 @@
 use Rattle.std.proofs.Common.{◌≡◌, ◌∙◌, ◌+◌, ◌-◌, add-one, ap, arith, sym}
 use Rattle.zy_table.specs.Serial.{Alone, alone}
 use Rattle.zy_audit.specs.Lone.{map_of, on_map}
-use Rattle.zy_audit.proofs.RunRows.{alone-on, alone-over}
+use Rattle.zy_audit.proofs.LoneSteps.{alone-on, alone-over}
 use Rattle.zy_audit.proofs.lone.written.Goals as goal
 use Rattle.zy_audit.proofs.lone.written.Goals.{else-loop-test, then-loop-test+then-is_over}
 

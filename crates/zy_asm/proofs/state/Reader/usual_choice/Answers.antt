@@ -2,13 +2,13 @@
 use Rattle.std.proofs.Common.{◌≡◌, ◌<◌, ◌∙◌, rules, arith, sym, ap, length, Ok, ◌++◌, ◌∷◌, []}
 use Rattle.zy_asm.specs.declared.state.Stage.TheVariants as stage
 use Rattle.zy_asm.specs.Choices.{numbered}
-use Rattle.zy_asm.specs.Reading.{seen}
+use Rattle.zy_asm.specs.Reading.{progress_of}
 use Rattle.zy_asm.proofs.UsualLemmas.{choice_taken}
 use Rattle.zy_asm.proofs.state.Reader.usual_choice.Goals as goal
 
 pub returns : goal.returns
 returns c =
-    let s = seen c.args.self.now in
+    let s = progress_of c.args.self.now in
     let here : s.stage ≡ stage.Choices = search rules in
     let few : length s.choices < 4096 = omega (arith, c.len.ensures, c.if-len-ge-MAX_CHOICES.false) in
     let count : c.len-2.result ≡ length s.programs = search rules in

@@ -1,7 +1,7 @@
 use Rattle.std.proofs.Common.{◌≡◌, ◌∙◌, sym, false}
 use Rattle.std.specs.Prelude.{is_some}
 use Rattle.zy_audit.specs.Lone.{map_of}
-use Rattle.zy_audit.proofs.RunRows.{inserted-new}
+use Rattle.zy_audit.proofs.LoneSteps.{inserted-new}
 use Rattle.zy_audit.proofs.lone.LoneRun.insert.Goals as goal
 
 pub returns : goal.returns

@@ -1,7 +1,7 @@
 use Rattle.std.proofs.Common.{◌≡◌, ◌∙◌, ap, true}
 use Rattle.std.specs.Prelude.{is_some, not}
 use Rattle.zy_audit.specs.Lone.{map_of}
-use Rattle.zy_audit.proofs.RunRows.{written-there}
+use Rattle.zy_audit.proofs.LoneSteps.{written-there}
 use Rattle.zy_audit.proofs.lone.LoneRun.write.Goals as goal
 
 pub returns : goal.returns

@@ -1,6 +1,6 @@
 use Rattle.zy_table.specs.Serial.{alone}
 use Rattle.zy_audit.specs.Lone.{map_of}
-use Rattle.zy_audit.proofs.RunRows.{laid-ok}
+use Rattle.zy_audit.proofs.LoneSteps.{laid-ok}
 use Rattle.zy_audit.proofs.table.Table.run.Goals as goal
 
 pub returns : goal.returns

@@ -3,7 +3,7 @@ use Rattle.std.proofs.lemmas.Bool.{leb-true, le-leb}
 use Rattle.zy_page.specs.Leaf.{Leaf}
 use Rattle.zy_node.proofs.AllPages.{all_counted, all_filled}
 use Rattle.zy_node.proofs.SlotLemmas.{few_slots, rising_slots}
-use Rattle.zy_node.specs.Owned.{OwnsBelow}
+use Rattle.zy_node.specs.OwnedPages.{OwnsBelow}
 use Rattle.zy_node.specs.Slots.{laid_out, InPlace}
 use Rattle.zy_node.proofs.page_store.PageStore.owns_below.Goals as goal
 

@@ -1,0 +1,27 @@
+-- What a machine keeps of its steps.
+use Rattle.std.specs.Prelude.{◌≡◌, ◌<◌, List, [], Some, length, slice_get, vec_capacity}
+use Rattle.zy_isa.specs.declared.choice.Choice.{Choice}
+use Rattle.zy_table.specs.declared.entry.Entry.{Entry}
+use Rattle.zy_machine.specs.declared.entry_log.EntryLog.{EntryLog}
+use Rattle.zy_machine.specs.declared.entry_log.EntryLog.TheVariants.{Own, Shared}
+use Rattle.zy_machine.specs.Trails.{IsNext}
+
+-- the steps that were made
+abbrev pub entries_of : EntryLog → List Entry
+entries_of (Own v) = v.items
+entries_of (Shared k) = k.made
+
+-- what is known of those that may follow
+abbrev pub ahead : EntryLog → List Entry
+ahead (Own v) = []
+ahead (Shared k) = k.ahead
+
+-- a step by this choice needs no memory
+abbrev pub IsReadyFor : Choice → EntryLog → Type 0
+IsReadyFor c (Own v) = length v.items < vec_capacity v
+IsReadyFor c (Shared k) = IsNext c k.ahead
+
+-- this entry can be the next one
+abbrev pub Fits : Entry → EntryLog → Type 0
+Fits e (Own v) = length v.items < vec_capacity v
+Fits e (Shared k) = slice_get k.ahead 0 ≡ Some e

@@ -1,0 +1,167 @@
+//! The state of both nodes.
+ghost use Rattle.std.specs.Prelude.{◌≡◌, ◌≤◌, ◌<◌, IfOk, OnOk, OnErr, length};
+ghost use Rattle.zy_isa.specs.declared.node.Node.TheVariants.{A};
+ghost use Rattle.zy_table.specs.State.{facing};
+ghost use Rattle.zy_table.specs.Client.{start_step as start_step_spec, begin_step as begin_step_spec, kill_step as kill_step_spec};
+ghost use Rattle.zy_table.specs.Push.{finish_step as finish_step_spec, push_step as push_step_spec};
+ghost use Rattle.zy_isa.specs.declared.choice.Choice.TheVariants.{Start};
+ghost use Rattle.zy_table.specs.Play.{side_of, step as step_spec};
+ghost use Rattle.zy_txns.specs.Books.{txn_in};
+ghost use Rattle.zy_table.specs.Run.{run_step as run_step_spec};
+ghost use Rattle.zy_table.specs.Take.{take_step as take_step_spec};
+ghost use Rattle.zy_steps.specs.Arrivals.{MayTake};
+ghost use Rattle.zy_machine.specs.NodePairs.{state_of, limits_in, AreLimited, IsMade, IsPossible, IsReady, Makes, MayStart, Steps};
+
+use std::alloc::{AllocError, Global};
+use zy_isa::choice::Choice;
+use zy_isa::node::Node;
+use zy_isa::scenario::Scenario;
+use zy_modes::table::on_start;
+use zy_steps::client::{begin_step, kill_step, start_step};
+use zy_steps::push::{finish_step, push_step};
+use zy_steps::take::take_step;
+use zy_node::node_store::NodeStore;
+use zy_steps::run::run_step;
+use zy_table::answer::Answer;
+use zy_txns::book::Book;
+
+/// The state: both nodes, the transactions and commits; and where new pages come from.
+#[derive(Drop)]
+pub(crate) struct NodePair {
+    pub alloc: Global,
+    pub a: NodeStore,
+    pub b: NodeStore,
+    pub book: Book,
+}
+
+impl NodePair {
+    /// A copy of the state.
+    pub(crate) fn copy(&self, alloc: Global) -> Result<NodePair, AllocError>
+        ensures state { IfOk result (λ copy. state_of copy ≡ state_of self.now) }
+        ensures limits { IfOk result (λ copy. limits_in copy ≡ limits_in self.now) }
+    {
+        let a = self.a.copy(alloc)?;
+        let b = self.b.copy(alloc)?;
+        let book = self.book.copy(alloc)?;
+        Ok(NodePair { alloc, a, b, book })
+    }
+
+    /// Becomes a copy of another state. Where memory is refused nothing changes.
+    pub(crate) fn set_to(&mut self, other: &NodePair) -> Result<(), AllocError>
+        ensures ok { OnOk result (state_of self.new ≡ state_of other.now) }
+        ensures err { OnErr result (state_of self.new ≡ state_of self.old) }
+        ensures limits { OnOk result (limits_in self.new ≡ limits_in other.now) }
+        ensures kept { OnErr result (limits_in self.new ≡ limits_in self.old) }
+    {
+        let a = other.a.copy_parts(self.alloc)?;
+        let b = other.b.copy_parts(self.alloc)?;
+        let book = other.book.copy(self.alloc)?;
+        self.a.set_to(&other.a, a);
+        self.b.set_to(&other.b, b);
+        self.book = book;
+        Ok(())
+    }
+
+    /// The lines of a node's run.
+    #[inline(always)]
+    fn run_step(&mut self, scenario: &Scenario, n: Node, t: u8) -> Result<Answer, AllocError>
+        requires { IsReady scenario.now n t self.old }
+        ensures line { Makes n self.old self.new result (run_step_spec scenario.now n t (facing n (state_of self.old))) }
+        ensures limits { limits_in self.new ≡ limits_in self.old }
+    {
+        match n {
+            Node::A => run_step(scenario, self.alloc, n, &mut self.a, &mut self.book, t),
+            Node::B => run_step(scenario, self.alloc, n, &mut self.b, &mut self.book, t),
+        }
+    }
+
+    /// The lines of `n take`.
+    fn take_step(&mut self, scenario: &Scenario, n: Node) -> Result<Answer, AllocError>
+        requires may { let v = facing n (state_of self.old) in MayTake v.inbox v.me }
+        requires limited { AreLimited scenario.now.pages self.old }
+        ensures line { Makes n self.old self.new result (take_step_spec scenario.now (facing n (state_of self.old))) }
+        ensures limits { limits_in self.new ≡ limits_in self.old }
+    {
+        match n {
+            Node::A => take_step(scenario, &mut self.a, &mut self.b.outbox),
+            Node::B => take_step(scenario, &mut self.b, &mut self.a.outbox),
+        }
+    }
+
+    /// `n push`.
+    fn push_step(&mut self, n: Node) -> Result<Answer, AllocError>
+        ensures line { Makes n self.old self.new result (push_step_spec (facing n (state_of self.old))) }
+        ensures limits { limits_in self.new ≡ limits_in self.old }
+    {
+        match n {
+            Node::A => push_step(&mut self.a),
+            Node::B => push_step(&mut self.b),
+        }
+    }
+
+    /// `n finish`.
+    fn finish_step(&mut self, n: Node) -> Result<Answer, AllocError>
+        requires { length self.old.book.txns ≤ 64 }
+        ensures line { Makes n self.old self.new result (finish_step_spec n (facing n (state_of self.old))) }
+        ensures limits { limits_in self.new ≡ limits_in self.old }
+    {
+        match n {
+            Node::A => finish_step(n, &mut self.a, &self.book),
+            Node::B => finish_step(n, &mut self.b, &self.book),
+        }
+    }
+
+    /// `C start`, at the node that the mode table names.
+    fn start_step(&mut self, scenario: &Scenario) -> Result<Answer, AllocError>
+        requires may { MayStart self.old }
+        requires limited { AreLimited scenario.now.pages self.old }
+        ensures line { let n = side_of scenario.now Start (state_of self.old) in Makes n self.old self.new result (start_step_spec (facing n (state_of self.old))) }
+        ensures limits { limits_in self.new ≡ limits_in self.old }
+    {
+        let source = on_start(self.a.mode, self.b.mode, scenario.version());
+        match source.unwrap_or(Node::A) {
+            Node::A => start_step(self.alloc, &mut self.a, &self.b),
+            Node::B => start_step(self.alloc, &mut self.b, &self.a),
+        }
+    }
+
+    /// `C begin t`.
+    fn begin_step(&mut self, t: u8) -> Answer
+        requires { t < length self.old.book.txns }
+        ensures line { IsMade A self.new result (begin_step_spec t (facing A (state_of self.old))) }
+        ensures limits { limits_in self.new ≡ limits_in self.old }
+    {
+        begin_step(&self.a, &self.b, &mut self.book, t)
+    }
+
+    /// `C kill t`.
+    fn kill_step(&mut self, t: u8) -> Answer
+        requires { t < length self.old.book.txns }
+        ensures line { let n = (txn_in t self.old.book).node in IsMade n self.new result (kill_step_spec t (facing n (state_of self.old))) }
+        ensures limits { limits_in self.new ≡ limits_in self.old }
+    {
+        match self.book.txn(t).node() {
+            Node::A => kill_step(&mut self.a, &mut self.book, t),
+            Node::B => kill_step(&mut self.b, &mut self.book, t),
+        }
+    }
+
+    /// The step that a choice makes.
+    #[inline(always)]
+    pub(crate) fn step(&mut self, scenario: &Scenario, choice: Choice) -> Result<Answer, AllocError>
+        requires possible { IsPossible scenario.now choice self.old }
+        requires limited { AreLimited scenario.now.pages self.old }
+        ensures line { Steps self.old self.new result (step_spec scenario.now choice (state_of self.old)) }
+        ensures limits { limits_in self.new ≡ limits_in self.old }
+    {
+        match choice {
+            Choice::Start => self.start_step(scenario),
+            Choice::Begin(t) => Ok(self.begin_step(t)),
+            Choice::Kill(t) => Ok(self.kill_step(t)),
+            Choice::Run(n, t) => self.run_step(scenario, n, t),
+            Choice::Take(n) => self.take_step(scenario, n),
+            Choice::Finish(n) => self.finish_step(n),
+            Choice::Push(n) => self.push_step(n),
+        }
+    }
+}

@@ -1,0 +1,5 @@
+pub mod AbortLemmas
+mod SplitLemmas
+mod SumLemmas
+mod AllHere
+mod TakeLemmas

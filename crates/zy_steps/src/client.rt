@@ -1,0 +1,74 @@
+//! The client's lines: each function is the line of its name.
+ghost use Rattle.std.specs.Prelude.{◌≡◌, ◌<◌, length, true};
+ghost use Rattle.zy_modes.specs.Table.{may_start};
+ghost use Rattle.zy_node.specs.Nodes.{limits_of, IsLimited};
+ghost use Rattle.zy_node.specs.Wireframes.{lows_in};
+ghost use Rattle.zy_table.specs.State.{View};
+ghost use Rattle.zy_table.specs.Client.{start_step as start_step_spec, begin_step as begin_step_spec, kill_step as kill_step_spec};
+ghost use Rattle.zy_txns.specs.Books.{with_book};
+ghost use Rattle.zy_steps.specs.Parts.{here};
+ghost use Rattle.zy_table.specs.Answers.{move_of, Makes};
+ghost use Rattle.zy_steps.specs.Sides.{beside};
+
+use std::alloc::{AllocError, Global};
+use zy_links::kind::Kind;
+use zy_links::message::Message;
+use zy_modes::mode::NodeMode;
+use zy_modes::table::home_of;
+use zy_node::node_store::NodeStore;
+use zy_node::wireframe::copy;
+use crate::run::abort_step;
+use zy_table::answer::Answer;
+use zy_table::outcome::{Outcome, Why};
+use zy_txns::book::Book;
+
+/// `C start`, at the node that starts, beside the other.
+#[tactic(auto, unfolding(zy_table::specs::Client::start_step))]
+pub fn start_step(alloc: Global, me: &mut NodeStore, them: &NodeStore) -> Result<Answer, AllocError>
+    requires some { may_start me.old.mode them.now.mode ≡ true → 0 < length (lows_in me.old.wire) }
+    requires limited { IsLimited me.old.outbox.pages me.old }
+    ensures line { (v : View) → Makes (beside me.old them.now v) (beside me.new them.now v) result (start_step_spec (beside me.old them.now v)) }
+    ensures limits { limits_of me.new ≡ limits_of me.old }
+{
+    if !me.mode.may_start(them.mode) {
+        return Ok(Answer::quiet(Outcome::BadMode));
+    }
+    me.reserve_post()?;
+    let Some(wire) = copy(&me.wire, alloc)? else {
+        unreachable!();
+    };
+    me.mode = NodeMode::SInit;
+    me.outbox.send(Message::Wire(wire));
+    Ok(Answer::sends(Outcome::Started, Kind::Wire))
+}
+
+/// `C begin t`, at A beside B.
+#[tactic(auto, unfolding(zy_table::specs::Client::begin_step, zy_table::specs::Client::begin_at, zy_table::specs::Change::begun, zy_table::specs::Change::txn_at))]
+pub fn begin_step(me: &NodeStore, them: &NodeStore, book: &mut Book, t: u8) -> Answer
+    requires { t < length book.old.txns }
+    ensures { (v : View) → move_of result (beside me.now them.now (with_book book.new v)) ≡ begin_step_spec t (beside me.now them.now (with_book book.old v)) }
+{
+    if !book.txn(t).is_new() {
+        return Answer::quiet(Outcome::Idle);
+    }
+    match home_of(me.mode, them.mode) {
+        Some(n) => {
+            book.begin(t, n);
+            Answer::quiet(Outcome::Began(n))
+        }
+        None => Answer::quiet(Outcome::Idle),
+    }
+}
+
+/// `C kill t`, at its node.
+#[tactic(auto, unfolding(zy_table::specs::Client::kill_step, zy_table::specs::Run::abort_step, zy_table::specs::Change::txn_at))]
+pub fn kill_step(me: &mut NodeStore, book: &mut Book, t: u8) -> Answer
+    requires { t < length book.old.txns }
+    ensures line { (v : View) → move_of result (here me.new book.new v) ≡ kill_step_spec t (here me.old book.old v) }
+    ensures limits { limits_of me.new ≡ limits_of me.old }
+{
+    if !book.txn(t).is_active() {
+        return Answer::quiet(Outcome::Idle);
+    }
+    abort_step(me, book, t, Why::Killed)
+}

@@ -1,0 +1,108 @@
+//! Stops, and what they read.
+ghost use Rattle.std.specs.Prelude.{◌≡◌, true};
+ghost use Rattle.zy_stops.specs.Stops.{reading as reading_spec, is_abort as is_abort_spec, fires_from, slot_reading as slot_reading_spec, same_place as same_place_spec, same_mode as same_mode_spec, same_reading as same_reading_spec};
+
+use zy_isa::node::Node;
+use zy_machine::machine::Machine;
+use zy_modes::mode::NodeMode;
+use zy_table::outcome::Outcome;
+use zy_table::place::Place;
+
+/// A stop: a break or a watch.
+#[derive(Clone, Copy, Debug, PartialEq, Eq)]
+pub enum Stop {
+    /// Where this page changes its place.
+    Page(u16),
+    /// Where a node changes its mode.
+    Mode,
+    /// Where a choice ends in an abort.
+    Abort,
+    /// Where the committed value at this key changes.
+    Watch(u16),
+}
+
+/// What a stop reads in a state.
+#[derive(Clone, Copy, Debug, PartialEq, Eq)]
+pub enum Reading {
+    /// Nothing.
+    Nothing,
+    /// Where the page is.
+    Place(Place),
+    /// The modes of A and B.
+    Modes(NodeMode, NodeMode),
+    /// The committed value.
+    Value(Option<u32>),
+}
+
+impl Stop {
+    /// What it reads in a machine's state.
+    pub fn reading(self, machine: &Machine) -> Reading
+        ensures { result ≡ reading_spec self machine.now.state }
+    {
+        match self {
+            Stop::Page(p) => Reading::Place(machine.place(p)),
+            Stop::Mode => Reading::Modes(machine.mode(Node::A), machine.mode(Node::B)),
+            Stop::Abort => Reading::Nothing,
+            Stop::Watch(k) => Reading::Value(machine.value(k)),
+        }
+    }
+
+    /// Whether it fires where it read `before` and the step with this outcome has led to the machine.
+    pub fn fires(self, before: Reading, machine: &Machine, outcome: Outcome) -> bool
+        ensures { result ≡ fires_from self before machine.now.state outcome }
+    {
+        match self {
+            Stop::Abort => is_abort(outcome),
+            Stop::Page(_) => !same_reading(before, self.reading(machine)),
+            Stop::Mode => !same_reading(before, self.reading(machine)),
+            Stop::Watch(_) => !same_reading(before, self.reading(machine)),
+        }
+    }
+}
+
+/// What the stop of a slot reads, if one is there.
+pub fn slot_reading(slot: Option<Stop>, machine: &Machine) -> Reading
+    ensures { result ≡ slot_reading_spec slot machine.now.state }
+{
+    match slot {
+        Some(stop) => stop.reading(machine),
+        None => Reading::Nothing,
+    }
+}
+
+/// Whether a page is where it was.
+fn same_place(p: Place, q: Place) -> bool
+    ensures value { result ≡ same_place_spec p q }
+    ensures same { result ≡ true → p ≡ q }
+{
+    p == q
+}
+
+/// Whether a node's mode is what it was.
+fn same_mode(m: NodeMode, n: NodeMode) -> bool
+    ensures value { result ≡ same_mode_spec m n }
+    ensures same { result ≡ true → m ≡ n }
+{
+    m == n
+}
+
+/// Whether two readings are the same.
+pub fn same_reading(a: Reading, b: Reading) -> bool
+    ensures value { result ≡ same_reading_spec a b }
+    ensures same { result ≡ true → a ≡ b }
+{
+    match (a, b) {
+        (Reading::Nothing, Reading::Nothing) => true,
+        (Reading::Place(p), Reading::Place(q)) => same_place(p, q),
+        (Reading::Modes(m, n), Reading::Modes(k, l)) => same_mode(m, k) && same_mode(n, l),
+        (Reading::Value(v), Reading::Value(w)) => v == w,
+        _ => false,
+    }
+}
+
+/// Whether this is an abort.
+pub fn is_abort(outcome: Outcome) -> bool
+    ensures { result ≡ is_abort_spec outcome }
+{
+    matches!(outcome, Outcome::Aborted(_))
+}
