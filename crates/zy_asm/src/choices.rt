@@ -2,10 +2,10 @@
 ghost use Rattle.std.specs.Prelude.{◌≡◌, ◌≤◌, IfOk, IfSome, Some, Ok, true, ℕ};
 ghost use Rattle.zy_asm.specs.Reasons.{by_kind, kind_of};
 ghost use Rattle.zy_text.specs.Lines.{texts};
-ghost use Rattle.zy_text.specs.Words.{is_numeral as is_numeral_spec};
+ghost use Rattle.zy_text.specs.Words as text;
 ghost use Rattle.zy_asm.specs.declared.choices.TxnAction.{TxnAction as AnAction};
 ghost use Rattle.zy_asm.specs.declared.choices.Action.TheVariants.{Txn, Plain};
-ghost use Rattle.zy_asm.specs.Choices.{actor_of as actor_of_spec, client_action as client_action_spec, node_action as node_action_spec, action_of as action_of_spec, chosen as chosen_spec, are_times as are_times_spec, times_of as times_of_spec, numbered as numbered_spec, transaction as transaction_spec};
+ghost use Rattle.zy_asm.specs.Choices as spec;
 
 use crate::faults::{AsmKind, Reason};
 use crate::numbers::number_in;
@@ -40,7 +40,7 @@ pub enum Action {
 /// The actor that a word names.
 #[inline(always)]
 pub fn actor_of(word: &[u8]) -> Option<Actor>
-    ensures { result ≡ actor_of_spec word.now }
+    ensures { result ≡ spec.actor_of word.now }
 {
     if is(word, b"C") {
         Some(Actor::C)
@@ -55,7 +55,7 @@ pub fn actor_of(word: &[u8]) -> Option<Actor>
 
 /// The action of the client that a word names.
 fn client_action(word: &[u8]) -> Option<Action>
-    ensures { result ≡ client_action_spec word.now }
+    ensures { result ≡ spec.client_action word.now }
 {
     if is(word, b"start") {
         Some(Action::Plain(Choice::Start))
@@ -71,7 +71,7 @@ fn client_action(word: &[u8]) -> Option<Action>
 /// The action of this node that a word names.
 #[inline(always)]
 fn node_action(node: Node, word: &[u8]) -> Option<Action>
-    ensures { result ≡ node_action_spec node word.now }
+    ensures { result ≡ spec.node_action node word.now }
 {
     if is(word, b"run") {
         Some(Action::Txn(TxnAction::Run(node)))
@@ -89,7 +89,7 @@ fn node_action(node: Node, word: &[u8]) -> Option<Action>
 /// The action of this actor that a word names.
 #[inline(always)]
 pub fn action_of(actor: Actor, word: &[u8]) -> Option<Action>
-    ensures { result ≡ action_of_spec actor word.now }
+    ensures { result ≡ spec.action_of actor word.now }
 {
     match actor {
         Actor::C => client_action(word),
@@ -100,7 +100,7 @@ pub fn action_of(actor: Actor, word: &[u8]) -> Option<Action>
 
 /// The action with this transaction.
 pub fn chosen(action: TxnAction, t: u8) -> Choice
-    ensures { result ≡ chosen_spec action t }
+    ensures { result ≡ spec.chosen action t }
 {
     match action {
         TxnAction::Begin => Choice::Begin(t),
@@ -112,7 +112,7 @@ pub fn chosen(action: TxnAction, t: u8) -> Choice
 /// The number of a transaction, of which there are `count`.
 fn numbered(count: usize, word: &[u8]) -> Result<u8, Reason>
     requires { count ≤ 64 }
-    ensures { by_kind result ≡ numbered_spec count word.now }
+    ensures { by_kind result ≡ spec.numbered count word.now }
 {
     let Some(number) = number_of(word) else {
         return Err(Reason::NotDigits(Shown::of(word)));
@@ -127,7 +127,7 @@ fn numbered(count: usize, word: &[u8]) -> Result<u8, Reason>
 /// The transaction of this number or name, where there are `count`, and those with names have these.
 pub fn transaction(count: usize, names: &NameTable, word: &[u8]) -> Result<u8, Reason>
     requires { count ≤ 64 }
-    ensures { by_kind result ≡ transaction_spec count names.now word.now }
+    ensures { by_kind result ≡ spec.transaction count names.now word.now }
 {
     if is_numeral(word) {
         return numbered(count, word);
@@ -144,7 +144,7 @@ pub fn transaction(count: usize, names: &NameTable, word: &[u8]) -> Result<u8, R
 /// The choice of an actor's action that names no transaction.
 #[inline(always)]
 pub fn plain_choice(actor: Actor, action: &[u8]) -> Option<Choice>
-    ensures { IfSome result (λ c. action_of_spec actor action.now ≡ Some (Plain c)) }
+    ensures { IfSome result (λ c. spec.action_of actor action.now ≡ Some (Plain c)) }
 {
     match action_of(actor, action) {
         Some(Action::Plain(choice)) => Some(choice),
@@ -156,7 +156,7 @@ pub fn plain_choice(actor: Actor, action: &[u8]) -> Option<Choice>
 #[inline(always)]
 pub fn numbered_choice(actor: Actor, action: &[u8], count: usize, word: &[u8]) -> Option<Choice>
     requires { count ≤ 64 }
-    ensures { IfSome result (λ c. (a : AnAction) × (i : ℕ) × (action_of_spec actor action.now ≡ Some (Txn a)) × (is_numeral_spec word.now ≡ true) × (numbered_spec count word.now ≡ Ok i) × (c ≡ chosen_spec a i)) }
+    ensures { IfSome result (λ c. (a : AnAction) × (i : ℕ) × (spec.action_of actor action.now ≡ Some (Txn a)) × (text.is_numeral word.now ≡ true) × (spec.numbered count word.now ≡ Ok i) × (c ≡ spec.chosen a i)) }
 {
     let Some(Action::Txn(action)) = action_of(actor, action) else {
         return None;
@@ -173,7 +173,7 @@ pub fn numbered_choice(actor: Actor, action: &[u8], count: usize, word: &[u8]) -
 
 /// Whether these words are `x` and another one, or none.
 pub fn are_times(words: &[&[u8]]) -> bool
-    ensures { result ≡ are_times_spec (texts words.now) }
+    ensures { result ≡ spec.are_times (texts words.now) }
 {
     match words {
         [] => true,
@@ -194,7 +194,7 @@ pub fn not_times(words: &[&[u8]]) -> Reason
 
 /// How often the words behind a choice say that it is made.
 pub fn times_of(words: &[&[u8]]) -> Result<u64, Reason>
-    ensures value { by_kind result ≡ times_of_spec (texts words.now) }
+    ensures value { by_kind result ≡ spec.times_of (texts words.now) }
     ensures few { IfOk result (λ n. n ≤ 4096) }
 {
     match words {

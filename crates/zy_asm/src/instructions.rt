@@ -3,7 +3,7 @@ ghost use Rattle.std.specs.Prelude.{◌≡◌, ◌∷◌, [], Ok, IfSome, ok_or}
 ghost use Rattle.zy_asm.specs.Reasons.{by_kind, kind_of, Gives};
 ghost use Rattle.zy_text.specs.Lines.{texts};
 ghost use Rattle.zy_asm.specs.Pending.{pending_of, whole};
-ghost use Rattle.zy_asm.specs.Instructions.{register_of as register_of_spec, two as two_spec, pair_of as pair_of_spec, jump_to as jump_to_spec, number_to as number_to_spec, with_number as with_number_spec, jump_where as jump_where_spec, with_target as with_target_spec, alone as alone_spec, instr_of as instr_of_spec};
+ghost use Rattle.zy_asm.specs.Instructions as spec;
 
 use crate::faults::{AsmKind, Reason};
 use crate::numbers::{number_in, within};
@@ -17,7 +17,7 @@ use zy_text::names::is_name;
 /// The register that a word names.
 #[inline(always)]
 fn register_of(word: &[u8]) -> Option<Reg>
-    ensures { ok_or result AsmKind.Word ≡ register_of_spec word.now }
+    ensures { ok_or result AsmKind.Word ≡ spec.register_of word.now }
 {
     match word {
         [b'r', b'0'] => Some(Reg::R0),
@@ -34,7 +34,7 @@ fn register_of(word: &[u8]) -> Option<Reg>
 
 #[inline(always)]
 fn two(a: &[u8], b: &[u8]) -> Option<(Reg, Reg)>
-    ensures { ok_or result AsmKind.Word ≡ two_spec a.now b.now }
+    ensures { ok_or result AsmKind.Word ≡ spec.two a.now b.now }
 {
     let first = register_of(a)?;
     let second = register_of(b)?;
@@ -53,7 +53,7 @@ fn not_two(a: &[u8], b: &[u8]) -> Reason
 
 /// Two registers and no more.
 fn pair_of(words: &[&[u8]]) -> Option<(Reg, Reg)>
-    ensures { ok_or result AsmKind.Word ≡ pair_of_spec (texts words.now) }
+    ensures { ok_or result AsmKind.Word ≡ spec.pair_of (texts words.now) }
 {
     match words {
         [a, b] => two(a, b),
@@ -79,7 +79,7 @@ fn jump_to(
     b: Reg,
     target: &[u8],
 ) -> Result<Unresolved, Reason>
-    ensures { Gives pending_of result (jump_to_spec operation a b target.now) }
+    ensures { Gives pending_of result (spec.jump_to operation a b target.now) }
 {
     match target {
         [] => Err(Reason::NotAName(Shown::of(target))),
@@ -101,7 +101,7 @@ fn jump_to(
 
 /// An operation with the register and the number that two words name.
 fn number_to(operation: NumberOperation, a: &[u8], number: &[u8]) -> Result<Instr, Reason>
-    ensures { by_kind result ≡ number_to_spec operation a.now number.now }
+    ensures { by_kind result ≡ spec.number_to operation a.now number.now }
 {
     let Some(register) = register_of(a) else {
         return Err(Reason::NotKnown(Shown::of(a)));
@@ -112,7 +112,7 @@ fn number_to(operation: NumberOperation, a: &[u8], number: &[u8]) -> Result<Inst
 
 /// The same with the words behind the operation.
 fn with_number(operation: NumberOperation, words: &[&[u8]]) -> Result<Instr, Reason>
-    ensures { by_kind result ≡ with_number_spec operation (texts words.now) }
+    ensures { by_kind result ≡ spec.with_number operation (texts words.now) }
 {
     match words {
         [a, number] => number_to(operation, a, number),
@@ -128,7 +128,7 @@ fn jump_where(
     b: &[u8],
     target: &[u8],
 ) -> Result<Unresolved, Reason>
-    ensures { Gives pending_of result (jump_where_spec operation a.now b.now target.now) }
+    ensures { Gives pending_of result (spec.jump_where operation a.now b.now target.now) }
 {
     match two(a, b) {
         Some((a, b)) => jump_to(alloc, operation, a, b, target),
@@ -142,7 +142,7 @@ fn with_target(
     operation: JumpOperation,
     words: &[&[u8]],
 ) -> Result<Unresolved, Reason>
-    ensures { Gives pending_of result (with_target_spec operation (texts words.now)) }
+    ensures { Gives pending_of result (spec.with_target operation (texts words.now)) }
 {
     match words {
         [a, b, target] => jump_where(alloc, operation, a, b, target),
@@ -152,7 +152,7 @@ fn with_target(
 
 /// An instruction of one word, where none follows.
 fn alone(words: &[&[u8]], instr: Instr) -> Result<Instr, Reason>
-    ensures { by_kind result ≡ alone_spec (texts words.now) instr }
+    ensures { by_kind result ≡ spec.alone (texts words.now) instr }
 {
     if words.is_empty() {
         Ok(instr)
@@ -164,7 +164,7 @@ fn alone(words: &[&[u8]], instr: Instr) -> Result<Instr, Reason>
 /// The instruction of an operation with two words behind it, where it is one and names no label.
 #[inline(always)]
 pub fn whole_of(operation: Operation, a: &[u8], b: &[u8]) -> Option<Instr>
-    ensures { IfSome result (λ i. instr_of_spec operation (a.now ∷ b.now ∷ []) ≡ Ok (whole i)) }
+    ensures { IfSome result (λ i. spec.instr_of operation (a.now ∷ b.now ∷ []) ≡ Ok (whole i)) }
 {
     match operation {
         Operation::Number(operation) => {
@@ -183,7 +183,7 @@ pub fn whole_of(operation: Operation, a: &[u8], b: &[u8]) -> Option<Instr>
 
 /// The instruction of an operation with the words behind it. A label takes memory.
 pub fn instr_of(alloc: Global, operation: Operation, words: &[&[u8]]) -> Result<Unresolved, Reason>
-    ensures { Gives pending_of result (instr_of_spec operation (texts words.now)) }
+    ensures { Gives pending_of result (spec.instr_of operation (texts words.now)) }
 {
     let instr = match operation {
         Operation::Number(operation) => with_number(operation, words)?,

@@ -1,7 +1,8 @@
 //! The instructions of a program that is still open, and the program once its labels are known.
 ghost use Rattle.std.specs.Prelude.{◌≡◌, map};
 ghost use Rattle.zy_asm.specs.Reasons.{by_kind, Gives};
-ghost use Rattle.zy_asm.specs.Pending.{pending_of, resolved as resolved_spec, all_resolved as all_resolved_spec, judged as judged_spec, program_of as program_of_spec};
+ghost use Rattle.zy_asm.specs.Pending.{pending_of};
+ghost use Rattle.zy_asm.specs.Pending as spec;
 ghost use Rattle.zy_isa.specs.Programs.{prog_fault};
 
 use crate::faults::Reason;
@@ -24,7 +25,7 @@ pub enum Unresolved {
 
 /// The word of the instruction, where the labels of its program are these.
 fn resolved(labels: &NameTable, instr: &Unresolved) -> Result<Word, Reason>
-    ensures { by_kind result ≡ resolved_spec labels.now (pending_of instr.now) }
+    ensures { by_kind result ≡ spec.resolved labels.now (pending_of instr.now) }
 {
     match instr {
         Unresolved::Whole(instr) => Ok(Word::of(*instr)),
@@ -40,7 +41,7 @@ fn resolved(labels: &NameTable, instr: &Unresolved) -> Result<Word, Reason>
 
 /// The words of the instructions, where the labels of their program are these.
 fn all_resolved(alloc: Global, labels: &NameTable, instrs: &[Unresolved]) -> Result<Vec<Word>, Reason>
-    ensures { Gives (λ v. v.items) result (all_resolved_spec labels.now (map pending_of instrs.now)) }
+    ensures { Gives (λ v. v.items) result (spec.all_resolved labels.now (map pending_of instrs.now)) }
 {
     let mut all = Vec::new(alloc);
     for instr in instrs {
@@ -54,7 +55,7 @@ fn all_resolved(alloc: Global, labels: &NameTable, instrs: &[Unresolved]) -> Res
 
 /// The program of these words, which has this number.
 fn judged(number: usize, words: Vec<Word>) -> Result<Program, Reason>
-    ensures { by_kind result ≡ judged_spec (prog_fault words.items) words.items }
+    ensures { by_kind result ≡ spec.judged (prog_fault words.items) words.items }
 {
     match Program::of_words(words) {
         Ok(program) => Ok(program),
@@ -69,7 +70,7 @@ pub fn program_of(
     labels: &NameTable,
     instrs: &[Unresolved],
 ) -> Result<Program, Reason>
-    ensures { Gives (λ p. p) result (program_of_spec labels.now (map pending_of instrs.now)) }
+    ensures { Gives (λ p. p) result (spec.program_of labels.now (map pending_of instrs.now)) }
 {
     let words = all_resolved(alloc, labels, instrs)?;
     judged(number, words)

@@ -3,7 +3,8 @@ ghost use Rattle.std.specs.Prelude.{◌≡◌, ◌≤◌, ◌<◌, ◌∷◌, �
 ghost use Rattle.zy_asm.specs.Reasons.{by_kind, seen_word};
 ghost use Rattle.zy_text.specs.Lines.{texts};
 ghost use Rattle.zy_asm.specs.Pending.{pending_of, whole};
-ghost use Rattle.zy_asm.specs.Reading.{Steps, Reads, progress_of, keyword_of as keyword_of_spec, headed as headed_spec, rule_of as rule_of_spec, zephyr_line, cap_line, pages_line, rule_line, row_with as row_with_spec, row_of as row_of_spec, add_row, row_at, instr_line, instr_at, note_label, behind_label, label_line, closed, own_number as own_number_spec, note_name, head_line, open_line, txn_at, repeat_choice, repeat_line, plain_line, txn_action_line, choice_line, end_line, statement, body_line, step, line_step, ended as ended_spec, reading};
+ghost use Rattle.zy_asm.specs.Reading.{Steps, Reads, progress_of, zephyr_line, cap_line, pages_line, rule_line, add_row, row_at, instr_line, instr_at, note_label, behind_label, label_line, closed, note_name, head_line, open_line, txn_at, repeat_choice, repeat_line, plain_line, txn_action_line, choice_line, end_line, statement, body_line, step, line_step, reading};
+ghost use Rattle.zy_asm.specs.Reading as spec;
 
 use crate::choices::{
     Action, TxnAction, action_of, actor_of, are_times, chosen, not_times, numbered_choice,
@@ -49,7 +50,7 @@ pub enum Keyword {
 
 /// The keyword that a word is in a version.
 fn keyword_of(version: Version, word: &[u8]) -> Option<Keyword>
-    ensures { result ≡ keyword_of_spec version word.now }
+    ensures { result ≡ spec.keyword_of version word.now }
 {
     if let Some(operation) = Operation::named_in(version, word) {
         return Some(Keyword::Instr(operation));
@@ -72,7 +73,7 @@ fn keyword_of(version: Version, word: &[u8]) -> Option<Keyword>
 
 /// The word behind this one in a line of the header.
 fn headed<'a>(words: &[&'a [u8]], name: &[u8]) -> Result<&'a [u8], Reason>
-    ensures { seen_word result ≡ headed_spec (texts words.now) name.now }
+    ensures { seen_word result ≡ spec.headed (texts words.now) name.now }
 {
     match words {
         [first, word] if *first == name => Ok(word),
@@ -82,7 +83,7 @@ fn headed<'a>(words: &[&'a [u8]], name: &[u8]) -> Result<&'a [u8], Reason>
 
 /// The rule that a word names.
 fn rule_of(word: &[u8]) -> Option<Rule>
-    ensures { result ≡ rule_of_spec word.now }
+    ensures { result ≡ spec.rule_of word.now }
 {
     if is(word, b"held") {
         Some(Rule::Held)
@@ -95,7 +96,7 @@ fn rule_of(word: &[u8]) -> Option<Rule>
 
 /// The row with this key and this value.
 fn row_with(key: &[u8], value: &[u8]) -> Result<Row, Reason>
-    ensures { by_kind result ≡ row_with_spec key.now value.now }
+    ensures { by_kind result ≡ spec.row_with key.now value.now }
 {
     let key = number_in(key, 0, u64::from(u16::MAX))? as u16;
     let value = number_in(value, 0, u64::from(u32::MAX))? as u32;
@@ -104,7 +105,7 @@ fn row_with(key: &[u8], value: &[u8]) -> Result<Row, Reason>
 
 /// The row of the words behind `row`.
 fn row_of(words: &[&[u8]]) -> Result<Row, Reason>
-    ensures { by_kind result ≡ row_of_spec (texts words.now) }
+    ensures { by_kind result ≡ spec.row_of (texts words.now) }
 {
     match words {
         [key, value] => row_with(key, value),
@@ -114,7 +115,7 @@ fn row_of(words: &[&[u8]]) -> Result<Row, Reason>
 
 /// The number of a program, of which this number is above.
 fn own_number(count: usize, word: &[u8]) -> Result<usize, Reason>
-    ensures { by_kind result ≡ own_number_spec count word.now }
+    ensures { by_kind result ≡ spec.own_number count word.now }
 {
     let Some(number) = number_of(word) else {
         return Err(Reason::NotDigits(Shown::of(word)));
@@ -532,7 +533,7 @@ impl Reader {
 }
 
 fn ended(stage: Stage) -> Result<(), Reason>
-    ensures { by_kind result ≡ ended_spec stage }
+    ensures { by_kind result ≡ spec.ended stage }
 {
     match stage {
         Stage::Done => Ok(()),

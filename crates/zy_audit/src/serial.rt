@@ -2,7 +2,8 @@
 ghost use Rattle.std.specs.Prelude.{◌≡◌, ◌<◌, All, IfOk, OnOk, length};
 ghost use Rattle.zy_isa.specs.Rows.{Rising};
 ghost use Rattle.zy_table.specs.Database.{database};
-ghost use Rattle.zy_table.specs.Serial.{serial as serial_spec, alone};
+ghost use Rattle.zy_table.specs.Serial.{alone};
+ghost use Rattle.zy_table.specs.Serial as table_serial;
 ghost use Rattle.zy_audit.specs.Lone.{map_of};
 ghost use Rattle.zy_audit.specs.SameMaps.{same_map};
 
@@ -22,7 +23,7 @@ pub fn serial(
     commits: &[CommitRec],
 ) -> Result<Table, AllocError>
     requires { All (λ c. c.txn < length scenario.now.programs) commits.now }
-    ensures map { IfOk result (λ table. map_of table ≡ serial_spec scenario.now (map_of scenario.now.rows) commits.now) }
+    ensures map { IfOk result (λ table. map_of table ≡ table_serial.serial scenario.now (map_of scenario.now.rows) commits.now) }
     ensures rise { IfOk result (λ table. Rising 0 table) }
 {
     let mut table = Table::new(alloc);
@@ -61,7 +62,7 @@ fn all_rows(alloc: Global, machine: &Machine) -> Result<Table, AllocError>
 
 /// Whether the pages have exactly what the committed programs leave when they are run alone, one by one.
 pub fn same(alloc: Global, machine: &Machine) -> Result<bool, AllocError>
-    ensures { IfOk result (λ b. b ≡ same_map (database machine.now.state) (serial_spec machine.now.scenario (map_of machine.now.scenario.rows) machine.now.state.commits)) }
+    ensures { IfOk result (λ b. b ≡ same_map (database machine.now.state) (table_serial.serial machine.now.scenario (map_of machine.now.scenario.rows) machine.now.state.commits)) }
 {
     let alone = serial(alloc, machine.scenario(), machine.commits())?;
     if covers(machine, &alone) {

@@ -6,8 +6,8 @@ ghost use Rattle.zy_asm.specs.Input.{utf8_fault, input_fault};
 ghost use Rattle.zy_asm.specs.Reasons.{fault_of};
 ghost use Rattle.zy_audit.specs.Run.{listing_run};
 ghost use Rattle.zy_check.specs.declared.verdict.Verdict.{Verdict as AVerdict};
-ghost use Rattle.zy_text.specs.Cut.{cut as cut_spec};
-ghost use Rattle.zy_check.specs.Differs.{verdict as verdict_spec};
+ghost use Rattle.zy_text.specs.Cut as text;
+ghost use Rattle.zy_check.specs.Differs as spec;
 ghost use Rattle.zy_check.specs.Faults.{failed_reads, IfScenario, IsOfScenario, ReadsInput};
 ghost use Rattle.zy_check.specs.Verdicts.{GivesVerdict, IsVerdict};
 
@@ -25,7 +25,7 @@ use zy_text::cut::cut_len;
 
 /// Makes the choices of a scenario, and compares its listing with an input.
 fn compare(alloc: Global, input: &[u8], scenario: Scenario) -> Result<Verdict, AllocError>
-    ensures { IfOk result (λ v. v ≡ verdict_spec input.now (listing_run scenario)) }
+    ensures { IfOk result (λ v. v ≡ spec.verdict input.now (listing_run scenario)) }
 {
     let mut sink = Comparing::new(input);
     match write_run(alloc, scenario, &mut sink) {
@@ -38,11 +38,11 @@ fn compare(alloc: Global, input: &[u8], scenario: Scenario) -> Result<Verdict, A
 
 /// The verdict on an input.
 fn verdict_of(alloc: Global, input: &[u8]) -> Result<Verdict, CheckFault>
-    ensures found { IfOk result (λ v. IsVerdict input.now v × (input_fault (cut_spec input.now) ≡ None)) }
+    ensures found { IfOk result (λ v. IsVerdict input.now v × (input_fault (text.cut input.now) ≡ None)) }
     ensures one { IfOk result (λ v. (other : AVerdict) → IsVerdict input.now other → v ≡ other) }
-    ensures only { (sc : AScenario) → utf8_fault (cut_spec input.now) ≡ None → Means (cut_spec input.now) sc
-        → GivesVerdict result (verdict_spec input.now (listing_run sc)) }
-    ensures fault { IfErr result (λ f. IsOfScenario (cut_spec input.now) f) }
+    ensures only { (sc : AScenario) → utf8_fault (text.cut input.now) ≡ None → Means (text.cut input.now) sc
+        → GivesVerdict result (spec.verdict input.now (listing_run sc)) }
+    ensures fault { IfErr result (λ f. IsOfScenario (text.cut input.now) f) }
 {
     let (part, _) = input.split_at(cut_len(input));
     let scenario = assemble_bytes(alloc, part)?;
@@ -58,13 +58,13 @@ pub fn check<S: Source>(alloc: Global, source: &mut S) -> Result<Verdict, CheckF
     ensures one { IfOk result (λ v. IfSome (S.left source.old) (λ told. (other : AVerdict) → IsVerdict told other → v ≡ other)) }
     // Where the scenario part means a scenario, that verdict comes, unless a call failed or there was no memory.
     ensures only { IfSome (S.left source.old) (λ told. (sc : AScenario) → length told ≤ 4194304
-        → utf8_fault (cut_spec told) ≡ None → Means (cut_spec told) sc
-        → GivesVerdict result (verdict_spec told (listing_run sc))) }
+        → utf8_fault (text.cut told) ≡ None → Means (text.cut told) sc
+        → GivesVerdict result (spec.verdict told (listing_run sc))) }
     // A refused scenario part is reported by its first fault.
     ensures fault { IfErr result (λ f. IfScenario f (λ r.
-        IfSome (S.left source.old) (λ told. input_fault (cut_spec told) ≡ Some (fault_of r)))) }
+        IfSome (S.left source.old) (λ told. input_fault (text.cut told) ≡ Some (fault_of r)))) }
     // What is accepted has no fault.
-    ensures accepted { IfOk result (λ v. IfSome (S.left source.old) (λ told. input_fault (cut_spec told) ≡ None)) }
+    ensures accepted { IfOk result (λ v. IfSome (S.left source.old) (λ told. input_fault (text.cut told) ≡ None)) }
     // The input is read whole; only where it has more than 4194304 bytes is it too long, and then one byte more is read.
     ensures input { ReadsInput (S.left source.old) (S.left source.new) result }
     // Whatever the reader tells of its bytes, its calls give at most one more than the longest input has.

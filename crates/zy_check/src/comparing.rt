@@ -1,6 +1,7 @@
 //! A sink that compares.
 ghost use Rattle.std.specs.Prelude.{◌≡◌, ◌<◌, ◌≤◌, ◌+◌, ◌++◌, [], ◌∷◌, ℕ, List, Some, length, take};
-ghost use Rattle.zy_check.specs.Differs.{common, feeds, verdict as verdict_spec};
+ghost use Rattle.zy_check.specs.Differs.{common, feeds};
+ghost use Rattle.zy_check.specs.Differs as spec;
 ghost use Rattle.zy_check.specs.Comparing.{written_by};
 
 use crate::verdict::Verdict;
@@ -79,8 +80,8 @@ impl<'a> Comparing<'a> {
 
     /// The verdict on the input and the text that was taken. Where bytes were refused, no text behind it changes that.
     pub fn verdict(&self) -> Verdict
-        ensures whole { result ≡ verdict_spec self.now.input self.now.text }
-        ensures front { 0 < self.now.refusals → (back : List ℕ) → result ≡ verdict_spec self.now.input (self.now.text ++ back) }
+        ensures whole { result ≡ spec.verdict self.now.input self.now.text }
+        ensures front { 0 < self.now.refusals → (back : List ℕ) → result ≡ spec.verdict self.now.input (self.now.text ++ back) }
     {
         if self.other.is_some() {
             return Verdict::NotTable(line_after(self.input, self.at));

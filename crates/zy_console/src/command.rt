@@ -1,7 +1,7 @@
 //! The command of a line.
 ghost use Rattle.std.specs.Prelude.{◌≡◌};
 ghost use Rattle.zy_text.specs.Lines.{texts};
-ghost use Rattle.zy_console.specs.Lines.{bare as bare_spec, break_at as break_at_spec, command_of as command_of_spec, count_of as count_of_spec, numbered as numbered_spec, of_three as of_three_spec, of_two as of_two_spec};
+ghost use Rattle.zy_console.specs.Lines as spec;
 
 use zy_debug::command::Command;
 use zy_text::names::is;
@@ -9,7 +9,7 @@ use zy_text::numbers::number_of;
 
 /// The number that a word spells, where it is a `u32`.
 fn count_of(word: &[u8]) -> Option<u32>
-    ensures { result ≡ count_of_spec word.now }
+    ensures { result ≡ spec.count_of word.now }
 {
     match number_of(word) {
         Some(number) => {
@@ -25,7 +25,7 @@ fn count_of(word: &[u8]) -> Option<u32>
 
 /// The command that is one word.
 fn bare(word: &[u8]) -> Option<Command>
-    ensures { result ≡ bare_spec word.now }
+    ensures { result ≡ spec.bare word.now }
 {
     if is(word, b"cont") {
         Some(Command::Cont)
@@ -42,7 +42,7 @@ fn bare(word: &[u8]) -> Option<Command>
 
 /// The command that a word and a number spell.
 fn numbered(word: &[u8], number: u32) -> Option<Command>
-    ensures { result ≡ numbered_spec word.now number }
+    ensures { result ≡ spec.numbered word.now number }
 {
     if is(word, b"step") {
         Some(Command::Step(number))
@@ -65,7 +65,7 @@ fn numbered(word: &[u8], number: u32) -> Option<Command>
 
 /// The command that `break` and a word spell.
 fn break_at(word: &[u8]) -> Option<Command>
-    ensures { result ≡ break_at_spec word.now }
+    ensures { result ≡ spec.break_at word.now }
 {
     if is(word, b"mode") {
         Some(Command::BreakMode)
@@ -78,7 +78,7 @@ fn break_at(word: &[u8]) -> Option<Command>
 
 /// The command that two words spell.
 fn of_two(first: &[u8], second: &[u8]) -> Option<Command>
-    ensures { result ≡ of_two_spec first.now second.now }
+    ensures { result ≡ spec.of_two first.now second.now }
 {
     if is(first, b"break") {
         return break_at(second);
@@ -91,7 +91,7 @@ fn of_two(first: &[u8], second: &[u8]) -> Option<Command>
 
 /// The command that three words spell.
 fn of_three(first: &[u8], second: &[u8], third: &[u8]) -> Option<Command>
-    ensures { result ≡ of_three_spec first.now second.now third.now }
+    ensures { result ≡ spec.of_three first.now second.now third.now }
 {
     if !(is(first, b"break") && is(second, b"page")) {
         return None;
@@ -104,7 +104,7 @@ fn of_three(first: &[u8], second: &[u8], third: &[u8]) -> Option<Command>
 
 /// The command that the words of a line spell, if they spell one.
 pub fn command_of(words: &[&[u8]]) -> Option<Command>
-    ensures { result ≡ command_of_spec (texts words.now) }
+    ensures { result ≡ spec.command_of (texts words.now) }
 {
     match words {
         [first] => bare(first),

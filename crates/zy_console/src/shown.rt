@@ -2,7 +2,7 @@
 ghost use Rattle.std.specs.Prelude.{◌≡◌, ◌<◌, ◌++◌, OnOk, length};
 ghost use Rattle.zy_io.specs.Writing.{line_of};
 ghost use Rattle.zy_isa.specs.declared.node.Node.TheVariants.{A, B};
-ghost use Rattle.zy_audit.specs.Locked.{page_reply as page_reply_spec};
+ghost use Rattle.zy_audit.specs.Locked as audit;
 ghost use Rattle.zy_audit.specs.Texts.{link_text, txn_text};
 ghost use Rattle.zy_console.specs.Replies.{IsThere, modes_text, shown_text, where_text};
 
@@ -58,7 +58,7 @@ fn append_txn(machine: &Machine, t: u8, line: &mut LineBuffer) -> Result<(), All
 
 /// Appends the line of a page and its locks, with its end.
 fn append_page(machine: &Machine, page: u16, line: &mut LineBuffer) -> Result<(), AllocError>
-    ensures { OnOk result (line.new ≡ line.old ++ line_of (page_reply_spec machine.now.state page)) }
+    ensures { OnOk result (line.new ≡ line.old ++ line_of (audit.page_reply machine.now.state page)) }
 {
     page_reply(machine, page, line)?;
     line.push(b'\n')

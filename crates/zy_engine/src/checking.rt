@@ -8,7 +8,7 @@ ghost use Rattle.zy_asm.specs.Input.{input_fault, utf8_fault};
 ghost use Rattle.zy_audit.specs.Run.{listing_run};
 ghost use Rattle.zy_check.specs.declared.verdict.Verdict.{Verdict as AVerdict};
 ghost use Rattle.zy_text.specs.Cut.{cut};
-ghost use Rattle.zy_check.specs.Differs.{verdict as verdict_spec};
+ghost use Rattle.zy_check.specs.Differs as differs;
 ghost use Rattle.zy_check.specs.Verdicts.{IsVerdict};
 ghost use Rattle.zy_engine.specs.Checks.{GivesVerdict, IsBefore, WroteOrNothing, verdict_line};
 ghost use Rattle.zy_engine.specs.Faults.{IfRefused, ReadsInput, failed_reads, failed_writes};
@@ -60,7 +60,7 @@ pub fn check_bytes<S: Source, K: Sink>(
     // Where the scenario part means a scenario, that verdict comes, unless a call failed or there was no memory.
     ensures only { IfSome (S.left source.old) (λ told. (sc : AScenario) → length told ≤ 4194304
         → utf8_fault (cut told) ≡ None → Means (cut told) sc
-        → GivesVerdict result (verdict_spec told (listing_run sc))) }
+        → GivesVerdict result (differs.verdict told (listing_run sc))) }
     // Whatever comes, nothing but a prefix of the words of the input's verdict went out.
     ensures front { IfSome (S.left source.old) (λ told. (v : AVerdict) → IsVerdict told v
         → WroteFront (K.written sink.old) (K.written sink.new) (verdict_line v)) }

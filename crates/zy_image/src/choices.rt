@@ -1,7 +1,8 @@
 //! The choices of an image.
 ghost use Rattle.std.specs.Prelude.{◌≡◌, ◌⊎◌, ℕ, Ok, Err, MatchResult};
 ghost use Rattle.zy_image.specs.declared.faults.LoadFault.TheVariants.{Memory};
-ghost use Rattle.zy_image.specs.Reading.{Gives, HasChoices, choice_at as choice_at_spec, choice_count as choice_count_spec, choices as choices_spec, client_choice as client_choice_spec, named as named_spec, next_choice, node_of as node_of_spec, node_choice as node_choice_spec, plain as plain_spec};
+ghost use Rattle.zy_image.specs.Reading.{Gives, HasChoices, next_choice};
+ghost use Rattle.zy_image.specs.Reading as spec;
 
 use crate::faults::LoadFault;
 use crate::fields::half;
@@ -13,7 +14,7 @@ use zy_isa::scenario::{MAX_CHOICES, Scenario, ScenarioFault};
 
 /// A choice with a transaction, of which there are `count`.
 fn named(count: usize, txn: u8, choice: Choice) -> Option<Choice>
-    ensures { result ≡ named_spec count txn choice }
+    ensures { result ≡ spec.named count txn choice }
 {
     if usize::from(txn) < count {
         Some(choice)
@@ -24,14 +25,14 @@ fn named(count: usize, txn: u8, choice: Choice) -> Option<Choice>
 
 /// A choice without a transaction, whose last byte is 0.
 fn plain(txn: u8, choice: Choice) -> Option<Choice>
-    ensures { result ≡ plain_spec txn choice }
+    ensures { result ≡ spec.plain txn choice }
 {
     if txn == 0 { Some(choice) } else { None }
 }
 
 /// The choice of the client with this action.
 fn client_choice(count: usize, action: u8, txn: u8) -> Option<Choice>
-    ensures { result ≡ client_choice_spec count action txn }
+    ensures { result ≡ spec.client_choice count action txn }
 {
     match action {
         0 => plain(txn, Choice::Start),
@@ -44,7 +45,7 @@ fn client_choice(count: usize, action: u8, txn: u8) -> Option<Choice>
 /// The choice of a node with this action, which names no transaction.
 fn plain_choice(node: Node, action: u8, txn: u8) -> Option<Choice>
     requires { (action ≡ 3) → ⊥ }
-    ensures { (count : ℕ) → result ≡ node_choice_spec count node action txn }
+    ensures { (count : ℕ) → result ≡ spec.node_choice count node action txn }
 {
     let choice = match action {
         4 => Choice::Take(node),
@@ -57,7 +58,7 @@ fn plain_choice(node: Node, action: u8, txn: u8) -> Option<Choice>
 
 /// The choice of a node with this action. Most are those that a transaction runs.
 fn node_choice(count: usize, node: Node, action: u8, txn: u8) -> Option<Choice>
-    ensures { result ≡ node_choice_spec count node action txn }
+    ensures { result ≡ spec.node_choice count node action txn }
 {
     if action == 3 {
         named(count, txn, Choice::Run(node, txn))
@@ -68,7 +69,7 @@ fn node_choice(count: usize, node: Node, action: u8, txn: u8) -> Option<Choice>
 
 /// The node of an actor's number; none where it is not a node's.
 fn node_of(actor: u8) -> Option<Node>
-    ensures { result ≡ node_of_spec actor }
+    ensures { result ≡ spec.node_of actor }
 {
     match actor {
         1 => Some(Node::A),
@@ -79,7 +80,7 @@ fn node_of(actor: u8) -> Option<Node>
 
 /// The choice of this actor with this action.
 fn choice_at(count: usize, actor: u8, action: u8, txn: u8) -> Option<Choice>
-    ensures { result ≡ choice_at_spec count actor action txn }
+    ensures { result ≡ spec.choice_at count actor action txn }
 {
     match node_of(actor) {
         Some(node) => node_choice(count, node, action, txn),
@@ -117,7 +118,7 @@ impl Items for ChoiceItems {
 
 /// How many choices there are.
 fn choice_count(size: usize, bytes: &[u8]) -> Result<(usize, &[u8]), LoadFault>
-    ensures { Gives result (choice_count_spec size bytes.entry.now) }
+    ensures { Gives result (spec.choice_count size bytes.entry.now) }
 {
     let (count, left) = half(size, bytes)?;
     if usize::from(count) > MAX_CHOICES {
@@ -133,7 +134,7 @@ pub fn choices(
     size: usize,
     bytes: &[u8],
 ) -> Result<(Vec<Choice>, &[u8]), LoadFault>
-    ensures { let read = choices_spec count size bytes.entry.now in
+    ensures { let read = spec.choices count size bytes.entry.now in
         MatchResult result (λ x. read ≡ Ok (x.0.items, x.1.now)) (λ e. (e ≡ Memory) ⊎ (read ≡ Err e)) }
 {
     let (number, left) = choice_count(size, bytes)?;

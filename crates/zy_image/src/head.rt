@@ -1,5 +1,6 @@
 //! The fields before the rows.
-ghost use Rattle.zy_image.specs.Reading.{Gives, cap_field as cap_field_spec, head_fields as head_fields_spec, pages_field as pages_field_spec, rule_at as rule_at_spec, rule_field as rule_field_spec};
+ghost use Rattle.zy_image.specs.Reading.{Gives};
+ghost use Rattle.zy_image.specs.Reading as spec;
 ghost use Rattle.std.specs.Prelude.{◌≡◌};
 
 use crate::faults::LoadFault;
@@ -23,7 +24,7 @@ pub struct Head {
 
 /// How many rows a page has room for.
 fn cap_field(size: usize, bytes: &[u8]) -> Result<(u8, &[u8]), LoadFault>
-    ensures { Gives result (cap_field_spec size bytes.entry.now) }
+    ensures { Gives result (spec.cap_field size bytes.entry.now) }
 {
     let (cap, left) = byte(size, bytes)?;
     if cap < 2 || cap > MAX_CAP {
@@ -34,7 +35,7 @@ fn cap_field(size: usize, bytes: &[u8]) -> Result<(u8, &[u8]), LoadFault>
 
 /// How many pages there may be.
 fn pages_field(size: usize, bytes: &[u8]) -> Result<(u16, &[u8]), LoadFault>
-    ensures { Gives result (pages_field_spec size bytes.entry.now) }
+    ensures { Gives result (spec.pages_field size bytes.entry.now) }
 {
     let (pages, left) = half(size, bytes)?;
     if pages < 1 || pages > MAX_PAGES {
@@ -45,7 +46,7 @@ fn pages_field(size: usize, bytes: &[u8]) -> Result<(u16, &[u8]), LoadFault>
 
 /// The rule that a byte stands for.
 fn rule_at(byte: u8) -> Option<Rule>
-    ensures { result ≡ rule_at_spec byte }
+    ensures { result ≡ spec.rule_at byte }
 {
     match byte {
         0 => Some(Rule::Held),
@@ -56,7 +57,7 @@ fn rule_at(byte: u8) -> Option<Rule>
 
 /// The rule for locked pages.
 fn rule_field(size: usize, bytes: &[u8]) -> Result<(Rule, &[u8]), LoadFault>
-    ensures { Gives result (rule_field_spec size bytes.entry.now) }
+    ensures { Gives result (spec.rule_field size bytes.entry.now) }
 {
     let (rule, left) = byte(size, bytes)?;
     match rule_at(rule) {
@@ -67,7 +68,7 @@ fn rule_field(size: usize, bytes: &[u8]) -> Result<(Rule, &[u8]), LoadFault>
 
 /// The fields before the rows.
 pub fn head_fields(size: usize, bytes: &[u8]) -> Result<(Head, &[u8]), LoadFault>
-    ensures { Gives result (head_fields_spec size bytes.entry.now) }
+    ensures { Gives result (spec.head_fields size bytes.entry.now) }
 {
     let (version, left) = magic_field(size, bytes)?;
     let (cap, left) = cap_field(size, left)?;

@@ -1,7 +1,8 @@
 //! Lists: a number of items, and then each of them.
 ghost use Rattle.std.specs.Prelude.{◌≡◌, ◌⊎◌, ℕ, List, [], Ok, Err, MatchResult};
 ghost use Rattle.zy_image.specs.declared.faults.LoadFault.TheVariants.{Memory};
-ghost use Rattle.zy_image.specs.Reading.{Gives, Read, read_items as read_items_spec};
+ghost use Rattle.zy_image.specs.Reading.{Gives, Read};
+ghost use Rattle.zy_image.specs.Reading as spec;
 
 use crate::faults::LoadFault;
 use std::alloc::Global;
@@ -30,7 +31,7 @@ pub fn read_items<'a, I: Items>(
     count: usize,
     bytes: &'a [u8],
 ) -> Result<(Vec<I::Item>, &'a [u8]), LoadFault>
-    ensures { let read = read_items_spec (I.next kind.now) [] count bytes.entry.now in
+    ensures { let read = spec.read_items (I.next kind.now) [] count bytes.entry.now in
         MatchResult result (λ x. read ≡ Ok (x.0.items, x.1.now)) (λ e. (e ≡ Memory) ⊎ (read ≡ Err e)) }
 {
     let mut items = Vec::with_capacity(alloc, count)?;

@@ -3,7 +3,8 @@ ghost use Rattle.std.specs.Prelude.{◌≡◌, ◌⊎◌, Ok, Err, MatchResult};
 ghost use Rattle.zy_isa.specs.Programs.{prog_fault};
 ghost use Rattle.zy_isa.specs.WordFields.{decoded};
 ghost use Rattle.zy_image.specs.declared.faults.LoadFault.TheVariants.{Memory};
-ghost use Rattle.zy_image.specs.Reading.{Gives, if_known, instr_count as instr_count_spec, instrs as instrs_spec, judged, next_instr, next_program, program_count as program_count_spec, programs as programs_spec};
+ghost use Rattle.zy_image.specs.Reading.{Gives, if_known, judged, next_instr, next_program};
+ghost use Rattle.zy_image.specs.Reading as spec;
 
 use crate::faults::LoadFault;
 use crate::fields::{byte, field};
@@ -50,7 +51,7 @@ impl Items for InstrItems {
 
 /// How many instructions a transaction has.
 fn instr_count(txn: usize, size: usize, bytes: &[u8]) -> Result<(usize, &[u8]), LoadFault>
-    ensures { Gives result (instr_count_spec txn size bytes.entry.now) }
+    ensures { Gives result (spec.instr_count txn size bytes.entry.now) }
 {
     let (count, left) = byte(size, bytes)?;
     if count == 0 {
@@ -70,7 +71,7 @@ fn instrs(
     size: usize,
     bytes: &[u8],
 ) -> Result<(Vec<Word>, &[u8]), LoadFault>
-    ensures { let read = instrs_spec version txn size bytes.entry.now in
+    ensures { let read = spec.instrs version txn size bytes.entry.now in
         MatchResult result (λ x. read ≡ Ok (x.0.items, x.1.now)) (λ e. (e ≡ Memory) ⊎ (read ≡ Err e)) }
 {
     let (count, left) = instr_count(txn, size, bytes)?;
@@ -116,7 +117,7 @@ impl Items for ProgramItems {
 
 /// How many transactions there are.
 fn program_count(size: usize, bytes: &[u8]) -> Result<(usize, &[u8]), LoadFault>
-    ensures { Gives result (program_count_spec size bytes.entry.now) }
+    ensures { Gives result (spec.program_count size bytes.entry.now) }
 {
     let (count, left) = byte(size, bytes)?;
     if usize::from(count) > MAX_TXNS {
@@ -132,7 +133,7 @@ pub fn programs(
     size: usize,
     bytes: &[u8],
 ) -> Result<(Vec<Program>, &[u8]), LoadFault>
-    ensures { let read = programs_spec version size bytes.entry.now in
+    ensures { let read = spec.programs version size bytes.entry.now in
         MatchResult result (λ x. read ≡ Ok (x.0.items, x.1.now)) (λ e. (e ≡ Memory) ⊎ (read ≡ Err e)) }
 {
     let (count, left) = program_count(size, bytes)?;

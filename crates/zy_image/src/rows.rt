@@ -1,8 +1,10 @@
 //! The rows of an image.
 ghost use Rattle.std.specs.Prelude.{◌≡◌, ◌⊎◌, ◌≤◌, Ok, Err, IfOk, MatchResult};
-ghost use Rattle.zy_isa.specs.Rows.{is_low as is_low_spec, last_row};
+ghost use Rattle.zy_isa.specs.Rows.{last_row};
+ghost use Rattle.zy_isa.specs.Rows as isa;
 ghost use Rattle.zy_image.specs.declared.faults.LoadFault.TheVariants.{Memory};
-ghost use Rattle.zy_image.specs.Reading.{Gives, next_row, row_at as row_at_spec, row_count as row_count_spec, rows as rows_spec};
+ghost use Rattle.zy_image.specs.Reading.{Gives, next_row};
+ghost use Rattle.zy_image.specs.Reading as spec;
 
 use crate::faults::LoadFault;
 use crate::fields::{field, half};
@@ -20,7 +22,7 @@ struct RowItems {
 
 /// The row of a field.
 fn row_at(field: [u8; 6]) -> Row
-    ensures { result ≡ row_at_spec field }
+    ensures { result ≡ spec.row_at field }
 {
     let [k0, k1, v0, v1, v2, v3] = field;
     Row {
@@ -31,7 +33,7 @@ fn row_at(field: [u8; 6]) -> Row
 
 /// Whether a key is not above that of the last of these rows.
 fn is_low(key: u16, before: &[Row]) -> bool
-    ensures { result ≡ is_low_spec key (last_row before.now) }
+    ensures { result ≡ isa.is_low key (last_row before.now) }
 {
     match before.last() {
         Some(row) => key <= row.key,
@@ -57,7 +59,7 @@ impl Items for RowItems {
 /// How many rows there are, where this number may be there, and pages for them.
 fn row_count(head: Head, size: usize, bytes: &[u8]) -> Result<(usize, &[u8]), LoadFault>
     requires { 2 ≤ head.cap }
-    ensures { Gives result (row_count_spec head size bytes.entry.now) }
+    ensures { Gives result (spec.row_count head size bytes.entry.now) }
 {
     let (count, left) = half(size, bytes)?;
     let count = usize::from(count);
@@ -75,7 +77,7 @@ pub fn rows(
     bytes: &[u8],
 ) -> Result<(Vec<Row>, &[u8]), LoadFault>
     requires { 2 ≤ head.cap }
-    ensures { let read = rows_spec head size bytes.entry.now in
+    ensures { let read = spec.rows head size bytes.entry.now in
         MatchResult result (λ x. read ≡ Ok (x.0.items, x.1.now)) (λ e. (e ≡ Memory) ⊎ (read ≡ Err e)) }
 {
     let (count, left) = row_count(head, size, bytes)?;

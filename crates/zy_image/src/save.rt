@@ -3,7 +3,8 @@ ghost use Rattle.std.specs.Prelude.{◌≡◌, ◌++◌, ◌≤◌, ℕ, List, I
 ghost use Rattle.std.specs.List.{flat_map};
 ghost use Rattle.zy_isa.specs.Programs.{IsProgram};
 ghost use Rattle.zy_isa.specs.InstrWords.{word_of};
-ghost use Rattle.zy_image.specs.Image.{choice_image as choice_image_spec, choices_image, head_image, image_of, node_byte as node_byte_spec, program_image, programs_image, row_image as row_image_spec, rows_image, rule_byte as rule_byte_spec};
+ghost use Rattle.zy_image.specs.Image.{choices_image, head_image, image_of, program_image, programs_image, rows_image};
+ghost use Rattle.zy_image.specs.Image as spec;
 
 use std::alloc::{AllocError, Global};
 use zy_isa::choice::Choice;
@@ -36,7 +37,7 @@ fn put_all<I: Imaged>(out: &mut Vec<u8>, items: &[I]) -> Result<(), AllocError>
 
 /// The image of a row.
 fn row_image(row: Row) -> [u8; 6]
-    ensures { result ≡ row_image_spec row }
+    ensures { result ≡ spec.row_image row }
 {
     let [k0, k1] = row.key.to_be_bytes();
     let [v0, v1, v2, v3] = row.value.to_be_bytes();
@@ -44,7 +45,7 @@ fn row_image(row: Row) -> [u8; 6]
 }
 
 impl Imaged for Row {
-    ghost image = { row_image_spec };
+    ghost image = { spec.row_image };
 
     fn put(&self, out: &mut Vec<u8>) -> Result<(), AllocError> {
         out.extend_from_slice(&row_image(*self))
@@ -70,7 +71,7 @@ impl Imaged for Program {
 
 /// The byte of a node.
 fn node_byte(node: Node) -> u8
-    ensures { result ≡ node_byte_spec node }
+    ensures { result ≡ spec.node_byte node }
 {
     match node {
         Node::A => 1,
@@ -80,7 +81,7 @@ fn node_byte(node: Node) -> u8
 
 /// The image of a choice: who makes it, what is done, and with which transaction.
 fn choice_image(choice: Choice) -> [u8; 3]
-    ensures { result ≡ choice_image_spec choice }
+    ensures { result ≡ spec.choice_image choice }
 {
     match choice {
         Choice::Start => [0, 0, 0],
@@ -94,7 +95,7 @@ fn choice_image(choice: Choice) -> [u8; 3]
 }
 
 impl Imaged for Choice {
-    ghost image = { choice_image_spec };
+    ghost image = { spec.choice_image };
 
     fn put(&self, out: &mut Vec<u8>) -> Result<(), AllocError> {
         out.extend_from_slice(&choice_image(*self))
@@ -103,7 +104,7 @@ impl Imaged for Choice {
 
 /// The byte of a rule.
 fn rule_byte(rule: Rule) -> u8
-    ensures { result ≡ rule_byte_spec rule }
+    ensures { result ≡ spec.rule_byte rule }
 {
     match rule {
         Rule::Held => 0,

@@ -1,6 +1,7 @@
 //! Choices: what a schedule is made of.
 ghost use Rattle.std.specs.Prelude.{◌≡◌};
-ghost use Rattle.zy_isa.specs.Choices.{actor_of, names_below as names_below_spec};
+ghost use Rattle.zy_isa.specs.Choices.{actor_of};
+ghost use Rattle.zy_isa.specs.Choices as spec;
 
 use crate::node::{Actor, Node};
 
@@ -41,7 +42,7 @@ impl Choice {
 
     /// Whether the transaction that it names, if it names one, has a number below `count`.
     pub fn names_below(self, count: usize) -> bool
-        ensures { result ≡ names_below_spec count self }
+        ensures { result ≡ spec.names_below count self }
     {
         match self {
             Choice::Start => true,

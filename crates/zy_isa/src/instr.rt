@@ -2,7 +2,7 @@
 ghost use Rattle.std.specs.Prelude.{◌≡◌, ◌<◌};
 ghost use Rattle.zy_isa.specs.Registers.{number_of};
 ghost use Rattle.zy_isa.specs.Operations.{has};
-ghost use Rattle.zy_isa.specs.Programs.{ends as ends_spec, targets_below as targets_below_spec};
+ghost use Rattle.zy_isa.specs.Programs as spec;
 
 use crate::operation::Parts;
 use crate::version::Version;
@@ -66,7 +66,7 @@ impl Reg {
 impl Instr {
     /// Whether a program may end with it.
     pub fn ends(self) -> bool
-        ensures { result ≡ ends_spec self }
+        ensures { result ≡ spec.ends self }
     {
         match self {
             Instr::Commit => true,
@@ -85,7 +85,7 @@ impl Instr {
 impl Instr {
     /// Whether its target, if it has one, is below `count`.
     pub fn targets_below(self, count: usize) -> bool
-        ensures { result ≡ targets_below_spec count self }
+        ensures { result ≡ spec.targets_below count self }
     {
         match self.parts() {
             Parts::Jump(_, _, _, target) => u64::from(target) < count as u64,

@@ -1,7 +1,8 @@
 //! The operations: what each is in an image and in a text, which operands it takes, and the instruction that it makes with them.
 ghost use Rattle.std.specs.Prelude.{◌≡◌};
 ghost use Rattle.std.specs.Str.{bytes_eq};
-ghost use Rattle.zy_isa.specs.Operations.{opcode as opcode_spec, coded as coded_spec, named as named_spec, named_in as named_in_spec, is_of as is_of_spec, since as since_spec, operation_of, parts_of, instr_with};
+ghost use Rattle.zy_isa.specs.Operations.{operation_of, parts_of, instr_with};
+ghost use Rattle.zy_isa.specs.Operations as spec;
 
 use crate::instr::{Instr, Reg};
 use crate::version::Version;
@@ -65,7 +66,7 @@ impl Operation {
     /// Its number in an image.
     #[inline(always)]
     pub fn opcode(self) -> u8
-        ensures { result ≡ opcode_spec self }
+        ensures { result ≡ spec.opcode self }
     {
         match self {
             Operation::Number(NumberOperation::Set) => 0,
@@ -83,7 +84,7 @@ impl Operation {
     /// The operation with this number in an image.
     #[inline(always)]
     pub fn coded(opcode: u8) -> Option<Operation>
-        ensures { result ≡ coded_spec opcode }
+        ensures { result ≡ spec.coded opcode }
     {
         match opcode {
             0 => Some(Operation::Number(NumberOperation::Set)),
@@ -102,7 +103,7 @@ impl Operation {
     /// The operation with this word in a text.
     #[inline(always)]
     pub fn named(word: &[u8]) -> Option<Operation>
-        ensures { result ≡ named_spec word.now }
+        ensures { result ≡ spec.named word.now }
     {
         if is(word, b"set") {
             Some(Operation::Number(NumberOperation::Set))
@@ -132,7 +133,7 @@ impl Operation {
     /// The version that it came with.
     #[inline(always)]
     fn since(self) -> Version
-        ensures { result ≡ since_spec self }
+        ensures { result ≡ spec.since self }
     {
         match self {
             Operation::Pair(PairOperation::Sum) => Version::Two,
@@ -143,7 +144,7 @@ impl Operation {
     /// Whether a version has it.
     #[inline(always)]
     pub fn is_of(self, version: Version) -> bool
-        ensures { result ≡ is_of_spec version self }
+        ensures { result ≡ spec.is_of version self }
     {
         version.has_since(self.since())
     }
@@ -151,7 +152,7 @@ impl Operation {
     /// The operation with this word in a text of a version.
     #[inline(always)]
     pub fn named_in(version: Version, word: &[u8]) -> Option<Operation>
-        ensures { result ≡ named_in_spec version word.now }
+        ensures { result ≡ spec.named_in version word.now }
     {
         let operation = Operation::named(word)?;
         if operation.is_of(version) {

@@ -1,7 +1,8 @@
 //! Programs that are verified.
 ghost use Rattle.std.specs.Prelude.{◌≡◌, ◌<◌, None, IfOk, IfSome, List, length, slice_index_or};
 ghost use Rattle.zy_isa.specs.declared.instr.Instr.{Instr as AnInstr};
-ghost use Rattle.zy_isa.specs.Programs.{ends_well as ends_well_spec, stray_target as stray_target_spec, prog_fault, unknown as unknown_spec, IsKept, IsProgram, IsVerified, Values};
+ghost use Rattle.zy_isa.specs.Programs.{prog_fault, IsKept, IsProgram, IsVerified, Values};
+ghost use Rattle.zy_isa.specs.Programs as spec;
 
 use crate::instr::Instr;
 use crate::version::Version;
@@ -55,7 +56,7 @@ impl Model for Program {
 
 /// The first instruction whose target is not below the number of instructions.
 fn stray_target(instrs: &[Instr]) -> Option<usize>
-    ensures value { result ≡ stray_target_spec instrs.now }
+    ensures value { result ≡ spec.stray_target instrs.now }
     ensures bound { IfSome result (λ i. i < length instrs.now) }
 {
     let count = instrs.len();
@@ -64,7 +65,7 @@ fn stray_target(instrs: &[Instr]) -> Option<usize>
 
 /// The same over their words.
 fn stray_word(words: &[Word]) -> Option<usize>
-    ensures value { result ≡ stray_target_spec words.now }
+    ensures value { result ≡ spec.stray_target words.now }
     ensures bound { IfSome result (λ i. i < length words.now) }
 {
     let count = words.len();
@@ -75,7 +76,7 @@ fn stray_word(words: &[Word]) -> Option<usize>
 
 /// Whether the last instruction ends the program.
 fn ends_well(instrs: &[Instr]) -> bool
-    ensures { result ≡ ends_well_spec instrs.now }
+    ensures { result ≡ spec.ends_well instrs.now }
 {
     match instrs.last() {
         Some(last) => last.ends(),
@@ -85,7 +86,7 @@ fn ends_well(instrs: &[Instr]) -> bool
 
 /// The same over their words.
 fn word_ends_well(words: &[Word]) -> bool
-    ensures { result ≡ ends_well_spec words.now }
+    ensures { result ≡ spec.ends_well words.now }
 {
     match words.last() {
         Some(last) => last.instr().ends(),
@@ -96,7 +97,7 @@ fn word_ends_well(words: &[Word]) -> bool
 /// Why instructions are no program, by their number and by what the tests of them say.
 fn fault_of(count: usize, stray: Option<usize>, ends: bool) -> Option<ProgFault>
     requires { IfSome stray (λ i. i < count) }
-    ensures { (is : List AnInstr) → count ≡ length is → stray ≡ stray_target_spec is → ends ≡ ends_well_spec is → result ≡ prog_fault is }
+    ensures { (is : List AnInstr) → count ≡ length is → stray ≡ spec.stray_target is → ends ≡ spec.ends_well is → result ≡ prog_fault is }
 {
     if count == 0 {
         return Some(ProgFault::Empty);
@@ -136,7 +137,7 @@ fn words_of(alloc: Global, instrs: &[Instr]) -> Result<Vec<Word>, AllocError>
 
 /// The index of the first of these words whose instruction a version does not have.
 fn unknown(version: Version, words: &[Word]) -> Option<usize>
-    ensures value { result ≡ unknown_spec version words.now }
+    ensures value { result ≡ spec.unknown version words.now }
     ensures bound { IfSome result (λ i. i < length words.now) }
 {
     for (i, word) in words.iter().enumerate() {
@@ -211,7 +212,7 @@ impl Program {
 
     /// The index of the first instruction that a version does not have.
     pub fn unknown(&self, version: Version) -> Option<usize>
-        ensures value { result ≡ unknown_spec version self.now }
+        ensures value { result ≡ spec.unknown version self.now }
         ensures few { IfSome result (λ i. i < 64) }
     {
         unknown(version, self.words.as_slice())

@@ -1,8 +1,10 @@
 //! Scenarios that are within the limits.
 ghost use Rattle.std.specs.Prelude.{◌≡◌, ◌<◌, ◌≤◌, IfOk, IfSome, None, length};
 ghost use Rattle.zy_isa.specs.Versions.{numbered};
-ghost use Rattle.zy_isa.specs.Rows.{RowsFit, misplaced_row as misplaced_row_spec};
-ghost use Rattle.zy_isa.specs.Scenario.{IsScenario, IsTested, IsTestedIn, ArePrograms, HasChoices, choices_fault as choices_fault_spec, instrs_fault as instrs_fault_spec, scenario_fault, misnamed_choice as misnamed_choice_spec, opening_rows as opening_rows_spec, opening_pages_for as opening_pages_for_spec};
+ghost use Rattle.zy_isa.specs.Rows.{RowsFit};
+ghost use Rattle.zy_isa.specs.Rows as isa_rows;
+ghost use Rattle.zy_isa.specs.Scenario.{IsScenario, IsTested, IsTestedIn, ArePrograms, HasChoices, scenario_fault};
+ghost use Rattle.zy_isa.specs.Scenario as isa_scenario;
 
 use crate::choice::Choice;
 use crate::program::Program;
@@ -84,7 +86,7 @@ impl Model for Scenario {
 
 /// How many rows an opening page takes: half of what it has room for, rounded up.
 pub fn opening_rows(cap: u8) -> usize
-    ensures { result ≡ opening_rows_spec cap }
+    ensures { result ≡ isa_scenario.opening_rows cap }
 {
     (usize::from(cap) + 1) / 2
 }
@@ -92,7 +94,7 @@ pub fn opening_rows(cap: u8) -> usize
 /// How many pages this number of rows opens with.
 pub fn opening_pages_for(cap: u8, rows: usize) -> usize
     requires { 1 ≤ cap }
-    ensures { result ≡ opening_pages_for_spec cap rows }
+    ensures { result ≡ isa_scenario.opening_pages_for cap rows }
 {
     match rows.checked_sub(1) {
         None => 1,
@@ -102,7 +104,7 @@ pub fn opening_pages_for(cap: u8, rows: usize) -> usize
 
 /// The index of the first row whose key is not above the one before it.
 fn misplaced_row(rows: &[Row]) -> Option<usize>
-    ensures value { result ≡ misplaced_row_spec rows.now }
+    ensures value { result ≡ isa_rows.misplaced_row rows.now }
     ensures bound { IfSome result (λ i. i < length rows.now) }
 {
     let (first, rest) = rows.split_first()?;
@@ -118,7 +120,7 @@ fn misplaced_row(rows: &[Row]) -> Option<usize>
 
 /// The index of the first choice that names no transaction.
 fn misnamed_choice(count: usize, choices: &[Choice]) -> Option<usize>
-    ensures value { result ≡ misnamed_choice_spec count choices.now }
+    ensures value { result ≡ isa_scenario.misnamed_choice count choices.now }
     ensures bound { IfSome result (λ i. i < length choices.now) }
 {
     choices.iter().position(|choice| !choice.names_below(count))
@@ -127,7 +129,7 @@ fn misnamed_choice(count: usize, choices: &[Choice]) -> Option<usize>
 /// The first fault of choices among this number of transactions. Apart from its caller its loop has registers enough.
 #[inline(never)]
 fn choices_fault(count: usize, choices: &[Choice]) -> Option<ScenarioFault>
-    ensures { result ≡ choices_fault_spec count choices.now }
+    ensures { result ≡ isa_scenario.choices_fault count choices.now }
 {
     if choices.len() > MAX_CHOICES {
         return Some(ScenarioFault::ChoiceCount);
@@ -139,7 +141,7 @@ fn choices_fault(count: usize, choices: &[Choice]) -> Option<ScenarioFault>
 /// The first instruction that a version does not have.
 fn instrs_fault(version: Version, programs: &[Program]) -> Option<ScenarioFault>
     requires { length programs.now ≤ 64 }
-    ensures { result ≡ instrs_fault_spec version 0 programs.now }
+    ensures { result ≡ isa_scenario.instrs_fault version 0 programs.now }
 {
     for (t, program) in programs.iter().enumerate() {
         if let Some(i) = program.unknown(version) {

@@ -1,6 +1,6 @@
 //! The versions of scenarios, and how each is spelled.
 ghost use Rattle.std.specs.Prelude.{◌≡◌};
-ghost use Rattle.zy_isa.specs.Versions.{number as number_spec, digit as digit_spec, magic as magic_spec, numbered as numbered_spec, named as named_spec, marked as marked_spec, has_since as has_since_spec};
+ghost use Rattle.zy_isa.specs.Versions as spec;
 
 use crate::operation::is;
 
@@ -16,7 +16,7 @@ pub enum Version {
 impl Version {
     /// Its number, 1 or 2.
     pub fn number(self) -> u8
-        ensures { result ≡ number_spec self }
+        ensures { result ≡ spec.number self }
     {
         match self {
             Version::One => 1,
@@ -26,7 +26,7 @@ impl Version {
 
     /// The version with this number.
     pub fn numbered(number: u8) -> Option<Version>
-        ensures { result ≡ numbered_spec number }
+        ensures { result ≡ spec.numbered number }
     {
         match number {
             1 => Some(Version::One),
@@ -37,14 +37,14 @@ impl Version {
 
     /// Its number as a character, which is its word in a text.
     pub fn digit(self) -> u8
-        ensures { result ≡ digit_spec self }
+        ensures { result ≡ spec.digit self }
     {
         b'0' + self.number()
     }
 
     /// The version that the word behind `zephyr` names.
     pub fn named(word: &[u8]) -> Option<Version>
-        ensures { result ≡ named_spec word.now }
+        ensures { result ≡ spec.named word.now }
     {
         if is(word, b"1") {
             Some(Version::One)
@@ -57,14 +57,14 @@ impl Version {
 
     /// The bytes that its images begin with.
     pub fn magic(self) -> [u8; 4]
-        ensures { result ≡ magic_spec self }
+        ensures { result ≡ spec.magic self }
     {
         [b'Z', b'P', b'H', self.digit()]
     }
 
     /// The version whose images begin with these bytes.
     pub fn marked(bytes: [u8; 4]) -> Option<Version>
-        ensures { result ≡ marked_spec bytes }
+        ensures { result ≡ spec.marked bytes }
     {
         if is(&bytes, &Version::One.magic()) {
             Some(Version::One)
@@ -78,7 +78,7 @@ impl Version {
     /// Whether this version has what came with that one.
     #[inline(always)]
     pub fn has_since(self, first: Version) -> bool
-        ensures { result ≡ has_since_spec first self }
+        ensures { result ≡ spec.has_since first self }
     {
         match (first, self) {
             (Version::Two, Version::One) => false,

@@ -3,7 +3,8 @@ ghost use Rattle.std.specs.Prelude.{◌≡◌, IfSome, Some};
 ghost use Rattle.zy_isa.specs.Registers.{number_of};
 ghost use Rattle.zy_isa.specs.InstrWords.{IsWordOf, word, word_of};
 ghost use Rattle.zy_isa.specs.Programs.{HasValue};
-ghost use Rattle.zy_isa.specs.WordFields.{register_at, registers_at, parts_at as parts_at_spec, instr_at as instr_at_spec, decoded, register_in as register_in_spec, operation_in as operation_in_spec, parts_in as parts_in_spec};
+ghost use Rattle.zy_isa.specs.WordFields.{register_at, registers_at, decoded};
+ghost use Rattle.zy_isa.specs.WordFields as spec;
 ghost use Rattle.zy_isa.specs.Operations.{opcode, coded};
 ghost use Rattle.zy_isa.specs.declared.instr.Instr.{Instr};
 
@@ -97,7 +98,7 @@ fn registers(a: u8, b: u8) -> Option<(Reg, Reg)>
 
 /// The operation with the operands in these fields, if they hold such operands and no more.
 fn parts_at(operation: Operation, a: u8, b: u8, number: u32) -> Option<Parts>
-    ensures { result ≡ parts_at_spec operation a b number }
+    ensures { result ≡ spec.parts_at operation a b number }
 {
     match (operation, a, b, number) {
         (Operation::Number(operation), a, 0, number) => {
@@ -116,7 +117,7 @@ fn parts_at(operation: Operation, a: u8, b: u8, number: u32) -> Option<Parts>
 
 /// The instruction of these fields, if there is one.
 fn instr_at(opcode: u8, a: u8, b: u8, number: u32) -> Option<Instr>
-    ensures { result ≡ instr_at_spec (coded opcode) a b number }
+    ensures { result ≡ spec.instr_at (coded opcode) a b number }
 {
     let operation = Operation::coded(opcode)?;
     let parts = parts_at(operation, a, b, number)?;
@@ -138,7 +139,7 @@ pub fn decode(word: [u8; WORD_BYTES]) -> Option<Instr>
 /// The register of a byte that names one: its three lowest bits.
 #[inline(always)]
 fn register_in(byte: u8) -> Reg
-    ensures { result ≡ register_in_spec byte }
+    ensures { result ≡ spec.register_in byte }
 {
     register(byte % 8).unwrap_or(Reg::R7)
 }
@@ -146,7 +147,7 @@ fn register_in(byte: u8) -> Reg
 /// The operation of a number that is one's.
 #[inline(always)]
 fn operation_in(opcode: u8) -> Operation
-    ensures { result ≡ operation_in_spec opcode }
+    ensures { result ≡ spec.operation_in opcode }
 {
     Operation::coded(opcode).unwrap_or(Operation::Lone(LoneOperation::Abort))
 }
@@ -154,7 +155,7 @@ fn operation_in(opcode: u8) -> Operation
 /// The operation with the operands in the fields of its word.
 #[inline(always)]
 fn parts_in(operation: Operation, a: u8, b: u8, number: u32) -> Parts
-    ensures { result ≡ parts_in_spec operation a b number }
+    ensures { result ≡ spec.parts_in operation a b number }
 {
     match operation {
         Operation::Number(operation) => Parts::Number(operation, register_in(a), number),

@@ -1,9 +1,11 @@
 //! The locks of one node.
 ghost use Rattle.std.specs.Prelude.{◌≡◌, ◌==◌, ◌+◌, ◌<◌, ◌≤◌, IfOk, OnOk, OnErr, IsOk, IsSome, true, false, [], ◌∷◌, length, slice_index_or};
-ghost use Rattle.zy_locks.specs.Locks.{add_lock, is_shared as is_shared_spec, stronger as stronger_spec, clashes as clashes_spec, conflict, is_locked, holds as holds_spec, holds_alone, unheld, drop_locks};
+ghost use Rattle.zy_locks.specs.Locks.{add_lock, conflict, is_locked, holds_alone, unheld, drop_locks};
+ghost use Rattle.zy_locks.specs.Locks as locks_locks;
 ghost use Rattle.zy_locks.specs.LockTable.{Attempts, HasPlaces};
 ghost use Rattle.zy_locks.specs.declared.attempt.Attempt.TheVariants.{Granted};
-ghost use Rattle.zy_locks.specs.Order.{comes_before as comes_before_spec, is_held_by as is_held_by_spec, LocksRise, IsPlace, IsFreePlace};
+ghost use Rattle.zy_locks.specs.Order.{LocksRise, IsPlace, IsFreePlace};
+ghost use Rattle.zy_locks.specs.Order as locks_order;
 
 use crate::attempt::Attempt;
 use crate::lock::{Lock, LockKind};
@@ -106,7 +108,7 @@ impl Locks {
 
     /// Whether `txn` has a lock on the page.
     pub fn holds(&self, page: u16, txn: u8) -> bool
-        ensures { result ≡ holds_spec self.now.locks page txn }
+        ensures { result ≡ locks_locks.holds self.now.locks page txn }
     {
         let at = place(&self.locks, page, txn);
         self.holds_at(at, page, txn)
@@ -115,7 +117,7 @@ impl Locks {
     /// The same, at the place of the lock.
     pub fn holds_at(&self, at: usize, page: u16, txn: u8) -> bool
         requires { IsPlace page txn self.now.locks at }
-        ensures { result ≡ holds_spec self.now.locks page txn }
+        ensures { result ≡ locks_locks.holds self.now.locks page txn }
     {
         at < self.len() && is_held_by(&self.locks[at], page, txn)
     }
@@ -201,14 +203,14 @@ impl Locks {
 
 /// Whether a lock comes before `txn`'s lock on the page.
 fn comes_before(lock: &Lock, page: u16, txn: u8) -> bool
-    ensures { result ≡ comes_before_spec lock.now page txn }
+    ensures { result ≡ locks_order.comes_before lock.now page txn }
 {
     lock.page < page || (lock.page == page && lock.txn < txn)
 }
 
 /// Whether it is `txn`'s lock on the page.
 fn is_held_by(lock: &Lock, page: u16, txn: u8) -> bool
-    ensures { result ≡ is_held_by_spec lock.now page txn }
+    ensures { result ≡ locks_order.is_held_by lock.now page txn }
 {
     lock.page == page && lock.txn == txn
 }
@@ -223,7 +225,7 @@ fn place(locks: &[Lock], page: u16, txn: u8) -> usize
 
 /// Whether a lock keeps `txn` from locking the page.
 fn clashes(lock: &Lock, page: u16, txn: u8, kind: LockKind) -> bool
-    ensures { result ≡ clashes_spec page txn kind lock.now }
+    ensures { result ≡ locks_locks.clashes page txn kind lock.now }
 {
     lock.page == page && lock.txn != txn && !(is_shared(lock.kind) && is_shared(kind))
 }
@@ -236,7 +238,7 @@ fn any_clashes(locks: &[Lock], page: u16, txn: u8, kind: LockKind) -> bool
 }
 
 fn is_shared(kind: LockKind) -> bool
-    ensures { result ≡ is_shared_spec kind }
+    ensures { result ≡ locks_locks.is_shared kind }
 {
     match kind {
         LockKind::Shared => true,
@@ -246,7 +248,7 @@ fn is_shared(kind: LockKind) -> bool
 
 /// What a lock becomes by a further ask.
 fn stronger(held: LockKind, asked: LockKind) -> LockKind
-    ensures { result ≡ stronger_spec held asked }
+    ensures { result ≡ locks_locks.stronger held asked }
 {
     match held {
         LockKind::Shared => asked,

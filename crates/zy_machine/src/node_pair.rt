@@ -2,13 +2,14 @@
 ghost use Rattle.std.specs.Prelude.{◌≡◌, ◌≤◌, ◌<◌, IfOk, OnOk, OnErr, length};
 ghost use Rattle.zy_isa.specs.declared.node.Node.TheVariants.{A};
 ghost use Rattle.zy_table.specs.State.{facing};
-ghost use Rattle.zy_table.specs.Client.{start_step as start_step_spec, begin_step as begin_step_spec, kill_step as kill_step_spec};
-ghost use Rattle.zy_table.specs.Push.{finish_step as finish_step_spec, push_step as push_step_spec};
+ghost use Rattle.zy_table.specs.Client as table_client;
+ghost use Rattle.zy_table.specs.Push as table_push;
 ghost use Rattle.zy_isa.specs.declared.choice.Choice.TheVariants.{Start};
-ghost use Rattle.zy_table.specs.Play.{side_of, step as step_spec};
+ghost use Rattle.zy_table.specs.Play.{side_of};
+ghost use Rattle.zy_table.specs.Play as table_play;
 ghost use Rattle.zy_txns.specs.Books.{txn_in};
-ghost use Rattle.zy_table.specs.Run.{run_step as run_step_spec};
-ghost use Rattle.zy_table.specs.Take.{take_step as take_step_spec};
+ghost use Rattle.zy_table.specs.Run as table_run;
+ghost use Rattle.zy_table.specs.Take as table_take;
 ghost use Rattle.zy_steps.specs.Arrivals.{MayTake};
 ghost use Rattle.zy_machine.specs.NodePairs.{state_of, limits_in, AreLimited, IsMade, IsPossible, IsReady, Makes, MayStart, Steps};
 
@@ -66,7 +67,7 @@ impl NodePair {
     #[inline(always)]
     fn run_step(&mut self, scenario: &Scenario, n: Node, t: u8) -> Result<Answer, AllocError>
         requires { IsReady scenario.now n t self.old }
-        ensures line { Makes n self.old self.new result (run_step_spec scenario.now n t (facing n (state_of self.old))) }
+        ensures line { Makes n self.old self.new result (table_run.run_step scenario.now n t (facing n (state_of self.old))) }
         ensures limits { limits_in self.new ≡ limits_in self.old }
     {
         match n {
@@ -79,7 +80,7 @@ impl NodePair {
     fn take_step(&mut self, scenario: &Scenario, n: Node) -> Result<Answer, AllocError>
         requires may { let v = facing n (state_of self.old) in MayTake v.inbox v.me }
         requires limited { AreLimited scenario.now.pages self.old }
-        ensures line { Makes n self.old self.new result (take_step_spec scenario.now (facing n (state_of self.old))) }
+        ensures line { Makes n self.old self.new result (table_take.take_step scenario.now (facing n (state_of self.old))) }
         ensures limits { limits_in self.new ≡ limits_in self.old }
     {
         match n {
@@ -90,7 +91,7 @@ impl NodePair {
 
     /// `n push`.
     fn push_step(&mut self, n: Node) -> Result<Answer, AllocError>
-        ensures line { Makes n self.old self.new result (push_step_spec (facing n (state_of self.old))) }
+        ensures line { Makes n self.old self.new result (table_push.push_step (facing n (state_of self.old))) }
         ensures limits { limits_in self.new ≡ limits_in self.old }
     {
         match n {
@@ -102,7 +103,7 @@ impl NodePair {
     /// `n finish`.
     fn finish_step(&mut self, n: Node) -> Result<Answer, AllocError>
         requires { length self.old.book.txns ≤ 64 }
-        ensures line { Makes n self.old self.new result (finish_step_spec n (facing n (state_of self.old))) }
+        ensures line { Makes n self.old self.new result (table_push.finish_step n (facing n (state_of self.old))) }
         ensures limits { limits_in self.new ≡ limits_in self.old }
     {
         match n {
@@ -115,7 +116,7 @@ impl NodePair {
     fn start_step(&mut self, scenario: &Scenario) -> Result<Answer, AllocError>
         requires may { MayStart self.old }
         requires limited { AreLimited scenario.now.pages self.old }
-        ensures line { let n = side_of scenario.now Start (state_of self.old) in Makes n self.old self.new result (start_step_spec (facing n (state_of self.old))) }
+        ensures line { let n = side_of scenario.now Start (state_of self.old) in Makes n self.old self.new result (table_client.start_step (facing n (state_of self.old))) }
         ensures limits { limits_in self.new ≡ limits_in self.old }
     {
         let source = on_start(self.a.mode, self.b.mode, scenario.version());
@@ -128,7 +129,7 @@ impl NodePair {
     /// `C begin t`.
     fn begin_step(&mut self, t: u8) -> Answer
         requires { t < length self.old.book.txns }
-        ensures line { IsMade A self.new result (begin_step_spec t (facing A (state_of self.old))) }
+        ensures line { IsMade A self.new result (table_client.begin_step t (facing A (state_of self.old))) }
         ensures limits { limits_in self.new ≡ limits_in self.old }
     {
         begin_step(&self.a, &self.b, &mut self.book, t)
@@ -137,7 +138,7 @@ impl NodePair {
     /// `C kill t`.
     fn kill_step(&mut self, t: u8) -> Answer
         requires { t < length self.old.book.txns }
-        ensures line { let n = (txn_in t self.old.book).node in IsMade n self.new result (kill_step_spec t (facing n (state_of self.old))) }
+        ensures line { let n = (txn_in t self.old.book).node in IsMade n self.new result (table_client.kill_step t (facing n (state_of self.old))) }
         ensures limits { limits_in self.new ≡ limits_in self.old }
     {
         match self.book.txn(t).node() {
@@ -151,7 +152,7 @@ impl NodePair {
     pub(crate) fn step(&mut self, scenario: &Scenario, choice: Choice) -> Result<Answer, AllocError>
         requires possible { IsPossible scenario.now choice self.old }
         requires limited { AreLimited scenario.now.pages self.old }
-        ensures line { Steps self.old self.new result (step_spec scenario.now choice (state_of self.old)) }
+        ensures line { Steps self.old self.new result (table_play.step scenario.now choice (state_of self.old)) }
         ensures limits { limits_in self.new ≡ limits_in self.old }
     {
         match choice {

@@ -1,6 +1,7 @@
 //! The mode table: each function is the lines of its definition.
 ghost use Rattle.std.specs.Prelude.{◌≡◌};
-ghost use Rattle.zy_modes.specs.Table.{finishes as finishes_spec, on_message as on_message_spec, on_start as on_start_spec, on_finish as on_finish_spec, home_of as home_of_spec, HandsOver};
+ghost use Rattle.zy_modes.specs.Table.{HandsOver};
+ghost use Rattle.zy_modes.specs.Table as spec;
 
 use crate::mode::NodeMode;
 use zy_isa::node::Node;
@@ -30,7 +31,7 @@ pub enum FinishLine {
 /// What a message of this kind does at a node in this mode. `all_here`: with the page that it brings none is missing.
 /// A page that is asked for goes out only if it may leave, which is not told here. No line depends on the version.
 pub fn on_message(mode: NodeMode, kind: Kind, all_here: bool, _version: Version) -> MessageLine
-    ensures row { result ≡ on_message_spec mode kind all_here }
+    ensures row { result ≡ spec.on_message mode kind all_here }
     ensures hands_over { HandsOver all_here result }
 {
     match (mode, kind) {
@@ -48,7 +49,7 @@ pub fn on_message(mode: NodeMode, kind: Kind, all_here: bool, _version: Version)
 
 /// What becomes of a destination whose source runs nothing any more.
 fn finishes(all_here: bool) -> MessageLine
-    ensures row { result ≡ finishes_spec all_here }
+    ensures row { result ≡ spec.finishes all_here }
     ensures hands_over { HandsOver all_here result }
 {
     if all_here {
@@ -60,7 +61,7 @@ fn finishes(all_here: bool) -> MessageLine
 
 /// The node from which a migration starts, by the modes of A and B and the version of the scenario: from B in version 2 alone.
 pub fn on_start(a: NodeMode, b: NodeMode, version: Version) -> Option<Node>
-    ensures { result ≡ on_start_spec a b version }
+    ensures { result ≡ spec.on_start a b version }
 {
     if a.may_start(b) {
         Some(Node::A)
@@ -73,7 +74,7 @@ pub fn on_start(a: NodeMode, b: NodeMode, version: Version) -> Option<Node>
 
 /// What `finish` does at a node in this mode. `active`: a transaction is active there.
 pub fn on_finish(mode: NodeMode, active: bool) -> FinishLine
-    ensures { result ≡ on_finish_spec mode active }
+    ensures { result ≡ spec.on_finish mode active }
 {
     match mode {
         NodeMode::SDual if active => FinishLine::Active,
@@ -84,7 +85,7 @@ pub fn on_finish(mode: NodeMode, active: bool) -> FinishLine
 
 /// The node where a transaction begins, by the modes of A and B.
 pub fn home_of(a: NodeMode, b: NodeMode) -> Option<Node>
-    ensures { result ≡ home_of_spec a b }
+    ensures { result ≡ spec.home_of a b }
 {
     match (a, b) {
         (NodeMode::Normal | NodeMode::SInit, _) => Some(Node::A),

@@ -6,7 +6,8 @@ ghost use Rattle.zy_node.specs.OwnedPages.{with_row, OwnsBelow};
 ghost use Rattle.zy_node.specs.Install.{HasRoomFor};
 ghost use Rattle.zy_table.specs.Numbers.{least};
 ghost use Rattle.zy_table.specs.Order.{NumbersRise};
-ghost use Rattle.zy_table.specs.Pages.{leaf_at, lowered, numbers, owns as owns_spec, page_in, rows_of, with_page, without};
+ghost use Rattle.zy_table.specs.Pages.{leaf_at, lowered, numbers, page_in, rows_of, with_page, without};
+ghost use Rattle.zy_table.specs.Pages as table;
 
 use crate::page_store::PageStore;
 use std::alloc::{AllocError, Global};
@@ -83,7 +84,7 @@ impl OwnedPages {
 
     /// Whether the page of a number is here.
     pub fn owns(&self, p: u16) -> bool
-        ensures { result ≡ owns_spec self.now p }
+        ensures { result ≡ table.owns self.now p }
     {
         self.store.owns(p)
     }
@@ -134,7 +135,7 @@ impl OwnedPages {
 
     /// Moves a page out.
     pub fn take(&mut self, p: u16) -> Page
-        requires { owns_spec self.old p ≡ true }
+        requires { table.owns self.old p ≡ true }
         ensures page { result ≡ leaf_at self.old p }
         ensures left { self.new ≡ without p self.old }
     {
@@ -154,7 +155,7 @@ impl OwnedPages {
     pub fn cut(&mut self, p: u16, boundary: u16, number: u16)
         requires room { number < 512 }
         requires absent { page_in number self.old ≡ None }
-        requires there { owns_spec self.old p ≡ true }
+        requires there { table.owns self.old p ≡ true }
         ensures { let upper : Leaf = record { number = number; low = boundary; rows = rows_from boundary (rows_of self.old p) } in
             self.new ≡ with_page upper (lowered p boundary self.old) }
     {

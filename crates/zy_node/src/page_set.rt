@@ -1,7 +1,8 @@
 //! The numbers of the pages that a node has asked for.
 ghost use Rattle.std.specs.Prelude.{◌≡◌, ◌<◌, [], true, false, IfOk};
 ghost use Rattle.zy_table.specs.Keys.{put_key};
-ghost use Rattle.zy_table.specs.Numbers.{has as has_spec, drop_number};
+ghost use Rattle.zy_table.specs.Numbers.{drop_number};
+ghost use Rattle.zy_table.specs.Numbers as table;
 
 use std::alloc::{AllocError, Global};
 use std::marker::Model;
@@ -61,7 +62,7 @@ impl PageSet {
 
     /// Whether a number is among them.
     pub fn has(&self, p: u16) -> bool
-        ensures { result ≡ has_spec self.now p }
+        ensures { result ≡ table.has self.now p }
     {
         match self.marks.get(usize::from(p)) {
             Some(mark) => *mark,
@@ -72,7 +73,7 @@ impl PageSet {
     /// A number more.
     pub fn put(&mut self, p: u16)
         requires few { p < 512 }
-        requires absent { has_spec self.old p ≡ false }
+        requires absent { table.has self.old p ≡ false }
         ensures { self.new ≡ put_key p self.old }
     {
         self.marks[usize::from(p)] = true;

@@ -1,6 +1,6 @@
 //! The wireframe of a node: a node without pages has none. What is said of a number `n` holds of each that is not below the wireframe's limit.
 ghost use Rattle.std.specs.Prelude.{◌≡◌, ◌==◌, ◌<◌, ◌≤◌, ◌++◌, ◌∷◌, [], ℕ, IfOk, IfSome, OnOk, IsOk, Contains, length};
-ghost use Rattle.zy_wire.specs.Wireframe.{page_of as page_of_spec};
+ghost use Rattle.zy_wire.specs.Wireframe as wireframe;
 ghost use Rattle.zy_wire.specs.Ranges.{in_range};
 ghost use Rattle.zy_node.specs.Wireframes.{lows_in, limit_or, CanGrow};
 
@@ -22,7 +22,7 @@ pub fn page_count(wire: &Option<Wire>) -> usize
 /// The page that a key lies on; 0 where there is none.
 #[tactic(auto, unfolding(zy_wire::specs::Wireframe::page_of))]
 pub fn page_of(wire: &Option<Wire>, key: u16) -> u16
-    ensures value { result ≡ page_of_spec (lows_in wire.now) key }
+    ensures value { result ≡ wireframe.page_of (lows_in wire.now) key }
     ensures few { (n : ℕ) → limit_or n wire.now ≤ n → 0 < n → result < n }
 {
     match wire {
@@ -34,7 +34,7 @@ pub fn page_of(wire: &Option<Wire>, key: u16) -> u16
 /// The keys that lie on a page. Without pages every key counts as one of page 0, as in `page_of`.
 #[tactic(auto, unfolding(zy_wire::specs::Wireframe::page_of))]
 pub fn keys_of(wire: &Option<Wire>, page: u16) -> KeyRange
-    ensures { (k : ℕ) → in_range result k ≡ (page_of_spec (lows_in wire.now) k == page) }
+    ensures { (k : ℕ) → in_range result k ≡ (wireframe.page_of (lows_in wire.now) k == page) }
 {
     match wire {
         Some(wire) => wire.keys_of(page),

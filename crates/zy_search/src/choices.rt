@@ -1,7 +1,8 @@
 //! The choices that a search considers.
 ghost use Rattle.std.specs.Prelude.{◌≡◌, ◌++◌, IfOk, OnOk};
 ghost use Rattle.zy_isa.specs.declared.choice.Choice.TheVariants.{Begin, Kill, Run};
-ghost use Rattle.zy_search.specs.Choices.{considered as considered_spec, each, of_node};
+ghost use Rattle.zy_search.specs.Choices.{each, of_node};
+ghost use Rattle.zy_search.specs.Choices as spec;
 
 use std::alloc::{AllocError, Global};
 use zy_isa::choice::Choice;
@@ -9,7 +10,7 @@ use zy_isa::node::Node;
 
 /// The choices that a search considers, in the order in which it makes them: those of this number of transactions, with kills or without.
 pub fn considered(alloc: Global, kills: bool, count: u8) -> Result<Vec<Choice>, AllocError>
-    ensures { IfOk result (λ v. v.items ≡ considered_spec kills count) }
+    ensures { IfOk result (λ v. v.items ≡ spec.considered kills count) }
 {
     let mut choices = Vec::new(alloc);
     choices.push(Choice::Start)?;

@@ -1,7 +1,7 @@
 //! The search.
 ghost use Rattle.std.specs.Prelude.{◌≡◌, ◌≤◌, ◌<◌, ◌+◌, [], ◌∷◌, IfOk, true, length};
 ghost use Rattle.zy_search.specs.declared.sought.Wanted.TheVariants.{Stuck};
-ghost use Rattle.zy_search.specs.Choices.{considered as considered_spec};
+ghost use Rattle.zy_search.specs.Choices as spec;
 ghost use Rattle.zy_search.specs.Searches.{Shows, IsAnswer, IsDue};
 ghost use Rattle.zy_search.specs.Visits.{length_at, AreExpanded, Begins, IsEdge, IsWhole, Visits};
 
@@ -191,7 +191,7 @@ fn search_by<W: Watch>(plan: &Plan, visited: &mut Visited, watch: &mut W) -> Res
 
 /// The choices that a search considers from a machine.
 fn choices_from(alloc: Global, kills: bool, machine: &Machine) -> Result<Vec<Choice>, AllocError>
-    ensures { IfOk result (λ v. v.items ≡ considered_spec kills (length machine.now.scenario.programs)) }
+    ensures { IfOk result (λ v. v.items ≡ spec.considered kills (length machine.now.scenario.programs)) }
 {
     let programs = machine.scenario().programs();
     considered(alloc, kills, programs.len() as u8)

@@ -4,10 +4,10 @@ ghost use Rattle.std.specs.Bool.{Decides};
 ghost use Rattle.std.specs.List.{list_any, list_all};
 ghost use Rattle.zy_isa.specs.declared.choice.Choice.{Choice as AChoice};
 ghost use Rattle.zy_table.specs.State.{Txn};
-ghost use Rattle.zy_table.specs.Play.{step as step_spec};
+ghost use Rattle.zy_table.specs.Play as table;
 ghost use Rattle.zy_search.specs.declared.sought.Wanted.TheVariants.{Differs};
 ghost use Rattle.zy_search.specs.Choices.{considered};
-ghost use Rattle.zy_search.specs.Reasons.{is_aborted as is_aborted_spec, is_committed as is_committed_spec};
+ghost use Rattle.zy_search.specs.Reasons as spec;
 ghost use Rattle.zy_search.specs.Searches.{MayTry, Shows};
 
 use crate::sought::{Reason, Sought, Wanted, is_for};
@@ -21,7 +21,7 @@ use zy_table::status::Status;
 
 /// Whether a transaction is aborted for a reason.
 fn is_aborted(reason: Reason, status: Status) -> bool
-    ensures { result ≡ is_aborted_spec reason status }
+    ensures { result ≡ spec.is_aborted reason status }
 {
     match status {
         Status::New => false,
@@ -33,7 +33,7 @@ fn is_aborted(reason: Reason, status: Status) -> bool
 
 /// Whether a transaction is committed.
 fn is_committed(status: Status) -> bool
-    ensures { result ≡ is_committed_spec status }
+    ensures { result ≡ spec.is_committed status }
 {
     match status {
         Status::New => false,
@@ -45,7 +45,7 @@ fn is_committed(status: Status) -> bool
 
 /// Whether one of the transactions is aborted for a reason.
 fn any_aborted(reason: Reason, machine: &Machine) -> bool
-    ensures { result ≡ list_any (λ (x : Txn). is_aborted_spec reason x.status) machine.now.state.txns }
+    ensures { result ≡ list_any (λ (x : Txn). spec.is_aborted reason x.status) machine.now.state.txns }
 {
     for t in 0..machine.txn_count() {
         if is_aborted(reason, machine.txn(t as u8).status()) {
@@ -57,7 +57,7 @@ fn any_aborted(reason: Reason, machine: &Machine) -> bool
 
 /// Whether all transactions are committed.
 fn all_committed(machine: &Machine) -> bool
-    ensures { result ≡ list_all (λ (x : Txn). is_committed_spec x.status) machine.now.state.txns }
+    ensures { result ≡ list_all (λ (x : Txn). spec.is_committed x.status) machine.now.state.txns }
 {
     for t in 0..machine.txn_count() {
         if !is_committed(machine.txn(t as u8).status()) {
@@ -116,7 +116,7 @@ pub(crate) fn shows_next(
     spare: &mut Machine,
 ) -> Result<bool, Fault>
     requires scenario { machine.now.scenario ≡ before.now.scenario }
-    requires step { (c : AChoice) × (machine.now.state ≡ (step_spec before.now.scenario c before.now.state).after) }
+    requires step { (c : AChoice) × (machine.now.state ≡ (table.step before.now.scenario c before.now.state).after) }
     requires none { Shows before.now.scenario sought before.now.state → ⊥ }
     requires room { MayTry sought machine.now }
     requires choices { choices.now ≡ considered sought.kills (length machine.now.scenario.programs) }

@@ -1,6 +1,6 @@
 //! What a search looks for.
 ghost use Rattle.std.specs.Prelude.{◌≡◌};
-ghost use Rattle.zy_search.specs.Reasons.{is_for as is_for_spec};
+ghost use Rattle.zy_search.specs.Reasons as spec;
 
 use zy_table::outcome::Why;
 
@@ -29,7 +29,7 @@ pub enum Reason {
 
 /// Whether this is the reason.
 pub fn is_for(reason: Reason, why: Why) -> bool
-    ensures { result ≡ is_for_spec reason why }
+    ensures { result ≡ spec.is_for reason why }
 {
     match reason {
         Reason::Any => true,

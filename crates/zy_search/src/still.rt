@@ -1,12 +1,12 @@
 //! Steps that nothing comes of.
 ghost use Rattle.std.specs.Prelude.{◌≡◌};
-ghost use Rattle.zy_search.specs.Stuck.{is_still as is_still_spec};
+ghost use Rattle.zy_search.specs.Stuck as spec;
 
 use zy_table::outcome::Outcome;
 
 /// Whether nothing came of a step. The state is then as it was.
 pub(crate) fn is_still(outcome: Outcome) -> bool
-    ensures { result ≡ is_still_spec outcome }
+    ensures { result ≡ spec.is_still outcome }
 {
     match outcome {
         Outcome::BadMode => true,

@@ -4,10 +4,11 @@ ghost use Rattle.std.specs.Bool.{Decides};
 ghost use Rattle.std.specs.List.{list_any};
 ghost use Rattle.zy_isa.specs.Choices.{names_below};
 ghost use Rattle.zy_table.specs.State.{Txn};
-ghost use Rattle.zy_table.specs.Play.{step as step_spec};
-ghost use Rattle.zy_search.specs.Choices.{considered as considered_spec};
-ghost use Rattle.zy_search.specs.Reasons.{is_running as is_running_spec};
-ghost use Rattle.zy_search.specs.Stuck.{is_still as is_still_spec, IsStuck};
+ghost use Rattle.zy_table.specs.Play as table;
+ghost use Rattle.zy_search.specs.Choices as search_choices;
+ghost use Rattle.zy_search.specs.Reasons as search_reasons;
+ghost use Rattle.zy_search.specs.Stuck.{IsStuck};
+ghost use Rattle.zy_search.specs.Stuck as search_stuck;
 ghost use Rattle.zy_search.specs.Visits.{IsTwin};
 
 use crate::still::is_still;
@@ -19,7 +20,7 @@ use zy_table::status::Status;
 
 /// Whether a transaction is active.
 fn is_running(status: Status) -> bool
-    ensures { result ≡ is_running_spec status }
+    ensures { result ≡ search_reasons.is_running status }
 {
     match status {
         Status::New => false,
@@ -31,7 +32,7 @@ fn is_running(status: Status) -> bool
 
 /// Whether one of the transactions is active.
 fn any_running(machine: &Machine) -> bool
-    ensures { result ≡ list_any (λ (x : Txn). is_running_spec x.status) machine.now.state.txns }
+    ensures { result ≡ list_any (λ (x : Txn). search_reasons.is_running x.status) machine.now.state.txns }
 {
     for t in 0..machine.txn_count() {
         if is_running(machine.txn(t as u8).status()) {
@@ -64,7 +65,7 @@ fn stays(
     requires twin { IsTwin machine.now twin.old }
     requires named { names_below (length machine.now.scenario.programs) choice ≡ true }
     requires room { length machine.now.entries < 4096 }
-    ensures still { IfOk result (λ b. b ≡ is_still_spec (step_spec machine.now.scenario choice machine.now.state).outcome) }
+    ensures still { IfOk result (λ b. b ≡ search_stuck.is_still (table.step machine.now.scenario choice machine.now.state).outcome) }
     ensures twin { IfOk result (λ b. b ≡ true → IsTwin machine.now twin.new) }
     ensures scenario { OnOk result (twin.new.scenario ≡ machine.now.scenario) }
 {
@@ -83,8 +84,8 @@ fn is_stuck_by(
 ) -> Result<bool, Fault>
     requires twin { IsTwin machine.now twin.old }
     requires room { length machine.now.entries < 4096 }
-    requires choices { choices.now ≡ considered_spec kills (length machine.now.scenario.programs) }
-    requires active { list_any (λ (x : Txn). is_running_spec x.status) machine.now.state.txns ≡ true }
+    requires choices { choices.now ≡ search_choices.considered kills (length machine.now.scenario.programs) }
+    requires active { list_any (λ (x : Txn). search_reasons.is_running x.status) machine.now.state.txns ≡ true }
     ensures stuck { IfOk result (λ b. Decides b (IsStuck machine.now.scenario kills machine.now.state)) }
     ensures scenario { OnOk result (twin.new.scenario ≡ machine.now.scenario) }
 {
@@ -106,7 +107,7 @@ pub(crate) fn is_stuck(
 ) -> Result<bool, Fault>
     requires room { length machine.now.entries < 4096 }
     requires spare { spare.old.scenario ≡ machine.now.scenario }
-    requires choices { choices.now ≡ considered_spec kills (length machine.now.scenario.programs) }
+    requires choices { choices.now ≡ search_choices.considered kills (length machine.now.scenario.programs) }
     ensures stuck { IfOk result (λ b. Decides b (IsStuck machine.now.scenario kills machine.now.state)) }
     ensures spare { OnOk result (spare.new.scenario ≡ machine.now.scenario) }
 {

@@ -1,8 +1,8 @@
 //! A second machine, on which the choices from the state of a first one are tried.
 ghost use Rattle.std.specs.Prelude.{◌≡◌, ◌<◌, ◌+◌, IfOk, OnOk, true, length};
 ghost use Rattle.zy_isa.specs.Choices.{names_below};
-ghost use Rattle.zy_table.specs.Play.{step as step_spec};
-ghost use Rattle.zy_search.specs.Stuck.{is_still as is_still_spec};
+ghost use Rattle.zy_table.specs.Play as table;
+ghost use Rattle.zy_search.specs.Stuck as spec;
 ghost use Rattle.zy_search.specs.Visits.{IsTwin, IsSecond};
 
 use crate::still::is_still;
@@ -54,9 +54,9 @@ impl Twin {
         requires second { IsSecond here.now self.old }
         requires room { length here.now.entries + 1 < 4096 }
         requires named { names_below (length here.now.scenario.programs) choice ≡ true }
-        ensures outcome { IfOk result (λ o. o ≡ (step_spec here.now.scenario choice here.now.state).outcome) }
-        ensures back { IfOk result (λ o. self.new.is_back ≡ is_still_spec o) }
-        ensures state { OnOk result (self.new.machine.state ≡ (step_spec here.now.scenario choice here.now.state).after) }
+        ensures outcome { IfOk result (λ o. o ≡ (table.step here.now.scenario choice here.now.state).outcome) }
+        ensures back { IfOk result (λ o. self.new.is_back ≡ spec.is_still o) }
+        ensures state { OnOk result (self.new.machine.state ≡ (table.step here.now.scenario choice here.now.state).after) }
         ensures longer { OnOk result (length here.now.entries < length self.new.machine.entries) }
         ensures room { OnOk result (length self.new.machine.entries < 4096) }
         ensures second { OnOk result (IsSecond here.now self.new) }

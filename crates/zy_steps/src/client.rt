@@ -4,7 +4,7 @@ ghost use Rattle.zy_modes.specs.Table.{may_start};
 ghost use Rattle.zy_node.specs.Nodes.{limits_of, IsLimited};
 ghost use Rattle.zy_node.specs.Wireframes.{lows_in};
 ghost use Rattle.zy_table.specs.State.{View};
-ghost use Rattle.zy_table.specs.Client.{start_step as start_step_spec, begin_step as begin_step_spec, kill_step as kill_step_spec};
+ghost use Rattle.zy_table.specs.Client as client;
 ghost use Rattle.zy_txns.specs.Books.{with_book};
 ghost use Rattle.zy_steps.specs.Parts.{here};
 ghost use Rattle.zy_table.specs.Answers.{move_of, Makes};
@@ -27,7 +27,7 @@ use zy_txns::book::Book;
 pub fn start_step(alloc: Global, me: &mut NodeStore, them: &NodeStore) -> Result<Answer, AllocError>
     requires some { may_start me.old.mode them.now.mode ≡ true → 0 < length (lows_in me.old.wire) }
     requires limited { IsLimited me.old.outbox.pages me.old }
-    ensures line { (v : View) → Makes (beside me.old them.now v) (beside me.new them.now v) result (start_step_spec (beside me.old them.now v)) }
+    ensures line { (v : View) → Makes (beside me.old them.now v) (beside me.new them.now v) result (client.start_step (beside me.old them.now v)) }
     ensures limits { limits_of me.new ≡ limits_of me.old }
 {
     if !me.mode.may_start(them.mode) {
@@ -46,7 +46,7 @@ pub fn start_step(alloc: Global, me: &mut NodeStore, them: &NodeStore) -> Result
 #[tactic(auto, unfolding(zy_table::specs::Client::begin_step, zy_table::specs::Client::begin_at, zy_table::specs::Change::begun, zy_table::specs::Change::txn_at))]
 pub fn begin_step(me: &NodeStore, them: &NodeStore, book: &mut Book, t: u8) -> Answer
     requires { t < length book.old.txns }
-    ensures { (v : View) → move_of result (beside me.now them.now (with_book book.new v)) ≡ begin_step_spec t (beside me.now them.now (with_book book.old v)) }
+    ensures { (v : View) → move_of result (beside me.now them.now (with_book book.new v)) ≡ client.begin_step t (beside me.now them.now (with_book book.old v)) }
 {
     if !book.txn(t).is_new() {
         return Answer::quiet(Outcome::Idle);
@@ -64,7 +64,7 @@ pub fn begin_step(me: &NodeStore, them: &NodeStore, book: &mut Book, t: u8) -> A
 #[tactic(auto, unfolding(zy_table::specs::Client::kill_step, zy_table::specs::Run::abort_step, zy_table::specs::Change::txn_at))]
 pub fn kill_step(me: &mut NodeStore, book: &mut Book, t: u8) -> Answer
     requires { t < length book.old.txns }
-    ensures line { (v : View) → move_of result (here me.new book.new v) ≡ kill_step_spec t (here me.old book.old v) }
+    ensures line { (v : View) → move_of result (here me.new book.new v) ≡ client.kill_step t (here me.old book.old v) }
     ensures limits { limits_of me.new ≡ limits_of me.old }
 {
     if !book.txn(t).is_active() {

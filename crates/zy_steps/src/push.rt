@@ -3,7 +3,7 @@ ghost use Rattle.std.specs.Prelude.{◌≡◌, ◌≤◌, ◌++◌, ◌∷◌, [
 ghost use Rattle.zy_links.specs.Messages.{Finish};
 ghost use Rattle.zy_modes.specs.declared.mode.NodeMode.TheVariants.{SFinish};
 ghost use Rattle.zy_table.specs.State.{View};
-ghost use Rattle.zy_table.specs.Push.{finish_step as finish_step_spec, push_step as push_step_spec};
+ghost use Rattle.zy_table.specs.Push as push;
 ghost use Rattle.zy_node.specs.Nodes.{node_shown, limits_of, with_node};
 ghost use Rattle.zy_steps.specs.Parts.{here};
 ghost use Rattle.zy_table.specs.Answers.{Makes};
@@ -23,7 +23,7 @@ use zy_txns::book::Book;
 /// `n push`.
 #[tactic(auto, unfolding(zy_table::specs::Push::push_step, zy_table::specs::Push::push_if, zy_table::specs::Change::leaves))]
 pub fn push_step(me: &mut NodeStore) -> Result<Answer, AllocError>
-    ensures line { (v : View) → Makes (with_node me.old v) (with_node me.new v) result (push_step_spec (with_node me.old v)) }
+    ensures line { (v : View) → Makes (with_node me.old v) (with_node me.new v) result (push.push_step (with_node me.old v)) }
     ensures limits { limits_of me.new ≡ limits_of me.old }
 {
     if !me.mode.may_push() {
@@ -52,7 +52,7 @@ fn finish(me: &mut NodeStore)
 #[tactic(auto, unfolding(zy_table::specs::Push::finish_step, zy_table::specs::Push::finish_if))]
 pub fn finish_step(n: Node, me: &mut NodeStore, book: &Book) -> Result<Answer, AllocError>
     requires { length book.now.txns ≤ 64 }
-    ensures line { (v : View) → Makes (here me.old book.now v) (here me.new book.now v) result (finish_step_spec n (here me.old book.now v)) }
+    ensures line { (v : View) → Makes (here me.old book.now v) (here me.new book.now v) result (push.finish_step n (here me.old book.now v)) }
     ensures limits { limits_of me.new ≡ limits_of me.old }
 {
     let lowest = book.lowest_active(n);

@@ -4,12 +4,13 @@ ghost use Rattle.zy_isa.specs.Rows.{get_row};
 ghost use Rattle.zy_locks.specs.LockTable.{HasPlaces};
 ghost use Rattle.zy_locks.specs.declared.lock.LockKind.TheVariants.{Shared, Exclusive};
 ghost use Rattle.zy_modes.specs.Table.{may_split};
-ghost use Rattle.zy_wire.specs.Wireframe.{page_of as page_of_spec};
+ghost use Rattle.zy_wire.specs.Wireframe as wire_wireframe;
 ghost use Rattle.zy_table.specs.State.{View};
 ghost use Rattle.zy_table.specs.Pages.{owns, rows_of};
 ghost use Rattle.zy_table.specs.Change.{txn_at, locked, shares};
 ghost use Rattle.zy_table.specs.Ranges.{range_pages};
-ghost use Rattle.zy_table.specs.Run.{abort_step as abort_step_spec, set_step as set_step_spec, jump_step as jump_step_spec, commit_step as commit_step_spec, absent_step as absent_step_spec, read_step as read_step_spec, write_step as write_step_spec, insert_step as insert_step_spec, full_step as full_step_spec, split_step as split_step_spec, page_step as page_step_spec, key_step as key_step_spec, range_step as range_step_spec, sum_or_asks as sum_or_asks_spec, sum_or_waits as sum_or_waits_spec, sum_step as sum_step_spec, first_absent, first_taken, effect_step as effect_step_spec, instr_step as instr_step_spec, run_step as run_step_spec, is_there as is_there_spec, has_room as has_room_spec, boundary as boundary_spec, program_of};
+ghost use Rattle.zy_table.specs.Run.{first_absent, first_taken, program_of};
+ghost use Rattle.zy_table.specs.Run as table;
 ghost use Rattle.zy_node.specs.Nodes.{node_shown, limits_of, IsFree, IsLimited};
 ghost use Rattle.zy_node.specs.Wireframes.{lows_in};
 ghost use Rattle.zy_txns.specs.Books.{txn_in, with_book, Countable};
@@ -46,7 +47,7 @@ pub fn run_step(
     t: u8,
 ) -> Result<Answer, AllocError>
     requires { IsReady scenario.now n t me.old book.old }
-    ensures line { Runs me.old book.old me.new book.new result (run_step_spec scenario.now n t) }
+    ensures line { Runs me.old book.old me.new book.new result (table.run_step scenario.now n t) }
     ensures memory { RunNeedsNone scenario.now t me.old book.old → IsOk result }
     ensures limits { limits_of me.new ≡ limits_of me.old }
 {
@@ -79,7 +80,7 @@ fn instr_step(
     requires room { Rooms t me.old book.old }
     requires splits { MaySplit scenario.now (node_shown me.old) (txn_in t book.old) }
     requires limited { IsLimited scenario.now.pages me.old }
-    ensures line { Runs me.old book.old me.new book.new result (λ v. instr_step_spec scenario.now t (Some instr) (txn_at v t).regs v) }
+    ensures line { Runs me.old book.old me.new book.new result (λ v. table.instr_step scenario.now t (Some instr) (txn_at v t).regs v) }
     ensures memory { InstrNeedsNone scenario.now t instr (txn_in t book.old).regs me.old book.old → IsOk result }
     ensures limits { limits_of me.new ≡ limits_of me.old }
 {
@@ -102,7 +103,7 @@ fn effect_step(
     requires room { Rooms t me.old book.old }
     requires splits { MaySplit scenario.now (node_shown me.old) (txn_in t book.old) }
     requires limited { IsLimited scenario.now.pages me.old }
-    ensures line { Runs me.old book.old me.new book.new result (effect_step_spec scenario.now t effect) }
+    ensures line { Runs me.old book.old me.new book.new result (table.effect_step scenario.now t effect) }
     ensures memory { EffectNeedsNone scenario.now t effect me.old book.old → IsOk result }
     ensures limits { limits_of me.new ≡ limits_of me.old }
 {
@@ -121,7 +122,7 @@ fn effect_step(
 #[tactic(auto, unfolding(zy_table::specs::Run::abort_step, zy_table::specs::Change::aborted, zy_table::specs::Change::txn_at))]
 pub fn abort_step(me: &mut NodeStore, book: &mut Book, t: u8, why: Why) -> Answer
     requires { t < length book.old.txns }
-    ensures line { (v : View) → move_of result (here me.new book.new v) ≡ abort_step_spec t why (here me.old book.old v) }
+    ensures line { (v : View) → move_of result (here me.new book.new v) ≡ table.abort_step t why (here me.old book.old v) }
     ensures limits { limits_of me.new ≡ limits_of me.old }
 {
     me.release(t);
@@ -133,7 +134,7 @@ pub fn abort_step(me: &mut NodeStore, book: &mut Book, t: u8, why: Why) -> Answe
 #[tactic(auto, unfolding(zy_table::specs::Run::set_step, zy_table::specs::Change::did, zy_table::specs::Change::txn_at))]
 fn set_step(book: &mut Book, t: u8, r: Reg, value: u32) -> Answer
     requires { Countable t book.old }
-    ensures { (v : View) → move_of result (with_book book.new v) ≡ set_step_spec t r value (with_book book.old v) }
+    ensures { (v : View) → move_of result (with_book book.new v) ≡ table.set_step t r value (with_book book.old v) }
 {
     book.set(t, r, value);
     Answer::quiet(Outcome::Did)
@@ -143,7 +144,7 @@ fn set_step(book: &mut Book, t: u8, r: Reg, value: u32) -> Answer
 #[tactic(auto, unfolding(zy_table::specs::Run::jump_step, zy_table::specs::Change::did, zy_table::specs::Change::txn_at))]
 fn jump_step(book: &mut Book, t: u8, taken: bool, target: u32) -> Answer
     requires { Countable t book.old }
-    ensures { (v : View) → move_of result (with_book book.new v) ≡ jump_step_spec t taken target (with_book book.old v) }
+    ensures { (v : View) → move_of result (with_book book.new v) ≡ table.jump_step t taken target (with_book book.old v) }
 {
     let next = book.txn(t).pc() + 1;
     book.go_to(t, pc_after(taken, target, next));
@@ -156,7 +157,7 @@ fn jump_step(book: &mut Book, t: u8, taken: bool, target: u32) -> Answer
 fn commit_step(me: &mut NodeStore, book: &mut Book, t: u8) -> Result<Answer, AllocError>
     requires counts { Countable t book.old }
     requires room { Rooms t me.old book.old }
-    ensures line { Runs me.old book.old me.new book.new result (commit_step_spec t) }
+    ensures line { Runs me.old book.old me.new book.new result (table.commit_step t) }
     ensures memory { 1 ≤ book.old.spare → IsOk result }
     ensures limits { limits_of me.new ≡ limits_of me.old }
 {
@@ -186,7 +187,7 @@ fn key_step(
     requires counts { Countable t book.old }
     requires splits { MaySplit scenario.now (node_shown me.old) (txn_in t book.old) }
     requires limited { IsLimited scenario.now.pages me.old }
-    ensures line { Runs me.old book.old me.new book.new result (key_step_spec scenario.now t access key) }
+    ensures line { Runs me.old book.old me.new book.new result (table.key_step scenario.now t access key) }
     ensures memory { KeyNeedsNone scenario.now t access key me.old book.old → IsOk result }
     ensures limits { limits_of me.new ≡ limits_of me.old }
 {
@@ -212,7 +213,7 @@ fn range_step(
     requires counts { Countable t book.old }
     requires slots { scenario.now.pages ≤ 512 }
     requires limited { IsLimited scenario.now.pages me.old }
-    ensures line { Runs me.old book.old me.new book.new result (range_step_spec t r first last) }
+    ensures line { Runs me.old book.old me.new book.new result (table.range_step t r first last) }
     ensures memory { SumNeedsNone t first last me.old → IsOk result }
     ensures limits { limits_of me.new ≡ limits_of me.old }
 {
@@ -240,7 +241,7 @@ fn sum_or_asks(
     requires slots { scenario.now.pages ≤ 512 }
     requires limited { IsLimited scenario.now.pages me.old }
     requires rises { first ≤ last }
-    ensures line { Runs me.old book.old me.new book.new result (λ v. sum_or_asks_spec t r first last (first_absent v.me.pages (range_pages v.me.lows first last)) v) }
+    ensures line { Runs me.old book.old me.new book.new result (λ v. table.sum_or_asks t r first last (first_absent v.me.pages (range_pages v.me.lows first last)) v) }
     ensures memory { PagesNeedNone t first last me.old → IsOk result }
     ensures limits { limits_of me.new ≡ limits_of me.old }
 {
@@ -262,7 +263,7 @@ fn sum_or_waits(
 ) -> Result<Answer, AllocError>
     requires counts { Countable t book.old }
     requires rises { first ≤ last }
-    ensures line { Runs me.old book.old me.new book.new result (λ v. sum_or_waits_spec t r first last (first_taken v.me.locks t (range_pages v.me.lows first last)) v) }
+    ensures line { Runs me.old book.old me.new book.new result (λ v. table.sum_or_waits t r first last (first_taken v.me.locks t (range_pages v.me.lows first last)) v) }
     ensures memory { let ps = range_pages (lows_in me.old.wire) first last in (first_taken me.old.locks.locks t ps ≡ None → HasPlaces ps t me.old.locks) → IsOk result }
     ensures limits { limits_of me.new ≡ limits_of me.old }
 {
@@ -280,7 +281,7 @@ fn sum_step(me: &mut NodeStore, book: &mut Book, t: u8, r: Reg, first: u16, last
     requires rises { first ≤ last }
     requires free { first_taken me.old.locks.locks t (range_pages (lows_in me.old.wire) first last) ≡ None }
     requires room { HasPlaces (range_pages (lows_in me.old.wire) first last) t me.old.locks }
-    ensures line { (v : View) → move_of result (here me.new book.new v) ≡ sum_step_spec t r first last (shares t (range_pages (lows_in me.old.wire) first last) (here me.old book.old v)) }
+    ensures line { (v : View) → move_of result (here me.new book.new v) ≡ table.sum_step t r first last (shares t (range_pages (lows_in me.old.wire) first last) (here me.old book.old v)) }
     ensures limits { limits_of me.new ≡ limits_of me.old }
 {
     let sum = sum(me, book.txn(t), first, last);
@@ -294,7 +295,7 @@ fn sum_step(me: &mut NodeStore, book: &mut Book, t: u8, r: Reg, first: u16, last
 fn absent_step(me: &mut NodeStore, book: &mut Book, t: u8, p: u16) -> Result<Answer, AllocError>
     requires there { t < length book.old.txns }
     requires few { p < 512 }
-    ensures line { Runs me.old book.old me.new book.new result (absent_step_spec t p) }
+    ensures line { Runs me.old book.old me.new book.new result (table.absent_step t p) }
     ensures memory { AbsentNeedsNone p me.old → IsOk result }
     ensures limits { limits_of me.new ≡ limits_of me.old }
 {
@@ -322,7 +323,7 @@ fn read_step(
 ) -> Result<Answer, AllocError>
     requires counts { Countable t book.old }
     requires free { IsFree at p t Shared me.old }
-    ensures line { Runs me.old book.old me.new book.new result (λ v. read_step_spec t r key p (locked t p Shared v)) }
+    ensures line { Runs me.old book.old me.new book.new result (λ v. table.read_step t r key p (locked t p Shared v)) }
     ensures memory { HasPlaces (p ∷ []) t me.old.locks → IsOk result }
     ensures limits { limits_of me.new ≡ limits_of me.old }
 {
@@ -346,8 +347,8 @@ fn write_step(
 ) -> Result<Answer, AllocError>
     requires counts { Countable t book.old }
     requires free { IsFree at p t Exclusive me.old }
-    ensures line { Runs me.old book.old me.new book.new result (λ v. write_step_spec t key value p (locked t p Exclusive v)) }
-    ensures memory { let y = txn_in t book.old in (is_there_spec key p (node_shown me.old) y ≡ false) ⊎ (HasPlaces (p ∷ []) t me.old.locks × IsSome (get_row y.rows key)) → IsOk result }
+    ensures line { Runs me.old book.old me.new book.new result (λ v. table.write_step t key value p (locked t p Exclusive v)) }
+    ensures memory { let y = txn_in t book.old in (table.is_there key p (node_shown me.old) y ≡ false) ⊎ (HasPlaces (p ∷ []) t me.old.locks × IsSome (get_row y.rows key)) → IsOk result }
     ensures limits { limits_of me.new ≡ limits_of me.old }
 {
     if !is_there(me, book.txn(t), key, p) {
@@ -375,11 +376,11 @@ fn insert_step(
     requires counts { Countable t book.old }
     requires splits { MaySplit scenario.now (node_shown me.old) (txn_in t book.old) }
     requires limited { IsLimited scenario.now.pages me.old }
-    requires on { p ≡ page_of_spec (lows_in me.old.wire) key }
+    requires on { p ≡ wire_wireframe.page_of (lows_in me.old.wire) key }
     requires free { IsFree at p t Exclusive me.old }
     requires owned { owns me.old.pages p ≡ true }
-    ensures line { Runs me.old book.old me.new book.new result (λ v. insert_step_spec scenario.now t key value p (locked t p Exclusive v)) }
-    ensures memory { let y = txn_in t book.old in (is_there_spec key p (node_shown me.old) y ≡ true) ⊎ ((has_room_spec scenario.now p (node_shown me.old) y ≡ false) × IsUncut scenario.now me.old) → IsOk result }
+    ensures line { Runs me.old book.old me.new book.new result (λ v. table.insert_step scenario.now t key value p (locked t p Exclusive v)) }
+    ensures memory { let y = txn_in t book.old in (table.is_there key p (node_shown me.old) y ≡ true) ⊎ ((table.has_room scenario.now p (node_shown me.old) y ≡ false) × IsUncut scenario.now me.old) → IsOk result }
     ensures limits { limits_of me.new ≡ limits_of me.old }
 {
     if is_there(me, book.txn(t), key, p) {
@@ -407,7 +408,7 @@ fn full_step(
     at: usize,
 ) -> Result<Answer, AllocError>
     requires { IsFull scenario.now t key p at me.old book.old }
-    ensures line { Runs me.old book.old me.new book.new result (λ v. full_step_spec scenario.now t key p (locked t p Exclusive v)) }
+    ensures line { Runs me.old book.old me.new book.new result (λ v. table.full_step scenario.now t key p (locked t p Exclusive v)) }
     ensures memory { IsUncut scenario.now me.old → IsOk result }
     ensures limits { limits_of me.new ≡ limits_of me.old }
 {
@@ -434,7 +435,7 @@ fn split_step(
     requires full { IsFull scenario.now t key p at me.old book.now }
     requires normal { may_split me.old.mode ≡ true }
     requires more { length (lows_in me.old.wire) < scenario.now.pages }
-    ensures line { Runs me.old book.now me.new book.now result (λ v. split_step_spec scenario.now t key p (locked t p Exclusive v)) }
+    ensures line { Runs me.old book.now me.new book.now result (λ v. table.split_step scenario.now t key p (locked t p Exclusive v)) }
     ensures limits { limits_of me.new ≡ limits_of me.old }
 {
     let new_page = page_count(&me.wire) as u16;
@@ -462,9 +463,9 @@ fn page_step(
     requires counts { Countable t book.old }
     requires splits { MaySplit scenario.now (node_shown me.old) (txn_in t book.old) }
     requires limited { IsLimited scenario.now.pages me.old }
-    requires on { p ≡ page_of_spec (lows_in me.old.wire) key }
+    requires on { p ≡ wire_wireframe.page_of (lows_in me.old.wire) key }
     requires few { p < 512 }
-    ensures line { Runs me.old book.old me.new book.new result (page_step_spec scenario.now t access key p) }
+    ensures line { Runs me.old book.old me.new book.new result (table.page_step scenario.now t access key p) }
     ensures memory { PageNeedsNone scenario.now t access key p me.old book.old → IsOk result }
     ensures limits { limits_of me.new ≡ limits_of me.old }
 {
@@ -483,7 +484,7 @@ fn page_step(
 
 /// Whether a key is private to a transaction or committed on a page.
 fn is_there(me: &NodeStore, txn: &Txn, key: u16, p: u16) -> bool
-    ensures { result ≡ is_there_spec key p (node_shown me.now) txn.now }
+    ensures { result ≡ table.is_there key p (node_shown me.now) txn.now }
 {
     txn.get(key).is_some() || me.value(p, key).is_some()
 }
@@ -500,7 +501,7 @@ fn value(me: &NodeStore, txn: &Txn, key: u16, p: u16) -> u32
 
 /// Whether a page has room for a row more, beside the transaction's own new rows.
 fn has_room(scenario: &Scenario, me: &NodeStore, txn: &Txn, p: u16) -> bool
-    ensures { result ≡ has_room_spec scenario.now p (node_shown me.now) txn.now }
+    ensures { result ≡ table.has_room scenario.now p (node_shown me.now) txn.now }
 {
     let free = usize::from(scenario.cap()).saturating_sub(me.page_len(p));
     let rows = txn.rows();
@@ -517,8 +518,8 @@ fn boundary(
     p: u16,
     key: u16,
 ) -> Result<u16, AllocError>
-    requires { has_room_spec scenario.now p (node_shown me.now) txn.now ≡ false }
-    ensures { IfOk result (λ b. b ≡ boundary_spec scenario.now key p (node_shown me.now) txn.now) }
+    requires { table.has_room scenario.now p (node_shown me.now) txn.now ≡ false }
+    ensures { IfOk result (λ b. b ≡ table.boundary scenario.now key p (node_shown me.now) txn.now) }
 {
     let cap = usize::from(scenario.cap());
     let keys = me.keys_with(alloc, p, txn.rows(), key)?;

@@ -1,12 +1,14 @@
 //! `n take`: each function is the lines of its name.
 ghost use Rattle.std.specs.Prelude.{◌≡◌, ◌≤◌, ◌+◌, ◌==◌, ◌++◌, ◌∷◌, [], OnOk, IfSome, Some, ℕ, true, false, is_some, length, option_map, slice_get};
 ghost use Rattle.zy_links.specs.Messages.{Message as AMessage, Page, kind_of, message_of};
-ghost use Rattle.zy_modes.specs.Table.{on_message as on_message_spec};
+ghost use Rattle.zy_modes.specs.Table as modes;
 ghost use Rattle.zy_modes.specs.declared.table.MessageLine.TheVariants.{Turns};
 ghost use Rattle.zy_table.specs.State.{View};
 ghost use Rattle.zy_table.specs.Order.{NumbersRise};
-ghost use Rattle.zy_table.specs.Pages.{leaf_at, numbers, owns as owns_spec, without};
-ghost use Rattle.zy_table.specs.Take.{is_held as is_held_spec, all_here, with_brought, outcome_of as got_spec, with_answer, take_step as take_step_spec, got_step as got_step_spec, pull_step as pull_step_spec};
+ghost use Rattle.zy_table.specs.Pages.{leaf_at, numbers, without};
+ghost use Rattle.zy_table.specs.Pages as table_pages;
+ghost use Rattle.zy_table.specs.Take.{all_here, with_brought, with_answer};
+ghost use Rattle.zy_table.specs.Take as table_take;
 ghost use Rattle.zy_node.specs.Mail.{HasRoom, IsWhole};
 ghost use Rattle.zy_node.specs.Nodes.{node_shown, limits_of, IsLimited};
 ghost use Rattle.zy_node.specs.Wireframes.{lows_in};
@@ -28,7 +30,7 @@ use zy_table::outcome::Outcome;
 
 /// Whether a locked page stays.
 fn is_held(rule: Rule) -> bool
-    ensures { result ≡ is_held_spec rule }
+    ensures { result ≡ table_take.is_held rule }
 {
     match rule {
         Rule::Held => true,
@@ -38,7 +40,7 @@ fn is_held(rule: Rule) -> bool
 
 /// The outcome of a message that the node's mode knows.
 fn outcome_of(message: &Message) -> Outcome
-    ensures { result ≡ got_spec (message_of message.now) }
+    ensures { result ≡ table_take.outcome_of (message_of message.now) }
 {
     match message {
         Message::Wire(_) => Outcome::GotWire,
@@ -65,7 +67,7 @@ fn line(scenario: &Scenario, me: &NodeStore, message: &Message) -> MessageLine
     requires named { IsNamed (node_shown me.now) }
     requires new { IsNew (message_of message.now) (node_shown me.now) }
     ensures { let m = message_of message.now in let x = node_shown me.now in
-        result ≡ on_message_spec x.mode (kind_of m) (all_here (with_brought m x)) }
+        result ≡ modes.on_message x.mode (kind_of m) (all_here (with_brought m x)) }
 {
     // The table asks it of these two messages alone.
     let all = match message {
@@ -127,7 +129,7 @@ fn answer(me: &mut NodeStore, sent: Option<Kind>)
 
 /// Hands a page over.
 pub(crate) fn leave(me: &mut NodeStore, p: u16)
-    requires owned { owns_spec me.old.pages p ≡ true }
+    requires owned { table_pages.owns me.old.pages p ≡ true }
     requires room { 1 ≤ me.old.outbox.spare }
     ensures node { let x = node_shown me.old in node_shown me.new ≡ record x { pages = without p x.pages } }
     ensures outbox { me.new.outbox.messages ≡ me.old.outbox.messages ++ Page (leaf_at me.old.pages p) ∷ [] }
@@ -214,7 +216,7 @@ pub fn take_step(
     requires may { MayTake inbox.old.messages (node_shown me.old) }
     requires limited { IsLimited inbox.old.pages me.old }
     requires few { inbox.old.pages ≤ 512 }
-    ensures line { Takes me.old inbox.old me.new inbox.new result (take_step_spec scenario.now) }
+    ensures line { Takes me.old inbox.old me.new inbox.new result (table_take.take_step scenario.now) }
     ensures limits { limits_of me.new ≡ limits_of me.old }
     ensures pages { inbox.new.pages ≡ inbox.old.pages }
 {
@@ -232,7 +234,7 @@ fn got_step(me: &mut NodeStore, inbox: &mut Mailbox, line: MessageLine) -> Resul
     requires some { is_some (slice_get inbox.old.messages 0) ≡ true }
     requires limited { IsLimited inbox.old.pages me.old }
     requires few { inbox.old.pages ≤ 512 }
-    ensures line { (m : AMessage) → slice_get inbox.old.messages 0 ≡ Some m → Takes me.old inbox.old me.new inbox.new result (λ v. got_step_spec line m v (rest v)) }
+    ensures line { (m : AMessage) → slice_get inbox.old.messages 0 ≡ Some m → Takes me.old inbox.old me.new inbox.new result (λ v. table_take.got_step line m v (rest v)) }
     ensures limits { limits_of me.new ≡ limits_of me.old }
     ensures pages { inbox.new.pages ≡ inbox.old.pages }
 {
@@ -253,7 +255,7 @@ fn turn_step(
     requires some { is_some (slice_get inbox.old.messages 0) ≡ true }
     requires limited { IsLimited inbox.old.pages me.old }
     requires few { inbox.old.pages ≤ 512 }
-    ensures line { (m : AMessage) → slice_get inbox.old.messages 0 ≡ Some m → Takes me.old inbox.old me.new inbox.new result (λ v. got_step_spec (Turns mode sent) m v (rest v)) }
+    ensures line { (m : AMessage) → slice_get inbox.old.messages 0 ≡ Some m → Takes me.old inbox.old me.new inbox.new result (λ v. table_take.got_step (Turns mode sent) m v (rest v)) }
     ensures limits { limits_of me.new ≡ limits_of me.old }
     ensures pages { inbox.new.pages ≡ inbox.old.pages }
 {
@@ -275,7 +277,7 @@ fn pull_step(
     p: u16,
     line: MessageLine,
 ) -> Result<Answer, AllocError>
-    ensures line { Takes me.old inbox.old me.new inbox.new result (λ v. pull_step_spec scenario.now p line v (rest v)) }
+    ensures line { Takes me.old inbox.old me.new inbox.new result (λ v. table_take.pull_step scenario.now p line v (rest v)) }
     ensures limits { limits_of me.new ≡ limits_of me.old }
     ensures pages { inbox.new.pages ≡ inbox.old.pages }
 {

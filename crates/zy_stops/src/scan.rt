@@ -1,7 +1,7 @@
 //! Scans for the position at which a stop fires.
 ghost use Rattle.std.specs.Prelude.{◌≡◌, ◌<◌, ◌≤◌, ◌+◌, IfOk, IfSome, OnOk, OnErr, length, map, position};
 ghost use Rattle.zy_stops.specs.Scans.{Follows, Conts, LastIn, watch_of};
-ghost use Rattle.zy_stops.specs.Stops.{slot_fires as slot_fires_spec};
+ghost use Rattle.zy_stops.specs.Stops as spec;
 
 use crate::replay::advance;
 use crate::stop::{Reading, Stop, slot_reading};
@@ -19,7 +19,7 @@ pub struct Watched {
 impl Watched {
     /// Whether its stop fires at the step with this outcome that has led to the machine.
     fn fires(&self, machine: &Machine, outcome: Outcome) -> bool
-        ensures { result ≡ slot_fires_spec self.now.before machine.now.state outcome self.now.slot }
+        ensures { result ≡ spec.slot_fires self.now.before machine.now.state outcome self.now.slot }
     {
         match self.slot {
             Some(stop) => stop.fires(self.before, machine, outcome),
@@ -54,7 +54,7 @@ fn renew(watched: &mut Vec<Watched>, machine: &Machine)
 
 /// The lowest slot whose stop fires.
 fn first(watched: &[Watched], machine: &Machine, outcome: Outcome) -> Option<usize>
-    ensures { result ≡ position (λ w. slot_fires_spec w.before machine.now.state outcome w.slot) watched.now }
+    ensures { result ≡ position (λ w. spec.slot_fires w.before machine.now.state outcome w.slot) watched.now }
 {
     watched.iter().position(|w| w.fires(machine, outcome))
 }

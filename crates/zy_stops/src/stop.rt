@@ -1,6 +1,7 @@
 //! Stops, and what they read.
 ghost use Rattle.std.specs.Prelude.{◌≡◌, true};
-ghost use Rattle.zy_stops.specs.Stops.{reading as reading_spec, is_abort as is_abort_spec, fires_from, slot_reading as slot_reading_spec, same_place as same_place_spec, same_mode as same_mode_spec, same_reading as same_reading_spec};
+ghost use Rattle.zy_stops.specs.Stops.{fires_from};
+ghost use Rattle.zy_stops.specs.Stops as spec;
 
 use zy_isa::node::Node;
 use zy_machine::machine::Machine;
@@ -37,7 +38,7 @@ pub enum Reading {
 impl Stop {
     /// What it reads in a machine's state.
     pub fn reading(self, machine: &Machine) -> Reading
-        ensures { result ≡ reading_spec self machine.now.state }
+        ensures { result ≡ spec.reading self machine.now.state }
     {
         match self {
             Stop::Page(p) => Reading::Place(machine.place(p)),
@@ -62,7 +63,7 @@ impl Stop {
 
 /// What the stop of a slot reads, if one is there.
 pub fn slot_reading(slot: Option<Stop>, machine: &Machine) -> Reading
-    ensures { result ≡ slot_reading_spec slot machine.now.state }
+    ensures { result ≡ spec.slot_reading slot machine.now.state }
 {
     match slot {
         Some(stop) => stop.reading(machine),
@@ -72,7 +73,7 @@ pub fn slot_reading(slot: Option<Stop>, machine: &Machine) -> Reading
 
 /// Whether a page is where it was.
 fn same_place(p: Place, q: Place) -> bool
-    ensures value { result ≡ same_place_spec p q }
+    ensures value { result ≡ spec.same_place p q }
     ensures same { result ≡ true → p ≡ q }
 {
     p == q
@@ -80,7 +81,7 @@ fn same_place(p: Place, q: Place) -> bool
 
 /// Whether a node's mode is what it was.
 fn same_mode(m: NodeMode, n: NodeMode) -> bool
-    ensures value { result ≡ same_mode_spec m n }
+    ensures value { result ≡ spec.same_mode m n }
     ensures same { result ≡ true → m ≡ n }
 {
     m == n
@@ -88,7 +89,7 @@ fn same_mode(m: NodeMode, n: NodeMode) -> bool
 
 /// Whether two readings are the same.
 pub fn same_reading(a: Reading, b: Reading) -> bool
-    ensures value { result ≡ same_reading_spec a b }
+    ensures value { result ≡ spec.same_reading a b }
     ensures same { result ≡ true → a ≡ b }
 {
     match (a, b) {
@@ -102,7 +103,7 @@ pub fn same_reading(a: Reading, b: Reading) -> bool
 
 /// Whether this is an abort.
 pub fn is_abort(outcome: Outcome) -> bool
-    ensures { result ≡ is_abort_spec outcome }
+    ensures { result ≡ spec.is_abort outcome }
 {
     matches!(outcome, Outcome::Aborted(_))
 }

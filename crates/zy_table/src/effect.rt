@@ -1,7 +1,7 @@
 //! What an instruction does, once its registers are read.
 ghost use Rattle.std.specs.Prelude.{◌≡◌};
-ghost use Rattle.zy_table.specs.Change.{reg as reg_spec};
-ghost use Rattle.zy_table.specs.Effects.{effect_of as effect_of_spec};
+ghost use Rattle.zy_table.specs.Change as table_change;
+ghost use Rattle.zy_table.specs.Effects as table_effects;
 
 use crate::access::Access;
 use zy_isa::instr::{Instr, Reg};
@@ -26,7 +26,7 @@ pub enum Effect {
 /// What an instruction does with these registers.
 #[inline(always)]
 pub fn effect_of(instr: Instr, regs: &[u32; 8]) -> Effect
-    ensures { result ≡ effect_of_spec instr regs.now }
+    ensures { result ≡ table_effects.effect_of instr regs.now }
 {
     match instr {
         Instr::Set(r, value) => Effect::Sets(r, value),
@@ -44,7 +44,7 @@ pub fn effect_of(instr: Instr, regs: &[u32; 8]) -> Effect
 /// The value of a register.
 #[inline(always)]
 fn reg(regs: &[u32; 8], r: Reg) -> u32
-    ensures { result ≡ reg_spec regs.now r }
+    ensures { result ≡ table_change.reg regs.now r }
 {
     regs[r.index()]
 }

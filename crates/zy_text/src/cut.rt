@@ -2,7 +2,8 @@
 ghost use Rattle.std.specs.Prelude.{◌≡◌, ◌==◌, ◌+◌, ◌<◌, ◌∷◌, true, false, length, min, position, codes};
 ghost use Rattle.std.specs.List.{list_all};
 ghost use Rattle.std.specs.Str.{bytes_eq};
-ghost use Rattle.zy_text.specs.Words.{without_comment as without_comment_spec, words_of, lines_of};
+ghost use Rattle.zy_text.specs.Words.{words_of, lines_of};
+ghost use Rattle.zy_text.specs.Words as spec;
 ghost use Rattle.zy_text.specs.Cut.{cut, is_end};
 
 use crate::line::is_space;
@@ -17,7 +18,7 @@ fn first_place(bytes: &[u8], sought: u8) -> Option<usize>
 
 /// The bytes before a comment.
 fn without_comment(line: &[u8]) -> &[u8]
-    ensures { result.now ≡ without_comment_spec line.entry.now }
+    ensures { result.now ≡ spec.without_comment line.entry.now }
 {
     match first_place(line, b';') {
         Some(end) => &line[..end],

@@ -1,7 +1,8 @@
 //! The first words of a line.
 ghost use Rattle.std.specs.Prelude.{◌≡◌, ◌==◌, ◌<◌, ◌≤◌, ◌∷◌, ◌++◌, [], length, filter, drop, position};
 ghost use Rattle.std.specs.List.{position_or_len, before_first};
-ghost use Rattle.zy_text.specs.Words.{is_space as is_space_spec, is_word, lines_of, words_of};
+ghost use Rattle.zy_text.specs.Words.{is_word, lines_of, words_of};
+ghost use Rattle.zy_text.specs.Words as spec;
 ghost use Rattle.zy_text.specs.Lines.{first_line, lines_below, first_words, texts, ends_word};
 
 use std::marker::Model;
@@ -67,7 +68,7 @@ impl<'a> Words<'a> {
 
 /// Whether a byte parts words: a space, a tab or a carriage return.
 pub fn is_space(byte: u8) -> bool
-    ensures { result ≡ is_space_spec byte }
+    ensures { result ≡ spec.is_space byte }
 {
     byte == b' ' || byte == b'\t' || byte == b'\r'
 }

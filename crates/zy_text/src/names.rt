@@ -1,8 +1,8 @@
 //! Words that are names, labels or numbers, by their form alone.
 ghost use Rattle.std.specs.Prelude.{◌≡◌};
 ghost use Rattle.std.specs.Option.{option_copied};
-ghost use Rattle.zy_text.specs.Names.{is_letter as is_letter_spec, are_parts as are_parts_spec, is_name as is_name_spec, label_of as label_of_spec};
-ghost use Rattle.zy_text.specs.Words.{is_numeral as is_numeral_spec};
+ghost use Rattle.zy_text.specs.Names as text_names;
+ghost use Rattle.zy_text.specs.Words as text_words;
 
 pub use zy_isa::operation::is;
 
@@ -10,13 +10,13 @@ pub use zy_isa::operation::is;
 const MAX_PARTS: usize = 31;
 
 fn is_letter(byte: u8) -> bool
-    ensures { result ≡ is_letter_spec byte }
+    ensures { result ≡ text_names.is_letter byte }
 {
     (b'A' <= byte && byte <= b'Z') || (b'a' <= byte && byte <= b'z') || byte == b'_'
 }
 
 fn are_parts(bytes: &[u8]) -> bool
-    ensures { result ≡ are_parts_spec bytes.now }
+    ensures { result ≡ text_names.are_parts bytes.now }
 {
     bytes
         .iter()
@@ -25,7 +25,7 @@ fn are_parts(bytes: &[u8]) -> bool
 
 /// Whether a word is a name.
 pub fn is_name(word: &[u8]) -> bool
-    ensures { result ≡ is_name_spec word.now }
+    ensures { result ≡ text_names.is_name word.now }
 {
     match word {
         [] => false,
@@ -35,7 +35,7 @@ pub fn is_name(word: &[u8]) -> bool
 
 /// Whether a word begins with a digit.
 pub fn is_numeral(word: &[u8]) -> bool
-    ensures { result ≡ is_numeral_spec word.now }
+    ensures { result ≡ text_words.is_numeral word.now }
 {
     match word {
         [] => false,
@@ -45,7 +45,7 @@ pub fn is_numeral(word: &[u8]) -> bool
 
 /// What is before the colon that a word ends with.
 pub fn label_of(word: &[u8]) -> Option<&[u8]>
-    ensures { option_copied result ≡ label_of_spec word.entry.now }
+    ensures { option_copied result ≡ text_names.label_of word.entry.now }
 {
     match word.split_last() {
         Some((last, name)) if *last == b':' => Some(name),

@@ -1,13 +1,13 @@
 //! Words that are numbers.
 ghost use Rattle.std.specs.Prelude.{◌≡◌};
-ghost use Rattle.zy_text.specs.Words.{number_of as number_of_spec};
+ghost use Rattle.zy_text.specs.Words as spec;
 
 /// The most digits of a number.
 const MAX_DIGITS: usize = 10;
 
 /// The number that 1 to 10 digits spell.
 pub fn number_of(word: &[u8]) -> Option<u64>
-    ensures { result ≡ number_of_spec word.now }
+    ensures { result ≡ spec.number_of word.now }
 {
     if word.is_empty() || word.len() > MAX_DIGITS {
         return None;

@@ -4,7 +4,7 @@ ghost use Rattle.std.specs.List.{flat_map};
 ghost use Rattle.zy_io.specs.Writing.{line_of};
 ghost use Rattle.zy_isa.specs.Choices.{names_below};
 ghost use Rattle.zy_isa.specs.declared.choice.Choice.TheVariants.{Start};
-ghost use Rattle.zy_table.specs.Play.{step as step_spec};
+ghost use Rattle.zy_table.specs.Play as table;
 ghost use Rattle.zy_audit.specs.Texts.{step_text};
 ghost use Rattle.zy_trace.specs.Subjects.{changed};
 ghost use Rattle.zy_trace.specs.Trace.{Beside, step_lines};
@@ -87,7 +87,7 @@ pub(crate) fn trace_step(
     ensures scenario { OnOk result (now.new.scenario ≡ now.old.scenario) }
     ensures position { OnOk result (length now.new.entries ≡ length now.old.entries + 1) }
     ensures state { OnOk result (now.new.state
-        ≡ (step_spec now.old.scenario (get_or now.old.scenario.choices (length now.old.entries) Start) now.old.state).after) }
+        ≡ (table.step now.old.scenario (get_or now.old.scenario.choices (length now.old.entries) Start) now.old.state).after) }
     ensures lines { OnOk result (line.new ≡ flat_map line_of (step_lines now.old.scenario (length now.old.entries + 1) now.old.state
         (get_or now.old.scenario.choices (length now.old.entries) Start))) }
 {

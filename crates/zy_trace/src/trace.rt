@@ -5,7 +5,8 @@ ghost use Rattle.zy_io.specs.Writing.{line_of, Wrote};
 ghost use Rattle.zy_table.specs.Play.{opening};
 ghost use Rattle.zy_trace.specs.Subjects.{state_lines};
 ghost use Rattle.zy_text.specs.Canon.{canon};
-ghost use Rattle.zy_trace.specs.Trace.{steps_lines, trace as trace_spec, trace_from, trace_lines};
+ghost use Rattle.zy_trace.specs.Trace.{steps_lines, trace_from, trace_lines};
+ghost use Rattle.zy_trace.specs.Trace as spec;
 
 use crate::since::{Since, Texts, append_since};
 use crate::step::trace_step;
@@ -167,7 +168,7 @@ pub fn write_trace<K: Sink>(
 ) -> Result<(), TextFault>
     requires { K.failures sink.old < u64.MAX }
     ensures { Wrote (K.written sink.old) (K.written sink.new) (K.failures sink.old) (K.failures sink.new) result
-        (trace_spec scenario) }
+        (spec.trace scenario) }
 {
     let machine = Machine::run_all(alloc, scenario)?;
     write_opened(alloc, &machine, sink)

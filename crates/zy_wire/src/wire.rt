@@ -1,6 +1,7 @@
 //! The wireframe of a node.
 ghost use Rattle.std.specs.Prelude.{◌≡◌, ◌==◌, ◌↔◌, ◌+◌, ◌^◌, ◌<◌, ◌≤◌, ◌++◌, ◌∷◌, [], OnOk, OnErr, IfOk, IfSome, IsOk, Err, Contains, ℕ, length, slice_index};
-ghost use Rattle.zy_wire.specs.Wireframe.{page_of as page_of_spec, IsGreatest, IsNext, IsAfter};
+ghost use Rattle.zy_wire.specs.Wireframe.{IsGreatest, IsNext, IsAfter};
+ghost use Rattle.zy_wire.specs.Wireframe as spec;
 ghost use Rattle.zy_wire.specs.Ranges.{in_range};
 
 use crate::entry::Entry;
@@ -102,7 +103,7 @@ impl Wire {
 
     /// The page that a key lies on.
     pub fn page_of(&self, key: u16) -> u16
-        ensures value { result ≡ page_of_spec self.now.lows key }
+        ensures value { result ≡ spec.page_of self.now.lows key }
         ensures within { result < length self.now.lows }
         ensures few { result < self.now.pages }
         ensures under { slice_index self.now.lows result ≤ key }
@@ -144,7 +145,7 @@ impl Wire {
 
     /// The keys that lie on a page; none where there is no such page.
     pub fn keys_of(&self, page: u16) -> KeyRange
-        ensures { (k : ℕ) → in_range result k ≡ (page_of_spec self.now.lows k == page) }
+        ensures { (k : ℕ) → in_range result k ≡ (spec.page_of self.now.lows k == page) }
     {
         if usize::from(page) < self.len() {
             self.range_of(page)
@@ -156,7 +157,7 @@ impl Wire {
     /// From the low key of a page on, and below the next one.
     fn range_of(&self, page: u16) -> KeyRange
         requires { page < length self.now.lows }
-        ensures { (k : ℕ) → in_range result k ≡ (page_of_spec self.now.lows k == page) }
+        ensures { (k : ℕ) → in_range result k ≡ (spec.page_of self.now.lows k == page) }
     {
         // Proof: no two pages have one low key.
         let _lows = &self.lows;

@@ -1,6 +1,7 @@
 //! A page with the locks on it.
 ghost use Rattle.std.specs.Prelude.{◌≡◌, ◌++◌, OnOk};
-ghost use Rattle.zy_audit.specs.Locked.{kind_word, lock_on, lock_text, locks_on, page_reply as page_reply_spec};
+ghost use Rattle.zy_audit.specs.Locked.{kind_word, lock_on, lock_text, locks_on};
+ghost use Rattle.zy_audit.specs.Locked as spec;
 
 use crate::lines::page::page_line;
 use std::alloc::AllocError;
@@ -91,7 +92,7 @@ impl Line for LocksOn<'_> {
 
 /// Appends the line of a page with its locks, or that it is not there, without its end.
 pub fn page_reply(machine: &Machine, page: u16, line: &mut LineBuffer) -> Result<(), AllocError>
-    ensures { OnOk result (line.new ≡ line.old ++ page_reply_spec machine.now.state page) }
+    ensures { OnOk result (line.new ≡ line.old ++ spec.page_reply machine.now.state page) }
 {
     if machine.page(page).is_none() {
         return Joined("page ", Joined(Decimal(page), " none")).append(line);

@@ -1,7 +1,8 @@
 //! A transaction.
 ghost use Rattle.std.specs.Prelude.{◌≡◌, ◌==◌, ◌<◌, IfSome, length, position};
 ghost use Rattle.zy_io.specs.Writing.{Appended};
-ghost use Rattle.zy_audit.specs.Texts.{commit_place as commit_place_spec, done_text, active_text, committed_text, aborted_text, status_text, txn_text};
+ghost use Rattle.zy_audit.specs.Texts.{done_text, active_text, committed_text, aborted_text, status_text, txn_text};
+ghost use Rattle.zy_audit.specs.Texts as spec;
 ghost use Rattle.zy_audit.specs.Listing.{txn_texts};
 
 use crate::lines::rows::{Regs, Rows};
@@ -29,7 +30,7 @@ fn commit_index(t: u8, commits: &[CommitRec]) -> Option<usize>
 
 /// The place of a transaction in commit order, from 1; 0 where it is not there.
 fn commit_place(t: u8, commits: &[CommitRec]) -> usize
-    ensures { result ≡ commit_place_spec t commits.now }
+    ensures { result ≡ spec.commit_place t commits.now }
 {
     match commit_index(t, commits) {
         Some(index) => index + 1,
