@@ -3,7 +3,7 @@
 use crate::above::{Above, Part};
 use crate::form::{Form, Shape};
 use crate::line::Statement;
-use zy_asm::faults::Reason;
+use zy_asm::Reason;
 use zy_text::names::{is, is_name, is_numeral, label_of};
 use zy_text::numbers::number_of;
 

@@ -4,8 +4,7 @@ use crate::bytes::Bytes;
 use crate::label::operation_at;
 use crate::line::Statement;
 use std::fmt;
-use zy_isa::operation::Operation;
-use zy_isa::version::Version;
+use zy_isa::{Operation, Version};
 use zy_text::names::is;
 
 /// What follows the first word of a statement, or in a choice the second.

@@ -2,9 +2,8 @@
 
 use crate::command::{Command, ForText};
 use std::fmt;
-use zy_image::faults::LoadFault;
-use zy_image::refusal::ImageRefusal;
-use zy_isa::version::Version;
+use zy_image::{ImageRefusal, LoadFault};
+use zy_isa::Version;
 
 /// How many bytes show whether an input is a text.
 const FRONT: usize = 16;

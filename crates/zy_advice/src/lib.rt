@@ -19,3 +19,8 @@ mod programs;
 pub mod text;
 mod unknown;
 mod wording;
+
+pub use crate::bytes::Bytes;
+pub use crate::command::Command;
+pub use crate::image::ImageAdvice;
+pub use crate::text::TextAdvice;

@@ -5,7 +5,7 @@ use crate::label::{label, operation_at, target};
 use crate::line::{Line, Statement, is_line_feed};
 use crate::meant::is_alike;
 use std::fmt;
-use zy_isa::scenario::MAX_TXNS;
+use zy_isa::MAX_TXNS;
 use zy_text::names::{is, is_numeral};
 
 /// A program of a text.

@@ -5,7 +5,7 @@ use crate::label::label;
 use crate::program::Program;
 use crate::text::TextAdvice;
 use std::fmt;
-use zy_isa::program::ProgFault;
+use zy_isa::ProgFault;
 
 impl<'a> TextAdvice<'a> {
     /// The last program above the line.

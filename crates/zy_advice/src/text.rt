@@ -12,8 +12,8 @@ use crate::place::Place;
 use crate::unknown::Unknown;
 use std::fmt;
 use std::str::from_utf8;
-use zy_asm::faults::{Reason, Refusal};
-use zy_isa::program::ProgFault;
+use zy_asm::{Reason, Refusal};
+use zy_isa::ProgFault;
 
 /// Why a text is refused: what is wrong, what to write, and where.
 #[derive(Clone, Copy)]

@@ -6,7 +6,7 @@ use crate::form::{Form, Shape, is_plain_of_node};
 use crate::line::Statement;
 use crate::meant::Meant;
 use std::fmt;
-use zy_isa::version::Version;
+use zy_isa::Version;
 use zy_text::names::is;
 
 /// The words that a line below the header may begin with, in small letters.

@@ -13,7 +13,7 @@ use crate::reading::read;
 use crate::state::Reader;
 use crate::text::text_of;
 use std::alloc::Global;
-use zy_isa::scenario::Scenario;
+use zy_isa::Scenario;
 
 /// The scenario that a text means. It takes memory for what the scenario has, and for names and labels.
 pub fn assemble(alloc: Global, text: &str) -> Result<Scenario, Refusal>

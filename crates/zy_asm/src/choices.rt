@@ -11,9 +11,7 @@ use crate::faults::{AsmKind, Reason};
 use crate::numbers::number_in;
 use crate::shown::Shown;
 use crate::name_table::NameTable;
-use zy_isa::choice::Choice;
-use zy_isa::node::{Actor, Node};
-use zy_isa::scenario::MAX_CHOICES;
+use zy_isa::{Actor, Choice, MAX_CHOICES, Node};
 use zy_text::names::{is, is_name, is_numeral};
 use zy_text::numbers::number_of;
 

@@ -4,7 +4,7 @@ ghost use Rattle.zy_asm.specs.Reasons.{kind_of, fault_of};
 
 use crate::shown::Shown;
 use std::fmt;
-use zy_isa::program::ProgFault;
+use zy_isa::ProgFault;
 
 /// Why a line is refused. Of several reasons the first is reported, in the order in which the line is judged.
 #[derive(Clone, Copy, Debug, PartialEq, Eq)]

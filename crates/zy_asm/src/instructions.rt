@@ -10,8 +10,7 @@ use crate::numbers::{number_in, within};
 use crate::pending::Unresolved;
 use crate::shown::Shown;
 use std::alloc::Global;
-use zy_isa::instr::{Instr, Reg};
-use zy_isa::operation::{JumpOperation, NumberOperation, Operation, Parts};
+use zy_isa::{Instr, JumpOperation, NumberOperation, Operation, Parts, Reg};
 use zy_text::names::is_name;
 
 /// The register that a word names.

@@ -12,3 +12,5 @@ pub mod shown;
 mod state;
 mod name_table;
 pub mod text;
+
+pub use crate::faults::{AsmKind, Reason, Refusal};

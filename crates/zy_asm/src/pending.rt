@@ -9,10 +9,7 @@ use crate::faults::Reason;
 use crate::shown::Shown;
 use crate::name_table::NameTable;
 use std::alloc::Global;
-use zy_isa::instr::{Instr, Reg};
-use zy_isa::operation::{JumpOperation, Parts};
-use zy_isa::program::Program;
-use zy_isa::word::Word;
+use zy_isa::{Instr, JumpOperation, Parts, Program, Reg, Word};
 
 /// An instruction whose label, if it has one, is still to be found.
 #[derive(Debug, Drop)]

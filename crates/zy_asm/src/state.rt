@@ -5,11 +5,7 @@ ghost use Rattle.zy_asm.specs.Stages.{open_programs};
 use crate::pending::Unresolved;
 use crate::name_table::NameTable;
 use std::alloc::Global;
-use zy_isa::choice::Choice;
-use zy_isa::program::Program;
-use zy_isa::row::Row;
-use zy_isa::rule::Rule;
-use zy_isa::version::Version;
+use zy_isa::{Choice, Program, Row, Rule, Version};
 
 /// What may come next.
 #[derive(Clone, Copy, Debug, PartialEq, Eq)]

@@ -5,8 +5,8 @@ ghost use Rattle.zy_audit.specs.Covering.{HasRun};
 ghost use Rattle.zy_audit.specs.Lone.{map_of};
 
 use crate::table::Table;
-use zy_isa::row::Row;
-use zy_machine::machine::Machine;
+use zy_isa::Row;
+use zy_machine::Machine;
 
 /// Whether rows are side by side among those of a table, from where the first one's key would be.
 fn has_run(table: &[Row], run: &[Row]) -> bool

@@ -10,3 +10,10 @@ mod lone;
 pub mod run;
 pub mod serial;
 pub mod table;
+
+pub use crate::lines::final_state::FinalState;
+pub use crate::lines::mode::ModeLine;
+pub use crate::lines::serial::SerialLine;
+pub use crate::lines::step::StepLine;
+pub use crate::lines::words::ModeText;
+pub use crate::table::Table;

@@ -11,12 +11,9 @@ use crate::lines::step::Steps;
 use crate::lines::taken::Taken;
 use crate::serial::same;
 use std::alloc::Global;
-use zy_disasm::head::Head;
-use zy_io::buffer::LineBuffer;
-use zy_io::section::{Both, One, Section};
-use zy_io::stream::Sink;
-use zy_io::writing::TextFault;
-use zy_machine::machine::Machine;
+use zy_disasm::Head;
+use zy_io::{Both, LineBuffer, One, Section, Sink, TextFault};
+use zy_machine::Machine;
 
 /// Writes the listing of a machine, a line at a time; `same` is what the test against the serial run says.
 pub(crate) fn write_listing_as<K: Sink>(

@@ -13,11 +13,10 @@ ghost use Rattle.zy_audit.specs.Lone.{map_of, on_map};
 use crate::table::Table;
 use std::alloc::{AllocError, Global};
 use std::marker::Model;
-use zy_isa::instr::Reg;
-use zy_isa::program::Program;
-use zy_page::row_list::RowList;
-use zy_table::access::Access;
-use zy_table::effect::{Effect, effect_of};
+use zy_isa::{Program, Reg};
+use zy_page::RowList;
+use zy_table::{Access, Effect};
+use zy_table::effect::effect_of;
 use zy_table::sums::sum_of_rows;
 
 /// The rows that a program writes when it is run alone on a table, for this number of instructions or to its end: none where it

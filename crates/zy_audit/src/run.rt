@@ -5,10 +5,9 @@ ghost use Rattle.zy_audit.specs.Run.{listing_run};
 
 use crate::listing::write_listing;
 use std::alloc::Global;
-use zy_io::stream::Sink;
-use zy_io::writing::TextFault;
-use zy_isa::scenario::Scenario;
-use zy_machine::machine::Machine;
+use zy_io::{Sink, TextFault};
+use zy_isa::Scenario;
+use zy_machine::Machine;
 
 /// Makes the choices of a scenario, and writes the listing.
 pub fn write_run<K: Sink>(alloc: Global, scenario: Scenario, sink: &mut K) -> Result<(), TextFault>

@@ -11,10 +11,9 @@ use crate::covering::covers;
 use crate::lone::written;
 use crate::table::Table;
 use std::alloc::{AllocError, Global};
-use zy_isa::program::Program;
-use zy_isa::scenario::Scenario;
-use zy_machine::machine::Machine;
-use zy_table::entry::CommitRec;
+use zy_isa::{Program, Scenario};
+use zy_machine::Machine;
+use zy_table::CommitRec;
 
 /// The rows that committed programs leave when they are run alone, one by one, from the opening rows.
 pub fn serial(

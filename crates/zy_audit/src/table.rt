@@ -7,7 +7,7 @@ ghost use Rattle.zy_audit.specs.Laying.{rows_past};
 use std::alloc::{AllocError, Global};
 use std::marker::Model;
 use std::mem::swap;
-use zy_isa::row::Row;
+use zy_isa::Row;
 use zy_page::finding::{place, value_at};
 
 /// Rows of any number in key order, each key once.

@@ -1,10 +1,8 @@
 //! A fault of an input, with what to do about it.
 
 use std::fmt;
-use zy_advice::command::Command;
-use zy_advice::image::ImageAdvice;
-use zy_advice::text::TextAdvice;
-use zy_engine::faults::BenchFault;
+use zy_advice::{Command, ImageAdvice, TextAdvice};
+use zy_engine::BenchFault;
 
 /// A fault, as standard error shows it.
 #[derive(Clone, Copy)]

@@ -3,8 +3,8 @@
 use clap::builder::ValueParser;
 use clap::{Arg, ArgAction, ArgMatches, Command, value_parser};
 use std::alloc::{AllocError, Global};
-use zy_engine::format::Format;
-use zy_search::sought::{Reason, Sought, Wanted};
+use zy_engine::Format;
+use zy_search::{Reason, Sought, Wanted};
 
 /// What is asked for.
 #[derive(Clone, Copy, Debug, PartialEq, Eq)]

@@ -1,7 +1,7 @@
 //! Lines of an input and of a listing, as a person is shown them.
 
 use std::fmt;
-use zy_advice::bytes::Bytes;
+use zy_advice::Bytes;
 
 /// How many bytes of a line are shown.
 const MOST: usize = 120;

@@ -2,7 +2,7 @@
 ghost use Rattle.std.specs.Prelude.{◌≡◌, None};
 
 use std::io;
-use zy_io::stream::Sink;
+use zy_io::Sink;
 
 /// The most bytes of a line that are kept. No line of a listing has as many.
 const MOST: usize = 8192;

@@ -25,22 +25,20 @@ use std::process::ExitCode;
 use std::sync::Wait;
 use std::thread::Threads;
 use std::time::Clock;
-use zy_advice::command::Command as Reader;
+use zy_advice::Command as Reader;
 use zy_advice::line::whole_line;
-use zy_check::verdict::Verdict;
+use zy_check::Verdict;
 use zy_engine::checking::check_bytes;
 use zy_engine::debugging::debug_bytes;
 use zy_engine::engine::{asm_bytes, dis_bytes, run_bytes, trace_bytes};
-use zy_engine::faults::BenchFault;
-use zy_engine::format::Format;
+use zy_engine::{BenchFault, Format};
 use zy_engine::searching::search_bytes;
 use zy_engine::threading::threads_bytes;
-use zy_io::memory::SliceSource;
+use zy_io::{CountingReader, SliceSource};
 use zy_io::reading::read_all;
-use zy_io::stream::CountingReader;
-use zy_search::answer::{Answer, Report};
+use zy_search::{Answer, Report};
 use zy_text::cut::cut_len;
-use zy_threads::gate::FreeGate;
+use zy_threads::FreeGate;
 
 /// The exit status where all went well.
 const DONE: u8 = 0;

@@ -4,7 +4,7 @@ ghost use Rattle.std.specs.Prelude.{◌≡◌, ◌<◌};
 use std::io;
 use std::io::Write;
 use std::marker::Model;
-use zy_io::stream::{CountingWriter, Sink};
+use zy_io::{CountingWriter, Sink};
 
 /// A sink over a writer that notes whether a call has failed since nobody reads any more.
 #[derive(Drop)]

@@ -1,7 +1,7 @@
 //! The line that says how far a search is.
 
 use std::time::{Clock, Instant};
-use zy_search::watch::Watch;
+use zy_search::Watch;
 
 /// Says on standard error how far a search is, once a second, in a line that is written over the last one. Where that is no terminal it says
 /// nothing.

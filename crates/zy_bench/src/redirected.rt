@@ -2,7 +2,7 @@
 
 use clap::error::ErrorKind;
 use std::fmt;
-use zy_advice::bytes::Bytes;
+use zy_advice::Bytes;
 
 /// The command line that gives a file to a command.
 #[derive(Clone, Copy)]

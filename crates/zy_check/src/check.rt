@@ -18,9 +18,8 @@ use std::alloc::{AllocError, Global};
 use zy_asm::assembling::assemble_bytes;
 use zy_audit::run::write_run;
 use zy_io::reading::read_all;
-use zy_io::stream::Source;
-use zy_io::writing::TextFault;
-use zy_isa::scenario::Scenario;
+use zy_io::{Source, TextFault};
+use zy_isa::Scenario;
 use zy_text::cut::cut_len;
 
 /// Makes the choices of a scenario, and compares its listing with an input.

@@ -7,7 +7,7 @@ ghost use Rattle.zy_check.specs.Comparing.{written_by};
 use crate::verdict::Verdict;
 use std::io;
 use std::marker::Model;
-use zy_io::stream::Sink;
+use zy_io::Sink;
 
 /// How many bytes two texts have in common at their front. Where the second is a prefix of the first, whole groups of bytes are
 /// compared.

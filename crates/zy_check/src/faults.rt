@@ -4,8 +4,8 @@ ghost use Rattle.zy_check.specs.Faults.{of_reading, of_refusal};
 
 use std::alloc::AllocError;
 use thiserror::Error;
-use zy_asm::faults::{AsmKind, Refusal};
-use zy_io::reading::ReadFault;
+use zy_asm::{AsmKind, Refusal};
+use zy_io::ReadFault;
 
 /// Why no verdict was reached.
 #[derive(Clone, Copy, Debug, PartialEq, Eq, Error)]

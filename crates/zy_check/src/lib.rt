@@ -6,3 +6,6 @@ pub mod comparing;
 pub mod faults;
 pub mod laws;
 pub mod verdict;
+
+pub use crate::faults::CheckFault;
+pub use crate::verdict::Verdict;

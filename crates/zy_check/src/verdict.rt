@@ -2,8 +2,7 @@
 ghost use Rattle.zy_check.specs.Differs.{verdict_text};
 
 use std::alloc::AllocError;
-use zy_io::buffer::LineBuffer;
-use zy_io::line::{Decimal, Joined, Line};
+use zy_io::{Decimal, Joined, Line, LineBuffer};
 
 /// Whether an input is the listing of its scenario.
 #[derive(Clone, Copy, Debug, PartialEq, Eq)]

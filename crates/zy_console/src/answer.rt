@@ -10,10 +10,8 @@ ghost use Rattle.zy_console.specs.Console.{LineSays, Obeyed};
 use crate::command::command_of;
 use crate::shown::append_shown;
 use std::alloc::AllocError;
-use zy_debug::command::{Command, DebugFault, Reply};
-use zy_debug::debugger::Debugger;
-use zy_io::buffer::LineBuffer;
-use zy_io::line::{Decimal, Joined, Line};
+use zy_debug::{Command, DebugFault, Debugger, Reply};
+use zy_io::{Decimal, Joined, Line, LineBuffer};
 
 /// Appends a text and the end of its line.
 fn append_line<D: Line>(item: &D, line: &mut LineBuffer) -> Result<(), AllocError>

@@ -3,7 +3,7 @@ ghost use Rattle.std.specs.Prelude.{◌≡◌};
 ghost use Rattle.zy_text.specs.Lines.{texts};
 ghost use Rattle.zy_console.specs.Lines as spec;
 
-use zy_debug::command::Command;
+use zy_debug::Command;
 use zy_text::names::is;
 use zy_text::numbers::number_of;
 

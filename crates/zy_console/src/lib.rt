@@ -6,3 +6,5 @@ pub mod command;
 pub mod laws;
 pub mod session;
 mod shown;
+
+

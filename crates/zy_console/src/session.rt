@@ -5,11 +5,11 @@ ghost use Rattle.zy_console.specs.Console.{WroteSession};
 
 use crate::answer::answer;
 use std::alloc::Global;
-use zy_debug::debugger::Debugger;
-use zy_io::buffer::LineBuffer;
-use zy_io::stream::Sink;
-use zy_io::writing::{TextFault, write_all};
-use zy_text::line::{Words, take_line};
+use zy_debug::Debugger;
+use zy_io::{LineBuffer, Sink, TextFault};
+use zy_io::writing::write_all;
+use zy_text::Words;
+use zy_text::line::take_line;
 
 /// Does the commands of a text, one a line, and writes the reply to each once it is done. It ends at the first call
 /// that fails or takes no byte, and where there is no memory.

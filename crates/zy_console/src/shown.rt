@@ -10,13 +10,12 @@ use std::alloc::AllocError;
 use zy_audit::lines::link::link_line;
 use zy_audit::lines::locked::page_reply;
 use zy_audit::lines::txn::txn_line;
-use zy_audit::lines::words::ModeText;
-use zy_debug::command::Shown;
-use zy_io::buffer::LineBuffer;
-use zy_io::line::{Decimal, Joined, Line};
-use zy_isa::node::Node;
+use zy_audit::ModeText;
+use zy_debug::Shown;
+use zy_io::{Decimal, Joined, Line, LineBuffer};
+use zy_isa::Node;
 use zy_laws::laws::safe_counts;
-use zy_machine::machine::Machine;
+use zy_machine::Machine;
 
 /// Appends where a machine is in its choices, and the modes there, with their end.
 fn append_where(machine: &Machine, line: &mut LineBuffer) -> Result<(), AllocError>

@@ -14,12 +14,11 @@ use crate::command::{Command, DebugFault, Reply, Shown};
 use crate::copies::Copies;
 use std::alloc::{AllocError, Global};
 use std::marker::Model;
-use zy_isa::scenario::Scenario;
-use zy_machine::machine::Machine;
+use zy_isa::Scenario;
+use zy_machine::Machine;
 use zy_stops::replay::{restart, start};
 use zy_stops::scan::{cont, last_firing};
-use zy_stops::stop::Stop;
-use zy_stops::stops::Stops;
+use zy_stops::{Stop, Stops};
 
 /// A scenario, a position in its choices, and stops.
 #[derive(Drop)]

@@ -6,3 +6,6 @@ pub mod command;
 mod copies;
 pub mod debugger;
 mod shelf;
+
+pub use crate::command::{Command, DebugFault, Reply, Shown};
+pub use crate::debugger::Debugger;

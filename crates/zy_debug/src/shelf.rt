@@ -8,7 +8,7 @@ ghost use Rattle.zy_debug.specs.Checkpoints.{AreReplaysOf, IsReplayOf, is_kept, 
 use circular_buffer::HeapCircularBuffer;
 use std::alloc::{AllocError, Global};
 use std::marker::Model;
-use zy_machine::machine::Machine;
+use zy_machine::Machine;
 
 /// Copies of machines at some positions: the last ones that were noted.
 #[derive(Drop)]

@@ -2,13 +2,10 @@
 ghost use Rattle.zy_disasm.specs.Lines.{program_parts, head_texts};
 
 use crate::lines::{Number, RuleLine, VersionLine};
-use zy_io::buffer::LineBuffer;
-use zy_io::section::{Both, One, Parts, Section, write_parts};
-use zy_io::stream::Sink;
-use zy_io::writing::TextFault;
-use zy_isa::program::Program;
-use zy_isa::scenario::Scenario;
-use zy_text::canonical::Each;
+use zy_io::{Both, LineBuffer, One, Parts, Section, Sink, TextFault};
+use zy_io::section::write_parts;
+use zy_isa::{Program, Scenario};
+use zy_text::Each;
 
 /// The header, the rows and the programs of a scenario.
 #[derive(Clone, Copy)]

@@ -4,3 +4,5 @@
 pub mod head;
 mod lines;
 pub mod text;
+
+pub use crate::head::Head;

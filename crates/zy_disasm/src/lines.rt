@@ -2,11 +2,9 @@
 ghost use Rattle.zy_disasm.specs.Lines.{version_line, number_text, rule_line};
 
 use std::alloc::AllocError;
-use zy_io::buffer::LineBuffer;
-use zy_io::line::{Decimal, Joined, Line};
-use zy_isa::rule::Rule;
-use zy_isa::version::Version;
-use zy_text::canonical::Canonical;
+use zy_io::{Decimal, Joined, Line, LineBuffer};
+use zy_isa::{Rule, Version};
+use zy_text::Canonical;
 
 /// The first line.
 #[derive(Clone, Copy)]

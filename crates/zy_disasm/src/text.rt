@@ -5,12 +5,9 @@ ghost use Rattle.zy_io.specs.Writing.{Wrote};
 
 use crate::head::Head;
 use std::alloc::Global;
-use zy_io::buffer::LineBuffer;
-use zy_io::section::{Both, One, Section};
-use zy_io::stream::Sink;
-use zy_io::writing::TextFault;
-use zy_isa::scenario::Scenario;
-use zy_text::canonical::Each;
+use zy_io::{Both, LineBuffer, One, Section, Sink, TextFault};
+use zy_isa::Scenario;
+use zy_text::Each;
 
 /// Writes the canonical text of a scenario, a line at a time.
 pub fn write_text<K: Sink>(

@@ -17,11 +17,9 @@ ghost use Rattle.zy_engine.specs.Inputs.{IsTextFault};
 use crate::faults::BenchFault;
 use std::alloc::{AllocError, Global};
 use zy_check::check::check;
-use zy_check::verdict::Verdict;
-use zy_io::buffer::LineBuffer;
-use zy_io::line::Line;
-use zy_io::stream::{Sink, Source};
-use zy_io::writing::{TextFault, write_all};
+use zy_check::Verdict;
+use zy_io::{Line, LineBuffer, Sink, Source, TextFault};
+use zy_io::writing::write_all;
 
 /// The words of a verdict, and the end of their line.
 fn line_of(alloc: Global, verdict: Verdict) -> Result<LineBuffer, AllocError>

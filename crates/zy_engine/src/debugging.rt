@@ -9,11 +9,10 @@ use crate::faults::BenchFault;
 use crate::format::{Format, accept};
 use std::alloc::Global;
 use zy_console::session::write_session;
-use zy_debug::debugger::Debugger;
+use zy_debug::Debugger;
 use zy_io::reading::read_all;
-use zy_io::stream::{Sink, Source};
-use zy_io::writing::TextFault;
-use zy_isa::scenario::Scenario;
+use zy_io::{Sink, Source, TextFault};
+use zy_isa::Scenario;
 use zy_text::cut::cut_len;
 
 /// A session on a scenario: does the commands, one a line, and writes the reply to each.

@@ -11,7 +11,7 @@ use crate::faults::BenchFault;
 use crate::format::{Format, read_scenario};
 use crate::output::{Canonical, Listing, Output, Saved, Trace};
 use std::alloc::Global;
-use zy_io::stream::{Sink, Source};
+use zy_io::{Sink, Source};
 
 /// Reads a scenario whole, makes its choices, and writes its listing. Nothing is written before the input is read to its
 /// end and found to be a scenario.

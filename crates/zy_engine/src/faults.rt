@@ -4,12 +4,10 @@ ghost use Rattle.zy_engine.specs.Faults.{of_checking, of_image_refusal, of_readi
 
 use std::alloc::AllocError;
 use thiserror::Error;
-use zy_asm::faults::Refusal;
-use zy_check::faults::CheckFault;
-use zy_image::faults::LoadFault;
-use zy_image::refusal::ImageRefusal;
-use zy_io::reading::ReadFault;
-use zy_io::writing::TextFault;
+use zy_asm::Refusal;
+use zy_check::CheckFault;
+use zy_image::{ImageRefusal, LoadFault};
+use zy_io::{ReadFault, TextFault};
 
 /// Why an engine gave up. Its text names the fault, and says what is wrong.
 #[derive(Clone, Copy, Debug, PartialEq, Eq, Error)]

@@ -7,10 +7,10 @@ use crate::faults::BenchFault;
 use std::alloc::Global;
 use zy_asm::assembling::assemble_bytes;
 use zy_image::load::load;
-use zy_image::refusal::ImageRefusal;
+use zy_image::ImageRefusal;
 use zy_io::reading::read_all;
-use zy_io::stream::Source;
-use zy_isa::scenario::Scenario;
+use zy_io::Source;
+use zy_isa::Scenario;
 
 /// What an input is written in.
 #[derive(Clone, Copy, Debug, PartialEq, Eq)]

@@ -10,3 +10,6 @@ pub mod laws;
 pub mod output;
 pub mod searching;
 pub mod threading;
+
+pub use crate::faults::BenchFault;
+pub use crate::format::Format;

@@ -11,9 +11,9 @@ use std::alloc::Global;
 use zy_audit::run::write_run;
 use zy_disasm::text::write_text;
 use zy_image::save::save;
-use zy_io::stream::Sink;
-use zy_io::writing::{TextFault, write_all};
-use zy_isa::scenario::Scenario;
+use zy_io::{Sink, TextFault};
+use zy_io::writing::write_all;
+use zy_isa::Scenario;
 use zy_trace::trace::write_trace;
 
 /// What can be written of a scenario.

@@ -9,19 +9,13 @@ ghost use Rattle.zy_engine.specs.Searching.{ConvertsSearch, WroteAnswer, text_of
 use crate::faults::BenchFault;
 use crate::format::{Format, read_scenario};
 use std::alloc::Global;
-use zy_disasm::head::Head;
-use zy_io::buffer::LineBuffer;
-use zy_io::section::{Both, One, Section};
-use zy_io::stream::{Sink, Source};
-use zy_io::writing::TextFault;
-use zy_isa::choice::Choice;
-use zy_isa::scenario::Scenario;
-use zy_machine::machine::Machine;
-use zy_search::answer::{Answer, Report};
+use zy_disasm::Head;
+use zy_io::{Both, LineBuffer, One, Section, Sink, Source, TextFault};
+use zy_isa::{Choice, Scenario};
+use zy_machine::Machine;
+use zy_search::{Answer, Report, Sought, Watch};
 use zy_search::search::search;
-use zy_search::sought::Sought;
-use zy_search::watch::Watch;
-use zy_text::canonical::Each;
+use zy_text::Each;
 
 /// Writes the canonical text of a scenario with more choices behind its own.
 fn write_found<K: Sink>(

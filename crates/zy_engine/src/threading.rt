@@ -9,10 +9,9 @@ use std::alloc::Global;
 use std::sync::Wait;
 use std::thread::Threads;
 use zy_audit::listing::write_listing;
-use zy_io::stream::{Sink, Source};
-use zy_io::writing::TextFault;
-use zy_isa::scenario::Scenario;
-use zy_threads::gate::Gate;
+use zy_io::{Sink, Source, TextFault};
+use zy_isa::Scenario;
+use zy_threads::Gate;
 use zy_threads::run::run_threads;
 
 /// Makes the choices of a scenario by three threads, and writes the listing in the order that they took.

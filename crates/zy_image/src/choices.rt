@@ -8,9 +8,7 @@ use crate::faults::LoadFault;
 use crate::fields::half;
 use crate::lists::{Items, read_items};
 use std::alloc::Global;
-use zy_isa::choice::Choice;
-use zy_isa::node::Node;
-use zy_isa::scenario::{MAX_CHOICES, Scenario, ScenarioFault};
+use zy_isa::{Choice, MAX_CHOICES, Node, Scenario, ScenarioFault};
 
 /// A choice with a transaction, of which there are `count`.
 fn named(count: usize, txn: u8, choice: Choice) -> Option<Choice>

@@ -2,7 +2,7 @@
 
 use std::alloc::AllocError;
 use thiserror::Error;
-use zy_isa::program::ProgFault;
+use zy_isa::ProgFault;
 
 /// Why bytes are no image of a scenario. The first that comes in the order of reading is reported; rows, transactions,
 /// instructions and choices count from 0.

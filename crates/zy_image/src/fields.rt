@@ -3,7 +3,7 @@ ghost use Rattle.zy_image.specs.Reading.{Gives};
 ghost use Rattle.zy_image.specs.Reading as spec;
 
 use crate::faults::LoadFault;
-use zy_isa::version::Version;
+use zy_isa::Version;
 
 /// The next field of N bytes, and what follows it.
 pub fn field<const N: usize>(size: usize, bytes: &[u8]) -> Result<([u8; N], &[u8]), LoadFault>

@@ -5,9 +5,7 @@ ghost use Rattle.std.specs.Prelude.{◌≡◌};
 
 use crate::faults::LoadFault;
 use crate::fields::{byte, half, magic_field};
-use zy_isa::rule::Rule;
-use zy_isa::scenario::{MAX_CAP, MAX_PAGES};
-use zy_isa::version::Version;
+use zy_isa::{MAX_CAP, MAX_PAGES, Rule, Version};
 
 /// What the fields before the rows say.
 #[derive(Clone, Copy, Debug, PartialEq, Eq)]

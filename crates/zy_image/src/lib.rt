@@ -12,3 +12,6 @@ mod programs;
 pub mod refusal;
 mod rows;
 pub mod save;
+
+pub use crate::faults::LoadFault;
+pub use crate::refusal::ImageRefusal;

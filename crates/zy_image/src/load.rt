@@ -11,10 +11,7 @@ use crate::head::{Head, head_fields};
 use crate::programs::programs;
 use crate::rows::rows;
 use std::alloc::Global;
-use zy_isa::choice::Choice;
-use zy_isa::program::Program;
-use zy_isa::row::Row;
-use zy_isa::scenario::Scenario;
+use zy_isa::{Choice, Program, Row, Scenario};
 
 /// What an image gives.
 #[derive(Drop)]

@@ -4,7 +4,7 @@ ghost use Rattle.std.specs.Prelude.{◌≡◌};
 use crate::faults::LoadFault;
 use crate::places::{Field, byte_at, bytes_at, cut_field, half_at, instr_count, txn_count};
 use std::fmt;
-use zy_isa::program::ProgFault;
+use zy_isa::ProgFault;
 use zy_isa::scenario::opening_rows;
 
 /// What is at the place of a fault.

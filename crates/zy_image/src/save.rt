@@ -7,13 +7,7 @@ ghost use Rattle.zy_image.specs.Image.{choices_image, head_image, image_of, prog
 ghost use Rattle.zy_image.specs.Image as spec;
 
 use std::alloc::{AllocError, Global};
-use zy_isa::choice::Choice;
-use zy_isa::node::Node;
-use zy_isa::program::Program;
-use zy_isa::row::Row;
-use zy_isa::rule::Rule;
-use zy_isa::scenario::Scenario;
-use zy_isa::word::Word;
+use zy_isa::{Choice, Node, Program, Row, Rule, Scenario, Word};
 
 /// What has an image.
 trait Imaged {

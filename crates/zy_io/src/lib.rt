@@ -9,3 +9,11 @@ pub mod reading;
 pub mod section;
 pub mod stream;
 pub mod writing;
+
+pub use crate::buffer::LineBuffer;
+pub use crate::line::{Decimal, Joined, Line};
+pub use crate::memory::{SliceSource, VecSink};
+pub use crate::reading::{MAX_INPUT, ReadFault};
+pub use crate::section::{Both, Lines, One, Parts, Section};
+pub use crate::stream::{CountingReader, CountingWriter, Sink, Source};
+pub use crate::writing::{TextFault, WriteFault};

@@ -4,3 +4,7 @@
 pub mod kind;
 pub mod link;
 pub mod message;
+
+pub use crate::kind::Kind;
+pub use crate::link::Link;
+pub use crate::message::Message;

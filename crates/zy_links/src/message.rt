@@ -4,8 +4,8 @@ ghost use Rattle.zy_links.specs.Messages.{kind_of, limit_of, message_of};
 
 use crate::kind::Kind;
 use std::alloc::{AllocError, Global};
-use zy_page::page::Page;
-use zy_wire::wire::Wire;
+use zy_page::Page;
+use zy_wire::Wire;
 
 /// A message, with what it brings: a wireframe and a page are moved into it and out of it.
 #[derive(Drop)]

@@ -4,3 +4,7 @@
 pub mod attempt;
 pub mod lock;
 pub mod locks;
+
+pub use crate::attempt::Attempt;
+pub use crate::lock::{Lock, LockKind};
+pub use crate::locks::Locks;

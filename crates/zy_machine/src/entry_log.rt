@@ -6,8 +6,8 @@ ghost use Rattle.zy_machine.specs.Trails.{IsNext};
 use std::alloc::{AllocError, Global};
 use std::marker::Model;
 use std::sync::Arc;
-use zy_isa::choice::Choice;
-use zy_table::entry::Entry;
+use zy_isa::Choice;
+use zy_table::Entry;
 
 /// A prefix of a history that other machines have too.
 #[derive(Drop)]

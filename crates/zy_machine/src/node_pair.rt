@@ -14,17 +14,15 @@ ghost use Rattle.zy_steps.specs.Arrivals.{MayTake};
 ghost use Rattle.zy_machine.specs.NodePairs.{state_of, limits_in, AreLimited, IsMade, IsPossible, IsReady, Makes, MayStart, Steps};
 
 use std::alloc::{AllocError, Global};
-use zy_isa::choice::Choice;
-use zy_isa::node::Node;
-use zy_isa::scenario::Scenario;
+use zy_isa::{Choice, Node, Scenario};
 use zy_modes::table::on_start;
 use zy_steps::client::{begin_step, kill_step, start_step};
 use zy_steps::push::{finish_step, push_step};
 use zy_steps::take::take_step;
-use zy_node::node_store::NodeStore;
+use zy_node::NodeStore;
 use zy_steps::run::run_step;
-use zy_table::answer::Answer;
-use zy_txns::book::Book;
+use zy_table::Answer;
+use zy_txns::Book;
 
 /// The state: both nodes, the transactions and commits; and where new pages come from.
 #[derive(Drop)]

@@ -6,19 +6,15 @@ ghost use Rattle.zy_node.specs.Wireframes.{lows_in};
 ghost use Rattle.zy_machine.specs.NodePairs.{state_of};
 
 use crate::node_pair::NodePair;
-use zy_isa::node::Node;
-use zy_isa::row::Row;
-use zy_links::link::Link;
-use zy_links::message::Message;
-use zy_locks::lock::Lock;
-use zy_modes::mode::NodeMode;
-use zy_node::node_store::NodeStore;
+use zy_isa::{Node, Row};
+use zy_links::{Link, Message};
+use zy_locks::Lock;
+use zy_modes::NodeMode;
+use zy_node::NodeStore;
 use zy_node::same::same_page;
-use zy_table::entry::CommitRec;
-use zy_table::status::Status;
-use zy_txns::book::Book;
-use zy_txns::txn::Txn;
-use zy_wire::wire::Wire;
+use zy_table::{CommitRec, Status};
+use zy_txns::{Book, Txn};
+use zy_wire::Wire;
 
 impl NodePair {
     /// Whether two states are the same.

@@ -3,3 +3,6 @@
 
 pub mod mode;
 pub mod table;
+
+pub use crate::mode::NodeMode;
+pub use crate::table::{FinishLine, MessageLine};

@@ -4,9 +4,8 @@ ghost use Rattle.zy_modes.specs.Table.{HandsOver};
 ghost use Rattle.zy_modes.specs.Table as spec;
 
 use crate::mode::NodeMode;
-use zy_isa::node::Node;
-use zy_isa::version::Version;
-use zy_links::kind::Kind;
+use zy_isa::{Node, Version};
+use zy_links::Kind;
 
 /// What a message does at a node.
 #[derive(Clone, Copy, Debug, PartialEq, Eq)]

@@ -12,7 +12,7 @@ ghost use Rattle.zy_table.specs.Pages as table;
 use crate::page_store::PageStore;
 use std::alloc::{AllocError, Global};
 use std::marker::Model;
-use zy_page::page::Page;
+use zy_page::Page;
 
 /// The pages that a node owns.
 #[derive(Drop)]

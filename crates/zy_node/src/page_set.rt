@@ -6,7 +6,7 @@ ghost use Rattle.zy_table.specs.Numbers as table;
 
 use std::alloc::{AllocError, Global};
 use std::marker::Model;
-use zy_isa::scenario::MAX_PAGES;
+use zy_isa::MAX_PAGES;
 
 /// Page numbers, with a mark for each that is among them.
 #[derive(Drop)]

@@ -10,9 +10,8 @@ ghost use Rattle.zy_node.specs.RangeSteps.{Leads};
 
 use crate::owned_pages::OwnedPages;
 use crate::wireframe::page_of;
-use zy_locks::lock::LockKind;
-use zy_locks::locks::Locks;
-use zy_wire::wire::Wire;
+use zy_locks::{LockKind, Locks};
+use zy_wire::Wire;
 
 /// A page and its low key.
 #[derive(Clone, Copy)]

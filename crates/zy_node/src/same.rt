@@ -2,7 +2,7 @@
 ghost use Rattle.std.specs.Prelude.{◌≡◌, true};
 ghost use Rattle.zy_node.specs.Slots.{laid_out};
 
-use zy_page::page::Page;
+use zy_page::Page;
 
 /// Whether two pages are the same. Where it answers yes they are.
 pub fn same_page(x: &Page, y: &Page) -> bool

@@ -5,8 +5,7 @@ ghost use Rattle.zy_wire.specs.Ranges.{in_range};
 ghost use Rattle.zy_node.specs.Wireframes.{lows_in, limit_or, CanGrow};
 
 use std::alloc::{AllocError, Global};
-use zy_wire::key_range::KeyRange;
-use zy_wire::wire::Wire;
+use zy_wire::{KeyRange, Wire};
 
 /// How many pages there are.
 pub fn page_count(wire: &Option<Wire>) -> usize

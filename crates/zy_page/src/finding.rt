@@ -3,7 +3,7 @@ ghost use Rattle.std.specs.Prelude.{◌≡◌};
 ghost use Rattle.zy_isa.specs.Rows.{Rising, get_row};
 ghost use Rattle.zy_page.specs.Place.{IsPlace, Finds};
 
-use zy_isa::row::Row;
+use zy_isa::Row;
 
 /// How many keys are below `key`.
 pub fn place(rows: &[Row], key: u16) -> usize

@@ -4,3 +4,6 @@
 pub mod finding;
 pub mod page;
 pub mod row_list;
+
+pub use crate::page::Page;
+pub use crate::row_list::RowList;

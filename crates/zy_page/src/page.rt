@@ -6,8 +6,7 @@ ghost use Rattle.zy_page.specs.RowLists.{AreKept};
 
 use crate::finding::{place, search, value_at};
 use std::marker::Model;
-use zy_isa::row::Row;
-use zy_isa::scenario::MAX_CAP;
+use zy_isa::{MAX_CAP, Row};
 
 /// The most rows of a page.
 const ROOM: usize = MAX_CAP as usize;

@@ -6,7 +6,7 @@ ghost use Rattle.zy_page.specs.RowLists.{HasPlace};
 use crate::finding::{search, value_at};
 use std::alloc::{AllocError, Global};
 use std::marker::Model;
-use zy_isa::row::Row;
+use zy_isa::Row;
 
 /// Rows in key order, each key once, as many as there is memory for: the private rows of a transaction.
 #[derive(Drop)]

@@ -1,6 +1,6 @@
 //! What comes of a search and of its parts.
 
-use zy_isa::choice::Choice;
+use zy_isa::Choice;
 
 /// What came of a search.
 #[derive(Drop)]

@@ -1,6 +1,6 @@
 //! How a path goes on from another.
 
-use zy_isa::choice::Choice;
+use zy_isa::Choice;
 
 /// A path that goes on from an earlier one by one choice more.
 #[derive(Clone, Copy, Debug, PartialEq, Eq)]

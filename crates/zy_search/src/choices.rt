@@ -5,8 +5,7 @@ ghost use Rattle.zy_search.specs.Choices.{each, of_node};
 ghost use Rattle.zy_search.specs.Choices as spec;
 
 use std::alloc::{AllocError, Global};
-use zy_isa::choice::Choice;
-use zy_isa::node::Node;
+use zy_isa::{Choice, Node};
 
 /// The choices that a search considers, in the order in which it makes them: those of this number of transactions, with kills or without.
 pub fn considered(alloc: Global, kills: bool, count: u8) -> Result<Vec<Choice>, AllocError>

@@ -1,15 +1,12 @@
 //! Digests of states.
 
-use zy_isa::node::Node;
-use zy_isa::row::Row;
-use zy_links::kind::Kind;
-use zy_links::message::Message;
-use zy_locks::lock::LockKind;
-use zy_machine::machine::Machine;
-use zy_modes::mode::NodeMode;
-use zy_table::place::Place;
-use zy_table::status::Status;
-use zy_txns::txn::Txn;
+use zy_isa::{Node, Row};
+use zy_links::{Kind, Message};
+use zy_locks::LockKind;
+use zy_machine::Machine;
+use zy_modes::NodeMode;
+use zy_table::{Place, Status};
+use zy_txns::Txn;
 
 /// A digest with a number more.
 fn mixed(digest: u64, number: u64) -> u64 {

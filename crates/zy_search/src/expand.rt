@@ -14,9 +14,8 @@ use crate::twin::Twin;
 use crate::visited::Visited;
 use crate::walk::go_to;
 use std::alloc::{AllocError, Global};
-use zy_isa::choice::Choice;
-use zy_isa::scenario::MAX_CHOICES;
-use zy_machine::machine::{Fault, Machine};
+use zy_isa::{Choice, MAX_CHOICES};
+use zy_machine::{Fault, Machine};
 
 /// How many states with one digest are kept; more of them cost time and memory, and nothing else.
 const MOST_ALIKE: u64 = 8;

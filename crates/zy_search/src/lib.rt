@@ -19,3 +19,7 @@ pub mod twin;
 pub mod visited;
 mod walk;
 pub mod watch;
+
+pub use crate::answer::{Answer, Report};
+pub use crate::sought::{Reason, Sought, Wanted};
+pub use crate::watch::Watch;

@@ -2,8 +2,8 @@
 
 use crate::sought::Sought;
 use std::alloc::Global;
-use zy_isa::choice::Choice;
-use zy_machine::machine::Machine;
+use zy_isa::Choice;
+use zy_machine::Machine;
 
 /// Where a search begins, what it looks for, the choices that it considers, and the most states that it may come to.
 #[derive(Drop)]

@@ -17,9 +17,8 @@ use crate::twin::Twin;
 use crate::visited::Visited;
 use crate::watch::Watch;
 use std::alloc::{AllocError, Global};
-use zy_isa::choice::Choice;
-use zy_isa::scenario::MAX_CHOICES;
-use zy_machine::machine::{Fault, Machine};
+use zy_isa::{Choice, MAX_CHOICES};
+use zy_machine::{Fault, Machine};
 
 /// What is known where the path at a place was not gone on from, and all before it were.
 fn spent_at(alloc: Global, visited: &Visited, at: u32) -> Result<Answer, Fault>

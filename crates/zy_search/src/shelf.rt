@@ -11,7 +11,7 @@ use crate::visited::Visited;
 use crate::walk::go_to;
 use std::alloc::Global;
 use std::mem;
-use zy_machine::machine::{Fault, Machine};
+use zy_machine::{Fault, Machine};
 
 /// How many pages the machines of a shelf may have together.
 const MOST_PAGES: usize = 8192;

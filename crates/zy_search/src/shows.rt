@@ -14,10 +14,9 @@ use crate::sought::{Reason, Sought, Wanted, is_for};
 use crate::stuck::is_stuck;
 use std::alloc::Global;
 use zy_audit::serial::same;
-use zy_isa::choice::Choice;
-use zy_machine::machine::{Fault, Machine};
-use zy_table::entry::CommitRec;
-use zy_table::status::Status;
+use zy_isa::Choice;
+use zy_machine::{Fault, Machine};
+use zy_table::{CommitRec, Status};
 
 /// Whether a transaction is aborted for a reason.
 fn is_aborted(reason: Reason, status: Status) -> bool

@@ -2,7 +2,7 @@
 ghost use Rattle.std.specs.Prelude.{◌≡◌};
 ghost use Rattle.zy_search.specs.Reasons as spec;
 
-use zy_table::outcome::Why;
+use zy_table::Why;
 
 /// Why a transaction is aborted, whatever the page.
 #[derive(Clone, Copy, Debug, PartialEq, Eq)]

@@ -2,7 +2,7 @@
 ghost use Rattle.std.specs.Prelude.{◌≡◌};
 ghost use Rattle.zy_search.specs.Stuck as spec;
 
-use zy_table::outcome::Outcome;
+use zy_table::Outcome;
 
 /// Whether nothing came of a step. The state is then as it was.
 pub(crate) fn is_still(outcome: Outcome) -> bool

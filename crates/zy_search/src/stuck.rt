@@ -13,10 +13,9 @@ ghost use Rattle.zy_search.specs.Visits.{IsTwin};
 
 use crate::still::is_still;
 use std::alloc::Global;
-use zy_isa::choice::Choice;
-use zy_isa::scenario::MAX_CHOICES;
-use zy_machine::machine::{Fault, Machine};
-use zy_table::status::Status;
+use zy_isa::{Choice, MAX_CHOICES};
+use zy_machine::{Fault, Machine};
+use zy_table::Status;
 
 /// Whether a transaction is active.
 fn is_running(status: Status) -> bool

@@ -4,7 +4,7 @@ ghost use Rattle.std.specs.Prelude.{◌≡◌, ◌<◌, ◌≤◌, ◌^◌, ◌+
 use crate::branch::Branch;
 use std::alloc::{AllocError, Global};
 use std::marker::Model;
-use zy_isa::choice::Choice;
+use zy_isa::Choice;
 
 /// Lists of choices: the empty one, and others, each with one choice more than an earlier one. Each takes 8 bytes.
 #[derive(Drop)]

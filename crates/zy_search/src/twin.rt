@@ -7,10 +7,9 @@ ghost use Rattle.zy_search.specs.Visits.{IsTwin, IsSecond};
 
 use crate::still::is_still;
 use std::alloc::Global;
-use zy_isa::choice::Choice;
-use zy_isa::scenario::MAX_CHOICES;
-use zy_machine::machine::{Fault, Machine};
-use zy_table::outcome::Outcome;
+use zy_isa::{Choice, MAX_CHOICES};
+use zy_machine::{Fault, Machine};
+use zy_table::Outcome;
 
 /// A second machine, and whether it is in the state of the first one.
 #[derive(Drop)]

@@ -6,7 +6,7 @@ use crate::tree::Tree;
 use std::alloc::{AllocError, Global};
 use std::collections::HashMap;
 use std::marker::Model;
-use zy_isa::choice::Choice;
+use zy_isa::Choice;
 
 /// A path to each state that was come to, and where to look for a state that has a digest.
 #[derive(Drop)]

@@ -7,7 +7,7 @@ ghost use Rattle.zy_search.specs.Visits.{path_at, length_at, IsHere};
 
 use crate::plan::Plan;
 use crate::visited::Visited;
-use zy_machine::machine::{Fault, Machine};
+use zy_machine::{Fault, Machine};
 
 /// Makes the choices of a path, from its root on.
 fn walk(visited: &Visited, at: u32, machine: &mut Machine) -> Result<(), Fault>

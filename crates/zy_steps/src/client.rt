@@ -11,16 +11,14 @@ ghost use Rattle.zy_table.specs.Answers.{move_of, Makes};
 ghost use Rattle.zy_steps.specs.Sides.{beside};
 
 use std::alloc::{AllocError, Global};
-use zy_links::kind::Kind;
-use zy_links::message::Message;
-use zy_modes::mode::NodeMode;
+use zy_links::{Kind, Message};
+use zy_modes::NodeMode;
 use zy_modes::table::home_of;
-use zy_node::node_store::NodeStore;
+use zy_node::NodeStore;
 use zy_node::wireframe::copy;
 use crate::run::abort_step;
-use zy_table::answer::Answer;
-use zy_table::outcome::{Outcome, Why};
-use zy_txns::book::Book;
+use zy_table::{Answer, Outcome, Why};
+use zy_txns::Book;
 
 /// `C start`, at the node that starts, beside the other.
 #[tactic(auto, unfolding(zy_table::specs::Client::start_step))]

@@ -6,3 +6,5 @@ pub mod push;
 pub mod run;
 mod sum;
 pub mod take;
+
+

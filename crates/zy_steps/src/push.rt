@@ -10,15 +10,13 @@ ghost use Rattle.zy_table.specs.Answers.{Makes};
 
 use crate::take::leave;
 use std::alloc::AllocError;
-use zy_isa::node::Node;
-use zy_links::kind::Kind;
-use zy_links::message::Message;
-use zy_modes::mode::NodeMode;
-use zy_modes::table::{FinishLine, on_finish};
-use zy_node::node_store::NodeStore;
-use zy_table::answer::Answer;
-use zy_table::outcome::Outcome;
-use zy_txns::book::Book;
+use zy_isa::Node;
+use zy_links::{Kind, Message};
+use zy_modes::{FinishLine, NodeMode};
+use zy_modes::table::on_finish;
+use zy_node::NodeStore;
+use zy_table::{Answer, Outcome};
+use zy_txns::Book;
 
 /// `n push`.
 #[tactic(auto, unfolding(zy_table::specs::Push::push_step, zy_table::specs::Push::push_if, zy_table::specs::Change::leaves))]

@@ -21,19 +21,15 @@ ghost use Rattle.zy_steps.specs.Ready.{IsFull, IsReady, MaySplit, Rooms};
 
 use crate::sum::sum;
 use std::alloc::{AllocError, Global};
-use zy_isa::instr::{Instr, Reg};
-use zy_isa::node::Node;
-use zy_isa::scenario::Scenario;
-use zy_links::kind::Kind;
-use zy_locks::lock::LockKind;
-use zy_node::node_store::{NodeStore, fewer_new_rows, gone_page};
+use zy_isa::{Instr, Node, Reg, Scenario};
+use zy_links::Kind;
+use zy_locks::LockKind;
+use zy_node::NodeStore;
+use zy_node::node_store::{fewer_new_rows, gone_page};
 use zy_node::wireframe::{page_count, page_of};
-use zy_table::access::Access;
-use zy_table::answer::Answer;
-use zy_table::effect::{Effect, effect_of};
-use zy_table::outcome::{Outcome, Why};
-use zy_txns::book::Book;
-use zy_txns::txn::Txn;
+use zy_table::{Access, Answer, Effect, Outcome, Why};
+use zy_table::effect::effect_of;
+use zy_txns::{Book, Txn};
 
 /// The lines of a node's run.
 #[inline(always)]

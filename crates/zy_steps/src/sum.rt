@@ -7,12 +7,12 @@ ghost use Rattle.zy_table.specs.Run.{value_for};
 ghost use Rattle.zy_node.specs.Nodes.{node_shown};
 ghost use Rattle.zy_table.specs.Sums.{value_beside};
 
-use zy_isa::row::Row;
-use zy_node::node_store::NodeStore;
+use zy_isa::Row;
+use zy_node::NodeStore;
 use zy_node::range::next_page;
 use zy_node::wireframe::page_of;
 use zy_table::sums::sum_of_rows;
-use zy_txns::txn::Txn;
+use zy_txns::Txn;
 
 /// What a transaction reads at the keys from one to another, together, modulo 2^32: its private rows, and page by page the
 /// committed ones at keys of which it has none.

@@ -16,17 +16,13 @@ ghost use Rattle.zy_steps.specs.Arrivals.{IsNamed, IsNew, MayTake};
 ghost use Rattle.zy_steps.specs.Fronts.{front_of, rest, IsFront, Takes};
 
 use std::alloc::AllocError;
-use zy_isa::rule::Rule;
-use zy_isa::scenario::Scenario;
-use zy_links::kind::Kind;
-use zy_links::message::Message;
-use zy_modes::mode::NodeMode;
-use zy_modes::table::{MessageLine, on_message};
-use zy_node::mailbox::Mailbox;
-use zy_node::node_store::NodeStore;
+use zy_isa::{Rule, Scenario};
+use zy_links::{Kind, Message};
+use zy_modes::{MessageLine, NodeMode};
+use zy_modes::table::on_message;
+use zy_node::{Mailbox, NodeStore};
 use zy_node::wireframe::page_count;
-use zy_table::answer::Answer;
-use zy_table::outcome::Outcome;
+use zy_table::{Answer, Outcome};
 
 /// Whether a locked page stays.
 fn is_held(rule: Rule) -> bool

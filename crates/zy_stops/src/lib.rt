@@ -5,3 +5,6 @@ pub mod replay;
 pub mod scan;
 pub mod stop;
 pub mod stops;
+
+pub use crate::stop::Stop;
+pub use crate::stops::Stops;

@@ -4,9 +4,9 @@ ghost use Rattle.zy_stops.specs.Scans.{Follows};
 ghost use Rattle.zy_stops.specs.Stops.{outcome_at};
 
 use std::alloc::Global;
-use zy_isa::scenario::Scenario;
-use zy_machine::machine::{Fault, Machine};
-use zy_table::outcome::Outcome;
+use zy_isa::Scenario;
+use zy_machine::{Fault, Machine};
+use zy_table::Outcome;
 
 /// Makes the next choice of the machine's scenario.
 pub(crate) fn advance(machine: &mut Machine) -> Result<Outcome, Fault>

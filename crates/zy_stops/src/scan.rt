@@ -6,8 +6,8 @@ ghost use Rattle.zy_stops.specs.Stops as spec;
 use crate::replay::advance;
 use crate::stop::{Reading, Stop, slot_reading};
 use std::alloc::Global;
-use zy_machine::machine::{Fault, Machine};
-use zy_table::outcome::Outcome;
+use zy_machine::{Fault, Machine};
+use zy_table::Outcome;
 
 /// A slot, with what its stop read last.
 #[derive(Clone, Copy, Debug)]

@@ -3,11 +3,10 @@ ghost use Rattle.std.specs.Prelude.{◌≡◌, true};
 ghost use Rattle.zy_stops.specs.Stops.{fires_from};
 ghost use Rattle.zy_stops.specs.Stops as spec;
 
-use zy_isa::node::Node;
-use zy_machine::machine::Machine;
-use zy_modes::mode::NodeMode;
-use zy_table::outcome::Outcome;
-use zy_table::place::Place;
+use zy_isa::Node;
+use zy_machine::Machine;
+use zy_modes::NodeMode;
+use zy_table::{Outcome, Place};
 
 /// A stop: a break or a watch.
 #[derive(Clone, Copy, Debug, PartialEq, Eq)]

@@ -3,15 +3,14 @@ ghost use Rattle.std.specs.Prelude.{◌≡◌, IfOk, Ok};
 
 use crate::digest::Digest;
 use std::alloc::AllocError;
-use zy_asm::faults::{AsmKind, Refusal};
-use zy_check::faults::CheckFault;
-use zy_debug::command::DebugFault;
-use zy_engine::faults::BenchFault;
-use zy_image::faults::LoadFault;
-use zy_io::reading::ReadFault;
-use zy_io::writing::TextFault;
-use zy_isa::program::ProgFault;
-use zy_wire::wire::WireFault;
+use zy_asm::{AsmKind, Refusal};
+use zy_check::CheckFault;
+use zy_debug::DebugFault;
+use zy_engine::BenchFault;
+use zy_image::LoadFault;
+use zy_io::{ReadFault, TextFault};
+use zy_isa::ProgFault;
+use zy_wire::WireFault;
 
 /// Why a call has no answer.
 #[derive(Clone, Copy, Debug, PartialEq, Eq)]

@@ -6,16 +6,13 @@ use crate::growths::{book, link, locks, row_list, txn, wire};
 use crate::machines::machine;
 use crate::scenarios::scenario;
 use std::alloc::Global;
-use zy_isa::program::Program;
-use zy_isa::scenario::Scenario;
-use zy_links::link::Link;
-use zy_links::message::Message;
-use zy_locks::locks::Locks;
-use zy_machine::machine::Machine;
-use zy_page::row_list::RowList;
-use zy_txns::book::Book;
-use zy_txns::txn::Txn;
-use zy_wire::wire::Wire;
+use zy_isa::{Program, Scenario};
+use zy_links::{Link, Message};
+use zy_locks::Locks;
+use zy_machine::Machine;
+use zy_page::RowList;
+use zy_txns::{Book, Txn};
+use zy_wire::Wire;
 
 /// What can be copied.
 trait Copied: Digested + Drop {

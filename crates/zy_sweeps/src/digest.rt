@@ -2,21 +2,15 @@
 
 use std::fmt;
 use std::fmt::Write;
-use zy_audit::table::Table;
-use zy_isa::instr::Instr;
-use zy_isa::node::{Actor, Node};
-use zy_isa::program::Program;
-use zy_isa::scenario::Scenario;
-use zy_links::link::Link;
-use zy_links::message::Message;
-use zy_locks::locks::Locks;
-use zy_machine::machine::Machine;
-use zy_page::page::Page;
-use zy_page::row_list::RowList;
-use zy_threads::board::Board;
-use zy_txns::book::Book;
-use zy_txns::txn::Txn;
-use zy_wire::wire::Wire;
+use zy_audit::Table;
+use zy_isa::{Actor, Instr, Node, Program, Scenario};
+use zy_links::{Link, Message};
+use zy_locks::Locks;
+use zy_machine::Machine;
+use zy_page::{Page, RowList};
+use zy_threads::Board;
+use zy_txns::{Book, Txn};
+use zy_wire::Wire;
 
 /// What was put in, one thing behind the other, as a number.
 #[derive(Drop)]

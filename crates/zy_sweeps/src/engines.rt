@@ -9,10 +9,9 @@ use zy_audit::run::write_run;
 use zy_engine::checking::check_bytes;
 use zy_engine::debugging::debug_bytes;
 use zy_engine::engine::{asm_bytes, dis_bytes, run_bytes, trace_bytes};
-use zy_engine::faults::BenchFault;
-use zy_engine::format::Format;
+use zy_engine::{BenchFault, Format};
 use zy_image::save::save;
-use zy_io::memory::{SliceSource, VecSink};
+use zy_io::{SliceSource, VecSink};
 
 /// An engine, and what it reads.
 #[derive(Clone, Copy)]

@@ -5,10 +5,9 @@ use std::alloc::Global;
 use std::sync::OnceLock;
 use std::sync::atomic::{AtomicU64, Ordering};
 use std::thread::yield_now;
-use zy_isa::choice::Choice;
-use zy_isa::node::Actor;
-use zy_table::entry::Entry;
-use zy_threads::gate::Gate;
+use zy_isa::{Actor, Choice};
+use zy_table::Entry;
+use zy_threads::Gate;
 
 /// Each actor.
 pub const ACTORS: [Actor; 3] = [Actor::C, Actor::A, Actor::B];

@@ -5,17 +5,12 @@ ghost use Rattle.zy_txns.specs.Books.{Countable};
 use crate::calls::{Calls, Found, Refused, prepared, sweep, tested};
 use crate::digest::{Digest, Digested, digest_of};
 use std::alloc::Global;
-use zy_isa::node::Node;
-use zy_links::link::Link;
-use zy_links::message::Message;
-use zy_locks::attempt::Attempt;
-use zy_locks::lock::{Lock, LockKind};
-use zy_locks::locks::Locks;
-use zy_page::page::Page;
-use zy_page::row_list::RowList;
-use zy_txns::book::Book;
-use zy_txns::txn::Txn;
-use zy_wire::wire::{Wire, WireFault};
+use zy_isa::Node;
+use zy_links::{Link, Message};
+use zy_locks::{Attempt, Lock, LockKind, Locks};
+use zy_page::{Page, RowList};
+use zy_txns::{Book, Txn};
+use zy_wire::{Wire, WireFault};
 
 /// How often each grows. A wireframe of 20 pages has nodes that were cut.
 const COUNT: usize = 20;

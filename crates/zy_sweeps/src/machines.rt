@@ -4,10 +4,9 @@ use crate::calls::{Calls, Found, Refused, prepared, sweep, tested};
 use crate::digest::{Digest, digest_of};
 use crate::scenarios::scenario;
 use std::alloc::Global;
-use zy_isa::choice::Choice;
-use zy_isa::scenario::Scenario;
-use zy_machine::machine::Machine;
-use zy_table::entry::Entry;
+use zy_isa::{Choice, Scenario};
+use zy_machine::Machine;
+use zy_table::Entry;
 
 /// The choices of a text.
 pub fn choices(alloc: Global, text: &[u8]) -> Result<Vec<Choice>, Refused> {

@@ -21,7 +21,7 @@ use std::process::ExitCode;
 use std::sync::Wait;
 use std::thread::Threads;
 use zy_io::reading::read_all;
-use zy_io::stream::CountingReader;
+use zy_io::CountingReader;
 
 /// The sweep of a name over an input.
 fn swept<R: Threads + Wait + Sync>(

@@ -6,11 +6,9 @@ use std::alloc::Global;
 use zy_asm::assembling::assemble_bytes;
 use zy_image::load::load;
 use zy_image::save::save;
-use zy_io::memory::SliceSource;
+use zy_io::SliceSource;
 use zy_io::reading::read_all;
-use zy_isa::instr::Instr;
-use zy_isa::program::Program;
-use zy_isa::scenario::Scenario;
+use zy_isa::{Instr, Program, Scenario};
 
 /// The scenario of a text.
 pub fn scenario(alloc: Global, text: &[u8]) -> Result<Scenario, Refused> {

@@ -6,14 +6,12 @@ use crate::machines::choices;
 use crate::scenarios::scenario;
 use std::alloc::Global;
 use zy_console::command::command_of;
-use zy_debug::command::Command;
-use zy_debug::debugger::Debugger;
-use zy_isa::choice::Choice;
-use zy_isa::node::Actor;
-use zy_isa::scenario::Scenario;
+use zy_debug::{Command, Debugger};
+use zy_isa::{Actor, Choice, Scenario};
 use zy_text::cut::cut_len;
-use zy_text::line::{Words, take_line};
-use zy_threads::board::Board;
+use zy_text::Words;
+use zy_text::line::take_line;
+use zy_threads::Board;
 
 /// A debugger keeps copies of the machine at multiples of this.
 const EVERY: usize = 2;

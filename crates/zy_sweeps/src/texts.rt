@@ -13,10 +13,9 @@ use zy_audit::run::write_run;
 use zy_audit::serial::{same, serial};
 use zy_check::check::check;
 use zy_disasm::text::write_text;
-use zy_io::buffer::LineBuffer;
-use zy_io::memory::{SliceSource, VecSink};
-use zy_isa::node::Node;
-use zy_machine::machine::Machine;
+use zy_io::{LineBuffer, SliceSource, VecSink};
+use zy_isa::Node;
+use zy_machine::Machine;
 
 /// More bytes than a call writes.
 const ROOM: usize = 65536;

@@ -12,17 +12,15 @@ use std::sync::Wait;
 use std::thread::Threads;
 use zy_audit::listing::write_listing;
 use zy_check::check::check;
-use zy_check::verdict::Verdict;
+use zy_check::Verdict;
 use zy_engine::engine::run_bytes;
-use zy_engine::faults::BenchFault;
-use zy_engine::format::Format;
+use zy_engine::{BenchFault, Format};
 use zy_engine::threading::threads_bytes;
-use zy_io::memory::{SliceSource, VecSink};
-use zy_isa::choice::Choice;
-use zy_isa::scenario::Scenario;
-use zy_machine::machine::Machine;
+use zy_io::{SliceSource, VecSink};
+use zy_isa::{Choice, Scenario};
+use zy_machine::Machine;
 use zy_text::cut::cut_len;
-use zy_threads::gate::{FreeGate, Gate};
+use zy_threads::{FreeGate, Gate};
 use zy_threads::run::run_threads;
 
 /// What three threads are let do.

@@ -4,7 +4,7 @@ ghost use Rattle.zy_table.specs.Change as table_change;
 ghost use Rattle.zy_table.specs.Effects as table_effects;
 
 use crate::access::Access;
-use zy_isa::instr::{Instr, Reg};
+use zy_isa::{Instr, Reg};
 
 /// What an instruction does, once its registers are read.
 #[derive(Clone, Copy, Debug, PartialEq, Eq)]

@@ -4,7 +4,7 @@ ghost use Rattle.zy_isa.specs.Rows.{Rising, get_row};
 ghost use Rattle.zy_table.specs.Ranges.{range, total};
 ghost use Rattle.zy_table.specs.Sums.{value_beside};
 
-use zy_isa::row::Row;
+use zy_isa::Row;
 use zy_page::finding::value_at;
 
 /// What some rows have at the keys from one to another, together, modulo 2^32, but for keys that others have.

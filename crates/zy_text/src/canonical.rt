@@ -7,21 +7,13 @@ ghost use Rattle.zy_text.specs.Words.{spaced};
 ghost use Rattle.zy_text.specs.Canon.{node_text, rule_text, reg_text, row_text, instr_text, choice_text};
 
 use std::alloc::AllocError;
-use zy_io::buffer::LineBuffer;
-use zy_io::line::{Decimal, Joined, Line};
-use zy_io::section::{Lines, Section, write_lines};
-use zy_io::stream::Sink;
-use zy_io::writing::TextFault;
-use zy_isa::choice::Choice;
-use zy_isa::instr::{Instr, Reg};
-use zy_isa::node::Node;
+use zy_io::{Decimal, Joined, Line, LineBuffer, Lines, Section, Sink, TextFault};
+use zy_io::section::write_lines;
+use zy_isa::{Choice, Instr, Node, Reg};
 use zy_isa::operation::{
     JumpOperation, LoneOperation, NumberOperation, Operation, PairOperation, Parts,
 };
-use zy_isa::row::Row;
-use zy_isa::rule::Rule;
-use zy_isa::version::Version;
-use zy_isa::word::Word;
+use zy_isa::{Row, Rule, Version, Word};
 
 /// A value with a canonical text, which is a line or a part of one.
 pub trait CanonicalText {

@@ -6,3 +6,6 @@ pub mod cut;
 pub mod line;
 pub mod names;
 pub mod numbers;
+
+pub use crate::canonical::{Canonical, CanonicalText, Each};
+pub use crate::line::Words;

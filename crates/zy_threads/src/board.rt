@@ -7,11 +7,9 @@ ghost use Rattle.zy_isa.specs.declared.node.Actor.TheVariants.{C as is_c, A as i
 
 use std::alloc::Global;
 use std::marker::Model;
-use zy_isa::choice::Choice;
-use zy_isa::node::Actor;
-use zy_isa::scenario::Scenario;
-use zy_machine::machine::{Fault, Machine};
-use zy_table::entry::Entry;
+use zy_isa::{Actor, Choice, Scenario};
+use zy_machine::{Fault, Machine};
+use zy_table::Entry;
 
 /// One actor's choices in order, and how many were taken.
 #[derive(Drop)]

@@ -8,9 +8,9 @@ use crate::gate::Allowance;
 use std::alloc::AllocError;
 use std::marker::{Brand, PhantomData};
 use std::sync::ledger::{Book, Ledger, Share};
-use zy_isa::node::Actor;
-use zy_machine::machine::Fault;
-use zy_table::entry::Entry;
+use zy_isa::Actor;
+use zy_machine::Fault;
+use zy_table::Entry;
 
 /// The scenario that the board runs.
 pub trait Of {

@@ -1,6 +1,6 @@
 //! What is called before each step of a worker.
-use zy_isa::node::Actor;
-use zy_table::entry::Entry;
+use zy_isa::Actor;
+use zy_table::Entry;
 
 /// What a worker calls before each step. Whether it returns is its own affair: the others do not wait for it.
 pub trait Gate {

@@ -7,3 +7,6 @@ pub mod gate;
 pub mod laws;
 pub mod run;
 mod work;
+
+pub use crate::board::Board;
+pub use crate::gate::{Allowance, FreeGate, Gate, Unlimited};

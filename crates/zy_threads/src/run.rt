@@ -16,10 +16,9 @@ use std::sync::ledger::{Blank, Book};
 use std::sync::{Mutex, Wait};
 use std::thread;
 use std::thread::Threads;
-use zy_isa::node::Actor;
-use zy_isa::scenario::Scenario;
+use zy_isa::{Actor, Scenario};
 use zy_laws::laws::{one_owner, serializable};
-use zy_machine::machine::{Fault, Machine};
+use zy_machine::{Fault, Machine};
 
 /// The desk of a board on which nobody has taken a turn.
 fn open_desk<S: Of, C: Side, A: Side, B: Side>(

@@ -5,12 +5,11 @@ ghost use Rattle.zy_table.specs.State.{facing};
 ghost use Rattle.zy_audit.specs.Locked.{page_reply};
 ghost use Rattle.zy_trace.specs.Kept.{AreRests, none_on};
 
-use zy_isa::node::Node;
-use zy_isa::row::Row;
-use zy_locks::lock::Lock;
-use zy_machine::machine::Machine;
-use zy_page::page::Page;
-use zy_table::place::Place;
+use zy_isa::{Node, Row};
+use zy_locks::Lock;
+use zy_machine::Machine;
+use zy_page::Page;
+use zy_table::Place;
 
 /// Locks of a node in two states, without the first ones where they are the same.
 #[derive(Clone, Copy)]

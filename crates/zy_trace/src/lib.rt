@@ -7,3 +7,5 @@ mod since;
 mod step;
 pub mod subject;
 pub mod trace;
+
+

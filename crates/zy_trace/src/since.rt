@@ -13,12 +13,11 @@ use crate::subject::Subject;
 use std::alloc::{AllocError, Global};
 use zy_audit::lines::link::link_line;
 use zy_audit::lines::locked::page_reply;
-use zy_audit::lines::mode::ModeLine;
+use zy_audit::ModeLine;
 use zy_audit::lines::txn::txn_line;
-use zy_io::buffer::LineBuffer;
-use zy_io::line::Line;
-use zy_isa::node::Node;
-use zy_machine::machine::Machine;
+use zy_io::{Line, LineBuffer};
+use zy_isa::Node;
+use zy_machine::Machine;
 
 /// The texts of a line in two states.
 #[derive(Drop)]

@@ -11,13 +11,12 @@ ghost use Rattle.zy_trace.specs.Trace.{Beside, step_lines};
 
 use crate::since::{Since, Texts, append_since};
 use std::alloc::AllocError;
-use zy_audit::lines::step::StepLine;
-use zy_io::buffer::LineBuffer;
-use zy_io::line::Line;
-use zy_isa::choice::Choice;
+use zy_audit::StepLine;
+use zy_io::{Line, LineBuffer};
+use zy_isa::Choice;
 use zy_laws::laws::safe_counts;
-use zy_machine::machine::Machine;
-use zy_table::entry::Entry;
+use zy_machine::Machine;
+use zy_table::Entry;
 
 /// Appends the line of a step, with its end.
 fn append_step(number: usize, entry: &Entry, line: &mut LineBuffer) -> Result<(), AllocError>

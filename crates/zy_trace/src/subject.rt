@@ -1,5 +1,5 @@
 //! What has a line of its own in a state.
-use zy_isa::node::Node;
+use zy_isa::Node;
 
 /// What has a line of its own in a state.
 #[derive(Clone, Copy, Debug, PartialEq, Eq)]

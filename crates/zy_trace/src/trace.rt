@@ -11,17 +11,14 @@ ghost use Rattle.zy_trace.specs.Trace as spec;
 use crate::since::{Since, Texts, append_since};
 use crate::step::trace_step;
 use std::alloc::Global;
-use zy_audit::lines::final_state::FinalState;
-use zy_audit::lines::serial::SerialLine;
+use zy_audit::{FinalState, SerialLine};
 use zy_audit::serial::same;
-use zy_disasm::head::Head;
-use zy_io::buffer::LineBuffer;
-use zy_io::section::{Both, One, Section};
-use zy_io::stream::Sink;
-use zy_io::writing::{TextFault, write_all};
-use zy_isa::scenario::Scenario;
-use zy_machine::machine::Machine;
-use zy_text::canonical::Each;
+use zy_disasm::Head;
+use zy_io::{Both, LineBuffer, One, Section, Sink, TextFault};
+use zy_io::writing::write_all;
+use zy_isa::Scenario;
+use zy_machine::Machine;
+use zy_text::Each;
 
 /// The lines of a machine's state.
 #[derive(Clone, Copy)]

@@ -7,3 +7,6 @@ mod node;
 mod node_id;
 mod tree;
 pub mod wire;
+
+pub use crate::key_range::KeyRange;
+pub use crate::wire::{Wire, WireFault};

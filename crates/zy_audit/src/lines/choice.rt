@@ -3,11 +3,9 @@ ghost use Rattle.std.specs.Prelude.{◌++◌, codes};
 ghost use Rattle.zy_text.specs.Canon.{choice_text};
 
 use std::alloc::AllocError;
-use zy_io::buffer::LineBuffer;
-use zy_io::line::{Decimal, Joined, Line};
-use zy_isa::choice::Choice;
-use zy_isa::node::Node;
-use zy_text::canonical::Canonical;
+use zy_io::{Decimal, Joined, Line, LineBuffer};
+use zy_isa::{Choice, Node};
+use zy_text::Canonical;
 
 /// A choice.
 #[derive(Clone, Copy)]

@@ -5,12 +5,9 @@ use crate::lines::link::LinkLine;
 use crate::lines::mode::ModeLine;
 use crate::lines::page::Pages;
 use crate::lines::txn::Txns;
-use zy_io::buffer::LineBuffer;
-use zy_io::section::{Both, One, Section};
-use zy_io::stream::Sink;
-use zy_io::writing::TextFault;
-use zy_isa::node::Node;
-use zy_machine::machine::Machine;
+use zy_io::{Both, LineBuffer, One, Section, Sink, TextFault};
+use zy_isa::Node;
+use zy_machine::Machine;
 
 /// The modes, the pages, the links and the transactions of a machine.
 #[derive(Clone, Copy)]

@@ -6,12 +6,10 @@ ghost use Rattle.zy_audit.specs.Texts.{link_text, message_text, messages_text};
 
 use crate::lines::words::LinkText;
 use std::alloc::AllocError;
-use zy_io::buffer::LineBuffer;
-use zy_io::line::{Decimal, Joined, Line};
-use zy_isa::node::Node;
-use zy_links::link::Link;
-use zy_links::message::Message;
-use zy_machine::machine::Machine;
+use zy_io::{Decimal, Joined, Line, LineBuffer};
+use zy_isa::Node;
+use zy_links::{Link, Message};
+use zy_machine::Machine;
 
 /// A message: its kind, and the number of the page that it asks for or brings.
 #[derive(Clone, Copy)]

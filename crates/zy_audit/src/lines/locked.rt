@@ -5,12 +5,11 @@ ghost use Rattle.zy_audit.specs.Locked as spec;
 
 use crate::lines::page::page_line;
 use std::alloc::AllocError;
-use zy_io::buffer::LineBuffer;
-use zy_io::line::{Decimal, Joined, Line};
-use zy_isa::node::Node;
-use zy_locks::lock::{Lock, LockKind};
-use zy_machine::machine::Machine;
-use zy_text::canonical::Canonical;
+use zy_io::{Decimal, Joined, Line, LineBuffer};
+use zy_isa::Node;
+use zy_locks::{Lock, LockKind};
+use zy_machine::Machine;
+use zy_text::Canonical;
 
 /// How a page is locked: `s` or `x`.
 #[derive(Clone, Copy)]

@@ -3,11 +3,10 @@ ghost use Rattle.zy_audit.specs.Texts.{mode_text};
 
 use crate::lines::words::ModeText;
 use std::alloc::AllocError;
-use zy_io::buffer::LineBuffer;
-use zy_io::line::{Joined, Line};
-use zy_isa::node::Node;
-use zy_modes::mode::NodeMode;
-use zy_text::canonical::Canonical;
+use zy_io::{Joined, Line, LineBuffer};
+use zy_isa::Node;
+use zy_modes::NodeMode;
+use zy_text::Canonical;
 
 /// A node and its mode.
 #[derive(Clone, Copy)]

@@ -9,14 +9,11 @@ ghost use Rattle.zy_audit.specs.Listing.{page_texts};
 use crate::lines::rows::Rows;
 use crate::lines::words::PlaceText;
 use std::alloc::AllocError;
-use zy_io::buffer::LineBuffer;
-use zy_io::line::{Decimal, Joined, Line};
-use zy_io::section::{Lines, Section, write_lines};
-use zy_io::stream::Sink;
-use zy_io::writing::TextFault;
-use zy_machine::machine::Machine;
-use zy_page::page::Page;
-use zy_table::place::Place;
+use zy_io::{Decimal, Joined, Line, LineBuffer, Lines, Section, Sink, TextFault};
+use zy_io::section::write_lines;
+use zy_machine::Machine;
+use zy_page::Page;
+use zy_table::Place;
 
 /// A page and where it is.
 #[derive(Clone, Copy)]

@@ -2,9 +2,8 @@
 ghost use Rattle.zy_audit.specs.Texts.{cell_text, reg_text, regs_text, rows_text};
 
 use std::alloc::AllocError;
-use zy_io::buffer::LineBuffer;
-use zy_io::line::{Decimal, Joined, Line};
-use zy_isa::row::Row;
+use zy_io::{Decimal, Joined, Line, LineBuffer};
+use zy_isa::Row;
 
 /// One row.
 #[derive(Clone, Copy)]

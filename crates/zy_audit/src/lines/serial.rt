@@ -2,8 +2,7 @@
 ghost use Rattle.zy_audit.specs.Texts.{serial_text};
 
 use std::alloc::AllocError;
-use zy_io::buffer::LineBuffer;
-use zy_io::line::Line;
+use zy_io::{Line, LineBuffer};
 
 /// Whether the serial run gives the same.
 #[derive(Clone, Copy)]

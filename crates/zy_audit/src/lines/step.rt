@@ -7,15 +7,11 @@ ghost use Rattle.zy_audit.specs.Listing.{step_texts};
 use crate::lines::choice::SpacedChoice;
 use crate::lines::words::{KindText, WhyText};
 use std::alloc::AllocError;
-use zy_io::buffer::LineBuffer;
-use zy_io::line::{Decimal, Joined, Line};
-use zy_io::section::{Lines, Section, write_lines};
-use zy_io::stream::Sink;
-use zy_io::writing::TextFault;
-use zy_links::kind::Kind;
-use zy_table::entry::Entry;
-use zy_table::outcome::Outcome;
-use zy_text::canonical::Canonical;
+use zy_io::{Decimal, Joined, Line, LineBuffer, Lines, Section, Sink, TextFault};
+use zy_io::section::write_lines;
+use zy_links::Kind;
+use zy_table::{Entry, Outcome};
+use zy_text::Canonical;
 
 /// Which page was cut, its new upper part, and where.
 #[derive(Clone, Copy)]

@@ -5,12 +5,9 @@ ghost use Rattle.zy_machine.specs.Histories.{choices_of};
 
 use crate::lines::choice::ChoiceText;
 use std::alloc::AllocError;
-use zy_io::buffer::LineBuffer;
-use zy_io::line::Line;
-use zy_io::section::{Lines, Section, write_lines};
-use zy_io::stream::Sink;
-use zy_io::writing::TextFault;
-use zy_table::entry::Entry;
+use zy_io::{Line, LineBuffer, Lines, Section, Sink, TextFault};
+use zy_io::section::write_lines;
+use zy_table::Entry;
 
 /// The choices of these steps, in order.
 #[derive(Clone, Copy)]

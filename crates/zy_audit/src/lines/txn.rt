@@ -8,17 +8,12 @@ ghost use Rattle.zy_audit.specs.Listing.{txn_texts};
 use crate::lines::rows::{Regs, Rows};
 use crate::lines::words::WhyText;
 use std::alloc::AllocError;
-use zy_io::buffer::LineBuffer;
-use zy_io::line::{Decimal, Joined, Line};
-use zy_io::section::{Lines, Section, write_lines};
-use zy_io::stream::Sink;
-use zy_io::writing::TextFault;
-use zy_machine::machine::Machine;
-use zy_table::entry::CommitRec;
-use zy_table::outcome::Why;
-use zy_table::status::Status;
-use zy_text::canonical::Canonical;
-use zy_txns::txn::Txn;
+use zy_io::{Decimal, Joined, Line, LineBuffer, Lines, Section, Sink, TextFault};
+use zy_io::section::write_lines;
+use zy_machine::Machine;
+use zy_table::{CommitRec, Status, Why};
+use zy_text::Canonical;
+use zy_txns::Txn;
 
 /// The index of a transaction's commit.
 fn commit_index(t: u8, commits: &[CommitRec]) -> Option<usize>

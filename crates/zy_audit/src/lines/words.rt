@@ -2,14 +2,12 @@
 ghost use Rattle.zy_audit.specs.Texts.{kind_text, link_word, mode_word, place_text, why_text};
 
 use std::alloc::AllocError;
-use zy_io::buffer::LineBuffer;
-use zy_io::line::{Decimal, Joined, Line};
-use zy_isa::node::Node;
-use zy_links::kind::Kind;
-use zy_modes::mode::NodeMode;
-use zy_table::outcome::Why;
-use zy_table::place::Place;
-use zy_text::canonical::Canonical;
+use zy_io::{Decimal, Joined, Line, LineBuffer};
+use zy_isa::Node;
+use zy_links::Kind;
+use zy_modes::NodeMode;
+use zy_table::{Place, Why};
+use zy_text::Canonical;
 
 /// Why a transaction was aborted.
 #[derive(Clone, Copy)]

@@ -3,10 +3,9 @@
 use std::alloc::Global;
 use std::test::Fail;
 use zy_image::choices::with_choices;
-use zy_image::faults::LoadFault;
+use zy_image::LoadFault;
 use zy_image::load::load;
-use zy_isa::choice::Choice;
-use zy_isa::node::Node;
+use zy_isa::{Choice, Node};
 
 /// Cap 4, one page, no rows, one program of three instructions, and three choices.
 const IMAGE: [u8; 47] =

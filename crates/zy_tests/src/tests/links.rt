@@ -1,10 +1,8 @@
 //! Each call once with ample memory, on three messages.
 use std::alloc::{AllocError, Global};
-use zy_links::kind::Kind;
-use zy_links::link::Link;
-use zy_links::message::Message;
-use zy_page::page::Page;
-use zy_wire::wire::Wire;
+use zy_links::{Kind, Link, Message};
+use zy_page::Page;
+use zy_wire::Wire;
 
 fn sends(link: &mut Link, message: Message) -> Result<(), AllocError> {
     link.reserve()?;

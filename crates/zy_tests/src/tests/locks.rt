@@ -1,9 +1,7 @@
 //! Each call once with ample memory, on worked locks.
 use std::alloc::{AllocError, Global};
 use std::process::Abort;
-use zy_locks::attempt::Attempt;
-use zy_locks::lock::{Lock, LockKind};
-use zy_locks::locks::Locks;
+use zy_locks::{Attempt, Lock, LockKind, Locks};
 
 /// Two read page 7; one writes page 9.
 const LOCKS: [Lock; 3] = [

@@ -1,8 +1,7 @@
 //! Each call once with ample memory, on worked rows.
 use std::alloc::{AllocError, Global};
-use zy_isa::row::Row;
-use zy_page::page::Page;
-use zy_page::row_list::RowList;
+use zy_isa::Row;
+use zy_page::{Page, RowList};
 
 const ROWS: [Row; 2] = [Row { key: 10, value: 1 }, Row { key: 20, value: 2 }];
 

@@ -1,13 +1,7 @@
 //! A scenario with other choices, and the words of the faults.
 use std::alloc::Global;
 use std::test::Fail;
-use zy_isa::choice::Choice;
-use zy_isa::instr::{Instr, Reg};
-use zy_isa::node::Node;
-use zy_isa::program::{ProgFault, Program};
-use zy_isa::row::Row;
-use zy_isa::rule::Rule;
-use zy_isa::scenario::{Scenario, ScenarioFault};
+use zy_isa::{Choice, Instr, Node, ProgFault, Program, Reg, Row, Rule, Scenario, ScenarioFault};
 
 const COUNTING: [Instr; 4] = [
     Instr::Set(Reg::R1, 4_294_967_295),

@@ -6,14 +6,11 @@ use super::fakes::{Drip, Trickle};
 use std::alloc::{AllocError, Global};
 use std::io::{self, ErrorKind};
 use std::test::Fail;
-use zy_io::buffer::LineBuffer;
-use zy_io::line::{Decimal, Joined, Line};
-use zy_io::memory::{SliceSource, VecSink};
-use zy_io::reading::{MAX_INPUT, ReadFault, read_all};
-use zy_io::section::{Both, One, Parts, Section, write_line, write_lines, write_parts};
-use zy_io::stream::{CountingReader, CountingWriter, Sink, Source};
-use zy_io::writing::{TextFault, WriteFault, write_all};
-use zy_text::canonical::{Canonical, CanonicalText, Each};
+use zy_io::{Both, CountingReader, CountingWriter, Decimal, Joined, Line, LineBuffer, MAX_INPUT, One, Parts, ReadFault, Section, Sink, SliceSource, Source, TextFault, VecSink, WriteFault};
+use zy_io::reading::read_all;
+use zy_io::section::{write_line, write_lines, write_parts};
+use zy_io::writing::write_all;
+use zy_text::{Canonical, CanonicalText, Each};
 
 /// Gives as many bytes as are left, and counts them.
 #[derive(Drop)]

@@ -1,6 +1,6 @@
 //! The tree of a wireframe with 512 pages, put in in three orders: how deep it is, and each key's page against a plain scan.
 use std::alloc::Global;
-use zy_wire::wire::{Wire, WireFault};
+use zy_wire::{Wire, WireFault};
 
 /// How many pages there are.
 const PAGES: u16 = 512;

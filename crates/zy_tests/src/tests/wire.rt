@@ -1,7 +1,7 @@
 //! Each call with ample memory, the search against a plain scan, and the words of the faults.
 use std::alloc::{AllocError, Global};
 use std::process::Abort;
-use zy_wire::wire::{Wire, WireFault};
+use zy_wire::{Wire, WireFault};
 
 /// The low keys of pages 0 to 4.
 const LOWS: [u16; 5] = [0, 30, 10, 40, 20];

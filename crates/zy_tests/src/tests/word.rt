@@ -1,5 +1,5 @@
 //! Words written by hand, and bytes that are no word.
-use zy_isa::instr::{Instr, Reg};
+use zy_isa::{Instr, Reg};
 use zy_isa::word::{decode, encode};
 
 #[test]
