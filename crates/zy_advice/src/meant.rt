@@ -49,8 +49,8 @@ pub fn is_alike(word: &[u8], other: &[u8]) -> bool {
     is_same_word(word, other) || is_near(word, other)
 }
 
-/// Whether a word of two letters or more differs from another by one mistake: a letter that is missing, too many or another, or two that
-/// changed places.
+/// Whether a word of two letters or more differs from another by one mistake: a letter that is missing, too many or
+/// another, or two that changed places.
 fn is_near(word: &[u8], other: &[u8]) -> bool {
     if word.len() < 2 || other.len() < 2 {
         return false;

@@ -50,8 +50,8 @@ fn trimmed(bytes: &[u8]) -> &[u8] {
     bytes.trim_ascii_end()
 }
 
-/// The column, from 1 and in characters, and the line with the word between `>` and `<`. What is cut off is shown as two dots; a byte that
-/// does not print, and a `>` or `<` of the line, as `\xNN`.
+/// The column, from 1 and in characters, and the line with the word between `>` and `<`. What is cut off is shown as
+/// two dots; a byte that does not print, and a `>` or `<` of the line, as `\xNN`.
 impl fmt::Display for Place<'_> {
     fn fmt<W: fmt::Write>(&self, f: &mut fmt::Formatter<W>) -> fmt::Result {
         if let Some(line) = self.line {

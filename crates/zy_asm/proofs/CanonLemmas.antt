@@ -1,5 +1,6 @@
 -- The canonical text means its scenario.
-use Rattle.std.proofs.Common.{◌≡◌, ℕ, ◌+◌, ◌-◌, ◌*◌, ◌^◌, ◌<◌, ◌≤◌, Bool, true, false, not, ◌&&◌, ◌==◌, nat_le, nat_lt, List, [], ◌∷◌, ◌++◌, length, map, filter, Some, None, refl, sym, ap, subst, arith, rules, append_assoc, append-nil, lit<, codes, inl, inr}
+use Rattle.std.proofs.Common.{◌≡◌, ℕ, ◌+◌, ◌-◌, ◌*◌, ◌^◌, ◌<◌, ◌≤◌, Bool, true, false, not, ◌&&◌, ◌==◌, nat_le, nat_lt, List, [], ◌∷◌, ◌++◌, length, map}
+use Rattle.std.proofs.Common.{filter, Some, None, refl, sym, ap, subst, arith, rules, append_assoc, append-nil, lit<, codes, inl, inr}
 use Rattle.std.specs.Fmt.{decimal}
 use Rattle.std.specs.List.{flat_map, slice_split, prefix_len}
 use Rattle.std.specs.Str.{all_ascii_digits}
@@ -33,7 +34,8 @@ use Rattle.zy_isa.specs.Choices.{names_below}
 use Rattle.zy_isa.specs.Scenario.{Scenario, IsScenario, ArePrograms, AreNamed}
 use Rattle.zy_text.specs.Text as m
 use Rattle.zy_text.specs.Names.{Mark, AreNew}
-use Rattle.zy_text.specs.Text.{Code, Written, Times, Draft, Statement, Spells, SpellsParts, SpellsInstr, SpellsChoice, SpellEach, instrs_of, labels_of, names_of, Headed, Labelled, IsDraftOf, program_statements, repeated, statements, Means}
+use Rattle.zy_text.specs.Text.{Code, Written, Times, Draft, Statement, Spells, SpellsParts, SpellsInstr, SpellsChoice, SpellEach, instrs_of, labels_of}
+use Rattle.zy_text.specs.Text.{names_of, Headed, Labelled, IsDraftOf, program_statements, repeated, statements, Means}
 use Rattle.zy_isa.proofs.OperationLemmas.{each}
 use Rattle.zy_isa.proofs.ResultLemmas.{both}
 use Rattle.zy_text.proofs.FeedLemmas.{one_plus}
@@ -153,7 +155,12 @@ number_of-decimal : (n : ℕ) → n < 2 ^ 32 → number_of (decimal n) ≡ Some 
 number_of-decimal n h =
     let wide : n < 2 ^ 64 = omega arith in
     let few : length (decimal n) ≤ 10 = length-decimal-le 10 n (lit< tt) (omega arith) wide in
-    rw (some_length (decimal n) (decimal_nonempty n wide), small (length (decimal n)) few, digits_read 0 (decimal n) (digits_decimal own n wide), digits_value-decimal own n wide) refl
+    rw (
+      some_length (decimal n) (decimal_nonempty n wide),
+      small (length (decimal n)) few,
+      digits_read 0 (decimal n) (digits_decimal own n wide),
+      digits_value-decimal own n wide,
+    ) refl
   where
     small : (k : ℕ) → k ≤ 10 → nat_le k 10 ≡ true
     small k e = grind (arith, tests)
@@ -175,7 +182,10 @@ SpellEach-append (x ∷ xs) ys (l ∷ ls) ms h g = (h.0, SpellEach-append xs ys 
 
 spell_rows : (rows : List Row) → RowsFit rows → SpellEach (map m.row rows) (map row_words rows)
 spell_rows [] h = tt
-spell_rows (r ∷ rows) h = ((decimal r.key, decimal r.value, refl, number_of-decimal r.key (omega (arith, h.0)), number_of-decimal r.value h.1), spell_rows rows h.2)
+spell_rows (r ∷ rows) h = (
+  (decimal r.key, decimal r.value, refl, number_of-decimal r.key (omega (arith, h.0)), number_of-decimal r.value h.1),
+  spell_rows rows h.2,
+)
 
 spell_parts : (labels : List Mark) (p : Parts) → PartsFit p → SpellsParts labels p (parts_words p)
 spell_parts labels (Number o a n) h = (decimal n, refl, number_of-decimal n h)
@@ -226,8 +236,11 @@ spell_codes labels (i ∷ is) h = (([], instr_words i, refl, refl, spell_instr l
 spell_programs : (ps : List (List Instr)) (k : ℕ) → ArePrograms ps → SpellEach (flat_map program_statements (plain_programs k ps)) (program_words k ps)
 spell_programs [] k h = tt
 spell_programs (p ∷ ps) k h =
-    let labels = labels_of 0 (map plain_code p) in
-    (refl, SpellEach-append (map (m.code labels) (map plain_code p)) (flat_map program_statements (plain_programs (k + 1) ps)) (map instr_words p) (program_words (k + 1) ps) (spell_codes labels p h.0.values) (spell_programs ps (k + 1) h.1))
+    let labels = labels_of 0 (map plain_code p) in (
+      refl,
+      SpellEach-append (map (m.code labels) (map plain_code p)) (flat_map program_statements (plain_programs (k + 1) ps)) (map instr_words p)
+          (program_words (k + 1) ps) (spell_codes labels p h.0.values) (spell_programs ps (k + 1) h.1),
+    )
 
 -- each choice made once
 abbrev once : List Choice → List Times
@@ -249,9 +262,13 @@ spell_choice names (Take n) count few h = refl
 spell_choice names (Finish n) count few h = refl
 spell_choice names (Push n) count few h = refl
 
-spell_choices : (names : List Mark) (cs : List Choice) (count : ℕ) → count ≤ 64 → AreNamed count cs → SpellEach (map (m.choice names) (once cs)) (map choice_words cs)
+spell_choices : (names : List Mark) (cs : List Choice) (count : ℕ) → count ≤ 64 → AreNamed count cs
+    → SpellEach (map (m.choice names) (once cs)) (map choice_words cs)
 spell_choices names [] count few h = tt
-spell_choices names (c ∷ cs) count few h = ((choice_words c, [], sym (append-nil (choice_words c)), spell_choice names c count few h.0, inl (refl, refl)), spell_choices names cs count few h.1)
+spell_choices names (c ∷ cs) count few h = (
+  (choice_words c, [], sym (append-nil (choice_words c)), spell_choice names c count few h.0, inl (refl, refl)),
+  spell_choices names cs count few h.1,
+)
 
 -- ---- the lines of the text
 
@@ -285,7 +302,8 @@ rule_clean Loose = refl
 pair_clean : (w : List ℕ) (a b : Reg) → is_word w ≡ true → is_clean w ≡ true → are_clean (w ∷ reg_text a ∷ reg_text b ∷ []) ≡ true
 pair_clean w a b h g = rw (h, g, (reg_clean a).0, (reg_clean a).1, (reg_clean b).0, (reg_clean b).1) refl
 
-number_last : (w v : List ℕ) (n : ℕ) → n < 2 ^ 32 → is_word w ≡ true → is_clean w ≡ true → is_word v ≡ true → is_clean v ≡ true → are_clean (w ∷ v ∷ decimal n ∷ []) ≡ true
+number_last : (w v : List ℕ) (n : ℕ) → n < 2 ^ 32 → is_word w ≡ true → is_clean w ≡ true → is_word v ≡ true → is_clean v ≡ true
+    → are_clean (w ∷ v ∷ decimal n ∷ []) ≡ true
 number_last w v n few h g i j = let p = number_clean n few in rw (h, g, i, j, p.0, p.1) refl
 
 target_clean : (n : ℕ) → n < 2 ^ 32 → (is_word (64 ∷ decimal n) ≡ true) × (is_clean (64 ∷ decimal n) ≡ true)
@@ -294,11 +312,13 @@ target_clean n h = (some_length (64 ∷ decimal n) (omega arith), (number_clean 
 operation_clean : (o : Operation) → (is_word (mnemonic o) ≡ true) × (is_clean (mnemonic o) ≡ true)
 operation_clean o = both (is_word (mnemonic o)) (is_clean (mnemonic o)) (each (λ x. is_word (mnemonic x) && is_clean (mnemonic x)) refl o)
 
-target_last : (w v : List ℕ) (a b : Reg) → is_word w ≡ true → is_clean w ≡ true → is_word v ≡ true → is_clean v ≡ true → are_clean (w ∷ reg_text a ∷ reg_text b ∷ v ∷ []) ≡ true
+target_last : (w v : List ℕ) (a b : Reg) → is_word w ≡ true → is_clean w ≡ true → is_word v ≡ true → is_clean v ≡ true
+    → are_clean (w ∷ reg_text a ∷ reg_text b ∷ v ∷ []) ≡ true
 target_last w v a b h g i j = rw (h, g, (reg_clean a).0, (reg_clean a).1, (reg_clean b).0, (reg_clean b).1, i, j) refl
 
 parts_clean : (p : Parts) → PartsFit p → (are_clean (parts_words p) ≡ true) × (has_words (parts_words p) ≡ true)
-parts_clean (Number o a n) h = let w = operation_clean (op.Number o) in (number_last (mnemonic (op.Number o)) (reg_text a) n h w.0 w.1 (reg_clean a).0 (reg_clean a).1, refl)
+parts_clean (Number o a n) h = let w = operation_clean (op.Number o) in
+    (number_last (mnemonic (op.Number o)) (reg_text a) n h w.0 w.1 (reg_clean a).0 (reg_clean a).1, refl)
 parts_clean (Pair o a b) h = let w = operation_clean (op.Pair o) in (pair_clean (mnemonic (op.Pair o)) a b w.0 w.1, refl)
 parts_clean (Jump o a b n) h =
     let w = operation_clean (op.Jump o) in
@@ -404,8 +424,10 @@ canon_spelled s h =
           (
             refl,
             SpellEach-append (map m.row s.rows) _ (map row_words s.rows) _ (spell_rows s.rows h.rows_fit)
-                (SpellEach-append (flat_map program_statements (plain_programs 0 s.programs)) _ (program_words 0 s.programs) _ (spell_programs s.programs 0 h.programs)
-                (SpellEach-append (map (m.choice names) (once s.choices)) (m.end ∷ []) (map choice_words s.choices) ((codes "end" ∷ []) ∷ []) (spell_choices names s.choices (length s.programs) h.few_programs h.choices_named) (refl, tt))),
+                (SpellEach-append (flat_map program_statements (plain_programs 0 s.programs)) _ (program_words 0 s.programs) _
+                (spell_programs s.programs 0 h.programs)
+                (SpellEach-append (map (m.choice names) (once s.choices)) (m.end ∷ []) (map choice_words s.choices) ((codes "end" ∷ []) ∷ [])
+                (spell_choices names s.choices (length s.programs) h.few_programs h.choices_named) (refl, tt))),
           ),
         ),
       ),
@@ -413,4 +435,5 @@ canon_spelled s h =
 
 -- the canonical text means its scenario
 pub Means-canon : (s : Scenario) → IsScenario s → Means (canon s) s
-Means-canon s h = (h, (plain s, plain_drafts s h, subst (SpellEach (statements s (plain s))) (sym (lines_back (canon_words s) (canon_clean s h))) (canon_spelled s h)))
+Means-canon s h =
+    (h, (plain s, plain_drafts s h, subst (SpellEach (statements s (plain s))) (sym (lines_back (canon_words s) (canon_clean s h))) (canon_spelled s h)))

@@ -1,5 +1,6 @@
 -- The lines of a program as they are read, and what they are once its labels are known.
-use Rattle.std.proofs.Common.{◌≡◌, ℕ, ◌+◌, List, [], ◌∷◌, ◌++◌, length, map, Bool, true, false, Option, Some, None, Ok, if◌then◌else◌, refl, sym, ap, ◌∙◌, append-nil, arith}
+use Rattle.std.proofs.Common.{◌≡◌, ℕ, ◌+◌, List, [], ◌∷◌, ◌++◌, length, map, Bool, true, false, Option, Some, None, Ok, if◌then◌else◌, refl, sym, ap, ◌∙◌}
+use Rattle.std.proofs.Common.{append-nil, arith}
 use Rattle.zy_isa.specs.declared.instr.Instr.{Instr}
 use Rattle.zy_text.specs.Names.{Mark, is_name, AreNew}
 use Rattle.zy_text.specs.Text as m
@@ -47,12 +48,19 @@ pub record Coded (labels : List Mark) (body : List Line) (is : List Instr) (xs :
   pub same : (k : ℕ) → labels_of k codes ≡ marks k body
   pub spelled : SpellEach (map (m.code labels) codes ++ xs) ls
 
-coded_line : (labels : List Mark) (v : Option (List ℕ)) (o : Option Pending) (body : List Line) (is : List Instr) (xs : List Statement) (l : List (List ℕ)) (ls : List (List (List ℕ)))
+coded_line : (labels : List Mark) (v : Option (List ℕ)) (o : Option Pending) (body : List Line) (is : List Instr) (xs : List Statement) (l : List (List ℕ))
+    (ls : List (List (List ℕ)))
     → all_resolved labels (pending_in o ++ pendings body) ≡ Ok is → SpellsLine (record { label = v; pending = o }) l
-    → ((js : List Instr) → all_resolved labels (pendings body) ≡ Ok js → Coded labels body js xs ls) → Coded labels (record { label = v; pending = o } ∷ body) is xs (l ∷ ls)
+    → ((js : List Instr) → all_resolved labels (pendings body) ≡ Ok js → Coded labels body js xs ls)
+    → Coded labels (record { label = v; pending = o } ∷ body) is xs (l ∷ ls)
 coded_line labels v None body is xs l ls h s ih =
     let r = ih is h in
-    record { codes = record { label = v; instr = None } ∷ r.codes; instrs = r.instrs; same = λ k. ap (λ (ms : List Mark). label_at v k ++ ms) (r.same (k + 0)); spelled = ((s.0, s.1, s.2, s.3, s.4), r.spelled) }
+    record {
+      codes = record { label = v; instr = None } ∷ r.codes;
+      instrs = r.instrs;
+      same = λ k. ap (λ (ms : List Mark). label_at v k ++ ms) (r.same (k + 0));
+      spelled = ((s.0, s.1, s.2, s.3, s.4), r.spelled);
+    }
 coded_line labels v (Some p) body is xs l ls h s ih =
     let a = bind_ok (resolved labels p) _ is h in
     let b = bind_ok (all_resolved labels (pendings body)) _ is a.2 in
@@ -65,21 +73,25 @@ coded_line labels v (Some p) body is xs l ls h s ih =
       spelled = ((s.0, s.1, s.2, s.3, s.4 labels a.0 a.1), r.spelled);
     }
 
-pub coded : (labels : List Mark) (body : List Line) (is : List Instr) (xs : List Statement) (ls : List (List (List ℕ))) → all_resolved labels (pendings body) ≡ Ok is → SpellBody body xs ls → Coded labels body is xs ls
+pub coded : (labels : List Mark) (body : List Line) (is : List Instr) (xs : List Statement) (ls : List (List (List ℕ)))
+    → all_resolved labels (pendings body) ≡ Ok is → SpellBody body xs ls → Coded labels body is xs ls
 coded labels [] is xs ls h s = record { codes = []; instrs = (let e : is ≡ [] = cc in sym e); same = λ k. refl; spelled = s }
 coded labels (x ∷ body) is xs [] h s = absurd s
 coded labels (x ∷ body) is xs (l ∷ ls) h s = coded_line labels x.label x.pending body is xs l ls h s.0 (λ js g. coded labels body js xs ls g s.1)
 
 -- ---- marks
 
-pub new_label : (M : List Mark) (v : Option (List ℕ)) (n : ℕ) (more : List Mark) → AreNew M (label_at v n) → AreNew (M ++ label_at v n) more → AreNew M (label_at v n ++ more)
+pub new_label : (M : List Mark) (v : Option (List ℕ)) (n : ℕ) (more : List Mark) → AreNew M (label_at v n) → AreNew (M ++ label_at v n) more
+    → AreNew M (label_at v n ++ more)
 new_label M None n more h g = rw append-nil at g
 new_label M (Some w) n more h g = (h.0, g)
 
-pub new_name : (N : List Mark) (w : List ℕ) (n : ℕ) (more : List Mark) → AreNew N (name_in w n) → AreNew (N ++ name_in w n) more → AreNew N (name_in w n ++ more)
+pub new_name : (N : List Mark) (w : List ℕ) (n : ℕ) (more : List Mark) → AreNew N (name_in w n) → AreNew (N ++ name_in w n) more
+    → AreNew N (name_in w n ++ more)
 new_name N w n more h g = by (is_name w) h g
   where
-    by : (b : Bool) → AreNew N (if b then (w, n) ∷ [] else []) → AreNew (N ++ (if b then (w, n) ∷ [] else [])) more → AreNew N ((if b then (w, n) ∷ [] else []) ++ more)
+    by : (b : Bool) → AreNew N (if b then (w, n) ∷ [] else []) → AreNew (N ++ (if b then (w, n) ∷ [] else [])) more
+        → AreNew N ((if b then (w, n) ∷ [] else []) ++ more)
     by true h g = (h.0, g)
     by false h g = rw append-nil at g
 

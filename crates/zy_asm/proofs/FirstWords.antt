@@ -17,7 +17,8 @@ use Rattle.zy_asm.specs.declared.state.Stage.{Stage}
 use Rattle.zy_asm.specs.declared.state.Stage.TheVariants as stage
 use Rattle.zy_asm.specs.Instructions.{instr_of}
 use Rattle.zy_asm.specs.Choices.{action_of}
-use Rattle.zy_asm.specs.Reading.{Seen, note_label, label_at, labelled, instr_line, instr_at, keyword_of, closed, txn_at, row_at, action_line, choice_line, statement, led_by, line_at, line_step}
+use Rattle.zy_asm.specs.Reading.{Seen, note_label, label_at, labelled, instr_line, instr_at, keyword_of, closed, txn_at, row_at, action_line, choice_line}
+use Rattle.zy_asm.specs.Reading.{statement, led_by, line_at, line_step}
 
 bind_same : {X Y : Type 0} (r : Result X AsmKind) (f g : X → Result Y AsmKind) → ((x : X) → f x ≡ g x) → (r >>= f) ≡ (r >>= g)
 bind_same (Ok x) f g h = h x

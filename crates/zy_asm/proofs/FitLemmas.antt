@@ -29,7 +29,8 @@ spelled_by labels (Pair o a b) w ws h = cc h
 spelled_by labels (Jump o a b n) w ws h = cc (h.1)
 spelled_by labels (Lone o) w ws h = cc h
 
-pub spelled_fits : (version : Version) (o : Operation) (ws : List (List ℕ)) (p : Pending) → is_of version o ≡ true → SpellsPending p (mnemonic o ∷ ws) → FitsIn version p
+pub spelled_fits : (version : Version) (o : Operation) (ws : List (List ℕ)) (p : Pending) → is_of version o ≡ true → SpellsPending p (mnemonic o ∷ ws)
+    → FitsIn version p
 spelled_fits version o ws p known spelled labels i e =
     let same = same_operation o (operation_of (parts_of i)) (spelled_by labels (parts_of i) (mnemonic o) ws (spelled labels i e)) in
     subst (λ x. is_of version x ≡ true) same known
@@ -39,7 +40,8 @@ all_fit-append version [] Q h g = g
 all_fit-append version (p ∷ O) Q h g = (h.0, all_fit-append version O Q h.1 g)
 
 -- the program is of the version
-pub all_known : (version : Version) (labels : List Mark) (ps : List Pending) (is : List Instr) → AllFit version ps → all_resolved labels ps ≡ Ok is → IsKnown version is
+pub all_known : (version : Version) (labels : List Mark) (ps : List Pending) (is : List Instr) → AllFit version ps → all_resolved labels ps ≡ Ok is
+    → IsKnown version is
 all_known version labels [] is h e = let none : [] ≡ is = cc in subst (IsKnown version) none tt
 all_known version labels (p ∷ ps) is h e =
     let a = bind_ok (resolved labels p) _ is e in

@@ -1,5 +1,6 @@
 -- What is read is meant.
-use Rattle.std.proofs.Common.{◌≡◌, ℕ, ◌+◌, ◌<◌, ◌≤◌, true, false, List, [], ◌∷◌, ◌++◌, length, map, codes, Ok, Some, None, refl, sym, ap, ◌∙◌, subst, inl, inr, arith, append_assoc, append-nil, length-append, ok_or}
+use Rattle.std.proofs.Common.{◌≡◌, ℕ, ◌+◌, ◌<◌, ◌≤◌, true, false, List, [], ◌∷◌, ◌++◌, length, map, codes, Ok, Some, None, refl, sym, ap, ◌∙◌, subst, inl, inr}
+use Rattle.std.proofs.Common.{arith, append_assoc, append-nil, length-append, ok_or}
 use Rattle.std.specs.Str.{bytes_eq}
 use Rattle.zy_isa.proofs.VersionLemmas.{named_is as version_is}
 use Rattle.zy_isa.specs.declared.version.Version.{Version}
@@ -33,10 +34,15 @@ record Placed (b : Base) : Type 0 where
   few_pages : opening_pages_for b.cap (length b.rows) ≤ b.pages
   in_order : misplaced_row b.rows ≡ None
 
-placed_more : (b : Base) (r : Row) → Placed b → length b.rows < 256 → opening_pages_for b.cap (length b.rows + 1) ≤ b.pages → is_low r.key (last_row b.rows) ≡ false → Placed (record b { rows = b.rows ++ r ∷ [] })
+placed_more : (b : Base) (r : Row) → Placed b → length b.rows < 256 → opening_pages_for b.cap (length b.rows + 1) ≤ b.pages
+    → is_low r.key (last_row b.rows) ≡ false → Placed (record b { rows = b.rows ++ r ∷ [] })
 placed_more b r h few pages low =
     let e : length (b.rows ++ r ∷ []) ≡ length b.rows + 1 = length-append b.rows (r ∷ []) in
-    record { few = omega (arith, e, few); few_pages = subst (λ n. opening_pages_for b.cap n ≤ b.pages) (sym e) pages; in_order = order_more b.rows r h.in_order low }
+    record {
+      few = omega (arith, e, few);
+      few_pages = subst (λ n. opening_pages_for b.cap n ≤ b.pages) (sym e) pages;
+      in_order = order_more b.rows r h.in_order low;
+    }
 
 -- what the rows from here on are, and what follows them
 record FoundRows (b : Base) (ls : List (List (List ℕ))) (t : Seen) : Type 0 where
@@ -45,7 +51,8 @@ record FoundRows (b : Base) (ls : List (List (List ℕ))) (t : Seen) : Type 0 wh
   placed : Placed (record b { rows = b.rows ++ rows })
   spelled : SpellEach (map m.row rows ++ following [] 0 rest.programs rest.choices) ls
 
-row_more : (b : Base) (r : Row) (l : List (List ℕ)) (ls : List (List (List ℕ))) (t : Seen) → Spells (m.row r) l → FoundRows (record b { rows = b.rows ++ r ∷ [] }) ls t → FoundRows b (l ∷ ls) t
+row_more : (b : Base) (r : Row) (l : List (List ℕ)) (ls : List (List (List ℕ))) (t : Seen) → Spells (m.row r) l
+    → FoundRows (record b { rows = b.rows ++ r ∷ [] }) ls t → FoundRows b (l ∷ ls) t
 row_more b r l ls t s f =
     let e : b.rows ++ r ∷ [] ++ f.rows ≡ b.rows ++ (r ∷ f.rows) = append_assoc b.rows (r ∷ []) f.rows in
     let both : (q : Rest (record b { rows = b.rows ++ (r ∷ f.rows) }) [] 0 [] t) × SpellEach (map m.row f.rows ++ following [] 0 q.programs q.choices) ls =
@@ -64,7 +71,10 @@ found_rows [] b t placed h = cc
 found_rows (l ∷ ls) b t placed h =
     let a = bind_ok (body_line (top stage.Rows b [] []) l) (λ u. fold_lines u ls) t h in
     elim (rows_ok b l a.0 a.1) [
-      | inl d ↦ row_more b d.line l ls t d.spelled (found_rows ls (record b { rows = b.rows ++ d.line ∷ [] }) t (placed_more b d.line placed d.few d.few_pages d.rises) (rw d.after at a.2))
+      | inl d ↦
+          row_more b d.line l ls t d.spelled (found_rows ls (record b { rows = b.rows ++ d.line ∷ [] }) t
+          (placed_more b d.line placed d.few d.few_pages d.rises)
+          (rw d.after at a.2))
       | inr n ↦ rows_over b (l ∷ ls) t placed (next_line b [] [] l ls a.0 t (omega arith) tt tt (found_all ls t) n a.2)
     ]
 
@@ -101,7 +111,8 @@ record FoundRule (v : Version) (c p : ℕ) (ls : List (List (List ℕ))) (t : Se
   spelled : Spells (m.rule rule) line
   rows : FoundRows (base v c p rule []) more t
 
-found_rule : (ls : List (List (List ℕ))) (v : Version) (c p : ℕ) (t : Seen) → 1 ≤ p → fold_lines (top stage.Rule (base v c p Held []) [] []) ls ≡ Ok t → FoundRule v c p ls t
+found_rule : (ls : List (List (List ℕ))) (v : Version) (c p : ℕ) (t : Seen) → 1 ≤ p → fold_lines (top stage.Rule (base v c p Held []) [] []) ls ≡ Ok t
+    → FoundRule v c p ls t
 found_rule [] v c p t least h = cc
 found_rule (l ∷ ls) v c p t least h =
     let k = bind_ok (step (top stage.Rule (base v c p Held []) [] []) l) (λ u. fold_lines u ls) t h in
@@ -139,7 +150,8 @@ record FoundPages (v : Version) (c : ℕ) (ls : List (List (List ℕ))) (t : See
   number : Number (codes "pages") 1 512 line pages
   rule : FoundRule v c pages more t
 
-found_pages : (ls : List (List (List ℕ))) (v : Version) (c : ℕ) (t : Seen) → fold_lines (top stage.Pages (base v c 1 Held []) [] []) ls ≡ Ok t → FoundPages v c ls t
+found_pages : (ls : List (List (List ℕ))) (v : Version) (c : ℕ) (t : Seen) → fold_lines (top stage.Pages (base v c 1 Held []) [] []) ls ≡ Ok t
+    → FoundPages v c ls t
 found_pages [] v c t h = cc
 found_pages (l ∷ ls) v c t h =
     let k = bind_ok (step (top stage.Pages (base v c 1 Held []) [] []) l) (λ u. fold_lines u ls) t h in
@@ -164,7 +176,14 @@ found_cap (l ∷ ls) v t h =
     let a = bind_ok (headed l (codes "cap")) _ k.0 k.1 in
     let n = bind_ok (number_in a.0 2 16) _ k.0 a.2 in
     let e : k.0 ≡ top stage.Pages (base v n.0 1 Held []) [] [] = cc (n.2) in
-    record { cap = n.0; line = l; more = ls; lines = refl; number = number_line l (codes "cap") a.0 2 16 n.0 a.1 n.1; pages = found_pages ls v n.0 t (rw e at k.2) }
+    record {
+      cap = n.0;
+      line = l;
+      more = ls;
+      lines = refl;
+      number = number_line l (codes "cap") a.0 2 16 n.0 a.1 n.1;
+      pages = found_pages ls v n.0 t (rw e at k.2);
+    }
 
 -- ---- the whole text
 
@@ -190,7 +209,8 @@ whole a ls v t z f =
       draft = record { programs = r.programs; choices = r.choices };
       drafts = record { programs = refl; choices = refl; headed = r.headed; names_new = r.new; labelled = r.labelled };
       spelled = (z, ((f.number.word, f.number.spelled, f.number.number), ((g.number.word, g.number.spelled, g.number.number), (i.spelled, j.spelled))));
-      tested = no_fault (shows u) f.number.least f.number.most g.number.least g.number.most j.placed.few j.placed.few_pages j.placed.in_order r.few r.few_choices r.named r.known;
+      tested = no_fault (shows u) f.number.least f.number.most g.number.least g.number.most j.placed.few j.placed.few_pages j.placed.in_order r.few
+          r.few_choices r.named r.known;
     } in
     subst (λ x. FoundText (a ∷ x) t) (sym lines) (subst (FoundText (a ∷ f.line ∷ g.line ∷ i.line ∷ i.more)) (sym r.same) all)
 

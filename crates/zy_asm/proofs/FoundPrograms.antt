@@ -1,5 +1,6 @@
 -- What is read of the programs and choices is meant.
-use Rattle.std.proofs.Common.{◌≡◌, ℕ, ◌+◌, ◌<◌, ◌≤◌, true, List, [], ◌∷◌, ◌++◌, length, map, codes, Ok, refl, sym, ap, ◌∙◌, subst, inl, inr, arith, append_assoc, append-nil, length-append, zero, suc}
+use Rattle.std.proofs.Common.{◌≡◌, ℕ, ◌+◌, ◌<◌, ◌≤◌, true, List, [], ◌∷◌, ◌++◌, length, map, codes, Ok, refl, sym, ap, ◌∙◌, subst, inl, inr, arith}
+use Rattle.std.proofs.Common.{append_assoc, append-nil, length-append, zero, suc}
 use Rattle.std.proofs.lemmas.List.{length-replicate}
 use Rattle.std.specs.Prelude.{replicate}
 use Rattle.std.specs.List.{flat_map}
@@ -10,7 +11,8 @@ use Rattle.zy_isa.specs.Choices.{names_below}
 use Rattle.zy_isa.specs.Scenario.{AreKnown, AreNamed}
 use Rattle.zy_isa.proofs.ScenarioLemmas.{program_more}
 use Rattle.zy_text.specs.Text as m
-use Rattle.zy_text.specs.Text.{Code, Written, Times, Statement, SpellEach, instrs_of, label_at, labels_of, name_in, names_of, Headed, Labelled, program_statements, choice_statements, repeated}
+use Rattle.zy_text.specs.Text.{Code, Written, Times, Statement, SpellEach, instrs_of, label_at, labels_of, name_in, names_of, Headed, Labelled}
+use Rattle.zy_text.specs.Text.{program_statements, choice_statements, repeated}
 use Rattle.zy_asm.specs.declared.state.Stage.{Stage}
 use Rattle.zy_asm.specs.declared.state.Stage.TheVariants as stage
 use Rattle.zy_asm.specs.Pending.{Pending, all_resolved}
@@ -23,7 +25,8 @@ use Rattle.zy_asm.proofs.FoundSteps.{Base, at, fold_lines, TxnStep, EndStep, Cho
 
 -- ---- the choices and the end
 
-done_only : (b : Base) (N : List Mark) (P : List (List Instr)) (C : List Choice) (ls : List (List (List ℕ))) (t : Seen) → fold_lines (at stage.Done b N P [] [] C) ls ≡ Ok t → (ls ≡ []) × (t ≡ at stage.Done b N P [] [] C)
+done_only : (b : Base) (N : List Mark) (P : List (List Instr)) (C : List Choice) (ls : List (List (List ℕ))) (t : Seen)
+    → fold_lines (at stage.Done b N P [] [] C) ls ≡ Ok t → (ls ≡ []) × (t ≡ at stage.Done b N P [] [] C)
 done_only b N P C [] t h = (refl, cc)
 done_only b N P C (l ∷ ls) t h = cc
 
@@ -40,7 +43,8 @@ named_times count zero c rest h g = g
 named_times count (suc n) c rest h g = (h, named_times count n c rest h g)
 
 choice_more : (b : Base) (N : List Mark) (P : List (List Instr)) (C : List Choice) (st : Stage) (l : List (List ℕ)) (ls : List (List (List ℕ))) (u t : Seen)
-    → ChoiceStep (at st b N P [] [] C) l u → ((D : List Choice) → length D ≤ 4096 → fold_lines (at stage.Choices b N P [] [] D) ls ≡ Ok t → FoundChoices b N P D ls t)
+    → ChoiceStep (at st b N P [] [] C) l u → ((D : List Choice) → length D ≤ 4096 → fold_lines (at stage.Choices b N P [] [] D) ls ≡ Ok t
+    → FoundChoices b N P D ls t)
     → fold_lines u ls ≡ Ok t → FoundChoices b N P C (l ∷ ls) t
 choice_more b N P C st l ls u t step ih h =
     let d = step.3 in
@@ -54,7 +58,8 @@ choice_more b N P C st l ls u t step ih h =
       same = rest.same ∙ ap (at stage.Done b N P [] []) (append_assoc C more (repeated rest.choices));
     }
 
-end_here : (b : Base) (N : List Mark) (P : List (List Instr)) (C : List Choice) (st : Stage) (l : List (List ℕ)) (ls : List (List (List ℕ))) (u t : Seen) → length C ≤ 4096
+end_here : (b : Base) (N : List Mark) (P : List (List Instr)) (C : List Choice) (st : Stage) (l : List (List ℕ)) (ls : List (List (List ℕ))) (u t : Seen)
+    → length C ≤ 4096
     → EndStep (at st b N P [] [] C) l u → fold_lines u ls ≡ Ok t → FoundChoices b N P C (l ∷ ls) t
 end_here b N P C st l ls u t few step h =
     let d = done_only b N P C ls t (rw step.1 at h) in
@@ -66,7 +71,8 @@ end_here b N P C st l ls u t few step h =
       same = d.1 ∙ ap (at stage.Done b N P [] []) (sym (append-nil C));
     }
 
-found_choices : (ls : List (List (List ℕ))) (b : Base) (N : List Mark) (P : List (List Instr)) (C : List Choice) (t : Seen) → AreBelow (length P) N → length C ≤ 4096
+found_choices : (ls : List (List (List ℕ))) (b : Base) (N : List Mark) (P : List (List Instr)) (C : List Choice) (t : Seen) → AreBelow (length P) N
+    → length C ≤ 4096
     → fold_lines (at stage.Choices b N P [] [] C) ls ≡ Ok t → FoundChoices b N P C ls t
 found_choices [] b N P C t low few h = cc
 found_choices (l ∷ ls) b N P C t low few h =
@@ -105,7 +111,8 @@ Follows b N k P body ls t = (r : Rest b N k P t) × SpellBody body (following N 
 abbrev pub FoundNext : Base → List Mark → List (List Instr) → List (List (List ℕ)) → Seen → Type 0
 FoundNext b N P ls t = Follows b N (length P) P [] ls t
 
-pub record FoundInside (b : Base) (N : List Mark) (P : List (List Instr)) (M : List Mark) (O : List Pending) (ls : List (List (List ℕ))) (t : Seen) : Type 0 where
+pub record FoundInside (b : Base) (N : List Mark) (P : List (List Instr)) (M : List Mark) (O : List Pending) (ls : List (List (List ℕ)))
+    (t : Seen) : Type 0 where
   pub body : List Line
   pub program : List Instr
   pub new : AreNew M (marks (length O) body)
@@ -113,7 +120,8 @@ pub record FoundInside (b : Base) (N : List Mark) (P : List (List Instr)) (M : L
   pub follows : Follows b N (length P + 1) (P ++ program ∷ []) body ls t
 
 -- the programs are over
-no_more : (b : Base) (N : List Mark) (P : List (List Instr)) (ls : List (List (List ℕ))) (t : Seen) → length P ≤ 64 → AreKnown b.version P → FoundChoices b N P [] ls t → FoundNext b N P ls t
+no_more : (b : Base) (N : List Mark) (P : List (List Instr)) (ls : List (List (List ℕ))) (t : Seen) → length P ≤ 64 → AreKnown b.version P
+    → FoundChoices b N P [] ls t → FoundNext b N P ls t
 no_more b N P ls t few known f = (
   record {
     programs = [];
@@ -139,7 +147,8 @@ one_more b N P l ls u t d f =
     let one = name_in d.head n in
     let names : N ++ one ++ names_of (n + 1) r.programs ≡ N ++ (one ++ names_of (n + 1) r.programs) = append_assoc N one (names_of (n + 1) r.programs) in
     let c = coded (marks 0 f.body) f.body f.program (following (N ++ one) (n + 1) r.programs r.choices) ls f.resolves f.follows.1 in
-    let all : P ++ f.program ∷ [] ++ bodies r.programs ≡ P ++ (instrs_of c.codes ∷ bodies r.programs) = append_assoc P (f.program ∷ []) (bodies r.programs) ∙ ap (λ (x : List Instr). P ++ (x ∷ bodies r.programs)) (sym c.instrs) in (
+    let all : P ++ f.program ∷ [] ++ bodies r.programs ≡ P ++ (instrs_of c.codes ∷ bodies r.programs) =
+    append_assoc P (f.program ∷ []) (bodies r.programs) ∙ ap (λ (x : List Instr). P ++ (x ∷ bodies r.programs)) (sym c.instrs) in (
       record {
         programs = record { head = d.head; body = c.codes } ∷ r.programs;
         choices = r.choices;
@@ -156,39 +165,49 @@ one_more b N P l ls u t d f =
       (d.spelled, lines c.codes r.programs r.choices names (c.same 0) c.spelled),
     )
   where
-    lines : (codes : List Code) (ps : List Written) (cs : List Times) → N ++ name_in d.head (length P) ++ names_of (length P + 1) ps ≡ N ++ (name_in d.head (length P) ++ names_of (length P + 1) ps) → labels_of 0 codes ≡ marks 0 f.body
+    lines : (codes : List Code) (ps : List Written) (cs : List Times) → N ++ name_in d.head (length P) ++ names_of (length P + 1) ps ≡ N
+        ++ (name_in d.head (length P) ++ names_of (length P + 1) ps) → labels_of 0 codes ≡ marks 0 f.body
         → SpellEach (map (m.code (marks 0 f.body)) codes ++ following (N ++ name_in d.head (length P)) (length P + 1) ps cs) ls
-        → SpellEach (map (m.code (labels_of 0 codes)) codes ++ flat_map program_statements ps ++ choice_statements (N ++ (name_in d.head (length P) ++ names_of (length P + 1) ps)) cs) ls
+        → SpellEach (map (m.code (labels_of 0 codes)) codes ++ flat_map program_statements ps
+        ++ choice_statements (N ++ (name_in d.head (length P) ++ names_of (length P + 1) ps)) cs) ls
     lines codes ps cs names labels h =
-        subst (λ xs. SpellEach xs ls) (sym (append_assoc (map (m.code (labels_of 0 codes)) codes) (flat_map program_statements ps) (choice_statements (N ++ (name_in d.head (length P) ++ names_of (length P + 1) ps)) cs)))
+        subst (λ xs. SpellEach xs ls)
+        (sym (append_assoc (map (m.code (labels_of 0 codes)) codes) (flat_map program_statements ps)
+        (choice_statements (N ++ (name_in d.head (length P) ++ names_of (length P + 1) ps)) cs)))
         (subst (λ (x : List Mark). SpellEach (map (m.code (labels_of 0 codes)) codes ++ (flat_map program_statements ps ++ choice_statements x cs)) ls) names
         (subst (λ (x : List Mark). SpellEach (map (m.code x) codes ++ following (N ++ name_in d.head (length P)) (length P + 1) ps cs) ls) (sym labels) h))
 
 -- what is shown of the lines ls, in each state that has no choice and no row more
 pub record Found (ls : List (List (List ℕ))) (t : Seen) : Type 0 where
-  pub inside : (b : Base) (N : List Mark) (P : List (List Instr)) (M : List Mark) (O : List Pending) → length P < 64 → AreBelow (length P + 1) N → AllFit b.version O → AreKnown b.version P
+  pub inside : (b : Base) (N : List Mark) (P : List (List Instr)) (M : List Mark) (O : List Pending) → length P < 64 → AreBelow (length P + 1) N
+      → AllFit b.version O → AreKnown b.version P
       → fold_lines (at stage.Program b N P M O []) ls ≡ Ok t → FoundInside b N P M O ls t
 
-pub next_line : (b : Base) (N : List Mark) (P : List (List Instr)) (l : List (List ℕ)) (ls : List (List (List ℕ))) (u t : Seen) → length P ≤ 64 → AreBelow (length P) N → AreKnown b.version P → Found ls t
+pub next_line : (b : Base) (N : List Mark) (P : List (List Instr)) (l : List (List ℕ)) (ls : List (List (List ℕ))) (u t : Seen) → length P ≤ 64
+    → AreBelow (length P) N → AreKnown b.version P → Found ls t
     → Next b N P l u → fold_lines u ls ≡ Ok t → FoundNext b N P (l ∷ ls) t
 next_line b N P l ls u t few low known ih n h =
     elim n [
-      | inl d ↦ one_more b N P l ls u t d (ih.inside b (N ++ name_in d.head (length P)) P [] [] d.few (below_name (length P) N d.head low) tt known (rw d.after at h))
+      | inl d ↦
+          one_more b N P l ls u t d (ih.inside b (N ++ name_in d.head (length P)) P [] [] d.few (below_name (length P) N d.head low) tt known (rw d.after at h))
       | inr x ↦ elim x [
         | inl d ↦ no_more b N P (l ∷ ls) t few known (choice_more b N P [] stage.Rows l ls u t d (λ D f g. found_choices ls b N P D t low f g) h)
         | inr d ↦ no_more b N P (l ∷ ls) t few known (end_here b N P [] stage.Rows l ls u t (omega arith) d h)
       ]
     ]
 
-code_more : (b : Base) (N : List Mark) (P : List (List Instr)) (M : List Mark) (O : List Pending) (l : List (List ℕ)) (ls : List (List (List ℕ))) (u t : Seen) (d : CodeStep b N P M O l u)
+code_more : (b : Base) (N : List Mark) (P : List (List Instr)) (M : List Mark) (O : List Pending) (l : List (List ℕ)) (ls : List (List (List ℕ))) (u t : Seen)
+    (d : CodeStep b N P M O l u)
     → FoundInside b N P (M ++ label_at d.line.label (length O)) (O ++ pending_in d.line.pending) ls t → FoundInside b N P M O (l ∷ ls) t
 code_more b N P M O l ls u t d f =
     let mk = label_at d.line.label (length O) in
     let oo = pending_in d.line.pending in
     let len : length (O ++ oo) ≡ length O + length oo = length-append O oo in
-    let me : M ++ mk ++ marks (length (O ++ oo)) f.body ≡ M ++ (mk ++ marks (length O + length oo) f.body) = ap (λ n. M ++ mk ++ marks n f.body) len ∙ append_assoc M mk (marks (length O + length oo) f.body) in
+    let me : M ++ mk ++ marks (length (O ++ oo)) f.body ≡ M ++ (mk ++ marks (length O + length oo) f.body) =
+    ap (λ n. M ++ mk ++ marks n f.body) len ∙ append_assoc M mk (marks (length O + length oo) f.body) in
     let oe : O ++ oo ++ pendings f.body ≡ O ++ (oo ++ pendings f.body) = append_assoc O oo (pendings f.body) in
-    let step : all_resolved (M ++ (mk ++ marks (length O + length oo) f.body)) (O ++ oo ++ pendings f.body) ≡ Ok f.program = subst (λ (x : List Mark). all_resolved x (O ++ oo ++ pendings f.body) ≡ Ok f.program) me f.resolves in
+    let step : all_resolved (M ++ (mk ++ marks (length O + length oo) f.body)) (O ++ oo ++ pendings f.body) ≡ Ok f.program =
+    subst (λ (x : List Mark). all_resolved x (O ++ oo ++ pendings f.body) ≡ Ok f.program) me f.resolves in
     record {
       body = d.line ∷ f.body;
       program = f.program;
@@ -197,7 +216,8 @@ code_more b N P M O l ls u t d f =
       follows = (f.follows.0, (d.spelled, f.follows.1));
     }
 
-close_here : (b : Base) (N : List Mark) (P : List (List Instr)) (M : List Mark) (O : List Pending) (ls : List (List (List ℕ))) (t : Seen) (p : List Instr) → all_resolved M O ≡ Ok p
+close_here : (b : Base) (N : List Mark) (P : List (List Instr)) (M : List Mark) (O : List Pending) (ls : List (List (List ℕ))) (t : Seen) (p : List Instr)
+    → all_resolved M O ≡ Ok p
     → FoundNext b N (P ++ p ∷ []) ls t → FoundInside b N P M O ls t
 close_here b N P M O ls t p e f = record {
   body = [];
@@ -207,14 +227,18 @@ close_here b N P M O ls t p e f = record {
   follows = subst (λ n. Follows b N n (P ++ p ∷ []) [] ls t) (length-append P (p ∷ [])) f;
 }
 
-inside_line : (b : Base) (N : List Mark) (P : List (List Instr)) (M : List Mark) (O : List Pending) (l : List (List ℕ)) (ls : List (List (List ℕ))) (u t : Seen) → length P < 64 → AreBelow (length P + 1) N → AllFit b.version O → AreKnown b.version P → Found ls t
+inside_line : (b : Base) (N : List Mark) (P : List (List Instr)) (M : List Mark) (O : List Pending) (l : List (List ℕ)) (ls : List (List (List ℕ))) (u t : Seen)
+    → length P < 64 → AreBelow (length P + 1) N → AllFit b.version O → AreKnown b.version P → Found ls t
     → body_line (at stage.Program b N P M O []) l ≡ Ok u → fold_lines u ls ≡ Ok t → FoundInside b N P M O (l ∷ ls) t
 inside_line b N P M O l ls u t few low fit known ih e h =
     elim (inside_ok b N P M O l u low e) [
-      | inl d ↦ code_more b N P M O l ls u t d (ih.inside b N P (M ++ label_at d.line.label (length O)) (O ++ pending_in d.line.pending) few low (all_fit-append b.version O (pending_in d.line.pending) fit d.fits) known (rw d.after at h))
+      | inl d ↦
+          code_more b N P M O l ls u t d (ih.inside b N P (M ++ label_at d.line.label (length O)) (O ++ pending_in d.line.pending) few low
+          (all_fit-append b.version O (pending_in d.line.pending) fit d.fits) known (rw d.after at h))
       | inr x ↦
           let n : length (P ++ x.program ∷ []) ≡ length P + 1 = length-append P (x.program ∷ []) in
-          close_here b N P M O (l ∷ ls) t x.program x.resolves (next_line b N (P ++ x.program ∷ []) l ls u t (omega (arith, few, n)) (subst (λ k. AreBelow k N) (sym n) low)
+          close_here b N P M O (l ∷ ls) t x.program x.resolves (next_line b N (P ++ x.program ∷ []) l ls u t (omega (arith, few, n))
+          (subst (λ k. AreBelow k N) (sym n) low)
           (program_more b.version P x.program known (all_known b.version M O x.program fit x.resolves)) ih x.next h)
     ]
 
@@ -222,4 +246,7 @@ pub found_all : (ls : List (List (List ℕ))) (t : Seen) → Found ls t
 found_all [] t = record { inside = λ b N P M O few low fit known h. cc }
 found_all (l ∷ ls) t =
     let ih = found_all ls t in
-    record { inside = λ b N P M O few low fit known h. let a = bind_ok (body_line (at stage.Program b N P M O []) l) (λ u. fold_lines u ls) t h in inside_line b N P M O l ls a.0 t few low fit known ih a.1 a.2 }
+    record {
+      inside = λ b N P M O few low fit known h. let a = bind_ok (body_line (at stage.Program b N P M O []) l) (λ u. fold_lines u ls) t h in
+          inside_line b N P M O l ls a.0 t few low fit known ih a.1 a.2;
+    }

@@ -1,5 +1,6 @@
 -- What one line that is read means.
-use Rattle.std.proofs.Common.{◌≡◌, ℕ, ◌+◌, ◌<◌, ◌≤◌, Bool, true, false, List, [], ◌∷◌, ◌++◌, length, codes, Result, Ok, Err, Option, Some, None, is_some, if◌then◌else◌, refl, sym, ap, ◌∙◌, subst, inl, inr, ◌⊎◌, append-nil, length-append, nat_le, nat_lt, ok_or}
+use Rattle.std.proofs.Common.{◌≡◌, ℕ, ◌+◌, ◌<◌, ◌≤◌, Bool, true, false, List, [], ◌∷◌, ◌++◌, length, codes, Result, Ok, Err, Option, Some, None, is_some}
+use Rattle.std.proofs.Common.{if◌then◌else◌, refl, sym, ap, ◌∙◌, subst, inl, inr, ◌⊎◌, append-nil, length-append, nat_le, nat_lt, ok_or}
 use Rattle.zy_isa.specs.declared.version.Version.{Version}
 use Rattle.zy_isa.specs.declared.rule.Rule.{Rule}
 use Rattle.zy_isa.specs.declared.row.Row.{Row}
@@ -28,7 +29,8 @@ use Rattle.zy_asm.specs.Pending.{Pending, all_resolved, judged, program_of}
 use Rattle.zy_asm.specs.Instructions.{instr_of}
 use Rattle.zy_asm.specs.Choices.{action_of}
 use Rattle.zy_isa.specs.Rows.{last_row, is_low}
-use Rattle.zy_asm.specs.Reading.{Seen, keyword_of, row_of, is_full, add_row, row_at, instr_line, note_label, labelled, behind_label, label_line, head_line, open_line, action_line, choice_line, end_line, statement, led_by, body_line, step, finish}
+use Rattle.zy_asm.specs.Reading.{Seen, keyword_of, row_of, is_full, add_row, row_at, instr_line, note_label, labelled, behind_label, label_line, head_line}
+use Rattle.zy_asm.specs.Reading.{open_line, action_line, choice_line, end_line, statement, led_by, body_line, step, finish}
 use Rattle.zy_isa.proofs.ResultLemmas.{bind_ok, if_ok, if_err, neither, below, not_over}
 use Rattle.zy_asm.proofs.SpellLemmas.{actor_word, keyword_ok, SpellsPending, instr_ok, row_ok, not_some, head_ok, AreBelow, Chose, choice_ok}
 use Rattle.zy_text.proofs.LabelLemmas.{label_ok}
@@ -48,7 +50,19 @@ base v c p r R = record { version = v; cap = c; pages = p; rule = r; rows = R }
 
 -- a state
 abbrev pub at : Stage → Base → List Mark → List (List Instr) → List Mark → List Pending → List Choice → Seen
-at st b N P M O C = record { stage = st; version = b.version; cap = b.cap; pages = b.pages; rule = b.rule; rows = b.rows; names = N; programs = P; labels = M; instrs = O; choices = C }
+at st b N P M O C = record {
+  stage = st;
+  version = b.version;
+  cap = b.cap;
+  pages = b.pages;
+  rule = b.rule;
+  rows = b.rows;
+  names = N;
+  programs = P;
+  labels = M;
+  instrs = O;
+  choices = C;
+}
 
 -- a state between programs
 abbrev pub top : Stage → Base → List Mark → List (List Instr) → Seen
@@ -69,7 +83,8 @@ pub record TxnStep (b : Base) (N : List Mark) (P : List (List Instr)) (ws : List
   pub few : length P < 64
   pub after : t ≡ top stage.Program b (N ++ name_in head (length P)) P
 
-txn_step : (st : Stage) (b : Base) (N : List Mark) (P : List (List Instr)) (ws : List (List ℕ)) (t : Seen) → open_line (top st b N P) ws ≡ Ok t → TxnStep b N P (codes "txn" ∷ ws) t
+txn_step : (st : Stage) (b : Base) (N : List Mark) (P : List (List Instr)) (ws : List (List ℕ)) (t : Seen) → open_line (top st b N P) ws ≡ Ok t
+    → TxnStep b N P (codes "txn" ∷ ws) t
 txn_step st b N P [] t h = cc
 txn_step st b N P (w ∷ []) t h =
     let a = bind_ok (head_line (top st b N P) w) _ t h in
@@ -140,7 +155,8 @@ rows_ok b (w ∷ ws) t h = split (label_of w) h
     by (Some k.Row) e g = inl (rw (keyword_ok b.version w k.Row e) (row_step b ws t g))
     by (Some k.Txn) e g = inr (inl (rw (keyword_ok b.version w k.Txn e) (txn_step stage.Rows b [] [] ws t g)))
     by (Some (k.Instr o)) e g = cc
-    by (Some (k.Choice a)) e g = inr (inr (inl (a, ws, first w (actor_word a) ws (keyword_ok b.version w (k.Choice a) e), choice_ok (top stage.Rows b [] []) t a ws tt g)))
+    by (Some (k.Choice a)) e g =
+        inr (inr (inl (a, ws, first w (actor_word a) ws (keyword_ok b.version w (k.Choice a) e), choice_ok (top stage.Rows b [] []) t a ws tt g)))
     by (Some k.End) e g = inr (inr (inr (rw (keyword_ok b.version w k.End e) (end_step (top stage.Rows b [] []) ws t g))))
 
     split : (o : Option (List ℕ)) → led_by o (top stage.Rows b [] []) w ws ≡ Ok t → RowStep b (w ∷ ws) t ⊎ Next b [] [] (w ∷ ws) t
@@ -169,7 +185,8 @@ instr_step s o ws t known h =
     let spelled = instr_ok o ws a.0 a.1 in
     record { pending = a.0; spelled = spelled; fits = spelled_fits s.version o ws a.0 known spelled; after = cc (b.1) }
 
-plain_line : (b : Base) (N : List Mark) (P : List (List Instr)) (M : List Mark) (O : List Pending) (o : Operation) (w : List ℕ) (ws : List (List ℕ)) (t : Seen) → (w ≡ mnemonic o) × (is_of b.version o ≡ true)
+plain_line : (b : Base) (N : List Mark) (P : List (List Instr)) (M : List Mark) (O : List Pending) (o : Operation) (w : List ℕ) (ws : List (List ℕ)) (t : Seen)
+    → (w ≡ mnemonic o) × (is_of b.version o ≡ true)
     → instr_line (at stage.Program b N P M O []) o ws ≡ Ok t → CodeStep b N P M O (w ∷ ws) t
 plain_line b N P M O o w ws t e h =
     let p = instr_step (at stage.Program b N P M O []) o ws t e.1 h in
@@ -181,7 +198,8 @@ plain_line b N P M O o w ws t e h =
       after = p.after ∙ ap (λ x. at stage.Program b N P x (O ++ p.pending ∷ []) []) (sym (append-nil M));
     }
 
-labelled_line : (b : Base) (N : List Mark) (P : List (List Instr)) (M : List Mark) (O : List Pending) (v : List ℕ) (o : Operation) (w x : List ℕ) (ws : List (List ℕ)) (t : Seen)
+labelled_line : (b : Base) (N : List Mark) (P : List (List Instr)) (M : List Mark) (O : List Pending) (v : List ℕ) (o : Operation) (w x : List ℕ)
+    (ws : List (List ℕ)) (t : Seen)
     → x ≡ v ++ 58 ∷ [] → is_name v ≡ true → place v M ≡ None → (w ≡ mnemonic o) × (is_of b.version o ≡ true)
     → instr_line (at stage.Program b N P (M ++ (v, length O) ∷ []) O []) o ws ≡ Ok t → CodeStep b N P M O (x ∷ w ∷ ws) t
 labelled_line b N P M O v o w x ws t q n new e h =
@@ -213,13 +231,15 @@ label_step b N P M O v x ws t q h =
     by w vs (Some (k.Choice y)) e n new g = cc
     by w vs (Some k.End) e n new g = cc
 
-    rest : (vs : List (List ℕ)) → is_name v ≡ true → place v M ≡ None → behind_label (at stage.Program b N P (M ++ (v, length O) ∷ []) O []) vs ≡ Ok t → CodeStep b N P M O (x ∷ vs) t
+    rest : (vs : List (List ℕ)) → is_name v ≡ true → place v M ≡ None → behind_label (at stage.Program b N P (M ++ (v, length O) ∷ []) O []) vs ≡ Ok t
+        → CodeStep b N P M O (x ∷ vs) t
     rest [] n new g = record {
       line = record { label = Some v; pending = None };
       spelled = (x ∷ [], [], refl, (ap (λ y. y ∷ []) q, n), refl);
       new = (new, tt);
       fits = tt;
-      after = (let e : t ≡ at stage.Program b N P (M ++ (v, length O) ∷ []) O [] = cc in e) ∙ ap (λ y. at stage.Program b N P (M ++ (v, length O) ∷ []) y []) (sym (append-nil O));
+      after = (let e : t ≡ at stage.Program b N P (M ++ (v, length O) ∷ []) O [] = cc in e)
+          ∙ ap (λ y. at stage.Program b N P (M ++ (v, length O) ∷ []) y []) (sym (append-nil O));
     }
     rest (w ∷ vs) n new g = by w vs (keyword_of b.version w) refl n new g
 
@@ -238,28 +258,33 @@ pub record Closing (M : List Mark) (O : List Pending) (t : Seen) (f : List Instr
   pub resolves : all_resolved M O ≡ Ok program
   pub after : g (f program) ≡ Ok t
 
-closing : (M : List Mark) (O : List Pending) (t : Seen) (f : List Instr → Seen) (g : Seen → Result Seen AsmKind) → ((program_of M O >>= λ p. Ok (f p)) >>= g) ≡ Ok t → Closing M O t f g
+closing : (M : List Mark) (O : List Pending) (t : Seen) (f : List Instr → Seen) (g : Seen → Result Seen AsmKind)
+    → ((program_of M O >>= λ p. Ok (f p)) >>= g) ≡ Ok t → Closing M O t f g
 closing M O t f g h =
     let a = bind_ok (program_of M O >>= λ p. Ok (f p)) g t h in
     let b = bind_ok (program_of M O) (λ p. Ok (f p)) a.0 a.1 in
     let e : f b.0 ≡ a.0 = cc (b.2) in
     record { program = b.0; resolves = program_ok M O b.0 b.1; after = ap g e ∙ a.2 }
 
-action_same : (b : Base) (N : List Mark) (P : List (List Instr)) (x : Action) (ws : List (List ℕ)) → action_line (top stage.Choices b N P) x ws ≡ action_line (top stage.Rows b N P) x ws
+action_same : (b : Base) (N : List Mark) (P : List (List Instr)) (x : Action) (ws : List (List ℕ))
+    → action_line (top stage.Choices b N P) x ws ≡ action_line (top stage.Rows b N P) x ws
 action_same b N P (Txn x) [] = refl
 action_same b N P (Txn x) (w ∷ ws) = refl
 action_same b N P (Plain x) ws = refl
 
 -- a choice is read alike below the programs and below the rows
-pub choice_same : (b : Base) (N : List Mark) (P : List (List Instr)) (a : Actor) (ws : List (List ℕ)) → choice_line (top stage.Choices b N P) a ws ≡ choice_line (top stage.Rows b N P) a ws
+pub choice_same : (b : Base) (N : List Mark) (P : List (List Instr)) (a : Actor) (ws : List (List ℕ))
+    → choice_line (top stage.Choices b N P) a ws ≡ choice_line (top stage.Rows b N P) a ws
 choice_same b N P a [] = refl
 choice_same b N P a (w ∷ ws) = by (action_of a w)
   where
-    by : (o : Option Action) → (ok_or o kinds.Word >>= λ x. action_line (top stage.Choices b N P) x ws) ≡ (ok_or o kinds.Word >>= λ x. action_line (top stage.Rows b N P) x ws)
+    by : (o : Option Action) → (ok_or o kinds.Word >>= λ x. action_line (top stage.Choices b N P) x ws)
+        ≡ (ok_or o kinds.Word >>= λ x. action_line (top stage.Rows b N P) x ws)
     by None = refl
     by (Some x) = action_same b N P x ws
 
-end_same : (b : Base) (N : List Mark) (P : List (List Instr)) (vs : List (List ℕ)) (t : Seen) → end_line (top stage.Choices b N P) vs ≡ Ok t → end_line (top stage.Rows b N P) vs ≡ Ok t
+end_same : (b : Base) (N : List Mark) (P : List (List Instr)) (vs : List (List ℕ)) (t : Seen) → end_line (top stage.Choices b N P) vs ≡ Ok t
+    → end_line (top stage.Rows b N P) vs ≡ Ok t
 end_same b N P [] t x = x
 end_same b N P (v ∷ vs) t x = x
 
@@ -272,7 +297,8 @@ pub record Closed (b : Base) (N : List Mark) (P : List (List Instr)) (M : List M
 abbrev pub Inside : Base → List Mark → List (List Instr) → List Mark → List Pending → List (List ℕ) → Seen → Type 0
 Inside b N P M O ws t = CodeStep b N P M O ws t ⊎ Closed b N P M O ws t
 
-pub inside_ok : (b : Base) (N : List Mark) (P : List (List Instr)) (M : List Mark) (O : List Pending) (ws : List (List ℕ)) (t : Seen) → AreBelow (length P + 1) N
+pub inside_ok : (b : Base) (N : List Mark) (P : List (List Instr)) (M : List Mark) (O : List Pending) (ws : List (List ℕ)) (t : Seen)
+    → AreBelow (length P + 1) N
     → body_line (at stage.Program b N P M O []) ws ≡ Ok t → Inside b N P M O ws t
 inside_ok b N P M O [] t low h = cc
 inside_ok b N P M O (w ∷ ws) t low h = split (label_of w) refl h
@@ -286,17 +312,32 @@ inside_ok b N P M O (w ∷ ws) t low h = split (label_of w) refl h
     by (Some k.Row) e g = cc
     by (Some k.Txn) e g =
         let q = closing M O t (λ p. top stage.Choices b N (P ++ p ∷ [])) (λ u. open_line u ws) g in
-        inr (record { program = q.program; resolves = q.resolves; next = inl (rw (keyword_ok b.version w k.Txn e) (txn_step stage.Choices b N (P ++ q.program ∷ []) ws t q.after)) })
+        inr
+        (record {
+          program = q.program;
+          resolves = q.resolves;
+          next = inl (rw (keyword_ok b.version w k.Txn e) (txn_step stage.Choices b N (P ++ q.program ∷ []) ws t q.after));
+        })
     by (Some (k.Instr o)) e g = inl (plain_line b N P M O o w ws t (keyword_ok b.version w (k.Instr o) e) g)
     by (Some (k.Choice a)) e g =
         let q = closing M O t (λ p. top stage.Choices b N (P ++ p ∷ [])) (λ u. choice_line u a ws) g in
         let s = top stage.Rows b N (P ++ q.program ∷ []) in
         let made = choice_ok s t a ws (low_after q.program) (sym (choice_same b N (P ++ q.program ∷ []) a ws) ∙ q.after) in
-        inr (record { program = q.program; resolves = q.resolves; next = inr (inl (a, ws, first w (actor_word a) ws (keyword_ok b.version w (k.Choice a) e), made)) })
+        inr
+        (record {
+          program = q.program;
+          resolves = q.resolves;
+          next = inr (inl (a, ws, first w (actor_word a) ws (keyword_ok b.version w (k.Choice a) e), made));
+        })
     by (Some k.End) e g =
         let q = closing M O t (λ p. top stage.Choices b N (P ++ p ∷ [])) (λ u. end_line u ws) g in
         let s = top stage.Rows b N (P ++ q.program ∷ []) in
-        inr (record { program = q.program; resolves = q.resolves; next = inr (inr (rw (keyword_ok b.version w k.End e) (end_step s ws t (end_same b N (P ++ q.program ∷ []) ws t q.after)))) })
+        inr
+        (record {
+          program = q.program;
+          resolves = q.resolves;
+          next = inr (inr (rw (keyword_ok b.version w k.End e) (end_step s ws t (end_same b N (P ++ q.program ∷ []) ws t q.after))));
+        })
 
     split : (o : Option (List ℕ)) → label_of w ≡ o → led_by o (at stage.Program b N P M O []) w ws ≡ Ok t → Inside b N P M O (w ∷ ws) t
     split None e g = by (keyword_of b.version w) refl g
@@ -309,13 +350,19 @@ pub below_ok : (b : Base) (N : List Mark) (P : List (List Instr)) (C : List Choi
 below_ok b N P C [] t low h = cc
 below_ok b N P C (w ∷ ws) t low h = split (label_of w) h
   where
-    by : (o : Option Keyword) → keyword_of b.version w ≡ o → statement o (at stage.Choices b N P [] [] C) ws ≡ Ok t → Below (at stage.Choices b N P [] [] C) (w ∷ ws) t
+    by : (o : Option Keyword) → keyword_of b.version w ≡ o → statement o (at stage.Choices b N P [] [] C) ws ≡ Ok t
+        → Below (at stage.Choices b N P [] [] C) (w ∷ ws) t
     by None e g = cc
     by (Some k.Header) e g = cc
     by (Some k.Row) e g = cc
     by (Some k.Txn) e g = cc
     by (Some (k.Instr o)) e g = cc
-    by (Some (k.Choice a)) e g = inl (a, ws, first w (actor_word a) ws (keyword_ok b.version w (k.Choice a) e), choice_ok (at stage.Choices b N P [] [] C) t a ws low g)
+    by (Some (k.Choice a)) e g = inl (
+      a,
+      ws,
+      first w (actor_word a) ws (keyword_ok b.version w (k.Choice a) e),
+      choice_ok (at stage.Choices b N P [] [] C) t a ws low g,
+    )
     by (Some k.End) e g = inr (rw (keyword_ok b.version w k.End e) (end_step (at stage.Choices b N P [] [] C) ws t g))
 
     split : (o : Option (List ℕ)) → led_by o (at stage.Choices b N P [] [] C) w ws ≡ Ok t → Below (at stage.Choices b N P [] [] C) (w ∷ ws) t

@@ -1,5 +1,6 @@
 -- A line that spells something is read as it.
-use Rattle.std.proofs.Common.{◌≡◌, ℕ, ◌+◌, ◌<◌, ◌≤◌, ◌^◌, ◌==◌, ◌&&◌, ◌⊎◌, Bool, true, false, nat_lt, nat_le, List, [], ◌∷◌, ◌++◌, length, codes, Ok, Option, Some, None, if◌then◌else◌, refl, sym, ap, ◌∙◌, subst, inl, inr, arith, append-nil}
+use Rattle.std.proofs.Common.{◌≡◌, ℕ, ◌+◌, ◌<◌, ◌≤◌, ◌^◌, ◌==◌, ◌&&◌, ◌⊎◌, Bool, true, false, nat_lt, nat_le, List, [], ◌∷◌, ◌++◌, length, codes, Ok, Option}
+use Rattle.std.proofs.Common.{Some, None, if◌then◌else◌, refl, sym, ap, ◌∙◌, subst, inl, inr, arith, append-nil}
 use Rattle.std.specs.Prelude.{replicate}
 use Rattle.std.specs.Char.{is_ascii_digit}
 use Rattle.zy_isa.specs.declared.node.Node.{Node}
@@ -24,7 +25,8 @@ use Rattle.zy_isa.specs.Programs.{PartsFit, HasValue, IsKnown, Values}
 use Rattle.zy_isa.specs.Choices.{names_below, actor_at}
 use Rattle.zy_isa.specs.Scenario.{opening_pages_for}
 use Rattle.zy_text.specs.Text as m
-use Rattle.zy_text.specs.Text.{Times, Spells, SpellsTarget, SpellsParts, SpellsInstr, MaySpell, SpellsLabel, Refers, SpellsChoice, SpellsTimes, instr_in, label_at, name_in}
+use Rattle.zy_text.specs.Text.{Times, Spells, SpellsTarget, SpellsParts, SpellsInstr, MaySpell, SpellsLabel, Refers, SpellsChoice, SpellsTimes, instr_in}
+use Rattle.zy_text.specs.Text.{label_at, name_in}
 use Rattle.zy_text.specs.Names.{Mark, is_letter, are_parts, is_name, place, AreNew}
 use Rattle.zy_asm.specs.declared.choices.Action.TheVariants.{Txn, Plain}
 use Rattle.zy_asm.specs.declared.choices.TxnAction.{TxnAction}
@@ -75,16 +77,27 @@ pub record Given (labels : List Mark) (o : Operation) (rest : List (List ℕ)) (
   pub given : instr_of o rest ≡ Ok pending
   pub resolves : resolved labels pending ≡ Ok i
 
-jump_gives : (labels : List Mark) (o : JumpOperation) (a b : Reg) (n : ℕ) (w : List ℕ) → is_name w ≡ true → place w labels ≡ Some n → Given labels (op.Jump o) (reg_text a ∷ reg_text b ∷ w ∷ []) (instr_with (Jump o a b n))
+jump_gives : (labels : List Mark) (o : JumpOperation) (a b : Reg) (n : ℕ) (w : List ℕ) → is_name w ≡ true → place w labels ≡ Some n
+    → Given labels (op.Jump o) (reg_text a ∷ reg_text b ∷ w ∷ []) (instr_with (Jump o a b n))
 jump_gives labels o a b n [] h e = cc
 jump_gives labels o a b n (c ∷ cs) h e =
     let l = both (is_letter c && are_parts cs) (nat_le (length cs) 31) h in
     let first = both (is_letter c) (are_parts cs) l.0 in
     record { pending = jump o a b (c ∷ cs); given = rw (two_gives a b, letter_no_at c first.0, h) refl; resolves = rw e refl }
 
-target_gives : (labels : List Mark) (o : JumpOperation) (a b : Reg) (n : ℕ) (w : List ℕ) → SpellsTarget labels n w → n < 2 ^ 32 → Given labels (op.Jump o) (reg_text a ∷ reg_text b ∷ w ∷ []) (instr_with (Jump o a b n))
+target_gives : (labels : List Mark) (o : JumpOperation) (a b : Reg) (n : ℕ) (w : List ℕ) → SpellsTarget labels n w → n < 2 ^ 32
+    → Given labels (op.Jump o) (reg_text a ∷ reg_text b ∷ w ∷ []) (instr_with (Jump o a b n))
 target_gives labels o a b n w h v = elim h [
-  | inl d ↦ record { pending = whole (instr_with (Jump o a b n)); given = rw (two_gives a b, d.1, number_in_gives d.0 0 4294967295 n d.2 (omega arith) (omega arith)) refl; resolves = refl }
+  | inl d ↦
+      record {
+        pending = whole (instr_with (Jump o a b n));
+        given = rw (
+          two_gives a b,
+          d.1,
+          number_in_gives d.0 0 4294967295 n d.2 (omega arith) (omega arith),
+        ) refl;
+        resolves = refl;
+      }
   | inr d ↦ jump_gives labels o a b n w d.0 d.1
 ]
 
@@ -96,7 +109,11 @@ abbrev Gives : List Mark → Operation → List (List ℕ) → Instr → Type 0
 Gives labels o ws i = (rest : List (List ℕ)) × (ws ≡ mnemonic o ∷ rest) × Given labels o rest i
 
 parts_give : (labels : List Mark) (p : Parts) (ws : List (List ℕ)) → SpellsParts labels p ws → PartsFit p → Gives labels (operation_of p) ws (instr_with p)
-parts_give labels (Number o a n) ws h v = (reg_text a ∷ h.0 ∷ [], h.1, whole_given labels (op.Number o) _ _ (rw (register_gives a, number_in_gives h.0 0 4294967295 n h.2 (omega arith) (omega arith)) refl))
+parts_give labels (Number o a n) ws h v = (
+  reg_text a ∷ h.0 ∷ [],
+  h.1,
+  whole_given labels (op.Number o) _ _ (rw (register_gives a, number_in_gives h.0 0 4294967295 n h.2 (omega arith) (omega arith)) refl),
+)
 parts_give labels (Pair o a b) ws h v = (reg_text a ∷ reg_text b ∷ [], h, whole_given labels (op.Pair o) _ _ (rw (two_gives a b) refl))
 parts_give labels (Jump o a b n) ws h v = (reg_text a ∷ reg_text b ∷ h.0 ∷ [], h.1, target_gives labels o a b n h.0 h.2 v)
 parts_give labels (Lone o) ws h v = ([], h, whole_given labels (op.Lone o) [] _ refl)
@@ -104,11 +121,13 @@ parts_give labels (Lone o) ws h v = ([], h, whole_given labels (op.Lone o) [] _ 
 pub instr_gives : (labels : List Mark) (i : Instr) (ws : List (List ℕ)) → SpellsInstr labels i ws → HasValue i → Gives labels (op_of i) ws i
 instr_gives labels i ws h v = subst (Gives labels (op_of i) ws) (instr_again i) (parts_give labels (parts_of i) ws h v)
 
-instr_line_gives : (s : Seen) (o : Operation) (rest : List (List ℕ)) (p : Pending) → instr_of o rest ≡ Ok p → length s.instrs < 64 → instr_line s o rest ≡ Ok (record s { instrs = s.instrs ++ p ∷ [] })
+instr_line_gives : (s : Seen) (o : Operation) (rest : List (List ℕ)) (p : Pending) → instr_of o rest ≡ Ok p → length s.instrs < 64
+    → instr_line s o rest ≡ Ok (record s { instrs = s.instrs ++ p ∷ [] })
 instr_line_gives s o rest p e few = rw (e, not_below (length s.instrs) 64 few) refl
 
 -- a line of an open program that begins with an operation
-op_line : (o : Operation) (b : Base) (N : List Mark) (P : List (List Instr)) (M : List Mark) (O : List Pending) (rest : List (List ℕ)) → is_of b.version o ≡ true
+op_line : (o : Operation) (b : Base) (N : List Mark) (P : List (List Instr)) (M : List Mark) (O : List Pending) (rest : List (List ℕ))
+    → is_of b.version o ≡ true
     → step (at stage.Program b N P M O []) (mnemonic o ∷ rest) ≡ instr_line (at stage.Program b N P M O []) o rest
 op_line o b N P M O rest known = rw (no_label o, named_back o, known) refl
 
@@ -117,13 +136,15 @@ behind_op : (o : Operation) (s : Seen) (rest : List (List ℕ)) → is_of s.vers
 behind_op o s rest known = rw (named_back o, known) refl
 
 -- a line of an open program that begins with a new label
-label_gives : (b : Base) (N : List Mark) (P : List (List Instr)) (M : List Mark) (O : List Pending) (name : List ℕ) (ws : List (List ℕ)) → is_name name ≡ true → place name M ≡ None
+label_gives : (b : Base) (N : List Mark) (P : List (List Instr)) (M : List Mark) (O : List Pending) (name : List ℕ) (ws : List (List ℕ)) → is_name name ≡ true
+    → place name M ≡ None
     → step (at stage.Program b N P M O []) ((name ++ 58 ∷ []) ∷ ws) ≡ behind_label (at stage.Program b N P (M ++ (name, length O) ∷ []) O []) ws
 label_gives b N P M O name ws h e =
     ap (λ o. led_by o (at stage.Program b N P M O []) (name ++ 58 ∷ []) ws) (label-last name 58) ∙ rw (h, e) refl
 
 -- what a line of a program makes of the state
-pub record Codes (labels : List Mark) (b : Base) (N : List Mark) (P : List (List Instr)) (M : List Mark) (O : List Pending) (l : List (List ℕ)) (v : Option (List ℕ)) (i : Option Instr) : Type 0 where
+pub record Codes (labels : List Mark) (b : Base) (N : List Mark) (P : List (List Instr)) (M : List Mark) (O : List Pending) (l : List (List ℕ))
+    (v : Option (List ℕ)) (i : Option Instr) : Type 0 where
   pub more : List Pending
   pub resolves : all_resolved labels more ≡ Ok (instr_in i)
   pub count : length more ≡ length (instr_in i)
@@ -132,8 +153,10 @@ pub record Codes (labels : List Mark) (b : Base) (N : List Mark) (P : List (List
 alone_resolved : (labels : List Mark) (p : Pending) (i : Instr) → resolved labels p ≡ Ok i → all_resolved labels (p ∷ []) ≡ Ok (i ∷ [])
 alone_resolved labels p i e = rw e refl
 
-pub code_gives : (labels : List Mark) (b : Base) (N : List Mark) (P : List (List Instr)) (M : List Mark) (O : List Pending) (v : Option (List ℕ)) (i : Option Instr) (l front back : List (List ℕ))
-    → l ≡ front ++ back → SpellsLabel v front → MaySpell labels i back → has_words l ≡ true → Values (instr_in i) → IsKnown b.version (instr_in i) → AreNew M (label_at v (length O)) → length O + length (instr_in i) ≤ 64
+pub code_gives : (labels : List Mark) (b : Base) (N : List Mark) (P : List (List Instr)) (M : List Mark) (O : List Pending) (v : Option (List ℕ))
+    (i : Option Instr) (l front back : List (List ℕ))
+    → l ≡ front ++ back → SpellsLabel v front → MaySpell labels i back → has_words l ≡ true → Values (instr_in i) → IsKnown b.version (instr_in i)
+    → AreNew M (label_at v (length O)) → length O + length (instr_in i) ≤ 64
     → Codes labels b N P M O l v i
 code_gives labels b N P M O None None l front back e f g some values known new few = absurd (no_words (e ∙ rw (f, g) refl) some)
   where
@@ -146,7 +169,8 @@ code_gives labels b N P M O None (Some i) l front back e f g some values known n
       more = d.2.pending ∷ [];
       resolves = alone_resolved labels d.2.pending i d.2.resolves;
       count = refl;
-      same = ap (step (at stage.Program b N P M O [])) line ∙ op_line (op_of i) b N P M O d.0 known.0 ∙ instr_line_gives (at stage.Program b N P M O []) (op_of i) d.0 d.2.pending d.2.given (omega (arith, few))
+      same = ap (step (at stage.Program b N P M O [])) line ∙ op_line (op_of i) b N P M O d.0 known.0
+          ∙ instr_line_gives (at stage.Program b N P M O []) (op_of i) d.0 d.2.pending d.2.given (omega (arith, few))
           ∙ ap (λ x. Ok (at stage.Program b N P x (O ++ d.2.pending ∷ []) [])) (sym (append-nil M));
     }
 code_gives labels b N P M O (Some name) None l front back e f g some values known new few =
@@ -155,7 +179,8 @@ code_gives labels b N P M O (Some name) None l front back e f g some values know
       more = [];
       resolves = refl;
       count = refl;
-      same = ap (step (at stage.Program b N P M O [])) line ∙ label_gives b N P M O name [] f.1 new.0 ∙ ap (λ x. Ok (at stage.Program b N P (M ++ (name, length O) ∷ []) x [])) (sym (append-nil O));
+      same = ap (step (at stage.Program b N P M O [])) line ∙ label_gives b N P M O name [] f.1 new.0
+          ∙ ap (λ x. Ok (at stage.Program b N P (M ++ (name, length O) ∷ []) x [])) (sym (append-nil O));
     }
 code_gives labels b N P M O (Some name) (Some i) l front back e f g some values known new few =
     let d = instr_gives labels i back g values.0 in
@@ -165,7 +190,8 @@ code_gives labels b N P M O (Some name) (Some i) l front back e f g some values 
       more = d.2.pending ∷ [];
       resolves = alone_resolved labels d.2.pending i d.2.resolves;
       count = refl;
-      same = ap (step (at stage.Program b N P M O [])) line ∙ label_gives b N P M O name (mnemonic (op_of i) ∷ d.0) f.1 new.0 ∙ behind_op (op_of i) s d.0 known.0
+      same = ap (step (at stage.Program b N P M O [])) line ∙ label_gives b N P M O name (mnemonic (op_of i) ∷ d.0) f.1 new.0
+          ∙ behind_op (op_of i) s d.0 known.0
           ∙ instr_line_gives s (op_of i) d.0 d.2.pending d.2.given (omega (arith, few));
     }
 
@@ -197,7 +223,8 @@ transaction_gives count names t w h low = elim h [
 ]
 
 -- the head of a program
-pub head_gives : (st : Stage) (b : Base) (N : List Mark) (P : List (List Instr)) (w : List ℕ) → (is_name w ≡ true) ⊎ (number_of w ≡ Some (length P)) → AreNew N (name_in w (length P))
+pub head_gives : (st : Stage) (b : Base) (N : List Mark) (P : List (List Instr)) (w : List ℕ) → (is_name w ≡ true) ⊎ (number_of w ≡ Some (length P))
+    → AreNew N (name_in w (length P))
     → head_line (top st b N P) w ≡ Ok (top st b (N ++ name_in w (length P)) P)
 head_gives st b N P w h new = elim h [
   | inl e ↦ named e (rw e at new)
@@ -224,9 +251,11 @@ repeat_gives s c n times h few = rw ((times_gives n times h).1, over_not (length
 txn_gives : (s : Seen) (a : Actor) (w who : List ℕ) (b : TxnAction) (i n : ℕ) (times : List (List ℕ)) → action_of a w ≡ Some (Txn b) → Refers s.names i who
     → nat_lt i (length s.programs) ≡ true → SpellsTimes n times → length s.choices + n ≤ 4096
     → choice_line s a (w ∷ who ∷ times) ≡ Ok (record s { stage = stage.Choices; choices = s.choices ++ replicate n (chosen b i) })
-txn_gives s a w who b i n times e f g h few = rw (e, (times_gives n times h).0, transaction_gives (length s.programs) s.names i who f g) (repeat_gives s (chosen b i) n times h few)
+txn_gives s a w who b i n times e f g h few = rw (e, (times_gives n times h).0, transaction_gives (length s.programs) s.names i who f g)
+    (repeat_gives s (chosen b i) n times h few)
 
-plain_gives : (s : Seen) (a : Actor) (w : List ℕ) (c : Choice) (n : ℕ) (times : List (List ℕ)) → action_of a w ≡ Some (Plain c) → SpellsTimes n times → length s.choices + n ≤ 4096
+plain_gives : (s : Seen) (a : Actor) (w : List ℕ) (c : Choice) (n : ℕ) (times : List (List ℕ)) → action_of a w ≡ Some (Plain c) → SpellsTimes n times
+    → length s.choices + n ≤ 4096
     → choice_line s a (w ∷ times) ≡ Ok (record s { stage = stage.Choices; choices = s.choices ++ replicate n c })
 plain_gives s a w c n times e h few = rw (e, (times_gives n times h).0) (repeat_gives s c n times h few)
 
@@ -236,12 +265,15 @@ at_node node.B w = refl
 
 -- the actor of a choice, and what its line is behind the first word
 abbrev pub Line : Seen → List (List ℕ) → ℕ → Choice → Type 0
-Line s ws n c = (a : Actor) × (rest : List (List ℕ)) × (ws ≡ actor_word a ∷ rest) × (choice_line s a rest ≡ Ok (record s { stage = stage.Choices; choices = s.choices ++ replicate n c }))
+Line s ws n c = (a : Actor) × (rest : List (List ℕ)) × (ws ≡ actor_word a ∷ rest)
+    × (choice_line s a rest ≡ Ok (record s { stage = stage.Choices; choices = s.choices ++ replicate n c }))
 
-pub choice_gives : (s : Seen) (d : Times) (ws : List (List ℕ)) → Spells (m.choice s.names d) ws → names_below (length s.programs) d.choice ≡ true → length s.choices + d.times ≤ 4096 → Line s ws d.times d.choice
+pub choice_gives : (s : Seen) (d : Times) (ws : List (List ℕ)) → Spells (m.choice s.names d) ws → names_below (length s.programs) d.choice ≡ true
+    → length s.choices + d.times ≤ 4096 → Line s ws d.times d.choice
 choice_gives s d ws h named few = by d.choice h.3 named
   where
-    of_txn : (a : Actor) (w who : List ℕ) (b : TxnAction) (i : ℕ) → h.0 ≡ actor_word a ∷ w ∷ who ∷ [] → action_of a w ≡ Some (Txn b) → Refers s.names i who → nat_lt i (length s.programs) ≡ true → Line s ws d.times (chosen b i)
+    of_txn : (a : Actor) (w who : List ℕ) (b : TxnAction) (i : ℕ) → h.0 ≡ actor_word a ∷ w ∷ who ∷ [] → action_of a w ≡ Some (Txn b) → Refers s.names i who
+        → nat_lt i (length s.programs) ≡ true → Line s ws d.times (chosen b i)
     of_txn a w who b i e f g n = (a, w ∷ who ∷ h.1, h.2 ∙ ap (λ x. x ++ h.1) e, txn_gives s a w who b i d.times h.1 f g n h.4 few)
 
     plain : (a : Actor) (w : List ℕ) (c : Choice) → h.0 ≡ actor_word a ∷ w ∷ [] → action_of a w ≡ Some (Plain c) → Line s ws d.times c
@@ -255,14 +287,16 @@ choice_gives s d ws h named few = by d.choice h.3 named
     by (choice.Begin t) g n = of_txn actor.C (codes "begin") g.0 Begin t g.1 refl g.2 n
     by (choice.Kill t) g n = of_txn actor.C (codes "kill") g.0 Kill t g.1 refl g.2 n
     by (choice.Run node t) g n =
-        of_txn (actor_at node) (codes "run") g.0 (Run node) t (g.1 ∙ ap (λ v. v ∷ codes "run" ∷ g.0 ∷ []) (sym (node_word node))) (at_node node (codes "run")) g.2 n
+        of_txn (actor_at node) (codes "run") g.0 (Run node) t (g.1 ∙ ap (λ v. v ∷ codes "run" ∷ g.0 ∷ []) (sym (node_word node)))
+        (at_node node (codes "run")) g.2 n
     by (choice.Take node) g n = plain_at node (codes "take") (choice.Take node) g refl
     by (choice.Finish node) g n = plain_at node (codes "finish") (choice.Finish node) g refl
     by (choice.Push node) g n = plain_at node (codes "push") (choice.Push node) g refl
 
 -- ---- rows
 
-pub row_gives : (b : Base) (r : Row) (l : List (List ℕ)) → Spells (m.row r) l → r.key < 2 ^ 16 → r.value < 2 ^ 32 → length b.rows < 256 → opening_pages_for b.cap (length b.rows + 1) ≤ b.pages → is_low r.key (last_row b.rows) ≡ false
+pub row_gives : (b : Base) (r : Row) (l : List (List ℕ)) → Spells (m.row r) l → r.key < 2 ^ 16 → r.value < 2 ^ 32 → length b.rows < 256
+    → opening_pages_for b.cap (length b.rows + 1) ≤ b.pages → is_low r.key (last_row b.rows) ≡ false
     → step (top stage.Rows b [] []) l ≡ Ok (top stage.Rows (record b { rows = b.rows ++ r ∷ [] }) [] [])
 row_gives b r l q k v few pages low =
     rw (q.2, number_in_gives q.0 0 65535 r.key q.3 (omega arith) (omega arith), number_in_gives q.1 0 4294967295 r.value q.4 (omega arith) (omega arith))

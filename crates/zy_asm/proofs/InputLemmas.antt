@@ -9,6 +9,7 @@ use Rattle.zy_asm.proofs.OnlyLemmas.{only}
 not_faulty : (bs : List ℕ) (s : Scenario) → utf8_fault bs ≡ None → Means bs s → Means bs s × (input_fault bs ≡ None)
 not_faulty bs s e h = (h, rw (e, only bs s h) refl)
 
-pub found_in : (bs text : List ℕ) (r : Result Scenario Refusal) → utf8_fault bs ≡ None → text ≡ bs → IfOk r (λ s. Means text s) → IfOk r (λ s. Means bs s × (input_fault bs ≡ None))
+pub found_in : (bs text : List ℕ) (r : Result Scenario Refusal) → utf8_fault bs ≡ None → text ≡ bs → IfOk r (λ s. Means text s)
+    → IfOk r (λ s. Means bs s × (input_fault bs ≡ None))
 found_in bs text (Ok s) e same h = not_faulty bs s e (subst (λ x. Means x s) same h)
 found_in bs text (Err f) e same h = tt

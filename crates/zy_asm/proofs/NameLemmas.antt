@@ -16,4 +16,5 @@ lookup-place w (e ∷ es) = rw (lookup-place w es) refl
 -- a new entry goes last
 pub entries-add : (old new : List (Vec ℕ Global × ℕ)) (v : Vec ℕ Global) (w : List ℕ) (n : ℕ) → new ≡ old ++ (v, n) ∷ [] → v.items ≡ w
     → map shown_entry new ≡ map shown_entry old ++ (w, n) ∷ []
-entries-add old new v w n e h = ap (map shown_entry) e ∙ map-append shown_entry old ((v, n) ∷ []) ∙ ap (λ u. map shown_entry old ++ (let m : Mark = (u, n) in m) ∷ []) h
+entries-add old new v w n e h = ap (map shown_entry) e ∙ map-append shown_entry old ((v, n) ∷ [])
+    ∙ ap (λ u. map shown_entry old ++ (let m : Mark = (u, n) in m) ∷ []) h

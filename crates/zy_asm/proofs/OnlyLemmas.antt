@@ -1,5 +1,7 @@
 -- What is meant is read.
-use Rattle.std.proofs.Common.{◌≡◌, ℕ, ◌+◌, ◌/◌, ◌<◌, ◌≤◌, Bool, true, false, if◌then◌else◌, nat_le, is_some, List, [], ◌∷◌, ◌++◌, length, map, filter, codes, Result, Ok, Err, Option, Some, None, refl, sym, ap, ◌∙◌, subst, inl, inr, ◌⊎◌, arith, append_assoc, append-nil, length-append, suc, zero, ◌==◌}
+use Rattle.std.proofs.Common.{◌≡◌, ℕ, ◌+◌, ◌/◌, ◌<◌, ◌≤◌, Bool, true, false, if◌then◌else◌, nat_le, is_some, List, [], ◌∷◌, ◌++◌, length, map, filter, codes}
+use Rattle.std.proofs.Common.{Result, Ok, Err, Option, Some, None, refl, sym, ap, ◌∙◌, subst, inl, inr, ◌⊎◌, arith, append_assoc, append-nil, length-append}
+use Rattle.std.proofs.Common.{suc, zero, ◌==◌}
 use Rattle.std.proofs.lemmas.List.{length-replicate}
 use Rattle.std.proofs.lemmas.Nat.{le-div}
 use Rattle.std.proofs.Math.Nat.{div-mul-le_self}
@@ -24,7 +26,8 @@ use Rattle.zy_isa.specs.Choices.{names_below, actor_at}
 use Rattle.zy_isa.specs.Scenario.{Scenario, IsScenario, ArePrograms, AreKnown, AreNamed, opening_pages_for, opening_rows}
 use Rattle.zy_text.specs.Text as m
 use Rattle.zy_text.specs.Names.{Mark, is_name, place, AreNew}
-use Rattle.zy_text.specs.Text.{Code, Written, Times, Draft, Statement, Spells, SpellEach, SpellsChoice, SpellsTimes, instr_in, instrs_of, label_at, labels_of, name_in, names_of, Headed, Labelled, IsDraftOf, program_statements, choice_statements, repeated, statements, Means}
+use Rattle.zy_text.specs.Text.{Code, Written, Times, Draft, Statement, Spells, SpellEach, SpellsChoice, SpellsTimes, instr_in, instrs_of, label_at, labels_of}
+use Rattle.zy_text.specs.Text.{name_in, names_of, Headed, Labelled, IsDraftOf, program_statements, choice_statements, repeated, statements, Means}
 use Rattle.zy_asm.specs.declared.faults.AsmKind.{AsmKind}
 use Rattle.zy_asm.specs.declared.faults.AsmKind.TheVariants as kinds
 use Rattle.zy_asm.specs.declared.faults.AsmFault.{AsmFault}
@@ -33,7 +36,8 @@ use Rattle.zy_asm.specs.declared.state.Stage.TheVariants as stage
 use Rattle.zy_asm.specs.declared.state.Reader.{Reader}
 use Rattle.zy_isa.specs.Results.{◌>>=◌}
 use Rattle.zy_asm.specs.Pending.{Pending, resolved, all_resolved, program_of}
-use Rattle.zy_asm.specs.Reading.{Seen, progress_of, rule_of, own_number, open_line, choice_line, step, line_step, at_line, read_lines, reading, finish, nothing_seen}
+use Rattle.zy_asm.specs.Reading.{Seen, progress_of, rule_of, own_number, open_line, choice_line, step, line_step, at_line, read_lines, reading, finish}
+use Rattle.zy_asm.specs.Reading.{nothing_seen}
 use Rattle.zy_isa.proofs.RowLemmas.{Above, above_more}
 use Rattle.zy_isa.proofs.ResultLemmas.{bind_ok, not_below, over_not}
 use Rattle.zy_asm.proofs.SpellLemmas.{actor_word, node_word}
@@ -88,12 +92,16 @@ only_choices (d ∷ cs) (l ∷ ls) st b N P C t e h r few =
     let rest = repeated cs in
     let all : length (more ++ rest) ≡ d.times + length rest = length-append more rest ∙ ap (λ n. n + length rest) (length-replicate d.times d.choice) in
     let len : length (C ++ more) ≡ length C + d.times = length-append C more ∙ ap (λ n. length C + n) (length-replicate d.times d.choice) in
-    let g = choice_gives (at st b N P [] [] C) d l h.0 (named_first (length P) d.times d.choice rest (some_times d.times h.0.1 h.0.4) r) (omega (arith, all, few)) in
-    let one : step (at st b N P [] [] C) l ≡ Ok (at stage.Choices b N P [] [] (C ++ more)) = made_by (at st b N P [] [] C) (at stage.Choices b N P [] [] (C ++ more)) l t g in
-    rw one (only_choices cs ls stage.Choices b N P (C ++ more) (each_actor (C ++ more)) refl h.1 (named_rest (length P) d.times d.choice rest r) (omega (arith, all, len, few))
+    let g = choice_gives (at st b N P [] [] C) d l h.0 (named_first (length P) d.times d.choice rest (some_times d.times h.0.1 h.0.4) r)
+    (omega (arith, all, few)) in
+    let one : step (at st b N P [] [] C) l ≡ Ok (at stage.Choices b N P [] [] (C ++ more)) =
+    made_by (at st b N P [] [] C) (at stage.Choices b N P [] [] (C ++ more)) l t g in
+    rw one (only_choices cs ls stage.Choices b N P (C ++ more) (each_actor (C ++ more)) refl h.1 (named_rest (length P) d.times d.choice rest r)
+    (omega (arith, all, len, few))
     ∙ ap (λ x. Ok (at stage.Done b N P [] [] x)) (append_assoc C more rest))
   where
-    each_actor : (D : List Choice) (a : Actor) (ws : List (List ℕ)) → step (at stage.Choices b N P [] [] D) (actor_word a ∷ ws) ≡ choice_line (at stage.Choices b N P [] [] D) a ws
+    each_actor : (D : List Choice) (a : Actor) (ws : List (List ℕ)) → step (at stage.Choices b N P [] [] D) (actor_word a ∷ ws)
+        ≡ choice_line (at stage.Choices b N P [] [] D) a ws
     each_actor D actor.C ws = refl
     each_actor D actor.A ws = refl
     each_actor D actor.B ws = refl
@@ -107,14 +115,16 @@ record Passed (xs : List Statement) (ls : List (List (List ℕ))) (s : Seen) (t 
   same : fold_lines s ls ≡ fold_lines t rest
 
 -- what new labels are, one after the other
-label_first : (M : List Mark) (v : Option (List ℕ)) (n : ℕ) (more : List Mark) → AreNew M (label_at v n ++ more) → AreNew M (label_at v n) × AreNew (M ++ label_at v n) more
+label_first : (M : List Mark) (v : Option (List ℕ)) (n : ℕ) (more : List Mark) → AreNew M (label_at v n ++ more) → AreNew M (label_at v n)
+    × AreNew (M ++ label_at v n) more
 label_first M None n more h = (tt, rw append-nil h)
 label_first M (Some w) n more h = ((h.0, tt), h.1)
 
 name_first : (N : List Mark) (w : List ℕ) (n : ℕ) (more : List Mark) → AreNew N (name_in w n ++ more) → AreNew N (name_in w n) × AreNew (N ++ name_in w n) more
 name_first N w n more h = by (is_name w) h
   where
-    by : (b : Bool) → AreNew N ((if b then (w, n) ∷ [] else []) ++ more) → AreNew N (if b then (w, n) ∷ [] else []) × AreNew (N ++ (if b then (w, n) ∷ [] else [])) more
+    by : (b : Bool) → AreNew N ((if b then (w, n) ∷ [] else []) ++ more) → AreNew N (if b then (w, n) ∷ [] else [])
+        × AreNew (N ++ (if b then (w, n) ∷ [] else [])) more
     by true h = ((h.0, tt), h.1)
     by false h = (tt, rw append-nil h)
 
@@ -126,7 +136,8 @@ known_first : (version : Version) (i : Option Instr) (is : List Instr) → IsKno
 known_first version None is h = (tt, h)
 known_first version (Some i) is h = ((h.0, tt), h.1)
 
-all_resolved-append : (labels : List Mark) (O Q : List Pending) (I J : List Instr) → all_resolved labels O ≡ Ok I → all_resolved labels Q ≡ Ok J → all_resolved labels (O ++ Q) ≡ Ok (I ++ J)
+all_resolved-append : (labels : List Mark) (O Q : List Pending) (I J : List Instr) → all_resolved labels O ≡ Ok I → all_resolved labels Q ≡ Ok J
+    → all_resolved labels (O ++ Q) ≡ Ok (I ++ J)
 all_resolved-append labels [] Q I J e f = let q : I ≡ [] = cc in rw q f
 all_resolved-append labels (p ∷ O) Q I J e f =
     let a = bind_ok (resolved labels p) _ I e in
@@ -135,13 +146,16 @@ all_resolved-append labels (p ∷ O) Q I J e f =
     rw (a.1, all_resolved-append labels O Q c.0 J c.1 f) (ap (λ (x : List Instr). Ok (x ++ J)) q)
 
 -- the lines of a program were read
-record Coded (labels : List Mark) (xs : List Statement) (ls : List (List (List ℕ))) (b : Base) (N : List Mark) (P : List (List Instr)) (M : List Mark) (O : List Pending) (codes : List Code) (I : List Instr) : Type 0 where
+record Coded (labels : List Mark) (xs : List Statement) (ls : List (List (List ℕ))) (b : Base) (N : List Mark) (P : List (List Instr)) (M : List Mark)
+    (O : List Pending) (codes : List Code) (I : List Instr) : Type 0 where
   instrs : List Pending
   resolves : all_resolved labels instrs ≡ Ok (I ++ instrs_of codes)
   passed : Passed xs ls (at stage.Program b N P M O []) (at stage.Program b N P (M ++ labels_of (length O) codes) instrs [])
 
-only_codes : (labels : List Mark) (cs : List Code) (xs : List Statement) (ls : List (List (List ℕ))) (b : Base) (N : List Mark) (P : List (List Instr)) (M : List Mark) (O : List Pending) (I : List Instr)
-    → SpellEach (map (m.code labels) cs ++ xs) ls → Worded ls → Values (instrs_of cs) → IsKnown b.version (instrs_of cs) → AreNew M (labels_of (length O) cs) → all_resolved labels O ≡ Ok I → length O + length (instrs_of cs) ≤ 64
+only_codes : (labels : List Mark) (cs : List Code) (xs : List Statement) (ls : List (List (List ℕ))) (b : Base) (N : List Mark) (P : List (List Instr))
+    (M : List Mark) (O : List Pending) (I : List Instr)
+    → SpellEach (map (m.code labels) cs ++ xs) ls → Worded ls → Values (instrs_of cs) → IsKnown b.version (instrs_of cs) → AreNew M (labels_of (length O) cs)
+    → all_resolved labels O ≡ Ok I → length O + length (instrs_of cs) ≤ 64
     → Coded labels xs ls b N P M O cs I
 only_codes labels [] xs ls b N P M O I h w v known new e few = record {
   instrs = O;
@@ -160,8 +174,10 @@ only_codes labels (c ∷ cs) xs (l ∷ ls) b N P M O I h w v known new e few =
     let g = code_gives labels b N P M O c.label c.instr l h.0.0 h.0.1 h.0.2 h.0.3 h.0.4 w.0 value.0 parts.0 n.0 (omega (arith, few, sum)) in
     let len : length (O ++ g.more) ≡ k + length ii = length-append O g.more ∙ ap (λ x. k + x) g.count in
     let new_rest : AreNew (M ++ mk) (labels_of (length (O ++ g.more)) cs) = subst (λ x. AreNew (M ++ mk) (labels_of x cs)) (sym len) n.1 in
-    let r = only_codes labels cs xs ls b N P (M ++ mk) (O ++ g.more) (I ++ ii) h.1 w.1 value.1 parts.1 new_rest (all_resolved-append labels O g.more I ii e g.resolves) (omega (arith, few, sum, len)) in
-    let marks : M ++ mk ++ labels_of (length (O ++ g.more)) cs ≡ M ++ (mk ++ labels_of (k + length ii) cs) = ap (λ x. M ++ mk ++ labels_of x cs) len ∙ append_assoc M mk (labels_of (k + length ii) cs) in
+    let r = only_codes labels cs xs ls b N P (M ++ mk) (O ++ g.more) (I ++ ii) h.1 w.1 value.1 parts.1 new_rest
+    (all_resolved-append labels O g.more I ii e g.resolves) (omega (arith, few, sum, len)) in
+    let marks : M ++ mk ++ labels_of (length (O ++ g.more)) cs ≡ M ++ (mk ++ labels_of (k + length ii) cs) =
+    ap (λ x. M ++ mk ++ labels_of x cs) len ∙ append_assoc M mk (labels_of (k + length ii) cs) in
     record {
       instrs = r.instrs;
       resolves = r.resolves ∙ ap Ok (append_assoc I ii (instrs_of cs));
@@ -187,7 +203,8 @@ program_gives labels O I e h = rw (e, no_prog_fault I h) refl
 at_node : (n : Node) (rest front : List (List ℕ)) → front ≡ node_text n ∷ rest → (a : Actor) × (ws : List (List ℕ)) × (front ≡ actor_word a ∷ ws)
 at_node n rest front e = (actor_at n, rest, e ∙ ap (λ w. w ∷ rest) (sym (node_word n)))
 
-choice_shape : (N : List Mark) (x : Choice) (front : List (List ℕ)) → SpellsChoice N x front → (a : Actor) × (rest : List (List ℕ)) × (front ≡ actor_word a ∷ rest)
+choice_shape : (N : List Mark) (x : Choice) (front : List (List ℕ)) → SpellsChoice N x front → (a : Actor) × (rest : List (List ℕ))
+    × (front ≡ actor_word a ∷ rest)
 choice_shape N choice.Start front g = (actor.C, codes "start" ∷ [], g)
 choice_shape N (choice.Begin t) front g = (actor.C, codes "begin" ∷ g.0 ∷ [], g.1)
 choice_shape N (choice.Kill t) front g = (actor.C, codes "kill" ∷ g.0 ∷ [], g.1)
@@ -196,13 +213,15 @@ choice_shape N (choice.Take n) front g = at_node n (codes "take" ∷ []) front g
 choice_shape N (choice.Finish n) front g = at_node n (codes "finish" ∷ []) front g
 choice_shape N (choice.Push n) front g = at_node n (codes "push" ∷ []) front g
 
-closed_by : (a : Actor) (ws : List (List ℕ)) (b : Base) (N : List Mark) (P : List (List Instr)) (M : List Mark) (O : List Pending) (I : List Instr) → program_of M O ≡ Ok I
+closed_by : (a : Actor) (ws : List (List ℕ)) (b : Base) (N : List Mark) (P : List (List Instr)) (M : List Mark) (O : List Pending) (I : List Instr)
+    → program_of M O ≡ Ok I
     → step (at stage.Program b N P M O []) (actor_word a ∷ ws) ≡ step (top stage.Rows b N (P ++ I ∷ [])) (actor_word a ∷ ws)
 closed_by actor.C ws b N P M O I e = rw e (choice_same b N (P ++ I ∷ []) actor.C ws)
 closed_by actor.A ws b N P M O I e = rw e (choice_same b N (P ++ I ∷ []) actor.A ws)
 closed_by actor.B ws b N P M O I e = rw e (choice_same b N (P ++ I ∷ []) actor.B ws)
 
-closed_by_choice : (names : List Mark) (d : Times) (l : List (List ℕ)) (b : Base) (N : List Mark) (P : List (List Instr)) (M : List Mark) (O : List Pending) (I : List Instr) → Spells (m.choice names d) l → program_of M O ≡ Ok I
+closed_by_choice : (names : List Mark) (d : Times) (l : List (List ℕ)) (b : Base) (N : List Mark) (P : List (List Instr)) (M : List Mark) (O : List Pending)
+    (I : List Instr) → Spells (m.choice names d) l → program_of M O ≡ Ok I
     → step (at stage.Program b N P M O []) l ≡ step (top stage.Rows b N (P ++ I ∷ [])) l
 closed_by_choice names d l b N P M O I h e =
     let x = choice_shape names d.choice h.0 h.3 in
@@ -210,7 +229,8 @@ closed_by_choice names d l b N P M O I h e =
     ap (step (at stage.Program b N P M O [])) q ∙ closed_by x.0 (x.1 ++ h.1) b N P M O I e ∙ ap (step (top stage.Rows b N (P ++ I ∷ []))) (sym q)
 
 -- a program is opened alike below the programs and below the rows
-open_same : (b : Base) (N : List Mark) (P : List (List Instr)) (w : List ℕ) → open_line (top stage.Choices b N P) (w ∷ []) ≡ open_line (top stage.Rows b N P) (w ∷ [])
+open_same : (b : Base) (N : List Mark) (P : List (List Instr)) (w : List ℕ)
+    → open_line (top stage.Choices b N P) (w ∷ []) ≡ open_line (top stage.Rows b N P) (w ∷ [])
 open_same b N P w = by (is_numeral w) (own_number (length P) w) (is_name w) (is_some (place w N))
   where
     opened : Seen → Result Seen AsmKind
@@ -229,7 +249,8 @@ open_same b N P w = by (is_numeral w) (own_number (length P) w) (is_name w) (is_
     by false n true false = refl
     by false n false z = refl
 
-only_close : (ps : List Written) (cs : List Times) (names : List Mark) (ls : List (List (List ℕ))) (b : Base) (N : List Mark) (P : List (List Instr)) (M : List Mark) (O : List Pending) (I : List Instr)
+only_close : (ps : List Written) (cs : List Times) (names : List Mark) (ls : List (List (List ℕ))) (b : Base) (N : List Mark) (P : List (List Instr))
+    (M : List Mark) (O : List Pending) (I : List Instr)
     → SpellEach (flat_map program_statements ps ++ choice_statements names cs) ls → program_of M O ≡ Ok I
     → fold_lines (at stage.Program b N P M O []) ls ≡ fold_lines (top stage.Rows b N (P ++ I ∷ [])) ls
 only_close [] [] names [] b N P M O I h e = absurd h
@@ -241,18 +262,22 @@ only_close (q ∷ ps) cs names (l ∷ ls) b N P M O I h e = rw (h.0, e) (ap (λ 
 
 -- ---- programs
 
-top_actor : (b : Base) (N : List Mark) (P : List (List Instr)) (a : Actor) (ws : List (List ℕ)) → step (top stage.Rows b N P) (actor_word a ∷ ws) ≡ choice_line (top stage.Rows b N P) a ws
+top_actor : (b : Base) (N : List Mark) (P : List (List Instr)) (a : Actor) (ws : List (List ℕ))
+    → step (top stage.Rows b N P) (actor_word a ∷ ws) ≡ choice_line (top stage.Rows b N P) a ws
 top_actor b N P actor.C ws = refl
 top_actor b N P actor.A ws = refl
 top_actor b N P actor.B ws = refl
 
 only_programs : (ps : List Written) (cs : List Times) (ls : List (List (List ℕ))) (b : Base) (N : List Mark) (k : ℕ) (P : List (List Instr)) → k ≡ length P
-    → SpellEach (following N k ps cs) ls → Worded ls → Headed k ps → AreNew N (names_of k ps) → Labelled ps → ArePrograms (bodies ps) → AreKnown b.version (bodies ps)
+    → SpellEach (following N k ps cs) ls → Worded ls → Headed k ps → AreNew N (names_of k ps) → Labelled ps → ArePrograms (bodies ps)
+    → AreKnown b.version (bodies ps)
     → AreNamed (length (P ++ bodies ps)) (repeated cs) → length (P ++ bodies ps) ≤ 64 → length (repeated cs) ≤ 4096
     → fold_lines (top stage.Rows b N P) ls ≡ Ok (at stage.Done b (N ++ names_of k ps) (P ++ bodies ps) [] [] (repeated cs))
 only_programs [] cs ls b N k P e h w heads new labels fit known named few room =
-    only_choices cs ls stage.Rows b N P [] (top_actor b N P) refl (subst (λ (x : List Mark). SpellEach (choice_statements x cs) ls) (append-nil N) h) (rw append-nil at named) (omega (arith, room))
-    ∙ ap (λ (x : List Mark). Ok (at stage.Done b x P [] [] (repeated cs))) (sym (append-nil N)) ∙ ap (λ (x : List (List Instr)). Ok (at stage.Done b (N ++ []) x [] [] (repeated cs))) (sym (append-nil P))
+    only_choices cs ls stage.Rows b N P [] (top_actor b N P) refl (subst (λ (x : List Mark). SpellEach (choice_statements x cs) ls) (append-nil N) h)
+    (rw append-nil at named) (omega (arith, room))
+    ∙ ap (λ (x : List Mark). Ok (at stage.Done b x P [] [] (repeated cs))) (sym (append-nil N))
+    ∙ ap (λ (x : List (List Instr)). Ok (at stage.Done b (N ++ []) x [] [] (repeated cs))) (sym (append-nil P))
 only_programs (q ∷ ps) cs [] b N k P e h w heads new labels fit known named few room = absurd h
 only_programs (q ∷ ps) cs (l ∷ ls) b N k P e h w heads new labels fit known named few room =
     let I = instrs_of q.body in
@@ -260,20 +285,29 @@ only_programs (q ∷ ps) cs (l ∷ ls) b N k P e h w heads new labels fit known 
     let one = name_in q.head k in
     let n = name_first N q.head k (names_of (k + 1) ps) new in
     let small : length P < 64 = omega (arith, few, length-append P (I ∷ bodies ps)) in
-    let opened = open_gives b N P q.head (subst (λ x. (is_name q.head ≡ true) ⊎ (number_of q.head ≡ Some x)) e heads.0) (subst (λ x. AreNew N (name_in q.head x)) e n.0) small in
-    let first : step (top stage.Rows b N P) l ≡ Ok (top stage.Program b (N ++ one) P) = ap (step (top stage.Rows b N P)) h.0 ∙ opened ∙ ap (λ x. Ok (top stage.Program b (N ++ name_in q.head x) P)) (sym e) in
+    let opened = open_gives b N P q.head (subst (λ x. (is_name q.head ≡ true) ⊎ (number_of q.head ≡ Some x)) e heads.0)
+    (subst (λ x. AreNew N (name_in q.head x)) e n.0) small in
+    let first : step (top stage.Rows b N P) l ≡ Ok (top stage.Program b (N ++ one) P) =
+    ap (step (top stage.Rows b N P)) h.0 ∙ opened ∙ ap (λ x. Ok (top stage.Program b (N ++ name_in q.head x) P)) (sym e) in
     let names : N ++ (one ++ names_of (k + 1) ps) ≡ N ++ one ++ names_of (k + 1) ps = sym (append_assoc N one (names_of (k + 1) ps)) in
-    let lines = subst (λ xs. SpellEach xs ls) (append_assoc (map (m.code L) q.body) (flat_map program_statements ps) (choice_statements (N ++ (one ++ names_of (k + 1) ps)) cs)) h.1 in
+    let lines =
+    subst (λ xs. SpellEach xs ls) (append_assoc (map (m.code L) q.body) (flat_map program_statements ps)
+    (choice_statements (N ++ (one ++ names_of (k + 1) ps)) cs)) h.1 in
     let lines2 = subst (λ (x : List Mark). SpellEach (map (m.code L) q.body ++ (flat_map program_statements ps ++ choice_statements x cs)) ls) names lines in
-    let c = only_codes L q.body (following (N ++ one) (k + 1) ps cs) ls b (N ++ one) P [] [] [] lines2 w.1 fit.0.values known.0 labels.0 refl (omega (arith, fit.0.few)) in
-    let close = only_close ps cs (N ++ one ++ names_of (k + 1) ps) c.passed.rest b (N ++ one) P L c.instrs I c.passed.spelled (program_gives L c.instrs I c.resolves fit.0) in
+    let c = only_codes L q.body (following (N ++ one) (k + 1) ps cs) ls b (N ++ one) P [] [] [] lines2 w.1 fit.0.values known.0 labels.0 refl
+    (omega (arith, fit.0.few)) in
+    let close = only_close ps cs (N ++ one ++ names_of (k + 1) ps) c.passed.rest b (N ++ one) P L c.instrs I c.passed.spelled
+    (program_gives L c.instrs I c.resolves fit.0) in
     let all : P ++ I ∷ [] ++ bodies ps ≡ P ++ (I ∷ bodies ps) = append_assoc P (I ∷ []) (bodies ps) in
     let count : k + 1 ≡ length (P ++ I ∷ []) = omega (arith, e, length-append P (I ∷ [])) in
     let rest = only_programs ps cs c.passed.rest b (N ++ one) (k + 1) (P ++ I ∷ []) count c.passed.spelled c.passed.worded heads.1 n.1 labels.1 fit.1 known.1
-    (subst (λ (x : List (List Instr)). AreNamed (length x) (repeated cs)) (sym all) named) (subst (λ (x : List (List Instr)). length x ≤ 64) (sym all) few) room in
-    rw first (c.passed.same ∙ close ∙ rest ∙ ap (λ (x : List Mark). Ok (at stage.Done b x (P ++ I ∷ [] ++ bodies ps) [] [] (repeated cs))) (sym names) ∙ ap (λ (x : List (List Instr)). Ok (at stage.Done b (N ++ (one ++ names_of (k + 1) ps)) x [] [] (repeated cs))) all)
+    (subst (λ (x : List (List Instr)). AreNamed (length x) (repeated cs)) (sym all) named)
+    (subst (λ (x : List (List Instr)). length x ≤ 64) (sym all) few) room in
+    rw first (c.passed.same ∙ close ∙ rest ∙ ap (λ (x : List Mark). Ok (at stage.Done b x (P ++ I ∷ [] ++ bodies ps) [] [] (repeated cs))) (sym names)
+    ∙ ap (λ (x : List (List Instr)). Ok (at stage.Done b (N ++ (one ++ names_of (k + 1) ps)) x [] [] (repeated cs))) all)
   where
-    open_gives : (b : Base) (N : List Mark) (P : List (List Instr)) (w : List ℕ) → (is_name w ≡ true) ⊎ (number_of w ≡ Some (length P)) → AreNew N (name_in w (length P)) → length P < 64
+    open_gives : (b : Base) (N : List Mark) (P : List (List Instr)) (w : List ℕ) → (is_name w ≡ true) ⊎ (number_of w ≡ Some (length P))
+        → AreNew N (name_in w (length P)) → length P < 64
         → step (top stage.Rows b N P) (codes "txn" ∷ w ∷ []) ≡ Ok (top stage.Program b (N ++ name_in w (length P)) P)
     open_gives b N P w h new small = rw (head_gives stage.Rows b N P w h new) (rw (not_below (length P) 64 small) refl)
 
@@ -292,16 +326,25 @@ fewer_pages c p (suc n) zero least h pages = absurd (omega arith)
 fewer_pages c p (suc n) (suc m) least h pages = omega (arith, pages, div_more n m (opening_rows c) (half c least) (omega arith))
 
 only_rows : (rows : List Row) (xs : List Statement) (ls : List (List (List ℕ))) (b : Base) (low : ℕ) → 2 ≤ b.cap
-    → SpellEach (map m.row rows ++ xs) ls → Worded ls → Rising low rows → RowsFit rows → Above low b.rows → length b.rows + length rows ≤ 256 → opening_pages_for b.cap (length b.rows + length rows) ≤ b.pages
+    → SpellEach (map m.row rows ++ xs) ls → Worded ls → Rising low rows → RowsFit rows → Above low b.rows → length b.rows + length rows ≤ 256
+    → opening_pages_for b.cap (length b.rows + length rows) ≤ b.pages
     → Passed xs ls (top stage.Rows b [] []) (top stage.Rows (record b { rows = b.rows ++ rows }) [] [])
-only_rows [] xs ls b low least h w rise fit above few pages = record { rest = ls; spelled = h; worded = w; same = ap (λ x. fold_lines (top stage.Rows (record b { rows = x }) [] []) ls) (sym (append-nil b.rows)) }
+only_rows [] xs ls b low least h w rise fit above few pages = record {
+  rest = ls;
+  spelled = h;
+  worded = w;
+  same = ap (λ x. fold_lines (top stage.Rows (record b { rows = x }) [] []) ls) (sym (append-nil b.rows));
+}
 only_rows (r ∷ rows) xs [] b low least h w rise fit above few pages = absurd h
 only_rows (r ∷ rows) xs (l ∷ ls) b low least h w rise fit above few pages =
     let R = b.rows in
     let n : length (R ++ r ∷ []) ≡ length R + 1 = length-append R (r ∷ []) in
     let all : length R + length (r ∷ rows) ≡ length (R ++ r ∷ []) + length rows = omega (arith, n) in
-    let one = row_gives b r l h.0 fit.0 fit.1 (omega (arith, few)) (fewer_pages b.cap b.pages (length R + 1) (length R + length (r ∷ rows)) least (omega arith) pages) (above r.key rise.0) in
-    let t = only_rows rows xs ls (record b { rows = R ++ r ∷ [] }) (r.key + 1) least h.1 w.1 rise.1 fit.2 (above_more R r) (omega (arith, n, few)) (subst (λ k. opening_pages_for b.cap k ≤ b.pages) all pages) in
+    let one =
+    row_gives b r l h.0 fit.0 fit.1 (omega (arith, few)) (fewer_pages b.cap b.pages (length R + 1) (length R + length (r ∷ rows)) least (omega arith) pages)
+    (above r.key rise.0) in
+    let t = only_rows rows xs ls (record b { rows = R ++ r ∷ [] }) (r.key + 1) least h.1 w.1 rise.1 fit.2 (above_more R r) (omega (arith, n, few))
+    (subst (λ k. opening_pages_for b.cap k ≤ b.pages) all pages) in
     record {
       rest = t.rest;
       spelled = t.spelled;
@@ -325,18 +368,22 @@ only_body : (s : Scenario) (d : Draft) (ls : List (List (List ℕ))) → IsScena
 only_body s d ls fits drafts w h =
     let z : 0 + length s.rows ≡ length s.rows = omega arith in
     let b = base s.version s.cap s.pages s.rule in
-    let r = only_rows s.rows (following [] 0 d.programs d.choices) ls (b []) 0 fits.cap_least h w fits.rows_rise fits.rows_fit (λ key h. refl) (omega (arith, fits.few_rows)) (subst (λ k. opening_pages_for s.cap k ≤ s.pages) (sym z) fits.few_opening_pages) in
+    let r = only_rows s.rows (following [] 0 d.programs d.choices) ls (b []) 0 fits.cap_least h w fits.rows_rise fits.rows_fit (λ key h. refl)
+    (omega (arith, fits.few_rows)) (subst (λ k. opening_pages_for s.cap k ≤ s.pages) (sym z) fits.few_opening_pages) in
     let programs : ArePrograms (bodies d.programs) = subst ArePrograms (sym drafts.programs) fits.programs in
     let known : AreKnown s.version (bodies d.programs) = subst (AreKnown s.version) (sym drafts.programs) fits.instrs_known in
     let named : AreNamed (length (bodies d.programs)) (repeated d.choices) =
-    subst (λ (x : List (List Instr)). AreNamed (length x) (repeated d.choices)) (sym drafts.programs) (subst (AreNamed (length s.programs)) (sym drafts.choices) fits.choices_named) in
+    subst (λ (x : List (List Instr)). AreNamed (length x) (repeated d.choices)) (sym drafts.programs)
+    (subst (AreNamed (length s.programs)) (sym drafts.choices) fits.choices_named) in
     let few : length (bodies d.programs) ≤ 64 = subst (λ (x : List (List Instr)). length x ≤ 64) (sym drafts.programs) fits.few_programs in
     let room : length (repeated d.choices) ≤ 4096 = subst (λ (x : List Choice). length x ≤ 4096) (sym drafts.choices) fits.few_choices in
-    r.same ∙ only_programs d.programs d.choices r.rest (b s.rows) [] 0 [] refl r.spelled r.worded drafts.headed drafts.names_new drafts.labelled programs known named few room
+    r.same ∙ only_programs d.programs d.choices r.rest (b s.rows) [] 0 [] refl r.spelled r.worded drafts.headed drafts.names_new drafts.labelled programs known
+    named few room
     ∙ ap (λ (x : List (List Instr)). Ok (at stage.Done (b s.rows) (names_of 0 d.programs) x [] [] (repeated d.choices))) drafts.programs
     ∙ ap (λ (x : List Choice). Ok (at stage.Done (b s.rows) (names_of 0 d.programs) s.programs [] [] x)) drafts.choices
 
-only_lines : (s : Scenario) (d : Draft) (ls : List (List (List ℕ))) → IsScenario s → IsDraftOf d s → Worded ls → SpellEach (statements s d) ls → fold_lines nothing_seen ls ≡ Ok (all_of s (names_of 0 d.programs))
+only_lines : (s : Scenario) (d : Draft) (ls : List (List (List ℕ))) → IsScenario s → IsDraftOf d s → Worded ls → SpellEach (statements s d) ls
+    → fold_lines nothing_seen ls ≡ Ok (all_of s (names_of 0 d.programs))
 only_lines s d [] fits e w q = absurd q
 only_lines s d (x ∷ []) fits e w q = absurd q.1
 only_lines s d (x ∷ y ∷ []) fits e w q = absurd q.1.1
@@ -354,7 +401,8 @@ at_line_ok : {X : Type 0} (n : ℕ) (r : Result X AsmKind) (t : X) → at_line n
 at_line_ok n (Ok x) t h = cc
 at_line_ok n (Err k) t h = cc
 
-strip_at : (ws : List (List ℕ)) (rest : List (List (List ℕ))) (s t u : Seen) → line_step s ws ≡ Ok u → fold_lines u (filter has_words rest) ≡ Ok t → fold_lines s (filter has_words (ws ∷ rest)) ≡ Ok t
+strip_at : (ws : List (List ℕ)) (rest : List (List (List ℕ))) (s t u : Seen) → line_step s ws ≡ Ok u → fold_lines u (filter has_words rest) ≡ Ok t
+    → fold_lines s (filter has_words (ws ∷ rest)) ≡ Ok t
 strip_at [] rest s t u h k = let e : s ≡ u = cc in rw e k
 strip_at (w ∷ ws) rest s t u h k = rw h k
 
@@ -364,7 +412,8 @@ strip_ok (l ∷ ls) s t n h =
     let p = bind_ok (at_line n (line_step s (words_of l))) (λ u. read_lines u (n + 1) ls) t h in
     strip_at (words_of l) (map words_of ls) s t p.0 (at_line_ok n (line_step s (words_of l)) p.0 p.1) (strip_ok ls p.0 t (n + 1) p.2)
 
-back_at : (ws : List (List ℕ)) (rest : List (List (List ℕ))) (s t : Seen) → fold_lines s (filter has_words (ws ∷ rest)) ≡ Ok t → (u : Seen) × (line_step s ws ≡ Ok u) × (fold_lines u (filter has_words rest) ≡ Ok t)
+back_at : (ws : List (List ℕ)) (rest : List (List (List ℕ))) (s t : Seen) → fold_lines s (filter has_words (ws ∷ rest)) ≡ Ok t → (u : Seen)
+    × (line_step s ws ≡ Ok u) × (fold_lines u (filter has_words rest) ≡ Ok t)
 back_at [] rest s t h = (s, refl, h)
 back_at (w ∷ ws) rest s t h = bind_ok (step s (w ∷ ws)) (λ u. fold_lines u (filter has_words rest)) t h
 
@@ -385,7 +434,8 @@ abbrev ends_in : (text : List ℕ) (s : Scenario) → Means text s → Seen
 ends_in text s h = all_of s (names_of 0 h.1.0.programs)
 
 pub only : (text : List ℕ) (s : Scenario) (h : Means text s) → reading text ≡ Ok (ends_in text s h)
-only text s h = strip_back (lines_of text) nothing_seen (ends_in text s h) 1 (only_lines s h.1.0 (lines_with_words text) h.0 h.1.1 (worded (map words_of (lines_of text))) h.1.2)
+only text s h = strip_back (lines_of text) nothing_seen (ends_in text s h) 1
+    (only_lines s h.1.0 (lines_with_words text) h.0 h.1.1 (worded (map words_of (lines_of text))) h.1.2)
 
 one_answer : (t u : Seen) (r : Result Seen AsmFault) → r ≡ Ok t → r ≡ Ok u → t ≡ u
 one_answer t u r h k = cc

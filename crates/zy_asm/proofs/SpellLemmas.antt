@@ -1,5 +1,6 @@
 -- What a line that is read spells.
-use Rattle.std.proofs.Common.{◌≡◌, ℕ, ◌+◌, ◌<◌, ◌≤◌, ◌⊎◌, Bool, Option, true, false, is_some, if◌then◌else◌, append-nil, lt-ltb, ◌||◌, ◌==◌, nat_lt, List, [], ◌∷◌, ◌++◌, length, codes, Result, Ok, Some, None, refl, sym, ap, ◌∙◌, subst, inl, inr, arith, ok_or}
+use Rattle.std.proofs.Common.{◌≡◌, ℕ, ◌+◌, ◌<◌, ◌≤◌, ◌⊎◌, Bool, Option, true, false, is_some, if◌then◌else◌, append-nil, lt-ltb, ◌||◌, ◌==◌, nat_lt, List, []}
+use Rattle.std.proofs.Common.{◌∷◌, ◌++◌, length, codes, Result, Ok, Some, None, refl, sym, ap, ◌∙◌, subst, inl, inr, arith, ok_or}
 use Rattle.std.specs.Prelude.{replicate, is_none}
 use Rattle.std.specs.List.{find}
 use Rattle.std.specs.Str.{bytes_eq}
@@ -114,7 +115,12 @@ keyword_ok version w key h =
                             elim (chosen_by (bytes_eq w (codes "end")) _ _ _ e.1) [
                               | inl f ↦ some_key version w k.End key (same w (codes "end") f.0) f.1
                               | inr f ↦
-                                  elim (chosen_by (bytes_eq w (codes "zephyr") || bytes_eq w (codes "cap") || bytes_eq w (codes "pages") || bytes_eq w (codes "rule")) _ _ _ f.1) [ inl g ↦ some_key version w k.Header key tt g.1 | inr g ↦ absurd (nothing key g.1) ]
+                                  elim (chosen_by (bytes_eq w (codes "zephyr") || bytes_eq w (codes "cap") || bytes_eq w (codes "pages")
+                                  || bytes_eq w (codes "rule")) _ _ _ f.1) [
+                                    | inl g ↦ some_key version w k.Header key tt g.1
+                                    | inr g ↦
+                                        absurd (nothing key g.1)
+                                  ]
                             ]
                       ]
                 ]
@@ -132,7 +138,8 @@ number_in_ok w a b n h =
     (ok_or_ok (number_of w) kinds.Number p.0 p.1 ∙ ap Some e, omega arith, omega arith)
 
 pub register_ok : (w : List ℕ) (r : Reg) → register_of w ≡ Ok r → w ≡ reg_text r
-register_ok w r h = same w (reg_text r) (found_passes (λ x. bytes_eq w (reg_text x)) registers r (ok_or_ok (find (λ x. bytes_eq w (reg_text x)) registers) kinds.Word r h))
+register_ok w r h =
+    same w (reg_text r) (found_passes (λ x. bytes_eq w (reg_text x)) registers r (ok_or_ok (find (λ x. bytes_eq w (reg_text x)) registers) kinds.Word r h))
 
 two_ok : (a b : List ℕ) (p : Reg × Reg) → two a b ≡ Ok p → (a ≡ reg_text p.0) × (b ≡ reg_text p.1)
 two_ok a b p h =
@@ -162,14 +169,19 @@ whole_ok i p ws q h = subst (λ x. SpellsPending x ws) q (λ labels j e. same_in
 spelled_whole : (labels : List Mark) (p : Parts) (ws : List (List ℕ)) → SpellsParts labels p ws → SpellsInstr labels (instr_with p) ws
 spelled_whole labels p ws h = subst (λ x. SpellsParts labels x ws) (sym (parts_again p)) h
 
-number_ok : (o : NumberOperation) (ws : List (List ℕ)) (i : Instr) → with_number o ws ≡ Ok i → (labels : List Mark) → SpellsInstr labels i (mnemonic (op.Number o) ∷ ws)
+number_ok : (o : NumberOperation) (ws : List (List ℕ)) (i : Instr) → with_number o ws ≡ Ok i → (labels : List Mark)
+    → SpellsInstr labels i (mnemonic (op.Number o) ∷ ws)
 number_ok o [] i h labels = cc
 number_ok o (a ∷ []) i h labels = cc
 number_ok o (a ∷ w ∷ []) i h labels =
     let p = bind_ok (register_of a) _ i h in
     let n = bind_ok (number_in w 0 4294967295) _ i p.2 in
     let q : i ≡ instr_with (Number o p.0 n.0) = cc (n.2) in
-    rw q (spelled_whole labels (Number o p.0 n.0) _ (w, ap (λ r. mnemonic (op.Number o) ∷ r ∷ w ∷ []) (register_ok a p.0 p.1), (number_in_ok w 0 4294967295 n.0 n.1).0))
+    rw q (spelled_whole labels (Number o p.0 n.0) _ (
+      w,
+      ap (λ r. mnemonic (op.Number o) ∷ r ∷ w ∷ []) (register_ok a p.0 p.1),
+      (number_in_ok w 0 4294967295 n.0 n.1).0,
+    ))
 number_ok o (a ∷ w ∷ v ∷ ws) i h labels = cc
 
 abbrev jump_words : JumpOperation → Reg → Reg → List ℕ → List (List ℕ)
@@ -185,22 +197,36 @@ named_ok o a b w p n q = subst (λ x. SpellsPending x (jump_words o a b w)) q fo
     found labels i h =
         let g = bind_ok (ok_or (place w labels) kinds.Label) _ i h in
         let e : instr_with (Jump o a b g.0) ≡ i = cc (g.2) in
-        subst (λ x. SpellsInstr labels x (jump_words o a b w)) e (spelled_whole labels (Jump o a b g.0) _ (w, refl, inr (n, ok_or_ok (place w labels) kinds.Label g.0 g.1)))
+        subst (λ x. SpellsInstr labels x (jump_words o a b w)) e (spelled_whole labels (Jump o a b g.0) _ (
+          w,
+          refl,
+          inr (n, ok_or_ok (place w labels) kinds.Label g.0 g.1),
+        ))
 
 jump_ok : (o : JumpOperation) (a b : Reg) (t : List ℕ) (p : Pending) → jump_to o a b t ≡ Ok p → SpellsPending p (jump_words o a b t)
 jump_ok o a b [] p h = cc
 jump_ok o a b (c ∷ cs) p h =
     elim (chosen_by (c == 64) _ _ _ h) [
       | inl e ↦ at_number e.0 (bind_ok (number_in cs 0 4294967295) _ p e.1)
-      | inr e ↦ let d = if_ok (is_name (c ∷ cs)) (Ok (jump o a b (c ∷ cs))) kinds.Word p e.1 in named_ok o a b (c ∷ cs) p d.0 (let q : jump o a b (c ∷ cs) ≡ p = cc (d.1) in q)
+      | inr e ↦ let d = if_ok (is_name (c ∷ cs)) (Ok (jump o a b (c ∷ cs))) kinds.Word p e.1 in
+          named_ok o a b (c ∷ cs) p d.0 (let q : jump o a b (c ∷ cs) ≡ p = cc (d.1) in q)
     ]
   where
-    at_number : (c == 64) ≡ true → ((n : ℕ) × (number_in cs 0 4294967295 ≡ Ok n) × ((let r : Result Pending AsmKind = Ok (whole (instr_with (Jump o a b n))) in r) ≡ Ok p)) → SpellsPending p (jump_words o a b (c ∷ cs))
+    at_number : (c == 64) ≡ true → ((n : ℕ) × (number_in cs 0 4294967295 ≡ Ok n)
+        × ((let r : Result Pending AsmKind = Ok (whole (instr_with (Jump o a b n))) in r) ≡ Ok p)) → SpellsPending p (jump_words o a b (c ∷ cs))
     at_number e n =
         let i = instr_with (Jump o a b n.0) in
         let q : whole i ≡ p = cc (n.2) in
         whole_ok i p (jump_words o a b (c ∷ cs)) q
-        (λ labels. spelled_whole labels (Jump o a b n.0) _ (c ∷ cs, refl, inl (cs, ap (λ x. x ∷ cs) (eqb-true c 64 e), (number_in_ok cs 0 4294967295 n.0 n.1).0)))
+        (λ labels. spelled_whole labels (Jump o a b n.0) _ (
+          c ∷ cs,
+          refl,
+          inl (
+            cs,
+            ap (λ x. x ∷ cs) (eqb-true c 64 e),
+            (number_in_ok cs 0 4294967295 n.0 n.1).0,
+          ),
+        ))
 
 target_ok : (o : JumpOperation) (ws : List (List ℕ)) (p : Pending) → with_target o ws ≡ Ok p → SpellsPending p (mnemonic (op.Jump o) ∷ ws)
 target_ok o [] p h = cc
@@ -281,7 +307,8 @@ head_ok s w t h = split (is_numeral w) refl
         record {
           kind = inr (own_ok (length s.programs) w p.0 p.1);
           new = rw n tt;
-          after = (let g : t ≡ s = cc (p.2) in g) ∙ ap (λ x. record s { names = x }) (sym (append-nil s.names)) ∙ ap (λ x. record s { names = s.names ++ (if x then (w, length s.programs) ∷ [] else []) }) (sym n);
+          after = (let g : t ≡ s = cc (p.2) in g) ∙ ap (λ x. record s { names = x }) (sym (append-nil s.names))
+              ∙ ap (λ x. record s { names = s.names ++ (if x then (w, length s.programs) ∷ [] else []) }) (sym n);
         }
     split false e =
         let p = if_ok (is_name w) _ kinds.Word t (rw e at h) in
@@ -289,7 +316,8 @@ head_ok s w t h = split (is_numeral w) refl
         record {
           kind = inl p.0;
           new = rw p.0 (not_some (place w s.names) q.0, tt);
-          after = (let g : t ≡ record s { names = s.names ++ (w, length s.programs) ∷ [] } = cc (q.1) in g) ∙ ap (λ x. record s { names = s.names ++ (if x then (w, length s.programs) ∷ [] else []) }) (sym p.0);
+          after = (let g : t ≡ record s { names = s.names ++ (w, length s.programs) ∷ [] } = cc (q.1) in g)
+              ∙ ap (λ x. record s { names = s.names ++ (if x then (w, length s.programs) ∷ [] else []) }) (sym p.0);
         }
 
 -- the numbers of names are below the count
@@ -317,7 +345,8 @@ abbrev SpellsAction : List Mark → Actor → List ℕ → Action → Type 0
 SpellsAction names a w (Txn x) = (who : List ℕ) (i : ℕ) → Refers names i who → SpellsChoice names (chosen x i) (actor_word a ∷ w ∷ who ∷ [])
 SpellsAction names a w (Plain c) = SpellsChoice names c (actor_word a ∷ w ∷ []) × ((count : ℕ) → names_below count c ≡ true)
 
-this_action : (names : List Mark) (a : Actor) (w v : List ℕ) (x y : Action) → SpellsAction names a v x → bytes_eq w v ≡ true → Some x ≡ Some y → SpellsAction names a w y
+this_action : (names : List Mark) (a : Actor) (w v : List ℕ) (x y : Action) → SpellsAction names a v x → bytes_eq w v ≡ true → Some x ≡ Some y
+    → SpellsAction names a w y
 this_action names a w v x y s e h = let q : x ≡ y = cc in subst (SpellsAction names a w) q (subst (λ u. SpellsAction names a u x) (sym (same w v e)) s)
 
 client_ok : (names : List Mark) (w : List ℕ) (x : Action) → client_action w ≡ Some x → SpellsAction names actor.C w x
@@ -328,7 +357,11 @@ client_ok names w x h =
           elim (chosen_by (bytes_eq w (codes "begin")) _ _ _ a.1) [
             | inl b ↦ this_action names actor.C w (codes "begin") (Txn Begin) x (λ who i n. (who, refl, n)) b.0 b.1
             | inr b ↦
-                elim (chosen_by (bytes_eq w (codes "kill")) _ _ _ b.1) [ inl d ↦ this_action names actor.C w (codes "kill") (Txn Kill) x (λ who i n. (who, refl, n)) d.0 d.1 | inr d ↦ absurd (nothing x d.1) ]
+                elim (chosen_by (bytes_eq w (codes "kill")) _ _ _ b.1) [
+                  | inl d ↦ this_action names actor.C w (codes "kill") (Txn Kill) x
+                      (λ who i n. (who, refl, n)) d.0 d.1
+                  | inr d ↦ absurd (nothing x d.1)
+                ]
           ]
     ]
 
@@ -338,12 +371,25 @@ node_ok names n w x h =
       | inl a ↦ this_action names (actor_at n) w (codes "run") (Txn (Run n)) x (λ who i k. (who, ap (λ v. v ∷ codes "run" ∷ who ∷ []) (node_word n), k)) a.0 a.1
       | inr a ↦
           elim (chosen_by (bytes_eq w (codes "take")) _ _ _ a.1) [
-            | inl b ↦ this_action names (actor_at n) w (codes "take") (Plain (choice.Take n)) x (ap (λ v. v ∷ codes "take" ∷ []) (node_word n), λ count. refl) b.0 b.1
+            | inl b ↦ this_action names (actor_at n) w (codes "take") (Plain (choice.Take n)) x (
+              ap (λ v. v ∷ codes "take" ∷ []) (node_word n),
+              λ count. refl,
+            ) b.0 b.1
             | inr b ↦
                 elim (chosen_by (bytes_eq w (codes "finish")) _ _ _ b.1) [
-                  | inl d ↦ this_action names (actor_at n) w (codes "finish") (Plain (choice.Finish n)) x (ap (λ v. v ∷ codes "finish" ∷ []) (node_word n), λ count. refl) d.0 d.1
+                  | inl d ↦ this_action names (actor_at n) w (codes "finish") (Plain (choice.Finish n)) x (
+                    ap (λ v. v ∷ codes "finish" ∷ []) (node_word n),
+                    λ count. refl,
+                  ) d.0 d.1
                   | inr d ↦
-                      elim (chosen_by (bytes_eq w (codes "push")) _ _ _ d.1) [ inl e ↦ this_action names (actor_at n) w (codes "push") (Plain (choice.Push n)) x (ap (λ v. v ∷ codes "push" ∷ []) (node_word n), λ count. refl) e.0 e.1 | inr e ↦ absurd (nothing x e.1) ]
+                      elim (chosen_by (bytes_eq w (codes "push")) _ _ _ d.1) [
+                        | inl e ↦
+                            this_action names (actor_at n) w (codes "push") (Plain (choice.Push n)) x (
+                              ap (λ v. v ∷ codes "push" ∷ []) (node_word n),
+                              λ count. refl,
+                            ) e.0 e.1
+                        | inr e ↦ absurd (nothing x e.1)
+                      ]
                 ]
           ]
     ]
@@ -365,7 +411,8 @@ numbered_ok count w i h =
     let e : p.0 ≡ i = cc (q.1) in
     (ok_or_ok (number_of w) kinds.Number p.0 p.1 ∙ ap Some e, ap (λ x. nat_lt x count) (sym e) ∙ q.0)
 
-transaction_ok : (count : ℕ) (names : List Mark) (w : List ℕ) (i : ℕ) → AreBelow count names → transaction count names w ≡ Ok i → Refers names i w × (nat_lt i count ≡ true)
+transaction_ok : (count : ℕ) (names : List Mark) (w : List ℕ) (i : ℕ) → AreBelow count names → transaction count names w ≡ Ok i → Refers names i w
+    × (nat_lt i count ≡ true)
 transaction_ok count names w i low h =
     elim (chosen_by (is_numeral w) _ _ _ h) [
       | inl e ↦ let n = numbered_ok count w i e.1 in (inl n.0, n.1)
@@ -389,7 +436,8 @@ pub record Chose (s : Seen) (a : Actor) (ws : List (List ℕ)) (t : Seen) : Type
   pub few : length s.choices + made.times ≤ 4096
   pub after : t ≡ record s { stage = stage.Choices; choices = s.choices ++ replicate made.times made.choice }
 
-repeat_ok : (s t : Seen) (a : Actor) (front times : List (List ℕ)) (c : Choice) → SpellsChoice s.names c (actor_word a ∷ front) → names_below (length s.programs) c ≡ true
+repeat_ok : (s t : Seen) (a : Actor) (front times : List (List ℕ)) (c : Choice) → SpellsChoice s.names c (actor_word a ∷ front)
+    → names_below (length s.programs) c ≡ true
     → are_times times ≡ true → repeat_line s c times ≡ Ok t → Chose s a (front ++ times) t
 repeat_ok s t a front times c spelled named are h =
     let n = bind_ok (times_of times) (repeat_choice s c) t h in
@@ -402,7 +450,8 @@ repeat_ok s t a front times c spelled named are h =
       after = cc (f.1);
     }
 
-action_line_ok : (s t : Seen) (a : Actor) (w : List ℕ) (x : Action) (ws : List (List ℕ)) → AreBelow (length s.programs) s.names → SpellsAction s.names a w x → action_line s x ws ≡ Ok t → Chose s a (w ∷ ws) t
+action_line_ok : (s t : Seen) (a : Actor) (w : List ℕ) (x : Action) (ws : List (List ℕ)) → AreBelow (length s.programs) s.names → SpellsAction s.names a w x
+    → action_line s x ws ≡ Ok t → Chose s a (w ∷ ws) t
 action_line_ok s t a w (Txn x) [] low spelled h = cc
 action_line_ok s t a w (Txn x) (who ∷ times) low spelled h =
     let p = if_ok (are_times times) _ kinds.Word t h in

@@ -20,23 +20,28 @@ use Rattle.zy_asm.proofs.SpellLemmas.{no_label, actor_word, actor_ok}
 
 -- ---- a choice
 
-one_choice : (u : Seen) (c : Choice) → length u.choices < 4096 → repeat_choice (record u { stage = stage.Choices }) c 1 ≡ Ok (record u { stage = stage.Choices; choices = u.choices ++ c ∷ [] })
+one_choice : (u : Seen) (c : Choice) → length u.choices < 4096 → repeat_choice (record u { stage = stage.Choices }) c 1
+    ≡ Ok (record u { stage = stage.Choices; choices = u.choices ++ c ∷ [] })
 one_choice u c few = rw (over_not (length u.choices + 1) 4096 (omega (arith, few))) refl
 
-choice_read : (u : Seen) (o : Actor) (v t : List ℕ) (a : TxnAction) (i : ℕ) → length u.choices < 4096 → action_of o v ≡ Some (Txn a) → is_numeral t ≡ true → numbered (length u.programs) t ≡ Ok i
+choice_read : (u : Seen) (o : Actor) (v t : List ℕ) (a : TxnAction) (i : ℕ) → length u.choices < 4096 → action_of o v ≡ Some (Txn a) → is_numeral t ≡ true
+    → numbered (length u.programs) t ≡ Ok i
     → choice_line (record u { stage = stage.Choices }) o (v ∷ t ∷ []) ≡ Ok (record u { stage = stage.Choices; choices = u.choices ++ chosen a i ∷ [] })
 choice_read u o v t a i few f n g = rw (f, n, g) (one_choice u (chosen a i) few)
 
-by_actor : (u : Seen) (o : Actor) (vs : List (List ℕ)) → line_step (record u { stage = stage.Choices }) (actor_word o ∷ vs) ≡ choice_line (record u { stage = stage.Choices }) o vs
+by_actor : (u : Seen) (o : Actor) (vs : List (List ℕ)) → line_step (record u { stage = stage.Choices }) (actor_word o ∷ vs)
+    ≡ choice_line (record u { stage = stage.Choices }) o vs
 by_actor u actor.C vs = refl
 by_actor u actor.A vs = refl
 by_actor u actor.B vs = refl
 
 pub choice_taken : (s : Seen) (w v t : List ℕ) (o : Actor) (a : TxnAction) (i : ℕ) → s.stage ≡ stage.Choices → length s.choices < 4096 → actor_of w ≡ Some o
-    → action_of o v ≡ Some (Txn a) → is_numeral t ≡ true → numbered (length s.programs) t ≡ Ok i → line_step s (w ∷ v ∷ t ∷ []) ≡ Ok (record s { choices = s.choices ++ chosen a i ∷ [] })
+    → action_of o v ≡ Some (Txn a) → is_numeral t ≡ true → numbered (length s.programs) t ≡ Ok i
+    → line_step s (w ∷ v ∷ t ∷ []) ≡ Ok (record s { choices = s.choices ++ chosen a i ∷ [] })
 choice_taken s w v t o a i e few h f n g =
     let same : s ≡ record s { stage = stage.Choices } = ap (λ x. record s { stage = x }) e in
-    let taken = ap (λ x. line_step (record s { stage = stage.Choices }) (x ∷ v ∷ t ∷ [])) (actor_ok w o h) ∙ by_actor s o (v ∷ t ∷ []) ∙ choice_read s o v t a i few f n g in
+    let taken = ap (λ x. line_step (record s { stage = stage.Choices }) (x ∷ v ∷ t ∷ [])) (actor_ok w o h) ∙ by_actor s o (v ∷ t ∷ [])
+    ∙ choice_read s o v t a i few f n g in
     subst (λ (x : Seen). line_step x (w ∷ v ∷ t ∷ []) ≡ Ok (record x { choices = x.choices ++ chosen a i ∷ [] })) (sym same) taken
 
 plain_read : (u : Seen) (o : Actor) (v : List ℕ) (c : Choice) → length u.choices < 4096 → action_of o v ≡ Some (Plain c)
@@ -52,10 +57,12 @@ plain_taken s w v o c e few h f =
 
 -- ---- an instruction
 
-by_operation : (u : Seen) (o : Operation) (vs : List (List ℕ)) → is_of u.version o ≡ true → line_step (record u { stage = stage.Program }) (mnemonic o ∷ vs) ≡ instr_line (record u { stage = stage.Program }) o vs
+by_operation : (u : Seen) (o : Operation) (vs : List (List ℕ)) → is_of u.version o ≡ true
+    → line_step (record u { stage = stage.Program }) (mnemonic o ∷ vs) ≡ instr_line (record u { stage = stage.Program }) o vs
 by_operation u o vs known = rw (no_label o, named_back o, known) refl
 
-one_instr : (u : Seen) (o : Operation) (vs : List (List ℕ)) (i : Instr) → length u.instrs < 64 → instr_of o vs ≡ Ok (whole i) → instr_line u o vs ≡ Ok (record u { instrs = u.instrs ++ whole i ∷ [] })
+one_instr : (u : Seen) (o : Operation) (vs : List (List ℕ)) (i : Instr) → length u.instrs < 64 → instr_of o vs ≡ Ok (whole i)
+    → instr_line u o vs ≡ Ok (record u { instrs = u.instrs ++ whole i ∷ [] })
 one_instr u o vs i few h = rw (h, not_below (length u.instrs) 64 few) refl
 
 pub instr_taken : (s : Seen) (w v t : List ℕ) (o : Operation) (i : Instr) → s.stage ≡ stage.Program → length s.instrs < 64 → named_in s.version w ≡ Some o
@@ -63,5 +70,6 @@ pub instr_taken : (s : Seen) (w v t : List ℕ) (o : Operation) (i : Instr) → 
 instr_taken s w v t o i e few h f =
     let same : s ≡ record s { stage = stage.Program } = ap (λ x. record s { stage = x }) e in
     let there = found_in s.version (named w) o h in
-    let taken = ap (λ x. line_step (record s { stage = stage.Program }) (x ∷ v ∷ t ∷ [])) (named_is w o there.0) ∙ by_operation s o (v ∷ t ∷ []) there.1 ∙ one_instr (record s { stage = stage.Program }) o (v ∷ t ∷ []) i few f in
+    let taken = ap (λ x. line_step (record s { stage = stage.Program }) (x ∷ v ∷ t ∷ [])) (named_is w o there.0) ∙ by_operation s o (v ∷ t ∷ []) there.1
+    ∙ one_instr (record s { stage = stage.Program }) o (v ∷ t ∷ []) i few f in
     subst (λ (x : Seen). line_step x (w ∷ v ∷ t ∷ []) ≡ Ok (record x { instrs = x.instrs ++ whole i ∷ [] })) (sym same) taken

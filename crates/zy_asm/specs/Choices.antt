@@ -1,5 +1,6 @@
 -- The choice that the words of a line spell, and the fault where they spell none.
-use Rattle.std.specs.Prelude.{ℕ, List, [], ◌∷◌, codes, nat_lt, Bool, true, false, Option, Some, None, Result, Ok, Err, ok_or, if◌then◌else◌}
+use Rattle.std.specs.Prelude.{ℕ, List, [], ◌∷◌, codes, nat_lt, Bool, true, false, Option, Some, None, Result, Ok, Err}
+use Rattle.std.specs.Prelude.{ok_or, if◌then◌else◌}
 use Rattle.std.specs.Str.{bytes_eq}
 use Rattle.zy_isa.specs.declared.node.Node.{Node}
 use Rattle.zy_isa.specs.declared.node.Node.TheVariants as node

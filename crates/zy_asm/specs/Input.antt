@@ -13,7 +13,8 @@ line_after n bytes = 1 + count_by (λ b. b == 10) (take n bytes)
 
 -- bytes that are not UTF-8 have a faulty word in the line of the first wrong byte
 abbrev pub utf8_fault : List ℕ → Option AsmFault
-utf8_fault bytes = if is_utf8 bytes then None else Some (record { line = line_after (utf8_valid_len bytes) bytes; kind = kinds.Word })
+utf8_fault bytes = if is_utf8 bytes then None else Some
+    (record { line = line_after (utf8_valid_len bytes) bytes; kind = kinds.Word })
 
 abbrev pub unless_faulty : Option AsmFault → List ℕ → Result Seen AsmFault
 unless_faulty None bytes = reading bytes

@@ -1,5 +1,7 @@
 -- Reading a text, line by line, up to the first fault.
-use Rattle.std.specs.Prelude.{is_some, map, ◌≡◌, ◌==◌, ◌+◌, ◌⊎◌, ◌||◌, ℕ, List, [], ◌∷◌, ◌++◌, length, codes, Option, Some, None, Bool, Result, Ok, Err, ok_or, option_map, if◌then◌else◌, nat_le, nat_lt, replicate}
+use Rattle.std.specs.Prelude.{is_some, map, ◌≡◌, ◌==◌, ◌+◌, ◌⊎◌, ◌||◌, ℕ, List, [], ◌∷◌, ◌++◌, length, codes, Option}
+use Rattle.std.specs.Prelude.{Some, None, Bool, Result, Ok, Err, ok_or, option_map, if◌then◌else◌, nat_le, nat_lt}
+use Rattle.std.specs.Prelude.{replicate}
 use Rattle.std.specs.Option.{option_or}
 use Rattle.std.specs.Str.{bytes_eq}
 use Rattle.zy_isa.specs.declared.node.Actor.{Actor}
@@ -74,7 +76,8 @@ keyword_of version w =
     if bytes_eq w (codes "row") then Some k.Row else
     if bytes_eq w (codes "txn") then Some k.Txn else
     if bytes_eq w (codes "end") then Some k.End else
-    if bytes_eq w (codes "zephyr") || bytes_eq w (codes "cap") || bytes_eq w (codes "pages") || bytes_eq w (codes "rule") then Some k.Header else
+    if bytes_eq w (codes "zephyr") || bytes_eq w (codes "cap") || bytes_eq w (codes "pages")
+    || bytes_eq w (codes "rule") then Some k.Header else
     None))
 
 -- ---- the header
@@ -143,7 +146,8 @@ row_at _ s ws = Err kinds.Order
 -- ---- programs
 
 abbrev pub instr_line : Seen → Operation → List (List ℕ) → Result Seen AsmKind
-instr_line s op ws = instr_of op ws >>= λ i. if nat_le 64 (length s.instrs) then Err kinds.Count else Ok (record s { instrs = s.instrs ++ i ∷ [] })
+instr_line s op ws = instr_of op ws >>= λ i. if nat_le 64 (length s.instrs) then Err kinds.Count
+    else Ok (record s { instrs = s.instrs ++ i ∷ [] })
 
 abbrev pub instr_at : Stage → Seen → Operation → List (List ℕ) → Result Seen AsmKind
 instr_at Program s op ws = instr_line s op ws
@@ -151,7 +155,8 @@ instr_at _ s op ws = Err kinds.Order
 
 -- a label is noted once, with the index of the next instruction
 abbrev pub note_label : Seen → List ℕ → Result Seen AsmKind
-note_label s name = if is_some (place name s.labels) then Err kinds.Label else Ok (record s { labels = s.labels ++ (name, length s.instrs) ∷ [] })
+note_label s name = if is_some (place name s.labels) then Err kinds.Label
+    else Ok (record s { labels = s.labels ++ (name, length s.instrs) ∷ [] })
 
 -- behind a label is an instruction, or nothing
 abbrev pub labelled : Option Keyword → Seen → List (List ℕ) → Result Seen AsmKind
@@ -171,7 +176,8 @@ label_line s name ws = if is_name name then label_at s.stage s name ws else Err 
 
 -- a program is closed by the line below it
 abbrev pub closed_at : Stage → Seen → Result Seen AsmKind
-closed_at Program s = program_of s.labels s.instrs >>= λ p. Ok (record s { stage = Choices; programs = s.programs ++ p ∷ []; labels = []; instrs = [] })
+closed_at Program s = program_of s.labels s.instrs >>= λ p. Ok
+    (record s { stage = Choices; programs = s.programs ++ p ∷ []; labels = []; instrs = [] })
 closed_at _ s = Ok s
 
 abbrev pub closed : Seen → Result Seen AsmKind
@@ -185,7 +191,8 @@ own_number count w = do
 
 -- a name is noted once, with the program's number
 abbrev pub note_name : Seen → List ℕ → Result Seen AsmKind
-note_name s name = if is_some (place name s.names) then Err kinds.Label else Ok (record s { names = s.names ++ (name, length s.programs) ∷ [] })
+note_name s name = if is_some (place name s.names) then Err kinds.Label
+    else Ok (record s { names = s.names ++ (name, length s.programs) ∷ [] })
 
 -- the head of a program: its own number, or a new name
 abbrev pub head_line : Seen → List ℕ → Result Seen AsmKind
@@ -195,7 +202,8 @@ head_line s w =
     Err kinds.Word
 
 abbrev pub open_line : Seen → List (List ℕ) → Result Seen AsmKind
-open_line s (t ∷ []) = head_line s t >>= λ u. if nat_le 64 (length u.programs) then Err kinds.Count else Ok (record u { stage = Program })
+open_line s (t ∷ []) = head_line s t >>= λ u. if nat_le 64 (length u.programs) then Err kinds.Count
+    else Ok (record u { stage = Program })
 open_line s _ = Err kinds.Word
 
 abbrev pub txn_at : Stage → Seen → List (List ℕ) → Result Seen AsmKind
@@ -205,7 +213,8 @@ txn_at _ s ws = closed s >>= λ u. open_line u ws
 -- ---- choices and the end
 
 abbrev pub repeat_choice : Seen → Choice → ℕ → Result Seen AsmKind
-repeat_choice s c n = if nat_lt 4096 (length s.choices + n) then Err kinds.Count else Ok (record s { stage = Choices; choices = s.choices ++ replicate n c })
+repeat_choice s c n = if nat_lt 4096 (length s.choices + n) then Err kinds.Count
+    else Ok (record s { stage = Choices; choices = s.choices ++ replicate n c })
 
 -- a choice, as often as the words behind it say
 abbrev pub repeat_line : Seen → Choice → List (List ℕ) → Result Seen AsmKind
@@ -293,7 +302,19 @@ read_lines s n [] = at_line n (finish s)
 read_lines s n (l ∷ ls) = at_line n (line_step s (words_of l)) >>= λ t. read_lines t (n + 1) ls
 
 abbrev pub nothing_seen : Seen
-nothing_seen = record { stage = Zephyr; version = One; cap = 2; pages = 1; rule = Held; rows = []; names = []; programs = []; labels = []; instrs = []; choices = [] }
+nothing_seen = record {
+  stage = Zephyr;
+  version = One;
+  cap = 2;
+  pages = 1;
+  rule = Held;
+  rows = [];
+  names = [];
+  programs = [];
+  labels = [];
+  instrs = [];
+  choices = [];
+}
 
 -- what a text gives, or its first fault
 abbrev pub reading : List ℕ → Result Seen AsmFault

@@ -53,7 +53,8 @@ pub fn assemble_bytes(alloc: Global, bytes: &[u8]) -> Result<Scenario, Refusal>
     // What is meant is read, unless there is no memory.
     ensures only { (s : isa.Scenario) → utf8_fault bytes.now ≡ None → Means bytes.now s → GivesScenario result s }
     // The fault is the first one of the bytes.
-    ensures fault { IfErr result (λ r. ((fault_of r).kind ≡ AsmKind.Memory) ⊎ (input_fault bytes.now ≡ Some (fault_of r))) }
+    ensures fault { IfErr result (λ r. ((fault_of r).kind ≡ AsmKind.Memory)
+        ⊎ (input_fault bytes.now ≡ Some (fault_of r))) }
 {
     match text_of(bytes) {
         Ok(text) => assemble(alloc, text),

@@ -8,9 +8,9 @@ ghost use Rattle.zy_asm.specs.declared.choices.Action.TheVariants.{Txn, Plain};
 ghost use Rattle.zy_asm.specs.Choices as spec;
 
 use crate::faults::{AsmKind, Reason};
+use crate::name_table::NameTable;
 use crate::numbers::number_in;
 use crate::shown::Shown;
-use crate::name_table::NameTable;
 use zy_isa::{Actor, Choice, MAX_CHOICES, Node};
 use zy_text::names::{is, is_name, is_numeral};
 use zy_text::numbers::number_of;
@@ -154,7 +154,8 @@ pub fn plain_choice(actor: Actor, action: &[u8]) -> Option<Choice>
 #[inline(always)]
 pub fn numbered_choice(actor: Actor, action: &[u8], count: usize, word: &[u8]) -> Option<Choice>
     requires { count ≤ 64 }
-    ensures { IfSome result (λ c. (a : AnAction) × (i : ℕ) × (spec.action_of actor action.now ≡ Some (Txn a)) × (text.is_numeral word.now ≡ true) × (spec.numbered count word.now ≡ Ok i) × (c ≡ spec.chosen a i)) }
+    ensures { IfSome result (λ c. (a : AnAction) × (i : ℕ) × (spec.action_of actor action.now ≡ Some (Txn a))
+        × (text.is_numeral word.now ≡ true) × (spec.numbered count word.now ≡ Ok i) × (c ≡ spec.chosen a i)) }
 {
     let Some(Action::Txn(action)) = action_of(actor, action) else {
         return None;

@@ -5,12 +5,12 @@ pub mod assembling;
 mod choices;
 pub mod faults;
 mod instructions;
+mod name_table;
 mod numbers;
 mod pending;
 mod reading;
 pub mod shown;
 mod state;
-mod name_table;
 pub mod text;
 
 pub use crate::faults::{AsmKind, Reason, Refusal};

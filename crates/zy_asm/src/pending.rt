@@ -6,8 +6,8 @@ ghost use Rattle.zy_asm.specs.Pending as spec;
 ghost use Rattle.zy_isa.specs.Programs.{prog_fault};
 
 use crate::faults::Reason;
-use crate::shown::Shown;
 use crate::name_table::NameTable;
+use crate::shown::Shown;
 use std::alloc::Global;
 use zy_isa::{Instr, JumpOperation, Parts, Program, Reg, Word};
 
@@ -37,7 +37,11 @@ fn resolved(labels: &NameTable, instr: &Unresolved) -> Result<Word, Reason>
 }
 
 /// The words of the instructions, where the labels of their program are these.
-fn all_resolved(alloc: Global, labels: &NameTable, instrs: &[Unresolved]) -> Result<Vec<Word>, Reason>
+fn all_resolved(
+    alloc: Global,
+    labels: &NameTable,
+    instrs: &[Unresolved],
+) -> Result<Vec<Word>, Reason>
     ensures { Gives (λ v. v.items) result (spec.all_resolved labels.now (map pending_of instrs.now)) }
 {
     let mut all = Vec::new(alloc);

@@ -3,7 +3,11 @@ ghost use Rattle.std.specs.Prelude.{◌≡◌, ◌≤◌, ◌<◌, ◌∷◌, �
 ghost use Rattle.zy_asm.specs.Reasons.{by_kind, seen_word};
 ghost use Rattle.zy_text.specs.Lines.{texts};
 ghost use Rattle.zy_asm.specs.Pending.{pending_of, whole};
-ghost use Rattle.zy_asm.specs.Reading.{Steps, Reads, progress_of, zephyr_line, cap_line, pages_line, rule_line, add_row, row_at, instr_line, instr_at, note_label, behind_label, label_line, closed, note_name, head_line, open_line, txn_at, repeat_choice, repeat_line, plain_line, txn_action_line, choice_line, end_line, statement, body_line, step, line_step, reading};
+ghost use Rattle.zy_asm.specs.Reading.{Steps, Reads, progress_of, zephyr_line, cap_line, pages_line, rule_line};
+ghost use Rattle.zy_asm.specs.Reading.{add_row, row_at, instr_line, instr_at, note_label, behind_label, label_line};
+ghost use Rattle.zy_asm.specs.Reading.{closed, note_name, head_line, open_line, txn_at, repeat_choice, repeat_line};
+ghost use Rattle.zy_asm.specs.Reading.{plain_line, txn_action_line, choice_line, end_line, statement, body_line, step};
+ghost use Rattle.zy_asm.specs.Reading.{line_step, reading};
 ghost use Rattle.zy_asm.specs.Reading as spec;
 
 use crate::choices::{
@@ -12,14 +16,17 @@ use crate::choices::{
 };
 use crate::faults::{Reason, Refusal};
 use crate::instructions::{instr_of, whole_of};
+use crate::name_table::NameTable;
 use crate::numbers::number_in;
 use crate::pending::{Unresolved, program_of};
 use crate::shown::Shown;
 use crate::state::{Reader, Stage};
-use crate::name_table::NameTable;
 use std::alloc::Global;
-use zy_isa::{Actor, Choice, Instr, MAX_CAP, MAX_CHOICES, MAX_INSTRS, MAX_PAGES, MAX_ROWS, MAX_TXNS, Operation, Row, Rule, Version};
 use zy_isa::scenario::opening_pages_for;
+use zy_isa::{
+    Actor, Choice, Instr, MAX_CAP, MAX_CHOICES, MAX_INSTRS, MAX_PAGES, MAX_ROWS, MAX_TXNS,
+    Operation, Row, Rule, Version,
+};
 use zy_text::Words;
 use zy_text::line::take_line;
 use zy_text::names::{is, is_name, is_numeral, label_of};
@@ -203,7 +210,8 @@ impl Reader {
     }
 
     fn program_line(&mut self, operation: Operation, words: &[&[u8]]) -> Result<(), Reason>
-        ensures { Steps result (progress_of self.new) (instr_at self.old.stage (progress_of self.old) operation (texts words.now)) }
+        ensures { Steps result (progress_of self.new) (instr_at self.old.stage (progress_of self.old) operation
+            (texts words.now)) }
     {
         if self.stage != Stage::Program {
             return Err(Reason::Misplaced);
@@ -400,7 +408,8 @@ impl Reader {
 
     /// Takes a line below the header, whose first word is this keyword.
     fn statement(&mut self, keyword: Keyword, words: &[&[u8]]) -> Result<(), Reason>
-        ensures { Steps result (progress_of self.new) (statement (Some keyword) (progress_of self.old) (texts words.now)) }
+        ensures { Steps result (progress_of self.new) (statement (Some keyword) (progress_of self.old)
+            (texts words.now)) }
     {
         match keyword {
             Keyword::Header => Err(Reason::Misplaced),
@@ -448,10 +457,13 @@ impl Reader {
         }
     }
 
-    /// The choice of a line, where it is made once and names its transaction by number, as most do, and there is place for it.
+    /// The choice of a line, where it is made once and names its transaction by number, as most do, and there is place
+    /// for it.
     #[inline(always)]
     fn usual_choice(&self, actor: &[u8], action: &[u8], t: &[u8]) -> Option<Choice>
-        ensures { IfSome result (λ c. (line_step (progress_of self.now) (actor.now ∷ action.now ∷ t.now ∷ []) ≡ Ok (record (progress_of self.now) { choices = self.now.choices.items ++ c ∷ [] })) × (length self.now.choices.items < 4096)) }
+        ensures { IfSome result (λ c. (line_step (progress_of self.now) (actor.now ∷ action.now ∷ t.now ∷ [])
+            ≡ Ok (record (progress_of self.now) { choices = self.now.choices.items ++ c ∷ [] }))
+            × (length self.now.choices.items < 4096)) }
     {
         if self.stage != Stage::Choices {
             return None;
@@ -467,7 +479,9 @@ impl Reader {
     /// The choice of a line that names no transaction and is made once, where there is place for it.
     #[inline(always)]
     fn usual_plain(&self, actor: &[u8], action: &[u8]) -> Option<Choice>
-        ensures { IfSome result (λ c. (line_step (progress_of self.now) (actor.now ∷ action.now ∷ []) ≡ Ok (record (progress_of self.now) { choices = self.now.choices.items ++ c ∷ [] })) × (length self.now.choices.items < 4096)) }
+        ensures { IfSome result (λ c. (line_step (progress_of self.now) (actor.now ∷ action.now ∷ [])
+            ≡ Ok (record (progress_of self.now) { choices = self.now.choices.items ++ c ∷ [] }))
+            × (length self.now.choices.items < 4096)) }
     {
         if self.stage != Stage::Choices {
             return None;
@@ -480,10 +494,13 @@ impl Reader {
         Some(choice)
     }
 
-    /// The instruction of a line, where it has two words behind its operation and names no label, as most do, and there is place for it.
+    /// The instruction of a line, where it has two words behind its operation and names no label, as most do, and there
+    /// is place for it.
     #[inline(always)]
     fn usual_instr(&self, operation: &[u8], a: &[u8], b: &[u8]) -> Option<Instr>
-        ensures { IfSome result (λ i. (line_step (progress_of self.now) (operation.now ∷ a.now ∷ b.now ∷ []) ≡ Ok (record (progress_of self.now) { instrs = map pending_of self.now.instrs.items ++ whole i ∷ [] })) × (length self.now.instrs.items < 64)) }
+        ensures { IfSome result (λ i. (line_step (progress_of self.now) (operation.now ∷ a.now ∷ b.now ∷ [])
+            ≡ Ok (record (progress_of self.now) { instrs = map pending_of self.now.instrs.items ++ whole i ∷ [] }))
+            × (length self.now.instrs.items < 64)) }
     {
         if self.stage != Stage::Program {
             return None;

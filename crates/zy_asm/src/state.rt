@@ -2,8 +2,8 @@
 ghost use Rattle.std.specs.Prelude.{◌≡◌, ◌≤◌, ◌+◌, length};
 ghost use Rattle.zy_asm.specs.Stages.{open_programs};
 
-use crate::pending::Unresolved;
 use crate::name_table::NameTable;
+use crate::pending::Unresolved;
 use std::alloc::Global;
 use zy_isa::{Choice, Program, Row, Rule, Version};
 

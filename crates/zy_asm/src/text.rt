@@ -15,7 +15,8 @@ fn line_ends(bytes: &[u8]) -> usize
 
 /// The bytes as text. Where they are not UTF-8, the fault is a wrong word in the line of the first wrong byte.
 pub fn text_of(bytes: &[u8]) -> Result<&str, Refusal>
-    ensures { MatchResult result (λ text. (text.now ≡ bytes.entry.now) × (utf8_fault bytes.entry.now ≡ None)) (λ r. utf8_fault bytes.entry.now ≡ Some (fault_of r)) }
+    ensures { MatchResult result (λ text. (text.now ≡ bytes.entry.now) × (utf8_fault bytes.entry.now ≡ None))
+        (λ r. utf8_fault bytes.entry.now ≡ Some (fault_of r)) }
 {
     match from_utf8(bytes) {
         Ok(text) => Ok(text),

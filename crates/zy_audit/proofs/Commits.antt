@@ -56,5 +56,6 @@ named_played h is = record {
 }
 
 -- each commit of a machine names a transaction
-pub commits-named : (h : History) → IsReplay h → (k : ℕ) (d : CommitRec) → k < length h.state.commits → (get_or h.state.commits k d).txn < length h.scenario.programs
+pub commits-named : (h : History) → IsReplay h → (k : ℕ) (d : CommitRec) → k < length h.state.commits
+    → (get_or h.state.commits k d).txn < length h.scenario.programs
 commits-named h is = (subst (Named h.scenario) (sym is.state) (named_played h is)).each

@@ -1,5 +1,6 @@
 -- The rows of a table that are those of pages, counted page by page.
-use Rattle.std.proofs.Common.{Bool, List, [], ap, arith, cond, drop, false, inl, inr, length, refl, subst, suc, sym, take, true, ℕ, ◌+◌, ◌++◌, ◌<◌, ◌∙◌, ◌∷◌, ◌≡◌, ◌≤◌, ◌^◌}
+use Rattle.std.proofs.Common.{Bool, List, [], ap, arith, cond, drop, false, inl, inr, length, refl, subst, suc, sym, take, true, ℕ, ◌+◌, ◌++◌, ◌<◌, ◌∙◌, ◌∷◌}
+use Rattle.std.proofs.Common.{◌≡◌, ◌≤◌, ◌^◌}
 use Rattle.std.specs.Prelude.{None, Option, Some, is_some, nat_lt, slice_get, ◌&&◌, ◌==◌}
 use Rattle.std.specs.Bool.{Decides}
 use Rattle.std.specs.Cmp.Lexicographic.{pointwise}
@@ -43,7 +44,8 @@ counted_none f [] off = refl
 counted_none f (r ∷ rows) off = rw (off r.key, counted_none f rows off) refl
 
 -- keys of two kinds
-counted_parts : (f g h : ℕ → Bool) (rows : List Row) → ((k : ℕ) → cond (h k) 1 0 ≡ cond (f k) 1 0 + cond (g k) 1 0) → counted h rows ≡ counted f rows + counted g rows
+counted_parts : (f g h : ℕ → Bool) (rows : List Row) → ((k : ℕ) → cond (h k) 1 0 ≡ cond (f k) 1 0 + cond (g k) 1 0)
+    → counted h rows ≡ counted f rows + counted g rows
 counted_parts f g h [] each = refl
 counted_parts f g h (r ∷ rows) each = omega (arith, each r.key, counted_parts f g h rows each)
 
@@ -113,7 +115,8 @@ no_value v o none some = (cc)
 value_right : (low : ℕ) (front rows : List Row) (k v : ℕ) → Rising low (front ++ rows) → get_row rows k ≡ Some v → get_row (front ++ rows) k ≡ Some v
 value_right low [] rows k v h e = e
 value_right low (r ∷ front) rows k v h e =
-    let other : r.key ≡ k → ⊥ = λ same. no_value v (get_row rows k) (get_row_below k (r.key + 1) rows (rises_right (r.key + 1) front rows h.1) (omega arith)) e in
+    let other : r.key ≡ k → ⊥ = λ same. no_value v (get_row rows k) (get_row_below k (r.key + 1) rows (rises_right (r.key + 1) front rows h.1) (omega arith))
+    e in
     get_row_past k r (front ++ rows) other ∙ value_right (r.key + 1) front rows k v h.1 e
 
 run_value : (table run : List Row) (k v : ℕ) → Rising 0 table → HasRun table run → get_row run k ≡ Some v → get_row table k ≡ Some v
@@ -182,7 +185,8 @@ kept_more s p run k keeps e =
           rw (lower, now, mine) (omega arith)
       | inr other ↦
           let same : nat_lt (home s k) (p + 1) ≡ nat_lt (home s k) p = grind (arith, nat_tests, other) in
-          let off : get_row run k ≡ None = none_else _ (λ is. other (on_its_page (newest s) (all_leaves s) p k keeps.placed (ap (λ rs. is_some (get_row rs k)) e ∙ is))) in
+          let off : get_row run k ≡ None =
+          none_else _ (λ is. other (on_its_page (newest s) (all_leaves s) p k keeps.placed (ap (λ rs. is_some (get_row rs k)) e ∙ is))) in
           rw (same, off) (omega arith)
     ]
 
@@ -202,24 +206,29 @@ covered-more s p table run count keeps rise has e g = record {
 pub covered-most : (s : State) (p : ℕ) (table : List Row) (count : ℕ) → Rising 0 table → RowsFit table → Covered s p table count → count ≤ 2 ^ 16
 covered-most s p table count rise fit g = omega (arith, g.total, counted_most (is_kept s p) table, few_rows 0 table (omega arith) rise fit)
 
-pub covered-found : (h : History) (p : ℕ) (table : List Row) (count : ℕ) (x : Leaf) → IsReplay h → Rising 0 table → HasRun table x.rows → Covered h.state p table count
+pub covered-found : (h : History) (p : ℕ) (table : List Row) (count : ℕ) (x : Leaf) → IsReplay h → Rising 0 table → HasRun table x.rows
+    → Covered h.state p table count
     → Some x ≡ page_in p (all_leaves h.state) → Covered h.state (p + 1) table (count + length x.rows)
-covered-found h p table count x is rise has g e = covered-more h.state p table x.rows count (kept h is) rise has (rows_of-some p x (all_leaves h.state) (sym e)) g
+covered-found h p table count x is rise has g e = covered-more h.state p table x.rows count (kept h is) rise has
+    (rows_of-some p x (all_leaves h.state) (sym e)) g
 
 pub covered-missing : (h : History) (p : ℕ) (table : List Row) (count : ℕ) → IsReplay h → Rising 0 table → Covered h.state p table count
     → None ≡ page_in p (all_leaves h.state) → Covered h.state (p + 1) table count
 covered-missing h p table count is rise g e =
-    subst (Covered h.state (p + 1) table) (omega arith) (covered-more h.state p table [] count (kept h is) rise (nothing_run table) (rows_of-none p (all_leaves h.state) (sym e)) g)
+    subst (Covered h.state (p + 1) table) (omega arith) (covered-more h.state p table [] count (kept h is) rise (nothing_run table)
+    (rows_of-none p (all_leaves h.state) (sym e)) g)
 
 -- all pages, and all rows of the table
-covered_value : (s : State) (p : ℕ) (table : List Row) (k : ℕ) (o : Option ℕ) → Covered s p table (length table) → home s k < p → stands s k ≡ o → get_row table k ≡ o
+covered_value : (s : State) (p : ℕ) (table : List Row) (k : ℕ) (o : Option ℕ) → Covered s p table (length table) → home s k < p → stands s k ≡ o
+    → get_row table k ≡ o
 covered_value s p table k (Some v) g below e = g.each k v below e
 covered_value s p table k None g below e =
     none_else _ (λ is.
     let passes = full (is_kept s p) table k (sym g.total) is in
     false≢true (sym (ap is_some e) ∙ (and_parts (nat_lt (home s k) p) (is_some (stands s k)) passes).1))
 
-pub covered-all : (h : History) (p : ℕ) (table : List Row) (count : ℕ) → IsReplay h → Covered h.state p table count → p ≡ length (newest h.state) → count ≡ length table → map_of table ≡ database h.state
+pub covered-all : (h : History) (p : ℕ) (table : List Row) (count : ℕ) → IsReplay h → Covered h.state p table count → p ≡ length (newest h.state)
+    → count ≡ length table → map_of table ≡ database h.state
 covered-all h p table count is g all whole =
     let keeps = kept h is in
     same_map nat_cmp_total nat_cmp-IsAntisymmetric _ _ (λ k.

@@ -68,7 +68,8 @@ pub kept : (h : History) → IsReplay h → Kept h.state
 kept h is = subst Kept (sym is.state) (kept_played h is)
 
 -- one page more
-more_at : (here : ℕ) (p : ℕ) (mine below own : Option ℕ) → below ≡ (if nat_lt here p then own else None) → (here ≡ p → mine ≡ own) → ((here ≡ p → ⊥) → mine ≡ None)
+more_at : (here : ℕ) (p : ℕ) (mine below own : Option ℕ) → below ≡ (if nat_lt here p then own else None) → (here ≡ p → mine ≡ own)
+    → ((here ≡ p → ⊥) → mine ≡ None)
     → or_else mine below ≡ (if nat_lt here (p + 1) then own else None)
 more_at here p mine below own e at off =
     elim (cases_eq here p) [
@@ -81,7 +82,8 @@ more_at here p mine below own e at off =
           rw (same, off other) e
     ]
 
-pub gathered-more : (s : State) (p : ℕ) (rows more : List Row) → Kept s → Gathered s p rows → rows_of (all_leaves s) p ≡ more → Gathered s (p + 1) (put_rows more rows)
+pub gathered-more : (s : State) (p : ℕ) (rows more : List Row) → Kept s → Gathered s p rows → rows_of (all_leaves s) p ≡ more
+    → Gathered s (p + 1) (put_rows more rows)
 gathered-more s p rows more keeps g e = record {
   each = λ k.
       get_row-puts more rows k ∙ more_at (home s k) p (get_row more k) (get_row rows k) (stands s k) (g.each k)
@@ -89,10 +91,12 @@ gathered-more s p rows more keeps g e = record {
       (λ other. none_else _ (λ is. other (on_its_page (newest s) (all_leaves s) p k keeps.placed (ap (λ rs. is_some (get_row rs k)) e ∙ is))));
 }
 
-pub gathered-found : (h : History) (p : ℕ) (rows : List Row) (x : Leaf) → IsReplay h → Gathered h.state p rows → Some x ≡ page_in p (all_leaves h.state) → Gathered h.state (p + 1) (put_rows x.rows rows)
+pub gathered-found : (h : History) (p : ℕ) (rows : List Row) (x : Leaf) → IsReplay h → Gathered h.state p rows → Some x ≡ page_in p (all_leaves h.state)
+    → Gathered h.state (p + 1) (put_rows x.rows rows)
 gathered-found h p rows x is g e = gathered-more h.state p rows x.rows (kept h is) g (rows_of-some p x (all_leaves h.state) (sym e))
 
-pub gathered-missing : (h : History) (p : ℕ) (rows : List Row) → IsReplay h → Gathered h.state p rows → None ≡ page_in p (all_leaves h.state) → Gathered h.state (p + 1) rows
+pub gathered-missing : (h : History) (p : ℕ) (rows : List Row) → IsReplay h → Gathered h.state p rows → None ≡ page_in p (all_leaves h.state)
+    → Gathered h.state (p + 1) rows
 gathered-missing h p rows is g e = gathered-more h.state p rows [] (kept h is) g (rows_of-none p (all_leaves h.state) (sym e))
 
 -- all pages: their rows are the database

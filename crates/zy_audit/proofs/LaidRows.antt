@@ -35,8 +35,10 @@ pub get-below : (rows table : List Row) (k : ℕ) → get_row rows k ≡ None �
 get-below rows table k e = get-laid rows (map_of table) k ∙ ap (λ o. or_else o (get (map_of table) k)) e ∙ get-map_of table k
 
 -- what they have together: the rows above, and those below at other keys
-pub total-laid : (own table : List Row) (a b : ℕ) → total (value_in (laid own (map_of table))) (range a b) ≡ total (value_beside [] own) (range a b) + total (value_beside own table) (range a b)
+pub total-laid : (own table : List Row) (a b : ℕ) → total (value_in (laid own (map_of table))) (range a b)
+    ≡ total (value_beside [] own) (range a b) + total (value_beside own table) (range a b)
 total-laid own table a b =
     total_same (value_in (laid own (map_of table))) (λ k. value_beside [] own k + value_beside own table k) (range a b) (λ k _.
-    ap (λ o. unwrap_or o 0) (get-laid own (map_of table) k ∙ ap (or_else (get_row own k)) (get-map_of table k)) ∙ value_same (get_row own k) (get_row table k) ∙ own_apart (get_row own k) (get_row table k))
+    ap (λ o. unwrap_or o 0) (get-laid own (map_of table) k ∙ ap (or_else (get_row own k)) (get-map_of table k)) ∙ value_same (get_row own k) (get_row table k)
+    ∙ own_apart (get_row own k) (get_row table k))
     ∙ total_plus (value_beside [] own) (value_beside own table) (range a b)

@@ -54,7 +54,8 @@ put_rows_first r rs (q ∷ rows) rise h =
     ]
 
 -- one step of the pass
-pub put_rows_step : (r : Row) (rs left : List Row) (at : ℕ) → Rising (r.key + 1) rs → Rising 0 left → IsPlace r.key left at → put_rows (r ∷ rs) left ≡ take at left ++ r ∷ put_rows rs (rows_past r.key (drop at left))
+pub put_rows_step : (r : Row) (rs left : List Row) (at : ℕ) → Rising (r.key + 1) rs → Rising 0 left → IsPlace r.key left at
+    → put_rows (r ∷ rs) left ≡ take at left ++ r ∷ put_rows rs (rows_past r.key (drop at left))
 put_rows_step r rs left at rise h p =
     let from = subst (Rising r.key) (rows_from-place r.key at left p) (Rising-rows_from 0 r.key left h) in
     put_rows_behind r.key at (r ∷ rs) left ((omega arith), rise) p ∙ ap (λ z. take at left ++ z) (put_rows_first r rs (drop at left) rise from)
@@ -81,7 +82,8 @@ length-rows_past k [] = omega arith
 length-rows_past k (r ∷ rows) = cond_both (r.key == k) rows (r ∷ rows) (λ ys. length ys ≤ length (r ∷ rows)) (λ _. omega arith) (λ _. omega arith)
 
 -- what was laid, when one more row is
-pub laid_more : (list below past rs whole laid : List Row) (r : Row) → list ++ laid ≡ whole → laid ≡ below ++ r ∷ put_rows rs past → ((list ++ below) ++ (r ∷ [])) ++ put_rows rs past ≡ whole
+pub laid_more : (list below past rs whole laid : List Row) (r : Row) → list ++ laid ≡ whole → laid ≡ below ++ r ∷ put_rows rs past
+    → ((list ++ below) ++ (r ∷ [])) ++ put_rows rs past ≡ whole
 laid_more list below past rs whole laid r e step =
     append_assoc (list ++ below) (r ∷ []) (put_rows rs past) ∙ append_assoc list below (r ∷ put_rows rs past) ∙ ap (λ z. list ++ z) (sym step) ∙ e
 
@@ -91,7 +93,8 @@ rises_first first [] h e = absurd (cc)
 rises_first first (r ∷ rows) h e = let same : first ≡ r = cc in rw same (omega arith, h.1)
 
 -- rows all above others are put behind them
-pub put_rows_append : (first : Row) (rs rows : List Row) → Rising 0 rs → Some first ≡ slice_get rs 0 → IsPlace first.key rows (length rows) → put_rows rs rows ≡ rows ++ put_rows rs []
+pub put_rows_append : (first : Row) (rs rows : List Row) → Rising 0 rs → Some first ≡ slice_get rs 0 → IsPlace first.key rows (length rows)
+    → put_rows rs rows ≡ rows ++ put_rows rs []
 put_rows_append first rs rows h e p =
     let behind = put_rows_behind first.key (length rows) rs rows (rises_first first rs h e) p in
     rw (take-length rows, drop-length rows) at behind

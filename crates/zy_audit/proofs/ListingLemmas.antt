@@ -34,19 +34,22 @@ length-taken [] = refl
 length-taken (e ∷ es) = ap (λ n. suc n) (length-taken es)
 
 -- what holds of the line at a place of the list holds of its step
-pub step-line : (P : List ℕ → Type 0) (k : ℕ) (d : Entry) (es : List Entry) → k < length (step_texts 1 es) → P (step_text (k + 1) (get_or es k d)) → P (get_or (step_texts 1 es) k [])
+pub step-line : (P : List ℕ → Type 0) (k : ℕ) (d : Entry) (es : List Entry) → k < length (step_texts 1 es) → P (step_text (k + 1) (get_or es k d))
+    → P (get_or (step_texts 1 es) k [])
 step-line P k d es h told =
     let lt : k < length es = omega (arith, h, length-steps 1 es) in
     subst P (sym (steps-at 1 k d es lt ∙ ap (λ n. step_text n (get_or es k d)) (omega arith))) told
 
 -- the same of a choice
-pub taken-line : (P : List ℕ → Type 0) (k : ℕ) (d : Entry) (es : List Entry) → k < length (map choice_text (choices_of es)) → P (choice_text (get_or es k d).choice) → P (get_or (map choice_text (choices_of es)) k [])
+pub taken-line : (P : List ℕ → Type 0) (k : ℕ) (d : Entry) (es : List Entry) → k < length (map choice_text (choices_of es))
+    → P (choice_text (get_or es k d).choice) → P (get_or (map choice_text (choices_of es)) k [])
 taken-line P k d es h told =
     let lt : k < length es = omega (arith, h, length-taken es) in subst P (sym (taken-at k d es lt)) told
 
 -- the lines that are written are the listing of the replay
 pub listing-lines : (h : History) (same : Bool) → IsReplay h
-    → flat_map line_of ((head_texts h.scenario ++ (map choice_text (choices_of h.entries) ++ end_texts)) ++ ending_texts h.entries h.state same) ≡ listing h.scenario (choices_of h.entries) same
+    → flat_map line_of ((head_texts h.scenario ++ (map choice_text (choices_of h.entries) ++ end_texts)) ++ ending_texts h.entries h.state same)
+    ≡ listing h.scenario (choices_of h.entries) same
 unfolding listing
 listing-lines h same r =
     let sc = h.scenario in

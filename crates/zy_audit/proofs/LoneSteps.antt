@@ -21,7 +21,8 @@ pub near_access : (m : Map) (access : Access) (k : ℕ) (x : Alone) → k < 2 ^ 
 near_access m access k x h = let far : nat_lt 65535 k ≡ false = le-ltb 65535 k (omega arith) in rw far refl
 
 -- a run that goes on does its next instruction
-pub alone-on : (m : Map) (program : List Instr) (n : ℕ) (x : Alone) → alone m program n ≡ x → x.over ≡ false → alone m program (suc n) ≡ alone_instr m (slice_get program x.pc) x
+pub alone-on : (m : Map) (program : List Instr) (n : ℕ) (x : Alone) → alone m program n ≡ x → x.over ≡ false
+    → alone m program (suc n) ≡ alone_instr m (slice_get program x.pc) x
 unfolding alone_step
 alone-on m program n x e on = ap (alone_step m program) e ∙ ap (λ (b : Bool). if b then x else alone_instr m (slice_get program x.pc) x) on
 

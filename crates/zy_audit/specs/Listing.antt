@@ -30,7 +30,8 @@ txn_texts s = map (txn_text s) (below (length s.txns))
 -- the state at the end
 abbrev pub final_texts : State → List (List ℕ)
 final_texts s =
-    (codes "final" ∷ mode_text A s.a.mode ∷ mode_text B s.b.mode ∷ []) ++ (page_texts s ++ ((link_text A s.ab ∷ link_text B s.ba ∷ []) ++ txn_texts s))
+    (codes "final" ∷ mode_text A s.a.mode ∷ mode_text B s.b.mode ∷ [])
+    ++ (page_texts s ++ ((link_text A s.ab ∷ link_text B s.ba ∷ []) ++ txn_texts s))
 
 -- what came of the choices, and whether the serial run agrees
 abbrev pub ending_texts : List Entry → State → Bool → List (List ℕ)
@@ -40,4 +41,5 @@ ending_texts es s same = (codes "steps" ∷ step_texts 1 es) ++ (final_texts s +
 unfoldable pub listing : Scenario → List Choice → Bool → List ℕ
 listing sc choices same =
     let s = opening sc in
-    canon (record sc { choices = choices }) ++ flat_map line_of (ending_texts (entries sc s choices) (play sc s choices) same)
+    canon (record sc { choices = choices }) ++ flat_map line_of
+    (ending_texts (entries sc s choices) (play sc s choices) same)

@@ -1,5 +1,6 @@
 -- The words of a listing, and each kind of its lines.
-use Rattle.std.specs.Prelude.{ℕ, ◌+◌, ◌==◌, Bool, true, false, List, [], ◌++◌, Option, Some, None, codes, position, slice_get}
+use Rattle.std.specs.Prelude.{ℕ, ◌+◌, ◌==◌, Bool, true, false, List, [], ◌++◌, Option, Some, None, codes, position}
+use Rattle.std.specs.Prelude.{slice_get}
 use Rattle.std.specs.Fmt.{decimal}
 use Rattle.std.specs.List.{flat_map}
 use Rattle.std.specs.Option.{option_map_or}
@@ -8,13 +9,15 @@ use Rattle.zy_isa.specs.declared.node.Node.TheVariants.{A, B}
 use Rattle.zy_isa.specs.declared.row.Row.{Row}
 use Rattle.zy_text.specs.Canon.{node_text, choice_text}
 use Rattle.zy_table.specs.declared.outcome.Why.{Why}
-use Rattle.zy_table.specs.declared.outcome.Why.TheVariants.{Own, Killed, BadKey, Missing, Duplicate, Frozen, NoPage, Gone}
+use Rattle.zy_table.specs.declared.outcome.Why.TheVariants.{Own, Killed, BadKey, Missing, Duplicate, Frozen, NoPage}
+use Rattle.zy_table.specs.declared.outcome.Why.TheVariants.{Gone}
 use Rattle.zy_table.specs.declared.outcome.Outcome.{Outcome}
 use Rattle.zy_table.specs.declared.outcome.Outcome.TheVariants as outcome
 use Rattle.zy_links.specs.declared.kind.Kind.{Kind}
 use Rattle.zy_links.specs.declared.kind.Kind.TheVariants as kind
 use Rattle.zy_modes.specs.declared.mode.NodeMode.{NodeMode}
-use Rattle.zy_modes.specs.declared.mode.NodeMode.TheVariants.{Empty, Normal, SInit, SDual, SFinish, DInit, DDual, DFinish}
+use Rattle.zy_modes.specs.declared.mode.NodeMode.TheVariants.{Empty, Normal, SInit, SDual, SFinish, DInit, DDual}
+use Rattle.zy_modes.specs.declared.mode.NodeMode.TheVariants.{DFinish}
 use Rattle.zy_links.specs.Messages.{Message, Pull, Page, kind_of}
 use Rattle.zy_table.specs.declared.place.Place.{Place}
 use Rattle.zy_table.specs.declared.place.Place.TheVariants.{Nowhere, At, Moving}
@@ -76,7 +79,8 @@ outcome_text outcome.Idle = codes "idle"
 outcome_text outcome.Elsewhere = codes "elsewhere"
 outcome_text outcome.NotYet = codes "notyet"
 outcome_text outcome.Did = codes "did"
-outcome_text (outcome.Split p q b) = codes "split " ++ (decimal p ++ (codes " " ++ (decimal q ++ (codes " " ++ decimal b))))
+outcome_text (outcome.Split p q b) = codes "split " ++ (decimal p
+    ++ (codes " " ++ (decimal q ++ (codes " " ++ decimal b))))
 outcome_text (outcome.Aborted why) = codes "aborted " ++ why_text why
 outcome_text (outcome.Committed i) = codes "committed " ++ decimal i
 outcome_text (outcome.Waits p) = codes "waits " ++ decimal p
@@ -105,7 +109,8 @@ sent_text (Some kind) = codes " ! " ++ kind_text kind
 
 -- step i
 abbrev pub step_text : ℕ → Entry → List ℕ
-step_text i e = decimal i ++ (codes " " ++ (choice_text e.choice ++ (codes " -> " ++ (outcome_text e.outcome ++ sent_text e.sent))))
+step_text i e =
+    decimal i ++ (codes " " ++ (choice_text e.choice ++ (codes " -> " ++ (outcome_text e.outcome ++ sent_text e.sent))))
 
 abbrev pub mode_text : Node → NodeMode → List ℕ
 mode_text n m = codes "mode " ++ (node_text n ++ (codes " " ++ mode_word m))
@@ -120,7 +125,9 @@ rows_text rows = flat_map cell_text rows
 -- a page and where it is
 abbrev pub leaf_text : Place → Leaf → List ℕ
 leaf_text place x =
-    codes "page " ++ (decimal x.number ++ (codes " " ++ (place_text place ++ (codes " low " ++ (decimal x.low ++ (codes " rows" ++ rows_text x.rows))))))
+    codes "page "
+    ++ (decimal x.number
+    ++ (codes " " ++ (place_text place ++ (codes " low " ++ (decimal x.low ++ (codes " rows" ++ rows_text x.rows))))))
 
 -- page p, wherever it is
 abbrev pub page_text : State → ℕ → List ℕ
@@ -156,7 +163,9 @@ abbrev pub done_text : Txn → List ℕ
 done_text x = codes " done " ++ (decimal x.done ++ (codes " regs" ++ regs_text x.regs))
 
 abbrev pub active_text : Txn → List ℕ
-active_text x = codes " active " ++ (node_text x.node ++ (codes " pc " ++ (decimal x.pc ++ (done_text x ++ (codes " private" ++ rows_text x.rows)))))
+active_text x =
+    codes " active "
+    ++ (node_text x.node ++ (codes " pc " ++ (decimal x.pc ++ (done_text x ++ (codes " private" ++ rows_text x.rows)))))
 
 -- committed in this place
 abbrev pub committed_text : Txn → ℕ → List ℕ

@@ -43,7 +43,8 @@ pub fn write_listing<K: Sink>(
 ) -> Result<(), TextFault>
     requires { K.failures sink.old < u64.MAX }
     ensures { Wrote (K.written sink.old) (K.written sink.new) (K.failures sink.old) (K.failures sink.new) result
-        (listing machine.now.scenario (choices_of machine.now.entries) (is_serial machine.now.scenario machine.now.state)) }
+        (listing machine.now.scenario (choices_of machine.now.entries)
+        (is_serial machine.now.scenario machine.now.state)) }
 {
     let agrees = same(alloc, machine)?;
     write_listing_as(alloc, machine, agrees, sink)

@@ -1,5 +1,6 @@
 //! One program, run alone on a table.
-ghost use Rattle.std.specs.Prelude.{◌≡◌, ◌+◌, ◌<◌, ◌%◌, ◌^◌, [], true, false, IfOk, IsOk, IsSome, OnOk, if◌then◌else◌, replicate, slice_get};
+ghost use Rattle.std.specs.Prelude.{◌≡◌, ◌+◌, ◌<◌, ◌%◌, ◌^◌, [], true, false, IfOk, IsOk, IsSome, OnOk, if◌then◌else◌};
+ghost use Rattle.std.specs.Prelude.{replicate, slice_get};
 ghost use Rattle.std.specs.FinMap.{get};
 ghost use Rattle.zy_isa.specs.Rows.{get_row, put_row};
 ghost use Rattle.zy_table.specs.Change.{with_reg};
@@ -15,12 +16,12 @@ use std::alloc::{AllocError, Global};
 use std::marker::Model;
 use zy_isa::{Program, Reg};
 use zy_page::RowList;
-use zy_table::{Access, Effect};
 use zy_table::effect::effect_of;
 use zy_table::sums::sum_of_rows;
+use zy_table::{Access, Effect};
 
-/// The rows that a program writes when it is run alone on a table, for this number of instructions or to its end: none where it
-/// gives up.
+/// The rows that a program writes when it is run alone on a table, for this number of instructions or to its end: none
+/// where it gives up.
 pub(crate) fn written(
     alloc: Global,
     table: &Table,
@@ -232,7 +233,10 @@ impl LoneRun {
     /// A row is written, and the run goes on.
     fn put(&mut self, key: u16, value: u32) -> Result<(), AllocError>
         requires { self.old.pc + 1 < 2 ^ 32 }
-        ensures ok { OnOk result (self.new ≡ record self.old { pc = self.old.pc + 1; rows = put_row key value self.old.rows }) }
+        ensures ok { OnOk result (self.new ≡ record self.old {
+          pc = self.old.pc + 1;
+          rows = put_row key value self.old.rows;
+        }) }
         ensures over { IsSome (get_row self.old.rows key) → IsOk result }
     {
         self.rows.reserve_for(key)?;

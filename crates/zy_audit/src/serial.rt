@@ -22,7 +22,8 @@ pub fn serial(
     commits: &[CommitRec],
 ) -> Result<Table, AllocError>
     requires { All (λ c. c.txn < length scenario.now.programs) commits.now }
-    ensures map { IfOk result (λ table. map_of table ≡ table_serial.serial scenario.now (map_of scenario.now.rows) commits.now) }
+    ensures map { IfOk result (λ table. map_of table ≡ table_serial.serial scenario.now
+        (map_of scenario.now.rows) commits.now) }
     ensures rise { IfOk result (λ table. Rising 0 table) }
 {
     let mut table = Table::new(alloc);
@@ -61,7 +62,8 @@ fn all_rows(alloc: Global, machine: &Machine) -> Result<Table, AllocError>
 
 /// Whether the pages have exactly what the committed programs leave when they are run alone, one by one.
 pub fn same(alloc: Global, machine: &Machine) -> Result<bool, AllocError>
-    ensures { IfOk result (λ b. b ≡ same_map (database machine.now.state) (table_serial.serial machine.now.scenario (map_of machine.now.scenario.rows) machine.now.state.commits)) }
+    ensures { IfOk result (λ b. b ≡ same_map (database machine.now.state)
+        (table_serial.serial machine.now.scenario (map_of machine.now.scenario.rows) machine.now.state.commits)) }
 {
     let alone = serial(alloc, machine.scenario(), machine.commits())?;
     if covers(machine, &alone) {

@@ -1,5 +1,6 @@
 //! The rows of a run as one table.
-ghost use Rattle.std.specs.Prelude.{◌≡◌, ◌+◌, ◌++◌, ◌<◌, ◌≤◌, [], OnOk, OnErr, length, slice_index_or, true, vec_capacity, vec_len};
+ghost use Rattle.std.specs.Prelude.{◌≡◌, ◌+◌, ◌++◌, ◌<◌, ◌≤◌, [], OnOk, OnErr, length, slice_index_or, true};
+ghost use Rattle.std.specs.Prelude.{vec_capacity, vec_len};
 ghost use Rattle.zy_isa.specs.Rows.{Rising, RowsFit, get_row};
 ghost use Rattle.zy_table.specs.Rows.{put_rows};
 ghost use Rattle.zy_audit.specs.Laying.{rows_past};

@@ -77,7 +77,8 @@ impl<'a> Excerpt<'a> {
     }
 }
 
-/// In quotes; a line feed is shown as `\n`, another byte that does not print as `\xNN`, and what was cut off as two dots.
+/// In quotes; a line feed is shown as `\n`, another byte that does not print as `\xNN`, and what was cut off as two
+/// dots.
 impl fmt::Display for Excerpt<'_> {
     fn fmt<W: fmt::Write>(&self, f: &mut fmt::Formatter<W>) -> fmt::Result {
         f.write_str(if self.is_cut { "..'" } else { "'" })?;

@@ -31,11 +31,11 @@ use zy_check::Verdict;
 use zy_engine::checking::check_bytes;
 use zy_engine::debugging::debug_bytes;
 use zy_engine::engine::{asm_bytes, dis_bytes, run_bytes, trace_bytes};
-use zy_engine::{BenchFault, Format};
 use zy_engine::searching::search_bytes;
 use zy_engine::threading::threads_bytes;
-use zy_io::{CountingReader, SliceSource};
+use zy_engine::{BenchFault, Format};
 use zy_io::reading::read_all;
+use zy_io::{CountingReader, SliceSource};
 use zy_search::{Answer, Report};
 use zy_text::cut::cut_len;
 use zy_threads::FreeGate;
@@ -150,7 +150,8 @@ fn debug<R: Input + AllocGlobal, W: Write>(
     Ok(DONE)
 }
 
-/// Searches the schedules of the scenario on standard input, and gives the exit status. It says how far it is where standard error is a terminal.
+/// Searches the schedules of the scenario on standard input, and gives the exit status. It says how far it is where
+/// standard error is a terminal.
 fn search<R: Eprint + Input + AllocGlobal + Clock, W: Write>(
     rt: &R,
     quest: Quest,

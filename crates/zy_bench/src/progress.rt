@@ -3,8 +3,8 @@
 use std::time::{Clock, Instant};
 use zy_search::Watch;
 
-/// Says on standard error how far a search is, once a second, in a line that is written over the last one. Where that is no terminal it says
-/// nothing.
+/// Says on standard error how far a search is, once a second, in a line that is written over the last one. Where that
+/// is no terminal it says nothing.
 #[derive(Drop)]
 pub struct Progress<'a, R> {
     rt: &'a R,

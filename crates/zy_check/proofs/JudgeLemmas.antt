@@ -31,7 +31,8 @@ told_parts input more s h =
 
 module _ (input listing : List ℕ) (old new : Compared) (v : Verdict) (begun : old ≡ fresh input) where
   -- a prefix of the listing was taken, and the verdict is that against it and what is behind it
-  by_parts : (more back : List ℕ) → listing ≡ more ++ back → written_by new ≡ written_by old ++ more → v ≡ verdict new.input (new.text ++ back) → v ≡ verdict input listing
+  by_parts : (more back : List ℕ) → listing ≡ more ++ back → written_by new ≡ written_by old ++ more → v ≡ verdict new.input (new.text ++ back)
+      → v ≡ verdict input listing
   by_parts more back whole wrote h =
       let p = told_parts input more new (wrote ∙ ap (λ (s : Compared). written_by s ++ more) begun) in
       rw (whole, ← p.0, ← p.1) h

@@ -54,7 +54,8 @@ pub fn check<S: Source>(alloc: Global, source: &mut S) -> Result<Verdict, CheckF
     // At a verdict the scenario part means a scenario, and the verdict is that of the input against its listing.
     ensures found { IfOk result (λ v. IfSome (S.left source.old) (λ told. IsVerdict told v)) }
     // An input has no other verdict.
-    ensures one { IfOk result (λ v. IfSome (S.left source.old) (λ told. (other : AVerdict) → IsVerdict told other → v ≡ other)) }
+    ensures one { IfOk result (λ v. IfSome (S.left source.old) (λ told. (other : AVerdict) → IsVerdict told other
+        → v ≡ other)) }
     // Where the scenario part means a scenario, that verdict comes, unless a call failed or there was no memory.
     ensures only { IfSome (S.left source.old) (λ told. (sc : AScenario) → length told ≤ 4194304
         → utf8_fault (text.cut told) ≡ None → Means (text.cut told) sc
@@ -64,7 +65,8 @@ pub fn check<S: Source>(alloc: Global, source: &mut S) -> Result<Verdict, CheckF
         IfSome (S.left source.old) (λ told. input_fault (text.cut told) ≡ Some (fault_of r)))) }
     // What is accepted has no fault.
     ensures accepted { IfOk result (λ v. IfSome (S.left source.old) (λ told. input_fault (text.cut told) ≡ None)) }
-    // The input is read whole; only where it has more than 4194304 bytes is it too long, and then one byte more is read.
+    // The input is read whole; only where it has more than 4194304 bytes is it too long, and then one byte more is
+    // read.
     ensures input { ReadsInput (S.left source.old) (S.left source.new) result }
     // Whatever the reader tells of its bytes, its calls give at most one more than the longest input has.
     ensures bound { S.given source.new ≤ S.given source.old + 4194305 }

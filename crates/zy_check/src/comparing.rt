@@ -9,8 +9,8 @@ use std::io;
 use std::marker::Model;
 use zy_io::Sink;
 
-/// How many bytes two texts have in common at their front. Where the second is a prefix of the first, whole groups of bytes are
-/// compared.
+/// How many bytes two texts have in common at their front. Where the second is a prefix of the first, whole groups of
+/// bytes are compared.
 fn common_len(x: &[u8], y: &[u8]) -> usize
     ensures { result ≡ length (common x.now y.now) }
 {
@@ -60,7 +60,11 @@ impl<'a> Model for Comparing<'a> {
 
     ghost Value = { Compared };
 
-    ghost view = { λ s. record { input = s.input.now; text = take s.at s.input.now ++ option_to_list s.other; refusals = s.refusals } };
+    ghost view = { λ s. record {
+      input = s.input.now;
+      text = take s.at s.input.now ++ option_to_list s.other;
+      refusals = s.refusals;
+    } };
 
     ghost invariant = { λ s. AreCompared s.input.now s.at s.other s.refusals };
 }
@@ -81,7 +85,8 @@ impl<'a> Comparing<'a> {
     /// The verdict on the input and the text that was taken. Where bytes were refused, no text behind it changes that.
     pub fn verdict(&self) -> Verdict
         ensures whole { result ≡ spec.verdict self.now.input self.now.text }
-        ensures front { 0 < self.now.refusals → (back : List ℕ) → result ≡ spec.verdict self.now.input (self.now.text ++ back) }
+        ensures front { 0 < self.now.refusals → (back : List ℕ)
+            → result ≡ spec.verdict self.now.input (self.now.text ++ back) }
     {
         if self.other.is_some() {
             return Verdict::NotTable(line_after(self.input, self.at));

@@ -19,7 +19,8 @@ pub fn common_is_longest()
     ensures { (x y : List ℕ) → IsLongestShared (common x y) x y }
 {}
 
-/// Where they are not the same, the verdict's line is one more than the line feeds of the longest text that both begin with.
+/// Where they are not the same, the verdict's line is one more than the line feeds of the longest text that both begin
+/// with.
 pub fn line_is_of_longest()
     ensures { (input listing shared : List ℕ) → IsLongestShared shared input listing → input ≢ listing
         → verdict input listing ≡ NotTable (feeds shared + 1) }
@@ -30,8 +31,8 @@ pub fn table_is_a_listing()
     ensures { (input : List ℕ) → IsVerdict input Table ↔ IsListing input }
 {}
 
-/// A listing that `run` writes passes: its front is the canonical text of the scenario with its choices, which is UTF-8, and the
-/// verdict on it is `Table`.
+/// A listing that `run` writes passes: its front is the canonical text of the scenario with its choices, which is
+/// UTF-8, and the verdict on it is `Table`.
 pub fn runs_are_tables()
     ensures front { (sc : Scenario) → IsScenario sc → cut (listing_run sc) ≡ canon sc }
     ensures text { (sc : Scenario) → IsScenario sc → utf8_fault (canon sc) ≡ None }

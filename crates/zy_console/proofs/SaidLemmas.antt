@@ -66,7 +66,8 @@ pub record Next (all last : List (List ℕ)) (t u : Session) (more : List ℕ) :
   pub says : LineSays t (words_of line) u more
 
 -- The lines so far led from s to t, and the bytes that were written from old to now; then comes the next line.
-module _ (old now : Option (List ℕ)) (s t u : Session) (lines all last : List (List ℕ)) (more : List ℕ) (h : Said old now s lines all t) (n : Next all last t u more) where
+module _ (old now : Option (List ℕ)) (s t u : Session) (lines all last : List (List ℕ)) (more : List ℕ) (h : Said old now s lines all t)
+    (n : Next all last t u more) where
   -- all that it says goes out
   pub said_more : (new : Option (List ℕ)) → Appends now new more → Said old new s lines last u
   said_more new wrote = record {

@@ -6,5 +6,3 @@ pub mod command;
 pub mod laws;
 pub mod session;
 mod shown;
-
-

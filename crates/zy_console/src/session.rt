@@ -6,8 +6,8 @@ ghost use Rattle.zy_console.specs.Console.{WroteSession};
 use crate::answer::answer;
 use std::alloc::Global;
 use zy_debug::Debugger;
-use zy_io::{LineBuffer, Sink, TextFault};
 use zy_io::writing::write_all;
+use zy_io::{LineBuffer, Sink, TextFault};
 use zy_text::Words;
 use zy_text::line::take_line;
 

@@ -7,10 +7,10 @@ ghost use Rattle.zy_audit.specs.Texts.{link_text, txn_text};
 ghost use Rattle.zy_console.specs.Replies.{IsThere, modes_text, shown_text, where_text};
 
 use std::alloc::AllocError;
+use zy_audit::ModeText;
 use zy_audit::lines::link::link_line;
 use zy_audit::lines::locked::page_reply;
 use zy_audit::lines::txn::txn_line;
-use zy_audit::ModeText;
 use zy_debug::Shown;
 use zy_io::{Decimal, Joined, Line, LineBuffer};
 use zy_isa::Node;

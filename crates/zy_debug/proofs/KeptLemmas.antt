@@ -1,5 +1,6 @@
 -- Machines that are kept.
-use Rattle.std.proofs.Common.{◌≡◌, ℕ, ◌-◌, List, [], ◌∷◌, ◌++◌, length, subst, sym, suc, zero, true, false, Bool, Option, Some, None, IfSome, Result, Ok, Err, OnOk, OnErr, if◌then◌else◌}
+use Rattle.std.proofs.Common.{◌≡◌, ℕ, ◌-◌, List, [], ◌∷◌, ◌++◌, length, subst, sym, suc, zero, true, false, Bool, Option, Some, None, IfSome, Result, Ok, Err}
+use Rattle.std.proofs.Common.{OnOk, OnErr, if◌then◌else◌}
 use Rattle.std.specs.Prelude.{drop, slice_get, take}
 use Rattle.circular_buffer.specs.Buffer.{keep_last}
 use Rattle.zy_isa.specs.Scenario.{Scenario}

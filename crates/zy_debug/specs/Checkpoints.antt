@@ -16,7 +16,8 @@ is_kept k m = list_any (λ (h : History). length h.entries == m) k.machines
 
 -- a copy more, unless one of its position is kept; where there is no room the oldest goes
 abbrev pub with_copy : History → Kept → Kept
-with_copy h k = if is_kept k (length h.entries) then k else record k { machines = keep_last k.room (k.machines ++ h ∷ []) }
+with_copy h k = if is_kept k (length h.entries) then k
+    else record k { machines = keep_last k.room (k.machines ++ h ∷ []) }
 
 -- the copies that are spread over the scenario, the last ones that were passed, and those close to where a replay ended
 pub record Shelves : Type 0 where

@@ -1,5 +1,6 @@
 -- What each command refuses, where it goes, and what it replies.
-use Rattle.std.specs.Prelude.{ℕ, ◌≡◌, ◌+◌, ◌-◌, ◌==◌, ◌&&◌, Bool, true, false, not, nat_le, nat_lt, length, is_none, slice_get, Option, Some, None, Result, Ok, Err}
+use Rattle.std.specs.Prelude.{ℕ, ◌≡◌, ◌+◌, ◌-◌, ◌==◌, ◌&&◌, Bool, true, false, not, nat_le, nat_lt, length, is_none}
+use Rattle.std.specs.Prelude.{slice_get, Option, Some, None, Result, Ok, Err}
 use Rattle.zy_stops.specs.declared.stop.Stop.{Stop}
 use Rattle.zy_stops.specs.declared.stop.Stop.TheVariants as stop
 use Rattle.zy_stops.specs.Stops.{Slots}

@@ -10,7 +10,8 @@ use std::marker::Model;
 use zy_machine::Machine;
 use zy_stops::replay::advance_to;
 
-/// Copies of machines that are spread over the scenario, the last ones that were passed, and those close to where a replay ended.
+/// Copies of machines that are spread over the scenario, the last ones that were passed, and those close to where a
+/// replay ended.
 #[derive(Drop)]
 pub(crate) struct Checkpoints {
     copies: Copies,
@@ -41,7 +42,8 @@ pub(crate) fn farther<'a>(x: Option<&'a Machine>, y: Option<&'a Machine>) -> Opt
 impl Checkpoints {
     /// None yet, and room for this number.
     pub fn new(alloc: Global, copies: Copies) -> Result<Checkpoints, AllocError>
-        ensures room { IfOk result (λ c. c.spread.room + c.passed.room + c.close.room ≡ copies.spread + copies.passed + copies.close) }
+        ensures room { IfOk result (λ c. c.spread.room + c.passed.room + c.close.room
+            ≡ copies.spread + copies.passed + copies.close) }
         ensures none { (sc : AScenario) → IfOk result (HoldReplaysOf sc) }
     {
         Ok(Checkpoints {
@@ -55,7 +57,8 @@ impl Checkpoints {
     /// The kept machine that is nearest below or at a position, if there is one.
     pub fn nearest(&self, target: usize) -> Option<&Machine>
         ensures below { IfSome (option_copied result) (λ h. length h.entries ≤ target) }
-        ensures kept { (sc : AScenario) → HoldReplaysOf sc self.entry.now → IfSome (option_copied result) (IsReplayOf sc) }
+        ensures kept { (sc : AScenario) → HoldReplaysOf sc self.entry.now
+            → IfSome (option_copied result) (IsReplayOf sc) }
     {
         let on_the_way = farther(self.spread.nearest(target), self.passed.nearest(target));
         farther(on_the_way, self.close.nearest(target))
@@ -72,7 +75,8 @@ impl Checkpoints {
         }
     }
 
-    /// Makes a machine's choices up to the last position on the way to another at which a copy is worth its time, and keeps the copies.
+    /// Makes a machine's choices up to the last position on the way to another at which a copy is worth its time, and
+    /// keeps the copies.
     fn pass(
         &mut self,
         alloc: Global,
@@ -96,7 +100,8 @@ impl Checkpoints {
         self.close.is_kept(target)
     }
 
-    /// Takes out the kept machine that is at a position, if there is one among those close to where a replay ended. Those above go.
+    /// Takes out the kept machine that is at a position, if there is one among those close to where a replay ended.
+    /// Those above go.
     pub fn take(&mut self, target: usize) -> Option<Machine>
         ensures position { IfSome result (λ h. length h.entries ≡ target) }
         ensures taken { (sc : AScenario) → HoldReplaysOf sc self.old → IfSome result (IsReplayOf sc) }
@@ -123,7 +128,8 @@ impl Checkpoints {
         }
     }
 
-    /// As long as the way to a position is long and there is room, makes half of a machine's choices on it, and keeps a copy.
+    /// As long as the way to a position is long and there is room, makes half of a machine's choices on it, and keeps a
+    /// copy.
     fn halve(
         &mut self,
         alloc: Global,
@@ -142,7 +148,8 @@ impl Checkpoints {
         Ok(())
     }
 
-    /// Makes a machine's choices up to a position, and keeps the copies that are due on the way. Those close to its end that are above it go.
+    /// Makes a machine's choices up to a position, and keeps the copies that are due on the way. Those close to its end
+    /// that are above it go.
     pub fn replay_to(
         &mut self,
         alloc: Global,

@@ -32,7 +32,8 @@ fn stride(choices: usize, every: usize, spread: usize) -> usize {
 }
 
 impl Copies {
-    /// Of all copies a quarter, at most four, are close; of the others one half is spread, and the rest are the last ones passed.
+    /// Of all copies a quarter, at most four, are close; of the others one half is spread, and the rest are the last
+    /// ones passed.
     pub fn new(choices: usize, every: usize, ring: usize) -> Copies
         ensures { result.spread + result.passed + result.close ≡ ring }
     {
@@ -52,8 +53,8 @@ impl Copies {
         self.stride != 0 && position % self.stride == 0
     }
 
-    /// The next position on the way to another at which a copy is worth its time: one that is spread over the scenario, or one of the last
-    /// multiples of `every` there.
+    /// The next position on the way to another at which a copy is worth its time: one that is spread over the scenario,
+    /// or one of the last multiples of `every` there.
     pub fn next_due(&self, position: usize, target: usize) -> Option<usize>
         ensures { IfSome result (λ due. (position < due) × (due ≤ target)) }
     {
@@ -76,7 +77,8 @@ impl Copies {
         position.saturating_sub(self.every)
     }
 
-    /// The position halfway to another, where the way is longer than a sixty-fourth of `every`; a way of one choice has none.
+    /// The position halfway to another, where the way is longer than a sixty-fourth of `every`; a way of one choice has
+    /// none.
     pub fn halfway(&self, position: usize, target: usize) -> Option<usize>
         ensures { IfSome result (λ due. (position < due) × (due ≤ target)) }
     {

@@ -1,9 +1,11 @@
 //! The debugger: a position and sixteen stops.
-ghost use Rattle.std.specs.Prelude.{◌≡◌, true, false, ◌≤◌, ◌<◌, ◌==◌, ◌&&◌, ◌-◌, not, IfOk, IfSome, OnOk, OnErr, length, replicate, None, nat_le, nat_lt, slice_get, option_copied};
+ghost use Rattle.std.specs.Prelude.{◌≡◌, true, false, ◌≤◌, ◌<◌, ◌==◌, ◌&&◌, ◌-◌, not, IfOk, IfSome, OnOk, OnErr};
+ghost use Rattle.std.specs.Prelude.{length, replicate, None, nat_le, nat_lt, slice_get, option_copied};
 ghost use Rattle.zy_stops.specs.declared.stop.Stop.TheVariants as stop;
 ghost use Rattle.zy_stops.specs.Scans.{Conts, RConts, LastIn};
 ghost use Rattle.zy_stops.specs.Slots.{free_slot, with_stop, without_stop, is_set};
-ghost use Rattle.zy_debug.specs.Commands.{refusal, Does, Obeys, Moves, GoesOn, GoesBack, Sets, Deletes, Stays, has_room, has_room_in_range, has_stop, in_range, unless};
+ghost use Rattle.zy_debug.specs.Commands.{refusal, Does, Obeys, Moves, GoesOn, GoesBack, Sets, Deletes, Stays};
+ghost use Rattle.zy_debug.specs.Commands.{has_room, has_room_in_range, has_stop, in_range, unless};
 ghost use Rattle.zy_debug.specs.Checkpoints.{IsReplayOf};
 ghost use Rattle.zy_debug.specs.declared.command.DebugFault.TheVariants as fault;
 ghost use Rattle.zy_debug.specs.declared.command.Shown.TheVariants as shown;
@@ -43,9 +45,9 @@ impl Model for Debugger {
 }
 
 impl Debugger {
-    /// A debugger at the start, without stops. It keeps up to `ring` copies of the machine at positions that replays pass. Some are spread over
-    /// the scenario at multiples of `every`, some are the last multiples passed, and some halve the way to the position.
-    /// The scenario is dropped where there is no memory.
+    /// A debugger at the start, without stops. It keeps up to `ring` copies of the machine at positions that replays
+    /// pass. Some are spread over the scenario at multiples of `every`, some are the last multiples passed, and some
+    /// halve the way to the position. The scenario is dropped where there is no memory.
     pub fn open(
         alloc: Global,
         scenario: Scenario,
@@ -113,7 +115,8 @@ impl Debugger {
 
     /// To a position.
     fn go_to(&mut self, target: usize) -> Result<Reply, DebugFault>
-        ensures { Obeys (in_range (nat_le target (length self.old.scenario.choices))) (Moves self.old target) self.old self.new result }
+        ensures { Obeys (in_range (nat_le target (length self.old.scenario.choices)))
+            (Moves self.old target) self.old self.new result }
     {
         if target <= self.choices() {
             self.go(target)?;
@@ -125,7 +128,8 @@ impl Debugger {
 
     /// Goes this number of choices back.
     fn back(&mut self, n: usize) -> Result<Reply, DebugFault>
-        ensures { Obeys (in_range (nat_le n self.old.position)) (Moves self.old (self.old.position - n)) self.old self.new result }
+        ensures { Obeys (in_range (nat_le n self.old.position))
+            (Moves self.old (self.old.position - n)) self.old self.new result }
     {
         let position = self.position();
         if n <= position {
@@ -158,7 +162,8 @@ impl Debugger {
 
     /// A stop where a page changes its place.
     fn break_page(&mut self, p: u32) -> Result<Reply, DebugFault>
-        ensures { Obeys (has_room_in_range (nat_lt p self.old.scenario.pages) self.old) (Sets self.old (stop.Page p)) self.old self.new result }
+        ensures { Obeys (has_room_in_range (nat_lt p self.old.scenario.pages) self.old)
+            (Sets self.old (stop.Page p)) self.old self.new result }
     {
         if p < u32::from(self.machine.scenario().pages()) {
             self.set(Stop::Page(p as u16))
@@ -169,7 +174,8 @@ impl Debugger {
 
     /// A stop where the committed value at a key changes.
     fn watch(&mut self, k: u32) -> Result<Reply, DebugFault>
-        ensures { Obeys (has_room_in_range (nat_le k 65535) self.old) (Sets self.old (stop.Watch k)) self.old self.new result }
+        ensures { Obeys (has_room_in_range (nat_le k 65535) self.old)
+            (Sets self.old (stop.Watch k)) self.old self.new result }
     {
         if k <= 65535 {
             self.set(Stop::Watch(k as u16))
@@ -190,7 +196,8 @@ impl Debugger {
 
     /// A stop less.
     fn delete(&mut self, n: u32) -> Result<Reply, DebugFault>
-        ensures { Obeys (unless (has_stop n self.old.stops) fault.NoSuchStop) (Deletes self.old n) self.old self.new result }
+        ensures { Obeys (unless (has_stop n self.old.stops) fault.NoSuchStop)
+            (Deletes self.old n) self.old self.new result }
     {
         if n != 0 && self.stops.delete(n as usize - 1) {
             Ok(Reply::Deleted(n))
@@ -201,7 +208,8 @@ impl Debugger {
 
     /// Shows a page.
     fn show_page(&self, p: u32) -> Result<Reply, DebugFault>
-        ensures { Obeys (in_range (nat_lt p self.now.scenario.pages)) (Stays self.now (shown.Page p)) self.now self.now result }
+        ensures { Obeys (in_range (nat_lt p self.now.scenario.pages))
+            (Stays self.now (shown.Page p)) self.now self.now result }
     {
         if p < u32::from(self.machine.scenario().pages()) {
             Ok(Reply::Shown(Shown::Page(p as u16)))
@@ -212,7 +220,8 @@ impl Debugger {
 
     /// Shows a transaction.
     fn show_txn(&self, t: u32) -> Result<Reply, DebugFault>
-        ensures { Obeys (in_range (nat_lt t (length self.now.scenario.programs))) (Stays self.now (shown.Txn t)) self.now self.now result }
+        ensures { Obeys (in_range (nat_lt t (length self.now.scenario.programs)))
+            (Stays self.now (shown.Txn t)) self.now self.now result }
     {
         if (t as usize) < self.machine.scenario().programs().len() {
             Ok(Reply::Shown(Shown::Txn(t as u8)))
@@ -221,7 +230,8 @@ impl Debugger {
         }
     }
 
-    /// Goes to a position: takes the kept machine that is there, or replays. A machine is large, and so it is moved straight to its place.
+    /// Goes to a position: takes the kept machine that is there, or replays. A machine is large, and so it is moved
+    /// straight to its place.
     fn go(&mut self, target: usize) -> Result<(), AllocError>
         requires { target ≤ length self.old.scenario.choices }
         ensures ok { OnOk result (self.new ≡ goes self.old target) }
@@ -233,7 +243,8 @@ impl Debugger {
         self.replay(target)
     }
 
-    /// Takes the kept machine that is at a position for that of the session, if there is one among those close to where a replay ended.
+    /// Takes the kept machine that is at a position for that of the session, if there is one among those close to where
+    /// a replay ended.
     fn take_kept(&mut self, target: usize) -> bool
         ensures taken { result ≡ true → self.new ≡ goes self.old target }
         ensures kept { result ≡ false → self.new ≡ self.old }
@@ -247,7 +258,8 @@ impl Debugger {
         }
     }
 
-    /// Makes the choices up to a position from the nearest one below or at it, and keeps the copies that are due on the way.
+    /// Makes the choices up to a position from the nearest one below or at it, and keeps the copies that are due on the
+    /// way.
     fn replay(&mut self, target: usize) -> Result<(), AllocError>
         requires { target ≤ length self.old.scenario.choices }
         ensures ok { OnOk result (self.new ≡ goes self.old target) }
@@ -308,7 +320,8 @@ impl Debugger {
         Ok(slot)
     }
 
-    /// Goes back to the last position below at which a stop fires, and tells the lowest slot that does; else to the start.
+    /// Goes back to the last position below at which a stop fires, and tells the lowest slot that does; else to the
+    /// start.
     fn rcont(&mut self) -> Result<Option<usize>, AllocError>
         ensures stops { IfOk result (λ i. RConts self.old.scenario self.old.stops self.old.position i self.new.position) }
         ensures slot { IfOk result (λ i. IfSome i (λ n. n < 16)) }

@@ -1,5 +1,6 @@
 //! Copies of machines, of which the last ones stay.
-ghost use Rattle.std.specs.Prelude.{◌≡◌, true, ◌≤◌, [], IfOk, IfSome, OnOk, OnErr, Some, length, slice_get, option_copied};
+ghost use Rattle.std.specs.Prelude.{◌≡◌, true, ◌≤◌, [], IfOk, IfSome, OnOk, OnErr, Some, length, slice_get};
+ghost use Rattle.std.specs.Prelude.{option_copied};
 ghost use Rattle.circular_buffer.specs.Buffer.{last_item};
 ghost use Rattle.zy_isa.specs.Scenario.{Scenario as AScenario};
 ghost use Rattle.zy_machine.specs.Histories.{History};
@@ -97,7 +98,8 @@ impl Shelf {
 
     /// Which kept machine is nearest below or at a position.
     fn place_of_nearest(&self, target: usize) -> Option<usize>
-        ensures { IfSome result (λ i. (h : History) × (slice_get self.now.machines i ≡ Some h) × (length h.entries ≤ target)) }
+        ensures { IfSome result (λ i. (h : History) × (slice_get self.now.machines i ≡ Some h)
+            × (length h.entries ≤ target)) }
     {
         let mut nearest: Option<usize> = None;
         let mut least = 0;
@@ -115,7 +117,8 @@ impl Shelf {
     /// The kept machine that is nearest below or at a position, if there is one.
     pub fn nearest(&self, target: usize) -> Option<&Machine>
         ensures below { IfSome (option_copied result) (λ h. length h.entries ≤ target) }
-        ensures kept { (sc : AScenario) → AreReplaysOf sc self.entry.now.machines → IfSome (option_copied result) (IsReplayOf sc) }
+        ensures kept { (sc : AScenario) → AreReplaysOf sc self.entry.now.machines
+            → IfSome (option_copied result) (IsReplayOf sc) }
     {
         match self.place_of_nearest(target) {
             Some(i) => self.ring.get(i),

@@ -23,10 +23,12 @@ parts-at t zero d (p ∷ ps) h = ap (λ n. program_texts n p) (omega arith)
 parts-at t (suc i) d (p ∷ ps) h = parts-at (t + 1) i d ps (omega arith) ∙ ap (λ n. program_texts n (get_or ps i d)) (omega arith)
 
 -- the text of lines is that of their words
-words-text : {X : Type 0} (words : X → List (List ℕ)) (xs : List X) → flat_map line_of (map (λ x. spaced (words x)) xs) ≡ flat_map (λ ws. line_of (spaced ws)) (map words xs)
+words-text : {X : Type 0} (words : X → List (List ℕ)) (xs : List X) → flat_map line_of (map (λ x. spaced (words x)) xs)
+    ≡ flat_map (λ ws. line_of (spaced ws)) (map words xs)
 words-text words xs = flat_map-map line_of (λ x. spaced (words x)) xs ∙ sym (flat_map-map (λ ws. line_of (spaced ws)) words xs)
 
-parts-text : (t : ℕ) (ps : List (List Instr)) → flat_map line_of (flat_map (λ part. part) (program_parts t ps)) ≡ flat_map (λ ws. line_of (spaced ws)) (program_words t ps)
+parts-text : (t : ℕ) (ps : List (List Instr)) → flat_map line_of (flat_map (λ part. part) (program_parts t ps))
+    ≡ flat_map (λ ws. line_of (spaced ws)) (program_words t ps)
 parts-text t [] = refl
 parts-text t (p ∷ ps) =
     flat_map-append line_of (program_texts t p) (flat_map (λ part. part) (program_parts (t + 1) ps))
@@ -35,18 +37,22 @@ parts-text t (p ∷ ps) =
     ∙ sym (flat_map-append (λ ws. line_of (spaced ws)) ((codes "txn" ∷ decimal t ∷ []) ∷ map instr_words p) (program_words (t + 1) ps))
 
 -- two parts whose texts are those of the words, one after another
-both-texts : (xs ys : List (List ℕ)) (vs ws : List (List (List ℕ))) → flat_map line_of xs ≡ flat_map (λ ws. line_of (spaced ws)) vs → flat_map line_of ys ≡ flat_map (λ ws. line_of (spaced ws)) ws
+both-texts : (xs ys : List (List ℕ)) (vs ws : List (List (List ℕ))) → flat_map line_of xs ≡ flat_map (λ ws. line_of (spaced ws)) vs
+    → flat_map line_of ys ≡ flat_map (λ ws. line_of (spaced ws)) ws
     → flat_map line_of (xs ++ ys) ≡ flat_map (λ ws. line_of (spaced ws)) (vs ++ ws)
 both-texts xs ys vs ws p q =
-    flat_map-append line_of xs ys ∙ ap (λ l. l ++ flat_map line_of ys) p ∙ ap (λ l. flat_map (λ ws. line_of (spaced ws)) vs ++ l) q ∙ sym (flat_map-append (λ ws. line_of (spaced ws)) vs ws)
+    flat_map-append line_of xs ys ∙ ap (λ l. l ++ flat_map line_of ys) p ∙ ap (λ l. flat_map (λ ws. line_of (spaced ws)) vs ++ l) q
+    ∙ sym (flat_map-append (λ ws. line_of (spaced ws)) vs ws)
 
 -- the lines before the choices, the choices and the end are the canonical text
 pub canon-parts : (s : Scenario) → flat_map line_of (head_texts s ++ (map choice_text s.choices ++ end_texts)) ≡ canon s
 canon-parts s =
-    let tail = both-texts (map choice_text s.choices) end_texts (map choice_words s.choices) ((codes "end" ∷ []) ∷ []) (words-text choice_words s.choices) refl in
+    let tail = both-texts (map choice_text s.choices) end_texts (map choice_words s.choices) ((codes "end" ∷ []) ∷ [])
+    (words-text choice_words s.choices) refl in
     let programs = both-texts _ _ _ _ (parts-text 0 s.programs) tail in
     let rows = both-texts _ _ _ _ (words-text row_words s.rows) programs in
     let all = both-texts (header_texts s) _ (header_words s) _ refl rows in
     let choices = map choice_text s.choices ++ end_texts in
     let parts = flat_map (λ part. part) (program_parts 0 s.programs) in
-    ap (flat_map line_of) (append_assoc (header_texts s) (map row_text s.rows ++ parts) choices ∙ ap (λ l. header_texts s ++ l) (append_assoc (map row_text s.rows) parts choices)) ∙ all
+    ap (flat_map line_of) (append_assoc (header_texts s) (map row_text s.rows ++ parts) choices
+    ∙ ap (λ l. header_texts s ++ l) (append_assoc (map row_text s.rows) parts choices)) ∙ all

@@ -22,7 +22,8 @@ rule_line r = spaced (codes "rule" ∷ rule_text r ∷ [])
 
 abbrev pub header_texts : Scenario → List (List ℕ)
 header_texts s =
-    version_line s.version ∷ number_text (codes "cap") s.cap ∷ number_text (codes "pages") s.pages ∷ rule_line s.rule ∷ []
+    version_line s.version ∷ number_text (codes "cap") s.cap ∷ number_text (codes "pages") s.pages ∷ rule_line s.rule
+    ∷ []
 
 -- a program under its number
 abbrev pub program_texts : ℕ → List Instr → List (List ℕ)

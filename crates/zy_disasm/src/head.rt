@@ -2,8 +2,8 @@
 ghost use Rattle.zy_disasm.specs.Lines.{program_parts, head_texts};
 
 use crate::lines::{Number, RuleLine, VersionLine};
-use zy_io::{Both, LineBuffer, One, Parts, Section, Sink, TextFault};
 use zy_io::section::write_parts;
+use zy_io::{Both, LineBuffer, One, Parts, Section, Sink, TextFault};
 use zy_isa::{Program, Scenario};
 use zy_text::Each;
 

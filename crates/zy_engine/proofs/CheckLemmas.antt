@@ -9,7 +9,8 @@ use Rattle.zy_engine.specs.Checks.{WroteOrNothing, verdict_line}
 use Rattle.zy_engine.proofs.RunLemmas.{WroteFront-nothing}
 
 -- all of a text, nothing and a prefix of it are fronts of it
-pub tell-front : {X : Type 0} (old new : Option (List ℕ)) (before after : ℕ) (r : Result X TextFault) (text : List ℕ) → WroteOrNothing old new before after r text → WroteFront old new text
+pub tell-front : {X : Type 0} (old new : Option (List ℕ)) (before after : ℕ) (r : Result X TextFault) (text : List ℕ)
+    → WroteOrNothing old new before after r text → WroteFront old new text
 tell-front old new before after (Ok x) text w = (text, [], sym (append-nil text), w.0)
 tell-front old new before after (Err Write) text w = w.0
 tell-front old new before after (Err Memory) text w = subst (λ a. WroteFront old a text) (sym w.0) (WroteFront-nothing old text)

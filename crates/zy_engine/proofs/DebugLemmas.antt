@@ -44,7 +44,8 @@ module _ (old : Streams) (left : Option (List ℕ)) (reads : ℕ) where
       → Debugs {X = Unit {0}} old (record old { left = left; reads = reads }) (Err f)
   stopped f fault input calls writes = record {
     written = tt;
-    front = of-any (λ t. (sc : Scenario) → Means (cut t) sc → SaysFront old.written old.written (opened sc) (commands_of t)) old.left (λ t sc means. nothing_said old.written (opened sc) (commands_of t));
+    front = of-any (λ t. (sc : Scenario) → Means (cut t) sc → SaysFront old.written old.written (opened sc) (commands_of t)) old.left
+        (λ t sc means. nothing_said old.written (opened sc) (commands_of t));
     fault = fault;
     input = input;
     accepted = tt;
@@ -66,7 +67,8 @@ module _ (old : Streams) (left : Option (List ℕ)) (reads : ℕ) where
   pub unaccepted : (bytes : List ℕ) (f : BenchFault) → IfSome old.left (λ t. bytes ≡ t) → ReadWhole old.left left → reads ≡ old.reads
       → IsTextFault (cut bytes) f
       → Debugs {X = Unit {0}} old (record old { left = left; reads = reads }) (Err f)
-  unaccepted bytes (bench.Input r) same whole calls h = stopped (bench.Input r) (told-of (λ t. IsTextFault (cut t) (bench.Input r)) old.left bytes same h) whole (omega (arith, calls)) refl
+  unaccepted bytes (bench.Input r) same whole calls h = stopped (bench.Input r) (told-of (λ t. IsTextFault (cut t) (bench.Input r)) old.left bytes same h) whole
+      (omega (arith, calls)) refl
   unaccepted bytes (bench.Image f) same whole calls h = absurd h
   unaccepted bytes bench.TooLong same whole calls h = absurd h
   unaccepted bytes bench.Read same whole calls h = absurd h
@@ -90,7 +92,8 @@ accepted bytes part scenario is means only right = record {
   right = subst (λ t. input_fault t ≡ None) is right;
 }
 
-module _ (old new : Streams) (bytes : List ℕ) (scenario : Scenario) (same : IfSome old.left (λ t. bytes ≡ t)) (whole : ReadWhole old.left new.left) (calls : new.reads ≡ old.reads) (is : Accepted bytes scenario) where
+module _ (old new : Streams) (bytes : List ℕ) (scenario : Scenario) (same : IfSome old.left (λ t. bytes ≡ t)) (whole : ReadWhole old.left new.left)
+    (calls : new.reads ≡ old.reads) (is : Accepted bytes scenario) where
   -- a prefix of what is said of that scenario is one of what is said of each that the part means
   some_front : SaysFront old.written new.written (opened scenario) (commands_of bytes)
       → IfSome old.left (λ t. (sc : Scenario) → Means (cut t) sc → SaysFront old.written new.written (opened sc) (commands_of t))

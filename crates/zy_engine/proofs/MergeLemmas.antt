@@ -37,12 +37,14 @@ listing-reordered sc order same =
     let s = opening-reordered sc order in
     let steps = ap (λ x. entries (reordered sc order) x order) s ∙ entries-reordered sc order (opening sc) order in
     let end = ap (λ x. play (reordered sc order) x order) s ∙ play-reordered sc order (opening sc) order in
-    ap (λ (es : List Entry). canon (reordered sc order) ++ flat_map line_of (ending_texts es (play (reordered sc order) (opening (reordered sc order)) order) same)) steps
+    ap (λ (es : List Entry). canon (reordered sc order) ++ flat_map line_of
+    (ending_texts es (play (reordered sc order) (opening (reordered sc order)) order) same)) steps
     ∙ ap (λ (x : State). canon (reordered sc order) ++ flat_map line_of (ending_texts (entries sc (opening sc) order) x same)) end
 
 -- a machine's listing is that of the run of its scenario with its choices in the order of its history
 pub listing-again : (h : History)
-    → (let order = choices_of h.entries in IsRunOf (reordered h.scenario order) h → listing h.scenario order (is_serial h.scenario h.state) ≡ listing_run (reordered h.scenario order))
+    → (let order = choices_of h.entries in IsRunOf (reordered h.scenario order) h
+    → listing h.scenario order (is_serial h.scenario h.state) ≡ listing_run (reordered h.scenario order))
 listing-again h run =
     let order = choices_of h.entries in
     sym (listing-reordered h.scenario order (is_serial h.scenario h.state))

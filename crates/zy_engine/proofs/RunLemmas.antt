@@ -148,13 +148,15 @@ module _ (format : Format) (output : Scenario → List ℕ) (old : Streams) wher
 
     -- and it has no fault
     has-no-fault : IfSome old.left (λ t. (HasNoFault format t → ⊥) → new.written ≡ old.written)
-    has-no-fault = told-map (HasNoFault format) (λ t. (HasNoFault format t → ⊥) → new.written ≡ old.written) old.left (λ t right faulty. absurd (faulty right)) took.right
+    has-no-fault = told-map (HasNoFault format) (λ t. (HasNoFault format t → ⊥) → new.written ≡ old.written) old.left
+        (λ t right faulty. absurd (faulty right)) took.right
 
     -- an engine that took a scenario and wrote of it
     pub converts-wrote : {X : Type 0} (w : Result X TextFault) → Wrote old.written new.written old.writes new.writes w (output scenario)
         → Converts format output old new (of_wrote w)
     converts-wrote (Ok x) wrote = record {
-      written = told-map (λ t. StandsFor format t scenario) (λ t. (sc : Scenario) × StandsFor format t sc × Appends old.written new.written (output sc)) old.left
+      written = told-map (λ t. StandsFor format t scenario) (λ t. (sc : Scenario) × StandsFor format t sc
+          × Appends old.written new.written (output sc)) old.left
           (λ t stands. (scenario, stands, wrote.0)) took.stands;
       front = fronts (Wrote-front old.written new.written old.writes new.writes (Ok x) (output scenario) wrote);
       fault = tt;

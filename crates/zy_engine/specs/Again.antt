@@ -9,9 +9,11 @@ use Rattle.zy_text.specs.Cut.{cut}
 use Rattle.zy_engine.specs.declared.format.Format.TheVariants.{Text}
 use Rattle.zy_engine.specs.Engines.{Streams, Converts}
 
--- the scenario part of the listing is the scenario's canonical text and means it; and run of that part, where it is done, writes the listing
+-- the scenario part of the listing is the scenario's canonical text and means it; and run of that part, where it is
+-- done, writes the listing
 pub record RunsAgain (sc : Scenario) : Type 0 where
   pub part : cut (listing_run sc) ≡ canon sc
   pub means : Means (canon sc) sc
-  pub again : (old new : Streams) → old.left ≡ Some (cut (listing_run sc)) → Converts {X = Unit {0}} Text listing_run old new (Ok tt)
+  pub again : (old new : Streams) → old.left ≡ Some (cut (listing_run sc))
+      → Converts {X = Unit {0}} Text listing_run old new (Ok tt)
       → Appends old.written new.written (listing_run sc)

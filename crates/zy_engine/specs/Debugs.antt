@@ -26,9 +26,11 @@ pub record AreReplies (input out : List ℕ) : Type 0 where
 
 pub record Debugs {X : Type 0} (old new : Streams) (result : Result X BenchFault) : Type 0 where
   -- at Ok exactly the replies went out
-  pub written : OnOk result (IfSome old.left (λ input. (out : List ℕ) × AreReplies input out × Appends old.written new.written out))
+  pub written : OnOk result (IfSome old.left (λ input. (out : List ℕ) × AreReplies input out
+      × Appends old.written new.written out))
   -- whatever comes, nothing but a prefix of the replies went out
-  pub front : IfSome old.left (λ input. (sc : Scenario) → Means (cut input) sc → SaysFront old.written new.written (opened sc) (commands_of input))
+  pub front : IfSome old.left (λ input. (sc : Scenario) → Means (cut input) sc
+      → SaysFront old.written new.written (opened sc) (commands_of input))
   -- a refused scenario part is reported by its first fault
   pub fault : IfErr result (λ f. IfRefused f (IfSome old.left (λ input. IsTextFault (cut input) f)))
   -- the input is read whole; only where it has more than 4194304 bytes is it too long, and then one byte more is read

@@ -16,15 +16,19 @@ pub record Streams : Type 0 where
   pub writes : ℕ
 
 -- those of a source and a sink, of which these are the members
-abbrev pub streams : {S K : Type 0} → (S → Option (List ℕ)) → (S → ℕ) → (K → Option (List ℕ)) → (K → ℕ) → S → K → Streams
+abbrev pub streams : {S K : Type 0} → (S → Option (List ℕ)) → (S → ℕ) → (K → Option (List ℕ)) → (K → ℕ) → S → K
+    → Streams
 streams left reads written writes source sink =
     record { left = left source; written = written sink; reads = reads source; writes = writes sink }
 
-pub record Converts {X : Type 0} (format : Format) (output : Scenario → List ℕ) (old new : Streams) (result : Result X BenchFault) : Type 0 where
+pub record Converts {X : Type 0} (format : Format) (output : Scenario → List ℕ) (old new : Streams)
+    (result : Result X BenchFault) : Type 0 where
   -- at Ok the input stands for a scenario, and exactly its output went out
-  pub written : OnOk result (IfSome old.left (λ told. (sc : Scenario) × StandsFor format told sc × Appends old.written new.written (output sc)))
+  pub written : OnOk result (IfSome old.left (λ told. (sc : Scenario) × StandsFor format told sc
+      × Appends old.written new.written (output sc)))
   -- whatever comes, nothing but a prefix of the output of a scenario that the input stands for went out
-  pub front : IfSome old.left (λ told. (sc : Scenario) → StandsFor format told sc → WroteFront old.written new.written (output sc))
+  pub front : IfSome old.left (λ told. (sc : Scenario) → StandsFor format told sc
+      → WroteFront old.written new.written (output sc))
   -- a refused input is reported by its first fault
   pub fault : IfErr result (λ f. IfRefused f (IfSome old.left (λ told. IsRefusal format told f)))
   -- the input is read whole; only where it has more than 4194304 bytes is it too long, and then one byte more is read

@@ -38,7 +38,8 @@ abbrev pub IsRefusal : Format → List ℕ → BenchFault → Type 0
 IsRefusal format.Text bytes f = IsTextFault bytes f
 IsRefusal format.Image bytes f = IsImageFault bytes f
 
--- A reader told the bytes `told` and tells `left` now, and the number of its calls that failed went from before to after.
+-- A reader told the bytes `told` and tells `left` now, and the number of its calls that failed went from before to
+-- after.
 module _ (format : Format) (told left : Option (List ℕ)) (before after : ℕ) where
   -- the input was read whole: it stands for this scenario alone, and has no fault
   pub record Took (scenario : Scenario) : Type 0 where

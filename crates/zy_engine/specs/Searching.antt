@@ -28,7 +28,8 @@ text_of sc Nowhere = []
 text_of sc (Spent n) = []
 
 -- a call that writes: the text of an answer, which at Ok is the one that is returned
-pub record WroteAnswer (sc : Scenario) (q : Sought) (most : ℕ) (old new : Option (List ℕ)) (before after : ℕ) (result : Result Report TextFault) : Type 0 where
+pub record WroteAnswer (sc : Scenario) (q : Sought) (most : ℕ) (old new : Option (List ℕ)) (before after : ℕ)
+    (result : Result Report TextFault) : Type 0 where
   pub answer : Answer
   pub is : IsAnswer (ran sc) q answer
   pub returned : IfOk result (λ r. r.answer ≡ answer)
@@ -36,9 +37,11 @@ pub record WroteAnswer (sc : Scenario) (q : Sought) (most : ℕ) (old new : Opti
   pub wrote : Wrote old new before after result (text_of sc answer)
 
 -- and the engine: the answer is one for the scenario that the input stands for, and one that gives up is due
-pub record ConvertsSearch (format : Format) (q : Sought) (most : ℕ) (old new : Streams) (result : Result Report BenchFault) : Type 0 where
+pub record ConvertsSearch (format : Format) (q : Sought) (most : ℕ) (old new : Streams)
+    (result : Result Report BenchFault) : Type 0 where
   pub answer : Answer
   pub is : IfSome old.left (λ told. (sc : Scenario) → StandsFor format told sc → IsAnswer (ran sc) q answer)
   pub returned : IfOk result (λ r. r.answer ≡ answer)
-  pub due : IfOk result (λ r. IfSome old.left (λ told. (sc : Scenario) → StandsFor format told sc → IsDue (ran sc) q most r.answer))
+  pub due : IfOk result (λ r. IfSome old.left (λ told. (sc : Scenario) → StandsFor format told sc
+      → IsDue (ran sc) q most r.answer))
   pub converts : Converts format (λ sc. text_of sc answer) old new result

@@ -12,16 +12,19 @@ use Rattle.zy_engine.specs.declared.format.Format.{Format}
 use Rattle.zy_engine.specs.Inputs.{StandsFor}
 use Rattle.zy_engine.specs.Engines.{Streams, Converts}
 
--- What went out is the listing that run writes of the scenario with its choices in some order, each actor's whole and in theirs.
+-- What went out is the listing that run writes of the scenario with its choices in some order, each actor's whole and
+-- in theirs.
 
 -- the same for a call that writes: all of it went out, or a front
-pub record WroteMerge {X : Type 0} (sc : Scenario) (old new : Option (List ℕ)) (before after : ℕ) (result : Result X TextFault) : Type 0 where
+pub record WroteMerge {X : Type 0} (sc : Scenario) (old new : Option (List ℕ)) (before after : ℕ)
+    (result : Result X TextFault) : Type 0 where
   pub order : List Choice
   pub merge : IsMerge order sc.choices
   pub wrote : Wrote old new before after result (listing_run (reordered sc order))
 
 -- and for the engine: the order is one of the scenario that the input stands for
-pub record ConvertsMerged {X : Type 0} (format : Format) (old new : Streams) (result : Result X BenchFault) : Type 0 where
+pub record ConvertsMerged {X : Type 0} (format : Format) (old new : Streams)
+    (result : Result X BenchFault) : Type 0 where
   pub order : Scenario → List Choice
   pub merge : IfSome old.left (λ told. (sc : Scenario) → StandsFor format told sc → IsMerge (order sc) sc.choices)
   pub converts : Converts format (λ sc. listing_run (reordered sc (order sc))) old new result

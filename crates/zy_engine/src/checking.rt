@@ -16,10 +16,10 @@ ghost use Rattle.zy_engine.specs.Inputs.{IsTextFault};
 
 use crate::faults::BenchFault;
 use std::alloc::{AllocError, Global};
-use zy_check::check::check;
 use zy_check::Verdict;
-use zy_io::{Line, LineBuffer, Sink, Source, TextFault};
+use zy_check::check::check;
 use zy_io::writing::write_all;
+use zy_io::{Line, LineBuffer, Sink, Source, TextFault};
 
 /// The words of a verdict, and the end of their line.
 fn line_of(alloc: Global, verdict: Verdict) -> Result<LineBuffer, AllocError>
@@ -42,8 +42,8 @@ fn tell<K: Sink>(alloc: Global, verdict: Verdict, sink: &mut K) -> Result<(), Te
     Ok(())
 }
 
-/// Reads an input whole, and writes whether it is the listing of the scenario at its head: `table`, or `not table` and the
-/// line in which they first differ. Nothing is written before that is known.
+/// Reads an input whole, and writes whether it is the listing of the scenario at its head: `table`, or `not table` and
+/// the line in which they first differ. Nothing is written before that is known.
 pub fn check_bytes<S: Source, K: Sink>(
     alloc: Global,
     source: &mut S,
@@ -71,7 +71,8 @@ pub fn check_bytes<S: Source, K: Sink>(
     // Where it has a fault nothing is written, whatever comes.
     ensures refused { IfSome (S.left source.old) (λ told. (input_fault (cut told) ≡ None → ⊥)
         → K.written sink.new ≡ K.written sink.old) }
-    // The input is read whole; only where it has more than 4194304 bytes is it too long, and then one byte more is read.
+    // The input is read whole; only where it has more than 4194304 bytes is it too long, and then one byte more is
+    // read.
     ensures input { ReadsInput (S.left source.old) (S.left source.new) result }
     // Whatever the reader tells of its bytes, its calls give at most one more than the longest input has.
     ensures bound { S.given source.new ≤ S.given source.old + 4194305 }

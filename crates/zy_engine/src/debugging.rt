@@ -33,11 +33,11 @@ fn write_replies<K: Sink>(
     write_session(alloc, &mut debugger, commands, sink)
 }
 
-/// Reads an input whole: a scenario text through its first line whose only word is `end`, and below it commands, one a line.
-/// Writes the replies. Nothing is written before the scenario is accepted.
+/// Reads an input whole: a scenario text through its first line whose only word is `end`, and below it commands, one a
+/// line. Writes the replies. Nothing is written before the scenario is accepted.
 ///
-/// Copies of the machine are kept to replay from, at multiples of `every` and close to the position, and at most `ring` of them: they
-/// change how long a command takes, and no reply.
+/// Copies of the machine are kept to replay from, at multiples of `every` and close to the position, and at most `ring`
+/// of them: they change how long a command takes, and no reply.
 /// The bytes that were read are left in `input`.
 pub fn debug_bytes<S: Source, K: Sink>(
     alloc: Global,

@@ -1,4 +1,5 @@
-//! The engines: bytes in, bytes out. Each leaves what it has read to its caller, who can look at it again where it is refused.
+//! The engines: bytes in, bytes out. Each leaves what it has read to its caller, who can look at it again where it is
+//! refused.
 ghost use Rattle.std.specs.Prelude.{◌<◌, ◌≤◌, ◌+◌};
 ghost use Rattle.zy_text.specs.Canon.{canon};
 ghost use Rattle.zy_image.specs.Image.{image_of};
@@ -13,8 +14,8 @@ use crate::output::{Canonical, Listing, Output, Saved, Trace};
 use std::alloc::Global;
 use zy_io::{Sink, Source};
 
-/// Reads a scenario whole, makes its choices, and writes its listing. Nothing is written before the input is read to its
-/// end and found to be a scenario.
+/// Reads a scenario whole, makes its choices, and writes its listing. Nothing is written before the input is read to
+/// its end and found to be a scenario.
 /// The bytes that were read are left in `input`.
 pub fn run_bytes<S: Source, K: Sink>(
     alloc: Global,
@@ -33,8 +34,8 @@ pub fn run_bytes<S: Source, K: Sink>(
     convert(alloc, format, &Listing, source, sink, input)
 }
 
-/// Reads a scenario whole, makes its choices, and writes the trace: each step, and the lines of the state that it changed.
-/// The bytes that were read are left in `input`.
+/// Reads a scenario whole, makes its choices, and writes the trace: each step, and the lines of the state that it
+/// changed. The bytes that were read are left in `input`.
 pub fn trace_bytes<S: Source, K: Sink>(
     alloc: Global,
     format: Format,

@@ -6,10 +6,10 @@ ghost use Rattle.zy_engine.specs.Inputs.{HasNoFault, IsRefusal, StandsFor, Takes
 use crate::faults::BenchFault;
 use std::alloc::Global;
 use zy_asm::assembling::assemble_bytes;
-use zy_image::load::load;
 use zy_image::ImageRefusal;
-use zy_io::reading::read_all;
+use zy_image::load::load;
 use zy_io::Source;
+use zy_io::reading::read_all;
 use zy_isa::Scenario;
 
 /// What an input is written in.
@@ -50,7 +50,8 @@ pub fn read_scenario<S: Source>(
     input: &mut Vec<u8>,
 ) -> Result<Scenario, BenchFault>
     requires { S.failures source.old < u64.MAX }
-    ensures takes { Takes format (S.left source.old) (S.left source.new) (S.failures source.old) (S.failures source.new) result }
+    ensures takes { Takes format (S.left source.old) (S.left source.new) (S.failures source.old)
+        (S.failures source.new) result }
     // Whatever the reader tells of its bytes, its calls give at most one more than the longest input has.
     ensures bound { S.given source.new ≤ S.given source.old + 4194305 }
 {

@@ -6,8 +6,8 @@ ghost use Rattle.zy_threads.specs.Orders.{reordered};
 ghost use Rattle.zy_threads.specs.Turns.{IsMerge};
 ghost use Rattle.zy_engine.specs.Again.{RunsAgain};
 
-/// The scenario part of what `threads` writes is the canonical text of the scenario with the order that was taken. It means that
-/// scenario, and `run` writes the same listing from it.
+/// The scenario part of what `threads` writes is the canonical text of the scenario with the order that was taken. It
+/// means that scenario, and `run` writes the same listing from it.
 pub fn merges_run_again()
     ensures { (sc : Scenario) → IsScenario sc → (order : List AChoice) → IsMerge order sc.choices
         → RunsAgain (reordered sc order) }

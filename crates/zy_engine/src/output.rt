@@ -11,8 +11,8 @@ use std::alloc::Global;
 use zy_audit::run::write_run;
 use zy_disasm::text::write_text;
 use zy_image::save::save;
-use zy_io::{Sink, TextFault};
 use zy_io::writing::write_all;
+use zy_io::{Sink, TextFault};
 use zy_isa::Scenario;
 use zy_trace::trace::write_trace;
 

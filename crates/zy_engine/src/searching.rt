@@ -13,8 +13,8 @@ use zy_disasm::Head;
 use zy_io::{Both, LineBuffer, One, Section, Sink, Source, TextFault};
 use zy_isa::{Choice, Scenario};
 use zy_machine::Machine;
-use zy_search::{Answer, Report, Sought, Watch};
 use zy_search::search::search;
+use zy_search::{Answer, Report, Sought, Watch};
 use zy_text::Each;
 
 /// Writes the canonical text of a scenario with more choices behind its own.
@@ -41,7 +41,8 @@ fn write_answer<K: Sink>(
     sink: &mut K,
 ) -> Result<(), TextFault>
     requires { K.failures sink.old < u64.MAX }
-    ensures { Wrote (K.written sink.old) (K.written sink.new) (K.failures sink.old) (K.failures sink.new) result (text_of scenario.now answer.now) }
+    ensures { Wrote (K.written sink.old) (K.written sink.new) (K.failures sink.old) (K.failures sink.new) result
+        (text_of scenario.now answer.now) }
 {
     match answer {
         Answer::Found(path) => write_found(alloc, scenario, path, sink),
@@ -50,7 +51,8 @@ fn write_answer<K: Sink>(
     }
 }
 
-/// Makes the choices of a scenario, looks at the states that further ones lead to, and writes what goes out of the answer.
+/// Makes the choices of a scenario, looks at the states that further ones lead to, and writes what goes out of the
+/// answer.
 fn write_search<K: Sink, W: Watch>(
     alloc: Global,
     scenario: Scenario,
@@ -60,7 +62,8 @@ fn write_search<K: Sink, W: Watch>(
     watch: &mut W,
 ) -> Result<Report, TextFault>
     requires { K.failures sink.old < u64.MAX }
-    ensures { WroteAnswer scenario sought most (K.written sink.old) (K.written sink.new) (K.failures sink.old) (K.failures sink.new) result }
+    ensures { WroteAnswer scenario sought most (K.written sink.old) (K.written sink.new) (K.failures sink.old)
+        (K.failures sink.new) result }
 {
     let machine = Machine::run_all(alloc, scenario)?;
     let report = search(alloc, &machine, sought, most, watch)?;
@@ -68,9 +71,9 @@ fn write_search<K: Sink, W: Watch>(
     Ok(report)
 }
 
-/// Reads a scenario whole, makes its choices, and looks for a state that further ones lead to and that shows what is sought. Where there is
-/// one, the canonical text of the scenario goes out with a shortest list of such choices behind its own; else nothing does. The watch learns how far the
-/// search is.
+/// Reads a scenario whole, makes its choices, and looks for a state that further ones lead to and that shows what is
+/// sought. Where there is one, the canonical text of the scenario goes out with a shortest list of such choices behind
+/// its own; else nothing does. The watch learns how far the search is.
 /// The bytes that were read are left in `input`.
 pub fn search_bytes<S: Source, K: Sink, W: Watch>(
     alloc: Global,

@@ -23,14 +23,15 @@ fn write_threads<R: Threads + Wait + Sync, G: Gate + Sync, K: Sink>(
     sink: &mut K,
 ) -> Result<(), TextFault>
     requires { K.failures sink.old < u64.MAX }
-    ensures { WroteMerge scenario (K.written sink.old) (K.written sink.new) (K.failures sink.old) (K.failures sink.new) result }
+    ensures { WroteMerge scenario (K.written sink.old) (K.written sink.new) (K.failures sink.old)
+        (K.failures sink.new) result }
 {
     let machine = run_threads(rt, alloc, scenario, gate)?;
     write_listing(alloc, &machine, sink)
 }
 
-/// Reads a scenario whole, makes its choices by three threads, and writes its listing in the order that they took. Nothing is
-/// written before the input is read to its end and found to be a scenario.
+/// Reads a scenario whole, makes its choices by three threads, and writes its listing in the order that they took.
+/// Nothing is written before the input is read to its end and found to be a scenario.
 /// The bytes that were read are left in `input`.
 pub fn threads_bytes<S: Source, K: Sink, R: Threads + Wait + Sync, G: Gate + Sync>(
     rt: &R,

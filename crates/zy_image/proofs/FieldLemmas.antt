@@ -1,5 +1,6 @@
 -- A field is a prefix of the bytes, and its number has it as its bytes.
-use Rattle.std.proofs.Common.{◌≡◌, ℕ, zero, suc, ◌<◌, ◌^◌, false, nat_lt, List, [], ◌∷◌, ◌++◌, length, get_or, Result, Ok, Err, refl, sym, ap, ◌∙◌, subst, arith}
+use Rattle.std.proofs.Common.{◌≡◌, ℕ, zero, suc, ◌<◌, ◌^◌, false, nat_lt, List, [], ◌∷◌, ◌++◌, length, get_or, Result, Ok, Err, refl, sym, ap, ◌∙◌, subst}
+use Rattle.std.proofs.Common.{arith}
 use Rattle.std.proofs.lemmas.List.{take-append-drop, length-take-le, length-append}
 use Rattle.std.proofs.Math.Seq.{take-append_seam, drop-append_seam}
 use Rattle.std.proofs.lemmas.Nat.{be_bytes_2, from_be_bytes-to_be_bytes_2}
@@ -115,7 +116,8 @@ byte_found size bytes n left fit h =
 pub byte_gives : (size n : ℕ) (left : List ℕ) → byte size (n ∷ left) ≡ Ok (n, left)
 byte_gives size n left = rw (field_gives size (n ∷ []) left) refl
 
-pub half_found : (size : ℕ) (bytes : List ℕ) (n : ℕ) (left : List ℕ) → AreBytes bytes → half size bytes ≡ Ok (n, left) → Number (2 ^ 16) (to_be_bytes w16) bytes n left
+pub half_found : (size : ℕ) (bytes : List ℕ) (n : ℕ) (left : List ℕ) → AreBytes bytes → half size bytes ≡ Ok (n, left)
+    → Number (2 ^ 16) (to_be_bytes w16) bytes n left
 half_found size bytes n left fit h =
     let f = bind_ok (field 2 size bytes) (λ f. Ok (from_be_bytes w16 f.0, f.1)) (n, left) h in
     let w = f.0.0 in

@@ -1,5 +1,6 @@
 -- The lists of an image, with their counts in front.
-use Rattle.std.proofs.Common.{◌≡◌, ◌==◌, ℕ, ◌≤◌, ◌||◌, false, nat_lt, List, [], ◌∷◌, ◌++◌, length, Option, Some, None, Ok, Err, refl, ap, ◌∙◌, subst, append_assoc, arith, if◌then◌else◌}
+use Rattle.std.proofs.Common.{◌≡◌, ◌==◌, ℕ, ◌≤◌, ◌||◌, false, nat_lt, List, [], ◌∷◌, ◌++◌, length, Option, Some, None, Ok, Err, refl, ap, ◌∙◌, subst}
+use Rattle.std.proofs.Common.{append_assoc, arith, if◌then◌else◌}
 use Rattle.std.specs.List.{flat_map}
 use Rattle.std.specs.Int.{w16, to_be_bytes}
 use Rattle.zy_isa.specs.declared.version.Version.{Version}
@@ -19,7 +20,8 @@ use Rattle.zy_isa.proofs.ScenarioLemmas.{program_more}
 use Rattle.zy_image.specs.declared.faults.LoadFault.TheVariants as fault
 use Rattle.zy_image.specs.declared.head.Head.{Head}
 use Rattle.zy_image.specs.Image.{row_image, rows_image, program_image, programs_image, choice_image, choices_image}
-use Rattle.zy_image.specs.Reading.{byte, half, read_items, next_row, row_count, rows, next_instr, instr_count, instrs, judged, next_program, program_count, programs, next_choice, choice_count, choices}
+use Rattle.zy_image.specs.Reading.{byte, half, read_items, next_row, row_count, rows, next_instr, instr_count, instrs, judged, next_program, program_count}
+use Rattle.zy_image.specs.Reading.{programs, next_choice, choice_count, choices}
 use Rattle.zy_image.proofs.FieldLemmas.{AreBytes, one_answer, byte_found, byte_gives, half_found, half_gives}
 use Rattle.zy_image.proofs.ListLemmas.{TookItem, list_found, AreRead, items_give}
 use Rattle.zy_image.proofs.PartLemmas.{InOrder, row_found, rows_read, instr_found, instrs_read, choice_found, choices_read}
@@ -33,7 +35,8 @@ pub record FoundRows (h : Head) (bytes : List ℕ) (rs : List Row) (left : List 
   pub few_pages : opening_pages_for h.cap (length rs) ≤ h.pages
   pub order : InOrder rs
 
-pub rows_found : (h : Head) (size : ℕ) (bytes : List ℕ) (rs : List Row) (left : List ℕ) → AreBytes bytes → rows h size bytes ≡ Ok (rs, left) → FoundRows h bytes rs left
+pub rows_found : (h : Head) (size : ℕ) (bytes : List ℕ) (rs : List Row) (left : List ℕ) → AreBytes bytes → rows h size bytes ≡ Ok (rs, left)
+    → FoundRows h bytes rs left
 rows_found h size bytes rs left fit e =
     let f = bind_ok (row_count h size bytes) (λ n. read_items (next_row size) [] n.0 n.1) (rs, left) e in
     let g = bind_ok (half size bytes) _ f.0 f.1 in
@@ -51,11 +54,14 @@ rows_found h size bytes rs left fit e =
       order = i.kept;
     }
 
-pub rows_give : (h : Head) (size : ℕ) (rs : List Row) (left : List ℕ) → length rs ≤ 256 → opening_pages_for h.cap (length rs) ≤ h.pages → Rising 0 rs → RowsFit rs → rows h size (rows_image rs ++ left) ≡ Ok (rs, left)
+pub rows_give : (h : Head) (size : ℕ) (rs : List Row) (left : List ℕ) → length rs ≤ 256 → opening_pages_for h.cap (length rs) ≤ h.pages → Rising 0 rs
+    → RowsFit rs → rows h size (rows_image rs ++ left) ≡ Ok (rs, left)
 rows_give h size rs left few pages rise fit =
-    let all : rows_image rs ++ left ≡ to_be_bytes w16 (length rs) ++ (flat_map row_image rs ++ left) = append_assoc (to_be_bytes w16 (length rs)) (flat_map row_image rs) left in
+    let all : rows_image rs ++ left ≡ to_be_bytes w16 (length rs) ++ (flat_map row_image rs ++ left) =
+    append_assoc (to_be_bytes w16 (length rs)) (flat_map row_image rs) left in
     let count : row_count h size (to_be_bytes w16 (length rs) ++ (flat_map row_image rs ++ left)) ≡ Ok (length rs, flat_map row_image rs ++ left) =
-    rw (half_gives size (length rs) (flat_map row_image rs ++ left) (omega (arith, few))) (rw (over_not (length rs) 256 few, over_not (opening_pages_for h.cap (length rs)) h.pages pages) refl) in
+    rw (half_gives size (length rs) (flat_map row_image rs ++ left) (omega (arith, few)))
+    (rw (over_not (length rs) 256 few, over_not (opening_pages_for h.cap (length rs)) h.pages pages) refl) in
     let above : Above 0 [] = λ key low. refl in
     ap (rows h size) all ∙ rw count (items_give row_image (next_row size) rs [] left (rows_read size 0 rs [] rise fit above))
 
@@ -65,13 +71,15 @@ judged_ok : {X : Type 0} (t : ℕ) (o : Option ProgFault) (x y : X) → judged t
 judged_ok t None x y h = cc
 judged_ok t (Some f) x y h = cc
 
-count_ok : (t : ℕ) (n m : ℕ × List ℕ) → (if n.0 == 0 then Err (fault.Program t prog.Empty) else if nat_lt 64 n.0 then Err (fault.Program t prog.TooLong) else Ok n) ≡ Ok m → n ≡ m
+count_ok : (t : ℕ) (n m : ℕ × List ℕ) → (if n.0 == 0 then Err (fault.Program t prog.Empty) else if nat_lt 64 n.0 then Err (fault.Program t prog.TooLong)
+    else Ok n) ≡ Ok m → n ≡ m
 count_ok t n m h =
     let a = if_err (n.0 == 0) (if nat_lt 64 n.0 then Err (fault.Program t prog.TooLong) else Ok n) (fault.Program t prog.Empty) m h in
     let b = if_err (nat_lt 64 n.0) (Ok n) (fault.Program t prog.TooLong) m a.1 in
     cc (b.1)
 
-pub program_found : (version : Version) (size : ℕ) (ps : List (List Instr)) (bytes : List ℕ) (is : List Instr) (left : List ℕ) → AreKnown version ps → AreBytes bytes
+pub program_found : (version : Version) (size : ℕ) (ps : List (List Instr)) (bytes : List ℕ) (is : List Instr) (left : List ℕ) → AreKnown version ps
+    → AreBytes bytes
     → next_program version size ps bytes ≡ Ok (is, left) → TookItem program_image (AreKnown version) ps bytes is left
 program_found version size ps bytes is left known fit h =
     let t = length ps in
@@ -88,16 +96,19 @@ program_found version size ps bytes is left known fit h =
       kept = program_more version ps is known i.kept;
     }
 
-program_gives : (version : Version) (size : ℕ) (before : List (List Instr)) (is : List Instr) (left : List ℕ) → IsProgram is → IsKnown version is → next_program version size before (program_image is ++ left) ≡ Ok (is, left)
+program_gives : (version : Version) (size : ℕ) (before : List (List Instr)) (is : List Instr) (left : List ℕ) → IsProgram is → IsKnown version is
+    → next_program version size before (program_image is ++ left) ≡ Ok (is, left)
 program_gives version size before is left p known =
     let t = length before in
     let some : (length is == 0) ≡ false = is_some (length is) p.some in
     let count : instr_count t size (length is ∷ (flat_map word_of is ++ left)) ≡ Ok (length is, flat_map word_of is ++ left) =
     rw (byte_gives size (length is) (flat_map word_of is ++ left)) (rw (some, over_not (length is) 64 p.few) refl) in
-    let read : instrs version t size (length is ∷ (flat_map word_of is ++ left)) ≡ Ok (is, left) = rw count (items_give word_of (next_instr version t size) is [] left (instrs_read version t size is [] p.values known)) in
+    let read : instrs version t size (length is ∷ (flat_map word_of is ++ left)) ≡ Ok (is, left) =
+    rw count (items_give word_of (next_instr version t size) is [] left (instrs_read version t size is [] p.values known)) in
     rw read (rw (no_prog_fault is p) refl)
 
-programs_read : (version : Version) (size : ℕ) (ps before : List (List Instr)) → ArePrograms ps → AreKnown version ps → AreRead program_image (next_program version size) before ps
+programs_read : (version : Version) (size : ℕ) (ps before : List (List Instr)) → ArePrograms ps → AreKnown version ps
+    → AreRead program_image (next_program version size) before ps
 programs_read version size [] before h known = tt
 programs_read version size (p ∷ ps) before h known =
     ((λ left. program_gives version size before p left h.0 known.0), programs_read version size ps (before ++ p ∷ []) h.1 known.1)
@@ -108,7 +119,8 @@ pub record FoundPrograms (version : Version) (bytes : List ℕ) (ps : List (List
   pub few : length ps ≤ 64
   pub known : AreKnown version ps
 
-pub programs_found : (version : Version) (size : ℕ) (bytes : List ℕ) (ps : List (List Instr)) (left : List ℕ) → AreBytes bytes → programs version size bytes ≡ Ok (ps, left) → FoundPrograms version bytes ps left
+pub programs_found : (version : Version) (size : ℕ) (bytes : List ℕ) (ps : List (List Instr)) (left : List ℕ) → AreBytes bytes
+    → programs version size bytes ≡ Ok (ps, left) → FoundPrograms version bytes ps left
 programs_found version size bytes ps left fit e =
     let f = bind_ok (program_count size bytes) (λ n. read_items (next_program version size) [] n.0 n.1) (ps, left) e in
     let g = bind_ok (byte size bytes) _ f.0 f.1 in
@@ -123,7 +135,8 @@ programs_found version size bytes ps left fit e =
       known = i.kept;
     }
 
-pub programs_give : (version : Version) (size : ℕ) (ps : List (List Instr)) (left : List ℕ) → length ps ≤ 64 → ArePrograms ps → AreKnown version ps → programs version size (programs_image ps ++ left) ≡ Ok (ps, left)
+pub programs_give : (version : Version) (size : ℕ) (ps : List (List Instr)) (left : List ℕ) → length ps ≤ 64 → ArePrograms ps → AreKnown version ps
+    → programs version size (programs_image ps ++ left) ≡ Ok (ps, left)
 programs_give version size ps left few h known =
     let count : program_count size (length ps ∷ (flat_map program_image ps ++ left)) ≡ Ok (length ps, flat_map program_image ps ++ left) =
     rw (byte_gives size (length ps) (flat_map program_image ps ++ left)) (rw (over_not (length ps) 64 few) refl) in
@@ -136,7 +149,8 @@ pub record FoundChoices (count : ℕ) (bytes : List ℕ) (cs : List Choice) (lef
   pub few : length cs ≤ 4096
   pub named : AreNamed count cs
 
-pub choices_found : (count size : ℕ) (bytes : List ℕ) (cs : List Choice) (left : List ℕ) → AreBytes bytes → choices count size bytes ≡ Ok (cs, left) → FoundChoices count bytes cs left
+pub choices_found : (count size : ℕ) (bytes : List ℕ) (cs : List Choice) (left : List ℕ) → AreBytes bytes → choices count size bytes ≡ Ok (cs, left)
+    → FoundChoices count bytes cs left
 choices_found k size bytes cs left fit e =
     let f = bind_ok (choice_count size bytes) (λ n. read_items (next_choice k size) [] n.0 n.1) (cs, left) e in
     let g = bind_ok (half size bytes) _ f.0 f.1 in
@@ -150,8 +164,10 @@ choices_found k size bytes cs left fit e =
       named = i.kept;
     }
 
-pub choices_give : (count size : ℕ) (cs : List Choice) (left : List ℕ) → length cs ≤ 4096 → AreNamed count cs → choices count size (choices_image cs ++ left) ≡ Ok (cs, left)
+pub choices_give : (count size : ℕ) (cs : List Choice) (left : List ℕ) → length cs ≤ 4096 → AreNamed count cs
+    → choices count size (choices_image cs ++ left) ≡ Ok (cs, left)
 choices_give k size cs left few named =
     let count : choice_count size (to_be_bytes w16 (length cs) ++ (flat_map choice_image cs ++ left)) ≡ Ok (length cs, flat_map choice_image cs ++ left) =
     rw (half_gives size (length cs) (flat_map choice_image cs ++ left) (omega (arith, few))) (rw (over_not (length cs) 4096 few) refl) in
-    ap (choices k size) (append_assoc (to_be_bytes w16 (length cs)) (flat_map choice_image cs) left) ∙ rw count (items_give choice_image (next_choice k size) cs [] left (choices_read k size cs [] named))
+    ap (choices k size) (append_assoc (to_be_bytes w16 (length cs)) (flat_map choice_image cs) left)
+    ∙ rw count (items_give choice_image (next_choice k size) cs [] left (choices_read k size cs [] named))

@@ -1,5 +1,6 @@
 -- Lists: an item more, what was read, and what gives it.
-use Rattle.std.proofs.Common.{◌≡◌, ℕ, zero, suc, ◌+◌, ◌-◌, ◌<◌, List, [], ◌∷◌, ◌++◌, length, Ok, Err, refl, sym, ap, ◌∙◌, subst, append_assoc, append-nil, arith}
+use Rattle.std.proofs.Common.{◌≡◌, ℕ, zero, suc, ◌+◌, ◌-◌, ◌<◌, List, [], ◌∷◌, ◌++◌, length, Ok, Err, refl, sym, ap, ◌∙◌, subst, append_assoc, append-nil}
+use Rattle.std.proofs.Common.{arith}
 use Rattle.std.specs.List.{flat_map}
 use Rattle.zy_isa.proofs.ResultLemmas.{bind_ok}
 use Rattle.zy_image.specs.declared.faults.LoadFault.{LoadFault}
@@ -12,7 +13,8 @@ module _ {X : Type 0} (next : List X → List ℕ → Read X) (xs : List X) (byt
       let same : n - k ≡ suc (n - (k + 1)) = omega (arith, h) in
       ap (λ m. read_items next xs m bytes) same
 
-  pub item_more : (x : X) (left : List ℕ) (k n : ℕ) → k < n → next xs bytes ≡ Ok (x, left) → read_items next (xs ++ x ∷ []) (n - (k + 1)) left ≡ read_items next xs (n - k) bytes
+  pub item_more : (x : X) (left : List ℕ) (k n : ℕ) → k < n → next xs bytes ≡ Ok (x, left)
+      → read_items next (xs ++ x ∷ []) (n - (k + 1)) left ≡ read_items next xs (n - k) bytes
   item_more x left k n h e = sym (one_left k n h ∙ rw e refl)
 
   pub item_fails : (fault : LoadFault) (k n : ℕ) → k < n → next xs bytes ≡ Err fault → read_items next xs (n - k) bytes ≡ Err fault
@@ -43,8 +45,10 @@ pub record TookList {X : Type 0} (image : X → List ℕ) (P : List X → Type 0
   pub kept : P ys
 
 module _ {X : Type 0} (image : X → List ℕ) (next : List X → List ℕ → Read X) (P : List X → Type 0)
-    (one : (xs : List X) (bytes : List ℕ) (x : X) (left : List ℕ) → P xs → AreBytes bytes → next xs bytes ≡ Ok (x, left) → TookItem image P xs bytes x left) where
-  pub items_found : (n : ℕ) (xs : List X) (bytes : List ℕ) (ys : List X) (left : List ℕ) → P xs → AreBytes bytes → read_items next xs n bytes ≡ Ok (ys, left) → TookItems image P xs n bytes ys left
+    (one : (xs : List X) (bytes : List ℕ) (x : X) (left : List ℕ) → P xs → AreBytes bytes → next xs bytes ≡ Ok (x, left)
+    → TookItem image P xs bytes x left) where
+  pub items_found : (n : ℕ) (xs : List X) (bytes : List ℕ) (ys : List X) (left : List ℕ) → P xs → AreBytes bytes → read_items next xs n bytes ≡ Ok (ys, left)
+      → TookItems image P xs n bytes ys left
   items_found zero xs bytes ys left p fit h =
       let s = one_answer xs ys bytes left h in
       record { more = []; all = sym s.0 ∙ sym (append-nil xs); count = refl; same = s.1; back = subst AreBytes s.1 fit; kept = subst P s.0 p }
@@ -62,7 +66,8 @@ module _ {X : Type 0} (image : X → List ℕ) (next : List X → List ℕ → R
       }
 
   -- the same where nothing is before them
-  pub list_found : (n : ℕ) (bytes : List ℕ) (ys : List X) (left : List ℕ) → P [] → AreBytes bytes → read_items next [] n bytes ≡ Ok (ys, left) → TookList image P n bytes ys left
+  pub list_found : (n : ℕ) (bytes : List ℕ) (ys : List X) (left : List ℕ) → P [] → AreBytes bytes → read_items next [] n bytes ≡ Ok (ys, left)
+      → TookList image P n bytes ys left
   list_found n bytes ys left p fit h =
       let i = items_found n [] bytes ys left p fit h in
       record {

@@ -1,5 +1,6 @@
 -- Rows, programs and choices: what was read has its image, and an image is read as what it shows.
-use Rattle.std.proofs.Common.{◌≡◌, ◌==◌, ℕ, ◌+◌, ◌<◌, ◌^◌, Bool, true, false, nat_lt, List, [], ◌∷◌, ◌++◌, length, get_or, Option, None, Some, IfSome, Ok, Err, refl, sym, ap, ◌∙◌, subst, arith, if◌then◌else◌, ok_or}
+use Rattle.std.proofs.Common.{◌≡◌, ◌==◌, ℕ, ◌+◌, ◌<◌, ◌^◌, Bool, true, false, nat_lt, List, [], ◌∷◌, ◌++◌, length, get_or, Option, None, Some, IfSome, Ok, Err}
+use Rattle.std.proofs.Common.{refl, sym, ap, ◌∙◌, subst, arith, if◌then◌else◌, ok_or}
 use Rattle.std.proofs.lemmas.Bool.{cond_both}
 use Rattle.std.proofs.lemmas.List.{take-append-drop, length-take-le, length-drop}
 use Rattle.std.proofs.lemmas.Nat.{be_bytes_2, be_bytes_4, from_be_bytes-to_be_bytes_2, from_be_bytes-to_be_bytes_4}
@@ -45,7 +46,8 @@ row_back w size fit =
 abbrev pub InOrder : List Row → Type 0
 InOrder rows = misplaced_row rows ≡ None
 
-pub row_found : (size : ℕ) (rows : List Row) (bytes : List ℕ) (r : Row) (left : List ℕ) → InOrder rows → AreBytes bytes → next_row size rows bytes ≡ Ok (r, left) → TookItem row_image InOrder rows bytes r left
+pub row_found : (size : ℕ) (rows : List Row) (bytes : List ℕ) (r : Row) (left : List ℕ) → InOrder rows → AreBytes bytes
+    → next_row size rows bytes ≡ Ok (r, left) → TookItem row_image InOrder rows bytes r left
 row_found size rows bytes r left order fit h =
     let f = bind_ok (field 6 size bytes) _ (r, left) h in
     let w = f.0.0 in
@@ -65,7 +67,8 @@ row_shown r k v = rw (from_be_bytes-to_be_bytes_2 r.key k, from_be_bytes-to_be_b
 abbrev in_order : List Row → List ℕ → Row → Read Row
 in_order before left x = if is_low x.key (last_row before) then Err (fault.RowOrder (length before)) else Ok (x, left)
 
-row_gives : (size : ℕ) (before : List Row) (r : Row) (left : List ℕ) → r.key < 2 ^ 16 → r.value < 2 ^ 32 → is_low r.key (last_row before) ≡ false → next_row size before (row_image r ++ left) ≡ Ok (r, left)
+row_gives : (size : ℕ) (before : List Row) (r : Row) (left : List ℕ) → r.key < 2 ^ 16 → r.value < 2 ^ 32 → is_low r.key (last_row before) ≡ false
+    → next_row size before (row_image r ++ left) ≡ Ok (r, left)
 row_gives size before r left k v low =
     let e : next_row size before (row_image r ++ left) ≡ in_order before left (row_at (row_image r)) = rw (field_gives size (row_image r) left) refl in
     e ∙ ap (in_order before left) (row_shown r k v) ∙ rw low refl
@@ -87,7 +90,8 @@ known_found version (Some x) i h = by (has version x) refl h
     by true e g = (g, subst (λ z. has version z ≡ true) (let q : x ≡ i = cc in q) e)
     by false e g = cc
 
-pub instr_found : (version : Version) (t size : ℕ) (is : List Instr) (bytes : List ℕ) (i : Instr) (left : List ℕ) → IsKnown version is → AreBytes bytes → next_instr version t size is bytes ≡ Ok (i, left)
+pub instr_found : (version : Version) (t size : ℕ) (is : List Instr) (bytes : List ℕ) (i : Instr) (left : List ℕ) → IsKnown version is → AreBytes bytes
+    → next_instr version t size is bytes ≡ Ok (i, left)
     → TookItem word_of (IsKnown version) is bytes i left
 instr_found version t size is bytes i left known fit h =
     let f = bind_ok (field 8 size bytes) _ (i, left) h in
@@ -109,12 +113,15 @@ word_size (Pair o a b) = refl
 word_size (Jump o a b n) = refl
 word_size (Lone o) = refl
 
-instr_gives : (version : Version) (t size : ℕ) (before : List Instr) (i : Instr) (left : List ℕ) → HasValue i → has version i ≡ true → next_instr version t size before (word_of i ++ left) ≡ Ok (i, left)
+instr_gives : (version : Version) (t size : ℕ) (before : List Instr) (i : Instr) (left : List ℕ) → HasValue i → has version i ≡ true
+    → next_instr version t size before (word_of i ++ left) ≡ Ok (i, left)
 instr_gives version t size before i left v known =
-    let e : field 8 size (word_of i ++ left) ≡ Ok (word_of i, left) = subst (λ n. field n size (word_of i ++ left) ≡ Ok (word_of i, left)) (word_size (parts_of i)) (field_gives size (word_of i) left) in
+    let e : field 8 size (word_of i ++ left) ≡ Ok (word_of i, left) = subst (λ n. field n size (word_of i ++ left) ≡ Ok (word_of i, left))
+    (word_size (parts_of i)) (field_gives size (word_of i) left) in
     rw e (rw (decoded_only i v) (rw known refl))
 
-pub instrs_read : (version : Version) (t size : ℕ) (is before : List Instr) → Values is → IsKnown version is → AreRead word_of (next_instr version t size) before is
+pub instrs_read : (version : Version) (t size : ℕ) (is before : List Instr) → Values is → IsKnown version is
+    → AreRead word_of (next_instr version t size) before is
 instrs_read version t size [] before values known = tt
 instrs_read version t size (i ∷ is) before values known =
     ((λ left. instr_gives version t size before i left values.0 known.0), instrs_read version t size is (before ++ i ∷ []) values.1 known.1)
@@ -164,7 +171,8 @@ three (a ∷ b ∷ []) h = absurd (omega (arith, h))
 three (a ∷ b ∷ c ∷ []) h = refl
 three (a ∷ b ∷ c ∷ d ∷ w) h = absurd (omega (arith, h))
 
-pub choice_found : (count size : ℕ) (cs : List Choice) (bytes : List ℕ) (c : Choice) (left : List ℕ) → AreNamed count cs → AreBytes bytes → next_choice count size cs bytes ≡ Ok (c, left)
+pub choice_found : (count size : ℕ) (cs : List Choice) (bytes : List ℕ) (c : Choice) (left : List ℕ) → AreNamed count cs → AreBytes bytes
+    → next_choice count size cs bytes ≡ Ok (c, left)
     → TookItem choice_image (AreNamed count) cs bytes c left
 choice_found count size cs bytes c left named fit h =
     let f = bind_ok (field 3 size bytes) _ (c, left) h in
@@ -174,14 +182,16 @@ choice_found count size cs bytes c left named fit h =
     let g = bind_ok (ok_or o (fault.Choice (length cs))) _ (c, left) f.2 in
     let x = ok_or_ok o (fault.Choice (length cs)) g.0 g.1 in
     let s = one_answer g.0 c f.0.1 left g.2 in
-    let is : IsOf count (get_or w 0 0) (get_or w 1 0) (get_or w 2 0) g.0 = subst (MayBe count (get_or w 0 0) (get_or w 1 0) (get_or w 2 0)) x (choice_is count (get_or w 0 0) (get_or w 1 0) (get_or w 2 0)) in
+    let is : IsOf count (get_or w 0 0) (get_or w 1 0) (get_or w 2 0) g.0 = subst (MayBe count (get_or w 0 0) (get_or w 1 0) (get_or w 2 0)) x
+    (choice_is count (get_or w 0 0) (get_or w 1 0) (get_or w 2 0)) in
     record {
       same = d.same ∙ ap (λ x. x ++ f.0.1) (three w d.size ∙ sym is.0) ∙ ap (λ x. choice_image x ++ f.0.1) s.0 ∙ ap (λ x. choice_image c ++ x) s.1;
       back = subst AreBytes s.1 d.back;
       kept = subst (λ x. AreNamed count (cs ++ x ∷ [])) s.0 (named_more count cs g.0 named is.1);
     }
 
-choice_gives : (count size : ℕ) (before : List Choice) (c : Choice) (left : List ℕ) → names_below count c ≡ true → next_choice count size before (choice_image c ++ left) ≡ Ok (c, left)
+choice_gives : (count size : ℕ) (before : List Choice) (c : Choice) (left : List ℕ) → names_below count c ≡ true
+    → next_choice count size before (choice_image c ++ left) ≡ Ok (c, left)
 choice_gives count size before Start left n = rw (field_gives size (choice_image Start) left) refl
 choice_gives count size before (Begin t) left n = rw (field_gives size (choice_image (Begin t)) left) (rw n refl)
 choice_gives count size before (Kill t) left n = rw (field_gives size (choice_image (Kill t)) left) (rw n refl)

@@ -1,5 +1,6 @@
 -- The whole image: what was read has it as its image, and the image of a scenario is read as it.
-use Rattle.std.proofs.Common.{◌≡◌, ◌==◌, ℕ, ◌-◌, ◌≤◌, Bool, true, false, List, [], ◌∷◌, ◌++◌, length, Some, None, Ok, Err, refl, sym, ap, ◌∙◌, subst, append-nil, arith, if◌then◌else◌, ok_or}
+use Rattle.std.proofs.Common.{◌≡◌, ◌==◌, ℕ, ◌-◌, ◌≤◌, Bool, true, false, List, [], ◌∷◌, ◌++◌, length, Some, None, Ok, Err, refl, sym, ap, ◌∙◌, subst}
+use Rattle.std.proofs.Common.{append-nil, arith, if◌then◌else◌, ok_or}
 use Rattle.std.specs.Int.{w16, to_be_bytes}
 use Rattle.zy_isa.specs.declared.version.Version.{Version}
 use Rattle.zy_isa.specs.Versions.{magic, marked}
@@ -12,7 +13,8 @@ use Rattle.zy_isa.proofs.ScenarioLemmas.{no_fault}
 use Rattle.zy_image.specs.declared.faults.LoadFault.TheVariants as fault
 use Rattle.zy_image.specs.declared.head.Head.{Head}
 use Rattle.zy_image.specs.Image.{rule_byte, rows_image, programs_image, choices_image, image_of, IsImage}
-use Rattle.zy_image.specs.Reading.{field, byte, half, magic_field, cap_field, pages_field, rule_at, rule_field, head_fields, rows, programs, choices, ended, of_parts, reading}
+use Rattle.zy_image.specs.Reading.{field, byte, half, magic_field, cap_field, pages_field, rule_at, rule_field, head_fields, rows, programs, choices, ended}
+use Rattle.zy_image.specs.Reading.{of_parts, reading}
 use Rattle.zy_image.proofs.FieldLemmas.{AreBytes, one_value, one_answer, field_found, field_gives, byte_found, byte_gives, half_found, half_gives}
 use Rattle.zy_image.proofs.ListImages.{rows_found, rows_give, programs_found, programs_give, choices_found, choices_give}
 use borrow.Author.Tests.{tests}
@@ -24,7 +26,8 @@ record FoundNumber (least most : ℕ) (image : ℕ → List ℕ) (bytes : List �
   back : AreBytes left
   range : (least ≤ n) × (n ≤ most)
 
-magic_found : (size : ℕ) (bytes : List ℕ) (v : Version) (left : List ℕ) → AreBytes bytes → magic_field size bytes ≡ Ok (v, left) → (bytes ≡ magic v ++ left) × AreBytes left
+magic_found : (size : ℕ) (bytes : List ℕ) (v : Version) (left : List ℕ) → AreBytes bytes → magic_field size bytes ≡ Ok (v, left) → (bytes ≡ magic v ++ left)
+    × AreBytes left
 magic_found size bytes v left fit h =
     let f = bind_ok (field 4 size bytes) _ (v, left) h in
     let d = field_found 4 size bytes f.0.0 f.0.1 fit f.1 in
@@ -36,7 +39,8 @@ magic_found size bytes v left fit h =
 magic_gives : (size : ℕ) (v : Version) (left : List ℕ) → magic_field size (magic v ++ left) ≡ Ok (v, left)
 magic_gives size v left = rw (field_gives size (magic v) left, marked_back v) refl
 
-cap_found : (size : ℕ) (bytes : List ℕ) (n : ℕ) (left : List ℕ) → AreBytes bytes → cap_field size bytes ≡ Ok (n, left) → FoundNumber 2 16 (λ b. b ∷ []) bytes n left
+cap_found : (size : ℕ) (bytes : List ℕ) (n : ℕ) (left : List ℕ) → AreBytes bytes → cap_field size bytes ≡ Ok (n, left)
+    → FoundNumber 2 16 (λ b. b ∷ []) bytes n left
 cap_found size bytes n left fit h =
     let f = bind_ok (byte size bytes) (λ n. if is_outside 2 16 n.0 then Err fault.Cap else Ok n) (n, left) h in
     let t = if_err (is_outside 2 16 f.0.0) (Ok f.0) fault.Cap (n, left) f.2 in
@@ -44,7 +48,8 @@ cap_found size bytes n left fit h =
     let b = byte_found size bytes n left fit (f.1 ∙ t.1) in
     record { same_bytes = b.same; back = b.back; range = subst (λ x. (2 ≤ x) × (x ≤ 16)) s.0 (in_range f.0.0 2 16 t.0) }
 
-pages_found : (size : ℕ) (bytes : List ℕ) (n : ℕ) (left : List ℕ) → AreBytes bytes → pages_field size bytes ≡ Ok (n, left) → FoundNumber 1 512 (to_be_bytes w16) bytes n left
+pages_found : (size : ℕ) (bytes : List ℕ) (n : ℕ) (left : List ℕ) → AreBytes bytes → pages_field size bytes ≡ Ok (n, left)
+    → FoundNumber 1 512 (to_be_bytes w16) bytes n left
 pages_found size bytes n left fit h =
     let f = bind_ok (half size bytes) (λ n. if is_outside 1 512 n.0 then Err fault.Pages else Ok n) (n, left) h in
     let t = if_err (is_outside 1 512 f.0.0) (Ok f.0) fault.Pages (n, left) f.2 in
@@ -57,7 +62,8 @@ record FoundRule (bytes : List ℕ) (r : Rule) (left : List ℕ) : Type 0 where
   back : AreBytes left
 
 -- the byte by which a chain of tests chose a rule
-chosen_byte : (n : ℕ) (r : Rule) (a b : Bool) → (n == 0) ≡ a → (n == 1) ≡ b → (if a then Some Held else if b then Some Loose else None) ≡ Some r → n ≡ rule_byte r
+chosen_byte : (n : ℕ) (r : Rule) (a b : Bool) → (n == 0) ≡ a → (n == 1) ≡ b → (if a then Some Held else if b then Some Loose else None) ≡ Some r
+    → n ≡ rule_byte r
 chosen_byte n Held true b e f h = grind (arith, tests)
 chosen_byte n Held false true e f h = cc
 chosen_byte n Held false false e f h = cc
@@ -75,7 +81,10 @@ rule_found size bytes r left fit h =
     let g = bind_ok (ok_or (rule_at f.0.0) fault.Rule) _ (r, left) f.2 in
     let x = ok_or_ok (rule_at f.0.0) fault.Rule g.0 g.1 in
     let s = one_answer g.0 r f.0.1 left g.2 in
-    record { same_bytes = b.same ∙ ap (λ z. z ∷ f.0.1) (rule_is f.0.0 g.0 x ∙ ap rule_byte s.0) ∙ ap (λ z. rule_byte r ∷ z) s.1; back = subst AreBytes s.1 b.back }
+    record {
+      same_bytes = b.same ∙ ap (λ z. z ∷ f.0.1) (rule_is f.0.0 g.0 x ∙ ap rule_byte s.0) ∙ ap (λ z. rule_byte r ∷ z) s.1;
+      back = subst AreBytes s.1 b.back;
+    }
 
 rule_gives : (size : ℕ) (r : Rule) (left : List ℕ) → rule_field size (rule_byte r ∷ left) ≡ Ok (r, left)
 rule_gives size Held left = rw (byte_gives size 0 left) refl
@@ -117,7 +126,8 @@ head_gives size h left c2 c16 p1 p512 =
     let rest : List ℕ = rule_byte h.rule ∷ left in
     let pages_on : List ℕ = to_be_bytes w16 h.pages ++ rest in
     let cap : cap_field size (h.cap ∷ pages_on) ≡ Ok (h.cap, pages_on) = rw (byte_gives size h.cap pages_on) (rw (out_of_neither h.cap 2 16 c2 c16) refl) in
-    let pages : pages_field size pages_on ≡ Ok (h.pages, rest) = rw (half_gives size h.pages rest (omega (arith, p512))) (rw (out_of_neither h.pages 1 512 p1 p512) refl) in
+    let pages : pages_field size pages_on ≡ Ok (h.pages, rest) = rw (half_gives size h.pages rest (omega (arith, p512)))
+    (rw (out_of_neither h.pages 1 512 p1 p512) refl) in
     rw (magic_gives size h.version (h.cap ∷ pages_on)) (rw cap (rw pages (rw (rule_gives size h.rule left) refl)))
 
 -- ---- the whole
@@ -148,10 +158,12 @@ image_found bytes s fit e =
     let t = of_parts a.0.0 b.0.0 c.0.0 d.0.0 in
     let same : t ≡ s = ap (of_parts a.0.0 b.0.0 c.0.0) last ∙ one_value (of_parts a.0.0 b.0.0 c.0.0 f.0) s f.2 in
     let all : bytes ≡ image_of t =
-    h.same_bytes ∙ ap (λ x. front_of a.0.0 ++ x) (r.same ∙ ap (λ x. rows_image b.0.0 ++ x) (p.same ∙ ap (λ x. programs_image c.0.0 ++ x) (q.same ∙ ap (λ x. choices_image d.0.0 ++ x) none ∙ append-nil (choices_image d.0.0)))) in
+    h.same_bytes ∙ ap (λ x. front_of a.0.0 ++ x) (r.same ∙ ap (λ x. rows_image b.0.0 ++ x)
+    (p.same ∙ ap (λ x. programs_image c.0.0 ++ x) (q.same ∙ ap (λ x. choices_image d.0.0 ++ x) none ∙ append-nil (choices_image d.0.0)))) in
     record {
       same_bytes = all ∙ ap image_of same;
-      no_fault = subst (λ x. scenario_fault x ≡ None) same (no_fault t h.cap.0 h.cap.1 h.pages.0 h.pages.1 r.few r.few_pages r.order p.few q.few q.named p.known);
+      no_fault =
+          subst (λ x. scenario_fault x ≡ None) same (no_fault t h.cap.0 h.cap.1 h.pages.0 h.pages.1 r.few r.few_pages r.order p.few q.few q.named p.known);
     }
 
 pub image_gives : (s : Scenario) → IsScenario s → reading (image_of s) ≡ Ok s
@@ -163,7 +175,8 @@ image_gives s i =
     let head = head_gives size h (rows_image s.rows ++ more) i.cap_least i.cap_most i.pages_least i.pages_most in
     let r = rows_give h size s.rows more i.few_rows i.few_opening_pages i.rows_rise i.rows_fit in
     let p = programs_give s.version size s.programs last i.few_programs i.programs i.instrs_known in
-    let c : choices (length s.programs) size last ≡ Ok (s.choices, []) = ap (choices (length s.programs) size) (sym (append-nil last)) ∙ choices_give (length s.programs) size s.choices [] i.few_choices i.choices_named in
+    let c : choices (length s.programs) size last ≡ Ok (s.choices, []) = ap (choices (length s.programs) size) (sym (append-nil last))
+    ∙ choices_give (length s.programs) size s.choices [] i.few_choices i.choices_named in
     rw head (rw r (rw p (rw c refl)))
 
 -- what has this image is read

@@ -1,5 +1,6 @@
 -- Reading an image field by field, up to the first check that fails. The size is that of the whole input.
-use Rattle.std.specs.Prelude.{◌≡◌, ◌==◌, ◌-◌, ◌⊎◌, ◌||◌, ℕ, zero, suc, nat_lt, List, [], ◌∷◌, ◌++◌, length, take, drop, get_or, Option, Some, None, Result, Ok, Err, ok_or, option_map, if◌then◌else◌}
+use Rattle.std.specs.Prelude.{◌≡◌, ◌==◌, ◌-◌, ◌⊎◌, ◌||◌, ℕ, zero, suc, nat_lt, List, [], ◌∷◌, ◌++◌, length, take, drop}
+use Rattle.std.specs.Prelude.{get_or, Option, Some, None, Result, Ok, Err, ok_or, option_map, if◌then◌else◌}
 use Rattle.std.specs.Result.{result_err}
 use Rattle.std.specs.Int.{w16, w32, from_be_bytes}
 use Rattle.std.specs.Borrow.{Bor}
@@ -87,10 +88,12 @@ abbrev pub row_at : List ℕ → Row
 row_at f = record { key = from_be_bytes w16 (take 2 f); value = from_be_bytes w32 (drop 2 f) }
 
 abbrev pub next_row : ℕ → List Row → List ℕ → Read Row
-next_row size rows bytes = field 6 size bytes >>= λ f. if is_low (row_at f.0).key (last_row rows) then Err (fault.RowOrder (length rows)) else Ok (row_at f.0, f.1)
+next_row size rows bytes = field 6 size bytes >>= λ f. if is_low (row_at f.0).key (last_row rows)
+    then Err (fault.RowOrder (length rows)) else Ok (row_at f.0, f.1)
 
 abbrev pub row_count : Head → ℕ → List ℕ → Read ℕ
-row_count h size bytes = half size bytes >>= λ n. if nat_lt 256 n.0 || nat_lt h.pages (opening_pages_for h.cap n.0) then Err fault.RowCount else Ok n
+row_count h size bytes = half size bytes >>= λ n. if nat_lt 256 n.0 || nat_lt h.pages (opening_pages_for h.cap n.0)
+    then Err fault.RowCount else Ok n
 
 abbrev pub rows : Head → ℕ → List ℕ → Read (List Row)
 rows h size bytes = row_count h size bytes >>= λ n. read_items (next_row size) [] n.0 n.1
@@ -109,7 +112,8 @@ next_instr version t size is bytes = do
   Ok (i, f.1)
 
 abbrev pub instr_count : ℕ → ℕ → List ℕ → Read ℕ
-instr_count t size bytes = byte size bytes >>= λ n. if n.0 == 0 then Err (fault.Program t prog.Empty) else if nat_lt 64 n.0 then Err (fault.Program t prog.TooLong) else Ok n
+instr_count t size bytes = byte size bytes >>= λ n. if n.0 == 0 then Err (fault.Program t prog.Empty)
+    else if nat_lt 64 n.0 then Err (fault.Program t prog.TooLong) else Ok n
 
 abbrev pub judged : {X : Type 0} → ℕ → Option ProgFault → X → Result X LoadFault
 judged t None x = Ok x
@@ -119,7 +123,8 @@ abbrev pub instrs : Version → ℕ → ℕ → List ℕ → Read (List Instr)
 instrs version t size bytes = instr_count t size bytes >>= λ n. read_items (next_instr version t size) [] n.0 n.1
 
 abbrev pub next_program : Version → ℕ → List (List Instr) → List ℕ → Read (List Instr)
-next_program version size ps bytes = instrs version (length ps) size bytes >>= λ is. judged (length ps) (prog_fault is.0) is
+next_program version size ps bytes = instrs version (length ps) size bytes >>= λ is. judged (length ps)
+    (prog_fault is.0) is
 
 abbrev pub program_count : ℕ → List ℕ → Read ℕ
 program_count size bytes = byte size bytes >>= λ n. if nat_lt 64 n.0 then Err fault.TxnCount else Ok n
@@ -181,7 +186,15 @@ abbrev pub ended : {X : Type 0} → ℕ → X × List ℕ → Result X LoadFault
 ended size x = if length x.1 == 0 then Ok x.0 else Err (fault.Trailing (size - length x.1))
 
 abbrev pub of_parts : Head → List Row → List (List Instr) → List Choice → Scenario
-of_parts h rs ps cs = record { version = h.version; cap = h.cap; pages = h.pages; rule = h.rule; rows = rs; programs = ps; choices = cs }
+of_parts h rs ps cs = record {
+  version = h.version;
+  cap = h.cap;
+  pages = h.pages;
+  rule = h.rule;
+  rows = rs;
+  programs = ps;
+  choices = cs;
+}
 
 -- what an image gives, or its first fault
 abbrev pub reading : List ℕ → Result Scenario LoadFault

@@ -24,7 +24,8 @@ struct Parts {
 
 /// Reads all fields of an image, and nothing behind them.
 fn read(alloc: Global, bytes: &[u8]) -> Result<Parts, LoadFault>
-    ensures { MatchResult result (λ p. reading bytes.now ≡ Ok (of_parts p.head p.rows.items p.programs.items p.choices.items))
+    ensures { MatchResult result (λ p. reading bytes.now ≡ Ok
+        (of_parts p.head p.rows.items p.programs.items p.choices.items))
         (λ e. (e ≡ Memory) ⊎ (reading bytes.now ≡ Err e)) }
 {
     let size = bytes.len();
@@ -43,8 +44,8 @@ fn read(alloc: Global, bytes: &[u8]) -> Result<Parts, LoadFault>
     })
 }
 
-/// The scenario whose image these bytes are, with nothing behind it, or the first fault in the order of reading. A list's
-/// number is tested before its memory is taken, so no input makes it take more than the largest scenario has.
+/// The scenario whose image these bytes are, with nothing behind it, or the first fault in the order of reading. A
+/// list's number is tested before its memory is taken, so no input makes it take more than the largest scenario has.
 pub fn load(alloc: Global, bytes: &[u8]) -> Result<Scenario, LoadFault>
     // What is loaded has this image, and the bytes have no fault.
     ensures found { IfOk result (λ s. IsImage bytes.now s × (image_fault bytes.now ≡ None)) }

@@ -11,8 +11,8 @@ use crate::fields::{field, half};
 use crate::head::Head;
 use crate::lists::{Items, read_items};
 use std::alloc::Global;
-use zy_isa::{MAX_ROWS, Row};
 use zy_isa::scenario::opening_pages_for;
+use zy_isa::{MAX_ROWS, Row};
 
 /// How rows are read.
 #[derive(Clone, Copy)]

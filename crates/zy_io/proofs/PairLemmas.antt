@@ -28,8 +28,11 @@ pair (suc n) k h lt =
 
 pub tens : (n : ℕ) → n < 100 → slice_index_or PAIRS (n * 2) 0 ≡ 48 + n / 10
 unfolding is_pair
-tens n few = eqb-true (slice_index_or PAIRS (n * 2) 0) (48 + n / 10) (and_parts (slice_index_or PAIRS (n * 2) 0 == 48 + n / 10) (slice_index_or PAIRS (n * 2 + 1) 0 == 48 + n % 10) (pair 100 n all_are few)).0
+tens n few =
+    eqb-true (slice_index_or PAIRS (n * 2) 0) (48 + n / 10) (and_parts (slice_index_or PAIRS (n * 2) 0 == 48 + n / 10)
+    (slice_index_or PAIRS (n * 2 + 1) 0 == 48 + n % 10) (pair 100 n all_are few)).0
 
 pub ones : (n : ℕ) → n < 100 → slice_index_or PAIRS (n * 2 + 1) 0 ≡ 48 + n % 10
 unfolding is_pair
-ones n few = eqb-true (slice_index_or PAIRS (n * 2 + 1) 0) (48 + n % 10) (and_parts (slice_index_or PAIRS (n * 2) 0 == 48 + n / 10) (slice_index_or PAIRS (n * 2 + 1) 0 == 48 + n % 10) (pair 100 n all_are few)).1
+ones n few = eqb-true (slice_index_or PAIRS (n * 2 + 1) 0) (48 + n % 10)
+    (and_parts (slice_index_or PAIRS (n * 2) 0 == 48 + n / 10) (slice_index_or PAIRS (n * 2 + 1) 0 == 48 + n % 10) (pair 100 n all_are few)).1

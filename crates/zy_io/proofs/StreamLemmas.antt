@@ -13,7 +13,8 @@ Remains-more a b c text rest n p q = (
 )
 
 -- more of the text went out, of which the rest was before it
-pub Remains-then : (a b c : Option (List ℕ)) (text more rest last : List ℕ) → Remains a b text rest → Remains b c (rest ++ more) last → Remains a c (text ++ more) last
+pub Remains-then : (a b c : Option (List ℕ)) (text more rest last : List ℕ) → Remains a b text rest → Remains b c (rest ++ more) last
+    → Remains a c (text ++ more) last
 Remains-then a b c text more rest last p q = (
   p.0 ++ q.0,
   ap (λ l. l ++ more) p.1 ∙ append_assoc p.0 rest more ∙ ap (λ l. p.0 ++ l) q.1 ∙ sym (append_assoc p.0 q.0 last),

@@ -1,5 +1,6 @@
 -- One text written after another: the fault of either is that of both.
-use Rattle.std.proofs.Common.{◌≡◌, ℕ, ◌+◌, List, [], ◌∷◌, ◌++◌, Option, Result, Ok, Err, refl, sym, ap, ◌∙◌, append_assoc, append-nil, take, drop, arith, zero, suc, ◌<◌, length, get_or}
+use Rattle.std.proofs.Common.{◌≡◌, ℕ, ◌+◌, List, [], ◌∷◌, ◌++◌, Option, Result, Ok, Err, refl, sym, ap, ◌∙◌, append_assoc, append-nil, take, drop, arith, zero}
+use Rattle.std.proofs.Common.{suc, ◌<◌, length, get_or}
 use Rattle.std.specs.List.{flat_map}
 use Rattle.std.proofs.lemmas.Grind.{flat_map-append}
 use Rattle.std.specs.Io.KnownBytes.{Appends}
@@ -26,7 +27,8 @@ Appended-then a b c (Err e) xs ys first (front, back, is, now) = (
 )
 
 -- a prefix of the second part, after the whole first
-pub WroteFront-after : (a b c : Option (List ℕ)) (xs ys more text : List ℕ) → Appends a b xs → WroteFront b c ys → text ≡ xs ++ (ys ++ more) → WroteFront a c text
+pub WroteFront-after : (a b c : Option (List ℕ)) (xs ys more text : List ℕ) → Appends a b xs → WroteFront b c ys → text ≡ xs ++ (ys ++ more)
+    → WroteFront a c text
 WroteFront-after a b c xs ys more text p q e = (
   xs ++ q.0,
   q.1 ++ more,
@@ -53,7 +55,8 @@ pub Wrote-both : (a b c : Option (List ℕ)) (m n k : ℕ) (xs ys : List ℕ) �
 Wrote-both a b c m n k xs ys p q = (Appends-trans a b c xs ys p.0 q.0, q.1 ∙ p.1)
 
 -- one text after another, whatever came of the second
-pub Wrote-then : {X : Type 0} (a b c : Option (List ℕ)) (m n k : ℕ) (r : Result X TextFault) (xs ys : List ℕ) → Appends a b xs × (n ≡ m) → Wrote b c n k r ys → Wrote a c m k r (xs ++ ys)
+pub Wrote-then : {X : Type 0} (a b c : Option (List ℕ)) (m n k : ℕ) (r : Result X TextFault) (xs ys : List ℕ) → Appends a b xs × (n ≡ m) → Wrote b c n k r ys
+    → Wrote a c m k r (xs ++ ys)
 Wrote-then a b c m n k (Ok u) xs ys p q = Wrote-both a b c m n k xs ys p q
 Wrote-then {X} a b c m n k (Err f) xs ys p q = Wrote-second-stops {Y = X} a b c m n k f (Err f) xs ys p q refl
 
@@ -63,11 +66,14 @@ pub flat_map-split : {X : Type 0} (f : X → List ℕ) (xs : List X) (i : ℕ) (
 flat_map-split f [] i d h = absurd (omega arith)
 flat_map-split f (x ∷ xs) zero d h = refl
 flat_map-split f (x ∷ xs) (suc i) d h =
-    ap (λ l. f x ++ l) (flat_map-split f xs i d (omega arith)) ∙ sym (append_assoc (f x) (flat_map f (take i xs)) (f (get_or xs i d) ++ flat_map f (drop (suc i) xs)))
+    ap (λ l. f x ++ l) (flat_map-split f xs i d (omega arith)) ∙ sym (append_assoc (f x) (flat_map f (take i xs))
+    (f (get_or xs i d) ++ flat_map f (drop (suc i) xs)))
 
 -- the fault of one element's text, which follows those before it, is that of the whole list
-pub Wrote-element-stops : {Y Z : Type 0} (f : Z → List ℕ) (xs : List Z) (i : ℕ) (d : Z) (a b c : Option (List ℕ)) (m n k : ℕ) (fault : TextFault) (r : Result Y TextFault)
-    → i < length xs → Appends a b (flat_map f (take i xs)) → n ≡ m → Wrote b c n k {X = Unit {0}} (Err fault) (f (get_or xs i d)) → r ≡ Err fault → Wrote a c m k r (flat_map f xs)
+pub Wrote-element-stops : {Y Z : Type 0} (f : Z → List ℕ) (xs : List Z) (i : ℕ) (d : Z) (a b c : Option (List ℕ)) (m n k : ℕ) (fault : TextFault)
+    (r : Result Y TextFault)
+    → i < length xs → Appends a b (flat_map f (take i xs)) → n ≡ m → Wrote b c n k {X = Unit {0}} (Err fault) (f (get_or xs i d)) → r ≡ Err fault
+    → Wrote a c m k r (flat_map f xs)
 Wrote-element-stops f xs i d a b c m n k fault r h p same q is =
     Wrote-stops a b c m n k fault r _ _ (flat_map f (drop (suc i) xs)) _ p same q (flat_map-split f xs i d h) is
 
@@ -86,19 +92,24 @@ Appended-element-stops f xs i d a b c e r h so_far (front, back, is, now) err =
     rw err (
       before ++ front,
       back ++ after,
-      flat_map-split f xs i d h ∙ ap (λ l. before ++ (l ++ after)) is ∙ ap (λ l. before ++ l) (append_assoc front back after) ∙ sym (append_assoc before front (back ++ after)),
+      flat_map-split f xs i d h ∙ ap (λ l. before ++ (l ++ after)) is ∙ ap (λ l. before ++ l) (append_assoc front back after)
+          ∙ sym (append_assoc before front (back ++ after)),
       now ∙ ap (λ l. l ++ front) so_far ∙ append_assoc a before front,
     )
 
 -- what is behind the elements before it is their text and its own
-pub flat_map-take : {X : Type 0} (f : X → List ℕ) (xs : List X) (i : ℕ) (d : X) → i < length xs → flat_map f (take (suc i) xs) ≡ flat_map f (take i xs) ++ f (get_or xs i d)
+pub flat_map-take : {X : Type 0} (f : X → List ℕ) (xs : List X) (i : ℕ) (d : X) → i < length xs
+    → flat_map f (take (suc i) xs) ≡ flat_map f (take i xs) ++ f (get_or xs i d)
 flat_map-take f [] i d h = absurd (omega arith)
 flat_map-take f (x ∷ xs) zero d h = append-nil (f x)
-flat_map-take f (x ∷ xs) (suc i) d h = ap (λ l. f x ++ l) (flat_map-take f xs i d (omega arith)) ∙ sym (append_assoc (f x) (flat_map f (take i xs)) (f (get_or xs i d)))
+flat_map-take f (x ∷ xs) (suc i) d h = ap (λ l. f x ++ l) (flat_map-take f xs i d (omega arith))
+    ∙ sym (append_assoc (f x) (flat_map f (take i xs)) (f (get_or xs i d)))
 
 -- the same, where what was before it went out but for a rest
-pub Wrote-rest-stops : {Y Z : Type 0} (f : Z → List ℕ) (xs : List Z) (i : ℕ) (d : Z) (a b c : Option (List ℕ)) (m n k : ℕ) (rest : List ℕ) (fault : TextFault) (r : Result Y TextFault)
-    → i < length xs → Remains a b (flat_map f (take i xs)) rest → n ≡ m → Wrote b c n k {X = Unit {0}} (Err fault) (rest ++ f (get_or xs i d)) → r ≡ Err fault → Wrote a c m k r (flat_map f xs)
+pub Wrote-rest-stops : {Y Z : Type 0} (f : Z → List ℕ) (xs : List Z) (i : ℕ) (d : Z) (a b c : Option (List ℕ)) (m n k : ℕ) (rest : List ℕ) (fault : TextFault)
+    (r : Result Y TextFault)
+    → i < length xs → Remains a b (flat_map f (take i xs)) rest → n ≡ m → Wrote b c n k {X = Unit {0}} (Err fault) (rest ++ f (get_or xs i d)) → r ≡ Err fault
+    → Wrote a c m k r (flat_map f xs)
 Wrote-rest-stops f xs i d a b c m n k rest fault r h p same q is = rw is (stops fault q)
   where
     before : List ℕ
@@ -106,7 +117,8 @@ Wrote-rest-stops f xs i d a b c m n k rest fault r h p same q is = rw is (stops 
 
     front : WroteFront b c (rest ++ f (get_or xs i d)) → WroteFront a c (flat_map f xs)
     front w =
-        WroteFront-more a c (before ++ f (get_or xs i d)) (flat_map f (drop (suc i) xs)) (flat_map f xs) (Remains-stops a b c before (f (get_or xs i d)) rest p w)
+        WroteFront-more a c (before ++ f (get_or xs i d)) (flat_map f (drop (suc i) xs)) (flat_map f xs)
+        (Remains-stops a b c before (f (get_or xs i d)) rest p w)
         (flat_map-split f xs i d h ∙ sym (append_assoc before (f (get_or xs i d)) (flat_map f (drop (suc i) xs))))
 
     stops : (e : TextFault) → Wrote b c n k {X = Unit {0}} (Err e) (rest ++ f (get_or xs i d)) → Wrote a c m k {X = Unit {0}} (Err e) (flat_map f xs)

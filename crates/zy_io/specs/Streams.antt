@@ -1,5 +1,7 @@
--- What calls of a source and a sink do to the bytes that are known, to the number of calls that failed, and to the number of bytes given.
-use Rattle.std.specs.Prelude.{◌≡◌, ℕ, ◌==◌, ◌+◌, ◌-◌, ◌^◌, ◌≤◌, min, List, ◌++◌, length, vec_len, Result, Ok, Err, Option, ◌&&◌, not, if◌then◌else◌}
+-- What calls of a source and a sink do to the bytes that are known, to the number of calls that failed, and to the
+-- number of bytes given.
+use Rattle.std.specs.Prelude.{◌≡◌, ℕ, ◌==◌, ◌+◌, ◌-◌, ◌^◌, ◌≤◌, min, List, ◌++◌, length, vec_len, Result, Ok, Err}
+use Rattle.std.specs.Prelude.{Option, ◌&&◌, not, if◌then◌else◌}
 use Rattle.std.specs.declared.vec.Vec.{Vec}
 use Rattle.std.specs.declared.alloc.Global.{Global}
 use Rattle.std.specs.Io.KnownBytes.{Appends, Consumes, IsAtEnd}

@@ -26,7 +26,8 @@ module _ (old new : Option (List ℕ)) (before after : ℕ) where
   Wrote (Err Write) text = WroteFront old new text × (after ≡ before + 1)
   Wrote (Err Memory) text = WroteFront old new text × (after ≡ before)
 
-  -- at Ok a prefix of the text went out, and the rest is kept; else a prefix of it went out, since a call failed or took none
+  -- at Ok a prefix of the text went out, and the rest is kept; else a prefix of it went out, since a call failed or
+  -- took none
   abbrev pub Passed : {X E : Type 0} → Result X E → List ℕ → List ℕ → Type 0
   Passed (Ok x) text rest = Remains old new text rest × (after ≡ before)
   Passed (Err e) text rest = WroteFront old new text × (after ≡ before + 1)

@@ -1,5 +1,6 @@
 //! Lines that are put together in memory that is used again.
-ghost use Rattle.std.specs.Prelude.{◌≡◌, ◌==◌, ◌<◌, ◌≤◌, ◌+◌, ◌/◌, ◌%◌, ◌++◌, ◌∷◌, [], if◌then◌else◌, is_ok, length, vec_capacity, vec_len};
+ghost use Rattle.std.specs.Prelude.{◌≡◌, ◌==◌, ◌<◌, ◌≤◌, ◌+◌, ◌/◌, ◌%◌, ◌++◌, ◌∷◌, [], if◌then◌else◌, is_ok, length};
+ghost use Rattle.std.specs.Prelude.{vec_capacity, vec_len};
 ghost use Rattle.std.specs.Fmt.{decimal};
 
 use core::mem::replace_with;
@@ -87,7 +88,8 @@ impl LineBuffer {
         Ok(())
     }
 
-    /// Puts a number behind the others, in decimal digits: one of up to six digits, which is what most lines have, two at a time.
+    /// Puts a number behind the others, in decimal digits: one of up to six digits, which is what most lines have, two
+    /// at a time.
     #[inline(always)]
     pub fn push_number(&mut self, number: u64) -> Result<(), AllocError>
         ensures bytes { self.new ≡ (if is_ok result then self.old ++ decimal number else self.old) }
@@ -96,7 +98,8 @@ impl LineBuffer {
     }
 }
 
-/// Puts a number behind other bytes. One of up to six digits, for which there is room, needs no call: it is laid into the line's own function.
+/// Puts a number behind other bytes. One of up to six digits, for which there is room, needs no call: it is laid into
+/// the line's own function.
 #[inline(always)]
 fn put_number(number: u64, bytes: &mut Vec<u8>) -> Result<(), AllocError>
     ensures { bytes.new.items ≡ (if is_ok result then bytes.old.items ++ decimal number else bytes.old.items) }

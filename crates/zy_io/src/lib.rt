@@ -1,5 +1,5 @@
-//! Bytes in and out, and text in lines: sources and sinks that count their failed calls, an input that is read whole, and lines that
-//! are written whole.
+//! Bytes in and out, and text in lines: sources and sinks that count their failed calls, an input that is read whole,
+//! and lines that are written whole.
 #![tactic(auto)]
 
 pub mod buffer;

@@ -1,5 +1,6 @@
 -- Results that are Ok, and tests that decided.
-use Rattle.std.proofs.Common.{◌≡◌, ℕ, ◌<◌, ◌≤◌, Bool, true, false, ◌&&◌, ◌||◌, nat_lt, nat_le, List, Result, Ok, Err, Option, Some, None, refl, sym, arith, if◌then◌else◌, ok_or, inl, inr, ◌⊎◌}
+use Rattle.std.proofs.Common.{◌≡◌, ℕ, ◌<◌, ◌≤◌, Bool, true, false, ◌&&◌, ◌||◌, nat_lt, nat_le, List, Result, Ok, Err, Option, Some, None, refl, sym, arith}
+use Rattle.std.proofs.Common.{if◌then◌else◌, ok_or, inl, inr, ◌⊎◌}
 use Rattle.std.specs.Prelude.{option_map}
 use Rattle.std.specs.Option.{option_or}
 use Rattle.std.specs.Str.{bytes_eq}
@@ -37,7 +38,8 @@ chosen_by true x y z h = inl (refl, h)
 chosen_by false x y z h = inr (refl, h)
 
 -- the first option is there, or the second gave it
-pub first_or : {X Y : Type 0} (f : X → Y) (o : Option X) (r : Option Y) (y : Y) → option_or (option_map f o) r ≡ Some y → ((x : X) × (o ≡ Some x) × (f x ≡ y)) ⊎ (r ≡ Some y)
+pub first_or : {X Y : Type 0} (f : X → Y) (o : Option X) (r : Option Y) (y : Y) → option_or (option_map f o) r ≡ Some y → ((x : X) × (o ≡ Some x) × (f x ≡ y))
+    ⊎ (r ≡ Some y)
 first_or f None r y h = inr h
 first_or f (Some x) r y h = inl (x, refl, cc)
 

@@ -1,5 +1,6 @@
 -- Rows in order, and one row more behind them.
-use Rattle.std.proofs.Common.{◌≡◌, ℕ, ◌+◌, ◌-◌, ◌≤◌, Bool, true, false, List, [], ◌∷◌, ◌++◌, length, Option, Some, None, refl, subst, arith, if◌then◌else◌, nat_le, nat_lt, slice_get}
+use Rattle.std.proofs.Common.{◌≡◌, ℕ, ◌+◌, ◌-◌, ◌≤◌, Bool, true, false, List, [], ◌∷◌, ◌++◌, length, Option, Some, None, refl, subst, arith, if◌then◌else◌}
+use Rattle.std.proofs.Common.{nat_le, nat_lt, slice_get}
 use Rattle.std.proofs.lemmas.List.{length-append}
 use Rattle.zy_isa.specs.declared.row.Row.{Row}
 use Rattle.zy_isa.specs.Rows.{misplaced_row, misplaced_after, last_row, is_low}
@@ -9,11 +10,13 @@ use borrow.Author.Tests.{tests}
 low_test : (a b i : ℕ) → nat_le a b ≡ false → (if nat_lt b a then None else Some i) ≡ (let o : Option ℕ = None in o)
 low_test a b i h = rw (above b a h) refl
 
-misplaced_more : (x : Row) (i : ℕ) (R : List Row) (r : Row) → misplaced_after x.key i R ≡ None → is_low r.key (slice_get (x ∷ R) (length R)) ≡ false → misplaced_after x.key i (R ++ r ∷ []) ≡ None
+misplaced_more : (x : Row) (i : ℕ) (R : List Row) (r : Row) → misplaced_after x.key i R ≡ None → is_low r.key (slice_get (x ∷ R) (length R)) ≡ false
+    → misplaced_after x.key i (R ++ r ∷ []) ≡ None
 misplaced_more x i [] r h low = low_test r.key x.key i low
 misplaced_more x i (y ∷ R) r h low = split (nat_lt x.key y.key) h (λ g. misplaced_more y (i + 1) R r g low)
   where
-    split : (b : Bool) → (if b then misplaced_after y.key (i + 1) R else Some i) ≡ None → (misplaced_after y.key (i + 1) R ≡ None → misplaced_after y.key (i + 1) (R ++ r ∷ []) ≡ None)
+    split : (b : Bool) → (if b then misplaced_after y.key (i + 1) R else Some i) ≡ None
+        → (misplaced_after y.key (i + 1) R ≡ None → misplaced_after y.key (i + 1) (R ++ r ∷ []) ≡ None)
         → (if b then misplaced_after y.key (i + 1) (R ++ r ∷ []) else Some i) ≡ None
     split true g ih = ih g
     split false g ih = cc

@@ -1,5 +1,6 @@
 -- What the tests of a scenario show.
-use Rattle.std.proofs.Common.{◌≡◌, ◌+◌, ◌≤◌, ℕ, List, [], ◌∷◌, ◌++◌, Bool, true, false, cond, Option, None, Some, nat_lt, if◌then◌else◌, refl, arith, length, inl, inr}
+use Rattle.std.proofs.Common.{◌≡◌, ◌+◌, ◌≤◌, ℕ, List, [], ◌∷◌, ◌++◌, Bool, true, false, cond, Option, None, Some, nat_lt, if◌then◌else◌, refl, arith, length}
+use Rattle.std.proofs.Common.{inl, inr}
 use Rattle.std.specs.Prelude.{not, position, option_map}
 use Rattle.std.specs.List.{position_or_len}
 use Rattle.std.specs.Option.{option_or}
@@ -13,7 +14,8 @@ use Rattle.zy_isa.specs.Rows.{Rising, RowsFit, misplaced_row, misplaced_after}
 use Rattle.zy_isa.specs.Choices.{names_below}
 use Rattle.zy_isa.specs.Operations.{has}
 use Rattle.zy_isa.specs.Programs.{IsKnown, unknown, unknown_from}
-use Rattle.zy_isa.specs.Scenario.{Scenario, misnamed_choice, choices_fault, instrs_fault, AreKnown, is_outside, has_many_rows, AreNamed, ArePrograms, IsScenario, opening_pages_for, scenario_fault}
+use Rattle.zy_isa.specs.Scenario.{Scenario, misnamed_choice, choices_fault, instrs_fault, AreKnown, is_outside, has_many_rows, AreNamed, ArePrograms}
+use Rattle.zy_isa.specs.Scenario.{IsScenario, opening_pages_for, scenario_fault}
 use Rattle.zy_isa.proofs.ResultLemmas.{in_range, neither, not_over, out_of_neither, over_not}
 
 rising_after : (last i : ℕ) (rows : List Row) → misplaced_after last i rows ≡ None → Rising (last + 1) rows
@@ -53,7 +55,8 @@ named_each count (c ∷ cs) h = named_first count c cs (names_below count c) (na
 pub are_named : (count : ℕ) (choices : List Choice) → misnamed_choice count choices ≡ None → AreNamed count choices
 are_named count choices e = named_each count choices (none_passes _ choices e)
 
-fit_if : (count : ℕ) (cs : List Choice) (b : Bool) → nat_lt 4096 (length cs) ≡ b → (if b then Some fault.ChoiceCount else option_map fault.Choice (misnamed_choice count cs)) ≡ None
+fit_if : (count : ℕ) (cs : List Choice) (b : Bool) → nat_lt 4096 (length cs) ≡ b
+    → (if b then Some fault.ChoiceCount else option_map fault.Choice (misnamed_choice count cs)) ≡ None
     → (length cs ≤ 4096) × (misnamed_choice count cs ≡ None)
 fit_if count cs true e h = cc
 fit_if count cs false e h = (not_over (length cs) 4096 e, no_option fault.Choice (misnamed_choice count cs) h)
@@ -87,7 +90,8 @@ past_first (Some f) rest h = cc
 
 -- ---- instructions that a version has
 
-known_first : (version : Version) (n : ℕ) (i : Instr) (is : List Instr) (b : Bool) → has version i ≡ b → ((m : ℕ) → unknown_from version m is ≡ None → IsKnown version is)
+known_first : (version : Version) (n : ℕ) (i : Instr) (is : List Instr) (b : Bool) → has version i ≡ b
+    → ((m : ℕ) → unknown_from version m is ≡ None → IsKnown version is)
     → (if b then unknown_from version (n + 1) is else Some n) ≡ None → IsKnown version (i ∷ is)
 known_first version n i is true e rest h = (e, rest (n + 1) h)
 known_first version n i is false e rest h = cc

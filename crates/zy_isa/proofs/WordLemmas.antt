@@ -1,5 +1,6 @@
 -- A word gives the instruction whose word it is.
-use Rattle.std.proofs.Common.{◌≡◌, ◌==◌, ℕ, zero, suc, ◌+◌, ◌<◌, ◌^◌, ◌&&◌, List, [], ◌∷◌, length, get_or, Option, Some, None, IfSome, refl, sym, ap, ◌∙◌, subst, arith}
+use Rattle.std.proofs.Common.{◌≡◌, ◌==◌, ℕ, zero, suc, ◌+◌, ◌<◌, ◌^◌, ◌&&◌, List, [], ◌∷◌, length, get_or, Option, Some, None, IfSome, refl, sym, ap, ◌∙◌}
+use Rattle.std.proofs.Common.{subst, arith}
 use Rattle.std.proofs.lemmas.Bool.{cond_both}
 use Rattle.std.proofs.lemmas.List.{drop_more, drop_all}
 use Rattle.std.proofs.lemmas.Nat.{be_bytes_4, from_be_bytes-to_be_bytes_4}
@@ -58,11 +59,14 @@ module _ (o : Operation) (a b n : ℕ) where
 parts_have : (o : Operation) (a b n : ℕ) → n < 2 ^ 32 → MayHave o a b n (parts_at o a b n)
 parts_have (op.Number o) a b n v =
     cond_both (b == 0) _ _ (MayHave (op.Number o) a b n)
-    (λ z. mapped (λ r. Number o r n) (register_at a) (λ r. a ≡ number_of r) (Has (op.Number o) a b n) (λ r g. (v, rw (g, same_number b 0 z) refl)) (register_names a)) (λ _. tt)
+    (λ z. mapped (λ r. Number o r n) (register_at a) (λ r. a ≡ number_of r) (Has (op.Number o) a b n) (λ r g. (v, rw (g, same_number b 0 z) refl))
+    (register_names a)) (λ _. tt)
 parts_have (op.Pair o) a b n v =
     cond_both (n == 0) _ _ (MayHave (op.Pair o) a b n)
-    (λ z. mapped (λ p. Pair o p.0 p.1) (registers_at a b) _ (Has (op.Pair o) a b n) (λ p g. (tt, rw (g.0, g.1, same_number n 0 z) refl)) (registers_name a b)) (λ _. tt)
-parts_have (op.Jump o) a b n v = mapped (λ p. Jump o p.0 p.1 n) (registers_at a b) _ (Has (op.Jump o) a b n) (λ p g. (v, rw (g.0, g.1) refl)) (registers_name a b)
+    (λ z. mapped (λ p. Pair o p.0 p.1) (registers_at a b) _ (Has (op.Pair o) a b n) (λ p g. (tt, rw (g.0, g.1, same_number n 0 z) refl)) (registers_name a b))
+    (λ _. tt)
+parts_have (op.Jump o) a b n v = mapped (λ p. Jump o p.0 p.1 n) (registers_at a b) _ (Has (op.Jump o) a b n) (λ p g. (v, rw (g.0, g.1) refl))
+    (registers_name a b)
 parts_have (op.Lone o) a b n v =
     cond_both (a == 0 && b == 0 && n == 0) _ _ (MayHave (op.Lone o) a b n)
     (λ z.
@@ -74,7 +78,8 @@ instr_has : (k a b n : ℕ) (x : Option Operation) → coded k ≡ x → n < 2 ^
 instr_has k a b n None e v = tt
 instr_has k a b n (Some o) e v =
     mapped instr_with (parts_at o a b n) (Has o a b n) (λ i. HasValue i × (word k a b n ≡ word_of i))
-    (λ p h. (subst PartsFit (sym (parts_again p)) h.0, ap (λ x. word x a b n) (coded_is k o e) ∙ h.1 ∙ ap word_with (sym (parts_again p)))) (parts_have o a b n v)
+    (λ p h. (subst PartsFit (sym (parts_again p)) h.0, ap (λ x. word x a b n) (coded_is k o e) ∙ h.1 ∙ ap word_with (sym (parts_again p))))
+    (parts_have o a b n v)
 
 -- ---- eight bytes are a word of their fields
 
@@ -88,7 +93,8 @@ more w k x p e = drop_more w k 0 p ∙ ap (λ y. get_or w k 0 ∷ y) e
 eight : (w : List ℕ) → length w ≡ 8 → w ≡ get_or w 0 0 ∷ get_or w 1 0 ∷ get_or w 2 0 ∷ get_or w 3 0 ∷ number_bytes w
 eight w q =
     more w 0 _ (omega (arith, q)) (more w 1 _ (omega (arith, q)) (more w 2 _ (omega (arith, q)) (more w 3 _ (omega (arith, q)) (
-    more w 4 _ (omega (arith, q)) (more w 5 _ (omega (arith, q)) (more w 6 _ (omega (arith, q)) (more w 7 _ (omega (arith, q)) (drop_all 8 w (omega (arith, q))))))))))
+    more w 4 _ (omega (arith, q))
+    (more w 5 _ (omega (arith, q)) (more w 6 _ (omega (arith, q)) (more w 7 _ (omega (arith, q)) (drop_all 8 w (omega (arith, q))))))))))
 
 number_fits : (w : List ℕ) → ((i : ℕ) → get_or w i 0 < 256) → (i : ℕ) → get_or (number_bytes w) i 0 < 256
 number_fits w h zero = h 4
@@ -101,13 +107,16 @@ word_again : (w : List ℕ) (n : ℕ) → length w ≡ 8 → ((i : ℕ) → get_
     → word (get_or w 0 0) (get_or w 1 0) (get_or w 2 0) n ≡ w
 word_again w n len fits z e =
     let bytes : to_be_bytes w32 n ≡ number_bytes w = be_bytes_4 (number_bytes w) n refl (number_fits w fits) e in
-    ap (λ x. get_or w 0 0 ∷ get_or w 1 0 ∷ get_or w 2 0 ∷ 0 ∷ x) bytes ∙ ap (λ x. get_or w 0 0 ∷ get_or w 1 0 ∷ get_or w 2 0 ∷ x ∷ number_bytes w) (sym z) ∙ sym (eight w len)
+    ap (λ x. get_or w 0 0 ∷ get_or w 1 0 ∷ get_or w 2 0 ∷ 0 ∷ x) bytes ∙ ap (λ x. get_or w 0 0 ∷ get_or w 1 0 ∷ get_or w 2 0 ∷ x ∷ number_bytes w) (sym z)
+    ∙ sym (eight w len)
 
-pub found : (w : List ℕ) (n : ℕ) (o : Option Instr) → length w ≡ 8 → ((i : ℕ) → get_or w i 0 < 256) → get_or w 3 0 ≡ 0 → n ≡ from_be_bytes w32 (number_bytes w) → n < 2 ^ 32
+pub found : (w : List ℕ) (n : ℕ) (o : Option Instr) → length w ≡ 8 → ((i : ℕ) → get_or w i 0 < 256) → get_or w 3 0 ≡ 0 → n ≡ from_be_bytes w32 (number_bytes w)
+    → n < 2 ^ 32
     → o ≡ instr_at (coded (get_or w 0 0)) (get_or w 1 0) (get_or w 2 0) n → IfSome o (IsWordOf w)
 found w n o len fits z e v g =
     let all = word_again w n len fits z e in
-    rw g (subst (λ x. IfSome (instr_at (coded (get_or w 0 0)) (get_or w 1 0) (get_or w 2 0) n) (λ i. HasValue i × (x ≡ word_of i))) all (instr_has (get_or w 0 0) (get_or w 1 0) (get_or w 2 0) n (coded (get_or w 0 0)) refl v))
+    rw g (subst (λ x. IfSome (instr_at (coded (get_or w 0 0)) (get_or w 1 0) (get_or w 2 0) n) (λ i. HasValue i × (x ≡ word_of i))) all
+    (instr_has (get_or w 0 0) (get_or w 1 0) (get_or w 2 0) n (coded (get_or w 0 0)) refl v))
 
 -- ---- the fields of an instruction give it
 
@@ -130,7 +139,8 @@ back (Pair o a b) v = rw (coded_back (op.Pair o), register_back a, register_back
 back (Jump o a b n) v = rw (coded_back (op.Jump o), from_be_bytes-to_be_bytes_4 n v, register_back a, register_back b) refl
 back (Lone o) v = rw (coded_back (op.Lone o)) refl
 
-pub only : (w : List ℕ) (n : ℕ) (o : Option Instr) → n ≡ from_be_bytes w32 (number_bytes w) → o ≡ instr_at (coded (get_or w 0 0)) (get_or w 1 0) (get_or w 2 0) n
+pub only : (w : List ℕ) (n : ℕ) (o : Option Instr) → n ≡ from_be_bytes w32 (number_bytes w)
+    → o ≡ instr_at (coded (get_or w 0 0)) (get_or w 1 0) (get_or w 2 0) n
     → (i : Instr) → IsWordOf w i → o ≡ Some i
 only w n o e g i h = g ∙ ap (instr_at (coded (get_or w 0 0)) (get_or w 1 0) (get_or w 2 0)) e ∙ ap given h.1 ∙ back (parts_of i) h.0 ∙ ap Some (instr_again i)
 
@@ -138,7 +148,8 @@ only w n o e g i h = g ∙ ap (instr_at (coded (get_or w 0 0)) (get_or w 1 0) (g
 
 back_of_eight : (w : List ℕ) → length w ≡ 8 → drop 4 w ≡ number_bytes w
 back_of_eight w q =
-    more w 4 _ (omega (arith, q)) (more w 5 _ (omega (arith, q)) (more w 6 _ (omega (arith, q)) (more w 7 _ (omega (arith, q)) (drop_all 8 w (omega (arith, q))))))
+    more w 4 _ (omega (arith, q))
+    (more w 5 _ (omega (arith, q)) (more w 6 _ (omega (arith, q)) (more w 7 _ (omega (arith, q)) (drop_all 8 w (omega (arith, q))))))
 
 four_fit : (bs : List ℕ) → length bs ≡ 4 → ((i : ℕ) → get_or bs i 0 < 256) → from_be_bytes w32 bs < 2 ^ 32
 four_fit [] h f = absurd (omega (arith, h))

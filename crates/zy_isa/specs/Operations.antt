@@ -40,7 +40,8 @@ since (op.Pair Sum) = version.Two
 since o = version.One
 
 abbrev pub operations : List Operation
-operations = op.Number Set ∷ op.Pair Read ∷ op.Pair Write ∷ op.Pair Insert ∷ op.Pair Add ∷ op.Jump Beq ∷ op.Lone Commit ∷ op.Lone Abort ∷ op.Pair Sum ∷ []
+operations = op.Number Set ∷ op.Pair Read ∷ op.Pair Write ∷ op.Pair Insert ∷ op.Pair Add ∷ op.Jump Beq ∷ op.Lone Commit
+    ∷ op.Lone Abort ∷ op.Pair Sum ∷ []
 
 -- the operation with this number
 abbrev pub coded : ℕ → Option Operation

@@ -1,5 +1,6 @@
 -- What a scenario is, which ones are within the limits, and the first fault of one that is not.
-use Rattle.std.specs.Prelude.{◌≡◌, ◌+◌, ◌/◌, ◌≤◌, ◌||◌, not, nat_lt, ℕ, zero, suc, List, [], ◌∷◌, length, position, option_map, Bool, true, Option, Some, None, Result, Ok, Err, if◌then◌else◌}
+use Rattle.std.specs.Prelude.{◌≡◌, ◌+◌, ◌/◌, ◌≤◌, ◌||◌, not, nat_lt, ℕ, zero, suc, List, [], ◌∷◌, length, position}
+use Rattle.std.specs.Prelude.{option_map, Bool, true, Option, Some, None, Result, Ok, Err, if◌then◌else◌}
 use Rattle.std.specs.Option.{option_or}
 use Rattle.zy_isa.specs.declared.version.Version.{Version}
 use Rattle.zy_isa.specs.declared.rule.Rule.{Rule}
@@ -50,7 +51,8 @@ choices_fault count cs =
 -- the first instruction that a version does not have, in programs from number t on
 abbrev pub instrs_fault : Version → ℕ → List (List Instr) → Option ScenarioFault
 instrs_fault version t [] = None
-instrs_fault version t (p ∷ ps) = option_or (option_map (fault.Instruction t) (unknown version p)) (instrs_fault version (t + 1) ps)
+instrs_fault version t (p ∷ ps) = option_or (option_map (fault.Instruction t) (unknown version p))
+    (instrs_fault version (t + 1) ps)
 
 -- the first fault of a scenario whose programs are verified
 abbrev pub scenario_fault : Scenario → Option ScenarioFault

@@ -1,5 +1,6 @@
 -- What the fields of a word give, for the steps of decoding.
-use Rattle.std.specs.Prelude.{◌==◌, ◌&&◌, ◌%◌, ℕ, List, drop, get_or, unwrap_or, Option, Some, None, if◌then◌else◌, option_map}
+use Rattle.std.specs.Prelude.{◌==◌, ◌&&◌, ◌%◌, ℕ, List, drop, get_or, unwrap_or, Option, Some, None, if◌then◌else◌}
+use Rattle.std.specs.Prelude.{option_map}
 use Rattle.std.specs.List.{find}
 use Rattle.std.specs.Int.{w32, from_be_bytes}
 use Rattle.zy_isa.specs.declared.instr.Reg.{Reg}
@@ -37,7 +38,8 @@ instr_at (Some o) a b n = option_map instr_with (parts_at o a b n)
 
 -- the instruction of a word of eight bytes, if there is one
 abbrev pub decoded : List ℕ → Option Instr
-decoded w = if get_or w 3 0 == 0 then instr_at (coded (get_or w 0 0)) (get_or w 1 0) (get_or w 2 0) (from_be_bytes w32 (drop 4 w)) else None
+decoded w = if get_or w 3 0 == 0 then instr_at (coded (get_or w 0 0)) (get_or w 1 0) (get_or w 2 0)
+    (from_be_bytes w32 (drop 4 w)) else None
 
 -- ---- a word that is known to be one: no field is tested
 
@@ -56,4 +58,5 @@ parts_in (op.Lone o) a b n = Lone o
 
 -- the instruction of a word
 abbrev pub instr_in : List ℕ → Instr
-instr_in w = instr_with (parts_in (operation_in (get_or w 0 0)) (get_or w 1 0) (get_or w 2 0) (from_be_bytes w32 (drop 4 w)))
+instr_in w =
+    instr_with (parts_in (operation_in (get_or w 0 0)) (get_or w 1 0) (get_or w 2 0) (from_be_bytes w32 (drop 4 w)))

@@ -15,10 +15,14 @@ pub mod word;
 pub use crate::choice::Choice;
 pub use crate::instr::{Instr, Reg};
 pub use crate::node::{Actor, Node};
-pub use crate::operation::{JumpOperation, LoneOperation, NumberOperation, Operation, PairOperation, Parts};
+pub use crate::operation::{
+    JumpOperation, LoneOperation, NumberOperation, Operation, PairOperation, Parts,
+};
 pub use crate::program::{MAX_INSTRS, ProgFault, Program};
 pub use crate::row::Row;
 pub use crate::rule::Rule;
-pub use crate::scenario::{MAX_CAP, MAX_CHOICES, MAX_PAGES, MAX_ROWS, MAX_TXNS, Scenario, ScenarioFault};
+pub use crate::scenario::{
+    MAX_CAP, MAX_CHOICES, MAX_PAGES, MAX_ROWS, MAX_TXNS, Scenario, ScenarioFault,
+};
 pub use crate::version::Version;
 pub use crate::word::{WORD_BYTES, Word};

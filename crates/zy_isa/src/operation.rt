@@ -1,4 +1,5 @@
-//! The operations: what each is in an image and in a text, which operands it takes, and the instruction that it makes with them.
+//! The operations: what each is in an image and in a text, which operands it takes, and the instruction that it makes
+//! with them.
 ghost use Rattle.std.specs.Prelude.{◌≡◌};
 ghost use Rattle.std.specs.Str.{bytes_eq};
 ghost use Rattle.zy_isa.specs.Operations.{operation_of, parts_of, instr_with};

@@ -34,8 +34,8 @@ pub enum ProgFault {
     Memory,
 }
 
-/// A program of 1 to 64 instructions that ends with `commit` or `abort` and whose targets are in it: whoever holds one need not test it again.
-/// It is kept as the words of its instructions.
+/// A program of 1 to 64 instructions that ends with `commit` or `abort` and whose targets are in it: whoever holds one
+/// need not test it again. It is kept as the words of its instructions.
 #[derive(Drop)]
 pub struct Program {
     words: Vec<Word>,
@@ -97,7 +97,8 @@ fn word_ends_well(words: &[Word]) -> bool
 /// Why instructions are no program, by their number and by what the tests of them say.
 fn fault_of(count: usize, stray: Option<usize>, ends: bool) -> Option<ProgFault>
     requires { IfSome stray (λ i. i < count) }
-    ensures { (is : List AnInstr) → count ≡ length is → stray ≡ spec.stray_target is → ends ≡ spec.ends_well is → result ≡ prog_fault is }
+    ensures { (is : List AnInstr) → count ≡ length is → stray ≡ spec.stray_target is → ends ≡ spec.ends_well is
+        → result ≡ prog_fault is }
 {
     if count == 0 {
         return Some(ProgFault::Empty);

@@ -79,9 +79,25 @@ impl Model for Scenario {
 
     ghost Value = { spec.Scenario };
 
-    ghost view = { λ s. record { version = s.version; cap = s.cap; pages = s.pages; rule = s.rule; rows = s.rows.items; programs = s.programs.items; choices = s.choices.items } };
+    ghost view = { λ s. record {
+      version = s.version;
+      cap = s.cap;
+      pages = s.pages;
+      rule = s.rule;
+      rows = s.rows.items;
+      programs = s.programs.items;
+      choices = s.choices.items;
+    } };
 
-    ghost invariant = { λ s. spec.IsScenario (record { version = s.version; cap = s.cap; pages = s.pages; rule = s.rule; rows = s.rows.items; programs = s.programs.items; choices = s.choices.items }) };
+    ghost invariant = { λ s. spec.IsScenario (record {
+      version = s.version;
+      cap = s.cap;
+      pages = s.pages;
+      rule = s.rule;
+      rows = s.rows.items;
+      programs = s.programs.items;
+      choices = s.choices.items;
+    }) };
 }
 
 /// How many rows an opening page takes: half of what it has room for, rounded up.
@@ -182,7 +198,8 @@ fn copy_programs(alloc: Global, programs: &[Program]) -> Result<Vec<Program>, Al
 }
 
 impl Scenario {
-    /// Tests the parts of a scenario, with the number of its version; they are dropped where they are refused. It takes no memory.
+    /// Tests the parts of a scenario, with the number of its version; they are dropped where they are refused. It takes
+    /// no memory.
     pub fn new(
         version: u8,
         cap: u8,
@@ -192,7 +209,15 @@ impl Scenario {
         programs: Vec<Program>,
         choices: Vec<Choice>,
     ) -> Result<Scenario, ScenarioFault>
-        ensures { IsTestedIn result (numbered version) (λ v. record { version = v; cap = cap; pages = pages; rule = rule; rows = rows.items; programs = programs.items; choices = choices.items }) }
+        ensures { IsTestedIn result (numbered version) (λ v. record {
+          version = v;
+          cap = cap;
+          pages = pages;
+          rule = rule;
+          rows = rows.items;
+          programs = programs.items;
+          choices = choices.items;
+        }) }
     {
         match Version::numbered(version) {
             Some(version) => Scenario::tested(version, cap, pages, rule, rows, programs, choices),
@@ -210,7 +235,15 @@ impl Scenario {
         programs: Vec<Program>,
         choices: Vec<Choice>,
     ) -> Result<Scenario, ScenarioFault>
-        ensures { IsTested result (record { version = version; cap = cap; pages = pages; rule = rule; rows = rows.items; programs = programs.items; choices = choices.items }) }
+        ensures { IsTested result (record {
+          version = version;
+          cap = cap;
+          pages = pages;
+          rule = rule;
+          rows = rows.items;
+          programs = programs.items;
+          choices = choices.items;
+        }) }
     {
         if cap < 2 || cap > MAX_CAP {
             return Err(ScenarioFault::Cap);
@@ -246,8 +279,24 @@ impl Scenario {
         programs: Vec<Program>,
         choices: Vec<Choice>,
     ) -> Scenario
-        requires { scenario_fault (record { version = version; cap = cap; pages = pages; rule = rule; rows = rows.items; programs = programs.items; choices = choices.items }) ≡ None }
-        ensures value { result ≡ record { version = version; cap = cap; pages = pages; rule = rule; rows = rows.items; programs = programs.items; choices = choices.items } }
+        requires { scenario_fault (record {
+          version = version;
+          cap = cap;
+          pages = pages;
+          rule = rule;
+          rows = rows.items;
+          programs = programs.items;
+          choices = choices.items;
+        }) ≡ None }
+        ensures value { result ≡ record {
+          version = version;
+          cap = cap;
+          pages = pages;
+          rule = rule;
+          rows = rows.items;
+          programs = programs.items;
+          choices = choices.items;
+        } }
         ensures tested { IsScenario result }
     {
         // Proof: the rows fit, and the programs are verified.
@@ -264,7 +313,8 @@ impl Scenario {
         }
     }
 
-    /// The same scenario with these choices in place of its own. Both are dropped where they are refused. It takes no memory.
+    /// The same scenario with these choices in place of its own. Both are dropped where they are refused. It takes no
+    /// memory.
     pub fn with_choices(self, choices: Vec<Choice>) -> Result<Scenario, ScenarioFault>
         ensures { HasChoices result self choices.items }
     {

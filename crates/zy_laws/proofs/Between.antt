@@ -23,7 +23,8 @@ use Rattle.zy_table.specs.Take.{all_here}
 use Rattle.zy_table.proofs.PageLists.{owns-with_page}
 use Rattle.zy_laws.specs.Between.{NothingLeft}
 use Rattle.zy_laws.proofs.Boundary.{has-put_key}
-use Rattle.zy_laws.proofs.Events.{Told, Aborts, Asks, Begins, Commits, Event, Finishes, Gets, Gives, GotAll, GotDone, GotDual, GotFinish, GotLast, GotPage, GotReady, GotWire, Inserts, IsStale, Pushes, Rests, SumsUp, Splits, Starts, Writes, step_happens, GoesOn}
+use Rattle.zy_laws.proofs.Events.{Told, Aborts, Asks, Begins, Commits, Event, Finishes, Gets, Gives, GotAll, GotDone, GotDual, GotFinish, GotLast, GotPage}
+use Rattle.zy_laws.proofs.Events.{GotReady, GotWire, Inserts, IsStale, Pushes, Rests, SumsUp, Splits, Starts, Writes, step_happens, GoesOn}
 use Rattle.zy_laws.proofs.Installing.{owns-installed}
 use Rattle.zy_laws.proofs.Locking.{Kept, nobody_runs}
 use Rattle.zy_laws.proofs.ListsInOrder.{Tidy, opening_tidy, step_tidy}
@@ -85,7 +86,8 @@ sends_none m s = elim (sends_in m s) [ inl e ↦ ap may_pull e | inr e ↦ ap ma
 pulls_busy : (m : NodeMode) → may_pull m ≡ true → is_idle m ≡ false
 pulls_busy m s = elim (pulls_in m s) [ inl e ↦ ap is_idle e | inr e ↦ ap is_idle e ]
 
-asked_event : (sc : Scenario) (n : Node) (o : Outcome) (v w : View) (lows : List ℕ) → Kept sc n v lows → Asked v.me → (e : Event sc n v w) → Told e o → Asked w.me
+asked_event : (sc : Scenario) (n : Node) (o : Outcome) (v w : View) (lows : List ℕ) → Kept sc n v lows → Asked v.me → (e : Event sc n v w) → Told e o
+    → Asked w.me
 unfolding did locked shares txn_at aborted begun committed cut asks leaves
 asked_event sc n o v w lows k a (Rests e) told = rw e a
 asked_event sc n o v w lows k a (Begins t h at_a new home e) told = rw e (asked_same v.me _ refl refl refl (λ p. refl) a)
@@ -97,10 +99,12 @@ asked_event sc n o v w lows k a (Writes t key value runs f there e) told = rw e 
 asked_event sc n o v w lows k a (Inserts t key value runs f new room e) told = rw e (asked_same v.me _ refl refl refl (λ p. refl) a)
 asked_event sc n o v w lows k a (Splits t key value runs f new full normal pages e) told =
     rw e (asked_none _ (a.none (ap may_pull (splits_in_normal v.me.mode normal))))
-asked_event sc n o v w lows k a (Commits t runs all e) told = rw e (asked_same v.me _ refl refl refl (λ p. owns-installed v.me.lows (txn_at v t).rows v.me.pages p) a)
+asked_event sc n o v w lows k a (Commits t runs all e) told =
+    rw e (asked_same v.me _ refl refl refl (λ p. owns-installed v.me.lows (txn_at v t).rows v.me.pages p) a)
 asked_event sc n o v w lows k a (Asks p gone pulls new e) told =
     let first : v.me.lows ≡ 0 ∷ k.first.0 = k.mine.newest (pulls_busy v.me.mode pulls) ∙ k.first.1 in
-    let within : page_of v.me.lows told.0 < length v.me.lows = subst (λ l. page_of l told.0 < length l) (sym first) (page_of-within (0 ∷ k.first.0) told.0 (omega arith)) in
+    let within : page_of v.me.lows told.0 < length v.me.lows = subst (λ l. page_of l told.0 < length l) (sym first)
+    (page_of-within (0 ∷ k.first.0) told.0 (omega arith)) in
     let low : p < length v.me.lows = subst (λ z. z < length v.me.lows) (sym told.1) within in
     rw e (record {
       none = λ off. absurd (false≢true (sym off ∙ pulls));
@@ -153,7 +157,8 @@ step_both sc c s x all =
     let m = move sc c v in
     let h = step_happens sc c s in
     let r = x.reached in
-    both_after n s m.after (asked_event sc n m.outcome v m.after r.lows (kept_from sc n s r.lows r.kept) (all n) h.event h.told) (sourced sc n m.outcome v m.after h.event h.told).them all
+    both_after n s m.after (asked_event sc n m.outcome v m.after r.lows (kept_from sc n s r.lows r.kept) (all n) h.event h.told)
+    (sourced sc n m.outcome v m.after h.event h.told).them all
 
 opening_both : (sc : Scenario) → Both (opening sc)
 unfolding opening
@@ -170,7 +175,8 @@ play_both sc ok cs =
 no_lock : (xs : List Lock) → ((p t : ℕ) → holds xs p t ≡ true → ⊥) → xs ≡ []
 no_lock [] h = refl
 no_lock (x ∷ xs) h =
-    absurd (h x.page x.txn (or_left ((x.page == x.page) && (x.txn == x.txn)) (holds xs x.page x.txn) (rw (eq-eqb x.page x.page refl, eq-eqb x.txn x.txn refl) refl)))
+    absurd
+    (h x.page x.txn (or_left ((x.page == x.page) && (x.txn == x.txn)) (holds xs x.page x.txn) (rw (eq-eqb x.page x.page refl, eq-eqb x.txn x.txn refl) refl)))
 
 elsewhere : (m n : Node) → (m ≡ n → ⊥) → m ≡ other n
 elsewhere A A h = absurd (h refl)
@@ -178,7 +184,8 @@ elsewhere A B h = refl
 elsewhere B A h = refl
 elsewhere B B h = absurd (h refl)
 
-rested : (src dst : NodeState) (out back : List Message) → Phase src dst out back → src.mode ≡ Normal → dst.mode ≡ Empty → (dst.lows ≡ []) × (out ≡ []) × (back ≡ [])
+rested : (src dst : NodeState) (out back : List Message) → Phase src dst out back → src.mode ≡ Normal → dst.mode ≡ Empty → (dst.lows ≡ []) × (out ≡ [])
+    × (back ≡ [])
 rested src dst out back (Resting a b c d f) m e = (c, d, f)
 rested src dst out back (Wire_sent a b c d f) m e = cc
 rested src dst out back (Ready_sent a b c d f) m e = cc

@@ -1,5 +1,6 @@
 -- The boundary of a split is a key of its page, and no page's low key.
-use Rattle.std.proofs.Common.{◌≡◌, ℕ, zero, suc, ◌+◌, ◌/◌, ◌<◌, ◌≤◌, List, [], ◌∷◌, ◌++◌, length, true, false, refl, sym, ap, ◌∙◌, subst, arith, inl, inr, length-append}
+use Rattle.std.proofs.Common.{◌≡◌, ℕ, zero, suc, ◌+◌, ◌/◌, ◌<◌, ◌≤◌, List, [], ◌∷◌, ◌++◌, length, true, false, refl, sym, ap, ◌∙◌, subst, arith, inl, inr}
+use Rattle.std.proofs.Common.{length-append}
 use Rattle.std.specs.Prelude.{◌⊎◌, if◌then◌else◌, ◌==◌, nat_le, Some, None, is_some, slice_index, Contains}
 use Rattle.std.proofs.lemmas.Bool.{cond_both, false≢true, or_right, or_left, eq-eqb, eqb-true, eqb-false, or_cases, or_parts, ltb-false, leb-true, leb-false}
 use Rattle.std.proofs.lemmas.List.{get_or_default}
@@ -28,7 +29,11 @@ has-put_key k [] q h = elim (or_cases (k == q) false h) [ inl e ↦ inl (eqb-tru
 has-put_key k (x ∷ xs) q h =
     cond_both (nat_le k x) (k ∷ x ∷ xs) (x ∷ put_key k xs) (λ y. has y q ≡ true → (k ≡ q) ⊎ (has (x ∷ xs) q ≡ true))
     (λ _ g. elim (or_cases (k == q) (has (x ∷ xs) q) g) [ inl e ↦ inl (eqb-true _ _ e) | inr e ↦ inr e ])
-    (λ _ g. elim (or_cases (x == q) (has (put_key k xs) q) g) [ inl e ↦ inr (or_left _ _ e) | inr e ↦ elim (has-put_key k xs q e) [ inl i ↦ inl i | inr i ↦ inr (or_right _ _ i) ] ]) h
+    (λ _ g. elim (or_cases (x == q) (has (put_key k xs) q) g) [
+      | inl e ↦ inr (or_left _ _ e)
+      | inr e ↦
+          elim (has-put_key k xs q e) [ inl i ↦ inl i | inr i ↦ inr (or_right _ _ i) ]
+    ]) h
 
 has-keys : (rows : List Row) (q : ℕ) → has (keys_of rows) q ≡ true → is_some (get_row rows q) ≡ true
 has-keys [] q h = absurd (false≢true h)
@@ -78,7 +83,8 @@ differ_rising low (r ∷ rows) h = ((λ there. let le = rises_key (r.key + 1) ro
 some_append : (xs ys : List Row) (q : ℕ) → is_some (get_row (xs ++ ys) q) ≡ true → (is_some (get_row xs q) ≡ true) ⊎ (is_some (get_row ys q) ≡ true)
 some_append [] ys q h = inr h
 some_append (r ∷ xs) ys q h =
-    cond_both (r.key == q) (Some r.value) (get_row (xs ++ ys) q) (λ o. is_some o ≡ true → (is_some (get_row (r ∷ xs) q) ≡ true) ⊎ (is_some (get_row ys q) ≡ true))
+    cond_both (r.key == q) (Some r.value) (get_row (xs ++ ys) q) (λ o. is_some o ≡ true → (is_some (get_row (r ∷ xs) q) ≡ true)
+    ⊎ (is_some (get_row ys q) ≡ true))
     (λ e _. inl (ap (λ b. is_some (if b then Some r.value else get_row xs q)) e))
     (λ e g. elim (some_append xs ys q g) [ inl i ↦ inl (ap (λ b. is_some (if b then Some r.value else get_row xs q)) e ∙ i) | inr i ↦ inr i ]) h
 
@@ -96,12 +102,15 @@ differ_append (r ∷ xs) ys a b apart = (
   differ_append xs ys a.1 b (λ q here there. apart q (some_behind r xs q here) there),
 )
 
-some_not_in : (rs held : List Row) (q : ℕ) → is_some (get_row (rows_not_in rs held) q) ≡ true → (is_some (get_row rs q) ≡ true) × (is_some (get_row held q) ≡ false)
+some_not_in : (rs held : List Row) (q : ℕ) → is_some (get_row (rows_not_in rs held) q) ≡ true → (is_some (get_row rs q) ≡ true)
+    × (is_some (get_row held q) ≡ false)
 some_not_in [] held q h = absurd (false≢true h)
 some_not_in (r ∷ rs) held q h =
-    cond_both (is_some (get_row held r.key)) (rows_not_in rs held) (r ∷ rows_not_in rs held) (λ y. is_some (get_row y q) ≡ true → (is_some (get_row (r ∷ rs) q) ≡ true) × (is_some (get_row held q) ≡ false))
+    cond_both (is_some (get_row held r.key)) (rows_not_in rs held) (r ∷ rows_not_in rs held) (λ y. is_some (get_row y q) ≡ true
+    → (is_some (get_row (r ∷ rs) q) ≡ true) × (is_some (get_row held q) ≡ false))
     (λ _ g. let rest = some_not_in rs held q g in (some_behind r rs q rest.0, rest.1))
-    (λ off g. cond_both (r.key == q) (Some r.value) (get_row (rows_not_in rs held) q) (λ o. is_some o ≡ true → (is_some (get_row (r ∷ rs) q) ≡ true) × (is_some (get_row held q) ≡ false))
+    (λ off g. cond_both (r.key == q) (Some r.value) (get_row (rows_not_in rs held) q) (λ o. is_some o ≡ true → (is_some (get_row (r ∷ rs) q) ≡ true)
+    × (is_some (get_row held q) ≡ false))
     (λ e _. (ap (λ b. is_some (if b then Some r.value else get_row rs q)) e, subst (λ z. is_some (get_row held z) ≡ false) (eqb-true _ _ e) off))
     (λ e i. let rest = some_not_in rs held q i in (some_behind r rs q rest.0, rest.1)) g) h
 
@@ -112,9 +121,11 @@ differ_not_in (r ∷ rs) held h =
     (λ _. differ_not_in rs held h.1)
     (λ _. ((λ there. h.0 (some_not_in rs held r.key there).0), differ_not_in rs held h.1))
 
-some_on : (lows : List ℕ) (p : ℕ) (rs : List Row) (q : ℕ) → is_some (get_row (rows_on lows p rs) q) ≡ true → (page_of lows q ≡ p) × (is_some (get_row rs q) ≡ true)
+some_on : (lows : List ℕ) (p : ℕ) (rs : List Row) (q : ℕ) → is_some (get_row (rows_on lows p rs) q) ≡ true → (page_of lows q ≡ p)
+    × (is_some (get_row rs q) ≡ true)
 some_on lows p rs q h =
-    cond_both (page_of lows q == p) (get_row rs q) None (λ o. is_some o ≡ true → (page_of lows q ≡ p) × (is_some (get_row rs q) ≡ true)) (λ e g. (eqb-true _ _ e, g)) (λ _ g. absurd (false≢true g)) (ap is_some (sym (get_row-on lows p rs q)) ∙ h)
+    cond_both (page_of lows q == p) (get_row rs q) None (λ o. is_some o ≡ true → (page_of lows q ≡ p) × (is_some (get_row rs q) ≡ true))
+    (λ e g. (eqb-true _ _ e, g)) (λ _ g. absurd (false≢true g)) (ap is_some (sym (get_row-on lows p rs q)) ∙ h)
 
 differ_on : (lows : List ℕ) (p : ℕ) (rs : List Row) → Differ rs → Differ (rows_on lows p rs)
 differ_on lows p [] h = tt
@@ -153,12 +164,14 @@ within_keys sc t k p v full =
     let no_room : sc.cap ≤ length rows + length new = ltb-false _ _ full in
     omega arith
 
-pub boundary_on : (sc : Scenario) (t k p : ℕ) (v : View) → Placed v.me.lows v.me.pages → page_of v.me.lows k ≡ p → has_room sc p v.me (txn_at v t) ≡ false → page_of v.me.lows (boundary sc k p v.me (txn_at v t)) ≡ p
+pub boundary_on : (sc : Scenario) (t k p : ℕ) (v : View) → Placed v.me.lows v.me.pages → page_of v.me.lows k ≡ p → has_room sc p v.me (txn_at v t) ≡ false
+    → page_of v.me.lows (boundary sc k p v.me (txn_at v t)) ≡ p
 boundary_on sc t k p v placed on full =
     keys_on t k p v (boundary sc k p v.me (txn_at v t)) placed on (index_has (keys_at t k p v) ((sc.cap + 1) / 2) (within_keys sc t k p v full))
 
 -- they rise
-keys_rise : (t k p : ℕ) (v : View) → Rising 0 (rows_of v.me.pages p) → Rising 0 (txn_at v t).rows → is_there k p v.me (txn_at v t) ≡ false → NumbersRise 0 (keys_at t k p v)
+keys_rise : (t k p : ℕ) (v : View) → Rising 0 (rows_of v.me.pages p) → Rising 0 (txn_at v t).rows → is_there k p v.me (txn_at v t) ≡ false
+    → NumbersRise 0 (keys_at t k p v)
 keys_rise t k p v committed private new =
     let rows = rows_of v.me.pages p in
     let mine = (txn_at v t).rows in
@@ -169,12 +182,15 @@ keys_rise t k p v committed private new =
       | inl i ↦ false≢true (sym off.1 ∙ i)
       | inr i ↦ false≢true (sym off.0 ∙ (some_on v.me.lows p mine k (some_not_in on rows k i).0).1)
     ])
-    (rise-keys (rows ++ own_inserts p v.me (txn_at v t)) (differ_append rows (own_inserts p v.me (txn_at v t)) (differ_rising 0 rows committed) (differ_not_in on rows (differ_on v.me.lows p mine (differ_rising 0 mine private)))
+    (rise-keys (rows ++ own_inserts p v.me (txn_at v t)) (differ_append rows (own_inserts p v.me (txn_at v t)) (differ_rising 0 rows committed)
+    (differ_not_in on rows (differ_on v.me.lows p mine (differ_rising 0 mine private)))
     (λ q here there. false≢true (sym (some_not_in on rows q there).1 ∙ here))))
 
 -- a key below the boundary lies on the page too, so the boundary is above the page's low key, and is no other page's
-pub boundary_new : (sc : Scenario) (t k p : ℕ) (v : View) (more : List ℕ) → v.me.lows ≡ 0 ∷ more → 2 ≤ sc.cap → Placed v.me.lows v.me.pages → page_of v.me.lows k ≡ p → has_room sc p v.me (txn_at v t) ≡ false
-    → Rising 0 (rows_of v.me.pages p) → Rising 0 (txn_at v t).rows → is_there k p v.me (txn_at v t) ≡ false → Contains v.me.lows (boundary sc k p v.me (txn_at v t)) → ⊥
+pub boundary_new : (sc : Scenario) (t k p : ℕ) (v : View) (more : List ℕ) → v.me.lows ≡ 0 ∷ more → 2 ≤ sc.cap → Placed v.me.lows v.me.pages
+    → page_of v.me.lows k ≡ p → has_room sc p v.me (txn_at v t) ≡ false
+    → Rising 0 (rows_of v.me.pages p) → Rising 0 (txn_at v t).rows → is_there k p v.me (txn_at v t) ≡ false
+    → Contains v.me.lows (boundary sc k p v.me (txn_at v t)) → ⊥
 boundary_new sc t k p v more begins two placed on full committed private new there =
     let lows = v.me.lows in
     let keys = keys_at t k p v in
@@ -190,5 +206,6 @@ boundary_new sc t k p v more begins two placed on full committed private new the
     let under : slice_index lows p ≤ least = subst (λ z. slice_index lows z ≤ least) first_on (page_of-greatest lows least 0 some (omega arith)).0 in
     let q = there.0 in
     let at : slice_index lows q ≡ b = get_or_default lows q 0 b there.1 ∙ there.2 in
-    let over : slice_index lows q ≤ slice_index lows p = subst (λ z. slice_index lows q ≤ slice_index lows z) b_on (page_of-greatest lows b q there.1 (omega arith)).1 in
+    let over : slice_index lows q ≤ slice_index lows p = subst (λ z. slice_index lows q ≤ slice_index lows z) b_on
+    (page_of-greatest lows b q there.1 (omega arith)).1 in
     omega arith

@@ -70,11 +70,13 @@ commit_db sc n v lows t h held at k =
     let same : v.me.lows ≡ lows = h.mine.newest (h.mine.busy t at) in
     let front = (placed_front lows v.me.pages (rest_of v) h.placed).0 in
     let after : get (db (committed t v)) k ≡ or_else (found (installed lows x.rows v.me.pages) k) (found (rest_of v) k) =
-    ap (λ xs. get (laid_leaves xs) k) (committed_pages t v) ∙ get-leaves (installed v.me.lows x.rows v.me.pages ++ rest_of v) k ∙ found-append (installed v.me.lows x.rows v.me.pages) (rest_of v) k
+    ap (λ xs. get (laid_leaves xs) k) (committed_pages t v) ∙ get-leaves (installed v.me.lows x.rows v.me.pages ++ rest_of v) k
+    ∙ found-append (installed v.me.lows x.rows v.me.pages) (rest_of v) k
     ∙ ap (λ l. or_else (found (installed l x.rows v.me.pages) k) (found (rest_of v) k)) same in
     let before : get (db v) k ≡ or_else (found v.me.pages k) (found (rest_of v) k) = get-leaves (whole v) k ∙ found-append v.me.pages (rest_of v) k in
     after ∙ by_row x.rows k (get_row x.rows k) (found (installed lows x.rows v.me.pages) k) (found v.me.pages k) (found (rest_of v) k) refl
-    (λ w g. installed_some lows x.rows v.me.pages k w g front (h.mine.kept (page_of lows k) t (inl held) (exclusive_holds v.me.locks (page_of lows k) t (h.mine.private t k at (ap is_some g)))))
+    (λ w g. installed_some lows x.rows v.me.pages k w g front (h.mine.kept (page_of lows k) t (inl held)
+    (exclusive_holds v.me.locks (page_of lows k) t (h.mine.private t k at (ap is_some g)))))
     (installed_none lows x.rows v.me.pages k)
     ∙ ap (or_else (get_row x.rows k)) (sym before)
 
@@ -102,9 +104,11 @@ commit_serial sc n v start lows t s runs =
     let regs : (alone (db v) program x.done).regs ≡ x.regs = run.regs ∙ ap (λ (y : Lone). y.regs) m.run in
     let pc : (alone (db v) program x.done).pc ≡ x.pc = run.pc ∙ ap (λ (y : Lone). y.pc) m.run in
     let last : (alone (db v) program (suc x.done)).map ≡ laid x.rows (db v) =
-    alone_commit (db v) program runs.instr (alone (db v) program x.done) run.over (ap (slice_get program) pc ∙ runs.next) (ap (effect_of runs.instr) regs ∙ runs.does)
+    alone_commit (db v) program runs.instr (alone (db v) program x.done) run.over (ap (slice_get program) pc ∙ runs.next)
+    (ap (effect_of runs.instr) regs ∙ runs.does)
     ∙ run.map ∙ ap (λ r. laid r (db v)) rows in
-    let both : db (committed t v) ≡ laid x.rows (db v) = same_map nat_cmp_total nat_cmp-IsAntisymmetric _ _ (λ k. commit_db sc n v lows t s.kept s.held at k ∙ sym (get-laid x.rows (db v) k)) in
+    let both : db (committed t v) ≡ laid x.rows (db v) = same_map nat_cmp_total nat_cmp-IsAntisymmetric _ _
+    (λ k. commit_db sc n v lows t s.kept s.held at k ∙ sym (get-laid x.rows (db v) k)) in
     both ∙ sym last ∙ ap (λ j. (alone (db v) program j).map) (sym (add-one x.done)) ∙ ap (λ d. (alone d program (x.done + 1)).map) s.is_serial
     ∙ sym (serial-push sc start v.commits (record { txn = t; done = x.done + 1 }))
 
@@ -116,7 +120,8 @@ commit_follows : (sc : Scenario) (n : Node) (v : View) (lows : List ℕ) (t u : 
 commit_follows sc n v lows t u locks more program x h held at clash grow f =
     let agree : Agree (db v) (db (committed t v)) f.keys = record {
       each = λ k g.
-          let none : get_row (txn_at v t).rows k ≡ None = none_else (get_row (txn_at v t).rows k) (λ is. clash (page_of lows k) (h.mine.private t k at is) (f.covered k g)) in
+          let none : get_row (txn_at v t).rows k ≡ None = none_else (get_row (txn_at v t).rows k)
+          (λ is. clash (page_of lows k) (h.mine.private t k at is) (f.covered k g)) in
           commit_db sc n v lows t h held at k ∙ ap (λ o. or_else o (get (db v) k)) none;
     } in
     let on : (lone (db v) program x.done).over ≡ false = ap (λ (z : Lone). z.over) f.run in
@@ -151,7 +156,8 @@ committed_regs sc n v start lows t s runs =
     let regs : (alone (db v) program x.done).regs ≡ x.regs = run.regs ∙ ap (λ (y : Lone). y.regs) f.run in
     let pc : (alone (db v) program x.done).pc ≡ x.pc = run.pc ∙ ap (λ (y : Lone). y.pc) f.run in
     sym (ap (λ d. (alone d program (x.done + 1)).regs) (sym s.is_serial) ∙ ap (λ j. (alone (db v) program j).regs) (add-one x.done)
-    ∙ alone_last (db v) program runs.instr (alone (db v) program x.done) run.over (ap (slice_get program) pc ∙ runs.next) (ap (effect_of runs.instr) regs ∙ runs.does)
+    ∙ alone_last (db v) program runs.instr (alone (db v) program x.done) run.over (ap (slice_get program) pc ∙ runs.next)
+    (ap (effect_of runs.instr) regs ∙ runs.does)
     ∙ regs)
 
 commit_registers : (sc : Scenario) (n : Node) (v : View) (start : Map) (lows : List ℕ) (t : ℕ) → Serially sc n v start lows → Runs sc n t Commits v
@@ -176,17 +182,20 @@ committed_serial sc n v start lows t s runs k =
     let w = committed t v in
     let y : Txn = record (txn_at v t) { status = Committed; rows = []; done = (txn_at v t).done + 1 } in
     let set : w.txns ≡ slice_set v.txns t y = committed_txns t v in
-    let far_at : (u : ℕ) (m : Node) → IsAt w u m → u ≡ t → ⊥ = λ u m a same. false≢true (subst (λ (x : Txn). is_active x.status ≡ true) (ap (txn_at w) same ∙ at_self v w t y set at.0) a.0) in
+    let far_at : (u : ℕ) (m : Node) → IsAt w u m → u ≡ t → ⊥ = λ u m a same. false≢true
+    (subst (λ (x : Txn). is_active x.status ≡ true) (ap (txn_at w) same ∙ at_self v w t y set at.0) a.0) in
     record {
       kept = k;
       held = s.held;
       mine = λ u a. let far = far_at u n a in let now = at_other v w t u y set far in
           subst (Follows (program_of sc u) (db w) lows w.me.locks u) (sym now)
-          (commit_follows sc n v lows t u v.me.locks w.me.locks (program_of sc u) (txn_at v u) s.kept s.held at (λ p b c. far (sym (s.kept.mine.apart p t u b c)))
+          (commit_follows sc n v lows t u v.me.locks w.me.locks (program_of sc u) (txn_at v u) s.kept s.held at
+          (λ p b c. far (sym (s.kept.mine.apart p t u b c)))
           (λ p h. ap (λ xs. holds xs p u) (committed_locks t v) ∙ holds-drop v.me.locks p t u far ∙ h) (s.mine u (subst (λ x. Stands x n) now a)));
       theirs = λ u a. let far = far_at u (other n) a in let now = at_other v w t u y set far in
           subst (Follows (program_of sc u) (db w) lows w.them.locks u) (sym now)
-          (commit_follows sc n v lows t u v.them.locks w.them.locks (program_of sc u) (txn_at v u) s.kept s.held at (λ p b c. apart_nodes sc n v lows p t u s.kept s.held (exclusive_holds v.me.locks p t b) c)
+          (commit_follows sc n v lows t u v.them.locks w.them.locks (program_of sc u) (txn_at v u) s.kept s.held at
+          (λ p b c. apart_nodes sc n v lows p t u s.kept s.held (exclusive_holds v.me.locks p t b) c)
           (λ p h. ap (λ (x : NodeState). holds x.locks p u) (committed_them t v) ∙ h) (s.theirs u (subst (λ x. Stands x (other n)) now a)));
       is_serial = commit_serial sc n v start lows t s runs ∙ ap (serial sc start) (sym (committed_list t v));
       registers = commit_registers sc n v start lows t s runs;

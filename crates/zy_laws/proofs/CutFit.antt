@@ -41,7 +41,8 @@ one_less true b h = subst (λ c. 1 ≤ one_if c) (sym (h refl)) (omega arith)
 one_less false b h = omega arith
 
 -- fewer new rows where each new one was new before
-need_less : (lows more : List ℕ) (p q : ℕ) (held rest rows : List Row) → ((k : ℕ) → is_new_on more q rest k ≡ true → is_new_on lows p held k ≡ true) → need more q rest rows ≤ need lows p held rows
+need_less : (lows more : List ℕ) (p q : ℕ) (held rest rows : List Row) → ((k : ℕ) → is_new_on more q rest k ≡ true → is_new_on lows p held k ≡ true)
+    → need more q rest rows ≤ need lows p held rows
 need_less lows more p q held rest [] h = omega arith
 need_less lows more p q held rest (r ∷ rows) h =
     let a = one_less (is_new_on more q rest r.key) (is_new_on lows p held r.key) (h r.key) in
@@ -60,7 +61,8 @@ new_on lows p k held on off = and_from _ _ (eq-eqb _ _ on) (ap not off)
 new_parts : (lows : List ℕ) (p k : ℕ) (held : List Row) → is_new_on lows p held k ≡ true → (page_of lows k ≡ p) × (is_some (get_row held k) ≡ false)
 new_parts lows p k held h = let a = and_parts (page_of lows k == p) (not (is_some (get_row held k))) h in (eqb-true _ _ a.0, not-true _ a.1)
 
-cut_side : (more : List ℕ) (b k p : ℕ) → (Contains (0 ∷ more) b → ⊥) → page_of (0 ∷ more) b ≡ p → page_of ((0 ∷ more) ++ b ∷ []) k ≡ p → (p ≡ length (0 ∷ more) → ⊥) → (page_of (0 ∷ more) k ≡ p) × (k < b)
+cut_side : (more : List ℕ) (b k p : ℕ) → (Contains (0 ∷ more) b → ⊥) → page_of (0 ∷ more) b ≡ p → page_of ((0 ∷ more) ++ b ∷ []) k ≡ p
+    → (p ≡ length (0 ∷ more) → ⊥) → (page_of (0 ∷ more) k ≡ p) × (k < b)
 cut_side more b k p new on here old =
     elim (page_of-cut more b k) [
       | inl stays ↦
@@ -77,7 +79,8 @@ split_below more b p rows private new on old =
     let c = cut_side more b k p new on a.0 old in
     new_on (0 ∷ more) p k rows c.0 (sym (held_below b k rows c.1) ∙ a.1))
 
-split_other : (more : List ℕ) (b p : ℕ) (rows private : List Row) → (p ≡ length (0 ∷ more) → ⊥) → need ((0 ∷ more) ++ b ∷ []) p rows private ≤ need (0 ∷ more) p rows private
+split_other : (more : List ℕ) (b p : ℕ) (rows private : List Row) → (p ≡ length (0 ∷ more) → ⊥)
+    → need ((0 ∷ more) ++ b ∷ []) p rows private ≤ need (0 ∷ more) p rows private
 split_other more b p rows private old =
     need_less (0 ∷ more) ((0 ∷ more) ++ b ∷ []) p p rows rows private (λ k h.
     let a = new_parts ((0 ∷ more) ++ b ∷ []) p k rows h in
@@ -87,7 +90,8 @@ split_other more b p rows private old =
 not_yet : (more : List ℕ) (k : ℕ) → page_of (0 ∷ more) k ≡ length (0 ∷ more) → ⊥
 not_yet more k e = let within = page_of-within (0 ∷ more) k (omega arith) in omega arith
 
-split_new : (more : List ℕ) (b p : ℕ) (rows private : List Row) → page_of (0 ∷ more) b ≡ p → need ((0 ∷ more) ++ b ∷ []) (length (0 ∷ more)) (rows_from b rows) private ≤ need (0 ∷ more) p rows private
+split_new : (more : List ℕ) (b p : ℕ) (rows private : List Row) → page_of (0 ∷ more) b ≡ p
+    → need ((0 ∷ more) ++ b ∷ []) (length (0 ∷ more)) (rows_from b rows) private ≤ need (0 ∷ more) p rows private
 split_new more b p rows private on =
     need_less (0 ∷ more) ((0 ∷ more) ++ b ∷ []) p (length (0 ∷ more)) rows (rows_from b rows) private (λ k h.
     let a = new_parts ((0 ∷ more) ++ b ∷ []) (length (0 ∷ more)) k (rows_from b rows) h in
@@ -105,8 +109,10 @@ split_new more b p rows private on =
 abbrev OldRoom : ℕ → List ℕ → List Row → ℕ → List Row → Type 0
 OldRoom cap more private q rows = (q ≡ length (0 ∷ more) → ⊥) × Room cap (0 ∷ more) private q rows
 
-cut_room : (cap : ℕ) (more : List ℕ) (private : List Row) (b p : ℕ) (xs : List Leaf) → (Contains (0 ∷ more) b → ⊥) → page_of (0 ∷ more) b ≡ p → owns xs p ≡ true → Each (OldRoom cap more private) xs
-    → Each (Room cap ((0 ∷ more) ++ b ∷ []) private) (with_page (record { number = length (0 ∷ more); low = b; rows = rows_from b (rows_of xs p) }) (lowered p b xs))
+cut_room : (cap : ℕ) (more : List ℕ) (private : List Row) (b p : ℕ) (xs : List Leaf) → (Contains (0 ∷ more) b → ⊥) → page_of (0 ∷ more) b ≡ p → owns xs p ≡ true
+    → Each (OldRoom cap more private) xs
+    → Each (Room cap ((0 ∷ more) ++ b ∷ []) private) (with_page (record { number = length (0 ∷ more); low = b; rows = rows_from b (rows_of xs p) })
+    (lowered p b xs))
 cut_room cap more private b p xs new on own h =
     let lows = (0 ∷ more) ++ b ∷ [] in
     each_with_page (Room cap lows private) _ (lowered p b xs)
@@ -114,10 +120,13 @@ cut_room cap more private b p xs new on own h =
     let c = from_length b (rows_of xs p) in let d = split_new more b p (rows_of xs p) private on in omega (arith, a, c, d))
     (each_lowered (OldRoom cap more private) (Room cap lows private) p b xs
     (λ q rows far r. let a = r.1 in let d = split_other more b q rows private r.0 in omega (arith, a, d))
-    (λ q rows same r. let a = r.1 in let c = below_length b rows in let d = split_below more b q rows private new (on ∙ sym same) r.0 in omega (arith, a, c, d)) h)
+    (λ q rows same r. let a = r.1 in let c = below_length b rows in let d = split_below more b q rows private new (on ∙ sym same) r.0 in
+    omega (arith, a, c, d)) h)
 
-pub cut_fit : (sc : Scenario) (n : Node) (v : View) (lows : List ℕ) (t k b : ℕ) → Kept sc n v lows → Fit sc n v lows → IsAt v t n → Free t k Exclusive v → may_split v.me.mode ≡ true
-    → page_of v.me.lows b ≡ page_of v.me.lows k → (Contains v.me.lows b → ⊥) → Fit sc n (cut t (page_of v.me.lows k) b (has_lock t k Exclusive v)) (lows ++ b ∷ [])
+pub cut_fit : (sc : Scenario) (n : Node) (v : View) (lows : List ℕ) (t k b : ℕ) → Kept sc n v lows → Fit sc n v lows → IsAt v t n → Free t k Exclusive v
+    → may_split v.me.mode ≡ true
+    → page_of v.me.lows b ≡ page_of v.me.lows k → (Contains v.me.lows b → ⊥)
+    → Fit sc n (cut t (page_of v.me.lows k) b (has_lock t k Exclusive v)) (lows ++ b ∷ [])
 unfolding cut locked txn_at
 cut_fit sc n v lows t k b h f at free normal on new =
     let p = page_of v.me.lows k in
@@ -130,13 +139,17 @@ cut_fit sc n v lows t k b h f at free normal on new =
     let fresh = fresh_number v h.inv.owned idle.1 in
     let a = each_front (Sized sc.cap) v.me.pages (rest_of v) f.sized in
     let here : Sized sc.cap p (rows_of v.me.pages p) = each_at (Sized sc.cap) p v.me.pages own a.0 in
-    let top : Sized sc.cap q (rows_from b (rows_of v.me.pages p)) = ((let c = from_length b (rows_of v.me.pages p) in let d = here.0 in omega (arith, c, d)), rises_from 0 b (rows_of v.me.pages p) here.1) in
+    let top : Sized sc.cap q (rows_from b (rows_of v.me.pages p)) = (
+      (let c = from_length b (rows_of v.me.pages p) in let d = here.0 in omega (arith, c, d)),
+      rises_from 0 b (rows_of v.me.pages p) here.1,
+    ) in
     let rest_low : Each (Sized sc.cap) (lowered p b v.me.pages) = each_lowered (Sized sc.cap) (Sized sc.cap) p b v.me.pages (λ z rows far s. s)
     (λ z rows same s. ((let c = below_length b rows in let d = s.0 in omega (arith, c, d)), rises_below 0 b rows s.1)) a.0 in
     let far : (z : ℕ) → owns v.me.pages z ≡ true → z ≡ q → ⊥ = λ z here same. false≢true (sym fresh ∙ subst (λ x. owns v.me.pages x ≡ true) same here) in
     let leaf : ℕ → Leaf = λ m. record { number = m; low = b; rows = rows_from b (rows_of v.me.pages p) } in
     record {
-      sized = each_append (Sized sc.cap) (with_page (leaf q) (lowered p b v.me.pages)) (rest_of v) (each_with_page (Sized sc.cap) (leaf q) (lowered p b v.me.pages) top rest_low) a.1;
+      sized = each_append (Sized sc.cap) (with_page (leaf q) (lowered p b v.me.pages)) (rest_of v)
+          (each_with_page (Sized sc.cap) (leaf q) (lowered p b v.me.pages) top rest_low) a.1;
       rising = f.rising;
       mine = λ u c. subst (λ l. Each (Room sc.cap (l ++ b ∷ []) (txn_at v u).rows) (with_page (leaf q) (lowered p b v.me.pages))) (sym h.first.1)
           (subst (λ l. Each (Room sc.cap ((0 ∷ more) ++ b ∷ []) (txn_at v u).rows) (with_page (leaf (length l)) (lowered p b v.me.pages))) (sym begins)

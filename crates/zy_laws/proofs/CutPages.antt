@@ -15,11 +15,13 @@ use Rattle.zy_laws.proofs.Installing.{Placed, OnPage, placed_append}
 
 some_below : (b : ℕ) (rows : List Row) (k : ℕ) → is_some (get_row (rows_below b rows) k) ≡ true → (k < b) × (is_some (get_row rows k) ≡ true)
 some_below b rows k h =
-    cond_both (nat_lt k b) (get_row rows k) None (λ o. is_some o ≡ true → (k < b) × (is_some (get_row rows k) ≡ true)) (λ e g. (ltb-true _ _ e, g)) (λ _ g. absurd (false≢true g)) (ap is_some (sym (get_row-rows_below b rows k)) ∙ h)
+    cond_both (nat_lt k b) (get_row rows k) None (λ o. is_some o ≡ true → (k < b) × (is_some (get_row rows k) ≡ true)) (λ e g. (ltb-true _ _ e, g))
+    (λ _ g. absurd (false≢true g)) (ap is_some (sym (get_row-rows_below b rows k)) ∙ h)
 
 some_from : (b : ℕ) (rows : List Row) (k : ℕ) → is_some (get_row (rows_from b rows) k) ≡ true → (b ≤ k) × (is_some (get_row rows k) ≡ true)
 some_from b rows k h =
-    cond_both (nat_lt k b) None (get_row rows k) (λ o. is_some o ≡ true → (b ≤ k) × (is_some (get_row rows k) ≡ true)) (λ _ g. absurd (false≢true g)) (λ e g. (ltb-false _ _ e, g)) (ap is_some (sym (get_row-rows_from b rows k)) ∙ h)
+    cond_both (nat_lt k b) None (get_row rows k) (λ o. is_some o ≡ true → (b ≤ k) × (is_some (get_row rows k) ≡ true)) (λ _ g. absurd (false≢true g))
+    (λ e g. (ltb-false _ _ e, g)) (ap is_some (sym (get_row-rows_from b rows k)) ∙ h)
 
 -- ---- which pages there are
 
@@ -49,7 +51,8 @@ get_last : (lows : List ℕ) (b : ℕ) → slice_get (lows ++ b ∷ []) (length 
 get_last [] b = refl
 get_last (x ∷ lows) b = get_last lows b
 
-on_lowered : (more : List ℕ) (p b : ℕ) (x : Leaf) → page_of (0 ∷ more) b ≡ p → OnPage (0 ∷ more) x → OnPage ((0 ∷ more) ++ b ∷ []) (record x { rows = if x.number == p then rows_below b x.rows else x.rows })
+on_lowered : (more : List ℕ) (p b : ℕ) (x : Leaf) → page_of (0 ∷ more) b ≡ p → OnPage (0 ∷ more) x
+    → OnPage ((0 ∷ more) ++ b ∷ []) (record x { rows = if x.number == p then rows_below b x.rows else x.rows })
 on_lowered more p b x on h = record {
   low = get_more (0 ∷ more) b x.number x.low h.low;
   each = λ k. cond_both (x.number == p) (rows_below b x.rows) x.rows (λ rows. is_some (get_row rows k) ≡ true → page_of ((0 ∷ more) ++ b ∷ []) k ≡ x.number)
@@ -62,17 +65,29 @@ placed_lowered more p b [] on h = tt
 placed_lowered more p b (x ∷ xs) on h = (on_lowered more p b x on h.0, placed_lowered more p b xs on h.1)
 
 -- the pages that are elsewhere
-placed_elsewhere : (more : List ℕ) (p b : ℕ) (xs : List Leaf) → page_of (0 ∷ more) b ≡ p → owns xs p ≡ false → Placed (0 ∷ more) xs → Placed ((0 ∷ more) ++ b ∷ []) xs
+placed_elsewhere : (more : List ℕ) (p b : ℕ) (xs : List Leaf) → page_of (0 ∷ more) b ≡ p → owns xs p ≡ false → Placed (0 ∷ more) xs
+    → Placed ((0 ∷ more) ++ b ∷ []) xs
 placed_elsewhere more p b [] on off h = tt
 placed_elsewhere more p b (x ∷ xs) on off h =
-    let parts = or_parts (x.number == p) (owns xs p) off in
-    (record { low = get_more (0 ∷ more) b x.number x.low h.0.low; each = λ k s. let here = h.0.each k s in page_of-others more b k (λ same. eqb-false _ _ parts.0 (sym here ∙ same ∙ on)) ∙ here }, placed_elsewhere more p b xs on parts.1 h.1)
+    let parts = or_parts (x.number == p) (owns xs p) off in (
+      record {
+        low = get_more (0 ∷ more) b x.number x.low h.0.low;
+        each = λ k s. let here = h.0.each k s in
+            page_of-others more b k (λ same. eqb-false _ _ parts.0 (sym here ∙ same ∙ on)) ∙ here;
+      },
+      placed_elsewhere more p b xs on parts.1 h.1,
+    )
 
-pub placed_cut : (more : List ℕ) (p b : ℕ) (xs ys : List Leaf) → page_of (0 ∷ more) b ≡ p → (Contains (0 ∷ more) b → ⊥) → owns ys p ≡ false → Placed (0 ∷ more) xs → Placed (0 ∷ more) ys
+pub placed_cut : (more : List ℕ) (p b : ℕ) (xs ys : List Leaf) → page_of (0 ∷ more) b ≡ p → (Contains (0 ∷ more) b → ⊥) → owns ys p ≡ false
+    → Placed (0 ∷ more) xs → Placed (0 ∷ more) ys
     → Placed ((0 ∷ more) ++ b ∷ []) (with_page (record { number = length (0 ∷ more); low = b; rows = rows_from b (rows_of xs p) }) (lowered p b xs) ++ ys)
 placed_cut more p b xs ys on new off hx hy =
     placed_append ((0 ∷ more) ++ b ∷ []) _ ys
     (placed-with_page ((0 ∷ more) ++ b ∷ []) _ (lowered p b xs)
-    (record { low = get_last (0 ∷ more) b; each = λ k s. let parts = some_from b (rows_of xs p) k s in page_of-cut_above more b k new (on ∙ sym (leaf_placed (0 ∷ more) p xs k hx parts.1)) parts.0 })
+    (record {
+      low = get_last (0 ∷ more) b;
+      each = λ k s. let parts = some_from b (rows_of xs p) k s in
+          page_of-cut_above more b k new (on ∙ sym (leaf_placed (0 ∷ more) p xs k hx parts.1)) parts.0;
+    })
     (placed_lowered more p b xs on hx))
     (placed_elsewhere more p b ys on off hy)

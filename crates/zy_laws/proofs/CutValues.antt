@@ -40,7 +40,8 @@ found_some leaf (x ∷ xs) k h =
     (λ _. ap (or_else (get_row leaf.rows k)) h ∙ or_else_none (get_row leaf.rows k))
     (λ _. ap (λ o. or_else o (found (with_page leaf xs) k)) parts.0 ∙ found_some leaf xs k parts.1)
 
-pub found-with_page : (leaf : Leaf) (xs : List Leaf) (k : ℕ) → (get_row leaf.rows k ≡ None) ⊎ (found xs k ≡ None) → found (with_page leaf xs) k ≡ or_else (get_row leaf.rows k) (found xs k)
+pub found-with_page : (leaf : Leaf) (xs : List Leaf) (k : ℕ) → (get_row leaf.rows k ≡ None) ⊎ (found xs k ≡ None)
+    → found (with_page leaf xs) k ≡ or_else (get_row leaf.rows k) (found xs k)
 found-with_page leaf xs k (inl h) = found_none leaf xs k h ∙ ap (λ o. or_else o (found xs k)) (sym h)
 found-with_page leaf xs k (inr h) = found_some leaf xs k h ∙ sym (or_else_none (get_row leaf.rows k)) ∙ ap (or_else (get_row leaf.rows k)) (sym h)
 
@@ -93,20 +94,25 @@ cut_apart lows p b xs k h (inl here) (inr above) = inr (lowered_above lows p b x
 
 cut_key : (lows : List ℕ) (v : View) (p b k : ℕ) → Placed lows v.me.pages → Placed lows (rest_of v) → Owned v → owns v.me.pages p ≡ true
     → (page_of lows k ≡ p) ⊎ (page_of lows k ≡ p → ⊥) → (nat_lt k b ≡ true) ⊎ (nat_lt k b ≡ false)
-    → or_else (get_row (rows_from b (rows_of v.me.pages p)) k) (or_else (found (lowered p b v.me.pages) k) (found (rest_of v) k)) ≡ or_else (found v.me.pages k) (found (rest_of v) k)
+    → or_else (get_row (rows_from b (rows_of v.me.pages p)) k) (or_else (found (lowered p b v.me.pages) k) (found (rest_of v) k))
+    ≡ or_else (found v.me.pages k) (found (rest_of v) k)
 cut_key lows v p b k mine theirs o own (inr far) side =
-    let none : get_row (rows_from b (rows_of v.me.pages p)) k ≡ None = get_row-rows_from b (rows_of v.me.pages p) k ∙ if_both (nat_lt k b) _ (rows_of-far lows p v.me.pages k mine far) in
+    let none : get_row (rows_from b (rows_of v.me.pages p)) k ≡ None = get_row-rows_from b (rows_of v.me.pages p) k
+    ∙ if_both (nat_lt k b) _ (rows_of-far lows p v.me.pages k mine far) in
     rw (none, lowered_far lows p b v.me.pages k mine far) refl
 cut_key lows v p b k mine theirs o own (inl here) (inl below) =
-    let none : get_row (rows_from b (rows_of v.me.pages p)) k ≡ None = get_row-rows_from b (rows_of v.me.pages p) k ∙ ap (λ t. if t then None else get_row (rows_of v.me.pages p) k) below in
+    let none : get_row (rows_from b (rows_of v.me.pages p)) k ≡ None = get_row-rows_from b (rows_of v.me.pages p) k
+    ∙ ap (λ t. if t then None else get_row (rows_of v.me.pages p) k) below in
     rw (none, lowered_below p b v.me.pages k below) refl
 cut_key lows v p b k mine theirs o own (inl here) (inr above) =
-    let moved : get_row (rows_from b (rows_of v.me.pages p)) k ≡ get_row (rows_of v.me.pages p) k = get_row-rows_from b (rows_of v.me.pages p) k ∙ ap (λ t. if t then None else get_row (rows_of v.me.pages p) k) above in
+    let moved : get_row (rows_from b (rows_of v.me.pages p)) k ≡ get_row (rows_of v.me.pages p) k =
+    get_row-rows_from b (rows_of v.me.pages p) k ∙ ap (λ t. if t then None else get_row (rows_of v.me.pages p) k) above in
     let gone = lowered_above lows p b v.me.pages k mine here above in
     let none : found (rest_of v) k ≡ None = not_found lows (rest_of v) k theirs (rw here (rest_lacks v p o own)) in
     let once = o.once p in
     let most : times p v.me.pages ≤ 1 = grind (arith, nat_tests, once) in
-    let all : found v.me.pages k ≡ get_row (rows_of v.me.pages p) k = found_once lows v.me.pages k mine (rw here most) ∙ ap (λ q. get_row (rows_of v.me.pages q) k) here in
+    let all : found v.me.pages k ≡ get_row (rows_of v.me.pages p) k = found_once lows v.me.pages k mine (rw here most)
+    ∙ ap (λ q. get_row (rows_of v.me.pages q) k) here in
     rw (moved, gone, none, all) refl
 
 pub cut_db : (lows : List ℕ) (v : View) (t p b : ℕ) → Placed lows (whole v) → Owned v → owns v.me.pages p ≡ true → db (cut t p b v) ≡ db v
@@ -116,9 +122,12 @@ cut_db lows v t p b placed o own =
     let parts = placed_front lows v.me.pages (rest_of v) placed in
     let rows = rows_of v.me.pages p in
     let leaf : Leaf = record { number = length v.me.lows; low = b; rows = rows_from b rows } in
-    let put = found-with_page leaf (lowered p b v.me.pages) k (cut_apart lows p b v.me.pages k parts.0 (cases_eq (page_of lows k) p) (cases_Bool (nat_lt k b))) in
-    let after : found (with_page leaf (lowered p b v.me.pages) ++ rest_of v) k ≡ or_else (get_row (rows_from b rows) k) (or_else (found (lowered p b v.me.pages) k) (found (rest_of v) k)) =
-    found-append (with_page leaf (lowered p b v.me.pages)) (rest_of v) k ∙ ap (λ o. or_else o (found (rest_of v) k)) put ∙ or_else_assoc (get_row (rows_from b rows) k) (found (lowered p b v.me.pages) k) (found (rest_of v) k) in
+    let put =
+    found-with_page leaf (lowered p b v.me.pages) k (cut_apart lows p b v.me.pages k parts.0 (cases_eq (page_of lows k) p) (cases_Bool (nat_lt k b))) in
+    let after : found (with_page leaf (lowered p b v.me.pages) ++ rest_of v) k
+    ≡ or_else (get_row (rows_from b rows) k) (or_else (found (lowered p b v.me.pages) k) (found (rest_of v) k)) =
+    found-append (with_page leaf (lowered p b v.me.pages)) (rest_of v) k ∙ ap (λ o. or_else o (found (rest_of v) k)) put
+    ∙ or_else_assoc (get_row (rows_from b rows) k) (found (lowered p b v.me.pages) k) (found (rest_of v) k) in
     let before : found (whole v) k ≡ or_else (found v.me.pages k) (found (rest_of v) k) = found-append v.me.pages (rest_of v) k in
     get-leaves (with_page leaf (lowered p b v.me.pages) ++ rest_of v) k ∙ after
     ∙ cut_key lows v p b k parts.0 parts.1 o own (cases_eq (page_of lows k) p) (cases_Bool (nat_lt k b)) ∙ sym before ∙ sym (get-leaves (whole v) k))

@@ -41,17 +41,23 @@ each_installed P Q lows rs (x ∷ xs) f h = (f x.number x.rows h.0, each_install
 -- with one page more, or without one, and with the rows of one page cut
 pub each_with_page : (P : ℕ → List Row → Type 0) (leaf : Leaf) (xs : List Leaf) → P leaf.number leaf.rows → Each P xs → Each P (with_page leaf xs)
 each_with_page P leaf [] here h = (here, tt)
-each_with_page P leaf (x ∷ xs) here h = cond_both (nat_lt leaf.number x.number) (leaf ∷ x ∷ xs) (x ∷ with_page leaf xs) (Each P) (λ _. (here, h)) (λ _. (h.0, each_with_page P leaf xs here h.1))
+each_with_page P leaf (x ∷ xs) here h = cond_both (nat_lt leaf.number x.number) (leaf ∷ x ∷ xs) (x ∷ with_page leaf xs) (Each P) (λ _. (here, h))
+    (λ _. (h.0, each_with_page P leaf xs here h.1))
 
 pub each_without : (P : ℕ → List Row → Type 0) (p : ℕ) (xs : List Leaf) → Each P xs → Each P (without p xs)
 each_without P p [] h = tt
-each_without P p (x ∷ xs) h = cond_both (x.number == p) (without p xs) (x ∷ without p xs) (Each P) (λ _. each_without P p xs h.1) (λ _. (h.0, each_without P p xs h.1))
+each_without P p (x ∷ xs) h = cond_both (x.number == p) (without p xs) (x ∷ without p xs) (Each P) (λ _. each_without P p xs h.1)
+    (λ _. (h.0, each_without P p xs h.1))
 
-pub each_lowered : (P Q : ℕ → List Row → Type 0) (p b : ℕ) (xs : List Leaf) → ((q : ℕ) (rows : List Row) → (q ≡ p → ⊥) → P q rows → Q q rows) → ((q : ℕ) (rows : List Row) → q ≡ p → P q rows → Q q (rows_below b rows)) → Each P xs
+pub each_lowered : (P Q : ℕ → List Row → Type 0) (p b : ℕ) (xs : List Leaf) → ((q : ℕ) (rows : List Row) → (q ≡ p → ⊥) → P q rows → Q q rows)
+    → ((q : ℕ) (rows : List Row) → q ≡ p → P q rows → Q q (rows_below b rows)) → Each P xs
     → Each Q (lowered p b xs)
 each_lowered P Q p b [] f g h = tt
-each_lowered P Q p b (x ∷ xs) f g h =
-    (cond_both (x.number == p) (rows_below b x.rows) x.rows (λ rows. Q x.number rows) (λ e. g x.number x.rows (eqb-true _ _ e) h.0) (λ e. f x.number x.rows (eqb-false _ _ e) h.0), each_lowered P Q p b xs f g h.1)
+each_lowered P Q p b (x ∷ xs) f g h = (
+  cond_both (x.number == p) (rows_below b x.rows) x.rows (λ rows. Q x.number rows) (λ e. g x.number x.rows (eqb-true _ _ e) h.0)
+      (λ e. f x.number x.rows (eqb-false _ _ e) h.0),
+  each_lowered P Q p b xs f g h.1,
+)
 
 -- the page of a number
 pub each_at : (P : ℕ → List Row → Type 0) (p : ℕ) (xs : List Leaf) → owns xs p ≡ true → Each P xs → P p (rows_of xs p)
@@ -63,7 +69,10 @@ each_at P p (x ∷ xs) own h =
 
 pub each_in : (xs : List Leaf) → Each (λ p rows. owns xs p ≡ true) xs
 each_in [] = tt
-each_in (x ∷ xs) = (or_left (x.number == x.number) (owns xs x.number) (eq-eqb x.number x.number refl), each_map (λ p rows. owns xs p ≡ true) (λ p rows. owns (x ∷ xs) p ≡ true) xs (λ p rows h. or_right _ _ h) (each_in xs))
+each_in (x ∷ xs) = (
+  or_left (x.number == x.number) (owns xs x.number) (eq-eqb x.number x.number refl),
+  each_map (λ p rows. owns xs p ≡ true) (λ p rows. owns (x ∷ xs) p ≡ true) xs (λ p rows h. or_right _ _ h) (each_in xs),
+)
 
 -- where no number is twice, a page's rows are those of its number
 pub each_own : (xs : List Leaf) → ((p : ℕ) → times p xs ≤ 1) → Each (λ p rows. rows ≡ rows_of xs p) xs
@@ -77,5 +86,6 @@ each_own (x ∷ xs) once = (
       let far : (x.number == p) ≡ false = ne_eqb _ _ (λ e. let k : (x.number == p) ≡ true = eq-eqb _ _ e in absurd (grind (arith, nat_tests, one, few, k))) in
       h.1 ∙ sym (rows_of-past x xs p far))
       (each_both (λ p rows. owns xs p ≡ true) (λ p rows. rows ≡ rows_of xs p) xs (each_in xs)
-      (each_own xs (λ p. let few = once p in cond_both (x.number == p) 1 0 (λ m. m + times p xs ≤ 1 → times p xs ≤ 1) (λ _ h. omega arith) (λ _ h. omega arith) few))),
+      (each_own xs (λ p. let few = once p in cond_both (x.number == p) 1 0 (λ m. m + times p xs ≤ 1 → times p xs ≤ 1) (λ _ h. omega arith)
+      (λ _ h. omega arith) few))),
 )

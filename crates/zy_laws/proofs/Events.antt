@@ -1,4 +1,4 @@
--- What a row did: one case for each line of the table that changes something, with what its conditions say.
+-- What a step did: one case for each line of the table that changes something, with what its conditions say.
 use Rattle.std.proofs.Common.{◌≡◌, ℕ, ◌+◌, ◌%◌, ◌^◌, List, [], ◌∷◌, ◌++◌, length, true, false, refl, sym, ap, ◌∙◌, subst, inl, inr}
 use Rattle.std.specs.Prelude.{◌⊎◌, Bool, if◌then◌else◌, ◌==◌, ◌&&◌, nat_lt, nat_le, not, Some, None, Option, slice_get, is_some}
 use Rattle.std.proofs.lemmas.Bool.{cond_both, false≢true, not-false, not-true, cases_Bool, eq-eqb}
@@ -30,13 +30,16 @@ use Rattle.zy_table.specs.State.{State, View, Move, NodeState, Leaf, Message, Tx
 use Rattle.zy_wire.specs.Wireframe.{page_of}
 use Rattle.zy_table.specs.Numbers.{has, least}
 use Rattle.zy_table.specs.Pages.{owns, numbers}
-use Rattle.zy_table.specs.Change.{quiet, begun, aborted, did, txn_at, locked, shares, committed, cut, with_reg, txn_or, asks, leaves, turns, with_arrived, with_lows}
+use Rattle.zy_table.specs.Change.{quiet, begun, aborted, did, txn_at, locked, shares, committed, cut, with_reg, txn_or, asks, leaves, turns, with_arrived}
+use Rattle.zy_table.specs.Change.{with_lows}
 use Rattle.zy_table.specs.Client.{is_new, is_active, start_step, begin_step, begin_at, kill_step}
 use Rattle.zy_table.specs.declared.access.Access.TheVariants as access
 use Rattle.zy_table.specs.declared.effect.Effect.TheVariants as effect
 use Rattle.zy_table.specs.declared.effect.Effect.{Effect}
 use Rattle.zy_table.specs.Effects.{effect_of}
-use Rattle.zy_table.specs.Run.{boundary, same_node, program_of, abort_step, set_step, jump_step, gone_pages, commit_or_gone, commit_step, absent_step, read_step, write_step, full_step, split_step, insert_step, lock_of, is_there, has_room, access_step, page_step, key_step, value_for, first_absent, first_taken, sum_step, sum_or_waits, sum_or_asks, range_step, effect_step, instr_step, run_step}
+use Rattle.zy_table.specs.Run.{boundary, same_node, program_of, abort_step, set_step, jump_step, gone_pages, commit_or_gone, commit_step, absent_step}
+use Rattle.zy_table.specs.Run.{read_step, write_step, full_step, split_step, insert_step, lock_of, is_there, has_room, access_step, page_step, key_step}
+use Rattle.zy_table.specs.Run.{value_for, first_absent, first_taken, sum_step, sum_or_waits, sum_or_asks, range_step, effect_step, instr_step, run_step}
 use Rattle.zy_table.specs.Ranges.{range, range_pages, total}
 use Rattle.zy_table.specs.declared.access.Access.{Access}
 use Rattle.zy_table.specs.declared.access.Access.TheVariants.{Reads}
@@ -145,7 +148,7 @@ pub data Event (sc : Scenario) (n : Node) (v w : View) : Type 0 where
   Finishes : v.me.mode ≡ SDual → active_from n 0 v.txns ≡ None → w ≡ post Finish (turns SFinish v) → Event sc n v w
   Pushes : (p : ℕ) → v.me.mode ≡ SFinish → owns v.me.pages p ≡ true → w ≡ leaves p v → Event sc n v w
 
--- the newest low keys after a row: a split alone adds one
+-- the newest low keys after a step: a split alone adds one
 abbrev pub lows_after : (sc : Scenario) (n : Node) (v w : View) (lows : List ℕ) → Event sc n v w → List ℕ
 lows_after sc n v w lows (Splits t k x runs f new full normal pages e) = lows ++ boundary sc k (page k v) v.me (txn_at v t) ∷ []
 lows_after sc n v w lows e = lows
@@ -183,8 +186,9 @@ pub record Happens (sc : Scenario) (n : Node) (v : View) (m : Move) : Type 0 whe
 never : {X : Type 0} → false ≡ true → X
 never e = absurd (false≢true e)
 
--- a row that gives neither of these outcomes
-plain : (sc : Scenario) (n : Node) (v : View) (m : Move) (e : Event sc n v m.after) → is_gone m.outcome ≡ false → is_stray m.outcome ≡ false → Told e m.outcome → Happens sc n v m
+-- a step that gives neither of these outcomes
+plain : (sc : Scenario) (n : Node) (v : View) (m : Move) (e : Event sc n v m.after) → is_gone m.outcome ≡ false → is_stray m.outcome ≡ false → Told e m.outcome
+    → Happens sc n v m
 plain sc n v m e g s told = record { event = e; told = told; lost = λ h. never (sym g ∙ h); strange = λ h. never (sym s ∙ h) }
 
 rests : (sc : Scenario) (n : Node) (v : View) (o : Outcome) → is_gone o ≡ false → is_stray o ≡ false → Happens sc n v (quiet v o)
@@ -255,7 +259,15 @@ absent_happens : (sc : Scenario) (n : Node) (t k : ℕ) (e : Effect) (v : View) 
 unfolding absent_step
 absent_happens sc n t k e v r gone =
     cond_both (not (may_pull v.me.mode)) _ _ (Happens sc n v)
-    (λ s. aborts sc n t _ v r.active r.here (λ _. record { txn = t; key = k; active = r.active; here = r.here; begun = r.begun; gone = gone; cause = inl (not-true _ s) }))
+    (λ s. aborts sc n t _ v r.active r.here (λ _. record {
+      txn = t;
+      key = k;
+      active = r.active;
+      here = r.here;
+      begun = r.begun;
+      gone = gone;
+      cause = inl (not-true _ s);
+    }))
     (λ s. cond_both (has v.me.asked (page_of v.me.lows k)) _ _ (Happens sc n v)
     (λ _. rests sc n v _ refl refl)
     (λ h. plain sc n v _ (Asks (page_of v.me.lows k) gone (not-false _ s) h refl) refl refl (k, refl)))
@@ -288,7 +300,12 @@ unfolding sum_or_waits sum_step set_step shares txn_at
 sum_waits_happens sc n t r a b (Some p) v e runs rises small here = rests sc n v _ refl refl
 sum_waits_happens sc n t r a b None v e runs rises small here =
     let taken : ℕ → Bool = λ z. conflict v.me.locks z t Shared in
-    let free : FreeRange t a b v = record { rises = rises; small = small; here = here; free = λ p h. none_passes taken (range_pages v.me.lows a b) p (sym e) h } in
+    let free : FreeRange t a b v = record {
+      rises = rises;
+      small = small;
+      here = here;
+      free = λ p h. none_passes taken (range_pages v.me.lows a b) p (sym e) h;
+    } in
     plain sc n v _ (SumsUp t r a b runs free refl) refl refl tt
 
 sum_asks_happens : (sc : Scenario) (n : Node) (t : ℕ) (r : Reg) (a b : ℕ) (o : Option ℕ) (v : View) → o ≡ first_absent v.me.pages (range_pages v.me.lows a b)
@@ -310,7 +327,8 @@ range_happens sc n t r a b v runs =
     (λ small. sum_asks_happens sc n t r a b _ v refl runs rises small))
 
 -- a page that has gone has a private row
-gone_key : (x : NodeState) (rows all : List Row) → ((k : ℕ) → is_some (get_row rows k) ≡ true → is_some (get_row all k) ≡ true) → (p : ℕ) → least (gone_pages x rows) ≡ Some p
+gone_key : (x : NodeState) (rows all : List Row) → ((k : ℕ) → is_some (get_row rows k) ≡ true → is_some (get_row all k) ≡ true) → (p : ℕ)
+    → least (gone_pages x rows) ≡ Some p
     → (k : ℕ) × (is_some (get_row all k) ≡ true) × (owns x.pages (page_of x.lows k) ≡ false)
 gone_key x [] all sub p e = cc
 gone_key x (r ∷ rows) all sub p e =
@@ -393,7 +411,8 @@ kill_happens sc n t v h =
     (λ _. rests sc n v _ refl refl)
 
 -- the lines of take, where the mode table has one
-strays : (sc : Scenario) (n : Node) (m : Message) (ms : List Message) (v : View) → v.inbox ≡ m ∷ ms → mode_line m v ≡ Stray → Happens sc n v (got_step (mode_line m v) m v (rest v ms))
+strays : (sc : Scenario) (n : Node) (m : Message) (ms : List Message) (v : View) → v.inbox ≡ m ∷ ms → mode_line m v ≡ Stray
+    → Happens sc n v (got_step (mode_line m v) m v (rest v ms))
 unfolding got_step
 strays sc n m ms v f e =
     subst (λ line. Happens sc n v (got_step line m v (rest v ms))) (sym e)
@@ -408,7 +427,8 @@ wire_happens sc n lows ms v f =
       | inr h ↦ subst (λ line. Happens sc n v (got_step line (Wire lows) v (rest v ms))) (sym h.1) (plain sc n v _ (GotWire lows ms f h.0 refl) refl refl tt)
     ]
 
-ready_happens : (sc : Scenario) (n : Node) (ms : List Message) (v : View) → v.inbox ≡ Ready ∷ ms → Happens sc n v (got_step (mode_line Ready v) Ready v (rest v ms))
+ready_happens : (sc : Scenario) (n : Node) (ms : List Message) (v : View) → v.inbox ≡ Ready ∷ ms
+    → Happens sc n v (got_step (mode_line Ready v) Ready v (rest v ms))
 unfolding got_step
 ready_happens sc n ms v f =
     elim (ready_line v.me.mode (all_here (with_brought Ready v.me))) [
@@ -431,12 +451,15 @@ page_happens sc n leaf ms v f =
     elim (page_line v.me.mode (all_here (with_brought (Page leaf) v.me))) [
       | inl e ↦ strays sc n (Page leaf) ms v f e
       | inr h ↦ elim h [
-        | inl more ↦ subst (λ line. Happens sc n v (got_step line (Page leaf) v (rest v ms))) (sym more.1) (plain sc n v _ (GotPage leaf ms f more.0 refl) refl refl tt)
-        | inr last ↦ subst (λ line. Happens sc n v (got_step line (Page leaf) v (rest v ms))) (sym last.2) (plain sc n v _ (GotLast leaf ms f last.0 last.1 refl) refl refl tt)
+        | inl more ↦ subst (λ line. Happens sc n v (got_step line (Page leaf) v (rest v ms))) (sym more.1)
+            (plain sc n v _ (GotPage leaf ms f more.0 refl) refl refl tt)
+        | inr last ↦ subst (λ line. Happens sc n v (got_step line (Page leaf) v (rest v ms))) (sym last.2)
+            (plain sc n v _ (GotLast leaf ms f last.0 last.1 refl) refl refl tt)
       ]
     ]
 
-finish_taken : (sc : Scenario) (n : Node) (ms : List Message) (v : View) → v.inbox ≡ Finish ∷ ms → Happens sc n v (got_step (mode_line Finish v) Finish v (rest v ms))
+finish_taken : (sc : Scenario) (n : Node) (ms : List Message) (v : View) → v.inbox ≡ Finish ∷ ms
+    → Happens sc n v (got_step (mode_line Finish v) Finish v (rest v ms))
 unfolding got_step
 finish_taken sc n ms v f =
     elim (finish_line v.me.mode (all_here (with_brought Finish v.me))) [
@@ -529,7 +552,7 @@ unfolding txn_at
 node_of A t s = refl
 node_of B t s = refl
 
--- every row of the table, at the side that it is read from
+-- every step of the table, at the side that it is read from
 pub step_happens : (sc : Scenario) (c : Choice) (s : State) → Happens sc (side_of sc c s) (facing (side_of sc c s) s) (move sc c (facing (side_of sc c s) s))
 unfolding move
 step_happens sc Start s = start_happens sc _ _ (starts_at_a s.a.mode s.b.mode sc.version)

@@ -42,15 +42,21 @@ pub follows_same : (program : List Instr) (d e : Map) (lows : List ℕ) (locks m
     → ((p : ℕ) → holds locks p t ≡ true → holds more p t ≡ true)
     → Follows program d lows locks t x → Follows program e lows more t y
 follows_same program d e lows locks more t x y same now grow f =
-    subst (Follows program e lows more t) (sym now) (record { keys = f.keys; run = ap (λ m. lone m program x.done) same ∙ f.run; covered = λ k h. grow (page_of lows k) (f.covered k h) })
+    subst (Follows program e lows more t) (sym now) (record {
+      keys = f.keys;
+      run = ap (λ m. lone m program x.done) same ∙ f.run;
+      covered = λ k h. grow (page_of lows k) (f.covered k h);
+    })
 
 -- committed transactions stay as they are
 pub registers_same : (sc : Scenario) (f g : ℕ → Txn) (m : Map) (cs : List CommitRec) → ((t : ℕ) → is_committed (f t).status ≡ true → g t ≡ f t)
     → Registers sc f m cs → Registers sc g m cs
 registers_same sc f g m [] same h = tt
 registers_same sc f g m (c ∷ cs) same h =
-    let e = same c.txn h.0.0 in
-    ((ap (λ (x : Txn). is_committed x.status) e ∙ h.0.0, ap (λ (x : Txn). x.regs) e ∙ h.0.1), registers_same sc f g (alone m (program_of sc c.txn) c.done).map cs same h.1)
+    let e = same c.txn h.0.0 in (
+      (ap (λ (x : Txn). is_committed x.status) e ∙ h.0.0, ap (λ (x : Txn). x.regs) e ∙ h.0.1),
+      registers_same sc f g (alone m (program_of sc c.txn) c.done).map cs same h.1,
+    )
 
 pub registers_push : (sc : Scenario) (f : ℕ → Txn) (m : Map) (cs : List CommitRec) (c : CommitRec) → Registers sc f m cs
     → (is_committed (f c.txn).status ≡ true) × ((f c.txn).regs ≡ (alone (serial sc m cs) (program_of sc c.txn) c.done).regs)
@@ -75,4 +81,8 @@ pub keep_registers : (sc : Scenario) (v w : View) (start : Map) (t : ℕ) (y : T
     → Registers sc (txn_at v) start v.commits → Registers sc (txn_at w) start w.commits
 keep_registers sc v w start t y e c off h =
     subst (Registers sc (txn_at w) start) (sym c) (registers_same sc (txn_at v) (txn_at w) start v.commits
-    (λ u ended. elim (cases_eq u t) [ inl same ↦ absurd (off (subst (λ z. is_committed (txn_at v z).status ≡ true) same ended)) | inr far ↦ at_other v w t u y e far ]) h)
+    (λ u ended. elim (cases_eq u t) [
+      | inl same ↦ absurd (off (subst (λ z. is_committed (txn_at v z).status ≡ true) same ended))
+      | inr far ↦
+          at_other v w t u y e far
+    ]) h)

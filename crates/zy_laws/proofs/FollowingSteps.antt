@@ -1,4 +1,4 @@
--- Each row of the table keeps the transactions along their lone runs.
+-- Each step of the table keeps the transactions along their lone runs.
 use Rattle.std.proofs.Common.{List, [], add-one, ap, length, false, inl, inr, refl, subst, sym, true, ℕ, ◌%◌, ◌+◌, ◌^◌, ◌∙◌, ◌++◌, ◌∷◌, ◌≡◌}
 use Rattle.std.specs.Prelude.{None, Option, Some, is_some, nat_lt, replicate, slice_get, slice_set, unwrap_or, ◌==◌, ◌||◌}
 use Rattle.std.specs.FinMap.{get}
@@ -36,7 +36,9 @@ use Rattle.zy_laws.proofs.Values.{event_db}
 use Rattle.zy_laws.proofs.CutValues.{cut_db}
 use Rattle.zy_laws.proofs.Roles.{normal_other}
 use Rattle.zy_laws.proofs.Committing.{committed_serial}
-use Rattle.zy_laws.proofs.Events.{Aborts, Begins, Commits, Event, Gets, Inserts, Rests, Runs, SumsUp, Writes, has_lock, has_locks, page, sum_at, value_at, Free, FreeRange, Splits, lows_after, Asks, Starts, GotWire, GotReady, GotDual, IsStale, Gives, GotPage, GotLast, GotFinish, GotAll, GotDone, Finishes, Pushes, GoesOn, Leads, BySet, ByJump, BySum}
+use Rattle.zy_laws.proofs.Events.{Aborts, Begins, Commits, Event, Gets, Inserts, Rests, Runs, SumsUp, Writes, has_lock, has_locks, page, sum_at, value_at, Free}
+use Rattle.zy_laws.proofs.Events.{FreeRange, Splits, lows_after, Asks, Starts, GotWire, GotReady, GotDual, IsStale, Gives, GotPage, GotLast, GotFinish, GotAll}
+use Rattle.zy_laws.proofs.Events.{GotDone, Finishes, Pushes, GoesOn, Leads, BySet, ByJump, BySum}
 use Rattle.zy_laws.proofs.Following.{Follows, Serially, active_not, follows_same, keep_registers, new_not, registers_same}
 use Rattle.zy_laws.proofs.LockingSteps.{has_lock_locking, split_on}
 use Rattle.zy_table.proofs.LockLists.{alone_new, holds-drop, holds_more, holds_new}
@@ -48,7 +50,7 @@ use Rattle.zy_laws.proofs.LoneRuns.{Lone, lone, lone_at, lone_effect, lone_instr
 use Rattle.zy_laws.proofs.PageValues.{db, page_value, value_same}
 use Rattle.zy_laws.proofs.Txns.{IsAt, Stands, at_either, at_other, at_same, at_self, not_both_nodes, not_new}
 
--- rows in which t goes on
+-- steps in which t goes on
 acts_serial : (sc : Scenario) (n : Node) (v w : View) (start : Map) (lows : List ℕ) (t : ℕ) (y : Txn) → Serially sc n v start lows → Kept sc n w lows
     → IsAt v t n
     → w.txns ≡ slice_set v.txns t y → y.node ≡ (txn_at v t).node → w.commits ≡ v.commits → w.them ≡ v.them → db w ≡ db v
@@ -58,14 +60,17 @@ acts_serial sc n v w start lows t y s k at e node commits them same grow f = rec
   kept = k;
   held = s.held;
   mine = λ u a. elim (cases_eq u t) [
-    | inl here ↦ subst (λ z. Follows (program_of sc z) (db w) lows w.me.locks z (txn_at w z)) (sym here) (subst (Follows (program_of sc t) (db w) lows w.me.locks t) (sym (at_self v w t y e at.0)) f)
+    | inl here ↦ subst (λ z. Follows (program_of sc z) (db w) lows w.me.locks z (txn_at w z)) (sym here)
+        (subst (Follows (program_of sc t) (db w) lows w.me.locks t) (sym (at_self v w t y e at.0)) f)
     | inr far ↦ let now = at_other v w t u y e far in
-        follows_same (program_of sc u) (db v) (db w) lows v.me.locks w.me.locks u (txn_at v u) (txn_at w u) same now (λ p h. grow p u h) (s.mine u (subst (λ x. Stands x n) now a))
+        follows_same (program_of sc u) (db v) (db w) lows v.me.locks w.me.locks u (txn_at v u) (txn_at w u) same now (λ p h. grow p u h)
+        (s.mine u (subst (λ x. Stands x n) now a))
   ];
   theirs = λ u a. elim (cases_eq u t) [
     | inl here ↦ absurd (not_both_nodes n y.node (node ∙ at.1) (subst (λ (x : Txn). x.node ≡ other n) (ap (txn_at w) here ∙ at_self v w t y e at.0) a.1))
     | inr far ↦ let now = at_other v w t u y e far in
-        follows_same (program_of sc u) (db v) (db w) lows v.them.locks w.them.locks u (txn_at v u) (txn_at w u) same now (λ p h. subst (λ (x : NodeState). holds x.locks p u ≡ true) (sym them) h) (s.theirs u (subst (λ x. Stands x (other n)) now a))
+        follows_same (program_of sc u) (db v) (db w) lows v.them.locks w.them.locks u (txn_at v u) (txn_at w u) same now
+        (λ p h. subst (λ (x : NodeState). holds x.locks p u ≡ true) (sym them) h) (s.theirs u (subst (λ x. Stands x (other n)) now a))
   ];
   is_serial = same ∙ s.is_serial ∙ ap (serial sc start) (sym commits);
   registers = keep_registers sc v w start t y e commits (active_not (txn_at v t).status at.0) s.registers;
@@ -145,7 +150,8 @@ key_follows program d lows locks kind t k pc regs rows x i e is does step f = re
   ];
 }
 
-key_serial : (sc : Scenario) (n : Node) (v : View) (start : Map) (lows : List ℕ) (t k : ℕ) (kind : LockKind) (pc : ℕ) (regs : List ℕ) (rows : List Row) (e : Effect)
+key_serial : (sc : Scenario) (n : Node) (v : View) (start : Map) (lows : List ℕ) (t k : ℕ) (kind : LockKind) (pc : ℕ) (regs : List ℕ) (rows : List Row)
+    (e : Effect)
     → Serially sc n v start lows → Runs sc n t e v
     → ((keys : List ℕ) → lone_effect (db v) e (lone_at (txn_at v t) keys) ≡ record { regs = regs; pc = pc; rows = rows; keys = k ∷ keys; over = false })
     → Kept sc n (did t pc regs rows (has_lock t k kind v)) lows → Serially sc n (did t pc regs rows (has_lock t k kind v)) start lows
@@ -166,14 +172,17 @@ unfolding aborted
 aborted_serial sc n v start lows t why s at k =
     let w = aborted t why v in
     let y : Txn = record (txn_at v t) { status = Aborted why; rows = [] } in
-    let far_at : (u : ℕ) (m : Node) → IsAt w u m → u ≡ t → ⊥ = λ u m a same. false≢true (subst (λ (x : Txn). is_active x.status ≡ true) (ap (txn_at w) same ∙ at_self v w t y refl at.0) a.0) in
+    let far_at : (u : ℕ) (m : Node) → IsAt w u m → u ≡ t → ⊥ = λ u m a same. false≢true
+    (subst (λ (x : Txn). is_active x.status ≡ true) (ap (txn_at w) same ∙ at_self v w t y refl at.0) a.0) in
     record {
       kept = k;
       held = s.held;
       mine = λ u a. let far = far_at u n a in let now = at_other v w t u y refl far in
-          follows_same (program_of sc u) (db v) (db w) lows v.me.locks w.me.locks u (txn_at v u) (txn_at w u) refl now (λ p h. holds-drop v.me.locks p t u far ∙ h) (s.mine u (subst (λ x. Stands x n) now a));
+          follows_same (program_of sc u) (db v) (db w) lows v.me.locks w.me.locks u (txn_at v u) (txn_at w u) refl now
+          (λ p h. holds-drop v.me.locks p t u far ∙ h) (s.mine u (subst (λ x. Stands x n) now a));
       theirs = λ u a. let far = far_at u (other n) a in let now = at_other v w t u y refl far in
-          follows_same (program_of sc u) (db v) (db w) lows v.them.locks v.them.locks u (txn_at v u) (txn_at w u) refl now (λ p h. h) (s.theirs u (subst (λ x. Stands x (other n)) now a));
+          follows_same (program_of sc u) (db v) (db w) lows v.them.locks v.them.locks u (txn_at v u) (txn_at w u) refl now (λ p h. h)
+          (s.theirs u (subst (λ x. Stands x (other n)) now a));
       is_serial = s.is_serial;
       registers = keep_registers sc v w start t y refl refl (active_not (txn_at v t).status at.0) s.registers;
     }
@@ -195,7 +204,8 @@ begun_follows : (sc : Scenario) (v w : View) (lows : List ℕ) (locks : List Loc
 begun_follows sc v w lows locks m t u y e new same a b c d f at =
     elim (cases_eq u t) [
       | inl here ↦ elim (at_either v w t y e) [
-        | inl now ↦ subst (Follows (program_of sc u) (db w) lows locks u) (sym (ap (txn_at w) here ∙ now)) (fresh_follows (program_of sc u) (db w) lows locks u y a b c d)
+        | inl now ↦ subst (Follows (program_of sc u) (db w) lows locks u) (sym (ap (txn_at w) here ∙ now))
+            (fresh_follows (program_of sc u) (db w) lows locks u y a b c d)
         | inr old ↦ absurd (false≢true (sym new ∙ subst (λ (x : Txn). is_active x.status ≡ true) (ap (txn_at w) here ∙ old) at.0))
       ]
       | inr far ↦ let now = at_other v w t u y e far in
@@ -222,12 +232,14 @@ here_value : (sc : Scenario) (n : Node) (v : View) (lows : List ℕ) (t k : ℕ)
     → get (db v) k ≡ get_row (rows_of v.me.pages (page_of v.me.lows k)) k
 here_value sc n v lows t k h at own =
     let newest : v.me.lows ≡ lows = h.mine.newest (h.mine.busy t at) in
-    subst (λ l. get (db v) k ≡ get_row (rows_of v.me.pages (page_of l k)) k) (sym newest) (page_value lows v k h.placed h.inv.owned (subst (λ l. owns v.me.pages (page_of l k) ≡ true) newest own))
+    subst (λ l. get (db v) k ≡ get_row (rows_of v.me.pages (page_of l k)) k) (sym newest)
+    (page_value lows v k h.placed h.inv.owned (subst (λ l. owns v.me.pages (page_of l k) ≡ true) newest own))
 
 read_value : (sc : Scenario) (n : Node) (v : View) (lows : List ℕ) (t k : ℕ) → Kept sc n v lows → IsAt v t n → owns v.me.pages (page_of v.me.lows k) ≡ true
     → value_at t k v ≡ unwrap_or (or_else (get_row (txn_at v t).rows k) (get (db v) k)) 0
 read_value sc n v lows t k h at own =
-    sym (value_same (get_row (txn_at v t).rows k) (get (db v) k) ∙ ap (λ o. unwrap_or (get_row (txn_at v t).rows k) (unwrap_or o 0)) (here_value sc n v lows t k h at own))
+    sym (value_same (get_row (txn_at v t).rows k) (get (db v) k) ∙ ap (λ o. unwrap_or (get_row (txn_at v t).rows k) (unwrap_or o 0))
+    (here_value sc n v lows t k h at own))
 
 there_value : (sc : Scenario) (n : Node) (v : View) (lows : List ℕ) (t k : ℕ) (kind : LockKind) → Kept sc n v lows → IsAt v t n → Free t k kind v
     → is_some (or_else (get_row (txn_at v t).rows k) (get (db v) k)) ≡ is_there k (page_of v.me.lows k) v.me (txn_at v t)
@@ -238,7 +250,8 @@ there_value sc n v lows t k kind h at f =
 sum_value : (sc : Scenario) (n : Node) (v : View) (lows : List ℕ) (t a b : ℕ) → Kept sc n v lows → IsAt v t n → FreeRange t a b v
     → sum_at t a b v ≡ total (λ k. unwrap_or (or_else (get_row (txn_at v t).rows k) (get (db v) k)) 0) (range a b)
 sum_value sc n v lows t a b h at f =
-    total_same (value_for (txn_at v t) v.me) _ (range a b) (λ k e. read_value sc n v lows t k h at (f.here (page_of v.me.lows k) (on_range_page v.me.lows a b k e)))
+    total_same (value_for (txn_at v t) v.me) _ (range a b) (λ k e. read_value sc n v lows t k h at
+    (f.here (page_of v.me.lows k) (on_range_page v.me.lows a b k e)))
 
 -- a sum, with its pages locked
 small_sum : (d : Map) (r : Reg) (a b : ℕ) (x : Txn) (keys : List ℕ) (sum : ℕ) → nat_lt b a ≡ false → nat_lt 65535 b ≡ false
@@ -289,12 +302,15 @@ cut_follows program d e more locks q b t u x same long one f = record {
       let old = f.covered k h in
       elim (page_of-cut more b k) [
         | inl stays ↦ subst (λ z. holds (add_lock q t Exclusive locks) z u ≡ true) (sym stays) (holds_more q t Exclusive locks (page_of (0 ∷ more) k) u old)
-        | inr moves ↦ subst (λ z. holds (add_lock q t Exclusive locks) z u ≡ true) (sym (moves.0 ∙ long)) (subst (λ z. holds (add_lock q t Exclusive locks) q z ≡ true) (sym (one k moves.1 old)) (holds_new q t Exclusive locks))
+        | inr moves ↦ subst (λ z. holds (add_lock q t Exclusive locks) z u ≡ true) (sym (moves.0 ∙ long))
+            (subst (λ z. holds (add_lock q t Exclusive locks) q z ≡ true) (sym (one k moves.1 old)) (holds_new q t Exclusive locks))
       ];
 }
 
-cut_serial : (sc : Scenario) (n : Node) (v : View) (start : Map) (lows : List ℕ) (t k b : ℕ) → Serially sc n v start lows → IsAt v t n → Free t k Exclusive v → may_split v.me.mode ≡ true → page_of v.me.lows b ≡ page_of v.me.lows k
-    → Kept sc n (cut t (page_of v.me.lows k) b (has_lock t k Exclusive v)) (lows ++ b ∷ []) → Serially sc n (cut t (page_of v.me.lows k) b (has_lock t k Exclusive v)) start (lows ++ b ∷ [])
+cut_serial : (sc : Scenario) (n : Node) (v : View) (start : Map) (lows : List ℕ) (t k b : ℕ) → Serially sc n v start lows → IsAt v t n → Free t k Exclusive v
+    → may_split v.me.mode ≡ true → page_of v.me.lows b ≡ page_of v.me.lows k
+    → Kept sc n (cut t (page_of v.me.lows k) b (has_lock t k Exclusive v)) (lows ++ b ∷ [])
+    → Serially sc n (cut t (page_of v.me.lows k) b (has_lock t k Exclusive v)) start (lows ++ b ∷ [])
 unfolding cut locked txn_at
 cut_serial sc n v start lows t k b s at f normal on h =
     let p = page_of v.me.lows k in
@@ -316,24 +332,28 @@ cut_serial sc n v start lows t k b s at f normal on h =
           (cut_follows (program_of sc u) (db v) (db w) more locks (length v.me.lows) b t u (txn_at v u) same (ap length (sym (newest ∙ begins)))
           (subst (λ z. (j : ℕ) → page_of z b ≡ page_of z j → holds locks (page_of z j) u ≡ true → u ≡ t) begins (one u))
           (subst (λ z. Follows (program_of sc u) (db v) z locks u (txn_at v u)) begins
-          (follows_same (program_of sc u) (db v) (db v) lows v.me.locks locks u (txn_at v u) (txn_at v u) refl refl (λ q g. holds_more p t Exclusive v.me.locks q u g) (s.mine u a))));
+          (follows_same (program_of sc u) (db v) (db v) lows v.me.locks locks u (txn_at v u) (txn_at v u) refl refl
+          (λ q g. holds_more p t Exclusive v.me.locks q u g) (s.mine u a))));
       theirs = λ u a. absurd (nobody_runs sc (other n) v.them v lows u s.kept.theirs idle.0 a);
       is_serial = same ∙ s.is_serial;
       registers = s.registers;
     }
 
--- a row that changes no transaction and no lock, and no value
+-- a step that changes no transaction and no lock, and no value
 stays_serial : (sc : Scenario) (n : Node) (v w : View) (start : Map) (lows : List ℕ) → Serially sc n v start lows → w.txns ≡ v.txns → w.commits ≡ v.commits
     → w.me.locks ≡ v.me.locks → w.them ≡ v.them → db w ≡ db v → Kept sc n w lows → Serially sc n w start lows
 stays_serial sc n v w start lows s txns commits locks them same k = record {
   kept = k;
   held = s.held;
   mine = λ u a. let now = at_same v w u txns in
-      follows_same (program_of sc u) (db v) (db w) lows v.me.locks w.me.locks u (txn_at v u) (txn_at w u) same now (λ p h. subst (λ xs. holds xs p u ≡ true) (sym locks) h) (s.mine u (subst (λ x. Stands x n) now a));
+      follows_same (program_of sc u) (db v) (db w) lows v.me.locks w.me.locks u (txn_at v u) (txn_at w u) same now
+      (λ p h. subst (λ xs. holds xs p u ≡ true) (sym locks) h) (s.mine u (subst (λ x. Stands x n) now a));
   theirs = λ u a. let now = at_same v w u txns in
-      follows_same (program_of sc u) (db v) (db w) lows v.them.locks w.them.locks u (txn_at v u) (txn_at w u) same now (λ p h. subst (λ (x : NodeState). holds x.locks p u ≡ true) (sym them) h) (s.theirs u (subst (λ x. Stands x (other n)) now a));
+      follows_same (program_of sc u) (db v) (db w) lows v.them.locks w.them.locks u (txn_at v u) (txn_at w u) same now
+      (λ p h. subst (λ (x : NodeState). holds x.locks p u ≡ true) (sym them) h) (s.theirs u (subst (λ x. Stands x (other n)) now a));
   is_serial = same ∙ s.is_serial ∙ ap (serial sc start) (sym commits);
-  registers = subst (Registers sc (txn_at w) start) (sym commits) (registers_same sc (txn_at v) (txn_at w) start v.commits (λ u _. at_same v w u txns) s.registers);
+  registers =
+      subst (Registers sc (txn_at w) start) (sym commits) (registers_same sc (txn_at v) (txn_at w) start v.commits (λ u _. at_same v w u txns) s.registers);
 }
 
 along : (sc : Scenario) (n : Node) (w x : View) (start : Map) (lows : List ℕ) → w ≡ x → Kept sc n w lows
@@ -364,17 +384,31 @@ serial_event sc n v w start lows s (Splits t key value runs f new full normal pa
     along sc n w _ start (lows ++ boundary sc key (page key v) v.me (txn_at v t) ∷ []) e k
     (cut_serial sc n v start lows t key _ s (runs.active, runs.here) f normal on)
 serial_event sc n v w start lows s (Commits t runs all e) k = along sc n w _ start lows e k (committed_serial sc n v start lows t s runs)
-serial_event sc n v w start lows s (Asks p gone pulls asked e) k = along sc n w _ start lows e k (stays_serial sc n v _ start lows s refl refl refl refl (event_db sc n v _ lows s.kept (Asks p gone pulls asked refl) refl))
-serial_event sc n v w start lows s (Starts at_a normal empty e) k = along sc n w _ start lows e k (stays_serial sc n v _ start lows s refl refl refl refl (event_db sc n v _ lows s.kept (Starts at_a normal empty refl) refl))
-serial_event sc n v w start lows s (GotWire sent ms f empty e) k = along sc n w _ start lows e k (stays_serial sc n v _ start lows s refl refl refl refl (event_db sc n v _ lows s.kept (GotWire sent ms f empty refl) refl))
-serial_event sc n v w start lows s (GotReady ms f init e) k = along sc n w _ start lows e k (stays_serial sc n v _ start lows s refl refl refl refl (event_db sc n v _ lows s.kept (GotReady ms f init refl) refl))
-serial_event sc n v w start lows s (GotDual ms f init e) k = along sc n w _ start lows e k (stays_serial sc n v _ start lows s refl refl refl refl (event_db sc n v _ lows s.kept (GotDual ms f init refl) refl))
-serial_event sc n v w start lows s (IsStale p ms f e) k = along sc n w _ start lows e k (stays_serial sc n v _ start lows s refl refl refl refl (event_db sc n v _ lows s.kept (IsStale p ms f refl) refl))
-serial_event sc n v w start lows s (Gives p ms f sends own free e) k = along sc n w _ start lows e k (stays_serial sc n v _ start lows s refl refl refl refl (event_db sc n v _ lows s.kept (Gives p ms f sends own free refl) refl))
-serial_event sc n v w start lows s (GotPage leaf ms f pulls e) k = along sc n w _ start lows e k (stays_serial sc n v _ start lows s refl refl refl refl (event_db sc n v _ lows s.kept (GotPage leaf ms f pulls refl) refl))
-serial_event sc n v w start lows s (GotLast leaf ms f finish all e) k = along sc n w _ start lows e k (stays_serial sc n v _ start lows s refl refl refl refl (event_db sc n v _ lows s.kept (GotLast leaf ms f finish all refl) refl))
-serial_event sc n v w start lows s (GotFinish ms f dual e) k = along sc n w _ start lows e k (stays_serial sc n v _ start lows s refl refl refl refl (event_db sc n v _ lows s.kept (GotFinish ms f dual refl) refl))
-serial_event sc n v w start lows s (GotAll ms f dual all e) k = along sc n w _ start lows e k (stays_serial sc n v _ start lows s refl refl refl refl (event_db sc n v _ lows s.kept (GotAll ms f dual all refl) refl))
-serial_event sc n v w start lows s (GotDone ms f finish e) k = along sc n w _ start lows e k (stays_serial sc n v _ start lows s refl refl refl refl (event_db sc n v _ lows s.kept (GotDone ms f finish refl) refl))
-serial_event sc n v w start lows s (Finishes dual none e) k = along sc n w _ start lows e k (stays_serial sc n v _ start lows s refl refl refl refl (event_db sc n v _ lows s.kept (Finishes dual none refl) refl))
-serial_event sc n v w start lows s (Pushes p finish own e) k = along sc n w _ start lows e k (stays_serial sc n v _ start lows s refl refl refl refl (event_db sc n v _ lows s.kept (Pushes p finish own refl) refl))
+serial_event sc n v w start lows s (Asks p gone pulls asked e) k = along sc n w _ start lows e k
+    (stays_serial sc n v _ start lows s refl refl refl refl (event_db sc n v _ lows s.kept (Asks p gone pulls asked refl) refl))
+serial_event sc n v w start lows s (Starts at_a normal empty e) k = along sc n w _ start lows e k
+    (stays_serial sc n v _ start lows s refl refl refl refl (event_db sc n v _ lows s.kept (Starts at_a normal empty refl) refl))
+serial_event sc n v w start lows s (GotWire sent ms f empty e) k = along sc n w _ start lows e k
+    (stays_serial sc n v _ start lows s refl refl refl refl (event_db sc n v _ lows s.kept (GotWire sent ms f empty refl) refl))
+serial_event sc n v w start lows s (GotReady ms f init e) k = along sc n w _ start lows e k
+    (stays_serial sc n v _ start lows s refl refl refl refl (event_db sc n v _ lows s.kept (GotReady ms f init refl) refl))
+serial_event sc n v w start lows s (GotDual ms f init e) k = along sc n w _ start lows e k
+    (stays_serial sc n v _ start lows s refl refl refl refl (event_db sc n v _ lows s.kept (GotDual ms f init refl) refl))
+serial_event sc n v w start lows s (IsStale p ms f e) k = along sc n w _ start lows e k
+    (stays_serial sc n v _ start lows s refl refl refl refl (event_db sc n v _ lows s.kept (IsStale p ms f refl) refl))
+serial_event sc n v w start lows s (Gives p ms f sends own free e) k = along sc n w _ start lows e k
+    (stays_serial sc n v _ start lows s refl refl refl refl (event_db sc n v _ lows s.kept (Gives p ms f sends own free refl) refl))
+serial_event sc n v w start lows s (GotPage leaf ms f pulls e) k = along sc n w _ start lows e k
+    (stays_serial sc n v _ start lows s refl refl refl refl (event_db sc n v _ lows s.kept (GotPage leaf ms f pulls refl) refl))
+serial_event sc n v w start lows s (GotLast leaf ms f finish all e) k = along sc n w _ start lows e k
+    (stays_serial sc n v _ start lows s refl refl refl refl (event_db sc n v _ lows s.kept (GotLast leaf ms f finish all refl) refl))
+serial_event sc n v w start lows s (GotFinish ms f dual e) k = along sc n w _ start lows e k
+    (stays_serial sc n v _ start lows s refl refl refl refl (event_db sc n v _ lows s.kept (GotFinish ms f dual refl) refl))
+serial_event sc n v w start lows s (GotAll ms f dual all e) k = along sc n w _ start lows e k
+    (stays_serial sc n v _ start lows s refl refl refl refl (event_db sc n v _ lows s.kept (GotAll ms f dual all refl) refl))
+serial_event sc n v w start lows s (GotDone ms f finish e) k = along sc n w _ start lows e k
+    (stays_serial sc n v _ start lows s refl refl refl refl (event_db sc n v _ lows s.kept (GotDone ms f finish refl) refl))
+serial_event sc n v w start lows s (Finishes dual none e) k = along sc n w _ start lows e k
+    (stays_serial sc n v _ start lows s refl refl refl refl (event_db sc n v _ lows s.kept (Finishes dual none refl) refl))
+serial_event sc n v w start lows s (Pushes p finish own e) k = along sc n w _ start lows e k
+    (stays_serial sc n v _ start lows s refl refl refl refl (event_db sc n v _ lows s.kept (Pushes p finish own refl) refl))

@@ -48,14 +48,17 @@ lost_in_dual : (sc : Scenario) (n : Node) (v : View) (lows : List ℕ) → Kept 
 lost_in_dual sc n v lows k l =
     let busy = k.mine.busy l.txn (l.active, l.here) in
     let newest : v.me.lows ≡ lows = k.mine.newest busy in
-    let within : page_of v.me.lows l.key < length v.me.lows = subst (λ z. page_of z l.key < length z) (sym (newest ∙ k.first.1)) (page_of-within (0 ∷ k.first.0) l.key (omega arith)) in
+    let within : page_of v.me.lows l.key < length v.me.lows = subst (λ z. page_of z l.key < length z) (sym (newest ∙ k.first.1))
+    (page_of-within (0 ∷ k.first.0) l.key (omega arith)) in
     let whole : is_home v.me.mode ≡ true → ⊥ = λ all. false≢true (sym l.gone ∙ all_owned v k.inv all k.inv.roles (page_of v.me.lows l.key) within) in
     elim l.cause [
       | inl still ↦ elim (left_mode v.me.mode busy l.begun still) [ inl all ↦ absurd (whole all) | inr dual ↦ dual ]
       | inr private ↦ elim (hands_on v.me.mode busy) [
         | inl off ↦
             let mine = exclusive_holds v.me.locks (page_of lows l.key) l.txn (k.mine.private l.txn l.key (l.active, l.here) private) in
-            absurd (false≢true (sym l.gone ∙ subst (λ z. owns v.me.pages (page_of z l.key) ≡ true) (sym newest) (k.mine.kept (page_of lows l.key) l.txn (inr off) mine)))
+            absurd
+            (false≢true (sym l.gone ∙ subst (λ z. owns v.me.pages (page_of z l.key) ≡ true) (sym newest)
+            (k.mine.kept (page_of lows l.key) l.txn (inr off) mine)))
         | inr source ↦ elim source [ inl all ↦ absurd (whole all) | inr dual ↦ dual ]
       ]
     ]

@@ -68,11 +68,13 @@ get_row-on lows p (r ∷ rs) k =
     let e = get_row-on lows p rs k in
     elim (cases_eq r.key k) [
       | inl same ↦ let yes : (r.key == k) ≡ true = eq-eqb _ _ same in
-          cond_both (page_of lows r.key == p) (r ∷ rows_on lows p rs) (rows_on lows p rs) (λ y. get_row y k ≡ (if page_of lows k == p then (if r.key == k then Some r.value else get_row rs k) else None))
+          cond_both (page_of lows r.key == p) (r ∷ rows_on lows p rs) (rows_on lows p rs)
+          (λ y. get_row y k ≡ (if page_of lows k == p then (if r.key == k then Some r.value else get_row rs k) else None))
           (λ on. let on' : (page_of lows k == p) ≡ true = rw (← same) on in rw (yes, on'))
           (λ off. let off' : (page_of lows k == p) ≡ false = rw (← same) off in rw off' (e ∙ ap (λ b. if b then get_row rs k else None) off'))
       | inr other ↦ let no' : (r.key == k) ≡ false = ne_eqb _ _ other in
-          cond_both (page_of lows r.key == p) (r ∷ rows_on lows p rs) (rows_on lows p rs) (λ y. get_row y k ≡ (if page_of lows k == p then (if r.key == k then Some r.value else get_row rs k) else None))
+          cond_both (page_of lows r.key == p) (r ∷ rows_on lows p rs) (rows_on lows p rs)
+          (λ y. get_row y k ≡ (if page_of lows k == p then (if r.key == k then Some r.value else get_row rs k) else None))
           (λ _. rw no' e)
           (λ _. rw no' e)
     ]
@@ -100,12 +102,18 @@ installed_some lows rs [] k v h p own = absurd (false≢true own)
 installed_some lows rs (x ∷ xs) k v h p own =
     elim (cases_eq (page_of lows k) x.number) [
       | inl here ↦ let yes : (page_of lows k == x.number) ≡ true = eq-eqb _ _ here in
-          ap (λ o. or_else o (found (installed lows rs xs) k)) (installed_at lows rs x k ∙ ap (λ b. or_else (if b then get_row rs k else None) (get_row x.rows k)) yes ∙ ap (λ o. or_else o (get_row x.rows k)) h)
+          ap (λ o. or_else o (found (installed lows rs xs) k)) (installed_at lows rs x k
+          ∙ ap (λ b. or_else (if b then get_row rs k else None) (get_row x.rows k)) yes ∙ ap (λ o. or_else o (get_row x.rows k)) h)
       | inr other ↦
           let off : (page_of lows k == x.number) ≡ false = ne_eqb _ _ other in
           let none : get_row x.rows k ≡ None = none_else _ (λ is. other (p.0.each k is)) in
-          let below : owns xs (page_of lows k) ≡ true = elim (or_cases (x.number == page_of lows k) (owns xs (page_of lows k)) own) [ inl e ↦ absurd (other (sym (eqb-true _ _ e))) | inr e ↦ e ] in
-          ap (λ o. or_else o (found (installed lows rs xs) k)) (installed_at lows rs x k ∙ ap (λ b. or_else (if b then get_row rs k else None) (get_row x.rows k)) off ∙ none)
+          let below : owns xs (page_of lows k) ≡ true = elim (or_cases (x.number == page_of lows k) (owns xs (page_of lows k)) own) [
+            | inl e ↦
+                absurd (other (sym (eqb-true _ _ e)))
+            | inr e ↦ e
+          ] in
+          ap (λ o. or_else o (found (installed lows rs xs) k)) (installed_at lows rs x k
+          ∙ ap (λ b. or_else (if b then get_row rs k else None) (get_row x.rows k)) off ∙ none)
           ∙ installed_some lows rs xs k v h p.1 below
     ]
 
@@ -122,10 +130,12 @@ installed_on : (lows : List ℕ) (rs : List Row) (x : Leaf) → OnPage lows x
     → OnPage lows (record x { rows = put_rows (rows_on lows x.number rs) x.rows })
 installed_on lows rs x p = record {
   low = p.low;
-  each = λ k h. elim (is_some_else (if page_of lows k == x.number then get_row rs k else None) (get_row x.rows k) (ap is_some (sym (installed_at lows rs x k)) ∙ h)) [
-    | inl mine ↦ eqb-true _ _ (is_some_if (page_of lows k == x.number) (get_row rs k) mine)
-    | inr old ↦ p.each k old
-  ];
+  each =
+      λ k h. elim (is_some_else (if page_of lows k == x.number then get_row rs k else None) (get_row x.rows k)
+      (ap is_some (sym (installed_at lows rs x k)) ∙ h)) [
+        | inl mine ↦ eqb-true _ _ (is_some_if (page_of lows k == x.number) (get_row rs k) mine)
+        | inr old ↦ p.each k old
+      ];
 }
 
 pub placed_installed : (lows : List ℕ) (rs : List Row) (xs ys : List Leaf) → Placed lows (xs ++ ys) → Placed lows (installed lows rs xs ++ ys)

@@ -103,7 +103,8 @@ node_ordered A s o = o.mine
 node_ordered B s o = o.theirs
 
 longer : (xs ys : List ℕ) → length (if nat_lt (length xs) (length ys) then ys else xs) ≡ max (length xs) (length ys)
-longer xs ys = cond_both (nat_lt (length xs) (length ys)) ys xs (λ zs. length zs ≡ max (length xs) (length ys)) (λ h. grind (arith, nat_tests, h)) (λ h. grind (arith, nat_tests, h))
+longer xs ys = cond_both (nat_lt (length xs) (length ys)) ys xs (λ zs. length zs ≡ max (length xs) (length ys)) (λ h. grind (arith, nat_tests, h))
+    (λ h. grind (arith, nat_tests, h))
 
 pub in_order : (sc : Scenario) → IsScenario sc → (cs : List Choice) → InOrder (play sc (opening sc) cs)
 in_order sc ok cs =

@@ -1,4 +1,4 @@
--- Locks, the transactions that have them, and the private rows that they cover: what each kind of row keeps.
+-- Locks, the transactions that have them, and the private rows that they cover: what each kind of step keeps.
 use Rattle.std.proofs.Common.{List, [], ap, false, inl, inr, length, refl, subst, sym, true, ℕ, ◌++◌, ◌<◌, ◌∙◌, ◌∷◌, ◌≡◌}
 use Rattle.std.specs.Prelude.{is_some, slice_set, ◌⊎◌}
 use Rattle.std.proofs.lemmas.Bool.{cases_eq, false≢true}
@@ -19,7 +19,8 @@ use Rattle.zy_table.specs.Pages.{owns}
 use Rattle.zy_table.specs.State.{Leaf, NodeState, Txn, View, other}
 use Rattle.zy_wire.specs.Wireframe.{page_of}
 use Rattle.zy_laws.proofs.Installing.{Placed}
-use Rattle.zy_table.proofs.LockLists.{alone-add, alone_more, alone_new, exclusive_holds, free_all, free_alone, holds-add, holds-drop, holds-dropped, holds_alone-drop}
+use Rattle.zy_table.proofs.LockLists.{alone-add, alone_more, alone_new, exclusive_holds, free_all, free_alone, holds-add, holds-drop, holds-dropped}
+use Rattle.zy_table.proofs.LockLists.{holds_alone-drop}
 use Rattle.zy_laws.proofs.Roles.{Inv}
 use Rattle.zy_laws.proofs.Txns.{IsAt, Stands, at_either, at_other, at_same, at_self, not_both_nodes}
 
@@ -54,7 +55,7 @@ pub record Seen (n : Node) (v w : View) : Type 0 where
   pub back : (t : ℕ) → IsAt w t n → IsAt v t n × ((txn_at w t).rows ≡ (txn_at v t).rows)
   pub forth : (t : ℕ) → IsAt v t n → IsAt w t n
 
--- a row that leaves n's locks and transactions as they are
+-- a step that leaves n's locks and transactions as they are
 pub steady : (sc : Scenario) (n : Node) (x y : NodeState) (v w : View) (lows : List ℕ) → Locking sc n x v lows → Seen n v w → y.locks ≡ x.locks
     → ((t : ℕ) → IsAt v t n → is_idle y.mode ≡ false)
     → (is_idle y.mode ≡ false → y.lows ≡ lows)
@@ -67,7 +68,8 @@ steady sc n x y v w lows l seen same busy newest kept = record {
   below = λ p t h. l.below p t (subst (λ xs. holds xs p t ≡ true) same h);
   kept = λ p t s h. kept p t s (subst (λ xs. holds xs p t ≡ true) same h);
   apart = λ p t u a b. l.apart p t u (subst (λ xs. holds_alone xs p t ≡ true) same a) (subst (λ xs. holds xs p u ≡ true) same b);
-  private = λ t k at h. let b = seen.back t at in subst (λ xs. holds_alone xs (page_of lows k) t ≡ true) (sym same) (l.private t k b.0 (subst (λ rows. is_some (get_row rows k) ≡ true) b.1 h));
+  private = λ t k at h. let b = seen.back t at in subst (λ xs. holds_alone xs (page_of lows k) t ≡ true) (sym same)
+      (l.private t k b.0 (subst (λ rows. is_some (get_row rows k) ≡ true) b.1 h));
 }
 
 seen_all : (n : Node) (v w : View) → ((u : ℕ) → txn_at w u ≡ txn_at v u) → Seen n v w
@@ -86,8 +88,10 @@ seen_step n v w t y e active status node rows = record {
   back = λ u at. elim (cases_eq u t) [
     | inl same ↦
         let now : txn_at w u ≡ y = ap (txn_at w) same ∙ at_self v w t y e active in
-        let b : Stands y n = subst (λ x. Stands x n) now at in
-        ((ap (λ z. is_active (txn_at v z).status) same ∙ active, ap (λ z. (txn_at v z).node) same ∙ sym node ∙ b.1), ap (λ (x : Txn). x.rows) now ∙ rows ∙ ap (λ z. (txn_at v z).rows) (sym same))
+        let b : Stands y n = subst (λ x. Stands x n) now at in (
+          (ap (λ z. is_active (txn_at v z).status) same ∙ active, ap (λ z. (txn_at v z).node) same ∙ sym node ∙ b.1),
+          ap (λ (x : Txn). x.rows) now ∙ rows ∙ ap (λ z. (txn_at v z).rows) (sym same),
+        )
     | inr far ↦ let now = at_other v w t u y e far in (subst (λ x. Stands x n) now at, ap (λ (x : Txn). x.rows) now)
   ];
   forth = λ u at. elim (cases_eq u t) [
@@ -120,11 +124,13 @@ pub nobody_runs : (sc : Scenario) (n : Node) (x : NodeState) (v : View) (lows : 
 nobody_runs sc n x v lows t l idle at = false≢true (sym (l.busy t at) ∙ idle)
 
 -- a node where nobody runs, whatever its low keys become
-pub idle_locking : (sc : Scenario) (n : Node) (x y : NodeState) (v w : View) (lows more : List ℕ) → Locking sc n x v lows → is_idle x.mode ≡ true → is_idle y.mode ≡ true
+pub idle_locking : (sc : Scenario) (n : Node) (x y : NodeState) (v w : View) (lows more : List ℕ) → Locking sc n x v lows → is_idle x.mode ≡ true
+    → is_idle y.mode ≡ true
     → w.txns ≡ v.txns → y.locks ≡ x.locks → Locking sc n y w more
 idle_locking sc n x y v w lows more l idle still same locks =
     let none : (t : ℕ) → IsAt w t n → ⊥ = λ t at. nobody_runs sc n x v lows t l idle ((seen_same n v w same).back t at).0 in
-    let free : (p t : ℕ) → holds y.locks p t ≡ true → ⊥ = λ p t h. nobody_runs sc n x v lows t l idle (l.runs p t (subst (λ xs. holds xs p t ≡ true) locks h)) in
+    let free : (p t : ℕ) → holds y.locks p t ≡ true → ⊥ = λ p t h. nobody_runs sc n x v lows t l idle
+    (l.runs p t (subst (λ xs. holds xs p t ≡ true) locks h)) in
     record {
       busy = λ t at. absurd (none t at);
       newest = λ h. absurd (false≢true (sym h ∙ still));
@@ -141,16 +147,22 @@ pub lock_taken : (sc : Scenario) (n : Node) (v w : View) (y : NodeState) (lows :
     → p < length lows → owns v.me.pages p ≡ true → conflict v.me.locks p t kind ≡ false → y.locks ≡ add_lock p t kind v.me.locks → y.mode ≡ v.me.mode
     → y.lows ≡ v.me.lows → y.pages ≡ v.me.pages
     → ((u : ℕ) → IsAt w u n → IsAt v u n) → ((u : ℕ) → IsAt v u n → IsAt w u n)
-    → ((u k : ℕ) → IsAt w u n → is_some (get_row (txn_at w u).rows k) ≡ true → (is_some (get_row (txn_at v u).rows k) ≡ true) ⊎ ((u ≡ t) × (page_of lows k ≡ p) × (kind ≡ Exclusive)))
+    → ((u k : ℕ) → IsAt w u n → is_some (get_row (txn_at w u).rows k) ≡ true → (is_some (get_row (txn_at v u).rows k) ≡ true)
+    ⊎ ((u ≡ t) × (page_of lows k ≡ p) × (kind ≡ Exclusive)))
     → Locking sc n y w lows
 lock_taken sc n v w y lows t p kind l at small own free locks mode low pages back forth rows =
-    let old : (q u : ℕ) → holds y.locks q u ≡ true → (holds v.me.locks q u ≡ true) ⊎ ((p ≡ q) × (t ≡ u)) = λ q u h. holds-add p t kind v.me.locks q u (subst (λ xs. holds xs q u ≡ true) locks h) in
+    let old : (q u : ℕ) → holds y.locks q u ≡ true → (holds v.me.locks q u ≡ true) ⊎ ((p ≡ q) × (t ≡ u)) =
+    λ q u h. holds-add p t kind v.me.locks q u (subst (λ xs. holds xs q u ≡ true) locks h) in
     record {
       busy = λ u a. ap is_idle mode ∙ l.busy u (back u a);
       newest = λ h. low ∙ l.newest (ap is_idle (sym mode) ∙ h);
       runs = λ q u h. forth u (elim (old q u h) [ inl i ↦ l.runs q u i | inr i ↦ subst (λ z. IsAt v z n) i.1 at ]);
       below = λ q u h. elim (old q u h) [ inl i ↦ l.below q u i | inr i ↦ subst (λ z. z < length lows) i.0 small ];
-      kept = λ q u s h. ap (λ xs. owns xs q) pages ∙ elim (old q u h) [ inl i ↦ l.kept q u (subst (Stay sc) mode s) i | inr i ↦ subst (λ z. owns v.me.pages z ≡ true) i.0 own ];
+      kept = λ q u s h. ap (λ xs. owns xs q) pages ∙ elim (old q u h) [
+        | inl i ↦ l.kept q u (subst (Stay sc) mode s) i
+        | inr i ↦
+            subst (λ z. owns v.me.pages z ≡ true) i.0 own
+      ];
       apart = λ q a b ha hb.
           elim (alone-add p t kind v.me.locks q a (subst (λ xs. holds_alone xs q a ≡ true) locks ha)) [
             | inl i ↦ elim (old q b hb) [
@@ -164,7 +176,8 @@ lock_taken sc n v w y lows t p kind l at small own free locks mode low pages bac
           ];
       private = λ u k a h. subst (λ xs. holds_alone xs (page_of lows k) u ≡ true) (sym locks) (elim (rows u k a h) [
         | inl i ↦ alone_more p t kind v.me.locks (page_of lows k) u (l.private u k (back u a) i)
-        | inr i ↦ subst (λ z. holds_alone (add_lock p t kind v.me.locks) z u ≡ true) (sym i.1) (subst (λ z. holds_alone (add_lock p t kind v.me.locks) p z ≡ true) (sym i.0)
+        | inr i ↦ subst (λ z. holds_alone (add_lock p t kind v.me.locks) z u ≡ true) (sym i.1)
+            (subst (λ z. holds_alone (add_lock p t kind v.me.locks) p z ≡ true) (sym i.0)
             (subst (λ z. holds_alone (add_lock p t z v.me.locks) p t ≡ true) (sym i.2) (alone_new p t v.me.locks)))
       ]);
     }
@@ -175,10 +188,13 @@ pub freed : (sc : Scenario) (n : Node) (v w : View) (z : NodeState) (lows : List
     → z.locks ≡ drop_locks t v.me.locks → z.mode ≡ v.me.mode → z.lows ≡ v.me.lows → ((p : ℕ) → owns z.pages p ≡ owns v.me.pages p)
     → Locking sc n z w lows
 freed sc n v w z lows t y l at e over locks mode low pages =
-    let far_at : (u : ℕ) → IsAt w u n → u ≡ t → ⊥ = λ u a same. false≢true (sym over ∙ subst (λ x. is_active x.status ≡ true) (ap (txn_at w) same ∙ at_self v w t y e at.0) a.0) in
+    let far_at : (u : ℕ) → IsAt w u n → u ≡ t → ⊥ = λ u a same. false≢true (sym over
+    ∙ subst (λ x. is_active x.status ≡ true) (ap (txn_at w) same ∙ at_self v w t y e at.0) a.0) in
     let now : (u : ℕ) → (u ≡ t → ⊥) → txn_at w u ≡ txn_at v u = λ u far. at_other v w t u y e far in
-    let far : (q u : ℕ) → holds z.locks q u ≡ true → u ≡ t → ⊥ = λ q u h same. holds-dropped v.me.locks q t (subst (λ j. holds (drop_locks t v.me.locks) q j ≡ true) same (subst (λ xs. holds xs q u ≡ true) locks h)) in
-    let old : (q u : ℕ) → holds z.locks q u ≡ true → holds v.me.locks q u ≡ true = λ q u h. sym (holds-drop v.me.locks q t u (far q u h)) ∙ subst (λ xs. holds xs q u ≡ true) locks h in
+    let far : (q u : ℕ) → holds z.locks q u ≡ true → u ≡ t → ⊥ = λ q u h same. holds-dropped v.me.locks q t
+    (subst (λ j. holds (drop_locks t v.me.locks) q j ≡ true) same (subst (λ xs. holds xs q u ≡ true) locks h)) in
+    let old : (q u : ℕ) → holds z.locks q u ≡ true → holds v.me.locks q u ≡ true =
+    λ q u h. sym (holds-drop v.me.locks q t u (far q u h)) ∙ subst (λ xs. holds xs q u ≡ true) locks h in
     record {
       busy = λ u a. ap is_idle mode ∙ l.busy u (subst (λ x. Stands x n) (now u (far_at u a)) a);
       newest = λ h. low ∙ l.newest (ap is_idle (sym mode) ∙ h);
@@ -186,12 +202,16 @@ freed sc n v w z lows t y l at e over locks mode low pages =
       below = λ q u h. l.below q u (old q u h);
       kept = λ q u s h. pages q ∙ l.kept q u (subst (Stay sc) mode s) (old q u h);
       apart = λ q a b ha hb.
-          let far_a : a ≡ t → ⊥ = far q a (subst (λ xs. holds xs q a ≡ true) (sym locks) (exclusive_holds (drop_locks t v.me.locks) q a (subst (λ xs. holds_alone xs q a ≡ true) locks ha))) in
+          let far_a : a ≡ t → ⊥ =
+          far q a
+          (subst (λ xs. holds xs q a ≡ true) (sym locks) (exclusive_holds (drop_locks t v.me.locks) q a
+          (subst (λ xs. holds_alone xs q a ≡ true) locks ha))) in
           l.apart q a b (sym (holds_alone-drop v.me.locks q t a far_a) ∙ subst (λ xs. holds_alone xs q a ≡ true) locks ha) (old q b hb);
       private = λ u k a h.
           let f = far_at u a in
           let s = now u f in
-          subst (λ xs. holds_alone xs (page_of lows k) u ≡ true) (sym locks) (holds_alone-drop v.me.locks (page_of lows k) t u f ∙ l.private u k (subst (λ x. Stands x n) s a) (subst (λ x. is_some (get_row x.rows k) ≡ true) s h));
+          subst (λ xs. holds_alone xs (page_of lows k) u ≡ true) (sym locks) (holds_alone-drop v.me.locks (page_of lows k) t u f
+          ∙ l.private u k (subst (λ x. Stands x n) s a) (subst (λ x. is_some (get_row x.rows k) ≡ true) s h));
     }
 
 -- t begins at h
@@ -200,7 +220,8 @@ pub began : (sc : Scenario) (n h : Node) (x : NodeState) (v w : View) (lows : Li
     → w.txns ≡ slice_set v.txns t y → y.node ≡ h → y.rows ≡ [] → (h ≡ n → is_idle x.mode ≡ false) → Locking sc n x w lows
 began sc n h x v w lows t y l new e node rows busy =
     let far : (u : ℕ) → IsAt v u n → u ≡ t → ⊥ = λ u a same. false≢true (sym new ∙ ap (λ z. is_active (txn_at v z).status) (sym same) ∙ a.0) in
-    let now : (u : ℕ) → IsAt w u n → (IsAt v u n × ((txn_at w u).rows ≡ (txn_at v u).rows)) ⊎ (((txn_at w u).rows ≡ []) × (h ≡ n)) = λ u a. elim (cases_eq u t) [
+    let now : (u : ℕ) → IsAt w u n → (IsAt v u n × ((txn_at w u).rows ≡ (txn_at v u).rows)) ⊎ (((txn_at w u).rows ≡ []) × (h ≡ n)) =
+    λ u a. elim (cases_eq u t) [
       | inl same ↦ elim (at_either v w t y e) [
         | inl i ↦ let j : txn_at w u ≡ y = ap (txn_at w) same ∙ i in inr (ap (λ (z : Txn). z.rows) j ∙ rows, sym node ∙ subst (λ (z : Txn). z.node ≡ n) j a.1)
         | inr i ↦ absurd (false≢true (sym new ∙ subst (λ (z : Txn). is_active z.status ≡ true) (ap (txn_at w) same ∙ i) a.0))

@@ -1,8 +1,9 @@
--- Each row of the table keeps locks, private rows and the places of rows.
+-- Each step of the table keeps locks, private rows and the places of rows.
 use Rattle.zy_modes.specs.Families.{is_home, is_source, is_destination, is_taker, is_idle}
 use Rattle.zy_laws.proofs.OneOwner.{sends_source}
 use Rattle.zy_wire.proofs.PageOf.{page_of-within}
-use Rattle.std.proofs.Common.{List, [], ap, false, inl, inr, length, refl, subst, suc, sym, true, zero, ℕ, ◌++◌, ◌+◌, ◌≤◌, ◌∙◌, ◌∷◌, ◌≡◌, length-append, arith, ◌<◌}
+use Rattle.std.proofs.Common.{List, [], ap, false, inl, inr, length, refl, subst, suc, sym, true, zero, ℕ, ◌++◌, ◌+◌, ◌≤◌, ◌∙◌, ◌∷◌, ◌≡◌, length-append, arith}
+use Rattle.std.proofs.Common.{◌<◌}
 use Rattle.std.specs.Prelude.{Contains, None, Option, Some, if◌then◌else◌, is_some, slice_get, ◌==◌, ◌&&◌, ◌⊎◌}
 use Rattle.std.proofs.lemmas.Bool.{and_from, cases_eq, cond_both, eq-eqb, eqb-true, false≢true, or_left, or_right}
 use Rattle.zy_isa.specs.Rows.{get_row, put_row}
@@ -39,10 +40,13 @@ use Rattle.zy_table.proofs.PageLists.{owns-lowered, owns-with_page}
 use Rattle.zy_table.proofs.RangeLists.{has_first, key_of_page}
 use Rattle.zy_table.proofs.SharedLocks.{conflict_own}
 use Rattle.zy_laws.proofs.CutPages.{placed_cut}
-use Rattle.zy_laws.proofs.Events.{arrived, rest, page, Runs, Event, Free, has_lock, lows_after, Rests, Begins, Aborts, SumsUp, FreeRange, has_locks, Gets, Writes, Inserts, Splits, Commits, Asks, Starts, GotWire, GotReady, GotDual, IsStale, Gives, GotPage, GotLast, GotFinish, GotAll, GotDone, Finishes, Pushes, GoesOn}
+use Rattle.zy_laws.proofs.Events.{arrived, rest, page, Runs, Event, Free, has_lock, lows_after, Rests, Begins, Aborts, SumsUp, FreeRange, has_locks, Gets}
+use Rattle.zy_laws.proofs.Events.{Writes, Inserts, Splits, Commits, Asks, Starts, GotWire, GotReady, GotDual, IsStale, Gives, GotPage, GotLast, GotFinish}
+use Rattle.zy_laws.proofs.Events.{GotAll, GotDone, Finishes, Pushes, GoesOn}
 use Rattle.zy_laws.proofs.Installing.{Placed, placed_front, owns-installed, placed_installed}
 use Rattle.zy_table.proofs.LockLists.{alone-add, alone_more, alone_new, exclusive_holds, holds-add, locked_of}
-use Rattle.zy_laws.proofs.Locking.{Kept, Locking, Stay, began, freed, idle_locking, lock_taken, nobody_runs, seen_same, whole, seen_other, seen_step, steady, untouched}
+use Rattle.zy_laws.proofs.Locking.{Kept, Locking, Stay, began, freed, idle_locking, lock_taken, nobody_runs, seen_same, whole, seen_other, seen_step, steady}
+use Rattle.zy_laws.proofs.Locking.{untouched}
 use Rattle.zy_laws.proofs.LoneRuns.{get_row-put}
 use Rattle.zy_laws.proofs.MovedPages.{arrived_placed, leaves_placed, whole_same}
 use Rattle.zy_laws.proofs.MovingPages.{owns-without_other, sent_bare}
@@ -88,8 +92,16 @@ lock_kept sc n v lows t k kind pc regs rows h at f grow i =
       first = h.first;
       placed = h.placed;
       mine = lock_taken sc n v w w.me lows t p kind h.mine at (within sc n v lows t k h at) f.here f.free refl refl refl refl
-          (λ u a. elim (cases_eq u t) [ inl same ↦ subst (λ z. IsAt v z n) (sym same) at | inr far ↦ subst (λ (z : Txn). Stands z n) (at_other v w t u y refl far) a ])
-          (λ u a. elim (cases_eq u t) [ inl same ↦ subst (λ z. IsAt w z n) (sym same) (subst (λ (z : Txn). Stands z n) (sym self) at) | inr far ↦ subst (λ (z : Txn). Stands z n) (sym (at_other v w t u y refl far)) a ])
+          (λ u a. elim (cases_eq u t) [
+            | inl same ↦ subst (λ z. IsAt v z n) (sym same) at
+            | inr far ↦
+                subst (λ (z : Txn). Stands z n) (at_other v w t u y refl far) a
+          ])
+          (λ u a. elim (cases_eq u t) [
+            | inl same ↦ subst (λ z. IsAt w z n) (sym same) (subst (λ (z : Txn). Stands z n) (sym self) at)
+            | inr far ↦
+                subst (λ (z : Txn). Stands z n) (sym (at_other v w t u y refl far)) a
+          ])
           (λ u j a s. elim (cases_eq u t) [
             | inl same ↦ elim (grow j (subst (λ (z : Txn). is_some (get_row z.rows j) ≡ true) (ap (txn_at w) same ∙ self) s)) [
               | inl old ↦ inl (subst (λ z. is_some (get_row (txn_at v z).rows j) ≡ true) (sym same) old)
@@ -109,8 +121,10 @@ shares_locking sc n [] v lows t l at small own free = l
 shares_locking sc n (p ∷ ps) v lows t l at small own free =
     let w = locked t p Shared v in
     let here = has_first p ps in
-    let one : Locking sc n w.me w lows = lock_taken sc n v w w.me lows t p Shared l at (small p here) (own p here) (free p here) refl refl refl refl (λ u a. a) (λ u a. a) (λ u j a s. inl s) in
-    shares_locking sc n ps w lows t one at (λ q h. small q (or_right _ _ h)) (λ q h. own q (or_right _ _ h)) (λ q h. conflict_own p t Shared v.me.locks q Shared ∙ free q (or_right _ _ h))
+    let one : Locking sc n w.me w lows = lock_taken sc n v w w.me lows t p Shared l at (small p here) (own p here) (free p here) refl refl refl refl (λ u a. a)
+    (λ u a. a) (λ u j a s. inl s) in
+    shares_locking sc n ps w lows t one at (λ q h. small q (or_right _ _ h)) (λ q h. own q (or_right _ _ h))
+    (λ q h. conflict_own p t Shared v.me.locks q Shared ∙ free q (or_right _ _ h))
 
 -- t does a sum, with the locks that it takes
 sum_kept : (sc : Scenario) (n : Node) (v : View) (lows : List ℕ) (t a b pc : ℕ) (regs : List ℕ) → Kept sc n v lows → IsAt v t n → FreeRange t a b v
@@ -119,12 +133,14 @@ unfolding did shares txn_at
 sum_kept sc n v lows t a b pc regs h at f i =
     let x = has_locks t a b v in
     let w = did t pc regs (txn_at v t).rows x in
-    let small : (p : ℕ) → has (range_pages v.me.lows a b) p ≡ true → p < length lows = λ p e. let k = key_of_page v.me.lows a b p e in subst (λ z. z < length lows) k.1 (within sc n v lows t k.0 h at) in
+    let small : (p : ℕ) → has (range_pages v.me.lows a b) p ≡ true → p < length lows = λ p e. let k = key_of_page v.me.lows a b p e in
+    subst (λ z. z < length lows) k.1 (within sc n v lows t k.0 h at) in
     record {
       inv = i;
       first = h.first;
       placed = h.placed;
-      mine = untouched sc n x.me x w lows (shares_locking sc n (range_pages v.me.lows a b) v lows t h.mine at small f.here f.free) (seen_step n x w t _ refl at.0 refl refl refl);
+      mine = untouched sc n x.me x w lows (shares_locking sc n (range_pages v.me.lows a b) v lows t h.mine at small f.here f.free)
+          (seen_step n x w t _ refl at.0 refl refl refl);
       theirs = untouched sc (other n) v.them v w lows h.theirs (seen_step (other n) v w t _ refl at.0 refl refl refl);
     }
 
@@ -152,7 +168,8 @@ unfolding committed
 committed_kept sc n v lows t k at i = record {
   inv = i;
   first = k.first;
-  placed = subst (λ l. Placed lows (installed l (txn_at v t).rows v.me.pages ++ (v.them.pages ++ (sent_leaves v.inbox ++ sent_leaves v.outbox)))) (sym (k.mine.newest (k.mine.busy t at))) (placed_installed lows (txn_at v t).rows v.me.pages _ k.placed);
+  placed = subst (λ l. Placed lows (installed l (txn_at v t).rows v.me.pages ++ (v.them.pages ++ (sent_leaves v.inbox ++ sent_leaves v.outbox))))
+      (sym (k.mine.newest (k.mine.busy t at))) (placed_installed lows (txn_at v t).rows v.me.pages _ k.placed);
   mine = freed sc n v _ _ lows t _ k.mine at refl refl refl refl refl (owns-installed v.me.lows (txn_at v t).rows v.me.pages);
   theirs = untouched sc (other n) v.them v _ lows k.theirs (seen_other n v _ t _ refl (λ s. false≢true s.0) at);
 }
@@ -221,19 +238,22 @@ begun_kept sc v lows t h k new home i =
 begun_event : (sc : Scenario) (n : Node) (v w : View) (lows : List ℕ) (t : ℕ) (h : Node) → Kept sc n v lows → Inv w → n ≡ A
     → is_new (txn_at v t).status ≡ true → home_of v.me.mode v.them.mode ≡ Some h → w ≡ begun h t v → Kept sc n w lows
 begun_event sc n v w lows t h k i a new home e =
-    subst (λ x. Kept sc n x lows) (sym e) (subst (λ m. Kept sc m (begun h t v) lows) (sym a) (begun_kept sc v lows t h (subst (λ m. Kept sc m v lows) a k) new home (subst Inv e i)))
+    subst (λ x. Kept sc n x lows) (sym e) (subst (λ m. Kept sc m (begun h t v) lows) (sym a)
+    (begun_kept sc v lows t h (subst (λ m. Kept sc m v lows) a k) new home (subst Inv e i)))
 
 -- ---- a page is cut
 
--- the lock that a row takes, before the rest of it
+-- the lock that a step takes, before the rest of it
 pub has_lock_locking : (sc : Scenario) (n : Node) (v : View) (lows : List ℕ) (t k : ℕ) (kind : LockKind) → Kept sc n v lows → IsAt v t n → Free t k kind v
     → Locking sc n (has_lock t k kind v).me (has_lock t k kind v) lows
 unfolding locked txn_at
 has_lock_locking sc n v lows t k kind h at f =
-    lock_taken sc n v (has_lock t k kind v) _ lows t (page_of v.me.lows k) kind h.mine at (within sc n v lows t k h at) f.here f.free refl refl refl refl (λ u a. a) (λ u a. a) (λ u j a s. inl s)
+    lock_taken sc n v (has_lock t k kind v) _ lows t (page_of v.me.lows k) kind h.mine at (within sc n v lows t k h at) f.here f.free refl refl refl refl
+    (λ u a. a) (λ u a. a) (λ u j a s. inl s)
 
 -- t has page p alone, and gets the new page alone
-cut_locking : (sc : Scenario) (n : Node) (v : View) (lows more : List ℕ) (t p b : ℕ) → Locking sc n v.me v lows → lows ≡ 0 ∷ more → holds_alone v.me.locks p t ≡ true → page_of lows b ≡ p
+cut_locking : (sc : Scenario) (n : Node) (v : View) (lows more : List ℕ) (t p b : ℕ) → Locking sc n v.me v lows → lows ≡ 0 ∷ more
+    → holds_alone v.me.locks p t ≡ true → page_of lows b ≡ p
     → Locking sc n (cut t p b v).me (cut t p b v) (lows ++ b ∷ [])
 unfolding cut txn_at
 cut_locking sc n v lows more t p b l begins mine on =
@@ -243,7 +263,8 @@ cut_locking sc n v lows more t p b l begins mine on =
     let count : q ≡ length lows = ap length newest in
     let none : (u : ℕ) → holds v.me.locks q u ≡ true → ⊥ = λ u h. let under = l.below q u h in omega (arith, under, count) in
     let longer : length (lows ++ b ∷ []) ≡ length lows + 1 = length-append lows (b ∷ []) in
-    let there : (z u : ℕ) → holds (add_lock q t Exclusive v.me.locks) z u ≡ true → (holds v.me.locks z u ≡ true) ⊎ ((q ≡ z) × (t ≡ u)) = λ z u h. holds-add q t Exclusive v.me.locks z u h in
+    let there : (z u : ℕ) → holds (add_lock q t Exclusive v.me.locks) z u ≡ true → (holds v.me.locks z u ≡ true) ⊎ ((q ≡ z) × (t ≡ u)) =
+    λ z u h. holds-add q t Exclusive v.me.locks z u h in
     record {
       busy = l.busy;
       newest = λ _. ap (λ xs. xs ++ b ∷ []) newest;
@@ -268,17 +289,20 @@ cut_locking sc n v lows more t p b l begins mine on =
       ];
       private = λ u k a h.
           let old = l.private u k a h in
-          elim (subst (λ l. (page_of (l ++ b ∷ []) k ≡ page_of l k) ⊎ ((page_of (l ++ b ∷ []) k ≡ length l) × (page_of l b ≡ page_of l k))) (sym begins) (page_of-cut more b k)) [
+          elim (subst (λ l. (page_of (l ++ b ∷ []) k ≡ page_of l k) ⊎ ((page_of (l ++ b ∷ []) k ≡ length l) × (page_of l b ≡ page_of l k))) (sym begins)
+          (page_of-cut more b k)) [
             | inl same ↦ alone_more q t Exclusive v.me.locks (page_of (lows ++ b ∷ []) k) u (subst (λ z. holds_alone v.me.locks z u ≡ true) (sym same) old)
             | inr new ↦
                 let one : u ≡ t = l.apart p u t (subst (λ z. holds_alone v.me.locks z u ≡ true) (sym new.1 ∙ on) old) (exclusive_holds v.me.locks p t mine) in
                 let here : page_of (lows ++ b ∷ []) k ≡ q = new.0 ∙ ap length (sym newest) in
-                subst (λ z. holds_alone (add_lock q t Exclusive v.me.locks) z u ≡ true) (sym here) (subst (λ z. holds_alone (add_lock q t Exclusive v.me.locks) q z ≡ true) (sym one) (alone_new q t v.me.locks))
+                subst (λ z. holds_alone (add_lock q t Exclusive v.me.locks) z u ≡ true) (sym here)
+                (subst (λ z. holds_alone (add_lock q t Exclusive v.me.locks) q z ≡ true) (sym one) (alone_new q t v.me.locks))
           ];
     }
 
 cut_kept : (sc : Scenario) (n : Node) (v : View) (lows : List ℕ) (t k b : ℕ) → Kept sc n v lows → IsAt v t n → Free t k Exclusive v → may_split v.me.mode ≡ true
-    → page_of v.me.lows b ≡ page_of v.me.lows k → (Contains v.me.lows b → ⊥) → Inv (cut t (page_of v.me.lows k) b (has_lock t k Exclusive v)) → Kept sc n (cut t (page_of v.me.lows k) b (has_lock t k Exclusive v)) (lows ++ b ∷ [])
+    → page_of v.me.lows b ≡ page_of v.me.lows k → (Contains v.me.lows b → ⊥) → Inv (cut t (page_of v.me.lows k) b (has_lock t k Exclusive v))
+    → Kept sc n (cut t (page_of v.me.lows k) b (has_lock t k Exclusive v)) (lows ++ b ∷ [])
 unfolding cut locked
 cut_kept sc n v lows t k b h at f normal on new i =
     let p = page_of v.me.lows k in
@@ -289,20 +313,25 @@ cut_kept sc n v lows t k b h at f normal on new i =
     let parts = placed_front (0 ∷ more) v.me.pages (rest_of v) (subst (λ l. Placed l (whole v)) h.first.1 h.placed) in
     let here : page_of (0 ∷ more) b ≡ p = subst (λ l. page_of l b ≡ p) begins on in
     let now = placed_cut more p b v.me.pages (rest_of v) here (subst (λ l. Contains l b → ⊥) begins new) (rest_lacks v p h.inv.owned f.here) parts.0 parts.1 in
-    let pages : ℕ → List Leaf = λ q. with_page (record { number = q; low = b; rows = rows_from b (rows_of v.me.pages p) }) (lowered p b v.me.pages) ++ rest_of v in
+    let pages : ℕ → List Leaf = λ q. with_page (record { number = q; low = b; rows = rows_from b (rows_of v.me.pages p) }) (lowered p b v.me.pages)
+    ++ rest_of v in
     record {
       inv = i;
       first = (more ++ b ∷ [], ap (λ l. l ++ b ∷ []) h.first.1);
-      placed = subst (λ l. Placed (l ++ b ∷ []) (pages (length v.me.lows))) (sym h.first.1) (subst (λ l. Placed ((0 ∷ more) ++ b ∷ []) (pages (length l))) (sym begins) now);
-      mine = cut_locking sc n (has_lock t k Exclusive v) lows more t p b (has_lock_locking sc n v lows t k Exclusive h at f) h.first.1 (alone_new p t v.me.locks) (ap (λ l. page_of l b) (sym newest) ∙ on);
+      placed = subst (λ l. Placed (l ++ b ∷ []) (pages (length v.me.lows))) (sym h.first.1)
+          (subst (λ l. Placed ((0 ∷ more) ++ b ∷ []) (pages (length l))) (sym begins) now);
+      mine = cut_locking sc n (has_lock t k Exclusive v) lows more t p b (has_lock_locking sc n v lows t k Exclusive h at f) h.first.1
+          (alone_new p t v.me.locks) (ap (λ l. page_of l b) (sym newest) ∙ on);
       theirs = idle_locking sc (other n) v.them v.them v _ lows (lows ++ b ∷ []) h.theirs idle.0 idle.0 refl refl;
     }
 
 -- ---- messages, modes and pages that move
 
 -- a node that turns to another mode in which transactions run
-turned_locking : (sc : Scenario) (n : Node) (v w : View) (y : NodeState) (lows : List ℕ) → Locking sc n v.me v lows → is_idle v.me.mode ≡ false → is_idle y.mode ≡ false
-    → y.lows ≡ v.me.lows → y.locks ≡ v.me.locks → ((p : ℕ) → owns v.me.pages p ≡ true → owns y.pages p ≡ true) → (Stay sc y.mode → Stay sc v.me.mode) → w.txns ≡ v.txns
+turned_locking : (sc : Scenario) (n : Node) (v w : View) (y : NodeState) (lows : List ℕ) → Locking sc n v.me v lows → is_idle v.me.mode ≡ false
+    → is_idle y.mode ≡ false
+    → y.lows ≡ v.me.lows → y.locks ≡ v.me.locks → ((p : ℕ) → owns v.me.pages p ≡ true → owns y.pages p ≡ true) → (Stay sc y.mode → Stay sc v.me.mode)
+    → w.txns ≡ v.txns
     → Locking sc n y w lows
 turned_locking sc n v w y lows l runs still low locks pages stay same =
     steady sc n v.me y v w lows l (seen_same n v w same) locks (λ t at. still) (λ _. low ∙ l.newest runs) (λ p t s h. pages p (l.kept p t (stay s) h))
@@ -312,8 +341,9 @@ still_source : (sc : Scenario) (m k : NodeMode) → is_source k ≡ true → Sta
 still_source sc m k source (inl held) = inl held
 still_source sc m k source (inr off) = absurd (false≢true (sym off ∙ source))
 
--- a row that changes no transaction, and not the other node
-node_kept : (sc : Scenario) (n : Node) (v w : View) (lows : List ℕ) → Kept sc n v lows → Inv w → w.txns ≡ v.txns → w.them ≡ v.them → Placed lows (whole w) → Locking sc n w.me w lows
+-- a step that changes no transaction, and not the other node
+node_kept : (sc : Scenario) (n : Node) (v w : View) (lows : List ℕ) → Kept sc n v lows → Inv w → w.txns ≡ v.txns → w.them ≡ v.them → Placed lows (whole w)
+    → Locking sc n w.me w lows
     → Kept sc n w lows
 node_kept sc n v w lows k i txns them placed mine = record {
   inv = i;
@@ -325,7 +355,8 @@ node_kept sc n v w lows k i txns them placed mine = record {
 
 -- the same, where no page moves
 links_kept : (sc : Scenario) (n : Node) (v w : View) (lows : List ℕ) → Kept sc n v lows → Inv w → w.txns ≡ v.txns → w.them ≡ v.them
-    → w.me.pages ≡ v.me.pages → sent_leaves w.inbox ≡ sent_leaves v.inbox → sent_leaves w.outbox ≡ sent_leaves v.outbox → Locking sc n w.me w lows → Kept sc n w lows
+    → w.me.pages ≡ v.me.pages → sent_leaves w.inbox ≡ sent_leaves v.inbox → sent_leaves w.outbox ≡ sent_leaves v.outbox → Locking sc n w.me w lows
+    → Kept sc n w lows
 links_kept sc n v w lows k i txns them pages inbox outbox mine =
     node_kept sc n v w lows k i txns them (subst (Placed lows) (sym (whole_same v w pages (ap (λ (x : NodeState). x.pages) them) inbox outbox)) k.placed) mine
 
@@ -336,13 +367,15 @@ asks_kept sc n v lows p k i =
     (steady sc n v.me _ v _ lows k.mine (seen_same n v _ refl) refl k.mine.busy k.mine.newest k.mine.kept)
 
 -- a page that nobody has locked leaves, and perhaps the front of the inbox with it
-leaves_kept : (sc : Scenario) (n : Node) (v : View) (lows : List ℕ) (p : ℕ) (ms : List Message) → Kept sc n v lows → sent_leaves ms ≡ sent_leaves v.inbox → owns v.me.pages p ≡ true
+leaves_kept : (sc : Scenario) (n : Node) (v : View) (lows : List ℕ) (p : ℕ) (ms : List Message) → Kept sc n v lows → sent_leaves ms ≡ sent_leaves v.inbox
+    → owns v.me.pages p ≡ true
     → (Stay sc v.me.mode → (q t : ℕ) → holds v.me.locks q t ≡ true → q ≡ p → ⊥) → Inv (leaves p (rest v ms)) → Kept sc n (leaves p (rest v ms)) lows
 unfolding leaves
 leaves_kept sc n v lows p ms k inbox own free i =
     let r = rest v ms in
     node_kept sc n v (leaves p r) lows k i refl refl (leaves_placed lows r p (subst (Placed lows) (sym (whole_same v r refl refl inbox refl)) k.placed) own)
-    (steady sc n v.me _ v _ lows k.mine (seen_same n v _ refl) refl k.mine.busy k.mine.newest (λ q t s h. owns-without_other p q v.me.pages (free s q t h) ∙ k.mine.kept q t s h))
+    (steady sc n v.me _ v _ lows k.mine (seen_same n v _ refl) refl k.mine.busy k.mine.newest
+    (λ q t s h. owns-without_other p q v.me.pages (free s q t h) ∙ k.mine.kept q t s h))
 
 -- a page that is handed over is locked by nobody, where locked pages stay
 pub give_free : (sc : Scenario) (v : View) (p : ℕ) → is_source v.me.mode ≡ true → (is_held sc.rule && is_locked v.me.locks p) ≡ false → Stay sc v.me.mode
@@ -356,7 +389,8 @@ owns_more : (leaf : Leaf) (xs : List Leaf) (p : ℕ) → owns xs p ≡ true → 
 owns_more leaf xs p h = owns-with_page p leaf xs ∙ or_right _ _ h
 
 -- the wireframe that comes is the source's
-wire_front : (v : View) (lows : List ℕ) (ms : List Message) → v.inbox ≡ Wire lows ∷ ms → v.me.mode ≡ Empty → Roles v → (lows ≡ v.them.lows) × (v.them.mode ≡ SInit)
+wire_front : (v : View) (lows : List ℕ) (ms : List Message) → v.inbox ≡ Wire lows ∷ ms → v.me.mode ≡ Empty → Roles v → (lows ≡ v.them.lows)
+    × (v.them.mode ≡ SInit)
 wire_front v lows ms e empty r = let came = wire_came v.them v.me v.inbox v.outbox lows ms (taker_of v r (ap is_taker empty)) e in (came.2, came.0)
 
 same_node-refl : (n : Node) → same_node n n ≡ true
@@ -390,7 +424,8 @@ split_on sc n v lows t key value k runs full = boundary_on sc t key (page key v)
 along : (sc : Scenario) (n : Node) (w x : View) (lows : List ℕ) → w ≡ x → Inv w → (Inv x → Kept sc n x lows) → Kept sc n w lows
 along sc n w x lows e i f = subst (λ z. Kept sc n z lows) (sym e) (f (subst Inv e i))
 
-pub kept_event : (sc : Scenario) (n : Node) (v w : View) (lows : List ℕ) → 2 ≤ sc.cap → Ordered v → Kept sc n v lows → Inv w → (e : Event sc n v w) → Kept sc n w (lows_after sc n v w lows e)
+pub kept_event : (sc : Scenario) (n : Node) (v w : View) (lows : List ℕ) → 2 ≤ sc.cap → Ordered v → Kept sc n v lows → Inv w → (e : Event sc n v w)
+    → Kept sc n w (lows_after sc n v w lows e)
 kept_event sc n v w lows two o k i (Rests e) = along sc n w _ lows e i (λ _. k)
 kept_event sc n v w lows two o k i (Begins t h a new home e) = begun_event sc n v w lows t h k i a new home e
 kept_event sc n v w lows two o k i (Aborts t y active here e) = along sc n w _ lows e i (aborted_kept sc n v lows t y k (active, here))
@@ -409,7 +444,8 @@ kept_event sc n v w lows two o k i (Splits t key value runs f new full normal pa
     let newest : v.me.lows ≡ lows = k.mine.newest (k.mine.busy t at) in
     let placed = home_placed sc n v lows t k at in
     let on = split_on sc n v lows t key value k runs full in
-    let other = boundary_new sc t key (page key v) v k.first.0 (newest ∙ k.first.1) two placed refl full (rows_at (page key v) v.me.pages o.mine.rows) (o.private t) new in
+    let other = boundary_new sc t key (page key v) v k.first.0 (newest ∙ k.first.1) two placed refl full (rows_at (page key v) v.me.pages o.mine.rows)
+    (o.private t) new in
     subst (λ x. Kept sc n x (lows ++ b ∷ [])) (sym e) (cut_kept sc n v lows t key b k at f normal on other (subst Inv e i))
 kept_event sc n v w lows two o k i (Commits t runs all e) = along sc n w _ lows e i (committed_kept sc n v lows t k (runs.active, runs.here))
 kept_event sc n v w lows two o k i (Asks p gone pulls asked e) = along sc n w _ lows e i (asks_kept sc n v lows p k)
@@ -421,7 +457,8 @@ kept_event sc n v w lows two o k i (GotWire sent ms f empty e) =
     let x : View = post Ready (turns DInit (with_me (with_lows sent v.me) (rest v ms))) in
     let from = wire_front v sent ms f empty k.inv.roles in
     along sc n w x lows e i (λ j. links_kept sc n v x lows k j refl refl refl (ap sent_leaves (sym f)) (sent_bare v.outbox Ready refl)
-    (steady sc n v.me x.me v x lows k.mine (seen_same n v x refl) refl (λ t at. refl) (λ _. from.0 ∙ k.theirs.newest (ap is_idle from.1)) (λ p t _ h. k.mine.kept p t (inr (ap is_source empty)) h)))
+    (steady sc n v.me x.me v x lows k.mine (seen_same n v x refl) refl (λ t at. refl) (λ _. from.0 ∙ k.theirs.newest (ap is_idle from.1))
+    (λ p t _ h. k.mine.kept p t (inr (ap is_source empty)) h)))
 kept_event sc n v w lows two o k i (GotReady ms f init e) =
     let x : View = post Dual (turns SDual (rest v ms)) in
     along sc n w x lows e i (λ j. links_kept sc n v x lows k j refl refl refl (ap sent_leaves (sym f)) (sent_bare v.outbox Dual refl)
@@ -432,12 +469,15 @@ kept_event sc n v w lows two o k i (GotDual ms f init e) =
     (turned_locking sc n v x x.me lows k.mine (ap is_idle init) refl refl refl (λ p h. h) (λ _. inr (ap is_source init)) refl))
 kept_event sc n v w lows two o k i (IsStale p ms f e) =
     let x : View = rest v ms in
-    along sc n w x lows e i (λ j. links_kept sc n v x lows k j refl refl refl (ap sent_leaves (sym f)) refl (untouched sc n v.me v x lows k.mine (seen_same n v x refl)))
-kept_event sc n v w lows two o k i (Gives p ms f sends own free e) = along sc n w _ lows e i (leaves_kept sc n v lows p ms k (ap sent_leaves (sym f)) own (give_free sc v p (sends_source v.me.mode sends) free))
+    along sc n w x lows e i (λ j. links_kept sc n v x lows k j refl refl refl (ap sent_leaves (sym f)) refl
+    (untouched sc n v.me v x lows k.mine (seen_same n v x refl)))
+kept_event sc n v w lows two o k i (Gives p ms f sends own free e) = along sc n w _ lows e i
+    (leaves_kept sc n v lows p ms k (ap sent_leaves (sym f)) own (give_free sc v p (sends_source v.me.mode sends) free))
 kept_event sc n v w lows two o k i (GotPage leaf ms f pulls e) =
     let x : View = arrived leaf (rest v ms) in
     along sc n w x lows e i (λ j. node_kept sc n v x lows k j refl refl (arrived_placed lows v leaf ms f k.placed)
-    (steady sc n v.me x.me v x lows k.mine (seen_same n v x refl) refl k.mine.busy k.mine.newest (λ p t s h. owns_more leaf v.me.pages p (k.mine.kept p t s h))))
+    (steady sc n v.me x.me v x lows k.mine (seen_same n v x refl) refl k.mine.busy k.mine.newest
+    (λ p t s h. owns_more leaf v.me.pages p (k.mine.kept p t s h))))
 kept_event sc n v w lows two o k i (GotLast leaf ms f finish all e) =
     let x : View = post Done (turns Normal (arrived leaf (rest v ms))) in
     let pages = whole_same (arrived leaf (rest v ms)) x refl refl refl (sent_bare v.outbox Done refl) in
@@ -458,6 +498,8 @@ kept_event sc n v w lows two o k i (GotDone ms f finish e) =
 kept_event sc n v w lows two o k i (Finishes dual none e) =
     let x : View = post Finish (turns SFinish v) in
     along sc n w x lows e i (λ j. links_kept sc n v x lows k j refl refl refl refl (sent_bare v.outbox Finish refl)
-    (steady sc n v.me x.me v x lows k.mine (seen_same n v x refl) refl (λ t at. absurd (no_active n v t none at)) (λ h. absurd (false≢true (sym h))) (λ p t s h. k.mine.kept p t (still_source sc v.me.mode SFinish refl s) h)))
+    (steady sc n v.me x.me v x lows k.mine (seen_same n v x refl) refl (λ t at. absurd (no_active n v t none at)) (λ h. absurd (false≢true (sym h)))
+    (λ p t s h. k.mine.kept p t (still_source sc v.me.mode SFinish refl s) h)))
 kept_event sc n v w lows two o k i (Pushes p finish own e) =
-    along sc n w _ lows e i (leaves_kept sc n v lows p v.inbox k refl own (λ s q t h same. nobody_runs sc n v.me v lows t k.mine (ap is_idle finish) (k.mine.runs q t h)))
+    along sc n w _ lows e i
+    (leaves_kept sc n v lows p v.inbox k refl own (λ s q t h same. nobody_runs sc n v.me v lows t k.mine (ap is_idle finish) (k.mine.runs q t h)))

@@ -122,19 +122,30 @@ alike_put : (d d' : Map) (e : Effect) (x : Lone) (k v : ℕ) (far : Bool) (there
 alike_put d d' e x k v far there form on a =
     let on' : (if far then ended x else if there (sees d x k) then stores k v x else ended x).over ≡ false = rw form at on in
     let a' : Agree d d' (if far then ended x else if there (sees d x k) then stores k v x else ended x).keys = rw form at a in
-    let both : Agree d d' (k ∷ x.keys) = cond_both far (ended x) (if there (sees d x k) then stores k v x else ended x) (λ y. y.over ≡ false → Agree d d' y.keys → Agree d d' (k ∷ x.keys))
+    let both : Agree d d' (k ∷ x.keys) = cond_both far (ended x) (if there (sees d x k) then stores k v x else ended x) (λ y. y.over ≡ false → Agree d d' y.keys
+    → Agree d d' (k ∷ x.keys))
     (λ _ o _. over_absurd o)
-    (λ _. cond_both (there (sees d x k)) (stores k v x) (ended x) (λ y. y.over ≡ false → Agree d d' y.keys → Agree d d' (k ∷ x.keys)) (λ _ _ h. h) (λ _ o _. over_absurd o)) on' a' in
+    (λ _. cond_both (there (sees d x k)) (stores k v x) (ended x) (λ y. y.over ≡ false → Agree d d' y.keys → Agree d d' (k ∷ x.keys)) (λ _ _ h. h)
+    (λ _ o _. over_absurd o)) on' a' in
     let same : sees d' x k ≡ sees d x k = ap (or_else (get_row x.rows k)) (agree_first d d' k x.keys both) in
-    record { before = agree_rest d d' k x.keys both; same = form d' ∙ ap (λ o. if far then ended x else if there o then stores k v x else ended x) same ∙ sym (form d) }
+    record {
+      before = agree_rest d d' k x.keys both;
+      same = form d' ∙ ap (λ o. if far then ended x else if there o then stores k v x else ended x) same
+          ∙ sym (form d);
+    }
 
 alike_read : (d d' : Map) (r : Reg) (k : ℕ) (x : Lone) → (lone_effect d (Accesses (Reads r) k) x).over ≡ false
     → Agree d d' (lone_effect d (Accesses (Reads r) k) x).keys → Alike d d' x (lone_effect d (Accesses (Reads r) k) x) (lone_effect d' (Accesses (Reads r) k) x)
 unfolding lone_effect
 alike_read d d' r k x on a =
-    let both : Agree d d' (k ∷ x.keys) = cond_both (nat_lt 65535 k) (ended x) (reads d r k x) (λ y. y.over ≡ false → Agree d d' y.keys → Agree d d' (k ∷ x.keys)) (λ _ o _. over_absurd o) (λ _ _ h. h) on a in
+    let both : Agree d d' (k ∷ x.keys) = cond_both (nat_lt 65535 k) (ended x) (reads d r k x) (λ y. y.over ≡ false → Agree d d' y.keys
+    → Agree d d' (k ∷ x.keys)) (λ _ o _. over_absurd o) (λ _ _ h. h) on a in
     let same : sees d' x k ≡ sees d x k = ap (or_else (get_row x.rows k)) (agree_first d d' k x.keys both) in
-    record { before = agree_rest d d' k x.keys both; same = ap (λ o. if nat_lt 65535 k then ended x else record x { regs = with_reg r (unwrap_or o 0) x.regs; pc = x.pc + 1; keys = k ∷ x.keys }) same }
+    record {
+      before = agree_rest d d' k x.keys both;
+      same = ap (λ o. if nat_lt 65535 k then ended x
+          else record x { regs = with_reg r (unwrap_or o 0) x.regs; pc = x.pc + 1; keys = k ∷ x.keys }) same;
+    }
 
 sums_alike : (d d' : Map) (r : Reg) (ks : List ℕ) (x : Lone) → Agree d d' ks → sums d' r ks x ≡ sums d r ks x
 sums_alike d d' r ks x a =
@@ -200,7 +211,8 @@ get-insert_at m k v q = get-insert nat_cmp_total m k v q ∙ ap (λ b. if b then
 pub get-laid : (rows : List Row) (m : Map) (k : ℕ) → get (laid rows m) k ≡ or_else (get_row rows k) (get m k)
 get-laid [] m k = refl
 get-laid (r ∷ rows) m k =
-    get-insert_at (laid rows m) r.key r.value k ∙ cond_both (r.key == k) (Some r.value) (get_row rows k) (λ o. (if r.key == k then Some r.value else get (laid rows m) k) ≡ or_else o (get m k))
+    get-insert_at (laid rows m) r.key r.value k ∙ cond_both (r.key == k) (Some r.value) (get_row rows k)
+    (λ o. (if r.key == k then Some r.value else get (laid rows m) k) ≡ or_else o (get m k))
     (λ h. ap (λ b. if b then Some r.value else get (laid rows m) k) h)
     (λ h. ap (λ b. if b then Some r.value else get (laid rows m) k) h ∙ get-laid rows m k)
 
@@ -225,7 +237,8 @@ get_row-put k v (r ∷ rows) q =
     cond_both (k == r.key) _ _ (λ y. get_row y q ≡ (if k == q then Some v else get_row (r ∷ rows) q))
     (λ h. let same : k ≡ r.key = eqb-true _ _ h in put_over k v r.key r.value (get_row rows q) q same)
     (λ h. cond_both (nat_lt k r.key) _ _ (λ y. get_row y q ≡ (if k == q then Some v else get_row (r ∷ rows) q)) (λ _. refl)
-    (λ _. let other : k ≡ r.key → ⊥ = eqb-false _ _ h in ap (λ o. if r.key == q then Some r.value else o) (get_row-put k v rows q) ∙ put_past k v r.key r.value (get_row rows q) q other))
+    (λ _. let other : k ≡ r.key → ⊥ = eqb-false _ _ h in ap (λ o. if r.key == q then Some r.value else o) (get_row-put k v rows q)
+    ∙ put_past k v r.key r.value (get_row rows q) q other))
 
 -- a lone run on the map itself does the same, with its rows laid over the map
 pub record OnMap (m : Map) (x : Lone) (y : Alone) : Type 0 where
@@ -249,23 +262,28 @@ abbrev pub mapped : Map → Lone → Alone
 mapped m x = goes_on (laid x.rows m) x.regs x.pc
 
 on_read : (m : Map) (r : Reg) (k : ℕ) (x : Lone) (far : Bool) → (if far then ended x else reads m r k x).over ≡ false
-    → OnMap m (if far then ended x else reads m r k x) (if far then gives_up m (mapped m x) else goes_on (laid x.rows m) (with_reg r (unwrap_or (get (laid x.rows m) k) 0) x.regs) (x.pc + 1))
+    → OnMap m (if far then ended x else reads m r k x) (if far then gives_up m (mapped m x)
+    else goes_on (laid x.rows m) (with_reg r (unwrap_or (get (laid x.rows m) k) 0) x.regs) (x.pc + 1))
 on_read m r k x true on = over_absurd on
 on_read m r k x false on = record { map = refl; regs = ap (λ o. with_reg r (unwrap_or o 0) x.regs) (get-laid x.rows m k); pc = refl; over = refl }
 
 on_put : (m : Map) (x : Lone) (k v : ℕ) (far there : Bool) → (if far then ended x else if there then stores k v x else ended x).over ≡ false
-    → OnMap m (if far then ended x else if there then stores k v x else ended x) (if far then gives_up m (mapped m x) else if there then goes_on (insert (laid x.rows m) k v) x.regs (x.pc + 1) else gives_up m (mapped m x))
+    → OnMap m (if far then ended x else if there then stores k v x else ended x)
+    (if far then gives_up m (mapped m x) else if there then goes_on (insert (laid x.rows m) k v) x.regs (x.pc + 1) else gives_up m (mapped m x))
 on_put m x k v true there on = over_absurd on
 on_put m x k v false true on = record { map = laid_put m x.rows k v; regs = refl; pc = refl; over = refl }
 on_put m x k v false false on = over_absurd on
 
 on_sum : (m : Map) (r : Reg) (ks : List ℕ) (none far : Bool) (x : Lone) → (sums_or_ends m r ks none far x).over ≡ false
-    → OnMap m (sums_or_ends m r ks none far x) (if none then goes_on (laid x.rows m) (with_reg r 0 x.regs) (x.pc + 1) else if far then gives_up m (mapped m x) else goes_on (laid x.rows m) (with_reg r (total (value_in (laid x.rows m)) ks % 2 ^ 32) x.regs) (x.pc + 1))
+    → OnMap m (sums_or_ends m r ks none far x) (if none then goes_on (laid x.rows m) (with_reg r 0 x.regs) (x.pc + 1) else if far then gives_up m (mapped m x)
+    else goes_on (laid x.rows m) (with_reg r (total (value_in (laid x.rows m)) ks % 2 ^ 32) x.regs) (x.pc + 1))
 on_sum m r ks true far x on = record { map = refl; regs = refl; pc = refl; over = refl }
 on_sum m r ks false true x on = over_absurd on
 on_sum m r ks false false x on = record {
   map = refl;
-  regs = ap (λ z. with_reg r (z % 2 ^ 32) x.regs) (total_same (value_in (laid x.rows m)) (value_seen m x) ks (λ k _. ap (λ o. unwrap_or o 0) (get-laid x.rows m k)));
+  regs =
+      ap (λ z. with_reg r (z % 2 ^ 32) x.regs) (total_same (value_in (laid x.rows m)) (value_seen m x) ks
+      (λ k _. ap (λ o. unwrap_or o 0) (get-laid x.rows m k)));
   pc = refl;
   over = refl;
 }

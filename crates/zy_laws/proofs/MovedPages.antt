@@ -15,7 +15,8 @@ use Rattle.zy_laws.proofs.MovingPages.{sent_leaves-append}
 use Rattle.zy_laws.proofs.PageValues.{rest_of}
 
 -- the pages are the same, wherever they are
-pub whole_same : (v w : View) → w.me.pages ≡ v.me.pages → w.them.pages ≡ v.them.pages → sent_leaves w.inbox ≡ sent_leaves v.inbox → sent_leaves w.outbox ≡ sent_leaves v.outbox
+pub whole_same : (v w : View) → w.me.pages ≡ v.me.pages → w.them.pages ≡ v.them.pages → sent_leaves w.inbox ≡ sent_leaves v.inbox
+    → sent_leaves w.outbox ≡ sent_leaves v.outbox
     → whole w ≡ whole v
 whole_same v w a b c d = λ i. a i ++ (b i ++ (c i ++ d i))
 
@@ -46,17 +47,21 @@ leaves_placed lows v p h own =
     let parts = placed_front lows v.me.pages (rest_of v) h in
     let leaf = leaf_at v.me.pages p in
     subst (Placed lows) (sym (whole-leaves p v))
-    (placed_append lows (without p v.me.pages) _ (placed_without lows p v.me.pages parts.0) (placed_append lows (rest_of v) (leaf ∷ []) parts.1 (leaf_on lows p v.me.pages parts.0 own, tt)))
+    (placed_append lows (without p v.me.pages) _ (placed_without lows p v.me.pages parts.0)
+    (placed_append lows (rest_of v) (leaf ∷ []) parts.1 (leaf_on lows p v.me.pages parts.0 own, tt)))
 
 -- ---- a page comes
 
 -- all pages, with the one in front of the inbox
-pub whole-front : (v : View) (leaf : Leaf) (ms : List Message) → v.inbox ≡ Page leaf ∷ ms → whole v ≡ v.me.pages ++ (v.them.pages ++ (leaf ∷ (sent_leaves ms ++ sent_leaves v.outbox)))
+pub whole-front : (v : View) (leaf : Leaf) (ms : List Message) → v.inbox ≡ Page leaf ∷ ms
+    → whole v ≡ v.me.pages ++ (v.them.pages ++ (leaf ∷ (sent_leaves ms ++ sent_leaves v.outbox)))
 whole-front v leaf ms e = ap (λ xs. v.me.pages ++ (v.them.pages ++ (sent_leaves xs ++ sent_leaves v.outbox))) e
 
-pub arrived_placed : (lows : List ℕ) (v : View) (leaf : Leaf) (ms : List Message) → v.inbox ≡ Page leaf ∷ ms → Placed lows (whole v) → Placed lows (whole (arrived leaf (rest v ms)))
+pub arrived_placed : (lows : List ℕ) (v : View) (leaf : Leaf) (ms : List Message) → v.inbox ≡ Page leaf ∷ ms → Placed lows (whole v)
+    → Placed lows (whole (arrived leaf (rest v ms)))
 arrived_placed lows v leaf ms e h =
     let others = sent_leaves ms ++ sent_leaves v.outbox in
     let a = placed_front lows v.me.pages (v.them.pages ++ (leaf ∷ others)) (subst (Placed lows) (whole-front v leaf ms e) h) in
     let b = placed_front lows v.them.pages (leaf ∷ others) a.1 in
-    placed_append lows (with_page leaf v.me.pages) (v.them.pages ++ others) (placed-with_page lows leaf v.me.pages b.1.0 a.0) (placed_append lows v.them.pages others b.0 b.1.1)
+    placed_append lows (with_page leaf v.me.pages) (v.them.pages ++ others) (placed-with_page lows leaf v.me.pages b.1.0 a.0)
+    (placed_append lows v.them.pages others b.0 b.1.1)

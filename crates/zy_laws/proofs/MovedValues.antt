@@ -25,7 +25,8 @@ use Rattle.zy_laws.proofs.PageValues.{db, found_once, rest_lacks, rest_of}
 use Rattle.zy_laws.proofs.Roles.{Owned}
 
 -- the pages are the same, and so is what they have
-pub same_db : (v w : View) → w.me.pages ≡ v.me.pages → w.them.pages ≡ v.them.pages → sent_leaves w.inbox ≡ sent_leaves v.inbox → sent_leaves w.outbox ≡ sent_leaves v.outbox → db w ≡ db v
+pub same_db : (v w : View) → w.me.pages ≡ v.me.pages → w.them.pages ≡ v.them.pages → sent_leaves w.inbox ≡ sent_leaves v.inbox
+    → sent_leaves w.outbox ≡ sent_leaves v.outbox → db w ≡ db v
 same_db v w a b c d = ap laid_leaves (whole_same v w a b c d)
 
 -- ---- a page leaves
@@ -39,28 +40,34 @@ found-without lows p (x ∷ xs) k h far =
     found-without lows p xs k h.1 far ∙ ap (λ o. or_else o (found xs k)) (sym none))
     (λ _. ap (or_else (get_row x.rows k)) (found-without lows p xs k h.1 far))
 
-left_key : (lows : List ℕ) (v : View) (p k : ℕ) → Placed lows v.me.pages → Placed lows (rest_of v) → Owned v → owns v.me.pages p ≡ true → (page_of lows k ≡ p) ⊎ (page_of lows k ≡ p → ⊥)
-    → or_else (found (without p v.me.pages) k) (or_else (found (rest_of v) k) (or_else (get_row (rows_of v.me.pages p) k) None)) ≡ or_else (found v.me.pages k) (found (rest_of v) k)
+left_key : (lows : List ℕ) (v : View) (p k : ℕ) → Placed lows v.me.pages → Placed lows (rest_of v) → Owned v → owns v.me.pages p ≡ true → (page_of lows k ≡ p)
+    ⊎ (page_of lows k ≡ p → ⊥)
+    → or_else (found (without p v.me.pages) k) (or_else (found (rest_of v) k) (or_else (get_row (rows_of v.me.pages p) k) None))
+    ≡ or_else (found v.me.pages k) (found (rest_of v) k)
 left_key lows v p k mine theirs o own (inl here) =
     let none : found (rest_of v) k ≡ None = not_found lows (rest_of v) k theirs (rw here (rest_lacks v p o own)) in
-    let gone : found (without p v.me.pages) k ≡ None = not_found lows (without p v.me.pages) k (placed_without lows p v.me.pages mine) (rw here (owns-without p v.me.pages)) in
+    let gone : found (without p v.me.pages) k ≡ None = not_found lows (without p v.me.pages) k (placed_without lows p v.me.pages mine)
+    (rw here (owns-without p v.me.pages)) in
     let once = o.once p in
     let most : times p v.me.pages ≤ 1 = grind (arith, nat_tests, once) in
-    let all : found v.me.pages k ≡ get_row (rows_of v.me.pages p) k = found_once lows v.me.pages k mine (rw here most) ∙ ap (λ q. get_row (rows_of v.me.pages q) k) here in
+    let all : found v.me.pages k ≡ get_row (rows_of v.me.pages p) k = found_once lows v.me.pages k mine (rw here most)
+    ∙ ap (λ q. get_row (rows_of v.me.pages q) k) here in
     rw (none, gone, all) refl
 left_key lows v p k mine theirs o own (inr far) =
     let none = rows_of-far lows p v.me.pages k mine far in
     let same = found-without lows p v.me.pages k mine far in
     rw (none, same) (ap (or_else (found v.me.pages k)) (or_else_none (found (rest_of v) k)))
 
-pub leaves_db : (lows : List ℕ) (v : View) (p : ℕ) (ms : List Message) → Placed lows (whole v) → Owned v → sent_leaves ms ≡ sent_leaves v.inbox → owns v.me.pages p ≡ true → db (leaves p (rest v ms)) ≡ db v
+pub leaves_db : (lows : List ℕ) (v : View) (p : ℕ) (ms : List Message) → Placed lows (whole v) → Owned v → sent_leaves ms ≡ sent_leaves v.inbox
+    → owns v.me.pages p ≡ true → db (leaves p (rest v ms)) ≡ db v
 leaves_db lows v p ms placed o inbox own =
     same_map nat_cmp_total nat_cmp-IsAntisymmetric _ _ (λ k.
     let parts = placed_front lows v.me.pages (rest_of v) placed in
     let leaf : Leaf = leaf_at v.me.pages p in
     let pages : whole (leaves p (rest v ms)) ≡ without p v.me.pages ++ (rest_of v ++ leaf ∷ []) =
     whole-leaves p (rest v ms) ∙ ap (λ xs. without p v.me.pages ++ ((v.them.pages ++ (xs ++ sent_leaves v.outbox)) ++ leaf ∷ [])) inbox in
-    let after : found (without p v.me.pages ++ (rest_of v ++ leaf ∷ [])) k ≡ or_else (found (without p v.me.pages) k) (or_else (found (rest_of v) k) (or_else (get_row leaf.rows k) None)) =
+    let after : found (without p v.me.pages ++ (rest_of v ++ leaf ∷ [])) k ≡ or_else (found (without p v.me.pages) k)
+    (or_else (found (rest_of v) k) (or_else (get_row leaf.rows k) None)) =
     found-append (without p v.me.pages) (rest_of v ++ leaf ∷ []) k ∙ ap (or_else (found (without p v.me.pages) k)) (found-append (rest_of v) (leaf ∷ []) k) in
     get-leaves (whole (leaves p (rest v ms))) k ∙ ap (λ xs. found xs k) pages ∙ after ∙ left_key lows v p k parts.0 parts.1 o own (cases_eq (page_of lows k) p)
     ∙ sym (found-append v.me.pages (rest_of v) k) ∙ sym (get-leaves (whole v) k))
@@ -73,8 +80,10 @@ come_values (Some x) m t r (inl e) = cc
 come_values (Some x) m t r (inr e) = rw (e.0, e.1) refl
 
 -- the page that comes, or both nodes, lack the key
-come_apart : (lows : List ℕ) (v : View) (leaf : Leaf) (ms : List Message) (k : ℕ) → v.inbox ≡ Page leaf ∷ ms → Owned v → OnPage lows leaf → Placed lows v.me.pages → Placed lows v.them.pages
-    → (is_some (get_row leaf.rows k) ≡ true) ⊎ (is_some (get_row leaf.rows k) ≡ false) → (get_row leaf.rows k ≡ None) ⊎ ((found v.me.pages k ≡ None) × (found v.them.pages k ≡ None))
+come_apart : (lows : List ℕ) (v : View) (leaf : Leaf) (ms : List Message) (k : ℕ) → v.inbox ≡ Page leaf ∷ ms → Owned v → OnPage lows leaf
+    → Placed lows v.me.pages → Placed lows v.them.pages
+    → (is_some (get_row leaf.rows k) ≡ true) ⊎ (is_some (get_row leaf.rows k) ≡ false) → (get_row leaf.rows k ≡ None)
+    ⊎ ((found v.me.pages k ≡ None) × (found v.them.pages k ≡ None))
 come_apart lows v leaf ms k e o on mine theirs (inr none) = inl (none_else _ (λ is. false≢true (sym none ∙ is)))
 come_apart lows v leaf ms k e o on mine theirs (inl some) =
     let here = on.each k some in
@@ -85,7 +94,8 @@ come_apart lows v leaf ms k e o on mine theirs (inl some) =
     let b = owns_none p v.them.pages (grind (arith, nat_tests, once, sent)) in
     inr (not_found lows v.me.pages k mine (ap (owns v.me.pages) here ∙ a), not_found lows v.them.pages k theirs (ap (owns v.them.pages) here ∙ b))
 
-pub arrived_db : (lows : List ℕ) (v : View) (leaf : Leaf) (ms : List Message) → v.inbox ≡ Page leaf ∷ ms → Placed lows (whole v) → Owned v → db (arrived leaf (rest v ms)) ≡ db v
+pub arrived_db : (lows : List ℕ) (v : View) (leaf : Leaf) (ms : List Message) → v.inbox ≡ Page leaf ∷ ms → Placed lows (whole v) → Owned v
+    → db (arrived leaf (rest v ms)) ≡ db v
 arrived_db lows v leaf ms e h o =
     let others = sent_leaves ms ++ sent_leaves v.outbox in
     let a = placed_front lows v.me.pages (v.them.pages ++ (leaf ∷ others)) (subst (Placed lows) (whole-front v leaf ms e) h) in
@@ -96,7 +106,8 @@ arrived_db lows v leaf ms e h o =
     let t = found v.them.pages k in
     let either : (get_row leaf.rows k ≡ None) ⊎ (m ≡ None) = elim apart [ inl x ↦ inl x | inr x ↦ inr x.0 ] in
     let after : found (with_page leaf v.me.pages ++ (v.them.pages ++ others)) k ≡ or_else (or_else (get_row leaf.rows k) m) (or_else t (found others k)) =
-    found-append (with_page leaf v.me.pages) (v.them.pages ++ others) k ∙ ap (λ z. or_else z (found (v.them.pages ++ others) k)) (found-with_page leaf v.me.pages k either)
+    found-append (with_page leaf v.me.pages) (v.them.pages ++ others) k ∙ ap (λ z. or_else z (found (v.them.pages ++ others) k))
+    (found-with_page leaf v.me.pages k either)
     ∙ ap (or_else (or_else (get_row leaf.rows k) m)) (found-append v.them.pages others k) in
     let before : found (v.me.pages ++ (v.them.pages ++ (leaf ∷ others))) k ≡ or_else m (or_else t (or_else (get_row leaf.rows k) (found others k))) =
     found-append v.me.pages (v.them.pages ++ (leaf ∷ others)) k ∙ ap (or_else m) (found-append v.them.pages (leaf ∷ others) k) in

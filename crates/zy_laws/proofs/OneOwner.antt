@@ -1,5 +1,6 @@
--- Each row keeps roles and owners, and so does every schedule.
-use Rattle.std.proofs.Common.{List, [], ap, append-nil, arith, inl, inr, length, length-append, refl, subst, suc, sym, true, false, zero, ℕ, ◌++◌, ◌+◌, ◌∙◌, ◌∷◌, ◌≡◌, ◌<◌, ◌≤◌}
+-- Each step keeps roles and owners, and so does every schedule.
+use Rattle.std.proofs.Common.{List, [], ap, append-nil, arith, inl, inr, length, length-append, refl, subst, suc, sym, true, false, zero, ℕ, ◌++◌, ◌+◌, ◌∙◌}
+use Rattle.std.proofs.Common.{◌∷◌, ◌≡◌, ◌<◌, ◌≤◌}
 use Rattle.std.specs.Prelude.{drop, if◌then◌else◌, map, max, nat_lt, ◌==◌}
 use Rattle.std.proofs.lemmas.Bool.{cases_eq, cases_lt, false≢true}
 use Rattle.std.proofs.lemmas.Bool.Decides.{nat_tests}
@@ -23,12 +24,16 @@ use Rattle.zy_table.specs.Play.{move, opening, opening_leaves, opening_pages, pl
 use Rattle.zy_table.specs.Run.{boundary}
 use Rattle.zy_table.specs.State.{Leaf, Message, NodeState, State, View, facing, post, seen_from, with_me}
 use Rattle.zy_table.specs.Take.{all_here}
-use Rattle.zy_laws.proofs.Events.{Aborts, Asks, Begins as Begun, Commits, Event, Finishes, Gets, Gives, GotAll, GotDone, GotDual, GotFinish, GotLast, GotPage, GotReady, GotWire, Inserts, IsStale, Pushes, Rests, SumsUp, Splits, Starts, Writes, arrived, has_lock, page, rest, step_happens, GoesOn}
+use Rattle.zy_laws.proofs.Events.{Aborts, Asks, Begins as Begun, Commits, Event, Finishes, Gets, Gives, GotAll, GotDone, GotDual, GotFinish, GotLast, GotPage}
+use Rattle.zy_laws.proofs.Events.{GotReady, GotWire, Inserts, IsStale, Pushes, Rests, SumsUp, Splits, Starts, Writes, arrived, has_lock, page, rest}
+use Rattle.zy_laws.proofs.Events.{step_happens, GoesOn}
 use Rattle.zy_laws.proofs.ModeLines.{pulls_in, sends_in, splits_in_normal}
 use Rattle.zy_laws.proofs.MovingPages.{all_below-owns, leaf_at-number}
-use Rattle.zy_laws.proofs.PageCounts.{owns-times, times-all_leaves, times-installed, times-lowered, times-with_page, times-without, times_in, times_sent, times_sent-post}
+use Rattle.zy_laws.proofs.PageCounts.{owns-times, times-all_leaves, times-installed, times-lowered, times-with_page, times-without, times_in, times_sent}
+use Rattle.zy_laws.proofs.PageCounts.{times_sent-post}
 use Rattle.zy_laws.proofs.Phases.{AllPages, AllThere, Phase, Resting, Ready_sent, Done_sent, begins_length, done_post}
-use Rattle.zy_laws.proofs.PhaseSteps.{SameShape, asked_for, cut_source, cut_taker, destination_same, done_came, dual_came, finish_came, finished, in_finish, no_pull, page_came, page_left, pull_came, ready_came, sending_lows, source_of, source_same, started, taker_of, wire_came}
+use Rattle.zy_laws.proofs.PhaseSteps.{SameShape, asked_for, cut_source, cut_taker, destination_same, done_came, dual_came, finish_came, finished, in_finish}
+use Rattle.zy_laws.proofs.PhaseSteps.{no_pull, page_came, page_left, pull_came, ready_came, sending_lows, source_of, source_same, started, taker_of, wire_came}
 use Rattle.zy_laws.proofs.PlayPush.{play-keeps}
 use Rattle.zy_laws.proofs.Roles.{Bare, Destination, Inv, Owned, Roles, Source, normal_other, places, turned, turned_inv, width}
 
@@ -96,7 +101,10 @@ cut_inv t p b v splits i =
     let wide = (normal_other v i.roles splits).1 in
     record {
       roles = cut_roles t p b v normal i.roles;
-      owned = record { once = λ q. let long = cut_lows t p b v in let n = cut_count t p b v q in let k = i.owned.once q in grind (arith, nat_tests, long, n, k, wide) };
+      owned = record {
+        once = λ q. let long = cut_lows t p b v in let n = cut_count t p b v q in let k = i.owned.once q in
+            grind (arith, nat_tests, long, n, k, wide);
+      };
       mine = bare_never _ Normal normal refl;
       theirs = i.theirs;
     }
@@ -141,7 +149,8 @@ asks_inv : (p : ℕ) (v : View) → Inv v → may_pull v.me.mode ≡ true → In
 unfolding asks
 asks_inv p v i s =
     let ph = asked_for v.them v.me v.inbox v.outbox p (taker v i (pulls_taker v.me.mode s)) s in
-    links_inv v (asks p v) i (Destination (destination_same v.them v.me (asks p v).me v.inbox (asks p v).outbox (locks_shape v.me (asks p v).me (refl, refl, refl)) ph))
+    links_inv v (asks p v) i
+    (Destination (destination_same v.them v.me (asks p v).me v.inbox (asks p v).outbox (locks_shape v.me (asks p v).me (refl, refl, refl)) ph))
     (record { none = i.mine.none }) refl refl refl (λ q. refl) (posted v (Pull p) (λ q. refl))
 
 starts_inv : (v : View) → Inv v → v.me.mode ≡ Normal → v.them.mode ≡ Empty → Inv (post (Wire v.me.lows) (turns SInit v))
@@ -151,7 +160,8 @@ starts_inv v i normal empty =
     links_inv v w i (Source (started v.me v.them v.outbox v.inbox ph normal empty)) (bare_never w.me SInit refl refl) refl refl refl
     (λ p. refl) (posted v (Wire v.me.lows) (λ p. refl))
 
-pub wire_wide : (v : View) (lows : List ℕ) (ms : List Message) → Inv v → v.inbox ≡ Wire lows ∷ ms → v.me.mode ≡ Empty → max (length lows) (length v.them.lows) ≡ width v
+pub wire_wide : (v : View) (lows : List ℕ) (ms : List Message) → Inv v → v.inbox ≡ Wire lows ∷ ms → v.me.mode ≡ Empty
+    → max (length lows) (length v.them.lows) ≡ width v
 wire_wide v lows ms i f empty =
     let came = wire_came v.them v.me v.inbox v.outbox lows ms (taker v i (ap is_taker empty)) f in
     let bare : length v.me.lows ≡ 0 = ap length came.1 in
@@ -196,7 +206,8 @@ finishes_inv v i dual =
 finish_inv : (v : View) (ms : List Message) → Inv v → v.inbox ≡ Finish ∷ ms → v.me.mode ≡ DDual → Inv (turns DFinish (rest v ms))
 finish_inv v ms i f dual =
     let w = turns DFinish (rest v ms) in
-    links_inv v w i (Destination (finish_came v.them v.me v.inbox v.outbox ms (taker v i (ap is_taker dual)) dual f)) (bare_never w.me DFinish refl refl) refl refl refl
+    links_inv v w i (Destination (finish_came v.them v.me v.inbox v.outbox ms (taker v i (ap is_taker dual)) dual f))
+    (bare_never w.me DFinish refl refl) refl refl refl
     (taken v Finish ms f (λ p. refl)) (λ p. refl)
 
 -- ---- a page leaves
@@ -303,9 +314,10 @@ done_inv v ms i f finish =
       | inl below ↦ let there = k.2.each p below in grind (arith, nat_tests, one, there)
       | inr above ↦ grind (arith, nat_tests, one, long)
     ]) in
-    links_inv v w i (Destination (Resting k.0 refl refl k.4 k.3)) (record { none = λ _. left }) refl refl (done_wide v ms i f finish) (taken v Done ms f (λ p. refl)) (λ p. refl)
+    links_inv v w i (Destination (Resting k.0 refl refl k.4 k.3)) (record { none = λ _. left }) refl refl (done_wide v ms i f finish)
+    (taken v Done ms f (λ p. refl)) (λ p. refl)
 
--- ---- each row
+-- ---- each step
 
 pub inv_event : (sc : Scenario) (n : Node) (v w : View) → Inv v → Event sc n v w → Inv w
 unfolding did locked shares txn_at aborted begun committed

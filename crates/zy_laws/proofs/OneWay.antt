@@ -15,13 +15,14 @@ use Rattle.zy_table.specs.Change.{aborted, asks, begun, committed, cut, did, lea
 use Rattle.zy_laws.specs.Travel.{Travels, Stays, Appears, Leaves, Arrives, IsPassed, NeverBack, NoneStarted, is_started}
 use Rattle.zy_table.specs.Play.{entries, move, opening, play, side_of, step}
 use Rattle.zy_table.specs.State.{Step, State, View, facing, seen_from}
-use Rattle.zy_laws.proofs.Events.{Told, Aborts, Asks, Begins, Commits, Event, Finishes, Gets, Gives, GotAll, GotDone, GotDual, GotFinish, GotLast, GotPage, GotReady, GotWire, Inserts, IsStale, Pushes, Rests, SumsUp, Splits, Starts, Writes, step_happens, GoesOn}
+use Rattle.zy_laws.proofs.Events.{Told, Aborts, Asks, Begins, Commits, Event, Finishes, Gets, Gives, GotAll, GotDone, GotDual, GotFinish, GotLast, GotPage}
+use Rattle.zy_laws.proofs.Events.{GotReady, GotWire, Inserts, IsStale, Pushes, Rests, SumsUp, Splits, Starts, Writes, step_happens, GoesOn}
 use Rattle.zy_laws.proofs.OneOwner.{play_inv, step_inv}
 use Rattle.zy_laws.proofs.PlayPush.{play-keeps}
 use Rattle.zy_laws.proofs.Roles.{Inv}
 use Rattle.zy_laws.proofs.Travel.{step_travels}
 
--- a row changes its own node alone, and makes a source of it where it is a start that acts: in version 1 at A
+-- a step changes its own node alone, and makes a source of it where it is a start that acts: in version 1 at A
 pub record Sourced (sc : Scenario) (n : Node) (o : Outcome) (v w : View) : Type 0 where
   pub them : w.them ≡ v.them
   pub off : is_source v.me.mode ≡ false → (is_source w.me.mode ≡ false) ⊎ ((o ≡ Started) × (sc.version ≡ One → n ≡ A))
@@ -56,7 +57,7 @@ sourced sc n o v w (GotDone ms f finish e) told = rw e (record { them = refl; of
 sourced sc n o v w (Finishes dual none e) told = rw e (record { them = refl; off = λ h. absurd (false≢true (sym h ∙ ap is_source dual)) })
 sourced sc n o v w (Pushes p finish own e) told = rw e (in_mode sc n o v _ refl refl)
 
--- node m is no source after a row that is no start at it
+-- node m is no source after a step that is no start at it
 abbrev Bars : Scenario → Node → Outcome → Node → Type 0
 Bars sc n o m = o ≡ Started → (sc.version ≡ One → n ≡ A) → n ≡ m → ⊥
 
@@ -88,7 +89,7 @@ opening_b sc = refl
 pub b_never_sends : (sc : Scenario) → sc.version ≡ One → (cs : List Choice) → is_source (play sc (opening sc) cs).b.mode ≡ false
 b_never_sends sc one cs = play-keeps sc (λ s. is_source s.b.mode ≡ false) (λ c s h. step_off sc c s B (not_at_b sc _ _ one) h) cs (opening sc) (opening_b sc)
 
--- one row beside a node that is no source
+-- one step beside a node that is no source
 goes_on : (p : ℕ) (n m : Node) (s : State) (x : Step) → is_source (facing m s).me.mode ≡ false → Travels p n s x → NeverBack p m s x.after
 goes_on p n m s x off (Stays same) = record { passed = λ h. subst (IsPassed m) (sym same) h; there = λ h. same ∙ h }
 goes_on p n m s x off (Appears q b told splits none here) =

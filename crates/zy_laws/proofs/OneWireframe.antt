@@ -12,7 +12,8 @@ use Rattle.zy_laws.specs.Journey.{Begins, OneWireframe, Sent, Wireframes}
 use Rattle.zy_table.specs.Play.{opening, play}
 use Rattle.zy_table.specs.State.{Message, NodeState, View, facing}
 use Rattle.zy_laws.proofs.OneOwner.{inv_from, play_inv}
-use Rattle.zy_laws.proofs.Phases.{AllPages, AllPulls, PagesAndFinish, Phase, PullsAndDone, Resting, Wire_sent, Ready_sent, Dual_sent, Both_sent, In_dual, Finish_sent, In_finish, Done_sent}
+use Rattle.zy_laws.proofs.Phases.{AllPages, AllPulls, PagesAndFinish, Phase, PullsAndDone, Resting, Wire_sent, Ready_sent, Dual_sent, Both_sent, In_dual}
+use Rattle.zy_laws.proofs.Phases.{Finish_sent, In_finish, Done_sent}
 use Rattle.zy_laws.proofs.Roles.{Destination, Roles, Source}
 
 -- links without a wireframe
@@ -73,7 +74,8 @@ none_framed : (src dst : NodeState) (out back : List Message) → is_source dst.
 none_framed src dst out back last none sent empty =
     record { one = inl none; last = last; begins = inl none; same = inl none; sent = sent; back_sent = subst (Sent dst) (sym empty) tt }
 
-same_framed : (src dst : NodeState) (out back : List Message) → is_source src.mode ≡ true → is_source dst.mode ≡ false → dst.lows ≡ src.lows → Sent src out → Sent dst back
+same_framed : (src dst : NodeState) (out back : List Message) → is_source src.mode ≡ true → is_source dst.mode ≡ false → dst.lows ≡ src.lows → Sent src out
+    → Sent dst back
     → Framed src dst out back
 same_framed src dst out back first last same sent back_sent =
     record { one = inr first; last = last; begins = inr (no_more _ _ same); same = inr (inr same); sent = sent; back_sent = back_sent }
@@ -81,16 +83,25 @@ same_framed src dst out back first last same sent back_sent =
 framed : (src dst : NodeState) (out back : List Message) → Phase src dst out back → Framed src dst out back
 framed src dst out back (Resting a b c d f) = none_framed src dst out back (ap is_source b) c (subst (Sent src) (sym d) tt) f
 framed src dst out back (Wire_sent a b c d f) = none_framed src dst out back (ap is_source b) c (subst (Sent src) (sym d) (ap is_source a, refl, tt)) f
-framed src dst out back (Ready_sent a b c d f) = same_framed src dst out back (ap is_source a) (ap is_source b) c (subst (Sent src) (sym d) tt) (subst (Sent dst) (sym f) tt)
+framed src dst out back (Ready_sent a b c d f) = same_framed src dst out back (ap is_source a) (ap is_source b) c (subst (Sent src) (sym d) tt)
+    (subst (Sent dst) (sym f) tt)
 framed src dst out back (Dual_sent ms a b c d all f) =
     same_framed src dst out back (ap is_source a) (ap is_source b) c (subst (Sent src) (sym d) (pages_sent src ms all)) (subst (Sent dst) (sym f) tt)
 framed src dst out back (Both_sent ms a b c d all f) =
     same_framed src dst out back (ap is_source a) (ap is_source b) c (subst (Sent src) (sym d) (finish_sent src ms all)) (subst (Sent dst) (sym f) tt)
 framed src dst out back (In_dual a b c d f) = same_framed src dst out back (ap is_source a) (ap is_source b) c (pages_sent src out d) (pulls_sent dst back f)
-framed src dst out back (Finish_sent a b c d f) = same_framed src dst out back (ap is_source a) (ap is_source b) c (finish_sent src out d) (pulls_sent dst back f)
+framed src dst out back (Finish_sent a b c d f) = same_framed src dst out back (ap is_source a) (ap is_source b) c (finish_sent src out d)
+    (pulls_sent dst back f)
 framed src dst out back (In_finish a b c d f) = same_framed src dst out back (ap is_source a) (ap is_source b) c (pages_sent src out d) (pulls_sent dst back f)
 framed src dst out back (Done_sent a b c all d f) =
-    record { one = inr (ap is_source a); last = ap is_source b; begins = inr c; same = inr (inl b); sent = subst (Sent src) (sym d) tt; back_sent = done_sent dst back f }
+    record {
+      one = inr (ap is_source a);
+      last = ap is_source b;
+      begins = inr c;
+      same = inr (inl b);
+      sent = subst (Sent src) (sym d) tt;
+      back_sent = done_sent dst back f;
+    }
 
 pub wireframes : (v : View) → Roles v → Wireframes v
 wireframes v (Source ph) =

@@ -1,5 +1,6 @@
 -- The opening rows lie on their pages, and are the opening database.
-use Rattle.std.proofs.Common.{List, [], ap, append-nil, append_assoc, arith, length, length-append, get_or, inl, inr, refl, subst, suc, sym, zero, ℕ, ◌++◌, ◌+◌, ◌-◌, ◌<◌, ◌∙◌, ◌∷◌, ◌≡◌, ◌≤◌}
+use Rattle.std.proofs.Common.{List, [], ap, append-nil, append_assoc, arith, length, length-append, get_or, inl, inr, refl, subst, suc, sym, zero, ℕ, ◌++◌, ◌+◌}
+use Rattle.std.proofs.Common.{◌-◌, ◌<◌, ◌∙◌, ◌∷◌, ◌≡◌, ◌≤◌}
 use Rattle.std.specs.Prelude.{Some, drop, if◌then◌else◌, slice_get, take, ◌==◌}
 use Rattle.std.specs.FinMap.{empty, insert}
 use Rattle.std.proofs.lemmas.Bool.{cases_lt, false≢true, ne_eqb}
@@ -21,12 +22,14 @@ use Rattle.zy_table.proofs.OpenLemmas.{drop_less}
 page_low : (i key : ℕ) → 1 ≤ i → (if i == 0 then 0 else key) ≡ key
 page_low i key h = ap (λ b. if b then 0 else key) (ne_eqb i 0 (λ e. absurd (omega arith)))
 
-at_most : (low : ℕ) (behind : List ℕ) (k m : ℕ) → ((q : ℕ) → q < length behind → k < get_or behind q 0) → m < suc (length behind) → get_or (low ∷ behind) m 0 ≤ k → get_or (low ∷ behind) m 0 ≤ low
+at_most : (low : ℕ) (behind : List ℕ) (k m : ℕ) → ((q : ℕ) → q < length behind → k < get_or behind q 0) → m < suc (length behind)
+    → get_or (low ∷ behind) m 0 ≤ k → get_or (low ∷ behind) m 0 ≤ low
 at_most low behind k zero after lt le = omega arith
 at_most low behind k (suc m) after lt le = absurd (let up = after m (omega arith) in omega arith)
 
 -- a key from this low key on, and below those of the pages behind it, lies on its page
-page_between : (front : List ℕ) (low : ℕ) (behind : List ℕ) (k : ℕ) → low ≤ k → ((q : ℕ) → q < length front → get_or front q 0 < low) → ((q : ℕ) → q < length behind → k < get_or behind q 0)
+page_between : (front : List ℕ) (low : ℕ) (behind : List ℕ) (k : ℕ) → low ≤ k → ((q : ℕ) → q < length front → get_or front q 0 < low)
+    → ((q : ℕ) → q < length behind → k < get_or behind q 0)
     → page_of (front ++ low ∷ behind) k ≡ length front
 page_between front low behind k le before after =
     let lows = front ++ low ∷ behind in
@@ -44,17 +47,20 @@ page_between front low behind k le before after =
     (λ q less same. let e = get_or_append_left front (low ∷ behind) 0 q less in let b = before q less in omega arith)
 
 -- the low keys of the pages of rows above a key are above it
-lows_above : (fuel n i : ℕ) (rows : List Row) (k : ℕ) → 1 ≤ i → Rising (k + 1) rows → (q : ℕ) → q < length (lows_of (opening_pages fuel n i rows)) → k < get_or (lows_of (opening_pages fuel n i rows)) q 0
+lows_above : (fuel n i : ℕ) (rows : List Row) (k : ℕ) → 1 ≤ i → Rising (k + 1) rows → (q : ℕ) → q < length (lows_of (opening_pages fuel n i rows))
+    → k < get_or (lows_of (opening_pages fuel n i rows)) q 0
 lows_above zero n i rows k one rise q lt = absurd (omega arith)
 lows_above (suc fuel) n i [] k one rise q lt = absurd (omega arith)
 lows_above (suc fuel) n i (r ∷ rows) k one rise zero lt = let above = rise.0 in let e = page_low i r.key one in omega arith
-lows_above (suc fuel) n i (r ∷ rows) k one rise (suc q) lt = lows_above fuel n (i + 1) (drop n (r ∷ rows)) k (omega arith) (rises_drop (k + 1) n (r ∷ rows) rise) q (omega arith)
+lows_above (suc fuel) n i (r ∷ rows) k one rise (suc q) lt = lows_above fuel n (i + 1) (drop n (r ∷ rows)) k (omega arith)
+    (rises_drop (k + 1) n (r ∷ rows) rise) q (omega arith)
 
 get_at : (xs : List ℕ) (y : ℕ) (ys : List ℕ) → slice_get (xs ++ (y ∷ ys)) (length xs) ≡ Some y
 get_at [] y ys = refl
 get_at (x ∷ xs) y ys = get_at xs y ys
 
-placed_pages : (fuel n i : ℕ) (rows : List Row) (front : List ℕ) (least : ℕ) → length front ≡ i → 1 ≤ i → Rising least rows → ((q : ℕ) → q < i → get_or front q 0 < least)
+placed_pages : (fuel n i : ℕ) (rows : List Row) (front : List ℕ) (least : ℕ) → length front ≡ i → 1 ≤ i → Rising least rows
+    → ((q : ℕ) → q < i → get_or front q 0 < least)
     → Placed (front ++ lows_of (opening_pages fuel (suc n) i rows)) (opening_pages fuel (suc n) i rows)
 placed_pages zero n i rows front least e one rise before = tt
 placed_pages (suc fuel) n i [] front least e one rise before = tt
@@ -68,9 +74,11 @@ placed_pages (suc fuel) n i (r ∷ rows) front least e one rise before =
         low = ap (slice_get (front ++ (low ∷ lows_of pages))) (sym e) ∙ get_at front low (lows_of pages);
         each = λ k s.
             let here : r.key ≤ k = rises_key r.key (take (suc n) (r ∷ rows)) k (rises_take r.key (suc n) (r ∷ rows) ((omega arith), rise.1)) s in
-            page_between front low (lows_of pages) k (omega arith) (λ q lt. let b = before q (omega arith) in omega arith) (lows_above fuel (suc n) (i + 1) (drop n rows) k (omega arith) (rises_after least (suc n) (r ∷ rows) k rise s)) ∙ e;
+            page_between front low (lows_of pages) k (omega arith) (λ q lt. let b = before q (omega arith) in omega arith)
+            (lows_above fuel (suc n) (i + 1) (drop n rows) k (omega arith) (rises_after least (suc n) (r ∷ rows) k rise s)) ∙ e;
       },
-      subst (λ l. Placed l pages) (append_assoc front (low ∷ []) (lows_of pages)) (placed_pages fuel n (i + 1) (drop n rows) (front ++ low ∷ []) (r.key + 1) longer (omega arith) (rises_drop (r.key + 1) n rows rise.1)
+      subst (λ l. Placed l pages) (append_assoc front (low ∷ []) (lows_of pages))
+          (placed_pages fuel n (i + 1) (drop n rows) (front ++ low ∷ []) (r.key + 1) longer (omega arith) (rises_drop (r.key + 1) n rows rise.1)
           (λ q lt. elim (cases_lt q i) [
             | inl less ↦ (let g = get_or_append_left front (low ∷ []) 0 q (omega arith) in let b = before q less in omega arith)
             | inr more ↦ (let g = get_or_at front low [] 0 q (omega arith) in omega arith)
@@ -85,9 +93,11 @@ opening_placed n (r ∷ rows) h =
     let lows = lows_of (opening_pages (length rows) (suc n) 1 after) in (
       record {
         low = refl;
-        each = λ k s. page_between [] 0 lows k (omega arith) (λ q lt. absurd (omega arith)) (lows_above (length rows) (suc n) 1 after k (omega arith) (rises_after 0 (suc n) (r ∷ rows) k h s));
+        each = λ k s. page_between [] 0 lows k (omega arith) (λ q lt. absurd (omega arith))
+            (lows_above (length rows) (suc n) 1 after k (omega arith) (rises_after 0 (suc n) (r ∷ rows) k h s));
       },
-      placed_pages (length rows) n 1 after (0 ∷ []) (r.key + 1) refl (omega arith) (rises_drop (r.key + 1) n rows h.1) (λ q lt. let e : q ≡ 0 = omega arith in rw e (omega arith)),
+      placed_pages (length rows) n 1 after (0 ∷ []) (r.key + 1) refl (omega arith) (rises_drop (r.key + 1) n rows h.1) (λ q lt. let e : q ≡ 0 = omega arith in
+          rw e (omega arith)),
     )
 
 half_of : (h : ℕ) → 1 ≤ h → (n : ℕ) × (h ≡ suc n)
@@ -122,7 +132,8 @@ laid_pages zero n i (r ∷ rows) h = absurd (omega arith)
 laid_pages (suc fuel) n i [] h = refl
 laid_pages (suc fuel) n i (r ∷ rows) h =
     let less = drop_less n rows in
-    ap (laid (take (suc n) (r ∷ rows))) (laid_pages fuel n (i + 1) (drop n rows) (omega arith)) ∙ sym (laid-append (take (suc n) (r ∷ rows)) (drop n rows) empty)
+    ap (laid (take (suc n) (r ∷ rows))) (laid_pages fuel n (i + 1) (drop n rows) (omega arith))
+    ∙ sym (laid-append (take (suc n) (r ∷ rows)) (drop n rows) empty)
     ∙ ap (λ xs. laid xs empty) (take_drop (suc n) (r ∷ rows))
 
 laid_opening : (n : ℕ) (rows : List Row) → laid_leaves (opening_leaves (suc n) rows) ≡ laid rows empty

@@ -1,4 +1,4 @@
--- Each row of the table leaves every list in its order.
+-- Each step of the table leaves every list in its order.
 use Rattle.std.proofs.Common.{List, [], ap, arith, false, true, inl, inr, length, length-append, refl, subst, suc, sym, ℕ, ◌++◌, ◌+◌, ◌∙◌, ◌∷◌, ◌≡◌, ◌≤◌}
 use Rattle.std.specs.Prelude.{if◌then◌else◌, nat_lt, nat_le, slice_set, ◌==◌}
 use Rattle.std.proofs.lemmas.Bool.{cases_eq, cond_both, eqb-false, leb-false, leb-true, or_parts}
@@ -19,7 +19,8 @@ use Rattle.zy_table.specs.Order.{NodeInOrder, NumbersRise, RowsRise}
 use Rattle.zy_table.specs.Rows.{rows_on}
 use Rattle.zy_table.specs.State.{Leaf, Message, NodeState, Txn, View}
 use Rattle.zy_table.specs.declared.outcome.Why.{Why}
-use Rattle.zy_laws.proofs.Events.{Aborts, Asks, Begins, Commits, Event, Finishes, Gets, Gives, GotAll, GotDone, GotDual, GotFinish, GotLast, GotPage, GotReady, GotWire, Inserts, IsStale, Pushes, Rests, SumsUp, Splits, Starts, Writes, arrived, has_lock, page, puts, rest, GoesOn}
+use Rattle.zy_laws.proofs.Events.{Aborts, Asks, Begins, Commits, Event, Finishes, Gets, Gives, GotAll, GotDone, GotDual, GotFinish, GotLast, GotPage, GotReady}
+use Rattle.zy_laws.proofs.Events.{GotWire, Inserts, IsStale, Pushes, Rests, SumsUp, Splits, Starts, Writes, arrived, has_lock, page, puts, rest, GoesOn}
 use Rattle.zy_table.proofs.RisingRows.{rises_put, rises_puts, rises_weaker}
 use Rattle.zy_laws.proofs.Roles.{Inv, Owned, fresh_number, normal_other, width}
 use Rattle.zy_laws.proofs.OneOwner.{done_wide, locks_inv, pulled_inv, wire_wide}
@@ -64,7 +65,7 @@ pub record Ordered (v : View) : Type 0 where
   pub private : (t : ℕ) → Rising 0 (txn_at v t).rows
   pub lows : pages_in v ≡ width v
 
--- a row that sets t, and changes locks or rows of its own node
+-- a step that sets t, and changes locks or rows of its own node
 acts_ordered : (v w : View) (t : ℕ) (y : Txn) → Ordered v → w.txns ≡ slice_set v.txns t y → Rising 0 y.rows → NodeInOrder w.me
     → length w.me.pages ≡ length v.me.pages → w.me.lows ≡ v.me.lows
     → w.them ≡ v.them → w.inbox ≡ v.inbox → w.outbox ≡ v.outbox → Ordered w
@@ -101,7 +102,8 @@ lock_ordered : (t p pc : ℕ) (kind : LockKind) (regs : List ℕ) (rows : List R
     → Ordered (did t pc regs rows (locked t p kind v))
 unfolding did locked txn_at
 lock_ordered t p pc kind regs rows v o rises =
-    acts_ordered v (did t pc regs rows (locked t p kind v)) t (record (txn_at v t) { pc = pc; regs = regs; rows = rows; done = (txn_at v t).done + 1 }) o refl rises
+    acts_ordered v (did t pc regs rows (locked t p kind v)) t (record (txn_at v t) { pc = pc; regs = regs; rows = rows; done = (txn_at v t).done + 1 }) o refl
+    rises
     (locks_ordered v.me _ o.mine refl refl (rise_add p t kind v.me.locks o.mine.locks)) refl refl refl refl refl
 
 rise_share : (ps : List ℕ) (t : ℕ) (xs : List Lock) → LocksRise xs → LocksRise (share_all ps t xs)
@@ -112,7 +114,8 @@ rise_share (p ∷ ps) t xs h = rise_share ps t (add_lock p t Shared xs) (rise_ad
 sum_ordered : (t pc : ℕ) (regs ps : List ℕ) (v : View) → Ordered v → Ordered (did t pc regs (txn_at v t).rows (shares t ps v))
 unfolding did shares txn_at
 sum_ordered t pc regs ps v o =
-    acts_ordered v (did t pc regs (txn_at v t).rows (shares t ps v)) t (record (txn_at v t) { pc = pc; regs = regs; done = (txn_at v t).done + 1 }) o refl (o.private t)
+    acts_ordered v (did t pc regs (txn_at v t).rows (shares t ps v)) t (record (txn_at v t) { pc = pc; regs = regs; done = (txn_at v t).done + 1 }) o refl
+    (o.private t)
     (locks_ordered v.me _ o.mine refl refl (rise_share ps t v.me.locks o.mine.locks)) refl refl refl refl refl
 
 ended_ordered : (t : ℕ) (why : Why) (v : View) → Ordered v → Ordered (aborted t why v)
@@ -164,11 +167,15 @@ rows_at p (x ∷ xs) h = cond_both (x.number == p) x (leaf_at xs p) (λ (y : Lea
 
 rows_rise-lowered : (p b : ℕ) (xs : List Leaf) → RowsRise xs → RowsRise (lowered p b xs)
 rows_rise-lowered p b [] h = tt
-rows_rise-lowered p b (x ∷ xs) h = (cond_both (x.number == p) (rows_below b x.rows) x.rows (Rising 0) (λ _. rises_below 0 b x.rows h.0) (λ _. h.0), rows_rise-lowered p b xs h.1)
+rows_rise-lowered p b (x ∷ xs) h = (
+  cond_both (x.number == p) (rows_below b x.rows) x.rows (Rising 0) (λ _. rises_below 0 b x.rows h.0) (λ _. h.0),
+  rows_rise-lowered p b xs h.1,
+)
 
 rows_rise-with_page : (leaf : Leaf) (xs : List Leaf) → Rising 0 leaf.rows → RowsRise xs → RowsRise (with_page leaf xs)
 rows_rise-with_page leaf [] r h = (r, tt)
-rows_rise-with_page leaf (x ∷ xs) r h = cond_both (nat_lt leaf.number x.number) (leaf ∷ x ∷ xs) (x ∷ with_page leaf xs) RowsRise (λ _. (r, h)) (λ _. (h.0, rows_rise-with_page leaf xs r h.1))
+rows_rise-with_page leaf (x ∷ xs) r h = cond_both (nat_lt leaf.number x.number) (leaf ∷ x ∷ xs) (x ∷ with_page leaf xs) RowsRise (λ _. (r, h))
+    (λ _. (h.0, rows_rise-with_page leaf xs r h.1))
 
 cut_ordered : (t p b : ℕ) (v : View) → Ordered v → Inv v → may_split v.me.mode ≡ true → Ordered (cut t p b v)
 unfolding cut txn_at
@@ -179,8 +186,10 @@ cut_ordered t p b v o i normal =
     let new : owns v.me.pages q ≡ false = fresh_number v i.owned wide in
     record {
       mine = record {
-        pages = numbers-with_page 0 leaf (lowered p b v.me.pages) (omega arith) (owns-lowered p b v.me.pages q ∙ new) (subst (NumbersRise 0) (sym (numbers-lowered p b v.me.pages)) o.mine.pages);
-        rows = rows_rise-with_page leaf (lowered p b v.me.pages) (rises_from 0 b (rows_of v.me.pages p) (rows_at p v.me.pages o.mine.rows)) (rows_rise-lowered p b v.me.pages o.mine.rows);
+        pages = numbers-with_page 0 leaf (lowered p b v.me.pages) (omega arith) (owns-lowered p b v.me.pages q ∙ new)
+            (subst (NumbersRise 0) (sym (numbers-lowered p b v.me.pages)) o.mine.pages);
+        rows = rows_rise-with_page leaf (lowered p b v.me.pages) (rises_from 0 b (rows_of v.me.pages p) (rows_at p v.me.pages o.mine.rows))
+            (rows_rise-lowered p b v.me.pages o.mine.rows);
         asked = o.mine.asked;
         locks = rise_add q t Exclusive v.me.locks o.mine.locks;
       };
@@ -259,7 +268,12 @@ kept_ordered v w o txns pages asked locks them inbox outbox wide =
 asks_ordered : (p : ℕ) (v : View) → Ordered v → has v.me.asked p ≡ false → Ordered (asks p v)
 unfolding asks
 asks_ordered p v o new =
-    let me : NodeInOrder (asks p v).me = record { pages = o.mine.pages; rows = o.mine.rows; asked = asked_put 0 p v.me.asked (omega arith) new o.mine.asked; locks = o.mine.locks } in
+    let me : NodeInOrder (asks p v).me = record {
+      pages = o.mine.pages;
+      rows = o.mine.rows;
+      asked = asked_put 0 p v.me.asked (omega arith) new o.mine.asked;
+      locks = o.mine.locks;
+    } in
     links_ordered v (asks p v) o refl me refl refl refl (sent_bare v.outbox (Pull p) refl) refl
 
 -- ---- a page leaves
@@ -273,7 +287,8 @@ numbers-without low p (x ∷ xs) h =
 
 rows_rise-without : (p : ℕ) (xs : List Leaf) → RowsRise xs → RowsRise (without p xs)
 rows_rise-without p [] h = tt
-rows_rise-without p (x ∷ xs) h = cond_both (x.number == p) (without p xs) (x ∷ without p xs) RowsRise (λ _. rows_rise-without p xs h.1) (λ _. (h.0, rows_rise-without p xs h.1))
+rows_rise-without p (x ∷ xs) h = cond_both (x.number == p) (without p xs) (x ∷ without p xs) RowsRise (λ _. rows_rise-without p xs h.1)
+    (λ _. (h.0, rows_rise-without p xs h.1))
 
 rows_rise-last : (leaf : Leaf) (xs : List Leaf) → Rising 0 leaf.rows → RowsRise xs → RowsRise (xs ++ leaf ∷ [])
 rows_rise-last leaf [] r h = (r, tt)
@@ -363,10 +378,12 @@ ordered_event sc n v w i o (Splits t key value runs f new full normal pages e) =
     along w _ e (cut_ordered t (page key v) b x (has_lock_ordered t key Exclusive v o) (has_lock_inv t key Exclusive v i) normal)
 ordered_event sc n v w i o (Commits t runs all e) = along w _ e (committed_ordered t v o)
 ordered_event sc n v w i o (Asks p gone pulls new e) = along w _ e (asks_ordered p v o new)
-ordered_event sc n v w i o (Starts at_a normal empty e) = along w _ e (kept_ordered v _ o refl refl refl refl refl refl (sent_bare v.outbox (Wire v.me.lows) refl) refl)
+ordered_event sc n v w i o (Starts at_a normal empty e) =
+    along w _ e (kept_ordered v _ o refl refl refl refl refl refl (sent_bare v.outbox (Wire v.me.lows) refl) refl)
 ordered_event sc n v w i o (GotWire lows ms f empty e) =
     along w _ e (kept_ordered v _ o refl refl refl refl refl (ap sent_leaves (sym f)) (sent_bare v.outbox Ready refl) (wire_wide v lows ms i f empty))
-ordered_event sc n v w i o (GotReady ms f init e) = along w _ e (kept_ordered v _ o refl refl refl refl refl (ap sent_leaves (sym f)) (sent_bare v.outbox Dual refl) refl)
+ordered_event sc n v w i o (GotReady ms f init e) =
+    along w _ e (kept_ordered v _ o refl refl refl refl refl (ap sent_leaves (sym f)) (sent_bare v.outbox Dual refl) refl)
 ordered_event sc n v w i o (GotDual ms f init e) = along w _ e (kept_ordered v _ o refl refl refl refl refl (ap sent_leaves (sym f)) refl refl)
 ordered_event sc n v w i o (IsStale p ms f e) = along w _ e (kept_ordered v _ o refl refl refl refl refl (ap sent_leaves (sym f)) refl refl)
 ordered_event sc n v w i o (Gives p ms f sends own free e) =
@@ -377,7 +394,9 @@ ordered_event sc n v w i o (GotLast leaf ms f finish all e) =
     let x = arrived leaf (rest v ms) in
     along w _ e (kept_ordered x _ (arrived_ordered v leaf ms i.owned o f) refl refl refl refl refl refl (sent_bare v.outbox Done refl) refl)
 ordered_event sc n v w i o (GotFinish ms f dual e) = along w _ e (kept_ordered v _ o refl refl refl refl refl (ap sent_leaves (sym f)) refl refl)
-ordered_event sc n v w i o (GotAll ms f dual all e) = along w _ e (kept_ordered v _ o refl refl refl refl refl (ap sent_leaves (sym f)) (sent_bare v.outbox Done refl) refl)
-ordered_event sc n v w i o (GotDone ms f finish e) = along w _ e (kept_ordered v _ o refl refl refl refl refl (ap sent_leaves (sym f)) refl (done_wide v ms i f finish))
+ordered_event sc n v w i o (GotAll ms f dual all e) =
+    along w _ e (kept_ordered v _ o refl refl refl refl refl (ap sent_leaves (sym f)) (sent_bare v.outbox Done refl) refl)
+ordered_event sc n v w i o (GotDone ms f finish e) =
+    along w _ e (kept_ordered v _ o refl refl refl refl refl (ap sent_leaves (sym f)) refl (done_wide v ms i f finish))
 ordered_event sc n v w i o (Finishes dual none e) = along w _ e (kept_ordered v _ o refl refl refl refl refl refl (sent_bare v.outbox Finish refl) refl)
 ordered_event sc n v w i o (Pushes p finish own e) = along w _ e (leaves_ordered p v i.owned o own)

@@ -52,7 +52,8 @@ found_once lows (x ∷ xs) k p h =
       | inl here ↦
           let yes : (x.number == page_of lows k) ≡ true = eq-eqb _ _ here in
           let few : times (page_of lows k) xs ≡ 0 = grind (arith, nat_tests, h, yes) in
-          let none : found xs k ≡ None = not_found lows xs k p.1 (false_from_ne_true _ (λ own. let n = owns-times (page_of lows k) xs own in absurd (omega (arith, n, few)))) in
+          let none : found xs k ≡ None =
+          not_found lows xs k p.1 (false_from_ne_true _ (λ own. let n = owns-times (page_of lows k) xs own in absurd (omega (arith, n, few)))) in
           ap (or_else (get_row x.rows k)) none ∙ or_else_none (get_row x.rows k) ∙ ap (λ rows. get_row rows k) (sym (rows_of-here x xs (page_of lows k) yes))
       | inr far ↦
           let off : (x.number == page_of lows k) ≡ false = ne_eqb _ _ far in
@@ -68,7 +69,8 @@ page_value lows v k placed o own =
     let none = not_found lows (rest_of v) k parts.1 (rest_lacks v (page_of lows k) o own) in
     let once = o.once (page_of lows k) in
     let most : times (page_of lows k) v.me.pages ≤ 1 = grind (arith, nat_tests, once) in
-    get-leaves (whole v) k ∙ found-append v.me.pages (rest_of v) k ∙ ap (or_else (found v.me.pages k)) none ∙ or_else_none (found v.me.pages k) ∙ found_once lows v.me.pages k parts.0 most
+    get-leaves (whole v) k ∙ found-append v.me.pages (rest_of v) k ∙ ap (or_else (found v.me.pages k)) none ∙ or_else_none (found v.me.pages k)
+    ∙ found_once lows v.me.pages k parts.0 most
 
 -- what is read: the private row, else the committed one, else 0
 pub value_same : (a b : Option ℕ) → unwrap_or (or_else a b) 0 ≡ unwrap_or a (unwrap_or b 0)

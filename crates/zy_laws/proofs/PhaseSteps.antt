@@ -7,7 +7,8 @@ use Rattle.zy_links.specs.Messages.{Wire, Ready, Dual, Pull, Page, Finish, Done}
 use Rattle.zy_table.specs.State.{NodeState, Leaf, Message, View}
 use Rattle.zy_laws.specs.Journey.{Begins}
 use Rattle.zy_laws.specs.OneOwner.{times}
-use Rattle.zy_laws.proofs.Phases.{Phase, AllPages, PagesAndFinish, AllPulls, PullsAndDone, AllThere, Resting, Wire_sent, Ready_sent, Dual_sent, Both_sent, In_dual, Finish_sent, In_finish, Done_sent, begins_length, pages_post, finish_post, pages_finish_post, pulls_post}
+use Rattle.zy_laws.proofs.Phases.{Phase, AllPages, PagesAndFinish, AllPulls, PullsAndDone, AllThere, Resting, Wire_sent, Ready_sent, Dual_sent, Both_sent}
+use Rattle.zy_laws.proofs.Phases.{In_dual, Finish_sent, In_finish, Done_sent, begins_length, pages_post, finish_post, pages_finish_post, pulls_post}
 use Rattle.zy_laws.proofs.Roles.{Roles, Source, Destination, mode_clash}
 
 -- which of the two a node is, by its mode
@@ -112,15 +113,18 @@ pub dual_came : (src dst : NodeState) (out back : List Message) (ms : List Messa
 dual_came src dst out back ms (Resting a b c d f) e = cc
 dual_came src dst out back ms (Wire_sent a b c d f) e = cc
 dual_came src dst out back ms (Ready_sent a b c d f) e = cc
-dual_came src dst out back ms (Dual_sent xs a b c d all f) e = let same : ms ≡ xs = cc in In_dual a refl c (subst AllPages (sym same) all) (subst AllPulls (sym f) tt)
-dual_came src dst out back ms (Both_sent xs a b c d all f) e = let same : ms ≡ xs = cc in Finish_sent a refl c (subst PagesAndFinish (sym same) all) (subst AllPulls (sym f) tt)
+dual_came src dst out back ms (Dual_sent xs a b c d all f) e = let same : ms ≡ xs = cc in
+    In_dual a refl c (subst AllPages (sym same) all) (subst AllPulls (sym f) tt)
+dual_came src dst out back ms (Both_sent xs a b c d all f) e = let same : ms ≡ xs = cc in
+    Finish_sent a refl c (subst PagesAndFinish (sym same) all) (subst AllPulls (sym f) tt)
 dual_came src dst out back ms (In_dual a b c d f) e = absurd (subst AllPages e d)
 dual_came src dst out back ms (Finish_sent a b c d f) e = absurd (subst PagesAndFinish e d)
 dual_came src dst out back ms (In_finish a b c d f) e = absurd (subst AllPages e d)
 dual_came src dst out back ms (Done_sent a b c all d f) e = cc
 
 -- a page is asked for
-pub asked_for : (src dst : NodeState) (out back : List Message) (p : ℕ) → Phase src dst out back → may_pull dst.mode ≡ true → Phase src dst out (back ++ Pull p ∷ [])
+pub asked_for : (src dst : NodeState) (out back : List Message) (p : ℕ) → Phase src dst out back → may_pull dst.mode ≡ true
+    → Phase src dst out (back ++ Pull p ∷ [])
 asked_for src dst out back p (Resting a b c d f) s = mode_clash may_pull Empty dst.mode b refl s
 asked_for src dst out back p (Wire_sent a b c d f) s = mode_clash may_pull Empty dst.mode b refl s
 asked_for src dst out back p (Ready_sent a b c d f) s = mode_clash may_pull DInit dst.mode b refl s
@@ -161,8 +165,10 @@ pub page_left : (src dst : NodeState) (out back : List Message) (leaf : Leaf) (p
 page_left src dst out back leaf pages (Resting a b c d f) s lacks = mode_clash is_sending Normal src.mode a refl s
 page_left src dst out back leaf pages (Wire_sent a b c d f) s lacks = mode_clash is_sending SInit src.mode a refl s
 page_left src dst out back leaf pages (Ready_sent a b c d f) s lacks = mode_clash is_sending SInit src.mode a refl s
-page_left src dst out back leaf pages (Dual_sent xs a b c d all f) s lacks = Dual_sent (xs ++ Page leaf ∷ []) a b c (ap (λ ms. ms ++ Page leaf ∷ []) d) (pages_post xs leaf all) f
-page_left src dst out back leaf pages (Both_sent xs a b c d all f) s lacks = Both_sent (xs ++ Page leaf ∷ []) a b c (ap (λ ms. ms ++ Page leaf ∷ []) d) (pages_finish_post xs leaf all) f
+page_left src dst out back leaf pages (Dual_sent xs a b c d all f) s lacks =
+    Dual_sent (xs ++ Page leaf ∷ []) a b c (ap (λ ms. ms ++ Page leaf ∷ []) d) (pages_post xs leaf all) f
+page_left src dst out back leaf pages (Both_sent xs a b c d all f) s lacks =
+    Both_sent (xs ++ Page leaf ∷ []) a b c (ap (λ ms. ms ++ Page leaf ∷ []) d) (pages_finish_post xs leaf all) f
 page_left src dst out back leaf pages (In_dual a b c d f) s lacks = In_dual a b c (pages_post out leaf d) f
 page_left src dst out back leaf pages (Finish_sent a b c d f) s lacks = Finish_sent a b c (pages_finish_post out leaf d) f
 page_left src dst out back leaf pages (In_finish a b c d f) s lacks = In_finish a b c (pages_post out leaf d) f
@@ -249,7 +255,8 @@ begins_further : (xs ys zs : List ℕ) → Begins xs ys → Begins ys zs → Beg
 begins_further xs ys zs a b = record { more = a.more ++ b.more; is = b.is ∙ ap (λ l. l ++ b.more) a.is ∙ append_assoc xs a.more b.more }
 
 -- a page is cut at a node in Normal: it is the source that rests
-pub cut_source : (src dst : NodeState) (out back : List Message) (y : NodeState) → Phase src dst out back → src.mode ≡ Normal → y.mode ≡ src.mode → Phase y dst out back
+pub cut_source : (src dst : NodeState) (out back : List Message) (y : NodeState) → Phase src dst out back → src.mode ≡ Normal → y.mode ≡ src.mode
+    → Phase y dst out back
 cut_source src dst out back y (Resting a b c d f) m same = Resting (same ∙ a) b c d f
 cut_source src dst out back y (Wire_sent a b c d f) m same = cc
 cut_source src dst out back y (Ready_sent a b c d f) m same = cc
@@ -271,4 +278,5 @@ cut_taker src dst out back y (Both_sent xs a b c d all f) m same more there = cc
 cut_taker src dst out back y (In_dual a b c d f) m same more there = cc
 cut_taker src dst out back y (Finish_sent a b c d f) m same more there = cc
 cut_taker src dst out back y (In_finish a b c d f) m same more there = cc
-cut_taker src dst out back y (Done_sent a b c all d f) m same more there = Done_sent a (same ∙ b) (begins_further src.lows dst.lows y.lows c more) (there all) d f
+cut_taker src dst out back y (Done_sent a b c all d f) m same more there =
+    Done_sent a (same ∙ b) (begins_further src.lows dst.lows y.lows c more) (there all) d f

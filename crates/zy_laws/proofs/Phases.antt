@@ -57,8 +57,10 @@ pub data Phase (src dst : NodeState) (out back : List Message) : Type 0 where
   Resting : src.mode ≡ Normal → dst.mode ≡ Empty → dst.lows ≡ [] → out ≡ [] → back ≡ [] → Phase src dst out back
   Wire_sent : src.mode ≡ SInit → dst.mode ≡ Empty → dst.lows ≡ [] → out ≡ Wire src.lows ∷ [] → back ≡ [] → Phase src dst out back
   Ready_sent : src.mode ≡ SInit → dst.mode ≡ DInit → dst.lows ≡ src.lows → out ≡ [] → back ≡ Ready ∷ [] → Phase src dst out back
-  Dual_sent : (ms : List Message) → src.mode ≡ SDual → dst.mode ≡ DInit → dst.lows ≡ src.lows → out ≡ Dual ∷ ms → AllPages ms → back ≡ [] → Phase src dst out back
-  Both_sent : (ms : List Message) → src.mode ≡ SFinish → dst.mode ≡ DInit → dst.lows ≡ src.lows → out ≡ Dual ∷ ms → PagesAndFinish ms → back ≡ [] → Phase src dst out back
+  Dual_sent : (ms : List Message) → src.mode ≡ SDual → dst.mode ≡ DInit → dst.lows ≡ src.lows → out ≡ Dual ∷ ms → AllPages ms → back ≡ []
+      → Phase src dst out back
+  Both_sent : (ms : List Message) → src.mode ≡ SFinish → dst.mode ≡ DInit → dst.lows ≡ src.lows → out ≡ Dual ∷ ms → PagesAndFinish ms → back ≡ []
+      → Phase src dst out back
   In_dual : src.mode ≡ SDual → dst.mode ≡ DDual → dst.lows ≡ src.lows → AllPages out → AllPulls back → Phase src dst out back
   Finish_sent : src.mode ≡ SFinish → dst.mode ≡ DDual → dst.lows ≡ src.lows → PagesAndFinish out → AllPulls back → Phase src dst out back
   In_finish : src.mode ≡ SFinish → dst.mode ≡ DFinish → dst.lows ≡ src.lows → AllPages out → AllPulls back → Phase src dst out back
@@ -133,7 +135,8 @@ pages_front Dual ms h = absurd h
 pages_front Finish ms h = absurd h
 pages_front Done ms h = absurd h
 
-pub finish_front : (m : Message) (ms : List Message) → PagesAndFinish (m ∷ ms) → ((leaf : Leaf) × (m ≡ Page leaf) × PagesAndFinish ms) ⊎ ((m ≡ Finish) × AllPages ms)
+pub finish_front : (m : Message) (ms : List Message) → PagesAndFinish (m ∷ ms) → ((leaf : Leaf) × (m ≡ Page leaf) × PagesAndFinish ms)
+    ⊎ ((m ≡ Finish) × AllPages ms)
 finish_front (Page x) ms h = inl (x, refl, h)
 finish_front Finish ms h = inr (refl, h)
 finish_front (Pull p) ms h = absurd h

@@ -62,15 +62,18 @@ pub record Reached (sc : Scenario) (s : State) : Type 0 where
 
 -- the newest low keys after a step
 abbrev pub lows_then : Scenario → Choice → State → List ℕ → List ℕ
-lows_then sc c s lows = lows_after sc (side_of sc c s) (facing (side_of sc c s) s) (move sc c (facing (side_of sc c s) s)).after lows (step_happens sc c s).event
+lows_then sc c s lows = lows_after sc (side_of sc c s) (facing (side_of sc c s) s) (move sc c (facing (side_of sc c s) s)).after lows
+    (step_happens sc c s).event
 
-pub step_kept : (sc : Scenario) (c : Choice) (s : State) (lows : List ℕ) → 2 ≤ sc.cap → Tidy s → Kept sc A (facing A s) lows → Kept sc A (facing A (step sc c s).after) (lows_then sc c s lows)
+pub step_kept : (sc : Scenario) (c : Choice) (s : State) (lows : List ℕ) → 2 ≤ sc.cap → Tidy s → Kept sc A (facing A s) lows
+    → Kept sc A (facing A (step sc c s).after) (lows_then sc c s lows)
 unfolding step
 step_kept sc c s lows two x k =
     let n = side_of sc c s in
     let v = facing n s in
     let w = (move sc c v).after in
-    kept_to sc n w (lows_then sc c s lows) (kept_event sc n v w lows two (ordered_from n s x.ordered) (kept_from sc n s lows k) (inv_view n w (step_inv sc c s k.inv)) (step_happens sc c s).event)
+    kept_to sc n w (lows_then sc c s lows) (kept_event sc n v w lows two (ordered_from n s x.ordered) (kept_from sc n s lows k)
+    (inv_view n w (step_inv sc c s k.inv)) (step_happens sc c s).event)
 
 -- the opening state
 pub blank_new : (programs : List (List Instr)) (t : ℕ) → is_active (txn_or (slice_get (map blank programs) t)).status ≡ false
@@ -115,7 +118,11 @@ opening_reached sc laid =
     }
 
 pub reached : (sc : Scenario) → IsScenario sc → (cs : List Choice) → Reached sc (play sc (opening sc) cs)
-reached sc ok cs = play-keeps-with sc Tidy (Reached sc) (step_tidy sc) (λ c s x a. record { lows = lows_then sc c s a.lows; kept = step_kept sc c s a.lows ok.cap_least x a.kept }) cs (opening sc) (opening_tidy sc ok) (opening_reached sc (laid_out sc ok))
+reached sc ok cs =
+    play-keeps-with sc Tidy (Reached sc) (step_tidy sc) (λ c s x a. record {
+      lows = lows_then sc c s a.lows;
+      kept = step_kept sc c s a.lows ok.cap_least x a.kept;
+    }) cs (opening sc) (opening_tidy sc ok) (opening_reached sc (laid_out sc ok))
 
 -- who holds locks
 pub exclusive_alone : (sc : Scenario) → IsScenario sc → (cs : List Choice) → ExclusiveAlone (play sc (opening sc) cs)

@@ -31,7 +31,8 @@ unfolding effect_step
 effect sc order t (Accesses i k) s = key sc order t i k s
 effect sc order t e s = refl
 
-instr : (sc : Scenario) (order : List Choice) (t : ℕ) (i : Option Instr) (regs : List ℕ) (s : View) → instr_step (reordered sc order) t i regs s ≡ instr_step sc t i regs s
+instr : (sc : Scenario) (order : List Choice) (t : ℕ) (i : Option Instr) (regs : List ℕ) (s : View)
+    → instr_step (reordered sc order) t i regs s ≡ instr_step sc t i regs s
 unfolding instr_step
 instr sc order t None regs s = refl
 instr sc order t (Some i) regs s = effect sc order t (effect_of i regs) s
@@ -76,7 +77,8 @@ play-reordered sc order s (c ∷ cs) = ap (λ (x : Step). play (reordered sc ord
 
 pub entries-reordered : (sc : Scenario) (order : List Choice) (s : State) (cs : List Choice) → entries (reordered sc order) s cs ≡ entries sc s cs
 entries-reordered sc order s [] = refl
-entries-reordered sc order s (c ∷ cs) = ap (λ (x : Step). entry_of c x ∷ entries (reordered sc order) x.after cs) (one sc order c s) ∙ ap (λ es. entry_of c (step sc c s) ∷ es) (entries-reordered sc order (step sc c s).after cs)
+entries-reordered sc order s (c ∷ cs) = ap (λ (x : Step). entry_of c x ∷ entries (reordered sc order) x.after cs) (one sc order c s)
+    ∙ ap (λ es. entry_of c (step sc c s) ∷ es) (entries-reordered sc order (step sc c s).after cs)
 
 pub opening-reordered : (sc : Scenario) (order : List Choice) → opening (reordered sc order) ≡ opening sc
 unfolding opening

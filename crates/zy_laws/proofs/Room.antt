@@ -27,8 +27,10 @@ pub need_is : (lows : List ℕ) (p : ℕ) (held rows : List Row) → length (row
 need_is lows p held [] = refl
 need_is lows p held (r ∷ rows) =
     let e = need_is lows p held rows in
-    cond_both (page_of lows r.key == p) (r ∷ rows_on lows p rows) (rows_on lows p rows) (λ y. length (rows_not_in y held) ≡ one_if (is_new_on lows p held r.key) + need lows p held rows)
-    (λ on. cond_both (is_some (get_row held r.key)) (rows_not_in (rows_on lows p rows) held) (r ∷ rows_not_in (rows_on lows p rows) held) (λ y. length y ≡ one_if (is_new_on lows p held r.key) + need lows p held rows)
+    cond_both (page_of lows r.key == p) (r ∷ rows_on lows p rows) (rows_on lows p rows)
+    (λ y. length (rows_not_in y held) ≡ one_if (is_new_on lows p held r.key) + need lows p held rows)
+    (λ on. cond_both (is_some (get_row held r.key)) (rows_not_in (rows_on lows p rows) held) (r ∷ rows_not_in (rows_on lows p rows) held)
+    (λ y. length y ≡ one_if (is_new_on lows p held r.key) + need lows p held rows)
     (λ h. rw (on, h) (omega (arith, e)))
     (λ h. rw (on, h) (omega (arith, e))))
     (λ off. rw off (omega (arith, e)))
@@ -38,7 +40,8 @@ put_length k v [] = omega arith
 put_length k v (r ∷ rows) =
     cond_both (k == r.key) (row k v ∷ rows) _ (λ y. length y ≤ suc (suc (length rows)))
     (λ _. omega arith)
-    (λ _. cond_both (nat_lt k r.key) (row k v ∷ r ∷ rows) (r ∷ put_row k v rows) (λ y. length y ≤ suc (suc (length rows))) (λ _. omega arith) (λ _. let e = put_length k v rows in omega arith))
+    (λ _. cond_both (nat_lt k r.key) (row k v ∷ r ∷ rows) (r ∷ put_row k v rows) (λ y. length y ≤ suc (suc (length rows))) (λ _. omega arith)
+    (λ _. let e = put_length k v rows in omega arith))
 
 -- a key that was there already: nothing grows
 not_below : (low k : ℕ) (r : Row) (rows : List Row) → Rising low (r ∷ rows) → is_some (get_row (r ∷ rows) k) ≡ true → k < r.key → ⊥
@@ -58,7 +61,8 @@ installed_length lows p [] rows h = omega arith
 installed_length lows p (r ∷ rs) rows h =
     let e = installed_length lows p rs rows h in
     let before = put_rows (rows_on lows p rs) rows in
-    cond_both (page_of lows r.key == p) (r ∷ rows_on lows p rs) (rows_on lows p rs) (λ y. length (put_rows y rows) ≤ length rows + (one_if (is_new_on lows p rows r.key) + need lows p rows rs))
+    cond_both (page_of lows r.key == p) (r ∷ rows_on lows p rs) (rows_on lows p rs)
+    (λ y. length (put_rows y rows) ≤ length rows + (one_if (is_new_on lows p rows r.key) + need lows p rows rs))
     (λ on. elim (cases_Bool (is_some (get_row rows r.key))) [
       | inl old ↦
           let there : is_some (get_row before r.key) ≡ true = ap is_some (get_row-puts (rows_on lows p rs) rows r.key) ∙ some_else _ _ old in
@@ -73,9 +77,11 @@ pub need_put : (lows : List ℕ) (p : ℕ) (held : List Row) (k v : ℕ) (rows :
     → need lows p held (put_row k v rows) ≤ need lows p held rows + one_if (is_new_on lows p held k)
 need_put lows p held k v [] = omega arith
 need_put lows p held k v (r ∷ rows) =
-    cond_both (k == r.key) (row k v ∷ rows) _ (λ y. need lows p held y ≤ (one_if (is_new_on lows p held r.key) + need lows p held rows) + one_if (is_new_on lows p held k))
+    cond_both (k == r.key) (row k v ∷ rows) _ (λ y. need lows p held y ≤ (one_if (is_new_on lows p held r.key) + need lows p held rows) + one_if
+    (is_new_on lows p held k))
     (λ _. omega arith)
-    (λ _. cond_both (nat_lt k r.key) (row k v ∷ r ∷ rows) (r ∷ put_row k v rows) (λ y. need lows p held y ≤ (one_if (is_new_on lows p held r.key) + need lows p held rows) + one_if (is_new_on lows p held k))
+    (λ _. cond_both (nat_lt k r.key) (row k v ∷ r ∷ rows) (r ∷ put_row k v rows)
+    (λ y. need lows p held y ≤ (one_if (is_new_on lows p held r.key) + need lows p held rows) + one_if (is_new_on lows p held k))
     (λ _. omega arith)
     (λ _. let e = need_put lows p held k v rows in omega (arith, e)))
 
@@ -86,7 +92,8 @@ need_same lows p held low k v [] h s = absurd (false≢true s)
 need_same lows p held low k v (r ∷ rows) h s =
     cond_both (k == r.key) (row k v ∷ rows) _ (λ y. need lows p held y ≡ one_if (is_new_on lows p held r.key) + need lows p held rows)
     (λ e. ap (λ z. one_if (is_new_on lows p held z) + need lows p held rows) (eqb-true _ _ e))
-    (λ e. cond_both (nat_lt k r.key) (row k v ∷ r ∷ rows) (r ∷ put_row k v rows) (λ y. need lows p held y ≡ one_if (is_new_on lows p held r.key) + need lows p held rows)
+    (λ e. cond_both (nat_lt k r.key) (row k v ∷ r ∷ rows) (r ∷ put_row k v rows)
+    (λ y. need lows p held y ≡ one_if (is_new_on lows p held r.key) + need lows p held rows)
     (λ l. absurd (not_below low k r rows h s (ltb-true _ _ l)))
     (λ _. ap (λ z. one_if (is_new_on lows p held r.key) + z) (need_same lows p held (r.key + 1) k v rows h.1 (past k r rows (eqb-false _ _ e) s))))
 
@@ -95,6 +102,7 @@ pub need_none : (lows : List ℕ) (p : ℕ) (held rows : List Row) → ((k : ℕ
     → need lows p held rows ≡ 0
 need_none lows p held [] h = refl
 need_none lows p held (r ∷ rows) h =
-    let off : (page_of lows r.key == p) ≡ false = ne_eqb _ _ (h r.key (ap (λ b. is_some (if b then Some r.value else get_row rows r.key)) (eq-eqb r.key r.key refl))) in
+    let off : (page_of lows r.key == p) ≡ false =
+    ne_eqb _ _ (h r.key (ap (λ b. is_some (if b then Some r.value else get_row rows r.key)) (eq-eqb r.key r.key refl))) in
     let e = need_none lows p held rows (λ k s. h k (cond_both (r.key == k) (Some r.value) (get_row rows k) (λ o. is_some o ≡ true) (λ _. refl) (λ _. s))) in
     rw off (omega (arith, e))

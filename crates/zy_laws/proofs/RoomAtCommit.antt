@@ -36,7 +36,9 @@ turned_fit sc n m v lows back forth f =
     let b = each_front (Sized sc.cap) v.them.pages (sent_leaves v.inbox ++ sent_leaves v.outbox) a.1 in
     let c = each_front (Sized sc.cap) (sent_leaves v.inbox) (sent_leaves v.outbox) b.1 in
     record {
-      sized = each_append (Sized sc.cap) v.them.pages (v.me.pages ++ (sent_leaves v.outbox ++ sent_leaves v.inbox)) b.0 (each_append (Sized sc.cap) v.me.pages (sent_leaves v.outbox ++ sent_leaves v.inbox) a.0 (each_append (Sized sc.cap) (sent_leaves v.outbox) (sent_leaves v.inbox) c.1 c.0));
+      sized = each_append (Sized sc.cap) v.them.pages (v.me.pages ++ (sent_leaves v.outbox ++ sent_leaves v.inbox)) b.0
+          (each_append (Sized sc.cap) v.me.pages (sent_leaves v.outbox ++ sent_leaves v.inbox) a.0
+          (each_append (Sized sc.cap) (sent_leaves v.outbox) (sent_leaves v.inbox) c.1 c.0));
       rising = f.rising;
       mine = λ t at. f.theirs t (subst (λ z. IsAt v t z) (sym forth) at);
       theirs = λ t at. f.mine t (subst (λ z. IsAt v t z) back at);
@@ -62,7 +64,11 @@ step_fit sc two c s x a =
     let v = facing n s in
     let w = (move sc c v).after in
     let before = kept_from sc n s a.lows a.kept in
-    record { lows = lows_then sc c s a.lows; kept = step_kept sc c s a.lows two x a.kept; fit = fit_to sc n w (lows_then sc c s a.lows) (fit_event sc n v w a.lows two before (fit_from sc n s a.lows a.fit) (step_happens sc c s).event) }
+    record {
+      lows = lows_then sc c s a.lows;
+      kept = step_kept sc c s a.lows two x a.kept;
+      fit = fit_to sc n w (lows_then sc c s a.lows) (fit_event sc n v w a.lows two before (fit_from sc n s a.lows a.fit) (step_happens sc c s).event);
+    }
 
 take_most : (h : ℕ) (rows : List Row) → length (take h rows) ≤ h
 take_most zero rows = omega arith
@@ -72,8 +78,10 @@ take_most (suc h) (r ∷ rows) = let k = take_most h rows in omega arith
 sized_pages : (cap fuel h i : ℕ) (rows : List Row) → h ≤ cap → Rising 0 rows → Each (Sized cap) (opening_pages fuel h i rows)
 sized_pages cap zero h i rows le r = tt
 sized_pages cap (suc fuel) h i [] le r = tt
-sized_pages cap (suc fuel) h i (x ∷ rows) le r =
-    (((let k = take_most h (x ∷ rows) in omega arith), rises_take 0 h (x ∷ rows) r), sized_pages cap fuel h (i + 1) (drop h (x ∷ rows)) le (rises_drop 0 h (x ∷ rows) r))
+sized_pages cap (suc fuel) h i (x ∷ rows) le r = (
+  ((let k = take_most h (x ∷ rows) in omega arith), rises_take 0 h (x ∷ rows) r),
+  sized_pages cap fuel h (i + 1) (drop h (x ∷ rows)) le (rises_drop 0 h (x ∷ rows) r),
+)
 
 sized_opening : (cap h : ℕ) (rows : List Row) → h ≤ cap → Rising 0 rows → Each (Sized cap) (opening_leaves h rows)
 unfolding opening_leaves
@@ -106,6 +114,7 @@ fits sc l cs n t p at own =
     let k = kept_from sc n s a.lows a.kept in
     let v = facing n s in
     let newest : v.me.lows ≡ a.lows = k.mine.newest (k.mine.busy t at) in
-    let room = subst (λ l. Room sc.cap l (txn_at v t).rows p (rows_of v.me.pages p)) (sym newest) (each_at (Room sc.cap a.lows (txn_at v t).rows) p v.me.pages own (f.mine t at)) in
+    let room = subst (λ l. Room sc.cap l (txn_at v t).rows p (rows_of v.me.pages p)) (sym newest)
+    (each_at (Room sc.cap a.lows (txn_at v t).rows) p v.me.pages own (f.mine t at)) in
     let e = need_is v.me.lows p (rows_of v.me.pages p) (txn_at v t).rows in
     omega (arith, e, room)

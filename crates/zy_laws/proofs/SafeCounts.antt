@@ -1,5 +1,6 @@
 -- done, place, registers and commits stay within their bounds.
-use Rattle.std.proofs.Common.{Bool, List, [], ap, arith, false, inl, inr, length, length-append, refl, subst, suc, sym, true, zero, ℕ, ◌+◌, ◌-◌, ◌<◌, ◌∙◌, ◌∷◌, ◌≡◌, ◌≤◌}
+use Rattle.std.proofs.Common.{Bool, List, [], ap, arith, false, inl, inr, length, length-append, refl, subst, suc, sym, true, zero, ℕ, ◌+◌, ◌-◌, ◌<◌, ◌∙◌, ◌∷◌}
+use Rattle.std.proofs.Common.{◌≡◌, ◌≤◌}
 use Rattle.std.specs.Prelude.{None, Some, if◌then◌else◌, map, nat_lt, not, position, slice_get, slice_set, unwrap_or}
 use Rattle.std.specs.List.{position_or_len}
 use Rattle.std.specs.Option.{option_map_or}
@@ -27,7 +28,9 @@ use Rattle.zy_table.specs.Serial.{is_committed}
 use Rattle.zy_table.specs.declared.status.Status.TheVariants.{Aborted, Active, Committed, New}
 use Rattle.zy_table.specs.State.{State, Txn, View, facing, seen_from}
 use Rattle.zy_table.specs.declared.status.Status.{Status}
-use Rattle.zy_laws.proofs.Events.{Aborts, Begins, Commits, Event, Gets, Inserts, Rests, Runs, SumsUp, Writes, step_happens, Splits, Asks, Starts, GotWire, GotReady, GotDual, IsStale, Gives, GotPage, GotLast, GotFinish, GotAll, GotDone, Finishes, Pushes, GoesOn, Leads, BySet, ByJump, BySum}
+use Rattle.zy_laws.proofs.Events.{Aborts, Begins, Commits, Event, Gets, Inserts, Rests, Runs, SumsUp, Writes, step_happens, Splits, Asks, Starts, GotWire}
+use Rattle.zy_laws.proofs.Events.{GotReady, GotDual, IsStale, Gives, GotPage, GotLast, GotFinish, GotAll, GotDone, Finishes, Pushes, GoesOn, Leads, BySet}
+use Rattle.zy_laws.proofs.Events.{ByJump, BySum}
 use Rattle.zy_laws.proofs.Txns.{at_back, at_either, at_other, at_side, blank_at}
 
 -- no element passes the test where none is found
@@ -82,7 +85,8 @@ data Fate (sc : Scenario) (u : ℕ) (x y : Txn) : Type 0 where
 fate_set : (sc : Scenario) (v w : View) (t u : ℕ) (y : Txn) → w.txns ≡ slice_set v.txns t y → Fate sc t (txn_at v t) y
     → Fate sc u (txn_at v u) (txn_at w u)
 fate_set sc v w t u y e f = elim (cases_eq u t) [
-  | inl same ↦ subst (λ z. Fate sc z (txn_at v z) (txn_at w z)) (sym same) (elim (at_either v w t y e) [ inl h ↦ subst (Fate sc t (txn_at v t)) (sym h) f | inr h ↦ Same h ])
+  | inl same ↦ subst (λ z. Fate sc z (txn_at v z) (txn_at w z)) (sym same)
+      (elim (at_either v w t y e) [ inl h ↦ subst (Fate sc t (txn_at v t)) (sym h) f | inr h ↦ Same h ])
   | inr far ↦ Same (at_other v w t u y e far)
 ]
 
@@ -150,7 +154,12 @@ counted_fate : (sc : Scenario) (count u : ℕ) (x y : Txn) → IsProgram (progra
     → Counted sc (count + 1) u y
 counted_fate sc count u x y ok (Same e) c = rw e (record { done = let k = c.done in omega arith; regs = c.regs; place = c.place })
 counted_fate sc count u x y ok (Fresh a b d) c = record { done = omega arith; regs = b; place = let k = ok.some in omega arith }
-counted_fate sc count u x y ok (Ends a b d) c = record { done = let k = c.done in omega arith; regs = ap length b ∙ c.regs; place = let k = c.place in omega arith }
+counted_fate sc count u x y ok (Ends a b d) c = record {
+  done = let k = c.done in omega arith;
+  regs = ap length b ∙ c.regs;
+  place = let k = c.place in
+      omega arith;
+}
 counted_fate sc count u x y ok (Went a b d) c = record { done = let k = c.done in omega arith; regs = b ∙ c.regs; place = d ok }
 
 -- how many transactions are committed
@@ -219,7 +228,11 @@ tallied sc n v w (Inserts t key value runs f new room e) = rw e (tallied_step v 
 tallied sc n v w (Splits t key value runs f new full normal pages e) = rw e (tallied_same v _ refl refl)
 tallied sc n v w (Commits t runs whole e) = rw e (record {
   txns = length-set v.txns t _;
-  commits = omega (arith, tally_more v.txns t (record (txn_at v t) { status = Committed; rows = []; done = (txn_at v t).done + 1 }) refl runs.active, length-append v.commits (record { txn = t; done = (txn_at v t).done + 1 } ∷ []));
+  commits = omega (
+    arith,
+    tally_more v.txns t (record (txn_at v t) { status = Committed; rows = []; done = (txn_at v t).done + 1 }) refl runs.active,
+    length-append v.commits (record { txn = t; done = (txn_at v t).done + 1 } ∷ []),
+  );
 })
 tallied sc n v w (Asks p gone may new e) = rw e (tallied_same v _ refl refl)
 tallied sc n v w (Starts at_a a b e) = rw e (tallied_same v _ refl refl)
@@ -244,8 +257,16 @@ record Sums (sc : Scenario) (count : ℕ) (s : State) : Type 0 where
 
 sums_after : (sc : Scenario) (count more : ℕ) (n : Node) (s : State) (w : View) → ((t : ℕ) → t < length sc.programs → Counted sc more t (txn_at w t))
     → Tallied (facing n s) w → Sums sc count s → Sums sc more (seen_from n w)
-sums_after sc count more A s w each k x = record { each = λ t h. subst (Counted sc more t) (sym (at_back A w t)) (each t h); txns = k.txns ∙ x.txns; commits = let a = k.commits in let b = x.commits in omega arith }
-sums_after sc count more B s w each k x = record { each = λ t h. subst (Counted sc more t) (sym (at_back B w t)) (each t h); txns = k.txns ∙ x.txns; commits = let a = k.commits in let b = x.commits in omega arith }
+sums_after sc count more A s w each k x = record {
+  each = λ t h. subst (Counted sc more t) (sym (at_back A w t)) (each t h);
+  txns = k.txns ∙ x.txns;
+  commits = let a = k.commits in let b = x.commits in omega arith;
+}
+sums_after sc count more B s w each k x = record {
+  each = λ t h. subst (Counted sc more t) (sym (at_back B w t)) (each t h);
+  txns = k.txns ∙ x.txns;
+  commits = let a = k.commits in let b = x.commits in omega arith;
+}
 
 step_sums : (sc : Scenario) (count : ℕ) (c : Choice) (s : State) → IsScenario sc → Sums sc count s → Sums sc (count + 1) (step sc c s).after
 unfolding step
@@ -255,13 +276,15 @@ step_sums sc count c s ok x =
     let w = (move sc c v).after in
     let event = (step_happens sc c s).event in
     sums_after sc count (count + 1) n s w
-    (λ t h. counted_fate sc count t (txn_at v t) (txn_at w t) (program_is sc.programs t ok.programs h) (fate sc n v w t event) (subst (Counted sc count t) (sym (at_side n s t)) (x.each t h)))
+    (λ t h. counted_fate sc count t (txn_at v t) (txn_at w t) (program_is sc.programs t ok.programs h) (fate sc n v w t event)
+    (subst (Counted sc count t) (sym (at_side n s t)) (x.each t h)))
     (tallied sc n v w event) x
 
 play_sums : (sc : Scenario) (count : ℕ) (cs : List Choice) (s : State) → IsScenario sc → Sums sc count s → Sums sc (count + length cs) (play sc s cs)
 play_sums sc count [] s ok x = subst (λ m. Sums sc m s) (let e : count ≡ count + 0 = omega arith in e) x
 play_sums sc count (c ∷ cs) s ok x =
-    subst (λ m. Sums sc m (play sc (step sc c s).after cs)) (let e : (count + 1) + length cs ≡ count + suc (length cs) = omega arith in e) (play_sums sc (count + 1) cs (step sc c s).after ok (step_sums sc count c s ok x))
+    subst (λ m. Sums sc m (play sc (step sc c s).after cs)) (let e : (count + 1) + length cs ≡ count + suc (length cs) = omega arith in e)
+    (play_sums sc (count + 1) cs (step sc c s).after ok (step_sums sc count c s ok x))
 
 blank_tally : (programs : List (List Instr)) → tally (map blank programs) ≡ 0
 blank_tally [] = refl
@@ -270,7 +293,12 @@ blank_tally (x ∷ xs) = let k = blank_tally xs in omega arith
 opening_sums : (sc : Scenario) → IsScenario sc → Sums sc 0 (opening sc)
 unfolding opening
 opening_sums sc ok = record {
-  each = λ t h. subst (Counted sc 0 t) (sym (blank_at sc.programs t)) (record { done = omega arith; regs = refl; place = (program_is sc.programs t ok.programs h).some });
+  each =
+      λ t h. subst (Counted sc 0 t) (sym (blank_at sc.programs t)) (record {
+        done = omega arith;
+        regs = refl;
+        place = (program_is sc.programs t ok.programs h).some;
+      });
   txns = length-map sc.programs blank;
   commits = sym (blank_tally sc.programs);
 }

@@ -36,9 +36,11 @@ turned_serial sc n m v start lows back forth s =
     record {
       kept = turned_kept sc n m v lows back forth s.kept;
       held = s.held;
-      mine = λ t at. follows_same (program_of sc t) (db v) (db (turned v)) lows v.them.locks v.them.locks t (txn_at v t) (txn_at (turned v) t) same (at_same v (turned v) t refl) (λ p h. h)
+      mine = λ t at. follows_same (program_of sc t) (db v) (db (turned v)) lows v.them.locks v.them.locks t (txn_at v t) (txn_at (turned v) t) same
+          (at_same v (turned v) t refl) (λ p h. h)
           (s.theirs t (subst (λ x. Stands x (other n)) (at_same v (turned v) t refl) (subst (λ z. IsAt (turned v) t z) (sym forth) at)));
-      theirs = λ t at. follows_same (program_of sc t) (db v) (db (turned v)) lows v.me.locks v.me.locks t (txn_at v t) (txn_at (turned v) t) same (at_same v (turned v) t refl) (λ p h. h)
+      theirs = λ t at. follows_same (program_of sc t) (db v) (db (turned v)) lows v.me.locks v.me.locks t (txn_at v t) (txn_at (turned v) t) same
+          (at_same v (turned v) t refl) (λ p h. h)
           (s.mine t (subst (λ x. Stands x n) (at_same v (turned v) t refl) (subst (λ z. IsAt (turned v) t z) back at)));
       is_serial = same ∙ s.is_serial;
       registers = registers_same sc (txn_at v) (txn_at (turned v)) start v.commits (λ t _. at_same v (turned v) t refl) s.registers;
@@ -68,7 +70,11 @@ step_holds sc start two c s x h =
     let event = (step_happens sc c s).event in
     let before = serial_from sc n s start h.lows h.serially in
     let inv = inv_view n w (step_inv sc c s h.serially.kept.inv) in
-    record { lows = lows_then sc c s h.lows; serially = serial_to sc n w start (lows_then sc c s h.lows) (serial_event sc n v w start h.lows before event (kept_event sc n v w h.lows two (ordered_from n s x.ordered) before.kept inv event)) }
+    record {
+      lows = lows_then sc c s h.lows;
+      serially = serial_to sc n w start (lows_then sc c s h.lows)
+          (serial_event sc n v w start h.lows before event (kept_event sc n v w h.lows two (ordered_from n s x.ordered) before.kept inv event));
+    }
 
 opening_holds : (sc : Scenario) → is_held sc.rule ≡ true → LaidOut sc → Holds sc (database (opening sc)) (opening sc)
 unfolding opening database txn_at
@@ -77,14 +83,22 @@ opening_holds sc held laid =
     let none : (t : ℕ) (n : Node) → IsAt (facing A (opening sc)) t n → ⊥ = λ t n at. false≢true (sym (blank_new sc.programs t) ∙ at.0) in
     record {
       lows = a.lows;
-      serially = record { kept = a.kept; held = held; mine = λ t at. absurd (none t A at); theirs = λ t at. absurd (none t B at); is_serial = refl; registers = tt };
+      serially = record {
+        kept = a.kept;
+        held = held;
+        mine = λ t at. absurd (none t A at);
+        theirs = λ t at. absurd (none t B at);
+        is_serial = refl;
+        registers = tt;
+      };
     }
 
 pub serializable : (sc : Scenario) → IsScenario sc → sc.rule ≡ Held → (cs : List Choice) → Serializable sc (play sc (opening sc) cs)
 unfolding database txn_at
 serializable sc l held cs =
     let s = play sc (opening sc) cs in
-    let h = play-keeps-with sc Tidy (Holds sc (database (opening sc))) (step_tidy sc) (step_holds sc (database (opening sc)) l.cap_least) cs (opening sc) (opening_tidy sc l) (opening_holds sc (ap is_held held) (laid_out sc l)) in
+    let h = play-keeps-with sc Tidy (Holds sc (database (opening sc))) (step_tidy sc) (step_holds sc (database (opening sc)) l.cap_least) cs (opening sc)
+    (opening_tidy sc l) (opening_holds sc (ap is_held held) (laid_out sc l)) in
     let start = opening_database sc l in
     record {
       one_by_one = h.serially.is_serial ∙ ap (λ m. serial sc m s.commits) start;

@@ -14,7 +14,8 @@ use Rattle.zy_table.specs.State.{Message, View, facing}
 use Rattle.zy_table.specs.Take.{all_here, mode_line, with_brought}
 use Rattle.zy_laws.proofs.Events.{step_happens}
 use Rattle.zy_laws.proofs.OneOwner.{inv_from, play_inv}
-use Rattle.zy_laws.proofs.Phases.{AllPages, AllPulls, PagesAndFinish, PullsAndDone, Resting, Wire_sent, Ready_sent, Dual_sent, Both_sent, In_dual, Finish_sent, In_finish, Done_sent, done_front, finish_front, heads, no_front, pages_front, pulls_front}
+use Rattle.zy_laws.proofs.Phases.{AllPages, AllPulls, PagesAndFinish, PullsAndDone, Resting, Wire_sent, Ready_sent, Dual_sent, Both_sent, In_dual, Finish_sent}
+use Rattle.zy_laws.proofs.Phases.{In_finish, Done_sent, done_front, finish_front, heads, no_front, pages_front, pulls_front}
 use Rattle.zy_laws.proofs.Roles.{Destination, Roles, Source}
 
 -- a mode that has a line for messages of this kind
@@ -38,25 +39,30 @@ knows_front v m ms e line (Source (Ready_sent a b c d f)) = known v m Ready SIni
 knows_front v m ms e line (Source (Dual_sent xs a b c d all f)) = no_front _ _ _ e f
 knows_front v m ms e line (Source (Both_sent xs a b c d all f)) = no_front _ _ _ e f
 knows_front v m ms e line (Source (In_dual a b c d f)) = let k = pulls_front m ms (subst AllPulls e f) in known v m (Pull k.0) SDual line k.1 a (λ all h. cc)
-knows_front v m ms e line (Source (Finish_sent a b c d f)) = let k = pulls_front m ms (subst AllPulls e f) in known v m (Pull k.0) SFinish line k.1 a (λ all h. cc)
-knows_front v m ms e line (Source (In_finish a b c d f)) = let k = pulls_front m ms (subst AllPulls e f) in known v m (Pull k.0) SFinish line k.1 a (λ all h. cc)
+knows_front v m ms e line (Source (Finish_sent a b c d f)) = let k = pulls_front m ms (subst AllPulls e f) in
+    known v m (Pull k.0) SFinish line k.1 a (λ all h. cc)
+knows_front v m ms e line (Source (In_finish a b c d f)) = let k = pulls_front m ms (subst AllPulls e f) in
+    known v m (Pull k.0) SFinish line k.1 a (λ all h. cc)
 knows_front v m ms e line (Source (Done_sent a b c all d f)) =
     elim (done_front m ms (subst PullsAndDone e f)) [
       | inl k ↦ known v m (Pull k.0) SFinish line k.1 a (λ all h. cc)
       | inr k ↦ known v m Done SFinish line k.0 a (λ all h. cc)
     ]
 knows_front v m ms e line (Destination (Resting a b c d f)) = no_front _ _ _ e d
-knows_front v m ms e line (Destination (Wire_sent a b c d f)) = known v m (Wire v.them.lows) Empty line (heads m (Wire v.them.lows) ms [] (sym e ∙ d)).0 b (λ all h. cc)
+knows_front v m ms e line (Destination (Wire_sent a b c d f)) = known v m (Wire v.them.lows) Empty line (heads m (Wire v.them.lows) ms [] (sym e ∙ d)).0 b
+    (λ all h. cc)
 knows_front v m ms e line (Destination (Ready_sent a b c d f)) = no_front _ _ _ e d
 knows_front v m ms e line (Destination (Dual_sent xs a b c d all f)) = known v m Dual DInit line (heads m Dual ms xs (sym e ∙ d)).0 b (λ all h. cc)
 knows_front v m ms e line (Destination (Both_sent xs a b c d all f)) = known v m Dual DInit line (heads m Dual ms xs (sym e ∙ d)).0 b (λ all h. cc)
-knows_front v m ms e line (Destination (In_dual a b c d f)) = let k = pages_front m ms (subst AllPages e d) in known v m (Page k.0) DDual line k.1 b (λ all h. cc)
+knows_front v m ms e line (Destination (In_dual a b c d f)) = let k = pages_front m ms (subst AllPages e d) in
+    known v m (Page k.0) DDual line k.1 b (λ all h. cc)
 knows_front v m ms e line (Destination (Finish_sent a b c d f)) =
     elim (finish_front m ms (subst PagesAndFinish e d)) [
       | inl k ↦ known v m (Page k.0) DDual line k.1 b (λ all h. cc)
       | inr k ↦ known v m Finish DDual line k.0 b finishes_known
     ]
-knows_front v m ms e line (Destination (In_finish a b c d f)) = let k = pages_front m ms (subst AllPages e d) in known v m (Page k.0) DFinish line k.1 b finishes_known
+knows_front v m ms e line (Destination (In_finish a b c d f)) = let k = pages_front m ms (subst AllPages e d) in
+    known v m (Page k.0) DFinish line k.1 b finishes_known
 knows_front v m ms e line (Destination (Done_sent a b c all d f)) = no_front _ _ _ e d
 
 pub never_stray : (sc : Scenario) (cs : List Choice) (next : Choice) → is_stray (step sc next (play sc (opening sc) cs)).outcome ≡ false

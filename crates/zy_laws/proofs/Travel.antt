@@ -25,7 +25,9 @@ use Rattle.zy_table.specs.Play.{move, opening, play, side_of, step}
 use Rattle.zy_table.specs.Run.{boundary}
 use Rattle.zy_table.specs.State.{Leaf, Message, Move, State, View, as_step, facing, other, seen_from}
 use Rattle.zy_table.proofs.PageLists.{owns-lowered, owns-with_page}
-use Rattle.zy_laws.proofs.Events.{Told, Aborts, Asks, Begins, Commits, Event, Finishes, Gets, Gives, GotAll, GotDone, GotDual, GotFinish, GotLast, GotPage, GotReady, GotWire, Inserts, IsStale, Pushes, Rests, SumsUp, Splits, Starts, Writes, has_lock, page, rest, step_happens, GoesOn}
+use Rattle.zy_laws.proofs.Events.{Told, Aborts, Asks, Begins, Commits, Event, Finishes, Gets, Gives, GotAll, GotDone, GotDual, GotFinish, GotLast, GotPage}
+use Rattle.zy_laws.proofs.Events.{GotReady, GotWire, Inserts, IsStale, Pushes, Rests, SumsUp, Splits, Starts, Writes, has_lock, page, rest, step_happens}
+use Rattle.zy_laws.proofs.Events.{GoesOn}
 use Rattle.zy_laws.proofs.Installing.{owns-installed}
 use Rattle.zy_laws.proofs.MovingPages.{leaf_at-number, owns-sent_post, owns-without, owns-without_other, sent_bare}
 use Rattle.zy_laws.proofs.OneOwner.{inv_from, locks_inv, play_inv, pulled_inv, sends_source, step_inv}
@@ -42,16 +44,18 @@ place_in p n v =
     else if owns (sent_leaves v.inbox) p then Moving (other n)
     else Nowhere
 
--- what a row does to it
+-- what a step does to it
 data Goes (p : ℕ) (n : Node) (o : Outcome) (v w : View) : Type 0 where
   Same : place_in p n w ≡ place_in p n v → Goes p n o v w
   New : (q b : ℕ) → o ≡ Split q p b → may_split v.me.mode ≡ true → place_in p n v ≡ Nowhere → place_in p n w ≡ At n → Goes p n o v w
   Out : is_source v.me.mode ≡ true → place_in p n v ≡ At n → place_in p n w ≡ Moving n → Goes p n o v w
   In : may_pull v.me.mode ≡ true → place_in p n v ≡ Moving (other n) → place_in p n w ≡ At n → Goes p n o v w
 
-same_place : (p : ℕ) (n : Node) (v w : View) → owns w.me.pages p ≡ owns v.me.pages p → w.them ≡ v.them → owns (sent_leaves w.outbox) p ≡ owns (sent_leaves v.outbox) p
+same_place : (p : ℕ) (n : Node) (v w : View) → owns w.me.pages p ≡ owns v.me.pages p → w.them ≡ v.them
+    → owns (sent_leaves w.outbox) p ≡ owns (sent_leaves v.outbox) p
     → owns (sent_leaves w.inbox) p ≡ owns (sent_leaves v.inbox) p → place_in p n w ≡ place_in p n v
-same_place p n v w a b c d = λ i. if a i then At n else if owns (b i).pages p then At (other n) else if c i then Moving n else if d i then Moving (other n) else Nowhere
+same_place p n v w a b c d = λ i. if a i then At n else if owns (b i).pages p then At (other n) else if c i then Moving n else if d i then Moving (other n)
+    else Nowhere
 
 -- messages came and went, and no page did
 stays : (p : ℕ) (n : Node) (o : Outcome) (v w : View) → owns w.me.pages p ≡ owns v.me.pages p → w.them ≡ v.them
@@ -61,14 +65,17 @@ stays p n o v w me them outbox inbox = Same (same_place p n v w me them (ap (λ 
 at_me : (p : ℕ) (n : Node) (v : View) → owns v.me.pages p ≡ true → place_in p n v ≡ At n
 at_me p n v a = rw a refl
 
-in_out : (p : ℕ) (n : Node) (v : View) → owns v.me.pages p ≡ false → owns v.them.pages p ≡ false → owns (sent_leaves v.outbox) p ≡ true → place_in p n v ≡ Moving n
+in_out : (p : ℕ) (n : Node) (v : View) → owns v.me.pages p ≡ false → owns v.them.pages p ≡ false → owns (sent_leaves v.outbox) p ≡ true
+    → place_in p n v ≡ Moving n
 in_out p n v a b c = rw (a, b, c) refl
 
-in_in : (p : ℕ) (n : Node) (v : View) → owns v.me.pages p ≡ false → owns v.them.pages p ≡ false → owns (sent_leaves v.outbox) p ≡ false → owns (sent_leaves v.inbox) p ≡ true
+in_in : (p : ℕ) (n : Node) (v : View) → owns v.me.pages p ≡ false → owns v.them.pages p ≡ false → owns (sent_leaves v.outbox) p ≡ false
+    → owns (sent_leaves v.inbox) p ≡ true
     → place_in p n v ≡ Moving (other n)
 in_in p n v a b c d = rw (a, b, c, d) refl
 
-in_none : (p : ℕ) (n : Node) (v : View) → owns v.me.pages p ≡ false → owns v.them.pages p ≡ false → owns (sent_leaves v.outbox) p ≡ false → owns (sent_leaves v.inbox) p ≡ false
+in_none : (p : ℕ) (n : Node) (v : View) → owns v.me.pages p ≡ false → owns v.them.pages p ≡ false → owns (sent_leaves v.outbox) p ≡ false
+    → owns (sent_leaves v.inbox) p ≡ false
     → place_in p n v ≡ Nowhere
 in_none p n v a b c d = rw (a, b, c, d) refl
 
@@ -86,12 +93,14 @@ leaves_goes p n o v q owned source own =
           let posted = owns-sent_post q v.outbox leaf ∙ or_right (owns (sent_leaves v.outbox) q) _ (eq-eqb _ _ number) in
           subst (λ z. Goes z n o v (leaves q v)) (sym here) (Out source (at_me q n v own) (in_out q n (leaves q v) (owns-without q v.me.pages) them posted))
       | inr far ↦
-          let posted = owns-sent_post p v.outbox leaf ∙ ap (λ b. owns (sent_leaves v.outbox) p || b) (ne_eqb _ _ (λ h. far (sym h ∙ number))) ∙ or-false (owns (sent_leaves v.outbox) p) in
+          let posted = owns-sent_post p v.outbox leaf ∙ ap (λ b. owns (sent_leaves v.outbox) p || b) (ne_eqb _ _ (λ h. far (sym h ∙ number)))
+          ∙ or-false (owns (sent_leaves v.outbox) p) in
           Same (same_place p n v (leaves q v) (owns-without_other q p v.me.pages far) refl posted refl)
     ]
 
 -- a page comes
-arrives_goes : (p : ℕ) (n : Node) (o : Outcome) (v w : View) (leaf : Leaf) (ms : List Message) → Owned v → may_pull v.me.mode ≡ true → v.inbox ≡ Page leaf ∷ ms → w.me.pages ≡ with_page leaf v.me.pages → w.them ≡ v.them
+arrives_goes : (p : ℕ) (n : Node) (o : Outcome) (v w : View) (leaf : Leaf) (ms : List Message) → Owned v → may_pull v.me.mode ≡ true → v.inbox ≡ Page leaf ∷ ms
+    → w.me.pages ≡ with_page leaf v.me.pages → w.them ≡ v.them
     → sent_leaves w.outbox ≡ sent_leaves v.outbox → w.inbox ≡ ms → Goes p n o v w
 arrives_goes p n o v w leaf ms once pulls f me them outbox inbox =
     let owned : owns w.me.pages p ≡ ((leaf.number == p) || owns v.me.pages p) = ap (λ xs. owns xs p) me ∙ owns-with_page p leaf v.me.pages in
@@ -108,12 +117,14 @@ arrives_goes p n o v w leaf ms once pulls f me them outbox inbox =
       | inr far ↦
           let off : (leaf.number == p) ≡ false = ne_eqb _ _ far in
           let mine : owns w.me.pages p ≡ owns v.me.pages p = owned ∙ ap (λ b. b || owns v.me.pages p) off in
-          let left : owns (sent_leaves w.inbox) p ≡ owns (sent_leaves v.inbox) p = ap (λ xs. owns (sent_leaves xs) p) inbox ∙ sym (sent ∙ ap (λ b. b || owns (sent_leaves ms) p) off) in
+          let left : owns (sent_leaves w.inbox) p ≡ owns (sent_leaves v.inbox) p =
+          ap (λ xs. owns (sent_leaves xs) p) inbox ∙ sym (sent ∙ ap (λ b. b || owns (sent_leaves ms) p) off) in
           Same (same_place p n v w mine them (ap (λ xs. owns xs p) outbox) left)
     ]
 
 -- a page is split off
-cut_goes : (p : ℕ) (n : Node) (o : Outcome) (v : View) (t q b : ℕ) → Inv v → may_split v.me.mode ≡ true → (x y : ℕ) × (o ≡ Split x (length v.me.lows) y) → Goes p n o v (cut t q b v)
+cut_goes : (p : ℕ) (n : Node) (o : Outcome) (v : View) (t q b : ℕ) → Inv v → may_split v.me.mode ≡ true → (x y : ℕ) × (o ≡ Split x (length v.me.lows) y)
+    → Goes p n o v (cut t q b v)
 unfolding cut
 cut_goes p n o v t q b i normal told =
     let owned : owns (cut t q b v).me.pages p ≡ ((length v.me.lows == p) || owns v.me.pages p) =
@@ -126,12 +137,13 @@ cut_goes p n o v t q b i normal told =
           let y = times-sent_leaves p v.inbox in
           New told.0 told.1 (told.2 ∙ ap (λ z. Split told.0 z told.1) here) normal
           (in_none p n v (owns_none p v.me.pages (grind (arith, nat_tests, k, wide, here))) (owns_none p v.them.pages (grind (arith, nat_tests, k, wide, here)))
-          (owns_none p (sent_leaves v.outbox) (grind (arith, nat_tests, k, wide, here, x))) (owns_none p (sent_leaves v.inbox) (grind (arith, nat_tests, k, wide, here, y))))
+          (owns_none p (sent_leaves v.outbox) (grind (arith, nat_tests, k, wide, here, x)))
+          (owns_none p (sent_leaves v.inbox) (grind (arith, nat_tests, k, wide, here, y))))
           (at_me p n (cut t q b v) (owned ∙ or_left _ _ (eq-eqb _ _ here)))
       | inr far ↦ stays p n o v (cut t q b v) (owned ∙ ap (λ c. c || owns v.me.pages p) (ne_eqb _ _ far)) refl refl refl
     ]
 
--- what a row does from a view that differs in nothing that counts here
+-- what a step does from a view that differs in nothing that counts here
 from_same : (p : ℕ) (n : Node) (o : Outcome) (v x w : View) → place_in p n v ≡ place_in p n x → x.me.mode ≡ v.me.mode → Goes p n o x w → Goes p n o v w
 from_same p n o v x w same mode (Same h) = Same (h ∙ sym same)
 from_same p n o v x w same mode (New q y told a b c) = New q y told (ap may_split (sym mode) ∙ a) (same ∙ b) c
@@ -164,7 +176,8 @@ goes_event sc n o v w p i (Gives q ms f sends own free e) told =
     let same = same_place p n x v refl refl refl (ap (λ xs. owns (sent_leaves xs) p) f) in
     rw e (from_same p n o v x _ same refl (leaves_goes p n o x q (pulled_inv v q ms i f).owned (sends_source v.me.mode sends) own))
 goes_event sc n o v w p i (GotPage leaf ms f pulls e) told = rw e (arrives_goes p n o v _ leaf ms i.owned pulls f refl refl refl refl)
-goes_event sc n o v w p i (GotLast leaf ms f finish all e) told = rw e (arrives_goes p n o v _ leaf ms i.owned (ap may_pull finish) f refl refl (sent_bare v.outbox Done refl) refl)
+goes_event sc n o v w p i (GotLast leaf ms f finish all e) told =
+    rw e (arrives_goes p n o v _ leaf ms i.owned (ap may_pull finish) f refl refl (sent_bare v.outbox Done refl) refl)
 goes_event sc n o v w p i (GotFinish ms f dual e) told = rw e (stays p n o v _ refl refl refl (ap sent_leaves (sym f)))
 goes_event sc n o v w p i (GotAll ms f dual all e) told = rw e (stays p n o v _ refl refl (sent_bare v.outbox Done refl) (ap sent_leaves (sym f)))
 goes_event sc n o v w p i (GotDone ms f finish e) told = rw e (stays p n o v _ refl refl refl (ap sent_leaves (sym f)))
@@ -197,7 +210,8 @@ place_facing : (p : ℕ) (n : Node) (s : State) → Owned (facing n s) → place
 place_facing p A s o = refl
 place_facing p B s o = place_seen p B (facing B s) o
 
-travel : (p : ℕ) (n : Node) (s : State) (m : Move) → place_in p n (facing n s) ≡ place_of p s → place_in p n m.after ≡ place_of p (seen_from n m.after) → Goes p n m.outcome (facing n s) m.after
+travel : (p : ℕ) (n : Node) (s : State) (m : Move) → place_in p n (facing n s) ≡ place_of p s → place_in p n m.after ≡ place_of p (seen_from n m.after)
+    → Goes p n m.outcome (facing n s) m.after
     → Travels p n s (as_step n m)
 travel p n s m x y (Same h) = Stays (sym y ∙ h ∙ x)
 travel p n s m x y (New q b told a h k) = Appears q b told (splits_in_normal _ a) (sym x ∙ h) (sym y ∙ k)
@@ -208,7 +222,8 @@ inv_seen : (n : Node) (w : View) → Inv (facing n (seen_from n w)) → Inv w
 inv_seen A w i = i
 inv_seen B w i = i
 
-pub step_travels : (sc : Scenario) (c : Choice) (s : State) (p : ℕ) → Inv (facing A s) → Inv (facing A (step sc c s).after) → Travels p (side_of sc c s) s (step sc c s)
+pub step_travels : (sc : Scenario) (c : Choice) (s : State) (p : ℕ) → Inv (facing A s) → Inv (facing A (step sc c s).after)
+    → Travels p (side_of sc c s) s (step sc c s)
 unfolding step
 step_travels sc c s p i j =
     let n = side_of sc c s in
@@ -220,7 +235,8 @@ step_travels sc c s p i j =
     travel p n s (move sc c v) (place_facing p n s before.owned) (place_seen p n w after.owned) (goes_event sc n _ v w p before h.event h.told)
 
 -- in every state that is reached
-pub pages_travel : (sc : Scenario) (cs : List Choice) (next : Choice) (p : ℕ) → let s = play sc (opening sc) cs in Travels p (side_of sc next s) s (step sc next s)
+pub pages_travel : (sc : Scenario) (cs : List Choice) (next : Choice) (p : ℕ) → let s = play sc (opening sc) cs in
+    Travels p (side_of sc next s) s (step sc next s)
 pages_travel sc cs next p =
     let s = play sc (opening sc) cs in
     let i = play_inv sc cs in

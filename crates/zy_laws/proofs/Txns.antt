@@ -43,7 +43,11 @@ at_self v w t y e h = ap (λ xs. txn_or (slice_get xs t)) e ∙ get_set_self v.t
 
 pub at_either : (v w : View) (t : ℕ) (y : Txn) → w.txns ≡ slice_set v.txns t y → (txn_at w t ≡ y) ⊎ (txn_at w t ≡ txn_at v t)
 unfolding txn_at
-at_either v w t y e = elim (get_set_either v.txns t y) [ inl h ↦ inl (ap (λ xs. txn_or (slice_get xs t)) e ∙ h) | inr h ↦ inr (ap (λ xs. txn_or (slice_get xs t)) e ∙ h) ]
+at_either v w t y e = elim (get_set_either v.txns t y) [
+  | inl h ↦ inl (ap (λ xs. txn_or (slice_get xs t)) e ∙ h)
+  | inr h ↦
+      inr (ap (λ xs. txn_or (slice_get xs t)) e ∙ h)
+]
 
 pub at_other : (v w : View) (t u : ℕ) (y : Txn) → w.txns ≡ slice_set v.txns t y → (u ≡ t → ⊥) → txn_at w u ≡ txn_at v u
 unfolding txn_at

@@ -120,7 +120,8 @@ page_there v lows more k first o wide =
     owns_from p (whole v) (grind (arith, nat_tests, below, wide, once, a, b, c, d, e))
 
 longest : (s : State) → length (newest s) ≤ width (facing A s)
-longest s = cond_both (nat_lt (length s.a.lows) (length s.b.lows)) s.b.lows s.a.lows (λ z. length z ≤ max (length s.a.lows) (length s.b.lows)) (λ _. omega arith) (λ _. omega arith)
+longest s = cond_both (nat_lt (length s.a.lows) (length s.b.lows)) s.b.lows s.a.lows (λ z. length z ≤ max (length s.a.lows) (length s.b.lows))
+    (λ _. omega arith) (λ _. omega arith)
 
 pub each_key_has_page : (sc : Scenario) → IsScenario sc → (cs : List Choice) → EachKeyHasPage (play sc (opening sc) cs)
 each_key_has_page sc ok cs k =

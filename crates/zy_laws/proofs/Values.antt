@@ -13,7 +13,8 @@ use Rattle.zy_table.specs.State.{View, post, with_me, Leaf, State, facing, seen_
 use Rattle.zy_table.specs.declared.entry.CommitRec.{CommitRec}
 use Rattle.zy_laws.proofs.Committing.{committed_list}
 use Rattle.zy_laws.proofs.CutValues.{cut_db}
-use Rattle.zy_laws.proofs.Events.{Aborts, Asks, Begins, Commits, Event, Finishes, Gets, Gives, GotAll, GotDone, GotDual, GotFinish, GotLast, GotPage, GotReady, GotWire, Inserts, IsStale, Pushes, Rests, SumsUp, Splits, Starts, Writes, arrived, has_lock, page, rest, step_happens, GoesOn}
+use Rattle.zy_laws.proofs.Events.{Aborts, Asks, Begins, Commits, Event, Finishes, Gets, Gives, GotAll, GotDone, GotDual, GotFinish, GotLast, GotPage, GotReady}
+use Rattle.zy_laws.proofs.Events.{GotWire, Inserts, IsStale, Pushes, Rests, SumsUp, Splits, Starts, Writes, arrived, has_lock, page, rest, step_happens, GoesOn}
 use Rattle.zy_laws.proofs.Locking.{Kept, whole}
 use Rattle.zy_laws.proofs.MovedValues.{arrived_db, leaves_db, same_db}
 use Rattle.zy_laws.proofs.MovingPages.{sent_bare}
@@ -56,19 +57,25 @@ event_db sc n v w lows k (Splits t key value runs f new full normal pages e) c =
     ap db e ∙ cut_db lows (has_lock t key Exclusive v) t (page key v) b k.placed (record { once = k.inv.owned.once }) f.here
 event_db sc n v w lows k (Commits t runs all e) c = absurd (no_longer v.commits _ (sym (committed_list t v) ∙ sym (ap (λ (x : View). x.commits) e) ∙ c))
 event_db sc n v w lows k (Asks p gone pulls asked e) c = ap db e ∙ same_db v (asks p v) refl refl refl (sent_bare v.outbox (Pull p) refl)
-event_db sc n v w lows k (Starts at_a normal empty e) c = ap db e ∙ same_db v (post (Wire v.me.lows) (turns SInit v)) refl refl refl (sent_bare v.outbox (Wire v.me.lows) refl)
+event_db sc n v w lows k (Starts at_a normal empty e) c = ap db e ∙ same_db v (post (Wire v.me.lows) (turns SInit v)) refl refl refl
+    (sent_bare v.outbox (Wire v.me.lows) refl)
 event_db sc n v w lows k (GotWire sent ms f empty e) c =
-    ap db e ∙ same_db v (post Ready (turns DInit (with_me (with_lows sent v.me) (rest v ms)))) refl refl (ap sent_leaves (sym f)) (sent_bare v.outbox Ready refl)
-event_db sc n v w lows k (GotReady ms f init e) c = ap db e ∙ same_db v (post Dual (turns SDual (rest v ms))) refl refl (ap sent_leaves (sym f)) (sent_bare v.outbox Dual refl)
+    ap db e ∙ same_db v (post Ready (turns DInit (with_me (with_lows sent v.me) (rest v ms)))) refl refl (ap sent_leaves (sym f))
+    (sent_bare v.outbox Ready refl)
+event_db sc n v w lows k (GotReady ms f init e) c = ap db e ∙ same_db v (post Dual (turns SDual (rest v ms))) refl refl (ap sent_leaves (sym f))
+    (sent_bare v.outbox Dual refl)
 event_db sc n v w lows k (GotDual ms f init e) c = ap db e ∙ same_db v (turns DDual (rest v ms)) refl refl (ap sent_leaves (sym f)) refl
 event_db sc n v w lows k (IsStale p ms f e) c = ap db e ∙ same_db v (rest v ms) refl refl (ap sent_leaves (sym f)) refl
 event_db sc n v w lows k (Gives p ms f sends own free e) c = ap db e ∙ leaves_db lows v p ms k.placed k.inv.owned (ap sent_leaves (sym f)) own
 event_db sc n v w lows k (GotPage leaf ms f pulls e) c = ap db e ∙ arrived_db lows v leaf ms f k.placed k.inv.owned
 event_db sc n v w lows k (GotLast leaf ms f finish all e) c =
-    ap db e ∙ same_db (arrived leaf (rest v ms)) (post Done (turns Normal (arrived leaf (rest v ms)))) refl refl refl (sent_bare v.outbox Done refl) ∙ arrived_db lows v leaf ms f k.placed k.inv.owned
+    ap db e ∙ same_db (arrived leaf (rest v ms)) (post Done (turns Normal (arrived leaf (rest v ms)))) refl refl refl (sent_bare v.outbox Done refl)
+    ∙ arrived_db lows v leaf ms f k.placed k.inv.owned
 event_db sc n v w lows k (GotFinish ms f dual e) c = ap db e ∙ same_db v (turns DFinish (rest v ms)) refl refl (ap sent_leaves (sym f)) refl
-event_db sc n v w lows k (GotAll ms f dual all e) c = ap db e ∙ same_db v (post Done (turns Normal (rest v ms))) refl refl (ap sent_leaves (sym f)) (sent_bare v.outbox Done refl)
-event_db sc n v w lows k (GotDone ms f finish e) c = ap db e ∙ same_db v (turns Empty (with_me (with_lows [] v.me) (rest v ms))) refl refl (ap sent_leaves (sym f)) refl
+event_db sc n v w lows k (GotAll ms f dual all e) c = ap db e ∙ same_db v (post Done (turns Normal (rest v ms))) refl refl (ap sent_leaves (sym f))
+    (sent_bare v.outbox Done refl)
+event_db sc n v w lows k (GotDone ms f finish e) c = ap db e ∙ same_db v (turns Empty (with_me (with_lows [] v.me) (rest v ms))) refl refl
+    (ap sent_leaves (sym f)) refl
 event_db sc n v w lows k (Finishes dual none e) c = ap db e ∙ same_db v (post Finish (turns SFinish v)) refl refl refl (sent_bare v.outbox Finish refl)
 event_db sc n v w lows k (Pushes p finish own e) c = ap db e ∙ leaves_db lows v p v.inbox k.placed k.inv.owned refl own
 
@@ -98,13 +105,17 @@ turned_db lows v h o =
     let once = o.once p in
     let x = times-sent_leaves p v.inbox in
     let y = times-sent_leaves p v.outbox in
-    let nodes = lacks lows v.me.pages v.them.pages k a.0 b.0 (λ own. let one = owns-times p v.me.pages own in owns_none p v.them.pages (grind (arith, nat_tests, once, one))) in
+    let nodes = lacks lows v.me.pages v.them.pages k a.0 b.0 (λ own. let one = owns-times p v.me.pages own in
+    owns_none p v.them.pages (grind (arith, nat_tests, once, one))) in
     let links = lacks lows i s k c.0 c.1 (λ own. let one = owns-times p i own in owns_none p s (grind (arith, nat_tests, once, one, x, y))) in
     let after : found (whole (turned v)) k ≡ or_else (found v.them.pages k) (or_else (found v.me.pages k) (or_else (found s k) (found i k))) =
-    found-append v.them.pages (v.me.pages ++ (s ++ i)) k ∙ ap (or_else (found v.them.pages k)) (found-append v.me.pages (s ++ i) k ∙ ap (or_else (found v.me.pages k)) (found-append s i k)) in
+    found-append v.them.pages (v.me.pages ++ (s ++ i)) k ∙ ap (or_else (found v.them.pages k))
+    (found-append v.me.pages (s ++ i) k ∙ ap (or_else (found v.me.pages k)) (found-append s i k)) in
     let before : found (whole v) k ≡ or_else (found v.me.pages k) (or_else (found v.them.pages k) (or_else (found i k) (found s k))) =
-    found-append v.me.pages (v.them.pages ++ (i ++ s)) k ∙ ap (or_else (found v.me.pages k)) (found-append v.them.pages (i ++ s) k ∙ ap (or_else (found v.them.pages k)) (found-append i s k)) in
-    get-leaves (whole (turned v)) k ∙ after ∙ swap_values (found v.me.pages k) (found v.them.pages k) (found i k) (found s k) nodes links ∙ sym before ∙ sym (get-leaves (whole v) k))
+    found-append v.me.pages (v.them.pages ++ (i ++ s)) k ∙ ap (or_else (found v.me.pages k))
+    (found-append v.them.pages (i ++ s) k ∙ ap (or_else (found v.them.pages k)) (found-append i s k)) in
+    get-leaves (whole (turned v)) k ∙ after ∙ swap_values (found v.me.pages k) (found v.them.pages k) (found i k) (found s k) nodes links ∙ sym before
+    ∙ sym (get-leaves (whole v) k))
 
 from_node : (n : Node) (s : State) (lows : List ℕ) → Placed lows (whole (facing A s)) → Owned (facing A s) → db (facing n s) ≡ db (facing A s)
 from_node A s lows placed o = refl
@@ -119,7 +130,8 @@ commits_from A s = refl
 commits_from B s = refl
 
 -- a step that commits nothing
-pub commits_alone : (sc : Scenario) → IsScenario sc → (cs : List Choice) (c : Choice) → let s = play sc (opening sc) cs in (step sc c s).after.commits ≡ s.commits → database (step sc c s).after ≡ database s
+pub commits_alone : (sc : Scenario) → IsScenario sc → (cs : List Choice) (c : Choice) → let s = play sc (opening sc) cs in
+    (step sc c s).after.commits ≡ s.commits → database (step sc c s).after ≡ database s
 unfolding step database
 commits_alone sc ok cs c same =
     let s = play sc (opening sc) cs in

@@ -5,8 +5,8 @@ use Rattle.zy_table.specs.State.{View, other}
 use Rattle.zy_table.specs.Change.{txn_at}
 use Rattle.zy_table.specs.Client.{is_active}
 
--- what n, which is empty, sees: no message is on its way and no page is asked for; it has no page, no low key and no lock, and
--- each transaction that is active is at the other node
+-- what n, which is empty, sees: no message is on its way and no page is asked for; it has no page, no low key and no
+-- lock, and each transaction that is active is at the other node
 pub record NothingLeft (n : Node) (v : View) : Type 0 where
   pub links : (v.inbox ≡ []) × (v.outbox ≡ [])
   pub asked : (v.me.asked ≡ []) × (v.them.asked ≡ [])

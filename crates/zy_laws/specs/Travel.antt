@@ -13,13 +13,15 @@ use Rattle.zy_table.specs.declared.outcome.Outcome.{Outcome}
 use Rattle.zy_table.specs.declared.outcome.Outcome.TheVariants.{Split, Started}
 use Rattle.zy_table.specs.Places.{place_of}
 
--- what a row of n's side does to the place of page p: a page appears where a Normal node splits it off, under the number that
--- the outcome tells; it leaves a source, and a destination takes it
+-- what a step of n's side does to the place of page p: a page appears where a Normal node splits it off, under the
+-- number that the outcome tells; it leaves a source, and a destination takes it
 pub data Travels (p : ℕ) (n : Node) (s : State) (m : Step) : Type 0 where
   Stays : place_of p m.after ≡ place_of p s → Travels p n s m
-  Appears : (q b : ℕ) → m.outcome ≡ Split q p b → (facing n s).me.mode ≡ Normal → place_of p s ≡ Nowhere → place_of p m.after ≡ At n → Travels p n s m
+  Appears : (q b : ℕ) → m.outcome ≡ Split q p b → (facing n s).me.mode ≡ Normal → place_of p s ≡ Nowhere
+      → place_of p m.after ≡ At n → Travels p n s m
   Leaves : is_source (facing n s).me.mode ≡ true → place_of p s ≡ At n → place_of p m.after ≡ Moving n → Travels p n s m
-  Arrives : may_pull (facing n s).me.mode ≡ true → place_of p s ≡ Moving (other n) → place_of p m.after ≡ At n → Travels p n s m
+  Arrives : may_pull (facing n s).me.mode ≡ true → place_of p s ≡ Moving (other n) → place_of p m.after ≡ At n
+      → Travels p n s m
 
 -- passed to n: in a message to it, or there
 abbrev pub IsPassed : Node → Place → Type 0

@@ -16,7 +16,8 @@ ghost use Rattle.zy_laws.specs.OneOwner.{OneOwner};
 ghost use Rattle.zy_laws.specs.Between.{NothingLeft};
 ghost use Rattle.zy_table.specs.Holders.{ExclusiveAlone, HoldersActive};
 ghost use Rattle.zy_table.specs.Order.{InOrder};
-ghost use Rattle.zy_table.specs.Database.{ValuesAtPages, EachKeyHasPage, HasLows, RowsLie, database, newest, all_leaves};
+ghost use Rattle.zy_table.specs.Database.{ValuesAtPages, EachKeyHasPage, HasLows, RowsLie, database, newest};
+ghost use Rattle.zy_table.specs.Database.{all_leaves};
 ghost use Rattle.zy_laws.specs.Counts.{Safe, Fits};
 ghost use Rattle.zy_table.specs.Serial.{Listed, Serializable};
 
@@ -63,15 +64,16 @@ pub fn pages_travel()
         → let s = play sc (opening sc) choices in Travels p (side_of sc choice s) s (step sc choice s) }
 {}
 
-/// At most one node is in a source's mode (SInit, SDual or SFinish), and so, with `pages_travel`, pages leave one node alone.
+/// At most one node is in a source's mode (SInit, SDual or SFinish), and so, with `pages_travel`, pages leave one node
+/// alone.
 pub fn one_source()
     ensures { (sc : Scenario) (choices : List AChoice) (n : Node)
         → let s = play sc (opening sc) choices in
         is_source (facing n s).me.mode ≡ true → is_source (facing n s).them.mode ≡ false }
 {}
 
-/// A page returns only in another migration. As long as no `start` acts, one that has passed to a node that is no source
-/// does not go back: it is in a message to that node or there, and once there it stays.
+/// A page returns only in another migration. As long as no `start` acts, one that has passed to a node that is no
+/// source does not go back: it is in a message to that node or there, and once there it stays.
 pub fn returns_by_start()
     ensures { (sc : Scenario) (choices more : List AChoice) (p : ℕ) (n : Node)
         → let s = play sc (opening sc) choices in
@@ -80,18 +82,20 @@ pub fn returns_by_start()
 
 /// In version 1 B is never in a source's mode (SInit, SDual or SFinish); so, with `pages_travel`, no page leaves it.
 pub fn b_never_sends()
-    ensures { (sc : Scenario) → sc.version ≡ One → (choices : List AChoice) → is_source (play sc (opening sc) choices).b.mode ≡ false }
+    ensures { (sc : Scenario) → sc.version ≡ One → (choices : List AChoice)
+        → is_source (play sc (opening sc) choices).b.mode ≡ false }
 {}
 
-/// In version 1 no page goes back: one that is at B stays there, and one in a message from A is later in a message from A or
-/// at B, whatever is chosen.
+/// In version 1 no page goes back: one that is at B stays there, and one in a message from A is later in a message from
+/// A or at B, whatever is chosen.
 pub fn none_goes_back()
     ensures { (sc : Scenario) → sc.version ≡ One → (choices more : List AChoice) (p : ℕ)
         → let s = play sc (opening sc) choices in NeverBack p B s (play sc s more) }
 {}
 
-/// Between two migrations, where one node is Empty and the other Normal, nothing is left of the last one: no message is on its
-/// way and no page is asked for, and the empty node has no page and no low key, no lock, and no active transaction.
+/// Between two migrations, where one node is Empty and the other Normal, nothing is left of the last one: no message is
+/// on its way and no page is asked for, and the empty node has no page and no low key, no lock, and no active
+/// transaction.
 pub fn nothing_left()
     ensures { (sc : Scenario) → IsScenario sc → (choices : List AChoice) (n : Node)
         → let v = facing n (play sc (opening sc) choices) in

@@ -1,5 +1,6 @@
 //! The link from one node to the other.
-ghost use Rattle.std.specs.Prelude.{◌≡◌, ◌==◌, ◌+◌, ◌<◌, ◌≤◌, ◌++◌, ◌∷◌, [], IfOk, IsOk, OnErr, OnOk, drop, length, option_copied, slice_get, slice_index_or};
+ghost use Rattle.std.specs.Prelude.{◌≡◌, ◌==◌, ◌+◌, ◌<◌, ◌≤◌, ◌++◌, ◌∷◌, [], IfOk, IsOk, OnErr, OnOk, drop, length};
+ghost use Rattle.std.specs.Prelude.{option_copied, slice_get, slice_index_or};
 ghost use Rattle.zy_links.specs.Messages.{limits, messages_of};
 
 use crate::message::Message;
@@ -45,7 +46,8 @@ impl Link {
         if len < self.queue.capacity() {
             return Ok(());
         }
-        // Each growth doubles the room. The queue's own `reserve` does not say that the room stays where memory is refused.
+        // Each growth doubles the room. The queue's own `reserve` does not say that the room stays where memory is
+        // refused.
         self.queue.reserve_exact(len.max(4))
     }
 

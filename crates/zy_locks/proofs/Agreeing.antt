@@ -1,8 +1,10 @@
 -- Laws of locks that agree: of two on one page both are shared.
-use Rattle.std.proofs.Common.{◌≡◌, ◌∙◌, ◌+◌, ◌-◌, Bool, true, false, ℕ, zero, suc, ◌<◌, ◌≤◌, List, [], ◌∷◌, length, get_or, take, drop, refl, sym, ap, arith, inl, inr, length-drop}
+use Rattle.std.proofs.Common.{◌≡◌, ◌∙◌, ◌+◌, ◌-◌, Bool, true, false, ℕ, zero, suc, ◌<◌, ◌≤◌, List, [], ◌∷◌, length, get_or, take, drop, refl, sym, ap, arith}
+use Rattle.std.proofs.Common.{inl, inr, length-drop}
 use Rattle.std.specs.Prelude.{◌==◌, not, ◌&&◌, ◌⊎◌}
 use Rattle.std.specs.List.{list_any}
-use Rattle.std.proofs.lemmas.Bool.{and_parts, cases_eq, cases_lt, cond_both, eq-eqb, eqb-true, false_from_ne_true, false≢true, true≢false, ne_eqb, or_parts, or_right, or_left}
+use Rattle.std.proofs.lemmas.Bool.{and_parts, cases_eq, cases_lt, cond_both, eq-eqb, eqb-true, false_from_ne_true, false≢true, true≢false, ne_eqb, or_parts}
+use Rattle.std.proofs.lemmas.Bool.{or_right, or_left}
 use Rattle.std.proofs.lemmas.Bool.Decides.{nat_tests}
 use Rattle.std.proofs.lemmas.List.{get_or-drop, get_or-take, length-take, take-append-drop}
 use Rattle.std.proofs.lemmas.List.Folds.{Any-from_list_any, list_any_at, list_any-append}
@@ -30,19 +32,23 @@ pub clash_sym : (p t : ℕ) (kind : LockKind) (x : Lock) → clashes x.page x.tx
 clash_sym p t kind x = clash_both (lock p t kind) x
 
 -- a lock that is raised is in the way of no more than the one that was there and the one that is asked for
-raised_kind : (q u : ℕ) (k : LockKind) (p t : ℕ) (held kind : LockKind) → clashes q u k (lock p t held) ≡ false → clashes q u k (lock p t kind) ≡ false → clashes q u k (lock p t (stronger held kind)) ≡ false
+raised_kind : (q u : ℕ) (k : LockKind) (p t : ℕ) (held kind : LockKind) → clashes q u k (lock p t held) ≡ false → clashes q u k (lock p t kind) ≡ false
+    → clashes q u k (lock p t (stronger held kind)) ≡ false
 raised_kind q u k p t Shared kind e f = f
 raised_kind q u k p t Exclusive kind e f = e
 
-raised_free : (q u : ℕ) (k : LockKind) (x : Lock) (kind : LockKind) → clashes q u k x ≡ false → clashes q u k (lock x.page x.txn kind) ≡ false → clashes q u k (record x { kind = stronger x.kind kind }) ≡ false
+raised_free : (q u : ℕ) (k : LockKind) (x : Lock) (kind : LockKind) → clashes q u k x ≡ false → clashes q u k (lock x.page x.txn kind) ≡ false
+    → clashes q u k (record x { kind = stronger x.kind kind }) ≡ false
 raised_free q u k x kind e f = raised_kind q u k x.page x.txn x.kind kind e f
 
 -- nor is more in the way of it
-raised_alone : (xs : List Lock) (q u : ℕ) (held kind : LockKind) → conflict xs q u held ≡ false → conflict xs q u kind ≡ false → conflict xs q u (stronger held kind) ≡ false
+raised_alone : (xs : List Lock) (q u : ℕ) (held kind : LockKind) → conflict xs q u held ≡ false → conflict xs q u kind ≡ false
+    → conflict xs q u (stronger held kind) ≡ false
 raised_alone xs q u Shared kind e f = f
 raised_alone xs q u Exclusive kind e f = e
 
-conflict_add : (q u : ℕ) (k : LockKind) (p t : ℕ) (kind : LockKind) (xs : List Lock) → conflict xs q u k ≡ false → clashes q u k (lock p t kind) ≡ false → conflict (add_lock p t kind xs) q u k ≡ false
+conflict_add : (q u : ℕ) (k : LockKind) (p t : ℕ) (kind : LockKind) (xs : List Lock) → conflict xs q u k ≡ false → clashes q u k (lock p t kind) ≡ false
+    → conflict (add_lock p t kind xs) q u k ≡ false
 conflict_add q u k p t kind [] e f = rw f refl
 conflict_add q u k p t kind (x ∷ xs) e f =
     let parts = or_parts (clashes q u k x) (conflict xs q u k) e in
@@ -86,13 +92,15 @@ agree_drop t (x ∷ xs) h =
 free_at : (q : Lock → Bool) (i : ℕ) (d : Lock) (xs : List Lock) → i < length xs → list_any q xs ≡ false → q (get_or xs i d) ≡ false
 free_at q i d xs lt e = false_from_ne_true _ (λ h. false≢true (sym e ∙ list_any_at q xs i d lt h))
 
-agree_at : (i j : ℕ) (d : Lock) (xs : List Lock) → LocksAgree xs → i < j → j < length xs → let x = get_or xs i d in clashes x.page x.txn x.kind (get_or xs j d) ≡ false
+agree_at : (i j : ℕ) (d : Lock) (xs : List Lock) → LocksAgree xs → i < j → j < length xs → let x = get_or xs i d in
+    clashes x.page x.txn x.kind (get_or xs j d) ≡ false
 agree_at i j d [] h le lt = absurd (omega arith)
 agree_at i zero d (x ∷ xs) h le lt = absurd (omega arith)
 agree_at zero (suc j) d (x ∷ xs) h le lt = free_at (clashes x.page x.txn x.kind) j d xs (omega arith) h.0
 agree_at (suc i) (suc j) d (x ∷ xs) h le lt = agree_at i j d xs h.1 (omega arith) (omega arith)
 
-rise_at : (i j : ℕ) (d : Lock) (xs : List Lock) → LocksRise xs → i < j → j < length xs → let y = get_or xs j d in comes_before (get_or xs i d) y.page y.txn ≡ true
+rise_at : (i j : ℕ) (d : Lock) (xs : List Lock) → LocksRise xs → i < j → j < length xs → let y = get_or xs j d in
+    comes_before (get_or xs i d) y.page y.txn ≡ true
 rise_at i j d [] h le lt = absurd (omega arith)
 rise_at i zero d (x ∷ xs) h le lt = absurd (omega arith)
 rise_at zero (suc j) d (x ∷ xs) h le lt = behind_at x j d xs h (omega arith)
@@ -104,17 +112,21 @@ shared_on true true c e h = h
 shared_on true false c e h = refl
 shared_on false b c e h = absurd (true≢false e)
 
-also_clashes : (x y : Lock) (p t : ℕ) (kind : LockKind) → clashes y.page y.txn y.kind x ≡ false → x.page ≡ p → y.page ≡ p → (x.txn ≡ y.txn → ⊥) → (y.txn ≡ t → ⊥) → clashes p t kind x ≡ true → clashes p t kind y ≡ true
+also_clashes : (x y : Lock) (p t : ℕ) (kind : LockKind) → clashes y.page y.txn y.kind x ≡ false → x.page ≡ p → y.page ≡ p → (x.txn ≡ y.txn → ⊥)
+    → (y.txn ≡ t → ⊥) → clashes p t kind x ≡ true → clashes p t kind y ≡ true
 also_clashes x y p t kind agree on at other far hit =
     let both : not (is_shared x.kind && is_shared y.kind) ≡ false = rw (eq-eqb x.page y.page (on ∙ sym at), ne_eqb x.txn y.txn other) at agree in
-    let asks = and_parts (not (x.txn == t)) (not (is_shared x.kind && is_shared kind)) (and_parts (x.page == p) (not (x.txn == t) && not (is_shared x.kind && is_shared kind)) hit).1 in
+    let asks = and_parts (not (x.txn == t)) (not (is_shared x.kind && is_shared kind))
+    (and_parts (x.page == p) (not (x.txn == t) && not (is_shared x.kind && is_shared kind)) hit).1 in
     rw (eq-eqb y.page p at, ne_eqb y.txn t far) (shared_on (is_shared x.kind) (is_shared y.kind) (is_shared kind) both asks.1)
 
 -- three locks in order, the first or the last of which is on p
-between_low : (x y : Lock) (p t : ℕ) → x.page ≡ p → comes_before x y.page y.txn ≡ true → comes_before y p t ≡ true → (y.page ≡ p) × (x.txn < y.txn) × (y.txn < t)
+between_low : (x y : Lock) (p t : ℕ) → x.page ≡ p → comes_before x y.page y.txn ≡ true → comes_before y p t ≡ true → (y.page ≡ p) × (x.txn < y.txn)
+    × (y.txn < t)
 between_low x y p t on h k = (grind (arith, nat_tests, on, h, k), grind (arith, nat_tests, on, h, k), grind (arith, nat_tests, on, h, k))
 
-between_high : (z y x : Lock) (p t : ℕ) → x.page ≡ p → comes_before z p t ≡ false → comes_before z y.page y.txn ≡ true → comes_before y x.page x.txn ≡ true → (y.page ≡ p) × (t < y.txn) × (y.txn < x.txn)
+between_high : (z y x : Lock) (p t : ℕ) → x.page ≡ p → comes_before z p t ≡ false → comes_before z y.page y.txn ≡ true → comes_before y x.page x.txn ≡ true
+    → (y.page ≡ p) × (t < y.txn) × (y.txn < x.txn)
 between_high z y x p t on h k l = (grind (arith, nat_tests, on, h, k, l), grind (arith, nat_tests, on, h, k, l), grind (arith, nat_tests, on, h, k, l))
 
 -- a lock that is in the way of t's lock on p, if one is, is beside its place
@@ -124,27 +136,46 @@ Beside at q xs = (k : ℕ) × (d : Lock) × (at ≤ k + 1) × (k ≤ at + 1) × 
 page_hit : (p t : ℕ) (kind : LockKind) (x : Lock) → clashes p t kind x ≡ true → x.page ≡ p
 page_hit p t kind x hit = eqb-true _ _ (and_parts (x.page == p) (not (x.txn == t) && not (is_shared x.kind && is_shared kind)) hit).0
 
-beside_low : (p t at j : ℕ) (kind : LockKind) (d : Lock) (xs : List Lock) → LocksRise xs → LocksAgree xs → IsPlace p t xs at → j + 1 < at → clashes p t kind (get_or xs j d) ≡ true → Beside at (clashes p t kind) xs
+beside_low : (p t at j : ℕ) (kind : LockKind) (d : Lock) (xs : List Lock) → LocksRise xs → LocksAgree xs → IsPlace p t xs at → j + 1 < at
+    → clashes p t kind (get_or xs j d) ≡ true → Beside at (clashes p t kind) xs
 beside_low p t at j kind d xs rise agree placed low hit =
     let k = at - 1 in
     let x = get_or xs j d in
     let y = get_or xs k d in
     let on = page_hit p t kind x hit in
     let few = placed.0 in
-    let mid = between_low x y p t on (rise_at j k d xs rise (omega arith) (omega (arith, few))) (placed.1 k d (omega arith) (omega arith)) in
-    (k, d, omega arith, omega arith, omega (arith, few), also_clashes x y p t kind (clash_both x y ∙ agree_at j k d xs agree (omega arith) (omega (arith, few))) on mid.0 (λ e. absurd (omega (arith, mid.1))) (λ e. absurd (omega (arith, mid.2))) hit)
+    let mid = between_low x y p t on (rise_at j k d xs rise (omega arith) (omega (arith, few))) (placed.1 k d (omega arith) (omega arith)) in (
+      k,
+      d,
+      omega arith,
+      omega arith,
+      omega (arith, few),
+      also_clashes x y p t kind
+          (clash_both x y ∙ agree_at j k d xs agree (omega arith) (omega (arith, few))) on mid.0 (λ e. absurd (omega (arith, mid.1)))
+          (λ e. absurd (omega (arith, mid.2))) hit,
+    )
 
-beside_high : (p t at j : ℕ) (kind : LockKind) (d : Lock) (xs : List Lock) → LocksRise xs → LocksAgree xs → IsPlace p t xs at → at + 1 < j → j < length xs → clashes p t kind (get_or xs j d) ≡ true → Beside at (clashes p t kind) xs
+beside_high : (p t at j : ℕ) (kind : LockKind) (d : Lock) (xs : List Lock) → LocksRise xs → LocksAgree xs → IsPlace p t xs at → at + 1 < j → j < length xs
+    → clashes p t kind (get_or xs j d) ≡ true → Beside at (clashes p t kind) xs
 beside_high p t at j kind d xs rise agree placed high lt hit =
     let k = at + 1 in
     let x = get_or xs j d in
     let y = get_or xs k d in
     let z = get_or xs at d in
     let on = page_hit p t kind x hit in
-    let mid = between_high z y x p t on (placed.2 at d (omega arith) (omega arith)) (rise_at at k d xs rise (omega arith) (omega arith)) (rise_at k j d xs rise (omega arith) (omega arith)) in
-    (k, d, omega arith, omega arith, omega arith, also_clashes x y p t kind (agree_at k j d xs agree (omega arith) (omega arith)) on mid.0 (λ e. absurd (omega (arith, mid.2))) (λ e. absurd (omega (arith, mid.1))) hit)
+    let mid = between_high z y x p t on (placed.2 at d (omega arith) (omega arith)) (rise_at at k d xs rise (omega arith) (omega arith))
+    (rise_at k j d xs rise (omega arith) (omega arith)) in (
+      k,
+      d,
+      omega arith,
+      omega arith,
+      omega arith,
+      also_clashes x y p t kind (agree_at k j d xs agree (omega arith) (omega arith)) on mid.0
+          (λ e. absurd (omega (arith, mid.2))) (λ e. absurd (omega (arith, mid.1))) hit,
+    )
 
-beside : (p t at : ℕ) (kind : LockKind) (xs : List Lock) → LocksRise xs → LocksAgree xs → IsPlace p t xs at → conflict xs p t kind ≡ true → Beside at (clashes p t kind) xs
+beside : (p t at : ℕ) (kind : LockKind) (xs : List Lock) → LocksRise xs → LocksAgree xs → IsPlace p t xs at → conflict xs p t kind ≡ true
+    → Beside at (clashes p t kind) xs
 beside p t at kind xs rise agree placed h =
     let any = Any-from_list_any (clashes p t kind) xs h in
     let j = any.0 in
@@ -166,14 +197,17 @@ any_part q i n xs h =
     all ∙ (list_any-append q (take i xs) (drop i xs) ∙ or_right _ _ (rest ∙ (list_any-append q (take n (drop i xs)) (drop n (drop i xs)) ∙ or_left _ _ h)))
 
 -- and one of those is found there
-any_near : (q : Lock → Bool) (i n k : ℕ) (d : Lock) (xs : List Lock) → i ≤ k → k < i + n → k < length xs → q (get_or xs k d) ≡ true → list_any q (take n (drop i xs)) ≡ true
+any_near : (q : Lock → Bool) (i n k : ℕ) (d : Lock) (xs : List Lock) → i ≤ k → k < i + n → k < length xs → q (get_or xs k d) ≡ true
+    → list_any q (take n (drop i xs)) ≡ true
 any_near q i n k d xs low high lt hit =
     let j = k - i in
-    let same : get_or (take n (drop i xs)) j d ≡ get_or xs k d = get_or-take n (drop i xs) j d (omega arith) ∙ (get_or-drop i xs j d ∙ ap (λ z. get_or xs z d) (omega arith)) in
+    let same : get_or (take n (drop i xs)) j d ≡ get_or xs k d = get_or-take n (drop i xs) j d (omega arith)
+    ∙ (get_or-drop i xs j d ∙ ap (λ z. get_or xs z d) (omega arith)) in
     list_any_at q (take n (drop i xs)) j d (omega (arith, length-take n (drop i xs), length-drop i xs)) (rw same hit)
 
 -- so nothing is in the way where nothing beside the place is
-pub none_beside : (p t at i n : ℕ) (kind : LockKind) (xs : List Lock) → LocksRise xs → LocksAgree xs → IsPlace p t xs at → i ≤ at - 1 → (length xs ≤ i + n) ⊎ (at + 2 ≤ i + n) → list_any (clashes p t kind) (take n (drop i xs)) ≡ false → conflict xs p t kind ≡ false
+pub none_beside : (p t at i n : ℕ) (kind : LockKind) (xs : List Lock) → LocksRise xs → LocksAgree xs → IsPlace p t xs at → i ≤ at - 1 → (length xs ≤ i + n)
+    ⊎ (at + 2 ≤ i + n) → list_any (clashes p t kind) (take n (drop i xs)) ≡ false → conflict xs p t kind ≡ false
 none_beside p t at i n kind xs rise agree placed low high none = false_from_ne_true _ (λ h.
     let found = beside p t at kind xs rise agree placed h in
     let k = found.0 in

@@ -1,7 +1,8 @@
 -- Who has a page alone: nothing is in the way, and a further ask leaves the lock as it is.
 use Rattle.std.proofs.Common.{◌≡◌, ◌∙◌, Bool, true, false, ℕ, List, [], ◌∷◌, refl, sym, ap, arith, inl, inr}
 use Rattle.std.specs.Prelude.{◌==◌, ◌&&◌, not}
-use Rattle.std.proofs.lemmas.Bool.{and_from, and_parts, cond_both, eq-eqb, eqb-true, false≢true, true≢false, false_from_ne_true, ne_eqb, eqb-false, not-true, or_cases, or_left, or_right, or_parts}
+use Rattle.std.proofs.lemmas.Bool.{and_from, and_parts, cond_both, eq-eqb, eqb-true, false≢true, true≢false, false_from_ne_true, ne_eqb, eqb-false, not-true}
+use Rattle.std.proofs.lemmas.Bool.{or_cases, or_left, or_right, or_parts}
 use Rattle.std.proofs.lemmas.Bool.Decides.{nat_tests}
 use Rattle.zy_locks.specs.declared.lock.Lock.{Lock}
 use Rattle.zy_locks.specs.declared.lock.LockKind.{LockKind}

@@ -44,7 +44,8 @@ pub held_place : (p t i : ℕ) (xs : List Lock) → LocksRise xs → IsPlace p t
 held_place p t i xs rise at h =
     elim (cases_lt i (length xs)) [ inl lt ↦ lt | inr le ↦ absurd (false≢true (sym (holds_past p t i xs rise at le) ∙ h)) ]
 
-pub told_at : (p t i : ℕ) (b : Bool) (d : Lock) (xs : List Lock) → LocksRise xs → IsPlace p t xs i → holds xs p t ≡ b → i < length xs → is_held_by (get_or xs i d) p t ≡ b
+pub told_at : (p t i : ℕ) (b : Bool) (d : Lock) (xs : List Lock) → LocksRise xs → IsPlace p t xs i → holds xs p t ≡ b → i < length xs
+    → is_held_by (get_or xs i d) p t ≡ b
 told_at p t i b d xs rise at h lt = sym (holds_at p t i d xs rise at lt) ∙ h
 
 -- a lock that is there takes no room, any other takes one place

@@ -60,7 +60,8 @@ none_in_run p zero (suc j) q d (x ∷ xs) only h at none ne =
     let rest : IsPlace p 0 xs 0 = (omega arith, (λ k e low high. absurd (omega arith)), (λ k e low high. at.2 (suc k) e (omega arith) (omega arith))) in
     rw (none 0 x (omega arith)) (none_in_run p 0 j q d xs only (behind_rise x xs h) rest (λ k e lt. none (suc k) e (omega arith)) (λ lt. ne (omega arith)))
 
-pub none_on_page : (p i j : ℕ) (q : Lock → Bool) (d : Lock) (xs ys : List Lock) → OnlyOn p q → LocksRise xs → IsPlace p 0 xs i → ys ≡ drop i xs → ((k : ℕ) (e : Lock) → k < j → q (get_or ys k e) ≡ false) → (j < length ys → (get_or ys j d).page ≡ p → ⊥) → list_any q xs ≡ false
+pub none_on_page : (p i j : ℕ) (q : Lock → Bool) (d : Lock) (xs ys : List Lock) → OnlyOn p q → LocksRise xs → IsPlace p 0 xs i → ys ≡ drop i xs
+    → ((k : ℕ) (e : Lock) → k < j → q (get_or ys k e) ≡ false) → (j < length ys → (get_or ys j d).page ≡ p → ⊥) → list_any q xs ≡ false
 none_on_page p i j q d xs ys only h at run none ne =
     none_in_front p i q xs only at ∙ none_in_run p i j q d xs only h at (rw run at none) (rw run at ne)
 
@@ -70,8 +71,11 @@ is_locked_at p i x xs h at lt e =
     let first : get_or (drop i xs) 0 x ≡ x = get_or-drop i xs 0 x ∙ (ap (λ n. get_or xs n x) (omega arith) ∙ sym e) in
     elim (cases_eq x.page p) [
       | inl f ↦ eq-eqb x.page p f ∙ sym (any_at (λ (y : Lock). eqb y.page p) i x xs lt (eq-eqb (get_or xs i x).page p (rw (← e) f)))
-      | inr ne ↦ ne_eqb x.page p ne ∙ sym (none_on_page p i 0 (λ (y : Lock). eqb y.page p) x xs (drop i xs) (λ y no. ne_eqb y.page p no) h at refl (λ k d lt. absurd (omega arith)) (λ more f. ne (rw first at f)))
+      | inr ne ↦
+          ne_eqb x.page p ne ∙ sym (none_on_page p i 0 (λ (y : Lock). eqb y.page p) x xs (drop i xs) (λ y no. ne_eqb y.page p no) h at refl
+          (λ k d lt. absurd (omega arith)) (λ more f. ne (rw first at f)))
     ]
 
 pub is_locked_past : (p i : ℕ) (d : Lock) (xs : List Lock) → LocksRise xs → IsPlace p 0 xs i → length xs ≤ i → is_locked xs p ≡ false
-is_locked_past p i d xs h at le = none_on_page p i 0 (λ (y : Lock). eqb y.page p) d xs (drop i xs) (λ y no. ne_eqb y.page p no) h at refl (λ k e lt. absurd (omega arith)) (λ lt f. absurd (omega (arith, length-drop i xs)))
+is_locked_past p i d xs h at le = none_on_page p i 0 (λ (y : Lock). eqb y.page p) d xs (drop i xs) (λ y no. ne_eqb y.page p no) h at refl
+    (λ k e lt. absurd (omega arith)) (λ lt f. absurd (omega (arith, length-drop i xs)))

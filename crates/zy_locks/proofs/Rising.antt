@@ -34,7 +34,8 @@ lock p t kind = record { page = p; txn = t; kind = kind }
 goes_in_front : (p t : ℕ) (kind : LockKind) (x : Lock) → goes_before p t x ≡ true → comes_before (lock p t kind) x.page x.txn ≡ true
 goes_in_front p t kind x h = grind (arith, nat_tests, h)
 
-pub behind_at : (z : Lock) (i : ℕ) (d : Lock) (xs : List Lock) → LocksBehind z xs → i < length xs → comes_before z (get_or xs i d).page (get_or xs i d).txn ≡ true
+pub behind_at : (z : Lock) (i : ℕ) (d : Lock) (xs : List Lock) → LocksBehind z xs → i < length xs
+    → comes_before z (get_or xs i d).page (get_or xs i d).txn ≡ true
 behind_at z i d [] h lt = absurd (omega arith)
 behind_at z zero d (x ∷ xs) h lt = h.0
 behind_at z (suc i) d (x ∷ xs) h lt =
@@ -45,7 +46,8 @@ pub behind_rise : (x : Lock) (xs : List Lock) → LocksBehind x xs → LocksRise
 behind_rise x [] h = tt
 behind_rise x (y ∷ ys) h = h.1
 
-none_after : (p t : ℕ) (xs : List Lock) (i j : ℕ) (d : Lock) → LocksRise xs → i ≤ j → j < length xs → comes_before (get_or xs j d) p t ≡ true → comes_before (get_or xs i d) p t ≡ true
+none_after : (p t : ℕ) (xs : List Lock) (i j : ℕ) (d : Lock) → LocksRise xs → i ≤ j → j < length xs → comes_before (get_or xs j d) p t ≡ true
+    → comes_before (get_or xs i d) p t ≡ true
 none_after p t [] i j d h le lt e = absurd (omega arith)
 none_after p t (x ∷ xs) zero zero d h le lt e = e
 none_after p t (x ∷ xs) zero (suc j) d h le lt e = before_trans x (get_or xs j d) p t (behind_at x j d xs h (omega arith)) e
@@ -57,7 +59,11 @@ pub in_order : (p t : ℕ) (xs : List Lock) → LocksRise xs → IsPartitionedBy
 in_order p t xs h = λ i j d le lt e. none_after p t xs i j d h le lt e
 
 pub place_rest : (p t i : ℕ) (x : Lock) (xs : List Lock) → IsPlace p t (x ∷ xs) (suc i) → IsPlace p t xs i
-place_rest p t i x xs h = (omega (arith, h.0), (λ j d low high. h.1 (suc j) d (omega arith) (omega arith)), (λ j d low high. h.2 (suc j) d (omega arith) (omega arith)))
+place_rest p t i x xs h = (
+  omega (arith, h.0),
+  (λ j d low high. h.1 (suc j) d (omega arith) (omega arith)),
+  (λ j d low high. h.2 (suc j) d (omega arith) (omega arith)),
+)
 
 pub front_before : (p t i : ℕ) (x : Lock) (xs : List Lock) → IsPlace p t (x ∷ xs) (suc i) → comes_before x p t ≡ true
 front_before p t i x xs h = h.1 0 x (omega arith) (omega arith)

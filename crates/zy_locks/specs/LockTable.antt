@@ -19,4 +19,5 @@ HasPlaces ps t x = length (unheld ps t x.locks) ≤ x.spare
 abbrev pub Attempts : ℕ → ℕ → LockKind → LockTable → LockTable → Attempt → Type 0
 Attempts p t kind old new Granted = (conflict old.locks p t kind ≡ false) × (new.locks ≡ add_lock p t kind old.locks)
 Attempts p t kind old new Conflict = (conflict old.locks p t kind ≡ true) × (new ≡ old)
-Attempts p t kind old new Memory = (conflict old.locks p t kind ≡ false) × (holds old.locks p t ≡ false) × (old.spare ≡ 0) × (new ≡ old)
+Attempts p t kind old new Memory = (conflict old.locks p t kind ≡ false) × (holds old.locks p t ≡ false)
+    × (old.spare ≡ 0) × (new ≡ old)

@@ -1,5 +1,6 @@
 -- The order of locks: by page, then by transaction.
-use Rattle.std.specs.Prelude.{◌≡◌, ℕ, ◌==◌, nat_lt, ◌≤◌, Bool, true, false, ◌&&◌, ◌||◌, List, [], ◌∷◌, length, Option, None, Some}
+use Rattle.std.specs.Prelude.{◌≡◌, ℕ, ◌==◌, nat_lt, ◌≤◌, Bool, true, false, ◌&&◌, ◌||◌, List, [], ◌∷◌, length, Option}
+use Rattle.std.specs.Prelude.{None, Some}
 use Rattle.std.specs.List.{AllWithin}
 use Rattle.zy_locks.specs.declared.lock.Lock.{Lock}
 use Rattle.zy_locks.specs.declared.lock.LockKind.{LockKind}
@@ -25,7 +26,8 @@ LocksRise (x ∷ xs) = LocksBehind x xs
 
 -- i locks come before t's lock on p, and the others do not
 abbrev pub IsPlace : ℕ → ℕ → List Lock → ℕ → Type 0
-IsPlace p t xs i = (i ≤ length xs) × AllWithin (λ x. comes_before x p t ≡ true) xs 0 i × AllWithin (λ x. comes_before x p t ≡ false) xs i (length xs)
+IsPlace p t xs i = (i ≤ length xs) × AllWithin (λ x. comes_before x p t ≡ true) xs 0 i
+    × AllWithin (λ x. comes_before x p t ≡ false) xs i (length xs)
 
 -- where t's lock on p is or would be, if no other's lock is in the way of it
 abbrev pub IsFreePlace : ℕ → ℕ → LockKind → List Lock → Option ℕ → Type 0

@@ -1,5 +1,6 @@
 //! The locks of one node.
-ghost use Rattle.std.specs.Prelude.{◌≡◌, ◌==◌, ◌+◌, ◌<◌, ◌≤◌, IfOk, OnOk, OnErr, IsOk, IsSome, true, false, [], ◌∷◌, length, slice_index_or};
+ghost use Rattle.std.specs.Prelude.{◌≡◌, ◌==◌, ◌+◌, ◌<◌, ◌≤◌, IfOk, OnOk, OnErr, IsOk, IsSome, true, false, [], ◌∷◌};
+ghost use Rattle.std.specs.Prelude.{length, slice_index_or};
 ghost use Rattle.zy_locks.specs.Locks.{add_lock, conflict, is_locked, holds_alone, unheld, drop_locks};
 ghost use Rattle.zy_locks.specs.Locks as locks_locks;
 ghost use Rattle.zy_locks.specs.LockTable.{Attempts, HasPlaces};
@@ -137,13 +138,14 @@ impl Locks {
         }
     }
 
-    /// Locks the page for `txn`, or makes the lock that it has stronger, if no other's is in the way: one call for a caller with
-    /// nothing else to test or to make room for. One that has looks for the place by `free_place`, makes all of its room, and
-    /// takes the lock by `put_at`, which cannot fail.
+    /// Locks the page for `txn`, or makes the lock that it has stronger, if no other's is in the way: one call for a
+    /// caller with nothing else to test or to make room for. One that has looks for the place by `free_place`, makes
+    /// all of its room, and takes the lock by `put_at`, which cannot fail.
     #[tactic(auto, using(crate::proofs::Alone::alone_has_place))]
     pub fn try_lock(&mut self, page: u16, txn: u8, kind: LockKind) -> Attempt
         ensures attempt { Attempts page txn kind self.old self.new result }
-        ensures alone { holds_alone self.old.locks page txn ≡ true → (result ≡ Granted) × (self.new.locks ≡ self.old.locks) }
+        ensures alone { holds_alone self.old.locks page txn ≡ true → (result ≡ Granted)
+            × (self.new.locks ≡ self.old.locks) }
     {
         let Some(at) = self.free_place(page, txn, kind) else {
             return Attempt::Conflict;
@@ -155,8 +157,8 @@ impl Locks {
         Attempt::Granted
     }
 
-    /// Locks the page for `txn`, or makes the lock that it has stronger, where nothing is in the way and the lock has a place. It
-    /// takes no memory.
+    /// Locks the page for `txn`, or makes the lock that it has stronger, where nothing is in the way and the lock has a
+    /// place. It takes no memory.
     pub fn lock(&mut self, page: u16, txn: u8, kind: LockKind)
         requires free { conflict self.old.locks page txn kind ≡ false }
         requires room { HasPlaces (page ∷ []) txn self.old }

@@ -24,11 +24,13 @@ at-b old x b (Err e) m h = ap (seen_from B) h
 
 -- the same of a line made on a node and the link to it
 pub meets-a : {E : Type 0} (old : NodePair) (x : NodeStore) (i : Mail) (r : Result Answer E) (m : Move)
-    → (let v = facing A (state_of old) in MakesHere (meets old.a old.b.outbox v) (meets x i v) r m) → let y = old.b in Makes A old (record old { a = x; b = record y { outbox = i } }) r m
+    → (let v = facing A (state_of old) in MakesHere (meets old.a old.b.outbox v) (meets x i v) r m) → let y = old.b in
+    Makes A old (record old { a = x; b = record y { outbox = i } }) r m
 meets-a old x i (Ok y) m h = (ap (λ (z : Move). seen_from A z.after) h, ap (λ (z : Move). z.outcome) h, ap (λ (z : Move). z.sent) h)
 meets-a old x i (Err e) m h = ap (seen_from A) h
 
 pub meets-b : {E : Type 0} (old : NodePair) (x : NodeStore) (i : Mail) (r : Result Answer E) (m : Move)
-    → (let v = facing B (state_of old) in MakesHere (meets old.b old.a.outbox v) (meets x i v) r m) → let y = old.a in Makes B old (record old { b = x; a = record y { outbox = i } }) r m
+    → (let v = facing B (state_of old) in MakesHere (meets old.b old.a.outbox v) (meets x i v) r m) → let y = old.a in
+    Makes B old (record old { b = x; a = record y { outbox = i } }) r m
 meets-b old x i (Ok y) m h = (ap (λ (z : Move). seen_from B z.after) h, ap (λ (z : Move). z.outcome) h, ap (λ (z : Move). z.sent) h)
 meets-b old x i (Err e) m h = ap (seen_from B) h

@@ -70,6 +70,7 @@ fits sc s c (Own v) ready known = ready
 fits sc s c (Shared k) ready known = next-known sc s c k.ahead ready known
 
 -- and what is known behind it is known from there
-pub known-after : (sc : Scenario) (s : State) (c : Choice) (log : EntryLog) → IsReadyFor c log → IsKnown sc s (ahead log) → IsKnown sc (step sc c s).after (drop 1 (ahead log))
+pub known-after : (sc : Scenario) (s : State) (c : Choice) (log : EntryLog) → IsReadyFor c log → IsKnown sc s (ahead log)
+    → IsKnown sc (step sc c s).after (drop 1 (ahead log))
 known-after sc s c (Own v) ready known = refl
 known-after sc s c (Shared k) ready known = after-known sc s c k.ahead ready known

@@ -45,7 +45,8 @@ either_first (Some u) (Some v) h = absurd (h refl refl)
 
 -- a page at A, or else at B, or else on its way from A, or else on its way from B
 page_in-places : (p : ℕ) (s : State) → OneOwner s
-    → page_in p (all_leaves s) ≡ option_or (page_in p s.a.pages) (option_or (page_in p s.b.pages) (option_or (page_in p (sent_leaves s.ab)) (page_in p (sent_leaves s.ba))))
+    → page_in p (all_leaves s) ≡ option_or (page_in p s.a.pages) (option_or (page_in p s.b.pages)
+    (option_or (page_in p (sent_leaves s.ab)) (page_in p (sent_leaves s.ba))))
 page_in-places p s one =
     let from_a = sent_leaves s.ab in
     let from_b = sent_leaves s.ba in
@@ -55,7 +56,8 @@ page_in-places p s one =
 
 -- the same of a state that choices lead to
 pub page_in-reached : (sc : Scenario) (cs : List Choice) (s : State) (p : ℕ) → s ≡ play sc (opening sc) cs
-    → page_in p (all_leaves s) ≡ option_or (page_in p s.a.pages) (option_or (page_in p s.b.pages) (option_or (page_in p (sent_leaves s.ab)) (page_in p (sent_leaves s.ba))))
+    → page_in p (all_leaves s) ≡ option_or (page_in p s.a.pages) (option_or (page_in p s.b.pages)
+    (option_or (page_in p (sent_leaves s.ab)) (page_in p (sent_leaves s.ba))))
 page_in-reached sc cs s p e = page_in-places p s (subst OneOwner (sym e) (one_owner sc cs))
 
 -- its place

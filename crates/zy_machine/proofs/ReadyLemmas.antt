@@ -50,14 +50,16 @@ txn_at-facing A t s = refl
 txn_at-facing B t s = refl
 
 -- what the laws say of a split by a transaction that runs
-may_split : (sc : Scenario) → IsScenario sc → (cs : List Choice) (n : Node) (t : ℕ) → let s = play sc (opening sc) cs in let v = facing n s in IsAt v t n → MaySplit sc v.me (txn_at v t)
+may_split : (sc : Scenario) → IsScenario sc → (cs : List Choice) (n : Node) (t : ℕ) → let s = play sc (opening sc) cs in let v = facing n s in IsAt v t n
+    → MaySplit sc v.me (txn_at v t)
 may_split sc ok cs n t at =
     let s = play sc (opening sc) cs in
     let v = facing n s in
     let r = reached sc ok cs in
     let k = kept_from sc n s r.lows r.kept in
     let o = ordered_from n s (tidy sc ok cs).ordered in
-    let fresh : splits_in v.me.mode ≡ true → owns v.me.pages (length v.me.lows) ≡ false = λ splits. fresh_number v k.inv.owned (normal_other v k.inv.roles splits).1 in
+    let fresh : splits_in v.me.mode ≡ true → owns v.me.pages (length v.me.lows) ≡ false =
+    λ splits. fresh_number v k.inv.owned (normal_other v k.inv.roles splits).1 in
     record {
       room = ok.cap_least;
       pages = ok.pages_most;
@@ -66,11 +68,13 @@ may_split sc ok cs n t at =
           let under = k.mine.below (length v.me.lows) u h in
           let count : length v.me.lows ≡ length r.lows = ap length (k.mine.newest (k.mine.busy t at)) in
           omega (arith, under, count));
-      other = λ key new full. boundary_new sc t key (page_of v.me.lows key) v k.first.0 (k.mine.newest (k.mine.busy t at) ∙ k.first.1) ok.cap_least (home_placed sc n v r.lows t k at) refl full (rows_at (page_of v.me.lows key) v.me.pages o.mine.rows) (o.private t) new;
+      other = λ key new full. boundary_new sc t key (page_of v.me.lows key) v k.first.0 (k.mine.newest (k.mine.busy t at) ∙ k.first.1) ok.cap_least
+          (home_placed sc n v r.lows t k at) refl full (rows_at (page_of v.me.lows key) v.me.pages o.mine.rows) (o.private t) new;
     }
 
 -- a node that may start is Normal, and so has the newest low keys
-may_start : (sc : Scenario) → IsScenario sc → (cs : List Choice) (n : Node) → let v = facing n (play sc (opening sc) cs) in starts_in v.me.mode v.them.mode ≡ true → 0 < length v.me.lows
+may_start : (sc : Scenario) → IsScenario sc → (cs : List Choice) (n : Node) → let v = facing n (play sc (opening sc) cs) in
+    starts_in v.me.mode v.them.mode ≡ true → 0 < length v.me.lows
 may_start sc ok cs n starts =
     let s = play sc (opening sc) cs in
     let v = facing n s in
@@ -90,7 +94,8 @@ pub record Known (sc : Scenario) (count : ℕ) (s : NodePair) : Type 0 where
   pub starts : MayStart s
   pub limited : AreLimited sc.pages s
 
-pub known : (sc : Scenario) (cs : List Choice) (s : NodePair) → IsScenario sc → length cs < 4096 → state_of s ≡ play sc (opening sc) cs → AreLimited sc.pages s → Known sc (length cs) s
+pub known : (sc : Scenario) (cs : List Choice) (s : NodePair) → IsScenario sc → length cs < 4096 → state_of s ≡ play sc (opening sc) cs → AreLimited sc.pages s
+    → Known sc (length cs) s
 known sc cs s tested few e limited =
     record {
       tested = tested;
@@ -98,9 +103,12 @@ known sc cs s tested few e limited =
       safe = subst (Safe sc (length cs)) (sym e) (safe sc tested cs);
       fits = subst (Fits sc) (sym e) (fits sc tested cs);
       order = subst InOrder (sym e) (in_order sc tested cs);
-      splits = subst (λ (z : State). (n : Node) (t : ℕ) → let v = facing n z in IsAt v t n → MaySplit sc v.me (txn_at v t)) (sym e) (λ n t at. may_split sc tested cs n t at);
-      takes = subst (λ (z : State). (n : Node) → let v = facing n z in MayTake v.inbox v.me) (sym e) (λ n. may_take (facing n (play sc (opening sc) cs)) (inv_from n (play sc (opening sc) cs) (play_inv sc cs)));
-      starts = subst (λ (z : State). (n : Node) → let v = facing n z in starts_in v.me.mode v.them.mode ≡ true → 0 < length v.me.lows) (sym e) (λ n. may_start sc tested cs n);
+      splits = subst (λ (z : State). (n : Node) (t : ℕ) → let v = facing n z in IsAt v t n → MaySplit sc v.me (txn_at v t)) (sym e)
+          (λ n t at. may_split sc tested cs n t at);
+      takes = subst (λ (z : State). (n : Node) → let v = facing n z in MayTake v.inbox v.me) (sym e)
+          (λ n. may_take (facing n (play sc (opening sc) cs)) (inv_from n (play sc (opening sc) cs) (play_inv sc cs)));
+      starts = subst (λ (z : State). (n : Node) → let v = facing n z in starts_in v.me.mode v.them.mode ≡ true → 0 < length v.me.lows) (sym e)
+          (λ n. may_start sc tested cs n);
       limited = limited;
     }
 
@@ -114,7 +122,8 @@ countable sc count t s k below =
 abbrev IsNode : Node → NodeStore → NodePair → Type 0
 IsNode n x s = (facing n (state_of s)).me ≡ node_shown x
 
-rooms : (sc : Scenario) (count t : ℕ) (n : Node) (x : NodeStore) (s : NodePair) → IsNode n x s → Known sc count s → is_active (txn_in t s.book).status ≡ true → (txn_in t s.book).node ≡ n → Rooms t x s.book
+rooms : (sc : Scenario) (count t : ℕ) (n : Node) (x : NodeStore) (s : NodePair) → IsNode n x s → Known sc count s → is_active (txn_in t s.book).status ≡ true
+    → (txn_in t s.book).node ≡ n → Rooms t x s.book
 rooms sc count t n x s is k active here =
     let f = facing n (state_of s) in
     let same = txn_at-facing n t (state_of s) in
@@ -124,16 +133,20 @@ rooms sc count t n x s is k active here =
     record {
       commits = omega (arith, k.safe.commits, k.tested.few_programs);
       rows = subst (λ (m : NodeState). AreRoomy m.lows rows m.pages) is (roomy sc.cap f.me.lows rows f.me.pages k.tested.cap_most ((k.order.nodes n).rows)
-          (λ p owned. let h = k.fits n t p (ap (λ (y : Txn). is_active y.status) same ∙ active, ap (λ (y : Txn). y.node) same ∙ here) owned in omega (arith, h, own p)));
+          (λ p owned. let h = k.fits n t p (ap (λ (y : Txn). is_active y.status) same ∙ active, ap (λ (y : Txn). y.node) same ∙ here) owned in
+          omega (arith, h, own p)));
     }
 
-splits : (sc : Scenario) (count t : ℕ) (n : Node) (x : NodeStore) (s : NodePair) → IsNode n x s → Known sc count s → is_active (txn_in t s.book).status ≡ true → (txn_in t s.book).node ≡ n
+splits : (sc : Scenario) (count t : ℕ) (n : Node) (x : NodeStore) (s : NodePair) → IsNode n x s → Known sc count s → is_active (txn_in t s.book).status ≡ true
+    → (txn_in t s.book).node ≡ n
     → MaySplit sc (node_shown x) (txn_in t s.book)
 splits sc count t n x s is k active here =
     let same = txn_at-facing n t (state_of s) in
-    subst (λ m. MaySplit sc m (txn_in t s.book)) is (subst (MaySplit sc (facing n (state_of s)).me) same (k.splits n t (ap (λ (y : Txn). is_active y.status) same ∙ active, ap (λ (y : Txn). y.node) same ∙ here)))
+    subst (λ m. MaySplit sc m (txn_in t s.book)) is (subst (MaySplit sc (facing n (state_of s)).me) same
+    (k.splits n t (ap (λ (y : Txn). is_active y.status) same ∙ active, ap (λ (y : Txn). y.node) same ∙ here)))
 
-ready : (sc : Scenario) (count t : ℕ) (n : Node) (x : NodeStore) (s : NodePair) → IsNode n x s → IsLimited sc.pages x → Known sc count s → t < length sc.programs → IsReady sc n t x s.book
+ready : (sc : Scenario) (count t : ℕ) (n : Node) (x : NodeStore) (s : NodePair) → IsNode n x s → IsLimited sc.pages x → Known sc count s
+    → t < length sc.programs → IsReady sc n t x s.book
 ready sc count t n x s is limited k below = record {
   counts = countable sc count t s k below;
   program = below;

@@ -31,7 +31,8 @@ same_txns_at (x ∷ xs) (y ∷ ys) e h = both x y xs ys (h 0 (omega arith)) (sam
 abbrev pub SameAt : List Sent → List Sent → ℕ → Type 0
 SameAt xs ys i = (d e : Sent) → message_of (get_or xs i d) ≡ message_of (get_or ys i e)
 
-pub same_at : (xs ys : List Sent) (i : ℕ) (x y : Sent) → i < length xs → i < length ys → x ≡ get_or xs i x → y ≡ get_or ys i y → message_of x ≡ message_of y → SameAt xs ys i
+pub same_at : (xs ys : List Sent) (i : ℕ) (x y : Sent) → i < length xs → i < length ys → x ≡ get_or xs i x → y ≡ get_or ys i y → message_of x ≡ message_of y
+    → SameAt xs ys i
 same_at xs ys i x y lt lu e f g = λ d k.
     ap message_of (get_or_default xs i d x lt) ∙ (ap message_of (sym e) ∙ (g ∙ (ap message_of f ∙ ap message_of (get_or_default ys i y k lu))))
 
@@ -39,4 +40,5 @@ pub same_all : (d : Sent) (xs ys : List Sent) → length xs ≡ length ys → ((
 same_all d [] [] e h = refl
 same_all d [] (y ∷ ys) e h = absurd (omega (arith, e))
 same_all d (x ∷ xs) [] e h = absurd (omega (arith, e))
-same_all d (x ∷ xs) (y ∷ ys) e h = both (message_of x) (message_of y) (messages_of xs) (messages_of ys) (h 0 (omega arith) d d) (same_all d xs ys (omega (arith, e)) (λ i lt. h (suc i) (omega (arith, lt))))
+same_all d (x ∷ xs) (y ∷ ys) e h = both (message_of x) (message_of y) (messages_of xs) (messages_of ys) (h 0 (omega arith) d d)
+    (same_all d xs ys (omega (arith, e)) (λ i lt. h (suc i) (omega (arith, lt))))

@@ -16,35 +16,43 @@ use Rattle.zy_table.specs.Take.{take_step}
 use Rattle.zy_table.specs.Play.{side_of, step, move}
 use Rattle.zy_machine.specs.NodePairs.{state_of, IsMade, Makes, Steps}
 
-pub start-steps : {E : Type 0} (sc : Scenario) (old new : NodePair) (r : Result Answer E) → (let n = side_of sc Start (state_of old) in Makes n old new r (start_step (facing n (state_of old)))) → Steps old new r (step sc Start (state_of old))
+pub start-steps : {E : Type 0} (sc : Scenario) (old new : NodePair) (r : Result Answer E)
+    → (let n = side_of sc Start (state_of old) in Makes n old new r (start_step (facing n (state_of old)))) → Steps old new r (step sc Start (state_of old))
 unfolding step move
 start-steps sc old new (Ok x) h = h
 start-steps sc old new (Err e) h = h
 
-pub begin-steps : (sc : Scenario) (t : ℕ) (old new : NodePair) (x : Answer) → IsMade A new x (begin_step t (facing A (state_of old))) → Steps {E = Unit {0}} old new (Ok x) (step sc (Begin t) (state_of old))
+pub begin-steps : (sc : Scenario) (t : ℕ) (old new : NodePair) (x : Answer) → IsMade A new x (begin_step t (facing A (state_of old)))
+    → Steps {E = Unit {0}} old new (Ok x) (step sc (Begin t) (state_of old))
 unfolding step move
 begin-steps sc t old new x h = h
 
-pub kill-steps : (sc : Scenario) (t : ℕ) (old new : NodePair) (x : Answer) → (let n = (txn_or (slice_get old.book.txns t)).node in IsMade n new x (kill_step t (facing n (state_of old)))) → Steps {E = Unit {0}} old new (Ok x) (step sc (Kill t) (state_of old))
+pub kill-steps : (sc : Scenario) (t : ℕ) (old new : NodePair) (x : Answer)
+    → (let n = (txn_or (slice_get old.book.txns t)).node in IsMade n new x (kill_step t (facing n (state_of old))))
+    → Steps {E = Unit {0}} old new (Ok x) (step sc (Kill t) (state_of old))
 unfolding step move
 kill-steps sc t old new x h = h
 
-pub run-steps : {E : Type 0} (sc : Scenario) (n : Node) (t : ℕ) (old new : NodePair) (r : Result Answer E) → Makes n old new r (run_step sc n t (facing n (state_of old))) → Steps old new r (step sc (Run n t) (state_of old))
+pub run-steps : {E : Type 0} (sc : Scenario) (n : Node) (t : ℕ) (old new : NodePair) (r : Result Answer E)
+    → Makes n old new r (run_step sc n t (facing n (state_of old))) → Steps old new r (step sc (Run n t) (state_of old))
 unfolding step move
 run-steps sc n t old new (Ok x) h = h
 run-steps sc n t old new (Err e) h = h
 
-pub take-steps : {E : Type 0} (sc : Scenario) (n : Node) (old new : NodePair) (r : Result Answer E) → Makes n old new r (take_step sc (facing n (state_of old))) → Steps old new r (step sc (Take n) (state_of old))
+pub take-steps : {E : Type 0} (sc : Scenario) (n : Node) (old new : NodePair) (r : Result Answer E) → Makes n old new r (take_step sc (facing n (state_of old)))
+    → Steps old new r (step sc (Take n) (state_of old))
 unfolding step move
 take-steps sc n old new (Ok x) h = h
 take-steps sc n old new (Err e) h = h
 
-pub finish-steps : {E : Type 0} (sc : Scenario) (n : Node) (old new : NodePair) (r : Result Answer E) → Makes n old new r (finish_step n (facing n (state_of old))) → Steps old new r (step sc (Finish n) (state_of old))
+pub finish-steps : {E : Type 0} (sc : Scenario) (n : Node) (old new : NodePair) (r : Result Answer E)
+    → Makes n old new r (finish_step n (facing n (state_of old))) → Steps old new r (step sc (Finish n) (state_of old))
 unfolding step move
 finish-steps sc n old new (Ok x) h = h
 finish-steps sc n old new (Err e) h = h
 
-pub push-steps : {E : Type 0} (sc : Scenario) (n : Node) (old new : NodePair) (r : Result Answer E) → Makes n old new r (push_step (facing n (state_of old))) → Steps old new r (step sc (Push n) (state_of old))
+pub push-steps : {E : Type 0} (sc : Scenario) (n : Node) (old new : NodePair) (r : Result Answer E) → Makes n old new r (push_step (facing n (state_of old)))
+    → Steps old new r (step sc (Push n) (state_of old))
 unfolding step move
 push-steps sc n old new (Ok x) h = h
 push-steps sc n old new (Err e) h = h

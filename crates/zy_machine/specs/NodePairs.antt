@@ -14,7 +14,14 @@ use Rattle.zy_steps.specs.Ready.{IsReady as IsReadyHere}
 use Rattle.zy_machine.specs.declared.node_pair.NodePair.{NodePair}
 
 abbrev pub state_of : NodePair → State
-state_of s = record { a = node_shown s.a; b = node_shown s.b; ab = s.a.outbox.messages; ba = s.b.outbox.messages; txns = s.book.txns; commits = s.book.commits }
+state_of s = record {
+  a = node_shown s.a;
+  b = node_shown s.b;
+  ab = s.a.outbox.messages;
+  ba = s.b.outbox.messages;
+  txns = s.book.txns;
+  commits = s.book.commits;
+}
 
 -- how many pages the wireframes of both nodes may have, and those that they send
 abbrev pub limits_in : NodePair → Limits × Limits

@@ -11,16 +11,17 @@ ghost use Rattle.zy_txns.specs.Books.{txn_in};
 ghost use Rattle.zy_table.specs.Run as table_run;
 ghost use Rattle.zy_table.specs.Take as table_take;
 ghost use Rattle.zy_steps.specs.Arrivals.{MayTake};
-ghost use Rattle.zy_machine.specs.NodePairs.{state_of, limits_in, AreLimited, IsMade, IsPossible, IsReady, Makes, MayStart, Steps};
+ghost use Rattle.zy_machine.specs.NodePairs.{state_of, limits_in, AreLimited, IsMade, IsPossible, IsReady, Makes};
+ghost use Rattle.zy_machine.specs.NodePairs.{MayStart, Steps};
 
 use std::alloc::{AllocError, Global};
 use zy_isa::{Choice, Node, Scenario};
 use zy_modes::table::on_start;
+use zy_node::NodeStore;
 use zy_steps::client::{begin_step, kill_step, start_step};
 use zy_steps::push::{finish_step, push_step};
-use zy_steps::take::take_step;
-use zy_node::NodeStore;
 use zy_steps::run::run_step;
+use zy_steps::take::take_step;
 use zy_table::Answer;
 use zy_txns::Book;
 
@@ -65,7 +66,8 @@ impl NodePair {
     #[inline(always)]
     fn run_step(&mut self, scenario: &Scenario, n: Node, t: u8) -> Result<Answer, AllocError>
         requires { IsReady scenario.now n t self.old }
-        ensures line { Makes n self.old self.new result (table_run.run_step scenario.now n t (facing n (state_of self.old))) }
+        ensures line { Makes n self.old self.new result (table_run.run_step scenario.now n t
+            (facing n (state_of self.old))) }
         ensures limits { limits_in self.new ≡ limits_in self.old }
     {
         match n {
@@ -78,7 +80,8 @@ impl NodePair {
     fn take_step(&mut self, scenario: &Scenario, n: Node) -> Result<Answer, AllocError>
         requires may { let v = facing n (state_of self.old) in MayTake v.inbox v.me }
         requires limited { AreLimited scenario.now.pages self.old }
-        ensures line { Makes n self.old self.new result (table_take.take_step scenario.now (facing n (state_of self.old))) }
+        ensures line { Makes n self.old self.new result (table_take.take_step scenario.now
+            (facing n (state_of self.old))) }
         ensures limits { limits_in self.new ≡ limits_in self.old }
     {
         match n {
@@ -114,7 +117,8 @@ impl NodePair {
     fn start_step(&mut self, scenario: &Scenario) -> Result<Answer, AllocError>
         requires may { MayStart self.old }
         requires limited { AreLimited scenario.now.pages self.old }
-        ensures line { let n = side_of scenario.now Start (state_of self.old) in Makes n self.old self.new result (table_client.start_step (facing n (state_of self.old))) }
+        ensures line { let n = side_of scenario.now Start (state_of self.old) in
+            Makes n self.old self.new result (table_client.start_step (facing n (state_of self.old))) }
         ensures limits { limits_in self.new ≡ limits_in self.old }
     {
         let source = on_start(self.a.mode, self.b.mode, scenario.version());
@@ -136,7 +140,8 @@ impl NodePair {
     /// `C kill t`.
     fn kill_step(&mut self, t: u8) -> Answer
         requires { t < length self.old.book.txns }
-        ensures line { let n = (txn_in t self.old.book).node in IsMade n self.new result (table_client.kill_step t (facing n (state_of self.old))) }
+        ensures line { let n = (txn_in t self.old.book).node in
+            IsMade n self.new result (table_client.kill_step t (facing n (state_of self.old))) }
         ensures limits { limits_in self.new ≡ limits_in self.old }
     {
         match self.book.txn(t).node() {

@@ -9,7 +9,8 @@ use Rattle.zy_isa.specs.declared.version.Version.TheVariants.{Two}
 use Rattle.zy_isa.specs.Versions.{has_since}
 use Rattle.zy_modes.specs.Families.{is_home, is_destination}
 use Rattle.zy_modes.specs.declared.mode.NodeMode.{NodeMode}
-use Rattle.zy_modes.specs.declared.mode.NodeMode.TheVariants.{Empty, Normal, SInit, SDual, SFinish, DInit, DDual, DFinish}
+use Rattle.zy_modes.specs.declared.mode.NodeMode.TheVariants.{Empty, Normal, SInit, SDual, SFinish, DInit, DDual}
+use Rattle.zy_modes.specs.declared.mode.NodeMode.TheVariants.{DFinish}
 use Rattle.zy_modes.specs.declared.table.MessageLine.{MessageLine}
 use Rattle.zy_modes.specs.declared.table.MessageLine.TheVariants.{Stray, Turns}
 use Rattle.zy_modes.specs.declared.table.FinishLine.{FinishLine}

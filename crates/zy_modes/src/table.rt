@@ -58,7 +58,8 @@ fn finishes(all_here: bool) -> MessageLine
     }
 }
 
-/// The node from which a migration starts, by the modes of A and B and the version of the scenario: from B in version 2 alone.
+/// The node from which a migration starts, by the modes of A and B and the version of the scenario: from B in version 2
+/// alone.
 pub fn on_start(a: NodeMode, b: NodeMode, version: Version) -> Option<Node>
     ensures { result ≡ spec.on_start a b version }
 {

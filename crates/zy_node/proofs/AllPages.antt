@@ -40,7 +40,8 @@ all_counted m n (x ∷ xs) h all = elim (cases_lt m n) [
 ]
 
 -- where there are as many pages as slots, each slot has its page
-pub all_filled : (m : ℕ) (s : List (Option Leaf)) → InPlace m s → length s ≤ length (laid_out s) → (q : ℕ) → m ≤ q → q < m + length s → owns (laid_out s) q ≡ true
+pub all_filled : (m : ℕ) (s : List (Option Leaf)) → InPlace m s → length s ≤ length (laid_out s) → (q : ℕ) → m ≤ q → q < m + length s
+    → owns (laid_out s) q ≡ true
 all_filled m [] h full q low high = absurd (omega (arith, low, high))
 all_filled m (None ∷ s) h full q low high = let few = few_slots s in absurd (omega (arith, few, full))
 all_filled m (Some x ∷ s) h full q low high = elim (cases_lt m q) [

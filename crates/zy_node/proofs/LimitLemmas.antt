@@ -21,5 +21,6 @@ left n None e some less = absurd (omega (arith, some))
 left n (Some w) e some less = omega (arith, e, less)
 
 -- a wireframe that has a page, and fewer than its limit, can grow
-pub limit_left : (n : ℕ) (x : NodeStore) → IsLimited n x → 0 < length (lows_in x.wire) → length (lows_in x.wire) < n → length (lows_in x.wire) < limit_or 0 x.wire
+pub limit_left : (n : ℕ) (x : NodeStore) → IsLimited n x → 0 < length (lows_in x.wire) → length (lows_in x.wire) < n
+    → length (lows_in x.wire) < limit_or 0 x.wire
 limit_left n x h some less = left n x.wire (own_limit n x h) some less

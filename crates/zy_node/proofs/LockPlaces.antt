@@ -20,7 +20,8 @@ still_fewer : (was : Bool) (p : ℕ) (ps qs : List ℕ) → length ps ≤ length
 still_fewer true p ps qs le = le
 still_fewer false p ps qs le = omega (arith, le)
 
-fewer : (was is : Bool) (p : ℕ) (ps qs : List ℕ) → (was ≡ true → is ≡ true) → length ps ≤ length qs → length (if not is then p ∷ ps else ps) ≤ length (if not was then p ∷ qs else qs)
+fewer : (was is : Bool) (p : ℕ) (ps qs : List ℕ) → (was ≡ true → is ≡ true) → length ps ≤ length qs
+    → length (if not is then p ∷ ps else ps) ≤ length (if not was then p ∷ qs else qs)
 fewer was true p ps qs h le = still_fewer was p ps qs le
 fewer true false p ps qs h le = absurd (false≢true (h refl))
 fewer false false p ps qs h le = omega (arith, le)
@@ -29,10 +30,12 @@ fewer false false p ps qs h le = omega (arith, le)
 pub unheld_less : (ps : List ℕ) (p t : ℕ) (kind : LockKind) (xs : List Lock) → length (unheld ps t (add_lock p t kind xs)) ≤ length (unheld ps t xs)
 unheld_less [] p t kind xs = omega arith
 unheld_less (q ∷ ps) p t kind xs =
-    fewer (holds xs q t) (holds (add_lock p t kind xs) q t) q (unheld ps t (add_lock p t kind xs)) (unheld ps t xs) (λ h. holds_more p t kind xs q t h) (unheld_less ps p t kind xs)
+    fewer (holds xs q t) (holds (add_lock p t kind xs) q t) q (unheld ps t (add_lock p t kind xs)) (unheld ps t xs) (λ h. holds_more p t kind xs q t h)
+    (unheld_less ps p t kind xs)
 
 -- so the others have their places once the first is locked
-pub places_rest : (p : ℕ) (ps : List ℕ) (t : ℕ) (kind : LockKind) (x y : LockTable) → HasPlaces (p ∷ ps) t x → y.locks ≡ add_lock p t kind x.locks → y.spare + length (unheld (p ∷ []) t x.locks) ≡ x.spare → HasPlaces ps t y
+pub places_rest : (p : ℕ) (ps : List ℕ) (t : ℕ) (kind : LockKind) (x y : LockTable) → HasPlaces (p ∷ ps) t x → y.locks ≡ add_lock p t kind x.locks
+    → y.spare + length (unheld (p ∷ []) t x.locks) ≡ x.spare → HasPlaces ps t y
 places_rest p ps t kind x y h locks room =
     let first = unheld_first p ps t x.locks in
     let less = unheld_less ps p t kind x.locks in

@@ -8,7 +8,12 @@ use Rattle.zy_table.proofs.RangeWalk.{lows_within-next, lows_within-none, page_o
 pub leads_next : (lows : List ℕ) (a b p l : ℕ) → IsAfter lows a (Some p) → l ≡ get_or lows p 0 → l ≤ b
     → (lows_within a b lows ≡ l ∷ lows_within l b lows) × (page_of lows l ≡ p) × (a < l) × (l ≤ b)
 leads_next lows a b p l h e le =
-    rw e (lows_within-next a b lows p h.0 h.1 (let f = e in omega (arith, le, f)) h.2, page_of-next a lows p h.0 h.1 h.2, h.1, (let f = e in omega (arith, le, f)))
+    rw e (
+      lows_within-next a b lows p h.0 h.1 (let f = e in omega (arith, le, f)) h.2,
+      page_of-next a lows p h.0 h.1 h.2,
+      h.1,
+      (let f = e in omega (arith, le, f)),
+    )
 
 pub leads_past : (lows : List ℕ) (a b p l : ℕ) → IsAfter lows a (Some p) → l ≡ get_or lows p 0 → b < l → lows_within a b lows ≡ []
 leads_past lows a b p l h e up = lows_within-none a b lows (λ q lt above. elim (h.2 q lt above) [

@@ -156,7 +156,11 @@ impl OwnedPages {
         requires room { number < 512 }
         requires absent { page_in number self.old ≡ None }
         requires there { table.owns self.old p ≡ true }
-        ensures { let upper : Leaf = record { number = number; low = boundary; rows = rows_from boundary (rows_of self.old p) } in
+        ensures { let upper : Leaf = record {
+          number = number;
+          low = boundary;
+          rows = rows_from boundary (rows_of self.old p);
+        } in
             self.new ≡ with_page upper (lowered p boundary self.old) }
     {
         self.count = self.len() + 1;

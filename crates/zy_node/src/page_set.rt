@@ -26,7 +26,8 @@ impl Model for PageSet {
 }
 
 impl PageSet {
-    /// No number, and a mark for each that a page of any scenario may have, so that no mark is missing whatever its own `pages` is.
+    /// No number, and a mark for each that a page of any scenario may have, so that no mark is missing whatever its own
+    /// `pages` is.
     pub fn new(alloc: Global) -> Result<PageSet, AllocError>
         ensures { IfOk result (λ m. m ≡ []) }
     {

@@ -46,7 +46,12 @@ fn next_of(wire: &Wire, low: u16, last: u16) -> Option<Place>
 }
 
 /// The first page that is not among these.
-pub(crate) fn absent_page(wire: &Option<Wire>, pages: &OwnedPages, first: u16, last: u16) -> Option<u16>
+pub(crate) fn absent_page(
+    wire: &Option<Wire>,
+    pages: &OwnedPages,
+    first: u16,
+    last: u16,
+) -> Option<u16>
     ensures value { result ≡ first_absent pages.now (range_pages (lows_in wire.now) first last) }
     ensures few { (n : ℕ) → limit_or n wire.now ≤ n → 0 < n → IfSome result (λ p. p < n) }
 {

@@ -1,4 +1,5 @@
-//! The wireframe of a node: a node without pages has none. What is said of a number `n` holds of each that is not below the wireframe's limit.
+//! The wireframe of a node: a node without pages has none. What is said of a number `n` holds of each that is not below
+//! the wireframe's limit.
 ghost use Rattle.std.specs.Prelude.{◌≡◌, ◌==◌, ◌<◌, ◌≤◌, ◌++◌, ◌∷◌, [], ℕ, IfOk, IfSome, OnOk, IsOk, Contains, length};
 ghost use Rattle.zy_wire.specs.Wireframe as wireframe;
 ghost use Rattle.zy_wire.specs.Ranges.{in_range};
@@ -69,7 +70,8 @@ pub fn grow(wire: &mut Option<Wire>, low: u16)
     }
 }
 
-/// One page more, with this low key, which no page has yet: where it is the first one it begins at 0, and there may be `pages` pages.
+/// One page more, with this low key, which no page has yet: where it is the first one it begins at 0, and there may be
+/// `pages` pages.
 pub fn open_page(
     wire: &mut Option<Wire>,
     alloc: Global,

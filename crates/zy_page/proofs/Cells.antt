@@ -20,12 +20,14 @@ take-set_below : (n : ℕ) (xs : List Row) (i : ℕ) (x : Row) → i < n → n �
 take-set_below n xs i x lt le = same_lists _ _ (search (rules, places)) (λ k d h. grind (arith, places, get_or-set_same, cases_eq k i))
 
 -- the row put over one of the first n
-pub put_over : (k v i n : ℕ) (d : Row) (cells : List Row) → n ≤ length cells → Finds k (take n cells) (Ok i) → take n (set cells i (record { key = (get_or cells i d).key; value = v })) ≡ put_row k v (take n cells)
+pub put_over : (k v i n : ℕ) (d : Row) (cells : List Row) → n ≤ length cells → Finds k (take n cells) (Ok i)
+    → take n (set cells i (record { key = (get_or cells i d).key; value = v })) ≡ put_row k v (take n cells)
 put_over k v i n d cells le found =
     let lt : i < n = rw (length-take-le n cells le) at found.1 in
     let put = put_row_at k v i d (take n cells) found.0 found.1 (found.2 d) in
     take-set_below n cells i _ lt le ∙ sym (rw (get_or-take n cells i d lt) at put)
 
 -- the row put at one of the first n, which make room
-pub put_between : (xs : List Row) (n at : ℕ) (r : Row) → at ≤ n → n < length xs → take (n + 1) (set (copy_within xs at n (at + 1)) at r) ≡ insert (take n xs) at r
+pub put_between : (xs : List Row) (n at : ℕ) (r : Row) → at ≤ n → n < length xs
+    → take (n + 1) (set (copy_within xs at n (at + 1)) at r) ≡ insert (take n xs) at r
 put_between xs n at r le lt = same_lists _ _ (search (rules, places)) (λ k d h. grind (arith, places, get_or-set_same, cases_eq k at, cases_lt k at))

@@ -26,44 +26,58 @@ pub in_order : (rows : List Row) → Rising 0 rows → IsNonDecreasingBy (λ (r 
 in_order rows h = λ i j d le lt. keys_le 0 i j d rows h le lt
 
 pub place_rest : (k i : ℕ) (r : Row) (rows : List Row) → IsPlace k (r ∷ rows) (suc i) → IsPlace k rows i
-place_rest k i r rows h = (omega (arith, h.0), (λ j d low high. h.1 (suc j) d (omega arith) (omega arith)), (λ j d low high. h.2 (suc j) d (omega arith) (omega arith)))
+place_rest k i r rows h = (
+  omega (arith, h.0),
+  (λ j d low high. h.1 (suc j) d (omega arith) (omega arith)),
+  (λ j d low high. h.2 (suc j) d (omega arith) (omega arith)),
+)
 
 pub front_below : (k i : ℕ) (r : Row) (rows : List Row) → IsPlace k (r ∷ rows) (suc i) → r.key < k
 front_below k i r rows h = h.1 0 r (omega arith) (omega arith)
 
 -- a key that is at its place
-pub get_row_at : (k i : ℕ) (d : Row) (rows : List Row) → IsPlace k rows i → i < length rows → (get_or rows i d).key ≡ k → get_row rows k ≡ Some (get_or rows i d).value
+pub get_row_at : (k i : ℕ) (d : Row) (rows : List Row) → IsPlace k rows i → i < length rows → (get_or rows i d).key ≡ k
+    → get_row rows k ≡ Some (get_or rows i d).value
 get_row_at k i d [] p lt e = absurd (omega arith)
 get_row_at k zero d (r ∷ rows) p lt e = get_row_same k r rows e
-get_row_at k (suc i) d (r ∷ rows) p lt e = rw (get_row_past k r rows (λ f. absurd (omega (arith, front_below k i r rows p)))) (get_row_at k i d rows (place_rest k i r rows p) (omega arith) e)
+get_row_at k (suc i) d (r ∷ rows) p lt e = rw (get_row_past k r rows (λ f. absurd (omega (arith, front_below k i r rows p))))
+    (get_row_at k i d rows (place_rest k i r rows p) (omega arith) e)
 
 -- and one that does not
-pub get_row_not_at : (low k i : ℕ) (rows : List Row) → Rising low rows → IsPlace k rows i → ((d : Row) → i < length rows → (get_or rows i d).key ≡ k → ⊥) → get_row rows k ≡ None
+pub get_row_not_at : (low k i : ℕ) (rows : List Row) → Rising low rows → IsPlace k rows i → ((d : Row) → i < length rows → (get_or rows i d).key ≡ k → ⊥)
+    → get_row rows k ≡ None
 get_row_not_at low k i [] h p ne = refl
 get_row_not_at low k zero (r ∷ rows) h p ne =
     let above : k ≤ r.key = p.2 0 r (omega arith) (omega arith) in
     rw (get_row_past k r rows (ne r (omega arith))) (get_row_below k (r.key + 1) rows h.1 (omega arith))
-get_row_not_at low k (suc i) (r ∷ rows) h p ne = rw (get_row_past k r rows (λ f. absurd (omega (arith, front_below k i r rows p)))) (get_row_not_at (r.key + 1) k i rows h.1 (place_rest k i r rows p) (λ d lt. ne d (omega arith)))
+get_row_not_at low k (suc i) (r ∷ rows) h p ne = rw (get_row_past k r rows (λ f. absurd (omega (arith, front_below k i r rows p))))
+    (get_row_not_at (r.key + 1) k i rows h.1 (place_rest k i r rows p) (λ d lt. ne d (omega arith)))
 
 -- the row put over one
-pub put_row_at : (k v i : ℕ) (d : Row) (rows : List Row) → IsPlace k rows i → i < length rows → (get_or rows i d).key ≡ k → put_row k v rows ≡ set rows i (record (get_or rows i d) { value = v })
+pub put_row_at : (k v i : ℕ) (d : Row) (rows : List Row) → IsPlace k rows i → i < length rows → (get_or rows i d).key ≡ k
+    → put_row k v rows ≡ set rows i (record (get_or rows i d) { value = v })
 put_row_at k v i d [] p lt e = absurd (omega arith)
 put_row_at k v zero d (r ∷ rows) p lt e = rw (put_row_same k v r rows (omega arith), e) refl
-put_row_at k v (suc i) d (r ∷ rows) p lt e = rw (put_row_above k v r rows (front_below k i r rows p)) (ap (λ z. r ∷ z) (put_row_at k v i d rows (place_rest k i r rows p) (omega arith) e))
+put_row_at k v (suc i) d (r ∷ rows) p lt e = rw (put_row_above k v r rows (front_below k i r rows p))
+    (ap (λ z. r ∷ z) (put_row_at k v i d rows (place_rest k i r rows p) (omega arith) e))
 
 -- the row put between others
-pub put_row_between : (k v i : ℕ) (rows : List Row) → IsPlace k rows i → ((d : Row) → i < length rows → (get_or rows i d).key ≡ k → ⊥) → put_row k v rows ≡ insert rows i (row k v)
+pub put_row_between : (k v i : ℕ) (rows : List Row) → IsPlace k rows i → ((d : Row) → i < length rows → (get_or rows i d).key ≡ k → ⊥)
+    → put_row k v rows ≡ insert rows i (row k v)
 put_row_between k v zero [] p ne = refl
 put_row_between k v (suc i) [] p ne = absurd (omega (arith, p.0))
 put_row_between k v zero (r ∷ rows) p ne = rw (put_row_below k v r rows (omega (arith, p.2 0 r (omega arith) (omega arith), ne r (omega arith)))) refl
-put_row_between k v (suc i) (r ∷ rows) p ne = rw (put_row_above k v r rows (front_below k i r rows p)) (ap (λ z. r ∷ z) (put_row_between k v i rows (place_rest k i r rows p) (λ d lt. ne d (omega arith))))
+put_row_between k v (suc i) (r ∷ rows) p ne = rw (put_row_above k v r rows (front_below k i r rows p))
+    (ap (λ z. r ∷ z) (put_row_between k v i rows (place_rest k i r rows p) (λ d lt. ne d (omega arith))))
 
 -- where the search finds no row there is none
-pub none_there : (k i : ℕ) (rows : List Row) → Rising 0 rows → IsPlace k rows i → ((d : Row) → i < length rows → (get_or rows i d).key ≡ k → ⊥) → is_some (get_row rows k) ≡ true → ⊥
+pub none_there : (k i : ℕ) (rows : List Row) → Rising 0 rows → IsPlace k rows i → ((d : Row) → i < length rows → (get_or rows i d).key ≡ k → ⊥)
+    → is_some (get_row rows k) ≡ true → ⊥
 none_there k i rows h p ne there = let bad = rw (get_row_not_at 0 k i rows h p ne) at there in cc
 
 -- so a row that is not there yet was given room
-pub room_for : (k i spare : ℕ) (rows : List Row) → Rising 0 rows → IsPlace k rows i → ((d : Row) → i < length rows → (get_or rows i d).key ≡ k → ⊥) → (1 ≤ spare) ⊎ (is_some (get_row rows k) ≡ true) → 1 ≤ spare
+pub room_for : (k i spare : ℕ) (rows : List Row) → Rising 0 rows → IsPlace k rows i → ((d : Row) → i < length rows → (get_or rows i d).key ≡ k → ⊥)
+    → (1 ≤ spare) ⊎ (is_some (get_row rows k) ≡ true) → 1 ≤ spare
 room_for k i spare rows h p ne given =
     elim given [
       | inl room ↦ room

@@ -45,7 +45,8 @@ Rising-filter : (p : Row → Bool) (low : ℕ) (rows : List Row) → Rising low 
 Rising-filter p low [] h = tt
 Rising-filter p low (r ∷ rows) h =
     let rest = Rising-filter p (r.key + 1) rows h.1 in
-    cond_both (p r) (r ∷ filter p rows) (filter p rows) (Rising low) (λ _. (h.0, rest)) (λ _. Rising-lower low (r.key + 1) (filter p rows) rest (omega (arith, h.0)))
+    cond_both (p r) (r ∷ filter p rows) (filter p rows) (Rising low) (λ _. (h.0, rest))
+    (λ _. Rising-lower low (r.key + 1) (filter p rows) rest (omega (arith, h.0)))
 
 RowsFit-filter : (p : Row → Bool) (rows : List Row) → RowsFit rows → RowsFit (filter p rows)
 RowsFit-filter p [] h = tt

@@ -5,7 +5,8 @@ use Rattle.zy_isa.specs.declared.row.Row.{Row}
 
 -- i rows are below k, and the others are not
 abbrev pub IsPlace : ℕ → List Row → ℕ → Type 0
-IsPlace k rows i = (i ≤ length rows) × AllWithin (λ r. r.key < k) rows 0 i × AllWithin (λ r. k ≤ r.key) rows i (length rows)
+IsPlace k rows i = (i ≤ length rows) × AllWithin (λ r. r.key < k) rows 0 i
+    × AllWithin (λ r. k ≤ r.key) rows i (length rows)
 
 -- the index of the row at k, or the one where it would be
 abbrev pub Finds : ℕ → List Row → Result ℕ ℕ → Type 0

@@ -14,8 +14,8 @@ const ROOM: usize = MAX_CAP as usize;
 /// What a place without a row has.
 const BLANK: Row = Row { key: 0, value: 0 };
 
-/// A leaf page. Its rows lie in the page itself, which has a place for each that a scenario lets a page have: nothing that
-/// is done with it takes memory.
+/// A leaf page. Its rows lie in the page itself, which has a place for each that a scenario lets a page have: nothing
+/// that is done with it takes memory.
 #[derive(Drop)]
 pub struct Page {
     number: u16,
@@ -162,7 +162,11 @@ impl Page {
 
     /// Moves the rows at or above `boundary` into a new page with this number, whose low key is the boundary.
     pub fn split_at(&mut self, boundary: u16, number: u16) -> Page
-        ensures new_page { result ≡ record { number = number; low = boundary; rows = rows_from boundary self.old.rows } }
+        ensures new_page { result ≡ record {
+          number = number;
+          low = boundary;
+          rows = rows_from boundary self.old.rows;
+        } }
         ensures old_page { self.new ≡ record self.old { rows = rows_below boundary self.old.rows } }
     {
         let at = place(self.rows(), boundary);

@@ -1,5 +1,6 @@
 //! Rows in key order, each key once.
-ghost use Rattle.std.specs.Prelude.{◌≡◌, ◌+◌, ◌-◌, ◌<◌, ◌≤◌, IfOk, OnOk, OnErr, IsOk, IsSome, [], ◌==◌, length, is_some, vec_capacity, slice_index_or};
+ghost use Rattle.std.specs.Prelude.{◌≡◌, ◌+◌, ◌-◌, ◌<◌, ◌≤◌, IfOk, OnOk, OnErr, IsOk, IsSome, [], ◌==◌, length};
+ghost use Rattle.std.specs.Prelude.{is_some, vec_capacity, slice_index_or};
 ghost use Rattle.zy_isa.specs.Rows.{Rising, RowsFit, get_row, put_row};
 ghost use Rattle.zy_page.specs.RowLists.{HasPlace};
 

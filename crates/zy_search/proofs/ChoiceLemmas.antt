@@ -1,5 +1,6 @@
 -- The list of the choices that a search considers has exactly those.
-use Rattle.std.proofs.Common.{◌≡◌, ◌∙◌, ℕ, zero, suc, ◌+◌, ◌<◌, ◌≤◌, List, [], ◌∷◌, ◌++◌, length, get_or, refl, sym, ap, arith, length-append, append_assoc, add-one, Bool, true, false, nat_lt, ◌&&◌}
+use Rattle.std.proofs.Common.{◌≡◌, ◌∙◌, ℕ, zero, suc, ◌+◌, ◌<◌, ◌≤◌, List, [], ◌∷◌, ◌++◌, length, get_or, refl, sym, ap, arith, length-append, append_assoc}
+use Rattle.std.proofs.Common.{add-one, Bool, true, false, nat_lt, ◌&&◌}
 use Rattle.std.proofs.lemmas.List.{get_or_append_left, get_or-append-add}
 use Rattle.std.proofs.lemmas.Bool.Decides.{nat_tests}
 use Rattle.std.proofs.Math.Bool.{false≢true}
@@ -146,7 +147,8 @@ last_has count n c h = has_right (each (Run n) count) _ c h
 pub has_considered : (kills : Bool) (count : ℕ) (c : Choice) → is_considered kills count c ≡ true → Has (considered kills count) c
 has_considered kills count Start e = (0, omega arith, refl)
 has_considered kills count (Begin t) e = client_has kills count (Begin t) (begin_has count t (first _ _ e))
-has_considered kills count (Kill t) e = has_right (Start ∷ each Begin count) _ (Kill t) (has_left (killing kills count) _ (Kill t) (kill_has kills count t (second _ _ e) (first _ _ e)))
+has_considered kills count (Kill t) e = has_right (Start ∷ each Begin count) _ (Kill t)
+    (has_left (killing kills count) _ (Kill t) (kill_has kills count t (second _ _ e) (first _ _ e)))
 has_considered kills count (Run n t) e = node_has kills count n (Run n t) (run_has count t n (first _ _ e))
 has_considered kills count (Take n) e = node_has kills count n (Take n) (last_has count n (Take n) (0, omega arith, refl))
 has_considered kills count (Finish n) e = node_has kills count n (Finish n) (last_has count n (Finish n) (1, omega arith, refl))
@@ -189,7 +191,10 @@ length_each make (suc n) = omega (arith, length-append (each make n) (make n ∷
 -- the ranks of those
 ranked_each : (f : Choice → ℕ) (m : ℕ) (make : ℕ → Choice) → ((t : ℕ) → f (make t) ≡ m + t) → (n : ℕ) → AreRanked f m (each make n)
 ranked_each f m make is zero = tt
-ranked_each f m make is (suc n) = ranked_append f m (m + n) (each make n) (make n ∷ []) (omega (arith, length_each make n)) (ranked_each f m make is n) (is n, tt)
+ranked_each f m make is (suc n) = ranked_append f m (m + n) (each make n) (make n ∷ []) (omega (arith, length_each make n)) (ranked_each f m make is n) (
+  is n,
+  tt,
+)
 
 -- the ranks of kills, where there are any
 ranked_kills : (f : Choice → ℕ) (m count : ℕ) (kills : Bool) → ((t : ℕ) → f (Kill t) ≡ m + t) → AreRanked f m (killing kills count)
@@ -200,7 +205,10 @@ ranked_kills f m count false is = tt
 ranked_node : (f : Choice → ℕ) (m count : ℕ) (n : Node) → ((t : ℕ) → f (Run n t) ≡ m + t) → f (Take n) ≡ m + count → f (Finish n) ≡ m + count + 1
     → f (Push n) ≡ m + count + 1 + 1 → AreRanked f m (of_node n count)
 ranked_node f m count n run take finish push =
-    ranked_append f m (m + count) (each (Run n) count) _ (omega (arith, length_each (Run n) count)) (ranked_each f m (Run n) run count) (take, (finish, (push, tt)))
+    ranked_append f m (m + count) (each (Run n) count) _ (omega (arith, length_each (Run n) count)) (ranked_each f m (Run n) run count) (
+      take,
+      (finish, (push, tt)),
+    )
 
 -- how many they are
 length_node : (n : Node) (count : ℕ) → length (of_node n count) ≡ count + 3
@@ -213,7 +221,8 @@ all_ranked kills count =
     let k = length (killing kills count) in
     ranked_append f 0 (1 + count) (Start ∷ each Begin count) _ (omega (arith, length_each Begin count)) (refl, ranked_each f 1 Begin (λ t. refl) count)
     (ranked_append f (1 + count) (1 + count + k) (killing kills count) _ (omega arith) (ranked_kills f (1 + count) count kills (λ t. refl))
-    (ranked_append f (1 + count + k) (4 + count + k + count) (of_node A count) (of_node B count) (omega (arith, length_node A count)) (ranked_node f (1 + count + k) count A (λ t. refl) refl (omega arith) (omega arith))
+    (ranked_append f (1 + count + k) (4 + count + k + count) (of_node A count) (of_node B count) (omega (arith, length_node A count))
+    (ranked_node f (1 + count + k) count A (λ t. refl) refl (omega arith) (omega arith))
     (ranked_node f (4 + count + k + count) count B (λ t. refl) refl (omega arith) (omega arith))))
 
 -- an element has its place for its rank

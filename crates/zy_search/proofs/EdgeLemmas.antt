@@ -109,7 +109,12 @@ pub ends_first : AreEnds ([] ∷ []) 0
 ends_first = λ j le lt c i in' e.
     let here : i ≡ 0 = omega (arith, in') in
     let there : j ≡ 0 = omega (arith, lt) in
-    omega (arith, length_of (path_at ([] ∷ []) i) (path_at ([] ∷ []) j ++ c ∷ []) e, length-append (path_at ([] ∷ []) j) (c ∷ []), ap (length_at ([] ∷ [])) here)
+    omega (
+      arith,
+      length_of (path_at ([] ∷ []) i) (path_at ([] ∷ []) j ++ c ∷ []) e,
+      length-append (path_at ([] ∷ []) j) (c ∷ []),
+      ap (length_at ([] ∷ [])) here,
+    )
 
 -- nor from any later place
 pub ends_later : (ps : Paths) (n m : ℕ) → n ≤ m → AreEnds ps n → AreEnds ps m

@@ -1,5 +1,6 @@
 -- The choices from the state of the path at a place are made one by one.
-use Rattle.std.proofs.Common.{◌≡◌, ◌∙◌, ◌+◌, ◌<◌, ◌≤◌, ◌++◌, ◌∷◌, [], ℕ, List, Bool, true, false, inl, inr, get_or, sym, ap, subst, length, length-append, arith}
+use Rattle.std.proofs.Common.{◌≡◌, ◌∙◌, ◌+◌, ◌<◌, ◌≤◌, ◌++◌, ◌∷◌, [], ℕ, List, Bool, true, false, inl, inr, get_or, sym, ap, subst, length, length-append}
+use Rattle.std.proofs.Common.{arith}
 use Rattle.std.proofs.lemmas.Bool.{cases_lt}
 use Rattle.std.proofs.lemmas.List.{get_or_default}
 use Rattle.zy_isa.specs.declared.choice.Choice.{Choice}
@@ -39,7 +40,8 @@ module _ (h : History) (q : Sought) (old cur : List (List Choice)) (at : ℕ) (l
         | inl less ↦ visited_grown h cur new _ _ n.grows (lead j less)
         | inr le ↦
             let here : j ≡ i = omega (arith, le, below) in
-            rw here (subst (λ (p : List Choice). IsVisited h new (length p + 1) (step h.scenario (get_or cs i Start) (reached h p)).after) (g.same at lt) n.known)
+            rw here (subst (λ (p : List Choice). IsVisited h new (length p + 1) (step h.scenario (get_or cs i Start) (reached h p)).after)
+            (g.same at lt) n.known)
       ]
 
   -- all of them

@@ -68,13 +68,15 @@ shows_too sc order kills wanted.Stuck s e = record {
 -- what is found shows itself in a run
 pub found : (h : History) (q : Sought) (cs : List Choice) → IsReplay h → Finds h q cs → Shows (scheduled h cs) q (ending (scheduled h cs))
 found h q cs r f =
-    subst (λ (s : State). Shows (scheduled h cs) q s) (sym (ends h cs r)) (shows_too h.scenario (choices_of h.entries ++ cs) q.kills q.wanted (reached h cs) f.shows)
+    subst (λ (s : State). Shows (scheduled h cs) q s) (sym (ends h cs r)) (shows_too h.scenario (choices_of h.entries ++ cs) q.kills q.wanted
+    (reached h cs) f.shows)
 
 -- what does not lead there does not in a run
 pub not_found : (h : History) (q : Sought) (cs : List Choice) → IsReplay h → (Shows h.scenario q (reached h cs) → ⊥)
     → Shows (scheduled h cs) q (ending (scheduled h cs)) → ⊥
 not_found h q cs r none shown =
-    none (shows_back h.scenario (choices_of h.entries ++ cs) q.kills q.wanted (reached h cs) (subst (λ (s : State). Shows (scheduled h cs) q s) (ends h cs r) shown))
+    none (shows_back h.scenario (choices_of h.entries ++ cs) q.kills q.wanted (reached h cs)
+    (subst (λ (s : State). Shows (scheduled h cs) q s) (ends h cs r) shown))
 
 -- choices that name transactions that are there, and others
 named_both : (count : ℕ) (cs ds : List Choice) → AreNamed count cs → AreNamed count ds → AreNamed count (cs ++ ds)
@@ -96,7 +98,8 @@ is_scenario h q cs r f = record {
   programs = r.tested.programs;
   instrs_known = r.tested.instrs_known;
   few_choices = omega (arith, f.path.room, length-append (choices_of h.entries) cs, length-choices_of h.entries);
-  choices_named = named_both (length h.scenario.programs) (choices_of h.entries) cs r.named (are_named q.kills (length h.scenario.programs) cs f.path.considered);
+  choices_named = named_both (length h.scenario.programs) (choices_of h.entries) cs r.named
+      (are_named q.kills (length h.scenario.programs) cs f.path.considered);
 }
 
 -- under held every schedule's database is that of the serial run

@@ -1,5 +1,6 @@
 -- Paths, the states that they lead to, and what a search knows of them.
-use Rattle.std.proofs.Common.{◌≡◌, ◌∙◌, ℕ, ◌+◌, ◌<◌, ◌≤◌, ◌⊎◌, inl, inr, List, [], ◌∷◌, ◌++◌, length, refl, sym, ap, subst, arith, length-append, Bool, true, false, ◌&&◌, Result, Ok, Err, IfOk}
+use Rattle.std.proofs.Common.{◌≡◌, ◌∙◌, ℕ, ◌+◌, ◌<◌, ◌≤◌, ◌⊎◌, inl, inr, List, [], ◌∷◌, ◌++◌, length, refl, sym, ap, subst, arith, length-append, Bool, true}
+use Rattle.std.proofs.Common.{false, ◌&&◌, Result, Ok, Err, IfOk}
 use Rattle.std.proofs.lemmas.List.{get_or_append_left}
 use Rattle.std.proofs.lemmas.List.Elements.{All-from_get_or}
 use Rattle.std.proofs.lemmas.Bool.{cases_lt}
@@ -95,7 +96,12 @@ module _ (h : History) (q : Sought) (ps : List (List Choice)) where
   goes_on n d e b [] a k le s r = (r.0, r.1, omega (arith, r.2), r.3)
   goes_on n d e b (c ∷ cs) a k le s r =
       let x = e r.0 (b r.0 r.1 (omega (arith, r.2, le))) c a.0 in
-      let y : IsVisited h ps (k + 1) (step h.scenario c s).after = (x.0, x.1, omega (arith, x.2, r.2), x.3 ∙ ap (λ (z : State). (step h.scenario c z).after) r.3) in
+      let y : IsVisited h ps (k + 1) (step h.scenario c s).after = (
+        x.0,
+        x.1,
+        omega (arith, x.2, r.2),
+        x.3 ∙ ap (λ (z : State). (step h.scenario c z).after) r.3,
+      ) in
       let z = goes_on n d e b cs a.1 (k + 1) (omega (arith, le)) (step h.scenario c s).after y in
       (z.0, z.1, omega (arith, z.2), z.3)
 

@@ -1,6 +1,7 @@
 -- What stays true of a shelf.
 use Rattle.std.specs.List.{All}
-use Rattle.std.proofs.Common.{◌≡◌, ◌∙◌, ℕ, zero, suc, ◌<◌, List, [], ◌∷◌, ◌++◌, length, refl, sym, ap, subst, true, arith, length-append, Option, None, Some, IfSome, Result, Ok, Err, OnOk}
+use Rattle.std.proofs.Common.{◌≡◌, ◌∙◌, ℕ, zero, suc, ◌<◌, List, [], ◌∷◌, ◌++◌, length, refl, sym, ap, subst, true, arith, length-append, Option, None, Some}
+use Rattle.std.proofs.Common.{IfSome, Result, Ok, Err, OnOk}
 use Rattle.std.proofs.Math.Seq.{get_or-append_seam}
 use Rattle.zy_isa.specs.declared.choice.Choice.{Choice}
 use Rattle.zy_machine.specs.Histories.{History}
@@ -56,7 +57,8 @@ module _ (h : History) (ps : List (List Choice)) (at : ℕ) (c : Choice) (m : Hi
   kept qs place old new e f s put =
       let p = path_at ps at ++ c ∷ [] in
       let grown = subst (λ (rs : List (List Choice)). IsShelf h rs old) (sym e) (shelf_grown h ps (ps ++ p ∷ []) old (grows_push ps p) s) in
-      let there = subst (λ (rs : List (List Choice)). IsHere h rs place m) (sym e) (subst (λ (i : ℕ). IsHere h (ps ++ p ∷ []) i m) (sym f) (next_here h ps at c m n)) in
+      let there = subst (λ (rs : List (List Choice)). IsHere h rs place m) (sym e)
+      (subst (λ (i : ℕ). IsHere h (ps ++ p ∷ []) i m) (sym f) (next_here h ps at c m n)) in
       put grown (omega (arith, f, ap (λ (rs : List (List Choice)). length rs) e, length-append ps (p ∷ []))) there
 
 -- a second machine that has become a copy of the first one

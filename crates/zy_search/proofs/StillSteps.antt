@@ -1,5 +1,6 @@
 -- Where nothing comes of a step the state is as it was.
-use Rattle.std.proofs.Common.{◌≡◌, ◌∙◌, inl, ℕ, List, [], ◌∷◌, ◌++◌, length, length-append, ◌<◌, arith, true, false, not, nat_lt, nat_le, ◌&&◌, Option, Some, None, refl, sym, ap}
+use Rattle.std.proofs.Common.{◌≡◌, ◌∙◌, inl, ℕ, List, [], ◌∷◌, ◌++◌, length, length-append, ◌<◌, arith, true, false, not, nat_lt, nat_le, ◌&&◌, Option, Some}
+use Rattle.std.proofs.Common.{None, refl, sym, ap}
 use Rattle.zy_table.specs.declared.entry.Entry.{Entry}
 use Rattle.std.proofs.lemmas.Bool.{cond_both, false≢true}
 use Rattle.zy_isa.specs.declared.node.Node.{Node}
@@ -28,7 +29,9 @@ use Rattle.zy_table.specs.declared.effect.Effect.TheVariants.{Sets, Jumps, Acces
 use Rattle.zy_table.specs.Effects.{effect_of}
 use Rattle.zy_table.specs.Client.{is_new, is_active, start_step, begin_at, begin_step, kill_step}
 use Rattle.zy_table.specs.Push.{finish_if, finish_step, push_if, push_step}
-use Rattle.zy_table.specs.Run.{same_node, abort_step, set_step, jump_step, commit_or_gone, commit_step, absent_step, read_step, is_there, write_step, has_room, split_step, full_step, insert_step, lock_of, access_step, page_step, key_step, sum_step, sum_or_waits, sum_or_asks, range_step, effect_step, instr_step, run_step}
+use Rattle.zy_table.specs.Run.{same_node, abort_step, set_step, jump_step, commit_or_gone, commit_step, absent_step, read_step, is_there, write_step, has_room}
+use Rattle.zy_table.specs.Run.{split_step, full_step, insert_step, lock_of, access_step, page_step, key_step, sum_step, sum_or_waits, sum_or_asks, range_step}
+use Rattle.zy_table.specs.Run.{effect_step, instr_step, run_step}
 use Rattle.zy_table.specs.Take.{is_held, outcome_of, got_step, pull_step, message_step, front_step, take_step}
 use Rattle.zy_table.specs.Play.{move, side_of, step}
 use Rattle.zy_machine.specs.Histories.{History}
@@ -324,7 +327,8 @@ twin_still m old new c t e f longer still = record {
 }
 
 -- A machine where the path at a place leads makes a choice, and this comes of it.
-module _ (h m : History) (ps : List (List Choice)) (at : ℕ) (here : IsHere h ps at m) (c : Choice) (o : Outcome) (out : o ≡ (step m.scenario c m.state).outcome) where
+module _ (h m : History) (ps : List (List Choice)) (at : ℕ) (here : IsHere h ps at m) (c : Choice) (o : Outcome)
+    (out : o ≡ (step m.scenario c m.state).outcome) where
   -- the step is that from the path's state
   here_step : step m.scenario c m.state ≡ step h.scenario c (reached h (path_at ps at))
   here_step = ap (λ (sc : Scenario). step sc c m.state) here.scenario ∙ ap (step h.scenario c) here.state

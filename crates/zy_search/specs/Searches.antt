@@ -71,7 +71,8 @@ pub record Fills (h : History) (q : Sought) (most n : ℕ) : Type 0 where
   pub apart : AreApart paths
   pub each : All (λ cs. IsPath h q cs × (length cs ≤ n) × (Shows h.scenario q (reached h cs) → ⊥)) paths
 
--- a search gives up only where it knows as many paths as it may, or where its bound is all that the history has room for
+-- a search gives up only where it knows as many paths as it may, or where its bound is all that the history has room
+-- for
 abbrev pub IsDue : History → Sought → ℕ → Answer → Type 0
 IsDue h q most (answer.Found v) = Unit {0}
 IsDue h q most answer.Nowhere = Unit {0}

@@ -4,7 +4,8 @@ use Rattle.std.specs.List.{list_any}
 use Rattle.zy_isa.specs.declared.choice.Choice.{Choice}
 use Rattle.zy_isa.specs.Scenario.{Scenario}
 use Rattle.zy_table.specs.declared.outcome.Outcome.{Outcome}
-use Rattle.zy_table.specs.declared.outcome.Outcome.TheVariants.{BadMode, Idle, Elsewhere, NotYet, Waits, Awaits, NoMessage, Held, Stray, Active, NoPush}
+use Rattle.zy_table.specs.declared.outcome.Outcome.TheVariants.{BadMode, Idle, Elsewhere, NotYet, Waits, Awaits}
+use Rattle.zy_table.specs.declared.outcome.Outcome.TheVariants.{NoMessage, Held, Stray, Active, NoPush}
 use Rattle.zy_table.specs.State.{State, Txn}
 use Rattle.zy_table.specs.Play.{step}
 use Rattle.zy_search.specs.Choices.{is_considered}

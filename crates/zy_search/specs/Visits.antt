@@ -1,5 +1,6 @@
 -- What a search keeps, and what each of its parts adds.
-use Rattle.std.specs.Prelude.{ℕ, ◌≡◌, ◌≤◌, ◌<◌, ◌+◌, ◌⊎◌, List, [], ◌∷◌, ◌++◌, true, false, length, slice_index_or, IfSome}
+use Rattle.std.specs.Prelude.{ℕ, ◌≡◌, ◌≤◌, ◌<◌, ◌+◌, ◌⊎◌, List, [], ◌∷◌, ◌++◌, true, false, length, slice_index_or}
+use Rattle.std.specs.Prelude.{IfSome}
 use Rattle.std.specs.List.{All}
 use Rattle.zy_isa.specs.declared.choice.Choice.{Choice}
 use Rattle.zy_isa.specs.declared.choice.Choice.TheVariants.{Start}
@@ -58,7 +59,8 @@ AreEnds ps n = (j : ℕ) → n ≤ j → j < length ps → (c : Choice) → IsFr
 
 -- those that go on from that at a place do so by one of the first n choices
 abbrev pub GoOnBy : List (List Choice) → ℕ → List Choice → ℕ → Type 0
-GoOnBy ps at cs n = (i : ℕ) → i < length ps → (c : Choice) → path_at ps i ≡ path_at ps at ++ c ∷ [] → (k : ℕ) × (k < n) × (slice_index_or cs k Start ≡ c)
+GoOnBy ps at cs n = (i : ℕ) → i < length ps → (c : Choice) → path_at ps i ≡ path_at ps at ++ c ∷ [] → (k : ℕ) × (k < n)
+    × (slice_index_or cs k Start ≡ c)
 
 -- where that at a place is gone on from: no path has more than one choice more, and none goes on from a later one
 pub record IsEdge (ps : List (List Choice)) (at : ℕ) : Type 0 where
@@ -178,7 +180,8 @@ pub record FindsNext (h : History) (q : Sought) (old : List (List Choice)) (at :
 
 -- the search can go on no more
 abbrev pub StopsAt : History → Sought → ℕ → List (List Choice) → List (List Choice) → ℕ → Type 0
-StopsAt h q most old new at = IsFull h q most old new at ⊎ (Grows old new × (4096 ≤ length h.entries + length_at old at + 1))
+StopsAt h q most old new at = IsFull h q most old new at
+    ⊎ (Grows old new × (4096 ≤ length h.entries + length_at old at + 1))
 
 -- what all considered choices from the path at a place have led to
 abbrev pub ExpandsWell : Plan → List (List Choice) → List (List Choice) → ℕ → Expanded → Type 0

@@ -13,8 +13,8 @@ pub enum Answer {
     Spent(usize),
 }
 
-/// An answer, and for a person how many states were come to on the way, and the most choices that one of them takes: nothing is
-/// promised of the two numbers.
+/// An answer, and for a person how many states were come to on the way, and the most choices that one of them takes:
+/// nothing is promised of the two numbers.
 #[derive(Drop)]
 pub struct Report {
     pub answer: Answer,

@@ -7,7 +7,8 @@ ghost use Rattle.zy_search.specs.Choices as spec;
 use std::alloc::{AllocError, Global};
 use zy_isa::{Choice, Node};
 
-/// The choices that a search considers, in the order in which it makes them: those of this number of transactions, with kills or without.
+/// The choices that a search considers, in the order in which it makes them: those of this number of transactions, with
+/// kills or without.
 pub fn considered(alloc: Global, kills: bool, count: u8) -> Result<Vec<Choice>, AllocError>
     ensures { IfOk result (λ v. v.items ≡ spec.considered kills count) }
 {

@@ -1,7 +1,8 @@
 //! What the choices from one state lead to.
 ghost use Rattle.std.specs.Prelude.{◌≡◌, ◌≤◌, ◌<◌, ◌+◌, ◌^◌, ◌++◌, ◌∷◌, [], IfOk, OnOk, None, true, false, length};
 ghost use Rattle.zy_isa.specs.declared.choice.Choice.{Choice as AChoice};
-ghost use Rattle.zy_search.specs.Visits.{path_at, length_at, IsKnown, IsFresh, IsHere, IsKept, IsNext, IsReady, IsSecond, IsShelf, IsUntried, Grows, MeetsWell, ExpandsWell};
+ghost use Rattle.zy_search.specs.Visits.{path_at, length_at, IsKnown, IsFresh, IsHere, IsKept, IsNext, IsReady};
+ghost use Rattle.zy_search.specs.Visits.{IsSecond, IsShelf, IsUntried, Grows, MeetsWell, ExpandsWell};
 
 use crate::answer::{Expanded, Met};
 use crate::branch::Branch;
@@ -38,8 +39,8 @@ fn is_known(
     }
 }
 
-/// A number under which no path is put, where none of the paths that are put under the machine's digest, or one of the next few numbers,
-/// leads to its state; none where one does.
+/// A number under which no path is put, where none of the paths that are put under the machine's digest, or one of the
+/// next few numbers, leads to its state; none where one does.
 fn free_under(
     plan: &Plan,
     visited: &Visited,
@@ -238,7 +239,8 @@ fn arrive(
     requires here { here.old.scenario ≡ plan.now.start.scenario }
     ensures here { OnOk result (IsHere plan.now.start visited.now at here.new) }
     // Where its history is full the path itself is long.
-    ensures full { OnOk result (4096 ≤ length here.new.entries + 1 → 4096 ≤ length plan.now.start.entries + length_at visited.now at + 1) }
+    ensures full { OnOk result (4096 ≤ length here.new.entries + 1
+        → 4096 ≤ length plan.now.start.entries + length_at visited.now at + 1) }
     ensures shelf { OnOk result (IsShelf plan.now.start visited.now shelf.new) }
 {
     if shelf.take(at, here) && here.len() + 1 < MAX_CHOICES {

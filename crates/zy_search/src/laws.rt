@@ -16,8 +16,10 @@ use zy_audit::laws::always_same;
 
 /// The scenario with the choices that were found is a scenario, and the state after its run shows what was looked for.
 pub fn found_runs()
-    ensures tested { (h : History) (q : Sought) (cs : List AChoice) → IsReplay h → Finds h q cs → IsScenario (scheduled h cs) }
-    ensures shows { (h : History) (q : Sought) (cs : List AChoice) → IsReplay h → Finds h q cs → Shows (scheduled h cs) q (ending (scheduled h cs)) }
+    ensures tested { (h : History) (q : Sought) (cs : List AChoice) → IsReplay h → Finds h q cs
+        → IsScenario (scheduled h cs) }
+    ensures shows { (h : History) (q : Sought) (cs : List AChoice) → IsReplay h → Finds h q cs
+        → Shows (scheduled h cs) q (ending (scheduled h cs)) }
 {}
 
 /// Where choices do not lead to a state that shows it, the state after a run with them does not.
@@ -26,10 +28,11 @@ pub fn nowhere_runs()
         → Shows (scheduled h cs) q (ending (scheduled h cs)) → ⊥ }
 {}
 
-/// Under the rule `held` no choices lead to another database than that of the serial run: a search for one answers that there is none, or
-/// that it came to no end.
+/// Under the rule `held` no choices lead to another database than that of the serial run: a search for one answers that
+/// there is none, or that it came to no end.
 pub fn never_differs_under_held()
-    ensures { (h : History) (q : Sought) (cs : List AChoice) → IsReplay h → h.scenario.rule ≡ Held → q.wanted ≡ Differs → Finds h q cs → ⊥ }
+    ensures { (h : History) (q : Sought) (cs : List AChoice) → IsReplay h → h.scenario.rule ≡ Held → q.wanted ≡ Differs
+        → Finds h q cs → ⊥ }
 {
     // Proof: under `held` the serial run gives the same database.
     always_same();
@@ -37,5 +40,6 @@ pub fn never_differs_under_held()
 
 /// Where nothing comes of a choice the state is as it was: so what is stuck stays so, whatever is chosen.
 pub fn still_stays()
-    ensures { (sc : AScenario) (c : AChoice) (s : State) → is_still (step sc c s).outcome ≡ true → (step sc c s).after ≡ s }
+    ensures { (sc : AScenario) (c : AChoice) (s : State) → is_still (step sc c s).outcome ≡ true
+        → (step sc c s).after ≡ s }
 {}

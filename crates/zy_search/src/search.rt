@@ -214,8 +214,9 @@ fn plan_from(alloc: Global, machine: &Machine, sought: Sought, most: u32) -> Res
     })
 }
 
-/// Looks for a state that choices lead to from a machine's, and that shows what is looked for. It goes breadth first, so that no fewer
-/// choices lead there, and stops where it would come to more states than `most`. The watch learns how far it is.
+/// Looks for a state that choices lead to from a machine's, and that shows what is looked for. It goes breadth first,
+/// so that no fewer choices lead there, and stops where it would come to more states than `most`. The watch learns how
+/// far it is.
 pub fn search<W: Watch>(
     alloc: Global,
     start: &Machine,

@@ -1,4 +1,5 @@
-//! Machines where the last paths lead, so that most states are compared, and gone on from, without making all choices that lead there.
+//! Machines where the last paths lead, so that most states are compared, and gone on from, without making all choices
+//! that lead there.
 ghost use Rattle.std.specs.Prelude.{◌≡◌, ◌<◌, ℕ, List, [], IfOk, IfSome, OnOk, Some, true, length, slice_index_or};
 ghost use Rattle.zy_isa.specs.declared.choice.Choice.{Choice};
 ghost use Rattle.zy_machine.specs.Histories.{History};
@@ -76,7 +77,8 @@ impl Shelf {
     ) -> Result<bool, Fault>
         requires kept { IsKept plan.now visited.now self.old }
         requires at { at < length visited.now }
-        ensures known { IfOk result (λ b. b ≡ true → reached plan.now.start (path_at visited.now at) ≡ machine.now.state) }
+        ensures known { IfOk result (λ b. b ≡ true → reached plan.now.start (path_at visited.now at)
+            ≡ machine.now.state) }
         ensures shelf { OnOk result (IsShelf plan.now.start visited.now self.new) }
     {
         if let Some(i) = self.find(at) {
@@ -88,9 +90,12 @@ impl Shelf {
 
     /// Takes the machine where the path at a place leads, if there is one, and leaves another one there.
     pub(crate) fn take(&mut self, at: u32, machine: &mut Machine) -> bool
-        ensures here { (h : History) (ps : List (List Choice)) → IsShelf h ps self.old → result ≡ true → IsHere h ps at machine.new }
-        ensures scenario { (h : History) (ps : List (List Choice)) → IsShelf h ps self.old → machine.old.scenario ≡ h.scenario → machine.new.scenario ≡ h.scenario }
-        ensures shelf { (h : History) (ps : List (List Choice)) → IsShelf h ps self.old → machine.old.scenario ≡ h.scenario → IsShelf h ps self.new }
+        ensures here { (h : History) (ps : List (List Choice)) → IsShelf h ps self.old → result ≡ true
+            → IsHere h ps at machine.new }
+        ensures scenario { (h : History) (ps : List (List Choice)) → IsShelf h ps self.old
+            → machine.old.scenario ≡ h.scenario → machine.new.scenario ≡ h.scenario }
+        ensures shelf { (h : History) (ps : List (List Choice)) → IsShelf h ps self.old
+            → machine.old.scenario ≡ h.scenario → IsShelf h ps self.new }
     {
         let Some(i) = self.find(at) else {
             return false;
@@ -101,8 +106,8 @@ impl Shelf {
         true
     }
 
-    /// Puts the machine of the path at a place there, and takes another one of the scenario for it. It answers yes where that one is a copy
-    /// of `here`. A machine with a long history stays where it is.
+    /// Puts the machine of the path at a place there, and takes another one of the scenario for it. It answers yes
+    /// where that one is a copy of `here`. A machine with a long history stays where it is.
     pub(crate) fn put(
         &mut self,
         alloc: Global,
@@ -111,9 +116,11 @@ impl Shelf {
         here: &Machine,
     ) -> Result<bool, Fault>
         requires { machine.old.scenario ≡ here.now.scenario }
-        ensures scenario { OnOk result ((h : History) (ps : List (List Choice)) → IsShelf h ps self.old → machine.old.scenario ≡ h.scenario → machine.new.scenario ≡ h.scenario) }
+        ensures scenario { OnOk result ((h : History) (ps : List (List Choice)) → IsShelf h ps self.old
+            → machine.old.scenario ≡ h.scenario → machine.new.scenario ≡ h.scenario) }
         ensures back { IfOk result (λ b. b ≡ true → machine.new ≡ here.now) }
-        ensures shelf { OnOk result ((h : History) (ps : List (List Choice)) → IsShelf h ps self.old → at < length ps → IsHere h ps at machine.old → IsShelf h ps self.new) }
+        ensures shelf { OnOk result ((h : History) (ps : List (List Choice)) → IsShelf h ps self.old → at < length ps
+            → IsHere h ps at machine.old → IsShelf h ps self.new) }
     {
         if machine.len() > MOST_STEPS {
             return Ok(false);
@@ -133,7 +140,8 @@ impl Shelf {
 
     /// Adds the machine of the path at a place.
     fn add(&mut self, at: u32, machine: Machine) -> Result<(), Fault>
-        ensures { OnOk result ((h : History) (ps : List (List Choice)) → IsShelf h ps self.old → at < length ps → IsHere h ps at machine → IsShelf h ps self.new) }
+        ensures { OnOk result ((h : History) (ps : List (List Choice)) → IsShelf h ps self.old → at < length ps
+            → IsHere h ps at machine → IsShelf h ps self.new) }
     {
         self.spots.reserve(1)?;
         let spot = Spot {
@@ -144,10 +152,13 @@ impl Shelf {
         Ok(())
     }
 
-    /// Gives back the machine of the path at a place, for another one of the scenario, if the spot from which it was taken is still free.
+    /// Gives back the machine of the path at a place, for another one of the scenario, if the spot from which it was
+    /// taken is still free.
     pub(crate) fn give_back(&mut self, at: u32, machine: &mut Machine)
-        ensures scenario { (h : History) (ps : List (List Choice)) → IsShelf h ps self.old → machine.old.scenario ≡ h.scenario → machine.new.scenario ≡ h.scenario }
-        ensures shelf { (h : History) (ps : List (List Choice)) → IsShelf h ps self.old → at < length ps → IsHere h ps at machine.old → IsShelf h ps self.new }
+        ensures scenario { (h : History) (ps : List (List Choice)) → IsShelf h ps self.old
+            → machine.old.scenario ≡ h.scenario → machine.new.scenario ≡ h.scenario }
+        ensures shelf { (h : History) (ps : List (List Choice)) → IsShelf h ps self.old → at < length ps
+            → IsHere h ps at machine.old → IsShelf h ps self.new }
     {
         let i = self.spot_of(at);
         if i < self.spots.len() && self.spots[i].at.is_none() {

@@ -66,7 +66,8 @@ fn all_committed(machine: &Machine) -> bool
     true
 }
 
-/// Whether a machine's state shows what is looked for; these are the choices that are considered, and another machine to try them on.
+/// Whether a machine's state shows what is looked for; these are the choices that are considered, and another machine
+/// to try them on.
 pub(crate) fn shows(
     alloc: Global,
     sought: Sought,

@@ -64,7 +64,8 @@ fn stays(
     requires twin { IsTwin machine.now twin.old }
     requires named { names_below (length machine.now.scenario.programs) choice ≡ true }
     requires room { length machine.now.entries < 4096 }
-    ensures still { IfOk result (λ b. b ≡ search_stuck.is_still (table.step machine.now.scenario choice machine.now.state).outcome) }
+    ensures still { IfOk result (λ b. b ≡ search_stuck.is_still
+        (table.step machine.now.scenario choice machine.now.state).outcome) }
     ensures twin { IfOk result (λ b. b ≡ true → IsTwin machine.now twin.new) }
     ensures scenario { OnOk result (twin.new.scenario ≡ machine.now.scenario) }
 {
@@ -96,7 +97,8 @@ fn is_stuck_by(
     Ok(true)
 }
 
-/// Whether a transaction is active, and nothing comes of any choice that is considered. They are tried on another machine.
+/// Whether a transaction is active, and nothing comes of any choice that is considered. They are tried on another
+/// machine.
 pub(crate) fn is_stuck(
     alloc: Global,
     kills: bool,

@@ -1,5 +1,6 @@
 //! Paths, each of which goes on from an earlier one.
-ghost use Rattle.std.specs.Prelude.{◌≡◌, ◌<◌, ◌≤◌, ◌^◌, ◌++◌, ◌∷◌, [], IfOk, OnOk, OnErr, Some, length, slice_get, slice_index_or};
+ghost use Rattle.std.specs.Prelude.{◌≡◌, ◌<◌, ◌≤◌, ◌^◌, ◌++◌, ◌∷◌, [], IfOk, OnOk, OnErr, Some, length, slice_get};
+ghost use Rattle.std.specs.Prelude.{slice_index_or};
 
 use crate::branch::Branch;
 use std::alloc::{AllocError, Global};
@@ -45,7 +46,8 @@ impl Tree {
     /// A path more.
     pub fn push(&mut self, branch: Branch) -> Result<(), AllocError>
         requires { branch.from < length self.old }
-        ensures ok { OnOk result (self.new ≡ self.old ++ (slice_index_or self.old branch.from [] ++ branch.by ∷ []) ∷ []) }
+        ensures ok { OnOk result (self.new ≡ self.old ++ (slice_index_or self.old branch.from [] ++ branch.by ∷ [])
+            ∷ []) }
         ensures err { OnErr result (self.new ≡ self.old) }
     {
         self.branches.reserve(1)?;

@@ -55,7 +55,8 @@ impl Twin {
         requires named { names_below (length here.now.scenario.programs) choice ≡ true }
         ensures outcome { IfOk result (λ o. o ≡ (table.step here.now.scenario choice here.now.state).outcome) }
         ensures back { IfOk result (λ o. self.new.is_back ≡ spec.is_still o) }
-        ensures state { OnOk result (self.new.machine.state ≡ (table.step here.now.scenario choice here.now.state).after) }
+        ensures state { OnOk result (self.new.machine.state
+            ≡ (table.step here.now.scenario choice here.now.state).after) }
         ensures longer { OnOk result (length here.now.entries < length self.new.machine.entries) }
         ensures room { OnOk result (length self.new.machine.entries < 4096) }
         ensures second { OnOk result (IsSecond here.now self.new) }

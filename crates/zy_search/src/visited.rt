@@ -1,5 +1,6 @@
 //! The states that a search has come to.
-ghost use Rattle.std.specs.Prelude.{◌≡◌, ◌<◌, ◌≤◌, ◌-◌, ◌^◌, ◌++◌, ◌∷◌, [], IfOk, IfSome, OnOk, OnErr, length, slice_index_or};
+ghost use Rattle.std.specs.Prelude.{◌≡◌, ◌<◌, ◌≤◌, ◌-◌, ◌^◌, ◌++◌, ◌∷◌, [], IfOk, IfSome, OnOk, OnErr, length};
+ghost use Rattle.std.specs.Prelude.{slice_index_or};
 
 use crate::branch::Branch;
 use crate::tree::Tree;
@@ -86,7 +87,8 @@ impl Visited {
     pub fn push(&mut self, branch: Branch, digest: u64) -> Result<(), AllocError>
         requires from { branch.from < length self.old }
         requires room { length self.old < 2 ^ 32 }
-        ensures ok { OnOk result (self.new ≡ self.old ++ (slice_index_or self.old branch.from [] ++ branch.by ∷ []) ∷ []) }
+        ensures ok { OnOk result (self.new ≡ self.old ++ (slice_index_or self.old branch.from [] ++ branch.by ∷ [])
+            ∷ []) }
         ensures err { OnErr result (self.new ≡ self.old) }
     {
         let place = self.tree.len() as u32;

@@ -16,7 +16,8 @@ fn walk(visited: &Visited, at: u32, machine: &mut Machine) -> Result<(), Fault>
     requires named { AreNamed (length machine.old.scenario.programs) (path_at visited.now at) }
     requires room { length machine.old.entries + length_at visited.now at ≤ 4096 }
     ensures scenario { machine.new.scenario ≡ machine.old.scenario }
-    ensures state { OnOk result (machine.new.state ≡ play machine.old.scenario machine.old.state (path_at visited.now at)) }
+    ensures state { OnOk result (machine.new.state ≡ play machine.old.scenario machine.old.state
+        (path_at visited.now at)) }
     ensures entries { OnOk result (length machine.new.entries ≡ length machine.old.entries + length_at visited.now at) }
 {
     if at == 0 {
@@ -40,7 +41,8 @@ pub(crate) fn go_to(
     requires path { IsPath plan.now.start plan.now.sought (path_at visited.now at) }
     requires same { machine.old.scenario ≡ plan.now.start.scenario }
     ensures here { OnOk result (IsHere plan.now.start visited.now at machine.new) }
-    ensures entries { OnOk result (length machine.new.entries ≡ length plan.now.start.entries + length_at visited.now at) }
+    ensures entries { OnOk result (length machine.new.entries
+        ≡ length plan.now.start.entries + length_at visited.now at) }
 {
     machine.set_to(plan.alloc, &plan.start)?;
     walk(visited, at, machine)

@@ -14,18 +14,22 @@ there-locked : (t k p : ℕ) (kind : LockKind) (s : View) → (let z = locked t 
 unfolding locked txn_at
 there-locked t k p kind s = refl
 
-pub write-missing : (t k v p : ℕ) (kind : LockKind) (s : View) → is_there k p s.me (txn_at s t) ≡ false → write_step t k v p (locked t p kind s) ≡ abort_step t Missing s
+pub write-missing : (t k v p : ℕ) (kind : LockKind) (s : View) → is_there k p s.me (txn_at s t) ≡ false
+    → write_step t k v p (locked t p kind s) ≡ abort_step t Missing s
 unfolding write_step abort_step
 write-missing t k v p kind s e = rw (there-locked t k p kind s ∙ e, aborted-locked t p kind Missing s) refl
 
-pub insert-duplicate : (sc : Scenario) (t k v p : ℕ) (kind : LockKind) (s : View) → is_there k p s.me (txn_at s t) ≡ true → insert_step sc t k v p (locked t p kind s) ≡ abort_step t Duplicate s
+pub insert-duplicate : (sc : Scenario) (t k v p : ℕ) (kind : LockKind) (s : View) → is_there k p s.me (txn_at s t) ≡ true
+    → insert_step sc t k v p (locked t p kind s) ≡ abort_step t Duplicate s
 unfolding insert_step abort_step
 insert-duplicate sc t k v p kind s e = rw (there-locked t k p kind s ∙ e, aborted-locked t p kind Duplicate s) refl
 
-pub full-frozen : (sc : Scenario) (t k p : ℕ) (kind : LockKind) (s : View) → may_split s.me.mode ≡ false → full_step sc t k p (locked t p kind s) ≡ abort_step t (Frozen p) s
+pub full-frozen : (sc : Scenario) (t k p : ℕ) (kind : LockKind) (s : View) → may_split s.me.mode ≡ false
+    → full_step sc t k p (locked t p kind s) ≡ abort_step t (Frozen p) s
 unfolding full_step abort_step locked
 full-frozen sc t k p kind s e = rw e (ap (abort_step t (Frozen p)) refl ∙ rw (aborted-locked t p kind (Frozen p) s) refl)
 
-pub full-no_page : (sc : Scenario) (t k p : ℕ) (kind : LockKind) (s : View) → may_split s.me.mode ≡ true → nat_le sc.pages (length s.me.lows) ≡ true → full_step sc t k p (locked t p kind s) ≡ abort_step t NoPage s
+pub full-no_page : (sc : Scenario) (t k p : ℕ) (kind : LockKind) (s : View) → may_split s.me.mode ≡ true → nat_le sc.pages (length s.me.lows) ≡ true
+    → full_step sc t k p (locked t p kind s) ≡ abort_step t NoPage s
 unfolding full_step abort_step locked
 full-no_page sc t k p kind s normal none = rw (normal, none) (rw (aborted-locked t p kind NoPage s) refl)

@@ -32,12 +32,14 @@ under_rest x xs n all q own = all q (or_right _ _ own)
 -- a number below a rising list
 owns_under : (low q : ℕ) (xs : List Leaf) → NumbersRise low (numbers xs) → q < low → owns xs q ≡ false
 owns_under low q [] h lt = refl
-owns_under low q (x ∷ xs) h lt = let first = h.0 in rw (ne_eqb x.number q (λ e. absurd (omega (arith, first, e)))) (owns_under (x.number + 1) q xs h.1 (omega (arith, first)))
+owns_under low q (x ∷ xs) h lt = let first = h.0 in rw (ne_eqb x.number q (λ e. absurd (omega (arith, first, e))))
+    (owns_under (x.number + 1) q xs h.1 (omega (arith, first)))
 
 -- the first of a rising list is none of those behind it
 all_from-rest : (x : Leaf) (xs : List Leaf) (low k : ℕ) → x.number < low → all_from (x ∷ xs) low k ≡ all_from xs low k
 all_from-rest x xs low zero lt = refl
-all_from-rest x xs low (suc k) lt = rw (ne_eqb x.number low (λ e. absurd (omega (arith, e)))) (ap (λ b. owns xs low && b) (all_from-rest x xs (suc low) k (omega arith)))
+all_from-rest x xs low (suc k) lt = rw (ne_eqb x.number low (λ e. absurd (omega (arith, e))))
+    (ap (λ b. owns xs low && b) (all_from-rest x xs (suc low) k (omega arith)))
 
 -- as many numbers as lie between two
 few_between : (low k : ℕ) (xs : List Leaf) → NumbersRise low (numbers xs) → AllBelow xs (low + k) → length xs ≤ k
@@ -62,7 +64,12 @@ all_from-count low (suc k) (x ∷ xs) h all =
           (all_from-count (suc low) k xs behind (λ q own. let last = under_rest x xs (low + suc k) all q own in omega (arith, last)))
       | inr ne ↦
           let few = few_between (suc low) k (x ∷ xs) (omega (arith, first, ne), h.1) (λ q own. let last = all q own in omega (arith, last)) in
-          rw (ne_eqb x.number low ne, owns_under (x.number + 1) low xs h.1 (omega (arith, first)), eqb-suc-suc (length xs) k, ne_eqb (length xs) k (λ e. absurd (omega (arith, few, e)))) refl
+          rw (
+            ne_eqb x.number low ne,
+            owns_under (x.number + 1) low xs h.1 (omega (arith, first)),
+            eqb-suc-suc (length xs) k,
+            ne_eqb (length xs) k (λ e. absurd (omega (arith, few, e))),
+          ) refl
     ]
 
 exchange : (a b c : Bool) → (a && (b && c)) ≡ (b && (a && c))
@@ -74,7 +81,8 @@ exchange false false c = refl
 all_from-last : (xs : List Leaf) (low k : ℕ) → all_from xs low (suc k) ≡ (owns xs (low + k) && all_from xs low k)
 all_from-last xs low zero = rw (add-zero low) refl
 all_from-last xs low (suc k) =
-    ap (λ b. owns xs low && b) (all_from-last xs (suc low) k) ∙ (exchange (owns xs low) (owns xs (suc low + k)) (all_from xs (suc low) k) ∙ ap (λ n. owns xs n && (owns xs low && all_from xs (suc low) k)) (omega arith))
+    ap (λ b. owns xs low && b) (all_from-last xs (suc low) k) ∙ (exchange (owns xs low) (owns xs (suc low + k)) (all_from xs (suc low) k)
+    ∙ ap (λ n. owns xs n && (owns xs low && all_from xs (suc low) k)) (omega arith))
 
 all_below-from : (xs : List Leaf) (n : ℕ) → all_below xs n ≡ all_from xs 0 n
 all_below-from xs zero = refl
@@ -82,13 +90,19 @@ all_below-from xs (suc n) = ap (λ b. owns xs n && b) (all_below-from xs n) ∙ 
 
 -- pages that rise and have numbers of the wireframe
 pub all_here-count : (x : NodeState) → IsNamed x → NumbersRise 0 (numbers x.pages) → (length x.pages == length x.lows) ≡ all_here x
-all_here-count x named rise = sym (all_below-from x.pages (length x.lows) ∙ all_from-count 0 (length x.lows) x.pages rise (λ q own. let lt = named q own in omega (arith, lt)))
+all_here-count x named rise = sym (all_below-from x.pages (length x.lows)
+    ∙ all_from-count 0 (length x.lows) x.pages rise (λ q own. let lt = named q own in omega (arith, lt)))
 
 -- the same with a page that comes
-pub all_here-arrived : (x : NodeState) (leaf : Leaf) → IsNamed x → IsNew (Page leaf) x → NumbersRise 0 (numbers x.pages) → (length x.pages + 1 == length x.lows) ≡ all_here (with_arrived leaf x)
+pub all_here-arrived : (x : NodeState) (leaf : Leaf) → IsNamed x → IsNew (Page leaf) x → NumbersRise 0 (numbers x.pages)
+    → (length x.pages + 1 == length x.lows) ≡ all_here (with_arrived leaf x)
 all_here-arrived x leaf named new rise =
     let absent = owns-page_in leaf.number x.pages ∙ ap is_some new.1 in
     ap (λ n. n == length x.lows) (sym (length-with_page leaf x.pages))
     ∙ all_here-count (with_arrived leaf x)
-    (λ q own. elim (or_cases (leaf.number == q) (owns x.pages q) (sym (owns-with_page q leaf x.pages) ∙ own)) [ inl e ↦ subst (λ p. p < length x.lows) (eqb-true _ _ e) new.0 | inr e ↦ named q e ])
+    (λ q own. elim (or_cases (leaf.number == q) (owns x.pages q) (sym (owns-with_page q leaf x.pages) ∙ own)) [
+      | inl e ↦
+          subst (λ p. p < length x.lows) (eqb-true _ _ e) new.0
+      | inr e ↦ named q e
+    ])
     (numbers-with_page 0 leaf x.pages (omega arith) absent rise)

@@ -39,7 +39,8 @@ alone_there : (xs : List Lock) (p q t : ℕ) → ((u : ℕ) → holds xs q u ≡
 alone_there xs p q t free = conflict_none (add_lock p t Exclusive xs) q t Exclusive (λ u far h.
     elim (holds-add p t Exclusive xs q u h) [ inl old ↦ false≢true (sym (free u) ∙ old) | inr new ↦ far (sym new.1) ])
 
-pub cuttable : (sc : Scenario) (t k p at b : ℕ) (x : NodeStore) (book : Ledger) → IsFull sc t k p at x book → may_split x.mode ≡ true → length (lows_in x.wire) < sc.pages → b ≡ boundary sc k p (node_shown x) (txn_in t book) → IsCuttable t p b (node_shown x)
+pub cuttable : (sc : Scenario) (t k p at b : ℕ) (x : NodeStore) (book : Ledger) → IsFull sc t k p at x book → may_split x.mode ≡ true
+    → length (lows_in x.wire) < sc.pages → b ≡ boundary sc k p (node_shown x) (txn_in t book) → IsCuttable t p b (node_shown x)
 cuttable sc t k p at b x book f normal more is =
     let lows = lows_in x.wire in
     let v = node_shown x in
@@ -48,7 +49,9 @@ cuttable sc t k p at b x book f normal more is =
       free = f.free.free;
       alone = alone_there x.locks.locks p (length lows) t (f.splits.unheld normal);
       few = let most = f.splits.pages in omega (arith, most, more);
-      other = subst (λ z. Contains lows z → ⊥) (sym is) (subst (λ z. Contains lows (boundary sc k z v y) → ⊥) (sym f.on) (f.splits.other k (subst (λ z. is_there k z v y ≡ false) f.on f.new) (subst (λ z. has_room sc z v y ≡ false) f.on f.full)));
+      other =
+          subst (λ z. Contains lows z → ⊥) (sym is) (subst (λ z. Contains lows (boundary sc k z v y) → ⊥) (sym f.on)
+          (f.splits.other k (subst (λ z. is_there k z v y ≡ false) f.on f.new) (subst (λ z. has_room sc z v y ≡ false) f.on f.full)));
       absent = f.splits.absent normal;
       owned = f.owned;
     }
@@ -60,5 +63,6 @@ has_page [] k p pages on absent owned = absurd (false≢true (sym (owns-page_in 
 has_page (low ∷ lows) k p pages on absent owned = omega arith
 
 -- so its wireframe can grow
-pub growable : (sc : Scenario) (t k p at : ℕ) (x : NodeStore) (book : Ledger) → IsFull sc t k p at x book → may_split x.mode ≡ true → length (lows_in x.wire) < sc.pages → length (lows_in x.wire) < limit_or 0 x.wire
+pub growable : (sc : Scenario) (t k p at : ℕ) (x : NodeStore) (book : Ledger) → IsFull sc t k p at x book → may_split x.mode ≡ true
+    → length (lows_in x.wire) < sc.pages → length (lows_in x.wire) < limit_or 0 x.wire
 growable sc t k p at x book f normal more = limit_left sc.pages x f.limited (has_page (lows_in x.wire) k p x.pages f.on (f.splits.absent normal) f.owned) more

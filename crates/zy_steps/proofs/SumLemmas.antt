@@ -19,9 +19,11 @@ use Rattle.zy_table.proofs.RowSums.{own_apart, range_split, total_append, total_
 abbrev pub committed_at : Txn → NodeState → ℕ → ℕ
 committed_at x n k = value_beside x.rows (rows_of n.pages (page_of n.lows k)) k
 
-pub sum_apart : (x : Txn) (n : NodeState) (a b : ℕ) → total (value_for x n) (range a b) ≡ total (value_beside [] x.rows) (range a b) + total (committed_at x n) (range a b)
+pub sum_apart : (x : Txn) (n : NodeState) (a b : ℕ) → total (value_for x n) (range a b)
+    ≡ total (value_beside [] x.rows) (range a b) + total (committed_at x n) (range a b)
 sum_apart x n a b =
-    total_same (value_for x n) (λ k. value_beside [] x.rows k + committed_at x n k) (range a b) (λ k _. own_apart (get_row x.rows k) (get_row (rows_of n.pages (page_of n.lows k)) k))
+    total_same (value_for x n) (λ k. value_beside [] x.rows k + committed_at x n k) (range a b)
+    (λ k _. own_apart (get_row x.rows k) (get_row (rows_of n.pages (page_of n.lows k)) k))
     ∙ total_plus (value_beside [] x.rows) (committed_at x n) (range a b)
 
 -- the keys up to the next low key lie on one page
@@ -32,7 +34,8 @@ on_page_before lows a b e k is le from to =
       | inr one ↦
           let low : get_or lows one.0 0 ≤ k = one.3 in
           let there = has-within a b lows one.0 one.1 one.2 (omega (arith, low, to, le)) in
-          elim (or_cases (e == get_or lows one.0 0) (has (lows_within e b lows) (get_or lows one.0 0)) (subst (λ ks. has ks (get_or lows one.0 0) ≡ true) is there)) [
+          elim (or_cases (e == get_or lows one.0 0) (has (lows_within e b lows) (get_or lows one.0 0))
+          (subst (λ ks. has ks (get_or lows one.0 0) ≡ true) is there)) [
             | inl first ↦ (let same = eqb-true _ _ first in absurd (omega (arith, same, low, to)))
             | inr rest ↦ (let up = above e b lows (get_or lows one.0 0) rest in absurd (omega (arith, up, low, to)))
           ]

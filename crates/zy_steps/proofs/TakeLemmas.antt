@@ -48,5 +48,6 @@ message-brings sc (Page leaf) s r e = refl
 message-brings sc Finish s r e = refl
 message-brings sc Done s r e = refl
 
-pub take-brings : (sc : Scenario) (m : Message) (line : MessageLine) (v : View) → is_pull m ≡ false → Stands m line v.me v.inbox → take_step sc v ≡ got_step line m v (rest v)
+pub take-brings : (sc : Scenario) (m : Message) (line : MessageLine) (v : View) → is_pull m ≡ false → Stands m line v.me v.inbox
+    → take_step sc v ≡ got_step line m v (rest v)
 take-brings sc m line v e h = take-message sc m v h.front ∙ (message-brings sc m v (rest v) e ∙ ap (λ l. got_step l m v (rest v)) (sym h.is_line))

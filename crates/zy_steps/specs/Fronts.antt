@@ -19,7 +19,7 @@ meets x inbox v = with_node x (record v { inbox = inbox.messages })
 
 -- a call on a node and the link to it made a line, whatever the rest of the state
 abbrev pub Takes : {E : Type 0} → NodeStore → Mail → NodeStore → Mail → Result Answer E → (View → Move) → Type 0
-Takes x i x1 i1 result row = (v : View) → Makes (meets x i v) (meets x1 i1 v) result (row (meets x i v))
+Takes x i x1 i1 result step = (v : View) → Makes (meets x i v) (meets x1 i1 v) result (step (meets x i v))
 
 -- a view without the message at the front
 abbrev pub rest : View → View

@@ -33,13 +33,16 @@ IsUncut sc x = (may_split x.mode ≡ false) ⊎ (sc.pages ≤ length (lows_in x.
 -- page p is free for t's access to k: t's lock on p has a place, and a row goes over a private one; or t aborts
 abbrev pub AccessNeedsNone : Scenario → ℕ → Access → ℕ → ℕ → NodeStore → Txn → Type 0
 AccessNeedsNone sc t (Reads r) k p x y = HasPlaces (p ∷ []) t x.locks
-AccessNeedsNone sc t (Writes v) k p x y = (is_there k p (node_shown x) y ≡ false) ⊎ (HasPlaces (p ∷ []) t x.locks × IsSome (get_row y.rows k))
-AccessNeedsNone sc t (Inserts v) k p x y = (is_there k p (node_shown x) y ≡ true) ⊎ ((has_room sc p (node_shown x) y ≡ false) × IsUncut sc x)
+AccessNeedsNone sc t (Writes v) k p x y = (is_there k p (node_shown x) y ≡ false)
+    ⊎ (HasPlaces (p ∷ []) t x.locks × IsSome (get_row y.rows k))
+AccessNeedsNone sc t (Inserts v) k p x y = (is_there k p (node_shown x) y ≡ true)
+    ⊎ ((has_room sc p (node_shown x) y ≡ false) × IsUncut sc x)
 
 -- t's access to k on page p; where another's lock is in the way t waits
 pub record PageNeedsNone (sc : Scenario) (t : ℕ) (access : Access) (k p : ℕ) (x : NodeStore) (b : Ledger) : Type 0 where
   pub absent : owns x.pages p ≡ false → AbsentNeedsNone p x
-  pub free : owns x.pages p ≡ true → conflict x.locks.locks p t (lock_of access) ≡ false → AccessNeedsNone sc t access k p x (txn_in t b)
+  pub free : owns x.pages p ≡ true → conflict x.locks.locks p t (lock_of access) ≡ false
+      → AccessNeedsNone sc t access k p x (txn_in t b)
 
 -- t's access to k, if that is a key
 abbrev pub KeyNeedsNone : Scenario → ℕ → Access → ℕ → NodeStore → Ledger → Type 0
@@ -48,7 +51,8 @@ KeyNeedsNone sc t access k x b = k ≤ 65535 → PageNeedsNone sc t access k (pa
 -- t's sum over the keys from a to b: t's locks on their pages have places
 pub record PagesNeedNone (t a b : ℕ) (x : NodeStore) : Type 0 where
   pub absent : IfSome (first_absent x.pages (range_pages (lows_in x.wire) a b)) (λ p. AbsentNeedsNone p x)
-  pub free : first_taken x.locks.locks t (range_pages (lows_in x.wire) a b) ≡ None → HasPlaces (range_pages (lows_in x.wire) a b) t x.locks
+  pub free : first_taken x.locks.locks t (range_pages (lows_in x.wire) a b) ≡ None
+      → HasPlaces (range_pages (lows_in x.wire) a b) t x.locks
 
 -- the same, if these are keys
 abbrev pub SumNeedsNone : ℕ → ℕ → ℕ → NodeStore → Type 0

@@ -13,4 +13,4 @@ here x b v = with_node x (with_book b v)
 
 -- a call on a node and the book made a line, whatever the rest of the state
 abbrev pub Runs : {E : Type 0} → NodeStore → Ledger → NodeStore → Ledger → Result Answer E → (View → Move) → Type 0
-Runs x b x1 b1 result row = (v : View) → Makes (here x b v) (here x1 b1 v) result (row (here x b v))
+Runs x b x1 b1 result step = (v : View) → Makes (here x b v) (here x1 b1 v) result (step (here x b v))

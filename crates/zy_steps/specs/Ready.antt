@@ -27,7 +27,8 @@ pub record MaySplit (sc : Scenario) (x : NodeState) (y : Txn) : Type 0 where
   pub pages : sc.pages ≤ 512
   pub absent : may_split x.mode ≡ true → page_in (length x.lows) x.pages ≡ None
   pub unheld : may_split x.mode ≡ true → (u : ℕ) → holds x.locks (length x.lows) u ≡ false
-  pub other : (k : ℕ) → let p = page_of x.lows k in is_there k p x y ≡ false → has_room sc p x y ≡ false → Contains x.lows (boundary sc k p x y) → ⊥
+  pub other : (k : ℕ) → let p = page_of x.lows k in is_there k p x y ≡ false → has_room sc p x y ≡ false
+      → Contains x.lows (boundary sc k p x y) → ⊥
 
 -- an insert of t finds k's page p full and free for it, with at the place of the lock
 pub record IsFull (sc : Scenario) (t k p at : ℕ) (x : NodeStore) (b : Ledger) : Type 0 where

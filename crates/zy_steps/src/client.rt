@@ -10,13 +10,13 @@ ghost use Rattle.zy_steps.specs.Parts.{here};
 ghost use Rattle.zy_table.specs.Answers.{move_of, Makes};
 ghost use Rattle.zy_steps.specs.Sides.{beside};
 
+use crate::run::abort_step;
 use std::alloc::{AllocError, Global};
 use zy_links::{Kind, Message};
 use zy_modes::NodeMode;
 use zy_modes::table::home_of;
 use zy_node::NodeStore;
 use zy_node::wireframe::copy;
-use crate::run::abort_step;
 use zy_table::{Answer, Outcome, Why};
 use zy_txns::Book;
 
@@ -25,7 +25,8 @@ use zy_txns::Book;
 pub fn start_step(alloc: Global, me: &mut NodeStore, them: &NodeStore) -> Result<Answer, AllocError>
     requires some { may_start me.old.mode them.now.mode ≡ true → 0 < length (lows_in me.old.wire) }
     requires limited { IsLimited me.old.outbox.pages me.old }
-    ensures line { (v : View) → Makes (beside me.old them.now v) (beside me.new them.now v) result (client.start_step (beside me.old them.now v)) }
+    ensures line { (v : View) → Makes (beside me.old them.now v) (beside me.new them.now v) result
+        (client.start_step (beside me.old them.now v)) }
     ensures limits { limits_of me.new ≡ limits_of me.old }
 {
     if !me.mode.may_start(them.mode) {
@@ -44,7 +45,8 @@ pub fn start_step(alloc: Global, me: &mut NodeStore, them: &NodeStore) -> Result
 #[tactic(auto, unfolding(zy_table::specs::Client::begin_step, zy_table::specs::Client::begin_at, zy_table::specs::Change::begun, zy_table::specs::Change::txn_at))]
 pub fn begin_step(me: &NodeStore, them: &NodeStore, book: &mut Book, t: u8) -> Answer
     requires { t < length book.old.txns }
-    ensures { (v : View) → move_of result (beside me.now them.now (with_book book.new v)) ≡ client.begin_step t (beside me.now them.now (with_book book.old v)) }
+    ensures { (v : View) → move_of result (beside me.now them.now (with_book book.new v))
+        ≡ client.begin_step t (beside me.now them.now (with_book book.old v)) }
 {
     if !book.txn(t).is_new() {
         return Answer::quiet(Outcome::Idle);

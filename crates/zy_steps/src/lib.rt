@@ -1,4 +1,5 @@
-//! The lines of the step table, each on the parts that it works on: one node, the book of transactions, the link to the node.
+//! The lines of the step table, each on the parts that it works on: one node, the book of transactions, the link to the
+//! node.
 #![tactic(auto)]
 
 pub mod client;
@@ -6,5 +7,3 @@ pub mod push;
 pub mod run;
 mod sum;
 pub mod take;
-
-

@@ -12,8 +12,8 @@ use crate::take::leave;
 use std::alloc::AllocError;
 use zy_isa::Node;
 use zy_links::{Kind, Message};
-use zy_modes::{FinishLine, NodeMode};
 use zy_modes::table::on_finish;
+use zy_modes::{FinishLine, NodeMode};
 use zy_node::NodeStore;
 use zy_table::{Answer, Outcome};
 use zy_txns::Book;
@@ -21,7 +21,8 @@ use zy_txns::Book;
 /// `n push`.
 #[tactic(auto, unfolding(zy_table::specs::Push::push_step, zy_table::specs::Push::push_if, zy_table::specs::Change::leaves))]
 pub fn push_step(me: &mut NodeStore) -> Result<Answer, AllocError>
-    ensures line { (v : View) → Makes (with_node me.old v) (with_node me.new v) result (push.push_step (with_node me.old v)) }
+    ensures line { (v : View) → Makes (with_node me.old v) (with_node me.new v) result
+        (push.push_step (with_node me.old v)) }
     ensures limits { limits_of me.new ≡ limits_of me.old }
 {
     if !me.mode.may_push() {
@@ -50,7 +51,8 @@ fn finish(me: &mut NodeStore)
 #[tactic(auto, unfolding(zy_table::specs::Push::finish_step, zy_table::specs::Push::finish_if))]
 pub fn finish_step(n: Node, me: &mut NodeStore, book: &Book) -> Result<Answer, AllocError>
     requires { length book.now.txns ≤ 64 }
-    ensures line { (v : View) → Makes (here me.old book.now v) (here me.new book.now v) result (push.finish_step n (here me.old book.now v)) }
+    ensures line { (v : View) → Makes (here me.old book.now v) (here me.new book.now v) result
+        (push.finish_step n (here me.old book.now v)) }
     ensures limits { limits_of me.new ≡ limits_of me.old }
 {
     let lowest = book.lowest_active(n);

@@ -1,5 +1,7 @@
-//! `n run t`, line by line: each function is the line of its name, on the node and the book, whatever the rest of the state.
-ghost use Rattle.std.specs.Prelude.{◌≡◌, ◌<◌, ◌≤◌, ◌⊎◌, ◌∷◌, [], None, Ok, Some, IfOk, IsOk, IsSome, length, slice_get, unwrap_or, if◌then◌else◌, true, false};
+//! `n run t`, line by line: each function is the line of its name, on the node and the book, whatever the rest of the
+//! state.
+ghost use Rattle.std.specs.Prelude.{◌≡◌, ◌<◌, ◌≤◌, ◌⊎◌, ◌∷◌, [], None, Ok, Some, IfOk, IsOk, IsSome, length, slice_get};
+ghost use Rattle.std.specs.Prelude.{unwrap_or, if◌then◌else◌, true, false};
 ghost use Rattle.zy_isa.specs.Rows.{get_row};
 ghost use Rattle.zy_locks.specs.LockTable.{HasPlaces};
 ghost use Rattle.zy_locks.specs.declared.lock.LockKind.TheVariants.{Shared, Exclusive};
@@ -16,7 +18,8 @@ ghost use Rattle.zy_node.specs.Wireframes.{lows_in};
 ghost use Rattle.zy_txns.specs.Books.{txn_in, with_book, Countable};
 ghost use Rattle.zy_steps.specs.Parts.{here, Runs};
 ghost use Rattle.zy_table.specs.Answers.{move_of};
-ghost use Rattle.zy_steps.specs.Memory.{AbsentNeedsNone, EffectNeedsNone, InstrNeedsNone, IsUncut, KeyNeedsNone, PageNeedsNone, PagesNeedNone, RunNeedsNone, SumNeedsNone};
+ghost use Rattle.zy_steps.specs.Memory.{AbsentNeedsNone, EffectNeedsNone, InstrNeedsNone, IsUncut, KeyNeedsNone};
+ghost use Rattle.zy_steps.specs.Memory.{PageNeedsNone, PagesNeedNone, RunNeedsNone, SumNeedsNone};
 ghost use Rattle.zy_steps.specs.Ready.{IsFull, IsReady, MaySplit, Rooms};
 
 use crate::sum::sum;
@@ -27,8 +30,8 @@ use zy_locks::LockKind;
 use zy_node::NodeStore;
 use zy_node::node_store::{fewer_new_rows, gone_page};
 use zy_node::wireframe::{page_count, page_of};
-use zy_table::{Access, Answer, Effect, Outcome, Why};
 use zy_table::effect::effect_of;
+use zy_table::{Access, Answer, Effect, Outcome, Why};
 use zy_txns::{Book, Txn};
 
 /// The lines of a node's run.
@@ -76,7 +79,8 @@ fn instr_step(
     requires room { Rooms t me.old book.old }
     requires splits { MaySplit scenario.now (node_shown me.old) (txn_in t book.old) }
     requires limited { IsLimited scenario.now.pages me.old }
-    ensures line { Runs me.old book.old me.new book.new result (λ v. table.instr_step scenario.now t (Some instr) (txn_at v t).regs v) }
+    ensures line { Runs me.old book.old me.new book.new result
+        (λ v. table.instr_step scenario.now t (Some instr) (txn_at v t).regs v) }
     ensures memory { InstrNeedsNone scenario.now t instr (txn_in t book.old).regs me.old book.old → IsOk result }
     ensures limits { limits_of me.new ≡ limits_of me.old }
 {
@@ -118,7 +122,8 @@ fn effect_step(
 #[tactic(auto, unfolding(zy_table::specs::Run::abort_step, zy_table::specs::Change::aborted, zy_table::specs::Change::txn_at))]
 pub fn abort_step(me: &mut NodeStore, book: &mut Book, t: u8, why: Why) -> Answer
     requires { t < length book.old.txns }
-    ensures line { (v : View) → move_of result (here me.new book.new v) ≡ table.abort_step t why (here me.old book.old v) }
+    ensures line { (v : View) → move_of result (here me.new book.new v)
+        ≡ table.abort_step t why (here me.old book.old v) }
     ensures limits { limits_of me.new ≡ limits_of me.old }
 {
     me.release(t);
@@ -140,7 +145,8 @@ fn set_step(book: &mut Book, t: u8, r: Reg, value: u32) -> Answer
 #[tactic(auto, unfolding(zy_table::specs::Run::jump_step, zy_table::specs::Change::did, zy_table::specs::Change::txn_at))]
 fn jump_step(book: &mut Book, t: u8, taken: bool, target: u32) -> Answer
     requires { Countable t book.old }
-    ensures { (v : View) → move_of result (with_book book.new v) ≡ table.jump_step t taken target (with_book book.old v) }
+    ensures { (v : View) → move_of result (with_book book.new v)
+        ≡ table.jump_step t taken target (with_book book.old v) }
 {
     let next = book.txn(t).pc() + 1;
     book.go_to(t, pc_after(taken, target, next));
@@ -237,7 +243,8 @@ fn sum_or_asks(
     requires slots { scenario.now.pages ≤ 512 }
     requires limited { IsLimited scenario.now.pages me.old }
     requires rises { first ≤ last }
-    ensures line { Runs me.old book.old me.new book.new result (λ v. table.sum_or_asks t r first last (first_absent v.me.pages (range_pages v.me.lows first last)) v) }
+    ensures line { Runs me.old book.old me.new book.new result
+        (λ v. table.sum_or_asks t r first last (first_absent v.me.pages (range_pages v.me.lows first last)) v) }
     ensures memory { PagesNeedNone t first last me.old → IsOk result }
     ensures limits { limits_of me.new ≡ limits_of me.old }
 {
@@ -259,8 +266,10 @@ fn sum_or_waits(
 ) -> Result<Answer, AllocError>
     requires counts { Countable t book.old }
     requires rises { first ≤ last }
-    ensures line { Runs me.old book.old me.new book.new result (λ v. table.sum_or_waits t r first last (first_taken v.me.locks t (range_pages v.me.lows first last)) v) }
-    ensures memory { let ps = range_pages (lows_in me.old.wire) first last in (first_taken me.old.locks.locks t ps ≡ None → HasPlaces ps t me.old.locks) → IsOk result }
+    ensures line { Runs me.old book.old me.new book.new result
+        (λ v. table.sum_or_waits t r first last (first_taken v.me.locks t (range_pages v.me.lows first last)) v) }
+    ensures memory { let ps = range_pages (lows_in me.old.wire) first last in
+        (first_taken me.old.locks.locks t ps ≡ None → HasPlaces ps t me.old.locks) → IsOk result }
     ensures limits { limits_of me.new ≡ limits_of me.old }
 {
     if let Some(p) = me.taken_page(t, first, last) {
@@ -277,7 +286,9 @@ fn sum_step(me: &mut NodeStore, book: &mut Book, t: u8, r: Reg, first: u16, last
     requires rises { first ≤ last }
     requires free { first_taken me.old.locks.locks t (range_pages (lows_in me.old.wire) first last) ≡ None }
     requires room { HasPlaces (range_pages (lows_in me.old.wire) first last) t me.old.locks }
-    ensures line { (v : View) → move_of result (here me.new book.new v) ≡ table.sum_step t r first last (shares t (range_pages (lows_in me.old.wire) first last) (here me.old book.old v)) }
+    ensures line { (v : View) → move_of result (here me.new book.new v)
+        ≡ table.sum_step t r first last (shares t (range_pages (lows_in me.old.wire) first last)
+        (here me.old book.old v)) }
     ensures limits { limits_of me.new ≡ limits_of me.old }
 {
     let sum = sum(me, book.txn(t), first, last);
@@ -343,8 +354,10 @@ fn write_step(
 ) -> Result<Answer, AllocError>
     requires counts { Countable t book.old }
     requires free { IsFree at p t Exclusive me.old }
-    ensures line { Runs me.old book.old me.new book.new result (λ v. table.write_step t key value p (locked t p Exclusive v)) }
-    ensures memory { let y = txn_in t book.old in (table.is_there key p (node_shown me.old) y ≡ false) ⊎ (HasPlaces (p ∷ []) t me.old.locks × IsSome (get_row y.rows key)) → IsOk result }
+    ensures line { Runs me.old book.old me.new book.new result
+        (λ v. table.write_step t key value p (locked t p Exclusive v)) }
+    ensures memory { let y = txn_in t book.old in (table.is_there key p (node_shown me.old) y ≡ false)
+        ⊎ (HasPlaces (p ∷ []) t me.old.locks × IsSome (get_row y.rows key)) → IsOk result }
     ensures limits { limits_of me.new ≡ limits_of me.old }
 {
     if !is_there(me, book.txn(t), key, p) {
@@ -375,8 +388,10 @@ fn insert_step(
     requires on { p ≡ wire_wireframe.page_of (lows_in me.old.wire) key }
     requires free { IsFree at p t Exclusive me.old }
     requires owned { owns me.old.pages p ≡ true }
-    ensures line { Runs me.old book.old me.new book.new result (λ v. table.insert_step scenario.now t key value p (locked t p Exclusive v)) }
-    ensures memory { let y = txn_in t book.old in (table.is_there key p (node_shown me.old) y ≡ true) ⊎ ((table.has_room scenario.now p (node_shown me.old) y ≡ false) × IsUncut scenario.now me.old) → IsOk result }
+    ensures line { Runs me.old book.old me.new book.new result
+        (λ v. table.insert_step scenario.now t key value p (locked t p Exclusive v)) }
+    ensures memory { let y = txn_in t book.old in (table.is_there key p (node_shown me.old) y ≡ true)
+        ⊎ ((table.has_room scenario.now p (node_shown me.old) y ≡ false) × IsUncut scenario.now me.old) → IsOk result }
     ensures limits { limits_of me.new ≡ limits_of me.old }
 {
     if is_there(me, book.txn(t), key, p) {
@@ -404,7 +419,8 @@ fn full_step(
     at: usize,
 ) -> Result<Answer, AllocError>
     requires { IsFull scenario.now t key p at me.old book.old }
-    ensures line { Runs me.old book.old me.new book.new result (λ v. table.full_step scenario.now t key p (locked t p Exclusive v)) }
+    ensures line { Runs me.old book.old me.new book.new result
+        (λ v. table.full_step scenario.now t key p (locked t p Exclusive v)) }
     ensures memory { IsUncut scenario.now me.old → IsOk result }
     ensures limits { limits_of me.new ≡ limits_of me.old }
 {
@@ -431,7 +447,8 @@ fn split_step(
     requires full { IsFull scenario.now t key p at me.old book.now }
     requires normal { may_split me.old.mode ≡ true }
     requires more { length (lows_in me.old.wire) < scenario.now.pages }
-    ensures line { Runs me.old book.now me.new book.now result (λ v. table.split_step scenario.now t key p (locked t p Exclusive v)) }
+    ensures line { Runs me.old book.now me.new book.now result
+        (λ v. table.split_step scenario.now t key p (locked t p Exclusive v)) }
     ensures limits { limits_of me.new ≡ limits_of me.old }
 {
     let new_page = page_count(&me.wire) as u16;

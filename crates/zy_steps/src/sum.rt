@@ -14,8 +14,8 @@ use zy_node::wireframe::page_of;
 use zy_table::sums::sum_of_rows;
 use zy_txns::Txn;
 
-/// What a transaction reads at the keys from one to another, together, modulo 2^32: its private rows, and page by page the
-/// committed ones at keys of which it has none.
+/// What a transaction reads at the keys from one to another, together, modulo 2^32: its private rows, and page by page
+/// the committed ones at keys of which it has none.
 pub(crate) fn sum(me: &NodeStore, txn: &Txn, first: u16, last: u16) -> u32
     requires { first ≤ last }
     ensures { result ≡ total (value_for txn.now (node_shown me.now)) (range first last) % 2 ^ 32 }

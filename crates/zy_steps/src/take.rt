@@ -1,5 +1,6 @@
 //! `n take`: each function is the lines of its name.
-ghost use Rattle.std.specs.Prelude.{◌≡◌, ◌≤◌, ◌+◌, ◌==◌, ◌++◌, ◌∷◌, [], OnOk, IfSome, Some, ℕ, true, false, is_some, length, option_map, slice_get};
+ghost use Rattle.std.specs.Prelude.{◌≡◌, ◌≤◌, ◌+◌, ◌==◌, ◌++◌, ◌∷◌, [], OnOk, IfSome, Some, ℕ, true, false, is_some};
+ghost use Rattle.std.specs.Prelude.{length, option_map, slice_get};
 ghost use Rattle.zy_links.specs.Messages.{Message as AMessage, Page, kind_of, message_of};
 ghost use Rattle.zy_modes.specs.Table as modes;
 ghost use Rattle.zy_modes.specs.declared.table.MessageLine.TheVariants.{Turns};
@@ -18,10 +19,10 @@ ghost use Rattle.zy_steps.specs.Fronts.{front_of, rest, IsFront, Takes};
 use std::alloc::AllocError;
 use zy_isa::{Rule, Scenario};
 use zy_links::{Kind, Message};
-use zy_modes::{MessageLine, NodeMode};
 use zy_modes::table::on_message;
-use zy_node::{Mailbox, NodeStore};
+use zy_modes::{MessageLine, NodeMode};
 use zy_node::wireframe::page_count;
+use zy_node::{Mailbox, NodeStore};
 use zy_table::{Answer, Outcome};
 
 /// Whether a locked page stays.
@@ -142,7 +143,8 @@ fn take_in(me: &mut NodeStore, message: Message, mode: NodeMode, sent: Option<Ki
     requires limited { IsLimited me.old.outbox.pages me.old }
     requires few { me.old.outbox.pages ≤ 512 }
     requires room { HasRoom sent me.old.outbox }
-    ensures node { let x = with_brought (message_of message) (node_shown me.old) in node_shown me.new ≡ record x { mode = mode } }
+    ensures node { let x = with_brought (message_of message) (node_shown me.old) in
+        node_shown me.new ≡ record x { mode = mode } }
     ensures outbox { me.new.outbox.messages ≡ with_answer sent me.old.outbox.messages }
     ensures limits { limits_of me.new ≡ limits_of me.old }
 {
@@ -225,12 +227,17 @@ pub fn take_step(
 
 /// A message that the mode table speaks of.
 #[tactic(auto, unfolding(zy_table::specs::Take::got_step))]
-fn got_step(me: &mut NodeStore, inbox: &mut Mailbox, line: MessageLine) -> Result<Answer, AllocError>
+fn got_step(
+    me: &mut NodeStore,
+    inbox: &mut Mailbox,
+    line: MessageLine,
+) -> Result<Answer, AllocError>
     requires may { MayTake inbox.old.messages (node_shown me.old) }
     requires some { is_some (slice_get inbox.old.messages 0) ≡ true }
     requires limited { IsLimited inbox.old.pages me.old }
     requires few { inbox.old.pages ≤ 512 }
-    ensures line { (m : AMessage) → slice_get inbox.old.messages 0 ≡ Some m → Takes me.old inbox.old me.new inbox.new result (λ v. table_take.got_step line m v (rest v)) }
+    ensures line { (m : AMessage) → slice_get inbox.old.messages 0 ≡ Some m
+        → Takes me.old inbox.old me.new inbox.new result (λ v. table_take.got_step line m v (rest v)) }
     ensures limits { limits_of me.new ≡ limits_of me.old }
     ensures pages { inbox.new.pages ≡ inbox.old.pages }
 {
@@ -251,7 +258,8 @@ fn turn_step(
     requires some { is_some (slice_get inbox.old.messages 0) ≡ true }
     requires limited { IsLimited inbox.old.pages me.old }
     requires few { inbox.old.pages ≤ 512 }
-    ensures line { (m : AMessage) → slice_get inbox.old.messages 0 ≡ Some m → Takes me.old inbox.old me.new inbox.new result (λ v. table_take.got_step (Turns mode sent) m v (rest v)) }
+    ensures line { (m : AMessage) → slice_get inbox.old.messages 0 ≡ Some m
+        → Takes me.old inbox.old me.new inbox.new result (λ v. table_take.got_step (Turns mode sent) m v (rest v)) }
     ensures limits { limits_of me.new ≡ limits_of me.old }
     ensures pages { inbox.new.pages ≡ inbox.old.pages }
 {
@@ -273,7 +281,8 @@ fn pull_step(
     p: u16,
     line: MessageLine,
 ) -> Result<Answer, AllocError>
-    ensures line { Takes me.old inbox.old me.new inbox.new result (λ v. table_take.pull_step scenario.now p line v (rest v)) }
+    ensures line { Takes me.old inbox.old me.new inbox.new result
+        (λ v. table_take.pull_step scenario.now p line v (rest v)) }
     ensures limits { limits_of me.new ≡ limits_of me.old }
     ensures pages { inbox.new.pages ≡ inbox.old.pages }
 {

@@ -1,5 +1,6 @@
 -- One choice more, and where stops fire.
-use Rattle.std.proofs.Common.{◌≡◌, ◌∙◌, ℕ, ◌+◌, ◌-◌, ◌<◌, ◌≤◌, List, [], ◌∷◌, ◌++◌, length, map, refl, sym, ap, arith, length-append, Bool, true, false, not, nat_le, nat_eq, get_or, position, Option, Some, None, IfSome}
+use Rattle.std.proofs.Common.{◌≡◌, ◌∙◌, ℕ, ◌+◌, ◌-◌, ◌<◌, ◌≤◌, List, [], ◌∷◌, ◌++◌, length, map, refl, sym, ap, arith, length-append, Bool, true, false, not}
+use Rattle.std.proofs.Common.{nat_le, nat_eq, get_or, position, Option, Some, None, IfSome}
 use Rattle.std.proofs.lemmas.List.{length-map}
 use Rattle.std.proofs.lemmas.List.Quantifiers.{position-Some}
 use Rattle.std.specs.List.{prefix_len}
@@ -18,7 +19,8 @@ use Rattle.zy_stops.specs.declared.scan.Watched.{Watched}
 use Rattle.zy_stops.specs.Scans.{Follows, Conts, LastIn, watch_of}
 
 -- one choice more
-pub follow : (h k : History) (c : Choice) (e : Entry) → Follows h → length h.entries < length h.scenario.choices → k.scenario ≡ h.scenario → c ≡ get_or h.scenario.choices (length h.entries) Start
+pub follow : (h k : History) (c : Choice) (e : Entry) → Follows h → length h.entries < length h.scenario.choices → k.scenario ≡ h.scenario
+    → c ≡ get_or h.scenario.choices (length h.entries) Start
     → e ≡ entry_of c (step h.scenario c h.state) → k.entries ≡ h.entries ++ e ∷ [] → k.state ≡ (step h.scenario c h.state).after → Follows k
 unfolding state_at
 follow h k c e f lt es ec ee en et =
@@ -37,12 +39,18 @@ back_one m = omega arith
 outcome_next : (sc : Scenario) (m : ℕ) → outcome_at sc (m + 1) ≡ (step sc (get_or sc.choices m Start) (state_at sc m)).outcome
 outcome_next sc m = ap (λ j. (step sc (get_or sc.choices j Start) (state_at sc j)).outcome) (back_one m)
 
-firing_next : (sc : Scenario) (slots : Slots) (m : ℕ) → firing sc slots (m + 1) ≡ position (λ x. slot_fires (slot_reading x (state_at sc m)) (state_at sc (m + 1)) (outcome_at sc (m + 1)) x) slots
-firing_next sc slots m = ap (λ j. position (λ x. slot_fires (slot_reading x (state_at sc j)) (state_at sc (m + 1)) (outcome_at sc (m + 1)) x) slots) (back_one m)
+firing_next : (sc : Scenario) (slots : Slots) (m : ℕ) → firing sc slots (m + 1)
+    ≡ position (λ x. slot_fires (slot_reading x (state_at sc m)) (state_at sc (m + 1)) (outcome_at sc (m + 1)) x) slots
+firing_next sc slots m = ap (λ j. position (λ x. slot_fires (slot_reading x (state_at sc j)) (state_at sc (m + 1)) (outcome_at sc (m + 1)) x) slots)
+    (back_one m)
 
-pub outcome_is : (h : History) (c : Choice) (o : Outcome) → Follows h → c ≡ get_or h.scenario.choices (length h.entries) Start → o ≡ (step h.scenario c h.state).outcome → o ≡ outcome_at h.scenario (length h.entries + 1)
+pub outcome_is : (h : History) (c : Choice) (o : Outcome) → Follows h → c ≡ get_or h.scenario.choices (length h.entries) Start
+    → o ≡ (step h.scenario c h.state).outcome → o ≡ outcome_at h.scenario (length h.entries + 1)
 outcome_is h c o f ec eo =
-    eo ∙ (ap (λ (x : Choice). (step h.scenario x h.state).outcome) ec ∙ (ap (λ (s : State). (step h.scenario (get_or h.scenario.choices (length h.entries) Start) s).outcome) f.state ∙ sym (outcome_next h.scenario (length h.entries))))
+    eo
+    ∙ (ap (λ (x : Choice). (step h.scenario x h.state).outcome) ec
+    ∙ (ap (λ (s : State). (step h.scenario (get_or h.scenario.choices (length h.entries) Start) s).outcome) f.state
+    ∙ sym (outcome_next h.scenario (length h.entries))))
 
 -- the opening follows its scenario
 pub opens : (h : History) → h.state ≡ opening h.scenario → h.entries ≡ [] → Follows h
@@ -63,8 +71,10 @@ firing_is sc slots m s t o es et eo =
     position-map (λ w. slot_fires w.before t o w.slot) (watch_of s) slots ∙ rw (es, et, eo) (sym (firing_next sc slots m))
 
 -- the same, by what is known of the machines before and after
-pub told : (h k : History) (sc : Scenario) (slots : Slots) (ws : List Watched) (n : ℕ) (o : Outcome) → Follows h → Follows k → h.scenario ≡ sc → k.scenario ≡ h.scenario → length h.entries ≡ n → length k.entries ≡ length h.entries + 1
-    → ws ≡ map (watch_of h.state) slots → o ≡ outcome_at h.scenario (length h.entries + 1) → position (λ w. slot_fires w.before k.state o w.slot) ws ≡ firing sc slots (n + 1)
+pub told : (h k : History) (sc : Scenario) (slots : Slots) (ws : List Watched) (n : ℕ) (o : Outcome) → Follows h → Follows k → h.scenario ≡ sc
+    → k.scenario ≡ h.scenario → length h.entries ≡ n → length k.entries ≡ length h.entries + 1
+    → ws ≡ map (watch_of h.state) slots → o ≡ outcome_at h.scenario (length h.entries + 1)
+    → position (λ w. slot_fires w.before k.state o w.slot) ws ≡ firing sc slots (n + 1)
 told h k sc slots ws n o f g e d l m w x =
     rw w (firing_is sc slots n h.state k.state o (rw (e, l) at f.state) (rw (d, e, m, l) at g.state) (rw (e, l) at x))
 
@@ -73,7 +83,8 @@ pub seen_again : (s t : State) (slots : Slots) → map (λ (w : Watched). watch_
 seen_again s t [] = refl
 seen_again s t (x ∷ xs) = ap (λ ws. watch_of t x ∷ ws) (seen_again s t xs)
 
-none_by : (F : ℕ → Option ℕ) (p n k : ℕ) (t : Bool) → nat_le k n ≡ t → ((j : ℕ) → p < j → j ≤ n → F j ≡ None) → F (n + 1) ≡ None → p < k → k ≤ n + 1 → F k ≡ None
+none_by : (F : ℕ → Option ℕ) (p n k : ℕ) (t : Bool) → nat_le k n ≡ t → ((j : ℕ) → p < j → j ≤ n → F j ≡ None) → F (n + 1) ≡ None → p < k → k ≤ n + 1
+    → F k ≡ None
 none_by F p n k true w h e a b = h k a (grind (arith, nat_tests, w))
 none_by F p n k false w h e a b = let same : k ≡ n + 1 = grind (arith, nat_tests, w, b) in rw same e
 
@@ -89,9 +100,15 @@ none_below : (F : ℕ → Option ℕ) (p n : ℕ) → ((k : ℕ) → p < k → k
 none_below F p n h e k a b = none_at F p n k (nat_eq k n) refl h e a b
 
 -- the last one so far, where none fires at m
-pub last_more : (sc : Scenario) (slots : Slots) (b m : ℕ) (last : Option (ℕ × ℕ)) → LastIn sc slots b m last → firing sc slots m ≡ None → LastIn sc slots b (m + 1) last
+pub last_more : (sc : Scenario) (slots : Slots) (b m : ℕ) (last : Option (ℕ × ℕ)) → LastIn sc slots b m last → firing sc slots m ≡ None
+    → LastIn sc slots b (m + 1) last
 last_more sc slots b m None h e = none_below (firing sc slots) b m h e
-last_more sc slots b m (Some f) h e = record { above = h.above; below = omega (arith, h.below); fires = h.fires; greatest = none_below (firing sc slots) f.0 m h.greatest e }
+last_more sc slots b m (Some f) h e = record {
+  above = h.above;
+  below = omega (arith, h.below);
+  fires = h.fires;
+  greatest = none_below (firing sc slots) f.0 m h.greatest e;
+}
 
 -- a slot that fires is one of the slots
 pub slot_next : (sc : Scenario) (slots : Slots) (p : ℕ) (o : Option ℕ) (m : ℕ) → Conts sc slots p o m → IfSome o (λ n. n < length slots)

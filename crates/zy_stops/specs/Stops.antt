@@ -1,12 +1,14 @@
 -- Stops, what they read, and where they fire.
-use Rattle.std.specs.Prelude.{ℕ, ◌==◌, ◌&&◌, ◌-◌, Bool, true, false, not, List, Option, Some, None, position, take, get_or}
+use Rattle.std.specs.Prelude.{ℕ, ◌==◌, ◌&&◌, ◌-◌, Bool, true, false, not, List, Option, Some, None, position, take}
+use Rattle.std.specs.Prelude.{get_or}
 use Rattle.std.specs.FinMap.{get}
 use Rattle.zy_isa.specs.declared.choice.Choice.TheVariants.{Start}
 use Rattle.zy_isa.specs.declared.node.Node.{Node}
 use Rattle.zy_isa.specs.declared.node.Node.TheVariants.{A, B}
 use Rattle.zy_isa.specs.Scenario.{Scenario}
 use Rattle.zy_modes.specs.declared.mode.NodeMode.{NodeMode}
-use Rattle.zy_modes.specs.declared.mode.NodeMode.TheVariants.{Empty, Normal, SInit, SDual, SFinish, DInit, DDual, DFinish}
+use Rattle.zy_modes.specs.declared.mode.NodeMode.TheVariants.{Empty, Normal, SInit, SDual, SFinish, DInit, DDual}
+use Rattle.zy_modes.specs.declared.mode.NodeMode.TheVariants.{DFinish}
 use Rattle.zy_table.specs.Database.{database}
 use Rattle.zy_table.specs.Places.{place_of}
 use Rattle.zy_table.specs.Play.{step, play, opening}

@@ -22,7 +22,8 @@ pub(crate) fn advance(machine: &mut Machine) -> Result<Outcome, Fault>
     Ok(entry.outcome)
 }
 
-/// Makes the machine's choices up to a position. Out of memory, the machine is left at some position on the way: whoever lends it drops it.
+/// Makes the machine's choices up to a position. Out of memory, the machine is left at some position on the way:
+/// whoever lends it drops it.
 pub fn advance_to(machine: &mut Machine, target: usize) -> Result<(), Fault>
     requires follows { Follows machine.old }
     requires below { length machine.old.entries ≤ target }
@@ -37,8 +38,8 @@ pub fn advance_to(machine: &mut Machine, target: usize) -> Result<(), Fault>
     Ok(())
 }
 
-/// A machine that has made no choice of its scenario yet. The choices are made once here, so that what comes of them is in memory once
-/// for this machine and all copies of it.
+/// A machine that has made no choice of its scenario yet. The choices are made once here, so that what comes of them is
+/// in memory once for this machine and all copies of it.
 pub fn start(alloc: Global, scenario: Scenario) -> Result<Machine, Fault>
     ensures scenario { IfOk result (λ m. m.scenario ≡ scenario) }
     ensures follows { IfOk result (λ m. Follows m) }

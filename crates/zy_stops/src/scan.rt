@@ -59,8 +59,8 @@ fn first(watched: &[Watched], machine: &Machine, outcome: Outcome) -> Option<usi
     watched.iter().position(|w| w.fires(machine, outcome))
 }
 
-/// Goes on to the least position at which a stop fires, or to the end. Each position is looked at once. Out of memory, the machine is left at
-/// some position on the way: whoever lends it drops it.
+/// Goes on to the least position at which a stop fires, or to the end. Each position is looked at once. Out of memory,
+/// the machine is left at some position on the way: whoever lends it drops it.
 pub fn cont(
     alloc: Global,
     machine: &mut Machine,
@@ -69,7 +69,8 @@ pub fn cont(
     requires { Follows machine.old }
     ensures scenario { machine.new.scenario ≡ machine.old.scenario }
     ensures follows { Follows machine.new }
-    ensures stops { IfOk result (λ i. Conts machine.old.scenario slots.now (length machine.old.entries) i (length machine.new.entries)) }
+    ensures stops { IfOk result (λ i. Conts machine.old.scenario slots.now (length machine.old.entries) i
+        (length machine.new.entries)) }
     ensures slot { IfOk result (λ i. IfSome i (λ n. n < length slots.now)) }
 {
     let mut watched = watch(alloc, slots, machine)?;
@@ -84,8 +85,8 @@ pub fn cont(
 }
 
 /// The greatest position above the machine's and below `end` at which a stop fires, and the lowest slot
-/// that fires there. Each position is looked at once, upwards. The machine is left at the last position that was looked at, which out of memory is
-/// some position on the way: whoever lends it drops it.
+/// that fires there. Each position is looked at once, upwards. The machine is left at the last position that was looked
+/// at, which out of memory is some position on the way: whoever lends it drops it.
 pub fn last_firing(
     alloc: Global,
     machine: &mut Machine,

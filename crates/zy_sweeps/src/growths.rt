@@ -71,7 +71,8 @@ impl Growing for Reserved {
     }
 }
 
-/// The lock that is asked for at a place: two transactions share five pages, and then each asks for five others for itself.
+/// The lock that is asked for at a place: two transactions share five pages, and then each asks for five others for
+/// itself.
 fn asked_at(place: usize) -> Lock {
     Lock {
         page: key_of(place / 2),

@@ -1,5 +1,5 @@
-//! Calls of the libraries, in which a request for memory is refused (tests/library-refusals): `zy_sweeps NAME < INPUT` makes the calls of a
-//! sweep and prints what was found. A further word asks for a digest of all answers.
+//! Calls of the libraries, in which a request for memory is refused (tests/library-refusals): `zy_sweeps NAME < INPUT`
+//! makes the calls of a sweep and prints what was found. A further word asks for a digest of all answers.
 #![tactic(auto)]
 
 mod calls;
@@ -20,8 +20,8 @@ use std::env::Env;
 use std::process::ExitCode;
 use std::sync::Wait;
 use std::thread::Threads;
-use zy_io::reading::read_all;
 use zy_io::CountingReader;
+use zy_io::reading::read_all;
 
 /// The sweep of a name over an input.
 fn swept<R: Threads + Wait + Sync>(

@@ -8,8 +8,8 @@ use std::alloc::Global;
 use zy_console::command::command_of;
 use zy_debug::{Command, Debugger};
 use zy_isa::{Actor, Choice, Scenario};
-use zy_text::cut::cut_len;
 use zy_text::Words;
+use zy_text::cut::cut_len;
 use zy_text::line::take_line;
 use zy_threads::Board;
 

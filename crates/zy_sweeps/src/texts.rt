@@ -55,7 +55,8 @@ impl<W: Written + Drop> Prefix<W> {
         Prefix { written: nothing }
     }
 
-    /// The digest of what a call wrote. Where it is out of memory that is kept, and must be a prefix of what it writes when it is made again.
+    /// The digest of what a call wrote. Where it is out of memory that is kept, and must be a prefix of what it writes
+    /// when it is made again.
     pub fn answer(&mut self, written: W, outcome: Result<(), Refused>) -> Result<u64, Refused> {
         match outcome {
             Ok(()) => {

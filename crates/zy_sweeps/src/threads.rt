@@ -11,17 +11,17 @@ use std::alloc::Global;
 use std::sync::Wait;
 use std::thread::Threads;
 use zy_audit::listing::write_listing;
-use zy_check::check::check;
 use zy_check::Verdict;
+use zy_check::check::check;
 use zy_engine::engine::run_bytes;
-use zy_engine::{BenchFault, Format};
 use zy_engine::threading::threads_bytes;
+use zy_engine::{BenchFault, Format};
 use zy_io::{SliceSource, VecSink};
 use zy_isa::{Choice, Scenario};
 use zy_machine::Machine;
 use zy_text::cut::cut_len;
-use zy_threads::{FreeGate, Gate};
 use zy_threads::run::run_threads;
+use zy_threads::{FreeGate, Gate};
 
 /// What three threads are let do.
 #[derive(Clone, Copy)]

@@ -7,7 +7,8 @@ use Rattle.zy_table.specs.Keys.{keys_of, put_key}
 
 pub length-put_key : (k : ℕ) (xs : List ℕ) → length (put_key k xs) ≡ suc (length xs)
 length-put_key k [] = refl
-length-put_key k (x ∷ xs) = cond_both (nat_le k x) (k ∷ x ∷ xs) (x ∷ put_key k xs) (λ y. length y ≡ suc (suc (length xs))) (λ _. refl) (λ _. ap suc (length-put_key k xs))
+length-put_key k (x ∷ xs) = cond_both (nat_le k x) (k ∷ x ∷ xs) (x ∷ put_key k xs) (λ y. length y ≡ suc (suc (length xs))) (λ _. refl)
+    (λ _. ap suc (length-put_key k xs))
 
 pub length-keys : (rows : List Row) → length (keys_of rows) ≡ length rows
 length-keys [] = refl

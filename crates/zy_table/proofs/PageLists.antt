@@ -27,7 +27,8 @@ pub length-with_page : (leaf : Leaf) (xs : List Leaf) → length (with_page leaf
 length-with_page leaf [] = refl
 length-with_page leaf (x ∷ xs) =
     let e = length-with_page leaf xs in
-    cond_both (nat_lt leaf.number x.number) (leaf ∷ x ∷ xs) (x ∷ with_page leaf xs) (λ ys. length ys ≡ suc (length xs) + 1) (λ _. omega arith) (λ _. omega arith)
+    cond_both (nat_lt leaf.number x.number) (leaf ∷ x ∷ xs) (x ∷ with_page leaf xs) (λ ys. length ys ≡ suc (length xs) + 1) (λ _. omega arith)
+    (λ _. omega arith)
 
 pub length-lowered : (p b : ℕ) (xs : List Leaf) → length (lowered p b xs) ≡ length xs
 length-lowered p b [] = refl

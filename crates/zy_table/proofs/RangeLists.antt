@@ -1,5 +1,6 @@
 -- The keys of a range and their pages.
-use Rattle.std.proofs.Common.{Bool, List, [], ap, arith, false, get_or, inl, inr, length, refl, suc, sym, true, zero, ℕ, ◌++◌, ◌+◌, ◌-◌, ◌<◌, ◌≤◌, ◌∙◌, ◌∷◌, ◌≡◌}
+use Rattle.std.proofs.Common.{Bool, List, [], ap, arith, false, get_or, inl, inr, length, refl, suc, sym, true, zero, ℕ, ◌++◌, ◌+◌, ◌-◌, ◌<◌, ◌≤◌, ◌∙◌, ◌∷◌}
+use Rattle.std.proofs.Common.{◌≡◌}
 use Rattle.std.specs.Prelude.{None, Some, map, nat_le, nat_lt, ◌&&◌, ◌==◌, ◌⊎◌}
 use Rattle.std.specs.List.{find}
 use Rattle.std.proofs.lemmas.Bool.{and_from, cond_both, eq-eqb, eqb-true, false≢true, le-leb, lt-ltb, or_cases, or_left, or_right}
@@ -47,7 +48,8 @@ within_range a b k h = let r = within_keys (b + 1 - a) a k h in let x = r.0 in l
 -- a key that is put among others
 has-put_new : (k : ℕ) (xs : List ℕ) → has (put_key k xs) k ≡ true
 has-put_new k [] = has_first k []
-has-put_new k (x ∷ xs) = cond_both (nat_le k x) (k ∷ x ∷ xs) (x ∷ put_key k xs) (λ y. has y k ≡ true) (λ _. has_first k (x ∷ xs)) (λ _. has_rest x k (put_key k xs) (has-put_new k xs))
+has-put_new k (x ∷ xs) = cond_both (nat_le k x) (k ∷ x ∷ xs) (x ∷ put_key k xs) (λ y. has y k ≡ true) (λ _. has_first k (x ∷ xs))
+    (λ _. has_rest x k (put_key k xs) (has-put_new k xs))
 
 has-put_old : (k : ℕ) (xs : List ℕ) (q : ℕ) → has xs q ≡ true → has (put_key k xs) q ≡ true
 has-put_old k [] q h = absurd (false≢true h)
@@ -56,7 +58,8 @@ has-put_old k (x ∷ xs) q h =
     (λ _. has_rest k q (x ∷ xs) h)
     (λ _. elim (or_cases (x == q) (has xs q) h) [ inl e ↦ or_left _ _ e | inr e ↦ has_rest x q (put_key k xs) (has-put_old k xs q e) ])
 
-pub has-within : (a b : ℕ) (lows : List ℕ) (i : ℕ) → i < length lows → a < get_or lows i 0 → get_or lows i 0 ≤ b → has (lows_within a b lows) (get_or lows i 0) ≡ true
+pub has-within : (a b : ℕ) (lows : List ℕ) (i : ℕ) → i < length lows → a < get_or lows i 0 → get_or lows i 0 ≤ b
+    → has (lows_within a b lows) (get_or lows i 0) ≡ true
 has-within a b [] i lt above below = absurd (omega arith)
 has-within a b (x ∷ xs) zero lt above below =
     let yes : (nat_lt a x && nat_le x b) ≡ true = and_from _ _ (lt-ltb a x above) (le-leb x b below) in
@@ -83,7 +86,8 @@ on_range_page lows a b k h =
       | inl same ↦ rw (← same) (has_first (page_of lows a) (map (page_of lows) (lows_within a b lows)))
       | inr one ↦
           let low : get_or lows one.0 0 ≤ k = one.3 in
-          rw (← one.4) (has_rest (page_of lows a) _ (map (page_of lows) (lows_within a b lows)) (has-map (page_of lows) (lows_within a b lows) (get_or lows one.0 0) (has-within a b lows one.0 one.1 one.2 (omega (arith, low, below)))))
+          rw (← one.4) (has_rest (page_of lows a) _ (map (page_of lows) (lows_within a b lows))
+          (has-map (page_of lows) (lows_within a b lows) (get_or lows one.0 0) (has-within a b lows one.0 one.1 one.2 (omega (arith, low, below)))))
     ]
 
 paged : (lows ks : List ℕ) (p : ℕ) → has (map (page_of lows) ks) p ≡ true → (k : ℕ) × (page_of lows k ≡ p)

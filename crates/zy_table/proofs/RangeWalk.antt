@@ -1,7 +1,8 @@
 -- The pages of a range, one after the other.
 use Rattle.std.proofs.Common.{List, [], ap, arith, false, get_or, inl, inr, length, refl, suc, sym, true, zero, ℕ, ◌<◌, ◌≤◌, ◌∙◌, ◌∷◌, ◌≡◌}
 use Rattle.std.specs.Prelude.{if◌then◌else◌, nat_le, nat_lt, ◌&&◌, ◌⊎◌}
-use Rattle.std.proofs.lemmas.Bool.{and_from, and_left, and_parts, cases_Bool, cond_both, eqb-true, false≢true, false_from_ne_true, le-leb, leb-true, lt-ltb, ltb-true, or_cases}
+use Rattle.std.proofs.lemmas.Bool.{and_from, and_left, and_parts, cases_Bool, cond_both, eqb-true, false≢true, false_from_ne_true, le-leb, leb-true, lt-ltb}
+use Rattle.std.proofs.lemmas.Bool.{ltb-true, or_cases}
 use Rattle.zy_wire.specs.Wireframe.{page_of}
 use Rattle.zy_wire.proofs.PageOf.{page_of-is}
 use Rattle.zy_table.specs.Keys.{put_key}
@@ -40,7 +41,11 @@ pub above : (a b : ℕ) (lows : List ℕ) (q : ℕ) → has (lows_within a b low
 above a b [] q h = absurd (false≢true h)
 above a b (x ∷ xs) q h =
     cond_both (nat_lt a x && nat_le x b) (put_key x (lows_within a b xs)) (lows_within a b xs) (λ ys. has ys q ≡ true → a < q)
-    (λ e g. let up = ltb-true a x (and_parts _ _ e).0 in elim (has-put x (lows_within a b xs) q g) [ inl same ↦ omega (arith, up, same) | inr rest ↦ above a b xs q rest ])
+    (λ e g. let up = ltb-true a x (and_parts _ _ e).0 in elim (has-put x (lows_within a b xs) q g) [
+      | inl same ↦ omega (arith, up, same)
+      | inr rest ↦
+          above a b xs q rest
+    ])
     (λ _ g. above a b xs q g) h
 
 -- no low key is between a and c
@@ -66,7 +71,8 @@ pub lows_within-none : (a b : ℕ) (lows : List ℕ) → ((q : ℕ) → q < leng
 lows_within-none a b [] h = refl
 lows_within-none a b (x ∷ xs) h =
     let rest = lows_within-none a b xs (λ q lt up. h (suc q) (omega arith) up) in
-    let off : (nat_lt a x && nat_le x b) ≡ false = false_from_ne_true _ (λ e. let both = and_parts _ _ e in let over = h 0 (omega arith) (ltb-true a x both.0) in let le = leb-true x b both.1 in absurd (omega (arith, over, le))) in
+    let off : (nat_lt a x && nat_le x b) ≡ false = false_from_ne_true _ (λ e. let both = and_parts _ _ e in
+    let over = h 0 (omega arith) (ltb-true a x both.0) in let le = leb-true x b both.1 in absurd (omega (arith, over, le))) in
     ap (λ z. if z then put_key x (lows_within a b xs) else lows_within a b xs) off ∙ rest
 
 -- p's low key is above a, and each other page's that is above a is above it
@@ -94,12 +100,18 @@ lows_within-next a b (x ∷ xs) (suc p) lt up le least =
     let test = same_test a l x b up (λ more. elim (least 0 (omega arith) more) [ inl e ↦ absurd (omega (arith, e)) | inr e ↦ e ]) in
     ap (λ z. if z then put_key x (lows_within a b xs) else lows_within a b xs) test
     ∙ ap (λ ys. if (nat_lt l x && nat_le x b) then put_key x ys else ys) rest
-    ∙ cond_both (nat_lt l x && nat_le x b) (put_key x (lows_within l b xs)) (lows_within l b xs) (λ ys. (if (nat_lt l x && nat_le x b) then put_key x (l ∷ lows_within l b xs) else l ∷ lows_within l b xs) ≡ l ∷ ys)
-    (λ e. ap (λ z. if z then put_key x (l ∷ lows_within l b xs) else l ∷ lows_within l b xs) e ∙ put_behind x l (lows_within l b xs) (ltb-true l x (and_parts _ _ e).0))
+    ∙ cond_both (nat_lt l x && nat_le x b) (put_key x (lows_within l b xs)) (lows_within l b xs)
+    (λ ys. (if (nat_lt l x && nat_le x b) then put_key x (l ∷ lows_within l b xs) else l ∷ lows_within l b xs) ≡ l ∷ ys)
+    (λ e. ap (λ z. if z then put_key x (l ∷ lows_within l b xs) else l ∷ lows_within l b xs) e
+    ∙ put_behind x l (lows_within l b xs) (ltb-true l x (and_parts _ _ e).0))
     (λ e. ap (λ z. if z then put_key x (l ∷ lows_within l b xs) else l ∷ lows_within l b xs) e)
 
 -- p is the page of its low key
 pub page_of-next : (a : ℕ) (lows : List ℕ) (p : ℕ) → p < length lows → a < get_or lows p 0 → Least a lows p → page_of lows (get_or lows p 0) ≡ p
 page_of-next a lows p lt up least =
     page_of-is lows (get_or lows p 0) p lt (omega arith) (λ q in_it le. le)
-    (λ q below same. elim (least q (omega (arith, below, lt)) (omega (arith, same, up))) [ inl e ↦ absurd (omega (arith, e, below)) | inr e ↦ absurd (omega (arith, e, same)) ])
+    (λ q below same. elim (least q (omega (arith, below, lt)) (omega (arith, same, up))) [
+      | inl e ↦ absurd (omega (arith, e, below))
+      | inr e ↦
+          absurd (omega (arith, e, same))
+    ])

@@ -11,13 +11,15 @@ length-rows_on : (lows : List ℕ) (p : ℕ) (rows : List Row) → length (rows_
 length-rows_on lows p [] = omega arith
 length-rows_on lows p (r ∷ rows) =
     let less = length-rows_on lows p rows in
-    cond_both (page_of lows r.key == p) (r ∷ rows_on lows p rows) (rows_on lows p rows) (λ xs. length xs ≤ suc (length rows)) (λ _. omega (arith, less)) (λ _. omega (arith, less))
+    cond_both (page_of lows r.key == p) (r ∷ rows_on lows p rows) (rows_on lows p rows) (λ xs. length xs ≤ suc (length rows)) (λ _. omega (arith, less))
+    (λ _. omega (arith, less))
 
 length-rows_not_in : (rows held : List Row) → length (rows_not_in rows held) ≤ length rows
 length-rows_not_in [] held = omega arith
 length-rows_not_in (r ∷ rows) held =
     let less = length-rows_not_in rows held in
-    cond_both (is_some (get_row held r.key)) (rows_not_in rows held) (r ∷ rows_not_in rows held) (λ xs. length xs ≤ suc (length rows)) (λ _. omega (arith, less)) (λ _. omega (arith, less))
+    cond_both (is_some (get_row held r.key)) (rows_not_in rows held) (r ∷ rows_not_in rows held) (λ xs. length xs ≤ suc (length rows))
+    (λ _. omega (arith, less)) (λ _. omega (arith, less))
 
 -- a page's new rows are some of the rows
 pub length-new : (lows : List ℕ) (p : ℕ) (rows held : List Row) → length (rows_not_in (rows_on lows p rows) held) ≤ length rows

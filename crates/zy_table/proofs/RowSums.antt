@@ -30,7 +30,8 @@ range_split a b c up le =
     let m : c - 1 + 1 - a ≡ c - a = omega (arith, up, le) in
     let all : b + 1 - a ≡ (c - a) + (b + 1 - c) = omega (arith, up, le) in
     let from : a + (c - a) ≡ c = omega (arith, up) in
-    ap (λ z. keys_on z a) all ∙ keys_split (c - a) (b + 1 - c) a ∙ ap (λ z. keys_on (c - a) a ++ keys_on (b + 1 - c) z) from ∙ ap (λ z. keys_on z a ++ keys_on (b + 1 - c) c) (sym m)
+    ap (λ z. keys_on z a) all ∙ keys_split (c - a) (b + 1 - c) a ∙ ap (λ z. keys_on (c - a) a ++ keys_on (b + 1 - c) z) from
+    ∙ ap (λ z. keys_on z a ++ keys_on (b + 1 - c) c) (sym m)
 
 -- a value at one key alone
 abbrev at_key : ℕ → ℕ → ℕ → ℕ
@@ -42,7 +43,8 @@ at_other c v k far = ap (λ b. if b then v else 0) (ne_eqb k c far)
 point_out : (c v n k : ℕ) → (c < k) ⊎ (k + n ≤ c) → total (at_key c v) (keys_on n k) ≡ 0
 point_out c v zero k h = refl
 point_out c v (suc n) k h =
-    let first : at_key c v k ≡ 0 = at_other c v k (λ same. elim h [ inl less ↦ absurd (omega (arith, less, same)) | inr more ↦ absurd (omega (arith, more, same)) ]) in
+    let first : at_key c v k ≡ 0 =
+    at_other c v k (λ same. elim h [ inl less ↦ absurd (omega (arith, less, same)) | inr more ↦ absurd (omega (arith, more, same)) ]) in
     let rest = point_out c v n (k + 1) (elim h [ inl less ↦ inl (omega (arith, less)) | inr more ↦ inr (omega (arith, more)) ]) in
     omega (arith, first, rest)
 
@@ -56,7 +58,8 @@ point_in c v (suc n) k low high =
           omega (arith, first, rest)
       | inr far ↦
           let first = at_other c v k far in
-          let rest = point_in c v n (k + 1) (elim (cases_lt k c) [ inl less ↦ omega (arith, less) | inr not ↦ absurd (far (omega (arith, low, not))) ]) (omega (arith, high)) in
+          let rest = point_in c v n (k + 1) (elim (cases_lt k c) [ inl less ↦ omega (arith, less) | inr not ↦ absurd (far (omega (arith, low, not))) ])
+          (omega (arith, high)) in
           omega (arith, first, rest)
     ]
 
@@ -79,16 +82,21 @@ row_apart : (others : List Row) (low : ℕ) (r : Row) (rows : List Row) (k : ℕ
 row_apart others low r rows k rise =
     elim (cases_eq k r.key) [
       | inl same ↦
-          let none : is_some (get_row rows k) ≡ false = false_from_ne_true _ (λ h. let up = rises_key (r.key + 1) rows k rise.1 h in absurd (omega (arith, up, same))) in
+          let none : is_some (get_row rows k) ≡ false = false_from_ne_true _ (λ h. let up = rises_key (r.key + 1) rows k rise.1 h in
+          absurd (omega (arith, up, same))) in
           let here : (r.key == k) ≡ true = eq-eqb _ _ (sym same) in
           let first : at_key r.key (own_value others r) k ≡ own_value others r = ap (λ b. if b then own_value others r else 0) (eq-eqb k r.key same) in
-          let rest : value_beside others rows k ≡ 0 = ap (λ o. if is_some (get_row others k) then 0 else unwrap_or o 0) (none_of (get_row rows k) none) ∙ none_twice (is_some (get_row others k)) in
-          let whole : value_beside others (r ∷ rows) k ≡ own_value others r = ap (λ b. if is_some (get_row others k) then 0 else unwrap_or (if b then Some r.value else get_row rows k) 0) here ∙ ap (λ z. if is_some (get_row others z) then 0 else r.value) same in
+          let rest : value_beside others rows k ≡ 0 = ap (λ o. if is_some (get_row others k) then 0 else unwrap_or o 0) (none_of (get_row rows k) none)
+          ∙ none_twice (is_some (get_row others k)) in
+          let whole : value_beside others (r ∷ rows) k ≡ own_value others r = ap
+          (λ b. if is_some (get_row others k) then 0 else unwrap_or (if b then Some r.value else get_row rows k) 0) here
+          ∙ ap (λ z. if is_some (get_row others z) then 0 else r.value) same in
           omega (arith, first, rest, whole)
       | inr far ↦
           let off : (r.key == k) ≡ false = ne_eqb _ _ (λ e. far (sym e)) in
           let first = at_other r.key (own_value others r) k far in
-          let whole : value_beside others (r ∷ rows) k ≡ value_beside others rows k = ap (λ b. if is_some (get_row others k) then 0 else unwrap_or (if b then Some r.value else get_row rows k) 0) off in
+          let whole : value_beside others (r ∷ rows) k ≡ value_beside others rows k =
+          ap (λ b. if is_some (get_row others k) then 0 else unwrap_or (if b then Some r.value else get_row rows k) 0) off in
           omega (arith, first, whole)
     ]
   where
@@ -105,16 +113,20 @@ row_part : (others : List Row) (a b : ℕ) (r : Row) → total (at_key r.key (ow
     ≡ (if nat_le a r.key && (nat_le r.key b && not (is_some (get_row others r.key))) then r.value else 0)
 row_part others a b r =
     elim (cases_Bool (nat_le a r.key)) [
-      | inr low ↦ point_out r.key (own_value others r) (b + 1 - a) a (inl (leb-false a r.key low)) ∙ sym (ap (λ t. if t && (nat_le r.key b && not (is_some (get_row others r.key))) then r.value else 0) low)
+      | inr low ↦ point_out r.key (own_value others r) (b + 1 - a) a (inl (leb-false a r.key low))
+          ∙ sym (ap (λ t. if t && (nat_le r.key b && not (is_some (get_row others r.key))) then r.value else 0) low)
       | inl low ↦ elim (cases_Bool (nat_le r.key b)) [
         | inr high ↦
             let up = leb-false r.key b high in
             let from = leb-true a r.key low in
-            point_out r.key (own_value others r) (b + 1 - a) a (inr (omega (arith, up, from))) ∙ sym (ap (λ t. if nat_le a r.key && (t && not (is_some (get_row others r.key))) then r.value else 0) high ∙ off (nat_le a r.key))
+            point_out r.key (own_value others r) (b + 1 - a) a (inr (omega (arith, up, from)))
+            ∙ sym (ap (λ t. if nat_le a r.key && (t && not (is_some (get_row others r.key))) then r.value else 0) high ∙ off (nat_le a r.key))
         | inl high ↦
             let from = leb-true a r.key low in
             let to = leb-true r.key b high in
-            point_in r.key (own_value others r) (b + 1 - a) a from (omega (arith, from, to)) ∙ sym (ap (λ t. if t && (nat_le r.key b && not (is_some (get_row others r.key))) then r.value else 0) low ∙ ap (λ t. if t && not (is_some (get_row others r.key)) then r.value else 0) high ∙ turned (is_some (get_row others r.key)) r.value)
+            point_in r.key (own_value others r) (b + 1 - a) a from (omega (arith, from, to))
+            ∙ sym (ap (λ t. if t && (nat_le r.key b && not (is_some (get_row others r.key))) then r.value else 0) low
+            ∙ ap (λ t. if t && not (is_some (get_row others r.key)) then r.value else 0) high ∙ turned (is_some (get_row others r.key)) r.value)
       ]
     ]
   where
@@ -126,13 +138,15 @@ row_part others a b r =
     turned true v = refl
     turned false v = refl
 
-pub sum_of_rows : (others : List Row) (a b low : ℕ) (rows : List Row) → Rising low rows → sum_beside others a b rows ≡ total (value_beside others rows) (range a b)
+pub sum_of_rows : (others : List Row) (a b low : ℕ) (rows : List Row) → Rising low rows
+    → sum_beside others a b rows ≡ total (value_beside others rows) (range a b)
 sum_of_rows others a b low [] rise = sym (total_none (value_beside others []) (range a b) (λ k. none_twice (is_some (get_row others k))))
 sum_of_rows others a b low (r ∷ rows) rise =
     let rest = sum_of_rows others a b (r.key + 1) rows rise.1 in
     let first = row_part others a b r in
     let both = total_plus (at_key r.key (own_value others r)) (value_beside others rows) (range a b) in
-    let whole = total_same (value_beside others (r ∷ rows)) (λ k. at_key r.key (own_value others r) k + value_beside others rows k) (range a b) (λ k _. row_apart others low r rows k rise) in
+    let whole = total_same (value_beside others (r ∷ rows)) (λ k. at_key r.key (own_value others r) k + value_beside others rows k) (range a b)
+    (λ k _. row_apart others low r rows k rise) in
     omega (arith, rest, first, both, whole)
 
 -- no row

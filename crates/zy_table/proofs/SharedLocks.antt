@@ -30,7 +30,8 @@ own_never true c = refl
 own_never false c = refl
 
 no_clash : (q t : ℕ) (k : LockKind) (x : Lock) → (x.txn == t) ≡ true → clashes q t k x ≡ false
-no_clash q t k x e = ap (λ b. (x.page == q) && (not b && not (is_shared x.kind && is_shared k))) e ∙ own_never (x.page == q) (not (is_shared x.kind && is_shared k))
+no_clash q t k x e = ap (λ b. (x.page == q) && (not b && not (is_shared x.kind && is_shared k))) e
+    ∙ own_never (x.page == q) (not (is_shared x.kind && is_shared k))
 
 pub conflict_own : (p t : ℕ) (kind : LockKind) (xs : List Lock) (q : ℕ) (k : LockKind) → conflict (add_lock p t kind xs) q t k ≡ conflict xs q t k
 conflict_own p t kind [] q k = ap (λ b. b || false) (no_clash q t k (record { page = p; txn = t; kind = kind }) (eq-eqb t t refl))
@@ -38,7 +39,8 @@ conflict_own p t kind (x ∷ xs) q k =
     cond_both ((x.page == p) && (x.txn == t)) (record x { kind = stronger x.kind kind } ∷ xs) _ (λ y. conflict y q t k ≡ conflict (x ∷ xs) q t k)
     (λ e. let own = (and_parts (x.page == p) (x.txn == t) e).1 in
     ap (λ b. b || conflict xs q t k) (no_clash q t k (record x { kind = stronger x.kind kind }) own ∙ sym (no_clash q t k x own)))
-    (λ _. cond_both (nat_lt p x.page || ((x.page == p) && nat_lt t x.txn)) (record { page = p; txn = t; kind = kind } ∷ x ∷ xs) (x ∷ add_lock p t kind xs) (λ y. conflict y q t k ≡ conflict (x ∷ xs) q t k)
+    (λ _. cond_both (nat_lt p x.page || ((x.page == p) && nat_lt t x.txn)) (record { page = p; txn = t; kind = kind } ∷ x ∷ xs) (x ∷ add_lock p t kind xs)
+    (λ y. conflict y q t k ≡ conflict (x ∷ xs) q t k)
     (λ _. ap (λ b. b || conflict (x ∷ xs) q t k) (no_clash q t k (record { page = p; txn = t; kind = kind }) (eq-eqb t t refl)))
     (λ _. ap (λ b. clashes q t k x || b) (conflict_own p t kind xs q k)))
 
@@ -46,7 +48,8 @@ conflict_own p t kind (x ∷ xs) q k =
 taken_own : (p t : ℕ) (xs : List Lock) (ps : List ℕ) → first_taken (add_lock p t Shared xs) t ps ≡ first_taken xs t ps
 taken_own p t xs [] = refl
 taken_own p t xs (q ∷ ps) =
-    ap (λ b. if b then Some q else first_taken (add_lock p t Shared xs) t ps) (conflict_own p t Shared xs q Shared) ∙ ap (λ o. if conflict xs q t Shared then Some q else o) (taken_own p t xs ps)
+    ap (λ b. if b then Some q else first_taken (add_lock p t Shared xs) t ps) (conflict_own p t Shared xs q Shared)
+    ∙ ap (λ o. if conflict xs q t Shared then Some q else o) (taken_own p t xs ps)
 
 free_rest : (p t : ℕ) (xs : List Lock) (ps : List ℕ) → first_taken xs t (p ∷ ps) ≡ None → first_taken xs t ps ≡ None
 free_rest p t xs ps h = cond_both (conflict xs p t Shared) (Some p) (first_taken xs t ps) (λ o. o ≡ None → first_taken xs t ps ≡ None) (λ _ e. cc) (λ _ e. e) h

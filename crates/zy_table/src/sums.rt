@@ -23,7 +23,9 @@ pub fn sum_of_rows(rows: &[Row], others: &[Row], first: u16, last: u16) -> u32
 /// The value of a row with a key from one to another, 0 where its key is another or others have it.
 fn own_value(row: &Row, others: &[Row], first: u16, last: u16) -> u32
     requires { Rising 0 others.now }
-    ensures { result ≡ (if nat_le first row.now.key && (nat_le row.now.key last && not (is_some (get_row others.now row.now.key))) then row.now.value else 0) }
+    ensures { result
+        ≡ (if nat_le first row.now.key && (nat_le row.now.key last && not (is_some (get_row others.now row.now.key)))
+        then row.now.value else 0) }
 {
     if first <= row.key && row.key <= last && value_at(others, row.key).is_none() {
         row.value

@@ -1,5 +1,6 @@
 -- The canonical text is ASCII, and it is the scenario part of each input that begins with it.
-use Rattle.std.proofs.Common.{◌≡◌, ◌∙◌, ℕ, ◌+◌, ◌<◌, ◌≤◌, ◌^◌, Bool, true, false, not, ◌&&◌, ◌==◌, nat_lt, List, [], ◌∷◌, ◌++◌, length, map, filter, take, refl, sym, ap, subst, arith, append_assoc, lit<, codes}
+use Rattle.std.proofs.Common.{◌≡◌, ◌∙◌, ℕ, ◌+◌, ◌<◌, ◌≤◌, ◌^◌, Bool, true, false, not, ◌&&◌, ◌==◌, nat_lt, List, [], ◌∷◌, ◌++◌, length, map, filter, take, refl}
+use Rattle.std.proofs.Common.{sym, ap, subst, arith, append_assoc, lit<, codes}
 use Rattle.std.specs.Fmt.{decimal}
 use Rattle.std.specs.List.{flat_map, onto_first, prefix_len, slice_split}
 use Rattle.std.specs.Str.{IsAscii, all_ascii_digits}
@@ -114,7 +115,8 @@ no_end [] h = absurd (cc)
 no_end (b ∷ bs) h =
     let p = both (not (is_space b) && not (b == 59)) (not (b == 101)) h in
     let q = both (not (is_space b)) (not (b == 59)) p.0 in
-    rw (not_true _ q.1, one_plus (prefix_len (λ c. not (c == 59)) bs), not_true _ q.0) (other_word b (slice_split is_space (take (prefix_len (λ c. not (c == 59)) bs) bs)) (not_true _ p.1))
+    rw (not_true _ q.1, one_plus (prefix_len (λ c. not (c == 59)) bs), not_true _ q.0)
+    (other_word b (slice_split is_space (take (prefix_len (λ c. not (c == 59)) bs) bs)) (not_true _ p.1))
 
 -- ---- lines of words
 
@@ -200,7 +202,10 @@ opens_more [] v h = absurd (cc)
 opens_more (b ∷ bs) v h = h
 
 plain_parts : (p : Parts) → PartsFit p → (all_plain (parts_words p) ≡ true) × (opens (spaced (parts_words p)) ≡ true)
-plain_parts (Number o a n) h = let w = operation_plain (op.Number o) in (number_last (mnemonic (op.Number o)) (reg_text a) n h w.0 (reg_plain a), opens_more (mnemonic (op.Number o)) _ w.1)
+plain_parts (Number o a n) h = let w = operation_plain (op.Number o) in (
+  number_last (mnemonic (op.Number o)) (reg_text a) n h w.0 (reg_plain a),
+  opens_more (mnemonic (op.Number o)) _ w.1,
+)
 plain_parts (Pair o a b) h = let w = operation_plain (op.Pair o) in (pair_plain (mnemonic (op.Pair o)) a b w.0, opens_more (mnemonic (op.Pair o)) _ w.1)
 plain_parts (Jump o a b n) h = let w = operation_plain (op.Jump o) in (target_last (mnemonic (op.Jump o)) a b n h w.0, opens_more (mnemonic (op.Jump o)) _ w.1)
 plain_parts (Lone o) h = let w = operation_plain (op.Lone o) in (rw w.0 refl, w.1)
@@ -227,7 +232,8 @@ plain_programs (p ∷ ps) k few h = (
 under : (t count : ℕ) → count ≤ 64 → nat_lt t count ≡ true → t < 2 ^ 32
 under t count few h = let low : t < count = grind (arith, tests) in omega arith
 
-plain_run : (n : Node) (t : ℕ) → t < 2 ^ 32 → (all_plain (node_text n ∷ codes "run" ∷ decimal t ∷ []) ≡ true) × (opens (spaced (node_text n ∷ codes "run" ∷ decimal t ∷ [])) ≡ true)
+plain_run : (n : Node) (t : ℕ) → t < 2 ^ 32 → (all_plain (node_text n ∷ codes "run" ∷ decimal t ∷ []) ≡ true)
+    × (opens (spaced (node_text n ∷ codes "run" ∷ decimal t ∷ [])) ≡ true)
 plain_run A t h = (number_last (codes "A") (codes "run") t h refl refl, refl)
 plain_run B t h = (number_last (codes "B") (codes "run") t h refl refl, refl)
 
@@ -235,7 +241,8 @@ plain_word : (n : Node) (w : List ℕ) → are_plain w ≡ true → (all_plain (
 plain_word A w h = (rw h refl, refl)
 plain_word B w h = (rw h refl, refl)
 
-plain_choice : (c : Choice) (count : ℕ) → count ≤ 64 → names_below count c ≡ true → (all_plain (choice_words c) ≡ true) × (opens (spaced (choice_words c)) ≡ true)
+plain_choice : (c : Choice) (count : ℕ) → count ≤ 64 → names_below count c ≡ true → (all_plain (choice_words c) ≡ true)
+    × (opens (spaced (choice_words c)) ≡ true)
 plain_choice Start count few h = (refl, refl)
 plain_choice (Begin t) count few h = (number_last (codes "C") (codes "begin") t (under t count few h) refl refl, refl)
 plain_choice (Kill t) count few h = (number_last (codes "C") (codes "kill") t (under t count few h) refl refl, refl)

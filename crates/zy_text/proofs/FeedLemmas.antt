@@ -1,5 +1,6 @@
 -- The first line of a text, by its first line feed.
-use Rattle.std.proofs.Common.{◌≡◌, ℕ, ◌==◌, ◌<◌, ◌+◌, Bool, true, false, List, [], ◌∷◌, length, suc, refl, arith, drop, inl, inr, subst, sym, ap, take, Some, None, ◌⊎◌}
+use Rattle.std.proofs.Common.{◌≡◌, ℕ, ◌==◌, ◌<◌, ◌+◌, Bool, true, false, List, [], ◌∷◌, length, suc, refl, arith, drop, inl, inr, subst, sym, ap, take, Some}
+use Rattle.std.proofs.Common.{None, ◌⊎◌}
 use Rattle.std.specs.List.{position, position_or_len, before_first, after_first}
 use Rattle.std.proofs.lemmas.List.Quantifiers.{position-Some}
 use Rattle.std.proofs.lemmas.List.Sums.{position_or_len_is, prefix_len-le-length}

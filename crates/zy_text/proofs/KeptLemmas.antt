@@ -1,5 +1,6 @@
 -- At most six words are kept.
-use Rattle.std.proofs.Common.{append_assoc, drop, ◌==◌, true, false, filter, ◌≡◌, ◌∙◌, ℕ, ◌<◌, ◌≤◌, ◌+◌, List, [], ◌∷◌, ◌++◌, length, take, refl, sym, ap, arith, suc, zero, append-nil, length-take}
+use Rattle.std.proofs.Common.{append_assoc, drop, ◌==◌, true, false, filter, ◌≡◌, ◌∙◌, ℕ, ◌<◌, ◌≤◌, ◌+◌, List, [], ◌∷◌, ◌++◌, length, take, refl, sym, ap}
+use Rattle.std.proofs.Common.{arith, suc, zero, append-nil, length-take}
 use Rattle.std.proofs.lemmas.List.{take_more_set, take_all, map-set, length-append, length-take-le, length-map}
 use Rattle.std.specs.Prelude.{slice_set}
 use Rattle.std.specs.List.{before_first, position_or_len}
@@ -8,10 +9,18 @@ use Rattle.std.specs.Borrow.{Bor}
 use Rattle.zy_text.specs.Lines.{texts, first_words, first_line, ends_word}
 use Rattle.zy_text.proofs.LineLemmas.{word_taken}
 
-pub kept_more : (ws : List (Bor (List ℕ))) (n : ℕ) (w : Bor (List ℕ)) → n < length ws → n < 6 → take (n + 1) (texts (slice_set ws n w)) ≡ first_words (take n (texts ws) ++ w.now ∷ [])
+pub kept_more : (ws : List (Bor (List ℕ))) (n : ℕ) (w : Bor (List ℕ)) → n < length ws → n < 6
+    → take (n + 1) (texts (slice_set ws n w)) ≡ first_words (take n (texts ws) ++ w.now ∷ [])
 kept_more ws n w lt few =
-    ap (take (n + 1)) (map-set (λ (v : Bor (List ℕ)). v.now) ws n w) ∙ take_more_set (texts ws) n w.now (omega (arith, length-map ws (λ (v : Bor (List ℕ)). v.now), lt))
-    ∙ sym (take_all 6 (take n (texts ws) ++ w.now ∷ []) (omega (arith, length-append (take n (texts ws)) (w.now ∷ []), length-take-le n (texts ws) (omega (arith, length-map ws (λ (v : Bor (List ℕ)). v.now), lt)), few)))
+    ap (take (n + 1)) (map-set (λ (v : Bor (List ℕ)). v.now) ws n w) ∙ take_more_set (texts ws) n w.now
+    (omega (arith, length-map ws (λ (v : Bor (List ℕ)). v.now), lt))
+    ∙ sym
+    (take_all 6 (take n (texts ws) ++ w.now ∷ []) (omega (
+      arith,
+      length-append (take n (texts ws)) (w.now ∷ []),
+      length-take-le n (texts ws) (omega (arith, length-map ws (λ (v : Bor (List ℕ)). v.now), lt)),
+      few,
+    )))
 
 take_front : (n : ℕ) (vs ws : List (List ℕ)) → take n (take n vs ++ ws) ≡ take n (vs ++ ws)
 take_front zero vs ws = refl
@@ -23,7 +32,8 @@ pub kept_front : (vs ws : List (List ℕ)) → first_words (first_words vs ++ ws
 kept_front vs ws = take_front 6 vs ws
 
 -- what is kept of a line once its first word, if it begins with one, is pushed
-pub word_pushed : (ws pushed all : List (List ℕ)) (rest word behind : List ℕ) → word ≡ before_first ends_word rest → behind ≡ drop (position_or_len ends_word rest) rest → pushed ≡ first_words (ws ++ filter is_word (word ∷ []))
+pub word_pushed : (ws pushed all : List (List ℕ)) (rest word behind : List ℕ) → word ≡ before_first ends_word rest
+    → behind ≡ drop (position_or_len ends_word rest) rest → pushed ≡ first_words (ws ++ filter is_word (word ∷ []))
     → first_words (ws ++ words_of (first_line rest)) ≡ all → first_words (pushed ++ words_of (first_line behind)) ≡ all
 word_pushed ws pushed all rest word behind e f g h =
     ap (λ vs. first_words (vs ++ words_of (first_line behind))) (g ∙ ap (λ w. first_words (ws ++ filter is_word (w ∷ []))) e)

@@ -1,5 +1,6 @@
 -- A text's first line, byte by byte.
-use Rattle.std.proofs.Common.{◌++◌, ◌≡◌, ◌∙◌, ℕ, ◌==◌, ◌<◌, ◌+◌, Bool, true, false, not, List, [], ◌∷◌, length, take, drop, filter, get_or, suc, refl, sym, ap, subst, arith, inl, inr, ◌⊎◌}
+use Rattle.std.proofs.Common.{◌++◌, ◌≡◌, ◌∙◌, ℕ, ◌==◌, ◌<◌, ◌+◌, Bool, true, false, not, List, [], ◌∷◌, length, take, drop, filter, get_or, suc, refl, sym, ap}
+use Rattle.std.proofs.Common.{subst, arith, inl, inr, ◌⊎◌}
 use Rattle.std.specs.List.{position_or_len, before_first, slice_split, onto_first, prefix_len}
 use borrow.Author.Tests.{eqb-true}
 use Rattle.zy_text.specs.Words.{is_space, is_word, lines_of, words_of, without_comment}
@@ -36,7 +37,8 @@ abbrev parts : List ℕ → List (List ℕ)
 parts bs = slice_split is_space (without_comment (first_line bs))
 
 parts_more : (b : ℕ) (bs : List ℕ) → (b == 10) ≡ false → (b == 59) ≡ false → is_space b ≡ false → parts (b ∷ bs) ≡ onto_first b (parts bs)
-parts_more b bs lf semi space = ap (λ l. slice_split is_space (without_comment l)) (first_more b bs lf) ∙ ap (slice_split is_space) (comment_more b (first_line bs) semi) ∙ rw space refl
+parts_more b bs lf semi space = ap (λ l. slice_split is_space (without_comment l)) (first_more b bs lf)
+    ∙ ap (slice_split is_space) (comment_more b (first_line bs) semi) ∙ rw space refl
 
 not_lf : (b : ℕ) → is_space b ≡ true → (b == 10) ≡ false
 not_lf b h = elim (either (b == 10)) [ inr e ↦ e | inl e ↦ absurd (off b (eqb-true b 10 e) h) ]
@@ -51,7 +53,8 @@ not_semi b h = elim (either (b == 59)) [ inr e ↦ e | inl e ↦ absurd (off b (
     off b e h = cc (ap is_space e, h)
 
 parts_space : (b : ℕ) (bs : List ℕ) → is_space b ≡ true → parts (b ∷ bs) ≡ [] ∷ parts bs
-parts_space b bs space = ap (λ l. slice_split is_space (without_comment l)) (first_more b bs (not_lf b space)) ∙ ap (slice_split is_space) (comment_more b (first_line bs) (not_semi b space)) ∙ rw space refl
+parts_space b bs space = ap (λ l. slice_split is_space (without_comment l)) (first_more b bs (not_lf b space))
+    ∙ ap (slice_split is_space) (comment_more b (first_line bs) (not_semi b space)) ∙ rw space refl
 
 parts_lf : (b : ℕ) (bs : List ℕ) → (b == 10) ≡ true → parts (b ∷ bs) ≡ [] ∷ []
 parts_lf b bs e = rw e refl
@@ -146,11 +149,13 @@ kept_or_not : (w : List ℕ) (ps : List (List ℕ)) → filter is_word (w ∷ ps
 kept_or_not w ps = elim (either (length w == 0)) [ inl e ↦ rw e refl | inr e ↦ rw e refl ]
 
 -- what is before the first byte that ends a word is the first word, if it is one
-pub word_taken : (bs : List ℕ) → words_of (first_line bs) ≡ filter is_word (before_first ends_word bs ∷ []) ++ words_of (first_line (drop (position_or_len ends_word bs) bs))
+pub word_taken : (bs : List ℕ) → words_of (first_line bs) ≡ filter is_word (before_first ends_word bs ∷ [])
+    ++ words_of (first_line (drop (position_or_len ends_word bs) bs))
 word_taken bs =
     let here = begins bs in
     let w = before_first ends_word bs in
-    ap (filter is_word) here.whole ∙ kept_or_not w (drop 1 (parts (drop (len bs) bs))) ∙ ap (λ ws. filter is_word (w ∷ []) ++ ws) (sym (ap (filter is_word) here.behind))
+    ap (filter is_word) here.whole ∙ kept_or_not w (drop 1 (parts (drop (len bs) bs)))
+    ∙ ap (λ ws. filter is_word (w ∷ []) ++ ws) (sym (ap (filter is_word) here.behind))
 
 pub word_below : (bs : List ℕ) → lines_below bs ≡ lines_below (drop (position_or_len ends_word bs) bs)
 word_below bs = (begins bs).below

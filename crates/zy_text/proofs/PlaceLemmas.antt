@@ -13,9 +13,11 @@ is_false false never = refl
 -- the first place that passes is the one that `position` tells
 pub IsFirstByte-position : (a : ℕ) (hay : List ℕ) (r : Option ℕ) → IsFirstByte (is_byte a) hay r → r ≡ position (is_byte a) hay
 IsFirstByte-position a hay None nowhere =
-    let at : position_or_len (is_byte a) hay ≡ length hay = position_or_len_is (is_byte a) hay (length hay) 0 (omega arith) (λ k below. is_false _ (nowhere k (omega arith) below)) (λ beyond. absurd (omega arith)) in
+    let at : position_or_len (is_byte a) hay ≡ length hay = position_or_len_is (is_byte a) hay (length hay) 0 (omega arith)
+    (λ k below. is_false _ (nowhere k (omega arith) below)) (λ beyond. absurd (omega arith)) in
     grind (arith, common_steps)
 IsFirstByte-position a hay (Some i) first =
     let within : i < length hay = first.0.high in
-    let at : position_or_len (is_byte a) hay ≡ i = position_or_len_is (is_byte a) hay i 0 (omega arith) (λ k below. is_false _ (first.0.before k (omega arith) below)) (λ inside. first.1) in
+    let at : position_or_len (is_byte a) hay ≡ i = position_or_len_is (is_byte a) hay i 0 (omega arith)
+    (λ k below. is_false _ (first.0.before k (omega arith) below)) (λ inside. first.1) in
     grind (arith, common_steps)

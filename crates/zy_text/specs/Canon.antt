@@ -84,7 +84,9 @@ program_words k (p ∷ ps) = (codes "txn" ∷ decimal k ∷ []) ∷ map instr_wo
 -- the words of each line of the canonical text
 abbrev pub canon_words : Scenario → List (List (List ℕ))
 canon_words s =
-    header_words s ++ (map row_words s.rows ++ (program_words 0 s.programs ++ (map choice_words s.choices ++ (codes "end" ∷ []) ∷ [])))
+    header_words s
+    ++ (map row_words s.rows ++ (program_words 0 s.programs
+    ++ (map choice_words s.choices ++ (codes "end" ∷ []) ∷ [])))
 
 -- the canonical text of a scenario
 abbrev pub canon : Scenario → List ℕ

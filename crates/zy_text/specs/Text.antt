@@ -1,5 +1,6 @@
 -- What a text means: its lines with words spell statements, and the statements make the scenario.
-use Rattle.std.specs.Prelude.{◌≡◌, ◌⊎◌, ◌≤◌, ◌+◌, true, ℕ, List, [], ◌∷◌, ◌++◌, length, map, codes, Option, Some, None, replicate, if◌then◌else◌}
+use Rattle.std.specs.Prelude.{◌≡◌, ◌⊎◌, ◌≤◌, ◌+◌, true, ℕ, List, [], ◌∷◌, ◌++◌, length, map, codes, Option, Some, None}
+use Rattle.std.specs.Prelude.{replicate, if◌then◌else◌}
 use Rattle.std.specs.List.{flat_map}
 use Rattle.zy_isa.specs.declared.version.Version.{Version}
 use Rattle.zy_isa.specs.declared.rule.Rule.{Rule}
@@ -55,12 +56,15 @@ pub data Statement : Type 0 where
 
 -- `@N`, or a label
 abbrev pub SpellsTarget : List Mark → ℕ → List ℕ → Type 0
-SpellsTarget labels n w = ((d : List ℕ) × (w ≡ 64 ∷ d) × (number_of d ≡ Some n)) ⊎ ((is_name w ≡ true) × (place w labels ≡ Some n))
+SpellsTarget labels n w = ((d : List ℕ) × (w ≡ 64 ∷ d) × (number_of d ≡ Some n))
+    ⊎ ((is_name w ≡ true) × (place w labels ≡ Some n))
 
 abbrev pub SpellsParts : List Mark → Parts → List (List ℕ) → Type 0
-SpellsParts labels (Number o a n) ws = (w : List ℕ) × (ws ≡ mnemonic (op.Number o) ∷ reg_text a ∷ w ∷ []) × (number_of w ≡ Some n)
+SpellsParts labels (Number o a n) ws = (w : List ℕ) × (ws ≡ mnemonic (op.Number o) ∷ reg_text a ∷ w ∷ [])
+    × (number_of w ≡ Some n)
 SpellsParts labels (Pair o a b) ws = ws ≡ mnemonic (op.Pair o) ∷ reg_text a ∷ reg_text b ∷ []
-SpellsParts labels (Jump o a b n) ws = (w : List ℕ) × (ws ≡ mnemonic (op.Jump o) ∷ reg_text a ∷ reg_text b ∷ w ∷ []) × SpellsTarget labels n w
+SpellsParts labels (Jump o a b n) ws = (w : List ℕ) × (ws ≡ mnemonic (op.Jump o) ∷ reg_text a ∷ reg_text b ∷ w ∷ [])
+    × SpellsTarget labels n w
 SpellsParts labels (Lone o) ws = ws ≡ mnemonic (op.Lone o) ∷ []
 
 abbrev pub SpellsInstr : List Mark → Instr → List (List ℕ) → Type 0
@@ -91,17 +95,21 @@ SpellsChoice names (Push n) ws = ws ≡ node_text n ∷ codes "push" ∷ []
 
 -- `x N`, or nothing for once
 abbrev pub SpellsTimes : ℕ → List (List ℕ) → Type 0
-SpellsTimes n ws = ((ws ≡ []) × (n ≡ 1)) ⊎ ((w : List ℕ) × (ws ≡ codes "x" ∷ w ∷ []) × (number_of w ≡ Some n) × (1 ≤ n) × (n ≤ 4096))
+SpellsTimes n ws = ((ws ≡ []) × (n ≡ 1)) ⊎ ((w : List ℕ) × (ws ≡ codes "x" ∷ w ∷ []) × (number_of w ≡ Some n) × (1 ≤ n)
+    × (n ≤ 4096))
 
 abbrev pub Spells : Statement → List (List ℕ) → Type 0
 Spells (zephyr v) ws = ws ≡ codes "zephyr" ∷ word v ∷ []
 Spells (cap n) ws = (w : List ℕ) × (ws ≡ codes "cap" ∷ w ∷ []) × (number_of w ≡ Some n)
 Spells (pages n) ws = (w : List ℕ) × (ws ≡ codes "pages" ∷ w ∷ []) × (number_of w ≡ Some n)
 Spells (rule r) ws = ws ≡ codes "rule" ∷ rule_text r ∷ []
-Spells (row r) ws = (k : List ℕ) × (v : List ℕ) × (ws ≡ codes "row" ∷ k ∷ v ∷ []) × (number_of k ≡ Some r.key) × (number_of v ≡ Some r.value)
+Spells (row r) ws = (k : List ℕ) × (v : List ℕ) × (ws ≡ codes "row" ∷ k ∷ v ∷ []) × (number_of k ≡ Some r.key)
+    × (number_of v ≡ Some r.value)
 Spells (txn head) ws = ws ≡ codes "txn" ∷ head ∷ []
-Spells (code labels c) ws = (front : List (List ℕ)) × (back : List (List ℕ)) × (ws ≡ front ++ back) × SpellsLabel c.label front × MaySpell labels c.instr back
-Spells (choice names c) ws = (front : List (List ℕ)) × (back : List (List ℕ)) × (ws ≡ front ++ back) × SpellsChoice names c.choice front × SpellsTimes c.times back
+Spells (code labels c) ws = (front : List (List ℕ)) × (back : List (List ℕ)) × (ws ≡ front ++ back)
+    × SpellsLabel c.label front × MaySpell labels c.instr back
+Spells (choice names c) ws = (front : List (List ℕ)) × (back : List (List ℕ)) × (ws ≡ front ++ back)
+    × SpellsChoice names c.choice front × SpellsTimes c.times back
 Spells end ws = ws ≡ codes "end" ∷ []
 
 abbrev pub SpellEach : List Statement → List (List (List ℕ)) → Type 0

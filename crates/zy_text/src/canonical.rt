@@ -7,13 +7,12 @@ ghost use Rattle.zy_text.specs.Words.{spaced};
 ghost use Rattle.zy_text.specs.Canon.{node_text, rule_text, reg_text, row_text, instr_text, choice_text};
 
 use std::alloc::AllocError;
-use zy_io::{Decimal, Joined, Line, LineBuffer, Lines, Section, Sink, TextFault};
 use zy_io::section::write_lines;
-use zy_isa::{Choice, Instr, Node, Reg};
-use zy_isa::operation::{
-    JumpOperation, LoneOperation, NumberOperation, Operation, PairOperation, Parts,
+use zy_io::{Decimal, Joined, Line, LineBuffer, Lines, Section, Sink, TextFault};
+use zy_isa::{
+    Choice, Instr, JumpOperation, LoneOperation, Node, NumberOperation, Operation, PairOperation,
+    Parts, Reg, Row, Rule, Version, Word,
 };
-use zy_isa::{Row, Rule, Version, Word};
 
 /// A value with a canonical text, which is a line or a part of one.
 pub trait CanonicalText {

@@ -30,7 +30,8 @@ fn without_comment(line: &[u8]) -> &[u8]
 fn first_line(text: &[u8]) -> (&[u8], &[u8])
     requires { 0 < length text.now }
     ensures lines { lines_of text.entry.now ≡ result.0.now ∷ lines_of result.1.now }
-    ensures parted { length text.entry.now ≡ min (length text.entry.now) (length result.0.now + 1) + length result.1.now }
+    ensures parted { length text.entry.now ≡ min (length text.entry.now)
+        (length result.0.now + 1) + length result.1.now }
 {
     match first_place(text, b'\n') {
         Some(end) => (&text[..end], &text[end + 1..]),

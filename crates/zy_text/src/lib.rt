@@ -1,4 +1,5 @@
-//! Texts: what they mean, the words of a line, the lines of the canonical text, and where the scenario part of an input ends.
+//! Texts: what they mean, the words of a line, the lines of the canonical text, and where the scenario part of an input
+//! ends.
 #![tactic(auto)]
 
 pub mod canonical;

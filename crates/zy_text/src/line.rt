@@ -112,7 +112,8 @@ fn below(text: &[u8]) -> &[u8]
     }
 }
 
-/// Puts the first words of a text's first line, without its comment, in place of what is there, and gives what is below the line.
+/// Puts the first words of a text's first line, without its comment, in place of what is there, and gives what is below
+/// the line.
 #[inline(always)]
 pub fn take_line<'a>(words: &mut Words<'a>, text: &'a [u8]) -> &'a [u8]
     requires { 0 < length text.now }

@@ -23,7 +23,8 @@ named_kept count x (d ∷ cs) h = kept_step count d (sub x cs) (is_by x d) h.0 (
 -- a choice goes to its actor's list
 back_step : (count : ℕ) (d : Choice) (cs : List Choice) (x : Actor)
     → (AreNamed count (sub C cs) → AreNamed count (sub A cs) → AreNamed count (sub B cs) → AreNamed count cs)
-    → AreNamed count (if is_c x then d ∷ sub C cs else sub C cs) → AreNamed count (if is_a x then d ∷ sub A cs else sub A cs) → AreNamed count (if is_b x then d ∷ sub B cs else sub B cs)
+    → AreNamed count (if is_c x then d ∷ sub C cs else sub C cs) → AreNamed count (if is_a x then d ∷ sub A cs else sub A cs)
+    → AreNamed count (if is_b x then d ∷ sub B cs else sub B cs)
     → AreNamed count (d ∷ cs)
 back_step count d cs C rest c a b = (c.0, rest c.1 a b)
 back_step count d cs A rest c a b = (a.0, rest c a.1 b)

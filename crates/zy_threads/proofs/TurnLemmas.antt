@@ -1,5 +1,6 @@
 -- A turn keeps the board's facts.
-use Rattle.std.proofs.Common.{◌≡◌, ℕ, zero, suc, ◌+◌, ◌<◌, ◌≤◌, Bool, true, false, List, [], ◌∷◌, ◌++◌, length, take, get_or, slice_get, Some, refl, sym, ap, ◌∙◌, subst, arith, add-one}
+use Rattle.std.proofs.Common.{◌≡◌, ℕ, zero, suc, ◌+◌, ◌<◌, ◌≤◌, Bool, true, false, List, [], ◌∷◌, ◌++◌, length, take, get_or, slice_get, Some, refl, sym, ap}
+use Rattle.std.proofs.Common.{◌∙◌, subst, arith, add-one}
 use Rattle.std.specs.Prelude.{if◌then◌else◌}
 use Rattle.std.proofs.Math.Seq.{take-suc}
 use Rattle.std.proofs.lemmas.List.{length-take-le}
@@ -48,7 +49,8 @@ sub_by x (d ∷ cs) k c h = behind (λ e. is_by x e ≡ true) c d (sub x cs) (λ
 -- each of an actor's choices names a transaction that exists
 sub_named : (count : ℕ) (x : Actor) (cs : List Choice) (k : ℕ) (c : Choice) → AreNamed count cs → slice_get (sub x cs) k ≡ Some c → names_below count c ≡ true
 sub_named count x [] k c all h = absurd (cc (h))
-sub_named count x (d ∷ cs) k c all h = behind (λ e. names_below count e ≡ true) c d (sub x cs) (λ j e. sub_named count x cs j c all.1 e) k (is_by x d) (λ e. all.0) h
+sub_named count x (d ∷ cs) k c all h = behind (λ e. names_below count e ≡ true) c d (sub x cs) (λ j e. sub_named count x cs j c all.1 e) k (is_by x d)
+    (λ e. all.0) h
 
 -- a choice counts for one of the three actors
 one_of : (x : Actor) (l m n k : ℕ) → l + m + n ≡ k → (if is_c x then l + 1 else l) + (if is_a x then m + 1 else m) + (if is_b x then n + 1 else n) ≡ k + 1
@@ -79,7 +81,8 @@ line_ahead x m l c was next =
     let own : is_by x c ≡ true = sub_by x m.scenario.choices l.cursor c (ap (λ s. slice_get s l.cursor) (sym was.whole) ∙ next) in
     record {
       whole = was.whole;
-      taken = ap (sub x) (choices_of-push m.entries (entry_at m c)) ∙ sub-push x (choices_of m.entries) c ∙ ap (λ (b : Bool). if b then sub x (choices_of m.entries) ++ c ∷ [] else sub x (choices_of m.entries)) own
+      taken = ap (sub x) (choices_of-push m.entries (entry_at m c)) ∙ sub-push x (choices_of m.entries) c
+          ∙ ap (λ (b : Bool). if b then sub x (choices_of m.entries) ++ c ∷ [] else sub x (choices_of m.entries)) own
           ∙ ap (λ w. w ++ c ∷ []) was.taken ∙ sym (take_next l.schedule l.cursor c next);
       within = omega (arith, slice_get_within l.schedule l.cursor c next);
     }
@@ -88,7 +91,8 @@ line_ahead x m l c was next =
 line_beside : (x : Actor) (m : History) (l : Turns) (c : Choice) → AreTurnsOf x m l → is_by x c ≡ false → AreTurnsOf x (after_choice m c) l
 line_beside x m l c was other = record {
   whole = was.whole;
-  taken = ap (sub x) (choices_of-push m.entries (entry_at m c)) ∙ sub-push x (choices_of m.entries) c ∙ ap (λ (b : Bool). if b then sub x (choices_of m.entries) ++ c ∷ [] else sub x (choices_of m.entries)) other ∙ was.taken;
+  taken = ap (sub x) (choices_of-push m.entries (entry_at m c)) ∙ sub-push x (choices_of m.entries) c
+      ∙ ap (λ (b : Bool). if b then sub x (choices_of m.entries) ++ c ∷ [] else sub x (choices_of m.entries)) other ∙ was.taken;
   within = was.within;
 }
 
@@ -119,13 +123,28 @@ board_turned : (x : Actor) (t : BoardView) (c : Choice) → IsBoard t → slice_
     → IsBoard (after_turn t x c)
 board_turned C t c was next =
     let others = only_c (actor_of c) (own_at C t.machine t.c c was.of_c next) in
-    record { tested = was.tested; of_c = line_ahead C t.machine t.c c was.of_c next; of_a = line_beside A t.machine t.a c was.of_a others.0; of_b = line_beside B t.machine t.b c was.of_b others.1 }
+    record {
+      tested = was.tested;
+      of_c = line_ahead C t.machine t.c c was.of_c next;
+      of_a = line_beside A t.machine t.a c was.of_a others.0;
+      of_b = line_beside B t.machine t.b c was.of_b others.1;
+    }
 board_turned A t c was next =
     let others = only_a (actor_of c) (own_at A t.machine t.a c was.of_a next) in
-    record { tested = was.tested; of_c = line_beside C t.machine t.c c was.of_c others.0; of_a = line_ahead A t.machine t.a c was.of_a next; of_b = line_beside B t.machine t.b c was.of_b others.1 }
+    record {
+      tested = was.tested;
+      of_c = line_beside C t.machine t.c c was.of_c others.0;
+      of_a = line_ahead A t.machine t.a c was.of_a next;
+      of_b = line_beside B t.machine t.b c was.of_b others.1;
+    }
 board_turned B t c was next =
     let others = only_b (actor_of c) (own_at B t.machine t.b c was.of_b next) in
-    record { tested = was.tested; of_c = line_beside C t.machine t.c c was.of_c others.0; of_a = line_beside A t.machine t.a c was.of_a others.1; of_b = line_ahead B t.machine t.b c was.of_b next }
+    record {
+      tested = was.tested;
+      of_c = line_beside C t.machine t.c c was.of_c others.0;
+      of_a = line_beside A t.machine t.a c was.of_a others.1;
+      of_b = line_ahead B t.machine t.b c was.of_b next;
+    }
 
 -- how many choices an actor has taken
 taken_length : (x : Actor) (m : History) (l : Turns) → AreTurnsOf x m l
@@ -137,7 +156,8 @@ taken_length x m l was =
 
 -- while an actor has a choice left, fewer are taken than there are
 within_sum : (x : Actor) (t : BoardView) (c : Choice) → IsBoard t → slice_get (turns_of t x).schedule (turns_of t x).cursor ≡ Some c
-    → t.c.cursor + t.a.cursor + t.b.cursor < length (sub C t.machine.scenario.choices) + length (sub A t.machine.scenario.choices) + length (sub B t.machine.scenario.choices)
+    → t.c.cursor + t.a.cursor + t.b.cursor < length (sub C t.machine.scenario.choices) + length (sub A t.machine.scenario.choices) + length
+    (sub B t.machine.scenario.choices)
 within_sum C t c was next =
     let lt : t.c.cursor < length t.c.schedule = slice_get_within t.c.schedule t.c.cursor c next in
     omega (arith, ap length was.of_c.whole, (taken_length A t.machine t.a was.of_a).1, (taken_length B t.machine t.b was.of_b).1)
@@ -152,7 +172,17 @@ within_sum B t c was next =
 pub room : (x : Actor) (t : BoardView) (c : Choice) → IsBoard t → slice_get (turns_of t x).schedule (turns_of t x).cursor ≡ Some c
     → length t.machine.entries < 4096
 room x t c was next =
-    omega (arith, (taken_length C t.machine t.c was.of_c).0, (taken_length A t.machine t.a was.of_a).0, (taken_length B t.machine t.b was.of_b).0, sub_lengths (choices_of t.machine.entries), length-choices_of t.machine.entries, sub_lengths t.machine.scenario.choices, within_sum x t c was next, was.tested.few_choices)
+    omega (
+      arith,
+      (taken_length C t.machine t.c was.of_c).0,
+      (taken_length A t.machine t.a was.of_a).0,
+      (taken_length B t.machine t.b was.of_b).0,
+      sub_lengths (choices_of t.machine.entries),
+      length-choices_of t.machine.entries,
+      sub_lengths t.machine.scenario.choices,
+      within_sum x t c was next,
+      was.tested.few_choices,
+    )
 
 -- the board knows each actor's turns
 own_turns : (x : Actor) (t : BoardView) → IsBoard t → AreTurnsOf x t.machine (turns_of t x)
@@ -164,7 +194,8 @@ own_turns B t was = was.of_b
 pub named : (x : Actor) (t : BoardView) (c : Choice) → IsBoard t → slice_get (turns_of t x).schedule (turns_of t x).cursor ≡ Some c
     → names_below (length t.machine.scenario.programs) c ≡ true
 named x t c was next =
-    sub_named (length t.machine.scenario.programs) x t.machine.scenario.choices (turns_of t x).cursor c was.tested.choices_named (ap (λ s. slice_get s (turns_of t x).cursor) (sym (own_turns x t was).whole) ∙ next)
+    sub_named (length t.machine.scenario.programs) x t.machine.scenario.choices (turns_of t x).cursor c was.tested.choices_named
+    (ap (λ s. slice_get s (turns_of t x).cursor) (sym (own_turns x t was).whole) ∙ next)
 
 -- a board u that is t after the turn of x, where a is the actor asked for
 pub turn_kept : (a x : Actor) (s t u : BoardView) (c : Choice) → a ≡ x → t ≡ s → IsBoard t → slice_get (turns_of s a).schedule (turns_of s a).cursor ≡ Some c
@@ -178,10 +209,12 @@ turn_kept a x s t u c is same was next now =
 pub front_within : (a x : Actor) (s t : BoardView) (c : Choice) → a ≡ x → t ≡ s → slice_get (turns_of s a).schedule (turns_of s a).cursor ≡ Some c
     → (turns_of t x).cursor < length (turns_of t x).schedule
 front_within a x s t c is same next =
-    slice_get_within (turns_of t x).schedule (turns_of t x).cursor c ((λ i. slice_get (turns_of (same i) (sym is i)).schedule (turns_of (same i) (sym is i)).cursor) ∙ next)
+    slice_get_within (turns_of t x).schedule (turns_of t x).cursor c
+    ((λ i. slice_get (turns_of (same i) (sym is i)).schedule (turns_of (same i) (sym is i)).cursor) ∙ next)
 
 -- the first choices of an actor, and one more
 pub sub_take : (x : Actor) (cs : List Choice) (i : ℕ) (d : Choice) (b : Bool) → i < length cs → is_by x (get_or cs i d) ≡ b
     → sub x (take (i + 1) cs) ≡ (if b then sub x (take i cs) ++ get_or cs i d ∷ [] else sub x (take i cs))
 sub_take x cs i d b lt is =
-    rw (add-one, take-suc cs i d lt) (sub-push x (take i cs) (get_or cs i d) ∙ ap (λ (v : Bool). if v then sub x (take i cs) ++ get_or cs i d ∷ [] else sub x (take i cs)) is)
+    rw (add-one, take-suc cs i d lt) (sub-push x (take i cs) (get_or cs i d)
+    ∙ ap (λ (v : Bool). if v then sub x (take i cs) ++ get_or cs i d ∷ [] else sub x (take i cs)) is)

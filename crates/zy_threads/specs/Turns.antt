@@ -1,5 +1,6 @@
 -- A board, and one turn of an actor on it.
-use Rattle.std.specs.Prelude.{◌≡◌, ℕ, ◌+◌, ◌<◌, ◌≤◌, Bool, true, false, List, [], ◌∷◌, ◌++◌, length, take, if◌then◌else◌, slice_get, Option, None, Some}
+use Rattle.std.specs.Prelude.{◌≡◌, ℕ, ◌+◌, ◌<◌, ◌≤◌, Bool, true, false, List, [], ◌∷◌, ◌++◌, length, take}
+use Rattle.std.specs.Prelude.{if◌then◌else◌, slice_get, Option, None, Some}
 use Rattle.zy_isa.specs.declared.node.Actor.{Actor}
 use Rattle.zy_isa.specs.declared.node.Actor.TheVariants.{C, A, B}
 use Rattle.zy_isa.specs.declared.choice.Choice.{Choice}
@@ -68,7 +69,11 @@ entry_at h c = entry_of c (step h.scenario c h.state)
 
 -- the history with what came of one choice more
 abbrev pub after_choice : History → Choice → History
-after_choice h c = record { scenario = h.scenario; state = (step h.scenario c h.state).after; entries = h.entries ++ entry_at h c ∷ [] }
+after_choice h c = record {
+  scenario = h.scenario;
+  state = (step h.scenario c h.state).after;
+  entries = h.entries ++ entry_at h c ∷ [];
+}
 
 -- the choice was made, and the actor's cursor moved by one
 abbrev pub after_turn : BoardView → Actor → Choice → BoardView
@@ -79,7 +84,8 @@ after_turn t B c = record { machine = after_choice t.machine c; c = t.c; a = t.a
 -- what a turn of the actor answers, and what is then on the board
 abbrev pub IsTurn : Actor → BoardView → Option Entry → BoardView → Type 0
 IsTurn x t None n = (n ≡ t) × ((turns_of t x).cursor ≡ length (turns_of t x).schedule)
-IsTurn x t (Some e) n = (slice_get (turns_of t x).schedule (turns_of t x).cursor ≡ Some e.choice) × (e ≡ entry_at t.machine e.choice) × (n ≡ after_turn t x e.choice)
+IsTurn x t (Some e) n = (slice_get (turns_of t x).schedule (turns_of t x).cursor ≡ Some e.choice)
+    × (e ≡ entry_at t.machine e.choice) × (n ≡ after_turn t x e.choice)
 
 -- the schedule is all of the actor's choices, and the history has those up to the cursor
 pub record AreTurnsOf (x : Actor) (m : History) (l : Turns) : Type 0 where

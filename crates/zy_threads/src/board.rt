@@ -1,5 +1,6 @@
 //! A machine whose choices are taken actor by actor.
-ghost use Rattle.std.specs.Prelude.{◌≡◌, ◌<◌, ◌≤◌, ◌+◌, ℕ, [], IfOk, OnErr, IsTrue, MatchOption, length, slice_get, Some};
+ghost use Rattle.std.specs.Prelude.{◌≡◌, ◌<◌, ◌≤◌, ◌+◌, ℕ, [], IfOk, OnErr, IsTrue, MatchOption, length, slice_get};
+ghost use Rattle.std.specs.Prelude.{Some};
 ghost use Rattle.zy_machine.specs.Histories.{choices_of};
 ghost use Rattle.zy_table.specs.Play.{opening};
 ghost use Rattle.zy_threads.specs.Turns.{sub, is_by, turns_of, ahead, IsTurn, IsBoard, IsMerge};
@@ -41,7 +42,9 @@ impl Lane {
     }
 
     fn front(&self) -> Option<Choice>
-        ensures { MatchOption result (self.now.cursor ≡ length self.now.schedule) (λ c. (slice_get self.now.schedule self.now.cursor ≡ Some c) × (self.now.cursor < length self.now.schedule)) }
+        ensures { MatchOption result (self.now.cursor ≡ length self.now.schedule)
+            (λ c. (slice_get self.now.schedule self.now.cursor ≡ Some c)
+            × (self.now.cursor < length self.now.schedule)) }
     {
         self.schedule.get(self.cursor).copied()
     }
@@ -106,7 +109,11 @@ impl Model for Board {
 impl Board {
     /// A board where nothing has happened yet. The scenario is dropped where there is no memory.
     pub fn new(alloc: Global, scenario: Scenario) -> Result<Board, Fault>
-        ensures machine { IfOk result (λ t. t.machine ≡ record { scenario = scenario; state = opening scenario; entries = [] }) }
+        ensures machine { IfOk result (λ t. t.machine ≡ record {
+          scenario = scenario;
+          state = opening scenario;
+          entries = [];
+        }) }
         ensures cursors { IfOk result (λ t. (t.c.cursor ≡ 0) × (t.a.cursor ≡ 0) × (t.b.cursor ≡ 0)) }
     {
         let c = Lane::new(choices_by(alloc, scenario.choices(), Actor::C)?);
@@ -118,7 +125,8 @@ impl Board {
 
     /// The actor's next choice.
     fn next_of(&self, actor: Actor) -> Option<Choice>
-        ensures { MatchOption result ((turns_of self.now actor).cursor ≡ length (turns_of self.now actor).schedule) (λ c. slice_get (turns_of self.now actor).schedule (turns_of self.now actor).cursor ≡ Some c) }
+        ensures { MatchOption result ((turns_of self.now actor).cursor ≡ length (turns_of self.now actor).schedule)
+            (λ c. slice_get (turns_of self.now actor).schedule (turns_of self.now actor).cursor ≡ Some c) }
     {
         match actor {
             Actor::C => self.c.front(),
@@ -177,7 +185,9 @@ impl Board {
 
     /// The machine, on which every choice was taken.
     pub(crate) fn finished(self) -> Machine
-        requires { (self.c.cursor ≡ length (sub is_c self.machine.scenario.choices)) × (self.a.cursor ≡ length (sub is_a self.machine.scenario.choices)) × (self.b.cursor ≡ length (sub is_b self.machine.scenario.choices)) }
+        requires { (self.c.cursor ≡ length (sub is_c self.machine.scenario.choices))
+            × (self.a.cursor ≡ length (sub is_a self.machine.scenario.choices))
+            × (self.b.cursor ≡ length (sub is_b self.machine.scenario.choices)) }
         ensures machine { result ≡ self.machine }
         ensures merge { IsMerge (choices_of result.entries) result.scenario.choices }
     {

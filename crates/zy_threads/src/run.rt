@@ -164,10 +164,14 @@ where
     R: Threads + Wait + Sync,
     G: Gate + Sync,
     W: Allowance + Sync,
-    requires board { (board.machine.scenario ≡ S.plan) × (board.c.cursor ≡ 0) × (board.a.cursor ≡ 0) × (board.b.cursor ≡ 0) }
-    requires c { (c.name ≡ C.name) × (c.parts ≡ C.parts) × (C.parts ≡ 1) × (C.turns ≡ length (sub is_c S.plan.choices)) }
-    requires a { (a.name ≡ A.name) × (a.parts ≡ A.parts) × (A.parts ≡ 1) × (A.turns ≡ length (sub is_a S.plan.choices)) }
-    requires b { (b.name ≡ B.name) × (b.parts ≡ B.parts) × (B.parts ≡ 1) × (B.turns ≡ length (sub is_b S.plan.choices)) }
+    requires board { (board.machine.scenario ≡ S.plan) × (board.c.cursor ≡ 0) × (board.a.cursor ≡ 0)
+        × (board.b.cursor ≡ 0) }
+    requires c { (c.name ≡ C.name) × (c.parts ≡ C.parts) × (C.parts ≡ 1)
+        × (C.turns ≡ length (sub is_c S.plan.choices)) }
+    requires a { (a.name ≡ A.name) × (a.parts ≡ A.parts) × (A.parts ≡ 1)
+        × (A.turns ≡ length (sub is_a S.plan.choices)) }
+    requires b { (b.name ≡ B.name) × (b.parts ≡ B.parts) × (B.parts ≡ 1)
+        × (B.turns ≡ length (sub is_b S.plan.choices)) }
     ensures scenario { IfOk result (λ m. m.scenario ≡ S.plan) }
     ensures merge { IfOk result (λ m. IsMerge (choices_of m.entries) S.plan.choices) }
 {
@@ -194,8 +198,9 @@ where
     close(desk, c, a, b)
 }
 
-/// Makes all choices of a scenario by three threads, one for each actor. Where one of them is out of memory it stops, the others go
-/// on to their ends, and the answer is out of memory; so it is where a thread cannot be started. It returns once all have ended.
+/// Makes all choices of a scenario by three threads, one for each actor. Where one of them is out of memory it stops,
+/// the others go on to their ends, and the answer is out of memory; so it is where a thread cannot be started. It
+/// returns once all have ended.
 pub fn run_threads(
     rt: &(impl Threads + Wait + Sync),
     alloc: Global,

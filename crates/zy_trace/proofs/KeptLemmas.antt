@@ -18,7 +18,8 @@ use Rattle.zy_audit.specs.Locked.{lock_on, lock_text, locks_on, page_reply, lock
 use Rattle.zy_trace.specs.Kept.{none_on}
 
 -- behind a common front the rests say what the lists say
-pub rests_say : (old new : List Lock) (i : ℕ) → take i old ≡ take i new → (n : Node) (p : ℕ) → locks_on n p (drop i old) ≡ locks_on n p (drop i new) → locks_on n p old ≡ locks_on n p new
+pub rests_say : (old new : List Lock) (i : ℕ) → take i old ≡ take i new → (n : Node) (p : ℕ) → locks_on n p (drop i old) ≡ locks_on n p (drop i new)
+    → locks_on n p old ≡ locks_on n p new
 rests_say old new i e n p h =
     ap (locks_on n p) (sym (take-append-drop i old))
     ∙ (flat_map-append (lock_on n p) (take i old) (drop i old)
@@ -42,7 +43,8 @@ pub rest_whole : (i : ℕ) (xs : List Lock) → take (length xs - i) (drop i xs)
 rest_whole i xs = ap (λ k. take k (drop i xs)) (sym (length-drop i xs)) ∙ whole (drop i xs)
 
 -- the same line
-pub same_reply : (s t : State) (p : ℕ) (x y : Leaf) → page_in p (all_leaves s) ≡ Some x → page_in p (all_leaves t) ≡ Some y → x ≡ y → place_of p s ≡ place_of p t
+pub same_reply : (s t : State) (p : ℕ) (x y : Leaf) → page_in p (all_leaves s) ≡ Some x → page_in p (all_leaves t) ≡ Some y → x ≡ y
+    → place_of p s ≡ place_of p t
     → locks_on A p s.a.locks ≡ locks_on A p t.a.locks → locks_on B p s.b.locks ≡ locks_on B p t.b.locks → page_reply s p ≡ page_reply t p
 same_reply s t p x y f g e h a b =
     let there : page_reply s p ≡ locked_page s p = ap (λ o. if is_some o then locked_page s p else no_page p) f in

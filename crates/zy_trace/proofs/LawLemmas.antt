@@ -17,7 +17,8 @@ kept_or_shown false old new h = refl
 
 shown_now : (s t : State) (x : Subject) → or_before (lines_of_subject false s t x) (inset (line_in s x)) ≡ inset (line_in t x)
 shown_now s t x =
-    kept_or_shown (bytes_eq (line_in s x) (line_in t x)) (inset (line_in s x)) (inset (line_in t x)) (λ e. ap inset ((bytes_eq-Decides (line_in s x) (line_in t x)).0 e))
+    kept_or_shown (bytes_eq (line_in s x) (line_in t x)) (inset (line_in s x)) (inset (line_in t x))
+    (λ e. ap inset ((bytes_eq-Decides (line_in s x) (line_in t x)).0 e))
 
 pub last_is : LastLines
 last_is sc s [] x = refl

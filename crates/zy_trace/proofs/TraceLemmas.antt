@@ -1,5 +1,6 @@
 -- Lines one after another, and what is left of a trace.
-use Rattle.std.proofs.Common.{◌≡◌, ◌∙◌, ℕ, ◌+◌, ◌<◌, ◌≤◌, Bool, true, List, [], ◌∷◌, ◌++◌, Option, Result, Err, refl, sym, ap, arith, append_assoc, append-nil, map, length, subst, drop, get_or, suc, zero}
+use Rattle.std.proofs.Common.{◌≡◌, ◌∙◌, ℕ, ◌+◌, ◌<◌, ◌≤◌, Bool, true, List, [], ◌∷◌, ◌++◌, Option, Result, Err, refl, sym, ap, arith, append_assoc, append-nil}
+use Rattle.std.proofs.Common.{map, length, subst, drop, get_or, suc, zero}
 use Rattle.std.specs.Io.KnownBytes.{Appends}
 use Rattle.std.proofs.KnownBytes.{Appends-trans}
 use Rattle.std.proofs.lemmas.List.{drop_more}
@@ -28,7 +29,8 @@ use Rattle.zy_trace.specs.declared.subject.Subject.{Subject}
 use Rattle.zy_trace.specs.Subjects.{line_in, inset, lines_of_subject, shown_texts, state_lines, subjects}
 
 -- one number more
-pub shown_more : (f : Subject → List ℕ) (g : ℕ → Subject) (n : ℕ) → flat_map f (map g (range_with_len 0 (n + 1))) ≡ flat_map f (map g (range_with_len 0 n)) ++ f (g n)
+pub shown_more : (f : Subject → List ℕ) (g : ℕ → Subject) (n : ℕ) → flat_map f (map g (range_with_len 0 (n + 1))) ≡ flat_map f (map g (range_with_len 0 n))
+    ++ f (g n)
 shown_more f g n =
     ap (flat_map f) (map-range_with_len_more g 0 n n (omega arith))
     ∙ flat_map-append f (map g (range_with_len 0 n)) (g n ∷ [])
@@ -38,7 +40,8 @@ two_parts : (f : Subject → List ℕ) (o m p : List ℕ) (ks bs : List Subject)
 two_parts f o m p ks bs h k =
     k ∙ ap (λ x. x ++ flat_map f bs) h ∙ append_assoc o (flat_map f ks) (flat_map f bs) ∙ ap (λ x. o ++ x) (sym (flat_map-append f ks bs))
 
-pub four_parts : (f : Subject → List ℕ) (o m p l e : List ℕ) (ks bs cs ds : List Subject) → m ≡ o ++ flat_map f ks → p ≡ m ++ flat_map f bs → l ≡ p ++ flat_map f cs → e ≡ l ++ flat_map f ds
+pub four_parts : (f : Subject → List ℕ) (o m p l e : List ℕ) (ks bs cs ds : List Subject) → m ≡ o ++ flat_map f ks → p ≡ m ++ flat_map f bs
+    → l ≡ p ++ flat_map f cs → e ≡ l ++ flat_map f ds
     → e ≡ o ++ flat_map f (ks ++ (bs ++ (cs ++ ds)))
 four_parts f o m p l e ks bs cs ds h i j k =
     two_parts f o m e ks (bs ++ (cs ++ ds)) h (two_parts f m p e bs (cs ++ ds) i (two_parts f p l e cs ds j k))
@@ -102,17 +105,20 @@ written_all a b sc i s h le =
     subst (Appends a b) (sym (h.whole ∙ ap (λ cs. h.out ++ flat_map line_of (steps_lines sc (i + 1) s cs)) none ∙ append-nil h.out)) h.wrote
 
 -- the fault of a step's text is that of all
-pub written_stops : {Y : Type 0} (a b d : Option (List ℕ)) (m n k : ℕ) (f : TextFault) (r : Result Y TextFault) (sc : Scenario) (i : ℕ) (s : State) → Written a b sc i s → i < length sc.choices → n ≡ m
+pub written_stops : {Y : Type 0} (a b d : Option (List ℕ)) (m n k : ℕ) (f : TextFault) (r : Result Y TextFault) (sc : Scenario) (i : ℕ) (s : State)
+    → Written a b sc i s → i < length sc.choices → n ≡ m
     → Wrote b d n k {X = Unit {0}} (Err f) (flat_map line_of (step_lines sc (i + 1) s (get_or sc.choices i Start))) → r ≡ Err f
     → Wrote a d m k r (flat_map line_of (steps_lines sc 1 (opening sc) sc.choices))
 written_stops a b d m n k f r sc i s h lt same w is =
     let c = get_or sc.choices i Start in
-    Wrote-stops a b d m n k f r h.out (flat_map line_of (step_lines sc (i + 1) s c)) (flat_map line_of (steps_lines sc (i + 1 + 1) (step sc c s).after (drop (i + 1) sc.choices)))
+    Wrote-stops a b d m n k f r h.out (flat_map line_of (step_lines sc (i + 1) s c))
+    (flat_map line_of (steps_lines sc (i + 1 + 1) (step sc c s).after (drop (i + 1) sc.choices)))
     (flat_map line_of (steps_lines sc 1 (opening sc) sc.choices)) h.wrote same w (written_next a b sc i s h lt) is
 
 -- both machines make the same choice
 pub beside_step : (x y v w : History) (c : Choice) (d e : Entry) → Beside x y → v.scenario ≡ x.scenario → w.scenario ≡ y.scenario
-    → d ≡ entry_of c (step x.scenario c x.state) → e ≡ entry_of c (step y.scenario c y.state) → v.entries ≡ x.entries ++ d ∷ [] → w.entries ≡ y.entries ++ e ∷ []
+    → d ≡ entry_of c (step x.scenario c x.state) → e ≡ entry_of c (step y.scenario c y.state) → v.entries ≡ x.entries ++ d ∷ []
+    → w.entries ≡ y.entries ++ e ∷ []
     → v.state ≡ (step x.scenario c x.state).after → w.state ≡ (step y.scenario c y.state).after → Beside v w
 beside_step x y v w c d e h vs ws de ee vh wh vt wt =
     let made : step x.scenario c x.state ≡ step y.scenario c y.state =
@@ -130,10 +136,12 @@ counted h law r = ap (λ (s : State). length s.txns) r.state ∙ (law h.scenario
 
 -- the lines that are written are the trace
 pub trace-lines : (sc : Scenario) (s t : State) (same : Bool) → s ≡ opening sc
-    → flat_map line_of ((head_texts sc ++ (map choice_text sc.choices ++ end_texts)) ++ (opening_lines s ++ (steps_lines sc 1 (opening sc) sc.choices ++ last_lines t same)))
+    → flat_map line_of ((head_texts sc ++ (map choice_text sc.choices ++ end_texts))
+    ++ (opening_lines s ++ (steps_lines sc 1 (opening sc) sc.choices ++ last_lines t same)))
     ≡ canon sc ++ flat_map line_of (trace_lines sc t same)
 trace-lines sc s t same e =
-    flat_map-append line_of (head_texts sc ++ (map choice_text sc.choices ++ end_texts)) (opening_lines s ++ (steps_lines sc 1 (opening sc) sc.choices ++ last_lines t same))
+    flat_map-append line_of (head_texts sc ++ (map choice_text sc.choices ++ end_texts))
+    (opening_lines s ++ (steps_lines sc 1 (opening sc) sc.choices ++ last_lines t same))
     ∙ ap (λ l. l ++ flat_map line_of (opening_lines s ++ (steps_lines sc 1 (opening sc) sc.choices ++ last_lines t same))) (canon-parts sc)
     ∙ ap (λ x. canon sc ++ flat_map line_of (opening_lines x ++ (steps_lines sc 1 (opening sc) sc.choices ++ last_lines t same))) e
 

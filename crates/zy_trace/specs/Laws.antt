@@ -15,9 +15,11 @@ or_before (line ∷ lines) before = line
 -- the line of a subject that was shown last in these steps, and else the one before them
 abbrev pub last_shown : Scenario → State → List Choice → Subject → List ℕ → List ℕ
 last_shown sc s [] x before = before
-last_shown sc s (c ∷ cs) x before = let t = (step sc c s).after in last_shown sc t cs x (or_before (lines_of_subject false s t x) before)
+last_shown sc s (c ∷ cs) x before = let t = (step sc c s).after in
+    last_shown sc t cs x (or_before (lines_of_subject false s t x) before)
 
 -- whoever keeps the last line of each subject has the lines of the last state
 abbrev pub LastLines : Type 0
 LastLines =
-    (sc : Scenario) (s : State) (cs : List Choice) (x : Subject) → last_shown sc s cs x (inset (line_in s x)) ≡ inset (line_in (play sc s cs) x)
+    (sc : Scenario) (s : State) (cs : List Choice) (x : Subject)
+    → last_shown sc s cs x (inset (line_in s x)) ≡ inset (line_in (play sc s cs) x)

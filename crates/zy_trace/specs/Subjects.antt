@@ -21,7 +21,8 @@ line_in s (Txn t) = txn_text s t
 
 -- what has a line in a state, in the order of the lines
 abbrev pub subjects : State → List Subject
-subjects s = (Mode A ∷ Mode B ∷ []) ++ (map Page (below (length (newest s))) ++ ((Link A ∷ Link B ∷ []) ++ map Txn (below (length s.txns))))
+subjects s = (Mode A ∷ Mode B ∷ []) ++ (map Page (below (length (newest s)))
+    ++ ((Link A ∷ Link B ∷ []) ++ map Txn (below (length s.txns))))
 
 -- behind two spaces
 abbrev pub inset : List ℕ → List ℕ
@@ -32,7 +33,8 @@ state_lines s = map (λ x. inset (line_in s x)) (subjects s)
 
 -- the line of a subject as it is now, where all are shown or it is not what it was
 abbrev pub lines_of_subject : Bool → State → State → Subject → List (List ℕ)
-lines_of_subject all before now x = if not all && bytes_eq (line_in before x) (line_in now x) then [] else inset (line_in now x) ∷ []
+lines_of_subject all before now x = if not all && bytes_eq (line_in before x) (line_in now x) then []
+    else inset (line_in now x) ∷ []
 
 abbrev pub changed : State → State → List (List ℕ)
 changed before now = flat_map (lines_of_subject false before now) (subjects now)

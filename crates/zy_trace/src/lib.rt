@@ -7,5 +7,3 @@ mod since;
 mod step;
 pub mod subject;
 pub mod trace;
-
-

@@ -11,9 +11,9 @@ ghost use Rattle.zy_trace.specs.Subjects.{HasLine, line_in, subjects, shown_text
 use crate::kept::{Rests, is_kept, rests_at};
 use crate::subject::Subject;
 use std::alloc::{AllocError, Global};
+use zy_audit::ModeLine;
 use zy_audit::lines::link::link_line;
 use zy_audit::lines::locked::page_reply;
-use zy_audit::ModeLine;
 use zy_audit::lines::txn::txn_line;
 use zy_io::{Line, LineBuffer};
 use zy_isa::Node;
@@ -71,7 +71,8 @@ pub(crate) struct Since<'a> {
 fn is_same(since: &Since<'_>, subject: Subject, texts: &mut Texts) -> Result<bool, AllocError>
     requires before { HasLine since.now.before.now.state subject }
     requires after { HasLine since.now.after.now.state subject }
-    ensures { IfOk result (λ b. b ≡ bytes_eq (line_in since.now.before.now.state subject) (line_in since.now.after.now.state subject)) }
+    ensures { IfOk result (λ b. b ≡ bytes_eq (line_in since.now.before.now.state subject)
+        (line_in since.now.after.now.state subject)) }
 {
     texts.old.clear();
     texts.new.clear();
@@ -84,7 +85,9 @@ fn is_same(since: &Since<'_>, subject: Subject, texts: &mut Texts) -> Result<boo
 fn is_left_out(since: &Since<'_>, subject: Subject, texts: &mut Texts) -> Result<bool, AllocError>
     requires before { HasLine since.now.before.now.state subject }
     requires after { HasLine since.now.after.now.state subject }
-    ensures { IfOk result (λ b. b ≡ (not since.now.all && bytes_eq (line_in since.now.before.now.state subject) (line_in since.now.after.now.state subject))) }
+    ensures { IfOk result
+        (λ b. b ≡ (not since.now.all && bytes_eq (line_in since.now.before.now.state subject)
+        (line_in since.now.after.now.state subject))) }
 {
     if since.all {
         return Ok(false);
@@ -101,7 +104,8 @@ fn append_shown(
 ) -> Result<(), AllocError>
     requires before { HasLine since.now.before.now.state subject }
     requires after { HasLine since.now.after.now.state subject }
-    ensures { OnOk result (line.new ≡ line.old ++ shown_text since.now.all since.now.before.now.state since.now.after.now.state subject) }
+    ensures { OnOk result (line.new ≡ line.old ++ shown_text since.now.all since.now.before.now.state
+        since.now.after.now.state subject) }
 {
     if is_left_out(since, subject, texts)? {
         return Ok(());
@@ -117,14 +121,15 @@ fn append_modes(
     texts: &mut Texts,
     line: &mut LineBuffer,
 ) -> Result<(), AllocError>
-    ensures { OnOk result (line.new ≡ line.old ++ shown_texts since.now.all since.now.before.now.state since.now.after.now.state (Mode A ∷ Mode B ∷ [])) }
+    ensures { OnOk result (line.new ≡ line.old ++ shown_texts since.now.all since.now.before.now.state
+        since.now.after.now.state (Mode A ∷ Mode B ∷ [])) }
 {
     append_shown(since, Subject::Mode(Node::A), texts, line)?;
     append_shown(since, Subject::Mode(Node::B), texts, line)
 }
 
-/// Appends a page where it is shown; `a` and `b` are the locks of the nodes that differ. The texts are made where the page is not seen to be
-/// what it was.
+/// Appends a page where it is shown; `a` and `b` are the locks of the nodes that differ. The texts are made where the
+/// page is not seen to be what it was.
 fn append_page(
     since: &Since<'_>,
     a: Rests<'_>,
@@ -135,7 +140,8 @@ fn append_page(
 ) -> Result<(), AllocError>
     requires a { AreRests since.now.before.now.state.a.locks since.now.after.now.state.a.locks a }
     requires b { AreRests since.now.before.now.state.b.locks since.now.after.now.state.b.locks b }
-    ensures { OnOk result (line.new ≡ line.old ++ shown_text since.now.all since.now.before.now.state since.now.after.now.state (Page p)) }
+    ensures { OnOk result (line.new ≡ line.old ++ shown_text since.now.all since.now.before.now.state
+        since.now.after.now.state (Page p)) }
 {
     if !since.all && is_kept(since.before, since.after, a, b, p) {
         return Ok(());
@@ -150,7 +156,8 @@ fn append_pages(
     line: &mut LineBuffer,
 ) -> Result<(), AllocError>
     ensures { OnOk result (line.new ≡ line.old
-        ++ shown_texts since.now.all since.now.before.now.state since.now.after.now.state (map Page (below (length (newest since.now.after.now.state))))) }
+        ++ shown_texts since.now.all since.now.before.now.state since.now.after.now.state
+        (map Page (below (length (newest since.now.after.now.state))))) }
 {
     let a = rests_at(since.before, since.after, Node::A);
     let b = rests_at(since.before, since.after, Node::B);
@@ -166,7 +173,8 @@ fn append_links(
     texts: &mut Texts,
     line: &mut LineBuffer,
 ) -> Result<(), AllocError>
-    ensures { OnOk result (line.new ≡ line.old ++ shown_texts since.now.all since.now.before.now.state since.now.after.now.state (Link A ∷ Link B ∷ [])) }
+    ensures { OnOk result (line.new ≡ line.old ++ shown_texts since.now.all since.now.before.now.state
+        since.now.after.now.state (Link A ∷ Link B ∷ [])) }
 {
     append_shown(since, Subject::Link(Node::A), texts, line)?;
     append_shown(since, Subject::Link(Node::B), texts, line)
@@ -180,7 +188,8 @@ fn append_txns(
 ) -> Result<(), AllocError>
     requires { length since.now.before.now.state.txns ≡ length since.now.after.now.state.txns }
     ensures { OnOk result (line.new ≡ line.old
-        ++ shown_texts since.now.all since.now.before.now.state since.now.after.now.state (map Txn (below (length since.now.after.now.state.txns)))) }
+        ++ shown_texts since.now.all since.now.before.now.state since.now.after.now.state
+        (map Txn (below (length since.now.after.now.state.txns)))) }
 {
     for t in 0..since.after.txn_count() {
         append_shown(since, Subject::Txn(t as u8), texts, line)?;
@@ -196,7 +205,8 @@ pub(crate) fn append_since(
 ) -> Result<(), AllocError>
     requires { length since.now.before.now.state.txns ≡ length since.now.after.now.state.txns }
     ensures { OnOk result (line.new ≡ line.old
-        ++ shown_texts since.now.all since.now.before.now.state since.now.after.now.state (subjects since.now.after.now.state)) }
+        ++ shown_texts since.now.all since.now.before.now.state since.now.after.now.state
+        (subjects since.now.after.now.state)) }
 {
     append_modes(since, texts, line)?;
     append_pages(since, texts, line)?;

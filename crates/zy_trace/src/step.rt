@@ -57,7 +57,8 @@ fn append_changed(
 ) -> Result<(), AllocError>
     requires { before.now.scenario ≡ now.now.scenario }
     ensures { OnOk result (line.new
-        ≡ line_of (step_text (length now.now.entries) entry.now) ++ flat_map line_of (changed before.now.state now.now.state)) }
+        ≡ line_of (step_text (length now.now.entries) entry.now)
+        ++ flat_map line_of (changed before.now.state now.now.state)) }
 {
     line.clear();
     // Proof: both machines have as many transactions.
@@ -72,8 +73,8 @@ fn append_changed(
     Ok(())
 }
 
-/// Makes the next choice of a scenario on the second of two machines that are at the same point, puts the lines of the step into the
-/// buffer, and then makes the choice on the first.
+/// Makes the next choice of a scenario on the second of two machines that are at the same point, puts the lines of the
+/// step into the buffer, and then makes the choice on the first.
 pub(crate) fn trace_step(
     before: &mut Machine,
     now: &mut Machine,
@@ -86,8 +87,10 @@ pub(crate) fn trace_step(
     ensures scenario { OnOk result (now.new.scenario ≡ now.old.scenario) }
     ensures position { OnOk result (length now.new.entries ≡ length now.old.entries + 1) }
     ensures state { OnOk result (now.new.state
-        ≡ (table.step now.old.scenario (get_or now.old.scenario.choices (length now.old.entries) Start) now.old.state).after) }
-    ensures lines { OnOk result (line.new ≡ flat_map line_of (step_lines now.old.scenario (length now.old.entries + 1) now.old.state
+        ≡ (table.step now.old.scenario (get_or now.old.scenario.choices (length now.old.entries) Start)
+        now.old.state).after) }
+    ensures lines { OnOk result (line.new ≡ flat_map line_of
+        (step_lines now.old.scenario (length now.old.entries + 1) now.old.state
         (get_or now.old.scenario.choices (length now.old.entries) Start))) }
 {
     let choice = next_choice(now);

@@ -11,11 +11,11 @@ ghost use Rattle.zy_trace.specs.Trace as spec;
 use crate::since::{Since, Texts, append_since};
 use crate::step::trace_step;
 use std::alloc::Global;
-use zy_audit::{FinalState, SerialLine};
 use zy_audit::serial::same;
+use zy_audit::{FinalState, SerialLine};
 use zy_disasm::Head;
-use zy_io::{Both, LineBuffer, One, Section, Sink, TextFault};
 use zy_io::writing::write_all;
+use zy_io::{Both, LineBuffer, One, Section, Sink, TextFault};
 use zy_isa::Scenario;
 use zy_machine::Machine;
 use zy_text::Each;
@@ -60,7 +60,11 @@ fn write_steps<K: Sink>(
     line: &mut LineBuffer,
 ) -> Result<(), TextFault>
     requires failures { K.failures sink.old < u64.MAX }
-    requires before { before.old ≡ record { scenario = now.old.scenario; state = opening now.old.scenario; entries = [] } }
+    requires before { before.old ≡ record {
+      scenario = now.old.scenario;
+      state = opening now.old.scenario;
+      entries = [];
+    } }
     requires now { now.old ≡ record { scenario = now.old.scenario; state = opening now.old.scenario; entries = [] } }
     ensures { Wrote (K.written sink.old) (K.written sink.new) (K.failures sink.old) (K.failures sink.new) result
         (flat_map line_of (steps_lines now.old.scenario 1 (opening now.old.scenario) now.old.scenario.choices)) }
@@ -82,9 +86,14 @@ fn write_steps_beside<K: Sink>(
     line: &mut LineBuffer,
 ) -> Result<(), TextFault>
     requires failures { K.failures sink.old < u64.MAX }
-    requires before { before.old ≡ record { scenario = machine.now.scenario; state = opening machine.now.scenario; entries = [] } }
+    requires before { before.old ≡ record {
+      scenario = machine.now.scenario;
+      state = opening machine.now.scenario;
+      entries = [];
+    } }
     ensures { Wrote (K.written sink.old) (K.written sink.new) (K.failures sink.old) (K.failures sink.new) result
-        (flat_map line_of (steps_lines machine.now.scenario 1 (opening machine.now.scenario) machine.now.scenario.choices)) }
+        (flat_map line_of (steps_lines machine.now.scenario 1
+        (opening machine.now.scenario) machine.now.scenario.choices)) }
 {
     let mut now = machine.reopen(alloc)?;
     write_steps(alloc, before, &mut now, sink, line)
@@ -102,8 +111,8 @@ impl Section for StepsLines<'_> {
     }
 }
 
-/// Writes the trace of a machine that has made all choices of its scenario; `opened` is one that has made none, and `agrees` what the
-/// test against the serial run says.
+/// Writes the trace of a machine that has made all choices of its scenario; `opened` is one that has made none, and
+/// `agrees` what the test against the serial run says.
 fn write_parts_of<K: Sink>(
     alloc: Global,
     machine: &Machine,

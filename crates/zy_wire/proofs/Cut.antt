@@ -1,5 +1,6 @@
 -- A full node that is cut, and the entry of its upper half in the node above.
-use Rattle.std.proofs.Common.{add-one, ◌≡◌, ◌∙◌, ℕ, suc, ◌+◌, ◌<◌, ◌≤◌, List, [], ◌∷◌, ◌++◌, length, get_or, set, take, drop, refl, sym, ap, subst, arith, length-take, length-drop, ◌⊎◌, inl, inr}
+use Rattle.std.proofs.Common.{add-one, ◌≡◌, ◌∙◌, ℕ, suc, ◌+◌, ◌<◌, ◌≤◌, List, [], ◌∷◌, ◌++◌, length, get_or, set, take, drop, refl, sym, ap, subst, arith}
+use Rattle.std.proofs.Common.{length-take, length-drop, ◌⊎◌, inl, inr}
 use Rattle.std.specs.Prelude.{Contains}
 use Rattle.std.specs.List.{insert}
 use Rattle.std.proofs.lemmas.Bool.{cases_lt, cases_eq}
@@ -28,7 +29,11 @@ middle nodes c = front (drop 4 (node nodes c).entries) (node nodes c).end
 
 -- the node above, with the new entry
 abbrev pub widened : List Knot → ℕ → ℕ → ℕ → Knot
-widened nodes p c i = record { level = (node nodes p).level; end = (node nodes p).end; entries = insert (node nodes p).entries (suc i) (record { low = middle nodes c; to = length nodes }) }
+widened nodes p c i = record {
+  level = (node nodes p).level;
+  end = (node nodes p).end;
+  entries = insert (node nodes p).entries (suc i) (record { low = middle nodes c; to = length nodes });
+}
 
 -- the nodes afterwards
 abbrev pub after : List Knot → ℕ → ℕ → ℕ → List Knot
@@ -43,8 +48,10 @@ pub record Cut (nodes nodes' : List Knot) (p c i : ℕ) : Type 0 where
   pub other : (x : ℕ) → x < length nodes → (x ≡ p → ⊥) → (x ≡ c → ⊥) → node nodes' x ≡ node nodes x
 
 -- the child, as the node above knows it
-pub child : (nodes : List Knot) (root top p c i : ℕ) (d : Entry) → IsTree nodes root top → Full nodes p c i → IsKid nodes (node nodes p).level (get_or (node nodes p).entries i d).low (front (drop (suc i) (node nodes p).entries) (node nodes p).end) c
-child nodes root top p c i d t f = rw (f.is d) at (kid_at nodes (node nodes p).level (node nodes p).end i d (node nodes p).entries ((t.each p f.there).kids f.above) f.within)
+pub child : (nodes : List Knot) (root top p c i : ℕ) (d : Entry) → IsTree nodes root top → Full nodes p c i
+    → IsKid nodes (node nodes p).level (get_or (node nodes p).entries i d).low (front (drop (suc i) (node nodes p).entries) (node nodes p).end) c
+child nodes root top p c i d t f =
+    rw (f.is d) at (kid_at nodes (node nodes p).level (node nodes p).end i d (node nodes p).entries ((t.each p f.there).kids f.above) f.within)
 
 -- the middle is above the least key of the child and below its end
 pub record Middle (nodes : List Knot) (c : ℕ) : Type 0 where
@@ -84,26 +91,31 @@ Cut-is nodes root top p c i t f =
     record {
       more = omega arith;
       parent = get_or-set_same second p w no_knot (omega arith);
-      lower = get_or-set_other second p c w no_knot (λ e. other (sym e)) ∙ (get_or_append_left first (u ∷ []) no_knot c (omega arith) ∙ get_or-set_same nodes c l no_knot kid.there);
+      lower = get_or-set_other second p c w no_knot (λ e. other (sym e)) ∙ (get_or_append_left first (u ∷ []) no_knot c (omega arith)
+          ∙ get_or-set_same nodes c l no_knot kid.there);
       upper = get_or-set_other second p (length nodes) w no_knot (λ e. absurd (omega arith)) ∙ get_or_at first u [] no_knot (length nodes) one;
-      other = λ x in' notp notc. get_or-set_other second p x w no_knot notp ∙ (get_or_append_left first (u ∷ []) no_knot x (omega arith) ∙ get_or-set_other nodes c x l no_knot notc);
+      other = λ x in' notp notc. get_or-set_other second p x w no_knot notp ∙ (get_or_append_left first (u ∷ []) no_knot x (omega arith)
+          ∙ get_or-set_other nodes c x l no_knot notc);
     }
 
 -- every node but the one that is cut has the level and the keys that it had
-kept : (nodes nodes' : List Knot) (root top p c i x : ℕ) → IsTree nodes root top → Full nodes p c i → Cut nodes nodes' p c i → x < length nodes → (x ≡ c → ⊥) → Same nodes nodes' x
+kept : (nodes nodes' : List Knot) (root top p c i x : ℕ) → IsTree nodes root top → Full nodes p c i → Cut nodes nodes' p c i → x < length nodes → (x ≡ c → ⊥)
+    → Same nodes nodes' x
 kept nodes nodes' root top p c i x t f k lt notc =
     let n = node nodes p in
     elim (cases_eq x p) [
       | inl here ↦ subst (Same nodes nodes') (sym here) (record {
         level = ap (λ (m : Knot). m.level) k.parent;
-        low = ap (λ (m : Knot). low_of m) k.parent ∙ front-insert (suc i) (record { low = middle nodes c; to = length nodes }) n.entries n.end (omega arith) (let w = f.within in omega arith);
+        low = ap (λ (m : Knot). low_of m) k.parent ∙ front-insert (suc i) (record { low = middle nodes c; to = length nodes }) n.entries n.end (omega arith)
+            (let w = f.within in omega arith);
         end = ap (λ (m : Knot). m.end) k.parent;
       })
       | inr notp ↦ Same-is nodes nodes' x (k.other x lt notp notc)
     ]
 
 -- the halves, as the node above knows them
-lower_kid : (nodes nodes' : List Knot) (root top p c i : ℕ) (d : Entry) → IsTree nodes root top → Full nodes p c i → Cut nodes nodes' p c i → IsKid nodes' (node nodes p).level (get_or (node nodes p).entries i d).low (middle nodes c) c
+lower_kid : (nodes nodes' : List Knot) (root top p c i : ℕ) (d : Entry) → IsTree nodes root top → Full nodes p c i → Cut nodes nodes' p c i
+    → IsKid nodes' (node nodes p).level (get_or (node nodes p).entries i d).low (middle nodes c) c
 lower_kid nodes nodes' root top p c i d t f k =
     let kid = child nodes root top p c i d t f in
     record {
@@ -113,7 +125,8 @@ lower_kid nodes nodes' root top p c i d t f k =
       end = ap (λ (m : Knot). m.end) k.lower;
     }
 
-upper_kid : (nodes nodes' : List Knot) (root top p c i : ℕ) (d : Entry) → IsTree nodes root top → Full nodes p c i → Cut nodes nodes' p c i → IsKid nodes' (node nodes p).level (middle nodes c) (front (drop (suc i) (node nodes p).entries) (node nodes p).end) (length nodes)
+upper_kid : (nodes nodes' : List Knot) (root top p c i : ℕ) (d : Entry) → IsTree nodes root top → Full nodes p c i → Cut nodes nodes' p c i
+    → IsKid nodes' (node nodes p).level (middle nodes c) (front (drop (suc i) (node nodes p).entries) (node nodes p).end) (length nodes)
 upper_kid nodes nodes' root top p c i d t f k =
     let kid = child nodes root top p c i d t f in
     record {
@@ -124,7 +137,8 @@ upper_kid nodes nodes' root top p c i d t f k =
     }
 
 -- the node above fits
-parent_fits : (nodes nodes' : List Knot) (root top p c i : ℕ) → IsTree nodes root top → Full nodes p c i → Cut nodes nodes' p c i → Fits nodes' (widened nodes p c i)
+parent_fits : (nodes nodes' : List Knot) (root top p c i : ℕ) → IsTree nodes root top → Full nodes p c i → Cut nodes nodes' p c i
+    → Fits nodes' (widened nodes p c i)
 parent_fits nodes nodes' root top p c i t f k =
     let d : Entry = record { low = 0; to = 0 } in
     let n = node nodes p in
@@ -163,7 +177,8 @@ parent_fits nodes nodes' root top p c i t f k =
     }
 
 -- the children of the node that is cut are not itself
-child_kept : (nodes nodes' : List Knot) (root top p c i : ℕ) → IsTree nodes root top → Full nodes p c i → Cut nodes nodes' p c i → c < length nodes → 1 ≤ (node nodes c).level → Kids nodes' (node nodes c).level (node nodes c).end (node nodes c).entries
+child_kept : (nodes nodes' : List Knot) (root top p c i : ℕ) → IsTree nodes root top → Full nodes p c i → Cut nodes nodes' p c i → c < length nodes
+    → 1 ≤ (node nodes c).level → Kids nodes' (node nodes c).level (node nodes c).end (node nodes c).entries
 child_kept nodes nodes' root top p c i t f k there up =
     let n = node nodes c in
     let kids = (t.each c there).kids up in
@@ -173,7 +188,8 @@ child_kept nodes nodes' root top p c i t f k there up =
     kept nodes nodes' root top p c i (get_or n.entries j d).to t f k at.there (λ same. let e = ap (λ x. (node nodes x).level) same in omega (arith, at.level)))
     kids
 
-lower_fits : (nodes nodes' : List Knot) (root top p c i : ℕ) → IsTree nodes root top → Full nodes p c i → Cut nodes nodes' p c i → c < length nodes → Fits nodes' (lower_half (node nodes c))
+lower_fits : (nodes nodes' : List Knot) (root top p c i : ℕ) → IsTree nodes root top → Full nodes p c i → Cut nodes nodes' p c i → c < length nodes
+    → Fits nodes' (lower_half (node nodes c))
 lower_fits nodes nodes' root top p c i t f k there =
     let n = node nodes c in
     record {
@@ -182,7 +198,8 @@ lower_fits nodes nodes' root top p c i t f k there =
       kids = λ up. Kids-take nodes' n.level n.end 4 n.entries (child_kept nodes nodes' root top p c i t f k there up);
     }
 
-upper_fits : (nodes nodes' : List Knot) (root top p c i : ℕ) → IsTree nodes root top → Full nodes p c i → Cut nodes nodes' p c i → c < length nodes → Fits nodes' (upper_half (node nodes c))
+upper_fits : (nodes nodes' : List Knot) (root top p c i : ℕ) → IsTree nodes root top → Full nodes p c i → Cut nodes nodes' p c i → c < length nodes
+    → Fits nodes' (upper_half (node nodes c))
 upper_fits nodes nodes' root top p c i t f k there =
     let n = node nodes c in
     record {
@@ -192,7 +209,8 @@ upper_fits nodes nodes' root top p c i t f k there =
     }
 
 -- the children of the others are kept: none is the node that is cut
-other_fits : (nodes nodes' : List Knot) (root top p c i x : ℕ) → IsTree nodes root top → Full nodes p c i → Cut nodes nodes' p c i → x < length nodes → (x ≡ p → ⊥) → Fits nodes' (node nodes x)
+other_fits : (nodes nodes' : List Knot) (root top p c i x : ℕ) → IsTree nodes root top → Full nodes p c i → Cut nodes nodes' p c i → x < length nodes
+    → (x ≡ p → ⊥) → Fits nodes' (node nodes x)
 other_fits nodes nodes' root top p c i x t f k there notp =
     let n = node nodes x in
     Fits-lift nodes nodes' n (let m = k.more in omega arith) (t.each x there)
@@ -208,7 +226,8 @@ record Was (nodes nodes' : List Knot) (c x k : ℕ) : Type 0 where
   level : (node nodes' x).level ≡ (node nodes old).level
   is : ((x ≡ old) × (x ≡ c → k < middle nodes c)) ⊎ ((x ≡ length nodes) × (old ≡ c) × (middle nodes c ≤ k))
 
-was : (nodes nodes' : List Knot) (root top p c i x k : ℕ) → IsTree nodes root top → Full nodes p c i → Cut nodes nodes' p c i → IsAt nodes' x k → Was nodes nodes' c x k
+was : (nodes nodes' : List Knot) (root top p c i x k : ℕ) → IsTree nodes root top → Full nodes p c i → Cut nodes nodes' p c i → IsAt nodes' x k
+    → Was nodes nodes' c x k
 was nodes nodes' root top p c i x k t f cut h =
     let d : Entry = record { low = 0; to = 0 } in
     let kid = child nodes root top p c i d t f in
@@ -218,10 +237,16 @@ was nodes nodes' root top p c i x k t f cut h =
       | inl lt ↦ elim (cases_eq x c) [
         | inl here ↦
             let level = ap (λ (n : Knot). n.level) (ap (λ y. node nodes' y) here ∙ cut.lower) in
-            let low : low_of (node nodes' x) ≡ low_of (node nodes c) = ap (λ (n : Knot). low_of n) (ap (λ y. node nodes' y) here ∙ cut.lower) ∙ front-take 4 (node nodes c).entries (node nodes c).end in
+            let low : low_of (node nodes' x) ≡ low_of (node nodes c) = ap (λ (n : Knot). low_of n) (ap (λ y. node nodes' y) here ∙ cut.lower)
+            ∙ front-take 4 (node nodes c).entries (node nodes c).end in
             let end : (node nodes' x).end ≡ middle nodes c = ap (λ (n : Knot). n.end) (ap (λ y. node nodes' y) here ∙ cut.lower) in
             let under : k < middle nodes c = (let b = h.below in omega arith) in
-            record { old = c; at = record { there = there; low = (let l = h.low in omega arith); below = omega (arith, m.down) }; level = level; is = inl (here, (λ z. under)) }
+            record {
+              old = c;
+              at = record { there = there; low = (let l = h.low in omega arith); below = omega (arith, m.down) };
+              level = level;
+              is = inl (here, (λ z. under));
+            }
         | inr notc ↦
             let same = kept nodes nodes' root top p c i x t f cut lt notc in
             record { old = x; at = IsAt-back nodes nodes' x k lt same h; level = same.level; is = inl (refl, (λ z. absurd (notc z))) }
@@ -233,7 +258,12 @@ was nodes nodes' root top p c i x k t f cut h =
           let low : low_of (node nodes' x) ≡ middle nodes c = ap (λ (n : Knot). low_of n) is in
           let end : (node nodes' x).end ≡ (node nodes c).end = ap (λ (n : Knot). n.end) is in
           let over : middle nodes c ≤ k = (let l = h.low in omega arith) in
-          record { old = c; at = record { there = there; low = omega (arith, m.up); below = (let b = h.below in omega arith) }; level = ap (λ (n : Knot). n.level) is; is = inr (here, refl, over) }
+          record {
+            old = c;
+            at = record { there = there; low = omega (arith, m.up); below = (let b = h.below in omega arith) };
+            level = ap (λ (n : Knot). n.level) is;
+            is = inr (here, refl, over);
+          }
     ]
 
 one : (nodes nodes' : List Knot) (c a b k : ℕ) (x : Was nodes nodes' c a k) (y : Was nodes nodes' c b k) → x.old ≡ y.old → a ≡ b
@@ -255,7 +285,8 @@ IsTree-cut nodes nodes' root top p c i t f k =
     let kid = child nodes root top p c i d t f in
     let more = k.more in
     let there = kid.there in
-    let notroot : root ≡ c → ⊥ = λ same. (let l = ap (λ x. (node nodes x).level) same in let u = t.under p f.there in let r = t.level in omega (arith, kid.level)) in
+    let notroot : root ≡ c → ⊥ = λ same. (let l = ap (λ x. (node nodes x).level) same in let u = t.under p f.there in let r = t.level in
+    omega (arith, kid.level)) in
     let r = kept nodes nodes' root top p c i root t f k t.there notroot in
     record {
       there = (let z = t.there in omega arith);
@@ -266,7 +297,8 @@ IsTree-cut nodes nodes' root top p c i t f k =
         | inl old ↦ elim (cases_eq x p) [
           | inl here ↦ subst (λ y. Fits nodes' (node nodes' y)) (sym here) (subst (Fits nodes') (sym k.parent) (parent_fits nodes nodes' root top p c i t f k))
           | inr notp ↦ elim (cases_eq x c) [
-            | inl here ↦ subst (λ y. Fits nodes' (node nodes' y)) (sym here) (subst (Fits nodes') (sym k.lower) (lower_fits nodes nodes' root top p c i t f k there))
+            | inl here ↦
+                subst (λ y. Fits nodes' (node nodes' y)) (sym here) (subst (Fits nodes') (sym k.lower) (lower_fits nodes nodes' root top p c i t f k there))
             | inr notc ↦ subst (Fits nodes') (sym (k.other x old notp notc)) (other_fits nodes nodes' root top p c i x t f k old notp)
           ]
         ]
@@ -291,7 +323,8 @@ IsTree-cut nodes nodes' root top p c i t f k =
           one nodes nodes' c a b key x y (t.once x.old y.old key x.at y.at (sym x.level ∙ (level ∙ y.level)));
     }
 
-pub Holds-cut : (lows : List ℕ) (nodes nodes' : List Knot) (root top p c i : ℕ) → IsTree nodes root top → Full nodes p c i → Cut nodes nodes' p c i → Holds lows nodes → Holds lows nodes'
+pub Holds-cut : (lows : List ℕ) (nodes nodes' : List Knot) (root top p c i : ℕ) → IsTree nodes root top → Full nodes p c i → Cut nodes nodes' p c i
+    → Holds lows nodes → Holds lows nodes'
 Holds-cut lows nodes nodes' root top p c i t f k holds = λ x lt.
     let d : Entry = record { low = 0; to = 0 } in
     let kid = child nodes root top p c i d t f in
@@ -317,7 +350,8 @@ Holds-cut lows nodes nodes' root top p c i t f k holds = λ x lt.
             keys = Keys-take lows 4 n.entries had.keys;
             last = inr key;
             match = λ leaf. Match-take lows 4 n.entries (had.match leaf);
-            whole = λ leaf. subst (λ from. Whole lows from (middle nodes c) (take 4 n.entries)) (sym (front-take 4 n.entries n.end)) (Whole-take lows (low_of n) n.end 4 n.entries fits.rise five (had.match leaf) (omega (arith, m.down)) (had.whole leaf));
+            whole = λ leaf. subst (λ from. Whole lows from (middle nodes c) (take 4 n.entries)) (sym (front-take 4 n.entries n.end))
+                (Whole-take lows (low_of n) n.end 4 n.entries fits.rise five (had.match leaf) (omega (arith, m.down)) (had.whole leaf));
           }))
           | inr notc ↦ subst (Has lows) (sym (k.other x old notp notc)) (holds x old)
         ]
@@ -345,7 +379,8 @@ pub record Writes (nodes pushed : List Knot) (p c ip ic at : ℕ) (x l u y w : K
   pub read_p : y ≡ get_or pushed ip y
   pub wide : w ≡ record { level = y.level; end = y.end; entries = insert y.entries at new }
 
-pub after_is : (nodes pushed : List Knot) (root top p c i ip ic at : ℕ) (x l u y w : Knot) (new : Entry) → IsTree nodes root top → Full nodes p c i → at ≡ suc i → Writes nodes pushed p c ip ic at x l u y w new → set pushed ip w ≡ after nodes p c i
+pub after_is : (nodes pushed : List Knot) (root top p c i ip ic at : ℕ) (x l u y w : Knot) (new : Entry) → IsTree nodes root top → Full nodes p c i → at ≡ suc i
+    → Writes nodes pushed p c ip ic at x l u y w new → set pushed ip w ≡ after nodes p c i
 after_is nodes pushed root top p c i ip ic at x l u y w new t f place h =
     let kid = child nodes root top p c i (record { low = 0; to = 0 }) t f in
     let other = apart nodes root top p c i t f in
@@ -360,7 +395,8 @@ after_is nodes pushed root top p c i ip ic at x l u y w new t f place h =
     let two : length second ≡ length (set nodes c lower) + 1 = length_push (set nodes c lower) upper in
     let there = f.there in
     let read : y ≡ get_or second p y = rw (push, h.at_p) at h.read_p in
-    let old : y ≡ node nodes p = get_or_read second p y (omega arith) read no_knot ∙ (get_or_append_left (set nodes c lower) (upper ∷ []) no_knot p (omega arith) ∙ get_or-set_other nodes c p lower no_knot other) in
+    let old : y ≡ node nodes p = get_or_read second p y (omega arith) read no_knot
+    ∙ (get_or_append_left (set nodes c lower) (upper ∷ []) no_knot p (omega arith) ∙ get_or-set_other nodes c p lower no_knot other) in
     let low : new.low ≡ middle nodes c = h.low ∙ ap (λ n. low_of n) isu in
     let entry : new ≡ record { low = middle nodes c; to = length nodes } = (λ z. record { low = low z; to = h.to z }) in
     let wide : w ≡ widened nodes p c i = rw (old, entry, place) at h.wide in
@@ -375,7 +411,13 @@ pub record Ready (nodes : List Knot) (root top p c k : ℕ) : Type 0 where
   pub full : length (node nodes c).entries ≡ 8
 
 pub full_of : (nodes : List Knot) (root top p c k : ℕ) (r : Ready nodes root top p c k) → Full nodes p c r.leads.at
-full_of nodes root top p c k r = record { there = r.at.there; above = r.above; within = (let w = r.leads.place.0 in omega arith); is = r.leads.is; full = r.full }
+full_of nodes root top p c k r = record {
+  there = r.at.there;
+  above = r.above;
+  within = (let w = r.leads.place.0 in omega arith);
+  is = r.leads.is;
+  full = r.full;
+}
 
 pub child_there : (nodes : List Knot) (root top p c k : ℕ) → Ready nodes root top p c k → c < length nodes
 child_there nodes root top p c k r = (child nodes root top p c r.leads.at (record { low = 0; to = 0 }) r.tree (full_of nodes root top p c k r)).there
@@ -386,7 +428,8 @@ child_full nodes root top p c k ic x r here read =
     ap (λ (n : Knot). length n.entries) same ∙ r.full
 
 -- the nodes as they are written are those of a cut
-pub Cut-made : (nodes pushed : List Knot) (root top p c k ip ic at : ℕ) (x l u y w : Knot) (new : Entry) (r : Ready nodes root top p c k) → IsPlace k (node nodes p).entries at → Writes nodes pushed p c ip ic at x l u y w new → Cut nodes (set pushed ip w) p c r.leads.at
+pub Cut-made : (nodes pushed : List Knot) (root top p c k ip ic at : ℕ) (x l u y w : Knot) (new : Entry) (r : Ready nodes root top p c k)
+    → IsPlace k (node nodes p).entries at → Writes nodes pushed p c ip ic at x l u y w new → Cut nodes (set pushed ip w) p c r.leads.at
 Cut-made nodes pushed root top p c k ip ic at x l u y w new r placed h =
     let f = full_of nodes root top p c k r in
     let place : at ≡ suc r.leads.at = one_place k at (r.leads.at + 1) (node nodes p).entries placed r.leads.place ∙ add-one r.leads.at in

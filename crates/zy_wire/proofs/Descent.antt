@@ -5,7 +5,8 @@ use Rattle.zy_wire.specs.ByLow.{front, Leads}
 use Rattle.zy_wire.specs.Nodes.{Knot, node, IsKid, Kids, LeadsTo, Fits, IsAt}
 use Rattle.zy_wire.proofs.Entries.{below_front}
 
-pub kid_at : (nodes : List Knot) (level end at : ℕ) (d : Entry) (es : List Entry) → Kids nodes level end es → at < length es → IsKid nodes level (get_or es at d).low (front (drop (suc at) es) end) (get_or es at d).to
+pub kid_at : (nodes : List Knot) (level end at : ℕ) (d : Entry) (es : List Entry) → Kids nodes level end es → at < length es
+    → IsKid nodes level (get_or es at d).low (front (drop (suc at) es) end) (get_or es at d).to
 kid_at nodes level end at d [] h lt = absurd (omega arith)
 kid_at nodes level end zero d (e ∷ es) h lt = h.0
 kid_at nodes level end (suc at) d (e ∷ es) h lt = kid_at nodes level end at d es h.1 (omega arith)

@@ -24,7 +24,8 @@ pub record Enters (nodes : List Knot) (id at : ℕ) (e : Entry) : Type 0 where
   pub place : IsPlace e.low (node nodes id).entries at
   pub fresh : All (λ (x : Entry). x.low ≡ e.low → ⊥) (node nodes id).entries
 
-same_node : (nodes : List Knot) (root top id at : ℕ) (e : Entry) → IsTree nodes root top → Enters nodes id at e → (x : ℕ) → Same nodes (set nodes id (with (node nodes id) at e)) x
+same_node : (nodes : List Knot) (root top id at : ℕ) (e : Entry) → IsTree nodes root top → Enters nodes id at e → (x : ℕ)
+    → Same nodes (set nodes id (with (node nodes id) at e)) x
 same_node nodes root top id at e t h x =
     let n = node nodes id in
     let fits = t.each id h.key.there in
@@ -41,7 +42,8 @@ same_node nodes root top id at e t h x =
       | inr other ↦ Same-is nodes nodes' x (get_or-set_other nodes id x (with n at e) no_knot other)
     ]
 
-pub IsTree-entered : (nodes : List Knot) (root top id at : ℕ) (e : Entry) → IsTree nodes root top → Enters nodes id at e → IsTree (set nodes id (with (node nodes id) at e)) root top
+pub IsTree-entered : (nodes : List Knot) (root top id at : ℕ) (e : Entry) → IsTree nodes root top → Enters nodes id at e
+    → IsTree (set nodes id (with (node nodes id) at e)) root top
 IsTree-entered nodes root top id at e t h =
     let n = node nodes id in
     let fits = t.each id h.key.there in
@@ -72,11 +74,13 @@ IsTree-entered nodes root top id at e t h =
       once = λ a b k ha hb level.
           let sa = same a in
           let sb = same b in
-          t.once a b k (IsAt-back nodes nodes' a k (let z = ha.there in omega arith) sa ha) (IsAt-back nodes nodes' b k (let z = hb.there in omega arith) sb hb) (sym sa.level ∙ level ∙ sb.level);
+          t.once a b k (IsAt-back nodes nodes' a k (let z = ha.there in omega arith) sa ha) (IsAt-back nodes nodes' b k (let z = hb.there in omega arith) sb hb)
+          (sym sa.level ∙ level ∙ sb.level);
     }
 
 -- a page is found where it was, and the new one at its place
-whole_here : (lows : List ℕ) (n : Knot) (at : ℕ) (e : Entry) → at ≤ length n.entries → e.to ≡ length lows → Whole lows (low_of n) n.end n.entries → Whole (lows ++ e.low ∷ []) (low_of n) n.end (insert n.entries at e)
+whole_here : (lows : List ℕ) (n : Knot) (at : ℕ) (e : Entry) → at ≤ length n.entries → e.to ≡ length lows → Whole lows (low_of n) n.end n.entries
+    → Whole (lows ++ e.low ∷ []) (low_of n) n.end (insert n.entries at e)
 whole_here lows n at e le last whole = λ p lt low below.
     let more = length_push lows e.low in
     elim (cases_lt p (length lows)) [
@@ -84,7 +88,8 @@ whole_here lows n at e le last whole = λ p lt low below.
       | inr new ↦ (let here : e.to ≡ p = omega arith in subst (EntryOf (insert n.entries at e)) here (EntryOf-new at e n.entries le))
     ]
 
-pub Holds-entered : (lows : List ℕ) (nodes : List Knot) (root top id at : ℕ) (e : Entry) → IsTree nodes root top → Enters nodes id at e → e.to ≡ length lows → Holds lows nodes
+pub Holds-entered : (lows : List ℕ) (nodes : List Knot) (root top id at : ℕ) (e : Entry) → IsTree nodes root top → Enters nodes id at e → e.to ≡ length lows
+    → Holds lows nodes
     → Holds (lows ++ e.low ∷ []) (set nodes id (with (node nodes id) at e))
 Holds-entered lows nodes root top id at e t h last holds = λ x lt.
     let n = node nodes id in
@@ -103,7 +108,8 @@ Holds-entered lows nodes root top id at e t h last holds = λ x lt.
             keys = Keys-insert lows' at e n.entries (Contains-push lows e.low) (Keys-push lows e.low n.entries was.keys);
             last = last-push lows e.low n.end was.last;
             match = λ leaf. Match-insert lows' at e n.entries (omega arith) new (Match-push lows e.low n.entries (was.match leaf));
-            whole = λ leaf. subst (λ from. Whole lows' from n.end (insert n.entries at e)) (sym (front-insert at e n.entries n.end some fits.some)) (whole_here lows n at e h.place.0 last (was.whole leaf));
+            whole = λ leaf. subst (λ from. Whole lows' from n.end (insert n.entries at e)) (sym (front-insert at e n.entries n.end some fits.some))
+                (whole_here lows n at e h.place.0 last (was.whole leaf));
           }))
       | inr other ↦
           let is : node nodes' x ≡ node nodes x = get_or-set_other nodes id x (with n at e) no_knot other in
@@ -124,7 +130,8 @@ Holds-entered lows nodes root top id at e t h last holds = λ x lt.
     ]
 
 -- the nodes with the one that has the entry
-pub written : (nodes : List Knot) (i id at : ℕ) (e : Entry) (x y : Knot) → id < length nodes → i ≡ id → x ≡ get_or nodes i x → y ≡ with x at e → set nodes i y ≡ set nodes id (with (node nodes id) at e)
+pub written : (nodes : List Knot) (i id at : ℕ) (e : Entry) (x y : Knot) → id < length nodes → i ≡ id → x ≡ get_or nodes i x → y ≡ with x at e
+    → set nodes i y ≡ set nodes id (with (node nodes id) at e)
 written nodes i id at e x y lt here read is =
     let same : x ≡ node nodes id = get_or_read nodes id x lt (rw here at read) no_knot in
     rw here (ap (set nodes id) (is ∙ ap (λ n. with n at e) same))

@@ -86,7 +86,8 @@ pub Rise-drop : (from i : ℕ) (es : List Entry) (end : ℕ) → Rise from es en
 Rise-drop from zero [] end h = h
 Rise-drop from (suc i) [] end h = h
 Rise-drop from zero (e ∷ es) end h = h
-Rise-drop from (suc i) (e ∷ es) end h = Rise-lift (e.low + 1) from (drop i es) end (Rise-drop (e.low + 1) i es end h.1) (omega (arith, h.0, front_from (e.low + 1) (drop i es) end (Rise-drop (e.low + 1) i es end h.1)))
+Rise-drop from (suc i) (e ∷ es) end h = Rise-lift (e.low + 1) from (drop i es) end (Rise-drop (e.low + 1) i es end h.1)
+    (omega (arith, h.0, front_from (e.low + 1) (drop i es) end (Rise-drop (e.low + 1) i es end h.1)))
 
 -- one more, between those before its place and those behind it
 pub Rise-insert : (from i : ℕ) (new : Entry) (es : List Entry) (end : ℕ) → Rise from es end → i ≤ length es → from ≤ new.low
@@ -94,8 +95,11 @@ pub Rise-insert : (from i : ℕ) (new : Entry) (es : List Entry) (end : ℕ) →
 Rise-insert from zero new [] end h le low before after = (low, omega (arith, after))
 Rise-insert from (suc i) new [] end h le low before after = absurd (omega arith)
 Rise-insert from zero new (e ∷ es) end h le low before after = (low, (omega (arith, after), h.1))
-Rise-insert from (suc i) new (e ∷ es) end h le low before after =
-    (h.0, Rise-insert (e.low + 1) i new es end h.1 (omega arith) (let b = before 0 e (omega arith) in omega arith) (λ j d lt. before (suc j) d (omega arith)) after)
+Rise-insert from (suc i) new (e ∷ es) end h le low before after = (
+  h.0,
+  Rise-insert (e.low + 1) i new es end h.1 (omega arith) (let b = before 0 e (omega arith) in omega arith)
+      (λ j d lt. before (suc j) d (omega arith)) after,
+)
 
 pub front-insert : (i : ℕ) (new : Entry) (es : List Entry) (end : ℕ) → 1 ≤ i → 1 ≤ length es → front (insert es i new) end ≡ front es end
 front-insert i new [] end up some = absurd (omega arith)

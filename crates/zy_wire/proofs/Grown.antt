@@ -9,7 +9,8 @@ use Rattle.zy_wire.specs.Pages.{Holds, IsSound}
 square : (n : ℕ) → (n + 1) * (n + 1) ≡ n * n + 2 * n + 1
 square n = omega arith
 
-pub IsSound-grown : (pages low : ℕ) (lows : List ℕ) (nodes nodes' : List Knot) (top top' : ℕ) → IsSound pages lows nodes top → (Contains lows low → ⊥) → low < 65536 → length lows < pages
+pub IsSound-grown : (pages low : ℕ) (lows : List ℕ) (nodes nodes' : List Knot) (top top' : ℕ) → IsSound pages lows nodes top → (Contains lows low → ⊥)
+    → low < 65536 → length lows < pages
     → Holds (lows ++ low ∷ []) nodes' → top' ≤ top + 1 → length nodes' ≤ length nodes + top + 2 → IsSound pages (lows ++ low ∷ []) nodes' top'
 IsSound-grown pages low lows nodes nodes' top top' h new small few holds level count =
     let lows' = lows ++ low ∷ [] in
@@ -23,7 +24,12 @@ IsSound-grown pages low lows nodes nodes' top top' h new small few holds level c
         | inr past ↦
             let here : j ≡ length lows = omega arith in
             let in' : i < length lows = omega arith in
-            new (i, in', get_or_default lows i low 0 in' ∙ (sym (get_or_append_left lows (low ∷ []) 0 i in') ∙ (same ∙ (ap (λ z. get_or lows' z 0) here ∙ last))))
+            new (
+              i,
+              in',
+              get_or_default lows i low 0 in' ∙ (sym (get_or_append_left lows (low ∷ []) 0 i in')
+                  ∙ (same ∙ (ap (λ z. get_or lows' z 0) here ∙ last))),
+            )
       ];
       small = λ p lt. elim (cases_lt p (length lows)) [
         | inl old ↦ (let e = get_or_append_left lows (low ∷ []) 0 p old in let b = h.small p old in omega arith)

@@ -1,5 +1,6 @@
 -- What nodes have to do with the pages, when one is cut or has one entry more.
-use Rattle.std.proofs.Common.{◌≡◌, ◌∙◌, ℕ, zero, suc, ◌+◌, ◌-◌, ◌<◌, ◌≤◌, List, [], ◌∷◌, ◌++◌, length, get_or, take, drop, sym, ap, arith, length-append, length-take, length-drop, ◌⊎◌, inl, inr}
+use Rattle.std.proofs.Common.{◌≡◌, ◌∙◌, ℕ, zero, suc, ◌+◌, ◌-◌, ◌<◌, ◌≤◌, List, [], ◌∷◌, ◌++◌, length, get_or, take, drop, sym, ap, arith, length-append}
+use Rattle.std.proofs.Common.{length-take, length-drop, ◌⊎◌, inl, inr}
 use Rattle.std.specs.Prelude.{Contains}
 use Rattle.std.specs.List.{insert}
 use Rattle.std.proofs.lemmas.Bool.{cases_lt}
@@ -35,7 +36,8 @@ pub Keys-push : (lows : List ℕ) (low : ℕ) (es : List Entry) → Keys lows es
 Keys-push lows low [] h = tt
 Keys-push lows low (e ∷ es) h = (Contains-append_left lows (low ∷ []) e.low h.0, Keys-push lows low es h.1)
 
-pub match_at : (lows : List ℕ) (es : List Entry) (j : ℕ) (d : Entry) → Match lows es → j < length es → ((get_or es j d).to < length lows) × (get_or lows (get_or es j d).to 0 ≡ (get_or es j d).low)
+pub match_at : (lows : List ℕ) (es : List Entry) (j : ℕ) (d : Entry) → Match lows es → j < length es → ((get_or es j d).to < length lows)
+    × (get_or lows (get_or es j d).to 0 ≡ (get_or es j d).low)
 match_at lows [] j d h lt = absurd (omega arith)
 match_at lows (e ∷ es) zero d h lt = (h.0, h.1)
 match_at lows (e ∷ es) (suc j) d h lt = match_at lows es j d h.2 (omega arith)
@@ -57,7 +59,8 @@ Match-push lows low (e ∷ es) h =
     let more = length-append lows (low ∷ []) in
     (omega arith, get_or_append_left lows (low ∷ []) 0 e.to h.0 ∙ h.1, Match-push lows low es h.2)
 
-pub Match-insert : (lows : List ℕ) (i : ℕ) (new : Entry) (es : List Entry) → new.to < length lows → get_or lows new.to 0 ≡ new.low → Match lows es → Match lows (insert es i new)
+pub Match-insert : (lows : List ℕ) (i : ℕ) (new : Entry) (es : List Entry) → new.to < length lows → get_or lows new.to 0 ≡ new.low → Match lows es
+    → Match lows (insert es i new)
 Match-insert lows zero new es lt is h = (lt, is, h)
 Match-insert lows (suc i) new [] lt is h = (lt, is, tt)
 Match-insert lows (suc i) new (e ∷ es) lt is h = (h.0, h.1, Match-insert lows i new es lt is h.2)
@@ -67,7 +70,8 @@ pub low_of_entry : (lows : List ℕ) (es : List Entry) (p : ℕ) (d : Entry) (e 
 low_of_entry lows es p d e match = sym (match_at lows es e.at d match e.within).1 ∙ ap (λ q. get_or lows q 0) (e.is d)
 
 -- the pages of the first i entries, and those of the others
-pub Whole-take : (lows : List ℕ) (from to i : ℕ) (es : List Entry) → Rise 0 es to → i < length es → Match lows es → front (drop i es) to ≤ to → Whole lows from to es → Whole lows from (front (drop i es) to) (take i es)
+pub Whole-take : (lows : List ℕ) (from to i : ℕ) (es : List Entry) → Rise 0 es to → i < length es → Match lows es → front (drop i es) to ≤ to
+    → Whole lows from to es → Whole lows from (front (drop i es) to) (take i es)
 Whole-take lows from to i es rise lt match le whole = λ p in' low below.
     let d : Entry = record { low = 0; to = 0 } in
     let e = whole p in' low (omega arith) in
@@ -82,7 +86,8 @@ Whole-take lows from to i es rise lt match le whole = λ p in' low below.
     ] in
     record { at = e.at; within = omega (arith, length-take i es, e.within); is = λ d'. rw (get_or-take i es e.at d' before) (e.is d') }
 
-pub Whole-drop : (lows : List ℕ) (from to i : ℕ) (es : List Entry) → Rise 0 es to → i < length es → Match lows es → from ≤ front (drop i es) to → Whole lows from to es → Whole lows (front (drop i es) to) to (drop i es)
+pub Whole-drop : (lows : List ℕ) (from to i : ℕ) (es : List Entry) → Rise 0 es to → i < length es → Match lows es → from ≤ front (drop i es) to
+    → Whole lows from to es → Whole lows (front (drop i es) to) to (drop i es)
 Whole-drop lows from to i es rise lt match le whole = λ p in' low below.
     let d : Entry = record { low = 0; to = 0 } in
     let e = whole p in' (omega arith) below in

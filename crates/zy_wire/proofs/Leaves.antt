@@ -35,7 +35,8 @@ pub record PageAt (lows : List ℕ) (k p : ℕ) : Type 0 where
   pub is : page_of lows k ≡ p
 
 -- a low key not above the entry's key is no later than the entry
-no_later : (lows : List ℕ) (n : Knot) (k at q : ℕ) (d : Entry) → Leaf lows n k → IsPlace k n.entries (at + 1) → (e : EntryOf n.entries q) → get_or lows q 0 ≤ k → get_or lows q 0 ≤ (get_or n.entries at d).low
+no_later : (lows : List ℕ) (n : Knot) (k at q : ℕ) (d : Entry) → Leaf lows n k → IsPlace k n.entries (at + 1) → (e : EntryOf n.entries q) → get_or lows q 0 ≤ k
+    → get_or lows q 0 ≤ (get_or n.entries at d).low
 no_later lows n k at q d l place e le =
     let is = low_of_entry lows n.entries q d e (l.has.match l.level) in
     elim (cases_order e.at at) [
@@ -86,8 +87,10 @@ next_at lows n k i l place =
             let e = l.has.whole l.level q in' (let low = l.low in omega arith) below in
             let is = low_of_entry lows n.entries q d e (l.has.match l.level) in
             elim (cases_order i e.at) [
-              | inl same ↦ (let first = front_drop i d n.entries n.end (let w = e.within in omega arith) in let here = ap (λ j. (get_or n.entries j d).low) same in omega arith)
-              | inr (inl before) ↦ (let first = front_drop i d n.entries n.end (let w = e.within in omega arith) in let r = low_rises 0 i e.at d n.entries n.end l.rise before e.within in omega arith)
+              | inl same ↦ (let first = front_drop i d n.entries n.end (let w = e.within in omega arith) in
+                  let here = ap (λ j. (get_or n.entries j d).low) same in omega arith)
+              | inr (inl before) ↦ (let first = front_drop i d n.entries n.end (let w = e.within in omega arith) in
+                  let r = low_rises 0 i e.at d n.entries n.end l.rise before e.within in omega arith)
               | inr (inr past) ↦ absurd (let under = place.1 e.at d (omega arith) past in omega arith)
             ]
         | inr above ↦ omega arith

@@ -34,12 +34,14 @@ stays more b k far =
     page_of-is (lows ++ b ∷ []) k p (omega arith) (let low = l.below in omega arith)
     (λ i lt le. elim (cases_lt i (length lows)) [
       | inl less ↦ (let e = get_or_append_left lows (b ∷ []) 0 i less in let m = l.most i less (omega arith) in omega arith)
-      | inr rest ↦ (let same : i ≡ length lows = omega arith in let e = ap (λ z. get_or (lows ++ b ∷ []) z 0) same ∙ last in let m = far (omega arith) in omega arith)
+      | inr rest ↦ (let same : i ≡ length lows = omega arith in let e = ap (λ z. get_or (lows ++ b ∷ []) z 0) same ∙ last in let m = far (omega arith) in
+          omega arith)
     ])
     (λ i lt same. let e = get_or_append_left lows (b ∷ []) 0 i (omega arith) in first_there more k i lt (sym e ∙ same ∙ here))
 
 -- the new page takes k
-takes : (more : List ℕ) (b k : ℕ) → b ≤ k → ((i : ℕ) → i < length (0 ∷ more) → get_or (0 ∷ more) i 0 ≤ k → get_or (0 ∷ more) i 0 < b) → page_of ((0 ∷ more) ++ b ∷ []) k ≡ length (0 ∷ more)
+takes : (more : List ℕ) (b k : ℕ) → b ≤ k → ((i : ℕ) → i < length (0 ∷ more) → get_or (0 ∷ more) i 0 ≤ k → get_or (0 ∷ more) i 0 < b)
+    → page_of ((0 ∷ more) ++ b ∷ []) k ≡ length (0 ∷ more)
 takes more b k le below =
     let lows = 0 ∷ more in
     let long = length-append lows (b ∷ []) in
@@ -56,7 +58,8 @@ pub page_of-cut_below : (more : List ℕ) (b k : ℕ) → k < b → page_of ((0 
 page_of-cut_below more b k lt = stays more b k (λ le. absurd (omega arith))
 
 -- a key of the page of b, and not below b, goes to the new page, where no page had b
-pub page_of-cut_above : (more : List ℕ) (b k : ℕ) → (Contains (0 ∷ more) b → ⊥) → page_of (0 ∷ more) b ≡ page_of (0 ∷ more) k → b ≤ k → page_of ((0 ∷ more) ++ b ∷ []) k ≡ length (0 ∷ more)
+pub page_of-cut_above : (more : List ℕ) (b k : ℕ) → (Contains (0 ∷ more) b → ⊥) → page_of (0 ∷ more) b ≡ page_of (0 ∷ more) k → b ≤ k
+    → page_of ((0 ∷ more) ++ b ∷ []) k ≡ length (0 ∷ more)
 page_of-cut_above more b k new same le =
     let lows = 0 ∷ more in
     let low = (lies more b).below in
@@ -69,7 +72,8 @@ page_of-cut_above more b k new same le =
     ])
 
 -- a key stays on its page, or goes to the new one from the page of b
-pub page_of-cut : (more : List ℕ) (b k : ℕ) → (page_of ((0 ∷ more) ++ b ∷ []) k ≡ page_of (0 ∷ more) k) ⊎ ((page_of ((0 ∷ more) ++ b ∷ []) k ≡ length (0 ∷ more)) × (page_of (0 ∷ more) b ≡ page_of (0 ∷ more) k))
+pub page_of-cut : (more : List ℕ) (b k : ℕ) → (page_of ((0 ∷ more) ++ b ∷ []) k ≡ page_of (0 ∷ more) k)
+    ⊎ ((page_of ((0 ∷ more) ++ b ∷ []) k ≡ length (0 ∷ more)) × (page_of (0 ∷ more) b ≡ page_of (0 ∷ more) k))
 page_of-cut more b k =
     let lows = 0 ∷ more in
     let p = page_of lows k in

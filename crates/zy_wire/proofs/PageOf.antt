@@ -1,5 +1,6 @@
 -- Laws of the page that a key lies on.
-use Rattle.std.proofs.Common.{◌≡◌, ◌∙◌, ap, ℕ, zero, suc, ◌+◌, ◌<◌, ◌≤◌, Bool, true, false, List, [], ◌∷◌, length, get_or, refl, sym, eqb, leb, ltb, arith, Some, None, ◌⊎◌, inl, inr}
+use Rattle.std.proofs.Common.{◌≡◌, ◌∙◌, ap, ℕ, zero, suc, ◌+◌, ◌<◌, ◌≤◌, Bool, true, false, List, [], ◌∷◌, length, get_or, refl, sym, eqb, leb, ltb, arith}
+use Rattle.std.proofs.Common.{Some, None, ◌⊎◌, inl, inr}
 use Rattle.std.specs.Prelude.{filter, position, unwrap_or}
 use Rattle.std.specs.List.{position_or_len}
 use Rattle.std.proofs.lemmas.Bool.{eq-eqb, ne_eqb, eqb-true, lt-ltb, ltb-true, ltb-false, le-leb, leb-true, cond_both, cases_lt, cases_Bool, true≢false}
@@ -32,7 +33,8 @@ low_under-most (low ∷ lows) k m most =
     (λ _. rest)
 
 -- the first place at which a test passes
-first_at : (q : ℕ → Bool) (xs : List ℕ) (i : ℕ) → i < length xs → q (get_or xs i 0) ≡ true → ((j : ℕ) → j < i → q (get_or xs j 0) ≡ false) → position_or_len q xs ≡ i
+first_at : (q : ℕ → Bool) (xs : List ℕ) (i : ℕ) → i < length xs → q (get_or xs i 0) ≡ true → ((j : ℕ) → j < i → q (get_or xs j 0) ≡ false)
+    → position_or_len q xs ≡ i
 first_at q [] i lt passes fails = absurd (omega arith)
 first_at q (x ∷ xs) zero lt passes fails = rw passes refl
 first_at q (x ∷ xs) (suc i) lt passes fails =
@@ -71,7 +73,8 @@ page_of-is lows k p lt le most other =
     let least : low_under lows k ≤ get_or lows p 0 = low_under-most lows k (get_or lows p 0) most in
     let up : get_or lows p 0 ≤ low_under lows k = le-low_under lows k p lt le in
     let same : low_under lows k ≡ get_or lows p 0 = omega arith in
-    let at : position_or_len (λ low. eqb low (low_under lows k)) lows ≡ p = first_at (λ low. eqb low (low_under lows k)) lows p lt (eq-eqb _ _ (sym same)) (λ i below. ne_eqb _ _ (λ e. other i below (e ∙ same))) in
+    let at : position_or_len (λ low. eqb low (low_under lows k)) lows ≡ p =
+    first_at (λ low. eqb low (low_under lows k)) lows p lt (eq-eqb _ _ (sym same)) (λ i below. ne_eqb _ _ (λ e. other i below (e ∙ same))) in
     rw (at, lt-ltb p (length lows) lt) refl
 
 -- each key lies on a page that is there
@@ -109,11 +112,16 @@ reached : (lows : List ℕ) (k : ℕ) → (low_under lows k ≡ 0) ⊎ ((i : ℕ
 reached [] k = inl refl
 reached (low ∷ lows) k =
     let rest = reached lows k in
-    cond_both (leb low k) (low ∷ filter (λ x. leb x k) lows) (filter (λ x. leb x k) lows) (λ ys. (greatest ys ≡ 0) ⊎ ((i : ℕ) × (i < suc (length lows)) × (get_or (low ∷ lows) i 0 ≡ greatest ys)))
+    cond_both (leb low k) (low ∷ filter (λ x. leb x k) lows) (filter (λ x. leb x k) lows) (λ ys. (greatest ys ≡ 0)
+    ⊎ ((i : ℕ) × (i < suc (length lows)) × (get_or (low ∷ lows) i 0 ≡ greatest ys)))
     (λ _. elim (cases_lt low (low_under lows k)) [
       | inl below ↦ elim rest [
         | inl none ↦ absurd (omega arith)
-        | inr one ↦ inr (suc one.0, (let i = one.0 in let lt : i < length lows = one.1 in omega arith), (let e : get_or lows one.0 0 ≡ low_under lows k = one.2 in omega arith))
+        | inr one ↦ inr (
+          suc one.0,
+          (let i = one.0 in let lt : i < length lows = one.1 in omega arith),
+          (let e : get_or lows one.0 0 ≡ low_under lows k = one.2 in omega arith),
+        )
       ]
       | inr above ↦ inr (0, omega arith, omega arith)
     ])
@@ -151,7 +159,8 @@ page_by_low lows a k e = ap (λ m. unwrap_or (position (λ low. eqb low m) lows)
 
 -- a key not below a lies on a's page, or on one whose low key is above a
 pub page_of-from : (lows : List ℕ) (a k : ℕ) → a ≤ k
-    → (page_of lows a ≡ page_of lows k) ⊎ ((i : ℕ) × (i < length lows) × (a < get_or lows i 0) × (get_or lows i 0 ≤ k) × (page_of lows (get_or lows i 0) ≡ page_of lows k))
+    → (page_of lows a ≡ page_of lows k) ⊎ ((i : ℕ) × (i < length lows) × (a < get_or lows i 0) × (get_or lows i 0 ≤ k)
+    × (page_of lows (get_or lows i 0) ≡ page_of lows k))
 page_of-from lows a k le =
     let m = low_under lows k in
     let up : low_under lows a ≤ m = low_under-most lows a m (λ i lt low. le-low_under lows k i lt (omega arith)) in

@@ -35,14 +35,24 @@ IsTree-raised nodes root top t =
       end = ap (λ (k : Knot). k.end) last;
       each = λ id lt. elim (cases_lt id (length nodes)) [
         | inl old ↦ subst (Fits nodes') (sym (old_node nodes n id old))
-            (Fits-lift nodes nodes' (node nodes id) (omega arith) (t.each id old) (λ up j d in'. same _ (kid_at nodes _ _ j d _ ((t.each id old).kids up) in').there))
+            (Fits-lift nodes nodes' (node nodes id) (omega arith) (t.each id old)
+            (λ up j d in'. same _ (kid_at nodes _ _ j d _ ((t.each id old).kids up) in').there))
         | inr past ↦
             let here : id ≡ length nodes = omega arith in
             let r = same root t.there in
             subst (λ x. Fits nodes' (node nodes' x)) (sym here) (subst (Fits nodes') (sym last) (record {
               some = omega arith;
               rise = (omega arith, omega arith);
-              kids = λ up. (record { there = (let h = t.there in omega arith); level = ap (λ z. z + 1) (r.level ∙ t.level); low = r.low ∙ t.low; end = r.end ∙ t.end }, tt);
+              kids =
+                  λ up. (
+                    record {
+                      there = (let h = t.there in omega arith);
+                      level = ap (λ z. z + 1) (r.level ∙ t.level);
+                      low = r.low ∙ t.low;
+                      end = r.end ∙ t.end;
+                    },
+                    tt,
+                  );
             }))
       ];
       under = λ id lt. elim (cases_lt id (length nodes)) [
@@ -51,7 +61,8 @@ IsTree-raised nodes root top t =
       ];
       once = λ a b k ha hb level. elim (cases_lt a (length nodes)) [
         | inl olda ↦ elim (cases_lt b (length nodes)) [
-          | inl oldb ↦ t.once a b k (IsAt-back nodes nodes' a k olda (same a olda) ha) (IsAt-back nodes nodes' b k oldb (same b oldb) hb) (sym (same a olda).level ∙ level ∙ (same b oldb).level)
+          | inl oldb ↦ t.once a b k (IsAt-back nodes nodes' a k olda (same a olda) ha) (IsAt-back nodes nodes' b k oldb (same b oldb) hb)
+              (sym (same a olda).level ∙ level ∙ (same b oldb).level)
           | inr pastb ↦
               let here : b ≡ length nodes = (let h = hb.there in omega arith) in
               let l = ap (λ (m : Knot). m.level) (ap (λ x. node nodes' x) here ∙ last) in
@@ -81,7 +92,11 @@ Holds-raised lows nodes root top t h = λ id lt.
           let d : Entry = record { low = 0; to = 0 } in
           let some : 0 < length (node nodes root).entries = (let f = t.each root t.there in omega (arith, f.some)) in
           subst (λ x. Has lows (node nodes' x)) (sym here) (subst (Has lows) (sym (new_node nodes n)) (record {
-            keys = (subst (Contains lows) (sym (front_drop 0 d (node nodes root).entries (node nodes root).end some) ∙ t.low) (key_at lows 0 d (node nodes root).entries (h root t.there).keys some), tt);
+            keys = (
+              subst (Contains lows) (sym (front_drop 0 d (node nodes root).entries (node nodes root).end some) ∙ t.low)
+                  (key_at lows 0 d (node nodes root).entries (h root t.there).keys some),
+              tt,
+            );
             last = inl refl;
             match = λ z. absurd (omega arith);
             whole = λ z. absurd (omega arith);

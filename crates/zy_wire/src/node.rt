@@ -11,8 +11,8 @@ const ROOM: usize = 8;
 /// How many entries stay where a full node is cut.
 const HALF: usize = 4;
 
-/// Entries in order of low key, with every low key from the first one on and below an end. Those of level 0 are of pages,
-/// and those of each other level of nodes of the level below.
+/// Entries in order of low key, with every low key from the first one on and below an end. Those of level 0 are of
+/// pages, and those of each other level of nodes of the level below.
 #[derive(Drop)]
 pub struct Node {
     level: u16,
@@ -141,7 +141,10 @@ impl Node {
     pub fn cut(&mut self) -> Node
         requires { length self.old.entries ≡ 8 }
         ensures upper { result ≡ record self.old { entries = drop 4 self.old.entries } }
-        ensures lower { self.new ≡ record self.old { end = front (drop 4 self.old.entries) self.old.end; entries = take 4 self.old.entries } }
+        ensures lower { self.new ≡ record self.old {
+          end = front (drop 4 self.old.entries) self.old.end;
+          entries = take 4 self.old.entries;
+        } }
     {
         let upper = Node::of(self.level, self.end, &self.entries()[HALF..]);
         self.end = u32::from(self.cells[HALF].low);

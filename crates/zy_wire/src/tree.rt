@@ -1,5 +1,6 @@
 //! A tree of nodes in one list.
-ghost use Rattle.std.specs.Prelude.{◌≡◌, ◌==◌, ℕ, ◌+◌, ◌^◌, ◌<◌, ◌≤◌, ◌∷◌, ◌++◌, [], IfOk, OnOk, OnErr, IsOk, IfSome, List, ◌≢◌, length};
+ghost use Rattle.std.specs.Prelude.{◌≡◌, ◌==◌, ℕ, ◌+◌, ◌^◌, ◌<◌, ◌≤◌, ◌∷◌, ◌++◌, [], IfOk, OnOk, OnErr, IsOk, IfSome};
+ghost use Rattle.std.specs.Prelude.{List, ◌≢◌, length};
 ghost use Rattle.std.specs.List.{All};
 ghost use Rattle.zy_wire.specs.declared.entry.Entry.{Entry};
 ghost use Rattle.zy_wire.specs.Nodes.{node, lower_half, upper_half, LeadsTo, IsAt, LeafAt, Fits};
@@ -29,7 +30,12 @@ impl Model for Tree {
 
     ghost Value = { Value_of };
 
-    ghost view = { λ t. record { nodes = t.nodes.items; root = t.root.0; top = t.top; room = vec_capacity t.nodes - length t.nodes.items } };
+    ghost view = { λ t. record {
+      nodes = t.nodes.items;
+      root = t.root.0;
+      top = t.top;
+      room = vec_capacity t.nodes - length t.nodes.items;
+    } };
 
     ghost invariant = { λ t. IsTree t.nodes.items t.root.0 t.top };
 }
@@ -151,7 +157,8 @@ impl Tree {
         id
     }
 
-    /// Where a way to a key with a place for one entry more in each node begins: at the last node that has one, or at a new root.
+    /// Where a way to a key with a place for one entry more in each node begins: at the last node that has one, or at a
+    /// new root.
     fn head(&mut self, key: u16) -> NodeId
         requires room { self.old.top + 2 ≤ self.old.room }
         requires level { self.old.top + 1 < 2 ^ 16 }
@@ -159,7 +166,8 @@ impl Tree {
         ensures at { IsAt self.new.nodes result.0 key }
         ensures few { length (node self.new.nodes result.0).entries < 8 }
         ensures room { (node self.new.nodes result.0).level ≤ self.new.room }
-        ensures nodes { length self.new.nodes + (node self.new.nodes result.0).level ≤ length self.old.nodes + self.old.top + 2 }
+        ensures nodes { length self.new.nodes + (node self.new.nodes result.0).level ≤ length self.old.nodes +
+            self.old.top + 2 }
         ensures top { self.new.top ≤ self.old.top + 1 }
         ensures holds { (lows : List ℕ) → Holds lows self.old.nodes → Holds lows self.new.nodes }
     {
@@ -195,7 +203,8 @@ impl Tree {
         id
     }
 
-    /// The node below that has a key of this one, which has a place for one entry more. Where that one is full it is cut.
+    /// The node below that has a key of this one, which has a place for one entry more. Where that one is full it is
+    /// cut.
     fn step(&mut self, id: NodeId, key: u16) -> NodeId
         requires at { IsAt self.old.nodes id.0 key }
         requires above { 1 ≤ (node self.old.nodes id.0).level }
@@ -222,8 +231,8 @@ impl Tree {
         }
     }
 
-    /// The number of the node of level 0 that has a key, with a place for one entry more. The full nodes on the way are cut from the
-    /// last one above them that has a place, for each of them would get a ninth entry.
+    /// The number of the node of level 0 that has a key, with a place for one entry more. The full nodes on the way are
+    /// cut from the last one above them that has a place, for each of them would get a ninth entry.
     pub fn make_way(&mut self, key: u16) -> NodeId
         requires room { self.old.top + 2 ≤ self.old.room }
         requires level { self.old.top + 1 < 2 ^ 16 }
@@ -250,7 +259,8 @@ impl Tree {
         requires fresh { All (λ (e : Entry). e.low ≢ entry.low) (node self.old.nodes id.0).entries }
         ensures top { self.new.top ≡ self.old.top }
         ensures nodes { length self.new.nodes ≡ length self.old.nodes }
-        ensures holds { (lows : List ℕ) → Holds lows self.old.nodes → entry.to ≡ length lows → Holds (lows ++ entry.low ∷ []) self.new.nodes }
+        ensures holds { (lows : List ℕ) → Holds lows self.old.nodes → entry.to ≡ length lows
+            → Holds (lows ++ entry.low ∷ []) self.new.nodes }
     {
         let at = self.node(id).place(entry.low);
         self.nodes[id.index()].insert(at, entry);

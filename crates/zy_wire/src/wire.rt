@@ -1,5 +1,6 @@
 //! The wireframe of a node.
-ghost use Rattle.std.specs.Prelude.{◌≡◌, ◌==◌, ◌↔◌, ◌+◌, ◌^◌, ◌<◌, ◌≤◌, ◌++◌, ◌∷◌, [], OnOk, OnErr, IfOk, IfSome, IsOk, Err, Contains, ℕ, length, slice_index};
+ghost use Rattle.std.specs.Prelude.{◌≡◌, ◌==◌, ◌↔◌, ◌+◌, ◌^◌, ◌<◌, ◌≤◌, ◌++◌, ◌∷◌, [], OnOk, OnErr, IfOk, IfSome, IsOk};
+ghost use Rattle.std.specs.Prelude.{Err, Contains, ℕ, length, slice_index};
 ghost use Rattle.zy_wire.specs.Wireframe.{IsGreatest, IsNext, IsAfter};
 ghost use Rattle.zy_wire.specs.Wireframe as spec;
 ghost use Rattle.zy_wire.specs.Ranges.{in_range};
@@ -32,8 +33,8 @@ impl From<AllocError> for WireFault {
     }
 }
 
-/// The low keys of the pages, by number, the first of which is 0: a key lies on the page with the greatest low key that is not above it.
-/// A tree of nodes over the low keys finds it, so that a search reads few of them.
+/// The low keys of the pages, by number, the first of which is 0: a key lies on the page with the greatest low key that
+/// is not above it. A tree of nodes over the low keys finds it, so that a search reads few of them.
 #[derive(Drop)]
 pub struct Wire {
     lows: Vec<u16>,
@@ -49,7 +50,11 @@ impl Model for Wire {
 
     ghost Value = { Wireframe };
 
-    ghost view = { λ w. record { lows = w.lows.items; pages = w.pages; spare = min 1 (min (vec_capacity w.lows - length w.lows.items) (w.tree.room - (w.tree.top + 1))) } };
+    ghost view = { λ w. record {
+      lows = w.lows.items;
+      pages = w.pages;
+      spare = min 1 (min (vec_capacity w.lows - length w.lows.items) (w.tree.room - (w.tree.top + 1)));
+    } };
 
     ghost invariant = { λ w. IsSound w.pages w.lows.items w.tree.nodes w.tree.top };
 }

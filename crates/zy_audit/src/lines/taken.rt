@@ -5,8 +5,8 @@ ghost use Rattle.zy_machine.specs.Histories.{choices_of};
 
 use crate::lines::choice::ChoiceText;
 use std::alloc::AllocError;
-use zy_io::{Line, LineBuffer, Lines, Section, Sink, TextFault};
 use zy_io::section::write_lines;
+use zy_io::{Line, LineBuffer, Lines, Section, Sink, TextFault};
 use zy_table::Entry;
 
 /// The choices of these steps, in order.

@@ -1,9 +1,10 @@
-//! A loaded scenario with other choices. Images and their faults are in `tests/images` and `tests/refused-images` of the repository.
+//! A loaded scenario with other choices. Images and their faults are in `tests/images` and `tests/refused-images` of
+//! the repository.
 
 use std::alloc::Global;
 use std::test::Fail;
-use zy_image::choices::with_choices;
 use zy_image::LoadFault;
+use zy_image::choices::with_choices;
 use zy_image::load::load;
 use zy_isa::{Choice, Node};
 

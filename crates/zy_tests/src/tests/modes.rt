@@ -2,8 +2,8 @@
 use std::process::Abort;
 use zy_isa::{Node, Version};
 use zy_links::Kind;
-use zy_modes::{FinishLine, MessageLine, NodeMode};
 use zy_modes::table::{home_of, on_finish, on_message, on_start};
+use zy_modes::{FinishLine, MessageLine, NodeMode};
 
 const MODES: [NodeMode; 8] = [
     NodeMode::Empty,
@@ -26,7 +26,8 @@ const KINDS: [Kind; 7] = [
     Kind::Done,
 ];
 
-/// While pages are missing, a line for each mode and a column for each kind: the number of the new mode in MODES, or a dot.
+/// While pages are missing, a line for each mode and a column for each kind: the number of the new mode in MODES, or a
+/// dot.
 const MISSING: [&[u8; 7]; 8] = [
     b"5......", b".......", b".3.....", b"...3...", b"...4..0", b"..6....", b"....67.", b"....7..",
 ];

@@ -6,10 +6,13 @@ use super::fakes::{Drip, Trickle};
 use std::alloc::{AllocError, Global};
 use std::io::{self, ErrorKind};
 use std::test::Fail;
-use zy_io::{Both, CountingReader, CountingWriter, Decimal, Joined, Line, LineBuffer, MAX_INPUT, One, Parts, ReadFault, Section, Sink, SliceSource, Source, TextFault, VecSink, WriteFault};
 use zy_io::reading::read_all;
 use zy_io::section::{write_line, write_lines, write_parts};
 use zy_io::writing::write_all;
+use zy_io::{
+    Both, CountingReader, CountingWriter, Decimal, Joined, Line, LineBuffer, MAX_INPUT, One, Parts,
+    ReadFault, Section, Sink, SliceSource, Source, TextFault, VecSink, WriteFault,
+};
 use zy_text::{Canonical, CanonicalText, Each};
 
 /// Gives as many bytes as are left, and counts them.

@@ -1,5 +1,5 @@
-//! The worked run on a node that is not there yet, by three threads: what its gates are called with, in which order it may go, and a
-//! step that is refused memory.
+//! The worked run on a node that is not there yet, by three threads: what its gates are called with, in which order it
+//! may go, and a step that is refused memory.
 
 use std::alloc::{AllocError, Global};
 use std::process::Abort;
@@ -9,8 +9,8 @@ use std::test::Fail;
 use std::thread::{Threads, yield_now};
 use zy_isa::{Actor, Choice, Instr, Node, Program, Reg, Rule, Scenario};
 use zy_table::{Entry, Outcome};
-use zy_threads::{Allowance, Board, Gate, Unlimited};
 use zy_threads::run::run_allowed;
+use zy_threads::{Allowance, Board, Gate, Unlimited};
 
 const TAKE_B: Choice = Choice::Take(Node::B);
 

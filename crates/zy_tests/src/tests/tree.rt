@@ -1,4 +1,5 @@
-//! The tree of a wireframe with 512 pages, put in in three orders: how deep it is, and each key's page against a plain scan.
+//! The tree of a wireframe with 512 pages, put in in three orders: how deep it is, and each key's page against a plain
+//! scan.
 use std::alloc::Global;
 use zy_wire::{Wire, WireFault};
 
@@ -69,7 +70,8 @@ fn first_astray(wire: &Wire) -> Option<u16> {
     (0..=u16::MAX).find(|key| (wire.page_of(*key), wire.after(*key)) != scanned(wire, *key))
 }
 
-/// How many pages there are, whether the tree is at most 5 levels deep, and the first key at which a search is not the scan.
+/// How many pages there are, whether the tree is at most 5 levels deep, and the first key at which a search is not the
+/// scan.
 fn facts(alloc: Global, order: Order) -> Result<(usize, bool, Option<u16>), WireFault> {
     let wire = built(alloc, order)?;
     Ok((wire.len(), wire.depth() <= 5, first_astray(&wire)))

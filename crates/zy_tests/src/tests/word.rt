@@ -1,6 +1,6 @@
 //! Words written by hand, and bytes that are no word.
-use zy_isa::{Instr, Reg};
 use zy_isa::word::{decode, encode};
+use zy_isa::{Instr, Reg};
 
 #[test]
 fn each_instruction_has_its_word(rt: HostRuntime) {

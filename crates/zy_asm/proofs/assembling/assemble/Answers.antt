@@ -17,7 +17,8 @@ pub returns-in-Ok-clause-found : goal.returns-in-Ok-clause-found
 returns-in-Ok-clause-found c =
     let e = c.of_parts.ensures.value in
     let text = c.args.text.now in
-    subst (Means text) (sym e) (Means-from_read text (progress_of c.in-Ok.reader) (read_text text c.in-Ok.reader c.in-Ok.ensures) (subst IsScenario e c.of_parts.ensures.tested))
+    subst (Means text) (sym e) (Means-from_read text (progress_of c.in-Ok.reader) (read_text text c.in-Ok.reader c.in-Ok.ensures)
+    (subst IsScenario e c.of_parts.ensures.tested))
 
 pub returns-in-Ok-clause-only : goal.returns-in-Ok-clause-only
 returns-in-Ok-clause-only c = λ s q. c.of_parts.ensures.value ∙ only_of c.args.text.now (progress_of c.in-Ok.reader) s c.in-Ok.ensures q

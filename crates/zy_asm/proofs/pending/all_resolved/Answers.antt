@@ -15,7 +15,8 @@ returns-in_err-word c =
     let item = drop-cons instrs at c.instr-item.result (search rules) ∙ ap (λ u. u ∷ drop (suc at) instrs) (sym c.instr-item.is) in
     rw (p.1, p.2)
     (inr (sym c.loop-instr.invariant ∙ ap (λ us. with_front c.loop-instr.all.items (all_resolved labels (map pending_of us))) item
-    ∙ with_front-fails labels c.loop-instr.all.items (pending_of c.instr-item.result) (kind_of c.in_err-word.field-0.0) (map pending_of (drop (suc at) instrs)) (sym c.in_err-word.ensures)))
+    ∙ with_front-fails labels c.loop-instr.all.items (pending_of c.instr-item.result) (kind_of c.in_err-word.field-0.0) (map pending_of (drop (suc at) instrs))
+    (sym c.in_err-word.ensures)))
 
 -- an instruction that is resolved is behind those so far
 pub loop-instr-preserved : goal.loop-instr-preserved
@@ -24,6 +25,8 @@ loop-instr-preserved c =
     let instrs = c.args.instrs.now in
     let labels = c.args.labels.now in
     let item = drop-cons instrs at c.instr-item.result (search rules) ∙ ap (λ u. u ∷ drop (suc at) instrs) (sym c.instr-item.is) in
-    let next = with_front-next labels c.loop-instr.all.items (pending_of c.instr-item.result) c.in_ok-word.word (map pending_of (drop (suc at) instrs)) (sym c.in_ok-word.ensures) in
+    let next = with_front-next labels c.loop-instr.all.items (pending_of c.instr-item.result) c.in_ok-word.word (map pending_of (drop (suc at) instrs))
+    (sym c.in_ok-word.ensures) in
     let pushed : c.push.new.self.items ≡ c.loop-instr.all.items ++ c.in_ok-word.word ∷ [] = search rules in
-    rw (pushed, add-one at) (sym next ∙ ap (λ us. with_front c.loop-instr.all.items (all_resolved labels (map pending_of us))) (sym item) ∙ c.loop-instr.invariant)
+    rw (pushed, add-one at) (sym next ∙ ap (λ us. with_front c.loop-instr.all.items (all_resolved labels (map pending_of us))) (sym item)
+    ∙ c.loop-instr.invariant)

@@ -5,4 +5,5 @@ use Rattle.zy_asm.proofs.PendingLemmas.{with_front}
 use Rattle.zy_asm.proofs.pending.all_resolved.Given as goal
 
 abbrev pub invariant-loop-instr : goal.invariant-loop-instr
-invariant-loop-instr l = with_front l.all.items (all_resolved l.labels (map pending_of (drop l.instr-index l.instrs))) ≡ all_resolved l.labels (map pending_of l.instrs)
+invariant-loop-instr l = with_front l.all.items (all_resolved l.labels (map pending_of (drop l.instr-index l.instrs)))
+    ≡ all_resolved l.labels (map pending_of l.instrs)

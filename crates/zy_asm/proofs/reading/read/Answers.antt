@@ -13,8 +13,10 @@ loop-words-preserved c =
     let some = sym c.is_empty.ensures ∙ c.loop-words-test.true in
     let words = c.as_slice.ensures ∙ c.take_line-rest.ensures.words in
     record {
-      same = line_done (progress_of c.loop-words.reader) (progress_of c.line.new.self) c.loop-words.line (lines_of c.loop-words.rest.now) (lines_of c.take_line-rest.result.now) (first_line c.loop-words.rest.now) (reading c.args.text.now)
-          c.loop-words.invariant.same (line_taken c.loop-words.rest.now c.take_line-rest.result.now some c.take_line-rest.ensures.below) (ap (line_step (progress_of c.loop-words.reader)) (sym words) ∙ c.in_default.ensures);
+      same = line_done (progress_of c.loop-words.reader) (progress_of c.line.new.self) c.loop-words.line (lines_of c.loop-words.rest.now)
+          (lines_of c.take_line-rest.result.now) (first_line c.loop-words.rest.now) (reading c.args.text.now)
+          c.loop-words.invariant.same (line_taken c.loop-words.rest.now c.take_line-rest.result.now some c.take_line-rest.ensures.below)
+          (ap (line_step (progress_of c.loop-words.reader)) (sym words) ∙ c.in_default.ensures);
       few = omega (arith, c.take_line-rest.ensures.shorter, c.loop-words.invariant.few);
     }
 
@@ -24,11 +26,15 @@ returns-in-Err c =
     let words = c.as_slice.ensures ∙ c.take_line-rest.ensures.words in
     elim c.in-Err.ensures [
       | inl e ↦ inl e
-      | inr e ↦ inr (fault_at (progress_of c.loop-words.reader) c.loop-words.line (lines_of c.loop-words.rest.now) (lines_of c.take_line-rest.result.now) (first_line c.loop-words.rest.now) (kind_of c.in-Err.reason) (reading c.args.text.now)
-          c.loop-words.invariant.same (line_taken c.loop-words.rest.now c.take_line-rest.result.now some c.take_line-rest.ensures.below) (ap (line_step (progress_of c.loop-words.reader)) (sym words) ∙ e))
+      | inr e ↦
+          inr (fault_at (progress_of c.loop-words.reader) c.loop-words.line (lines_of c.loop-words.rest.now) (lines_of c.take_line-rest.result.now)
+          (first_line c.loop-words.rest.now) (kind_of c.in-Err.reason) (reading c.args.text.now)
+          c.loop-words.invariant.same (line_taken c.loop-words.rest.now c.take_line-rest.result.now some c.take_line-rest.ensures.below)
+          (ap (line_step (progress_of c.loop-words.reader)) (sym words) ∙ e))
     ]
 
 pub returns-in-Err-ended : goal.returns-in-Err-ended
 returns-in-Err-ended c =
-    inr (fault_end (progress_of c.loop-words.reader) c.loop-words.line (lines_of c.loop-words.rest.now) (kind_of c.in-Err-ended.reason) (reading c.args.text.now)
+    inr (fault_end (progress_of c.loop-words.reader) c.loop-words.line (lines_of c.loop-words.rest.now) (kind_of c.in-Err-ended.reason)
+    (reading c.args.text.now)
     c.loop-words.invariant.same (empty_lines c.loop-words.rest.now (sym c.is_empty.ensures ∙ c.loop-words-test.false)) (sym c.in-Err-ended.ensures))

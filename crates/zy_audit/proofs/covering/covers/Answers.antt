@@ -23,7 +23,8 @@ loop-p-preserved c =
     elim c.match-page.branch [
       | in-Some+else-not-has_run w ↦
           let has = rw (c.rows-rows.ensures.value, w.rows.ensures.value) at (w.has_run.ensures w.if-not-has_run.false) in
-          rw (w.count-is, w.len-count.ensures.value) (covered-found h c.loop-p.p table c.loop-p.count w.in-Some.page.now replay rise has c.loop-p.invariant w.in-Some.ensures)
+          rw (w.count-is, w.len-count.ensures.value) (covered-found h c.loop-p.p table c.loop-p.count w.in-Some.page.now replay rise has c.loop-p.invariant
+          w.in-Some.ensures)
       | in_default w ↦ rw w.count-is (covered-missing h c.loop-p.p table c.loop-p.count replay rise c.loop-p.invariant (rw w.in_default.is at c.page.ensures))
     ]
 

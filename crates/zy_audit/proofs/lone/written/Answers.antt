@@ -22,5 +22,6 @@ returns c =
       | then-loop-test+then-is_over w ↦
           let over = sym (ap (λ (x : Alone). x.over) c.loop.invariant) ∙ sym w.is_over.ensures ∙ w.if-is_over.true in
           let all : (c.args.done - n) + n ≡ c.args.done = omega arith in
-          rw c.into_rows.ensures (ap (λ (x : Alone). x.map) (c.loop.invariant ∙ sym (alone-over m c.args.program.now n (c.args.done - n) over)) ∙ ap (λ i. (alone m c.args.program.now i).map) all)
+          rw c.into_rows.ensures (ap (λ (x : Alone). x.map) (c.loop.invariant ∙ sym (alone-over m c.args.program.now n (c.args.done - n) over))
+          ∙ ap (λ i. (alone m c.args.program.now i).map) all)
     ]

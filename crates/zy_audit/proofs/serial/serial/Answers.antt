@@ -16,6 +16,8 @@ loop-commit-preserved c =
     let cs = c.args.commits.now in
     let d : CommitRec = record { txn = 0; done = 0 } in
     let named = c.requires i d c.loop-commit-test.true in
-    let program = program-read c.args.scenario.now c.from.result (get_or cs i d).txn c.index-programs-from.result c.from.ensures named (rw c.programs.ensures.value at c.index-programs-from.is) in
+    let program = program-read c.args.scenario.now c.from.result (get_or cs i d).txn c.index-programs-from.result c.from.ensures named
+    (rw c.programs.ensures.value at c.index-programs-from.is) in
     let next = rw (← program) at c.in_ok-run.ensures in
-    rw add-one (serial-more c.args.scenario.now (map_of c.loop-commit.table) (map_of c.run.new.self) cs i d c.loop-commit-test.true next ∙ c.loop-commit.invariant)
+    rw add-one (serial-more c.args.scenario.now (map_of c.loop-commit.table) (map_of c.run.new.self) cs i d c.loop-commit-test.true next
+    ∙ c.loop-commit.invariant)

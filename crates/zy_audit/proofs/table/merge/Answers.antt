@@ -29,6 +29,18 @@ loop-row-preserved c =
           let more = ap length split in
           let most = length-rows_past r.key c.split_at.result.1.now in
           let passed = ap length c.past-left.ensures in
-          rw add-one (omega (arith, more, most, passed, len, c.extend_from_slice.ensures.capacity, c.push_reserved.ensures.len, c.push_reserved.ensures.capacity, c.split_at.ensures.front_len, c.split_at.ensures.back_len, c.loop-row.invariant.room));
+          rw add-one (omega (
+            arith,
+            more,
+            most,
+            passed,
+            len,
+            c.extend_from_slice.ensures.capacity,
+            c.push_reserved.ensures.len,
+            c.push_reserved.ensures.capacity,
+            c.split_at.ensures.front_len,
+            c.split_at.ensures.back_len,
+            c.loop-row.invariant.room,
+          ));
       fit = λ h. c.loop-row.invariant.fit (rw split (omega arith, omega arith, rw add-one at h));
     }

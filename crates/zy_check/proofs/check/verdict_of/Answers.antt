@@ -24,7 +24,8 @@ returns-in_err-scenario-clause-fault c =
     let input = c.args.input.now in
     let part = c.split_at.ensures.front ∙ ap (λ n. take n input) c.cut_len.ensures ∙ cut_taken input in
     let p = err_from_is_err_and c.from_residual.result c.from_residual.ensures.1 in
-    rw (p.1, p.2) (subst (λ t. IsOfScenario t (of_refusal c.in_err-scenario.field-0.0)) part (refusal_told _ c.in_err-scenario.field-0.0 c.in_err-scenario.ensures.fault))
+    rw (p.1, p.2) (subst (λ t. IsOfScenario t (of_refusal c.in_err-scenario.field-0.0)) part
+    (refusal_told _ c.in_err-scenario.field-0.0 c.in_err-scenario.ensures.fault))
 
 pub returns-clause-only : goal.returns-clause-only
 returns-clause-only c =

@@ -15,7 +15,8 @@ returns-in_err-answer g c =
     let written = g.K.Sink.written in
     let p = err_from_is_err_and c.from_residual.result c.from_residual.ensures.1 in
     rw p.1 (rw p.2 (
-      said_stops (written c.args.sink.now) (written c.loop-words.sink) c.args.debugger.now c.loop-words.debugger (lines_of c.args.commands.now) (lines_of c.loop-words.rest.now)
+      said_stops (written c.args.sink.now) (written c.loop-words.sink) c.args.debugger.now c.loop-words.debugger (lines_of c.args.commands.now)
+          (lines_of c.loop-words.rest.now)
           c.loop-words.invariant.said,
       c.loop-words.invariant.same,
     ))
@@ -28,7 +29,8 @@ returns-in_err-write_all g c =
     let line = first_line c.loop-words.rest.now in
     let taken = line_taken c.loop-words.rest.now c.take_line-rest.result.now some c.take_line-rest.ensures.below in
     let says = says_first c.loop-words.debugger c.answer.new.debugger (words_of line) c.answer.new.line
-    (subst (λ ws. LineSays c.loop-words.debugger ws c.answer.new.debugger c.answer.new.line) (c.as_slice.ensures ∙ c.take_line-rest.ensures.words) c.in_ok-answer.ensures) in
+    (subst (λ ws. LineSays c.loop-words.debugger ws c.answer.new.debugger c.answer.new.line)
+    (c.as_slice.ensures ∙ c.take_line-rest.ensures.words) c.in_ok-answer.ensures) in
     let front = subst (WroteFront (written c.loop-words.sink) (written c.write_all.new.sink)) c.as_bytes.ensures.value c.in_err-write_all.ensures.0 in
     rw p.1 (rw p.2 (
       said_torn (written c.args.sink.now) (written c.loop-words.sink) c.args.debugger.now c.loop-words.debugger c.answer.new.debugger
@@ -44,7 +46,8 @@ loop-words-preserved g c =
     let line = first_line c.loop-words.rest.now in
     let taken = line_taken c.loop-words.rest.now c.take_line-rest.result.now some c.take_line-rest.ensures.below in
     let says = says_first c.loop-words.debugger c.answer.new.debugger (words_of line) c.answer.new.line
-    (subst (λ ws. LineSays c.loop-words.debugger ws c.answer.new.debugger c.answer.new.line) (c.as_slice.ensures ∙ c.take_line-rest.ensures.words) c.in_ok-answer.ensures) in
+    (subst (λ ws. LineSays c.loop-words.debugger ws c.answer.new.debugger c.answer.new.line)
+    (c.as_slice.ensures ∙ c.take_line-rest.ensures.words) c.in_ok-answer.ensures) in
     let wrote = subst (Appends (written c.loop-words.sink) (written c.write_all.new.sink)) c.as_bytes.ensures.value c.in_ok-write_all.ensures.0 in
     record {
       said = said_more (written c.args.sink.now) (written c.loop-words.sink) c.args.debugger.now c.loop-words.debugger c.answer.new.debugger

@@ -17,10 +17,12 @@ pub returns-in_err-tell-clause-front : goal.returns-in_err-tell-clause-front
 returns-in_err-tell-clause-front g c =
     front-of-one (g.S.Source.left c.args.source.now) (g.K.Sink.written c.args.sink.now) (g.K.Sink.written c.tell.new.sink) c.in_ok-verdict.verdict
     c.in_ok-verdict.ensures.one
-    (tell-front (g.K.Sink.written c.args.sink.now) (g.K.Sink.written c.tell.new.sink) (g.K.Sink.failures c.args.sink.now) (g.K.Sink.failures c.tell.new.sink) c.tell.result (verdict_line c.in_ok-verdict.verdict) c.tell.ensures)
+    (tell-front (g.K.Sink.written c.args.sink.now) (g.K.Sink.written c.tell.new.sink) (g.K.Sink.failures c.args.sink.now)
+    (g.K.Sink.failures c.tell.new.sink) c.tell.result (verdict_line c.in_ok-verdict.verdict) c.tell.ensures)
 
 pub returns-clause-front : goal.returns-clause-front
 returns-clause-front g c =
     front-of-one (g.S.Source.left c.args.source.now) (g.K.Sink.written c.args.sink.now) (g.K.Sink.written c.tell.new.sink) c.in_ok-verdict.verdict
     c.in_ok-verdict.ensures.one
-    (tell-front (g.K.Sink.written c.args.sink.now) (g.K.Sink.written c.tell.new.sink) (g.K.Sink.failures c.args.sink.now) (g.K.Sink.failures c.tell.new.sink) c.tell.result (verdict_line c.in_ok-verdict.verdict) c.tell.ensures)
+    (tell-front (g.K.Sink.written c.args.sink.now) (g.K.Sink.written c.tell.new.sink) (g.K.Sink.failures c.args.sink.now)
+    (g.K.Sink.failures c.tell.new.sink) c.tell.result (verdict_line c.in_ok-verdict.verdict) c.tell.ensures)

@@ -50,7 +50,8 @@ returns-in_err-write_replies-clause-debugs g c =
     let is = accepted bytes c.split_at.result.0.now scenario part found.0 c.in_ok-scenario.ensures.only found.1 in
     let fault = c.in_err-write_replies.field-0.0 in
     let wrote =
-    subst (λ lines. WroteReplies old.written new.written old.writes new.writes {X = Unit {0}} (Err fault) (opened scenario) lines) below c.in_err-write_replies.ensures in
+    subst (λ lines. WroteReplies old.written new.written old.writes new.writes {X = Unit {0}} (Err fault) (opened scenario) lines) below
+    c.in_err-write_replies.ensures in
     let p = err_from_is_err_and c.from_residual-in_err-write_replies.result c.from_residual-in_err-write_replies.ensures.1 in
     rw p.1 (rw p.2 (unfinished old new bytes scenario same whole c.in_ok-bytes.ensures.reads.3 is fault wrote))
 

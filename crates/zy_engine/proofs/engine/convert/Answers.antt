@@ -11,7 +11,8 @@ returns-in_err-scenario-clause-converts g c =
     let source = c.read_scenario.new.source in
     let p = err_from_is_err_and c.from_residual.result c.from_residual.ensures.1 in
     rw (p.1, p.2) (
-    converts-none c.args.format (g.O.Output.bytes c.args.output.now) (at c.args.source.now c.args.sink.now) (g.S.Source.left source) (g.S.Source.failures source)
+    converts-none c.args.format (g.O.Output.bytes c.args.output.now) (at c.args.source.now c.args.sink.now) (g.S.Source.left source)
+    (g.S.Source.failures source)
     c.in_err-scenario.field-0.0 c.in_err-scenario.ensures.takes
     )
 

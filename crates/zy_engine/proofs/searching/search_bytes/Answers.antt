@@ -21,7 +21,8 @@ returns-in_err-scenario-clause-converts g c =
       is = each-of-any c.args.format (g.S.Source.left c.args.source.now) (λ (sc : Scenario). IsAnswer (ran sc) q (Spent 0)) (λ sc. nothing_known sc q);
       returned = tt;
       due = tt;
-      converts = converts-none c.args.format (λ sc. text_of sc (Spent 0)) (at c.args.source.now c.args.sink.now) (g.S.Source.left source) (g.S.Source.failures source)
+      converts = converts-none c.args.format (λ sc. text_of sc (Spent 0)) (at c.args.source.now c.args.sink.now) (g.S.Source.left source)
+          (g.S.Source.failures source)
           c.in_err-scenario.field-0.0 c.in_err-scenario.ensures.takes;
     })
 
@@ -56,6 +57,7 @@ returns-clause-converts g c =
       answer = wrote.answer;
       is = took-each c.args.format old.left new.left old.reads new.reads (λ (sc : Scenario). IsAnswer (ran sc) q wrote.answer) scenario took wrote.is;
       returned = wrote.returned;
-      due = took-each c.args.format old.left new.left old.reads new.reads (λ (sc : Scenario). IsDue (ran sc) q c.args.most c.in_ok-report.report.answer) scenario took wrote.due;
+      due = took-each c.args.format old.left new.left old.reads new.reads (λ (sc : Scenario). IsDue (ran sc) q c.args.most c.in_ok-report.report.answer)
+          scenario took wrote.due;
       converts = converts-wrote c.args.format (λ sc. text_of sc wrote.answer) old new scenario took (Ok c.in_ok-report.report) wrote.wrote;
     }

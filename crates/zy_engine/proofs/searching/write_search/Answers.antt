@@ -50,7 +50,8 @@ returns-in_err-write_answer g c =
       returned = tt;
       due = tt;
       wrote = wrote_err Report before behind failures after fault (text_of c.args.scenario report.answer)
-          (subst (λ (sc : Scenario). Wrote before behind failures after {X = Unit {0}} (Err fault) (text_of sc report.answer)) scenario c.in_err-write_answer.ensures);
+          (subst (λ (sc : Scenario). Wrote before behind failures after {X = Unit {0}} (Err fault) (text_of sc report.answer)) scenario
+          c.in_err-write_answer.ensures);
     })
 
 pub returns : goal.returns
@@ -66,5 +67,6 @@ returns g c =
       is = subst (λ (h : History). IsAnswer h c.args.sought report.answer) c.in_ok-machine.ensures.run c.in_ok-report.ensures.answer;
       returned = refl;
       due = subst (λ (h : History). IsDue h c.args.sought c.args.most report.answer) c.in_ok-machine.ensures.run c.in_ok-report.ensures.due;
-      wrote = subst (λ (sc : Scenario). Wrote before behind failures after {X = Unit {0}} (Ok c.in_ok-write_answer.field-0) (text_of sc report.answer)) scenario c.in_ok-write_answer.ensures;
+      wrote = subst (λ (sc : Scenario). Wrote before behind failures after {X = Unit {0}} (Ok c.in_ok-write_answer.field-0) (text_of sc report.answer)) scenario
+          c.in_ok-write_answer.ensures;
     }

@@ -18,7 +18,8 @@ returns-in_err-scenario-clause-converts g c =
     rw (p.1, p.2) (record {
       order = λ sc. sc.choices;
       merge = each-of-any c.args.format (g.S.Source.left c.args.source.now) (λ (sc : Scenario). IsMerge sc.choices sc.choices) merge-self;
-      converts = converts-none c.args.format (λ sc. listing_run (reordered sc sc.choices)) (at c.args.source.now c.args.sink.now) (g.S.Source.left source) (g.S.Source.failures source)
+      converts = converts-none c.args.format (λ sc. listing_run (reordered sc sc.choices)) (at c.args.source.now c.args.sink.now) (g.S.Source.left source)
+          (g.S.Source.failures source)
           c.in_err-scenario.field-0.0 c.in_err-scenario.ensures.takes;
     })
 
@@ -34,7 +35,8 @@ returns-in_err-write_threads-clause-converts g c =
     rw (p.1, p.2) (record {
       order = λ sc. wrote.order;
       merge = took-each c.args.format old.left new.left old.reads new.reads (λ (sc : Scenario). IsMerge wrote.order sc.choices) scenario took wrote.merge;
-      converts = converts-wrote c.args.format (λ sc. listing_run (reordered sc wrote.order)) old new scenario took (Err c.in_err-write_threads.field-0.0) wrote.wrote;
+      converts = converts-wrote c.args.format (λ sc. listing_run (reordered sc wrote.order)) old new scenario took
+          (Err c.in_err-write_threads.field-0.0) wrote.wrote;
     })
 
 pub returns-clause-converts : goal.returns-clause-converts
@@ -48,5 +50,6 @@ returns-clause-converts g c =
     record {
       order = λ sc. wrote.order;
       merge = took-each c.args.format old.left new.left old.reads new.reads (λ (sc : Scenario). IsMerge wrote.order sc.choices) scenario took wrote.merge;
-      converts = converts-wrote c.args.format (λ sc. listing_run (reordered sc wrote.order)) old new scenario took (Ok c.in_ok-write_threads.field-0) wrote.wrote;
+      converts = converts-wrote c.args.format (λ sc. listing_run (reordered sc wrote.order)) old new scenario took
+          (Ok c.in_ok-write_threads.field-0) wrote.wrote;
     }

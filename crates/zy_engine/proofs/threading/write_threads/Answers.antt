@@ -12,7 +12,8 @@ returns g c =
     let machine = c.in_ok-machine.machine in
     let order = choices_of machine.entries in
     let ran = c.in_ok-machine.ensures in
-    let Told : List ℕ → Type 0 = λ text. Wrote (g.K.Sink.written c.args.sink.now) (g.K.Sink.written c.write_listing.new.sink) (g.K.Sink.failures c.args.sink.now) (g.K.Sink.failures c.write_listing.new.sink) c.write_listing.result text in
+    let Told : List ℕ → Type 0 = λ text. Wrote (g.K.Sink.written c.args.sink.now) (g.K.Sink.written c.write_listing.new.sink)
+    (g.K.Sink.failures c.args.sink.now) (g.K.Sink.failures c.write_listing.new.sink) c.write_listing.result text in
     record {
       order = order;
       merge = ran.merge;

@@ -11,7 +11,8 @@ returns-in_err-item g c =
     rw p.1 (elim c.in_err-item.ensures [
       | inl e ↦ inl (p.2 ∙ e)
       | inr e ↦ inr (sym c.loop.invariant.same
-          ∙ item_fails (g.I.Items.next c.args.kind.now) c.loop.items.items c.loop.left.now _ c.loop.counter c.args.count c.loop-test.true (ap (λ b. g.I.Items.next c.args.kind.now b c.loop.left.now) (sym before) ∙ e)
+          ∙ item_fails (g.I.Items.next c.args.kind.now) c.loop.items.items c.loop.left.now _ c.loop.counter c.args.count c.loop-test.true
+          (ap (λ b. g.I.Items.next c.args.kind.now b c.loop.left.now) (sym before) ∙ e)
           ∙ ap Err (sym p.2))
     ])
 
@@ -22,6 +23,8 @@ loop-preserved g c =
     record {
       made = omega (arith, ap length pushed, length-append c.loop.items.items (c.in_ok-item.item ∷ []), c.loop.invariant.made);
       room = search rules;
-      same = rw pushed (item_more (g.I.Items.next c.args.kind.now) c.loop.items.items c.loop.left.now c.in_ok-item.item c.in_ok-item.rest.now c.loop.counter c.args.count c.loop-test.true
+      same =
+          rw pushed (item_more (g.I.Items.next c.args.kind.now) c.loop.items.items c.loop.left.now c.in_ok-item.item c.in_ok-item.rest.now c.loop.counter
+          c.args.count c.loop-test.true
           (ap (λ b. g.I.Items.next c.args.kind.now b c.loop.left.now) (sym before) ∙ c.in_ok-item.ensures) ∙ c.loop.invariant.same);
     }

@@ -10,7 +10,8 @@ use Rattle.zy_io.proofs.section.write_lines.Goals as goal
 pub returns-in_err-gather_place : goal.returns-in_err-gather_place
 returns-in_err-gather_place g c =
     let p = err_from_is_err_and c.from_residual.result c.from_residual.ensures.1 in
-    Wrote-rest-stops line_of (g.L.Lines.texts c.args.lines.now) c.loop-place.place [] _ _ _ _ _ _ _ c.in_err-gather_place.field-0.0 _ (omega arith) c.loop-place.invariant.so_far
+    Wrote-rest-stops line_of (g.L.Lines.texts c.args.lines.now) c.loop-place.place [] _ _ _ _ _ _ _ c.in_err-gather_place.field-0.0 _
+    (omega arith) c.loop-place.invariant.so_far
     c.loop-place.invariant.none_failed c.in_err-gather_place.ensures (p.1 ∙ ap Err p.2)
 
 pub loop-place-preserved : goal.loop-place-preserved

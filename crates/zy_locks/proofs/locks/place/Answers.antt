@@ -7,5 +7,6 @@ use Rattle.zy_locks.proofs.locks.place.Goals as goal
 pub returns : goal.returns
 returns c =
     let facts = c.partition_point.ensures in
-    let split = IsPartitionPoint-from_clause (λ x. comes_before x c.args.page c.args.txn) c.args.locks.now c.partition_point.result facts.partitioned (in_order c.args.page c.args.txn c.args.locks.now c.requires) (λ a r f' called. search rules) in
+    let split = IsPartitionPoint-from_clause (λ x. comes_before x c.args.page c.args.txn) c.args.locks.now c.partition_point.result facts.partitioned
+    (in_order c.args.page c.args.txn c.args.locks.now c.requires) (λ a r f' called. search rules) in
     (facts.bound, split.0, split.1)

@@ -9,4 +9,5 @@ loop-p-preserved c = λ i lt.
 
 pub returns : goal.returns
 returns c = λ e.
-    same_numbers c.args.x.now.lows c.args.y.now.lows (sym c.len.ensures.value ∙ c.if-len.false ∙ c.len-2.ensures.value) (λ i lt. c.loop-p.invariant i (omega (arith, lt, c.len-p-end.ensures.value, c.loop-p-test.false)))
+    same_numbers c.args.x.now.lows c.args.y.now.lows (sym c.len.ensures.value ∙ c.if-len.false ∙ c.len-2.ensures.value)
+    (λ i lt. c.loop-p.invariant i (omega (arith, lt, c.len-p-end.ensures.value, c.loop-p-test.false)))

@@ -7,4 +7,5 @@ use Rattle.zy_node.proofs.node_store.fewer_new_rows.Given as goal
 abbrev pub invariant-loop-row : goal.invariant-loop-row
 invariant-loop-row l =
     let held = rows_of l.node.pages l.p in
-    l.limit + length (rows_not_in (rows_on (lows_in l.node.wire) l.p (drop l.row-index l.rows)) held) ≡ l.left + length (rows_not_in (rows_on (lows_in l.node.wire) l.p l.rows) held)
+    l.limit + length (rows_not_in (rows_on (lows_in l.node.wire) l.p (drop l.row-index l.rows)) held)
+    ≡ l.left + length (rows_not_in (rows_on (lows_in l.node.wire) l.p l.rows) held)

@@ -14,8 +14,11 @@ loop-next-init c =
     let lows = lows_in c.args.wire.now in
     record {
       locks = rw (c.lock.ensures.locks, c.page_of.ensures.value) refl;
-      free = rw (c.lock.ensures.locks, c.page_of.ensures.value) (free_others (page_of lows c.args.first) c.args.t c.args.locks.now.locks (behind lows c.args.first c.args.last) c.requires.free);
-      room = places_rest (page_of lows c.args.first) (behind lows c.args.first c.args.last) c.args.t Shared c.args.locks.now c.lock.new.self c.requires.room (rw (c.lock.ensures.locks, c.page_of.ensures.value) refl) (rw c.page_of.ensures.value at c.lock.ensures.room);
+      free =
+          rw (c.lock.ensures.locks, c.page_of.ensures.value) (free_others (page_of lows c.args.first) c.args.t c.args.locks.now.locks
+          (behind lows c.args.first c.args.last) c.requires.free);
+      room = places_rest (page_of lows c.args.first) (behind lows c.args.first c.args.last) c.args.t Shared c.args.locks.now c.lock.new.self c.requires.room
+          (rw (c.lock.ensures.locks, c.page_of.ensures.value) refl) (rw c.page_of.ensures.value at c.lock.ensures.room);
     }
 
 pub loop-next-preserved : goal.loop-next-preserved
@@ -23,7 +26,8 @@ loop-next-preserved c =
     let lows = lows_in c.args.wire.now in
     let e = c.in-Some.next in
     let rest = behind lows e.low c.args.last in
-    let step : behind lows c.loop-next.low c.args.last ≡ e.page ∷ rest = ap (map (page_of lows)) c.in-Some.ensures.next.0 ∙ ap (λ p. p ∷ rest) c.in-Some.ensures.next.1 in
+    let step : behind lows c.loop-next.low c.args.last ≡ e.page ∷ rest = ap (map (page_of lows)) c.in-Some.ensures.next.0
+    ∙ ap (λ p. p ∷ rest) c.in-Some.ensures.next.1 in
     let free = rw step at c.loop-next.invariant.free in
     let room = rw step at c.loop-next.invariant.room in
     record {

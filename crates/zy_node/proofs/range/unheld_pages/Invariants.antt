@@ -7,7 +7,8 @@ use Rattle.zy_node.proofs.range.unheld_pages.Given as goal
 
 abbrev pub invariant-loop-next : goal.invariant-loop-next
 invariant-loop-next l = record {
-  all : length (unheld (range_pages (lows_in l.wire) l.first l.last) l.t l.locks.locks) ≡ l.count + length (unheld (behind (lows_in l.wire) l.low l.last) l.t l.locks.locks);
+  all : length (unheld (range_pages (lows_in l.wire) l.first l.last) l.t l.locks.locks)
+      ≡ l.count + length (unheld (behind (lows_in l.wire) l.low l.last) l.t l.locks.locks);
   few : l.count ≤ l.low + 1;
 }
 

@@ -6,7 +6,8 @@ use Rattle.zy_search.proofs.expand.meet.Goals as goal
 pub returns-then-is_still-clause-well : goal.returns-then-is_still-clause-well
 returns-then-is_still-clause-well c =
     let r = c.requires.ready in
-    still_known c.args.plan.now.start c.args.here.now c.args.visited.now c.args.branch.from c.requires.here c.args.branch.by c.in_ok-outcome.outcome c.in_ok-outcome.ensures.outcome
+    still_known c.args.plan.now.start c.args.here.now c.args.visited.now c.args.branch.from c.requires.here c.args.branch.by c.in_ok-outcome.outcome
+    c.in_ok-outcome.ensures.outcome
     c.args.plan.now.sought r.kept.visits r.near r.there (sym c.is_still.ensures ∙ c.if-is_still.true)
 
 pub note-requires-clause-away : goal.note-requires-clause-away

@@ -18,7 +18,9 @@ meet-requires-clause-choice c =
     let is = element cs c.loop-i.i c.index-choice.result.now lt c.index-choice.ensures in
     record {
       considered = subst (λ (d : Choice). is_considered q.kills n d ≡ true) (sym is) (is_one q.kills n c.loop-i.i cs c.requires.ready.whole lt);
-      fresh = subst (IsFresh c.loop-i.visited c.args.at) (sym is) (fresh_one q.kills n c.loop-i.visited c.args.at c.loop-i.i cs c.requires.ready.whole lt c.loop-i.invariant.by);
+      fresh =
+          subst (IsFresh c.loop-i.visited c.args.at) (sym is) (fresh_one q.kills n c.loop-i.visited c.args.at c.loop-i.i cs c.requires.ready.whole lt
+          c.loop-i.invariant.by);
     }
 
 pub returns-in-Spent : goal.returns-in-Spent
@@ -60,7 +62,8 @@ returns-in-Shown c =
     let one = subst (λ (x : Choice). is_considered q.kills n x ≡ true) (sym is) (is_one q.kills n c.loop-i.i cs c.requires.ready.whole lt) in
     let m = rw c.in-Shown.is at c.in_ok-meet.ensures.well in
     record {
-      well = found h q c.args.visited.now c.loop-i.visited c.args.at c.requires.ready.there c.loop-i.invariant.grows c.meet.new.visited d c.in_ok-path-in-Shown.path.items c.requires.ready.kept.visits
+      well = found h q c.args.visited.now c.loop-i.visited c.args.at c.requires.ready.there c.loop-i.invariant.grows c.meet.new.visited d
+          c.in_ok-path-in-Shown.path.items c.requires.ready.kept.visits
           (omega (arith, c.requires.here.entries, c.requires.room)) one m c.in_ok-path-in-Shown.ensures;
       grows = grows_on c.args.visited.now c.loop-i.visited c.meet.new.visited c.loop-i.invariant.grows m.grows;
       twin = c.in_ok-meet.ensures.twin.scenario ∙ c.requires.here.scenario;
@@ -83,7 +86,8 @@ loop-i-preserved c =
       grows = grows_on c.args.visited.now c.loop-i.visited c.meet.new.visited g n.grows;
       twin = c.in_ok-meet.ensures.twin;
       shelf = c.in_ok-meet.ensures.shelf;
-      by = by_next c.loop-i.visited c.meet.new.visited c.args.at c.loop-i.i cs (get_or cs c.loop-i.i Start) n.more (omega (arith, c.requires.ready.there, g.longer)) c.loop-i.invariant.by refl;
+      by = by_next c.loop-i.visited c.meet.new.visited c.args.at c.loop-i.i cs (get_or cs c.loop-i.i Start) n.more
+          (omega (arith, c.requires.ready.there, g.longer)) c.loop-i.invariant.by refl;
       known = lead_next h q c.args.visited.now c.loop-i.visited c.args.at c.requires.ready.there g c.meet.new.visited cs c.loop-i.i n c.loop-i.invariant.known;
     }
 
@@ -97,7 +101,8 @@ returns c =
         visits = i.visits;
         near = i.near;
         grows = i.grows;
-        expanded = lead_all h q c.args.visited.now c.loop-i.visited c.args.at c.requires.ready.there i.grows c.args.plan.now.choices.items c.loop-i.i c.requires.ready.whole
+        expanded = lead_all h q c.args.visited.now c.loop-i.visited c.args.at c.requires.ready.there i.grows c.args.plan.now.choices.items c.loop-i.i
+            c.requires.ready.whole
             (omega (arith, c.loop-i-test.false, c.len-i-end.ensures)) i.known;
       };
       grows = i.grows;

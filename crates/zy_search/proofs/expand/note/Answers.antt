@@ -10,5 +10,9 @@ returns-in-None-clause-well c =
       near = c.requires.ready.near;
       grows = grows_not c.args.visited.now;
       more = inl refl;
-      known = near_known c.args.plan.now.start c.args.visited.now c.args.branch.from _ c.requires.ready.near (known.0, known.1, known.2 ∙ c.requires.next.state);
+      known = near_known c.args.plan.now.start c.args.visited.now c.args.branch.from _ c.requires.ready.near (
+        known.0,
+        known.1,
+        known.2 ∙ c.requires.next.state,
+      );
     }

@@ -14,7 +14,8 @@ use Rattle.zy_search.proofs.EdgeLemmas.{apart_push, edge_push}
 use Rattle.zy_search.proofs.expand.note_new.Goals as goal
 
 -- The machine m is one choice further than the path at a place, and it was tested whether its state shows what is looked for.
-module _ (h : History) (q : Sought) (old : List (List Choice)) (at : ℕ) (c : Choice) (m : History) (n : IsNext h old at c m) (b : Bool) (d : Decides b (Shows m.scenario q m.state)) where
+module _ (h : History) (q : Sought) (old : List (List Choice)) (at : ℕ) (c : Choice) (m : History) (n : IsNext h old at c m) (b : Bool)
+    (d : Decides b (Shows m.scenario q m.state)) where
   -- so it was of the state to which the new path leads
   shown_next : Decides b (Shows h.scenario q (reached h (path_at old at ++ c ∷ [])))
   shown_next =
@@ -30,18 +31,21 @@ module _ (h : History) (q : Sought) (old : List (List Choice)) (at : ℕ) (c : C
       let p = cs ++ c ∷ [] in
       let one = length-append cs (c ∷ []) in
       rw e (record {
-        visits = visits_push old p h q v (path_more h q cs c (v.paths at lt) (omega (arith, n.longer, n.room)) n.moved a) (λ s. false≢true (sym f ∙ shown_next.1 s))
+        visits = visits_push old p h q v (path_more h q cs c (v.paths at lt) (omega (arith, n.longer, n.room)) n.moved a)
+            (λ s. false≢true (sym f ∙ shown_next.1 s))
             (λ i below. omega (arith, edge.near i below, one)) (apart_push old p v.apart fresh);
         near = edge_push old at c v.apart edge lt;
         grows = grows_push old p;
-        known = subst (IsVisited h (old ++ p ∷ []) (length_at old at + 1)) (reached_more h cs c) (visited_last h old p (length_at old at + 1) (omega (arith, one)));
+        known = subst (IsVisited h (old ++ p ∷ []) (length_at old at + 1)) (reached_more h cs c)
+            (visited_last h old p (length_at old at + 1) (omega (arith, one)));
         more = inr refl;
       })
 
 pub returns-then-branch-clause-well : goal.returns-then-branch-clause-well
 returns-then-branch-clause-well c =
     let n = c.requires.next in
-    let shown = shown_next c.args.plan.now.start c.args.plan.now.sought c.args.visited.now c.args.branch.from c.args.branch.by c.args.twin.now.machine n c.in_ok-shows_next.field-0 c.in_ok-shows_next.ensures.shows in
+    let shown = shown_next c.args.plan.now.start c.args.plan.now.sought c.args.visited.now c.args.branch.from c.args.branch.by c.args.twin.now.machine n
+    c.in_ok-shows_next.field-0 c.in_ok-shows_next.ensures.shows in
     record {
       shows = shown.0 c.if-branch.true;
       moved = n.moved;
@@ -51,7 +55,8 @@ returns-then-branch-clause-well c =
 pub returns-clause-well : goal.returns-clause-well
 returns-clause-well c =
     let r = c.requires.ready in
-    noted c.args.plan.now.start c.args.plan.now.sought c.args.visited.now c.args.branch.from c.args.branch.by c.args.twin.now.machine c.requires.next c.in_ok-shows_next.field-0 c.in_ok-shows_next.ensures.shows
+    noted c.args.plan.now.start c.args.plan.now.sought c.args.visited.now c.args.branch.from c.args.branch.by c.args.twin.now.machine c.requires.next
+    c.in_ok-shows_next.field-0 c.in_ok-shows_next.ensures.shows
     c.keep.new.visited r.kept.visits r.near r.there c.requires.choice.fresh c.requires.choice.considered c.if-branch.false c.in_ok-keep.ensures.paths
 
 pub returns-then-plan-len-clause-well : goal.returns-then-plan-len-clause-well

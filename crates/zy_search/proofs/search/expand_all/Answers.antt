@@ -1,6 +1,7 @@
 use Rattle.std.proofs.Common.{◌+◌, ◌<◌, [], ◌∷◌, length, arith}
 use Rattle.zy_search.specs.Visits.{IsExpanded, length_at}
-use Rattle.zy_search.proofs.SearchLemmas.{none_at_all, finds_first, spent_below, spent_well, expanded_grown, near_first, edge_next, stops, stops_grown, spent_due}
+use Rattle.zy_search.proofs.SearchLemmas.{none_at_all, finds_first, spent_below, spent_well, expanded_grown, near_first, edge_next, stops, stops_grown}
+use Rattle.zy_search.proofs.SearchLemmas.{spent_due}
 use Rattle.zy_search.proofs.EdgeLemmas.{ends_first, ends_later}
 use Rattle.zy_search.proofs.TxnLemmas.{more}
 use Rattle.zy_search.proofs.search.expand_all.Goals as goal
@@ -21,18 +22,21 @@ loop-at-init g c =
 
 pub returns-then-len-at-clause-answer : goal.returns-then-len-at-clause-answer
 returns-then-len-at-clause-answer g c =
-    none_at_all c.args.plan.now.start c.args.plan.now.sought c.loop-at.visited c.loop-at.invariant.visits c.loop-at.at c.loop-at.invariant.expanded (omega (arith, c.len.ensures.value, c.if-len-at.true))
+    none_at_all c.args.plan.now.start c.args.plan.now.sought c.loop-at.visited c.loop-at.invariant.visits c.loop-at.at c.loop-at.invariant.expanded
+    (omega (arith, c.len.ensures.value, c.if-len-at.true))
 
 pub returns-in-Found-clause-answer : goal.returns-in-Found-clause-answer
 returns-in-Found-clause-answer g c =
-    finds_first c.args.plan.now.start c.args.plan.now.sought c.loop-at.visited c.loop-at.invariant.visits c.loop-at.at c.in-Found.path.items c.loop-at.invariant.expanded (rw c.in-Found.is at c.in_ok-expand.ensures.well)
+    finds_first c.args.plan.now.start c.args.plan.now.sought c.loop-at.visited c.loop-at.invariant.visits c.loop-at.at c.in-Found.path.items
+    c.loop-at.invariant.expanded (rw c.in-Found.is at c.in_ok-expand.ensures.well)
 
 pub returns-in-Spent-clause-answer : goal.returns-in-Spent-clause-answer
 returns-in-Spent-clause-answer g c =
     let h = c.args.plan.now.start in
     let q = c.args.plan.now.sought in
     let lt : c.loop-at.at < length c.loop-at.visited = omega (arith, c.len.ensures.value, c.if-len-at.false) in
-    let below = spent_below h q c.loop-at.visited c.loop-at.invariant.visits c.expand.new.visited c.loop-at.at lt c.loop-at.invariant.expanded (stops_grown h q c.args.plan.now.most c.loop-at.at _ _ (rw c.in-Spent.is at c.in_ok-expand.ensures.well)) in
+    let below = spent_below h q c.loop-at.visited c.loop-at.invariant.visits c.expand.new.visited c.loop-at.at lt c.loop-at.invariant.expanded
+    (stops_grown h q c.args.plan.now.most c.loop-at.at _ _ (rw c.in-Spent.is at c.in_ok-expand.ensures.well)) in
     spent_well h q (length_at c.expand.new.visited c.loop-at.at + 1) c.spent_at.result below c.spent_at.ensures
 
 pub loop-at-preserved : goal.loop-at-preserved

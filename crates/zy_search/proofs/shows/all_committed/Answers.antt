@@ -15,4 +15,6 @@ loop-t-preserved c =
 
 pub returns : goal.returns
 returns c =
-    sym (each_at is_committed c.args.machine.now.state.txns (λ i lt. c.loop-t.invariant i (omega (arith, lt, c.loop-t-test.false, c.txn_count-t-end.ensures.value))))
+    sym
+    (each_at is_committed c.args.machine.now.state.txns (λ i lt. c.loop-t.invariant i
+    (omega (arith, lt, c.loop-t-test.false, c.txn_count-t-end.ensures.value))))

@@ -6,7 +6,8 @@ use Rattle.zy_search.proofs.shows.any_aborted.Goals as goal
 pub returns-then-is_aborted : goal.returns-then-is_aborted
 returns-then-is_aborted c =
     let e = rw (c.status.ensures, c.txn.ensures.value) at c.if-is_aborted.ensures in
-    sym (any_at (is_aborted c.args.reason) c.args.machine.now.state.txns c.loop-t.t (omega (arith, c.loop-t-test.true, c.txn_count-t-end.ensures.value)) (sym e))
+    sym (any_at (is_aborted c.args.reason) c.args.machine.now.state.txns c.loop-t.t (omega (arith, c.loop-t-test.true, c.txn_count-t-end.ensures.value))
+    (sym e))
 
 pub loop-t-preserved : goal.loop-t-preserved
 loop-t-preserved c =
@@ -15,4 +16,6 @@ loop-t-preserved c =
 
 pub returns : goal.returns
 returns c =
-    sym (none_at (is_aborted c.args.reason) c.args.machine.now.state.txns (λ i lt. c.loop-t.invariant i (omega (arith, lt, c.loop-t-test.false, c.txn_count-t-end.ensures.value))))
+    sym
+    (none_at (is_aborted c.args.reason) c.args.machine.now.state.txns (λ i lt. c.loop-t.invariant i
+    (omega (arith, lt, c.loop-t-test.false, c.txn_count-t-end.ensures.value))))

@@ -20,7 +20,8 @@ is_one kills count i cs e lt =
 pub stays-requires-clause-named : goal.stays-requires-clause-named
 stays-requires-clause-named c =
     let n = length c.args.machine.now.scenario.programs in
-    named_if c.args.kills n (get_or c.args.choices.now c.loop-i.i Start) (is_one c.args.kills n c.loop-i.i c.args.choices.now c.requires.choices c.loop-i-test.true)
+    named_if c.args.kills n (get_or c.args.choices.now c.loop-i.i Start) (is_one c.args.kills n c.loop-i.i c.args.choices.now c.requires.choices
+    c.loop-i-test.true)
 
 pub returns-then-not-branch-clause-stuck : goal.returns-then-not-branch-clause-stuck
 returns-then-not-branch-clause-stuck c =
@@ -32,12 +33,14 @@ pub loop-i-preserved : goal.loop-i-preserved
 loop-i-preserved c =
     record {
       twin = c.in_ok-stays.ensures.twin c.if-not-branch.false;
-      still = more (λ k. is_still (step c.args.machine.now.scenario (get_or c.args.choices.now k Start) c.args.machine.now.state).outcome ≡ true) c.loop-i.i c.loop-i.invariant.still
+      still = more (λ k. is_still (step c.args.machine.now.scenario (get_or c.args.choices.now k Start) c.args.machine.now.state).outcome ≡ true) c.loop-i.i
+          c.loop-i.invariant.still
           (sym c.in_ok-stays.ensures.still ∙ c.if-not-branch.false);
     }
 
 whole : (sc : Scenario) (kills : Bool) (s : State) (cs : List Choice) (n : ℕ) → cs ≡ considered kills (length sc.programs) → length cs ≤ n
-    → ((k : ℕ) → k < n → is_still (step sc (get_or cs k Start) s).outcome ≡ true) → (c : Choice) → is_considered kills (length sc.programs) c ≡ true → is_still (step sc c s).outcome ≡ true
+    → ((k : ℕ) → k < n → is_still (step sc (get_or cs k Start) s).outcome ≡ true) → (c : Choice) → is_considered kills (length sc.programs) c ≡ true
+    → is_still (step sc c s).outcome ≡ true
 whole sc kills s cs n e le h c a =
     let here = has_considered kills (length sc.programs) c a in
     let all = ap (λ (ds : List Choice). length ds) e in
@@ -45,5 +48,11 @@ whole sc kills s cs n e le h c a =
     subst (λ (d : Choice). is_still (step sc d s).outcome ≡ true) is (h here.0 (omega (arith, here.1, all, le)))
 
 pub returns-clause-stuck : goal.returns-clause-stuck
-returns-clause-stuck c =
-    (λ e. record { active = c.requires.active; still = whole c.args.machine.now.scenario c.args.kills c.args.machine.now.state c.args.choices.now c.loop-i.i c.requires.choices c.loop-i-test.false c.loop-i.invariant.still }, λ s. refl)
+returns-clause-stuck c = (
+  λ e. record {
+    active = c.requires.active;
+    still = whole c.args.machine.now.scenario c.args.kills c.args.machine.now.state c.args.choices.now c.loop-i.i
+        c.requires.choices c.loop-i-test.false c.loop-i.invariant.still;
+  },
+  λ s. refl,
+)

@@ -7,4 +7,5 @@ use Rattle.zy_search.proofs.stuck.stays.Goals as goal
 pub returns-clause-twin : goal.returns-clause-twin
 returns-clause-twin c = λ e.
     let o = ap (λ (x : Entry). is_still x.outcome) c.in_ok-entry.ensures.entry in
-    twin_still c.args.machine.now c.make_room.new.twin c.step.new.self c.args.choice c.in_ok-make_room.ensures.twin c.step.ensures.scenario c.in_ok-entry.ensures.state (longer_by _ _ _ c.in_ok-entry.ensures.history) (sym o ∙ (sym c.is_still.ensures ∙ e))
+    twin_still c.args.machine.now c.make_room.new.twin c.step.new.self c.args.choice c.in_ok-make_room.ensures.twin c.step.ensures.scenario
+    c.in_ok-entry.ensures.state (longer_by _ _ _ c.in_ok-entry.ensures.history) (sym o ∙ (sym c.is_still.ensures ∙ e))

@@ -9,7 +9,8 @@ boundary-requires c = rw c.txn.ensures c.requires.full.full
 
 pub cut-requires-clause-cuttable : goal.cut-requires-clause-cuttable
 cut-requires-clause-cuttable c =
-    cuttable c.args.scenario.now c.args.t c.args.key c.args.p c.args.at c.in_ok-boundary.boundary c.args.me.now c.args.book.now c.requires.full c.requires.normal c.requires.more
+    cuttable c.args.scenario.now c.args.t c.args.key c.args.p c.args.at c.in_ok-boundary.boundary c.args.me.now c.args.book.now c.requires.full
+    c.requires.normal c.requires.more
     (rw c.txn.ensures at c.in_ok-boundary.ensures)
 
 pub cut-requires-clause-limit : goal.cut-requires-clause-limit
@@ -18,4 +19,11 @@ cut-requires-clause-limit c =
 
 pub returns-clause-line : goal.returns-clause-line
 unfolding split_step cut locked txn_at
-returns-clause-line c v = rw (c.quiet.ensures, c.in_ok-cut.ensures.ok, c.in_ok-cut.ensures.outbox, c.in_ok-boundary.ensures, c.txn.ensures, c.page_count-new_page.ensures.value) refl
+returns-clause-line c v = rw (
+  c.quiet.ensures,
+  c.in_ok-cut.ensures.ok,
+  c.in_ok-cut.ensures.outbox,
+  c.in_ok-boundary.ensures,
+  c.txn.ensures,
+  c.page_count-new_page.ensures.value,
+) refl

@@ -26,7 +26,8 @@ loop-next-preserved c =
     let next = c.in-Some.ensures.next in
     let apart = page_apart x n low c.args.last e.low next.2 next.3 in
     let up : low < e.low = next.2 in
-    let one = one_page x n low (e.low - 1) c.loop-next.page (λ k from to. on_page_before lows low c.args.last e.low k next.0 next.3 from (omega (arith, to, up)) ∙ c.loop-next.invariant.page) in
+    let one = one_page x n low (e.low - 1) c.loop-next.page (λ k from to. on_page_before lows low c.args.last e.low k next.0 next.3 from (omega (arith, to, up))
+    ∙ c.loop-next.invariant.page) in
     let part = rw c.rows-private.ensures.value at c.sum_of_page-sum.ensures in
     record {
       rest = omega (arith, apart, one, part, c.loop-next.invariant.rest);
@@ -40,6 +41,7 @@ returns c =
     let x = c.args.txn.now in
     let lows = lows_in c.args.me.now.wire in
     let low = c.loop-next.low in
-    let one = one_page x n low c.args.last c.loop-next.page (λ k from to. on_last_page lows low c.args.last k c.in_default.ensures.next from to ∙ c.loop-next.invariant.page) in
+    let one = one_page x n low c.args.last c.loop-next.page (λ k from to. on_last_page lows low c.args.last k c.in_default.ensures.next from to
+    ∙ c.loop-next.invariant.page) in
     let part = rw c.rows-private.ensures.value at c.sum_of_page.ensures in
     omega (arith, one, part, c.loop-next.invariant.rest)

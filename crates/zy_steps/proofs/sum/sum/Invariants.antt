@@ -9,7 +9,8 @@ use Rattle.zy_steps.proofs.sum.sum.Given as goal
 
 abbrev pub invariant-loop-next : goal.invariant-loop-next
 invariant-loop-next l = record {
-  rest : (l.sum + total (committed_at l.txn (node_shown l.me)) (range l.low l.last)) % 2 ^ 32 ≡ total (value_for l.txn (node_shown l.me)) (range l.first l.last) % 2 ^ 32;
+  rest : (l.sum + total (committed_at l.txn (node_shown l.me)) (range l.low l.last)) % 2 ^ 32
+      ≡ total (value_for l.txn (node_shown l.me)) (range l.first l.last) % 2 ^ 32;
   page : page_of (lows_in l.me.wire) l.low ≡ l.page;
   rises : l.low ≤ l.last;
 }

@@ -16,4 +16,5 @@ line-requires-clause-new c =
 pub returns : goal.returns
 returns c =
     let m = message_of c.in-Some.message.now in
-    rw c.of.ensures (is_front m c.line.result (node_shown c.args.me.now) c.args.inbox.now.messages (record { front = sym c.in-Some.ensures; is_line = c.line.ensures }))
+    rw c.of.ensures (is_front m c.line.result (node_shown c.args.me.now) c.args.inbox.now.messages
+    (record { front = sym c.in-Some.ensures; is_line = c.line.ensures }))

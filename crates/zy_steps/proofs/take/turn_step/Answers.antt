@@ -8,4 +8,12 @@ unfolding got_step
 returns-clause-line c m front v =
     let first = c.in-Some.ensures.front in
     let is : message_of c.in-Some.message ≡ m = cc in
-    rw (c.outcome_of-outcome.ensures, c.take_in.ensures.node, c.take_in.ensures.outbox, c.take.ensures.left, c.reserve_answer.ensures.others, c.reserve_answer.ensures.outbox, is) refl
+    rw (
+      c.outcome_of-outcome.ensures,
+      c.take_in.ensures.node,
+      c.take_in.ensures.outbox,
+      c.take.ensures.left,
+      c.reserve_answer.ensures.others,
+      c.reserve_answer.ensures.outbox,
+      is,
+    ) refl

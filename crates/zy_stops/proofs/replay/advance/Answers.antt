@@ -9,12 +9,14 @@ pub step-requires-clause-named : goal.step-requires-clause-named
 step-requires-clause-named c =
     let sc = c.args.machine.now.scenario in
     let here = c.choices.ensures.value ∙ ap (λ (s : Scenario). s.choices) c.scenario.ensures.value in
-    rw (here, c.len.ensures.value) (named_at (length sc.programs) (length c.args.machine.now.entries) Start sc.choices (c.scenario.ensures.replay.tested.choices_named) c.requires.more)
+    rw (here, c.len.ensures.value) (named_at (length sc.programs) (length c.args.machine.now.entries) Start sc.choices
+    (c.scenario.ensures.replay.tested.choices_named) c.requires.more)
 
 pub returns-clause-follows : goal.returns-clause-follows
 returns-clause-follows c =
     let here = c.choices.ensures.value ∙ ap (λ (s : Scenario). s.choices) c.scenario.ensures.value in
-    follow c.args.machine.now c.step.new.self _ _ c.requires.follows c.requires.more c.step.ensures.scenario (rw (here, c.len.ensures.value) refl) c.in_ok-entry.ensures.entry c.in_ok-entry.ensures.history c.in_ok-entry.ensures.state
+    follow c.args.machine.now c.step.new.self _ _ c.requires.follows c.requires.more c.step.ensures.scenario
+    (rw (here, c.len.ensures.value) refl) c.in_ok-entry.ensures.entry c.in_ok-entry.ensures.history c.in_ok-entry.ensures.state
 
 pub returns-clause-outcome : goal.returns-clause-outcome
 returns-clause-outcome c =

@@ -7,7 +7,9 @@ pub loop-m-preserved : goal.loop-m-preserved
 loop-m-preserved c =
     let sc = c.args.machine.now.scenario in
     let i = c.loop-m.invariant in
-    let t = rw i.position at (told c.loop-m.machine c.advance.new.machine sc c.args.slots.now c.deref.result.now (length c.loop-m.machine.entries) c.in_ok-outcome.outcome i.follows c.advance.ensures.follows i.scenario c.advance.ensures.scenario
+    let t =
+    rw i.position at (told c.loop-m.machine c.advance.new.machine sc c.args.slots.now c.deref.result.now
+    (length c.loop-m.machine.entries) c.in_ok-outcome.outcome i.follows c.advance.ensures.follows i.scenario c.advance.ensures.scenario
     refl c.in_ok-outcome.ensures.position (c.deref.ensures.value ∙ i.watched) c.in_ok-outcome.ensures.outcome) in
     record {
       scenario = c.advance.ensures.scenario ∙ i.scenario;
@@ -21,7 +23,9 @@ loop-m-preserved c =
           fires = sym t ∙ (sym c.first.ensures ∙ w.in-Some.is);
           greatest = λ k a b. absurd (omega (arith, a, b));
         })
-        | in-None w ↦ rw w.last-is (last_more sc c.args.slots.now (length c.args.machine.now.entries) c.loop-m.m c.loop-m.last i.last (sym t ∙ (sym c.first.ensures ∙ w.in-None.is)))
+        | in-None w ↦
+            rw w.last-is (last_more sc c.args.slots.now (length c.args.machine.now.entries) c.loop-m.m c.loop-m.last i.last
+            (sym t ∙ (sym c.first.ensures ∙ w.in-None.is)))
       ];
     }
 

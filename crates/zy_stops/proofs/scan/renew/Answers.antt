@@ -12,4 +12,5 @@ loop-w-preserved c =
     let i = c.loop-w.w-index in
     let d : Watched = record { slot = None; before = Nothing } in
     let lt : i < length ys = omega arith in
-    rw c.slot_reading-w.ensures (map_over_more (λ w. watch_of c.args.machine.now.state w.slot) c.deref_mut-w-items.result.now ys i (get_or ys i d) (omega (arith, c.loop-w-test.true)) c.loop-w.invariant (get_or_default ys i d (get_or ys i d) lt))
+    rw c.slot_reading-w.ensures (map_over_more (λ w. watch_of c.args.machine.now.state w.slot) c.deref_mut-w-items.result.now ys i (get_or ys i d)
+    (omega (arith, c.loop-w-test.true)) c.loop-w.invariant (get_or_default ys i d (get_or ys i d) lt))

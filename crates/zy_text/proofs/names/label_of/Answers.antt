@@ -11,6 +11,7 @@ returns-in-Some c = sym (ap label_of c.in-Some.ensures.cases.0 ∙ label-last c.
 pub returns-in_default : goal.returns-in_default
 returns-in_default c =
     elim c.in_default.branch [
-      | in_default-via-in-Some+else-last-eq58 w ↦ sym (ap label_of w.in-Some.ensures.cases.0 ∙ label-not w.in-Some.name.now w.in-Some.last.now w.if-last-eq58.false)
+      | in_default-via-in-Some+else-last-eq58 w ↦ sym (ap label_of w.in-Some.ensures.cases.0
+          ∙ label-not w.in-Some.name.now w.in-Some.last.now w.if-last-eq58.false)
       | in_default-via-in_default w ↦ sym (label-none c.args.word.now w.in_default.ensures.cases)
     ]

@@ -8,4 +8,5 @@ pub returns-clause-named : goal.returns-clause-named
 returns-clause-named c =
     let sc = c.args.machine.now.scenario in
     let here = c.choices.ensures.value ∙ ap (λ (s : Scenario). s.choices) c.scenario.ensures.value in
-    rw (here, c.len.ensures.value) (named_at (length sc.programs) (length c.args.machine.now.entries) Start sc.choices (c.scenario.ensures.replay.tested.choices_named) c.requires)
+    rw (here, c.len.ensures.value) (named_at (length sc.programs) (length c.args.machine.now.entries) Start sc.choices
+    (c.scenario.ensures.replay.tested.choices_named) c.requires)

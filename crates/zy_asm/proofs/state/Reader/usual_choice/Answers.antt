@@ -13,7 +13,8 @@ returns c =
     let few : length s.choices < 4096 = omega (arith, c.len.ensures, c.if-len-ge-MAX_CHOICES.false) in
     let count : c.len-2.result ≡ length s.programs = search rules in
     let q = c.in_ok-choice.ensures in (
-      choice_taken s c.args.actor.now c.args.action.now c.args.t.now c.in_ok-actor.actor q.0 q.1 here few (sym c.in_ok-actor.ensures) q.2 q.3 (ap (λ n. numbered n c.args.t.now) (sym count) ∙ q.4)
+      choice_taken s c.args.actor.now c.args.action.now c.args.t.now c.in_ok-actor.actor q.0 q.1 here few (sym c.in_ok-actor.ensures) q.2 q.3
+          (ap (λ n. numbered n c.args.t.now) (sym count) ∙ q.4)
           ∙ ap (λ x. Ok (record s { choices = s.choices ++ x ∷ [] })) (sym q.5),
       few,
     )

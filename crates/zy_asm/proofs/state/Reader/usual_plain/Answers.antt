@@ -9,5 +9,7 @@ pub returns : goal.returns
 returns c =
     let s = progress_of c.args.self.now in
     let here : s.stage ≡ stage.Choices = search rules in
-    let few : length s.choices < 4096 = omega (arith, c.len.ensures, c.if-len-ge-MAX_CHOICES.false) in
-    (plain_taken s c.args.actor.now c.args.action.now c.in_ok-actor.actor c.in_ok-choice.choice here few (sym c.in_ok-actor.ensures) c.in_ok-choice.ensures, few)
+    let few : length s.choices < 4096 = omega (arith, c.len.ensures, c.if-len-ge-MAX_CHOICES.false) in (
+      plain_taken s c.args.actor.now c.args.action.now c.in_ok-actor.actor c.in_ok-choice.choice here few (sym c.in_ok-actor.ensures) c.in_ok-choice.ensures,
+      few,
+    )

@@ -12,4 +12,10 @@ invariant_of-self-then-lie_below c =
 pub invariant_of-self-else-lie_below : goal.invariant_of-self-else-lie_below
 invariant_of-self-else-lie_below c =
     let kept = AreKept-put_rows c.args.rows.now c.self.inside.rows.items c.merge-else-lie_below.ensures.fit c.self.invariant in
-    rw (c.swap.ensures.x_after, c.merge-else-lie_below.ensures.items, c.reserve-else-lie_below.ensures.items, c.clear.ensures.items, c.deref-else-lie_below.ensures.value) kept
+    rw (
+      c.swap.ensures.x_after,
+      c.merge-else-lie_below.ensures.items,
+      c.reserve-else-lie_below.ensures.items,
+      c.clear.ensures.items,
+      c.deref-else-lie_below.ensures.value,
+    ) kept

@@ -8,11 +8,20 @@ returns-then-is_spread c =
     λ sc a r.
     let k = subst (HoldReplaysOf sc) (sym c.self.view_is) a in
     let n = c.note in
-    record { spread = AreReplaysOf-tried sc c.args.machine.now c.self.inside.spread n.new.self n.result n.ensures.ok n.ensures.err k.spread r; passed = k.passed; close = k.close }
+    record {
+      spread = AreReplaysOf-tried sc c.args.machine.now c.self.inside.spread n.new.self n.result n.ensures.ok n.ensures.err k.spread r;
+      passed = k.passed;
+      close = k.close;
+    }
 
 pub returns-else-is_spread : goal.returns-else-is_spread
 returns-else-is_spread c =
     λ sc a r.
     let k = subst (HoldReplaysOf sc) (sym c.self.view_is) a in
     let n = c.note-else-is_spread in
-    record { spread = k.spread; passed = AreReplaysOf-tried sc c.args.machine.now c.self.inside.passed n.new.self n.result n.ensures.ok n.ensures.err k.passed r; close = k.close }
+    record {
+      spread = k.spread;
+      passed = AreReplaysOf-tried sc c.args.machine.now c.self.inside.passed n.new.self n.result n.ensures.ok n.ensures.err k.passed
+          r;
+      close = k.close;
+    }

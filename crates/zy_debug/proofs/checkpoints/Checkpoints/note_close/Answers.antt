@@ -8,4 +8,9 @@ returns c =
     λ sc a r.
     let k = subst (HoldReplaysOf sc) (sym c.self.view_is) a in
     let n = c.note in
-    record { spread = k.spread; passed = k.passed; close = AreReplaysOf-tried sc c.args.machine.now c.self.inside.close n.new.self n.result n.ensures.ok n.ensures.err k.close r }
+    record {
+      spread = k.spread;
+      passed = k.passed;
+      close = AreReplaysOf-tried sc c.args.machine.now c.self.inside.close n.new.self n.result n.ensures.ok
+          n.ensures.err k.close r;
+    }

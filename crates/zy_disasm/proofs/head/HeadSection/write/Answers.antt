@@ -2,4 +2,13 @@ use Rattle.zy_disasm.proofs.head.HeadSection.write.Goals as goal
 
 pub returns : goal.returns
 returns g c =
-    rw (← c.version.ensures.value, ← c.cap.ensures.value, ← c.from.ensures, ← c.pages.ensures.value, ← c.from-2.ensures, ← c.rule.ensures.value, ← c.rows.ensures.value, ← c.programs.ensures.value) c.write.ensures
+    rw (
+      ← c.version.ensures.value,
+      ← c.cap.ensures.value,
+      ← c.from.ensures,
+      ← c.pages.ensures.value,
+      ← c.from-2.ensures,
+      ← c.rule.ensures.value,
+      ← c.rows.ensures.value,
+      ← c.programs.ensures.value,
+    ) c.write.ensures

@@ -9,12 +9,14 @@ use Rattle.zy_locks.proofs.locks.Locks.free_place.Goals as goal
 pub returns-then-any_clashes-clause-place : goal.returns-then-any_clashes-clause-place
 returns-then-any_clashes-clause-place c =
     let near = rw c.deref-2.ensures.value at (sym c.any_clashes.ensures ∙ c.if-any_clashes.true) in
-    rw (← c.self.view_is) (any_part (clashes c.args.page c.args.txn c.args.kind) c.saturating_sub.result (c.min.result - c.saturating_sub.result) c.self.inside.locks.items near)
+    rw (← c.self.view_is) (any_part (clashes c.args.page c.args.txn c.args.kind) c.saturating_sub.result
+    (c.min.result - c.saturating_sub.result) c.self.inside.locks.items near)
 
 pub returns-then-any_clashes-clause-alone : goal.returns-then-any_clashes-clause-alone
 returns-then-any_clashes-clause-alone c alone =
     let near = rw c.deref-2.ensures.value at (sym c.any_clashes.ensures ∙ c.if-any_clashes.true) in
-    let hit = any_part (clashes c.args.page c.args.txn c.args.kind) c.saturating_sub.result (c.min.result - c.saturating_sub.result) c.self.inside.locks.items near in
+    let hit = any_part (clashes c.args.page c.args.txn c.args.kind) c.saturating_sub.result
+    (c.min.result - c.saturating_sub.result) c.self.inside.locks.items near in
     let free = alone_free c.args.page c.args.txn c.args.kind c.self.inside.locks.items c.self.invariant.1 (rw (← c.self.view_is) at alone) in
     absurd (true≢false (sym hit ∙ free))
 
@@ -31,6 +33,8 @@ returns-else-any_clashes-clause-place c =
     let few = placed.0 in
     let i = c.saturating_sub.result in
     let up = c.min.result in
-    let top = reaches i (up - i) c.place-at.result (length locks) up (c.min.ensures ∙ ap (λ n. min n (c.place-at.result + 2)) all) refl (omega (arith, few, all, c.saturating_sub.ensures, c.min.ensures)) in
-    let free = none_beside c.args.page c.args.txn c.place-at.result i (up - i) c.args.kind locks c.self.invariant.0 c.self.invariant.1 placed (omega (arith, c.saturating_sub.ensures)) top near in
+    let top = reaches i (up - i) c.place-at.result (length locks) up (c.min.ensures ∙ ap (λ n. min n (c.place-at.result + 2)) all) refl
+    (omega (arith, few, all, c.saturating_sub.ensures, c.min.ensures)) in
+    let free = none_beside c.args.page c.args.txn c.place-at.result i (up - i) c.args.kind locks c.self.invariant.0 c.self.invariant.1 placed
+    (omega (arith, c.saturating_sub.ensures)) top near in
     rw (← c.self.view_is) (free, placed)

@@ -15,4 +15,6 @@ returns-then-at-len c =
 pub returns-else-at-len : goal.returns-else-at-len
 returns-else-at-len c =
     let placed = rw (← c.self.view_is) at c.requires in
-    rw (← c.self.view_is, le-ltb c.args.at c.len.result c.if-at-len.false) (sym (holds_past c.args.page c.args.txn c.args.at c.self.inside.locks.items c.self.invariant.0 placed (omega (arith, c.if-at-len.false, rw (← c.self.view_is) at c.len.ensures))))
+    rw (← c.self.view_is, le-ltb c.args.at c.len.result c.if-at-len.false) (sym
+    (holds_past c.args.page c.args.txn c.args.at c.self.inside.locks.items c.self.invariant.0 placed
+    (omega (arith, c.if-at-len.false, rw (← c.self.view_is) at c.len.ensures))))

@@ -23,7 +23,8 @@ index_mut-requires c =
     omega (arith, held_place c.args.page c.args.txn c.args.at c.self.inside.locks.items c.self.invariant.0 placed held, c.self.inside.locks.ok.0)
 
 -- the locks with the one at the place made stronger
-raised : (c : goal.After-self-1) → add_lock c.args.page c.args.txn c.args.kind c.self.inside.locks.items ≡ set c.self.inside.locks.items c.args.at (record c.index_mut.result.now { kind = c.stronger.result })
+raised : (c : goal.After-self-1) → add_lock c.args.page c.args.txn c.args.kind c.self.inside.locks.items
+    ≡ set c.self.inside.locks.items c.args.at (record c.index_mut.result.now { kind = c.stronger.result })
 raised c =
     let locks = c.self.inside.locks.items in
     let was = c.index_mut.result.now in
@@ -58,13 +59,17 @@ put c =
     let placed = rw (← c.self.view_is) at c.requires.place in
     let none = rw (← c.self.view_is) at (sym c.holds_at.ensures ∙ c.if-holds_at.false) in
     rw c.unwrap.ensures at c.insert.ensures.items
-    ∙ sym (add_lock_between c.args.page c.args.txn c.args.at c.args.kind locks placed (λ d lt. told_at c.args.page c.args.txn c.args.at false d locks c.self.invariant.0 placed none lt))
+    ∙ sym (add_lock_between c.args.page c.args.txn c.args.at c.args.kind locks placed
+    (λ d lt. told_at c.args.page c.args.txn c.args.at false d locks c.self.invariant.0 placed none lt))
 
 pub invariant_of-self-else-holds_at : goal.invariant_of-self-else-holds_at
 invariant_of-self-else-holds_at c =
     let locks = c.self.inside.locks.items in
     let free = rw (← c.self.view_is) at c.requires.free in
-    rw (put c) (rise_add c.args.page c.args.txn c.args.kind locks c.self.invariant.0, agree_add c.args.page c.args.txn c.args.kind locks free c.self.invariant.1)
+    rw (put c) (
+      rise_add c.args.page c.args.txn c.args.kind locks c.self.invariant.0,
+      agree_add c.args.page c.args.txn c.args.kind locks free c.self.invariant.1,
+    )
 
 pub returns-else-holds_at-clause-locks : goal.returns-else-holds_at-clause-locks
 returns-else-holds_at-clause-locks c = rw (← c.self.view_is) (put c)

@@ -7,7 +7,10 @@ use Rattle.zy_locks.proofs.locks.Locks.release_all.Goals as goal
 pub invariant_of-self : goal.invariant_of-self
 invariant_of-self c =
     let facts = c.retain.ensures in
-    rw (filter_same _ (λ x. not (eqb x.txn c.args.txn)) _ (λ x b f' k. search rules) _ _ facts.filtered) (rise_drop c.args.txn _ c.self.invariant.0, agree_drop c.args.txn _ c.self.invariant.1)
+    rw (filter_same _ (λ x. not (eqb x.txn c.args.txn)) _ (λ x b f' k. search rules) _ _ facts.filtered) (
+      rise_drop c.args.txn _ c.self.invariant.0,
+      agree_drop c.args.txn _ c.self.invariant.1,
+    )
 
 pub returns : goal.returns
 returns c =

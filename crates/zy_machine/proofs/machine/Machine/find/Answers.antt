@@ -40,4 +40,7 @@ returns c =
     let m = c.self.inside in
     let page = page_in-reached (arc_value m.scenario) (choices_of (entries_of m.log)) (state_of m.nodes) c.args.p c.self.invariant.0.state in
     let place = place_by c.args.p (state_of m.nodes) in
-    rw (← c.self.view_is, page, place, ← c.in_default.ensures, ← c.in_default-get.ensures, ← c.in_default-page.ensures, ← c.in_default-page-2.ensures) (refl, refl)
+    rw (← c.self.view_is, page, place, ← c.in_default.ensures, ← c.in_default-get.ensures, ← c.in_default-page.ensures, ← c.in_default-page-2.ensures) (
+      refl,
+      refl,
+    )

@@ -6,4 +6,5 @@ use Rattle.zy_machine.proofs.AtNodes.{at-a}
 use Rattle.zy_machine.proofs.node_pair.NodePair.begin_step.Goals as goal
 
 pub returns-clause-line : goal.returns-clause-line
-returns-clause-line c = at-a {E = Unit {0}} c.args.self.now c.args.self.now.a c.begin_step.new.book (Ok c.begin_step.result) _ (c.begin_step.ensures (facing A (state_of c.args.self.now)))
+returns-clause-line c = at-a {E = Unit {0}} c.args.self.now c.args.self.now.a c.begin_step.new.book (Ok c.begin_step.result) _
+    (c.begin_step.ensures (facing A (state_of c.args.self.now)))

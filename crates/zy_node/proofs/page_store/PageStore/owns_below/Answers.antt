@@ -23,5 +23,7 @@ returns-then-len-below c =
     let s = c.self.inside.slots.items in
     let all = rw (← c.self.view_is) at c.requires in
     let short : length s ≤ c.args.n = omega (arith, c.if-len-below.true, c.len.ensures, c.self.inside.slots.ok.0, c.from-below.ensures) in
-    rw (← c.self.view_is, c.from-below.ensures)
-    ((λ full. filled c.args.n c.args.count s c.self.invariant.placed all short (leb-true _ _ full)), (λ own. le-leb _ _ (counted c.args.n c.args.count s c.self.invariant.placed all own)))
+    rw (← c.self.view_is, c.from-below.ensures) (
+      (λ full. filled c.args.n c.args.count s c.self.invariant.placed all short (leb-true _ _ full)),
+      (λ own. le-leb _ _ (counted c.args.n c.args.count s c.self.invariant.placed all own)),
+    )

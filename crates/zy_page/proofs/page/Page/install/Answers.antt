@@ -24,7 +24,8 @@ insert-requires-clause-room c =
 pub insert-requires-clause-kept : goal.insert-requires-clause-kept
 insert-requires-clause-kept c =
     let found = rw c.rows.ensures.value at c.in-Err.ensures in
-    let kept = AreKept-put_row c.args.key c.args.new_value c.args.self.now.rows (record { rise = c.rows.ensures.rise; fit = c.rows.ensures.fit }) c.ranges.key.fits c.ranges.new_value.fits in
+    let kept = AreKept-put_row c.args.key c.args.new_value c.args.self.now.rows
+    (record { rise = c.rows.ensures.rise; fit = c.rows.ensures.fit }) c.ranges.key.fits c.ranges.new_value.fits in
     rw (put_row_between c.args.key c.args.new_value c.in-Err.at c.args.self.now.rows found.0 found.1) at kept
 
 pub returns-in-Ok : goal.returns-in-Ok

@@ -18,7 +18,8 @@ invariant_of-self c =
     let was = c.self.inside in
     let rows = take was.len was.cells in
     let placed = rw (c.rows.ensures.value, ← c.self.view_is) at c.place-at.ensures in
-    let few : c.place-at.result ≤ was.len = omega (arith, placed.0, length-take-le was.len was.cells (omega (arith, c.self.invariant.few, c.self.invariant.full))) in
+    let few : c.place-at.result ≤ was.len =
+    omega (arith, placed.0, length-take-le was.len was.cells (omega (arith, c.self.invariant.few, c.self.invariant.full))) in
     let kept : AreKept (rows_below c.args.boundary rows) = AreKept-filter _ rows c.self.invariant.kept in
     let front = rows_below-place c.args.boundary c.place-at.result rows placed ∙ take-take c.place-at.result was.len was.cells few in
     record { few = omega (arith, few, c.self.invariant.few); full = c.self.invariant.full; kept = rw front at kept }
@@ -36,6 +37,7 @@ returns-clause-old_page c =
     let was = c.self.inside in
     let rows = take was.len was.cells in
     let placed = rw (c.rows.ensures.value, ← c.self.view_is) at c.place-at.ensures in
-    let few : c.place-at.result ≤ was.len = omega (arith, placed.0, length-take-le was.len was.cells (omega (arith, c.self.invariant.few, c.self.invariant.full))) in
+    let few : c.place-at.result ≤ was.len =
+    omega (arith, placed.0, length-take-le was.len was.cells (omega (arith, c.self.invariant.few, c.self.invariant.full))) in
     let front = rows_below-place c.args.boundary c.place-at.result rows placed ∙ take-take c.place-at.result was.len was.cells few in
     rw (← c.self.view_is) (λ i. record { number = was.number; low = was.low; rows = sym front i })

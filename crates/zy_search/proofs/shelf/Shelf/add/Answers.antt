@@ -11,6 +11,8 @@ returns c = λ h ps s lt here.
     let spot : Spot = record { machine = c.args.machine; at = Some c.args.at } in
     let e : c.push.new.self.items ≡ c.args.self.now.spots.items ++ spot ∷ [] = search rules in
     record {
-      spots = subst (All (IsSpot h ps)) (sym e) (All-append (IsSpot h ps) c.args.self.now.spots.items (spot ∷ []) s.spots (one_spot h ps spot (record { scenario = here.scenario; here = (lt, here) })));
+      spots =
+          subst (All (IsSpot h ps)) (sym e) (All-append (IsSpot h ps) c.args.self.now.spots.items (spot ∷ []) s.spots
+          (one_spot h ps spot (record { scenario = here.scenario; here = (lt, here) })));
       spare = s.spare;
     }

@@ -10,5 +10,6 @@ returns-clause-second c =
     let twin = c.in_ok-come_back.ensures.twin in
     record {
       scenario = c.step.ensures.scenario ∙ twin.scenario;
-      back = λ e. twin_still c.args.here.now c.come_back.new.self.machine c.step.new.self c.args.choice twin c.step.ensures.scenario c.in_ok-entry.ensures.state (longer_by _ _ _ c.in_ok-entry.ensures.history) (sym o ∙ (sym c.is_still-self.ensures ∙ e));
+      back = λ e. twin_still c.args.here.now c.come_back.new.self.machine c.step.new.self c.args.choice twin c.step.ensures.scenario c.in_ok-entry.ensures.state
+          (longer_by _ _ _ c.in_ok-entry.ensures.history) (sym o ∙ (sym c.is_still-self.ensures ∙ e));
     }

@@ -19,12 +19,14 @@ stepped c =
 pub step-requires-clause-named : goal.step-requires-clause-named
 step-requires-clause-named c =
     let t : BoardView = record { machine = c.self.inside.machine; c = c.self.inside.c; a = c.self.inside.a; b = c.self.inside.b } in
-    named c.args.actor t c.in-Some.choice c.self.invariant (ap (λ (s : BoardView). slice_get (turns_of s c.args.actor).schedule (turns_of s c.args.actor).cursor) c.self.view_is ∙ c.in-Some.ensures)
+    named c.args.actor t c.in-Some.choice c.self.invariant
+    (ap (λ (s : BoardView). slice_get (turns_of s c.args.actor).schedule (turns_of s c.args.actor).cursor) c.self.view_is ∙ c.in-Some.ensures)
 
 pub step-requires-clause-room : goal.step-requires-clause-room
 step-requires-clause-room c =
     let t : BoardView = record { machine = c.self.inside.machine; c = c.self.inside.c; a = c.self.inside.a; b = c.self.inside.b } in
-    room c.args.actor t c.in-Some.choice c.self.invariant (ap (λ (s : BoardView). slice_get (turns_of s c.args.actor).schedule (turns_of s c.args.actor).cursor) c.self.view_is ∙ c.in-Some.ensures)
+    room c.args.actor t c.in-Some.choice c.self.invariant (ap (λ (s : BoardView). slice_get (turns_of s c.args.actor).schedule (turns_of s c.args.actor).cursor)
+    c.self.view_is ∙ c.in-Some.ensures)
 
 pub advance-requires : goal.advance-requires
 advance-requires c = front_within c.args.actor C c.args.self.now _ c.in-Some.choice c.in-C.is c.self.view_is c.in-Some.ensures
@@ -38,17 +40,20 @@ advance-requires-in-B c = front_within c.args.actor B c.args.self.now _ c.in-Som
 pub invariant_of-self-in-C : goal.invariant_of-self-in-C
 invariant_of-self-in-C c =
     let m = stepped (goal.at.invariant_of-self-in-C c).In_ok-entry in
-    turn_kept c.args.actor C c.args.self.now (before (goal.at.invariant_of-self-in-C c).In_ok-entry) _ c.in-Some.choice c.in-C.is c.self.view_is c.self.invariant c.in-Some.ensures
+    turn_kept c.args.actor C c.args.self.now (before (goal.at.invariant_of-self-in-C c).In_ok-entry) _ c.in-Some.choice c.in-C.is c.self.view_is
+    c.self.invariant c.in-Some.ensures
     (λ i. record { machine = m i; c = c.advance.ensures i; a = c.self.inside.a; b = c.self.inside.b })
 
 pub invariant_of-self-in-A : goal.invariant_of-self-in-A
 invariant_of-self-in-A c =
     let m = stepped (goal.at.invariant_of-self-in-A c).In_ok-entry in
-    turn_kept c.args.actor A c.args.self.now (before (goal.at.invariant_of-self-in-A c).In_ok-entry) _ c.in-Some.choice c.in-A.is c.self.view_is c.self.invariant c.in-Some.ensures
+    turn_kept c.args.actor A c.args.self.now (before (goal.at.invariant_of-self-in-A c).In_ok-entry) _ c.in-Some.choice c.in-A.is c.self.view_is
+    c.self.invariant c.in-Some.ensures
     (λ i. record { machine = m i; c = c.self.inside.c; a = c.advance-in-A.ensures i; b = c.self.inside.b })
 
 pub invariant_of-self-in-B : goal.invariant_of-self-in-B
 invariant_of-self-in-B c =
     let m = stepped (goal.at.invariant_of-self-in-B c).In_ok-entry in
-    turn_kept c.args.actor B c.args.self.now (before (goal.at.invariant_of-self-in-B c).In_ok-entry) _ c.in-Some.choice c.in-B.is c.self.view_is c.self.invariant c.in-Some.ensures
+    turn_kept c.args.actor B c.args.self.now (before (goal.at.invariant_of-self-in-B c).In_ok-entry) _ c.in-Some.choice c.in-B.is c.self.view_is
+    c.self.invariant c.in-Some.ensures
     (λ i. record { machine = m i; c = c.self.inside.c; a = c.self.inside.a; b = c.advance-in-B.ensures i })

@@ -15,7 +15,10 @@ returns-in_err-write_all g c =
     let p = err_from_is_err_and c.from_residual-in_err-write_all.result c.from_residual-in_err-write_all.ensures.1 in
     let text : c.as_bytes.result.now ≡ flat_map line_of (state_lines s) =
     c.as_bytes.ensures.value ∙ (c.in_ok-append_since.ensures ∙ (ap (λ l. l ++ shown_texts true s s (subjects s)) c.clear.ensures ∙ state_text s)) in
-    rw (p.1, p.2) (subst (WroteFront (g.K.Sink.written c.args.sink.now) (g.K.Sink.written c.write_all.new.sink)) text c.in_err-write_all.ensures.0, c.in_err-write_all.ensures.1)
+    rw (p.1, p.2) (
+      subst (WroteFront (g.K.Sink.written c.args.sink.now) (g.K.Sink.written c.write_all.new.sink)) text c.in_err-write_all.ensures.0,
+      c.in_err-write_all.ensures.1,
+    )
 
 pub returns : goal.returns
 returns g c =

@@ -6,7 +6,8 @@ use Rattle.zy_wire.proofs.tree.Tree.cut.Goals as goal
 pub index_mut-requires : goal.index_mut-requires
 index_mut-requires c =
     let was = rw (← c.self.view_is) at c.requires in
-    let r : Ready c.self.inside.nodes.items c.self.inside.root.0 c.self.inside.top c.args.parent.0 c.args.child.0 c.args.key = record { tree = c.self.invariant; at = was.at; above = was.above; leads = was.leads; full = was.full } in
+    let r : Ready c.self.inside.nodes.items c.self.inside.root.0 c.self.inside.top c.args.parent.0 c.args.child.0 c.args.key =
+    record { tree = c.self.invariant; at = was.at; above = was.above; leads = was.leads; full = was.full } in
     let there = child_there _ _ _ _ _ _ r in
     let len = c.self.inside.nodes.ok.0 in
     omega arith
@@ -14,13 +15,15 @@ index_mut-requires c =
 pub cut-upper-requires : goal.cut-upper-requires
 cut-upper-requires c =
     let was = rw (← c.self.view_is) at c.requires in
-    let r : Ready c.self.inside.nodes.items c.self.inside.root.0 c.self.inside.top c.args.parent.0 c.args.child.0 c.args.key = record { tree = c.self.invariant; at = was.at; above = was.above; leads = was.leads; full = was.full } in
+    let r : Ready c.self.inside.nodes.items c.self.inside.root.0 c.self.inside.top c.args.parent.0 c.args.child.0 c.args.key =
+    record { tree = c.self.invariant; at = was.at; above = was.above; leads = was.leads; full = was.full } in
     child_full _ _ _ _ _ _ c.index.result c.index_mut.result.now r c.index.ensures c.index_mut.ensures.value
 
 pub low-low-requires : goal.low-low-requires
 low-low-requires c =
     let was = rw (← c.self.view_is) at c.requires in
-    let r : Ready c.self.inside.nodes.items c.self.inside.root.0 c.self.inside.top c.args.parent.0 c.args.child.0 c.args.key = record { tree = c.self.invariant; at = was.at; above = was.above; leads = was.leads; full = was.full } in
+    let r : Ready c.self.inside.nodes.items c.self.inside.root.0 c.self.inside.top c.args.parent.0 c.args.child.0 c.args.key =
+    record { tree = c.self.invariant; at = was.at; above = was.above; leads = was.leads; full = was.full } in
     let full = child_full _ _ _ _ _ _ c.index.result c.index_mut.result.now r c.index.ensures c.index_mut.ensures.value in
     rw c.cut-upper.ensures.upper (omega (arith, length-drop 4 c.index_mut.result.now.entries))
 
@@ -28,9 +31,11 @@ pub invariant_of-self : goal.invariant_of-self
 invariant_of-self c =
     let was = rw (← c.self.view_is) at c.requires in
     let nodes = c.self.inside.nodes.items in
-    let r : Ready nodes c.self.inside.root.0 c.self.inside.top c.args.parent.0 c.args.child.0 c.args.key = record { tree = c.self.invariant; at = was.at; above = was.above; leads = was.leads; full = was.full } in
+    let r : Ready nodes c.self.inside.root.0 c.self.inside.top c.args.parent.0 c.args.child.0 c.args.key =
+    record { tree = c.self.invariant; at = was.at; above = was.above; leads = was.leads; full = was.full } in
     let placed = rw (c.node.ensures.value, ← c.self.view_is) at c.place-at.ensures in
-    let writes : Writes nodes c.push_reserved.new.self.items c.args.parent.0 c.args.child.0 c.index-2.result c.index.result c.place-at.result c.index_mut.result.now c.cut-upper.new.self c.cut-upper.result c.index_mut-2.result.now c.insert.new.self c.of_node.result = record {
+    let writes : Writes nodes c.push_reserved.new.self.items c.args.parent.0 c.args.child.0 c.index-2.result c.index.result c.place-at.result
+    c.index_mut.result.now c.cut-upper.new.self c.cut-upper.result c.index_mut-2.result.now c.insert.new.self c.of_node.result = record {
       at_c = c.index.ensures;
       at_p = c.index-2.ensures;
       read_c = c.index_mut.ensures.value;
@@ -48,9 +53,11 @@ pub returns : goal.returns
 returns c =
     let was = rw (← c.self.view_is) at c.requires in
     let nodes = c.self.inside.nodes.items in
-    let r : Ready nodes c.self.inside.root.0 c.self.inside.top c.args.parent.0 c.args.child.0 c.args.key = record { tree = c.self.invariant; at = was.at; above = was.above; leads = was.leads; full = was.full } in
+    let r : Ready nodes c.self.inside.root.0 c.self.inside.top c.args.parent.0 c.args.child.0 c.args.key =
+    record { tree = c.self.invariant; at = was.at; above = was.above; leads = was.leads; full = was.full } in
     let placed = rw (c.node.ensures.value, ← c.self.view_is) at c.place-at.ensures in
-    let writes : Writes nodes c.push_reserved.new.self.items c.args.parent.0 c.args.child.0 c.index-2.result c.index.result c.place-at.result c.index_mut.result.now c.cut-upper.new.self c.cut-upper.result c.index_mut-2.result.now c.insert.new.self c.of_node.result = record {
+    let writes : Writes nodes c.push_reserved.new.self.items c.args.parent.0 c.args.child.0 c.index-2.result c.index.result c.place-at.result
+    c.index_mut.result.now c.cut-upper.new.self c.cut-upper.result c.index_mut-2.result.now c.insert.new.self c.of_node.result = record {
       at_c = c.index.ensures;
       at_p = c.index-2.ensures;
       read_c = c.index_mut.ensures.value;

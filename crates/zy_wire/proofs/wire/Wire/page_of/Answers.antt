@@ -8,14 +8,16 @@ pub page-requires : goal.page-requires
 page-requires c =
     let v = c.self.invariant in
     let lows = c.self.inside.lows.items in
-    let f = page_at lows c.leaf.result.now c.args.key c.entry_under.result v.apart (leaf_of lows _ c.args.key c.leaf.result.now v.holds c.leaf.ensures) c.entry_under.ensures in
+    let f = page_at lows c.leaf.result.now c.args.key c.entry_under.result v.apart
+    (leaf_of lows _ c.args.key c.leaf.result.now v.holds c.leaf.ensures) c.entry_under.ensures in
     omega (arith, f.within, v.few)
 
 pub returns : goal.returns
 returns c =
     let v = c.self.invariant in
     let lows = c.self.inside.lows.items in
-    let f = page_at lows c.leaf.result.now c.args.key c.entry_under.result v.apart (leaf_of lows _ c.args.key c.leaf.result.now v.holds c.leaf.ensures) c.entry_under.ensures in
+    let f = page_at lows c.leaf.result.now c.args.key c.entry_under.result v.apart
+    (leaf_of lows _ c.args.key c.leaf.result.now v.holds c.leaf.ensures) c.entry_under.ensures in
     rw (← c.self.view_is, c.page.ensures) (record {
       value = sym f.is;
       within = f.within;

@@ -8,4 +8,5 @@ use Rattle.zy_audit.proofs.lines.rows.RegsLine.append.Goals as goal
 pub returns-in_err-append : goal.returns-in_err-append
 returns-in_err-append c =
     let p = err_from_is_err_and c.from_residual.result c.from_residual.ensures.1 in
-    Appended-element-stops reg_text c.args.self.now.0.now c.loop-value.value-index _ c.args.line.now c.loop-value.line c.append.new.line _ _ c.loop-value-test.true c.loop-value.invariant c.in_err-append.ensures (p.1 ∙ ap Err p.2)
+    Appended-element-stops reg_text c.args.self.now.0.now c.loop-value.value-index _ c.args.line.now c.loop-value.line c.append.new.line _ _
+    c.loop-value-test.true c.loop-value.invariant c.in_err-append.ensures (p.1 ∙ ap Err p.2)
