@@ -2,6 +2,7 @@
 use Rattle.std.specs.Prelude.{ℕ, List, [], ◌∷◌, codes, nat_lt, Bool, true, false, Option, Some, None, Result, Ok, Err}
 use Rattle.std.specs.Prelude.{ok_or, if◌then◌else◌}
 use Rattle.std.specs.Str.{bytes_eq}
+use Rattle.zy_isa.specs.Limits.{max_choices}
 use Rattle.zy_isa.specs.declared.node.Node.{Node}
 use Rattle.zy_isa.specs.declared.node.Node.TheVariants as node
 use Rattle.zy_isa.specs.declared.node.Actor.{Actor}
@@ -72,5 +73,5 @@ are_times _ = false
 
 abbrev pub times_of : List (List ℕ) → Result ℕ AsmKind
 times_of [] = Ok 1
-times_of (x ∷ n ∷ []) = number_in n 1 4096
+times_of (x ∷ n ∷ []) = number_in n 1 max_choices
 times_of _ = Err kinds.Word

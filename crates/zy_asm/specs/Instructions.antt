@@ -2,6 +2,7 @@
 use Rattle.std.specs.Prelude.{◌==◌, ℕ, List, [], ◌∷◌, Result, Ok, Err, ok_or, if◌then◌else◌}
 use Rattle.std.specs.List.{find}
 use Rattle.std.specs.Str.{bytes_eq}
+use Rattle.zy_isa.specs.Limits.{max_value}
 use Rattle.zy_isa.specs.declared.instr.Reg.{Reg}
 use Rattle.zy_isa.specs.declared.instr.Instr.{Instr}
 use Rattle.zy_isa.specs.declared.operation.NumberOperation.{NumberOperation}
@@ -35,7 +36,7 @@ pair_of _ = Err kinds.Word
 abbrev pub number_to : NumberOperation → List ℕ → List ℕ → Result Instr AsmKind
 number_to o a n = do
   x ← register_of a
-  i ← number_in n 0 4294967295
+  i ← number_in n 0 max_value
   Ok (instr_with (Number o x i))
 
 abbrev pub with_number : NumberOperation → List (List ℕ) → Result Instr AsmKind
@@ -46,7 +47,7 @@ with_number o _ = Err kinds.Word
 abbrev pub jump_to : JumpOperation → Reg → Reg → List ℕ → Result Pending AsmKind
 jump_to o a b [] = Err kinds.Word
 jump_to o a b (c ∷ cs) =
-    if c == 64 then (number_in cs 0 4294967295 >>= λ n. Ok (whole (instr_with (Jump o a b n)))) else
+    if c == 64 then (number_in cs 0 max_value >>= λ n. Ok (whole (instr_with (Jump o a b n)))) else
     if is_name (c ∷ cs) then Ok (jump o a b (c ∷ cs)) else
     Err kinds.Word
 

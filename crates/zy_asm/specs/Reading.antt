@@ -4,6 +4,8 @@ use Rattle.std.specs.Prelude.{Some, None, Bool, Result, Ok, Err, ok_or, option_m
 use Rattle.std.specs.Prelude.{replicate}
 use Rattle.std.specs.Option.{option_or}
 use Rattle.std.specs.Str.{bytes_eq}
+use Rattle.zy_isa.specs.Limits.{min_cap, max_cap, max_pages, max_rows, max_txns, max_instrs, max_choices}
+use Rattle.zy_isa.specs.Limits.{max_key, max_value}
 use Rattle.zy_isa.specs.declared.node.Actor.{Actor}
 use Rattle.zy_isa.specs.declared.rule.Rule.{Rule as LockRule}
 use Rattle.zy_isa.specs.declared.rule.Rule.TheVariants.{Held, Loose}
@@ -102,13 +104,13 @@ zephyr_line s ws = do
 abbrev pub cap_line : Seen → List (List ℕ) → Result Seen AsmKind
 cap_line s ws = do
   w ← headed ws (codes "cap")
-  n ← number_in w 2 16
+  n ← number_in w min_cap max_cap
   Ok (record s { stage = Pages; cap = n })
 
 abbrev pub pages_line : Seen → List (List ℕ) → Result Seen AsmKind
 pages_line s ws = do
   w ← headed ws (codes "pages")
-  n ← number_in w 1 512
+  n ← number_in w 1 max_pages
   Ok (record s { stage = Rule; pages = n })
 
 abbrev pub rule_line : Seen → List (List ℕ) → Result Seen AsmKind
@@ -121,8 +123,8 @@ rule_line s ws = do
 
 abbrev pub row_with : List ℕ → List ℕ → Result Row AsmKind
 row_with k v = do
-  key ← number_in k 0 65535
-  value ← number_in v 0 4294967295
+  key ← number_in k 0 max_key
+  value ← number_in v 0 max_value
   Ok (record { key = key; value = value })
 
 abbrev pub row_of : List (List ℕ) → Result Row AsmKind
@@ -131,7 +133,7 @@ row_of _ = Err kinds.Word
 
 -- there is no place for a row more
 abbrev pub is_full : Seen → Bool
-is_full s = nat_le 256 (length s.rows) || nat_lt s.pages (opening_pages_for s.cap (length s.rows + 1))
+is_full s = nat_le max_rows (length s.rows) || nat_lt s.pages (opening_pages_for s.cap (length s.rows + 1))
 
 abbrev pub add_row : Seen → Row → Result Seen AsmKind
 add_row s row =
@@ -146,7 +148,7 @@ row_at _ s ws = Err kinds.Order
 -- ---- programs
 
 abbrev pub instr_line : Seen → Operation → List (List ℕ) → Result Seen AsmKind
-instr_line s op ws = instr_of op ws >>= λ i. if nat_le 64 (length s.instrs) then Err kinds.Count
+instr_line s op ws = instr_of op ws >>= λ i. if nat_le max_instrs (length s.instrs) then Err kinds.Count
     else Ok (record s { instrs = s.instrs ++ i ∷ [] })
 
 abbrev pub instr_at : Stage → Seen → Operation → List (List ℕ) → Result Seen AsmKind
@@ -202,7 +204,7 @@ head_line s w =
     Err kinds.Word
 
 abbrev pub open_line : Seen → List (List ℕ) → Result Seen AsmKind
-open_line s (t ∷ []) = head_line s t >>= λ u. if nat_le 64 (length u.programs) then Err kinds.Count
+open_line s (t ∷ []) = head_line s t >>= λ u. if nat_le max_txns (length u.programs) then Err kinds.Count
     else Ok (record u { stage = Program })
 open_line s _ = Err kinds.Word
 
@@ -213,7 +215,7 @@ txn_at _ s ws = closed s >>= λ u. open_line u ws
 -- ---- choices and the end
 
 abbrev pub repeat_choice : Seen → Choice → ℕ → Result Seen AsmKind
-repeat_choice s c n = if nat_lt 4096 (length s.choices + n) then Err kinds.Count
+repeat_choice s c n = if nat_lt max_choices (length s.choices + n) then Err kinds.Count
     else Ok (record s { stage = Choices; choices = s.choices ++ replicate n c })
 
 -- a choice, as often as the words behind it say

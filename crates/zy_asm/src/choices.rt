@@ -1,5 +1,6 @@
 //! The choice of a line, and how often it is made.
 ghost use Rattle.std.specs.Prelude.{◌≡◌, ◌≤◌, IfOk, IfSome, Some, Ok, true, ℕ};
+ghost use Rattle.zy_isa.specs.Limits.{max_txns, max_choices};
 ghost use Rattle.zy_asm.specs.Reasons.{by_kind, kind_of};
 ghost use Rattle.zy_text.specs.Lines.{texts};
 ghost use Rattle.zy_text.specs.Words as text;
@@ -109,7 +110,7 @@ pub fn chosen(action: TxnAction, t: u8) -> Choice
 
 /// The number of a transaction, of which there are `count`.
 fn numbered(count: usize, word: &[u8]) -> Result<u8, Reason>
-    requires { count ≤ 64 }
+    requires { count ≤ max_txns }
     ensures { by_kind result ≡ spec.numbered count word.now }
 {
     let Some(number) = number_of(word) else {
@@ -124,7 +125,7 @@ fn numbered(count: usize, word: &[u8]) -> Result<u8, Reason>
 
 /// The transaction of this number or name, where there are `count`, and those with names have these.
 pub fn transaction(count: usize, names: &NameTable, word: &[u8]) -> Result<u8, Reason>
-    requires { count ≤ 64 }
+    requires { count ≤ max_txns }
     ensures { by_kind result ≡ spec.transaction count names.now word.now }
 {
     if is_numeral(word) {
@@ -153,7 +154,7 @@ pub fn plain_choice(actor: Actor, action: &[u8]) -> Option<Choice>
 /// The choice of an actor's action with a transaction by its number, where there are `count`.
 #[inline(always)]
 pub fn numbered_choice(actor: Actor, action: &[u8], count: usize, word: &[u8]) -> Option<Choice>
-    requires { count ≤ 64 }
+    requires { count ≤ max_txns }
     ensures { IfSome result (λ c. (a : AnAction) × (i : ℕ) × (spec.action_of actor action.now ≡ Some (Txn a))
         × (text.is_numeral word.now ≡ true) × (spec.numbered count word.now ≡ Ok i) × (c ≡ spec.chosen a i)) }
 {
@@ -194,7 +195,7 @@ pub fn not_times(words: &[&[u8]]) -> Reason
 /// How often the words behind a choice say that it is made.
 pub fn times_of(words: &[&[u8]]) -> Result<u64, Reason>
     ensures value { by_kind result ≡ spec.times_of (texts words.now) }
-    ensures few { IfOk result (λ n. n ≤ 4096) }
+    ensures few { IfOk result (λ n. n ≤ max_choices) }
 {
     match words {
         [] => Ok(1),

@@ -1,5 +1,6 @@
 //! Reads a text line by line.
 ghost use Rattle.std.specs.Prelude.{◌≡◌, ◌≤◌, ◌<◌, ◌∷◌, ◌++◌, [], length, map, IfOk, IfSome, Ok, Some};
+ghost use Rattle.zy_isa.specs.Limits.{max_txns, max_instrs, max_choices};
 ghost use Rattle.zy_asm.specs.Reasons.{by_kind, seen_word};
 ghost use Rattle.zy_text.specs.Lines.{texts};
 ghost use Rattle.zy_asm.specs.Pending.{pending_of, whole};
@@ -24,7 +25,7 @@ use crate::state::{Reader, Stage};
 use std::alloc::Global;
 use zy_isa::scenario::opening_pages_for;
 use zy_isa::{
-    Actor, Choice, Instr, MAX_CAP, MAX_CHOICES, MAX_INSTRS, MAX_PAGES, MAX_ROWS, MAX_TXNS,
+    Actor, Choice, Instr, MAX_CAP, MAX_CHOICES, MAX_INSTRS, MAX_PAGES, MAX_ROWS, MAX_TXNS, MIN_CAP,
     Operation, Row, Rule, Version,
 };
 use zy_text::Words;
@@ -142,7 +143,11 @@ impl Reader {
     fn cap_line(&mut self, words: &[&[u8]]) -> Result<(), Reason>
         ensures { Steps result (progress_of self.new) (cap_line (progress_of self.old) (texts words.now)) }
     {
-        self.cap = number_in(headed(words, b"cap")?, 2, u64::from(MAX_CAP))? as u8;
+        self.cap = number_in(
+            headed(words, b"cap")?,
+            u64::from(MIN_CAP),
+            u64::from(MAX_CAP),
+        )? as u8;
         self.stage = Stage::Pages;
         Ok(())
     }
@@ -276,7 +281,7 @@ impl Reader {
     }
 
     fn note_name(&mut self, name: &[u8]) -> Result<(), Reason>
-        requires { length self.old.programs.items ≤ 64 }
+        requires { length self.old.programs.items ≤ max_txns }
         ensures { Steps result (progress_of self.new) (note_name (progress_of self.old) name.now) }
     {
         if self.names.find(name).is_some() {
@@ -330,7 +335,7 @@ impl Reader {
 
     #[inline(always)]
     fn repeat_choice(&mut self, choice: Choice, times: u64) -> Result<(), Reason>
-        requires { times ≤ 4096 }
+        requires { times ≤ max_choices }
         ensures { Steps result (progress_of self.new) (repeat_choice (progress_of self.old) choice times) }
     {
         let all = self.choices.len() + times as usize;
@@ -463,7 +468,7 @@ impl Reader {
     fn usual_choice(&self, actor: &[u8], action: &[u8], t: &[u8]) -> Option<Choice>
         ensures { IfSome result (λ c. (line_step (progress_of self.now) (actor.now ∷ action.now ∷ t.now ∷ [])
             ≡ Ok (record (progress_of self.now) { choices = self.now.choices.items ++ c ∷ [] }))
-            × (length self.now.choices.items < 4096)) }
+            × (length self.now.choices.items < max_choices)) }
     {
         if self.stage != Stage::Choices {
             return None;
@@ -481,7 +486,7 @@ impl Reader {
     fn usual_plain(&self, actor: &[u8], action: &[u8]) -> Option<Choice>
         ensures { IfSome result (λ c. (line_step (progress_of self.now) (actor.now ∷ action.now ∷ [])
             ≡ Ok (record (progress_of self.now) { choices = self.now.choices.items ++ c ∷ [] }))
-            × (length self.now.choices.items < 4096)) }
+            × (length self.now.choices.items < max_choices)) }
     {
         if self.stage != Stage::Choices {
             return None;
@@ -500,7 +505,7 @@ impl Reader {
     fn usual_instr(&self, operation: &[u8], a: &[u8], b: &[u8]) -> Option<Instr>
         ensures { IfSome result (λ i. (line_step (progress_of self.now) (operation.now ∷ a.now ∷ b.now ∷ [])
             ≡ Ok (record (progress_of self.now) { instrs = map pending_of self.now.instrs.items ++ whole i ∷ [] }))
-            × (length self.now.instrs.items < 64)) }
+            × (length self.now.instrs.items < max_instrs)) }
     {
         if self.stage != Stage::Program {
             return None;

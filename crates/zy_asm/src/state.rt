@@ -1,5 +1,6 @@
 //! What the lines so far gave.
 ghost use Rattle.std.specs.Prelude.{◌≡◌, ◌≤◌, ◌+◌, length};
+ghost use Rattle.zy_isa.specs.Limits.{max_txns, max_instrs, max_choices};
 ghost use Rattle.zy_asm.specs.Stages.{open_programs};
 
 use crate::name_table::NameTable;
@@ -45,7 +46,7 @@ pub struct Reader {
     pub instrs: Vec<Unresolved>,
     pub choices: Vec<Choice>,
     pub ghost some_cap: { 2 ≤ cap },
-    pub ghost few_programs: { open_programs stage + length programs.items ≤ 64 },
-    pub ghost few_instrs: { length instrs.items ≤ 64 },
-    pub ghost few_choices: { length choices.items ≤ 4096 },
+    pub ghost few_programs: { open_programs stage + length programs.items ≤ max_txns },
+    pub ghost few_instrs: { length instrs.items ≤ max_instrs },
+    pub ghost few_choices: { length choices.items ≤ max_choices },
 }

@@ -1,6 +1,7 @@
 -- What each command refuses, where it goes, and what it replies.
 use Rattle.std.specs.Prelude.{ℕ, ◌≡◌, ◌+◌, ◌-◌, ◌==◌, ◌&&◌, Bool, true, false, not, nat_le, nat_lt, length, is_none}
 use Rattle.std.specs.Prelude.{slice_get, Option, Some, None, Result, Ok, Err}
+use Rattle.zy_isa.specs.Limits.{max_key}
 use Rattle.zy_stops.specs.declared.stop.Stop.{Stop}
 use Rattle.zy_stops.specs.declared.stop.Stop.TheVariants as stop
 use Rattle.zy_stops.specs.Stops.{Slots}
@@ -47,7 +48,7 @@ refusal s command.RCont = None
 refusal s (command.BreakPage p) = has_room_in_range (nat_lt p s.scenario.pages) s
 refusal s command.BreakMode = has_room s
 refusal s command.BreakAbort = has_room s
-refusal s (command.Watch k) = has_room_in_range (nat_le k 65535) s
+refusal s (command.Watch k) = has_room_in_range (nat_le k max_key) s
 refusal s (command.Delete n) = unless (has_stop n s.stops) fault.NoSuchStop
 refusal s (command.Page p) = in_range (nat_lt p s.scenario.pages)
 refusal s (command.Txn t) = in_range (nat_lt t (length s.scenario.programs))

@@ -1,6 +1,7 @@
 //! The debugger: a position and sixteen stops.
 ghost use Rattle.std.specs.Prelude.{◌≡◌, true, false, ◌≤◌, ◌<◌, ◌==◌, ◌&&◌, ◌-◌, not, IfOk, IfSome, OnOk, OnErr};
 ghost use Rattle.std.specs.Prelude.{length, replicate, None, nat_le, nat_lt, slice_get, option_copied};
+ghost use Rattle.zy_isa.specs.Limits.{max_choices};
 ghost use Rattle.zy_stops.specs.declared.stop.Stop.TheVariants as stop;
 ghost use Rattle.zy_stops.specs.Scans.{Conts, RConts, LastIn};
 ghost use Rattle.zy_stops.specs.Slots.{free_slot, with_stop, without_stop, is_set};
@@ -71,7 +72,7 @@ impl Debugger {
     /// How many choices are done.
     pub fn position(&self) -> usize
         ensures value { result ≡ self.now.position }
-        ensures few { result ≤ 4096 }
+        ensures few { result ≤ max_choices }
         ensures most { result ≤ length self.now.scenario.choices }
     {
         self.machine.len()

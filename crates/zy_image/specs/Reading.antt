@@ -4,6 +4,7 @@ use Rattle.std.specs.Prelude.{get_or, Option, Some, None, Result, Ok, Err, ok_or
 use Rattle.std.specs.Result.{result_err}
 use Rattle.std.specs.Int.{w16, w32, from_be_bytes}
 use Rattle.std.specs.Borrow.{Bor}
+use Rattle.zy_isa.specs.Limits.{min_cap, max_cap, max_pages, max_rows, max_txns, max_instrs, max_choices}
 use Rattle.zy_isa.specs.declared.version.Version.{Version}
 use Rattle.zy_isa.specs.Versions.{marked}
 use Rattle.zy_isa.specs.declared.rule.Rule.{Rule}
@@ -53,10 +54,10 @@ magic_field size bytes = do
   Ok (version, f.1)
 
 abbrev pub cap_field : ℕ → List ℕ → Read ℕ
-cap_field size bytes = byte size bytes >>= λ n. if is_outside 2 16 n.0 then Err fault.Cap else Ok n
+cap_field size bytes = byte size bytes >>= λ n. if is_outside min_cap max_cap n.0 then Err fault.Cap else Ok n
 
 abbrev pub pages_field : ℕ → List ℕ → Read ℕ
-pages_field size bytes = half size bytes >>= λ n. if is_outside 1 512 n.0 then Err fault.Pages else Ok n
+pages_field size bytes = half size bytes >>= λ n. if is_outside 1 max_pages n.0 then Err fault.Pages else Ok n
 
 abbrev pub rule_at : ℕ → Option Rule
 rule_at n = if n == 0 then Some Held else if n == 1 then Some Loose else None
@@ -92,7 +93,7 @@ next_row size rows bytes = field 6 size bytes >>= λ f. if is_low (row_at f.0).k
     then Err (fault.RowOrder (length rows)) else Ok (row_at f.0, f.1)
 
 abbrev pub row_count : Head → ℕ → List ℕ → Read ℕ
-row_count h size bytes = half size bytes >>= λ n. if nat_lt 256 n.0 || nat_lt h.pages (opening_pages_for h.cap n.0)
+row_count h size bytes = half size bytes >>= λ n. if nat_lt max_rows n.0 || nat_lt h.pages (opening_pages_for h.cap n.0)
     then Err fault.RowCount else Ok n
 
 abbrev pub rows : Head → ℕ → List ℕ → Read (List Row)
@@ -113,7 +114,7 @@ next_instr version t size is bytes = do
 
 abbrev pub instr_count : ℕ → ℕ → List ℕ → Read ℕ
 instr_count t size bytes = byte size bytes >>= λ n. if n.0 == 0 then Err (fault.Program t prog.Empty)
-    else if nat_lt 64 n.0 then Err (fault.Program t prog.TooLong) else Ok n
+    else if nat_lt max_instrs n.0 then Err (fault.Program t prog.TooLong) else Ok n
 
 abbrev pub judged : {X : Type 0} → ℕ → Option ProgFault → X → Result X LoadFault
 judged t None x = Ok x
@@ -127,7 +128,7 @@ next_program version size ps bytes = instrs version (length ps) size bytes >>= �
     (prog_fault is.0) is
 
 abbrev pub program_count : ℕ → List ℕ → Read ℕ
-program_count size bytes = byte size bytes >>= λ n. if nat_lt 64 n.0 then Err fault.TxnCount else Ok n
+program_count size bytes = byte size bytes >>= λ n. if nat_lt max_txns n.0 then Err fault.TxnCount else Ok n
 
 abbrev pub programs : Version → ℕ → List ℕ → Read (List (List Instr))
 programs version size bytes = program_count size bytes >>= λ n. read_items (next_program version size) [] n.0 n.1
@@ -175,7 +176,7 @@ next_choice count size cs bytes = do
   Ok (c, f.1)
 
 abbrev pub choice_count : ℕ → List ℕ → Read ℕ
-choice_count size bytes = half size bytes >>= λ n. if nat_lt 4096 n.0 then Err fault.ChoiceCount else Ok n
+choice_count size bytes = half size bytes >>= λ n. if nat_lt max_choices n.0 then Err fault.ChoiceCount else Ok n
 
 abbrev pub choices : ℕ → ℕ → List ℕ → Read (List Choice)
 choices count size bytes = choice_count size bytes >>= λ n. read_items (next_choice count size) [] n.0 n.1
@@ -227,7 +228,7 @@ GivesScenario (Err e) s = e ≡ fault.Memory
 -- the first fault of choices among this number of transactions
 abbrev pub choices_fault : ℕ → List Choice → Option LoadFault
 choices_fault count cs =
-    if nat_lt 4096 (length cs) then Some fault.ChoiceCount else
+    if nat_lt max_choices (length cs) then Some fault.ChoiceCount else
     option_map fault.Choice (misnamed_choice count cs)
 
 -- the answer is the scenario with these choices in place of its own, or their first fault

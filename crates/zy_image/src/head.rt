@@ -5,7 +5,7 @@ ghost use Rattle.std.specs.Prelude.{◌≡◌};
 
 use crate::faults::LoadFault;
 use crate::fields::{byte, half, magic_field};
-use zy_isa::{MAX_CAP, MAX_PAGES, Rule, Version};
+use zy_isa::{MAX_CAP, MAX_PAGES, MIN_CAP, Rule, Version};
 
 /// What the fields before the rows say.
 #[derive(Clone, Copy, Debug, PartialEq, Eq)]
@@ -25,7 +25,7 @@ fn cap_field(size: usize, bytes: &[u8]) -> Result<(u8, &[u8]), LoadFault>
     ensures { Gives result (spec.cap_field size bytes.entry.now) }
 {
     let (cap, left) = byte(size, bytes)?;
-    if cap < 2 || cap > MAX_CAP {
+    if cap < MIN_CAP || cap > MAX_CAP {
         return Err(LoadFault::Cap);
     }
     Ok((cap, left))

@@ -1,6 +1,7 @@
 //! A scenario as bytes.
 ghost use Rattle.std.specs.Prelude.{◌≡◌, ◌++◌, ◌≤◌, ℕ, List, IfOk, OnOk, length};
 ghost use Rattle.std.specs.List.{flat_map};
+ghost use Rattle.zy_isa.specs.Limits.{max_rows, max_txns, max_choices};
 ghost use Rattle.zy_isa.specs.Programs.{IsProgram};
 ghost use Rattle.zy_isa.specs.InstrWords.{word_of};
 ghost use Rattle.zy_image.specs.Image.{choices_image, head_image, image_of, program_image, programs_image, rows_image};
@@ -117,7 +118,7 @@ fn put_head(out: &mut Vec<u8>, scenario: &Scenario) -> Result<(), AllocError>
 
 /// The rows, with their number in front.
 fn put_rows(out: &mut Vec<u8>, rows: &[Row]) -> Result<(), AllocError>
-    requires { length rows.now ≤ 256 }
+    requires { length rows.now ≤ max_rows }
     ensures { OnOk result (out.new.items ≡ out.old.items ++ rows_image rows.now) }
 {
     out.extend_from_slice(&(rows.len() as u16).to_be_bytes())?;
@@ -126,7 +127,7 @@ fn put_rows(out: &mut Vec<u8>, rows: &[Row]) -> Result<(), AllocError>
 
 /// The programs, with their number in front.
 fn put_programs(out: &mut Vec<u8>, programs: &[Program]) -> Result<(), AllocError>
-    requires { length programs.now ≤ 64 }
+    requires { length programs.now ≤ max_txns }
     ensures { OnOk result (out.new.items ≡ out.old.items ++ programs_image programs.now) }
 {
     out.push(programs.len() as u8)?;
@@ -135,7 +136,7 @@ fn put_programs(out: &mut Vec<u8>, programs: &[Program]) -> Result<(), AllocErro
 
 /// The choices, with their number in front.
 fn put_choices(out: &mut Vec<u8>, choices: &[Choice]) -> Result<(), AllocError>
-    requires { length choices.now ≤ 4096 }
+    requires { length choices.now ≤ max_choices }
     ensures { OnOk result (out.new.items ≡ out.old.items ++ choices_image choices.now) }
 {
     out.extend_from_slice(&(choices.len() as u16).to_be_bytes())?;

@@ -1,3 +1,4 @@
+pub mod Limits
 pub mod Versions
 pub mod Registers
 pub mod Results

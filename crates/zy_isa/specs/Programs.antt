@@ -3,6 +3,7 @@ use Rattle.std.specs.Prelude.{◌≡◌, ◌==◌, ◌+◌, ◌-◌, ◌<◌, �
 use Rattle.std.specs.Prelude.{slice_get, option_map, Bool, true, false, Option, Some, None, Result, Ok, Err}
 use Rattle.std.specs.Prelude.{if◌then◌else◌}
 use Rattle.std.specs.Option.{option_map_or, option_or}
+use Rattle.zy_isa.specs.Limits.{max_instrs}
 use Rattle.zy_isa.specs.declared.instr.Instr.{Instr}
 use Rattle.zy_isa.specs.declared.instr.Instr.TheVariants.{Set, Read, Write, Insert, Add, Sum, Beq, Commit, Abort}
 use Rattle.zy_isa.specs.declared.operation.Parts.{Parts}
@@ -46,7 +47,7 @@ stray_target is = position (λ i. not (targets_below (length is) i)) is
 abbrev pub prog_fault : List Instr → Option ProgFault
 prog_fault is =
     if length is == 0 then Some fault.Empty else
-    if nat_lt 64 (length is) then Some fault.TooLong else
+    if nat_lt max_instrs (length is) then Some fault.TooLong else
     option_or (option_map fault.Target (stray_target is)) (
     if ends_well is then None else
     Some fault.NoEnd)
@@ -68,7 +69,7 @@ Values (i ∷ is) = HasValue i × Values is
 -- what every program keeps
 pub record IsProgram (is : List Instr) : Type 0 where
   pub some : 0 < length is
-  pub few : length is ≤ 64
+  pub few : length is ≤ max_instrs
   pub targets : stray_target is ≡ None
   pub last : ends_well is ≡ true
   pub values : Values is

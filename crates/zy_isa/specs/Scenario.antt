@@ -2,6 +2,7 @@
 use Rattle.std.specs.Prelude.{◌≡◌, ◌+◌, ◌/◌, ◌≤◌, ◌||◌, not, nat_lt, ℕ, zero, suc, List, [], ◌∷◌, length, position}
 use Rattle.std.specs.Prelude.{option_map, Bool, true, Option, Some, None, Result, Ok, Err, if◌then◌else◌}
 use Rattle.std.specs.Option.{option_or}
+use Rattle.zy_isa.specs.Limits.{min_cap, max_cap, max_pages, max_rows, max_txns, max_choices}
 use Rattle.zy_isa.specs.declared.version.Version.{Version}
 use Rattle.zy_isa.specs.declared.rule.Rule.{Rule}
 use Rattle.zy_isa.specs.declared.row.Row.{Row}
@@ -40,12 +41,12 @@ is_outside least most n = nat_lt n least || nat_lt most n
 
 -- more rows than a scenario may have, or more than its pages take when it opens
 abbrev pub has_many_rows : Scenario → Bool
-has_many_rows s = nat_lt 256 (length s.rows) || nat_lt s.pages (opening_pages_for s.cap (length s.rows))
+has_many_rows s = nat_lt max_rows (length s.rows) || nat_lt s.pages (opening_pages_for s.cap (length s.rows))
 
 -- the first fault of choices among this number of transactions
 abbrev pub choices_fault : ℕ → List Choice → Option ScenarioFault
 choices_fault count cs =
-    if nat_lt 4096 (length cs) then Some fault.ChoiceCount else
+    if nat_lt max_choices (length cs) then Some fault.ChoiceCount else
     option_map fault.Choice (misnamed_choice count cs)
 
 -- the first instruction that a version does not have, in programs from number t on
@@ -57,11 +58,11 @@ instrs_fault version t (p ∷ ps) = option_or (option_map (fault.Instruction t) 
 -- the first fault of a scenario whose programs are verified
 abbrev pub scenario_fault : Scenario → Option ScenarioFault
 scenario_fault s =
-    if is_outside 2 16 s.cap then Some fault.Cap else
-    if is_outside 1 512 s.pages then Some fault.Pages else
+    if is_outside min_cap max_cap s.cap then Some fault.Cap else
+    if is_outside 1 max_pages s.pages then Some fault.Pages else
     if has_many_rows s then Some fault.RowCount else
     option_or (option_map fault.RowOrder (misplaced_row s.rows)) (
-    if nat_lt 64 (length s.programs) then Some fault.TxnCount else
+    if nat_lt max_txns (length s.programs) then Some fault.TxnCount else
     option_or (choices_fault (length s.programs) s.choices) (
     instrs_fault s.version 0 s.programs))
 
@@ -81,17 +82,17 @@ AreNamed count (c ∷ cs) = (names_below count c ≡ true) × AreNamed count cs
 
 -- what every scenario keeps
 pub record IsScenario (s : Scenario) : Type 0 where
-  pub cap_least : 2 ≤ s.cap
-  pub cap_most : s.cap ≤ 16
+  pub cap_least : min_cap ≤ s.cap
+  pub cap_most : s.cap ≤ max_cap
   pub pages_least : 1 ≤ s.pages
-  pub pages_most : s.pages ≤ 512
-  pub few_rows : length s.rows ≤ 256
+  pub pages_most : s.pages ≤ max_pages
+  pub few_rows : length s.rows ≤ max_rows
   pub few_opening_pages : opening_pages_for s.cap (length s.rows) ≤ s.pages
   pub rows_rise : Rising 0 s.rows
   pub rows_fit : RowsFit s.rows
-  pub few_programs : length s.programs ≤ 64
+  pub few_programs : length s.programs ≤ max_txns
   pub programs : ArePrograms s.programs
-  pub few_choices : length s.choices ≤ 4096
+  pub few_choices : length s.choices ≤ max_choices
   pub choices_named : AreNamed (length s.programs) s.choices
   pub instrs_known : AreKnown s.version s.programs
 

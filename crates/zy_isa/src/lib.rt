@@ -22,7 +22,7 @@ pub use crate::program::{MAX_INSTRS, ProgFault, Program};
 pub use crate::row::Row;
 pub use crate::rule::Rule;
 pub use crate::scenario::{
-    MAX_CAP, MAX_CHOICES, MAX_PAGES, MAX_ROWS, MAX_TXNS, Scenario, ScenarioFault,
+    MAX_CAP, MAX_CHOICES, MAX_PAGES, MAX_ROWS, MAX_TXNS, MIN_CAP, Scenario, ScenarioFault,
 };
 pub use crate::version::Version;
 pub use crate::word::{WORD_BYTES, Word};

@@ -1,5 +1,6 @@
 //! Programs that are verified.
 ghost use Rattle.std.specs.Prelude.{◌≡◌, ◌<◌, None, IfOk, IfSome, List, length, slice_index_or};
+ghost use Rattle.zy_isa.specs.Limits.{max_instrs};
 ghost use Rattle.zy_isa.specs.declared.instr.Instr.{Instr as AnInstr};
 ghost use Rattle.zy_isa.specs.Programs.{prog_fault, IsKept, IsProgram, IsVerified, Values};
 ghost use Rattle.zy_isa.specs.Programs as spec;
@@ -214,7 +215,7 @@ impl Program {
     /// The index of the first instruction that a version does not have.
     pub fn unknown(&self, version: Version) -> Option<usize>
         ensures value { result ≡ spec.unknown version self.now }
-        ensures few { IfSome result (λ i. i < 64) }
+        ensures few { IfSome result (λ i. i < max_instrs) }
     {
         unknown(version, self.words.as_slice())
     }

@@ -1,5 +1,6 @@
 //! Scenarios that are within the limits.
 ghost use Rattle.std.specs.Prelude.{◌≡◌, ◌<◌, ◌≤◌, IfOk, IfSome, None, length};
+ghost use Rattle.zy_isa.specs.Limits.{max_txns};
 ghost use Rattle.zy_isa.specs.Versions.{numbered};
 ghost use Rattle.zy_isa.specs.Rows.{RowsFit};
 ghost use Rattle.zy_isa.specs.Rows as isa_rows;
@@ -15,7 +16,10 @@ use std::alloc::{AllocError, Global};
 use std::marker::Model;
 use thiserror::Error;
 
-/// The greatest number of rows on a page.
+/// The fewest rows that a page may have room for.
+pub const MIN_CAP: u8 = 2;
+
+/// The most rows that a page may have room for.
 pub const MAX_CAP: u8 = 16;
 
 /// The greatest number of pages.
@@ -156,7 +160,7 @@ fn choices_fault(count: usize, choices: &[Choice]) -> Option<ScenarioFault>
 
 /// The first instruction that a version does not have.
 fn instrs_fault(version: Version, programs: &[Program]) -> Option<ScenarioFault>
-    requires { length programs.now ≤ 64 }
+    requires { length programs.now ≤ max_txns }
     ensures { result ≡ isa_scenario.instrs_fault version 0 programs.now }
 {
     for (t, program) in programs.iter().enumerate() {
@@ -245,7 +249,7 @@ impl Scenario {
           choices = choices.items;
         }) }
     {
-        if cap < 2 || cap > MAX_CAP {
+        if cap < MIN_CAP || cap > MAX_CAP {
             return Err(ScenarioFault::Cap);
         }
         if pages < 1 || pages > MAX_PAGES {

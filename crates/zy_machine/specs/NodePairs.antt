@@ -1,5 +1,6 @@
 -- What a store shows of the state, and what a call on it may do.
 use Rattle.std.specs.Prelude.{◌≡◌, ◌<◌, ◌≤◌, ℕ, true, length, Result, Ok, Err}
+use Rattle.zy_isa.specs.Limits.{max_pages, max_txns}
 use Rattle.zy_isa.specs.declared.node.Node.{Node}
 use Rattle.zy_isa.specs.declared.node.Node.TheVariants.{A, B}
 use Rattle.zy_isa.specs.Scenario.{Scenario}
@@ -29,7 +30,7 @@ limits_in s = (limits_of s.a, limits_of s.b)
 
 -- they may have n pages, and a node has a slot for each
 pub record AreLimited (n : ℕ) (s : NodePair) : Type 0 where
-  pub few : n ≤ 512
+  pub few : n ≤ max_pages
   pub a : IsLimited n s.a
   pub b : IsLimited n s.b
 
@@ -58,7 +59,7 @@ IsPossible sc (Begin t) s = t < length s.book.txns
 IsPossible sc (Kill t) s = t < length s.book.txns
 IsPossible sc (Run n t) s = IsReady sc n t s
 IsPossible sc (Take n) s = let v = facing n (state_of s) in MayTake v.inbox v.me
-IsPossible sc (Finish n) s = length s.book.txns ≤ 64
+IsPossible sc (Finish n) s = length s.book.txns ≤ max_txns
 IsPossible sc (Push n) s = Unit {0}
 
 -- the call made this step, or memory was wanted and nothing changed

@@ -1,5 +1,6 @@
 //! The state of both nodes.
 ghost use Rattle.std.specs.Prelude.{◌≡◌, ◌≤◌, ◌<◌, IfOk, OnOk, OnErr, length};
+ghost use Rattle.zy_isa.specs.Limits.{max_txns};
 ghost use Rattle.zy_isa.specs.declared.node.Node.TheVariants.{A};
 ghost use Rattle.zy_table.specs.State.{facing};
 ghost use Rattle.zy_table.specs.Client as table_client;
@@ -103,7 +104,7 @@ impl NodePair {
 
     /// `n finish`.
     fn finish_step(&mut self, n: Node) -> Result<Answer, AllocError>
-        requires { length self.old.book.txns ≤ 64 }
+        requires { length self.old.book.txns ≤ max_txns }
         ensures line { Makes n self.old self.new result (table_push.finish_step n (facing n (state_of self.old))) }
         ensures limits { limits_in self.new ≡ limits_in self.old }
     {

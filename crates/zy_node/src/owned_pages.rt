@@ -2,6 +2,7 @@
 ghost use Rattle.std.specs.Prelude.{◌≡◌, ◌<◌, ◌≤◌, ◌^◌, [], None, true, ℕ, IfOk, OnOk, OnErr, length, option_copied};
 ghost use Rattle.zy_page.specs.Leaf.{Leaf, rows_from};
 ghost use Rattle.std.specs.Bool.{Decides};
+ghost use Rattle.zy_isa.specs.Limits.{max_pages};
 ghost use Rattle.zy_node.specs.OwnedPages.{with_row, OwnsBelow};
 ghost use Rattle.zy_node.specs.Install.{HasRoomFor};
 ghost use Rattle.zy_table.specs.Numbers.{least};
@@ -99,7 +100,7 @@ impl OwnedPages {
     /// How many there are.
     pub fn len(&self) -> usize
         ensures value { result ≡ length self.now }
-        ensures few { result ≤ 512 }
+        ensures few { result ≤ max_pages }
         ensures rise { NumbersRise 0 (numbers self.now) }
     {
         // Proof: the pages are in order of their numbers, and there are at most 512.
@@ -124,7 +125,7 @@ impl OwnedPages {
 
     /// Takes a page in.
     pub fn put(&mut self, page: Page)
-        requires room { page.number < 512 }
+        requires room { page.number < max_pages }
         requires absent { page_in page.number self.old ≡ None }
         ensures { self.new ≡ with_page page self.old }
     {
@@ -153,7 +154,7 @@ impl OwnedPages {
 
     /// Cuts a page at `boundary`: its rows at or above that go to a new page with this number, which is taken in.
     pub fn cut(&mut self, p: u16, boundary: u16, number: u16)
-        requires room { number < 512 }
+        requires room { number < max_pages }
         requires absent { page_in number self.old ≡ None }
         requires there { table.owns self.old p ≡ true }
         ensures { let upper : Leaf = record {

@@ -1,5 +1,6 @@
 //! The numbers of the pages that a node has asked for.
 ghost use Rattle.std.specs.Prelude.{◌≡◌, ◌<◌, [], true, false, IfOk};
+ghost use Rattle.zy_isa.specs.Limits.{max_pages};
 ghost use Rattle.zy_table.specs.Keys.{put_key};
 ghost use Rattle.zy_table.specs.Numbers.{drop_number};
 ghost use Rattle.zy_table.specs.Numbers as table;
@@ -22,7 +23,7 @@ impl Model for PageSet {
 
     ghost view = { λ m. marked 0 m.marks.items };
 
-    ghost invariant = { λ m. length m.marks.items ≡ 512 };
+    ghost invariant = { λ m. length m.marks.items ≡ max_pages };
 }
 
 impl PageSet {
@@ -73,7 +74,7 @@ impl PageSet {
 
     /// A number more.
     pub fn put(&mut self, p: u16)
-        requires few { p < 512 }
+        requires few { p < max_pages }
         requires absent { table.has self.old p ≡ false }
         ensures { self.new ≡ put_key p self.old }
     {
@@ -82,7 +83,7 @@ impl PageSet {
 
     /// A number less, if it is among them.
     pub fn drop(&mut self, p: u16)
-        requires { p < 512 }
+        requires { p < max_pages }
         ensures { self.new ≡ drop_number p self.old }
     {
         self.marks[usize::from(p)] = false;

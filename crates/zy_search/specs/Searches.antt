@@ -1,6 +1,7 @@
 -- What a search finds out.
 use Rattle.std.specs.Prelude.{ℕ, ◌≡◌, ◌≤◌, ◌<◌, ◌+◌, ◌⊎◌, List, Bool, true, false, length}
 use Rattle.std.specs.List.{All, list_any, list_all}
+use Rattle.zy_isa.specs.Limits.{max_choices}
 use Rattle.zy_isa.specs.declared.choice.Choice.{Choice}
 use Rattle.zy_isa.specs.Scenario.{Scenario}
 use Rattle.zy_table.specs.State.{State, Txn}
@@ -39,7 +40,7 @@ Considers h q cs = AreConsidered q.kills (length h.scenario.programs) cs
 pub record IsPath (h : History) (q : Sought) (cs : List Choice) : Type 0 where
   pub considered : Considers h q cs
   pub moves : AreMoves h.scenario h.state cs
-  pub room : length h.entries + length cs ≤ 4096
+  pub room : length h.entries + length cs ≤ max_choices
 
 -- these choices lead to a state that shows what is looked for
 pub record Finds (h : History) (q : Sought) (cs : List Choice) : Type 0 where
@@ -76,8 +77,8 @@ pub record Fills (h : History) (q : Sought) (most n : ℕ) : Type 0 where
 abbrev pub IsDue : History → Sought → ℕ → Answer → Type 0
 IsDue h q most (answer.Found v) = Unit {0}
 IsDue h q most answer.Nowhere = Unit {0}
-IsDue h q most (answer.Spent fewer) = Fills h q most fewer ⊎ (4096 ≤ length h.entries + fewer)
+IsDue h q most (answer.Spent fewer) = Fills h q most fewer ⊎ (max_choices ≤ length h.entries + fewer)
 
 -- whether a state is stuck is seen by steps, for which the history needs room
 abbrev pub MayTry : Sought → History → Type 0
-MayTry q h = q.wanted ≡ wanted.Stuck → length h.entries < 4096
+MayTry q h = q.wanted ≡ wanted.Stuck → length h.entries < max_choices

@@ -2,6 +2,7 @@
 use Rattle.std.specs.Prelude.{ℕ, ◌≡◌, ◌≤◌, ◌<◌, ◌+◌, ◌⊎◌, List, [], ◌∷◌, ◌++◌, true, false, length, slice_index_or}
 use Rattle.std.specs.Prelude.{IfSome}
 use Rattle.std.specs.List.{All}
+use Rattle.zy_isa.specs.Limits.{max_choices}
 use Rattle.zy_isa.specs.declared.choice.Choice.{Choice}
 use Rattle.zy_isa.specs.declared.choice.Choice.TheVariants.{Start}
 use Rattle.zy_table.specs.State.{State}
@@ -100,7 +101,7 @@ pub record IsNext (h : History) (paths : List (List Choice)) (at : ℕ) (c : Cho
   pub state : m.state ≡ (step h.scenario c (reached h (path_at paths at))).after
   pub moved : is_still (step h.scenario c (reached h (path_at paths at))).outcome ≡ false
   pub longer : length h.entries + length_at paths at < length m.entries
-  pub room : length m.entries < 4096
+  pub room : length m.entries < max_choices
 
 -- a machine of the scenario, where the path leads that it names
 pub record IsSpot (h : History) (paths : List (List Choice)) (spot : Spot) : Type 0 where
@@ -181,7 +182,7 @@ pub record FindsNext (h : History) (q : Sought) (old : List (List Choice)) (at :
 -- the search can go on no more
 abbrev pub StopsAt : History → Sought → ℕ → List (List Choice) → List (List Choice) → ℕ → Type 0
 StopsAt h q most old new at = IsFull h q most old new at
-    ⊎ (Grows old new × (4096 ≤ length h.entries + length_at old at + 1))
+    ⊎ (Grows old new × (max_choices ≤ length h.entries + length_at old at + 1))
 
 -- what all considered choices from the path at a place have led to
 abbrev pub ExpandsWell : Plan → List (List Choice) → List (List Choice) → ℕ → Expanded → Type 0

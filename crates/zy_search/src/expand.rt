@@ -1,5 +1,6 @@
 //! What the choices from one state lead to.
 ghost use Rattle.std.specs.Prelude.{◌≡◌, ◌≤◌, ◌<◌, ◌+◌, ◌^◌, ◌++◌, ◌∷◌, [], IfOk, OnOk, None, true, false, length};
+ghost use Rattle.zy_isa.specs.Limits.{max_choices};
 ghost use Rattle.zy_isa.specs.declared.choice.Choice.{Choice as AChoice};
 ghost use Rattle.zy_search.specs.Visits.{path_at, length_at, IsKnown, IsFresh, IsHere, IsKept, IsNext, IsReady};
 ghost use Rattle.zy_search.specs.Visits.{IsSecond, IsShelf, IsUntried, Grows, MeetsWell, ExpandsWell};
@@ -161,7 +162,7 @@ fn meet(
     requires ready { IsReady plan.now visited.old shelf.old branch.from }
     requires choice { IsUntried plan.now visited.old branch }
     requires here { IsHere plan.now.start visited.old branch.from here.now }
-    requires room { length here.now.entries + 1 < 4096 }
+    requires room { length here.now.entries + 1 < max_choices }
     requires twin { IsSecond here.now twin.old }
     ensures well { IfOk result (MeetsWell plan.now visited.old visited.new branch) }
     ensures shelf { OnOk result (IsShelf plan.now.start visited.new shelf.new) }
@@ -201,7 +202,7 @@ fn meet_each(
     requires ready { IsReady plan.now visited.old shelf.old at }
     requires end { (c : AChoice) → IsFresh visited.old at c }
     requires here { IsHere plan.now.start visited.old at here.now }
-    requires room { length here.now.entries + 1 < 4096 }
+    requires room { length here.now.entries + 1 < max_choices }
     requires twin { IsSecond here.now twin.old }
     ensures well { IfOk result (ExpandsWell plan.now visited.old visited.new at) }
     ensures grows { OnOk result (Grows visited.old visited.new) }
@@ -239,8 +240,8 @@ fn arrive(
     requires here { here.old.scenario ≡ plan.now.start.scenario }
     ensures here { OnOk result (IsHere plan.now.start visited.now at here.new) }
     // Where its history is full the path itself is long.
-    ensures full { OnOk result (4096 ≤ length here.new.entries + 1
-        → 4096 ≤ length plan.now.start.entries + length_at visited.now at + 1) }
+    ensures full { OnOk result (max_choices ≤ length here.new.entries + 1
+        → max_choices ≤ length plan.now.start.entries + length_at visited.now at + 1) }
     ensures shelf { OnOk result (IsShelf plan.now.start visited.now shelf.new) }
 {
     if shelf.take(at, here) && here.len() + 1 < MAX_CHOICES {

@@ -2,6 +2,7 @@
 ghost use Rattle.std.specs.Prelude.{◌≡◌, ◌<◌, true, IfOk, OnOk, length};
 ghost use Rattle.std.specs.Bool.{Decides};
 ghost use Rattle.std.specs.List.{list_any};
+ghost use Rattle.zy_isa.specs.Limits.{max_choices};
 ghost use Rattle.zy_isa.specs.Choices.{names_below};
 ghost use Rattle.zy_table.specs.State.{Txn};
 ghost use Rattle.zy_table.specs.Play as table;
@@ -44,9 +45,9 @@ fn any_running(machine: &Machine) -> bool
 /// Makes room for a step of a twin, whose history grows by each step that it tries.
 fn make_room(alloc: Global, machine: &Machine, twin: &mut Machine) -> Result<(), Fault>
     requires twin { IsTwin machine.now twin.old }
-    requires room { length machine.now.entries < 4096 }
+    requires room { length machine.now.entries < max_choices }
     ensures twin { OnOk result (IsTwin machine.now twin.new) }
-    ensures room { OnOk result (length twin.new.entries < 4096) }
+    ensures room { OnOk result (length twin.new.entries < max_choices) }
 {
     if twin.len() < MAX_CHOICES {
         return Ok(());
@@ -63,7 +64,7 @@ fn stays(
 ) -> Result<bool, Fault>
     requires twin { IsTwin machine.now twin.old }
     requires named { names_below (length machine.now.scenario.programs) choice ≡ true }
-    requires room { length machine.now.entries < 4096 }
+    requires room { length machine.now.entries < max_choices }
     ensures still { IfOk result (λ b. b ≡ search_stuck.is_still
         (table.step machine.now.scenario choice machine.now.state).outcome) }
     ensures twin { IfOk result (λ b. b ≡ true → IsTwin machine.now twin.new) }
@@ -83,7 +84,7 @@ fn is_stuck_by(
     choices: &[Choice],
 ) -> Result<bool, Fault>
     requires twin { IsTwin machine.now twin.old }
-    requires room { length machine.now.entries < 4096 }
+    requires room { length machine.now.entries < max_choices }
     requires choices { choices.now ≡ search_choices.considered kills (length machine.now.scenario.programs) }
     requires active { list_any (λ (x : Txn). search_reasons.is_running x.status) machine.now.state.txns ≡ true }
     ensures stuck { IfOk result (λ b. Decides b (IsStuck machine.now.scenario kills machine.now.state)) }
@@ -106,7 +107,7 @@ pub(crate) fn is_stuck(
     spare: &mut Machine,
     choices: &[Choice],
 ) -> Result<bool, Fault>
-    requires room { length machine.now.entries < 4096 }
+    requires room { length machine.now.entries < max_choices }
     requires spare { spare.old.scenario ≡ machine.now.scenario }
     requires choices { choices.now ≡ search_choices.considered kills (length machine.now.scenario.programs) }
     ensures stuck { IfOk result (λ b. Decides b (IsStuck machine.now.scenario kills machine.now.state)) }

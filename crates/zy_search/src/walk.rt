@@ -1,5 +1,6 @@
 //! Machines that go along paths.
 ghost use Rattle.std.specs.Prelude.{◌≡◌, ◌≤◌, ◌<◌, ◌+◌, [], OnOk, length};
+ghost use Rattle.zy_isa.specs.Limits.{max_choices};
 ghost use Rattle.zy_isa.specs.Scenario.{AreNamed};
 ghost use Rattle.zy_table.specs.Play.{play};
 ghost use Rattle.zy_search.specs.Searches.{IsPath};
@@ -14,7 +15,7 @@ fn walk(visited: &Visited, at: u32, machine: &mut Machine) -> Result<(), Fault>
     requires there { at < length visited.now }
     requires first { path_at visited.now 0 ≡ [] }
     requires named { AreNamed (length machine.old.scenario.programs) (path_at visited.now at) }
-    requires room { length machine.old.entries + length_at visited.now at ≤ 4096 }
+    requires room { length machine.old.entries + length_at visited.now at ≤ max_choices }
     ensures scenario { machine.new.scenario ≡ machine.old.scenario }
     ensures state { OnOk result (machine.new.state ≡ play machine.old.scenario machine.old.state
         (path_at visited.now at)) }

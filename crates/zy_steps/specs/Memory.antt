@@ -1,5 +1,6 @@
 -- When a run needs no memory: what it does has its place already.
 use Rattle.std.specs.Prelude.{◌≡◌, ◌⊎◌, ℕ, ◌≤◌, List, ◌∷◌, [], length, IsSome, IfSome, None, slice_get, true, false}
+use Rattle.zy_isa.specs.Limits.{max_key}
 use Rattle.zy_isa.specs.Rows.{get_row}
 use Rattle.zy_isa.specs.Scenario.{Scenario}
 use Rattle.zy_isa.specs.declared.instr.Instr.{Instr}
@@ -46,7 +47,7 @@ pub record PageNeedsNone (sc : Scenario) (t : ℕ) (access : Access) (k p : ℕ)
 
 -- t's access to k, if that is a key
 abbrev pub KeyNeedsNone : Scenario → ℕ → Access → ℕ → NodeStore → Ledger → Type 0
-KeyNeedsNone sc t access k x b = k ≤ 65535 → PageNeedsNone sc t access k (page_of (lows_in x.wire) k) x b
+KeyNeedsNone sc t access k x b = k ≤ max_key → PageNeedsNone sc t access k (page_of (lows_in x.wire) k) x b
 
 -- t's sum over the keys from a to b: t's locks on their pages have places
 pub record PagesNeedNone (t a b : ℕ) (x : NodeStore) : Type 0 where
@@ -56,7 +57,7 @@ pub record PagesNeedNone (t a b : ℕ) (x : NodeStore) : Type 0 where
 
 -- the same, if these are keys
 abbrev pub SumNeedsNone : ℕ → ℕ → ℕ → NodeStore → Type 0
-SumNeedsNone t a b x = a ≤ b → b ≤ 65535 → PagesNeedNone t a b x
+SumNeedsNone t a b x = a ≤ b → b ≤ max_key → PagesNeedNone t a b x
 
 -- an effect of t: there is room to note a commit
 abbrev pub EffectNeedsNone : Scenario → ℕ → Effect → NodeStore → Ledger → Type 0

@@ -1,5 +1,6 @@
 -- What makes a run safe.
 use Rattle.std.specs.Prelude.{◌≡◌, ◌<◌, ◌≤◌, ℕ, Contains, None, length, true, false}
+use Rattle.zy_isa.specs.Limits.{max_pages, max_txns}
 use Rattle.zy_isa.specs.declared.node.Node.{Node}
 use Rattle.zy_isa.specs.Scenario.{Scenario}
 use Rattle.zy_locks.specs.declared.lock.LockKind.TheVariants.{Exclusive}
@@ -18,13 +19,13 @@ use Rattle.zy_txns.specs.Books.{Ledger, Countable, txn_in}
 
 -- t's commit can be numbered, and its rows find room
 pub record Rooms (t : ℕ) (x : NodeStore) (b : Ledger) : Type 0 where
-  pub commits : length b.commits ≤ 64
+  pub commits : length b.commits ≤ max_txns
   pub rows : AreRoomy (lows_in x.wire) (txn_in t b).rows x.pages
 
 -- what makes a split by a transaction safe, whatever the key
 pub record MaySplit (sc : Scenario) (x : NodeState) (y : Txn) : Type 0 where
   pub room : 2 ≤ sc.cap
-  pub pages : sc.pages ≤ 512
+  pub pages : sc.pages ≤ max_pages
   pub absent : may_split x.mode ≡ true → page_in (length x.lows) x.pages ≡ None
   pub unheld : may_split x.mode ≡ true → (u : ℕ) → holds x.locks (length x.lows) u ≡ false
   pub other : (k : ℕ) → let p = page_of x.lows k in is_there k p x y ≡ false → has_room sc p x y ≡ false

@@ -1,5 +1,6 @@
 //! `n push` and `n finish`.
 ghost use Rattle.std.specs.Prelude.{◌≡◌, ◌≤◌, ◌++◌, ◌∷◌, [], length};
+ghost use Rattle.zy_isa.specs.Limits.{max_txns};
 ghost use Rattle.zy_links.specs.Messages.{Finish};
 ghost use Rattle.zy_modes.specs.declared.mode.NodeMode.TheVariants.{SFinish};
 ghost use Rattle.zy_table.specs.State.{View};
@@ -50,7 +51,7 @@ fn finish(me: &mut NodeStore)
 /// `n finish`.
 #[tactic(auto, unfolding(zy_table::specs::Push::finish_step, zy_table::specs::Push::finish_if))]
 pub fn finish_step(n: Node, me: &mut NodeStore, book: &Book) -> Result<Answer, AllocError>
-    requires { length book.now.txns ≤ 64 }
+    requires { length book.now.txns ≤ max_txns }
     ensures line { (v : View) → Makes (here me.old book.now v) (here me.new book.now v) result
         (push.finish_step n (here me.old book.now v)) }
     ensures limits { limits_of me.new ≡ limits_of me.old }

@@ -2,6 +2,7 @@
 //! state.
 ghost use Rattle.std.specs.Prelude.{◌≡◌, ◌<◌, ◌≤◌, ◌⊎◌, ◌∷◌, [], None, Ok, Some, IfOk, IsOk, IsSome, length, slice_get};
 ghost use Rattle.std.specs.Prelude.{unwrap_or, if◌then◌else◌, true, false};
+ghost use Rattle.zy_isa.specs.Limits.{max_pages};
 ghost use Rattle.zy_isa.specs.Rows.{get_row};
 ghost use Rattle.zy_locks.specs.LockTable.{HasPlaces};
 ghost use Rattle.zy_locks.specs.declared.lock.LockKind.TheVariants.{Shared, Exclusive};
@@ -213,7 +214,7 @@ fn range_step(
     last: u32,
 ) -> Result<Answer, AllocError>
     requires counts { Countable t book.old }
-    requires slots { scenario.now.pages ≤ 512 }
+    requires slots { scenario.now.pages ≤ max_pages }
     requires limited { IsLimited scenario.now.pages me.old }
     ensures line { Runs me.old book.old me.new book.new result (table.range_step t r first last) }
     ensures memory { SumNeedsNone t first last me.old → IsOk result }
@@ -240,7 +241,7 @@ fn sum_or_asks(
     last: u16,
 ) -> Result<Answer, AllocError>
     requires counts { Countable t book.old }
-    requires slots { scenario.now.pages ≤ 512 }
+    requires slots { scenario.now.pages ≤ max_pages }
     requires limited { IsLimited scenario.now.pages me.old }
     requires rises { first ≤ last }
     ensures line { Runs me.old book.old me.new book.new result
@@ -301,7 +302,7 @@ fn sum_step(me: &mut NodeStore, book: &mut Book, t: u8, r: Reg, first: u16, last
 #[tactic(auto, unfolding(zy_table::specs::Run::absent_step, zy_table::specs::Change::asks))]
 fn absent_step(me: &mut NodeStore, book: &mut Book, t: u8, p: u16) -> Result<Answer, AllocError>
     requires there { t < length book.old.txns }
-    requires few { p < 512 }
+    requires few { p < max_pages }
     ensures line { Runs me.old book.old me.new book.new result (table.absent_step t p) }
     ensures memory { AbsentNeedsNone p me.old → IsOk result }
     ensures limits { limits_of me.new ≡ limits_of me.old }
@@ -477,7 +478,7 @@ fn page_step(
     requires splits { MaySplit scenario.now (node_shown me.old) (txn_in t book.old) }
     requires limited { IsLimited scenario.now.pages me.old }
     requires on { p ≡ wire_wireframe.page_of (lows_in me.old.wire) key }
-    requires few { p < 512 }
+    requires few { p < max_pages }
     ensures line { Runs me.old book.old me.new book.new result (table.page_step scenario.now t access key p) }
     ensures memory { PageNeedsNone scenario.now t access key p me.old book.old → IsOk result }
     ensures limits { limits_of me.new ≡ limits_of me.old }

@@ -1,6 +1,7 @@
 //! `n take`: each function is the lines of its name.
 ghost use Rattle.std.specs.Prelude.{◌≡◌, ◌≤◌, ◌+◌, ◌==◌, ◌++◌, ◌∷◌, [], OnOk, IfSome, Some, ℕ, true, false, is_some};
 ghost use Rattle.std.specs.Prelude.{length, option_map, slice_get};
+ghost use Rattle.zy_isa.specs.Limits.{max_pages};
 ghost use Rattle.zy_links.specs.Messages.{Message as AMessage, Page, kind_of, message_of};
 ghost use Rattle.zy_modes.specs.Table as modes;
 ghost use Rattle.zy_modes.specs.declared.table.MessageLine.TheVariants.{Turns};
@@ -84,7 +85,7 @@ fn bring(me: &mut NodeStore, message: Message)
     requires whole { IsWhole me.old.outbox.pages message }
     requires new { IsNew (message_of message) (node_shown me.old) }
     requires limited { IsLimited me.old.outbox.pages me.old }
-    requires few { me.old.outbox.pages ≤ 512 }
+    requires few { me.old.outbox.pages ≤ max_pages }
     ensures node { node_shown me.new ≡ with_brought (message_of message) (node_shown me.old) }
     ensures outbox { me.new.outbox ≡ me.old.outbox }
     ensures limits { limits_of me.new ≡ limits_of me.old }
@@ -141,7 +142,7 @@ fn take_in(me: &mut NodeStore, message: Message, mode: NodeMode, sent: Option<Ki
     requires whole { IsWhole me.old.outbox.pages message }
     requires new { IsNew (message_of message) (node_shown me.old) }
     requires limited { IsLimited me.old.outbox.pages me.old }
-    requires few { me.old.outbox.pages ≤ 512 }
+    requires few { me.old.outbox.pages ≤ max_pages }
     requires room { HasRoom sent me.old.outbox }
     ensures node { let x = with_brought (message_of message) (node_shown me.old) in
         node_shown me.new ≡ record x { mode = mode } }
@@ -213,7 +214,7 @@ pub fn take_step(
 ) -> Result<Answer, AllocError>
     requires may { MayTake inbox.old.messages (node_shown me.old) }
     requires limited { IsLimited inbox.old.pages me.old }
-    requires few { inbox.old.pages ≤ 512 }
+    requires few { inbox.old.pages ≤ max_pages }
     ensures line { Takes me.old inbox.old me.new inbox.new result (table_take.take_step scenario.now) }
     ensures limits { limits_of me.new ≡ limits_of me.old }
     ensures pages { inbox.new.pages ≡ inbox.old.pages }
@@ -235,7 +236,7 @@ fn got_step(
     requires may { MayTake inbox.old.messages (node_shown me.old) }
     requires some { is_some (slice_get inbox.old.messages 0) ≡ true }
     requires limited { IsLimited inbox.old.pages me.old }
-    requires few { inbox.old.pages ≤ 512 }
+    requires few { inbox.old.pages ≤ max_pages }
     ensures line { (m : AMessage) → slice_get inbox.old.messages 0 ≡ Some m
         → Takes me.old inbox.old me.new inbox.new result (λ v. table_take.got_step line m v (rest v)) }
     ensures limits { limits_of me.new ≡ limits_of me.old }
@@ -257,7 +258,7 @@ fn turn_step(
     requires may { MayTake inbox.old.messages (node_shown me.old) }
     requires some { is_some (slice_get inbox.old.messages 0) ≡ true }
     requires limited { IsLimited inbox.old.pages me.old }
-    requires few { inbox.old.pages ≤ 512 }
+    requires few { inbox.old.pages ≤ max_pages }
     ensures line { (m : AMessage) → slice_get inbox.old.messages 0 ≡ Some m
         → Takes me.old inbox.old me.new inbox.new result (λ v. table_take.got_step (Turns mode sent) m v (rest v)) }
     ensures limits { limits_of me.new ≡ limits_of me.old }

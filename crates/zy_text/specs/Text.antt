@@ -2,6 +2,7 @@
 use Rattle.std.specs.Prelude.{◌≡◌, ◌⊎◌, ◌≤◌, ◌+◌, true, ℕ, List, [], ◌∷◌, ◌++◌, length, map, codes, Option, Some, None}
 use Rattle.std.specs.Prelude.{replicate, if◌then◌else◌}
 use Rattle.std.specs.List.{flat_map}
+use Rattle.zy_isa.specs.Limits.{max_choices}
 use Rattle.zy_isa.specs.declared.version.Version.{Version}
 use Rattle.zy_isa.specs.declared.rule.Rule.{Rule}
 use Rattle.zy_isa.specs.declared.row.Row.{Row}
@@ -96,7 +97,7 @@ SpellsChoice names (Push n) ws = ws ≡ node_text n ∷ codes "push" ∷ []
 -- `x N`, or nothing for once
 abbrev pub SpellsTimes : ℕ → List (List ℕ) → Type 0
 SpellsTimes n ws = ((ws ≡ []) × (n ≡ 1)) ⊎ ((w : List ℕ) × (ws ≡ codes "x" ∷ w ∷ []) × (number_of w ≡ Some n) × (1 ≤ n)
-    × (n ≤ 4096))
+    × (n ≤ max_choices))
 
 abbrev pub Spells : Statement → List (List ℕ) → Type 0
 Spells (zephyr v) ws = ws ≡ codes "zephyr" ∷ word v ∷ []

@@ -1,6 +1,7 @@
 //! One step of a trace.
 ghost use Rattle.std.specs.Prelude.{◌≡◌, ◌<◌, ◌+◌, ◌++◌, true, OnOk, get_or, length};
 ghost use Rattle.std.specs.List.{flat_map};
+ghost use Rattle.zy_isa.specs.Limits.{max_choices};
 ghost use Rattle.zy_io.specs.Writing.{line_of};
 ghost use Rattle.zy_isa.specs.Choices.{names_below};
 ghost use Rattle.zy_isa.specs.declared.choice.Choice.TheVariants.{Start};
@@ -31,7 +32,7 @@ fn next_choice(machine: &Machine) -> Choice
     requires { length machine.now.entries < length machine.now.scenario.choices }
     ensures value { result ≡ get_or machine.now.scenario.choices (length machine.now.entries) Start }
     ensures named { names_below (length machine.now.scenario.programs) result ≡ true }
-    ensures room { length machine.now.entries < 4096 }
+    ensures room { length machine.now.entries < max_choices }
 {
     machine.scenario().choices()[machine.len()]
 }
