@@ -42,6 +42,10 @@ pub record IsMerge (h choices : List Choice) : Type 0 where
   pub of_a : sub A h ≡ sub A choices
   pub of_b : sub B h ≡ sub B choices
 
+-- a ledger of one part, which counts all turns of an actor among the choices
+abbrev pub IsLedgerOf : Actor → List Choice → ℕ → ℕ → Type 0
+IsLedgerOf x choices parts turns = (parts ≡ 1) × (turns ≡ length (sub x choices))
+
 -- one actor's choices, and how many of them it has taken
 pub record Turns : Type 0 where
   pub schedule : List Choice

@@ -4,7 +4,7 @@ ghost use Rattle.zy_isa.specs.declared.node.Actor.TheVariants.{C as is_c, A as i
 ghost use Rattle.zy_laws.specs.Throughout.{OwnedThroughout, SerialThroughout};
 ghost use Rattle.zy_machine.specs.Histories.{choices_of};
 ghost use Rattle.zy_threads.specs.Orders.{IsRunOf, reordered};
-ghost use Rattle.zy_threads.specs.Turns.{IsMerge, sub};
+ghost use Rattle.zy_threads.specs.Turns.{IsLedgerOf, IsMerge};
 
 use crate::board::Board;
 use crate::desk::{Client, Desk, NodeA, NodeB, Of, Side};
@@ -46,9 +46,9 @@ fn close<S: Of, C: Side, A: Side, B: Side>(
     a: Done<A>,
     b: Done<B>,
 ) -> Result<Machine, Fault>
-    requires c { (C.parts ≡ 1) × (C.turns ≡ length (sub is_c S.plan.choices)) }
-    requires a { (A.parts ≡ 1) × (A.turns ≡ length (sub is_a S.plan.choices)) }
-    requires b { (B.parts ≡ 1) × (B.turns ≡ length (sub is_b S.plan.choices)) }
+    requires c { IsLedgerOf is_c S.plan.choices C.parts C.turns }
+    requires a { IsLedgerOf is_a S.plan.choices A.parts A.turns }
+    requires b { IsLedgerOf is_b S.plan.choices B.parts B.turns }
     ensures scenario { IfOk result (λ m. m.scenario ≡ S.plan) }
     ensures merge { IfOk result (λ m. IsMerge (choices_of m.entries) S.plan.choices) }
 {
@@ -110,31 +110,31 @@ where
     R: Threads + Wait + Sync,
     G: Gate + Sync,
     W: Allowance + Sync,
-    requires c { (C.parts ≡ 1) × (C.turns ≡ length (sub is_c S.plan.choices)) × (c.turns ≡ C.turns) }
-    requires a { (A.parts ≡ 1) × (A.turns ≡ length (sub is_a S.plan.choices)) × (a.turns ≡ A.turns) }
-    requires b { (B.parts ≡ 1) × (B.turns ≡ length (sub is_b S.plan.choices)) × (b.turns ≡ B.turns) }
+    requires c { IsLedgerOf is_c S.plan.choices C.parts C.turns × (c.turns ≡ C.turns) }
+    requires a { IsLedgerOf is_a S.plan.choices A.parts A.turns × (a.turns ≡ A.turns) }
+    requires b { IsLedgerOf is_b S.plan.choices B.parts B.turns × (b.turns ≡ B.turns) }
 {
     thread::scope(
         thread::scope_env(),
         rt,
         move |scope| -> Crew<C, A, B>
-            requires c { (C.parts ≡ 1) × (C.turns ≡ length (sub is_c S.plan.choices)) × (c.turns ≡ C.turns) }
-            requires a { (A.parts ≡ 1) × (A.turns ≡ length (sub is_a S.plan.choices)) × (a.turns ≡ A.turns) }
-            requires b { (B.parts ≡ 1) × (B.turns ≡ length (sub is_b S.plan.choices)) × (b.turns ≡ B.turns) }
+            requires c { IsLedgerOf is_c S.plan.choices C.parts C.turns × (c.turns ≡ C.turns) }
+            requires a { IsLedgerOf is_a S.plan.choices A.parts A.turns × (a.turns ≡ A.turns) }
+            requires b { IsLedgerOf is_b S.plan.choices B.parts B.turns × (b.turns ≡ B.turns) }
         {
             let one = scope.spawn(
                 move || -> Done<C>
-                    requires { (C.parts ≡ 1) × (C.turns ≡ length (sub is_c S.plan.choices)) × (c.turns ≡ C.turns) }
+                    requires { IsLedgerOf is_c S.plan.choices C.parts C.turns × (c.turns ≡ C.turns) }
                 { work::<Client, _, _, _, _>(rt, gate, allowance, desk, c) },
             );
             let two = scope.spawn(
                 move || -> Done<A>
-                    requires { (A.parts ≡ 1) × (A.turns ≡ length (sub is_a S.plan.choices)) × (a.turns ≡ A.turns) }
+                    requires { IsLedgerOf is_a S.plan.choices A.parts A.turns × (a.turns ≡ A.turns) }
                 { work::<NodeA, _, _, _, _>(rt, gate, allowance, desk, a) },
             );
             let three = scope.spawn(
                 move || -> Done<B>
-                    requires { (B.parts ≡ 1) × (B.turns ≡ length (sub is_b S.plan.choices)) × (b.turns ≡ B.turns) }
+                    requires { IsLedgerOf is_b S.plan.choices B.parts B.turns × (b.turns ≡ B.turns) }
                 { work::<NodeB, _, _, _, _>(rt, gate, allowance, desk, b) },
             );
             Crew {
@@ -166,12 +166,12 @@ where
     W: Allowance + Sync,
     requires board { (board.machine.scenario ≡ S.plan) × (board.c.cursor ≡ 0) × (board.a.cursor ≡ 0)
         × (board.b.cursor ≡ 0) }
-    requires c { (c.name ≡ C.name) × (c.parts ≡ C.parts) × (C.parts ≡ 1)
-        × (C.turns ≡ length (sub is_c S.plan.choices)) }
-    requires a { (a.name ≡ A.name) × (a.parts ≡ A.parts) × (A.parts ≡ 1)
-        × (A.turns ≡ length (sub is_a S.plan.choices)) }
-    requires b { (b.name ≡ B.name) × (b.parts ≡ B.parts) × (B.parts ≡ 1)
-        × (B.turns ≡ length (sub is_b S.plan.choices)) }
+    requires c { (c.name ≡ C.name) × (c.parts ≡ C.parts)
+        × IsLedgerOf is_c S.plan.choices C.parts C.turns }
+    requires a { (a.name ≡ A.name) × (a.parts ≡ A.parts)
+        × IsLedgerOf is_a S.plan.choices A.parts A.turns }
+    requires b { (b.name ≡ B.name) × (b.parts ≡ B.parts)
+        × IsLedgerOf is_b S.plan.choices B.parts B.turns }
     ensures scenario { IfOk result (λ m. m.scenario ≡ S.plan) }
     ensures merge { IfOk result (λ m. IsMerge (choices_of m.entries) S.plan.choices) }
 {
