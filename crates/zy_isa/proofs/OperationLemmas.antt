@@ -17,6 +17,7 @@ use Rattle.zy_isa.specs.Operations.{opcode, mnemonic, operations, coded, named, 
 use Rattle.zy_isa.proofs.ResultLemmas.{chosen_by, both, same}
 use borrow.Author.Tests.{tests}
 
+-- numbers that the test finds equal are equal
 pub same_number : (n k : ℕ) → (n == k) ≡ true → n ≡ k
 same_number n k e = grind (arith, tests)
 
@@ -28,12 +29,15 @@ found_passes p (y ∷ ys) x h = elim (chosen_by (p y) (Some y) (find p ys) (Some
   | inr e ↦ found_passes p ys x e.1
 ]
 
+-- the operation that is found by a number has that number
 pub coded_is : (n : ℕ) (o : Operation) → coded n ≡ Some o → n ≡ opcode o
 coded_is n o h = same_number n (opcode o) (found_passes (λ x. n == opcode x) operations o h)
 
+-- the operation that is found by a word has that word
 pub named_is : (w : List ℕ) (o : Operation) → named w ≡ Some o → w ≡ mnemonic o
 named_is w o h = same w (mnemonic o) (found_passes (λ x. bytes_eq w (mnemonic x)) operations o h)
 
+-- the number of an operation finds it
 pub coded_back : (o : Operation) → coded (opcode o) ≡ Some o
 coded_back (op.Number Set) = refl
 coded_back (op.Pair Read) = refl
@@ -45,6 +49,7 @@ coded_back (op.Jump Beq) = refl
 coded_back (op.Lone Commit) = refl
 coded_back (op.Lone Abort) = refl
 
+-- the word of an operation finds it
 pub named_back : (o : Operation) → named (mnemonic o) ≡ Some o
 named_back (op.Number Set) = refl
 named_back (op.Pair Read) = refl
@@ -56,6 +61,7 @@ named_back (op.Jump Beq) = refl
 named_back (op.Lone Commit) = refl
 named_back (op.Lone Abort) = refl
 
+-- what is found in a list passes each test that the whole list passes
 found_all : {X : Type 0} (p q : X → Bool) (xs : List X) (x : X) → list_all p xs ≡ true → find q xs ≡ Some x → p x ≡ true
 found_all p q [] x h e = cc
 found_all p q (y ∷ ys) x h e =
@@ -69,6 +75,7 @@ found_all p q (y ∷ ys) x h e =
 pub each : (p : Operation → Bool) → list_all p operations ≡ true → (o : Operation) → p o ≡ true
 each p h o = found_all p (λ x. opcode o == opcode x) operations o h (coded_back o)
 
+-- an instruction is made again from its operation and operands
 pub instr_again : (i : Instr) → instr_with (parts_of i) ≡ i
 instr_again (instr.Set a n) = refl
 instr_again (instr.Read a b) = refl
@@ -80,6 +87,7 @@ instr_again (instr.Beq a b n) = refl
 instr_again instr.Commit = refl
 instr_again instr.Abort = refl
 
+-- the instruction that an operation and its operands make has these as its parts
 pub parts_again : (p : Parts) → parts_of (instr_with p) ≡ p
 parts_again (Number Set a n) = refl
 parts_again (Pair Read a b) = refl

@@ -5,6 +5,7 @@ use Rattle.zy_isa.specs.Programs.{prog_fault, IsProgram}
 use Rattle.zy_isa.proofs.ResultLemmas.{over_not}
 use borrow.Author.Tests.{tests}
 
+-- a number above 0 fails the test for 0
 pub is_some : (n : ℕ) → 0 < n → (n == 0) ≡ false
 is_some n h = grind (arith, tests)
 

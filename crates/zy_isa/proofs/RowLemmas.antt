@@ -7,9 +7,11 @@ use Rattle.zy_isa.specs.Rows.{misplaced_row, misplaced_after, last_row, is_low}
 use Rattle.zy_isa.proofs.ResultLemmas.{above}
 use borrow.Author.Tests.{tests}
 
+-- where a is not at most b, the test for a misplaced row at index i finds none
 low_test : (a b i : ℕ) → nat_le a b ≡ false → (if nat_lt b a then None else Some i) ≡ (let o : Option ℕ = None in o)
 low_test a b i h = rw (above b a h) refl
 
+-- no row is misplaced after a row and those behind it when one more row, above the last of them, is put at the end
 misplaced_more : (x : Row) (i : ℕ) (R : List Row) (r : Row) → misplaced_after x.key i R ≡ None → is_low r.key (slice_get (x ∷ R) (length R)) ≡ false
     → misplaced_after x.key i (R ++ r ∷ []) ≡ None
 misplaced_more x i [] r h low = low_test r.key x.key i low
@@ -28,6 +30,7 @@ order_more (x ∷ R) r h low =
     let e : length (x ∷ R) - 1 ≡ length R = omega arith in
     misplaced_more x 1 R r h (subst (λ n. is_low r.key (slice_get (x ∷ R) n) ≡ false) e low)
 
+-- the last row is the one that is put at the end
 pub last_more : (rows : List Row) (r : Row) → last_row (rows ++ r ∷ []) ≡ Some r
 last_more rows r = rw length-append (let e : length rows + 1 - 1 ≡ length rows = omega arith in rw e (slice_get_seam rows r))
   where
@@ -39,8 +42,10 @@ last_more rows r = rw length-append (let e : length rows + 1 - 1 ≡ length rows
 abbrev pub Above : ℕ → List Row → Type 0
 Above low R = (key : ℕ) → low ≤ key → is_low key (last_row R) ≡ false
 
+-- a key that is above the last one is not at most that one
 above_one : (key last : ℕ) → last + 1 ≤ key → nat_le key last ≡ false
 above_one key last h = grind (arith, tests)
 
+-- keys above that of the row that is put at the end are above the last row
 pub above_more : (R : List Row) (r : Row) → Above (r.key + 1) (R ++ r ∷ [])
 above_more R r key h = rw (last_more R r) (above_one key r.key h)

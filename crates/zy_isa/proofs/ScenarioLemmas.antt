@@ -18,6 +18,7 @@ use Rattle.zy_isa.specs.Scenario.{Scenario, misnamed_choice, choices_fault, inst
 use Rattle.zy_isa.specs.Scenario.{IsScenario, opening_pages_for, scenario_fault}
 use Rattle.zy_isa.proofs.ResultLemmas.{in_range, neither, not_over, out_of_neither, over_not}
 
+-- if no row after a key is misplaced, the rows rise from the number behind that key on
 rising_after : (last i : ℕ) (rows : List Row) → misplaced_after last i rows ≡ None → Rising (last + 1) rows
 rising_after last i [] e = tt
 rising_after last i (r ∷ rows) e =
@@ -31,10 +32,12 @@ pub rising : (rows : List Row) → misplaced_row rows ≡ None → Rising 0 rows
 rising [] e = tt
 rising (r ∷ rows) e = (omega arith, rising_after r.key 1 rows e)
 
+-- an option that maps to None is None
 no_option : {X Y : Type 0} (f : X → Y) (o : Option X) → option_map f o ≡ None → o ≡ None
 no_option f None h = refl
 no_option f (Some x) h = cc
 
+-- if no position passes a test, the first position that passes, or the length, is the length
 none_passes : {X : Type 0} (p : X → Bool) (xs : List X) → position p xs ≡ None → length xs ≤ position_or_len p xs
 none_passes p xs e =
     elim (cases_lt (position_or_len p xs) (length xs)) [
@@ -42,11 +45,13 @@ none_passes p xs e =
       | inr none ↦ none
     ]
 
+-- one step of the next: the first choice names a transaction that exists, and so do those behind it
 named_first : (count : ℕ) (c : Choice) (cs : List Choice) (b : Bool) → (length cs ≤ position_or_len (λ x. not (names_below count x)) cs → AreNamed count cs)
     → names_below count c ≡ b → length (c ∷ cs) ≤ cond (not (not b)) (1 + position_or_len (λ x. not (names_below count x)) cs) 0 → AreNamed count (c ∷ cs)
 named_first count c cs true rest e h = (e, rest (omega arith))
 named_first count c cs false rest e h = absurd (omega arith)
 
+-- if the search for a misnamed choice runs to the end of the list, each choice names a transaction that exists
 named_each : (count : ℕ) (choices : List Choice) → length choices ≤ position_or_len (λ c. not (names_below count c)) choices → AreNamed count choices
 named_each count [] h = tt
 named_each count (c ∷ cs) h = named_first count c cs (names_below count c) (named_each count cs) refl h
@@ -55,6 +60,7 @@ named_each count (c ∷ cs) h = named_first count c cs (names_below count c) (na
 pub are_named : (count : ℕ) (choices : List Choice) → misnamed_choice count choices ≡ None → AreNamed count choices
 are_named count choices e = named_each count choices (none_passes _ choices e)
 
+-- choices without a fault are at most 4096, and none is misnamed
 fit_if : (count : ℕ) (cs : List Choice) (b : Bool) → nat_lt 4096 (length cs) ≡ b
     → (if b then Some fault.ChoiceCount else option_map fault.Choice (misnamed_choice count cs)) ≡ None
     → (length cs ≤ 4096) × (misnamed_choice count cs ≡ None)
@@ -67,10 +73,12 @@ fit_choices count cs h =
     let f = fit_if count cs (nat_lt 4096 (length cs)) refl h in
     (f.0, are_named count cs f.1)
 
+-- where each choice names a transaction that exists, the search for a misnamed one runs to the end of the list
 all_named : (count : ℕ) (cs : List Choice) → AreNamed count cs → position_or_len (λ c. not (names_below count c)) cs ≡ length cs
 all_named count [] h = refl
 all_named count (c ∷ cs) h = rw h.0 (omega (arith, all_named count cs h.1))
 
+-- where each choice names a transaction that exists, none is misnamed
 pub none_misnamed : (count : ℕ) (cs : List Choice) → AreNamed count cs → misnamed_choice count cs ≡ None
 none_misnamed count cs h = rw (all_named count cs h, over_not (length cs) (length cs) (omega arith)) refl
 
@@ -84,22 +92,26 @@ past : {F : Type 0} (b : Bool) (f : F) (rest : Option F) → (if b then Some f e
 past true f rest h = cc
 past false f rest h = (refl, h)
 
+-- if neither of two options gave anything, both are None
 past_first : {F : Type 0} (first rest : Option F) → option_or first rest ≡ None → (first ≡ None) × (rest ≡ None)
 past_first None rest h = (refl, h)
 past_first (Some f) rest h = cc
 
 -- ---- instructions that a version has
 
+-- one step of the next: a version has the first instruction, and those behind it
 known_first : (version : Version) (n : ℕ) (i : Instr) (is : List Instr) (b : Bool) → has version i ≡ b
     → ((m : ℕ) → unknown_from version m is ≡ None → IsKnown version is)
     → (if b then unknown_from version (n + 1) is else Some n) ≡ None → IsKnown version (i ∷ is)
 known_first version n i is true e rest h = (e, rest (n + 1) h)
 known_first version n i is false e rest h = cc
 
+-- a version has each instruction of a list in which none is unknown to it
 is_known : (version : Version) (is : List Instr) (n : ℕ) → unknown_from version n is ≡ None → IsKnown version is
 is_known version [] n h = tt
 is_known version (i ∷ is) n h = known_first version n i is (has version i) refl (is_known version is) h
 
+-- if a version has each instruction of a list, none is unknown to it
 none_unknown : (version : Version) (n : ℕ) (is : List Instr) → IsKnown version is → unknown_from version n is ≡ None
 none_unknown version n [] h = refl
 none_unknown version n (i ∷ is) h = rw h.0 (none_unknown version (n + 1) is h.1)
@@ -111,6 +123,7 @@ are_known version t (p ∷ ps) e =
     let d = past_first (option_map (fault.Instruction t) (unknown version p)) _ e in
     (is_known version p 0 (no_option (fault.Instruction t) (unknown version p) d.0), are_known version (t + 1) ps d.1)
 
+-- programs whose instructions a version has, each one, have no fault of instructions
 pub no_instrs_fault : (version : Version) (t : ℕ) (ps : List (List Instr)) → AreKnown version ps → instrs_fault version t ps ≡ None
 no_instrs_fault version t [] h = refl
 no_instrs_fault version t (p ∷ ps) h = rw (none_unknown version 0 p h.0) (no_instrs_fault version (t + 1) ps h.1)
@@ -120,6 +133,7 @@ pub known_more : (version : Version) (is : List Instr) (i : Instr) → IsKnown v
 known_more version [] i h e = (e, tt)
 known_more version (x ∷ is) i h e = (h.0, known_more version is i h.1 e)
 
+-- a version has each instruction of each program when one more, whose instructions it has, is put at the end
 pub program_more : (version : Version) (ps : List (List Instr)) (p : List Instr) → AreKnown version ps → IsKnown version p → AreKnown version (ps ++ p ∷ [])
 program_more version [] p h e = (e, tt)
 program_more version (x ∷ ps) p h e = (h.0, program_more version ps p h.1 e)

@@ -7,16 +7,20 @@ use Rattle.zy_isa.specs.Versions.{word, magic, versions, named, marked}
 use Rattle.zy_isa.proofs.ResultLemmas.{same}
 use Rattle.zy_isa.proofs.OperationLemmas.{found_passes}
 
+-- the version that is found by a word has that word
 pub named_is : (w : List ℕ) (v : Version) → named w ≡ Some v → w ≡ word v
 named_is w v h = same w (word v) (found_passes (λ x. bytes_eq w (word x)) versions v h)
 
+-- the word of a version finds it
 pub named_back : (v : Version) → named (word v) ≡ Some v
 named_back One = refl
 named_back Two = refl
 
+-- the version that is found by the first bytes of an image has these bytes
 pub marked_is : (bytes : List ℕ) (v : Version) → marked bytes ≡ Some v → bytes ≡ magic v
 marked_is bytes v h = same bytes (magic v) (found_passes (λ x. bytes_eq bytes (magic x)) versions v h)
 
+-- the first bytes of a version's images find it
 pub marked_back : (v : Version) → marked (magic v) ≡ Some v
 marked_back One = refl
 marked_back Two = refl

@@ -23,9 +23,11 @@ use Rattle.zy_isa.proofs.OperationLemmas.{same_number, found_passes, coded_is, c
 
 -- ---- what the fields give has them
 
+-- the register in an option, if there is one, has this number
 abbrev Names : ℕ → Option Reg → Type 0
 Names n o = IfSome o (λ r. n ≡ number_of r)
 
+-- the register that is found by a number has that number
 register_names : (n : ℕ) → Names n (register_at n)
 register_names n = if_some (register_at n) (λ r. n ≡ number_of r) (λ r h. same_number n (number_of r) (found_passes (λ x. n == number_of x) registers r h))
   where
@@ -33,17 +35,21 @@ register_names n = if_some (register_at n) (λ r. n ≡ number_of r) (λ r h. sa
     if_some None P h = tt
     if_some (Some x) P h = h x refl
 
+-- the two registers in an option, if they are there, have these numbers
 abbrev NamePair : ℕ → ℕ → Option (Reg × Reg) → Type 0
 NamePair a b o = IfSome o (λ p. (a ≡ number_of p.0) × (b ≡ number_of p.1))
 
+-- two registers with these numbers make a pair with these numbers
 pair_names : (a b : ℕ) (x y : Option Reg) → Names a x → Names b y → NamePair a b (pair_of x y)
 pair_names a b None y g h = tt
 pair_names a b (Some x) None g h = tt
 pair_names a b (Some x) (Some y) g h = (g, h)
 
+-- the two registers that are found by two numbers have these numbers
 registers_name : (a b : ℕ) → NamePair a b (registers_at a b)
 registers_name a b = pair_names a b (register_at a) (register_at b) (register_names a) (register_names b)
 
+-- if what is in an option has P, and f takes each x with P to one with Q, what is in the mapped option has Q
 mapped : {X Y : Type 0} (f : X → Y) (o : Option X) (P : X → Type 0) (Q : Y → Type 0) → ((x : X) → P x → Q (f x)) → IfSome o P → IfSome (option_map f o) Q
 mapped f None P Q k h = tt
 mapped f (Some x) P Q k h = k x h
@@ -56,6 +62,7 @@ module _ (o : Operation) (a b n : ℕ) where
   abbrev MayHave : Option Parts → Type 0
   MayHave x = IfSome x Has
 
+-- operands that are read from three fields fit, and make the word of these fields
 parts_have : (o : Operation) (a b n : ℕ) → n < 2 ^ 32 → MayHave o a b n (parts_at o a b n)
 parts_have (op.Number o) a b n v =
     cond_both (b == 0) _ _ (MayHave (op.Number o) a b n)
@@ -74,6 +81,7 @@ parts_have (op.Lone o) a b n v =
     let y = both (a == 0) (b == 0) x.0 in
     (tt, rw (same_number a 0 y.0, same_number b 0 y.1, same_number n 0 x.1) refl)) (λ _. tt)
 
+-- the instruction that is read from four fields, if there is one, has values that fit, and these fields as its word
 instr_has : (k a b n : ℕ) (x : Option Operation) → coded k ≡ x → n < 2 ^ 32 → IfSome (instr_at x a b n) (λ i. HasValue i × (word k a b n ≡ word_of i))
 instr_has k a b n None e v = tt
 instr_has k a b n (Some o) e v =
@@ -87,15 +95,18 @@ instr_has k a b n (Some o) e v =
 abbrev pub number_bytes : List ℕ → List ℕ
 number_bytes w = get_or w 4 0 ∷ get_or w 5 0 ∷ get_or w 6 0 ∷ get_or w 7 0 ∷ []
 
+-- the bytes from index k on are the byte at k and the bytes behind it
 more : (w : List ℕ) (k : ℕ) (x : List ℕ) → k < length w → drop (k + 1) w ≡ x → drop k w ≡ get_or w k 0 ∷ x
 more w k x p e = drop_more w k 0 p ∙ ap (λ y. get_or w k 0 ∷ y) e
 
+-- a word of eight bytes is four bytes and the four of its number
 eight : (w : List ℕ) → length w ≡ 8 → w ≡ get_or w 0 0 ∷ get_or w 1 0 ∷ get_or w 2 0 ∷ get_or w 3 0 ∷ number_bytes w
 eight w q =
     more w 0 _ (omega (arith, q)) (more w 1 _ (omega (arith, q)) (more w 2 _ (omega (arith, q)) (more w 3 _ (omega (arith, q)) (
     more w 4 _ (omega (arith, q))
     (more w 5 _ (omega (arith, q)) (more w 6 _ (omega (arith, q)) (more w 7 _ (omega (arith, q)) (drop_all 8 w (omega (arith, q))))))))))
 
+-- the bytes of the number of a word are below 256 if those of the word are
 number_fits : (w : List ℕ) → ((i : ℕ) → get_or w i 0 < 256) → (i : ℕ) → get_or (number_bytes w) i 0 < 256
 number_fits w h zero = h 4
 number_fits w h (suc zero) = h 5
@@ -103,6 +114,7 @@ number_fits w h (suc (suc zero)) = h 6
 number_fits w h (suc (suc (suc zero))) = h 7
 number_fits w h (suc (suc (suc (suc i)))) = omega arith
 
+-- eight bytes whose fourth is 0 are the word of their own fields
 word_again : (w : List ℕ) (n : ℕ) → length w ≡ 8 → ((i : ℕ) → get_or w i 0 < 256) → get_or w 3 0 ≡ 0 → n ≡ from_be_bytes w32 (number_bytes w)
     → word (get_or w 0 0) (get_or w 1 0) (get_or w 2 0) n ≡ w
 word_again w n len fits z e =
@@ -110,6 +122,7 @@ word_again w n len fits z e =
     ap (λ x. get_or w 0 0 ∷ get_or w 1 0 ∷ get_or w 2 0 ∷ 0 ∷ x) bytes ∙ ap (λ x. get_or w 0 0 ∷ get_or w 1 0 ∷ get_or w 2 0 ∷ x ∷ number_bytes w) (sym z)
     ∙ sym (eight w len)
 
+-- eight bytes are the word of the instruction that their fields give, if they give one
 pub found : (w : List ℕ) (n : ℕ) (o : Option Instr) → length w ≡ 8 → ((i : ℕ) → get_or w i 0 < 256) → get_or w 3 0 ≡ 0 → n ≡ from_be_bytes w32 (number_bytes w)
     → n < 2 ^ 32
     → o ≡ instr_at (coded (get_or w 0 0)) (get_or w 1 0) (get_or w 2 0) n → IfSome o (IsWordOf w)
@@ -120,6 +133,7 @@ found w n o len fits z e v g =
 
 -- ---- the fields of an instruction give it
 
+-- the number of a register finds it
 register_back : (r : Reg) → register_at (number_of r) ≡ Some r
 register_back R0 = refl
 register_back R1 = refl
@@ -130,15 +144,18 @@ register_back R5 = refl
 register_back R6 = refl
 register_back R7 = refl
 
+-- the instruction that the fields of a word give, if there is one
 abbrev given : List ℕ → Option Instr
 given w = instr_at (coded (get_or w 0 0)) (get_or w 1 0) (get_or w 2 0) (from_be_bytes w32 (number_bytes w))
 
+-- the word of operands that fit gives their instruction
 back : (p : Parts) → PartsFit p → given (word_with p) ≡ Some (instr_with p)
 back (Number o a n) v = rw (coded_back (op.Number o), from_be_bytes-to_be_bytes_4 n v, register_back a) refl
 back (Pair o a b) v = rw (coded_back (op.Pair o), register_back a, register_back b) refl
 back (Jump o a b n) v = rw (coded_back (op.Jump o), from_be_bytes-to_be_bytes_4 n v, register_back a, register_back b) refl
 back (Lone o) v = rw (coded_back (op.Lone o)) refl
 
+-- if the bytes are the word of an instruction, their fields give that instruction
 pub only : (w : List ℕ) (n : ℕ) (o : Option Instr) → n ≡ from_be_bytes w32 (number_bytes w)
     → o ≡ instr_at (coded (get_or w 0 0)) (get_or w 1 0) (get_or w 2 0) n
     → (i : Instr) → IsWordOf w i → o ≡ Some i
@@ -146,11 +163,13 @@ only w n o e g i h = g ∙ ap (instr_at (coded (get_or w 0 0)) (get_or w 1 0) (g
 
 -- ---- eight bytes
 
+-- the bytes of a word of eight from the fifth on are those of its number
 back_of_eight : (w : List ℕ) → length w ≡ 8 → drop 4 w ≡ number_bytes w
 back_of_eight w q =
     more w 4 _ (omega (arith, q))
     (more w 5 _ (omega (arith, q)) (more w 6 _ (omega (arith, q)) (more w 7 _ (omega (arith, q)) (drop_all 8 w (omega (arith, q))))))
 
+-- the number of four bytes is below 2^32
 four_fit : (bs : List ℕ) → length bs ≡ 4 → ((i : ℕ) → get_or bs i 0 < 256) → from_be_bytes w32 bs < 2 ^ 32
 four_fit [] h f = absurd (omega (arith, h))
 four_fit (a ∷ []) h f = absurd (omega (arith, h))
@@ -168,6 +187,7 @@ decoded_found w len fits =
     cond_both (get_or w 3 0 == 0) _ _ (λ o. IfSome o (IsWordOf w))
     (λ z. found w number _ len fits (same_number (get_or w 3 0) 0 z) e v refl) (λ _. tt)
 
+-- the word of operands that fit decodes to their instruction
 decoded_back : (p : Parts) → PartsFit p → decoded (word_with p) ≡ Some (instr_with p)
 decoded_back (Number o a n) v = back (Number o a n) v
 decoded_back (Pair o a b) v = back (Pair o a b) v
@@ -180,6 +200,7 @@ decoded_only i v = decoded_back (parts_of i) v ∙ ap Some (instr_again i)
 
 -- ---- a word that is known to be one
 
+-- the number of a register reads as that register
 register_read : (r : Reg) → register_in (number_of r) ≡ r
 register_read R0 = refl
 register_read R1 = refl
@@ -190,6 +211,7 @@ register_read R5 = refl
 register_read R6 = refl
 register_read R7 = refl
 
+-- the word of operands that fit reads as their instruction
 reads_parts : (p : Parts) → PartsFit p → instr_in (word_with p) ≡ instr_with p
 reads_parts (Number o a n) v = rw (coded_back (op.Number o), from_be_bytes-to_be_bytes_4 n v, register_read a) refl
 reads_parts (Pair o a b) v = rw (coded_back (op.Pair o), register_read a, register_read b) refl
@@ -200,5 +222,6 @@ reads_parts (Lone o) v = rw (coded_back (op.Lone o)) refl
 pub word_gives : (i : Instr) → HasValue i → instr_in (word_of i) ≡ i
 word_gives i v = reads_parts (parts_of i) v ∙ instr_again i
 
+-- the word of an instruction whose value fits is that of the instruction that it reads as
 pub is_word : (i : Instr) → HasValue i → IsWordOf (word_of i) (instr_in (word_of i))
 is_word i v = rw (word_gives i v) (v, refl)
