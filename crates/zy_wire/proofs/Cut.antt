@@ -58,6 +58,7 @@ pub record Middle (nodes : List Knot) (c : ℕ) : Type 0 where
   pub up : low_of (node nodes c) < middle nodes c
   pub down : middle nodes c < (node nodes c).end
 
+-- a full node that fits has its middle between its least key and its end
 pub middle_of : (nodes : List Knot) (c : ℕ) → Fits nodes (node nodes c) → length (node nodes c).entries ≡ 8 → Middle nodes c
 middle_of nodes c fits full =
     let n = node nodes c in
@@ -68,12 +69,14 @@ middle_of nodes c fits full =
     let down = low_below 0 4 d n.entries n.end fits.rise (omega arith) in
     record { up = omega arith; down = omega arith }
 
+-- a full child is not the node above it
 apart : (nodes : List Knot) (root top p c i : ℕ) → IsTree nodes root top → Full nodes p c i → p ≡ c → ⊥
 apart nodes root top p c i t f same =
     let kid = child nodes root top p c i (record { low = 0; to = 0 }) t f in
     let level = ap (λ x. (node nodes x).level) same in
     omega (arith, kid.level)
 
+-- the nodes afterwards are those of a cut
 pub Cut-is : (nodes : List Knot) (root top p c i : ℕ) → IsTree nodes root top → Full nodes p c i → Cut nodes (after nodes p c i) p c i
 Cut-is nodes root top p c i t f =
     let kid = child nodes root top p c i (record { low = 0; to = 0 }) t f in
@@ -125,6 +128,7 @@ lower_kid nodes nodes' root top p c i d t f k =
       end = ap (λ (m : Knot). m.end) k.lower;
     }
 
+-- the same for the upper half, which is the new node
 upper_kid : (nodes nodes' : List Knot) (root top p c i : ℕ) (d : Entry) → IsTree nodes root top → Full nodes p c i → Cut nodes nodes' p c i
     → IsKid nodes' (node nodes p).level (middle nodes c) (front (drop (suc i) (node nodes p).entries) (node nodes p).end) (length nodes)
 upper_kid nodes nodes' root top p c i d t f k =
@@ -188,6 +192,7 @@ child_kept nodes nodes' root top p c i t f k there up =
     kept nodes nodes' root top p c i (get_or n.entries j d).to t f k at.there (λ same. let e = ap (λ x. (node nodes x).level) same in omega (arith, at.level)))
     kids
 
+-- the lower half fits among the nodes afterwards
 lower_fits : (nodes nodes' : List Knot) (root top p c i : ℕ) → IsTree nodes root top → Full nodes p c i → Cut nodes nodes' p c i → c < length nodes
     → Fits nodes' (lower_half (node nodes c))
 lower_fits nodes nodes' root top p c i t f k there =
@@ -198,6 +203,7 @@ lower_fits nodes nodes' root top p c i t f k there =
       kids = λ up. Kids-take nodes' n.level n.end 4 n.entries (child_kept nodes nodes' root top p c i t f k there up);
     }
 
+-- the same for the upper half
 upper_fits : (nodes nodes' : List Knot) (root top p c i : ℕ) → IsTree nodes root top → Full nodes p c i → Cut nodes nodes' p c i → c < length nodes
     → Fits nodes' (upper_half (node nodes c))
 upper_fits nodes nodes' root top p c i t f k there =
@@ -226,6 +232,7 @@ record Was (nodes nodes' : List Knot) (c x k : ℕ) : Type 0 where
   level : (node nodes' x).level ≡ (node nodes old).level
   is : ((x ≡ old) × (x ≡ c → k < middle nodes c)) ⊎ ((x ≡ length nodes) × (old ≡ c) × (middle nodes c ≤ k))
 
+-- each node that has a key after the cut comes from one that had it before
 was : (nodes nodes' : List Knot) (root top p c i x k : ℕ) → IsTree nodes root top → Full nodes p c i → Cut nodes nodes' p c i → IsAt nodes' x k
     → Was nodes nodes' c x k
 was nodes nodes' root top p c i x k t f cut h =
@@ -266,6 +273,7 @@ was nodes nodes' root top p c i x k t f cut h =
           }
     ]
 
+-- two nodes that come from one old node and have one key are the same node
 one : (nodes nodes' : List Knot) (c a b k : ℕ) (x : Was nodes nodes' c a k) (y : Was nodes nodes' c b k) → x.old ≡ y.old → a ≡ b
 one nodes nodes' c a b k x y same =
     elim x.is [
@@ -279,6 +287,7 @@ one nodes nodes' c a b k x y same =
       ]
     ]
 
+-- a tree of which a full node is cut is a tree with the same root
 pub IsTree-cut : (nodes nodes' : List Knot) (root top p c i : ℕ) → IsTree nodes root top → Full nodes p c i → Cut nodes nodes' p c i → IsTree nodes' root top
 IsTree-cut nodes nodes' root top p c i t f k =
     let d : Entry = record { low = 0; to = 0 } in
@@ -323,6 +332,7 @@ IsTree-cut nodes nodes' root top p c i t f k =
           one nodes nodes' c a b key x y (t.once x.old y.old key x.at y.at (sym x.level ∙ (level ∙ y.level)));
     }
 
+-- the nodes after a cut agree with the low keys of the pages as they did before
 pub Holds-cut : (lows : List ℕ) (nodes nodes' : List Knot) (root top p c i : ℕ) → IsTree nodes root top → Full nodes p c i → Cut nodes nodes' p c i
     → Holds lows nodes → Holds lows nodes'
 Holds-cut lows nodes nodes' root top p c i t f k holds = λ x lt.
@@ -379,6 +389,7 @@ pub record Writes (nodes pushed : List Knot) (p c ip ic at : ℕ) (x l u y w : K
   pub read_p : y ≡ get_or pushed ip y
   pub wide : w ≡ record { level = y.level; end = y.end; entries = insert y.entries at new }
 
+-- the nodes as they are written are the nodes after a cut
 pub after_is : (nodes pushed : List Knot) (root top p c i ip ic at : ℕ) (x l u y w : Knot) (new : Entry) → IsTree nodes root top → Full nodes p c i → at ≡ suc i
     → Writes nodes pushed p c ip ic at x l u y w new → set pushed ip w ≡ after nodes p c i
 after_is nodes pushed root top p c i ip ic at x l u y w new t f place h =
@@ -410,6 +421,7 @@ pub record Ready (nodes : List Knot) (root top p c k : ℕ) : Type 0 where
   pub leads : LeadsTo k (node nodes p).entries c
   pub full : length (node nodes c).entries ≡ 8
 
+-- a node that is ready to be cut is a full child of the node above it
 pub full_of : (nodes : List Knot) (root top p c k : ℕ) (r : Ready nodes root top p c k) → Full nodes p c r.leads.at
 full_of nodes root top p c k r = record {
   there = r.at.there;
@@ -419,9 +431,11 @@ full_of nodes root top p c k r = record {
   full = r.full;
 }
 
+-- a node that is ready to be cut is among the nodes
 pub child_there : (nodes : List Knot) (root top p c k : ℕ) → Ready nodes root top p c k → c < length nodes
 child_there nodes root top p c k r = (child nodes root top p c r.leads.at (record { low = 0; to = 0 }) r.tree (full_of nodes root top p c k r)).there
 
+-- a node that is ready to be cut has 8 entries where it is read
 pub child_full : (nodes : List Knot) (root top p c k ic : ℕ) (x : Knot) → Ready nodes root top p c k → ic ≡ c → x ≡ get_or nodes ic x → length x.entries ≡ 8
 child_full nodes root top p c k ic x r here read =
     let same : x ≡ node nodes c = get_or_read nodes c x (child_there nodes root top p c k r) (rw here at read) no_knot in

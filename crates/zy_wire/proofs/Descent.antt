@@ -5,6 +5,7 @@ use Rattle.zy_wire.specs.ByLow.{front, Leads}
 use Rattle.zy_wire.specs.Nodes.{Knot, node, IsKid, Kids, LeadsTo, Fits, IsAt}
 use Rattle.zy_wire.proofs.Entries.{below_front}
 
+-- the entry at an index has a node of the level below, with the keys from its low key up to the next entry
 pub kid_at : (nodes : List Knot) (level end at : ℕ) (d : Entry) (es : List Entry) → Kids nodes level end es → at < length es
     → IsKid nodes level (get_or es at d).low (front (drop (suc at) es) end) (get_or es at d).to
 kid_at nodes level end at d [] h lt = absurd (omega arith)
@@ -17,6 +18,7 @@ pub record Below (nodes : List Knot) (n : Knot) (id k : ℕ) : Type 0 where
   pub level : (node nodes id).level + 1 ≡ n.level
   pub leads : LeadsTo k n.entries id
 
+-- the last entry whose low key is not above k leads to a node of the level below that has k
 pub below : (nodes : List Knot) (n : Knot) (k : ℕ) (e : Entry) → Fits nodes n → 1 ≤ n.level → k < n.end → Leads k n.entries e → Below nodes n e.to k
 below nodes n k e fits up lt l =
     let within : l.at < length n.entries = omega (arith, l.place.0) in

@@ -24,6 +24,7 @@ pub record Enters (nodes : List Knot) (id at : ℕ) (e : Entry) : Type 0 where
   pub place : IsPlace e.low (node nodes id).entries at
   pub fresh : All (λ (x : Entry). x.low ≡ e.low → ⊥) (node nodes id).entries
 
+-- each node has the level and the keys that it had before the entry
 same_node : (nodes : List Knot) (root top id at : ℕ) (e : Entry) → IsTree nodes root top → Enters nodes id at e → (x : ℕ)
     → Same nodes (set nodes id (with (node nodes id) at e)) x
 same_node nodes root top id at e t h x =
@@ -42,6 +43,7 @@ same_node nodes root top id at e t h x =
       | inr other ↦ Same-is nodes nodes' x (get_or-set_other nodes id x (with n at e) no_knot other)
     ]
 
+-- a tree with one entry more in a node of level 0 is a tree with the same root
 pub IsTree-entered : (nodes : List Knot) (root top id at : ℕ) (e : Entry) → IsTree nodes root top → Enters nodes id at e
     → IsTree (set nodes id (with (node nodes id) at e)) root top
 IsTree-entered nodes root top id at e t h =
@@ -88,6 +90,7 @@ whole_here lows n at e le last whole = λ p lt low below.
       | inr new ↦ (let here : e.to ≡ p = omega arith in subst (EntryOf (insert n.entries at e)) here (EntryOf-new at e n.entries le))
     ]
 
+-- the nodes with the entry of a new page agree with the low keys, of which the new page's is the last
 pub Holds-entered : (lows : List ℕ) (nodes : List Knot) (root top id at : ℕ) (e : Entry) → IsTree nodes root top → Enters nodes id at e → e.to ≡ length lows
     → Holds lows nodes
     → Holds (lows ++ e.low ∷ []) (set nodes id (with (node nodes id) at e))

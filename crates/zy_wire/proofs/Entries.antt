@@ -6,20 +6,24 @@ use Rattle.std.proofs.lemmas.Bool.{cases_lt, cases_order}
 use Rattle.zy_wire.specs.declared.entry.Entry.{Entry}
 use Rattle.zy_wire.specs.ByLow.{front, Rise, IsPlace}
 
+-- no low key of entries that rise from a number on is below that number
 pub low_from : (from i : ℕ) (d : Entry) (es : List Entry) (end : ℕ) → Rise from es end → i < length es → from ≤ (get_or es i d).low
 low_from from i d [] end h lt = absurd (omega arith)
 low_from from zero d (e ∷ es) end h lt = h.0
 low_from from (suc i) d (e ∷ es) end h lt = omega (arith, h.0, low_from (e.low + 1) i d es end h.1 (omega arith))
 
+-- the number that entries rise from is at most their end
 pub from_end : (from : ℕ) (es : List Entry) (end : ℕ) → Rise from es end → from ≤ end
 from_end from [] end h = h
 from_end from (e ∷ es) end h = omega (arith, h.0, from_end (e.low + 1) es end h.1)
 
+-- each low key of entries that rise is below their end
 pub low_below : (from i : ℕ) (d : Entry) (es : List Entry) (end : ℕ) → Rise from es end → i < length es → (get_or es i d).low < end
 low_below from i d [] end h lt = absurd (omega arith)
 low_below from zero d (e ∷ es) end h lt = omega (arith, from_end (e.low + 1) es end h.1)
 low_below from (suc i) d (e ∷ es) end h lt = low_below (e.low + 1) i d es end h.1 (omega arith)
 
+-- of two entries that rise, the later one has the greater low key
 pub low_rises : (from i j : ℕ) (d : Entry) (es : List Entry) (end : ℕ) → Rise from es end → i < j → j < length es → (get_or es i d).low < (get_or es j d).low
 low_rises from i j d [] end h up lt = absurd (omega arith)
 low_rises from i zero d (e ∷ es) end h up lt = absurd (omega arith)
@@ -47,6 +51,7 @@ front_drop i d [] end lt = absurd (omega arith)
 front_drop zero d (e ∷ es) end lt = refl
 front_drop (suc i) d (e ∷ es) end lt = front_drop i d es end (omega arith)
 
+-- behind the last entry, the first low key is the end
 pub front_past : (i : ℕ) (es : List Entry) (end : ℕ) → length es ≤ i → front (drop i es) end ≡ end
 front_past zero [] end le = refl
 front_past (suc i) [] end le = refl
@@ -67,10 +72,12 @@ pub Rise-lift : (from to : ℕ) (es : List Entry) (end : ℕ) → Rise from es e
 Rise-lift from to [] end h le = le
 Rise-lift from to (e ∷ es) end h le = (le, h.1)
 
+-- entries that rise from a number on have their first low key at that number or above it
 pub front_from : (from : ℕ) (es : List Entry) (end : ℕ) → Rise from es end → from ≤ front es end
 front_from from [] end h = h
 front_from from (e ∷ es) end h = h.0
 
+-- the first low key of entries that rise is at most their end
 pub front_end : (from : ℕ) (es : List Entry) (end : ℕ) → Rise from es end → front es end ≤ end
 front_end from [] end h = omega arith
 front_end from (e ∷ es) end h = omega (arith, from_end (e.low + 1) es end h.1)
@@ -82,6 +89,7 @@ Rise-take from (suc i) [] end h = h
 Rise-take from zero (e ∷ es) end h = h.0
 Rise-take from (suc i) (e ∷ es) end h = (h.0, Rise-take (e.low + 1) i es end h.1)
 
+-- the entries from index i on rise as they did among the others
 pub Rise-drop : (from i : ℕ) (es : List Entry) (end : ℕ) → Rise from es end → Rise from (drop i es) end
 Rise-drop from zero [] end h = h
 Rise-drop from (suc i) [] end h = h
@@ -101,11 +109,13 @@ Rise-insert from (suc i) new (e ∷ es) end h le low before after = (
       (λ j d lt. before (suc j) d (omega arith)) after,
 )
 
+-- an entry put behind the first one leaves the first low key as it is
 pub front-insert : (i : ℕ) (new : Entry) (es : List Entry) (end : ℕ) → 1 ≤ i → 1 ≤ length es → front (insert es i new) end ≡ front es end
 front-insert i new [] end up some = absurd (omega arith)
 front-insert zero new (e ∷ es) end up some = absurd (omega arith)
 front-insert (suc i) new (e ∷ es) end up some = refl
 
+-- the first i entries, which end where the others begin, have the first low key of all
 pub front-take : (i : ℕ) (es : List Entry) (end : ℕ) → front (take i es) (front (drop i es) end) ≡ front es end
 front-take zero [] end = refl
 front-take (suc i) [] end = refl

@@ -6,9 +6,11 @@ use Rattle.std.proofs.lemmas.List.{get_or_append_left, get_or_at, get_or_default
 use Rattle.zy_wire.specs.Nodes.{Knot}
 use Rattle.zy_wire.specs.Pages.{Holds, IsSound}
 
+-- the square of n + 1
 square : (n : ℕ) → (n + 1) * (n + 1) ≡ n * n + 2 * n + 1
 square n = omega arith
 
+-- a sound wireframe with one more page, whose low key is new, and with at most top + 2 more nodes is sound
 pub IsSound-grown : (pages low : ℕ) (lows : List ℕ) (nodes nodes' : List Knot) (top top' : ℕ) → IsSound pages lows nodes top → (Contains lows low → ⊥)
     → low < 65536 → length lows < pages
     → Holds (lows ++ low ∷ []) nodes' → top' ≤ top + 1 → length nodes' ≤ length nodes + top + 2 → IsSound pages (lows ++ low ∷ []) nodes' top'

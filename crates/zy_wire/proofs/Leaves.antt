@@ -19,6 +19,7 @@ pub record Leaf (lows : List ℕ) (n : Knot) (k : ℕ) : Type 0 where
   pub low : low_of n ≤ k
   pub below : k < n.end
 
+-- the node of level 0 that has a key is one of the nodes, which agree with the pages
 pub leaf_of : (lows : List ℕ) (nodes : List Knot) (k : ℕ) (n : Knot) → Holds lows nodes → LeafAt nodes k n → Leaf lows n k
 leaf_of lows nodes k n holds l = record {
   has = subst (Has lows) (sym l.is) (holds l.id l.at.there);
@@ -45,6 +46,7 @@ no_later lows n k at q d l place e le =
       | inr (inr past) ↦ absurd (let over = place.2 e.at d (omega arith) e.within in omega arith)
     ]
 
+-- the last entry whose low key is not above k is of the page that k lies on
 pub page_at : (lows : List ℕ) (n : Knot) (k : ℕ) (e : Entry) → Apart lows → Leaf lows n k → Leads k n.entries e → PageAt lows k e.to
 page_at lows n k e apart l leads =
     let d = leads.is e in
@@ -72,6 +74,7 @@ pub record Next (lows : List ℕ) (k end : ℕ) : Type 0 where
   pub key : (end ≡ 65536) ⊎ Contains lows end
   pub least : (q : ℕ) → q < length lows → k < get_or lows q 0 → end ≤ get_or lows q 0
 
+-- the first low key behind the place of k is the least low key above k, or the node's end
 pub next_at : (lows : List ℕ) (n : Knot) (k i : ℕ) → Leaf lows n k → IsPlace k n.entries i → Next lows k (front (drop i n.entries) n.end)
 next_at lows n k i l place =
     let d : Entry = record { low = 0; to = 0 } in
@@ -97,11 +100,13 @@ next_at lows n k i l place =
       ];
     }
 
+-- where that number is a key, it is the least low key above k
 pub next_some : (lows : List ℕ) (k end : ℕ) → Next lows k end → end < 65536 → IsNext lows k (Some end)
 next_some lows k end next lt =
     let key : Contains lows end = elim next.key [ inl none ↦ absurd (omega arith) | inr key ↦ key ] in
     (key, next.over, next.least)
 
+-- where that number is above all keys, no low key is above k
 pub next_none : (lows : List ℕ) (k end : ℕ) → Small lows → Next lows k end → 65536 ≤ end → IsNext lows k None
 next_none lows k end small next le = λ q in'. elim (cases_lt k (get_or lows q 0)) [
   | inl up ↦ absurd (let least = next.least q in' up in let s = small q in' in omega arith)

@@ -12,12 +12,14 @@ record Lies (lows : List ℕ) (k : ℕ) : Type 0 where
   below : get_or lows (page_of lows k) 0 ≤ k
   most : (i : ℕ) → i < length lows → get_or lows i 0 ≤ k → get_or lows i 0 ≤ get_or lows (page_of lows k) 0
 
+-- the page that k lies on is there, and has the greatest low key that is not above k, where page 0 is at 0
 lies : (more : List ℕ) (k : ℕ) → Lies (0 ∷ more) k
 lies more k =
     let lows = 0 ∷ more in
     let greatest = page_of-greatest lows k in
     record { within = page_of-within lows k (omega arith); below = (greatest 0 (omega arith) (omega arith)).0; most = λ i lt le. (greatest i lt le).1 }
 
+-- no page before the one that k lies on has the same low key
 first_there : (more : List ℕ) (k i : ℕ) → i < page_of (0 ∷ more) k → get_or (0 ∷ more) i 0 ≡ get_or (0 ∷ more) (page_of (0 ∷ more) k) 0 → ⊥
 first_there more k i lt same = page_of-first (0 ∷ more) k i lt (same ∙ low_of_page (0 ∷ more) k 0 (omega arith) (omega arith))
 

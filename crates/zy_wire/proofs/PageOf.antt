@@ -15,6 +15,7 @@ low_under-le (low ∷ lows) k =
     (λ e. omega (arith, rest, leb-true low k e))
     (λ _. rest)
 
+-- a low key that is not above k is at most the greatest of these
 pub le-low_under : (lows : List ℕ) (k i : ℕ) → i < length lows → get_or lows i 0 ≤ k → get_or lows i 0 ≤ low_under lows k
 le-low_under [] k i lt le = absurd (omega arith)
 le-low_under (low ∷ lows) k zero lt le = rw (le-leb low k le) (omega arith)
@@ -24,6 +25,7 @@ le-low_under (low ∷ lows) k (suc i) lt le =
     (λ _. omega (arith, rest))
     (λ _. rest)
 
+-- a number that no low key up to k exceeds is not below the greatest of these
 pub low_under-most : (lows : List ℕ) (k m : ℕ) → ((i : ℕ) → i < length lows → get_or lows i 0 ≤ k → get_or lows i 0 ≤ m) → low_under lows k ≤ m
 low_under-most [] k m most = omega arith
 low_under-most (low ∷ lows) k m most =
@@ -41,6 +43,7 @@ first_at q (x ∷ xs) (suc i) lt passes fails =
     let rest = first_at q xs i (omega arith) passes (λ j below. fails (suc j) (omega arith)) in
     rw (fails 0 (omega arith)) (omega (arith, rest))
 
+-- the number at the first place at which a test passes does pass it
 passes_there : (q : ℕ → Bool) (xs : List ℕ) → position_or_len q xs < length xs → q (get_or xs (position_or_len q xs) 0) ≡ true
 passes_there q [] lt = absurd (omega arith)
 passes_there q (x ∷ xs) lt =
@@ -53,6 +56,7 @@ passes_there q (x ∷ xs) lt =
           rw (e, next) (passes_there q xs (omega (arith, within)))
     ]
 
+-- where a number of the list passes a test, the first place at which it passes is in the list
 found : (q : ℕ → Bool) (xs : List ℕ) (i : ℕ) → i < length xs → q (get_or xs i 0) ≡ true → position_or_len q xs < length xs
 found q [] i lt passes = absurd (omega arith)
 found q (x ∷ xs) zero lt passes = rw passes (omega arith)
@@ -84,6 +88,7 @@ page_of-within lows k some =
     let n = position_or_len (λ low. eqb low (low_under lows k)) lows in
     cond_both (ltb n (length lows)) (Some n) None (λ o. unwrap_or o 0 < length lows) (λ e. ltb-true _ _ e) (λ _. some)
 
+-- a number before the first place at which a test passes does not pass it
 before_first : (q : ℕ → Bool) (xs : List ℕ) (i : ℕ) → i < position_or_len q xs → q (get_or xs i 0) ≡ false
 before_first q [] i lt = absurd (omega arith)
 before_first q (x ∷ xs) zero lt =
@@ -146,6 +151,7 @@ low_of_page lows k i lt le =
       | inr one ↦ (let within = found q lows one.0 one.1 (eq-eqb _ _ one.2) in absurd (omega arith))
     ])
 
+-- the page that k lies on has the greatest low key that is not above k, where there is one
 pub page_of-greatest : (lows : List ℕ) (k : ℕ) → IsGreatest lows k (page_of lows k)
 page_of-greatest lows k = λ q lt le.
     let low = low_of_page lows k q lt le in
@@ -153,6 +159,7 @@ page_of-greatest lows k = λ q lt le.
     let up = le-low_under lows k q lt le in
     (omega arith, omega arith)
 
+-- keys with one greatest low key under them lie on one page
 page_by_low : (lows : List ℕ) (a k : ℕ) → low_under lows a ≡ low_under lows k → page_of lows a ≡ page_of lows k
 unfolding page_of
 page_by_low lows a k e = ap (λ m. unwrap_or (position (λ low. eqb low m) lows) 0) e

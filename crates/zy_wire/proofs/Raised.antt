@@ -15,12 +15,15 @@ use Rattle.zy_wire.proofs.Held.{key_at}
 abbrev pub above : ℕ → ℕ → Knot
 above root top = record { level = top + 1; end = 65536; entries = record { low = 0; to = root } ∷ [] }
 
+-- a node is what it was when one more is put behind the others
 old_node : (nodes : List Knot) (n : Knot) (x : ℕ) → x < length nodes → node (nodes ++ n ∷ []) x ≡ node nodes x
 old_node nodes n x lt = get_or_append_left nodes (n ∷ []) no_knot x lt
 
+-- the last node is the one that is put behind the others
 new_node : (nodes : List Knot) (n : Knot) → node (nodes ++ n ∷ []) (length nodes) ≡ n
 new_node nodes n = get_or_at nodes n [] no_knot (length nodes) refl
 
+-- a tree with a new root above its old one is a tree, with one level more
 pub IsTree-raised : (nodes : List Knot) (root top : ℕ) → IsTree nodes root top → IsTree (nodes ++ above root top ∷ []) (length nodes) (top + 1)
 IsTree-raised nodes root top t =
     let n = above root top in
@@ -80,6 +83,7 @@ IsTree-raised nodes root top t =
       ];
     }
 
+-- the nodes with a new root agree with the low keys of the pages
 pub Holds-raised : (lows : List ℕ) (nodes : List Knot) (root top : ℕ) → IsTree nodes root top → Holds lows nodes → Holds lows (nodes ++ above root top ∷ [])
 Holds-raised lows nodes root top t h = λ id lt.
     let n = above root top in

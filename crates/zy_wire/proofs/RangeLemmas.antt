@@ -31,6 +31,7 @@ ends lows p k (Some end) next on = elim (cases_lt k end) [
       omega arith)
 ]
 
+-- a test that is true if and only if two numbers are equal is the test for their equality
 told : (b : Bool) (q p : ℕ) → (b ≡ true → q ≡ p) → (q ≡ p → b ≡ true) → b ≡ eqb q p
 told true q p on from = sym (eq-eqb q p (on refl))
 told false q p on from = sym (ne_eqb q p (λ same. true≢false (sym (from same))))

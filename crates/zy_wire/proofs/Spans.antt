@@ -13,14 +13,17 @@ pub record Same (nodes nodes' : List Knot) (x : ℕ) : Type 0 where
   pub low : low_of (node nodes' x) ≡ low_of (node nodes x)
   pub end : (node nodes' x).end ≡ (node nodes x).end
 
+-- a node that is what it was has the level and the keys that it had
 pub Same-is : (nodes nodes' : List Knot) (x : ℕ) → node nodes' x ≡ node nodes x → Same nodes nodes' x
 Same-is nodes nodes' x e = record { level = ap (λ (n : Knot). n.level) e; low = ap (λ (n : Knot). low_of n) e; end = ap (λ (n : Knot). n.end) e }
 
+-- a child that has the level and the keys that it had is still a child
 pub IsKid-lift : (nodes nodes' : List Knot) (above from to id : ℕ) → length nodes ≤ length nodes' → Same nodes nodes' id → IsKid nodes above from to id
     → IsKid nodes' above from to id
 IsKid-lift nodes nodes' above from to id more same h =
     record { there = (let t = h.there in omega arith); level = ap (λ n. n + 1) same.level ∙ h.level; low = same.low ∙ h.low; end = same.end ∙ h.end }
 
+-- the same for the children of all entries
 pub Kids-lift : (nodes nodes' : List Knot) (level end : ℕ) (es : List Entry) → length nodes ≤ length nodes'
     → ((j : ℕ) (d : Entry) → j < length es → Same nodes nodes' (get_or es j d).to) → Kids nodes level end es → Kids nodes' level end es
 Kids-lift nodes nodes' level end [] more same h = tt
@@ -36,6 +39,7 @@ Kids-take nodes level end (suc i) [] h = tt
 Kids-take nodes level end zero (e ∷ es) h = tt
 Kids-take nodes level end (suc i) (e ∷ es) h = (rw (front-take i es end) h.0, Kids-take nodes level end i es h.1)
 
+-- the entries from index i on have their children, with the keys that they had
 pub Kids-drop : (nodes : List Knot) (level end i : ℕ) (es : List Entry) → Kids nodes level end es → Kids nodes level end (drop i es)
 Kids-drop nodes level end zero [] h = tt
 Kids-drop nodes level end (suc i) [] h = tt
@@ -88,6 +92,7 @@ Fits-lift nodes nodes' n more fits same = record {
   kids = λ up. Kids-lift nodes nodes' n.level n.end n.entries more (same up) (fits.kids up);
 }
 
+-- a key is one of a node's if it is one after the change, where the node has the keys that it had
 pub IsAt-back : (nodes nodes' : List Knot) (x k : ℕ) → x < length nodes → Same nodes nodes' x → IsAt nodes' x k → IsAt nodes x k
 IsAt-back nodes nodes' x k there same h = record {
   there = there;
