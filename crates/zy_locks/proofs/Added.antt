@@ -13,10 +13,12 @@ add_lock_same : (p t : ℕ) (kind : LockKind) (x : Lock) (xs : List Lock) → is
     → add_lock p t kind (x ∷ xs) ≡ record x { kind = stronger x.kind kind } ∷ xs
 add_lock_same p t kind x xs h = rw h refl
 
+-- t's lock is put before a first lock that is neither before it nor t's on p
 add_lock_below : (p t : ℕ) (kind : LockKind) (x : Lock) (xs : List Lock) → comes_before x p t ≡ false → is_held_by x p t ≡ false
     → add_lock p t kind (x ∷ xs) ≡ lock p t kind ∷ x ∷ xs
 add_lock_below p t kind x xs h k = rw (k, other_goes_before x p t h k) refl
 
+-- t's lock is put among the others behind a first lock that comes before it
 add_lock_above : (p t : ℕ) (kind : LockKind) (x : Lock) (xs : List Lock) → comes_before x p t ≡ true → add_lock p t kind (x ∷ xs) ≡ x ∷ add_lock p t kind xs
 add_lock_above p t kind x xs h = rw (before_is_not_held x p t h, before_goes_behind x p t h) refl
 

@@ -22,12 +22,15 @@ not_both true false = refl
 not_both false true = refl
 not_both false false = refl
 
+-- the test whether two numbers are equal is the same in either order
 pub same_way : (p q : ℕ) → (p == q) ≡ (q == p)
 same_way p q = elim (cases_eq p q) [ inl e ↦ eq-eqb p q e ∙ sym (eq-eqb q p (sym e)) | inr ne ↦ ne_eqb p q ne ∙ sym (ne_eqb q p (λ e. ne (sym e))) ]
 
+-- of two locks each is in the way of the other, or neither is
 clash_both : (x y : Lock) → clashes y.page y.txn y.kind x ≡ clashes x.page x.txn x.kind y
 clash_both x y = rw (same_way x.page y.page, same_way x.txn y.txn, not_both (is_shared x.kind) (is_shared y.kind)) refl
 
+-- t's lock on p is in the way of x if and only if x is in the way of it
 pub clash_sym : (p t : ℕ) (kind : LockKind) (x : Lock) → clashes x.page x.txn x.kind (lock p t kind) ≡ clashes p t kind x
 clash_sym p t kind x = clash_both (lock p t kind) x
 
@@ -37,6 +40,7 @@ raised_kind : (q u : ℕ) (k : LockKind) (p t : ℕ) (held kind : LockKind) → 
 raised_kind q u k p t Shared kind e f = f
 raised_kind q u k p t Exclusive kind e f = e
 
+-- the same for a lock that is raised where it stands among the others
 raised_free : (q u : ℕ) (k : LockKind) (x : Lock) (kind : LockKind) → clashes q u k x ≡ false → clashes q u k (lock x.page x.txn kind) ≡ false
     → clashes q u k (record x { kind = stronger x.kind kind }) ≡ false
 raised_free q u k x kind e f = raised_kind q u k x.page x.txn x.kind kind e f
@@ -47,6 +51,7 @@ raised_alone : (xs : List Lock) (q u : ℕ) (held kind : LockKind) → conflict 
 raised_alone xs q u Shared kind e f = f
 raised_alone xs q u Exclusive kind e f = e
 
+-- a lock that is taken leaves another's ask free if it was free and the new lock is not in its way
 conflict_add : (q u : ℕ) (k : LockKind) (p t : ℕ) (kind : LockKind) (xs : List Lock) → conflict xs q u k ≡ false → clashes q u k (lock p t kind) ≡ false
     → conflict (add_lock p t kind xs) q u k ≡ false
 conflict_add q u k p t kind [] e f = rw f refl
@@ -71,6 +76,7 @@ agree_add p t kind (x ∷ xs) free h =
     (λ early. (free, h))
     (λ late. (conflict_add x.page x.txn x.kind p t kind xs h.0 (clash_sym p t kind x ∙ parts.0), agree_add p t kind xs parts.1 h.1)))
 
+-- a release leaves an ask free that was free
 conflict_drop : (q u : ℕ) (k : LockKind) (t : ℕ) (xs : List Lock) → conflict xs q u k ≡ false → conflict (drop_locks t xs) q u k ≡ false
 conflict_drop q u k t [] e = refl
 conflict_drop q u k t (x ∷ xs) e =
@@ -92,6 +98,7 @@ agree_drop t (x ∷ xs) h =
 free_at : (q : Lock → Bool) (i : ℕ) (d : Lock) (xs : List Lock) → i < length xs → list_any q xs ≡ false → q (get_or xs i d) ≡ false
 free_at q i d xs lt e = false_from_ne_true _ (λ h. false≢true (sym e ∙ list_any_at q xs i d lt h))
 
+-- no lock is in the way of one behind it, in locks that agree
 agree_at : (i j : ℕ) (d : Lock) (xs : List Lock) → LocksAgree xs → i < j → j < length xs → let x = get_or xs i d in
     clashes x.page x.txn x.kind (get_or xs j d) ≡ false
 agree_at i j d [] h le lt = absurd (omega arith)
@@ -99,6 +106,7 @@ agree_at i zero d (x ∷ xs) h le lt = absurd (omega arith)
 agree_at zero (suc j) d (x ∷ xs) h le lt = free_at (clashes x.page x.txn x.kind) j d xs (omega arith) h.0
 agree_at (suc i) (suc j) d (x ∷ xs) h le lt = agree_at i j d xs h.1 (omega arith) (omega arith)
 
+-- a lock comes before one behind it, in locks that rise
 rise_at : (i j : ℕ) (d : Lock) (xs : List Lock) → LocksRise xs → i < j → j < length xs → let y = get_or xs j d in
     comes_before (get_or xs i d) y.page y.txn ≡ true
 rise_at i j d [] h le lt = absurd (omega arith)
@@ -112,6 +120,7 @@ shared_on true true c e h = h
 shared_on true false c e h = refl
 shared_on false b c e h = absurd (true≢false e)
 
+-- where x is in the way of t's lock on p, so is another's y on p that is not in the way of x
 also_clashes : (x y : Lock) (p t : ℕ) (kind : LockKind) → clashes y.page y.txn y.kind x ≡ false → x.page ≡ p → y.page ≡ p → (x.txn ≡ y.txn → ⊥)
     → (y.txn ≡ t → ⊥) → clashes p t kind x ≡ true → clashes p t kind y ≡ true
 also_clashes x y p t kind agree on at other far hit =
@@ -125,6 +134,7 @@ between_low : (x y : Lock) (p t : ℕ) → x.page ≡ p → comes_before x y.pag
     × (y.txn < t)
 between_low x y p t on h k = (grind (arith, nat_tests, on, h, k), grind (arith, nat_tests, on, h, k), grind (arith, nat_tests, on, h, k))
 
+-- the same for x on p behind y and z, where z does not come before t's lock on p: y is on p too, and between t and x
 between_high : (z y x : Lock) (p t : ℕ) → x.page ≡ p → comes_before z p t ≡ false → comes_before z y.page y.txn ≡ true → comes_before y x.page x.txn ≡ true
     → (y.page ≡ p) × (t < y.txn) × (y.txn < x.txn)
 between_high z y x p t on h k l = (grind (arith, nat_tests, on, h, k, l), grind (arith, nat_tests, on, h, k, l), grind (arith, nat_tests, on, h, k, l))
@@ -133,9 +143,11 @@ between_high z y x p t on h k l = (grind (arith, nat_tests, on, h, k, l), grind 
 abbrev pub Beside : ℕ → (Lock → Bool) → List Lock → Type 0
 Beside at q xs = (k : ℕ) × (d : Lock) × (at ≤ k + 1) × (k ≤ at + 1) × (k < length xs) × (q (get_or xs k d) ≡ true)
 
+-- a lock that is in the way of t's lock on p is on p
 page_hit : (p t : ℕ) (kind : LockKind) (x : Lock) → clashes p t kind x ≡ true → x.page ≡ p
 page_hit p t kind x hit = eqb-true _ _ (and_parts (x.page == p) (not (x.txn == t) && not (is_shared x.kind && is_shared kind)) hit).0
 
+-- where a lock before the place's neighbours is in the way, one beside the place is
 beside_low : (p t at j : ℕ) (kind : LockKind) (d : Lock) (xs : List Lock) → LocksRise xs → LocksAgree xs → IsPlace p t xs at → j + 1 < at
     → clashes p t kind (get_or xs j d) ≡ true → Beside at (clashes p t kind) xs
 beside_low p t at j kind d xs rise agree placed low hit =
@@ -155,6 +167,7 @@ beside_low p t at j kind d xs rise agree placed low hit =
           (λ e. absurd (omega (arith, mid.2))) hit,
     )
 
+-- the same for a lock behind the place's neighbours
 beside_high : (p t at j : ℕ) (kind : LockKind) (d : Lock) (xs : List Lock) → LocksRise xs → LocksAgree xs → IsPlace p t xs at → at + 1 < j → j < length xs
     → clashes p t kind (get_or xs j d) ≡ true → Beside at (clashes p t kind) xs
 beside_high p t at j kind d xs rise agree placed high lt hit =
@@ -174,6 +187,7 @@ beside_high p t at j kind d xs rise agree placed high lt hit =
           (λ e. absurd (omega (arith, mid.2))) (λ e. absurd (omega (arith, mid.1))) hit,
     )
 
+-- where any lock is in the way of t's lock on p, one beside its place is
 beside : (p t at : ℕ) (kind : LockKind) (xs : List Lock) → LocksRise xs → LocksAgree xs → IsPlace p t xs at → conflict xs p t kind ≡ true
     → Beside at (clashes p t kind) xs
 beside p t at kind xs rise agree placed h =

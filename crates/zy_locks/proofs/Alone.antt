@@ -13,6 +13,7 @@ use Rattle.zy_locks.specs.LockTable.{LockTable, HasPlaces}
 use Rattle.zy_locks.proofs.Held.{before_is_other, held_takes, none_behind}
 use Rattle.zy_locks.proofs.Rising.{lock, goes_before, behind_rise}
 
+-- who has an exclusive lock on p has a lock on p
 pub exclusive_holds : (xs : List Lock) (p t : ℕ) → holds_alone xs p t ≡ true → holds xs p t ≡ true
 exclusive_holds [] p t h = h
 exclusive_holds (x ∷ xs) p t h =
@@ -29,12 +30,14 @@ weaker true false c d h = refl
 weaker true true true d h = absurd (true≢false h)
 weaker true true false d h = absurd (true≢false h)
 
+-- where nothing is in the way of t's exclusive lock on p, nothing is in the way of its lock of any kind
 free_for_all : (p t : ℕ) (kind : LockKind) (xs : List Lock) → conflict xs p t Exclusive ≡ false → conflict xs p t kind ≡ false
 free_for_all p t kind [] h = refl
 free_for_all p t kind (x ∷ xs) h =
     let parts = or_parts (clashes p t Exclusive x) (conflict xs p t Exclusive) h in
     rw (weaker (x.page == p) (not (x.txn == t)) (is_shared x.kind) (is_shared kind) parts.0) (free_for_all p t kind xs parts.1)
 
+-- a kind that passes the test for exclusive is Exclusive
 is_exclusive_one : (k : LockKind) → is_exclusive k ≡ true → k ≡ Exclusive
 is_exclusive_one Shared h = absurd (false≢true h)
 is_exclusive_one Exclusive h = refl
@@ -44,6 +47,7 @@ meets : (x y : Lock) (p t : ℕ) → x.page ≡ p → (x.txn ≡ t → ⊥) → 
 meets x y p t on far at own alone =
     rw (eq-eqb y.page x.page (at ∙ sym on), ne_eqb y.txn x.txn (λ e. far (sym e ∙ own)), is_exclusive_one y.kind alone) refl
 
+-- another's lock on p meets one in its way among locks of which t has an exclusive one on p
 meets_one : (x : Lock) (p t : ℕ) (xs : List Lock) → x.page ≡ p → (x.txn ≡ t → ⊥) → holds_alone xs p t ≡ true → conflict xs x.page x.txn x.kind ≡ true
 meets_one x p t [] on far h = absurd (false≢true h)
 meets_one x p t (y ∷ ys) on far h =
@@ -55,6 +59,7 @@ meets_one x p t (y ∷ ys) on far h =
       | inr e ↦ or_right _ _ (meets_one x p t ys on far e)
     ]
 
+-- a test that asks for another's lock fails for one's own
 own_is_free : (a b c : Bool) → b ≡ true → (a && (not b && c)) ≡ false
 own_is_free true true c h = refl
 own_is_free false true c h = refl
@@ -83,16 +88,19 @@ alone_free p t kind (x ∷ xs) agree h =
 held_goes_before : (x y : Lock) (p t : ℕ) → comes_before x y.page y.txn ≡ true → is_held_by x p t ≡ true → goes_before p t y ≡ true
 held_goes_before x y p t h k = grind (arith, nat_tests, h, k)
 
+-- behind t's lock on p there is no other of t on p
 none_behind_held : (x : Lock) (p t : ℕ) (xs : List Lock) → LocksBehind x xs → is_held_by x p t ≡ true → holds xs p t ≡ false
 none_behind_held x p t [] h e = refl
 none_behind_held x p t (y ∷ ys) h e =
     let later = held_goes_before x y p t h.0 e in
     rw (before_is_other y p t later) (none_behind y p t ys h.1 later)
 
+-- an exclusive lock stays as it is by a further ask
 stays : (k kind : LockKind) → is_exclusive k ≡ true → stronger k kind ≡ k
 stays Shared kind h = absurd (false≢true h)
 stays Exclusive kind h = refl
 
+-- t has no exclusive lock on p where it has no lock on p
 not_among : (xs : List Lock) (p t : ℕ) → holds xs p t ≡ false → holds_alone xs p t ≡ true → ⊥
 not_among xs p t none h = false≢true (sym none ∙ exclusive_holds xs p t h)
 

@@ -12,15 +12,18 @@ use Rattle.zy_locks.proofs.Rising.{goes_before, before_is_not_held, other_goes_b
 still_before : (x y : Lock) (p t : ℕ) → comes_before x y.page y.txn ≡ true → goes_before p t x ≡ true → goes_before p t y ≡ true
 still_before x y p t h k = grind (arith, nat_tests, h, k)
 
+-- a lock that t's lock on p would be before is not t's on p
 pub before_is_other : (x : Lock) (p t : ℕ) → goes_before p t x ≡ true → is_held_by x p t ≡ false
 before_is_other x p t h = grind (arith, nat_tests, h)
 
+-- where t's lock on p would be before x, which the others are behind, t has no lock on p among these
 pub none_behind : (x : Lock) (p t : ℕ) (xs : List Lock) → LocksBehind x xs → goes_before p t x ≡ true → holds xs p t ≡ false
 none_behind x p t [] h e = refl
 none_behind x p t (y ∷ ys) h e =
     let later = still_before x y p t h.0 e in
     rw (before_is_other y p t later) (none_behind y p t ys h.1 later)
 
+-- a disjunction whose second side is false where the first is false is its first side
 first_of : (b rest : Bool) → (b ≡ false → rest ≡ false) → (b || rest) ≡ b
 first_of true rest h = refl
 first_of false rest h = h refl
@@ -33,6 +36,7 @@ holds_at p t zero d (x ∷ xs) rise at lt =
 holds_at p t (suc i) d (x ∷ xs) rise at lt =
     rw (before_is_not_held x p t (front_before p t i x xs at)) (holds_at p t i d xs (behind_rise x xs rise) (place_rest p t i x xs at) (omega arith))
 
+-- where the place of t's lock on p is behind all locks, t has no lock on p
 pub holds_past : (p t i : ℕ) (xs : List Lock) → LocksRise xs → IsPlace p t xs i → length xs ≤ i → holds xs p t ≡ false
 holds_past p t i [] rise at le = refl
 holds_past p t zero (x ∷ xs) rise at le = absurd (omega arith)
@@ -44,6 +48,7 @@ pub held_place : (p t i : ℕ) (xs : List Lock) → LocksRise xs → IsPlace p t
 held_place p t i xs rise at h =
     elim (cases_lt i (length xs)) [ inl lt ↦ lt | inr le ↦ absurd (false≢true (sym (holds_past p t i xs rise at le) ∙ h)) ]
 
+-- the lock at the place of t's lock on p is that lock if and only if t has one
 pub told_at : (p t i : ℕ) (b : Bool) (d : Lock) (xs : List Lock) → LocksRise xs → IsPlace p t xs i → holds xs p t ≡ b → i < length xs
     → is_held_by (get_or xs i d) p t ≡ b
 told_at p t i b d xs rise at h lt = sym (holds_at p t i d xs rise at lt) ∙ h

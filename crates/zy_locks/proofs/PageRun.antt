@@ -14,6 +14,7 @@ use Rattle.zy_locks.proofs.Rising.{behind_rise, place_rest, front_before}
 abbrev pub OnlyOn : ℕ → (Lock → Bool) → Type 0
 OnlyOn p q = (x : Lock) → (x.page ≡ p → ⊥) → q x ≡ false
 
+-- a test that a lock at an index passes is passed by some lock of the list
 pub any_at : (q : Lock → Bool) (i : ℕ) (d : Lock) (xs : List Lock) → i < length xs → q (get_or xs i d) ≡ true → list_any q xs ≡ true
 any_at q i d [] lt e = absurd (omega arith)
 any_at q zero d (x ∷ xs) lt e = rw e refl
@@ -23,9 +24,11 @@ any_at q (suc i) d (x ∷ xs) lt e = rw (any_at q i d xs (omega arith) e) (or-tr
 page_before : (x : Lock) (p : ℕ) → comes_before x p 0 ≡ true → x.page < p
 page_before x p h = grind (arith, nat_tests, h)
 
+-- a lock that does not come before the place of the first lock on p is on p or a later page
 page_from : (x : Lock) (p : ℕ) → comes_before x p 0 ≡ false → p ≤ x.page
 page_from x p h = grind (arith, nat_tests, h)
 
+-- a lock that comes before t's lock on p is on p or an earlier page
 page_behind : (x : Lock) (p t : ℕ) → comes_before x p t ≡ true → x.page ≤ p
 page_behind x p t h = grind (arith, nat_tests, h)
 
@@ -60,6 +63,7 @@ none_in_run p zero (suc j) q d (x ∷ xs) only h at none ne =
     let rest : IsPlace p 0 xs 0 = (omega arith, (λ k e low high. absurd (omega arith)), (λ k e low high. at.2 (suc k) e (omega arith) (omega arith))) in
     rw (none 0 x (omega arith)) (none_in_run p 0 j q d xs only (behind_rise x xs h) rest (λ k e lt. none (suc k) e (omega arith)) (λ lt. ne (omega arith)))
 
+-- no lock at all passes a test for locks on p where none does from p's place up to the first lock of another page
 pub none_on_page : (p i j : ℕ) (q : Lock → Bool) (d : Lock) (xs ys : List Lock) → OnlyOn p q → LocksRise xs → IsPlace p 0 xs i → ys ≡ drop i xs
     → ((k : ℕ) (e : Lock) → k < j → q (get_or ys k e) ≡ false) → (j < length ys → (get_or ys j d).page ≡ p → ⊥) → list_any q xs ≡ false
 none_on_page p i j q d xs ys only h at run none ne =
@@ -76,6 +80,7 @@ is_locked_at p i x xs h at lt e =
           (λ k d lt. absurd (omega arith)) (λ more f. ne (rw first at f)))
     ]
 
+-- where the place of p's first lock is behind all locks, p is not locked
 pub is_locked_past : (p i : ℕ) (d : Lock) (xs : List Lock) → LocksRise xs → IsPlace p 0 xs i → length xs ≤ i → is_locked xs p ≡ false
 is_locked_past p i d xs h at le = none_on_page p i 0 (λ (y : Lock). eqb y.page p) d xs (drop i xs) (λ y no. ne_eqb y.page p no) h at refl
     (λ k e lt. absurd (omega arith)) (λ lt f. absurd (omega (arith, length-drop i xs)))
