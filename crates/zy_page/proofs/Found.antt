@@ -14,6 +14,7 @@ key_from low i d [] h lt = absurd (omega arith)
 key_from low zero d (r ∷ rows) h lt = h.0
 key_from low (suc i) d (r ∷ rows) h lt = omega (arith, h.0, key_from (r.key + 1) i d rows h.1 (omega arith))
 
+-- of two rows that rise, the later one has no lesser key
 keys_le : (low i j : ℕ) (d : Row) (rows : List Row) → Rising low rows → i ≤ j → j < length rows → (get_or rows i d).key ≤ (get_or rows j d).key
 keys_le low i j d [] h le lt = absurd (omega arith)
 keys_le low zero zero d (r ∷ rows) h le lt = omega arith
@@ -25,6 +26,7 @@ keys_le low (suc i) (suc j) d (r ∷ rows) h le lt = keys_le (r.key + 1) i j d r
 pub in_order : (rows : List Row) → Rising 0 rows → IsNonDecreasingBy (λ (r : Row). r.key) rows
 in_order rows h = λ i j d le lt. keys_le 0 i j d rows h le lt
 
+-- a place behind the first row is a place among the others
 pub place_rest : (k i : ℕ) (r : Row) (rows : List Row) → IsPlace k (r ∷ rows) (suc i) → IsPlace k rows i
 place_rest k i r rows h = (
   omega (arith, h.0),
@@ -32,6 +34,7 @@ place_rest k i r rows h = (
   (λ j d low high. h.2 (suc j) d (omega arith) (omega arith)),
 )
 
+-- the first row is below k if the place of k is behind it
 pub front_below : (k i : ℕ) (r : Row) (rows : List Row) → IsPlace k (r ∷ rows) (suc i) → r.key < k
 front_below k i r rows h = h.1 0 r (omega arith) (omega arith)
 

@@ -10,16 +10,20 @@ use Rattle.zy_page.specs.RowLists.{AreKept}
 use Rattle.zy_page.proofs.Rows.{get_row_same, get_row_past}
 use Rattle.zy_page.proofs.Found.{place_rest, front_below}
 
+-- a boundary whose place is at the front of rows is at the front of those behind the first
 tail_above : (b : ℕ) (r : Row) (rows : List Row) → IsPlace b (r ∷ rows) 0 → IsPlace b rows 0
 tail_above b r rows h = (omega arith, (λ j d low high. absurd (omega arith)), (λ j d low high. h.2 (suc j) d (omega arith) (omega arith)))
 
+-- the first row is at or above a boundary whose place is at the front
 front_above : (b : ℕ) (r : Row) (rows : List Row) → IsPlace b (r ∷ rows) 0 → b ≤ r.key
 front_above b r rows h = h.2 0 r (omega arith) (omega arith)
 
+-- no row is below a boundary whose place is at the front
 none_below : (b : ℕ) (rows : List Row) → IsPlace b rows 0 → rows_below b rows ≡ []
 none_below b [] h = refl
 none_below b (r ∷ rows) h = rw (le-ltb r.key b (front_above b r rows h)) (none_below b rows (tail_above b r rows h))
 
+-- all rows are at or above a boundary whose place is at the front
 all_from : (b : ℕ) (rows : List Row) → IsPlace b rows 0 → rows_from b rows ≡ rows
 all_from b [] h = refl
 all_from b (r ∷ rows) h = rw (le-leb b r.key (front_above b r rows h)) (ap (λ z. r ∷ z) (all_from b rows (tail_above b r rows h)))
@@ -41,6 +45,7 @@ Rising-lower : (low high : ℕ) (rows : List Row) → Rising high rows → low �
 Rising-lower low high [] h le = tt
 Rising-lower low high (r ∷ rows) h le = (omega (arith, h.0), h.1)
 
+-- rows that pass a test rise as they did among the others
 Rising-filter : (p : Row → Bool) (low : ℕ) (rows : List Row) → Rising low rows → Rising low (filter p rows)
 Rising-filter p low [] h = tt
 Rising-filter p low (r ∷ rows) h =
@@ -48,15 +53,18 @@ Rising-filter p low (r ∷ rows) h =
     cond_both (p r) (r ∷ filter p rows) (filter p rows) (Rising low) (λ _. (h.0, rest))
     (λ _. Rising-lower low (r.key + 1) (filter p rows) rest (omega (arith, h.0)))
 
+-- rows that pass a test fit as they did among the others
 RowsFit-filter : (p : Row → Bool) (rows : List Row) → RowsFit rows → RowsFit (filter p rows)
 RowsFit-filter p [] h = tt
 RowsFit-filter p (r ∷ rows) h =
     let rest = RowsFit-filter p rows h.2 in
     cond_both (p r) (r ∷ filter p rows) (filter p rows) RowsFit (λ _. (h.0, h.1, rest)) (λ _. rest)
 
+-- rows that pass a test are in order and fit, as all of them are and do
 pub AreKept-filter : (p : Row → Bool) (rows : List Row) → AreKept rows → AreKept (filter p rows)
 AreKept-filter p rows h = record { rise = Rising-filter p 0 rows h.rise; fit = RowsFit-filter p rows h.fit }
 
+-- no more rows pass a test than there are
 pub length-filter : (p : Row → Bool) (rows : List Row) → length (filter p rows) ≤ length rows
 length-filter p [] = omega arith
 length-filter p (r ∷ rows) =
@@ -77,6 +85,7 @@ get_row-rows_below b (r ∷ rows) k =
           (λ _. rw (get_row_past k r rows other) rest)
     ]
 
+-- the same for the rows at or above the boundary
 pub get_row-rows_from : (b : ℕ) (rows : List Row) (k : ℕ) → get_row (rows_from b rows) k ≡ (if ltb k b then None else get_row rows k)
 get_row-rows_from b [] k = cond_both (ltb k b) None None (λ o. None ≡ o) (λ _. refl) (λ _. refl)
 get_row-rows_from b (r ∷ rows) k =

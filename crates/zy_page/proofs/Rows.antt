@@ -8,9 +8,11 @@ use Rattle.zy_isa.specs.Rows.{Rising, RowsFit, row, get_row, put_row}
 pub put_row_same : (k v : ℕ) (r : Row) (rows : List Row) → k ≡ r.key → put_row k v (r ∷ rows) ≡ row k v ∷ rows
 put_row_same k v r rows e = rw (eq-eqb k r.key e) refl
 
+-- a row with a key below the first row's is put before it
 pub put_row_below : (k v : ℕ) (r : Row) (rows : List Row) → k < r.key → put_row k v (r ∷ rows) ≡ row k v ∷ r ∷ rows
 put_row_below k v r rows lt = rw (ne_eqb k r.key (λ e. absurd (omega arith)), lt-ltb k r.key lt) refl
 
+-- a row with a key above the first row's is put among those behind it
 pub put_row_above : (k v : ℕ) (r : Row) (rows : List Row) → r.key < k → put_row k v (r ∷ rows) ≡ r ∷ put_row k v rows
 put_row_above k v r rows lt = rw (ne_eqb k r.key (λ e. absurd (omega arith)), le-ltb k r.key (omega arith)) refl
 
@@ -18,6 +20,7 @@ put_row_above k v r rows lt = rw (ne_eqb k r.key (λ e. absurd (omega arith)), l
 pub get_row_same : (k : ℕ) (r : Row) (rows : List Row) → r.key ≡ k → get_row (r ∷ rows) k ≡ Some r.value
 get_row_same k r rows e = rw (eq-eqb r.key k e) refl
 
+-- a key that is not the first row's has its value among the others
 pub get_row_past : (k : ℕ) (r : Row) (rows : List Row) → (r.key ≡ k → ⊥) → get_row (r ∷ rows) k ≡ get_row rows k
 get_row_past k r rows ne = rw (ne_eqb r.key k ne) refl
 
