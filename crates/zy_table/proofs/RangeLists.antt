@@ -10,9 +10,11 @@ use Rattle.zy_table.specs.Keys.{put_key}
 use Rattle.zy_table.specs.Numbers.{has}
 use Rattle.zy_table.specs.Ranges.{keys_on, lows_within, range, range_pages, total}
 
+-- a list has its first number
 pub has_first : (x : ℕ) (xs : List ℕ) → has (x ∷ xs) x ≡ true
 has_first x xs = or_left _ _ (eq-eqb x x refl)
 
+-- a list has each number of the list behind its first
 pub has_rest : (x q : ℕ) (xs : List ℕ) → has xs q ≡ true → has (x ∷ xs) q ≡ true
 has_rest x q xs h = or_right _ _ h
 
@@ -21,10 +23,12 @@ pub has_front : (xs ys : List ℕ) (q : ℕ) → has xs q ≡ true → has (xs +
 has_front [] ys q h = absurd (false≢true h)
 has_front (x ∷ xs) ys q h = elim (or_cases (x == q) (has xs q) h) [ inl e ↦ or_left _ _ e | inr e ↦ or_right _ _ (has_front xs ys q e) ]
 
+-- two lists in a row have each number of the second
 pub has_back : (xs ys : List ℕ) (q : ℕ) → has ys q ≡ true → has (xs ++ ys) q ≡ true
 has_back [] ys q h = h
 has_back (x ∷ xs) ys q h = or_right _ _ (has_back xs ys q h)
 
+-- each number of two lists in a row is in one of them
 pub has_either : (xs ys : List ℕ) (q : ℕ) → has (xs ++ ys) q ≡ true → (has xs q ≡ true) ⊎ (has ys q ≡ true)
 has_either [] ys q h = inr h
 has_either (x ∷ xs) ys q h =
@@ -42,6 +46,7 @@ within_keys (suc n) k q h =
       | inr e ↦ let rest = within_keys n (k + 1) q e in let a = rest.0 in let b = rest.1 in (omega (arith, a), omega (arith, b))
     ]
 
+-- a key of the range from a to b is at least a and at most b
 pub within_range : (a b k : ℕ) → has (range a b) k ≡ true → (a ≤ k) × (k ≤ b)
 within_range a b k h = let r = within_keys (b + 1 - a) a k h in let x = r.0 in let y = r.1 in (x, omega (arith, x, y))
 
@@ -51,6 +56,7 @@ has-put_new k [] = has_first k []
 has-put_new k (x ∷ xs) = cond_both (nat_le k x) (k ∷ x ∷ xs) (x ∷ put_key k xs) (λ y. has y k ≡ true) (λ _. has_first k (x ∷ xs))
     (λ _. has_rest x k (put_key k xs) (has-put_new k xs))
 
+-- keys with one put among them have each key that they had
 has-put_old : (k : ℕ) (xs : List ℕ) (q : ℕ) → has xs q ≡ true → has (put_key k xs) q ≡ true
 has-put_old k [] q h = absurd (false≢true h)
 has-put_old k (x ∷ xs) q h =
@@ -58,6 +64,7 @@ has-put_old k (x ∷ xs) q h =
     (λ _. has_rest k q (x ∷ xs) h)
     (λ _. elim (or_cases (x == q) (has xs q) h) [ inl e ↦ or_left _ _ e | inr e ↦ has_rest x q (put_key k xs) (has-put_old k xs q e) ])
 
+-- each low key above a and not above b is among the low keys of the range
 pub has-within : (a b : ℕ) (lows : List ℕ) (i : ℕ) → i < length lows → a < get_or lows i 0 → get_or lows i 0 ≤ b
     → has (lows_within a b lows) (get_or lows i 0) ≡ true
 has-within a b [] i lt above below = absurd (omega arith)
@@ -69,6 +76,7 @@ has-within a b (x ∷ xs) (suc i) lt above below =
     cond_both (nat_lt a x && nat_le x b) (put_key x (lows_within a b xs)) (lows_within a b xs) (λ y. has y (get_or xs i 0) ≡ true)
     (λ _. has-put_old x (lows_within a b xs) (get_or xs i 0) rest) (λ _. rest)
 
+-- a mapped list has f x where the list has x
 has-map : (f : ℕ → ℕ) (xs : List ℕ) (x : ℕ) → has xs x ≡ true → has (map f xs) (f x) ≡ true
 has-map f [] x h = absurd (false≢true h)
 has-map f (y ∷ ys) x h =
@@ -90,6 +98,7 @@ on_range_page lows a b k h =
           (has-map (page_of lows) (lows_within a b lows) (get_or lows one.0 0) (has-within a b lows one.0 one.1 one.2 (omega (arith, low, below)))))
     ]
 
+-- each of the pages of some keys is the page of a key
 paged : (lows ks : List ℕ) (p : ℕ) → has (map (page_of lows) ks) p ≡ true → (k : ℕ) × (page_of lows k ≡ p)
 paged lows [] p h = absurd (false≢true h)
 paged lows (k ∷ ks) p h =
@@ -121,6 +130,7 @@ none_passes q (y ∷ ys) x h k =
       | inr rest ↦ none_passes q ys x g rest
     ]) h
 
+-- values that are equal at each of some keys have equal totals over these
 pub total_same : (f g : ℕ → ℕ) (ks : List ℕ) → ((k : ℕ) → has ks k ≡ true → f k ≡ g k) → total f ks ≡ total g ks
 total_same f g [] h = refl
 total_same f g (k ∷ ks) h =

@@ -23,6 +23,7 @@ put_behind x y ys up =
     let far : nat_le x y ≡ false = false_from_ne_true _ (λ h. let le = leb-true x y h in absurd (omega (arith, le, up))) in
     ap (λ b. if b then x ∷ y ∷ ys else y ∷ put_key x ys) far
 
+-- each of the keys with one put among them is that one, or was there
 has-put : (k : ℕ) (xs : List ℕ) (q : ℕ) → has (put_key k xs) q ≡ true → (k ≡ q) ⊎ (has xs q ≡ true)
 has-put k [] q h = elim (or_cases _ _ h) [ inl e ↦ inl (eqb-true _ _ e) | inr e ↦ absurd (false≢true e) ]
 has-put k (x ∷ xs) q h =
@@ -59,6 +60,7 @@ same_test a c x b lt up = ap (λ z. z && nat_le x b) (elim (cases_Bool (nat_lt c
   | inr e ↦ (false_from_ne_true _ (λ h. false≢true (sym e ∙ lt-ltb c x (up (ltb-true a x h)))) ∙ sym e)
 ])
 
+-- the low keys above a and not above b are those above c where no low key is between a and c
 lows_same : (a c b : ℕ) (xs : List ℕ) → a < c → None_between a c xs → lows_within a b xs ≡ lows_within c b xs
 lows_same a c b [] lt h = refl
 lows_same a c b (x ∷ xs) lt h =
@@ -79,6 +81,7 @@ lows_within-none a b (x ∷ xs) h =
 abbrev pub Least : ℕ → List ℕ → ℕ → Type 0
 Least a lows p = (q : ℕ) → q < length lows → a < get_or lows q 0 → (q ≡ p) ⊎ (get_or lows p 0 < get_or lows q 0)
 
+-- where page p + 1 of a list has the least low key above a, page p of the list behind its first has it there
 least_rest : (a x : ℕ) (xs : List ℕ) (p : ℕ) → Least a (x ∷ xs) (suc p) → Least a xs p
 least_rest a x xs p h = λ q lt up. elim (h (suc q) (omega arith) up) [ inl e ↦ inl (omega (arith, e)) | inr e ↦ inr e ]
 

@@ -7,6 +7,7 @@ use Rattle.zy_isa.specs.declared.row.Row.{Row}
 use Rattle.zy_wire.specs.Wireframe.{page_of}
 use Rattle.zy_table.specs.Rows.{rows_on, rows_not_in}
 
+-- no more rows lie on a page than there are
 length-rows_on : (lows : List ℕ) (p : ℕ) (rows : List Row) → length (rows_on lows p rows) ≤ length rows
 length-rows_on lows p [] = omega arith
 length-rows_on lows p (r ∷ rows) =
@@ -14,6 +15,7 @@ length-rows_on lows p (r ∷ rows) =
     cond_both (page_of lows r.key == p) (r ∷ rows_on lows p rows) (rows_on lows p rows) (λ xs. length xs ≤ suc (length rows)) (λ _. omega (arith, less))
     (λ _. omega (arith, less))
 
+-- no more rows have a key that others lack than there are
 length-rows_not_in : (rows held : List Row) → length (rows_not_in rows held) ≤ length rows
 length-rows_not_in [] held = omega arith
 length-rows_not_in (r ∷ rows) held =

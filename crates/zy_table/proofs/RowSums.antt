@@ -9,14 +9,17 @@ use Rattle.zy_table.specs.Sums.{value_beside}
 use Rattle.zy_table.proofs.RangeLists.{total_same}
 use Rattle.zy_table.proofs.RisingRows.{rises_key}
 
+-- the total of two values together is the sum of the total of each
 pub total_plus : (f g : ℕ → ℕ) (ks : List ℕ) → total (λ k. f k + g k) ks ≡ total f ks + total g ks
 total_plus f g [] = refl
 total_plus f g (k ∷ ks) = let rest = total_plus f g ks in omega (arith, rest)
 
+-- the total over two lists in a row is the sum of the total over each
 pub total_append : (f : ℕ → ℕ) (xs ys : List ℕ) → total f (xs ++ ys) ≡ total f xs + total f ys
 total_append f [] ys = omega arith
 total_append f (x ∷ xs) ys = let rest = total_append f xs ys in omega (arith, rest)
 
+-- m + n keys from k on are m keys from k on and n keys behind these
 keys_split : (m n k : ℕ) → keys_on (m + n) k ≡ keys_on m k ++ keys_on n (k + m)
 keys_split zero n k = let a : 0 + n ≡ n = omega arith in let b : k + 0 ≡ k = omega arith in rw (a, b) refl
 keys_split (suc m) n k =
@@ -37,9 +40,11 @@ range_split a b c up le =
 abbrev at_key : ℕ → ℕ → ℕ → ℕ
 at_key c v k = if k == c then v else 0
 
+-- a value at key c alone is 0 at each other key
 at_other : (c v k : ℕ) → (k ≡ c → ⊥) → at_key c v k ≡ 0
 at_other c v k far = ap (λ b. if b then v else 0) (ne_eqb k c far)
 
+-- a value at key c alone has the total 0 over keys without c
 point_out : (c v n k : ℕ) → (c < k) ⊎ (k + n ≤ c) → total (at_key c v) (keys_on n k) ≡ 0
 point_out c v zero k h = refl
 point_out c v (suc n) k h =
@@ -48,6 +53,7 @@ point_out c v (suc n) k h =
     let rest = point_out c v n (k + 1) (elim h [ inl less ↦ inl (omega (arith, less)) | inr more ↦ inr (omega (arith, more)) ]) in
     omega (arith, first, rest)
 
+-- a value at key c alone has itself as the total over keys with c
 point_in : (c v n k : ℕ) → k ≤ c → c < k + n → total (at_key c v) (keys_on n k) ≡ v
 point_in c v zero k low high = absurd (omega (arith, low, high))
 point_in c v (suc n) k low high =
@@ -73,10 +79,12 @@ sum_beside others a b (r ∷ rows) =
 abbrev own_value : List Row → Row → ℕ
 own_value others r = if is_some (get_row others r.key) then 0 else r.value
 
+-- 0 is 0, whichever branch gives it
 none_twice : (b : Bool) → (if b then 0 else 0) ≡ (let z : ℕ = 0 in z)
 none_twice true = refl
 none_twice false = refl
 
+-- what rows that rise have at a key, where others lack it, is what the first row has there and what those behind it have
 row_apart : (others : List Row) (low : ℕ) (r : Row) (rows : List Row) (k : ℕ) → Rising low (r ∷ rows)
     → value_beside others (r ∷ rows) k ≡ at_key r.key (own_value others r) k + value_beside others rows k
 row_apart others low r rows k rise =
@@ -104,6 +112,7 @@ row_apart others low r rows k rise =
     none_of None h = refl
     none_of (Some x) h = absurd (false≢true (sym h))
 
+-- a value that is 0 at each key has the total 0
 total_none : (f : ℕ → ℕ) (ks : List ℕ) → ((k : ℕ) → f k ≡ 0) → total f ks ≡ 0
 total_none f [] h = refl
 total_none f (k ∷ ks) h = let first = h k in let rest = total_none f ks h in omega (arith, first, rest)
@@ -138,6 +147,7 @@ row_part others a b r =
     turned true v = refl
     turned false v = refl
 
+-- the sum over rows that rise, row by row, is the total over the keys of the range
 pub sum_of_rows : (others : List Row) (a b low : ℕ) (rows : List Row) → Rising low rows
     → sum_beside others a b rows ≡ total (value_beside others rows) (range a b)
 sum_of_rows others a b low [] rise = sym (total_none (value_beside others []) (range a b) (λ k. none_twice (is_some (get_row others k))))
