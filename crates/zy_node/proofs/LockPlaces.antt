@@ -8,6 +8,7 @@ use Rattle.zy_locks.specs.Locks.{add_lock, holds, unheld}
 use Rattle.zy_table.specs.State.{Lock}
 use Rattle.zy_table.proofs.LockLists.{holds_more}
 
+-- a list with or without a number in front is as long as that part and the others together
 one_and_rest : (b : Bool) (p : ℕ) (ps : List ℕ) → length (if b then p ∷ ps else ps) ≡ length (if b then p ∷ [] else []) + length ps
 one_and_rest true p ps = omega arith
 one_and_rest false p ps = omega arith
@@ -16,10 +17,12 @@ one_and_rest false p ps = omega arith
 pub unheld_first : (p : ℕ) (ps : List ℕ) (t : ℕ) (xs : List Lock) → length (unheld (p ∷ ps) t xs) ≡ length (unheld (p ∷ []) t xs) + length (unheld ps t xs)
 unheld_first p ps t xs = one_and_rest (not (holds xs p t)) p (unheld ps t xs)
 
+-- a list that is no longer than another is no longer than that one with or without a number in front
 still_fewer : (was : Bool) (p : ℕ) (ps qs : List ℕ) → length ps ≤ length qs → length ps ≤ length (if not was then p ∷ qs else qs)
 still_fewer true p ps qs le = le
 still_fewer false p ps qs le = omega (arith, le)
 
+-- one step of the next: where the first page is left out before the lock, it is left out after it
 fewer : (was is : Bool) (p : ℕ) (ps qs : List ℕ) → (was ≡ true → is ≡ true) → length ps ≤ length qs
     → length (if not is then p ∷ ps else ps) ≤ length (if not was then p ∷ qs else qs)
 fewer was true p ps qs h le = still_fewer was p ps qs le
