@@ -26,6 +26,7 @@ all_from xs low (suc k) = owns xs low && all_from xs (suc low) k
 abbrev AllBelow : List Leaf → ℕ → Type 0
 AllBelow xs n = (q : ℕ) → owns xs q ≡ true → q < n
 
+-- if each page has a number below n, so has each behind the first
 under_rest : (x : Leaf) (xs : List Leaf) (n : ℕ) → AllBelow (x ∷ xs) n → AllBelow xs n
 under_rest x xs n all q own = all q (or_right _ _ own)
 
@@ -50,6 +51,7 @@ few_between low (suc k) (x ∷ xs) h all =
     let few = few_between (x.number + 1) k xs h.1 (λ q own. let last = under_rest x xs (low + suc k) all q own in omega (arith, first, last)) in
     omega (arith, few)
 
+-- where the numbers of the pages rise from one on and stay among the k from there, these are all here if and only if there are k pages
 all_from-count : (low k : ℕ) (xs : List Leaf) → NumbersRise low (numbers xs) → AllBelow xs (low + k) → all_from xs low k ≡ (length xs == k)
 all_from-count low zero [] h all = refl
 all_from-count low (suc k) [] h all = sym (eqb-zero-suc k)
@@ -72,6 +74,7 @@ all_from-count low (suc k) (x ∷ xs) h all =
           ) refl
     ]
 
+-- the first two of three sides of a conjunction may change places
 exchange : (a b c : Bool) → (a && (b && c)) ≡ (b && (a && c))
 exchange true b c = refl
 exchange false true c = refl
@@ -84,6 +87,7 @@ all_from-last xs low (suc k) =
     ap (λ b. owns xs low && b) (all_from-last xs (suc low) k) ∙ (exchange (owns xs low) (owns xs (suc low + k)) (all_from xs (suc low) k)
     ∙ ap (λ n. owns xs n && (owns xs low && all_from xs (suc low) k)) (omega arith))
 
+-- each number below n is that of a page here if and only if the n from 0 on are
 all_below-from : (xs : List Leaf) (n : ℕ) → all_below xs n ≡ all_from xs 0 n
 all_below-from xs zero = refl
 all_below-from xs (suc n) = ap (λ b. owns xs n && b) (all_below-from xs n) ∙ (ap (λ m. owns xs m && all_from xs 0 n) (omega arith) ∙ sym (all_from-last xs 0 n))

@@ -39,6 +39,7 @@ alone_there : (xs : List Lock) (p q t : ℕ) → ((u : ℕ) → holds xs q u ≡
 alone_there xs p q t free = conflict_none (add_lock p t Exclusive xs) q t Exclusive (λ u far h.
     elim (holds-add p t Exclusive xs q u h) [ inl old ↦ false≢true (sym (free u) ∙ old) | inr new ↦ far (sym new.1) ])
 
+-- where an insert finds its page full and free, and there may be a page more, the page can be cut at the boundary
 pub cuttable : (sc : Scenario) (t k p at b : ℕ) (x : NodeStore) (book : Ledger) → IsFull sc t k p at x book → may_split x.mode ≡ true
     → length (lows_in x.wire) < sc.pages → b ≡ boundary sc k p (node_shown x) (txn_in t book) → IsCuttable t p b (node_shown x)
 cuttable sc t k p at b x book f normal more is =

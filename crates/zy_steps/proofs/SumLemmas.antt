@@ -19,6 +19,7 @@ use Rattle.zy_table.proofs.RowSums.{own_apart, range_split, total_append, total_
 abbrev pub committed_at : Txn → NodeState → ℕ → ℕ
 committed_at x n k = value_beside x.rows (rows_of n.pages (page_of n.lows k)) k
 
+-- what t sees at the keys of a range is what its private rows have there and what the pages have beside these
 pub sum_apart : (x : Txn) (n : NodeState) (a b : ℕ) → total (value_for x n) (range a b)
     ≡ total (value_beside [] x.rows) (range a b) + total (committed_at x n) (range a b)
 sum_apart x n a b =
@@ -41,6 +42,7 @@ on_page_before lows a b e k is le from to =
           ]
     ]
 
+-- where the range from a to b has no further low key, each of its keys lies on a's page
 pub on_last_page : (lows : List ℕ) (a b k : ℕ) → lows_within a b lows ≡ [] → a ≤ k → k ≤ b → page_of lows k ≡ page_of lows a
 on_last_page lows a b k is from to =
     elim (page_of-from lows a k from) [
@@ -50,12 +52,14 @@ on_last_page lows a b k is from to =
           absurd (false≢true (subst (λ ks. has ks (get_or lows one.0 0) ≡ true) is (has-within a b lows one.0 one.1 one.2 (omega (arith, low, to)))))
     ]
 
+-- where the keys from a to c lie on one page, what the pages have there is what that page has
 pub one_page : (x : Txn) (n : NodeState) (a c p : ℕ) → ((k : ℕ) → a ≤ k → k ≤ c → page_of n.lows k ≡ p)
     → total (committed_at x n) (range a c) ≡ total (value_beside x.rows (rows_of n.pages p)) (range a c)
 one_page x n a c p on =
     total_same (committed_at x n) (value_beside x.rows (rows_of n.pages p)) (range a c)
     (λ k h. let r = within_range a c k h in ap (λ q. value_beside x.rows (rows_of n.pages q) k) (on k r.0 r.1))
 
+-- what the pages have at the keys from a to b is what they have below c and from c on
 pub page_apart : (x : Txn) (n : NodeState) (a b c : ℕ) → a < c → c ≤ b
     → total (committed_at x n) (range a b) ≡ total (committed_at x n) (range a (c - 1)) + total (committed_at x n) (range c b)
 page_apart x n a b c up le = ap (total (committed_at x n)) (range_split a b c up le) ∙ total_append (committed_at x n) (range a (c - 1)) (range c b)
