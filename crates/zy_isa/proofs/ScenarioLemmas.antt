@@ -37,7 +37,7 @@ no_option : {X Y : Type 0} (f : X → Y) (o : Option X) → option_map f o ≡ N
 no_option f None h = refl
 no_option f (Some x) h = cc
 
--- if no position passes a test, the first position that passes, or the length, is the length
+-- where no element passes a test, the search for one runs to the end of the list
 none_passes : {X : Type 0} (p : X → Bool) (xs : List X) → position p xs ≡ None → length xs ≤ position_or_len p xs
 none_passes p xs e =
     elim (cases_lt (position_or_len p xs) (length xs)) [

@@ -40,7 +40,7 @@ raised_kind : (q u : ℕ) (k : LockKind) (p t : ℕ) (held kind : LockKind) → 
 raised_kind q u k p t Shared kind e f = f
 raised_kind q u k p t Exclusive kind e f = e
 
--- the same for a lock that is raised where it stands among the others
+-- the same for any lock of which the kind is raised
 raised_free : (q u : ℕ) (k : LockKind) (x : Lock) (kind : LockKind) → clashes q u k x ≡ false → clashes q u k (lock x.page x.txn kind) ≡ false
     → clashes q u k (record x { kind = stronger x.kind kind }) ≡ false
 raised_free q u k x kind e f = raised_kind q u k x.page x.txn x.kind kind e f

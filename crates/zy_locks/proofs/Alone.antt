@@ -47,7 +47,7 @@ meets : (x y : Lock) (p t : ℕ) → x.page ≡ p → (x.txn ≡ t → ⊥) → 
 meets x y p t on far at own alone =
     rw (eq-eqb y.page x.page (at ∙ sym on), ne_eqb y.txn x.txn (λ e. far (sym e ∙ own)), is_exclusive_one y.kind alone) refl
 
--- another's lock on p meets one in its way among locks of which t has an exclusive one on p
+-- another's lock on p has one in its way where t has an exclusive lock on p
 meets_one : (x : Lock) (p t : ℕ) (xs : List Lock) → x.page ≡ p → (x.txn ≡ t → ⊥) → holds_alone xs p t ≡ true → conflict xs x.page x.txn x.kind ≡ true
 meets_one x p t [] on far h = absurd (false≢true h)
 meets_one x p t (y ∷ ys) on far h =

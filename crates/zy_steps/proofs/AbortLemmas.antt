@@ -15,7 +15,7 @@ there-locked : (t k p : ℕ) (kind : LockKind) (s : View) → (let z = locked t 
 unfolding locked txn_at
 there-locked t k p kind s = refl
 
--- a write of a key that is not there, once the page is locked, leads to t's abort alone
+-- a write that locks the page and finds its key missing is t's abort without the lock
 pub write-missing : (t k v p : ℕ) (kind : LockKind) (s : View) → is_there k p s.me (txn_at s t) ≡ false
     → write_step t k v p (locked t p kind s) ≡ abort_step t Missing s
 unfolding write_step abort_step

@@ -22,7 +22,7 @@ is_front (Page leaf) line x inbox h = (Page leaf, refl, h)
 is_front Finish line x inbox h = (Finish, refl, h)
 is_front Done line x inbox h = (Done, refl, h)
 
--- a take from an empty link changes nothing
+-- a take from an empty link changes nothing, and its outcome is NoMessage
 pub take-nothing : (sc : Scenario) (v : View) → v.inbox ≡ [] → take_step sc v ≡ quiet v NoMessage
 unfolding take_step front_step
 take-nothing sc v e = ap (λ l. front_step sc l v) e

@@ -435,7 +435,7 @@ full_of nodes root top p c k r = record {
 pub child_there : (nodes : List Knot) (root top p c k : ℕ) → Ready nodes root top p c k → c < length nodes
 child_there nodes root top p c k r = (child nodes root top p c r.leads.at (record { low = 0; to = 0 }) r.tree (full_of nodes root top p c k r)).there
 
--- a node that is ready to be cut has 8 entries where it is read
+-- a node that is ready to be cut has 8 entries as it is read
 pub child_full : (nodes : List Knot) (root top p c k ic : ℕ) (x : Knot) → Ready nodes root top p c k → ic ≡ c → x ≡ get_or nodes ic x → length x.entries ≡ 8
 child_full nodes root top p c k ic x r here read =
     let same : x ≡ node nodes c = get_or_read nodes c x (child_there nodes root top p c k r) (rw here at read) no_knot in

@@ -19,7 +19,7 @@ pub record Leaf (lows : List ℕ) (n : Knot) (k : ℕ) : Type 0 where
   pub low : low_of n ≤ k
   pub below : k < n.end
 
--- the node of level 0 that has a key is one of the nodes, which agree with the pages
+-- a node of level 0 that has a key agrees with the pages where all nodes do
 pub leaf_of : (lows : List ℕ) (nodes : List Knot) (k : ℕ) (n : Knot) → Holds lows nodes → LeafAt nodes k n → Leaf lows n k
 leaf_of lows nodes k n holds l = record {
   has = subst (Has lows) (sym l.is) (holds l.id l.at.there);
