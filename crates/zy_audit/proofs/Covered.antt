@@ -18,7 +18,7 @@ use Rattle.zy_table.specs.Database.{all_leaves, database, newest}
 use Rattle.zy_table.specs.Pages.{page_in, rows_of}
 use Rattle.zy_table.specs.State.{State}
 use Rattle.zy_table.proofs.PageFinds.{rows_of-none, rows_of-some}
-use Rattle.zy_table.proofs.RisingRows.{rises_weaker}
+use Rattle.zy_page.proofs.Parted.{Rising-lower}
 use Rattle.zy_machine.specs.Histories.{History, IsReplay}
 use Rattle.zy_laws.proofs.Installing.{none_else}
 use Rattle.zy_audit.specs.Covering.{HasRun}
@@ -73,7 +73,7 @@ few_rows low (r ∷ rows) le h fit =
 
 rises_right : (low : ℕ) (front rows : List Row) → Rising low (front ++ rows) → Rising low rows
 rises_right low [] rows h = h
-rises_right low (r ∷ front) rows h = rises_right low front rows (rises_weaker (r.key + 1) low (front ++ rows) (let a = h.0 in omega arith) h.1)
+rises_right low (r ∷ front) rows h = rises_right low front rows (Rising-lower low (r.key + 1) (front ++ rows) h.1 (let a = h.0 in omega arith))
 
 rises_left : (low : ℕ) (run back : List Row) → Rising low (run ++ back) → Rising low run
 rises_left low [] back h = tt

@@ -10,7 +10,9 @@ use Rattle.zy_page.specs.RowLists.{AreKept}
 use Rattle.zy_page.proofs.Rows.{RowsFit-put_row, put_row_above, put_row_below, put_row_same}
 use Rattle.zy_page.proofs.Found.{front_below, place_rest}
 use Rattle.zy_page.proofs.Parted.{Rising-rows_from, rows_from-place}
-use Rattle.zy_table.proofs.RisingRows.{rises_put, rises_puts, rises_weaker}
+use Rattle.zy_page.proofs.Parted.{Rising-lower}
+use Rattle.zy_page.proofs.Rows.{Rising-put_row}
+use Rattle.zy_table.proofs.RisingRows.{rises_puts}
 use Rattle.zy_table.specs.Rows.{put_rows}
 use Rattle.zy_audit.specs.Laying.{rows_past}
 
@@ -18,7 +20,7 @@ use Rattle.zy_audit.specs.Laying.{rows_past}
 put_rows_past : (r : Row) (rs rows : List Row) → Rising (r.key + 1) rs → put_rows rs (r ∷ rows) ≡ r ∷ put_rows rs rows
 put_rows_past r [] rows h = refl
 put_rows_past r (q ∷ rs) rows h =
-    let rest = put_rows_past r rs rows (rises_weaker (q.key + 1) (r.key + 1) rs (let a = h.0 in omega arith) h.1) in
+    let rest = put_rows_past r rs rows (Rising-lower (r.key + 1) (q.key + 1) rs h.1 (let a = h.0 in omega arith)) in
     ap (put_row q.key q.value) rest ∙ put_row_above q.key q.value r (put_rows rs rows) (let a = h.0 in omega arith)
 
 -- the rows below all that are laid stay as they are
@@ -27,7 +29,7 @@ put_rows_behind k zero rs rows h p = refl
 put_rows_behind k (suc i) rs [] h p = refl
 put_rows_behind k (suc i) rs (r ∷ rows) h p =
     let below = front_below k i r rows p in
-    put_rows_past r rs rows (rises_weaker k (r.key + 1) rs (omega (arith, below)) h) ∙ ap (λ z. r ∷ z) (put_rows_behind k i rs rows h (place_rest k i r rows p))
+    put_rows_past r rs rows (Rising-lower (r.key + 1) k rs h (omega (arith, below))) ∙ ap (λ z. r ∷ z) (put_rows_behind k i rs rows h (place_rest k i r rows p))
 
 -- a row below all others comes first
 put_row_first : (k v : ℕ) (rows : List Row) → Rising (k + 1) rows → put_row k v rows ≡ row k v ∷ rows
@@ -37,8 +39,8 @@ put_row_first k v (r ∷ rows) h = put_row_below k v r rows (let a = h.0 in omeg
 rises_laid : (low : ℕ) (rs rows : List Row) → Rising low rs → Rising low rows → Rising low (put_rows rs rows)
 rises_laid low [] rows rise h = h
 rises_laid low (r ∷ rs) rows rise h =
-    let rest = rises_weaker (r.key + 1) low rs (let a = rise.0 in omega arith) rise.1 in
-    rises_put low r.key r.value (put_rows rs rows) rise.0 (rises_laid low rs rows rest h)
+    let rest = Rising-lower low (r.key + 1) rs rise.1 (let a = rise.0 in omega arith) in
+    Rising-put_row low r.key r.value (put_rows rs rows) (rises_laid low rs rows rest h) rise.0
 
 -- so does the first of the rows that are laid, in the place of one of the same key
 put_rows_first : (r : Row) (rs rows : List Row) → Rising (r.key + 1) rs → Rising r.key rows → put_rows (r ∷ rs) rows ≡ r ∷ put_rows rs (rows_past r.key rows)
@@ -65,7 +67,7 @@ pub rises_past : (low k : ℕ) (rows : List Row) → Rising low rows → Rising 
 rises_past low k [] h = tt
 rises_past low k (r ∷ rows) h =
     elim (cases_eq r.key k) [
-      | inl same ↦ rw (eq-eqb r.key k same) (rises_weaker (r.key + 1) low rows (let a = h.0 in omega arith) h.1)
+      | inl same ↦ rw (eq-eqb r.key k same) (Rising-lower low (r.key + 1) rows h.1 (let a = h.0 in omega arith))
       | inr other ↦ rw (ne_eqb r.key k other) h
     ]
 

@@ -43,7 +43,7 @@ holds_past p t zero (x ∷ xs) rise at le = absurd (omega arith)
 holds_past p t (suc i) (x ∷ xs) rise at le =
     rw (before_is_not_held x p t (front_before p t i x xs at)) (holds_past p t i xs (behind_rise x xs rise) (place_rest p t i x xs at) (omega arith))
 
--- so a lock that is there is at its place, and one that is not does not
+-- so a lock that is there is at its place
 pub held_place : (p t i : ℕ) (xs : List Lock) → LocksRise xs → IsPlace p t xs i → holds xs p t ≡ true → i < length xs
 held_place p t i xs rise at h =
     elim (cases_lt i (length xs)) [ inl lt ↦ lt | inr le ↦ absurd (false≢true (sym (holds_past p t i xs rise at le) ∙ h)) ]

@@ -46,7 +46,7 @@ get_row_at k zero d (r ∷ rows) p lt e = get_row_same k r rows e
 get_row_at k (suc i) d (r ∷ rows) p lt e = rw (get_row_past k r rows (λ f. absurd (omega (arith, front_below k i r rows p))))
     (get_row_at k i d rows (place_rest k i r rows p) (omega arith) e)
 
--- and one that does not
+-- a key that is not at its place has no value
 pub get_row_not_at : (low k i : ℕ) (rows : List Row) → Rising low rows → IsPlace k rows i → ((d : Row) → i < length rows → (get_or rows i d).key ≡ k → ⊥)
     → get_row rows k ≡ None
 get_row_not_at low k i [] h p ne = refl

@@ -40,8 +40,8 @@ rows_from-place b zero rows h = all_from b rows h
 rows_from-place b (suc i) [] h = refl
 rows_from-place b (suc i) (r ∷ rows) h = rw (lt-leb b r.key (front_below b i r rows h)) (rows_from-place b i rows (place_rest b i r rows h))
 
--- some of the rows, in their order
-Rising-lower : (low high : ℕ) (rows : List Row) → Rising high rows → low ≤ high → Rising low rows
+-- rows that rise from a number on rise from each lower one
+pub Rising-lower : (low high : ℕ) (rows : List Row) → Rising high rows → low ≤ high → Rising low rows
 Rising-lower low high [] h le = tt
 Rising-lower low high (r ∷ rows) h le = (omega (arith, h.0), h.1)
 
