@@ -11,6 +11,7 @@ use Rattle.zy_asm.specs.declared.faults.AsmKind.TheVariants as kinds
 use Rattle.zy_isa.specs.declared.operation.JumpOperation.{JumpOperation}
 use Rattle.zy_asm.specs.Instructions.{with_target}
 
+-- a text without a byte has no line
 pub empty_lines : (xs : List ℕ) → (length xs == 0) ≡ true → lines_of xs ≡ []
 empty_lines [] h = refl
 empty_lines (x ∷ xs) h = absurd (omega (arith, eqb-true (length (x ∷ xs)) 0 h))
@@ -41,6 +42,7 @@ target_few o (a ∷ []) h = refl
 target_few o (a ∷ b ∷ []) h = refl
 target_few o (a ∷ b ∷ t ∷ ws) h = absurd (omega arith)
 
+-- with more than three words behind it, it is faulty
 pub target_many : (o : JumpOperation) (ws : List (Bor (List ℕ))) → 3 < length ws → with_target o (texts ws) ≡ Err kinds.Word
 target_many o [] h = absurd (omega arith)
 target_many o (a ∷ []) h = absurd (omega arith)

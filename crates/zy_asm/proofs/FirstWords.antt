@@ -20,16 +20,19 @@ use Rattle.zy_asm.specs.Choices.{action_of}
 use Rattle.zy_asm.specs.Reading.{Seen, note_label, label_at, labelled, instr_line, instr_at, keyword_of, closed, txn_at, row_at, action_line, choice_line}
 use Rattle.zy_asm.specs.Reading.{statement, led_by, line_at, line_step}
 
+-- to go on from an answer in two ways that agree on each value is the same
 bind_same : {X Y : Type 0} (r : Result X AsmKind) (f g : X → Result Y AsmKind) → ((x : X) → f x ≡ g x) → (r >>= f) ≡ (r >>= g)
 bind_same (Ok x) f g h = h x
 bind_same (Err e) f g h = refl
 
+-- an operation with four words or more behind it is faulty
 too_many : (op : Operation) (c d e f : List ℕ) (ws : List (List ℕ)) → instr_of op (c ∷ d ∷ e ∷ f ∷ ws) ≡ Err kinds.Word
 too_many (Number o) c d e f ws = refl
 too_many (Pair o) c d e f ws = refl
 too_many (Jump o) c d e f ws = refl
 too_many (Lone o) c d e f ws = refl
 
+-- so is its line
 instr_fault : (s : Seen) (op : Operation) (c d e f : List ℕ) (ws : List (List ℕ)) → instr_line s op (c ∷ d ∷ e ∷ f ∷ ws) ≡ Err kinds.Word
 instr_fault s op c d e f ws = rw (too_many op c d e f ws) refl
 
@@ -113,6 +116,7 @@ module _ (b c d e f : List ℕ) (ws : List (List ℕ)) where
   line_same stage.Choices s w = led_same (label_of w) s w
   line_same stage.Done s w = refl
 
+-- a line is read as its first six words are
 pub line_first : (s : Seen) (ws : List (List ℕ)) → line_step s (first_words ws) ≡ line_step s ws
 line_first s [] = refl
 line_first s (a ∷ []) = refl

@@ -18,6 +18,7 @@ use Rattle.zy_asm.proofs.SpellLemmas.{SpellsPending}
 abbrev pub FitsIn : Version → Pending → Type 0
 FitsIn version p = (labels : List Mark) (i : Instr) → resolved labels p ≡ Ok i → has version i ≡ true
 
+-- each instruction is, once the labels are known, one that the version has
 abbrev pub AllFit : Version → List Pending → Type 0
 AllFit version [] = Unit {0}
 AllFit version (p ∷ ps) = FitsIn version p × AllFit version ps
@@ -29,12 +30,14 @@ spelled_by labels (Pair o a b) w ws h = cc h
 spelled_by labels (Jump o a b n) w ws h = cc (h.1)
 spelled_by labels (Lone o) w ws h = cc h
 
+-- an instruction that is spelled with an operation of the version is one that the version has
 pub spelled_fits : (version : Version) (o : Operation) (ws : List (List ℕ)) (p : Pending) → is_of version o ≡ true → SpellsPending p (mnemonic o ∷ ws)
     → FitsIn version p
 spelled_fits version o ws p known spelled labels i e =
     let same = same_operation o (operation_of (parts_of i)) (spelled_by labels (parts_of i) (mnemonic o) ws (spelled labels i e)) in
     subst (λ x. is_of version x ≡ true) same known
 
+-- instructions that the version has, and more of them, are such instructions
 pub all_fit-append : (version : Version) (O Q : List Pending) → AllFit version O → AllFit version Q → AllFit version (O ++ Q)
 all_fit-append version [] Q h g = g
 all_fit-append version (p ∷ O) Q h g = (h.0, all_fit-append version O Q h.1 g)

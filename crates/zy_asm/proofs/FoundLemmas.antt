@@ -34,6 +34,7 @@ record Placed (b : Base) : Type 0 where
   few_pages : opening_pages_for b.cap (length b.rows) ≤ b.pages
   in_order : misplaced_row b.rows ≡ None
 
+-- a row more that there is room for, with a key above the last, leaves the rows in order and in their places
 placed_more : (b : Base) (r : Row) → Placed b → length b.rows < 256 → opening_pages_for b.cap (length b.rows + 1) ≤ b.pages
     → is_low r.key (last_row b.rows) ≡ false → Placed (record b { rows = b.rows ++ r ∷ [] })
 placed_more b r h few pages low =
@@ -51,6 +52,7 @@ record FoundRows (b : Base) (ls : List (List (List ℕ))) (t : Seen) : Type 0 wh
   placed : Placed (record b { rows = b.rows ++ rows })
   spelled : SpellEach (map m.row rows ++ following [] 0 rest.programs rest.choices) ls
 
+-- a line that spells a row, in front of lines that are found to be rows and the rest, is one row more
 row_more : (b : Base) (r : Row) (l : List (List ℕ)) (ls : List (List (List ℕ))) (t : Seen) → Spells (m.row r) l
     → FoundRows (record b { rows = b.rows ++ r ∷ [] }) ls t → FoundRows b (l ∷ ls) t
 row_more b r l ls t s f =
@@ -59,6 +61,7 @@ row_more b r l ls t s f =
     subst (λ x. (q : Rest (record b { rows = x }) [] 0 [] t) × SpellEach (map m.row f.rows ++ following [] 0 q.programs q.choices) ls) e (f.rest, f.spelled) in
     record { rows = r ∷ f.rows; rest = both.0; placed = subst (λ x. Placed (record b { rows = x })) e f.placed; spelled = (s, both.1) }
 
+-- where no row is left, what follows is the rest
 rows_over : (b : Base) (ls : List (List (List ℕ))) (t : Seen) → Placed b → FoundNext b [] [] ls t → FoundRows b ls t
 rows_over b ls t placed f =
     let e = sym (append-nil b.rows) in
@@ -66,6 +69,7 @@ rows_over b ls t placed f =
     subst (λ x. (q : Rest (record b { rows = x }) [] 0 [] t) × SpellEach (following [] 0 q.programs q.choices) ls) e f in
     record { rows = []; rest = both.0; placed = subst (λ x. Placed (record b { rows = x })) e placed; spelled = both.1 }
 
+-- lines that are read from the rows on are rows and then programs and choices, which they spell
 found_rows : (ls : List (List (List ℕ))) (b : Base) (t : Seen) → Placed b → fold_lines (top stage.Rows b [] []) ls ≡ Ok t → FoundRows b ls t
 found_rows [] b t placed h = cc
 found_rows (l ∷ ls) b t placed h =
@@ -80,6 +84,7 @@ found_rows (l ∷ ls) b t placed h =
 
 -- ---- the header
 
+-- a header line that is read has its name and one word behind it
 headed_ok : (ws : List (List ℕ)) (name w : List ℕ) → headed ws name ≡ Ok w → ws ≡ name ∷ w ∷ []
 headed_ok [] name w h = cc
 headed_ok (x ∷ []) name w h = cc
@@ -89,9 +94,11 @@ headed_ok (x ∷ v ∷ []) name w h =
     rw (same x name p.0, e) refl
 headed_ok (x ∷ v ∷ y ∷ ys) name w h = cc
 
+-- a word that is equal to that of the rule found is that rule's
 this_rule : (w : List ℕ) (a r : Rule) → bytes_eq w (rule_text a) ≡ true → Some a ≡ Some r → w ≡ rule_text r
 this_rule w a r e h = let q : a ≡ r = cc in same w (rule_text a) e ∙ ap rule_text q
 
+-- a word that is read as a rule is that rule's
 rule_ok : (w : List ℕ) (r : Rule) → rule_of w ≡ Some r → w ≡ rule_text r
 rule_ok w r h =
     elim (chosen_by (bytes_eq w (codes "held")) _ _ _ h) [
@@ -103,6 +110,7 @@ rule_ok w r h =
     no : (x : Rule) → None ≡ Some x → ⊥
     no x e = cc
 
+-- what the lines from that of the rule on spell: the rule, and what the rows and the rest are
 record FoundRule (v : Version) (c p : ℕ) (ls : List (List (List ℕ))) (t : Seen) : Type 0 where
   rule : Rule
   line : List (List ℕ)
@@ -111,6 +119,7 @@ record FoundRule (v : Version) (c p : ℕ) (ls : List (List (List ℕ))) (t : Se
   spelled : Spells (m.rule rule) line
   rows : FoundRows (base v c p rule []) more t
 
+-- lines that are read from that of the rule on spell the rule and the rest
 found_rule : (ls : List (List (List ℕ))) (v : Version) (c p : ℕ) (t : Seen) → 1 ≤ p → fold_lines (top stage.Rule (base v c p Held []) [] []) ls ≡ Ok t
     → FoundRule v c p ls t
 found_rule [] v c p t least h = cc
@@ -137,11 +146,13 @@ record Number (name : List ℕ) (low high : ℕ) (line : List (List ℕ)) (n : �
   least : low ≤ n
   most : n ≤ high
 
+-- a header line that is read as a number in its range tells that number
 number_line : (l : List (List ℕ)) (name w : List ℕ) (a b n : ℕ) → headed l name ≡ Ok w → number_in w a b ≡ Ok n → Number name a b l n
 number_line l name w a b n h g =
     let q = number_in_ok w a b n g in
     record { word = w; spelled = headed_ok l name w h; number = q.0; least = q.1; most = q.2 }
 
+-- what the lines from that of the pages on spell: the number of pages, and the rest
 record FoundPages (v : Version) (c : ℕ) (ls : List (List (List ℕ))) (t : Seen) : Type 0 where
   pages : ℕ
   line : List (List ℕ)
@@ -150,6 +161,7 @@ record FoundPages (v : Version) (c : ℕ) (ls : List (List (List ℕ))) (t : See
   number : Number (codes "pages") 1 512 line pages
   rule : FoundRule v c pages more t
 
+-- lines that are read from that of the pages on spell that number and the rest
 found_pages : (ls : List (List (List ℕ))) (v : Version) (c : ℕ) (t : Seen) → fold_lines (top stage.Pages (base v c 1 Held []) [] []) ls ≡ Ok t
     → FoundPages v c ls t
 found_pages [] v c t h = cc
@@ -161,6 +173,7 @@ found_pages (l ∷ ls) v c t h =
     let q = number_line l (codes "pages") a.0 1 512 n.0 a.1 n.1 in
     record { pages = n.0; line = l; more = ls; lines = refl; number = q; rule = found_rule ls v c n.0 t q.least (rw e at k.2) }
 
+-- what the lines from that of the cap on spell: the cap, and the rest
 record FoundCap (v : Version) (ls : List (List (List ℕ))) (t : Seen) : Type 0 where
   cap : ℕ
   line : List (List ℕ)
@@ -169,6 +182,7 @@ record FoundCap (v : Version) (ls : List (List (List ℕ))) (t : Seen) : Type 0 
   number : Number (codes "cap") 2 16 line cap
   pages : FoundPages v cap more t
 
+-- lines that are read from that of the cap on spell the cap and the rest
 found_cap : (ls : List (List (List ℕ))) (v : Version) (t : Seen) → fold_lines (top stage.Cap (base v 2 1 Held []) [] []) ls ≡ Ok t → FoundCap v ls t
 found_cap [] v t h = cc
 found_cap (l ∷ ls) v t h =
@@ -191,12 +205,14 @@ found_cap (l ∷ ls) v t h =
 abbrev pub shows : Seen → Scenario
 shows t = record { version = t.version; cap = t.cap; pages = t.pages; rule = t.rule; rows = t.rows; programs = t.programs; choices = t.choices }
 
+-- lines that spell the statements of a draft of the scenario that the state shows, which has no fault
 pub record FoundText (ls : List (List (List ℕ))) (t : Seen) : Type 0 where
   pub draft : Draft
   pub drafts : IsDraftOf draft (shows t)
   pub spelled : SpellEach (statements (shows t) draft) ls
   pub tested : scenario_fault (shows t) ≡ None
 
+-- a line of the version, and lines that spell the rest of the header and what follows, are such a text
 whole : (a : List (List ℕ)) (ls : List (List (List ℕ))) (v : Version) (t : Seen) → Spells (m.zephyr v) a → FoundCap v ls t → FoundText (a ∷ ls) t
 whole a ls v t z f =
     let g = f.pages in
@@ -214,6 +230,7 @@ whole a ls v t z f =
     } in
     subst (λ x. FoundText (a ∷ x) t) (sym lines) (subst (FoundText (a ∷ f.line ∷ g.line ∷ i.line ∷ i.more)) (sym r.same) all)
 
+-- lines with words that are read from the beginning on are such a text
 pub found_text : (ls : List (List (List ℕ))) (t : Seen) → fold_lines nothing_seen ls ≡ Ok t → FoundText ls t
 found_text [] t h = cc
 found_text (l ∷ ls) t h =

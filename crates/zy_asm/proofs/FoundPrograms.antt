@@ -25,6 +25,7 @@ use Rattle.zy_asm.proofs.FoundSteps.{Base, at, fold_lines, TxnStep, EndStep, Cho
 
 -- ---- the choices and the end
 
+-- below the end line there is no line, and the state stays
 done_only : (b : Base) (N : List Mark) (P : List (List Instr)) (C : List Choice) (ls : List (List (List ℕ))) (t : Seen)
     → fold_lines (at stage.Done b N P [] [] C) ls ≡ Ok t → (ls ≡ []) × (t ≡ at stage.Done b N P [] [] C)
 done_only b N P C [] t h = (refl, cc)
@@ -38,10 +39,12 @@ pub record FoundChoices (b : Base) (N : List Mark) (P : List (List Instr)) (C : 
   pub few : length (C ++ repeated choices) ≤ 4096
   pub same : t ≡ at stage.Done b N P [] [] (C ++ repeated choices)
 
+-- a choice whose transaction exists, made n times in front of such choices, leaves them such choices
 named_times : (count n : ℕ) (c : Choice) (rest : List Choice) → names_below count c ≡ true → AreNamed count rest → AreNamed count (replicate n c ++ rest)
 named_times count zero c rest h g = g
 named_times count (suc n) c rest h g = (h, named_times count n c rest h g)
 
+-- a choice's line in front of lines that are found to be choices and the end is one choice more
 choice_more : (b : Base) (N : List Mark) (P : List (List Instr)) (C : List Choice) (st : Stage) (l : List (List ℕ)) (ls : List (List (List ℕ))) (u t : Seen)
     → ChoiceStep (at st b N P [] [] C) l u → ((D : List Choice) → length D ≤ 4096 → fold_lines (at stage.Choices b N P [] [] D) ls ≡ Ok t
     → FoundChoices b N P D ls t)
@@ -58,6 +61,7 @@ choice_more b N P C st l ls u t step ih h =
       same = rest.same ∙ ap (at stage.Done b N P [] []) (append_assoc C more (repeated rest.choices));
     }
 
+-- where the line is the end line, no choice follows
 end_here : (b : Base) (N : List Mark) (P : List (List Instr)) (C : List Choice) (st : Stage) (l : List (List ℕ)) (ls : List (List (List ℕ))) (u t : Seen)
     → length C ≤ 4096
     → EndStep (at st b N P [] [] C) l u → fold_lines u ls ≡ Ok t → FoundChoices b N P C (l ∷ ls) t
@@ -71,6 +75,7 @@ end_here b N P C st l ls u t few step h =
       same = d.1 ∙ ap (at stage.Done b N P [] []) (sym (append-nil C));
     }
 
+-- lines that are read from the first choice on spell choices and the end
 found_choices : (ls : List (List (List ℕ))) (b : Base) (N : List Mark) (P : List (List Instr)) (C : List Choice) (t : Seen) → AreBelow (length P) N
     → length C ≤ 4096
     → fold_lines (at stage.Choices b N P [] [] C) ls ≡ Ok t → FoundChoices b N P C ls t
@@ -84,6 +89,7 @@ found_choices (l ∷ ls) b N P C t low few h =
 
 -- ---- programs
 
+-- the instructions of each program that is written
 abbrev pub bodies : List Written → List (List Instr)
 bodies ps = map (λ (p : Written). instrs_of p.body) ps
 
@@ -108,9 +114,11 @@ following N k ps cs = flat_map program_statements ps ++ choice_statements (N ++ 
 abbrev pub Follows : Base → List Mark → ℕ → List (List Instr) → List Line → List (List (List ℕ)) → Seen → Type 0
 Follows b N k P body ls t = (r : Rest b N k P t) × SpellBody body (following N k r.programs r.choices) ls
 
+-- what follows behind the programs so far, where none is open
 abbrev pub FoundNext : Base → List Mark → List (List Instr) → List (List (List ℕ)) → Seen → Type 0
 FoundNext b N P ls t = Follows b N (length P) P [] ls t
 
+-- what the lines inside a program spell: its lines that are left, the whole program, and what follows it
 pub record FoundInside (b : Base) (N : List Mark) (P : List (List Instr)) (M : List Mark) (O : List Pending) (ls : List (List (List ℕ)))
     (t : Seen) : Type 0 where
   pub body : List Line
@@ -183,6 +191,7 @@ pub record Found (ls : List (List (List ℕ))) (t : Seen) : Type 0 where
       → AllFit b.version O → AreKnown b.version P
       → fold_lines (at stage.Program b N P M O []) ls ≡ Ok t → FoundInside b N P M O ls t
 
+-- where what is below is found, a line between programs that is read is found with it
 pub next_line : (b : Base) (N : List Mark) (P : List (List Instr)) (l : List (List ℕ)) (ls : List (List (List ℕ))) (u t : Seen) → length P ≤ 64
     → AreBelow (length P) N → AreKnown b.version P → Found ls t
     → Next b N P l u → fold_lines u ls ≡ Ok t → FoundNext b N P (l ∷ ls) t
@@ -196,6 +205,7 @@ next_line b N P l ls u t few low known ih n h =
       ]
     ]
 
+-- a line of the open program, in front of what is found inside it, is one line more of the program
 code_more : (b : Base) (N : List Mark) (P : List (List Instr)) (M : List Mark) (O : List Pending) (l : List (List ℕ)) (ls : List (List (List ℕ))) (u t : Seen)
     (d : CodeStep b N P M O l u)
     → FoundInside b N P (M ++ label_at d.line.label (length O)) (O ++ pending_in d.line.pending) ls t → FoundInside b N P M O (l ∷ ls) t
@@ -216,6 +226,7 @@ code_more b N P M O l ls u t d f =
       follows = (f.follows.0, (d.spelled, f.follows.1));
     }
 
+-- where the program is closed, it has no line more, and what is found next follows it
 close_here : (b : Base) (N : List Mark) (P : List (List Instr)) (M : List Mark) (O : List Pending) (ls : List (List (List ℕ))) (t : Seen) (p : List Instr)
     → all_resolved M O ≡ Ok p
     → FoundNext b N (P ++ p ∷ []) ls t → FoundInside b N P M O ls t
@@ -227,6 +238,7 @@ close_here b N P M O ls t p e f = record {
   follows = subst (λ n. Follows b N n (P ++ p ∷ []) [] ls t) (length-append P (p ∷ [])) f;
 }
 
+-- where what is below is found, a line inside a program that is read is found with it
 inside_line : (b : Base) (N : List Mark) (P : List (List Instr)) (M : List Mark) (O : List Pending) (l : List (List ℕ)) (ls : List (List (List ℕ))) (u t : Seen)
     → length P < 64 → AreBelow (length P + 1) N → AllFit b.version O → AreKnown b.version P → Found ls t
     → body_line (at stage.Program b N P M O []) l ≡ Ok u → fold_lines u ls ≡ Ok t → FoundInside b N P M O (l ∷ ls) t
@@ -242,6 +254,7 @@ inside_line b N P M O l ls u t few low fit known ih e h =
           (program_more b.version P x.program known (all_known b.version M O x.program fit x.resolves)) ih x.next h)
     ]
 
+-- lines that are read in any open program are found to be the lines of that program and what follows it
 pub found_all : (ls : List (List (List ℕ))) (t : Seen) → Found ls t
 found_all [] t = record { inside = λ b N P M O few low fit known h. cc }
 found_all (l ∷ ls) t =

@@ -45,6 +45,7 @@ pub record Base : Type 0 where
   pub rule : Rule
   pub rows : List Row
 
+-- what these parts of the header and these rows gave
 abbrev pub base : Version → ℕ → ℕ → Rule → List Row → Base
 base v c p r R = record { version = v; cap = c; pages = p; rule = r; rows = R }
 
@@ -75,6 +76,7 @@ fold_lines s (l ∷ ls) = step s l >>= λ t. fold_lines t ls
 
 -- ---- a line that closes the programs, or goes on below them
 
+-- what a line did that opens a program: its head is its number or a new name, and a program is open
 pub record TxnStep (b : Base) (N : List Mark) (P : List (List Instr)) (ws : List (List ℕ)) (t : Seen) : Type 0 where
   pub head : List ℕ
   pub spelled : Spells (m.txn head) ws
@@ -83,6 +85,7 @@ pub record TxnStep (b : Base) (N : List Mark) (P : List (List Instr)) (ws : List
   pub few : length P < 64
   pub after : t ≡ top stage.Program b (N ++ name_in head (length P)) P
 
+-- a line `txn` that is read opens a program
 txn_step : (st : Stage) (b : Base) (N : List Mark) (P : List (List Instr)) (ws : List (List ℕ)) (t : Seen) → open_line (top st b N P) ws ≡ Ok t
     → TxnStep b N P (codes "txn" ∷ ws) t
 txn_step st b N P [] t h = cc
@@ -102,9 +105,11 @@ txn_step st b N P (w ∷ []) t h =
     }
 txn_step st b N P (w ∷ v ∷ ws) t h = cc
 
+-- what the end line did
 abbrev pub EndStep : Seen → List (List ℕ) → Seen → Type 0
 EndStep s ws t = (ws ≡ codes "end" ∷ []) × (t ≡ record s { stage = stage.Done })
 
+-- a line `end` that is read is that word alone, and nothing follows it
 end_step : (s : Seen) (ws : List (List ℕ)) (t : Seen) → end_line s ws ≡ Ok t → EndStep s (codes "end" ∷ ws) t
 end_step s [] t h = (refl, cc)
 end_step s (w ∷ ws) t h = cc
@@ -113,6 +118,7 @@ end_step s (w ∷ ws) t h = cc
 abbrev pub ChoiceStep : Seen → List (List ℕ) → Seen → Type 0
 ChoiceStep s ws t = (a : Actor) × (rest : List (List ℕ)) × (ws ≡ actor_word a ∷ rest) × Chose s a rest t
 
+-- words behind equal first words are equal lines
 first : (w a : List ℕ) (ws : List (List ℕ)) → w ≡ a → w ∷ ws ≡ a ∷ ws
 first w a ws e = ap (λ x. x ∷ ws) e
 
@@ -123,6 +129,7 @@ no_label false t h = cc
 
 -- ---- a line among the rows
 
+-- what the line of a row did: its key is above the last, there is room for it, and it is put last
 pub record RowStep (b : Base) (ws : List (List ℕ)) (t : Seen) : Type 0 where
   pub line : Row
   pub spelled : Spells (m.row line) ws
@@ -131,6 +138,7 @@ pub record RowStep (b : Base) (ws : List (List ℕ)) (t : Seen) : Type 0 where
   pub rises : is_low line.key (last_row b.rows) ≡ false
   pub after : t ≡ top stage.Rows (record b { rows = b.rows ++ line ∷ [] }) [] []
 
+-- a line `row` that is read is a row more
 row_step : (b : Base) (ws : List (List ℕ)) (t : Seen) → row_at stage.Rows (top stage.Rows b [] []) ws ≡ Ok t → RowStep b (codes "row" ∷ ws) t
 row_step b ws t h =
     let a = bind_ok (row_of ws) (add_row (top stage.Rows b [] [])) t h in
@@ -139,12 +147,15 @@ row_step b ws t h =
     let n = neither (nat_le 256 (length b.rows)) (nat_lt b.pages (opening_pages_for b.cap (length b.rows + 1))) f.0 in
     record { line = a.0; spelled = row_ok ws a.0 a.1; few = below (length b.rows) 256 n.0; few_pages = not_over _ b.pages n.1; rises = d.0; after = cc (d.1) }
 
+-- a line between programs: it opens a program, or is a choice, or is the end line
 abbrev pub Next : Base → List Mark → List (List Instr) → List (List ℕ) → Seen → Type 0
 Next b N P ws t = TxnStep b N P ws t ⊎ (ChoiceStep (top stage.Rows b N P) ws t ⊎ EndStep (top stage.Rows b N P) ws t)
 
+-- a line below the programs: it is a choice or the end line
 abbrev pub Below : Seen → List (List ℕ) → Seen → Type 0
 Below s ws t = ChoiceStep s ws t ⊎ EndStep s ws t
 
+-- a line that is read among the rows is a row, or opens a program, or is a choice or the end line
 pub rows_ok : (b : Base) (ws : List (List ℕ)) (t : Seen) → body_line (top stage.Rows b [] []) ws ≡ Ok t → RowStep b ws t ⊎ Next b [] [] ws t
 rows_ok b [] t h = cc
 rows_ok b (w ∷ ws) t h = split (label_of w) h
@@ -165,6 +176,7 @@ rows_ok b (w ∷ ws) t h = split (label_of w) h
 
 -- ---- a line inside a program is a line of it, or it closes it
 
+-- what a line of the open program did: its label is new, and its label and its instruction are put last
 pub record CodeStep (b : Base) (N : List Mark) (P : List (List Instr)) (M : List Mark) (O : List Pending) (ws : List (List ℕ)) (t : Seen) : Type 0 where
   pub line : Line
   pub spelled : SpellsLine line ws
@@ -172,12 +184,14 @@ pub record CodeStep (b : Base) (N : List Mark) (P : List (List Instr)) (M : List
   pub fits : AllFit b.version (pending_in line.pending)
   pub after : t ≡ at stage.Program b N P (M ++ label_at line.label (length O)) (O ++ pending_in line.pending) []
 
+-- what the line of an instruction did: it is of the version, and it is put last
 pub record InstrStep (s : Seen) (ws : List (List ℕ)) (t : Seen) : Type 0 where
   pub pending : Pending
   pub spelled : SpellsPending pending ws
   pub fits : FitsIn s.version pending
   pub after : t ≡ record s { instrs = s.instrs ++ pending ∷ [] }
 
+-- an operation of the version that is read with the words behind it is an instruction
 instr_step : (s : Seen) (o : Operation) (ws : List (List ℕ)) (t : Seen) → is_of s.version o ≡ true → instr_line s o ws ≡ Ok t → InstrStep s (mnemonic o ∷ ws) t
 instr_step s o ws t known h =
     let a = bind_ok (instr_of o ws) _ t h in
@@ -185,6 +199,7 @@ instr_step s o ws t known h =
     let spelled = instr_ok o ws a.0 a.1 in
     record { pending = a.0; spelled = spelled; fits = spelled_fits s.version o ws a.0 known spelled; after = cc (b.1) }
 
+-- a line that begins with an operation, and is read in an open program, is a line without a label
 plain_line : (b : Base) (N : List Mark) (P : List (List Instr)) (M : List Mark) (O : List Pending) (o : Operation) (w : List ℕ) (ws : List (List ℕ)) (t : Seen)
     → (w ≡ mnemonic o) × (is_of b.version o ≡ true)
     → instr_line (at stage.Program b N P M O []) o ws ≡ Ok t → CodeStep b N P M O (w ∷ ws) t
@@ -198,6 +213,7 @@ plain_line b N P M O o w ws t e h =
       after = p.after ∙ ap (λ x. at stage.Program b N P x (O ++ p.pending ∷ []) []) (sym (append-nil M));
     }
 
+-- a line that begins with a new label and an operation behind it is a line with both
 labelled_line : (b : Base) (N : List Mark) (P : List (List Instr)) (M : List Mark) (O : List Pending) (v : List ℕ) (o : Operation) (w x : List ℕ)
     (ws : List (List ℕ)) (t : Seen)
     → x ≡ v ++ 58 ∷ [] → is_name v ≡ true → place v M ≡ None → (w ≡ mnemonic o) × (is_of b.version o ≡ true)
@@ -212,6 +228,7 @@ labelled_line b N P M O v o w x ws t q n new e h =
       after = p.after;
     }
 
+-- a line that begins with a label, and is read in an open program, is a line of that program
 label_step : (b : Base) (N : List Mark) (P : List (List Instr)) (M : List Mark) (O : List Pending) (v x : List ℕ) (ws : List (List ℕ)) (t : Seen)
     → x ≡ v ++ 58 ∷ [] → label_line (at stage.Program b N P M O []) v ws ≡ Ok t → CodeStep b N P M O (x ∷ ws) t
 label_step b N P M O v x ws t q h =
@@ -243,10 +260,12 @@ label_step b N P M O v x ws t q h =
     }
     rest (w ∷ vs) n new g = by w vs (keyword_of b.version w) refl n new g
 
+-- instructions that are judged without a fault stay as they are
 judged_ok : (o : Option ProgFault) (is p : List Instr) → judged o is ≡ Ok p → p ≡ is
 judged_ok None is p h = cc
 judged_ok (Some f) is p h = cc
 
+-- a program that is closed is its instructions, resolved with its labels
 program_ok : (M : List Mark) (O : List Pending) (p : List Instr) → program_of M O ≡ Ok p → all_resolved M O ≡ Ok p
 program_ok M O p h =
     let a = bind_ok (all_resolved M O) _ p h in
@@ -258,6 +277,7 @@ pub record Closing (M : List Mark) (O : List Pending) (t : Seen) (f : List Instr
   pub resolves : all_resolved M O ≡ Ok program
   pub after : g (f program) ≡ Ok t
 
+-- a step that closes the program first, and is read, closes it and then does the rest
 closing : (M : List Mark) (O : List Pending) (t : Seen) (f : List Instr → Seen) (g : Seen → Result Seen AsmKind)
     → ((program_of M O >>= λ p. Ok (f p)) >>= g) ≡ Ok t → Closing M O t f g
 closing M O t f g h =
@@ -266,6 +286,7 @@ closing M O t f g h =
     let e : f b.0 ≡ a.0 = cc (b.2) in
     record { program = b.0; resolves = program_ok M O b.0 b.1; after = ap g e ∙ a.2 }
 
+-- an action is read alike below the programs and below the rows
 action_same : (b : Base) (N : List Mark) (P : List (List Instr)) (x : Action) (ws : List (List ℕ))
     → action_line (top stage.Choices b N P) x ws ≡ action_line (top stage.Rows b N P) x ws
 action_same b N P (Txn x) [] = refl
@@ -283,6 +304,7 @@ choice_same b N P a (w ∷ ws) = by (action_of a w)
     by None = refl
     by (Some x) = action_same b N P x ws
 
+-- so is the end line
 end_same : (b : Base) (N : List Mark) (P : List (List Instr)) (vs : List (List ℕ)) (t : Seen) → end_line (top stage.Choices b N P) vs ≡ Ok t
     → end_line (top stage.Rows b N P) vs ≡ Ok t
 end_same b N P [] t x = x
@@ -294,9 +316,11 @@ pub record Closed (b : Base) (N : List Mark) (P : List (List Instr)) (M : List M
   pub resolves : all_resolved M O ≡ Ok program
   pub next : Next b N (P ++ program ∷ []) ws t
 
+-- a line that is read inside a program: a line of it, or one that closes it
 abbrev pub Inside : Base → List Mark → List (List Instr) → List Mark → List Pending → List (List ℕ) → Seen → Type 0
 Inside b N P M O ws t = CodeStep b N P M O ws t ⊎ Closed b N P M O ws t
 
+-- a line that is read inside a program is a line of it or closes it
 pub inside_ok : (b : Base) (N : List Mark) (P : List (List Instr)) (M : List Mark) (O : List Pending) (ws : List (List ℕ)) (t : Seen)
     → AreBelow (length P + 1) N
     → body_line (at stage.Program b N P M O []) ws ≡ Ok t → Inside b N P M O ws t
@@ -345,6 +369,7 @@ inside_ok b N P M O (w ∷ ws) t low h = split (label_of w) refl h
 
 -- ---- a line below a choice
 
+-- a line that is read below a choice is a choice or the end line
 pub below_ok : (b : Base) (N : List Mark) (P : List (List Instr)) (C : List Choice) (ws : List (List ℕ)) (t : Seen) → AreBelow (length P) N
     → body_line (at stage.Choices b N P [] [] C) ws ≡ Ok t → Below (at stage.Choices b N P [] [] C) ws t
 below_ok b N P C [] t low h = cc

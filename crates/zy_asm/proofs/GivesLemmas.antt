@@ -47,11 +47,13 @@ use Rattle.zy_asm.proofs.CodeLemmas.{own_gives}
 use Rattle.zy_asm.proofs.FoundSteps.{Base, at, top}
 use borrow.Author.Tests.{tests}
 
+-- a word that spells a number in the range is read as it
 pub number_in_gives : (w : List ℕ) (a b n : ℕ) → number_of w ≡ Some n → a ≤ n → n ≤ b → number_in w a b ≡ Ok n
 number_in_gives w a b n e p q = rw e (rw (out_of_neither n a b p q) refl)
 
 -- ---- instructions
 
+-- the name of a register is read as the register
 register_gives : (r : Reg) → register_of (reg_text r) ≡ Ok r
 register_gives R0 = refl
 register_gives R1 = refl
@@ -62,12 +64,15 @@ register_gives R5 = refl
 register_gives R6 = refl
 register_gives R7 = refl
 
+-- the names of two registers are read as both
 two_gives : (a b : Reg) → two (reg_text a) (reg_text b) ≡ Ok (a, b)
 two_gives a b = rw (register_gives a, register_gives b) refl
 
+-- the operation of an instruction
 abbrev pub op_of : Instr → Operation
 op_of i = operation_of (parts_of i)
 
+-- a letter is not `@`
 letter_no_at : (b : ℕ) → is_letter b ≡ true → (b == 64) ≡ false
 letter_no_at b h = grind (arith, tests)
 
@@ -77,6 +82,7 @@ pub record Given (labels : List Mark) (o : Operation) (rest : List (List ℕ)) (
   pub given : instr_of o rest ≡ Ok pending
   pub resolves : resolved labels pending ≡ Ok i
 
+-- a jump to a label of the program is given, with the label's number in its place
 jump_gives : (labels : List Mark) (o : JumpOperation) (a b : Reg) (n : ℕ) (w : List ℕ) → is_name w ≡ true → place w labels ≡ Some n
     → Given labels (op.Jump o) (reg_text a ∷ reg_text b ∷ w ∷ []) (instr_with (Jump o a b n))
 jump_gives labels o a b n [] h e = cc
@@ -85,6 +91,7 @@ jump_gives labels o a b n (c ∷ cs) h e =
     let first = both (is_letter c) (are_parts cs) l.0 in
     record { pending = jump o a b (c ∷ cs); given = rw (two_gives a b, letter_no_at c first.0, h) refl; resolves = rw e refl }
 
+-- a jump to `@N` or to a label of the program is given
 target_gives : (labels : List Mark) (o : JumpOperation) (a b : Reg) (n : ℕ) (w : List ℕ) → SpellsTarget labels n w → n < 2 ^ 32
     → Given labels (op.Jump o) (reg_text a ∷ reg_text b ∷ w ∷ []) (instr_with (Jump o a b n))
 target_gives labels o a b n w h v = elim h [
@@ -101,6 +108,7 @@ target_gives labels o a b n w h v = elim h [
   | inr d ↦ jump_gives labels o a b n w d.0 d.1
 ]
 
+-- an instruction without a label is given as it is
 whole_given : (labels : List Mark) (o : Operation) (rest : List (List ℕ)) (i : Instr) → instr_of o rest ≡ Ok (whole i) → Given labels o rest i
 whole_given labels o rest i e = record { pending = whole i; given = e; resolves = refl }
 
@@ -108,6 +116,7 @@ whole_given labels o rest i e = record { pending = whole i; given = e; resolves 
 abbrev Gives : List Mark → Operation → List (List ℕ) → Instr → Type 0
 Gives labels o ws i = (rest : List (List ℕ)) × (ws ≡ mnemonic o ∷ rest) × Given labels o rest i
 
+-- words that spell the parts of an instruction give the instruction
 parts_give : (labels : List Mark) (p : Parts) (ws : List (List ℕ)) → SpellsParts labels p ws → PartsFit p → Gives labels (operation_of p) ws (instr_with p)
 parts_give labels (Number o a n) ws h v = (
   reg_text a ∷ h.0 ∷ [],
@@ -118,9 +127,11 @@ parts_give labels (Pair o a b) ws h v = (reg_text a ∷ reg_text b ∷ [], h, wh
 parts_give labels (Jump o a b n) ws h v = (reg_text a ∷ reg_text b ∷ h.0 ∷ [], h.1, target_gives labels o a b n h.0 h.2 v)
 parts_give labels (Lone o) ws h v = ([], h, whole_given labels (op.Lone o) [] _ refl)
 
+-- words that spell an instruction give it
 pub instr_gives : (labels : List Mark) (i : Instr) (ws : List (List ℕ)) → SpellsInstr labels i ws → HasValue i → Gives labels (op_of i) ws i
 instr_gives labels i ws h v = subst (Gives labels (op_of i) ws) (instr_again i) (parts_give labels (parts_of i) ws h v)
 
+-- an instruction that is read and that there is room for is put last
 instr_line_gives : (s : Seen) (o : Operation) (rest : List (List ℕ)) (p : Pending) → instr_of o rest ≡ Ok p → length s.instrs < 64
     → instr_line s o rest ≡ Ok (record s { instrs = s.instrs ++ p ∷ [] })
 instr_line_gives s o rest p e few = rw (e, not_below (length s.instrs) 64 few) refl
@@ -150,9 +161,11 @@ pub record Codes (labels : List Mark) (b : Base) (N : List Mark) (P : List (List
   pub count : length more ≡ length (instr_in i)
   pub same : step (at stage.Program b N P M O []) l ≡ Ok (at stage.Program b N P (M ++ label_at v (length O)) (O ++ more) [])
 
+-- one instruction that is resolved is a list that is resolved
 alone_resolved : (labels : List Mark) (p : Pending) (i : Instr) → resolved labels p ≡ Ok i → all_resolved labels (p ∷ []) ≡ Ok (i ∷ [])
 alone_resolved labels p i e = rw e refl
 
+-- a line that spells a new label or none, and an instruction or none, puts them last in the open program
 pub code_gives : (labels : List Mark) (b : Base) (N : List Mark) (P : List (List Instr)) (M : List Mark) (O : List Pending) (v : Option (List ℕ))
     (i : Option Instr) (l front back : List (List ℕ))
     → l ≡ front ++ back → SpellsLabel v front → MaySpell labels i back → has_words l ≡ true → Values (instr_in i) → IsKnown b.version (instr_in i)
@@ -197,6 +210,7 @@ code_gives labels b N P M O (Some name) (Some i) l front back e f g some values 
 
 -- ---- names
 
+-- a word that spells a number begins with a digit
 digits_first : (b : ℕ) (bs : List ℕ) (n : ℕ) (t : Bool) → is_ascii_digit b ≡ t → number_of (b ∷ bs) ≡ Some n → is_ascii_digit b ≡ true
 digits_first b bs n true e h = e
 digits_first b bs n false e h = by (is_word (b ∷ bs) && nat_le (length (b ∷ bs)) 10) (rw e at h)
@@ -205,10 +219,12 @@ digits_first b bs n false e h = by (is_word (b ∷ bs) && nat_le (length (b ∷ 
     by true g = cc
     by false g = cc
 
+-- a word that spells a number is a numeral
 pub numeral_ok : (w : List ℕ) (n : ℕ) → number_of w ≡ Some n → is_numeral w ≡ true
 numeral_ok [] n h = cc
 numeral_ok (b ∷ bs) n h = digits_first b bs n (is_ascii_digit b) refl h
 
+-- a name is no numeral
 pub no_numeral : (w : List ℕ) → is_name w ≡ true → is_numeral w ≡ false
 no_numeral w h = by (is_numeral w) refl
   where
@@ -216,6 +232,7 @@ no_numeral w h = by (is_numeral w) refl
     by true e = let g : true ≡ false = sym h ∙ no_name w e in cc
     by false e = e
 
+-- a word that refers to a transaction is read as its number
 transaction_gives : (count : ℕ) (names : List Mark) (t : ℕ) (w : List ℕ) → Refers names t w → nat_lt t count ≡ true → transaction count names w ≡ Ok t
 transaction_gives count names t w h low = elim h [
   | inl e ↦ rw (numeral_ok w t e, e, low) refl
@@ -238,27 +255,32 @@ head_gives st b N P w h new = elim h [
 
 -- ---- choices
 
+-- words that spell how often are read as this number
 times_gives : (n : ℕ) (ws : List (List ℕ)) → SpellsTimes n ws → (are_times ws ≡ true) × (times_of ws ≡ Ok n)
 times_gives n ws h = elim h [
   | inl e ↦ rw (e.0, e.1) (refl, refl)
   | inr e ↦ rw e.1 (refl, number_in_gives e.0 1 4096 n e.2 e.3 e.4)
 ]
 
+-- a choice that there is room for, and words that spell how often, put it last as often
 repeat_gives : (s : Seen) (c : Choice) (n : ℕ) (times : List (List ℕ)) → SpellsTimes n times → length s.choices + n ≤ 4096
     → repeat_line s c times ≡ Ok (record s { stage = stage.Choices; choices = s.choices ++ replicate n c })
 repeat_gives s c n times h few = rw ((times_gives n times h).1, over_not (length s.choices + n) 4096 few) refl
 
+-- a choice with a transaction's action, the transaction and how often is read so
 txn_gives : (s : Seen) (a : Actor) (w who : List ℕ) (b : TxnAction) (i n : ℕ) (times : List (List ℕ)) → action_of a w ≡ Some (Txn b) → Refers s.names i who
     → nat_lt i (length s.programs) ≡ true → SpellsTimes n times → length s.choices + n ≤ 4096
     → choice_line s a (w ∷ who ∷ times) ≡ Ok (record s { stage = stage.Choices; choices = s.choices ++ replicate n (chosen b i) })
 txn_gives s a w who b i n times e f g h few = rw (e, (times_gives n times h).0, transaction_gives (length s.programs) s.names i who f g)
     (repeat_gives s (chosen b i) n times h few)
 
+-- a choice with an action of no transaction, and how often, is read so
 plain_gives : (s : Seen) (a : Actor) (w : List ℕ) (c : Choice) (n : ℕ) (times : List (List ℕ)) → action_of a w ≡ Some (Plain c) → SpellsTimes n times
     → length s.choices + n ≤ 4096
     → choice_line s a (w ∷ times) ≡ Ok (record s { stage = stage.Choices; choices = s.choices ++ replicate n c })
 plain_gives s a w c n times e h few = rw (e, (times_gives n times h).0) (repeat_gives s c n times h few)
 
+-- the actions of a node's lines are the node's
 at_node : (n : Node) (w : List ℕ) → action_of (actor_at n) w ≡ node_action n w
 at_node node.A w = refl
 at_node node.B w = refl
@@ -268,6 +290,7 @@ abbrev pub Line : Seen → List (List ℕ) → ℕ → Choice → Type 0
 Line s ws n c = (a : Actor) × (rest : List (List ℕ)) × (ws ≡ actor_word a ∷ rest)
     × (choice_line s a rest ≡ Ok (record s { stage = stage.Choices; choices = s.choices ++ replicate n c }))
 
+-- words that spell a choice whose transaction exists, and that there is room for, are read as it
 pub choice_gives : (s : Seen) (d : Times) (ws : List (List ℕ)) → Spells (m.choice s.names d) ws → names_below (length s.programs) d.choice ≡ true
     → length s.choices + d.times ≤ 4096 → Line s ws d.times d.choice
 choice_gives s d ws h named few = by d.choice h.3 named
@@ -295,6 +318,7 @@ choice_gives s d ws h named few = by d.choice h.3 named
 
 -- ---- rows
 
+-- words that spell a row with a key above the last, and that there is room for, are read as it
 pub row_gives : (b : Base) (r : Row) (l : List (List ℕ)) → Spells (m.row r) l → r.key < 2 ^ 16 → r.value < 2 ^ 32 → length b.rows < 256
     → opening_pages_for b.cap (length b.rows + 1) ≤ b.pages → is_low r.key (last_row b.rows) ≡ false
     → step (top stage.Rows b [] []) l ≡ Ok (top stage.Rows (record b { rows = b.rows ++ r ∷ [] }) [] [])

@@ -5,6 +5,7 @@ use Rattle.std.specs.Map.{lookup}
 use Rattle.std.specs.Str.{bytes_eq}
 use Rattle.zy_text.specs.Names.{Mark, place}
 
+-- an entry of the map as a name and the number that it stands for
 abbrev shown_entry : Vec ℕ Global × ℕ → Mark
 shown_entry e = (e.0.items, e.1)
 

@@ -49,35 +49,43 @@ use borrow.Author.Tests.{tests}
 
 -- ---- lines with words
 
+-- each line has words
 abbrev Worded : List (List (List ℕ)) → Type 0
 Worded [] = Unit {0}
 Worded (l ∷ ls) = (has_words l ≡ true) × Worded ls
 
+-- lines with words stay so with one line more in front, if it has words
 worded_at : (b : Bool) (l : List (List ℕ)) (ls : List (List (List ℕ))) → has_words l ≡ b → Worded ls → Worded (if b then l ∷ ls else ls)
 worded_at true l ls e h = (e, h)
 worded_at false l ls e h = h
 
+-- of any lines, those that pass the test for words have words
 worded : (ls : List (List (List ℕ))) → Worded (filter has_words ls)
 worded [] = tt
 worded (l ∷ ls) = worded_at (has_words l) l (filter has_words ls) refl (worded ls)
 
 -- ---- the choices and the end
 
+-- how often a choice is made is at least once
 some_times : (n : ℕ) (ws : List (List ℕ)) → SpellsTimes n ws → 1 ≤ n
 some_times n ws h = elim h [ inl e ↦ omega (arith, e.1) | inr e ↦ e.3 ]
 
+-- of a choice made n times in front of others, where all transactions exist, its own does
 named_first : (count n : ℕ) (c : Choice) (rest : List Choice) → 1 ≤ n → AreNamed count (replicate n c ++ rest) → names_below count c ≡ true
 named_first count zero c rest some h = absurd (omega arith)
 named_first count (suc n) c rest some h = h.0
 
+-- the transactions of those behind it exist too
 named_rest : (count n : ℕ) (c : Choice) (rest : List Choice) → AreNamed count (replicate n c ++ rest) → AreNamed count rest
 named_rest count zero c rest h = h
 named_rest count (suc n) c rest h = named_rest count n c rest h.1
 
+-- where lines of actors are read as choices, a line of one whose choice is read is read so
 made_by : (s u : Seen) (l : List (List ℕ)) → ((a : Actor) (ws : List (List ℕ)) → step s (actor_word a ∷ ws) ≡ choice_line s a ws)
     → ((a : Actor) × (rest : List (List ℕ)) × (l ≡ actor_word a ∷ rest) × (choice_line s a rest ≡ Ok u)) → step s l ≡ Ok u
 made_by s u l t g = ap (step s) g.2 ∙ t g.0 g.1 ∙ g.3
 
+-- lines that spell choices and the end are read as them, whichever stage they begin at
 only_choices : (cs : List Times) (ls : List (List (List ℕ))) (st : Stage) (b : Base) (N : List Mark) (P : List (List Instr)) (C : List Choice)
     → ((a : Actor) (ws : List (List ℕ)) → step (at st b N P [] [] C) (actor_word a ∷ ws) ≡ choice_line (at st b N P [] [] C) a ws)
     → step (at st b N P [] [] C) (codes "end" ∷ []) ≡ Ok (at stage.Done b N P [] [] C)
@@ -108,6 +116,7 @@ only_choices (d ∷ cs) (l ∷ ls) st b N P C t e h r few =
 
 -- ---- the lines of a program
 
+-- some lines passed: those that are left spell these statements, and reading goes on with them from the second state
 record Passed (xs : List Statement) (ls : List (List (List ℕ))) (s : Seen) (t : Seen) : Type 0 where
   rest : List (List (List ℕ))
   spelled : SpellEach xs rest
@@ -120,6 +129,7 @@ label_first : (M : List Mark) (v : Option (List ℕ)) (n : ℕ) (more : List Mar
 label_first M None n more h = (tt, rw append-nil h)
 label_first M (Some w) n more h = ((h.0, tt), h.1)
 
+-- a name, and names behind it, that are new in a row: the first is new, and the others are new behind it
 name_first : (N : List Mark) (w : List ℕ) (n : ℕ) (more : List Mark) → AreNew N (name_in w n ++ more) → AreNew N (name_in w n) × AreNew (N ++ name_in w n) more
 name_first N w n more h = by (is_name w) h
   where
@@ -128,14 +138,17 @@ name_first N w n more h = by (is_name w) h
     by true h = ((h.0, tt), h.1)
     by false h = (tt, rw append-nil h)
 
+-- the values of the first line's instruction fit, and so do those of the others
 values_first : (i : Option Instr) (is : List Instr) → Values (instr_in i ++ is) → Values (instr_in i) × Values is
 values_first None is h = (tt, h)
 values_first (Some i) is h = ((h.0, tt), h.1)
 
+-- the version has the first line's instruction, and the others
 known_first : (version : Version) (i : Option Instr) (is : List Instr) → IsKnown version (instr_in i ++ is) → IsKnown version (instr_in i) × IsKnown version is
 known_first version None is h = (tt, h)
 known_first version (Some i) is h = ((h.0, tt), h.1)
 
+-- instructions that are resolved, and more that are, are resolved in a row
 all_resolved-append : (labels : List Mark) (O Q : List Pending) (I J : List Instr) → all_resolved labels O ≡ Ok I → all_resolved labels Q ≡ Ok J
     → all_resolved labels (O ++ Q) ≡ Ok (I ++ J)
 all_resolved-append labels [] Q I J e f = let q : I ≡ [] = cc in rw q f
@@ -152,6 +165,7 @@ record Coded (labels : List Mark) (xs : List Statement) (ls : List (List (List �
   resolves : all_resolved labels instrs ≡ Ok (I ++ instrs_of codes)
   passed : Passed xs ls (at stage.Program b N P M O []) (at stage.Program b N P (M ++ labels_of (length O) codes) instrs [])
 
+-- lines that spell the lines of an open program are read as them
 only_codes : (labels : List Mark) (cs : List Code) (xs : List Statement) (ls : List (List (List ℕ))) (b : Base) (N : List Mark) (P : List (List Instr))
     (M : List Mark) (O : List Pending) (I : List Instr)
     → SpellEach (map (m.code labels) cs ++ xs) ls → Worded ls → Values (instrs_of cs) → IsKnown b.version (instrs_of cs) → AreNew M (labels_of (length O) cs)
@@ -189,20 +203,25 @@ only_codes labels (c ∷ cs) xs (l ∷ ls) b N P M O I h w v known new e few =
       };
     }
 
+-- a number that is not zero fails the test for zero
 some_test : (n : ℕ) → 0 < n → (n == 0) ≡ false
 some_test n h = grind (arith, tests)
 
+-- a program has no fault
 no_prog_fault : (p : List Instr) → IsProgram p → prog_fault p ≡ None
 no_prog_fault p h = rw (some_test (length p) h.some, over_not (length p) 64 h.few, h.targets, h.last) refl
 
+-- instructions that are resolved into a program give it where it is closed
 program_gives : (labels : List Mark) (O : List Pending) (I : List Instr) → all_resolved labels O ≡ Ok I → IsProgram I → program_of labels O ≡ Ok I
 program_gives labels O I e h = rw (e, no_prog_fault I h) refl
 
 -- ---- a program is closed by the line below it
 
+-- the letter of a node is an actor's word
 at_node : (n : Node) (rest front : List (List ℕ)) → front ≡ node_text n ∷ rest → (a : Actor) × (ws : List (List ℕ)) × (front ≡ actor_word a ∷ ws)
 at_node n rest front e = (actor_at n, rest, e ∙ ap (λ w. w ∷ rest) (sym (node_word n)))
 
+-- the words of a choice begin with an actor's word
 choice_shape : (N : List Mark) (x : Choice) (front : List (List ℕ)) → SpellsChoice N x front → (a : Actor) × (rest : List (List ℕ))
     × (front ≡ actor_word a ∷ rest)
 choice_shape N choice.Start front g = (actor.C, codes "start" ∷ [], g)
@@ -213,6 +232,7 @@ choice_shape N (choice.Take n) front g = at_node n (codes "take" ∷ []) front g
 choice_shape N (choice.Finish n) front g = at_node n (codes "finish" ∷ []) front g
 choice_shape N (choice.Push n) front g = at_node n (codes "push" ∷ []) front g
 
+-- a line of an actor closes the open program first, and is then read as below the rows
 closed_by : (a : Actor) (ws : List (List ℕ)) (b : Base) (N : List Mark) (P : List (List Instr)) (M : List Mark) (O : List Pending) (I : List Instr)
     → program_of M O ≡ Ok I
     → step (at stage.Program b N P M O []) (actor_word a ∷ ws) ≡ step (top stage.Rows b N (P ++ I ∷ [])) (actor_word a ∷ ws)
@@ -220,6 +240,7 @@ closed_by actor.C ws b N P M O I e = rw e (choice_same b N (P ++ I ∷ []) actor
 closed_by actor.A ws b N P M O I e = rw e (choice_same b N (P ++ I ∷ []) actor.A ws)
 closed_by actor.B ws b N P M O I e = rw e (choice_same b N (P ++ I ∷ []) actor.B ws)
 
+-- so does the line of a choice
 closed_by_choice : (names : List Mark) (d : Times) (l : List (List ℕ)) (b : Base) (N : List Mark) (P : List (List Instr)) (M : List Mark) (O : List Pending)
     (I : List Instr) → Spells (m.choice names d) l → program_of M O ≡ Ok I
     → step (at stage.Program b N P M O []) l ≡ step (top stage.Rows b N (P ++ I ∷ [])) l
@@ -249,6 +270,7 @@ open_same b N P w = by (is_numeral w) (own_number (length P) w) (is_name w) (is_
     by false n true false = refl
     by false n false z = refl
 
+-- the lines of programs and choices below an open program close it, and are then read as below the rows
 only_close : (ps : List Written) (cs : List Times) (names : List Mark) (ls : List (List (List ℕ))) (b : Base) (N : List Mark) (P : List (List Instr))
     (M : List Mark) (O : List Pending) (I : List Instr)
     → SpellEach (flat_map program_statements ps ++ choice_statements names cs) ls → program_of M O ≡ Ok I
@@ -262,12 +284,14 @@ only_close (q ∷ ps) cs names (l ∷ ls) b N P M O I h e = rw (h.0, e) (ap (λ 
 
 -- ---- programs
 
+-- a line of an actor below the rows is read as a choice
 top_actor : (b : Base) (N : List Mark) (P : List (List Instr)) (a : Actor) (ws : List (List ℕ))
     → step (top stage.Rows b N P) (actor_word a ∷ ws) ≡ choice_line (top stage.Rows b N P) a ws
 top_actor b N P actor.C ws = refl
 top_actor b N P actor.A ws = refl
 top_actor b N P actor.B ws = refl
 
+-- lines that spell programs, choices and the end are read as them
 only_programs : (ps : List Written) (cs : List Times) (ls : List (List (List ℕ))) (b : Base) (N : List Mark) (k : ℕ) (P : List (List Instr)) → k ≡ length P
     → SpellEach (following N k ps cs) ls → Worded ls → Headed k ps → AreNew N (names_of k ps) → Labelled ps → ArePrograms (bodies ps)
     → AreKnown b.version (bodies ps)
@@ -313,18 +337,22 @@ only_programs (q ∷ ps) cs (l ∷ ls) b N k P e h w heads new labels fit known 
 
 -- ---- rows
 
+-- a greater number divided by the same is no less
 div_more : (n m k : ℕ) → 0 < k → n ≤ m → n / k ≤ m / k
 div_more n m k some h = le-div (n / k) m k some (omega (arith, div-mul-le_self n k))
 
+-- a page of the opening has room for one row at least
 half : (c : ℕ) → 2 ≤ c → 0 < opening_rows c
 half c h = omega arith
 
+-- fewer rows need no more pages in the opening
 fewer_pages : (c p n m : ℕ) → 2 ≤ c → n ≤ m → opening_pages_for c m ≤ p → opening_pages_for c n ≤ p
 fewer_pages c p zero zero least h pages = pages
 fewer_pages c p zero (suc m) least h pages = omega (arith, pages)
 fewer_pages c p (suc n) zero least h pages = absurd (omega arith)
 fewer_pages c p (suc n) (suc m) least h pages = omega (arith, pages, div_more n m (opening_rows c) (half c least) (omega arith))
 
+-- lines that spell rows in order, and that there is room for, are read as them
 only_rows : (rows : List Row) (xs : List Statement) (ls : List (List (List ℕ))) (b : Base) (low : ℕ) → 2 ≤ b.cap
     → SpellEach (map m.row rows ++ xs) ls → Worded ls → Rising low rows → RowsFit rows → Above low b.rows → length b.rows + length rows ≤ 256
     → opening_pages_for b.cap (length b.rows + length rows) ≤ b.pages
@@ -358,10 +386,12 @@ only_rows (r ∷ rows) xs (l ∷ ls) b low least h w rise fit above few pages =
 abbrev all_of : Scenario → List Mark → Seen
 all_of s N = at stage.Done (base s.version s.cap s.pages s.rule s.rows) N s.programs [] [] s.choices
 
+-- the word of a rule is read as the rule
 rule_gives : (r : Rule) → rule_of (rule_text r) ≡ Some r
 rule_gives Held = refl
 rule_gives Loose = refl
 
+-- lines that spell the rows, programs and choices of a scenario are read as them
 only_body : (s : Scenario) (d : Draft) (ls : List (List (List ℕ))) → IsScenario s → IsDraftOf d s → Worded ls
     → SpellEach (map m.row s.rows ++ following [] 0 d.programs d.choices) ls
     → fold_lines (top stage.Rows (base s.version s.cap s.pages s.rule []) [] []) ls ≡ Ok (all_of s (names_of 0 d.programs))
@@ -382,6 +412,7 @@ only_body s d ls fits drafts w h =
     ∙ ap (λ (x : List (List Instr)). Ok (at stage.Done (b s.rows) (names_of 0 d.programs) x [] [] (repeated d.choices))) drafts.programs
     ∙ ap (λ (x : List Choice). Ok (at stage.Done (b s.rows) (names_of 0 d.programs) s.programs [] [] x)) drafts.choices
 
+-- lines that spell the statements of a scenario are read as the scenario
 only_lines : (s : Scenario) (d : Draft) (ls : List (List (List ℕ))) → IsScenario s → IsDraftOf d s → Worded ls → SpellEach (statements s d) ls
     → fold_lines nothing_seen ls ≡ Ok (all_of s (names_of 0 d.programs))
 only_lines s d [] fits e w q = absurd q
@@ -397,35 +428,42 @@ only_lines s d (x ∷ y ∷ z ∷ f ∷ ls) fits e w q =
 
 -- ---- lines without words change nothing
 
+-- an answer at a line that is no fault is the answer itself
 at_line_ok : {X : Type 0} (n : ℕ) (r : Result X AsmKind) (t : X) → at_line n r ≡ Ok t → r ≡ Ok t
 at_line_ok n (Ok x) t h = cc
 at_line_ok n (Err k) t h = cc
 
+-- a line that is read, and the lines with words below it, are read with the line left out if it has no words
 strip_at : (ws : List (List ℕ)) (rest : List (List (List ℕ))) (s t u : Seen) → line_step s ws ≡ Ok u → fold_lines u (filter has_words rest) ≡ Ok t
     → fold_lines s (filter has_words (ws ∷ rest)) ≡ Ok t
 strip_at [] rest s t u h k = let e : s ≡ u = cc in rw e k
 strip_at (w ∷ ws) rest s t u h k = rw h k
 
+-- a text that is read is read by its lines with words alone
 strip_ok : (ls : List (List ℕ)) (s t : Seen) (n : ℕ) → read_lines s n ls ≡ Ok t → fold_lines s (filter has_words (map words_of ls)) ≡ Ok t
 strip_ok [] s t n h = at_line_ok n (finish s) t h
 strip_ok (l ∷ ls) s t n h =
     let p = bind_ok (at_line n (line_step s (words_of l))) (λ u. read_lines u (n + 1) ls) t h in
     strip_at (words_of l) (map words_of ls) s t p.0 (at_line_ok n (line_step s (words_of l)) p.0 p.1) (strip_ok ls p.0 t (n + 1) p.2)
 
+-- lines with words that are read are read as the line in front, whether it has words or not, and then the others
 back_at : (ws : List (List ℕ)) (rest : List (List (List ℕ))) (s t : Seen) → fold_lines s (filter has_words (ws ∷ rest)) ≡ Ok t → (u : Seen)
     × (line_step s ws ≡ Ok u) × (fold_lines u (filter has_words rest) ≡ Ok t)
 back_at [] rest s t h = (s, refl, h)
 back_at (w ∷ ws) rest s t h = bind_ok (step s (w ∷ ws)) (λ u. fold_lines u (filter has_words rest)) t h
 
+-- a text whose lines with words are read is read with all its lines
 strip_back : (ls : List (List ℕ)) (s t : Seen) (n : ℕ) → fold_lines s (filter has_words (map words_of ls)) ≡ Ok t → read_lines s n ls ≡ Ok t
 strip_back [] s t n h = rw h refl
 strip_back (l ∷ ls) s t n h = let p = back_at (words_of l) (map words_of ls) s t h in rw p.1 (strip_back ls p.0 t (n + 1) p.2)
 
 -- ---- the laws
 
+-- the lines with words of a text that is read spell the scenario that the state shows
 pub read_text : (text : List ℕ) (r : Reader) → reading text ≡ Ok (progress_of r) → FoundText (lines_with_words text) (progress_of r)
 read_text text r h = found_text (lines_with_words text) (progress_of r) (strip_ok (lines_of text) nothing_seen (progress_of r) 1 h)
 
+-- a text that spells a scenario means it
 pub Means-from_read : (text : List ℕ) (t : Seen) → FoundText (lines_with_words text) t → IsScenario (shows t) → Means text (shows t)
 Means-from_read text t f h = (h, (f.draft, f.drafts, f.spelled))
 
@@ -433,19 +471,24 @@ Means-from_read text t f h = (h, (f.draft, f.drafts, f.spelled))
 abbrev ends_in : (text : List ℕ) (s : Scenario) → Means text s → Seen
 ends_in text s h = all_of s (names_of 0 h.1.0.programs)
 
+-- a text that means a scenario is read as it
 pub only : (text : List ℕ) (s : Scenario) (h : Means text s) → reading text ≡ Ok (ends_in text s h)
 only text s h = strip_back (lines_of text) nothing_seen (ends_in text s h) 1
     (only_lines s h.1.0 (lines_with_words text) h.0 h.1.1 (worded (map words_of (lines_of text))) h.1.2)
 
+-- two answers of one reading are equal
 one_answer : (t u : Seen) (r : Result Seen AsmFault) → r ≡ Ok t → r ≡ Ok u → t ≡ u
 one_answer t u r h k = cc
 
+-- one reading has no answer beside a fault
 not_both : (t : Seen) (f : AsmFault) (r : Result Seen AsmFault) → r ≡ Ok t → r ≡ Err f → ⊥
 not_both t f r h k = cc
 
+-- a text that is read means no scenario but the one that its state shows
 pub only_of : (text : List ℕ) (t : Seen) (s : Scenario) → reading text ≡ Ok t → Means text s → shows t ≡ s
 only_of text t s h q = ap shows (one_answer t (ends_in text s q) (reading text) h (only text s q))
 
+-- where reading a text that means a scenario fails, the fault is that of memory
 pub fault_of : (text : List ℕ) (f : AsmFault) (s : Scenario) → (f.kind ≡ kinds.Memory) ⊎ (reading text ≡ Err f) → Means text s → f.kind ≡ kinds.Memory
 fault_of text f s h q =
     elim h [

@@ -49,17 +49,21 @@ use borrow.Author.Tests.{eqb-true, tests}
 
 -- ---- first words
 
+-- the first word of an actor's choices
 abbrev pub actor_word : Actor → List ℕ
 actor_word actor.C = codes "C"
 actor_word actor.A = codes "A"
 actor_word actor.B = codes "B"
 
+-- nothing is not something
 nothing : {X : Type 0} (x : X) → None ≡ Some x → ⊥
 nothing x h = cc
 
+-- a word that is equal to an actor's is that actor's
 this_actor : (w : List ℕ) (a b : Actor) → bytes_eq w (actor_word a) ≡ true → Some a ≡ Some b → w ≡ actor_word b
 this_actor w a b e h = let q : a ≡ b = cc in same w (actor_word a) e ∙ ap actor_word q
 
+-- a word that is read as an actor is that actor's
 pub actor_ok : (w : List ℕ) (o : Actor) → actor_of w ≡ Some o → w ≡ actor_word o
 actor_ok w o h =
     elim (chosen_by (bytes_eq w (codes "C")) _ _ _ h) [
@@ -89,15 +93,19 @@ IsWordOf version (k.Instr o) w = (w ≡ mnemonic o) × (is_of version o ≡ true
 IsWordOf version (k.Choice a) w = w ≡ actor_word a
 IsWordOf version k.End w = w ≡ codes "end"
 
+-- what a keyword says of its word, an equal keyword says too
 by_key : (version : Version) (w : List ℕ) (a key : Keyword) → IsWordOf version a w → a ≡ key → IsWordOf version key w
 by_key version w a key h e = rw e at h
 
+-- the same of a keyword that was found
 some_key : (version : Version) (w : List ℕ) (a key : Keyword) → IsWordOf version a w → Some a ≡ Some key → IsWordOf version key w
 some_key version w a key h e = let q : a ≡ key = cc in by_key version w a key h q
 
+-- a word that is read as an operation of the version is its mnemonic
 operation_ok : (version : Version) (w : List ℕ) (o : Operation) → named_in version w ≡ Some o → IsWordOf version (k.Instr o) w
 operation_ok version w o h = let f = found_in version (named w) o h in (named_is w o f.0, f.1)
 
+-- a word that is read as a keyword is that keyword's
 pub keyword_ok : (version : Version) (w : List ℕ) (key : Keyword) → keyword_of version w ≡ Some key → IsWordOf version key w
 keyword_ok version w key h =
     elim (first_or k.Instr (named_in version w) _ key h) [
@@ -129,6 +137,7 @@ keyword_ok version w key h =
 
 -- ---- numbers and registers
 
+-- a word that is read as a number in a range spells it, and it is in the range
 pub number_in_ok : (w : List ℕ) (a b n : ℕ) → number_in w a b ≡ Ok n → (number_of w ≡ Some n) × (a ≤ n) × (n ≤ b)
 number_in_ok w a b n h =
     let p = bind_ok (ok_or (number_of w) kinds.Number) _ n h in
@@ -137,10 +146,12 @@ number_in_ok w a b n h =
     let r = in_range p.0 a b q.0 in
     (ok_or_ok (number_of w) kinds.Number p.0 p.1 ∙ ap Some e, omega arith, omega arith)
 
+-- a word that is read as a register is its name
 pub register_ok : (w : List ℕ) (r : Reg) → register_of w ≡ Ok r → w ≡ reg_text r
 register_ok w r h =
     same w (reg_text r) (found_passes (λ x. bytes_eq w (reg_text x)) registers r (ok_or_ok (find (λ x. bytes_eq w (reg_text x)) registers) kinds.Word r h))
 
+-- two words that are read as registers are their names
 two_ok : (a b : List ℕ) (p : Reg × Reg) → two a b ≡ Ok p → (a ≡ reg_text p.0) × (b ≡ reg_text p.1)
 two_ok a b p h =
     let x = bind_ok (register_of a) _ p h in
@@ -148,6 +159,7 @@ two_ok a b p h =
     let e : (x.0, y.0) ≡ p = cc (y.2) in
     (register_ok a x.0 x.1 ∙ ap (λ (q : Reg × Reg). reg_text q.0) e, register_ok b y.0 y.1 ∙ ap (λ (q : Reg × Reg). reg_text q.1) e)
 
+-- words that are read as two registers are their names, and no more
 pair_ok : (ws : List (List ℕ)) (p : Reg × Reg) → pair_of ws ≡ Ok p → ws ≡ reg_text p.0 ∷ reg_text p.1 ∷ []
 pair_ok [] p h = cc
 pair_ok (a ∷ []) p h = cc
@@ -160,15 +172,18 @@ pair_ok (a ∷ b ∷ d ∷ ws) p h = cc
 abbrev pub SpellsPending : Pending → List (List ℕ) → Type 0
 SpellsPending p ws = (labels : List Mark) (i : Instr) → resolved labels p ≡ Ok i → SpellsInstr labels i ws
 
+-- words that spell an instruction whatever the labels spell it before these are known
 whole_ok : (i : Instr) (p : Pending) (ws : List (List ℕ)) → whole i ≡ p → ((labels : List Mark) → SpellsInstr labels i ws) → SpellsPending p ws
 whole_ok i p ws q h = subst (λ x. SpellsPending x ws) q (λ labels j e. same_instr labels j (let g : i ≡ j = cc in g))
   where
     same_instr : (labels : List Mark) (j : Instr) → i ≡ j → SpellsInstr labels j ws
     same_instr labels j g = subst (λ x. SpellsInstr labels x ws) g (h labels)
 
+-- words that spell parts spell the instruction with them
 spelled_whole : (labels : List Mark) (p : Parts) (ws : List (List ℕ)) → SpellsParts labels p ws → SpellsInstr labels (instr_with p) ws
 spelled_whole labels p ws h = subst (λ x. SpellsParts labels x ws) (sym (parts_again p)) h
 
+-- words that are read as an operation with a number spell the instruction
 number_ok : (o : NumberOperation) (ws : List (List ℕ)) (i : Instr) → with_number o ws ≡ Ok i → (labels : List Mark)
     → SpellsInstr labels i (mnemonic (op.Number o) ∷ ws)
 number_ok o [] i h labels = cc
@@ -184,12 +199,15 @@ number_ok o (a ∷ w ∷ []) i h labels =
     ))
 number_ok o (a ∷ w ∷ v ∷ ws) i h labels = cc
 
+-- the words of a jump: its mnemonic, two registers and the target
 abbrev jump_words : JumpOperation → Reg → Reg → List ℕ → List (List ℕ)
 jump_words o a b w = mnemonic (op.Jump o) ∷ reg_text a ∷ reg_text b ∷ w ∷ []
 
+-- words that are equal to those of a jump are its words
 same_words : (o : JumpOperation) (a b w : List ℕ) (x y : Reg) → a ≡ reg_text x → b ≡ reg_text y → mnemonic (op.Jump o) ∷ a ∷ b ∷ w ∷ [] ≡ jump_words o x y w
 same_words o a b w x y e f = rw (e, f) refl
 
+-- a jump to a name is spelled by the words of that jump
 named_ok : (o : JumpOperation) (a b : Reg) (w : List ℕ) (p : Pending) → is_name w ≡ true → jump o a b w ≡ p → SpellsPending p (jump_words o a b w)
 named_ok o a b w p n q = subst (λ x. SpellsPending x (jump_words o a b w)) q found
   where
@@ -203,6 +221,7 @@ named_ok o a b w p n q = subst (λ x. SpellsPending x (jump_words o a b w)) q fo
           inr (n, ok_or_ok (place w labels) kinds.Label g.0 g.1),
         ))
 
+-- a target that is read is that of the jump whose words these are
 jump_ok : (o : JumpOperation) (a b : Reg) (t : List ℕ) (p : Pending) → jump_to o a b t ≡ Ok p → SpellsPending p (jump_words o a b t)
 jump_ok o a b [] p h = cc
 jump_ok o a b (c ∷ cs) p h =
@@ -228,6 +247,7 @@ jump_ok o a b (c ∷ cs) p h =
           ),
         ))
 
+-- words that are read as a jump spell it
 target_ok : (o : JumpOperation) (ws : List (List ℕ)) (p : Pending) → with_target o ws ≡ Ok p → SpellsPending p (mnemonic (op.Jump o) ∷ ws)
 target_ok o [] p h = cc
 target_ok o (a ∷ []) p h = cc
@@ -238,10 +258,12 @@ target_ok o (a ∷ b ∷ t ∷ []) p h =
     subst (SpellsPending p) (sym (same_words o a b t r.0.0 r.0.1 q.0 q.1)) (jump_ok o r.0.0 r.0.1 t p r.2)
 target_ok o (a ∷ b ∷ t ∷ u ∷ ws) p h = cc
 
+-- an operation that is read with nothing behind it has no word behind it
 alone_ok : (ws : List (List ℕ)) (i j : Instr) → alone ws i ≡ Ok j → (ws ≡ []) × (j ≡ i)
 alone_ok [] i j h = (refl, cc)
 alone_ok (w ∷ ws) i j h = cc
 
+-- words that are read behind an operation spell the instruction
 pub instr_ok : (o : Operation) (ws : List (List ℕ)) (p : Pending) → instr_of o ws ≡ Ok p → SpellsPending p (mnemonic o ∷ ws)
 instr_ok (op.Number o) ws p h =
     let g = bind_ok (with_number o ws) _ p h in
@@ -262,6 +284,7 @@ instr_ok (op.Lone o) ws p h =
 
 -- ---- rows
 
+-- words that are read as a row spell it
 pub row_ok : (ws : List (List ℕ)) (r : Row) → row_of ws ≡ Ok r → Spells (m.row r) (codes "row" ∷ ws)
 row_ok [] r h = cc
 row_ok (k ∷ []) r h = cc
@@ -274,17 +297,21 @@ row_ok (k ∷ v ∷ y ∷ ys) r h = cc
 
 -- ---- names
 
+-- a digit is no letter
 letter_digit : (b : ℕ) → is_ascii_digit b ≡ true → is_letter b ≡ false
 letter_digit b h = grind (arith, tests)
 
+-- a numeral is no name
 pub no_name : (w : List ℕ) → is_numeral w ≡ true → is_name w ≡ false
 no_name [] h = refl
 no_name (b ∷ bs) h = rw (letter_digit b h) refl
 
+-- what is not something is nothing
 pub not_some : {X : Type 0} (o : Option X) → is_some o ≡ false → o ≡ None
 not_some None h = refl
 not_some (Some x) h = cc
 
+-- a word that is read as the program's own number spells it
 own_ok : (count : ℕ) (w : List ℕ) (n : ℕ) → own_number count w ≡ Ok n → number_of w ≡ Some count
 own_ok count w n h =
     let p = bind_ok (ok_or (number_of w) kinds.Number) _ n h in
@@ -297,6 +324,7 @@ pub record HeadStep (s : Seen) (w : List ℕ) (t : Seen) : Type 0 where
   pub new : AreNew s.names (name_in w (length s.programs))
   pub after : t ≡ record s { names = s.names ++ name_in w (length s.programs) }
 
+-- the head of a program that is read is its number or a new name
 pub head_ok : (s : Seen) (w : List ℕ) (t : Seen) → head_line s w ≡ Ok t → HeadStep s w t
 head_ok s w t h = split (is_numeral w) refl
   where
@@ -325,6 +353,7 @@ abbrev pub AreBelow : ℕ → List Mark → Type 0
 AreBelow n [] = Unit {0}
 AreBelow n (m ∷ ms) = (m.1 < n) × AreBelow n ms
 
+-- the number that a name stands for is below the count, where all numbers are
 place_below : (n : ℕ) (w : List ℕ) (ms : List Mark) (t : ℕ) → AreBelow n ms → place w ms ≡ Some t → t < n
 place_below n w [] t h e = cc
 place_below n w (x ∷ xs) t h e = split (bytes_eq w x.0) refl (λ g. place_below n w xs t h.1 g)
@@ -345,10 +374,12 @@ abbrev SpellsAction : List Mark → Actor → List ℕ → Action → Type 0
 SpellsAction names a w (Txn x) = (who : List ℕ) (i : ℕ) → Refers names i who → SpellsChoice names (chosen x i) (actor_word a ∷ w ∷ who ∷ [])
 SpellsAction names a w (Plain c) = SpellsChoice names c (actor_word a ∷ w ∷ []) × ((count : ℕ) → names_below count c ≡ true)
 
+-- a word that is equal to that of an action names this action
 this_action : (names : List Mark) (a : Actor) (w v : List ℕ) (x y : Action) → SpellsAction names a v x → bytes_eq w v ≡ true → Some x ≡ Some y
     → SpellsAction names a w y
 this_action names a w v x y s e h = let q : x ≡ y = cc in subst (SpellsAction names a w) q (subst (λ u. SpellsAction names a u x) (sym (same w v e)) s)
 
+-- a word that is read as an action of the client names it
 client_ok : (names : List Mark) (w : List ℕ) (x : Action) → client_action w ≡ Some x → SpellsAction names actor.C w x
 client_ok names w x h =
     elim (chosen_by (bytes_eq w (codes "start")) _ _ _ h) [
@@ -365,6 +396,7 @@ client_ok names w x h =
           ]
     ]
 
+-- a word that is read as an action of a node names it
 node_ok : (names : List Mark) (n : Node) (w : List ℕ) (x : Action) → node_action n w ≡ Some x → SpellsAction names (actor_at n) w x
 node_ok names n w x h =
     elim (chosen_by (bytes_eq w (codes "run")) _ _ _ h) [
@@ -394,16 +426,19 @@ node_ok names n w x h =
           ]
     ]
 
+-- a word that is read as an action of an actor names it
 action_ok : (names : List Mark) (a : Actor) (w : List ℕ) (x : Action) → action_of a w ≡ Some x → SpellsAction names a w x
 action_ok names actor.C w x h = client_ok names w x h
 action_ok names actor.A w x h = node_ok names node.A w x h
 action_ok names actor.B w x h = node_ok names node.B w x h
 
+-- a choice with a transaction's action names one that exists if and only if its number is below the count
 names_chosen : (count i : ℕ) (a : TxnAction) → names_below count (chosen a i) ≡ nat_lt i count
 names_chosen count i Begin = refl
 names_chosen count i Kill = refl
 names_chosen count i (Run n) = refl
 
+-- a word that is read as a transaction's number spells it, and it is below the count
 numbered_ok : (count : ℕ) (w : List ℕ) (i : ℕ) → numbered count w ≡ Ok i → (number_of w ≡ Some i) × (nat_lt i count ≡ true)
 numbered_ok count w i h =
     let p = bind_ok (ok_or (number_of w) kinds.Number) _ i h in
@@ -411,6 +446,7 @@ numbered_ok count w i h =
     let e : p.0 ≡ i = cc (q.1) in
     (ok_or_ok (number_of w) kinds.Number p.0 p.1 ∙ ap Some e, ap (λ x. nat_lt x count) (sym e) ∙ q.0)
 
+-- a word that is read as a transaction refers to it, and its number is below the count
 transaction_ok : (count : ℕ) (names : List Mark) (w : List ℕ) (i : ℕ) → AreBelow count names → transaction count names w ≡ Ok i → Refers names i w
     × (nat_lt i count ≡ true)
 transaction_ok count names w i low h =
@@ -422,6 +458,7 @@ transaction_ok count names w i low h =
           (inr (d.0, p), lt-ltb i count (place_below count w names i low p))
     ]
 
+-- words that are read as how often spell it
 times_ok : (ws : List (List ℕ)) (n : ℕ) → are_times ws ≡ true → times_of ws ≡ Ok n → SpellsTimes n ws
 times_ok [] n e h = inl (refl, cc)
 times_ok (x ∷ []) n e h = cc
@@ -436,6 +473,7 @@ pub record Chose (s : Seen) (a : Actor) (ws : List (List ℕ)) (t : Seen) : Type
   pub few : length s.choices + made.times ≤ 4096
   pub after : t ≡ record s { stage = stage.Choices; choices = s.choices ++ replicate made.times made.choice }
 
+-- a choice that is read with how often is made so often
 repeat_ok : (s t : Seen) (a : Actor) (front times : List (List ℕ)) (c : Choice) → SpellsChoice s.names c (actor_word a ∷ front)
     → names_below (length s.programs) c ≡ true
     → are_times times ≡ true → repeat_line s c times ≡ Ok t → Chose s a (front ++ times) t
@@ -450,6 +488,7 @@ repeat_ok s t a front times c spelled named are h =
       after = cc (f.1);
     }
 
+-- a line that is read from its action on is a choice
 action_line_ok : (s t : Seen) (a : Actor) (w : List ℕ) (x : Action) (ws : List (List ℕ)) → AreBelow (length s.programs) s.names → SpellsAction s.names a w x
     → action_line s x ws ≡ Ok t → Chose s a (w ∷ ws) t
 action_line_ok s t a w (Txn x) [] low spelled h = cc
@@ -462,6 +501,7 @@ action_line_ok s t a w (Plain c) times low spelled h =
     let p = if_ok (are_times times) _ kinds.Word t h in
     repeat_ok s t a (w ∷ []) times c spelled.0 (spelled.1 (length s.programs)) p.0 p.1
 
+-- a line of an actor that is read is a choice
 pub choice_ok : (s t : Seen) (a : Actor) (ws : List (List ℕ)) → AreBelow (length s.programs) s.names → choice_line s a ws ≡ Ok t → Chose s a ws t
 choice_ok s t a [] low h = cc
 choice_ok s t a (w ∷ ws) low h =

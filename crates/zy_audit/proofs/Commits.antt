@@ -34,18 +34,22 @@ listed_once [] k d lt = absurd (omega arith)
 listed_once (c ∷ cs) zero d lt = grind (arith, nat_tests)
 listed_once (c ∷ cs) (suc k) d lt = let more = listed_once cs k d (omega arith) in omega (arith, more)
 
+-- a test that adds at least one holds
 counted : (b : Bool) → 1 ≤ (if b then 1 else 0) → b ≡ true
 counted true h = refl
 counted false h = absurd (omega (arith, h))
 
+-- in a state whose commit list is right, each commit of it names a transaction that exists
 listed_named : (s : State) (k : ℕ) (d : CommitRec) → Listed s → k < length s.commits → (get_or s.commits k d).txn < length s.txns
 listed_named s k d h lt =
     let t = (get_or s.commits k d).txn in
     committed_within s.txns t (counted _ (subst (λ n. 1 ≤ n) (h t) (listed_once s.commits k d lt)))
 
+-- each commit of a state names a transaction of the scenario
 record Named (sc : Scenario) (s : State) : Type 0 where
   each : (k : ℕ) (d : CommitRec) → k < length s.commits → (get_or s.commits k d).txn < length sc.programs
 
+-- in the state that a machine's choices lead to, each commit names a transaction of the scenario
 named_played : (h : History) → IsReplay h → Named h.scenario (play h.scenario (opening h.scenario) (choices_of h.entries))
 named_played h is = record {
   each = λ k d lt.

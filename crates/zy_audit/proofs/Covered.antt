@@ -31,14 +31,17 @@ abbrev pub counted : (ℕ → Bool) → List Row → ℕ
 counted f [] = 0
 counted f (r ∷ rows) = cond (f r.key) 1 0 + counted f rows
 
+-- one row more, which passes or does not, adds at most one to the count
 counted_first : (b : Bool) (n m : ℕ) → n ≤ m → cond b 1 0 + n ≤ suc m
 counted_first true n m le = omega arith
 counted_first false n m le = omega arith
 
+-- at most all rows are counted
 counted_most : (f : ℕ → Bool) (rows : List Row) → counted f rows ≤ length rows
 counted_most f [] = omega arith
 counted_most f (r ∷ rows) = counted_first (f r.key) (counted f rows) (length rows) (counted_most f rows)
 
+-- where no key passes, no row is counted
 counted_none : (f : ℕ → Bool) (rows : List Row) → ((k : ℕ) → f k ≡ false) → counted f rows ≡ 0
 counted_none f [] off = refl
 counted_none f (r ∷ rows) off = rw (off r.key, counted_none f rows off) refl
@@ -54,6 +57,7 @@ full_first : (b : Bool) (n m : ℕ) → cond b 1 0 + n ≡ suc m → n ≤ m →
 full_first true n m e le = (refl, omega arith)
 full_first false n m e le = absurd (omega arith)
 
+-- where all rows are counted, each key that they have passes
 full : (f : ℕ → Bool) (rows : List Row) (k : ℕ) → counted f rows ≡ length rows → is_some (get_row rows k) ≡ true → f k ≡ true
 full f [] k e is = absurd (false≢true is)
 full f (r ∷ rows) k e is =
@@ -71,17 +75,21 @@ few_rows low (r ∷ rows) le h fit =
 
 -- ---- a run of a table's rows
 
+-- what is behind the first rows of rows in order is in order
 rises_right : (low : ℕ) (front rows : List Row) → Rising low (front ++ rows) → Rising low rows
 rises_right low [] rows h = h
 rises_right low (r ∷ front) rows h = rises_right low front rows (Rising-lower low (r.key + 1) (front ++ rows) h.1 (let a = h.0 in omega arith))
 
+-- the first rows of rows in order are in order
 rises_left : (low : ℕ) (run back : List Row) → Rising low (run ++ back) → Rising low run
 rises_left low [] back h = tt
 rises_left low (r ∷ run) back h = (h.0, rises_left (r.key + 1) run back h.1)
 
+-- the run has this key
 abbrev pub at_run : List Row → ℕ → Bool
 at_run run k = is_some (get_row run k)
 
+-- a row of the run that is below all rows that are counted makes no difference to their count
 run_skip : (low : ℕ) (r : Row) (run rows : List Row) → Rising low rows → r.key < low → counted (at_run (r ∷ run)) rows ≡ counted (at_run run) rows
 run_skip low r run [] h lt = refl
 run_skip low r run (q ∷ rows) h lt =
@@ -89,18 +97,21 @@ run_skip low r run (q ∷ rows) h lt =
     let here = get_row_past q.key r run (λ e. absurd (omega arith)) in
     rw (here, run_skip (q.key + 1) r run rows h.1 (omega arith)) refl
 
+-- a run in front of other rows is counted whole, and the others are not
 run_here : (low : ℕ) (run back : List Row) → Rising low (run ++ back) → counted (at_run run) (run ++ back) ≡ length run
 run_here low [] back h = counted_none (at_run []) back (λ k. refl)
 run_here low (r ∷ run) back h =
     let rest = run_skip (r.key + 1) r run (run ++ back) h.1 (omega arith) ∙ run_here (r.key + 1) run back h.1 in
     rw (get_row_same r.key r run refl, rest) (omega arith)
 
+-- a run anywhere among rows in order is counted whole, and the others are not
 counted_run : (low : ℕ) (front run back : List Row) → Rising low (front ++ (run ++ back)) → counted (at_run run) (front ++ (run ++ back)) ≡ length run
 counted_run low [] run back h = run_here low run back h
 counted_run low (r ∷ front) run back h =
     let off = get_row_below r.key (r.key + 1) run (rises_left (r.key + 1) run back (rises_right (r.key + 1) front (run ++ back) h.1)) (omega arith) in
     rw (off, counted_run (r.key + 1) front run back h.1) (omega arith)
 
+-- a value that the first rows have is that of all rows
 value_left : (run back : List Row) (k v : ℕ) → get_row run k ≡ Some v → get_row (run ++ back) k ≡ Some v
 value_left [] back k v e = (cc)
 value_left (r ∷ run) back k v e =
@@ -109,9 +120,11 @@ value_left (r ∷ run) back k v e =
       | inr other ↦ get_row_past k r (run ++ back) other ∙ value_left run back k v (sym (get_row_past k r run other) ∙ e)
     ]
 
+-- nothing is not a value
 no_value : (v : ℕ) (o : Option ℕ) → o ≡ None → o ≡ Some v → ⊥
 no_value v o none some = (cc)
 
+-- a value that the last rows have is that of all rows, where these are in order
 value_right : (low : ℕ) (front rows : List Row) (k v : ℕ) → Rising low (front ++ rows) → get_row rows k ≡ Some v → get_row (front ++ rows) k ≡ Some v
 value_right low [] rows k v h e = e
 value_right low (r ∷ front) rows k v h e =
@@ -119,12 +132,14 @@ value_right low (r ∷ front) rows k v h e =
     e in
     get_row_past k r (front ++ rows) other ∙ value_right (r.key + 1) front rows k v h.1 e
 
+-- a value that a run of a table's rows has is the table's
 run_value : (table run : List Row) (k v : ℕ) → Rising 0 table → HasRun table run → get_row run k ≡ Some v → get_row table k ≡ Some v
 run_value table run k v rise has e =
     let back = has.1 in
     let at = has.2 in
     ap (λ rows. get_row rows k) at ∙ value_right 0 has.0 (run ++ back) k v (subst (Rising 0) at rise) (value_left run back k v e)
 
+-- as many rows of a table have a key of a run of its rows as the run has
 run_counted : (table run : List Row) → Rising 0 table → HasRun table run → counted (at_run run) table ≡ length run
 run_counted table run rise has =
     let at = has.2 in
@@ -148,6 +163,7 @@ run_at f table rest run at b same from starts is =
     let begins = (starts_is (λ x y. subst (λ t. Decides t (x ≡ y)) (sym (same x y)) (row_decides x y)) rest run b starts).0 is in
     (take at table, drop (length run) rest, sym (take-append-drop at table) ∙ ap (λ more. take at table ++ more) (sym from ∙ begins))
 
+-- no rows are a run of each table
 nothing_run : (table : List Row) → HasRun table []
 nothing_run table = ([], table, refl)
 
@@ -167,6 +183,7 @@ pub record Covered (s : State) (p : ℕ) (table : List Row) (count : ℕ) : Type
   pub each : (k v : ℕ) → home s k < p → stands s k ≡ Some v → get_row table k ≡ Some v
   pub total : count ≡ counted (is_kept s p) table
 
+-- no page is below 0, and none of a table's rows is counted
 pub covered-none : (s : State) (table : List Row) → Covered s 0 table 0
 covered-none s table = record {
   each = λ k v below e. absurd (omega arith);
@@ -190,6 +207,7 @@ kept_more s p run k keeps e =
           rw (same, off) (omega arith)
     ]
 
+-- where the rows of page p are a run of the table, as many rows more are counted for the pages below p + 1
 covered-more : (s : State) (p : ℕ) (table run : List Row) (count : ℕ) → Kept s → Rising 0 table → HasRun table run → rows_of (all_leaves s) p ≡ run
     → Covered s p table count → Covered s (p + 1) table (count + length run)
 covered-more s p table run count keeps rise has e g = record {
@@ -203,15 +221,18 @@ covered-more s p table run count keeps rise has e g = record {
       omega (arith, parts, g.total, run_counted table run rise has);
 }
 
+-- of a table in order whose rows fit, at most 65536 rows are counted
 pub covered-most : (s : State) (p : ℕ) (table : List Row) (count : ℕ) → Rising 0 table → RowsFit table → Covered s p table count → count ≤ 2 ^ 16
 covered-most s p table count rise fit g = omega (arith, g.total, counted_most (is_kept s p) table, few_rows 0 table (omega arith) rise fit)
 
+-- where page p was looked for and found, and its rows are a run of the table, as many rows more are counted
 pub covered-found : (h : History) (p : ℕ) (table : List Row) (count : ℕ) (x : Leaf) → IsReplay h → Rising 0 table → HasRun table x.rows
     → Covered h.state p table count
     → Some x ≡ page_in p (all_leaves h.state) → Covered h.state (p + 1) table (count + length x.rows)
 covered-found h p table count x is rise has g e = covered-more h.state p table x.rows count (kept h is) rise has
     (rows_of-some p x (all_leaves h.state) (sym e)) g
 
+-- where page p was looked for and is not there, no row more is counted for the pages below p + 1
 pub covered-missing : (h : History) (p : ℕ) (table : List Row) (count : ℕ) → IsReplay h → Rising 0 table → Covered h.state p table count
     → None ≡ page_in p (all_leaves h.state) → Covered h.state (p + 1) table count
 covered-missing h p table count is rise g e =
@@ -227,6 +248,7 @@ covered_value s p table k None g below e =
     let passes = full (is_kept s p) table k (sym g.total) is in
     false≢true (sym (ap is_some e) ∙ (and_parts (nat_lt (home s k) p) (is_some (stands s k)) passes).1))
 
+-- where all rows of a table are counted for all pages, the table's map is the database
 pub covered-all : (h : History) (p : ℕ) (table : List Row) (count : ℕ) → IsReplay h → Covered h.state p table count → p ≡ length (newest h.state)
     → count ≡ length table → map_of table ≡ database h.state
 covered-all h p table count is g all whole =

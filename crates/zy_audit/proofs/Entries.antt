@@ -12,16 +12,20 @@ use Rattle.zy_table.specs.Database.{Map}
 use Rattle.zy_audit.specs.Lone.{map_of}
 use Rattle.zy_audit.specs.SameMaps.{same_entry, same_map}
 
+-- a row as an entry of a map: its key with its value
 abbrev pub entry : Row → ℕ × ℕ
 entry r = (r.key, r.value)
 
+-- a list of no entries is empty
 no_entries : (es : List (ℕ × ℕ)) → length es ≡ 0 → es ≡ []
 no_entries [] e = refl
 no_entries (x ∷ es) e = absurd (omega arith)
 
+-- the empty map has no entries
 entries-empty : entries (empty {X = ℕ} {R = nat_cmp}) ≡ []
 entries-empty = no_entries _ (sym (len-entries (empty {X = ℕ} {R = nat_cmp})) ∙ len-empty nat_cmp ℕ)
 
+-- the entries of the map of a table in order are its rows
 pub entries-map_of : (low : ℕ) (rows : List Row) → Rising low rows → entries (map_of rows) ≡ map entry rows
 entries-map_of low [] h = entries-empty
 entries-map_of low (r ∷ []) h = entries-insert nat_cmp_total (map_of []) r.key r.value ∙ rw entries-empty
@@ -34,6 +38,7 @@ same_itself : (xs : List (ℕ × ℕ)) → pointwise same_entry xs xs ≡ true
 same_itself [] = refl
 same_itself (x ∷ xs) = rw (eq-eqb x.0 x.0 refl, eq-eqb x.1 x.1 refl) (same_itself xs)
 
+-- lists of entries that the test finds the same are equal
 same_lists : (xs ys : List (ℕ × ℕ)) → pointwise same_entry xs ys ≡ true → xs ≡ ys
 same_lists [] [] e = refl
 same_lists [] (y ∷ ys) e = absurd (false≢true e)
@@ -46,9 +51,11 @@ same_lists (x ∷ xs) (y ∷ ys) e =
     let rest = same_lists xs ys parts.1 in
     λ i. (key i, value i) ∷ rest i
 
+-- the test finds equal maps the same
 pub same_map-true : (m n : Map) → m ≡ n → same_map m n ≡ true
 same_map-true m n e = ap (same_map m) (sym e) ∙ same_itself (entries m)
 
+-- maps that the test finds the same are equal
 pub same_map-equal : (m n : Map) → same_map m n ≡ true → m ≡ n
 same_map-equal m n e = same_entries_map m n (same_lists (entries m) (entries n) e)
 

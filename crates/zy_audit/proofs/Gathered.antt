@@ -29,6 +29,7 @@ use Rattle.zy_audit.proofs.LaidRows.{get-map_of}
 abbrev pub home : State → ℕ → ℕ
 home s k = page_of (newest s) k
 
+-- the value that a key has on its page
 abbrev pub stands : State → ℕ → Option ℕ
 stands s k = get_row (rows_of (all_leaves s) (home s k)) k
 
@@ -51,6 +52,7 @@ pub record Kept (s : State) : Type 0 where
   pub within : (k : ℕ) → home s k < length (newest s)
   pub values : (k : ℕ) → get (database s) k ≡ stands s k
 
+-- every row lies on its page in the state that a machine's choices lead to
 kept_played : (h : History) → IsReplay h → Kept (play h.scenario (opening h.scenario) (choices_of h.entries))
 kept_played h is =
     let sc = h.scenario in
@@ -64,6 +66,7 @@ kept_played h is =
       values = values_at_pages sc is.tested cs;
     }
 
+-- every row lies on its page in the state of a machine
 pub kept : (h : History) → IsReplay h → Kept h.state
 kept h is = subst Kept (sym is.state) (kept_played h is)
 
@@ -82,6 +85,7 @@ more_at here p mine below own e at off =
           rw (same, off other) e
     ]
 
+-- the rows below p with those of page p put among them are the rows below p + 1
 pub gathered-more : (s : State) (p : ℕ) (rows more : List Row) → Kept s → Gathered s p rows → rows_of (all_leaves s) p ≡ more
     → Gathered s (p + 1) (put_rows more rows)
 gathered-more s p rows more keeps g e = record {
@@ -91,10 +95,12 @@ gathered-more s p rows more keeps g e = record {
       (λ other. none_else _ (λ is. other (on_its_page (newest s) (all_leaves s) p k keeps.placed (ap (λ rs. is_some (get_row rs k)) e ∙ is))));
 }
 
+-- the same where page p was looked for and found
 pub gathered-found : (h : History) (p : ℕ) (rows : List Row) (x : Leaf) → IsReplay h → Gathered h.state p rows → Some x ≡ page_in p (all_leaves h.state)
     → Gathered h.state (p + 1) (put_rows x.rows rows)
 gathered-found h p rows x is g e = gathered-more h.state p rows x.rows (kept h is) g (rows_of-some p x (all_leaves h.state) (sym e))
 
+-- where page p was looked for and is not there, the rows below p are those below p + 1
 pub gathered-missing : (h : History) (p : ℕ) (rows : List Row) → IsReplay h → Gathered h.state p rows → None ≡ page_in p (all_leaves h.state)
     → Gathered h.state (p + 1) rows
 gathered-missing h p rows is g e = gathered-more h.state p rows [] (kept h is) g (rows_of-none p (all_leaves h.state) (sym e))

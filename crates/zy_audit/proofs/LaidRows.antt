@@ -31,6 +31,7 @@ get-map_of rows k = get-laid rows _ k ∙ ap (or_else (get_row rows k)) (get-emp
 pub get-own : (rows table : List Row) (k v : ℕ) → get_row rows k ≡ Some v → get (laid rows (map_of table)) k ≡ Some v
 get-own rows table k v e = get-laid rows (map_of table) k ∙ ap (λ o. or_else o (get (map_of table) k)) e
 
+-- at a key that the rows lack, a map with rows laid over it has what the table has
 pub get-below : (rows table : List Row) (k : ℕ) → get_row rows k ≡ None → get (laid rows (map_of table)) k ≡ get_row table k
 get-below rows table k e = get-laid rows (map_of table) k ∙ ap (λ o. or_else o (get (map_of table) k)) e ∙ get-map_of table k
 

@@ -36,6 +36,7 @@ put_row_first : (k v : ℕ) (rows : List Row) → Rising (k + 1) rows → put_ro
 put_row_first k v [] h = refl
 put_row_first k v (r ∷ rows) h = put_row_below k v r rows (let a = h.0 in omega arith)
 
+-- rows in order, put among rows in order, leave them in order
 rises_laid : (low : ℕ) (rs rows : List Row) → Rising low rs → Rising low rows → Rising low (put_rows rs rows)
 rises_laid low [] rows rise h = h
 rises_laid low (r ∷ rs) rows rise h =
@@ -76,9 +77,11 @@ RowsFit-put_rows : (rs rows : List Row) → RowsFit rs → RowsFit rows → Rows
 RowsFit-put_rows [] rows more h = h
 RowsFit-put_rows (r ∷ rs) rows more h = RowsFit-put_row r.key r.value (put_rows rs rows) (RowsFit-put_rows rs rows more.2 h) more.0 more.1
 
+-- rows that fit, put among rows that are in order and fit, leave them so
 pub AreKept-put_rows : (rs rows : List Row) → RowsFit rs → AreKept rows → AreKept (put_rows rs rows)
 AreKept-put_rows rs rows more h = record { rise = rises_puts rs rows h.rise; fit = RowsFit-put_rows rs rows more h.fit }
 
+-- rows without the first one of a key are no more than before
 pub length-rows_past : (k : ℕ) (rows : List Row) → length (rows_past k rows) ≤ length rows
 length-rows_past k [] = omega arith
 length-rows_past k (r ∷ rows) = cond_both (r.key == k) rows (r ∷ rows) (λ ys. length ys ≤ length (r ∷ rows)) (λ _. omega arith) (λ _. omega arith)

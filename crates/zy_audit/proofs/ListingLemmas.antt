@@ -13,6 +13,7 @@ use Rattle.zy_machine.specs.Histories.{History, IsReplay, choices_of}
 use Rattle.zy_audit.specs.Texts.{step_text}
 use Rattle.zy_audit.specs.Listing.{step_texts, ending_texts, listing}
 
+-- there are as many lines of steps as entries
 pub length-steps : (i : ℕ) (es : List Entry) → length (step_texts i es) ≡ length es
 length-steps i [] = refl
 length-steps i (e ∷ es) = ap (λ n. suc n) (length-steps (i + 1) es)
@@ -29,6 +30,7 @@ taken-at k d [] h = absurd (omega arith)
 taken-at zero d (e ∷ es) h = refl
 taken-at (suc k) d (e ∷ es) h = taken-at k d es (omega arith)
 
+-- there are as many lines of choices that were made as entries
 pub length-taken : (es : List Entry) → length (map choice_text (choices_of es)) ≡ length es
 length-taken [] = refl
 length-taken (e ∷ es) = ap (λ n. suc n) (length-taken es)

@@ -31,6 +31,7 @@ over_stays : (m : Map) (program : List Instr) (x : Alone) → x.over ≡ true �
 unfolding alone_step
 over_stays m program x e = ap (λ (b : Bool). if b then x else alone_instr m (slice_get program x.pc) x) e
 
+-- a run that ended stays as it is however many instructions more are run
 pub alone-over : (m : Map) (program : List Instr) (n more : ℕ) → (alone m program n).over ≡ true → alone m program (more + n) ≡ alone m program n
 alone-over m program n zero e = let z : 0 + n ≡ n = omega arith in ap (alone m program) z
 alone-over m program n (suc more) e =
@@ -46,6 +47,7 @@ written-there (Ok u) m k v x y there on e is put =
     rw (here, put, on, laid_put m x.rows k v) refl
 written-there (Err e0) m k v x y there on e is put = tt
 
+-- a row at a key that has no value is inserted, unless memory was wanted
 pub inserted-new : {E : Type 0} (r : Result (Unit {0}) E) (m : Map) (k v : ℕ) (x y : Lone) (there : Option ℕ)
     → x.over ≡ false → there ≡ get (laid x.rows m) k → is_some there ≡ false
     → OnOk r (y ≡ record x { pc = x.pc + 1; rows = put_row k v x.rows }) → OnOk r (on_map m y ≡ alone_access m (Inserts v) k (on_map m x))

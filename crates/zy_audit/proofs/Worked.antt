@@ -26,12 +26,15 @@ unfolding digits listing page_of txn_at begun aborted did locked committed begin
     commit_step read_step write_step full_step insert_step access_step page_step key_step effect_step instr_step run_step move step opening_leaves opening
 table = 0
 
+-- the smallest scenario: no row, no program and no choice
 abbrev smallest : Scenario
 smallest = record { version = One; cap = 2; pages = 1; rule = Held; rows = []; programs = []; choices = [] }
 
+-- the text of these lines
 abbrev lines : List (List ℕ) → List ℕ
 lines texts = flat_map line_of texts
 
+-- the listing of the smallest scenario
 smallest-listing : listing smallest [] true ≡ lines (
     codes "zephyr 1" ∷ codes "cap 2" ∷ codes "pages 1" ∷ codes "rule held" ∷ codes "end" ∷ codes "steps" ∷ codes "final" ∷ codes "mode A normal"
     ∷ codes "mode B empty"
@@ -39,6 +42,7 @@ smallest-listing : listing smallest [] true ≡ lines (
 unfolding table
 smallest-listing = refl
 
+-- a scenario of one program, which reads a row, inserts another and commits
 abbrev first_run : Scenario
 first_run = record {
   version = One;
@@ -50,6 +54,7 @@ first_run = record {
   choices = Begin 0 ∷ Run A 0 ∷ Run A 0 ∷ Run A 0 ∷ Run A 0 ∷ Run A 0 ∷ [];
 }
 
+-- the listing of that scenario
 first_run-listing : listing first_run first_run.choices true ≡ lines (
     codes "zephyr 1" ∷ codes "cap 4" ∷ codes "pages 4" ∷ codes "rule held" ∷ codes "row 10 7" ∷ codes "txn 0" ∷ codes "set r0 10" ∷ codes "read r1 r0"
     ∷ codes "set r2 11"

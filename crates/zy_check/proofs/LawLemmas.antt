@@ -115,6 +115,7 @@ listing_table input l = (l.0, l.1, sym (verdict-same input (listing_run l.0) l.2
 pub table-listing : (input : List ℕ) → (IsVerdict input Table → IsListing input) × (IsListing input → IsVerdict input Table)
 table-listing input = (listing_found input, listing_table input)
 
+-- bytes that are UTF-8 have no fault of it
 no_fault : (bytes : List ℕ) → is_utf8 bytes ≡ true → utf8_fault bytes ≡ None
 no_fault bytes h = rw h refl
 

@@ -12,6 +12,7 @@ use Rattle.zy_text.specs.Canon.{instr_words, row_words, row_text, choice_words, 
 use Rattle.zy_isa.specs.Scenario.{Scenario}
 use Rattle.zy_disasm.specs.Lines.{number_text, header_texts, program_texts, program_parts, head_texts, end_texts}
 
+-- there are as many parts as programs
 pub length-parts : (t : ℕ) (ps : List (List Instr)) → length (program_parts t ps) ≡ length ps
 length-parts t [] = refl
 length-parts t (p ∷ ps) = ap (λ n. suc n) (length-parts (t + 1) ps)
@@ -27,6 +28,7 @@ words-text : {X : Type 0} (words : X → List (List ℕ)) (xs : List X) → flat
     ≡ flat_map (λ ws. line_of (spaced ws)) (map words xs)
 words-text words xs = flat_map-map line_of (λ x. spaced (words x)) xs ∙ sym (flat_map-map (λ ws. line_of (spaced ws)) words xs)
 
+-- the text of the lines of the programs is that of their words
 parts-text : (t : ℕ) (ps : List (List Instr)) → flat_map line_of (flat_map (λ part. part) (program_parts t ps))
     ≡ flat_map (λ ws. line_of (spaced ws)) (program_words t ps)
 parts-text t [] = refl

@@ -12,11 +12,13 @@ use Rattle.zy_steps.specs.Fronts.{meets}
 use Rattle.zy_machine.specs.declared.node_pair.NodePair.{NodePair}
 use Rattle.zy_machine.specs.NodePairs.{state_of, Makes}
 
+-- a line made on the node A and the book of transactions is one made at A
 pub at-a : {E : Type 0} (old : NodePair) (x : NodeStore) (b : Ledger) (r : Result Answer E) (m : Move)
     → (let v = facing A (state_of old) in MakesHere (here old.a old.book v) (here x b v) r m) → Makes A old (record old { a = x; book = b }) r m
 at-a old x b (Ok y) m h = (ap (λ (z : Move). seen_from A z.after) h, ap (λ (z : Move). z.outcome) h, ap (λ (z : Move). z.sent) h)
 at-a old x b (Err e) m h = ap (seen_from A) h
 
+-- the same of the node B
 pub at-b : {E : Type 0} (old : NodePair) (x : NodeStore) (b : Ledger) (r : Result Answer E) (m : Move)
     → (let v = facing B (state_of old) in MakesHere (here old.b old.book v) (here x b v) r m) → Makes B old (record old { b = x; book = b }) r m
 at-b old x b (Ok y) m h = (ap (λ (z : Move). seen_from B z.after) h, ap (λ (z : Move). z.outcome) h, ap (λ (z : Move). z.sent) h)
@@ -29,6 +31,7 @@ pub meets-a : {E : Type 0} (old : NodePair) (x : NodeStore) (i : Mail) (r : Resu
 meets-a old x i (Ok y) m h = (ap (λ (z : Move). seen_from A z.after) h, ap (λ (z : Move). z.outcome) h, ap (λ (z : Move). z.sent) h)
 meets-a old x i (Err e) m h = ap (seen_from A) h
 
+-- the same of the node B and the link from A
 pub meets-b : {E : Type 0} (old : NodePair) (x : NodeStore) (i : Mail) (r : Result Answer E) (m : Move)
     → (let v = facing B (state_of old) in MakesHere (meets old.b old.a.outbox v) (meets x i v) r m) → let y = old.a in
     Makes B old (record old { b = x; a = record y { outbox = i } }) r m

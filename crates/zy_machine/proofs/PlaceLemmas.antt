@@ -20,10 +20,12 @@ use Rattle.zy_machine.proofs.AccessLemmas.{page_in-all}
 
 -- ---- no page is in both links
 
+-- a number that is one or zero by a test is at most one
 at_most_one : (n : ℕ) (b : Bool) → n ≡ (if b then 1 else 0) → n ≤ 1
 at_most_one n true e = omega (arith, e)
 at_most_one n false e = omega (arith, e)
 
+-- no page is in both links where each page is at one place
 not_in_both : (p : ℕ) (s : State) → OneOwner s → owns (sent_leaves s.ab) p ≡ true → owns (sent_leaves s.ba) p ≡ true → ⊥
 not_in_both p s one in_ab in_ba =
     let few = at_most_one (times p (all_leaves s)) (nat_lt p (width s)) (one p) in

@@ -44,6 +44,7 @@ use Rattle.zy_laws.proofs.ModeLines.{starts_from}
 use Rattle.zy_laws.proofs.Roles.{fresh_number, normal_other}
 use Rattle.zy_laws.proofs.Txns.{IsAt}
 
+-- a transaction seen from either node is that of the state
 txn_at-facing : (n : Node) (t : ℕ) (s : State) → txn_at (facing n s) t ≡ txn_or (slice_get s.txns t)
 unfolding txn_at
 txn_at-facing A t s = refl
@@ -94,6 +95,7 @@ pub record Known (sc : Scenario) (count : ℕ) (s : NodePair) : Type 0 where
   pub starts : MayStart s
   pub limited : AreLimited sc.pages s
 
+-- what is known holds of each store that shows the state that fewer than 4096 choices lead to
 pub known : (sc : Scenario) (cs : List Choice) (s : NodePair) → IsScenario sc → length cs < 4096 → state_of s ≡ play sc (opening sc) cs → AreLimited sc.pages s
     → Known sc (length cs) s
 known sc cs s tested few e limited =
@@ -112,6 +114,7 @@ known sc cs s tested few e limited =
       limited = limited;
     }
 
+-- the counts of each transaction of the scenario allow one step more
 countable : (sc : Scenario) (count t : ℕ) (s : NodePair) → Known sc count s → t < length sc.programs → Countable t s.book
 countable sc count t s k below =
     let c = k.safe.each t below in
@@ -122,6 +125,7 @@ countable sc count t s k below =
 abbrev IsNode : Node → NodeStore → NodePair → Type 0
 IsNode n x s = (facing n (state_of s)).me ≡ node_shown x
 
+-- a transaction that runs at a node can be numbered at its commit, and its rows find room on the node's pages
 rooms : (sc : Scenario) (count t : ℕ) (n : Node) (x : NodeStore) (s : NodePair) → IsNode n x s → Known sc count s → is_active (txn_in t s.book).status ≡ true
     → (txn_in t s.book).node ≡ n → Rooms t x s.book
 rooms sc count t n x s is k active here =
@@ -137,6 +141,7 @@ rooms sc count t n x s is k active here =
           omega (arith, h, own p)));
     }
 
+-- a split by a transaction that runs at a node is safe
 splits : (sc : Scenario) (count t : ℕ) (n : Node) (x : NodeStore) (s : NodePair) → IsNode n x s → Known sc count s → is_active (txn_in t s.book).status ≡ true
     → (txn_in t s.book).node ≡ n
     → MaySplit sc (node_shown x) (txn_in t s.book)
@@ -145,6 +150,7 @@ splits sc count t n x s is k active here =
     subst (λ m. MaySplit sc m (txn_in t s.book)) is (subst (MaySplit sc (facing n (state_of s)).me) same
     (k.splits n t (ap (λ (y : Txn). is_active y.status) same ∙ active, ap (λ (y : Txn). y.node) same ∙ here)))
 
+-- a run of each transaction of the scenario is safe on the parts of the node
 ready : (sc : Scenario) (count t : ℕ) (n : Node) (x : NodeStore) (s : NodePair) → IsNode n x s → IsLimited sc.pages x → Known sc count s
     → t < length sc.programs → IsReady sc n t x s.book
 ready sc count t n x s is limited k below = record {
@@ -156,6 +162,7 @@ ready sc count t n x s is limited k below = record {
   splits = splits sc count t n x s is k;
 }
 
+-- each choice whose transaction the scenario has can be made
 pub possible : (sc : Scenario) (count : ℕ) (c : Choice) (s : NodePair) → Known sc count s → names_below (length sc.programs) c ≡ true → IsPossible sc c s
 possible sc count Start s k named = k.starts
 possible sc count (Begin t) s k named = (countable sc count t s k (ltb-true _ _ named)).there

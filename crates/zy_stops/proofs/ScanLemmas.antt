@@ -33,17 +33,21 @@ follow h k c e f lt es ec ee en et =
       entries = rw (es, len) (entries-more sc i Start h.state h.entries k.entries e lt f.state f.entries (rw ec at ee) en);
     }
 
+-- one back from m + 1 is m
 back_one : (m : ℕ) → (m + 1) - 1 ≡ m
 back_one m = omega arith
 
+-- the outcome of choice m + 1 is that of its step from the state after m choices
 outcome_next : (sc : Scenario) (m : ℕ) → outcome_at sc (m + 1) ≡ (step sc (get_or sc.choices m Start) (state_at sc m)).outcome
 outcome_next sc m = ap (λ j. (step sc (get_or sc.choices j Start) (state_at sc j)).outcome) (back_one m)
 
+-- what fires at m + 1 is the lowest slot that fires between the states after m and after m + 1 choices
 firing_next : (sc : Scenario) (slots : Slots) (m : ℕ) → firing sc slots (m + 1)
     ≡ position (λ x. slot_fires (slot_reading x (state_at sc m)) (state_at sc (m + 1)) (outcome_at sc (m + 1)) x) slots
 firing_next sc slots m = ap (λ j. position (λ x. slot_fires (slot_reading x (state_at sc j)) (state_at sc (m + 1)) (outcome_at sc (m + 1)) x) slots)
     (back_one m)
 
+-- the outcome of the next choice of a machine that follows its scenario is the scenario's at the next position
 pub outcome_is : (h : History) (c : Choice) (o : Outcome) → Follows h → c ≡ get_or h.scenario.choices (length h.entries) Start
     → o ≡ (step h.scenario c h.state).outcome → o ≡ outcome_at h.scenario (length h.entries + 1)
 outcome_is h c o f ec eo =
@@ -57,10 +61,12 @@ pub opens : (h : History) → h.state ≡ opening h.scenario → h.entries ≡ [
 unfolding state_at
 opens h es ee = rw ee (record { most = omega arith; state = es; entries = refl })
 
+-- the first elements whose images pass are as many as the first images that pass
 prefix_len-map : {X Y : Type 0} (p : Y → Bool) (f : X → Y) (xs : List X) → prefix_len p (map f xs) ≡ prefix_len (λ x. p (f x)) xs
 prefix_len-map p f [] = refl
 prefix_len-map p f (x ∷ xs) = rw (prefix_len-map p f xs) refl
 
+-- the place of the first image that passes is that of the first element whose image passes
 position-map : {X Y : Type 0} (p : Y → Bool) (f : X → Y) (xs : List X) → position p (map f xs) ≡ position (λ x. p (f x)) xs
 position-map p f xs = rw (prefix_len-map (λ x. not (p x)) f xs, length-map xs f) refl
 
@@ -83,6 +89,7 @@ pub seen_again : (s t : State) (slots : Slots) → map (λ (w : Watched). watch_
 seen_again s t [] = refl
 seen_again s t (x ∷ xs) = ap (λ ws. watch_of t x ∷ ws) (seen_again s t xs)
 
+-- where none fires above p and up to n, and none at n + 1, none fires at k in between, whether k is n + 1 or not
 none_by : (F : ℕ → Option ℕ) (p n k : ℕ) (t : Bool) → nat_le k n ≡ t → ((j : ℕ) → p < j → j ≤ n → F j ≡ None) → F (n + 1) ≡ None → p < k → k ≤ n + 1
     → F k ≡ None
 none_by F p n k true w h e a b = h k a (grind (arith, nat_tests, w))
@@ -92,10 +99,12 @@ none_by F p n k false w h e a b = let same : k ≡ n + 1 = grind (arith, nat_tes
 pub none_more : (F : ℕ → Option ℕ) (p n : ℕ) → ((k : ℕ) → p < k → k ≤ n → F k ≡ None) → F (n + 1) ≡ None → (k : ℕ) → p < k → k ≤ n + 1 → F k ≡ None
 none_more F p n h e k a b = none_by F p n k (nat_le k n) refl h e a b
 
+-- where none fires above p and below n, and none at n, none fires at k in between, whether k is n or not
 none_at : (F : ℕ → Option ℕ) (p n k : ℕ) (t : Bool) → nat_eq k n ≡ t → ((j : ℕ) → p < j → j < n → F j ≡ None) → F n ≡ None → p < k → k < n + 1 → F k ≡ None
 none_at F p n k true w h e a b = let same : k ≡ n = grind (arith, nat_tests, w) in rw same e
 none_at F p n k false w h e a b = h k a (grind (arith, nat_tests, w, b))
 
+-- where none fires above p and below n, and none at n, none fires above p and below n + 1
 none_below : (F : ℕ → Option ℕ) (p n : ℕ) → ((k : ℕ) → p < k → k < n → F k ≡ None) → F n ≡ None → (k : ℕ) → p < k → k < n + 1 → F k ≡ None
 none_below F p n h e k a b = none_at F p n k (nat_eq k n) refl h e a b
 
@@ -115,6 +124,7 @@ pub slot_next : (sc : Scenario) (slots : Slots) (p : ℕ) (o : Option ℕ) (m : 
 slot_next sc slots p None m h = tt
 slot_next sc slots p (Some i) m h = (position-Some (fires sc m) slots i None h.fires).0
 
+-- a slot that fired last is one of the slots
 pub slot_last : (sc : Scenario) (slots : Slots) (b p : ℕ) (o : Option (ℕ × ℕ)) → LastIn sc slots b p o → IfSome o (λ f. f.1 < length slots)
 slot_last sc slots b p None h = tt
 slot_last sc slots b p (Some f) h = (position-Some (fires sc f.0) slots f.1 None h.fires).0

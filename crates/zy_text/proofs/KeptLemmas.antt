@@ -9,6 +9,7 @@ use Rattle.std.specs.Borrow.{Bor}
 use Rattle.zy_text.specs.Lines.{texts, first_words, first_line, ends_word}
 use Rattle.zy_text.proofs.LineLemmas.{word_taken}
 
+-- one word more, put behind fewer than six kept words, is kept
 pub kept_more : (ws : List (Bor (List ℕ))) (n : ℕ) (w : Bor (List ℕ)) → n < length ws → n < 6
     → take (n + 1) (texts (slice_set ws n w)) ≡ first_words (take n (texts ws) ++ w.now ∷ [])
 kept_more ws n w lt few =
@@ -22,6 +23,7 @@ kept_more ws n w lt few =
       few,
     )))
 
+-- the first n of a list behind another's first n are the first n of that list behind the whole other
 take_front : (n : ℕ) (vs ws : List (List ℕ)) → take n (take n vs ++ ws) ≡ take n (vs ++ ws)
 take_front zero vs ws = refl
 take_front (suc n) [] ws = refl
@@ -42,9 +44,11 @@ word_pushed ws pushed all rest word behind e f g h =
     ∙ ap (λ r. first_words (ws ++ (filter is_word (before_first ends_word rest ∷ []) ++ words_of (first_line r)))) f
     ∙ ap (λ vs. first_words (ws ++ vs)) (sym (word_taken rest)) ∙ h
 
+-- at most six words are kept whole
 pub kept_all : (vs : List (List ℕ)) → length vs ≤ 6 → first_words (vs ++ []) ≡ vs
 kept_all vs h = ap first_words (append-nil vs) ∙ take_all 6 vs h
 
+-- at most six words are kept
 pub few_words : (vs : List (List ℕ)) → length (first_words vs) ≤ 6
 few_words vs = omega (arith, length-take 6 vs)
 
@@ -52,6 +56,7 @@ few_words vs = omega (arith, length-take 6 vs)
 pub one_word : (w : List ℕ) → (length w == 0) ≡ false → filter is_word (w ∷ []) ≡ w ∷ []
 one_word w e = rw e refl
 
+-- a part without a byte adds no word to at most six kept words
 pub no_word : (vs : List (List ℕ)) (w : List ℕ) → (length w == 0) ≡ true → length vs ≤ 6 → vs ≡ first_words (vs ++ filter is_word (w ∷ []))
 no_word vs w e h = rw e (sym (kept_all vs h))
 

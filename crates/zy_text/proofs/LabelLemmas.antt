@@ -19,17 +19,21 @@ label-last (c ∷ d ∷ w) b = ap (option_map (λ v. c ∷ v)) (label-last (d �
     next true = refl
     next false = refl
 
+-- a byte that is not a colon fails the test for a colon
 not58 : (b : ℕ) (t : Bool) → (b == 58) ≡ t → (b ≡ 58 → ⊥) → (b == 58) ≡ false
 not58 b true e h = absurd (h (eqb-true b 58 e))
 not58 b false e h = e
 
+-- a word whose last byte is not a colon is no label
 pub label-not : (w : List ℕ) (b : ℕ) → (b ≡ 58 → ⊥) → label_of (w ++ b ∷ []) ≡ None
 label-not w b h = label-last w b ∙ rw (not58 b (b == 58) refl h) refl
 
+-- a word without a byte is no label
 pub label-none : (w : List ℕ) → length w ≡ 0 → label_of w ≡ None
 label-none [] h = refl
 label-none (b ∷ bs) h = absurd (omega arith)
 
+-- what a byte in front makes of a word, if it is some word, is that byte and the word
 option_some : (b : ℕ) (o : Option (List ℕ)) (v : List ℕ) → option_map (λ w. b ∷ w) o ≡ Some v → (u : List ℕ) × (o ≡ Some u) × (v ≡ b ∷ u)
 option_some b None v h = cc
 option_some b (Some u) v h = (u, refl, cc)

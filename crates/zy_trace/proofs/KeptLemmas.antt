@@ -26,6 +26,7 @@ rests_say old new i e n p h =
     ∙ (ap₂ (λ a b. a ++ b) (ap (locks_on n p) e) h
     ∙ (sym (flat_map-append (lock_on n p) (take i new) (drop i new)) ∙ ap (locks_on n p) (take-append-drop i new))))
 
+-- a lock that is not on the page has no text, and where those behind it have none there is no text at all
 none_here : (b : Bool) (text rest : List ℕ) (more : Bool) → (not b && more) ≡ true → (more ≡ true → rest ≡ []) → (if b then text else []) ++ rest ≡ []
 none_here true text rest more h k = (cc)
 none_here false text rest more h k = k h
@@ -35,10 +36,12 @@ pub none_says : (n : Node) (p : ℕ) (locks : List Lock) → none_on p locks ≡
 none_says n p [] h = refl
 none_says n p (x ∷ xs) h = none_here (x.page == p) (lock_text n x) (locks_on n p xs) (list_all (λ (y : Lock). not (y.page == p)) xs) h (none_says n p xs)
 
+-- a list up to its length is the whole list
 whole : (xs : List Lock) → take (length xs) xs ≡ xs
 whole [] = refl
 whole (x ∷ xs) = ap (λ l. x ∷ l) (whole xs)
 
+-- what is behind the first i locks is all that the length leaves
 pub rest_whole : (i : ℕ) (xs : List Lock) → take (length xs - i) (drop i xs) ≡ drop i xs
 rest_whole i xs = ap (λ k. take k (drop i xs)) (sym (length-drop i xs)) ∙ whole (drop i xs)
 

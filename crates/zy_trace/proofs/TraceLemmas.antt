@@ -36,10 +36,12 @@ shown_more f g n =
     ∙ flat_map-append f (map g (range_with_len 0 n)) (g n ∷ [])
     ∙ ap (λ l. flat_map f (map g (range_with_len 0 n)) ++ l) (append-nil (f (g n)))
 
+-- the lines of some subjects and then of others are those of both lists in a row
 two_parts : (f : Subject → List ℕ) (o m p : List ℕ) (ks bs : List Subject) → m ≡ o ++ flat_map f ks → p ≡ m ++ flat_map f bs → p ≡ o ++ flat_map f (ks ++ bs)
 two_parts f o m p ks bs h k =
     k ∙ ap (λ x. x ++ flat_map f bs) h ∙ append_assoc o (flat_map f ks) (flat_map f bs) ∙ ap (λ x. o ++ x) (sym (flat_map-append f ks bs))
 
+-- the same of four lists of subjects
 pub four_parts : (f : Subject → List ℕ) (o m p l e : List ℕ) (ks bs cs ds : List Subject) → m ≡ o ++ flat_map f ks → p ≡ m ++ flat_map f bs
     → l ≡ p ++ flat_map f cs → e ≡ l ++ flat_map f ds
     → e ≡ o ++ flat_map f (ks ++ (bs ++ (cs ++ ds)))
@@ -56,6 +58,7 @@ pub all_shown : (before now : State) (xs : List Subject) → flat_map (lines_of_
 all_shown before now [] = refl
 all_shown before now (x ∷ xs) = ap (λ l. inset (line_in now x) ∷ l) (all_shown before now xs)
 
+-- no choice is behind the last
 drop-beyond : (i : ℕ) (cs : List Choice) → length cs ≤ i → drop i cs ≡ []
 drop-beyond zero [] h = refl
 drop-beyond zero (c ∷ cs) h = absurd (omega arith)
@@ -145,6 +148,7 @@ trace-lines sc s t same e =
     ∙ ap (λ l. l ++ flat_map line_of (opening_lines s ++ (steps_lines sc 1 (opening sc) sc.choices ++ last_lines t same))) (canon-parts sc)
     ∙ ap (λ x. canon sc ++ flat_map line_of (opening_lines x ++ (steps_lines sc 1 (opening sc) sc.choices ++ last_lines t same))) e
 
+-- the scenario, and the lines with what the test against the serial run says, are the trace
 pub trace-tested : (sc : Scenario) (t : State) (same : Bool) → same ≡ is_serial sc t → canon sc ++ flat_map line_of (trace_lines sc t same) ≡ trace_from sc t
 unfolding trace_from
 trace-tested sc t same e = ap (λ b. canon sc ++ flat_map line_of (trace_lines sc t b)) e
