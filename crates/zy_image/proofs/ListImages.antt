@@ -28,6 +28,7 @@ use Rattle.zy_image.proofs.PartLemmas.{InOrder, row_found, rows_read, instr_foun
 
 -- ---- rows
 
+-- the bytes begin with the image of the rows, which are in order and have their places
 pub record FoundRows (h : Head) (bytes : List ℕ) (rs : List Row) (left : List ℕ) : Type 0 where
   pub same : bytes ≡ rows_image rs ++ left
   pub back : AreBytes left
@@ -35,6 +36,7 @@ pub record FoundRows (h : Head) (bytes : List ℕ) (rs : List Row) (left : List 
   pub few_pages : opening_pages_for h.cap (length rs) ≤ h.pages
   pub order : InOrder rs
 
+-- rows that were read are so
 pub rows_found : (h : Head) (size : ℕ) (bytes : List ℕ) (rs : List Row) (left : List ℕ) → AreBytes bytes → rows h size bytes ≡ Ok (rs, left)
     → FoundRows h bytes rs left
 rows_found h size bytes rs left fit e =
@@ -54,6 +56,7 @@ rows_found h size bytes rs left fit e =
       order = i.kept;
     }
 
+-- the image of rows that are in order, fit and have their places is read as them
 pub rows_give : (h : Head) (size : ℕ) (rs : List Row) (left : List ℕ) → length rs ≤ 256 → opening_pages_for h.cap (length rs) ≤ h.pages → Rising 0 rs
     → RowsFit rs → rows h size (rows_image rs ++ left) ≡ Ok (rs, left)
 rows_give h size rs left few pages rise fit =
@@ -67,10 +70,12 @@ rows_give h size rs left few pages rise fit =
 
 -- ---- programs
 
+-- what is judged without a fault stays as it is
 judged_ok : {X : Type 0} (t : ℕ) (o : Option ProgFault) (x y : X) → judged t o x ≡ Ok y → x ≡ y
 judged_ok t None x y h = cc
 judged_ok t (Some f) x y h = cc
 
+-- a count of instructions that passes its test stays as it is
 count_ok : (t : ℕ) (n m : ℕ × List ℕ) → (if n.0 == 0 then Err (fault.Program t prog.Empty) else if nat_lt 64 n.0 then Err (fault.Program t prog.TooLong)
     else Ok n) ≡ Ok m → n ≡ m
 count_ok t n m h =
@@ -78,6 +83,7 @@ count_ok t n m h =
     let b = if_err (nat_lt 64 n.0) (Ok n) (fault.Program t prog.TooLong) m a.1 in
     cc (b.1)
 
+-- a program that was read has its image before what is left, and it is of the version
 pub program_found : (version : Version) (size : ℕ) (ps : List (List Instr)) (bytes : List ℕ) (is : List Instr) (left : List ℕ) → AreKnown version ps
     → AreBytes bytes
     → next_program version size ps bytes ≡ Ok (is, left) → TookItem program_image (AreKnown version) ps bytes is left
@@ -96,6 +102,7 @@ program_found version size ps bytes is left known fit h =
       kept = program_more version ps is known i.kept;
     }
 
+-- the image of a program of the version is read as it
 program_gives : (version : Version) (size : ℕ) (before : List (List Instr)) (is : List Instr) (left : List ℕ) → IsProgram is → IsKnown version is
     → next_program version size before (program_image is ++ left) ≡ Ok (is, left)
 program_gives version size before is left p known =
@@ -107,18 +114,21 @@ program_gives version size before is left p known =
     rw count (items_give word_of (next_instr version t size) is [] left (instrs_read version t size is [] p.values known)) in
     rw read (rw (no_prog_fault is p) refl)
 
+-- the images of programs of the version are read as them, one by one
 programs_read : (version : Version) (size : ℕ) (ps before : List (List Instr)) → ArePrograms ps → AreKnown version ps
     → AreRead program_image (next_program version size) before ps
 programs_read version size [] before h known = tt
 programs_read version size (p ∷ ps) before h known =
     ((λ left. program_gives version size before p left h.0 known.0), programs_read version size ps (before ++ p ∷ []) h.1 known.1)
 
+-- the bytes begin with the image of at most 64 programs, which are of the version
 pub record FoundPrograms (version : Version) (bytes : List ℕ) (ps : List (List Instr)) (left : List ℕ) : Type 0 where
   pub same : bytes ≡ programs_image ps ++ left
   pub back : AreBytes left
   pub few : length ps ≤ 64
   pub known : AreKnown version ps
 
+-- programs that were read are so
 pub programs_found : (version : Version) (size : ℕ) (bytes : List ℕ) (ps : List (List Instr)) (left : List ℕ) → AreBytes bytes
     → programs version size bytes ≡ Ok (ps, left) → FoundPrograms version bytes ps left
 programs_found version size bytes ps left fit e =
@@ -135,6 +145,7 @@ programs_found version size bytes ps left fit e =
       known = i.kept;
     }
 
+-- the image of at most 64 programs of the version is read as them
 pub programs_give : (version : Version) (size : ℕ) (ps : List (List Instr)) (left : List ℕ) → length ps ≤ 64 → ArePrograms ps → AreKnown version ps
     → programs version size (programs_image ps ++ left) ≡ Ok (ps, left)
 programs_give version size ps left few h known =
@@ -144,11 +155,13 @@ programs_give version size ps left few h known =
 
 -- ---- choices
 
+-- the bytes begin with the image of at most 4096 choices, whose transactions exist
 pub record FoundChoices (count : ℕ) (bytes : List ℕ) (cs : List Choice) (left : List ℕ) : Type 0 where
   pub same : bytes ≡ choices_image cs ++ left
   pub few : length cs ≤ 4096
   pub named : AreNamed count cs
 
+-- choices that were read are so
 pub choices_found : (count size : ℕ) (bytes : List ℕ) (cs : List Choice) (left : List ℕ) → AreBytes bytes → choices count size bytes ≡ Ok (cs, left)
     → FoundChoices count bytes cs left
 choices_found k size bytes cs left fit e =
@@ -164,6 +177,7 @@ choices_found k size bytes cs left fit e =
       named = i.kept;
     }
 
+-- the image of at most 4096 choices whose transactions exist is read as them
 pub choices_give : (count size : ℕ) (cs : List Choice) (left : List ℕ) → length cs ≤ 4096 → AreNamed count cs
     → choices count size (choices_image cs ++ left) ≡ Ok (cs, left)
 choices_give k size cs left few named =

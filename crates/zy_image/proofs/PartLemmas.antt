@@ -35,6 +35,7 @@ use borrow.Author.Tests.{tests}
 
 -- ---- rows
 
+-- the image of the row that six bytes show is these bytes
 row_back : (w : List ℕ) → length w ≡ 6 → AreBytes w → row_image (row_at w) ≡ w
 row_back w size fit =
     let all = take-append-drop 2 w in
@@ -43,9 +44,11 @@ row_back w size fit =
     let v = be_bytes_4 (drop 2 w) (row_at w).value (length-drop 2 w ∙ omega (arith, size)) (byte_at (drop 2 w) (back_bytes (take 2 w) (drop 2 w) b)) refl in
     ap (λ x. x ++ to_be_bytes w32 (row_at w).value) k ∙ ap (λ x. take 2 w ++ x) v ∙ all
 
+-- the key of each row is above the one before it
 abbrev pub InOrder : List Row → Type 0
 InOrder rows = misplaced_row rows ≡ None
 
+-- a row that was read has its image before what is left, and the rows stay in order
 pub row_found : (size : ℕ) (rows : List Row) (bytes : List ℕ) (r : Row) (left : List ℕ) → InOrder rows → AreBytes bytes
     → next_row size rows bytes ≡ Ok (r, left) → TookItem row_image InOrder rows bytes r left
 row_found size rows bytes r left order fit h =
@@ -60,6 +63,7 @@ row_found size rows bytes r left order fit h =
       kept = subst (λ x. InOrder (rows ++ x ∷ [])) s.0 (order_more rows (row_at w) order t.0);
     }
 
+-- the image of a row that fits shows this row
 row_shown : (r : Row) → r.key < 2 ^ 16 → r.value < 2 ^ 32 → row_at (row_image r) ≡ r
 row_shown r k v = rw (from_be_bytes-to_be_bytes_2 r.key k, from_be_bytes-to_be_bytes_4 r.value v) refl
 
@@ -67,12 +71,14 @@ row_shown r k v = rw (from_be_bytes-to_be_bytes_2 r.key k, from_be_bytes-to_be_b
 abbrev in_order : List Row → List ℕ → Row → Read Row
 in_order before left x = if is_low x.key (last_row before) then Err (fault.RowOrder (length before)) else Ok (x, left)
 
+-- the image of a row that fits, with a key above the last, is read as it
 row_gives : (size : ℕ) (before : List Row) (r : Row) (left : List ℕ) → r.key < 2 ^ 16 → r.value < 2 ^ 32 → is_low r.key (last_row before) ≡ false
     → next_row size before (row_image r ++ left) ≡ Ok (r, left)
 row_gives size before r left k v low =
     let e : next_row size before (row_image r ++ left) ≡ in_order before left (row_at (row_image r)) = rw (field_gives size (row_image r) left) refl in
     e ∙ ap (in_order before left) (row_shown r k v) ∙ rw low refl
 
+-- the images of rows that are in order and fit are read as them, one by one
 pub rows_read : (size low : ℕ) (rows before : List Row) → Rising low rows → RowsFit rows → Above low before → AreRead row_image (next_row size) before rows
 rows_read size low [] before rise fit above = tt
 rows_read size low (r ∷ rows) before rise fit above = (
@@ -82,6 +88,7 @@ rows_read size low (r ∷ rows) before rise fit above = (
 
 -- ---- instructions
 
+-- an instruction that passes the test of the version is one that it has
 known_found : (version : Version) (o : Option Instr) (i : Instr) → if_known version o ≡ Some i → (o ≡ Some i) × (has version i ≡ true)
 known_found version None i h = cc
 known_found version (Some x) i h = by (has version x) refl h
@@ -90,6 +97,7 @@ known_found version (Some x) i h = by (has version x) refl h
     by true e g = (g, subst (λ z. has version z ≡ true) (let q : x ≡ i = cc in q) e)
     by false e g = cc
 
+-- an instruction that was read has its word before what is left, and it is of the version
 pub instr_found : (version : Version) (t size : ℕ) (is : List Instr) (bytes : List ℕ) (i : Instr) (left : List ℕ) → IsKnown version is → AreBytes bytes
     → next_instr version t size is bytes ≡ Ok (i, left)
     → TookItem word_of (IsKnown version) is bytes i left
@@ -107,12 +115,14 @@ instr_found version t size is bytes i left known fit h =
       kept = subst (λ z. IsKnown version (is ++ z ∷ [])) s.0 (known_more version is g.0 known x.1);
     }
 
+-- the word of an instruction has eight bytes
 word_size : (p : Parts) → length (word_with p) ≡ 8
 word_size (Number o a n) = refl
 word_size (Pair o a b) = refl
 word_size (Jump o a b n) = refl
 word_size (Lone o) = refl
 
+-- the word of an instruction of the version is read as it
 instr_gives : (version : Version) (t size : ℕ) (before : List Instr) (i : Instr) (left : List ℕ) → HasValue i → has version i ≡ true
     → next_instr version t size before (word_of i ++ left) ≡ Ok (i, left)
 instr_gives version t size before i left v known =
@@ -120,6 +130,7 @@ instr_gives version t size before i left v known =
     (word_size (parts_of i)) (field_gives size (word_of i) left) in
     rw e (rw (decoded_only i v) (rw known refl))
 
+-- the words of instructions of the version are read as them, one by one
 pub instrs_read : (version : Version) (t size : ℕ) (is before : List Instr) → Values is → IsKnown version is
     → AreRead word_of (next_instr version t size) before is
 instrs_read version t size [] before values known = tt
@@ -164,6 +175,7 @@ module _ (count a k t : ℕ) where
       cond_both (a == 1) _ _ MayBe (λ e. node_is node.A (same_number a 1 e)) (λ _.
       cond_both (a == 2) _ _ MayBe (λ e. node_is node.B (same_number a 2 e)) (λ _. tt)))
 
+-- three bytes are the first, the second and the third
 three : (w : List ℕ) → length w ≡ 3 → w ≡ get_or w 0 0 ∷ get_or w 1 0 ∷ get_or w 2 0 ∷ []
 three [] h = absurd (omega (arith, h))
 three (a ∷ []) h = absurd (omega (arith, h))
@@ -171,6 +183,7 @@ three (a ∷ b ∷ []) h = absurd (omega (arith, h))
 three (a ∷ b ∷ c ∷ []) h = refl
 three (a ∷ b ∷ c ∷ d ∷ w) h = absurd (omega (arith, h))
 
+-- a choice that was read has its image before what is left, and its transaction exists
 pub choice_found : (count size : ℕ) (cs : List Choice) (bytes : List ℕ) (c : Choice) (left : List ℕ) → AreNamed count cs → AreBytes bytes
     → next_choice count size cs bytes ≡ Ok (c, left)
     → TookItem choice_image (AreNamed count) cs bytes c left
@@ -190,6 +203,7 @@ choice_found count size cs bytes c left named fit h =
       kept = subst (λ x. AreNamed count (cs ++ x ∷ [])) s.0 (named_more count cs g.0 named is.1);
     }
 
+-- the image of a choice whose transaction exists is read as it
 choice_gives : (count size : ℕ) (before : List Choice) (c : Choice) (left : List ℕ) → names_below count c ≡ true
     → next_choice count size before (choice_image c ++ left) ≡ Ok (c, left)
 choice_gives count size before Start left n = rw (field_gives size (choice_image Start) left) refl
@@ -204,6 +218,7 @@ choice_gives count size before (Finish node.B) left n = rw (field_gives size (ch
 choice_gives count size before (Push node.A) left n = rw (field_gives size (choice_image (Push node.A)) left) refl
 choice_gives count size before (Push node.B) left n = rw (field_gives size (choice_image (Push node.B)) left) refl
 
+-- the images of choices whose transactions exist are read as them, one by one
 pub choices_read : (count size : ℕ) (cs before : List Choice) → AreNamed count cs → AreRead choice_image (next_choice count size) before cs
 choices_read count size [] before named = tt
 choices_read count size (c ∷ cs) before named = ((λ left. choice_gives count size before c left named.0), choices_read count size cs (before ++ c ∷ []) named.1)

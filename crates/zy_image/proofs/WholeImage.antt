@@ -21,11 +21,13 @@ use borrow.Author.Tests.{tests}
 
 -- ---- the head
 
+-- the bytes begin with the image of a number in its range
 record FoundNumber (least most : ℕ) (image : ℕ → List ℕ) (bytes : List ℕ) (n : ℕ) (left : List ℕ) : Type 0 where
   same_bytes : bytes ≡ image n ++ left
   back : AreBytes left
   range : (least ≤ n) × (n ≤ most)
 
+-- a version that was read has its mark before what is left
 magic_found : (size : ℕ) (bytes : List ℕ) (v : Version) (left : List ℕ) → AreBytes bytes → magic_field size bytes ≡ Ok (v, left) → (bytes ≡ magic v ++ left)
     × AreBytes left
 magic_found size bytes v left fit h =
@@ -36,9 +38,11 @@ magic_found size bytes v left fit h =
     let x = marked_is f.0.0 v (ok_or_ok (marked f.0.0) fault.Magic g.0 g.1 ∙ ap (λ n. Some n) s.0) in
     (d.same ∙ ap (λ z. z ++ f.0.1) x ∙ ap (λ z. magic v ++ z) s.1, subst AreBytes s.1 d.back)
 
+-- the mark of a version is read as it
 magic_gives : (size : ℕ) (v : Version) (left : List ℕ) → magic_field size (magic v ++ left) ≡ Ok (v, left)
 magic_gives size v left = rw (field_gives size (magic v) left, marked_back v) refl
 
+-- a cap that was read is the first byte, and is in its range
 cap_found : (size : ℕ) (bytes : List ℕ) (n : ℕ) (left : List ℕ) → AreBytes bytes → cap_field size bytes ≡ Ok (n, left)
     → FoundNumber 2 16 (λ b. b ∷ []) bytes n left
 cap_found size bytes n left fit h =
@@ -48,6 +52,7 @@ cap_found size bytes n left fit h =
     let b = byte_found size bytes n left fit (f.1 ∙ t.1) in
     record { same_bytes = b.same; back = b.back; range = subst (λ x. (2 ≤ x) × (x ≤ 16)) s.0 (in_range f.0.0 2 16 t.0) }
 
+-- a number of pages that was read has the first two bytes as its bytes, and is in its range
 pages_found : (size : ℕ) (bytes : List ℕ) (n : ℕ) (left : List ℕ) → AreBytes bytes → pages_field size bytes ≡ Ok (n, left)
     → FoundNumber 1 512 (to_be_bytes w16) bytes n left
 pages_found size bytes n left fit h =
@@ -57,6 +62,7 @@ pages_found size bytes n left fit h =
     let b = half_found size bytes n left fit (f.1 ∙ t.1) in
     record { same_bytes = b.same; back = b.back; range = subst (λ x. (1 ≤ x) × (x ≤ 512)) s.0 (in_range f.0.0 1 512 t.0) }
 
+-- the bytes begin with the byte of the rule
 record FoundRule (bytes : List ℕ) (r : Rule) (left : List ℕ) : Type 0 where
   same_bytes : bytes ≡ rule_byte r ∷ left
   back : AreBytes left
@@ -71,9 +77,11 @@ chosen_byte n Loose true b e f h = cc
 chosen_byte n Loose false true e f h = grind (arith, tests)
 chosen_byte n Loose false false e f h = cc
 
+-- a byte that is read as a rule is the rule's
 rule_is : (n : ℕ) (r : Rule) → rule_at n ≡ Some r → n ≡ rule_byte r
 rule_is n r h = chosen_byte n r (n == 0) (n == 1) refl refl h
 
+-- a rule that was read has its byte before what is left
 rule_found : (size : ℕ) (bytes : List ℕ) (r : Rule) (left : List ℕ) → AreBytes bytes → rule_field size bytes ≡ Ok (r, left) → FoundRule bytes r left
 rule_found size bytes r left fit h =
     let f = bind_ok (byte size bytes) _ (r, left) h in
@@ -86,6 +94,7 @@ rule_found size bytes r left fit h =
       back = subst AreBytes s.1 b.back;
     }
 
+-- the byte of a rule is read as it
 rule_gives : (size : ℕ) (r : Rule) (left : List ℕ) → rule_field size (rule_byte r ∷ left) ≡ Ok (r, left)
 rule_gives size Held left = rw (byte_gives size 0 left) refl
 rule_gives size Loose left = rw (byte_gives size 1 left) refl
@@ -94,12 +103,14 @@ rule_gives size Loose left = rw (byte_gives size 1 left) refl
 abbrev front_of : Head → List ℕ
 front_of h = magic h.version ++ (h.cap ∷ to_be_bytes w16 h.pages ++ rule_byte h.rule ∷ [])
 
+-- the bytes begin with the image of the head, whose numbers are in their ranges
 record FoundHead (bytes : List ℕ) (h : Head) (left : List ℕ) : Type 0 where
   same_bytes : bytes ≡ front_of h ++ left
   back : AreBytes left
   cap : (2 ≤ h.cap) × (h.cap ≤ 16)
   pages : (1 ≤ h.pages) × (h.pages ≤ 512)
 
+-- a head that was read is so
 head_found : (size : ℕ) (bytes : List ℕ) (h : Head) (left : List ℕ) → AreBytes bytes → head_fields size bytes ≡ Ok (h, left) → FoundHead bytes h left
 head_found size bytes h left fit e =
     let a = bind_ok (magic_field size bytes) _ (h, left) e in
@@ -121,6 +132,7 @@ head_found size bytes h left fit e =
       pages = subst (λ (x : Head). (1 ≤ x.pages) × (x.pages ≤ 512)) s.0 p.range;
     }
 
+-- the image of a head whose numbers are in their ranges is read as it
 head_gives : (size : ℕ) (h : Head) (left : List ℕ) → 2 ≤ h.cap → h.cap ≤ 16 → 1 ≤ h.pages → h.pages ≤ 512 → head_fields size (front_of h ++ left) ≡ Ok (h, left)
 head_gives size h left c2 c16 p1 p512 =
     let rest : List ℕ = rule_byte h.rule ∷ left in
@@ -132,14 +144,17 @@ head_gives size h left c2 c16 p1 p512 =
 
 -- ---- the whole
 
+-- bytes of length 0 are none
 no_bytes : (bytes : List ℕ) → (length bytes == 0) ≡ true → bytes ≡ []
 no_bytes [] h = refl
 no_bytes (b ∷ bs) h = absurd (grind (arith, tests))
 
+-- the bytes are the image of the scenario, which has no fault
 pub record FoundImage (bytes : List ℕ) (s : Scenario) : Type 0 where
   pub same_bytes : bytes ≡ image_of s
   pub no_fault : scenario_fault s ≡ None
 
+-- bytes that are read as a scenario are its image, and it has no fault
 pub image_found : (bytes : List ℕ) (s : Scenario) → AreBytes bytes → reading bytes ≡ Ok s → FoundImage bytes s
 image_found bytes s fit e =
     let size = length bytes in
@@ -166,6 +181,7 @@ image_found bytes s fit e =
           subst (λ x. scenario_fault x ≡ None) same (no_fault t h.cap.0 h.cap.1 h.pages.0 h.pages.1 r.few r.few_pages r.order p.few q.few q.named p.known);
     }
 
+-- the image of a scenario is read as it
 pub image_gives : (s : Scenario) → IsScenario s → reading (image_of s) ≡ Ok s
 image_gives s i =
     let size = length (image_of s) in

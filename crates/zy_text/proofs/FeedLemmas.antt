@@ -78,7 +78,7 @@ none_is : (t : Bool) (n : ℕ) → None ≡ (if t then Some n else None) → t �
 none_is true n h = cc
 none_is false n h = refl
 
--- the same where no first line feed is found
+-- a text that is not empty, and in which no line feed is found, is one line
 pub first_none : (bs : List ℕ) → 0 < length bs → None ≡ position is_lf bs → lines_of bs ≡ bs ∷ []
 first_none bs p h =
     let past = ltb-false _ _ (none_is (nat_lt (position_or_len is_lf bs) (length bs)) (position_or_len is_lf bs) h) in

@@ -23,7 +23,7 @@ kept_more ws n w lt few =
       few,
     )))
 
--- the first n of a list behind another's first n are the first n of that list behind the whole other
+-- the first n of a list's first n and another list are the first n of both lists
 take_front : (n : ℕ) (vs ws : List (List ℕ)) → take n (take n vs ++ ws) ≡ take n (vs ++ ws)
 take_front zero vs ws = refl
 take_front (suc n) [] ws = refl

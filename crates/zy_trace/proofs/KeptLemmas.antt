@@ -41,7 +41,7 @@ whole : (xs : List Lock) → take (length xs) xs ≡ xs
 whole [] = refl
 whole (x ∷ xs) = ap (λ l. x ∷ l) (whole xs)
 
--- what is behind the first i locks is all that the length leaves
+-- behind the first i locks are as many as the length leaves
 pub rest_whole : (i : ℕ) (xs : List Lock) → take (length xs - i) (drop i xs) ≡ drop i xs
 rest_whole i xs = ap (λ k. take k (drop i xs)) (sym (length-drop i xs)) ∙ whole (drop i xs)
 
