@@ -12,8 +12,8 @@ use Rattle.zy_table.specs.Run.{program_of}
 use Rattle.zy_table.specs.Serial.{Listed, alone, is_committed, serial, times_listed}
 use Rattle.zy_table.specs.declared.entry.CommitRec.{CommitRec}
 use Rattle.zy_table.specs.State.{State, Txn}
-use Rattle.zy_laws.proofs.SafeCounts.{safe}
-use Rattle.zy_laws.proofs.Listed.{listed}
+use Rattle.zy_laws.proofs.counts.SafeCounts.{safe}
+use Rattle.zy_laws.proofs.serial.Listed.{listed}
 
 -- the run of one commit leads to those behind it
 pub serial-more : (sc : Scenario) (m n : Map) (cs : List CommitRec) (i : ℕ) (d : CommitRec) → i < length cs

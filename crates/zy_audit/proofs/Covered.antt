@@ -20,7 +20,7 @@ use Rattle.zy_table.specs.State.{State}
 use Rattle.zy_table.proofs.PageFinds.{rows_of-none, rows_of-some}
 use Rattle.zy_page.proofs.Parted.{Rising-lower}
 use Rattle.zy_machine.specs.Histories.{History, IsReplay}
-use Rattle.zy_laws.proofs.Installing.{none_else}
+use Rattle.zy_laws.proofs.places.Installing.{none_else}
 use Rattle.zy_audit.specs.Covering.{HasRun}
 use Rattle.zy_audit.specs.Lone.{map_of}
 use Rattle.zy_audit.proofs.Gathered.{Kept, home, kept, on_its_page, stands}

@@ -15,13 +15,13 @@ use Rattle.zy_table.specs.Play.{opening, play}
 use Rattle.zy_table.specs.Rows.{put_rows}
 use Rattle.zy_table.specs.State.{State}
 use Rattle.zy_wire.specs.Wireframe.{page_of}
-use Rattle.zy_laws.proofs.Installing.{Placed, get_row-puts, none_else, or_else_none}
-use Rattle.zy_laws.proofs.LoneRuns.{or_else}
+use Rattle.zy_laws.proofs.places.Installing.{Placed, get_row-puts, none_else, or_else_none}
+use Rattle.zy_laws.proofs.serial.LoneRuns.{or_else}
 use Rattle.zy_wire.proofs.PageOf.{page_of-within}
 use Rattle.zy_table.proofs.PageFinds.{rows_of-none, rows_of-some}
-use Rattle.zy_laws.proofs.PageValues.{rows_of-here, rows_of-past}
-use Rattle.zy_laws.proofs.Reached.{reached}
-use Rattle.zy_laws.proofs.ValueAtPage.{newest_lows, values_at_pages}
+use Rattle.zy_laws.proofs.places.PageValues.{rows_of-here, rows_of-past}
+use Rattle.zy_laws.proofs.locks.Reached.{reached}
+use Rattle.zy_laws.proofs.places.ValueAtPage.{newest_lows, values_at_pages}
 use Rattle.zy_audit.specs.Lone.{map_of}
 use Rattle.zy_audit.proofs.LaidRows.{get-map_of}
 

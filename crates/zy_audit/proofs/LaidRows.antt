@@ -12,9 +12,9 @@ use Rattle.zy_table.specs.Serial.{value_in}
 use Rattle.zy_table.specs.Sums.{value_beside}
 use Rattle.zy_table.proofs.RangeLists.{total_same}
 use Rattle.zy_table.proofs.RowSums.{own_apart, total_plus}
-use Rattle.zy_laws.proofs.Installing.{or_else_none}
-use Rattle.zy_laws.proofs.LoneRuns.{get-laid, laid_put, or_else}
-use Rattle.zy_laws.proofs.PageValues.{value_same}
+use Rattle.zy_laws.proofs.places.Installing.{or_else_none}
+use Rattle.zy_laws.proofs.serial.LoneRuns.{get-laid, laid_put, or_else}
+use Rattle.zy_laws.proofs.places.PageValues.{value_same}
 use Rattle.zy_audit.specs.Lone.{map_of}
 
 -- rows put among rows lie over the map as more rows do

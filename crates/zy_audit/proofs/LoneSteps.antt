@@ -13,7 +13,7 @@ use Rattle.zy_isa.specs.Rows.{put_row}
 use Rattle.zy_isa.specs.declared.row.Row.{Row}
 use Rattle.zy_table.specs.Rows.{put_rows}
 use Rattle.zy_audit.specs.Lone.{Lone, map_of, on_map}
-use Rattle.zy_laws.proofs.LoneRuns.{laid_put}
+use Rattle.zy_laws.proofs.serial.LoneRuns.{laid_put}
 use Rattle.zy_audit.proofs.LaidRows.{laid-put_rows}
 
 -- an access at a key that is one

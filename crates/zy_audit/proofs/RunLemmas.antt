@@ -2,7 +2,7 @@
 use Rattle.std.proofs.Common.{◌≡◌, ◌∙◌, ap}
 use Rattle.zy_isa.specs.Scenario.{Scenario}
 use Rattle.zy_table.specs.Play.{play, entries, opening}
-use Rattle.zy_laws.proofs.PlayPush.{choices-entries}
+use Rattle.zy_laws.proofs.walk.PlayPush.{choices-entries}
 use Rattle.zy_machine.specs.Histories.{History, choices_of}
 use Rattle.zy_audit.specs.Listing.{listing}
 use Rattle.zy_audit.specs.SameMaps.{is_serial}

@@ -14,8 +14,8 @@ use Rattle.zy_table.specs.Play.{play, opening}
 use Rattle.zy_table.specs.State.{State}
 use Rattle.zy_table.proofs.PageFinds.{owns-page_in}
 use Rattle.zy_laws.specs.OneOwner.{OneOwner, times, width}
-use Rattle.zy_laws.proofs.OneOwner.{one_owner}
-use Rattle.zy_laws.proofs.PageCounts.{owns-times, times-all_leaves, times-sent_leaves}
+use Rattle.zy_laws.proofs.owner.OneOwner.{one_owner}
+use Rattle.zy_laws.proofs.owner.PageCounts.{owns-times, times-all_leaves, times-sent_leaves}
 use Rattle.zy_machine.proofs.AccessLemmas.{page_in-all}
 
 -- ---- no page is in both links

@@ -30,19 +30,19 @@ use Rattle.zy_txns.specs.Books.{Countable, txn_in}
 use Rattle.zy_machine.specs.NodePairs.{state_of, limits_in, AreLimited, IsPossible, MayStart}
 use Rattle.zy_machine.proofs.ArrivalLemmas.{may_take}
 use Rattle.zy_table.proofs.PageFinds.{absent_page}
-use Rattle.zy_laws.proofs.OneOwner.{inv_from, play_inv}
-use Rattle.zy_laws.proofs.Room.{need, need_is}
+use Rattle.zy_laws.proofs.owner.OneOwner.{inv_from, play_inv}
+use Rattle.zy_laws.proofs.room.Room.{need, need_is}
 use Rattle.zy_machine.proofs.Roomy.{roomy}
-use Rattle.zy_laws.proofs.SafeCounts.{safe, program_is}
-use Rattle.zy_laws.proofs.RoomAtCommit.{fits}
-use Rattle.zy_laws.proofs.ListsInOrder.{in_order, ordered_from, tidy}
-use Rattle.zy_laws.proofs.Boundary.{boundary_new}
-use Rattle.zy_laws.proofs.LockingSteps.{home_placed}
-use Rattle.zy_laws.proofs.Ordered.{rows_at}
-use Rattle.zy_laws.proofs.Reached.{kept_from, reached}
-use Rattle.zy_laws.proofs.ModeLines.{starts_from}
-use Rattle.zy_laws.proofs.Roles.{fresh_number, normal_other}
-use Rattle.zy_laws.proofs.Txns.{IsAt}
+use Rattle.zy_laws.proofs.counts.SafeCounts.{safe, program_is}
+use Rattle.zy_laws.proofs.room.RoomAtCommit.{fits}
+use Rattle.zy_laws.proofs.order.ListsInOrder.{in_order, ordered_from, tidy}
+use Rattle.zy_laws.proofs.places.Boundary.{boundary_new}
+use Rattle.zy_laws.proofs.locks.LockingSteps.{home_placed}
+use Rattle.zy_laws.proofs.order.Ordered.{rows_at}
+use Rattle.zy_laws.proofs.locks.Reached.{kept_from, reached}
+use Rattle.zy_laws.proofs.walk.ModeLines.{starts_from}
+use Rattle.zy_laws.proofs.owner.Roles.{fresh_number, normal_other}
+use Rattle.zy_laws.proofs.walk.Txns.{IsAt}
 
 -- a transaction seen from either node is that of the state
 txn_at-facing : (n : Node) (t : ℕ) (s : State) → txn_at (facing n s) t ≡ txn_or (slice_get s.txns t)

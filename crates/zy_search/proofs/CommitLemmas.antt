@@ -7,7 +7,7 @@ use Rattle.zy_table.specs.declared.entry.CommitRec.{CommitRec}
 use Rattle.zy_table.specs.Play.{step}
 use Rattle.zy_table.specs.Database.{Map, database}
 use Rattle.zy_table.specs.Serial.{serial}
-use Rattle.zy_laws.proofs.Values.{commits_alone}
+use Rattle.zy_laws.proofs.serial.Values.{commits_alone}
 use Rattle.zy_machine.specs.Histories.{History, IsReplay, choices_of}
 use Rattle.zy_audit.specs.Lone.{map_of}
 use Rattle.zy_audit.specs.SameMaps.{same_map, is_serial}

@@ -20,7 +20,7 @@ use Rattle.zy_search.specs.declared.sought.Wanted.TheVariants as wanted
 use Rattle.zy_search.specs.Searches.{reached, Shows, ShowsIt, Finds}
 use Rattle.zy_search.specs.Stuck.{is_still}
 use Rattle.zy_laws.specs.Orders.{reordered}
-use Rattle.zy_laws.proofs.Reordered.{one, play-reordered, opening-reordered}
+use Rattle.zy_laws.proofs.walk.Reordered.{one, play-reordered, opening-reordered}
 use Rattle.zy_search.specs.Schedules.{scheduled, ending}
 use Rattle.zy_search.proofs.SearchLemmas.{are_named}
 

@@ -10,7 +10,7 @@ use Rattle.zy_isa.specs.Choices.{names_below}
 use Rattle.zy_isa.specs.Scenario.{Scenario, AreNamed}
 use Rattle.zy_table.specs.State.{State}
 use Rattle.zy_table.specs.Play.{play, step}
-use Rattle.zy_laws.proofs.PlayPush.{play-push}
+use Rattle.zy_laws.proofs.walk.PlayPush.{play-push}
 use Rattle.zy_machine.specs.Histories.{History}
 use Rattle.zy_search.specs.declared.sought.Sought.{Sought}
 use Rattle.zy_search.specs.declared.answer.Answer.{Answer}

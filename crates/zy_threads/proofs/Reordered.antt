@@ -3,7 +3,7 @@ use Rattle.std.proofs.Common.{◌∙◌, sym}
 use Rattle.zy_machine.specs.Histories.{History, IsReplay, choices_of}
 use Rattle.zy_table.specs.Play.{opening}
 use Rattle.zy_threads.specs.Orders.{reordered, IsRunOf}
-pub use Rattle.zy_laws.proofs.Reordered.{play-reordered, entries-reordered, opening-reordered}
+pub use Rattle.zy_laws.proofs.walk.Reordered.{play-reordered, entries-reordered, opening-reordered}
 
 -- a replay is the run of its scenario with its choices in the order of its history
 pub is_run : (h : History) → IsReplay h → IsRunOf (reordered h.scenario (choices_of h.entries)) h

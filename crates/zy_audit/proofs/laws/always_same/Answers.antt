@@ -1,7 +1,7 @@
 use Rattle.zy_table.specs.Database.{database}
 use Rattle.zy_table.specs.Play.{opening, play}
 use Rattle.zy_table.specs.Serial.{serial}
-use Rattle.zy_laws.proofs.Serializable.{serializable}
+use Rattle.zy_laws.proofs.serial.Serializable.{serializable}
 use Rattle.zy_audit.specs.Lone.{map_of}
 use Rattle.zy_audit.proofs.Entries.{same_map-true}
 use Rattle.zy_audit.proofs.laws.always_same.Goals as goal

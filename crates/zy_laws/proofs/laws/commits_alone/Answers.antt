@@ -1,4 +1,4 @@
-use Rattle.zy_laws.proofs.Values.{commits_alone}
+use Rattle.zy_laws.proofs.serial.Values.{commits_alone}
 use Rattle.zy_laws.proofs.laws.commits_alone.Goals as goal
 
 pub returns : goal.returns

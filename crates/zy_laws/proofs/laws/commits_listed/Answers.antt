@@ -1,4 +1,4 @@
-use Rattle.zy_laws.proofs.Listed.{listed}
+use Rattle.zy_laws.proofs.serial.Listed.{listed}
 use Rattle.zy_laws.proofs.laws.commits_listed.Goals as goal
 
 pub returns : goal.returns

@@ -1,4 +1,4 @@
-use Rattle.zy_laws.proofs.ValueAtPage.{each_key_has_page}
+use Rattle.zy_laws.proofs.places.ValueAtPage.{each_key_has_page}
 use Rattle.zy_laws.proofs.laws.each_key_has_page.Goals as goal
 
 pub returns : goal.returns

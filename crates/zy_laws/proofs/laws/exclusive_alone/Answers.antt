@@ -1,4 +1,4 @@
-use Rattle.zy_laws.proofs.Reached.{exclusive_alone}
+use Rattle.zy_laws.proofs.locks.Reached.{exclusive_alone}
 use Rattle.zy_laws.proofs.laws.exclusive_alone.Goals as goal
 
 pub returns : goal.returns

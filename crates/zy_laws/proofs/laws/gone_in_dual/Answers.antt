@@ -1,4 +1,4 @@
-use Rattle.zy_laws.proofs.Gone.{gone_in_dual}
+use Rattle.zy_laws.proofs.locks.Gone.{gone_in_dual}
 use Rattle.zy_laws.proofs.laws.gone_in_dual.Goals as goal
 
 pub returns : goal.returns

@@ -1,4 +1,4 @@
-use Rattle.zy_laws.proofs.Reached.{holders_active}
+use Rattle.zy_laws.proofs.locks.Reached.{holders_active}
 use Rattle.zy_laws.proofs.laws.holders_active.Goals as goal
 
 pub returns : goal.returns

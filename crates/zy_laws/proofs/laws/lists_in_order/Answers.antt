@@ -1,4 +1,4 @@
-use Rattle.zy_laws.proofs.ListsInOrder.{in_order}
+use Rattle.zy_laws.proofs.order.ListsInOrder.{in_order}
 use Rattle.zy_laws.proofs.laws.lists_in_order.Goals as goal
 
 pub returns : goal.returns

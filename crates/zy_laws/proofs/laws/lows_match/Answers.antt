@@ -1,4 +1,4 @@
-use Rattle.zy_laws.proofs.ValueAtPage.{lows_match}
+use Rattle.zy_laws.proofs.places.ValueAtPage.{lows_match}
 use Rattle.zy_laws.proofs.laws.lows_match.Goals as goal
 
 pub returns : goal.returns

@@ -1,4 +1,4 @@
-use Rattle.zy_laws.proofs.Stray.{never_stray}
+use Rattle.zy_laws.proofs.owner.Stray.{never_stray}
 use Rattle.zy_laws.proofs.laws.never_stray.Goals as goal
 
 pub returns : goal.returns

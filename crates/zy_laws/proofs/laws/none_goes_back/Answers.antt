@@ -1,4 +1,4 @@
-use Rattle.zy_laws.proofs.OneWay.{none_goes_back}
+use Rattle.zy_laws.proofs.travel.OneWay.{none_goes_back}
 use Rattle.zy_laws.proofs.laws.none_goes_back.Goals as goal
 
 pub returns : goal.returns

@@ -1,4 +1,4 @@
-use Rattle.zy_laws.proofs.Between.{nothing_left}
+use Rattle.zy_laws.proofs.travel.Between.{nothing_left}
 use Rattle.zy_laws.proofs.laws.nothing_left.Goals as goal
 
 pub returns : goal.returns

@@ -1,4 +1,4 @@
-use Rattle.zy_laws.proofs.OneWireframe.{one_source}
+use Rattle.zy_laws.proofs.wireframe.OneWireframe.{one_source}
 use Rattle.zy_laws.proofs.laws.one_source.Goals as goal
 
 pub returns : goal.returns

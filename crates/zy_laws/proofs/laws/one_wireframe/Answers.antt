@@ -1,4 +1,4 @@
-use Rattle.zy_laws.proofs.OneWireframe.{one_wireframe}
+use Rattle.zy_laws.proofs.wireframe.OneWireframe.{one_wireframe}
 use Rattle.zy_laws.proofs.laws.one_wireframe.Goals as goal
 
 pub returns : goal.returns

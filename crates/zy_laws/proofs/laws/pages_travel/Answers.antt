@@ -1,4 +1,4 @@
-use Rattle.zy_laws.proofs.Travel.{pages_travel}
+use Rattle.zy_laws.proofs.travel.Travel.{pages_travel}
 use Rattle.zy_laws.proofs.laws.pages_travel.Goals as goal
 
 pub returns : goal.returns

@@ -1,4 +1,4 @@
-use Rattle.zy_laws.proofs.OneWay.{returns_by_start}
+use Rattle.zy_laws.proofs.travel.OneWay.{returns_by_start}
 use Rattle.zy_laws.proofs.laws.returns_by_start.Goals as goal
 
 pub returns : goal.returns

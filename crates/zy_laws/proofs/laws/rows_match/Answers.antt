@@ -1,4 +1,4 @@
-use Rattle.zy_laws.proofs.ValueAtPage.{rows_match}
+use Rattle.zy_laws.proofs.places.ValueAtPage.{rows_match}
 use Rattle.zy_laws.proofs.laws.rows_match.Goals as goal
 
 pub returns : goal.returns

@@ -1,4 +1,4 @@
-use Rattle.zy_laws.proofs.SafeCounts.{safe}
+use Rattle.zy_laws.proofs.counts.SafeCounts.{safe}
 use Rattle.zy_laws.proofs.laws.safe_counts.Goals as goal
 
 pub returns : goal.returns

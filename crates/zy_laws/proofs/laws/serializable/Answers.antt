@@ -1,4 +1,4 @@
-use Rattle.zy_laws.proofs.Serializable.{serializable}
+use Rattle.zy_laws.proofs.serial.Serializable.{serializable}
 use Rattle.zy_laws.proofs.laws.serializable.Goals as goal
 
 pub returns : goal.returns

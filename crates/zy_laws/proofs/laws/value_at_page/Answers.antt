@@ -1,4 +1,4 @@
-use Rattle.zy_laws.proofs.ValueAtPage.{values_at_pages}
+use Rattle.zy_laws.proofs.places.ValueAtPage.{values_at_pages}
 use Rattle.zy_laws.proofs.laws.value_at_page.Goals as goal
 
 pub returns : goal.returns

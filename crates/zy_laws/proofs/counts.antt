@@ -1,0 +1,2 @@
+-- Why each sum and each index is safe.
+pub mod SafeCounts

@@ -1,0 +1,5 @@
+-- Why an exclusive lock is alone, why who holds one is active, and why a transaction is gone in the dual mode alone.
+pub mod Locking
+pub mod LockingSteps
+pub mod Reached
+pub mod Gone

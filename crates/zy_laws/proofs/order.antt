@@ -1,0 +1,3 @@
+-- Why every list is in its order.
+pub mod Ordered
+pub mod ListsInOrder

@@ -1,0 +1,122 @@
+-- Which node has which role, and where each page is.
+use Rattle.std.proofs.Common.{Bool, [], ◌∷◌, List, ap, arith, false, length, refl, sym, true, ℕ, ◌+◌, ◌<◌, ◌≤◌, ◌∙◌, ◌≡◌}
+use Rattle.std.specs.Prelude.{if◌then◌else◌, max, nat_lt}
+use Rattle.std.proofs.lemmas.Bool.{false≢true}
+use Rattle.std.proofs.lemmas.Bool.Decides.{nat_tests}
+use Rattle.zy_modes.specs.Families.{is_home, is_bare, is_idle}
+use Rattle.zy_modes.specs.declared.mode.NodeMode.{NodeMode}
+use Rattle.zy_modes.specs.declared.mode.NodeMode.TheVariants.{Empty, SInit, SDual, SFinish, DInit, DDual, DFinish}
+use Rattle.zy_modes.specs.Table.{may_split}
+use Rattle.zy_links.specs.Messages.{Wire, Ready}
+use Rattle.zy_laws.specs.OneOwner.{times}
+use Rattle.zy_table.specs.Pages.{owns}
+use Rattle.zy_table.specs.State.{Message, NodeState, View}
+use Rattle.zy_laws.proofs.owner.PageCounts.{owns_from, owns_none, times_sent}
+use Rattle.zy_laws.proofs.owner.Phases.{Phase, Resting, Wire_sent, Ready_sent, Dual_sent, Both_sent, In_dual, Finish_sent, In_finish, Done_sent, begins_length}
+
+-- which of the two is the source
+pub data Roles (v : View) : Type 0 where
+  Source : Phase v.me v.them v.outbox v.inbox → Roles v
+  Destination : Phase v.them v.me v.inbox v.outbox → Roles v
+
+-- how often page p is at a node or on its way
+abbrev pub places : ℕ → View → ℕ
+places p v = (times p v.me.pages + times p v.them.pages) + (times_sent p v.inbox + times_sent p v.outbox)
+
+-- the number of pages: the greater of the two numbers of low keys
+abbrev pub width : View → ℕ
+width v = max (length v.me.lows) (length v.them.lows)
+
+-- each page below the width is in one place, and no other is anywhere
+pub record Owned (v : View) : Type 0 where
+  pub once : (p : ℕ) → places p v ≡ (if nat_lt p (width v) then 1 else 0)
+
+-- a node in a bare mode has no page
+pub record Bare (x : NodeState) : Type 0 where
+  pub none : is_bare x.mode ≡ true → x.pages ≡ []
+
+-- what every step keeps: the roles, the owners, and that a bare node has no page
+pub record Inv (v : View) : Type 0 where
+  pub roles : Roles v
+  pub owned : Owned v
+  pub mine : Bare v.me
+  pub theirs : Bare v.them
+
+-- a fact of the mode that another mode lacks
+pub mode_clash : {A : Type 0} (f : NodeMode → Bool) (m x : NodeMode) → x ≡ m → f m ≡ false → f x ≡ true → A
+mode_clash f m x same lacks has = absurd (false≢true (sym lacks ∙ ap f (sym same) ∙ has))
+
+-- the same from the other side
+abbrev pub turned : View → View
+turned v = record { me = v.them; them = v.me; inbox = v.outbox; outbox = v.inbox; txns = v.txns; commits = v.commits }
+
+-- roles from one side are roles from the other
+turned_roles : (v : View) → Roles v → Roles (turned v)
+turned_roles v (Source ph) = Destination ph
+turned_roles v (Destination ph) = Source ph
+
+-- roles and owners from one side are those from the other
+pub turned_inv : (v : View) → Inv v → Inv (turned v)
+turned_inv v i = record {
+  roles = turned_roles v i.roles;
+  owned = record { once = λ p. let k = i.owned.once p in grind (arith, nat_tests, k) };
+  mine = i.theirs;
+  theirs = i.mine;
+}
+
+-- where the other node and both links are without pages, all pages are mine
+sole : (v : View) (inbox outbox : List Message) → Owned v → v.them.pages ≡ [] → v.inbox ≡ inbox → v.outbox ≡ outbox
+    → ((p : ℕ) → times_sent p inbox + times_sent p outbox ≡ 0) → (p : ℕ) → p < length v.me.lows → owns v.me.pages p ≡ true
+sole v inbox outbox o none a b sent p h =
+    let k = o.once p in
+    let x : times p v.them.pages ≡ 0 = ap (times p) none in
+    let y : times_sent p v.inbox ≡ times_sent p inbox = ap (times_sent p) a in
+    let z : times_sent p v.outbox ≡ times_sent p outbox = ap (times_sent p) b in
+    let s = sent p in
+    owns_from p v.me.pages (grind (arith, nat_tests, k, x, y, z, s))
+
+-- a node in a home mode has all pages
+pub all_owned : (v : View) → Inv v → is_home v.me.mode ≡ true → Roles v → (p : ℕ) → p < length v.me.lows → owns v.me.pages p ≡ true
+all_owned v i s (Source (Resting a b c d f)) = sole v [] [] i.owned (i.theirs.none (ap is_bare b)) f d (λ p. refl)
+all_owned v i s (Source (Wire_sent a b c d f)) = sole v [] (Wire v.me.lows ∷ []) i.owned (i.theirs.none (ap is_bare b)) f d (λ p. refl)
+all_owned v i s (Source (Ready_sent a b c d f)) = sole v (Ready ∷ []) [] i.owned (i.theirs.none (ap is_bare b)) f d (λ p. refl)
+all_owned v i s (Source (Dual_sent xs a b c d all f)) = mode_clash is_home SDual v.me.mode a refl s
+all_owned v i s (Source (Both_sent xs a b c d all f)) = mode_clash is_home SFinish v.me.mode a refl s
+all_owned v i s (Source (In_dual a b c d f)) = mode_clash is_home SDual v.me.mode a refl s
+all_owned v i s (Source (Finish_sent a b c d f)) = mode_clash is_home SFinish v.me.mode a refl s
+all_owned v i s (Source (In_finish a b c d f)) = mode_clash is_home SFinish v.me.mode a refl s
+all_owned v i s (Source (Done_sent a b c all d f)) = mode_clash is_home SFinish v.me.mode a refl s
+all_owned v i s (Destination (Resting a b c d f)) = mode_clash is_home Empty v.me.mode b refl s
+all_owned v i s (Destination (Wire_sent a b c d f)) = mode_clash is_home Empty v.me.mode b refl s
+all_owned v i s (Destination (Ready_sent a b c d f)) = mode_clash is_home DInit v.me.mode b refl s
+all_owned v i s (Destination (Dual_sent xs a b c d all f)) = mode_clash is_home DInit v.me.mode b refl s
+all_owned v i s (Destination (Both_sent xs a b c d all f)) = mode_clash is_home DInit v.me.mode b refl s
+all_owned v i s (Destination (In_dual a b c d f)) = mode_clash is_home DDual v.me.mode b refl s
+all_owned v i s (Destination (Finish_sent a b c d f)) = mode_clash is_home DDual v.me.mode b refl s
+all_owned v i s (Destination (In_finish a b c d f)) = mode_clash is_home DFinish v.me.mode b refl s
+all_owned v i s (Destination (Done_sent a b c all d f)) = λ p h. owns_from p v.me.pages (all.each p h)
+
+-- beside a node in Normal nothing runs, and the other wireframe is no longer
+pub normal_other : (v : View) → Roles v → may_split v.me.mode ≡ true → (is_idle v.them.mode ≡ true) × (length v.them.lows ≤ length v.me.lows)
+normal_other v (Source (Resting a b c d f)) h = (ap is_idle b, omega (arith, ap length c))
+normal_other v (Source (Wire_sent a b c d f)) h = mode_clash may_split SInit v.me.mode a refl h
+normal_other v (Source (Ready_sent a b c d f)) h = mode_clash may_split SInit v.me.mode a refl h
+normal_other v (Source (Dual_sent ms a b c d all f)) h = mode_clash may_split SDual v.me.mode a refl h
+normal_other v (Source (Both_sent ms a b c d all f)) h = mode_clash may_split SFinish v.me.mode a refl h
+normal_other v (Source (In_dual a b c d f)) h = mode_clash may_split SDual v.me.mode a refl h
+normal_other v (Source (Finish_sent a b c d f)) h = mode_clash may_split SFinish v.me.mode a refl h
+normal_other v (Source (In_finish a b c d f)) h = mode_clash may_split SFinish v.me.mode a refl h
+normal_other v (Source (Done_sent a b c all d f)) h = mode_clash may_split SFinish v.me.mode a refl h
+normal_other v (Destination (Resting a b c d f)) h = mode_clash may_split Empty v.me.mode b refl h
+normal_other v (Destination (Wire_sent a b c d f)) h = mode_clash may_split Empty v.me.mode b refl h
+normal_other v (Destination (Ready_sent a b c d f)) h = mode_clash may_split DInit v.me.mode b refl h
+normal_other v (Destination (Dual_sent ms a b c d all f)) h = mode_clash may_split DInit v.me.mode b refl h
+normal_other v (Destination (Both_sent ms a b c d all f)) h = mode_clash may_split DInit v.me.mode b refl h
+normal_other v (Destination (In_dual a b c d f)) h = mode_clash may_split DDual v.me.mode b refl h
+normal_other v (Destination (Finish_sent a b c d f)) h = mode_clash may_split DDual v.me.mode b refl h
+normal_other v (Destination (In_finish a b c d f)) h = mode_clash may_split DFinish v.me.mode b refl h
+normal_other v (Destination (Done_sent a b c all d f)) h = (ap is_idle a, begins_length v.them.lows v.me.lows c)
+
+-- a number from the width on is no page's
+pub fresh_number : (v : View) → Owned v → length v.them.lows ≤ length v.me.lows → owns v.me.pages (length v.me.lows) ≡ false
+fresh_number v o wide = owns_none (length v.me.lows) v.me.pages (let k = o.once (length v.me.lows) in grind (arith, nat_tests, k))

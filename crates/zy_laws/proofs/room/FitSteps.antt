@@ -1,0 +1,274 @@
+-- Each step of the table keeps room on the pages.
+use Rattle.zy_modes.specs.Families.{is_source}
+use Rattle.zy_modes.specs.Table.{may_pull}
+use Rattle.zy_laws.proofs.walk.ModeLines.{pulls_in}
+use Rattle.std.proofs.Common.{false, ap, List, [], arith, inl, inr, length, refl, subst, sym, true, ℕ, ◌++◌, ◌+◌, ◌<◌, ◌∙◌, ◌∷◌, ◌≡◌, ◌≤◌}
+use Rattle.std.specs.Prelude.{slice_set, ◌⊎◌}
+use Rattle.std.proofs.lemmas.Bool.{cases_Bool, false≢true, ltb-true}
+use Rattle.std.proofs.lemmas.Bool.Decides.{nat_tests}
+use Rattle.zy_isa.specs.Rows.{Rising, put_row}
+use Rattle.zy_isa.specs.Scenario.{Scenario}
+use Rattle.zy_isa.specs.declared.node.Node.{Node}
+use Rattle.zy_locks.specs.declared.lock.LockKind.{LockKind}
+use Rattle.zy_locks.specs.declared.lock.LockKind.TheVariants.{Shared}
+use Rattle.zy_table.specs.Change.{aborted, asks, begun, committed, did, installed, leaves, locked, shares, turns, txn_at, with_lows}
+use Rattle.zy_table.specs.Client.{is_new}
+use Rattle.zy_table.specs.Database.{sent_leaves}
+use Rattle.zy_table.specs.Holders.{holds, holds_alone}
+use Rattle.zy_links.specs.Messages.{Wire, Ready, Dual, Pull, Page, Finish, Done}
+use Rattle.zy_modes.specs.declared.mode.NodeMode.{NodeMode}
+use Rattle.zy_modes.specs.declared.mode.NodeMode.TheVariants.{Empty, Normal, SInit, SDual, SFinish, DInit, DDual, DFinish}
+use Rattle.zy_laws.specs.OneOwner.{times}
+use Rattle.zy_table.specs.Pages.{leaf_at, owns, rows_of, with_page, without}
+use Rattle.zy_table.specs.Rows.{rows_on}
+use Rattle.zy_table.specs.Run.{boundary, has_room, is_there}
+use Rattle.zy_table.specs.declared.status.Status.TheVariants.{Aborted, Committed}
+use Rattle.zy_table.specs.State.{Leaf, Message, Txn, View, post, with_me}
+use Rattle.zy_wire.specs.Wireframe.{page_of}
+use Rattle.zy_table.specs.declared.outcome.Why.{Why}
+use Rattle.zy_laws.proofs.places.Boundary.{boundary_new}
+use Rattle.zy_laws.proofs.room.CutFit.{cut_fit}
+use Rattle.zy_laws.proofs.locks.LockingSteps.{home_placed, split_on}
+use Rattle.zy_laws.proofs.room.EachPage.{Each, each_append, each_at, each_both, each_front, each_installed, each_map, each_with_page, each_without}
+use Rattle.zy_laws.proofs.walk.Events.{Aborts, Begins, Commits, Event, Gets, Inserts, Rests, SumsUp, Writes, Splits, Asks, Starts, GotWire, GotReady, GotDual}
+use Rattle.zy_laws.proofs.walk.Events.{IsStale, Gives, GotPage, GotLast, GotFinish, GotAll, GotDone, Finishes, Pushes, has_lock, page, puts, lows_after, arrived}
+use Rattle.zy_laws.proofs.walk.Events.{rest, GoesOn}
+use Rattle.zy_laws.proofs.room.Fit.{Fit, Room, Sized, commit_room, fit_acts, fit_stays, put_room}
+use Rattle.zy_table.proofs.LockLists.{exclusive_holds}
+use Rattle.zy_laws.proofs.locks.Locking.{Kept, whole}
+use Rattle.zy_laws.proofs.places.MovedPages.{whole-front, whole-leaves}
+use Rattle.zy_laws.proofs.owner.MovingPages.{sent_bare}
+use Rattle.zy_laws.proofs.places.PageValues.{rest_of}
+use Rattle.zy_table.proofs.RisingRows.{rises_put, rises_puts}
+use Rattle.zy_laws.proofs.owner.Roles.{Owned}
+use Rattle.zy_laws.proofs.order.Ordered.{not_here}
+use Rattle.zy_laws.proofs.room.Room.{installed_length, need, need_is, need_none}
+use Rattle.zy_laws.proofs.walk.Txns.{IsAt, at_either, at_self, not_both_nodes, not_new}
+
+-- a transaction without private rows has room
+empty_room : (cap : ℕ) (lows : List ℕ) (xs : List Leaf) → Each (Sized cap) xs → Each (Room cap lows []) xs
+empty_room cap lows xs h = each_map (Sized cap) (Room cap lows []) xs (λ p rows s. let a = s.0 in omega arith) h
+
+-- a page is at a node at most once
+at_most : (v : View) → Owned v → (p : ℕ) → times p v.me.pages ≤ 1
+at_most v o p = let k = o.once p in grind (arith, nat_tests, k)
+
+-- t goes on with the same private rows, or with one more on a page that it has locked
+goes_fit : (sc : Scenario) (n : Node) (v w : View) (lows : List ℕ) (t : ℕ) (y : Txn) → Fit sc n v lows → IsAt v t n → w.txns ≡ slice_set v.txns t y
+    → y.node ≡ (txn_at v t).node → w.them ≡ v.them → w.me.pages ≡ v.me.pages → whole w ≡ whole v
+    → Rising 0 y.rows → Each (Room sc.cap lows y.rows) v.me.pages → Fit sc n w lows
+goes_fit sc n v w lows t y f at e node them pages all rises room =
+    fit_acts sc n v w lows t y f e (inl (at_self v w t y e at.0)) rises them (subst (Each (Sized sc.cap)) (sym all) f.sized)
+    (λ _. subst (Each (Room sc.cap lows y.rows)) (sym pages) room) (λ s. absurd (not_both_nodes n y.node (node ∙ at.1) s.1))
+    (λ u far a h. subst (Each (Room sc.cap lows (txn_at v u).rows)) (sym pages) h)
+
+-- a step of the program keeps room
+did_fit : (sc : Scenario) (n : Node) (v : View) (lows : List ℕ) (t pc : ℕ) (regs : List ℕ) → Fit sc n v lows → IsAt v t n
+    → Fit sc n (did t pc regs (txn_at v t).rows v) lows
+unfolding did
+did_fit sc n v lows t pc regs f at = goes_fit sc n v _ lows t _ f at refl refl refl refl refl (f.rising t) (f.mine t at)
+
+-- a step under a lock keeps room
+get_fit : (sc : Scenario) (n : Node) (v : View) (lows : List ℕ) (t k pc : ℕ) (regs : List ℕ) (kind : LockKind) → Fit sc n v lows → IsAt v t n
+    → Fit sc n (did t pc regs (txn_at v t).rows (has_lock t k kind v)) lows
+unfolding did locked txn_at
+get_fit sc n v lows t k pc regs kind f at =
+    let x = txn_at v t in
+    goes_fit sc n v (did t pc regs x.rows (has_lock t k kind v)) lows t (record x { pc = pc; regs = regs; done = x.done + 1 }) f at refl refl refl refl refl
+    (f.rising t) (f.mine t at)
+
+-- a step under locks on several pages keeps room
+sum_fit : (sc : Scenario) (n : Node) (v : View) (lows : List ℕ) (t pc : ℕ) (regs ps : List ℕ) → Fit sc n v lows → IsAt v t n
+    → Fit sc n (did t pc regs (txn_at v t).rows (shares t ps v)) lows
+unfolding did shares txn_at
+sum_fit sc n v lows t pc regs ps f at =
+    let x = txn_at v t in
+    goes_fit sc n v (did t pc regs x.rows (shares t ps v)) lows t (record x { pc = pc; regs = regs; done = x.done + 1 }) f at refl refl refl refl refl
+    (f.rising t) (f.mine t at)
+
+-- a private row keeps room where its page had room for it
+put_fit : (sc : Scenario) (n : Node) (v : View) (lows : List ℕ) (t key value : ℕ) → Kept sc n v lows → Fit sc n v lows → IsAt v t n
+    → (is_there key (page key v) v.me (txn_at v t) ≡ true) ⊎ (has_room sc (page key v) v.me (txn_at v t) ≡ true) → Fit sc n (puts t key value v) lows
+unfolding did locked txn_at
+put_fit sc n v lows t key value k f at room =
+    let x = txn_at v t in
+    let newest : v.me.lows ≡ lows = k.mine.newest (k.mine.busy t at) in
+    let p = page key v in
+    let rows = put_row key value x.rows in
+    let less_than_cap : (is_there key p v.me (txn_at v t) ≡ true) ⊎ (length (rows_of v.me.pages p) + need v.me.lows p (rows_of v.me.pages p) x.rows < sc.cap) =
+    elim room [
+      | inl there ↦ inl there
+      | inr less ↦ inr (let a = ltb-true _ _ less in let e = need_is v.me.lows p (rows_of v.me.pages p) x.rows in omega (arith, a, e))
+    ] in
+    goes_fit sc n v (puts t key value v) lows t (record x { pc = x.pc + 1; rows = rows; done = x.done + 1 }) f at refl refl refl refl refl
+    (rises_put 0 key value x.rows (omega arith) (f.rising t))
+    (subst (λ l. Each (Room sc.cap l rows) v.me.pages) newest
+    (put_room sc.cap v.me.lows x.rows key value v.me.pages (f.rising t) (at_most v k.inv.owned) less_than_cap
+    (subst (λ l. Each (Room sc.cap l x.rows) v.me.pages) (sym newest) (f.mine t at))))
+
+-- an abort keeps room
+aborted_fit : (sc : Scenario) (n : Node) (v : View) (lows : List ℕ) (t : ℕ) (why : Why) → Fit sc n v lows → IsAt v t n
+    → Fit sc n (aborted t why v) lows
+unfolding aborted
+aborted_fit sc n v lows t why f at =
+    let y : Txn = record (txn_at v t) { status = Aborted why; rows = [] } in
+    let w = aborted t why v in
+    fit_acts sc n v w lows t y f refl (inl (at_self v w t y refl at.0)) tt refl f.sized (λ s. absurd (false≢true s.0)) (λ s. absurd (false≢true s.0))
+    (λ u far a h. h)
+
+-- a begin keeps room
+begun_fit : (sc : Scenario) (n : Node) (v : View) (lows : List ℕ) (t : ℕ) (h : Node) → Fit sc n v lows → is_new (txn_at v t).status ≡ true
+    → Fit sc n (begun h t v) lows
+unfolding begun
+begun_fit sc n v lows t h f new =
+    let w = begun h t v in
+    let a = each_front (Sized sc.cap) v.me.pages (rest_of v) f.sized in
+    let b = each_front (Sized sc.cap) v.them.pages (sent_leaves v.inbox ++ sent_leaves v.outbox) a.1 in
+    fit_acts sc n v w lows t _ f refl (elim (at_either v w t _ refl) [ inl now ↦ inl now | inr old ↦ inr (old, not_new (txn_at v t).status new) ]) tt refl
+    f.sized
+    (λ _. empty_room sc.cap lows v.me.pages a.0) (λ _. empty_room sc.cap lows v.them.pages b.0) (λ u far x e. e)
+
+-- commit: on a page where t has private rows nobody else has any
+committed_fit : (sc : Scenario) (n : Node) (v : View) (lows : List ℕ) (t : ℕ) → Kept sc n v lows → Fit sc n v lows → IsAt v t n
+    → Fit sc n (committed t v) lows
+unfolding committed
+committed_fit sc n v lows t k f at =
+    let x = txn_at v t in
+    let y : Txn = record x { status = Committed; rows = []; done = x.done + 1 } in
+    let w = committed t v in
+    let newest : v.me.lows ≡ lows = k.mine.newest (k.mine.busy t at) in
+    let a = each_front (Sized sc.cap) v.me.pages (rest_of v) f.sized in
+    let sized : Each (Sized sc.cap) (installed lows x.rows v.me.pages) =
+    each_installed (λ p rows. Sized sc.cap p rows × Room sc.cap lows x.rows p rows) (Sized sc.cap) lows x.rows v.me.pages
+    (λ p rows s. let e = installed_length lows p x.rows rows s.0.1 in let r = s.1 in ((omega (arith, e, r)), rises_puts (rows_on lows p x.rows) rows s.0.1))
+    (each_both (Sized sc.cap) (Room sc.cap lows x.rows) v.me.pages a.0 (f.mine t at)) in
+    fit_acts sc n v w lows t y f refl (inl (at_self v w t y refl at.0)) tt refl
+    (subst (λ l. Each (Sized sc.cap) (installed l x.rows v.me.pages ++ rest_of v)) (sym newest)
+    (each_append (Sized sc.cap) (installed lows x.rows v.me.pages) (rest_of v) sized a.1))
+    (λ s. absurd (false≢true s.0)) (λ s. absurd (false≢true s.0))
+    (λ u far b h. subst (λ l. Each (Room sc.cap lows (txn_at v u).rows) (installed l x.rows v.me.pages)) (sym newest)
+    (each_installed (λ p rows. (Sized sc.cap p rows × Room sc.cap lows x.rows p rows) × Room sc.cap lows (txn_at v u).rows p rows)
+    (Room sc.cap lows (txn_at v u).rows) lows x.rows v.me.pages
+    (λ p rows s. commit_room sc.cap lows x.rows (txn_at v u).rows p rows s.0.0 s.0.1 s.1
+    (elim (cases_Bool (holds_alone v.me.locks p t)) [
+      | inl mine ↦
+          inr
+          (λ j is on. far
+          (sym
+          (k.mine.apart p t u mine (subst (λ z. holds v.me.locks z u ≡ true) on (exclusive_holds v.me.locks (page_of lows j) u (k.mine.private u j b is))))))
+      | inr none ↦ inl (λ j is on. false≢true (sym none ∙ subst (λ z. holds_alone v.me.locks z t ≡ true) on (k.mine.private t j at is)))
+    ]))
+    (each_both (λ p rows. Sized sc.cap p rows × Room sc.cap lows x.rows p rows) (Room sc.cap lows (txn_at v u).rows) v.me.pages
+    (each_both (Sized sc.cap) (Room sc.cap lows x.rows) v.me.pages a.0 (f.mine t at)) h)))
+
+-- a page leaves
+leaves_fit : (sc : Scenario) (n : Node) (v : View) (lows : List ℕ) (p : ℕ) → Fit sc n v lows → owns v.me.pages p ≡ true → Fit sc n (leaves p v) lows
+unfolding leaves txn_at
+leaves_fit sc n v lows p f own =
+    let a = each_front (Sized sc.cap) v.me.pages (rest_of v) f.sized in
+    let leaf = leaf_at v.me.pages p in
+    record {
+      sized =
+          subst (Each (Sized sc.cap)) (sym (whole-leaves p v)) (each_append (Sized sc.cap) (without p v.me.pages) (rest_of v ++ leaf ∷ [])
+          (each_without (Sized sc.cap) p v.me.pages a.0)
+          (each_append (Sized sc.cap) (rest_of v) (leaf ∷ []) a.1 (each_at (Sized sc.cap) p v.me.pages own a.0, tt)));
+      rising = f.rising;
+      mine = λ t at. each_without (Room sc.cap lows (txn_at v t).rows) p v.me.pages (f.mine t at);
+      theirs = f.theirs;
+    }
+
+-- a node that asks for pages hands none on
+takes_in : (m : NodeMode) → may_pull m ≡ true → is_source m ≡ false
+takes_in m pulls = elim (pulls_in m pulls) [ inl e ↦ ap is_source e | inr e ↦ ap is_source e ]
+
+-- a page comes: no private row lies on it yet
+arrived_fit : (sc : Scenario) (n : Node) (v : View) (lows : List ℕ) (leaf : Leaf) (ms : List Message) → v.inbox ≡ Page leaf ∷ ms → is_source v.me.mode ≡ false
+    → Kept sc n v lows → Fit sc n v lows
+    → Fit sc n (arrived leaf (rest v ms)) lows
+unfolding txn_at
+arrived_fit sc n v lows leaf ms e takes k f =
+    let others = sent_leaves ms ++ sent_leaves v.outbox in
+    let a = each_front (Sized sc.cap) v.me.pages (v.them.pages ++ (leaf ∷ others)) (subst (Each (Sized sc.cap)) (whole-front v leaf ms e) f.sized) in
+    let b = each_front (Sized sc.cap) v.them.pages (leaf ∷ others) a.1 in
+    record {
+      sized = each_append (Sized sc.cap) (with_page leaf v.me.pages) (v.them.pages ++ others) (each_with_page (Sized sc.cap) leaf v.me.pages b.1.0 a.0)
+          (each_append (Sized sc.cap) v.them.pages others b.0 b.1.1);
+      rising = f.rising;
+      mine = λ t at. each_with_page (Room sc.cap lows (txn_at v t).rows) leaf v.me.pages
+          (let none = need_none lows leaf.number leaf.rows (txn_at v t).rows (λ j is on.
+          let mine = exclusive_holds v.me.locks (page_of lows j) t (k.mine.private t j at is) in
+          false≢true (sym (not_here v leaf ms k.inv.owned e) ∙ subst (λ z. owns v.me.pages z ≡ true) on (k.mine.kept (page_of lows j) t (inr takes) mine))) in
+          let s = b.1.0.0 in omega (arith, none, s)) (f.mine t at);
+      theirs = f.theirs;
+    }
+
+-- the front of the inbox goes, and is no page
+rest_fit : (sc : Scenario) (n : Node) (v : View) (lows : List ℕ) (m : Message) (ms : List Message) → Fit sc n v lows → v.inbox ≡ m ∷ ms
+    → sent_leaves ms ≡ sent_leaves (m ∷ ms)
+    → Fit sc n (rest v ms) lows
+rest_fit sc n v lows m ms f e bare = fit_stays sc n v (rest v ms) lows f refl refl refl (bare ∙ ap sent_leaves (sym e)) refl
+
+-- a message that is no page is sent
+post_fit : (sc : Scenario) (n : Node) (v : View) (lows : List ℕ) (m : Message) → Fit sc n v lows → sent_leaves (m ∷ []) ≡ [] → Fit sc n (post m v) lows
+post_fit sc n v lows m f bare = fit_stays sc n v (post m v) lows f refl refl refl refl (sent_bare v.outbox m bare)
+
+-- another mode keeps room
+turns_fit : (sc : Scenario) (n : Node) (v : View) (lows : List ℕ) (mode : NodeMode) → Fit sc n v lows → Fit sc n (turns mode v) lows
+turns_fit sc n v lows mode f = fit_stays sc n v (turns mode v) lows f refl refl refl refl refl
+
+-- another wireframe keeps room
+lows_fit : (sc : Scenario) (n : Node) (v : View) (lows sent : List ℕ) → Fit sc n v lows → Fit sc n (with_me (with_lows sent v.me) v) lows
+lows_fit sc n v lows sent f = fit_stays sc n v (with_me (with_lows sent v.me) v) lows f refl refl refl refl refl
+
+-- asking for a page keeps room
+asks_fit : (sc : Scenario) (n : Node) (v : View) (lows : List ℕ) (p : ℕ) → Fit sc n v lows → Fit sc n (asks p v) lows
+unfolding asks
+asks_fit sc n v lows p f = fit_stays sc n v _ lows f refl refl refl refl (sent_bare v.outbox (Pull p) refl)
+
+-- room in a view is room in an equal one
+fit_along : (sc : Scenario) (n : Node) (w x : View) (lows : List ℕ) → w ≡ x → Fit sc n x lows → Fit sc n w lows
+fit_along sc n w x lows e f = subst (λ z. Fit sc n z lows) (sym e) f
+
+-- each event keeps room
+pub fit_event : (sc : Scenario) (n : Node) (v w : View) (lows : List ℕ) → 2 ≤ sc.cap → Kept sc n v lows → Fit sc n v lows → (e : Event sc n v w)
+    → Fit sc n w (lows_after sc n v w lows e)
+fit_event sc n v w lows two k f (Rests e) = fit_along sc n w v lows e f
+fit_event sc n v w lows two k f (Begins t h a new home e) = fit_along sc n w _ lows e (begun_fit sc n v lows t h f new)
+fit_event sc n v w lows two k f (Aborts t y active here e) = fit_along sc n w _ lows e (aborted_fit sc n v lows t y f (active, here))
+fit_event sc n v w lows two k f (GoesOn t x pc regs runs leads e) = fit_along sc n w _ lows e (did_fit sc n v lows t _ _ f (runs.active, runs.here))
+fit_event sc n v w lows two k f (Gets t r key runs g e) = fit_along sc n w _ lows e (get_fit sc n v lows t key _ _ Shared f (runs.active, runs.here))
+fit_event sc n v w lows two k f (SumsUp t r first last runs g e) = fit_along sc n w _ lows e (sum_fit sc n v lows t _ _ _ f (runs.active, runs.here))
+fit_event sc n v w lows two k f (Writes t key value runs g there e) =
+    fit_along sc n w _ lows e (put_fit sc n v lows t key value k f (runs.active, runs.here) (inl there))
+fit_event sc n v w lows two k f (Inserts t key value runs g new room e) =
+    fit_along sc n w _ lows e (put_fit sc n v lows t key value k f (runs.active, runs.here) (inr room))
+fit_event sc n v w lows two k f (Splits t key value runs g new full normal pages e) =
+    let at : IsAt v t n = (runs.active, runs.here) in
+    let p = page key v in
+    let b = boundary sc key p v.me (txn_at v t) in
+    let front = (each_front (Sized sc.cap) v.me.pages (rest_of v) f.sized).0 in
+    let committed = (each_at (Sized sc.cap) p v.me.pages g.here front).1 in
+    let newest = k.mine.newest (k.mine.busy t at) in
+    let other = boundary_new sc t key p v k.first.0 (newest ∙ k.first.1) two (home_placed sc n v lows t k at) refl full committed (f.rising t) new in
+    fit_along sc n w _ (lows ++ b ∷ []) e (cut_fit sc n v lows t key b k f at g normal (split_on sc n v lows t key value k runs full) other)
+fit_event sc n v w lows two k f (Commits t runs whole e) = fit_along sc n w _ lows e (committed_fit sc n v lows t k f (runs.active, runs.here))
+fit_event sc n v w lows two k f (Asks p gone may new e) = fit_along sc n w _ lows e (asks_fit sc n v lows p f)
+fit_event sc n v w lows two k f (Starts at_a a b e) = fit_along sc n w _ lows e (post_fit sc n _ lows (Wire v.me.lows) (turns_fit sc n v lows SInit f) refl)
+fit_event sc n v w lows two k f (GotWire sent ms g m e) = fit_along sc n w _ lows e
+    (post_fit sc n _ lows Ready (turns_fit sc n _ lows DInit (lows_fit sc n (rest v ms) lows sent (rest_fit sc n v lows (Wire sent) ms f g refl))) refl)
+fit_event sc n v w lows two k f (GotReady ms g m e) = fit_along sc n w _ lows e
+    (post_fit sc n _ lows Dual (turns_fit sc n _ lows SDual (rest_fit sc n v lows Ready ms f g refl)) refl)
+fit_event sc n v w lows two k f (GotDual ms g m e) = fit_along sc n w _ lows e (turns_fit sc n _ lows DDual (rest_fit sc n v lows Dual ms f g refl))
+fit_event sc n v w lows two k f (IsStale p ms g e) = fit_along sc n w _ lows e (rest_fit sc n v lows (Pull p) ms f g refl)
+fit_event sc n v w lows two k f (Gives p ms g m own free e) = fit_along sc n w _ lows e
+    (leaves_fit sc n (rest v ms) lows p (rest_fit sc n v lows (Pull p) ms f g refl) own)
+fit_event sc n v w lows two k f (GotPage leaf ms g m e) = fit_along sc n w _ lows e (arrived_fit sc n v lows leaf ms g (takes_in v.me.mode m) k f)
+fit_event sc n v w lows two k f (GotLast leaf ms g m all e) = fit_along sc n w _ lows e
+    (post_fit sc n _ lows Done (turns_fit sc n _ lows Normal (arrived_fit sc n v lows leaf ms g (ap is_source m) k f)) refl)
+fit_event sc n v w lows two k f (GotFinish ms g m e) = fit_along sc n w _ lows e (turns_fit sc n _ lows DFinish (rest_fit sc n v lows Finish ms f g refl))
+fit_event sc n v w lows two k f (GotAll ms g m all e) = fit_along sc n w _ lows e
+    (post_fit sc n _ lows Done (turns_fit sc n _ lows Normal (rest_fit sc n v lows Finish ms f g refl)) refl)
+fit_event sc n v w lows two k f (GotDone ms g m e) = fit_along sc n w _ lows e
+    (turns_fit sc n _ lows Empty (lows_fit sc n (rest v ms) lows [] (rest_fit sc n v lows Done ms f g refl)))
+fit_event sc n v w lows two k f (Finishes m none e) = fit_along sc n w _ lows e (post_fit sc n _ lows Finish (turns_fit sc n v lows SFinish f) refl)
+fit_event sc n v w lows two k f (Pushes p m own e) = fit_along sc n w _ lows e (leaves_fit sc n v lows p f own)

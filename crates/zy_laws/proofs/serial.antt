@@ -1,0 +1,10 @@
+-- Why the database is that of the committed programs, run one by one.
+pub mod Listed
+pub mod LoneRuns
+pub mod Following
+pub mod Committing
+pub mod CutValues
+pub mod MovedValues
+pub mod Values
+pub mod FollowingSteps
+pub mod Serializable

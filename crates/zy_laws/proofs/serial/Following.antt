@@ -1,0 +1,93 @@
+-- Each transaction that runs has come as far as its lone run on the database, which is that of the committed programs.
+use Rattle.zy_table.specs.Take.{is_held}
+use Rattle.std.proofs.Common.{List, [], ap, inl, inr, subst, sym, true, ℕ, ◌++◌, ◌∙◌, ◌∷◌, ◌≡◌}
+use Rattle.std.specs.Prelude.{slice_set}
+use Rattle.std.proofs.lemmas.Bool.{cases_eq, false≢true}
+use Rattle.zy_isa.specs.Scenario.{Scenario}
+use Rattle.zy_isa.specs.declared.instr.Instr.{Instr}
+use Rattle.zy_isa.specs.declared.node.Node.{Node}
+use Rattle.zy_table.specs.Change.{txn_at}
+use Rattle.zy_table.specs.Client.{is_active, is_new}
+use Rattle.zy_table.specs.Database.{Map}
+use Rattle.zy_table.specs.Holders.{holds}
+use Rattle.zy_table.specs.Run.{program_of}
+use Rattle.zy_table.specs.Serial.{Registers, alone, is_committed, serial}
+use Rattle.zy_table.specs.declared.status.Status.TheVariants.{Aborted, Active, Committed, New}
+use Rattle.zy_table.specs.declared.entry.CommitRec.{CommitRec}
+use Rattle.zy_table.specs.State.{Lock, Txn, View, other}
+use Rattle.zy_table.specs.declared.status.Status.{Status}
+use Rattle.zy_wire.specs.Wireframe.{page_of}
+use Rattle.zy_laws.proofs.locks.Locking.{Kept}
+use Rattle.zy_table.specs.Numbers.{has}
+use Rattle.zy_laws.proofs.serial.LoneRuns.{lone, lone_at}
+use Rattle.zy_laws.proofs.places.PageValues.{db}
+use Rattle.zy_laws.proofs.walk.Txns.{IsAt, at_other}
+
+-- a transaction has come as far as its lone run on the database, and holds the page of each key that the run touched
+pub record Follows (program : List Instr) (d : Map) (lows : List ℕ) (locks : List Lock) (t : ℕ) (x : Txn) : Type 0 where
+  pub keys : List ℕ
+  pub run : lone d program x.done ≡ lone_at x keys
+  pub covered : (k : ℕ) → has keys k ≡ true → holds locks (page_of lows k) t ≡ true
+
+-- the database is that of the serial run, and whoever runs has come as far as its lone run
+pub record Serially (sc : Scenario) (n : Node) (v : View) (start : Map) (lows : List ℕ) : Type 0 where
+  pub kept : Kept sc n v lows
+  pub held : is_held sc.rule ≡ true
+  pub mine : (t : ℕ) → IsAt v t n → Follows (program_of sc t) (db v) lows v.me.locks t (txn_at v t)
+  pub theirs : (t : ℕ) → IsAt v t (other n) → Follows (program_of sc t) (db v) lows v.them.locks t (txn_at v t)
+  pub is_serial : db v ≡ serial sc start v.commits
+  pub registers : Registers sc (txn_at v) start v.commits
+
+-- the same run where nothing that it saw has changed
+pub follows_same : (program : List Instr) (d e : Map) (lows : List ℕ) (locks more : List Lock) (t : ℕ) (x y : Txn) → e ≡ d → y ≡ x
+    → ((p : ℕ) → holds locks p t ≡ true → holds more p t ≡ true)
+    → Follows program d lows locks t x → Follows program e lows more t y
+follows_same program d e lows locks more t x y same now grow f =
+    subst (Follows program e lows more t) (sym now) (record {
+      keys = f.keys;
+      run = ap (λ m. lone m program x.done) same ∙ f.run;
+      covered = λ k h. grow (page_of lows k) (f.covered k h);
+    })
+
+-- committed transactions stay as they are
+pub registers_same : (sc : Scenario) (f g : ℕ → Txn) (m : Map) (cs : List CommitRec) → ((t : ℕ) → is_committed (f t).status ≡ true → g t ≡ f t)
+    → Registers sc f m cs → Registers sc g m cs
+registers_same sc f g m [] same h = tt
+registers_same sc f g m (c ∷ cs) same h =
+    let e = same c.txn h.0.0 in (
+      (ap (λ (x : Txn). is_committed x.status) e ∙ h.0.0, ap (λ (x : Txn). x.regs) e ∙ h.0.1),
+      registers_same sc f g (alone m (program_of sc c.txn) c.done).map cs same h.1,
+    )
+
+-- a commit more, whose transaction has the registers of its lone run
+pub registers_push : (sc : Scenario) (f : ℕ → Txn) (m : Map) (cs : List CommitRec) (c : CommitRec) → Registers sc f m cs
+    → (is_committed (f c.txn).status ≡ true) × ((f c.txn).regs ≡ (alone (serial sc m cs) (program_of sc c.txn) c.done).regs)
+    → Registers sc f m (cs ++ c ∷ [])
+registers_push sc f m [] c h new = (new, tt)
+registers_push sc f m (x ∷ xs) c h new = (h.0, registers_push sc f (alone m (program_of sc x.txn) x.done).map xs c h.1 new)
+
+-- an active transaction is not committed
+pub active_not : (s : Status) → is_active s ≡ true → is_committed s ≡ true → ⊥
+active_not New a b = false≢true a
+active_not Active a b = false≢true b
+active_not Committed a b = false≢true a
+active_not (Aborted w) a b = false≢true a
+
+-- a new transaction is not committed
+pub new_not : (s : Status) → is_new s ≡ true → is_committed s ≡ true → ⊥
+new_not New a b = false≢true b
+new_not Active a b = false≢true a
+new_not Committed a b = false≢true a
+new_not (Aborted w) a b = false≢true a
+
+-- setting a transaction that is not committed leaves the registers of those that are
+pub keep_registers : (sc : Scenario) (v w : View) (start : Map) (t : ℕ) (y : Txn) → w.txns ≡ slice_set v.txns t y → w.commits ≡ v.commits
+    → (is_committed (txn_at v t).status ≡ true → ⊥)
+    → Registers sc (txn_at v) start v.commits → Registers sc (txn_at w) start w.commits
+keep_registers sc v w start t y e c off h =
+    subst (Registers sc (txn_at w) start) (sym c) (registers_same sc (txn_at v) (txn_at w) start v.commits
+    (λ u ended. elim (cases_eq u t) [
+      | inl same ↦ absurd (off (subst (λ z. is_committed (txn_at v z).status ≡ true) same ended))
+      | inr far ↦
+          at_other v w t u y e far
+    ]) h)

@@ -1,0 +1,240 @@
+-- Between two migrations nothing is left of the last one.
+use Rattle.std.proofs.Common.{List, [], ap, arith, false, inl, inr, length, refl, subst, sym, true, ℕ, ◌<◌, ◌∙◌, ◌∷◌, ◌≡◌}
+use Rattle.std.specs.Prelude.{◌==◌, ◌&&◌, ◌||◌}
+use Rattle.std.proofs.lemmas.Bool.{cond_both, eq-eqb, eqb-true, false≢true, ne_eqb, or_cases, or_left, or_right}
+use Rattle.zy_modes.specs.Families.{is_taker, is_sending, is_bare, is_idle}
+use Rattle.zy_isa.specs.Scenario.{IsScenario, Scenario}
+use Rattle.zy_isa.specs.declared.choice.Choice.{Choice}
+use Rattle.zy_isa.specs.declared.node.Node.{Node}
+use Rattle.zy_isa.specs.declared.node.Node.TheVariants.{A, B}
+use Rattle.zy_modes.specs.declared.mode.NodeMode.{NodeMode}
+use Rattle.zy_modes.specs.declared.mode.NodeMode.TheVariants.{Empty, Normal}
+use Rattle.zy_modes.specs.Table.{may_pull}
+use Rattle.zy_wire.specs.Wireframe.{page_of}
+use Rattle.zy_wire.proofs.PageOf.{page_of-within}
+use Rattle.zy_table.specs.declared.outcome.Outcome.{Outcome}
+use Rattle.zy_table.specs.Change.{aborted, asks, begun, committed, cut, did, leaves, locked, shares, txn_at, with_arrived}
+use Rattle.zy_table.specs.Holders.{holds}
+use Rattle.zy_table.specs.Numbers.{drop_number, has}
+use Rattle.zy_table.specs.Pages.{owns}
+use Rattle.zy_table.specs.Play.{move, opening, play, side_of, step}
+use Rattle.zy_table.specs.State.{Leaf, Lock, Message, NodeState, State, View, facing, other, seen_from}
+use Rattle.zy_table.specs.Take.{all_here}
+use Rattle.zy_table.proofs.PageLists.{owns-with_page}
+use Rattle.zy_laws.specs.Between.{NothingLeft}
+use Rattle.zy_laws.proofs.places.Boundary.{has-put_key}
+use Rattle.zy_laws.proofs.walk.Events.{Told, Aborts, Asks, Begins, Commits, Event, Finishes, Gets, Gives, GotAll, GotDone, GotDual, GotFinish, GotLast, GotPage}
+use Rattle.zy_laws.proofs.walk.Events.{GotReady, GotWire, Inserts, IsStale, Pushes, Rests, SumsUp, Splits, Starts, Writes, step_happens, GoesOn}
+use Rattle.zy_laws.proofs.places.Installing.{owns-installed}
+use Rattle.zy_laws.proofs.locks.Locking.{Kept, nobody_runs}
+use Rattle.zy_laws.proofs.order.ListsInOrder.{Tidy, opening_tidy, step_tidy}
+use Rattle.zy_laws.proofs.walk.ModeLines.{pulls_in, sends_in, splits_in_normal}
+use Rattle.zy_laws.proofs.owner.MovingPages.{all_below-owns}
+use Rattle.zy_laws.proofs.travel.OneWay.{sourced}
+use Rattle.zy_laws.proofs.places.Opening.{laid_out}
+use Rattle.zy_laws.proofs.owner.Phases.{Phase, Resting, Wire_sent, Ready_sent, Dual_sent, Both_sent, In_dual, Finish_sent, In_finish, Done_sent}
+use Rattle.zy_laws.proofs.owner.PhaseSteps.{taker_of}
+use Rattle.zy_laws.proofs.walk.PlayPush.{play-keeps-with}
+use Rattle.zy_laws.proofs.locks.Reached.{Reached, kept_from, lows_then, opening_reached, reached, step_kept}
+use Rattle.zy_laws.proofs.walk.Txns.{IsAt}
+
+-- ---- the pages that a node asked for
+
+-- they are not there, but in its wireframe; a node that asks for none has asked for none
+record Asked (x : NodeState) : Type 0 where
+  none : may_pull x.mode ≡ false → x.asked ≡ []
+  away : (p : ℕ) → has x.asked p ≡ true → (owns x.pages p ≡ false) × (p < length x.lows)
+
+-- a list of no number is empty
+has_none : (xs : List ℕ) → ((p : ℕ) → has xs p ≡ true → ⊥) → xs ≡ []
+has_none [] h = refl
+has_none (x ∷ xs) h = absurd (h x (or_left _ _ (eq-eqb x x refl)))
+
+-- what is left after a number is dropped was there, and is another one
+has-dropped : (p q : ℕ) (xs : List ℕ) → has (drop_number p xs) q ≡ true → (has xs q ≡ true) × ((p == q) ≡ false)
+has-dropped p q [] h = absurd (false≢true h)
+has-dropped p q (x ∷ xs) h =
+    cond_both (x == p) (drop_number p xs) (x ∷ drop_number p xs) (λ ys. has ys q ≡ true → (has (x ∷ xs) q ≡ true) × ((p == q) ≡ false))
+    (λ _ g. let r = has-dropped p q xs g in (or_right _ _ r.0, r.1))
+    (λ far g. elim (or_cases (x == q) (has (drop_number p xs) q) g) [
+      | inl e ↦ (or_left _ _ e, ne_eqb p q (λ s. false≢true (sym far ∙ eq-eqb x p (eqb-true x q e ∙ sym s))))
+      | inr e ↦ let r = has-dropped p q xs e in (or_right _ _ r.0, r.1)
+    ]) h
+
+-- a step that leaves the mode, the wireframe, what was asked for and the pages' numbers keeps it
+asked_same : (x y : NodeState) → y.mode ≡ x.mode → y.lows ≡ x.lows → y.asked ≡ x.asked → ((p : ℕ) → owns y.pages p ≡ owns x.pages p) → Asked x → Asked y
+asked_same x y mode lows asked pages a = record {
+  none = λ off. asked ∙ a.none (ap may_pull (sym mode) ∙ off);
+  away = λ p h. let old = a.away p (subst (λ xs. has xs p ≡ true) asked h) in (pages p ∙ old.0, subst (λ xs. p < length xs) (sym lows) old.1);
+}
+
+-- it holds of a node that asked for nothing
+asked_none : (y : NodeState) → y.asked ≡ [] → Asked y
+asked_none y e = record { none = λ _. e; away = λ p h. absurd (false≢true (subst (λ xs. has xs p ≡ true) e h)) }
+
+-- a page comes
+arrived_away : (leaf : Leaf) (x : NodeState) → Asked x → (p : ℕ) → has (with_arrived leaf x).asked p ≡ true
+    → (owns (with_arrived leaf x).pages p ≡ false) × (p < length x.lows)
+arrived_away leaf x a p h =
+    let d = has-dropped leaf.number p x.asked h in
+    let old = a.away p d.0 in
+    (owns-with_page p leaf x.pages ∙ ap (λ b. b || owns x.pages p) d.1 ∙ old.0, old.1)
+
+-- all pages are there
+asked_all : (x : NodeState) → ((p : ℕ) → has x.asked p ≡ true → (owns x.pages p ≡ false) × (p < length x.lows)) → all_here x ≡ true → x.asked ≡ []
+asked_all x away all = has_none x.asked (λ p h. let w = away p h in false≢true (sym w.0 ∙ all_below-owns x.pages (length x.lows) p all w.1))
+
+-- a mode that sends does not ask
+sends_none : (m : NodeMode) → is_sending m ≡ true → may_pull m ≡ false
+sends_none m s = elim (sends_in m s) [ inl e ↦ ap may_pull e | inr e ↦ ap may_pull e ]
+
+-- a mode that asks is not idle
+pulls_busy : (m : NodeMode) → may_pull m ≡ true → is_idle m ≡ false
+pulls_busy m s = elim (pulls_in m s) [ inl e ↦ ap is_idle e | inr e ↦ ap is_idle e ]
+
+-- each event keeps it
+asked_event : (sc : Scenario) (n : Node) (o : Outcome) (v w : View) (lows : List ℕ) → Kept sc n v lows → Asked v.me → (e : Event sc n v w) → Told e o
+    → Asked w.me
+unfolding did locked shares txn_at aborted begun committed cut asks leaves
+asked_event sc n o v w lows k a (Rests e) told = rw e a
+asked_event sc n o v w lows k a (Begins t h at_a new home e) told = rw e (asked_same v.me _ refl refl refl (λ p. refl) a)
+asked_event sc n o v w lows k a (Aborts t y active here e) told = rw e (asked_same v.me _ refl refl refl (λ p. refl) a)
+asked_event sc n o v w lows k a (GoesOn t x pc regs runs leads e) told = rw e (asked_same v.me _ refl refl refl (λ p. refl) a)
+asked_event sc n o v w lows k a (Gets t r key runs f e) told = rw e (asked_same v.me _ refl refl refl (λ p. refl) a)
+asked_event sc n o v w lows k a (SumsUp t r first last runs f e) told = rw e (asked_same v.me _ refl refl refl (λ p. refl) a)
+asked_event sc n o v w lows k a (Writes t key value runs f there e) told = rw e (asked_same v.me _ refl refl refl (λ p. refl) a)
+asked_event sc n o v w lows k a (Inserts t key value runs f new room e) told = rw e (asked_same v.me _ refl refl refl (λ p. refl) a)
+asked_event sc n o v w lows k a (Splits t key value runs f new full normal pages e) told =
+    rw e (asked_none _ (a.none (ap may_pull (splits_in_normal v.me.mode normal))))
+asked_event sc n o v w lows k a (Commits t runs all e) told =
+    rw e (asked_same v.me _ refl refl refl (λ p. owns-installed v.me.lows (txn_at v t).rows v.me.pages p) a)
+asked_event sc n o v w lows k a (Asks p gone pulls new e) told =
+    let first : v.me.lows ≡ 0 ∷ k.first.0 = k.mine.newest (pulls_busy v.me.mode pulls) ∙ k.first.1 in
+    let within : page_of v.me.lows told.0 < length v.me.lows = subst (λ l. page_of l told.0 < length l) (sym first)
+    (page_of-within (0 ∷ k.first.0) told.0 (omega arith)) in
+    let low : p < length v.me.lows = subst (λ z. z < length v.me.lows) (sym told.1) within in
+    rw e (record {
+      none = λ off. absurd (false≢true (sym off ∙ pulls));
+      away = λ q h. elim (has-put_key p v.me.asked q h) [
+        | inl same ↦ (subst (λ z. owns v.me.pages z ≡ false) same gone, subst (λ z. z < length v.me.lows) same low)
+        | inr old ↦ a.away q old
+      ];
+    })
+asked_event sc n o v w lows k a (Starts at_a normal empty e) told = rw e (asked_none _ (a.none (ap may_pull normal)))
+asked_event sc n o v w lows k a (GotWire sent ms f empty e) told = rw e (asked_none _ (a.none (ap may_pull empty)))
+asked_event sc n o v w lows k a (GotReady ms f init e) told = rw e (asked_none _ (a.none (ap may_pull init)))
+asked_event sc n o v w lows k a (GotDual ms f init e) told = rw e (asked_none _ (a.none (ap may_pull init)))
+asked_event sc n o v w lows k a (IsStale p ms f e) told = rw e (asked_same v.me _ refl refl refl (λ p. refl) a)
+asked_event sc n o v w lows k a (Gives p ms f sends own free e) told = rw e (asked_none _ (a.none (sends_none v.me.mode sends)))
+asked_event sc n o v w lows k a (GotPage leaf ms f pulls e) told =
+    rw e (record { none = λ off. absurd (false≢true (sym off ∙ pulls)); away = arrived_away leaf v.me a })
+asked_event sc n o v w lows k a (GotLast leaf ms f finish all e) told = rw e (asked_none _ (asked_all (with_arrived leaf v.me) (arrived_away leaf v.me a) all))
+asked_event sc n o v w lows k a (GotFinish ms f dual e) told = rw e (record { none = λ off. absurd (false≢true (sym off)); away = a.away })
+asked_event sc n o v w lows k a (GotAll ms f dual all e) told = rw e (asked_none _ (asked_all v.me a.away all))
+asked_event sc n o v w lows k a (GotDone ms f finish e) told = rw e (asked_none _ (a.none (ap may_pull finish)))
+asked_event sc n o v w lows k a (Finishes dual none e) told = rw e (asked_none _ (a.none (ap may_pull dual)))
+asked_event sc n o v w lows k a (Pushes p finish own e) told = rw e (asked_none _ (a.none (ap may_pull finish)))
+
+-- both nodes
+abbrev Both : State → Type 0
+Both s = (n : Node) → Asked (facing n s).me
+
+-- it holds of both where it holds of the node that stepped
+both_after : (n : Node) (s : State) (w : View) → Asked w.me → w.them ≡ (facing n s).them → Both s → Both (seen_from n w)
+both_after A s w mine them all A = mine
+both_after A s w mine them all B = subst Asked (sym them) (all B)
+both_after B s w mine them all A = subst Asked (sym them) (all A)
+both_after B s w mine them all B = mine
+
+-- beside what else is known of every state that is reached
+record Known (sc : Scenario) (s : State) : Type 0 where
+  tidy : Tidy s
+  reached : Reached sc s
+
+-- a step keeps what is known
+step_known : (sc : Scenario) → IsScenario sc → (c : Choice) (s : State) → Known sc s → Known sc (step sc c s).after
+step_known sc ok c s x = record {
+  tidy = step_tidy sc c s x.tidy;
+  reached = record { lows = lows_then sc c s x.reached.lows; kept = step_kept sc c s x.reached.lows ok.cap_least x.tidy x.reached.kept };
+}
+
+-- a step keeps it at both nodes
+step_both : (sc : Scenario) (c : Choice) (s : State) → Known sc s → Both s → Both (step sc c s).after
+unfolding step
+step_both sc c s x all =
+    let n = side_of sc c s in
+    let v = facing n s in
+    let m = move sc c v in
+    let h = step_happens sc c s in
+    let r = x.reached in
+    both_after n s m.after (asked_event sc n m.outcome v m.after r.lows (kept_from sc n s r.lows r.kept) (all n) h.event h.told)
+    (sourced sc n m.outcome v m.after h.event h.told).them all
+
+-- it holds at both nodes at the opening
+opening_both : (sc : Scenario) → Both (opening sc)
+unfolding opening
+opening_both sc A = asked_none _ refl
+opening_both sc B = asked_none _ refl
+
+-- it holds at both nodes after every schedule
+play_both : (sc : Scenario) → IsScenario sc → (cs : List Choice) → Both (play sc (opening sc) cs)
+play_both sc ok cs =
+    play-keeps-with sc (Known sc) Both (step_known sc ok) (λ c s x b. step_both sc c s x b) cs (opening sc)
+    (record { tidy = opening_tidy sc ok; reached = opening_reached sc (laid_out sc ok) }) (opening_both sc)
+
+-- ---- the whole
+
+-- a list of locks that none holds is empty
+no_lock : (xs : List Lock) → ((p t : ℕ) → holds xs p t ≡ true → ⊥) → xs ≡ []
+no_lock [] h = refl
+no_lock (x ∷ xs) h =
+    absurd
+    (h x.page x.txn (or_left ((x.page == x.page) && (x.txn == x.txn)) (holds xs x.page x.txn) (rw (eq-eqb x.page x.page refl, eq-eqb x.txn x.txn refl) refl)))
+
+-- a node that is not this one is the other one
+elsewhere : (m n : Node) → (m ≡ n → ⊥) → m ≡ other n
+elsewhere A A h = absurd (h refl)
+elsewhere A B h = refl
+elsewhere B A h = refl
+elsewhere B B h = absurd (h refl)
+
+-- a phase of Normal and Empty has empty links and no wireframe at the destination
+rested : (src dst : NodeState) (out back : List Message) → Phase src dst out back → src.mode ≡ Normal → dst.mode ≡ Empty → (dst.lows ≡ []) × (out ≡ [])
+    × (back ≡ [])
+rested src dst out back (Resting a b c d f) m e = (c, d, f)
+rested src dst out back (Wire_sent a b c d f) m e = cc
+rested src dst out back (Ready_sent a b c d f) m e = cc
+rested src dst out back (Dual_sent xs a b c d all f) m e = cc
+rested src dst out back (Both_sent xs a b c d all f) m e = cc
+rested src dst out back (In_dual a b c d f) m e = cc
+rested src dst out back (Finish_sent a b c d f) m e = cc
+rested src dst out back (In_finish a b c d f) m e = cc
+rested src dst out back (Done_sent a b c all d f) m e = cc
+
+-- it holds of the node seen from
+asked_me : (n : Node) (s : State) → Both s → Asked (facing n s).me
+asked_me n s all = all n
+
+-- it holds of the node across
+asked_them : (n : Node) (s : State) → Both s → Asked (facing n s).them
+asked_them A s all = all B
+asked_them B s all = all A
+
+-- the law: nothing is left between two migrations
+pub nothing_left : (sc : Scenario) → IsScenario sc → (cs : List Choice) (n : Node) → let v = facing n (play sc (opening sc) cs) in
+    v.me.mode ≡ Empty → v.them.mode ≡ Normal → NothingLeft n v
+nothing_left sc ok cs n empty normal =
+    let s = play sc (opening sc) cs in
+    let v = facing n s in
+    let r = reached sc ok cs in
+    let k = kept_from sc n s r.lows r.kept in
+    let ph = rested v.them v.me v.inbox v.outbox (taker_of v k.inv.roles (ap is_taker empty)) normal empty in
+    let all = play_both sc ok cs in
+    let nobody : (t : ℕ) → IsAt v t n → ⊥ = λ t at. nobody_runs sc n v.me v r.lows t k.mine (ap is_idle empty) at in
+    record {
+      links = (ph.1, ph.2);
+      asked = ((asked_me n s all).none (ap may_pull empty), (asked_them n s all).none (ap may_pull normal));
+      bare = (k.inv.mine.none (ap is_bare empty), ph.0);
+      free = no_lock v.me.locks (λ p t h. nobody t (k.mine.runs p t h));
+      idle = λ t active. elsewhere (txn_at v t).node n (λ here. nobody t (active, here));
+    }

@@ -1,0 +1,2 @@
+-- Why the wireframes agree, and why at most one node is a source.
+pub mod OneWireframe
