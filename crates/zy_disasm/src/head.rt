@@ -2,8 +2,7 @@
 ghost use Rattle.zy_disasm.specs.Lines.{program_parts, head_texts};
 
 use crate::lines::{Number, RuleLine, VersionLine};
-use zy_io::section::write_parts;
-use zy_io::{Both, LineBuffer, One, Parts, Section, Sink, TextFault};
+use zy_io::{AllLines, AllParts, LineBuffer, One, Parts, Section, Sink, TextFault, sections};
 use zy_isa::{Program, Scenario};
 use zy_text::Each;
 
@@ -16,24 +15,21 @@ impl Section for Head<'_> {
 
     fn write<K: Sink>(&self, sink: &mut K, line: &mut LineBuffer) -> Result<(), TextFault> {
         let scenario = self.0;
-        let header = Both(
-            Both(
-                One(VersionLine(scenario.version())),
-                One(Number {
-                    word: "cap",
-                    number: usize::from(scenario.cap()),
-                }),
-            ),
-            Both(
-                One(Number {
-                    word: "pages",
-                    number: usize::from(scenario.pages()),
-                }),
-                One(RuleLine(scenario.rule())),
-            ),
-        );
-        let body = Both(Each(scenario.rows()), Programs(scenario.programs()));
-        Both(header, body).write(sink, line)
+        sections!(
+            One(VersionLine(scenario.version())),
+            One(Number {
+                word: "cap",
+                number: usize::from(scenario.cap()),
+            }),
+            One(Number {
+                word: "pages",
+                number: usize::from(scenario.pages()),
+            }),
+            One(RuleLine(scenario.rule())),
+            AllLines(Each(scenario.rows())),
+            AllParts(Programs(scenario.programs())),
+        )
+        .write(sink, line)
     }
 }
 
@@ -58,17 +54,6 @@ impl Parts for Programs<'_> {
             word: "txn",
             number: place,
         };
-        Both(One(title), Each(self.0[place].words())).write(sink, line)
-    }
-}
-
-impl Section for Programs<'_> {
-    ghost use Rattle.std.specs.List.{flat_map};
-    ghost use Rattle.zy_disasm.specs.Lines.{program_parts};
-
-    ghost texts = { λ s. flat_map (λ part. part) (program_parts 0 s.0.now) };
-
-    fn write<K: Sink>(&self, sink: &mut K, line: &mut LineBuffer) -> Result<(), TextFault> {
-        write_parts(sink, line, self)
+        sections!(One(title), AllLines(Each(self.0[place].words()))).write(sink, line)
     }
 }

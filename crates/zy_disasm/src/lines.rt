@@ -2,7 +2,7 @@
 ghost use Rattle.zy_disasm.specs.Lines.{version_line, number_text, rule_line};
 
 use std::alloc::AllocError;
-use zy_io::{Decimal, Joined, Line, LineBuffer};
+use zy_io::{Decimal, Line, LineBuffer, joined};
 use zy_isa::{Rule, Version};
 use zy_text::Canonical;
 
@@ -14,7 +14,7 @@ impl Line for VersionLine {
     ghost text = { λ l. version_line l.0 };
 
     fn append(&self, line: &mut LineBuffer) -> Result<(), AllocError> {
-        Joined("zephyr ", Canonical(self.0)).append(line)
+        joined!("zephyr ", Canonical(self.0)).append(line)
     }
 }
 
@@ -29,7 +29,7 @@ impl Line for Number<'_> {
     ghost text = { λ l. number_text l.word.now l.number };
 
     fn append(&self, line: &mut LineBuffer) -> Result<(), AllocError> {
-        Joined(self.word, Joined(b' ', Decimal(self.number))).append(line)
+        joined!(self.word, b' ', Decimal(self.number)).append(line)
     }
 }
 
@@ -41,6 +41,6 @@ impl Line for RuleLine {
     ghost text = { λ l. rule_line l.0 };
 
     fn append(&self, line: &mut LineBuffer) -> Result<(), AllocError> {
-        Joined("rule ", Canonical(self.0)).append(line)
+        joined!("rule ", Canonical(self.0)).append(line)
     }
 }

@@ -5,7 +5,7 @@ ghost use Rattle.zy_io.specs.Writing.{Wrote};
 
 use crate::head::Head;
 use std::alloc::Global;
-use zy_io::{Both, LineBuffer, One, Section, Sink, TextFault};
+use zy_io::{AllLines, LineBuffer, One, Section, Sink, TextFault, sections};
 use zy_isa::Scenario;
 use zy_text::Each;
 
@@ -20,6 +20,10 @@ pub fn write_text<K: Sink>(
         (K.failures sink.new) result (canon scenario.now) }
 {
     let mut line = LineBuffer::new(alloc);
-    let tail = Both(Each(scenario.choices()), One("end"));
-    Both(Head(scenario), tail).write(sink, &mut line)
+    sections!(
+        Head(scenario),
+        AllLines(Each(scenario.choices())),
+        One("end"),
+    )
+    .write(sink, &mut line)
 }

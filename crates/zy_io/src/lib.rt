@@ -14,6 +14,6 @@ pub use crate::buffer::LineBuffer;
 pub use crate::line::{Decimal, Joined, Line};
 pub use crate::memory::{SliceSource, VecSink};
 pub use crate::reading::{MAX_INPUT, ReadFault};
-pub use crate::section::{Both, Lines, One, Parts, Section};
+pub use crate::section::{AllLines, AllParts, Both, Lines, One, Parts, Section};
 pub use crate::stream::{CountingReader, CountingWriter, Sink, Source};
 pub use crate::writing::{TextFault, WriteFault};

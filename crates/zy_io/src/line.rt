@@ -118,3 +118,10 @@ impl<A: Line, B: Line> Line for Joined<A, B> {
         self.1.append(line)
     }
 }
+
+/// Texts of one line in the order in which they are printed: `joined!(a, b, c)` is `Joined(a, Joined(b, c))`.
+#[macro_export]
+macro_rules! joined {
+    ($only:expr $(,)?) => { $only };
+    ($first:expr, $($more:expr),+ $(,)?) => { $crate::Joined($first, $crate::joined!($($more),+)) };
+}

@@ -71,21 +71,6 @@ fn finish_line<K: Sink>(sink: &mut K, line: &mut LineBuffer) -> Result<(), TextF
     Ok(())
 }
 
-/// Writes one line, in the buffer, whose old text is lost.
-pub fn write_line<K: Sink, D: Line>(
-    sink: &mut K,
-    line: &mut LineBuffer,
-    item: &D,
-) -> Result<(), TextFault>
-    requires { K.failures sink.old < u64.MAX }
-    ensures { Wrote (K.written sink.old) (K.written sink.new) (K.failures sink.old)
-        (K.failures sink.new) result (line_of (D.text item.now)) }
-{
-    line.clear();
-    item.append(line)?;
-    finish_line(sink, line)
-}
-
 /// How many bytes of lines are gathered before they go out.
 const MANY: usize = 4096;
 
@@ -122,40 +107,6 @@ fn gather_place<K: Sink, L: Lines>(
     Ok(())
 }
 
-/// Writes each line of the list, in the buffer, whose old text is lost.
-pub fn write_lines<K: Sink, L: Lines>(
-    sink: &mut K,
-    line: &mut LineBuffer,
-    lines: &L,
-) -> Result<(), TextFault>
-    requires { K.failures sink.old < u64.MAX }
-    ensures { Wrote (K.written sink.old) (K.written sink.new) (K.failures sink.old)
-        (K.failures sink.new) result (flat_map line_of (L.texts lines.now)) }
-{
-    line.clear();
-    for place in 0..lines.len() {
-        gather_place(sink, line, lines, place)?;
-    }
-    write_all(sink, line.as_bytes())?;
-    Ok(())
-}
-
-/// Writes the lines of each part of the list, in the buffer, whose old text is lost.
-pub fn write_parts<K: Sink, P: Parts>(
-    sink: &mut K,
-    line: &mut LineBuffer,
-    parts: &P,
-) -> Result<(), TextFault>
-    requires { K.failures sink.old < u64.MAX }
-    ensures { Wrote (K.written sink.old) (K.written sink.new) (K.failures sink.old)
-        (K.failures sink.new) result (flat_map line_of (flat_map (λ part. part) (P.parts parts.now))) }
-{
-    for place in 0..parts.len() {
-        parts.write_part(place, sink, line)?;
-    }
-    Ok(())
-}
-
 /// One line.
 #[derive(Clone, Copy)]
 pub struct One<D>(pub D);
@@ -164,7 +115,41 @@ impl<D: Line> Section for One<D> {
     ghost texts = { λ s. D.text s.0 ∷ [] };
 
     fn write<K: Sink>(&self, sink: &mut K, line: &mut LineBuffer) -> Result<(), TextFault> {
-        write_line(sink, line, &self.0)
+        line.clear();
+        self.0.append(line)?;
+        finish_line(sink, line)
+    }
+}
+
+/// Each line of a list.
+#[derive(Clone, Copy)]
+pub struct AllLines<L>(pub L);
+
+impl<L: Lines> Section for AllLines<L> {
+    ghost texts = { λ s. L.texts s.0 };
+
+    fn write<K: Sink>(&self, sink: &mut K, line: &mut LineBuffer) -> Result<(), TextFault> {
+        line.clear();
+        for place in 0..self.0.len() {
+            gather_place(sink, line, &self.0, place)?;
+        }
+        write_all(sink, line.as_bytes())?;
+        Ok(())
+    }
+}
+
+/// The lines of each part of a list.
+#[derive(Clone, Copy)]
+pub struct AllParts<P>(pub P);
+
+impl<P: Parts> Section for AllParts<P> {
+    ghost texts = { λ s. flat_map (λ part. part) (P.parts s.0) };
+
+    fn write<K: Sink>(&self, sink: &mut K, line: &mut LineBuffer) -> Result<(), TextFault> {
+        for place in 0..self.0.len() {
+            self.0.write_part(place, sink, line)?;
+        }
+        Ok(())
     }
 }
 
@@ -179,4 +164,11 @@ impl<A: Section, B: Section> Section for Both<A, B> {
         self.0.write(sink, line)?;
         self.1.write(sink, line)
     }
+}
+
+/// Sections in the order in which they are printed: `sections!(a, b, c)` is `Both(a, Both(b, c))`.
+#[macro_export]
+macro_rules! sections {
+    ($only:expr $(,)?) => { $only };
+    ($first:expr, $($more:expr),+ $(,)?) => { $crate::Both($first, $crate::sections!($($more),+)) };
 }

@@ -7,8 +7,7 @@ ghost use Rattle.zy_text.specs.Words.{spaced};
 ghost use Rattle.zy_text.specs.Canon.{node_text, rule_text, reg_text, row_text, instr_text, choice_text};
 
 use std::alloc::AllocError;
-use zy_io::section::write_lines;
-use zy_io::{Decimal, Joined, Line, LineBuffer, Lines, Section, Sink, TextFault};
+use zy_io::{Decimal, Line, LineBuffer, Lines, joined};
 use zy_isa::{
     Choice, Instr, JumpOperation, LoneOperation, Node, NumberOperation, Operation, PairOperation,
     Parts, Reg, Row, Rule, Version, Word,
@@ -54,14 +53,6 @@ impl<T: CanonicalText> Lines for Each<'_, T> {
     }
 }
 
-impl<T: CanonicalText> Section for Each<'_, T> {
-    ghost texts = { λ s. map T.text s.0.now };
-
-    fn write<K: Sink>(&self, sink: &mut K, line: &mut LineBuffer) -> Result<(), TextFault> {
-        write_lines(sink, line, self)
-    }
-}
-
 impl CanonicalText for Version {
     ghost text = { word };
 
@@ -96,11 +87,7 @@ impl CanonicalText for Row {
     ghost text = { row_text };
 
     fn append_text(&self, line: &mut LineBuffer) -> Result<(), AllocError> {
-        Joined(
-            "row ",
-            Joined(Decimal(self.key), Joined(b' ', Decimal(self.value))),
-        )
-        .append(line)
+        joined!("row ", Decimal(self.key), b' ', Decimal(self.value)).append(line)
     }
 }
 
@@ -159,18 +146,21 @@ impl CanonicalText for Instr {
     #[inline(always)]
     fn append_text(&self, line: &mut LineBuffer) -> Result<(), AllocError> {
         match self.parts() {
-            Parts::Number(operation, a, number) => Joined(
+            Parts::Number(operation, a, number) => joined!(
                 Canonical(Operation::Number(operation)),
-                Joined([b' ', b'r', digit(a), b' '], Decimal(number)),
+                [b' ', b'r', digit(a), b' '],
+                Decimal(number),
             )
             .append(line),
-            Parts::Pair(operation, a, b) => Joined(
+            Parts::Pair(operation, a, b) => joined!(
                 Canonical(Operation::Pair(operation)),
                 Registers(a, b),
             ).append(line),
-            Parts::Jump(operation, a, b, target) => Joined(
+            Parts::Jump(operation, a, b, target) => joined!(
                 Canonical(Operation::Jump(operation)),
-                Joined(Registers(a, b), Joined(" @", Decimal(target))),
+                Registers(a, b),
+                " @",
+                Decimal(target),
             )
             .append(line),
             Parts::Lone(operation) => Operation::Lone(operation).append_text(line),
@@ -194,10 +184,10 @@ impl CanonicalText for Choice {
     fn append_text(&self, line: &mut LineBuffer) -> Result<(), AllocError> {
         match self {
             Choice::Start => "C start".append(line),
-            Choice::Begin(t) => Joined("C begin ", Decimal(*t)).append(line),
-            Choice::Kill(t) => Joined("C kill ", Decimal(*t)).append(line),
-            Choice::Run(Node::A, t) => Joined("A run ", Decimal(*t)).append(line),
-            Choice::Run(Node::B, t) => Joined("B run ", Decimal(*t)).append(line),
+            Choice::Begin(t) => joined!("C begin ", Decimal(*t)).append(line),
+            Choice::Kill(t) => joined!("C kill ", Decimal(*t)).append(line),
+            Choice::Run(Node::A, t) => joined!("A run ", Decimal(*t)).append(line),
+            Choice::Run(Node::B, t) => joined!("B run ", Decimal(*t)).append(line),
             Choice::Take(Node::A) => "A take".append(line),
             Choice::Take(Node::B) => "B take".append(line),
             Choice::Finish(Node::A) => "A finish".append(line),

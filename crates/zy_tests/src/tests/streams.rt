@@ -7,11 +7,11 @@ use std::alloc::{AllocError, Global};
 use std::io::{self, ErrorKind};
 use std::test::Fail;
 use zy_io::reading::read_all;
-use zy_io::section::{write_line, write_lines, write_parts};
 use zy_io::writing::write_all;
 use zy_io::{
-    Both, CountingReader, CountingWriter, Decimal, Joined, Line, LineBuffer, MAX_INPUT, One, Parts,
-    ReadFault, Section, Sink, SliceSource, Source, TextFault, VecSink, WriteFault,
+    AllLines, AllParts, Both, CountingReader, CountingWriter, Decimal, Line, LineBuffer, MAX_INPUT,
+    One, Parts, ReadFault, Section, Sink, SliceSource, Source, TextFault, VecSink, WriteFault,
+    joined, sections,
 };
 use zy_text::{Canonical, CanonicalText, Each};
 
@@ -45,7 +45,7 @@ impl CanonicalText for Pair {
     ghost text = { λ p. decimal p.0 ++ codes "=" ++ decimal p.1 };
 
     fn append_text(&self, line: &mut LineBuffer) -> Result<(), AllocError> {
-        Joined(Decimal(self.0), Joined("=", Decimal(self.1))).append(line)
+        joined!(Decimal(self.0), "=", Decimal(self.1)).append(line)
     }
 }
 
@@ -66,14 +66,14 @@ impl Parts for Groups<'_> {
         sink: &mut K,
         line: &mut LineBuffer,
     ) -> Result<(), TextFault> {
-        Each(self.0[place]).write(sink, line)
+        AllLines(Each(self.0[place])).write(sink, line)
     }
 }
 
 const LISTING: &[u8] = b"3=4\n50=60\nend\n";
 
-fn listing<'a>(pairs: &'a [Pair]) -> Both<Each<'a, Pair>, One<&'static str>> {
-    Both(Each(pairs), One("end"))
+fn listing<'a>(pairs: &'a [Pair]) -> Both<AllLines<Each<'a, Pair>>, One<&'static str>> {
+    sections!(AllLines(Each(pairs)), One("end"))
 }
 
 /// Whether the reader gives these bytes, and no call of it fails.
@@ -159,13 +159,9 @@ fn write_each(sink: &mut VecSink, line: &mut LineBuffer) -> Result<(), TextFault
     requires { sink.old.1 < u64.MAX }
 {
     listing(&[Pair(3, 4), Pair(50, 60)]).write(sink, line)?;
-    write_line(sink, line, &Canonical(Pair(7, 8)))?;
-    write_lines(sink, line, &Each(&[Pair(9, 9)]))?;
-    write_parts(
-        sink,
-        line,
-        &Groups(&[&[Pair(0, 2)], &[], &[Pair(0, 3), Pair(0, 4)]]),
-    )
+    One(Canonical(Pair(7, 8))).write(sink, line)?;
+    AllLines(Each(&[Pair(9, 9)])).write(sink, line)?;
+    AllParts(Groups(&[&[Pair(0, 2)], &[], &[Pair(0, 3), Pair(0, 4)]])).write(sink, line)
 }
 
 #[test]
