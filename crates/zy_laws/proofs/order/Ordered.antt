@@ -21,7 +21,9 @@ use Rattle.zy_table.specs.State.{Leaf, Message, NodeState, Txn, View}
 use Rattle.zy_table.specs.declared.outcome.Why.{Why}
 use Rattle.zy_laws.proofs.walk.Events.{Aborts, Asks, Begins, Commits, Event, Finishes, Gets, Gives, GotAll, GotDone, GotDual, GotFinish, GotLast, GotPage, GotReady}
 use Rattle.zy_laws.proofs.walk.Events.{GotWire, Inserts, IsStale, Pushes, Rests, SumsUp, Splits, Starts, Writes, arrived, has_lock, page, puts, rest, GoesOn}
-use Rattle.zy_table.proofs.RisingRows.{rises_put, rises_puts, rises_weaker}
+use Rattle.zy_page.proofs.Parted.{Rising-lower}
+use Rattle.zy_page.proofs.Rows.{Rising-put_row}
+use Rattle.zy_table.proofs.RisingRows.{rises_puts}
 use Rattle.zy_laws.proofs.owner.Roles.{Inv, Owned, fresh_number, normal_other, width}
 use Rattle.zy_laws.proofs.owner.OneOwner.{done_wide, locks_inv, pulled_inv, wire_wide}
 use Rattle.zy_laws.proofs.owner.MovingPages.{sent_leaves-append, sent_bare}
@@ -147,7 +149,7 @@ committed_ordered t v o =
 
 -- a private row keeps the order
 puts_ordered : (t key value : ℕ) (v : View) → Ordered v → Ordered (puts t key value v)
-puts_ordered t key value v o = lock_ordered t (page key v) _ Exclusive _ _ v o (rises_put 0 key value (txn_at v t).rows (omega arith) (o.private t))
+puts_ordered t key value v o = lock_ordered t (page key v) _ Exclusive _ _ v o (Rising-put_row 0 key value (txn_at v t).rows (o.private t) (omega arith))
 
 -- ---- a page is cut
 
@@ -162,7 +164,7 @@ rises_below low b [] h = tt
 rises_below low b (r ∷ rows) h =
     cond_both (nat_lt r.key b) (r ∷ rows_below b rows) (rows_below b rows) (Rising low)
     (λ _. (h.0, rises_below (r.key + 1) b rows h.1))
-    (λ _. rises_below low b rows (rises_weaker (r.key + 1) low rows (let a = h.0 in omega arith) h.1))
+    (λ _. rises_below low b rows (Rising-lower low (r.key + 1) rows h.1 (let a = h.0 in omega arith)))
 
 -- the rows from a key on rise
 pub rises_from : (low b : ℕ) (rows : List Row) → Rising low rows → Rising low (rows_from b rows)
@@ -170,7 +172,7 @@ rises_from low b [] h = tt
 rises_from low b (r ∷ rows) h =
     cond_both (nat_le b r.key) (r ∷ rows_from b rows) (rows_from b rows) (Rising low)
     (λ _. (h.0, rises_from (r.key + 1) b rows h.1))
-    (λ _. rises_from low b rows (rises_weaker (r.key + 1) low rows (let a = h.0 in omega arith) h.1))
+    (λ _. rises_from low b rows (Rising-lower low (r.key + 1) rows h.1 (let a = h.0 in omega arith)))
 
 -- the rows of a page rise
 pub rows_at : (p : ℕ) (xs : List Leaf) → RowsRise xs → Rising 0 (rows_of xs p)

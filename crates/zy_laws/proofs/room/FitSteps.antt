@@ -39,7 +39,8 @@ use Rattle.zy_laws.proofs.locks.Locking.{Kept, whole}
 use Rattle.zy_laws.proofs.places.MovedPages.{whole-front, whole-leaves}
 use Rattle.zy_laws.proofs.owner.MovingPages.{sent_bare}
 use Rattle.zy_laws.proofs.places.PageValues.{rest_of}
-use Rattle.zy_table.proofs.RisingRows.{rises_put, rises_puts}
+use Rattle.zy_page.proofs.Rows.{Rising-put_row}
+use Rattle.zy_table.proofs.RisingRows.{rises_puts}
 use Rattle.zy_laws.proofs.owner.Roles.{Owned}
 use Rattle.zy_laws.proofs.order.Ordered.{not_here}
 use Rattle.zy_laws.proofs.room.Room.{installed_length, need, need_is, need_none}
@@ -101,7 +102,7 @@ put_fit sc n v lows t key value k f at room =
       | inr less ↦ inr (let a = ltb-true _ _ less in let e = need_is v.me.lows p (rows_of v.me.pages p) x.rows in omega (arith, a, e))
     ] in
     goes_fit sc n v (puts t key value v) lows t (record x { pc = x.pc + 1; rows = rows; done = x.done + 1 }) f at refl refl refl refl refl
-    (rises_put 0 key value x.rows (omega arith) (f.rising t))
+    (Rising-put_row 0 key value x.rows (f.rising t) (omega arith))
     (subst (λ l. Each (Room sc.cap l rows) v.me.pages) newest
     (put_room sc.cap v.me.lows x.rows key value v.me.pages (f.rising t) (at_most v k.inv.owned) less_than_cap
     (subst (λ l. Each (Room sc.cap l x.rows) v.me.pages) (sym newest) (f.mine t at))))
