@@ -1,24 +1,17 @@
 -- The ways of an instruction at a key, and of a run of many.
-use Rattle.std.proofs.Common.{List, Bool, ap, arith, false, refl, suc, sym, true, zero, ℕ, ◌+◌, ◌<◌, ◌^◌, ◌∙◌, ◌≡◌}
-use Rattle.std.specs.Prelude.{Option, Result, Ok, Err, OnOk, if◌then◌else◌, is_some, nat_lt, slice_get}
+use Rattle.std.proofs.Common.{List, Bool, ap, arith, false, refl, suc, sym, true, zero, ℕ, ◌+◌, ◌∙◌, ◌≡◌}
+use Rattle.std.specs.Prelude.{Option, Result, Ok, Err, OnOk, if◌then◌else◌, is_some, slice_get}
 use Rattle.std.specs.FinMap.{empty, get}
-use Rattle.std.proofs.lemmas.Bool.{le-ltb}
 use Rattle.zy_isa.specs.declared.instr.Instr.{Instr}
 use Rattle.zy_table.specs.Database.{Map, laid}
-use Rattle.zy_table.specs.declared.effect.Effect.TheVariants.{Accesses}
-use Rattle.zy_table.specs.declared.access.Access.{Access}
 use Rattle.zy_table.specs.declared.access.Access.TheVariants.{Writes, Inserts}
-use Rattle.zy_table.specs.Serial.{Alone, alone, alone_access, alone_effect, alone_instr, alone_step}
+use Rattle.zy_table.specs.Serial.{Alone, alone, alone_access, alone_instr, alone_step}
 use Rattle.zy_isa.specs.Rows.{put_row}
 use Rattle.zy_isa.specs.declared.row.Row.{Row}
 use Rattle.zy_table.specs.Rows.{put_rows}
 use Rattle.zy_audit.specs.Lone.{Lone, map_of, on_map}
 use Rattle.zy_laws.proofs.serial.LoneRuns.{laid_put}
 use Rattle.zy_audit.proofs.LaidRows.{laid-put_rows}
-
--- an access at a key that is one
-pub near_access : (m : Map) (access : Access) (k : ℕ) (x : Alone) → k < 2 ^ 16 → alone_effect m (Accesses access k) x ≡ alone_access m access k x
-near_access m access k x h = let far : nat_lt 65535 k ≡ false = le-ltb 65535 k (omega arith) in rw far refl
 
 -- a run that goes on does its next instruction
 pub alone-on : (m : Map) (program : List Instr) (n : ℕ) (x : Alone) → alone m program n ≡ x → x.over ≡ false

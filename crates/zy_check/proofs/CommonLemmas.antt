@@ -1,22 +1,15 @@
 -- The common prefix, byte by byte.
-use Rattle.std.proofs.Common.{◌≡◌, ◌==◌, ◌≤◌, ◌+◌, ℕ, suc, Bool, true, false, List, [], ◌∷◌, ◌++◌, length, take, drop, refl, sym, ap, ◌∙◌, ◌⊎◌, inl, inr, arith}
+use Rattle.std.proofs.Common.{◌≡◌, ◌==◌, ◌≤◌, ◌+◌, ℕ, suc, Bool, true, false, List, [], ◌∷◌, ◌++◌, length, take, drop, refl, sym, ap, ◌∙◌, inl, inr, arith}
 use Rattle.std.proofs.Common.{append-nil}
 use Rattle.std.specs.List.{starts_with}
 use Rattle.std.specs.Str.{bytes_eq}
+use Rattle.std.proofs.lemmas.Bool.{cases_Bool}
 use Rattle.std.proofs.lemmas.Bool.Decides.{Decides-eqb}
 use Rattle.std.proofs.lemmas.Slice.Eq.{starts_is}
 use Rattle.std.proofs.lemmas.List.{drop_all}
 use borrow.Author.Tests.{tests}
+use Rattle.zy_isa.proofs.OperationLemmas.{same_number}
 use Rattle.zy_check.specs.Differs.{common, feeds, differs}
-
--- a test holds or does not
-pub either : (t : Bool) → (t ≡ true) ⊎ (t ≡ false)
-either true = inl refl
-either false = inr refl
-
--- numbers that compare equal are equal
-pub same_number : (n k : ℕ) → (n == k) ≡ true → n ≡ k
-same_number n k e = grind (arith, tests)
 
 -- a number compares equal to itself
 same_self : (x : ℕ) → (x == x) ≡ true
@@ -86,7 +79,7 @@ common_none x y xs ys e = rw (cons_other x y xs ys e) (none_common (x ∷ xs) (y
 pub is_common : (xs ys : List ℕ) → IsCommon (length (common xs ys)) xs ys
 is_common [] ys = none_common [] ys refl
 is_common (x ∷ xs) [] = none_common (x ∷ xs) [] refl
-is_common (x ∷ xs) (y ∷ ys) = elim (either (x == y)) [ inl e ↦ common_first x y xs ys e (is_common xs ys) | inr e ↦ common_none x y xs ys e ]
+is_common (x ∷ xs) (y ∷ ys) = elim (cases_Bool (x == y)) [ inl e ↦ common_first x y xs ys e (is_common xs ys) | inr e ↦ common_none x y xs ys e ]
 
 -- a list with an element is not empty
 not_cons : {Q : Type 0} (x : ℕ) (xs ys : List ℕ) → ys ≡ x ∷ xs → ys ≡ [] → Q
@@ -95,7 +88,7 @@ not_cons x xs ys e h = absurd (cc)
 -- where the first bytes differ, what follows does not matter
 pub apart_more : (y : ℕ) (xs ys zs : List ℕ) → common xs (y ∷ ys) ≡ [] → common xs (y ∷ zs) ≡ []
 apart_more y [] ys zs h = refl
-apart_more y (x ∷ xs) ys zs h = elim (either (x == y)) [ inl e ↦ not_cons x (common xs ys) _ (cons_same x y xs ys e) h | inr e ↦ cons_other x y xs zs e ]
+apart_more y (x ∷ xs) ys zs h = elim (cases_Bool (x == y)) [ inl e ↦ not_cons x (common xs ys) _ (cons_same x y xs ys e) h | inr e ↦ cons_other x y xs zs e ]
 
 -- texts that begin with two bytes differ
 eq_other : (x y : ℕ) (xs ys : List ℕ) → (x == y) ≡ false → bytes_eq (x ∷ xs) (y ∷ ys) ≡ false
@@ -104,7 +97,7 @@ eq_other x y xs ys e = rw e refl
 -- texts that share no first byte differ
 pub apart_eq : (y : ℕ) (xs ys : List ℕ) → common xs (y ∷ ys) ≡ [] → bytes_eq xs (y ∷ ys) ≡ false
 apart_eq y [] ys h = refl
-apart_eq y (x ∷ xs) ys h = elim (either (x == y)) [ inl e ↦ not_cons x (common xs ys) _ (cons_same x y xs ys e) h | inr e ↦ eq_other x y xs ys e ]
+apart_eq y (x ∷ xs) ys h = elim (cases_Bool (x == y)) [ inl e ↦ not_cons x (common xs ys) _ (cons_same x y xs ys e) h | inr e ↦ eq_other x y xs ys e ]
 
 -- two texts with a common front and nothing behind it
 pub differs_shared : (fs xs ys : List ℕ) → common xs ys ≡ [] → differs (fs ++ xs) (fs ++ ys) ≡ feeds fs + 1

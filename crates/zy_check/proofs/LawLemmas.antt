@@ -16,7 +16,9 @@ use Rattle.zy_text.specs.Cut.{cut}
 use Rattle.zy_check.specs.Verdicts.{IsListing, IsVerdict}
 use Rattle.zy_text.proofs.CanonCut.{cut-canon, canon-ascii}
 use Rattle.zy_check.specs.Differs.{common, feeds, differs, verdict, IsFront, IsLongestShared}
-use Rattle.zy_check.proofs.CommonLemmas.{either, same_number, cons_same, cons_other, common_shared}
+use Rattle.std.proofs.lemmas.Bool.{cases_Bool}
+use Rattle.zy_isa.proofs.OperationLemmas.{same_number}
+use Rattle.zy_check.proofs.CommonLemmas.{cons_same, cons_other, common_shared}
 use Rattle.zy_check.proofs.JudgeLemmas.{same_parts}
 
 -- ---- equality
@@ -35,7 +37,7 @@ no_table x y e h = let n = verdict_of-false x y e in absurd (cc)
 
 -- a table is equal
 pub verdict-table : (x y : List ℕ) → verdict x y ≡ Table → x ≡ y
-verdict-table x y h = elim (either (bytes_eq x y)) [ inl e ↦ (bytes_eq-Decides x y).0 e | inr e ↦ no_table x y e h ]
+verdict-table x y h = elim (cases_Bool (bytes_eq x y)) [ inl e ↦ (bytes_eq-Decides x y).0 e | inr e ↦ no_table x y e h ]
 
 -- what is equal is a table
 pub verdict-same : (x y : List ℕ) → x ≡ y → verdict x y ≡ Table
@@ -63,13 +65,13 @@ right_other x y xs ys e = (y ∷ ys, rw (cons_other x y xs ys e) refl)
 common_left : (xs ys : List ℕ) → IsFront (common xs ys) xs
 common_left [] ys = ([], refl)
 common_left (x ∷ xs) [] = (x ∷ xs, refl)
-common_left (x ∷ xs) (y ∷ ys) = elim (either (x == y)) [ inl e ↦ left_same x y xs ys e (common_left xs ys) | inr e ↦ left_other x y xs ys e ]
+common_left (x ∷ xs) (y ∷ ys) = elim (cases_Bool (x == y)) [ inl e ↦ left_same x y xs ys e (common_left xs ys) | inr e ↦ left_other x y xs ys e ]
 
 -- and the second
 common_right : (xs ys : List ℕ) → IsFront (common xs ys) ys
 common_right [] ys = (ys, refl)
 common_right (x ∷ xs) [] = ([], refl)
-common_right (x ∷ xs) (y ∷ ys) = elim (either (x == y)) [ inl e ↦ right_same x y xs ys e (common_right xs ys) | inr e ↦ right_other x y xs ys e ]
+common_right (x ∷ xs) (y ∷ ys) = elim (cases_Bool (x == y)) [ inl e ↦ right_same x y xs ys e (common_right xs ys) | inr e ↦ right_other x y xs ys e ]
 
 -- what both begin with is no longer
 front_le : (fs xs ys : List ℕ) → length fs ≤ length (common (fs ++ xs) (fs ++ ys))
@@ -96,7 +98,7 @@ shared-common shared x y h =
 -- the line is that behind the longest shared prefix
 pub verdict-line : (x y shared : List ℕ) → IsLongestShared shared x y → x ≢ y → verdict x y ≡ NotTable (feeds shared + 1)
 verdict-line x y shared h other =
-    elim (either (bytes_eq x y)) [
+    elim (cases_Bool (bytes_eq x y)) [
       | inl e ↦ absurd (other ((bytes_eq-Decides x y).0 e))
       | inr e ↦ verdict_of-false x y e ∙ ap (λ l. NotTable (feeds l + 1)) (sym (shared-common shared x y h))
     ]

@@ -1,6 +1,6 @@
 -- What is known of further steps.
-use Rattle.std.proofs.Common.{◌≡◌, ◌∙◌, ℕ, ◌+◌, List, [], ◌∷◌, ◌++◌, refl, sym, ap, suc, zero, arith, Some, subst, ◌⊎◌, inl, inr}
-use Rattle.std.specs.Prelude.{take, drop, slice_get}
+use Rattle.std.proofs.Common.{◌≡◌, ◌∙◌, ℕ, ◌+◌, List, [], ◌∷◌, ◌++◌, refl, sym, ap, suc, zero, arith, subst, ◌⊎◌, inl, inr}
+use Rattle.std.specs.Prelude.{take, drop}
 use Rattle.zy_isa.specs.declared.choice.Choice.{Choice}
 use Rattle.zy_isa.specs.Scenario.{Scenario, IsScenario}
 use Rattle.zy_table.specs.declared.entry.Entry.{Entry}
@@ -10,7 +10,7 @@ use Rattle.zy_machine.specs.Histories.{History, IsReplay, choices_of}
 use Rattle.zy_machine.specs.Trails.{IsKnown, IsNext}
 use Rattle.zy_machine.specs.declared.entry_log.EntryLog.{EntryLog}
 use Rattle.zy_machine.specs.declared.entry_log.EntryLog.TheVariants.{Own, Shared}
-use Rattle.zy_machine.specs.EntryLogs.{ahead, IsReadyFor, Fits}
+use Rattle.zy_machine.specs.EntryLogs.{ahead, IsReadyFor}
 
 -- the first n + 1 of a list are its first n, and the one behind them
 take-suc : {X : Type 0} (n : ℕ) (xs : List X) → take (suc n) xs ≡ take n xs ++ take 1 (drop n xs)
@@ -62,22 +62,12 @@ still-known sc s es fs (inr e) known = subst (IsKnown sc s) (sym e) known
 pub opened : (sc : Scenario) → IsScenario sc → IsReplay (record { scenario = sc; state = opening sc; entries = [] })
 opened sc tested = record { tested = tested; few = omega arith; named = tt; state = refl; entries = refl }
 
--- the first of the entries that are known is that of the next choice
-next-known : (sc : Scenario) (s : State) (c : Choice) (es : List Entry) → IsNext c es → IsKnown sc s es → slice_get es 0 ≡ Some (entry_of c (step sc c s))
-next-known sc s c [] next known = absurd next
-next-known sc s c (x ∷ es) next known = ap (λ l. slice_get l 0) known ∙ ap (λ (d : Choice). Some (entry_of d (step sc d s))) next
-
 -- without their first, the entries that are known are known from the state after the next choice
 after-known : (sc : Scenario) (s : State) (c : Choice) (es : List Entry) → IsNext c es → IsKnown sc s es → IsKnown sc (step sc c s).after (drop 1 es)
 after-known sc s c [] next known = absurd next
 after-known sc s c (x ∷ es) next known = ap (drop 1) known ∙ ap (λ (d : Choice). entries sc (step sc d s).after (choices_of es)) next
 
--- what comes of a choice that there is room for can be noted
-pub fits : (sc : Scenario) (s : State) (c : Choice) (log : EntryLog) → IsReadyFor c log → IsKnown sc s (ahead log) → Fits (entry_of c (step sc c s)) log
-fits sc s c (Own v) ready known = ready
-fits sc s c (Shared k) ready known = next-known sc s c k.ahead ready known
-
--- and what is known behind it is known from there
+-- what is known behind the next choice is known from the state after it
 pub known-after : (sc : Scenario) (s : State) (c : Choice) (log : EntryLog) → IsReadyFor c log → IsKnown sc s (ahead log)
     → IsKnown sc (step sc c s).after (drop 1 (ahead log))
 known-after sc s c (Own v) ready known = refl

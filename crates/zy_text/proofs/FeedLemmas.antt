@@ -1,21 +1,16 @@
 -- The first line of a text, by its first line feed.
 use Rattle.std.proofs.Common.{◌≡◌, ℕ, ◌==◌, ◌<◌, ◌+◌, Bool, true, false, List, [], ◌∷◌, length, suc, refl, arith, drop, inl, inr, subst, sym, ap, take, Some}
-use Rattle.std.proofs.Common.{None, ◌⊎◌}
+use Rattle.std.proofs.Common.{None}
 use Rattle.std.specs.List.{position, position_or_len, before_first, after_first}
 use Rattle.std.proofs.lemmas.List.Quantifiers.{position-Some}
 use Rattle.std.proofs.lemmas.List.Sums.{position_or_len_is, prefix_len-le-length}
 use Rattle.std.specs.Prelude.{if◌then◌else◌, nat_lt, not}
-use Rattle.std.proofs.lemmas.Bool.{ltb-false}
+use Rattle.std.proofs.lemmas.Bool.{cases_Bool, ltb-false}
 use Rattle.zy_text.specs.Words.{lines_of}
 
 -- a line feed
 abbrev is_lf : ℕ → Bool
 is_lf b = b == 10
-
--- a test is true or false
-either : (t : Bool) → (t ≡ true) ⊎ (t ≡ false)
-either true = inl refl
-either false = inr refl
 
 -- where the text begins with a line feed, its lines are the one before that line feed and those behind it
 some_here : (b : ℕ) (bs : List ℕ) → (b == 10) ≡ true → lines_of (b ∷ bs) ≡ before_first is_lf (b ∷ bs) ∷ lines_of (after_first is_lf (b ∷ bs))
@@ -46,7 +41,7 @@ pos_here b bs e = rw e refl
 pub lines_some : (bs : List ℕ) → position_or_len is_lf bs < length bs → lines_of bs ≡ before_first is_lf bs ∷ lines_of (after_first is_lf bs)
 lines_some [] h = absurd (omega arith)
 lines_some (b ∷ bs) h =
-    elim (either (b == 10)) [ inl e ↦ some_here b bs e | inr e ↦ some_later b bs e (lines_some bs (omega (arith, pos_later b bs e))) ]
+    elim (cases_Bool (b == 10)) [ inl e ↦ some_here b bs e | inr e ↦ some_later b bs e (lines_some bs (omega (arith, pos_later b bs e))) ]
 
 -- one byte other than a line feed is one line
 none_last : (b : ℕ) → (b == 10) ≡ false → lines_of (b ∷ []) ≡ (b ∷ []) ∷ []
@@ -59,9 +54,9 @@ none_later b bs e h = rw e (rw h refl)
 -- a text that is not empty and has no line feed is one line
 pub lines_none : (bs : List ℕ) → 0 < length bs → position_or_len is_lf bs ≡ length bs → lines_of bs ≡ bs ∷ []
 lines_none [] p h = absurd (omega arith)
-lines_none (b ∷ []) p h = elim (either (b == 10)) [ inl e ↦ absurd (omega (arith, pos_here b [] e)) | inr e ↦ none_last b e ]
+lines_none (b ∷ []) p h = elim (cases_Bool (b == 10)) [ inl e ↦ absurd (omega (arith, pos_here b [] e)) | inr e ↦ none_last b e ]
 lines_none (b ∷ c ∷ bs) p h =
-    elim (either (b == 10)) [
+    elim (cases_Bool (b == 10)) [
       | inl e ↦ absurd (omega (arith, pos_here b (c ∷ bs) e))
       | inr e ↦ none_later b (c ∷ bs) e (lines_none (c ∷ bs) (omega arith) (omega (arith, pos_later b (c ∷ bs) e)))
     ]

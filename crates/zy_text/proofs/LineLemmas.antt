@@ -1,19 +1,12 @@
 -- A text's first line, byte by byte.
-use Rattle.std.proofs.Common.{◌++◌, ◌≡◌, ◌∙◌, ℕ, ◌==◌, ◌<◌, ◌+◌, Bool, true, false, not, List, [], ◌∷◌, length, take, drop, filter, get_or, suc, refl, sym, ap}
-use Rattle.std.proofs.Common.{subst, arith, inl, inr, ◌⊎◌}
+use Rattle.std.proofs.Common.{◌++◌, ◌≡◌, ◌∙◌, ℕ, ◌==◌, ◌<◌, ◌+◌, true, false, not, List, [], ◌∷◌, length, take, drop, filter, get_or, suc, refl, sym, ap}
+use Rattle.std.proofs.Common.{subst, arith, inl, inr}
 use Rattle.std.specs.List.{position_or_len, before_first, slice_split, onto_first, prefix_len}
+use Rattle.std.proofs.lemmas.Bool.{cases_Bool}
 use borrow.Author.Tests.{eqb-true}
 use Rattle.zy_text.specs.Words.{is_space, is_word, lines_of, words_of, without_comment}
 use Rattle.zy_text.specs.Lines.{first_line, lines_below, ends_word}
-
--- a test is true or false
-either : (t : Bool) → (t ≡ true) ⊎ (t ≡ false)
-either true = inl refl
-either false = inr refl
-
--- one and a number are the number's successor
-one_plus : (k : ℕ) → 1 + k ≡ suc k
-one_plus k = omega arith
+use Rattle.zy_text.proofs.FeedLemmas.{one_plus}
 
 -- ---- a byte more in front
 
@@ -50,14 +43,14 @@ parts_more b bs lf semi space = ap (λ l. slice_split is_space (without_comment 
 
 -- a space is not a line feed
 not_lf : (b : ℕ) → is_space b ≡ true → (b == 10) ≡ false
-not_lf b h = elim (either (b == 10)) [ inr e ↦ e | inl e ↦ absurd (off b (eqb-true b 10 e) h) ]
+not_lf b h = elim (cases_Bool (b == 10)) [ inr e ↦ e | inl e ↦ absurd (off b (eqb-true b 10 e) h) ]
   where
     off : (b : ℕ) → b ≡ 10 → is_space b ≡ true → ⊥
     off b e h = cc (ap is_space e, h)
 
 -- a space is not a semicolon
 not_semi : (b : ℕ) → is_space b ≡ true → (b == 59) ≡ false
-not_semi b h = elim (either (b == 59)) [ inr e ↦ e | inl e ↦ absurd (off b (eqb-true b 59 e) h) ]
+not_semi b h = elim (cases_Bool (b == 59)) [ inr e ↦ e | inl e ↦ absurd (off b (eqb-true b 59 e) h) ]
   where
     off : (b : ℕ) → b ≡ 59 → is_space b ≡ true → ⊥
     off b e h = cc (ap is_space e, h)
@@ -111,21 +104,21 @@ record Plain (b : ℕ) : Type 0 where
 
 -- a byte that ends no word is neither a space nor a line feed nor a semicolon
 plain : (b : ℕ) → ends_word b ≡ false → Plain b
-plain b h = elim (either (is_space b)) [
+plain b h = elim (cases_Bool (is_space b)) [
   | inl e ↦ cc
-  | inr e ↦ elim (either (b == 10)) [
+  | inr e ↦ elim (cases_Bool (b == 10)) [
     | inl f ↦ cc
-    | inr f ↦ elim (either (b == 59)) [ inl g ↦ cc | inr g ↦ record { space = e; lf = f; semi = g } ]
+    | inr f ↦ elim (cases_Bool (b == 59)) [ inl g ↦ cc | inr g ↦ record { space = e; lf = f; semi = g } ]
   ]
 ]
 
 -- the first part of a text that begins with a byte that ends a word is empty
 parts_stop : (b : ℕ) (bs : List ℕ) → ends_word b ≡ true → parts (b ∷ bs) ≡ [] ∷ drop 1 (parts (b ∷ bs))
-parts_stop b bs h = elim (either (is_space b)) [
+parts_stop b bs h = elim (cases_Bool (is_space b)) [
   | inl e ↦ by_head (parts_space b bs e)
-  | inr e ↦ elim (either (b == 10)) [
+  | inr e ↦ elim (cases_Bool (b == 10)) [
     | inl f ↦ by_head (parts_lf b bs f)
-    | inr f ↦ elim (either (b == 59)) [ inl g ↦ by_head (parts_semi b bs g) | inr g ↦ cc ]
+    | inr f ↦ elim (cases_Bool (b == 59)) [ inl g ↦ by_head (parts_semi b bs g) | inr g ↦ cc ]
   ]
 ]
   where
@@ -168,14 +161,14 @@ begins_stop b bs e = record { behind = parts_stop b bs e; whole = parts_stop b b
 begins : (bs : List ℕ) → Begins (len bs) bs
 begins [] = record { behind = refl; whole = refl; below = refl }
 begins (b ∷ bs) =
-    elim (either (ends_word b)) [
+    elim (cases_Bool (ends_word b)) [
       | inl e ↦ subst (λ n. Begins n (b ∷ bs)) (sym (len_stop b bs e)) (begins_stop b bs e)
       | inr e ↦ subst (λ n. Begins n (b ∷ bs)) (sym (len_more b bs e)) (begins_more b bs e (begins bs))
     ]
 
 -- the words of parts are the first part, if it is one, and those of the others
 kept_or_not : (w : List ℕ) (ps : List (List ℕ)) → filter is_word (w ∷ ps) ≡ filter is_word (w ∷ []) ++ filter is_word ps
-kept_or_not w ps = elim (either (length w == 0)) [ inl e ↦ rw e refl | inr e ↦ rw e refl ]
+kept_or_not w ps = elim (cases_Bool (length w == 0)) [ inl e ↦ rw e refl | inr e ↦ rw e refl ]
 
 -- what is before the first byte that ends a word is the first word, if it is one
 pub word_taken : (bs : List ℕ) → words_of (first_line bs) ≡ filter is_word (before_first ends_word bs ∷ [])
@@ -198,7 +191,7 @@ none_left (b ∷ bs) h = absurd (omega (arith, h))
 -- the byte behind a word ends it
 pub word_stops : (bs : List ℕ) (b : ℕ) (cs : List ℕ) → drop (position_or_len ends_word bs) bs ≡ b ∷ cs → ends_word b ≡ true
 word_stops [] b cs h = cc
-word_stops (a ∷ bs) b cs h = elim (either (ends_word a)) [
+word_stops (a ∷ bs) b cs h = elim (cases_Bool (ends_word a)) [
   | inl e ↦ here (subst (λ n. drop n (a ∷ bs) ≡ b ∷ cs) (len_stop a bs e) h) e
   | inr e ↦ word_stops bs b cs (subst (λ n. drop n (a ∷ bs) ≡ b ∷ cs) (len_more a bs e) h)
 ]
@@ -208,11 +201,11 @@ word_stops (a ∷ bs) b cs h = elim (either (ends_word a)) [
 
 -- a byte that is not another fails the test for it
 differs : (b k : ℕ) → (b ≡ k → ⊥) → (b == k) ≡ false
-differs b k h = elim (either (b == k)) [ inl e ↦ absurd (h (eqb-true b k e)) | inr e ↦ e ]
+differs b k h = elim (cases_Bool (b == k)) [ inl e ↦ absurd (h (eqb-true b k e)) | inr e ↦ e ]
 
 -- a byte that ends a word, and is neither a line feed nor a semicolon, is a space
 pub space_of : (b : ℕ) → ends_word b ≡ true → (b ≡ 10 → ⊥) → (b ≡ 59 → ⊥) → is_space b ≡ true
-space_of b h f g = elim (either (is_space b)) [ inl e ↦ e | inr e ↦ absurd (off e) ]
+space_of b h f g = elim (cases_Bool (is_space b)) [ inl e ↦ e | inr e ↦ absurd (off e) ]
   where
     off : is_space b ≡ false → ⊥
     off e = let p : ends_word b ≡ false = rw (e, differs b 10 f, differs b 59 g) refl in cc (h, p)
@@ -220,7 +213,7 @@ space_of b h f g = elim (either (is_space b)) [ inl e ↦ e | inr e ↦ absurd (
 -- the lines of a text that is not empty are the first line and those below it
 lines_parted : (bs : List ℕ) → 0 < length bs → lines_of bs ≡ first_line bs ∷ lines_below bs
 lines_parted [] h = absurd (omega (arith, h))
-lines_parted (b ∷ bs) h = elim (either (b == 10)) [ inl e ↦ rw e refl | inr e ↦ rw e (onto_parted b (lines_of bs)) ]
+lines_parted (b ∷ bs) h = elim (cases_Bool (b == 10)) [ inl e ↦ rw e refl | inr e ↦ rw e (onto_parted b (lines_of bs)) ]
   where
     onto_parted : (b : ℕ) (ls : List (List ℕ)) → onto_first b ls ≡ get_or (onto_first b ls) 0 [] ∷ drop 1 (onto_first b ls)
     onto_parted b [] = refl
