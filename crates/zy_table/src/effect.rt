@@ -23,27 +23,49 @@ pub enum Effect {
     Aborts,
 }
 
+/// Evaluates an expression with the effect of an instruction bound to a name. The expression stands in an arm for each
+/// instruction, so it is compiled with the variant of the effect known.
+#[macro_export]
+macro_rules! with_effect {
+    ($instr:expr, $regs:expr, |$effect:ident| $then:expr) => {{
+        let regs = $regs;
+        $crate::with_effect!(@match $instr, $effect, $then,
+            Instr::Set(r, value) => $crate::Effect::Sets(r, value),
+            Instr::Read(r, q) => $crate::Effect::Accesses($crate::Access::Reads(r), $crate::reg(regs, q)),
+            Instr::Write(r, q) => {
+                $crate::Effect::Accesses($crate::Access::Writes($crate::reg(regs, q)), $crate::reg(regs, r))
+            },
+            Instr::Insert(r, q) => {
+                $crate::Effect::Accesses($crate::Access::Inserts($crate::reg(regs, q)), $crate::reg(regs, r))
+            },
+            Instr::Add(r, q) => $crate::Effect::Sets(r, $crate::reg(regs, r).wrapping_add($crate::reg(regs, q))),
+            Instr::Sum(r, q) => $crate::Effect::Sums(r, $crate::reg(regs, r), $crate::reg(regs, q)),
+            Instr::Beq(r, q, target) => $crate::Effect::Jumps($crate::reg(regs, r) == $crate::reg(regs, q), target),
+            Instr::Commit => $crate::Effect::Commits,
+            Instr::Abort => $crate::Effect::Aborts,
+        )
+    }};
+    (@match $instr:expr, $effect:ident, $then:expr, $($pattern:pat => $value:expr,)*) => {
+        match $instr {
+            $($pattern => {
+                let $effect = $value;
+                $then
+            })*
+        }
+    };
+}
+
 /// What an instruction does with these registers.
 #[inline(always)]
 pub fn effect_of(instr: Instr, regs: &[u32; 8]) -> Effect
     ensures { result ≡ table_effects.effect_of instr regs.now }
 {
-    match instr {
-        Instr::Set(r, value) => Effect::Sets(r, value),
-        Instr::Read(r, q) => Effect::Accesses(Access::Reads(r), reg(regs, q)),
-        Instr::Write(r, q) => Effect::Accesses(Access::Writes(reg(regs, q)), reg(regs, r)),
-        Instr::Insert(r, q) => Effect::Accesses(Access::Inserts(reg(regs, q)), reg(regs, r)),
-        Instr::Add(r, q) => Effect::Sets(r, reg(regs, r).wrapping_add(reg(regs, q))),
-        Instr::Sum(r, q) => Effect::Sums(r, reg(regs, r), reg(regs, q)),
-        Instr::Beq(r, q, target) => Effect::Jumps(reg(regs, r) == reg(regs, q), target),
-        Instr::Commit => Effect::Commits,
-        Instr::Abort => Effect::Aborts,
-    }
+    with_effect!(instr, regs, |effect| effect)
 }
 
 /// The value of a register.
 #[inline(always)]
-fn reg(regs: &[u32; 8], r: Reg) -> u32
+pub fn reg(regs: &[u32; 8], r: Reg) -> u32
     ensures { result ≡ table_change.reg regs.now r }
 {
     regs[r.index()]
