@@ -17,6 +17,7 @@ pub struct PageSet {
 
 impl Model for PageSet {
     ghost use Rattle.std.specs.Prelude.{◌≡◌, ℕ, List, length};
+    ghost use Rattle.zy_isa.specs.Limits.{max_pages};
     ghost use Rattle.zy_node.specs.PageSets.{marked};
 
     ghost Value = { List ℕ };
