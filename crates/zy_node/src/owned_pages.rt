@@ -164,8 +164,7 @@ impl OwnedPages {
         } in
             self.new ≡ with_page upper (lowered p boundary self.old) }
     {
-        self.count = self.len() + 1;
-        self.first = self.first.min(number);
-        self.store.cut(p, boundary, number);
+        let upper = self.store.split_off(p, boundary, number);
+        self.put(upper);
     }
 }
