@@ -43,9 +43,9 @@ pub fn read_all<S: Source>(alloc: Global, source: &mut S) -> Result<Vec<u8>, Rea
         (S.failures source.old) (S.failures source.new) result }
 
     // Where the bytes are known beforehand these are they, and it is known when they are too many.
-    ensures whole { IfOk result (λ bytes. IfSome (S.left source.old) (λ told. bytes.items ≡ told)) }
+    ensures whole { IfOk result (λ bytes. IfSome (S.left source.old) (λ left. bytes.items ≡ left)) }
     ensures long { result ≡ Err ReadFault.TooLong
-        → IfSome (S.left source.old) (λ told. 4194304 < length told) }
+        → IfSome (S.left source.old) (λ left. 4194304 < length left) }
 
     // Whatever is known of the bytes, the calls give at most one byte more than the longest input has.
     ensures bound { S.given source.new ≤ S.given source.old + 4194305 }
