@@ -1,5 +1,6 @@
 -- A line made on the parts of one node, as a step of the store.
-use Rattle.std.proofs.Common.{Result, Ok, Err, ap}
+use Rattle.std.proofs.Common.{◌≡◌, ◌≤◌, ℕ, Result, Ok, Err, ap, subst, sym}
+use Rattle.zy_isa.specs.Limits.{max_pages}
 use Rattle.zy_isa.specs.declared.node.Node.TheVariants.{A, B}
 use Rattle.zy_table.specs.State.{Move, facing, seen_from}
 use Rattle.zy_node.specs.declared.node_store.NodeStore.{NodeStore}
@@ -8,6 +9,8 @@ use Rattle.zy_table.specs.declared.answer.Answer.{Answer}
 use Rattle.zy_steps.specs.Parts.{here}
 use Rattle.zy_table.specs.Answers.{Makes as MakesHere}
 use Rattle.zy_node.specs.Mail.{Mail}
+use Rattle.zy_node.specs.Nodes.{node_shown, Limits, IsLimited}
+use Rattle.zy_steps.specs.Arrivals.{MayTake, MayTakeFrom}
 use Rattle.zy_steps.specs.Fronts.{meets}
 use Rattle.zy_machine.specs.declared.node_pair.NodePair.{NodePair}
 use Rattle.zy_machine.specs.NodePairs.{state_of, Makes}
@@ -37,3 +40,10 @@ pub meets-b : {E : Type 0} (old : NodePair) (x : NodeStore) (i : Mail) (r : Resu
     Makes B old (record old { b = x; a = record y { outbox = i } }) r m
 meets-b old x i (Ok y) m h = (ap (λ (z : Move). seen_from B z.after) h, ap (λ (z : Move). z.outcome) h, ap (λ (z : Move). z.sent) h)
 meets-b old x i (Err e) m h = ap (seen_from B) h
+
+-- of two nodes whose wireframes may have n pages, x can take from the link of y where it can take what that holds
+pub may_take_from : (n : ℕ) (x y : NodeStore) → n ≤ max_pages → IsLimited n x → IsLimited n y → MayTake y.outbox.messages (node_shown x)
+    → MayTakeFrom y.outbox x
+may_take_from n x y few own other may =
+    let sent : y.outbox.pages ≡ n = ap (λ (l : Limits). l.sent) other in
+    record { may = may; limited = subst (λ m. IsLimited m x) (sym sent) own; few = subst (λ m. m ≤ max_pages) (sym sent) few }

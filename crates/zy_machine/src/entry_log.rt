@@ -203,7 +203,7 @@ impl EntryLog {
         ensures ahead { ahead self.new ≡ drop 1 (ahead self.old) }
     {
         match self {
-            EntryLog::Own(entries) => entries.push(entry).unwrap(),
+            EntryLog::Own(entries) => entries.push_reserved(entry),
             EntryLog::Shared(shared) => shared.go_on(),
         }
     }

@@ -151,9 +151,23 @@ impl NodePair {
         }
     }
 
-    /// The step that a choice makes.
+    /// The step that a choice makes. A run, as most of them are, goes in line, so that a loop over choices is short.
     #[inline(always)]
     pub(crate) fn step(&mut self, scenario: &Scenario, choice: Choice) -> Result<Answer, AllocError>
+        requires possible { IsPossible scenario.now choice self.old }
+        requires limited { AreLimited scenario.now.pages self.old }
+        ensures line { Steps self.old self.new result (table_play.step scenario.now choice (state_of self.old)) }
+        ensures limits { limits_in self.new ≡ limits_in self.old }
+    {
+        if let Choice::Run(n, t) = choice {
+            return self.run_step(scenario, n, t);
+        }
+        self.any_step(scenario, choice)
+    }
+
+    /// The same, out of line.
+    #[inline(never)]
+    fn any_step(&mut self, scenario: &Scenario, choice: Choice) -> Result<Answer, AllocError>
         requires possible { IsPossible scenario.now choice self.old }
         requires limited { AreLimited scenario.now.pages self.old }
         ensures line { Steps self.old self.new result (table_play.step scenario.now choice (state_of self.old)) }

@@ -47,14 +47,14 @@ cuttable sc t k p at b x book f normal more is =
     let v = node_shown x in
     let y = txn_in t book in
     record {
-      free = f.free.free;
+      free = f.page.free.free;
       alone = alone_there x.locks.locks p (length lows) t (f.splits.unheld normal);
       few = let most = f.splits.pages in omega (arith, most, more);
       other =
-          subst (λ z. Contains lows z → ⊥) (sym is) (subst (λ z. Contains lows (boundary sc k z v y) → ⊥) (sym f.on)
-          (f.splits.other k (subst (λ z. is_there k z v y ≡ false) f.on f.new) (subst (λ z. has_room sc z v y ≡ false) f.on f.full)));
+          subst (λ z. Contains lows z → ⊥) (sym is) (subst (λ z. Contains lows (boundary sc k z v y) → ⊥) (sym f.page.on)
+          (f.splits.other k (subst (λ z. is_there k z v y ≡ false) f.page.on f.new) (subst (λ z. has_room sc z v y ≡ false) f.page.on f.full)));
       absent = f.splits.absent normal;
-      owned = f.owned;
+      owned = f.page.owned;
     }
 
 -- a node that owns the page of a key, and none with the next number, has a page
@@ -66,4 +66,6 @@ has_page (low ∷ lows) k p pages on absent owned = omega arith
 -- so its wireframe can grow
 pub growable : (sc : Scenario) (t k p at : ℕ) (x : NodeStore) (book : Ledger) → IsFull sc t k p at x book → may_split x.mode ≡ true
     → length (lows_in x.wire) < sc.pages → length (lows_in x.wire) < limit_or 0 x.wire
-growable sc t k p at x book f normal more = limit_left sc.pages x f.limited (has_page (lows_in x.wire) k p x.pages f.on (f.splits.absent normal) f.owned) more
+growable sc t k p at x book f normal more =
+    let page = has_page (lows_in x.wire) k p x.pages f.page.on (f.splits.absent normal) f.page.owned in
+    limit_left sc.pages x f.limited page more

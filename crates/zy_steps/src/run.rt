@@ -21,7 +21,8 @@ ghost use Rattle.zy_steps.specs.Parts.{here, Runs};
 ghost use Rattle.zy_table.specs.Answers.{move_of};
 ghost use Rattle.zy_steps.specs.Memory.{AbsentNeedsNone, EffectNeedsNone, InstrNeedsNone, IsUncut, KeyNeedsNone};
 ghost use Rattle.zy_steps.specs.Memory.{PageNeedsNone, PagesNeedNone, RunNeedsNone, SumNeedsNone};
-ghost use Rattle.zy_steps.specs.Ready.{IsFull, IsReady, MaySplit, Rooms};
+ghost use Rattle.zy_steps.specs.Ready.{IsFull, IsPageFor, IsReady, IsWritable, Rooms};
+ghost use Rattle.zy_steps.specs.Ready.{MayAccess, MayShare, MayStep, MaySum};
 
 use crate::sum::sum;
 use std::alloc::{AllocError, Global};
@@ -31,8 +32,7 @@ use zy_locks::LockKind;
 use zy_node::NodeStore;
 use zy_node::node_store::{fewer_new_rows, gone_page};
 use zy_node::wireframe::{page_count, page_of};
-use zy_table::effect::effect_of;
-use zy_table::{Access, Answer, Effect, Outcome, Why};
+use zy_table::{Access, Answer, Effect, Outcome, Why, with_effect};
 use zy_txns::{Book, Txn};
 
 /// The lines of a node's run.
@@ -76,17 +76,15 @@ fn instr_step(
     t: u8,
     instr: Instr,
 ) -> Result<Answer, AllocError>
-    requires counts { Countable t book.old }
-    requires room { Rooms t me.old book.old }
-    requires splits { MaySplit scenario.now (node_shown me.old) (txn_in t book.old) }
-    requires limited { IsLimited scenario.now.pages me.old }
+    requires { MayStep scenario.now t me.old book.old }
     ensures line { Runs me.old book.old me.new book.new result
         (λ v. table.instr_step scenario.now t (Some instr) (txn_at v t).regs v) }
     ensures memory { InstrNeedsNone scenario.now t instr (txn_in t book.old).regs me.old book.old → IsOk result }
     ensures limits { limits_of me.new ≡ limits_of me.old }
 {
-    let effect = effect_of(instr, book.txn(t).regs());
-    effect_step(scenario, alloc, me, book, t, effect)
+    with_effect!(instr, book.txn(t).regs(), |effect| {
+        effect_step(scenario, alloc, me, book, t, effect)
+    })
 }
 
 /// The lines of an effect.
@@ -100,10 +98,7 @@ fn effect_step(
     t: u8,
     effect: Effect,
 ) -> Result<Answer, AllocError>
-    requires counts { Countable t book.old }
-    requires room { Rooms t me.old book.old }
-    requires splits { MaySplit scenario.now (node_shown me.old) (txn_in t book.old) }
-    requires limited { IsLimited scenario.now.pages me.old }
+    requires { MayStep scenario.now t me.old book.old }
     ensures line { Runs me.old book.old me.new book.new result (table.effect_step scenario.now t effect) }
     ensures memory { EffectNeedsNone scenario.now t effect me.old book.old → IsOk result }
     ensures limits { limits_of me.new ≡ limits_of me.old }
@@ -187,9 +182,7 @@ fn key_step(
     access: Access,
     key: u32,
 ) -> Result<Answer, AllocError>
-    requires counts { Countable t book.old }
-    requires splits { MaySplit scenario.now (node_shown me.old) (txn_in t book.old) }
-    requires limited { IsLimited scenario.now.pages me.old }
+    requires { MayAccess scenario.now t me.old book.old }
     ensures line { Runs me.old book.old me.new book.new result (table.key_step scenario.now t access key) }
     ensures memory { KeyNeedsNone scenario.now t access key me.old book.old → IsOk result }
     ensures limits { limits_of me.new ≡ limits_of me.old }
@@ -213,9 +206,7 @@ fn range_step(
     first: u32,
     last: u32,
 ) -> Result<Answer, AllocError>
-    requires counts { Countable t book.old }
-    requires slots { scenario.now.pages ≤ max_pages }
-    requires limited { IsLimited scenario.now.pages me.old }
+    requires { MaySum scenario.now t me.old book.old }
     ensures line { Runs me.old book.old me.new book.new result (table.range_step t r first last) }
     ensures memory { SumNeedsNone t first last me.old → IsOk result }
     ensures limits { limits_of me.new ≡ limits_of me.old }
@@ -240,9 +231,7 @@ fn sum_or_asks(
     first: u16,
     last: u16,
 ) -> Result<Answer, AllocError>
-    requires counts { Countable t book.old }
-    requires slots { scenario.now.pages ≤ max_pages }
-    requires limited { IsLimited scenario.now.pages me.old }
+    requires may { MaySum scenario.now t me.old book.old }
     requires rises { first ≤ last }
     ensures line { Runs me.old book.old me.new book.new result
         (λ v. table.sum_or_asks t r first last (first_absent v.me.pages (range_pages v.me.lows first last)) v) }
@@ -285,8 +274,7 @@ fn sum_or_waits(
 fn sum_step(me: &mut NodeStore, book: &mut Book, t: u8, r: Reg, first: u16, last: u16) -> Answer
     requires counts { Countable t book.old }
     requires rises { first ≤ last }
-    requires free { first_taken me.old.locks.locks t (range_pages (lows_in me.old.wire) first last) ≡ None }
-    requires room { HasPlaces (range_pages (lows_in me.old.wire) first last) t me.old.locks }
+    requires pages { MayShare t first last me.old }
     ensures line { (v : View) → move_of result (here me.new book.new v)
         ≡ table.sum_step t r first last (shares t (range_pages (lows_in me.old.wire) first last)
         (here me.old book.old v)) }
@@ -383,12 +371,8 @@ fn insert_step(
     p: u16,
     at: usize,
 ) -> Result<Answer, AllocError>
-    requires counts { Countable t book.old }
-    requires splits { MaySplit scenario.now (node_shown me.old) (txn_in t book.old) }
-    requires limited { IsLimited scenario.now.pages me.old }
-    requires on { p ≡ wire_wireframe.page_of (lows_in me.old.wire) key }
-    requires free { IsFree at p t Exclusive me.old }
-    requires owned { owns me.old.pages p ≡ true }
+    requires access { MayAccess scenario.now t me.old book.old }
+    requires page { IsWritable t key p at me.old }
     ensures line { Runs me.old book.old me.new book.new result
         (λ v. table.insert_step scenario.now t key value p (locked t p Exclusive v)) }
     ensures memory { let y = txn_in t book.old in (table.is_there key p (node_shown me.old) y ≡ true)
@@ -474,11 +458,8 @@ fn page_step(
     key: u16,
     p: u16,
 ) -> Result<Answer, AllocError>
-    requires counts { Countable t book.old }
-    requires splits { MaySplit scenario.now (node_shown me.old) (txn_in t book.old) }
-    requires limited { IsLimited scenario.now.pages me.old }
-    requires on { p ≡ wire_wireframe.page_of (lows_in me.old.wire) key }
-    requires few { p < max_pages }
+    requires access { MayAccess scenario.now t me.old book.old }
+    requires page { IsPageFor key p me.old }
     ensures line { Runs me.old book.old me.new book.new result (table.page_step scenario.now t access key p) }
     ensures memory { PageNeedsNone scenario.now t access key p me.old book.old → IsOk result }
     ensures limits { limits_of me.new ≡ limits_of me.old }

@@ -14,7 +14,7 @@ ghost use Rattle.zy_table.specs.Take as table_take;
 ghost use Rattle.zy_node.specs.Mail.{HasRoom, IsWhole};
 ghost use Rattle.zy_node.specs.Nodes.{node_shown, limits_of, IsLimited};
 ghost use Rattle.zy_node.specs.Wireframes.{lows_in};
-ghost use Rattle.zy_steps.specs.Arrivals.{IsNamed, IsNew, MayTake};
+ghost use Rattle.zy_steps.specs.Arrivals.{IsFitting, IsNamed, IsNew, MayTake, MayTakeFrom};
 ghost use Rattle.zy_steps.specs.Fronts.{front_of, rest, IsFront, Takes};
 
 use std::alloc::AllocError;
@@ -82,10 +82,7 @@ fn line(scenario: &Scenario, me: &NodeStore, message: &Message) -> MessageLine
 
 /// Keeps what a message brings.
 fn bring(me: &mut NodeStore, message: Message)
-    requires whole { IsWhole me.old.outbox.pages message }
-    requires new { IsNew (message_of message) (node_shown me.old) }
-    requires limited { IsLimited me.old.outbox.pages me.old }
-    requires few { me.old.outbox.pages ≤ max_pages }
+    requires { IsFitting message me.old }
     ensures node { node_shown me.new ≡ with_brought (message_of message) (node_shown me.old) }
     ensures outbox { me.new.outbox ≡ me.old.outbox }
     ensures limits { limits_of me.new ≡ limits_of me.old }
@@ -139,10 +136,7 @@ pub(crate) fn leave(me: &mut NodeStore, p: u16)
 
 /// Keeps what a message brings, turns to a mode, and sends the answer.
 fn take_in(me: &mut NodeStore, message: Message, mode: NodeMode, sent: Option<Kind>)
-    requires whole { IsWhole me.old.outbox.pages message }
-    requires new { IsNew (message_of message) (node_shown me.old) }
-    requires limited { IsLimited me.old.outbox.pages me.old }
-    requires few { me.old.outbox.pages ≤ max_pages }
+    requires fits { IsFitting message me.old }
     requires room { HasRoom sent me.old.outbox }
     ensures node { let x = with_brought (message_of message) (node_shown me.old) in
         node_shown me.new ≡ record x { mode = mode } }
@@ -212,9 +206,7 @@ pub fn take_step(
     me: &mut NodeStore,
     inbox: &mut Mailbox,
 ) -> Result<Answer, AllocError>
-    requires may { MayTake inbox.old.messages (node_shown me.old) }
-    requires limited { IsLimited inbox.old.pages me.old }
-    requires few { inbox.old.pages ≤ max_pages }
+    requires { MayTakeFrom inbox.old me.old }
     ensures line { Takes me.old inbox.old me.new inbox.new result (table_take.take_step scenario.now) }
     ensures limits { limits_of me.new ≡ limits_of me.old }
     ensures pages { inbox.new.pages ≡ inbox.old.pages }
@@ -233,10 +225,8 @@ fn got_step(
     inbox: &mut Mailbox,
     line: MessageLine,
 ) -> Result<Answer, AllocError>
-    requires may { MayTake inbox.old.messages (node_shown me.old) }
+    requires may { MayTakeFrom inbox.old me.old }
     requires some { is_some (slice_get inbox.old.messages 0) ≡ true }
-    requires limited { IsLimited inbox.old.pages me.old }
-    requires few { inbox.old.pages ≤ max_pages }
     ensures line { (m : AMessage) → slice_get inbox.old.messages 0 ≡ Some m
         → Takes me.old inbox.old me.new inbox.new result (λ v. table_take.got_step line m v (rest v)) }
     ensures limits { limits_of me.new ≡ limits_of me.old }
@@ -255,10 +245,8 @@ fn turn_step(
     mode: NodeMode,
     sent: Option<Kind>,
 ) -> Result<Answer, AllocError>
-    requires may { MayTake inbox.old.messages (node_shown me.old) }
+    requires may { MayTakeFrom inbox.old me.old }
     requires some { is_some (slice_get inbox.old.messages 0) ≡ true }
-    requires limited { IsLimited inbox.old.pages me.old }
-    requires few { inbox.old.pages ≤ max_pages }
     ensures line { (m : AMessage) → slice_get inbox.old.messages 0 ≡ Some m
         → Takes me.old inbox.old me.new inbox.new result (λ v. table_take.got_step (Turns mode sent) m v (rest v)) }
     ensures limits { limits_of me.new ≡ limits_of me.old }

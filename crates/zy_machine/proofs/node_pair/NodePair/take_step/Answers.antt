@@ -1,14 +1,18 @@
 use Rattle.zy_isa.specs.declared.node.Node.TheVariants.{A, B}
 use Rattle.zy_table.specs.State.{facing}
 use Rattle.zy_machine.specs.NodePairs.{state_of}
-use Rattle.zy_machine.proofs.AtNodes.{meets-a, meets-b}
+use Rattle.zy_machine.proofs.AtNodes.{may_take_from, meets-a, meets-b}
 use Rattle.zy_machine.proofs.node_pair.NodePair.take_step.Goals as goal
 
-pub take_step-requires-clause-may : goal.take_step-requires-clause-may
-take_step-requires-clause-may c = rw c.in-A.is at c.requires.may
+pub take_step-requires : goal.take_step-requires
+take_step-requires c =
+    let s = c.args.self.now in
+    may_take_from _ s.a s.b c.requires.limited.few c.requires.limited.a c.requires.limited.b (rw c.in-A.is at c.requires.may)
 
-pub take_step-requires-in-B-clause-may : goal.take_step-requires-in-B-clause-may
-take_step-requires-in-B-clause-may c = rw c.in-B.is at c.requires.may
+pub take_step-requires-in-B : goal.take_step-requires-in-B
+take_step-requires-in-B c =
+    let s = c.args.self.now in
+    may_take_from _ s.b s.a c.requires.limited.few c.requires.limited.b c.requires.limited.a (rw c.in-B.is at c.requires.may)
 
 pub returns-in-A-clause-line : goal.returns-in-A-clause-line
 returns-in-A-clause-line c =
