@@ -1,11 +1,10 @@
 -- The places of the lines, and the whole listing.
 use Rattle.std.proofs.Common.{◌≡◌, ◌∙◌, ℕ, zero, suc, ◌+◌, ◌<◌, List, [], ◌∷◌, ◌++◌, refl, sym, ap, subst, arith, length, get_or, map, Bool}
 use Rattle.std.specs.List.{flat_map}
-use Rattle.std.proofs.lemmas.Grind.{flat_map-append}
 use Rattle.zy_text.specs.Canon.{canon}
 use Rattle.zy_io.specs.Writing.{line_of}
 use Rattle.zy_disasm.specs.Lines.{head_texts, end_texts}
-use Rattle.zy_disasm.proofs.CanonLemmas.{canon-parts}
+use Rattle.zy_disasm.proofs.CanonLemmas.{canon-before}
 use Rattle.zy_table.specs.Play.{entries, opening}
 use Rattle.zy_table.specs.declared.entry.Entry.{Entry}
 use Rattle.zy_text.specs.Canon.{choice_text}
@@ -50,13 +49,12 @@ taken-line P k d es h told =
 
 -- the lines that are written are the listing of the replay
 pub listing-lines : (h : History) (same : Bool) → IsReplay h
-    → flat_map line_of ((head_texts h.scenario ++ (map choice_text (choices_of h.entries) ++ end_texts)) ++ ending_texts h.entries h.state same)
+    → flat_map line_of (head_texts h.scenario ++ (map choice_text (choices_of h.entries) ++ (end_texts ++ ending_texts h.entries h.state same)))
     ≡ listing h.scenario (choices_of h.entries) same
 unfolding listing
 listing-lines h same r =
     let sc = h.scenario in
     let cs = choices_of h.entries in
-    flat_map-append line_of (head_texts sc ++ (map choice_text cs ++ end_texts)) (ending_texts h.entries h.state same)
-    ∙ ap (λ l. l ++ flat_map line_of (ending_texts h.entries h.state same)) (canon-parts (record sc { choices = cs }))
+    canon-before (record sc { choices = cs }) (ending_texts h.entries h.state same)
     ∙ ap (λ es. canon (record sc { choices = cs }) ++ flat_map line_of (ending_texts es h.state same)) r.entries
     ∙ ap (λ s. canon (record sc { choices = cs }) ++ flat_map line_of (ending_texts (entries sc (opening sc) cs) s same)) r.state

@@ -12,7 +12,7 @@ use crate::lines::taken::Taken;
 use crate::serial::same;
 use std::alloc::Global;
 use zy_disasm::Head;
-use zy_io::{Both, LineBuffer, One, Section, Sink, TextFault};
+use zy_io::{AllLines, LineBuffer, One, Section, Sink, TextFault, sections};
 use zy_machine::Machine;
 
 /// Writes the listing of a machine, a line at a time; `same` is what the test against the serial run says.
@@ -28,11 +28,17 @@ pub(crate) fn write_listing_as<K: Sink>(
 {
     let mut line = LineBuffer::new(alloc);
     let entries = machine.entries();
-    let scenario = Both(Head(machine.scenario()), Both(Taken(entries), One("end")));
-    let steps = Both(One("steps"), Steps(entries));
-    let last = Both(One(SerialLine(same)), One("end"));
-    let ending = Both(steps, Both(FinalState(machine), last));
-    Both(scenario, ending).write(sink, &mut line)
+    sections!(
+        Head(machine.scenario()),
+        AllLines(Taken(entries)),
+        One("end"),
+        One("steps"),
+        AllLines(Steps(entries)),
+        FinalState(machine),
+        One(SerialLine(same)),
+        One("end"),
+    )
+    .write(sink, &mut line)
 }
 
 /// Writes the listing of a machine, with what the test against the serial run says.

@@ -58,3 +58,11 @@ canon-parts s =
     let parts = flat_map (λ part. part) (program_parts 0 s.programs) in
     ap (flat_map line_of) (append_assoc (header_texts s) (map row_text s.rows ++ parts) choices
     ∙ ap (λ l. header_texts s ++ l) (append_assoc (map row_text s.rows) parts choices)) ∙ all
+
+-- what is written behind those lines stands behind the canonical text
+pub canon-before : (s : Scenario) (more : List (List ℕ)) → flat_map line_of (head_texts s ++ (map choice_text s.choices ++ (end_texts ++ more)))
+    ≡ canon s ++ flat_map line_of more
+canon-before s more =
+    let choices = map choice_text s.choices in
+    ap (flat_map line_of) (sym (append_assoc (head_texts s) (choices ++ end_texts) more ∙ ap (λ l. head_texts s ++ l) (append_assoc choices end_texts more)))
+    ∙ flat_map-append line_of (head_texts s ++ (choices ++ end_texts)) more ∙ ap (λ l. l ++ flat_map line_of more) (canon-parts s)

@@ -3,7 +3,7 @@ ghost use Rattle.std.specs.Prelude.{◌++◌, codes};
 ghost use Rattle.zy_text.specs.Canon.{choice_text};
 
 use std::alloc::AllocError;
-use zy_io::{Decimal, Joined, Line, LineBuffer};
+use zy_io::{Decimal, Line, LineBuffer, joined};
 use zy_isa::{Choice, Node};
 use zy_text::Canonical;
 
@@ -17,8 +17,8 @@ impl Line for ChoiceText {
     #[inline(always)]
     fn append(&self, line: &mut LineBuffer) -> Result<(), AllocError> {
         match self.0 {
-            Choice::Run(Node::A, t) => Joined("A run ", Decimal(t)).append(line),
-            Choice::Run(Node::B, t) => Joined("B run ", Decimal(t)).append(line),
+            Choice::Run(Node::A, t) => joined!("A run ", Decimal(t)).append(line),
+            Choice::Run(Node::B, t) => joined!("B run ", Decimal(t)).append(line),
             choice => Canonical(choice).append(line),
         }
     }
@@ -34,9 +34,9 @@ impl Line for SpacedChoice {
     #[inline(always)]
     fn append(&self, line: &mut LineBuffer) -> Result<(), AllocError> {
         match self.0 {
-            Choice::Run(Node::A, t) => Joined(" A run ", Decimal(t)).append(line),
-            Choice::Run(Node::B, t) => Joined(" B run ", Decimal(t)).append(line),
-            choice => Joined(b' ', Canonical(choice)).append(line),
+            Choice::Run(Node::A, t) => joined!(" A run ", Decimal(t)).append(line),
+            Choice::Run(Node::B, t) => joined!(" B run ", Decimal(t)).append(line),
+            choice => joined!(b' ', Canonical(choice)).append(line),
         }
     }
 }

@@ -5,7 +5,7 @@ use crate::lines::link::LinkLine;
 use crate::lines::mode::ModeLine;
 use crate::lines::page::Pages;
 use crate::lines::txn::Txns;
-use zy_io::{Both, LineBuffer, One, Section, Sink, TextFault};
+use zy_io::{AllLines, LineBuffer, One, Section, Sink, TextFault, sections};
 use zy_isa::Node;
 use zy_machine::Machine;
 
@@ -18,7 +18,8 @@ impl Section for FinalState<'_> {
 
     fn write<K: Sink>(&self, sink: &mut K, line: &mut LineBuffer) -> Result<(), TextFault> {
         let machine = self.0;
-        let modes = Both(
+        sections!(
+            One("final"),
             One(ModeLine {
                 node: Node::A,
                 mode: machine.mode(Node::A),
@@ -27,8 +28,7 @@ impl Section for FinalState<'_> {
                 node: Node::B,
                 mode: machine.mode(Node::B),
             }),
-        );
-        let links = Both(
+            AllLines(Pages(machine)),
             One(LinkLine {
                 node: Node::A,
                 link: machine.link(Node::A),
@@ -37,9 +37,8 @@ impl Section for FinalState<'_> {
                 node: Node::B,
                 link: machine.link(Node::B),
             }),
-        );
-        let head = Both(One("final"), modes);
-        let parts = Both(Pages(machine), Both(links, Txns(machine)));
-        Both(head, parts).write(sink, line)
+            AllLines(Txns(machine)),
+        )
+        .write(sink, line)
     }
 }

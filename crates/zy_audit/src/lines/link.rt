@@ -6,7 +6,7 @@ ghost use Rattle.zy_audit.specs.Texts.{link_text, message_text, messages_text};
 
 use crate::lines::words::LinkText;
 use std::alloc::AllocError;
-use zy_io::{Decimal, Joined, Line, LineBuffer};
+use zy_io::{Decimal, Line, LineBuffer, joined};
 use zy_isa::Node;
 use zy_links::{Link, Message};
 use zy_machine::Machine;
@@ -23,8 +23,8 @@ impl Line for MessageText<'_> {
             Message::Wire(_) => " wire".append(line),
             Message::Ready => " ready".append(line),
             Message::Dual => " dual".append(line),
-            Message::Pull(page) => Joined(" pull:", Decimal(*page)).append(line),
-            Message::Page(page) => Joined(" page:", Decimal(page.number())).append(line),
+            Message::Pull(page) => joined!(" pull:", Decimal(*page)).append(line),
+            Message::Page(page) => joined!(" page:", Decimal(page.number())).append(line),
             Message::Finish => " finish".append(line),
             Message::Done => " done".append(line),
         }
@@ -57,7 +57,7 @@ impl Line for LinkLine<'_> {
     ghost text = { λ l. link_text l.node (messages_of l.link.now.messages) };
 
     fn append(&self, line: &mut LineBuffer) -> Result<(), AllocError> {
-        Joined("link ", Joined(LinkText(self.node), Messages(self.link))).append(line)
+        joined!("link ", LinkText(self.node), Messages(self.link)).append(line)
     }
 }
 

@@ -5,7 +5,7 @@ ghost use Rattle.zy_audit.specs.Locked as spec;
 
 use crate::lines::page::page_line;
 use std::alloc::AllocError;
-use zy_io::{Decimal, Joined, Line, LineBuffer};
+use zy_io::{Decimal, Line, LineBuffer, joined};
 use zy_isa::Node;
 use zy_locks::{Lock, LockKind};
 use zy_machine::Machine;
@@ -38,8 +38,15 @@ impl Line for LockText {
 
     fn append(&self, line: &mut LineBuffer) -> Result<(), AllocError> {
         let Lock { page: _, txn, kind } = self.lock;
-        let holder = Joined(Decimal(txn), Joined(b':', KindText(kind)));
-        Joined(b' ', Joined(Canonical(self.node), Joined(b':', holder))).append(line)
+        joined!(
+            b' ',
+            Canonical(self.node),
+            b':',
+            Decimal(txn),
+            b':',
+            KindText(kind),
+        )
+        .append(line)
     }
 }
 
@@ -94,7 +101,7 @@ pub fn page_reply(machine: &Machine, page: u16, line: &mut LineBuffer) -> Result
     ensures { OnOk result (line.new ≡ line.old ++ spec.page_reply machine.now.state page) }
 {
     if machine.page(page).is_none() {
-        return Joined("page ", Joined(Decimal(page), " none")).append(line);
+        return joined!("page ", Decimal(page), " none").append(line);
     }
     let locks_of_a = LocksOn {
         node: Node::A,
@@ -107,5 +114,5 @@ pub fn page_reply(machine: &Machine, page: u16, line: &mut LineBuffer) -> Result
         locks: machine.locks(Node::B),
     };
     page_line(machine, page, line)?;
-    Joined(" locks", Joined(locks_of_a, locks_of_b)).append(line)
+    joined!(" locks", locks_of_a, locks_of_b).append(line)
 }

@@ -3,7 +3,7 @@ ghost use Rattle.zy_audit.specs.Texts.{mode_text};
 
 use crate::lines::words::ModeText;
 use std::alloc::AllocError;
-use zy_io::{Joined, Line, LineBuffer};
+use zy_io::{Line, LineBuffer, joined};
 use zy_isa::Node;
 use zy_modes::NodeMode;
 use zy_text::Canonical;
@@ -19,10 +19,6 @@ impl Line for ModeLine {
     ghost text = { λ l. mode_text l.node l.mode };
 
     fn append(&self, line: &mut LineBuffer) -> Result<(), AllocError> {
-        Joined(
-            "mode ",
-            Joined(Canonical(self.node), Joined(b' ', ModeText(self.mode))),
-        )
-        .append(line)
+        joined!("mode ", Canonical(self.node), b' ', ModeText(self.mode)).append(line)
     }
 }

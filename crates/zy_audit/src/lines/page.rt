@@ -9,8 +9,7 @@ ghost use Rattle.zy_audit.specs.Listing.{page_texts};
 use crate::lines::rows::Rows;
 use crate::lines::words::PlaceText;
 use std::alloc::AllocError;
-use zy_io::section::write_lines;
-use zy_io::{Decimal, Joined, Line, LineBuffer, Lines, Section, Sink, TextFault};
+use zy_io::{Decimal, Line, LineBuffer, Lines, joined};
 use zy_machine::Machine;
 use zy_page::Page;
 use zy_table::Place;
@@ -26,11 +25,17 @@ impl Line for PageLine<'_> {
     ghost text = { λ l. leaf_text l.place l.page.now };
 
     fn append(&self, line: &mut LineBuffer) -> Result<(), AllocError> {
-        let (number, low) = (self.page.number(), self.page.low());
-        let rows = Joined(" rows", Rows(self.page.rows()));
-        let contents = Joined(" low ", Joined(Decimal(low), rows));
-        let place = Joined(b' ', Joined(PlaceText(self.place), contents));
-        Joined("page ", Joined(Decimal(number), place)).append(line)
+        joined!(
+            "page ",
+            Decimal(self.page.number()),
+            b' ',
+            PlaceText(self.place),
+            " low ",
+            Decimal(self.page.low()),
+            " rows",
+            Rows(self.page.rows()),
+        )
+        .append(line)
     }
 }
 
@@ -61,13 +66,5 @@ impl Lines for Pages<'_> {
         // Proof: there are at most 512 pages, and each number below their count is a page's.
         let _count = self.0.page_count();
         page_line(self.0, place as u16, line)
-    }
-}
-
-impl Section for Pages<'_> {
-    ghost texts = { λ s. page_texts s.0.now.state };
-
-    fn write<K: Sink>(&self, sink: &mut K, line: &mut LineBuffer) -> Result<(), TextFault> {
-        write_lines(sink, line, self)
     }
 }

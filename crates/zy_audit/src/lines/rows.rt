@@ -2,7 +2,7 @@
 ghost use Rattle.zy_audit.specs.Texts.{cell_text, reg_text, regs_text, rows_text};
 
 use std::alloc::AllocError;
-use zy_io::{Decimal, Joined, Line, LineBuffer};
+use zy_io::{Decimal, Line, LineBuffer, joined};
 use zy_isa::Row;
 
 /// One row.
@@ -15,7 +15,7 @@ impl Line for Cell {
     #[inline(always)]
     fn append(&self, line: &mut LineBuffer) -> Result<(), AllocError> {
         let Row { key, value } = self.0;
-        Joined(b' ', Joined(Decimal(key), Joined(b'=', Decimal(value)))).append(line)
+        joined!(b' ', Decimal(key), b'=', Decimal(value)).append(line)
     }
 }
 
@@ -43,7 +43,7 @@ impl Line for Value {
 
     #[inline(always)]
     fn append(&self, line: &mut LineBuffer) -> Result<(), AllocError> {
-        Joined(b' ', Decimal(self.0)).append(line)
+        joined!(b' ', Decimal(self.0)).append(line)
     }
 }
 

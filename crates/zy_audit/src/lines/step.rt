@@ -7,8 +7,7 @@ ghost use Rattle.zy_audit.specs.Listing.{step_texts};
 use crate::lines::choice::SpacedChoice;
 use crate::lines::words::{KindText, WhyText};
 use std::alloc::AllocError;
-use zy_io::section::write_lines;
-use zy_io::{Decimal, Joined, Line, LineBuffer, Lines, Section, Sink, TextFault};
+use zy_io::{Decimal, Line, LineBuffer, Lines, joined};
 use zy_links::Kind;
 use zy_table::{Entry, Outcome};
 use zy_text::Canonical;
@@ -25,8 +24,15 @@ impl Line for SplitText {
     ghost text = { λ s. outcome_text (outcome.Split s.page s.new_page s.boundary) };
 
     fn append(&self, line: &mut LineBuffer) -> Result<(), AllocError> {
-        let upper = Joined(Decimal(self.new_page), Joined(b' ', Decimal(self.boundary)));
-        Joined("split ", Joined(Decimal(self.page), Joined(b' ', upper))).append(line)
+        joined!(
+            "split ",
+            Decimal(self.page),
+            b' ',
+            Decimal(self.new_page),
+            b' ',
+            Decimal(self.boundary),
+        )
+        .append(line)
     }
 }
 
@@ -41,7 +47,7 @@ impl Line for OutcomeText {
         match self.0 {
             Outcome::Started => "started".append(line),
             Outcome::BadMode => "badmode".append(line),
-            Outcome::Began(node) => Joined("began ", Canonical(node)).append(line),
+            Outcome::Began(node) => joined!("began ", Canonical(node)).append(line),
             Outcome::Idle => "idle".append(line),
             Outcome::Elsewhere => "elsewhere".append(line),
             Outcome::NotYet => "notyet".append(line),
@@ -58,25 +64,25 @@ impl Line for OutcomeText {
                 };
                 split.append(line)
             }
-            Outcome::Aborted(why) => Joined("aborted ", WhyText(why)).append(line),
-            Outcome::Committed(place) => Joined("committed ", Decimal(place)).append(line),
-            Outcome::Waits(page) => Joined("waits ", Decimal(page)).append(line),
-            Outcome::Pulls(page) => Joined("pulls ", Decimal(page)).append(line),
-            Outcome::Awaits(page) => Joined("awaits ", Decimal(page)).append(line),
+            Outcome::Aborted(why) => joined!("aborted ", WhyText(why)).append(line),
+            Outcome::Committed(place) => joined!("committed ", Decimal(place)).append(line),
+            Outcome::Waits(page) => joined!("waits ", Decimal(page)).append(line),
+            Outcome::Pulls(page) => joined!("pulls ", Decimal(page)).append(line),
+            Outcome::Awaits(page) => joined!("awaits ", Decimal(page)).append(line),
             Outcome::NoMessage => "nomessage".append(line),
             Outcome::GotWire => "got wire".append(line),
             Outcome::GotReady => "got ready".append(line),
             Outcome::GotDual => "got dual".append(line),
-            Outcome::Stale(page) => Joined("stale ", Decimal(page)).append(line),
-            Outcome::Held(page) => Joined("held ", Decimal(page)).append(line),
-            Outcome::GotPull(page) => Joined("got pull ", Decimal(page)).append(line),
-            Outcome::GotPage(page) => Joined("got page ", Decimal(page)).append(line),
+            Outcome::Stale(page) => joined!("stale ", Decimal(page)).append(line),
+            Outcome::Held(page) => joined!("held ", Decimal(page)).append(line),
+            Outcome::GotPull(page) => joined!("got pull ", Decimal(page)).append(line),
+            Outcome::GotPage(page) => joined!("got page ", Decimal(page)).append(line),
             Outcome::GotFinish => "got finish".append(line),
             Outcome::GotDone => "got done".append(line),
             Outcome::Stray => "stray".append(line),
             Outcome::Finishing => "finishing".append(line),
-            Outcome::Active(t) => Joined("active ", Decimal(t)).append(line),
-            Outcome::Pushed(page) => Joined("pushed ", Decimal(page)).append(line),
+            Outcome::Active(t) => joined!("active ", Decimal(t)).append(line),
+            Outcome::Pushed(page) => joined!("pushed ", Decimal(page)).append(line),
             Outcome::NoPush => "nopush".append(line),
         }
     }
@@ -93,7 +99,7 @@ impl Line for CameText {
     fn append(&self, line: &mut LineBuffer) -> Result<(), AllocError> {
         match self.0 {
             Outcome::Did => " -> did".append(line),
-            outcome => Joined(" -> ", OutcomeText(outcome)).append(line),
+            outcome => joined!(" -> ", OutcomeText(outcome)).append(line),
         }
     }
 }
@@ -109,7 +115,7 @@ impl Line for SentText {
     fn append(&self, line: &mut LineBuffer) -> Result<(), AllocError> {
         match self.0 {
             None => Ok(()),
-            Some(kind) => Joined(" ! ", KindText(kind)).append(line),
+            Some(kind) => joined!(" ! ", KindText(kind)).append(line),
         }
     }
 }
@@ -131,8 +137,13 @@ impl Line for StepLine<'_> {
             outcome,
             sent,
         } = *self.entry;
-        let came = Joined(CameText(outcome), SentText(sent));
-        Joined(Decimal(self.number), Joined(SpacedChoice(choice), came)).append(line)
+        joined!(
+            Decimal(self.number),
+            SpacedChoice(choice),
+            CameText(outcome),
+            SentText(sent),
+        )
+        .append(line)
     }
 }
 
@@ -152,13 +163,5 @@ impl Lines for Steps<'_> {
         let number = place + 1;
         let entry = &self.0[place];
         StepLine { number, entry }.append(line)
-    }
-}
-
-impl Section for Steps<'_> {
-    ghost texts = { λ s. step_texts 1 s.0.now };
-
-    fn write<K: Sink>(&self, sink: &mut K, line: &mut LineBuffer) -> Result<(), TextFault> {
-        write_lines(sink, line, self)
     }
 }

@@ -5,8 +5,7 @@ ghost use Rattle.zy_machine.specs.Histories.{choices_of};
 
 use crate::lines::choice::ChoiceText;
 use std::alloc::AllocError;
-use zy_io::section::write_lines;
-use zy_io::{Line, LineBuffer, Lines, Section, Sink, TextFault};
+use zy_io::{Line, LineBuffer, Lines};
 use zy_table::Entry;
 
 /// The choices of these steps, in order.
@@ -23,13 +22,5 @@ impl Lines for Taken<'_> {
     #[inline(always)]
     fn append(&self, place: usize, line: &mut LineBuffer) -> Result<(), AllocError> {
         ChoiceText(self.0[place].choice).append(line)
-    }
-}
-
-impl Section for Taken<'_> {
-    ghost texts = { λ s. map choice_text (choices_of s.0.now) };
-
-    fn write<K: Sink>(&self, sink: &mut K, line: &mut LineBuffer) -> Result<(), TextFault> {
-        write_lines(sink, line, self)
     }
 }

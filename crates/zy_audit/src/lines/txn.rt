@@ -8,8 +8,7 @@ ghost use Rattle.zy_audit.specs.Listing.{txn_texts};
 use crate::lines::rows::{Regs, Rows};
 use crate::lines::words::WhyText;
 use std::alloc::AllocError;
-use zy_io::section::write_lines;
-use zy_io::{Decimal, Joined, Line, LineBuffer, Lines, Section, Sink, TextFault};
+use zy_io::{Decimal, Line, LineBuffer, Lines, joined};
 use zy_machine::Machine;
 use zy_table::{CommitRec, Status, Why};
 use zy_text::Canonical;
@@ -41,8 +40,8 @@ impl Line for DoneText<'_> {
     ghost text = { λ d. done_text d.0.now };
 
     fn append(&self, line: &mut LineBuffer) -> Result<(), AllocError> {
-        let regs = Joined(" regs", Regs(self.0.regs()));
-        Joined(" done ", Joined(Decimal(self.0.done()), regs)).append(line)
+        let txn = self.0;
+        joined!(" done ", Decimal(txn.done()), " regs", Regs(txn.regs())).append(line)
     }
 }
 
@@ -55,12 +54,16 @@ impl Line for ActiveText<'_> {
 
     fn append(&self, line: &mut LineBuffer) -> Result<(), AllocError> {
         let txn = self.0;
-        let rows = Joined(" private", Rows(txn.rows()));
-        let place = Joined(
+        joined!(
+            " active ",
+            Canonical(txn.node()),
             " pc ",
-            Joined(Decimal(txn.pc()), Joined(DoneText(txn), rows)),
-        );
-        Joined(" active ", Joined(Canonical(txn.node()), place)).append(line)
+            Decimal(txn.pc()),
+            DoneText(txn),
+            " private",
+            Rows(txn.rows()),
+        )
+        .append(line)
     }
 }
 
@@ -75,8 +78,15 @@ impl Line for CommittedText<'_> {
     ghost text = { λ c. committed_text c.txn.now c.place };
 
     fn append(&self, line: &mut LineBuffer) -> Result<(), AllocError> {
-        let place = Joined(b' ', Joined(Decimal(self.place), DoneText(self.txn)));
-        Joined(" committed ", Joined(Canonical(self.txn.node()), place)).append(line)
+        let CommittedText { txn, place } = *self;
+        joined!(
+            " committed ",
+            Canonical(txn.node()),
+            b' ',
+            Decimal(place),
+            DoneText(txn),
+        )
+        .append(line)
     }
 }
 
@@ -91,8 +101,15 @@ impl Line for AbortedText<'_> {
     ghost text = { λ a. aborted_text a.txn.now a.why };
 
     fn append(&self, line: &mut LineBuffer) -> Result<(), AllocError> {
-        let why = Joined(b' ', Joined(WhyText(self.why), DoneText(self.txn)));
-        Joined(" aborted ", Joined(Canonical(self.txn.node()), why)).append(line)
+        let AbortedText { txn, why } = *self;
+        joined!(
+            " aborted ",
+            Canonical(txn.node()),
+            b' ',
+            WhyText(why),
+            DoneText(txn),
+        )
+        .append(line)
     }
 }
 
@@ -131,7 +148,7 @@ pub fn txn_line(machine: &Machine, t: u8, line: &mut LineBuffer) -> Result<(), A
         t,
         txn: machine.txn(t),
     };
-    Joined("txn ", Joined(Decimal(t), status)).append(line)
+    joined!("txn ", Decimal(t), status).append(line)
 }
 
 /// All transactions, by number.
@@ -149,13 +166,5 @@ impl Lines for Txns<'_> {
         // Proof: there are at most 64 transactions.
         let _count = self.0.txn_count();
         txn_line(self.0, place as u8, line)
-    }
-}
-
-impl Section for Txns<'_> {
-    ghost texts = { λ s. txn_texts s.0.now.state };
-
-    fn write<K: Sink>(&self, sink: &mut K, line: &mut LineBuffer) -> Result<(), TextFault> {
-        write_lines(sink, line, self)
     }
 }

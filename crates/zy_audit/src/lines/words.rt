@@ -2,7 +2,7 @@
 ghost use Rattle.zy_audit.specs.Texts.{kind_text, link_word, mode_word, place_text, why_text};
 
 use std::alloc::AllocError;
-use zy_io::{Decimal, Joined, Line, LineBuffer};
+use zy_io::{Decimal, Line, LineBuffer, joined};
 use zy_isa::Node;
 use zy_links::Kind;
 use zy_modes::NodeMode;
@@ -23,9 +23,9 @@ impl Line for WhyText {
             Why::BadKey => "badkey".append(line),
             Why::Missing => "missing".append(line),
             Why::Duplicate => "duplicate".append(line),
-            Why::Frozen(page) => Joined("frozen ", Decimal(page)).append(line),
+            Why::Frozen(page) => joined!("frozen ", Decimal(page)).append(line),
             Why::NoPage => "nopage".append(line),
-            Why::Gone(page) => Joined("gone ", Decimal(page)).append(line),
+            Why::Gone(page) => joined!("gone ", Decimal(page)).append(line),
         }
     }
 }
