@@ -3,4 +3,5 @@ pub mod ModeLines
 pub mod Txns
 pub mod PlayPush
 pub mod Events
+pub mod Kinds
 pub mod Reordered

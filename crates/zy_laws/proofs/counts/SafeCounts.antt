@@ -28,10 +28,11 @@ use Rattle.zy_table.specs.Serial.{is_committed}
 use Rattle.zy_table.specs.declared.status.Status.TheVariants.{Aborted, Active, Committed, New}
 use Rattle.zy_table.specs.State.{State, Txn, View, facing, seen_from}
 use Rattle.zy_table.specs.declared.status.Status.{Status}
-use Rattle.zy_laws.proofs.walk.Events.{Aborts, Begins, Commits, Event, Gets, Inserts, Rests, Runs, SumsUp, Writes, step_happens, Splits, Asks, Starts, GotWire}
-use Rattle.zy_laws.proofs.walk.Events.{GotReady, GotDual, IsStale, Gives, GotPage, GotLast, GotFinish, GotAll, GotDone, Finishes, Pushes, GoesOn, Leads, BySet}
+use Rattle.zy_laws.proofs.walk.Events.{Aborts, Begins, Commits, Event, Gets, Inserts, Runs, SumsUp, Writes, step_happens, Splits}
+use Rattle.zy_laws.proofs.walk.Events.{GoesOn, Leads, BySet}
 use Rattle.zy_laws.proofs.walk.Events.{ByJump, BySum}
-use Rattle.zy_laws.proofs.walk.Txns.{at_back, at_either, at_other, at_side, blank_at}
+use Rattle.zy_laws.proofs.walk.Txns.{at_same, at_back, at_either, at_other, at_side, blank_at}
+use Rattle.zy_laws.proofs.walk.Kinds.{quiet_of}
 
 -- no element passes the test where none is found
 none_passes : {X : Type 0} (f : X → Bool) (xs : List X) (i : ℕ) (x : X) → slice_get xs i ≡ Some x → length xs ≤ position_or_len f xs → f x ≡ false
@@ -131,7 +132,6 @@ txns_of v = v.txns
 -- what an event does to each transaction
 fate : (sc : Scenario) (n : Node) (v w : View) (u : ℕ) → Event sc n v w → Fate sc u (txn_at v u) (txn_at w u)
 unfolding did locked shares txn_at aborted begun committed cut asks leaves
-fate sc n v w u (Rests e) = rw e (Same refl)
 fate sc n v w u (Begins t h a new home e) = fate_set sc v w t u _ (ap txns_of e) (Fresh refl refl refl)
 fate sc n v w u (Aborts t y active here e) = fate_set sc v w t u _ (ap txns_of e) (Ends (omega arith) refl refl)
 fate sc n v w u (GoesOn t x pc regs runs leads e) =
@@ -143,20 +143,7 @@ fate sc n v w u (Writes t key value runs f there e) = fate_set sc v w t u _ (ap 
 fate sc n v w u (Inserts t key value runs f new room e) = fate_set sc v w t u _ (ap txns_of e) (Went refl refl (next_place sc n t _ v runs refl))
 fate sc n v w u (Splits t key value runs f new full normal pages e) = rw e (Same refl)
 fate sc n v w u (Commits t runs whole e) = fate_set sc v w t u _ (ap txns_of e) (Ends (omega arith) refl refl)
-fate sc n v w u (Asks p gone may new e) = rw e (Same refl)
-fate sc n v w u (Starts at_a a b e) = rw e (Same refl)
-fate sc n v w u (GotWire lows ms f m e) = rw e (Same refl)
-fate sc n v w u (GotReady ms f m e) = rw e (Same refl)
-fate sc n v w u (GotDual ms f m e) = rw e (Same refl)
-fate sc n v w u (IsStale p ms f e) = rw e (Same refl)
-fate sc n v w u (Gives p ms f m own free e) = rw e (Same refl)
-fate sc n v w u (GotPage leaf ms f m e) = rw e (Same refl)
-fate sc n v w u (GotLast leaf ms f m all e) = rw e (Same refl)
-fate sc n v w u (GotFinish ms f m e) = rw e (Same refl)
-fate sc n v w u (GotAll ms f m all e) = rw e (Same refl)
-fate sc n v w u (GotDone ms f m e) = rw e (Same refl)
-fate sc n v w u (Finishes m none e) = rw e (Same refl)
-fate sc n v w u (Pushes p m own e) = rw e (Same refl)
+fate sc n v w u e = Same (at_same v w u (quiet_of e refl).txns)
 
 -- a transaction stays within its bounds, with one choice more
 counted_fate : (sc : Scenario) (count u : ℕ) (x y : Txn) → IsProgram (program_of sc u) → Fate sc u x y → Counted sc count u x
@@ -234,7 +221,6 @@ tallied_step v w t y e c a b = let off = active_off (txn_at v t).status b in tal
 -- each event lists as many commits as it makes
 tallied : (sc : Scenario) (n : Node) (v w : View) → Event sc n v w → Tallied v w
 unfolding did locked shares txn_at aborted begun committed cut asks leaves
-tallied sc n v w (Rests e) = rw e (tallied_same v v refl refl)
 tallied sc n v w (Begins t h a new home e) = rw e (tallied_set v _ t _ refl refl refl (new_off (txn_at v t).status new))
 tallied sc n v w (Aborts t y active here e) = rw e (tallied_set v _ t _ refl refl refl (active_off (txn_at v t).status active))
 tallied sc n v w (GoesOn t x pc regs runs leads e) = rw e (tallied_step v _ t _ refl refl refl runs.active)
@@ -251,20 +237,7 @@ tallied sc n v w (Commits t runs whole e) = rw e (record {
     length-append v.commits (record { txn = t; done = (txn_at v t).done + 1 } ∷ []),
   );
 })
-tallied sc n v w (Asks p gone may new e) = rw e (tallied_same v _ refl refl)
-tallied sc n v w (Starts at_a a b e) = rw e (tallied_same v _ refl refl)
-tallied sc n v w (GotWire lows ms f m e) = rw e (tallied_same v _ refl refl)
-tallied sc n v w (GotReady ms f m e) = rw e (tallied_same v _ refl refl)
-tallied sc n v w (GotDual ms f m e) = rw e (tallied_same v _ refl refl)
-tallied sc n v w (IsStale p ms f e) = rw e (tallied_same v _ refl refl)
-tallied sc n v w (Gives p ms f m own free e) = rw e (tallied_same v _ refl refl)
-tallied sc n v w (GotPage leaf ms f m e) = rw e (tallied_same v _ refl refl)
-tallied sc n v w (GotLast leaf ms f m all e) = rw e (tallied_same v _ refl refl)
-tallied sc n v w (GotFinish ms f m e) = rw e (tallied_same v _ refl refl)
-tallied sc n v w (GotAll ms f m all e) = rw e (tallied_same v _ refl refl)
-tallied sc n v w (GotDone ms f m e) = rw e (tallied_same v _ refl refl)
-tallied sc n v w (Finishes m none e) = rw e (tallied_same v _ refl refl)
-tallied sc n v w (Pushes p m own e) = rw e (tallied_same v _ refl refl)
+tallied sc n v w e = let q = quiet_of e refl in tallied_same v w q.txns q.commits
 
 -- over every schedule
 record Sums (sc : Scenario) (count : ℕ) (s : State) : Type 0 where

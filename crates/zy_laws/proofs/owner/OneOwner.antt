@@ -24,9 +24,9 @@ use Rattle.zy_table.specs.Play.{move, opening, opening_leaves, opening_pages, pl
 use Rattle.zy_table.specs.Run.{boundary}
 use Rattle.zy_table.specs.State.{Leaf, Message, NodeState, State, View, facing, post, seen_from, with_me}
 use Rattle.zy_table.specs.Take.{all_here}
-use Rattle.zy_laws.proofs.walk.Events.{Aborts, Asks, Begins as Begun, Commits, Event, Finishes, Gets, Gives, GotAll, GotDone, GotDual, GotFinish, GotLast, GotPage}
-use Rattle.zy_laws.proofs.walk.Events.{GotReady, GotWire, Inserts, IsStale, Pushes, Rests, SumsUp, Splits, Starts, Writes, arrived, has_lock, page, rest}
-use Rattle.zy_laws.proofs.walk.Events.{step_happens, GoesOn}
+use Rattle.zy_laws.proofs.walk.Events.{Asks, Commits, Event, Finishes, Gives, GotAll, GotDone, GotDual, GotFinish, GotLast, GotPage}
+use Rattle.zy_laws.proofs.walk.Events.{GotReady, GotWire, IsStale, Pushes, Splits, Starts, arrived, has_lock, page, rest}
+use Rattle.zy_laws.proofs.walk.Events.{step_happens}
 use Rattle.zy_laws.proofs.walk.ModeLines.{pulls_in, sends_in, splits_in_normal}
 use Rattle.zy_laws.proofs.owner.MovingPages.{all_below-owns, leaf_at-number}
 use Rattle.zy_laws.proofs.owner.PageCounts.{owns-times, times-all_leaves, times-installed, times-lowered, times-with_page, times-without, times_in, times_sent}
@@ -36,6 +36,7 @@ use Rattle.zy_laws.proofs.owner.PhaseSteps.{SameShape, asked_for, cut_source, cu
 use Rattle.zy_laws.proofs.owner.PhaseSteps.{no_pull, page_came, page_left, pull_came, ready_came, sending_lows, source_of, source_same, started, taker_of, wire_came}
 use Rattle.zy_laws.proofs.walk.PlayPush.{play-keeps}
 use Rattle.zy_laws.proofs.owner.Roles.{Bare, Destination, Inv, Owned, Roles, Source, normal_other, places, turned, turned_inv, width}
+use Rattle.zy_laws.proofs.walk.Kinds.{in_place_of}
 
 -- a step that keeps a node's shape and the links keeps the roles
 roles_same : (v w : View) → SameShape v.me w.me → w.them ≡ v.them → w.inbox ≡ v.inbox → w.outbox ≡ v.outbox → Roles v → Roles w
@@ -350,14 +351,6 @@ done_inv v ms i f finish =
 -- each event keeps roles and owners
 pub inv_event : (sc : Scenario) (n : Node) (v w : View) → Inv v → Event sc n v w → Inv w
 unfolding did locked shares txn_at aborted begun committed
-inv_event sc n v w i (Rests e) = rw e i
-inv_event sc n v w i (Begun t h a new home e) = rw e (locks_inv v _ (refl, refl, refl) refl refl refl i)
-inv_event sc n v w i (Aborts t y active here e) = rw e (locks_inv v _ (refl, refl, refl) refl refl refl i)
-inv_event sc n v w i (GoesOn t x pc regs runs leads e) = rw e (locks_inv v _ (refl, refl, refl) refl refl refl i)
-inv_event sc n v w i (Gets t r key runs f e) = rw e (locks_inv v _ (refl, refl, refl) refl refl refl i)
-inv_event sc n v w i (SumsUp t r first last runs f e) = rw e (locks_inv v _ (refl, refl, refl) refl refl refl i)
-inv_event sc n v w i (Writes t key value runs f there e) = rw e (locks_inv v _ (refl, refl, refl) refl refl refl i)
-inv_event sc n v w i (Inserts t key value runs f new room e) = rw e (locks_inv v _ (refl, refl, refl) refl refl refl i)
 inv_event sc n v w i (Splits t key value runs f new full normal pages e) =
     let locked = locks_inv v (has_lock t key Exclusive v) (refl, refl, refl) refl refl refl i in
     rw e (cut_inv t (page key v) (boundary sc key (page key v) v.me (txn_at v t)) (has_lock t key Exclusive v) normal locked)
@@ -382,6 +375,7 @@ inv_event sc n v w i (GotAll ms f dual all e) = rw e (all_inv (turns DFinish (re
 inv_event sc n v w i (GotDone ms f finish e) = rw e (done_inv v ms i f finish)
 inv_event sc n v w i (Finishes dual none e) = rw e (finishes_inv v i dual)
 inv_event sc n v w i (Pushes p finish own e) = rw e (leaves_inv p v i (ap is_sending finish) own)
+inv_event sc n v w i e = let k = in_place_of e refl in locks_inv v w (k.mode, k.lows, k.pages) k.them k.inbox k.outbox i
 
 -- what holds from A's side holds from each
 pub inv_from : (n : Node) (s : State) → Inv (facing A s) → Inv (facing n s)

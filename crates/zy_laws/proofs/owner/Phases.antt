@@ -11,45 +11,27 @@ use Rattle.zy_laws.specs.Journey.{Begins}
 abbrev pub AllPages : List Message → Type 0
 AllPages [] = Unit {0}
 AllPages (Page leaf ∷ ms) = AllPages ms
-AllPages (Wire lows ∷ ms) = ⊥
-AllPages (Ready ∷ ms) = ⊥
-AllPages (Dual ∷ ms) = ⊥
-AllPages (Pull p ∷ ms) = ⊥
-AllPages (Finish ∷ ms) = ⊥
-AllPages (Done ∷ ms) = ⊥
+AllPages ms = ⊥
 
 -- pages and one finish among them
 abbrev pub PagesAndFinish : List Message → Type 0
 PagesAndFinish [] = ⊥
 PagesAndFinish (Page leaf ∷ ms) = PagesAndFinish ms
 PagesAndFinish (Finish ∷ ms) = AllPages ms
-PagesAndFinish (Wire lows ∷ ms) = ⊥
-PagesAndFinish (Ready ∷ ms) = ⊥
-PagesAndFinish (Dual ∷ ms) = ⊥
-PagesAndFinish (Pull p ∷ ms) = ⊥
-PagesAndFinish (Done ∷ ms) = ⊥
+PagesAndFinish ms = ⊥
 
 -- pulls alone
 abbrev pub AllPulls : List Message → Type 0
 AllPulls [] = Unit {0}
 AllPulls (Pull p ∷ ms) = AllPulls ms
-AllPulls (Page leaf ∷ ms) = ⊥
-AllPulls (Wire lows ∷ ms) = ⊥
-AllPulls (Ready ∷ ms) = ⊥
-AllPulls (Dual ∷ ms) = ⊥
-AllPulls (Finish ∷ ms) = ⊥
-AllPulls (Done ∷ ms) = ⊥
+AllPulls ms = ⊥
 
 -- pulls and then one done
 abbrev pub PullsAndDone : List Message → Type 0
 PullsAndDone [] = ⊥
 PullsAndDone (Pull p ∷ ms) = PullsAndDone ms
 PullsAndDone (Done ∷ ms) = ms ≡ []
-PullsAndDone (Page leaf ∷ ms) = ⊥
-PullsAndDone (Wire lows ∷ ms) = ⊥
-PullsAndDone (Ready ∷ ms) = ⊥
-PullsAndDone (Dual ∷ ms) = ⊥
-PullsAndDone (Finish ∷ ms) = ⊥
+PullsAndDone ms = ⊥
 
 -- every number of the wireframe is there
 pub record AllThere (x : NodeState) : Type 0 where
@@ -73,97 +55,54 @@ pub data Phase (src dst : NodeState) (out back : List Message) : Type 0 where
 pub pages_post : (ms : List Message) (leaf : Leaf) → AllPages ms → AllPages (ms ++ Page leaf ∷ [])
 pages_post [] leaf h = tt
 pages_post (Page x ∷ ms) leaf h = pages_post ms leaf h
-pages_post (Wire lows ∷ ms) leaf h = h
-pages_post (Ready ∷ ms) leaf h = h
-pages_post (Dual ∷ ms) leaf h = h
-pages_post (Pull p ∷ ms) leaf h = h
-pages_post (Finish ∷ ms) leaf h = h
-pages_post (Done ∷ ms) leaf h = h
+pages_post ms leaf h = absurd h
 
 -- a finish behind pages is a finish among pages
 pub finish_post : (ms : List Message) → AllPages ms → PagesAndFinish (ms ++ Finish ∷ [])
 finish_post [] h = tt
 finish_post (Page x ∷ ms) h = finish_post ms h
-finish_post (Wire lows ∷ ms) h = h
-finish_post (Ready ∷ ms) h = h
-finish_post (Dual ∷ ms) h = h
-finish_post (Pull p ∷ ms) h = h
-finish_post (Finish ∷ ms) h = absurd h
-finish_post (Done ∷ ms) h = h
+finish_post ms h = absurd h
 
 -- a page more leaves one finish among pages
 pub pages_finish_post : (ms : List Message) (leaf : Leaf) → PagesAndFinish ms → PagesAndFinish (ms ++ Page leaf ∷ [])
-pages_finish_post [] leaf h = absurd h
 pages_finish_post (Page x ∷ ms) leaf h = pages_finish_post ms leaf h
 pages_finish_post (Finish ∷ ms) leaf h = pages_post ms leaf h
-pages_finish_post (Wire lows ∷ ms) leaf h = h
-pages_finish_post (Ready ∷ ms) leaf h = h
-pages_finish_post (Dual ∷ ms) leaf h = h
-pages_finish_post (Pull p ∷ ms) leaf h = h
-pages_finish_post (Done ∷ ms) leaf h = h
+pages_finish_post ms leaf h = absurd h
 
 -- pulls and one more are pulls
 pub pulls_post : (ms : List Message) (p : ℕ) → AllPulls ms → AllPulls (ms ++ Pull p ∷ [])
 pulls_post [] p h = tt
 pulls_post (Pull q ∷ ms) p h = pulls_post ms p h
-pulls_post (Page x ∷ ms) p h = h
-pulls_post (Wire lows ∷ ms) p h = h
-pulls_post (Ready ∷ ms) p h = h
-pulls_post (Dual ∷ ms) p h = h
-pulls_post (Finish ∷ ms) p h = h
-pulls_post (Done ∷ ms) p h = h
+pulls_post ms p h = absurd h
 
 -- a done behind pulls is pulls and then a done
 pub done_post : (ms : List Message) → AllPulls ms → PullsAndDone (ms ++ Done ∷ [])
 done_post [] h = refl
 done_post (Pull q ∷ ms) h = done_post ms h
-done_post (Page x ∷ ms) h = h
-done_post (Wire lows ∷ ms) h = h
-done_post (Ready ∷ ms) h = h
-done_post (Dual ∷ ms) h = h
-done_post (Finish ∷ ms) h = h
-done_post (Done ∷ ms) h = absurd h
+done_post ms h = absurd h
 
 -- what the front of such a link is
 pub pulls_front : (m : Message) (ms : List Message) → AllPulls (m ∷ ms) → (p : ℕ) × (m ≡ Pull p) × AllPulls ms
 pulls_front (Pull p) ms h = (p, refl, h)
-pulls_front (Page x) ms h = absurd h
-pulls_front (Wire lows) ms h = absurd h
-pulls_front Ready ms h = absurd h
-pulls_front Dual ms h = absurd h
-pulls_front Finish ms h = absurd h
-pulls_front Done ms h = absurd h
+pulls_front m ms h = absurd h
 
 -- the front of a link of pages is a page
 pub pages_front : (m : Message) (ms : List Message) → AllPages (m ∷ ms) → (leaf : Leaf) × (m ≡ Page leaf) × AllPages ms
 pages_front (Page x) ms h = (x, refl, h)
-pages_front (Pull p) ms h = absurd h
-pages_front (Wire lows) ms h = absurd h
-pages_front Ready ms h = absurd h
-pages_front Dual ms h = absurd h
-pages_front Finish ms h = absurd h
-pages_front Done ms h = absurd h
+pages_front m ms h = absurd h
 
 -- the front of a link of pages and a finish is a page or the finish
 pub finish_front : (m : Message) (ms : List Message) → PagesAndFinish (m ∷ ms) → ((leaf : Leaf) × (m ≡ Page leaf) × PagesAndFinish ms)
     ⊎ ((m ≡ Finish) × AllPages ms)
 finish_front (Page x) ms h = inl (x, refl, h)
 finish_front Finish ms h = inr (refl, h)
-finish_front (Pull p) ms h = absurd h
-finish_front (Wire lows) ms h = absurd h
-finish_front Ready ms h = absurd h
-finish_front Dual ms h = absurd h
-finish_front Done ms h = absurd h
+finish_front m ms h = absurd h
 
 -- the front of a link of pulls and a done is a pull, or the done and the last
 pub done_front : (m : Message) (ms : List Message) → PullsAndDone (m ∷ ms) → ((p : ℕ) × (m ≡ Pull p) × PullsAndDone ms) ⊎ ((m ≡ Done) × (ms ≡ []))
 done_front (Pull p) ms h = inl (p, refl, h)
 done_front Done ms h = inr (refl, h)
-done_front (Page x) ms h = absurd h
-done_front (Wire lows) ms h = absurd h
-done_front Ready ms h = absurd h
-done_front Dual ms h = absurd h
-done_front Finish ms h = absurd h
+done_front m ms h = absurd h
 
 -- a list is at least as long as one that begins it
 pub begins_length : (xs ys : List ℕ) → Begins xs ys → length xs ≤ length ys

@@ -11,27 +11,27 @@ use Rattle.zy_isa.specs.Scenario.{Scenario}
 use Rattle.zy_isa.specs.declared.node.Node.{Node}
 use Rattle.zy_locks.specs.declared.lock.LockKind.{LockKind}
 use Rattle.zy_locks.specs.declared.lock.LockKind.TheVariants.{Shared}
-use Rattle.zy_table.specs.Change.{aborted, asks, begun, committed, did, installed, leaves, locked, shares, turns, txn_at, with_lows}
+use Rattle.zy_table.specs.Change.{aborted, begun, committed, did, installed, leaves, locked, shares, turns, txn_at}
 use Rattle.zy_table.specs.Client.{is_new}
 use Rattle.zy_table.specs.Database.{sent_leaves}
 use Rattle.zy_table.specs.Holders.{holds, holds_alone}
-use Rattle.zy_links.specs.Messages.{Wire, Ready, Dual, Pull, Page, Finish, Done}
+use Rattle.zy_links.specs.Messages.{Pull, Page, Done}
 use Rattle.zy_modes.specs.declared.mode.NodeMode.{NodeMode}
-use Rattle.zy_modes.specs.declared.mode.NodeMode.TheVariants.{Empty, Normal, SInit, SDual, SFinish, DInit, DDual, DFinish}
+use Rattle.zy_modes.specs.declared.mode.NodeMode.TheVariants.{Normal}
 use Rattle.zy_laws.specs.OneOwner.{times}
 use Rattle.zy_table.specs.Pages.{leaf_at, owns, rows_of, with_page, without}
 use Rattle.zy_table.specs.Rows.{rows_on}
 use Rattle.zy_table.specs.Run.{boundary, has_room, is_there}
 use Rattle.zy_table.specs.declared.status.Status.TheVariants.{Aborted, Committed}
-use Rattle.zy_table.specs.State.{Leaf, Message, Txn, View, post, with_me}
+use Rattle.zy_table.specs.State.{Leaf, Message, Txn, View, post}
 use Rattle.zy_wire.specs.Wireframe.{page_of}
 use Rattle.zy_table.specs.declared.outcome.Why.{Why}
 use Rattle.zy_laws.proofs.places.Boundary.{boundary_new}
 use Rattle.zy_laws.proofs.room.CutFit.{cut_fit}
 use Rattle.zy_laws.proofs.locks.LockingSteps.{home_placed, split_on}
 use Rattle.zy_laws.proofs.room.EachPage.{Each, each_append, each_at, each_both, each_front, each_installed, each_map, each_with_page, each_without}
-use Rattle.zy_laws.proofs.walk.Events.{Aborts, Begins, Commits, Event, Gets, Inserts, Rests, SumsUp, Writes, Splits, Asks, Starts, GotWire, GotReady, GotDual}
-use Rattle.zy_laws.proofs.walk.Events.{IsStale, Gives, GotPage, GotLast, GotFinish, GotAll, GotDone, Finishes, Pushes, has_lock, page, puts, lows_after, arrived}
+use Rattle.zy_laws.proofs.walk.Events.{Aborts, Begins, Commits, Event, Gets, Inserts, SumsUp, Writes, Splits}
+use Rattle.zy_laws.proofs.walk.Events.{Gives, GotPage, GotLast, Pushes, has_lock, page, puts, lows_after, arrived}
 use Rattle.zy_laws.proofs.walk.Events.{rest, GoesOn}
 use Rattle.zy_laws.proofs.room.Fit.{Fit, Room, Sized, commit_room, fit_acts, fit_stays, put_room}
 use Rattle.zy_table.proofs.LockLists.{exclusive_holds}
@@ -45,6 +45,7 @@ use Rattle.zy_laws.proofs.owner.Roles.{Owned}
 use Rattle.zy_laws.proofs.order.Ordered.{not_here}
 use Rattle.zy_laws.proofs.room.Room.{installed_length, need, need_is, need_none}
 use Rattle.zy_laws.proofs.walk.Txns.{IsAt, at_either, at_self, not_both_nodes, not_new}
+use Rattle.zy_laws.proofs.walk.Kinds.{quiet_of, unmoved_of}
 
 -- a transaction without private rows has room
 empty_room : (cap : ℕ) (lows : List ℕ) (xs : List Leaf) → Each (Sized cap) xs → Each (Room cap lows []) xs
@@ -217,15 +218,6 @@ post_fit sc n v lows m f bare = fit_stays sc n v (post m v) lows f refl refl ref
 turns_fit : (sc : Scenario) (n : Node) (v : View) (lows : List ℕ) (mode : NodeMode) → Fit sc n v lows → Fit sc n (turns mode v) lows
 turns_fit sc n v lows mode f = fit_stays sc n v (turns mode v) lows f refl refl refl refl refl
 
--- another wireframe keeps room
-lows_fit : (sc : Scenario) (n : Node) (v : View) (lows sent : List ℕ) → Fit sc n v lows → Fit sc n (with_me (with_lows sent v.me) v) lows
-lows_fit sc n v lows sent f = fit_stays sc n v (with_me (with_lows sent v.me) v) lows f refl refl refl refl refl
-
--- asking for a page keeps room
-asks_fit : (sc : Scenario) (n : Node) (v : View) (lows : List ℕ) (p : ℕ) → Fit sc n v lows → Fit sc n (asks p v) lows
-unfolding asks
-asks_fit sc n v lows p f = fit_stays sc n v _ lows f refl refl refl refl (sent_bare v.outbox (Pull p) refl)
-
 -- room in a view is room in an equal one
 fit_along : (sc : Scenario) (n : Node) (w x : View) (lows : List ℕ) → w ≡ x → Fit sc n x lows → Fit sc n w lows
 fit_along sc n w x lows e f = subst (λ z. Fit sc n z lows) (sym e) f
@@ -233,7 +225,6 @@ fit_along sc n w x lows e f = subst (λ z. Fit sc n z lows) (sym e) f
 -- each event keeps room
 pub fit_event : (sc : Scenario) (n : Node) (v w : View) (lows : List ℕ) → 2 ≤ sc.cap → Kept sc n v lows → Fit sc n v lows → (e : Event sc n v w)
     → Fit sc n w (lows_after sc n v w lows e)
-fit_event sc n v w lows two k f (Rests e) = fit_along sc n w v lows e f
 fit_event sc n v w lows two k f (Begins t h a new home e) = fit_along sc n w _ lows e (begun_fit sc n v lows t h f new)
 fit_event sc n v w lows two k f (Aborts t y active here e) = fit_along sc n w _ lows e (aborted_fit sc n v lows t y f (active, here))
 fit_event sc n v w lows two k f (GoesOn t x pc regs runs leads e) = fit_along sc n w _ lows e (did_fit sc n v lows t _ _ f (runs.active, runs.here))
@@ -253,23 +244,10 @@ fit_event sc n v w lows two k f (Splits t key value runs g new full normal pages
     let other = boundary_new sc t key p v k.first.0 (newest ∙ k.first.1) two (home_placed sc n v lows t k at) refl full committed (f.rising t) new in
     fit_along sc n w _ (lows ++ b ∷ []) e (cut_fit sc n v lows t key b k f at g normal (split_on sc n v lows t key value k runs full) other)
 fit_event sc n v w lows two k f (Commits t runs whole e) = fit_along sc n w _ lows e (committed_fit sc n v lows t k f (runs.active, runs.here))
-fit_event sc n v w lows two k f (Asks p gone may new e) = fit_along sc n w _ lows e (asks_fit sc n v lows p f)
-fit_event sc n v w lows two k f (Starts at_a a b e) = fit_along sc n w _ lows e (post_fit sc n _ lows (Wire v.me.lows) (turns_fit sc n v lows SInit f) refl)
-fit_event sc n v w lows two k f (GotWire sent ms g m e) = fit_along sc n w _ lows e
-    (post_fit sc n _ lows Ready (turns_fit sc n _ lows DInit (lows_fit sc n (rest v ms) lows sent (rest_fit sc n v lows (Wire sent) ms f g refl))) refl)
-fit_event sc n v w lows two k f (GotReady ms g m e) = fit_along sc n w _ lows e
-    (post_fit sc n _ lows Dual (turns_fit sc n _ lows SDual (rest_fit sc n v lows Ready ms f g refl)) refl)
-fit_event sc n v w lows two k f (GotDual ms g m e) = fit_along sc n w _ lows e (turns_fit sc n _ lows DDual (rest_fit sc n v lows Dual ms f g refl))
-fit_event sc n v w lows two k f (IsStale p ms g e) = fit_along sc n w _ lows e (rest_fit sc n v lows (Pull p) ms f g refl)
 fit_event sc n v w lows two k f (Gives p ms g m own free e) = fit_along sc n w _ lows e
     (leaves_fit sc n (rest v ms) lows p (rest_fit sc n v lows (Pull p) ms f g refl) own)
 fit_event sc n v w lows two k f (GotPage leaf ms g m e) = fit_along sc n w _ lows e (arrived_fit sc n v lows leaf ms g (takes_in v.me.mode m) k f)
 fit_event sc n v w lows two k f (GotLast leaf ms g m all e) = fit_along sc n w _ lows e
     (post_fit sc n _ lows Done (turns_fit sc n _ lows Normal (arrived_fit sc n v lows leaf ms g (ap is_source m) k f)) refl)
-fit_event sc n v w lows two k f (GotFinish ms g m e) = fit_along sc n w _ lows e (turns_fit sc n _ lows DFinish (rest_fit sc n v lows Finish ms f g refl))
-fit_event sc n v w lows two k f (GotAll ms g m all e) = fit_along sc n w _ lows e
-    (post_fit sc n _ lows Done (turns_fit sc n _ lows Normal (rest_fit sc n v lows Finish ms f g refl)) refl)
-fit_event sc n v w lows two k f (GotDone ms g m e) = fit_along sc n w _ lows e
-    (turns_fit sc n _ lows Empty (lows_fit sc n (rest v ms) lows [] (rest_fit sc n v lows Done ms f g refl)))
-fit_event sc n v w lows two k f (Finishes m none e) = fit_along sc n w _ lows e (post_fit sc n _ lows Finish (turns_fit sc n v lows SFinish f) refl)
 fit_event sc n v w lows two k f (Pushes p m own e) = fit_along sc n w _ lows e (leaves_fit sc n v lows p f own)
+fit_event sc n v w lows two k f e = let q = unmoved_of e refl in fit_stays sc n v w lows f (quiet_of e refl).txns q.pages q.them q.inbox q.outbox

@@ -36,9 +36,9 @@ use Rattle.zy_laws.proofs.serial.Values.{event_db}
 use Rattle.zy_laws.proofs.serial.CutValues.{cut_db}
 use Rattle.zy_laws.proofs.owner.Roles.{normal_other}
 use Rattle.zy_laws.proofs.serial.Committing.{committed_serial}
-use Rattle.zy_laws.proofs.walk.Events.{Aborts, Begins, Commits, Event, Gets, Inserts, Rests, Runs, SumsUp, Writes, has_lock, has_locks, page, sum_at, value_at, Free}
-use Rattle.zy_laws.proofs.walk.Events.{FreeRange, Splits, lows_after, Asks, Starts, GotWire, GotReady, GotDual, IsStale, Gives, GotPage, GotLast, GotFinish, GotAll}
-use Rattle.zy_laws.proofs.walk.Events.{GotDone, Finishes, Pushes, GoesOn, Leads, BySet, ByJump, BySum}
+use Rattle.zy_laws.proofs.walk.Events.{Aborts, Begins, Commits, Event, Gets, Inserts, Runs, SumsUp, Writes, has_lock, has_locks, page, sum_at, value_at, Free}
+use Rattle.zy_laws.proofs.walk.Events.{FreeRange, Splits, lows_after}
+use Rattle.zy_laws.proofs.walk.Events.{GoesOn, Leads, BySet, ByJump, BySum}
 use Rattle.zy_laws.proofs.serial.Following.{Follows, Serially, active_not, follows_same, keep_registers, new_not, registers_same}
 use Rattle.zy_laws.proofs.locks.LockingSteps.{has_lock_locking, split_on}
 use Rattle.zy_table.proofs.LockLists.{alone_new, holds-drop, holds_more, holds_new}
@@ -49,6 +49,7 @@ use Rattle.zy_modes.specs.Table.{may_split}
 use Rattle.zy_laws.proofs.serial.LoneRuns.{Lone, lone, lone_at, lone_effect, lone_instr, lone_step, or_else}
 use Rattle.zy_laws.proofs.places.PageValues.{db, page_value, value_same}
 use Rattle.zy_laws.proofs.walk.Txns.{IsAt, Stands, at_either, at_other, at_same, at_self, not_both_nodes, not_new}
+use Rattle.zy_laws.proofs.walk.Kinds.{quiet_of}
 
 -- steps in which t goes on
 acts_serial : (sc : Scenario) (n : Node) (v w : View) (start : Map) (lows : List ℕ) (t : ℕ) (y : Txn) → Serially sc n v start lows → Kept sc n w lows
@@ -378,7 +379,6 @@ along sc n w x start lows e k f = subst (λ z. Serially sc n z start lows) (sym 
 pub serial_event : (sc : Scenario) (n : Node) (v w : View) (start : Map) (lows : List ℕ) → Serially sc n v start lows → (e : Event sc n v w)
     → Kept sc n w (lows_after sc n v w lows e) → Serially sc n w start (lows_after sc n v w lows e)
 unfolding asks leaves
-serial_event sc n v w start lows s (Rests e) k = subst (λ x. Serially sc n x start lows) (sym e) s
 serial_event sc n v w start lows s (Begins t h a new home e) k = along sc n w _ start lows e k (begun_serial sc n v start lows t h s new)
 serial_event sc n v w start lows s (Aborts t y active here e) k = along sc n w _ start lows e k (aborted_serial sc n v start lows t y s (active, here))
 serial_event sc n v w start lows s (GoesOn t x pc regs runs leads e) k = along sc n w _ start lows e k (goes_serial sc n v start lows t x pc regs s runs leads)
@@ -399,31 +399,5 @@ serial_event sc n v w start lows s (Splits t key value runs f new full normal pa
     along sc n w _ start (lows ++ boundary sc key (page key v) v.me (txn_at v t) ∷ []) e k
     (cut_serial sc n v start lows t key _ s (runs.active, runs.here) f normal on)
 serial_event sc n v w start lows s (Commits t runs all e) k = along sc n w _ start lows e k (committed_serial sc n v start lows t s runs)
-serial_event sc n v w start lows s (Asks p gone pulls asked e) k = along sc n w _ start lows e k
-    (stays_serial sc n v _ start lows s refl refl refl refl (event_db sc n v _ lows s.kept (Asks p gone pulls asked refl) refl))
-serial_event sc n v w start lows s (Starts at_a normal empty e) k = along sc n w _ start lows e k
-    (stays_serial sc n v _ start lows s refl refl refl refl (event_db sc n v _ lows s.kept (Starts at_a normal empty refl) refl))
-serial_event sc n v w start lows s (GotWire sent ms f empty e) k = along sc n w _ start lows e k
-    (stays_serial sc n v _ start lows s refl refl refl refl (event_db sc n v _ lows s.kept (GotWire sent ms f empty refl) refl))
-serial_event sc n v w start lows s (GotReady ms f init e) k = along sc n w _ start lows e k
-    (stays_serial sc n v _ start lows s refl refl refl refl (event_db sc n v _ lows s.kept (GotReady ms f init refl) refl))
-serial_event sc n v w start lows s (GotDual ms f init e) k = along sc n w _ start lows e k
-    (stays_serial sc n v _ start lows s refl refl refl refl (event_db sc n v _ lows s.kept (GotDual ms f init refl) refl))
-serial_event sc n v w start lows s (IsStale p ms f e) k = along sc n w _ start lows e k
-    (stays_serial sc n v _ start lows s refl refl refl refl (event_db sc n v _ lows s.kept (IsStale p ms f refl) refl))
-serial_event sc n v w start lows s (Gives p ms f sends own free e) k = along sc n w _ start lows e k
-    (stays_serial sc n v _ start lows s refl refl refl refl (event_db sc n v _ lows s.kept (Gives p ms f sends own free refl) refl))
-serial_event sc n v w start lows s (GotPage leaf ms f pulls e) k = along sc n w _ start lows e k
-    (stays_serial sc n v _ start lows s refl refl refl refl (event_db sc n v _ lows s.kept (GotPage leaf ms f pulls refl) refl))
-serial_event sc n v w start lows s (GotLast leaf ms f finish all e) k = along sc n w _ start lows e k
-    (stays_serial sc n v _ start lows s refl refl refl refl (event_db sc n v _ lows s.kept (GotLast leaf ms f finish all refl) refl))
-serial_event sc n v w start lows s (GotFinish ms f dual e) k = along sc n w _ start lows e k
-    (stays_serial sc n v _ start lows s refl refl refl refl (event_db sc n v _ lows s.kept (GotFinish ms f dual refl) refl))
-serial_event sc n v w start lows s (GotAll ms f dual all e) k = along sc n w _ start lows e k
-    (stays_serial sc n v _ start lows s refl refl refl refl (event_db sc n v _ lows s.kept (GotAll ms f dual all refl) refl))
-serial_event sc n v w start lows s (GotDone ms f finish e) k = along sc n w _ start lows e k
-    (stays_serial sc n v _ start lows s refl refl refl refl (event_db sc n v _ lows s.kept (GotDone ms f finish refl) refl))
-serial_event sc n v w start lows s (Finishes dual none e) k = along sc n w _ start lows e k
-    (stays_serial sc n v _ start lows s refl refl refl refl (event_db sc n v _ lows s.kept (Finishes dual none refl) refl))
-serial_event sc n v w start lows s (Pushes p finish own e) k = along sc n w _ start lows e k
-    (stays_serial sc n v _ start lows s refl refl refl refl (event_db sc n v _ lows s.kept (Pushes p finish own refl) refl))
+serial_event sc n v w start lows s e k = let q = quiet_of e refl in
+    stays_serial sc n v w start lows s q.txns q.commits q.locks q.them (event_db sc n v w lows s.kept e q.commits) k

@@ -12,12 +12,13 @@ use Rattle.zy_table.specs.Play.{move, opening, play, side_of, step}
 use Rattle.zy_table.specs.Serial.{Listed, is_committed, times_listed}
 use Rattle.zy_table.specs.declared.entry.CommitRec.{CommitRec}
 use Rattle.zy_table.specs.State.{State, Txn, View, facing, seen_from}
-use Rattle.zy_laws.proofs.walk.Events.{Aborts, Asks, Begins, Commits, Event, Finishes, Gets, Gives, GotAll, GotDone, GotDual, GotFinish, GotLast, GotPage, GotReady}
-use Rattle.zy_laws.proofs.walk.Events.{GotWire, Inserts, IsStale, Pushes, Rests, SumsUp, Splits, Starts, Writes, step_happens, GoesOn}
+use Rattle.zy_laws.proofs.walk.Events.{Aborts, Begins, Commits, Event, Gets}
+use Rattle.zy_laws.proofs.walk.Events.{Inserts, SumsUp, Splits, Writes, step_happens, GoesOn}
 use Rattle.zy_laws.proofs.walk.PlayPush.{play-keeps}
 use Rattle.zy_laws.proofs.room.Room.{one_if}
 use Rattle.zy_laws.proofs.counts.SafeCounts.{active_off, new_off, txns_of}
 use Rattle.zy_laws.proofs.walk.Txns.{at_back, at_either, at_other, at_same, at_self, at_side, blank_at}
+use Rattle.zy_laws.proofs.walk.Kinds.{quiet_of}
 
 -- 1 for a transaction that is committed
 abbrev counts : Txn → ℕ
@@ -73,7 +74,6 @@ commits_of v = v.commits
 -- each event keeps it
 told : (sc : Scenario) (n : Node) (v w : View) (u : ℕ) → Event sc n v w → Told v u → Told w u
 unfolding did locked shares txn_at aborted begun committed cut asks leaves
-told sc n v w u (Rests e) = told_same v w u (ap txns_of e) (ap commits_of e)
 told sc n v w u (Begins t h a new home e) = told_set v w t u _ (ap txns_of e) (ap commits_of e) (sym (new_off (txn_at v t).status new))
 told sc n v w u (Aborts t y active here e) = told_set v w t u _ (ap txns_of e) (ap commits_of e) (sym (active_off (txn_at v t).status active))
 told sc n v w u (GoesOn t x pc regs runs leads e) = told_set v w t u _ (ap txns_of e) (ap commits_of e) refl
@@ -83,20 +83,7 @@ told sc n v w u (Writes t key value runs f there e) = told_set v w t u _ (ap txn
 told sc n v w u (Inserts t key value runs f new room e) = told_set v w t u _ (ap txns_of e) (ap commits_of e) refl
 told sc n v w u (Splits t key value runs f new full normal pages e) = told_same v w u (ap txns_of e) (ap commits_of e)
 told sc n v w u (Commits t runs whole e) = told_commit v w t u _ _ (ap txns_of e) (ap commits_of e) refl refl runs.active
-told sc n v w u (Asks p gone may new e) = told_same v w u (ap txns_of e) (ap commits_of e)
-told sc n v w u (Starts at_a a b e) = told_same v w u (ap txns_of e) (ap commits_of e)
-told sc n v w u (GotWire lows ms f m e) = told_same v w u (ap txns_of e) (ap commits_of e)
-told sc n v w u (GotReady ms f m e) = told_same v w u (ap txns_of e) (ap commits_of e)
-told sc n v w u (GotDual ms f m e) = told_same v w u (ap txns_of e) (ap commits_of e)
-told sc n v w u (IsStale p ms f e) = told_same v w u (ap txns_of e) (ap commits_of e)
-told sc n v w u (Gives p ms f m own free e) = told_same v w u (ap txns_of e) (ap commits_of e)
-told sc n v w u (GotPage leaf ms f m e) = told_same v w u (ap txns_of e) (ap commits_of e)
-told sc n v w u (GotLast leaf ms f m all e) = told_same v w u (ap txns_of e) (ap commits_of e)
-told sc n v w u (GotFinish ms f m e) = told_same v w u (ap txns_of e) (ap commits_of e)
-told sc n v w u (GotAll ms f m all e) = told_same v w u (ap txns_of e) (ap commits_of e)
-told sc n v w u (GotDone ms f m e) = told_same v w u (ap txns_of e) (ap commits_of e)
-told sc n v w u (Finishes m none e) = told_same v w u (ap txns_of e) (ap commits_of e)
-told sc n v w u (Pushes p m own e) = told_same v w u (ap txns_of e) (ap commits_of e)
+told sc n v w u e = let q = quiet_of e refl in told_same v w u q.txns q.commits
 
 -- what holds of a state holds of the view from either node
 told_from : (n : Node) (s : State) (t : ℕ) → Listed s → Told (facing n s) t

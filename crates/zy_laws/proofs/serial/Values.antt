@@ -4,17 +4,17 @@ use Rattle.std.proofs.lemmas.List.{length-append}
 use Rattle.zy_isa.specs.Scenario.{Scenario, IsScenario}
 use Rattle.zy_isa.specs.declared.node.Node.{Node}
 use Rattle.zy_locks.specs.declared.lock.LockKind.TheVariants.{Exclusive}
-use Rattle.zy_links.specs.Messages.{Wire, Ready, Dual, Pull, Finish, Done}
-use Rattle.zy_modes.specs.declared.mode.NodeMode.TheVariants.{Empty, Normal, SInit, SDual, SFinish, DInit, DDual, DFinish}
-use Rattle.zy_table.specs.Change.{aborted, asks, begun, did, leaves, locked, shares, turns, txn_at, with_lows}
+use Rattle.zy_links.specs.Messages.{Done}
+use Rattle.zy_modes.specs.declared.mode.NodeMode.TheVariants.{Normal}
+use Rattle.zy_table.specs.Change.{aborted, asks, begun, did, leaves, locked, shares, turns, txn_at}
 use Rattle.zy_table.specs.Database.{sent_leaves, database}
 use Rattle.zy_table.specs.Run.{boundary}
-use Rattle.zy_table.specs.State.{View, post, with_me, Leaf, State, facing, seen_from}
+use Rattle.zy_table.specs.State.{View, post, Leaf, NodeState, State, facing, seen_from}
 use Rattle.zy_table.specs.declared.entry.CommitRec.{CommitRec}
 use Rattle.zy_laws.proofs.serial.Committing.{committed_list}
 use Rattle.zy_laws.proofs.serial.CutValues.{cut_db}
-use Rattle.zy_laws.proofs.walk.Events.{Aborts, Asks, Begins, Commits, Event, Finishes, Gets, Gives, GotAll, GotDone, GotDual, GotFinish, GotLast, GotPage, GotReady}
-use Rattle.zy_laws.proofs.walk.Events.{GotWire, Inserts, IsStale, Pushes, Rests, SumsUp, Splits, Starts, Writes, arrived, has_lock, page, rest, step_happens, GoesOn}
+use Rattle.zy_laws.proofs.walk.Events.{Commits, Event, Gives, GotLast, GotPage}
+use Rattle.zy_laws.proofs.walk.Events.{Pushes, Splits, arrived, has_lock, page, rest, step_happens}
 use Rattle.zy_laws.proofs.locks.Locking.{Kept, whole}
 use Rattle.zy_laws.proofs.serial.MovedValues.{arrived_db, leaves_db, same_db}
 use Rattle.zy_laws.proofs.owner.MovingPages.{sent_bare}
@@ -35,6 +35,7 @@ use Rattle.zy_laws.proofs.owner.PageCounts.{owns-times, owns_none, times-sent_le
 use Rattle.zy_laws.proofs.walk.PlayPush.{play-push}
 use Rattle.zy_laws.proofs.locks.Reached.{Reached, kept_from, reached}
 use Rattle.zy_laws.proofs.owner.Roles.{Owned, turned}
+use Rattle.zy_laws.proofs.walk.Kinds.{unmoved_of}
 
 -- a list with one more is another list
 no_longer : (cs : List CommitRec) (c : CommitRec) → cs ++ c ∷ [] ≡ cs → ⊥
@@ -46,40 +47,17 @@ no_longer cs c h =
 -- an event that commits nothing changes no value of the database
 pub event_db : (sc : Scenario) (n : Node) (v w : View) (lows : List ℕ) → Kept sc n v lows → Event sc n v w → w.commits ≡ v.commits → db w ≡ db v
 unfolding begun aborted did locked shares asks leaves
-event_db sc n v w lows k (Rests e) c = ap db e
-event_db sc n v w lows k (Begins t h a new home e) c = ap db e
-event_db sc n v w lows k (Aborts t y active here e) c = ap db e
-event_db sc n v w lows k (GoesOn t x pc regs runs leads e) c = ap db e
-event_db sc n v w lows k (Gets t r key runs f e) c = ap db e
-event_db sc n v w lows k (SumsUp t r first last runs f e) c = ap db e
-event_db sc n v w lows k (Writes t key value runs f there e) c = ap db e
-event_db sc n v w lows k (Inserts t key value runs f new room e) c = ap db e
 event_db sc n v w lows k (Splits t key value runs f new full normal pages e) c =
     let b = boundary sc key (page key v) v.me (txn_at v t) in
     ap db e ∙ cut_db lows (has_lock t key Exclusive v) t (page key v) b k.placed (record { once = k.inv.owned.once }) f.here
 event_db sc n v w lows k (Commits t runs all e) c = absurd (no_longer v.commits _ (sym (committed_list t v) ∙ sym (ap (λ (x : View). x.commits) e) ∙ c))
-event_db sc n v w lows k (Asks p gone pulls asked e) c = ap db e ∙ same_db v (asks p v) refl refl refl (sent_bare v.outbox (Pull p) refl)
-event_db sc n v w lows k (Starts at_a normal empty e) c = ap db e ∙ same_db v (post (Wire v.me.lows) (turns SInit v)) refl refl refl
-    (sent_bare v.outbox (Wire v.me.lows) refl)
-event_db sc n v w lows k (GotWire sent ms f empty e) c =
-    ap db e ∙ same_db v (post Ready (turns DInit (with_me (with_lows sent v.me) (rest v ms)))) refl refl (ap sent_leaves (sym f))
-    (sent_bare v.outbox Ready refl)
-event_db sc n v w lows k (GotReady ms f init e) c = ap db e ∙ same_db v (post Dual (turns SDual (rest v ms))) refl refl (ap sent_leaves (sym f))
-    (sent_bare v.outbox Dual refl)
-event_db sc n v w lows k (GotDual ms f init e) c = ap db e ∙ same_db v (turns DDual (rest v ms)) refl refl (ap sent_leaves (sym f)) refl
-event_db sc n v w lows k (IsStale p ms f e) c = ap db e ∙ same_db v (rest v ms) refl refl (ap sent_leaves (sym f)) refl
 event_db sc n v w lows k (Gives p ms f sends own free e) c = ap db e ∙ leaves_db lows v p ms k.placed k.inv.owned (ap sent_leaves (sym f)) own
 event_db sc n v w lows k (GotPage leaf ms f pulls e) c = ap db e ∙ arrived_db lows v leaf ms f k.placed k.inv.owned
 event_db sc n v w lows k (GotLast leaf ms f finish all e) c =
     ap db e ∙ same_db (arrived leaf (rest v ms)) (post Done (turns Normal (arrived leaf (rest v ms)))) refl refl refl (sent_bare v.outbox Done refl)
     ∙ arrived_db lows v leaf ms f k.placed k.inv.owned
-event_db sc n v w lows k (GotFinish ms f dual e) c = ap db e ∙ same_db v (turns DFinish (rest v ms)) refl refl (ap sent_leaves (sym f)) refl
-event_db sc n v w lows k (GotAll ms f dual all e) c = ap db e ∙ same_db v (post Done (turns Normal (rest v ms))) refl refl (ap sent_leaves (sym f))
-    (sent_bare v.outbox Done refl)
-event_db sc n v w lows k (GotDone ms f finish e) c = ap db e ∙ same_db v (turns Empty (with_me (with_lows [] v.me) (rest v ms))) refl refl
-    (ap sent_leaves (sym f)) refl
-event_db sc n v w lows k (Finishes dual none e) c = ap db e ∙ same_db v (post Finish (turns SFinish v)) refl refl refl (sent_bare v.outbox Finish refl)
 event_db sc n v w lows k (Pushes p finish own e) c = ap db e ∙ leaves_db lows v p v.inbox k.placed k.inv.owned refl own
+event_db sc n v w lows k e c = let q = unmoved_of e refl in same_db v w q.pages (ap (λ (x : NodeState). x.pages) q.them) q.inbox q.outbox
 
 -- values may change places where one of two is none
 swap_values : (m t i o : Option ℕ) → (m ≡ None) ⊎ (t ≡ None) → (i ≡ None) ⊎ (o ≡ None)

@@ -23,8 +23,8 @@ use Rattle.zy_table.specs.Take.{all_here}
 use Rattle.zy_table.proofs.PageLists.{owns-with_page}
 use Rattle.zy_laws.specs.Between.{NothingLeft}
 use Rattle.zy_laws.proofs.places.Boundary.{has-put_key}
-use Rattle.zy_laws.proofs.walk.Events.{Told, Aborts, Asks, Begins, Commits, Event, Finishes, Gets, Gives, GotAll, GotDone, GotDual, GotFinish, GotLast, GotPage}
-use Rattle.zy_laws.proofs.walk.Events.{GotReady, GotWire, Inserts, IsStale, Pushes, Rests, SumsUp, Splits, Starts, Writes, step_happens, GoesOn}
+use Rattle.zy_laws.proofs.walk.Events.{Told, Asks, Commits, Event, Finishes, Gives, GotAll, GotDone, GotDual, GotFinish, GotLast, GotPage}
+use Rattle.zy_laws.proofs.walk.Events.{GotReady, GotWire, IsStale, Pushes, Splits, Starts, step_happens}
 use Rattle.zy_laws.proofs.places.Installing.{owns-installed}
 use Rattle.zy_laws.proofs.locks.Locking.{Kept, nobody_runs}
 use Rattle.zy_laws.proofs.order.ListsInOrder.{Tidy, opening_tidy, step_tidy}
@@ -37,6 +37,7 @@ use Rattle.zy_laws.proofs.owner.PhaseSteps.{taker_of}
 use Rattle.zy_laws.proofs.walk.PlayPush.{play-keeps-with}
 use Rattle.zy_laws.proofs.locks.Reached.{Reached, kept_from, lows_then, opening_reached, reached, step_kept}
 use Rattle.zy_laws.proofs.walk.Txns.{IsAt}
+use Rattle.zy_laws.proofs.walk.Kinds.{in_place_of}
 
 -- ---- the pages that a node asked for
 
@@ -96,14 +97,6 @@ pulls_busy m s = elim (pulls_in m s) [ inl e ↦ ap is_idle e | inr e ↦ ap is_
 asked_event : (sc : Scenario) (n : Node) (o : Outcome) (v w : View) (lows : List ℕ) → Kept sc n v lows → Asked v.me → (e : Event sc n v w) → Told e o
     → Asked w.me
 unfolding did locked shares txn_at aborted begun committed cut asks leaves
-asked_event sc n o v w lows k a (Rests e) told = rw e a
-asked_event sc n o v w lows k a (Begins t h at_a new home e) told = rw e (asked_same v.me _ refl refl refl (λ p. refl) a)
-asked_event sc n o v w lows k a (Aborts t y active here e) told = rw e (asked_same v.me _ refl refl refl (λ p. refl) a)
-asked_event sc n o v w lows k a (GoesOn t x pc regs runs leads e) told = rw e (asked_same v.me _ refl refl refl (λ p. refl) a)
-asked_event sc n o v w lows k a (Gets t r key runs f e) told = rw e (asked_same v.me _ refl refl refl (λ p. refl) a)
-asked_event sc n o v w lows k a (SumsUp t r first last runs f e) told = rw e (asked_same v.me _ refl refl refl (λ p. refl) a)
-asked_event sc n o v w lows k a (Writes t key value runs f there e) told = rw e (asked_same v.me _ refl refl refl (λ p. refl) a)
-asked_event sc n o v w lows k a (Inserts t key value runs f new room e) told = rw e (asked_same v.me _ refl refl refl (λ p. refl) a)
 asked_event sc n o v w lows k a (Splits t key value runs f new full normal pages e) told =
     rw e (asked_none _ (a.none (ap may_pull (splits_in_normal v.me.mode normal))))
 asked_event sc n o v w lows k a (Commits t runs all e) told =
@@ -134,6 +127,8 @@ asked_event sc n o v w lows k a (GotAll ms f dual all e) told = rw e (asked_none
 asked_event sc n o v w lows k a (GotDone ms f finish e) told = rw e (asked_none _ (a.none (ap may_pull finish)))
 asked_event sc n o v w lows k a (Finishes dual none e) told = rw e (asked_none _ (a.none (ap may_pull dual)))
 asked_event sc n o v w lows k a (Pushes p finish own e) told = rw e (asked_none _ (a.none (ap may_pull finish)))
+asked_event sc n o v w lows k a e told = let q = in_place_of e refl in
+    asked_same v.me w.me q.mode q.lows q.asked (λ p. ap (λ xs. owns xs p) q.pages) a
 
 -- both nodes
 abbrev Both : State → Type 0

@@ -15,12 +15,13 @@ use Rattle.zy_table.specs.Change.{aborted, asks, begun, committed, cut, did, lea
 use Rattle.zy_laws.specs.Travel.{Travels, Stays, Appears, Leaves, Arrives, IsPassed, NeverBack, NoneStarted, is_started}
 use Rattle.zy_table.specs.Play.{entries, move, opening, play, side_of, step}
 use Rattle.zy_table.specs.State.{Step, State, View, facing, seen_from}
-use Rattle.zy_laws.proofs.walk.Events.{Told, Aborts, Asks, Begins, Commits, Event, Finishes, Gets, Gives, GotAll, GotDone, GotDual, GotFinish, GotLast, GotPage}
-use Rattle.zy_laws.proofs.walk.Events.{GotReady, GotWire, Inserts, IsStale, Pushes, Rests, SumsUp, Splits, Starts, Writes, step_happens, GoesOn}
+use Rattle.zy_laws.proofs.walk.Events.{Told, Asks, Commits, Event, Finishes, Gives, GotAll, GotDone, GotDual, GotFinish, GotLast, GotPage}
+use Rattle.zy_laws.proofs.walk.Events.{GotReady, GotWire, IsStale, Pushes, Splits, Starts, step_happens}
 use Rattle.zy_laws.proofs.owner.OneOwner.{play_inv, step_inv}
 use Rattle.zy_laws.proofs.walk.PlayPush.{play-keeps}
 use Rattle.zy_laws.proofs.owner.Roles.{Inv}
 use Rattle.zy_laws.proofs.travel.Travel.{step_travels}
+use Rattle.zy_laws.proofs.walk.Kinds.{in_place_of}
 
 -- a step changes its own node alone, and makes a source of it where it is a start that acts: in version 1 at A
 pub record Sourced (sc : Scenario) (n : Node) (o : Outcome) (v w : View) : Type 0 where
@@ -34,14 +35,6 @@ in_mode sc n o v w them mode = record { them = them; off = λ h. inl (ap is_sour
 -- each event leaves the other node alone, and makes a source by a start only
 pub sourced : (sc : Scenario) (n : Node) (o : Outcome) (v w : View) → (e : Event sc n v w) → Told e o → Sourced sc n o v w
 unfolding did locked shares txn_at aborted begun committed cut asks leaves
-sourced sc n o v w (Rests e) told = rw e (in_mode sc n o v _ refl refl)
-sourced sc n o v w (Begins t h a new home e) told = rw e (in_mode sc n o v _ refl refl)
-sourced sc n o v w (Aborts t y active here e) told = rw e (in_mode sc n o v _ refl refl)
-sourced sc n o v w (GoesOn t x pc regs runs leads e) told = rw e (in_mode sc n o v _ refl refl)
-sourced sc n o v w (Gets t r key runs f e) told = rw e (in_mode sc n o v _ refl refl)
-sourced sc n o v w (SumsUp t r first last runs f e) told = rw e (in_mode sc n o v _ refl refl)
-sourced sc n o v w (Writes t key value runs f there e) told = rw e (in_mode sc n o v _ refl refl)
-sourced sc n o v w (Inserts t key value runs f new room e) told = rw e (in_mode sc n o v _ refl refl)
 sourced sc n o v w (Splits t key value runs f new full normal pages e) told = rw e (in_mode sc n o v _ refl refl)
 sourced sc n o v w (Commits t runs all e) told = rw e (in_mode sc n o v _ refl refl)
 sourced sc n o v w (Asks p gone pulls new e) told = rw e (in_mode sc n o v _ refl refl)
@@ -58,6 +51,7 @@ sourced sc n o v w (GotAll ms f dual all e) told = rw e (record { them = refl; o
 sourced sc n o v w (GotDone ms f finish e) told = rw e (record { them = refl; off = λ _. inl refl })
 sourced sc n o v w (Finishes dual none e) told = rw e (record { them = refl; off = λ h. absurd (false≢true (sym h ∙ ap is_source dual)) })
 sourced sc n o v w (Pushes p finish own e) told = rw e (in_mode sc n o v _ refl refl)
+sourced sc n o v w e told = let q = in_place_of e refl in in_mode sc n o v w q.them q.mode
 
 -- node m is no source after a step that is no start at it
 abbrev Bars : Scenario → Node → Outcome → Node → Type 0

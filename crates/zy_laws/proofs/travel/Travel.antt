@@ -9,7 +9,7 @@ use Rattle.zy_isa.specs.Scenario.{Scenario}
 use Rattle.zy_isa.specs.declared.choice.Choice.{Choice}
 use Rattle.zy_isa.specs.declared.node.Node.{Node}
 use Rattle.zy_isa.specs.declared.node.Node.TheVariants.{A, B}
-use Rattle.zy_links.specs.Messages.{Wire, Ready, Dual, Pull, Page, Finish, Done}
+use Rattle.zy_links.specs.Messages.{Page, Done}
 use Rattle.zy_locks.specs.declared.lock.LockKind.TheVariants.{Exclusive}
 use Rattle.zy_modes.specs.Table.{may_pull, may_split}
 use Rattle.zy_table.specs.declared.outcome.Outcome.{Outcome}
@@ -25,15 +25,15 @@ use Rattle.zy_table.specs.Play.{move, opening, play, side_of, step}
 use Rattle.zy_table.specs.Run.{boundary}
 use Rattle.zy_table.specs.State.{Leaf, Message, Move, State, View, as_step, facing, other, seen_from}
 use Rattle.zy_table.proofs.PageLists.{owns-lowered, owns-with_page}
-use Rattle.zy_laws.proofs.walk.Events.{Told, Aborts, Asks, Begins, Commits, Event, Finishes, Gets, Gives, GotAll, GotDone, GotDual, GotFinish, GotLast, GotPage}
-use Rattle.zy_laws.proofs.walk.Events.{GotReady, GotWire, Inserts, IsStale, Pushes, Rests, SumsUp, Splits, Starts, Writes, has_lock, page, rest, step_happens}
-use Rattle.zy_laws.proofs.walk.Events.{GoesOn}
+use Rattle.zy_laws.proofs.walk.Events.{Told, Commits, Event, Gives, GotLast, GotPage}
+use Rattle.zy_laws.proofs.walk.Events.{Pushes, Splits, has_lock, page, rest, step_happens}
 use Rattle.zy_laws.proofs.places.Installing.{owns-installed}
 use Rattle.zy_laws.proofs.owner.MovingPages.{leaf_at-number, owns-sent_post, owns-without, owns-without_other, sent_bare}
 use Rattle.zy_laws.proofs.owner.OneOwner.{inv_from, locks_inv, play_inv, pulled_inv, sends_source, step_inv}
 use Rattle.zy_laws.proofs.owner.PageCounts.{owns-times, owns_none, times-sent_leaves, times_sent}
 use Rattle.zy_laws.proofs.walk.ModeLines.{splits_in_normal}
 use Rattle.zy_laws.proofs.owner.Roles.{Inv, Owned, normal_other}
+use Rattle.zy_laws.proofs.walk.Kinds.{unmoved_of}
 
 -- the place of a page as n sees it
 abbrev place_in : ℕ → Node → View → Place
@@ -158,25 +158,11 @@ from_same p n o v x w same mode (In a b c) = In (ap may_pull (sym mode) ∙ a) (
 -- each event moves a page as Goes says
 goes_event : (sc : Scenario) (n : Node) (o : Outcome) (v w : View) (p : ℕ) → Inv v → (e : Event sc n v w) → Told e o → Goes p n o v w
 unfolding did locked shares txn_at aborted begun committed asks
-goes_event sc n o v w p i (Rests e) told = rw e (Same refl)
-goes_event sc n o v w p i (Begins t h a new home e) told = rw e (Same refl)
-goes_event sc n o v w p i (Aborts t y active here e) told = rw e (Same refl)
-goes_event sc n o v w p i (GoesOn t x pc regs runs leads e) told = rw e (Same refl)
-goes_event sc n o v w p i (Gets t r key runs f e) told = rw e (Same refl)
-goes_event sc n o v w p i (SumsUp t r first last runs f e) told = rw e (Same refl)
-goes_event sc n o v w p i (Writes t key value runs f there e) told = rw e (Same refl)
-goes_event sc n o v w p i (Inserts t key value runs f new room e) told = rw e (Same refl)
 goes_event sc n o v w p i (Splits t key value runs f new full normal pages e) told =
     let x = has_lock t key Exclusive v in
     let locked = locks_inv v x (refl, refl, refl) refl refl refl i in
     rw e (from_same p n o v x _ refl refl (cut_goes p n o x t (page key v) (boundary sc key (page key v) v.me (txn_at v t)) locked normal told))
 goes_event sc n o v w p i (Commits t runs all e) told = rw e (stays p n o v _ (owns-installed v.me.lows (txn_at v t).rows v.me.pages p) refl refl refl)
-goes_event sc n o v w p i (Asks q gone pulls new e) told = rw e (stays p n o v _ refl refl (sent_bare v.outbox (Pull q) refl) refl)
-goes_event sc n o v w p i (Starts at_a normal empty e) told = rw e (stays p n o v _ refl refl (sent_bare v.outbox (Wire v.me.lows) refl) refl)
-goes_event sc n o v w p i (GotWire lows ms f empty e) told = rw e (stays p n o v _ refl refl (sent_bare v.outbox Ready refl) (ap sent_leaves (sym f)))
-goes_event sc n o v w p i (GotReady ms f init e) told = rw e (stays p n o v _ refl refl (sent_bare v.outbox Dual refl) (ap sent_leaves (sym f)))
-goes_event sc n o v w p i (GotDual ms f init e) told = rw e (stays p n o v _ refl refl refl (ap sent_leaves (sym f)))
-goes_event sc n o v w p i (IsStale q ms f e) told = rw e (stays p n o v _ refl refl refl (ap sent_leaves (sym f)))
 goes_event sc n o v w p i (Gives q ms f sends own free e) told =
     let x = rest v ms in
     let same = same_place p n x v refl refl refl (ap (λ xs. owns (sent_leaves xs) p) f) in
@@ -184,11 +170,8 @@ goes_event sc n o v w p i (Gives q ms f sends own free e) told =
 goes_event sc n o v w p i (GotPage leaf ms f pulls e) told = rw e (arrives_goes p n o v _ leaf ms i.owned pulls f refl refl refl refl)
 goes_event sc n o v w p i (GotLast leaf ms f finish all e) told =
     rw e (arrives_goes p n o v _ leaf ms i.owned (ap may_pull finish) f refl refl (sent_bare v.outbox Done refl) refl)
-goes_event sc n o v w p i (GotFinish ms f dual e) told = rw e (stays p n o v _ refl refl refl (ap sent_leaves (sym f)))
-goes_event sc n o v w p i (GotAll ms f dual all e) told = rw e (stays p n o v _ refl refl (sent_bare v.outbox Done refl) (ap sent_leaves (sym f)))
-goes_event sc n o v w p i (GotDone ms f finish e) told = rw e (stays p n o v _ refl refl refl (ap sent_leaves (sym f)))
-goes_event sc n o v w p i (Finishes dual none e) told = rw e (stays p n o v _ refl refl (sent_bare v.outbox Finish refl) refl)
 goes_event sc n o v w p i (Pushes q finish own e) told = rw e (leaves_goes p n o v q i.owned (ap is_source finish) own)
+goes_event sc n o v w p i e told = let q = unmoved_of e refl in stays p n o v w (ap (λ xs. owns xs p) q.pages) q.them q.outbox q.inbox
 
 -- the place is the same from either side
 place_order : (a b c d : Bool) → (a ≡ true → b ≡ false) → (c ≡ true → d ≡ false)

@@ -16,154 +16,80 @@ use Rattle.zy_modes.specs.Table.{may_start, on_message, on_start, may_split, may
 pub wire_line : (mode : NodeMode) (all : Bool) → (on_message mode kind.Wire all ≡ Stray)
     ⊎ ((mode ≡ Empty) × (on_message mode kind.Wire all ≡ Turns DInit (Some kind.Ready)))
 wire_line Empty all = inr (refl, refl)
-wire_line Normal all = inl refl
-wire_line SInit all = inl refl
-wire_line SDual all = inl refl
-wire_line SFinish all = inl refl
-wire_line DInit all = inl refl
-wire_line DDual all = inl refl
-wire_line DFinish all = inl refl
+wire_line mode all = inl refl
 
 -- a ready is stray but in SInit, which turns to SDual and answers dual
 pub ready_line : (mode : NodeMode) (all : Bool) → (on_message mode kind.Ready all ≡ Stray)
     ⊎ ((mode ≡ SInit) × (on_message mode kind.Ready all ≡ Turns SDual (Some kind.Dual)))
-ready_line Empty all = inl refl
-ready_line Normal all = inl refl
 ready_line SInit all = inr (refl, refl)
-ready_line SDual all = inl refl
-ready_line SFinish all = inl refl
-ready_line DInit all = inl refl
-ready_line DDual all = inl refl
-ready_line DFinish all = inl refl
+ready_line mode all = inl refl
 
 -- a dual is stray but in DInit, which turns to DDual
 pub dual_line : (mode : NodeMode) (all : Bool) → (on_message mode kind.Dual all ≡ Stray) ⊎ ((mode ≡ DInit) × (on_message mode kind.Dual all ≡ Turns DDual None))
-dual_line Empty all = inl refl
-dual_line Normal all = inl refl
-dual_line SInit all = inl refl
-dual_line SDual all = inl refl
-dual_line SFinish all = inl refl
 dual_line DInit all = inr (refl, refl)
-dual_line DDual all = inl refl
-dual_line DFinish all = inl refl
+dual_line mode all = inl refl
 
 -- a pull is stray but in a mode that sends, which answers with the page
 pub pull_line : (mode : NodeMode) (all : Bool) → (on_message mode kind.Pull all ≡ Stray)
     ⊎ ((is_sending mode ≡ true) × ((to : NodeMode) × (on_message mode kind.Pull all ≡ Turns to (Some kind.Page))))
-pull_line Empty all = inl refl
-pull_line Normal all = inl refl
-pull_line SInit all = inl refl
 pull_line SDual all = inr (refl, (SDual, refl))
 pull_line SFinish all = inr (refl, (SFinish, refl))
-pull_line DInit all = inl refl
-pull_line DDual all = inl refl
-pull_line DFinish all = inl refl
+pull_line mode all = inl refl
 
 -- a page is stray but in a mode that takes pages; the last one turns DFinish to Normal, which answers done
 pub page_line : (mode : NodeMode) (all : Bool) → (on_message mode kind.Page all ≡ Stray)
     ⊎ (((may_pull mode ≡ true) × (on_message mode kind.Page all ≡ Turns mode None))
     ⊎ ((mode ≡ DFinish) × (all ≡ true) × (on_message mode kind.Page all ≡ Turns Normal (Some kind.Done))))
-page_line Empty all = inl refl
-page_line Normal all = inl refl
-page_line SInit all = inl refl
-page_line SDual all = inl refl
-page_line SFinish all = inl refl
-page_line DInit all = inl refl
 page_line DDual all = inr (inl (refl, refl))
 page_line DFinish false = inr (inl (refl, refl))
 page_line DFinish true = inr (inr (refl, refl, refl))
+page_line mode all = inl refl
 
 -- a finish is stray but in DDual, which turns to Normal with all pages here, and else to DFinish
 pub finish_line : (mode : NodeMode) (all : Bool) → (on_message mode kind.Finish all ≡ Stray)
     ⊎ ((mode ≡ DDual) × (((all ≡ false) × (on_message mode kind.Finish all ≡ Turns DFinish None))
     ⊎ ((all ≡ true) × (on_message mode kind.Finish all ≡ Turns Normal (Some kind.Done)))))
-finish_line Empty all = inl refl
-finish_line Normal all = inl refl
-finish_line SInit all = inl refl
-finish_line SDual all = inl refl
-finish_line SFinish all = inl refl
-finish_line DInit all = inl refl
 finish_line DDual false = inr (refl, inl (refl, refl))
 finish_line DDual true = inr (refl, inr (refl, refl))
-finish_line DFinish all = inl refl
+finish_line mode all = inl refl
 
 -- a done is stray but in SFinish, which turns to Empty
 pub done_line : (mode : NodeMode) (all : Bool) → (on_message mode kind.Done all ≡ Stray)
     ⊎ ((mode ≡ SFinish) × (on_message mode kind.Done all ≡ Turns Empty None))
-done_line Empty all = inl refl
-done_line Normal all = inl refl
-done_line SInit all = inl refl
-done_line SDual all = inl refl
 done_line SFinish all = inr (refl, refl)
-done_line DInit all = inl refl
-done_line DDual all = inl refl
-done_line DFinish all = inl refl
+done_line mode all = inl refl
 
 -- what the tests of a mode say
 pub splits_in_normal : (mode : NodeMode) → may_split mode ≡ true → mode ≡ Normal
-splits_in_normal Empty h = absurd (false≢true h)
 splits_in_normal Normal h = refl
-splits_in_normal SInit h = absurd (false≢true h)
-splits_in_normal SDual h = absurd (false≢true h)
-splits_in_normal SFinish h = absurd (false≢true h)
-splits_in_normal DInit h = absurd (false≢true h)
-splits_in_normal DDual h = absurd (false≢true h)
-splits_in_normal DFinish h = absurd (false≢true h)
+splits_in_normal mode h = absurd (false≢true h)
 
 -- pages are pushed in SFinish alone
 pub pushes_in_finish : (mode : NodeMode) → may_push mode ≡ true → mode ≡ SFinish
-pushes_in_finish Empty h = absurd (false≢true h)
-pushes_in_finish Normal h = absurd (false≢true h)
-pushes_in_finish SInit h = absurd (false≢true h)
-pushes_in_finish SDual h = absurd (false≢true h)
 pushes_in_finish SFinish h = refl
-pushes_in_finish DInit h = absurd (false≢true h)
-pushes_in_finish DDual h = absurd (false≢true h)
-pushes_in_finish DFinish h = absurd (false≢true h)
+pushes_in_finish mode h = absurd (false≢true h)
 
 -- pages are asked for in DDual and DFinish alone
 pub pulls_in : (mode : NodeMode) → may_pull mode ≡ true → (mode ≡ DDual) ⊎ (mode ≡ DFinish)
-pulls_in Empty h = absurd (false≢true h)
-pulls_in Normal h = absurd (false≢true h)
-pulls_in SInit h = absurd (false≢true h)
-pulls_in SDual h = absurd (false≢true h)
-pulls_in SFinish h = absurd (false≢true h)
-pulls_in DInit h = absurd (false≢true h)
 pulls_in DDual h = inl refl
 pulls_in DFinish h = inr refl
+pulls_in mode h = absurd (false≢true h)
 
 -- pulls are answered in SDual and SFinish alone
 pub sends_in : (mode : NodeMode) → is_sending mode ≡ true → (mode ≡ SDual) ⊎ (mode ≡ SFinish)
-sends_in Empty h = absurd (false≢true h)
-sends_in Normal h = absurd (false≢true h)
-sends_in SInit h = absurd (false≢true h)
 sends_in SDual h = inl refl
 sends_in SFinish h = inr refl
-sends_in DInit h = absurd (false≢true h)
-sends_in DDual h = absurd (false≢true h)
-sends_in DFinish h = absurd (false≢true h)
+sends_in mode h = absurd (false≢true h)
 
 -- a migration from Normal starts only to a node in Empty
 starts_with : (b : NodeMode) → may_start Normal b ≡ true → b ≡ Empty
 starts_with Empty h = refl
-starts_with Normal h = absurd (false≢true h)
-starts_with SInit h = absurd (false≢true h)
-starts_with SDual h = absurd (false≢true h)
-starts_with SFinish h = absurd (false≢true h)
-starts_with DInit h = absurd (false≢true h)
-starts_with DDual h = absurd (false≢true h)
-starts_with DFinish h = absurd (false≢true h)
+starts_with mode h = absurd (false≢true h)
 
 -- a migration starts only from Normal to Empty
 pub starts_from : (a b : NodeMode) → may_start a b ≡ true → (a ≡ Normal) × (b ≡ Empty)
-starts_from Empty b h = absurd (false≢true h)
 starts_from Normal b h = (refl, starts_with b h)
-starts_from SInit b h = absurd (false≢true h)
-starts_from SDual b h = absurd (false≢true h)
-starts_from SFinish b h = absurd (false≢true h)
-starts_from DInit b h = absurd (false≢true h)
-starts_from DDual b h = absurd (false≢true h)
-starts_from DFinish b h = absurd (false≢true h)
+starts_from mode b h = absurd (false≢true h)
 
 -- in version 1 a migration starts from A
 pub starts_at_a : (a b : NodeMode) (version : Version) → version ≡ One → unwrap_or (on_start a b version) A ≡ A
