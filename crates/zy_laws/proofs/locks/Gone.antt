@@ -34,14 +34,10 @@ left_mode DFinish a b c = absurd (false≢true (sym c))
 
 -- a node where transactions run hands no page on, or has all of them, or is in the dual mode
 hands_on : (m : NodeMode) → is_idle m ≡ false → (is_source m ≡ false) ⊎ ((is_home m ≡ true) ⊎ (m ≡ SDual))
-hands_on Empty busy = inl refl
-hands_on Normal busy = inl refl
 hands_on SInit busy = inr (inl refl)
 hands_on SDual busy = inr (inr refl)
 hands_on SFinish busy = absurd (false≢true (sym busy))
-hands_on DInit busy = inl refl
-hands_on DDual busy = inl refl
-hands_on DFinish busy = inl refl
+hands_on m busy = inl refl
 
 -- a private row's page is locked, and so is here unless the node hands pages on; and a node that is whole has every page
 lost_in_dual : (sc : Scenario) (n : Node) (v : View) (lows : List ℕ) → Kept sc n v lows → Lost n v → v.me.mode ≡ SDual

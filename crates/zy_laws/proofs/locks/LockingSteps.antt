@@ -56,62 +56,6 @@ use Rattle.zy_laws.proofs.owner.PhaseSteps.{taker_of, wire_came}
 use Rattle.zy_laws.proofs.owner.Roles.{Inv, Roles, normal_other}
 use Rattle.zy_laws.proofs.walk.Txns.{IsAt, Stands, at_other, at_self, not_both_nodes, not_new}
 
--- t does an instruction without a key
-goes_kept : (sc : Scenario) (n : Node) (v : View) (lows : List ℕ) (t pc : ℕ) (regs : List ℕ) → Kept sc n v lows → IsAt v t n
-    → Inv (did t pc regs (txn_at v t).rows v) → Kept sc n (did t pc regs (txn_at v t).rows v) lows
-unfolding did
-goes_kept sc n v lows t pc regs k at i = record {
-  inv = i;
-  first = k.first;
-  placed = k.placed;
-  mine = untouched sc n v.me v _ lows k.mine (seen_step n v _ t _ refl at.0 refl refl refl);
-  theirs = untouched sc (other n) v.them v _ lows k.theirs (seen_step (other n) v _ t _ refl at.0 refl refl refl);
-}
-
--- a key's page is one of the wireframe
-within : (sc : Scenario) (n : Node) (v : View) (lows : List ℕ) (t k : ℕ) → Kept sc n v lows → IsAt v t n → page_of v.me.lows k < length lows
-within sc n v lows t k h at =
-    let some = subst (λ l. page_of l k < length l) (sym h.first.1) (page_of-within (0 ∷ h.first.0) k (omega arith)) in
-    subst (λ l. page_of l k < length lows) (sym (h.mine.newest (h.mine.busy t at))) some
-
--- t does an instruction on a key, with the lock that it takes
-lock_kept : (sc : Scenario) (n : Node) (v : View) (lows : List ℕ) (t k : ℕ) (kind : LockKind) (pc : ℕ) (regs : List ℕ) (rows : List Row)
-    → Kept sc n v lows → IsAt v t n → Free t k kind v
-    → ((j : ℕ) → is_some (get_row rows j) ≡ true → (is_some (get_row (txn_at v t).rows j) ≡ true) ⊎ ((k ≡ j) × (kind ≡ Exclusive)))
-    → Inv (did t pc regs rows (has_lock t k kind v)) → Kept sc n (did t pc regs rows (has_lock t k kind v)) lows
-unfolding did locked txn_at
-lock_kept sc n v lows t k kind pc regs rows h at f grow i =
-    let w = did t pc regs rows (has_lock t k kind v) in
-    let x = txn_at v t in
-    let y : Txn = record x { pc = pc; regs = regs; rows = rows; done = x.done + 1 } in
-    let p = page_of v.me.lows k in
-    let self : txn_at w t ≡ y = at_self v w t y refl at.0 in
-    let newest : v.me.lows ≡ lows = h.mine.newest (h.mine.busy t at) in
-    record {
-      inv = i;
-      first = h.first;
-      placed = h.placed;
-      mine = lock_taken sc n v w w.me lows t p kind h.mine at (within sc n v lows t k h at) f.here f.free refl refl refl refl
-          (λ u a. elim (cases_eq u t) [
-            | inl same ↦ subst (λ z. IsAt v z n) (sym same) at
-            | inr far ↦
-                subst (λ (z : Txn). Stands z n) (at_other v w t u y refl far) a
-          ])
-          (λ u a. elim (cases_eq u t) [
-            | inl same ↦ subst (λ z. IsAt w z n) (sym same) (subst (λ (z : Txn). Stands z n) (sym self) at)
-            | inr far ↦
-                subst (λ (z : Txn). Stands z n) (sym (at_other v w t u y refl far)) a
-          ])
-          (λ u j a s. elim (cases_eq u t) [
-            | inl same ↦ elim (grow j (subst (λ (z : Txn). is_some (get_row z.rows j) ≡ true) (ap (txn_at w) same ∙ self) s)) [
-              | inl old ↦ inl (subst (λ z. is_some (get_row (txn_at v z).rows j) ≡ true) (sym same) old)
-              | inr new ↦ inr (same, sym (ap (page_of v.me.lows) new.0 ∙ ap (λ l. page_of l j) newest), new.1)
-            ]
-            | inr far ↦ inl (subst (λ (z : Txn). is_some (get_row z.rows j) ≡ true) (at_other v w t u y refl far) s)
-          ]);
-      theirs = untouched sc (other n) v.them v w lows h.theirs (seen_other n v w t y refl (λ s. not_both_nodes n x.node at.1 s.1) at);
-    }
-
 -- t shares some pages
 shares_locking : (sc : Scenario) (n : Node) (ps : List ℕ) (v : View) (lows : List ℕ) (t : ℕ) → Locking sc n v.me v lows → IsAt v t n
     → ((p : ℕ) → has ps p ≡ true → p < length lows) → ((p : ℕ) → has ps p ≡ true → owns v.me.pages p ≡ true)
@@ -126,55 +70,12 @@ shares_locking sc n (p ∷ ps) v lows t l at small own free =
     shares_locking sc n ps w lows t one at (λ q h. small q (or_right _ _ h)) (λ q h. own q (or_right _ _ h))
     (λ q h. conflict_own p t Shared v.me.locks q Shared ∙ free q (or_right _ _ h))
 
--- t does a sum, with the locks that it takes
-sum_kept : (sc : Scenario) (n : Node) (v : View) (lows : List ℕ) (t a b pc : ℕ) (regs : List ℕ) → Kept sc n v lows → IsAt v t n → FreeRange t a b v
-    → Inv (did t pc regs (txn_at v t).rows (has_locks t a b v)) → Kept sc n (did t pc regs (txn_at v t).rows (has_locks t a b v)) lows
-unfolding did shares txn_at
-sum_kept sc n v lows t a b pc regs h at f i =
-    let x = has_locks t a b v in
-    let w = did t pc regs (txn_at v t).rows x in
-    let small : (p : ℕ) → has (range_pages v.me.lows a b) p ≡ true → p < length lows = λ p e. let k = key_of_page v.me.lows a b p e in
-    subst (λ z. z < length lows) k.1 (within sc n v lows t k.0 h at) in
-    record {
-      inv = i;
-      first = h.first;
-      placed = h.placed;
-      mine = untouched sc n x.me x w lows (shares_locking sc n (range_pages v.me.lows a b) v lows t h.mine at small f.here f.free)
-          (seen_step n x w t _ refl at.0 refl refl refl);
-      theirs = untouched sc (other n) v.them v w lows h.theirs (seen_step (other n) v w t _ refl at.0 refl refl refl);
-    }
-
 -- the keys of the private rows after one is put
 grown : (k x : ℕ) (rows : List Row) (j : ℕ) → is_some (get_row (put_row k x rows) j) ≡ true
     → (is_some (get_row rows j) ≡ true) ⊎ ((k ≡ j) × (Exclusive ≡ Exclusive))
 grown k x rows j h =
     cond_both (k == j) (Some x) (get_row rows j) (λ o. is_some o ≡ true → (is_some (get_row rows j) ≡ true) ⊎ ((k ≡ j) × (Exclusive ≡ Exclusive)))
     (λ e _. inr (eqb-true _ _ e, refl)) (λ _ g. inl g) (ap is_some (sym (get_row-put k x rows j)) ∙ h)
-
--- an abort keeps it
-aborted_kept : (sc : Scenario) (n : Node) (v : View) (lows : List ℕ) (t : ℕ) (why : Why) → Kept sc n v lows → IsAt v t n → Inv (aborted t why v)
-    → Kept sc n (aborted t why v) lows
-unfolding aborted
-aborted_kept sc n v lows t why k at i = record {
-  inv = i;
-  first = k.first;
-  placed = k.placed;
-  mine = freed sc n v _ _ lows t _ k.mine at refl refl refl refl refl (λ p. refl);
-  theirs = untouched sc (other n) v.them v _ lows k.theirs (seen_other n v _ t _ refl (λ s. false≢true s.0) at);
-}
-
--- a commit keeps it
-committed_kept : (sc : Scenario) (n : Node) (v : View) (lows : List ℕ) (t : ℕ) → Kept sc n v lows → IsAt v t n → Inv (committed t v)
-    → Kept sc n (committed t v) lows
-unfolding committed
-committed_kept sc n v lows t k at i = record {
-  inv = i;
-  first = k.first;
-  placed = subst (λ l. Placed lows (installed l (txn_at v t).rows v.me.pages ++ (v.them.pages ++ (sent_leaves v.inbox ++ sent_leaves v.outbox))))
-      (sym (k.mine.newest (k.mine.busy t at))) (placed_installed lows (txn_at v t).rows v.me.pages _ k.placed);
-  mine = freed sc n v _ _ lows t _ k.mine at refl refl refl refl refl (owns-installed v.me.lows (txn_at v t).rows v.me.pages);
-  theirs = untouched sc (other n) v.them v _ lows k.theirs (seen_other n v _ t _ refl (λ s. false≢true s.0) at);
-}
 
 -- the home of a transaction is no idle node
 a_is_b : A ≡ B → ⊥
@@ -186,25 +87,16 @@ none_some h e = cc
 
 -- a node in a home mode is not idle
 home_runs : (m : NodeMode) → is_home m ≡ true → is_idle m ≡ false
-home_runs Empty h = absurd (false≢true h)
 home_runs Normal h = refl
 home_runs SInit h = refl
-home_runs SDual h = absurd (false≢true h)
-home_runs SFinish h = absurd (false≢true h)
-home_runs DInit h = absurd (false≢true h)
-home_runs DDual h = absurd (false≢true h)
-home_runs DFinish h = absurd (false≢true h)
+home_runs m h = absurd (false≢true h)
 
 -- a destination is not idle
 destination_runs : (m : NodeMode) → is_destination m ≡ true → is_idle m ≡ false
-destination_runs Empty h = absurd (false≢true h)
-destination_runs Normal h = absurd (false≢true h)
-destination_runs SInit h = absurd (false≢true h)
-destination_runs SDual h = absurd (false≢true h)
-destination_runs SFinish h = absurd (false≢true h)
 destination_runs DInit h = refl
 destination_runs DDual h = refl
 destination_runs DFinish h = refl
+destination_runs m h = absurd (false≢true h)
 
 -- the node of a home is that home
 some_is : (a b h : Node) → Some a ≡ Some h → h ≡ b → a ≡ b
@@ -253,14 +145,6 @@ begun_event sc n v w lows t h k i a new home e =
     (begun_kept sc v lows t h (subst (λ m. Kept sc m v lows) a k) new home (subst Inv e i)))
 
 -- ---- a page is cut
-
--- the lock that a step takes, before the rest of it
-pub has_lock_locking : (sc : Scenario) (n : Node) (v : View) (lows : List ℕ) (t k : ℕ) (kind : LockKind) → Kept sc n v lows → IsAt v t n → Free t k kind v
-    → Locking sc n (has_lock t k kind v).me (has_lock t k kind v) lows
-unfolding locked txn_at
-has_lock_locking sc n v lows t k kind h at f =
-    lock_taken sc n v (has_lock t k kind v) _ lows t (page_of v.me.lows k) kind h.mine at (within sc n v lows t k h at) f.here f.free refl refl refl refl
-    (λ u a. a) (λ u a. a) (λ u j a s. inl s)
 
 -- t has page p alone, and gets the new page alone
 cut_locking : (sc : Scenario) (n : Node) (v : View) (lows more : List ℕ) (t p b : ℕ) → Locking sc n v.me v lows → lows ≡ 0 ∷ more
@@ -311,32 +195,6 @@ cut_locking sc n v lows more t p b l begins mine on =
           ];
     }
 
--- a split keeps it, with one low key more
-cut_kept : (sc : Scenario) (n : Node) (v : View) (lows : List ℕ) (t k b : ℕ) → Kept sc n v lows → IsAt v t n → Free t k Exclusive v → may_split v.me.mode ≡ true
-    → page_of v.me.lows b ≡ page_of v.me.lows k → (Contains v.me.lows b → ⊥) → Inv (cut t (page_of v.me.lows k) b (has_lock t k Exclusive v))
-    → Kept sc n (cut t (page_of v.me.lows k) b (has_lock t k Exclusive v)) (lows ++ b ∷ [])
-unfolding cut locked
-cut_kept sc n v lows t k b h at f normal on new i =
-    let p = page_of v.me.lows k in
-    let more = h.first.0 in
-    let newest : v.me.lows ≡ lows = h.mine.newest (h.mine.busy t at) in
-    let begins : v.me.lows ≡ 0 ∷ more = newest ∙ h.first.1 in
-    let idle = normal_other v h.inv.roles normal in
-    let parts = placed_front (0 ∷ more) v.me.pages (rest_of v) (subst (λ l. Placed l (whole v)) h.first.1 h.placed) in
-    let here : page_of (0 ∷ more) b ≡ p = subst (λ l. page_of l b ≡ p) begins on in
-    let now = placed_cut more p b v.me.pages (rest_of v) here (subst (λ l. Contains l b → ⊥) begins new) (rest_lacks v p h.inv.owned f.here) parts.0 parts.1 in
-    let pages : ℕ → List Leaf = λ q. with_page (record { number = q; low = b; rows = rows_from b (rows_of v.me.pages p) }) (lowered p b v.me.pages)
-    ++ rest_of v in
-    record {
-      inv = i;
-      first = (more ++ b ∷ [], ap (λ l. l ++ b ∷ []) h.first.1);
-      placed = subst (λ l. Placed (l ++ b ∷ []) (pages (length v.me.lows))) (sym h.first.1)
-          (subst (λ l. Placed ((0 ∷ more) ++ b ∷ []) (pages (length l))) (sym begins) now);
-      mine = cut_locking sc n (has_lock t k Exclusive v) lows more t p b (has_lock_locking sc n v lows t k Exclusive h at f) h.first.1
-          (alone_new p t v.me.locks) (ap (λ l. page_of l b) (sym newest) ∙ on);
-      theirs = idle_locking sc (other n) v.them v.them v _ lows (lows ++ b ∷ []) h.theirs idle.0 idle.0 refl refl;
-    }
-
 -- ---- messages, modes and pages that move
 
 -- a node that turns to another mode in which transactions run
@@ -372,24 +230,6 @@ links_kept : (sc : Scenario) (n : Node) (v w : View) (lows : List ℕ) → Kept 
 links_kept sc n v w lows k i txns them pages inbox outbox mine =
     node_kept sc n v w lows k i txns them (subst (Placed lows) (sym (whole_same v w pages (ap (λ (x : NodeState). x.pages) them) inbox outbox)) k.placed) mine
 
--- asking for a page keeps it
-asks_kept : (sc : Scenario) (n : Node) (v : View) (lows : List ℕ) (p : ℕ) → Kept sc n v lows → Inv (asks p v) → Kept sc n (asks p v) lows
-unfolding asks
-asks_kept sc n v lows p k i =
-    links_kept sc n v _ lows k i refl refl refl refl (sent_bare v.outbox (Pull p) refl)
-    (steady sc n v.me _ v _ lows k.mine (seen_same n v _ refl) refl k.mine.busy k.mine.newest k.mine.kept)
-
--- a page that nobody has locked leaves, and perhaps the front of the inbox with it
-leaves_kept : (sc : Scenario) (n : Node) (v : View) (lows : List ℕ) (p : ℕ) (ms : List Message) → Kept sc n v lows → sent_leaves ms ≡ sent_leaves v.inbox
-    → owns v.me.pages p ≡ true
-    → (Stay sc v.me.mode → (q t : ℕ) → holds v.me.locks q t ≡ true → q ≡ p → ⊥) → Inv (leaves p (rest v ms)) → Kept sc n (leaves p (rest v ms)) lows
-unfolding leaves
-leaves_kept sc n v lows p ms k inbox own free i =
-    let r = rest v ms in
-    node_kept sc n v (leaves p r) lows k i refl refl (leaves_placed lows r p (subst (Placed lows) (sym (whole_same v r refl refl inbox refl)) k.placed) own)
-    (steady sc n v.me _ v _ lows k.mine (seen_same n v _ refl) refl k.mine.busy k.mine.newest
-    (λ q t s h. owns-without_other p q v.me.pages (free s q t h) ∙ k.mine.kept q t s h))
-
 -- a page that is handed over is locked by nobody, where locked pages stay
 pub give_free : (sc : Scenario) (v : View) (p : ℕ) → is_source v.me.mode ≡ true → (is_held sc.rule && is_locked v.me.locks p) ≡ false → Stay sc v.me.mode
     → (q t : ℕ) → holds v.me.locks q t ≡ true → q ≡ p → ⊥
@@ -404,7 +244,7 @@ owns_more leaf xs p h = owns-with_page p leaf xs ∙ or_right _ _ h
 -- the wireframe that comes is the source's
 wire_front : (v : View) (lows : List ℕ) (ms : List Message) → v.inbox ≡ Wire lows ∷ ms → v.me.mode ≡ Empty → Roles v → (lows ≡ v.them.lows)
     × (v.them.mode ≡ SInit)
-wire_front v lows ms e empty r = let came = wire_came v.them v.me v.inbox v.outbox lows ms (taker_of v r (ap is_taker empty)) e in (came.2, came.0)
+wire_front v lows ms e empty r = let came = wire_came (taker_of v r (ap is_taker empty)) e in (came.2, came.0)
 
 -- a node is the same as itself
 same_node-refl : (n : Node) → same_node n n ≡ true
@@ -426,15 +266,168 @@ no_active : (n : Node) (v : View) (t : ℕ) → active_from n 0 v.txns ≡ None 
 unfolding txn_at
 no_active n v t e a = active_none n 0 v.txns t e a
 
--- where a transaction runs, the node's pages lie by its own low keys
-pub home_placed : (sc : Scenario) (n : Node) (v : View) (lows : List ℕ) (t : ℕ) → Kept sc n v lows → IsAt v t n → Placed v.me.lows v.me.pages
-home_placed sc n v lows t k at = subst (λ l. Placed l v.me.pages) (sym (k.mine.newest (k.mine.busy t at))) (placed_front lows v.me.pages (rest_of v) k.placed).0
+-- a state seen from n, and its newest low keys
+module _ (sc : Scenario) (n : Node) (v : View) (lows : List ℕ) where
+  -- t does an instruction without a key
+  goes_kept : (t pc : ℕ) (regs : List ℕ) → Kept sc n v lows → IsAt v t n
+      → Inv (did t pc regs (txn_at v t).rows v) → Kept sc n (did t pc regs (txn_at v t).rows v) lows
+  unfolding did
+  goes_kept t pc regs k at i = record {
+    inv = i;
+    first = k.first;
+    placed = k.placed;
+    mine = untouched sc n v.me v _ lows k.mine (seen_step n v _ t _ refl at.0 refl refl refl);
+    theirs = untouched sc (other n) v.them v _ lows k.theirs (seen_step (other n) v _ t _ refl at.0 refl refl refl);
+  }
 
--- the boundary of a split lies on the page that is cut
-pub split_on : (sc : Scenario) (n : Node) (v : View) (lows : List ℕ) (t key value : ℕ) → Kept sc n v lows
-    → Runs sc n t (effect.Accesses (access.Inserts value) key) v → has_room sc (page key v) v.me (txn_at v t) ≡ false
-    → page_of v.me.lows (boundary sc key (page key v) v.me (txn_at v t)) ≡ page key v
-split_on sc n v lows t key value k runs full = boundary_on sc t key (page key v) v (home_placed sc n v lows t k (runs.active, runs.here)) refl full
+  -- a key's page is one of the wireframe
+  within : (t k : ℕ) → Kept sc n v lows → IsAt v t n → page_of v.me.lows k < length lows
+  within t k h at =
+      let some = subst (λ l. page_of l k < length l) (sym h.first.1) (page_of-within (0 ∷ h.first.0) k (omega arith)) in
+      subst (λ l. page_of l k < length lows) (sym (h.mine.newest (h.mine.busy t at))) some
+
+  -- t does an instruction on a key, with the lock that it takes
+  lock_kept : (t k : ℕ) (kind : LockKind) (pc : ℕ) (regs : List ℕ) (rows : List Row)
+      → Kept sc n v lows → IsAt v t n → Free t k kind v
+      → ((j : ℕ) → is_some (get_row rows j) ≡ true → (is_some (get_row (txn_at v t).rows j) ≡ true) ⊎ ((k ≡ j) × (kind ≡ Exclusive)))
+      → Inv (did t pc regs rows (has_lock t k kind v)) → Kept sc n (did t pc regs rows (has_lock t k kind v)) lows
+  unfolding did locked txn_at
+  lock_kept t k kind pc regs rows h at f grow i =
+      let w = did t pc regs rows (has_lock t k kind v) in
+      let x = txn_at v t in
+      let y : Txn = record x { pc = pc; regs = regs; rows = rows; done = x.done + 1 } in
+      let p = page_of v.me.lows k in
+      let self : txn_at w t ≡ y = at_self v w t y refl at.0 in
+      let newest : v.me.lows ≡ lows = h.mine.newest (h.mine.busy t at) in
+      record {
+        inv = i;
+        first = h.first;
+        placed = h.placed;
+        mine = lock_taken sc n v w w.me lows t p kind h.mine at (within t k h at) f.here f.free refl refl refl refl
+            (λ u a. elim (cases_eq u t) [
+              | inl same ↦ subst (λ z. IsAt v z n) (sym same) at
+              | inr far ↦
+                  subst (λ (z : Txn). Stands z n) (at_other v w t u y refl far) a
+            ])
+            (λ u a. elim (cases_eq u t) [
+              | inl same ↦ subst (λ z. IsAt w z n) (sym same) (subst (λ (z : Txn). Stands z n) (sym self) at)
+              | inr far ↦
+                  subst (λ (z : Txn). Stands z n) (sym (at_other v w t u y refl far)) a
+            ])
+            (λ u j a s. elim (cases_eq u t) [
+              | inl same ↦ elim (grow j (subst (λ (z : Txn). is_some (get_row z.rows j) ≡ true) (ap (txn_at w) same ∙ self) s)) [
+                | inl old ↦ inl (subst (λ z. is_some (get_row (txn_at v z).rows j) ≡ true) (sym same) old)
+                | inr new ↦ inr (same, sym (ap (page_of v.me.lows) new.0 ∙ ap (λ l. page_of l j) newest), new.1)
+              ]
+              | inr far ↦ inl (subst (λ (z : Txn). is_some (get_row z.rows j) ≡ true) (at_other v w t u y refl far) s)
+            ]);
+        theirs = untouched sc (other n) v.them v w lows h.theirs (seen_other n v w t y refl (λ s. not_both_nodes n x.node at.1 s.1) at);
+      }
+
+  -- t does a sum, with the locks that it takes
+  sum_kept : (t a b pc : ℕ) (regs : List ℕ) → Kept sc n v lows → IsAt v t n → FreeRange t a b v
+      → Inv (did t pc regs (txn_at v t).rows (has_locks t a b v)) → Kept sc n (did t pc regs (txn_at v t).rows (has_locks t a b v)) lows
+  unfolding did shares txn_at
+  sum_kept t a b pc regs h at f i =
+      let x = has_locks t a b v in
+      let w = did t pc regs (txn_at v t).rows x in
+      let small : (p : ℕ) → has (range_pages v.me.lows a b) p ≡ true → p < length lows = λ p e. let k = key_of_page v.me.lows a b p e in
+      subst (λ z. z < length lows) k.1 (within t k.0 h at) in
+      record {
+        inv = i;
+        first = h.first;
+        placed = h.placed;
+        mine = untouched sc n x.me x w lows (shares_locking sc n (range_pages v.me.lows a b) v lows t h.mine at small f.here f.free)
+            (seen_step n x w t _ refl at.0 refl refl refl);
+        theirs = untouched sc (other n) v.them v w lows h.theirs (seen_step (other n) v w t _ refl at.0 refl refl refl);
+      }
+
+  -- an abort keeps it
+  aborted_kept : (t : ℕ) (why : Why) → Kept sc n v lows → IsAt v t n → Inv (aborted t why v)
+      → Kept sc n (aborted t why v) lows
+  unfolding aborted
+  aborted_kept t why k at i = record {
+    inv = i;
+    first = k.first;
+    placed = k.placed;
+    mine = freed sc n v _ _ lows t _ k.mine at refl refl refl refl refl (λ p. refl);
+    theirs = untouched sc (other n) v.them v _ lows k.theirs (seen_other n v _ t _ refl (λ s. false≢true s.0) at);
+  }
+
+  -- a commit keeps it
+  committed_kept : (t : ℕ) → Kept sc n v lows → IsAt v t n → Inv (committed t v)
+      → Kept sc n (committed t v) lows
+  unfolding committed
+  committed_kept t k at i = record {
+    inv = i;
+    first = k.first;
+    placed = subst (λ l. Placed lows (installed l (txn_at v t).rows v.me.pages ++ (v.them.pages ++ (sent_leaves v.inbox ++ sent_leaves v.outbox))))
+        (sym (k.mine.newest (k.mine.busy t at))) (placed_installed lows (txn_at v t).rows v.me.pages _ k.placed);
+    mine = freed sc n v _ _ lows t _ k.mine at refl refl refl refl refl (owns-installed v.me.lows (txn_at v t).rows v.me.pages);
+    theirs = untouched sc (other n) v.them v _ lows k.theirs (seen_other n v _ t _ refl (λ s. false≢true s.0) at);
+  }
+
+  -- the lock that a step takes, before the rest of it
+  pub has_lock_locking : (t k : ℕ) (kind : LockKind) → Kept sc n v lows → IsAt v t n → Free t k kind v
+      → Locking sc n (has_lock t k kind v).me (has_lock t k kind v) lows
+  unfolding locked txn_at
+  has_lock_locking t k kind h at f =
+      lock_taken sc n v (has_lock t k kind v) _ lows t (page_of v.me.lows k) kind h.mine at (within t k h at) f.here f.free refl refl refl refl
+      (λ u a. a) (λ u a. a) (λ u j a s. inl s)
+
+  -- a split keeps it, with one low key more
+  cut_kept : (t k b : ℕ) → Kept sc n v lows → IsAt v t n → Free t k Exclusive v → may_split v.me.mode ≡ true
+      → page_of v.me.lows b ≡ page_of v.me.lows k → (Contains v.me.lows b → ⊥) → Inv (cut t (page_of v.me.lows k) b (has_lock t k Exclusive v))
+      → Kept sc n (cut t (page_of v.me.lows k) b (has_lock t k Exclusive v)) (lows ++ b ∷ [])
+  unfolding cut locked
+  cut_kept t k b h at f normal on new i =
+      let p = page_of v.me.lows k in
+      let more = h.first.0 in
+      let newest : v.me.lows ≡ lows = h.mine.newest (h.mine.busy t at) in
+      let begins : v.me.lows ≡ 0 ∷ more = newest ∙ h.first.1 in
+      let idle = normal_other v h.inv.roles normal in
+      let parts = placed_front (0 ∷ more) v.me.pages (rest_of v) (subst (λ l. Placed l (whole v)) h.first.1 h.placed) in
+      let here : page_of (0 ∷ more) b ≡ p = subst (λ l. page_of l b ≡ p) begins on in
+      let now = placed_cut more p b v.me.pages (rest_of v) here (subst (λ l. Contains l b → ⊥) begins new) (rest_lacks v p h.inv.owned f.here) parts.0 parts.1 in
+      let pages : ℕ → List Leaf = λ q. with_page (record { number = q; low = b; rows = rows_from b (rows_of v.me.pages p) }) (lowered p b v.me.pages)
+      ++ rest_of v in
+      record {
+        inv = i;
+        first = (more ++ b ∷ [], ap (λ l. l ++ b ∷ []) h.first.1);
+        placed = subst (λ l. Placed (l ++ b ∷ []) (pages (length v.me.lows))) (sym h.first.1)
+            (subst (λ l. Placed ((0 ∷ more) ++ b ∷ []) (pages (length l))) (sym begins) now);
+        mine = cut_locking sc n (has_lock t k Exclusive v) lows more t p b (has_lock_locking t k Exclusive h at f) h.first.1
+            (alone_new p t v.me.locks) (ap (λ l. page_of l b) (sym newest) ∙ on);
+        theirs = idle_locking sc (other n) v.them v.them v _ lows (lows ++ b ∷ []) h.theirs idle.0 idle.0 refl refl;
+      }
+
+  -- asking for a page keeps it
+  asks_kept : (p : ℕ) → Kept sc n v lows → Inv (asks p v) → Kept sc n (asks p v) lows
+  unfolding asks
+  asks_kept p k i =
+      links_kept sc n v _ lows k i refl refl refl refl (sent_bare v.outbox (Pull p) refl)
+      (steady sc n v.me _ v _ lows k.mine (seen_same n v _ refl) refl k.mine.busy k.mine.newest k.mine.kept)
+
+  -- a page that nobody has locked leaves, and perhaps the front of the inbox with it
+  leaves_kept : (p : ℕ) (ms : List Message) → Kept sc n v lows → sent_leaves ms ≡ sent_leaves v.inbox
+      → owns v.me.pages p ≡ true
+      → (Stay sc v.me.mode → (q t : ℕ) → holds v.me.locks q t ≡ true → q ≡ p → ⊥) → Inv (leaves p (rest v ms)) → Kept sc n (leaves p (rest v ms)) lows
+  unfolding leaves
+  leaves_kept p ms k inbox own free i =
+      let r = rest v ms in
+      node_kept sc n v (leaves p r) lows k i refl refl (leaves_placed lows r p (subst (Placed lows) (sym (whole_same v r refl refl inbox refl)) k.placed) own)
+      (steady sc n v.me _ v _ lows k.mine (seen_same n v _ refl) refl k.mine.busy k.mine.newest
+      (λ q t s h. owns-without_other p q v.me.pages (free s q t h) ∙ k.mine.kept q t s h))
+
+  -- where a transaction runs, the node's pages lie by its own low keys
+  pub home_placed : (t : ℕ) → Kept sc n v lows → IsAt v t n → Placed v.me.lows v.me.pages
+  home_placed t k at = subst (λ l. Placed l v.me.pages) (sym (k.mine.newest (k.mine.busy t at))) (placed_front lows v.me.pages (rest_of v) k.placed).0
+
+  -- the boundary of a split lies on the page that is cut
+  pub split_on : (t key value : ℕ) → Kept sc n v lows
+      → Runs sc n t (effect.Accesses (access.Inserts value) key) v → has_room sc (page key v) v.me (txn_at v t) ≡ false
+      → page_of v.me.lows (boundary sc key (page key v) v.me (txn_at v t)) ≡ page key v
+  split_on t key value k runs full = boundary_on sc t key (page key v) v (home_placed t k (runs.active, runs.here)) refl full
 
 -- along the view that a line makes
 along : (sc : Scenario) (n : Node) (w x : View) (lows : List ℕ) → w ≡ x → Inv w → (Inv x → Kept sc n x lows) → Kept sc n w lows

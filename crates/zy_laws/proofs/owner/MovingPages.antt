@@ -3,7 +3,7 @@ use Rattle.std.proofs.Common.{List, [], ap, append-nil, arith, false, inl, inr, 
 use Rattle.std.specs.Prelude.{◌==◌, ◌||◌}
 use Rattle.std.proofs.Math.Bool.{or-false, or_assoc}
 use Rattle.std.proofs.lemmas.Bool.{and_parts, cases_eq, cond_both, eqb-true, ne_eqb, or_from}
-use Rattle.zy_links.specs.Messages.{Done, Dual, Finish, Page, Pull, Ready, Wire}
+use Rattle.zy_links.specs.Messages.{Page}
 use Rattle.zy_table.specs.Database.{sent_leaves}
 use Rattle.zy_table.specs.Pages.{leaf_at, owns, without}
 use Rattle.zy_table.specs.State.{Leaf, Message}
@@ -45,12 +45,7 @@ owns-without_other p q (x ∷ xs) far =
 pub sent_leaves-append : (xs ys : List Message) → sent_leaves (xs ++ ys) ≡ sent_leaves xs ++ sent_leaves ys
 sent_leaves-append [] ys = refl
 sent_leaves-append (Page x ∷ xs) ys = ap (λ zs. x ∷ zs) (sent_leaves-append xs ys)
-sent_leaves-append (Wire lows ∷ xs) ys = sent_leaves-append xs ys
-sent_leaves-append (Ready ∷ xs) ys = sent_leaves-append xs ys
-sent_leaves-append (Dual ∷ xs) ys = sent_leaves-append xs ys
-sent_leaves-append (Pull p ∷ xs) ys = sent_leaves-append xs ys
-sent_leaves-append (Finish ∷ xs) ys = sent_leaves-append xs ys
-sent_leaves-append (Done ∷ xs) ys = sent_leaves-append xs ys
+sent_leaves-append (m ∷ xs) ys = sent_leaves-append xs ys
 
 -- the same of one message without a page
 pub sent_bare : (ms : List Message) (m : Message) → sent_leaves (m ∷ []) ≡ [] → sent_leaves (ms ++ m ∷ []) ≡ sent_leaves ms

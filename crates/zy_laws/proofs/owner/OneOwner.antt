@@ -40,8 +40,8 @@ use Rattle.zy_laws.proofs.walk.Kinds.{in_place_of}
 
 -- a step that keeps a node's shape and the links keeps the roles
 roles_same : (v w : View) → SameShape v.me w.me → w.them ≡ v.them → w.inbox ≡ v.inbox → w.outbox ≡ v.outbox → Roles v → Roles w
-roles_same v w s a b c (Source ph) = Source (rw (a, b, c) (source_same v.me w.me v.them v.outbox v.inbox s ph))
-roles_same v w s a b c (Destination ph) = Destination (rw (a, b, c) (destination_same v.them v.me w.me v.inbox v.outbox s ph))
+roles_same v w s a b c (Source ph) = Source (rw (a, b, c) (source_same s ph))
+roles_same v w s a b c (Destination ph) = Destination (rw (a, b, c) (destination_same s ph))
 
 -- the counts and the width say all of who owns what
 pub owned_same : (v w : View) → ((p : ℕ) → places p w ≡ places p v) → width w ≡ width v → Owned v → Owned w
@@ -99,9 +99,9 @@ cut_there t p b v all = record {
 -- a split keeps the roles
 cut_roles : (t p b : ℕ) (v : View) → v.me.mode ≡ Normal → Roles v → Roles (cut t p b v)
 unfolding cut
-cut_roles t p b v normal (Source ph) = Source (cut_source v.me v.them v.outbox v.inbox (cut t p b v).me ph normal refl)
+cut_roles t p b v normal (Source ph) = Source (cut_source (cut t p b v).me ph normal refl)
 cut_roles t p b v normal (Destination ph) =
-    Destination (cut_taker v.them v.me v.inbox v.outbox (cut t p b v).me ph normal refl (record { more = b ∷ []; is = refl }) (cut_there t p b v))
+    Destination (cut_taker (cut t p b v).me ph normal refl (record { more = b ∷ []; is = refl }) (cut_there t p b v))
 
 -- a split keeps roles and owners
 cut_inv : (t p b : ℕ) (v : View) → may_split v.me.mode ≡ true → Inv v → Inv (cut t p b v)
@@ -163,9 +163,9 @@ taker v i s = taker_of v i.roles s
 asks_inv : (p : ℕ) (v : View) → Inv v → may_pull v.me.mode ≡ true → Inv (asks p v)
 unfolding asks
 asks_inv p v i s =
-    let ph = asked_for v.them v.me v.inbox v.outbox p (taker v i (pulls_taker v.me.mode s)) s in
+    let ph = asked_for p (taker v i (pulls_taker v.me.mode s)) s in
     links_inv v (asks p v) i
-    (Destination (destination_same v.them v.me (asks p v).me v.inbox (asks p v).outbox (locks_shape v.me (asks p v).me (refl, refl, refl)) ph))
+    (Destination (destination_same (locks_shape v.me (asks p v).me (refl, refl, refl)) ph))
     (record { none = i.mine.none }) refl refl refl (λ q. refl) (posted v (Pull p) (λ q. refl))
 
 -- a start keeps roles and owners
@@ -173,14 +173,14 @@ starts_inv : (v : View) → Inv v → v.me.mode ≡ Normal → v.them.mode ≡ E
 starts_inv v i normal empty =
     let w = post (Wire v.me.lows) (turns SInit v) in
     let ph = taker_of (turned v) (turned_inv v i).roles (ap is_taker empty) in
-    links_inv v w i (Source (started v.me v.them v.outbox v.inbox ph normal empty)) (bare_never w.me SInit refl refl) refl refl refl
+    links_inv v w i (Source (started ph normal empty)) (bare_never w.me SInit refl refl) refl refl refl
     (λ p. refl) (posted v (Wire v.me.lows) (λ p. refl))
 
 -- a wireframe that is taken is no longer than the other node's
 pub wire_wide : (v : View) (lows : List ℕ) (ms : List Message) → Inv v → v.inbox ≡ Wire lows ∷ ms → v.me.mode ≡ Empty
     → max (length lows) (length v.them.lows) ≡ width v
 wire_wide v lows ms i f empty =
-    let came = wire_came v.them v.me v.inbox v.outbox lows ms (taker v i (ap is_taker empty)) f in
+    let came = wire_came (taker v i (ap is_taker empty)) f in
     let bare : length v.me.lows ≡ 0 = ap length came.1 in
     let same : length lows ≡ length v.them.lows = ap length came.2 in
     omega (arith, bare, same)
@@ -190,7 +190,7 @@ wire_inv : (v : View) (lows : List ℕ) (ms : List Message) → Inv v → v.inbo
     → Inv (post Ready (turns DInit (with_me (with_lows lows v.me) (rest v ms))))
 wire_inv v lows ms i f empty =
     let w = post Ready (turns DInit (with_me (with_lows lows v.me) (rest v ms))) in
-    let came = wire_came v.them v.me v.inbox v.outbox lows ms (taker v i (ap is_taker empty)) f in
+    let came = wire_came (taker v i (ap is_taker empty)) f in
     let clear : v.outbox ≡ [] = came.4 in
     let roles = Destination (Ready_sent came.0 refl came.2 came.3 (ap (λ xs. xs ++ Ready ∷ []) clear)) in
     links_inv v w i roles (record { none = λ _. i.mine.none (ap is_bare empty) }) refl refl (wire_wide v lows ms i f empty)
@@ -200,20 +200,20 @@ wire_inv v lows ms i f empty =
 ready_inv : (v : View) (ms : List Message) → Inv v → v.inbox ≡ Ready ∷ ms → v.me.mode ≡ SInit → Inv (post Dual (turns SDual (rest v ms)))
 ready_inv v ms i f init =
     let w = post Dual (turns SDual (rest v ms)) in
-    links_inv v w i (Source (ready_came v.me v.them v.outbox v.inbox ms (source v i (ap is_source init)) f)) (bare_never w.me SDual refl refl) refl refl refl
+    links_inv v w i (Source (ready_came (source v i (ap is_source init)) f)) (bare_never w.me SDual refl refl) refl refl refl
     (taken v Ready ms f (λ p. refl)) (posted v Dual (λ p. refl))
 
 -- a dual that is taken keeps roles and owners
 dual_inv : (v : View) (ms : List Message) → Inv v → v.inbox ≡ Dual ∷ ms → v.me.mode ≡ DInit → Inv (turns DDual (rest v ms))
 dual_inv v ms i f init =
     let w = turns DDual (rest v ms) in
-    links_inv v w i (Destination (dual_came v.them v.me v.inbox v.outbox ms (taker v i (ap is_taker init)) f)) (bare_never w.me DDual refl refl) refl refl refl
+    links_inv v w i (Destination (dual_came (taker v i (ap is_taker init)) f)) (bare_never w.me DDual refl refl) refl refl refl
     (taken v Dual ms f (λ p. refl)) (λ p. refl)
 
 -- a stale pull keeps the roles
 pulled_roles : (v : View) (p : ℕ) (ms : List Message) → v.inbox ≡ Pull p ∷ ms → Roles v → Roles (rest v ms)
-pulled_roles v p ms f (Source ph) = Source (pull_came v.me v.them v.outbox v.inbox p ms ph f)
-pulled_roles v p ms f (Destination ph) = absurd (no_pull v.them v.me v.inbox v.outbox p ms ph f)
+pulled_roles v p ms f (Source ph) = Source (pull_came ph f)
+pulled_roles v p ms f (Destination ph) = absurd (no_pull ph f)
 
 -- a stale pull keeps roles and owners
 pub pulled_inv : (v : View) (p : ℕ) (ms : List Message) → Inv v → v.inbox ≡ Pull p ∷ ms → Inv (rest v ms)
@@ -223,14 +223,14 @@ pulled_inv v p ms i f = links_inv v (rest v ms) i (pulled_roles v p ms f i.roles
 finishes_inv : (v : View) → Inv v → v.me.mode ≡ SDual → Inv (post Finish (turns SFinish v))
 finishes_inv v i dual =
     let w = post Finish (turns SFinish v) in
-    links_inv v w i (Source (finished v.me v.them v.outbox v.inbox (source v i (ap is_source dual)) dual)) (bare_never w.me SFinish refl refl) refl refl refl
+    links_inv v w i (Source (finished (source v i (ap is_source dual)) dual)) (bare_never w.me SFinish refl refl) refl refl refl
     (λ p. refl) (posted v Finish (λ p. refl))
 
 -- a finish that is taken keeps roles and owners
 finish_inv : (v : View) (ms : List Message) → Inv v → v.inbox ≡ Finish ∷ ms → v.me.mode ≡ DDual → Inv (turns DFinish (rest v ms))
 finish_inv v ms i f dual =
     let w = turns DFinish (rest v ms) in
-    links_inv v w i (Destination (finish_came v.them v.me v.inbox v.outbox ms (taker v i (ap is_taker dual)) dual f))
+    links_inv v w i (Destination (finish_came (taker v i (ap is_taker dual)) dual f))
     (bare_never w.me DFinish refl refl) refl refl refl
     (taken v Finish ms f (λ p. refl)) (λ p. refl)
 
@@ -263,9 +263,9 @@ unfolding leaves
 leaves_inv p v i s own =
     let leaf = leaf_at v.me.pages p in
     let ph = source v i (sends_source v.me.mode s) in
-    let lacks = not_both v p i.owned own (sending_lows v.me v.them v.outbox v.inbox ph s) in
+    let lacks = not_both v p i.owned own (sending_lows ph s) in
     record {
-      roles = Source (page_left v.me v.them v.outbox v.inbox leaf (without p v.me.pages) ph s lacks);
+      roles = Source (page_left leaf (without p v.me.pages) ph s lacks);
       owned = owned_same v _ (λ q.
           let number = ap {B = ℕ} (λ n. if n == q then 1 else 0) (leaf_at-number v.me.pages p) in
           omega (arith, left_counts v p q own i.owned, times_sent-post q v.outbox (Page leaf), number)) refl i.owned;
@@ -280,7 +280,7 @@ arrived_inv : (v : View) (leaf : Leaf) (ms : List Message) → Inv v → v.inbox
 arrived_inv v leaf ms i f s =
     let w = arrived leaf (rest v ms) in
     record {
-      roles = Destination (page_came v.them v.me v.inbox v.outbox leaf ms w.me.pages w.me.asked (taker v i (pulls_taker v.me.mode s)) s f);
+      roles = Destination (page_came leaf ms w.me.pages w.me.asked (taker v i (pulls_taker v.me.mode s)) s f);
       owned = owned_same v w (λ q. omega (arith, ap (times_sent q) f, times-with_page q leaf v.me.pages)) refl i.owned;
       mine = bare_never w.me v.me.mode refl (pulls_bare v.me.mode s);
       theirs = i.theirs;
@@ -302,18 +302,13 @@ nothing_sent v (Page leaf ∷ ms) e h o all long =
     let below : p < length v.me.lows = grind (arith, nat_tests, k, sent, long) in
     let two = all.each p below in
     absurd (grind (arith, nat_tests, k, sent, two))
-nothing_sent v (Wire lows ∷ ms) e h o all long = absurd h
-nothing_sent v (Ready ∷ ms) e h o all long = absurd h
-nothing_sent v (Dual ∷ ms) e h o all long = absurd h
-nothing_sent v (Pull p ∷ ms) e h o all long = absurd h
-nothing_sent v (Finish ∷ ms) e h o all long = absurd h
-nothing_sent v (Done ∷ ms) e h o all long = absurd h
+nothing_sent v ms e h o all long = absurd h
 
 -- it turns Normal and says so
 all_inv : (v : View) → Inv v → v.me.mode ≡ DFinish → all_here v.me ≡ true → Inv (post Done (turns Normal v))
 all_inv v i finish here =
     let w = post Done (turns Normal v) in
-    let k = in_finish v.them v.me v.inbox v.outbox (taker v i (ap is_taker finish)) finish in
+    let k = in_finish (taker v i (ap is_taker finish)) finish in
     let all = there_of v.me here in
     let more : Begins v.them.lows v.me.lows = record { more = []; is = k.1 ∙ sym (append-nil v.them.lows) } in
     let done = Done_sent k.0 refl more (record { each = all.each }) (nothing_sent v v.inbox refl k.2 i.owned all (ap length k.1)) (done_post v.outbox k.3) in
@@ -327,7 +322,7 @@ none_there (x ∷ xs) h = let k = h x.number in absurd (grind (arith, nat_tests,
 -- without the source's wireframe the width is the same
 pub done_wide : (v : View) (ms : List Message) → Inv v → v.inbox ≡ Done ∷ ms → v.me.mode ≡ SFinish → max 0 (length v.them.lows) ≡ width v
 done_wide v ms i f finish =
-    let k = done_came v.me v.them v.outbox v.inbox ms (source v i (ap is_source finish)) f in
+    let k = done_came (source v i (ap is_source finish)) f in
     let long = begins_length v.me.lows v.them.lows k.1 in
     omega (arith, long)
 
@@ -335,7 +330,7 @@ done_wide v ms i f finish =
 done_inv : (v : View) (ms : List Message) → Inv v → v.inbox ≡ Done ∷ ms → v.me.mode ≡ SFinish → Inv (turns Empty (with_me (with_lows [] v.me) (rest v ms)))
 done_inv v ms i f finish =
     let w = turns Empty (with_me (with_lows [] v.me) (rest v ms)) in
-    let k = done_came v.me v.them v.outbox v.inbox ms (source v i (ap is_source finish)) f in
+    let k = done_came (source v i (ap is_source finish)) f in
     let long = begins_length v.me.lows v.them.lows k.1 in
     let left = none_there v.me.pages (λ p.
     let one = i.owned.once p in

@@ -6,20 +6,15 @@ use Rattle.std.proofs.lemmas.Bool.Decides.{nat_tests}
 use Rattle.zy_isa.specs.declared.row.Row.{Row}
 use Rattle.zy_table.specs.Change.{installed}
 use Rattle.zy_table.specs.Database.{all_leaves, sent_leaves}
-use Rattle.zy_links.specs.Messages.{Done, Dual, Finish, Page, Pull, Ready, Wire}
+use Rattle.zy_links.specs.Messages.{Page}
 use Rattle.zy_laws.specs.OneOwner.{times}
 use Rattle.zy_table.specs.Pages.{lowered, owns, with_page, without}
 use Rattle.zy_table.specs.State.{Leaf, Message, State}
 
 -- how often page p is in a message, and in a link
 abbrev pub times_in : ℕ → Message → ℕ
-times_in p (Wire lows) = 0
-times_in p Ready = 0
-times_in p Dual = 0
-times_in p (Pull q) = 0
 times_in p (Page leaf) = if leaf.number == p then 1 else 0
-times_in p Finish = 0
-times_in p Done = 0
+times_in p m = 0
 
 -- how often page p is in a link
 abbrev pub times_sent : ℕ → List Message → ℕ
@@ -57,12 +52,7 @@ times-append p (x ∷ xs) ys = omega (arith, times-append p xs ys)
 pub times-sent_leaves : (p : ℕ) (ms : List Message) → times p (sent_leaves ms) ≡ times_sent p ms
 times-sent_leaves p [] = refl
 times-sent_leaves p (Page leaf ∷ ms) = ap (λ n. (if leaf.number == p then 1 else 0) + n) (times-sent_leaves p ms)
-times-sent_leaves p (Wire lows ∷ ms) = times-sent_leaves p ms ∙ omega arith
-times-sent_leaves p (Ready ∷ ms) = times-sent_leaves p ms ∙ omega arith
-times-sent_leaves p (Dual ∷ ms) = times-sent_leaves p ms ∙ omega arith
-times-sent_leaves p (Pull q ∷ ms) = times-sent_leaves p ms ∙ omega arith
-times-sent_leaves p (Finish ∷ ms) = times-sent_leaves p ms ∙ omega arith
-times-sent_leaves p (Done ∷ ms) = times-sent_leaves p ms ∙ omega arith
+times-sent_leaves p (m ∷ ms) = times-sent_leaves p ms ∙ omega arith
 
 -- all pages are those of both nodes and both links
 pub times-all_leaves : (p : ℕ) (s : State) → times p (all_leaves s) ≡ (times p s.a.pages + times p s.b.pages) + (times_sent p s.ab + times_sent p s.ba)

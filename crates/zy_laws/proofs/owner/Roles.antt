@@ -1,11 +1,8 @@
 -- Which node has which role, and where each page is.
-use Rattle.std.proofs.Common.{Bool, [], ◌∷◌, List, ap, arith, false, length, refl, sym, true, ℕ, ◌+◌, ◌<◌, ◌≤◌, ◌∙◌, ◌≡◌}
+use Rattle.std.proofs.Common.{[], ◌∷◌, List, ap, arith, false, length, refl, true, ℕ, ◌+◌, ◌<◌, ◌≤◌, ◌≡◌}
 use Rattle.std.specs.Prelude.{if◌then◌else◌, max, nat_lt}
-use Rattle.std.proofs.lemmas.Bool.{false≢true}
 use Rattle.std.proofs.lemmas.Bool.Decides.{nat_tests}
 use Rattle.zy_modes.specs.Families.{is_home, is_bare, is_idle}
-use Rattle.zy_modes.specs.declared.mode.NodeMode.{NodeMode}
-use Rattle.zy_modes.specs.declared.mode.NodeMode.TheVariants.{Empty, SInit, SDual, SFinish, DInit, DDual, DFinish}
 use Rattle.zy_modes.specs.Table.{may_split}
 use Rattle.zy_links.specs.Messages.{Wire, Ready}
 use Rattle.zy_laws.specs.OneOwner.{times}
@@ -42,11 +39,7 @@ pub record Inv (v : View) : Type 0 where
   pub mine : Bare v.me
   pub theirs : Bare v.them
 
--- a fact of the mode that another mode lacks
-pub mode_clash : {A : Type 0} (f : NodeMode → Bool) (m x : NodeMode) → x ≡ m → f m ≡ false → f x ≡ true → A
-mode_clash f m x same lacks has = absurd (false≢true (sym lacks ∙ ap f (sym same) ∙ has))
-
--- the same from the other side
+-- the view from the other side
 abbrev pub turned : View → View
 turned v = record { me = v.them; them = v.me; inbox = v.outbox; outbox = v.inbox; txns = v.txns; commits = v.commits }
 
@@ -80,41 +73,41 @@ pub all_owned : (v : View) → Inv v → is_home v.me.mode ≡ true → Roles v 
 all_owned v i s (Source (Resting a b c d f)) = sole v [] [] i.owned (i.theirs.none (ap is_bare b)) f d (λ p. refl)
 all_owned v i s (Source (Wire_sent a b c d f)) = sole v [] (Wire v.me.lows ∷ []) i.owned (i.theirs.none (ap is_bare b)) f d (λ p. refl)
 all_owned v i s (Source (Ready_sent a b c d f)) = sole v (Ready ∷ []) [] i.owned (i.theirs.none (ap is_bare b)) f d (λ p. refl)
-all_owned v i s (Source (Dual_sent xs a b c d all f)) = mode_clash is_home SDual v.me.mode a refl s
-all_owned v i s (Source (Both_sent xs a b c d all f)) = mode_clash is_home SFinish v.me.mode a refl s
-all_owned v i s (Source (In_dual a b c d f)) = mode_clash is_home SDual v.me.mode a refl s
-all_owned v i s (Source (Finish_sent a b c d f)) = mode_clash is_home SFinish v.me.mode a refl s
-all_owned v i s (Source (In_finish a b c d f)) = mode_clash is_home SFinish v.me.mode a refl s
-all_owned v i s (Source (Done_sent a b c all d f)) = mode_clash is_home SFinish v.me.mode a refl s
-all_owned v i s (Destination (Resting a b c d f)) = mode_clash is_home Empty v.me.mode b refl s
-all_owned v i s (Destination (Wire_sent a b c d f)) = mode_clash is_home Empty v.me.mode b refl s
-all_owned v i s (Destination (Ready_sent a b c d f)) = mode_clash is_home DInit v.me.mode b refl s
-all_owned v i s (Destination (Dual_sent xs a b c d all f)) = mode_clash is_home DInit v.me.mode b refl s
-all_owned v i s (Destination (Both_sent xs a b c d all f)) = mode_clash is_home DInit v.me.mode b refl s
-all_owned v i s (Destination (In_dual a b c d f)) = mode_clash is_home DDual v.me.mode b refl s
-all_owned v i s (Destination (Finish_sent a b c d f)) = mode_clash is_home DDual v.me.mode b refl s
-all_owned v i s (Destination (In_finish a b c d f)) = mode_clash is_home DFinish v.me.mode b refl s
+all_owned v i s (Source (Dual_sent xs a b c d all f)) = cc
+all_owned v i s (Source (Both_sent xs a b c d all f)) = cc
+all_owned v i s (Source (In_dual a b c d f)) = cc
+all_owned v i s (Source (Finish_sent a b c d f)) = cc
+all_owned v i s (Source (In_finish a b c d f)) = cc
+all_owned v i s (Source (Done_sent a b c all d f)) = cc
+all_owned v i s (Destination (Resting a b c d f)) = cc
+all_owned v i s (Destination (Wire_sent a b c d f)) = cc
+all_owned v i s (Destination (Ready_sent a b c d f)) = cc
+all_owned v i s (Destination (Dual_sent xs a b c d all f)) = cc
+all_owned v i s (Destination (Both_sent xs a b c d all f)) = cc
+all_owned v i s (Destination (In_dual a b c d f)) = cc
+all_owned v i s (Destination (Finish_sent a b c d f)) = cc
+all_owned v i s (Destination (In_finish a b c d f)) = cc
 all_owned v i s (Destination (Done_sent a b c all d f)) = λ p h. owns_from p v.me.pages (all.each p h)
 
 -- beside a node in Normal nothing runs, and the other wireframe is no longer
 pub normal_other : (v : View) → Roles v → may_split v.me.mode ≡ true → (is_idle v.them.mode ≡ true) × (length v.them.lows ≤ length v.me.lows)
 normal_other v (Source (Resting a b c d f)) h = (ap is_idle b, omega (arith, ap length c))
-normal_other v (Source (Wire_sent a b c d f)) h = mode_clash may_split SInit v.me.mode a refl h
-normal_other v (Source (Ready_sent a b c d f)) h = mode_clash may_split SInit v.me.mode a refl h
-normal_other v (Source (Dual_sent ms a b c d all f)) h = mode_clash may_split SDual v.me.mode a refl h
-normal_other v (Source (Both_sent ms a b c d all f)) h = mode_clash may_split SFinish v.me.mode a refl h
-normal_other v (Source (In_dual a b c d f)) h = mode_clash may_split SDual v.me.mode a refl h
-normal_other v (Source (Finish_sent a b c d f)) h = mode_clash may_split SFinish v.me.mode a refl h
-normal_other v (Source (In_finish a b c d f)) h = mode_clash may_split SFinish v.me.mode a refl h
-normal_other v (Source (Done_sent a b c all d f)) h = mode_clash may_split SFinish v.me.mode a refl h
-normal_other v (Destination (Resting a b c d f)) h = mode_clash may_split Empty v.me.mode b refl h
-normal_other v (Destination (Wire_sent a b c d f)) h = mode_clash may_split Empty v.me.mode b refl h
-normal_other v (Destination (Ready_sent a b c d f)) h = mode_clash may_split DInit v.me.mode b refl h
-normal_other v (Destination (Dual_sent ms a b c d all f)) h = mode_clash may_split DInit v.me.mode b refl h
-normal_other v (Destination (Both_sent ms a b c d all f)) h = mode_clash may_split DInit v.me.mode b refl h
-normal_other v (Destination (In_dual a b c d f)) h = mode_clash may_split DDual v.me.mode b refl h
-normal_other v (Destination (Finish_sent a b c d f)) h = mode_clash may_split DDual v.me.mode b refl h
-normal_other v (Destination (In_finish a b c d f)) h = mode_clash may_split DFinish v.me.mode b refl h
+normal_other v (Source (Wire_sent a b c d f)) h = cc
+normal_other v (Source (Ready_sent a b c d f)) h = cc
+normal_other v (Source (Dual_sent ms a b c d all f)) h = cc
+normal_other v (Source (Both_sent ms a b c d all f)) h = cc
+normal_other v (Source (In_dual a b c d f)) h = cc
+normal_other v (Source (Finish_sent a b c d f)) h = cc
+normal_other v (Source (In_finish a b c d f)) h = cc
+normal_other v (Source (Done_sent a b c all d f)) h = cc
+normal_other v (Destination (Resting a b c d f)) h = cc
+normal_other v (Destination (Wire_sent a b c d f)) h = cc
+normal_other v (Destination (Ready_sent a b c d f)) h = cc
+normal_other v (Destination (Dual_sent ms a b c d all f)) h = cc
+normal_other v (Destination (Both_sent ms a b c d all f)) h = cc
+normal_other v (Destination (In_dual a b c d f)) h = cc
+normal_other v (Destination (Finish_sent a b c d f)) h = cc
+normal_other v (Destination (In_finish a b c d f)) h = cc
 normal_other v (Destination (Done_sent a b c all d f)) h = (ap is_idle a, begins_length v.them.lows v.me.lows c)
 
 -- a number from the width on is no page's

@@ -64,159 +64,161 @@ goes_fit sc n v w lows t y f at e node them pages all rises room =
     (λ _. subst (Each (Room sc.cap lows y.rows)) (sym pages) room) (λ s. absurd (not_both_nodes n y.node (node ∙ at.1) s.1))
     (λ u far a h. subst (Each (Room sc.cap lows (txn_at v u).rows)) (sym pages) h)
 
--- a step of the program keeps room
-did_fit : (sc : Scenario) (n : Node) (v : View) (lows : List ℕ) (t pc : ℕ) (regs : List ℕ) → Fit sc n v lows → IsAt v t n
-    → Fit sc n (did t pc regs (txn_at v t).rows v) lows
-unfolding did
-did_fit sc n v lows t pc regs f at = goes_fit sc n v _ lows t _ f at refl refl refl refl refl (f.rising t) (f.mine t at)
-
--- a step under a lock keeps room
-get_fit : (sc : Scenario) (n : Node) (v : View) (lows : List ℕ) (t k pc : ℕ) (regs : List ℕ) (kind : LockKind) → Fit sc n v lows → IsAt v t n
-    → Fit sc n (did t pc regs (txn_at v t).rows (has_lock t k kind v)) lows
-unfolding did locked txn_at
-get_fit sc n v lows t k pc regs kind f at =
-    let x = txn_at v t in
-    goes_fit sc n v (did t pc regs x.rows (has_lock t k kind v)) lows t (record x { pc = pc; regs = regs; done = x.done + 1 }) f at refl refl refl refl refl
-    (f.rising t) (f.mine t at)
-
--- a step under locks on several pages keeps room
-sum_fit : (sc : Scenario) (n : Node) (v : View) (lows : List ℕ) (t pc : ℕ) (regs ps : List ℕ) → Fit sc n v lows → IsAt v t n
-    → Fit sc n (did t pc regs (txn_at v t).rows (shares t ps v)) lows
-unfolding did shares txn_at
-sum_fit sc n v lows t pc regs ps f at =
-    let x = txn_at v t in
-    goes_fit sc n v (did t pc regs x.rows (shares t ps v)) lows t (record x { pc = pc; regs = regs; done = x.done + 1 }) f at refl refl refl refl refl
-    (f.rising t) (f.mine t at)
-
--- a private row keeps room where its page had room for it
-put_fit : (sc : Scenario) (n : Node) (v : View) (lows : List ℕ) (t key value : ℕ) → Kept sc n v lows → Fit sc n v lows → IsAt v t n
-    → (is_there key (page key v) v.me (txn_at v t) ≡ true) ⊎ (has_room sc (page key v) v.me (txn_at v t) ≡ true) → Fit sc n (puts t key value v) lows
-unfolding did locked txn_at
-put_fit sc n v lows t key value k f at room =
-    let x = txn_at v t in
-    let newest : v.me.lows ≡ lows = k.mine.newest (k.mine.busy t at) in
-    let p = page key v in
-    let rows = put_row key value x.rows in
-    let less_than_cap : (is_there key p v.me (txn_at v t) ≡ true) ⊎ (length (rows_of v.me.pages p) + need v.me.lows p (rows_of v.me.pages p) x.rows < sc.cap) =
-    elim room [
-      | inl there ↦ inl there
-      | inr less ↦ inr (let a = ltb-true _ _ less in let e = need_is v.me.lows p (rows_of v.me.pages p) x.rows in omega (arith, a, e))
-    ] in
-    goes_fit sc n v (puts t key value v) lows t (record x { pc = x.pc + 1; rows = rows; done = x.done + 1 }) f at refl refl refl refl refl
-    (Rising-put_row 0 key value x.rows (f.rising t) (omega arith))
-    (subst (λ l. Each (Room sc.cap l rows) v.me.pages) newest
-    (put_room sc.cap v.me.lows x.rows key value v.me.pages (f.rising t) (at_most v k.inv.owned) less_than_cap
-    (subst (λ l. Each (Room sc.cap l x.rows) v.me.pages) (sym newest) (f.mine t at))))
-
--- an abort keeps room
-aborted_fit : (sc : Scenario) (n : Node) (v : View) (lows : List ℕ) (t : ℕ) (why : Why) → Fit sc n v lows → IsAt v t n
-    → Fit sc n (aborted t why v) lows
-unfolding aborted
-aborted_fit sc n v lows t why f at =
-    let y : Txn = record (txn_at v t) { status = Aborted why; rows = [] } in
-    let w = aborted t why v in
-    fit_acts sc n v w lows t y f refl (inl (at_self v w t y refl at.0)) tt refl f.sized (λ s. absurd (false≢true s.0)) (λ s. absurd (false≢true s.0))
-    (λ u far a h. h)
-
--- a begin keeps room
-begun_fit : (sc : Scenario) (n : Node) (v : View) (lows : List ℕ) (t : ℕ) (h : Node) → Fit sc n v lows → is_new (txn_at v t).status ≡ true
-    → Fit sc n (begun h t v) lows
-unfolding begun
-begun_fit sc n v lows t h f new =
-    let w = begun h t v in
-    let a = each_front (Sized sc.cap) v.me.pages (rest_of v) f.sized in
-    let b = each_front (Sized sc.cap) v.them.pages (sent_leaves v.inbox ++ sent_leaves v.outbox) a.1 in
-    fit_acts sc n v w lows t _ f refl (elim (at_either v w t _ refl) [ inl now ↦ inl now | inr old ↦ inr (old, not_new (txn_at v t).status new) ]) tt refl
-    f.sized
-    (λ _. empty_room sc.cap lows v.me.pages a.0) (λ _. empty_room sc.cap lows v.them.pages b.0) (λ u far x e. e)
-
--- commit: on a page where t has private rows nobody else has any
-committed_fit : (sc : Scenario) (n : Node) (v : View) (lows : List ℕ) (t : ℕ) → Kept sc n v lows → Fit sc n v lows → IsAt v t n
-    → Fit sc n (committed t v) lows
-unfolding committed
-committed_fit sc n v lows t k f at =
-    let x = txn_at v t in
-    let y : Txn = record x { status = Committed; rows = []; done = x.done + 1 } in
-    let w = committed t v in
-    let newest : v.me.lows ≡ lows = k.mine.newest (k.mine.busy t at) in
-    let a = each_front (Sized sc.cap) v.me.pages (rest_of v) f.sized in
-    let sized : Each (Sized sc.cap) (installed lows x.rows v.me.pages) =
-    each_installed (λ p rows. Sized sc.cap p rows × Room sc.cap lows x.rows p rows) (Sized sc.cap) lows x.rows v.me.pages
-    (λ p rows s. let e = installed_length lows p x.rows rows s.0.1 in let r = s.1 in ((omega (arith, e, r)), rises_puts (rows_on lows p x.rows) rows s.0.1))
-    (each_both (Sized sc.cap) (Room sc.cap lows x.rows) v.me.pages a.0 (f.mine t at)) in
-    fit_acts sc n v w lows t y f refl (inl (at_self v w t y refl at.0)) tt refl
-    (subst (λ l. Each (Sized sc.cap) (installed l x.rows v.me.pages ++ rest_of v)) (sym newest)
-    (each_append (Sized sc.cap) (installed lows x.rows v.me.pages) (rest_of v) sized a.1))
-    (λ s. absurd (false≢true s.0)) (λ s. absurd (false≢true s.0))
-    (λ u far b h. subst (λ l. Each (Room sc.cap lows (txn_at v u).rows) (installed l x.rows v.me.pages)) (sym newest)
-    (each_installed (λ p rows. (Sized sc.cap p rows × Room sc.cap lows x.rows p rows) × Room sc.cap lows (txn_at v u).rows p rows)
-    (Room sc.cap lows (txn_at v u).rows) lows x.rows v.me.pages
-    (λ p rows s. commit_room sc.cap lows x.rows (txn_at v u).rows p rows s.0.0 s.0.1 s.1
-    (elim (cases_Bool (holds_alone v.me.locks p t)) [
-      | inl mine ↦
-          inr
-          (λ j is on. far
-          (sym
-          (k.mine.apart p t u mine (subst (λ z. holds v.me.locks z u ≡ true) on (exclusive_holds v.me.locks (page_of lows j) u (k.mine.private u j b is))))))
-      | inr none ↦ inl (λ j is on. false≢true (sym none ∙ subst (λ z. holds_alone v.me.locks z t ≡ true) on (k.mine.private t j at is)))
-    ]))
-    (each_both (λ p rows. Sized sc.cap p rows × Room sc.cap lows x.rows p rows) (Room sc.cap lows (txn_at v u).rows) v.me.pages
-    (each_both (Sized sc.cap) (Room sc.cap lows x.rows) v.me.pages a.0 (f.mine t at)) h)))
-
--- a page leaves
-leaves_fit : (sc : Scenario) (n : Node) (v : View) (lows : List ℕ) (p : ℕ) → Fit sc n v lows → owns v.me.pages p ≡ true → Fit sc n (leaves p v) lows
-unfolding leaves txn_at
-leaves_fit sc n v lows p f own =
-    let a = each_front (Sized sc.cap) v.me.pages (rest_of v) f.sized in
-    let leaf = leaf_at v.me.pages p in
-    record {
-      sized =
-          subst (Each (Sized sc.cap)) (sym (whole-leaves p v)) (each_append (Sized sc.cap) (without p v.me.pages) (rest_of v ++ leaf ∷ [])
-          (each_without (Sized sc.cap) p v.me.pages a.0)
-          (each_append (Sized sc.cap) (rest_of v) (leaf ∷ []) a.1 (each_at (Sized sc.cap) p v.me.pages own a.0, tt)));
-      rising = f.rising;
-      mine = λ t at. each_without (Room sc.cap lows (txn_at v t).rows) p v.me.pages (f.mine t at);
-      theirs = f.theirs;
-    }
-
 -- a node that asks for pages hands none on
 takes_in : (m : NodeMode) → may_pull m ≡ true → is_source m ≡ false
 takes_in m pulls = elim (pulls_in m pulls) [ inl e ↦ ap is_source e | inr e ↦ ap is_source e ]
 
--- a page comes: no private row lies on it yet
-arrived_fit : (sc : Scenario) (n : Node) (v : View) (lows : List ℕ) (leaf : Leaf) (ms : List Message) → v.inbox ≡ Page leaf ∷ ms → is_source v.me.mode ≡ false
-    → Kept sc n v lows → Fit sc n v lows
-    → Fit sc n (arrived leaf (rest v ms)) lows
-unfolding txn_at
-arrived_fit sc n v lows leaf ms e takes k f =
-    let others = sent_leaves ms ++ sent_leaves v.outbox in
-    let a = each_front (Sized sc.cap) v.me.pages (v.them.pages ++ (leaf ∷ others)) (subst (Each (Sized sc.cap)) (whole-front v leaf ms e) f.sized) in
-    let b = each_front (Sized sc.cap) v.them.pages (leaf ∷ others) a.1 in
-    record {
-      sized = each_append (Sized sc.cap) (with_page leaf v.me.pages) (v.them.pages ++ others) (each_with_page (Sized sc.cap) leaf v.me.pages b.1.0 a.0)
-          (each_append (Sized sc.cap) v.them.pages others b.0 b.1.1);
-      rising = f.rising;
-      mine = λ t at. each_with_page (Room sc.cap lows (txn_at v t).rows) leaf v.me.pages
-          (let none = need_none lows leaf.number leaf.rows (txn_at v t).rows (λ j is on.
-          let mine = exclusive_holds v.me.locks (page_of lows j) t (k.mine.private t j at is) in
-          false≢true (sym (not_here v leaf ms k.inv.owned e) ∙ subst (λ z. owns v.me.pages z ≡ true) on (k.mine.kept (page_of lows j) t (inr takes) mine))) in
-          let s = b.1.0.0 in omega (arith, none, s)) (f.mine t at);
-      theirs = f.theirs;
-    }
+-- a state seen from n, and its newest low keys
+module _ (sc : Scenario) (n : Node) (v : View) (lows : List ℕ) where
+  -- a step of the program keeps room
+  did_fit : (t pc : ℕ) (regs : List ℕ) → Fit sc n v lows → IsAt v t n
+      → Fit sc n (did t pc regs (txn_at v t).rows v) lows
+  unfolding did
+  did_fit t pc regs f at = goes_fit sc n v _ lows t _ f at refl refl refl refl refl (f.rising t) (f.mine t at)
 
--- the front of the inbox goes, and is no page
-rest_fit : (sc : Scenario) (n : Node) (v : View) (lows : List ℕ) (m : Message) (ms : List Message) → Fit sc n v lows → v.inbox ≡ m ∷ ms
-    → sent_leaves ms ≡ sent_leaves (m ∷ ms)
-    → Fit sc n (rest v ms) lows
-rest_fit sc n v lows m ms f e bare = fit_stays sc n v (rest v ms) lows f refl refl refl (bare ∙ ap sent_leaves (sym e)) refl
+  -- a step under a lock keeps room
+  get_fit : (t k pc : ℕ) (regs : List ℕ) (kind : LockKind) → Fit sc n v lows → IsAt v t n
+      → Fit sc n (did t pc regs (txn_at v t).rows (has_lock t k kind v)) lows
+  unfolding did locked txn_at
+  get_fit t k pc regs kind f at =
+      let x = txn_at v t in
+      goes_fit sc n v (did t pc regs x.rows (has_lock t k kind v)) lows t (record x { pc = pc; regs = regs; done = x.done + 1 }) f at refl refl refl refl refl
+      (f.rising t) (f.mine t at)
 
--- a message that is no page is sent
-post_fit : (sc : Scenario) (n : Node) (v : View) (lows : List ℕ) (m : Message) → Fit sc n v lows → sent_leaves (m ∷ []) ≡ [] → Fit sc n (post m v) lows
-post_fit sc n v lows m f bare = fit_stays sc n v (post m v) lows f refl refl refl refl (sent_bare v.outbox m bare)
+  -- a step under locks on several pages keeps room
+  sum_fit : (t pc : ℕ) (regs ps : List ℕ) → Fit sc n v lows → IsAt v t n
+      → Fit sc n (did t pc regs (txn_at v t).rows (shares t ps v)) lows
+  unfolding did shares txn_at
+  sum_fit t pc regs ps f at =
+      let x = txn_at v t in
+      goes_fit sc n v (did t pc regs x.rows (shares t ps v)) lows t (record x { pc = pc; regs = regs; done = x.done + 1 }) f at refl refl refl refl refl
+      (f.rising t) (f.mine t at)
 
--- another mode keeps room
-turns_fit : (sc : Scenario) (n : Node) (v : View) (lows : List ℕ) (mode : NodeMode) → Fit sc n v lows → Fit sc n (turns mode v) lows
-turns_fit sc n v lows mode f = fit_stays sc n v (turns mode v) lows f refl refl refl refl refl
+  -- a private row keeps room where its page had room for it
+  put_fit : (t key value : ℕ) → Kept sc n v lows → Fit sc n v lows → IsAt v t n
+      → (is_there key (page key v) v.me (txn_at v t) ≡ true) ⊎ (has_room sc (page key v) v.me (txn_at v t) ≡ true) → Fit sc n (puts t key value v) lows
+  unfolding did locked txn_at
+  put_fit t key value k f at room =
+      let x = txn_at v t in
+      let newest : v.me.lows ≡ lows = k.mine.newest (k.mine.busy t at) in
+      let p = page key v in
+      let rows = put_row key value x.rows in
+      let less_than_cap : (is_there key p v.me (txn_at v t) ≡ true) ⊎ (length (rows_of v.me.pages p) + need v.me.lows p (rows_of v.me.pages p) x.rows < sc.cap) =
+      elim room [
+        | inl there ↦ inl there
+        | inr less ↦ inr (let a = ltb-true _ _ less in let e = need_is v.me.lows p (rows_of v.me.pages p) x.rows in omega (arith, a, e))
+      ] in
+      goes_fit sc n v (puts t key value v) lows t (record x { pc = x.pc + 1; rows = rows; done = x.done + 1 }) f at refl refl refl refl refl
+      (Rising-put_row 0 key value x.rows (f.rising t) (omega arith))
+      (subst (λ l. Each (Room sc.cap l rows) v.me.pages) newest
+      (put_room sc.cap v.me.lows x.rows key value v.me.pages (f.rising t) (at_most v k.inv.owned) less_than_cap
+      (subst (λ l. Each (Room sc.cap l x.rows) v.me.pages) (sym newest) (f.mine t at))))
+
+  -- an abort keeps room
+  aborted_fit : (t : ℕ) (why : Why) → Fit sc n v lows → IsAt v t n
+      → Fit sc n (aborted t why v) lows
+  unfolding aborted
+  aborted_fit t why f at =
+      let y : Txn = record (txn_at v t) { status = Aborted why; rows = [] } in
+      let w = aborted t why v in
+      fit_acts sc n v w lows t y f refl (inl (at_self v w t y refl at.0)) tt refl f.sized (λ s. absurd (false≢true s.0)) (λ s. absurd (false≢true s.0))
+      (λ u far a h. h)
+
+  -- a begin keeps room
+  begun_fit : (t : ℕ) (h : Node) → Fit sc n v lows → is_new (txn_at v t).status ≡ true
+      → Fit sc n (begun h t v) lows
+  unfolding begun
+  begun_fit t h f new =
+      let w = begun h t v in
+      let a = each_front (Sized sc.cap) v.me.pages (rest_of v) f.sized in
+      let b = each_front (Sized sc.cap) v.them.pages (sent_leaves v.inbox ++ sent_leaves v.outbox) a.1 in
+      fit_acts sc n v w lows t _ f refl (elim (at_either v w t _ refl) [ inl now ↦ inl now | inr old ↦ inr (old, not_new (txn_at v t).status new) ]) tt refl
+      f.sized
+      (λ _. empty_room sc.cap lows v.me.pages a.0) (λ _. empty_room sc.cap lows v.them.pages b.0) (λ u far x e. e)
+
+  -- commit: on a page where t has private rows nobody else has any
+  committed_fit : (t : ℕ) → Kept sc n v lows → Fit sc n v lows → IsAt v t n
+      → Fit sc n (committed t v) lows
+  unfolding committed
+  committed_fit t k f at =
+      let x = txn_at v t in
+      let y : Txn = record x { status = Committed; rows = []; done = x.done + 1 } in
+      let w = committed t v in
+      let newest : v.me.lows ≡ lows = k.mine.newest (k.mine.busy t at) in
+      let a = each_front (Sized sc.cap) v.me.pages (rest_of v) f.sized in
+      let sized : Each (Sized sc.cap) (installed lows x.rows v.me.pages) =
+      each_installed (λ p rows. Sized sc.cap p rows × Room sc.cap lows x.rows p rows) (Sized sc.cap) lows x.rows v.me.pages
+      (λ p rows s. let e = installed_length lows p x.rows rows s.0.1 in let r = s.1 in ((omega (arith, e, r)), rises_puts (rows_on lows p x.rows) rows s.0.1))
+      (each_both (Sized sc.cap) (Room sc.cap lows x.rows) v.me.pages a.0 (f.mine t at)) in
+      fit_acts sc n v w lows t y f refl (inl (at_self v w t y refl at.0)) tt refl
+      (subst (λ l. Each (Sized sc.cap) (installed l x.rows v.me.pages ++ rest_of v)) (sym newest)
+      (each_append (Sized sc.cap) (installed lows x.rows v.me.pages) (rest_of v) sized a.1))
+      (λ s. absurd (false≢true s.0)) (λ s. absurd (false≢true s.0))
+      (λ u far b h. subst (λ l. Each (Room sc.cap lows (txn_at v u).rows) (installed l x.rows v.me.pages)) (sym newest)
+      (each_installed (λ p rows. (Sized sc.cap p rows × Room sc.cap lows x.rows p rows) × Room sc.cap lows (txn_at v u).rows p rows)
+      (Room sc.cap lows (txn_at v u).rows) lows x.rows v.me.pages
+      (λ p rows s. commit_room sc.cap lows x.rows (txn_at v u).rows p rows s.0.0 s.0.1 s.1
+      (elim (cases_Bool (holds_alone v.me.locks p t)) [
+        | inl mine ↦
+            inr
+            (λ j is on. far
+            (sym
+            (k.mine.apart p t u mine (subst (λ z. holds v.me.locks z u ≡ true) on (exclusive_holds v.me.locks (page_of lows j) u (k.mine.private u j b is))))))
+        | inr none ↦ inl (λ j is on. false≢true (sym none ∙ subst (λ z. holds_alone v.me.locks z t ≡ true) on (k.mine.private t j at is)))
+      ]))
+      (each_both (λ p rows. Sized sc.cap p rows × Room sc.cap lows x.rows p rows) (Room sc.cap lows (txn_at v u).rows) v.me.pages
+      (each_both (Sized sc.cap) (Room sc.cap lows x.rows) v.me.pages a.0 (f.mine t at)) h)))
+
+  -- a page leaves
+  leaves_fit : (p : ℕ) → Fit sc n v lows → owns v.me.pages p ≡ true → Fit sc n (leaves p v) lows
+  unfolding leaves txn_at
+  leaves_fit p f own =
+      let a = each_front (Sized sc.cap) v.me.pages (rest_of v) f.sized in
+      let leaf = leaf_at v.me.pages p in
+      record {
+        sized =
+            subst (Each (Sized sc.cap)) (sym (whole-leaves p v)) (each_append (Sized sc.cap) (without p v.me.pages) (rest_of v ++ leaf ∷ [])
+            (each_without (Sized sc.cap) p v.me.pages a.0)
+            (each_append (Sized sc.cap) (rest_of v) (leaf ∷ []) a.1 (each_at (Sized sc.cap) p v.me.pages own a.0, tt)));
+        rising = f.rising;
+        mine = λ t at. each_without (Room sc.cap lows (txn_at v t).rows) p v.me.pages (f.mine t at);
+        theirs = f.theirs;
+      }
+
+  -- a page comes: no private row lies on it yet
+  arrived_fit : (leaf : Leaf) (ms : List Message) → v.inbox ≡ Page leaf ∷ ms → is_source v.me.mode ≡ false
+      → Kept sc n v lows → Fit sc n v lows
+      → Fit sc n (arrived leaf (rest v ms)) lows
+  unfolding txn_at
+  arrived_fit leaf ms e takes k f =
+      let others = sent_leaves ms ++ sent_leaves v.outbox in
+      let a = each_front (Sized sc.cap) v.me.pages (v.them.pages ++ (leaf ∷ others)) (subst (Each (Sized sc.cap)) (whole-front v leaf ms e) f.sized) in
+      let b = each_front (Sized sc.cap) v.them.pages (leaf ∷ others) a.1 in
+      record {
+        sized = each_append (Sized sc.cap) (with_page leaf v.me.pages) (v.them.pages ++ others) (each_with_page (Sized sc.cap) leaf v.me.pages b.1.0 a.0)
+            (each_append (Sized sc.cap) v.them.pages others b.0 b.1.1);
+        rising = f.rising;
+        mine = λ t at. each_with_page (Room sc.cap lows (txn_at v t).rows) leaf v.me.pages
+            (let none = need_none lows leaf.number leaf.rows (txn_at v t).rows (λ j is on.
+            let mine = exclusive_holds v.me.locks (page_of lows j) t (k.mine.private t j at is) in
+            false≢true (sym (not_here v leaf ms k.inv.owned e) ∙ subst (λ z. owns v.me.pages z ≡ true) on (k.mine.kept (page_of lows j) t (inr takes) mine))) in
+            let s = b.1.0.0 in omega (arith, none, s)) (f.mine t at);
+        theirs = f.theirs;
+      }
+
+  -- the front of the inbox goes, and is no page
+  rest_fit : (m : Message) (ms : List Message) → Fit sc n v lows → v.inbox ≡ m ∷ ms
+      → sent_leaves ms ≡ sent_leaves (m ∷ ms)
+      → Fit sc n (rest v ms) lows
+  rest_fit m ms f e bare = fit_stays sc n v (rest v ms) lows f refl refl refl (bare ∙ ap sent_leaves (sym e)) refl
+
+  -- a message that is no page is sent
+  post_fit : (m : Message) → Fit sc n v lows → sent_leaves (m ∷ []) ≡ [] → Fit sc n (post m v) lows
+  post_fit m f bare = fit_stays sc n v (post m v) lows f refl refl refl refl (sent_bare v.outbox m bare)
+
+  -- another mode keeps room
+  turns_fit : (mode : NodeMode) → Fit sc n v lows → Fit sc n (turns mode v) lows
+  turns_fit mode f = fit_stays sc n v (turns mode v) lows f refl refl refl refl refl
 
 -- room in a view is room in an equal one
 fit_along : (sc : Scenario) (n : Node) (w x : View) (lows : List ℕ) → w ≡ x → Fit sc n x lows → Fit sc n w lows

@@ -97,28 +97,6 @@ alone_commit : (m : Map) (program : List Instr) (i : Instr) (x : Alone) → x.ov
 unfolding alone_step alone_instr
 alone_commit m program i x on at does = rw (on, at, does) refl
 
--- after a commit the database is that of the longer serial run
-commit_serial : (sc : Scenario) (n : Node) (v : View) (start : Map) (lows : List ℕ) (t : ℕ) → Serially sc n v start lows → Runs sc n t Commits v
-    → db (committed t v) ≡ serial sc start (v.commits ++ record { txn = t; done = (txn_at v t).done + 1 } ∷ [])
-commit_serial sc n v start lows t s runs =
-    let at : IsAt v t n = (runs.active, runs.here) in
-    let x = txn_at v t in
-    let program = program_of sc t in
-    let m = s.mine t at in
-    let on : (lone (db v) program x.done).over ≡ false = ap (λ (y : Lone). y.over) m.run in
-    let run = on_map (db v) program x.done on in
-    let rows : (lone (db v) program x.done).rows ≡ x.rows = ap (λ (y : Lone). y.rows) m.run in
-    let regs : (alone (db v) program x.done).regs ≡ x.regs = run.regs ∙ ap (λ (y : Lone). y.regs) m.run in
-    let pc : (alone (db v) program x.done).pc ≡ x.pc = run.pc ∙ ap (λ (y : Lone). y.pc) m.run in
-    let last : (alone (db v) program (suc x.done)).map ≡ laid x.rows (db v) =
-    alone_commit (db v) program runs.instr (alone (db v) program x.done) run.over (ap (slice_get program) pc ∙ runs.next)
-    (ap (effect_of runs.instr) regs ∙ runs.does)
-    ∙ run.map ∙ ap (λ r. laid r (db v)) rows in
-    let both : db (committed t v) ≡ laid x.rows (db v) = same_map nat_cmp_total nat_cmp-IsAntisymmetric _ _
-    (λ k. commit_db sc n v lows t s.kept s.held at k ∙ sym (get-laid x.rows (db v) k)) in
-    both ∙ sym last ∙ ap (λ j. (alone (db v) program j).map) (sym (add-one x.done)) ∙ ap (λ d. (alone d program (x.done + 1)).map) s.is_serial
-    ∙ sym (serial-push sc start v.commits (record { txn = t; done = x.done + 1 }))
-
 -- the others' lone runs do not see the rows of a commit
 commit_follows : (sc : Scenario) (n : Node) (v : View) (lows : List ℕ) (t u : ℕ) (locks more : List Lock) (program : List Instr) (x : Txn)
     → Kept sc n v lows → is_held sc.rule ≡ true → IsAt v t n
@@ -154,60 +132,84 @@ alone_last : (m : Map) (program : List Instr) (i : Instr) (x : Alone) → x.over
 unfolding alone_step alone_instr
 alone_last m program i x on at does = rw (on, at, does) refl
 
--- a committed transaction has the registers of its lone run
-committed_regs : (sc : Scenario) (n : Node) (v : View) (start : Map) (lows : List ℕ) (t : ℕ) → Serially sc n v start lows → Runs sc n t Commits v
-    → (txn_at v t).regs ≡ (alone (serial sc start v.commits) (program_of sc t) ((txn_at v t).done + 1)).regs
-committed_regs sc n v start lows t s runs =
-    let x = txn_at v t in
-    let program = program_of sc t in
-    let f = s.mine t (runs.active, runs.here) in
-    let run = on_map (db v) program x.done (ap (λ (y : Lone). y.over) f.run) in
-    let regs : (alone (db v) program x.done).regs ≡ x.regs = run.regs ∙ ap (λ (y : Lone). y.regs) f.run in
-    let pc : (alone (db v) program x.done).pc ≡ x.pc = run.pc ∙ ap (λ (y : Lone). y.pc) f.run in
-    sym (ap (λ d. (alone d program (x.done + 1)).regs) (sym s.is_serial) ∙ ap (λ j. (alone (db v) program j).regs) (add-one x.done)
-    ∙ alone_last (db v) program runs.instr (alone (db v) program x.done) run.over (ap (slice_get program) pc ∙ runs.next)
-    (ap (effect_of runs.instr) regs ∙ runs.does)
-    ∙ regs)
+-- a state that follows the serial run, and its newest low keys
+module _ (sc : Scenario) (n : Node) (v : View) (start : Map) (lows : List ℕ) where
+  -- after a commit the database is that of the longer serial run
+  commit_serial : (t : ℕ) → Serially sc n v start lows → Runs sc n t Commits v
+      → db (committed t v) ≡ serial sc start (v.commits ++ record { txn = t; done = (txn_at v t).done + 1 } ∷ [])
+  commit_serial t s runs =
+      let at : IsAt v t n = (runs.active, runs.here) in
+      let x = txn_at v t in
+      let program = program_of sc t in
+      let m = s.mine t at in
+      let on : (lone (db v) program x.done).over ≡ false = ap (λ (y : Lone). y.over) m.run in
+      let run = on_map (db v) program x.done on in
+      let rows : (lone (db v) program x.done).rows ≡ x.rows = ap (λ (y : Lone). y.rows) m.run in
+      let regs : (alone (db v) program x.done).regs ≡ x.regs = run.regs ∙ ap (λ (y : Lone). y.regs) m.run in
+      let pc : (alone (db v) program x.done).pc ≡ x.pc = run.pc ∙ ap (λ (y : Lone). y.pc) m.run in
+      let last : (alone (db v) program (suc x.done)).map ≡ laid x.rows (db v) =
+      alone_commit (db v) program runs.instr (alone (db v) program x.done) run.over (ap (slice_get program) pc ∙ runs.next)
+      (ap (effect_of runs.instr) regs ∙ runs.does)
+      ∙ run.map ∙ ap (λ r. laid r (db v)) rows in
+      let both : db (committed t v) ≡ laid x.rows (db v) = same_map nat_cmp_total nat_cmp-IsAntisymmetric _ _
+      (λ k. commit_db sc n v lows t s.kept s.held at k ∙ sym (get-laid x.rows (db v) k)) in
+      both ∙ sym last ∙ ap (λ j. (alone (db v) program j).map) (sym (add-one x.done)) ∙ ap (λ d. (alone d program (x.done + 1)).map) s.is_serial
+      ∙ sym (serial-push sc start v.commits (record { txn = t; done = x.done + 1 }))
 
--- after a commit all committed transactions have the registers of their lone runs
-commit_registers : (sc : Scenario) (n : Node) (v : View) (start : Map) (lows : List ℕ) (t : ℕ) → Serially sc n v start lows → Runs sc n t Commits v
-    → Registers sc (txn_at (committed t v)) start (committed t v).commits
-unfolding committed
-commit_registers sc n v start lows t s runs =
-    let at : IsAt v t n = (runs.active, runs.here) in
-    let w = committed t v in
-    let y : Txn = record (txn_at v t) { status = Committed; rows = []; done = (txn_at v t).done + 1 } in
-    let self : txn_at w t ≡ y = at_self v w t y refl at.0 in
-    registers_push sc (txn_at w) start v.commits (record { txn = t; done = (txn_at v t).done + 1 })
-    (registers_same sc (txn_at v) (txn_at w) start v.commits (λ u ended. elim (cases_eq u t) [
-      | inl same ↦ absurd (active_not (txn_at v t).status at.0 (subst (λ z. is_committed (txn_at v z).status ≡ true) same ended))
-      | inr far ↦ at_other v w t u y refl far
-    ]) s.registers)
-    (ap (λ (x : Txn). is_committed x.status) self, ap (λ (x : Txn). x.regs) self ∙ committed_regs sc n v start lows t s runs)
+  -- a committed transaction has the registers of its lone run
+  committed_regs : (t : ℕ) → Serially sc n v start lows → Runs sc n t Commits v
+      → (txn_at v t).regs ≡ (alone (serial sc start v.commits) (program_of sc t) ((txn_at v t).done + 1)).regs
+  committed_regs t s runs =
+      let x = txn_at v t in
+      let program = program_of sc t in
+      let f = s.mine t (runs.active, runs.here) in
+      let run = on_map (db v) program x.done (ap (λ (y : Lone). y.over) f.run) in
+      let regs : (alone (db v) program x.done).regs ≡ x.regs = run.regs ∙ ap (λ (y : Lone). y.regs) f.run in
+      let pc : (alone (db v) program x.done).pc ≡ x.pc = run.pc ∙ ap (λ (y : Lone). y.pc) f.run in
+      sym (ap (λ d. (alone d program (x.done + 1)).regs) (sym s.is_serial) ∙ ap (λ j. (alone (db v) program j).regs) (add-one x.done)
+      ∙ alone_last (db v) program runs.instr (alone (db v) program x.done) run.over (ap (slice_get program) pc ∙ runs.next)
+      (ap (effect_of runs.instr) regs ∙ runs.does)
+      ∙ regs)
 
--- a commit keeps it
-pub committed_serial : (sc : Scenario) (n : Node) (v : View) (start : Map) (lows : List ℕ) (t : ℕ) → Serially sc n v start lows
-    → Runs sc n t Commits v → Kept sc n (committed t v) lows → Serially sc n (committed t v) start lows
-committed_serial sc n v start lows t s runs k =
-    let at : IsAt v t n = (runs.active, runs.here) in
-    let w = committed t v in
-    let y : Txn = record (txn_at v t) { status = Committed; rows = []; done = (txn_at v t).done + 1 } in
-    let set : w.txns ≡ slice_set v.txns t y = committed_txns t v in
-    let far_at : (u : ℕ) (m : Node) → IsAt w u m → u ≡ t → ⊥ = λ u m a same. false≢true
-    (subst (λ (x : Txn). is_active x.status ≡ true) (ap (txn_at w) same ∙ at_self v w t y set at.0) a.0) in
-    record {
-      kept = k;
-      held = s.held;
-      mine = λ u a. let far = far_at u n a in let now = at_other v w t u y set far in
-          subst (Follows (program_of sc u) (db w) lows w.me.locks u) (sym now)
-          (commit_follows sc n v lows t u v.me.locks w.me.locks (program_of sc u) (txn_at v u) s.kept s.held at
-          (λ p b c. far (sym (s.kept.mine.apart p t u b c)))
-          (λ p h. ap (λ xs. holds xs p u) (committed_locks t v) ∙ holds-drop v.me.locks p t u far ∙ h) (s.mine u (subst (λ x. Stands x n) now a)));
-      theirs = λ u a. let far = far_at u (other n) a in let now = at_other v w t u y set far in
-          subst (Follows (program_of sc u) (db w) lows w.them.locks u) (sym now)
-          (commit_follows sc n v lows t u v.them.locks w.them.locks (program_of sc u) (txn_at v u) s.kept s.held at
-          (λ p b c. apart_nodes sc n v lows p t u s.kept s.held (exclusive_holds v.me.locks p t b) c)
-          (λ p h. ap (λ (x : NodeState). holds x.locks p u) (committed_them t v) ∙ h) (s.theirs u (subst (λ x. Stands x (other n)) now a)));
-      is_serial = commit_serial sc n v start lows t s runs ∙ ap (serial sc start) (sym (committed_list t v));
-      registers = commit_registers sc n v start lows t s runs;
-    }
+  -- after a commit all committed transactions have the registers of their lone runs
+  commit_registers : (t : ℕ) → Serially sc n v start lows → Runs sc n t Commits v
+      → Registers sc (txn_at (committed t v)) start (committed t v).commits
+  unfolding committed
+  commit_registers t s runs =
+      let at : IsAt v t n = (runs.active, runs.here) in
+      let w = committed t v in
+      let y : Txn = record (txn_at v t) { status = Committed; rows = []; done = (txn_at v t).done + 1 } in
+      let self : txn_at w t ≡ y = at_self v w t y refl at.0 in
+      registers_push sc (txn_at w) start v.commits (record { txn = t; done = (txn_at v t).done + 1 })
+      (registers_same sc (txn_at v) (txn_at w) start v.commits (λ u ended. elim (cases_eq u t) [
+        | inl same ↦ absurd (active_not (txn_at v t).status at.0 (subst (λ z. is_committed (txn_at v z).status ≡ true) same ended))
+        | inr far ↦ at_other v w t u y refl far
+      ]) s.registers)
+      (ap (λ (x : Txn). is_committed x.status) self, ap (λ (x : Txn). x.regs) self ∙ committed_regs t s runs)
+
+  -- a commit keeps it
+  pub committed_serial : (t : ℕ) → Serially sc n v start lows
+      → Runs sc n t Commits v → Kept sc n (committed t v) lows → Serially sc n (committed t v) start lows
+  committed_serial t s runs k =
+      let at : IsAt v t n = (runs.active, runs.here) in
+      let w = committed t v in
+      let y : Txn = record (txn_at v t) { status = Committed; rows = []; done = (txn_at v t).done + 1 } in
+      let set : w.txns ≡ slice_set v.txns t y = committed_txns t v in
+      let far_at : (u : ℕ) (m : Node) → IsAt w u m → u ≡ t → ⊥ = λ u m a same. false≢true
+      (subst (λ (x : Txn). is_active x.status ≡ true) (ap (txn_at w) same ∙ at_self v w t y set at.0) a.0) in
+      record {
+        kept = k;
+        held = s.held;
+        mine = λ u a. let far = far_at u n a in let now = at_other v w t u y set far in
+            subst (Follows (program_of sc u) (db w) lows w.me.locks u) (sym now)
+            (commit_follows sc n v lows t u v.me.locks w.me.locks (program_of sc u) (txn_at v u) s.kept s.held at
+            (λ p b c. far (sym (s.kept.mine.apart p t u b c)))
+            (λ p h. ap (λ xs. holds xs p u) (committed_locks t v) ∙ holds-drop v.me.locks p t u far ∙ h) (s.mine u (subst (λ x. Stands x n) now a)));
+        theirs = λ u a. let far = far_at u (other n) a in let now = at_other v w t u y set far in
+            subst (Follows (program_of sc u) (db w) lows w.them.locks u) (sym now)
+            (commit_follows sc n v lows t u v.them.locks w.them.locks (program_of sc u) (txn_at v u) s.kept s.held at
+            (λ p b c. apart_nodes sc n v lows p t u s.kept s.held (exclusive_holds v.me.locks p t b) c)
+            (λ p h. ap (λ (x : NodeState). holds x.locks p u) (committed_them t v) ∙ h) (s.theirs u (subst (λ x. Stands x (other n)) now a)));
+        is_serial = commit_serial t s runs ∙ ap (serial sc start) (sym (committed_list t v));
+        registers = commit_registers t s runs;
+      }

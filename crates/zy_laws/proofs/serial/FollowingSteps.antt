@@ -101,17 +101,6 @@ leads_step d e x pc regs keys (BySet r value is a b) = rw (is, a, b) refl
 leads_step d e x pc regs keys (ByJump taken to is a b) = rw (is, a, b) refl
 leads_step d e x pc regs keys (BySum r first last is none a b) = rw (is, none, a, b) refl
 
--- a step of the program that needs no page keeps it
-goes_serial : (sc : Scenario) (n : Node) (v : View) (start : Map) (lows : List ℕ) (t : ℕ) (e : Effect) (pc : ℕ) (regs : List ℕ) → Serially sc n v start lows
-    → Runs sc n t e v → Leads e (txn_at v t) pc regs
-    → Kept sc n (did t pc regs (txn_at v t).rows v) lows → Serially sc n (did t pc regs (txn_at v t).rows v) start lows
-unfolding did
-goes_serial sc n v start lows t e pc regs s runs leads k =
-    let at : IsAt v t n = (runs.active, runs.here) in
-    acts_serial sc n v (did t pc regs (txn_at v t).rows v) start lows t _ s k at refl refl refl refl refl (λ p u h. h)
-    (plain_follows (program_of sc t) (db v) lows v.me.locks t pc regs (txn_at v t) runs.instr e runs.next runs.does
-    (λ keys. leads_step (db v) e (txn_at v t) pc regs keys leads) (s.mine t at))
-
 -- an access, with its lock taken
 small_read : (d : Map) (r : Reg) (k : ℕ) (x : Txn) (keys : List ℕ) (value : ℕ) → nat_lt 65535 k ≡ false
     → value ≡ unwrap_or (or_else (get_row x.rows k) (get d k)) 0
@@ -157,44 +146,6 @@ key_follows program d lows locks kind t k pc regs rows x i e is does step f = re
   ];
 }
 
--- a step under a lock keeps it
-key_serial : (sc : Scenario) (n : Node) (v : View) (start : Map) (lows : List ℕ) (t k : ℕ) (kind : LockKind) (pc : ℕ) (regs : List ℕ) (rows : List Row)
-    (e : Effect)
-    → Serially sc n v start lows → Runs sc n t e v
-    → ((keys : List ℕ) → lone_effect (db v) e (lone_at (txn_at v t) keys) ≡ record { regs = regs; pc = pc; rows = rows; keys = k ∷ keys; over = false })
-    → Kept sc n (did t pc regs rows (has_lock t k kind v)) lows → Serially sc n (did t pc regs rows (has_lock t k kind v)) start lows
-unfolding did locked txn_at
-key_serial sc n v start lows t k kind pc regs rows e s runs step h =
-    let at : IsAt v t n = (runs.active, runs.here) in
-    let newest : v.me.lows ≡ lows = s.kept.mine.newest (s.kept.mine.busy t at) in
-    let w = did t pc regs rows (has_lock t k kind v) in
-    let y : Txn = record (txn_at v t) { pc = pc; regs = regs; rows = rows; done = (txn_at v t).done + 1 } in
-    acts_serial sc n v w start lows t y s h at refl refl refl refl refl (λ p u g. holds_more (page_of v.me.lows k) t kind v.me.locks p u g)
-    (subst (λ l. Follows (program_of sc t) (db v) lows (add_lock (page_of l k) t kind v.me.locks) t y) (sym newest)
-    (key_follows (program_of sc t) (db v) lows v.me.locks kind t k pc regs rows (txn_at v t) runs.instr e runs.next runs.does step (s.mine t at)))
-
--- an aborted transaction is no more to be followed
-aborted_serial : (sc : Scenario) (n : Node) (v : View) (start : Map) (lows : List ℕ) (t : ℕ) (why : Why) → Serially sc n v start lows → IsAt v t n
-    → Kept sc n (aborted t why v) lows → Serially sc n (aborted t why v) start lows
-unfolding aborted
-aborted_serial sc n v start lows t why s at k =
-    let w = aborted t why v in
-    let y : Txn = record (txn_at v t) { status = Aborted why; rows = [] } in
-    let far_at : (u : ℕ) (m : Node) → IsAt w u m → u ≡ t → ⊥ = λ u m a same. false≢true
-    (subst (λ (x : Txn). is_active x.status ≡ true) (ap (txn_at w) same ∙ at_self v w t y refl at.0) a.0) in
-    record {
-      kept = k;
-      held = s.held;
-      mine = λ u a. let far = far_at u n a in let now = at_other v w t u y refl far in
-          follows_same (program_of sc u) (db v) (db w) lows v.me.locks w.me.locks u (txn_at v u) (txn_at w u) refl now
-          (λ p h. holds-drop v.me.locks p t u far ∙ h) (s.mine u (subst (λ x. Stands x n) now a));
-      theirs = λ u a. let far = far_at u (other n) a in let now = at_other v w t u y refl far in
-          follows_same (program_of sc u) (db v) (db w) lows v.them.locks v.them.locks u (txn_at v u) (txn_at w u) refl now (λ p h. h)
-          (s.theirs u (subst (λ x. Stands x (other n)) now a));
-      is_serial = s.is_serial;
-      registers = keep_registers sc v w start t y refl refl (active_not (txn_at v t).status at.0) s.registers;
-    }
-
 -- a transaction that begins has done nothing
 fresh_follows : (program : List Instr) (d : Map) (lows : List ℕ) (locks : List Lock) (t : ℕ) (x : Txn) → x.done ≡ 0 → x.regs ≡ replicate 8 0
     → x.pc ≡ 0 → x.rows ≡ [] → Follows program d lows locks t x
@@ -220,22 +171,6 @@ begun_follows sc v w lows locks m t u y e new same a b c d f at =
       | inr far ↦ let now = at_other v w t u y e far in
           follows_same (program_of sc u) (db v) (db w) lows locks locks u (txn_at v u) (txn_at w u) same now (λ p h. h) (f u (subst (λ x. Stands x m) now at))
     ]
-
--- a begin keeps it
-begun_serial : (sc : Scenario) (n : Node) (v : View) (start : Map) (lows : List ℕ) (t : ℕ) (h : Node) → Serially sc n v start lows
-    → is_new (txn_at v t).status ≡ true → Kept sc n (begun h t v) lows → Serially sc n (begun h t v) start lows
-unfolding begun
-begun_serial sc n v start lows t h s new k =
-    let w = begun h t v in
-    let off = not_new (txn_at v t).status new in
-    record {
-      kept = k;
-      held = s.held;
-      mine = λ u a. begun_follows sc v w lows v.me.locks n t u _ refl off refl refl refl refl refl s.mine a;
-      theirs = λ u a. begun_follows sc v w lows v.them.locks (other n) t u _ refl off refl refl refl refl refl s.theirs a;
-      is_serial = s.is_serial;
-      registers = keep_registers sc v w start t _ refl refl (new_not (txn_at v t).status new) s.registers;
-    }
 
 -- what the database has at a key whose page is here
 here_value : (sc : Scenario) (n : Node) (v : View) (lows : List ℕ) (t k : ℕ) → Kept sc n v lows → IsAt v t n → owns v.me.pages (page_of v.me.lows k) ≡ true
@@ -288,22 +223,6 @@ range_follows program d lows locks t a b pc regs x i e is does step f = record {
   ];
 }
 
--- a sum keeps it
-range_serial : (sc : Scenario) (n : Node) (v : View) (start : Map) (lows : List ℕ) (t a b pc : ℕ) (regs : List ℕ) (e : Effect)
-    → Serially sc n v start lows → Runs sc n t e v
-    → ((keys : List ℕ) → lone_effect (db v) e (lone_at (txn_at v t) keys)
-    ≡ record { regs = regs; pc = pc; rows = (txn_at v t).rows; keys = range a b ++ keys; over = false })
-    → Kept sc n (did t pc regs (txn_at v t).rows (has_locks t a b v)) lows → Serially sc n (did t pc regs (txn_at v t).rows (has_locks t a b v)) start lows
-unfolding did shares txn_at
-range_serial sc n v start lows t a b pc regs e s runs step h =
-    let at : IsAt v t n = (runs.active, runs.here) in
-    let newest : v.me.lows ≡ lows = s.kept.mine.newest (s.kept.mine.busy t at) in
-    let w = did t pc regs (txn_at v t).rows (has_locks t a b v) in
-    let y : Txn = record (txn_at v t) { pc = pc; regs = regs; done = (txn_at v t).done + 1 } in
-    acts_serial sc n v w start lows t y s h at refl refl refl refl refl (λ p u g. holds_more_shared (range_pages v.me.lows a b) t v.me.locks p u g)
-    (subst (λ l. Follows (program_of sc t) (db v) lows (share_all (range_pages l a b) t v.me.locks) t y) (sym newest)
-    (range_follows (program_of sc t) (db v) lows v.me.locks t a b pc regs (txn_at v t) runs.instr e runs.next runs.does step (s.mine t at)))
-
 -- a split moves the keys of t's page alone
 cut_follows : (program : List Instr) (d e : Map) (more : List ℕ) (locks : List Lock) (q b t u : ℕ) (x : Txn) → e ≡ d → length (0 ∷ more) ≡ q
     → ((k : ℕ) → page_of (0 ∷ more) b ≡ page_of (0 ∷ more) k → holds locks (page_of (0 ∷ more) k) u ≡ true → u ≡ t) → Follows program d (0 ∷ more) locks u x
@@ -320,38 +239,121 @@ cut_follows program d e more locks q b t u x same long one f = record {
       ];
 }
 
--- a split keeps it
-cut_serial : (sc : Scenario) (n : Node) (v : View) (start : Map) (lows : List ℕ) (t k b : ℕ) → Serially sc n v start lows → IsAt v t n → Free t k Exclusive v
-    → may_split v.me.mode ≡ true → page_of v.me.lows b ≡ page_of v.me.lows k
-    → Kept sc n (cut t (page_of v.me.lows k) b (has_lock t k Exclusive v)) (lows ++ b ∷ [])
-    → Serially sc n (cut t (page_of v.me.lows k) b (has_lock t k Exclusive v)) start (lows ++ b ∷ [])
-unfolding cut locked txn_at
-cut_serial sc n v start lows t k b s at f normal on h =
-    let p = page_of v.me.lows k in
-    let v1 = has_lock t k Exclusive v in
-    let w = cut t p b v1 in
-    let locks = add_lock p t Exclusive v.me.locks in
-    let more = s.kept.first.0 in
-    let begins = s.kept.first.1 in
-    let newest : v.me.lows ≡ lows = s.kept.mine.newest (s.kept.mine.busy t at) in
-    let same : db w ≡ db v = cut_db lows v1 t p b s.kept.placed (record { once = s.kept.inv.owned.once }) f.here in
-    let l = has_lock_locking sc n v lows t k Exclusive s.kept at f in
-    let one : (u j : ℕ) → page_of lows b ≡ page_of lows j → holds locks (page_of lows j) u ≡ true → u ≡ t =
-    λ u j e g. sym (l.apart p t u (alone_new p t v.me.locks) (subst (λ z. holds locks z u ≡ true) (sym e ∙ ap (λ z. page_of z b) (sym newest) ∙ on) g)) in
-    let idle = normal_other v s.kept.inv.roles normal in
-    record {
-      kept = h;
-      held = s.held;
-      mine = λ u a. subst (λ z. Follows (program_of sc u) (db w) (z ++ b ∷ []) (add_lock (length v.me.lows) t Exclusive locks) u (txn_at v u)) (sym begins)
-          (cut_follows (program_of sc u) (db v) (db w) more locks (length v.me.lows) b t u (txn_at v u) same (ap length (sym (newest ∙ begins)))
-          (subst (λ z. (j : ℕ) → page_of z b ≡ page_of z j → holds locks (page_of z j) u ≡ true → u ≡ t) begins (one u))
-          (subst (λ z. Follows (program_of sc u) (db v) z locks u (txn_at v u)) begins
-          (follows_same (program_of sc u) (db v) (db v) lows v.me.locks locks u (txn_at v u) (txn_at v u) refl refl
-          (λ q g. holds_more p t Exclusive v.me.locks q u g) (s.mine u a))));
-      theirs = λ u a. absurd (nobody_runs sc (other n) v.them v lows u s.kept.theirs idle.0 a);
-      is_serial = same ∙ s.is_serial;
-      registers = s.registers;
-    }
+-- a state that follows the serial run, and its newest low keys
+module _ (sc : Scenario) (n : Node) (v : View) (start : Map) (lows : List ℕ) where
+  -- a step of the program that needs no page keeps it
+  goes_serial : (t : ℕ) (e : Effect) (pc : ℕ) (regs : List ℕ) → Serially sc n v start lows
+      → Runs sc n t e v → Leads e (txn_at v t) pc regs
+      → Kept sc n (did t pc regs (txn_at v t).rows v) lows → Serially sc n (did t pc regs (txn_at v t).rows v) start lows
+  unfolding did
+  goes_serial t e pc regs s runs leads k =
+      let at : IsAt v t n = (runs.active, runs.here) in
+      acts_serial sc n v (did t pc regs (txn_at v t).rows v) start lows t _ s k at refl refl refl refl refl (λ p u h. h)
+      (plain_follows (program_of sc t) (db v) lows v.me.locks t pc regs (txn_at v t) runs.instr e runs.next runs.does
+      (λ keys. leads_step (db v) e (txn_at v t) pc regs keys leads) (s.mine t at))
+
+  -- a step under a lock keeps it
+  key_serial : (t k : ℕ) (kind : LockKind) (pc : ℕ) (regs : List ℕ) (rows : List Row)
+      (e : Effect)
+      → Serially sc n v start lows → Runs sc n t e v
+      → ((keys : List ℕ) → lone_effect (db v) e (lone_at (txn_at v t) keys) ≡ record { regs = regs; pc = pc; rows = rows; keys = k ∷ keys; over = false })
+      → Kept sc n (did t pc regs rows (has_lock t k kind v)) lows → Serially sc n (did t pc regs rows (has_lock t k kind v)) start lows
+  unfolding did locked txn_at
+  key_serial t k kind pc regs rows e s runs step h =
+      let at : IsAt v t n = (runs.active, runs.here) in
+      let newest : v.me.lows ≡ lows = s.kept.mine.newest (s.kept.mine.busy t at) in
+      let w = did t pc regs rows (has_lock t k kind v) in
+      let y : Txn = record (txn_at v t) { pc = pc; regs = regs; rows = rows; done = (txn_at v t).done + 1 } in
+      acts_serial sc n v w start lows t y s h at refl refl refl refl refl (λ p u g. holds_more (page_of v.me.lows k) t kind v.me.locks p u g)
+      (subst (λ l. Follows (program_of sc t) (db v) lows (add_lock (page_of l k) t kind v.me.locks) t y) (sym newest)
+      (key_follows (program_of sc t) (db v) lows v.me.locks kind t k pc regs rows (txn_at v t) runs.instr e runs.next runs.does step (s.mine t at)))
+
+  -- an aborted transaction is no more to be followed
+  aborted_serial : (t : ℕ) (why : Why) → Serially sc n v start lows → IsAt v t n
+      → Kept sc n (aborted t why v) lows → Serially sc n (aborted t why v) start lows
+  unfolding aborted
+  aborted_serial t why s at k =
+      let w = aborted t why v in
+      let y : Txn = record (txn_at v t) { status = Aborted why; rows = [] } in
+      let far_at : (u : ℕ) (m : Node) → IsAt w u m → u ≡ t → ⊥ = λ u m a same. false≢true
+      (subst (λ (x : Txn). is_active x.status ≡ true) (ap (txn_at w) same ∙ at_self v w t y refl at.0) a.0) in
+      record {
+        kept = k;
+        held = s.held;
+        mine = λ u a. let far = far_at u n a in let now = at_other v w t u y refl far in
+            follows_same (program_of sc u) (db v) (db w) lows v.me.locks w.me.locks u (txn_at v u) (txn_at w u) refl now
+            (λ p h. holds-drop v.me.locks p t u far ∙ h) (s.mine u (subst (λ x. Stands x n) now a));
+        theirs = λ u a. let far = far_at u (other n) a in let now = at_other v w t u y refl far in
+            follows_same (program_of sc u) (db v) (db w) lows v.them.locks v.them.locks u (txn_at v u) (txn_at w u) refl now (λ p h. h)
+            (s.theirs u (subst (λ x. Stands x (other n)) now a));
+        is_serial = s.is_serial;
+        registers = keep_registers sc v w start t y refl refl (active_not (txn_at v t).status at.0) s.registers;
+      }
+
+  -- a begin keeps it
+  begun_serial : (t : ℕ) (h : Node) → Serially sc n v start lows
+      → is_new (txn_at v t).status ≡ true → Kept sc n (begun h t v) lows → Serially sc n (begun h t v) start lows
+  unfolding begun
+  begun_serial t h s new k =
+      let w = begun h t v in
+      let off = not_new (txn_at v t).status new in
+      record {
+        kept = k;
+        held = s.held;
+        mine = λ u a. begun_follows sc v w lows v.me.locks n t u _ refl off refl refl refl refl refl s.mine a;
+        theirs = λ u a. begun_follows sc v w lows v.them.locks (other n) t u _ refl off refl refl refl refl refl s.theirs a;
+        is_serial = s.is_serial;
+        registers = keep_registers sc v w start t _ refl refl (new_not (txn_at v t).status new) s.registers;
+      }
+
+  -- a sum keeps it
+  range_serial : (t a b pc : ℕ) (regs : List ℕ) (e : Effect)
+      → Serially sc n v start lows → Runs sc n t e v
+      → ((keys : List ℕ) → lone_effect (db v) e (lone_at (txn_at v t) keys)
+      ≡ record { regs = regs; pc = pc; rows = (txn_at v t).rows; keys = range a b ++ keys; over = false })
+      → Kept sc n (did t pc regs (txn_at v t).rows (has_locks t a b v)) lows → Serially sc n (did t pc regs (txn_at v t).rows (has_locks t a b v)) start lows
+  unfolding did shares txn_at
+  range_serial t a b pc regs e s runs step h =
+      let at : IsAt v t n = (runs.active, runs.here) in
+      let newest : v.me.lows ≡ lows = s.kept.mine.newest (s.kept.mine.busy t at) in
+      let w = did t pc regs (txn_at v t).rows (has_locks t a b v) in
+      let y : Txn = record (txn_at v t) { pc = pc; regs = regs; done = (txn_at v t).done + 1 } in
+      acts_serial sc n v w start lows t y s h at refl refl refl refl refl (λ p u g. holds_more_shared (range_pages v.me.lows a b) t v.me.locks p u g)
+      (subst (λ l. Follows (program_of sc t) (db v) lows (share_all (range_pages l a b) t v.me.locks) t y) (sym newest)
+      (range_follows (program_of sc t) (db v) lows v.me.locks t a b pc regs (txn_at v t) runs.instr e runs.next runs.does step (s.mine t at)))
+
+  -- a split keeps it
+  cut_serial : (t k b : ℕ) → Serially sc n v start lows → IsAt v t n → Free t k Exclusive v
+      → may_split v.me.mode ≡ true → page_of v.me.lows b ≡ page_of v.me.lows k
+      → Kept sc n (cut t (page_of v.me.lows k) b (has_lock t k Exclusive v)) (lows ++ b ∷ [])
+      → Serially sc n (cut t (page_of v.me.lows k) b (has_lock t k Exclusive v)) start (lows ++ b ∷ [])
+  unfolding cut locked txn_at
+  cut_serial t k b s at f normal on h =
+      let p = page_of v.me.lows k in
+      let v1 = has_lock t k Exclusive v in
+      let w = cut t p b v1 in
+      let locks = add_lock p t Exclusive v.me.locks in
+      let more = s.kept.first.0 in
+      let begins = s.kept.first.1 in
+      let newest : v.me.lows ≡ lows = s.kept.mine.newest (s.kept.mine.busy t at) in
+      let same : db w ≡ db v = cut_db lows v1 t p b s.kept.placed (record { once = s.kept.inv.owned.once }) f.here in
+      let l = has_lock_locking sc n v lows t k Exclusive s.kept at f in
+      let one : (u j : ℕ) → page_of lows b ≡ page_of lows j → holds locks (page_of lows j) u ≡ true → u ≡ t =
+      λ u j e g. sym (l.apart p t u (alone_new p t v.me.locks) (subst (λ z. holds locks z u ≡ true) (sym e ∙ ap (λ z. page_of z b) (sym newest) ∙ on) g)) in
+      let idle = normal_other v s.kept.inv.roles normal in
+      record {
+        kept = h;
+        held = s.held;
+        mine = λ u a. subst (λ z. Follows (program_of sc u) (db w) (z ++ b ∷ []) (add_lock (length v.me.lows) t Exclusive locks) u (txn_at v u)) (sym begins)
+            (cut_follows (program_of sc u) (db v) (db w) more locks (length v.me.lows) b t u (txn_at v u) same (ap length (sym (newest ∙ begins)))
+            (subst (λ z. (j : ℕ) → page_of z b ≡ page_of z j → holds locks (page_of z j) u ≡ true → u ≡ t) begins (one u))
+            (subst (λ z. Follows (program_of sc u) (db v) z locks u (txn_at v u)) begins
+            (follows_same (program_of sc u) (db v) (db v) lows v.me.locks locks u (txn_at v u) (txn_at v u) refl refl
+            (λ q g. holds_more p t Exclusive v.me.locks q u g) (s.mine u a))));
+        theirs = λ u a. absurd (nobody_runs sc (other n) v.them v lows u s.kept.theirs idle.0 a);
+        is_serial = same ∙ s.is_serial;
+        registers = s.registers;
+      }
 
 -- a step that changes no transaction and no lock, and no value
 stays_serial : (sc : Scenario) (n : Node) (v w : View) (start : Map) (lows : List ℕ) → Serially sc n v start lows → w.txns ≡ v.txns → w.commits ≡ v.commits

@@ -192,154 +192,6 @@ pub record Happens (sc : Scenario) (n : Node) (v : View) (m : Move) : Type 0 whe
 never : {X : Type 0} → false ≡ true → X
 never e = absurd (false≢true e)
 
--- a step that gives neither of these outcomes
-plain : (sc : Scenario) (n : Node) (v : View) (m : Move) (e : Event sc n v m.after) → is_gone m.outcome ≡ false → is_stray m.outcome ≡ false → Told e m.outcome
-    → Happens sc n v m
-plain sc n v m e g s told = record { event = e; told = told; lost = λ h. never (sym g ∙ h); strange = λ h. never (sym s ∙ h) }
-
--- a line that changes nothing
-rests : (sc : Scenario) (n : Node) (v : View) (o : Outcome) → is_gone o ≡ false → is_stray o ≡ false → Happens sc n v (quiet v o)
-rests sc n v o g s = plain sc n v (quiet v o) (Rests refl) g s tt
-
--- the lines of run
-aborts : (sc : Scenario) (n : Node) (t : ℕ) (y : Why) (v : View) → is_active (txn_at v t).status ≡ true → (txn_at v t).node ≡ n
-    → (is_gone (outcome.Aborted y) ≡ true → Lost n v) → Happens sc n v (abort_step t y v)
-unfolding abort_step
-aborts sc n t y v a h lost = record { event = Aborts t y a h refl; told = tt; lost = lost; strange = λ e. never e }
-
--- the same with the page's lock taken
-aborts_locked : (sc : Scenario) (n : Node) (t p : ℕ) (kind : LockKind) (y : Why) (v : View) → is_active (txn_at v t).status ≡ true
-    → (txn_at v t).node ≡ n → is_gone (outcome.Aborted y) ≡ false → Happens sc n v (abort_step t y (locked t p kind v))
-unfolding abort_step
-aborts_locked sc n t p kind y v a h g = plain sc n v _ (Aborts t y a h (aborted-locked t p kind y v)) g refl tt
-
--- an effect that needs no page
-goes_on : (sc : Scenario) (n : Node) (t : ℕ) (e : Effect) (pc : ℕ) (regs : List ℕ) (v : View) → Runs sc n t e v → Leads e (txn_at v t) pc regs
-    → Happens sc n v (quiet (did t pc regs (txn_at v t).rows v) outcome.Did)
-goes_on sc n t e pc regs v runs leads = plain sc n v _ (GoesOn t e pc regs runs leads refl) refl refl tt
-
--- the line of an insert on a full page: it splits where the mode allows, and else aborts
-full_happens : (sc : Scenario) (n : Node) (t k x : ℕ) (v : View) → Runs sc n t (effect.Accesses (access.Inserts x) k) v → Free t k Exclusive v
-    → is_there k (page k v) v.me (txn_at v t) ≡ false → has_room sc (page k v) v.me (txn_at v t) ≡ false
-    → Happens sc n v (full_step sc t k (page k v) (has_lock t k Exclusive v))
-unfolding full_step split_step locked txn_at
-full_happens sc n t k x v runs f new full =
-    cond_both (not (may_split v.me.mode)) _ _ (Happens sc n v)
-    (λ _. aborts_locked sc n t (page k v) Exclusive _ v runs.active runs.here refl)
-    (λ normal. cond_both (nat_le sc.pages (length v.me.lows)) _ _ (Happens sc n v)
-    (λ _. aborts_locked sc n t (page k v) Exclusive _ v runs.active runs.here refl)
-    (λ more. plain sc n v _ (Splits t k x runs f new full (not-false _ normal) more refl) refl refl (_, _, refl)))
-
--- the line of an insert under its lock: the row is there, the page is full, or it has room
-insert_happens : (sc : Scenario) (n : Node) (t k x : ℕ) (v : View) → Runs sc n t (effect.Accesses (access.Inserts x) k) v → Free t k Exclusive v
-    → Happens sc n v (insert_step sc t k x (page k v) (has_lock t k Exclusive v))
-unfolding insert_step locked txn_at
-insert_happens sc n t k x v runs f =
-    cond_both (is_there k (page k v) v.me (txn_at v t)) _ _ (Happens sc n v)
-    (λ _. aborts_locked sc n t (page k v) Exclusive _ v runs.active runs.here refl)
-    (λ new. cond_both (has_room sc (page k v) v.me (txn_at v t)) _ _ (Happens sc n v)
-    (λ room. plain sc n v _ (Inserts t k x runs f new room refl) refl refl tt)
-    (λ full. full_happens sc n t k x v runs f new full))
-
--- the line of a write under its lock
-write_happens : (sc : Scenario) (n : Node) (t k x : ℕ) (v : View) → Runs sc n t (effect.Accesses (access.Writes x) k) v → Free t k Exclusive v
-    → Happens sc n v (write_step t k x (page k v) (has_lock t k Exclusive v))
-unfolding write_step locked txn_at
-write_happens sc n t k x v runs f =
-    cond_both (is_there k (page k v) v.me (txn_at v t)) _ _ (Happens sc n v)
-    (λ there. plain sc n v _ (Writes t k x runs f there refl) refl refl tt)
-    (λ _. aborts_locked sc n t (page k v) Exclusive _ v runs.active runs.here refl)
-
--- the line of a read under its lock
-read_happens : (sc : Scenario) (n : Node) (t : ℕ) (r : Reg) (k : ℕ) (v : View) → Runs sc n t (effect.Accesses (Reads r) k) v → Free t k Shared v
-    → Happens sc n v (read_step t r k (page k v) (has_lock t k Shared v))
-unfolding read_step locked txn_at
-read_happens sc n t r k v runs f = plain sc n v _ (Gets t r k runs f refl) refl refl tt
-
--- an access that has its lock
-access_happens : (sc : Scenario) (n : Node) (t k : ℕ) (i : Access) (v : View) → Runs sc n t (effect.Accesses i k) v → Free t k (lock_of i) v
-    → Happens sc n v (access_step sc t i k (page k v) (has_lock t k (lock_of i) v))
-unfolding access_step
-access_happens sc n t k (Reads r) v runs f = read_happens sc n t r k v runs f
-access_happens sc n t k (access.Writes x) v runs f = write_happens sc n t k x v runs f
-access_happens sc n t k (access.Inserts x) v runs f = insert_happens sc n t k x v runs f
-
--- a page that is not here
-absent_happens : (sc : Scenario) (n : Node) (t k : ℕ) (e : Effect) (v : View) → Runs sc n t e v → owns v.me.pages (page_of v.me.lows k) ≡ false
-    → Happens sc n v (absent_step t (page_of v.me.lows k) v)
-unfolding absent_step
-absent_happens sc n t k e v r gone =
-    cond_both (not (may_pull v.me.mode)) _ _ (Happens sc n v)
-    (λ s. aborts sc n t _ v r.active r.here (λ _. record {
-      txn = t;
-      key = k;
-      active = r.active;
-      here = r.here;
-      begun = r.begun;
-      gone = gone;
-      cause = inl (not-true _ s);
-    }))
-    (λ s. cond_both (has v.me.asked (page_of v.me.lows k)) _ _ (Happens sc n v)
-    (λ _. rests sc n v _ refl refl)
-    (λ h. plain sc n v _ (Asks (page_of v.me.lows k) gone (not-false _ s) h refl) refl refl (k, refl)))
-
--- an access by its key and its page
-key_happens : (sc : Scenario) (n : Node) (t k : ℕ) (i : Access) (v : View) → Runs sc n t (effect.Accesses i k) v → Happens sc n v (key_step sc t i k v)
-unfolding key_step page_step
-key_happens sc n t k i v runs =
-    cond_both (nat_lt 65535 k) _ _ (Happens sc n v)
-    (λ _. aborts sc n t _ v runs.active runs.here (λ e. never e))
-    (λ small. cond_both (not (owns v.me.pages (page_of v.me.lows k))) _ _ (Happens sc n v)
-    (λ gone. absent_happens sc n t k (effect.Accesses i k) v runs (not-true _ gone))
-    (λ here. cond_both (conflict v.me.locks (page_of v.me.lows k) t (lock_of i)) _ _ (Happens sc n v)
-    (λ _. rests sc n v _ refl refl)
-    (λ free. access_happens sc n t k i v runs (record { small = small; here = not-false _ here; free = free }))))
-
--- the first of a sum's pages that is not here
-sum_absent : (sc : Scenario) (n : Node) (t a b p : ℕ) (i : Effect) (v : View) → Runs sc n t i v → first_absent v.me.pages (range_pages v.me.lows a b) ≡ Some p
-    → Happens sc n v (absent_step t p v)
-sum_absent sc n t a b p i v runs e =
-    let f = found_has (λ (z : ℕ). not (owns v.me.pages z)) (range_pages v.me.lows a b) p e in
-    let k = key_of_page v.me.lows a b p f.0 in
-    subst (λ z. Happens sc n v (absent_step t z v)) k.1 (absent_happens sc n t k.0 i v runs (ap (owns v.me.pages) k.1 ∙ not-true _ f.1))
-
--- the line of a sum whose pages are all here: it waits for another's lock, or adds up
-sum_waits_happens : (sc : Scenario) (n : Node) (t : ℕ) (r : Reg) (a b : ℕ) (o : Option ℕ) (v : View) → o ≡ first_taken v.me.locks t (range_pages v.me.lows a b)
-    → Runs sc n t (effect.Sums r a b) v → nat_lt b a ≡ false → nat_lt 65535 b ≡ false
-    → ((p : ℕ) → has (range_pages v.me.lows a b) p ≡ true → owns v.me.pages p ≡ true)
-    → Happens sc n v (sum_or_waits t r a b o v)
-unfolding sum_or_waits sum_step set_step shares txn_at
-sum_waits_happens sc n t r a b (Some p) v e runs rises small here = rests sc n v _ refl refl
-sum_waits_happens sc n t r a b None v e runs rises small here =
-    let taken : ℕ → Bool = λ z. conflict v.me.locks z t Shared in
-    let free : FreeRange t a b v = record {
-      rises = rises;
-      small = small;
-      here = here;
-      free = λ p h. none_passes taken (range_pages v.me.lows a b) p (sym e) h;
-    } in
-    plain sc n v _ (SumsUp t r a b runs free refl) refl refl tt
-
--- the line of a sum with keys: it asks for a page that is not here, or goes on to the locks
-sum_asks_happens : (sc : Scenario) (n : Node) (t : ℕ) (r : Reg) (a b : ℕ) (o : Option ℕ) (v : View) → o ≡ first_absent v.me.pages (range_pages v.me.lows a b)
-    → Runs sc n t (effect.Sums r a b) v → nat_lt b a ≡ false → nat_lt 65535 b ≡ false
-    → Happens sc n v (sum_or_asks t r a b o v)
-unfolding sum_or_asks
-sum_asks_happens sc n t r a b (Some p) v e runs rises small = sum_absent sc n t a b p (effect.Sums r a b) v runs (sym e)
-sum_asks_happens sc n t r a b None v e runs rises small =
-    let absent : ℕ → Bool = λ z. not (owns v.me.pages z) in
-    sum_waits_happens sc n t r a b _ v refl runs rises small (λ p h. not-false _ (none_passes absent (range_pages v.me.lows a b) p (sym e) h))
-
--- the lines of a sum
-range_happens : (sc : Scenario) (n : Node) (t : ℕ) (r : Reg) (a b : ℕ) (v : View) → Runs sc n t (effect.Sums r a b) v → Happens sc n v (range_step t r a b v)
-unfolding range_step set_step
-range_happens sc n t r a b v runs =
-    cond_both (nat_lt b a) _ _ (Happens sc n v)
-    (λ none. goes_on sc n t (effect.Sums r a b) ((txn_at v t).pc + 1) (with_reg r 0 (txn_at v t).regs) v runs (BySum r a b refl none refl refl))
-    (λ rises. cond_both (nat_lt 65535 b) _ _ (Happens sc n v)
-    (λ _. aborts sc n t _ v runs.active runs.here (λ e. never e))
-    (λ small. sum_asks_happens sc n t r a b _ v refl runs rises small))
-
 -- a page that has gone has a private row
 gone_key : (x : NodeState) (rows all : List Row) → ((k : ℕ) → is_some (get_row rows k) ≡ true → is_some (get_row all k) ≡ true) → (p : ℕ)
     → least (gone_pages x rows) ≡ Some p
@@ -352,35 +204,6 @@ gone_key x (r ∷ rows) all sub p e =
       | inr gone ↦ (r.key, sub r.key (ap (λ b. is_some (if b then Some r.value else get_row rows r.key)) (eq-eqb r.key r.key refl)), gone)
     ]
 
--- the line of a commit: it aborts where a page of a private row has gone, and else lays the rows down
-commit_happens : (sc : Scenario) (n : Node) (t : ℕ) (o : Option ℕ) (v : View) → o ≡ least (gone_pages v.me (txn_at v t).rows) → Runs sc n t effect.Commits v
-    → Happens sc n v (commit_or_gone t o v)
-unfolding commit_or_gone
-commit_happens sc n t (Some p) v e r =
-    aborts sc n t (why.Gone p) v r.active r.here (λ _.
-    let l = gone_key v.me (txn_at v t).rows (txn_at v t).rows (λ k h. h) p (sym e) in
-    record { txn = t; key = l.0; active = r.active; here = r.here; begun = r.begun; gone = l.2; cause = inr l.1 })
-commit_happens sc n t None v e r = plain sc n v _ (Commits t r (sym e) refl) refl refl tt
-
--- the lines of each effect
-effect_happens : (sc : Scenario) (n : Node) (t : ℕ) (e : Effect) (v : View) → Runs sc n t e v → Happens sc n v (effect_step sc t e v)
-unfolding effect_step set_step jump_step commit_step
-effect_happens sc n t (effect.Sets r x) v runs =
-    goes_on sc n t (effect.Sets r x) ((txn_at v t).pc + 1) (with_reg r x (txn_at v t).regs) v runs (BySet r x refl refl refl)
-effect_happens sc n t (effect.Jumps taken to) v runs =
-    goes_on sc n t (effect.Jumps taken to) (if taken then to else (txn_at v t).pc + 1) (txn_at v t).regs v runs (ByJump taken to refl refl refl)
-effect_happens sc n t (effect.Accesses i k) v runs = key_happens sc n t k i v runs
-effect_happens sc n t (effect.Sums r a b) v runs = range_happens sc n t r a b v runs
-effect_happens sc n t effect.Commits v runs = commit_happens sc n t _ v refl runs
-effect_happens sc n t effect.Aborts v runs = aborts sc n t _ v runs.active runs.here (λ e. never e)
-
--- the line of the next instruction, if the program has one
-instr_happens : (sc : Scenario) (n : Node) (t : ℕ) (o : Option Instr) (v : View) → ((i : Instr) → o ≡ Some i → Runs sc n t (effect_of i (txn_at v t).regs) v)
-    → Happens sc n v (instr_step sc t o (txn_at v t).regs v)
-unfolding instr_step
-instr_happens sc n t None v r = rests sc n v _ refl refl
-instr_happens sc n t (Some i) v r = effect_happens sc n t (effect_of i (txn_at v t).regs) v (r i refl)
-
 -- the test of equal nodes is right
 same_node-true : (a b : Node) → same_node a b ≡ true → a ≡ b
 same_node-true A A e = refl
@@ -388,26 +211,357 @@ same_node-true A B e = absurd (false≢true e)
 same_node-true B A e = absurd (false≢true e)
 same_node-true B B e = refl
 
--- the lines of a run: of a transaction that is active, at n, whose node does not wait
-run_happens : (sc : Scenario) (n : Node) (t : ℕ) (v : View) → Happens sc n v (run_step sc n t v)
-unfolding run_step
-run_happens sc n t v =
-    cond_both (not (is_active (txn_at v t).status)) _ _ (Happens sc n v)
-    (λ _. rests sc n v _ refl refl)
-    (λ a. cond_both (not (same_node (txn_at v t).node n)) _ _ (Happens sc n v)
-    (λ _. rests sc n v _ refl refl)
-    (λ h. cond_both (is_waiting v.me.mode) _ _ (Happens sc n v)
-    (λ _. rests sc n v _ refl refl)
-    (λ b. instr_happens sc n t _ v (λ i e.
-    record { instr = i; active = not-false _ a; here = same_node-true _ _ (not-false _ h); begun = b; next = e; does = refl }))))
+-- what each line of a node does, seen from that node
+module _ (sc : Scenario) (n : Node) where
+  -- a step that gives neither of these outcomes
+  plain : (v : View) (m : Move) (e : Event sc n v m.after) → is_gone m.outcome ≡ false → is_stray m.outcome ≡ false → Told e m.outcome
+      → Happens sc n v m
+  plain v m e g s told = record { event = e; told = told; lost = λ h. never (sym g ∙ h); strange = λ h. never (sym s ∙ h) }
 
--- the client's lines
-start_happens : (sc : Scenario) (n : Node) (v : View) → (sc.version ≡ One → n ≡ A) → Happens sc n v (start_step v)
-unfolding start_step
-start_happens sc n v at_a =
-    cond_both (may_start v.me.mode v.them.mode) _ _ (Happens sc n v)
-    (λ h. let modes = starts_from v.me.mode v.them.mode h in plain sc n v _ (Starts at_a modes.0 modes.1 refl) refl refl refl)
-    (λ _. rests sc n v _ refl refl)
+  -- a line that changes nothing
+  rests : (v : View) (o : Outcome) → is_gone o ≡ false → is_stray o ≡ false → Happens sc n v (quiet v o)
+  rests v o g s = plain v (quiet v o) (Rests refl) g s tt
+
+  -- the lines of run
+  aborts : (t : ℕ) (y : Why) (v : View) → is_active (txn_at v t).status ≡ true → (txn_at v t).node ≡ n
+      → (is_gone (outcome.Aborted y) ≡ true → Lost n v) → Happens sc n v (abort_step t y v)
+  unfolding abort_step
+  aborts t y v a h lost = record { event = Aborts t y a h refl; told = tt; lost = lost; strange = λ e. never e }
+
+  -- the same with the page's lock taken
+  aborts_locked : (t p : ℕ) (kind : LockKind) (y : Why) (v : View) → is_active (txn_at v t).status ≡ true
+      → (txn_at v t).node ≡ n → is_gone (outcome.Aborted y) ≡ false → Happens sc n v (abort_step t y (locked t p kind v))
+  unfolding abort_step
+  aborts_locked t p kind y v a h g = plain v _ (Aborts t y a h (aborted-locked t p kind y v)) g refl tt
+
+  -- an effect that needs no page
+  goes_on : (t : ℕ) (e : Effect) (pc : ℕ) (regs : List ℕ) (v : View) → Runs sc n t e v → Leads e (txn_at v t) pc regs
+      → Happens sc n v (quiet (did t pc regs (txn_at v t).rows v) outcome.Did)
+  goes_on t e pc regs v runs leads = plain v _ (GoesOn t e pc regs runs leads refl) refl refl tt
+
+  -- the line of an insert on a full page: it splits where the mode allows, and else aborts
+  full_happens : (t k x : ℕ) (v : View) → Runs sc n t (effect.Accesses (access.Inserts x) k) v → Free t k Exclusive v
+      → is_there k (page k v) v.me (txn_at v t) ≡ false → has_room sc (page k v) v.me (txn_at v t) ≡ false
+      → Happens sc n v (full_step sc t k (page k v) (has_lock t k Exclusive v))
+  unfolding full_step split_step locked txn_at
+  full_happens t k x v runs f new full =
+      cond_both (not (may_split v.me.mode)) _ _ (Happens sc n v)
+      (λ _. aborts_locked t (page k v) Exclusive _ v runs.active runs.here refl)
+      (λ normal. cond_both (nat_le sc.pages (length v.me.lows)) _ _ (Happens sc n v)
+      (λ _. aborts_locked t (page k v) Exclusive _ v runs.active runs.here refl)
+      (λ more. plain v _ (Splits t k x runs f new full (not-false _ normal) more refl) refl refl (_, _, refl)))
+
+  -- the line of an insert under its lock: the row is there, the page is full, or it has room
+  insert_happens : (t k x : ℕ) (v : View) → Runs sc n t (effect.Accesses (access.Inserts x) k) v → Free t k Exclusive v
+      → Happens sc n v (insert_step sc t k x (page k v) (has_lock t k Exclusive v))
+  unfolding insert_step locked txn_at
+  insert_happens t k x v runs f =
+      cond_both (is_there k (page k v) v.me (txn_at v t)) _ _ (Happens sc n v)
+      (λ _. aborts_locked t (page k v) Exclusive _ v runs.active runs.here refl)
+      (λ new. cond_both (has_room sc (page k v) v.me (txn_at v t)) _ _ (Happens sc n v)
+      (λ room. plain v _ (Inserts t k x runs f new room refl) refl refl tt)
+      (λ full. full_happens t k x v runs f new full))
+
+  -- the line of a write under its lock
+  write_happens : (t k x : ℕ) (v : View) → Runs sc n t (effect.Accesses (access.Writes x) k) v → Free t k Exclusive v
+      → Happens sc n v (write_step t k x (page k v) (has_lock t k Exclusive v))
+  unfolding write_step locked txn_at
+  write_happens t k x v runs f =
+      cond_both (is_there k (page k v) v.me (txn_at v t)) _ _ (Happens sc n v)
+      (λ there. plain v _ (Writes t k x runs f there refl) refl refl tt)
+      (λ _. aborts_locked t (page k v) Exclusive _ v runs.active runs.here refl)
+
+  -- the line of a read under its lock
+  read_happens : (t : ℕ) (r : Reg) (k : ℕ) (v : View) → Runs sc n t (effect.Accesses (Reads r) k) v → Free t k Shared v
+      → Happens sc n v (read_step t r k (page k v) (has_lock t k Shared v))
+  unfolding read_step locked txn_at
+  read_happens t r k v runs f = plain v _ (Gets t r k runs f refl) refl refl tt
+
+  -- an access that has its lock
+  access_happens : (t k : ℕ) (i : Access) (v : View) → Runs sc n t (effect.Accesses i k) v → Free t k (lock_of i) v
+      → Happens sc n v (access_step sc t i k (page k v) (has_lock t k (lock_of i) v))
+  unfolding access_step
+  access_happens t k (Reads r) v runs f = read_happens t r k v runs f
+  access_happens t k (access.Writes x) v runs f = write_happens t k x v runs f
+  access_happens t k (access.Inserts x) v runs f = insert_happens t k x v runs f
+
+  -- a page that is not here
+  absent_happens : (t k : ℕ) (e : Effect) (v : View) → Runs sc n t e v → owns v.me.pages (page_of v.me.lows k) ≡ false
+      → Happens sc n v (absent_step t (page_of v.me.lows k) v)
+  unfolding absent_step
+  absent_happens t k e v r gone =
+      cond_both (not (may_pull v.me.mode)) _ _ (Happens sc n v)
+      (λ s. aborts t _ v r.active r.here (λ _. record {
+        txn = t;
+        key = k;
+        active = r.active;
+        here = r.here;
+        begun = r.begun;
+        gone = gone;
+        cause = inl (not-true _ s);
+      }))
+      (λ s. cond_both (has v.me.asked (page_of v.me.lows k)) _ _ (Happens sc n v)
+      (λ _. rests v _ refl refl)
+      (λ h. plain v _ (Asks (page_of v.me.lows k) gone (not-false _ s) h refl) refl refl (k, refl)))
+
+  -- an access by its key and its page
+  key_happens : (t k : ℕ) (i : Access) (v : View) → Runs sc n t (effect.Accesses i k) v → Happens sc n v (key_step sc t i k v)
+  unfolding key_step page_step
+  key_happens t k i v runs =
+      cond_both (nat_lt 65535 k) _ _ (Happens sc n v)
+      (λ _. aborts t _ v runs.active runs.here (λ e. never e))
+      (λ small. cond_both (not (owns v.me.pages (page_of v.me.lows k))) _ _ (Happens sc n v)
+      (λ gone. absent_happens t k (effect.Accesses i k) v runs (not-true _ gone))
+      (λ here. cond_both (conflict v.me.locks (page_of v.me.lows k) t (lock_of i)) _ _ (Happens sc n v)
+      (λ _. rests v _ refl refl)
+      (λ free. access_happens t k i v runs (record { small = small; here = not-false _ here; free = free }))))
+
+  -- the first of a sum's pages that is not here
+  sum_absent : (t a b p : ℕ) (i : Effect) (v : View) → Runs sc n t i v → first_absent v.me.pages (range_pages v.me.lows a b) ≡ Some p
+      → Happens sc n v (absent_step t p v)
+  sum_absent t a b p i v runs e =
+      let f = found_has (λ (z : ℕ). not (owns v.me.pages z)) (range_pages v.me.lows a b) p e in
+      let k = key_of_page v.me.lows a b p f.0 in
+      subst (λ z. Happens sc n v (absent_step t z v)) k.1 (absent_happens t k.0 i v runs (ap (owns v.me.pages) k.1 ∙ not-true _ f.1))
+
+  -- the line of a sum whose pages are all here: it waits for another's lock, or adds up
+  sum_waits_happens : (t : ℕ) (r : Reg) (a b : ℕ) (o : Option ℕ) (v : View) → o ≡ first_taken v.me.locks t (range_pages v.me.lows a b)
+      → Runs sc n t (effect.Sums r a b) v → nat_lt b a ≡ false → nat_lt 65535 b ≡ false
+      → ((p : ℕ) → has (range_pages v.me.lows a b) p ≡ true → owns v.me.pages p ≡ true)
+      → Happens sc n v (sum_or_waits t r a b o v)
+  unfolding sum_or_waits sum_step set_step shares txn_at
+  sum_waits_happens t r a b (Some p) v e runs rises small here = rests v _ refl refl
+  sum_waits_happens t r a b None v e runs rises small here =
+      let taken : ℕ → Bool = λ z. conflict v.me.locks z t Shared in
+      let free : FreeRange t a b v = record {
+        rises = rises;
+        small = small;
+        here = here;
+        free = λ p h. none_passes taken (range_pages v.me.lows a b) p (sym e) h;
+      } in
+      plain v _ (SumsUp t r a b runs free refl) refl refl tt
+
+  -- the line of a sum with keys: it asks for a page that is not here, or goes on to the locks
+  sum_asks_happens : (t : ℕ) (r : Reg) (a b : ℕ) (o : Option ℕ) (v : View) → o ≡ first_absent v.me.pages (range_pages v.me.lows a b)
+      → Runs sc n t (effect.Sums r a b) v → nat_lt b a ≡ false → nat_lt 65535 b ≡ false
+      → Happens sc n v (sum_or_asks t r a b o v)
+  unfolding sum_or_asks
+  sum_asks_happens t r a b (Some p) v e runs rises small = sum_absent t a b p (effect.Sums r a b) v runs (sym e)
+  sum_asks_happens t r a b None v e runs rises small =
+      let absent : ℕ → Bool = λ z. not (owns v.me.pages z) in
+      sum_waits_happens t r a b _ v refl runs rises small (λ p h. not-false _ (none_passes absent (range_pages v.me.lows a b) p (sym e) h))
+
+  -- the lines of a sum
+  range_happens : (t : ℕ) (r : Reg) (a b : ℕ) (v : View) → Runs sc n t (effect.Sums r a b) v → Happens sc n v (range_step t r a b v)
+  unfolding range_step set_step
+  range_happens t r a b v runs =
+      cond_both (nat_lt b a) _ _ (Happens sc n v)
+      (λ none. goes_on t (effect.Sums r a b) ((txn_at v t).pc + 1) (with_reg r 0 (txn_at v t).regs) v runs (BySum r a b refl none refl refl))
+      (λ rises. cond_both (nat_lt 65535 b) _ _ (Happens sc n v)
+      (λ _. aborts t _ v runs.active runs.here (λ e. never e))
+      (λ small. sum_asks_happens t r a b _ v refl runs rises small))
+
+  -- the line of a commit: it aborts where a page of a private row has gone, and else lays the rows down
+  commit_happens : (t : ℕ) (o : Option ℕ) (v : View) → o ≡ least (gone_pages v.me (txn_at v t).rows) → Runs sc n t effect.Commits v
+      → Happens sc n v (commit_or_gone t o v)
+  unfolding commit_or_gone
+  commit_happens t (Some p) v e r =
+      aborts t (why.Gone p) v r.active r.here (λ _.
+      let l = gone_key v.me (txn_at v t).rows (txn_at v t).rows (λ k h. h) p (sym e) in
+      record { txn = t; key = l.0; active = r.active; here = r.here; begun = r.begun; gone = l.2; cause = inr l.1 })
+  commit_happens t None v e r = plain v _ (Commits t r (sym e) refl) refl refl tt
+
+  -- the lines of each effect
+  effect_happens : (t : ℕ) (e : Effect) (v : View) → Runs sc n t e v → Happens sc n v (effect_step sc t e v)
+  unfolding effect_step set_step jump_step commit_step
+  effect_happens t (effect.Sets r x) v runs =
+      goes_on t (effect.Sets r x) ((txn_at v t).pc + 1) (with_reg r x (txn_at v t).regs) v runs (BySet r x refl refl refl)
+  effect_happens t (effect.Jumps taken to) v runs =
+      goes_on t (effect.Jumps taken to) (if taken then to else (txn_at v t).pc + 1) (txn_at v t).regs v runs (ByJump taken to refl refl refl)
+  effect_happens t (effect.Accesses i k) v runs = key_happens t k i v runs
+  effect_happens t (effect.Sums r a b) v runs = range_happens t r a b v runs
+  effect_happens t effect.Commits v runs = commit_happens t _ v refl runs
+  effect_happens t effect.Aborts v runs = aborts t _ v runs.active runs.here (λ e. never e)
+
+  -- the line of the next instruction, if the program has one
+  instr_happens : (t : ℕ) (o : Option Instr) (v : View) → ((i : Instr) → o ≡ Some i → Runs sc n t (effect_of i (txn_at v t).regs) v)
+      → Happens sc n v (instr_step sc t o (txn_at v t).regs v)
+  unfolding instr_step
+  instr_happens t None v r = rests v _ refl refl
+  instr_happens t (Some i) v r = effect_happens t (effect_of i (txn_at v t).regs) v (r i refl)
+
+  -- the lines of a run: of a transaction that is active, at n, whose node does not wait
+  run_happens : (t : ℕ) (v : View) → Happens sc n v (run_step sc n t v)
+  unfolding run_step
+  run_happens t v =
+      cond_both (not (is_active (txn_at v t).status)) _ _ (Happens sc n v)
+      (λ _. rests v _ refl refl)
+      (λ a. cond_both (not (same_node (txn_at v t).node n)) _ _ (Happens sc n v)
+      (λ _. rests v _ refl refl)
+      (λ h. cond_both (is_waiting v.me.mode) _ _ (Happens sc n v)
+      (λ _. rests v _ refl refl)
+      (λ b. instr_happens t _ v (λ i e.
+      record { instr = i; active = not-false _ a; here = same_node-true _ _ (not-false _ h); begun = b; next = e; does = refl }))))
+
+  -- the client's lines
+  start_happens : (v : View) → (sc.version ≡ One → n ≡ A) → Happens sc n v (start_step v)
+  unfolding start_step
+  start_happens v at_a =
+      cond_both (may_start v.me.mode v.them.mode) _ _ (Happens sc n v)
+      (λ h. let modes = starts_from v.me.mode v.them.mode h in plain v _ (Starts at_a modes.0 modes.1 refl) refl refl refl)
+      (λ _. rests v _ refl refl)
+
+  -- the lines of a kill
+  kill_happens : (t : ℕ) (v : View) → (txn_at v t).node ≡ n → Happens sc n v (kill_step t v)
+  unfolding kill_step
+  kill_happens t v h =
+      cond_both (is_active (txn_at v t).status) _ _ (Happens sc n v)
+      (λ a. plain v _ (Aborts t why.Killed a h refl) refl refl tt)
+      (λ _. rests v _ refl refl)
+
+  -- the lines of take, where the mode table has one
+  strays : (m : Message) (ms : List Message) (v : View) → v.inbox ≡ m ∷ ms → mode_line m v ≡ Stray
+      → Happens sc n v (got_step (mode_line m v) m v (rest v ms))
+  unfolding got_step
+  strays m ms v f e =
+      subst (λ line. Happens sc n v (got_step line m v (rest v ms))) (sym e)
+      (record { event = Rests refl; told = tt; lost = λ h. never h; strange = λ _. record { message = m; after = ms; front = f; line = e } })
+
+  -- taking a wireframe
+  wire_happens : (lows : List ℕ) (ms : List Message) (v : View) → v.inbox ≡ Wire lows ∷ ms
+      → Happens sc n v (got_step (mode_line (Wire lows) v) (Wire lows) v (rest v ms))
+  unfolding got_step
+  wire_happens lows ms v f =
+      elim (wire_line v.me.mode (all_here (with_brought (Wire lows) v.me))) [
+        | inl e ↦ strays (Wire lows) ms v f e
+        | inr h ↦ subst (λ line. Happens sc n v (got_step line (Wire lows) v (rest v ms))) (sym h.1) (plain v _ (GotWire lows ms f h.0 refl) refl refl tt)
+      ]
+
+  -- taking a ready
+  ready_happens : (ms : List Message) (v : View) → v.inbox ≡ Ready ∷ ms
+      → Happens sc n v (got_step (mode_line Ready v) Ready v (rest v ms))
+  unfolding got_step
+  ready_happens ms v f =
+      elim (ready_line v.me.mode (all_here (with_brought Ready v.me))) [
+        | inl e ↦ strays Ready ms v f e
+        | inr h ↦ subst (λ line. Happens sc n v (got_step line Ready v (rest v ms))) (sym h.1) (plain v _ (GotReady ms f h.0 refl) refl refl tt)
+      ]
+
+  -- taking a dual
+  dual_happens : (ms : List Message) (v : View) → v.inbox ≡ Dual ∷ ms → Happens sc n v (got_step (mode_line Dual v) Dual v (rest v ms))
+  unfolding got_step
+  dual_happens ms v f =
+      elim (dual_line v.me.mode (all_here (with_brought Dual v.me))) [
+        | inl e ↦ strays Dual ms v f e
+        | inr h ↦ subst (λ line. Happens sc n v (got_step line Dual v (rest v ms))) (sym h.1) (plain v _ (GotDual ms f h.0 refl) refl refl tt)
+      ]
+
+  -- taking a page, the last one or one of more
+  page_happens : (leaf : Leaf) (ms : List Message) (v : View) → v.inbox ≡ Page leaf ∷ ms
+      → Happens sc n v (got_step (mode_line (Page leaf) v) (Page leaf) v (rest v ms))
+  unfolding got_step
+  page_happens leaf ms v f =
+      elim (page_line v.me.mode (all_here (with_brought (Page leaf) v.me))) [
+        | inl e ↦ strays (Page leaf) ms v f e
+        | inr h ↦ elim h [
+          | inl more ↦ subst (λ line. Happens sc n v (got_step line (Page leaf) v (rest v ms))) (sym more.1)
+              (plain v _ (GotPage leaf ms f more.0 refl) refl refl tt)
+          | inr last ↦ subst (λ line. Happens sc n v (got_step line (Page leaf) v (rest v ms))) (sym last.2)
+              (plain v _ (GotLast leaf ms f last.0 last.1 refl) refl refl tt)
+        ]
+      ]
+
+  -- taking a finish, with all pages here or not
+  finish_taken : (ms : List Message) (v : View) → v.inbox ≡ Finish ∷ ms
+      → Happens sc n v (got_step (mode_line Finish v) Finish v (rest v ms))
+  unfolding got_step
+  finish_taken ms v f =
+      elim (finish_line v.me.mode (all_here (with_brought Finish v.me))) [
+        | inl e ↦ strays Finish ms v f e
+        | inr h ↦ elim h.1 [
+          | inl some ↦ subst (λ line. Happens sc n v (got_step line Finish v (rest v ms))) (sym some.1) (plain v _ (GotFinish ms f h.0 refl) refl refl tt)
+          | inr all ↦ subst (λ line. Happens sc n v (got_step line Finish v (rest v ms))) (sym all.1) (plain v _ (GotAll ms f h.0 all.0 refl) refl refl tt)
+        ]
+      ]
+
+  -- taking a done
+  done_happens : (ms : List Message) (v : View) → v.inbox ≡ Done ∷ ms → Happens sc n v (got_step (mode_line Done v) Done v (rest v ms))
+  unfolding got_step
+  done_happens ms v f =
+      elim (done_line v.me.mode (all_here (with_brought Done v.me))) [
+        | inl e ↦ strays Done ms v f e
+        | inr h ↦ subst (λ line. Happens sc n v (got_step line Done v (rest v ms))) (sym h.1) (plain v _ (GotDone ms f h.0 refl) refl refl tt)
+      ]
+
+  -- taking a pull in a mode that sends: it is stale, it waits for the lock, or the page leaves
+  pull_turns : (p : ℕ) (ms : List Message) (v : View) (to : NodeMode) → v.inbox ≡ Pull p ∷ ms → is_sending v.me.mode ≡ true
+      → Happens sc n v (pull_step sc p (Turns to (Some kind.Page)) v (rest v ms))
+  unfolding pull_step
+  pull_turns p ms v to f sends =
+      cond_both (not (owns v.me.pages p)) _ _ (Happens sc n v)
+      (λ _. plain v _ (IsStale p ms f refl) refl refl tt)
+      (λ own. cond_both (is_held sc.rule && is_locked v.me.locks p) _ _ (Happens sc n v)
+      (λ _. rests v _ refl refl)
+      (λ free. plain v _ (Gives p ms f sends (not-false _ own) free refl) refl refl tt))
+
+  -- taking a pull
+  pull_happens : (p : ℕ) (ms : List Message) (v : View) → v.inbox ≡ Pull p ∷ ms
+      → Happens sc n v (pull_step sc p (mode_line (Pull p) v) v (rest v ms))
+  unfolding pull_step
+  pull_happens p ms v f =
+      elim (pull_line v.me.mode (all_here (with_brought (Pull p) v.me))) [
+        | inl e ↦ subst (λ line. Happens sc n v (pull_step sc p line v (rest v ms))) (sym e)
+            (record { event = Rests refl; told = tt; lost = λ h. never h; strange = λ _. record { message = Pull p; after = ms; front = f; line = e } })
+        | inr h ↦ subst (λ line. Happens sc n v (pull_step sc p line v (rest v ms))) (sym h.1.1) (pull_turns p ms v h.1.0 f h.0)
+      ]
+
+  -- taking a message of each kind
+  message_happens : (m : Message) (ms : List Message) (v : View) → v.inbox ≡ m ∷ ms → Happens sc n v (message_step sc m v (rest v ms))
+  unfolding message_step
+  message_happens (Wire lows) ms v f = wire_happens lows ms v f
+  message_happens Ready ms v f = ready_happens ms v f
+  message_happens Dual ms v f = dual_happens ms v f
+  message_happens (Pull p) ms v f = pull_happens p ms v f
+  message_happens (Page leaf) ms v f = page_happens leaf ms v f
+  message_happens Finish ms v f = finish_taken ms v f
+  message_happens Done ms v f = done_happens ms v f
+
+  -- taking the front of the link, if there is one
+  front_happens : (ms : List Message) (v : View) → v.inbox ≡ ms → Happens sc n v (front_step sc ms v)
+  unfolding front_step
+  front_happens [] v f = rests v _ refl refl
+  front_happens (m ∷ ms) v f = message_happens m ms v f
+
+  -- the lines of a take
+  take_happens : (v : View) → Happens sc n v (take_step sc v)
+  unfolding take_step
+  take_happens v = front_happens v.inbox v refl
+
+  -- the lines of finish and push
+  finish_by : (mode : NodeMode) (o : Option ℕ) (t : ℕ) (v : View) → v.me.mode ≡ mode → active_from n 0 v.txns ≡ o
+      → Happens sc n v (finish_if (on_finish mode (is_some o)) t v)
+  unfolding finish_if
+  finish_by SDual None t v m e = plain v _ (Finishes m e refl) refl refl tt
+  finish_by mode o t v m e = rests v _ refl refl
+
+  -- the lines of a finish
+  finish_happens : (v : View) → Happens sc n v (finish_step n v)
+  unfolding finish_step
+  finish_happens v = finish_by v.me.mode (active_from n 0 v.txns) _ v refl refl
+
+  -- the line of a push by the least page that is here
+  push_by : (o : Option ℕ) (v : View) → o ≡ least (numbers v.me.pages) → v.me.mode ≡ SFinish → Happens sc n v (push_if o v)
+  unfolding push_if
+  push_by None v e m = rests v _ refl refl
+  push_by (Some p) v e m = plain v _ (Pushes p m (least-owns v.me.pages p (sym e)) refl) refl refl tt
+
+  -- the lines of a push
+  push_happens : (v : View) → Happens sc n v (push_step v)
+  unfolding push_step
+  push_happens v =
+      cond_both (may_push v.me.mode) _ _ (Happens sc n v)
+      (λ h. push_by _ v refl (pushes_in_finish v.me.mode h))
+      (λ _. rests v _ refl refl)
 
 -- the line of a begin, at the node that is home
 begin_at_happens : (sc : Scenario) (t : ℕ) (o : Option Node) (v : View) → o ≡ home_of v.me.mode v.them.mode → is_new (txn_at v t).status ≡ true
@@ -423,165 +577,6 @@ begin_happens sc t v =
     cond_both (is_new (txn_at v t).status) _ _ (Happens sc A v)
     (λ s. begin_at_happens sc t _ v refl s)
     (λ _. rests sc A v _ refl refl)
-
--- the lines of a kill
-kill_happens : (sc : Scenario) (n : Node) (t : ℕ) (v : View) → (txn_at v t).node ≡ n → Happens sc n v (kill_step t v)
-unfolding kill_step
-kill_happens sc n t v h =
-    cond_both (is_active (txn_at v t).status) _ _ (Happens sc n v)
-    (λ a. plain sc n v _ (Aborts t why.Killed a h refl) refl refl tt)
-    (λ _. rests sc n v _ refl refl)
-
--- the lines of take, where the mode table has one
-strays : (sc : Scenario) (n : Node) (m : Message) (ms : List Message) (v : View) → v.inbox ≡ m ∷ ms → mode_line m v ≡ Stray
-    → Happens sc n v (got_step (mode_line m v) m v (rest v ms))
-unfolding got_step
-strays sc n m ms v f e =
-    subst (λ line. Happens sc n v (got_step line m v (rest v ms))) (sym e)
-    (record { event = Rests refl; told = tt; lost = λ h. never h; strange = λ _. record { message = m; after = ms; front = f; line = e } })
-
--- taking a wireframe
-wire_happens : (sc : Scenario) (n : Node) (lows : List ℕ) (ms : List Message) (v : View) → v.inbox ≡ Wire lows ∷ ms
-    → Happens sc n v (got_step (mode_line (Wire lows) v) (Wire lows) v (rest v ms))
-unfolding got_step
-wire_happens sc n lows ms v f =
-    elim (wire_line v.me.mode (all_here (with_brought (Wire lows) v.me))) [
-      | inl e ↦ strays sc n (Wire lows) ms v f e
-      | inr h ↦ subst (λ line. Happens sc n v (got_step line (Wire lows) v (rest v ms))) (sym h.1) (plain sc n v _ (GotWire lows ms f h.0 refl) refl refl tt)
-    ]
-
--- taking a ready
-ready_happens : (sc : Scenario) (n : Node) (ms : List Message) (v : View) → v.inbox ≡ Ready ∷ ms
-    → Happens sc n v (got_step (mode_line Ready v) Ready v (rest v ms))
-unfolding got_step
-ready_happens sc n ms v f =
-    elim (ready_line v.me.mode (all_here (with_brought Ready v.me))) [
-      | inl e ↦ strays sc n Ready ms v f e
-      | inr h ↦ subst (λ line. Happens sc n v (got_step line Ready v (rest v ms))) (sym h.1) (plain sc n v _ (GotReady ms f h.0 refl) refl refl tt)
-    ]
-
--- taking a dual
-dual_happens : (sc : Scenario) (n : Node) (ms : List Message) (v : View) → v.inbox ≡ Dual ∷ ms → Happens sc n v (got_step (mode_line Dual v) Dual v (rest v ms))
-unfolding got_step
-dual_happens sc n ms v f =
-    elim (dual_line v.me.mode (all_here (with_brought Dual v.me))) [
-      | inl e ↦ strays sc n Dual ms v f e
-      | inr h ↦ subst (λ line. Happens sc n v (got_step line Dual v (rest v ms))) (sym h.1) (plain sc n v _ (GotDual ms f h.0 refl) refl refl tt)
-    ]
-
--- taking a page, the last one or one of more
-page_happens : (sc : Scenario) (n : Node) (leaf : Leaf) (ms : List Message) (v : View) → v.inbox ≡ Page leaf ∷ ms
-    → Happens sc n v (got_step (mode_line (Page leaf) v) (Page leaf) v (rest v ms))
-unfolding got_step
-page_happens sc n leaf ms v f =
-    elim (page_line v.me.mode (all_here (with_brought (Page leaf) v.me))) [
-      | inl e ↦ strays sc n (Page leaf) ms v f e
-      | inr h ↦ elim h [
-        | inl more ↦ subst (λ line. Happens sc n v (got_step line (Page leaf) v (rest v ms))) (sym more.1)
-            (plain sc n v _ (GotPage leaf ms f more.0 refl) refl refl tt)
-        | inr last ↦ subst (λ line. Happens sc n v (got_step line (Page leaf) v (rest v ms))) (sym last.2)
-            (plain sc n v _ (GotLast leaf ms f last.0 last.1 refl) refl refl tt)
-      ]
-    ]
-
--- taking a finish, with all pages here or not
-finish_taken : (sc : Scenario) (n : Node) (ms : List Message) (v : View) → v.inbox ≡ Finish ∷ ms
-    → Happens sc n v (got_step (mode_line Finish v) Finish v (rest v ms))
-unfolding got_step
-finish_taken sc n ms v f =
-    elim (finish_line v.me.mode (all_here (with_brought Finish v.me))) [
-      | inl e ↦ strays sc n Finish ms v f e
-      | inr h ↦ elim h.1 [
-        | inl some ↦ subst (λ line. Happens sc n v (got_step line Finish v (rest v ms))) (sym some.1) (plain sc n v _ (GotFinish ms f h.0 refl) refl refl tt)
-        | inr all ↦ subst (λ line. Happens sc n v (got_step line Finish v (rest v ms))) (sym all.1) (plain sc n v _ (GotAll ms f h.0 all.0 refl) refl refl tt)
-      ]
-    ]
-
--- taking a done
-done_happens : (sc : Scenario) (n : Node) (ms : List Message) (v : View) → v.inbox ≡ Done ∷ ms → Happens sc n v (got_step (mode_line Done v) Done v (rest v ms))
-unfolding got_step
-done_happens sc n ms v f =
-    elim (done_line v.me.mode (all_here (with_brought Done v.me))) [
-      | inl e ↦ strays sc n Done ms v f e
-      | inr h ↦ subst (λ line. Happens sc n v (got_step line Done v (rest v ms))) (sym h.1) (plain sc n v _ (GotDone ms f h.0 refl) refl refl tt)
-    ]
-
--- taking a pull in a mode that sends: it is stale, it waits for the lock, or the page leaves
-pull_turns : (sc : Scenario) (n : Node) (p : ℕ) (ms : List Message) (v : View) (to : NodeMode) → v.inbox ≡ Pull p ∷ ms → is_sending v.me.mode ≡ true
-    → Happens sc n v (pull_step sc p (Turns to (Some kind.Page)) v (rest v ms))
-unfolding pull_step
-pull_turns sc n p ms v to f sends =
-    cond_both (not (owns v.me.pages p)) _ _ (Happens sc n v)
-    (λ _. plain sc n v _ (IsStale p ms f refl) refl refl tt)
-    (λ own. cond_both (is_held sc.rule && is_locked v.me.locks p) _ _ (Happens sc n v)
-    (λ _. rests sc n v _ refl refl)
-    (λ free. plain sc n v _ (Gives p ms f sends (not-false _ own) free refl) refl refl tt))
-
--- taking a pull
-pull_happens : (sc : Scenario) (n : Node) (p : ℕ) (ms : List Message) (v : View) → v.inbox ≡ Pull p ∷ ms
-    → Happens sc n v (pull_step sc p (mode_line (Pull p) v) v (rest v ms))
-unfolding pull_step
-pull_happens sc n p ms v f =
-    elim (pull_line v.me.mode (all_here (with_brought (Pull p) v.me))) [
-      | inl e ↦ subst (λ line. Happens sc n v (pull_step sc p line v (rest v ms))) (sym e)
-          (record { event = Rests refl; told = tt; lost = λ h. never h; strange = λ _. record { message = Pull p; after = ms; front = f; line = e } })
-      | inr h ↦ subst (λ line. Happens sc n v (pull_step sc p line v (rest v ms))) (sym h.1.1) (pull_turns sc n p ms v h.1.0 f h.0)
-    ]
-
--- taking a message of each kind
-message_happens : (sc : Scenario) (n : Node) (m : Message) (ms : List Message) (v : View) → v.inbox ≡ m ∷ ms → Happens sc n v (message_step sc m v (rest v ms))
-unfolding message_step
-message_happens sc n (Wire lows) ms v f = wire_happens sc n lows ms v f
-message_happens sc n Ready ms v f = ready_happens sc n ms v f
-message_happens sc n Dual ms v f = dual_happens sc n ms v f
-message_happens sc n (Pull p) ms v f = pull_happens sc n p ms v f
-message_happens sc n (Page leaf) ms v f = page_happens sc n leaf ms v f
-message_happens sc n Finish ms v f = finish_taken sc n ms v f
-message_happens sc n Done ms v f = done_happens sc n ms v f
-
--- taking the front of the link, if there is one
-front_happens : (sc : Scenario) (n : Node) (ms : List Message) (v : View) → v.inbox ≡ ms → Happens sc n v (front_step sc ms v)
-unfolding front_step
-front_happens sc n [] v f = rests sc n v _ refl refl
-front_happens sc n (m ∷ ms) v f = message_happens sc n m ms v f
-
--- the lines of a take
-take_happens : (sc : Scenario) (n : Node) (v : View) → Happens sc n v (take_step sc v)
-unfolding take_step
-take_happens sc n v = front_happens sc n v.inbox v refl
-
--- the lines of finish and push
-finish_by : (sc : Scenario) (n : Node) (mode : NodeMode) (o : Option ℕ) (t : ℕ) (v : View) → v.me.mode ≡ mode → active_from n 0 v.txns ≡ o
-    → Happens sc n v (finish_if (on_finish mode (is_some o)) t v)
-unfolding finish_if
-finish_by sc n SDual None t v m e = plain sc n v _ (Finishes m e refl) refl refl tt
-finish_by sc n SDual (Some u) t v m e = rests sc n v _ refl refl
-finish_by sc n Empty o t v m e = rests sc n v _ refl refl
-finish_by sc n Normal o t v m e = rests sc n v _ refl refl
-finish_by sc n SInit o t v m e = rests sc n v _ refl refl
-finish_by sc n SFinish o t v m e = rests sc n v _ refl refl
-finish_by sc n DInit o t v m e = rests sc n v _ refl refl
-finish_by sc n DDual o t v m e = rests sc n v _ refl refl
-finish_by sc n DFinish o t v m e = rests sc n v _ refl refl
-
--- the lines of a finish
-finish_happens : (sc : Scenario) (n : Node) (v : View) → Happens sc n v (finish_step n v)
-unfolding finish_step
-finish_happens sc n v = finish_by sc n v.me.mode (active_from n 0 v.txns) _ v refl refl
-
--- the line of a push by the least page that is here
-push_by : (sc : Scenario) (n : Node) (o : Option ℕ) (v : View) → o ≡ least (numbers v.me.pages) → v.me.mode ≡ SFinish → Happens sc n v (push_if o v)
-unfolding push_if
-push_by sc n None v e m = rests sc n v _ refl refl
-push_by sc n (Some p) v e m = plain sc n v _ (Pushes p m (least-owns v.me.pages p (sym e)) refl) refl refl tt
-
--- the lines of a push
-push_happens : (sc : Scenario) (n : Node) (v : View) → Happens sc n v (push_step v)
-unfolding push_step
-push_happens sc n v =
-    cond_both (may_push v.me.mode) _ _ (Happens sc n v)
-    (λ h. push_by sc n _ v refl (pushes_in_finish v.me.mode h))
-    (λ _. rests sc n v _ refl refl)
 
 -- a transaction's node is the same from either side
 node_of : (n : Node) (t : ℕ) (s : State) → (txn_at (facing n s) t).node ≡ (txn_or (slice_get s.txns t)).node

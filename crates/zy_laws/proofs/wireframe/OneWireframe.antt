@@ -7,7 +7,7 @@ use Rattle.zy_isa.specs.Scenario.{Scenario}
 use Rattle.zy_isa.specs.declared.choice.Choice.{Choice}
 use Rattle.zy_isa.specs.declared.node.Node.{Node}
 use Rattle.zy_modes.specs.declared.mode.NodeMode.TheVariants.{Normal}
-use Rattle.zy_links.specs.Messages.{Wire, Ready, Dual, Pull, Page, Finish, Done}
+use Rattle.zy_links.specs.Messages.{Pull, Page, Finish, Done}
 use Rattle.zy_laws.specs.Journey.{Begins, OneWireframe, Sent, Wireframes}
 use Rattle.zy_table.specs.Play.{opening, play}
 use Rattle.zy_table.specs.State.{Message, NodeState, View, facing}
@@ -20,45 +20,27 @@ use Rattle.zy_laws.proofs.owner.Roles.{Destination, Roles, Source}
 pages_sent : (x : NodeState) (ms : List Message) → AllPages ms → Sent x ms
 pages_sent x [] h = tt
 pages_sent x (Page leaf ∷ ms) h = pages_sent x ms h
-pages_sent x (Wire l ∷ ms) h = absurd h
-pages_sent x (Ready ∷ ms) h = absurd h
-pages_sent x (Dual ∷ ms) h = absurd h
-pages_sent x (Pull p ∷ ms) h = absurd h
-pages_sent x (Finish ∷ ms) h = absurd h
-pages_sent x (Done ∷ ms) h = absurd h
+pages_sent x ms h = absurd h
 
 -- on a link of pages and a finish is no wireframe
 finish_sent : (x : NodeState) (ms : List Message) → PagesAndFinish ms → Sent x ms
 finish_sent x [] h = tt
 finish_sent x (Page leaf ∷ ms) h = finish_sent x ms h
 finish_sent x (Finish ∷ ms) h = pages_sent x ms h
-finish_sent x (Wire l ∷ ms) h = absurd h
-finish_sent x (Ready ∷ ms) h = absurd h
-finish_sent x (Dual ∷ ms) h = absurd h
-finish_sent x (Pull p ∷ ms) h = absurd h
-finish_sent x (Done ∷ ms) h = absurd h
+finish_sent x ms h = absurd h
 
 -- on a link of pulls is no wireframe
 pulls_sent : (x : NodeState) (ms : List Message) → AllPulls ms → Sent x ms
 pulls_sent x [] h = tt
 pulls_sent x (Pull p ∷ ms) h = pulls_sent x ms h
-pulls_sent x (Page leaf ∷ ms) h = absurd h
-pulls_sent x (Wire l ∷ ms) h = absurd h
-pulls_sent x (Ready ∷ ms) h = absurd h
-pulls_sent x (Dual ∷ ms) h = absurd h
-pulls_sent x (Finish ∷ ms) h = absurd h
-pulls_sent x (Done ∷ ms) h = absurd h
+pulls_sent x ms h = absurd h
 
 -- on a link of pulls and a done is no wireframe
 done_sent : (x : NodeState) (ms : List Message) → PullsAndDone ms → Sent x ms
 done_sent x [] h = tt
 done_sent x (Pull p ∷ ms) h = done_sent x ms h
 done_sent x (Done ∷ ms) h = subst (Sent x) (sym h) tt
-done_sent x (Page leaf ∷ ms) h = absurd h
-done_sent x (Wire l ∷ ms) h = absurd h
-done_sent x (Ready ∷ ms) h = absurd h
-done_sent x (Dual ∷ ms) h = absurd h
-done_sent x (Finish ∷ ms) h = absurd h
+done_sent x ms h = absurd h
 
 -- the low keys of source and destination
 record Framed (src dst : NodeState) (out back : List Message) : Type 0 where
