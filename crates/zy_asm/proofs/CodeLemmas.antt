@@ -4,7 +4,9 @@ use borrow.Author.Tests.{eqb-true}
 use Rattle.zy_text.specs.Words.{lines_of, words_of, number_of}
 use Rattle.zy_text.specs.Lines.{texts, first_words}
 use Rattle.zy_asm.proofs.FirstWords.{line_first}
-use Rattle.zy_asm.specs.Reading.{Seen, line_step, read_lines, ended, own_number}
+use Rattle.zy_asm.specs.Reading.Progress.{Seen}
+use Rattle.zy_asm.specs.Reading.{line_step, read_lines, ended}
+use Rattle.zy_asm.specs.Reading.ProgramLines.{own_number}
 use Rattle.zy_asm.specs.declared.faults.AsmFault.{AsmFault}
 use Rattle.zy_asm.specs.declared.faults.AsmKind.{AsmKind}
 use Rattle.zy_asm.specs.declared.faults.AsmKind.TheVariants as kinds

@@ -11,13 +11,17 @@ use Rattle.zy_asm.specs.declared.choices.Action.{Action}
 use Rattle.zy_asm.specs.declared.choices.Action.TheVariants.{Txn, Plain}
 use Rattle.zy_isa.specs.declared.operation.Operation.{Operation}
 use Rattle.zy_isa.specs.declared.operation.Operation.TheVariants.{Number, Pair, Jump, Lone}
-use Rattle.zy_asm.specs.declared.reading.Keyword.{Keyword}
-use Rattle.zy_asm.specs.declared.reading.Keyword.TheVariants as k
+use Rattle.zy_asm.specs.declared.reading.keyword.Keyword.{Keyword}
+use Rattle.zy_asm.specs.declared.reading.keyword.Keyword.TheVariants as k
 use Rattle.zy_asm.specs.declared.state.Stage.{Stage}
 use Rattle.zy_asm.specs.declared.state.Stage.TheVariants as stage
 use Rattle.zy_asm.specs.Instructions.{instr_of}
 use Rattle.zy_asm.specs.Choices.{action_of}
-use Rattle.zy_asm.specs.Reading.{Seen, note_label, label_at, labelled, instr_line, instr_at, keyword_of, closed, txn_at, row_at, action_line, choice_line}
+use Rattle.zy_asm.specs.Reading.Progress.{Seen}
+use Rattle.zy_asm.specs.Reading.ProgramLines.{note_label, label_at, labelled, instr_line, instr_at, closed, txn_at}
+use Rattle.zy_asm.specs.Reading.Keywords.{keyword_of}
+use Rattle.zy_asm.specs.Reading.RowLines.{row_at}
+use Rattle.zy_asm.specs.Reading.ChoiceLines.{action_line, choice_line}
 use Rattle.zy_asm.specs.Reading.{statement, led_by, line_at, line_step}
 
 -- to go on from an answer in two ways that agree on each value is the same
@@ -36,85 +40,61 @@ too_many (Lone o) c d e f ws = refl
 instr_fault : (s : Seen) (op : Operation) (c d e f : List ℕ) (ws : List (List ℕ)) → instr_line s op (c ∷ d ∷ e ∷ f ∷ ws) ≡ Err kinds.Word
 instr_fault s op c d e f ws = rw (too_many op c d e f ws) refl
 
+-- words b to f and more behind them: each kind of line is the same without what is behind f
 module _ (b c d e f : List ℕ) (ws : List (List ℕ)) where
+  -- what is behind a label
   labelled_same : (o : Option Keyword) (s : Seen) → labelled o s (c ∷ d ∷ e ∷ f ∷ []) ≡ labelled o s (c ∷ d ∷ e ∷ f ∷ ws)
-  labelled_same None s = refl
-  labelled_same (Some k.Header) s = refl
-  labelled_same (Some k.Row) s = refl
-  labelled_same (Some k.Txn) s = refl
   labelled_same (Some (k.Instr op)) s = instr_fault s op c d e f [] ∙ sym (instr_fault s op c d e f ws)
-  labelled_same (Some (k.Choice x)) s = refl
-  labelled_same (Some k.End) s = refl
+  labelled_same o s = refl
 
+  -- a line that a label begins
   label_same : (x : Stage) (s : Seen) (name : List ℕ) → label_at x s name (b ∷ c ∷ d ∷ e ∷ f ∷ []) ≡ label_at x s name (b ∷ c ∷ d ∷ e ∷ f ∷ ws)
-  label_same stage.Zephyr s name = refl
-  label_same stage.Cap s name = refl
-  label_same stage.Pages s name = refl
-  label_same stage.Rule s name = refl
-  label_same stage.Rows s name = refl
   label_same stage.Program s name = bind_same (note_label s name) _ _ (λ u. labelled_same (keyword_of u.version b) u)
-  label_same stage.Choices s name = refl
-  label_same stage.Done s name = refl
+  label_same x s name = refl
 
+  -- a row
   row_same : (x : Stage) (s : Seen) → row_at x s (b ∷ c ∷ d ∷ e ∷ f ∷ []) ≡ row_at x s (b ∷ c ∷ d ∷ e ∷ f ∷ ws)
-  row_same stage.Zephyr s = refl
-  row_same stage.Cap s = refl
-  row_same stage.Pages s = refl
-  row_same stage.Rule s = refl
   row_same stage.Rows s = refl
-  row_same stage.Program s = refl
-  row_same stage.Choices s = refl
-  row_same stage.Done s = refl
+  row_same x s = refl
 
+  -- the beginning of a program
   txn_same : (x : Stage) (s : Seen) → txn_at x s (b ∷ c ∷ d ∷ e ∷ f ∷ []) ≡ txn_at x s (b ∷ c ∷ d ∷ e ∷ f ∷ ws)
-  txn_same stage.Zephyr s = refl
-  txn_same stage.Cap s = refl
-  txn_same stage.Pages s = refl
-  txn_same stage.Rule s = refl
-  txn_same stage.Rows s = refl
-  txn_same stage.Program s = refl
   txn_same stage.Choices s = refl
-  txn_same stage.Done s = refl
+  txn_same x s = refl
 
+  -- an instruction
   program_same : (x : Stage) (s : Seen) (op : Operation) → instr_at x s op (b ∷ c ∷ d ∷ e ∷ f ∷ []) ≡ instr_at x s op (b ∷ c ∷ d ∷ e ∷ f ∷ ws)
-  program_same stage.Zephyr s op = refl
-  program_same stage.Cap s op = refl
-  program_same stage.Pages s op = refl
-  program_same stage.Rule s op = refl
-  program_same stage.Rows s op = refl
   program_same stage.Program s op = instr_fault s op b c d e (f ∷ []) ∙ sym (instr_fault s op b c d e (f ∷ ws))
-  program_same stage.Choices s op = refl
-  program_same stage.Done s op = refl
+  program_same x s op = refl
 
+  -- a choice of an action
   action_same : (s : Seen) (a : Action) → action_line s a (c ∷ d ∷ e ∷ f ∷ []) ≡ action_line s a (c ∷ d ∷ e ∷ f ∷ ws)
   action_same s (Txn a) = refl
   action_same s (Plain a) = refl
 
+  -- a choice of an actor
   choice_same : (a : Actor) (s : Seen) → choice_line s a (b ∷ c ∷ d ∷ e ∷ f ∷ []) ≡ choice_line s a (b ∷ c ∷ d ∷ e ∷ f ∷ ws)
   choice_same a s = bind_same (ok_or (action_of a b) kinds.Word) _ _ (action_same s)
 
+  -- a line by its keyword
   statement_same : (o : Option Keyword) (s : Seen) → statement o s (b ∷ c ∷ d ∷ e ∷ f ∷ []) ≡ statement o s (b ∷ c ∷ d ∷ e ∷ f ∷ ws)
-  statement_same None s = refl
-  statement_same (Some k.Header) s = refl
   statement_same (Some k.Row) s = row_same s.stage s
   statement_same (Some k.Txn) s = txn_same s.stage s
   statement_same (Some (k.Instr op)) s = program_same s.stage s op
   statement_same (Some (k.Choice a)) s = bind_same (closed s) _ _ (choice_same a)
-  statement_same (Some k.End) s = refl
+  statement_same o s = refl
 
+  -- a line below the header
   led_same : (o : Option (List ℕ)) (s : Seen) (w : List ℕ) → led_by o s w (b ∷ c ∷ d ∷ e ∷ f ∷ []) ≡ led_by o s w (b ∷ c ∷ d ∷ e ∷ f ∷ ws)
   led_same (Some name) s w = ap (λ x. if is_name name then x else Err kinds.Word) (label_same s.stage s name)
   led_same None s w = statement_same (keyword_of s.version w) s
 
+  -- a line of each stage
   line_same : (x : Stage) (s : Seen) (w : List ℕ) → line_at x s (w ∷ b ∷ c ∷ d ∷ e ∷ f ∷ []) ≡ line_at x s (w ∷ b ∷ c ∷ d ∷ e ∷ f ∷ ws)
-  line_same stage.Zephyr s w = refl
-  line_same stage.Cap s w = refl
-  line_same stage.Pages s w = refl
-  line_same stage.Rule s w = refl
   line_same stage.Rows s w = led_same (label_of w) s w
   line_same stage.Program s w = led_same (label_of w) s w
   line_same stage.Choices s w = led_same (label_of w) s w
-  line_same stage.Done s w = refl
+  line_same x s w = refl
 
 -- a line is read as its first six words are
 pub line_first : (s : Seen) (ws : List (List ℕ)) → line_step s (first_words ws) ≡ line_step s ws

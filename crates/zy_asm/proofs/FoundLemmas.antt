@@ -18,7 +18,9 @@ use Rattle.zy_asm.specs.declared.faults.AsmKind.TheVariants as kinds
 use Rattle.zy_asm.specs.declared.state.Stage.TheVariants as stage
 use Rattle.zy_asm.specs.Steps.{number_in}
 use Rattle.zy_isa.specs.Rows.{last_row, is_low}
-use Rattle.zy_asm.specs.Reading.{Seen, headed, rule_of, body_line, step, nothing_seen}
+use Rattle.zy_asm.specs.Reading.Progress.{Seen}
+use Rattle.zy_asm.specs.Reading.HeadLines.{headed, rule_of}
+use Rattle.zy_asm.specs.Reading.{body_line, step, nothing_seen}
 use Rattle.zy_isa.proofs.RowLemmas.{order_more}
 use Rattle.zy_isa.proofs.ScenarioLemmas.{no_fault}
 use Rattle.zy_isa.proofs.ResultLemmas.{bind_ok, if_ok, chosen_by, same, ok_or_ok}

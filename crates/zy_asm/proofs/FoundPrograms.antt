@@ -16,7 +16,8 @@ use Rattle.zy_text.specs.Text.{program_statements, choice_statements, repeated}
 use Rattle.zy_asm.specs.declared.state.Stage.{Stage}
 use Rattle.zy_asm.specs.declared.state.Stage.TheVariants as stage
 use Rattle.zy_asm.specs.Pending.{Pending, all_resolved}
-use Rattle.zy_asm.specs.Reading.{Seen, body_line, step}
+use Rattle.zy_asm.specs.Reading.Progress.{Seen}
+use Rattle.zy_asm.specs.Reading.{body_line, step}
 use Rattle.zy_isa.proofs.ResultLemmas.{bind_ok}
 use Rattle.zy_asm.proofs.SpellLemmas.{AreBelow}
 use Rattle.zy_asm.proofs.DraftLemmas.{Line, SpellBody, pending_in, pendings, marks, coded, new_label, new_name, below_name}

@@ -20,8 +20,8 @@ use Rattle.zy_asm.specs.declared.faults.AsmKind.{AsmKind}
 use Rattle.zy_asm.specs.declared.faults.AsmKind.TheVariants as kinds
 use Rattle.zy_asm.specs.declared.choices.Action.{Action}
 use Rattle.zy_asm.specs.declared.choices.Action.TheVariants.{Txn, Plain}
-use Rattle.zy_asm.specs.declared.reading.Keyword.{Keyword}
-use Rattle.zy_asm.specs.declared.reading.Keyword.TheVariants as k
+use Rattle.zy_asm.specs.declared.reading.keyword.Keyword.{Keyword}
+use Rattle.zy_asm.specs.declared.reading.keyword.Keyword.TheVariants as k
 use Rattle.zy_asm.specs.declared.state.Stage.{Stage}
 use Rattle.zy_asm.specs.declared.state.Stage.TheVariants as stage
 use Rattle.zy_isa.specs.Results.{◌>>=◌}
@@ -29,8 +29,13 @@ use Rattle.zy_asm.specs.Pending.{Pending, all_resolved, judged, program_of}
 use Rattle.zy_asm.specs.Instructions.{instr_of}
 use Rattle.zy_asm.specs.Choices.{action_of}
 use Rattle.zy_isa.specs.Rows.{last_row, is_low}
-use Rattle.zy_asm.specs.Reading.{Seen, keyword_of, row_of, is_full, add_row, row_at, instr_line, note_label, labelled, behind_label, label_line, head_line}
-use Rattle.zy_asm.specs.Reading.{open_line, action_line, choice_line, end_line, statement, led_by, body_line, step, finish}
+use Rattle.zy_asm.specs.Reading.Progress.{Seen}
+use Rattle.zy_asm.specs.Reading.Keywords.{keyword_of}
+use Rattle.zy_asm.specs.Reading.RowLines.{row_of, is_full, add_row, row_at}
+use Rattle.zy_asm.specs.Reading.ProgramLines.{instr_line, note_label, labelled, behind_label, label_line, head_line}
+use Rattle.zy_asm.specs.Reading.ProgramLines.{open_line}
+use Rattle.zy_asm.specs.Reading.ChoiceLines.{action_line, choice_line, end_line}
+use Rattle.zy_asm.specs.Reading.{statement, led_by, body_line, step, finish}
 use Rattle.zy_isa.proofs.ResultLemmas.{bind_ok, if_ok, if_err, neither, below, not_over}
 use Rattle.zy_asm.proofs.SpellLemmas.{actor_word, keyword_ok, SpellsPending, instr_ok, row_ok, not_some, head_ok, AreBelow, Chose, choice_ok}
 use Rattle.zy_text.proofs.LabelLemmas.{label_ok}

@@ -38,7 +38,10 @@ use Rattle.zy_asm.specs.Instructions.{register_of, two, instr_of}
 use Rattle.zy_asm.specs.Pending.{Pending, whole, jump, resolved, all_resolved}
 use Rattle.zy_asm.specs.Choices.{node_action, action_of, chosen, transaction, are_times, times_of}
 use Rattle.zy_isa.specs.Rows.{is_low, last_row}
-use Rattle.zy_asm.specs.Reading.{Seen, instr_line, behind_label, led_by, head_line, repeat_line, step, choice_line}
+use Rattle.zy_asm.specs.Reading.Progress.{Seen}
+use Rattle.zy_asm.specs.Reading.ProgramLines.{instr_line, behind_label, head_line}
+use Rattle.zy_asm.specs.Reading.{led_by, step}
+use Rattle.zy_asm.specs.Reading.ChoiceLines.{repeat_line, choice_line}
 use Rattle.zy_isa.proofs.OperationLemmas.{named_back, instr_again}
 use Rattle.zy_isa.proofs.ResultLemmas.{out_of_neither, not_below, over_not, both}
 use Rattle.zy_asm.proofs.SpellLemmas.{no_label, actor_word, node_word, no_name}

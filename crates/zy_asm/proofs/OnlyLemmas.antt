@@ -36,7 +36,11 @@ use Rattle.zy_asm.specs.declared.state.Stage.TheVariants as stage
 use Rattle.zy_asm.specs.declared.state.Reader.{Reader}
 use Rattle.zy_isa.specs.Results.{◌>>=◌}
 use Rattle.zy_asm.specs.Pending.{Pending, resolved, all_resolved, program_of}
-use Rattle.zy_asm.specs.Reading.{Seen, progress_of, rule_of, own_number, open_line, choice_line, step, line_step, at_line, read_lines, reading, finish}
+use Rattle.zy_asm.specs.Reading.Progress.{Seen, progress_of}
+use Rattle.zy_asm.specs.Reading.HeadLines.{rule_of}
+use Rattle.zy_asm.specs.Reading.ProgramLines.{own_number, open_line}
+use Rattle.zy_asm.specs.Reading.ChoiceLines.{choice_line}
+use Rattle.zy_asm.specs.Reading.{step, line_step, at_line, read_lines, reading, finish}
 use Rattle.zy_asm.specs.Reading.{nothing_seen}
 use Rattle.zy_isa.proofs.RowLemmas.{Above, above_more}
 use Rattle.zy_isa.proofs.ResultLemmas.{bind_ok, not_below, over_not}

@@ -34,15 +34,19 @@ use Rattle.zy_asm.specs.declared.choices.Action.{Action}
 use Rattle.zy_asm.specs.declared.choices.Action.TheVariants.{Txn, Plain}
 use Rattle.zy_asm.specs.declared.choices.TxnAction.{TxnAction}
 use Rattle.zy_asm.specs.declared.choices.TxnAction.TheVariants.{Begin, Kill, Run}
-use Rattle.zy_asm.specs.declared.reading.Keyword.{Keyword}
-use Rattle.zy_asm.specs.declared.reading.Keyword.TheVariants as k
+use Rattle.zy_asm.specs.declared.reading.keyword.Keyword.{Keyword}
+use Rattle.zy_asm.specs.declared.reading.keyword.Keyword.TheVariants as k
 use Rattle.zy_asm.specs.declared.state.Stage.TheVariants as stage
 use Rattle.zy_asm.specs.Steps.{number_in}
 use Rattle.zy_text.specs.Names.{Mark, is_letter, is_name, place, AreNew, label_of}
 use Rattle.zy_asm.specs.Pending.{Pending, whole, jump, resolved}
 use Rattle.zy_asm.specs.Instructions.{register_of, two, pair_of, with_number, jump_to, with_target, alone, instr_of}
 use Rattle.zy_asm.specs.Choices.{actor_of, client_action, node_action, action_of, chosen, numbered, transaction, are_times, times_of}
-use Rattle.zy_asm.specs.Reading.{Seen, keyword_of, row_of, repeat_choice, repeat_line, action_line, choice_line, own_number, head_line}
+use Rattle.zy_asm.specs.Reading.Progress.{Seen}
+use Rattle.zy_asm.specs.Reading.Keywords.{keyword_of}
+use Rattle.zy_asm.specs.Reading.RowLines.{row_of}
+use Rattle.zy_asm.specs.Reading.ChoiceLines.{repeat_choice, repeat_line, action_line, choice_line}
+use Rattle.zy_asm.specs.Reading.ProgramLines.{own_number, head_line}
 use Rattle.zy_isa.proofs.OperationLemmas.{found_in, found_passes, named_is, each, parts_again}
 use Rattle.zy_isa.proofs.ResultLemmas.{bind_ok, if_ok, if_err, ok_or_ok, chosen_by, first_or, in_range, not_over, same}
 use borrow.Author.Tests.{eqb-true, tests}

@@ -13,7 +13,10 @@ use Rattle.zy_text.specs.Words.{is_numeral}
 use Rattle.zy_asm.specs.Pending.{whole}
 use Rattle.zy_asm.specs.Instructions.{instr_of}
 use Rattle.zy_asm.specs.Choices.{actor_of, action_of, chosen, numbered}
-use Rattle.zy_asm.specs.Reading.{Seen, line_step, choice_line, repeat_choice, instr_line}
+use Rattle.zy_asm.specs.Reading.Progress.{Seen}
+use Rattle.zy_asm.specs.Reading.{line_step}
+use Rattle.zy_asm.specs.Reading.ChoiceLines.{choice_line, repeat_choice}
+use Rattle.zy_asm.specs.Reading.ProgramLines.{instr_line}
 use Rattle.zy_isa.proofs.OperationLemmas.{found_in, named_is, named_back}
 use Rattle.zy_isa.proofs.ResultLemmas.{over_not, not_below}
 use Rattle.zy_asm.proofs.SpellLemmas.{no_label, actor_word, actor_ok}

@@ -55,23 +55,6 @@ pub record Seen (n : Node) (v w : View) : Type 0 where
   pub back : (t : ℕ) → IsAt w t n → IsAt v t n × ((txn_at w t).rows ≡ (txn_at v t).rows)
   pub forth : (t : ℕ) → IsAt v t n → IsAt w t n
 
--- a step that leaves n's locks and transactions as they are
-pub steady : (sc : Scenario) (n : Node) (x y : NodeState) (v w : View) (lows : List ℕ) → Locking sc n x v lows → Seen n v w → y.locks ≡ x.locks
-    → ((t : ℕ) → IsAt v t n → is_idle y.mode ≡ false)
-    → (is_idle y.mode ≡ false → y.lows ≡ lows)
-    → ((p t : ℕ) → Stay sc y.mode → holds x.locks p t ≡ true → owns y.pages p ≡ true)
-    → Locking sc n y w lows
-steady sc n x y v w lows l seen same busy newest kept = record {
-  busy = λ t at. busy t (seen.back t at).0;
-  newest = newest;
-  runs = λ p t h. seen.forth t (l.runs p t (subst (λ xs. holds xs p t ≡ true) same h));
-  below = λ p t h. l.below p t (subst (λ xs. holds xs p t ≡ true) same h);
-  kept = λ p t s h. kept p t s (subst (λ xs. holds xs p t ≡ true) same h);
-  apart = λ p t u a b. l.apart p t u (subst (λ xs. holds_alone xs p t ≡ true) same a) (subst (λ xs. holds xs p u ≡ true) same b);
-  private = λ t k at h. let b = seen.back t at in subst (λ xs. holds_alone xs (page_of lows k) t ≡ true) (sym same)
-      (l.private t k b.0 (subst (λ rows. is_some (get_row rows k) ≡ true) b.1 h));
-}
-
 -- where each transaction is what it was, n sees the same
 seen_all : (n : Node) (v w : View) → ((u : ℕ) → txn_at w u ≡ txn_at v u) → Seen n v w
 seen_all n v w same = record {
@@ -118,104 +101,123 @@ seen_other n v w t y e off at = record {
   ];
 }
 
--- the node that does not act
-pub untouched : (sc : Scenario) (n : Node) (x : NodeState) (v w : View) (lows : List ℕ) → Locking sc n x v lows → Seen n v w → Locking sc n x w lows
-untouched sc n x v w lows l seen = steady sc n x x v w lows l seen refl l.busy l.newest l.kept
+-- the locks of a node that is named n
+module _ (sc : Scenario) (n : Node) where
+  -- a step that leaves n's locks and transactions as they are
+  pub steady : (x y : NodeState) (v w : View) (lows : List ℕ) → Locking sc n x v lows → Seen n v w → y.locks ≡ x.locks
+      → ((t : ℕ) → IsAt v t n → is_idle y.mode ≡ false)
+      → (is_idle y.mode ≡ false → y.lows ≡ lows)
+      → ((p t : ℕ) → Stay sc y.mode → holds x.locks p t ≡ true → owns y.pages p ≡ true)
+      → Locking sc n y w lows
+  steady x y v w lows l seen same busy newest kept = record {
+    busy = λ t at. busy t (seen.back t at).0;
+    newest = newest;
+    runs = λ p t h. seen.forth t (l.runs p t (subst (λ xs. holds xs p t ≡ true) same h));
+    below = λ p t h. l.below p t (subst (λ xs. holds xs p t ≡ true) same h);
+    kept = λ p t s h. kept p t s (subst (λ xs. holds xs p t ≡ true) same h);
+    apart = λ p t u a b. l.apart p t u (subst (λ xs. holds_alone xs p t ≡ true) same a) (subst (λ xs. holds xs p u ≡ true) same b);
+    private = λ t k at h. let b = seen.back t at in subst (λ xs. holds_alone xs (page_of lows k) t ≡ true) (sym same)
+        (l.private t k b.0 (subst (λ rows. is_some (get_row rows k) ≡ true) b.1 h));
+  }
 
--- nobody runs at an idle node
-pub nobody_runs : (sc : Scenario) (n : Node) (x : NodeState) (v : View) (lows : List ℕ) (t : ℕ) → Locking sc n x v lows → is_idle x.mode ≡ true → IsAt v t n → ⊥
-nobody_runs sc n x v lows t l idle at = false≢true (sym (l.busy t at) ∙ idle)
+  -- the node that does not act
+  pub untouched : (x : NodeState) (v w : View) (lows : List ℕ) → Locking sc n x v lows → Seen n v w → Locking sc n x w lows
+  untouched x v w lows l seen = steady x x v w lows l seen refl l.busy l.newest l.kept
 
--- a node where nobody runs, whatever its low keys become
-pub idle_locking : (sc : Scenario) (n : Node) (x y : NodeState) (v w : View) (lows more : List ℕ) → Locking sc n x v lows → is_idle x.mode ≡ true
-    → is_idle y.mode ≡ true
-    → w.txns ≡ v.txns → y.locks ≡ x.locks → Locking sc n y w more
-idle_locking sc n x y v w lows more l idle still same locks =
-    let none : (t : ℕ) → IsAt w t n → ⊥ = λ t at. nobody_runs sc n x v lows t l idle ((seen_same n v w same).back t at).0 in
-    let free : (p t : ℕ) → holds y.locks p t ≡ true → ⊥ = λ p t h. nobody_runs sc n x v lows t l idle
-    (l.runs p t (subst (λ xs. holds xs p t ≡ true) locks h)) in
-    record {
-      busy = λ t at. absurd (none t at);
-      newest = λ h. absurd (false≢true (sym h ∙ still));
-      runs = λ p t h. absurd (free p t h);
-      below = λ p t h. absurd (free p t h);
-      kept = λ p t s h. absurd (free p t h);
-      apart = λ p t u a b. absurd (free p u b);
-      private = λ t k at h. absurd (none t at);
-    }
+  -- nobody runs at an idle node
+  pub nobody_runs : (x : NodeState) (v : View) (lows : List ℕ) (t : ℕ) → Locking sc n x v lows → is_idle x.mode ≡ true → IsAt v t n → ⊥
+  nobody_runs x v lows t l idle at = false≢true (sym (l.busy t at) ∙ idle)
 
--- t's lock is taken, and its private rows grow by keys of that page
-pub lock_taken : (sc : Scenario) (n : Node) (v w : View) (y : NodeState) (lows : List ℕ) (t p : ℕ) (kind : LockKind) → Locking sc n v.me v lows
-    → IsAt v t n
-    → p < length lows → owns v.me.pages p ≡ true → conflict v.me.locks p t kind ≡ false → y.locks ≡ add_lock p t kind v.me.locks → y.mode ≡ v.me.mode
-    → y.lows ≡ v.me.lows → y.pages ≡ v.me.pages
-    → ((u : ℕ) → IsAt w u n → IsAt v u n) → ((u : ℕ) → IsAt v u n → IsAt w u n)
-    → ((u k : ℕ) → IsAt w u n → is_some (get_row (txn_at w u).rows k) ≡ true → (is_some (get_row (txn_at v u).rows k) ≡ true)
-    ⊎ ((u ≡ t) × (page_of lows k ≡ p) × (kind ≡ Exclusive)))
-    → Locking sc n y w lows
-lock_taken sc n v w y lows t p kind l at small own free locks mode low pages back forth rows =
-    let old : (q u : ℕ) → holds y.locks q u ≡ true → (holds v.me.locks q u ≡ true) ⊎ ((p ≡ q) × (t ≡ u)) =
-    λ q u h. holds-add p t kind v.me.locks q u (subst (λ xs. holds xs q u ≡ true) locks h) in
-    record {
-      busy = λ u a. ap is_idle mode ∙ l.busy u (back u a);
-      newest = λ h. low ∙ l.newest (ap is_idle (sym mode) ∙ h);
-      runs = λ q u h. forth u (elim (old q u h) [ inl i ↦ l.runs q u i | inr i ↦ subst (λ z. IsAt v z n) i.1 at ]);
-      below = λ q u h. elim (old q u h) [ inl i ↦ l.below q u i | inr i ↦ subst (λ z. z < length lows) i.0 small ];
-      kept = λ q u s h. ap (λ xs. owns xs q) pages ∙ elim (old q u h) [
-        | inl i ↦ l.kept q u (subst (Stay sc) mode s) i
-        | inr i ↦
-            subst (λ z. owns v.me.pages z ≡ true) i.0 own
-      ];
-      apart = λ q a b ha hb.
-          elim (alone-add p t kind v.me.locks q a (subst (λ xs. holds_alone xs q a ≡ true) locks ha)) [
-            | inl i ↦ elim (old q b hb) [
-              | inl j ↦ l.apart q a b i j
-              | inr j ↦ free_alone p t a kind v.me.locks free (subst (λ z. holds_alone v.me.locks z a ≡ true) (sym j.0) i) ∙ j.1
-            ]
-            | inr i ↦ elim (old q b hb) [
-              | inl j ↦ sym i.1 ∙ sym (free_all p t b kind v.me.locks i.2 free (subst (λ z. holds v.me.locks z b ≡ true) (sym i.0) j))
-              | inr j ↦ sym i.1 ∙ j.1
-            ]
-          ];
-      private = λ u k a h. subst (λ xs. holds_alone xs (page_of lows k) u ≡ true) (sym locks) (elim (rows u k a h) [
-        | inl i ↦ alone_more p t kind v.me.locks (page_of lows k) u (l.private u k (back u a) i)
-        | inr i ↦ subst (λ z. holds_alone (add_lock p t kind v.me.locks) z u ≡ true) (sym i.1)
-            (subst (λ z. holds_alone (add_lock p t kind v.me.locks) p z ≡ true) (sym i.0)
-            (subst (λ z. holds_alone (add_lock p t z v.me.locks) p t ≡ true) (sym i.2) (alone_new p t v.me.locks)))
-      ]);
-    }
+  -- a node where nobody runs, whatever its low keys become
+  pub idle_locking : (x y : NodeState) (v w : View) (lows more : List ℕ) → Locking sc n x v lows → is_idle x.mode ≡ true
+      → is_idle y.mode ≡ true
+      → w.txns ≡ v.txns → y.locks ≡ x.locks → Locking sc n y w more
+  idle_locking x y v w lows more l idle still same locks =
+      let none : (t : ℕ) → IsAt w t n → ⊥ = λ t at. nobody_runs x v lows t l idle ((seen_same n v w same).back t at).0 in
+      let free : (p t : ℕ) → holds y.locks p t ≡ true → ⊥ = λ p t h. nobody_runs x v lows t l idle
+      (l.runs p t (subst (λ xs. holds xs p t ≡ true) locks h)) in
+      record {
+        busy = λ t at. absurd (none t at);
+        newest = λ h. absurd (false≢true (sym h ∙ still));
+        runs = λ p t h. absurd (free p t h);
+        below = λ p t h. absurd (free p t h);
+        kept = λ p t s h. absurd (free p t h);
+        apart = λ p t u a b. absurd (free p u b);
+        private = λ t k at h. absurd (none t at);
+      }
 
--- t ends: its locks are dropped
-pub freed : (sc : Scenario) (n : Node) (v w : View) (z : NodeState) (lows : List ℕ) (t : ℕ) (y : Txn) → Locking sc n v.me v lows → IsAt v t n
-    → w.txns ≡ slice_set v.txns t y → is_active y.status ≡ false
-    → z.locks ≡ drop_locks t v.me.locks → z.mode ≡ v.me.mode → z.lows ≡ v.me.lows → ((p : ℕ) → owns z.pages p ≡ owns v.me.pages p)
-    → Locking sc n z w lows
-freed sc n v w z lows t y l at e over locks mode low pages =
-    let far_at : (u : ℕ) → IsAt w u n → u ≡ t → ⊥ = λ u a same. false≢true (sym over
-    ∙ subst (λ x. is_active x.status ≡ true) (ap (txn_at w) same ∙ at_self v w t y e at.0) a.0) in
-    let now : (u : ℕ) → (u ≡ t → ⊥) → txn_at w u ≡ txn_at v u = λ u far. at_other v w t u y e far in
-    let far : (q u : ℕ) → holds z.locks q u ≡ true → u ≡ t → ⊥ = λ q u h same. holds-dropped v.me.locks q t
-    (subst (λ j. holds (drop_locks t v.me.locks) q j ≡ true) same (subst (λ xs. holds xs q u ≡ true) locks h)) in
-    let old : (q u : ℕ) → holds z.locks q u ≡ true → holds v.me.locks q u ≡ true =
-    λ q u h. sym (holds-drop v.me.locks q t u (far q u h)) ∙ subst (λ xs. holds xs q u ≡ true) locks h in
-    record {
-      busy = λ u a. ap is_idle mode ∙ l.busy u (subst (λ x. Stands x n) (now u (far_at u a)) a);
-      newest = λ h. low ∙ l.newest (ap is_idle (sym mode) ∙ h);
-      runs = λ q u h. subst (λ x. Stands x n) (sym (now u (far q u h))) (l.runs q u (old q u h));
-      below = λ q u h. l.below q u (old q u h);
-      kept = λ q u s h. pages q ∙ l.kept q u (subst (Stay sc) mode s) (old q u h);
-      apart = λ q a b ha hb.
-          let far_a : a ≡ t → ⊥ =
-          far q a
-          (subst (λ xs. holds xs q a ≡ true) (sym locks) (exclusive_holds (drop_locks t v.me.locks) q a
-          (subst (λ xs. holds_alone xs q a ≡ true) locks ha))) in
-          l.apart q a b (sym (holds_alone-drop v.me.locks q t a far_a) ∙ subst (λ xs. holds_alone xs q a ≡ true) locks ha) (old q b hb);
-      private = λ u k a h.
-          let f = far_at u a in
-          let s = now u f in
-          subst (λ xs. holds_alone xs (page_of lows k) u ≡ true) (sym locks) (holds_alone-drop v.me.locks (page_of lows k) t u f
-          ∙ l.private u k (subst (λ x. Stands x n) s a) (subst (λ x. is_some (get_row x.rows k) ≡ true) s h));
-    }
+  -- t's lock is taken, and its private rows grow by keys of that page
+  pub lock_taken : (v w : View) (y : NodeState) (lows : List ℕ) (t p : ℕ) (kind : LockKind) → Locking sc n v.me v lows
+      → IsAt v t n
+      → p < length lows → owns v.me.pages p ≡ true → conflict v.me.locks p t kind ≡ false → y.locks ≡ add_lock p t kind v.me.locks → y.mode ≡ v.me.mode
+      → y.lows ≡ v.me.lows → y.pages ≡ v.me.pages
+      → ((u : ℕ) → IsAt w u n → IsAt v u n) → ((u : ℕ) → IsAt v u n → IsAt w u n)
+      → ((u k : ℕ) → IsAt w u n → is_some (get_row (txn_at w u).rows k) ≡ true → (is_some (get_row (txn_at v u).rows k) ≡ true)
+      ⊎ ((u ≡ t) × (page_of lows k ≡ p) × (kind ≡ Exclusive)))
+      → Locking sc n y w lows
+  lock_taken v w y lows t p kind l at small own free locks mode low pages back forth rows =
+      let old : (q u : ℕ) → holds y.locks q u ≡ true → (holds v.me.locks q u ≡ true) ⊎ ((p ≡ q) × (t ≡ u)) =
+      λ q u h. holds-add p t kind v.me.locks q u (subst (λ xs. holds xs q u ≡ true) locks h) in
+      record {
+        busy = λ u a. ap is_idle mode ∙ l.busy u (back u a);
+        newest = λ h. low ∙ l.newest (ap is_idle (sym mode) ∙ h);
+        runs = λ q u h. forth u (elim (old q u h) [ inl i ↦ l.runs q u i | inr i ↦ subst (λ z. IsAt v z n) i.1 at ]);
+        below = λ q u h. elim (old q u h) [ inl i ↦ l.below q u i | inr i ↦ subst (λ z. z < length lows) i.0 small ];
+        kept = λ q u s h. ap (λ xs. owns xs q) pages ∙ elim (old q u h) [
+          | inl i ↦ l.kept q u (subst (Stay sc) mode s) i
+          | inr i ↦
+              subst (λ z. owns v.me.pages z ≡ true) i.0 own
+        ];
+        apart = λ q a b ha hb.
+            elim (alone-add p t kind v.me.locks q a (subst (λ xs. holds_alone xs q a ≡ true) locks ha)) [
+              | inl i ↦ elim (old q b hb) [
+                | inl j ↦ l.apart q a b i j
+                | inr j ↦ free_alone p t a kind v.me.locks free (subst (λ z. holds_alone v.me.locks z a ≡ true) (sym j.0) i) ∙ j.1
+              ]
+              | inr i ↦ elim (old q b hb) [
+                | inl j ↦ sym i.1 ∙ sym (free_all p t b kind v.me.locks i.2 free (subst (λ z. holds v.me.locks z b ≡ true) (sym i.0) j))
+                | inr j ↦ sym i.1 ∙ j.1
+              ]
+            ];
+        private = λ u k a h. subst (λ xs. holds_alone xs (page_of lows k) u ≡ true) (sym locks) (elim (rows u k a h) [
+          | inl i ↦ alone_more p t kind v.me.locks (page_of lows k) u (l.private u k (back u a) i)
+          | inr i ↦ subst (λ z. holds_alone (add_lock p t kind v.me.locks) z u ≡ true) (sym i.1)
+              (subst (λ z. holds_alone (add_lock p t kind v.me.locks) p z ≡ true) (sym i.0)
+              (subst (λ z. holds_alone (add_lock p t z v.me.locks) p t ≡ true) (sym i.2) (alone_new p t v.me.locks)))
+        ]);
+      }
+
+  -- t ends: its locks are dropped
+  pub freed : (v w : View) (z : NodeState) (lows : List ℕ) (t : ℕ) (y : Txn) → Locking sc n v.me v lows → IsAt v t n
+      → w.txns ≡ slice_set v.txns t y → is_active y.status ≡ false
+      → z.locks ≡ drop_locks t v.me.locks → z.mode ≡ v.me.mode → z.lows ≡ v.me.lows → ((p : ℕ) → owns z.pages p ≡ owns v.me.pages p)
+      → Locking sc n z w lows
+  freed v w z lows t y l at e over locks mode low pages =
+      let far_at : (u : ℕ) → IsAt w u n → u ≡ t → ⊥ = λ u a same. false≢true (sym over
+      ∙ subst (λ x. is_active x.status ≡ true) (ap (txn_at w) same ∙ at_self v w t y e at.0) a.0) in
+      let now : (u : ℕ) → (u ≡ t → ⊥) → txn_at w u ≡ txn_at v u = λ u far. at_other v w t u y e far in
+      let far : (q u : ℕ) → holds z.locks q u ≡ true → u ≡ t → ⊥ = λ q u h same. holds-dropped v.me.locks q t
+      (subst (λ j. holds (drop_locks t v.me.locks) q j ≡ true) same (subst (λ xs. holds xs q u ≡ true) locks h)) in
+      let old : (q u : ℕ) → holds z.locks q u ≡ true → holds v.me.locks q u ≡ true =
+      λ q u h. sym (holds-drop v.me.locks q t u (far q u h)) ∙ subst (λ xs. holds xs q u ≡ true) locks h in
+      record {
+        busy = λ u a. ap is_idle mode ∙ l.busy u (subst (λ x. Stands x n) (now u (far_at u a)) a);
+        newest = λ h. low ∙ l.newest (ap is_idle (sym mode) ∙ h);
+        runs = λ q u h. subst (λ x. Stands x n) (sym (now u (far q u h))) (l.runs q u (old q u h));
+        below = λ q u h. l.below q u (old q u h);
+        kept = λ q u s h. pages q ∙ l.kept q u (subst (Stay sc) mode s) (old q u h);
+        apart = λ q a b ha hb.
+            let far_a : a ≡ t → ⊥ =
+            far q a
+            (subst (λ xs. holds xs q a ≡ true) (sym locks) (exclusive_holds (drop_locks t v.me.locks) q a
+            (subst (λ xs. holds_alone xs q a ≡ true) locks ha))) in
+            l.apart q a b (sym (holds_alone-drop v.me.locks q t a far_a) ∙ subst (λ xs. holds_alone xs q a ≡ true) locks ha) (old q b hb);
+        private = λ u k a h.
+            let f = far_at u a in
+            let s = now u f in
+            subst (λ xs. holds_alone xs (page_of lows k) u ≡ true) (sym locks) (holds_alone-drop v.me.locks (page_of lows k) t u f
+            ∙ l.private u k (subst (λ x. Stands x n) s a) (subst (λ x. is_some (get_row x.rows k) ≡ true) s h));
+      }
 
 -- t begins at h
 pub began : (sc : Scenario) (n h : Node) (x : NodeState) (v w : View) (lows : List ℕ) (t : ℕ) (y : Txn) → Locking sc n x v lows

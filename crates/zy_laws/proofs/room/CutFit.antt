@@ -79,40 +79,42 @@ cut_side more b k p new on here old =
       | inr moves ↦ absurd (old (sym here ∙ moves.0))
     ]
 
--- the cut page needs no more rows than before
-split_below : (more : List ℕ) (b p : ℕ) (rows private : List Row) → (Contains (0 ∷ more) b → ⊥) → page_of (0 ∷ more) b ≡ p → (p ≡ length (0 ∷ more) → ⊥)
-    → need ((0 ∷ more) ++ b ∷ []) p (rows_below b rows) private ≤ need (0 ∷ more) p rows private
-split_below more b p rows private new on old =
-    need_less (0 ∷ more) ((0 ∷ more) ++ b ∷ []) p p rows (rows_below b rows) private (λ k h.
-    let a = new_parts ((0 ∷ more) ++ b ∷ []) p k (rows_below b rows) h in
-    let c = cut_side more b k p new on a.0 old in
-    new_on (0 ∷ more) p k rows c.0 (sym (held_below b k rows c.1) ∙ a.1))
-
--- another page needs no more rows than before
-split_other : (more : List ℕ) (b p : ℕ) (rows private : List Row) → (p ≡ length (0 ∷ more) → ⊥)
-    → need ((0 ∷ more) ++ b ∷ []) p rows private ≤ need (0 ∷ more) p rows private
-split_other more b p rows private old =
-    need_less (0 ∷ more) ((0 ∷ more) ++ b ∷ []) p p rows rows private (λ k h.
-    let a = new_parts ((0 ∷ more) ++ b ∷ []) p k rows h in
-    elim (page_of-cut more b k) [ inl stays ↦ new_on (0 ∷ more) p k rows (sym stays ∙ a.0) a.1 | inr moves ↦ absurd (old (sym a.0 ∙ moves.0)) ])
-
 -- no key is on a page that is not there yet
 not_yet : (more : List ℕ) (k : ℕ) → page_of (0 ∷ more) k ≡ length (0 ∷ more) → ⊥
 not_yet more k e = let within = page_of-within (0 ∷ more) k (omega arith) in omega arith
 
--- the new page needs no more rows than the cut page did
-split_new : (more : List ℕ) (b p : ℕ) (rows private : List Row) → page_of (0 ∷ more) b ≡ p
-    → need ((0 ∷ more) ++ b ∷ []) (length (0 ∷ more)) (rows_from b rows) private ≤ need (0 ∷ more) p rows private
-split_new more b p rows private on =
-    need_less (0 ∷ more) ((0 ∷ more) ++ b ∷ []) p (length (0 ∷ more)) rows (rows_from b rows) private (λ k h.
-    let a = new_parts ((0 ∷ more) ++ b ∷ []) (length (0 ∷ more)) k (rows_from b rows) h in
-    elim (cases_lt k b) [
-      | inl below ↦ absurd (not_yet more k (sym (page_of-cut_below more b k below) ∙ a.0))
-      | inr above ↦ elim (page_of-cut more b k) [
-        | inl stays ↦ absurd (not_yet more k (sym stays ∙ a.0))
-        | inr moves ↦ new_on (0 ∷ more) p k rows (sym moves.1 ∙ on) (sym (held_from b k rows above) ∙ a.1)
-      ]
-    ])
+-- page p of a wireframe with a low key more, b
+module _ (more : List ℕ) (b p : ℕ) where
+  -- the cut page needs no more rows than before
+  split_below : (rows private : List Row) → (Contains (0 ∷ more) b → ⊥) → page_of (0 ∷ more) b ≡ p → (p ≡ length (0 ∷ more) → ⊥)
+      → need ((0 ∷ more) ++ b ∷ []) p (rows_below b rows) private ≤ need (0 ∷ more) p rows private
+  split_below rows private new on old =
+      need_less (0 ∷ more) ((0 ∷ more) ++ b ∷ []) p p rows (rows_below b rows) private (λ k h.
+      let a = new_parts ((0 ∷ more) ++ b ∷ []) p k (rows_below b rows) h in
+      let c = cut_side more b k p new on a.0 old in
+      new_on (0 ∷ more) p k rows c.0 (sym (held_below b k rows c.1) ∙ a.1))
+
+  -- another page needs no more rows than before
+  split_other : (rows private : List Row) → (p ≡ length (0 ∷ more) → ⊥)
+      → need ((0 ∷ more) ++ b ∷ []) p rows private ≤ need (0 ∷ more) p rows private
+  split_other rows private old =
+      need_less (0 ∷ more) ((0 ∷ more) ++ b ∷ []) p p rows rows private (λ k h.
+      let a = new_parts ((0 ∷ more) ++ b ∷ []) p k rows h in
+      elim (page_of-cut more b k) [ inl stays ↦ new_on (0 ∷ more) p k rows (sym stays ∙ a.0) a.1 | inr moves ↦ absurd (old (sym a.0 ∙ moves.0)) ])
+
+  -- the new page needs no more rows than the cut page did
+  split_new : (rows private : List Row) → page_of (0 ∷ more) b ≡ p
+      → need ((0 ∷ more) ++ b ∷ []) (length (0 ∷ more)) (rows_from b rows) private ≤ need (0 ∷ more) p rows private
+  split_new rows private on =
+      need_less (0 ∷ more) ((0 ∷ more) ++ b ∷ []) p (length (0 ∷ more)) rows (rows_from b rows) private (λ k h.
+      let a = new_parts ((0 ∷ more) ++ b ∷ []) (length (0 ∷ more)) k (rows_from b rows) h in
+      elim (cases_lt k b) [
+        | inl below ↦ absurd (not_yet more k (sym (page_of-cut_below more b k below) ∙ a.0))
+        | inr above ↦ elim (page_of-cut more b k) [
+          | inl stays ↦ absurd (not_yet more k (sym stays ∙ a.0))
+          | inr moves ↦ new_on (0 ∷ more) p k rows (sym moves.1 ∙ on) (sym (held_from b k rows above) ∙ a.1)
+        ]
+      ])
 
 -- ---- the pages of a node whose page p is cut
 

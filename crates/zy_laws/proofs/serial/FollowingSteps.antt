@@ -85,14 +85,6 @@ next_run d program x keys i e y run is does h =
     ap (lone d program) (add-one x.done) ∙ ap (lone_step d program) run ∙ ap (λ o. lone_instr d o (lone_at x keys)) is
     ∙ ap (λ z. lone_effect d z (lone_at x keys)) does ∙ h
 
--- an effect that needs no page
-plain_follows : (program : List Instr) (d : Map) (lows : List ℕ) (locks : List Lock) (t pc : ℕ) (regs : List ℕ) (x : Txn) (i : Instr) (e : Effect)
-    → slice_get program x.pc ≡ Some i → effect_of i x.regs ≡ e
-    → ((keys : List ℕ) → lone_effect d e (lone_at x keys) ≡ record { regs = regs; pc = pc; rows = x.rows; keys = keys; over = false })
-    → Follows program d lows locks t x → Follows program d lows locks t (record x { pc = pc; regs = regs; done = x.done + 1 })
-plain_follows program d lows locks t pc regs x i e is does step f =
-    record { keys = f.keys; run = next_run d program x f.keys i e _ f.run is does (step f.keys); covered = f.covered }
-
 -- an effect that needs no page does the same in the lone run
 leads_step : (d : Map) (e : Effect) (x : Txn) (pc : ℕ) (regs keys : List ℕ) → Leads e x pc regs
     → lone_effect d e (lone_at x keys) ≡ record { regs = regs; pc = pc; rows = x.rows; keys = keys; over = false }
@@ -130,48 +122,6 @@ some_or : (a b : Option ℕ) → is_some (or_else a b) ≡ (is_some a || is_some
 some_or None b = refl
 some_or (Some v) b = refl
 
--- a step under a lock of its key's page follows the lone run
-key_follows : (program : List Instr) (d : Map) (lows : List ℕ) (locks : List Lock) (kind : LockKind) (t k pc : ℕ) (regs : List ℕ) (rows : List Row) (x : Txn)
-    (i : Instr) (e : Effect)
-    → slice_get program x.pc ≡ Some i → effect_of i x.regs ≡ e
-    → ((keys : List ℕ) → lone_effect d e (lone_at x keys) ≡ record { regs = regs; pc = pc; rows = rows; keys = k ∷ keys; over = false })
-    → Follows program d lows locks t x
-    → Follows program d lows (add_lock (page_of lows k) t kind locks) t (record x { pc = pc; regs = regs; rows = rows; done = x.done + 1 })
-key_follows program d lows locks kind t k pc regs rows x i e is does step f = record {
-  keys = k ∷ f.keys;
-  run = next_run d program x f.keys i e _ f.run is does (step f.keys);
-  covered = λ j h. elim (or_cases (k == j) (has f.keys j) h) [
-    | inl e ↦ subst (λ z. holds (add_lock (page_of lows k) t kind locks) (page_of lows z) t ≡ true) (eqb-true _ _ e) (holds_new (page_of lows k) t kind locks)
-    | inr e ↦ holds_more (page_of lows k) t kind locks (page_of lows j) t (f.covered j e)
-  ];
-}
-
--- a transaction that begins has done nothing
-fresh_follows : (program : List Instr) (d : Map) (lows : List ℕ) (locks : List Lock) (t : ℕ) (x : Txn) → x.done ≡ 0 → x.regs ≡ replicate 8 0
-    → x.pc ≡ 0 → x.rows ≡ [] → Follows program d lows locks t x
-fresh_follows program d lows locks t x a b c e = record {
-  keys = [];
-  run = ap (lone d program) a ∙ (λ i. record { regs = sym b i; pc = sym c i; rows = sym e i; keys = []; over = false });
-  covered = λ k h. absurd (false≢true h);
-}
-
--- a begin follows the lone run
-begun_follows : (sc : Scenario) (v w : View) (lows : List ℕ) (locks : List Lock) (m : Node) (t u : ℕ) (y : Txn) → w.txns ≡ slice_set v.txns t y
-    → is_active (txn_at v t).status ≡ false → db w ≡ db v
-    → y.done ≡ 0 → y.regs ≡ replicate 8 0 → y.pc ≡ 0 → y.rows ≡ []
-    → ((z : ℕ) → IsAt v z m → Follows (program_of sc z) (db v) lows locks z (txn_at v z)) → IsAt w u m
-    → Follows (program_of sc u) (db w) lows locks u (txn_at w u)
-begun_follows sc v w lows locks m t u y e new same a b c d f at =
-    elim (cases_eq u t) [
-      | inl here ↦ elim (at_either v w t y e) [
-        | inl now ↦ subst (Follows (program_of sc u) (db w) lows locks u) (sym (ap (txn_at w) here ∙ now))
-            (fresh_follows (program_of sc u) (db w) lows locks u y a b c d)
-        | inr old ↦ absurd (false≢true (sym new ∙ subst (λ (x : Txn). is_active x.status ≡ true) (ap (txn_at w) here ∙ old) at.0))
-      ]
-      | inr far ↦ let now = at_other v w t u y e far in
-          follows_same (program_of sc u) (db v) (db w) lows locks locks u (txn_at v u) (txn_at w u) same now (λ p h. h) (f u (subst (λ x. Stands x m) now at))
-    ]
-
 -- what the database has at a key whose page is here
 here_value : (sc : Scenario) (n : Node) (v : View) (lows : List ℕ) (t k : ℕ) → Kept sc n v lows → IsAt v t n → owns v.me.pages (page_of v.me.lows k) ≡ true
     → get (db v) k ≡ get_row (rows_of v.me.pages (page_of v.me.lows k)) k
@@ -208,20 +158,72 @@ small_sum : (d : Map) (r : Reg) (a b : ℕ) (x : Txn) (keys : List ℕ) (sum : �
 unfolding lone_effect
 small_sum d r a b x keys sum rises small val = rw (rises, small, val) refl
 
--- each key of the range lies on a page that t now holds
-range_follows : (program : List Instr) (d : Map) (lows : List ℕ) (locks : List Lock) (t a b pc : ℕ) (regs : List ℕ) (x : Txn) (i : Instr) (e : Effect)
-    → slice_get program x.pc ≡ Some i → effect_of i x.regs ≡ e
-    → ((keys : List ℕ) → lone_effect d e (lone_at x keys) ≡ record { regs = regs; pc = pc; rows = x.rows; keys = range a b ++ keys; over = false })
-    → Follows program d lows locks t x
-    → Follows program d lows (share_all (range_pages lows a b) t locks) t (record x { pc = pc; regs = regs; done = x.done + 1 })
-range_follows program d lows locks t a b pc regs x i e is does step f = record {
-  keys = range a b ++ f.keys;
-  run = next_run d program x f.keys i e _ f.run is does (step f.keys);
-  covered = λ k h. elim (has_either (range a b) f.keys k h) [
-    | inl new ↦ holds_shared (range_pages lows a b) t locks (page_of lows k) (on_range_page lows a b k new)
-    | inr old ↦ holds_more_shared (range_pages lows a b) t locks (page_of lows k) t (f.covered k old)
-  ];
-}
+-- a program on a database, and the locks that are taken
+module _ (program : List Instr) (d : Map) (lows : List ℕ) (locks : List Lock) where
+  -- an effect that needs no page
+  plain_follows : (t pc : ℕ) (regs : List ℕ) (x : Txn) (i : Instr) (e : Effect)
+      → slice_get program x.pc ≡ Some i → effect_of i x.regs ≡ e
+      → ((keys : List ℕ) → lone_effect d e (lone_at x keys) ≡ record { regs = regs; pc = pc; rows = x.rows; keys = keys; over = false })
+      → Follows program d lows locks t x → Follows program d lows locks t (record x { pc = pc; regs = regs; done = x.done + 1 })
+  plain_follows t pc regs x i e is does step f =
+      record { keys = f.keys; run = next_run d program x f.keys i e _ f.run is does (step f.keys); covered = f.covered }
+
+  -- a step under a lock of its key's page follows the lone run
+  key_follows : (kind : LockKind) (t k pc : ℕ) (regs : List ℕ) (rows : List Row) (x : Txn)
+      (i : Instr) (e : Effect)
+      → slice_get program x.pc ≡ Some i → effect_of i x.regs ≡ e
+      → ((keys : List ℕ) → lone_effect d e (lone_at x keys) ≡ record { regs = regs; pc = pc; rows = rows; keys = k ∷ keys; over = false })
+      → Follows program d lows locks t x
+      → Follows program d lows (add_lock (page_of lows k) t kind locks) t (record x { pc = pc; regs = regs; rows = rows; done = x.done + 1 })
+  key_follows kind t k pc regs rows x i e is does step f = record {
+    keys = k ∷ f.keys;
+    run = next_run d program x f.keys i e _ f.run is does (step f.keys);
+    covered = λ j h. elim (or_cases (k == j) (has f.keys j) h) [
+      | inl e ↦ subst (λ z. holds (add_lock (page_of lows k) t kind locks) (page_of lows z) t ≡ true) (eqb-true _ _ e) (holds_new (page_of lows k) t kind locks)
+      | inr e ↦ holds_more (page_of lows k) t kind locks (page_of lows j) t (f.covered j e)
+    ];
+  }
+
+  -- a transaction that begins has done nothing
+  fresh_follows : (t : ℕ) (x : Txn) → x.done ≡ 0 → x.regs ≡ replicate 8 0
+      → x.pc ≡ 0 → x.rows ≡ [] → Follows program d lows locks t x
+  fresh_follows t x a b c e = record {
+    keys = [];
+    run = ap (lone d program) a ∙ (λ i. record { regs = sym b i; pc = sym c i; rows = sym e i; keys = []; over = false });
+    covered = λ k h. absurd (false≢true h);
+  }
+
+  -- each key of the range lies on a page that t now holds
+  range_follows : (t a b pc : ℕ) (regs : List ℕ) (x : Txn) (i : Instr) (e : Effect)
+      → slice_get program x.pc ≡ Some i → effect_of i x.regs ≡ e
+      → ((keys : List ℕ) → lone_effect d e (lone_at x keys) ≡ record { regs = regs; pc = pc; rows = x.rows; keys = range a b ++ keys; over = false })
+      → Follows program d lows locks t x
+      → Follows program d lows (share_all (range_pages lows a b) t locks) t (record x { pc = pc; regs = regs; done = x.done + 1 })
+  range_follows t a b pc regs x i e is does step f = record {
+    keys = range a b ++ f.keys;
+    run = next_run d program x f.keys i e _ f.run is does (step f.keys);
+    covered = λ k h. elim (has_either (range a b) f.keys k h) [
+      | inl new ↦ holds_shared (range_pages lows a b) t locks (page_of lows k) (on_range_page lows a b k new)
+      | inr old ↦ holds_more_shared (range_pages lows a b) t locks (page_of lows k) t (f.covered k old)
+    ];
+  }
+
+-- a begin follows the lone run
+begun_follows : (sc : Scenario) (v w : View) (lows : List ℕ) (locks : List Lock) (m : Node) (t u : ℕ) (y : Txn) → w.txns ≡ slice_set v.txns t y
+    → is_active (txn_at v t).status ≡ false → db w ≡ db v
+    → y.done ≡ 0 → y.regs ≡ replicate 8 0 → y.pc ≡ 0 → y.rows ≡ []
+    → ((z : ℕ) → IsAt v z m → Follows (program_of sc z) (db v) lows locks z (txn_at v z)) → IsAt w u m
+    → Follows (program_of sc u) (db w) lows locks u (txn_at w u)
+begun_follows sc v w lows locks m t u y e new same a b c d f at =
+    elim (cases_eq u t) [
+      | inl here ↦ elim (at_either v w t y e) [
+        | inl now ↦ subst (Follows (program_of sc u) (db w) lows locks u) (sym (ap (txn_at w) here ∙ now))
+            (fresh_follows (program_of sc u) (db w) lows locks u y a b c d)
+        | inr old ↦ absurd (false≢true (sym new ∙ subst (λ (x : Txn). is_active x.status ≡ true) (ap (txn_at w) here ∙ old) at.0))
+      ]
+      | inr far ↦ let now = at_other v w t u y e far in
+          follows_same (program_of sc u) (db v) (db w) lows locks locks u (txn_at v u) (txn_at w u) same now (λ p h. h) (f u (subst (λ x. Stands x m) now at))
+    ]
 
 -- a split moves the keys of t's page alone
 cut_follows : (program : List Instr) (d e : Map) (more : List ℕ) (locks : List Lock) (q b t u : ℕ) (x : Txn) → e ≡ d → length (0 ∷ more) ≡ q

@@ -2,7 +2,7 @@
 use Rattle.std.proofs.Common.{◌∙◌, sym, subst}
 use Rattle.zy_isa.specs.Scenario.{IsScenario}
 use Rattle.zy_text.specs.Text.{Means}
-use Rattle.zy_asm.specs.Reading.{progress_of}
+use Rattle.zy_asm.specs.Reading.Progress.{progress_of}
 use Rattle.zy_asm.specs.Reasons.{fault_of}
 use Rattle.zy_asm.proofs.OnlyLemmas.{read_text, Means-from_read, only_of, fault_of as memory_fault}
 use Rattle.zy_asm.proofs.assembling.assemble.Goals as goal

@@ -3,7 +3,8 @@ use Rattle.std.proofs.Common.{◌∙◌, arith, ap, sym, inl, inr}
 use Rattle.zy_text.specs.Words.{lines_of}
 use Rattle.zy_text.specs.Lines.{first_line}
 use Rattle.zy_asm.specs.Reasons.{kind_of}
-use Rattle.zy_asm.specs.Reading.{progress_of, reading, line_step}
+use Rattle.zy_asm.specs.Reading.Progress.{progress_of}
+use Rattle.zy_asm.specs.Reading.{reading, line_step}
 use Rattle.zy_asm.proofs.CodeLemmas.{empty_lines, fault_at, fault_end, line_done}
 use Rattle.zy_text.proofs.LineLemmas.{line_taken}
 use Rattle.zy_asm.proofs.reading.read.Goals as goal

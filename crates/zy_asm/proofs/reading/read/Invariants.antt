@@ -1,7 +1,8 @@
 -- What was seen and the lines that are left give what the text gives.
 use Rattle.std.proofs.Common.{◌≡◌, ◌≤◌, ◌+◌, length}
 use Rattle.zy_text.specs.Words.{lines_of}
-use Rattle.zy_asm.specs.Reading.{progress_of, reading, read_lines}
+use Rattle.zy_asm.specs.Reading.Progress.{progress_of}
+use Rattle.zy_asm.specs.Reading.{reading, read_lines}
 use Rattle.zy_asm.proofs.reading.read.Given as goal
 
 abbrev pub invariant-loop-words : goal.invariant-loop-words

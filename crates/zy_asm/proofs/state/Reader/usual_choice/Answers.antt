@@ -2,7 +2,7 @@
 use Rattle.std.proofs.Common.{◌≡◌, ◌<◌, ◌∙◌, rules, arith, sym, ap, length, Ok, ◌++◌, ◌∷◌, []}
 use Rattle.zy_asm.specs.declared.state.Stage.TheVariants as stage
 use Rattle.zy_asm.specs.Choices.{numbered}
-use Rattle.zy_asm.specs.Reading.{progress_of}
+use Rattle.zy_asm.specs.Reading.Progress.{progress_of}
 use Rattle.zy_asm.proofs.UsualLemmas.{choice_taken}
 use Rattle.zy_asm.proofs.state.Reader.usual_choice.Goals as goal
 

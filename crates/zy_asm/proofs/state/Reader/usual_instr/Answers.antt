@@ -3,7 +3,7 @@ use Rattle.std.proofs.Common.{◌≡◌, ◌<◌, rules, arith, sym, length}
 use Rattle.zy_asm.specs.declared.state.Stage.TheVariants as stage
 use Rattle.std.proofs.lemmas.List.{length-map}
 use Rattle.zy_asm.specs.Pending.{pending_of}
-use Rattle.zy_asm.specs.Reading.{progress_of}
+use Rattle.zy_asm.specs.Reading.Progress.{progress_of}
 use Rattle.zy_asm.proofs.UsualLemmas.{instr_taken}
 use Rattle.zy_asm.proofs.state.Reader.usual_instr.Goals as goal
 

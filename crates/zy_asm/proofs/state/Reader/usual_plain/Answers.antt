@@ -1,7 +1,7 @@
 -- The line is the choice, as its two words say.
 use Rattle.std.proofs.Common.{◌≡◌, ◌<◌, rules, arith, sym, length}
 use Rattle.zy_asm.specs.declared.state.Stage.TheVariants as stage
-use Rattle.zy_asm.specs.Reading.{progress_of}
+use Rattle.zy_asm.specs.Reading.Progress.{progress_of}
 use Rattle.zy_asm.proofs.UsualLemmas.{plain_taken}
 use Rattle.zy_asm.proofs.state.Reader.usual_plain.Goals as goal
 
