@@ -17,7 +17,7 @@ use Rattle.zy_table.specs.Play.{step, opening, play, entry_of}
 use Rattle.zy_laws.specs.Counts.{Safe}
 use Rattle.zy_machine.specs.Histories.{History, IsReplay, choices_of}
 use Rattle.zy_disasm.specs.Lines.{head_texts, end_texts}
-use Rattle.zy_disasm.proofs.CanonLemmas.{canon-parts}
+use Rattle.zy_disasm.proofs.CanonLemmas.{canon-before}
 use Rattle.zy_audit.specs.SameMaps.{is_serial}
 use Rattle.zy_trace.specs.Trace.{Beside, step_lines, steps_lines, opening_lines, last_lines, trace_lines, trace_from}
 use Rattle.std.specs.List.{flat_map, range_with_len}
@@ -47,6 +47,11 @@ pub four_parts : (f : Subject → List ℕ) (o m p l e : List ℕ) (ks bs cs ds 
     → e ≡ o ++ flat_map f (ks ++ (bs ++ (cs ++ ds)))
 four_parts f o m p l e ks bs cs ds h i j k =
     two_parts f o m e ks (bs ++ (cs ++ ds)) h (two_parts f m p e bs (cs ++ ds) i (two_parts f p l e cs ds j k))
+
+-- two subjects, one after the other
+pub two_subjects : (f : Subject → List ℕ) (o m p : List ℕ) (x y : Subject) → m ≡ o ++ f x → p ≡ m ++ f y → p ≡ o ++ flat_map f (x ∷ y ∷ [])
+two_subjects f o m p x y h k =
+    two_parts f o m p (x ∷ []) (y ∷ []) (h ∙ ap (λ l. o ++ l) (sym (append-nil (f x)))) (k ∙ ap (λ l. m ++ l) (sym (append-nil (f y))))
 
 -- the bytes of lines that are shown are those of each
 pub lines_each : (f : Subject → List (List ℕ)) (xs : List Subject) → flat_map (λ x. flat_map line_of (f x)) xs ≡ flat_map line_of (flat_map f xs)
@@ -139,13 +144,11 @@ counted h law r = ap (λ (s : State). length s.txns) r.state ∙ (law h.scenario
 
 -- the lines that are written are the trace
 pub trace-lines : (sc : Scenario) (s t : State) (same : Bool) → s ≡ opening sc
-    → flat_map line_of ((head_texts sc ++ (map choice_text sc.choices ++ end_texts))
-    ++ (opening_lines s ++ (steps_lines sc 1 (opening sc) sc.choices ++ last_lines t same)))
+    → flat_map line_of (head_texts sc ++ (map choice_text sc.choices ++ (end_texts
+    ++ (opening_lines s ++ (steps_lines sc 1 (opening sc) sc.choices ++ last_lines t same)))))
     ≡ canon sc ++ flat_map line_of (trace_lines sc t same)
 trace-lines sc s t same e =
-    flat_map-append line_of (head_texts sc ++ (map choice_text sc.choices ++ end_texts))
-    (opening_lines s ++ (steps_lines sc 1 (opening sc) sc.choices ++ last_lines t same))
-    ∙ ap (λ l. l ++ flat_map line_of (opening_lines s ++ (steps_lines sc 1 (opening sc) sc.choices ++ last_lines t same))) (canon-parts sc)
+    canon-before sc (opening_lines s ++ (steps_lines sc 1 (opening sc) sc.choices ++ last_lines t same))
     ∙ ap (λ x. canon sc ++ flat_map line_of (opening_lines x ++ (steps_lines sc 1 (opening sc) sc.choices ++ last_lines t same))) e
 
 -- the scenario, and the lines with what the test against the serial run says, are the trace

@@ -1,10 +1,9 @@
 //! The lines of a state that are shown, since a state before it.
-ghost use Rattle.std.specs.Prelude.{◌≡◌, ◌∷◌, [], ◌++◌, ◌&&◌, not, IfOk, OnOk, length, map};
+ghost use Rattle.std.specs.Prelude.{◌≡◌, ◌++◌, ◌&&◌, not, IfOk, OnOk, length, map};
 ghost use Rattle.std.specs.Str.{bytes_eq};
 ghost use Rattle.zy_table.specs.Database.{newest};
-ghost use Rattle.zy_isa.specs.declared.node.Node.TheVariants.{A, B};
 ghost use Rattle.zy_audit.specs.Listing.{below};
-ghost use Rattle.zy_trace.specs.declared.subject.Subject.TheVariants.{Mode, Page, Link, Txn};
+ghost use Rattle.zy_trace.specs.declared.subject.Subject.TheVariants.{Page, Txn};
 ghost use Rattle.zy_trace.specs.Kept.{AreRests};
 ghost use Rattle.zy_trace.specs.Subjects.{HasLine, line_in, subjects, shown_text, shown_texts};
 
@@ -115,19 +114,6 @@ fn append_shown(
     line.push(b'\n')
 }
 
-/// Appends the modes that are shown.
-fn append_modes(
-    since: &Since<'_>,
-    texts: &mut Texts,
-    line: &mut LineBuffer,
-) -> Result<(), AllocError>
-    ensures { OnOk result (line.new ≡ line.old ++ shown_texts since.now.all since.now.before.now.state
-        since.now.after.now.state (Mode A ∷ Mode B ∷ [])) }
-{
-    append_shown(since, Subject::Mode(Node::A), texts, line)?;
-    append_shown(since, Subject::Mode(Node::B), texts, line)
-}
-
 /// Appends a page where it is shown; `a` and `b` are the locks of the nodes that differ. The texts are made where the
 /// page is not seen to be what it was.
 fn append_page(
@@ -167,19 +153,6 @@ fn append_pages(
     Ok(())
 }
 
-/// Appends the links that are shown.
-fn append_links(
-    since: &Since<'_>,
-    texts: &mut Texts,
-    line: &mut LineBuffer,
-) -> Result<(), AllocError>
-    ensures { OnOk result (line.new ≡ line.old ++ shown_texts since.now.all since.now.before.now.state
-        since.now.after.now.state (Link A ∷ Link B ∷ [])) }
-{
-    append_shown(since, Subject::Link(Node::A), texts, line)?;
-    append_shown(since, Subject::Link(Node::B), texts, line)
-}
-
 /// Appends the transactions that are shown.
 fn append_txns(
     since: &Since<'_>,
@@ -208,9 +181,11 @@ pub(crate) fn append_since(
         ++ shown_texts since.now.all since.now.before.now.state since.now.after.now.state
         (subjects since.now.after.now.state)) }
 {
-    append_modes(since, texts, line)?;
+    append_shown(since, Subject::Mode(Node::A), texts, line)?;
+    append_shown(since, Subject::Mode(Node::B), texts, line)?;
     append_pages(since, texts, line)?;
-    append_links(since, texts, line)?;
+    append_shown(since, Subject::Link(Node::A), texts, line)?;
+    append_shown(since, Subject::Link(Node::B), texts, line)?;
     append_txns(since, texts, line)?;
     Ok(())
 }

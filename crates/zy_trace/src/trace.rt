@@ -15,7 +15,7 @@ use zy_audit::serial::same;
 use zy_audit::{FinalState, SerialLine};
 use zy_disasm::Head;
 use zy_io::writing::write_all;
-use zy_io::{Both, LineBuffer, One, Section, Sink, TextFault};
+use zy_io::{AllLines, LineBuffer, One, Section, Sink, TextFault, sections};
 use zy_isa::Scenario;
 use zy_machine::Machine;
 use zy_text::Each;
@@ -127,17 +127,22 @@ fn write_parts_of<K: Sink>(
 {
     let mut line = LineBuffer::new(alloc);
     let scenario = machine.scenario();
-    let choices = Both(Each(scenario.choices()), One("end"));
-    let head = Both(Head(scenario), choices);
-    let state = StateLines {
-        alloc,
-        machine: opened,
-    };
-    let opening = Both(Both(One("trace"), One("0 opening")), state);
-    let steps = StepsLines { alloc, machine };
-    let end = Both(One(SerialLine(agrees)), One("end"));
-    let last = Both(FinalState(machine), end);
-    Both(head, Both(opening, Both(steps, last))).write(sink, &mut line)
+    sections!(
+        Head(scenario),
+        AllLines(Each(scenario.choices())),
+        One("end"),
+        One("trace"),
+        One("0 opening"),
+        StateLines {
+            alloc,
+            machine: opened,
+        },
+        StepsLines { alloc, machine },
+        FinalState(machine),
+        One(SerialLine(agrees)),
+        One("end"),
+    )
+    .write(sink, &mut line)
 }
 
 /// The same, with what the test against the serial run says.
