@@ -85,6 +85,7 @@ considered_at kills count i d lt = at kills count i d (considered kills count) (
 
 -- ---- each considered one is there
 
+-- a choice is in a list
 abbrev pub Has : List Choice → Choice → Type 0
 Has cs c = (j : ℕ) × (j < length cs) × (get_or cs j Start ≡ c)
 
@@ -174,6 +175,7 @@ rank kills count (Take B) = 4 + count + length (killing kills count) + count + c
 rank kills count (Finish B) = 5 + count + length (killing kills count) + count + count
 rank kills count (Push B) = 6 + count + length (killing kills count) + count + count
 
+-- the choices of a list have ranks one after the other, from n on
 abbrev AreRanked : (Choice → ℕ) → ℕ → List Choice → Type 0
 AreRanked f n [] = Unit {0}
 AreRanked f n (c ∷ cs) = (f c ≡ n) × AreRanked f (n + 1) cs

@@ -9,6 +9,7 @@ use Rattle.zy_search.specs.Visits.{path_at, length_at, IsFresh, AreEnds, GoOnBy,
 use Rattle.zy_search.proofs.ChoiceLemmas.{ranked}
 use Rattle.zy_search.proofs.SearchLemmas.{before_it, it, near_push, old_or_new}
 
+-- the paths of a search
 abbrev Paths : Type 0
 Paths = List (List Choice)
 

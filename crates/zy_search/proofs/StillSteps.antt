@@ -42,6 +42,7 @@ use Rattle.zy_search.specs.Searches.{reached}
 use Rattle.zy_search.specs.Visits.{path_at, Visits, IsEdge, IsHere, IsTwin, IsNext, Notes}
 use Rattle.zy_search.proofs.SearchLemmas.{grows_not}
 
+-- where nothing comes of a move it leaves the view as it was
 abbrev Stays : View → Move → Type 0
 Stays v m = is_still m.outcome ≡ true → m.after ≡ v
 

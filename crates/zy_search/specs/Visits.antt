@@ -135,6 +135,12 @@ pub record IsUntried (p : Plan) (paths : List (List Choice)) (b : Branch) : Type
   pub considered : is_considered p.sought.kills (length p.start.scenario.programs) b.by ≡ true
   pub fresh : IsFresh paths b.from b.by
 
+-- it is about to make the choice of a branch, from a machine where the path of the branch leads
+pub record IsAbout (p : Plan) (paths : List (List Choice)) (shelf : Shelf) (b : Branch) (m : History) : Type 0 where
+  pub ready : IsReady p paths shelf b.from
+  pub choice : IsUntried p paths b
+  pub here : IsHere p.start paths b.from m
+
 -- the paths of old are at their places in new
 pub record Grows (old new : List (List Choice)) : Type 0 where
   pub longer : length old ≤ length new
@@ -166,6 +172,13 @@ abbrev pub MeetsWell : Plan → List (List Choice) → List (List Choice) → Br
 MeetsWell p old new b met.Noted = Notes p.start p.sought old new b.from b.by
 MeetsWell p old new b met.Shown = ShowsNext p.start p.sought old new b.from b.by
 MeetsWell p old new b met.Spent = IsFull p.start p.sought p.most old new b.from
+
+-- the same, with the machines that are kept and the twin of the machine here
+pub record Meets (p : Plan) (old new : List (List Choice)) (machines : Shelf) (b : Branch) (m : History) (second : Twin)
+    (x : Met) : Type 0 where
+  pub well : MeetsWell p old new b x
+  pub shelf : IsShelf p.start new machines
+  pub twin : IsSecond m second
 
 -- each choice from the state of the path at a place leads to a state of one of the paths
 pub record Expands (h : History) (q : Sought) (old new : List (List Choice)) (at : ℕ) : Type 0 where

@@ -2,8 +2,8 @@
 ghost use Rattle.std.specs.Prelude.{◌≡◌, ◌≤◌, ◌<◌, ◌+◌, ◌^◌, ◌++◌, ◌∷◌, [], IfOk, OnOk, None, true, false, length};
 ghost use Rattle.zy_isa.specs.Limits.{max_choices};
 ghost use Rattle.zy_isa.specs.declared.choice.Choice.{Choice as AChoice};
-ghost use Rattle.zy_search.specs.Visits.{path_at, length_at, IsKnown, IsFresh, IsHere, IsKept, IsNext, IsReady};
-ghost use Rattle.zy_search.specs.Visits.{IsSecond, IsShelf, IsUntried, Grows, MeetsWell, ExpandsWell};
+ghost use Rattle.zy_search.specs.Visits.{path_at, length_at, IsAbout, IsKnown, IsFresh, IsHere, IsKept, IsNext, IsReady};
+ghost use Rattle.zy_search.specs.Visits.{IsSecond, IsShelf, Grows, Meets, ExpandsWell};
 
 use crate::answer::{Expanded, Met};
 use crate::branch::Branch;
@@ -100,14 +100,10 @@ fn note_new(
     twin: &mut Twin,
     digest: u64,
 ) -> Result<Met, Fault>
-    requires ready { IsReady plan.now visited.old shelf.old branch.from }
-    requires choice { IsUntried plan.now visited.old branch }
-    requires here { IsHere plan.now.start visited.old branch.from here.now }
+    requires about { IsAbout plan.now visited.old shelf.old branch here.now }
     requires next { IsNext plan.now.start visited.old branch.from branch.by twin.old.machine }
     requires away { twin.old.is_back ≡ false }
-    ensures well { IfOk result (MeetsWell plan.now visited.old visited.new branch) }
-    ensures shelf { OnOk result (IsShelf plan.now.start visited.new shelf.new) }
-    ensures twin { OnOk result (IsSecond here.now twin.new) }
+    ensures { IfOk result (Meets plan.now visited.old visited.new shelf.new branch here.now twin.new) }
 {
     if shows_next(
         plan.alloc,
@@ -135,14 +131,10 @@ fn note(
     here: &Machine,
     twin: &mut Twin,
 ) -> Result<Met, Fault>
-    requires ready { IsReady plan.now visited.old shelf.old branch.from }
-    requires choice { IsUntried plan.now visited.old branch }
-    requires here { IsHere plan.now.start visited.old branch.from here.now }
+    requires about { IsAbout plan.now visited.old shelf.old branch here.now }
     requires next { IsNext plan.now.start visited.old branch.from branch.by twin.old.machine }
     requires away { twin.old.is_back ≡ false }
-    ensures well { IfOk result (MeetsWell plan.now visited.old visited.new branch) }
-    ensures shelf { OnOk result (IsShelf plan.now.start visited.new shelf.new) }
-    ensures twin { OnOk result (IsSecond here.now twin.new) }
+    ensures { IfOk result (Meets plan.now visited.old visited.new shelf.new branch here.now twin.new) }
 {
     match free_under(plan, visited, shelf, &twin.machine)? {
         None => Ok(Met::Noted),
@@ -159,14 +151,10 @@ fn meet(
     here: &Machine,
     twin: &mut Twin,
 ) -> Result<Met, Fault>
-    requires ready { IsReady plan.now visited.old shelf.old branch.from }
-    requires choice { IsUntried plan.now visited.old branch }
-    requires here { IsHere plan.now.start visited.old branch.from here.now }
+    requires about { IsAbout plan.now visited.old shelf.old branch here.now }
     requires room { length here.now.entries + 1 < max_choices }
     requires twin { IsSecond here.now twin.old }
-    ensures well { IfOk result (MeetsWell plan.now visited.old visited.new branch) }
-    ensures shelf { OnOk result (IsShelf plan.now.start visited.new shelf.new) }
-    ensures twin { OnOk result (IsSecond here.now twin.new) }
+    ensures { IfOk result (Meets plan.now visited.old visited.new shelf.new branch here.now twin.new) }
 {
     let outcome = twin.attempt(plan.alloc, here, branch.by)?;
     if is_still(outcome) {

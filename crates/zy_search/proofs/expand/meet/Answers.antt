@@ -3,12 +3,16 @@ use Rattle.std.proofs.Common.{◌∙◌, sym}
 use Rattle.zy_search.proofs.StillSteps.{still_known, next}
 use Rattle.zy_search.proofs.expand.meet.Goals as goal
 
-pub returns-then-is_still-clause-well : goal.returns-then-is_still-clause-well
-returns-then-is_still-clause-well c =
-    let r = c.requires.ready in
-    still_known c.args.plan.now.start c.args.here.now c.args.visited.now c.args.branch.from c.requires.here c.args.branch.by c.in_ok-outcome.outcome
-    c.in_ok-outcome.ensures.outcome
-    c.args.plan.now.sought r.kept.visits r.near r.there (sym c.is_still.ensures ∙ c.if-is_still.true)
+pub returns-then-is_still : goal.returns-then-is_still
+returns-then-is_still c =
+    let r = c.requires.about.ready in
+    record {
+      well = still_known c.args.plan.now.start c.args.here.now c.args.visited.now c.args.branch.from c.requires.about.here c.args.branch.by
+          c.in_ok-outcome.outcome c.in_ok-outcome.ensures.outcome
+          c.args.plan.now.sought r.kept.visits r.near r.there (sym c.is_still.ensures ∙ c.if-is_still.true);
+      shelf = r.kept.shelf;
+      twin = c.in_ok-outcome.ensures.second;
+    }
 
 pub note-requires-clause-away : goal.note-requires-clause-away
 note-requires-clause-away c = c.in_ok-outcome.ensures.back ∙ (sym c.is_still.ensures ∙ c.if-is_still.false)
@@ -16,5 +20,5 @@ note-requires-clause-away c = c.in_ok-outcome.ensures.back ∙ (sym c.is_still.e
 pub note-requires-clause-next : goal.note-requires-clause-next
 note-requires-clause-next c =
     let o = c.in_ok-outcome.ensures in
-    next c.args.plan.now.start c.args.here.now c.args.visited.now c.args.branch.from c.requires.here c.args.branch.by c.in_ok-outcome.outcome o.outcome
+    next c.args.plan.now.start c.args.here.now c.args.visited.now c.args.branch.from c.requires.about.here c.args.branch.by c.in_ok-outcome.outcome o.outcome
     c.attempt.new.self.machine o.second.scenario o.state (sym c.is_still.ensures ∙ c.if-is_still.false) o.longer o.room

@@ -6,21 +6,33 @@ use Rattle.zy_search.specs.Choices.{is_considered}
 use Rattle.zy_search.specs.Visits.{IsFresh, Notes}
 use Rattle.zy_search.proofs.SearchLemmas.{grows_not, grows_on}
 use Rattle.zy_search.proofs.EdgeLemmas.{by_next, fresh_one}
+use Rattle.zy_search.proofs.ShelfLemmas.{here_grown}
 use Rattle.zy_search.proofs.MeetLemmas.{element, found, is_one, lead_all, lead_next}
 use Rattle.zy_search.proofs.expand.meet_each.Goals as goal
 
-pub meet-requires-clause-choice : goal.meet-requires-clause-choice
-meet-requires-clause-choice c =
+pub meet-requires-clause-about : goal.meet-requires-clause-about
+meet-requires-clause-about c =
     let cs = c.args.plan.now.choices.items in
     let q = c.args.plan.now.sought in
     let n = length c.args.plan.now.start.scenario.programs in
     let lt : c.loop-i.i < length cs = omega (arith, c.loop-i-test.true, c.len-i-end.ensures) in
     let is = element cs c.loop-i.i c.index-choice.result.now lt c.index-choice.ensures in
+    let i = c.loop-i.invariant in
+    let there = c.requires.ready.there in
     record {
-      considered = subst (λ (d : Choice). is_considered q.kills n d ≡ true) (sym is) (is_one q.kills n c.loop-i.i cs c.requires.ready.whole lt);
-      fresh =
-          subst (IsFresh c.loop-i.visited c.args.at) (sym is) (fresh_one q.kills n c.loop-i.visited c.args.at c.loop-i.i cs c.requires.ready.whole lt
-          c.loop-i.invariant.by);
+      ready = record {
+        whole = c.requires.ready.whole;
+        kept = record { visits = i.visits; shelf = i.shelf };
+        near = i.near;
+        there = omega (arith, there, i.grows.longer);
+      };
+      choice = record {
+        considered = subst (λ (d : Choice). is_considered q.kills n d ≡ true) (sym is) (is_one q.kills n c.loop-i.i cs c.requires.ready.whole lt);
+        fresh =
+            subst (IsFresh c.loop-i.visited c.args.at) (sym is) (fresh_one q.kills n c.loop-i.visited c.args.at c.loop-i.i cs c.requires.ready.whole lt
+            i.by);
+      };
+      here = here_grown c.args.plan.now.start c.args.visited.now c.loop-i.visited c.args.at c.args.here.now i.grows there c.requires.here;
     }
 
 pub returns-in-Spent : goal.returns-in-Spent

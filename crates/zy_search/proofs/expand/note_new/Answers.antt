@@ -1,4 +1,4 @@
-use Rattle.std.proofs.Common.{◌≡◌, ◌∙◌, ◌+◌, ◌<◌, ◌++◌, ◌∷◌, [], ℕ, List, Bool, true, false, inr, refl, sym, subst, length, length-append, arith}
+use Rattle.std.proofs.Common.{◌≡◌, ◌∙◌, ◌+◌, ◌<◌, ◌++◌, ◌∷◌, [], ℕ, List, Bool, true, false, inr, refl, rules, sym, subst, length, length-append, arith}
 use Rattle.std.specs.Bool.{Decides}
 use Rattle.std.proofs.Math.Bool.{false≢true}
 use Rattle.zy_isa.specs.Scenario.{Scenario}
@@ -6,9 +6,10 @@ use Rattle.zy_isa.specs.declared.choice.Choice.{Choice}
 use Rattle.zy_table.specs.State.{State}
 use Rattle.zy_machine.specs.Histories.{History}
 use Rattle.zy_search.specs.declared.sought.Sought.{Sought}
+use Rattle.zy_search.specs.declared.twin.Twin.{Twin}
 use Rattle.zy_search.specs.Choices.{is_considered}
 use Rattle.zy_search.specs.Searches.{reached, Shows}
-use Rattle.zy_search.specs.Visits.{path_at, length_at, IsEdge, IsFresh, IsNext, Visits, Notes, IsVisited}
+use Rattle.zy_search.specs.Visits.{path_at, length_at, IsEdge, IsFresh, IsNext, IsSecond, Visits, Notes, IsVisited}
 use Rattle.zy_search.proofs.SearchLemmas.{reached_more, grows_not, grows_push, visits_push, visited_last, path_more}
 use Rattle.zy_search.proofs.EdgeLemmas.{apart_push, edge_push}
 use Rattle.zy_search.proofs.expand.note_new.Goals as goal
@@ -41,28 +42,47 @@ module _ (h : History) (q : Sought) (old : List (List Choice)) (at : ℕ) (c : C
         more = inr refl;
       })
 
-pub returns-then-branch-clause-well : goal.returns-then-branch-clause-well
-returns-then-branch-clause-well c =
+-- the twin is one choice further
+twin_away : (here : History) (twin : Twin) → twin.machine.scenario ≡ here.scenario → twin.is_back ≡ false → IsSecond here twin
+twin_away here twin same away = record { scenario = same; back = λ back. absurd (false≢true (sym away ∙ back)) }
+
+pub returns-then-branch : goal.returns-then-branch
+returns-then-branch c =
     let n = c.requires.next in
     let shown = shown_next c.args.plan.now.start c.args.plan.now.sought c.args.visited.now c.args.branch.from c.args.branch.by c.args.twin.now.machine n
     c.in_ok-shows_next.field-0 c.in_ok-shows_next.ensures.shows in
     record {
-      shows = shown.0 c.if-branch.true;
-      moved = n.moved;
-      grows = grows_not c.args.visited.now;
+      well = record {
+        shows = shown.0 c.if-branch.true;
+        moved = n.moved;
+        grows = grows_not c.args.visited.now;
+      };
+      shelf = search rules;
+      twin = twin_away c.args.here.now c.args.twin.now (n.scenario ∙ sym c.requires.about.here.scenario) c.requires.away;
     }
 
-pub returns-clause-well : goal.returns-clause-well
-returns-clause-well c =
-    let r = c.requires.ready in
-    noted c.args.plan.now.start c.args.plan.now.sought c.args.visited.now c.args.branch.from c.args.branch.by c.args.twin.now.machine c.requires.next
-    c.in_ok-shows_next.field-0 c.in_ok-shows_next.ensures.shows
-    c.keep.new.visited r.kept.visits r.near r.there c.requires.choice.fresh c.requires.choice.considered c.if-branch.false c.in_ok-keep.ensures.paths
+pub returns : goal.returns
+returns c =
+    let r = c.requires.about.ready in
+    let choice = c.requires.about.choice in
+    record {
+      well = noted c.args.plan.now.start c.args.plan.now.sought c.args.visited.now c.args.branch.from c.args.branch.by c.args.twin.now.machine
+          c.requires.next c.in_ok-shows_next.field-0 c.in_ok-shows_next.ensures.shows
+          c.keep.new.visited r.kept.visits r.near r.there choice.fresh choice.considered c.if-branch.false c.in_ok-keep.ensures.paths;
+      shelf = c.in_ok-keep.ensures.shelf;
+      twin = c.in_ok-keep.ensures.twin;
+    }
 
-pub returns-then-plan-len-clause-well : goal.returns-then-plan-len-clause-well
-returns-then-plan-len-clause-well c = record {
-  visits = c.requires.ready.kept.visits;
-  near = c.requires.ready.near;
-  grows = grows_not c.args.visited.now;
-  many = omega (arith, c.if-plan-len.true, c.len.ensures.value);
-}
+pub returns-then-plan-len : goal.returns-then-plan-len
+returns-then-plan-len c =
+    let r = c.requires.about.ready in
+    record {
+      well = record {
+        visits = r.kept.visits;
+        near = r.near;
+        grows = grows_not c.args.visited.now;
+        many = omega (arith, c.if-plan-len.true, c.len.ensures.value);
+      };
+      shelf = search rules;
+      twin = twin_away c.args.here.now c.args.twin.now (c.requires.next.scenario ∙ sym c.requires.about.here.scenario) c.requires.away;
+    }
