@@ -2,7 +2,7 @@
 ghost use Rattle.zy_check.specs.Differs.{verdict_text};
 
 use std::alloc::AllocError;
-use zy_io::{Decimal, Joined, Line, LineBuffer};
+use zy_io::{Decimal, Line, LineBuffer, joined};
 
 /// Whether an input is the listing of its scenario.
 #[derive(Clone, Copy, Debug, PartialEq, Eq)]
@@ -20,7 +20,7 @@ impl Line for Verdict {
     fn append(&self, line: &mut LineBuffer) -> Result<(), AllocError> {
         match self {
             Verdict::Table => "table".append(line),
-            Verdict::NotTable(number) => Joined("not table ", Decimal(*number)).append(line),
+            Verdict::NotTable(number) => joined!("not table ", Decimal(*number)).append(line),
         }
     }
 }

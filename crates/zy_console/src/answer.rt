@@ -11,7 +11,7 @@ use crate::command::command_of;
 use crate::shown::append_shown;
 use std::alloc::AllocError;
 use zy_debug::{Command, DebugFault, Debugger, Reply};
-use zy_io::{Decimal, Joined, Line, LineBuffer};
+use zy_io::{Decimal, Line, LineBuffer, joined};
 
 /// Appends a text and the end of its line.
 fn append_line<D: Line>(item: &D, line: &mut LineBuffer) -> Result<(), AllocError>
@@ -25,8 +25,7 @@ fn append_line<D: Line>(item: &D, line: &mut LineBuffer) -> Result<(), AllocErro
 fn append_stop(i: usize, m: usize, line: &mut LineBuffer) -> Result<(), AllocError>
     ensures { OnOk result (line.new ≡ line.old ++ line_of (codes "stop " ++ (decimal i ++ (codes " at " ++ decimal m)))) }
 {
-    let place = Joined(" at ", Decimal(m));
-    append_line(&Joined("stop ", Joined(Decimal(i), place)), line)
+    append_line(&joined!("stop ", Decimal(i), " at ", Decimal(m)), line)
 }
 
 /// Appends why a command is refused. Out of memory, there is no more to say.
@@ -47,10 +46,10 @@ fn obey(debugger: &mut Debugger, command: Command, line: &mut LineBuffer) -> Res
 {
     line.clear();
     match debugger.command(command) {
-        Ok(Reply::At(m)) => append_line(&Joined("at ", Decimal(m)), line),
+        Ok(Reply::At(m)) => append_line(&joined!("at ", Decimal(m)), line),
         Ok(Reply::Stop(i, m)) => append_stop(i, m, line),
-        Ok(Reply::Set(i)) => append_line(&Joined("stop ", Joined(Decimal(i), " set")), line),
-        Ok(Reply::Deleted(i)) => append_line(&Joined("deleted ", Decimal(i)), line),
+        Ok(Reply::Set(i)) => append_line(&joined!("stop ", Decimal(i), " set"), line),
+        Ok(Reply::Deleted(i)) => append_line(&joined!("deleted ", Decimal(i)), line),
         Ok(Reply::Shown(shown)) => append_shown(debugger.machine(), shown, line),
         Err(fault) => append_refusal(fault, line),
     }

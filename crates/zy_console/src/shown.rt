@@ -12,7 +12,7 @@ use zy_audit::lines::link::link_line;
 use zy_audit::lines::locked::page_reply;
 use zy_audit::lines::txn::txn_line;
 use zy_debug::Shown;
-use zy_io::{Decimal, Joined, Line, LineBuffer};
+use zy_io::{Decimal, Line, LineBuffer, joined};
 use zy_isa::Node;
 use zy_laws::laws::safe_counts;
 use zy_machine::Machine;
@@ -22,12 +22,17 @@ fn append_where(machine: &Machine, line: &mut LineBuffer) -> Result<(), AllocErr
     ensures { OnOk result (line.new ≡ line.old
         ++ line_of (where_text (length machine.now.entries) (length machine.now.scenario.choices) machine.now.state)) }
 {
-    let a = ModeText(machine.mode(Node::A));
-    let b = ModeText(machine.mode(Node::B));
-    let modes = Joined(" modes ", Joined(a, Joined(b' ', b)));
-    let all = Decimal(machine.scenario().choices().len());
-    let position = Joined(Decimal(machine.len()), Joined(" of ", Joined(all, modes)));
-    Joined("at ", position).append(line)?;
+    joined!(
+        "at ",
+        Decimal(machine.len()),
+        " of ",
+        Decimal(machine.scenario().choices().len()),
+        " modes ",
+        ModeText(machine.mode(Node::A)),
+        b' ',
+        ModeText(machine.mode(Node::B)),
+    )
+    .append(line)?;
     line.push(b'\n')
 }
 
