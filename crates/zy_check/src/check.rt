@@ -52,19 +52,19 @@ fn verdict_of(alloc: Global, input: &[u8]) -> Result<Verdict, CheckFault>
 pub fn check<S: Source>(alloc: Global, source: &mut S) -> Result<Verdict, CheckFault>
     requires { S.failures source.old < u64.MAX }
     // At a verdict the scenario part means a scenario, and the verdict is that of the input against its listing.
-    ensures found { IfOk result (λ v. IfSome (S.left source.old) (λ told. IsVerdict told v)) }
+    ensures found { IfOk result (λ v. IfSome (S.left source.old) (λ left. IsVerdict left v)) }
     // An input has no other verdict.
-    ensures one { IfOk result (λ v. IfSome (S.left source.old) (λ told. (other : AVerdict) → IsVerdict told other
+    ensures one { IfOk result (λ v. IfSome (S.left source.old) (λ left. (other : AVerdict) → IsVerdict left other
         → v ≡ other)) }
     // Where the scenario part means a scenario, that verdict comes, unless a call failed or there was no memory.
-    ensures only { IfSome (S.left source.old) (λ told. (sc : AScenario) → length told ≤ 4194304
-        → utf8_fault (text.cut told) ≡ None → Means (text.cut told) sc
-        → GivesVerdict result (spec.verdict told (listing_run sc))) }
+    ensures only { IfSome (S.left source.old) (λ left. (sc : AScenario) → length left ≤ 4194304
+        → utf8_fault (text.cut left) ≡ None → Means (text.cut left) sc
+        → GivesVerdict result (spec.verdict left (listing_run sc))) }
     // A refused scenario part is reported by its first fault.
     ensures fault { IfErr result (λ f. IfScenario f (λ r.
-        IfSome (S.left source.old) (λ told. input_fault (text.cut told) ≡ Some (fault_of r)))) }
+        IfSome (S.left source.old) (λ left. input_fault (text.cut left) ≡ Some (fault_of r)))) }
     // What is accepted has no fault.
-    ensures accepted { IfOk result (λ v. IfSome (S.left source.old) (λ told. input_fault (text.cut told) ≡ None)) }
+    ensures accepted { IfOk result (λ v. IfSome (S.left source.old) (λ left. input_fault (text.cut left) ≡ None)) }
     // The input is read whole; only where it has more than 4194304 bytes is it too long, and then one byte more is
     // read.
     ensures input { ReadsInput (S.left source.old) (S.left source.new) result }
