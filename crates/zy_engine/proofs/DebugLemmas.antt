@@ -1,5 +1,5 @@
 -- What the parts of `debug_bytes` make together.
-use Rattle.std.proofs.Common.{◌≡◌, ◌+◌, ◌∙◌, ℕ, List, [], Option, None, IfSome, Ok, Err, refl, sym, ap, subst, arith, append-nil, take, drop, length}
+use Rattle.std.proofs.Common.{◌≡◌, ◌≤◌, ◌+◌, ◌∙◌, ℕ, List, [], Option, None, IfSome, Result, Ok, Err, refl, sym, ap, subst, arith, append-nil, take, drop, length}
 use Rattle.std.specs.Io.KnownBytes.{Appends}
 use Rattle.zy_io.specs.Streams.{ReadsAll, ReadWhole}
 use Rattle.zy_io.specs.declared.reading.ReadFault.{ReadFault}
@@ -21,7 +21,7 @@ use Rattle.zy_engine.specs.Faults.{IfRefused, ReadsBefore, of_reading, of_writin
 use Rattle.zy_engine.specs.Inputs.{IsTextFault}
 use Rattle.zy_engine.specs.Engines.{Streams}
 use Rattle.zy_engine.specs.Debugs.{Debugs, AreReplies, commands_of}
-use Rattle.zy_engine.proofs.RunLemmas.{of-any, told-of}
+use Rattle.zy_engine.proofs.RunLemmas.{of-any, of_wrote, told-of}
 
 -- where nothing went out, nothing but a prefix did
 pub nothing_said : (a : Option (List ℕ)) (s : Session) (lines : List (List ℕ)) → SaysFront a a s lines
@@ -32,16 +32,16 @@ pub part_is : (input part : List ℕ) (n : ℕ) → part ≡ take n input → n 
 part_is input part n front cuts = front ∙ ap (λ k. take k input) cuts ∙ cut_taken input
 
 -- and its commands are the lines below the scenario part
-pub below_is : (input below : List ℕ) (n : ℕ) → below ≡ drop n input → n ≡ length (cut input) → lines_of below ≡ commands_of input
+below_is : (input below : List ℕ) (n : ℕ) → below ≡ drop n input → n ≡ length (cut input) → lines_of below ≡ commands_of input
 below_is input below n back cuts = ap lines_of (back ∙ ap (λ k. drop k input) cuts)
 
 -- ---- no scenario is accepted
 
-module _ (old : Streams) (left : Option (List ℕ)) (reads : ℕ) where
+module _ (old : Streams) (left : Option (List ℕ)) (reads given : ℕ) (bound : given ≤ old.given + 4194305) where
   -- before that nothing is written, whatever the fault
   stopped : (f : BenchFault) → IfRefused f (IfSome old.left (λ t. IsTextFault (cut t) f)) → ReadsBefore old.left left f → reads ≡ old.reads + reads_failed f
       → writes_failed f ≡ 0
-      → Debugs {X = Unit {0}} old (record old { left = left; reads = reads }) (Err f)
+      → Debugs {X = Unit {0}} old (record old { left = left; reads = reads; given = given }) (Err f)
   stopped f fault input calls writes = record {
     written = tt;
     front = of-any (λ t. (sc : Scenario) → Means (cut t) sc → SaysFront old.written old.written (opened sc) (commands_of t)) old.left
@@ -54,11 +54,12 @@ module _ (old : Streams) (left : Option (List ℕ)) (reads : ℕ) where
     refused = of-any (λ t. (input_fault (cut t) ≡ None → ⊥) → old.written ≡ old.written) old.left (λ t faulty. refl);
     reads = calls;
     writes = omega (arith, writes);
+    bound = bound;
   }
 
   -- the input was not read whole
   pub unread : (f : ReadFault) → ReadsAll old.left left old.reads reads (Err f)
-      → Debugs {X = Unit {0}} old (record old { left = left; reads = reads }) (Err (of_reading f))
+      → Debugs {X = Unit {0}} old (record old { left = left; reads = reads; given = given }) (Err (of_reading f))
   unread reading.Read h = stopped bench.Read tt h.0 h.1 refl
   unread reading.TooLong h = stopped bench.TooLong tt h.0 (omega (arith, h.1)) refl
   unread reading.Memory h = stopped bench.Memory tt h.0 (omega (arith, h.1)) refl
@@ -66,7 +67,7 @@ module _ (old : Streams) (left : Option (List ℕ)) (reads : ℕ) where
   -- the scenario part was refused
   pub unaccepted : (bytes : List ℕ) (f : BenchFault) → IfSome old.left (λ t. bytes ≡ t) → ReadWhole old.left left → reads ≡ old.reads
       → IsTextFault (cut bytes) f
-      → Debugs {X = Unit {0}} old (record old { left = left; reads = reads }) (Err f)
+      → Debugs {X = Unit {0}} old (record old { left = left; reads = reads; given = given }) (Err f)
   unaccepted bytes (bench.Input r) same whole calls h = stopped (bench.Input r) (told-of (λ t. IsTextFault (cut t) (bench.Input r)) old.left bytes same h) whole
       (omega (arith, calls)) refl
   unaccepted bytes (bench.Image f) same whole calls h = absurd h
@@ -78,13 +79,13 @@ module _ (old : Streams) (left : Option (List ℕ)) (reads : ℕ) where
 -- ---- a scenario is accepted
 
 -- the scenario that the part of an input means, alone
-pub record Accepted (bytes : List ℕ) (scenario : Scenario) : Type 0 where
+record Accepted (bytes : List ℕ) (scenario : Scenario) : Type 0 where
   pub meant : Means (cut bytes) scenario
   pub only : (sc : Scenario) → Means (cut bytes) sc → scenario ≡ sc
   pub right : input_fault (cut bytes) ≡ None
 
 -- the scenario that was accepted is that of the input
-pub accepted : (bytes part : List ℕ) (scenario : Scenario) → part ≡ cut bytes → Means part scenario → ((sc : Scenario) → Means part sc → scenario ≡ sc)
+accepted : (bytes part : List ℕ) (scenario : Scenario) → part ≡ cut bytes → Means part scenario → ((sc : Scenario) → Means part sc → scenario ≡ sc)
     → input_fault part ≡ None → Accepted bytes scenario
 accepted bytes part scenario is means only right = record {
   meant = subst (λ t. Means t scenario) is means;
@@ -93,7 +94,7 @@ accepted bytes part scenario is means only right = record {
 }
 
 module _ (old new : Streams) (bytes : List ℕ) (scenario : Scenario) (same : IfSome old.left (λ t. bytes ≡ t)) (whole : ReadWhole old.left new.left)
-    (calls : new.reads ≡ old.reads) (is : Accepted bytes scenario) where
+    (calls : new.reads ≡ old.reads) (is : Accepted bytes scenario) (bound : new.given ≤ old.given + 4194305) where
   -- a prefix of what is said of that scenario is one of what is said of each that the part means
   some_front : SaysFront old.written new.written (opened scenario) (commands_of bytes)
       → IfSome old.left (λ t. (sc : Scenario) → Means (cut t) sc → SaysFront old.written new.written (opened sc) (commands_of t))
@@ -109,38 +110,10 @@ module _ (old new : Streams) (bytes : List ℕ) (scenario : Scenario) (same : If
   a_right : IfSome old.left (λ t. (input_fault (cut t) ≡ None → ⊥) → new.written ≡ old.written)
   a_right = told-of (λ t. (input_fault (cut t) ≡ None → ⊥) → new.written ≡ old.written) old.left bytes same (λ faulty. absurd (faulty is.right))
 
-  -- the session was cut short
-  pub unfinished : (f : TextFault) → WroteReplies old.written new.written old.writes new.writes {X = Unit {0}} (Err f) (opened scenario) (commands_of bytes)
-      → Debugs {X = Unit {0}} old new (Err (of_writing f))
-  unfinished writing.Write h = record {
-    written = tt;
-    front = some_front h.1.0;
-    fault = tt;
-    input = whole;
-    accepted = tt;
-    quiet = λ q. absurd q;
-    silent = a_scenario;
-    refused = a_right;
-    reads = omega (arith, calls);
-    writes = h.1.1;
-  }
-  unfinished writing.Memory h = record {
-    written = tt;
-    front = some_front h.1.0;
-    fault = tt;
-    input = whole.0;
-    accepted = tt;
-    quiet = λ q. absurd q;
-    silent = a_scenario;
-    refused = a_right;
-    reads = omega (arith, calls);
-    writes = omega (arith, h.1.1);
-  }
-
-  -- the session came to the end of its commands
-  pub finished : (x : Unit {0}) → WroteReplies old.written new.written old.writes new.writes (Ok x) (opened scenario) (commands_of bytes)
-      → Debugs old new (Ok x)
-  finished x h = record {
+  -- what the session wrote, to the end of its commands or cut short
+  said : (w : Result (Unit {0}) TextFault) → WroteReplies old.written new.written old.writes new.writes w (opened scenario) (commands_of bytes)
+      → Debugs old new (of_wrote w)
+  said (Ok x) h = record {
     written = told-of (λ t. (out : List ℕ) × AreReplies t out × Appends old.written new.written out) old.left bytes same
         (h.1.0, record { scenario = scenario; meant = is.meant; session = h.0; says = h.1.1 }, h.1.2);
     front = some_front (record { session = h.0; out = h.1.0; says = h.1.1; front = (h.1.0, [], sym (append-nil h.1.0), h.1.2) });
@@ -152,4 +125,42 @@ module _ (old new : Streams) (bytes : List ℕ) (scenario : Scenario) (same : If
     refused = a_right;
     reads = omega (arith, calls);
     writes = omega (arith, h.1.3);
+    bound = bound;
   }
+  said (Err writing.Write) h = record {
+    written = tt;
+    front = some_front h.1.0;
+    fault = tt;
+    input = whole;
+    accepted = tt;
+    quiet = λ q. absurd q;
+    silent = a_scenario;
+    refused = a_right;
+    reads = omega (arith, calls);
+    writes = h.1.1;
+    bound = bound;
+  }
+  said (Err writing.Memory) h = record {
+    written = tt;
+    front = some_front h.1.0;
+    fault = tt;
+    input = whole.0;
+    accepted = tt;
+    quiet = λ q. absurd q;
+    silent = a_scenario;
+    refused = a_right;
+    reads = omega (arith, calls);
+    writes = omega (arith, h.1.1);
+    bound = bound;
+  }
+
+-- the same of the two parts that the code cuts the input into
+pub said-of-parts : (old new : Streams) (bytes part below : List ℕ) (n : ℕ) (scenario : Scenario) → IfSome old.left (λ t. bytes ≡ t)
+    → ReadWhole old.left new.left → new.reads ≡ old.reads → new.given ≤ old.given + 4194305
+    → part ≡ take n bytes → below ≡ drop n bytes → n ≡ length (cut bytes) → Means part scenario × (input_fault part ≡ None)
+    → ((sc : Scenario) → Means part sc → scenario ≡ sc) → (w : Result (Unit {0}) TextFault)
+    → WroteReplies old.written new.written old.writes new.writes w (opened scenario) (lines_of below) → Debugs old new (of_wrote w)
+said-of-parts old new bytes part below n scenario same whole calls bound front back cuts found only w wrote =
+    let is = accepted bytes part scenario (part_is bytes part n front cuts) found.0 only found.1 in
+    said old new bytes scenario same whole calls is bound w
+    (subst (λ lines. WroteReplies old.written new.written old.writes new.writes w (opened scenario) lines) (below_is bytes below n back cuts) wrote)

@@ -1,5 +1,5 @@
 -- What an engine's parts make together: a scenario is read, or none is, and then something of it is written.
-use Rattle.std.proofs.Common.{◌≡◌, ℕ, List, [], Option, None, Some, IfErr, IfOk, IfSome, Result, Ok, Err, refl, sym, subst, append-nil, arith}
+use Rattle.std.proofs.Common.{◌≡◌, ◌≤◌, ◌+◌, ℕ, List, [], Option, None, Some, IfErr, IfOk, IfSome, Result, Ok, Err, refl, sym, subst, append-nil, arith}
 use Rattle.std.proofs.KnownBytes.{Appends-nil}
 use Rattle.std.specs.Io.KnownBytes.{Appends}
 use Rattle.zy_io.specs.declared.writing.TextFault.{TextFault}
@@ -120,9 +120,10 @@ of_wrote (Err f) = Err (of_writing f)
 
 module _ (format : Format) (output : Scenario → List ℕ) (old : Streams) where
   -- an engine that took no scenario has written nothing
-  pub converts-none : {X : Type 0} (left : Option (List ℕ)) (reads : ℕ) (f : BenchFault) → TookNone format old.left left old.reads reads f
-      → Converts {X = X} format output old (record old { left = left; reads = reads }) (Err f)
-  converts-none left reads f none = record {
+  pub converts-none : {X : Type 0} (left : Option (List ℕ)) (reads given : ℕ) (f : BenchFault) → TookNone format old.left left old.reads reads f
+      → given ≤ old.given + 4194305
+      → Converts {X = X} format output old (record old { left = left; reads = reads; given = given }) (Err f)
+  converts-none left reads given f none bound = record {
     written = tt;
     front = each-of-any format old.left (λ sc. WroteFront old.written old.written (output sc)) (λ sc. WroteFront-nothing old.written (output sc));
     fault = none.fault;
@@ -133,9 +134,11 @@ module _ (format : Format) (output : Scenario → List ℕ) (old : Streams) wher
     refused = of-any (λ t. (HasNoFault format t → ⊥) → old.written ≡ old.written) old.left (λ t faulty. refl);
     reads = none.reads;
     writes = omega (arith, none.writes);
+    bound = bound;
   }
 
-  module _ (new : Streams) (scenario : Scenario) (took : Took format old.left new.left old.reads new.reads scenario) where
+  module _ (new : Streams) (scenario : Scenario) (took : Took format old.left new.left old.reads new.reads scenario)
+      (bound : new.given ≤ old.given + 4194305) where
     -- what went out is a prefix of the output of each scenario that the input stands for
     fronts : WroteFront old.written new.written (output scenario)
         → IfSome old.left (λ t. (sc : Scenario) → StandsFor format t sc → WroteFront old.written new.written (output sc))
@@ -167,6 +170,7 @@ module _ (format : Format) (output : Scenario → List ℕ) (old : Streams) wher
       refused = has-no-fault;
       reads = omega (arith, took.calls);
       writes = omega (arith, wrote.1);
+      bound = bound;
     }
     converts-wrote (Err Write) wrote = record {
       written = tt;
@@ -179,6 +183,7 @@ module _ (format : Format) (output : Scenario → List ℕ) (old : Streams) wher
       refused = has-no-fault;
       reads = omega (arith, took.calls);
       writes = wrote.1;
+      bound = bound;
     }
     converts-wrote (Err Memory) wrote = record {
       written = tt;
@@ -191,4 +196,5 @@ module _ (format : Format) (output : Scenario → List ℕ) (old : Streams) wher
       refused = has-no-fault;
       reads = omega (arith, took.calls);
       writes = omega (arith, wrote.1);
+      bound = bound;
     }

@@ -1,5 +1,5 @@
 -- What went out of a search.
-use Rattle.std.proofs.Common.{◌≡◌, ◌∙◌, ◌++◌, ℕ, List, Option, Err, sym, ap, arith, map}
+use Rattle.std.proofs.Common.{◌≡◌, ◌∙◌, ◌++◌, ℕ, List, Option, Err, sym, ap, append_assoc, arith, map}
 use Rattle.std.specs.List.{flat_map}
 use Rattle.std.proofs.lemmas.List.{map-append}
 use Rattle.zy_io.specs.Writing.{line_of, Wrote}
@@ -18,9 +18,10 @@ use Rattle.zy_engine.specs.Searching.{ran}
 
 -- the lines of a scenario with more choices behind its own
 pub canon-more : (sc : Scenario) (more : List Choice)
-    → flat_map line_of (head_texts sc ++ ((map choice_text sc.choices ++ map choice_text more) ++ end_texts)) ≡ canon (reordered sc (sc.choices ++ more))
+    → flat_map line_of (head_texts sc ++ (map choice_text sc.choices ++ (map choice_text more ++ end_texts))) ≡ canon (reordered sc (sc.choices ++ more))
 canon-more sc more =
-    ap (λ l. flat_map line_of (head_texts sc ++ (l ++ end_texts))) (sym (map-append choice_text sc.choices more))
+    ap (λ l. flat_map line_of (head_texts sc ++ l)) (sym (append_assoc (map choice_text sc.choices) (map choice_text more) end_texts))
+    ∙ ap (λ l. flat_map line_of (head_texts sc ++ (l ++ end_texts))) (sym (map-append choice_text sc.choices more))
     ∙ canon-parts (reordered sc (sc.choices ++ more))
 
 -- that nothing is known of any schedule is an answer

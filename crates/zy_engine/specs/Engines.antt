@@ -1,5 +1,5 @@
 -- What an engine does: it reads a scenario in a format, and writes something of it.
-use Rattle.std.specs.Prelude.{◌≡◌, ◌+◌, ℕ, List, Option, Result, IfErr, IfSome, OnOk}
+use Rattle.std.specs.Prelude.{◌≡◌, ◌≤◌, ◌+◌, ℕ, List, Option, Result, IfErr, IfSome, OnOk}
 use Rattle.std.specs.Io.KnownBytes.{Appends}
 use Rattle.zy_io.specs.Streams.{WroteFront}
 use Rattle.zy_isa.specs.Scenario.{Scenario}
@@ -8,18 +8,25 @@ use Rattle.zy_engine.specs.declared.format.Format.{Format}
 use Rattle.zy_engine.specs.Faults.{ReadsInput, failed_reads, failed_writes, IsQuiet, IfRefused}
 use Rattle.zy_engine.specs.Inputs.{StandsFor, HasNoFault, IsRefusal}
 
--- the bytes that the reader tells and that the writer holds, and the calls of each that failed
+-- the bytes that the reader tells and that the writer holds, the calls of each that failed, and how many bytes those of
+-- the reader gave
 pub record Streams : Type 0 where
   pub left : Option (List ℕ)
   pub written : Option (List ℕ)
   pub reads : ℕ
   pub writes : ℕ
+  pub given : ℕ
 
 -- those of a source and a sink, of which these are the members
-abbrev pub streams : {S K : Type 0} → (S → Option (List ℕ)) → (S → ℕ) → (K → Option (List ℕ)) → (K → ℕ) → S → K
-    → Streams
-streams left reads written writes source sink =
-    record { left = left source; written = written sink; reads = reads source; writes = writes sink }
+abbrev pub streams : {S K : Type 0} → (S → Option (List ℕ)) → (S → ℕ) → (S → ℕ) → (K → Option (List ℕ)) → (K → ℕ)
+    → S → K → Streams
+streams left reads given written writes source sink = record {
+  left = left source;
+  written = written sink;
+  reads = reads source;
+  writes = writes sink;
+  given = given source;
+}
 
 pub record Converts {X : Type 0} (format : Format) (output : Scenario → List ℕ) (old new : Streams)
     (result : Result X BenchFault) : Type 0 where
@@ -44,3 +51,5 @@ pub record Converts {X : Type 0} (format : Format) (output : Scenario → List �
   -- each fault of the reader and of the writer is one failed call
   pub reads : new.reads ≡ old.reads + failed_reads result
   pub writes : new.writes ≡ old.writes + failed_writes result
+  -- whatever the reader tells of its bytes, its calls give at most one more than the longest input has
+  pub bound : new.given ≤ old.given + 4194305

@@ -62,12 +62,8 @@ ReadsInput old new (Err f) = ReadsBefore old new f
 
 -- how many calls of the reader failed
 abbrev pub reads_failed : BenchFault → ℕ
-reads_failed (Input r) = 0
-reads_failed (Image r) = 0
-reads_failed TooLong = 0
 reads_failed Read = 1
-reads_failed Write = 0
-reads_failed Memory = 0
+reads_failed _ = 0
 
 abbrev pub failed_reads : {X : Type 0} → Result X BenchFault → ℕ
 failed_reads (Ok x) = 0
@@ -75,12 +71,8 @@ failed_reads (Err f) = reads_failed f
 
 -- how many calls of the writer failed or took no byte
 abbrev pub writes_failed : BenchFault → ℕ
-writes_failed (Input r) = 0
-writes_failed (Image r) = 0
-writes_failed TooLong = 0
-writes_failed Read = 0
 writes_failed Write = 1
-writes_failed Memory = 0
+writes_failed _ = 0
 
 abbrev pub failed_writes : {X : Type 0} → Result X BenchFault → ℕ
 failed_writes (Ok x) = 0

@@ -49,8 +49,7 @@ pub fn check_bytes<S: Source, K: Sink>(
     source: &mut S,
     sink: &mut K,
 ) -> Result<Verdict, BenchFault>
-    requires source { S.failures source.old < u64.MAX }
-    requires sink { K.failures sink.old < u64.MAX }
+    requires { (S.failures source.old < u64.MAX) × (K.failures sink.old < u64.MAX) }
     // At Ok the scenario part means a scenario, and the verdict is that of the input against its listing.
     ensures found { IfOk result (λ v. IfSome (S.left source.old) (λ told. IsVerdict told v)) }
     // Just the words of that verdict went out.

@@ -1,5 +1,5 @@
 //! The engine that debugs a scenario.
-ghost use Rattle.std.specs.Prelude.{◌≡◌, ◌<◌, ◌≤◌, ◌+◌};
+ghost use Rattle.std.specs.Prelude.{◌<◌, ◌≤◌};
 ghost use Rattle.zy_text.specs.Words.{lines_of};
 ghost use Rattle.zy_console.specs.Console.{WroteReplies, opened};
 ghost use Rattle.zy_engine.specs.Engines.{streams};
@@ -51,12 +51,9 @@ pub fn debug_bytes<S: Source, K: Sink>(
     requires every_most { every ≤ 4096 }
     requires ring_least { 1 ≤ ring }
     requires ring_most { ring ≤ 64 }
-    requires source { S.failures source.old < u64.MAX }
-    requires sink { K.failures sink.old < u64.MAX }
-    ensures debugs { let at = streams S.left S.failures K.written K.failures in
+    requires failures { (S.failures source.old < u64.MAX) × (K.failures sink.old < u64.MAX) }
+    ensures { let at = streams S.left S.failures S.given K.written K.failures in
         Debugs (at source.old sink.old) (at source.new sink.new) result }
-    // Whatever the reader tells of its bytes, its calls give at most one more than the longest input has.
-    ensures bound { S.given source.new ≤ S.given source.old + 4194305 }
 {
     let bytes = read_all(alloc, source)?;
     *input = bytes;

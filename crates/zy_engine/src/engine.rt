@@ -1,6 +1,6 @@
 //! The engines: bytes in, bytes out. Each leaves what it has read to its caller, who can look at it again where it is
 //! refused.
-ghost use Rattle.std.specs.Prelude.{◌<◌, ◌≤◌, ◌+◌};
+ghost use Rattle.std.specs.Prelude.{◌<◌};
 ghost use Rattle.zy_text.specs.Canon.{canon};
 ghost use Rattle.zy_image.specs.Image.{image_of};
 ghost use Rattle.zy_engine.specs.declared.format.Format.TheVariants.{Text, Image};
@@ -24,12 +24,9 @@ pub fn run_bytes<S: Source, K: Sink>(
     sink: &mut K,
     input: &mut Vec<u8>,
 ) -> Result<(), BenchFault>
-    requires source { S.failures source.old < u64.MAX }
-    requires sink { K.failures sink.old < u64.MAX }
-    ensures converts { let at = streams S.left S.failures K.written K.failures in
+    requires { (S.failures source.old < u64.MAX) × (K.failures sink.old < u64.MAX) }
+    ensures { let at = streams S.left S.failures S.given K.written K.failures in
         Converts format listing_run (at source.old sink.old) (at source.new sink.new) result }
-    // Whatever the reader tells of its bytes, its calls give at most one more than the longest input has.
-    ensures bound { S.given source.new ≤ S.given source.old + 4194305 }
 {
     convert(alloc, format, &Listing, source, sink, input)
 }
@@ -43,12 +40,9 @@ pub fn trace_bytes<S: Source, K: Sink>(
     sink: &mut K,
     input: &mut Vec<u8>,
 ) -> Result<(), BenchFault>
-    requires source { S.failures source.old < u64.MAX }
-    requires sink { K.failures sink.old < u64.MAX }
-    ensures converts { let at = streams S.left S.failures K.written K.failures in
+    requires { (S.failures source.old < u64.MAX) × (K.failures sink.old < u64.MAX) }
+    ensures { let at = streams S.left S.failures S.given K.written K.failures in
         Converts format trace (at source.old sink.old) (at source.new sink.new) result }
-    // Whatever the reader tells of its bytes, its calls give at most one more than the longest input has.
-    ensures bound { S.given source.new ≤ S.given source.old + 4194305 }
 {
     convert(alloc, format, &Trace, source, sink, input)
 }
@@ -61,12 +55,9 @@ pub fn asm_bytes<S: Source, K: Sink>(
     sink: &mut K,
     input: &mut Vec<u8>,
 ) -> Result<(), BenchFault>
-    requires source { S.failures source.old < u64.MAX }
-    requires sink { K.failures sink.old < u64.MAX }
-    ensures converts { let at = streams S.left S.failures K.written K.failures in
+    requires { (S.failures source.old < u64.MAX) × (K.failures sink.old < u64.MAX) }
+    ensures { let at = streams S.left S.failures S.given K.written K.failures in
         Converts Text image_of (at source.old sink.old) (at source.new sink.new) result }
-    // Whatever the reader tells of its bytes, its calls give at most one more than the longest input has.
-    ensures bound { S.given source.new ≤ S.given source.old + 4194305 }
 {
     convert(alloc, Format::Text, &Saved, source, sink, input)
 }
@@ -79,12 +70,9 @@ pub fn dis_bytes<S: Source, K: Sink>(
     sink: &mut K,
     input: &mut Vec<u8>,
 ) -> Result<(), BenchFault>
-    requires source { S.failures source.old < u64.MAX }
-    requires sink { K.failures sink.old < u64.MAX }
-    ensures converts { let at = streams S.left S.failures K.written K.failures in
+    requires { (S.failures source.old < u64.MAX) × (K.failures sink.old < u64.MAX) }
+    ensures { let at = streams S.left S.failures S.given K.written K.failures in
         Converts Image canon (at source.old sink.old) (at source.new sink.new) result }
-    // Whatever the reader tells of its bytes, its calls give at most one more than the longest input has.
-    ensures bound { S.given source.new ≤ S.given source.old + 4194305 }
 {
     convert(alloc, Format::Image, &Canonical, source, sink, input)
 }
@@ -98,12 +86,9 @@ fn convert<S: Source, K: Sink, O: Output>(
     sink: &mut K,
     input: &mut Vec<u8>,
 ) -> Result<(), BenchFault>
-    requires source { S.failures source.old < u64.MAX }
-    requires sink { K.failures sink.old < u64.MAX }
-    ensures converts { let at = streams S.left S.failures K.written K.failures in
+    requires { (S.failures source.old < u64.MAX) × (K.failures sink.old < u64.MAX) }
+    ensures { let at = streams S.left S.failures S.given K.written K.failures in
         Converts format (O.bytes output.now) (at source.old sink.old) (at source.new sink.new) result }
-    // Whatever the reader tells of its bytes, its calls give at most one more than the longest input has.
-    ensures bound { S.given source.new ≤ S.given source.old + 4194305 }
 {
     let scenario = read_scenario(alloc, format, source, input)?;
     output.write(alloc, scenario, sink)?;

@@ -1,5 +1,5 @@
 //! The engine that searches the schedules of a scenario.
-ghost use Rattle.std.specs.Prelude.{◌<◌, ◌≤◌, ◌+◌, ◌++◌};
+ghost use Rattle.std.specs.Prelude.{◌<◌, ◌++◌};
 ghost use Rattle.zy_io.specs.Writing.{Wrote};
 ghost use Rattle.zy_text.specs.Canon.{canon};
 ghost use Rattle.zy_threads.specs.Orders.{reordered};
@@ -10,7 +10,7 @@ use crate::faults::BenchFault;
 use crate::format::{Format, read_scenario};
 use std::alloc::Global;
 use zy_disasm::Head;
-use zy_io::{Both, LineBuffer, One, Section, Sink, Source, TextFault};
+use zy_io::{AllLines, LineBuffer, One, Section, Sink, Source, TextFault, sections};
 use zy_isa::{Choice, Scenario};
 use zy_machine::Machine;
 use zy_search::search::search;
@@ -29,8 +29,13 @@ fn write_found<K: Sink>(
         (canon (reordered scenario.now (scenario.now.choices ++ more.now))) }
 {
     let mut line = LineBuffer::new(alloc);
-    let choices = Both(Each(scenario.choices()), Each(more));
-    Both(Head(scenario), Both(choices, One("end"))).write(sink, &mut line)
+    sections!(
+        Head(scenario),
+        AllLines(Each(scenario.choices())),
+        AllLines(Each(more)),
+        One("end"),
+    )
+    .write(sink, &mut line)
 }
 
 /// Writes what goes out of an answer.
@@ -85,12 +90,9 @@ pub fn search_bytes<S: Source, K: Sink, W: Watch>(
     input: &mut Vec<u8>,
     watch: &mut W,
 ) -> Result<Report, BenchFault>
-    requires source { S.failures source.old < u64.MAX }
-    requires sink { K.failures sink.old < u64.MAX }
-    ensures converts { let at = streams S.left S.failures K.written K.failures in
+    requires { (S.failures source.old < u64.MAX) × (K.failures sink.old < u64.MAX) }
+    ensures { let at = streams S.left S.failures S.given K.written K.failures in
         ConvertsSearch format sought most (at source.old sink.old) (at source.new sink.new) result }
-    // Whatever the reader tells of its bytes, its calls give at most one more than the longest input has.
-    ensures bound { S.given source.new ≤ S.given source.old + 4194305 }
 {
     let scenario = read_scenario(alloc, format, source, input)?;
     let report = write_search(alloc, scenario, sought, most, sink, watch)?;

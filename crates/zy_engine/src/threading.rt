@@ -1,5 +1,5 @@
 //! The engine of a run by three threads.
-ghost use Rattle.std.specs.Prelude.{◌<◌, ◌≤◌, ◌+◌};
+ghost use Rattle.std.specs.Prelude.{◌<◌};
 ghost use Rattle.zy_engine.specs.Engines.{streams};
 ghost use Rattle.zy_engine.specs.Threads.{WroteMerge, ConvertsMerged};
 
@@ -42,12 +42,9 @@ pub fn threads_bytes<S: Source, K: Sink, R: Threads + Wait + Sync, G: Gate + Syn
     input: &mut Vec<u8>,
     gate: &G,
 ) -> Result<(), BenchFault>
-    requires source { S.failures source.old < u64.MAX }
-    requires sink { K.failures sink.old < u64.MAX }
-    ensures converts { let at = streams S.left S.failures K.written K.failures in
+    requires { (S.failures source.old < u64.MAX) × (K.failures sink.old < u64.MAX) }
+    ensures { let at = streams S.left S.failures S.given K.written K.failures in
         ConvertsMerged format (at source.old sink.old) (at source.new sink.new) result }
-    // Whatever the reader tells of its bytes, its calls give at most one more than the longest input has.
-    ensures bound { S.given source.new ≤ S.given source.old + 4194305 }
 {
     let scenario = read_scenario(alloc, format, source, input)?;
     write_threads(rt, alloc, scenario, gate, sink)?;

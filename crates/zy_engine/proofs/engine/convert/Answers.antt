@@ -5,19 +5,19 @@ use Rattle.zy_engine.specs.Engines.{streams}
 use Rattle.zy_engine.proofs.RunLemmas.{converts-none, converts-wrote}
 use Rattle.zy_engine.proofs.engine.convert.Goals as goal
 
-pub returns-in_err-scenario-clause-converts : goal.returns-in_err-scenario-clause-converts
-returns-in_err-scenario-clause-converts g c =
-    let at = streams g.S.Source.left g.S.Source.failures g.K.Sink.written g.K.Sink.failures in
+pub returns-in_err-scenario : goal.returns-in_err-scenario
+returns-in_err-scenario g c =
+    let at = streams g.S.Source.left g.S.Source.failures g.S.Source.given g.K.Sink.written g.K.Sink.failures in
     let source = c.read_scenario.new.source in
     let p = err_from_is_err_and c.from_residual.result c.from_residual.ensures.1 in
     rw (p.1, p.2) (
     converts-none c.args.format (g.O.Output.bytes c.args.output.now) (at c.args.source.now c.args.sink.now) (g.S.Source.left source)
-    (g.S.Source.failures source)
-    c.in_err-scenario.field-0.0 c.in_err-scenario.ensures.takes
+    (g.S.Source.failures source) (g.S.Source.given source)
+    c.in_err-scenario.field-0.0 c.in_err-scenario.ensures.takes c.read_scenario.ensures.bound
     )
 
-pub returns-clause-converts : goal.returns-clause-converts
-returns-clause-converts g c =
-    let at = streams g.S.Source.left g.S.Source.failures g.K.Sink.written g.K.Sink.failures in
+pub returns : goal.returns
+returns g c =
+    let at = streams g.S.Source.left g.S.Source.failures g.S.Source.given g.K.Sink.written g.K.Sink.failures in
     converts-wrote c.args.format (g.O.Output.bytes c.args.output.now) (at c.args.source.now c.args.sink.now) (at c.read_scenario.new.source c.write.new.sink)
-    c.in_ok-scenario.scenario c.in_ok-scenario.ensures.takes (Ok c.in_ok-write.field-0) c.in_ok-write.ensures
+    c.in_ok-scenario.scenario c.in_ok-scenario.ensures.takes c.read_scenario.ensures.bound (Ok c.in_ok-write.field-0) c.in_ok-write.ensures

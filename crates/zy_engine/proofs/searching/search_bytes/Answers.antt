@@ -10,9 +10,9 @@ use Rattle.zy_engine.proofs.RunLemmas.{converts-none, converts-wrote, each-of-an
 use Rattle.zy_engine.proofs.SearchLemmas.{nothing_known}
 use Rattle.zy_engine.proofs.searching.search_bytes.Goals as goal
 
-pub returns-in_err-scenario-clause-converts : goal.returns-in_err-scenario-clause-converts
-returns-in_err-scenario-clause-converts g c =
-    let at = streams g.S.Source.left g.S.Source.failures g.K.Sink.written g.K.Sink.failures in
+pub returns-in_err-scenario : goal.returns-in_err-scenario
+returns-in_err-scenario g c =
+    let at = streams g.S.Source.left g.S.Source.failures g.S.Source.given g.K.Sink.written g.K.Sink.failures in
     let source = c.read_scenario.new.source in
     let q = c.args.sought in
     let p = err_from_is_err_and c.from_residual.result c.from_residual.ensures.1 in
@@ -22,13 +22,13 @@ returns-in_err-scenario-clause-converts g c =
       returned = tt;
       due = tt;
       converts = converts-none c.args.format (λ sc. text_of sc (Spent 0)) (at c.args.source.now c.args.sink.now) (g.S.Source.left source)
-          (g.S.Source.failures source)
-          c.in_err-scenario.field-0.0 c.in_err-scenario.ensures.takes;
+          (g.S.Source.failures source) (g.S.Source.given source)
+          c.in_err-scenario.field-0.0 c.in_err-scenario.ensures.takes c.read_scenario.ensures.bound;
     })
 
-pub returns-in_err-report-clause-converts : goal.returns-in_err-report-clause-converts
-returns-in_err-report-clause-converts g c =
-    let at = streams g.S.Source.left g.S.Source.failures g.K.Sink.written g.K.Sink.failures in
+pub returns-in_err-report : goal.returns-in_err-report
+returns-in_err-report g c =
+    let at = streams g.S.Source.left g.S.Source.failures g.S.Source.given g.K.Sink.written g.K.Sink.failures in
     let old = at c.args.source.now c.args.sink.now in
     let new = at c.read_scenario.new.source c.write_search.new.sink in
     let q = c.args.sought in
@@ -41,12 +41,12 @@ returns-in_err-report-clause-converts g c =
       is = took-each c.args.format old.left new.left old.reads new.reads (λ (sc : Scenario). IsAnswer (ran sc) q wrote.answer) scenario took wrote.is;
       returned = tt;
       due = tt;
-      converts = converts-wrote c.args.format (λ sc. text_of sc wrote.answer) old new scenario took (Err c.in_err-report.field-0.0) wrote.wrote;
+      converts = converts-wrote c.args.format (λ sc. text_of sc wrote.answer) old new scenario took c.read_scenario.ensures.bound (Err c.in_err-report.field-0.0) wrote.wrote;
     })
 
-pub returns-clause-converts : goal.returns-clause-converts
-returns-clause-converts g c =
-    let at = streams g.S.Source.left g.S.Source.failures g.K.Sink.written g.K.Sink.failures in
+pub returns : goal.returns
+returns g c =
+    let at = streams g.S.Source.left g.S.Source.failures g.S.Source.given g.K.Sink.written g.K.Sink.failures in
     let old = at c.args.source.now c.args.sink.now in
     let new = at c.read_scenario.new.source c.write_search.new.sink in
     let q = c.args.sought in
@@ -59,5 +59,5 @@ returns-clause-converts g c =
       returned = wrote.returned;
       due = took-each c.args.format old.left new.left old.reads new.reads (λ (sc : Scenario). IsDue (ran sc) q c.args.most c.in_ok-report.report.answer)
           scenario took wrote.due;
-      converts = converts-wrote c.args.format (λ sc. text_of sc wrote.answer) old new scenario took (Ok c.in_ok-report.report) wrote.wrote;
+      converts = converts-wrote c.args.format (λ sc. text_of sc wrote.answer) old new scenario took c.read_scenario.ensures.bound (Ok c.in_ok-report.report) wrote.wrote;
     }

@@ -10,22 +10,22 @@ use Rattle.zy_engine.proofs.RunLemmas.{converts-none, converts-wrote, each-of-an
 use Rattle.zy_engine.proofs.MergeLemmas.{merge-self}
 use Rattle.zy_engine.proofs.threading.threads_bytes.Goals as goal
 
-pub returns-in_err-scenario-clause-converts : goal.returns-in_err-scenario-clause-converts
-returns-in_err-scenario-clause-converts g c =
-    let at = streams g.S.Source.left g.S.Source.failures g.K.Sink.written g.K.Sink.failures in
+pub returns-in_err-scenario : goal.returns-in_err-scenario
+returns-in_err-scenario g c =
+    let at = streams g.S.Source.left g.S.Source.failures g.S.Source.given g.K.Sink.written g.K.Sink.failures in
     let source = c.read_scenario.new.source in
     let p = err_from_is_err_and c.from_residual.result c.from_residual.ensures.1 in
     rw (p.1, p.2) (record {
       order = λ sc. sc.choices;
       merge = each-of-any c.args.format (g.S.Source.left c.args.source.now) (λ (sc : Scenario). IsMerge sc.choices sc.choices) merge-self;
       converts = converts-none c.args.format (λ sc. listing_run (reordered sc sc.choices)) (at c.args.source.now c.args.sink.now) (g.S.Source.left source)
-          (g.S.Source.failures source)
-          c.in_err-scenario.field-0.0 c.in_err-scenario.ensures.takes;
+          (g.S.Source.failures source) (g.S.Source.given source)
+          c.in_err-scenario.field-0.0 c.in_err-scenario.ensures.takes c.read_scenario.ensures.bound;
     })
 
-pub returns-in_err-write_threads-clause-converts : goal.returns-in_err-write_threads-clause-converts
-returns-in_err-write_threads-clause-converts g c =
-    let at = streams g.S.Source.left g.S.Source.failures g.K.Sink.written g.K.Sink.failures in
+pub returns-in_err-write_threads : goal.returns-in_err-write_threads
+returns-in_err-write_threads g c =
+    let at = streams g.S.Source.left g.S.Source.failures g.S.Source.given g.K.Sink.written g.K.Sink.failures in
     let old = at c.args.source.now c.args.sink.now in
     let new = at c.read_scenario.new.source c.write_threads.new.sink in
     let scenario = c.in_ok-scenario.scenario in
@@ -35,13 +35,13 @@ returns-in_err-write_threads-clause-converts g c =
     rw (p.1, p.2) (record {
       order = λ sc. wrote.order;
       merge = took-each c.args.format old.left new.left old.reads new.reads (λ (sc : Scenario). IsMerge wrote.order sc.choices) scenario took wrote.merge;
-      converts = converts-wrote c.args.format (λ sc. listing_run (reordered sc wrote.order)) old new scenario took
+      converts = converts-wrote c.args.format (λ sc. listing_run (reordered sc wrote.order)) old new scenario took c.read_scenario.ensures.bound
           (Err c.in_err-write_threads.field-0.0) wrote.wrote;
     })
 
-pub returns-clause-converts : goal.returns-clause-converts
-returns-clause-converts g c =
-    let at = streams g.S.Source.left g.S.Source.failures g.K.Sink.written g.K.Sink.failures in
+pub returns : goal.returns
+returns g c =
+    let at = streams g.S.Source.left g.S.Source.failures g.S.Source.given g.K.Sink.written g.K.Sink.failures in
     let old = at c.args.source.now c.args.sink.now in
     let new = at c.read_scenario.new.source c.write_threads.new.sink in
     let scenario = c.in_ok-scenario.scenario in
@@ -50,6 +50,6 @@ returns-clause-converts g c =
     record {
       order = λ sc. wrote.order;
       merge = took-each c.args.format old.left new.left old.reads new.reads (λ (sc : Scenario). IsMerge wrote.order sc.choices) scenario took wrote.merge;
-      converts = converts-wrote c.args.format (λ sc. listing_run (reordered sc wrote.order)) old new scenario took
+      converts = converts-wrote c.args.format (λ sc. listing_run (reordered sc wrote.order)) old new scenario took c.read_scenario.ensures.bound
           (Ok c.in_ok-write_threads.field-0) wrote.wrote;
     }
