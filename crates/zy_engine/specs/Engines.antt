@@ -31,13 +31,13 @@ streams left reads given written writes source sink = record {
 pub record Converts {X : Type 0} (format : Format) (output : Scenario → List ℕ) (old new : Streams)
     (result : Result X BenchFault) : Type 0 where
   -- at Ok the input stands for a scenario, and exactly its output went out
-  pub written : OnOk result (IfSome old.left (λ told. (sc : Scenario) × StandsFor format told sc
+  pub written : OnOk result (IfSome old.left (λ bytes. (sc : Scenario) × StandsFor format bytes sc
       × Appends old.written new.written (output sc)))
   -- whatever comes, nothing but a prefix of the output of a scenario that the input stands for went out
-  pub front : IfSome old.left (λ told. (sc : Scenario) → StandsFor format told sc
+  pub front : IfSome old.left (λ bytes. (sc : Scenario) → StandsFor format bytes sc
       → WroteFront old.written new.written (output sc))
   -- a refused input is reported by its first fault
-  pub fault : IfErr result (λ f. IfRefused f (IfSome old.left (λ told. IsRefusal format told f)))
+  pub fault : IfErr result (λ f. IfRefused f (IfSome old.left (λ bytes. IsRefusal format bytes f)))
   -- the input is read whole; only where it has more than 4194304 bytes is it too long, and then one byte more is read
   pub input : ReadsInput old.left new.left result
   -- what is accepted has no fault
@@ -45,9 +45,9 @@ pub record Converts {X : Type 0} (format : Format) (output : Scenario → List �
   -- before the input is read and accepted nothing is written
   pub quiet : IfErr result (λ f. IsQuiet f → new.written ≡ old.written)
   -- where the input stands for no scenario nothing is written, whatever the fault
-  pub silent : IfSome old.left (λ told. ((sc : Scenario) → StandsFor format told sc → ⊥) → new.written ≡ old.written)
+  pub silent : IfSome old.left (λ bytes. ((sc : Scenario) → StandsFor format bytes sc → ⊥) → new.written ≡ old.written)
   -- nor is anything written where it has a fault
-  pub refused : IfSome old.left (λ told. (HasNoFault format told → ⊥) → new.written ≡ old.written)
+  pub refused : IfSome old.left (λ bytes. (HasNoFault format bytes → ⊥) → new.written ≡ old.written)
   -- each fault of the reader and of the writer is one failed call
   pub reads : new.reads ≡ old.reads + failed_reads result
   pub writes : new.writes ≡ old.writes + failed_writes result

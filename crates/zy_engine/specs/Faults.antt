@@ -87,7 +87,7 @@ IsQuiet Read = Unit {0}
 IsQuiet Write = ⊥
 IsQuiet Memory = ⊥
 
--- a fault of what was read: told by its first fault
+-- a fault of what was read: reported by its first fault
 abbrev pub IfRefused : BenchFault → Type 0 → Type 0
 IfRefused (Input r) P = P
 IfRefused (Image r) P = P

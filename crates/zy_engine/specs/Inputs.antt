@@ -38,21 +38,21 @@ abbrev pub IsRefusal : Format → List ℕ → BenchFault → Type 0
 IsRefusal format.Text bytes f = IsTextFault bytes f
 IsRefusal format.Image bytes f = IsImageFault bytes f
 
--- A reader told the bytes `told` and tells `left` now, and the number of its calls that failed went from before to
--- after.
-module _ (format : Format) (told left : Option (List ℕ)) (before after : ℕ) where
+-- What a reader reports of its bytes was `was` and is `left` now, and the number of its calls that failed went from
+-- before to after.
+module _ (format : Format) (was left : Option (List ℕ)) (before after : ℕ) where
   -- the input was read whole: it stands for this scenario alone, and has no fault
   pub record Took (scenario : Scenario) : Type 0 where
-    pub stands : IfSome told (λ bytes. StandsFor format bytes scenario)
-    pub only : IfSome told (λ bytes. (other : Scenario) → StandsFor format bytes other → scenario ≡ other)
-    pub right : IfSome told (HasNoFault format)
-    pub whole : ReadWhole told left
+    pub stands : IfSome was (λ bytes. StandsFor format bytes scenario)
+    pub only : IfSome was (λ bytes. (other : Scenario) → StandsFor format bytes other → scenario ≡ other)
+    pub right : IfSome was (HasNoFault format)
+    pub whole : ReadWhole was left
     pub calls : after ≡ before
 
   -- it was not read to its end, or it is refused; no call of a writer has failed
   pub record TookNone (f : BenchFault) : Type 0 where
-    pub fault : IfRefused f (IfSome told (λ bytes. IsRefusal format bytes f))
-    pub input : ReadsBefore told left f
+    pub fault : IfRefused f (IfSome was (λ bytes. IsRefusal format bytes f))
+    pub input : ReadsBefore was left f
     pub reads : after ≡ before + reads_failed f
     pub writes : writes_failed f ≡ 0
 

@@ -40,8 +40,8 @@ pub record WroteAnswer (sc : Scenario) (q : Sought) (most : ℕ) (old new : Opti
 pub record ConvertsSearch (format : Format) (q : Sought) (most : ℕ) (old new : Streams)
     (result : Result Report BenchFault) : Type 0 where
   pub answer : Answer
-  pub is : IfSome old.left (λ told. (sc : Scenario) → StandsFor format told sc → IsAnswer (ran sc) q answer)
+  pub is : IfSome old.left (λ bytes. (sc : Scenario) → StandsFor format bytes sc → IsAnswer (ran sc) q answer)
   pub returned : IfOk result (λ r. r.answer ≡ answer)
-  pub due : IfOk result (λ r. IfSome old.left (λ told. (sc : Scenario) → StandsFor format told sc
+  pub due : IfOk result (λ r. IfSome old.left (λ bytes. (sc : Scenario) → StandsFor format bytes sc
       → IsDue (ran sc) q most r.answer))
   pub converts : Converts format (λ sc. text_of sc answer) old new result

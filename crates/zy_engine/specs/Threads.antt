@@ -26,5 +26,5 @@ pub record WroteMerge {X : Type 0} (sc : Scenario) (old new : Option (List ℕ))
 pub record ConvertsMerged {X : Type 0} (format : Format) (old new : Streams)
     (result : Result X BenchFault) : Type 0 where
   pub order : Scenario → List Choice
-  pub merge : IfSome old.left (λ told. (sc : Scenario) → StandsFor format told sc → IsMerge (order sc) sc.choices)
+  pub merge : IfSome old.left (λ bytes. (sc : Scenario) → StandsFor format bytes sc → IsMerge (order sc) sc.choices)
   pub converts : Converts format (λ sc. listing_run (reordered sc (order sc))) old new result

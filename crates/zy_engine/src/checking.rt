@@ -51,24 +51,24 @@ pub fn check_bytes<S: Source, K: Sink>(
 ) -> Result<Verdict, BenchFault>
     requires { (S.failures source.old < u64.MAX) × (K.failures sink.old < u64.MAX) }
     // At Ok the scenario part means a scenario, and the verdict is that of the input against its listing.
-    ensures found { IfOk result (λ v. IfSome (S.left source.old) (λ told. IsVerdict told v)) }
+    ensures found { IfOk result (λ v. IfSome (S.left source.old) (λ bytes. IsVerdict bytes v)) }
     // Just the words of that verdict went out.
     ensures written { IfOk result (λ v. Appends (K.written sink.old) (K.written sink.new) (verdict_line v)) }
     // Where the scenario part means a scenario, that verdict comes, unless a call failed or there was no memory.
-    ensures only { IfSome (S.left source.old) (λ told. (sc : AScenario) → length told ≤ 4194304
-        → utf8_fault (cut told) ≡ None → Means (cut told) sc
-        → GivesVerdict result (differs.verdict told (listing_run sc))) }
+    ensures only { IfSome (S.left source.old) (λ bytes. (sc : AScenario) → length bytes ≤ 4194304
+        → utf8_fault (cut bytes) ≡ None → Means (cut bytes) sc
+        → GivesVerdict result (differs.verdict bytes (listing_run sc))) }
     // Whatever comes, nothing but a prefix of the words of the input's verdict went out.
-    ensures front { IfSome (S.left source.old) (λ told. (v : AVerdict) → IsVerdict told v
+    ensures front { IfSome (S.left source.old) (λ bytes. (v : AVerdict) → IsVerdict bytes v
         → WroteFront (K.written sink.old) (K.written sink.new) (verdict_line v)) }
     // Only after a failed write may less than a verdict have gone out: before any other fault nothing is written.
     ensures quiet { IfErr result (λ f. IsBefore f → K.written sink.new ≡ K.written sink.old) }
     // A refused scenario part is reported by its first fault.
-    ensures fault { IfErr result (λ f. IfRefused f (IfSome (S.left source.old) (λ told. IsTextFault (cut told) f))) }
+    ensures fault { IfErr result (λ f. IfRefused f (IfSome (S.left source.old) (λ bytes. IsTextFault (cut bytes) f))) }
     // What is accepted has no fault.
-    ensures accepted { IfOk result (λ v. IfSome (S.left source.old) (λ told. input_fault (cut told) ≡ None)) }
+    ensures accepted { IfOk result (λ v. IfSome (S.left source.old) (λ bytes. input_fault (cut bytes) ≡ None)) }
     // Where it has a fault nothing is written, whatever comes.
-    ensures refused { IfSome (S.left source.old) (λ told. (input_fault (cut told) ≡ None → ⊥)
+    ensures refused { IfSome (S.left source.old) (λ bytes. (input_fault (cut bytes) ≡ None → ⊥)
         → K.written sink.new ≡ K.written sink.old) }
     // The input is read whole; only where it has more than 4194304 bytes is it too long, and then one byte more is
     // read.
