@@ -1,5 +1,6 @@
 -- What the parts of `debug_bytes` make together.
-use Rattle.std.proofs.Common.{◌≡◌, ◌≤◌, ◌+◌, ◌∙◌, ℕ, List, [], Option, None, IfSome, Result, Ok, Err, refl, sym, ap, subst, arith, append-nil, take, drop, length}
+use Rattle.std.proofs.Common.{◌≡◌, ◌≤◌, ◌+◌, ◌∙◌, ℕ, List, [], Option, None, IfSome, Result, Ok, Err, refl, sym, ap, subst, arith, append-nil}
+use Rattle.std.proofs.Common.{take, drop, length}
 use Rattle.std.specs.Io.KnownBytes.{Appends}
 use Rattle.zy_io.specs.Streams.{ReadsAll, ReadWhole}
 use Rattle.zy_io.specs.declared.reading.ReadFault.{ReadFault}

@@ -41,7 +41,8 @@ returns-in_err-report g c =
       is = took-each c.args.format old.left new.left old.reads new.reads (λ (sc : Scenario). IsAnswer (ran sc) q wrote.answer) scenario took wrote.is;
       returned = tt;
       due = tt;
-      converts = converts-wrote c.args.format (λ sc. text_of sc wrote.answer) old new scenario took c.read_scenario.ensures.bound (Err c.in_err-report.field-0.0) wrote.wrote;
+      converts = converts-wrote c.args.format (λ sc. text_of sc wrote.answer) old new scenario took c.read_scenario.ensures.bound
+          (Err c.in_err-report.field-0.0) wrote.wrote;
     })
 
 pub returns : goal.returns
@@ -59,5 +60,6 @@ returns g c =
       returned = wrote.returned;
       due = took-each c.args.format old.left new.left old.reads new.reads (λ (sc : Scenario). IsDue (ran sc) q c.args.most c.in_ok-report.report.answer)
           scenario took wrote.due;
-      converts = converts-wrote c.args.format (λ sc. text_of sc wrote.answer) old new scenario took c.read_scenario.ensures.bound (Ok c.in_ok-report.report) wrote.wrote;
+      converts = converts-wrote c.args.format (λ sc. text_of sc wrote.answer) old new scenario took c.read_scenario.ensures.bound
+          (Ok c.in_ok-report.report) wrote.wrote;
     }
