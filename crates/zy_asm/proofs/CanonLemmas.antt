@@ -1,5 +1,5 @@
 -- The canonical text means its scenario.
-use Rattle.std.proofs.Common.{◌≡◌, ℕ, ◌+◌, ◌-◌, ◌*◌, ◌^◌, ◌<◌, ◌≤◌, Bool, true, false, not, ◌&&◌, ◌==◌, nat_le, nat_lt, List, [], ◌∷◌, ◌++◌, length, map}
+use Rattle.std.proofs.Common.{◌≡◌, ℕ, ◌+◌, ◌-◌, ◌*◌, ◌^◌, ◌<◌, ◌≤◌, Bool, true, false, not, ◌&&◌, ◌==◌, nat_le, List, [], ◌∷◌, ◌++◌, length, map}
 use Rattle.std.proofs.Common.{filter, Some, None, refl, sym, ap, subst, arith, rules, append_assoc, append-nil, lit<, codes, inl, inr}
 use Rattle.std.specs.Fmt.{decimal}
 use Rattle.std.specs.List.{flat_map, slice_split, prefix_len}
@@ -27,17 +27,17 @@ use Rattle.zy_isa.specs.declared.choice.Choice.TheVariants.{Start, Begin, Kill, 
 use Rattle.zy_text.specs.Words.{is_space, is_word, without_comment, lines_of, has_words, lines_with_words, number_of, digits_after, spaced}
 use Rattle.zy_isa.specs.Operations.{mnemonic, parts_of}
 use Rattle.zy_text.specs.Canon.{node_text, rule_text, reg_text, parts_words, instr_words, choice_words, row_words, program_words, canon_words, canon}
-use Rattle.zy_io.specs.Writing.{line_of}
 use Rattle.zy_isa.specs.Rows.{RowsFit}
 use Rattle.zy_isa.specs.Programs.{PartsFit, HasValue, Values}
 use Rattle.zy_isa.specs.Choices.{names_below}
 use Rattle.zy_isa.specs.Scenario.{Scenario, IsScenario, ArePrograms, AreNamed}
 use Rattle.zy_text.specs.Text as m
 use Rattle.zy_text.specs.Names.{Mark, AreNew}
-use Rattle.zy_text.specs.Text.{Code, Written, Times, Draft, Statement, Spells, SpellsParts, SpellsInstr, SpellsChoice, SpellEach, instrs_of, labels_of}
+use Rattle.zy_text.specs.Text.{Code, Written, Times, Draft, Statement, SpellsParts, SpellsInstr, SpellsChoice, SpellEach, instrs_of, labels_of}
 use Rattle.zy_text.specs.Text.{names_of, Headed, Labelled, IsDraftOf, program_statements, repeated, statements, Means}
 use Rattle.zy_isa.proofs.OperationLemmas.{each}
 use Rattle.zy_isa.proofs.ResultLemmas.{both}
+use Rattle.zy_text.proofs.CanonCut.{not_true, text_of, under}
 use Rattle.zy_text.proofs.FeedLemmas.{one_plus}
 use Rattle.zy_asm.proofs.SpellLemmas.{no_name}
 use Rattle.zy_asm.proofs.GivesLemmas.{numeral_ok}
@@ -56,11 +56,6 @@ is_clean (b ∷ bs) = is_plain b && is_clean bs
 abbrev are_clean : List (List ℕ) → Bool
 are_clean [] = true
 are_clean (w ∷ ws) = is_word w && is_clean w && are_clean ws
-
--- what is not, when negated, is true, is false
-not_true : (b : Bool) → not b ≡ true → b ≡ false
-not_true true h = cc
-not_true false h = refl
 
 -- a byte that may be in a word is neither a space nor a semicolon nor a line feed
 plain_parts : (b : ℕ) → is_plain b ≡ true → (is_space b ≡ false) × ((b == 59) ≡ false) × ((b == 10) ≡ false)
@@ -283,10 +278,6 @@ once_repeated : (cs : List Choice) → repeated (once cs) ≡ cs
 once_repeated [] = refl
 once_repeated (c ∷ cs) = ap (λ xs. c ∷ xs) (once_repeated cs)
 
--- the number of one of at most 64 transactions has 32 bits
-under : (t count : ℕ) → count ≤ 64 → nat_lt t count ≡ true → t < 2 ^ 32
-under t count few h = let low : t < count = grind (arith, tests) in omega arith
-
 -- the canonical words of a choice whose transaction exists spell this choice, whatever the names
 spell_choice : (names : List Mark) (c : Choice) (count : ℕ) → count ≤ 64 → names_below count c ≡ true → SpellsChoice names c (choice_words c)
 spell_choice names Start count few h = refl
@@ -419,10 +410,6 @@ clean_choice (Push n) count few h = (plain_clean n (codes "push") refl refl, ref
 clean_choices : (cs : List Choice) (count : ℕ) → count ≤ 64 → AreNamed count cs → AreClean (map choice_words cs)
 clean_choices [] count few h = tt
 clean_choices (c ∷ cs) count few h = let p = clean_choice c count few h.0 in (p.0, p.1, clean_choices cs count few h.1)
-
--- the text of lines of words: one space between words, and a line feed behind each line
-abbrev text_of : List (List (List ℕ)) → List ℕ
-text_of ls = flat_map (λ ws. line_of (spaced ws)) ls
 
 -- the words of the lines of the text of clean lines are these words again
 lines_back : (ls : List (List (List ℕ))) → AreClean ls → lines_with_words (text_of ls) ≡ ls

@@ -3,6 +3,7 @@ use Rattle.std.proofs.Common.{◌≡◌, ℕ, ◌+◌, ◌<◌, ◌≤◌, ◌^�
 use Rattle.std.proofs.Common.{Some, None, if◌then◌else◌, refl, sym, ap, ◌∙◌, subst, inl, inr, arith, append-nil}
 use Rattle.std.specs.Prelude.{replicate}
 use Rattle.std.specs.Char.{is_ascii_digit}
+use Rattle.zy_isa.specs.Limits.{max_key, max_value, max_target}
 use Rattle.zy_isa.specs.declared.node.Node.{Node}
 use Rattle.zy_isa.specs.declared.node.Node.TheVariants as node
 use Rattle.zy_isa.specs.declared.node.Actor.{Actor}
@@ -104,7 +105,7 @@ target_gives labels o a b n w h v = elim h [
         given = rw (
           two_gives a b,
           d.1,
-          number_in_gives d.0 0 4294967295 n d.2 (omega arith) (omega arith),
+          number_in_gives d.0 0 max_target n d.2 (omega arith) (omega arith),
         ) refl;
         resolves = refl;
       }
@@ -124,7 +125,7 @@ parts_give : (labels : List Mark) (p : Parts) (ws : List (List ℕ)) → SpellsP
 parts_give labels (Number o a n) ws h v = (
   reg_text a ∷ h.0 ∷ [],
   h.1,
-  whole_given labels (op.Number o) _ _ (rw (register_gives a, number_in_gives h.0 0 4294967295 n h.2 (omega arith) (omega arith)) refl),
+  whole_given labels (op.Number o) _ _ (rw (register_gives a, number_in_gives h.0 0 max_value n h.2 (omega arith) (omega arith)) refl),
 )
 parts_give labels (Pair o a b) ws h v = (reg_text a ∷ reg_text b ∷ [], h, whole_given labels (op.Pair o) _ _ (rw (two_gives a b) refl))
 parts_give labels (Jump o a b n) ws h v = (reg_text a ∷ reg_text b ∷ h.0 ∷ [], h.1, target_gives labels o a b n h.0 h.2 v)
@@ -326,5 +327,5 @@ pub row_gives : (b : Base) (r : Row) (l : List (List ℕ)) → Spells (m.row r) 
     → opening_pages_for b.cap (length b.rows + 1) ≤ b.pages → is_low r.key (last_row b.rows) ≡ false
     → step (top stage.Rows b [] []) l ≡ Ok (top stage.Rows (record b { rows = b.rows ++ r ∷ [] }) [] [])
 row_gives b r l q k v few pages low =
-    rw (q.2, number_in_gives q.0 0 65535 r.key q.3 (omega arith) (omega arith), number_in_gives q.1 0 4294967295 r.value q.4 (omega arith) (omega arith))
+    rw (q.2, number_in_gives q.0 0 max_key r.key q.3 (omega arith) (omega arith), number_in_gives q.1 0 max_value r.value q.4 (omega arith) (omega arith))
     (rw (not_below (length b.rows) 256 few, over_not (opening_pages_for b.cap (length b.rows + 1)) b.pages pages, low) refl)

@@ -5,6 +5,7 @@ use Rattle.std.specs.Prelude.{replicate, is_none}
 use Rattle.std.specs.List.{find}
 use Rattle.std.specs.Str.{bytes_eq}
 use Rattle.std.specs.Char.{is_ascii_digit}
+use Rattle.zy_isa.specs.Limits.{max_key, max_value, max_target}
 use Rattle.zy_isa.specs.declared.version.Version.{Version}
 use Rattle.zy_isa.specs.declared.node.Node.{Node}
 use Rattle.zy_isa.specs.declared.node.Node.TheVariants as node
@@ -194,12 +195,12 @@ number_ok o [] i h labels = cc
 number_ok o (a ∷ []) i h labels = cc
 number_ok o (a ∷ w ∷ []) i h labels =
     let p = bind_ok (register_of a) _ i h in
-    let n = bind_ok (number_in w 0 4294967295) _ i p.2 in
+    let n = bind_ok (number_in w 0 max_value) _ i p.2 in
     let q : i ≡ instr_with (Number o p.0 n.0) = cc (n.2) in
     rw q (spelled_whole labels (Number o p.0 n.0) _ (
       w,
       ap (λ r. mnemonic (op.Number o) ∷ r ∷ w ∷ []) (register_ok a p.0 p.1),
-      (number_in_ok w 0 4294967295 n.0 n.1).0,
+      (number_in_ok w 0 max_value n.0 n.1).0,
     ))
 number_ok o (a ∷ w ∷ v ∷ ws) i h labels = cc
 
@@ -230,12 +231,12 @@ jump_ok : (o : JumpOperation) (a b : Reg) (t : List ℕ) (p : Pending) → jump_
 jump_ok o a b [] p h = cc
 jump_ok o a b (c ∷ cs) p h =
     elim (chosen_by (c == 64) _ _ _ h) [
-      | inl e ↦ at_number e.0 (bind_ok (number_in cs 0 4294967295) _ p e.1)
+      | inl e ↦ at_number e.0 (bind_ok (number_in cs 0 max_target) _ p e.1)
       | inr e ↦ let d = if_ok (is_name (c ∷ cs)) (Ok (jump o a b (c ∷ cs))) kinds.Word p e.1 in
           named_ok o a b (c ∷ cs) p d.0 (let q : jump o a b (c ∷ cs) ≡ p = cc (d.1) in q)
     ]
   where
-    at_number : (c == 64) ≡ true → ((n : ℕ) × (number_in cs 0 4294967295 ≡ Ok n)
+    at_number : (c == 64) ≡ true → ((n : ℕ) × (number_in cs 0 max_target ≡ Ok n)
         × ((let r : Result Pending AsmKind = Ok (whole (instr_with (Jump o a b n))) in r) ≡ Ok p)) → SpellsPending p (jump_words o a b (c ∷ cs))
     at_number e n =
         let i = instr_with (Jump o a b n.0) in
@@ -247,7 +248,7 @@ jump_ok o a b (c ∷ cs) p h =
           inl (
             cs,
             ap (λ x. x ∷ cs) (eqb-true c 64 e),
-            (number_in_ok cs 0 4294967295 n.0 n.1).0,
+            (number_in_ok cs 0 max_target n.0 n.1).0,
           ),
         ))
 
@@ -294,9 +295,9 @@ row_ok [] r h = cc
 row_ok (k ∷ []) r h = cc
 row_ok (k ∷ v ∷ []) r h =
     let q = bind_ok (number_in k 0 65535) _ r h in
-    let o = bind_ok (number_in v 0 4294967295) _ r q.2 in
+    let o = bind_ok (number_in v 0 max_value) _ r q.2 in
     let e : r ≡ record { key = q.0; value = o.0 } = cc (o.2) in
-    rw e (k, v, refl, (number_in_ok k 0 65535 q.0 q.1).0, (number_in_ok v 0 4294967295 o.0 o.1).0)
+    rw e (k, v, refl, (number_in_ok k 0 max_key q.0 q.1).0, (number_in_ok v 0 max_value o.0 o.1).0)
 row_ok (k ∷ v ∷ y ∷ ys) r h = cc
 
 -- ---- names

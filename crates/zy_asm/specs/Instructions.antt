@@ -2,7 +2,7 @@
 use Rattle.std.specs.Prelude.{◌==◌, ℕ, List, [], ◌∷◌, Result, Ok, Err, ok_or, if◌then◌else◌}
 use Rattle.std.specs.List.{find}
 use Rattle.std.specs.Str.{bytes_eq}
-use Rattle.zy_isa.specs.Limits.{max_value}
+use Rattle.zy_isa.specs.Limits.{max_value, max_target}
 use Rattle.zy_isa.specs.declared.instr.Reg.{Reg}
 use Rattle.zy_isa.specs.declared.instr.Instr.{Instr}
 use Rattle.zy_isa.specs.declared.operation.NumberOperation.{NumberOperation}
@@ -47,7 +47,7 @@ with_number o _ = Err kinds.Word
 abbrev pub jump_to : JumpOperation → Reg → Reg → List ℕ → Result Pending AsmKind
 jump_to o a b [] = Err kinds.Word
 jump_to o a b (c ∷ cs) =
-    if c == 64 then (number_in cs 0 max_value >>= λ n. Ok (whole (instr_with (Jump o a b n)))) else
+    if c == 64 then (number_in cs 0 max_target >>= λ n. Ok (whole (instr_with (Jump o a b n)))) else
     if is_name (c ∷ cs) then Ok (jump o a b (c ∷ cs)) else
     Err kinds.Word
 

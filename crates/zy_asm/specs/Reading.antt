@@ -42,7 +42,7 @@ statement (Some (k.Instr op)) s ws = instr_at s.stage s op ws
 statement (Some (k.Choice a)) s ws = closed s >>= λ u. choice_line u a ws
 statement (Some k.End) s ws = closed s >>= λ u. end_line u ws
 
--- a line that a label begins, or one that its keyword tells
+-- a line that begins with a label, or with its keyword
 abbrev pub led_by : Option (List ℕ) → Seen → List ℕ → List (List ℕ) → Result Seen AsmKind
 led_by (Some name) s w ws = label_line s name ws
 led_by None s w ws = statement (keyword_of s.version w) s ws

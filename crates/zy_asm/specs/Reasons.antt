@@ -38,7 +38,7 @@ kind_of why.NoMemory = kinds.Memory
 abbrev pub fault_of : Refusal → AsmFault
 fault_of r = record { line = r.line; kind = kind_of r.reason }
 
--- an answer that tells the kind of its fault alone
+-- an answer with the kind of its fault alone
 abbrev pub by_kind : {X : Type 0} → Result X Reason → Result X AsmKind
 by_kind (Ok x) = Ok x
 by_kind (Err r) = Err (kind_of r)

@@ -38,7 +38,7 @@ pub struct AsmFault {
     pub kind: AsmKind,
 }
 
-/// What is wrong with a line. The test that failed makes it, and its text tells it in words.
+/// What is wrong with a line. The test that failed makes it, and its text says it in words.
 #[derive(Clone, Copy, Debug, PartialEq, Eq)]
 pub enum Reason {
     /// This is not the statement of the header that belongs here.

@@ -29,7 +29,7 @@ pub enum Stage {
     Done,
 }
 
-/// What the lines so far gave: until the header tells them version and pages 1, cap 2 and rule `held`.
+/// What the lines so far gave: until the header gives them, version and pages 1, cap 2 and rule `held`.
 /// The names are those of the programs, also of the open one; labels and instructions are those of the open program.
 #[derive(Drop)]
 pub struct Reader {

@@ -28,7 +28,8 @@ pub(crate) fn written(
     program: &Program,
     done: u32,
 ) -> Result<RowList, AllocError>
-    ensures { IfOk result (λ rows. laid rows.rows (map_of table.now) ≡ (alone (map_of table.now) program.now done).map) }
+    ensures { IfOk result (λ rows.
+        laid rows.rows (map_of table.now) ≡ (alone (map_of table.now) program.now done).map) }
 {
     let mut run = LoneRun::new(alloc);
     for _ in 0..done {

@@ -68,7 +68,7 @@ pub fn check<S: Source>(alloc: Global, source: &mut S) -> Result<Verdict, CheckF
     // The input is read whole; only where it has more than 4194304 bytes is it too long, and then one byte more is
     // read.
     ensures input { ReadsInput (S.left source.old) (S.left source.new) result }
-    // Whatever the reader tells of its bytes, its calls give at most one more than the longest input has.
+    // Whatever the reader reports of its bytes, its calls give at most one more than the longest input has.
     ensures bound { S.given source.new ≤ S.given source.old + 4194305 }
     // Read comes if and only if a call failed.
     ensures reads { S.failures source.new ≡ S.failures source.old + failed_reads result }

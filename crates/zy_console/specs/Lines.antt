@@ -2,14 +2,17 @@
 use Rattle.std.specs.Prelude.{ℕ, ◌&&◌, nat_le, List, [], ◌∷◌, codes, Option, Some, None, option_map, if◌then◌else◌}
 use Rattle.std.specs.Option.{option_and_then}
 use Rattle.std.specs.Str.{bytes_eq}
-use Rattle.zy_isa.specs.Limits.{max_value}
 use Rattle.zy_text.specs.Words.{number_of}
 use Rattle.zy_debug.specs.declared.command.Command.{Command}
 use Rattle.zy_debug.specs.declared.command.Command.TheVariants as command
 
--- the number that 1 to 10 digits spell, where it is at most 4294967295
+-- the greatest number of a command
+abbrev pub max_number : ℕ
+max_number = 4294967295
+
+-- the number that 1 to 10 digits spell, where a command may have it
 abbrev pub small : ℕ → Option ℕ
-small n = if nat_le n max_value then Some n else None
+small n = if nat_le n max_number then Some n else None
 
 abbrev pub count_of : List ℕ → Option ℕ
 count_of w = option_and_then small (number_of w)

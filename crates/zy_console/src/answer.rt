@@ -23,7 +23,8 @@ fn append_line<D: Line>(item: &D, line: &mut LineBuffer) -> Result<(), AllocErro
 
 /// Appends which stop fires, and where.
 fn append_stop(i: usize, m: usize, line: &mut LineBuffer) -> Result<(), AllocError>
-    ensures { OnOk result (line.new ≡ line.old ++ line_of (codes "stop " ++ (decimal i ++ (codes " at " ++ decimal m)))) }
+    ensures { OnOk result (line.new ≡ line.old
+        ++ line_of (codes "stop " ++ (decimal i ++ (codes " at " ++ decimal m)))) }
 {
     append_line(&joined!("stop ", Decimal(i), " at ", Decimal(m)), line)
 }

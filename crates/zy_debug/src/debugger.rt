@@ -40,7 +40,11 @@ impl Model for Debugger {
 
     ghost Value = { Session };
 
-    ghost view = { λ d. record { scenario = d.machine.scenario; position = length d.machine.entries; stops = d.stops } };
+    ghost view = { λ d. record {
+      scenario = d.machine.scenario;
+      position = length d.machine.entries;
+      stops = d.stops;
+    } };
 
     ghost invariant = { λ d. Follows d.machine × HoldReplaysOf d.machine.scenario d.checkpoints };
 }
@@ -308,9 +312,10 @@ impl Debugger {
         }
     }
 
-    /// Goes on to the next position at which a stop fires, and tells the lowest slot that does; else to the end.
+    /// Goes on to the next position at which a stop fires, and returns the lowest slot that does; else to the end.
     fn cont(&mut self) -> Result<Option<usize>, AllocError>
-        ensures stops { IfOk result (λ i. Conts self.old.scenario self.old.stops self.old.position i self.new.position) }
+        ensures stops { IfOk result (λ i.
+            Conts self.old.scenario self.old.stops self.old.position i self.new.position) }
         ensures slot { IfOk result (λ i. IfSome i (λ n. n < 16)) }
         ensures kept { self.new ≡ goes self.old self.new.position }
         ensures err { OnErr result (self.new ≡ self.old) }
@@ -321,10 +326,11 @@ impl Debugger {
         Ok(slot)
     }
 
-    /// Goes back to the last position below at which a stop fires, and tells the lowest slot that does; else to the
+    /// Goes back to the last position below at which a stop fires, and returns the lowest slot that does; else to the
     /// start.
     fn rcont(&mut self) -> Result<Option<usize>, AllocError>
-        ensures stops { IfOk result (λ i. RConts self.old.scenario self.old.stops self.old.position i self.new.position) }
+        ensures stops { IfOk result (λ i.
+            RConts self.old.scenario self.old.stops self.old.position i self.new.position) }
         ensures slot { IfOk result (λ i. IfSome i (λ n. n < 16)) }
         ensures kept { self.new ≡ goes self.old self.new.position }
         ensures err { OnErr result (self.new ≡ self.old) }

@@ -18,7 +18,7 @@ use Rattle.zy_console.specs.Console.{SaysFront, WroteReplies, opened}
 use Rattle.zy_console.proofs.SaidLemmas.{said_nothing, said_stops}
 use Rattle.zy_engine.specs.declared.faults.BenchFault.{BenchFault}
 use Rattle.zy_engine.specs.declared.faults.BenchFault.TheVariants as bench
-use Rattle.zy_engine.specs.Faults.{IfRefused, ReadsBefore, of_reading, of_writing, reads_failed, writes_failed}
+use Rattle.zy_engine.specs.Faults.{IfRefused, ReadsBefore, of_reading, reads_failed, writes_failed}
 use Rattle.zy_engine.specs.Inputs.{IsTextFault}
 use Rattle.zy_engine.specs.Engines.{Streams}
 use Rattle.zy_engine.specs.Debugs.{Debugs, AreReplies, commands_of}

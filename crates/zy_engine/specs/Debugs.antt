@@ -46,5 +46,5 @@ pub record Debugs {X : Type 0} (old new : Streams) (result : Result X BenchFault
   -- each fault of the reader and of the writer is one failed call
   pub reads : new.reads ≡ old.reads + failed_reads result
   pub writes : new.writes ≡ old.writes + failed_writes result
-  -- whatever the reader tells of its bytes, its calls give at most one more than the longest input has
+  -- whatever the reader reports of its bytes, its calls give at most one more than the longest input has
   pub bound : new.given ≤ old.given + 4194305

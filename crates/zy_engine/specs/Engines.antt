@@ -8,7 +8,7 @@ use Rattle.zy_engine.specs.declared.format.Format.{Format}
 use Rattle.zy_engine.specs.Faults.{ReadsInput, failed_reads, failed_writes, IsQuiet, IfRefused}
 use Rattle.zy_engine.specs.Inputs.{StandsFor, HasNoFault, IsRefusal}
 
--- the bytes that the reader tells and that the writer holds, the calls of each that failed, and how many bytes those of
+-- the bytes that the reader reports and that the writer holds, the calls of each that failed, and how many bytes those of
 -- the reader gave
 pub record Streams : Type 0 where
   pub left : Option (List ℕ)
@@ -51,5 +51,5 @@ pub record Converts {X : Type 0} (format : Format) (output : Scenario → List �
   -- each fault of the reader and of the writer is one failed call
   pub reads : new.reads ≡ old.reads + failed_reads result
   pub writes : new.writes ≡ old.writes + failed_writes result
-  -- whatever the reader tells of its bytes, its calls give at most one more than the longest input has
+  -- whatever the reader reports of its bytes, its calls give at most one more than the longest input has
   pub bound : new.given ≤ old.given + 4194305

@@ -52,7 +52,7 @@ pub fn check_bytes<S: Source, K: Sink>(
     requires { (S.failures source.old < u64.MAX) × (K.failures sink.old < u64.MAX) }
     // At Ok the scenario part means a scenario, and the verdict is that of the input against its listing.
     ensures found { IfOk result (λ v. IfSome (S.left source.old) (λ bytes. IsVerdict bytes v)) }
-    // Just the words of that verdict went out.
+    // The words of that verdict went out, and nothing else.
     ensures written { IfOk result (λ v. Appends (K.written sink.old) (K.written sink.new) (verdict_line v)) }
     // Where the scenario part means a scenario, that verdict comes, unless a call failed or there was no memory.
     ensures only { IfSome (S.left source.old) (λ bytes. (sc : AScenario) → length bytes ≤ 4194304
@@ -73,7 +73,7 @@ pub fn check_bytes<S: Source, K: Sink>(
     // The input is read whole; only where it has more than 4194304 bytes is it too long, and then one byte more is
     // read.
     ensures input { ReadsInput (S.left source.old) (S.left source.new) result }
-    // Whatever the reader tells of its bytes, its calls give at most one more than the longest input has.
+    // Whatever the reader reports of its bytes, its calls give at most one more than the longest input has.
     ensures bound { S.given source.new ≤ S.given source.old + 4194305 }
     // Each fault of the reader and of the writer is one failed call.
     ensures reads { S.failures source.new ≡ S.failures source.old + failed_reads result }

@@ -52,7 +52,7 @@ pub fn read_scenario<S: Source>(
     requires { S.failures source.old < u64.MAX }
     ensures takes { Takes format (S.left source.old) (S.left source.new) (S.failures source.old)
         (S.failures source.new) result }
-    // Whatever the reader tells of its bytes, its calls give at most one more than the longest input has.
+    // Whatever the reader reports of its bytes, its calls give at most one more than the longest input has.
     ensures bound { S.given source.new ≤ S.given source.old + 4194305 }
 {
     let bytes = read_all(alloc, source)?;

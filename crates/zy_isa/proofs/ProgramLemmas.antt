@@ -1,6 +1,7 @@
 -- What every program keeps, as the tests of its list of instructions.
 use Rattle.std.proofs.Common.{◌≡◌, ◌==◌, ℕ, ◌<◌, false, List, None, length, arith, refl}
 use Rattle.zy_isa.specs.declared.instr.Instr.{Instr}
+use Rattle.zy_isa.specs.Limits.{max_instrs}
 use Rattle.zy_isa.specs.Programs.{prog_fault, IsProgram}
 use Rattle.zy_isa.proofs.ResultLemmas.{over_not}
 use borrow.Author.Tests.{tests}
@@ -13,4 +14,4 @@ is_some n h = grind (arith, tests)
 pub no_prog_fault : (is : List Instr) → IsProgram is → prog_fault is ≡ None
 no_prog_fault is p =
     let some : (length is == 0) ≡ false = is_some (length is) p.some in
-    rw (some, over_not (length is) 64 p.few, p.targets, p.last) refl
+    rw (some, over_not (length is) max_instrs p.few, p.targets, p.last) refl

@@ -10,6 +10,7 @@ use Rattle.zy_isa.specs.declared.row.Row.{Row}
 use Rattle.zy_isa.specs.declared.choice.Choice.{Choice}
 use Rattle.zy_isa.specs.declared.instr.Instr.{Instr}
 use Rattle.zy_isa.specs.declared.scenario.ScenarioFault.TheVariants as fault
+use Rattle.zy_isa.specs.Limits.{min_cap, max_cap, max_pages, max_rows, max_txns, max_choices}
 use Rattle.zy_isa.specs.Rows.{Rising, RowsFit, misplaced_row, misplaced_after}
 use Rattle.zy_isa.specs.Choices.{names_below}
 use Rattle.zy_isa.specs.Operations.{has}
@@ -60,17 +61,17 @@ named_each count (c ∷ cs) h = named_first count c cs (names_below count c) (na
 pub are_named : (count : ℕ) (choices : List Choice) → misnamed_choice count choices ≡ None → AreNamed count choices
 are_named count choices e = named_each count choices (none_passes _ choices e)
 
--- choices without a fault are at most 4096, and none is misnamed
-fit_if : (count : ℕ) (cs : List Choice) (b : Bool) → nat_lt 4096 (length cs) ≡ b
+-- choices without a fault are at most `max_choices`, and none is misnamed
+fit_if : (count : ℕ) (cs : List Choice) (b : Bool) → nat_lt max_choices (length cs) ≡ b
     → (if b then Some fault.ChoiceCount else option_map fault.Choice (misnamed_choice count cs)) ≡ None
-    → (length cs ≤ 4096) × (misnamed_choice count cs ≡ None)
+    → (length cs ≤ max_choices) × (misnamed_choice count cs ≡ None)
 fit_if count cs true e h = cc
-fit_if count cs false e h = (not_over (length cs) 4096 e, no_option fault.Choice (misnamed_choice count cs) h)
+fit_if count cs false e h = (not_over (length cs) max_choices e, no_option fault.Choice (misnamed_choice count cs) h)
 
 -- choices without a fault are few, and name transactions
-pub fit_choices : (count : ℕ) (cs : List Choice) → choices_fault count cs ≡ None → (length cs ≤ 4096) × AreNamed count cs
+pub fit_choices : (count : ℕ) (cs : List Choice) → choices_fault count cs ≡ None → (length cs ≤ max_choices) × AreNamed count cs
 fit_choices count cs h =
-    let f = fit_if count cs (nat_lt 4096 (length cs)) refl h in
+    let f = fit_if count cs (nat_lt max_choices (length cs)) refl h in
     (f.0, are_named count cs f.1)
 
 -- where each choice names a transaction that exists, the search for a misnamed one runs to the end of the list
@@ -139,18 +140,19 @@ program_more version [] p h e = (e, tt)
 program_more version (x ∷ ps) p h e = (h.0, program_more version ps p h.1 e)
 
 -- parts within the limits make a scenario without a fault
-pub no_fault : (s : Scenario) → 2 ≤ s.cap → s.cap ≤ 16 → 1 ≤ s.pages → s.pages ≤ 512 → length s.rows ≤ 256 → opening_pages_for s.cap (length s.rows) ≤ s.pages
-    → misplaced_row s.rows ≡ None → length s.programs ≤ 64 → length s.choices ≤ 4096 → AreNamed (length s.programs) s.choices
+pub no_fault : (s : Scenario) → min_cap ≤ s.cap → s.cap ≤ max_cap → 1 ≤ s.pages → s.pages ≤ max_pages → length s.rows ≤ max_rows
+    → opening_pages_for s.cap (length s.rows) ≤ s.pages
+    → misplaced_row s.rows ≡ None → length s.programs ≤ max_txns → length s.choices ≤ max_choices → AreNamed (length s.programs) s.choices
     → AreKnown s.version s.programs → scenario_fault s ≡ None
-no_fault s c2 c16 p1 p512 rows pages order programs choices named known =
+no_fault s least most some few rows pages order programs choices named known =
     rw (
-      out_of_neither s.cap 2 16 c2 c16,
-      out_of_neither s.pages 1 512 p1 p512,
-      over_not (length s.rows) 256 rows,
+      out_of_neither s.cap min_cap max_cap least most,
+      out_of_neither s.pages 1 max_pages some few,
+      over_not (length s.rows) max_rows rows,
       over_not (opening_pages_for s.cap (length s.rows)) s.pages pages,
       order,
-      over_not (length s.programs) 64 programs,
-      over_not (length s.choices) 4096 choices,
+      over_not (length s.programs) max_txns programs,
+      over_not (length s.choices) max_choices choices,
       none_misnamed (length s.programs) s.choices named,
       no_instrs_fault s.version 0 s.programs known,
     ) refl
@@ -158,26 +160,26 @@ no_fault s c2 c16 p1 p512 rows pages order programs choices named known =
 -- parts without a fault make a scenario within the limits
 pub scenario_of : (s : Scenario) → scenario_fault s ≡ None → RowsFit s.rows → ArePrograms s.programs → IsScenario s
 scenario_of s e fit programs =
-    let cap = past (is_outside 2 16 s.cap) fault.Cap _ e in
-    let pages = past (is_outside 1 512 s.pages) fault.Pages _ cap.1 in
+    let cap = past (is_outside min_cap max_cap s.cap) fault.Cap _ e in
+    let pages = past (is_outside 1 max_pages s.pages) fault.Pages _ cap.1 in
     let rows = past (has_many_rows s) fault.RowCount _ pages.1 in
     let order = past_first (option_map fault.RowOrder (misplaced_row s.rows)) _ rows.1 in
-    let few = past (nat_lt 64 (length s.programs)) fault.TxnCount _ order.1 in
+    let few = past (nat_lt max_txns (length s.programs)) fault.TxnCount _ order.1 in
     let last = past_first (choices_fault (length s.programs) s.choices) _ few.1 in
     let named = fit_choices (length s.programs) s.choices last.0 in
-    let cap_within = in_range s.cap 2 16 cap.0 in
-    let pages_within = in_range s.pages 1 512 pages.0 in
-    let many = neither (nat_lt 256 (length s.rows)) (nat_lt s.pages (opening_pages_for s.cap (length s.rows))) rows.0 in
+    let cap_within = in_range s.cap min_cap max_cap cap.0 in
+    let pages_within = in_range s.pages 1 max_pages pages.0 in
+    let many = neither (nat_lt max_rows (length s.rows)) (nat_lt s.pages (opening_pages_for s.cap (length s.rows))) rows.0 in
     record {
       cap_least = cap_within.0;
       cap_most = cap_within.1;
       pages_least = pages_within.0;
       pages_most = pages_within.1;
-      few_rows = not_over (length s.rows) 256 many.0;
+      few_rows = not_over (length s.rows) max_rows many.0;
       few_opening_pages = not_over _ s.pages many.1;
       rows_rise = rising s.rows (no_option fault.RowOrder (misplaced_row s.rows) order.0);
       rows_fit = fit;
-      few_programs = not_over (length s.programs) 64 few.0;
+      few_programs = not_over (length s.programs) max_txns few.0;
       programs = programs;
       few_choices = named.0;
       choices_named = named.1;

@@ -36,3 +36,7 @@ max_key = 65535
 -- the greatest value
 abbrev pub max_value : ℕ
 max_value = 4294967295
+
+-- the greatest target of a jump that a word has room for
+abbrev pub max_target : ℕ
+max_target = 4294967295

@@ -14,7 +14,7 @@ use Rattle.zy_table.specs.declared.outcome.Outcome.TheVariants.{Split, Started}
 use Rattle.zy_table.specs.Places.{place_of}
 
 -- what a step of n's side does to the place of page p: a page appears where a Normal node splits it off, under the
--- number that the outcome tells; it leaves a source, and a destination takes it
+-- number in the outcome; it leaves a source, and a destination takes it
 pub data Travels (p : ℕ) (n : Node) (s : State) (m : Step) : Type 0 where
   Stays : place_of p m.after ≡ place_of p s → Travels p n s m
   Appears : (q b : ℕ) → m.outcome ≡ Split q p b → (facing n s).me.mode ≡ Normal → place_of p s ≡ Nowhere

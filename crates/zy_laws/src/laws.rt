@@ -57,7 +57,7 @@ pub fn one_wireframe()
     ensures { (sc : Scenario) (choices : List AChoice) → OneWireframe (play sc (opening sc) choices) }
 {}
 
-/// A page appears at the Normal node that splits it off, under the number that the outcome tells, leaves a source in a
+/// A page appears at the Normal node that splits it off, under the number in the outcome, leaves a source in a
 /// message, arrives from the other node at one whose mode takes pages (DDual or DFinish), and moves in no other way.
 pub fn pages_travel()
     ensures { (sc : Scenario) (choices : List AChoice) (choice : AChoice) (p : ℕ)

@@ -43,7 +43,7 @@ abbrev pub IsReady : Scenario → Node → ℕ → NodePair → Type 0
 IsReady sc A t s = IsReadyHere sc A t s.a s.book
 IsReady sc B t s = IsReadyHere sc B t s.b s.book
 
--- the call answered as the line tells, and left what it tells
+-- the call answered what the line answers, and left the state behind it
 abbrev pub IsMade : Node → NodePair → Answer → Move → Type 0
 IsMade n new x m = (state_of new ≡ seen_from n m.after) × (x.outcome ≡ m.outcome) × (x.sent ≡ m.sent)
 

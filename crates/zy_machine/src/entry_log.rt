@@ -25,7 +25,10 @@ impl Model for SharedLog {
 
     ghost Value = { Trail };
 
-    ghost view = { λ k. record { made = take k.len (arc_value k.all).items; ahead = drop k.len (arc_value k.all).items } };
+    ghost view = { λ k. record {
+      made = take k.len (arc_value k.all).items;
+      ahead = drop k.len (arc_value k.all).items;
+    } };
 
     ghost invariant = { λ k. k.len ≤ length (arc_value k.all).items };
 }

@@ -80,7 +80,8 @@ fn keep(
     requires here { here.now.scenario ≡ plan.now.start.scenario }
     requires next { IsNext plan.now.start visited.old branch.from branch.by twin.old.machine }
     requires shelf { IsShelf plan.now.start visited.old shelf.old }
-    ensures paths { OnOk result (visited.new ≡ visited.old ++ (path_at visited.old branch.from ++ branch.by ∷ []) ∷ []) }
+    ensures paths { OnOk result (visited.new
+        ≡ visited.old ++ (path_at visited.old branch.from ++ branch.by ∷ []) ∷ []) }
     ensures shelf { OnOk result (IsShelf plan.now.start visited.new shelf.new) }
     ensures twin { OnOk result (IsSecond here.now twin.new) }
 {

@@ -98,7 +98,8 @@ pub fn last_firing(
     requires end { end ≤ length machine.old.scenario.choices }
     ensures scenario { machine.new.scenario ≡ machine.old.scenario }
     ensures follows { Follows machine.new }
-    ensures found { IfOk result (λ found. LastIn machine.old.scenario slots.now (length machine.old.entries) end found) }
+    ensures found { IfOk result (λ found.
+        LastIn machine.old.scenario slots.now (length machine.old.entries) end found) }
     ensures slot { IfOk result (λ found. IfSome found (λ f. f.1 < length slots.now)) }
 {
     let mut watched = watch(alloc, slots, machine)?;

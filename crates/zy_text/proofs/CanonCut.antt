@@ -60,7 +60,7 @@ all_plain [] = true
 all_plain (w ∷ ws) = are_plain w && all_plain ws
 
 -- what is not, when negated, is true, is false
-not_true : (b : Bool) → not b ≡ true → b ≡ false
+pub not_true : (b : Bool) → not b ≡ true → b ≡ false
 not_true true h = cc
 not_true false h = refl
 
@@ -136,7 +136,7 @@ no_end (b ∷ bs) h =
 -- ---- lines of words
 
 -- the text of lines of words: one space between words, and a line feed behind each line
-abbrev text_of : List (List (List ℕ)) → List ℕ
+abbrev pub text_of : List (List (List ℕ)) → List ℕ
 text_of ls = flat_map (λ ws. line_of (spaced ws)) ls
 
 -- the words of each line are plain, and the line opens with another byte than a space, a semicolon or `e`
@@ -266,7 +266,7 @@ plain_programs (p ∷ ps) k few h = (
 )
 
 -- the number of one of at most 64 transactions has 32 bits
-under : (t count : ℕ) → count ≤ 64 → nat_lt t count ≡ true → t < 2 ^ 32
+pub under : (t count : ℕ) → count ≤ 64 → nat_lt t count ≡ true → t < 2 ^ 32
 under t count few h = let low : t < count = grind (arith, tests) in omega arith
 
 -- the words of a run are plain, and their line opens as no end line does

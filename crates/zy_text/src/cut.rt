@@ -59,7 +59,7 @@ fn each_is_end(line: &[u8]) -> bool
         .all(|word| word == b"end".as_slice())
 }
 
-/// Whether the first byte tells that the line's first word is another than `end`.
+/// Whether the first byte shows that the line's first word is not `end`.
 fn begins_otherwise(line: &[u8]) -> bool
     ensures { result ≡ true → is_end line.now ≡ false }
 {

@@ -4,7 +4,7 @@ ghost use Rattle.std.specs.Prelude.{Some};
 ghost use Rattle.zy_machine.specs.Histories.{choices_of};
 ghost use Rattle.zy_table.specs.Play.{opening};
 ghost use Rattle.zy_threads.specs.Turns.{sub, is_by, turns_of, ahead, IsTurn, IsBoard, IsMerge};
-ghost use Rattle.zy_isa.specs.declared.node.Actor.TheVariants.{C as is_c, A as is_a, B as is_b};
+ghost use Rattle.zy_isa.specs.declared.node.Actor.TheVariants.{C as client, A as node_a, B as node_b};
 
 use std::alloc::Global;
 use std::marker::Model;
@@ -185,9 +185,9 @@ impl Board {
 
     /// The machine, on which every choice was taken.
     pub(crate) fn finished(self) -> Machine
-        requires { (self.c.cursor ≡ length (sub is_c self.machine.scenario.choices))
-            × (self.a.cursor ≡ length (sub is_a self.machine.scenario.choices))
-            × (self.b.cursor ≡ length (sub is_b self.machine.scenario.choices)) }
+        requires { (self.c.cursor ≡ length (sub client self.machine.scenario.choices))
+            × (self.a.cursor ≡ length (sub node_a self.machine.scenario.choices))
+            × (self.b.cursor ≡ length (sub node_b self.machine.scenario.choices)) }
         ensures machine { result ≡ self.machine }
         ensures merge { IsMerge (choices_of result.entries) result.scenario.choices }
     {

@@ -1,6 +1,6 @@
 //! What lies under the lock.
 ghost use Rattle.std.specs.Prelude.{◌≡◌, ℕ, length, IfOk, OnErr};
-ghost use Rattle.zy_isa.specs.declared.node.Actor.TheVariants.{C as is_c, A as is_a, B as is_b};
+ghost use Rattle.zy_isa.specs.declared.node.Actor.TheVariants.{C as client, A as node_a, B as node_b};
 ghost use Rattle.zy_threads.specs.Turns.{Counts, IsTurn, turns_of, sub};
 
 use crate::board::Board;
@@ -116,7 +116,7 @@ pub trait Takes<X> {
 impl<S: Of, C: Side, A: Side, B: Side> Takes<Client> for Desk<S, C, A, B> {
     type Own = C;
 
-    ghost turns = { length (sub is_c S.plan.choices) };
+    ghost turns = { length (sub client S.plan.choices) };
 
     fn actor() -> Actor {
         Actor::C
@@ -141,7 +141,7 @@ impl<S: Of, C: Side, A: Side, B: Side> Takes<Client> for Desk<S, C, A, B> {
 impl<S: Of, C: Side, A: Side, B: Side> Takes<NodeA> for Desk<S, C, A, B> {
     type Own = A;
 
-    ghost turns = { length (sub is_a S.plan.choices) };
+    ghost turns = { length (sub node_a S.plan.choices) };
 
     fn actor() -> Actor {
         Actor::A
@@ -166,7 +166,7 @@ impl<S: Of, C: Side, A: Side, B: Side> Takes<NodeA> for Desk<S, C, A, B> {
 impl<S: Of, C: Side, A: Side, B: Side> Takes<NodeB> for Desk<S, C, A, B> {
     type Own = B;
 
-    ghost turns = { length (sub is_b S.plan.choices) };
+    ghost turns = { length (sub node_b S.plan.choices) };
 
     fn actor() -> Actor {
         Actor::B

@@ -1,6 +1,6 @@
 //! Three workers on one board.
 ghost use Rattle.std.specs.Prelude.{◌≡◌, ℕ, length, IfOk};
-ghost use Rattle.zy_isa.specs.declared.node.Actor.TheVariants.{C as is_c, A as is_a, B as is_b};
+ghost use Rattle.zy_isa.specs.declared.node.Actor.TheVariants.{C as client, A as node_a, B as node_b};
 ghost use Rattle.zy_laws.specs.Throughout.{OwnedThroughout, SerialThroughout};
 ghost use Rattle.zy_machine.specs.Histories.{choices_of};
 ghost use Rattle.zy_threads.specs.Orders.{IsRunOf, reordered};
@@ -46,9 +46,9 @@ fn close<S: Of, C: Side, A: Side, B: Side>(
     a: Done<A>,
     b: Done<B>,
 ) -> Result<Machine, Fault>
-    requires c { IsLedgerOf is_c S.plan.choices C.parts C.turns }
-    requires a { IsLedgerOf is_a S.plan.choices A.parts A.turns }
-    requires b { IsLedgerOf is_b S.plan.choices B.parts B.turns }
+    requires c { IsLedgerOf client S.plan.choices C.parts C.turns }
+    requires a { IsLedgerOf node_a S.plan.choices A.parts A.turns }
+    requires b { IsLedgerOf node_b S.plan.choices B.parts B.turns }
     ensures scenario { IfOk result (λ m. m.scenario ≡ S.plan) }
     ensures merge { IfOk result (λ m. IsMerge (choices_of m.entries) S.plan.choices) }
 {
@@ -110,31 +110,31 @@ where
     R: Threads + Wait + Sync,
     G: Gate + Sync,
     W: Allowance + Sync,
-    requires c { IsLedgerOf is_c S.plan.choices C.parts C.turns × (c.turns ≡ C.turns) }
-    requires a { IsLedgerOf is_a S.plan.choices A.parts A.turns × (a.turns ≡ A.turns) }
-    requires b { IsLedgerOf is_b S.plan.choices B.parts B.turns × (b.turns ≡ B.turns) }
+    requires c { IsLedgerOf client S.plan.choices C.parts C.turns × (c.turns ≡ C.turns) }
+    requires a { IsLedgerOf node_a S.plan.choices A.parts A.turns × (a.turns ≡ A.turns) }
+    requires b { IsLedgerOf node_b S.plan.choices B.parts B.turns × (b.turns ≡ B.turns) }
 {
     thread::scope(
         thread::scope_env(),
         rt,
         move |scope| -> Crew<C, A, B>
-            requires c { IsLedgerOf is_c S.plan.choices C.parts C.turns × (c.turns ≡ C.turns) }
-            requires a { IsLedgerOf is_a S.plan.choices A.parts A.turns × (a.turns ≡ A.turns) }
-            requires b { IsLedgerOf is_b S.plan.choices B.parts B.turns × (b.turns ≡ B.turns) }
+            requires c { IsLedgerOf client S.plan.choices C.parts C.turns × (c.turns ≡ C.turns) }
+            requires a { IsLedgerOf node_a S.plan.choices A.parts A.turns × (a.turns ≡ A.turns) }
+            requires b { IsLedgerOf node_b S.plan.choices B.parts B.turns × (b.turns ≡ B.turns) }
         {
             let one = scope.spawn(
                 move || -> Done<C>
-                    requires { IsLedgerOf is_c S.plan.choices C.parts C.turns × (c.turns ≡ C.turns) }
+                    requires { IsLedgerOf client S.plan.choices C.parts C.turns × (c.turns ≡ C.turns) }
                 { work::<Client, _, _, _, _>(rt, gate, allowance, desk, c) },
             );
             let two = scope.spawn(
                 move || -> Done<A>
-                    requires { IsLedgerOf is_a S.plan.choices A.parts A.turns × (a.turns ≡ A.turns) }
+                    requires { IsLedgerOf node_a S.plan.choices A.parts A.turns × (a.turns ≡ A.turns) }
                 { work::<NodeA, _, _, _, _>(rt, gate, allowance, desk, a) },
             );
             let three = scope.spawn(
                 move || -> Done<B>
-                    requires { IsLedgerOf is_b S.plan.choices B.parts B.turns × (b.turns ≡ B.turns) }
+                    requires { IsLedgerOf node_b S.plan.choices B.parts B.turns × (b.turns ≡ B.turns) }
                 { work::<NodeB, _, _, _, _>(rt, gate, allowance, desk, b) },
             );
             Crew {
@@ -167,11 +167,11 @@ where
     requires board { (board.machine.scenario ≡ S.plan) × (board.c.cursor ≡ 0) × (board.a.cursor ≡ 0)
         × (board.b.cursor ≡ 0) }
     requires c { (c.name ≡ C.name) × (c.parts ≡ C.parts)
-        × IsLedgerOf is_c S.plan.choices C.parts C.turns }
+        × IsLedgerOf client S.plan.choices C.parts C.turns }
     requires a { (a.name ≡ A.name) × (a.parts ≡ A.parts)
-        × IsLedgerOf is_a S.plan.choices A.parts A.turns }
+        × IsLedgerOf node_a S.plan.choices A.parts A.turns }
     requires b { (b.name ≡ B.name) × (b.parts ≡ B.parts)
-        × IsLedgerOf is_b S.plan.choices B.parts B.turns }
+        × IsLedgerOf node_b S.plan.choices B.parts B.turns }
     ensures scenario { IfOk result (λ m. m.scenario ≡ S.plan) }
     ensures merge { IfOk result (λ m. IsMerge (choices_of m.entries) S.plan.choices) }
 {

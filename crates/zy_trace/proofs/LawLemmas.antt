@@ -3,10 +3,8 @@ use Rattle.std.proofs.Common.{◌≡◌, ◌∙◌, ℕ, Bool, true, false, List
 use Rattle.std.specs.Prelude.{if◌then◌else◌}
 use Rattle.std.specs.Str.{bytes_eq}
 use Rattle.std.proofs.lemmas.Slice.Eq.{bytes_eq-Decides}
-use Rattle.zy_isa.specs.declared.choice.Choice.{Choice}
-use Rattle.zy_isa.specs.Scenario.{Scenario}
 use Rattle.zy_table.specs.State.{State}
-use Rattle.zy_table.specs.Play.{step, play}
+use Rattle.zy_table.specs.Play.{step}
 use Rattle.zy_trace.specs.declared.subject.Subject.{Subject}
 use Rattle.zy_trace.specs.Subjects.{line_in, inset, lines_of_subject}
 use Rattle.zy_trace.specs.Laws.{or_before, last_shown, LastLines}

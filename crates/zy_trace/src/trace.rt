@@ -103,7 +103,8 @@ impl Section for StepsLines<'_> {
     ghost use Rattle.zy_table.specs.Play.{opening};
     ghost use Rattle.zy_trace.specs.Trace.{steps_lines};
 
-    ghost texts = { λ s. steps_lines s.machine.now.scenario 1 (opening s.machine.now.scenario) s.machine.now.scenario.choices };
+    ghost texts = { λ s. steps_lines s.machine.now.scenario 1
+        (opening s.machine.now.scenario) s.machine.now.scenario.choices };
 
     fn write<K: Sink>(&self, sink: &mut K, line: &mut LineBuffer) -> Result<(), TextFault> {
         let mut before = self.machine.reopen(self.alloc)?;

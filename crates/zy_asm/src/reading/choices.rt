@@ -59,7 +59,8 @@ impl Reader {
 
     /// Takes a choice of this action, by the words behind it: a transaction, and how often.
     fn txn_action_line(&mut self, action: TxnAction, words: &[&[u8]]) -> Result<(), Reason>
-        ensures { Steps result (progress_of self.new) (txn_action_line (progress_of self.old) action (texts words.now)) }
+        ensures { Steps result (progress_of self.new)
+            (txn_action_line (progress_of self.old) action (texts words.now)) }
     {
         match words {
             [t, times @ ..] => {

@@ -36,7 +36,7 @@ fn rule_of(word: &[u8]) -> Option<Rule>
 }
 
 impl Reader {
-    /// Takes the first line of the header, which tells the version.
+    /// Takes the first line of the header, which gives the version.
     pub fn zephyr_line(&mut self, words: &[&[u8]]) -> Result<(), Reason>
         ensures { Steps result (progress_of self.new) (zephyr_line (progress_of self.old) (texts words.now)) }
     {
@@ -48,7 +48,7 @@ impl Reader {
         Ok(())
     }
 
-    /// Takes the second line of the header, which tells how many rows a page has at most.
+    /// Takes the second line of the header, which gives the most rows of a page.
     pub fn cap_line(&mut self, words: &[&[u8]]) -> Result<(), Reason>
         ensures { Steps result (progress_of self.new) (cap_line (progress_of self.old) (texts words.now)) }
     {
@@ -61,7 +61,7 @@ impl Reader {
         Ok(())
     }
 
-    /// Takes the third line of the header, which tells how many pages there are at most.
+    /// Takes the third line of the header, which gives the most pages.
     pub fn pages_line(&mut self, words: &[&[u8]]) -> Result<(), Reason>
         ensures { Steps result (progress_of self.new) (pages_line (progress_of self.old) (texts words.now)) }
     {
@@ -70,7 +70,7 @@ impl Reader {
         Ok(())
     }
 
-    /// Takes the last line of the header, which tells the rule.
+    /// Takes the last line of the header, which gives the rule.
     pub fn rule_line(&mut self, words: &[&[u8]]) -> Result<(), Reason>
         ensures { Steps result (progress_of self.new) (rule_line (progress_of self.old) (texts words.now)) }
     {

@@ -1,5 +1,5 @@
 -- The text goes out where there is one; else nothing does.
-use Rattle.std.proofs.Common.{◌≡◌, refl}
+use Rattle.std.proofs.Common.{refl}
 use Rattle.std.proofs.KnownBytes.{Appends-nil}
 use Rattle.zy_engine.proofs.searching.write_answer.Goals as goal
 

@@ -1,5 +1,5 @@
 -- The answer is that of the search; where there was no memory for it, nothing is known.
-use Rattle.std.proofs.Common.{◌≡◌, ◌∙◌, [], List, ℕ, Ok, Err, refl, ap, subst}
+use Rattle.std.proofs.Common.{◌∙◌, [], Ok, Err, refl, ap, subst}
 use Rattle.std.proofs.lemmas.Result.{err_from_is_err_and}
 use Rattle.zy_io.specs.Writing.{Wrote}
 use Rattle.zy_machine.specs.Histories.{History}
@@ -7,7 +7,7 @@ use Rattle.zy_isa.specs.Scenario.{Scenario}
 use Rattle.zy_search.specs.declared.answer.Answer.TheVariants.{Spent}
 use Rattle.zy_search.specs.declared.answer.Report.{Report}
 use Rattle.zy_search.specs.Searches.{IsAnswer, IsDue}
-use Rattle.zy_engine.specs.Searching.{ran, text_of}
+use Rattle.zy_engine.specs.Searching.{text_of}
 use Rattle.zy_engine.proofs.RunLemmas.{WroteFront-nothing}
 use Rattle.zy_engine.proofs.SearchLemmas.{nothing_known, wrote_err}
 use Rattle.zy_engine.proofs.searching.write_search.Goals as goal

@@ -1,4 +1,4 @@
-use Rattle.std.proofs.Common.{rules, ◌≡◌, ◌∙◌, ◌<◌, ℕ, get_or, length, sym, refl, arith, nat_lt, true}
+use Rattle.std.proofs.Common.{◌≡◌, ◌∙◌, get_or, sym, refl, arith, nat_lt}
 use Rattle.zy_machine.proofs.SameLemmas.{below_more, same_numbers}
 use Rattle.zy_machine.proofs.same.same_lows.Goals as goal
 

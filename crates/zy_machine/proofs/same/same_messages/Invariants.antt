@@ -1,4 +1,4 @@
-use Rattle.std.proofs.Common.{◌≡◌, ◌<◌, ℕ}
+use Rattle.std.proofs.Common.{◌<◌, ℕ}
 use Rattle.zy_machine.proofs.SameLemmas.{SameAt}
 use Rattle.zy_machine.proofs.same.same_messages.Given as goal
 

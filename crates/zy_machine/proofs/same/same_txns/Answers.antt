@@ -1,4 +1,4 @@
-use Rattle.std.proofs.Common.{rules, ◌≡◌, ◌∙◌, ◌<◌, ◌≤◌, ℕ, get_or, slice_get, length, sym, refl, arith, nat_lt, true, nat_le}
+use Rattle.std.proofs.Common.{◌≡◌, ◌∙◌, ◌≤◌, slice_get, sym, refl, arith, nat_lt}
 use Rattle.std.proofs.lemmas.Bool.Decides.{nat_tests}
 use Rattle.zy_table.specs.Change.{txn_or}
 use Rattle.zy_machine.proofs.SameLemmas.{below_more, same_txns_at}

@@ -1,5 +1,5 @@
 -- All that the line tells is what it was.
-use Rattle.std.proofs.Common.{◌≡◌, ◌&&◌, ◌∙◌, true, ap, sym}
+use Rattle.std.proofs.Common.{◌&&◌, ◌∙◌, ap, sym}
 use Rattle.std.specs.Option.{option_copied}
 use Rattle.std.proofs.lemmas.Bool.{and_parts}
 use Rattle.zy_isa.specs.declared.node.Node.TheVariants.{A, B}

@@ -1,5 +1,4 @@
 -- Both machines make the same choice.
-use Rattle.std.proofs.Common.{◌∙◌, ap, sym, refl}
 use Rattle.zy_trace.proofs.TraceLemmas.{beside_step}
 use Rattle.zy_trace.proofs.step.trace_step.Goals as goal
 

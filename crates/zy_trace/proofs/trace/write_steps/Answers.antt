@@ -1,5 +1,5 @@
 -- The next step is the first of those that are left.
-use Rattle.std.proofs.Common.{◌≡◌, ◌+◌, ◌<◌, ◌∙◌, Err, ap, sym, subst, arith, length, get_or, add-one, refl}
+use Rattle.std.proofs.Common.{◌≡◌, ◌+◌, ◌<◌, ◌∙◌, Err, ap, sym, subst, arith, length}
 use Rattle.std.specs.List.{flat_map}
 use Rattle.std.specs.Io.KnownBytes.{Appends}
 use Rattle.std.proofs.lemmas.Result.{err_from_is_err_and}
@@ -9,7 +9,7 @@ use Rattle.zy_io.specs.declared.writing.TextFault.TheVariants.{Write}
 use Rattle.zy_table.specs.Play.{opening}
 use Rattle.zy_trace.specs.Trace.{steps_lines}
 use Rattle.zy_isa.specs.Scenario.{Scenario}
-use Rattle.zy_trace.proofs.TraceLemmas.{Written, written_step, written_all, written_stops}
+use Rattle.zy_trace.proofs.TraceLemmas.{Written, written_step, written_stops}
 use Rattle.zy_trace.proofs.trace.write_steps.Goals as goal
 
 pub loop-preserved : goal.loop-preserved

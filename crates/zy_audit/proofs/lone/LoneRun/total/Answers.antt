@@ -1,4 +1,4 @@
-use Rattle.std.proofs.Common.{arith, ◌≡◌}
+use Rattle.std.proofs.Common.{arith}
 use Rattle.zy_audit.proofs.LaidRows.{total-laid}
 use Rattle.zy_audit.proofs.lone.LoneRun.total.Goals as goal
 
