@@ -1,5 +1,6 @@
 pub mod Faults
 pub mod Inputs
+pub mod Outputs
 pub mod Engines
 pub mod Threads
 pub mod Again

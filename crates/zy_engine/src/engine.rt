@@ -5,12 +5,13 @@ ghost use Rattle.zy_text.specs.Canon.{canon};
 ghost use Rattle.zy_image.specs.Image.{image_of};
 ghost use Rattle.zy_engine.specs.declared.format.Format.TheVariants.{Text, Image};
 ghost use Rattle.zy_engine.specs.Engines.{Converts, streams};
+ghost use Rattle.zy_engine.specs.Outputs.{output_of};
 ghost use Rattle.zy_audit.specs.Run.{listing_run};
 ghost use Rattle.zy_trace.specs.Trace.{trace};
 
 use crate::faults::BenchFault;
 use crate::format::{Format, read_scenario};
-use crate::output::{Canonical, Listing, Output, Saved, Trace};
+use crate::output::Output;
 use std::alloc::Global;
 use zy_io::{Sink, Source};
 
@@ -28,7 +29,7 @@ pub fn run_bytes<S: Source, K: Sink>(
     ensures { let at = streams S.left S.failures S.given K.written K.failures in
         Converts format listing_run (at source.old sink.old) (at source.new sink.new) result }
 {
-    convert(alloc, format, &Listing, source, sink, input)
+    convert(alloc, format, Output::Listing, source, sink, input)
 }
 
 /// Reads a scenario whole, makes its choices, and writes the trace: each step, and the lines of the state that it
@@ -44,7 +45,7 @@ pub fn trace_bytes<S: Source, K: Sink>(
     ensures { let at = streams S.left S.failures S.given K.written K.failures in
         Converts format trace (at source.old sink.old) (at source.new sink.new) result }
 {
-    convert(alloc, format, &Trace, source, sink, input)
+    convert(alloc, format, Output::Trace, source, sink, input)
 }
 
 /// Reads a scenario text whole, and writes its image.
@@ -59,7 +60,7 @@ pub fn asm_bytes<S: Source, K: Sink>(
     ensures { let at = streams S.left S.failures S.given K.written K.failures in
         Converts Text image_of (at source.old sink.old) (at source.new sink.new) result }
 {
-    convert(alloc, Format::Text, &Saved, source, sink, input)
+    convert(alloc, Format::Text, Output::Image, source, sink, input)
 }
 
 /// Reads an image whole, and writes the canonical text of its scenario.
@@ -74,21 +75,21 @@ pub fn dis_bytes<S: Source, K: Sink>(
     ensures { let at = streams S.left S.failures S.given K.written K.failures in
         Converts Image canon (at source.old sink.old) (at source.new sink.new) result }
 {
-    convert(alloc, Format::Image, &Canonical, source, sink, input)
+    convert(alloc, Format::Image, Output::Text, source, sink, input)
 }
 
 /// Reads a scenario whole, and writes something of it.
-fn convert<S: Source, K: Sink, O: Output>(
+fn convert<S: Source, K: Sink>(
     alloc: Global,
     format: Format,
-    output: &O,
+    output: Output,
     source: &mut S,
     sink: &mut K,
     input: &mut Vec<u8>,
 ) -> Result<(), BenchFault>
     requires { (S.failures source.old < u64.MAX) × (K.failures sink.old < u64.MAX) }
     ensures { let at = streams S.left S.failures S.given K.written K.failures in
-        Converts format (O.bytes output.now) (at source.old sink.old) (at source.new sink.new) result }
+        Converts format (output_of output) (at source.old sink.old) (at source.new sink.new) result }
 {
     let scenario = read_scenario(alloc, format, source, input)?;
     output.write(alloc, scenario, sink)?;

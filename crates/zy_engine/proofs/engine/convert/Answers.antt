@@ -2,6 +2,7 @@
 use Rattle.std.proofs.Common.{Ok}
 use Rattle.std.proofs.lemmas.Result.{err_from_is_err_and}
 use Rattle.zy_engine.specs.Engines.{streams}
+use Rattle.zy_engine.specs.Outputs.{output_of}
 use Rattle.zy_engine.proofs.RunLemmas.{converts-none, converts-wrote}
 use Rattle.zy_engine.proofs.engine.convert.Goals as goal
 
@@ -11,7 +12,7 @@ returns-in_err-scenario g c =
     let source = c.read_scenario.new.source in
     let p = err_from_is_err_and c.from_residual.result c.from_residual.ensures.1 in
     rw (p.1, p.2) (
-    converts-none c.args.format (g.O.Output.bytes c.args.output.now) (at c.args.source.now c.args.sink.now) (g.S.Source.left source)
+    converts-none c.args.format (output_of c.args.output) (at c.args.source.now c.args.sink.now) (g.S.Source.left source)
     (g.S.Source.failures source) (g.S.Source.given source)
     c.in_err-scenario.field-0.0 c.in_err-scenario.ensures.takes c.read_scenario.ensures.bound
     )
@@ -19,5 +20,5 @@ returns-in_err-scenario g c =
 pub returns : goal.returns
 returns g c =
     let at = streams g.S.Source.left g.S.Source.failures g.S.Source.given g.K.Sink.written g.K.Sink.failures in
-    converts-wrote c.args.format (g.O.Output.bytes c.args.output.now) (at c.args.source.now c.args.sink.now) (at c.read_scenario.new.source c.write.new.sink)
+    converts-wrote c.args.format (output_of c.args.output) (at c.args.source.now c.args.sink.now) (at c.read_scenario.new.source c.write.new.sink)
     c.in_ok-scenario.scenario c.in_ok-scenario.ensures.takes c.read_scenario.ensures.bound (Ok c.in_ok-write.field-0) c.in_ok-write.ensures

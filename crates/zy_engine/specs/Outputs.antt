@@ -1,0 +1,16 @@
+-- What is written of a scenario.
+use Rattle.std.specs.Prelude.{ℕ, List}
+use Rattle.zy_isa.specs.Scenario.{Scenario}
+use Rattle.zy_text.specs.Canon.{canon}
+use Rattle.zy_image.specs.Image.{image_of}
+use Rattle.zy_audit.specs.Run.{listing_run}
+use Rattle.zy_trace.specs.Trace.{trace}
+use Rattle.zy_engine.specs.declared.output.Output.{Output}
+use Rattle.zy_engine.specs.declared.output.Output.TheVariants.{Listing, Trace, Image, Text}
+
+-- the bytes of an output
+abbrev pub output_of : Output → Scenario → List ℕ
+output_of Listing = listing_run
+output_of Trace = trace
+output_of Image = image_of
+output_of Text = canon
