@@ -1,5 +1,5 @@
 -- What went out of a search.
-use Rattle.std.proofs.Common.{◌≡◌, ◌∙◌, ◌++◌, ℕ, List, Option, Err, sym, ap, append_assoc, arith, map}
+use Rattle.std.proofs.Common.{◌≡◌, ◌∙◌, ◌++◌, ℕ, List, [], Option, Err, refl, sym, ap, append_assoc, arith, map}
 use Rattle.std.specs.List.{flat_map}
 use Rattle.std.proofs.lemmas.List.{map-append}
 use Rattle.zy_io.specs.Writing.{line_of, Wrote}
@@ -14,7 +14,8 @@ use Rattle.zy_threads.specs.Orders.{reordered}
 use Rattle.zy_search.specs.declared.answer.Answer.TheVariants.{Spent}
 use Rattle.zy_search.specs.declared.sought.Sought.{Sought}
 use Rattle.zy_search.specs.Searches.{IsAnswer}
-use Rattle.zy_engine.specs.Searching.{ran}
+use Rattle.zy_engine.specs.Searching.{ran, WroteAnswer}
+use Rattle.zy_engine.proofs.RunLemmas.{WroteFront-nothing}
 
 -- the lines of a scenario with more choices behind its own
 pub canon-more : (sc : Scenario) (more : List Choice)
@@ -27,6 +28,18 @@ canon-more sc more =
 -- that nothing is known of any schedule is an answer
 pub nothing_known : (sc : Scenario) (q : Sought) → IsAnswer (ran sc) q (Spent 0)
 nothing_known sc q = λ cs a lt. absurd (omega (arith, lt))
+
+-- where memory runs out before anything is written, nothing is known
+pub nothing_searched : (sc : Scenario) (q : Sought) (most : ℕ) (written : Option (List ℕ)) (failures : ℕ)
+    → WroteAnswer sc q most written written failures failures (Err Memory)
+nothing_searched sc q most written failures =
+    record {
+      answer = Spent 0;
+      is = nothing_known sc q;
+      returned = tt;
+      due = tt;
+      wrote = (WroteFront-nothing written [], refl);
+    }
 
 -- a fault says as much of what went out, whatever the call would have returned
 pub wrote_err : (X : Type 0) (old new : Option (List ℕ)) (before after : ℕ) (f : TextFault) (text : List ℕ)

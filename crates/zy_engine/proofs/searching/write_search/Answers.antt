@@ -4,35 +4,25 @@ use Rattle.std.proofs.lemmas.Result.{err_from_is_err_and}
 use Rattle.zy_io.specs.Writing.{Wrote}
 use Rattle.zy_machine.specs.Histories.{History}
 use Rattle.zy_isa.specs.Scenario.{Scenario}
-use Rattle.zy_search.specs.declared.answer.Answer.TheVariants.{Spent}
 use Rattle.zy_search.specs.declared.answer.Report.{Report}
 use Rattle.zy_search.specs.Searches.{IsAnswer, IsDue}
 use Rattle.zy_engine.specs.Searching.{text_of}
-use Rattle.zy_engine.proofs.RunLemmas.{WroteFront-nothing}
-use Rattle.zy_engine.proofs.SearchLemmas.{nothing_known, wrote_err}
+use Rattle.zy_engine.proofs.SearchLemmas.{nothing_searched, wrote_err}
 use Rattle.zy_engine.proofs.searching.write_search.Goals as goal
 
 pub returns-in_err-machine : goal.returns-in_err-machine
 returns-in_err-machine g c =
     let p = err_from_is_err_and c.from_residual.result c.from_residual.ensures.1 in
-    rw (p.1, p.2) (record {
-      answer = Spent 0;
-      is = nothing_known c.args.scenario c.args.sought;
-      returned = tt;
-      due = tt;
-      wrote = (WroteFront-nothing (g.K.Sink.written c.args.sink.now) [], refl);
-    })
+    rw (p.1, p.2) (
+    nothing_searched c.args.scenario c.args.sought c.args.most (g.K.Sink.written c.args.sink.now) (g.K.Sink.failures c.args.sink.now)
+    )
 
 pub returns-in_err-report : goal.returns-in_err-report
 returns-in_err-report g c =
     let p = err_from_is_err_and c.from_residual-in_err-report.result c.from_residual-in_err-report.ensures.1 in
-    rw (p.1, p.2) (record {
-      answer = Spent 0;
-      is = nothing_known c.args.scenario c.args.sought;
-      returned = tt;
-      due = tt;
-      wrote = (WroteFront-nothing (g.K.Sink.written c.args.sink.now) [], refl);
-    })
+    rw (p.1, p.2) (
+    nothing_searched c.args.scenario c.args.sought c.args.most (g.K.Sink.written c.args.sink.now) (g.K.Sink.failures c.args.sink.now)
+    )
 
 pub returns-in_err-write_answer : goal.returns-in_err-write_answer
 returns-in_err-write_answer g c =
