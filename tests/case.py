@@ -13,7 +13,7 @@
   told     all of standard error, where that is no fault; none: anything
 
 Each line of tests/refused is a text that `zy_bench run` refuses, with its fault and words; each line of tests/refused-images an
-image that `zy_bench dis` refuses; and each line of tests/mistakes a typical mistake, with what standard error tells of it."""
+image that `zy_bench dis` refuses; and each line of tests/mistakes a typical mistake, with what standard error says of it."""
 
 import os
 import re
