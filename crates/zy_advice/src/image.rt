@@ -44,7 +44,7 @@ impl<'a> ImageAdvice<'a> {
         }
     }
 
-    /// Whether the word that is none has the operation `sum`, which version 1 has not.
+    /// Whether the bytes that are not a word have the operation `sum`, which version 1 has not.
     fn is_sum_too_early(&self) -> bool {
         let opcode = self.input.get(self.refusal.at).copied();
         matches!(self.refusal.fault, LoadFault::Word(_, _))

@@ -9,25 +9,25 @@ use zy_isa::ProgFault;
 /// Why a line is refused. Of several reasons the first is reported, in the order in which the line is judged.
 #[derive(Clone, Copy, Debug, PartialEq, Eq)]
 pub enum AsmKind {
-    /// 1: this is not the statement of the header that belongs here.
+    /// This is not the statement of the header that belongs here.
     Header,
-    /// 2: a word is not known here, or there are too few or too many.
+    /// A word is not known here, or there are too few or too many.
     Word,
-    /// 3: a word is not 1 to 10 digits where a number is due.
+    /// A word is not 1 to 10 digits where a number is due.
     Number,
-    /// 4: a number is too small or too large.
+    /// A number is too small or too large.
     Range,
-    /// 5: the statement may not be here, or the key of a row is not above the one before it.
+    /// The statement may not be here, or the key of a row is not above the one before it.
     Order,
-    /// 6: a transaction or a label is not known or is there twice, or a program has another number.
+    /// A transaction or a label is not known or is there twice, or a program has another number.
     Label,
-    /// 7: the program above is no program.
+    /// The program above is no program.
     Program,
-    /// 8: there are too many rows, transactions, instructions or choices.
+    /// There are too many rows, transactions, instructions or choices.
     Count,
-    /// 9: the text goes on below its end, or has none.
+    /// The text goes on below its end, or has none.
     End,
-    /// 10: there was no memory for what the line says.
+    /// There was no memory for what the line says.
     Memory,
 }
 
@@ -191,7 +191,7 @@ impl fmt::Display for Reason {
     }
 }
 
-/// Tells why a list of instructions is no program.
+/// Writes why a list of instructions is no program.
 fn tell_program<W: fmt::Write>(
     f: &mut fmt::Formatter<W>,
     number: usize,

@@ -1,4 +1,4 @@
-//! Reads the text of a scenario, or reports the first fault of a text that is none.
+//! Reads the text of a scenario, and reports the first fault of a text that is rejected.
 #![tactic(auto)]
 
 pub mod assembling;

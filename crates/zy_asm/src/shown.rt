@@ -14,7 +14,7 @@ pub struct Shown {
 }
 
 impl Shown {
-    /// The word, or its front where it is long.
+    /// The word, or a prefix of it where it is long.
     pub fn of(word: &[u8]) -> Shown {
         let count = word.len().min(MOST);
         let mut bytes = [0u8; MOST];

@@ -1,4 +1,4 @@
-//! Whether the pages have exactly the rows of a table, told page by page.
+//! Whether the pages have exactly the rows of a table, compared page by page.
 ghost use Rattle.std.specs.Prelude.{◌≡◌, true};
 ghost use Rattle.zy_table.specs.Database.{database};
 ghost use Rattle.zy_audit.specs.Covering.{HasRun};

@@ -9,7 +9,7 @@ ghost use Rattle.zy_table.specs.Serial.{serial};
 ghost use Rattle.zy_audit.specs.Lone.{map_of};
 ghost use Rattle.zy_audit.specs.SameMaps.{same_map};
 
-/// The comparison by entries holds if and only if the maps are equal.
+/// `same_map` is true if and only if the maps are equal.
 pub fn same_is_equal()
     ensures { (m n : Map) → same_map m n ≡ true ↔ m ≡ n }
 {}

@@ -24,7 +24,7 @@ pub enum Request {
 pub struct Quest {
     pub format: Format,
     pub sought: Sought,
-    /// The most states that it may come to.
+    /// The most states that it may reach.
     pub most: u32,
 }
 

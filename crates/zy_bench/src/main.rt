@@ -96,7 +96,7 @@ fn convert<R: Input + AllocGlobal + Threads + Wait + Sync, W: Write>(
     Ok(DONE)
 }
 
-/// Checks the listing on standard input, shows the line at which it is none, and gives the exit status.
+/// Checks the listing on standard input, shows the line where it first differs, and gives the exit status.
 fn check<R: Eprint + Input + AllocGlobal, W: Write>(
     rt: &R,
     input: &mut Vec<u8>,

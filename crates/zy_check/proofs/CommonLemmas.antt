@@ -104,12 +104,12 @@ pub differs_shared : (fs xs ys : List ℕ) → common xs ys ≡ [] → differs (
 differs_shared fs xs ys h = ap (λ l. feeds l + 1) (common_shared fs xs ys ∙ ap (λ l. fs ++ l) h ∙ append-nil fs)
 
 -- a text that is a prefix of the other
-common_front : (ys rest : List ℕ) → common (ys ++ rest) ys ≡ ys
-common_front ys rest =
+common_prefix : (ys rest : List ℕ) → common (ys ++ rest) ys ≡ ys
+common_prefix ys rest =
     ap (common (ys ++ rest)) (sym (append-nil ys)) ∙ common_shared ys rest [] ∙ ap (λ l. ys ++ l) (common-nil rest) ∙ append-nil ys
 
 -- a text that begins with another shares all of it
 pub starting_common : (xs ys : List ℕ) (r : Bool) → r ≡ starts_with (λ a b. a == b) xs ys → r ≡ true → length ys ≡ length (common xs ys)
 starting_common xs ys r h t =
     let front = (starts_is Decides-eqb xs ys r h).0 t in
-    sym (ap (λ l. length (common l ys)) front ∙ ap length (common_front ys (drop (length ys) xs)))
+    sym (ap (λ l. length (common l ys)) front ∙ ap length (common_prefix ys (drop (length ys) xs)))

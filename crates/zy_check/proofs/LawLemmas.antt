@@ -15,7 +15,7 @@ use Rattle.zy_check.specs.declared.verdict.Verdict.TheVariants.{Table, NotTable}
 use Rattle.zy_text.specs.Cut.{cut}
 use Rattle.zy_check.specs.Verdicts.{IsListing, IsVerdict}
 use Rattle.zy_text.proofs.CanonCut.{cut-canon, canon-ascii}
-use Rattle.zy_check.specs.Differs.{common, feeds, differs, verdict, IsFront, IsLongestShared}
+use Rattle.zy_check.specs.Differs.{common, feeds, differs, verdict, IsPrefix, IsLongestShared}
 use Rattle.std.proofs.lemmas.Bool.{cases_Bool}
 use Rattle.zy_isa.proofs.OperationLemmas.{same_number}
 use Rattle.zy_check.proofs.CommonLemmas.{cons_same, cons_other, common_shared}
@@ -46,29 +46,29 @@ verdict-same x y e = verdict_of-true x y ((bytes_eq-Decides x y).1 e)
 -- ---- the longest text that both begin with
 
 -- a shared byte more begins the first
-left_same : (x y : ℕ) (xs ys : List ℕ) → (x == y) ≡ true → IsFront (common xs ys) xs → IsFront (common (x ∷ xs) (y ∷ ys)) (x ∷ xs)
+left_same : (x y : ℕ) (xs ys : List ℕ) → (x == y) ≡ true → IsPrefix (common xs ys) xs → IsPrefix (common (x ∷ xs) (y ∷ ys)) (x ∷ xs)
 left_same x y xs ys e h = (h.0, rw (cons_same x y xs ys e) (ap (λ l. x ∷ l) h.1))
 
 -- and the second
-right_same : (x y : ℕ) (xs ys : List ℕ) → (x == y) ≡ true → IsFront (common xs ys) ys → IsFront (common (x ∷ xs) (y ∷ ys)) (y ∷ ys)
+right_same : (x y : ℕ) (xs ys : List ℕ) → (x == y) ≡ true → IsPrefix (common xs ys) ys → IsPrefix (common (x ∷ xs) (y ∷ ys)) (y ∷ ys)
 right_same x y xs ys e h = (h.0, rw (cons_same x y xs ys e, same_number x y e) (ap (λ l. y ∷ l) h.1))
 
 -- nothing shared begins the first
-left_other : (x y : ℕ) (xs ys : List ℕ) → (x == y) ≡ false → IsFront (common (x ∷ xs) (y ∷ ys)) (x ∷ xs)
+left_other : (x y : ℕ) (xs ys : List ℕ) → (x == y) ≡ false → IsPrefix (common (x ∷ xs) (y ∷ ys)) (x ∷ xs)
 left_other x y xs ys e = (x ∷ xs, rw (cons_other x y xs ys e) refl)
 
 -- and the second
-right_other : (x y : ℕ) (xs ys : List ℕ) → (x == y) ≡ false → IsFront (common (x ∷ xs) (y ∷ ys)) (y ∷ ys)
+right_other : (x y : ℕ) (xs ys : List ℕ) → (x == y) ≡ false → IsPrefix (common (x ∷ xs) (y ∷ ys)) (y ∷ ys)
 right_other x y xs ys e = (y ∷ ys, rw (cons_other x y xs ys e) refl)
 
 -- what is shared begins the first
-common_left : (xs ys : List ℕ) → IsFront (common xs ys) xs
+common_left : (xs ys : List ℕ) → IsPrefix (common xs ys) xs
 common_left [] ys = ([], refl)
 common_left (x ∷ xs) [] = (x ∷ xs, refl)
 common_left (x ∷ xs) (y ∷ ys) = elim (cases_Bool (x == y)) [ inl e ↦ left_same x y xs ys e (common_left xs ys) | inr e ↦ left_other x y xs ys e ]
 
 -- and the second
-common_right : (xs ys : List ℕ) → IsFront (common xs ys) ys
+common_right : (xs ys : List ℕ) → IsPrefix (common xs ys) ys
 common_right [] ys = (ys, refl)
 common_right (x ∷ xs) [] = ([], refl)
 common_right (x ∷ xs) (y ∷ ys) = elim (cases_Bool (x == y)) [ inl e ↦ right_same x y xs ys e (common_right xs ys) | inr e ↦ right_other x y xs ys e ]
@@ -78,22 +78,22 @@ front_le : (fs xs ys : List ℕ) → length fs ≤ length (common (fs ++ xs) (fs
 front_le fs xs ys = rw (common_shared fs xs ys) (omega (arith, length-append fs (common xs ys)))
 
 -- no prefix of both is longer
-fronts_le : (fs x y : List ℕ) → IsFront fs x → IsFront fs y → length fs ≤ length (common x y)
-fronts_le fs x y p q = rw (p.1, q.1) (front_le fs p.0 q.0)
+prefixes_le : (fs x y : List ℕ) → IsPrefix fs x → IsPrefix fs y → length fs ≤ length (common x y)
+prefixes_le fs x y p q = rw (p.1, q.1) (front_le fs p.0 q.0)
 
 -- so it is the longest
 pub common-longest : (x y : List ℕ) → IsLongestShared (common x y) x y
-common-longest x y = record { left = common_left x y; right = common_right x y; longest = λ other p q. fronts_le other x y p q }
+common-longest x y = record { left = common_left x y; right = common_right x y; longest = λ other p q. prefixes_le other x y p q }
 
 -- there is no other of that length
-same_front : (fs gs x : List ℕ) → length fs ≡ length gs → IsFront fs x → IsFront gs x → fs ≡ gs
-same_front fs gs x e p q = (same_parts fs gs p.0 q.0 e (sym p.1 ∙ q.1)).0
+same_prefix : (fs gs x : List ℕ) → length fs ≡ length gs → IsPrefix fs x → IsPrefix gs x → fs ≡ gs
+same_prefix fs gs x e p q = (same_parts fs gs p.0 q.0 e (sym p.1 ∙ q.1)).0
 
 -- there is one longest
 shared-common : (shared x y : List ℕ) → IsLongestShared shared x y → shared ≡ common x y
 shared-common shared x y h =
     let c = common-longest x y in
-    same_front shared (common x y) x (omega (arith, c.longest shared h.left h.right, h.longest (common x y) c.left c.right)) h.left c.left
+    same_prefix shared (common x y) x (omega (arith, c.longest shared h.left h.right, h.longest (common x y) c.left c.right)) h.left c.left
 
 -- the line is that behind the longest shared prefix
 pub verdict-line : (x y shared : List ℕ) → IsLongestShared shared x y → x ≢ y → verdict x y ≡ NotTable (feeds shared + 1)

@@ -28,12 +28,12 @@ abbrev pub verdict_text : Verdict → List ℕ
 verdict_text Table = codes "table"
 verdict_text (NotTable line) = codes "not table " ++ decimal line
 
--- text begins with front
-abbrev pub IsFront : List ℕ → List ℕ → Type 0
-IsFront front text = (back : List ℕ) × (text ≡ front ++ back)
+-- front is a prefix of text
+abbrev pub IsPrefix : List ℕ → List ℕ → Type 0
+IsPrefix front text = (back : List ℕ) × (text ≡ front ++ back)
 
 -- both texts begin with shared, and with nothing longer
 pub record IsLongestShared (shared x y : List ℕ) : Type 0 where
-  pub left : IsFront shared x
-  pub right : IsFront shared y
-  pub longest : (other : List ℕ) → IsFront other x → IsFront other y → length other ≤ length shared
+  pub left : IsPrefix shared x
+  pub right : IsPrefix shared y
+  pub longest : (other : List ℕ) → IsPrefix other x → IsPrefix other y → length other ≤ length shared

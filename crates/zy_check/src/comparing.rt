@@ -9,7 +9,7 @@ use std::io;
 use std::marker::Model;
 use zy_io::Sink;
 
-/// How many bytes two texts have in common at their front. Where the second is a prefix of the first, whole groups of
+/// How long the longest common prefix of two texts is. Where the second is a prefix of the first, whole groups of
 /// bytes are compared.
 fn common_len(x: &[u8], y: &[u8]) -> usize
     ensures { result ≡ length (common x.now y.now) }
@@ -85,7 +85,7 @@ impl<'a> Comparing<'a> {
     /// The verdict on the input and the text that was taken. Where bytes were refused, no text behind it changes that.
     pub fn verdict(&self) -> Verdict
         ensures whole { result ≡ spec.verdict self.now.input self.now.text }
-        ensures front { 0 < self.now.refusals → (back : List ℕ)
+        ensures prefix { 0 < self.now.refusals → (back : List ℕ)
             → result ≡ spec.verdict self.now.input (self.now.text ++ back) }
     {
         if self.other.is_some() {

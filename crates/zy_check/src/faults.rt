@@ -10,16 +10,16 @@ use zy_io::ReadFault;
 /// Why no verdict was reached.
 #[derive(Clone, Copy, Debug, PartialEq, Eq, Error)]
 pub enum CheckFault {
-    /// 1: the scenario part is refused, from this line on.
+    /// The scenario part is refused, from this line on.
     #[error("line {}: {}", .0.line, .0.reason)]
     Scenario(Refusal),
-    /// 2: the reader failed.
+    /// The reader failed.
     #[error("the input could not be read to its end")]
     Read,
-    /// 3: there was no memory.
+    /// There was no memory.
     #[error("there is not enough memory for this check")]
     Memory,
-    /// 4: there are over 4,194,304 bytes.
+    /// There are over 4,194,304 bytes.
     #[error("an input has at most 4194304 bytes")]
     TooLong,
 }

@@ -31,10 +31,10 @@ pub fn table_is_a_listing()
     ensures { (input : List ℕ) → IsVerdict input Table ↔ IsListing input }
 {}
 
-/// A listing that `run` writes passes: its front is the canonical text of the scenario with its choices, which is
+/// A listing that `run` writes passes: its scenario part is the canonical text of the scenario with its choices, which is
 /// UTF-8, and the verdict on it is `Table`.
 pub fn runs_are_tables()
-    ensures front { (sc : Scenario) → IsScenario sc → cut (listing_run sc) ≡ canon sc }
+    ensures prefix { (sc : Scenario) → IsScenario sc → cut (listing_run sc) ≡ canon sc }
     ensures text { (sc : Scenario) → IsScenario sc → utf8_fault (canon sc) ≡ None }
     ensures table { (sc : Scenario) → IsScenario sc → IsVerdict (listing_run sc) Table }
 {}

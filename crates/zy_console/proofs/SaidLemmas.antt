@@ -2,11 +2,11 @@
 use Rattle.std.proofs.Common.{◌≡◌, ℕ, List, [], ◌∷◌, ◌++◌, Option, refl, sym, ap, subst, ◌∙◌, append_assoc, append-nil}
 use Rattle.std.specs.Io.KnownBytes.{Appends}
 use Rattle.std.proofs.KnownBytes.{Appends-trans, Appends-nil}
-use Rattle.zy_io.specs.Streams.{WroteFront}
+use Rattle.zy_io.specs.Streams.{WrotePrefix}
 use Rattle.zy_text.specs.Words.{words_of}
 use Rattle.zy_text.specs.Lines.{first_words}
 use Rattle.zy_debug.specs.Sessions.{Session}
-use Rattle.zy_console.specs.Console.{LineSays, Says, SaysFront}
+use Rattle.zy_console.specs.Console.{LineSays, Says, SaysPrefix}
 use Rattle.zy_console.proofs.OneLemmas.{says_some}
 
 -- behind six words nothing changes what a line says
@@ -46,13 +46,13 @@ pub said_nothing : (a : Option (List ℕ)) (s : Session) (lines : List (List ℕ
 said_nothing a s lines = record { read = []; parted = refl; out = []; says = (refl, refl); wrote = Appends-nil a }
 
 -- no more goes out: it is a prefix, since the others say something
-pub said_stops : (a b : Option (List ℕ)) (s t : Session) (lines last : List (List ℕ)) → Said a b s lines last t → SaysFront a b s lines
+pub said_stops : (a b : Option (List ℕ)) (s t : Session) (lines last : List (List ℕ)) → Said a b s lines last t → SaysPrefix a b s lines
 said_stops a b s t lines last h =
     let k = says_some t last in record {
       session = k.0;
       out = h.out ++ k.1;
       says = subst (λ ls. Says s ls k.0 (h.out ++ k.1)) (sym h.parted) (says_join s t k.0 h.read last h.out k.1 h.says k.2);
-      front = (h.out, k.1, refl, h.wrote);
+      prefix = (h.out, k.1, refl, h.wrote);
     }
 
 -- the line that is read belongs to those that were
@@ -79,7 +79,7 @@ module _ (old now : Option (List ℕ)) (s t u : Session) (lines all last : List 
   }
 
   -- a prefix of what it says goes out
-  pub said_torn : (new : Option (List ℕ)) → WroteFront now new more → SaysFront old new s lines
+  pub said_torn : (new : Option (List ℕ)) → WrotePrefix now new more → SaysPrefix old new s lines
   said_torn new (front, back, is, wrote) =
       let k = says_some u last in
       let others : Says t (n.line ∷ last) k.0 (more ++ k.1) = (u, more, k.1, n.says, k.2, refl) in
@@ -88,7 +88,7 @@ module _ (old now : Option (List ℕ)) (s t u : Session) (lines all last : List 
         session = k.0;
         out = h.out ++ (more ++ k.1);
         says = subst (λ ls. Says s ls k.0 (h.out ++ (more ++ k.1))) (sym parted) (says_join s t k.0 h.read (n.line ∷ last) h.out (more ++ k.1) h.says others);
-        front = (
+        prefix = (
           h.out ++ front,
           back ++ k.1,
           ap (λ x. h.out ++ (x ++ k.1)) is ∙ ap (λ x. h.out ++ x) (append_assoc front back k.1) ∙ sym (append_assoc h.out front (back ++ k.1)),

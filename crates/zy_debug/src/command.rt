@@ -68,16 +68,16 @@ pub enum Shown {
 /// Why a command is refused.
 #[derive(Clone, Copy, Debug, PartialEq, Eq, Error)]
 pub enum DebugFault {
-    /// 1: there is no stop of this number.
+    /// There is no stop of this number.
     #[error("no such stop")]
     NoSuchStop,
-    /// 2: there is no such position, page, key or transaction.
+    /// There is no such position, page, key or transaction.
     #[error("out of range")]
     Range,
-    /// 3: sixteen stops are set.
+    /// Sixteen stops are set.
     #[error("too many stops")]
     TooManyStops,
-    /// 4: there was no memory.
+    /// There was no memory.
     #[error("there is not enough memory for this session")]
     Memory,
 }

@@ -1,22 +1,22 @@
 -- What went out of a verdict.
 use Rattle.std.proofs.Common.{◌≡◌, ℕ, List, [], Option, None, Some, IfSome, Result, Ok, Err, sym, subst, append-nil}
-use Rattle.zy_io.specs.Streams.{WroteFront}
+use Rattle.zy_io.specs.Streams.{WrotePrefix}
 use Rattle.zy_io.specs.declared.writing.TextFault.{TextFault}
 use Rattle.zy_io.specs.declared.writing.TextFault.TheVariants.{Write, Memory}
 use Rattle.zy_check.specs.declared.verdict.Verdict.{Verdict}
 use Rattle.zy_check.specs.Verdicts.{IsVerdict}
 use Rattle.zy_engine.specs.Checks.{WroteOrNothing, verdict_line}
-use Rattle.zy_engine.proofs.RunLemmas.{WroteFront-nothing}
+use Rattle.zy_engine.proofs.RunLemmas.{WrotePrefix-nothing}
 
 -- all of a text, nothing and a prefix of it are fronts of it
-pub tell-front : {X : Type 0} (old new : Option (List ℕ)) (before after : ℕ) (r : Result X TextFault) (text : List ℕ)
-    → WroteOrNothing old new before after r text → WroteFront old new text
-tell-front old new before after (Ok x) text w = (text, [], sym (append-nil text), w.0)
-tell-front old new before after (Err Write) text w = w.0
-tell-front old new before after (Err Memory) text w = subst (λ a. WroteFront old a text) (sym w.0) (WroteFront-nothing old text)
+pub tell-prefix : {X : Type 0} (old new : Option (List ℕ)) (before after : ℕ) (r : Result X TextFault) (text : List ℕ)
+    → WroteOrNothing old new before after r text → WrotePrefix old new text
+tell-prefix old new before after (Ok x) text w = (text, [], sym (append-nil text), w.0)
+tell-prefix old new before after (Err Write) text w = w.0
+tell-prefix old new before after (Err Memory) text w = subst (λ a. WrotePrefix old a text) (sym w.0) (WrotePrefix-nothing old text)
 
 -- the verdict that was told is the input's, whatever is said to be it
-pub front-of-one : (told : Option (List ℕ)) (old new : Option (List ℕ)) (v : Verdict) → IfSome told (λ t. (other : Verdict) → IsVerdict t other → v ≡ other)
-    → WroteFront old new (verdict_line v) → IfSome told (λ t. (other : Verdict) → IsVerdict t other → WroteFront old new (verdict_line other))
-front-of-one None old new v one w = tt
-front-of-one (Some t) old new v one w = λ other is. subst (λ x. WroteFront old new (verdict_line x)) (one other is) w
+pub prefix-of-one : (told : Option (List ℕ)) (old new : Option (List ℕ)) (v : Verdict) → IfSome told (λ t. (other : Verdict) → IsVerdict t other → v ≡ other)
+    → WrotePrefix old new (verdict_line v) → IfSome told (λ t. (other : Verdict) → IsVerdict t other → WrotePrefix old new (verdict_line other))
+prefix-of-one None old new v one w = tt
+prefix-of-one (Some t) old new v one w = λ other is. subst (λ x. WrotePrefix old new (verdict_line x)) (one other is) w

@@ -14,7 +14,7 @@ use Rattle.zy_asm.specs.Input.{input_fault}
 use Rattle.zy_text.specs.Cut.{cut}
 use Rattle.zy_text.proofs.CutLemmas.{cut_taken}
 use Rattle.zy_debug.specs.Sessions.{Session}
-use Rattle.zy_console.specs.Console.{SaysFront, WroteReplies, opened}
+use Rattle.zy_console.specs.Console.{SaysPrefix, WroteReplies, opened}
 use Rattle.zy_console.proofs.SaidLemmas.{said_nothing, said_stops}
 use Rattle.zy_engine.specs.declared.faults.BenchFault.{BenchFault}
 use Rattle.zy_engine.specs.declared.faults.BenchFault.TheVariants as bench
@@ -25,7 +25,7 @@ use Rattle.zy_engine.specs.Debugs.{Debugs, AreReplies, commands_of}
 use Rattle.zy_engine.proofs.RunLemmas.{of-any, of_wrote, told-of}
 
 -- where nothing went out, nothing but a prefix did
-pub nothing_said : (a : Option (List ℕ)) (s : Session) (lines : List (List ℕ)) → SaysFront a a s lines
+pub nothing_said : (a : Option (List ℕ)) (s : Session) (lines : List (List ℕ)) → SaysPrefix a a s lines
 nothing_said a s lines = said_stops a a s s lines lines (said_nothing a s lines)
 
 -- what the code parts the input into
@@ -45,7 +45,7 @@ module _ (old : Streams) (left : Option (List ℕ)) (reads given : ℕ) (bound :
       → Debugs {X = Unit {0}} old (record old { left = left; reads = reads; given = given }) (Err f)
   stopped f fault input calls writes = record {
     written = tt;
-    front = of-any (λ t. (sc : Scenario) → Means (cut t) sc → SaysFront old.written old.written (opened sc) (commands_of t)) old.left
+    prefix = of-any (λ t. (sc : Scenario) → Means (cut t) sc → SaysPrefix old.written old.written (opened sc) (commands_of t)) old.left
         (λ t sc means. nothing_said old.written (opened sc) (commands_of t));
     fault = fault;
     input = input;
@@ -97,11 +97,11 @@ accepted bytes part scenario is means only right = record {
 module _ (old new : Streams) (bytes : List ℕ) (scenario : Scenario) (same : IfSome old.left (λ t. bytes ≡ t)) (whole : ReadWhole old.left new.left)
     (calls : new.reads ≡ old.reads) (is : Accepted bytes scenario) (bound : new.given ≤ old.given + 4194305) where
   -- a prefix of what is said of that scenario is one of what is said of each that the part means
-  some_front : SaysFront old.written new.written (opened scenario) (commands_of bytes)
-      → IfSome old.left (λ t. (sc : Scenario) → Means (cut t) sc → SaysFront old.written new.written (opened sc) (commands_of t))
-  some_front h =
-      told-of (λ t. (sc : Scenario) → Means (cut t) sc → SaysFront old.written new.written (opened sc) (commands_of t)) old.left bytes same
-      (λ sc means. subst (λ x. SaysFront old.written new.written (opened x) (commands_of bytes)) (is.only sc means) h)
+  some_prefix : SaysPrefix old.written new.written (opened scenario) (commands_of bytes)
+      → IfSome old.left (λ t. (sc : Scenario) → Means (cut t) sc → SaysPrefix old.written new.written (opened sc) (commands_of t))
+  some_prefix h =
+      told-of (λ t. (sc : Scenario) → Means (cut t) sc → SaysPrefix old.written new.written (opened sc) (commands_of t)) old.left bytes same
+      (λ sc means. subst (λ x. SaysPrefix old.written new.written (opened x) (commands_of bytes)) (is.only sc means) h)
 
   -- there is a scenario, and no fault
   a_scenario : IfSome old.left (λ t. ((sc : Scenario) → Means (cut t) sc → ⊥) → new.written ≡ old.written)
@@ -117,7 +117,7 @@ module _ (old new : Streams) (bytes : List ℕ) (scenario : Scenario) (same : If
   said (Ok x) h = record {
     written = told-of (λ t. (out : List ℕ) × AreReplies t out × Appends old.written new.written out) old.left bytes same
         (h.1.0, record { scenario = scenario; meant = is.meant; session = h.0; says = h.1.1 }, h.1.2);
-    front = some_front (record { session = h.0; out = h.1.0; says = h.1.1; front = (h.1.0, [], sym (append-nil h.1.0), h.1.2) });
+    prefix = some_prefix (record { session = h.0; out = h.1.0; says = h.1.1; prefix = (h.1.0, [], sym (append-nil h.1.0), h.1.2) });
     fault = tt;
     input = whole;
     accepted = told-of (λ t. input_fault (cut t) ≡ None) old.left bytes same is.right;
@@ -130,7 +130,7 @@ module _ (old new : Streams) (bytes : List ℕ) (scenario : Scenario) (same : If
   }
   said (Err writing.Write) h = record {
     written = tt;
-    front = some_front h.1.0;
+    prefix = some_prefix h.1.0;
     fault = tt;
     input = whole;
     accepted = tt;
@@ -143,7 +143,7 @@ module _ (old new : Streams) (bytes : List ℕ) (scenario : Scenario) (same : If
   }
   said (Err writing.Memory) h = record {
     written = tt;
-    front = some_front h.1.0;
+    prefix = some_prefix h.1.0;
     fault = tt;
     input = whole.0;
     accepted = tt;

@@ -5,7 +5,7 @@ use Rattle.std.specs.Io.KnownBytes.{Appends}
 use Rattle.zy_io.specs.declared.writing.TextFault.{TextFault}
 use Rattle.zy_io.specs.declared.writing.TextFault.TheVariants.{Write, Memory}
 use Rattle.zy_isa.specs.Scenario.{Scenario}
-use Rattle.zy_io.specs.Streams.{WroteFront, ReadWhole, ReadsAll}
+use Rattle.zy_io.specs.Streams.{WrotePrefix, ReadWhole, ReadsAll}
 use Rattle.zy_io.specs.declared.reading.ReadFault.{ReadFault}
 use Rattle.zy_io.specs.declared.reading.ReadFault.TheVariants as reading
 use Rattle.zy_io.specs.Writing.{Wrote}
@@ -18,14 +18,14 @@ use Rattle.zy_engine.specs.Faults.{of_reading, of_writing}
 use Rattle.zy_engine.specs.Inputs.{StandsFor, HasNoFault, IsRefusal, Takes, Took, TookNone}
 
 -- where nothing went out, nothing but a prefix did
-pub WroteFront-nothing : (a : Option (List ℕ)) (text : List ℕ) → WroteFront a a text
-WroteFront-nothing a text = ([], text, refl, Appends-nil a)
+pub WrotePrefix-nothing : (a : Option (List ℕ)) (text : List ℕ) → WrotePrefix a a text
+WrotePrefix-nothing a text = ([], text, refl, Appends-nil a)
 
 -- whatever came of a call that writes, a prefix of its text went out
-pub Wrote-front : {X : Type 0} (a b : Option (List ℕ)) (m n : ℕ) (r : Result X TextFault) (text : List ℕ) → Wrote a b m n r text → WroteFront a b text
-Wrote-front a b m n (Ok x) text w = (text, [], sym (append-nil text), w.0)
-Wrote-front a b m n (Err Write) text w = w.0
-Wrote-front a b m n (Err Memory) text w = w.0
+pub Wrote-prefix : {X : Type 0} (a b : Option (List ℕ)) (m n : ℕ) (r : Result X TextFault) (text : List ℕ) → Wrote a b m n r text → WrotePrefix a b text
+Wrote-prefix a b m n (Ok x) text w = (text, [], sym (append-nil text), w.0)
+Wrote-prefix a b m n (Err Write) text w = w.0
+Wrote-prefix a b m n (Err Memory) text w = w.0
 
 -- ---- the bytes that a reader told
 
@@ -125,7 +125,7 @@ module _ (format : Format) (output : Scenario → List ℕ) (old : Streams) wher
       → Converts {X = X} format output old (record old { left = left; reads = reads; given = given }) (Err f)
   converts-none left reads given f none bound = record {
     written = tt;
-    front = each-of-any format old.left (λ sc. WroteFront old.written old.written (output sc)) (λ sc. WroteFront-nothing old.written (output sc));
+    prefix = each-of-any format old.left (λ sc. WrotePrefix old.written old.written (output sc)) (λ sc. WrotePrefix-nothing old.written (output sc));
     fault = none.fault;
     input = none.input;
     accepted = tt;
@@ -140,9 +140,9 @@ module _ (format : Format) (output : Scenario → List ℕ) (old : Streams) wher
   module _ (new : Streams) (scenario : Scenario) (took : Took format old.left new.left old.reads new.reads scenario)
       (bound : new.given ≤ old.given + 4194305) where
     -- what went out is a prefix of the output of each scenario that the input stands for
-    fronts : WroteFront old.written new.written (output scenario)
-        → IfSome old.left (λ t. (sc : Scenario) → StandsFor format t sc → WroteFront old.written new.written (output sc))
-    fronts wrote = took-each format old.left new.left old.reads new.reads (λ sc. WroteFront old.written new.written (output sc)) scenario took wrote
+    prefixes : WrotePrefix old.written new.written (output scenario)
+        → IfSome old.left (λ t. (sc : Scenario) → StandsFor format t sc → WrotePrefix old.written new.written (output sc))
+    prefixes wrote = took-each format old.left new.left old.reads new.reads (λ sc. WrotePrefix old.written new.written (output sc)) scenario took wrote
 
     -- there is a scenario, and no fault
     stands-for : IfSome old.left (λ t. ((sc : Scenario) → StandsFor format t sc → ⊥) → new.written ≡ old.written)
@@ -161,7 +161,7 @@ module _ (format : Format) (output : Scenario → List ℕ) (old : Streams) wher
       written = told-map (λ t. StandsFor format t scenario) (λ t. (sc : Scenario) × StandsFor format t sc
           × Appends old.written new.written (output sc)) old.left
           (λ t stands. (scenario, stands, wrote.0)) took.stands;
-      front = fronts (Wrote-front old.written new.written old.writes new.writes (Ok x) (output scenario) wrote);
+      prefix = prefixes (Wrote-prefix old.written new.written old.writes new.writes (Ok x) (output scenario) wrote);
       fault = tt;
       input = took.whole;
       accepted = took.right;
@@ -174,7 +174,7 @@ module _ (format : Format) (output : Scenario → List ℕ) (old : Streams) wher
     }
     converts-wrote (Err Write) wrote = record {
       written = tt;
-      front = fronts wrote.0;
+      prefix = prefixes wrote.0;
       fault = tt;
       input = took.whole;
       accepted = tt;
@@ -187,7 +187,7 @@ module _ (format : Format) (output : Scenario → List ℕ) (old : Streams) wher
     }
     converts-wrote (Err Memory) wrote = record {
       written = tt;
-      front = fronts wrote.0;
+      prefix = prefixes wrote.0;
       fault = tt;
       input = took.whole.0;
       accepted = tt;

@@ -15,7 +15,7 @@ use Rattle.zy_search.specs.declared.answer.Answer.TheVariants.{Spent}
 use Rattle.zy_search.specs.declared.sought.Sought.{Sought}
 use Rattle.zy_search.specs.Searches.{IsAnswer}
 use Rattle.zy_engine.specs.Searching.{ran, WroteAnswer}
-use Rattle.zy_engine.proofs.RunLemmas.{WroteFront-nothing}
+use Rattle.zy_engine.proofs.RunLemmas.{WrotePrefix-nothing}
 
 -- the lines of a scenario with more choices behind its own
 pub canon-more : (sc : Scenario) (more : List Choice)
@@ -38,7 +38,7 @@ nothing_searched sc q most written failures =
       is = nothing_known sc q;
       returned = tt;
       due = tt;
-      wrote = (WroteFront-nothing written [], refl);
+      wrote = (WrotePrefix-nothing written [], refl);
     }
 
 -- a fault says as much of what went out, whatever the call would have returned

@@ -1,7 +1,7 @@
 -- What `check_bytes` answers and writes.
 use Rattle.std.specs.Prelude.{◌≡◌, ℕ, ◌+◌, List, Option, Result, Ok, Err}
 use Rattle.std.specs.Io.KnownBytes.{Appends}
-use Rattle.zy_io.specs.Streams.{WroteFront}
+use Rattle.zy_io.specs.Streams.{WrotePrefix}
 use Rattle.zy_io.specs.Writing.{line_of}
 use Rattle.zy_io.specs.declared.writing.TextFault.{TextFault}
 use Rattle.zy_io.specs.declared.writing.TextFault.TheVariants as writing
@@ -38,5 +38,5 @@ module _ (old new : Option (List ℕ)) (before after : ℕ) where
   -- at Ok all of the text went out; at Write a prefix of it, since a call failed or took none; at Memory nothing
   abbrev pub WroteOrNothing : {X : Type 0} → Result X TextFault → List ℕ → Type 0
   WroteOrNothing (Ok x) text = Appends old new text × (after ≡ before)
-  WroteOrNothing (Err writing.Write) text = WroteFront old new text × (after ≡ before + 1)
+  WroteOrNothing (Err writing.Write) text = WrotePrefix old new text × (after ≡ before + 1)
   WroteOrNothing (Err writing.Memory) text = (new ≡ old) × (after ≡ before)

@@ -7,7 +7,7 @@ use Rattle.zy_text.specs.Words.{lines_of}
 use Rattle.zy_asm.specs.Input.{input_fault}
 use Rattle.zy_text.specs.Cut.{cut}
 use Rattle.zy_debug.specs.Sessions.{Session}
-use Rattle.zy_console.specs.Console.{Says, SaysFront, opened}
+use Rattle.zy_console.specs.Console.{Says, SaysPrefix, opened}
 use Rattle.zy_engine.specs.declared.faults.BenchFault.{BenchFault}
 use Rattle.zy_engine.specs.Engines.{Streams}
 use Rattle.zy_engine.specs.Faults.{ReadsInput, failed_reads, failed_writes, IsQuiet, IfRefused}
@@ -29,8 +29,8 @@ pub record Debugs {X : Type 0} (old new : Streams) (result : Result X BenchFault
   pub written : OnOk result (IfSome old.left (λ input. (out : List ℕ) × AreReplies input out
       × Appends old.written new.written out))
   -- whatever comes, nothing but a prefix of the replies went out
-  pub front : IfSome old.left (λ input. (sc : Scenario) → Means (cut input) sc
-      → SaysFront old.written new.written (opened sc) (commands_of input))
+  pub prefix : IfSome old.left (λ input. (sc : Scenario) → Means (cut input) sc
+      → SaysPrefix old.written new.written (opened sc) (commands_of input))
   -- a refused scenario part is reported by its first fault
   pub fault : IfErr result (λ f. IfRefused f (IfSome old.left (λ input. IsTextFault (cut input) f)))
   -- the input is read whole; only where it has more than 4194304 bytes is it too long, and then one byte more is read

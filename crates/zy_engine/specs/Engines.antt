@@ -1,7 +1,7 @@
 -- What an engine does: it reads a scenario in a format, and writes something of it.
 use Rattle.std.specs.Prelude.{◌≡◌, ◌≤◌, ◌+◌, ℕ, List, Option, Result, IfErr, IfSome, OnOk}
 use Rattle.std.specs.Io.KnownBytes.{Appends}
-use Rattle.zy_io.specs.Streams.{WroteFront}
+use Rattle.zy_io.specs.Streams.{WrotePrefix}
 use Rattle.zy_isa.specs.Scenario.{Scenario}
 use Rattle.zy_engine.specs.declared.faults.BenchFault.{BenchFault}
 use Rattle.zy_engine.specs.declared.format.Format.{Format}
@@ -34,8 +34,8 @@ pub record Converts {X : Type 0} (format : Format) (output : Scenario → List �
   pub written : OnOk result (IfSome old.left (λ bytes. (sc : Scenario) × StandsFor format bytes sc
       × Appends old.written new.written (output sc)))
   -- whatever comes, nothing but a prefix of the output of a scenario that the input stands for went out
-  pub front : IfSome old.left (λ bytes. (sc : Scenario) → StandsFor format bytes sc
-      → WroteFront old.written new.written (output sc))
+  pub prefix : IfSome old.left (λ bytes. (sc : Scenario) → StandsFor format bytes sc
+      → WrotePrefix old.written new.written (output sc))
   -- a refused input is reported by its first fault
   pub fault : IfErr result (λ f. IfRefused f (IfSome old.left (λ bytes. IsRefusal format bytes f)))
   -- the input is read whole; only where it has more than 4194304 bytes is it too long, and then one byte more is read

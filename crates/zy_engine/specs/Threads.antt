@@ -15,7 +15,7 @@ use Rattle.zy_engine.specs.Engines.{Streams, Converts}
 -- What went out is the listing that run writes of the scenario with its choices in some order, each actor's whole and
 -- in theirs.
 
--- the same for a call that writes: all of it went out, or a front
+-- the same for a call that writes: all of it went out, or a prefix of it
 pub record WroteMerge {X : Type 0} (sc : Scenario) (old new : Option (List ℕ)) (before after : ℕ)
     (result : Result X TextFault) : Type 0 where
   pub order : List Choice

@@ -1,7 +1,7 @@
 //! The engine that checks a listing.
 ghost use Rattle.std.specs.Prelude.{◌≡◌, ◌<◌, ◌≤◌, ◌+◌, None, IfErr, IfOk, IfSome, length};
 ghost use Rattle.std.specs.Io.KnownBytes.{Appends};
-ghost use Rattle.zy_io.specs.Streams.{WroteFront};
+ghost use Rattle.zy_io.specs.Streams.{WrotePrefix};
 ghost use Rattle.zy_isa.specs.Scenario.{Scenario as AScenario};
 ghost use Rattle.zy_text.specs.Text.{Means};
 ghost use Rattle.zy_asm.specs.Input.{input_fault, utf8_fault};
@@ -52,15 +52,15 @@ pub fn check_bytes<S: Source, K: Sink>(
     requires { (S.failures source.old < u64.MAX) × (K.failures sink.old < u64.MAX) }
     // At Ok the scenario part means a scenario, and the verdict is that of the input against its listing.
     ensures found { IfOk result (λ v. IfSome (S.left source.old) (λ bytes. IsVerdict bytes v)) }
-    // The words of that verdict went out, and nothing else.
+    // Exactly the words of that verdict went out.
     ensures written { IfOk result (λ v. Appends (K.written sink.old) (K.written sink.new) (verdict_line v)) }
     // Where the scenario part means a scenario, that verdict comes, unless a call failed or there was no memory.
     ensures only { IfSome (S.left source.old) (λ bytes. (sc : AScenario) → length bytes ≤ 4194304
         → utf8_fault (cut bytes) ≡ None → Means (cut bytes) sc
         → GivesVerdict result (differs.verdict bytes (listing_run sc))) }
     // Whatever comes, nothing but a prefix of the words of the input's verdict went out.
-    ensures front { IfSome (S.left source.old) (λ bytes. (v : AVerdict) → IsVerdict bytes v
-        → WroteFront (K.written sink.old) (K.written sink.new) (verdict_line v)) }
+    ensures prefix { IfSome (S.left source.old) (λ bytes. (v : AVerdict) → IsVerdict bytes v
+        → WrotePrefix (K.written sink.old) (K.written sink.new) (verdict_line v)) }
     // Only after a failed write may less than a verdict have gone out: before any other fault nothing is written.
     ensures quiet { IfErr result (λ f. IsBefore f → K.written sink.new ≡ K.written sink.old) }
     // A refused scenario part is reported by its first fault.

@@ -12,22 +12,22 @@ use zy_io::{ReadFault, TextFault};
 /// Why an engine gave up. Its text names the fault, and says what is wrong.
 #[derive(Clone, Copy, Debug, PartialEq, Eq, Error)]
 pub enum BenchFault {
-    /// 1: the scenario text is refused, from this line on.
+    /// The scenario text is refused, from this line on.
     #[error("Input(line {}, {:?}): {}", .0.line, .0.reason.kind(), .0.reason)]
     Input(Refusal),
-    /// 2: the image is refused.
+    /// The image is refused.
     #[error("Image({:?}): {}", .0.fault, .0)]
     Image(ImageRefusal),
-    /// 3: the input is longer than an engine takes.
+    /// The input is longer than an engine takes.
     #[error("TooLong: an input has at most 4194304 bytes")]
     TooLong,
-    /// 4: the reader failed.
+    /// The reader failed.
     #[error("Read: the input could not be read to its end")]
     Read,
-    /// 5: the writer failed or took no byte.
+    /// The writer failed or took no byte.
     #[error("Write: the output could not be written")]
     Write,
-    /// 6: there was no memory.
+    /// There was no memory.
     #[error("Memory: there is not enough memory for this run")]
     Memory,
 }

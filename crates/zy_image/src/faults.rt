@@ -8,46 +8,46 @@ use zy_isa::ProgFault;
 /// instructions and choices count from 0.
 #[derive(Clone, Copy, Debug, PartialEq, Eq, Error)]
 pub enum LoadFault {
-    /// 1: the first four bytes are neither `ZPH1` nor `ZPH2`.
+    /// The first four bytes are neither `ZPH1` nor `ZPH2`.
     #[error("an image begins with ZPH1 or ZPH2")]
     Magic,
-    /// 2: the input, of this number of bytes, ends inside a field.
+    /// The input, of this number of bytes, ends inside a field.
     #[error("the input ends after {0} bytes, inside a field")]
     Truncated(usize),
-    /// 3: the last field ends after this number of bytes, and the input goes on.
+    /// The last field ends after this number of bytes, and the input goes on.
     #[error("the image ends after {0} bytes, and the input goes on")]
     Trailing(usize),
-    /// 4: a page would have room for too few or too many rows.
+    /// A page would have room for too few or too many rows.
     #[error("a page takes 2 to 16 rows")]
     Cap,
-    /// 5: there would be no page, or too many.
+    /// There would be no page, or too many.
     #[error("there are 1 to 512 pages")]
     Pages,
-    /// 6: there is no such rule.
+    /// There is no such rule.
     #[error("the rule is 0 (held) or 1 (loose)")]
     Rule,
-    /// 7: there are too many rows, or they need too many pages.
+    /// There are too many rows, or they need too many pages.
     #[error("the rows are at most 256 and open with at most `pages` pages")]
     RowCount,
-    /// 8: the key of this row is not above the one before it.
+    /// The key of this row is not above the one before it.
     #[error("the key of row {0} is above the key before it")]
     RowOrder(usize),
-    /// 9: there are too many transactions.
+    /// There are too many transactions.
     #[error("there are at most 64 transactions")]
     TxnCount,
-    /// 10: the instructions of this transaction are no program.
+    /// The instructions of this transaction are no program.
     #[error("transaction {0}: {1}")]
     Program(usize, ProgFault),
-    /// 11: in this transaction, the eight bytes of this instruction are no word.
+    /// In this transaction, the eight bytes of this instruction are no word.
     #[error("transaction {0}: the bytes of instruction {1} are no instruction")]
     Word(usize, usize),
-    /// 12: there are too many choices.
+    /// There are too many choices.
     #[error("there are at most 4096 choices")]
     ChoiceCount,
-    /// 13: this choice is none, or names a transaction that is not there.
+    /// This is not a choice, or names a transaction that is not there.
     #[error("choice {0} is none, or names a transaction that is not there")]
     Choice(usize),
-    /// 14: there was no memory for the scenario.
+    /// There was no memory for the scenario.
     #[error("there is no memory for the scenario")]
     Memory,
 }

@@ -31,7 +31,7 @@ pub fn half(size: usize, bytes: &[u8]) -> Result<(u16, &[u8]), LoadFault>
     Ok((u16::from_be_bytes(n), left))
 }
 
-/// The version, as the first bytes of an image tell it.
+/// The version that the first bytes of an image name.
 pub fn magic_field(size: usize, bytes: &[u8]) -> Result<(Version, &[u8]), LoadFault>
     ensures { Gives result (spec.magic_field size bytes.entry.now) }
 {

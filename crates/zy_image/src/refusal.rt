@@ -10,7 +10,7 @@ use zy_isa::scenario::opening_rows;
 /// What is at the place of a fault.
 #[derive(Clone, Copy, Debug, PartialEq, Eq)]
 pub enum Found {
-    /// Nothing that the fault does not tell.
+    /// Nothing beyond the fault.
     Nothing,
     /// Another beginning.
     Beginning([u8; 4]),
@@ -84,7 +84,7 @@ impl fmt::Display for Found {
     }
 }
 
-/// Tells some bytes, in hexadecimal digits.
+/// Writes some bytes, in hexadecimal digits.
 fn tell_bytes<W: fmt::Write>(f: &mut fmt::Formatter<W>, before: &str, bytes: &[u8]) -> fmt::Result {
     f.write_str(before)?;
     for byte in bytes {

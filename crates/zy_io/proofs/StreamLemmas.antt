@@ -2,7 +2,7 @@
 use Rattle.std.proofs.Common.{◌≡◌, ℕ, List, [], ◌++◌, take, drop, Option, refl, sym, ap, ◌∙◌, take-append-drop, append_assoc}
 use Rattle.std.specs.Io.KnownBytes.{Appends}
 use Rattle.std.proofs.KnownBytes.{Appends-trans, Appends-nil}
-use Rattle.zy_io.specs.Streams.{Remains, WroteFront}
+use Rattle.zy_io.specs.Streams.{Remains, WrotePrefix}
 
 -- one more call took n bytes
 pub Remains-more : (a b c : Option (List ℕ)) (text rest : List ℕ) (n : ℕ) → Remains a b text rest → Appends b c (take n rest) → Remains a c text (drop n rest)
@@ -22,7 +22,7 @@ Remains-then a b c text more rest last p q = (
 )
 
 -- a prefix of the rest and of what follows it went out
-pub Remains-stops : (a b c : Option (List ℕ)) (text more rest : List ℕ) → Remains a b text rest → WroteFront b c (rest ++ more) → WroteFront a c (text ++ more)
+pub Remains-stops : (a b c : Option (List ℕ)) (text more rest : List ℕ) → Remains a b text rest → WrotePrefix b c (rest ++ more) → WrotePrefix a c (text ++ more)
 Remains-stops a b c text more rest p q = (
   p.0 ++ q.0,
   q.1,
@@ -31,7 +31,7 @@ Remains-stops a b c text more rest p q = (
 )
 
 -- a prefix of the rest went out
-pub Remains-cut : (a b c : Option (List ℕ)) (text rest : List ℕ) → Remains a b text rest → WroteFront b c rest → WroteFront a c text
+pub Remains-cut : (a b c : Option (List ℕ)) (text rest : List ℕ) → Remains a b text rest → WrotePrefix b c rest → WrotePrefix a c text
 Remains-cut a b c text rest p q = (
   p.0 ++ q.0,
   q.1,
@@ -40,9 +40,9 @@ Remains-cut a b c text rest p q = (
 )
 
 -- nothing went out
-pub WroteFront-none : (a : Option (List ℕ)) (text : List ℕ) → WroteFront a a text
-WroteFront-none a text = ([], text, refl, Appends-nil a)
+pub WrotePrefix-none : (a : Option (List ℕ)) (text : List ℕ) → WrotePrefix a a text
+WrotePrefix-none a text = ([], text, refl, Appends-nil a)
 
 -- more of the text follows
-pub WroteFront-more : (a c : Option (List ℕ)) (text more whole : List ℕ) → WroteFront a c text → whole ≡ text ++ more → WroteFront a c whole
-WroteFront-more a c text more whole q e = (q.0, q.1 ++ more, e ∙ ap (λ l. l ++ more) q.2 ∙ append_assoc q.0 q.1 more, q.3)
+pub WrotePrefix-more : (a c : Option (List ℕ)) (text more whole : List ℕ) → WrotePrefix a c text → whole ≡ text ++ more → WrotePrefix a c whole
+WrotePrefix-more a c text more whole q e = (q.0, q.1 ++ more, e ∙ ap (λ l. l ++ more) q.2 ∙ append_assoc q.0 q.1 more, q.3)

@@ -5,14 +5,14 @@ use Rattle.std.specs.List.{flat_map}
 use Rattle.std.proofs.lemmas.Grind.{flat_map-append}
 use Rattle.std.specs.Io.KnownBytes.{Appends}
 use Rattle.std.proofs.KnownBytes.{Appends-trans}
-use Rattle.zy_io.specs.Streams.{Remains, WroteFront}
-use Rattle.zy_io.proofs.StreamLemmas.{Remains-stops, WroteFront-more}
+use Rattle.zy_io.specs.Streams.{Remains, WrotePrefix}
+use Rattle.zy_io.proofs.StreamLemmas.{Remains-stops, WrotePrefix-more}
 use Rattle.zy_io.specs.declared.writing.TextFault.{TextFault}
 use Rattle.zy_io.specs.declared.writing.TextFault.TheVariants.{Write, Memory}
-use Rattle.zy_io.specs.Writing.{Appended, AppendedFront, Wrote}
+use Rattle.zy_io.specs.Writing.{Appended, AppendedPrefix, Wrote}
 
 -- the first text's fault is that of both
-pub Appended-stops : {X E : Type 0} (a b : List ℕ) (e : E) (r : Result X E) (xs ys : List ℕ) → AppendedFront a b xs → r ≡ Err e → Appended r a b (xs ++ ys)
+pub Appended-stops : {X E : Type 0} (a b : List ℕ) (e : E) (r : Result X E) (xs ys : List ℕ) → AppendedPrefix a b xs → r ≡ Err e → Appended r a b (xs ++ ys)
 Appended-stops a b e r xs ys (front, back, is, now) err =
     rw err (front, back ++ ys, ap (λ l. l ++ ys) is ∙ append_assoc front back ys, now)
 
@@ -27,9 +27,9 @@ Appended-then a b c (Err e) xs ys first (front, back, is, now) = (
 )
 
 -- a prefix of the second part, after the whole first
-pub WroteFront-after : (a b c : Option (List ℕ)) (xs ys more text : List ℕ) → Appends a b xs → WroteFront b c ys → text ≡ xs ++ (ys ++ more)
-    → WroteFront a c text
-WroteFront-after a b c xs ys more text p q e = (
+pub WrotePrefix-after : (a b c : Option (List ℕ)) (xs ys more text : List ℕ) → Appends a b xs → WrotePrefix b c ys → text ≡ xs ++ (ys ++ more)
+    → WrotePrefix a c text
+WrotePrefix-after a b c xs ys more text p q e = (
   xs ++ q.0,
   q.1 ++ more,
   e ∙ ap (λ l. xs ++ (l ++ more)) q.2 ∙ ap (λ l. xs ++ l) (append_assoc q.0 q.1 more) ∙ sym (append_assoc xs q.0 (q.1 ++ more)),
@@ -40,9 +40,9 @@ WroteFront-after a b c xs ys more text p q e = (
 pub Wrote-stops : {Y : Type 0} (a b c : Option (List ℕ)) (m n k : ℕ) (f : TextFault) (r : Result Y TextFault) (xs ys more text : List ℕ)
     → Appends a b xs → n ≡ m → Wrote b c n k {X = Unit {0}} (Err f) ys → text ≡ xs ++ (ys ++ more) → r ≡ Err f → Wrote a c m k r text
 Wrote-stops a b c m n k Write r xs ys more text p same q e is =
-    rw is (WroteFront-after a b c xs ys more text p q.0 e, q.1 ∙ ap (λ x. x + 1) same)
+    rw is (WrotePrefix-after a b c xs ys more text p q.0 e, q.1 ∙ ap (λ x. x + 1) same)
 Wrote-stops a b c m n k Memory r xs ys more text p same q e is =
-    rw is (WroteFront-after a b c xs ys more text p q.0 e, q.1 ∙ same)
+    rw is (WrotePrefix-after a b c xs ys more text p q.0 e, q.1 ∙ same)
 
 -- the second text's fault is that of both
 pub Wrote-second-stops : {Y : Type 0} (a b c : Option (List ℕ)) (m n k : ℕ) (f : TextFault) (r : Result Y TextFault) (xs ys : List ℕ)
@@ -85,7 +85,7 @@ flat_map-flat_map f (part ∷ parts) =
 
 -- the fault of one element's text, which is behind those before it, is that of the whole list
 pub Appended-element-stops : {X E Z : Type 0} (f : Z → List ℕ) (xs : List Z) (i : ℕ) (d : Z) (a b c : List ℕ) (e : E) (r : Result X E)
-    → i < length xs → b ≡ a ++ flat_map f (take i xs) → AppendedFront b c (f (get_or xs i d)) → r ≡ Err e → Appended r a c (flat_map f xs)
+    → i < length xs → b ≡ a ++ flat_map f (take i xs) → AppendedPrefix b c (f (get_or xs i d)) → r ≡ Err e → Appended r a c (flat_map f xs)
 Appended-element-stops f xs i d a b c e r h so_far (front, back, is, now) err =
     let after = flat_map f (drop (suc i) xs) in
     let before = flat_map f (take i xs) in
@@ -115,9 +115,9 @@ Wrote-rest-stops f xs i d a b c m n k rest fault r h p same q is = rw is (stops 
     before : List ℕ
     before = flat_map f (take i xs)
 
-    front : WroteFront b c (rest ++ f (get_or xs i d)) → WroteFront a c (flat_map f xs)
+    front : WrotePrefix b c (rest ++ f (get_or xs i d)) → WrotePrefix a c (flat_map f xs)
     front w =
-        WroteFront-more a c (before ++ f (get_or xs i d)) (flat_map f (drop (suc i) xs)) (flat_map f xs)
+        WrotePrefix-more a c (before ++ f (get_or xs i d)) (flat_map f (drop (suc i) xs)) (flat_map f xs)
         (Remains-stops a b c before (f (get_or xs i d)) rest p w)
         (flat_map-split f xs i d h ∙ sym (append_assoc before (f (get_or xs i d)) (flat_map f (drop (suc i) xs))))
 

@@ -54,8 +54,8 @@ abbrev pub ReadTooMuch : Option (List ℕ) → Option (List ℕ) → Type 0
 ReadTooMuch old new = Took old new 4194305
 
 -- a prefix of the text went out
-abbrev pub WroteFront : Option (List ℕ) → Option (List ℕ) → List ℕ → Type 0
-WroteFront old new text = (front : List ℕ) × (back : List ℕ) × (text ≡ front ++ back) × Appends old new front
+abbrev pub WrotePrefix : Option (List ℕ) → Option (List ℕ) → List ℕ → Type 0
+WrotePrefix old new text = (front : List ℕ) × (back : List ℕ) × (text ≡ front ++ back) × Appends old new front
 
 -- a prefix of the text went out, and the rest did not
 abbrev pub Remains : Option (List ℕ) → Option (List ℕ) → List ℕ → List ℕ → Type 0
@@ -74,4 +74,4 @@ module _ (old new : Option (List ℕ)) (before after : ℕ) where
   -- at Ok all of the text went out; else a prefix of it, since a call failed or took none
   abbrev pub WritesAll : {X E : Type 0} → Result X E → List ℕ → Type 0
   WritesAll (Ok x) text = Appends old new text × (after ≡ before)
-  WritesAll (Err e) text = WroteFront old new text × (after ≡ before + 1)
+  WritesAll (Err e) text = WrotePrefix old new text × (after ≡ before + 1)

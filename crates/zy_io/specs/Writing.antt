@@ -1,7 +1,7 @@
 -- What a call that writes lines of text did.
 use Rattle.std.specs.Prelude.{◌≡◌, ℕ, ◌+◌, List, [], ◌∷◌, ◌++◌, Option, Result, Ok, Err}
 use Rattle.std.specs.Io.KnownBytes.{Appends}
-use Rattle.zy_io.specs.Streams.{Remains, WroteFront}
+use Rattle.zy_io.specs.Streams.{Remains, WrotePrefix}
 use Rattle.zy_io.specs.declared.writing.TextFault.{TextFault}
 use Rattle.zy_io.specs.declared.writing.TextFault.TheVariants.{Write, Memory}
 
@@ -10,27 +10,27 @@ abbrev pub line_of : List ℕ → List ℕ
 line_of text = text ++ 10 ∷ []
 
 -- a prefix of the text was put behind what was there
-abbrev pub AppendedFront : List ℕ → List ℕ → List ℕ → Type 0
-AppendedFront old new text = (front : List ℕ) × (back : List ℕ) × (text ≡ front ++ back) × (new ≡ old ++ front)
+abbrev pub AppendedPrefix : List ℕ → List ℕ → List ℕ → Type 0
+AppendedPrefix old new text = (front : List ℕ) × (back : List ℕ) × (text ≡ front ++ back) × (new ≡ old ++ front)
 
 -- at Ok all of the text was; else a prefix of it
 abbrev pub Appended : {X E : Type 0} → Result X E → List ℕ → List ℕ → List ℕ → Type 0
 Appended (Ok x) old new text = new ≡ old ++ text
-Appended (Err e) old new text = AppendedFront old new text
+Appended (Err e) old new text = AppendedPrefix old new text
 
 -- A call that writes went from the bytes old and the number of failures before to new and after.
 module _ (old new : Option (List ℕ)) (before after : ℕ) where
   -- at Ok all of the text went out; else a prefix of it, and Write comes where a call failed or took none
   abbrev pub Wrote : {X : Type 0} → Result X TextFault → List ℕ → Type 0
   Wrote (Ok x) text = Appends old new text × (after ≡ before)
-  Wrote (Err Write) text = WroteFront old new text × (after ≡ before + 1)
-  Wrote (Err Memory) text = WroteFront old new text × (after ≡ before)
+  Wrote (Err Write) text = WrotePrefix old new text × (after ≡ before + 1)
+  Wrote (Err Memory) text = WrotePrefix old new text × (after ≡ before)
 
   -- at Ok a prefix of the text went out, and the rest is kept; else a prefix of it went out, since a call failed or
   -- took none
   abbrev pub Passed : {X E : Type 0} → Result X E → List ℕ → List ℕ → Type 0
   Passed (Ok x) text rest = Remains old new text rest × (after ≡ before)
-  Passed (Err e) text rest = WroteFront old new text × (after ≡ before + 1)
+  Passed (Err e) text rest = WrotePrefix old new text × (after ≡ before + 1)
 
   -- the same, where memory may be wanted too
   abbrev pub Gathered : {X : Type 0} → Result X TextFault → List ℕ → List ℕ → Type 0

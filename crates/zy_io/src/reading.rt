@@ -15,13 +15,13 @@ const PIECE: usize = 4096;
 /// Why an input was not read to its end.
 #[derive(Clone, Copy, Debug, PartialEq, Eq, Error)]
 pub enum ReadFault {
-    /// 1: a call failed.
+    /// A call failed.
     #[error("the input could not be read")]
     Read,
-    /// 2: there are over 4,194,304 bytes.
+    /// There are over 4,194,304 bytes.
     #[error("the input has at most 4194304 bytes")]
     TooLong,
-    /// 3: there was no memory for the bytes.
+    /// There was no memory for the bytes.
     #[error("there is no memory for the input")]
     Memory,
 }

@@ -98,7 +98,7 @@ impl Locks {
         ensures alone { holds_alone self.now.locks page txn ≡ true → IsSome result }
     {
         let at = place(&self.locks, page, txn);
-        // Others' locks on the page agree with each other, so that those beside the place tell.
+        // Others' locks on the page agree with each other, so those beside the place decide.
         let near = &self.locks[at.saturating_sub(1)..self.len().min(at + 2)];
         if any_clashes(near, page, txn, kind) {
             None

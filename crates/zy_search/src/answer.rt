@@ -13,7 +13,7 @@ pub enum Answer {
     Spent(usize),
 }
 
-/// An answer, and for a person how many states were come to on the way, and the most choices that one of them takes:
+/// An answer, and for a person how many states were reached on the way, and the most choices that one of them takes:
 /// nothing is promised of the two numbers.
 #[derive(Drop)]
 pub struct Report {
@@ -25,7 +25,7 @@ pub struct Report {
 /// What came of one choice from a state.
 #[derive(Clone, Copy, Debug, PartialEq, Eq)]
 pub enum Met {
-    /// A state that was come to before, or one more.
+    /// A state that was reached before, or one more.
     Noted,
     /// A state that shows what is looked for.
     Shown,

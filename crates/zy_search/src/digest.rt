@@ -13,7 +13,7 @@ fn mixed(digest: u64, number: u64) -> u64 {
     (digest.rotate_left(5) ^ number).wrapping_mul(0x517c_c1b7_2722_0a95)
 }
 
-/// A number that tells most states apart. Nothing is promised of it: a bad one costs time alone.
+/// A number that differs for most states. Nothing is promised of it: a bad one costs time alone.
 pub(crate) fn digest(machine: &Machine) -> u64 {
     let mut digest = mixed(
         mode_number(machine.mode(Node::A)),

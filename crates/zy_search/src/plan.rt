@@ -5,7 +5,7 @@ use std::alloc::Global;
 use zy_isa::Choice;
 use zy_machine::Machine;
 
-/// Where a search begins, what it looks for, the choices that it considers, and the most states that it may come to.
+/// Where a search begins, what it looks for, the choices that it considers, and the most states that it may reach.
 #[derive(Drop)]
 pub struct Plan {
     pub alloc: Global,

@@ -20,7 +20,7 @@ use std::alloc::{AllocError, Global};
 use zy_isa::{Choice, MAX_CHOICES};
 use zy_machine::{Fault, Machine};
 
-/// What is known where the path at a place was not gone on from, and all before it were.
+/// What is known where the path at a place was not expanded, and all before it were.
 fn spent_at(alloc: Global, visited: &Visited, at: u32) -> Result<Answer, Fault>
     requires { at < length visited.now }
     ensures { IfOk result (λ a. a ≡ Answer.Spent (length_at visited.now at + 1)) }
@@ -29,7 +29,7 @@ fn spent_at(alloc: Global, visited: &Visited, at: u32) -> Result<Answer, Fault>
     Ok(Answer::Spent(path.len() + 1))
 }
 
-/// The answer where all paths before a place were gone on from, and that one is not.
+/// The answer where all paths before a place were expanded, and that one is not.
 fn settle(plan: &Plan, visited: &Visited, at: u32) -> Result<Answer, Fault>
     requires visits { Visits plan.now.start plan.now.sought visited.now }
     requires expanded { AreExpanded plan.now.start plan.now.sought visited.now at }
@@ -44,10 +44,10 @@ fn settle(plan: &Plan, visited: &Visited, at: u32) -> Result<Answer, Fault>
     spent_at(plan.alloc, visited, at)
 }
 
-/// How many states are gone on from before the watch hears of it again.
+/// How many states are expanded before the watch hears of it again.
 const EVERY: u32 = 256;
 
-/// Tells the watch how far the search is, if it is time.
+/// Reports to the watch how far the search is, if it is time.
 fn report_to<W: Watch>(watch: &mut W, alloc: Global, visited: &Visited, at: u32)
     requires { at < length visited.now }
 {
@@ -59,7 +59,7 @@ fn report_to<W: Watch>(watch: &mut W, alloc: Global, visited: &Visited, at: u32)
     }
 }
 
-/// Goes on from each path in turn, those that are added on the way too. The machines are for use by the way.
+/// Expands each path in turn, those that are added on the way too. The machines are scratch machines.
 fn expand_all<W: Watch>(
     plan: &Plan,
     visited: &mut Visited,
@@ -96,7 +96,7 @@ fn shown_by(answer: &Answer) -> usize {
     }
 }
 
-/// An answer, with how many states were come to and the length of the last path.
+/// An answer, with how many states were reached and the length of the last path.
 fn report(alloc: Global, visited: &Visited, answer: Answer) -> Result<Report, AllocError>
     ensures { IfOk result (λ r. r.answer ≡ answer) }
 {
@@ -215,7 +215,7 @@ fn plan_from(alloc: Global, machine: &Machine, sought: Sought, most: u32) -> Res
 }
 
 /// Looks for a state that choices lead to from a machine's, and that shows what is looked for. It goes breadth first,
-/// so that no fewer choices lead there, and stops where it would come to more states than `most`. The watch learns how
+/// so that no fewer choices lead there, and stops where it would reach more states than `most`. The watch learns how
 /// far it is.
 pub fn search<W: Watch>(
     alloc: Global,

@@ -1,4 +1,4 @@
-//! Machines where the last paths lead, so that most states are compared, and gone on from, without making all choices
+//! Machines where the last paths lead, so that most states are compared, and expanded, without making all choices
 //! that lead there.
 ghost use Rattle.std.specs.Prelude.{◌≡◌, ◌<◌, ℕ, List, [], IfOk, IfSome, OnOk, Some, true, length, slice_index_or};
 ghost use Rattle.zy_isa.specs.declared.choice.Choice.{Choice};
@@ -27,7 +27,7 @@ pub struct Spot {
     at: Option<u32>,
 }
 
-/// Machines where some of the last paths lead, and one for use by the way.
+/// Machines where some of the last paths lead, and a scratch machine.
 #[derive(Drop)]
 pub struct Shelf {
     spots: Vec<Spot>,
@@ -36,7 +36,7 @@ pub struct Shelf {
 }
 
 impl Shelf {
-    /// No machine but the one for use by the way. There may be fewer where the scenario has more pages.
+    /// No machine but the scratch machine. There may be fewer where the scenario has more pages.
     pub fn new(alloc: Global, start: &Machine) -> Result<Shelf, Fault>
         ensures spots { IfOk result (λ s. s.spots.items ≡ []) }
         ensures spare { IfOk result (λ s. s.spare ≡ start.now) }

@@ -1,4 +1,4 @@
-//! The states that a search has come to.
+//! The states that a search has reached.
 ghost use Rattle.std.specs.Prelude.{◌≡◌, ◌<◌, ◌≤◌, ◌-◌, ◌^◌, ◌++◌, ◌∷◌, [], IfOk, IfSome, OnOk, OnErr, length};
 ghost use Rattle.std.specs.Prelude.{slice_index_or};
 
@@ -9,7 +9,7 @@ use std::collections::HashMap;
 use std::marker::Model;
 use zy_isa::Choice;
 
-/// A path to each state that was come to, and where to look for a state that has a digest.
+/// A path to each state that was reached, and where to look for a state that has a digest.
 #[derive(Drop)]
 pub struct Visited {
     tree: Tree,

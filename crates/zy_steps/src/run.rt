@@ -194,7 +194,7 @@ fn key_step(
     page_step(scenario, alloc, me, book, t, access, key, p)
 }
 
-/// `sum`: no key, a key that is none, or the pages of the keys.
+/// `sum`: no key, a number that is not a key, or the pages of the keys.
 #[inline(never)]
 #[tactic(auto, unfolding(zy_table::specs::Run::range_step))]
 fn range_step(

@@ -1,4 +1,4 @@
-//! Digests: a number that tells values apart, made without memory.
+//! Digests: a number that differs for most values, made without memory.
 
 use std::fmt;
 use std::fmt::Write;

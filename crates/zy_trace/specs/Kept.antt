@@ -1,4 +1,4 @@
--- Locks of a node in two states, without their common front.
+-- Locks of a node in two states, without their common prefix.
 use Rattle.std.specs.Prelude.{◌≡◌, ◌==◌, ℕ, Bool, not, List}
 use Rattle.std.specs.List.{list_all}
 use Rattle.zy_isa.specs.declared.node.Node.{Node}

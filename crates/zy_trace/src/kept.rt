@@ -25,7 +25,7 @@ fn same_lock(old: Lock, new: Lock) -> bool
     old == new
 }
 
-/// How many locks at the front of two lists are the same.
+/// How long the longest common prefix of two lists of locks is.
 fn common(old: &[Lock], new: &[Lock]) -> usize
     ensures old { result ≤ length old.now }
     ensures new { result ≤ length new.now }
@@ -41,7 +41,7 @@ fn common(old: &[Lock], new: &[Lock]) -> usize
     i
 }
 
-/// The locks of a node in two states, without their common front.
+/// The locks of a node in two states, without their common prefix.
 pub(crate) fn rests_at<'a>(before: &'a Machine, after: &'a Machine, n: Node) -> Rests<'a>
     ensures { AreRests (facing n before.entry.now.state).me.locks (facing n after.entry.now.state).me.locks result }
 {

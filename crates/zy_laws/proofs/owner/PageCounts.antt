@@ -69,7 +69,7 @@ pub times-installed : (p : ℕ) (lows : List ℕ) (rows : List Row) (xs : List L
 times-installed p lows rows [] = refl
 times-installed p lows rows (x ∷ xs) = ap (λ n. (if x.number == p then 1 else 0) + n) (times-installed p lows rows xs)
 
--- a page more is counted once more
+-- a page more adds one to the count
 pub times-with_page : (p : ℕ) (leaf : Leaf) (xs : List Leaf) → times p (with_page leaf xs) ≡ (if leaf.number == p then 1 else 0) + times p xs
 times-with_page p leaf [] = refl
 times-with_page p leaf (x ∷ xs) =

@@ -1,6 +1,6 @@
 -- What the listing left in the sink is the verdict.
 use Rattle.zy_audit.specs.Run.{listing_run}
-use Rattle.zy_check.proofs.JudgeLemmas.{judged_whole, judged_front}
+use Rattle.zy_check.proofs.JudgeLemmas.{judged_whole, judged_prefix}
 use Rattle.zy_check.proofs.check.compare.Goals as goal
 
 pub returns-in-Ok : goal.returns-in-Ok
@@ -11,5 +11,5 @@ returns-in-Ok c =
 pub returns-in-Err-Write : goal.returns-in-Err-Write
 returns-in-Err-Write c =
     let wrote = rw c.in-Err-Write.field-0-is at c.in-Err-Write.ensures in
-    judged_front c.args.input.now (listing_run c.args.scenario) c.new-sink.result c.write_run.new.sink c.verdict-in-Err-Write.result
-    c.new-sink.ensures wrote.0 wrote.1 c.verdict-in-Err-Write.ensures.front
+    judged_prefix c.args.input.now (listing_run c.args.scenario) c.new-sink.result c.write_run.new.sink c.verdict-in-Err-Write.result
+    c.new-sink.ensures wrote.0 wrote.1 c.verdict-in-Err-Write.ensures.prefix

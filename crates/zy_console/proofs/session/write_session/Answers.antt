@@ -2,7 +2,7 @@
 use Rattle.std.proofs.Common.{◌∙◌, sym, subst, arith}
 use Rattle.std.proofs.lemmas.Result.{err_from_is_err_and}
 use Rattle.std.specs.Io.KnownBytes.{Appends}
-use Rattle.zy_io.specs.Streams.{WroteFront}
+use Rattle.zy_io.specs.Streams.{WrotePrefix}
 use Rattle.zy_text.specs.Words.{lines_of, words_of}
 use Rattle.zy_text.specs.Lines.{first_line}
 use Rattle.zy_text.proofs.LineLemmas.{line_taken}
@@ -31,7 +31,7 @@ returns-in_err-write_all g c =
     let says = says_first c.loop-words.debugger c.answer.new.debugger (words_of line) c.answer.new.line
     (subst (λ ws. LineSays c.loop-words.debugger ws c.answer.new.debugger c.answer.new.line)
     (c.as_slice.ensures ∙ c.take_line-rest.ensures.words) c.in_ok-answer.ensures) in
-    let front = subst (WroteFront (written c.loop-words.sink) (written c.write_all.new.sink)) c.as_bytes.ensures.value c.in_err-write_all.ensures.0 in
+    let front = subst (WrotePrefix (written c.loop-words.sink) (written c.write_all.new.sink)) c.as_bytes.ensures.value c.in_err-write_all.ensures.0 in
     rw p.1 (rw p.2 (
       said_torn (written c.args.sink.now) (written c.loop-words.sink) c.args.debugger.now c.loop-words.debugger c.answer.new.debugger
           (lines_of c.args.commands.now) (lines_of c.loop-words.rest.now) (lines_of c.take_line-rest.result.now) c.answer.new.line

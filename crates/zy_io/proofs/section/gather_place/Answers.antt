@@ -2,13 +2,13 @@
 use Rattle.std.proofs.Common.{◌≡◌, ◌++◌, ◌∷◌, [], append_assoc, ap, sym, refl, ◌∙◌, slice_index_or}
 use Rattle.std.proofs.lemmas.Result.{err_from_is_err_and}
 use Rattle.zy_io.specs.Writing.{line_of}
-use Rattle.zy_io.proofs.StreamLemmas.{WroteFront-none}
+use Rattle.zy_io.proofs.StreamLemmas.{WrotePrefix-none}
 use Rattle.zy_io.proofs.section.gather_place.Goals as goal
 
 pub returns-in_err-append : goal.returns-in_err-append
 returns-in_err-append g c =
     let p = err_from_is_err_and c.from_residual.result c.from_residual.ensures.1 in
-    rw (p.1, p.2) (WroteFront-none _ _, refl)
+    rw (p.1, p.2) (WrotePrefix-none _ _, refl)
 
 pub returns-in_err-write_much : goal.returns-in_err-write_much
 unfolding lib.Utf8.encode

@@ -3,7 +3,7 @@ use Rattle.std.proofs.Common.{◌≡◌, ◌+◌, ◌<◌, ◌∙◌, Err, ap, s
 use Rattle.std.specs.List.{flat_map}
 use Rattle.std.specs.Io.KnownBytes.{Appends}
 use Rattle.std.proofs.lemmas.Result.{err_from_is_err_and}
-use Rattle.zy_io.specs.Streams.{WroteFront}
+use Rattle.zy_io.specs.Streams.{WrotePrefix}
 use Rattle.zy_io.specs.Writing.{line_of, Wrote}
 use Rattle.zy_io.specs.declared.writing.TextFault.TheVariants.{Write}
 use Rattle.zy_table.specs.Play.{opening}
@@ -44,7 +44,7 @@ returns-in_err-write_all g c =
     let all : length c.choices-end.result.now ≡ length h.scenario.choices =
     ap length (c.choices-end.ensures.value ∙ ap (λ (s : Scenario). s.choices) (c.scenario.ensures.value ∙ sym c.loop.invariant.scenario)) in
     let more-left : length h.entries < length h.scenario.choices = omega (arith, all, c.loop.invariant.position, c.loop-test.true) in
-    let out = subst (WroteFront (written c.loop.sink) (written c.write_all.new.sink)) (c.as_bytes.ensures.value ∙ step.lines) c.in_err-write_all.ensures.0 in
+    let out = subst (WrotePrefix (written c.loop.sink) (written c.write_all.new.sink)) (c.as_bytes.ensures.value ∙ step.lines) c.in_err-write_all.ensures.0 in
     let Text : Scenario → Type 0 = λ sc. Wrote (written c.args.sink.now) (written c.write_all.new.sink) (g.K.Sink.failures c.args.sink.now)
     (g.K.Sink.failures c.write_all.new.sink)
     c.from_residual-in_err-write_all.result (flat_map line_of (steps_lines sc 1 (opening sc) sc.choices)) in
