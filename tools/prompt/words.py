@@ -12,7 +12,7 @@ looks     page P (p)          a page and its locks        txn T (t)           a 
           explain [OUTCOME]   what an outcome means, and when it comes; without words that of the last step
           summary             the whole run in some lines
 schedule  do CHOICE [x N]     makes a choice behind the position; those that were behind it are set aside
-          do CHOICE until wait    makes it until it waits, ends or changes nothing; until end: also where it asks for a page
+          do CHOICE until wait    makes it until it waits, ends or changes nothing; until end: goes on where it asks for a page
           undo                the choices as they were before the last do
           save FILE           writes the scenario with the choices up to the position
           help (h), quit (q)
