@@ -176,7 +176,7 @@ fn writes_lines(rt: HostRuntime) -> Result<(), Fail> {
 }
 
 #[test]
-fn a_failed_write_leaves_a_front(rt: HostRuntime) {
+fn a_failed_write_leaves_a_prefix(rt: HostRuntime) {
     let mut line = LineBuffer::new(rt.alloc());
     for fails in [false, true] {
         for bad in 1..=15 {
