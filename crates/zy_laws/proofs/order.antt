@@ -1,3 +1,4 @@
 -- Why every list is in its order.
+pub mod Rising
 pub mod Ordered
 pub mod ListsInOrder

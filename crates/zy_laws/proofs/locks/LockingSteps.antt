@@ -45,12 +45,13 @@ use Rattle.zy_laws.proofs.walk.Events.{Writes, Inserts, Splits, Commits, Asks, S
 use Rattle.zy_laws.proofs.walk.Events.{GotAll, GotDone, Finishes, Pushes, GoesOn}
 use Rattle.zy_laws.proofs.places.Installing.{Placed, placed_front, owns-installed, placed_installed}
 use Rattle.zy_table.proofs.LockLists.{alone-add, alone_more, alone_new, exclusive_holds, holds-add, locked_of}
-use Rattle.zy_laws.proofs.locks.Locking.{Kept, Locking, Stay, began, freed, idle_locking, lock_taken, nobody_runs, seen_same, whole, seen_other, seen_step, steady}
-use Rattle.zy_laws.proofs.locks.Locking.{untouched}
+use Rattle.zy_laws.proofs.locks.Locking.{Kept, Locking, Stay, began, freed, idle_locking, lock_taken, nobody_runs, seen_other, seen_same, seen_step, steady}
+use Rattle.zy_laws.proofs.locks.Locking.{untouched, whole}
 use Rattle.zy_laws.proofs.serial.LoneRuns.{get_row-put}
 use Rattle.zy_laws.proofs.places.MovedPages.{arrived_placed, leaves_placed, whole_same}
 use Rattle.zy_laws.proofs.owner.MovingPages.{owns-without_other, sent_bare}
-use Rattle.zy_laws.proofs.order.Ordered.{Ordered, rows_at}
+use Rattle.zy_laws.proofs.order.Ordered.{Ordered}
+use Rattle.zy_laws.proofs.order.Rising.{rows_at}
 use Rattle.zy_laws.proofs.places.PageValues.{rest_lacks, rest_of}
 use Rattle.zy_laws.proofs.owner.PhaseSteps.{taker_of, wire_came}
 use Rattle.zy_laws.proofs.owner.Roles.{Inv, Roles, normal_other}
@@ -388,7 +389,8 @@ module _ (sc : Scenario) (n : Node) (v : View) (lows : List ℕ) where
       let idle = normal_other v h.inv.roles normal in
       let parts = placed_front (0 ∷ more) v.me.pages (rest_of v) (subst (λ l. Placed l (whole v)) h.first.1 h.placed) in
       let here : page_of (0 ∷ more) b ≡ p = subst (λ l. page_of l b ≡ p) begins on in
-      let now = placed_cut more p b v.me.pages (rest_of v) here (subst (λ l. Contains l b → ⊥) begins new) (rest_lacks v p h.inv.owned f.here) parts.0 parts.1 in
+      let lacks = rest_lacks v p h.inv.owned f.here in
+      let now = placed_cut more p b v.me.pages (rest_of v) here (subst (λ l. Contains l b → ⊥) begins new) lacks parts.0 parts.1 in
       let pages : ℕ → List Leaf = λ q. with_page (record { number = q; low = b; rows = rows_from b (rows_of v.me.pages p) }) (lowered p b v.me.pages)
       ++ rest_of v in
       record {

@@ -1,61 +1,42 @@
 -- Each step of the table leaves every list in its order.
-use Rattle.std.proofs.Common.{List, [], ap, arith, false, true, inl, inr, length, length-append, refl, subst, suc, sym, ℕ, ◌++◌, ◌+◌, ◌∙◌, ◌∷◌, ◌≡◌, ◌≤◌}
-use Rattle.std.specs.Prelude.{if◌then◌else◌, nat_lt, nat_le, slice_set, ◌==◌}
-use Rattle.std.proofs.lemmas.Bool.{cases_eq, cond_both, eqb-false, leb-false, leb-true, or_parts}
+use Rattle.std.proofs.Common.{List, [], ap, arith, false, true, inl, inr, length, length-append, refl, subst, suc, sym, ℕ, ◌+◌, ◌∙◌, ◌∷◌, ◌≡◌}
+use Rattle.std.specs.Prelude.{if◌then◌else◌, slice_set, ◌==◌}
+use Rattle.std.proofs.lemmas.Bool.{cases_eq}
 use Rattle.zy_isa.specs.Rows.{Rising}
 use Rattle.zy_isa.specs.Scenario.{Scenario}
 use Rattle.zy_isa.specs.declared.node.Node.{Node}
 use Rattle.zy_isa.specs.declared.row.Row.{Row}
-use Rattle.zy_locks.specs.Order.{LocksRise}
 use Rattle.zy_locks.proofs.Rising.{rise_add, rise_drop}
-use Rattle.zy_locks.specs.Locks.{add_lock}
 use Rattle.zy_locks.specs.Order.{LocksRise}
-use Rattle.zy_locks.specs.declared.lock.Lock.{Lock}
 use Rattle.zy_locks.specs.declared.lock.LockKind.{LockKind}
 use Rattle.zy_locks.specs.declared.lock.LockKind.TheVariants.{Exclusive, Shared}
-use Rattle.zy_table.specs.Change.{aborted, asks, begun, committed, cut, did, installed, leaves, locked, share_all, shares, txn_at}
+use Rattle.zy_table.specs.Change.{aborted, asks, begun, committed, cut, did, leaves, locked, shares, txn_at}
 use Rattle.zy_table.specs.Database.{sent_leaves}
 use Rattle.zy_table.specs.Order.{NodeInOrder, NumbersRise, RowsRise}
-use Rattle.zy_table.specs.Rows.{rows_on}
 use Rattle.zy_table.specs.State.{Leaf, Message, NodeState, Txn, View}
 use Rattle.zy_table.specs.declared.outcome.Why.{Why}
-use Rattle.zy_laws.proofs.walk.Events.{Aborts, Asks, Begins, Commits, Event, Finishes, Gets, Gives, GotAll, GotDone, GotDual, GotFinish, GotLast, GotPage, GotReady}
-use Rattle.zy_laws.proofs.walk.Events.{GotWire, Inserts, IsStale, Pushes, Rests, SumsUp, Splits, Starts, Writes, arrived, has_lock, page, puts, rest, GoesOn}
-use Rattle.zy_page.proofs.Parted.{Rising-lower}
+use Rattle.zy_laws.proofs.walk.Events.{Aborts, Asks, Begins, Commits, Event, Finishes, Gets, Gives, GotAll, GotDone, GotDual, GotFinish, GotLast, GotPage}
+use Rattle.zy_laws.proofs.walk.Events.{GoesOn, GotReady, GotWire, Inserts, IsStale, Pushes, Rests, SumsUp, Splits, Starts, Writes}
+use Rattle.zy_laws.proofs.walk.Events.{arrived, has_lock, page, puts, rest}
 use Rattle.zy_page.proofs.Rows.{Rising-put_row}
-use Rattle.zy_table.proofs.RisingRows.{rises_puts}
+use Rattle.zy_laws.proofs.order.Rising.{numbers-installed, length-installed, rows_rise-installed, rise_share, numbers-lowered, rises_from, rows_at, rows_rise-lowered}
+use Rattle.zy_laws.proofs.order.Rising.{rows_rise-with_page, asked_put, asked_drop, numbers-without, rows_rise-without, rows_rise-last, length-without}
 use Rattle.zy_laws.proofs.owner.Roles.{Inv, Owned, fresh_number, normal_other, width}
 use Rattle.zy_laws.proofs.owner.OneOwner.{done_wide, locks_inv, pulled_inv, wire_wide}
 use Rattle.zy_laws.proofs.owner.MovingPages.{sent_leaves-append, sent_bare}
 use Rattle.zy_laws.proofs.owner.PageCounts.{owns-times, owns_none, times_sent}
 use Rattle.zy_links.specs.Messages.{Wire, Ready, Dual, Pull, Page, Finish, Done}
-use Rattle.zy_table.specs.Keys.{put_key}
-use Rattle.zy_table.specs.Numbers.{drop_number, has}
+use Rattle.zy_table.specs.Numbers.{has}
 use Rattle.zy_laws.specs.OneOwner.{times}
 use Rattle.std.proofs.lemmas.Bool.Decides.{nat_tests}
 use Rattle.zy_table.proofs.PageLists.{owns-lowered}
-use Rattle.zy_page.specs.Leaf.{rows_below, rows_from}
+use Rattle.zy_page.specs.Leaf.{rows_from}
 use Rattle.zy_wire.specs.Wireframe.{page_of}
 use Rattle.zy_modes.specs.Table.{may_split}
-use Rattle.zy_table.specs.Pages.{leaf_at, lowered, numbers, owns, rows_of, with_page, without}
+use Rattle.zy_table.specs.Pages.{leaf_at, lowered, numbers, owns, rows_of}
 use Rattle.zy_table.specs.Run.{boundary}
 use Rattle.zy_laws.proofs.walk.Txns.{at_either, at_other, at_same}
 use Rattle.zy_table.proofs.PageLists.{length-with_page, length-lowered, numbers-with_page}
-
--- pages
-numbers-installed : (lows : List ℕ) (rs : List Row) (xs : List Leaf) → numbers (installed lows rs xs) ≡ numbers xs
-numbers-installed lows rs [] = refl
-numbers-installed lows rs (x ∷ xs) = ap (λ ns. x.number ∷ ns) (numbers-installed lows rs xs)
-
--- installing rows leaves the number of pages
-length-installed : (lows : List ℕ) (rs : List Row) (xs : List Leaf) → length (installed lows rs xs) ≡ length xs
-length-installed lows rs [] = refl
-length-installed lows rs (x ∷ xs) = ap suc (length-installed lows rs xs)
-
--- installing rows keeps the rows of each page rising
-rows_rise-installed : (lows : List ℕ) (rs : List Row) (xs : List Leaf) → RowsRise xs → RowsRise (installed lows rs xs)
-rows_rise-installed lows rs [] h = tt
-rows_rise-installed lows rs (x ∷ xs) h = (rises_puts (rows_on lows x.number rs) x.rows h.0, rows_rise-installed lows rs xs h.1)
 
 -- how many pages there are, and low keys
 abbrev pages_in : View → ℕ
@@ -112,11 +93,6 @@ lock_ordered t p pc kind regs rows v o rises =
     rises
     (locks_ordered v.me _ o.mine refl refl (rise_add p t kind v.me.locks o.mine.locks)) refl refl refl refl refl
 
--- shared locks on several pages keep the locks in order
-rise_share : (ps : List ℕ) (t : ℕ) (xs : List Lock) → LocksRise xs → LocksRise (share_all ps t xs)
-rise_share [] t xs h = h
-rise_share (p ∷ ps) t xs h = rise_share ps t (add_lock p t Shared xs) (rise_add p t Shared xs h)
-
 -- and one that shares some pages
 sum_ordered : (t pc : ℕ) (regs ps : List ℕ) (v : View) → Ordered v → Ordered (did t pc regs (txn_at v t).rows (shares t ps v))
 unfolding did shares txn_at
@@ -152,46 +128,6 @@ puts_ordered : (t key value : ℕ) (v : View) → Ordered v → Ordered (puts t 
 puts_ordered t key value v o = lock_ordered t (page key v) _ Exclusive _ _ v o (Rising-put_row 0 key value (txn_at v t).rows (o.private t) (omega arith))
 
 -- ---- a page is cut
-
--- cutting a page's rows leaves the pages' numbers
-numbers-lowered : (p b : ℕ) (xs : List Leaf) → numbers (lowered p b xs) ≡ numbers xs
-numbers-lowered p b [] = refl
-numbers-lowered p b (x ∷ xs) = ap (λ ns. x.number ∷ ns) (numbers-lowered p b xs)
-
--- the rows below a key rise
-pub rises_below : (low b : ℕ) (rows : List Row) → Rising low rows → Rising low (rows_below b rows)
-rises_below low b [] h = tt
-rises_below low b (r ∷ rows) h =
-    cond_both (nat_lt r.key b) (r ∷ rows_below b rows) (rows_below b rows) (Rising low)
-    (λ _. (h.0, rises_below (r.key + 1) b rows h.1))
-    (λ _. rises_below low b rows (Rising-lower low (r.key + 1) rows h.1 (let a = h.0 in omega arith)))
-
--- the rows from a key on rise
-pub rises_from : (low b : ℕ) (rows : List Row) → Rising low rows → Rising low (rows_from b rows)
-rises_from low b [] h = tt
-rises_from low b (r ∷ rows) h =
-    cond_both (nat_le b r.key) (r ∷ rows_from b rows) (rows_from b rows) (Rising low)
-    (λ _. (h.0, rises_from (r.key + 1) b rows h.1))
-    (λ _. rises_from low b rows (Rising-lower low (r.key + 1) rows h.1 (let a = h.0 in omega arith)))
-
--- the rows of a page rise
-pub rows_at : (p : ℕ) (xs : List Leaf) → RowsRise xs → Rising 0 (rows_of xs p)
-rows_at p [] h = tt
-rows_at p (x ∷ xs) h = cond_both (x.number == p) x (leaf_at xs p) (λ (y : Leaf). Rising 0 y.rows) (λ _. h.0) (λ _. rows_at p xs h.1)
-
--- cutting a page's rows keeps the rows of each page rising
-rows_rise-lowered : (p b : ℕ) (xs : List Leaf) → RowsRise xs → RowsRise (lowered p b xs)
-rows_rise-lowered p b [] h = tt
-rows_rise-lowered p b (x ∷ xs) h = (
-  cond_both (x.number == p) (rows_below b x.rows) x.rows (Rising 0) (λ _. rises_below 0 b x.rows h.0) (λ _. h.0),
-  rows_rise-lowered p b xs h.1,
-)
-
--- one page more keeps the rows of each page rising
-rows_rise-with_page : (leaf : Leaf) (xs : List Leaf) → Rising 0 leaf.rows → RowsRise xs → RowsRise (with_page leaf xs)
-rows_rise-with_page leaf [] r h = (r, tt)
-rows_rise-with_page leaf (x ∷ xs) r h = cond_both (nat_lt leaf.number x.number) (leaf ∷ x ∷ xs) (x ∷ with_page leaf xs) RowsRise (λ _. (r, h))
-    (λ _. (h.0, rows_rise-with_page leaf xs r h.1))
 
 -- a split keeps the order
 cut_ordered : (t p b : ℕ) (v : View) → Ordered v → Inv v → may_split v.me.mode ≡ true → Ordered (cut t p b v)
@@ -239,31 +175,6 @@ has_lock_inv : (t k : ℕ) (kind : LockKind) (v : View) → Inv v → Inv (has_l
 unfolding locked
 has_lock_inv t k kind v i = locks_inv v (has_lock t k kind v) (refl, refl, refl) refl refl refl i
 
--- ---- numbers that are asked for
-
--- asking for one page more keeps the list rising
-asked_put : (low p : ℕ) (xs : List ℕ) → low ≤ p → has xs p ≡ false → NumbersRise low xs → NumbersRise low (put_key p xs)
-asked_put low p [] le new h = (le, tt)
-asked_put low p (x ∷ xs) le new h =
-    let parts = or_parts (x == p) (has xs p) new in
-    let other = eqb-false _ _ parts.0 in
-    cond_both (nat_le p x) (p ∷ x ∷ xs) (x ∷ put_key p xs) (NumbersRise low)
-    (λ e. let under = leb-true _ _ e in (le, (omega (arith, other), h.1)))
-    (λ e. let over = leb-false _ _ e in (h.0, asked_put (x + 1) p xs (omega (arith, over)) parts.1 h.1))
-
--- what rises from a number rises from a lesser one
-numbers_weaker : (low less : ℕ) (xs : List ℕ) → less ≤ low → NumbersRise low xs → NumbersRise less xs
-numbers_weaker low less [] le h = tt
-numbers_weaker low less (x ∷ xs) le h = ((let a = h.0 in omega arith), h.1)
-
--- a number less keeps a list rising
-asked_drop : (low p : ℕ) (xs : List ℕ) → NumbersRise low xs → NumbersRise low (drop_number p xs)
-asked_drop low p [] h = tt
-asked_drop low p (x ∷ xs) h =
-    cond_both (x == p) (drop_number p xs) (x ∷ drop_number p xs) (NumbersRise low)
-    (λ _. asked_drop low p xs (numbers_weaker (x + 1) low xs (let a = h.0 in omega arith) h.1))
-    (λ _. (h.0, asked_drop (x + 1) p xs h.1))
-
 -- ---- messages are sent and taken, and no page with them
 
 -- a step that changes a node and no page keeps the order
@@ -301,34 +212,6 @@ asks_ordered p v o new =
     links_ordered v (asks p v) o refl me refl refl refl (sent_bare v.outbox (Pull p) refl) refl
 
 -- ---- a page leaves
-
--- a page less keeps the numbers rising
-numbers-without : (low p : ℕ) (xs : List Leaf) → NumbersRise low (numbers xs) → NumbersRise low (numbers (without p xs))
-numbers-without low p [] h = tt
-numbers-without low p (x ∷ xs) h =
-    cond_both (x.number == p) (without p xs) (x ∷ without p xs) (λ ys. NumbersRise low (numbers ys))
-    (λ _. numbers-without low p xs (numbers_weaker (x.number + 1) low (numbers xs) (let a = h.0 in omega arith) h.1))
-    (λ _. (h.0, numbers-without (x.number + 1) p xs h.1))
-
--- a page less keeps the rows of each page rising
-rows_rise-without : (p : ℕ) (xs : List Leaf) → RowsRise xs → RowsRise (without p xs)
-rows_rise-without p [] h = tt
-rows_rise-without p (x ∷ xs) h = cond_both (x.number == p) (without p xs) (x ∷ without p xs) RowsRise (λ _. rows_rise-without p xs h.1)
-    (λ _. (h.0, rows_rise-without p xs h.1))
-
--- a page more at the end keeps the rows of each page rising
-rows_rise-last : (leaf : Leaf) (xs : List Leaf) → Rising 0 leaf.rows → RowsRise xs → RowsRise (xs ++ leaf ∷ [])
-rows_rise-last leaf [] r h = (r, tt)
-rows_rise-last leaf (x ∷ xs) r h = (h.0, rows_rise-last leaf xs r h.1)
-
--- a list without a page is shorter by how often the page was there
-length-without : (p : ℕ) (xs : List Leaf) → length (without p xs) + times p xs ≡ length xs
-length-without p [] = refl
-length-without p (x ∷ xs) =
-    let k = length-without p xs in
-    cond_both (x.number == p) (without p xs) (x ∷ without p xs) (λ ys. length ys + times p (x ∷ xs) ≡ suc (length xs))
-    (λ e. grind (arith, nat_tests, k, e))
-    (λ e. grind (arith, nat_tests, k, e))
 
 -- a page that leaves keeps the order
 leaves_ordered : (p : ℕ) (v : View) → Owned v → Ordered v → owns v.me.pages p ≡ true → Ordered (leaves p v)

@@ -32,8 +32,9 @@ use Rattle.zy_laws.proofs.owner.MovingPages.{all_below-owns, leaf_at-number}
 use Rattle.zy_laws.proofs.owner.PageCounts.{owns-times, times-all_leaves, times-installed, times-lowered, times-with_page, times-without, times_in, times_sent}
 use Rattle.zy_laws.proofs.owner.PageCounts.{times_sent-post}
 use Rattle.zy_laws.proofs.owner.Phases.{AllPages, AllThere, Phase, Resting, Ready_sent, Done_sent, begins_length, done_post}
-use Rattle.zy_laws.proofs.owner.PhaseSteps.{SameShape, asked_for, cut_source, cut_taker, destination_same, done_came, dual_came, finish_came, finished, in_finish}
-use Rattle.zy_laws.proofs.owner.PhaseSteps.{no_pull, page_came, page_left, pull_came, ready_came, sending_lows, source_of, source_same, started, taker_of, wire_came}
+use Rattle.zy_laws.proofs.owner.PhaseSteps.{SameShape, asked_for, cut_source, cut_taker, destination_same, done_came, dual_came, finish_came, finished}
+use Rattle.zy_laws.proofs.owner.PhaseSteps.{in_finish, no_pull, page_came, page_left, pull_came, ready_came, sending_lows, source_of, source_same, started}
+use Rattle.zy_laws.proofs.owner.PhaseSteps.{taker_of, wire_came}
 use Rattle.zy_laws.proofs.walk.PlayPush.{play-keeps}
 use Rattle.zy_laws.proofs.owner.Roles.{Bare, Destination, Inv, Owned, Roles, Source, normal_other, places, turned, turned_inv, width}
 use Rattle.zy_laws.proofs.walk.Kinds.{in_place_of}

@@ -103,10 +103,10 @@ module _ (sc : Scenario) (n : Node) (v : View) (lows : List ℕ) where
       let newest : v.me.lows ≡ lows = k.mine.newest (k.mine.busy t at) in
       let p = page key v in
       let rows = put_row key value x.rows in
-      let less_than_cap : (is_there key p v.me (txn_at v t) ≡ true) ⊎ (length (rows_of v.me.pages p) + need v.me.lows p (rows_of v.me.pages p) x.rows < sc.cap) =
-      elim room [
+      let here = rows_of v.me.pages p in
+      let less_than_cap : (is_there key p v.me x ≡ true) ⊎ (length here + need v.me.lows p here x.rows < sc.cap) = elim room [
         | inl there ↦ inl there
-        | inr less ↦ inr (let a = ltb-true _ _ less in let e = need_is v.me.lows p (rows_of v.me.pages p) x.rows in omega (arith, a, e))
+        | inr less ↦ inr (let a = ltb-true _ _ less in let e = need_is v.me.lows p here x.rows in omega (arith, a, e))
       ] in
       goes_fit sc n v (puts t key value v) lows t (record x { pc = x.pc + 1; rows = rows; done = x.done + 1 }) f at refl refl refl refl refl
       (Rising-put_row 0 key value x.rows (f.rising t) (omega arith))
