@@ -1,6 +1,6 @@
 -- Each step of the table leaves every list in its order.
 use Rattle.std.proofs.Common.{List, [], ap, arith, false, true, inl, inr, length, length-append, refl, subst, suc, sym, ℕ, ◌+◌, ◌∙◌, ◌∷◌, ◌≡◌}
-use Rattle.std.specs.Prelude.{if◌then◌else◌, slice_set, ◌==◌}
+use Rattle.std.specs.Prelude.{if◌then◌else◌, max, slice_set, ◌==◌}
 use Rattle.std.proofs.lemmas.Bool.{cases_eq}
 use Rattle.zy_isa.specs.Rows.{Rising}
 use Rattle.zy_isa.specs.Scenario.{Scenario}
@@ -8,19 +8,22 @@ use Rattle.zy_isa.specs.declared.node.Node.{Node}
 use Rattle.zy_isa.specs.declared.row.Row.{Row}
 use Rattle.zy_locks.proofs.Rising.{rise_add, rise_drop}
 use Rattle.zy_locks.specs.Order.{LocksRise}
+use Rattle.zy_locks.specs.Locks.{add_lock}
 use Rattle.zy_locks.specs.declared.lock.LockKind.{LockKind}
 use Rattle.zy_locks.specs.declared.lock.LockKind.TheVariants.{Exclusive, Shared}
-use Rattle.zy_table.specs.Change.{aborted, asks, begun, committed, cut, did, leaves, locked, shares, txn_at}
+use Rattle.zy_table.specs.Change.{aborted, asks, begun, committed, cut, did, leaves, locked, share_all, shares, txn_at}
 use Rattle.zy_table.specs.Database.{sent_leaves}
 use Rattle.zy_table.specs.Order.{NodeInOrder, NumbersRise, RowsRise}
-use Rattle.zy_table.specs.State.{Leaf, Message, NodeState, Txn, View}
+use Rattle.zy_table.specs.State.{Leaf, Lock, Message, NodeState, Txn, View}
+use Rattle.zy_table.specs.declared.entry.CommitRec.{CommitRec}
 use Rattle.zy_table.specs.declared.outcome.Why.{Why}
 use Rattle.zy_laws.proofs.walk.Events.{Aborts, Asks, Begins, Commits, Event, Finishes, Gets, Gives, GotAll, GotDone, GotDual, GotFinish, GotLast, GotPage}
 use Rattle.zy_laws.proofs.walk.Events.{GoesOn, GotReady, GotWire, Inserts, IsStale, Pushes, Rests, SumsUp, Splits, Starts, Writes}
 use Rattle.zy_laws.proofs.walk.Events.{arrived, has_lock, page, puts, rest}
 use Rattle.zy_page.proofs.Rows.{Rising-put_row}
-use Rattle.zy_laws.proofs.order.Rising.{numbers-installed, length-installed, rows_rise-installed, rise_share, numbers-lowered, rises_from, rows_at, rows_rise-lowered}
-use Rattle.zy_laws.proofs.order.Rising.{rows_rise-with_page, asked_put, asked_drop, numbers-without, rows_rise-without, rows_rise-last, length-without}
+use Rattle.zy_laws.proofs.order.Rising.{numbers-installed, length-installed, rows_rise-installed, rise_share, numbers-lowered, rises_from, rows_at}
+use Rattle.zy_laws.proofs.order.Rising.{rows_rise-lowered, rows_rise-with_page, asked_put, asked_drop, numbers-without, rows_rise-without, rows_rise-last}
+use Rattle.zy_laws.proofs.order.Rising.{length-without}
 use Rattle.zy_laws.proofs.owner.Roles.{Inv, Owned, fresh_number, normal_other, width}
 use Rattle.zy_laws.proofs.owner.OneOwner.{done_wide, locks_inv, pulled_inv, wire_wide}
 use Rattle.zy_laws.proofs.owner.MovingPages.{sent_leaves-append, sent_bare}
@@ -33,9 +36,10 @@ use Rattle.zy_table.proofs.PageLists.{owns-lowered}
 use Rattle.zy_page.specs.Leaf.{rows_from}
 use Rattle.zy_wire.specs.Wireframe.{page_of}
 use Rattle.zy_modes.specs.Table.{may_split}
-use Rattle.zy_table.specs.Pages.{leaf_at, lowered, numbers, owns, rows_of}
+use Rattle.zy_modes.specs.declared.mode.NodeMode.{NodeMode}
+use Rattle.zy_table.specs.Pages.{leaf_at, lowered, owns, rows_of}
 use Rattle.zy_table.specs.Run.{boundary}
-use Rattle.zy_laws.proofs.walk.Txns.{at_either, at_other, at_same}
+use Rattle.zy_laws.proofs.walk.Txns.{at_either, at_other}
 use Rattle.zy_table.proofs.PageLists.{length-with_page, length-lowered, numbers-with_page}
 
 -- how many pages there are, and low keys
@@ -51,81 +55,81 @@ pub record Ordered (v : View) : Type 0 where
   pub private : (t : ℕ) → Rising 0 (txn_at v t).rows
   pub lows : pages_in v ≡ width v
 
--- a step that sets t, and changes locks or rows of its own node
-acts_ordered : (v w : View) (t : ℕ) (y : Txn) → Ordered v → w.txns ≡ slice_set v.txns t y → Rising 0 y.rows → NodeInOrder w.me
-    → length w.me.pages ≡ length v.me.pages → w.me.lows ≡ v.me.lows
-    → w.them ≡ v.them → w.inbox ≡ v.inbox → w.outbox ≡ v.outbox → Ordered w
-acts_ordered v w t y o set rises me pages lows them inbox outbox = record {
-  mine = me;
-  theirs = subst NodeInOrder (sym them) o.theirs;
-  inbox = subst (λ ms. RowsRise (sent_leaves ms)) (sym inbox) o.inbox;
-  outbox = subst (λ ms. RowsRise (sent_leaves ms)) (sym outbox) o.outbox;
-  private = λ u. elim (cases_eq u t) [
-    | inl here ↦ elim (at_either v w t y set) [
-      | inl now ↦ subst (λ (x : Txn). Rising 0 x.rows) (sym (ap (txn_at w) here ∙ now)) rises
-      | inr old ↦ subst (λ (x : Txn). Rising 0 x.rows) (sym (ap (txn_at w) here ∙ old)) (o.private t)
-    ]
-    | inr far ↦ subst (λ (x : Txn). Rising 0 x.rows) (sym (at_other v w t u y set far)) (o.private u)
-  ];
-  lows = rw (pages, lows, them, inbox, outbox) o.lows;
-}
-
 -- the same node with other locks
-locks_ordered : (x y : NodeState) → NodeInOrder x → y.pages ≡ x.pages → y.asked ≡ x.asked → LocksRise y.locks → NodeInOrder y
-locks_ordered x y o pages asked locks = record {
-  pages = subst (λ xs. NumbersRise 0 (numbers xs)) (sym pages) o.pages;
-  rows = subst RowsRise (sym pages) o.rows;
-  asked = subst (NumbersRise 0) (sym asked) o.asked;
-  locks = locks;
-}
+locks_ordered : (x : NodeState) (locks : List Lock) → NodeInOrder x → LocksRise locks → NodeInOrder (record x { locks = locks })
+locks_ordered x locks o rise = record { pages = o.pages; rows = o.rows; asked = o.asked; locks = rise }
 
--- t does an instruction: its private rows are as they were, or there is one more, with a lock
-goes_ordered : (t pc : ℕ) (regs : List ℕ) (rows : List Row) (v : View) → Ordered v → Rising 0 rows → Ordered (did t pc regs rows v)
-unfolding did
-goes_ordered t pc regs rows v o rises = acts_ordered v _ t _ o refl rises o.mine refl refl refl refl refl
+-- a step of transaction t, from a view that is in order
+module _ (t : ℕ) (v : View) (o : Ordered v) where
+  -- one that sets t, and changes locks or rows of its own node
+  acts_ordered : (y : Txn) (x : NodeState) (commits : List CommitRec) → Rising 0 y.rows → NodeInOrder x → length x.pages ≡ length v.me.pages
+      → x.lows ≡ v.me.lows → Ordered (record v { txns = slice_set v.txns t y; me = x; commits = commits })
+  acts_ordered y x commits rises me pages lows =
+      let w : View = record v { txns = slice_set v.txns t y; me = x; commits = commits } in
+      record {
+        mine = me;
+        theirs = o.theirs;
+        inbox = o.inbox;
+        outbox = o.outbox;
+        private = λ u. elim (cases_eq u t) [
+          | inl here ↦ elim (at_either v w t y refl) [
+            | inl now ↦ subst (λ (z : Txn). Rising 0 z.rows) (sym (ap (txn_at w) here ∙ now)) rises
+            | inr old ↦ subst (λ (z : Txn). Rising 0 z.rows) (sym (ap (txn_at w) here ∙ old)) (o.private t)
+          ]
+          | inr far ↦ subst (λ (z : Txn). Rising 0 z.rows) (sym (at_other v w t u y refl far)) (o.private u)
+        ];
+        lows = rw (pages, lows) o.lows;
+      }
 
--- an access under a lock keeps the order
-lock_ordered : (t p pc : ℕ) (kind : LockKind) (regs : List ℕ) (rows : List Row) (v : View) → Ordered v → Rising 0 rows
-    → Ordered (did t pc regs rows (locked t p kind v))
-unfolding did locked txn_at
-lock_ordered t p pc kind regs rows v o rises =
-    acts_ordered v (did t pc regs rows (locked t p kind v)) t (record (txn_at v t) { pc = pc; regs = regs; rows = rows; done = (txn_at v t).done + 1 }) o refl
-    rises
-    (locks_ordered v.me _ o.mine refl refl (rise_add p t kind v.me.locks o.mine.locks)) refl refl refl refl refl
+  -- t does an instruction that needs no page
+  goes_ordered : (pc : ℕ) (regs : List ℕ) → Ordered (did t pc regs (txn_at v t).rows v)
+  unfolding did
+  goes_ordered pc regs = acts_ordered _ v.me v.commits (o.private t) o.mine refl refl
 
--- and one that shares some pages
-sum_ordered : (t pc : ℕ) (regs ps : List ℕ) (v : View) → Ordered v → Ordered (did t pc regs (txn_at v t).rows (shares t ps v))
-unfolding did shares txn_at
-sum_ordered t pc regs ps v o =
-    acts_ordered v (did t pc regs (txn_at v t).rows (shares t ps v)) t (record (txn_at v t) { pc = pc; regs = regs; done = (txn_at v t).done + 1 }) o refl
-    (o.private t)
-    (locks_ordered v.me _ o.mine refl refl (rise_share ps t v.me.locks o.mine.locks)) refl refl refl refl refl
+  -- t does one with other locks
+  held_ordered : (pc : ℕ) (regs : List ℕ) (rows : List Row) (locks : List Lock) → Rising 0 rows → LocksRise locks
+      → Ordered (did t pc regs rows (record v { me = record v.me { locks = locks } }))
+  unfolding did txn_at
+  held_ordered pc regs rows locks rises rise =
+      acts_ordered (record (txn_at v t) { pc = pc; regs = regs; rows = rows; done = (txn_at v t).done + 1 }) (record v.me { locks = locks }) v.commits rises
+      (locks_ordered v.me locks o.mine rise) refl refl
 
--- an abort keeps the order
-ended_ordered : (t : ℕ) (why : Why) (v : View) → Ordered v → Ordered (aborted t why v)
-unfolding aborted
-ended_ordered t why v o = acts_ordered v _ t _ o refl tt (locks_ordered v.me _ o.mine refl refl (rise_drop t v.me.locks o.mine.locks)) refl refl refl refl refl
+  -- an access under a lock keeps the order
+  lock_ordered : (p pc : ℕ) (kind : LockKind) (regs : List ℕ) (rows : List Row) → Rising 0 rows → Ordered (did t pc regs rows (locked t p kind v))
+  unfolding locked
+  lock_ordered p pc kind regs rows rises = held_ordered pc regs rows (add_lock p t kind v.me.locks) rises (rise_add p t kind v.me.locks o.mine.locks)
 
--- a begin keeps the order
-begun_ordered : (n : Node) (t : ℕ) (v : View) → Ordered v → Ordered (begun n t v)
-unfolding begun
-begun_ordered n t v o = acts_ordered v _ t _ o refl tt o.mine refl refl refl refl refl
+  -- and a sum under shared locks
+  sum_ordered : (pc : ℕ) (regs ps : List ℕ) → Ordered (did t pc regs (txn_at v t).rows (shares t ps v))
+  unfolding shares
+  sum_ordered pc regs ps =
+      held_ordered pc regs (txn_at v t).rows (share_all ps t v.me.locks) (o.private t) (rise_share ps t v.me.locks o.mine.locks)
 
--- a commit keeps the order
-committed_ordered : (t : ℕ) (v : View) → Ordered v → Ordered (committed t v)
-unfolding committed
-committed_ordered t v o =
-    let rows = (txn_at v t).rows in
-    acts_ordered v _ t _ o refl tt (record {
-      pages = subst (NumbersRise 0) (sym (numbers-installed v.me.lows rows v.me.pages)) o.mine.pages;
-      rows = rows_rise-installed v.me.lows rows v.me.pages o.mine.rows;
-      asked = o.mine.asked;
-      locks = rise_drop t v.me.locks o.mine.locks;
-    }) (length-installed v.me.lows rows v.me.pages) refl refl refl refl
+  -- a private row keeps the order
+  puts_ordered : (key value : ℕ) → Ordered (puts t key value v)
+  puts_ordered key value = lock_ordered (page key v) _ Exclusive _ _ (Rising-put_row 0 key value (txn_at v t).rows (o.private t) (omega arith))
 
--- a private row keeps the order
-puts_ordered : (t key value : ℕ) (v : View) → Ordered v → Ordered (puts t key value v)
-puts_ordered t key value v o = lock_ordered t (page key v) _ Exclusive _ _ v o (Rising-put_row 0 key value (txn_at v t).rows (o.private t) (omega arith))
+  -- an abort keeps the order
+  ended_ordered : (why : Why) → Ordered (aborted t why v)
+  unfolding aborted
+  ended_ordered why = acts_ordered _ _ v.commits tt (locks_ordered v.me _ o.mine (rise_drop t v.me.locks o.mine.locks)) refl refl
+
+  -- a begin keeps the order
+  begun_ordered : (n : Node) → Ordered (begun n t v)
+  unfolding begun
+  begun_ordered n = acts_ordered _ v.me v.commits tt o.mine refl refl
+
+  -- a commit keeps the order
+  committed_ordered : Ordered (committed t v)
+  unfolding committed
+  committed_ordered =
+      let rows = (txn_at v t).rows in
+      acts_ordered _ _ _ tt (record {
+        pages = subst (NumbersRise 0) (sym (numbers-installed v.me.lows rows v.me.pages)) o.mine.pages;
+        rows = rows_rise-installed v.me.lows rows v.me.pages o.mine.rows;
+        asked = o.mine.asked;
+        locks = rise_drop t v.me.locks o.mine.locks;
+      }) (length-installed v.me.lows rows v.me.pages) refl
 
 -- ---- a page is cut
 
@@ -162,7 +166,7 @@ cut_ordered t p b v o i normal =
 has_lock_ordered : (t k : ℕ) (kind : LockKind) (v : View) → Ordered v → Ordered (has_lock t k kind v)
 unfolding locked txn_at
 has_lock_ordered t k kind v o = record {
-  mine = locks_ordered v.me _ o.mine refl refl (rise_add (page_of v.me.lows k) t kind v.me.locks o.mine.locks);
+  mine = locks_ordered v.me _ o.mine (rise_add (page_of v.me.lows k) t kind v.me.locks o.mine.locks);
   theirs = o.theirs;
   inbox = o.inbox;
   outbox = o.outbox;
@@ -177,39 +181,38 @@ has_lock_inv t k kind v i = locks_inv v (has_lock t k kind v) (refl, refl, refl)
 
 -- ---- messages are sent and taken, and no page with them
 
--- a step that changes a node and no page keeps the order
-links_ordered : (v w : View) → Ordered v → w.txns ≡ v.txns → NodeInOrder w.me → w.them ≡ v.them → length w.me.pages ≡ length v.me.pages
-    → sent_leaves w.inbox ≡ sent_leaves v.inbox → sent_leaves w.outbox ≡ sent_leaves v.outbox → width w ≡ width v → Ordered w
-links_ordered v w o txns me them pages inbox outbox wide = record {
-  mine = me;
-  theirs = subst NodeInOrder (sym them) o.theirs;
-  inbox = subst RowsRise (sym inbox) o.inbox;
-  outbox = subst RowsRise (sym outbox) o.outbox;
-  private = λ u. subst (λ (x : Txn). Rising 0 x.rows) (sym (at_same v w u txns)) (o.private u);
-  lows =
-      let a = ap length inbox in
-      let b = ap length outbox in
-      let c : length w.them.pages ≡ length v.them.pages = ap (λ (x : NodeState). length x.pages) them in
-      omega (arith, pages, a, b, c, wide, o.lows);
-}
+-- a step from a view that is in order
+module _ (v : View) (o : Ordered v) where
+  -- a step that changes a node, and no page there or on a link
+  links_ordered : {x : NodeState} {inbox outbox : List Message} → NodeInOrder x → length x.pages ≡ length v.me.pages
+      → sent_leaves inbox ≡ sent_leaves v.inbox → sent_leaves outbox ≡ sent_leaves v.outbox → max (length x.lows) (length v.them.lows) ≡ width v
+      → Ordered (record v { me = x; inbox = inbox; outbox = outbox })
+  unfolding txn_at
+  links_ordered me pages inbox outbox wide = record {
+    mine = me;
+    theirs = o.theirs;
+    inbox = subst RowsRise (sym inbox) o.inbox;
+    outbox = subst RowsRise (sym outbox) o.outbox;
+    private = o.private;
+    lows = let a = ap length inbox in let b = ap length outbox in let k = o.lows in omega (arith, pages, a, b, wide, k);
+  }
 
--- the same, and of its own node the mode or the low keys alone change
-kept_ordered : (v w : View) → Ordered v → w.txns ≡ v.txns → w.me.pages ≡ v.me.pages → w.me.asked ≡ v.me.asked → w.me.locks ≡ v.me.locks → w.them ≡ v.them
-    → sent_leaves w.inbox ≡ sent_leaves v.inbox → sent_leaves w.outbox ≡ sent_leaves v.outbox → width w ≡ width v → Ordered w
-kept_ordered v w o txns pages asked locks them inbox outbox wide =
-    links_ordered v w o txns (locks_ordered v.me w.me o.mine pages asked (subst LocksRise (sym locks) o.mine.locks)) them (ap length pages) inbox outbox wide
+  -- the same, and of its own node the mode or the low keys alone change
+  kept_ordered : {mode : NodeMode} {lows : List ℕ} {inbox outbox : List Message} → sent_leaves inbox ≡ sent_leaves v.inbox
+      → sent_leaves outbox ≡ sent_leaves v.outbox → max (length lows) (length v.them.lows) ≡ width v
+      → Ordered (record v { me = record v.me { mode = mode; lows = lows }; inbox = inbox; outbox = outbox })
+  kept_ordered inbox outbox wide =
+      let me = o.mine in links_ordered (record { pages = me.pages; rows = me.rows; asked = me.asked; locks = me.locks }) refl inbox outbox wide
 
--- asking for a page keeps the order
-asks_ordered : (p : ℕ) (v : View) → Ordered v → has v.me.asked p ≡ false → Ordered (asks p v)
-unfolding asks
-asks_ordered p v o new =
-    let me : NodeInOrder (asks p v).me = record {
-      pages = o.mine.pages;
-      rows = o.mine.rows;
-      asked = asked_put 0 p v.me.asked (omega arith) new o.mine.asked;
-      locks = o.mine.locks;
-    } in
-    links_ordered v (asks p v) o refl me refl refl refl (sent_bare v.outbox (Pull p) refl) refl
+  -- asking for a page keeps the order
+  asks_ordered : (p : ℕ) → has v.me.asked p ≡ false → Ordered (asks p v)
+  unfolding asks
+  asks_ordered p new = links_ordered (record {
+    pages = o.mine.pages;
+    rows = o.mine.rows;
+    asked = asked_put 0 p v.me.asked (omega arith) new o.mine.asked;
+    locks = o.mine.locks;
+  }) refl refl (sent_bare v.outbox (Pull p) refl) refl
 
 -- ---- a page leaves
 
@@ -280,38 +283,34 @@ along w x e o = subst Ordered (sym e) o
 pub ordered_event : (sc : Scenario) (n : Node) (v w : View) → Inv v → Ordered v → Event sc n v w → Ordered w
 unfolding locked
 ordered_event sc n v w i o (Rests e) = along w _ e o
-ordered_event sc n v w i o (Begins t h a new home e) = along w _ e (begun_ordered h t v o)
-ordered_event sc n v w i o (Aborts t y active here e) = along w _ e (ended_ordered t y v o)
-ordered_event sc n v w i o (GoesOn t x pc regs runs leads e) = along w _ e (goes_ordered t _ _ _ v o (o.private t))
-ordered_event sc n v w i o (Gets t r key runs f e) = along w _ e (lock_ordered t _ _ Shared _ _ v o (o.private t))
-ordered_event sc n v w i o (SumsUp t r first last runs f e) = along w _ e (sum_ordered t _ _ _ v o)
-ordered_event sc n v w i o (Writes t key value runs f there e) = along w _ e (puts_ordered t key value v o)
-ordered_event sc n v w i o (Inserts t key value runs f new room e) = along w _ e (puts_ordered t key value v o)
+ordered_event sc n v w i o (Begins t h a new home e) = along w _ e (begun_ordered t v o h)
+ordered_event sc n v w i o (Aborts t y active here e) = along w _ e (ended_ordered t v o y)
+ordered_event sc n v w i o (GoesOn t x pc regs runs leads e) = along w _ e (goes_ordered t v o pc regs)
+ordered_event sc n v w i o (Gets t r key runs f e) = along w _ e (lock_ordered t v o _ _ Shared _ _ (o.private t))
+ordered_event sc n v w i o (SumsUp t r first last runs f e) = along w _ e (sum_ordered t v o _ _ _)
+ordered_event sc n v w i o (Writes t key value runs f there e) = along w _ e (puts_ordered t v o key value)
+ordered_event sc n v w i o (Inserts t key value runs f new room e) = along w _ e (puts_ordered t v o key value)
 ordered_event sc n v w i o (Splits t key value runs f new full normal pages e) =
     let x = has_lock t key Exclusive v in
     let b = boundary sc key (page key v) v.me (txn_at v t) in
     along w _ e (cut_ordered t (page key v) b x (has_lock_ordered t key Exclusive v o) (has_lock_inv t key Exclusive v i) normal)
 ordered_event sc n v w i o (Commits t runs all e) = along w _ e (committed_ordered t v o)
-ordered_event sc n v w i o (Asks p gone pulls new e) = along w _ e (asks_ordered p v o new)
-ordered_event sc n v w i o (Starts at_a normal empty e) =
-    along w _ e (kept_ordered v _ o refl refl refl refl refl refl (sent_bare v.outbox (Wire v.me.lows) refl) refl)
+ordered_event sc n v w i o (Asks p gone pulls new e) = along w _ e (asks_ordered v o p new)
+ordered_event sc n v w i o (Starts at_a normal empty e) = along w _ e (kept_ordered v o refl (sent_bare v.outbox (Wire v.me.lows) refl) refl)
 ordered_event sc n v w i o (GotWire lows ms f empty e) =
-    along w _ e (kept_ordered v _ o refl refl refl refl refl (ap sent_leaves (sym f)) (sent_bare v.outbox Ready refl) (wire_wide v lows ms i f empty))
-ordered_event sc n v w i o (GotReady ms f init e) =
-    along w _ e (kept_ordered v _ o refl refl refl refl refl (ap sent_leaves (sym f)) (sent_bare v.outbox Dual refl) refl)
-ordered_event sc n v w i o (GotDual ms f init e) = along w _ e (kept_ordered v _ o refl refl refl refl refl (ap sent_leaves (sym f)) refl refl)
-ordered_event sc n v w i o (IsStale p ms f e) = along w _ e (kept_ordered v _ o refl refl refl refl refl (ap sent_leaves (sym f)) refl refl)
+    along w _ e (kept_ordered v o (ap sent_leaves (sym f)) (sent_bare v.outbox Ready refl) (wire_wide v lows ms i f empty))
+ordered_event sc n v w i o (GotReady ms f init e) = along w _ e (kept_ordered v o (ap sent_leaves (sym f)) (sent_bare v.outbox Dual refl) refl)
+ordered_event sc n v w i o (GotDual ms f init e) = along w _ e (kept_ordered v o (ap sent_leaves (sym f)) refl refl)
+ordered_event sc n v w i o (IsStale p ms f e) = along w _ e (kept_ordered v o (ap sent_leaves (sym f)) refl refl)
 ordered_event sc n v w i o (Gives p ms f sends own free e) =
     let x = rest v ms in
-    along w _ e (leaves_ordered p x (pulled_inv v p ms i f).owned (kept_ordered v x o refl refl refl refl refl (ap sent_leaves (sym f)) refl refl) own)
+    along w _ e (leaves_ordered p x (pulled_inv v p ms i f).owned (kept_ordered v o (ap sent_leaves (sym f)) refl refl) own)
 ordered_event sc n v w i o (GotPage leaf ms f pulls e) = along w _ e (arrived_ordered v leaf ms i.owned o f)
 ordered_event sc n v w i o (GotLast leaf ms f finish all e) =
     let x = arrived leaf (rest v ms) in
-    along w _ e (kept_ordered x _ (arrived_ordered v leaf ms i.owned o f) refl refl refl refl refl refl (sent_bare v.outbox Done refl) refl)
-ordered_event sc n v w i o (GotFinish ms f dual e) = along w _ e (kept_ordered v _ o refl refl refl refl refl (ap sent_leaves (sym f)) refl refl)
-ordered_event sc n v w i o (GotAll ms f dual all e) =
-    along w _ e (kept_ordered v _ o refl refl refl refl refl (ap sent_leaves (sym f)) (sent_bare v.outbox Done refl) refl)
-ordered_event sc n v w i o (GotDone ms f finish e) =
-    along w _ e (kept_ordered v _ o refl refl refl refl refl (ap sent_leaves (sym f)) refl (done_wide v ms i f finish))
-ordered_event sc n v w i o (Finishes dual none e) = along w _ e (kept_ordered v _ o refl refl refl refl refl refl (sent_bare v.outbox Finish refl) refl)
+    along w _ e (kept_ordered x (arrived_ordered v leaf ms i.owned o f) refl (sent_bare v.outbox Done refl) refl)
+ordered_event sc n v w i o (GotFinish ms f dual e) = along w _ e (kept_ordered v o (ap sent_leaves (sym f)) refl refl)
+ordered_event sc n v w i o (GotAll ms f dual all e) = along w _ e (kept_ordered v o (ap sent_leaves (sym f)) (sent_bare v.outbox Done refl) refl)
+ordered_event sc n v w i o (GotDone ms f finish e) = along w _ e (kept_ordered v o (ap sent_leaves (sym f)) refl (done_wide v ms i f finish))
+ordered_event sc n v w i o (Finishes dual none e) = along w _ e (kept_ordered v o refl (sent_bare v.outbox Finish refl) refl)
 ordered_event sc n v w i o (Pushes p finish own e) = along w _ e (leaves_ordered p v i.owned o own)

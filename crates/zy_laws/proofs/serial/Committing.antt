@@ -25,14 +25,14 @@ use Rattle.zy_table.specs.declared.status.Status.TheVariants.{Committed}
 use Rattle.zy_table.specs.State.{Lock, NodeState, Txn, View, other}
 use Rattle.zy_wire.specs.Wireframe.{page_of}
 use Rattle.zy_laws.proofs.walk.Events.{Runs}
-use Rattle.zy_laws.proofs.serial.Following.{Follows, Serially, active_not, registers_push, registers_same}
+use Rattle.zy_laws.proofs.serial.Following.{Follows, Serially, registers_push, registers_same}
 use Rattle.zy_laws.proofs.places.Installing.{found, found-append, get-leaves, installed_none, installed_some, none_else, placed_front}
 use Rattle.zy_table.proofs.LockLists.{exclusive_holds, holds-drop}
 use Rattle.zy_laws.proofs.locks.Locking.{Kept, whole}
 use Rattle.zy_laws.proofs.serial.LoneRuns.{Agree, Lone, get-laid, lone, lone_alike, on_map, or_else}
 use Rattle.zy_laws.proofs.owner.PageCounts.{owns-times}
 use Rattle.zy_laws.proofs.places.PageValues.{db, rest_of}
-use Rattle.zy_laws.proofs.walk.Txns.{IsAt, Stands, at_other, at_self}
+use Rattle.zy_laws.proofs.walk.Txns.{IsAt, Stands, active_off, at_other, at_self}
 
 -- all pages after a commit
 committed_pages : (t : ℕ) (v : View) → whole (committed t v) ≡ installed v.me.lows (txn_at v t).rows v.me.pages ++ rest_of v
@@ -182,7 +182,7 @@ module _ (sc : Scenario) (n : Node) (v : View) (start : Map) (lows : List ℕ) w
       let self : txn_at w t ≡ y = at_self v w t y refl at.0 in
       registers_push sc (txn_at w) start v.commits (record { txn = t; done = (txn_at v t).done + 1 })
       (registers_same sc (txn_at v) (txn_at w) start v.commits (λ u ended. elim (cases_eq u t) [
-        | inl same ↦ absurd (active_not (txn_at v t).status at.0 (subst (λ z. is_committed (txn_at v z).status ≡ true) same ended))
+        | inl same ↦ absurd (false≢true (sym (active_off (txn_at v t).status at.0) ∙ subst (λ z. is_committed (txn_at v z).status ≡ true) same ended))
         | inr far ↦ at_other v w t u y refl far
       ]) s.registers)
       (ap (λ (x : Txn). is_committed x.status) self, ap (λ (x : Txn). x.regs) self ∙ committed_regs t s runs)

@@ -28,9 +28,8 @@ use Rattle.zy_laws.proofs.serial.CutValues.{cut_db}
 use Rattle.zy_laws.proofs.owner.Roles.{normal_other}
 use Rattle.zy_laws.proofs.serial.Committing.{committed_serial}
 use Rattle.zy_laws.proofs.walk.Events.{Aborts, Begins, Commits, Event, Gets, Inserts, Runs, SumsUp, Writes, has_lock, has_locks, sum_at, value_at, Free}
-use Rattle.zy_laws.proofs.walk.Events.{Splits, lows_after}
-use Rattle.zy_laws.proofs.walk.Events.{GoesOn, Leads}
-use Rattle.zy_laws.proofs.serial.Following.{Follows, Serially, active_not, follows_same, keep_registers, new_not, registers_same}
+use Rattle.zy_laws.proofs.walk.Events.{Splits, lows_after, GoesOn, Leads}
+use Rattle.zy_laws.proofs.serial.Following.{Follows, Serially, follows_same, keep_registers, registers_same}
 use Rattle.zy_laws.proofs.serial.FollowingRuns.{begun_follows, cut_follows, key_follows, leads_step, plain_follows, range_follows, read_value}
 use Rattle.zy_laws.proofs.serial.FollowingRuns.{small_insert, small_read, small_sum, small_write, sum_value, there_value}
 use Rattle.zy_laws.proofs.locks.LockingSteps.{has_lock_locking, split_on}
@@ -40,7 +39,7 @@ use Rattle.zy_laws.proofs.locks.Locking.{Kept, nobody_runs}
 use Rattle.zy_modes.specs.Table.{may_split}
 use Rattle.zy_laws.proofs.serial.LoneRuns.{lone_at, lone_effect}
 use Rattle.zy_laws.proofs.places.PageValues.{db}
-use Rattle.zy_laws.proofs.walk.Txns.{IsAt, Stands, at_other, at_same, at_self, not_both_nodes, not_new}
+use Rattle.zy_laws.proofs.walk.Txns.{IsAt, Stands, active_off, at_other, at_same, at_self, new_off, not_both_nodes, not_new}
 use Rattle.zy_laws.proofs.walk.Kinds.{Quiet, quiet_of}
 
 -- a state that follows the serial run, and its newest low keys
@@ -69,7 +68,7 @@ module _ (sc : Scenario) (n : Node) (v : View) (start : Map) (lows : List ℕ) (
               (s.theirs u (subst (λ x. Stands x (other n)) now a))
         ];
         is_serial = s.is_serial;
-        registers = keep_registers sc v w start t y refl refl (active_not (txn_at v t).status at.0) s.registers;
+        registers = keep_registers sc v w start t y refl refl (active_off (txn_at v t).status at.0) s.registers;
       }
 
   -- a step of the program that needs no page keeps it
@@ -128,7 +127,7 @@ module _ (sc : Scenario) (n : Node) (v : View) (start : Map) (lows : List ℕ) (
             follows_same (program_of sc u) (db v) (db w) lows v.them.locks v.them.locks u (txn_at v u) (txn_at w u) refl now (λ p h. h)
             (s.theirs u (subst (λ x. Stands x (other n)) now a));
         is_serial = s.is_serial;
-        registers = keep_registers sc v w start t y refl refl (active_not (txn_at v t).status at.0) s.registers;
+        registers = keep_registers sc v w start t y refl refl (active_off (txn_at v t).status at.0) s.registers;
       }
 
   -- a begin keeps it
@@ -143,7 +142,7 @@ module _ (sc : Scenario) (n : Node) (v : View) (start : Map) (lows : List ℕ) (
         mine = λ u a. begun_follows sc v w lows v.me.locks n t u _ refl off refl refl refl refl refl s.mine a;
         theirs = λ u a. begun_follows sc v w lows v.them.locks (other n) t u _ refl off refl refl refl refl refl s.theirs a;
         is_serial = s.is_serial;
-        registers = keep_registers sc v w start t _ refl refl (new_not (txn_at v t).status new) s.registers;
+        registers = keep_registers sc v w start t _ refl refl (new_off (txn_at v t).status new) s.registers;
       }
 
   -- a split keeps it
