@@ -1,5 +1,5 @@
 -- done, place, registers and commits stay within their bounds.
-use Rattle.std.proofs.Common.{List, [], arith, length, refl, subst, suc, sym, zero, ℕ, ◌+◌, ◌-◌, ◌<◌, ◌∙◌, ◌∷◌, ◌≡◌}
+use Rattle.std.proofs.Common.{List, [], arith, length, refl, subst, suc, sym, zero, ℕ, ◌+◌, ◌<◌, ◌∙◌, ◌∷◌, ◌≡◌}
 use Rattle.std.specs.Prelude.{map, slice_get, unwrap_or}
 use Rattle.std.proofs.lemmas.List.{length-map}
 use Rattle.zy_isa.specs.Programs.{IsProgram}
@@ -9,7 +9,6 @@ use Rattle.zy_isa.specs.declared.instr.Instr.{Instr}
 use Rattle.zy_isa.specs.declared.node.Node.{Node}
 use Rattle.zy_isa.specs.declared.node.Node.TheVariants.{A, B}
 use Rattle.zy_table.specs.Change.{txn_at, txn_or}
-use Rattle.zy_table.specs.declared.effect.Effect.TheVariants as effect
 use Rattle.zy_laws.specs.Counts.{Counted, Safe}
 use Rattle.zy_table.specs.Play.{blank, move, opening, play, side_of, step}
 use Rattle.zy_table.specs.State.{State, View, facing, seen_from}

@@ -1,5 +1,5 @@
 -- As many transactions are committed as commits are listed.
-use Rattle.std.proofs.Common.{List, [], ap, arith, false, length, length-append, refl, suc, true, zero, ℕ, ◌+◌, ◌-◌, ◌∙◌, ◌∷◌, ◌≡◌, ◌≤◌}
+use Rattle.std.proofs.Common.{List, [], ap, arith, false, length, length-append, refl, suc, true, zero, ℕ, ◌+◌, ◌∙◌, ◌∷◌, ◌≡◌, ◌≤◌}
 use Rattle.std.specs.Prelude.{if◌then◌else◌, slice_get, slice_set}
 use Rattle.std.proofs.Math.ListN.{length-set}
 use Rattle.std.proofs.lemmas.Bool.{cond_both, false≢true}
@@ -7,7 +7,6 @@ use Rattle.zy_isa.specs.Scenario.{Scenario}
 use Rattle.zy_isa.specs.declared.node.Node.{Node}
 use Rattle.zy_table.specs.Change.{aborted, begun, committed, did, locked, shares, txn_at, txn_or, cut, asks, leaves}
 use Rattle.zy_table.specs.Client.{is_active}
-use Rattle.zy_table.specs.declared.effect.Effect.TheVariants as effect
 use Rattle.zy_table.specs.Serial.{is_committed}
 use Rattle.zy_table.specs.declared.status.Status.TheVariants.{Committed}
 use Rattle.zy_table.specs.State.{Txn, View}

@@ -26,9 +26,8 @@ use Rattle.zy_table.specs.declared.status.Status.TheVariants.{Aborted, Committed
 use Rattle.zy_table.specs.State.{Leaf, Message, Txn, View, post}
 use Rattle.zy_wire.specs.Wireframe.{page_of}
 use Rattle.zy_table.specs.declared.outcome.Why.{Why}
-use Rattle.zy_laws.proofs.places.Boundary.{boundary_new}
 use Rattle.zy_laws.proofs.room.CutFit.{cut_fit}
-use Rattle.zy_laws.proofs.locks.LockingSteps.{home_placed, split_on}
+use Rattle.zy_laws.proofs.locks.CutLocks.{split_new, split_on}
 use Rattle.zy_laws.proofs.room.EachPage.{Each, each_append, each_at, each_both, each_front, each_installed, each_map, each_with_page, each_without}
 use Rattle.zy_laws.proofs.walk.Events.{Aborts, Begins, Commits, Event, Gets, Inserts, SumsUp, Writes, Splits}
 use Rattle.zy_laws.proofs.walk.Events.{Gives, GotPage, GotLast, Pushes, has_lock, page, puts, lows_after, arrived}
@@ -242,9 +241,8 @@ fit_event sc n v w lows two k f (Splits t key value runs g new full normal pages
     let b = boundary sc key p v.me (txn_at v t) in
     let front = (each_front (Sized sc.cap) v.me.pages (rest_of v) f.sized).0 in
     let committed = (each_at (Sized sc.cap) p v.me.pages g.here front).1 in
-    let newest = k.mine.newest (k.mine.busy t at) in
-    let other = boundary_new sc t key p v k.first.0 (newest ∙ k.first.1) two (home_placed sc n v lows t k at) refl full committed (f.rising t) new in
-    fit_along sc n w _ (lows ++ b ∷ []) e (cut_fit sc n v lows t key b k f at g normal (split_on sc n v lows t key value k runs full) other)
+    let fresh = split_new sc n v lows t k at key two committed (f.rising t) new full in
+    fit_along sc n w _ (lows ++ b ∷ []) e (cut_fit sc n v lows t key b k f at g normal (split_on sc n v lows t k at key full) fresh)
 fit_event sc n v w lows two k f (Commits t runs whole e) = fit_along sc n w _ lows e (committed_fit sc n v lows t k f (runs.active, runs.here))
 fit_event sc n v w lows two k f (Gives p ms g m own free e) = fit_along sc n w _ lows e
     (leaves_fit sc n (rest v ms) lows p (rest_fit sc n v lows (Pull p) ms f g refl) own)

@@ -32,7 +32,7 @@ use Rattle.zy_laws.proofs.walk.Events.{Splits, lows_after, GoesOn, Leads}
 use Rattle.zy_laws.proofs.serial.Following.{Follows, Serially, follows_same, keep_registers, registers_same}
 use Rattle.zy_laws.proofs.serial.FollowingRuns.{begun_follows, cut_follows, key_follows, leads_step, plain_follows, range_follows, read_value}
 use Rattle.zy_laws.proofs.serial.FollowingRuns.{small_insert, small_read, small_sum, small_write, sum_value, there_value}
-use Rattle.zy_laws.proofs.locks.LockingSteps.{has_lock_locking, split_on}
+use Rattle.zy_laws.proofs.locks.CutLocks.{has_lock_locking, split_on}
 use Rattle.zy_table.proofs.LockLists.{alone_new, holds-drop, holds_more}
 use Rattle.zy_table.proofs.SharedLocks.{holds_more_shared}
 use Rattle.zy_laws.proofs.locks.Locking.{Kept, nobody_runs}
@@ -160,7 +160,7 @@ module _ (sc : Scenario) (n : Node) (v : View) (start : Map) (lows : List ℕ) (
       let begins = s.kept.first.1 in
       let newest : v.me.lows ≡ lows = s.kept.mine.newest (s.kept.mine.busy t at) in
       let same : db w ≡ db v = cut_db lows v1 t p b s.kept.placed (record { once = s.kept.inv.owned.once }) f.here in
-      let l = has_lock_locking sc n v lows t k Exclusive s.kept at f in
+      let l = has_lock_locking sc n v lows t s.kept at k Exclusive f in
       let one : (u j : ℕ) → page_of lows b ≡ page_of lows j → holds locks (page_of lows j) u ≡ true → u ≡ t =
       λ u j e g. sym (l.apart p t u (alone_new p t v.me.locks) (subst (λ z. holds locks z u ≡ true) (sym e ∙ ap (λ z. page_of z b) (sym newest) ∙ on) g)) in
       let idle = normal_other v s.kept.inv.roles normal in
@@ -221,7 +221,7 @@ serial_event sc n v w start lows s (Inserts t key value runs f new room e) k = a
     (key_serial sc n v start lows s t key Exclusive _ _ _ (effect.Accesses (access.Inserts value) key) runs (λ keys.
     small_insert (db v) key (txn_at v t) keys f.small value (there_value sc n v lows t key s.kept (runs.active, runs.here) Exclusive f ∙ new)))
 serial_event sc n v w start lows s (Splits t key value runs f new full normal pages e) k =
-    let on = split_on sc n v lows t key value s.kept runs full in
+    let on = split_on sc n v lows t s.kept (runs.active, runs.here) key full in
     along e k
     (cut_serial sc n v start lows s t key _ (runs.active, runs.here) f normal on)
 serial_event sc n v w start lows s (Commits t runs all e) k = along e k (committed_serial sc n v start lows t s runs)
