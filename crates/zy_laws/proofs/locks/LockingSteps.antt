@@ -1,6 +1,6 @@
 -- Each step of the table keeps locks, private rows and the places of rows.
 use Rattle.zy_modes.specs.Families.{is_source, is_taker, is_idle}
-use Rattle.zy_laws.proofs.owner.OneOwner.{sends_source}
+use Rattle.zy_laws.proofs.owner.PageOwners.{sends_source}
 use Rattle.std.proofs.Common.{List, [], ap, false, inl, inr, length, refl, subst, suc, sym, true, zero, ℕ, ◌++◌, ◌+◌, ◌≤◌, ◌∙◌, ◌∷◌, ◌≡◌, ◌<◌}
 use Rattle.std.specs.Prelude.{None, Some, if◌then◌else◌, is_some, slice_get, ◌==◌, ◌&&◌, ◌⊎◌}
 use Rattle.std.proofs.lemmas.Bool.{and_from, cases_eq, cond_both, eqb-true, false≢true, or_right}

@@ -25,7 +25,8 @@ use Rattle.zy_laws.proofs.order.Rising.{numbers-installed, length-installed, row
 use Rattle.zy_laws.proofs.order.Rising.{rows_rise-lowered, rows_rise-with_page, asked_put, asked_drop, numbers-without, rows_rise-without, rows_rise-last}
 use Rattle.zy_laws.proofs.order.Rising.{length-without}
 use Rattle.zy_laws.proofs.owner.Roles.{Inv, Owned, fresh_number, normal_other, width}
-use Rattle.zy_laws.proofs.owner.OneOwner.{done_wide, locks_inv, pulled_inv, wire_wide}
+use Rattle.zy_laws.proofs.owner.LinkOwners.{done_wide, pulled_inv, wire_wide}
+use Rattle.zy_laws.proofs.owner.SameOwners.{locks_inv}
 use Rattle.zy_laws.proofs.owner.MovingPages.{sent_leaves-append, sent_bare}
 use Rattle.zy_laws.proofs.owner.PageCounts.{owns-times, owns_none, times_sent}
 use Rattle.zy_links.specs.Messages.{Wire, Ready, Dual, Pull, Page, Finish, Done}
@@ -298,19 +299,19 @@ ordered_event sc n v w i o (Commits t runs all e) = along w _ e (committed_order
 ordered_event sc n v w i o (Asks p gone pulls new e) = along w _ e (asks_ordered v o p new)
 ordered_event sc n v w i o (Starts at_a normal empty e) = along w _ e (kept_ordered v o refl (sent_bare v.outbox (Wire v.me.lows) refl) refl)
 ordered_event sc n v w i o (GotWire lows ms f empty e) =
-    along w _ e (kept_ordered v o (ap sent_leaves (sym f)) (sent_bare v.outbox Ready refl) (wire_wide v lows ms i f empty))
+    along w _ e (kept_ordered v o (ap sent_leaves (sym f)) (sent_bare v.outbox Ready refl) (wire_wide v i lows ms f empty))
 ordered_event sc n v w i o (GotReady ms f init e) = along w _ e (kept_ordered v o (ap sent_leaves (sym f)) (sent_bare v.outbox Dual refl) refl)
 ordered_event sc n v w i o (GotDual ms f init e) = along w _ e (kept_ordered v o (ap sent_leaves (sym f)) refl refl)
 ordered_event sc n v w i o (IsStale p ms f e) = along w _ e (kept_ordered v o (ap sent_leaves (sym f)) refl refl)
 ordered_event sc n v w i o (Gives p ms f sends own free e) =
     let x = rest v ms in
-    along w _ e (leaves_ordered p x (pulled_inv v p ms i f).owned (kept_ordered v o (ap sent_leaves (sym f)) refl refl) own)
+    along w _ e (leaves_ordered p x (pulled_inv v i p ms f).owned (kept_ordered v o (ap sent_leaves (sym f)) refl refl) own)
 ordered_event sc n v w i o (GotPage leaf ms f pulls e) = along w _ e (arrived_ordered v leaf ms i.owned o f)
 ordered_event sc n v w i o (GotLast leaf ms f finish all e) =
     let x = arrived leaf (rest v ms) in
     along w _ e (kept_ordered x (arrived_ordered v leaf ms i.owned o f) refl (sent_bare v.outbox Done refl) refl)
 ordered_event sc n v w i o (GotFinish ms f dual e) = along w _ e (kept_ordered v o (ap sent_leaves (sym f)) refl refl)
 ordered_event sc n v w i o (GotAll ms f dual all e) = along w _ e (kept_ordered v o (ap sent_leaves (sym f)) (sent_bare v.outbox Done refl) refl)
-ordered_event sc n v w i o (GotDone ms f finish e) = along w _ e (kept_ordered v o (ap sent_leaves (sym f)) refl (done_wide v ms i f finish))
+ordered_event sc n v w i o (GotDone ms f finish e) = along w _ e (kept_ordered v o (ap sent_leaves (sym f)) refl (done_wide v i ms f finish))
 ordered_event sc n v w i o (Finishes dual none e) = along w _ e (kept_ordered v o refl (sent_bare v.outbox Finish refl) refl)
 ordered_event sc n v w i o (Pushes p finish own e) = along w _ e (leaves_ordered p v i.owned o own)

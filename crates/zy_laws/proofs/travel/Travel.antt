@@ -29,7 +29,10 @@ use Rattle.zy_laws.proofs.walk.Events.{Told, Commits, Event, Gives, GotLast, Got
 use Rattle.zy_laws.proofs.walk.Events.{Pushes, Splits, has_lock, page, rest, step_happens}
 use Rattle.zy_laws.proofs.places.Installing.{owns-installed}
 use Rattle.zy_laws.proofs.owner.MovingPages.{leaf_at-number, owns-sent_post, owns-without, owns-without_other, sent_bare}
-use Rattle.zy_laws.proofs.owner.OneOwner.{inv_from, locks_inv, play_inv, pulled_inv, sends_source, step_inv}
+use Rattle.zy_laws.proofs.owner.LinkOwners.{pulled_inv}
+use Rattle.zy_laws.proofs.owner.OneOwner.{inv_from, play_inv, step_inv}
+use Rattle.zy_laws.proofs.owner.PageOwners.{sends_source}
+use Rattle.zy_laws.proofs.owner.SameOwners.{locks_inv}
 use Rattle.zy_laws.proofs.owner.PageCounts.{owns-times, owns_none, times-sent_leaves, times_sent}
 use Rattle.zy_laws.proofs.walk.ModeLines.{splits_in_normal}
 use Rattle.zy_laws.proofs.owner.Roles.{Inv, Owned, normal_other}
@@ -167,7 +170,7 @@ goes_event sc n o v w p i (Commits t runs all e) told = rw e (stays p n o v _ (o
 goes_event sc n o v w p i (Gives q ms f sends own free e) told =
     let x = rest v ms in
     let same = same_place p n x v refl refl refl (ap (λ xs. owns (sent_leaves xs) p) f) in
-    rw e (from_same p n o v x _ same refl (leaves_goes p n o x q (pulled_inv v q ms i f).owned (sends_source v.me.mode sends) own))
+    rw e (from_same p n o v x _ same refl (leaves_goes p n o x q (pulled_inv v i q ms f).owned (sends_source v.me.mode sends) own))
 goes_event sc n o v w p i (GotPage leaf ms f pulls e) told = rw e (arrives_goes p n o v leaf ms i.owned pulls f refl refl)
 goes_event sc n o v w p i (GotLast leaf ms f finish all e) told =
     rw e (arrives_goes p n o v leaf ms i.owned (ap may_pull finish) f refl (sent_bare v.outbox Done refl))
