@@ -90,7 +90,7 @@ module _ (sc : Scenario) (n : Node) (v : View) (lows : List ℕ) (t : ℕ) (h : 
   pub has_lock_locking : (key : ℕ) (kind : LockKind) → Free t key kind v → Locking sc n (has_lock t key kind v).me (has_lock t key kind v) lows
   unfolding locked txn_at
   has_lock_locking key kind f =
-      lock_taken sc n v (has_lock t key kind v) _ lows t (page_of v.me.lows key) kind h.mine at (within key) f.here f.free refl refl refl refl
+      lock_taken sc n v (has_lock t key kind v) lows t (page_of v.me.lows key) kind h.mine at (within key) f.here f.free
       (λ u a. a) (λ u a. a) (λ u j a s. inl s)
 
   -- the pages of the node lie by its own low keys

@@ -58,7 +58,7 @@ shares_locking sc n [] v lows t l at small own free = l
 shares_locking sc n (p ∷ ps) v lows t l at small own free =
     let w = locked t p Shared v in
     let here = has_first p ps in
-    let one : Locking sc n w.me w lows = lock_taken sc n v w w.me lows t p Shared l at (small p here) (own p here) (free p here) refl refl refl refl (λ u a. a)
+    let one : Locking sc n w.me w lows = lock_taken sc n v w lows t p Shared l at (small p here) (own p here) (free p here) (λ u a. a)
     (λ u a. a) (λ u j a s. inl s) in
     shares_locking sc n ps w lows t one at (λ q h. small q (or_right _ _ h)) (λ q h. own q (or_right _ _ h))
     (λ q h. conflict_own p t Shared v.me.locks q Shared ∙ free q (or_right _ _ h))
@@ -99,7 +99,7 @@ module _ (sc : Scenario) (n : Node) (v : View) (lows : List ℕ) (t : ℕ) (k : 
         inv = i;
         first = k.first;
         placed = k.placed;
-        mine = lock_taken sc n v w w.me lows t p kind k.mine at (within sc n v lows t k at key) f.here f.free refl refl refl refl
+        mine = lock_taken sc n v w lows t p kind k.mine at (within sc n v lows t k at key) f.here f.free
             (λ u a. elim (cases_eq u t) [
               | inl same ↦ subst (λ z. IsAt v z n) (sym same) at
               | inr far ↦
@@ -145,7 +145,7 @@ module _ (sc : Scenario) (n : Node) (v : View) (lows : List ℕ) (t : ℕ) (k : 
     inv = i;
     first = k.first;
     placed = k.placed;
-    mine = freed sc n v _ _ lows t _ k.mine at refl refl refl refl refl (λ p. refl);
+    mine = freed sc n v _ lows t _ k.mine at refl refl (λ p. refl);
     theirs = untouched sc (other n) v.them v _ lows k.theirs (seen_other n v _ t _ refl (λ s. false≢true s.0) at);
   }
 
@@ -157,7 +157,7 @@ module _ (sc : Scenario) (n : Node) (v : View) (lows : List ℕ) (t : ℕ) (k : 
     first = k.first;
     placed = subst (λ l. Placed lows (installed l (txn_at v t).rows v.me.pages ++ (v.them.pages ++ (sent_leaves v.inbox ++ sent_leaves v.outbox))))
         (sym (k.mine.newest (k.mine.busy t at))) (placed_installed lows (txn_at v t).rows v.me.pages _ k.placed);
-    mine = freed sc n v _ _ lows t _ k.mine at refl refl refl refl refl (owns-installed v.me.lows (txn_at v t).rows v.me.pages);
+    mine = freed sc n v _ lows t _ k.mine at refl refl (owns-installed v.me.lows (txn_at v t).rows v.me.pages);
     theirs = untouched sc (other n) v.them v _ lows k.theirs (seen_other n v _ t _ refl (λ s. false≢true s.0) at);
   }
 
