@@ -80,27 +80,27 @@ fate_set sc v w t u y e f = elim (cases_eq u t) [
 set_length : (regs : List ℕ) (r : Reg) (x : ℕ) → length (with_reg r x regs) ≡ length regs
 set_length regs r x = length-set regs (number_of r) x
 
--- behind an instruction that is not the last one is another
-next_place : (sc : Scenario) (n : Node) (t : ℕ) (e : Effect) (v : View) → Runs sc n t e v → is_last e ≡ false → IsProgram (program_of sc t)
-    → (txn_at v t).pc + 1 < length (program_of sc t)
-next_place sc n t e v runs on ok =
-    next_within (program_of sc t) (txn_at v t).pc runs.instr ok runs.next (ends-effect runs.instr (txn_at v t).regs ∙ ap is_last runs.does ∙ on)
+-- transaction t runs, and e is what its next instruction does
+module _ (sc : Scenario) (n : Node) (t : ℕ) (e : Effect) (v : View) (runs : Runs sc n t e v) where
+  -- behind an instruction that is not the last one is another
+  next_place : is_last e ≡ false → IsProgram (program_of sc t) → (txn_at v t).pc + 1 < length (program_of sc t)
+  next_place on ok =
+      next_within (program_of sc t) (txn_at v t).pc runs.instr ok runs.next (ends-effect runs.instr (txn_at v t).regs ∙ ap is_last runs.does ∙ on)
 
--- a jump leads to an instruction of the program
-jump_place : (sc : Scenario) (n : Node) (t : ℕ) (e : Effect) (taken : Bool) (to : ℕ) (v : View) → Runs sc n t e v → e ≡ effect.Jumps taken to
-    → IsProgram (program_of sc t) → (if taken then to else (txn_at v t).pc + 1) < length (program_of sc t)
-jump_place sc n t e true to v runs is ok =
-    let count = length (program_of sc t) in
-    let within = target_within (program_of sc t) (txn_at v t).pc runs.instr ok runs.next in
-    ltb-true _ _ (ap (jumps_below count) (sym is) ∙ ap (jumps_below count) (sym runs.does) ∙ sym (target-effect count runs.instr (txn_at v t).regs) ∙ within)
-jump_place sc n t e false to v runs is ok = next_place sc n t e v runs (ap is_last is) ok
+  -- a jump leads to an instruction of the program
+  jump_place : (taken : Bool) (to : ℕ) → e ≡ effect.Jumps taken to → IsProgram (program_of sc t)
+      → (if taken then to else (txn_at v t).pc + 1) < length (program_of sc t)
+  jump_place true to is ok =
+      let count = length (program_of sc t) in
+      let within = target_within (program_of sc t) (txn_at v t).pc runs.instr ok runs.next in
+      ltb-true _ _ (ap (jumps_below count) (sym is) ∙ ap (jumps_below count) (sym runs.does) ∙ sym (target-effect count runs.instr (txn_at v t).regs) ∙ within)
+  jump_place false to is ok = next_place (ap is_last is) ok
 
--- an effect that needs no page leaves a transaction in its program, with as many registers
-leads_place : (sc : Scenario) (n : Node) (t : ℕ) (e : Effect) (pc : ℕ) (regs : List ℕ) (v : View) → Runs sc n t e v → Leads e (txn_at v t) pc regs
-    → IsProgram (program_of sc t) → pc < length (program_of sc t)
-leads_place sc n t e pc regs v runs (BySet r value is a b) ok = rw a (next_place sc n t e v runs (ap is_last is) ok)
-leads_place sc n t e pc regs v runs (ByJump taken to is a b) ok = rw a (jump_place sc n t e taken to v runs is ok)
-leads_place sc n t e pc regs v runs (BySum r first last is none a b) ok = rw a (next_place sc n t e v runs (ap is_last is) ok)
+  -- an effect that needs no page leaves a transaction in its program
+  leads_place : {pc : ℕ} {regs : List ℕ} → Leads e (txn_at v t) pc regs → IsProgram (program_of sc t) → pc < length (program_of sc t)
+  leads_place (BySet r value is a b) ok = rw a (next_place (ap is_last is) ok)
+  leads_place (ByJump taken to is a b) ok = rw a (jump_place taken to is ok)
+  leads_place (BySum r first last is none a b) ok = rw a (next_place (ap is_last is) ok)
 
 -- an effect that needs no page leaves how many registers there are
 leads_length : (e : Effect) (x : Txn) (pc : ℕ) (regs : List ℕ) → Leads e x pc regs → length regs ≡ length x.regs
@@ -118,7 +118,7 @@ unfolding did locked shares txn_at aborted begun committed cut asks leaves
 fate sc n v w u (Begins t h a new home e) = fate_set sc v w t u _ (ap txns_of e) (Fresh refl refl refl)
 fate sc n v w u (Aborts t y active here e) = fate_set sc v w t u _ (ap txns_of e) (Ends (omega arith) refl refl)
 fate sc n v w u (GoesOn t x pc regs runs leads e) =
-    fate_set sc v w t u _ (ap txns_of e) (Went refl (leads_length x (txn_at v t) pc regs leads) (leads_place sc n t x pc regs v runs leads))
+    fate_set sc v w t u _ (ap txns_of e) (Went refl (leads_length x (txn_at v t) pc regs leads) (leads_place sc n t x v runs leads))
 fate sc n v w u (Gets t r key runs f e) = fate_set sc v w t u _ (ap txns_of e) (Went refl (set_length (txn_at v t).regs r _) (next_place sc n t _ v runs refl))
 fate sc n v w u (SumsUp t r first last runs f e) =
     fate_set sc v w t u _ (ap txns_of e) (Went refl (set_length (txn_at v t).regs r _) (next_place sc n t _ v runs refl))
@@ -133,10 +133,6 @@ pub counted_fate : (sc : Scenario) (count u : ℕ) (x y : Txn) → IsProgram (pr
     → Counted sc (count + 1) u y
 counted_fate sc count u x y ok (Same e) c = rw e (record { done = let k = c.done in omega arith; regs = c.regs; place = c.place })
 counted_fate sc count u x y ok (Fresh a b d) c = record { done = omega arith; regs = b; place = let k = ok.some in omega arith }
-counted_fate sc count u x y ok (Ends a b d) c = record {
-  done = let k = c.done in omega arith;
-  regs = ap length b ∙ c.regs;
-  place = let k = c.place in
-      omega arith;
-}
+counted_fate sc count u x y ok (Ends a b d) c =
+    record { done = let k = c.done in omega arith; regs = ap length b ∙ c.regs; place = let k = c.place in omega arith }
 counted_fate sc count u x y ok (Went a b d) c = record { done = let k = c.done in omega arith; regs = b ∙ c.regs; place = d ok }

@@ -102,13 +102,11 @@ module _ (sc : Scenario) (n : Node) (v : View) (lows : List ℕ) (t : ℕ) (k : 
         mine = lock_taken sc n v w lows t p kind k.mine at (within sc n v lows t k at key) f.here f.free
             (λ u a. elim (cases_eq u t) [
               | inl same ↦ subst (λ z. IsAt v z n) (sym same) at
-              | inr far ↦
-                  subst (λ (z : Txn). Stands z n) (at_other v w t u y refl far) a
+              | inr far ↦ subst (λ (z : Txn). Stands z n) (at_other v w t u y refl far) a
             ])
             (λ u a. elim (cases_eq u t) [
               | inl same ↦ subst (λ z. IsAt w z n) (sym same) (subst (λ (z : Txn). Stands z n) (sym self) at)
-              | inr far ↦
-                  subst (λ (z : Txn). Stands z n) (sym (at_other v w t u y refl far)) a
+              | inr far ↦ subst (λ (z : Txn). Stands z n) (sym (at_other v w t u y refl far)) a
             ])
             (λ u j a s. elim (cases_eq u t) [
               | inl same ↦ elim (grow j (subst (λ (z : Txn). is_some (get_row z.rows j) ≡ true) (ap (txn_at w) same ∙ self) s)) [

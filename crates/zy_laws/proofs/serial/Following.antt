@@ -71,6 +71,5 @@ keep_registers sc v w start t y e c off h =
     subst (Registers sc (txn_at w) start) (sym c) (registers_same sc (txn_at v) (txn_at w) start v.commits
     (λ u ended. elim (cases_eq u t) [
       | inl same ↦ absurd (false≢true (sym off ∙ subst (λ z. is_committed (txn_at v z).status ≡ true) same ended))
-      | inr far ↦
-          at_other v w t u y e far
+      | inr far ↦ at_other v w t u y e far
     ]) h)

@@ -1,6 +1,6 @@
 -- What an instruction does in the lone run of its program: it sees what the step sees, and leads where the step leads.
 use Rattle.std.proofs.Common.{List, [], add-one, ap, length, false, inl, inr, refl, subst, sym, true, ℕ, ◌%◌, ◌+◌, ◌^◌, ◌∙◌, ◌++◌, ◌∷◌, ◌≡◌}
-use Rattle.std.specs.Prelude.{None, Option, Some, is_some, nat_lt, replicate, slice_get, slice_set, unwrap_or, ◌==◌, ◌||◌}
+use Rattle.std.specs.Prelude.{None, Option, Some, is_some, nat_lt, slice_get, unwrap_or, ◌==◌, ◌||◌}
 use Rattle.std.specs.FinMap.{get}
 use Rattle.std.proofs.lemmas.Bool.{cases_eq, eqb-true, false≢true, or_cases}
 use Rattle.zy_isa.specs.Rows.{get_row, put_row}
@@ -12,7 +12,8 @@ use Rattle.zy_isa.specs.declared.row.Row.{Row}
 use Rattle.zy_locks.specs.Locks.{add_lock}
 use Rattle.zy_locks.specs.declared.lock.LockKind.{LockKind}
 use Rattle.zy_locks.specs.declared.lock.LockKind.TheVariants.{Exclusive}
-use Rattle.zy_table.specs.Change.{share_all, txn_at, with_reg}
+use Rattle.zy_table.specs.Change.{begun, nobody, share_all, txn_at, with_reg}
+use Rattle.zy_table.specs.declared.status.Status.TheVariants.{Active}
 use Rattle.zy_table.specs.Client.{is_active}
 use Rattle.zy_table.specs.declared.effect.Effect.{Effect}
 use Rattle.zy_table.specs.Effects.{effect_of}
@@ -155,30 +156,23 @@ module _ (program : List Instr) (d : Map) (lows : List ℕ) (locks : List Lock) 
     ];
   }
 
--- a transaction that begins has done nothing
-fresh_follows : (program : List Instr) (d : Map) (lows : List ℕ) (locks : List Lock) (t : ℕ) (x : Txn) → x.done ≡ 0 → x.regs ≡ replicate 8 0
-    → x.pc ≡ 0 → x.rows ≡ [] → Follows program d lows locks t x
-fresh_follows program d lows locks t x a b c e = record {
-  keys = [];
-  run = ap (lone d program) a ∙ (λ i. record { regs = sym b i; pc = sym c i; rows = sym e i; keys = []; over = false });
-  covered = λ k h. absurd (false≢true h);
-}
-
--- a begin follows the lone run
-pub begun_follows : (sc : Scenario) (v w : View) (lows : List ℕ) (locks : List Lock) (m : Node) (t u : ℕ) (y : Txn) → w.txns ≡ slice_set v.txns t y
-    → is_active (txn_at v t).status ≡ false → db w ≡ db v
-    → y.done ≡ 0 → y.regs ≡ replicate 8 0 → y.pc ≡ 0 → y.rows ≡ []
-    → ((z : ℕ) → IsAt v z m → Follows (program_of sc z) (db v) lows locks z (txn_at v z)) → IsAt w u m
-    → Follows (program_of sc u) (db w) lows locks u (txn_at w u)
-begun_follows sc v w lows locks m t u y e new same a b c d f at =
+-- after t begins at h, u has come as far as its lone run
+pub begun_follows : (sc : Scenario) (v : View) (lows : List ℕ) (locks : List Lock) (h m : Node) (t u : ℕ) → is_active (txn_at v t).status ≡ false
+    → ((z : ℕ) → IsAt v z m → Follows (program_of sc z) (db v) lows locks z (txn_at v z)) → IsAt (begun h t v) u m
+    → Follows (program_of sc u) (db (begun h t v)) lows locks u (txn_at (begun h t v) u)
+unfolding begun
+begun_follows sc v lows locks h m t u new f at =
+    let w = begun h t v in
+    let y : Txn = record nobody { status = Active; node = h } in
+    let fresh : Follows (program_of sc u) (db v) lows locks u y = record { keys = []; run = refl; covered = λ k a. absurd (false≢true a) } in
     elim (cases_eq u t) [
-      | inl here ↦ elim (at_either v w t y e) [
-        | inl now ↦ subst (Follows (program_of sc u) (db w) lows locks u) (sym (ap (txn_at w) here ∙ now))
-            (fresh_follows (program_of sc u) (db w) lows locks u y a b c d)
+      | inl here ↦ elim (at_either v w t y refl) [
+        | inl now ↦ subst (Follows (program_of sc u) (db v) lows locks u) (sym (ap (txn_at w) here ∙ now)) fresh
         | inr old ↦ absurd (false≢true (sym new ∙ subst (λ (x : Txn). is_active x.status ≡ true) (ap (txn_at w) here ∙ old) at.0))
       ]
-      | inr far ↦ let now = at_other v w t u y e far in
-          follows_same (program_of sc u) (db v) (db w) lows locks locks u (txn_at v u) (txn_at w u) same now (λ p h. h) (f u (subst (λ x. Stands x m) now at))
+      | inr far ↦ let now = at_other v w t u y refl far in
+          follows_same (program_of sc u) (db v) (db v) lows locks locks u (txn_at v u) (txn_at w u) refl now (λ p h. h)
+          (f u (subst (λ x. Stands x m) now at))
     ]
 
 -- a split moves the keys of t's page alone

@@ -139,8 +139,8 @@ module _ (sc : Scenario) (n : Node) (v : View) (start : Map) (lows : List ℕ) (
       record {
         kept = k;
         held = s.held;
-        mine = λ u a. begun_follows sc v w lows v.me.locks n t u _ refl off refl refl refl refl refl s.mine a;
-        theirs = λ u a. begun_follows sc v w lows v.them.locks (other n) t u _ refl off refl refl refl refl refl s.theirs a;
+        mine = λ u a. begun_follows sc v lows v.me.locks h n t u off s.mine a;
+        theirs = λ u a. begun_follows sc v lows v.them.locks h (other n) t u off s.theirs a;
         is_serial = s.is_serial;
         registers = keep_registers sc v w start t _ refl refl (new_off (txn_at v t).status new) s.registers;
       }
