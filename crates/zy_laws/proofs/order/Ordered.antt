@@ -43,7 +43,7 @@ use Rattle.zy_table.specs.Run.{boundary}
 use Rattle.zy_laws.proofs.walk.Txns.{at_either, at_other}
 use Rattle.zy_table.proofs.PageLists.{length-with_page, length-lowered, numbers-with_page}
 
--- how many pages there are, and low keys
+-- how many pages there are
 abbrev pages_in : View → ℕ
 pages_in v = (length v.me.pages + length v.them.pages) + (length (sent_leaves v.inbox) + length (sent_leaves v.outbox))
 
@@ -163,18 +163,6 @@ cut_ordered t p b v o i normal =
           omega (arith, k, long, more, same, wide);
     }
 
--- a lock keeps the order
-has_lock_ordered : (t k : ℕ) (kind : LockKind) (v : View) → Ordered v → Ordered (has_lock t k kind v)
-unfolding locked txn_at
-has_lock_ordered t k kind v o = record {
-  mine = locks_ordered v.me _ o.mine (rise_add (page_of v.me.lows k) t kind v.me.locks o.mine.locks);
-  theirs = o.theirs;
-  inbox = o.inbox;
-  outbox = o.outbox;
-  private = o.private;
-  lows = o.lows;
-}
-
 -- a lock keeps roles and owners
 has_lock_inv : (t k : ℕ) (kind : LockKind) (v : View) → Inv v → Inv (has_lock t k kind v)
 unfolding locked
@@ -182,7 +170,7 @@ has_lock_inv t k kind v i = locks_inv v (has_lock t k kind v) (refl, refl, refl)
 
 -- ---- messages are sent and taken, and no page with them
 
--- a step from a view that is in order
+-- a step from a view that is in order, which moves no page
 module _ (v : View) (o : Ordered v) where
   -- a step that changes a node, and no page there or on a link
   links_ordered : {x : NodeState} {inbox outbox : List Message} → NodeInOrder x → length x.pages ≡ length v.me.pages
@@ -204,6 +192,12 @@ module _ (v : View) (o : Ordered v) where
       → Ordered (record v { me = record v.me { mode = mode; lows = lows }; inbox = inbox; outbox = outbox })
   kept_ordered inbox outbox wide =
       let me = o.mine in links_ordered (record { pages = me.pages; rows = me.rows; asked = me.asked; locks = me.locks }) refl inbox outbox wide
+
+  -- a lock keeps the order
+  has_lock_ordered : (t k : ℕ) (kind : LockKind) → Ordered (has_lock t k kind v)
+  unfolding locked
+  has_lock_ordered t k kind =
+      links_ordered (locks_ordered v.me _ o.mine (rise_add (page_of v.me.lows k) t kind v.me.locks o.mine.locks)) refl refl refl refl
 
   -- asking for a page keeps the order
   asks_ordered : (p : ℕ) → has v.me.asked p ≡ false → Ordered (asks p v)
@@ -276,42 +270,38 @@ arrived_ordered v leaf ms owned o f =
           omega (arith, k, more, less);
     }
 
--- order of a view is order of an equal one
-along : (w x : View) → w ≡ x → Ordered x → Ordered w
-along w x e o = subst Ordered (sym e) o
-
 -- each event keeps the order
 pub ordered_event : (sc : Scenario) (n : Node) (v w : View) → Inv v → Ordered v → Event sc n v w → Ordered w
 unfolding locked
-ordered_event sc n v w i o (Rests e) = along w _ e o
-ordered_event sc n v w i o (Begins t h a new home e) = along w _ e (begun_ordered t v o h)
-ordered_event sc n v w i o (Aborts t y active here e) = along w _ e (ended_ordered t v o y)
-ordered_event sc n v w i o (GoesOn t x pc regs runs leads e) = along w _ e (goes_ordered t v o pc regs)
-ordered_event sc n v w i o (Gets t r key runs f e) = along w _ e (lock_ordered t v o _ _ Shared _ _ (o.private t))
-ordered_event sc n v w i o (SumsUp t r first last runs f e) = along w _ e (sum_ordered t v o _ _ _)
-ordered_event sc n v w i o (Writes t key value runs f there e) = along w _ e (puts_ordered t v o key value)
-ordered_event sc n v w i o (Inserts t key value runs f new room e) = along w _ e (puts_ordered t v o key value)
+ordered_event sc n v w i o (Rests e) = rw e o
+ordered_event sc n v w i o (Begins t h a new home e) = rw e (begun_ordered t v o h)
+ordered_event sc n v w i o (Aborts t y active here e) = rw e (ended_ordered t v o y)
+ordered_event sc n v w i o (GoesOn t x pc regs runs leads e) = rw e (goes_ordered t v o pc regs)
+ordered_event sc n v w i o (Gets t r key runs f e) = rw e (lock_ordered t v o _ _ Shared _ _ (o.private t))
+ordered_event sc n v w i o (SumsUp t r first last runs f e) = rw e (sum_ordered t v o _ _ _)
+ordered_event sc n v w i o (Writes t key value runs f there e) = rw e (puts_ordered t v o key value)
+ordered_event sc n v w i o (Inserts t key value runs f new room e) = rw e (puts_ordered t v o key value)
 ordered_event sc n v w i o (Splits t key value runs f new full normal pages e) =
     let x = has_lock t key Exclusive v in
     let b = boundary sc key (page key v) v.me (txn_at v t) in
-    along w _ e (cut_ordered t (page key v) b x (has_lock_ordered t key Exclusive v o) (has_lock_inv t key Exclusive v i) normal)
-ordered_event sc n v w i o (Commits t runs all e) = along w _ e (committed_ordered t v o)
-ordered_event sc n v w i o (Asks p gone pulls new e) = along w _ e (asks_ordered v o p new)
-ordered_event sc n v w i o (Starts at_a normal empty e) = along w _ e (kept_ordered v o refl (sent_bare v.outbox (Wire v.me.lows) refl) refl)
+    rw e (cut_ordered t (page key v) b x (has_lock_ordered v o t key Exclusive) (has_lock_inv t key Exclusive v i) normal)
+ordered_event sc n v w i o (Commits t runs all e) = rw e (committed_ordered t v o)
+ordered_event sc n v w i o (Asks p gone pulls new e) = rw e (asks_ordered v o p new)
+ordered_event sc n v w i o (Starts at_a normal empty e) = rw e (kept_ordered v o refl (sent_bare v.outbox (Wire v.me.lows) refl) refl)
 ordered_event sc n v w i o (GotWire lows ms f empty e) =
-    along w _ e (kept_ordered v o (ap sent_leaves (sym f)) (sent_bare v.outbox Ready refl) (wire_wide v i lows ms f empty))
-ordered_event sc n v w i o (GotReady ms f init e) = along w _ e (kept_ordered v o (ap sent_leaves (sym f)) (sent_bare v.outbox Dual refl) refl)
-ordered_event sc n v w i o (GotDual ms f init e) = along w _ e (kept_ordered v o (ap sent_leaves (sym f)) refl refl)
-ordered_event sc n v w i o (IsStale p ms f e) = along w _ e (kept_ordered v o (ap sent_leaves (sym f)) refl refl)
+    rw e (kept_ordered v o (ap sent_leaves (sym f)) (sent_bare v.outbox Ready refl) (wire_wide v i lows ms f empty))
+ordered_event sc n v w i o (GotReady ms f init e) = rw e (kept_ordered v o (ap sent_leaves (sym f)) (sent_bare v.outbox Dual refl) refl)
+ordered_event sc n v w i o (GotDual ms f init e) = rw e (kept_ordered v o (ap sent_leaves (sym f)) refl refl)
+ordered_event sc n v w i o (IsStale p ms f e) = rw e (kept_ordered v o (ap sent_leaves (sym f)) refl refl)
 ordered_event sc n v w i o (Gives p ms f sends own free e) =
     let x = rest v ms in
-    along w _ e (leaves_ordered p x (pulled_inv v i p ms f).owned (kept_ordered v o (ap sent_leaves (sym f)) refl refl) own)
-ordered_event sc n v w i o (GotPage leaf ms f pulls e) = along w _ e (arrived_ordered v leaf ms i.owned o f)
+    rw e (leaves_ordered p x (pulled_inv v i p ms f).owned (kept_ordered v o (ap sent_leaves (sym f)) refl refl) own)
+ordered_event sc n v w i o (GotPage leaf ms f pulls e) = rw e (arrived_ordered v leaf ms i.owned o f)
 ordered_event sc n v w i o (GotLast leaf ms f finish all e) =
     let x = arrived leaf (rest v ms) in
-    along w _ e (kept_ordered x (arrived_ordered v leaf ms i.owned o f) refl (sent_bare v.outbox Done refl) refl)
-ordered_event sc n v w i o (GotFinish ms f dual e) = along w _ e (kept_ordered v o (ap sent_leaves (sym f)) refl refl)
-ordered_event sc n v w i o (GotAll ms f dual all e) = along w _ e (kept_ordered v o (ap sent_leaves (sym f)) (sent_bare v.outbox Done refl) refl)
-ordered_event sc n v w i o (GotDone ms f finish e) = along w _ e (kept_ordered v o (ap sent_leaves (sym f)) refl (done_wide v i ms f finish))
-ordered_event sc n v w i o (Finishes dual none e) = along w _ e (kept_ordered v o refl (sent_bare v.outbox Finish refl) refl)
-ordered_event sc n v w i o (Pushes p finish own e) = along w _ e (leaves_ordered p v i.owned o own)
+    rw e (kept_ordered x (arrived_ordered v leaf ms i.owned o f) refl (sent_bare v.outbox Done refl) refl)
+ordered_event sc n v w i o (GotFinish ms f dual e) = rw e (kept_ordered v o (ap sent_leaves (sym f)) refl refl)
+ordered_event sc n v w i o (GotAll ms f dual all e) = rw e (kept_ordered v o (ap sent_leaves (sym f)) (sent_bare v.outbox Done refl) refl)
+ordered_event sc n v w i o (GotDone ms f finish e) = rw e (kept_ordered v o (ap sent_leaves (sym f)) refl (done_wide v i ms f finish))
+ordered_event sc n v w i o (Finishes dual none e) = rw e (kept_ordered v o refl (sent_bare v.outbox Finish refl) refl)
+ordered_event sc n v w i o (Pushes p finish own e) = rw e (leaves_ordered p v i.owned o own)
