@@ -1,9 +1,9 @@
 -- The row of commit: its private rows are laid over the database, which becomes that of the longer serial run.
 use Rattle.zy_table.specs.Take.{is_held}
-use Rattle.std.proofs.Common.{List, [], add-one, ap, arith, false, inl, inr, refl, subst, suc, sym, true, ℕ, ◌++◌, ◌+◌, ◌∙◌, ◌∷◌, ◌≡◌}
+use Rattle.std.proofs.Common.{List, [], add-one, ap, arith, false, inl, refl, subst, suc, sym, true, ℕ, ◌++◌, ◌+◌, ◌∙◌, ◌∷◌, ◌≡◌}
 use Rattle.std.specs.Prelude.{None, Option, Some, is_some, slice_get, slice_set}
 use Rattle.std.specs.FinMap.{get, nat_cmp-IsAntisymmetric, same_map}
-use Rattle.std.proofs.lemmas.Bool.{cases_eq, false≢true}
+use Rattle.std.proofs.lemmas.Bool.{false≢true}
 use Rattle.std.proofs.lemmas.Bool.Decides.{nat_tests}
 use Rattle.std.proofs.lemmas.Cmp.{nat_cmp_total}
 use Rattle.zy_isa.specs.Rows.{get_row}
@@ -25,7 +25,7 @@ use Rattle.zy_table.specs.declared.status.Status.TheVariants.{Committed}
 use Rattle.zy_table.specs.State.{Lock, NodeState, Txn, View, other}
 use Rattle.zy_wire.specs.Wireframe.{page_of}
 use Rattle.zy_laws.proofs.walk.Events.{Runs}
-use Rattle.zy_laws.proofs.serial.Following.{Follows, Serially, registers_push, registers_same}
+use Rattle.zy_laws.proofs.serial.Following.{Follows, Serially, keep_registers, registers_push}
 use Rattle.zy_laws.proofs.places.Installing.{found, found-append, get-leaves, installed_none, installed_some, none_else, placed_front}
 use Rattle.zy_table.proofs.LockLists.{exclusive_holds, holds-drop}
 use Rattle.zy_laws.proofs.locks.Locking.{Kept, whole}
@@ -132,12 +132,11 @@ alone_last : (m : Map) (program : List Instr) (i : Instr) (x : Alone) → x.over
 unfolding alone_step alone_instr
 alone_last m program i x on at does = rw (on, at, does) refl
 
--- a state that follows the serial run, and its newest low keys
-module _ (sc : Scenario) (n : Node) (v : View) (start : Map) (lows : List ℕ) where
+-- a state that follows the serial run, and a commit of t
+module _ (sc : Scenario) (n : Node) (v : View) (start : Map) (lows : List ℕ) (t : ℕ) (s : Serially sc n v start lows) (runs : Runs sc n t Commits v) where
   -- after a commit the database is that of the longer serial run
-  commit_serial : (t : ℕ) → Serially sc n v start lows → Runs sc n t Commits v
-      → db (committed t v) ≡ serial sc start (v.commits ++ record { txn = t; done = (txn_at v t).done + 1 } ∷ [])
-  commit_serial t s runs =
+  commit_serial : db (committed t v) ≡ serial sc start (v.commits ++ record { txn = t; done = (txn_at v t).done + 1 } ∷ [])
+  commit_serial =
       let at : IsAt v t n = (runs.active, runs.here) in
       let x = txn_at v t in
       let program = program_of sc t in
@@ -157,9 +156,8 @@ module _ (sc : Scenario) (n : Node) (v : View) (start : Map) (lows : List ℕ) w
       ∙ sym (serial-push sc start v.commits (record { txn = t; done = x.done + 1 }))
 
   -- a committed transaction has the registers of its lone run
-  committed_regs : (t : ℕ) → Serially sc n v start lows → Runs sc n t Commits v
-      → (txn_at v t).regs ≡ (alone (serial sc start v.commits) (program_of sc t) ((txn_at v t).done + 1)).regs
-  committed_regs t s runs =
+  committed_regs : (txn_at v t).regs ≡ (alone (serial sc start v.commits) (program_of sc t) ((txn_at v t).done + 1)).regs
+  committed_regs =
       let x = txn_at v t in
       let program = program_of sc t in
       let f = s.mine t (runs.active, runs.here) in
@@ -172,25 +170,20 @@ module _ (sc : Scenario) (n : Node) (v : View) (start : Map) (lows : List ℕ) w
       ∙ regs)
 
   -- after a commit all committed transactions have the registers of their lone runs
-  commit_registers : (t : ℕ) → Serially sc n v start lows → Runs sc n t Commits v
-      → Registers sc (txn_at (committed t v)) start (committed t v).commits
+  commit_registers : Registers sc (txn_at (committed t v)) start (committed t v).commits
   unfolding committed
-  commit_registers t s runs =
+  commit_registers =
       let at : IsAt v t n = (runs.active, runs.here) in
       let w = committed t v in
       let y : Txn = record (txn_at v t) { status = Committed; rows = []; done = (txn_at v t).done + 1 } in
       let self : txn_at w t ≡ y = at_self v w t y refl at.0 in
       registers_push sc (txn_at w) start v.commits (record { txn = t; done = (txn_at v t).done + 1 })
-      (registers_same sc (txn_at v) (txn_at w) start v.commits (λ u ended. elim (cases_eq u t) [
-        | inl same ↦ absurd (false≢true (sym (active_off (txn_at v t).status at.0) ∙ subst (λ z. is_committed (txn_at v z).status ≡ true) same ended))
-        | inr far ↦ at_other v w t u y refl far
-      ]) s.registers)
-      (ap (λ (x : Txn). is_committed x.status) self, ap (λ (x : Txn). x.regs) self ∙ committed_regs t s runs)
+      (keep_registers sc v w start v.commits t y refl (active_off (txn_at v t).status at.0) s.registers)
+      (ap (λ (x : Txn). is_committed x.status) self, ap (λ (x : Txn). x.regs) self ∙ committed_regs)
 
   -- a commit keeps it
-  pub committed_serial : (t : ℕ) → Serially sc n v start lows
-      → Runs sc n t Commits v → Kept sc n (committed t v) lows → Serially sc n (committed t v) start lows
-  committed_serial t s runs k =
+  pub committed_serial : Kept sc n (committed t v) lows → Serially sc n (committed t v) start lows
+  committed_serial k =
       let at : IsAt v t n = (runs.active, runs.here) in
       let w = committed t v in
       let y : Txn = record (txn_at v t) { status = Committed; rows = []; done = (txn_at v t).done + 1 } in
@@ -210,6 +203,6 @@ module _ (sc : Scenario) (n : Node) (v : View) (start : Map) (lows : List ℕ) w
             (commit_follows sc n v lows t u v.them.locks w.them.locks (program_of sc u) (txn_at v u) s.kept s.held at
             (λ p b c. apart_nodes sc n v lows p t u s.kept s.held (exclusive_holds v.me.locks p t b) c)
             (λ p h. ap (λ (x : NodeState). holds x.locks p u) (committed_them t v) ∙ h) (s.theirs u (subst (λ x. Stands x (other n)) now a)));
-        is_serial = commit_serial t s runs ∙ ap (serial sc start) (sym (committed_list t v));
-        registers = commit_registers t s runs;
+        is_serial = commit_serial ∙ ap (serial sc start) (sym (committed_list t v));
+        registers = commit_registers;
       }

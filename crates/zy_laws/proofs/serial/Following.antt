@@ -36,10 +36,9 @@ pub record Serially (sc : Scenario) (n : Node) (v : View) (start : Map) (lows : 
   pub registers : Registers sc (txn_at v) start v.commits
 
 -- the same run where nothing that it saw has changed
-pub follows_same : (program : List Instr) (d e : Map) (lows : List ℕ) (locks more : List Lock) (t : ℕ) (x y : Txn) → e ≡ d → y ≡ x
-    → ((p : ℕ) → holds locks p t ≡ true → holds more p t ≡ true)
-    → Follows program d lows locks t x → Follows program e lows more t y
-follows_same program d e lows locks more t x y same now grow f =
+pub follows_same : {program : List Instr} {d e : Map} {lows : List ℕ} {locks more : List Lock} {t : ℕ} {x y : Txn} → Follows program d lows locks t x
+    → e ≡ d → y ≡ x → ((p : ℕ) → holds locks p t ≡ true → holds more p t ≡ true) → Follows program e lows more t y
+follows_same {program = program} {e = e} {lows = lows} {more = more} {t = t} {x = x} f same now grow =
     subst (Follows program e lows more t) (sym now) (record {
       keys = f.keys;
       run = ap (λ m. lone m program x.done) same ∙ f.run;
@@ -64,12 +63,10 @@ registers_push sc f m [] c h new = (new, tt)
 registers_push sc f m (x ∷ xs) c h new = (h.0, registers_push sc f (alone m (program_of sc x.txn) x.done).map xs c h.1 new)
 
 -- setting a transaction that is not committed leaves the registers of those that are
-pub keep_registers : (sc : Scenario) (v w : View) (start : Map) (t : ℕ) (y : Txn) → w.txns ≡ slice_set v.txns t y → w.commits ≡ v.commits
-    → is_committed (txn_at v t).status ≡ false
-    → Registers sc (txn_at v) start v.commits → Registers sc (txn_at w) start w.commits
-keep_registers sc v w start t y e c off h =
-    subst (Registers sc (txn_at w) start) (sym c) (registers_same sc (txn_at v) (txn_at w) start v.commits
-    (λ u ended. elim (cases_eq u t) [
+pub keep_registers : (sc : Scenario) (v w : View) (start : Map) (cs : List CommitRec) (t : ℕ) (y : Txn) → w.txns ≡ slice_set v.txns t y
+    → is_committed (txn_at v t).status ≡ false → Registers sc (txn_at v) start cs → Registers sc (txn_at w) start cs
+keep_registers sc v w start cs t y e off h =
+    registers_same sc (txn_at v) (txn_at w) start cs (λ u ended. elim (cases_eq u t) [
       | inl same ↦ absurd (false≢true (sym off ∙ subst (λ z. is_committed (txn_at v z).status ≡ true) same ended))
       | inr far ↦ at_other v w t u y e far
-    ]) h)
+    ]) h

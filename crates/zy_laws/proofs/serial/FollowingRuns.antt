@@ -170,9 +170,7 @@ begun_follows sc v lows locks h m t u new f at =
         | inl now ↦ subst (Follows (program_of sc u) (db v) lows locks u) (sym (ap (txn_at w) here ∙ now)) fresh
         | inr old ↦ absurd (false≢true (sym new ∙ subst (λ (x : Txn). is_active x.status ≡ true) (ap (txn_at w) here ∙ old) at.0))
       ]
-      | inr far ↦ let now = at_other v w t u y refl far in
-          follows_same (program_of sc u) (db v) (db v) lows locks locks u (txn_at v u) (txn_at w u) refl now (λ p h. h)
-          (f u (subst (λ x. Stands x m) now at))
+      | inr far ↦ let now = at_other v w t u y refl far in follows_same (f u (subst (λ x. Stands x m) now at)) refl now (λ p h. h)
     ]
 
 -- a split moves the keys of t's page alone

@@ -56,19 +56,15 @@ module _ (sc : Scenario) (n : Node) (v : View) (start : Map) (lows : List ℕ) (
         mine = λ u a. elim (cases_eq u t) [
           | inl here ↦ subst (λ z. Follows (program_of sc z) (db v) lows locks z (txn_at w z)) (sym here)
               (subst (Follows (program_of sc t) (db v) lows locks t) (sym (at_self v w t y refl at.0)) f)
-          | inr far ↦ let now = at_other v w t u y refl far in
-              follows_same (program_of sc u) (db v) (db v) lows v.me.locks locks u (txn_at v u) (txn_at w u) refl now (λ p h. grow p u h)
-              (s.mine u (subst (λ x. Stands x n) now a))
+          | inr far ↦ let now = at_other v w t u y refl far in follows_same (s.mine u (subst (λ x. Stands x n) now a)) refl now (λ p h. grow p u h)
         ];
         theirs = λ u a. elim (cases_eq u t) [
           | inl here ↦ absurd (not_both_nodes n y.node (node ∙ at.1)
               (subst (λ (x : Txn). x.node ≡ other n) (ap (txn_at w) here ∙ at_self v w t y refl at.0) a.1))
-          | inr far ↦ let now = at_other v w t u y refl far in
-              follows_same (program_of sc u) (db v) (db v) lows v.them.locks v.them.locks u (txn_at v u) (txn_at w u) refl now (λ p h. h)
-              (s.theirs u (subst (λ x. Stands x (other n)) now a))
+          | inr far ↦ let now = at_other v w t u y refl far in follows_same (s.theirs u (subst (λ x. Stands x (other n)) now a)) refl now (λ p h. h)
         ];
         is_serial = s.is_serial;
-        registers = keep_registers sc v w start t y refl refl (active_off (txn_at v t).status at.0) s.registers;
+        registers = keep_registers sc v w start v.commits t y refl (active_off (txn_at v t).status at.0) s.registers;
       }
 
   -- a step of the program that needs no page keeps it
@@ -121,13 +117,11 @@ module _ (sc : Scenario) (n : Node) (v : View) (start : Map) (lows : List ℕ) (
         kept = k;
         held = s.held;
         mine = λ u a. let far = far_at u n a in let now = at_other v w t u y refl far in
-            follows_same (program_of sc u) (db v) (db w) lows v.me.locks w.me.locks u (txn_at v u) (txn_at w u) refl now
-            (λ p h. holds-drop v.me.locks p t u far ∙ h) (s.mine u (subst (λ x. Stands x n) now a));
+            follows_same (s.mine u (subst (λ x. Stands x n) now a)) refl now (λ p h. holds-drop v.me.locks p t u far ∙ h);
         theirs = λ u a. let far = far_at u (other n) a in let now = at_other v w t u y refl far in
-            follows_same (program_of sc u) (db v) (db w) lows v.them.locks v.them.locks u (txn_at v u) (txn_at w u) refl now (λ p h. h)
-            (s.theirs u (subst (λ x. Stands x (other n)) now a));
+            follows_same (s.theirs u (subst (λ x. Stands x (other n)) now a)) refl now (λ p h. h);
         is_serial = s.is_serial;
-        registers = keep_registers sc v w start t y refl refl (active_off (txn_at v t).status at.0) s.registers;
+        registers = keep_registers sc v w start v.commits t y refl (active_off (txn_at v t).status at.0) s.registers;
       }
 
   -- a begin keeps it
@@ -142,7 +136,7 @@ module _ (sc : Scenario) (n : Node) (v : View) (start : Map) (lows : List ℕ) (
         mine = λ u a. begun_follows sc v lows v.me.locks h n t u off s.mine a;
         theirs = λ u a. begun_follows sc v lows v.them.locks h (other n) t u off s.theirs a;
         is_serial = s.is_serial;
-        registers = keep_registers sc v w start t _ refl refl (new_off (txn_at v t).status new) s.registers;
+        registers = keep_registers sc v w start v.commits t _ refl (new_off (txn_at v t).status new) s.registers;
       }
 
   -- a split keeps it
@@ -171,8 +165,7 @@ module _ (sc : Scenario) (n : Node) (v : View) (start : Map) (lows : List ℕ) (
             (cut_follows (program_of sc u) (db v) (db w) more locks (length v.me.lows) b t u (txn_at v u) same (ap length (sym (newest ∙ begins)))
             (subst (λ z. (j : ℕ) → page_of z b ≡ page_of z j → holds locks (page_of z j) u ≡ true → u ≡ t) begins (one u))
             (subst (λ z. Follows (program_of sc u) (db v) z locks u (txn_at v u)) begins
-            (follows_same (program_of sc u) (db v) (db v) lows v.me.locks locks u (txn_at v u) (txn_at v u) refl refl
-            (λ q g. holds_more p t Exclusive v.me.locks q u g) (s.mine u a))));
+            (follows_same (s.mine u a) refl refl (λ q g. holds_more p t Exclusive v.me.locks q u g))));
         theirs = λ u a. absurd (nobody_runs sc (other n) v.them v lows u s.kept.theirs idle.0 a);
         is_serial = same ∙ s.is_serial;
         registers = s.registers;
@@ -184,11 +177,9 @@ module _ (sc : Scenario) (n : Node) (v : View) (start : Map) (lows : List ℕ) (
     kept = k;
     held = s.held;
     mine = λ u a. let now = at_same v w u q.txns in
-        follows_same (program_of sc u) (db v) (db w) lows v.me.locks w.me.locks u (txn_at v u) (txn_at w u) same now
-        (λ p h. subst (λ xs. holds xs p u ≡ true) (sym q.locks) h) (s.mine u (subst (λ x. Stands x n) now a));
+        follows_same (s.mine u (subst (λ x. Stands x n) now a)) same now (λ p h. subst (λ xs. holds xs p u ≡ true) (sym q.locks) h);
     theirs = λ u a. let now = at_same v w u q.txns in
-        follows_same (program_of sc u) (db v) (db w) lows v.them.locks w.them.locks u (txn_at v u) (txn_at w u) same now
-        (λ p h. subst (λ (x : NodeState). holds x.locks p u ≡ true) (sym q.them) h) (s.theirs u (subst (λ x. Stands x (other n)) now a));
+        follows_same (s.theirs u (subst (λ x. Stands x (other n)) now a)) same now (λ p h. subst (λ (x : NodeState). holds x.locks p u ≡ true) (sym q.them) h);
     is_serial = same ∙ s.is_serial ∙ ap (serial sc start) (sym q.commits);
     registers =
         subst (Registers sc (txn_at w) start) (sym q.commits)
@@ -222,8 +213,7 @@ serial_event sc n v w start lows s (Inserts t key value runs f new room e) k = a
     small_insert (db v) key (txn_at v t) keys f.small value (there_value sc n v lows t key s.kept (runs.active, runs.here) Exclusive f ∙ new)))
 serial_event sc n v w start lows s (Splits t key value runs f new full normal pages e) k =
     let on = split_on sc n v lows t s.kept (runs.active, runs.here) key full in
-    along e k
-    (cut_serial sc n v start lows s t key _ (runs.active, runs.here) f normal on)
+    along e k (cut_serial sc n v start lows s t key _ (runs.active, runs.here) f normal on)
 serial_event sc n v w start lows s (Commits t runs all e) k = along e k (committed_serial sc n v start lows t s runs)
 serial_event sc n v w start lows s e k = let q = quiet_of e refl in
     stays_serial sc n v start lows s w q (event_db sc n v w lows s.kept e q.commits) k
