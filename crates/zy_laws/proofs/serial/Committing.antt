@@ -97,34 +97,34 @@ alone_commit : (m : Map) (program : List Instr) (i : Instr) (x : Alone) → x.ov
 unfolding alone_step alone_instr
 alone_commit m program i x on at does = rw (on, at, does) refl
 
--- the others' lone runs do not see the rows of a commit
-commit_follows : (sc : Scenario) (n : Node) (v : View) (lows : List ℕ) (t u : ℕ) (locks more : List Lock) (program : List Instr) (x : Txn)
-    → Kept sc n v lows → is_held sc.rule ≡ true → IsAt v t n
-    → ((p : ℕ) → holds_alone v.me.locks p t ≡ true → holds locks p u ≡ true → ⊥) → ((p : ℕ) → holds locks p u ≡ true → holds more p u ≡ true)
-    → Follows program (db v) lows locks u x → Follows program (db (committed t v)) lows more u x
-commit_follows sc n v lows t u locks more program x h held at clash grow f =
-    let agree : Agree (db v) (db (committed t v)) f.keys = record {
-      each = λ k g.
-          let none : get_row (txn_at v t).rows k ≡ None = none_else (get_row (txn_at v t).rows k)
-          (λ is. clash (page_of lows k) (h.mine.private t k at is) (f.covered k g)) in
-          commit_db sc n v lows t h held at k ∙ ap (λ o. or_else o (get (db v) k)) none;
-    } in
-    let on : (lone (db v) program x.done).over ≡ false = ap (λ (z : Lone). z.over) f.run in
-    let keys : (lone (db v) program x.done).keys ≡ f.keys = ap (λ (z : Lone). z.keys) f.run in
-    record {
-      keys = f.keys;
-      run = lone_alike (db v) (db (committed t v)) program x.done on (subst (Agree (db v) (db (committed t v))) (sym keys) agree) ∙ f.run;
-      covered = λ k g. grow (page_of lows k) (f.covered k g);
-    }
+-- a state that every step keeps, under the rule that keeps locked pages
+module _ (sc : Scenario) (n : Node) (v : View) (lows : List ℕ) (t : ℕ) (h : Kept sc n v lows) (held : is_held sc.rule ≡ true) where
+  -- the others' lone runs do not see the rows of a commit
+  commit_follows : {u : ℕ} {locks more : List Lock} {program : List Instr} {x : Txn} → IsAt v t n → Follows program (db v) lows locks u x
+      → ((p : ℕ) → holds_alone v.me.locks p t ≡ true → holds locks p u ≡ true → ⊥) → ((p : ℕ) → holds locks p u ≡ true → holds more p u ≡ true)
+      → Follows program (db (committed t v)) lows more u x
+  commit_follows {program = program} {x = x} at f clash grow =
+      let agree : Agree (db v) (db (committed t v)) f.keys = record {
+        each = λ k g.
+            let none : get_row (txn_at v t).rows k ≡ None = none_else (get_row (txn_at v t).rows k)
+            (λ is. clash (page_of lows k) (h.mine.private t k at is) (f.covered k g)) in
+            commit_db sc n v lows t h held at k ∙ ap (λ o. or_else o (get (db v) k)) none;
+      } in
+      let on : (lone (db v) program x.done).over ≡ false = ap (λ (z : Lone). z.over) f.run in
+      let keys : (lone (db v) program x.done).keys ≡ f.keys = ap (λ (z : Lone). z.keys) f.run in
+      record {
+        keys = f.keys;
+        run = lone_alike (db v) (db (committed t v)) program x.done on (subst (Agree (db v) (db (committed t v))) (sym keys) agree) ∙ f.run;
+        covered = λ k g. grow (page_of lows k) (f.covered k g);
+      }
 
--- both nodes cannot have a lock on one page
-apart_nodes : (sc : Scenario) (n : Node) (v : View) (lows : List ℕ) (p t u : ℕ) → Kept sc n v lows → is_held sc.rule ≡ true → holds v.me.locks p t ≡ true
-    → holds v.them.locks p u ≡ true → ⊥
-apart_nodes sc n v lows p t u h held a b =
-    let one = owns-times p v.me.pages (h.mine.kept p t (inl held) a) in
-    let two = owns-times p v.them.pages (h.theirs.kept p u (inl held) b) in
-    let k = h.inv.owned.once p in
-    grind (arith, nat_tests, k)
+  -- both nodes cannot have a lock on one page
+  apart_nodes : (p u : ℕ) → holds v.me.locks p t ≡ true → holds v.them.locks p u ≡ true → ⊥
+  apart_nodes p u a b =
+      let one = owns-times p v.me.pages (h.mine.kept p t (inl held) a) in
+      let two = owns-times p v.them.pages (h.theirs.kept p u (inl held) b) in
+      let k = h.inv.owned.once p in
+      grind (arith, nat_tests, k)
 
 -- a commit leaves the registers of a lone run
 alone_last : (m : Map) (program : List Instr) (i : Instr) (x : Alone) → x.over ≡ false → slice_get program x.pc ≡ Some i → effect_of i x.regs ≡ Commits
@@ -195,14 +195,13 @@ module _ (sc : Scenario) (n : Node) (v : View) (start : Map) (lows : List ℕ) (
         held = s.held;
         mine = λ u a. let far = far_at u n a in let now = at_other v w t u y set far in
             subst (Follows (program_of sc u) (db w) lows w.me.locks u) (sym now)
-            (commit_follows sc n v lows t u v.me.locks w.me.locks (program_of sc u) (txn_at v u) s.kept s.held at
-            (λ p b c. far (sym (s.kept.mine.apart p t u b c)))
-            (λ p h. ap (λ xs. holds xs p u) (committed_locks t v) ∙ holds-drop v.me.locks p t u far ∙ h) (s.mine u (subst (λ x. Stands x n) now a)));
+            (commit_follows sc n v lows t s.kept s.held at (s.mine u (subst (λ x. Stands x n) now a)) (λ p b c. far (sym (s.kept.mine.apart p t u b c)))
+            (λ p h. ap (λ xs. holds xs p u) (committed_locks t v) ∙ holds-drop v.me.locks p t u far ∙ h));
         theirs = λ u a. let far = far_at u (other n) a in let now = at_other v w t u y set far in
             subst (Follows (program_of sc u) (db w) lows w.them.locks u) (sym now)
-            (commit_follows sc n v lows t u v.them.locks w.them.locks (program_of sc u) (txn_at v u) s.kept s.held at
-            (λ p b c. apart_nodes sc n v lows p t u s.kept s.held (exclusive_holds v.me.locks p t b) c)
-            (λ p h. ap (λ (x : NodeState). holds x.locks p u) (committed_them t v) ∙ h) (s.theirs u (subst (λ x. Stands x (other n)) now a)));
+            (commit_follows sc n v lows t s.kept s.held at (s.theirs u (subst (λ x. Stands x (other n)) now a))
+            (λ p b c. apart_nodes sc n v lows t s.kept s.held p u (exclusive_holds v.me.locks p t b) c)
+            (λ p h. ap (λ (x : NodeState). holds x.locks p u) (committed_them t v) ∙ h));
         is_serial = commit_serial ∙ ap (serial sc start) (sym (committed_list t v));
         registers = commit_registers;
       }
