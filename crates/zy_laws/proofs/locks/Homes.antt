@@ -60,8 +60,8 @@ begun_kept sc v lows t h k new home i =
       inv = i;
       first = k.first;
       placed = k.placed;
-      mine = began sc A h v.me v _ lows t _ k.mine off refl refl refl busy.0;
-      theirs = began sc B h v.them v _ lows t _ k.theirs off refl refl refl busy.1;
+      mine = began sc A h v.me v lows t k.mine off busy.0;
+      theirs = began sc B h v.them v lows t k.theirs off busy.1;
     }
 
 -- the same from n, which is A

@@ -9,7 +9,8 @@ use Rattle.zy_isa.specs.declared.node.Node.{Node}
 use Rattle.zy_locks.specs.Locks.{add_lock, conflict, drop_locks}
 use Rattle.zy_locks.specs.declared.lock.LockKind.{LockKind}
 use Rattle.zy_locks.specs.declared.lock.LockKind.TheVariants.{Exclusive}
-use Rattle.zy_table.specs.Change.{txn_at}
+use Rattle.zy_table.specs.Change.{begun, nobody, txn_at}
+use Rattle.zy_table.specs.declared.status.Status.TheVariants.{Active}
 use Rattle.zy_modes.specs.declared.mode.NodeMode.{NodeMode}
 use Rattle.zy_table.specs.Take.{is_held}
 use Rattle.zy_table.specs.Client.{is_active}
@@ -22,7 +23,7 @@ use Rattle.zy_laws.proofs.places.Installing.{Placed}
 use Rattle.zy_table.proofs.LockLists.{alone-add, alone_more, alone_new, exclusive_holds, free_all, free_alone, holds-add, holds-drop, holds-dropped}
 use Rattle.zy_table.proofs.LockLists.{holds_alone-drop}
 use Rattle.zy_laws.proofs.owner.Roles.{Inv}
-use Rattle.zy_laws.proofs.walk.Txns.{IsAt, Stands, at_either, at_other, at_same, at_self, not_both_nodes}
+use Rattle.zy_laws.proofs.walk.Txns.{IsAt, Stands, ended_far, at_either, at_other, at_same, at_self, not_both_nodes}
 
 -- all pages
 abbrev pub whole : View → List Leaf
@@ -185,8 +186,7 @@ module _ (sc : Scenario) (n : Node) where
       → Locking sc n (record v.me { locks = drop_locks t v.me.locks; pages = pages }) w lows
   freed v w lows t y l at e over pages =
       let locks = drop_locks t v.me.locks in
-      let far_at : (u : ℕ) → IsAt w u n → u ≡ t → ⊥ = λ u a same. false≢true (sym over
-      ∙ subst (λ x. is_active x.status ≡ true) (ap (txn_at w) same ∙ at_self v w t y e at.0) a.0) in
+      let far_at : (u : ℕ) → IsAt w u n → u ≡ t → ⊥ = λ u. ended_far v w t y e at.0 over u n in
       let now : (u : ℕ) → (u ≡ t → ⊥) → txn_at w u ≡ txn_at v u = λ u far. at_other v w t u y e far in
       let far : (q u : ℕ) → holds locks q u ≡ true → u ≡ t → ⊥ = λ q u h same. holds-dropped v.me.locks q t (subst (λ j. holds locks q j ≡ true) same h) in
       let old : (q u : ℕ) → holds locks q u ≡ true → holds v.me.locks q u ≡ true = λ q u h. sym (holds-drop v.me.locks q t u (far q u h)) ∙ h in
@@ -205,23 +205,25 @@ module _ (sc : Scenario) (n : Node) where
       }
 
 -- t begins at h
-pub began : (sc : Scenario) (n h : Node) (x : NodeState) (v w : View) (lows : List ℕ) (t : ℕ) (y : Txn) → Locking sc n x v lows
-    → is_active (txn_at v t).status ≡ false
-    → w.txns ≡ slice_set v.txns t y → y.node ≡ h → y.rows ≡ [] → (h ≡ n → is_idle x.mode ≡ false) → Locking sc n x w lows
-began sc n h x v w lows t y l new e node rows busy =
+pub began : (sc : Scenario) (n h : Node) (x : NodeState) (v : View) (lows : List ℕ) (t : ℕ) → Locking sc n x v lows → is_active (txn_at v t).status ≡ false
+    → (h ≡ n → is_idle x.mode ≡ false) → Locking sc n x (begun h t v) lows
+unfolding begun
+began sc n h x v lows t l new busy =
+    let w = begun h t v in
+    let y : Txn = record nobody { status = Active; node = h } in
     let far : (u : ℕ) → IsAt v u n → u ≡ t → ⊥ = λ u a same. false≢true (sym new ∙ ap (λ z. is_active (txn_at v z).status) (sym same) ∙ a.0) in
     let now : (u : ℕ) → IsAt w u n → (IsAt v u n × ((txn_at w u).rows ≡ (txn_at v u).rows)) ⊎ (((txn_at w u).rows ≡ []) × (h ≡ n)) =
     λ u a. elim (cases_eq u t) [
-      | inl same ↦ elim (at_either v w t y e) [
-        | inl i ↦ let j : txn_at w u ≡ y = ap (txn_at w) same ∙ i in inr (ap (λ (z : Txn). z.rows) j ∙ rows, sym node ∙ subst (λ (z : Txn). z.node ≡ n) j a.1)
+      | inl same ↦ elim (at_either v w t y refl) [
+        | inl i ↦ let j : txn_at w u ≡ y = ap (txn_at w) same ∙ i in inr (ap (λ (z : Txn). z.rows) j, subst (λ (z : Txn). z.node ≡ n) j a.1)
         | inr i ↦ absurd (false≢true (sym new ∙ subst (λ (z : Txn). is_active z.status ≡ true) (ap (txn_at w) same ∙ i) a.0))
       ]
-      | inr f ↦ let i = at_other v w t u y e f in inl (subst (λ z. Stands z n) i a, ap (λ (z : Txn). z.rows) i)
+      | inr f ↦ let i = at_other v w t u y refl f in inl (subst (λ z. Stands z n) i a, ap (λ (z : Txn). z.rows) i)
     ] in
     record {
       busy = λ u a. elim (now u a) [ inl i ↦ l.busy u i.0 | inr i ↦ busy i.1 ];
       newest = l.newest;
-      runs = λ p u h'. let a = l.runs p u h' in subst (λ z. Stands z n) (sym (at_other v w t u y e (far u a))) a;
+      runs = λ p u h'. let a = l.runs p u h' in subst (λ z. Stands z n) (sym (at_other v w t u y refl (far u a))) a;
       below = l.below;
       kept = l.kept;
       apart = l.apart;

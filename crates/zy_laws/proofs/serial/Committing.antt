@@ -3,7 +3,6 @@ use Rattle.zy_table.specs.Take.{is_held}
 use Rattle.std.proofs.Common.{List, [], add-one, ap, arith, false, inl, refl, subst, suc, sym, true, ℕ, ◌++◌, ◌+◌, ◌∙◌, ◌∷◌, ◌≡◌}
 use Rattle.std.specs.Prelude.{None, Option, Some, is_some, slice_get, slice_set}
 use Rattle.std.specs.FinMap.{get, nat_cmp-IsAntisymmetric, same_map}
-use Rattle.std.proofs.lemmas.Bool.{false≢true}
 use Rattle.std.proofs.lemmas.Bool.Decides.{nat_tests}
 use Rattle.std.proofs.lemmas.Cmp.{nat_cmp_total}
 use Rattle.zy_isa.specs.Rows.{get_row}
@@ -13,7 +12,6 @@ use Rattle.zy_isa.specs.declared.node.Node.{Node}
 use Rattle.zy_isa.specs.declared.row.Row.{Row}
 use Rattle.zy_locks.specs.Locks.{drop_locks}
 use Rattle.zy_table.specs.Change.{committed, installed, txn_at}
-use Rattle.zy_table.specs.Client.{is_active}
 use Rattle.zy_table.specs.declared.effect.Effect.TheVariants.{Commits}
 use Rattle.zy_table.specs.Effects.{effect_of}
 use Rattle.zy_table.specs.Database.{Map, laid, laid_leaves}
@@ -32,7 +30,7 @@ use Rattle.zy_laws.proofs.locks.Locking.{Kept, whole}
 use Rattle.zy_laws.proofs.serial.LoneRuns.{Agree, Lone, get-laid, lone, lone_alike, on_map, or_else}
 use Rattle.zy_laws.proofs.owner.PageCounts.{owns-times}
 use Rattle.zy_laws.proofs.places.PageValues.{db, rest_of}
-use Rattle.zy_laws.proofs.walk.Txns.{IsAt, Stands, active_off, at_other, at_self}
+use Rattle.zy_laws.proofs.walk.Txns.{IsAt, Stands, active_off, ended_far, at_other, at_self}
 
 -- all pages after a commit
 committed_pages : (t : ℕ) (v : View) → whole (committed t v) ≡ installed v.me.lows (txn_at v t).rows v.me.pages ++ rest_of v
@@ -188,8 +186,7 @@ module _ (sc : Scenario) (n : Node) (v : View) (start : Map) (lows : List ℕ) (
       let w = committed t v in
       let y : Txn = record (txn_at v t) { status = Committed; rows = []; done = (txn_at v t).done + 1 } in
       let set : w.txns ≡ slice_set v.txns t y = committed_txns t v in
-      let far_at : (u : ℕ) (m : Node) → IsAt w u m → u ≡ t → ⊥ = λ u m a same. false≢true
-      (subst (λ (x : Txn). is_active x.status ≡ true) (ap (txn_at w) same ∙ at_self v w t y set at.0) a.0) in
+      let far_at = ended_far v w t y set at.0 refl in
       record {
         kept = k;
         held = s.held;

@@ -1,7 +1,7 @@
 -- Each step of the table keeps the transactions along their lone runs.
 use Rattle.std.proofs.Common.{List, [], ap, length, false, inl, inr, refl, subst, sym, true, ℕ, ◌+◌, ◌∙◌, ◌++◌, ◌∷◌, ◌≡◌}
 use Rattle.std.specs.Prelude.{slice_set}
-use Rattle.std.proofs.lemmas.Bool.{cases_eq, false≢true}
+use Rattle.std.proofs.lemmas.Bool.{cases_eq}
 use Rattle.zy_isa.specs.Scenario.{Scenario}
 use Rattle.zy_isa.specs.declared.node.Node.{Node}
 use Rattle.zy_isa.specs.declared.row.Row.{Row}
@@ -9,7 +9,7 @@ use Rattle.zy_locks.specs.Locks.{add_lock}
 use Rattle.zy_locks.specs.declared.lock.LockKind.{LockKind}
 use Rattle.zy_locks.specs.declared.lock.LockKind.TheVariants.{Exclusive, Shared}
 use Rattle.zy_table.specs.Change.{aborted, asks, begun, cut, did, leaves, locked, share_all, shares, txn_at}
-use Rattle.zy_table.specs.Client.{is_active, is_new}
+use Rattle.zy_table.specs.Client.{is_new}
 use Rattle.zy_table.specs.declared.effect.Effect.{Effect}
 use Rattle.zy_table.specs.declared.access.Access.TheVariants as access
 use Rattle.zy_table.specs.declared.access.Access.TheVariants.{Reads}
@@ -39,7 +39,7 @@ use Rattle.zy_laws.proofs.locks.Locking.{Kept, nobody_runs}
 use Rattle.zy_modes.specs.Table.{may_split}
 use Rattle.zy_laws.proofs.serial.LoneRuns.{lone_at, lone_effect}
 use Rattle.zy_laws.proofs.places.PageValues.{db}
-use Rattle.zy_laws.proofs.walk.Txns.{IsAt, Stands, active_off, at_other, at_same, at_self, new_off, not_both_nodes, not_new}
+use Rattle.zy_laws.proofs.walk.Txns.{IsAt, Stands, active_off, ended_far, at_other, at_same, at_self, new_off, not_both_nodes, not_new}
 use Rattle.zy_laws.proofs.walk.Kinds.{Quiet, quiet_of}
 
 -- a state that follows the serial run, and its newest low keys
@@ -111,8 +111,7 @@ module _ (sc : Scenario) (n : Node) (v : View) (start : Map) (lows : List ℕ) (
   aborted_serial t why at k =
       let w = aborted t why v in
       let y : Txn = record (txn_at v t) { status = Aborted why; rows = [] } in
-      let far_at : (u : ℕ) (m : Node) → IsAt w u m → u ≡ t → ⊥ = λ u m a same. false≢true
-      (subst (λ (x : Txn). is_active x.status ≡ true) (ap (txn_at w) same ∙ at_self v w t y refl at.0) a.0) in
+      let far_at = ended_far v w t y refl at.0 refl in
       record {
         kept = k;
         held = s.held;

@@ -1,5 +1,5 @@
 -- The transactions of a state where one of them is set.
-use Rattle.std.proofs.Common.{◌≡◌, ℕ, zero, suc, List, [], ◌∷◌, true, false, refl, ap, ◌∙◌, inl, inr}
+use Rattle.std.proofs.Common.{◌≡◌, ℕ, zero, suc, List, [], ◌∷◌, true, false, refl, sym, subst, ap, ◌∙◌, inl, inr}
 use Rattle.std.specs.Prelude.{◌⊎◌, slice_get, slice_set, map}
 use Rattle.std.proofs.lemmas.Bool.{false≢true}
 use Rattle.zy_isa.specs.declared.node.Node.{Node}
@@ -109,3 +109,9 @@ new_off New h = refl
 new_off Active h = refl
 new_off Committed h = absurd (false≢true h)
 new_off (Aborted w) h = refl
+
+-- whoever runs after t ended is another transaction
+pub ended_far : (v w : View) (t : ℕ) (y : Txn) → w.txns ≡ slice_set v.txns t y → is_active (txn_at v t).status ≡ true → is_active y.status ≡ false
+    → (u : ℕ) (m : Node) → IsAt w u m → u ≡ t → ⊥
+ended_far v w t y e on over u m a same =
+    false≢true (sym over ∙ subst (λ (x : Txn). is_active x.status ≡ true) (ap (txn_at w) same ∙ at_self v w t y e on) a.0)
