@@ -2,6 +2,7 @@
 pub mod Locking
 pub mod Homes
 pub mod CutLocks
+pub mod TxnLocks
 pub mod LockingSteps
 pub mod Reached
 pub mod Gone
