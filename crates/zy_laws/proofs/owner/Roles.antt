@@ -1,13 +1,13 @@
 -- Which node has which role, and where each page is.
 use Rattle.std.proofs.Common.{[], ◌∷◌, List, ap, arith, false, length, refl, true, ℕ, ◌+◌, ◌<◌, ◌≤◌, ◌≡◌}
-use Rattle.std.specs.Prelude.{if◌then◌else◌, max, nat_lt}
+use Rattle.std.specs.Prelude.{if◌then◌else◌, max, nat_lt, ◌==◌}
 use Rattle.std.proofs.lemmas.Bool.Decides.{nat_tests}
 use Rattle.zy_modes.specs.Families.{is_home, is_bare, is_idle}
 use Rattle.zy_modes.specs.Table.{may_split}
-use Rattle.zy_links.specs.Messages.{Wire, Ready}
+use Rattle.zy_links.specs.Messages.{Page, Ready, Wire}
 use Rattle.zy_laws.specs.OneOwner.{times}
 use Rattle.zy_table.specs.Pages.{owns}
-use Rattle.zy_table.specs.State.{Message, NodeState, View}
+use Rattle.zy_table.specs.State.{Leaf, Message, NodeState, View}
 use Rattle.zy_laws.proofs.owner.PageCounts.{owns_from, owns_none, times_sent}
 use Rattle.zy_laws.proofs.owner.Phases.{Phase, Resting, Wire_sent, Ready_sent, Done_sent, begins_length, source_is, destination_is}
 
@@ -87,3 +87,10 @@ normal_other v (Destination ph) h = cc (destination_is ph)
 -- a number from the width on is no page's
 pub fresh_number : (v : View) → Owned v → length v.them.lows ≤ length v.me.lows → owns v.me.pages (length v.me.lows) ≡ false
 fresh_number v o wide = owns_none (length v.me.lows) v.me.pages (let k = o.once (length v.me.lows) in grind (arith, nat_tests, k))
+
+-- a page in front of the inbox is not here
+pub not_here : (v : View) (leaf : Leaf) (ms : List Message) → Owned v → v.inbox ≡ Page leaf ∷ ms → owns v.me.pages leaf.number ≡ false
+not_here v leaf ms o f =
+    let once = o.once leaf.number in
+    let sent : times_sent leaf.number v.inbox ≡ (if leaf.number == leaf.number then 1 else 0) + times_sent leaf.number ms = ap (times_sent leaf.number) f in
+    owns_none leaf.number v.me.pages (grind (arith, nat_tests, once, sent))

@@ -41,7 +41,7 @@ use Rattle.zy_laws.proofs.places.PageValues.{rest_of}
 use Rattle.zy_page.proofs.Rows.{Rising-put_row}
 use Rattle.zy_table.proofs.RisingRows.{rises_puts}
 use Rattle.zy_laws.proofs.owner.Roles.{Owned}
-use Rattle.zy_laws.proofs.order.Ordered.{not_here}
+use Rattle.zy_laws.proofs.owner.Roles.{not_here}
 use Rattle.zy_laws.proofs.room.Room.{installed_length, need, need_is, need_none}
 use Rattle.zy_locks.specs.Locks.{add_lock}
 use Rattle.zy_laws.proofs.walk.Txns.{IsAt, at_either, at_self, not_both_nodes, not_new}
