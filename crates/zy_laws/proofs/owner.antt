@@ -4,5 +4,8 @@ pub mod Phases
 pub mod Roles
 pub mod PhaseSteps
 pub mod MovingPages
+pub mod SameOwners
+pub mod PageOwners
+pub mod LinkOwners
 pub mod OneOwner
 pub mod Stray

@@ -6,5 +6,6 @@ pub mod Committing
 pub mod CutValues
 pub mod MovedValues
 pub mod Values
+pub mod FollowingRuns
 pub mod FollowingSteps
 pub mod Serializable

@@ -9,7 +9,8 @@ use Rattle.zy_isa.specs.declared.node.Node.{Node}
 use Rattle.zy_locks.specs.Locks.{add_lock, conflict, drop_locks}
 use Rattle.zy_locks.specs.declared.lock.LockKind.{LockKind}
 use Rattle.zy_locks.specs.declared.lock.LockKind.TheVariants.{Exclusive}
-use Rattle.zy_table.specs.Change.{txn_at}
+use Rattle.zy_table.specs.Change.{begun, nobody, txn_at}
+use Rattle.zy_table.specs.declared.status.Status.TheVariants.{Active}
 use Rattle.zy_modes.specs.declared.mode.NodeMode.{NodeMode}
 use Rattle.zy_table.specs.Take.{is_held}
 use Rattle.zy_table.specs.Client.{is_active}
@@ -22,7 +23,7 @@ use Rattle.zy_laws.proofs.places.Installing.{Placed}
 use Rattle.zy_table.proofs.LockLists.{alone-add, alone_more, alone_new, exclusive_holds, free_all, free_alone, holds-add, holds-drop, holds-dropped}
 use Rattle.zy_table.proofs.LockLists.{holds_alone-drop}
 use Rattle.zy_laws.proofs.owner.Roles.{Inv}
-use Rattle.zy_laws.proofs.walk.Txns.{IsAt, Stands, at_either, at_other, at_same, at_self, not_both_nodes}
+use Rattle.zy_laws.proofs.walk.Txns.{IsAt, Stands, ended_far, at_either, at_other, at_same, at_self, not_both_nodes}
 
 -- all pages
 abbrev pub whole : View → List Leaf
@@ -147,96 +148,82 @@ module _ (sc : Scenario) (n : Node) where
       }
 
   -- t's lock is taken, and its private rows grow by keys of that page
-  pub lock_taken : (v w : View) (y : NodeState) (lows : List ℕ) (t p : ℕ) (kind : LockKind) → Locking sc n v.me v lows
-      → IsAt v t n
-      → p < length lows → owns v.me.pages p ≡ true → conflict v.me.locks p t kind ≡ false → y.locks ≡ add_lock p t kind v.me.locks → y.mode ≡ v.me.mode
-      → y.lows ≡ v.me.lows → y.pages ≡ v.me.pages
+  pub lock_taken : (v w : View) (lows : List ℕ) (t p : ℕ) (kind : LockKind) → Locking sc n v.me v lows → IsAt v t n
+      → p < length lows → owns v.me.pages p ≡ true → conflict v.me.locks p t kind ≡ false
       → ((u : ℕ) → IsAt w u n → IsAt v u n) → ((u : ℕ) → IsAt v u n → IsAt w u n)
       → ((u k : ℕ) → IsAt w u n → is_some (get_row (txn_at w u).rows k) ≡ true → (is_some (get_row (txn_at v u).rows k) ≡ true)
       ⊎ ((u ≡ t) × (page_of lows k ≡ p) × (kind ≡ Exclusive)))
-      → Locking sc n y w lows
-  lock_taken v w y lows t p kind l at small own free locks mode low pages back forth rows =
-      let old : (q u : ℕ) → holds y.locks q u ≡ true → (holds v.me.locks q u ≡ true) ⊎ ((p ≡ q) × (t ≡ u)) =
-      λ q u h. holds-add p t kind v.me.locks q u (subst (λ xs. holds xs q u ≡ true) locks h) in
+      → Locking sc n (record v.me { locks = add_lock p t kind v.me.locks }) w lows
+  lock_taken v w lows t p kind l at small own free back forth rows =
+      let locks = add_lock p t kind v.me.locks in
+      let old : (q u : ℕ) → holds locks q u ≡ true → (holds v.me.locks q u ≡ true) ⊎ ((p ≡ q) × (t ≡ u)) = λ q u h. holds-add p t kind v.me.locks q u h in
       record {
-        busy = λ u a. ap is_idle mode ∙ l.busy u (back u a);
-        newest = λ h. low ∙ l.newest (ap is_idle (sym mode) ∙ h);
+        busy = λ u a. l.busy u (back u a);
+        newest = l.newest;
         runs = λ q u h. forth u (elim (old q u h) [ inl i ↦ l.runs q u i | inr i ↦ subst (λ z. IsAt v z n) i.1 at ]);
         below = λ q u h. elim (old q u h) [ inl i ↦ l.below q u i | inr i ↦ subst (λ z. z < length lows) i.0 small ];
-        kept = λ q u s h. ap (λ xs. owns xs q) pages ∙ elim (old q u h) [
-          | inl i ↦ l.kept q u (subst (Stay sc) mode s) i
-          | inr i ↦
-              subst (λ z. owns v.me.pages z ≡ true) i.0 own
+        kept = λ q u s h. elim (old q u h) [ inl i ↦ l.kept q u s i | inr i ↦ subst (λ z. owns v.me.pages z ≡ true) i.0 own ];
+        apart = λ q a b ha hb. elim (alone-add p t kind v.me.locks q a ha) [
+          | inl i ↦ elim (old q b hb) [
+            | inl j ↦ l.apart q a b i j
+            | inr j ↦ free_alone p t a kind v.me.locks free (subst (λ z. holds_alone v.me.locks z a ≡ true) (sym j.0) i) ∙ j.1
+          ]
+          | inr i ↦ elim (old q b hb) [
+            | inl j ↦ sym i.1 ∙ sym (free_all p t b kind v.me.locks i.2 free (subst (λ z. holds v.me.locks z b ≡ true) (sym i.0) j))
+            | inr j ↦ sym i.1 ∙ j.1
+          ]
         ];
-        apart = λ q a b ha hb.
-            elim (alone-add p t kind v.me.locks q a (subst (λ xs. holds_alone xs q a ≡ true) locks ha)) [
-              | inl i ↦ elim (old q b hb) [
-                | inl j ↦ l.apart q a b i j
-                | inr j ↦ free_alone p t a kind v.me.locks free (subst (λ z. holds_alone v.me.locks z a ≡ true) (sym j.0) i) ∙ j.1
-              ]
-              | inr i ↦ elim (old q b hb) [
-                | inl j ↦ sym i.1 ∙ sym (free_all p t b kind v.me.locks i.2 free (subst (λ z. holds v.me.locks z b ≡ true) (sym i.0) j))
-                | inr j ↦ sym i.1 ∙ j.1
-              ]
-            ];
-        private = λ u k a h. subst (λ xs. holds_alone xs (page_of lows k) u ≡ true) (sym locks) (elim (rows u k a h) [
+        private = λ u k a h. elim (rows u k a h) [
           | inl i ↦ alone_more p t kind v.me.locks (page_of lows k) u (l.private u k (back u a) i)
-          | inr i ↦ subst (λ z. holds_alone (add_lock p t kind v.me.locks) z u ≡ true) (sym i.1)
-              (subst (λ z. holds_alone (add_lock p t kind v.me.locks) p z ≡ true) (sym i.0)
+          | inr i ↦ subst (λ z. holds_alone locks z u ≡ true) (sym i.1) (subst (λ z. holds_alone locks p z ≡ true) (sym i.0)
               (subst (λ z. holds_alone (add_lock p t z v.me.locks) p t ≡ true) (sym i.2) (alone_new p t v.me.locks)))
-        ]);
+        ];
       }
 
   -- t ends: its locks are dropped
-  pub freed : (v w : View) (z : NodeState) (lows : List ℕ) (t : ℕ) (y : Txn) → Locking sc n v.me v lows → IsAt v t n
-      → w.txns ≡ slice_set v.txns t y → is_active y.status ≡ false
-      → z.locks ≡ drop_locks t v.me.locks → z.mode ≡ v.me.mode → z.lows ≡ v.me.lows → ((p : ℕ) → owns z.pages p ≡ owns v.me.pages p)
-      → Locking sc n z w lows
-  freed v w z lows t y l at e over locks mode low pages =
-      let far_at : (u : ℕ) → IsAt w u n → u ≡ t → ⊥ = λ u a same. false≢true (sym over
-      ∙ subst (λ x. is_active x.status ≡ true) (ap (txn_at w) same ∙ at_self v w t y e at.0) a.0) in
+  pub freed : {pages : List Leaf} (v w : View) (lows : List ℕ) (t : ℕ) (y : Txn) → Locking sc n v.me v lows → IsAt v t n
+      → w.txns ≡ slice_set v.txns t y → is_active y.status ≡ false → ((p : ℕ) → owns pages p ≡ owns v.me.pages p)
+      → Locking sc n (record v.me { locks = drop_locks t v.me.locks; pages = pages }) w lows
+  freed v w lows t y l at e over pages =
+      let locks = drop_locks t v.me.locks in
+      let far_at : (u : ℕ) → IsAt w u n → u ≡ t → ⊥ = λ u. ended_far v w t y e at.0 over u n in
       let now : (u : ℕ) → (u ≡ t → ⊥) → txn_at w u ≡ txn_at v u = λ u far. at_other v w t u y e far in
-      let far : (q u : ℕ) → holds z.locks q u ≡ true → u ≡ t → ⊥ = λ q u h same. holds-dropped v.me.locks q t
-      (subst (λ j. holds (drop_locks t v.me.locks) q j ≡ true) same (subst (λ xs. holds xs q u ≡ true) locks h)) in
-      let old : (q u : ℕ) → holds z.locks q u ≡ true → holds v.me.locks q u ≡ true =
-      λ q u h. sym (holds-drop v.me.locks q t u (far q u h)) ∙ subst (λ xs. holds xs q u ≡ true) locks h in
+      let far : (q u : ℕ) → holds locks q u ≡ true → u ≡ t → ⊥ = λ q u h same. holds-dropped v.me.locks q t (subst (λ j. holds locks q j ≡ true) same h) in
+      let old : (q u : ℕ) → holds locks q u ≡ true → holds v.me.locks q u ≡ true = λ q u h. sym (holds-drop v.me.locks q t u (far q u h)) ∙ h in
       record {
-        busy = λ u a. ap is_idle mode ∙ l.busy u (subst (λ x. Stands x n) (now u (far_at u a)) a);
-        newest = λ h. low ∙ l.newest (ap is_idle (sym mode) ∙ h);
+        busy = λ u a. l.busy u (subst (λ x. Stands x n) (now u (far_at u a)) a);
+        newest = l.newest;
         runs = λ q u h. subst (λ x. Stands x n) (sym (now u (far q u h))) (l.runs q u (old q u h));
         below = λ q u h. l.below q u (old q u h);
-        kept = λ q u s h. pages q ∙ l.kept q u (subst (Stay sc) mode s) (old q u h);
-        apart = λ q a b ha hb.
-            let far_a : a ≡ t → ⊥ =
-            far q a
-            (subst (λ xs. holds xs q a ≡ true) (sym locks) (exclusive_holds (drop_locks t v.me.locks) q a
-            (subst (λ xs. holds_alone xs q a ≡ true) locks ha))) in
-            l.apart q a b (sym (holds_alone-drop v.me.locks q t a far_a) ∙ subst (λ xs. holds_alone xs q a ≡ true) locks ha) (old q b hb);
+        kept = λ q u s h. pages q ∙ l.kept q u s (old q u h);
+        apart = λ q a b ha hb. l.apart q a b (sym (holds_alone-drop v.me.locks q t a (far q a (exclusive_holds locks q a ha))) ∙ ha) (old q b hb);
         private = λ u k a h.
             let f = far_at u a in
             let s = now u f in
-            subst (λ xs. holds_alone xs (page_of lows k) u ≡ true) (sym locks) (holds_alone-drop v.me.locks (page_of lows k) t u f
-            ∙ l.private u k (subst (λ x. Stands x n) s a) (subst (λ x. is_some (get_row x.rows k) ≡ true) s h));
+            holds_alone-drop v.me.locks (page_of lows k) t u f
+            ∙ l.private u k (subst (λ x. Stands x n) s a) (subst (λ x. is_some (get_row x.rows k) ≡ true) s h);
       }
 
 -- t begins at h
-pub began : (sc : Scenario) (n h : Node) (x : NodeState) (v w : View) (lows : List ℕ) (t : ℕ) (y : Txn) → Locking sc n x v lows
-    → is_active (txn_at v t).status ≡ false
-    → w.txns ≡ slice_set v.txns t y → y.node ≡ h → y.rows ≡ [] → (h ≡ n → is_idle x.mode ≡ false) → Locking sc n x w lows
-began sc n h x v w lows t y l new e node rows busy =
+pub began : (sc : Scenario) (n h : Node) (x : NodeState) (v : View) (lows : List ℕ) (t : ℕ) → Locking sc n x v lows → is_active (txn_at v t).status ≡ false
+    → (h ≡ n → is_idle x.mode ≡ false) → Locking sc n x (begun h t v) lows
+unfolding begun
+began sc n h x v lows t l new busy =
+    let w = begun h t v in
+    let y : Txn = record nobody { status = Active; node = h } in
     let far : (u : ℕ) → IsAt v u n → u ≡ t → ⊥ = λ u a same. false≢true (sym new ∙ ap (λ z. is_active (txn_at v z).status) (sym same) ∙ a.0) in
     let now : (u : ℕ) → IsAt w u n → (IsAt v u n × ((txn_at w u).rows ≡ (txn_at v u).rows)) ⊎ (((txn_at w u).rows ≡ []) × (h ≡ n)) =
     λ u a. elim (cases_eq u t) [
-      | inl same ↦ elim (at_either v w t y e) [
-        | inl i ↦ let j : txn_at w u ≡ y = ap (txn_at w) same ∙ i in inr (ap (λ (z : Txn). z.rows) j ∙ rows, sym node ∙ subst (λ (z : Txn). z.node ≡ n) j a.1)
+      | inl same ↦ elim (at_either v w t y refl) [
+        | inl i ↦ let j : txn_at w u ≡ y = ap (txn_at w) same ∙ i in inr (ap (λ (z : Txn). z.rows) j, subst (λ (z : Txn). z.node ≡ n) j a.1)
         | inr i ↦ absurd (false≢true (sym new ∙ subst (λ (z : Txn). is_active z.status ≡ true) (ap (txn_at w) same ∙ i) a.0))
       ]
-      | inr f ↦ let i = at_other v w t u y e f in inl (subst (λ z. Stands z n) i a, ap (λ (z : Txn). z.rows) i)
+      | inr f ↦ let i = at_other v w t u y refl f in inl (subst (λ z. Stands z n) i a, ap (λ (z : Txn). z.rows) i)
     ] in
     record {
       busy = λ u a. elim (now u a) [ inl i ↦ l.busy u i.0 | inr i ↦ busy i.1 ];
       newest = l.newest;
-      runs = λ p u h'. let a = l.runs p u h' in subst (λ z. Stands z n) (sym (at_other v w t u y e (far u a))) a;
+      runs = λ p u h'. let a = l.runs p u h' in subst (λ z. Stands z n) (sym (at_other v w t u y refl (far u a))) a;
       below = l.below;
       kept = l.kept;
       apart = l.apart;

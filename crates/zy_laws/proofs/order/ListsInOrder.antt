@@ -17,7 +17,8 @@ use Rattle.zy_table.specs.Pages.{numbers}
 use Rattle.zy_table.specs.Play.{home_with, move, opening, opening_leaves, opening_pages, play, side_of, step}
 use Rattle.zy_table.specs.State.{Leaf, State, Txn, View, facing, seen_from}
 use Rattle.zy_laws.proofs.walk.Events.{step_happens}
-use Rattle.zy_laws.proofs.order.Ordered.{Ordered, ordered_event}
+use Rattle.zy_laws.proofs.order.Ordered.{Ordered}
+use Rattle.zy_laws.proofs.order.OrderedSteps.{ordered_event}
 use Rattle.zy_laws.proofs.walk.PlayPush.{play-keeps}
 use Rattle.zy_table.proofs.RisingRows.{rises_drop, rises_take}
 use Rattle.zy_laws.proofs.owner.OneOwner.{inv_from, opening_inv, step_inv}

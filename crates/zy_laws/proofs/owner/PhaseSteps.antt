@@ -8,33 +8,20 @@ use Rattle.zy_table.specs.State.{NodeState, Leaf, Message, View}
 use Rattle.zy_laws.specs.Journey.{Begins}
 use Rattle.zy_laws.specs.OneOwner.{times}
 use Rattle.zy_laws.proofs.owner.Phases.{Phase, AllPages, PagesAndFinish, AllPulls, PullsAndDone, AllThere, Resting, Wire_sent, Ready_sent, Dual_sent, Both_sent}
-use Rattle.zy_laws.proofs.owner.Phases.{In_dual, Finish_sent, In_finish, Done_sent, begins_length, pages_post, finish_post, pages_finish_post, pulls_post}
+use Rattle.zy_laws.proofs.owner.Phases.{In_dual, Finish_sent, In_finish, Done_sent, source_is, destination_is, begins_length, pages_post, finish_post}
+use Rattle.zy_laws.proofs.owner.Phases.{pages_finish_post, pulls_post}
 use Rattle.zy_laws.proofs.owner.Roles.{Roles, Source, Destination}
 
 -- which of the two a node is, by its mode
 pub source_of : (v : View) → Roles v → is_source v.me.mode ≡ true → Phase v.me v.them v.outbox v.inbox
 source_of v (Source ph) s = ph
 source_of v (Destination (Resting a b c d f)) s = cc
-source_of v (Destination (Wire_sent a b c d f)) s = cc
-source_of v (Destination (Ready_sent a b c d f)) s = cc
-source_of v (Destination (Dual_sent xs a b c d all f)) s = cc
-source_of v (Destination (Both_sent xs a b c d all f)) s = cc
-source_of v (Destination (In_dual a b c d f)) s = cc
-source_of v (Destination (Finish_sent a b c d f)) s = cc
-source_of v (Destination (In_finish a b c d f)) s = cc
-source_of v (Destination (Done_sent a b c all d f)) s = cc
+source_of v (Destination ph) s = cc (destination_is ph)
 
 -- in a mode that takes pages I am the destination
 pub taker_of : (v : View) → Roles v → is_taker v.me.mode ≡ true → Phase v.them v.me v.inbox v.outbox
 taker_of v (Source (Resting a b c d f)) s = cc
-taker_of v (Source (Wire_sent a b c d f)) s = cc
-taker_of v (Source (Ready_sent a b c d f)) s = cc
-taker_of v (Source (Dual_sent xs a b c d all f)) s = cc
-taker_of v (Source (Both_sent xs a b c d all f)) s = cc
-taker_of v (Source (In_dual a b c d f)) s = cc
-taker_of v (Source (Finish_sent a b c d f)) s = cc
-taker_of v (Source (In_finish a b c d f)) s = cc
-taker_of v (Source (Done_sent a b c all d f)) s = cc
+taker_of v (Source ph) s = cc (source_is ph)
 taker_of v (Destination ph) s = ph
 
 -- a node in the same mode, with the same low keys and page numbers
@@ -82,14 +69,7 @@ module _ {src dst : NodeState} {out back : List Message} where
   pub started : Phase src dst out back → src.mode ≡ Normal → dst.mode ≡ Empty
       → Phase (record src { mode = SInit }) dst (out ++ Wire src.lows ∷ []) back
   started (Resting a b c d f) m n = Wire_sent refl b c (ap (λ ms. ms ++ Wire src.lows ∷ []) d) f
-  started (Wire_sent a b c d f) m n = cc
-  started (Ready_sent a b c d f) m n = cc
-  started (Dual_sent xs a b c d all f) m n = cc
-  started (Both_sent xs a b c d all f) m n = cc
-  started (In_dual a b c d f) m n = cc
-  started (Finish_sent a b c d f) m n = cc
-  started (In_finish a b c d f) m n = cc
-  started (Done_sent a b c all d f) m n = cc
+  started ph m n = cc (source_is ph)
 
   -- the wireframe comes; what holds then
   pub wire_came : {lows : List ℕ} {ms : List Message} → Phase src dst out back → out ≡ Wire lows ∷ ms
@@ -135,15 +115,10 @@ module _ {src dst : NodeState} {out back : List Message} where
   -- a page is asked for
   pub asked_for : (p : ℕ) → Phase src dst out back → may_pull dst.mode ≡ true
       → Phase src dst out (back ++ Pull p ∷ [])
-  asked_for p (Resting a b c d f) s = cc
-  asked_for p (Wire_sent a b c d f) s = cc
-  asked_for p (Ready_sent a b c d f) s = cc
-  asked_for p (Dual_sent xs a b c d all f) s = cc
-  asked_for p (Both_sent xs a b c d all f) s = cc
   asked_for p (In_dual a b c d f) s = In_dual a b c d (pulls_post back p f)
   asked_for p (Finish_sent a b c d f) s = Finish_sent a b c d (pulls_post back p f)
   asked_for p (In_finish a b c d f) s = In_finish a b c d (pulls_post back p f)
-  asked_for p (Done_sent a b c all d f) s = cc
+  asked_for p ph s = cc (destination_is ph)
 
   -- that message is taken
   pub pull_came : {p : ℕ} {ms : List Message} → Phase src dst out back → back ≡ Pull p ∷ ms → Phase src dst out ms
@@ -172,9 +147,6 @@ module _ {src dst : NodeState} {out back : List Message} where
   -- a page leaves, where the destination lacks one
   pub page_left : (leaf : Leaf) (pages : List Leaf) → Phase src dst out back
       → is_sending src.mode ≡ true → (AllThere dst → ⊥) → Phase (record src { pages = pages }) dst (out ++ Page leaf ∷ []) back
-  page_left leaf pages (Resting a b c d f) s lacks = cc
-  page_left leaf pages (Wire_sent a b c d f) s lacks = cc
-  page_left leaf pages (Ready_sent a b c d f) s lacks = cc
   page_left leaf pages (Dual_sent xs a b c d all f) s lacks =
       Dual_sent (xs ++ Page leaf ∷ []) a b c (ap (λ ms. ms ++ Page leaf ∷ []) d) (pages_post xs leaf all) f
   page_left leaf pages (Both_sent xs a b c d all f) s lacks =
@@ -183,70 +155,45 @@ module _ {src dst : NodeState} {out back : List Message} where
   page_left leaf pages (Finish_sent a b c d f) s lacks = Finish_sent a b c (pages_finish_post out leaf d) f
   page_left leaf pages (In_finish a b c d f) s lacks = In_finish a b c (pages_post out leaf d) f
   page_left leaf pages (Done_sent a b c all d f) s lacks = absurd (lacks all)
+  page_left leaf pages ph s lacks = cc (source_is ph)
 
   -- the source's wireframe is no longer then
   pub sending_lows : Phase src dst out back → is_sending src.mode ≡ true → length src.lows ≤ length dst.lows
-  sending_lows (Resting a b c d f) s = cc
-  sending_lows (Wire_sent a b c d f) s = cc
-  sending_lows (Ready_sent a b c d f) s = cc
   sending_lows (Dual_sent xs a b c d all f) s = omega (arith, ap length c)
   sending_lows (Both_sent xs a b c d all f) s = omega (arith, ap length c)
   sending_lows (In_dual a b c d f) s = omega (arith, ap length c)
   sending_lows (Finish_sent a b c d f) s = omega (arith, ap length c)
   sending_lows (In_finish a b c d f) s = omega (arith, ap length c)
   sending_lows (Done_sent a b c all d f) s = begins_length src.lows dst.lows c
+  sending_lows ph s = cc (source_is ph)
 
   -- a page comes
   pub page_came : (leaf : Leaf) (ms : List Message) (pages : List Leaf) (asked : List ℕ)
       → Phase src dst out back → may_pull dst.mode ≡ true → out ≡ Page leaf ∷ ms → Phase src (record dst { pages = pages; asked = asked }) ms back
-  page_came leaf ms pages asked (Resting a b c d f) s e = cc
-  page_came leaf ms pages asked (Wire_sent a b c d f) s e = cc
-  page_came leaf ms pages asked (Ready_sent a b c d f) s e = cc
-  page_came leaf ms pages asked (Dual_sent xs a b c d all f) s e = cc
-  page_came leaf ms pages asked (Both_sent xs a b c d all f) s e = cc
   page_came leaf ms pages asked (In_dual a b c d f) s e = In_dual a b c (subst AllPages e d) f
   page_came leaf ms pages asked (Finish_sent a b c d f) s e = Finish_sent a b c (subst PagesAndFinish e d) f
   page_came leaf ms pages asked (In_finish a b c d f) s e = In_finish a b c (subst AllPages e d) f
-  page_came leaf ms pages asked (Done_sent a b c all d f) s e = cc
+  page_came leaf ms pages asked ph s e = cc (destination_is ph)
 
   -- the source runs nothing any more
   pub finished : Phase src dst out back → src.mode ≡ SDual
       → Phase (record src { mode = SFinish }) dst (out ++ Finish ∷ []) back
-  finished (Resting a b c d f) m = cc
-  finished (Wire_sent a b c d f) m = cc
-  finished (Ready_sent a b c d f) m = cc
   finished (Dual_sent xs a b c d all f) m = Both_sent (xs ++ Finish ∷ []) refl b c (ap (λ ms. ms ++ Finish ∷ []) d) (finish_post xs all) f
-  finished (Both_sent xs a b c d all f) m = cc
   finished (In_dual a b c d f) m = Finish_sent refl b c (finish_post out d) f
-  finished (Finish_sent a b c d f) m = cc
-  finished (In_finish a b c d f) m = cc
-  finished (Done_sent a b c all d f) m = cc
+  finished ph m = cc (source_is ph)
 
   -- the destination knows that
   pub finish_came : {ms : List Message} → Phase src dst out back → dst.mode ≡ DDual → out ≡ Finish ∷ ms
       → Phase src (record dst { mode = DFinish }) ms back
-  finish_came (Resting a b c d f) m e = cc
-  finish_came (Wire_sent a b c d f) m e = cc
-  finish_came (Ready_sent a b c d f) m e = cc
-  finish_came (Dual_sent xs a b c d all f) m e = cc
-  finish_came (Both_sent xs a b c d all f) m e = cc
   finish_came (In_dual a b c d f) m e = absurd (subst AllPages e d)
   finish_came (Finish_sent a b c d f) m e = In_finish a refl c (subst PagesAndFinish e d) f
-  finish_came (In_finish a b c d f) m e = cc
-  finish_came (Done_sent a b c all d f) m e = cc
+  finish_came ph m e = cc (destination_is ph)
 
   -- what holds when it does
   pub in_finish : Phase src dst out back → dst.mode ≡ DFinish
       → (src.mode ≡ SFinish) × (dst.lows ≡ src.lows) × AllPages out × AllPulls back
-  in_finish (Resting a b c d f) m = cc
-  in_finish (Wire_sent a b c d f) m = cc
-  in_finish (Ready_sent a b c d f) m = cc
-  in_finish (Dual_sent xs a b c d all f) m = cc
-  in_finish (Both_sent xs a b c d all f) m = cc
-  in_finish (In_dual a b c d f) m = cc
-  in_finish (Finish_sent a b c d f) m = cc
   in_finish (In_finish a b c d f) m = (a, c, d, f)
-  in_finish (Done_sent a b c all d f) m = cc
+  in_finish ph m = cc (destination_is ph)
 
   -- the destination has all pages; what holds then
   pub done_came : {ms : List Message} → Phase src dst out back → back ≡ Done ∷ ms
@@ -265,25 +212,11 @@ module _ {src dst : NodeState} {out back : List Message} where
   pub cut_source : (y : NodeState) → Phase src dst out back → src.mode ≡ Normal → y.mode ≡ src.mode
       → Phase y dst out back
   cut_source y (Resting a b c d f) m same = Resting (same ∙ a) b c d f
-  cut_source y (Wire_sent a b c d f) m same = cc
-  cut_source y (Ready_sent a b c d f) m same = cc
-  cut_source y (Dual_sent xs a b c d all f) m same = cc
-  cut_source y (Both_sent xs a b c d all f) m same = cc
-  cut_source y (In_dual a b c d f) m same = cc
-  cut_source y (Finish_sent a b c d f) m same = cc
-  cut_source y (In_finish a b c d f) m same = cc
-  cut_source y (Done_sent a b c all d f) m same = cc
+  cut_source y ph m same = cc (source_is ph)
 
   -- or the destination that has all pages
   pub cut_taker : (y : NodeState) → Phase src dst out back → dst.mode ≡ Normal → y.mode ≡ dst.mode
       → Begins dst.lows y.lows → (AllThere dst → AllThere y) → Phase src y out back
-  cut_taker y (Resting a b c d f) m same more there = cc
-  cut_taker y (Wire_sent a b c d f) m same more there = cc
-  cut_taker y (Ready_sent a b c d f) m same more there = cc
-  cut_taker y (Dual_sent xs a b c d all f) m same more there = cc
-  cut_taker y (Both_sent xs a b c d all f) m same more there = cc
-  cut_taker y (In_dual a b c d f) m same more there = cc
-  cut_taker y (Finish_sent a b c d f) m same more there = cc
-  cut_taker y (In_finish a b c d f) m same more there = cc
   cut_taker y (Done_sent a b c all d f) m same more there =
       Done_sent a (same ∙ b) (begins_further src.lows dst.lows y.lows c more) (there all) d f
+  cut_taker y ph m same more there = cc (destination_is ph)

@@ -1,6 +1,7 @@
 -- Where a migration is, and what is on the links then.
 use Rattle.std.proofs.Common.{◌≡◌, ℕ, ◌<◌, ◌≤◌, List, [], ◌∷◌, ◌++◌, length, refl, ap, arith, inl, inr, length-append}
 use Rattle.std.specs.Prelude.{◌⊎◌}
+use Rattle.zy_modes.specs.declared.mode.NodeMode.{NodeMode}
 use Rattle.zy_modes.specs.declared.mode.NodeMode.TheVariants.{Empty, Normal, SInit, SDual, SFinish, DInit, DDual, DFinish}
 use Rattle.zy_links.specs.Messages.{Wire, Ready, Dual, Pull, Page, Finish, Done}
 use Rattle.zy_table.specs.State.{NodeState, Leaf, Message}
@@ -50,6 +51,51 @@ pub data Phase (src dst : NodeState) (out back : List Message) : Type 0 where
   Finish_sent : src.mode ≡ SFinish → dst.mode ≡ DDual → dst.lows ≡ src.lows → PagesAndFinish out → AllPulls back → Phase src dst out back
   In_finish : src.mode ≡ SFinish → dst.mode ≡ DFinish → dst.lows ≡ src.lows → AllPages out → AllPulls back → Phase src dst out back
   Done_sent : src.mode ≡ SFinish → dst.mode ≡ Normal → Begins src.lows dst.lows → AllThere dst → out ≡ [] → PullsAndDone back → Phase src dst out back
+
+-- the modes of the two nodes in a phase
+module _ {src dst : NodeState} {out back : List Message} where
+  -- the mode that the source has in a phase
+  abbrev pub source_mode : Phase src dst out back → NodeMode
+  source_mode (Resting a b c d f) = Normal
+  source_mode (Wire_sent a b c d f) = SInit
+  source_mode (Ready_sent a b c d f) = SInit
+  source_mode (Dual_sent ms a b c d all f) = SDual
+  source_mode (In_dual a b c d f) = SDual
+  source_mode ph = SFinish
+
+  -- the source has that mode
+  pub source_is : (ph : Phase src dst out back) → src.mode ≡ source_mode ph
+  source_is (Resting a b c d f) = a
+  source_is (Wire_sent a b c d f) = a
+  source_is (Ready_sent a b c d f) = a
+  source_is (Dual_sent ms a b c d all f) = a
+  source_is (Both_sent ms a b c d all f) = a
+  source_is (In_dual a b c d f) = a
+  source_is (Finish_sent a b c d f) = a
+  source_is (In_finish a b c d f) = a
+  source_is (Done_sent a b c all d f) = a
+
+  -- the mode that the destination has in a phase
+  abbrev pub destination_mode : Phase src dst out back → NodeMode
+  destination_mode (Resting a b c d f) = Empty
+  destination_mode (Wire_sent a b c d f) = Empty
+  destination_mode (In_dual a b c d f) = DDual
+  destination_mode (Finish_sent a b c d f) = DDual
+  destination_mode (In_finish a b c d f) = DFinish
+  destination_mode (Done_sent a b c all d f) = Normal
+  destination_mode ph = DInit
+
+  -- the destination has that mode
+  pub destination_is : (ph : Phase src dst out back) → dst.mode ≡ destination_mode ph
+  destination_is (Resting a b c d f) = b
+  destination_is (Wire_sent a b c d f) = b
+  destination_is (Ready_sent a b c d f) = b
+  destination_is (Dual_sent ms a b c d all f) = b
+  destination_is (Both_sent ms a b c d all f) = b
+  destination_is (In_dual a b c d f) = b
+  destination_is (Finish_sent a b c d f) = b
+  destination_is (In_finish a b c d f) = b
+  destination_is (Done_sent a b c all d f) = b
 
 -- pages and one more are pages
 pub pages_post : (ms : List Message) (leaf : Leaf) → AllPages ms → AllPages (ms ++ Page leaf ∷ [])

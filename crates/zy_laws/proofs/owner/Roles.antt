@@ -1,15 +1,15 @@
 -- Which node has which role, and where each page is.
 use Rattle.std.proofs.Common.{[], ◌∷◌, List, ap, arith, false, length, refl, true, ℕ, ◌+◌, ◌<◌, ◌≤◌, ◌≡◌}
-use Rattle.std.specs.Prelude.{if◌then◌else◌, max, nat_lt}
+use Rattle.std.specs.Prelude.{if◌then◌else◌, max, nat_lt, ◌==◌}
 use Rattle.std.proofs.lemmas.Bool.Decides.{nat_tests}
 use Rattle.zy_modes.specs.Families.{is_home, is_bare, is_idle}
 use Rattle.zy_modes.specs.Table.{may_split}
-use Rattle.zy_links.specs.Messages.{Wire, Ready}
+use Rattle.zy_links.specs.Messages.{Page, Ready, Wire}
 use Rattle.zy_laws.specs.OneOwner.{times}
 use Rattle.zy_table.specs.Pages.{owns}
-use Rattle.zy_table.specs.State.{Message, NodeState, View}
+use Rattle.zy_table.specs.State.{Leaf, Message, NodeState, View}
 use Rattle.zy_laws.proofs.owner.PageCounts.{owns_from, owns_none, times_sent}
-use Rattle.zy_laws.proofs.owner.Phases.{Phase, Resting, Wire_sent, Ready_sent, Dual_sent, Both_sent, In_dual, Finish_sent, In_finish, Done_sent, begins_length}
+use Rattle.zy_laws.proofs.owner.Phases.{Phase, Resting, Wire_sent, Ready_sent, Done_sent, begins_length, source_is, destination_is}
 
 -- which of the two is the source
 pub data Roles (v : View) : Type 0 where
@@ -73,43 +73,24 @@ pub all_owned : (v : View) → Inv v → is_home v.me.mode ≡ true → Roles v 
 all_owned v i s (Source (Resting a b c d f)) = sole v [] [] i.owned (i.theirs.none (ap is_bare b)) f d (λ p. refl)
 all_owned v i s (Source (Wire_sent a b c d f)) = sole v [] (Wire v.me.lows ∷ []) i.owned (i.theirs.none (ap is_bare b)) f d (λ p. refl)
 all_owned v i s (Source (Ready_sent a b c d f)) = sole v (Ready ∷ []) [] i.owned (i.theirs.none (ap is_bare b)) f d (λ p. refl)
-all_owned v i s (Source (Dual_sent xs a b c d all f)) = cc
-all_owned v i s (Source (Both_sent xs a b c d all f)) = cc
-all_owned v i s (Source (In_dual a b c d f)) = cc
-all_owned v i s (Source (Finish_sent a b c d f)) = cc
-all_owned v i s (Source (In_finish a b c d f)) = cc
-all_owned v i s (Source (Done_sent a b c all d f)) = cc
-all_owned v i s (Destination (Resting a b c d f)) = cc
-all_owned v i s (Destination (Wire_sent a b c d f)) = cc
-all_owned v i s (Destination (Ready_sent a b c d f)) = cc
-all_owned v i s (Destination (Dual_sent xs a b c d all f)) = cc
-all_owned v i s (Destination (Both_sent xs a b c d all f)) = cc
-all_owned v i s (Destination (In_dual a b c d f)) = cc
-all_owned v i s (Destination (Finish_sent a b c d f)) = cc
-all_owned v i s (Destination (In_finish a b c d f)) = cc
+all_owned v i s (Source ph) = cc (source_is ph)
 all_owned v i s (Destination (Done_sent a b c all d f)) = λ p h. owns_from p v.me.pages (all.each p h)
+all_owned v i s (Destination ph) = cc (destination_is ph)
 
 -- beside a node in Normal nothing runs, and the other wireframe is no longer
 pub normal_other : (v : View) → Roles v → may_split v.me.mode ≡ true → (is_idle v.them.mode ≡ true) × (length v.them.lows ≤ length v.me.lows)
 normal_other v (Source (Resting a b c d f)) h = (ap is_idle b, omega (arith, ap length c))
-normal_other v (Source (Wire_sent a b c d f)) h = cc
-normal_other v (Source (Ready_sent a b c d f)) h = cc
-normal_other v (Source (Dual_sent ms a b c d all f)) h = cc
-normal_other v (Source (Both_sent ms a b c d all f)) h = cc
-normal_other v (Source (In_dual a b c d f)) h = cc
-normal_other v (Source (Finish_sent a b c d f)) h = cc
-normal_other v (Source (In_finish a b c d f)) h = cc
-normal_other v (Source (Done_sent a b c all d f)) h = cc
-normal_other v (Destination (Resting a b c d f)) h = cc
-normal_other v (Destination (Wire_sent a b c d f)) h = cc
-normal_other v (Destination (Ready_sent a b c d f)) h = cc
-normal_other v (Destination (Dual_sent ms a b c d all f)) h = cc
-normal_other v (Destination (Both_sent ms a b c d all f)) h = cc
-normal_other v (Destination (In_dual a b c d f)) h = cc
-normal_other v (Destination (Finish_sent a b c d f)) h = cc
-normal_other v (Destination (In_finish a b c d f)) h = cc
+normal_other v (Source ph) h = cc (source_is ph)
 normal_other v (Destination (Done_sent a b c all d f)) h = (ap is_idle a, begins_length v.them.lows v.me.lows c)
+normal_other v (Destination ph) h = cc (destination_is ph)
 
 -- a number from the width on is no page's
 pub fresh_number : (v : View) → Owned v → length v.them.lows ≤ length v.me.lows → owns v.me.pages (length v.me.lows) ≡ false
 fresh_number v o wide = owns_none (length v.me.lows) v.me.pages (let k = o.once (length v.me.lows) in grind (arith, nat_tests, k))
+
+-- a page in front of the inbox is not here
+pub not_here : (v : View) (leaf : Leaf) (ms : List Message) → Owned v → v.inbox ≡ Page leaf ∷ ms → owns v.me.pages leaf.number ≡ false
+not_here v leaf ms o f =
+    let once = o.once leaf.number in
+    let sent : times_sent leaf.number v.inbox ≡ (if leaf.number == leaf.number then 1 else 0) + times_sent leaf.number ms = ap (times_sent leaf.number) f in
+    owns_none leaf.number v.me.pages (grind (arith, nat_tests, once, sent))

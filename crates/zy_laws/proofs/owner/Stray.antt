@@ -14,8 +14,8 @@ use Rattle.zy_table.specs.State.{Message, View, facing}
 use Rattle.zy_table.specs.Take.{all_here, mode_line, with_brought}
 use Rattle.zy_laws.proofs.walk.Events.{step_happens}
 use Rattle.zy_laws.proofs.owner.OneOwner.{inv_from, play_inv}
-use Rattle.zy_laws.proofs.owner.Phases.{AllPages, AllPulls, PagesAndFinish, PullsAndDone, Resting, Wire_sent, Ready_sent, Dual_sent, Both_sent, In_dual, Finish_sent}
-use Rattle.zy_laws.proofs.owner.Phases.{In_finish, Done_sent, done_front, finish_front, heads, no_front, pages_front, pulls_front}
+use Rattle.zy_laws.proofs.owner.Phases.{AllPages, AllPulls, PagesAndFinish, PullsAndDone, Resting, Wire_sent, Ready_sent, Dual_sent, Both_sent, In_dual}
+use Rattle.zy_laws.proofs.owner.Phases.{Finish_sent, In_finish, Done_sent, done_front, finish_front, heads, no_front, pages_front, pulls_front}
 use Rattle.zy_laws.proofs.owner.Roles.{Destination, Roles, Source}
 
 -- a mode that has a line for messages of this kind

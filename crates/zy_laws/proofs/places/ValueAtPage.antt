@@ -10,19 +10,19 @@ use Rattle.zy_isa.specs.Rows.{get_row}
 use Rattle.zy_isa.specs.Scenario.{IsScenario, Scenario}
 use Rattle.zy_isa.specs.declared.choice.Choice.{Choice}
 use Rattle.zy_isa.specs.declared.node.Node.TheVariants.{A}
-use Rattle.zy_table.specs.Database.{EachKeyHasPage, HasLows, ValuesAtPages, all_leaves, database, newest, sent_leaves, RowsLie}
+use Rattle.zy_table.specs.Database.{EachKeyHasPage, HasLows, RowsLie, ValuesAtPages, all_leaves, database, newest}
 use Rattle.zy_laws.specs.Journey.{Begins}
 use Rattle.zy_laws.specs.OneOwner.{times}
 use Rattle.zy_table.specs.Pages.{owns, rows_of}
 use Rattle.zy_table.specs.Play.{opening, play}
 use Rattle.zy_table.specs.State.{Leaf, Message, NodeState, State, View, facing}
 use Rattle.zy_wire.specs.Wireframe.{page_of}
-use Rattle.zy_laws.proofs.places.Installing.{Placed, get-leaves}
-use Rattle.zy_laws.proofs.locks.Locking.{Kept, whole}
+use Rattle.zy_laws.proofs.places.Installing.{OnPage, Placed, get-leaves}
+use Rattle.zy_laws.proofs.locks.Locking.{Kept}
 use Rattle.zy_laws.proofs.wireframe.OneWireframe.{no_more}
-use Rattle.zy_laws.proofs.owner.PageCounts.{owns_from, times-append, times-sent_leaves}
+use Rattle.zy_laws.proofs.owner.PageCounts.{owns_from, times-all_leaves}
 use Rattle.zy_laws.proofs.locks.Reached.{reached}
-use Rattle.zy_laws.proofs.places.PageValues.{db, found_once, rest_of}
+use Rattle.zy_laws.proofs.places.PageValues.{db, found_once}
 use Rattle.zy_laws.proofs.owner.Phases.{Phase, Resting, Wire_sent, Ready_sent, Dual_sent, Both_sent, In_dual, Finish_sent, In_finish, Done_sent}
 use Rattle.zy_laws.proofs.owner.Roles.{Destination, Owned, Roles, Source, width}
 use Rattle.zy_wire.proofs.PageOf.{page_of-within}
@@ -90,39 +90,34 @@ longer_is xs ys lows r =
 pub newest_lows : (sc : Scenario) (s : State) (lows : List ℕ) → Kept sc A (facing A s) lows → newest s ≡ lows
 newest_lows sc s lows k = longer_is s.a.lows s.b.lows lows (newest_of (facing A s) lows k.inv.roles k.mine.newest k.theirs.newest)
 
+-- what holds of the low keys that every step keeps holds of the newest
+at_newest : (sc : Scenario) → IsScenario sc → (cs : List Choice) (P : List ℕ → Type 0)
+    → ((lows : List ℕ) → Kept sc A (facing A (play sc (opening sc) cs)) lows → P lows) → P (newest (play sc (opening sc) cs))
+at_newest sc ok cs P holds =
+    let r = reached sc ok cs in
+    subst P (sym (newest_lows sc (play sc (opening sc) cs) r.lows r.kept)) (holds r.lows r.kept)
+
 -- a page is once among all pages
-once_in_whole : (v : View) (p : ℕ) → Owned v → times p (whole v) ≤ 1
-once_in_whole v p o =
-    let once = o.once p in
-    let a = times-append p v.me.pages (rest_of v) in
-    let b = times-append p v.them.pages (sent_leaves v.inbox ++ sent_leaves v.outbox) in
-    let c = times-append p (sent_leaves v.inbox) (sent_leaves v.outbox) in
-    let d = times-sent_leaves p v.inbox in
-    let e = times-sent_leaves p v.outbox in
-    grind (arith, nat_tests, once, a, b, c, d, e)
+once_in_all : (s : State) (p : ℕ) → Owned (facing A s) → times p (all_leaves s) ≤ 1
+once_in_all s p o = let once = o.once p in let all = times-all_leaves p s in grind (arith, nat_tests, once, all)
 
 -- the law: what the database has at a key is on the page of the key
 pub values_at_pages : (sc : Scenario) → IsScenario sc → (cs : List Choice) → ValuesAtPages (play sc (opening sc) cs)
 unfolding database
 values_at_pages sc ok cs k =
     let s = play sc (opening sc) cs in
-    let r = reached sc ok cs in
-    let v = facing A s in
-    subst (λ lows. get (db v) k ≡ get_row (rows_of (whole v) (page_of lows k)) k) (sym (newest_lows sc s r.lows r.kept))
-    (get-leaves (whole v) k ∙ found_once r.lows (whole v) k r.kept.placed (once_in_whole v (page_of r.lows k) r.kept.inv.owned))
+    at_newest sc ok cs (λ lows. get (db (facing A s)) k ≡ get_row (rows_of (all_leaves s) (page_of lows k)) k)
+    (λ lows kept. get-leaves (all_leaves s) k ∙ found_once lows (all_leaves s) k kept.placed (once_in_all s (page_of lows k) kept.inv.owned))
 
 -- each key's page is one of all pages
-page_there : (v : View) (lows more : List ℕ) (k : ℕ) → lows ≡ 0 ∷ more → Owned v → length lows ≤ width v → owns (whole v) (page_of lows k) ≡ true
-page_there v lows more k first o wide =
+page_there : (s : State) (lows more : List ℕ) (k : ℕ) → lows ≡ 0 ∷ more → Owned (facing A s) → length lows ≤ width (facing A s)
+    → owns (all_leaves s) (page_of lows k) ≡ true
+page_there s lows more k first o wide =
     let p = page_of lows k in
     let below : p < length lows = subst (λ l. page_of l k < length l) (sym first) (page_of-within (0 ∷ more) k (omega arith)) in
     let once = o.once p in
-    let a = times-append p v.me.pages (rest_of v) in
-    let b = times-append p v.them.pages (sent_leaves v.inbox ++ sent_leaves v.outbox) in
-    let c = times-append p (sent_leaves v.inbox) (sent_leaves v.outbox) in
-    let d = times-sent_leaves p v.inbox in
-    let e = times-sent_leaves p v.outbox in
-    owns_from p (whole v) (grind (arith, nat_tests, below, wide, once, a, b, c, d, e))
+    let all = times-all_leaves p s in
+    owns_from p (all_leaves s) (grind (arith, nat_tests, below, wide, once, all))
 
 -- the newest low keys are no more than the width
 longest : (s : State) → length (newest s) ≤ width (facing A s)
@@ -134,28 +129,22 @@ pub each_key_has_page : (sc : Scenario) → IsScenario sc → (cs : List Choice)
 each_key_has_page sc ok cs k =
     let s = play sc (opening sc) cs in
     let r = reached sc ok cs in
-    page_there (facing A s) (newest s) r.kept.first.0 k (newest_lows sc s r.lows r.kept ∙ r.kept.first.1) r.kept.inv.owned (longest s)
+    page_there s (newest s) r.kept.first.0 k (newest_lows sc s r.lows r.kept ∙ r.kept.first.1) r.kept.inv.owned (longest s)
 
--- pages that lie where they should show their low keys
-has_lows : (lows : List ℕ) (xs : List Leaf) → Placed lows xs → HasLows lows xs
-has_lows lows [] h = tt
-has_lows lows (x ∷ xs) h = (h.0.low, has_lows lows xs h.1)
+-- what holds of no pages, and with one more on its place, holds of all that lie on their places
+placed_all : (lows : List ℕ) (P : List Leaf → Type 0) → P [] → ((x : Leaf) (xs : List Leaf) → OnPage lows x → P xs → P (x ∷ xs)) → (xs : List Leaf)
+    → Placed lows xs → P xs
+placed_all lows P none more [] h = none
+placed_all lows P none more (x ∷ xs) h = more x xs h.0 (placed_all lows P none more xs h.1)
 
 -- the law: each page shows the low key of the wireframe
 pub lows_match : (sc : Scenario) → IsScenario sc → (cs : List Choice) → let s = play sc (opening sc) cs in HasLows (newest s) (all_leaves s)
 lows_match sc ok cs =
-    let s = play sc (opening sc) cs in
-    let r = reached sc ok cs in
-    subst (λ lows. HasLows lows (all_leaves s)) (sym (newest_lows sc s r.lows r.kept)) (has_lows r.lows (all_leaves s) r.kept.placed)
-
--- pages that lie where they should have their rows there
-rows_lie : (lows : List ℕ) (xs : List Leaf) → Placed lows xs → RowsLie lows xs
-rows_lie lows [] h = tt
-rows_lie lows (x ∷ xs) h = (h.0.each, rows_lie lows xs h.1)
+    let xs = all_leaves (play sc (opening sc) cs) in
+    at_newest sc ok cs (λ lows. HasLows lows xs) (λ lows kept. placed_all lows (HasLows lows) tt (λ x ys on more. (on.low, more)) xs kept.placed)
 
 -- the law: each row lies on the page of its key
 pub rows_match : (sc : Scenario) → IsScenario sc → (cs : List Choice) → let s = play sc (opening sc) cs in RowsLie (newest s) (all_leaves s)
 rows_match sc ok cs =
-    let s = play sc (opening sc) cs in
-    let r = reached sc ok cs in
-    subst (λ lows. RowsLie lows (all_leaves s)) (sym (newest_lows sc s r.lows r.kept)) (rows_lie r.lows (all_leaves s) r.kept.placed)
+    let xs = all_leaves (play sc (opening sc) cs) in
+    at_newest sc ok cs (λ lows. RowsLie lows xs) (λ lows kept. placed_all lows (RowsLie lows) tt (λ x ys on more. (on.each, more)) xs kept.placed)

@@ -20,7 +20,7 @@ use Rattle.zy_laws.proofs.room.EachPage.{Each, each_append, each_at, each_both, 
 use Rattle.zy_laws.proofs.walk.Events.{Free, has_lock}
 use Rattle.zy_laws.proofs.room.Fit.{Fit, Room, Sized}
 use Rattle.zy_laws.proofs.locks.Locking.{Kept, nobody_runs}
-use Rattle.zy_laws.proofs.order.Ordered.{rises_below, rises_from}
+use Rattle.zy_laws.proofs.order.Rising.{rises_below, rises_from}
 use Rattle.zy_laws.proofs.places.PageValues.{rest_of}
 use Rattle.zy_laws.proofs.owner.Roles.{fresh_number, normal_other}
 use Rattle.zy_laws.proofs.room.Room.{is_new_on, need, one_if}

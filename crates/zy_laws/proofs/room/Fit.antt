@@ -9,7 +9,6 @@ use Rattle.zy_isa.specs.declared.row.Row.{Row}
 use Rattle.zy_table.specs.Change.{txn_at}
 use Rattle.zy_table.specs.Client.{is_active}
 use Rattle.zy_laws.specs.OneOwner.{times}
-use Rattle.zy_table.specs.Database.{sent_leaves}
 use Rattle.zy_table.specs.Pages.{rows_of}
 use Rattle.zy_table.specs.Rows.{put_rows, rows_on}
 use Rattle.zy_table.specs.State.{Leaf, NodeState, Txn, View, other}
@@ -19,6 +18,8 @@ use Rattle.zy_laws.proofs.locks.Locking.{whole}
 use Rattle.zy_laws.proofs.places.MovedPages.{whole_same}
 use Rattle.zy_laws.proofs.room.Room.{installed_length, is_new_on, need, need_none, need_put, need_same, one_if}
 use Rattle.zy_laws.proofs.walk.Txns.{IsAt, Stands, at_other, at_same}
+use Rattle.zy_laws.proofs.walk.Kinds.{Unmoved}
+use Rattle.zy_table.specs.declared.entry.CommitRec.{CommitRec}
 
 -- the rows of a page are in key order and at most cap
 abbrev pub Sized : ℕ → ℕ → List Row → Type 0
@@ -95,54 +96,55 @@ commit_room cap lows mine theirs p rows size a b (inr none) =
     let z = need_none lows p (put_rows (rows_on lows p mine) rows) theirs none in
     omega (arith, e, z, a)
 
--- steps that change no transaction and no page
-pub fit_stays : (sc : Scenario) (n : Node) (v w : View) (lows : List ℕ) → Fit sc n v lows → w.txns ≡ v.txns → w.me.pages ≡ v.me.pages → w.them ≡ v.them
-    → sent_leaves w.inbox ≡ sent_leaves v.inbox → sent_leaves w.outbox ≡ sent_leaves v.outbox → Fit sc n w lows
-fit_stays sc n v w lows f txns pages them inbox outbox =
-    let same : (t : ℕ) → txn_at w t ≡ txn_at v t = λ t. at_same v w t txns in
-    record {
-      sized = subst (Each (Sized sc.cap)) (sym (whole_same v w pages (ap (λ (x : NodeState). x.pages) them) inbox outbox)) f.sized;
-      rising = λ t. subst (λ (x : Txn). Rising 0 x.rows) (sym (same t)) (f.rising t);
-      mine = λ t at. subst (Each (Room sc.cap lows (txn_at w t).rows)) (sym pages)
-          (subst (λ (x : Txn). Each (Room sc.cap lows x.rows) v.me.pages) (sym (same t)) (f.mine t (subst (λ x. Stands x n) (same t) at)));
-      theirs = λ t at. subst (λ (x : NodeState). Each (Room sc.cap lows (txn_at w t).rows) x.pages) (sym them)
-          (subst (λ (x : Txn). Each (Room sc.cap lows x.rows) v.them.pages) (sym (same t)) (f.theirs t (subst (λ x. Stands x (other n)) (same t) at)));
-    }
+-- a state in which everybody has room
+module _ (sc : Scenario) (n : Node) (v : View) (lows : List ℕ) (f : Fit sc n v lows) where
+  -- steps that change no transaction and no page
+  pub fit_stays : (w : View) → w.txns ≡ v.txns → Unmoved v w → Fit sc n w lows
+  fit_stays w txns u =
+      let same : (t : ℕ) → txn_at w t ≡ txn_at v t = λ t. at_same v w t txns in
+      record {
+        sized = subst (Each (Sized sc.cap)) (sym (whole_same v w u.pages (ap (λ (x : NodeState). x.pages) u.them) u.inbox u.outbox)) f.sized;
+        rising = λ t. subst (λ (x : Txn). Rising 0 x.rows) (sym (same t)) (f.rising t);
+        mine = λ t at. subst (Each (Room sc.cap lows (txn_at w t).rows)) (sym u.pages)
+            (subst (λ (x : Txn). Each (Room sc.cap lows x.rows) v.me.pages) (sym (same t)) (f.mine t (subst (λ x. Stands x n) (same t) at)));
+        theirs = λ t at. subst (λ (x : NodeState). Each (Room sc.cap lows (txn_at w t).rows) x.pages) (sym u.them)
+            (subst (λ (x : Txn). Each (Room sc.cap lows x.rows) v.them.pages) (sym (same t)) (f.theirs t (subst (λ x. Stands x (other n)) (same t) at)));
+      }
 
--- steps in which t alone changes, and perhaps its node's pages
-pub fit_acts : (sc : Scenario) (n : Node) (v w : View) (lows : List ℕ) (t : ℕ) (y : Txn) → Fit sc n v lows → w.txns ≡ slice_set v.txns t y
-    → (txn_at w t ≡ y) ⊎ ((txn_at w t ≡ txn_at v t) × (is_active (txn_at v t).status ≡ false)) → Rising 0 y.rows → w.them ≡ v.them
-    → Each (Sized sc.cap) (whole w)
-    → (Stands y n → Each (Room sc.cap lows y.rows) w.me.pages) → (Stands y (other n) → Each (Room sc.cap lows y.rows) v.them.pages)
-    → ((u : ℕ) → (u ≡ t → ⊥) → IsAt v u n → Each (Room sc.cap lows (txn_at v u).rows) v.me.pages → Each (Room sc.cap lows (txn_at v u).rows) w.me.pages)
-    → Fit sc n w lows
-fit_acts sc n v w lows t y f e self rises them sized own off others =
-    let at_t : (u : ℕ) → u ≡ t → (txn_at w u ≡ y) ⊎ ((txn_at w u ≡ txn_at v u) × (is_active (txn_at v u).status ≡ false)) = λ u here.
-    subst (λ z. (txn_at w z ≡ y) ⊎ ((txn_at w z ≡ txn_at v z) × (is_active (txn_at v z).status ≡ false))) (sym here) self in
-    record {
-      sized = sized;
-      rising = λ u. elim (cases_eq u t) [
-        | inl here ↦ elim (at_t u here) [
-          | inl now ↦ subst (λ (x : Txn). Rising 0 x.rows) (sym now) rises
-          | inr old ↦
-              subst (λ (x : Txn). Rising 0 x.rows) (sym old.0) (f.rising u)
-        ]
-        | inr far ↦ subst (λ (x : Txn). Rising 0 x.rows) (sym (at_other v w t u y e far)) (f.rising u)
-      ];
-      mine = λ u at. elim (cases_eq u t) [
-        | inl here ↦ elim (at_t u here) [
-          | inl now ↦ subst (λ (x : Txn). Each (Room sc.cap lows x.rows) w.me.pages) (sym now) (own (subst (λ x. Stands x n) now at))
-          | inr old ↦ absurd (false≢true (sym old.1 ∙ subst (λ (x : Txn). is_active x.status ≡ true) old.0 at.0))
-        ]
-        | inr far ↦ let now = at_other v w t u y e far in let a = subst (λ x. Stands x n) now at in
-            subst (λ (x : Txn). Each (Room sc.cap lows x.rows) w.me.pages) (sym now) (others u far a (f.mine u a))
-      ];
-      theirs = λ u at. subst (λ (x : NodeState). Each (Room sc.cap lows (txn_at w u).rows) x.pages) (sym them) (elim (cases_eq u t) [
-        | inl here ↦ elim (at_t u here) [
-          | inl now ↦ subst (λ (x : Txn). Each (Room sc.cap lows x.rows) v.them.pages) (sym now) (off (subst (λ x. Stands x (other n)) now at))
-          | inr old ↦ absurd (false≢true (sym old.1 ∙ subst (λ (x : Txn). is_active x.status ≡ true) old.0 at.0))
-        ]
-        | inr far ↦ let now = at_other v w t u y e far in subst (λ (x : Txn). Each (Room sc.cap lows x.rows) v.them.pages) (sym now)
-            (f.theirs u (subst (λ x. Stands x (other n)) now at))
-      ]);
-    }
+  -- steps in which t alone changes, and perhaps its node
+  pub fit_acts : {x : NodeState} {commits : List CommitRec} (t : ℕ) (y : Txn)
+      → let w : View = record v { me = x; txns = slice_set v.txns t y; commits = commits } in
+      (txn_at w t ≡ y) ⊎ ((txn_at w t ≡ txn_at v t) × (is_active (txn_at v t).status ≡ false)) → Rising 0 y.rows → Each (Sized sc.cap) (whole w)
+      → (Stands y n → Each (Room sc.cap lows y.rows) x.pages) → (Stands y (other n) → Each (Room sc.cap lows y.rows) v.them.pages)
+      → ((u : ℕ) → (u ≡ t → ⊥) → IsAt v u n → Each (Room sc.cap lows (txn_at v u).rows) v.me.pages → Each (Room sc.cap lows (txn_at v u).rows) x.pages)
+      → Fit sc n w lows
+  fit_acts {x = node} {commits = commits} t y self rises sized own off others =
+      let w : View = record v { me = node; txns = slice_set v.txns t y; commits = commits } in
+      let at_t : (u : ℕ) → u ≡ t → (txn_at w u ≡ y) ⊎ ((txn_at w u ≡ txn_at v u) × (is_active (txn_at v u).status ≡ false)) = λ u here.
+      subst (λ z. (txn_at w z ≡ y) ⊎ ((txn_at w z ≡ txn_at v z) × (is_active (txn_at v z).status ≡ false))) (sym here) self in
+      record {
+        sized = sized;
+        rising = λ u. elim (cases_eq u t) [
+          | inl here ↦ elim (at_t u here) [
+            | inl now ↦ subst (λ (x : Txn). Rising 0 x.rows) (sym now) rises
+            | inr old ↦ subst (λ (x : Txn). Rising 0 x.rows) (sym old.0) (f.rising u)
+          ]
+          | inr far ↦ subst (λ (x : Txn). Rising 0 x.rows) (sym (at_other v w t u y refl far)) (f.rising u)
+        ];
+        mine = λ u at. elim (cases_eq u t) [
+          | inl here ↦ elim (at_t u here) [
+            | inl now ↦ subst (λ (x : Txn). Each (Room sc.cap lows x.rows) node.pages) (sym now) (own (subst (λ x. Stands x n) now at))
+            | inr old ↦ absurd (false≢true (sym old.1 ∙ subst (λ (x : Txn). is_active x.status ≡ true) old.0 at.0))
+          ]
+          | inr far ↦ let now = at_other v w t u y refl far in let a = subst (λ x. Stands x n) now at in
+              subst (λ (x : Txn). Each (Room sc.cap lows x.rows) node.pages) (sym now) (others u far a (f.mine u a))
+        ];
+        theirs = λ u at. elim (cases_eq u t) [
+          | inl here ↦ elim (at_t u here) [
+            | inl now ↦ subst (λ (x : Txn). Each (Room sc.cap lows x.rows) v.them.pages) (sym now) (off (subst (λ x. Stands x (other n)) now at))
+            | inr old ↦ absurd (false≢true (sym old.1 ∙ subst (λ (x : Txn). is_active x.status ≡ true) old.0 at.0))
+          ]
+          | inr far ↦ let now = at_other v w t u y refl far in subst (λ (x : Txn). Each (Room sc.cap lows x.rows) v.them.pages) (sym now)
+              (f.theirs u (subst (λ x. Stands x (other n)) now at))
+        ];
+      }

@@ -1,9 +1,8 @@
 -- The row of commit: its private rows are laid over the database, which becomes that of the longer serial run.
 use Rattle.zy_table.specs.Take.{is_held}
-use Rattle.std.proofs.Common.{List, [], add-one, ap, arith, false, inl, inr, refl, subst, suc, sym, true, ℕ, ◌++◌, ◌+◌, ◌∙◌, ◌∷◌, ◌≡◌}
+use Rattle.std.proofs.Common.{List, [], add-one, ap, arith, false, inl, refl, subst, suc, sym, true, ℕ, ◌++◌, ◌+◌, ◌∙◌, ◌∷◌, ◌≡◌}
 use Rattle.std.specs.Prelude.{None, Option, Some, is_some, slice_get, slice_set}
 use Rattle.std.specs.FinMap.{get, nat_cmp-IsAntisymmetric, same_map}
-use Rattle.std.proofs.lemmas.Bool.{cases_eq, false≢true}
 use Rattle.std.proofs.lemmas.Bool.Decides.{nat_tests}
 use Rattle.std.proofs.lemmas.Cmp.{nat_cmp_total}
 use Rattle.zy_isa.specs.Rows.{get_row}
@@ -13,7 +12,6 @@ use Rattle.zy_isa.specs.declared.node.Node.{Node}
 use Rattle.zy_isa.specs.declared.row.Row.{Row}
 use Rattle.zy_locks.specs.Locks.{drop_locks}
 use Rattle.zy_table.specs.Change.{committed, installed, txn_at}
-use Rattle.zy_table.specs.Client.{is_active}
 use Rattle.zy_table.specs.declared.effect.Effect.TheVariants.{Commits}
 use Rattle.zy_table.specs.Effects.{effect_of}
 use Rattle.zy_table.specs.Database.{Map, laid, laid_leaves}
@@ -25,14 +23,14 @@ use Rattle.zy_table.specs.declared.status.Status.TheVariants.{Committed}
 use Rattle.zy_table.specs.State.{Lock, NodeState, Txn, View, other}
 use Rattle.zy_wire.specs.Wireframe.{page_of}
 use Rattle.zy_laws.proofs.walk.Events.{Runs}
-use Rattle.zy_laws.proofs.serial.Following.{Follows, Serially, active_not, registers_push, registers_same}
+use Rattle.zy_laws.proofs.serial.Following.{Follows, Serially, keep_registers, registers_push}
 use Rattle.zy_laws.proofs.places.Installing.{found, found-append, get-leaves, installed_none, installed_some, none_else, placed_front}
 use Rattle.zy_table.proofs.LockLists.{exclusive_holds, holds-drop}
 use Rattle.zy_laws.proofs.locks.Locking.{Kept, whole}
 use Rattle.zy_laws.proofs.serial.LoneRuns.{Agree, Lone, get-laid, lone, lone_alike, on_map, or_else}
 use Rattle.zy_laws.proofs.owner.PageCounts.{owns-times}
 use Rattle.zy_laws.proofs.places.PageValues.{db, rest_of}
-use Rattle.zy_laws.proofs.walk.Txns.{IsAt, Stands, at_other, at_self}
+use Rattle.zy_laws.proofs.walk.Txns.{IsAt, Stands, active_off, ended_far, at_other, at_self}
 
 -- all pages after a commit
 committed_pages : (t : ℕ) (v : View) → whole (committed t v) ≡ installed v.me.lows (txn_at v t).rows v.me.pages ++ rest_of v
@@ -97,34 +95,34 @@ alone_commit : (m : Map) (program : List Instr) (i : Instr) (x : Alone) → x.ov
 unfolding alone_step alone_instr
 alone_commit m program i x on at does = rw (on, at, does) refl
 
--- the others' lone runs do not see the rows of a commit
-commit_follows : (sc : Scenario) (n : Node) (v : View) (lows : List ℕ) (t u : ℕ) (locks more : List Lock) (program : List Instr) (x : Txn)
-    → Kept sc n v lows → is_held sc.rule ≡ true → IsAt v t n
-    → ((p : ℕ) → holds_alone v.me.locks p t ≡ true → holds locks p u ≡ true → ⊥) → ((p : ℕ) → holds locks p u ≡ true → holds more p u ≡ true)
-    → Follows program (db v) lows locks u x → Follows program (db (committed t v)) lows more u x
-commit_follows sc n v lows t u locks more program x h held at clash grow f =
-    let agree : Agree (db v) (db (committed t v)) f.keys = record {
-      each = λ k g.
-          let none : get_row (txn_at v t).rows k ≡ None = none_else (get_row (txn_at v t).rows k)
-          (λ is. clash (page_of lows k) (h.mine.private t k at is) (f.covered k g)) in
-          commit_db sc n v lows t h held at k ∙ ap (λ o. or_else o (get (db v) k)) none;
-    } in
-    let on : (lone (db v) program x.done).over ≡ false = ap (λ (z : Lone). z.over) f.run in
-    let keys : (lone (db v) program x.done).keys ≡ f.keys = ap (λ (z : Lone). z.keys) f.run in
-    record {
-      keys = f.keys;
-      run = lone_alike (db v) (db (committed t v)) program x.done on (subst (Agree (db v) (db (committed t v))) (sym keys) agree) ∙ f.run;
-      covered = λ k g. grow (page_of lows k) (f.covered k g);
-    }
+-- a state that every step keeps, under the rule that keeps locked pages
+module _ (sc : Scenario) (n : Node) (v : View) (lows : List ℕ) (t : ℕ) (h : Kept sc n v lows) (held : is_held sc.rule ≡ true) where
+  -- the others' lone runs do not see the rows of a commit
+  commit_follows : {u : ℕ} {locks more : List Lock} {program : List Instr} {x : Txn} → IsAt v t n → Follows program (db v) lows locks u x
+      → ((p : ℕ) → holds_alone v.me.locks p t ≡ true → holds locks p u ≡ true → ⊥) → ((p : ℕ) → holds locks p u ≡ true → holds more p u ≡ true)
+      → Follows program (db (committed t v)) lows more u x
+  commit_follows {program = program} {x = x} at f clash grow =
+      let agree : Agree (db v) (db (committed t v)) f.keys = record {
+        each = λ k g.
+            let none : get_row (txn_at v t).rows k ≡ None = none_else (get_row (txn_at v t).rows k)
+            (λ is. clash (page_of lows k) (h.mine.private t k at is) (f.covered k g)) in
+            commit_db sc n v lows t h held at k ∙ ap (λ o. or_else o (get (db v) k)) none;
+      } in
+      let on : (lone (db v) program x.done).over ≡ false = ap (λ (z : Lone). z.over) f.run in
+      let keys : (lone (db v) program x.done).keys ≡ f.keys = ap (λ (z : Lone). z.keys) f.run in
+      record {
+        keys = f.keys;
+        run = lone_alike (db v) (db (committed t v)) program x.done on (subst (Agree (db v) (db (committed t v))) (sym keys) agree) ∙ f.run;
+        covered = λ k g. grow (page_of lows k) (f.covered k g);
+      }
 
--- both nodes cannot have a lock on one page
-apart_nodes : (sc : Scenario) (n : Node) (v : View) (lows : List ℕ) (p t u : ℕ) → Kept sc n v lows → is_held sc.rule ≡ true → holds v.me.locks p t ≡ true
-    → holds v.them.locks p u ≡ true → ⊥
-apart_nodes sc n v lows p t u h held a b =
-    let one = owns-times p v.me.pages (h.mine.kept p t (inl held) a) in
-    let two = owns-times p v.them.pages (h.theirs.kept p u (inl held) b) in
-    let k = h.inv.owned.once p in
-    grind (arith, nat_tests, k)
+  -- both nodes cannot have a lock on one page
+  apart_nodes : (p u : ℕ) → holds v.me.locks p t ≡ true → holds v.them.locks p u ≡ true → ⊥
+  apart_nodes p u a b =
+      let one = owns-times p v.me.pages (h.mine.kept p t (inl held) a) in
+      let two = owns-times p v.them.pages (h.theirs.kept p u (inl held) b) in
+      let k = h.inv.owned.once p in
+      grind (arith, nat_tests, k)
 
 -- a commit leaves the registers of a lone run
 alone_last : (m : Map) (program : List Instr) (i : Instr) (x : Alone) → x.over ≡ false → slice_get program x.pc ≡ Some i → effect_of i x.regs ≡ Commits
@@ -132,12 +130,11 @@ alone_last : (m : Map) (program : List Instr) (i : Instr) (x : Alone) → x.over
 unfolding alone_step alone_instr
 alone_last m program i x on at does = rw (on, at, does) refl
 
--- a state that follows the serial run, and its newest low keys
-module _ (sc : Scenario) (n : Node) (v : View) (start : Map) (lows : List ℕ) where
+-- a state that follows the serial run, and a commit of t
+module _ (sc : Scenario) (n : Node) (v : View) (start : Map) (lows : List ℕ) (t : ℕ) (s : Serially sc n v start lows) (runs : Runs sc n t Commits v) where
   -- after a commit the database is that of the longer serial run
-  commit_serial : (t : ℕ) → Serially sc n v start lows → Runs sc n t Commits v
-      → db (committed t v) ≡ serial sc start (v.commits ++ record { txn = t; done = (txn_at v t).done + 1 } ∷ [])
-  commit_serial t s runs =
+  commit_serial : db (committed t v) ≡ serial sc start (v.commits ++ record { txn = t; done = (txn_at v t).done + 1 } ∷ [])
+  commit_serial =
       let at : IsAt v t n = (runs.active, runs.here) in
       let x = txn_at v t in
       let program = program_of sc t in
@@ -157,9 +154,8 @@ module _ (sc : Scenario) (n : Node) (v : View) (start : Map) (lows : List ℕ) w
       ∙ sym (serial-push sc start v.commits (record { txn = t; done = x.done + 1 }))
 
   -- a committed transaction has the registers of its lone run
-  committed_regs : (t : ℕ) → Serially sc n v start lows → Runs sc n t Commits v
-      → (txn_at v t).regs ≡ (alone (serial sc start v.commits) (program_of sc t) ((txn_at v t).done + 1)).regs
-  committed_regs t s runs =
+  committed_regs : (txn_at v t).regs ≡ (alone (serial sc start v.commits) (program_of sc t) ((txn_at v t).done + 1)).regs
+  committed_regs =
       let x = txn_at v t in
       let program = program_of sc t in
       let f = s.mine t (runs.active, runs.here) in
@@ -172,44 +168,37 @@ module _ (sc : Scenario) (n : Node) (v : View) (start : Map) (lows : List ℕ) w
       ∙ regs)
 
   -- after a commit all committed transactions have the registers of their lone runs
-  commit_registers : (t : ℕ) → Serially sc n v start lows → Runs sc n t Commits v
-      → Registers sc (txn_at (committed t v)) start (committed t v).commits
+  commit_registers : Registers sc (txn_at (committed t v)) start (committed t v).commits
   unfolding committed
-  commit_registers t s runs =
+  commit_registers =
       let at : IsAt v t n = (runs.active, runs.here) in
       let w = committed t v in
       let y : Txn = record (txn_at v t) { status = Committed; rows = []; done = (txn_at v t).done + 1 } in
       let self : txn_at w t ≡ y = at_self v w t y refl at.0 in
       registers_push sc (txn_at w) start v.commits (record { txn = t; done = (txn_at v t).done + 1 })
-      (registers_same sc (txn_at v) (txn_at w) start v.commits (λ u ended. elim (cases_eq u t) [
-        | inl same ↦ absurd (active_not (txn_at v t).status at.0 (subst (λ z. is_committed (txn_at v z).status ≡ true) same ended))
-        | inr far ↦ at_other v w t u y refl far
-      ]) s.registers)
-      (ap (λ (x : Txn). is_committed x.status) self, ap (λ (x : Txn). x.regs) self ∙ committed_regs t s runs)
+      (keep_registers sc v w start v.commits t y refl (active_off (txn_at v t).status at.0) s.registers)
+      (ap (λ (x : Txn). is_committed x.status) self, ap (λ (x : Txn). x.regs) self ∙ committed_regs)
 
   -- a commit keeps it
-  pub committed_serial : (t : ℕ) → Serially sc n v start lows
-      → Runs sc n t Commits v → Kept sc n (committed t v) lows → Serially sc n (committed t v) start lows
-  committed_serial t s runs k =
+  pub committed_serial : Kept sc n (committed t v) lows → Serially sc n (committed t v) start lows
+  committed_serial k =
       let at : IsAt v t n = (runs.active, runs.here) in
       let w = committed t v in
       let y : Txn = record (txn_at v t) { status = Committed; rows = []; done = (txn_at v t).done + 1 } in
       let set : w.txns ≡ slice_set v.txns t y = committed_txns t v in
-      let far_at : (u : ℕ) (m : Node) → IsAt w u m → u ≡ t → ⊥ = λ u m a same. false≢true
-      (subst (λ (x : Txn). is_active x.status ≡ true) (ap (txn_at w) same ∙ at_self v w t y set at.0) a.0) in
+      let far_at = ended_far v w t y set at.0 refl in
       record {
         kept = k;
         held = s.held;
         mine = λ u a. let far = far_at u n a in let now = at_other v w t u y set far in
             subst (Follows (program_of sc u) (db w) lows w.me.locks u) (sym now)
-            (commit_follows sc n v lows t u v.me.locks w.me.locks (program_of sc u) (txn_at v u) s.kept s.held at
-            (λ p b c. far (sym (s.kept.mine.apart p t u b c)))
-            (λ p h. ap (λ xs. holds xs p u) (committed_locks t v) ∙ holds-drop v.me.locks p t u far ∙ h) (s.mine u (subst (λ x. Stands x n) now a)));
+            (commit_follows sc n v lows t s.kept s.held at (s.mine u (subst (λ x. Stands x n) now a)) (λ p b c. far (sym (s.kept.mine.apart p t u b c)))
+            (λ p h. ap (λ xs. holds xs p u) (committed_locks t v) ∙ holds-drop v.me.locks p t u far ∙ h));
         theirs = λ u a. let far = far_at u (other n) a in let now = at_other v w t u y set far in
             subst (Follows (program_of sc u) (db w) lows w.them.locks u) (sym now)
-            (commit_follows sc n v lows t u v.them.locks w.them.locks (program_of sc u) (txn_at v u) s.kept s.held at
-            (λ p b c. apart_nodes sc n v lows p t u s.kept s.held (exclusive_holds v.me.locks p t b) c)
-            (λ p h. ap (λ (x : NodeState). holds x.locks p u) (committed_them t v) ∙ h) (s.theirs u (subst (λ x. Stands x (other n)) now a)));
-        is_serial = commit_serial t s runs ∙ ap (serial sc start) (sym (committed_list t v));
-        registers = commit_registers t s runs;
+            (commit_follows sc n v lows t s.kept s.held at (s.theirs u (subst (λ x. Stands x (other n)) now a))
+            (λ p b c. apart_nodes sc n v lows t s.kept s.held p u (exclusive_holds v.me.locks p t b) c)
+            (λ p h. ap (λ (x : NodeState). holds x.locks p u) (committed_them t v) ∙ h));
+        is_serial = commit_serial ∙ ap (serial sc start) (sym (committed_list t v));
+        registers = commit_registers;
       }

@@ -1,21 +1,18 @@
 -- Each transaction that runs has come as far as its lone run on the database, which is that of the committed programs.
 use Rattle.zy_table.specs.Take.{is_held}
-use Rattle.std.proofs.Common.{List, [], ap, inl, inr, subst, sym, true, ℕ, ◌++◌, ◌∙◌, ◌∷◌, ◌≡◌}
+use Rattle.std.proofs.Common.{List, [], ap, false, inl, inr, subst, sym, true, ℕ, ◌++◌, ◌∙◌, ◌∷◌, ◌≡◌}
 use Rattle.std.specs.Prelude.{slice_set}
 use Rattle.std.proofs.lemmas.Bool.{cases_eq, false≢true}
 use Rattle.zy_isa.specs.Scenario.{Scenario}
 use Rattle.zy_isa.specs.declared.instr.Instr.{Instr}
 use Rattle.zy_isa.specs.declared.node.Node.{Node}
 use Rattle.zy_table.specs.Change.{txn_at}
-use Rattle.zy_table.specs.Client.{is_active, is_new}
 use Rattle.zy_table.specs.Database.{Map}
 use Rattle.zy_table.specs.Holders.{holds}
 use Rattle.zy_table.specs.Run.{program_of}
 use Rattle.zy_table.specs.Serial.{Registers, alone, is_committed, serial}
-use Rattle.zy_table.specs.declared.status.Status.TheVariants.{Aborted, Active, Committed, New}
 use Rattle.zy_table.specs.declared.entry.CommitRec.{CommitRec}
 use Rattle.zy_table.specs.State.{Lock, Txn, View, other}
-use Rattle.zy_table.specs.declared.status.Status.{Status}
 use Rattle.zy_wire.specs.Wireframe.{page_of}
 use Rattle.zy_laws.proofs.locks.Locking.{Kept}
 use Rattle.zy_table.specs.Numbers.{has}
@@ -39,10 +36,9 @@ pub record Serially (sc : Scenario) (n : Node) (v : View) (start : Map) (lows : 
   pub registers : Registers sc (txn_at v) start v.commits
 
 -- the same run where nothing that it saw has changed
-pub follows_same : (program : List Instr) (d e : Map) (lows : List ℕ) (locks more : List Lock) (t : ℕ) (x y : Txn) → e ≡ d → y ≡ x
-    → ((p : ℕ) → holds locks p t ≡ true → holds more p t ≡ true)
-    → Follows program d lows locks t x → Follows program e lows more t y
-follows_same program d e lows locks more t x y same now grow f =
+pub follows_same : {program : List Instr} {d e : Map} {lows : List ℕ} {locks more : List Lock} {t : ℕ} {x y : Txn} → Follows program d lows locks t x
+    → e ≡ d → y ≡ x → ((p : ℕ) → holds locks p t ≡ true → holds more p t ≡ true) → Follows program e lows more t y
+follows_same {program = program} {e = e} {lows = lows} {more = more} {t = t} {x = x} f same now grow =
     subst (Follows program e lows more t) (sym now) (record {
       keys = f.keys;
       run = ap (λ m. lone m program x.done) same ∙ f.run;
@@ -66,28 +62,11 @@ pub registers_push : (sc : Scenario) (f : ℕ → Txn) (m : Map) (cs : List Comm
 registers_push sc f m [] c h new = (new, tt)
 registers_push sc f m (x ∷ xs) c h new = (h.0, registers_push sc f (alone m (program_of sc x.txn) x.done).map xs c h.1 new)
 
--- an active transaction is not committed
-pub active_not : (s : Status) → is_active s ≡ true → is_committed s ≡ true → ⊥
-active_not New a b = false≢true a
-active_not Active a b = false≢true b
-active_not Committed a b = false≢true a
-active_not (Aborted w) a b = false≢true a
-
--- a new transaction is not committed
-pub new_not : (s : Status) → is_new s ≡ true → is_committed s ≡ true → ⊥
-new_not New a b = false≢true b
-new_not Active a b = false≢true a
-new_not Committed a b = false≢true a
-new_not (Aborted w) a b = false≢true a
-
 -- setting a transaction that is not committed leaves the registers of those that are
-pub keep_registers : (sc : Scenario) (v w : View) (start : Map) (t : ℕ) (y : Txn) → w.txns ≡ slice_set v.txns t y → w.commits ≡ v.commits
-    → (is_committed (txn_at v t).status ≡ true → ⊥)
-    → Registers sc (txn_at v) start v.commits → Registers sc (txn_at w) start w.commits
-keep_registers sc v w start t y e c off h =
-    subst (Registers sc (txn_at w) start) (sym c) (registers_same sc (txn_at v) (txn_at w) start v.commits
-    (λ u ended. elim (cases_eq u t) [
-      | inl same ↦ absurd (off (subst (λ z. is_committed (txn_at v z).status ≡ true) same ended))
-      | inr far ↦
-          at_other v w t u y e far
-    ]) h)
+pub keep_registers : (sc : Scenario) (v w : View) (start : Map) (cs : List CommitRec) (t : ℕ) (y : Txn) → w.txns ≡ slice_set v.txns t y
+    → is_committed (txn_at v t).status ≡ false → Registers sc (txn_at v) start cs → Registers sc (txn_at w) start cs
+keep_registers sc v w start cs t y e off h =
+    registers_same sc (txn_at v) (txn_at w) start cs (λ u ended. elim (cases_eq u t) [
+      | inl same ↦ absurd (false≢true (sym off ∙ subst (λ z. is_committed (txn_at v z).status ≡ true) same ended))
+      | inr far ↦ at_other v w t u y e far
+    ]) h

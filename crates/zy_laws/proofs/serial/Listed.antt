@@ -16,8 +16,8 @@ use Rattle.zy_laws.proofs.walk.Events.{Aborts, Begins, Commits, Event, Gets}
 use Rattle.zy_laws.proofs.walk.Events.{Inserts, SumsUp, Splits, Writes, step_happens, GoesOn}
 use Rattle.zy_laws.proofs.walk.PlayPush.{play-keeps}
 use Rattle.zy_laws.proofs.room.Room.{one_if}
-use Rattle.zy_laws.proofs.counts.SafeCounts.{active_off, new_off, txns_of}
-use Rattle.zy_laws.proofs.walk.Txns.{at_back, at_either, at_other, at_same, at_self, at_side, blank_at}
+use Rattle.zy_laws.proofs.counts.Fates.{txns_of}
+use Rattle.zy_laws.proofs.walk.Txns.{active_off, at_back, at_either, at_other, at_same, at_self, at_side, blank_at, new_off}
 use Rattle.zy_laws.proofs.walk.Kinds.{quiet_of}
 
 -- 1 for a transaction that is committed

@@ -11,7 +11,6 @@ use Rattle.zy_isa.specs.declared.node.Node.TheVariants.{A, B}
 use Rattle.zy_table.specs.Change.{txn_at, txn_or}
 use Rattle.zy_table.specs.Database.{Map, database, laid}
 use Rattle.zy_table.specs.Play.{move, opening, play, side_of, step}
-use Rattle.zy_table.specs.Run.{program_of}
 use Rattle.zy_table.specs.Serial.{Registers, Serializable, serial}
 use Rattle.zy_table.specs.State.{State, View, facing, other, seen_from}
 use Rattle.zy_laws.proofs.serial.Values.{turned_db}
@@ -24,7 +23,6 @@ use Rattle.zy_laws.proofs.owner.OneOwner.{step_inv}
 use Rattle.zy_laws.proofs.order.ListsInOrder.{Tidy, opening_tidy, ordered_from, step_tidy}
 use Rattle.zy_laws.proofs.walk.PlayPush.{play-keeps-with}
 use Rattle.zy_laws.proofs.locks.Reached.{blank_new, inv_view, lows_then, opening_reached, turned_kept}
-use Rattle.zy_laws.proofs.places.PageValues.{db}
 use Rattle.zy_laws.proofs.owner.Roles.{turned}
 use Rattle.zy_laws.proofs.serial.FollowingSteps.{serial_event}
 use Rattle.zy_laws.proofs.walk.Txns.{IsAt, Stands, at_same}
@@ -37,12 +35,10 @@ turned_serial sc n m v start lows back forth s =
     record {
       kept = turned_kept sc n m v lows back forth s.kept;
       held = s.held;
-      mine = λ t at. follows_same (program_of sc t) (db v) (db (turned v)) lows v.them.locks v.them.locks t (txn_at v t) (txn_at (turned v) t) same
-          (at_same v (turned v) t refl) (λ p h. h)
-          (s.theirs t (subst (λ x. Stands x (other n)) (at_same v (turned v) t refl) (subst (λ z. IsAt (turned v) t z) (sym forth) at)));
-      theirs = λ t at. follows_same (program_of sc t) (db v) (db (turned v)) lows v.me.locks v.me.locks t (txn_at v t) (txn_at (turned v) t) same
-          (at_same v (turned v) t refl) (λ p h. h)
-          (s.mine t (subst (λ x. Stands x n) (at_same v (turned v) t refl) (subst (λ z. IsAt (turned v) t z) back at)));
+      mine = λ t at. let now = at_same v (turned v) t refl in
+          follows_same (s.theirs t (subst (λ x. Stands x (other n)) now (subst (λ z. IsAt (turned v) t z) (sym forth) at))) same now (λ p h. h);
+      theirs = λ t at. let now = at_same v (turned v) t refl in
+          follows_same (s.mine t (subst (λ x. Stands x n) now (subst (λ z. IsAt (turned v) t z) back at))) same now (λ p h. h);
       is_serial = same ∙ s.is_serial;
       registers = registers_same sc (txn_at v) (txn_at (turned v)) start v.commits (λ t _. at_same v (turned v) t refl) s.registers;
     }

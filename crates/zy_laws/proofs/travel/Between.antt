@@ -32,7 +32,7 @@ use Rattle.zy_laws.proofs.walk.ModeLines.{pulls_in, sends_in, splits_in_normal}
 use Rattle.zy_laws.proofs.owner.MovingPages.{all_below-owns}
 use Rattle.zy_laws.proofs.travel.OneWay.{sourced}
 use Rattle.zy_laws.proofs.places.Opening.{laid_out}
-use Rattle.zy_laws.proofs.owner.Phases.{Phase, Resting, Wire_sent, Ready_sent, Dual_sent, Both_sent, In_dual, Finish_sent, In_finish, Done_sent}
+use Rattle.zy_laws.proofs.owner.Phases.{Phase, Resting, source_is}
 use Rattle.zy_laws.proofs.owner.PhaseSteps.{taker_of}
 use Rattle.zy_laws.proofs.walk.PlayPush.{play-keeps-with}
 use Rattle.zy_laws.proofs.locks.Reached.{Reached, kept_from, lows_then, opening_reached, reached, step_kept}
@@ -197,14 +197,7 @@ elsewhere B B h = absurd (h refl)
 rested : (src dst : NodeState) (out back : List Message) → Phase src dst out back → src.mode ≡ Normal → dst.mode ≡ Empty → (dst.lows ≡ []) × (out ≡ [])
     × (back ≡ [])
 rested src dst out back (Resting a b c d f) m e = (c, d, f)
-rested src dst out back (Wire_sent a b c d f) m e = cc
-rested src dst out back (Ready_sent a b c d f) m e = cc
-rested src dst out back (Dual_sent xs a b c d all f) m e = cc
-rested src dst out back (Both_sent xs a b c d all f) m e = cc
-rested src dst out back (In_dual a b c d f) m e = cc
-rested src dst out back (Finish_sent a b c d f) m e = cc
-rested src dst out back (In_finish a b c d f) m e = cc
-rested src dst out back (Done_sent a b c all d f) m e = cc
+rested src dst out back ph m e = cc (source_is ph)
 
 -- it holds of the node seen from
 asked_me : (n : Node) (s : State) → Both s → Asked (facing n s).me

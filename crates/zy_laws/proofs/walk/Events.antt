@@ -47,7 +47,8 @@ use Rattle.zy_table.specs.Take.{is_held, all_here, with_brought, got_step, pull_
 use Rattle.zy_table.specs.Push.{active_from, finish_if, finish_step, push_if, push_step}
 use Rattle.zy_laws.specs.Journey.{is_gone, is_stray}
 use Rattle.zy_table.specs.Play.{move, side_of}
-use Rattle.zy_laws.proofs.walk.ModeLines.{wire_line, ready_line, dual_line, pull_line, page_line, finish_line, done_line, starts_at_a, starts_from, pushes_in_finish}
+use Rattle.zy_laws.proofs.walk.ModeLines.{wire_line, ready_line, dual_line, pull_line, page_line, finish_line, done_line}
+use Rattle.zy_laws.proofs.walk.ModeLines.{starts_at_a, starts_from, pushes_in_finish}
 use Rattle.zy_table.proofs.PageLists.{least-owns}
 use Rattle.zy_table.proofs.RangeLists.{found_has, key_of_page, none_passes}
 use Rattle.zy_table.proofs.AbortedLocks.{aborted-locked}

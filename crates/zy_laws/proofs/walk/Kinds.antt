@@ -80,11 +80,13 @@ unfolding did locked shares aborted begun
 in_place_of (Rests e) h = rw e (record { mode = refl; lows = refl; pages = refl; asked = refl; them = refl; inbox = refl; outbox = refl })
 in_place_of (Begins t h' a new home e) h = rw e (record { mode = refl; lows = refl; pages = refl; asked = refl; them = refl; inbox = refl; outbox = refl })
 in_place_of (Aborts t y active here e) h = rw e (record { mode = refl; lows = refl; pages = refl; asked = refl; them = refl; inbox = refl; outbox = refl })
-in_place_of (GoesOn t x pc regs runs leads e) h = rw e (record { mode = refl; lows = refl; pages = refl; asked = refl; them = refl; inbox = refl; outbox = refl })
+in_place_of (GoesOn t x pc regs runs leads e) h =
+    rw e (record { mode = refl; lows = refl; pages = refl; asked = refl; them = refl; inbox = refl; outbox = refl })
 in_place_of (Gets t r k runs f e) h = rw e (record { mode = refl; lows = refl; pages = refl; asked = refl; them = refl; inbox = refl; outbox = refl })
 in_place_of (SumsUp t r a b runs f e) h = rw e (record { mode = refl; lows = refl; pages = refl; asked = refl; them = refl; inbox = refl; outbox = refl })
 in_place_of (Writes t k x runs f there e) h = rw e (record { mode = refl; lows = refl; pages = refl; asked = refl; them = refl; inbox = refl; outbox = refl })
-in_place_of (Inserts t k x runs f new room e) h = rw e (record { mode = refl; lows = refl; pages = refl; asked = refl; them = refl; inbox = refl; outbox = refl })
+in_place_of (Inserts t k x runs f new room e) h =
+    rw e (record { mode = refl; lows = refl; pages = refl; asked = refl; them = refl; inbox = refl; outbox = refl })
 in_place_of e h = absurd (false≢true h)
 
 -- the event moves no page, and changes no row of one
@@ -115,12 +117,14 @@ unmoved_of (GotLast leaf ms f finish all e) h = absurd (false≢true h)
 unmoved_of (Pushes p finish own e) h = absurd (false≢true h)
 unmoved_of {v = v} (Asks p gone pulls asked e) h = rw e (record { pages = refl; them = refl; inbox = refl; outbox = sent_bare v.outbox (Pull p) refl })
 unmoved_of {v = v} (Starts at_a normal empty e) h = rw e (record { pages = refl; them = refl; inbox = refl; outbox = sent_bare v.outbox (Wire v.me.lows) refl })
-unmoved_of {v = v} (GotWire lows ms f empty e) h = rw e (record { pages = refl; them = refl; inbox = ap sent_leaves (sym f); outbox = sent_bare v.outbox Ready refl })
+unmoved_of {v = v} (GotWire lows ms f empty e) h =
+    rw e (record { pages = refl; them = refl; inbox = ap sent_leaves (sym f); outbox = sent_bare v.outbox Ready refl })
 unmoved_of {v = v} (GotReady ms f init e) h = rw e (record { pages = refl; them = refl; inbox = ap sent_leaves (sym f); outbox = sent_bare v.outbox Dual refl })
 unmoved_of (GotDual ms f init e) h = rw e (record { pages = refl; them = refl; inbox = ap sent_leaves (sym f); outbox = refl })
 unmoved_of (IsStale p ms f e) h = rw e (record { pages = refl; them = refl; inbox = ap sent_leaves (sym f); outbox = refl })
 unmoved_of (GotFinish ms f dual e) h = rw e (record { pages = refl; them = refl; inbox = ap sent_leaves (sym f); outbox = refl })
-unmoved_of {v = v} (GotAll ms f dual all e) h = rw e (record { pages = refl; them = refl; inbox = ap sent_leaves (sym f); outbox = sent_bare v.outbox Done refl })
+unmoved_of {v = v} (GotAll ms f dual all e) h =
+    rw e (record { pages = refl; them = refl; inbox = ap sent_leaves (sym f); outbox = sent_bare v.outbox Done refl })
 unmoved_of (GotDone ms f finish e) h = rw e (record { pages = refl; them = refl; inbox = ap sent_leaves (sym f); outbox = refl })
 unmoved_of {v = v} (Finishes dual none e) h = rw e (record { pages = refl; them = refl; inbox = refl; outbox = sent_bare v.outbox Finish refl })
 unmoved_of e h = let q = in_place_of e refl in

@@ -1,5 +1,5 @@
 -- The transactions of a state where one of them is set.
-use Rattle.std.proofs.Common.{◌≡◌, ℕ, zero, suc, List, [], ◌∷◌, true, false, refl, ap, ◌∙◌, inl, inr}
+use Rattle.std.proofs.Common.{◌≡◌, ℕ, zero, suc, List, [], ◌∷◌, true, false, refl, sym, subst, ap, ◌∙◌, inl, inr}
 use Rattle.std.specs.Prelude.{◌⊎◌, slice_get, slice_set, map}
 use Rattle.std.proofs.lemmas.Bool.{false≢true}
 use Rattle.zy_isa.specs.declared.node.Node.{Node}
@@ -11,6 +11,7 @@ use Rattle.zy_table.specs.declared.status.Status.TheVariants.{New, Active, Commi
 use Rattle.zy_table.specs.Change.{nobody, txn_at, txn_or}
 use Rattle.zy_table.specs.Client.{is_active, is_new}
 use Rattle.zy_table.specs.Play.{blank}
+use Rattle.zy_table.specs.Serial.{is_committed}
 
 -- a transaction runs at n
 abbrev pub Stands : Txn → Node → Type 0
@@ -94,3 +95,23 @@ not_new (Aborted w) h = refl
 pub not_both_nodes : (n m : Node) → m ≡ n → m ≡ other n → ⊥
 not_both_nodes A m a b = cc
 not_both_nodes B m a b = cc
+
+-- an active transaction is not committed
+pub active_off : (s : Status) → is_active s ≡ true → is_committed s ≡ false
+active_off New h = refl
+active_off Active h = refl
+active_off Committed h = absurd (false≢true h)
+active_off (Aborted w) h = refl
+
+-- a new transaction is not committed
+pub new_off : (s : Status) → is_new s ≡ true → is_committed s ≡ false
+new_off New h = refl
+new_off Active h = refl
+new_off Committed h = absurd (false≢true h)
+new_off (Aborted w) h = refl
+
+-- whoever runs after t ended is another transaction
+pub ended_far : (v w : View) (t : ℕ) (y : Txn) → w.txns ≡ slice_set v.txns t y → is_active (txn_at v t).status ≡ true → is_active y.status ≡ false
+    → (u : ℕ) (m : Node) → IsAt w u m → u ≡ t → ⊥
+ended_far v w t y e on over u m a same =
+    false≢true (sym over ∙ subst (λ (x : Txn). is_active x.status ≡ true) (ap (txn_at w) same ∙ at_self v w t y e on) a.0)
