@@ -31,8 +31,8 @@ pub fn table_is_a_listing()
     ensures { (input : List ℕ) → IsVerdict input Table ↔ IsListing input }
 {}
 
-/// A listing that `run` writes passes: its scenario part is the canonical text of the scenario with its choices, which is
-/// UTF-8, and the verdict on it is `Table`.
+/// A listing that `run` writes passes: its scenario part is the canonical text of the scenario with its choices, which
+/// is UTF-8, and the verdict on it is `Table`.
 pub fn runs_are_tables()
     ensures prefix { (sc : Scenario) → IsScenario sc → cut (listing_run sc) ≡ canon sc }
     ensures text { (sc : Scenario) → IsScenario sc → utf8_fault (canon sc) ≡ None }

@@ -8,8 +8,8 @@ use Rattle.zy_engine.specs.declared.format.Format.{Format}
 use Rattle.zy_engine.specs.Faults.{ReadsInput, failed_reads, failed_writes, IsQuiet, IfRefused}
 use Rattle.zy_engine.specs.Inputs.{StandsFor, HasNoFault, IsRefusal}
 
--- the bytes that the reader reports and that the writer holds, the calls of each that failed, and how many bytes those of
--- the reader gave
+-- the bytes that the reader reports and that the writer holds, the calls of each that failed, and how many bytes the
+-- reader's calls gave
 pub record Streams : Type 0 where
   pub left : Option (List ℕ)
   pub written : Option (List ℕ)

@@ -22,7 +22,8 @@ Remains-then a b c text more rest last p q = (
 )
 
 -- a prefix of the rest and of what follows it went out
-pub Remains-stops : (a b c : Option (List ℕ)) (text more rest : List ℕ) → Remains a b text rest → WrotePrefix b c (rest ++ more) → WrotePrefix a c (text ++ more)
+pub Remains-stops : (a b c : Option (List ℕ)) (text more rest : List ℕ) → Remains a b text rest → WrotePrefix b c (rest ++ more)
+    → WrotePrefix a c (text ++ more)
 Remains-stops a b c text more rest p q = (
   p.0 ++ q.0,
   q.1,

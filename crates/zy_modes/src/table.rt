@@ -28,7 +28,8 @@ pub enum FinishLine {
 }
 
 /// What a message of this kind does at a node in this mode. `all_here`: with the page that it brings none is missing.
-/// A page that is asked for goes out only if it may leave, which this function does not decide. No line depends on the version.
+/// A page that is asked for goes out only if it may leave, which this function does not decide. No line depends on the
+/// version.
 pub fn on_message(mode: NodeMode, kind: Kind, all_here: bool, _version: Version) -> MessageLine
     ensures row { result ≡ spec.on_message mode kind all_here }
     ensures hands_over { HandsOver all_here result }
