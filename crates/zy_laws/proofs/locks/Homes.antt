@@ -1,6 +1,6 @@
 -- A transaction begins at a home, which is not idle.
 use Rattle.zy_modes.specs.Families.{is_home, is_destination, is_idle}
-use Rattle.std.proofs.Common.{List, [], false, refl, subst, sym, true, ℕ, ◌≡◌}
+use Rattle.std.proofs.Common.{List, false, refl, subst, sym, true, ℕ, ◌≡◌}
 use Rattle.std.specs.Prelude.{None, Option, Some}
 use Rattle.std.proofs.lemmas.Bool.{cond_both, false≢true}
 use Rattle.zy_isa.specs.Scenario.{Scenario}

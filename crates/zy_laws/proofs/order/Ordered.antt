@@ -1,5 +1,5 @@
 -- Every list is in its order: a step of a transaction keeps it, and so does a message that is no page.
-use Rattle.std.proofs.Common.{List, [], ap, arith, false, inl, inr, length, refl, subst, sym, ℕ, ◌+◌, ◌∙◌, ◌≡◌}
+use Rattle.std.proofs.Common.{List, ap, arith, false, inl, inr, length, refl, subst, sym, ℕ, ◌+◌, ◌∙◌, ◌≡◌}
 use Rattle.std.specs.Prelude.{max, slice_set}
 use Rattle.std.proofs.lemmas.Bool.{cases_eq}
 use Rattle.zy_isa.specs.Rows.{Rising}

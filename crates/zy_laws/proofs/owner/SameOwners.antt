@@ -1,5 +1,5 @@
 -- Steps that keep the shape of a node, or change its locks alone, keep roles and owners.
-use Rattle.std.proofs.Common.{[], ap, refl, subst, sym, false, ℕ, ◌∙◌, ◌≡◌}
+use Rattle.std.proofs.Common.{ap, refl, subst, sym, false, ℕ, ◌∙◌, ◌≡◌}
 use Rattle.std.specs.Prelude.{if◌then◌else◌, nat_lt}
 use Rattle.std.proofs.lemmas.Bool.{false≢true}
 use Rattle.zy_modes.specs.Families.{is_bare}

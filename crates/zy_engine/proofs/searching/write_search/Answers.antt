@@ -1,5 +1,5 @@
 -- The answer is that of the search; where there was no memory for it, nothing is known.
-use Rattle.std.proofs.Common.{◌∙◌, [], Ok, Err, refl, ap, subst}
+use Rattle.std.proofs.Common.{◌∙◌, Ok, Err, refl, ap, subst}
 use Rattle.std.proofs.lemmas.Result.{err_from_is_err_and}
 use Rattle.zy_io.specs.Writing.{Wrote}
 use Rattle.zy_machine.specs.Histories.{History}
