@@ -320,10 +320,21 @@ impl Debugger {
         ensures kept { self.new ≡ goes self.old self.new.position }
         ensures err { OnErr result (self.new ≡ self.old) }
     {
+        let (m, slot) = self.find_next()?;
+        self.go(m)?;
+        Ok(slot)
+    }
+
+    /// The next position at which a stop fires, and the lowest slot that does; else the end.
+    fn find_next(&self) -> Result<(usize, Option<usize>), AllocError>
+        ensures found { IfOk result (λ found.
+            Conts self.now.scenario self.now.stops self.now.position found.1 found.0) }
+        ensures slot { IfOk result (λ found. IfSome found.1 (λ n. n < 16)) }
+        ensures most { IfOk result (λ found. found.0 ≤ length self.now.scenario.choices) }
+    {
         let mut machine = self.machine.copy(self.alloc)?;
         let slot = cont(self.alloc, &mut machine, self.stops.slots())?;
-        self.go(machine.len())?;
-        Ok(slot)
+        Ok((machine.len(), slot))
     }
 
     /// Goes back to the last position below at which a stop fires, and returns the lowest slot that does; else to the

@@ -1,8 +1,8 @@
-use Rattle.zy_debug.proofs.debugger.Debugger.cont.Goals as goal
+use Rattle.zy_debug.proofs.debugger.Debugger.find_next.Goals as goal
 
-pub returns-clause-stops : goal.returns-clause-stops
-returns-clause-stops c =
-    rw (c.in_ok-go.ensures.ok, c.len.ensures.value, ← c.self.view_is)
+pub returns-clause-found : goal.returns-clause-found
+returns-clause-found c =
+    rw (c.len.ensures.value, ← c.self.view_is)
     (rw (c.in_ok-machine.ensures, c.slots.ensures.slots) at c.in_ok-slot.ensures.stops)
 
 pub returns-clause-slot : goal.returns-clause-slot
