@@ -37,7 +37,7 @@ use Rattle.zy_laws.proofs.counts.SafeCounts.{safe, program_is}
 use Rattle.zy_laws.proofs.room.RoomAtCommit.{fits}
 use Rattle.zy_laws.proofs.order.ListsInOrder.{in_order, ordered_from, tidy}
 use Rattle.zy_laws.proofs.places.Boundary.{boundary_new}
-use Rattle.zy_laws.proofs.locks.CutLocks.{home_placed}
+use Rattle.zy_laws.proofs.locks.Runners.{home_placed}
 use Rattle.zy_laws.proofs.order.Rising.{rows_at}
 use Rattle.zy_laws.proofs.locks.Reached.{kept_from, reached}
 use Rattle.zy_laws.proofs.walk.ModeLines.{starts_from}

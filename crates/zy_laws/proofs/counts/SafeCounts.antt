@@ -23,7 +23,7 @@ program_is [] t h within = absurd (omega arith)
 program_is (p ∷ ps) zero h within = h.0
 program_is (p ∷ ps) (suc t) h within = program_is ps t h.1 (omega arith)
 
--- over every schedule
+-- the sums in a state after `count` choices
 record Sums (sc : Scenario) (count : ℕ) (s : State) : Type 0 where
   each : (t : ℕ) → t < length sc.programs → Counted sc count t (txn_or (slice_get s.txns t))
   txns : length s.txns ≡ length sc.programs

@@ -1,13 +1,11 @@
 -- A page is cut: whoever locks it alone locks the new page alone.
-use Rattle.zy_wire.proofs.PageOf.{page_of-within}
-use Rattle.std.proofs.Common.{List, [], ap, false, inl, inr, length, refl, subst, sym, true, ℕ, ◌++◌, ◌+◌, ◌≤◌, ◌∙◌, ◌∷◌, ◌≡◌, length-append, arith, ◌<◌}
+use Rattle.std.proofs.Common.{List, [], ap, false, inl, inr, length, refl, subst, sym, true, ℕ, ◌++◌, ◌+◌, ◌≤◌, ◌∙◌, ◌∷◌, ◌≡◌, length-append, arith}
 use Rattle.std.specs.Prelude.{Contains, ◌⊎◌}
 use Rattle.std.proofs.lemmas.Bool.{eq-eqb, or_left, or_right}
 use Rattle.zy_isa.specs.Rows.{Rising}
 use Rattle.zy_isa.specs.Scenario.{Scenario}
 use Rattle.zy_isa.specs.declared.node.Node.{Node}
 use Rattle.zy_locks.specs.Locks.{add_lock}
-use Rattle.zy_locks.specs.declared.lock.LockKind.{LockKind}
 use Rattle.zy_locks.specs.declared.lock.LockKind.TheVariants.{Exclusive}
 use Rattle.zy_page.specs.Leaf.{rows_from}
 use Rattle.zy_wire.specs.Wireframe.{page_of}
@@ -24,7 +22,8 @@ use Rattle.zy_laws.proofs.places.CutPages.{placed_cut}
 use Rattle.zy_laws.proofs.walk.Events.{page, Free, has_lock}
 use Rattle.zy_laws.proofs.places.Installing.{Placed, placed_front}
 use Rattle.zy_table.proofs.LockLists.{alone-add, alone_more, alone_new, exclusive_holds, holds-add}
-use Rattle.zy_laws.proofs.locks.Locking.{Kept, Locking, idle_locking, lock_taken, whole}
+use Rattle.zy_laws.proofs.locks.Runners.{has_lock_locking, home_placed}
+use Rattle.zy_laws.proofs.locks.Locking.{Kept, Locking, idle_locking, whole}
 use Rattle.zy_laws.proofs.places.PageValues.{rest_lacks, rest_of}
 use Rattle.zy_laws.proofs.owner.Roles.{Inv, normal_other}
 use Rattle.zy_laws.proofs.walk.Txns.{IsAt}
@@ -80,23 +79,6 @@ cut_locking sc n v lows more t p b l begins mine on =
 
 -- a state seen from n, where t runs, and its newest low keys
 module _ (sc : Scenario) (n : Node) (v : View) (lows : List ℕ) (t : ℕ) (h : Kept sc n v lows) (at : IsAt v t n) where
-  -- a key's page is one of the wireframe
-  pub within : (key : ℕ) → page_of v.me.lows key < length lows
-  within key =
-      let some = subst (λ l. page_of l key < length l) (sym h.first.1) (page_of-within (0 ∷ h.first.0) key (omega arith)) in
-      subst (λ l. page_of l key < length lows) (sym (h.mine.newest (h.mine.busy t at))) some
-
-  -- the lock that a step takes, before the rest of it
-  pub has_lock_locking : (key : ℕ) (kind : LockKind) → Free t key kind v → Locking sc n (has_lock t key kind v).me (has_lock t key kind v) lows
-  unfolding locked txn_at
-  has_lock_locking key kind f =
-      lock_taken sc n v (has_lock t key kind v) lows t (page_of v.me.lows key) kind h.mine at (within key) f.here f.free
-      (λ u a. a) (λ u a. a) (λ u j a s. inl s)
-
-  -- the pages of the node lie by its own low keys
-  pub home_placed : Placed v.me.lows v.me.pages
-  home_placed = subst (λ l. Placed l v.me.pages) (sym (h.mine.newest (h.mine.busy t at))) (placed_front lows v.me.pages (rest_of v) h.placed).0
-
   -- a split keeps it, with one low key more
   pub cut_kept : (k b : ℕ) → Free t k Exclusive v → may_split v.me.mode ≡ true
       → page_of v.me.lows b ≡ page_of v.me.lows k → (Contains v.me.lows b → ⊥) → Inv (cut t (page_of v.me.lows k) b (has_lock t k Exclusive v))
@@ -119,7 +101,7 @@ module _ (sc : Scenario) (n : Node) (v : View) (lows : List ℕ) (t : ℕ) (h : 
         first = (more ++ b ∷ [], ap (λ l. l ++ b ∷ []) h.first.1);
         placed = subst (λ l. Placed (l ++ b ∷ []) (pages (length v.me.lows))) (sym h.first.1)
             (subst (λ l. Placed ((0 ∷ more) ++ b ∷ []) (pages (length l))) (sym begins) now);
-        mine = cut_locking sc n (has_lock t k Exclusive v) lows more t p b (has_lock_locking k Exclusive f) h.first.1
+        mine = cut_locking sc n (has_lock t k Exclusive v) lows more t p b (has_lock_locking sc n v lows t h at k Exclusive f) h.first.1
             (alone_new p t v.me.locks) (ap (λ l. page_of l b) (sym newest) ∙ on);
         theirs = idle_locking sc (other n) v.them v.them v _ lows (lows ++ b ∷ []) h.theirs idle.0 idle.0 refl refl;
       }
@@ -127,7 +109,7 @@ module _ (sc : Scenario) (n : Node) (v : View) (lows : List ℕ) (t : ℕ) (h : 
   -- the boundary lies on the page that is cut
   pub split_on : (key : ℕ) → has_room sc (page key v) v.me (txn_at v t) ≡ false
       → page_of v.me.lows (boundary sc key (page key v) v.me (txn_at v t)) ≡ page key v
-  split_on key full = boundary_on sc t key (page key v) v home_placed refl full
+  split_on key full = boundary_on sc t key (page key v) v (home_placed sc n v lows t h at) refl full
 
   -- the boundary is no low key yet
   pub split_new : (key : ℕ) → 2 ≤ sc.cap → Rising 0 (rows_of v.me.pages (page key v)) → Rising 0 (txn_at v t).rows
@@ -135,4 +117,4 @@ module _ (sc : Scenario) (n : Node) (v : View) (lows : List ℕ) (t : ℕ) (h : 
       → Contains v.me.lows (boundary sc key (page key v) v.me (txn_at v t)) → ⊥
   split_new key two rows private new full =
       let begins = h.mine.newest (h.mine.busy t at) ∙ h.first.1 in
-      boundary_new sc t key (page key v) v h.first.0 begins two home_placed refl full rows private new
+      boundary_new sc t key (page key v) v h.first.0 begins two (home_placed sc n v lows t h at) refl full rows private new

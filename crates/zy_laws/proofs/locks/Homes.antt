@@ -29,7 +29,7 @@ destination_runs DDual h = refl
 destination_runs DFinish h = refl
 destination_runs m h = absurd (false≢true h)
 
--- a node that h is, where h is this one
+-- where o names h, that node is not idle
 abbrev Busy : NodeMode → NodeMode → Option Node → Node → Type 0
 Busy a b o h = o ≡ Some h → (h ≡ A → is_idle a ≡ false) × (h ≡ B → is_idle b ≡ false)
 

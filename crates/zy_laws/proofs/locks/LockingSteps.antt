@@ -1,6 +1,6 @@
 -- Each step of the table keeps locks, private rows and the places of rows.
 use Rattle.zy_modes.specs.Families.{is_source, is_taker, is_idle}
-use Rattle.zy_laws.proofs.owner.PageOwners.{sends_source}
+use Rattle.zy_laws.proofs.walk.ModeLines.{sends_source}
 use Rattle.std.proofs.Common.{List, [], ap, false, inl, inr, refl, subst, suc, sym, true, zero, ℕ, ◌+◌, ◌≤◌, ◌∙◌, ◌∷◌, ◌≡◌}
 use Rattle.std.specs.Prelude.{None, Some, if◌then◌else◌, slice_get, ◌&&◌}
 use Rattle.std.proofs.lemmas.Bool.{and_from, cond_both, false≢true, or_right}
@@ -80,9 +80,9 @@ no_active : (n : Node) (v : View) (t : ℕ) → active_from n 0 v.txns ≡ None 
 unfolding txn_at
 no_active n v t e a = active_none n 0 v.txns t e a
 
--- a state seen from n, its newest low keys, and a step that changes n's own node and its links
+-- a state seen from n, and its newest low keys
 module _ (sc : Scenario) (n : Node) (v : View) (lows : List ℕ) (k : Kept sc n v lows) where
-  -- whatever changes there
+  -- a step that changes n's own node and its links keeps it
   node_kept : {x : NodeState} {inbox outbox : List Message} → let w : View = record v { me = x; inbox = inbox; outbox = outbox } in
       Placed lows (whole w) → Locking sc n x w lows → Inv w → Kept sc n w lows
   node_kept placed mine i = record {

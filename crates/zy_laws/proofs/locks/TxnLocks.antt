@@ -17,7 +17,7 @@ use Rattle.zy_table.specs.Numbers.{has}
 use Rattle.zy_table.specs.Pages.{owns}
 use Rattle.zy_table.specs.Ranges.{range_pages}
 use Rattle.zy_table.specs.State.{Txn, View, other}
-use Rattle.zy_laws.proofs.locks.CutLocks.{within}
+use Rattle.zy_laws.proofs.locks.Runners.{within}
 use Rattle.zy_table.proofs.RangeLists.{has_first, key_of_page}
 use Rattle.zy_table.proofs.SharedLocks.{conflict_own}
 use Rattle.zy_laws.proofs.walk.Events.{Free, has_lock, FreeRange, has_locks}

@@ -3,7 +3,6 @@ use Rattle.std.proofs.Common.{List, [], ap, arith, false, true, length, length-a
 use Rattle.zy_isa.specs.Scenario.{Scenario}
 use Rattle.zy_isa.specs.declared.node.Node.{Node}
 use Rattle.zy_locks.proofs.Rising.{rise_add}
-use Rattle.zy_locks.specs.declared.lock.LockKind.{LockKind}
 use Rattle.zy_locks.specs.declared.lock.LockKind.TheVariants.{Exclusive, Shared}
 use Rattle.zy_table.specs.Change.{cut, leaves, locked, txn_at}
 use Rattle.zy_table.specs.Database.{sent_leaves}
@@ -16,7 +15,7 @@ use Rattle.zy_laws.proofs.order.Rising.{numbers-lowered, rises_from, rows_at}
 use Rattle.zy_laws.proofs.order.Rising.{rows_rise-lowered, rows_rise-with_page, asked_drop, numbers-without, rows_rise-without, rows_rise-last, length-without}
 use Rattle.zy_laws.proofs.owner.Roles.{Inv, Owned, fresh_number, normal_other, not_here}
 use Rattle.zy_laws.proofs.owner.LinkOwners.{done_wide, pulled_inv, wire_wide}
-use Rattle.zy_laws.proofs.owner.SameOwners.{locks_inv}
+use Rattle.zy_laws.proofs.owner.SameOwners.{has_lock_inv}
 use Rattle.zy_laws.proofs.owner.MovingPages.{sent_leaves-append, sent_bare}
 use Rattle.zy_laws.proofs.owner.PageCounts.{owns-times}
 use Rattle.zy_links.specs.Messages.{Wire, Ready, Dual, Page, Finish, Done}
@@ -59,11 +58,6 @@ cut_ordered t p b v o i normal =
           let same = length-lowered p b v.me.pages in
           omega (arith, k, long, more, same, wide);
     }
-
--- a lock keeps roles and owners
-has_lock_inv : (t k : ℕ) (kind : LockKind) (v : View) → Inv v → Inv (has_lock t k kind v)
-unfolding locked
-has_lock_inv t k kind v i = locks_inv v (has_lock t k kind v) (refl, refl, refl) refl refl refl i
 
 -- a page that leaves keeps the order
 leaves_ordered : (p : ℕ) (v : View) → Owned v → Ordered v → owns v.me.pages p ≡ true → Ordered (leaves p v)

@@ -21,7 +21,7 @@ use Rattle.zy_laws.proofs.owner.PhaseSteps.{asked_for, destination_same, done_ca
 use Rattle.zy_laws.proofs.owner.PhaseSteps.{in_finish, no_pull, pull_came, ready_came, source_of, started, taker_of, wire_came}
 use Rattle.zy_laws.proofs.owner.Roles.{Bare, Destination, Inv, Owned, Roles, Source, turned, turned_inv, width}
 use Rattle.zy_laws.proofs.owner.SameOwners.{bare_never, locks_shape, owned_same}
-use Rattle.zy_laws.proofs.owner.PageOwners.{pulls_taker}
+use Rattle.zy_laws.proofs.walk.ModeLines.{pulls_taker}
 
 -- the test that all pages are here is right
 there_of : (x : NodeState) → all_here x ≡ true → AllThere x
@@ -80,7 +80,7 @@ module _ (v : View) (i : Inv v) where
       let ph = taker_of (turned v) (turned_inv v i).roles (ap is_taker empty) in
       links_inv (Source (started ph normal empty)) (bare_never _ SInit refl refl) refl (λ p. refl) (posted (Wire v.me.lows) (λ p. refl))
 
-  -- a wireframe that is taken is no longer than the other node's
+  -- a wireframe that is taken is at most as long as the other node's
   pub wire_wide : (lows : List ℕ) (ms : List Message) → v.inbox ≡ Wire lows ∷ ms → v.me.mode ≡ Empty → max (length lows) (length v.them.lows) ≡ width v
   wire_wide lows ms f empty =
       let came = wire_came (taker_of v i.roles (ap is_taker empty)) f in

@@ -21,7 +21,7 @@ abbrev pub times_sent : ℕ → List Message → ℕ
 times_sent p [] = 0
 times_sent p (m ∷ ms) = times_in p m + times_sent p ms
 
--- a page that is counted is owned, and the other way round
+-- a page that is owned is counted
 pub owns-times : (p : ℕ) (xs : List Leaf) → owns xs p ≡ true → 1 ≤ times p xs
 owns-times p [] e = absurd (false≢true e)
 owns-times p (x ∷ xs) e =

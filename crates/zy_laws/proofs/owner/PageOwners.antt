@@ -1,11 +1,10 @@
 -- A page that is cut, leaves or arrives keeps roles and owners.
-use Rattle.std.proofs.Common.{List, [], ap, arith, inl, inr, length, length-append, refl, true, false, ℕ, ◌+◌, ◌∙◌, ◌∷◌, ◌≡◌, ◌<◌, ◌≤◌}
+use Rattle.std.proofs.Common.{List, [], ap, arith, inl, inr, length, length-append, refl, true, ℕ, ◌+◌, ◌∙◌, ◌∷◌, ◌≡◌, ◌<◌, ◌≤◌}
 use Rattle.std.specs.Prelude.{if◌then◌else◌, ◌==◌}
 use Rattle.std.proofs.lemmas.Bool.{cases_eq}
 use Rattle.std.proofs.lemmas.Bool.Decides.{nat_tests}
-use Rattle.zy_modes.specs.Families.{is_source, is_taker, is_sending, is_bare}
+use Rattle.zy_modes.specs.Families.{is_sending}
 use Rattle.zy_links.specs.Messages.{Page}
-use Rattle.zy_modes.specs.declared.mode.NodeMode.{NodeMode}
 use Rattle.zy_modes.specs.declared.mode.NodeMode.TheVariants.{Normal}
 use Rattle.zy_modes.specs.Table.{may_pull, may_split}
 use Rattle.zy_table.specs.Change.{cut, leaves}
@@ -13,7 +12,7 @@ use Rattle.zy_laws.specs.OneOwner.{times}
 use Rattle.zy_table.specs.Pages.{leaf_at, lowered, owns, without}
 use Rattle.zy_table.specs.State.{Leaf, Message, View}
 use Rattle.zy_laws.proofs.walk.Events.{arrived, rest}
-use Rattle.zy_laws.proofs.walk.ModeLines.{pulls_in, sends_in, splits_in_normal}
+use Rattle.zy_laws.proofs.walk.ModeLines.{pulls_bare, pulls_taker, sends_source, splits_in_normal}
 use Rattle.zy_laws.proofs.owner.MovingPages.{leaf_at-number}
 use Rattle.zy_laws.proofs.owner.PageCounts.{owns-times, times-lowered, times-with_page, times-without, times_sent, times_sent-post}
 use Rattle.zy_laws.proofs.owner.Phases.{AllThere}
@@ -66,18 +65,6 @@ module _ (t p b : ℕ) (v : View) where
         theirs = i.theirs;
       }
 
--- a mode tells which of the two a node is
-pub sends_source : (m : NodeMode) → is_sending m ≡ true → is_source m ≡ true
-sends_source m s = elim (sends_in m s) [ inl e ↦ ap is_source e | inr e ↦ ap is_source e ]
-
--- who may ask for pages is a destination that takes them
-pub pulls_taker : (m : NodeMode) → may_pull m ≡ true → is_taker m ≡ true
-pulls_taker m s = elim (pulls_in m s) [ inl e ↦ ap is_taker e | inr e ↦ ap is_taker e ]
-
--- who may ask for pages is in no bare mode
-pulls_bare : (m : NodeMode) → may_pull m ≡ true → is_bare m ≡ false
-pulls_bare m s = elim (pulls_in m s) [ inl e ↦ ap is_bare e | inr e ↦ ap is_bare e ]
-
 -- a page that leaves is counted in its message
 left_counts : (v : View) (p q : ℕ) → owns v.me.pages p ≡ true → Owned v → times q (without p v.me.pages) + (if p == q then 1 else 0) ≡ times q v.me.pages
 left_counts v p q own o =
@@ -90,7 +77,7 @@ left_counts v p q own o =
       | inr other ↦ grind (arith, nat_tests, e)
     ]
 
--- a page is below the width, so a destination that has all pages has it too
+-- a page that is here is not at a destination that has all pages
 pub not_both : (v : View) (p : ℕ) → Owned v → owns v.me.pages p ≡ true → length v.me.lows ≤ length v.them.lows → AllThere v.them → ⊥
 not_both v p o own le all =
     let one = owns-times p v.me.pages own in

@@ -1,5 +1,8 @@
 -- Steps that keep the shape of a node, or change its locks alone, keep roles and owners.
 use Rattle.std.proofs.Common.{ap, refl, subst, sym, false, ℕ, ◌∙◌, ◌≡◌}
+use Rattle.zy_locks.specs.declared.lock.LockKind.{LockKind}
+use Rattle.zy_table.specs.Change.{locked}
+use Rattle.zy_laws.proofs.walk.Events.{has_lock}
 use Rattle.std.specs.Prelude.{if◌then◌else◌, nat_lt}
 use Rattle.std.proofs.lemmas.Bool.{false≢true}
 use Rattle.zy_modes.specs.Families.{is_bare}
@@ -42,3 +45,8 @@ locks_inv v w e a b c i = shape_inv v w (locks_shape v.me w.me e) a b c i
 -- a node in a mode that is not bare need not be without pages
 pub bare_never : (y : NodeState) (m : NodeMode) → y.mode ≡ m → is_bare m ≡ false → Bare y
 bare_never y m mode h = record { none = λ s. absurd (false≢true (sym (ap is_bare mode ∙ h) ∙ s)) }
+
+-- a lock keeps roles and owners
+pub has_lock_inv : (t k : ℕ) (kind : LockKind) (v : View) → Inv v → Inv (has_lock t k kind v)
+unfolding locked
+has_lock_inv t k kind v i = locks_inv v (has_lock t k kind v) (refl, refl, refl) refl refl refl i

@@ -111,7 +111,7 @@ module _ (sc : Scenario) (n : Node) (v : View) (lows : List ℕ) (f : Fit sc n v
             (subst (λ (x : Txn). Each (Room sc.cap lows x.rows) v.them.pages) (sym (same t)) (f.theirs t (subst (λ x. Stands x (other n)) (same t) at)));
       }
 
-  -- steps in which t alone changes, and perhaps its node
+  -- steps in which t alone changes, and perhaps n's own node
   pub fit_acts : {x : NodeState} {commits : List CommitRec} (t : ℕ) (y : Txn)
       → let w : View = record v { me = x; txns = slice_set v.txns t y; commits = commits } in
       (txn_at w t ≡ y) ⊎ ((txn_at w t ≡ txn_at v t) × (is_active (txn_at v t).status ≡ false)) → Rising 0 y.rows → Each (Sized sc.cap) (whole w)

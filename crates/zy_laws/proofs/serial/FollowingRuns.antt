@@ -1,4 +1,4 @@
--- What an instruction does in the lone run of its program: it sees what the step sees, and leads where the step leads.
+-- How far a transaction has come in the lone run of its program, after an instruction, a begin or a split.
 use Rattle.std.proofs.Common.{List, [], add-one, ap, length, false, inl, inr, refl, subst, sym, true, ℕ, ◌%◌, ◌+◌, ◌^◌, ◌∙◌, ◌++◌, ◌∷◌, ◌≡◌}
 use Rattle.std.specs.Prelude.{None, Option, Some, is_some, nat_lt, slice_get, unwrap_or, ◌==◌, ◌||◌}
 use Rattle.std.specs.FinMap.{get}
@@ -173,7 +173,7 @@ begun_follows sc v lows locks h m t u new f at =
       | inr far ↦ let now = at_other v w t u y refl far in follows_same (f u (subst (λ x. Stands x m) now at)) refl now (λ p h. h)
     ]
 
--- a split moves the keys of t's page alone
+-- a split keeps what a transaction follows: it moves the keys of t's page alone
 pub cut_follows : (program : List Instr) (d e : Map) (more : List ℕ) (locks : List Lock) (q b t u : ℕ) (x : Txn) → e ≡ d → length (0 ∷ more) ≡ q
     → ((k : ℕ) → page_of (0 ∷ more) b ≡ page_of (0 ∷ more) k → holds locks (page_of (0 ∷ more) k) u ≡ true → u ≡ t) → Follows program d (0 ∷ more) locks u x
     → Follows program e ((0 ∷ more) ++ b ∷ []) (add_lock q t Exclusive locks) u x

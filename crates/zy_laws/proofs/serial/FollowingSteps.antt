@@ -32,7 +32,8 @@ use Rattle.zy_laws.proofs.walk.Events.{Splits, lows_after, GoesOn, Leads}
 use Rattle.zy_laws.proofs.serial.Following.{Follows, Serially, follows_same, keep_registers, registers_same}
 use Rattle.zy_laws.proofs.serial.FollowingRuns.{begun_follows, cut_follows, key_follows, leads_step, plain_follows, range_follows, read_value}
 use Rattle.zy_laws.proofs.serial.FollowingRuns.{small_insert, small_read, small_sum, small_write, sum_value, there_value}
-use Rattle.zy_laws.proofs.locks.CutLocks.{has_lock_locking, split_on}
+use Rattle.zy_laws.proofs.locks.Runners.{has_lock_locking}
+use Rattle.zy_laws.proofs.locks.CutLocks.{split_on}
 use Rattle.zy_table.proofs.LockLists.{alone_new, holds-drop, holds_more}
 use Rattle.zy_table.proofs.SharedLocks.{holds_more_shared}
 use Rattle.zy_laws.proofs.locks.Locking.{Kept, nobody_runs}
@@ -105,7 +106,7 @@ module _ (sc : Scenario) (n : Node) (v : View) (start : Map) (lows : List ℕ) (
       (subst (λ l. Follows (program_of sc t) (db v) lows (share_all (range_pages l a b) t v.me.locks) t y) (sym newest)
       (range_follows (program_of sc t) (db v) lows v.me.locks t (txn_at v t) runs.instr e runs.next runs.does (s.mine t at) a b pc regs step)) h
 
-  -- an aborted transaction is no more to be followed
+  -- an abort keeps it
   aborted_serial : (t : ℕ) (why : Why) → IsAt v t n → Kept sc n (aborted t why v) lows → Serially sc n (aborted t why v) start lows
   unfolding aborted
   aborted_serial t why at k =

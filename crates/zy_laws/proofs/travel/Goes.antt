@@ -24,7 +24,7 @@ use Rattle.zy_laws.proofs.walk.Events.{Told, Commits, Event, Gives, GotLast, Got
 use Rattle.zy_laws.proofs.places.Installing.{owns-installed}
 use Rattle.zy_laws.proofs.owner.MovingPages.{leaf_at-number, owns-sent_post, owns-without, owns-without_other, sent_bare}
 use Rattle.zy_laws.proofs.owner.LinkOwners.{pulled_inv}
-use Rattle.zy_laws.proofs.owner.PageOwners.{sends_source}
+use Rattle.zy_laws.proofs.walk.ModeLines.{sends_source}
 use Rattle.zy_laws.proofs.owner.SameOwners.{locks_inv}
 use Rattle.zy_laws.proofs.owner.PageCounts.{owns-times, owns_none, times-sent_leaves, times_sent}
 use Rattle.zy_laws.proofs.owner.Roles.{Inv, Owned, normal_other}

@@ -1,4 +1,4 @@
--- A page appears where it is split off, leaves the source, arrives at the destination, and never goes back.
+-- A page appears where it is split off, leaves the source, arrives at the destination, and moves in no other way.
 use Rattle.std.proofs.Common.{Bool, List, arith, false, refl, sym, true, ℕ, ◌∙◌, ◌≡◌}
 use Rattle.std.specs.Prelude.{if◌then◌else◌}
 use Rattle.std.proofs.lemmas.Bool.{false≢true}

@@ -1,10 +1,10 @@
 -- The lines of the mode table, one lemma for each kind of message.
-use Rattle.std.proofs.Common.{◌≡◌, Bool, true, false, refl, inl, inr}
+use Rattle.std.proofs.Common.{◌≡◌, Bool, true, false, ap, refl, inl, inr}
 use Rattle.std.specs.Prelude.{◌⊎◌, Some, None, unwrap_or}
 use Rattle.std.proofs.lemmas.Bool.{cond_both, false≢true}
 use Rattle.zy_isa.specs.declared.version.Version.{Version}
 use Rattle.zy_isa.specs.declared.version.Version.TheVariants.{One}
-use Rattle.zy_modes.specs.Families.{is_sending}
+use Rattle.zy_modes.specs.Families.{is_bare, is_sending, is_source, is_taker}
 use Rattle.zy_isa.specs.declared.node.Node.TheVariants.{A}
 use Rattle.zy_modes.specs.declared.mode.NodeMode.{NodeMode}
 use Rattle.zy_modes.specs.declared.mode.NodeMode.TheVariants.{Empty, Normal, SInit, SDual, SFinish, DInit, DDual, DFinish}
@@ -94,3 +94,15 @@ starts_from mode b h = absurd (false≢true h)
 -- in version 1 a migration starts from A
 pub starts_at_a : (a b : NodeMode) (version : Version) → version ≡ One → unwrap_or (on_start a b version) A ≡ A
 starts_at_a a b version one = rw one (cond_both (may_start a b) (Some A) None (λ o. unwrap_or o A ≡ A) (λ _. refl) (λ _. refl))
+
+-- a mode that sends pages is a source's
+pub sends_source : (m : NodeMode) → is_sending m ≡ true → is_source m ≡ true
+sends_source m s = elim (sends_in m s) [ inl e ↦ ap is_source e | inr e ↦ ap is_source e ]
+
+-- who may ask for pages is a destination that takes them
+pub pulls_taker : (m : NodeMode) → may_pull m ≡ true → is_taker m ≡ true
+pulls_taker m s = elim (pulls_in m s) [ inl e ↦ ap is_taker e | inr e ↦ ap is_taker e ]
+
+-- who may ask for pages is in no bare mode
+pub pulls_bare : (m : NodeMode) → may_pull m ≡ true → is_bare m ≡ false
+pulls_bare m s = elim (pulls_in m s) [ inl e ↦ ap is_bare e | inr e ↦ ap is_bare e ]
