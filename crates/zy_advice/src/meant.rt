@@ -55,17 +55,17 @@ fn is_near(word: &[u8], other: &[u8]) -> bool {
     if word.len() < 2 || other.len() < 2 {
         return false;
     }
-    let front = common_front(word, other);
-    let word = word.get(front..).unwrap_or(&[]);
-    let other = other.get(front..).unwrap_or(&[]);
+    let prefix = common_prefix(word, other);
+    let word = word.get(prefix..).unwrap_or(&[]);
+    let other = other.get(prefix..).unwrap_or(&[]);
     let back = common_back(word, other);
     let word = word.get(..word.len().saturating_sub(back));
     let other = other.get(..other.len().saturating_sub(back));
     is_one_mistake(word.unwrap_or(&[]), other.unwrap_or(&[]))
 }
 
-/// How many bytes two words begin with in common.
-fn common_front(word: &[u8], other: &[u8]) -> usize {
+/// How long the longest common prefix of two words is.
+fn common_prefix(word: &[u8], other: &[u8]) -> usize {
     let mut count = 0usize;
     for (byte, there) in word.iter().zip(other.iter()) {
         if byte != there {

@@ -32,7 +32,7 @@ cons_same x y xs ys e = rw e refl
 pub cons_other : (x y : ℕ) (xs ys : List ℕ) → (x == y) ≡ false → common (x ∷ xs) (y ∷ ys) ≡ []
 cons_other x y xs ys e = rw e refl
 
--- a front that both have
+-- a prefix that both have
 pub common_shared : (fs xs ys : List ℕ) → common (fs ++ xs) (fs ++ ys) ≡ fs ++ common xs ys
 common_shared [] xs ys = refl
 common_shared (a ∷ fs) xs ys = cons_same a a (fs ++ xs) (fs ++ ys) (same_self a) ∙ ap (λ l. a ∷ l) (common_shared fs xs ys)
@@ -99,7 +99,7 @@ pub apart_eq : (y : ℕ) (xs ys : List ℕ) → common xs (y ∷ ys) ≡ [] → 
 apart_eq y [] ys h = refl
 apart_eq y (x ∷ xs) ys h = elim (cases_Bool (x == y)) [ inl e ↦ not_cons x (common xs ys) _ (cons_same x y xs ys e) h | inr e ↦ eq_other x y xs ys e ]
 
--- two texts with a common front and nothing behind it
+-- two texts with a common prefix and nothing behind it
 pub differs_shared : (fs xs ys : List ℕ) → common xs ys ≡ [] → differs (fs ++ xs) (fs ++ ys) ≡ feeds fs + 1
 differs_shared fs xs ys h = ap (λ l. feeds l + 1) (common_shared fs xs ys ∙ ap (λ l. fs ++ l) h ∙ append-nil fs)
 

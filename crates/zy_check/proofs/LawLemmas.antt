@@ -74,12 +74,12 @@ common_right (x ∷ xs) [] = ([], refl)
 common_right (x ∷ xs) (y ∷ ys) = elim (cases_Bool (x == y)) [ inl e ↦ right_same x y xs ys e (common_right xs ys) | inr e ↦ right_other x y xs ys e ]
 
 -- what both begin with is no longer
-front_le : (fs xs ys : List ℕ) → length fs ≤ length (common (fs ++ xs) (fs ++ ys))
-front_le fs xs ys = rw (common_shared fs xs ys) (omega (arith, length-append fs (common xs ys)))
+prefix_le : (fs xs ys : List ℕ) → length fs ≤ length (common (fs ++ xs) (fs ++ ys))
+prefix_le fs xs ys = rw (common_shared fs xs ys) (omega (arith, length-append fs (common xs ys)))
 
 -- no prefix of both is longer
 prefixes_le : (fs x y : List ℕ) → IsPrefix fs x → IsPrefix fs y → length fs ≤ length (common x y)
-prefixes_le fs x y p q = rw (p.1, q.1) (front_le fs p.0 q.0)
+prefixes_le fs x y p q = rw (p.1, q.1) (prefix_le fs p.0 q.0)
 
 -- so it is the longest
 pub common-longest : (x y : List ℕ) → IsLongestShared (common x y) x y

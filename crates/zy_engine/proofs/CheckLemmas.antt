@@ -8,7 +8,7 @@ use Rattle.zy_check.specs.Verdicts.{IsVerdict}
 use Rattle.zy_engine.specs.Checks.{WroteOrNothing, verdict_line}
 use Rattle.zy_engine.proofs.RunLemmas.{WrotePrefix-nothing}
 
--- all of a text, nothing and a prefix of it are fronts of it
+-- all of a text, nothing and a prefix of it are prefixes of it
 pub tell-prefix : {X : Type 0} (old new : Option (List ℕ)) (before after : ℕ) (r : Result X TextFault) (text : List ℕ)
     → WroteOrNothing old new before after r text → WrotePrefix old new text
 tell-prefix old new before after (Ok x) text w = (text, [], sym (append-nil text), w.0)

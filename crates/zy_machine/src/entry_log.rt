@@ -178,7 +178,7 @@ impl EntryLog {
         }
     }
 
-    /// Makes room for a step by a choice. A history that is not known to go on so is no longer shared.
+    /// Makes room for a step by a choice. A shared history that is not known to go on so becomes its own.
     #[inline(always)]
     pub(crate) fn make_room(&mut self, choice: Choice) -> Result<(), AllocError>
         ensures room { OnOk result (IsReadyFor choice self.new) }

@@ -1,4 +1,4 @@
--- The scenario that the front means is the one that was run.
+-- The scenario that the scenario part means is the one that was run.
 use Rattle.std.proofs.Common.{◌≡◌, ◌∙◌, None, take, sym, ap, subst}
 use Rattle.zy_isa.specs.Scenario.{Scenario}
 use Rattle.zy_text.specs.Text.{Means}
