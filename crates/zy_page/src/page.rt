@@ -14,14 +14,21 @@ const ROOM: usize = MAX_CAP as usize;
 /// What a place without a row has.
 const BLANK: Row = Row { key: 0, value: 0 };
 
-/// A leaf page. Its rows lie in the page itself, which has a place for each that a scenario lets a page have: nothing
-/// that is done with it takes memory.
-#[derive(Drop)]
-pub struct Page {
+/// What a page is: its number, its low key, and its cells, of which the first `len` have its rows. It is copied in one
+/// piece.
+#[derive(Clone, Copy)]
+struct PageState {
     number: u16,
     low: u16,
     len: usize,
     cells: [Row; ROOM],
+}
+
+/// A leaf page. Its rows lie in the page itself, which has a place for each that a scenario lets a page have: nothing
+/// that is done with it takes memory.
+#[derive(Drop)]
+pub struct Page {
+    state: PageState,
 }
 
 impl Model for Page {
@@ -31,9 +38,9 @@ impl Model for Page {
 
     ghost Value = { Leaf };
 
-    ghost view = { λ a. record { number = a.number; low = a.low; rows = take a.len a.cells } };
+    ghost view = { λ a. record { number = a.state.number; low = a.state.low; rows = take a.state.len a.state.cells } };
 
-    ghost invariant = { λ a. IsPageful a.len a.cells };
+    ghost invariant = { λ a. IsPageful a.state.len a.state.cells };
 }
 
 impl Page {
@@ -53,10 +60,12 @@ impl Page {
         let mut cells = [BLANK; ROOM];
         cells[..rows.len()].copy_from_slice(rows);
         Page {
-            number,
-            low,
-            len: rows.len(),
-            cells,
+            state: PageState {
+                number,
+                low,
+                len: rows.len(),
+                cells,
+            },
         }
     }
 
@@ -64,14 +73,14 @@ impl Page {
     pub fn number(&self) -> u16
         ensures { result ≡ self.now.number }
     {
-        self.number
+        self.state.number
     }
 
     /// The lowest key that may be on the page.
     pub fn low(&self) -> u16
         ensures { result ≡ self.now.low }
     {
-        self.low
+        self.state.low
     }
 
     /// How many rows there are.
@@ -86,7 +95,7 @@ impl Page {
     pub fn is_empty(&self) -> bool
         ensures { result ≡ (length self.now.rows == 0) }
     {
-        self.len == 0
+        self.state.len == 0
     }
 
     /// The rows, in key order.
@@ -96,7 +105,7 @@ impl Page {
         ensures fit { RowsFit self.now.rows }
         ensures bound { length self.now.rows ≤ 16 }
     {
-        &self.cells[..self.len]
+        &self.state.cells[..self.state.len]
     }
 
     /// The row at index `i`.
@@ -137,7 +146,7 @@ impl Page {
         ensures { self.new ≡ record self.old { rows = put_row key new_value self.old.rows } }
     {
         match search(self.rows(), key) {
-            Ok(at) => self.cells[at].value = new_value,
+            Ok(at) => self.state.cells[at].value = new_value,
             Err(at) => self.insert(
                 at,
                 Row {
@@ -155,9 +164,9 @@ impl Page {
         requires kept { AreKept (insert self.old.rows at row) }
         ensures { self.new ≡ record self.old { rows = insert self.old.rows at row } }
     {
-        self.cells.copy_within(at..self.len, at + 1);
-        self.cells[at] = row;
-        self.len += 1;
+        self.state.cells.copy_within(at..self.state.len, at + 1);
+        self.state.cells[at] = row;
+        self.state.len += 1;
     }
 
     /// Moves the rows at or above `boundary` into a new page with this number, whose low key is the boundary.
@@ -171,7 +180,7 @@ impl Page {
     {
         let at = place(self.rows(), boundary);
         let upper = Page::with_rows(number, boundary, &self.rows()[at..]);
-        self.len = at;
+        self.state.len = at;
         upper
     }
 
@@ -179,11 +188,6 @@ impl Page {
     pub fn copy(&self) -> Page
         ensures { result ≡ self.now }
     {
-        Page {
-            number: self.number,
-            low: self.low,
-            len: self.len,
-            cells: self.cells,
-        }
+        Page { state: self.state }
     }
 }

@@ -11,14 +11,21 @@ const ROOM: usize = 8;
 /// How many entries stay where a full node is cut.
 const HALF: usize = 4;
 
-/// Entries in order of low key, with every low key from the first one on and below an end. Those of level 0 are of
-/// pages, and those of each other level of nodes of the level below.
-#[derive(Drop)]
-pub struct Node {
+/// What a node is: its level, its end, and its cells, of which the first `len` have its entries. It is copied in one
+/// piece.
+#[derive(Clone, Copy)]
+struct NodeState {
     level: u16,
     end: u32,
     len: usize,
     cells: [Entry; ROOM],
+}
+
+/// Entries in order of low key, with every low key from the first one on and below an end. Those of level 0 are of
+/// pages, and those of each other level of nodes of the level below.
+#[derive(Drop)]
+pub struct Node {
+    state: NodeState,
 }
 
 impl Model for Node {
@@ -27,9 +34,9 @@ impl Model for Node {
 
     ghost Value = { Knot };
 
-    ghost view = { λ n. record { level = n.level; end = n.end; entries = take n.len n.cells } };
+    ghost view = { λ n. record { level = n.state.level; end = n.state.end; entries = take n.state.len n.state.cells } };
 
-    ghost invariant = { λ n. IsCells n.len n.cells };
+    ghost invariant = { λ n. IsCells n.state.len n.state.cells };
 }
 
 impl Node {
@@ -48,10 +55,12 @@ impl Node {
         let mut cells = [Entry::BLANK; ROOM];
         cells[..entries.len()].copy_from_slice(entries);
         Node {
-            level,
-            end,
-            len: entries.len(),
-            cells,
+            state: NodeState {
+                level,
+                end,
+                len: entries.len(),
+                cells,
+            },
         }
     }
 
@@ -59,7 +68,7 @@ impl Node {
     pub fn level(&self) -> u16
         ensures { result ≡ self.now.level }
     {
-        self.level
+        self.state.level
     }
 
     /// The least key of the node.
@@ -74,7 +83,7 @@ impl Node {
     pub fn end(&self) -> u32
         ensures { result ≡ self.now.end }
     {
-        self.end
+        self.state.end
     }
 
     /// The entries, in order of low key.
@@ -82,7 +91,7 @@ impl Node {
         ensures value { result.now ≡ self.now.entries }
         ensures bound { length self.now.entries ≤ 8 }
     {
-        &self.cells[..self.len]
+        &self.state.cells[..self.state.len]
     }
 
     /// Whether there is no place for one entry more.
@@ -100,7 +109,7 @@ impl Node {
         requires under { front self.now.entries self.now.end ≤ key }
         ensures { IsPlace key self.now.entries result }
     {
-        place(self.entries(), key, self.end)
+        place(self.entries(), key, self.state.end)
     }
 
     /// The last entry whose low key is not above `key`.
@@ -122,7 +131,7 @@ impl Node {
     {
         match self.entries().get(self.place(key)) {
             Some(entry) => u32::from(entry.low),
-            None => self.end,
+            None => self.state.end,
         }
     }
 
@@ -132,9 +141,9 @@ impl Node {
         requires room { length self.old.entries < 8 }
         ensures { self.new ≡ record self.old { entries = insert self.old.entries at entry } }
     {
-        self.cells.copy_within(at..self.len, at + 1);
-        self.cells[at] = entry;
-        self.len += 1;
+        self.state.cells.copy_within(at..self.state.len, at + 1);
+        self.state.cells[at] = entry;
+        self.state.len += 1;
     }
 
     /// Moves the upper half of a full node's entries into a new one.
@@ -146,9 +155,9 @@ impl Node {
           entries = take 4 self.old.entries;
         } }
     {
-        let upper = Node::of(self.level, self.end, &self.entries()[HALF..]);
-        self.end = u32::from(self.cells[HALF].low);
-        self.len = HALF;
+        let upper = Node::of(self.state.level, self.state.end, &self.entries()[HALF..]);
+        self.state.end = u32::from(self.state.cells[HALF].low);
+        self.state.len = HALF;
         upper
     }
 
@@ -156,12 +165,7 @@ impl Node {
     pub fn copy(&self) -> Node
         ensures { result ≡ self.now }
     {
-        Node {
-            level: self.level,
-            end: self.end,
-            len: self.len,
-            cells: self.cells,
-        }
+        Node { state: self.state }
     }
 }
 

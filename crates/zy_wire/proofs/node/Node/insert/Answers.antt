@@ -5,7 +5,7 @@ use Rattle.zy_wire.proofs.node.Node.insert.Goals as goal
 
 pub returns : goal.returns
 returns c =
-    let was = c.self.inside in
+    let was = c.self.inside.state in
     let here = rw (← c.self.view_is) at c.requires in
     let at_most = length-take-le was.len was.cells (omega (arith, c.self.invariant.few, c.self.invariant.full)) in
     let put = put_between was.cells was.len c.args.at c.args.entry (omega (arith, here.within, at_most))
