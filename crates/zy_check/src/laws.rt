@@ -34,7 +34,7 @@ pub fn table_is_a_listing()
 /// A listing that `run` writes passes: its scenario part is the canonical text of the scenario with its choices, which
 /// is UTF-8, and the verdict on it is `Table`.
 pub fn runs_are_tables()
-    ensures prefix { (sc : Scenario) → IsScenario sc → cut (listing_run sc) ≡ canon sc }
+    ensures part { (sc : Scenario) → IsScenario sc → cut (listing_run sc) ≡ canon sc }
     ensures text { (sc : Scenario) → IsScenario sc → utf8_fault (canon sc) ≡ None }
     ensures table { (sc : Scenario) → IsScenario sc → IsVerdict (listing_run sc) Table }
 {}
