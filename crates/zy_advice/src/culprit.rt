@@ -103,7 +103,7 @@ fn no_number(statement: Statement<'_>, form: Option<Form<'_>>) -> usize {
 /// The word of a row that is no number, or one out of its range.
 fn no_key(statement: Statement<'_>) -> usize {
     match number_of(statement.text(1)) {
-        Some(key) if key <= 65535 => 2,
+        Some(key) if key <= u64::from(u16::MAX) => 2,
         _ => 1,
     }
 }

@@ -5,7 +5,7 @@ use crate::label::label;
 use crate::program::Program;
 use crate::text::TextAdvice;
 use std::fmt;
-use zy_isa::ProgFault;
+use zy_isa::ProgramFault;
 
 impl<'a> TextAdvice<'a> {
     /// The last program above the line.
@@ -78,24 +78,24 @@ impl<'a> TextAdvice<'a> {
     pub(crate) fn tell_no_program<W: fmt::Write>(
         &self,
         f: &mut fmt::Formatter<W>,
-        fault: ProgFault,
+        fault: ProgramFault,
     ) -> fmt::Result {
         let Some(program) = self.program() else {
             return write!(f, "{}", self.reason);
         };
         match fault {
-            ProgFault::Empty => write!(
+            ProgramFault::Empty => write!(
                 f,
                 "{program} has no instruction: the last one is commit or abort"
             ),
-            ProgFault::Target(at) => {
+            ProgramFault::Target(at) => {
                 let last = program.count().saturating_sub(1);
                 write!(
                     f,
                     "the target of instruction {at} of {program} is outside it: its instructions are 0 to {last}"
                 )
             }
-            ProgFault::NoEnd => {
+            ProgramFault::NoEnd => {
                 write!(
                     f,
                     "{program} does not end with commit or abort: put one below its last instruction"

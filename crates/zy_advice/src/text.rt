@@ -13,7 +13,7 @@ use crate::unknown::Unknown;
 use std::fmt;
 use std::str::from_utf8;
 use zy_asm::{Reason, Refusal};
-use zy_isa::ProgFault;
+use zy_isa::ProgramFault;
 
 /// Why a text is refused: what is wrong, what to write, and where.
 #[derive(Clone, Copy)]
@@ -148,14 +148,14 @@ impl<'a> TextAdvice<'a> {
     }
 
     /// The instruction for which the last program is none, or its `txn`.
-    fn place_in_program(&self, fault: ProgFault) -> Option<Place<'a>> {
+    fn place_in_program(&self, fault: ProgramFault) -> Option<Place<'a>> {
         let program = self.program()?;
         match fault {
-            ProgFault::Target(at) => {
+            ProgramFault::Target(at) => {
                 let line = program.instruction(usize::from(at))?;
                 Place::word_elsewhere(line, operation_at(line.statement()).saturating_add(3))
             }
-            ProgFault::NoEnd => {
+            ProgramFault::NoEnd => {
                 let line = program.instruction(program.count().saturating_sub(1))?;
                 Place::word_elsewhere(line, operation_at(line.statement()))
             }

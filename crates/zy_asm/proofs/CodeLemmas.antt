@@ -5,7 +5,7 @@ use Rattle.zy_text.specs.Words.{lines_of, words_of, number_of}
 use Rattle.zy_text.specs.Lines.{texts, first_words}
 use Rattle.zy_asm.proofs.FirstWords.{line_first}
 use Rattle.zy_asm.specs.Reading.Progress.{Seen}
-use Rattle.zy_asm.specs.Reading.{line_step, read_lines, ended}
+use Rattle.zy_asm.specs.Reading.{line_step, read_lines, end_reached}
 use Rattle.zy_asm.specs.Reading.ProgramLines.{own_number}
 use Rattle.zy_asm.specs.declared.faults.AsmFault.{AsmFault}
 use Rattle.zy_asm.specs.declared.faults.AsmKind.{AsmKind}
@@ -29,7 +29,7 @@ pub line_done : (s t : Seen) (n : ℕ) (ls rest : List (List ℕ)) (l : List ℕ
 line_done s t n ls rest l r h e f = sym (rw (sym (line_first s (words_of l)) ∙ f) refl) ∙ (sym (ap (read_lines s n) e) ∙ h)
 
 -- the fault of the end
-pub fault_end : (s : Seen) (n : ℕ) (ls : List (List ℕ)) (k : AsmKind) (r : Result Seen AsmFault) → read_lines s n ls ≡ r → ls ≡ [] → ended s.stage ≡ Err k
+pub fault_end : (s : Seen) (n : ℕ) (ls : List (List ℕ)) (k : AsmKind) (r : Result Seen AsmFault) → read_lines s n ls ≡ r → ls ≡ [] → end_reached s.stage ≡ Err k
     → r ≡ Err (record { line = n; kind = k })
 fault_end s n ls k r h e f = sym h ∙ ap (read_lines s n) e ∙ rw f refl
 

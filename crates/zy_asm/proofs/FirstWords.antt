@@ -18,11 +18,11 @@ use Rattle.zy_asm.specs.declared.state.Stage.TheVariants as stage
 use Rattle.zy_asm.specs.Instructions.{instr_of}
 use Rattle.zy_asm.specs.Choices.{action_of}
 use Rattle.zy_asm.specs.Reading.Progress.{Seen}
-use Rattle.zy_asm.specs.Reading.ProgramLines.{note_label, label_at, labelled, instr_line, instr_at, closed, txn_at}
+use Rattle.zy_asm.specs.Reading.ProgramLines.{note_label, label_at, labelled_instr, instr_line, instr_at, closed, txn_at}
 use Rattle.zy_asm.specs.Reading.Keywords.{keyword_of}
 use Rattle.zy_asm.specs.Reading.RowLines.{row_at}
 use Rattle.zy_asm.specs.Reading.ChoiceLines.{action_line, choice_line}
-use Rattle.zy_asm.specs.Reading.{statement, led_by, line_at, line_step}
+use Rattle.zy_asm.specs.Reading.{statement, line_led_by, line_at, line_step}
 
 -- to go on from an answer in two ways that agree on each value is the same
 bind_same : {X Y : Type 0} (r : Result X AsmKind) (f g : X → Result Y AsmKind) → ((x : X) → f x ≡ g x) → (r >>= f) ≡ (r >>= g)
@@ -43,7 +43,7 @@ instr_fault s op c d e f ws = rw (too_many op c d e f ws) refl
 -- words b to f and more behind them: each kind of line is the same without what is behind f
 module _ (b c d e f : List ℕ) (ws : List (List ℕ)) where
   -- what is behind a label
-  labelled_same : (o : Option Keyword) (s : Seen) → labelled o s (c ∷ d ∷ e ∷ f ∷ []) ≡ labelled o s (c ∷ d ∷ e ∷ f ∷ ws)
+  labelled_same : (o : Option Keyword) (s : Seen) → labelled_instr o s (c ∷ d ∷ e ∷ f ∷ []) ≡ labelled_instr o s (c ∷ d ∷ e ∷ f ∷ ws)
   labelled_same (Some (k.Instr op)) s = instr_fault s op c d e f [] ∙ sym (instr_fault s op c d e f ws)
   labelled_same o s = refl
 
@@ -85,7 +85,7 @@ module _ (b c d e f : List ℕ) (ws : List (List ℕ)) where
   statement_same o s = refl
 
   -- a line below the header
-  led_same : (o : Option (List ℕ)) (s : Seen) (w : List ℕ) → led_by o s w (b ∷ c ∷ d ∷ e ∷ f ∷ []) ≡ led_by o s w (b ∷ c ∷ d ∷ e ∷ f ∷ ws)
+  led_same : (o : Option (List ℕ)) (s : Seen) (w : List ℕ) → line_led_by o s w (b ∷ c ∷ d ∷ e ∷ f ∷ []) ≡ line_led_by o s w (b ∷ c ∷ d ∷ e ∷ f ∷ ws)
   led_same (Some name) s w = ap (λ x. if is_name name then x else Err kinds.Word) (label_same s.stage s name)
   led_same None s w = statement_same (keyword_of s.version w) s
 

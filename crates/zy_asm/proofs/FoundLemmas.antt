@@ -19,7 +19,7 @@ use Rattle.zy_asm.specs.declared.state.Stage.TheVariants as stage
 use Rattle.zy_asm.specs.Steps.{number_in}
 use Rattle.zy_isa.specs.Rows.{last_row, is_low}
 use Rattle.zy_asm.specs.Reading.Progress.{Seen}
-use Rattle.zy_asm.specs.Reading.HeadLines.{headed, rule_of}
+use Rattle.zy_asm.specs.Reading.HeadLines.{header_value, rule_of}
 use Rattle.zy_asm.specs.Reading.{body_line, step, nothing_seen}
 use Rattle.zy_isa.proofs.RowLemmas.{order_more}
 use Rattle.zy_isa.proofs.ScenarioLemmas.{no_fault}
@@ -87,14 +87,14 @@ found_rows (l ∷ ls) b t placed h =
 -- ---- the header
 
 -- a header line that is read has its name and one word behind it
-headed_ok : (ws : List (List ℕ)) (name w : List ℕ) → headed ws name ≡ Ok w → ws ≡ name ∷ w ∷ []
-headed_ok [] name w h = cc
-headed_ok (x ∷ []) name w h = cc
-headed_ok (x ∷ v ∷ []) name w h =
+header_value_ok : (ws : List (List ℕ)) (name w : List ℕ) → header_value ws name ≡ Ok w → ws ≡ name ∷ w ∷ []
+header_value_ok [] name w h = cc
+header_value_ok (x ∷ []) name w h = cc
+header_value_ok (x ∷ v ∷ []) name w h =
     let p = if_ok (bytes_eq x name) (Ok v) kinds.Header w h in
     let e : v ≡ w = cc (p.1) in
     rw (same x name p.0, e) refl
-headed_ok (x ∷ v ∷ y ∷ ys) name w h = cc
+header_value_ok (x ∷ v ∷ y ∷ ys) name w h = cc
 
 -- a word that is equal to that of the rule found is that rule's
 this_rule : (w : List ℕ) (a r : Rule) → bytes_eq w (rule_text a) ≡ true → Some a ≡ Some r → w ≡ rule_text r
@@ -127,7 +127,7 @@ found_rule : (ls : List (List (List ℕ))) (v : Version) (c p : ℕ) (t : Seen) 
 found_rule [] v c p t least h = cc
 found_rule (l ∷ ls) v c p t least h =
     let k = bind_ok (step (top stage.Rule (base v c p Held []) [] []) l) (λ u. fold_lines u ls) t h in
-    let a = bind_ok (headed l (codes "rule")) _ k.0 k.1 in
+    let a = bind_ok (header_value l (codes "rule")) _ k.0 k.1 in
     let r = bind_ok (ok_or (rule_of a.0) kinds.Header) _ k.0 a.2 in
     let e : k.0 ≡ top stage.Rows (base v c p r.0 []) [] [] = cc (r.2) in
     let none : Placed (base v c p r.0 []) = record { few = omega arith; few_pages = least; in_order = refl } in
@@ -136,11 +136,11 @@ found_rule (l ∷ ls) v c p t least h =
       line = l;
       more = ls;
       lines = refl;
-      spelled = headed_ok l (codes "rule") a.0 a.1 ∙ ap (λ (w : List ℕ). codes "rule" ∷ w ∷ []) (rule_ok a.0 r.0 (ok_or_ok (rule_of a.0) kinds.Header r.0 r.1));
+      spelled = header_value_ok l (codes "rule") a.0 a.1 ∙ ap (λ (w : List ℕ). codes "rule" ∷ w ∷ []) (rule_ok a.0 r.0 (ok_or_ok (rule_of a.0) kinds.Header r.0 r.1));
       rows = found_rows ls (base v c p r.0 []) t none (rw e at k.2);
     }
 
--- a line of the header that tells a number
+-- a line of the header with a number
 record Number (name : List ℕ) (low high : ℕ) (line : List (List ℕ)) (n : ℕ) : Type 0 where
   word : List ℕ
   spelled : line ≡ name ∷ word ∷ []
@@ -148,11 +148,11 @@ record Number (name : List ℕ) (low high : ℕ) (line : List (List ℕ)) (n : �
   least : low ≤ n
   most : n ≤ high
 
--- a header line that is read as a number in its range tells that number
-number_line : (l : List (List ℕ)) (name w : List ℕ) (a b n : ℕ) → headed l name ≡ Ok w → number_in w a b ≡ Ok n → Number name a b l n
+-- a header line that is read as a number in its range has that number
+number_line : (l : List (List ℕ)) (name w : List ℕ) (a b n : ℕ) → header_value l name ≡ Ok w → number_in w a b ≡ Ok n → Number name a b l n
 number_line l name w a b n h g =
     let q = number_in_ok w a b n g in
-    record { word = w; spelled = headed_ok l name w h; number = q.0; least = q.1; most = q.2 }
+    record { word = w; spelled = header_value_ok l name w h; number = q.0; least = q.1; most = q.2 }
 
 -- what the lines from that of the pages on spell: the number of pages, and the rest
 record FoundPages (v : Version) (c : ℕ) (ls : List (List (List ℕ))) (t : Seen) : Type 0 where
@@ -169,7 +169,7 @@ found_pages : (ls : List (List (List ℕ))) (v : Version) (c : ℕ) (t : Seen) �
 found_pages [] v c t h = cc
 found_pages (l ∷ ls) v c t h =
     let k = bind_ok (step (top stage.Pages (base v c 1 Held []) [] []) l) (λ u. fold_lines u ls) t h in
-    let a = bind_ok (headed l (codes "pages")) _ k.0 k.1 in
+    let a = bind_ok (header_value l (codes "pages")) _ k.0 k.1 in
     let n = bind_ok (number_in a.0 1 512) _ k.0 a.2 in
     let e : k.0 ≡ top stage.Rule (base v c n.0 Held []) [] [] = cc (n.2) in
     let q = number_line l (codes "pages") a.0 1 512 n.0 a.1 n.1 in
@@ -189,7 +189,7 @@ found_cap : (ls : List (List (List ℕ))) (v : Version) (t : Seen) → fold_line
 found_cap [] v t h = cc
 found_cap (l ∷ ls) v t h =
     let k = bind_ok (step (top stage.Cap (base v 2 1 Held []) [] []) l) (λ u. fold_lines u ls) t h in
-    let a = bind_ok (headed l (codes "cap")) _ k.0 k.1 in
+    let a = bind_ok (header_value l (codes "cap")) _ k.0 k.1 in
     let n = bind_ok (number_in a.0 2 16) _ k.0 a.2 in
     let e : k.0 ≡ top stage.Pages (base v n.0 1 Held []) [] [] = cc (n.2) in
     record {
@@ -237,8 +237,8 @@ pub found_text : (ls : List (List (List ℕ))) (t : Seen) → fold_lines nothing
 found_text [] t h = cc
 found_text (l ∷ ls) t h =
     let k = bind_ok (step nothing_seen l) (λ u. fold_lines u ls) t h in
-    let a = bind_ok (headed l (codes "zephyr")) _ k.0 k.1 in
+    let a = bind_ok (header_value l (codes "zephyr")) _ k.0 k.1 in
     let v = bind_ok (ok_or (version_named a.0) kinds.Header) _ k.0 a.2 in
     let is = version_is a.0 v.0 (ok_or_ok (version_named a.0) kinds.Header v.0 v.1) in
     let e : k.0 ≡ top stage.Cap (base v.0 2 1 Held []) [] [] = cc (v.2) in
-    whole l ls v.0 t (headed_ok l (codes "zephyr") a.0 a.1 ∙ ap (λ (w : List ℕ). codes "zephyr" ∷ w ∷ []) is) (found_cap ls v.0 t (rw e at k.2))
+    whole l ls v.0 t (header_value_ok l (codes "zephyr") a.0 a.1 ∙ ap (λ (w : List ℕ). codes "zephyr" ∷ w ∷ []) is) (found_cap ls v.0 t (rw e at k.2))

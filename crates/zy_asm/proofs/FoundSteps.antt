@@ -5,14 +5,14 @@ use Rattle.zy_isa.specs.declared.version.Version.{Version}
 use Rattle.zy_isa.specs.declared.rule.Rule.{Rule}
 use Rattle.zy_isa.specs.declared.row.Row.{Row}
 use Rattle.zy_isa.specs.declared.instr.Instr.{Instr}
-use Rattle.zy_isa.specs.declared.program.ProgFault.{ProgFault}
+use Rattle.zy_isa.specs.declared.program.ProgramFault.{ProgramFault}
 use Rattle.zy_isa.specs.declared.operation.Operation.{Operation}
 use Rattle.zy_isa.specs.declared.choice.Choice.{Choice}
 use Rattle.zy_isa.specs.declared.node.Actor.{Actor}
 use Rattle.zy_isa.specs.Operations.{is_of, mnemonic}
 use Rattle.zy_text.specs.Words.{number_of}
 use Rattle.zy_text.specs.Names.{Mark, is_name, place, AreNew, label_of}
-use Rattle.zy_isa.specs.Programs.{prog_fault}
+use Rattle.zy_isa.specs.Programs.{program_fault}
 use Rattle.zy_isa.specs.Scenario.{opening_pages_for}
 use Rattle.zy_text.specs.Text as m
 use Rattle.zy_text.specs.Text.{Spells, label_at, name_in}
@@ -25,17 +25,17 @@ use Rattle.zy_asm.specs.declared.reading.keyword.Keyword.TheVariants as k
 use Rattle.zy_asm.specs.declared.state.Stage.{Stage}
 use Rattle.zy_asm.specs.declared.state.Stage.TheVariants as stage
 use Rattle.zy_isa.specs.Results.{◌>>=◌}
-use Rattle.zy_asm.specs.Pending.{Pending, all_resolved, judged, program_of}
+use Rattle.zy_asm.specs.Pending.{Pending, all_resolved, checked_instrs, program_of}
 use Rattle.zy_asm.specs.Instructions.{instr_of}
 use Rattle.zy_asm.specs.Choices.{action_of}
 use Rattle.zy_isa.specs.Rows.{last_row, is_low}
 use Rattle.zy_asm.specs.Reading.Progress.{Seen}
 use Rattle.zy_asm.specs.Reading.Keywords.{keyword_of}
 use Rattle.zy_asm.specs.Reading.RowLines.{row_of, is_full, add_row, row_at}
-use Rattle.zy_asm.specs.Reading.ProgramLines.{instr_line, note_label, labelled, behind_label, label_line, head_line}
+use Rattle.zy_asm.specs.Reading.ProgramLines.{instr_line, note_label, labelled_instr, behind_label, label_line, head_line}
 use Rattle.zy_asm.specs.Reading.ProgramLines.{open_line}
 use Rattle.zy_asm.specs.Reading.ChoiceLines.{action_line, choice_line, end_line}
-use Rattle.zy_asm.specs.Reading.{statement, led_by, body_line, step, finish}
+use Rattle.zy_asm.specs.Reading.{statement, line_led_by, body_line, step, finish}
 use Rattle.zy_isa.proofs.ResultLemmas.{bind_ok, if_ok, if_err, neither, below, not_over}
 use Rattle.zy_asm.proofs.SpellLemmas.{actor_word, keyword_ok, SpellsPending, instr_ok, row_ok, not_some, head_ok, AreBelow, Chose, choice_ok}
 use Rattle.zy_text.proofs.LabelLemmas.{label_ok}
@@ -175,7 +175,7 @@ rows_ok b (w ∷ ws) t h = split (label_of w) h
         inr (inr (inl (a, ws, first w (actor_word a) ws (keyword_ok b.version w (k.Choice a) e), choice_ok (top stage.Rows b [] []) t a ws tt g)))
     by (Some k.End) e g = inr (inr (inr (rw (keyword_ok b.version w k.End e) (end_step (top stage.Rows b [] []) ws t g))))
 
-    split : (o : Option (List ℕ)) → led_by o (top stage.Rows b [] []) w ws ≡ Ok t → RowStep b (w ∷ ws) t ⊎ Next b [] [] (w ∷ ws) t
+    split : (o : Option (List ℕ)) → line_led_by o (top stage.Rows b [] []) w ws ≡ Ok t → RowStep b (w ∷ ws) t ⊎ Next b [] [] (w ∷ ws) t
     split None g = by (keyword_of b.version w) refl g
     split (Some v) g = no_label (is_name v) t g
 
@@ -244,7 +244,7 @@ label_step b N P M O v x ws t q h =
     rest ws a.0 (not_some (place v M) f.0) (ap (λ u. behind_label u ws) e ∙ d.2)
   where
     by : (w : List ℕ) (vs : List (List ℕ)) (o : Option Keyword) → keyword_of b.version w ≡ o → is_name v ≡ true → place v M ≡ None
-        → labelled o (at stage.Program b N P (M ++ (v, length O) ∷ []) O []) vs ≡ Ok t → CodeStep b N P M O (x ∷ w ∷ vs) t
+        → labelled_instr o (at stage.Program b N P (M ++ (v, length O) ∷ []) O []) vs ≡ Ok t → CodeStep b N P M O (x ∷ w ∷ vs) t
     by w vs None e n new g = cc
     by w vs (Some k.Header) e n new g = cc
     by w vs (Some k.Row) e n new g = cc
@@ -266,15 +266,15 @@ label_step b N P M O v x ws t q h =
     rest (w ∷ vs) n new g = by w vs (keyword_of b.version w) refl n new g
 
 -- instructions that are judged without a fault stay as they are
-judged_ok : (o : Option ProgFault) (is p : List Instr) → judged o is ≡ Ok p → p ≡ is
-judged_ok None is p h = cc
-judged_ok (Some f) is p h = cc
+checked_instrs_ok : (o : Option ProgramFault) (is p : List Instr) → checked_instrs o is ≡ Ok p → p ≡ is
+checked_instrs_ok None is p h = cc
+checked_instrs_ok (Some f) is p h = cc
 
 -- a program that is closed is its instructions, resolved with its labels
 program_ok : (M : List Mark) (O : List Pending) (p : List Instr) → program_of M O ≡ Ok p → all_resolved M O ≡ Ok p
 program_ok M O p h =
     let a = bind_ok (all_resolved M O) _ p h in
-    a.1 ∙ ap Ok (sym (judged_ok (prog_fault a.0) a.0 p a.2))
+    a.1 ∙ ap Ok (sym (checked_instrs_ok (program_fault a.0) a.0 p a.2))
 
 -- the open program is closed
 pub record Closing (M : List Mark) (O : List Pending) (t : Seen) (f : List Instr → Seen) (g : Seen → Result Seen AsmKind) : Type 0 where
@@ -368,7 +368,7 @@ inside_ok b N P M O (w ∷ ws) t low h = split (label_of w) refl h
           next = inr (inr (rw (keyword_ok b.version w k.End e) (end_step s ws t (end_same b N (P ++ q.program ∷ []) ws t q.after))));
         })
 
-    split : (o : Option (List ℕ)) → label_of w ≡ o → led_by o (at stage.Program b N P M O []) w ws ≡ Ok t → Inside b N P M O (w ∷ ws) t
+    split : (o : Option (List ℕ)) → label_of w ≡ o → line_led_by o (at stage.Program b N P M O []) w ws ≡ Ok t → Inside b N P M O (w ∷ ws) t
     split None e g = by (keyword_of b.version w) refl g
     split (Some v) e g = inl (label_step b N P M O v w ws t (label_ok w v e) g)
 
@@ -395,6 +395,6 @@ below_ok b N P C (w ∷ ws) t low h = split (label_of w) h
     )
     by (Some k.End) e g = inr (rw (keyword_ok b.version w k.End e) (end_step (at stage.Choices b N P [] [] C) ws t g))
 
-    split : (o : Option (List ℕ)) → led_by o (at stage.Choices b N P [] [] C) w ws ≡ Ok t → Below (at stage.Choices b N P [] [] C) (w ∷ ws) t
+    split : (o : Option (List ℕ)) → line_led_by o (at stage.Choices b N P [] [] C) w ws ≡ Ok t → Below (at stage.Choices b N P [] [] C) (w ∷ ws) t
     split None g = by (keyword_of b.version w) refl g
     split (Some v) g = no_label (is_name v) t g

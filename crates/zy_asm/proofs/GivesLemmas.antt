@@ -41,7 +41,7 @@ use Rattle.zy_asm.specs.Choices.{node_action, action_of, chosen, transaction, ar
 use Rattle.zy_isa.specs.Rows.{is_low, last_row}
 use Rattle.zy_asm.specs.Reading.Progress.{Seen}
 use Rattle.zy_asm.specs.Reading.ProgramLines.{instr_line, behind_label, head_line}
-use Rattle.zy_asm.specs.Reading.{led_by, step}
+use Rattle.zy_asm.specs.Reading.{line_led_by, step}
 use Rattle.zy_asm.specs.Reading.ChoiceLines.{repeat_line, choice_line}
 use Rattle.zy_isa.proofs.OperationLemmas.{named_back, instr_again}
 use Rattle.zy_isa.proofs.ResultLemmas.{out_of_neither, not_below, over_not, both}
@@ -155,7 +155,7 @@ label_gives : (b : Base) (N : List Mark) (P : List (List Instr)) (M : List Mark)
     → place name M ≡ None
     → step (at stage.Program b N P M O []) ((name ++ 58 ∷ []) ∷ ws) ≡ behind_label (at stage.Program b N P (M ++ (name, length O) ∷ []) O []) ws
 label_gives b N P M O name ws h e =
-    ap (λ o. led_by o (at stage.Program b N P M O []) (name ++ 58 ∷ []) ws) (label-last name 58) ∙ rw (h, e) refl
+    ap (λ o. line_led_by o (at stage.Program b N P M O []) (name ++ 58 ∷ []) ws) (label-last name 58) ∙ rw (h, e) refl
 
 -- what a line of a program makes of the state
 pub record Codes (labels : List Mark) (b : Base) (N : List Mark) (P : List (List Instr)) (M : List Mark) (O : List Pending) (l : List (List ℕ))

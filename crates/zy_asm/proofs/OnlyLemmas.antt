@@ -1,7 +1,7 @@
 -- What is meant is read.
 use Rattle.std.proofs.Common.{◌≡◌, ℕ, ◌+◌, ◌/◌, ◌<◌, ◌≤◌, Bool, true, false, if◌then◌else◌, nat_le, is_some, List, [], ◌∷◌, ◌++◌, length, map, filter, codes}
 use Rattle.std.proofs.Common.{Result, Ok, Err, Option, Some, None, refl, sym, ap, ◌∙◌, subst, inl, inr, ◌⊎◌, arith, append_assoc, append-nil, length-append}
-use Rattle.std.proofs.Common.{suc, zero, ◌==◌}
+use Rattle.std.proofs.Common.{suc, zero}
 use Rattle.std.proofs.lemmas.List.{length-replicate}
 use Rattle.std.proofs.lemmas.Nat.{le-div}
 use Rattle.std.proofs.Math.Nat.{div-mul-le_self}
@@ -21,7 +21,7 @@ use Rattle.zy_isa.specs.declared.choice.Choice.TheVariants as choice
 use Rattle.zy_text.specs.Words.{words_of, lines_of, number_of, has_words, lines_with_words, is_numeral}
 use Rattle.zy_text.specs.Canon.{node_text, rule_text}
 use Rattle.zy_isa.specs.Rows.{Rising, RowsFit}
-use Rattle.zy_isa.specs.Programs.{prog_fault, IsKnown, IsProgram, Values}
+use Rattle.zy_isa.specs.Programs.{IsKnown, IsProgram, Values}
 use Rattle.zy_isa.specs.Choices.{names_below, actor_at}
 use Rattle.zy_isa.specs.Scenario.{Scenario, IsScenario, ArePrograms, AreKnown, AreNamed, opening_pages_for, opening_rows}
 use Rattle.zy_text.specs.Text as m
@@ -43,13 +43,13 @@ use Rattle.zy_asm.specs.Reading.ChoiceLines.{choice_line}
 use Rattle.zy_asm.specs.Reading.{step, line_step, at_line, read_lines, reading, finish}
 use Rattle.zy_asm.specs.Reading.{nothing_seen}
 use Rattle.zy_isa.proofs.RowLemmas.{Above, above_more}
-use Rattle.zy_isa.proofs.ResultLemmas.{bind_ok, not_below, over_not}
+use Rattle.zy_isa.proofs.ResultLemmas.{bind_ok, not_below}
+use Rattle.zy_isa.proofs.ProgramLemmas.{no_program_fault}
 use Rattle.zy_asm.proofs.SpellLemmas.{actor_word, node_word}
 use Rattle.zy_asm.proofs.FoundSteps.{Base, base, at, top, fold_lines, choice_same}
 use Rattle.zy_asm.proofs.FoundPrograms.{bodies, following}
 use Rattle.zy_asm.proofs.FoundLemmas.{found_text, FoundText, shows}
 use Rattle.zy_asm.proofs.GivesLemmas.{number_in_gives, code_gives, choice_gives, row_gives, head_gives}
-use borrow.Author.Tests.{tests}
 
 -- ---- lines with words
 
@@ -207,17 +207,9 @@ only_codes labels (c ∷ cs) xs (l ∷ ls) b N P M O I h w v known new e few =
       };
     }
 
--- a number that is not zero fails the test for zero
-some_test : (n : ℕ) → 0 < n → (n == 0) ≡ false
-some_test n h = grind (arith, tests)
-
--- a program has no fault
-no_prog_fault : (p : List Instr) → IsProgram p → prog_fault p ≡ None
-no_prog_fault p h = rw (some_test (length p) h.some, over_not (length p) 64 h.few, h.targets, h.last) refl
-
 -- instructions that are resolved into a program give it where it is closed
 program_gives : (labels : List Mark) (O : List Pending) (I : List Instr) → all_resolved labels O ≡ Ok I → IsProgram I → program_of labels O ≡ Ok I
-program_gives labels O I e h = rw (e, no_prog_fault I h) refl
+program_gives labels O I e h = rw (e, no_program_fault I h) refl
 
 -- ---- a program is closed by the line below it
 

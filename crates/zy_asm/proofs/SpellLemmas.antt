@@ -294,7 +294,7 @@ pub row_ok : (ws : List (List ℕ)) (r : Row) → row_of ws ≡ Ok r → Spells 
 row_ok [] r h = cc
 row_ok (k ∷ []) r h = cc
 row_ok (k ∷ v ∷ []) r h =
-    let q = bind_ok (number_in k 0 65535) _ r h in
+    let q = bind_ok (number_in k 0 max_key) _ r h in
     let o = bind_ok (number_in v 0 max_value) _ r q.2 in
     let e : r ≡ record { key = q.0; value = o.0 } = cc (o.2) in
     rw e (k, v, refl, (number_in_ok k 0 max_key q.0 q.1).0, (number_in_ok v 0 max_value o.0 o.1).0)

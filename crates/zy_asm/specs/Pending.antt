@@ -4,10 +4,10 @@ use Rattle.zy_isa.specs.declared.instr.Reg.{Reg}
 use Rattle.zy_isa.specs.declared.instr.Instr.{Instr}
 use Rattle.zy_isa.specs.declared.operation.JumpOperation.{JumpOperation}
 use Rattle.zy_isa.specs.declared.operation.Parts.TheVariants as parts
-use Rattle.zy_isa.specs.declared.program.ProgFault.{ProgFault}
+use Rattle.zy_isa.specs.declared.program.ProgramFault.{ProgramFault}
 use Rattle.zy_text.specs.Names.{Mark, place}
 use Rattle.zy_isa.specs.Operations.{instr_with}
-use Rattle.zy_isa.specs.Programs.{prog_fault}
+use Rattle.zy_isa.specs.Programs.{program_fault}
 use Rattle.zy_isa.specs.Results.{◌>>=◌}
 use Rattle.zy_asm.specs.declared.faults.AsmKind.{AsmKind}
 use Rattle.zy_asm.specs.declared.faults.AsmKind.TheVariants as kinds
@@ -34,10 +34,10 @@ all_resolved labels (p ∷ ps) = do
   is ← all_resolved labels ps
   Ok (i ∷ is)
 
-abbrev pub judged : Option ProgFault → List Instr → Result (List Instr) AsmKind
-judged None is = Ok is
-judged (Some f) is = Err kinds.Program
+abbrev pub checked_instrs : Option ProgramFault → List Instr → Result (List Instr) AsmKind
+checked_instrs None is = Ok is
+checked_instrs (Some f) is = Err kinds.Program
 
 -- the program of these labels and instructions
 abbrev pub program_of : List Mark → List Pending → Result (List Instr) AsmKind
-program_of labels ps = all_resolved labels ps >>= λ is. judged (prog_fault is) is
+program_of labels ps = all_resolved labels ps >>= λ is. checked_instrs (program_fault is) is

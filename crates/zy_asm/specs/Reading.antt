@@ -43,14 +43,14 @@ statement (Some (k.Choice a)) s ws = closed s >>= λ u. choice_line u a ws
 statement (Some k.End) s ws = closed s >>= λ u. end_line u ws
 
 -- a line that begins with a label, or with its keyword
-abbrev pub led_by : Option (List ℕ) → Seen → List ℕ → List (List ℕ) → Result Seen AsmKind
-led_by (Some name) s w ws = label_line s name ws
-led_by None s w ws = statement (keyword_of s.version w) s ws
+abbrev pub line_led_by : Option (List ℕ) → Seen → List ℕ → List (List ℕ) → Result Seen AsmKind
+line_led_by (Some name) s w ws = label_line s name ws
+line_led_by None s w ws = statement (keyword_of s.version w) s ws
 
 -- a line below the header
 abbrev pub body_line : Seen → List (List ℕ) → Result Seen AsmKind
 body_line s [] = Err kinds.Word
-body_line s (w ∷ ws) = led_by (label_of w) s w ws
+body_line s (w ∷ ws) = line_led_by (label_of w) s w ws
 
 abbrev pub line_at : Stage → Seen → List (List ℕ) → Result Seen AsmKind
 line_at Zephyr s ws = zephyr_line s ws
@@ -70,12 +70,12 @@ line_step s [] = Ok s
 line_step s (w ∷ ws) = step s (w ∷ ws)
 
 -- the end of the input
-abbrev pub ended : Stage → Result (Unit {0}) AsmKind
-ended Done = Ok tt
-ended _ = Err kinds.End
+abbrev pub end_reached : Stage → Result (Unit {0}) AsmKind
+end_reached Done = Ok tt
+end_reached _ = Err kinds.End
 
 abbrev pub finish : Seen → Result Seen AsmKind
-finish s = ended s.stage >>= λ _. Ok s
+finish s = end_reached s.stage >>= λ _. Ok s
 
 -- a fault of the line n
 abbrev pub at_line : {X : Type 0} → ℕ → Result X AsmKind → Result X AsmFault

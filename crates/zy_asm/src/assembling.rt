@@ -1,5 +1,5 @@
 //! A text as a scenario.
-ghost use Rattle.std.specs.Prelude.{◌≡◌, IfOk, IfErr, Some, None, Err, ◌⊎◌, List, ℕ};
+ghost use Rattle.std.specs.Prelude.{◌≡◌, IfOk, IfErr, Some, None, Err, ◌⊎◌};
 ghost use Rattle.zy_isa.specs.Scenario as isa;
 ghost use Rattle.zy_text.specs.Canon.{canon};
 ghost use Rattle.zy_text.specs.Text.{Means};

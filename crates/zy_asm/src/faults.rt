@@ -4,7 +4,7 @@ ghost use Rattle.zy_asm.specs.Reasons.{kind_of, fault_of};
 
 use crate::shown::Shown;
 use std::fmt;
-use zy_isa::ProgFault;
+use zy_isa::ProgramFault;
 
 /// Why a line is refused. Of several reasons the first is reported, in the order in which the line is judged.
 #[derive(Clone, Copy, Debug, PartialEq, Eq)]
@@ -27,7 +27,7 @@ pub enum AsmKind {
     Count,
     /// The text goes on below its end, or has none.
     End,
-    /// There was no memory for what the line says.
+    /// Out of memory for what the line says.
     Memory,
 }
 
@@ -74,7 +74,7 @@ pub enum Reason {
     /// This label is in the program already.
     LabelTwice(Shown),
     /// The instructions of the program of this number are no program.
-    NoProgram { number: usize, fault: ProgFault },
+    NoProgram { number: usize, fault: ProgramFault },
     /// There is a row too many.
     RowCount,
     /// The rows need more opening pages than there may be.
@@ -89,7 +89,7 @@ pub enum Reason {
     BelowEnd,
     /// The text has no end.
     NoEnd,
-    /// There was no memory for what the line says.
+    /// Out of memory for what the line says.
     NoMemory,
 }
 
@@ -195,19 +195,19 @@ impl fmt::Display for Reason {
 fn tell_program<W: fmt::Write>(
     f: &mut fmt::Formatter<W>,
     number: usize,
-    fault: ProgFault,
+    fault: ProgramFault,
 ) -> fmt::Result {
     match fault {
-        ProgFault::Empty => write!(f, "program {number} has no instruction"),
-        ProgFault::Target(at) => {
+        ProgramFault::Empty => write!(f, "program {number} has no instruction"),
+        ProgramFault::Target(at) => {
             write!(
                 f,
                 "program {number}: the target of instruction {at} (from 0) is outside the program"
             )
         }
-        ProgFault::NoEnd => write!(f, "program {number} does not end with commit or abort"),
-        ProgFault::TooLong => write!(f, "program {number} has more than 64 instructions"),
-        ProgFault::Memory => write!(f, "there is no memory for program {number}"),
+        ProgramFault::NoEnd => write!(f, "program {number} does not end with commit or abort"),
+        ProgramFault::TooLong => write!(f, "program {number} has more than 64 instructions"),
+        ProgramFault::Memory => write!(f, "there is no memory for program {number}"),
     }
 }
 

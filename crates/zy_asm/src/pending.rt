@@ -3,7 +3,7 @@ ghost use Rattle.std.specs.Prelude.{◌≡◌, map};
 ghost use Rattle.zy_asm.specs.Reasons.{by_kind, Gives};
 ghost use Rattle.zy_asm.specs.Pending.{pending_of};
 ghost use Rattle.zy_asm.specs.Pending as spec;
-ghost use Rattle.zy_isa.specs.Programs.{prog_fault};
+ghost use Rattle.zy_isa.specs.Programs.{program_fault};
 
 use crate::faults::Reason;
 use crate::name_table::NameTable;
@@ -55,8 +55,8 @@ fn all_resolved(
 }
 
 /// The program of these words, which has this number.
-fn judged(number: usize, words: Vec<Word>) -> Result<Program, Reason>
-    ensures { by_kind result ≡ spec.judged (prog_fault words.items) words.items }
+fn checked_instrs(number: usize, words: Vec<Word>) -> Result<Program, Reason>
+    ensures { by_kind result ≡ spec.checked_instrs (program_fault words.items) words.items }
 {
     match Program::of_words(words) {
         Ok(program) => Ok(program),
@@ -74,5 +74,5 @@ pub fn program_of(
     ensures { Gives (λ p. p) result (spec.program_of labels.now (map pending_of instrs.now)) }
 {
     let words = all_resolved(alloc, labels, instrs)?;
-    judged(number, words)
+    checked_instrs(number, words)
 }

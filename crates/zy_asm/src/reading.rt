@@ -109,8 +109,8 @@ impl Reader {
 }
 
 /// The text has had its end.
-fn ended(stage: Stage) -> Result<(), Reason>
-    ensures { by_kind result ≡ spec.ended stage }
+fn end_reached(stage: Stage) -> Result<(), Reason>
+    ensures { by_kind result ≡ spec.end_reached stage }
 {
     match stage {
         Stage::Done => Ok(()),
@@ -146,7 +146,7 @@ pub fn read(alloc: Global, text: &str) -> Result<Reader, Refusal>
         }
         line += 1;
     }
-    match ended(reader.stage) {
+    match end_reached(reader.stage) {
         Ok(()) => Ok(reader),
         Err(reason) => Err(Refusal { line, reason }),
     }

@@ -1,5 +1,5 @@
 //! What the lines so far gave.
-ghost use Rattle.std.specs.Prelude.{◌≡◌, ◌≤◌, ◌+◌, length};
+ghost use Rattle.std.specs.Prelude.{◌≤◌, ◌+◌, length};
 ghost use Rattle.zy_isa.specs.Limits.{max_txns, max_instrs, max_choices};
 ghost use Rattle.zy_asm.specs.Stages.{open_programs};
 

@@ -5,7 +5,7 @@ use Rattle.zy_isa.specs.declared.row.Row.{Row}
 use Rattle.zy_table.specs.Database.{Map, laid}
 use Rattle.zy_table.specs.Serial.{Alone}
 
--- its registers, its place in its program, the rows that it has written, and whether it ended
+-- its registers, its program counter, the rows that it has written, and whether it ended
 pub record Lone : Type 0 where
   pub regs : List ℕ
   pub pc : ℕ

@@ -22,7 +22,7 @@ use Rattle.zy_links.specs.Messages.{Message, Pull, Page, kind_of}
 use Rattle.zy_table.specs.declared.place.Place.{Place}
 use Rattle.zy_table.specs.declared.place.Place.TheVariants.{Nowhere, At, Moving}
 use Rattle.zy_table.specs.declared.entry.Entry.{Entry}
-use Rattle.zy_table.specs.declared.entry.CommitRec.{CommitRec}
+use Rattle.zy_table.specs.declared.entry.CommitRecord.{CommitRecord}
 use Rattle.zy_table.specs.declared.status.Status.{Status}
 use Rattle.zy_table.specs.declared.status.Status.TheVariants.{New, Active, Committed, Aborted}
 use Rattle.zy_page.specs.Leaf.{Leaf}
@@ -156,8 +156,8 @@ abbrev pub regs_text : List ℕ → List ℕ
 regs_text regs = flat_map reg_text regs
 
 -- t's place in commit order, from 1; 0 where it is not there
-abbrev pub commit_place : ℕ → List CommitRec → ℕ
-commit_place t commits = option_map_or (λ i. i + 1) (position (λ (c : CommitRec). c.txn == t) commits) 0
+abbrev pub commit_place : ℕ → List CommitRecord → ℕ
+commit_place t commits = option_map_or (λ i. i + 1) (position (λ (c : CommitRecord). c.txn == t) commits) 0
 
 abbrev pub done_text : Txn → List ℕ
 done_text x = codes " done " ++ (decimal x.done ++ (codes " regs" ++ regs_text x.regs))
@@ -175,7 +175,7 @@ abbrev pub aborted_text : Txn → Why → List ℕ
 aborted_text x why = codes " aborted " ++ (node_text x.node ++ (codes " " ++ (why_text why ++ done_text x)))
 
 -- what the line says of t, by how far it is
-abbrev pub status_text : List CommitRec → ℕ → Txn → Status → List ℕ
+abbrev pub status_text : List CommitRecord → ℕ → Txn → Status → List ℕ
 status_text commits t x New = codes " new"
 status_text commits t x Active = active_text x
 status_text commits t x Committed = committed_text x (commit_place t commits)

@@ -13,13 +13,13 @@ use crate::table::Table;
 use std::alloc::{AllocError, Global};
 use zy_isa::{Program, Scenario};
 use zy_machine::Machine;
-use zy_table::CommitRec;
+use zy_table::CommitRecord;
 
 /// The rows that committed programs leave when they are run alone, one by one, from the opening rows.
 pub fn serial(
     alloc: Global,
     scenario: &Scenario,
-    commits: &[CommitRec],
+    commits: &[CommitRecord],
 ) -> Result<Table, AllocError>
     requires { All (λ c. c.txn < length scenario.now.programs) commits.now }
     ensures map { IfOk result (λ table. map_of table ≡ table_serial.serial scenario.now

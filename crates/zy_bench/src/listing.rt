@@ -1,5 +1,5 @@
 //! The line of a listing at which an input differs from it.
-ghost use Rattle.std.specs.Prelude.{◌≡◌, None};
+ghost use Rattle.std.specs.Prelude.{None};
 
 use std::io;
 use zy_io::Sink;

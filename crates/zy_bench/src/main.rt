@@ -1,7 +1,7 @@
 //! `zy_bench`: runs transaction programs on a migrating store under any schedule.
 #![tactic(auto)]
 
-ghost use Rattle.std.specs.Prelude.{◌≡◌, ◌<◌};
+ghost use Rattle.std.specs.Prelude.{◌<◌};
 
 mod advised;
 mod command_line;

@@ -24,7 +24,7 @@ same_parts (x ∷ xs) (y ∷ ys) fs gs e h =
 abbrev pub fresh : List ℕ → Compared
 fresh input = record { input = input; text = []; refusals = 0 }
 
--- what was told since tells which input it is and what was taken
+-- what was reported since shows which input it is and what was taken
 pub told_parts : (input more : List ℕ) (s : Compared) → written_by s ≡ written_by (fresh input) ++ more → (s.input ≡ input) × (s.text ≡ more)
 told_parts input more s h =
     same_parts s.input input s.text more (ap (λ l. get_or l 0 0) h) (ap (drop 1) h ∙ ap (λ l. l ++ more) (append-nil input))

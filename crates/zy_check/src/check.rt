@@ -10,6 +10,7 @@ ghost use Rattle.zy_text.specs.Cut as text;
 ghost use Rattle.zy_check.specs.Differs as spec;
 ghost use Rattle.zy_check.specs.Faults.{failed_reads, IfScenario, IsOfScenario, ReadsInput};
 ghost use Rattle.zy_check.specs.Verdicts.{GivesVerdict, IsVerdict};
+ghost use Rattle.zy_io.specs.Streams.{max_input};
 
 use crate::comparing::Comparing;
 use crate::faults::CheckFault;
@@ -57,7 +58,7 @@ pub fn check<S: Source>(alloc: Global, source: &mut S) -> Result<Verdict, CheckF
     ensures one { IfOk result (λ v. IfSome (S.left source.old) (λ left. (other : AVerdict) → IsVerdict left other
         → v ≡ other)) }
     // Where the scenario part means a scenario, that verdict comes, unless a call failed or there was no memory.
-    ensures only { IfSome (S.left source.old) (λ left. (sc : AScenario) → length left ≤ 4194304
+    ensures only { IfSome (S.left source.old) (λ left. (sc : AScenario) → length left ≤ max_input
         → utf8_fault (text.cut left) ≡ None → Means (text.cut left) sc
         → GivesVerdict result (spec.verdict left (listing_run sc))) }
     // A refused scenario part is reported by its first fault.
@@ -69,7 +70,7 @@ pub fn check<S: Source>(alloc: Global, source: &mut S) -> Result<Verdict, CheckF
     // read.
     ensures input { ReadsInput (S.left source.old) (S.left source.new) result }
     // Whatever the reader reports of its bytes, its calls give at most one more than the longest input has.
-    ensures bound { S.given source.new ≤ S.given source.old + 4194305 }
+    ensures bound { S.given source.new ≤ S.given source.old + max_input + 1 }
     // Read comes if and only if a call failed.
     ensures reads { S.failures source.new ≡ S.failures source.old + failed_reads result }
 {

@@ -1,5 +1,5 @@
 //! A sink that compares.
-ghost use Rattle.std.specs.Prelude.{◌≡◌, ◌<◌, ◌≤◌, ◌+◌, ◌++◌, [], ◌∷◌, ℕ, List, Some, length, take};
+ghost use Rattle.std.specs.Prelude.{◌≡◌, ◌<◌, ◌≤◌, ◌+◌, ◌++◌, [], ℕ, List, Some, length, take};
 ghost use Rattle.zy_check.specs.Differs.{common, feeds};
 ghost use Rattle.zy_check.specs.Differs as spec;
 ghost use Rattle.zy_check.specs.Comparing.{written_by};

@@ -16,7 +16,7 @@ pub enum CheckFault {
     /// The reader failed.
     #[error("the input could not be read to its end")]
     Read,
-    /// There was no memory.
+    /// Out of memory.
     #[error("there is not enough memory for this check")]
     Memory,
     /// There are over 4,194,304 bytes.

@@ -4,7 +4,7 @@ use Rattle.std.proofs.lemmas.Bool.{ltb-true}
 use Rattle.std.proofs.lemmas.Option.{none-some}
 use Rattle.std.specs.Prelude.{length, nat_lt}
 use Rattle.zy_stops.specs.Slots.{free_slot}
-use Rattle.zy_debug.specs.Commands.{Does, Obeys, in_range, refusal, set_at, stopped}
+use Rattle.zy_debug.specs.Commands.{Does, Obeys, in_range, refusal, set_at, stop_reply}
 use Rattle.zy_debug.specs.Sessions.{Session}
 use Rattle.zy_debug.specs.declared.command.Command.{Command}
 use Rattle.zy_debug.specs.declared.command.Command.TheVariants as command
@@ -16,9 +16,9 @@ use Rattle.zy_debug.specs.declared.command.Shown.TheVariants as shown
 use Rattle.zy_console.specs.Replies.{IsThere}
 
 -- a reply that a session stopped, or is at a position, shows nothing
-stopped_not : {X : Type 0} (o : Option ℕ) (m : ℕ) (x : Shown) → reply.Shown x ≡ stopped o m → X
-stopped_not (Some i) m x e = absurd (cc)
-stopped_not None m x e = absurd (cc)
+stop_reply_not : {X : Type 0} (o : Option ℕ) (m : ℕ) (x : Shown) → reply.Shown x ≡ stop_reply o m → X
+stop_reply_not (Some i) m x e = absurd (cc)
+stop_reply_not None m x e = absurd (cc)
 
 -- nor does one that a stop is set
 set_not : {X : Type 0} (o : Option ℕ) (x : Shown) → set_at o (reply.Shown x) → X
@@ -41,8 +41,8 @@ does_there : (s t : Session) (c : Command) (x : Shown) → refusal s c ≡ None 
 does_there s t (command.Step n) x e h = absurd (cc (h.1))
 does_there s t (command.Back n) x e h = absurd (cc (h.1))
 does_there s t (command.Goto n) x e h = absurd (cc (h.1))
-does_there s t command.Cont x e h = stopped_not h.slot t.position x h.reply
-does_there s t command.RCont x e h = stopped_not h.slot t.position x h.reply
+does_there s t command.Cont x e h = stop_reply_not h.slot t.position x h.reply
+does_there s t command.RCont x e h = stop_reply_not h.slot t.position x h.reply
 does_there s t (command.BreakPage p) x e h = set_not (free_slot s.stops) x h.1
 does_there s t command.BreakMode x e h = set_not (free_slot s.stops) x h.1
 does_there s t command.BreakAbort x e h = set_not (free_slot s.stops) x h.1

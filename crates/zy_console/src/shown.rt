@@ -4,7 +4,7 @@ ghost use Rattle.zy_io.specs.Writing.{line_of};
 ghost use Rattle.zy_isa.specs.declared.node.Node.TheVariants.{A, B};
 ghost use Rattle.zy_audit.specs.Locked as audit;
 ghost use Rattle.zy_audit.specs.Texts.{link_text, txn_text};
-ghost use Rattle.zy_console.specs.Replies.{IsThere, modes_text, shown_text, where_text};
+ghost use Rattle.zy_console.specs.Replies.{IsThere, shown_text, where_text};
 
 use std::alloc::AllocError;
 use zy_audit::ModeText;

@@ -6,13 +6,14 @@ use Rattle.zy_stops.specs.declared.stop.Stop.TheVariants as stop
 use Rattle.zy_stops.specs.Slots.{free_slot, with_stop, without_stop}
 use Rattle.zy_stops.proofs.FiringLemmas.{goes_on, goes_back, goes_on_once, goes_back_once}
 use Rattle.zy_debug.specs.Sessions.{Session, goes}
-use Rattle.zy_debug.specs.Commands.{Does, GoesOn, GoesBack, Moves, Sets, refusal, has_room, has_room_in_range, set_at, stopped, unless}
+use Rattle.zy_debug.specs.Commands.{Does, GoesOn, GoesBack, Moves, Sets, refusal, has_room, has_room_in_range, set_at, stop_reply, unless}
 use Rattle.zy_debug.specs.declared.command.Command.{Command}
 use Rattle.zy_debug.specs.declared.command.Command.TheVariants as command
 use Rattle.zy_debug.specs.declared.command.DebugFault.TheVariants as fault
 use Rattle.zy_debug.specs.declared.command.Reply.{Reply}
 use Rattle.zy_debug.specs.declared.command.Reply.TheVariants as reply
 use Rattle.zy_debug.specs.declared.command.Shown.TheVariants as shown
+use Rattle.zy_isa.specs.Limits.{max_key}
 
 -- ---- one at most
 
@@ -22,13 +23,13 @@ module _ (s t u : Session) (r q : Reply) where
   on_once : GoesOn s t r → GoesOn s u q → (t ≡ u) × (r ≡ q)
   on_once h k =
       let e = goes_on_once s.scenario s.stops s.position h.slot k.slot t.position u.position h.conts k.conts in
-      (h.kept ∙ ap (goes s) e.0 ∙ sym k.kept, h.reply ∙ ap₂ stopped e.1 e.0 ∙ sym k.reply)
+      (h.kept ∙ ap (goes s) e.0 ∙ sym k.kept, h.reply ∙ ap₂ stop_reply e.1 e.0 ∙ sym k.reply)
 
   -- so is the last one below
   back_once : GoesBack s t r → GoesBack s u q → (t ≡ u) × (r ≡ q)
   back_once h k =
       let e = goes_back_once s.scenario s.stops s.position h.slot k.slot t.position u.position h.rconts k.rconts in
-      (h.kept ∙ ap (goes s) e.0 ∙ sym k.kept, h.reply ∙ ap₂ stopped e.1 e.0 ∙ sym k.reply)
+      (h.kept ∙ ap (goes s) e.0 ∙ sym k.kept, h.reply ∙ ap₂ stop_reply e.1 e.0 ∙ sym k.reply)
 
   -- the slot that a stop takes
   set_once : (o : Option ℕ) → set_at o r → set_at o q → r ≡ q
@@ -73,12 +74,12 @@ moves s m = (goes s m, reply.At m, (refl, refl))
 -- on, to a stop or the end
 on : (s : Session) → (t : Session) × (r : Reply) × GoesOn s t r
 on s = let g = goes_on s.scenario s.stops s.position in
-    (goes s g.0, stopped g.1 g.0, record { slot = g.1; conts = g.2; kept = refl; reply = refl })
+    (goes s g.0, stop_reply g.1 g.0, record { slot = g.1; conts = g.2; kept = refl; reply = refl })
 
 -- back, to a stop or the start
 back : (s : Session) → (t : Session) × (r : Reply) × GoesBack s t r
 back s = let g = goes_back s.scenario s.stops s.position in
-    (goes s g.0, stopped g.1 g.0, record { slot = g.1; rconts = g.2; kept = refl; reply = refl })
+    (goes s g.0, stop_reply g.1 g.0, record { slot = g.1; rconts = g.2; kept = refl; reply = refl })
 
 -- where a slot is free the stop takes it
 slot_set : (o : Option ℕ) → unless (not (is_none o)) fault.TooManyStops ≡ None → (r : Reply) × set_at o r
@@ -104,7 +105,7 @@ is_done s command.RCont h = back s
 is_done s (command.BreakPage p) h = sets s (stop.Page p) (in_range_too (nat_lt p s.scenario.pages) s h)
 is_done s command.BreakMode h = sets s stop.Mode h
 is_done s command.BreakAbort h = sets s stop.Abort h
-is_done s (command.Watch x) h = sets s (stop.Watch x) (in_range_too (nat_le x 65535) s h)
+is_done s (command.Watch x) h = sets s (stop.Watch x) (in_range_too (nat_le x max_key) s h)
 is_done s (command.Delete n) h = (record s { stops = without_stop (n - 1) s.stops }, reply.Deleted n, (refl, refl))
 is_done s (command.Page p) h = (s, reply.Shown (shown.Page p), (refl, refl))
 is_done s (command.Txn n) h = (s, reply.Shown (shown.Txn n), (refl, refl))

@@ -60,23 +60,23 @@ abbrev pub Moves : Session → ℕ → Session → Reply → Type 0
 Moves s m t r = (t ≡ goes s m) × (r ≡ reply.At m)
 
 -- the stop of a slot, or no stop, and the position
-abbrev pub stopped : Option ℕ → ℕ → Reply
-stopped (Some i) m = reply.Stop (i + 1) m
-stopped None m = reply.At m
+abbrev pub stop_reply : Option ℕ → ℕ → Reply
+stop_reply (Some i) m = reply.Stop (i + 1) m
+stop_reply None m = reply.At m
 
 -- on to the next position at which a stop fires, or to the end
 pub record GoesOn (s t : Session) (r : Reply) : Type 0 where
   pub slot : Option ℕ
   pub conts : Conts s.scenario s.stops s.position slot t.position
   pub kept : t ≡ goes s t.position
-  pub reply : r ≡ stopped slot t.position
+  pub reply : r ≡ stop_reply slot t.position
 
 -- back to the last position below at which a stop fires, or to the start
 pub record GoesBack (s t : Session) (r : Reply) : Type 0 where
   pub slot : Option ℕ
   pub rconts : RConts s.scenario s.stops s.position slot t.position
   pub kept : t ≡ goes s t.position
-  pub reply : r ≡ stopped slot t.position
+  pub reply : r ≡ stop_reply slot t.position
 
 abbrev pub set_at : Option ℕ → Reply → Type 0
 set_at (Some i) r = r ≡ reply.Set (i + 1)

@@ -1,5 +1,5 @@
 //! Machines that are kept as they were at some positions.
-ghost use Rattle.std.specs.Prelude.{◌≡◌, ◌≤◌, ◌<◌, ◌+◌, [], ◌⊎◌, IfOk, IfSome, OnOk, length, option_copied};
+ghost use Rattle.std.specs.Prelude.{◌≡◌, ◌≤◌, ◌<◌, ◌+◌, ◌⊎◌, IfOk, IfSome, OnOk, length, option_copied};
 ghost use Rattle.zy_isa.specs.Scenario.{Scenario as AScenario};
 ghost use Rattle.zy_debug.specs.Checkpoints.{HoldReplaysOf, IsBelow, IsReplayOf};
 

@@ -77,7 +77,7 @@ pub enum DebugFault {
     /// Sixteen stops are set.
     #[error("too many stops")]
     TooManyStops,
-    /// There was no memory.
+    /// Out of memory.
     #[error("there is not enough memory for this session")]
     Memory,
 }

@@ -1,10 +1,9 @@
 //! The debugger: a position and sixteen stops.
-ghost use Rattle.std.specs.Prelude.{◌≡◌, true, false, ◌≤◌, ◌<◌, ◌==◌, ◌&&◌, ◌-◌, not, IfOk, IfSome, OnOk, OnErr};
-ghost use Rattle.std.specs.Prelude.{length, replicate, None, nat_le, nat_lt, slice_get, option_copied};
-ghost use Rattle.zy_isa.specs.Limits.{max_choices};
+ghost use Rattle.std.specs.Prelude.{◌≡◌, true, false, ◌≤◌, ◌<◌, ◌==◌, ◌&&◌, ◌-◌, IfOk, IfSome, OnOk, OnErr};
+ghost use Rattle.std.specs.Prelude.{length, replicate, None, nat_le, nat_lt, option_copied};
+ghost use Rattle.zy_isa.specs.Limits.{max_choices, max_key};
 ghost use Rattle.zy_stops.specs.declared.stop.Stop.TheVariants as stop;
 ghost use Rattle.zy_stops.specs.Scans.{Conts, RConts, LastIn};
-ghost use Rattle.zy_stops.specs.Slots.{free_slot, with_stop, without_stop, is_set};
 ghost use Rattle.zy_debug.specs.Commands.{refusal, Does, Obeys, Moves, GoesOn, GoesBack, Sets, Deletes, Stays};
 ghost use Rattle.zy_debug.specs.Commands.{has_room, has_room_in_range, has_stop, in_range, unless};
 ghost use Rattle.zy_debug.specs.Checkpoints.{IsReplayOf};
@@ -179,10 +178,10 @@ impl Debugger {
 
     /// A stop where the committed value at a key changes.
     fn watch(&mut self, k: u32) -> Result<Reply, DebugFault>
-        ensures { Obeys (has_room_in_range (nat_le k 65535) self.old)
+        ensures { Obeys (has_room_in_range (nat_le k max_key) self.old)
             (Sets self.old (stop.Watch k)) self.old self.new result }
     {
-        if k <= 65535 {
+        if k <= u32::from(u16::MAX) {
             self.set(Stop::Watch(k as u16))
         } else {
             Err(DebugFault::Range)

@@ -6,16 +6,16 @@ use Rattle.zy_io.specs.declared.writing.TextFault.TheVariants.{Write, Memory}
 use Rattle.zy_check.specs.declared.verdict.Verdict.{Verdict}
 use Rattle.zy_check.specs.Verdicts.{IsVerdict}
 use Rattle.zy_engine.specs.Checks.{WroteOrNothing, verdict_line}
-use Rattle.zy_engine.proofs.RunLemmas.{WrotePrefix-nothing}
+use Rattle.zy_io.proofs.StreamLemmas.{WrotePrefix-none}
 
 -- all of a text, nothing and a prefix of it are prefixes of it
 pub tell-prefix : {X : Type 0} (old new : Option (List ℕ)) (before after : ℕ) (r : Result X TextFault) (text : List ℕ)
     → WroteOrNothing old new before after r text → WrotePrefix old new text
 tell-prefix old new before after (Ok x) text w = (text, [], sym (append-nil text), w.0)
 tell-prefix old new before after (Err Write) text w = w.0
-tell-prefix old new before after (Err Memory) text w = subst (λ a. WrotePrefix old a text) (sym w.0) (WrotePrefix-nothing old text)
+tell-prefix old new before after (Err Memory) text w = subst (λ a. WrotePrefix old a text) (sym w.0) (WrotePrefix-none old text)
 
--- the verdict that was told is the input's, whatever is said to be it
+-- the verdict that was reported is the input's, whatever is said to be it
 pub prefix-of-one : (told : Option (List ℕ)) (old new : Option (List ℕ)) (v : Verdict) → IfSome told (λ t. (other : Verdict) → IsVerdict t other → v ≡ other)
     → WrotePrefix old new (verdict_line v) → IfSome told (λ t. (other : Verdict) → IsVerdict t other → WrotePrefix old new (verdict_line other))
 prefix-of-one None old new v one w = tt

@@ -2,7 +2,7 @@
 use Rattle.std.proofs.Common.{◌≡◌, ◌≤◌, ◌+◌, ◌∙◌, ℕ, List, [], Option, None, IfSome, Result, Ok, Err, refl, sym, ap, subst, arith, append-nil}
 use Rattle.std.proofs.Common.{take, drop, length}
 use Rattle.std.specs.Io.KnownBytes.{Appends}
-use Rattle.zy_io.specs.Streams.{ReadsAll, ReadWhole}
+use Rattle.zy_io.specs.Streams.{ReadsAll, ReadWhole, max_input}
 use Rattle.zy_io.specs.declared.reading.ReadFault.{ReadFault}
 use Rattle.zy_io.specs.declared.reading.ReadFault.TheVariants as reading
 use Rattle.zy_io.specs.declared.writing.TextFault.{TextFault}
@@ -38,7 +38,7 @@ below_is input below n back cuts = ap lines_of (back ∙ ap (λ k. drop k input)
 
 -- ---- no scenario is accepted
 
-module _ (old : Streams) (left : Option (List ℕ)) (reads given : ℕ) (bound : given ≤ old.given + 4194305) where
+module _ (old : Streams) (left : Option (List ℕ)) (reads given : ℕ) (bound : given ≤ old.given + max_input + 1) where
   -- before that nothing is written, whatever the fault
   stopped : (f : BenchFault) → IfRefused f (IfSome old.left (λ t. IsTextFault (cut t) f)) → ReadsBefore old.left left f → reads ≡ old.reads + reads_failed f
       → writes_failed f ≡ 0
@@ -95,7 +95,7 @@ accepted bytes part scenario is means only right = record {
 }
 
 module _ (old new : Streams) (bytes : List ℕ) (scenario : Scenario) (same : IfSome old.left (λ t. bytes ≡ t)) (whole : ReadWhole old.left new.left)
-    (calls : new.reads ≡ old.reads) (is : Accepted bytes scenario) (bound : new.given ≤ old.given + 4194305) where
+    (calls : new.reads ≡ old.reads) (is : Accepted bytes scenario) (bound : new.given ≤ old.given + max_input + 1) where
   -- a prefix of what is said of that scenario is one of what is said of each that the part means
   some_prefix : SaysPrefix old.written new.written (opened scenario) (commands_of bytes)
       → IfSome old.left (λ t. (sc : Scenario) → Means (cut t) sc → SaysPrefix old.written new.written (opened sc) (commands_of t))
@@ -157,7 +157,7 @@ module _ (old new : Streams) (bytes : List ℕ) (scenario : Scenario) (same : If
 
 -- the same of the two parts that the code cuts the input into
 pub said-of-parts : (old new : Streams) (bytes part below : List ℕ) (n : ℕ) (scenario : Scenario) → IfSome old.left (λ t. bytes ≡ t)
-    → ReadWhole old.left new.left → new.reads ≡ old.reads → new.given ≤ old.given + 4194305
+    → ReadWhole old.left new.left → new.reads ≡ old.reads → new.given ≤ old.given + max_input + 1
     → part ≡ take n bytes → below ≡ drop n bytes → n ≡ length (cut bytes) → Means part scenario × (input_fault part ≡ None)
     → ((sc : Scenario) → Means part sc → scenario ≡ sc) → (w : Result (Unit {0}) TextFault)
     → WroteReplies old.written new.written old.writes new.writes w (opened scenario) (lines_of below) → Debugs old new (of_wrote w)

@@ -2,7 +2,7 @@
 use Rattle.std.proofs.Common.{◌≡◌, ◌∙◌, Bool, List, [], ◌∷◌, ◌++◌, refl, sym, ap}
 use Rattle.zy_isa.specs.declared.choice.Choice.{Choice}
 use Rattle.zy_isa.specs.Scenario.{Scenario}
-use Rattle.zy_table.specs.declared.entry.CommitRec.{CommitRec}
+use Rattle.zy_table.specs.declared.entry.CommitRecord.{CommitRecord}
 use Rattle.zy_table.specs.Database.{Map, database}
 use Rattle.std.specs.List.{flat_map}
 use Rattle.zy_io.specs.Writing.{line_of}
@@ -22,7 +22,7 @@ use Rattle.zy_threads.specs.Orders.{reordered, IsRunOf}
 use Rattle.zy_threads.proofs.Reordered.{opening-reordered, play-reordered, entries-reordered}
 
 -- the serial run does not ask for the choices
-serial-reordered : (sc : Scenario) (order : List Choice) (m : Map) (cs : List CommitRec) → serial (reordered sc order) m cs ≡ serial sc m cs
+serial-reordered : (sc : Scenario) (order : List Choice) (m : Map) (cs : List CommitRecord) → serial (reordered sc order) m cs ≡ serial sc m cs
 serial-reordered sc order m [] = refl
 serial-reordered sc order m (c ∷ cs) = serial-reordered sc order (alone m (program_of sc c.txn) c.done).map cs
 

@@ -1,11 +1,10 @@
 -- What an engine's parts make together: a scenario is read, or none is, and then something of it is written.
 use Rattle.std.proofs.Common.{◌≡◌, ◌≤◌, ◌+◌, ℕ, List, [], Option, None, Some, IfErr, IfOk, IfSome, Result, Ok, Err, refl, sym, subst, append-nil, arith}
-use Rattle.std.proofs.KnownBytes.{Appends-nil}
 use Rattle.std.specs.Io.KnownBytes.{Appends}
 use Rattle.zy_io.specs.declared.writing.TextFault.{TextFault}
 use Rattle.zy_io.specs.declared.writing.TextFault.TheVariants.{Write, Memory}
 use Rattle.zy_isa.specs.Scenario.{Scenario}
-use Rattle.zy_io.specs.Streams.{WrotePrefix, ReadWhole, ReadsAll}
+use Rattle.zy_io.specs.Streams.{WrotePrefix, ReadWhole, ReadsAll, max_input}
 use Rattle.zy_io.specs.declared.reading.ReadFault.{ReadFault}
 use Rattle.zy_io.specs.declared.reading.ReadFault.TheVariants as reading
 use Rattle.zy_io.specs.Writing.{Wrote}
@@ -16,10 +15,7 @@ use Rattle.zy_engine.specs.declared.format.Format.TheVariants as format
 use Rattle.zy_engine.specs.Engines.{Streams, Converts}
 use Rattle.zy_engine.specs.Faults.{of_reading, of_writing}
 use Rattle.zy_engine.specs.Inputs.{StandsFor, HasNoFault, IsRefusal, Takes, Took, TookNone}
-
--- where nothing went out, nothing but a prefix did
-pub WrotePrefix-nothing : (a : Option (List ℕ)) (text : List ℕ) → WrotePrefix a a text
-WrotePrefix-nothing a text = ([], text, refl, Appends-nil a)
+use Rattle.zy_io.proofs.StreamLemmas.{WrotePrefix-none}
 
 -- whatever came of a call that writes, a prefix of its text went out
 pub Wrote-prefix : {X : Type 0} (a b : Option (List ℕ)) (m n : ℕ) (r : Result X TextFault) (text : List ℕ) → Wrote a b m n r text → WrotePrefix a b text
@@ -27,19 +23,19 @@ Wrote-prefix a b m n (Ok x) text w = (text, [], sym (append-nil text), w.0)
 Wrote-prefix a b m n (Err Write) text w = w.0
 Wrote-prefix a b m n (Err Memory) text w = w.0
 
--- ---- the bytes that a reader told
+-- ---- the bytes that a reader reports
 
--- what holds of the bytes that were read holds of those that were told
+-- what holds of the bytes that were read holds of those that the reader reports
 pub told-of : (P : List ℕ → Type 0) (told : Option (List ℕ)) (bytes : List ℕ) → IfSome told (λ t. bytes ≡ t) → P bytes → IfSome told P
 told-of P None bytes same h = tt
 told-of P (Some t) bytes same h = subst P same h
 
--- what holds of all bytes holds of those that were told
+-- what holds of all bytes holds of those that the reader reports
 pub of-any : (P : List ℕ → Type 0) (told : Option (List ℕ)) → ((t : List ℕ) → P t) → IfSome told P
 of-any P None h = tt
 of-any P (Some t) h = h t
 
--- what follows for all bytes follows for those that were told
+-- what follows for all bytes follows for those that the reader reports
 told-map : (P Q : List ℕ → Type 0) (told : Option (List ℕ)) → ((t : List ℕ) → P t → Q t) → IfSome told P → IfSome told Q
 told-map P Q None f h = tt
 told-map P Q (Some t) f h = f t h
@@ -121,11 +117,11 @@ of_wrote (Err f) = Err (of_writing f)
 module _ (format : Format) (output : Scenario → List ℕ) (old : Streams) where
   -- an engine that took no scenario has written nothing
   pub converts-none : {X : Type 0} (left : Option (List ℕ)) (reads given : ℕ) (f : BenchFault) → TookNone format old.left left old.reads reads f
-      → given ≤ old.given + 4194305
+      → given ≤ old.given + max_input + 1
       → Converts {X = X} format output old (record old { left = left; reads = reads; given = given }) (Err f)
   converts-none left reads given f none bound = record {
     written = tt;
-    prefix = each-of-any format old.left (λ sc. WrotePrefix old.written old.written (output sc)) (λ sc. WrotePrefix-nothing old.written (output sc));
+    prefix = each-of-any format old.left (λ sc. WrotePrefix old.written old.written (output sc)) (λ sc. WrotePrefix-none old.written (output sc));
     fault = none.fault;
     input = none.input;
     accepted = tt;
@@ -138,7 +134,7 @@ module _ (format : Format) (output : Scenario → List ℕ) (old : Streams) wher
   }
 
   module _ (new : Streams) (scenario : Scenario) (took : Took format old.left new.left old.reads new.reads scenario)
-      (bound : new.given ≤ old.given + 4194305) where
+      (bound : new.given ≤ old.given + max_input + 1) where
     -- what went out is a prefix of the output of each scenario that the input stands for
     prefixes : WrotePrefix old.written new.written (output scenario)
         → IfSome old.left (λ t. (sc : Scenario) → StandsFor format t sc → WrotePrefix old.written new.written (output sc))

@@ -14,8 +14,8 @@ use Rattle.zy_threads.specs.Orders.{reordered}
 use Rattle.zy_search.specs.declared.answer.Answer.TheVariants.{Spent}
 use Rattle.zy_search.specs.declared.sought.Sought.{Sought}
 use Rattle.zy_search.specs.Searches.{IsAnswer}
-use Rattle.zy_engine.specs.Searching.{ran, WroteAnswer}
-use Rattle.zy_engine.proofs.RunLemmas.{WrotePrefix-nothing}
+use Rattle.zy_engine.specs.Searching.{history_of, WroteAnswer}
+use Rattle.zy_io.proofs.StreamLemmas.{WrotePrefix-none}
 
 -- the lines of a scenario with more choices behind its own
 pub canon-more : (sc : Scenario) (more : List Choice)
@@ -26,7 +26,7 @@ canon-more sc more =
     ∙ canon-parts (reordered sc (sc.choices ++ more))
 
 -- that nothing is known of any schedule is an answer
-pub nothing_known : (sc : Scenario) (q : Sought) → IsAnswer (ran sc) q (Spent 0)
+pub nothing_known : (sc : Scenario) (q : Sought) → IsAnswer (history_of sc) q (Spent 0)
 nothing_known sc q = λ cs a lt. absurd (omega (arith, lt))
 
 -- where memory runs out before anything is written, nothing is known
@@ -38,7 +38,7 @@ nothing_searched sc q most written failures =
       is = nothing_known sc q;
       returned = tt;
       due = tt;
-      wrote = (WrotePrefix-nothing written [], refl);
+      wrote = (WrotePrefix-none written [], refl);
     }
 
 -- a fault says as much of what went out, whatever the call would have returned

@@ -12,6 +12,7 @@ use Rattle.zy_engine.specs.declared.faults.BenchFault.{BenchFault}
 use Rattle.zy_engine.specs.Engines.{Streams}
 use Rattle.zy_engine.specs.Faults.{ReadsInput, failed_reads, failed_writes, IsQuiet, IfRefused}
 use Rattle.zy_engine.specs.Inputs.{IsTextFault}
+use Rattle.zy_io.specs.Streams.{max_input}
 
 -- the lines below the scenario part
 abbrev pub commands_of : List ℕ → List (List ℕ)
@@ -47,4 +48,4 @@ pub record Debugs {X : Type 0} (old new : Streams) (result : Result X BenchFault
   pub reads : new.reads ≡ old.reads + failed_reads result
   pub writes : new.writes ≡ old.writes + failed_writes result
   -- whatever the reader reports of its bytes, its calls give at most one more than the longest input has
-  pub bound : new.given ≤ old.given + 4194305
+  pub bound : new.given ≤ old.given + max_input + 1

@@ -18,8 +18,12 @@ use Rattle.zy_engine.specs.Inputs.{StandsFor}
 use Rattle.zy_engine.specs.Engines.{Streams, Converts}
 
 -- the machine at the end of a scenario's run
-abbrev pub ran : Scenario → History
-ran sc = record { scenario = sc; state = play sc (opening sc) sc.choices; entries = entries sc (opening sc) sc.choices }
+abbrev pub history_of : Scenario → History
+history_of sc = record {
+  scenario = sc;
+  state = play sc (opening sc) sc.choices;
+  entries = entries sc (opening sc) sc.choices;
+}
 
 -- what goes out: the scenario with the choices that were found behind its own, or nothing
 abbrev pub text_of : Scenario → Answer → List ℕ
@@ -31,17 +35,17 @@ text_of sc (Spent n) = []
 pub record WroteAnswer (sc : Scenario) (q : Sought) (most : ℕ) (old new : Option (List ℕ)) (before after : ℕ)
     (result : Result Report TextFault) : Type 0 where
   pub answer : Answer
-  pub is : IsAnswer (ran sc) q answer
+  pub is : IsAnswer (history_of sc) q answer
   pub returned : IfOk result (λ r. r.answer ≡ answer)
-  pub due : IfOk result (λ r. IsDue (ran sc) q most r.answer)
+  pub due : IfOk result (λ r. IsDue (history_of sc) q most r.answer)
   pub wrote : Wrote old new before after result (text_of sc answer)
 
 -- and the engine: the answer is one for the scenario that the input stands for, and one that gives up is due
 pub record ConvertsSearch (format : Format) (q : Sought) (most : ℕ) (old new : Streams)
     (result : Result Report BenchFault) : Type 0 where
   pub answer : Answer
-  pub is : IfSome old.left (λ bytes. (sc : Scenario) → StandsFor format bytes sc → IsAnswer (ran sc) q answer)
+  pub is : IfSome old.left (λ bytes. (sc : Scenario) → StandsFor format bytes sc → IsAnswer (history_of sc) q answer)
   pub returned : IfOk result (λ r. r.answer ≡ answer)
   pub due : IfOk result (λ r. IfSome old.left (λ bytes. (sc : Scenario) → StandsFor format bytes sc
-      → IsDue (ran sc) q most r.answer))
+      → IsDue (history_of sc) q most r.answer))
   pub converts : Converts format (λ sc. text_of sc answer) old new result

@@ -1,7 +1,7 @@
 //! The engine that checks a listing.
 ghost use Rattle.std.specs.Prelude.{◌≡◌, ◌<◌, ◌≤◌, ◌+◌, None, IfErr, IfOk, IfSome, length};
 ghost use Rattle.std.specs.Io.KnownBytes.{Appends};
-ghost use Rattle.zy_io.specs.Streams.{WrotePrefix};
+ghost use Rattle.zy_io.specs.Streams.{WrotePrefix, max_input};
 ghost use Rattle.zy_isa.specs.Scenario.{Scenario as AScenario};
 ghost use Rattle.zy_text.specs.Text.{Means};
 ghost use Rattle.zy_asm.specs.Input.{input_fault, utf8_fault};
@@ -55,7 +55,7 @@ pub fn check_bytes<S: Source, K: Sink>(
     // Exactly the words of that verdict went out.
     ensures written { IfOk result (λ v. Appends (K.written sink.old) (K.written sink.new) (verdict_line v)) }
     // Where the scenario part means a scenario, that verdict comes, unless a call failed or there was no memory.
-    ensures only { IfSome (S.left source.old) (λ bytes. (sc : AScenario) → length bytes ≤ 4194304
+    ensures only { IfSome (S.left source.old) (λ bytes. (sc : AScenario) → length bytes ≤ max_input
         → utf8_fault (cut bytes) ≡ None → Means (cut bytes) sc
         → GivesVerdict result (differs.verdict bytes (listing_run sc))) }
     // Whatever comes, nothing but a prefix of the words of the input's verdict went out.
@@ -74,7 +74,7 @@ pub fn check_bytes<S: Source, K: Sink>(
     // read.
     ensures input { ReadsInput (S.left source.old) (S.left source.new) result }
     // Whatever the reader reports of its bytes, its calls give at most one more than the longest input has.
-    ensures bound { S.given source.new ≤ S.given source.old + 4194305 }
+    ensures bound { S.given source.new ≤ S.given source.old + max_input + 1 }
     // Each fault of the reader and of the writer is one failed call.
     ensures reads { S.failures source.new ≡ S.failures source.old + failed_reads result }
     ensures writes { K.failures sink.new ≡ K.failures sink.old + failed_writes result }

@@ -27,7 +27,7 @@ pub enum BenchFault {
     /// The writer failed or took no byte.
     #[error("Write: the output could not be written")]
     Write,
-    /// There was no memory.
+    /// Out of memory.
     #[error("Memory: there is not enough memory for this run")]
     Memory,
 }

@@ -6,21 +6,22 @@ use Rattle.std.specs.Int.{w16, to_be_bytes}
 use Rattle.zy_isa.specs.declared.version.Version.{Version}
 use Rattle.zy_isa.specs.declared.row.Row.{Row}
 use Rattle.zy_isa.specs.declared.instr.Instr.{Instr}
-use Rattle.zy_isa.specs.declared.program.ProgFault.{ProgFault}
-use Rattle.zy_isa.specs.declared.program.ProgFault.TheVariants as prog
+use Rattle.zy_isa.specs.declared.program.ProgramFault.{ProgramFault}
+use Rattle.zy_isa.specs.declared.program.ProgramFault.TheVariants as prog
 use Rattle.zy_isa.specs.declared.choice.Choice.{Choice}
 use Rattle.zy_isa.specs.InstrWords.{word_of}
-use Rattle.zy_isa.specs.Programs.{prog_fault, IsKnown, IsProgram}
+use Rattle.zy_isa.specs.Programs.{program_fault, IsKnown, IsProgram}
 use Rattle.zy_isa.specs.Rows.{Rising, RowsFit}
 use Rattle.zy_isa.specs.Scenario.{ArePrograms, AreKnown, AreNamed, opening_pages_for}
-use Rattle.zy_isa.proofs.ProgramLemmas.{is_some, no_prog_fault}
+use Rattle.zy_isa.proofs.ProgramLemmas.{is_some, no_program_fault}
 use Rattle.zy_isa.proofs.ResultLemmas.{bind_ok, if_err, neither, not_over, over_not}
 use Rattle.zy_isa.proofs.RowLemmas.{Above}
 use Rattle.zy_isa.proofs.ScenarioLemmas.{program_more}
 use Rattle.zy_image.specs.declared.faults.LoadFault.TheVariants as fault
 use Rattle.zy_image.specs.declared.head.Head.{Head}
 use Rattle.zy_image.specs.Image.{row_image, rows_image, program_image, programs_image, choice_image, choices_image}
-use Rattle.zy_image.specs.Reading.{byte, half, read_items, next_row, row_count, rows, next_instr, instr_count, instrs, judged, next_program, program_count}
+use Rattle.zy_image.specs.Reading.{byte, half, read_items, next_row, row_count, rows, next_instr, instr_count}
+use Rattle.zy_image.specs.Reading.{instrs, checked_program, next_program, program_count}
 use Rattle.zy_image.specs.Reading.{programs, next_choice, choice_count, choices}
 use Rattle.zy_image.proofs.FieldLemmas.{AreBytes, one_answer, byte_found, byte_gives, half_found, half_gives}
 use Rattle.zy_image.proofs.ListLemmas.{TookItem, list_found, AreRead, items_give}
@@ -71,9 +72,9 @@ rows_give h size rs left few pages rise fit =
 -- ---- programs
 
 -- what is judged without a fault stays as it is
-judged_ok : {X : Type 0} (t : ℕ) (o : Option ProgFault) (x y : X) → judged t o x ≡ Ok y → x ≡ y
-judged_ok t None x y h = cc
-judged_ok t (Some f) x y h = cc
+checked_program_ok : {X : Type 0} (t : ℕ) (o : Option ProgramFault) (x y : X) → checked_program t o x ≡ Ok y → x ≡ y
+checked_program_ok t None x y h = cc
+checked_program_ok t (Some f) x y h = cc
 
 -- a count of instructions that passes its test stays as it is
 count_ok : (t : ℕ) (n m : ℕ × List ℕ) → (if n.0 == 0 then Err (fault.Program t prog.Empty) else if nat_lt 64 n.0 then Err (fault.Program t prog.TooLong)
@@ -89,8 +90,8 @@ pub program_found : (version : Version) (size : ℕ) (ps : List (List Instr)) (b
     → next_program version size ps bytes ≡ Ok (is, left) → TookItem program_image (AreKnown version) ps bytes is left
 program_found version size ps bytes is left known fit h =
     let t = length ps in
-    let a = bind_ok (instrs version t size bytes) (λ x. judged t (prog_fault x.0) x) (is, left) h in
-    let j : a.0 ≡ (is, left) = judged_ok t (prog_fault a.0.0) a.0 (is, left) a.2 in
+    let a = bind_ok (instrs version t size bytes) (λ x. checked_program t (program_fault x.0) x) (is, left) h in
+    let j : a.0 ≡ (is, left) = checked_program_ok t (program_fault a.0.0) a.0 (is, left) a.2 in
     let f = bind_ok (instr_count t size bytes) (λ n. read_items (next_instr version t size) [] n.0 n.1) (is, left) (a.1 ∙ ap Ok j) in
     let g = bind_ok (byte size bytes) _ f.0 f.1 in
     let m : g.0 ≡ f.0 = count_ok t g.0 f.0 g.2 in
@@ -112,7 +113,7 @@ program_gives version size before is left p known =
     rw (byte_gives size (length is) (flat_map word_of is ++ left)) (rw (some, over_not (length is) 64 p.few) refl) in
     let read : instrs version t size (length is ∷ (flat_map word_of is ++ left)) ≡ Ok (is, left) =
     rw count (items_give word_of (next_instr version t size) is [] left (instrs_read version t size is [] p.values known)) in
-    rw read (rw (no_prog_fault is p) refl)
+    rw read (rw (no_program_fault is p) refl)
 
 -- the images of programs of the version are read as them, one by one
 programs_read : (version : Version) (size : ℕ) (ps before : List (List Instr)) → ArePrograms ps → AreKnown version ps

@@ -3,8 +3,8 @@ use Rattle.std.proofs.Common.{◌≡◌, ◌==◌, ℕ, ◌-◌, ◌≤◌, Bool
 use Rattle.std.proofs.Common.{append-nil, arith, if◌then◌else◌, ok_or}
 use Rattle.std.specs.Int.{w16, to_be_bytes}
 use Rattle.zy_isa.specs.declared.version.Version.{Version}
-use Rattle.zy_isa.specs.Versions.{magic, marked}
-use Rattle.zy_isa.proofs.VersionLemmas.{marked_is, marked_back}
+use Rattle.zy_isa.specs.Versions.{magic, version_of_magic}
+use Rattle.zy_isa.proofs.VersionLemmas.{version_of_magic_is, version_of_magic_back}
 use Rattle.zy_isa.specs.declared.rule.Rule.{Rule}
 use Rattle.zy_isa.specs.declared.rule.Rule.TheVariants.{Held, Loose}
 use Rattle.zy_isa.specs.Scenario.{Scenario, IsScenario, scenario_fault, is_outside}
@@ -13,7 +13,7 @@ use Rattle.zy_isa.proofs.ScenarioLemmas.{no_fault}
 use Rattle.zy_image.specs.declared.faults.LoadFault.TheVariants as fault
 use Rattle.zy_image.specs.declared.head.Head.{Head}
 use Rattle.zy_image.specs.Image.{rule_byte, rows_image, programs_image, choices_image, image_of, IsImage}
-use Rattle.zy_image.specs.Reading.{field, byte, half, magic_field, cap_field, pages_field, rule_at, rule_field, head_fields, rows, programs, choices, ended}
+use Rattle.zy_image.specs.Reading.{field, byte, half, magic_field, cap_field, pages_field, rule_at, rule_field, head_fields, rows, programs, choices, all_read}
 use Rattle.zy_image.specs.Reading.{of_parts, reading}
 use Rattle.zy_image.proofs.FieldLemmas.{AreBytes, one_value, one_answer, field_found, field_gives, byte_found, byte_gives, half_found, half_gives}
 use Rattle.zy_image.proofs.ListImages.{rows_found, rows_give, programs_found, programs_give, choices_found, choices_give}
@@ -33,14 +33,14 @@ magic_found : (size : ℕ) (bytes : List ℕ) (v : Version) (left : List ℕ) �
 magic_found size bytes v left fit h =
     let f = bind_ok (field 4 size bytes) _ (v, left) h in
     let d = field_found 4 size bytes f.0.0 f.0.1 fit f.1 in
-    let g = bind_ok (ok_or (marked f.0.0) fault.Magic) _ (v, left) f.2 in
+    let g = bind_ok (ok_or (version_of_magic f.0.0) fault.Magic) _ (v, left) f.2 in
     let s = one_answer g.0 v f.0.1 left g.2 in
-    let x = marked_is f.0.0 v (ok_or_ok (marked f.0.0) fault.Magic g.0 g.1 ∙ ap (λ n. Some n) s.0) in
+    let x = version_of_magic_is f.0.0 v (ok_or_ok (version_of_magic f.0.0) fault.Magic g.0 g.1 ∙ ap (λ n. Some n) s.0) in
     (d.same ∙ ap (λ z. z ++ f.0.1) x ∙ ap (λ z. magic v ++ z) s.1, subst AreBytes s.1 d.back)
 
 -- the mark of a version is read as it
 magic_gives : (size : ℕ) (v : Version) (left : List ℕ) → magic_field size (magic v ++ left) ≡ Ok (v, left)
-magic_gives size v left = rw (field_gives size (magic v) left, marked_back v) refl
+magic_gives size v left = rw (field_gives size (magic v) left, version_of_magic_back v) refl
 
 -- a cap that was read is the first byte, and is in its range
 cap_found : (size : ℕ) (bytes : List ℕ) (n : ℕ) (left : List ℕ) → AreBytes bytes → cap_field size bytes ≡ Ok (n, left)
@@ -166,7 +166,7 @@ image_found bytes s fit e =
     let p = programs_found a.0.0.version size b.0.1 c.0.0 c.0.1 r.back c.1 in
     let d = bind_ok (choices (length c.0.0) size c.0.1) _ s c.2 in
     let q = choices_found (length c.0.0) size c.0.1 d.0.0 d.0.1 p.back d.1 in
-    let f = bind_ok (ended size d.0) _ s d.2 in
+    let f = bind_ok (all_read size d.0) _ s d.2 in
     let g = if_ok (length d.0.1 == 0) (Ok d.0.0) (fault.Trailing (size - length d.0.1)) f.0 f.1 in
     let last : d.0.0 ≡ f.0 = cc (g.1) in
     let none : d.0.1 ≡ [] = no_bytes d.0.1 g.0 in

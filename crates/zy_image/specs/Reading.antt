@@ -6,21 +6,21 @@ use Rattle.std.specs.Int.{w16, w32, from_be_bytes}
 use Rattle.std.specs.Borrow.{Bor}
 use Rattle.zy_isa.specs.Limits.{min_cap, max_cap, max_pages, max_rows, max_txns, max_instrs, max_choices}
 use Rattle.zy_isa.specs.declared.version.Version.{Version}
-use Rattle.zy_isa.specs.Versions.{marked}
+use Rattle.zy_isa.specs.Versions.{version_of_magic}
 use Rattle.zy_isa.specs.declared.rule.Rule.{Rule}
 use Rattle.zy_isa.specs.declared.rule.Rule.TheVariants.{Held, Loose}
 use Rattle.zy_isa.specs.declared.row.Row.{Row}
 use Rattle.zy_isa.specs.declared.node.Node.{Node}
 use Rattle.zy_isa.specs.declared.node.Node.TheVariants as node
 use Rattle.zy_isa.specs.declared.instr.Instr.{Instr}
-use Rattle.zy_isa.specs.declared.program.ProgFault.{ProgFault}
-use Rattle.zy_isa.specs.declared.program.ProgFault.TheVariants as prog
+use Rattle.zy_isa.specs.declared.program.ProgramFault.{ProgramFault}
+use Rattle.zy_isa.specs.declared.program.ProgramFault.TheVariants as prog
 use Rattle.zy_isa.specs.declared.choice.Choice.{Choice}
 use Rattle.zy_isa.specs.declared.choice.Choice.TheVariants.{Start, Begin, Kill, Run, Take, Finish, Push}
 use Rattle.zy_isa.specs.Results.{◌>>=◌}
 use Rattle.zy_isa.specs.Rows.{last_row, is_low}
 use Rattle.zy_isa.specs.Operations.{has}
-use Rattle.zy_isa.specs.Programs.{prog_fault}
+use Rattle.zy_isa.specs.Programs.{program_fault}
 use Rattle.zy_isa.specs.WordFields.{decoded}
 use Rattle.zy_isa.specs.Scenario.{Scenario, is_outside, misnamed_choice, opening_pages_for}
 use Rattle.zy_image.specs.declared.faults.LoadFault.{LoadFault}
@@ -50,7 +50,7 @@ half size bytes = field 2 size bytes >>= λ f. Ok (from_be_bytes w16 f.0, f.1)
 abbrev pub magic_field : ℕ → List ℕ → Read Version
 magic_field size bytes = do
   f ← field 4 size bytes
-  version ← ok_or (marked f.0) fault.Magic
+  version ← ok_or (version_of_magic f.0) fault.Magic
   Ok (version, f.1)
 
 abbrev pub cap_field : ℕ → List ℕ → Read ℕ
@@ -116,16 +116,16 @@ abbrev pub instr_count : ℕ → ℕ → List ℕ → Read ℕ
 instr_count t size bytes = byte size bytes >>= λ n. if n.0 == 0 then Err (fault.Program t prog.Empty)
     else if nat_lt max_instrs n.0 then Err (fault.Program t prog.TooLong) else Ok n
 
-abbrev pub judged : {X : Type 0} → ℕ → Option ProgFault → X → Result X LoadFault
-judged t None x = Ok x
-judged t (Some f) x = Err (fault.Program t f)
+abbrev pub checked_program : {X : Type 0} → ℕ → Option ProgramFault → X → Result X LoadFault
+checked_program t None x = Ok x
+checked_program t (Some f) x = Err (fault.Program t f)
 
 abbrev pub instrs : Version → ℕ → ℕ → List ℕ → Read (List Instr)
 instrs version t size bytes = instr_count t size bytes >>= λ n. read_items (next_instr version t size) [] n.0 n.1
 
 abbrev pub next_program : Version → ℕ → List (List Instr) → List ℕ → Read (List Instr)
-next_program version size ps bytes = instrs version (length ps) size bytes >>= λ is. judged (length ps)
-    (prog_fault is.0) is
+next_program version size ps bytes = instrs version (length ps) size bytes >>= λ is. checked_program (length ps)
+    (program_fault is.0) is
 
 abbrev pub program_count : ℕ → List ℕ → Read ℕ
 program_count size bytes = byte size bytes >>= λ n. if nat_lt max_txns n.0 then Err fault.TxnCount else Ok n
@@ -183,8 +183,8 @@ choices count size bytes = choice_count size bytes >>= λ n. read_items (next_ch
 
 -- ---- the whole image
 
-abbrev pub ended : {X : Type 0} → ℕ → X × List ℕ → Result X LoadFault
-ended size x = if length x.1 == 0 then Ok x.0 else Err (fault.Trailing (size - length x.1))
+abbrev pub all_read : {X : Type 0} → ℕ → X × List ℕ → Result X LoadFault
+all_read size x = if length x.1 == 0 then Ok x.0 else Err (fault.Trailing (size - length x.1))
 
 abbrev pub of_parts : Head → List Row → List (List Instr) → List Choice → Scenario
 of_parts h rs ps cs = record {
@@ -204,7 +204,7 @@ reading bytes = do
   rs ← rows h.0 (length bytes) h.1
   ps ← programs h.0.version (length bytes) rs.1
   cs ← choices (length ps.0) (length bytes) ps.1
-  last ← ended (length bytes) cs
+  last ← all_read (length bytes) cs
   Ok (of_parts h.0 rs.0 ps.0 last)
 
 -- the first fault of bytes that are to be an image

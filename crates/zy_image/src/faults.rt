@@ -2,7 +2,7 @@
 
 use std::alloc::AllocError;
 use thiserror::Error;
-use zy_isa::ProgFault;
+use zy_isa::ProgramFault;
 
 /// Why bytes are no image of a scenario. The first that comes in the order of reading is reported; rows, transactions,
 /// instructions and choices count from 0.
@@ -37,7 +37,7 @@ pub enum LoadFault {
     TxnCount,
     /// The instructions of this transaction are no program.
     #[error("transaction {0}: {1}")]
-    Program(usize, ProgFault),
+    Program(usize, ProgramFault),
     /// In this transaction, the eight bytes of this instruction are no word.
     #[error("transaction {0}: the bytes of instruction {1} are no instruction")]
     Word(usize, usize),
@@ -47,7 +47,7 @@ pub enum LoadFault {
     /// This is not a choice, or names a transaction that is not there.
     #[error("choice {0} is none, or names a transaction that is not there")]
     Choice(usize),
-    /// There was no memory for the scenario.
+    /// Out of memory for the scenario.
     #[error("there is no memory for the scenario")]
     Memory,
 }

@@ -1,5 +1,5 @@
 //! Bytes as a scenario.
-ghost use Rattle.std.specs.Prelude.{◌≡◌, ◌⊎◌, ◌≤◌, IfOk, IfErr, MatchResult, None, Some, Ok, Err, length};
+ghost use Rattle.std.specs.Prelude.{◌≡◌, ◌⊎◌, IfOk, IfErr, MatchResult, None, Some, Ok, Err};
 ghost use Rattle.zy_isa.specs.Scenario as isa;
 ghost use Rattle.zy_image.specs.declared.faults.LoadFault.TheVariants.{Memory};
 ghost use Rattle.zy_image.specs.Image.{IsImage, image_of};

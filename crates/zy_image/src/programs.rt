@@ -1,16 +1,16 @@
 //! The programs of an image.
 ghost use Rattle.std.specs.Prelude.{◌≡◌, ◌⊎◌, Ok, Err, MatchResult};
-ghost use Rattle.zy_isa.specs.Programs.{prog_fault};
+ghost use Rattle.zy_isa.specs.Programs.{program_fault};
 ghost use Rattle.zy_isa.specs.WordFields.{decoded};
 ghost use Rattle.zy_image.specs.declared.faults.LoadFault.TheVariants.{Memory};
-ghost use Rattle.zy_image.specs.Reading.{Gives, if_known, judged, next_instr, next_program};
+ghost use Rattle.zy_image.specs.Reading.{Gives, if_known, checked_program, next_instr, next_program};
 ghost use Rattle.zy_image.specs.Reading as spec;
 
 use crate::faults::LoadFault;
 use crate::fields::{byte, field};
 use crate::lists::{Items, read_items};
 use std::alloc::Global;
-use zy_isa::{MAX_INSTRS, MAX_TXNS, ProgFault, Program, Version, WORD_BYTES, Word};
+use zy_isa::{MAX_INSTRS, MAX_TXNS, ProgramFault, Program, Version, WORD_BYTES, Word};
 
 /// The word that these bytes are, where the version has its instruction.
 fn word_in(version: Version, bytes: [u8; WORD_BYTES]) -> Option<Word>
@@ -52,10 +52,10 @@ fn instr_count(txn: usize, size: usize, bytes: &[u8]) -> Result<(usize, &[u8]), 
 {
     let (count, left) = byte(size, bytes)?;
     if count == 0 {
-        return Err(LoadFault::Program(txn, ProgFault::Empty));
+        return Err(LoadFault::Program(txn, ProgramFault::Empty));
     }
     if usize::from(count) > MAX_INSTRS {
-        return Err(LoadFault::Program(txn, ProgFault::TooLong));
+        return Err(LoadFault::Program(txn, ProgramFault::TooLong));
     }
     Ok((usize::from(count), left))
 }
@@ -78,7 +78,7 @@ fn instrs(
 
 /// The program of a transaction with these words.
 fn verified(txn: usize, words: Vec<Word>) -> Result<Program, LoadFault>
-    ensures { let program = judged txn (prog_fault words.items) words.items in
+    ensures { let program = checked_program txn (program_fault words.items) words.items in
         MatchResult result (λ p. program ≡ Ok p) (λ e. program ≡ Err e) }
 {
     match Program::of_words(words) {

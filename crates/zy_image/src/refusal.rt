@@ -4,7 +4,7 @@ ghost use Rattle.std.specs.Prelude.{◌≡◌};
 use crate::faults::LoadFault;
 use crate::places::{Field, byte_at, bytes_at, cut_field, half_at, instr_count, txn_count};
 use std::fmt;
-use zy_isa::ProgFault;
+use zy_isa::ProgramFault;
 use zy_isa::scenario::opening_rows;
 
 /// What is at the place of a fault.
@@ -119,10 +119,10 @@ impl fmt::Display for ImageRefusal {
 }
 
 /// The field that has the fault of a program.
-fn program_field(txn: usize, fault: ProgFault, bytes: &[u8]) -> Field {
+fn program_field(txn: usize, fault: ProgramFault, bytes: &[u8]) -> Field {
     match fault {
-        ProgFault::Target(instr) => Field::Word(txn, usize::from(instr)),
-        ProgFault::NoEnd => Field::Word(txn, instr_count(bytes, txn).saturating_sub(1)),
+        ProgramFault::Target(instr) => Field::Word(txn, usize::from(instr)),
+        ProgramFault::NoEnd => Field::Word(txn, instr_count(bytes, txn).saturating_sub(1)),
         _ => Field::InstrCount(txn),
     }
 }
@@ -148,15 +148,15 @@ fn place(fault: LoadFault, bytes: &[u8]) -> usize {
 }
 
 /// What a program has at the place of its fault.
-fn program_found_at(txn: usize, fault: ProgFault, bytes: &[u8], at: usize) -> Found {
+fn program_found_at(txn: usize, fault: ProgramFault, bytes: &[u8], at: usize) -> Found {
     match fault {
-        ProgFault::TooLong => Found::Number(byte_at(bytes, at)),
-        ProgFault::Target(_) => Found::Target {
+        ProgramFault::TooLong => Found::Number(byte_at(bytes, at)),
+        ProgramFault::Target(_) => Found::Target {
             target: u32::from_be_bytes(bytes_at(bytes, at.saturating_add(4))),
             count: instr_count(bytes, txn),
         },
-        ProgFault::NoEnd => Found::LastWord(bytes_at(bytes, at)),
-        ProgFault::Empty | ProgFault::Memory => Found::Nothing,
+        ProgramFault::NoEnd => Found::LastWord(bytes_at(bytes, at)),
+        ProgramFault::Empty | ProgramFault::Memory => Found::Nothing,
     }
 }
 

@@ -1,5 +1,5 @@
 //! The rows of an image.
-ghost use Rattle.std.specs.Prelude.{◌≡◌, ◌⊎◌, ◌≤◌, Ok, Err, IfOk, MatchResult};
+ghost use Rattle.std.specs.Prelude.{◌≡◌, ◌⊎◌, ◌≤◌, Ok, Err, MatchResult};
 ghost use Rattle.zy_isa.specs.Rows.{last_row};
 ghost use Rattle.zy_isa.specs.Rows as isa;
 ghost use Rattle.zy_image.specs.declared.faults.LoadFault.TheVariants.{Memory};

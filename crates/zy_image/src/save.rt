@@ -2,7 +2,6 @@
 ghost use Rattle.std.specs.Prelude.{◌≡◌, ◌++◌, ◌≤◌, ℕ, List, IfOk, OnOk, length};
 ghost use Rattle.std.specs.List.{flat_map};
 ghost use Rattle.zy_isa.specs.Limits.{max_rows, max_txns, max_choices};
-ghost use Rattle.zy_isa.specs.Programs.{IsProgram};
 ghost use Rattle.zy_isa.specs.InstrWords.{word_of};
 ghost use Rattle.zy_image.specs.Image.{choices_image, head_image, image_of, program_image, programs_image, rows_image};
 ghost use Rattle.zy_image.specs.Image as spec;

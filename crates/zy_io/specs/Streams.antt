@@ -8,6 +8,10 @@ use Rattle.std.specs.Io.KnownBytes.{Appends, Consumes, IsAtEnd}
 use Rattle.zy_io.specs.declared.reading.ReadFault.{ReadFault}
 use Rattle.zy_io.specs.declared.reading.ReadFault.TheVariants.{Read, TooLong, Memory}
 
+-- the most bytes of an input
+abbrev pub max_input : ℕ
+max_input = 4194304
+
 -- the call failed
 abbrev pub pull_faults : {E : Type 0} → Result ℕ E → ℕ
 pull_faults (Ok n) = 0
@@ -41,17 +45,17 @@ TookAtMost old new most = (taken : List ℕ) × Consumes old new taken × (lengt
 abbrev pub Took : Option (List ℕ) → Option (List ℕ) → ℕ → Type 0
 Took old new count = (taken : List ℕ) × Consumes old new taken × (length taken ≡ count)
 
--- the input was read to its end, and has at most 4194304 bytes
+-- the input was read to its end, and is not too long
 abbrev pub ReadWhole : Option (List ℕ) → Option (List ℕ) → Type 0
-ReadWhole old new = TookAtMost old new 4194304 × IsAtEnd new
+ReadWhole old new = TookAtMost old new max_input × IsAtEnd new
 
--- at most 4194304 bytes were read
+-- no more than that was read
 abbrev pub ReadSome : Option (List ℕ) → Option (List ℕ) → Type 0
-ReadSome old new = TookAtMost old new 4194304
+ReadSome old new = TookAtMost old new max_input
 
--- reading stopped at the first byte after 4194304
+-- reading stopped at the first byte after that
 abbrev pub ReadTooMuch : Option (List ℕ) → Option (List ℕ) → Type 0
-ReadTooMuch old new = Took old new 4194305
+ReadTooMuch old new = Took old new (max_input + 1)
 
 -- a prefix of the text went out
 abbrev pub WrotePrefix : Option (List ℕ) → Option (List ℕ) → List ℕ → Type 0
@@ -66,7 +70,7 @@ module _ (old new : Option (List ℕ)) (before after : ℕ) where
   -- at Ok these are all the bytes that were left, and none is left; else a prefix of them was taken.
   -- TooLong comes where more than 4194304 were, and Read where a call failed
   abbrev pub ReadsAll : Result (Vec ℕ Global) ReadFault → Type 0
-  ReadsAll (Ok bytes) = Consumes old new bytes.items × IsAtEnd new × (vec_len bytes ≤ 4194304) × (after ≡ before)
+  ReadsAll (Ok bytes) = Consumes old new bytes.items × IsAtEnd new × (vec_len bytes ≤ max_input) × (after ≡ before)
   ReadsAll (Err Read) = ReadSome old new × (after ≡ before + 1)
   ReadsAll (Err TooLong) = ReadTooMuch old new × (after ≡ before)
   ReadsAll (Err Memory) = ReadSome old new × (after ≡ before)

@@ -1,6 +1,6 @@
 //! Reads an input whole.
-ghost use Rattle.std.specs.Prelude.{◌≡◌, ◌<◌, ◌≤◌, ◌+◌, Err, ℕ, List, IfOk, IfSome, length};
-ghost use Rattle.zy_io.specs.Streams.{ReadsAll};
+ghost use Rattle.std.specs.Prelude.{◌≡◌, ◌<◌, ◌≤◌, ◌+◌, Err, IfOk, IfSome, length};
+ghost use Rattle.zy_io.specs.Streams.{ReadsAll, max_input};
 
 use crate::stream::Source;
 use std::alloc::{AllocError, Global};
@@ -21,7 +21,7 @@ pub enum ReadFault {
     /// There are over 4,194,304 bytes.
     #[error("the input has at most 4194304 bytes")]
     TooLong,
-    /// There was no memory for the bytes.
+    /// Out of memory for the bytes.
     #[error("there is no memory for the input")]
     Memory,
 }
@@ -45,10 +45,10 @@ pub fn read_all<S: Source>(alloc: Global, source: &mut S) -> Result<Vec<u8>, Rea
     // Where the bytes are known beforehand these are they, and it is known when they are too many.
     ensures whole { IfOk result (λ bytes. IfSome (S.left source.old) (λ left. bytes.items ≡ left)) }
     ensures long { result ≡ Err ReadFault.TooLong
-        → IfSome (S.left source.old) (λ left. 4194304 < length left) }
+        → IfSome (S.left source.old) (λ left. max_input < length left) }
 
     // Whatever is known of the bytes, the calls give at most one byte more than the longest input has.
-    ensures bound { S.given source.new ≤ S.given source.old + 4194305 }
+    ensures bound { S.given source.new ≤ S.given source.old + max_input + 1 }
 {
     let mut bytes = Vec::new(alloc);
     let mut piece = [0u8; PIECE];

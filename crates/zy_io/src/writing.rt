@@ -14,10 +14,10 @@ pub struct WriteFault;
 /// Why a text was not written whole.
 #[derive(Clone, Copy, Debug, PartialEq, Eq, Error)]
 pub enum TextFault {
-    /// 1: a call failed or, given bytes, took none.
+    /// A call failed or, given bytes, took none.
     #[error("the output could not be written")]
     Write,
-    /// 2: there was no memory for a line.
+    /// Out of memory for a line.
     #[error("there is no memory for a line of the output")]
     Memory,
 }

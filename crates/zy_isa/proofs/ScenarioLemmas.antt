@@ -39,8 +39,8 @@ no_option f None h = refl
 no_option f (Some x) h = cc
 
 -- where no element passes a test, the search for one runs to the end of the list
-none_passes : {X : Type 0} (p : X → Bool) (xs : List X) → position p xs ≡ None → length xs ≤ position_or_len p xs
-none_passes p xs e =
+pub none_found : {X : Type 0} (p : X → Bool) (xs : List X) → position p xs ≡ None → length xs ≤ position_or_len p xs
+none_found p xs e =
     elim (cases_lt (position_or_len p xs) (length xs)) [
       | inl found ↦ let clash = rw (lt-ltb _ _ found) at e in cc
       | inr none ↦ none
@@ -59,7 +59,7 @@ named_each count (c ∷ cs) h = named_first count c cs (names_below count c) (na
 
 -- choices of which none is misnamed name transactions
 pub are_named : (count : ℕ) (choices : List Choice) → misnamed_choice count choices ≡ None → AreNamed count choices
-are_named count choices e = named_each count choices (none_passes _ choices e)
+are_named count choices e = named_each count choices (none_found _ choices e)
 
 -- choices without a fault are at most `max_choices`, and none is misnamed
 fit_if : (count : ℕ) (cs : List Choice) (b : Bool) → nat_lt max_choices (length cs) ≡ b

@@ -9,8 +9,8 @@ use Rattle.zy_isa.specs.declared.instr.Instr.TheVariants.{Set, Read, Write, Inse
 use Rattle.zy_isa.specs.declared.operation.Parts.{Parts}
 use Rattle.zy_isa.specs.declared.operation.Parts.TheVariants.{Number, Pair, Jump, Lone}
 use Rattle.zy_isa.specs.declared.version.Version.{Version}
-use Rattle.zy_isa.specs.declared.program.ProgFault.{ProgFault}
-use Rattle.zy_isa.specs.declared.program.ProgFault.TheVariants as fault
+use Rattle.zy_isa.specs.declared.program.ProgramFault.{ProgramFault}
+use Rattle.zy_isa.specs.declared.program.ProgramFault.TheVariants as fault
 use Rattle.zy_isa.specs.Operations.{has, parts_of}
 
 -- a program may end with it
@@ -44,8 +44,8 @@ abbrev pub stray_target : List Instr → Option ℕ
 stray_target is = position (λ i. not (targets_below (length is) i)) is
 
 -- the first fault of a list of instructions
-abbrev pub prog_fault : List Instr → Option ProgFault
-prog_fault is =
+abbrev pub program_fault : List Instr → Option ProgramFault
+program_fault is =
     if length is == 0 then Some fault.Empty else
     if nat_lt max_instrs (length is) then Some fault.TooLong else
     option_or (option_map fault.Target (stray_target is)) (
@@ -88,11 +88,11 @@ IsKnown version [] = Unit {0}
 IsKnown version (i ∷ is) = (has version i ≡ true) × IsKnown version is
 
 -- the answer is the program, or the first fault, or out of memory where there is none
-abbrev pub IsVerified : Result (List Instr) ProgFault → List Instr → Type 0
-IsVerified (Ok p) is = (prog_fault is ≡ None) × (p ≡ is)
-IsVerified (Err e) is = (prog_fault is ≡ Some e) ⊎ ((prog_fault is ≡ None) × (e ≡ fault.Memory))
+abbrev pub IsVerified : Result (List Instr) ProgramFault → List Instr → Type 0
+IsVerified (Ok p) is = (program_fault is ≡ None) × (p ≡ is)
+IsVerified (Err e) is = (program_fault is ≡ Some e) ⊎ ((program_fault is ≡ None) × (e ≡ fault.Memory))
 
 -- the answer is the program, or its first fault
-abbrev pub IsKept : Result (List Instr) ProgFault → List Instr → Type 0
-IsKept (Ok p) is = (prog_fault is ≡ None) × (p ≡ is)
-IsKept (Err e) is = prog_fault is ≡ Some e
+abbrev pub IsKept : Result (List Instr) ProgramFault → List Instr → Type 0
+IsKept (Ok p) is = (program_fault is ≡ None) × (p ≡ is)
+IsKept (Err e) is = program_fault is ≡ Some e

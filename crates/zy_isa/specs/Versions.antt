@@ -33,8 +33,8 @@ abbrev pub named : List ℕ → Option Version
 named w = find (λ v. bytes_eq w (word v)) versions
 
 -- the version whose images begin with these bytes
-abbrev pub marked : List ℕ → Option Version
-marked bytes = find (λ v. bytes_eq bytes (magic v)) versions
+abbrev pub version_of_magic : List ℕ → Option Version
+version_of_magic bytes = find (λ v. bytes_eq bytes (magic v)) versions
 
 -- a version has what came with another
 abbrev pub has_since : Version → Version → Bool

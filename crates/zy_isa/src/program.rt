@@ -2,7 +2,7 @@
 ghost use Rattle.std.specs.Prelude.{◌≡◌, ◌<◌, None, IfOk, IfSome, List, length, slice_index_or};
 ghost use Rattle.zy_isa.specs.Limits.{max_instrs};
 ghost use Rattle.zy_isa.specs.declared.instr.Instr.{Instr as AnInstr};
-ghost use Rattle.zy_isa.specs.Programs.{prog_fault, IsKept, IsProgram, IsVerified, Values};
+ghost use Rattle.zy_isa.specs.Programs.{program_fault, IsKept, IsProgram, IsVerified, Values};
 ghost use Rattle.zy_isa.specs.Programs as spec;
 
 use crate::instr::Instr;
@@ -17,20 +17,20 @@ pub const MAX_INSTRS: usize = 64;
 
 /// Why a list of instructions is no program. The first that holds is reported.
 #[derive(Clone, Copy, Debug, PartialEq, Eq, Error)]
-pub enum ProgFault {
-    /// 1: there is no instruction.
+pub enum ProgramFault {
+    /// There is no instruction.
     #[error("a program needs an instruction")]
     Empty,
-    /// 2: there are over 64 instructions.
+    /// There are over 64 instructions.
     #[error("a program has at most 64 instructions")]
     TooLong,
-    /// 3: the target of this instruction, from 0, is not below the number of instructions.
+    /// The target of this instruction, from 0, is not below the number of instructions.
     #[error("the target of instruction {0} is the number of an instruction")]
     Target(u8),
-    /// 4: the last instruction does not end the transaction.
+    /// The last instruction does not end the transaction.
     #[error("a program ends with commit or abort")]
     NoEnd,
-    /// 5: there was no memory for the program.
+    /// Out of memory for the program.
     #[error("there is no memory for the program")]
     Memory,
 }
@@ -96,22 +96,22 @@ fn word_ends_well(words: &[Word]) -> bool
 }
 
 /// Why instructions are no program, by their number and by what the tests of them say.
-fn fault_of(count: usize, stray: Option<usize>, ends: bool) -> Option<ProgFault>
+fn fault_of(count: usize, stray: Option<usize>, ends: bool) -> Option<ProgramFault>
     requires { IfSome stray (λ i. i < count) }
     ensures { (is : List AnInstr) → count ≡ length is → stray ≡ spec.stray_target is → ends ≡ spec.ends_well is
-        → result ≡ prog_fault is }
+        → result ≡ program_fault is }
 {
     if count == 0 {
-        return Some(ProgFault::Empty);
+        return Some(ProgramFault::Empty);
     }
     if count > MAX_INSTRS {
-        return Some(ProgFault::TooLong);
+        return Some(ProgramFault::TooLong);
     }
     if let Some(i) = stray {
-        return Some(ProgFault::Target(i as u8));
+        return Some(ProgramFault::Target(i as u8));
     }
     if !ends {
-        return Some(ProgFault::NoEnd);
+        return Some(ProgramFault::NoEnd);
     }
     None
 }
@@ -152,7 +152,7 @@ fn unknown(version: Version, words: &[Word]) -> Option<usize>
 
 impl Program {
     /// Tests a list of instructions, and keeps their words.
-    pub fn verify(alloc: Global, instrs: &[Instr]) -> Result<Program, ProgFault>
+    pub fn verify(alloc: Global, instrs: &[Instr]) -> Result<Program, ProgramFault>
         ensures { IsVerified result instrs.now }
     {
         let fault = fault_of(instrs.len(), stray_target(instrs), ends_well(instrs));
@@ -161,12 +161,12 @@ impl Program {
         }
         match words_of(alloc, instrs) {
             Ok(words) => Ok(Program::kept(words)),
-            Err(_) => Err(ProgFault::Memory),
+            Err(_) => Err(ProgramFault::Memory),
         }
     }
 
     /// Tests the words of instructions, and keeps them. Those that are no program are dropped.
-    pub fn of_words(words: Vec<Word>) -> Result<Program, ProgFault>
+    pub fn of_words(words: Vec<Word>) -> Result<Program, ProgramFault>
         ensures { IsKept result words.items }
     {
         let tested = words.as_slice();
@@ -178,7 +178,7 @@ impl Program {
 
     /// The program of words that were tested.
     fn kept(words: Vec<Word>) -> Program
-        requires { prog_fault words.items ≡ None }
+        requires { program_fault words.items ≡ None }
         ensures { result ≡ words.items }
     {
         // Proof: the values of all instructions fit.
@@ -194,7 +194,7 @@ impl Program {
         self.words.len()
     }
 
-    /// The instruction at a place.
+    /// The instruction at an index.
     #[inline(always)]
     pub fn instr(&self, i: usize) -> Instr
         requires { i < length self.now }

@@ -37,31 +37,31 @@ pub const MAX_CHOICES: usize = 4096;
 /// Why a scenario is refused. The first that holds is reported; rows and choices count from 0.
 #[derive(Clone, Copy, Debug, PartialEq, Eq, Error)]
 pub enum ScenarioFault {
-    /// 1: there is no such version.
+    /// There is no such version.
     #[error("the version is 1 or 2")]
     Version,
-    /// 2: a page would have room for too few or too many rows.
+    /// A page would have room for too few or too many rows.
     #[error("cap is 2 to 16")]
     Cap,
-    /// 3: there would be no page, or too many.
+    /// There would be no page, or too many.
     #[error("pages is 1 to 512")]
     Pages,
-    /// 4: there are too many rows, or they need too many pages.
+    /// There are too many rows, or they need too many pages.
     #[error("the rows are at most 256 and open with at most `pages` pages")]
     RowCount,
-    /// 5: the key of this row is not above the one before it.
+    /// The key of this row is not above the one before it.
     #[error("the key of row {0} is above the key before it")]
     RowOrder(u16),
-    /// 6: there are too many transactions.
+    /// There are too many transactions.
     #[error("there are at most 64 transactions")]
     TxnCount,
-    /// 7: there are too many choices.
+    /// There are too many choices.
     #[error("there are at most 4096 choices")]
     ChoiceCount,
-    /// 8: this choice names a transaction that is not there.
+    /// This choice names a transaction that is not there.
     #[error("choice {0} names a transaction that exists")]
     Choice(u16),
-    /// 9: in this transaction, the version does not have this instruction.
+    /// In this transaction, the version does not have this instruction.
     #[error("transaction {0}: version 1 does not have instruction {1}")]
     Instruction(u8, u8),
 }

@@ -63,8 +63,8 @@ impl Version {
     }
 
     /// The version whose images begin with these bytes.
-    pub fn marked(bytes: [u8; 4]) -> Option<Version>
-        ensures { result ≡ spec.marked bytes }
+    pub fn version_of_magic(bytes: [u8; 4]) -> Option<Version>
+        ensures { result ≡ spec.version_of_magic bytes }
     {
         if is(&bytes, &Version::One.magic()) {
             Some(Version::One)

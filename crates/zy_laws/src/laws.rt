@@ -22,7 +22,7 @@ ghost use Rattle.zy_laws.specs.Counts.{Safe, Fits};
 ghost use Rattle.zy_table.specs.Serial.{Listed, Serializable};
 
 /// The counts that make each sum and index safe: a transaction has done at most one instruction for each choice, it has
-/// eight registers and a place in its program, and there are at most as many commits as transactions.
+/// eight registers and a program counter in its program, and there are at most as many commits as transactions.
 pub fn safe_counts()
     ensures { (sc : Scenario) → IsScenario sc → (choices : List AChoice)
         → Safe sc (length choices) (play sc (opening sc) choices) }

@@ -28,7 +28,7 @@ first_of : (b rest : Bool) → (b ≡ false → rest ≡ false) → (b || rest) 
 first_of true rest h = refl
 first_of false rest h = h refl
 
--- what is at the place of t's lock on p tells whether there is one
+-- what is at the place of t's lock on p shows whether there is one
 pub holds_at : (p t i : ℕ) (d : Lock) (xs : List Lock) → LocksRise xs → IsPlace p t xs i → i < length xs → holds xs p t ≡ is_held_by (get_or xs i d) p t
 holds_at p t i d [] rise at lt = absurd (omega arith)
 holds_at p t zero d (x ∷ xs) rise at lt =

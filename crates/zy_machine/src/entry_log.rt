@@ -1,5 +1,5 @@
 //! What a machine keeps of the steps that were made.
-ghost use Rattle.std.specs.Prelude.{◌≡◌, ◌<◌, ◌⊎◌, ◌++◌, ◌∷◌, [], IfOk, OnOk, OnErr, true, length, slice_get, take};
+ghost use Rattle.std.specs.Prelude.{◌≡◌, ◌<◌, ◌⊎◌, ◌++◌, ◌∷◌, [], IfOk, OnOk, true, length, take};
 ghost use Rattle.std.specs.Prelude.{drop, vec_capacity};
 ghost use Rattle.zy_machine.specs.EntryLogs.{entries_of, ahead, IsReadyFor, Fits};
 ghost use Rattle.zy_machine.specs.Trails.{IsNext};

@@ -12,7 +12,7 @@ use zy_locks::Lock;
 use zy_modes::NodeMode;
 use zy_node::NodeStore;
 use zy_node::same::same_page;
-use zy_table::{CommitRec, Status};
+use zy_table::{CommitRecord, Status};
 use zy_txns::{Book, Txn};
 use zy_wire::Wire;
 
@@ -196,7 +196,7 @@ fn same_rows(xs: &[Row], ys: &[Row]) -> bool
 }
 
 /// The same of commits in order.
-fn same_commits(xs: &[CommitRec], ys: &[CommitRec]) -> bool
+fn same_commits(xs: &[CommitRecord], ys: &[CommitRecord]) -> bool
     ensures { result ≡ true → xs.now ≡ ys.now }
 {
     xs == ys

@@ -38,7 +38,7 @@ on_message mode kind all = Stray
 abbrev pub HandsOver : Bool → MessageLine → Type 0
 HandsOver all (Turns Normal sent) = (all ≡ true) × (sent ≡ Some Done)
 HandsOver all (Turns mode (Some Done)) = ⊥
-HandsOver all row = Unit {0}
+HandsOver all line = Unit {0}
 
 -- a node in this mode may start a migration to one in that mode
 abbrev pub may_start : NodeMode → NodeMode → Bool

@@ -31,7 +31,7 @@ pub enum FinishLine {
 /// A page that is asked for goes out only if it may leave, which this function does not decide. No line depends on the
 /// version.
 pub fn on_message(mode: NodeMode, kind: Kind, all_here: bool, _version: Version) -> MessageLine
-    ensures row { result ≡ spec.on_message mode kind all_here }
+    ensures line { result ≡ spec.on_message mode kind all_here }
     ensures hands_over { HandsOver all_here result }
 {
     match (mode, kind) {
@@ -49,7 +49,7 @@ pub fn on_message(mode: NodeMode, kind: Kind, all_here: bool, _version: Version)
 
 /// What becomes of a destination whose source runs nothing any more.
 fn finishes(all_here: bool) -> MessageLine
-    ensures row { result ≡ spec.finishes all_here }
+    ensures line { result ≡ spec.finishes all_here }
     ensures hands_over { HandsOver all_here result }
 {
     if all_here {

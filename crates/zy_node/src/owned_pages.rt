@@ -1,5 +1,5 @@
 //! The pages of a node, counted, and with a number that is not above any of theirs.
-ghost use Rattle.std.specs.Prelude.{◌≡◌, ◌<◌, ◌≤◌, ◌^◌, [], None, true, ℕ, IfOk, OnOk, OnErr, length, option_copied};
+ghost use Rattle.std.specs.Prelude.{◌≡◌, ◌<◌, ◌≤◌, [], None, true, IfOk, length, option_copied};
 ghost use Rattle.zy_page.specs.Leaf.{Leaf, rows_from};
 ghost use Rattle.std.specs.Bool.{Decides};
 ghost use Rattle.zy_isa.specs.Limits.{max_pages};

@@ -18,11 +18,11 @@ pub struct PageSet {
 impl Model for PageSet {
     ghost use Rattle.std.specs.Prelude.{◌≡◌, ℕ, List, length};
     ghost use Rattle.zy_isa.specs.Limits.{max_pages};
-    ghost use Rattle.zy_node.specs.PageSets.{marked};
+    ghost use Rattle.zy_node.specs.PageSets.{marked_pages};
 
     ghost Value = { List ℕ };
 
-    ghost view = { λ m. marked 0 m.marks.items };
+    ghost view = { λ m. marked_pages 0 m.marks.items };
 
     ghost invariant = { λ m. length m.marks.items ≡ max_pages };
 }

@@ -1,7 +1,8 @@
 -- The list of the choices that a search considers has exactly those.
 use Rattle.std.proofs.Common.{◌≡◌, ◌∙◌, ℕ, zero, suc, ◌+◌, ◌<◌, ◌≤◌, List, [], ◌∷◌, ◌++◌, length, get_or, refl, sym, ap, arith, length-append, append_assoc}
-use Rattle.std.proofs.Common.{add-one, Bool, true, false, nat_lt, ◌&&◌}
+use Rattle.std.proofs.Common.{add-one, Bool, true, false, nat_lt}
 use Rattle.std.proofs.lemmas.List.{get_or_append_left, get_or-append-add}
+use Rattle.std.proofs.lemmas.Bool.{and_from, and_parts}
 use Rattle.std.proofs.lemmas.Bool.Decides.{nat_tests}
 use Rattle.std.proofs.Math.Bool.{false≢true}
 use Rattle.zy_isa.specs.declared.node.Node.{Node}
@@ -17,21 +18,6 @@ below t count lt = grind (arith, nat_tests, lt)
 -- and back
 above : (t count : ℕ) → nat_lt t count ≡ true → t < count
 above t count e = grind (arith, nat_tests, e)
-
--- both of two tests
-both : (a b : Bool) → a ≡ true → b ≡ true → (a && b) ≡ true
-both true b e f = f
-both false b e f = e
-
--- the first of two tests
-first : (a b : Bool) → (a && b) ≡ true → a ≡ true
-first true b e = refl
-first false b e = e
-
--- the second of two tests
-second : (a b : Bool) → (a && b) ≡ true → b ≡ true
-second true b e = e
-second false b e = absurd (false≢true e)
 
 -- ---- each is considered
 
@@ -49,15 +35,15 @@ each_considered kills count (suc n) make is le =
 
 -- each transaction begins
 begins : (kills : Bool) (count : ℕ) → AreConsidered kills count (each Begin count)
-begins kills count = each_considered kills count count Begin (λ t lt. both (nat_lt t count) true (below t count lt) refl) (omega arith)
+begins kills count = each_considered kills count count Begin (λ t lt. and_from (nat_lt t count) true (below t count lt) refl) (omega arith)
 
 -- a node runs each
 runs : (kills : Bool) (count : ℕ) (n : Node) → AreConsidered kills count (each (Run n) count)
-runs kills count n = each_considered kills count count (Run n) (λ t lt. both (nat_lt t count) true (below t count lt) refl) (omega arith)
+runs kills count n = each_considered kills count count (Run n) (λ t lt. and_from (nat_lt t count) true (below t count lt) refl) (omega arith)
 
 -- each is killed, where kills are considered
 kills_considered : (kills : Bool) (count : ℕ) → AreConsidered kills count (killing kills count)
-kills_considered true count = each_considered true count count Kill (λ t lt. both (nat_lt t count) true (below t count lt) refl) (omega arith)
+kills_considered true count = each_considered true count count Kill (λ t lt. and_from (nat_lt t count) true (below t count lt) refl) (omega arith)
 kills_considered false count = tt
 
 -- the choices of a node
@@ -147,10 +133,10 @@ last_has count n c h = has_right (each (Run n) count) _ c h
 -- the list has each considered choice
 pub has_considered : (kills : Bool) (count : ℕ) (c : Choice) → is_considered kills count c ≡ true → Has (considered kills count) c
 has_considered kills count Start e = (0, omega arith, refl)
-has_considered kills count (Begin t) e = client_has kills count (Begin t) (begin_has count t (first _ _ e))
+has_considered kills count (Begin t) e = client_has kills count (Begin t) (begin_has count t (and_parts _ _ e).0)
 has_considered kills count (Kill t) e = has_right (Start ∷ each Begin count) _ (Kill t)
-    (has_left (killing kills count) _ (Kill t) (kill_has kills count t (second _ _ e) (first _ _ e)))
-has_considered kills count (Run n t) e = node_has kills count n (Run n t) (run_has count t n (first _ _ e))
+    (has_left (killing kills count) _ (Kill t) (kill_has kills count t (and_parts _ _ e).1 (and_parts _ _ e).0))
+has_considered kills count (Run n t) e = node_has kills count n (Run n t) (run_has count t n (and_parts _ _ e).0)
 has_considered kills count (Take n) e = node_has kills count n (Take n) (last_has count n (Take n) (0, omega arith, refl))
 has_considered kills count (Finish n) e = node_has kills count n (Finish n) (last_has count n (Finish n) (1, omega arith, refl))
 has_considered kills count (Push n) e = node_has kills count n (Push n) (last_has count n (Push n) (2, omega arith, refl))

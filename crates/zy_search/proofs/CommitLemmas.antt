@@ -3,7 +3,7 @@ use Rattle.std.proofs.Common.{◌≡◌, ◌∙◌, sym, ap, subst, List}
 use Rattle.zy_isa.specs.declared.choice.Choice.{Choice}
 use Rattle.zy_isa.specs.Scenario.{Scenario}
 use Rattle.zy_table.specs.State.{State}
-use Rattle.zy_table.specs.declared.entry.CommitRec.{CommitRec}
+use Rattle.zy_table.specs.declared.entry.CommitRecord.{CommitRecord}
 use Rattle.zy_table.specs.Play.{step}
 use Rattle.zy_table.specs.Database.{Map, database}
 use Rattle.zy_table.specs.Serial.{serial}
@@ -28,5 +28,5 @@ never_by_others b m q c r e f same w none shown =
     let is : is_serial m.scenario m.state ≡ is_serial sc b.state =
     ap (λ (x : Scenario). is_serial x m.state) e
     ∙ (ap (λ (x : Map). same_map x (serial sc (map_of sc.rows) m.state.commits)) pages
-    ∙ ap (λ (x : List CommitRec). same_map (database b.state) (serial sc (map_of sc.rows) x)) same) in
+    ∙ ap (λ (x : List CommitRecord). same_map (database b.state) (serial sc (map_of sc.rows) x)) same) in
     none (subst (λ (x : Wanted). ShowsIt sc q.kills x b.state) (sym w) (sym is ∙ subst (λ (x : Wanted). ShowsIt m.scenario q.kills x m.state) w shown))

@@ -5,7 +5,7 @@ use Rattle.zy_isa.specs.declared.choice.Choice.{Choice}
 use Rattle.zy_isa.specs.declared.rule.Rule.TheVariants.{Held}
 use Rattle.zy_isa.specs.Scenario.{Scenario, IsScenario, AreNamed}
 use Rattle.zy_table.specs.State.{State, Step}
-use Rattle.zy_table.specs.declared.entry.CommitRec.{CommitRec}
+use Rattle.zy_table.specs.declared.entry.CommitRecord.{CommitRecord}
 use Rattle.zy_table.specs.Database.{Map, database}
 use Rattle.zy_table.specs.Serial.{serial, alone}
 use Rattle.zy_table.specs.Run.{program_of}
@@ -30,7 +30,7 @@ play-append sc s [] ds = refl
 play-append sc s (c ∷ cs) ds = play-append sc (step sc c s).after cs ds
 
 -- the serial run does not ask for the choices
-serial-reordered : (sc : Scenario) (order : List Choice) (m : Map) (commits : List CommitRec) → serial (reordered sc order) m commits ≡ serial sc m commits
+serial-reordered : (sc : Scenario) (order : List Choice) (m : Map) (commits : List CommitRecord) → serial (reordered sc order) m commits ≡ serial sc m commits
 serial-reordered sc order m [] = refl
 serial-reordered sc order m (c ∷ commits) = serial-reordered sc order (alone m (program_of sc c.txn) c.done).map commits
 

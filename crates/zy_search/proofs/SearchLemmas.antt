@@ -1,9 +1,9 @@
 -- Paths, the states that they lead to, and what a search knows of them.
 use Rattle.std.proofs.Common.{◌≡◌, ◌∙◌, ℕ, ◌+◌, ◌<◌, ◌≤◌, ◌⊎◌, inl, inr, List, [], ◌∷◌, ◌++◌, length, refl, sym, ap, subst, arith, length-append, Bool, true}
-use Rattle.std.proofs.Common.{false, ◌&&◌, Result, Ok, Err, IfOk}
+use Rattle.std.proofs.Common.{false, Result, Ok, Err, IfOk}
 use Rattle.std.proofs.lemmas.List.{get_or_append_left}
 use Rattle.std.proofs.lemmas.List.Elements.{All-from_get_or}
-use Rattle.std.proofs.lemmas.Bool.{cases_lt}
+use Rattle.std.proofs.lemmas.Bool.{and_parts, cases_lt}
 use Rattle.std.proofs.Math.Seq.{get_or-append_seam}
 use Rattle.zy_isa.specs.declared.choice.Choice.{Choice}
 use Rattle.zy_isa.specs.Choices.{names_below}
@@ -24,14 +24,9 @@ use Rattle.zy_search.specs.Visits.{path_at, length_at, IsKnown, IsVisited, Visit
 
 -- ---- choices
 
--- the first of two
-and_first : (a b : Bool) → (a && b) ≡ true → a ≡ true
-and_first true b e = refl
-and_first false b e = e
-
 -- a choice that is considered names a transaction that is there
 pub named_if : (kills : Bool) (count : ℕ) (c : Choice) → is_considered kills count c ≡ true → names_below count c ≡ true
-named_if kills count c e = and_first (names_below count c) (is_tried kills c) e
+named_if kills count c e = (and_parts (names_below count c) (is_tried kills c) e).0
 
 -- so do choices
 pub are_named : (kills : Bool) (count : ℕ) (cs : List Choice) → AreConsidered kills count cs → AreNamed count cs

@@ -32,7 +32,7 @@ use Rattle.zy_table.specs.Push.{finish_if, finish_step, push_if, push_step}
 use Rattle.zy_table.specs.Run.{same_node, abort_step, set_step, jump_step, commit_or_gone, commit_step, absent_step, read_step, is_there, write_step, has_room}
 use Rattle.zy_table.specs.Run.{split_step, full_step, insert_step, lock_of, access_step, page_step, key_step, sum_step, sum_or_waits, sum_or_asks, range_step}
 use Rattle.zy_table.specs.Run.{effect_step, instr_step, run_step}
-use Rattle.zy_table.specs.Take.{is_held, outcome_of, got_step, pull_step, message_step, front_step, take_step}
+use Rattle.zy_table.specs.Take.{is_held, outcome_of, arrival_step, pull_step, message_step, front_step, take_step}
 use Rattle.zy_table.specs.Play.{move, side_of, step}
 use Rattle.zy_machine.specs.Histories.{History}
 use Rattle.zy_search.specs.Stuck.{is_still}
@@ -41,6 +41,7 @@ use Rattle.zy_search.specs.declared.sought.Sought.{Sought}
 use Rattle.zy_search.specs.Searches.{reached}
 use Rattle.zy_search.specs.Visits.{path_at, Visits, IsEdge, IsHere, IsTwin, IsNext, Notes}
 use Rattle.zy_search.proofs.SearchLemmas.{grows_not}
+use Rattle.zy_isa.specs.Limits.{max_key}
 
 -- where nothing comes of a move it leaves the view as it was
 abbrev Stays : View → Move → Type 0
@@ -121,7 +122,7 @@ on_page sc t x k p v =
 on_key : (sc : Scenario) (t : ℕ) (x : Access) (k : ℕ) (v : View) → Stays v (key_step sc t x k v)
 unfolding key_step
 on_key sc t x k v =
-    cond_both (nat_lt 65535 k) _ _ (Stays v)
+    cond_both (nat_lt max_key k) _ _ (Stays v)
     (λ _. aborts t _ v v)
     (λ _. on_page sc t x k _ v)
 
@@ -143,7 +144,7 @@ unfolding range_step
 sums t r a b v =
     cond_both (nat_lt b a) _ _ (Stays v)
     (λ _. sets t r 0 v v)
-    (λ _. cond_both (nat_lt 65535 b) _ _ (Stays v)
+    (λ _. cond_both (nat_lt max_key b) _ _ (Stays v)
     (λ _. aborts t _ v v)
     (λ _. sum_asks t r a b _ v))
 
@@ -226,10 +227,10 @@ got_is_no_rest Finish = refl
 got_is_no_rest Done = refl
 
 -- a message is taken, or is stray
-takes_got : (row : MessageLine) (m : Message) (v r : View) → Stays v (got_step row m v r)
-unfolding got_step
-takes_got Stray m v r = λ _. refl
-takes_got (Turns mode sent) m v r = λ e. never (sym (got_is_no_rest m) ∙ e)
+takes_arrival : (line : MessageLine) (m : Message) (v r : View) → Stays v (arrival_step line m v r)
+unfolding arrival_step
+takes_arrival Stray m v r = λ _. refl
+takes_arrival (Turns mode sent) m v r = λ e. never (sym (got_is_no_rest m) ∙ e)
 
 -- a page is asked for
 takes_pull : (sc : Scenario) (p : ℕ) (row : MessageLine) (v r : View) → Stays v (pull_step sc p row v r)
@@ -245,13 +246,13 @@ takes_pull sc p (Turns mode sent) v r =
 -- any message
 takes_message : (sc : Scenario) (m : Message) (v r : View) → Stays v (message_step sc m v r)
 unfolding message_step
-takes_message sc (Wire lows) v r = takes_got _ (Wire lows) v r
-takes_message sc Ready v r = takes_got _ Ready v r
-takes_message sc Dual v r = takes_got _ Dual v r
+takes_message sc (Wire lows) v r = takes_arrival _ (Wire lows) v r
+takes_message sc Ready v r = takes_arrival _ Ready v r
+takes_message sc Dual v r = takes_arrival _ Dual v r
 takes_message sc (Pull p) v r = takes_pull sc p _ v r
-takes_message sc (Page leaf) v r = takes_got _ (Page leaf) v r
-takes_message sc Finish v r = takes_got _ Finish v r
-takes_message sc Done v r = takes_got _ Done v r
+takes_message sc (Page leaf) v r = takes_arrival _ (Page leaf) v r
+takes_message sc Finish v r = takes_arrival _ Finish v r
+takes_message sc Done v r = takes_arrival _ Done v r
 
 -- the first message, if there is one
 takes_front : (sc : Scenario) (ms : List Message) (v : View) → Stays v (front_step sc ms v)

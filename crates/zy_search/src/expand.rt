@@ -2,7 +2,8 @@
 ghost use Rattle.std.specs.Prelude.{◌≡◌, ◌≤◌, ◌<◌, ◌+◌, ◌^◌, ◌++◌, ◌∷◌, [], IfOk, OnOk, None, true, false, length};
 ghost use Rattle.zy_isa.specs.Limits.{max_choices};
 ghost use Rattle.zy_isa.specs.declared.choice.Choice.{Choice as AChoice};
-ghost use Rattle.zy_search.specs.Visits.{path_at, length_at, IsAbout, IsKnown, IsFresh, IsHere, IsKept, IsNext, IsReady};
+ghost use Rattle.zy_search.specs.Visits.{path_at, length_at, IsAbout, IsKnown, IsFresh, IsHere};
+ghost use Rattle.zy_search.specs.Visits.{IsKept, IsNext, IsReady};
 ghost use Rattle.zy_search.specs.Visits.{IsSecond, IsShelf, Grows, Meets, ExpandsWell};
 
 use crate::answer::{Expanded, Met};

@@ -2,7 +2,7 @@
 ghost use Rattle.std.specs.Prelude.{◌≡◌, ◌≤◌, ◌<◌, ◌+◌, [], ◌∷◌, IfOk, true, length};
 ghost use Rattle.zy_search.specs.declared.sought.Wanted.TheVariants.{Stuck};
 ghost use Rattle.zy_search.specs.Choices as spec;
-ghost use Rattle.zy_search.specs.Searches.{Shows, IsAnswer, IsDue};
+ghost use Rattle.zy_search.specs.Searches.{IsAnswer, IsDue};
 ghost use Rattle.zy_search.specs.Visits.{length_at, AreExpanded, Begins, IsEdge, IsWhole, Visits};
 
 use crate::answer::{Answer, Expanded, Report};

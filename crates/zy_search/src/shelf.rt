@@ -1,6 +1,6 @@
 //! Machines where the last paths lead, so that most states are compared, and expanded, without making all choices
 //! that lead there.
-ghost use Rattle.std.specs.Prelude.{◌≡◌, ◌<◌, ℕ, List, [], IfOk, IfSome, OnOk, Some, true, length, slice_index_or};
+ghost use Rattle.std.specs.Prelude.{◌≡◌, ◌<◌, List, [], IfOk, IfSome, OnOk, Some, true, length, slice_index_or};
 ghost use Rattle.zy_isa.specs.declared.choice.Choice.{Choice};
 ghost use Rattle.zy_machine.specs.Histories.{History};
 ghost use Rattle.zy_search.specs.declared.shelf.Spot.{Spot as ASpot};

@@ -16,7 +16,7 @@ use std::alloc::Global;
 use zy_audit::serial::same;
 use zy_isa::Choice;
 use zy_machine::{Fault, Machine};
-use zy_table::{CommitRec, Status};
+use zy_table::{CommitRecord, Status};
 
 /// Whether a transaction is aborted for a reason.
 fn is_aborted(reason: Reason, status: Status) -> bool
@@ -93,7 +93,7 @@ pub(crate) fn shows(
 }
 
 /// Whether these are the same commits as those.
-fn same_commits(xs: &[CommitRec], ys: &[CommitRec]) -> bool
+fn same_commits(xs: &[CommitRecord], ys: &[CommitRecord]) -> bool
     ensures { result ≡ true → xs.now ≡ ys.now }
 {
     xs == ys

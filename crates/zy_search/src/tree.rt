@@ -1,5 +1,5 @@
 //! Paths, each of which goes on from an earlier one.
-ghost use Rattle.std.specs.Prelude.{◌≡◌, ◌<◌, ◌≤◌, ◌^◌, ◌++◌, ◌∷◌, [], IfOk, OnOk, OnErr, Some, length, slice_get};
+ghost use Rattle.std.specs.Prelude.{◌≡◌, ◌<◌, ◌≤◌, ◌++◌, ◌∷◌, [], IfOk, OnOk, OnErr, length};
 ghost use Rattle.std.specs.Prelude.{slice_index_or};
 
 use crate::branch::Branch;

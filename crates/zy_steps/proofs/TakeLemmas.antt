@@ -8,7 +8,7 @@ use Rattle.zy_links.specs.Messages.{Message, Wire, Ready, Dual, Pull, Page, Fini
 use Rattle.zy_table.specs.declared.outcome.Outcome.TheVariants.{NoMessage}
 use Rattle.zy_table.specs.State.{View, NodeState}
 use Rattle.zy_table.specs.Change.{quiet}
-use Rattle.zy_table.specs.Take.{mode_line, got_step, pull_step, message_step, front_step, take_step}
+use Rattle.zy_table.specs.Take.{mode_line, arrival_step, pull_step, message_step, front_step, take_step}
 use Rattle.zy_steps.specs.Fronts.{front_of, is_pull, rest, Stands, IsFront}
 use Rattle.zy_node.proofs.MailLemmas.{front_some}
 
@@ -43,7 +43,7 @@ unfolding message_step
 take-asks sc p line v h = take-message sc (Pull p) v h.front ∙ ap (λ l. pull_step sc p l v (rest v)) (sym h.is_line)
 
 -- the step of a message other than a pull is that of its line of the mode table
-message-brings : (sc : Scenario) (m : Message) (s r : View) → is_pull m ≡ false → message_step sc m s r ≡ got_step (mode_line m s) m s r
+message-brings : (sc : Scenario) (m : Message) (s r : View) → is_pull m ≡ false → message_step sc m s r ≡ arrival_step (mode_line m s) m s r
 unfolding message_step
 message-brings sc (Wire lows) s r e = refl
 message-brings sc Ready s r e = refl
@@ -55,5 +55,5 @@ message-brings sc Done s r e = refl
 
 -- a take of a message other than a pull is the step of its line of the mode table
 pub take-brings : (sc : Scenario) (m : Message) (line : MessageLine) (v : View) → is_pull m ≡ false → Stands m line v.me v.inbox
-    → take_step sc v ≡ got_step line m v (rest v)
-take-brings sc m line v e h = take-message sc m v h.front ∙ (message-brings sc m v (rest v) e ∙ ap (λ l. got_step l m v (rest v)) (sym h.is_line))
+    → take_step sc v ≡ arrival_step line m v (rest v)
+take-brings sc m line v e h = take-message sc m v h.front ∙ (message-brings sc m v (rest v) e ∙ ap (λ l. arrival_step l m v (rest v)) (sym h.is_line))

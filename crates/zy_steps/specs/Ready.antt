@@ -77,7 +77,7 @@ pub record IsFull (sc : Scenario) (t k p at : ℕ) (x : NodeStore) (b : Ledger) 
   pub new : is_there k p (node_shown x) (txn_in t b) ≡ false
   pub full : has_room sc p (node_shown x) (txn_in t b) ≡ false
 
--- a run of t at n is safe: its counts, its place in its program, and its commit or its split if one comes
+-- a run of t at n is safe: its counts, its program counter, and its commit or its split if one comes
 pub record IsReady (sc : Scenario) (n : Node) (t : ℕ) (x : NodeStore) (b : Ledger) : Type 0 where
   pub counts : Countable t b
   pub program : t < length sc.programs

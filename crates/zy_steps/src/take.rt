@@ -1,18 +1,16 @@
 //! `n take`: each function is the lines of its name.
-ghost use Rattle.std.specs.Prelude.{◌≡◌, ◌≤◌, ◌+◌, ◌==◌, ◌++◌, ◌∷◌, [], OnOk, IfSome, Some, ℕ, true, false, is_some};
-ghost use Rattle.std.specs.Prelude.{length, option_map, slice_get};
-ghost use Rattle.zy_isa.specs.Limits.{max_pages};
+ghost use Rattle.std.specs.Prelude.{◌≡◌, ◌≤◌, ◌+◌, ◌==◌, ◌++◌, ◌∷◌, [], OnOk, Some, true, false, is_some};
+ghost use Rattle.std.specs.Prelude.{length, slice_get};
 ghost use Rattle.zy_links.specs.Messages.{Message as AMessage, Page, kind_of, message_of};
 ghost use Rattle.zy_modes.specs.Table as modes;
 ghost use Rattle.zy_modes.specs.declared.table.MessageLine.TheVariants.{Turns};
-ghost use Rattle.zy_table.specs.State.{View};
 ghost use Rattle.zy_table.specs.Order.{NumbersRise};
 ghost use Rattle.zy_table.specs.Pages.{leaf_at, numbers, without};
 ghost use Rattle.zy_table.specs.Pages as table_pages;
 ghost use Rattle.zy_table.specs.Take.{all_here, with_brought, with_answer};
 ghost use Rattle.zy_table.specs.Take as table_take;
-ghost use Rattle.zy_node.specs.Mail.{HasRoom, IsWhole};
-ghost use Rattle.zy_node.specs.Nodes.{node_shown, limits_of, IsLimited};
+ghost use Rattle.zy_node.specs.Mail.{HasRoom};
+ghost use Rattle.zy_node.specs.Nodes.{node_shown, limits_of};
 ghost use Rattle.zy_node.specs.Wireframes.{lows_in};
 ghost use Rattle.zy_steps.specs.Arrivals.{IsFitting, IsNamed, IsNew, MayTake, MayTakeFrom};
 ghost use Rattle.zy_steps.specs.Fronts.{front_of, rest, IsFront, Takes};
@@ -214,13 +212,13 @@ pub fn take_step(
     match at_front(scenario, me, inbox) {
         Front::Nothing => Ok(Answer::quiet(Outcome::NoMessage)),
         Front::Asks(p, line) => pull_step(scenario, me, inbox, p, line),
-        Front::Brings(line) => got_step(me, inbox, line),
+        Front::Brings(line) => arrival_step(me, inbox, line),
     }
 }
 
 /// A message that the mode table speaks of.
-#[tactic(auto, unfolding(zy_table::specs::Take::got_step))]
-fn got_step(
+#[tactic(auto, unfolding(zy_table::specs::Take::arrival_step))]
+fn arrival_step(
     me: &mut NodeStore,
     inbox: &mut Mailbox,
     line: MessageLine,
@@ -228,7 +226,7 @@ fn got_step(
     requires may { MayTakeFrom inbox.old me.old }
     requires some { is_some (slice_get inbox.old.messages 0) ≡ true }
     ensures line { (m : AMessage) → slice_get inbox.old.messages 0 ≡ Some m
-        → Takes me.old inbox.old me.new inbox.new result (λ v. table_take.got_step line m v (rest v)) }
+        → Takes me.old inbox.old me.new inbox.new result (λ v. table_take.arrival_step line m v (rest v)) }
     ensures limits { limits_of me.new ≡ limits_of me.old }
     ensures pages { inbox.new.pages ≡ inbox.old.pages }
 {
@@ -248,7 +246,7 @@ fn turn_step(
     requires may { MayTakeFrom inbox.old me.old }
     requires some { is_some (slice_get inbox.old.messages 0) ≡ true }
     ensures line { (m : AMessage) → slice_get inbox.old.messages 0 ≡ Some m
-        → Takes me.old inbox.old me.new inbox.new result (λ v. table_take.got_step (Turns mode sent) m v (rest v)) }
+        → Takes me.old inbox.old me.new inbox.new result (λ v. table_take.arrival_step (Turns mode sent) m v (rest v)) }
     ensures limits { limits_of me.new ≡ limits_of me.old }
     ensures pages { inbox.new.pages ≡ inbox.old.pages }
 {

@@ -70,7 +70,7 @@ prefix_len-map p f (x ∷ xs) = rw (prefix_len-map p f xs) refl
 position-map : {X Y : Type 0} (p : Y → Bool) (f : X → Y) (xs : List X) → position p (map f xs) ≡ position (λ x. p (f x)) xs
 position-map p f xs = rw (prefix_len-map (λ x. not (p x)) f xs, length-map xs f) refl
 
--- what the watched slots tell at a step is what fires there
+-- what the watched slots report at a step is what fires there
 pub firing_is : (sc : Scenario) (slots : Slots) (m : ℕ) (s t : State) (o : Outcome) → s ≡ state_at sc m → t ≡ state_at sc (m + 1) → o ≡ outcome_at sc (m + 1)
     → position (λ w. slot_fires w.before t o w.slot) (map (watch_of s) slots) ≡ firing sc slots (m + 1)
 firing_is sc slots m s t o es et eo =

@@ -1,5 +1,5 @@
 //! Scans for the position at which a stop fires.
-ghost use Rattle.std.specs.Prelude.{◌≡◌, ◌<◌, ◌≤◌, ◌+◌, IfOk, IfSome, OnOk, OnErr, length, map, position};
+ghost use Rattle.std.specs.Prelude.{◌≡◌, ◌<◌, ◌≤◌, ◌+◌, IfOk, IfSome, length, map, position};
 ghost use Rattle.zy_stops.specs.Scans.{Follows, Conts, LastIn, watch_of};
 ghost use Rattle.zy_stops.specs.Stops as spec;
 

@@ -9,7 +9,7 @@ use zy_debug::DebugFault;
 use zy_engine::BenchFault;
 use zy_image::LoadFault;
 use zy_io::{ReadFault, TextFault};
-use zy_isa::ProgFault;
+use zy_isa::ProgramFault;
 use zy_wire::WireFault;
 
 /// Why a call has no answer.
@@ -73,9 +73,9 @@ impl Fault for LoadFault {
     }
 }
 
-impl Fault for ProgFault {
+impl Fault for ProgramFault {
     fn is_memory(&self) -> bool {
-        matches!(self, ProgFault::Memory)
+        matches!(self, ProgramFault::Memory)
     }
 }
 

@@ -18,13 +18,13 @@ put_front x (y ∷ ys) h =
     ap (λ b. if b then x ∷ y ∷ ys else y ∷ put_key x ys) low
 
 -- and one that is above the first goes behind it
-put_behind : (x y : ℕ) (ys : List ℕ) → y < x → put_key x (y ∷ ys) ≡ y ∷ put_key x ys
+pub put_behind : (x y : ℕ) (ys : List ℕ) → y < x → put_key x (y ∷ ys) ≡ y ∷ put_key x ys
 put_behind x y ys up =
     let far : nat_le x y ≡ false = false_from_ne_true _ (λ h. let le = leb-true x y h in absurd (omega (arith, le, up))) in
     ap (λ b. if b then x ∷ y ∷ ys else y ∷ put_key x ys) far
 
 -- each of the keys with one put among them is that one, or was there
-has-put : (k : ℕ) (xs : List ℕ) (q : ℕ) → has (put_key k xs) q ≡ true → (k ≡ q) ⊎ (has xs q ≡ true)
+pub has-put : (k : ℕ) (xs : List ℕ) (q : ℕ) → has (put_key k xs) q ≡ true → (k ≡ q) ⊎ (has xs q ≡ true)
 has-put k [] q h = elim (or_cases _ _ h) [ inl e ↦ inl (eqb-true _ _ e) | inr e ↦ absurd (false≢true e) ]
 has-put k (x ∷ xs) q h =
     cond_both (nat_le k x) (k ∷ x ∷ xs) (x ∷ put_key k xs) (λ ys. has ys q ≡ true → (k ≡ q) ⊎ (has (x ∷ xs) q ≡ true))

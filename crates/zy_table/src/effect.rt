@@ -11,7 +11,7 @@ use zy_isa::{Instr, Reg};
 pub enum Effect {
     /// The register gets this value.
     Sets(Reg, u32),
-    /// Goes to this place if the jump is taken, else to the next.
+    /// Goes to this instruction if the jump is taken, else to the next.
     Jumps(bool, u32),
     /// Reads, writes or inserts at this key.
     Accesses(Access, u32),

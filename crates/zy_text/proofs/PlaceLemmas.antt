@@ -10,7 +10,7 @@ is_false : (b : Bool) → (b ≡ true → ⊥) → b ≡ false
 is_false true never = absurd (never refl)
 is_false false never = refl
 
--- the first place that passes is the one that `position` tells
+-- the first place that passes is the one that `position` gives
 pub IsFirstByte-position : (a : ℕ) (hay : List ℕ) (r : Option ℕ) → IsFirstByte (is_byte a) hay r → r ≡ position (is_byte a) hay
 IsFirstByte-position a hay None nowhere =
     let at : position_or_len (is_byte a) hay ≡ length hay = position_or_len_is (is_byte a) hay (length hay) 0 (omega arith)

@@ -19,7 +19,7 @@ pub struct Words<'a> {
 }
 
 impl<'a> Model for Words<'a> {
-    ghost use Rattle.std.specs.Prelude.{List, ℕ, map, take};
+    ghost use Rattle.std.specs.Prelude.{List, ℕ, take};
     ghost use Rattle.zy_text.specs.Lines.{texts};
 
     ghost Value = { List (List ℕ) };

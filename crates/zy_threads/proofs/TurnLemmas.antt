@@ -12,7 +12,8 @@ use Rattle.zy_isa.specs.Choices.{actor_of, names_below}
 use Rattle.zy_isa.specs.Scenario.{AreNamed}
 use Rattle.zy_machine.specs.Histories.{History, choices_of}
 use Rattle.zy_machine.proofs.HistoryLemmas.{choices_of-push, length-choices_of}
-use Rattle.zy_threads.specs.Turns.{sub, is_by, is_c, is_a, is_b, Turns, BoardView, turns_of, ahead, entry_at, after_choice, after_turn, AreTurnsOf, IsBoard}
+use Rattle.zy_threads.specs.Turns.{sub, is_by, is_c, is_a, is_b, Turns, BoardView, turns_of, one_further}
+use Rattle.zy_threads.specs.Turns.{entry_at, after_choice, after_turn, AreTurnsOf, IsBoard}
 
 -- a choice behind a list, whether one is put in front or not
 pushed : (b d : Bool) (x c : Choice) (l m : List Choice) → l ≡ (if d then m ++ c ∷ [] else m)
@@ -75,9 +76,9 @@ sub_lengths (d ∷ cs) =
     (λ i. l i + m i + n i) ∙ all ∙ omega arith
 
 -- the actor's own turns, after its choice was taken
-line_ahead : (x : Actor) (m : History) (l : Turns) (c : Choice) → AreTurnsOf x m l → slice_get l.schedule l.cursor ≡ Some c
-    → AreTurnsOf x (after_choice m c) (ahead l)
-line_ahead x m l c was next =
+turns_one_further : (x : Actor) (m : History) (l : Turns) (c : Choice) → AreTurnsOf x m l → slice_get l.schedule l.cursor ≡ Some c
+    → AreTurnsOf x (after_choice m c) (one_further l)
+turns_one_further x m l c was next =
     let own : is_by x c ≡ true = sub_by x m.scenario.choices l.cursor c (ap (λ s. slice_get s l.cursor) (sym was.whole) ∙ next) in
     record {
       whole = was.whole;
@@ -125,7 +126,7 @@ board_turned C t c was next =
     let others = only_c (actor_of c) (own_at C t.machine t.c c was.of_c next) in
     record {
       tested = was.tested;
-      of_c = line_ahead C t.machine t.c c was.of_c next;
+      of_c = turns_one_further C t.machine t.c c was.of_c next;
       of_a = line_beside A t.machine t.a c was.of_a others.0;
       of_b = line_beside B t.machine t.b c was.of_b others.1;
     }
@@ -134,7 +135,7 @@ board_turned A t c was next =
     record {
       tested = was.tested;
       of_c = line_beside C t.machine t.c c was.of_c others.0;
-      of_a = line_ahead A t.machine t.a c was.of_a next;
+      of_a = turns_one_further A t.machine t.a c was.of_a next;
       of_b = line_beside B t.machine t.b c was.of_b others.1;
     }
 board_turned B t c was next =
@@ -143,7 +144,7 @@ board_turned B t c was next =
       tested = was.tested;
       of_c = line_beside C t.machine t.c c was.of_c others.0;
       of_a = line_beside A t.machine t.a c was.of_a others.1;
-      of_b = line_ahead B t.machine t.b c was.of_b next;
+      of_b = turns_one_further B t.machine t.b c was.of_b next;
     }
 
 -- how many choices an actor has taken

@@ -64,8 +64,8 @@ turns_of t A = t.a
 turns_of t B = t.b
 
 -- one more is taken
-abbrev pub ahead : Turns → Turns
-ahead l = record { schedule = l.schedule; cursor = l.cursor + 1 }
+abbrev pub one_further : Turns → Turns
+one_further l = record { schedule = l.schedule; cursor = l.cursor + 1 }
 
 -- what comes of the choice
 abbrev pub entry_at : History → Choice → Entry
@@ -81,9 +81,9 @@ after_choice h c = record {
 
 -- the choice was made, and the actor's cursor moved by one
 abbrev pub after_turn : BoardView → Actor → Choice → BoardView
-after_turn t C c = record { machine = after_choice t.machine c; c = ahead t.c; a = t.a; b = t.b }
-after_turn t A c = record { machine = after_choice t.machine c; c = t.c; a = ahead t.a; b = t.b }
-after_turn t B c = record { machine = after_choice t.machine c; c = t.c; a = t.a; b = ahead t.b }
+after_turn t C c = record { machine = after_choice t.machine c; c = one_further t.c; a = t.a; b = t.b }
+after_turn t A c = record { machine = after_choice t.machine c; c = t.c; a = one_further t.a; b = t.b }
+after_turn t B c = record { machine = after_choice t.machine c; c = t.c; a = t.a; b = one_further t.b }
 
 -- what a turn of the actor answers, and what is then on the board
 abbrev pub IsTurn : Actor → BoardView → Option Entry → BoardView → Type 0

@@ -1,9 +1,9 @@
 //! A machine whose choices are taken actor by actor.
-ghost use Rattle.std.specs.Prelude.{◌≡◌, ◌<◌, ◌≤◌, ◌+◌, ℕ, [], IfOk, OnErr, IsTrue, MatchOption, length, slice_get};
+ghost use Rattle.std.specs.Prelude.{◌≡◌, ◌<◌, ◌≤◌, ◌+◌, [], IfOk, OnErr, MatchOption, length, slice_get};
 ghost use Rattle.std.specs.Prelude.{Some};
 ghost use Rattle.zy_machine.specs.Histories.{choices_of};
 ghost use Rattle.zy_table.specs.Play.{opening};
-ghost use Rattle.zy_threads.specs.Turns.{sub, is_by, turns_of, ahead, IsTurn, IsBoard, IsMerge};
+ghost use Rattle.zy_threads.specs.Turns.{sub, is_by, turns_of, one_further, IsTurn, IsBoard, IsMerge};
 ghost use Rattle.zy_isa.specs.declared.node.Actor.TheVariants.{C as client, A as node_a, B as node_b};
 
 use std::alloc::Global;
@@ -57,7 +57,7 @@ impl Lane {
 
     fn advance(&mut self)
         requires { self.old.cursor < length self.old.schedule }
-        ensures { self.new ≡ ahead self.old }
+        ensures { self.new ≡ one_further self.old }
     {
         self.cursor += 1;
     }

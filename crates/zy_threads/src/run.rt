@@ -1,5 +1,5 @@
 //! Three workers on one board.
-ghost use Rattle.std.specs.Prelude.{◌≡◌, ℕ, length, IfOk};
+ghost use Rattle.std.specs.Prelude.{◌≡◌, IfOk};
 ghost use Rattle.zy_isa.specs.declared.node.Actor.TheVariants.{C as client, A as node_a, B as node_b};
 ghost use Rattle.zy_laws.specs.Throughout.{OwnedThroughout, SerialThroughout};
 ghost use Rattle.zy_machine.specs.Histories.{choices_of};

@@ -1,6 +1,5 @@
 //! Whether a page's line is what it was, without making it.
 ghost use Rattle.std.specs.Prelude.{◌≡◌, ◌≤◌, ◌&&◌, true, length, take};
-ghost use Rattle.zy_isa.specs.declared.node.Node.TheVariants.{A, B};
 ghost use Rattle.zy_table.specs.State.{facing};
 ghost use Rattle.zy_audit.specs.Locked.{page_reply};
 ghost use Rattle.zy_trace.specs.Kept.{AreRests, none_on};

@@ -8,15 +8,15 @@ use Rattle.std.proofs.lemmas.List.{get_or-set_same, get_or-set_other, length-set
 use Rattle.std.proofs.lemmas.List.Edits.{length-insert}
 use Rattle.zy_wire.specs.declared.entry.Entry.{Entry}
 use Rattle.zy_wire.specs.ByLow.{front, IsPlace}
-use Rattle.zy_wire.specs.Nodes.{Knot, no_knot, node, low_of, IsKid, Kids, lower_half, upper_half, LeadsTo, Fits, IsAt, IsTree}
+use Rattle.zy_wire.specs.Nodes.{TreeNode, no_node, node, low_of, IsChild, Children, lower_half, upper_half, LeadsTo, Fits, IsAt, IsTree}
 use Rattle.zy_wire.specs.Pages.{Whole, Has, Holds}
 use Rattle.zy_wire.proofs.Entries.{low_rises, low_below, front_drop, front-insert, front-take, Rise-take, Rise-drop, Rise-insert, one_place}
-use Rattle.zy_wire.proofs.Descent.{kid_at}
-use Rattle.zy_wire.proofs.Spans.{Same, Same-is, Kids-lift, Kids-take, Kids-drop, Kids-insert, Fits-lift, IsAt-back, one_parent}
+use Rattle.zy_wire.proofs.Descent.{child_at}
+use Rattle.zy_wire.proofs.Spans.{Same, Same-is, Children-lift, Children-take, Children-drop, Children-insert, Fits-lift, IsAt-back, one_parent}
 use Rattle.zy_wire.proofs.Held.{key_at, Keys-take, Keys-drop, Keys-insert, Match-take, Match-drop, Whole-take, Whole-drop}
 
 -- a full child c of p, that of p's entry i
-pub record Full (nodes : List Knot) (p c i : ℕ) : Type 0 where
+pub record Full (nodes : List TreeNode) (p c i : ℕ) : Type 0 where
   pub there : p < length nodes
   pub above : 1 ≤ (node nodes p).level
   pub within : i < length (node nodes p).entries
@@ -24,11 +24,11 @@ pub record Full (nodes : List Knot) (p c i : ℕ) : Type 0 where
   pub full : length (node nodes c).entries ≡ 8
 
 -- where the upper half begins
-abbrev pub middle : List Knot → ℕ → ℕ
+abbrev pub middle : List TreeNode → ℕ → ℕ
 middle nodes c = front (drop 4 (node nodes c).entries) (node nodes c).end
 
 -- the node above, with the new entry
-abbrev pub widened : List Knot → ℕ → ℕ → ℕ → Knot
+abbrev pub widened : List TreeNode → ℕ → ℕ → ℕ → TreeNode
 widened nodes p c i = record {
   level = (node nodes p).level;
   end = (node nodes p).end;
@@ -36,11 +36,11 @@ widened nodes p c i = record {
 }
 
 -- the nodes afterwards
-abbrev pub after : List Knot → ℕ → ℕ → ℕ → List Knot
+abbrev pub after : List TreeNode → ℕ → ℕ → ℕ → List TreeNode
 after nodes p c i = set (set nodes c (lower_half (node nodes c)) ++ upper_half (node nodes c) ∷ []) p (widened nodes p c i)
 
 -- what is where
-pub record Cut (nodes nodes' : List Knot) (p c i : ℕ) : Type 0 where
+pub record Cut (nodes nodes' : List TreeNode) (p c i : ℕ) : Type 0 where
   pub more : length nodes' ≡ length nodes + 1
   pub parent : node nodes' p ≡ widened nodes p c i
   pub lower : node nodes' c ≡ lower_half (node nodes c)
@@ -48,18 +48,18 @@ pub record Cut (nodes nodes' : List Knot) (p c i : ℕ) : Type 0 where
   pub other : (x : ℕ) → x < length nodes → (x ≡ p → ⊥) → (x ≡ c → ⊥) → node nodes' x ≡ node nodes x
 
 -- the child, as the node above knows it
-pub child : (nodes : List Knot) (root top p c i : ℕ) (d : Entry) → IsTree nodes root top → Full nodes p c i
-    → IsKid nodes (node nodes p).level (get_or (node nodes p).entries i d).low (front (drop (suc i) (node nodes p).entries) (node nodes p).end) c
+pub child : (nodes : List TreeNode) (root top p c i : ℕ) (d : Entry) → IsTree nodes root top → Full nodes p c i
+    → IsChild nodes (node nodes p).level (get_or (node nodes p).entries i d).low (front (drop (suc i) (node nodes p).entries) (node nodes p).end) c
 child nodes root top p c i d t f =
-    rw (f.is d) at (kid_at nodes (node nodes p).level (node nodes p).end i d (node nodes p).entries ((t.each p f.there).kids f.above) f.within)
+    rw (f.is d) at (child_at nodes (node nodes p).level (node nodes p).end i d (node nodes p).entries ((t.each p f.there).children f.above) f.within)
 
 -- the middle is above the least key of the child and below its end
-pub record Middle (nodes : List Knot) (c : ℕ) : Type 0 where
+pub record Middle (nodes : List TreeNode) (c : ℕ) : Type 0 where
   pub up : low_of (node nodes c) < middle nodes c
   pub down : middle nodes c < (node nodes c).end
 
 -- a full node that fits has its middle between its least key and its end
-pub middle_of : (nodes : List Knot) (c : ℕ) → Fits nodes (node nodes c) → length (node nodes c).entries ≡ 8 → Middle nodes c
+pub middle_of : (nodes : List TreeNode) (c : ℕ) → Fits nodes (node nodes c) → length (node nodes c).entries ≡ 8 → Middle nodes c
 middle_of nodes c fits full =
     let n = node nodes c in
     let d : Entry = record { low = 0; to = 0 } in
@@ -70,16 +70,16 @@ middle_of nodes c fits full =
     record { up = omega arith; down = omega arith }
 
 -- a full child is not the node above it
-apart : (nodes : List Knot) (root top p c i : ℕ) → IsTree nodes root top → Full nodes p c i → p ≡ c → ⊥
+apart : (nodes : List TreeNode) (root top p c i : ℕ) → IsTree nodes root top → Full nodes p c i → p ≡ c → ⊥
 apart nodes root top p c i t f same =
-    let kid = child nodes root top p c i (record { low = 0; to = 0 }) t f in
+    let child = child nodes root top p c i (record { low = 0; to = 0 }) t f in
     let level = ap (λ x. (node nodes x).level) same in
-    omega (arith, kid.level)
+    omega (arith, child.level)
 
 -- the nodes afterwards are those of a cut
-pub Cut-is : (nodes : List Knot) (root top p c i : ℕ) → IsTree nodes root top → Full nodes p c i → Cut nodes (after nodes p c i) p c i
+pub Cut-is : (nodes : List TreeNode) (root top p c i : ℕ) → IsTree nodes root top → Full nodes p c i → Cut nodes (after nodes p c i) p c i
 Cut-is nodes root top p c i t f =
-    let kid = child nodes root top p c i (record { low = 0; to = 0 }) t f in
+    let child = child nodes root top p c i (record { low = 0; to = 0 }) t f in
     let other = apart nodes root top p c i t f in
     let l = lower_half (node nodes c) in
     let u = upper_half (node nodes c) in
@@ -90,65 +90,66 @@ Cut-is nodes root top p c i t f =
     let two : length second ≡ length first + 1 = length_push first u in
     let three : length (set second p w) ≡ length second = length-set second p w in
     let lt = f.there in
-    let lt' = kid.there in
+    let lt' = child.there in
     record {
       more = omega arith;
-      parent = get_or-set_same second p w no_knot (omega arith);
-      lower = get_or-set_other second p c w no_knot (λ e. other (sym e)) ∙ (get_or_append_left first (u ∷ []) no_knot c (omega arith)
-          ∙ get_or-set_same nodes c l no_knot kid.there);
-      upper = get_or-set_other second p (length nodes) w no_knot (λ e. absurd (omega arith)) ∙ get_or_at first u [] no_knot (length nodes) one;
-      other = λ x in' notp notc. get_or-set_other second p x w no_knot notp ∙ (get_or_append_left first (u ∷ []) no_knot x (omega arith)
-          ∙ get_or-set_other nodes c x l no_knot notc);
+      parent = get_or-set_same second p w no_node (omega arith);
+      lower = get_or-set_other second p c w no_node (λ e. other (sym e)) ∙ (get_or_append_left first (u ∷ []) no_node c (omega arith)
+          ∙ get_or-set_same nodes c l no_node child.there);
+      upper = get_or-set_other second p (length nodes) w no_node (λ e. absurd (omega arith)) ∙ get_or_at first u [] no_node (length nodes) one;
+      other = λ x in' notp notc. get_or-set_other second p x w no_node notp ∙ (get_or_append_left first (u ∷ []) no_node x (omega arith)
+          ∙ get_or-set_other nodes c x l no_node notc);
     }
 
 -- every node but the one that is cut has the level and the keys that it had
-kept : (nodes nodes' : List Knot) (root top p c i x : ℕ) → IsTree nodes root top → Full nodes p c i → Cut nodes nodes' p c i → x < length nodes → (x ≡ c → ⊥)
+kept : (nodes nodes' : List TreeNode) (root top p c i x : ℕ) → IsTree nodes root top → Full nodes p c i → Cut nodes nodes' p c i → x < length nodes
+    → (x ≡ c → ⊥)
     → Same nodes nodes' x
 kept nodes nodes' root top p c i x t f k lt notc =
     let n = node nodes p in
     elim (cases_eq x p) [
       | inl here ↦ subst (Same nodes nodes') (sym here) (record {
-        level = ap (λ (m : Knot). m.level) k.parent;
-        low = ap (λ (m : Knot). low_of m) k.parent ∙ front-insert (suc i) (record { low = middle nodes c; to = length nodes }) n.entries n.end (omega arith)
+        level = ap (λ (m : TreeNode). m.level) k.parent;
+        low = ap (λ (m : TreeNode). low_of m) k.parent ∙ front-insert (suc i) (record { low = middle nodes c; to = length nodes }) n.entries n.end (omega arith)
             (let w = f.within in omega arith);
-        end = ap (λ (m : Knot). m.end) k.parent;
+        end = ap (λ (m : TreeNode). m.end) k.parent;
       })
       | inr notp ↦ Same-is nodes nodes' x (k.other x lt notp notc)
     ]
 
 -- the halves, as the node above knows them
-lower_kid : (nodes nodes' : List Knot) (root top p c i : ℕ) (d : Entry) → IsTree nodes root top → Full nodes p c i → Cut nodes nodes' p c i
-    → IsKid nodes' (node nodes p).level (get_or (node nodes p).entries i d).low (middle nodes c) c
-lower_kid nodes nodes' root top p c i d t f k =
-    let kid = child nodes root top p c i d t f in
+lower_child : (nodes nodes' : List TreeNode) (root top p c i : ℕ) (d : Entry) → IsTree nodes root top → Full nodes p c i → Cut nodes nodes' p c i
+    → IsChild nodes' (node nodes p).level (get_or (node nodes p).entries i d).low (middle nodes c) c
+lower_child nodes nodes' root top p c i d t f k =
+    let child = child nodes root top p c i d t f in
     record {
-      there = (let z = kid.there in let m = k.more in omega arith);
-      level = ap (λ (m : Knot). m.level + 1) k.lower ∙ kid.level;
-      low = ap (λ (m : Knot). low_of m) k.lower ∙ (front-take 4 (node nodes c).entries (node nodes c).end ∙ kid.low);
-      end = ap (λ (m : Knot). m.end) k.lower;
+      there = (let z = child.there in let m = k.more in omega arith);
+      level = ap (λ (m : TreeNode). m.level + 1) k.lower ∙ child.level;
+      low = ap (λ (m : TreeNode). low_of m) k.lower ∙ (front-take 4 (node nodes c).entries (node nodes c).end ∙ child.low);
+      end = ap (λ (m : TreeNode). m.end) k.lower;
     }
 
 -- the same for the upper half, which is the new node
-upper_kid : (nodes nodes' : List Knot) (root top p c i : ℕ) (d : Entry) → IsTree nodes root top → Full nodes p c i → Cut nodes nodes' p c i
-    → IsKid nodes' (node nodes p).level (middle nodes c) (front (drop (suc i) (node nodes p).entries) (node nodes p).end) (length nodes)
-upper_kid nodes nodes' root top p c i d t f k =
-    let kid = child nodes root top p c i d t f in
+upper_child : (nodes nodes' : List TreeNode) (root top p c i : ℕ) (d : Entry) → IsTree nodes root top → Full nodes p c i → Cut nodes nodes' p c i
+    → IsChild nodes' (node nodes p).level (middle nodes c) (front (drop (suc i) (node nodes p).entries) (node nodes p).end) (length nodes)
+upper_child nodes nodes' root top p c i d t f k =
+    let child = child nodes root top p c i d t f in
     record {
       there = (let m = k.more in omega arith);
-      level = ap (λ (m : Knot). m.level + 1) k.upper ∙ kid.level;
-      low = ap (λ (m : Knot). low_of m) k.upper;
-      end = ap (λ (m : Knot). m.end) k.upper ∙ kid.end;
+      level = ap (λ (m : TreeNode). m.level + 1) k.upper ∙ child.level;
+      low = ap (λ (m : TreeNode). low_of m) k.upper;
+      end = ap (λ (m : TreeNode). m.end) k.upper ∙ child.end;
     }
 
 -- the node above fits
-parent_fits : (nodes nodes' : List Knot) (root top p c i : ℕ) → IsTree nodes root top → Full nodes p c i → Cut nodes nodes' p c i
+parent_fits : (nodes nodes' : List TreeNode) (root top p c i : ℕ) → IsTree nodes root top → Full nodes p c i → Cut nodes nodes' p c i
     → Fits nodes' (widened nodes p c i)
 parent_fits nodes nodes' root top p c i t f k =
     let d : Entry = record { low = 0; to = 0 } in
     let n = node nodes p in
     let fits = t.each p f.there in
-    let kid = child nodes root top p c i d t f in
-    let m = middle_of nodes c (t.each c kid.there) f.full in
+    let child = child nodes root top p c i d t f in
+    let m = middle_of nodes c (t.each c child.there) f.full in
     let new : Entry = record { low = middle nodes c; to = length nodes } in
     let more = k.more in
     let in' = f.within in
@@ -162,10 +163,10 @@ parent_fits nodes nodes' root top p c i t f k =
             | inl before ↦ (let r = low_rises 0 j i d' n.entries n.end fits.rise before in' in omega arith)
             | inr past ↦ (let same : j ≡ i = omega arith in let e = ap (λ z. (get_or n.entries z d').low) same in omega arith)
           ])
-          (omega (arith, kid.end, m.down));
-      kids = λ up. Kids-insert nodes nodes' n.level n.end i d new n.entries (omega arith) (fits.kids up) in'
+          (omega (arith, child.end, m.down));
+      children = λ up. Children-insert nodes nodes' n.level n.end i d new n.entries (omega arith) (fits.children up) in'
           (λ j d' lt not.
-          let at = kid_at nodes n.level n.end j d' n.entries (fits.kids up) lt in
+          let at = child_at nodes n.level n.end j d' n.entries (fits.children up) lt in
           kept nodes nodes' root top p c i (get_or n.entries j d').to t f k at.there (λ same.
           let here = child nodes root top p c i d' t f in
           let lows : low_of (node nodes (get_or n.entries j d').to) ≡ low_of (node nodes c) = ap (λ z. low_of (node nodes z)) same in
@@ -176,77 +177,77 @@ parent_fits nodes nodes' root top p c i t f k =
               | inr both ↦ not (omega arith)
             ]
           ]))
-          (rw (f.is d) (lower_kid nodes nodes' root top p c i d t f k))
-          (upper_kid nodes nodes' root top p c i d t f k);
+          (rw (f.is d) (lower_child nodes nodes' root top p c i d t f k))
+          (upper_child nodes nodes' root top p c i d t f k);
     }
 
 -- the children of the node that is cut are not itself
-child_kept : (nodes nodes' : List Knot) (root top p c i : ℕ) → IsTree nodes root top → Full nodes p c i → Cut nodes nodes' p c i → c < length nodes
-    → 1 ≤ (node nodes c).level → Kids nodes' (node nodes c).level (node nodes c).end (node nodes c).entries
+child_kept : (nodes nodes' : List TreeNode) (root top p c i : ℕ) → IsTree nodes root top → Full nodes p c i → Cut nodes nodes' p c i → c < length nodes
+    → 1 ≤ (node nodes c).level → Children nodes' (node nodes c).level (node nodes c).end (node nodes c).entries
 child_kept nodes nodes' root top p c i t f k there up =
     let n = node nodes c in
-    let kids = (t.each c there).kids up in
-    Kids-lift nodes nodes' n.level n.end n.entries (let m = k.more in omega arith)
+    let children = (t.each c there).children up in
+    Children-lift nodes nodes' n.level n.end n.entries (let m = k.more in omega arith)
     (λ j d lt.
-    let at = kid_at nodes n.level n.end j d n.entries kids lt in
+    let at = child_at nodes n.level n.end j d n.entries children lt in
     kept nodes nodes' root top p c i (get_or n.entries j d).to t f k at.there (λ same. let e = ap (λ x. (node nodes x).level) same in omega (arith, at.level)))
-    kids
+    children
 
 -- the lower half fits among the nodes afterwards
-lower_fits : (nodes nodes' : List Knot) (root top p c i : ℕ) → IsTree nodes root top → Full nodes p c i → Cut nodes nodes' p c i → c < length nodes
+lower_fits : (nodes nodes' : List TreeNode) (root top p c i : ℕ) → IsTree nodes root top → Full nodes p c i → Cut nodes nodes' p c i → c < length nodes
     → Fits nodes' (lower_half (node nodes c))
 lower_fits nodes nodes' root top p c i t f k there =
     let n = node nodes c in
     record {
       some = omega (arith, length-take 4 n.entries, f.full);
       rise = Rise-take 0 4 n.entries n.end (t.each c there).rise;
-      kids = λ up. Kids-take nodes' n.level n.end 4 n.entries (child_kept nodes nodes' root top p c i t f k there up);
+      children = λ up. Children-take nodes' n.level n.end 4 n.entries (child_kept nodes nodes' root top p c i t f k there up);
     }
 
 -- the same for the upper half
-upper_fits : (nodes nodes' : List Knot) (root top p c i : ℕ) → IsTree nodes root top → Full nodes p c i → Cut nodes nodes' p c i → c < length nodes
+upper_fits : (nodes nodes' : List TreeNode) (root top p c i : ℕ) → IsTree nodes root top → Full nodes p c i → Cut nodes nodes' p c i → c < length nodes
     → Fits nodes' (upper_half (node nodes c))
 upper_fits nodes nodes' root top p c i t f k there =
     let n = node nodes c in
     record {
       some = omega (arith, length-drop 4 n.entries, f.full);
       rise = Rise-drop 0 4 n.entries n.end (t.each c there).rise;
-      kids = λ up. Kids-drop nodes' n.level n.end 4 n.entries (child_kept nodes nodes' root top p c i t f k there up);
+      children = λ up. Children-drop nodes' n.level n.end 4 n.entries (child_kept nodes nodes' root top p c i t f k there up);
     }
 
 -- the children of the others are kept: none is the node that is cut
-other_fits : (nodes nodes' : List Knot) (root top p c i x : ℕ) → IsTree nodes root top → Full nodes p c i → Cut nodes nodes' p c i → x < length nodes
+other_fits : (nodes nodes' : List TreeNode) (root top p c i x : ℕ) → IsTree nodes root top → Full nodes p c i → Cut nodes nodes' p c i → x < length nodes
     → (x ≡ p → ⊥) → Fits nodes' (node nodes x)
 other_fits nodes nodes' root top p c i x t f k there notp =
     let n = node nodes x in
     Fits-lift nodes nodes' n (let m = k.more in omega arith) (t.each x there)
     (λ up j d lt.
-    let at = kid_at nodes n.level n.end j d n.entries ((t.each x there).kids up) lt in
+    let at = child_at nodes n.level n.end j d n.entries ((t.each x there).children up) lt in
     kept nodes nodes' root top p c i (get_or n.entries j d).to t f k at.there (λ same.
     notp (one_parent nodes x p j i d t.once there f.there (t.each x there) (t.each p f.there) up f.above lt f.within (same ∙ sym (f.is d)))))
 
 -- the node that had a key
-record Was (nodes nodes' : List Knot) (c x k : ℕ) : Type 0 where
+record Was (nodes nodes' : List TreeNode) (c x k : ℕ) : Type 0 where
   old : ℕ
   at : IsAt nodes old k
   level : (node nodes' x).level ≡ (node nodes old).level
   is : ((x ≡ old) × (x ≡ c → k < middle nodes c)) ⊎ ((x ≡ length nodes) × (old ≡ c) × (middle nodes c ≤ k))
 
 -- each node that has a key after the cut comes from one that had it before
-was : (nodes nodes' : List Knot) (root top p c i x k : ℕ) → IsTree nodes root top → Full nodes p c i → Cut nodes nodes' p c i → IsAt nodes' x k
+was : (nodes nodes' : List TreeNode) (root top p c i x k : ℕ) → IsTree nodes root top → Full nodes p c i → Cut nodes nodes' p c i → IsAt nodes' x k
     → Was nodes nodes' c x k
 was nodes nodes' root top p c i x k t f cut h =
     let d : Entry = record { low = 0; to = 0 } in
-    let kid = child nodes root top p c i d t f in
-    let m = middle_of nodes c (t.each c kid.there) f.full in
-    let there = kid.there in
+    let child = child nodes root top p c i d t f in
+    let m = middle_of nodes c (t.each c child.there) f.full in
+    let there = child.there in
     elim (cases_lt x (length nodes)) [
       | inl lt ↦ elim (cases_eq x c) [
         | inl here ↦
-            let level = ap (λ (n : Knot). n.level) (ap (λ y. node nodes' y) here ∙ cut.lower) in
-            let low : low_of (node nodes' x) ≡ low_of (node nodes c) = ap (λ (n : Knot). low_of n) (ap (λ y. node nodes' y) here ∙ cut.lower)
+            let level = ap (λ (n : TreeNode). n.level) (ap (λ y. node nodes' y) here ∙ cut.lower) in
+            let low : low_of (node nodes' x) ≡ low_of (node nodes c) = ap (λ (n : TreeNode). low_of n) (ap (λ y. node nodes' y) here ∙ cut.lower)
             ∙ front-take 4 (node nodes c).entries (node nodes c).end in
-            let end : (node nodes' x).end ≡ middle nodes c = ap (λ (n : Knot). n.end) (ap (λ y. node nodes' y) here ∙ cut.lower) in
+            let end : (node nodes' x).end ≡ middle nodes c = ap (λ (n : TreeNode). n.end) (ap (λ y. node nodes' y) here ∙ cut.lower) in
             let under : k < middle nodes c = (let b = h.below in omega arith) in
             record {
               old = c;
@@ -262,19 +263,19 @@ was nodes nodes' root top p c i x k t f cut h =
           let more = cut.more in
           let here : x ≡ length nodes = (let l = h.there in omega arith) in
           let is : node nodes' x ≡ upper_half (node nodes c) = ap (λ y. node nodes' y) here ∙ cut.upper in
-          let low : low_of (node nodes' x) ≡ middle nodes c = ap (λ (n : Knot). low_of n) is in
-          let end : (node nodes' x).end ≡ (node nodes c).end = ap (λ (n : Knot). n.end) is in
+          let low : low_of (node nodes' x) ≡ middle nodes c = ap (λ (n : TreeNode). low_of n) is in
+          let end : (node nodes' x).end ≡ (node nodes c).end = ap (λ (n : TreeNode). n.end) is in
           let over : middle nodes c ≤ k = (let l = h.low in omega arith) in
           record {
             old = c;
             at = record { there = there; low = omega (arith, m.up); below = (let b = h.below in omega arith) };
-            level = ap (λ (n : Knot). n.level) is;
+            level = ap (λ (n : TreeNode). n.level) is;
             is = inr (here, refl, over);
           }
     ]
 
 -- two nodes that come from one old node and have one key are the same node
-one : (nodes nodes' : List Knot) (c a b k : ℕ) (x : Was nodes nodes' c a k) (y : Was nodes nodes' c b k) → x.old ≡ y.old → a ≡ b
+one : (nodes nodes' : List TreeNode) (c a b k : ℕ) (x : Was nodes nodes' c a k) (y : Was nodes nodes' c b k) → x.old ≡ y.old → a ≡ b
 one nodes nodes' c a b k x y same =
     elim x.is [
       | inl ox ↦ elim y.is [
@@ -288,14 +289,15 @@ one nodes nodes' c a b k x y same =
     ]
 
 -- a tree of which a full node is cut is a tree with the same root
-pub IsTree-cut : (nodes nodes' : List Knot) (root top p c i : ℕ) → IsTree nodes root top → Full nodes p c i → Cut nodes nodes' p c i → IsTree nodes' root top
+pub IsTree-cut : (nodes nodes' : List TreeNode) (root top p c i : ℕ) → IsTree nodes root top → Full nodes p c i → Cut nodes nodes' p c i
+    → IsTree nodes' root top
 IsTree-cut nodes nodes' root top p c i t f k =
     let d : Entry = record { low = 0; to = 0 } in
-    let kid = child nodes root top p c i d t f in
+    let child = child nodes root top p c i d t f in
     let more = k.more in
-    let there = kid.there in
+    let there = child.there in
     let notroot : root ≡ c → ⊥ = λ same. (let l = ap (λ x. (node nodes x).level) same in let u = t.under p f.there in let r = t.level in
-    omega (arith, kid.level)) in
+    omega (arith, child.level)) in
     let r = kept nodes nodes' root top p c i root t f k t.there notroot in
     record {
       there = (let z = t.there in omega arith);
@@ -317,12 +319,12 @@ IsTree-cut nodes nodes' root top p c i t f k =
       ];
       under = λ x lt. elim (cases_lt x (length nodes)) [
         | inl old ↦ elim (cases_eq x c) [
-          | inl here ↦ (let l = ap (λ (n : Knot). n.level) (ap (λ y. node nodes' y) here ∙ k.lower) in let u = t.under c there in omega arith)
+          | inl here ↦ (let l = ap (λ (n : TreeNode). n.level) (ap (λ y. node nodes' y) here ∙ k.lower) in let u = t.under c there in omega arith)
           | inr notc ↦ (let s = kept nodes nodes' root top p c i x t f k old notc in let u = t.under x old in omega (arith, s.level))
         ]
         | inr past ↦
             let here : x ≡ length nodes = omega arith in
-            let l = ap (λ (n : Knot). n.level) (ap (λ y. node nodes' y) here ∙ k.upper) in
+            let l = ap (λ (n : TreeNode). n.level) (ap (λ y. node nodes' y) here ∙ k.upper) in
             let u = t.under c there in
             omega arith
       ];
@@ -333,16 +335,16 @@ IsTree-cut nodes nodes' root top p c i t f k =
     }
 
 -- the nodes after a cut agree with the low keys of the pages as they did before
-pub Holds-cut : (lows : List ℕ) (nodes nodes' : List Knot) (root top p c i : ℕ) → IsTree nodes root top → Full nodes p c i → Cut nodes nodes' p c i
+pub Holds-cut : (lows : List ℕ) (nodes nodes' : List TreeNode) (root top p c i : ℕ) → IsTree nodes root top → Full nodes p c i → Cut nodes nodes' p c i
     → Holds lows nodes → Holds lows nodes'
 Holds-cut lows nodes nodes' root top p c i t f k holds = λ x lt.
     let d : Entry = record { low = 0; to = 0 } in
-    let kid = child nodes root top p c i d t f in
+    let child = child nodes root top p c i d t f in
     let more = k.more in
     let n = node nodes c in
-    let fits = t.each c kid.there in
+    let fits = t.each c child.there in
     let m = middle_of nodes c fits f.full in
-    let had = holds c kid.there in
+    let had = holds c child.there in
     let five : 4 < length n.entries = omega (arith, f.full) in
     let key : Contains lows (middle nodes c) = subst (Contains lows) (sym (front_drop 4 d n.entries n.end five)) (key_at lows 4 d n.entries had.keys five) in
     elim (cases_lt x (length nodes)) [
@@ -377,7 +379,7 @@ Holds-cut lows nodes nodes' root top p c i t f k holds = λ x lt.
     ]
 
 -- the nodes as they are written, one after the other
-pub record Writes (nodes pushed : List Knot) (p c ip ic at : ℕ) (x l u y w : Knot) (new : Entry) : Type 0 where
+pub record Writes (nodes pushed : List TreeNode) (p c ip ic at : ℕ) (x l u y w : TreeNode) (new : Entry) : Type 0 where
   pub at_c : ic ≡ c
   pub at_p : ip ≡ p
   pub read_c : x ≡ get_or nodes ic x
@@ -390,15 +392,16 @@ pub record Writes (nodes pushed : List Knot) (p c ip ic at : ℕ) (x l u y w : K
   pub wide : w ≡ record { level = y.level; end = y.end; entries = insert y.entries at new }
 
 -- the nodes as they are written are the nodes after a cut
-pub after_is : (nodes pushed : List Knot) (root top p c i ip ic at : ℕ) (x l u y w : Knot) (new : Entry) → IsTree nodes root top → Full nodes p c i → at ≡ suc i
+pub after_is : (nodes pushed : List TreeNode) (root top p c i ip ic at : ℕ) (x l u y w : TreeNode) (new : Entry) → IsTree nodes root top
+    → Full nodes p c i → at ≡ suc i
     → Writes nodes pushed p c ip ic at x l u y w new → set pushed ip w ≡ after nodes p c i
 after_is nodes pushed root top p c i ip ic at x l u y w new t f place h =
-    let kid = child nodes root top p c i (record { low = 0; to = 0 }) t f in
+    let child = child nodes root top p c i (record { low = 0; to = 0 }) t f in
     let other = apart nodes root top p c i t f in
     let lower = lower_half (node nodes c) in
     let upper = upper_half (node nodes c) in
     let second = set nodes c lower ++ upper ∷ [] in
-    let same : x ≡ node nodes c = get_or_read nodes c x kid.there (rw h.at_c at h.read_c) no_knot in
+    let same : x ≡ node nodes c = get_or_read nodes c x child.there (rw h.at_c at h.read_c) no_node in
     let isl : l ≡ lower = h.lower ∙ ap (λ n. lower_half n) same in
     let isu : u ≡ upper = h.upper ∙ ap (λ n. upper_half n) same in
     let push : pushed ≡ second = rw (isl, isu, h.at_c) at h.push in
@@ -406,15 +409,15 @@ after_is nodes pushed root top p c i ip ic at x l u y w new t f place h =
     let two : length second ≡ length (set nodes c lower) + 1 = length_push (set nodes c lower) upper in
     let there = f.there in
     let read : y ≡ get_or second p y = rw (push, h.at_p) at h.read_p in
-    let old : y ≡ node nodes p = get_or_read second p y (omega arith) read no_knot
-    ∙ (get_or_append_left (set nodes c lower) (upper ∷ []) no_knot p (omega arith) ∙ get_or-set_other nodes c p lower no_knot other) in
+    let old : y ≡ node nodes p = get_or_read second p y (omega arith) read no_node
+    ∙ (get_or_append_left (set nodes c lower) (upper ∷ []) no_node p (omega arith) ∙ get_or-set_other nodes c p lower no_node other) in
     let low : new.low ≡ middle nodes c = h.low ∙ ap (λ n. low_of n) isu in
     let entry : new ≡ record { low = middle nodes c; to = length nodes } = (λ z. record { low = low z; to = h.to z }) in
     let wide : w ≡ widened nodes p c i = rw (old, entry, place) at h.wide in
     rw (push, h.at_p, wide) refl
 
 -- what is known before the nodes are written
-pub record Ready (nodes : List Knot) (root top p c k : ℕ) : Type 0 where
+pub record Ready (nodes : List TreeNode) (root top p c k : ℕ) : Type 0 where
   pub tree : IsTree nodes root top
   pub at : IsAt nodes p k
   pub above : 1 ≤ (node nodes p).level
@@ -422,7 +425,7 @@ pub record Ready (nodes : List Knot) (root top p c k : ℕ) : Type 0 where
   pub full : length (node nodes c).entries ≡ 8
 
 -- a node that is ready to be cut is a full child of the node above it
-pub full_of : (nodes : List Knot) (root top p c k : ℕ) (r : Ready nodes root top p c k) → Full nodes p c r.leads.at
+pub full_of : (nodes : List TreeNode) (root top p c k : ℕ) (r : Ready nodes root top p c k) → Full nodes p c r.leads.at
 full_of nodes root top p c k r = record {
   there = r.at.there;
   above = r.above;
@@ -432,17 +435,18 @@ full_of nodes root top p c k r = record {
 }
 
 -- a node that is ready to be cut is among the nodes
-pub child_there : (nodes : List Knot) (root top p c k : ℕ) → Ready nodes root top p c k → c < length nodes
+pub child_there : (nodes : List TreeNode) (root top p c k : ℕ) → Ready nodes root top p c k → c < length nodes
 child_there nodes root top p c k r = (child nodes root top p c r.leads.at (record { low = 0; to = 0 }) r.tree (full_of nodes root top p c k r)).there
 
 -- a node that is ready to be cut has 8 entries as it is read
-pub child_full : (nodes : List Knot) (root top p c k ic : ℕ) (x : Knot) → Ready nodes root top p c k → ic ≡ c → x ≡ get_or nodes ic x → length x.entries ≡ 8
+pub child_full : (nodes : List TreeNode) (root top p c k ic : ℕ) (x : TreeNode) → Ready nodes root top p c k → ic ≡ c → x ≡ get_or nodes ic x
+    → length x.entries ≡ 8
 child_full nodes root top p c k ic x r here read =
-    let same : x ≡ node nodes c = get_or_read nodes c x (child_there nodes root top p c k r) (rw here at read) no_knot in
-    ap (λ (n : Knot). length n.entries) same ∙ r.full
+    let same : x ≡ node nodes c = get_or_read nodes c x (child_there nodes root top p c k r) (rw here at read) no_node in
+    ap (λ (n : TreeNode). length n.entries) same ∙ r.full
 
 -- the nodes as they are written are those of a cut
-pub Cut-made : (nodes pushed : List Knot) (root top p c k ip ic at : ℕ) (x l u y w : Knot) (new : Entry) (r : Ready nodes root top p c k)
+pub Cut-made : (nodes pushed : List TreeNode) (root top p c k ip ic at : ℕ) (x l u y w : TreeNode) (new : Entry) (r : Ready nodes root top p c k)
     → IsPlace k (node nodes p).entries at → Writes nodes pushed p c ip ic at x l u y w new → Cut nodes (set pushed ip w) p c r.leads.at
 Cut-made nodes pushed root top p c k ip ic at x l u y w new r placed h =
     let f = full_of nodes root top p c k r in

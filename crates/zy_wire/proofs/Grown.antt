@@ -3,7 +3,7 @@ use Rattle.std.proofs.Common.{◌≡◌, ◌∙◌, ℕ, ◌+◌, ◌*◌, ◌<�
 use Rattle.std.specs.Prelude.{Contains}
 use Rattle.std.proofs.lemmas.Bool.{cases_lt}
 use Rattle.std.proofs.lemmas.List.{get_or_append_left, get_or_at, get_or_default, length_push}
-use Rattle.zy_wire.specs.Nodes.{Knot}
+use Rattle.zy_wire.specs.Nodes.{TreeNode, key_end}
 use Rattle.zy_wire.specs.Pages.{Holds, IsSound}
 
 -- the square of n + 1
@@ -11,8 +11,8 @@ square : (n : ℕ) → (n + 1) * (n + 1) ≡ n * n + 2 * n + 1
 square n = omega arith
 
 -- a sound wireframe with one more page, whose low key is new, and with at most top + 2 more nodes is sound
-pub IsSound-grown : (pages low : ℕ) (lows : List ℕ) (nodes nodes' : List Knot) (top top' : ℕ) → IsSound pages lows nodes top → (Contains lows low → ⊥)
-    → low < 65536 → length lows < pages
+pub IsSound-grown : (pages low : ℕ) (lows : List ℕ) (nodes nodes' : List TreeNode) (top top' : ℕ) → IsSound pages lows nodes top → (Contains lows low → ⊥)
+    → low < key_end → length lows < pages
     → Holds (lows ++ low ∷ []) nodes' → top' ≤ top + 1 → length nodes' ≤ length nodes + top + 2 → IsSound pages (lows ++ low ∷ []) nodes' top'
 IsSound-grown pages low lows nodes nodes' top top' h new small few holds level count =
     let lows' = lows ++ low ∷ [] in

@@ -11,6 +11,7 @@ use Rattle.zy_wire.specs.declared.entry.Entry.{Entry}
 use Rattle.zy_wire.specs.ByLow.{front, Rise}
 use Rattle.zy_wire.specs.Pages.{Keys, Match, EntryOf, Whole}
 use Rattle.zy_wire.proofs.Entries.{low_rises, front_drop}
+use Rattle.zy_wire.specs.Nodes.{key_end}
 
 -- the low key of the entry at an index is that of a page
 pub key_at : (lows : List ℕ) (i : ℕ) (d : Entry) (es : List Entry) → Keys lows es → i < length es → Contains lows (get_or es i d).low
@@ -127,6 +128,6 @@ EntryOf-new i new es le =
     record { at = i; within = omega (arith, more, le); is = λ d. ap (λ (e : Entry). e.to) (get_or-insert_at es i new d le) }
 
 -- a key that was one still is
-pub last-push : (lows : List ℕ) (low end : ℕ) → (end ≡ 65536) ⊎ Contains lows end → (end ≡ 65536) ⊎ Contains (lows ++ low ∷ []) end
+pub last-push : (lows : List ℕ) (low end : ℕ) → (end ≡ key_end) ⊎ Contains lows end → (end ≡ key_end) ⊎ Contains (lows ++ low ∷ []) end
 last-push lows low end (inl none) = inl none
 last-push lows low end (inr key) = inr (Contains-append_left lows (low ∷ []) end key)

@@ -4,27 +4,27 @@ use Rattle.std.specs.Prelude.{Contains}
 use Rattle.std.proofs.lemmas.Bool.{cases_lt}
 use Rattle.std.proofs.lemmas.List.{get_or_append_left, get_or_at, length_push}
 use Rattle.zy_wire.specs.declared.entry.Entry.{Entry}
-use Rattle.zy_wire.specs.Nodes.{Knot, no_knot, node, low_of, Fits, IsTree}
+use Rattle.zy_wire.specs.Nodes.{TreeNode, no_node, node, low_of, Fits, IsTree, key_end}
 use Rattle.zy_wire.specs.Pages.{Has, Holds}
 use Rattle.zy_wire.proofs.Entries.{front_drop}
-use Rattle.zy_wire.proofs.Descent.{kid_at}
+use Rattle.zy_wire.proofs.Descent.{child_at}
 use Rattle.zy_wire.proofs.Spans.{Same, Same-is, Fits-lift, IsAt-back}
 use Rattle.zy_wire.proofs.Held.{key_at}
 
 -- the new root
-abbrev pub above : ℕ → ℕ → Knot
-above root top = record { level = top + 1; end = 65536; entries = record { low = 0; to = root } ∷ [] }
+abbrev pub above : ℕ → ℕ → TreeNode
+above root top = record { level = top + 1; end = key_end; entries = record { low = 0; to = root } ∷ [] }
 
 -- a node is what it was when one more is put behind the others
-old_node : (nodes : List Knot) (n : Knot) (x : ℕ) → x < length nodes → node (nodes ++ n ∷ []) x ≡ node nodes x
-old_node nodes n x lt = get_or_append_left nodes (n ∷ []) no_knot x lt
+old_node : (nodes : List TreeNode) (n : TreeNode) (x : ℕ) → x < length nodes → node (nodes ++ n ∷ []) x ≡ node nodes x
+old_node nodes n x lt = get_or_append_left nodes (n ∷ []) no_node x lt
 
 -- the last node is the one that is put behind the others
-new_node : (nodes : List Knot) (n : Knot) → node (nodes ++ n ∷ []) (length nodes) ≡ n
-new_node nodes n = get_or_at nodes n [] no_knot (length nodes) refl
+new_node : (nodes : List TreeNode) (n : TreeNode) → node (nodes ++ n ∷ []) (length nodes) ≡ n
+new_node nodes n = get_or_at nodes n [] no_node (length nodes) refl
 
 -- a tree with a new root above its old one is a tree, with one level more
-pub IsTree-raised : (nodes : List Knot) (root top : ℕ) → IsTree nodes root top → IsTree (nodes ++ above root top ∷ []) (length nodes) (top + 1)
+pub IsTree-raised : (nodes : List TreeNode) (root top : ℕ) → IsTree nodes root top → IsTree (nodes ++ above root top ∷ []) (length nodes) (top + 1)
 IsTree-raised nodes root top t =
     let n = above root top in
     let nodes' = nodes ++ n ∷ [] in
@@ -33,20 +33,20 @@ IsTree-raised nodes root top t =
     let same : (x : ℕ) → x < length nodes → Same nodes nodes' x = λ x lt. Same-is nodes nodes' x (old_node nodes n x lt) in
     record {
       there = omega arith;
-      level = ap (λ (k : Knot). k.level) last;
-      low = ap (λ (k : Knot). low_of k) last;
-      end = ap (λ (k : Knot). k.end) last;
+      level = ap (λ (k : TreeNode). k.level) last;
+      low = ap (λ (k : TreeNode). low_of k) last;
+      end = ap (λ (k : TreeNode). k.end) last;
       each = λ id lt. elim (cases_lt id (length nodes)) [
         | inl old ↦ subst (Fits nodes') (sym (old_node nodes n id old))
             (Fits-lift nodes nodes' (node nodes id) (omega arith) (t.each id old)
-            (λ up j d in'. same _ (kid_at nodes _ _ j d _ ((t.each id old).kids up) in').there))
+            (λ up j d in'. same _ (child_at nodes _ _ j d _ ((t.each id old).children up) in').there))
         | inr past ↦
             let here : id ≡ length nodes = omega arith in
             let r = same root t.there in
             subst (λ x. Fits nodes' (node nodes' x)) (sym here) (subst (Fits nodes') (sym last) (record {
               some = omega arith;
               rise = (omega arith, omega arith);
-              kids =
+              children =
                   λ up. (
                     record {
                       there = (let h = t.there in omega arith);
@@ -60,7 +60,7 @@ IsTree-raised nodes root top t =
       ];
       under = λ id lt. elim (cases_lt id (length nodes)) [
         | inl old ↦ (let s = same id old in let u = t.under id old in omega (arith, s.level))
-        | inr past ↦ (let here : id ≡ length nodes = omega arith in let l = ap (λ (k : Knot). k.level) (ap (λ x. node nodes' x) here ∙ last) in omega arith)
+        | inr past ↦ (let here : id ≡ length nodes = omega arith in let l = ap (λ (k : TreeNode). k.level) (ap (λ x. node nodes' x) here ∙ last) in omega arith)
       ];
       once = λ a b k ha hb level. elim (cases_lt a (length nodes)) [
         | inl olda ↦ elim (cases_lt b (length nodes)) [
@@ -68,14 +68,14 @@ IsTree-raised nodes root top t =
               (sym (same a olda).level ∙ level ∙ (same b oldb).level)
           | inr pastb ↦
               let here : b ≡ length nodes = (let h = hb.there in omega arith) in
-              let l = ap (λ (m : Knot). m.level) (ap (λ x. node nodes' x) here ∙ last) in
+              let l = ap (λ (m : TreeNode). m.level) (ap (λ x. node nodes' x) here ∙ last) in
               let s = same a olda in
               let u = t.under a olda in
               absurd (omega (arith, s.level))
         ]
         | inr pasta ↦
             let here : a ≡ length nodes = (let h = ha.there in omega arith) in
-            let l = ap (λ (m : Knot). m.level) (ap (λ x. node nodes' x) here ∙ last) in
+            let l = ap (λ (m : TreeNode). m.level) (ap (λ x. node nodes' x) here ∙ last) in
             elim (cases_lt b (length nodes)) [
               | inl oldb ↦ (let s = same b oldb in let u = t.under b oldb in absurd (omega (arith, s.level)))
               | inr pastb ↦ (let h = hb.there in omega arith)
@@ -84,7 +84,7 @@ IsTree-raised nodes root top t =
     }
 
 -- the nodes with a new root agree with the low keys of the pages
-pub Holds-raised : (lows : List ℕ) (nodes : List Knot) (root top : ℕ) → IsTree nodes root top → Holds lows nodes → Holds lows (nodes ++ above root top ∷ [])
+pub Holds-raised : (lows : List ℕ) (nodes : List TreeNode) (root top : ℕ) → IsTree nodes root top → Holds lows nodes → Holds lows (nodes ++ above root top ∷ [])
 Holds-raised lows nodes root top t h = λ id lt.
     let n = above root top in
     let nodes' = nodes ++ n ∷ [] in

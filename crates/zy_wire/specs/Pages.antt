@@ -1,7 +1,7 @@
 -- The pages that the entries of a tree are of.
 use Rattle.std.specs.Prelude.{◌≡◌, ℕ, ◌*◌, ◌<◌, ◌≤◌, List, [], ◌∷◌, length, slice_index, slice_index_or, Contains, ◌⊎◌}
 use Rattle.zy_wire.specs.declared.entry.Entry.{Entry}
-use Rattle.zy_wire.specs.Nodes.{Knot, node, low_of}
+use Rattle.zy_wire.specs.Nodes.{TreeNode, node, low_of, key_end}
 
 -- each low key is that of a page
 abbrev pub Keys : List ℕ → List Entry → Type 0
@@ -24,13 +24,13 @@ abbrev pub Whole : List ℕ → ℕ → ℕ → List Entry → Type 0
 Whole lows from to es = (p : ℕ) → p < length lows → from ≤ slice_index lows p → slice_index lows p < to → EntryOf es p
 
 -- what a node has to do with the pages
-pub record Has (lows : List ℕ) (n : Knot) : Type 0 where
+pub record Has (lows : List ℕ) (n : TreeNode) : Type 0 where
   pub keys : Keys lows n.entries
-  pub last : (n.end ≡ 65536) ⊎ Contains lows n.end
+  pub last : (n.end ≡ key_end) ⊎ Contains lows n.end
   pub match : n.level ≡ 0 → Match lows n.entries
   pub whole : n.level ≡ 0 → Whole lows (low_of n) n.end n.entries
 
-abbrev pub Holds : List ℕ → List Knot → Type 0
+abbrev pub Holds : List ℕ → List TreeNode → Type 0
 Holds lows nodes = (id : ℕ) → id < length nodes → Has lows (node nodes id)
 
 -- no two pages have one low key
@@ -39,10 +39,10 @@ Apart lows = (i j : ℕ) → i < j → j < length lows → slice_index lows i �
 
 -- each low key is a key
 abbrev pub Small : List ℕ → Type 0
-Small lows = (p : ℕ) → p < length lows → slice_index lows p < 65536
+Small lows = (p : ℕ) → p < length lows → slice_index lows p < key_end
 
 -- pages with these low keys, from page 0 at 0 on, and no more than there may be, with the nodes of a tree over them
-pub record IsSound (pages : ℕ) (lows : List ℕ) (nodes : List Knot) (top : ℕ) : Type 0 where
+pub record IsSound (pages : ℕ) (lows : List ℕ) (nodes : List TreeNode) (top : ℕ) : Type 0 where
   pub holds : Holds lows nodes
   pub apart : Apart lows
   pub small : Small lows

@@ -1,5 +1,5 @@
 //! A node of the tree.
-ghost use Rattle.std.specs.Prelude.{◌≡◌, ◌==◌, ℕ, ◌+◌, ◌<◌, ◌≤◌, ◌∷◌, [], take, drop, insert, length, slice_index_or};
+ghost use Rattle.std.specs.Prelude.{◌≡◌, ◌==◌, ℕ, ◌+◌, ◌<◌, ◌≤◌, ◌∷◌, [], take, drop, insert, length};
 ghost use Rattle.zy_wire.specs.ByLow.{Rise, IsPlace, Leads, front};
 
 use crate::entry::Entry;
@@ -30,9 +30,9 @@ pub struct Node {
 
 impl Model for Node {
     ghost use Rattle.std.specs.Prelude.{take};
-    ghost use Rattle.zy_wire.specs.Nodes.{Knot, IsCells};
+    ghost use Rattle.zy_wire.specs.Nodes.{TreeNode, IsCells};
 
-    ghost Value = { Knot };
+    ghost Value = { TreeNode };
 
     ghost view = { λ n. record { level = n.state.level; end = n.state.end; entries = take n.state.len n.state.cells } };
 

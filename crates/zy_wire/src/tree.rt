@@ -1,9 +1,9 @@
 //! A tree of nodes in one list.
-ghost use Rattle.std.specs.Prelude.{◌≡◌, ◌==◌, ℕ, ◌+◌, ◌^◌, ◌<◌, ◌≤◌, ◌∷◌, ◌++◌, [], IfOk, OnOk, OnErr, IsOk, IfSome};
+ghost use Rattle.std.specs.Prelude.{◌≡◌, ℕ, ◌+◌, ◌^◌, ◌<◌, ◌≤◌, ◌∷◌, ◌++◌, [], IfOk, OnOk, OnErr, IsOk, IfSome};
 ghost use Rattle.std.specs.Prelude.{List, ◌≢◌, length};
 ghost use Rattle.std.specs.List.{All};
 ghost use Rattle.zy_wire.specs.declared.entry.Entry.{Entry};
-ghost use Rattle.zy_wire.specs.Nodes.{node, lower_half, upper_half, LeadsTo, IsAt, LeafAt, Fits};
+ghost use Rattle.zy_wire.specs.Nodes.{node, lower_half, upper_half, LeadsTo, IsAt, LeafAt, Fits, key_end};
 ghost use Rattle.zy_wire.specs.Pages.{Holds};
 
 use crate::entry::Entry;
@@ -44,7 +44,7 @@ impl Tree {
     /// One node with one entry, which begins at key 0.
     pub fn new(alloc: Global, entry: Entry) -> Result<Tree, AllocError>
         requires { entry.low ≡ 0 }
-        ensures nodes { IfOk result (λ t. t.nodes ≡ record { level = 0; end = 65536; entries = entry ∷ [] } ∷ []) }
+        ensures nodes { IfOk result (λ t. t.nodes ≡ record { level = 0; end = key_end; entries = entry ∷ [] } ∷ []) }
         ensures top { IfOk result (λ t. t.top ≡ 0) }
     {
         let mut nodes = Vec::with_capacity(alloc, 1)?;
@@ -140,7 +140,7 @@ impl Tree {
         requires room { 1 ≤ self.old.room }
         requires level { self.old.top + 1 < 2 ^ 16 }
         requires number { length self.old.nodes < 2 ^ 32 }
-        ensures at { (k : ℕ) → k < 65536 → IsAt self.new.nodes result.0 k }
+        ensures at { (k : ℕ) → k < key_end → IsAt self.new.nodes result.0 k }
         ensures few { length (node self.new.nodes result.0).entries ≡ 1 }
         ensures level { (node self.new.nodes result.0).level ≡ self.new.top }
         ensures top { self.new.top ≡ self.old.top + 1 }

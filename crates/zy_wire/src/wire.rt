@@ -15,10 +15,10 @@ use thiserror::Error;
 /// Why no page is added.
 #[derive(Clone, Copy, Debug, PartialEq, Eq, Error)]
 pub enum WireFault {
-    /// 1: there are as many pages as there may be.
+    /// There are as many pages as there may be.
     #[error("the wireframe has as many pages as it may have")]
     Full,
-    /// 2: there was no memory for one page more.
+    /// Out of memory for one page more.
     #[error("there is no memory for one page more")]
     Memory,
 }

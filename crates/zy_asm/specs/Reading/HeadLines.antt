@@ -14,9 +14,9 @@ use Rattle.zy_asm.specs.Steps.{number_in}
 use Rattle.zy_asm.specs.Reading.Progress.{Seen}
 
 -- the word behind the name of a header line
-abbrev pub headed : List (List ℕ) → List ℕ → Result (List ℕ) AsmKind
-headed (w ∷ v ∷ []) name = if bytes_eq w name then Ok v else Err kinds.Header
-headed _ name = Err kinds.Header
+abbrev pub header_value : List (List ℕ) → List ℕ → Result (List ℕ) AsmKind
+header_value (w ∷ v ∷ []) name = if bytes_eq w name then Ok v else Err kinds.Header
+header_value _ name = Err kinds.Header
 
 abbrev pub rule_of : List ℕ → Option LockRule
 rule_of w =
@@ -26,24 +26,24 @@ rule_of w =
 
 abbrev pub zephyr_line : Seen → List (List ℕ) → Result Seen AsmKind
 zephyr_line s ws = do
-  w ← headed ws (codes "zephyr")
+  w ← header_value ws (codes "zephyr")
   v ← ok_or (version_named w) kinds.Header
   Ok (record s { stage = Cap; version = v })
 
 abbrev pub cap_line : Seen → List (List ℕ) → Result Seen AsmKind
 cap_line s ws = do
-  w ← headed ws (codes "cap")
+  w ← header_value ws (codes "cap")
   n ← number_in w min_cap max_cap
   Ok (record s { stage = Pages; cap = n })
 
 abbrev pub pages_line : Seen → List (List ℕ) → Result Seen AsmKind
 pages_line s ws = do
-  w ← headed ws (codes "pages")
+  w ← header_value ws (codes "pages")
   n ← number_in w 1 max_pages
   Ok (record s { stage = Rule; pages = n })
 
 abbrev pub rule_line : Seen → List (List ℕ) → Result Seen AsmKind
 rule_line s ws = do
-  w ← headed ws (codes "rule")
+  w ← header_value ws (codes "rule")
   r ← ok_or (rule_of w) kinds.Header
   Ok (record s { stage = Rows; rule = r })

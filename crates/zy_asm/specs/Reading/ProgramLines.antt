@@ -31,13 +31,13 @@ note_label s name = if is_some (place name s.labels) then Err kinds.Label
     else Ok (record s { labels = s.labels ++ (name, length s.instrs) ∷ [] })
 
 -- behind a label is an instruction, or nothing
-abbrev pub labelled : Option Keyword → Seen → List (List ℕ) → Result Seen AsmKind
-labelled (Some (k.Instr op)) s ws = instr_line s op ws
-labelled _ s ws = Err kinds.Word
+abbrev pub labelled_instr : Option Keyword → Seen → List (List ℕ) → Result Seen AsmKind
+labelled_instr (Some (k.Instr op)) s ws = instr_line s op ws
+labelled_instr _ s ws = Err kinds.Word
 
 abbrev pub behind_label : Seen → List (List ℕ) → Result Seen AsmKind
 behind_label s [] = Ok s
-behind_label s (w ∷ ws) = labelled (keyword_of s.version w) s ws
+behind_label s (w ∷ ws) = labelled_instr (keyword_of s.version w) s ws
 
 abbrev pub label_at : Stage → Seen → List ℕ → List (List ℕ) → Result Seen AsmKind
 label_at Program s name ws = note_label s name >>= λ u. behind_label u ws

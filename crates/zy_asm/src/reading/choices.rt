@@ -1,5 +1,5 @@
 //! The choices, and the end behind them.
-ghost use Rattle.std.specs.Prelude.{◌≡◌, ◌≤◌};
+ghost use Rattle.std.specs.Prelude.{◌≤◌};
 ghost use Rattle.zy_isa.specs.Limits.{max_choices};
 ghost use Rattle.zy_text.specs.Lines.{texts};
 ghost use Rattle.zy_asm.specs.Reading.ChoiceLines.{repeat_choice, repeat_line, plain_line, txn_action_line};

@@ -13,8 +13,8 @@ use zy_isa::{MAX_CAP, MAX_PAGES, MIN_CAP, Rule, Version};
 use zy_text::names::is;
 
 /// The word behind this one in a line of the header.
-fn headed<'a>(words: &[&'a [u8]], name: &[u8]) -> Result<&'a [u8], Reason>
-    ensures { seen_word result ≡ spec.headed (texts words.now) name.now }
+fn header_value<'a>(words: &[&'a [u8]], name: &[u8]) -> Result<&'a [u8], Reason>
+    ensures { seen_word result ≡ spec.header_value (texts words.now) name.now }
 {
     match words {
         [first, word] if *first == name => Ok(word),
@@ -40,7 +40,7 @@ impl Reader {
     pub fn zephyr_line(&mut self, words: &[&[u8]]) -> Result<(), Reason>
         ensures { Steps result (progress_of self.new) (zephyr_line (progress_of self.old) (texts words.now)) }
     {
-        let Some(version) = Version::named(headed(words, b"zephyr")?) else {
+        let Some(version) = Version::named(header_value(words, b"zephyr")?) else {
             return Err(Reason::NotTheHeader);
         };
         self.version = version;
@@ -53,7 +53,7 @@ impl Reader {
         ensures { Steps result (progress_of self.new) (cap_line (progress_of self.old) (texts words.now)) }
     {
         self.cap = number_in(
-            headed(words, b"cap")?,
+            header_value(words, b"cap")?,
             u64::from(MIN_CAP),
             u64::from(MAX_CAP),
         )? as u8;
@@ -65,7 +65,7 @@ impl Reader {
     pub fn pages_line(&mut self, words: &[&[u8]]) -> Result<(), Reason>
         ensures { Steps result (progress_of self.new) (pages_line (progress_of self.old) (texts words.now)) }
     {
-        self.pages = number_in(headed(words, b"pages")?, 1, u64::from(MAX_PAGES))? as u16;
+        self.pages = number_in(header_value(words, b"pages")?, 1, u64::from(MAX_PAGES))? as u16;
         self.stage = Stage::Rule;
         Ok(())
     }
@@ -74,7 +74,7 @@ impl Reader {
     pub fn rule_line(&mut self, words: &[&[u8]]) -> Result<(), Reason>
         ensures { Steps result (progress_of self.new) (rule_line (progress_of self.old) (texts words.now)) }
     {
-        let Some(rule) = rule_of(headed(words, b"rule")?) else {
+        let Some(rule) = rule_of(header_value(words, b"rule")?) else {
             return Err(Reason::NotTheHeader);
         };
         self.rule = rule;

@@ -10,12 +10,12 @@ use crate::lines::words::WhyText;
 use std::alloc::AllocError;
 use zy_io::{Decimal, Line, LineBuffer, Lines, joined};
 use zy_machine::Machine;
-use zy_table::{CommitRec, Status, Why};
+use zy_table::{CommitRecord, Status, Why};
 use zy_text::Canonical;
 use zy_txns::Txn;
 
 /// The index of a transaction's commit.
-fn commit_index(t: u8, commits: &[CommitRec]) -> Option<usize>
+fn commit_index(t: u8, commits: &[CommitRecord]) -> Option<usize>
     ensures value { result ≡ position (λ c. c.txn == t) commits.now }
     ensures bound { IfSome result (λ i. i < length commits.now) }
 {
@@ -23,7 +23,7 @@ fn commit_index(t: u8, commits: &[CommitRec]) -> Option<usize>
 }
 
 /// The place of a transaction in commit order, from 1; 0 where it is not there.
-fn commit_place(t: u8, commits: &[CommitRec]) -> usize
+fn commit_place(t: u8, commits: &[CommitRecord]) -> usize
     ensures { result ≡ spec.commit_place t commits.now }
 {
     match commit_index(t, commits) {
@@ -116,7 +116,7 @@ impl Line for AbortedText<'_> {
 /// What the line says of a transaction, by how far it is.
 #[derive(Clone, Copy)]
 struct StatusText<'a> {
-    commits: &'a [CommitRec],
+    commits: &'a [CommitRecord],
     t: u8,
     txn: &'a Txn,
 }

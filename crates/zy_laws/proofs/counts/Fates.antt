@@ -1,10 +1,10 @@
 -- What a step makes of each transaction: it stays in its program, with as many registers, and does at most one instruction more.
 use Rattle.std.proofs.Common.{Bool, List, [], ap, arith, false, inl, inr, length, refl, subst, suc, sym, true, zero, ℕ, ◌+◌, ◌-◌, ◌<◌, ◌∙◌, ◌∷◌, ◌≡◌, ◌≤◌}
-use Rattle.std.specs.Prelude.{None, Some, if◌then◌else◌, nat_lt, not, position, slice_get, slice_set}
+use Rattle.std.specs.Prelude.{Some, if◌then◌else◌, not, slice_get, slice_set}
 use Rattle.std.specs.List.{position_or_len}
 use Rattle.std.specs.Option.{option_map_or}
 use Rattle.std.proofs.Math.ListN.{length-set}
-use Rattle.std.proofs.lemmas.Bool.{cases_Bool, cases_eq, cases_lt, cond_both, false≢true, ltb-false, ltb-true, not-false}
+use Rattle.std.proofs.lemmas.Bool.{cases_Bool, cases_eq, cases_lt, false≢true, ltb-true, not-false}
 use Rattle.std.proofs.lemmas.Option.{slice_get_within}
 use Rattle.zy_isa.specs.Programs.{IsProgram, ends, ends_well, targets_below}
 use Rattle.zy_isa.specs.Registers.{number_of}
@@ -22,6 +22,7 @@ use Rattle.zy_table.specs.State.{Txn, View}
 use Rattle.zy_laws.proofs.walk.Events.{Aborts, Begins, Commits, Event, Gets, Inserts, Runs, SumsUp, Writes, Splits, GoesOn, Leads, BySet, ByJump, BySum}
 use Rattle.zy_laws.proofs.walk.Txns.{at_same, at_either, at_other}
 use Rattle.zy_laws.proofs.walk.Kinds.{quiet_of}
+use Rattle.zy_isa.proofs.ScenarioLemmas.{none_found}
 
 -- no element passes the test where none is found
 none_passes : {X : Type 0} (f : X → Bool) (xs : List X) (i : ℕ) (x : X) → slice_get xs i ≡ Some x → length xs ≤ position_or_len f xs → f x ≡ false
@@ -34,13 +35,6 @@ none_passes f (y ∷ ys) (suc i) x at h = elim (cases_Bool (f y)) [
   | inl hit ↦ let z : position_or_len f (y ∷ ys) ≡ 0 = rw hit refl in absurd (omega arith)
   | inr off ↦ let z : position_or_len f (y ∷ ys) ≡ 1 + position_or_len f ys = rw off refl in none_passes f ys i x at (omega arith)
 ]
-
--- a test that none passes has no position
-none_found : {X : Type 0} (f : X → Bool) (xs : List X) → position f xs ≡ None → length xs ≤ position_or_len f xs
-none_found f xs h =
-    cond_both (nat_lt (position_or_len f xs) (length xs)) (Some (position_or_len f xs)) None (λ o. o ≡ None → length xs ≤ position_or_len f xs)
-    (λ _ e. absurd cc)
-    (λ far _. ltb-false _ _ far) h
 
 -- each target is in its program
 target_within : (program : List Instr) (i : ℕ) (x : Instr) → IsProgram program → slice_get program i ≡ Some x → targets_below (length program) x ≡ true
@@ -83,24 +77,24 @@ set_length regs r x = length-set regs (number_of r) x
 -- transaction t runs, and e is what its next instruction does
 module _ (sc : Scenario) (n : Node) (t : ℕ) (e : Effect) (v : View) (runs : Runs sc n t e v) where
   -- behind an instruction that is not the last one is another
-  next_place : is_last e ≡ false → IsProgram (program_of sc t) → (txn_at v t).pc + 1 < length (program_of sc t)
-  next_place on ok =
+  next_pc : is_last e ≡ false → IsProgram (program_of sc t) → (txn_at v t).pc + 1 < length (program_of sc t)
+  next_pc on ok =
       next_within (program_of sc t) (txn_at v t).pc runs.instr ok runs.next (ends-effect runs.instr (txn_at v t).regs ∙ ap is_last runs.does ∙ on)
 
   -- a jump leads to an instruction of the program
-  jump_place : (taken : Bool) (to : ℕ) → e ≡ effect.Jumps taken to → IsProgram (program_of sc t)
+  jump_pc : (taken : Bool) (to : ℕ) → e ≡ effect.Jumps taken to → IsProgram (program_of sc t)
       → (if taken then to else (txn_at v t).pc + 1) < length (program_of sc t)
-  jump_place true to is ok =
+  jump_pc true to is ok =
       let count = length (program_of sc t) in
       let within = target_within (program_of sc t) (txn_at v t).pc runs.instr ok runs.next in
       ltb-true _ _ (ap (jumps_below count) (sym is) ∙ ap (jumps_below count) (sym runs.does) ∙ sym (target-effect count runs.instr (txn_at v t).regs) ∙ within)
-  jump_place false to is ok = next_place (ap is_last is) ok
+  jump_pc false to is ok = next_pc (ap is_last is) ok
 
   -- an effect that needs no page leaves a transaction in its program
-  leads_place : {pc : ℕ} {regs : List ℕ} → Leads e (txn_at v t) pc regs → IsProgram (program_of sc t) → pc < length (program_of sc t)
-  leads_place (BySet r value is a b) ok = rw a (next_place (ap is_last is) ok)
-  leads_place (ByJump taken to is a b) ok = rw a (jump_place taken to is ok)
-  leads_place (BySum r first last is none a b) ok = rw a (next_place (ap is_last is) ok)
+  leads_pc : {pc : ℕ} {regs : List ℕ} → Leads e (txn_at v t) pc regs → IsProgram (program_of sc t) → pc < length (program_of sc t)
+  leads_pc (BySet r value is a b) ok = rw a (next_pc (ap is_last is) ok)
+  leads_pc (ByJump taken to is a b) ok = rw a (jump_pc taken to is ok)
+  leads_pc (BySum r first last is none a b) ok = rw a (next_pc (ap is_last is) ok)
 
 -- an effect that needs no page leaves how many registers there are
 leads_length : (e : Effect) (x : Txn) (pc : ℕ) (regs : List ℕ) → Leads e x pc regs → length regs ≡ length x.regs
@@ -118,12 +112,12 @@ unfolding did locked shares txn_at aborted begun committed cut asks leaves
 fate sc n v w u (Begins t h a new home e) = fate_set sc v w t u _ (ap txns_of e) (Fresh refl refl refl)
 fate sc n v w u (Aborts t y active here e) = fate_set sc v w t u _ (ap txns_of e) (Ends (omega arith) refl refl)
 fate sc n v w u (GoesOn t x pc regs runs leads e) =
-    fate_set sc v w t u _ (ap txns_of e) (Went refl (leads_length x (txn_at v t) pc regs leads) (leads_place sc n t x v runs leads))
-fate sc n v w u (Gets t r key runs f e) = fate_set sc v w t u _ (ap txns_of e) (Went refl (set_length (txn_at v t).regs r _) (next_place sc n t _ v runs refl))
+    fate_set sc v w t u _ (ap txns_of e) (Went refl (leads_length x (txn_at v t) pc regs leads) (leads_pc sc n t x v runs leads))
+fate sc n v w u (Gets t r key runs f e) = fate_set sc v w t u _ (ap txns_of e) (Went refl (set_length (txn_at v t).regs r _) (next_pc sc n t _ v runs refl))
 fate sc n v w u (SumsUp t r first last runs f e) =
-    fate_set sc v w t u _ (ap txns_of e) (Went refl (set_length (txn_at v t).regs r _) (next_place sc n t _ v runs refl))
-fate sc n v w u (Writes t key value runs f there e) = fate_set sc v w t u _ (ap txns_of e) (Went refl refl (next_place sc n t _ v runs refl))
-fate sc n v w u (Inserts t key value runs f new room e) = fate_set sc v w t u _ (ap txns_of e) (Went refl refl (next_place sc n t _ v runs refl))
+    fate_set sc v w t u _ (ap txns_of e) (Went refl (set_length (txn_at v t).regs r _) (next_pc sc n t _ v runs refl))
+fate sc n v w u (Writes t key value runs f there e) = fate_set sc v w t u _ (ap txns_of e) (Went refl refl (next_pc sc n t _ v runs refl))
+fate sc n v w u (Inserts t key value runs f new room e) = fate_set sc v w t u _ (ap txns_of e) (Went refl refl (next_pc sc n t _ v runs refl))
 fate sc n v w u (Splits t key value runs f new full normal pages e) = rw e (Same refl)
 fate sc n v w u (Commits t runs whole e) = fate_set sc v w t u _ (ap txns_of e) (Ends (omega arith) refl refl)
 fate sc n v w u e = Same (at_same v w u (quiet_of e refl).txns)
@@ -131,8 +125,8 @@ fate sc n v w u e = Same (at_same v w u (quiet_of e refl).txns)
 -- a transaction stays within its bounds, with one choice more
 pub counted_fate : (sc : Scenario) (count u : ℕ) (x y : Txn) → IsProgram (program_of sc u) → Fate sc u x y → Counted sc count u x
     → Counted sc (count + 1) u y
-counted_fate sc count u x y ok (Same e) c = rw e (record { done = let k = c.done in omega arith; regs = c.regs; place = c.place })
-counted_fate sc count u x y ok (Fresh a b d) c = record { done = omega arith; regs = b; place = let k = ok.some in omega arith }
+counted_fate sc count u x y ok (Same e) c = rw e (record { done = let k = c.done in omega arith; regs = c.regs; pc = c.pc })
+counted_fate sc count u x y ok (Fresh a b d) c = record { done = omega arith; regs = b; pc = let k = ok.some in omega arith }
 counted_fate sc count u x y ok (Ends a b d) c =
-    record { done = let k = c.done in omega arith; regs = ap length b ∙ c.regs; place = let k = c.place in omega arith }
-counted_fate sc count u x y ok (Went a b d) c = record { done = let k = c.done in omega arith; regs = b ∙ c.regs; place = d ok }
+    record { done = let k = c.done in omega arith; regs = ap length b ∙ c.regs; pc = let k = c.pc in omega arith }
+counted_fate sc count u x y ok (Went a b d) c = record { done = let k = c.done in omega arith; regs = b ∙ c.regs; pc = d ok }

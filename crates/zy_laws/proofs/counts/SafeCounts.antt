@@ -1,4 +1,4 @@
--- done, place, registers and commits stay within their bounds.
+-- done, pc, registers and commits stay within their bounds.
 use Rattle.std.proofs.Common.{List, [], arith, length, refl, subst, suc, sym, zero, ℕ, ◌+◌, ◌<◌, ◌∙◌, ◌∷◌, ◌≡◌}
 use Rattle.std.specs.Prelude.{map, slice_get, unwrap_or}
 use Rattle.std.proofs.lemmas.List.{length-map}
@@ -76,7 +76,7 @@ opening_sums sc ok = record {
       λ t h. subst (Counted sc 0 t) (sym (blank_at sc.programs t)) (record {
         done = omega arith;
         regs = refl;
-        place = (program_is sc.programs t ok.programs h).some;
+        pc = (program_is sc.programs t ok.programs h).some;
       });
   txns = length-map sc.programs blank;
   commits = sym (blank_tally sc.programs);

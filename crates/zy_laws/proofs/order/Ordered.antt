@@ -14,7 +14,7 @@ use Rattle.zy_table.specs.Change.{aborted, asks, begun, committed, did, locked, 
 use Rattle.zy_table.specs.Database.{sent_leaves}
 use Rattle.zy_table.specs.Order.{NodeInOrder, NumbersRise, RowsRise}
 use Rattle.zy_table.specs.State.{Lock, Message, NodeState, Txn, View}
-use Rattle.zy_table.specs.declared.entry.CommitRec.{CommitRec}
+use Rattle.zy_table.specs.declared.entry.CommitRecord.{CommitRecord}
 use Rattle.zy_table.specs.declared.outcome.Why.{Why}
 use Rattle.zy_laws.proofs.walk.Events.{has_lock, page, puts}
 use Rattle.zy_page.proofs.Rows.{Rising-put_row}
@@ -47,7 +47,7 @@ locks_ordered x locks o rise = record { pages = o.pages; rows = o.rows; asked = 
 -- a step of transaction t, from a view that is in order
 module _ (t : ℕ) (v : View) (o : Ordered v) where
   -- one that sets t, and changes locks or rows of its own node
-  acts_ordered : (y : Txn) (x : NodeState) (commits : List CommitRec) → Rising 0 y.rows → NodeInOrder x → length x.pages ≡ length v.me.pages
+  acts_ordered : (y : Txn) (x : NodeState) (commits : List CommitRecord) → Rising 0 y.rows → NodeInOrder x → length x.pages ≡ length v.me.pages
       → x.lows ≡ v.me.lows → Ordered (record v { txns = slice_set v.txns t y; me = x; commits = commits })
   acts_ordered y x commits rises me pages lows =
       let w : View = record v { txns = slice_set v.txns t y; me = x; commits = commits } in

@@ -2,7 +2,7 @@
 use Rattle.std.proofs.Common.{◌≡◌, ℕ, zero, suc, ◌+◌, ◌/◌, ◌<◌, ◌≤◌, List, [], ◌∷◌, ◌++◌, length, true, false, refl, sym, ap, ◌∙◌, subst, arith, inl, inr}
 use Rattle.std.proofs.Common.{length-append}
 use Rattle.std.specs.Prelude.{◌⊎◌, if◌then◌else◌, ◌==◌, nat_le, Some, None, is_some, slice_index, Contains}
-use Rattle.std.proofs.lemmas.Bool.{cond_both, false≢true, or_right, or_left, eq-eqb, eqb-true, eqb-false, or_cases, or_parts, ltb-false, leb-true, leb-false}
+use Rattle.std.proofs.lemmas.Bool.{cond_both, false≢true, or_right, or_left, eq-eqb, eqb-true, eqb-false, or_parts, ltb-false, leb-true, leb-false}
 use Rattle.std.proofs.lemmas.List.{get_or_default}
 use Rattle.zy_isa.specs.declared.row.Row.{Row}
 use Rattle.zy_isa.specs.Rows.{Rising, get_row}
@@ -18,30 +18,19 @@ use Rattle.zy_table.specs.Run.{boundary, has_room, is_there, own_inserts}
 use Rattle.zy_table.specs.Order.{NumbersRise}
 use Rattle.zy_laws.proofs.places.Installing.{Placed, get_row-on}
 use Rattle.zy_laws.proofs.places.CutPages.{leaf_placed}
+use Rattle.zy_table.proofs.RangeWalk.{has-put}
 use Rattle.zy_table.proofs.RisingRows.{rises_key}
 use Rattle.zy_table.specs.Numbers.{has}
 use Rattle.zy_table.proofs.KeyLists.{length-put_key, length-keys}
 
 -- ---- keys in order
 
--- a number in a list with a key more is the key or was there
-pub has-put_key : (k : ℕ) (xs : List ℕ) (q : ℕ) → has (put_key k xs) q ≡ true → (k ≡ q) ⊎ (has xs q ≡ true)
-has-put_key k [] q h = elim (or_cases (k == q) false h) [ inl e ↦ inl (eqb-true _ _ e) | inr e ↦ absurd (false≢true e) ]
-has-put_key k (x ∷ xs) q h =
-    cond_both (nat_le k x) (k ∷ x ∷ xs) (x ∷ put_key k xs) (λ y. has y q ≡ true → (k ≡ q) ⊎ (has (x ∷ xs) q ≡ true))
-    (λ _ g. elim (or_cases (k == q) (has (x ∷ xs) q) g) [ inl e ↦ inl (eqb-true _ _ e) | inr e ↦ inr e ])
-    (λ _ g. elim (or_cases (x == q) (has (put_key k xs) q) g) [
-      | inl e ↦ inr (or_left _ _ e)
-      | inr e ↦
-          elim (has-put_key k xs q e) [ inl i ↦ inl i | inr i ↦ inr (or_right _ _ i) ]
-    ]) h
-
 -- each of the keys of rows has a row
 has-keys : (rows : List Row) (q : ℕ) → has (keys_of rows) q ≡ true → is_some (get_row rows q) ≡ true
 has-keys [] q h = absurd (false≢true h)
 has-keys (r ∷ rows) q h =
     cond_both (r.key == q) (Some r.value) (get_row rows q) (λ o. is_some o ≡ true) (λ _. refl)
-    (λ off. elim (has-put_key r.key (keys_of rows) q h) [ inl e ↦ absurd (eqb-false _ _ off e) | inr e ↦ has-keys rows q e ])
+    (λ off. elim (has-put r.key (keys_of rows) q h) [ inl e ↦ absurd (eqb-false _ _ off e) | inr e ↦ has-keys rows q e ])
 
 -- each number of a list is in it
 index_has : (xs : List ℕ) (i : ℕ) → i < length xs → has xs (slice_index xs i) ≡ true
@@ -159,7 +148,7 @@ keys_on t k p v q placed on h =
     let lows = v.me.lows in
     let rows = rows_of v.me.pages p in
     let private = (txn_at v t).rows in
-    elim (has-put_key k (keys_of (rows ++ own_inserts p v.me (txn_at v t))) q h) [
+    elim (has-put k (keys_of (rows ++ own_inserts p v.me (txn_at v t))) q h) [
       | inl e ↦ ap (page_of lows) (sym e) ∙ on
       | inr e ↦ elim (some_append rows (own_inserts p v.me (txn_at v t)) q (has-keys (rows ++ own_inserts p v.me (txn_at v t)) q e)) [
         | inl i ↦ leaf_placed lows p v.me.pages q placed i

@@ -19,7 +19,7 @@ use Rattle.zy_laws.proofs.places.MovedPages.{whole_same}
 use Rattle.zy_laws.proofs.room.Room.{installed_length, is_new_on, need, need_none, need_put, need_same, one_if}
 use Rattle.zy_laws.proofs.walk.Txns.{IsAt, Stands, at_other, at_same}
 use Rattle.zy_laws.proofs.walk.Kinds.{Unmoved}
-use Rattle.zy_table.specs.declared.entry.CommitRec.{CommitRec}
+use Rattle.zy_table.specs.declared.entry.CommitRecord.{CommitRecord}
 
 -- the rows of a page are in key order and at most cap
 abbrev pub Sized : ℕ → ℕ → List Row → Type 0
@@ -112,7 +112,7 @@ module _ (sc : Scenario) (n : Node) (v : View) (lows : List ℕ) (f : Fit sc n v
       }
 
   -- steps in which t alone changes, and perhaps n's own node
-  pub fit_acts : {x : NodeState} {commits : List CommitRec} (t : ℕ) (y : Txn)
+  pub fit_acts : {x : NodeState} {commits : List CommitRecord} (t : ℕ) (y : Txn)
       → let w : View = record v { me = x; txns = slice_set v.txns t y; commits = commits } in
       (txn_at w t ≡ y) ⊎ ((txn_at w t ≡ txn_at v t) × (is_active (txn_at v t).status ≡ false)) → Rising 0 y.rows → Each (Sized sc.cap) (whole w)
       → (Stands y n → Each (Room sc.cap lows y.rows) x.pages) → (Stands y (other n) → Each (Room sc.cap lows y.rows) v.them.pages)

@@ -18,7 +18,7 @@ use Rattle.zy_table.specs.Database.{Map, laid, laid_leaves}
 use Rattle.zy_table.specs.Holders.{holds, holds_alone}
 use Rattle.zy_table.specs.Run.{program_of}
 use Rattle.zy_table.specs.Serial.{Alone, Registers, alone, alone_instr, alone_step, is_committed, serial}
-use Rattle.zy_table.specs.declared.entry.CommitRec.{CommitRec}
+use Rattle.zy_table.specs.declared.entry.CommitRecord.{CommitRecord}
 use Rattle.zy_table.specs.declared.status.Status.TheVariants.{Committed}
 use Rattle.zy_table.specs.State.{Lock, NodeState, Txn, View, other}
 use Rattle.zy_wire.specs.Wireframe.{page_of}
@@ -84,7 +84,7 @@ commit_db sc n v lows t h held at k =
     ∙ ap (or_else (get_row x.rows k)) (sym before)
 
 -- a serial run with one commit more goes on by its program
-serial-push : (sc : Scenario) (m : Map) (cs : List CommitRec) (c : CommitRec)
+serial-push : (sc : Scenario) (m : Map) (cs : List CommitRecord) (c : CommitRecord)
     → serial sc m (cs ++ c ∷ []) ≡ (alone (serial sc m cs) (program_of sc c.txn) c.done).map
 serial-push sc m [] c = refl
 serial-push sc m (x ∷ xs) c = serial-push sc (alone m (program_of sc x.txn) x.done).map xs c

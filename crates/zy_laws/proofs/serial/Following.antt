@@ -11,7 +11,7 @@ use Rattle.zy_table.specs.Database.{Map}
 use Rattle.zy_table.specs.Holders.{holds}
 use Rattle.zy_table.specs.Run.{program_of}
 use Rattle.zy_table.specs.Serial.{Registers, alone, is_committed, serial}
-use Rattle.zy_table.specs.declared.entry.CommitRec.{CommitRec}
+use Rattle.zy_table.specs.declared.entry.CommitRecord.{CommitRecord}
 use Rattle.zy_table.specs.State.{Lock, Txn, View, other}
 use Rattle.zy_wire.specs.Wireframe.{page_of}
 use Rattle.zy_laws.proofs.locks.Locking.{Kept}
@@ -46,7 +46,7 @@ follows_same {program = program} {e = e} {lows = lows} {more = more} {t = t} {x 
     })
 
 -- committed transactions stay as they are
-pub registers_same : (sc : Scenario) (f g : ℕ → Txn) (m : Map) (cs : List CommitRec) → ((t : ℕ) → is_committed (f t).status ≡ true → g t ≡ f t)
+pub registers_same : (sc : Scenario) (f g : ℕ → Txn) (m : Map) (cs : List CommitRecord) → ((t : ℕ) → is_committed (f t).status ≡ true → g t ≡ f t)
     → Registers sc f m cs → Registers sc g m cs
 registers_same sc f g m [] same h = tt
 registers_same sc f g m (c ∷ cs) same h =
@@ -56,14 +56,14 @@ registers_same sc f g m (c ∷ cs) same h =
     )
 
 -- a commit more, whose transaction has the registers of its lone run
-pub registers_push : (sc : Scenario) (f : ℕ → Txn) (m : Map) (cs : List CommitRec) (c : CommitRec) → Registers sc f m cs
+pub registers_push : (sc : Scenario) (f : ℕ → Txn) (m : Map) (cs : List CommitRecord) (c : CommitRecord) → Registers sc f m cs
     → (is_committed (f c.txn).status ≡ true) × ((f c.txn).regs ≡ (alone (serial sc m cs) (program_of sc c.txn) c.done).regs)
     → Registers sc f m (cs ++ c ∷ [])
 registers_push sc f m [] c h new = (new, tt)
 registers_push sc f m (x ∷ xs) c h new = (h.0, registers_push sc f (alone m (program_of sc x.txn) x.done).map xs c h.1 new)
 
 -- setting a transaction that is not committed leaves the registers of those that are
-pub keep_registers : (sc : Scenario) (v w : View) (start : Map) (cs : List CommitRec) (t : ℕ) (y : Txn) → w.txns ≡ slice_set v.txns t y
+pub keep_registers : (sc : Scenario) (v w : View) (start : Map) (cs : List CommitRecord) (t : ℕ) (y : Txn) → w.txns ≡ slice_set v.txns t y
     → is_committed (txn_at v t).status ≡ false → Registers sc (txn_at v) start cs → Registers sc (txn_at w) start cs
 keep_registers sc v w start cs t y e off h =
     registers_same sc (txn_at v) (txn_at w) start cs (λ u ended. elim (cases_eq u t) [

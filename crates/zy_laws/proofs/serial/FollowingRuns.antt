@@ -38,6 +38,7 @@ use Rattle.zy_laws.proofs.locks.Locking.{Kept}
 use Rattle.zy_laws.proofs.serial.LoneRuns.{Lone, lone, lone_at, lone_effect, lone_instr, lone_step, or_else}
 use Rattle.zy_laws.proofs.places.PageValues.{db, page_value, value_same}
 use Rattle.zy_laws.proofs.walk.Txns.{IsAt, Stands, at_either, at_other}
+use Rattle.zy_isa.specs.Limits.{max_key}
 
 -- one instruction more of a lone run
 next_run : (d : Map) (program : List Instr) (x : Txn) (keys : List ℕ) (i : Instr) (e : Effect) (y : Lone) → lone d program x.done ≡ lone_at x keys
@@ -56,7 +57,7 @@ leads_step d e x pc regs keys (ByJump taken to is a b) = rw (is, a, b) refl
 leads_step d e x pc regs keys (BySum r first last is none a b) = rw (is, none, a, b) refl
 
 -- what an access to a key does in the lone run
-module _ (d : Map) (k : ℕ) (x : Txn) (keys : List ℕ) (small : nat_lt 65535 k ≡ false) where
+module _ (d : Map) (k : ℕ) (x : Txn) (keys : List ℕ) (small : nat_lt max_key k ≡ false) where
   -- a read
   pub small_read : (r : Reg) (value : ℕ) → value ≡ unwrap_or (or_else (get_row x.rows k) (get d k)) 0
       → lone_effect d (effect.Accesses (Reads r) k) (lone_at x keys)
@@ -79,7 +80,7 @@ module _ (d : Map) (k : ℕ) (x : Txn) (keys : List ℕ) (small : nat_lt 65535 k
   small_insert value there = rw (small, there) refl
 
 -- what a sum does in the lone run
-pub small_sum : (d : Map) (r : Reg) (a b : ℕ) (x : Txn) (keys : List ℕ) (sum : ℕ) → nat_lt b a ≡ false → nat_lt 65535 b ≡ false
+pub small_sum : (d : Map) (r : Reg) (a b : ℕ) (x : Txn) (keys : List ℕ) (sum : ℕ) → nat_lt b a ≡ false → nat_lt max_key b ≡ false
     → sum ≡ total (λ k. unwrap_or (or_else (get_row x.rows k) (get d k)) 0) (range a b)
     → lone_effect d (effect.Sums r a b) (lone_at x keys)
     ≡ record { regs = with_reg r (sum % 2 ^ 32) x.regs; pc = x.pc + 1; rows = x.rows; keys = range a b ++ keys; over = false }

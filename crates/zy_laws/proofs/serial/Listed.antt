@@ -10,7 +10,7 @@ use Rattle.zy_table.specs.Change.{aborted, asks, begun, committed, cut, did, lea
 use Rattle.zy_table.specs.Client.{is_active}
 use Rattle.zy_table.specs.Play.{move, opening, play, side_of, step}
 use Rattle.zy_table.specs.Serial.{Listed, is_committed, times_listed}
-use Rattle.zy_table.specs.declared.entry.CommitRec.{CommitRec}
+use Rattle.zy_table.specs.declared.entry.CommitRecord.{CommitRecord}
 use Rattle.zy_table.specs.State.{State, Txn, View, facing, seen_from}
 use Rattle.zy_laws.proofs.walk.Events.{Aborts, Begins, Commits, Event, Gets}
 use Rattle.zy_laws.proofs.walk.Events.{Inserts, SumsUp, Splits, Writes, step_happens, GoesOn}
@@ -29,7 +29,7 @@ abbrev Told : View → ℕ → Type 0
 Told v t = times_listed t v.commits ≡ counts (txn_at v t)
 
 -- a commit more is counted for its transaction
-listed-push : (t : ℕ) (cs : List CommitRec) (c : CommitRec) → times_listed t (cs ++ c ∷ []) ≡ times_listed t cs + one_if (c.txn == t)
+listed-push : (t : ℕ) (cs : List CommitRecord) (c : CommitRecord) → times_listed t (cs ++ c ∷ []) ≡ times_listed t cs + one_if (c.txn == t)
 listed-push t [] c = omega arith
 listed-push t (x ∷ cs) c = let k = listed-push t cs c in omega (arith, k)
 
@@ -51,7 +51,7 @@ told_set v w t u y e c a h =
     ap (times_listed u) c ∙ h ∙ sym same
 
 -- t commits, and a record of it is at the end of the list
-told_commit : (v w : View) (t u : ℕ) (y : Txn) (c : CommitRec) → w.txns ≡ slice_set v.txns t y → w.commits ≡ v.commits ++ c ∷ [] → c.txn ≡ t
+told_commit : (v w : View) (t u : ℕ) (y : Txn) (c : CommitRecord) → w.txns ≡ slice_set v.txns t y → w.commits ≡ v.commits ++ c ∷ [] → c.txn ≡ t
     → is_committed y.status ≡ true → is_active (txn_at v t).status ≡ true → Told v u → Told w u
 told_commit v w t u y c e more named now active h =
     let long = ap (times_listed u) more ∙ listed-push u v.commits c in
@@ -68,7 +68,7 @@ told_commit v w t u y c e more named now active h =
     ]
 
 -- the commit list of a view
-abbrev commits_of : View → List CommitRec
+abbrev commits_of : View → List CommitRecord
 commits_of v = v.commits
 
 -- each event keeps it

@@ -22,8 +22,9 @@ use Rattle.zy_table.specs.Ranges.{range, total}
 use Rattle.zy_table.specs.Serial.{Alone, alone, alone_effect, alone_instr, alone_step, gives_up, goes_on, value_in}
 use Rattle.zy_table.specs.State.{Txn, other}
 use Rattle.zy_table.proofs.RangeLists.{has_back, has_front, total_same}
+use Rattle.zy_isa.specs.Limits.{max_key}
 
--- a lone run: registers, place, rows of its own, the keys that it touched, whether it has ended
+-- a lone run: registers, program counter, rows of its own, the keys that it touched, whether it has ended
 pub record Lone : Type 0 where
   pub regs : List ℕ
   pub pc : ℕ
@@ -79,8 +80,8 @@ lone_access d (Inserts v) k x = if not (is_some (sees d x k)) then stores k v x 
 unfoldable pub lone_effect : Map → Effect → Lone → Lone
 lone_effect d (Sets r v) x = record x { regs = with_reg r v x.regs; pc = x.pc + 1 }
 lone_effect d (Jumps taken to) x = record x { pc = if taken then to else x.pc + 1 }
-lone_effect d (Accesses i k) x = if nat_lt 65535 k then ended x else lone_access d i k x
-lone_effect d (Sums r a b) x = sums_or_ends d r (range a b) (nat_lt b a) (nat_lt 65535 b) x
+lone_effect d (Accesses i k) x = if nat_lt max_key k then ended x else lone_access d i k x
+lone_effect d (Sums r a b) x = sums_or_ends d r (range a b) (nat_lt b a) (nat_lt max_key b) x
 lone_effect d Commits x = ended x
 lone_effect d Aborts x = ended x
 
@@ -155,12 +156,12 @@ alike_read : (d d' : Map) (r : Reg) (k : ℕ) (x : Lone) → (lone_effect d (Acc
     → Agree d d' (lone_effect d (Accesses (Reads r) k) x).keys → Alike d d' x (lone_effect d (Accesses (Reads r) k) x) (lone_effect d' (Accesses (Reads r) k) x)
 unfolding lone_effect
 alike_read d d' r k x on a =
-    let both : Agree d d' (k ∷ x.keys) = cond_both (nat_lt 65535 k) (ended x) (reads d r k x) (λ y. y.over ≡ false → Agree d d' y.keys
+    let both : Agree d d' (k ∷ x.keys) = cond_both (nat_lt max_key k) (ended x) (reads d r k x) (λ y. y.over ≡ false → Agree d d' y.keys
     → Agree d d' (k ∷ x.keys)) (λ _ o _. over_absurd o) (λ _ _ h. h) on a in
     let same : sees d' x k ≡ sees d x k = ap (or_else (get_row x.rows k)) (agree_first d d' k x.keys both) in
     record {
       before = agree_rest d d' k x.keys both;
-      same = ap (λ o. if nat_lt 65535 k then ended x
+      same = ap (λ o. if nat_lt max_key k then ended x
           else record x { regs = with_reg r (unwrap_or o 0) x.regs; pc = x.pc + 1; keys = k ∷ x.keys }) same;
     }
 
@@ -184,10 +185,10 @@ unfolding lone_effect
 alike_effect d d' (Sets r v) x on a = record { before = record { each = a.each }; same = refl }
 alike_effect d d' (Jumps taken to) x on a = record { before = record { each = a.each }; same = refl }
 alike_effect d d' (Accesses (Reads r) k) x on a = alike_read d d' r k x on a
-alike_effect d d' (Accesses (Writes v) k) x on a = alike_put d d' (Accesses (Writes v) k) x k v (nat_lt 65535 k) is_some (λ m. refl) on a
-alike_effect d d' (Accesses (Inserts v) k) x on a = alike_put d d' (Accesses (Inserts v) k) x k v (nat_lt 65535 k) (λ o. not (is_some o)) (λ m. refl) on a
+alike_effect d d' (Accesses (Writes v) k) x on a = alike_put d d' (Accesses (Writes v) k) x k v (nat_lt max_key k) is_some (λ m. refl) on a
+alike_effect d d' (Accesses (Inserts v) k) x on a = alike_put d d' (Accesses (Inserts v) k) x k v (nat_lt max_key k) (λ o. not (is_some o)) (λ m. refl) on a
 alike_effect d d' (Sums r first last) x on a =
-    let h = alike_sum d d' r (range first last) (nat_lt last first) (nat_lt 65535 last) x on a in
+    let h = alike_sum d d' r (range first last) (nat_lt last first) (nat_lt max_key last) x on a in
     record { before = h.0; same = h.1 }
 alike_effect d d' Commits x on a = over_absurd on
 alike_effect d d' Aborts x on a = over_absurd on
@@ -329,12 +330,12 @@ on_effect : (m : Map) (e : Effect) (x : Lone) → (lone_effect m e x).over ≡ f
 unfolding lone_effect
 on_effect m (Sets r v) x on = record { map = refl; regs = refl; pc = refl; over = refl }
 on_effect m (Jumps taken to) x on = record { map = refl; regs = refl; pc = refl; over = refl }
-on_effect m (Accesses (Reads r) k) x on = on_read m r k x (nat_lt 65535 k) on
-on_effect m (Accesses (Writes v) k) x on = rw get-laid (on_put m x k v (nat_lt 65535 k) (is_some (sees m x k)) on)
+on_effect m (Accesses (Reads r) k) x on = on_read m r k x (nat_lt max_key k) on
+on_effect m (Accesses (Writes v) k) x on = rw get-laid (on_put m x k v (nat_lt max_key k) (is_some (sees m x k)) on)
 on_effect m (Accesses (Inserts v) k) x on =
     rw (get-laid, ← turned_test (is_some (sees m x k)) (goes_on (insert (laid x.rows m) k v) x.regs (x.pc + 1)) (gives_up m (mapped m x)))
-    (on_put m x k v (nat_lt 65535 k) (not (is_some (sees m x k))) on)
-on_effect m (Sums r a b) x on = on_sum m r (range a b) (nat_lt b a) (nat_lt 65535 b) x on
+    (on_put m x k v (nat_lt max_key k) (not (is_some (sees m x k))) on)
+on_effect m (Sums r a b) x on = on_sum m r (range a b) (nat_lt b a) (nat_lt max_key b) x on
 on_effect m Commits x on = over_absurd on
 on_effect m Aborts x on = over_absurd on
 

@@ -10,7 +10,7 @@ use Rattle.zy_table.specs.Change.{aborted, asks, begun, did, leaves, locked, sha
 use Rattle.zy_table.specs.Database.{sent_leaves, database}
 use Rattle.zy_table.specs.Run.{boundary}
 use Rattle.zy_table.specs.State.{View, post, Leaf, NodeState, State, facing, seen_from}
-use Rattle.zy_table.specs.declared.entry.CommitRec.{CommitRec}
+use Rattle.zy_table.specs.declared.entry.CommitRecord.{CommitRecord}
 use Rattle.zy_laws.proofs.serial.Committing.{committed_list}
 use Rattle.zy_laws.proofs.serial.CutValues.{cut_db}
 use Rattle.zy_laws.proofs.walk.Events.{Commits, Event, Gives, GotLast, GotPage}
@@ -38,7 +38,7 @@ use Rattle.zy_laws.proofs.owner.Roles.{Owned, turned}
 use Rattle.zy_laws.proofs.walk.Kinds.{unmoved_of}
 
 -- a list with one more is another list
-no_longer : (cs : List CommitRec) (c : CommitRec) → cs ++ c ∷ [] ≡ cs → ⊥
+no_longer : (cs : List CommitRecord) (c : CommitRecord) → cs ++ c ∷ [] ≡ cs → ⊥
 no_longer cs c h =
     let a = length-append cs (c ∷ []) in
     let b : length (cs ++ c ∷ []) ≡ length cs = ap length h in

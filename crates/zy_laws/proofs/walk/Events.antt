@@ -43,7 +43,7 @@ use Rattle.zy_table.specs.Run.{value_for, first_absent, first_taken, sum_step, s
 use Rattle.zy_table.specs.Ranges.{range, range_pages, total}
 use Rattle.zy_table.specs.declared.access.Access.{Access}
 use Rattle.zy_table.specs.declared.access.Access.TheVariants.{Reads}
-use Rattle.zy_table.specs.Take.{is_held, all_here, with_brought, got_step, pull_step, mode_line, message_step, front_step, take_step}
+use Rattle.zy_table.specs.Take.{is_held, all_here, with_brought, arrival_step, pull_step, mode_line, message_step, front_step, take_step}
 use Rattle.zy_table.specs.Push.{active_from, finish_if, finish_step, push_if, push_step}
 use Rattle.zy_laws.specs.Journey.{is_gone, is_stray}
 use Rattle.zy_table.specs.Play.{move, side_of}
@@ -52,6 +52,7 @@ use Rattle.zy_laws.proofs.walk.ModeLines.{starts_at_a, starts_from, pushes_in_fi
 use Rattle.zy_table.proofs.PageLists.{least-owns}
 use Rattle.zy_table.proofs.RangeLists.{found_has, key_of_page, none_passes}
 use Rattle.zy_table.proofs.AbortedLocks.{aborted-locked}
+use Rattle.zy_isa.specs.Limits.{max_key}
 
 -- t runs at n, and e is what its next instruction does
 pub record Runs (sc : Scenario) (n : Node) (t : ℕ) (e : Effect) (v : View) : Type 0 where
@@ -62,7 +63,7 @@ pub record Runs (sc : Scenario) (n : Node) (t : ℕ) (e : Effect) (v : View) : T
   pub next : slice_get (program_of sc t) (txn_at v t).pc ≡ Some instr
   pub does : effect_of instr (txn_at v t).regs ≡ e
 
--- where an effect that needs no page leaves a transaction: its place and its registers
+-- where an effect that needs no page leaves a transaction: its program counter and its registers
 pub data Leads (e : Effect) (x : Txn) (pc : ℕ) (regs : List ℕ) : Type 0 where
   BySet : (r : Reg) (value : ℕ) → e ≡ effect.Sets r value → pc ≡ x.pc + 1 → regs ≡ with_reg r value x.regs → Leads e x pc regs
   ByJump : (taken : Bool) (to : ℕ) → e ≡ effect.Jumps taken to → pc ≡ (if taken then to else x.pc + 1) → regs ≡ x.regs → Leads e x pc regs
@@ -70,7 +71,7 @@ pub data Leads (e : Effect) (x : Txn) (pc : ℕ) (regs : List ℕ) : Type 0 wher
 
 -- the key's page is here, and nobody's lock is in the way
 pub record Free (t k : ℕ) (kind : LockKind) (v : View) : Type 0 where
-  pub small : nat_lt 65535 k ≡ false
+  pub small : nat_lt max_key k ≡ false
   pub here : owns v.me.pages (page_of v.me.lows k) ≡ true
   pub free : conflict v.me.locks (page_of v.me.lows k) t kind ≡ false
 
@@ -93,7 +94,7 @@ value_at t k v = value_for (txn_at v t) v.me k
 -- the keys from a to b are keys, their pages are here, and nobody's lock is in the way of sharing them
 pub record FreeRange (t a b : ℕ) (v : View) : Type 0 where
   pub rises : nat_lt b a ≡ false
-  pub small : nat_lt 65535 b ≡ false
+  pub small : nat_lt max_key b ≡ false
   pub here : (p : ℕ) → has (range_pages v.me.lows a b) p ≡ true → owns v.me.pages p ≡ true
   pub free : (p : ℕ) → has (range_pages v.me.lows a b) p ≡ true → conflict v.me.locks p t Shared ≡ false
 
@@ -175,14 +176,14 @@ pub record Strange (v : View) : Type 0 where
   pub front : v.inbox ≡ message ∷ after
   pub line : mode_line message v ≡ Stray
 
--- a split's outcome tells the number of the new page, a start's that it acted; and a page that is asked for is that of a key
+-- a split's outcome has the number of the new page, a start's that it acted; and a page that is asked for is that of a key
 abbrev pub Told : {sc : Scenario} {n : Node} {v w : View} → Event sc n v w → Outcome → Type 0
 Told {v = v} (Splits t k x runs f new full normal pages e) o = (p b : ℕ) × (o ≡ outcome.Split p (length v.me.lows) b)
 Told (Starts at_a normal empty e) o = o ≡ outcome.Started
 Told {v = v} (Asks p gone pulls asked e) o = (k : ℕ) × (p ≡ page_of v.me.lows k)
 Told e o = Unit {0}
 
--- a move is an event, its outcome tells what the event did, and it is gone or stray only for the cause shown
+-- a move is an event, its outcome says what the event did, and it is gone or stray only for the cause shown
 pub record Happens (sc : Scenario) (n : Node) (v : View) (m : Move) : Type 0 where
   pub event : Event sc n v m.after
   pub told : Told event m.outcome
@@ -309,7 +310,7 @@ module _ (sc : Scenario) (n : Node) where
   key_happens : (t k : ℕ) (i : Access) (v : View) → Runs sc n t (effect.Accesses i k) v → Happens sc n v (key_step sc t i k v)
   unfolding key_step page_step
   key_happens t k i v runs =
-      cond_both (nat_lt 65535 k) _ _ (Happens sc n v)
+      cond_both (nat_lt max_key k) _ _ (Happens sc n v)
       (λ _. aborts t _ v runs.active runs.here (λ e. never e))
       (λ small. cond_both (not (owns v.me.pages (page_of v.me.lows k))) _ _ (Happens sc n v)
       (λ gone. absent_happens t k (effect.Accesses i k) v runs (not-true _ gone))
@@ -327,7 +328,7 @@ module _ (sc : Scenario) (n : Node) where
 
   -- the line of a sum whose pages are all here: it waits for another's lock, or adds up
   sum_waits_happens : (t : ℕ) (r : Reg) (a b : ℕ) (o : Option ℕ) (v : View) → o ≡ first_taken v.me.locks t (range_pages v.me.lows a b)
-      → Runs sc n t (effect.Sums r a b) v → nat_lt b a ≡ false → nat_lt 65535 b ≡ false
+      → Runs sc n t (effect.Sums r a b) v → nat_lt b a ≡ false → nat_lt max_key b ≡ false
       → ((p : ℕ) → has (range_pages v.me.lows a b) p ≡ true → owns v.me.pages p ≡ true)
       → Happens sc n v (sum_or_waits t r a b o v)
   unfolding sum_or_waits sum_step set_step shares txn_at
@@ -344,7 +345,7 @@ module _ (sc : Scenario) (n : Node) where
 
   -- the line of a sum with keys: it asks for a page that is not here, or goes on to the locks
   sum_asks_happens : (t : ℕ) (r : Reg) (a b : ℕ) (o : Option ℕ) (v : View) → o ≡ first_absent v.me.pages (range_pages v.me.lows a b)
-      → Runs sc n t (effect.Sums r a b) v → nat_lt b a ≡ false → nat_lt 65535 b ≡ false
+      → Runs sc n t (effect.Sums r a b) v → nat_lt b a ≡ false → nat_lt max_key b ≡ false
       → Happens sc n v (sum_or_asks t r a b o v)
   unfolding sum_or_asks
   sum_asks_happens t r a b (Some p) v e runs rises small = sum_absent t a b p (effect.Sums r a b) v runs (sym e)
@@ -358,7 +359,7 @@ module _ (sc : Scenario) (n : Node) where
   range_happens t r a b v runs =
       cond_both (nat_lt b a) _ _ (Happens sc n v)
       (λ none. goes_on t (effect.Sums r a b) ((txn_at v t).pc + 1) (with_reg r 0 (txn_at v t).regs) v runs (BySum r a b refl none refl refl))
-      (λ rises. cond_both (nat_lt 65535 b) _ _ (Happens sc n v)
+      (λ rises. cond_both (nat_lt max_key b) _ _ (Happens sc n v)
       (λ _. aborts t _ v runs.active runs.here (λ e. never e))
       (λ small. sum_asks_happens t r a b _ v refl runs rises small))
 
@@ -422,76 +423,76 @@ module _ (sc : Scenario) (n : Node) where
 
   -- the lines of take, where the mode table has one
   strays : (m : Message) (ms : List Message) (v : View) → v.inbox ≡ m ∷ ms → mode_line m v ≡ Stray
-      → Happens sc n v (got_step (mode_line m v) m v (rest v ms))
-  unfolding got_step
+      → Happens sc n v (arrival_step (mode_line m v) m v (rest v ms))
+  unfolding arrival_step
   strays m ms v f e =
-      subst (λ line. Happens sc n v (got_step line m v (rest v ms))) (sym e)
+      subst (λ line. Happens sc n v (arrival_step line m v (rest v ms))) (sym e)
       (record { event = Rests refl; told = tt; lost = λ h. never h; strange = λ _. record { message = m; after = ms; front = f; line = e } })
 
   -- taking a wireframe
   wire_happens : (lows : List ℕ) (ms : List Message) (v : View) → v.inbox ≡ Wire lows ∷ ms
-      → Happens sc n v (got_step (mode_line (Wire lows) v) (Wire lows) v (rest v ms))
-  unfolding got_step
+      → Happens sc n v (arrival_step (mode_line (Wire lows) v) (Wire lows) v (rest v ms))
+  unfolding arrival_step
   wire_happens lows ms v f =
       elim (wire_line v.me.mode (all_here (with_brought (Wire lows) v.me))) [
         | inl e ↦ strays (Wire lows) ms v f e
-        | inr h ↦ subst (λ line. Happens sc n v (got_step line (Wire lows) v (rest v ms))) (sym h.1) (plain v _ (GotWire lows ms f h.0 refl) refl refl tt)
+        | inr h ↦ subst (λ line. Happens sc n v (arrival_step line (Wire lows) v (rest v ms))) (sym h.1) (plain v _ (GotWire lows ms f h.0 refl) refl refl tt)
       ]
 
   -- taking a ready
   ready_happens : (ms : List Message) (v : View) → v.inbox ≡ Ready ∷ ms
-      → Happens sc n v (got_step (mode_line Ready v) Ready v (rest v ms))
-  unfolding got_step
+      → Happens sc n v (arrival_step (mode_line Ready v) Ready v (rest v ms))
+  unfolding arrival_step
   ready_happens ms v f =
       elim (ready_line v.me.mode (all_here (with_brought Ready v.me))) [
         | inl e ↦ strays Ready ms v f e
-        | inr h ↦ subst (λ line. Happens sc n v (got_step line Ready v (rest v ms))) (sym h.1) (plain v _ (GotReady ms f h.0 refl) refl refl tt)
+        | inr h ↦ subst (λ line. Happens sc n v (arrival_step line Ready v (rest v ms))) (sym h.1) (plain v _ (GotReady ms f h.0 refl) refl refl tt)
       ]
 
   -- taking a dual
-  dual_happens : (ms : List Message) (v : View) → v.inbox ≡ Dual ∷ ms → Happens sc n v (got_step (mode_line Dual v) Dual v (rest v ms))
-  unfolding got_step
+  dual_happens : (ms : List Message) (v : View) → v.inbox ≡ Dual ∷ ms → Happens sc n v (arrival_step (mode_line Dual v) Dual v (rest v ms))
+  unfolding arrival_step
   dual_happens ms v f =
       elim (dual_line v.me.mode (all_here (with_brought Dual v.me))) [
         | inl e ↦ strays Dual ms v f e
-        | inr h ↦ subst (λ line. Happens sc n v (got_step line Dual v (rest v ms))) (sym h.1) (plain v _ (GotDual ms f h.0 refl) refl refl tt)
+        | inr h ↦ subst (λ line. Happens sc n v (arrival_step line Dual v (rest v ms))) (sym h.1) (plain v _ (GotDual ms f h.0 refl) refl refl tt)
       ]
 
   -- taking a page, the last one or one of more
   page_happens : (leaf : Leaf) (ms : List Message) (v : View) → v.inbox ≡ Page leaf ∷ ms
-      → Happens sc n v (got_step (mode_line (Page leaf) v) (Page leaf) v (rest v ms))
-  unfolding got_step
+      → Happens sc n v (arrival_step (mode_line (Page leaf) v) (Page leaf) v (rest v ms))
+  unfolding arrival_step
   page_happens leaf ms v f =
       elim (page_line v.me.mode (all_here (with_brought (Page leaf) v.me))) [
         | inl e ↦ strays (Page leaf) ms v f e
         | inr h ↦ elim h [
-          | inl more ↦ subst (λ line. Happens sc n v (got_step line (Page leaf) v (rest v ms))) (sym more.1)
+          | inl more ↦ subst (λ line. Happens sc n v (arrival_step line (Page leaf) v (rest v ms))) (sym more.1)
               (plain v _ (GotPage leaf ms f more.0 refl) refl refl tt)
-          | inr last ↦ subst (λ line. Happens sc n v (got_step line (Page leaf) v (rest v ms))) (sym last.2)
+          | inr last ↦ subst (λ line. Happens sc n v (arrival_step line (Page leaf) v (rest v ms))) (sym last.2)
               (plain v _ (GotLast leaf ms f last.0 last.1 refl) refl refl tt)
         ]
       ]
 
   -- taking a finish, with all pages here or not
   finish_taken : (ms : List Message) (v : View) → v.inbox ≡ Finish ∷ ms
-      → Happens sc n v (got_step (mode_line Finish v) Finish v (rest v ms))
-  unfolding got_step
+      → Happens sc n v (arrival_step (mode_line Finish v) Finish v (rest v ms))
+  unfolding arrival_step
   finish_taken ms v f =
       elim (finish_line v.me.mode (all_here (with_brought Finish v.me))) [
         | inl e ↦ strays Finish ms v f e
         | inr h ↦ elim h.1 [
-          | inl some ↦ subst (λ line. Happens sc n v (got_step line Finish v (rest v ms))) (sym some.1) (plain v _ (GotFinish ms f h.0 refl) refl refl tt)
-          | inr all ↦ subst (λ line. Happens sc n v (got_step line Finish v (rest v ms))) (sym all.1) (plain v _ (GotAll ms f h.0 all.0 refl) refl refl tt)
+          | inl some ↦ subst (λ line. Happens sc n v (arrival_step line Finish v (rest v ms))) (sym some.1) (plain v _ (GotFinish ms f h.0 refl) refl refl tt)
+          | inr all ↦ subst (λ line. Happens sc n v (arrival_step line Finish v (rest v ms))) (sym all.1) (plain v _ (GotAll ms f h.0 all.0 refl) refl refl tt)
         ]
       ]
 
   -- taking a done
-  done_happens : (ms : List Message) (v : View) → v.inbox ≡ Done ∷ ms → Happens sc n v (got_step (mode_line Done v) Done v (rest v ms))
-  unfolding got_step
+  done_happens : (ms : List Message) (v : View) → v.inbox ≡ Done ∷ ms → Happens sc n v (arrival_step (mode_line Done v) Done v (rest v ms))
+  unfolding arrival_step
   done_happens ms v f =
       elim (done_line v.me.mode (all_here (with_brought Done v.me))) [
         | inl e ↦ strays Done ms v f e
-        | inr h ↦ subst (λ line. Happens sc n v (got_step line Done v (rest v ms))) (sym h.1) (plain v _ (GotDone ms f h.0 refl) refl refl tt)
+        | inr h ↦ subst (λ line. Happens sc n v (arrival_step line Done v (rest v ms))) (sym h.1) (plain v _ (GotDone ms f h.0 refl) refl refl tt)
       ]
 
   -- taking a pull in a mode that sends: it is stale, it waits for the lock, or the page leaves

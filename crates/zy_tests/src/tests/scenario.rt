@@ -1,7 +1,7 @@
 //! A scenario with other choices, and the words of the faults.
 use std::alloc::Global;
 use std::test::Fail;
-use zy_isa::{Choice, Instr, Node, ProgFault, Program, Reg, Row, Rule, Scenario, ScenarioFault};
+use zy_isa::{Choice, Instr, Node, ProgramFault, Program, Reg, Row, Rule, Scenario, ScenarioFault};
 
 const COUNTING: [Instr; 4] = [
     Instr::Set(Reg::R1, 4_294_967_295),
@@ -74,7 +74,7 @@ fn a_scenario_takes_other_choices(rt: HostRuntime) {
 
 #[test]
 fn faults_are_told_in_words(rt: HostRuntime) -> Result<(), Fail> {
-    let told = format!(in rt.alloc(); "{}; {}", ProgFault::Empty, ProgFault::Target(3))?;
+    let told = format!(in rt.alloc(); "{}; {}", ProgramFault::Empty, ProgramFault::Target(3))?;
     let wanted =
         "a program needs an instruction; the target of instruction 3 is the number of an instruction";
     assert_eq!(rt; told.as_str(), wanted);

@@ -34,8 +34,8 @@ returns-in-Err c =
           (ap (line_step (progress_of c.loop-words.reader)) (sym words) ∙ e))
     ]
 
-pub returns-in-Err-ended : goal.returns-in-Err-ended
-returns-in-Err-ended c =
-    inr (fault_end (progress_of c.loop-words.reader) c.loop-words.line (lines_of c.loop-words.rest.now) (kind_of c.in-Err-ended.reason)
+pub returns-in-Err-end_reached : goal.returns-in-Err-end_reached
+returns-in-Err-end_reached c =
+    inr (fault_end (progress_of c.loop-words.reader) c.loop-words.line (lines_of c.loop-words.rest.now) (kind_of c.in-Err-end_reached.reason)
     (reading c.args.text.now)
-    c.loop-words.invariant.same (empty_lines c.loop-words.rest.now (sym c.is_empty.ensures ∙ c.loop-words-test.false)) (sym c.in-Err-ended.ensures))
+    c.loop-words.invariant.same (empty_lines c.loop-words.rest.now (sym c.is_empty.ensures ∙ c.loop-words-test.false)) (sym c.in-Err-end_reached.ensures))

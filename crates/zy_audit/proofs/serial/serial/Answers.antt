@@ -1,6 +1,6 @@
 use Rattle.std.proofs.Common.{◌∙◌, [], add-one, get_or, refl}
 use Rattle.std.specs.FinMap.{empty}
-use Rattle.zy_table.specs.declared.entry.CommitRec.{CommitRec}
+use Rattle.zy_table.specs.declared.entry.CommitRecord.{CommitRecord}
 use Rattle.zy_audit.specs.Lone.{map_of}
 use Rattle.zy_audit.proofs.LaidRows.{laid-put_rows}
 use Rattle.zy_table.proofs.Programs.{program-read}
@@ -14,7 +14,7 @@ pub loop-commit-preserved : goal.loop-commit-preserved
 loop-commit-preserved c =
     let i = c.loop-commit.commit-index in
     let cs = c.args.commits.now in
-    let d : CommitRec = record { txn = 0; done = 0 } in
+    let d : CommitRecord = record { txn = 0; done = 0 } in
     let named = c.requires i d c.loop-commit-test.true in
     let program = program-read c.args.scenario.now c.from.result (get_or cs i d).txn c.index-programs-from.result c.from.ensures named
     (rw c.programs.ensures.value at c.index-programs-from.is) in

@@ -4,14 +4,15 @@ use Rattle.zy_check.specs.declared.verdict.Verdict.{Verdict}
 use Rattle.zy_check.specs.Verdicts.{IsVerdict}
 use Rattle.zy_engine.specs.Checks.{verdict_line}
 use Rattle.zy_engine.proofs.CheckLemmas.{tell-prefix, prefix-of-one}
-use Rattle.zy_engine.proofs.RunLemmas.{of-any, WrotePrefix-nothing}
+use Rattle.zy_engine.proofs.RunLemmas.{of-any}
 use Rattle.zy_engine.proofs.checking.check_bytes.Goals as goal
+use Rattle.zy_io.proofs.StreamLemmas.{WrotePrefix-none}
 
 pub returns-in_err-verdict-clause-prefix : goal.returns-in_err-verdict-clause-prefix
 returns-in_err-verdict-clause-prefix g c =
     let written = g.K.Sink.written c.args.sink.now in
     of-any (λ told. (v : Verdict) → IsVerdict told v → WrotePrefix written written (verdict_line v)) (g.S.Source.left c.args.source.now)
-    (λ told v is. WrotePrefix-nothing written (verdict_line v))
+    (λ told v is. WrotePrefix-none written (verdict_line v))
 
 pub returns-in_err-tell-clause-prefix : goal.returns-in_err-tell-clause-prefix
 returns-in_err-tell-clause-prefix g c =

@@ -1,4 +1,4 @@
--- The bytes that were read are those that the reader told.
+-- The bytes that were read are those that the reader reports.
 use Rattle.std.proofs.Common.{◌≡◌, IfSome, rules}
 use Rattle.std.proofs.lemmas.Result.{err_from_is_err_and}
 use Rattle.zy_io.specs.Streams.{ReadWhole}

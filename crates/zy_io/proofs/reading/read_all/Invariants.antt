@@ -2,14 +2,15 @@
 use Rattle.std.proofs.Common.{◌≡◌, ◌≤◌, ◌+◌, ◌-◌, vec_len}
 use Rattle.std.specs.Io.KnownBytes.{Consumes}
 use Rattle.zy_io.proofs.reading.read_all.Given as goal
+use Rattle.zy_io.specs.Streams.{max_input}
 
 abbrev pub invariant-loop-count : goal.invariant-loop-count
 invariant-loop-count g l = record {
   so_far : Consumes (g.S.Source.left l.initial.source) (g.S.Source.left l.source) l.bytes.items;
   none_failed : g.S.Source.failures l.source ≡ g.S.Source.failures l.initial.source;
   bound : g.S.Source.given l.source ≤ g.S.Source.given l.initial.source + vec_len l.bytes;
-  room : vec_len l.bytes ≤ 4194304;
+  room : vec_len l.bytes ≤ max_input;
 }
 
 abbrev pub decreases-loop-count : goal.decreases-loop-count
-decreases-loop-count g l = 4194305 - vec_len l.bytes
+decreases-loop-count g l = max_input + 1 - vec_len l.bytes

@@ -7,15 +7,11 @@ use Rattle.zy_table.specs.State.{State}
 use Rattle.zy_table.specs.Play.{step}
 use Rattle.zy_search.specs.Choices.{is_considered, considered}
 use Rattle.zy_search.specs.Stuck.{is_still}
-use Rattle.zy_search.proofs.ChoiceLemmas.{considered_at, has_considered}
+use Rattle.zy_search.proofs.ChoiceLemmas.{has_considered}
+use Rattle.zy_search.proofs.MeetLemmas.{is_one}
 use Rattle.zy_search.proofs.SearchLemmas.{named_if}
 use Rattle.zy_search.proofs.TxnLemmas.{more}
 use Rattle.zy_search.proofs.stuck.is_stuck_by.Goals as goal
-
-is_one : (kills : Bool) (count i : ℕ) (cs : List Choice) → cs ≡ considered kills count → i < length cs → is_considered kills count (get_or cs i Start) ≡ true
-is_one kills count i cs e lt =
-    let all = ap (λ (ds : List Choice). length ds) e in
-    rw e (considered_at kills count i Start (omega (arith, all, lt)))
 
 pub stays-requires-clause-named : goal.stays-requires-clause-named
 stays-requires-clause-named c =

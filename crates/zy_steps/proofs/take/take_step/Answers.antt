@@ -18,4 +18,4 @@ pub returns-in-Brings-clause-line : goal.returns-in-Brings-clause-line
 returns-in-Brings-clause-line c v =
     let stands = subst (λ f. IsFront f (node_shown c.args.me.now) c.args.inbox.now.messages) c.in-Brings.is c.at_front.ensures in
     rw (take-brings c.args.scenario.now stands.0 c.in-Brings.line (meets c.args.me.now c.args.inbox.now v) stands.1 stands.2)
-    (c.got_step.ensures.line stands.0 stands.2.front v)
+    (c.arrival_step.ensures.line stands.0 stands.2.front v)

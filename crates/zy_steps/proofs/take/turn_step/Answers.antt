@@ -1,10 +1,10 @@
 use Rattle.std.proofs.Common.{◌≡◌, refl}
 use Rattle.zy_links.specs.Messages.{message_of}
-use Rattle.zy_table.specs.Take.{got_step}
+use Rattle.zy_table.specs.Take.{arrival_step}
 use Rattle.zy_steps.proofs.take.turn_step.Goals as goal
 
 pub returns-clause-line : goal.returns-clause-line
-unfolding got_step
+unfolding arrival_step
 returns-clause-line c m front v =
     let first = c.in-Some.ensures.front in
     let is : message_of c.in-Some.message ≡ m = cc in

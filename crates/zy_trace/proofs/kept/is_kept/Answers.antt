@@ -1,4 +1,4 @@
--- All that the line tells is what it was.
+-- All that the line shows is what it was.
 use Rattle.std.proofs.Common.{◌&&◌, ◌∙◌, ap, sym}
 use Rattle.std.specs.Option.{option_copied}
 use Rattle.std.proofs.lemmas.Bool.{and_parts}
