@@ -10,7 +10,7 @@ use crate::faults::LoadFault;
 use crate::fields::{byte, field};
 use crate::lists::{Items, read_items};
 use std::alloc::Global;
-use zy_isa::{MAX_INSTRS, MAX_TXNS, ProgramFault, Program, Version, WORD_BYTES, Word};
+use zy_isa::{MAX_INSTRS, MAX_TXNS, Program, ProgramFault, Version, WORD_BYTES, Word};
 
 /// The word that these bytes are, where the version has its instruction.
 fn word_in(version: Version, bytes: [u8; WORD_BYTES]) -> Option<Word>

@@ -18,7 +18,7 @@ pub use crate::node::{Actor, Node};
 pub use crate::operation::{
     JumpOperation, LoneOperation, NumberOperation, Operation, PairOperation, Parts,
 };
-pub use crate::program::{MAX_INSTRS, ProgramFault, Program};
+pub use crate::program::{MAX_INSTRS, Program, ProgramFault};
 pub use crate::row::Row;
 pub use crate::rule::Rule;
 pub use crate::scenario::{

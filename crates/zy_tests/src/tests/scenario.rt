@@ -1,7 +1,7 @@
 //! A scenario with other choices, and the words of the faults.
 use std::alloc::Global;
 use std::test::Fail;
-use zy_isa::{Choice, Instr, Node, ProgramFault, Program, Reg, Row, Rule, Scenario, ScenarioFault};
+use zy_isa::{Choice, Instr, Node, Program, ProgramFault, Reg, Row, Rule, Scenario, ScenarioFault};
 
 const COUNTING: [Instr; 4] = [
     Instr::Set(Reg::R1, 4_294_967_295),
