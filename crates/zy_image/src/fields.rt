@@ -36,7 +36,7 @@ pub fn magic_field(size: usize, bytes: &[u8]) -> Result<(Version, &[u8]), LoadFa
     ensures { Gives result (spec.magic_field size bytes.entry.now) }
 {
     let (front, left) = field::<4>(size, bytes)?;
-    match Version::version_of_magic(front) {
+    match Version::of_magic(front) {
         Some(version) => Ok((version, left)),
         None => Err(LoadFault::Magic),
     }

@@ -63,7 +63,7 @@ impl Version {
     }
 
     /// The version whose images begin with these bytes.
-    pub fn version_of_magic(bytes: [u8; 4]) -> Option<Version>
+    pub fn of_magic(bytes: [u8; 4]) -> Option<Version>
         ensures { result ≡ spec.version_of_magic bytes }
     {
         if is(&bytes, &Version::One.magic()) {

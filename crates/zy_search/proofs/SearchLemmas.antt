@@ -296,7 +296,8 @@ fills h q most at ps v edge many = record {
 pub stops : (h : History) (q : Sought) (most at : ℕ) (old new : List (List Choice)) → at < length old → StopsAt h q most old new at
     → IsDue h q most (Spent (length_at new at + 1))
 stops h q most at old new lt (inl full) = inl (fills h q most at new full.visits full.near full.many)
-stops h q most at old new lt (inr x) = inr (omega (arith, x.1, ap (λ (l : List Choice). length l) (x.0.same at lt)))
+stops h q most at old new lt (inr x) =
+    inr (omega (arith, x.1, ap (λ (l : List Choice). length l) (x.0.same at lt)), λ e. absurd (omega (arith, e)))
 
 -- no path has gone
 pub stops_grown : (h : History) (q : Sought) (most at : ℕ) (old new : List (List Choice)) → StopsAt h q most old new at → Grows old new

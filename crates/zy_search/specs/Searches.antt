@@ -72,12 +72,15 @@ pub record Fills (h : History) (q : Sought) (most n : ℕ) : Type 0 where
   pub apart : AreApart paths
   pub each : All (λ cs. IsPath h q cs × (length cs ≤ n) × (Shows h.scenario q (reached h cs) → ⊥)) paths
 
--- a search gives up only where it knows as many paths as it may, or where its bound is all that the history has room
--- for
+-- the bound is all that the history has room for; the state of the start is not looked at only where that takes a step
+abbrev pub HasNoRoom : History → Sought → ℕ → Type 0
+HasNoRoom h q fewer = (max_choices ≤ length h.entries + fewer) × (fewer ≡ 0 → q.wanted ≡ wanted.Stuck)
+
+-- a search gives up only where it knows as many paths as it may, or where the history has no room for longer ones
 abbrev pub IsDue : History → Sought → ℕ → Answer → Type 0
 IsDue h q most (answer.Found v) = Unit {0}
 IsDue h q most answer.Nowhere = Unit {0}
-IsDue h q most (answer.Spent fewer) = Fills h q most fewer ⊎ (max_choices ≤ length h.entries + fewer)
+IsDue h q most (answer.Spent fewer) = Fills h q most fewer ⊎ HasNoRoom h q fewer
 
 -- whether a state is stuck is seen by steps, for which the history needs room
 abbrev pub MayTry : Sought → History → Type 0

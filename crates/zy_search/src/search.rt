@@ -142,7 +142,8 @@ fn look<W: Watch>(
 
 /// Whether what is looked for is seen by steps alone.
 fn is_seen_by_steps(wanted: Wanted) -> bool
-    ensures { wanted ≡ Stuck → result ≡ true }
+    ensures stuck { wanted ≡ Stuck → result ≡ true }
+    ensures no_other { result ≡ true → wanted ≡ Stuck }
 {
     matches!(wanted, Wanted::Stuck)
 }

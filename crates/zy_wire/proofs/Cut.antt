@@ -48,9 +48,9 @@ pub record Cut (nodes nodes' : List TreeNode) (p c i : ℕ) : Type 0 where
   pub other : (x : ℕ) → x < length nodes → (x ≡ p → ⊥) → (x ≡ c → ⊥) → node nodes' x ≡ node nodes x
 
 -- the child, as the node above knows it
-pub child : (nodes : List TreeNode) (root top p c i : ℕ) (d : Entry) → IsTree nodes root top → Full nodes p c i
+pub child_of : (nodes : List TreeNode) (root top p c i : ℕ) (d : Entry) → IsTree nodes root top → Full nodes p c i
     → IsChild nodes (node nodes p).level (get_or (node nodes p).entries i d).low (front (drop (suc i) (node nodes p).entries) (node nodes p).end) c
-child nodes root top p c i d t f =
+child_of nodes root top p c i d t f =
     rw (f.is d) at (child_at nodes (node nodes p).level (node nodes p).end i d (node nodes p).entries ((t.each p f.there).children f.above) f.within)
 
 -- the middle is above the least key of the child and below its end
@@ -72,14 +72,14 @@ middle_of nodes c fits full =
 -- a full child is not the node above it
 apart : (nodes : List TreeNode) (root top p c i : ℕ) → IsTree nodes root top → Full nodes p c i → p ≡ c → ⊥
 apart nodes root top p c i t f same =
-    let child = child nodes root top p c i (record { low = 0; to = 0 }) t f in
+    let child = child_of nodes root top p c i (record { low = 0; to = 0 }) t f in
     let level = ap (λ x. (node nodes x).level) same in
     omega (arith, child.level)
 
 -- the nodes afterwards are those of a cut
 pub Cut-is : (nodes : List TreeNode) (root top p c i : ℕ) → IsTree nodes root top → Full nodes p c i → Cut nodes (after nodes p c i) p c i
 Cut-is nodes root top p c i t f =
-    let child = child nodes root top p c i (record { low = 0; to = 0 }) t f in
+    let child = child_of nodes root top p c i (record { low = 0; to = 0 }) t f in
     let other = apart nodes root top p c i t f in
     let l = lower_half (node nodes c) in
     let u = upper_half (node nodes c) in
@@ -121,7 +121,7 @@ kept nodes nodes' root top p c i x t f k lt notc =
 lower_child : (nodes nodes' : List TreeNode) (root top p c i : ℕ) (d : Entry) → IsTree nodes root top → Full nodes p c i → Cut nodes nodes' p c i
     → IsChild nodes' (node nodes p).level (get_or (node nodes p).entries i d).low (middle nodes c) c
 lower_child nodes nodes' root top p c i d t f k =
-    let child = child nodes root top p c i d t f in
+    let child = child_of nodes root top p c i d t f in
     record {
       there = (let z = child.there in let m = k.more in omega arith);
       level = ap (λ (m : TreeNode). m.level + 1) k.lower ∙ child.level;
@@ -133,7 +133,7 @@ lower_child nodes nodes' root top p c i d t f k =
 upper_child : (nodes nodes' : List TreeNode) (root top p c i : ℕ) (d : Entry) → IsTree nodes root top → Full nodes p c i → Cut nodes nodes' p c i
     → IsChild nodes' (node nodes p).level (middle nodes c) (front (drop (suc i) (node nodes p).entries) (node nodes p).end) (length nodes)
 upper_child nodes nodes' root top p c i d t f k =
-    let child = child nodes root top p c i d t f in
+    let child = child_of nodes root top p c i d t f in
     record {
       there = (let m = k.more in omega arith);
       level = ap (λ (m : TreeNode). m.level + 1) k.upper ∙ child.level;
@@ -148,7 +148,7 @@ parent_fits nodes nodes' root top p c i t f k =
     let d : Entry = record { low = 0; to = 0 } in
     let n = node nodes p in
     let fits = t.each p f.there in
-    let child = child nodes root top p c i d t f in
+    let child = child_of nodes root top p c i d t f in
     let m = middle_of nodes c (t.each c child.there) f.full in
     let new : Entry = record { low = middle nodes c; to = length nodes } in
     let more = k.more in
@@ -157,7 +157,7 @@ parent_fits nodes nodes' root top p c i t f k =
       some = omega (arith, length-insert n.entries (suc i) new (omega arith));
       rise = Rise-insert 0 (suc i) new n.entries n.end fits.rise (omega arith) (omega arith)
           (λ j d' lt.
-          let here = child nodes root top p c i d' t f in
+          let here = child_of nodes root top p c i d' t f in
           let low : (get_or n.entries i d').low < middle nodes c = omega (arith, here.low, m.up) in
           elim (cases_lt j i) [
             | inl before ↦ (let r = low_rises 0 j i d' n.entries n.end fits.rise before in' in omega arith)
@@ -168,7 +168,7 @@ parent_fits nodes nodes' root top p c i t f k =
           (λ j d' lt not.
           let at = child_at nodes n.level n.end j d' n.entries (fits.children up) lt in
           kept nodes nodes' root top p c i (get_or n.entries j d').to t f k at.there (λ same.
-          let here = child nodes root top p c i d' t f in
+          let here = child_of nodes root top p c i d' t f in
           let lows : low_of (node nodes (get_or n.entries j d').to) ≡ low_of (node nodes c) = ap (λ z. low_of (node nodes z)) same in
           elim (cases_lt j i) [
             | inl before ↦ absurd (let r = low_rises 0 j i d' n.entries n.end fits.rise before in' in omega (arith, at.low, here.low))
@@ -238,7 +238,7 @@ was : (nodes nodes' : List TreeNode) (root top p c i x k : ℕ) → IsTree nodes
     → Was nodes nodes' c x k
 was nodes nodes' root top p c i x k t f cut h =
     let d : Entry = record { low = 0; to = 0 } in
-    let child = child nodes root top p c i d t f in
+    let child = child_of nodes root top p c i d t f in
     let m = middle_of nodes c (t.each c child.there) f.full in
     let there = child.there in
     elim (cases_lt x (length nodes)) [
@@ -293,7 +293,7 @@ pub IsTree-cut : (nodes nodes' : List TreeNode) (root top p c i : ℕ) → IsTre
     → IsTree nodes' root top
 IsTree-cut nodes nodes' root top p c i t f k =
     let d : Entry = record { low = 0; to = 0 } in
-    let child = child nodes root top p c i d t f in
+    let child = child_of nodes root top p c i d t f in
     let more = k.more in
     let there = child.there in
     let notroot : root ≡ c → ⊥ = λ same. (let l = ap (λ x. (node nodes x).level) same in let u = t.under p f.there in let r = t.level in
@@ -339,7 +339,7 @@ pub Holds-cut : (lows : List ℕ) (nodes nodes' : List TreeNode) (root top p c i
     → Holds lows nodes → Holds lows nodes'
 Holds-cut lows nodes nodes' root top p c i t f k holds = λ x lt.
     let d : Entry = record { low = 0; to = 0 } in
-    let child = child nodes root top p c i d t f in
+    let child = child_of nodes root top p c i d t f in
     let more = k.more in
     let n = node nodes c in
     let fits = t.each c child.there in
@@ -396,7 +396,7 @@ pub after_is : (nodes pushed : List TreeNode) (root top p c i ip ic at : ℕ) (x
     → Full nodes p c i → at ≡ suc i
     → Writes nodes pushed p c ip ic at x l u y w new → set pushed ip w ≡ after nodes p c i
 after_is nodes pushed root top p c i ip ic at x l u y w new t f place h =
-    let child = child nodes root top p c i (record { low = 0; to = 0 }) t f in
+    let child = child_of nodes root top p c i (record { low = 0; to = 0 }) t f in
     let other = apart nodes root top p c i t f in
     let lower = lower_half (node nodes c) in
     let upper = upper_half (node nodes c) in
@@ -436,7 +436,7 @@ full_of nodes root top p c k r = record {
 
 -- a node that is ready to be cut is among the nodes
 pub child_there : (nodes : List TreeNode) (root top p c k : ℕ) → Ready nodes root top p c k → c < length nodes
-child_there nodes root top p c k r = (child nodes root top p c r.leads.at (record { low = 0; to = 0 }) r.tree (full_of nodes root top p c k r)).there
+child_there nodes root top p c k r = (child_of nodes root top p c r.leads.at (record { low = 0; to = 0 }) r.tree (full_of nodes root top p c k r)).there
 
 -- a node that is ready to be cut has 8 entries as it is read
 pub child_full : (nodes : List TreeNode) (root top p c k ic : ℕ) (x : TreeNode) → Ready nodes root top p c k → ic ≡ c → x ≡ get_or nodes ic x

@@ -9,7 +9,7 @@ pub shows-requires-clause-room : goal.shows-requires-clause-room
 shows-requires-clause-room g c = λ e.
     elim c.else-len-ge-MAX_CHOICES.branch [
       | else-len-ge-MAX_CHOICES-via-then-len-ge-MAX_CHOICES+else-is_seen_by_steps w ↦
-          absurd (false≢true (sym w.if-is_seen_by_steps.false ∙ w.is_seen_by_steps.ensures e))
+          absurd (false≢true (sym w.if-is_seen_by_steps.false ∙ w.is_seen_by_steps.ensures.stuck e))
       | else-len-ge-MAX_CHOICES-via-else-len-ge-MAX_CHOICES w ↦ omega (arith, w.if-len-ge-MAX_CHOICES.false, c.len.ensures.value)
     ]
 
