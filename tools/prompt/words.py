@@ -1,7 +1,7 @@
 """The words of the prompt: commands, their short forms, and what `help` says of them."""
 
 HELP = """moves     step [N] (s, n)     N choices on (1)            back [N] (bs)       N choices back (1)
-          goto N              to position N               cont (c), rcont (rc)  to the next stop, to the last one
+          goto N              to position N               cont (c), rcont (rc)  to the next stop, to the previous one
           find WORDS          to the next step whose line has these words: find held, find aborted
 stops     break page P (b)    where page P moves          break mode          where a mode changes
           break abort         where a transaction aborts  watch K (w)         where the value at key K changes
@@ -11,7 +11,7 @@ looks     page P (p)          a page and its locks        txn T (t)           a 
           list [N] (l)        the choices around (5)      state               all lines of the state
           explain [OUTCOME]   what an outcome means, and when it comes; without words that of the last step
           summary             the whole run in some lines
-schedule  do CHOICE [x N]     makes a choice behind the position; those that were behind it are set aside
+schedule  do CHOICE [x N]     makes a choice after the position; those that were after it are set aside
           do CHOICE until wait    makes it until it waits, ends or changes nothing; until end: goes on where it asks for a page
           undo                the choices as they were before the last do
           save FILE           writes the scenario with the choices up to the position
