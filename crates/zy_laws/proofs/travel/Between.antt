@@ -22,7 +22,7 @@ use Rattle.zy_table.specs.State.{Leaf, Lock, Message, NodeState, State, View, fa
 use Rattle.zy_table.specs.Take.{all_here}
 use Rattle.zy_table.proofs.PageLists.{owns-with_page}
 use Rattle.zy_laws.specs.Between.{NothingLeft}
-use Rattle.zy_laws.proofs.places.Boundary.{has-put_key}
+use Rattle.zy_table.proofs.RangeWalk.{has-put}
 use Rattle.zy_laws.proofs.walk.Events.{Told, Asks, Commits, Event, Finishes, Gives, GotAll, GotDone, GotDual, GotFinish, GotLast, GotPage}
 use Rattle.zy_laws.proofs.walk.Events.{GotReady, GotWire, IsStale, Pushes, Splits, Starts, step_happens}
 use Rattle.zy_laws.proofs.places.Installing.{owns-installed}
@@ -108,7 +108,7 @@ asked_event sc n o v w lows k a (Asks p gone pulls new e) told =
     let low : p < length v.me.lows = subst (λ z. z < length v.me.lows) (sym told.1) within in
     rw e (record {
       none = λ off. absurd (false≢true (sym off ∙ pulls));
-      away = λ q h. elim (has-put_key p v.me.asked q h) [
+      away = λ q h. elim (has-put p v.me.asked q h) [
         | inl same ↦ (subst (λ z. owns v.me.pages z ≡ false) same gone, subst (λ z. z < length v.me.lows) same low)
         | inr old ↦ a.away q old
       ];
