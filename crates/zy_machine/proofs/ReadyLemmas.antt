@@ -119,7 +119,7 @@ countable : (sc : Scenario) (count t : ℕ) (s : NodePair) → Known sc count s 
 countable sc count t s k below =
     let c = k.safe.each t below in
     let short = program_is sc.programs t k.tested.programs below in
-    record { there = omega (arith, k.safe.txns); pc = omega (arith, c.place, short.few); done = omega (arith, c.done, k.few) }
+    record { there = omega (arith, k.safe.txns); pc = omega (arith, c.pc, short.few); done = omega (arith, c.done, k.few) }
 
 -- x is the node n of a store
 abbrev IsNode : Node → NodeStore → NodePair → Type 0
