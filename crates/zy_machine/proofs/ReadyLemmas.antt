@@ -156,7 +156,7 @@ ready : (sc : Scenario) (count t : ℕ) (n : Node) (x : NodeStore) (s : NodePair
 ready sc count t n x s is limited k below = record {
   counts = countable sc count t s k below;
   program = below;
-  pc = (k.safe.each t below).place;
+  pc = (k.safe.each t below).pc;
   limited = limited;
   rooms = rooms sc count t n x s is k;
   splits = splits sc count t n x s is k;
