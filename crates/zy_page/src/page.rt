@@ -14,21 +14,14 @@ const ROOM: usize = MAX_CAP as usize;
 /// What a place without a row has.
 const BLANK: Row = Row { key: 0, value: 0 };
 
-/// What a page is: its number, its low key, and its cells, of which the first `len` have its rows. It is copied in one
-/// piece.
-#[derive(Clone, Copy)]
-struct PageState {
-    number: u16,
-    low: u16,
-    len: usize,
-    cells: [Row; ROOM],
-}
-
 /// A leaf page. Its rows lie in the page itself, which has a place for each that a scenario lets a page have: nothing
 /// that is done with it takes memory.
 #[derive(Drop)]
 pub struct Page {
-    state: PageState,
+    number: u16,
+    low: u16,
+    len: usize,
+    cells: [Row; ROOM],
 }
 
 impl Model for Page {
@@ -38,9 +31,9 @@ impl Model for Page {
 
     ghost Value = { Leaf };
 
-    ghost view = { λ a. record { number = a.state.number; low = a.state.low; rows = take a.state.len a.state.cells } };
+    ghost view = { λ a. record { number = a.number; low = a.low; rows = take a.len a.cells } };
 
-    ghost invariant = { λ a. IsPageful a.state.len a.state.cells };
+    ghost invariant = { λ a. IsPageful a.len a.cells };
 }
 
 impl Page {
@@ -60,12 +53,10 @@ impl Page {
         let mut cells = [BLANK; ROOM];
         cells[..rows.len()].copy_from_slice(rows);
         Page {
-            state: PageState {
-                number,
-                low,
-                len: rows.len(),
-                cells,
-            },
+            number,
+            low,
+            len: rows.len(),
+            cells,
         }
     }
 
@@ -73,14 +64,14 @@ impl Page {
     pub fn number(&self) -> u16
         ensures { result ≡ self.now.number }
     {
-        self.state.number
+        self.number
     }
 
     /// The lowest key that may be on the page.
     pub fn low(&self) -> u16
         ensures { result ≡ self.now.low }
     {
-        self.state.low
+        self.low
     }
 
     /// How many rows there are.
@@ -95,7 +86,7 @@ impl Page {
     pub fn is_empty(&self) -> bool
         ensures { result ≡ (length self.now.rows == 0) }
     {
-        self.state.len == 0
+        self.len == 0
     }
 
     /// The rows, in key order.
@@ -105,7 +96,7 @@ impl Page {
         ensures fit { RowsFit self.now.rows }
         ensures bound { length self.now.rows ≤ 16 }
     {
-        &self.state.cells[..self.state.len]
+        &self.cells[..self.len]
     }
 
     /// The row at index `i`.
@@ -146,7 +137,7 @@ impl Page {
         ensures { self.new ≡ record self.old { rows = put_row key new_value self.old.rows } }
     {
         match search(self.rows(), key) {
-            Ok(at) => self.state.cells[at].value = new_value,
+            Ok(at) => self.cells[at].value = new_value,
             Err(at) => self.insert(
                 at,
                 Row {
@@ -164,9 +155,9 @@ impl Page {
         requires kept { AreKept (insert self.old.rows at row) }
         ensures { self.new ≡ record self.old { rows = insert self.old.rows at row } }
     {
-        self.state.cells.copy_within(at..self.state.len, at + 1);
-        self.state.cells[at] = row;
-        self.state.len += 1;
+        self.cells.copy_within(at..self.len, at + 1);
+        self.cells[at] = row;
+        self.len += 1;
     }
 
     /// Moves the rows at or above `boundary` into a new page with this number, whose low key is the boundary.
@@ -180,7 +171,7 @@ impl Page {
     {
         let at = place(self.rows(), boundary);
         let upper = Page::with_rows(number, boundary, &self.rows()[at..]);
-        self.state.len = at;
+        self.len = at;
         upper
     }
 
@@ -188,6 +179,11 @@ impl Page {
     pub fn copy(&self) -> Page
         ensures { result ≡ self.now }
     {
-        Page { state: self.state }
+        Page {
+            number: self.number,
+            low: self.low,
+            len: self.len,
+            cells: self.cells,
+        }
     }
 }

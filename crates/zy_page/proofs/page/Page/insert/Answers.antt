@@ -5,7 +5,7 @@ use Rattle.zy_page.proofs.page.Page.insert.Goals as goal
 
 pub invariant_of-self : goal.invariant_of-self
 invariant_of-self c =
-    let was = c.self.inside.state in
+    let was = c.self.inside in
     let here = rw (← c.self.view_is) at c.requires in
     let at_most = length-take-le was.len was.cells (omega (arith, c.self.invariant.few, c.self.invariant.full)) in
     let full = length-set c.copy_within.new.self c.args.at c.args.row ∙ c.copy_within.ensures.len ∙ c.self.invariant.full in
@@ -15,7 +15,7 @@ invariant_of-self c =
 
 pub returns : goal.returns
 returns c =
-    let was = c.self.inside.state in
+    let was = c.self.inside in
     let here = rw (← c.self.view_is) at c.requires in
     let at_most = length-take-le was.len was.cells (omega (arith, c.self.invariant.few, c.self.invariant.full)) in
     let put = put_between was.cells was.len c.args.at c.args.row (omega (arith, here.within, at_most))

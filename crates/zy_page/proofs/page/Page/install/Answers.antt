@@ -10,7 +10,7 @@ blank = record { key = 0; value = 0 }
 
 pub invariant_of-self : goal.invariant_of-self
 invariant_of-self c =
-    let was = c.self.inside.state in
+    let was = c.self.inside in
     let found = rw (c.rows.ensures.value, ← c.self.view_is) at c.in-Ok.ensures in
     let put = put_over c.args.key c.args.new_value c.in-Ok.at was.len blank was.cells (omega (arith, c.self.invariant.few, c.self.invariant.full)) found in
     let kept = AreKept-put_row c.args.key c.args.new_value _ c.self.invariant.kept c.ranges.key.fits c.ranges.new_value.fits in
@@ -30,7 +30,7 @@ insert-requires-clause-kept c =
 
 pub returns-in-Ok : goal.returns-in-Ok
 returns-in-Ok c =
-    let was = c.self.inside.state in
+    let was = c.self.inside in
     let found = rw (c.rows.ensures.value, ← c.self.view_is) at c.in-Ok.ensures in
     let put = put_over c.args.key c.args.new_value c.in-Ok.at was.len blank was.cells (omega (arith, c.self.invariant.few, c.self.invariant.full)) found in
     rw (← c.self.view_is) (λ i. record { number = was.number; low = was.low; rows = put i })

@@ -15,7 +15,7 @@ with_rows-upper-requires-clause-kept c =
 
 pub invariant_of-self : goal.invariant_of-self
 invariant_of-self c =
-    let was = c.self.inside.state in
+    let was = c.self.inside in
     let rows = take was.len was.cells in
     let placed = rw (c.rows.ensures.value, ← c.self.view_is) at c.place-at.ensures in
     let few : c.place-at.result ≤ was.len =
@@ -34,7 +34,7 @@ returns-clause-new_page c =
 
 pub returns-clause-old_page : goal.returns-clause-old_page
 returns-clause-old_page c =
-    let was = c.self.inside.state in
+    let was = c.self.inside in
     let rows = take was.len was.cells in
     let placed = rw (c.rows.ensures.value, ← c.self.view_is) at c.place-at.ensures in
     let few : c.place-at.result ≤ was.len =
