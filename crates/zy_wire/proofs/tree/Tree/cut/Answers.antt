@@ -1,6 +1,6 @@
 use Rattle.std.proofs.Common.{ap, ◌∙◌, length-drop, arith, rules}
 use Rattle.zy_wire.specs.declared.entry.Entry.{Entry}
-use Rattle.zy_wire.proofs.Cut.{Ready, full_of, child_there, child_full, Writes, Cut-made, IsTree-cut, Holds-cut}
+use Rattle.zy_wire.proofs.Cut.{Ready, full_of, child_there, child_full, Written, Writes, Cut-made, IsTree-cut, Holds-cut}
 use Rattle.zy_wire.proofs.tree.Tree.cut.Goals as goal
 
 pub index_mut-requires : goal.index_mut-requires
@@ -17,14 +17,14 @@ cut-upper-requires c =
     let was = rw (← c.self.view_is) at c.requires in
     let r : Ready c.self.inside.nodes.items c.self.inside.root.0 c.self.inside.top c.args.parent.0 c.args.child.0 c.args.key =
     record { tree = c.self.invariant; at = was.at; above = was.above; leads = was.leads; full = was.full } in
-    child_full _ _ _ _ _ _ c.index.result c.index_mut.result.now r c.index.ensures c.index_mut.ensures.value
+    child_full _ _ _ _ _ _ r c.index.result c.index_mut.result.now c.index.ensures c.index_mut.ensures.value
 
 pub low-low-requires : goal.low-low-requires
 low-low-requires c =
     let was = rw (← c.self.view_is) at c.requires in
     let r : Ready c.self.inside.nodes.items c.self.inside.root.0 c.self.inside.top c.args.parent.0 c.args.child.0 c.args.key =
     record { tree = c.self.invariant; at = was.at; above = was.above; leads = was.leads; full = was.full } in
-    let full = child_full _ _ _ _ _ _ c.index.result c.index_mut.result.now r c.index.ensures c.index_mut.ensures.value in
+    let full = child_full _ _ _ _ _ _ r c.index.result c.index_mut.result.now c.index.ensures c.index_mut.ensures.value in
     rw c.cut-upper.ensures.upper (omega (arith, length-drop 4 c.index_mut.result.now.entries))
 
 pub invariant_of-self : goal.invariant_of-self
@@ -34,8 +34,19 @@ invariant_of-self c =
     let r : Ready nodes c.self.inside.root.0 c.self.inside.top c.args.parent.0 c.args.child.0 c.args.key =
     record { tree = c.self.invariant; at = was.at; above = was.above; leads = was.leads; full = was.full } in
     let placed = rw (c.node.ensures.value, ← c.self.view_is) at c.place-at.ensures in
-    let writes : Writes nodes c.push_reserved.new.self.items c.args.parent.0 c.args.child.0 c.index-2.result c.index.result c.place-at.result
-    c.index_mut.result.now c.cut-upper.new.self c.cut-upper.result c.index_mut-2.result.now c.insert.new.self c.of_node.result = record {
+    let written : Written = record {
+      child_index = c.index.result;
+      parent_index = c.index-2.result;
+      entry_index = c.place-at.result;
+      child = c.index_mut.result.now;
+      lower = c.cut-upper.new.self;
+      upper = c.cut-upper.result;
+      pushed = c.push_reserved.new.self.items;
+      entry = c.of_node.result;
+      parent = c.index_mut-2.result.now;
+      widened = c.insert.new.self;
+    } in
+    let writes : Writes nodes c.args.parent.0 c.args.child.0 written = record {
       at_c = c.index.ensures;
       at_p = c.index-2.ensures;
       read_c = c.index_mut.ensures.value;
@@ -47,7 +58,7 @@ invariant_of-self c =
       read_p = c.index_mut-2.ensures.value;
       wide = c.insert.ensures;
     } in
-    IsTree-cut _ _ _ _ _ _ _ c.self.invariant (full_of _ _ _ _ _ _ r) (Cut-made _ _ _ _ _ _ _ _ _ _ _ _ _ _ _ _ r placed writes)
+    IsTree-cut _ _ _ _ _ _ _ c.self.invariant (full_of _ _ _ _ _ _ r) (Cut-made _ _ _ _ _ _ r written placed writes)
 
 pub returns : goal.returns
 returns c =
@@ -56,8 +67,19 @@ returns c =
     let r : Ready nodes c.self.inside.root.0 c.self.inside.top c.args.parent.0 c.args.child.0 c.args.key =
     record { tree = c.self.invariant; at = was.at; above = was.above; leads = was.leads; full = was.full } in
     let placed = rw (c.node.ensures.value, ← c.self.view_is) at c.place-at.ensures in
-    let writes : Writes nodes c.push_reserved.new.self.items c.args.parent.0 c.args.child.0 c.index-2.result c.index.result c.place-at.result
-    c.index_mut.result.now c.cut-upper.new.self c.cut-upper.result c.index_mut-2.result.now c.insert.new.self c.of_node.result = record {
+    let written : Written = record {
+      child_index = c.index.result;
+      parent_index = c.index-2.result;
+      entry_index = c.place-at.result;
+      child = c.index_mut.result.now;
+      lower = c.cut-upper.new.self;
+      upper = c.cut-upper.result;
+      pushed = c.push_reserved.new.self.items;
+      entry = c.of_node.result;
+      parent = c.index_mut-2.result.now;
+      widened = c.insert.new.self;
+    } in
+    let writes : Writes nodes c.args.parent.0 c.args.child.0 written = record {
       at_c = c.index.ensures;
       at_p = c.index-2.ensures;
       read_c = c.index_mut.ensures.value;
@@ -69,7 +91,7 @@ returns c =
       read_p = c.index_mut-2.ensures.value;
       wide = c.insert.ensures;
     } in
-    let made = Cut-made _ _ _ _ _ _ _ _ _ _ _ _ _ _ _ _ r placed writes in
+    let made = Cut-made _ _ _ _ _ _ r written placed writes in
     rw (← c.self.view_is) (record {
       number = c.len.ensures ∙ c.self.inside.nodes.ok.0;
       lower = made.lower;
@@ -77,5 +99,5 @@ returns c =
       top = search rules;
       nodes = made.more;
       room = search rules;
-      holds = λ lows h. Holds-cut lows _ _ _ _ _ _ _ c.self.invariant (full_of _ _ _ _ _ _ r) made h;
+      holds = Holds-cut _ _ _ _ _ _ _ c.self.invariant (full_of _ _ _ _ _ _ r) made;
     })
