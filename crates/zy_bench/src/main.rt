@@ -29,7 +29,7 @@ use zy_advice::Command as Reader;
 use zy_advice::line::whole_line;
 use zy_check::Verdict;
 use zy_engine::checking::check_bytes;
-use zy_engine::debugging::debug_bytes;
+use zy_engine::debugging::{MAX_EVERY, MAX_RING, debug_bytes};
 use zy_engine::engine::{asm_bytes, dis_bytes, run_bytes, trace_bytes};
 use zy_engine::searching::search_bytes;
 use zy_engine::threading::threads_bytes;
@@ -141,7 +141,7 @@ fn debug<R: Input + AllocGlobal, W: Write>(
     requires { output.old.1 < u64.MAX }
 {
     let Checkpoints { every, ring } = checkpoints;
-    if !(1..=4096).contains(&every) || !(1..=64).contains(&ring) {
+    if !(1..=MAX_EVERY).contains(&every) || !(1..=MAX_RING).contains(&ring) {
         return Ok(COMMAND_LINE);
     }
     let mut source = CountingReader::new(rt.reader());

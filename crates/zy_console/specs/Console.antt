@@ -1,11 +1,12 @@
 -- What goes out in a session, line by line.
-use Rattle.std.specs.Prelude.{◌≡◌, ℕ, ◌+◌, List, [], ◌∷◌, ◌++◌, replicate, Option, Some, None, Result, Ok, Err}
+use Rattle.std.specs.Prelude.{◌≡◌, ℕ, ◌+◌, List, [], ◌∷◌, ◌++◌, Option, Some, None, Result, Ok, Err}
 use Rattle.std.specs.Io.KnownBytes.{Appends}
 use Rattle.zy_io.specs.Streams.{WrotePrefix}
 use Rattle.zy_io.specs.declared.writing.TextFault.{TextFault}
 use Rattle.zy_io.specs.declared.writing.TextFault.TheVariants.{Write, Memory}
 use Rattle.zy_isa.specs.Scenario.{Scenario}
 use Rattle.zy_text.specs.Words.{words_of}
+use Rattle.zy_stops.specs.Stops.{no_stops}
 use Rattle.zy_debug.specs.Commands.{refusal, Does}
 use Rattle.zy_debug.specs.Sessions.{Session}
 use Rattle.zy_debug.specs.declared.command.Command.{Command}
@@ -37,7 +38,7 @@ Says s (l ∷ ls) t out =
 
 -- a session on a scenario, at its start and without stops
 abbrev pub opened : Scenario → Session
-opened sc = record { scenario = sc; position = 0; stops = replicate 16 None }
+opened sc = record { scenario = sc; position = 0; stops = no_stops }
 
 -- the lines say a text, a prefix of which went out, where the bytes went from old to new
 pub record SaysPrefix (old new : Option (List ℕ)) (s : Session) (lines : List (List ℕ)) : Type 0 where

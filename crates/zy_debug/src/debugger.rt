@@ -1,9 +1,10 @@
 //! The debugger: a position and sixteen stops.
 ghost use Rattle.std.specs.Prelude.{◌≡◌, true, false, ◌≤◌, ◌<◌, ◌==◌, ◌&&◌, ◌-◌, IfOk, IfSome, OnOk, OnErr};
-ghost use Rattle.std.specs.Prelude.{length, replicate, None, nat_le, nat_lt, option_copied};
+ghost use Rattle.std.specs.Prelude.{length, nat_le, nat_lt, option_copied};
 ghost use Rattle.zy_isa.specs.Limits.{max_choices, max_key};
 ghost use Rattle.zy_stops.specs.declared.stop.Stop.TheVariants as stop;
 ghost use Rattle.zy_stops.specs.Scans.{Conts, RConts, LastIn};
+ghost use Rattle.zy_stops.specs.Stops.{max_stops, no_stops};
 ghost use Rattle.zy_debug.specs.Commands.{refusal, Does, Obeys, Moves, GoesOn, GoesBack, Sets, Deletes, Stays};
 ghost use Rattle.zy_debug.specs.Commands.{has_room, has_room_in_range, has_stop, in_range, unless};
 ghost use Rattle.zy_debug.specs.Checkpoints.{IsReplayOf};
@@ -59,7 +60,7 @@ impl Debugger {
         ring: usize,
     ) -> Result<Debugger, AllocError>
         requires { 1 ≤ every }
-        ensures { IfOk result (λ d. d ≡ record { scenario = scenario; position = 0; stops = replicate 16 None }) }
+        ensures { IfOk result (λ d. d ≡ record { scenario = scenario; position = 0; stops = no_stops }) }
     {
         let machine = start(alloc, scenario)?;
         let copies = Copies::new(machine.scenario().choices().len(), every, ring);
@@ -315,7 +316,7 @@ impl Debugger {
     fn cont(&mut self) -> Result<Option<usize>, AllocError>
         ensures stops { IfOk result (λ i.
             Conts self.old.scenario self.old.stops self.old.position i self.new.position) }
-        ensures slot { IfOk result (λ i. IfSome i (λ n. n < 16)) }
+        ensures slot { IfOk result (λ i. IfSome i (λ n. n < max_stops)) }
         ensures kept { self.new ≡ goes self.old self.new.position }
         ensures err { OnErr result (self.new ≡ self.old) }
     {
@@ -328,7 +329,7 @@ impl Debugger {
     fn find_next(&self) -> Result<(usize, Option<usize>), AllocError>
         ensures found { IfOk result (λ found.
             Conts self.now.scenario self.now.stops self.now.position found.1 found.0) }
-        ensures slot { IfOk result (λ found. IfSome found.1 (λ n. n < 16)) }
+        ensures slot { IfOk result (λ found. IfSome found.1 (λ n. n < max_stops)) }
         ensures most { IfOk result (λ found. found.0 ≤ length self.now.scenario.choices) }
     {
         let mut machine = self.machine.copy(self.alloc)?;
@@ -341,7 +342,7 @@ impl Debugger {
     fn rcont(&mut self) -> Result<Option<usize>, AllocError>
         ensures stops { IfOk result (λ i.
             RConts self.old.scenario self.old.stops self.old.position i self.new.position) }
-        ensures slot { IfOk result (λ i. IfSome i (λ n. n < 16)) }
+        ensures slot { IfOk result (λ i. IfSome i (λ n. n < max_stops)) }
         ensures kept { self.new ≡ goes self.old self.new.position }
         ensures err { OnErr result (self.new ≡ self.old) }
     {
@@ -361,7 +362,7 @@ impl Debugger {
     /// The last position below at which a stop fires, and the lowest slot that does.
     fn find_back(&self) -> Result<Option<(usize, usize)>, AllocError>
         ensures found { IfOk result (λ found. LastIn self.now.scenario self.now.stops 0 self.now.position found) }
-        ensures slot { IfOk result (λ found. IfSome found (λ f. f.1 < 16)) }
+        ensures slot { IfOk result (λ found. IfSome found (λ f. f.1 < max_stops)) }
         ensures most { self.now.position ≤ length self.now.scenario.choices }
     {
         if self.machine.len() == 0 {

@@ -14,6 +14,14 @@ use Rattle.zy_engine.specs.Faults.{ReadsInput, failed_reads, failed_writes, IsQu
 use Rattle.zy_engine.specs.Inputs.{IsTextFault}
 use Rattle.zy_io.specs.Streams.{max_input}
 
+-- the most choices from one copy to the next
+abbrev pub max_every : ℕ
+max_every = 4096
+
+-- the most copies
+abbrev pub max_ring : ℕ
+max_ring = 64
+
 -- the lines below the scenario part
 abbrev pub commands_of : List ℕ → List (List ℕ)
 commands_of input = lines_of (drop (length (cut input)) input)

@@ -3,7 +3,7 @@ ghost use Rattle.std.specs.Prelude.{◌<◌, ◌≤◌};
 ghost use Rattle.zy_text.specs.Words.{lines_of};
 ghost use Rattle.zy_console.specs.Console.{WroteReplies, opened};
 ghost use Rattle.zy_engine.specs.Engines.{streams};
-ghost use Rattle.zy_engine.specs.Debugs.{Debugs};
+ghost use Rattle.zy_engine.specs.Debugs.{Debugs, max_every, max_ring};
 
 use crate::faults::BenchFault;
 use crate::format::{Format, accept};
@@ -14,6 +14,12 @@ use zy_io::reading::read_all;
 use zy_io::{Sink, Source, TextFault};
 use zy_isa::Scenario;
 use zy_text::cut::cut_len;
+
+/// The most choices from one kept copy of the machine to the next.
+pub const MAX_EVERY: usize = 4096;
+
+/// The most copies of the machine that are kept.
+pub const MAX_RING: usize = 64;
 
 /// A session on a scenario: does the commands, one a line, and writes the reply to each.
 fn write_replies<K: Sink>(
@@ -48,9 +54,9 @@ pub fn debug_bytes<S: Source, K: Sink>(
     input: &mut Vec<u8>,
 ) -> Result<(), BenchFault>
     requires every_least { 1 ≤ every }
-    requires every_most { every ≤ 4096 }
+    requires every_most { every ≤ max_every }
     requires ring_least { 1 ≤ ring }
-    requires ring_most { ring ≤ 64 }
+    requires ring_most { ring ≤ max_ring }
     requires failures { (S.failures source.old < u64.MAX) × (K.failures sink.old < u64.MAX) }
     ensures { let at = streams S.left S.failures S.given K.written K.failures in
         Debugs (at source.old sink.old) (at source.new sink.new) result }

@@ -7,6 +7,7 @@ use Rattle.zy_isa.specs.declared.node.Node.{Node}
 use Rattle.zy_isa.specs.declared.node.Node.TheVariants.{A, B}
 use Rattle.zy_isa.specs.declared.choice.Choice.{Choice}
 use Rattle.zy_isa.specs.declared.choice.Choice.TheVariants.{Start, Begin, Kill, Run, Take, Finish, Push}
+use Rattle.zy_isa.specs.Limits.{max_choices}
 use Rattle.zy_isa.specs.Choices.{names_below}
 use Rattle.zy_isa.specs.Scenario.{Scenario, IsScenario}
 use Rattle.zy_wire.specs.Wireframe.{page_of}
@@ -86,7 +87,7 @@ may_start sc ok cs n starts =
 -- what is known of a store after this number of choices
 pub record Known (sc : Scenario) (count : ℕ) (s : NodePair) : Type 0 where
   pub tested : IsScenario sc
-  pub few : count < 4096
+  pub few : count < max_choices
   pub safe : Safe sc count (state_of s)
   pub fits : Fits sc (state_of s)
   pub order : InOrder (state_of s)
@@ -95,9 +96,9 @@ pub record Known (sc : Scenario) (count : ℕ) (s : NodePair) : Type 0 where
   pub starts : MayStart s
   pub limited : AreLimited sc.pages s
 
--- what is known holds of each store that shows the state that fewer than 4096 choices lead to
-pub known : (sc : Scenario) (cs : List Choice) (s : NodePair) → IsScenario sc → length cs < 4096 → state_of s ≡ play sc (opening sc) cs → AreLimited sc.pages s
-    → Known sc (length cs) s
+-- what is known holds of each store that shows the state that fewer than the most choices lead to
+pub known : (sc : Scenario) (cs : List Choice) (s : NodePair) → IsScenario sc → length cs < max_choices → state_of s ≡ play sc (opening sc) cs
+    → AreLimited sc.pages s → Known sc (length cs) s
 known sc cs s tested few e limited =
     record {
       tested = tested;

@@ -1,5 +1,5 @@
 //! What a machine keeps of the steps that were made.
-ghost use Rattle.std.specs.Prelude.{◌≡◌, ◌<◌, ◌⊎◌, ◌++◌, ◌∷◌, [], IfOk, OnOk, true, length, take};
+ghost use Rattle.std.specs.Prelude.{◌≡◌, ◌<◌, ◌⊎◌, ◌++◌, ◌∷◌, [], IfOk, IsOk, OnOk, true, length, take};
 ghost use Rattle.std.specs.Prelude.{drop, vec_capacity};
 ghost use Rattle.zy_machine.specs.EntryLogs.{entries_of, ahead, IsReadyFor, Fits};
 ghost use Rattle.zy_machine.specs.Trails.{IsNext};
@@ -76,7 +76,8 @@ impl SharedLog {
 
     /// Whether the next step is known, and is one by this choice.
     fn goes_on_by(&self, choice: Choice) -> bool
-        ensures { result ≡ true → IsNext choice self.now.ahead }
+        ensures next { result ≡ true → IsNext choice self.now.ahead }
+        ensures only { IsNext choice self.now.ahead → result ≡ true }
     {
         match self.all.get(self.len) {
             Some(entry) => entry.choice == choice,
@@ -182,6 +183,7 @@ impl EntryLog {
     #[inline(always)]
     pub(crate) fn make_room(&mut self, choice: Choice) -> Result<(), AllocError>
         ensures room { OnOk result (IsReadyFor choice self.new) }
+        ensures succeeds { IsReadyFor choice self.old → IsOk result }
         ensures made { entries_of self.new ≡ entries_of self.old }
         ensures ahead { (ahead self.new ≡ []) ⊎ (ahead self.new ≡ ahead self.old) }
     {

@@ -5,6 +5,7 @@ use Rattle.std.proofs.lemmas.List.{get_or_append_left}
 use Rattle.std.proofs.lemmas.List.Elements.{All-from_get_or}
 use Rattle.std.proofs.lemmas.Bool.{and_parts, cases_lt}
 use Rattle.std.proofs.Math.Seq.{get_or-append_seam}
+use Rattle.zy_isa.specs.Limits.{max_choices}
 use Rattle.zy_isa.specs.declared.choice.Choice.{Choice}
 use Rattle.zy_isa.specs.Choices.{names_below}
 use Rattle.zy_isa.specs.Scenario.{Scenario, AreNamed}
@@ -46,7 +47,7 @@ moves_more sc s [] c a e = (e, tt)
 moves_more sc s (d ∷ cs) c a e = (a.0, moves_more sc (step sc d s).after cs c a.1 e)
 
 -- a path that goes on by one choice
-pub path_more : (h : History) (q : Sought) (cs : List Choice) (c : Choice) → IsPath h q cs → length h.entries + length cs < 4096
+pub path_more : (h : History) (q : Sought) (cs : List Choice) (c : Choice) → IsPath h q cs → length h.entries + length cs < max_choices
     → is_still (step h.scenario c (reached h cs)).outcome ≡ false → is_considered q.kills (length h.scenario.programs) c ≡ true → IsPath h q (cs ++ c ∷ [])
 path_more h q cs c p room moved e = record {
   considered = are_more q.kills (length h.scenario.programs) cs c p.considered e;
@@ -248,7 +249,7 @@ one_place : (i : ℕ) → i < 1 → i ≡ 0
 one_place i lt = omega (arith, lt)
 
 -- the empty path alone
-pub visits_first : (h : History) (q : Sought) → length h.entries ≤ 4096 → (Shows h.scenario q h.state → ⊥) → Visits h q ([] ∷ [])
+pub visits_first : (h : History) (q : Sought) → length h.entries ≤ max_choices → (Shows h.scenario q h.state → ⊥) → Visits h q ([] ∷ [])
 visits_first h q room none = record {
   some = omega arith;
   first = refl;

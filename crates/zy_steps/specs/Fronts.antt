@@ -1,5 +1,5 @@
 -- What is at the front of a link, and a call on a node and the link to it.
-use Rattle.std.specs.Prelude.{◌≡◌, [], Bool, true, false, List, Some, Result, drop, slice_get}
+use Rattle.std.specs.Prelude.{◌≡◌, [], Bool, true, false, IsOk, List, Some, Result, drop, slice_get}
 use Rattle.zy_modes.specs.declared.table.MessageLine.{MessageLine}
 use Rattle.zy_modes.specs.Table.{on_message}
 use Rattle.zy_links.specs.Messages.{Message, Pull, kind_of}
@@ -10,6 +10,7 @@ use Rattle.zy_node.specs.Nodes.{with_node}
 use Rattle.zy_node.specs.Mail.{Mail}
 use Rattle.zy_table.specs.declared.answer.Answer.{Answer}
 use Rattle.zy_table.specs.Answers.{Makes}
+use Rattle.zy_steps.specs.Memory.{SendNeedsNone}
 use Rattle.zy_steps.specs.declared.take.Front.{Front}
 use Rattle.zy_steps.specs.declared.take.Front.TheVariants.{Nothing, Asks, Brings}
 
@@ -20,6 +21,10 @@ meets x inbox v = with_node x (record v { inbox = inbox.messages })
 -- a call on a node and the link to it made a line, whatever the rest of the state
 abbrev pub Takes : {E : Type 0} → NodeStore → Mail → NodeStore → Mail → Result Answer E → (View → Move) → Type 0
 Takes x i x1 i1 result step = (v : View) → Makes (meets x i v) (meets x1 i1 v) result (step (meets x i v))
+
+-- a call on a node and the link to it is not out of memory, if the line needs none
+abbrev pub TakesInRoom : {E : Type 0} → NodeStore → Mail → Result Answer E → (View → Move) → Type 0
+TakesInRoom x i result step = (v : View) → SendNeedsNone x (step (meets x i v)) → IsOk result
 
 -- a view without the message at the front
 abbrev pub rest : View → View

@@ -1,4 +1,4 @@
--- When a run needs no memory: what it does has its place already.
+-- When a line needs no memory: what it does has its place already, and what it sends has room.
 use Rattle.std.specs.Prelude.{◌≡◌, ◌⊎◌, ℕ, ◌≤◌, List, ◌∷◌, [], length, IsSome, IfSome, None, slice_get, true, false}
 use Rattle.zy_isa.specs.Limits.{max_key}
 use Rattle.zy_isa.specs.Rows.{get_row}
@@ -11,17 +11,21 @@ use Rattle.zy_wire.specs.Wireframe.{page_of}
 use Rattle.zy_table.specs.declared.effect.Effect.{Effect}
 use Rattle.zy_table.specs.declared.effect.Effect.TheVariants.{Sets, Jumps, Accesses, Sums, Commits, Aborts}
 use Rattle.zy_table.specs.Effects.{effect_of}
-use Rattle.zy_table.specs.Numbers.{has}
+use Rattle.zy_table.specs.Numbers.{has, least}
 use Rattle.zy_table.specs.Pages.{owns}
 use Rattle.zy_table.specs.Ranges.{range_pages}
-use Rattle.zy_table.specs.Run.{first_absent, first_taken, has_room, is_there, lock_of, program_of}
-use Rattle.zy_table.specs.State.{Txn}
+use Rattle.zy_table.specs.Run.{first_absent, first_taken, gone_pages, has_room, is_there, lock_of, program_of}
+use Rattle.zy_table.specs.State.{Txn, Move}
 use Rattle.zy_table.specs.declared.access.Access.{Access}
 use Rattle.zy_table.specs.declared.access.Access.TheVariants.{Reads, Writes, Inserts}
 use Rattle.zy_node.specs.declared.node_store.NodeStore.{NodeStore}
 use Rattle.zy_node.specs.Nodes.{node_shown}
 use Rattle.zy_node.specs.Wireframes.{lows_in}
 use Rattle.zy_txns.specs.Books.{Ledger, txn_in}
+
+-- a line of n push, n finish or n take: it sends nothing, or there is room for the message
+abbrev pub SendNeedsNone : NodeStore → Move → Type 0
+SendNeedsNone x m = (m.sent ≡ None) ⊎ (1 ≤ x.outbox.spare)
 
 -- page p is not here: no page is pulled, or p is asked for already, or there is room for the message
 abbrev pub AbsentNeedsNone : ℕ → NodeStore → Type 0
@@ -59,13 +63,17 @@ pub record PagesNeedNone (t a b : ℕ) (x : NodeStore) : Type 0 where
 abbrev pub SumNeedsNone : ℕ → ℕ → ℕ → NodeStore → Type 0
 SumNeedsNone t a b x = a ≤ b → b ≤ max_key → PagesNeedNone t a b x
 
--- an effect of t: there is room to note a commit
+-- t's commit: a page of its rows has gone, or there is room to note the commit
+abbrev pub CommitNeedsNone : ℕ → NodeStore → Ledger → Type 0
+CommitNeedsNone t x b = IsSome (least (gone_pages (node_shown x) (txn_in t b).rows)) ⊎ (1 ≤ b.spare)
+
+-- an effect of t
 abbrev pub EffectNeedsNone : Scenario → ℕ → Effect → NodeStore → Ledger → Type 0
 EffectNeedsNone sc t (Sets r v) x b = Unit {0}
 EffectNeedsNone sc t (Jumps taken to) x b = Unit {0}
 EffectNeedsNone sc t (Accesses access k) x b = KeyNeedsNone sc t access k x b
 EffectNeedsNone sc t (Sums r first last) x b = SumNeedsNone t first last x
-EffectNeedsNone sc t Commits x b = 1 ≤ b.spare
+EffectNeedsNone sc t Commits x b = CommitNeedsNone t x b
 EffectNeedsNone sc t Aborts x b = Unit {0}
 
 -- an instruction of t

@@ -1,5 +1,5 @@
 //! The client's lines: each function is the line of its name.
-ghost use Rattle.std.specs.Prelude.{◌≡◌, ◌<◌, length, true};
+ghost use Rattle.std.specs.Prelude.{◌≡◌, ◌<◌, IsOk, length, true, false};
 ghost use Rattle.zy_modes.specs.Table.{may_start};
 ghost use Rattle.zy_node.specs.Nodes.{limits_of, IsLimited};
 ghost use Rattle.zy_node.specs.Wireframes.{lows_in};
@@ -27,6 +27,7 @@ pub fn start_step(alloc: Global, me: &mut NodeStore, them: &NodeStore) -> Result
     requires limited { IsLimited me.old.outbox.pages me.old }
     ensures line { (v : View) → Makes (beside me.old them.now v) (beside me.new them.now v) result
         (client.start_step (beside me.old them.now v)) }
+    ensures memory { may_start me.old.mode them.now.mode ≡ false → IsOk result }
     ensures limits { limits_of me.new ≡ limits_of me.old }
 {
     if !me.mode.may_start(them.mode) {

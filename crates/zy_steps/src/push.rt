@@ -1,11 +1,12 @@
 //! `n push` and `n finish`.
-ghost use Rattle.std.specs.Prelude.{◌≡◌, ◌≤◌, ◌++◌, ◌∷◌, [], length};
+ghost use Rattle.std.specs.Prelude.{◌≡◌, ◌≤◌, ◌++◌, ◌∷◌, [], IsOk, length};
 ghost use Rattle.zy_isa.specs.Limits.{max_txns};
 ghost use Rattle.zy_links.specs.Messages.{Finish};
 ghost use Rattle.zy_modes.specs.declared.mode.NodeMode.TheVariants.{SFinish};
 ghost use Rattle.zy_table.specs.State.{View};
 ghost use Rattle.zy_table.specs.Push as push;
 ghost use Rattle.zy_node.specs.Nodes.{node_shown, limits_of, with_node};
+ghost use Rattle.zy_steps.specs.Memory.{SendNeedsNone};
 ghost use Rattle.zy_steps.specs.Parts.{here};
 ghost use Rattle.zy_table.specs.Answers.{Makes};
 
@@ -24,6 +25,7 @@ use zy_txns::Book;
 pub fn push_step(me: &mut NodeStore) -> Result<Answer, AllocError>
     ensures line { (v : View) → Makes (with_node me.old v) (with_node me.new v) result
         (push.push_step (with_node me.old v)) }
+    ensures memory { (v : View) → SendNeedsNone me.old (push.push_step (with_node me.old v)) → IsOk result }
     ensures limits { limits_of me.new ≡ limits_of me.old }
 {
     if !me.mode.may_push() {
@@ -54,6 +56,7 @@ pub fn finish_step(n: Node, me: &mut NodeStore, book: &Book) -> Result<Answer, A
     requires { length book.now.txns ≤ max_txns }
     ensures line { (v : View) → Makes (here me.old book.now v) (here me.new book.now v) result
         (push.finish_step n (here me.old book.now v)) }
+    ensures memory { (v : View) → SendNeedsNone me.old (push.finish_step n (here me.old book.now v)) → IsOk result }
     ensures limits { limits_of me.new ≡ limits_of me.old }
 {
     let lowest = book.lowest_active(n);

@@ -18,8 +18,8 @@ ghost use Rattle.zy_node.specs.Wireframes.{lows_in};
 ghost use Rattle.zy_txns.specs.Books.{txn_in, with_book, Countable};
 ghost use Rattle.zy_steps.specs.Parts.{here, Runs};
 ghost use Rattle.zy_table.specs.Answers.{move_of};
-ghost use Rattle.zy_steps.specs.Memory.{AbsentNeedsNone, EffectNeedsNone, InstrNeedsNone, IsUncut, KeyNeedsNone};
-ghost use Rattle.zy_steps.specs.Memory.{PageNeedsNone, PagesNeedNone, RunNeedsNone, SumNeedsNone};
+ghost use Rattle.zy_steps.specs.Memory.{AbsentNeedsNone, CommitNeedsNone, EffectNeedsNone, InstrNeedsNone, IsUncut};
+ghost use Rattle.zy_steps.specs.Memory.{KeyNeedsNone, PageNeedsNone, PagesNeedNone, RunNeedsNone, SumNeedsNone};
 ghost use Rattle.zy_steps.specs.Ready.{IsFull, IsPageFor, IsReady, IsWritable, Rooms};
 ghost use Rattle.zy_steps.specs.Ready.{MayAccess, MayShare, MayStep, MaySum};
 
@@ -155,7 +155,7 @@ fn commit_step(me: &mut NodeStore, book: &mut Book, t: u8) -> Result<Answer, All
     requires counts { Countable t book.old }
     requires room { Rooms t me.old book.old }
     ensures line { Runs me.old book.old me.new book.new result (table.commit_step t) }
-    ensures memory { 1 ≤ book.old.spare → IsOk result }
+    ensures memory { CommitNeedsNone t me.old book.old → IsOk result }
     ensures limits { limits_of me.new ≡ limits_of me.old }
 {
     if let Some(p) = gone_page(me, book.txn(t).rows()) {

@@ -1,5 +1,5 @@
 //! `n take`: each function is the lines of its name.
-ghost use Rattle.std.specs.Prelude.{◌≡◌, ◌≤◌, ◌+◌, ◌==◌, ◌++◌, ◌∷◌, [], OnOk, Some, true, false, is_some};
+ghost use Rattle.std.specs.Prelude.{◌≡◌, ◌≤◌, ◌+◌, ◌==◌, ◌++◌, ◌∷◌, ◌⊎◌, [], IsOk, None, OnOk, Some, true, false, is_some};
 ghost use Rattle.std.specs.Prelude.{length, slice_get};
 ghost use Rattle.zy_links.specs.Messages.{Message as AMessage, Page, kind_of, message_of};
 ghost use Rattle.zy_modes.specs.Table as modes;
@@ -13,7 +13,7 @@ ghost use Rattle.zy_node.specs.Mail.{HasRoom};
 ghost use Rattle.zy_node.specs.Nodes.{node_shown, limits_of};
 ghost use Rattle.zy_node.specs.Wireframes.{lows_in};
 ghost use Rattle.zy_steps.specs.Arrivals.{IsFitting, IsNamed, IsNew, MayTake, MayTakeFrom};
-ghost use Rattle.zy_steps.specs.Fronts.{front_of, rest, IsFront, Takes};
+ghost use Rattle.zy_steps.specs.Fronts.{front_of, rest, IsFront, Takes, TakesInRoom};
 
 use std::alloc::AllocError;
 use zy_isa::{Rule, Scenario};
@@ -190,6 +190,7 @@ fn reserve_answer(me: &mut NodeStore, sent: Option<Kind>) -> Result<(), AllocErr
     ensures outbox { me.new.outbox.messages ≡ me.old.outbox.messages }
     ensures room { OnOk result (HasRoom sent me.new.outbox) }
     ensures others { me.new ≡ record me.old { outbox = me.new.outbox } }
+    ensures succeeds { (sent ≡ None) ⊎ (1 ≤ me.old.outbox.spare) → IsOk result }
     ensures limits { limits_of me.new ≡ limits_of me.old }
 {
     match sent {
@@ -206,6 +207,7 @@ pub fn take_step(
 ) -> Result<Answer, AllocError>
     requires { MayTakeFrom inbox.old me.old }
     ensures line { Takes me.old inbox.old me.new inbox.new result (table_take.take_step scenario.now) }
+    ensures memory { TakesInRoom me.old inbox.old result (table_take.take_step scenario.now) }
     ensures limits { limits_of me.new ≡ limits_of me.old }
     ensures pages { inbox.new.pages ≡ inbox.old.pages }
 {
@@ -227,6 +229,8 @@ fn arrival_step(
     requires some { is_some (slice_get inbox.old.messages 0) ≡ true }
     ensures line { (m : AMessage) → slice_get inbox.old.messages 0 ≡ Some m
         → Takes me.old inbox.old me.new inbox.new result (λ v. table_take.arrival_step line m v (rest v)) }
+    ensures memory { (m : AMessage)
+        → TakesInRoom me.old inbox.old result (λ v. table_take.arrival_step line m v (rest v)) }
     ensures limits { limits_of me.new ≡ limits_of me.old }
     ensures pages { inbox.new.pages ≡ inbox.old.pages }
 {
@@ -247,6 +251,7 @@ fn turn_step(
     requires some { is_some (slice_get inbox.old.messages 0) ≡ true }
     ensures line { (m : AMessage) → slice_get inbox.old.messages 0 ≡ Some m
         → Takes me.old inbox.old me.new inbox.new result (λ v. table_take.arrival_step (Turns mode sent) m v (rest v)) }
+    ensures memory { (sent ≡ None) ⊎ (1 ≤ me.old.outbox.spare) → IsOk result }
     ensures limits { limits_of me.new ≡ limits_of me.old }
     ensures pages { inbox.new.pages ≡ inbox.old.pages }
 {
@@ -270,6 +275,7 @@ fn pull_step(
 ) -> Result<Answer, AllocError>
     ensures line { Takes me.old inbox.old me.new inbox.new result
         (λ v. table_take.pull_step scenario.now p line v (rest v)) }
+    ensures memory { TakesInRoom me.old inbox.old result (λ v. table_take.pull_step scenario.now p line v (rest v)) }
     ensures limits { limits_of me.new ≡ limits_of me.old }
     ensures pages { inbox.new.pages ≡ inbox.old.pages }
 {

@@ -1,6 +1,6 @@
 -- Stops, what they read, and where they fire.
 use Rattle.std.specs.Prelude.{ℕ, ◌==◌, ◌&&◌, ◌-◌, Bool, true, false, not, List, Option, Some, None, position, take}
-use Rattle.std.specs.Prelude.{get_or}
+use Rattle.std.specs.Prelude.{get_or, replicate}
 use Rattle.std.specs.FinMap.{get}
 use Rattle.zy_isa.specs.declared.choice.Choice.TheVariants.{Start}
 use Rattle.zy_isa.specs.declared.node.Node.{Node}
@@ -22,9 +22,16 @@ use Rattle.zy_stops.specs.declared.stop.Stop.TheVariants as stop
 use Rattle.zy_stops.specs.declared.stop.Reading.{Reading}
 use Rattle.zy_stops.specs.declared.stop.Reading.TheVariants.{Nothing, Place, Modes, Value}
 
--- the stops 1 to 16, in this order
+-- the most stops
+abbrev pub max_stops : ℕ
+max_stops = 16
+
+-- the stops in order of their numbers, from 1 on
 abbrev pub Slots : Type 0
 Slots = List (Option Stop)
+
+abbrev pub no_stops : Slots
+no_stops = replicate max_stops None
 
 -- what a stop reads in a state
 abbrev pub reading : Stop → State → Reading

@@ -1,6 +1,7 @@
 //! Sixteen numbered stops.
-ghost use Rattle.std.specs.Prelude.{◌≡◌, ◌<◌, IfSome, None, true, false, slice_get, length, replicate};
+ghost use Rattle.std.specs.Prelude.{◌≡◌, ◌<◌, IfSome, true, false, slice_get, length};
 ghost use Rattle.zy_stops.specs.Slots.{free_slot, with_stop, without_stop, is_set};
+ghost use Rattle.zy_stops.specs.Stops.{max_stops, no_stops};
 
 use crate::stop::Stop;
 use std::marker::Model;
@@ -11,7 +12,7 @@ pub const MAX_STOPS: usize = 16;
 /// The stops: slot `i`, from 0, is stop `i + 1`.
 #[derive(Drop)]
 pub struct Stops {
-    slots: [Option<Stop>; 16],
+    slots: [Option<Stop>; MAX_STOPS],
 }
 
 impl Model for Stops {
@@ -33,15 +34,17 @@ fn first_free(slots: &[Option<Stop>]) -> Option<usize>
 impl Stops {
     /// No stops.
     pub fn new() -> Stops
-        ensures { result ≡ replicate 16 None }
+        ensures { result ≡ no_stops }
     {
-        Stops { slots: [None; 16] }
+        Stops {
+            slots: [None; MAX_STOPS],
+        }
     }
 
     /// A stop more, in the lowest free slot, which is returned; none where all are taken.
     pub fn add(&mut self, stop: Stop) -> Option<usize>
         ensures slot { result ≡ free_slot self.old }
-        ensures bound { IfSome result (λ i. i < 16) }
+        ensures bound { IfSome result (λ i. i < max_stops) }
         ensures stops { self.new ≡ with_stop stop self.old }
     {
         match first_free(&self.slots) {
@@ -71,7 +74,7 @@ impl Stops {
     /// The slots in order.
     pub fn slots(&self) -> &[Option<Stop>]
         ensures slots { result.now ≡ self.entry.now }
-        ensures count { length result.now ≡ 16 }
+        ensures count { length result.now ≡ max_stops }
     {
         &self.slots
     }

@@ -5,6 +5,7 @@ use Rattle.std.specs.Prelude.{if◌then◌else◌}
 use Rattle.std.proofs.Math.Seq.{take-suc}
 use Rattle.std.proofs.lemmas.List.{length-take-le}
 use Rattle.std.proofs.lemmas.Option.{slice_get_within, get_or_from_slice_get}
+use Rattle.zy_isa.specs.Limits.{max_choices}
 use Rattle.zy_isa.specs.declared.node.Actor.{Actor}
 use Rattle.zy_isa.specs.declared.node.Actor.TheVariants.{C, A, B}
 use Rattle.zy_isa.specs.declared.choice.Choice.{Choice}
@@ -171,7 +172,7 @@ within_sum B t c was next =
 
 -- while an actor has a choice left, the history has room
 pub room : (x : Actor) (t : BoardView) (c : Choice) → IsBoard t → slice_get (turns_of t x).schedule (turns_of t x).cursor ≡ Some c
-    → length t.machine.entries < 4096
+    → length t.machine.entries < max_choices
 room x t c was next =
     omega (
       arith,
