@@ -10,7 +10,7 @@ ghost use Rattle.zy_text.specs.Cut as text;
 ghost use Rattle.zy_check.specs.Differs as spec;
 ghost use Rattle.zy_check.specs.Faults.{failed_reads, IfScenario, IsOfScenario, ReadsInput};
 ghost use Rattle.zy_check.specs.Verdicts.{GivesVerdict, IsVerdict};
-ghost use Rattle.zy_io.specs.Streams.{max_input};
+ghost use Rattle.zy_io.specs.Streams.{max_input, most_read};
 
 use crate::comparing::Comparing;
 use crate::faults::CheckFault;
@@ -66,11 +66,11 @@ pub fn check<S: Source>(alloc: Global, source: &mut S) -> Result<Verdict, CheckF
         IfSome (S.left source.old) (λ left. input_fault (text.cut left) ≡ Some (fault_of r)))) }
     // What is accepted has no fault.
     ensures accepted { IfOk result (λ v. IfSome (S.left source.old) (λ left. input_fault (text.cut left) ≡ None)) }
-    // The input is read whole; only where it has more than 4194304 bytes is it too long, and then one byte more is
+    // The input is read whole; only where it has more than max_input bytes is it too long, and then one byte more is
     // read.
     ensures input { ReadsInput (S.left source.old) (S.left source.new) result }
     // Whatever the reader reports of its bytes, its calls give at most one more than the longest input has.
-    ensures bound { S.given source.new ≤ S.given source.old + max_input + 1 }
+    ensures bound { S.given source.new ≤ S.given source.old + most_read }
     // Read comes if and only if a call failed.
     ensures reads { S.failures source.new ≡ S.failures source.old + failed_reads result }
 {

@@ -2,7 +2,7 @@
 use Rattle.std.proofs.Common.{◌≡◌, ◌≤◌, ◌+◌, ◌∙◌, ℕ, List, [], Option, None, IfSome, Result, Ok, Err, refl, sym, ap, subst, arith, append-nil}
 use Rattle.std.proofs.Common.{take, drop, length}
 use Rattle.std.specs.Io.KnownBytes.{Appends}
-use Rattle.zy_io.specs.Streams.{ReadsAll, ReadWhole, max_input}
+use Rattle.zy_io.specs.Streams.{ReadsAll, ReadWhole, most_read}
 use Rattle.zy_io.specs.declared.reading.ReadFault.{ReadFault}
 use Rattle.zy_io.specs.declared.reading.ReadFault.TheVariants as reading
 use Rattle.zy_io.specs.declared.writing.TextFault.{TextFault}
@@ -38,7 +38,7 @@ below_is input below n back cuts = ap lines_of (back ∙ ap (λ k. drop k input)
 
 -- ---- no scenario is accepted
 
-module _ (old : Streams) (left : Option (List ℕ)) (reads given : ℕ) (bound : given ≤ old.given + max_input + 1) where
+module _ (old : Streams) (left : Option (List ℕ)) (reads given : ℕ) (bound : given ≤ old.given + most_read) where
   -- before that nothing is written, whatever the fault
   stopped : (f : BenchFault) → IfRefused f (IfSome old.left (λ t. IsTextFault (cut t) f)) → ReadsBefore old.left left f → reads ≡ old.reads + reads_failed f
       → writes_failed f ≡ 0
@@ -79,23 +79,14 @@ module _ (old : Streams) (left : Option (List ℕ)) (reads given : ℕ) (bound :
 
 -- ---- a scenario is accepted
 
--- the scenario that the part of an input means, alone
-record Accepted (bytes : List ℕ) (scenario : Scenario) : Type 0 where
-  pub meant : Means (cut bytes) scenario
-  pub only : (sc : Scenario) → Means (cut bytes) sc → scenario ≡ sc
-  pub right : input_fault (cut bytes) ≡ None
-
--- the scenario that was accepted is that of the input
-accepted : (bytes part : List ℕ) (scenario : Scenario) → part ≡ cut bytes → Means part scenario → ((sc : Scenario) → Means part sc → scenario ≡ sc)
-    → input_fault part ≡ None → Accepted bytes scenario
-accepted bytes part scenario is means only right = record {
-  meant = subst (λ t. Means t scenario) is means;
-  only = λ sc meant. only sc (subst (λ t. Means t sc) (sym is) meant);
-  right = subst (λ t. input_fault t ≡ None) is right;
-}
+-- a text means this scenario and no other, and has no fault
+pub record Accepted (text : List ℕ) (scenario : Scenario) : Type 0 where
+  pub meant : Means text scenario
+  pub only : (sc : Scenario) → Means text sc → scenario ≡ sc
+  pub right : input_fault text ≡ None
 
 module _ (old new : Streams) (bytes : List ℕ) (scenario : Scenario) (same : IfSome old.left (λ t. bytes ≡ t)) (whole : ReadWhole old.left new.left)
-    (calls : new.reads ≡ old.reads) (is : Accepted bytes scenario) (bound : new.given ≤ old.given + max_input + 1) where
+    (calls : new.reads ≡ old.reads) (is : Accepted (cut bytes) scenario) (bound : new.given ≤ old.given + most_read) where
   -- a prefix of what is said of that scenario is one of what is said of each that the part means
   some_prefix : SaysPrefix old.written new.written (opened scenario) (commands_of bytes)
       → IfSome old.left (λ t. (sc : Scenario) → Means (cut t) sc → SaysPrefix old.written new.written (opened sc) (commands_of t))
@@ -155,13 +146,20 @@ module _ (old new : Streams) (bytes : List ℕ) (scenario : Scenario) (same : If
     bound = bound;
   }
 
--- the same of the two parts that the code cuts the input into
-pub said-of-parts : (old new : Streams) (bytes part below : List ℕ) (n : ℕ) (scenario : Scenario) → IfSome old.left (λ t. bytes ≡ t)
-    → ReadWhole old.left new.left → new.reads ≡ old.reads → new.given ≤ old.given + max_input + 1
-    → part ≡ take n bytes → below ≡ drop n bytes → n ≡ length (cut bytes) → Means part scenario × (input_fault part ≡ None)
-    → ((sc : Scenario) → Means part sc → scenario ≡ sc) → (w : Result (Unit {0}) TextFault)
-    → WroteReplies old.written new.written old.writes new.writes w (opened scenario) (lines_of below) → Debugs old new (of_wrote w)
-said-of-parts old new bytes part below n scenario same whole calls bound front back cuts found only w wrote =
-    let is = accepted bytes part scenario (part_is bytes part n front cuts) found.0 only found.1 in
-    said old new bytes scenario same whole calls is bound w
-    (subst (λ lines. WroteReplies old.written new.written old.writes new.writes w (opened scenario) lines) (below_is bytes below n back cuts) wrote)
+-- the two parts that the code cuts an input into
+pub record Parts (bytes part below : List ℕ) : Type 0 where
+  pub count : ℕ
+  pub front : part ≡ take count bytes
+  pub back : below ≡ drop count bytes
+  pub cuts : count ≡ length (cut bytes)
+
+module _ (old new : Streams) (bytes : List ℕ) (scenario : Scenario) (same : IfSome old.left (λ t. bytes ≡ t)) (whole : ReadWhole old.left new.left)
+    (calls : new.reads ≡ old.reads) (bound : new.given ≤ old.given + most_read) where
+  -- the same of these parts
+  pub said-of-parts : (part below : List ℕ) → Parts bytes part below → Accepted part scenario → (w : Result (Unit {0}) TextFault)
+      → WroteReplies old.written new.written old.writes new.writes w (opened scenario) (lines_of below) → Debugs old new (of_wrote w)
+  said-of-parts part below parts is w wrote =
+      let here = subst (λ t. Accepted t scenario) (part_is bytes part parts.count parts.front parts.cuts) is in
+      said old new bytes scenario same whole calls here bound w
+      (subst (λ lines. WroteReplies old.written new.written old.writes new.writes w (opened scenario) lines)
+      (below_is bytes below parts.count parts.back parts.cuts) wrote)

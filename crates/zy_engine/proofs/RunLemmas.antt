@@ -4,7 +4,7 @@ use Rattle.std.specs.Io.KnownBytes.{Appends}
 use Rattle.zy_io.specs.declared.writing.TextFault.{TextFault}
 use Rattle.zy_io.specs.declared.writing.TextFault.TheVariants.{Write, Memory}
 use Rattle.zy_isa.specs.Scenario.{Scenario}
-use Rattle.zy_io.specs.Streams.{WrotePrefix, ReadWhole, ReadsAll, max_input}
+use Rattle.zy_io.specs.Streams.{WrotePrefix, ReadWhole, ReadsAll, most_read}
 use Rattle.zy_io.specs.declared.reading.ReadFault.{ReadFault}
 use Rattle.zy_io.specs.declared.reading.ReadFault.TheVariants as reading
 use Rattle.zy_io.specs.Writing.{Wrote}
@@ -117,7 +117,7 @@ of_wrote (Err f) = Err (of_writing f)
 module _ (format : Format) (output : Scenario → List ℕ) (old : Streams) where
   -- an engine that took no scenario has written nothing
   pub converts-none : {X : Type 0} (left : Option (List ℕ)) (reads given : ℕ) (f : BenchFault) → TookNone format old.left left old.reads reads f
-      → given ≤ old.given + max_input + 1
+      → given ≤ old.given + most_read
       → Converts {X = X} format output old (record old { left = left; reads = reads; given = given }) (Err f)
   converts-none left reads given f none bound = record {
     written = tt;
@@ -134,7 +134,7 @@ module _ (format : Format) (output : Scenario → List ℕ) (old : Streams) wher
   }
 
   module _ (new : Streams) (scenario : Scenario) (took : Took format old.left new.left old.reads new.reads scenario)
-      (bound : new.given ≤ old.given + max_input + 1) where
+      (bound : new.given ≤ old.given + most_read) where
     -- what went out is a prefix of the output of each scenario that the input stands for
     prefixes : WrotePrefix old.written new.written (output scenario)
         → IfSome old.left (λ t. (sc : Scenario) → StandsFor format t sc → WrotePrefix old.written new.written (output sc))

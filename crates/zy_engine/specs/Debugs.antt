@@ -12,7 +12,7 @@ use Rattle.zy_engine.specs.declared.faults.BenchFault.{BenchFault}
 use Rattle.zy_engine.specs.Engines.{Streams}
 use Rattle.zy_engine.specs.Faults.{ReadsInput, failed_reads, failed_writes, IsQuiet, IfRefused}
 use Rattle.zy_engine.specs.Inputs.{IsTextFault}
-use Rattle.zy_io.specs.Streams.{max_input}
+use Rattle.zy_io.specs.Streams.{most_read}
 
 -- the most choices from one copy to the next
 abbrev pub max_every : ℕ
@@ -42,7 +42,7 @@ pub record Debugs {X : Type 0} (old new : Streams) (result : Result X BenchFault
       → SaysPrefix old.written new.written (opened sc) (commands_of input))
   -- a refused scenario part is reported by its first fault
   pub fault : IfErr result (λ f. IfRefused f (IfSome old.left (λ input. IsTextFault (cut input) f)))
-  -- the input is read whole; only where it has more than 4194304 bytes is it too long, and then one byte more is read
+  -- the input is read whole; only where it has more than max_input bytes is it too long, and then one byte more is read
   pub input : ReadsInput old.left new.left result
   -- what is accepted has no fault
   pub accepted : OnOk result (IfSome old.left (λ input. input_fault (cut input) ≡ None))
@@ -56,4 +56,4 @@ pub record Debugs {X : Type 0} (old new : Streams) (result : Result X BenchFault
   pub reads : new.reads ≡ old.reads + failed_reads result
   pub writes : new.writes ≡ old.writes + failed_writes result
   -- whatever the reader reports of its bytes, its calls give at most one more than the longest input has
-  pub bound : new.given ≤ old.given + max_input + 1
+  pub bound : new.given ≤ old.given + most_read

@@ -1,7 +1,7 @@
 -- What an engine does: it reads a scenario in a format, and writes something of it.
 use Rattle.std.specs.Prelude.{◌≡◌, ◌≤◌, ◌+◌, ℕ, List, Option, Result, IfErr, IfSome, OnOk}
 use Rattle.std.specs.Io.KnownBytes.{Appends}
-use Rattle.zy_io.specs.Streams.{WrotePrefix, max_input}
+use Rattle.zy_io.specs.Streams.{WrotePrefix, most_read}
 use Rattle.zy_isa.specs.Scenario.{Scenario}
 use Rattle.zy_engine.specs.declared.faults.BenchFault.{BenchFault}
 use Rattle.zy_engine.specs.declared.format.Format.{Format}
@@ -38,7 +38,7 @@ pub record Converts {X : Type 0} (format : Format) (output : Scenario → List �
       → WrotePrefix old.written new.written (output sc))
   -- a refused input is reported by its first fault
   pub fault : IfErr result (λ f. IfRefused f (IfSome old.left (λ bytes. IsRefusal format bytes f)))
-  -- the input is read whole; only where it has more than 4194304 bytes is it too long, and then one byte more is read
+  -- the input is read whole; only where it has more than max_input bytes is it too long, and then one byte more is read
   pub input : ReadsInput old.left new.left result
   -- what is accepted has no fault
   pub accepted : OnOk result (IfSome old.left (HasNoFault format))
@@ -52,4 +52,4 @@ pub record Converts {X : Type 0} (format : Format) (output : Scenario → List �
   pub reads : new.reads ≡ old.reads + failed_reads result
   pub writes : new.writes ≡ old.writes + failed_writes result
   -- whatever the reader reports of its bytes, its calls give at most one more than the longest input has
-  pub bound : new.given ≤ old.given + max_input + 1
+  pub bound : new.given ≤ old.given + most_read

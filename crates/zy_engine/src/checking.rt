@@ -1,7 +1,7 @@
 //! The engine that checks a listing.
 ghost use Rattle.std.specs.Prelude.{◌≡◌, ◌<◌, ◌≤◌, ◌+◌, None, IfErr, IfOk, IfSome, length};
 ghost use Rattle.std.specs.Io.KnownBytes.{Appends};
-ghost use Rattle.zy_io.specs.Streams.{WrotePrefix, max_input};
+ghost use Rattle.zy_io.specs.Streams.{WrotePrefix, max_input, most_read};
 ghost use Rattle.zy_isa.specs.Scenario.{Scenario as AScenario};
 ghost use Rattle.zy_text.specs.Text.{Means};
 ghost use Rattle.zy_asm.specs.Input.{input_fault, utf8_fault};
@@ -70,11 +70,11 @@ pub fn check_bytes<S: Source, K: Sink>(
     // Where it has a fault nothing is written, whatever comes.
     ensures refused { IfSome (S.left source.old) (λ bytes. (input_fault (cut bytes) ≡ None → ⊥)
         → K.written sink.new ≡ K.written sink.old) }
-    // The input is read whole; only where it has more than 4194304 bytes is it too long, and then one byte more is
+    // The input is read whole; only where it has more than max_input bytes is it too long, and then one byte more is
     // read.
     ensures input { ReadsInput (S.left source.old) (S.left source.new) result }
     // Whatever the reader reports of its bytes, its calls give at most one more than the longest input has.
-    ensures bound { S.given source.new ≤ S.given source.old + max_input + 1 }
+    ensures bound { S.given source.new ≤ S.given source.old + most_read }
     // Each fault of the reader and of the writer is one failed call.
     ensures reads { S.failures source.new ≡ S.failures source.old + failed_reads result }
     ensures writes { K.failures sink.new ≡ K.failures sink.old + failed_writes result }

@@ -2,7 +2,7 @@
 ghost use Rattle.std.specs.Prelude.{◌≡◌, ◌<◌, ◌≤◌, ◌+◌, IfErr, IfOk};
 ghost use Rattle.zy_isa.specs.Scenario.{Scenario as AScenario};
 ghost use Rattle.zy_engine.specs.Inputs.{HasNoFault, IsRefusal, StandsFor, Takes};
-ghost use Rattle.zy_io.specs.Streams.{max_input};
+ghost use Rattle.zy_io.specs.Streams.{most_read};
 
 use crate::faults::BenchFault;
 use std::alloc::Global;
@@ -54,7 +54,7 @@ pub fn read_scenario<S: Source>(
     ensures takes { Takes format (S.left source.old) (S.left source.new) (S.failures source.old)
         (S.failures source.new) result }
     // Whatever the reader reports of its bytes, its calls give at most one more than the longest input has.
-    ensures bound { S.given source.new ≤ S.given source.old + max_input + 1 }
+    ensures bound { S.given source.new ≤ S.given source.old + most_read }
 {
     let bytes = read_all(alloc, source)?;
     *input = bytes;

@@ -26,40 +26,6 @@ Appended-then a b c (Err e) xs ys first (front, back, is, now) = (
   now ∙ ap (λ l. l ++ front) first ∙ append_assoc a xs front,
 )
 
--- a prefix of the second part, after the whole first
-pub WrotePrefix-after : (a b c : Option (List ℕ)) (xs ys more text : List ℕ) → Appends a b xs → WrotePrefix b c ys → text ≡ xs ++ (ys ++ more)
-    → WrotePrefix a c text
-WrotePrefix-after a b c xs ys more text p q e = (
-  xs ++ q.0,
-  q.1 ++ more,
-  e ∙ ap (λ l. xs ++ (l ++ more)) q.2 ∙ ap (λ l. xs ++ l) (append_assoc q.0 q.1 more) ∙ sym (append_assoc xs q.0 (q.1 ++ more)),
-  Appends-trans a b c xs q.0 p q.3,
-)
-
--- the fault of a part ys of the text, which follows the whole of xs, is that of the text
-pub Wrote-stops : {Y : Type 0} (a b c : Option (List ℕ)) (m n k : ℕ) (f : TextFault) (r : Result Y TextFault) (xs ys more text : List ℕ)
-    → Appends a b xs → n ≡ m → Wrote b c n k {X = Unit {0}} (Err f) ys → text ≡ xs ++ (ys ++ more) → r ≡ Err f → Wrote a c m k r text
-Wrote-stops a b c m n k Write r xs ys more text p same q e is =
-    rw is (WrotePrefix-after a b c xs ys more text p q.0 e, q.1 ∙ ap (λ x. x + 1) same)
-Wrote-stops a b c m n k Memory r xs ys more text p same q e is =
-    rw is (WrotePrefix-after a b c xs ys more text p q.0 e, q.1 ∙ same)
-
--- the second text's fault is that of both
-pub Wrote-second-stops : {Y : Type 0} (a b c : Option (List ℕ)) (m n k : ℕ) (f : TextFault) (r : Result Y TextFault) (xs ys : List ℕ)
-    → Appends a b xs × (n ≡ m) → Wrote b c n k {X = Unit {0}} (Err f) ys → r ≡ Err f → Wrote a c m k r (xs ++ ys)
-Wrote-second-stops a b c m n k f r xs ys p q is =
-    Wrote-stops a b c m n k f r xs ys [] (xs ++ ys) p.0 p.1 q (ap (λ l. xs ++ l) (sym (append-nil ys))) is
-
--- one text after another, both whole
-pub Wrote-both : (a b c : Option (List ℕ)) (m n k : ℕ) (xs ys : List ℕ) → Appends a b xs × (n ≡ m) → Appends b c ys × (k ≡ n) → Appends a c (xs ++ ys) × (k ≡ m)
-Wrote-both a b c m n k xs ys p q = (Appends-trans a b c xs ys p.0 q.0, q.1 ∙ p.1)
-
--- one text after another, whatever came of the second
-pub Wrote-then : {X : Type 0} (a b c : Option (List ℕ)) (m n k : ℕ) (r : Result X TextFault) (xs ys : List ℕ) → Appends a b xs × (n ≡ m) → Wrote b c n k r ys
-    → Wrote a c m k r (xs ++ ys)
-Wrote-then a b c m n k (Ok u) xs ys p q = Wrote-both a b c m n k xs ys p q
-Wrote-then {X} a b c m n k (Err f) xs ys p q = Wrote-second-stops {Y = X} a b c m n k f (Err f) xs ys p q refl
-
 -- the text of a list is that of its front, of one element and of what follows
 pub flat_map-split : {X : Type 0} (f : X → List ℕ) (xs : List X) (i : ℕ) (d : X) → i < length xs
     → flat_map f xs ≡ flat_map f (take i xs) ++ (f (get_or xs i d) ++ flat_map f (drop (suc i) xs))
@@ -69,13 +35,13 @@ flat_map-split f (x ∷ xs) (suc i) d h =
     ap (λ l. f x ++ l) (flat_map-split f xs i d (omega arith)) ∙ sym (append_assoc (f x) (flat_map f (take i xs))
     (f (get_or xs i d) ++ flat_map f (drop (suc i) xs)))
 
--- the fault of one element's text, which follows those before it, is that of the whole list
-pub Wrote-element-stops : {Y Z : Type 0} (f : Z → List ℕ) (xs : List Z) (i : ℕ) (d : Z) (a b c : Option (List ℕ)) (m n k : ℕ) (fault : TextFault)
-    (r : Result Y TextFault)
-    → i < length xs → Appends a b (flat_map f (take i xs)) → n ≡ m → Wrote b c n k {X = Unit {0}} (Err fault) (f (get_or xs i d)) → r ≡ Err fault
-    → Wrote a c m k r (flat_map f xs)
-Wrote-element-stops f xs i d a b c m n k fault r h p same q is =
-    Wrote-stops a b c m n k fault r _ _ (flat_map f (drop (suc i) xs)) _ p same q (flat_map-split f xs i d h) is
+-- what is behind the elements before it is their text and its own
+pub flat_map-take : {X : Type 0} (f : X → List ℕ) (xs : List X) (i : ℕ) (d : X) → i < length xs
+    → flat_map f (take (suc i) xs) ≡ flat_map f (take i xs) ++ f (get_or xs i d)
+flat_map-take f [] i d h = absurd (omega arith)
+flat_map-take f (x ∷ xs) zero d h = append-nil (f x)
+flat_map-take f (x ∷ xs) (suc i) d h = ap (λ l. f x ++ l) (flat_map-take f xs i d (omega arith))
+    ∙ sym (append_assoc (f x) (flat_map f (take i xs)) (f (get_or xs i d)))
 
 -- the lines of a list of parts are those of each part, one after another
 pub flat_map-flat_map : {X : Type 0} (f : X → List ℕ) (parts : List (List X)) → flat_map f (flat_map (λ part. part) parts) ≡ flat_map (flat_map f) parts
@@ -97,30 +63,62 @@ Appended-element-stops f xs i d a b c e r h so_far (front, back, is, now) err =
       now ∙ ap (λ l. l ++ front) so_far ∙ append_assoc a before front,
     )
 
--- what is behind the elements before it is their text and its own
-pub flat_map-take : {X : Type 0} (f : X → List ℕ) (xs : List X) (i : ℕ) (d : X) → i < length xs
-    → flat_map f (take (suc i) xs) ≡ flat_map f (take i xs) ++ f (get_or xs i d)
-flat_map-take f [] i d h = absurd (omega arith)
-flat_map-take f (x ∷ xs) zero d h = append-nil (f x)
-flat_map-take f (x ∷ xs) (suc i) d h = ap (λ l. f x ++ l) (flat_map-take f xs i d (omega arith))
-    ∙ sym (append_assoc (f x) (flat_map f (take i xs)) (f (get_or xs i d)))
+-- Two texts were written: the bytes went from a over b to c, and the number of failures from m over n to k.
+module _ (a b c : Option (List ℕ)) (m n k : ℕ) where
+  -- a prefix of the second part, after the whole first
+  pub WrotePrefix-after : (xs ys more text : List ℕ) → Appends a b xs → WrotePrefix b c ys → text ≡ xs ++ (ys ++ more) → WrotePrefix a c text
+  WrotePrefix-after xs ys more text p q e = (
+    xs ++ q.0,
+    q.1 ++ more,
+    e ∙ ap (λ l. xs ++ (l ++ more)) q.2 ∙ ap (λ l. xs ++ l) (append_assoc q.0 q.1 more) ∙ sym (append_assoc xs q.0 (q.1 ++ more)),
+    Appends-trans a b c xs q.0 p q.3,
+  )
 
--- the same, where what was before it went out but for a rest
-pub Wrote-rest-stops : {Y Z : Type 0} (f : Z → List ℕ) (xs : List Z) (i : ℕ) (d : Z) (a b c : Option (List ℕ)) (m n k : ℕ) (rest : List ℕ) (fault : TextFault)
-    (r : Result Y TextFault)
-    → i < length xs → Remains a b (flat_map f (take i xs)) rest → n ≡ m → Wrote b c n k {X = Unit {0}} (Err fault) (rest ++ f (get_or xs i d)) → r ≡ Err fault
-    → Wrote a c m k r (flat_map f xs)
-Wrote-rest-stops f xs i d a b c m n k rest fault r h p same q is = rw is (stops fault q)
-  where
-    before : List ℕ
-    before = flat_map f (take i xs)
+  -- the fault of a part ys of the text, which follows the whole of xs, is that of the text
+  pub Wrote-stops : {Y : Type 0} (f : TextFault) (r : Result Y TextFault) (xs ys more text : List ℕ)
+      → Appends a b xs → n ≡ m → Wrote b c n k {X = Unit {0}} (Err f) ys → text ≡ xs ++ (ys ++ more) → r ≡ Err f → Wrote a c m k r text
+  Wrote-stops Write r xs ys more text p same q e is =
+      rw is (WrotePrefix-after xs ys more text p q.0 e, q.1 ∙ ap (λ x. x + 1) same)
+  Wrote-stops Memory r xs ys more text p same q e is =
+      rw is (WrotePrefix-after xs ys more text p q.0 e, q.1 ∙ same)
 
-    front : WrotePrefix b c (rest ++ f (get_or xs i d)) → WrotePrefix a c (flat_map f xs)
-    front w =
-        WrotePrefix-more a c (before ++ f (get_or xs i d)) (flat_map f (drop (suc i) xs)) (flat_map f xs)
-        (Remains-stops a b c before (f (get_or xs i d)) rest p w)
-        (flat_map-split f xs i d h ∙ sym (append_assoc before (f (get_or xs i d)) (flat_map f (drop (suc i) xs))))
+  -- the second text's fault is that of both
+  pub Wrote-second-stops : {Y : Type 0} (f : TextFault) (r : Result Y TextFault) (xs ys : List ℕ)
+      → Appends a b xs × (n ≡ m) → Wrote b c n k {X = Unit {0}} (Err f) ys → r ≡ Err f → Wrote a c m k r (xs ++ ys)
+  Wrote-second-stops f r xs ys p q is =
+      Wrote-stops f r xs ys [] (xs ++ ys) p.0 p.1 q (ap (λ l. xs ++ l) (sym (append-nil ys))) is
 
-    stops : (e : TextFault) → Wrote b c n k {X = Unit {0}} (Err e) (rest ++ f (get_or xs i d)) → Wrote a c m k {X = Unit {0}} (Err e) (flat_map f xs)
-    stops Write w = (front w.0, w.1 ∙ ap (λ x. x + 1) same)
-    stops Memory w = (front w.0, w.1 ∙ same)
+  -- one text after another, both whole
+  pub Wrote-both : (xs ys : List ℕ) → Appends a b xs × (n ≡ m) → Appends b c ys × (k ≡ n) → Appends a c (xs ++ ys) × (k ≡ m)
+  Wrote-both xs ys p q = (Appends-trans a b c xs ys p.0 q.0, q.1 ∙ p.1)
+
+  -- one text after another, whatever came of the second
+  pub Wrote-then : {X : Type 0} (r : Result X TextFault) (xs ys : List ℕ) → Appends a b xs × (n ≡ m) → Wrote b c n k r ys → Wrote a c m k r (xs ++ ys)
+  Wrote-then (Ok u) xs ys p q = Wrote-both xs ys p q
+  Wrote-then {X} (Err f) xs ys p q = Wrote-second-stops {Y = X} f (Err f) xs ys p q refl
+
+  -- the fault of one element's text, which follows those before it, is that of the whole list
+  pub Wrote-element-stops : {Y Z : Type 0} (f : Z → List ℕ) (xs : List Z) (i : ℕ) (d : Z) (fault : TextFault) (r : Result Y TextFault)
+      → i < length xs → Appends a b (flat_map f (take i xs)) → n ≡ m → Wrote b c n k {X = Unit {0}} (Err fault) (f (get_or xs i d)) → r ≡ Err fault
+      → Wrote a c m k r (flat_map f xs)
+  Wrote-element-stops f xs i d fault r h p same q is =
+      Wrote-stops fault r _ _ (flat_map f (drop (suc i) xs)) _ p same q (flat_map-split f xs i d h) is
+
+  -- the same, where what was before it went out but for a rest
+  pub Wrote-rest-stops : {Y Z : Type 0} (f : Z → List ℕ) (xs : List Z) (i : ℕ) (d : Z) (rest : List ℕ) (fault : TextFault) (r : Result Y TextFault)
+      → i < length xs → Remains a b (flat_map f (take i xs)) rest → n ≡ m → Wrote b c n k {X = Unit {0}} (Err fault) (rest ++ f (get_or xs i d)) → r ≡ Err fault
+      → Wrote a c m k r (flat_map f xs)
+  Wrote-rest-stops f xs i d rest fault r h p same q is = rw is (stops fault q)
+    where
+      before : List ℕ
+      before = flat_map f (take i xs)
+
+      front : WrotePrefix b c (rest ++ f (get_or xs i d)) → WrotePrefix a c (flat_map f xs)
+      front w =
+          WrotePrefix-more a c (before ++ f (get_or xs i d)) (flat_map f (drop (suc i) xs)) (flat_map f xs)
+          (Remains-stops a b c before (f (get_or xs i d)) rest p w)
+          (flat_map-split f xs i d h ∙ sym (append_assoc before (f (get_or xs i d)) (flat_map f (drop (suc i) xs))))
+
+      stops : (e : TextFault) → Wrote b c n k {X = Unit {0}} (Err e) (rest ++ f (get_or xs i d)) → Wrote a c m k {X = Unit {0}} (Err e) (flat_map f xs)
+      stops Write w = (front w.0, w.1 ∙ ap (λ x. x + 1) same)
+      stops Memory w = (front w.0, w.1 ∙ same)

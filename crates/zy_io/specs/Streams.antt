@@ -12,6 +12,10 @@ use Rattle.zy_io.specs.declared.reading.ReadFault.TheVariants.{Read, TooLong, Me
 abbrev pub max_input : ℕ
 max_input = 4194304
 
+-- the most bytes that are read: one more shows that an input is too long
+abbrev pub most_read : ℕ
+most_read = max_input + 1
+
 -- the call failed
 abbrev pub pull_faults : {E : Type 0} → Result ℕ E → ℕ
 pull_faults (Ok n) = 0
@@ -49,13 +53,13 @@ Took old new count = (taken : List ℕ) × Consumes old new taken × (length tak
 abbrev pub ReadWhole : Option (List ℕ) → Option (List ℕ) → Type 0
 ReadWhole old new = TookAtMost old new max_input × IsAtEnd new
 
--- no more than that was read
+-- at most max_input bytes were read
 abbrev pub ReadSome : Option (List ℕ) → Option (List ℕ) → Type 0
 ReadSome old new = TookAtMost old new max_input
 
--- reading stopped at the first byte after that
+-- reading stopped at the first byte above max_input
 abbrev pub ReadTooMuch : Option (List ℕ) → Option (List ℕ) → Type 0
-ReadTooMuch old new = Took old new (max_input + 1)
+ReadTooMuch old new = Took old new most_read
 
 -- a prefix of the text went out
 abbrev pub WrotePrefix : Option (List ℕ) → Option (List ℕ) → List ℕ → Type 0
@@ -68,7 +72,7 @@ Remains old new text rest = (front : List ℕ) × (text ≡ front ++ rest) × Ap
 -- A call went from the bytes old and the number of failures before to new and after.
 module _ (old new : Option (List ℕ)) (before after : ℕ) where
   -- at Ok these are all the bytes that were left, and none is left; else a prefix of them was taken.
-  -- TooLong comes where more than 4194304 were, and Read where a call failed
+  -- TooLong comes where more than max_input were, and Read where a call failed
   abbrev pub ReadsAll : Result (Vec ℕ Global) ReadFault → Type 0
   ReadsAll (Ok bytes) = Consumes old new bytes.items × IsAtEnd new × (vec_len bytes ≤ max_input) × (after ≡ before)
   ReadsAll (Err Read) = ReadSome old new × (after ≡ before + 1)

@@ -1,6 +1,6 @@
 //! Reads an input whole.
 ghost use Rattle.std.specs.Prelude.{◌≡◌, ◌<◌, ◌≤◌, ◌+◌, Err, IfOk, IfSome, length};
-ghost use Rattle.zy_io.specs.Streams.{ReadsAll, max_input};
+ghost use Rattle.zy_io.specs.Streams.{ReadsAll, max_input, most_read};
 
 use crate::stream::Source;
 use std::alloc::{AllocError, Global};
@@ -48,7 +48,7 @@ pub fn read_all<S: Source>(alloc: Global, source: &mut S) -> Result<Vec<u8>, Rea
         → IfSome (S.left source.old) (λ left. max_input < length left) }
 
     // Whatever is known of the bytes, the calls give at most one byte more than the longest input has.
-    ensures bound { S.given source.new ≤ S.given source.old + max_input + 1 }
+    ensures bound { S.given source.new ≤ S.given source.old + most_read }
 {
     let mut bytes = Vec::new(alloc);
     let mut piece = [0u8; PIECE];

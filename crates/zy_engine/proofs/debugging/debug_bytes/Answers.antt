@@ -43,9 +43,10 @@ returns-in_err-write_replies g c =
     let same : IfSome (g.S.Source.left c.args.source.now) (λ t. bytes ≡ t) = rw c.as_slice-given.ensures.value c.in_ok-bytes.ensures.whole in
     let p = err_from_is_err_and c.from_residual-in_err-write_replies.result c.from_residual-in_err-write_replies.ensures.1 in
     rw p.1 (rw p.2 (
-    said-of-parts (at c.args.source.now c.args.sink.now) (at source c.write_replies.new.sink) bytes c.split_at.result.0.now c.split_at.result.1.now
-    c.cut_len.result c.in_ok-scenario.scenario same whole c.in_ok-bytes.ensures.reads.3 c.read_all.ensures.bound
-    c.split_at.ensures.front c.split_at.ensures.back c.cut_len.ensures c.in_ok-scenario.ensures.found c.in_ok-scenario.ensures.only
+    said-of-parts (at c.args.source.now c.args.sink.now) (at source c.write_replies.new.sink) bytes c.in_ok-scenario.scenario same whole
+    c.in_ok-bytes.ensures.reads.3 c.read_all.ensures.bound c.split_at.result.0.now c.split_at.result.1.now
+    (record { count = c.cut_len.result; front = c.split_at.ensures.front; back = c.split_at.ensures.back; cuts = c.cut_len.ensures })
+    (record { meant = c.in_ok-scenario.ensures.found.0; only = c.in_ok-scenario.ensures.only; right = c.in_ok-scenario.ensures.found.1 })
     (Err c.in_err-write_replies.field-0.0) c.in_err-write_replies.ensures
     ))
 
@@ -56,7 +57,8 @@ returns g c =
     let bytes = c.as_slice-given.result.now in
     let whole : ReadWhole (g.S.Source.left c.args.source.now) (g.S.Source.left source) = search rules in
     let same : IfSome (g.S.Source.left c.args.source.now) (λ t. bytes ≡ t) = rw c.as_slice-given.ensures.value c.in_ok-bytes.ensures.whole in
-    said-of-parts (at c.args.source.now c.args.sink.now) (at source c.write_replies.new.sink) bytes c.split_at.result.0.now c.split_at.result.1.now
-    c.cut_len.result c.in_ok-scenario.scenario same whole c.in_ok-bytes.ensures.reads.3 c.read_all.ensures.bound
-    c.split_at.ensures.front c.split_at.ensures.back c.cut_len.ensures c.in_ok-scenario.ensures.found c.in_ok-scenario.ensures.only
+    said-of-parts (at c.args.source.now c.args.sink.now) (at source c.write_replies.new.sink) bytes c.in_ok-scenario.scenario same whole
+    c.in_ok-bytes.ensures.reads.3 c.read_all.ensures.bound c.split_at.result.0.now c.split_at.result.1.now
+    (record { count = c.cut_len.result; front = c.split_at.ensures.front; back = c.split_at.ensures.back; cuts = c.cut_len.ensures })
+    (record { meant = c.in_ok-scenario.ensures.found.0; only = c.in_ok-scenario.ensures.only; right = c.in_ok-scenario.ensures.found.1 })
     (Ok (tt {0})) c.in_ok-write_replies.ensures

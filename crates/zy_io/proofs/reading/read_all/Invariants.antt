@@ -2,7 +2,7 @@
 use Rattle.std.proofs.Common.{◌≡◌, ◌≤◌, ◌+◌, ◌-◌, vec_len}
 use Rattle.std.specs.Io.KnownBytes.{Consumes}
 use Rattle.zy_io.proofs.reading.read_all.Given as goal
-use Rattle.zy_io.specs.Streams.{max_input}
+use Rattle.zy_io.specs.Streams.{max_input, most_read}
 
 abbrev pub invariant-loop-count : goal.invariant-loop-count
 invariant-loop-count g l = record {
@@ -13,4 +13,4 @@ invariant-loop-count g l = record {
 }
 
 abbrev pub decreases-loop-count : goal.decreases-loop-count
-decreases-loop-count g l = max_input + 1 - vec_len l.bytes
+decreases-loop-count g l = most_read - vec_len l.bytes

@@ -10,7 +10,7 @@ use Rattle.zy_io.proofs.section.AllLinesSection.write.Goals as goal
 pub returns-in_err-gather_place : goal.returns-in_err-gather_place
 returns-in_err-gather_place g c =
     let p = err_from_is_err_and c.from_residual.result c.from_residual.ensures.1 in
-    Wrote-rest-stops line_of (g.L.Lines.texts c.args.self.now.0) c.loop-place.place [] _ _ _ _ _ _ _ c.in_err-gather_place.field-0.0 _
+    Wrote-rest-stops _ _ _ _ _ _ line_of (g.L.Lines.texts c.args.self.now.0) c.loop-place.place [] _ c.in_err-gather_place.field-0.0 _
     (omega arith) c.loop-place.invariant.so_far
     c.loop-place.invariant.none_failed c.in_err-gather_place.ensures (p.1 ∙ ap Err p.2)
 
