@@ -123,18 +123,23 @@ written_stops a b d m n k f r sc i s h lt same w is =
     (flat_map line_of (steps_lines sc (i + 1 + 1) (step sc c s).after (drop (i + 1) sc.choices)))
     (flat_map line_of (steps_lines sc 1 (opening sc) sc.choices)) h.wrote same w (written_next a b sc i s h lt) is
 
+-- a machine made a choice, and this entry came of it
+pub record Made (x y : History) (c : Choice) (e : Entry) : Type 0 where
+  pub scenario : y.scenario ≡ x.scenario
+  pub entry : e ≡ entry_of c (step x.scenario c x.state)
+  pub entries : y.entries ≡ x.entries ++ e ∷ []
+  pub state : y.state ≡ (step x.scenario c x.state).after
+
 -- both machines make the same choice
-pub beside_step : (x y v w : History) (c : Choice) (d e : Entry) → Beside x y → v.scenario ≡ x.scenario → w.scenario ≡ y.scenario
-    → d ≡ entry_of c (step x.scenario c x.state) → e ≡ entry_of c (step y.scenario c y.state) → v.entries ≡ x.entries ++ d ∷ []
-    → w.entries ≡ y.entries ++ e ∷ []
-    → v.state ≡ (step x.scenario c x.state).after → w.state ≡ (step y.scenario c y.state).after → Beside v w
-beside_step x y v w c d e h vs ws de ee vh wh vt wt =
+pub beside_step : (x y v w : History) (c : Choice) (d e : Entry) → Beside x y → Made x v c d → Made y w c e → Beside v w
+beside_step x y v w c d e h m n =
     let made : step x.scenario c x.state ≡ step y.scenario c y.state =
     ap (λ sc. step sc c x.state) h.scenario ∙ ap (λ s. step y.scenario c s) h.state in
     record {
-      scenario = vs ∙ (h.scenario ∙ sym ws);
-      state = vt ∙ (ap (λ z. z.after) made ∙ sym wt);
-      entries = vh ∙ (ap (λ l. l ++ d ∷ []) h.entries ∙ (ap (λ z. y.entries ++ z ∷ []) (de ∙ (ap (entry_of c) made ∙ sym ee)) ∙ sym wh));
+      scenario = m.scenario ∙ (h.scenario ∙ sym n.scenario);
+      state = m.state ∙ (ap (λ z. z.after) made ∙ sym n.state);
+      entries = m.entries ∙ (ap (λ l. l ++ d ∷ []) h.entries ∙ (ap (λ z. y.entries ++ z ∷ []) (m.entry ∙ (ap (entry_of c) made ∙ sym n.entry))
+          ∙ sym n.entries));
     }
 
 -- there are as many transactions as programs
