@@ -39,3 +39,15 @@ impl fmt::Display for Quoted<'_> {
         }
     }
 }
+
+/// How long the longest common prefix of two texts is.
+pub fn common_prefix(text: &[u8], other: &[u8]) -> usize {
+    let mut count = 0usize;
+    for (byte, there) in text.iter().zip(other.iter()) {
+        if byte != there {
+            return count;
+        }
+        count = count.saturating_add(1);
+    }
+    count
+}

@@ -1,5 +1,6 @@
 //! What a mistyped word was meant to be.
 
+use crate::bytes::common_prefix;
 use std::fmt;
 
 /// The word that another one was meant to be.
@@ -62,18 +63,6 @@ fn is_near(word: &[u8], other: &[u8]) -> bool {
     let word = word.get(..word.len().saturating_sub(back));
     let other = other.get(..other.len().saturating_sub(back));
     is_one_mistake(word.unwrap_or(&[]), other.unwrap_or(&[]))
-}
-
-/// How long the longest common prefix of two words is.
-fn common_prefix(word: &[u8], other: &[u8]) -> usize {
-    let mut count = 0usize;
-    for (byte, there) in word.iter().zip(other.iter()) {
-        if byte != there {
-            return count;
-        }
-        count = count.saturating_add(1);
-    }
-    count
 }
 
 /// How many bytes two words end with in common.

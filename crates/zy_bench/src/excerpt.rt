@@ -2,6 +2,7 @@
 
 use std::fmt;
 use zy_advice::Bytes;
+use zy_advice::bytes::common_prefix;
 
 /// How many bytes of a line are shown.
 const MOST: usize = 120;
@@ -28,7 +29,7 @@ impl fmt::Display for Differing<'_> {
             f.write_str("this is a scenario without its listing: ")?;
         }
         let number = self.number;
-        let at = common(self.is, self.due);
+        let at = common_prefix(self.is, self.due);
         let (is, due) = (Excerpt::of(self.is, at), Excerpt::of(self.due, at));
         if self.due.is_empty() {
             write!(f, "line {number} is {is}, and the listing ends above it")
@@ -42,18 +43,6 @@ impl fmt::Display for Differing<'_> {
             )
         }
     }
-}
-
-/// How many bytes two lines begin with in common.
-fn common(line: &[u8], other: &[u8]) -> usize {
-    let mut count = 0usize;
-    for (byte, there) in line.iter().zip(other.iter()) {
-        if byte != there {
-            return count;
-        }
-        count = count.saturating_add(1);
-    }
-    count
 }
 
 /// The part of a line that is shown.
