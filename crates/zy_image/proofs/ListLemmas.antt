@@ -8,15 +8,18 @@ use Rattle.zy_image.specs.Reading.{Read, read_items}
 use Rattle.zy_image.proofs.FieldLemmas.{AreBytes, one_answer}
 
 module _ {X : Type 0} (next : List X → List ℕ → Read X) (xs : List X) (bytes : List ℕ) where
+  -- what is left of n items behind k of them begins with the next one
   one_left : (k n : ℕ) → k < n → read_items next xs (n - k) bytes ≡ read_items next xs (suc (n - (k + 1))) bytes
   one_left k n h =
       let same : n - k ≡ suc (n - (k + 1)) = omega (arith, h) in
       ap (λ m. read_items next xs m bytes) same
 
+  -- an item more was read
   pub item_more : (x : X) (left : List ℕ) (k n : ℕ) → k < n → next xs bytes ≡ Ok (x, left)
       → read_items next (xs ++ x ∷ []) (n - (k + 1)) left ≡ read_items next xs (n - k) bytes
   item_more x left k n h e = sym (one_left k n h ∙ rw e refl)
 
+  -- the next item has a fault, which is that of the list
   pub item_fails : (fault : LoadFault) (k n : ℕ) → k < n → next xs bytes ≡ Err fault → read_items next xs (n - k) bytes ≡ Err fault
   item_fails fault k n h e = one_left k n h ∙ rw e refl
 
@@ -81,10 +84,12 @@ module _ {X : Type 0} (image : X → List ℕ) (next : List X → List ℕ → R
 
 module _ {X : Type 0} (image : X → List ℕ) (next : List X → List ℕ → Read X) where
   -- each of these is read behind those before it
+  -- each of these items is read from its image, behind those before it
   abbrev pub AreRead : List X → List X → Type 0
   AreRead xs [] = Unit {0}
   AreRead xs (z ∷ zs) = ((left : List ℕ) → next xs (image z ++ left) ≡ Ok (z, left)) × AreRead (xs ++ z ∷ []) zs
 
+  -- such items are read from their images, one after another
   pub items_give : (zs xs : List X) (left : List ℕ) → AreRead xs zs → read_items next xs (length zs) (flat_map image zs ++ left) ≡ Ok (xs ++ zs, left)
   items_give [] xs left h = rw (append-nil xs) refl
   items_give (z ∷ zs) xs left h =

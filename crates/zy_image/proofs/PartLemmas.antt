@@ -141,27 +141,34 @@ instrs_read version t size (i ∷ is) before values known =
 
 -- a choice of these bytes, if there is one
 module _ (count a k t : ℕ) where
+  -- it has these bytes, and names a transaction that is there
   abbrev IsOf : Choice → Type 0
   IsOf c = (choice_image c ≡ a ∷ k ∷ t ∷ []) × (names_below count c ≡ true)
 
+  -- the same, or there is none
   abbrev MayBe : Option Choice → Type 0
   MayBe o = IfSome o IsOf
 
+  -- numbers that a test finds equal are equal
   same_number : (n m : ℕ) → (n == m) ≡ true → m ≡ n
   same_number n m e = grind (arith, tests)
 
+  -- a choice that names a transaction
   named_is : (c : Choice) → (nat_lt t count ≡ true → IsOf c) → MayBe (named count t c)
   named_is c h = cond_both (nat_lt t count) _ _ MayBe h (λ _. tt)
 
+  -- a choice that names none
   plain_is : (c : Choice) → (0 ≡ t → IsOf c) → MayBe (plain t c)
   plain_is c h = cond_both (t == 0) _ _ MayBe (λ e. h (same_number t 0 e)) (λ _. tt)
 
+  -- a choice of the client
   client_is : 0 ≡ a → MayBe (client_choice count k t)
   client_is x =
       cond_both (k == 0) _ _ MayBe (λ e. plain_is Start (λ z. (rw (← x, ← same_number k 0 e, ← z) refl, refl))) (λ _.
       cond_both (k == 1) _ _ MayBe (λ e. named_is (Begin t) (λ n. (rw (← x, ← same_number k 1 e) refl, n))) (λ _.
       cond_both (k == 2) _ _ MayBe (λ e. named_is (Kill t) (λ n. (rw (← x, ← same_number k 2 e) refl, n))) (λ _. tt)))
 
+  -- a choice of a node
   node_is : (n : Node) → node_byte n ≡ a → MayBe (node_choice count n k t)
   node_is n x =
       cond_both (k == 3) _ _ MayBe (λ e. named_is (Run n t) (λ m. (rw (← x, ← same_number k 3 e) refl, m))) (λ _.
@@ -169,6 +176,7 @@ module _ (count a k t : ℕ) where
       cond_both (k == 5) _ _ MayBe (λ e. plain_is (Finish n) (λ z. (rw (← x, ← same_number k 5 e, ← z) refl, refl))) (λ _.
       cond_both (k == 6) _ _ MayBe (λ e. plain_is (Push n) (λ z. (rw (← x, ← same_number k 6 e, ← z) refl, refl))) (λ _. tt))))
 
+  -- whichever it is
   choice_is : MayBe (choice_at count a k t)
   choice_is =
       cond_both (a == 0) _ _ MayBe (λ e. client_is (same_number a 0 e)) (λ _.

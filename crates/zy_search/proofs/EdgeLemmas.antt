@@ -50,6 +50,7 @@ module _ (ps : Paths) (p : List Choice) where
 
 -- The path at a place is gone on from by one choice.
 module _ (ps : Paths) (at : ℕ) (c : Choice) where
+  -- the longer path, and the paths with it
   abbrev next : List Choice
   next = path_at ps at ++ c ∷ []
 

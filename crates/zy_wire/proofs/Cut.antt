@@ -186,8 +186,8 @@ module _ (nodes nodes' : List TreeNode) (root top p c i : ℕ) (t : IsTree nodes
       elim (cases_eq x p) [
         | inl here ↦ subst (Same nodes nodes') (sym here) (record {
           level = ap (λ (m : TreeNode). m.level) k.parent;
-          low = ap (λ (m : TreeNode). low_of m) k.parent ∙ front-insert (suc i) (record { low = middle nodes c; to = length nodes }) n.entries n.end (omega arith)
-              (let w = f.within in omega arith);
+          low = ap (λ (m : TreeNode). low_of m) k.parent
+              ∙ front-insert (suc i) (record { low = middle nodes c; to = length nodes }) n.entries n.end (omega arith) (let w = f.within in omega arith);
           end = ap (λ (m : TreeNode). m.end) k.parent;
         })
         | inr notp ↦ Same-is nodes nodes' x (k.other x lt notp notc)
