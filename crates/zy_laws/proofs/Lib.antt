@@ -8,3 +8,4 @@ pub mod locks
 pub mod room
 pub mod counts
 pub mod serial
+pub mod sources

@@ -7,5 +7,4 @@ pub mod CutValues
 pub mod MovedValues
 pub mod Values
 pub mod FollowingRuns
-pub mod FollowingSteps
 pub mod Serializable

@@ -5,3 +5,5 @@ pub mod Between
 pub mod Counts
 pub mod Throughout
 pub mod Orders
+pub mod SourceFirst
+pub mod RealTime

@@ -1,9 +1,9 @@
 //! What holds of the table over every schedule: each function is a law, and its contract is all of it.
-ghost use Rattle.std.specs.Prelude.{◌≡◌, ℕ, List, length, true, false};
+ghost use Rattle.std.specs.Prelude.{◌≡◌, ◌<◌, ◌++◌, ℕ, List, length, slice_get, true, false};
 ghost use Rattle.zy_isa.specs.declared.version.Version.TheVariants.{One};
 ghost use Rattle.zy_isa.specs.declared.choice.Choice.{Choice as AChoice};
 ghost use Rattle.zy_isa.specs.declared.node.Node.{Node};
-ghost use Rattle.zy_isa.specs.declared.node.Node.TheVariants.{B};
+ghost use Rattle.zy_isa.specs.declared.node.Node.TheVariants.{A, B};
 ghost use Rattle.zy_isa.specs.declared.rule.Rule.TheVariants.{Held};
 ghost use Rattle.zy_isa.specs.Scenario.{Scenario, IsScenario};
 ghost use Rattle.zy_table.specs.Play.{entries, play, opening, step, side_of};
@@ -19,7 +19,11 @@ ghost use Rattle.zy_table.specs.Order.{InOrder};
 ghost use Rattle.zy_table.specs.Database.{ValuesAtPages, EachKeyHasPage, HasLows, RowsLie, database, newest};
 ghost use Rattle.zy_table.specs.Database.{all_leaves};
 ghost use Rattle.zy_laws.specs.Counts.{Safe, Fits};
-ghost use Rattle.zy_table.specs.Serial.{Listed, Serializable};
+ghost use Rattle.zy_table.specs.Serial.{Listed, Serializable, is_committed};
+ghost use Rattle.zy_table.specs.Change.{txn_or};
+ghost use Rattle.zy_table.specs.Client.{is_new};
+ghost use Rattle.zy_laws.specs.RealTime.{place};
+ghost use Rattle.zy_laws.specs.SourceFirst.{SerialIn, at_node, commits_at, migration_order};
 
 /// The counts that make each sum and index safe: a transaction has done at most one instruction for each choice, it has
 /// eight registers and a program counter in its program, and there are at most as many commits as transactions.
@@ -157,6 +161,36 @@ pub fn commits_listed()
 pub fn serializable()
     ensures { (sc : Scenario) → IsScenario sc → sc.rule ≡ Held → (choices : List AChoice)
         → Serializable sc (play sc (opening sc) choices) }
+{}
+
+/// Under both rules the database is that of the committed programs, run one by one in this order: of each migration
+/// first those that committed at its source, in the order of their commits, and then those at its destination, in
+/// theirs. That order is the commit list rearranged, and each transaction has the registers of its lone run.
+pub fn source_first()
+    ensures { (sc : Scenario) → IsScenario sc → (choices : List AChoice)
+        → SerialIn (migration_order sc choices) sc (play sc (opening sc) choices) }
+{}
+
+/// That order is one in real time: whoever has committed before another begins stands before it. With `source_first` this
+/// is strict serializability.
+pub fn real_time()
+    ensures { (sc : Scenario) → IsScenario sc → (choices more : List AChoice) (t u : ℕ)
+        → let s = play sc (opening sc) choices in
+        let order = migration_order sc (choices ++ more) in
+        is_committed (txn_or (slice_get s.txns t)).status ≡ true → is_new (txn_or (slice_get s.txns u)).status ≡ true
+        → place t order < place u order }
+{}
+
+/// In that order the commits at one node stand as they did in the commit list.
+pub fn node_order()
+    ensures { (sc : Scenario) (choices : List AChoice) (n : Node)
+        → let s = play sc (opening sc) choices in at_node n s (migration_order sc choices) ≡ commits_at n s }
+{}
+
+/// In version 1, under both rules, that order is: all that committed at A, and then all that committed at B.
+pub fn a_first()
+    ensures { (sc : Scenario) → IsScenario sc → sc.version ≡ One → (choices : List AChoice)
+        → let s = play sc (opening sc) choices in SerialIn (commits_at A s ++ commits_at B s) sc s }
 {}
 
 /// Only commits change values: a step that commits nothing leaves the database as it was, a split among them.

@@ -56,7 +56,7 @@ owns_more : (leaf : Leaf) (xs : List Leaf) (p : ℕ) → owns xs p ≡ true → 
 owns_more leaf xs p h = owns-with_page p leaf xs ∙ or_right _ _ h
 
 -- the wireframe that comes is the source's
-wire_front : (v : View) (lows : List ℕ) (ms : List Message) → v.inbox ≡ Wire lows ∷ ms → v.me.mode ≡ Empty → Roles v → (lows ≡ v.them.lows)
+pub wire_front : (v : View) (lows : List ℕ) (ms : List Message) → v.inbox ≡ Wire lows ∷ ms → v.me.mode ≡ Empty → Roles v → (lows ≡ v.them.lows)
     × (v.them.mode ≡ SInit)
 wire_front v lows ms e empty r = let came = wire_came (taker_of v r (ap is_taker empty)) e in (came.2, came.0)
 

@@ -56,7 +56,7 @@ at_most : (v : View) → Owned v → (p : ℕ) → times p v.me.pages ≤ 1
 at_most v o p = let k = o.once p in grind (arith, nat_tests, k)
 
 -- a node that asks for pages hands none on
-takes_in : (m : NodeMode) → may_pull m ≡ true → is_source m ≡ false
+pub takes_in : (m : NodeMode) → may_pull m ≡ true → is_source m ≡ false
 takes_in m pulls = elim (pulls_in m pulls) [ inl e ↦ ap is_source e | inr e ↦ ap is_source e ]
 
 -- a state in which everybody has room, and a step of t, which runs at n

@@ -1,39 +1,26 @@
 -- Each transaction that runs has come as far as its lone run on the database, which is that of the committed programs.
-use Rattle.zy_table.specs.Take.{is_held}
 use Rattle.std.proofs.Common.{List, [], ap, false, inl, inr, subst, sym, true, ℕ, ◌++◌, ◌∙◌, ◌∷◌, ◌≡◌}
 use Rattle.std.specs.Prelude.{slice_set}
 use Rattle.std.proofs.lemmas.Bool.{cases_eq, false≢true}
 use Rattle.zy_isa.specs.Scenario.{Scenario}
 use Rattle.zy_isa.specs.declared.instr.Instr.{Instr}
-use Rattle.zy_isa.specs.declared.node.Node.{Node}
 use Rattle.zy_table.specs.Change.{txn_at}
 use Rattle.zy_table.specs.Database.{Map}
 use Rattle.zy_table.specs.Holders.{holds}
 use Rattle.zy_table.specs.Run.{program_of}
 use Rattle.zy_table.specs.Serial.{Registers, alone, is_committed, serial}
 use Rattle.zy_table.specs.declared.entry.CommitRecord.{CommitRecord}
-use Rattle.zy_table.specs.State.{Lock, Txn, View, other}
+use Rattle.zy_table.specs.State.{Lock, Txn, View}
 use Rattle.zy_wire.specs.Wireframe.{page_of}
-use Rattle.zy_laws.proofs.locks.Locking.{Kept}
 use Rattle.zy_table.specs.Numbers.{has}
 use Rattle.zy_laws.proofs.serial.LoneRuns.{lone, lone_at}
-use Rattle.zy_laws.proofs.places.PageValues.{db}
-use Rattle.zy_laws.proofs.walk.Txns.{IsAt, at_other}
+use Rattle.zy_laws.proofs.walk.Txns.{at_other}
 
 -- a transaction has come as far as its lone run on the database, and holds the page of each key that the run touched
 pub record Follows (program : List Instr) (d : Map) (lows : List ℕ) (locks : List Lock) (t : ℕ) (x : Txn) : Type 0 where
   pub keys : List ℕ
   pub run : lone d program x.done ≡ lone_at x keys
   pub covered : (k : ℕ) → has keys k ≡ true → holds locks (page_of lows k) t ≡ true
-
--- the database is that of the serial run, and whoever runs has come as far as its lone run
-pub record Serially (sc : Scenario) (n : Node) (v : View) (start : Map) (lows : List ℕ) : Type 0 where
-  pub kept : Kept sc n v lows
-  pub held : is_held sc.rule ≡ true
-  pub mine : (t : ℕ) → IsAt v t n → Follows (program_of sc t) (db v) lows v.me.locks t (txn_at v t)
-  pub theirs : (t : ℕ) → IsAt v t (other n) → Follows (program_of sc t) (db v) lows v.them.locks t (txn_at v t)
-  pub is_serial : db v ≡ serial sc start v.commits
-  pub registers : Registers sc (txn_at v) start v.commits
 
 -- the same run where nothing that it saw has changed
 pub follows_same : {program : List Instr} {d e : Map} {lows : List ℕ} {locks more : List Lock} {t : ℕ} {x y : Txn} → Follows program d lows locks t x

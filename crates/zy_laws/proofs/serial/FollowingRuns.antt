@@ -158,17 +158,17 @@ module _ (program : List Instr) (d : Map) (lows : List ℕ) (locks : List Lock) 
   }
 
 -- after t begins at h, u has come as far as its lone run
-pub begun_follows : (sc : Scenario) (v : View) (lows : List ℕ) (locks : List Lock) (h m : Node) (t u : ℕ) → is_active (txn_at v t).status ≡ false
-    → ((z : ℕ) → IsAt v z m → Follows (program_of sc z) (db v) lows locks z (txn_at v z)) → IsAt (begun h t v) u m
-    → Follows (program_of sc u) (db (begun h t v)) lows locks u (txn_at (begun h t v) u)
+pub begun_follows : (sc : Scenario) (d : Map) (v : View) (lows : List ℕ) (locks : List Lock) (h m : Node) (t u : ℕ) → is_active (txn_at v t).status ≡ false
+    → ((z : ℕ) → IsAt v z m → Follows (program_of sc z) d lows locks z (txn_at v z)) → IsAt (begun h t v) u m
+    → Follows (program_of sc u) d lows locks u (txn_at (begun h t v) u)
 unfolding begun
-begun_follows sc v lows locks h m t u new f at =
+begun_follows sc d v lows locks h m t u new f at =
     let w = begun h t v in
     let y : Txn = record nobody { status = Active; node = h } in
-    let fresh : Follows (program_of sc u) (db v) lows locks u y = record { keys = []; run = refl; covered = λ k a. absurd (false≢true a) } in
+    let fresh : Follows (program_of sc u) d lows locks u y = record { keys = []; run = refl; covered = λ k a. absurd (false≢true a) } in
     elim (cases_eq u t) [
       | inl here ↦ elim (at_either v w t y refl) [
-        | inl now ↦ subst (Follows (program_of sc u) (db v) lows locks u) (sym (ap (txn_at w) here ∙ now)) fresh
+        | inl now ↦ subst (Follows (program_of sc u) d lows locks u) (sym (ap (txn_at w) here ∙ now)) fresh
         | inr old ↦ absurd (false≢true (sym new ∙ subst (λ (x : Txn). is_active x.status ≡ true) (ap (txn_at w) here ∙ old) at.0))
       ]
       | inr far ↦ let now = at_other v w t u y refl far in follows_same (f u (subst (λ x. Stands x m) now at)) refl now (λ p h. h)

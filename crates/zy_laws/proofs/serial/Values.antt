@@ -109,7 +109,7 @@ back_to A w = refl
 back_to B w = refl
 
 -- the commit list is the same from either node
-commits_from : (n : Node) (s : State) → (facing n s).commits ≡ s.commits
+pub commits_from : (n : Node) (s : State) → (facing n s).commits ≡ s.commits
 commits_from A s = refl
 commits_from B s = refl
 

@@ -66,7 +66,7 @@ off_after sc B A o s w bar x h = ap (λ z. is_source z.mode) x.them ∙ h
 off_after sc B B o s w bar x h = elim (x.off h) [ inl e ↦ e | inr k ↦ absurd (bar k.0 k.1 refl) ]
 
 -- what is no source stays none through a step of a schedule that may not start it
-step_off : (sc : Scenario) (c : Choice) (s : State) (m : Node) → Bars sc (side_of sc c s) (step sc c s).outcome m
+pub step_off : (sc : Scenario) (c : Choice) (s : State) (m : Node) → Bars sc (side_of sc c s) (step sc c s).outcome m
     → is_source (facing m s).me.mode ≡ false → is_source (facing m (step sc c s).after).me.mode ≡ false
 unfolding step
 step_off sc c s m bar h =
@@ -76,11 +76,11 @@ step_off sc c s m bar h =
     off_after sc m n (move sc c v).outcome s (move sc c v).after bar (sourced sc n (move sc c v).outcome v (move sc c v).after x.event x.told) h
 
 -- in version 1 no start acts at B
-not_at_b : (sc : Scenario) (n : Node) (o : Outcome) → sc.version ≡ One → Bars sc n o B
+pub not_at_b : (sc : Scenario) (n : Node) (o : Outcome) → sc.version ≡ One → Bars sc n o B
 not_at_b sc n o one started at_a at_b = let a : n ≡ A = at_a one in absurd cc
 
 -- B is no source at the opening
-opening_b : (sc : Scenario) → is_source (opening sc).b.mode ≡ false
+pub opening_b : (sc : Scenario) → is_source (opening sc).b.mode ≡ false
 unfolding opening
 opening_b sc = refl
 

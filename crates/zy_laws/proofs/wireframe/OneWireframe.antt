@@ -106,7 +106,7 @@ wireframes v (Destination ph) =
     }
 
 -- at most one node is a source
-one_of : (v : View) → Roles v → is_source v.me.mode ≡ true → is_source v.them.mode ≡ false
+pub one_of : (v : View) → Roles v → is_source v.me.mode ≡ true → is_source v.them.mode ≡ false
 one_of v (Source ph) s = (framed v.me v.them v.outbox v.inbox ph).last
 one_of v (Destination ph) s = absurd (false≢true (sym (framed v.them v.me v.inbox v.outbox ph).last ∙ s))
 

@@ -1,0 +1,57 @@
+-- The commits in another order than theirs: within each migration those at its source before those at its destination.
+use Rattle.std.specs.Prelude.{◌≡◌, ℕ, List, [], ◌∷◌, ◌++◌, drop, length, Bool, true, false, slice_get}
+use Rattle.std.specs.FinMap.{empty}
+use Rattle.std.specs.List.{filter}
+use Rattle.std.specs.List.Sorted.{IsPermutation}
+use Rattle.zy_isa.specs.declared.node.Node.{Node}
+use Rattle.zy_isa.specs.Scenario.{Scenario}
+use Rattle.zy_isa.specs.declared.choice.Choice.{Choice}
+use Rattle.zy_modes.specs.Families.{is_source}
+use Rattle.zy_table.specs.declared.entry.CommitRecord.{CommitRecord}
+use Rattle.zy_table.specs.State.{State, facing}
+use Rattle.zy_table.specs.Change.{txn_or}
+use Rattle.zy_table.specs.Database.{database, laid}
+use Rattle.zy_table.specs.Play.{opening, side_of, step}
+use Rattle.zy_table.specs.Run.{same_node}
+use Rattle.zy_table.specs.Serial.{Registers, serial}
+
+-- the commits so far: first those before the last start and, since then, at its source; later those at the other node since then
+-- (before any start all are in the second list)
+pub record Sorted : Type 0 where
+  pub first : List CommitRecord
+  pub later : List CommitRecord
+
+-- after a step in which these commit, by whether its node is a source before it and after it: a node becomes one by a start
+abbrev pub sorted_by : Bool → Bool → List CommitRecord → Sorted → Sorted
+sorted_by true after new x = record { first = x.first ++ new; later = x.later }
+sorted_by false true new x = record { first = x.first ++ x.later; later = [] }
+sorted_by false false new x = record { first = x.first; later = x.later ++ new }
+
+unfoldable pub sorted_step : Scenario → Choice → State → Sorted → Sorted
+sorted_step sc c s x =
+    let n = side_of sc c s in
+    let after = (step sc c s).after in
+    sorted_by (is_source (facing n s).me.mode) (is_source (facing n after).me.mode) (drop (length s.commits) after.commits) x
+
+abbrev pub sorted : Scenario → State → List Choice → Sorted → Sorted
+sorted sc s [] x = x
+sorted sc s (c ∷ cs) x = sorted sc (step sc c s).after cs (sorted_step sc c s x)
+
+-- the commits of a schedule: of each migration first those at its source, and then those at its destination
+abbrev pub migration_order : Scenario → List Choice → List CommitRecord
+migration_order sc cs = let x = sorted sc (opening sc) cs (record { first = []; later = [] }) in x.first ++ x.later
+
+-- of some commits those at a node
+abbrev pub at_node : Node → State → List CommitRecord → List CommitRecord
+at_node n s cs = filter (λ (c : CommitRecord). same_node (txn_or (slice_get s.txns c.txn)).node n) cs
+
+-- the commits at a node, in their order
+abbrev pub commits_at : Node → State → List CommitRecord
+commits_at n s = at_node n s s.commits
+
+-- this order is the commit list rearranged; the database is that of the committed programs, run one by one in it, and each
+-- committed transaction has the registers of its lone run
+pub record SerialIn (order : List CommitRecord) (sc : Scenario) (s : State) : Type 0 where
+  pub one_by_one : database s ≡ serial sc (laid sc.rows empty) order
+  pub permuted : IsPermutation s.commits order
+  pub registers : Registers sc (λ (t : ℕ). txn_or (slice_get s.txns t)) (laid sc.rows empty) order
