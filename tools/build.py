@@ -1,8 +1,8 @@
-"""Proves and builds zy_bench: each crate once those that it uses are proved, with others side by side.
+"""Proves and builds a program: each crate once those that it uses are proved, with others side by side.
 
-    build.py
+    build.py [PROGRAM]
 
-A line on standard error for each crate as it is proved: its time, how many are left, and how long they take by estimate. What rt writes goes
+The program is zy_bench, or zy_first, which needs fewer crates. A line on standard error for each crate as it is proved: its time, how many are left, and how long they take by estimate. What rt writes goes
 to crates/build.log."""
 
 import os
@@ -16,7 +16,7 @@ import time
 TOP = os.path.dirname(os.path.dirname(os.path.realpath(__file__)))
 CRATES = os.path.join(TOP, 'crates')
 LOG = os.path.join(CRATES, 'build.log')
-PROGRAM = 'zy_bench'
+PROGRAM = sys.argv[1] if sys.argv[1:] else 'zy_bench'
 ROOMS = os.path.join(CRATES, PROGRAM, 'out', 'rooms')
 
 # What one proof takes of memory, in bytes, at most.
@@ -69,6 +69,16 @@ def link(source, to):
         shutil.copy2(source, to)
 
 
+def own_test():
+    """The words of the program's own test, and the file that is its input."""
+    args, stdin = (os.path.join(CRATES, PROGRAM, name) for name in ('args', 'stdin'))
+    words = []
+    if os.path.exists(args):
+        with open(args, encoding='utf-8') as file:
+            words = file.read().split()
+    return words, stdin if os.path.exists(stdin) else os.devnull
+
+
 class Room:
     """A folder in which a crate is proved: its files and those of the crates that it uses, by links.
 
@@ -104,10 +114,11 @@ class Proof:
         self.room = None if name == PROGRAM else Room(name, below)
         self.path = os.path.join(CRATES, name, 'build.log')
         jobs, before = (str(PROCESSORS), ()) if is_first else ('1', ('nice',))
-        words = ['lib', '--jobs', jobs] if self.room else ['run', '--jobs', jobs, '--', '--version']
+        args, given = ([], os.devnull) if self.room else own_test()
+        words = ['lib', '--jobs', jobs] if self.room else ['run', '--jobs', jobs, '--', *args]
         folder = self.room.folder if self.room else os.path.join(CRATES, name)
-        with open(self.path, 'wb') as log:
-            self.process = subprocess.Popen([*before, *RT, *words], cwd=folder, stdin=subprocess.DEVNULL, stdout=log, stderr=log)
+        with open(self.path, 'wb') as log, open(given, 'rb') as stdin:
+            self.process = subprocess.Popen([*before, *RT, *words], cwd=folder, stdin=stdin, stdout=log, stderr=log)
 
     def finish(self):
         """Whether it is proved, and what rt said, once that has gone to the log."""
@@ -192,8 +203,8 @@ def main():
     open(LOG, 'wb').close()
     shutil.rmtree(ROOMS, ignore_errors=True)
     build = Build()
-    say('zy_bench is not built, or older than its source: its %d crates are proved now, at most %d side by side; the log is %s' % (
-        len(build.needs), build.room, LOG))
+    say('%s is not built, or older than its source: its %d crates are proved now, at most %d side by side; the log is %s' % (
+        PROGRAM, len(build.needs), build.room, LOG))
     try:
         while build.left or build.under_way:
             build.begin()

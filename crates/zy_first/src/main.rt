@@ -1,0 +1,46 @@
+//! `zy_first`: the listing of the scenario text on standard input, as `zy_bench run` writes it. It needs few crates, and
+//! so it is proved long before `zy_bench` is.
+#![tactic(auto)]
+
+ghost use Rattle.std.specs.Prelude.{◌<◌};
+
+mod faults;
+mod run;
+
+use faults::Fault;
+use run::run;
+use std::io;
+use std::io::{BufWriter, Write};
+use std::process::ExitCode;
+use zy_io::{CountingReader, CountingWriter};
+
+/// Passes on what is kept back for standard output.
+fn flush<W: Write>(sink: &mut CountingWriter<W>) -> Result<(), Fault>
+    requires { sink.old.1 < u64.MAX }
+{
+    match sink.flush() {
+        Ok(()) => Ok(()),
+        Err(_) => Err(Fault::Write),
+    }
+}
+
+/// Writes the listing of the scenario on standard input.
+fn list<R: Print + Input + AllocGlobal>(rt: &R) -> Result<(), Fault> {
+    let Ok(buffer) = BufWriter::new(rt.alloc(), io::writer(rt)) else {
+        return Err(Fault::Memory);
+    };
+    let mut source = CountingReader::new(rt.reader());
+    let mut sink = CountingWriter::new(buffer);
+    run(rt.alloc(), &mut source, &mut sink)?;
+    flush(&mut sink)
+}
+
+fn main(rt: HostRuntime) -> ExitCode {
+    match list(&rt) {
+        Ok(()) => ExitCode::from(0),
+        Err(fault) => {
+            let _ = eprintln!(&rt; "zy_bench: {fault}");
+            ExitCode::from(fault.status())
+        }
+    }
+}
