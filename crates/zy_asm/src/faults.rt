@@ -39,7 +39,7 @@ pub struct AsmFault {
 }
 
 /// What is wrong with a line. The test that failed makes it, and its text says it in words.
-#[derive(Clone, Copy, Debug, PartialEq, Eq)]
+#[derive(Clone, Copy, PartialEq, Eq)]
 pub enum Reason {
     /// This is not the statement of the header that belongs here.
     NotTheHeader,
@@ -128,6 +128,13 @@ impl Reason {
     }
 }
 
+/// In words too.
+impl fmt::Debug for Reason {
+    fn fmt<W: fmt::Write>(&self, f: &mut fmt::Formatter<W>) -> fmt::Result {
+        fmt::Display::fmt(self, f)
+    }
+}
+
 impl fmt::Display for Reason {
     fn fmt<W: fmt::Write>(&self, f: &mut fmt::Formatter<W>) -> fmt::Result {
         match self {
@@ -135,52 +142,50 @@ impl fmt::Display for Reason {
                 "the header is zephyr 1 or zephyr 2, cap N, pages N and rule held or rule loose",
             ),
             Reason::NotText => f.write_str("a byte of this line is not UTF-8"),
-            Reason::NotKnown(word) => write!(f, "the word {word} is not known here"),
-            Reason::NotAName(word) => write!(
+            Reason::NotKnown(word) => tell(f, "the word ", word, " is not known here"),
+            Reason::NotAName(word) => tell(
                 f,
-                "a name is a letter or _, then letters, digits and _, at most 32 in all, and not {word}"
+                "a name is a letter or _, then letters, digits and _, at most 32 in all, and not ",
+                word,
+                "",
             ),
-            Reason::NotAnInstr(word) => write!(
-                f,
-                "behind a label comes an instruction, and not {word}"
-            ),
+            Reason::NotAnInstr(word) => {
+                tell(f, "behind a label comes an instruction, and not ", word, "")
+            }
             Reason::WordCount => f.write_str("the statement has too few words or too many"),
-            Reason::NotDigits(word) => write!(f, "a number is 1 to 10 digits, and not {word}"),
+            Reason::NotDigits(word) => tell(f, "a number is 1 to 10 digits, and not ", word, ""),
             Reason::OutOfRange {
                 number,
                 least,
                 most,
-            } => write!(f, "{number} is not from {least} to {most}"),
+            } => tell_range(f, *number, *least, *most),
             Reason::Misplaced => f.write_str("the statement is not allowed here"),
-            Reason::NotAbove { key, last } => write!(
-                f,
-                "the key {key} is not above the last one, {last}"
-            ),
-            Reason::NoTransaction { number, count } => {
-                write!(
+            Reason::NotAbove { key, last } => tell_key(f, *key, *last),
+            Reason::NoTransaction { number, count } => tell_transaction(f, *number, *count),
+            Reason::NotOwnNumber { number, own } => tell_own(f, *number, *own),
+            Reason::NoName(name) => tell(f, "no program above has the name ", name, ""),
+            Reason::NameTwice(name) => tell(f, "a program above has the name ", name, " already"),
+            Reason::NoLabel(name) => {
+                tell(
                     f,
-                    "there is no transaction {number}: the number of programs is {count}"
+                    "the label ",
+                    name,
+                    " is not defined in the program above",
                 )
             }
-            Reason::NotOwnNumber { number, own } => {
-                write!(
-                    f,
-                    "the program that begins here has the number {own}, and not {number}"
-                )
+            Reason::LabelTwice(name) => {
+                tell(f, "the label ", name, " is in this program already")
             }
-            Reason::NoName(name) => write!(f, "no program above has the name {name}"),
-            Reason::NameTwice(name) => write!(f, "a program above has the name {name} already"),
-            Reason::NoLabel(name) => write!(
-                f,
-                "the label {name} is not defined in the program above"
-            ),
-            Reason::LabelTwice(name) => write!(f, "the label {name} is in this program already"),
             Reason::NoProgram { number, fault } => tell_program(f, *number, *fault),
             Reason::RowCount => f.write_str("there are at most 256 rows"),
-            Reason::PageCount { pages } => write!(
-                f,
-                "the rows up to here need more opening pages than {pages}"
-            ),
+            Reason::PageCount { pages } => {
+                tell(
+                    f,
+                    "the rows up to here need more opening pages than ",
+                    pages,
+                    "",
+                )
+            }
             Reason::InstrCount => f.write_str("a program has at most 64 instructions"),
             Reason::ProgramCount => f.write_str("there are at most 64 programs"),
             Reason::ChoiceCount => f.write_str("there are at most 4096 choices"),
@@ -191,6 +196,51 @@ impl fmt::Display for Reason {
     }
 }
 
+/// Writes a value between two texts.
+fn tell<W: fmt::Write, D: fmt::Display>(
+    f: &mut fmt::Formatter<W>,
+    before: &str,
+    value: &D,
+    behind: &str,
+) -> fmt::Result {
+    write!(f, "{before}{value}{behind}")
+}
+
+/// Writes why a number is refused.
+fn tell_range<W: fmt::Write>(
+    f: &mut fmt::Formatter<W>,
+    number: u64,
+    least: u64,
+    most: u64,
+) -> fmt::Result {
+    write!(f, "{number} is not from {least} to {most}")
+}
+
+/// Writes why a key is refused.
+fn tell_key<W: fmt::Write>(f: &mut fmt::Formatter<W>, key: u16, last: u16) -> fmt::Result {
+    write!(f, "the key {key} is not above the last one, {last}")
+}
+
+/// Writes why the number of a transaction is refused.
+fn tell_transaction<W: fmt::Write>(
+    f: &mut fmt::Formatter<W>,
+    number: u64,
+    count: usize,
+) -> fmt::Result {
+    write!(
+        f,
+        "there is no transaction {number}: the number of programs is {count}"
+    )
+}
+
+/// Writes why the number of a program is refused.
+fn tell_own<W: fmt::Write>(f: &mut fmt::Formatter<W>, number: u64, own: usize) -> fmt::Result {
+    write!(
+        f,
+        "the program that begins here has the number {own}, and not {number}"
+    )
+}
+
 /// Writes why a list of instructions is no program.
 fn tell_program<W: fmt::Write>(
     f: &mut fmt::Formatter<W>,
@@ -198,17 +248,20 @@ fn tell_program<W: fmt::Write>(
     fault: ProgramFault,
 ) -> fmt::Result {
     match fault {
-        ProgramFault::Empty => write!(f, "program {number} has no instruction"),
-        ProgramFault::Target(at) => {
-            write!(
-                f,
-                "program {number}: the target of instruction {at} (from 0) is outside the program"
-            )
-        }
-        ProgramFault::NoEnd => write!(f, "program {number} does not end with commit or abort"),
-        ProgramFault::TooLong => write!(f, "program {number} has more than 64 instructions"),
-        ProgramFault::Memory => write!(f, "there is no memory for program {number}"),
+        ProgramFault::Empty => tell(f, "program ", &number, " has no instruction"),
+        ProgramFault::Target(at) => tell_target(f, number, at),
+        ProgramFault::NoEnd => tell(f, "program ", &number, " does not end with commit or abort"),
+        ProgramFault::TooLong => tell(f, "program ", &number, " has more than 64 instructions"),
+        ProgramFault::Memory => tell(f, "there is no memory for program ", &number, ""),
     }
+}
+
+/// Writes which target of a program leads out of it.
+fn tell_target<W: fmt::Write>(f: &mut fmt::Formatter<W>, number: usize, at: u8) -> fmt::Result {
+    write!(
+        f,
+        "program {number}: the target of instruction {at} (from 0) is outside the program"
+    )
 }
 
 /// The first faulty line, from 1, and what is wrong with it.

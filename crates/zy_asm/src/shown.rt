@@ -32,12 +32,17 @@ impl fmt::Display for Shown {
     fn fmt<W: fmt::Write>(&self, f: &mut fmt::Formatter<W>) -> fmt::Result {
         f.write_str("'")?;
         for byte in self.bytes.iter().take(self.count) {
-            if byte.is_ascii_graphic() {
-                f.write_char(char::from(*byte))?;
-            } else {
-                write!(f, "\\x{byte:02x}")?;
-            }
+            tell_byte(f, *byte)?;
         }
         f.write_str(if self.is_cut { "'.." } else { "'" })
+    }
+}
+
+/// Writes a byte, or its number where it does not print.
+fn tell_byte<W: fmt::Write>(f: &mut fmt::Formatter<W>, byte: u8) -> fmt::Result {
+    if byte.is_ascii_graphic() {
+        f.write_char(char::from(byte))
+    } else {
+        write!(f, "\\x{byte:02x}")
     }
 }
