@@ -8,7 +8,7 @@ use zy_isa::ProgramFault;
 use zy_isa::scenario::opening_rows;
 
 /// What is at the place of a fault.
-#[derive(Clone, Copy, Debug, PartialEq, Eq)]
+#[derive(Clone, Copy, PartialEq, Eq)]
 pub enum Found {
     /// Nothing beyond the fault.
     Nothing,
@@ -50,47 +50,88 @@ pub enum Found {
     },
 }
 
+/// In words too.
+impl fmt::Debug for Found {
+    fn fmt<W: fmt::Write>(&self, f: &mut fmt::Formatter<W>) -> fmt::Result {
+        fmt::Display::fmt(self, f)
+    }
+}
+
 impl fmt::Display for Found {
     fn fmt<W: fmt::Write>(&self, f: &mut fmt::Formatter<W>) -> fmt::Result {
         match self {
             Found::Nothing => Ok(()),
             Found::Beginning(bytes) => tell_bytes(f, ", not with", bytes.as_slice()),
-            Found::Cut { field, there } => {
-                let size = field.size();
-                write!(f, ": {field} takes {size}, of which {there} are there")
-            }
-            Found::More(count) => write!(f, " for {count} more"),
-            Found::Number(number) => write!(f, ", not {number}"),
-            Found::Rows { rows, each, pages } => {
-                write!(
-                    f,
-                    ": there are {rows}, {each} on each page, and pages is {pages}"
-                )
-            }
-            Found::Keys { key, last } => write!(f, ": {key} comes behind {last}"),
-            Found::Target { target, count } => {
-                write!(
-                    f,
-                    ": it is {target}, and the number of instructions is {count}"
-                )
-            }
+            Found::Cut { field, there } => tell_cut(f, field, *there),
+            Found::More(count) => tell(f, " for ", *count, " more"),
+            Found::Number(number) => tell(f, ", not ", *number, ""),
+            Found::Rows { rows, each, pages } => tell_rows(f, *rows, *each, *pages),
+            Found::Keys { key, last } => tell_keys(f, *key, *last),
+            Found::Target { target, count } => tell_target(f, *target, *count),
             Found::LastWord(word) => tell_bytes(f, ", not with", word.as_slice()),
             Found::Word(word) => tell_bytes(f, ":", word.as_slice()),
             Found::Choice { bytes, txns } => {
                 tell_bytes(f, ":", bytes.as_slice())?;
-                write!(f, ", and the number of transactions is {txns}")
+                tell(f, ", and the number of transactions is ", *txns, "")
             }
         }
     }
+}
+
+/// Writes a number between two texts.
+fn tell<W: fmt::Write>(
+    f: &mut fmt::Formatter<W>,
+    before: &str,
+    number: usize,
+    behind: &str,
+) -> fmt::Result {
+    write!(f, "{before}{number}{behind}")
+}
+
+/// Writes how much of a field is there.
+fn tell_cut<W: fmt::Write>(f: &mut fmt::Formatter<W>, field: &Field, there: usize) -> fmt::Result {
+    let size = field.size();
+    write!(f, ": {field} takes {size}, of which {there} are there")
+}
+
+/// Writes how many rows there are, and for how many there is room.
+fn tell_rows<W: fmt::Write>(
+    f: &mut fmt::Formatter<W>,
+    rows: usize,
+    each: usize,
+    pages: usize,
+) -> fmt::Result {
+    write!(
+        f,
+        ": there are {rows}, {each} on each page, and pages is {pages}"
+    )
+}
+
+/// Writes which key comes behind which.
+fn tell_keys<W: fmt::Write>(f: &mut fmt::Formatter<W>, key: usize, last: usize) -> fmt::Result {
+    write!(f, ": {key} comes behind {last}")
+}
+
+/// Writes a target, and how many instructions there are.
+fn tell_target<W: fmt::Write>(f: &mut fmt::Formatter<W>, target: u32, count: usize) -> fmt::Result {
+    write!(
+        f,
+        ": it is {target}, and the number of instructions is {count}"
+    )
 }
 
 /// Writes some bytes, in hexadecimal digits.
 fn tell_bytes<W: fmt::Write>(f: &mut fmt::Formatter<W>, before: &str, bytes: &[u8]) -> fmt::Result {
     f.write_str(before)?;
     for byte in bytes {
-        write!(f, " {byte:02x}")?;
+        tell_byte(f, *byte)?;
     }
     Ok(())
+}
+
+/// Writes a byte, in hexadecimal digits.
+fn tell_byte<W: fmt::Write>(f: &mut fmt::Formatter<W>, byte: u8) -> fmt::Result {
+    write!(f, " {byte:02x}")
 }
 
 /// A fault of an image, its place there, and what is at it.
