@@ -146,6 +146,17 @@ where
     )
 }
 
+impl<C: Side, A: Side, B: Side> Crew<C, A, B> {
+    /// What they hand back, where each worker was started.
+    fn whole(self) -> Option<(Done<C>, Done<A>, Done<B>)> {
+        let Crew { c, a, b } = self;
+        let c = c?;
+        let a = a?;
+        let b = b?;
+        Some((c, a, b))
+    }
+}
+
 /// As `run_allowed`, under the names that the three ledgers have.
 fn run_named<S, C, A, B, R, G, W>(
     rt: &R,
@@ -182,7 +193,7 @@ where
     let (book_a, share_a) = a.open::<A>();
     let (book_b, share_b) = b.open::<B>();
     let desk = Mutex::new(open_desk::<S, C, A, B>(board, book_c, book_a, book_b));
-    let Crew { c, a, b } = run_crew(
+    let crew = run_crew(
         rt,
         gate,
         allowance,
@@ -191,11 +202,10 @@ where
         take_seat(share_a, turns_a),
         take_seat(share_b, turns_b),
     );
-    let desk = desk.into_inner();
-    let (Some(c), Some(a), Some(b)) = (c, a, b) else {
+    let Some((c, a, b)) = crew.whole() else {
         return Err(AllocError);
     };
-    close(desk, c, a, b)
+    close(desk.into_inner(), c, a, b)
 }
 
 /// Makes all choices of a scenario by three threads, one for each actor. Where one of them is out of memory it stops,
