@@ -148,7 +148,7 @@ impl Shelf {
             machine,
             at: Some(at),
         };
-        self.spots.push(spot).unwrap();
+        self.spots.push_reserved(spot);
         Ok(())
     }
 

@@ -9,7 +9,7 @@ use Rattle.zy_search.proofs.shelf.Shelf.add.Goals as goal
 pub returns : goal.returns
 returns c = λ h ps s lt here.
     let spot : Spot = record { machine = c.args.machine; at = Some c.args.at } in
-    let e : c.push.new.self.items ≡ c.args.self.now.spots.items ++ spot ∷ [] = search rules in
+    let e : c.push_reserved.new.self.items ≡ c.args.self.now.spots.items ++ spot ∷ [] = search rules in
     record {
       spots =
           subst (All (IsSpot h ps)) (sym e) (All-append (IsSpot h ps) c.args.self.now.spots.items (spot ∷ []) s.spots
