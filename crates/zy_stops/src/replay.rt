@@ -47,8 +47,7 @@ pub fn start(alloc: Global, scenario: Scenario) -> Result<Machine, Fault>
 {
     let ran = Machine::run_all(alloc, scenario)?;
     let whole = ran.share(alloc)?;
-    let machine = whole.reopen(alloc)?;
-    Ok(machine)
+    restart(alloc, &whole)
 }
 
 /// A machine of the same scenario that has made no choice of it yet.

@@ -1,6 +1,8 @@
-use Rattle.std.proofs.Common.{refl}
-use Rattle.zy_stops.proofs.ScanLemmas.{opens}
+use Rattle.std.proofs.Common.{◌≡◌, ◌∙◌, IfOk, ap, subst}
+use Rattle.zy_machine.specs.Histories.{History}
 use Rattle.zy_stops.proofs.replay.start.Goals as goal
 
-pub returns-clause-follows : goal.returns-clause-follows
-returns-clause-follows c = rw c.in_ok-machine.ensures (opens _ refl refl)
+pub returns-clause-scenario : goal.returns-clause-scenario
+returns-clause-scenario c =
+    subst (λ sc. IfOk c.restart.result (λ m. m.scenario ≡ sc)) (ap (λ (h : History). h.scenario) (c.in_ok-whole.ensures ∙ c.in_ok-ran.ensures.run))
+    c.restart.ensures.scenario
