@@ -193,6 +193,24 @@ impl Locks {
         self.locks.retain(|lock| lock.txn != txn);
     }
 
+    /// Makes room to become a copy of other locks.
+    pub fn reserve_copy(&mut self, other: &Locks) -> Result<(), AllocError>
+        ensures locks { self.new.locks ≡ self.old.locks }
+        ensures room { OnOk result (length other.now.locks ≤ length self.new.locks + self.new.spare) }
+    {
+        let more = other.len().saturating_sub(self.len());
+        self.locks.reserve(more)
+    }
+
+    /// Becomes a copy of other locks, for which there is room. It takes no memory.
+    pub fn set_to(&mut self, other: &Locks)
+        requires { length other.now.locks ≤ length self.old.locks + self.old.spare }
+        ensures { self.new.locks ≡ other.now.locks }
+    {
+        self.locks.clear();
+        self.locks.extend_from_slice(&other.locks).unwrap();
+    }
+
     /// A copy of the locks.
     pub fn copy(&self, alloc: Global) -> Result<Locks, AllocError>
         ensures { IfOk result (λ copy. copy.locks ≡ self.now.locks) }

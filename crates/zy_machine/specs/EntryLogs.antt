@@ -1,5 +1,5 @@
 -- What a machine keeps of its steps.
-use Rattle.std.specs.Prelude.{◌≡◌, ◌<◌, List, [], Some, length, slice_get, vec_capacity}
+use Rattle.std.specs.Prelude.{◌≡◌, ◌<◌, ◌≤◌, List, [], Option, Some, None, length, slice_get, vec_capacity}
 use Rattle.zy_isa.specs.declared.choice.Choice.{Choice}
 use Rattle.zy_table.specs.declared.entry.Entry.{Entry}
 use Rattle.zy_machine.specs.declared.entry_log.EntryLog.{EntryLog}
@@ -25,3 +25,15 @@ IsReadyFor c (Shared k) = IsNext c k.ahead
 abbrev pub Fits : Entry → EntryLog → Type 0
 Fits e (Own v) = length v.items < vec_capacity v
 Fits e (Shared k) = slice_get k.ahead 0 ≡ Some e
+
+-- both are their own, and the second has room for the steps of the first
+abbrev pub HasRoomFor : EntryLog → EntryLog → Type 0
+HasRoomFor (Own w) (Own v) = length w.items ≤ vec_capacity v
+HasRoomFor (Own w) (Shared k) = ⊥
+HasRoomFor (Shared j) (Own v) = ⊥
+HasRoomFor (Shared j) (Shared k) = ⊥
+
+-- the second can become a copy of the first: it has room, or this is one
+abbrev pub IsReadyToBe : EntryLog → EntryLog → Option EntryLog → Type 0
+IsReadyToBe other mine None = HasRoomFor other mine
+IsReadyToBe other mine (Some copy) = (entries_of copy ≡ entries_of other) × (ahead copy ≡ ahead other)

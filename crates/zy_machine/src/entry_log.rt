@@ -1,7 +1,7 @@
 //! What a machine keeps of the steps that were made.
 ghost use Rattle.std.specs.Prelude.{◌≡◌, ◌<◌, ◌⊎◌, ◌++◌, ◌∷◌, [], IfOk, IsOk, OnOk, true, length, take};
 ghost use Rattle.std.specs.Prelude.{drop, vec_capacity};
-ghost use Rattle.zy_machine.specs.EntryLogs.{entries_of, ahead, IsReadyFor, Fits};
+ghost use Rattle.zy_machine.specs.EntryLogs.{entries_of, ahead, IsReadyFor, Fits, HasRoomFor, IsReadyToBe};
 ghost use Rattle.zy_machine.specs.Trails.{IsNext};
 
 use std::alloc::{AllocError, Global};
@@ -129,11 +129,63 @@ impl EntryLog {
     {
         match self {
             EntryLog::Own(entries) => {
-                let mut copy = Vec::with_capacity(alloc, entries.len())?;
+                let mut copy = Vec::with_capacity(alloc, entries.len() + 1)?;
                 copy.extend_from_slice(entries)?;
                 Ok(EntryLog::Own(copy))
             }
             EntryLog::Shared(shared) => Ok(EntryLog::Shared(shared.copy()?)),
+        }
+    }
+
+    /// Makes ready to become a copy of another history: there is room for its steps, or a copy to take the place.
+    pub(crate) fn make_ready(
+        &mut self,
+        alloc: Global,
+        other: &EntryLog,
+    ) -> Result<Option<EntryLog>, AllocError>
+        ensures made { entries_of self.new ≡ entries_of self.old }
+        ensures ahead { ahead self.new ≡ ahead self.old }
+        ensures ready { IfOk result (IsReadyToBe other.now self.new) }
+    {
+        match self {
+            EntryLog::Own(mine) => match other {
+                EntryLog::Own(theirs) => {
+                    mine.reserve(theirs.len().saturating_sub(mine.len()))?;
+                    Ok(None)
+                }
+                EntryLog::Shared(_) => Ok(Some(other.copy(alloc)?)),
+            },
+            EntryLog::Shared(_) => Ok(Some(other.copy(alloc)?)),
+        }
+    }
+
+    /// Becomes a copy of another history, for which it is ready. It takes no memory.
+    pub(crate) fn set_to(&mut self, other: &EntryLog, ready: Option<EntryLog>)
+        requires { IsReadyToBe other.now self.old ready }
+        ensures made { entries_of self.new ≡ entries_of other.now }
+        ensures ahead { ahead self.new ≡ ahead other.now }
+    {
+        match ready {
+            Some(copy) => *self = copy,
+            None => self.set_own_to(other),
+        }
+    }
+
+    /// The same, where both are their own.
+    fn set_own_to(&mut self, other: &EntryLog)
+        requires { HasRoomFor other.now self.old }
+        ensures made { entries_of self.new ≡ entries_of other.now }
+        ensures ahead { ahead self.new ≡ ahead other.now }
+    {
+        match self {
+            EntryLog::Own(mine) => match other {
+                EntryLog::Own(theirs) => {
+                    mine.clear();
+                    mine.extend_from_slice(theirs).unwrap();
+                }
+                EntryLog::Shared(_) => unreachable!(),
+            },
+            EntryLog::Shared(_) => unreachable!(),
         }
     }
 

@@ -1,5 +1,5 @@
 //! The state of both nodes.
-ghost use Rattle.std.specs.Prelude.{◌≡◌, ◌≤◌, ◌<◌, IfOk, OnOk, OnErr, length};
+ghost use Rattle.std.specs.Prelude.{◌≡◌, ◌≤◌, ◌<◌, ℕ, IfOk, OnOk, OnErr, length};
 ghost use Rattle.zy_isa.specs.Limits.{max_txns};
 ghost use Rattle.zy_isa.specs.declared.node.Node.TheVariants.{A};
 ghost use Rattle.zy_table.specs.State.{facing};
@@ -15,6 +15,7 @@ ghost use Rattle.zy_steps.specs.Arrivals.{MayTake};
 ghost use Rattle.zy_machine.specs.NodePairs.{state_of, limits_in, AreLimited, IsMade, IsPossible, IsReady, Makes};
 ghost use Rattle.zy_machine.specs.NodePairs.{MayStart, Steps};
 
+use crate::following::{follow, news};
 use std::alloc::{AllocError, Global};
 use zy_isa::{Choice, Node, Scenario};
 use zy_modes::table::on_start;
@@ -47,19 +48,19 @@ impl NodePair {
         Ok(NodePair { alloc, a, b, book })
     }
 
-    /// Becomes a copy of another state. Where memory is refused nothing changes.
+    /// Becomes a copy of another state. Where memory is refused nothing changes. What is the same already is not copied,
+    /// and the rest goes into the room that there is.
     pub(crate) fn set_to(&mut self, other: &NodePair) -> Result<(), AllocError>
         ensures ok { OnOk result (state_of self.new ≡ state_of other.now) }
         ensures err { OnErr result (state_of self.new ≡ state_of self.old) }
-        ensures limits { OnOk result (limits_in self.new ≡ limits_in other.now) }
-        ensures kept { OnErr result (limits_in self.new ≡ limits_in self.old) }
+        ensures limits { (n : ℕ) → AreLimited n self.old → AreLimited n other.now → AreLimited n self.new }
     {
-        let a = other.a.copy_parts(self.alloc)?;
-        let b = other.b.copy_parts(self.alloc)?;
-        let book = other.book.copy(self.alloc)?;
-        self.a.set_to(&other.a, a);
-        self.b.set_to(&other.b, b);
-        self.book = book;
+        let alloc = self.alloc;
+        let a = news(alloc, &mut self.a, &other.a)?;
+        let b = news(alloc, &mut self.b, &other.b)?;
+        self.book.set_to(alloc, &other.book)?;
+        follow(&mut self.a, &other.a, a);
+        follow(&mut self.b, &other.b, b);
         Ok(())
     }
 

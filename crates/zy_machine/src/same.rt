@@ -74,7 +74,7 @@ fn same_locks(xs: &[Lock], ys: &[Lock]) -> bool
 }
 
 /// The same of the low keys of two wireframes.
-fn same_wire(x: &Option<Wire>, y: &Option<Wire>) -> bool
+pub(crate) fn same_wire(x: &Option<Wire>, y: &Option<Wire>) -> bool
     ensures { result ≡ true → lows_in x.now ≡ lows_in y.now }
 {
     match (x, y) {
@@ -100,7 +100,7 @@ fn same_lows(x: &Wire, y: &Wire) -> bool
 }
 
 /// The same of the messages on their way.
-fn same_messages(x: &Link, y: &Link) -> bool
+pub(crate) fn same_messages(x: &Link, y: &Link) -> bool
     ensures { result ≡ true → messages_of x.now.messages ≡ messages_of y.now.messages }
 {
     if x.len() != y.len() {

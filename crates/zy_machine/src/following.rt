@@ -1,0 +1,93 @@
+//! How a node becomes a copy of another one, with little memory.
+ghost use Rattle.std.specs.Prelude.{◌≡◌, ◌≤◌, ◌+◌, ℕ, IfOk, OnOk, OnErr, length};
+ghost use Rattle.zy_links.specs.Messages.{message_of, messages_of};
+ghost use Rattle.zy_node.specs.Nodes.{node_shown, limits_of, IsLimited};
+ghost use Rattle.zy_machine.specs.Followings.{AreNews, IsNewMail, IsNewWire, mail_after, wire_after};
+
+use crate::same::{same_messages, same_wire};
+use std::alloc::{AllocError, Global};
+use zy_node::wireframe::copy;
+use zy_node::{Mailbox, NodeStore};
+use zy_wire::Wire;
+
+/// What a node gets to become a copy of another one; none of what it has already.
+#[derive(Drop)]
+pub(crate) struct NewParts {
+    wire: Option<Option<Wire>>,
+    outbox: Option<Mailbox>,
+}
+
+/// A copy of another wireframe, if this one is not the same.
+fn new_wire(
+    alloc: Global,
+    mine: &Option<Wire>,
+    other: &Option<Wire>,
+) -> Result<Option<Option<Wire>>, AllocError>
+    ensures { IfOk result (IsNewWire mine.now other.now) }
+{
+    if same_wire(mine, other) {
+        return Ok(None);
+    }
+    Ok(Some(copy(other, alloc)?))
+}
+
+/// A copy of other messages, if these are not the same.
+fn new_outbox(alloc: Global, mine: &Mailbox, other: &Mailbox) -> Result<Option<Mailbox>, AllocError>
+    ensures { IfOk result (IsNewMail mine.now other.now) }
+{
+    if same_messages(mine.link(), other.link()) {
+        return Ok(None);
+    }
+    Ok(Some(other.copy(alloc)?))
+}
+
+/// What a node gets to become a copy of another one, for whose locks it makes room.
+pub(crate) fn news(
+    alloc: Global,
+    mine: &mut NodeStore,
+    other: &NodeStore,
+) -> Result<NewParts, AllocError>
+    ensures news { IfOk result (AreNews mine.new other.now) }
+    ensures node { node_shown mine.new ≡ node_shown mine.old }
+    ensures outbox { mine.new.outbox ≡ mine.old.outbox }
+    ensures limits { limits_of mine.new ≡ limits_of mine.old }
+{
+    mine.locks.reserve_copy(&other.locks)?;
+    let wire = new_wire(alloc, &mine.wire, &other.wire)?;
+    let outbox = new_outbox(alloc, &mine.outbox, &other.outbox)?;
+    Ok(NewParts { wire, outbox })
+}
+
+/// Puts a wireframe, if there is one.
+fn put_wire(wire: &mut Option<Wire>, new: Option<Option<Wire>>)
+    ensures { wire.new ≡ wire_after wire.old new }
+{
+    if let Some(new) = new {
+        *wire = new;
+    }
+}
+
+/// Puts messages, if there are any.
+fn put_outbox(outbox: &mut Mailbox, new: Option<Mailbox>)
+    ensures { outbox.new ≡ mail_after outbox.old new }
+{
+    if let Some(new) = new {
+        *outbox = new;
+    }
+}
+
+/// A node becomes a copy of another one. It takes no memory.
+pub(crate) fn follow(mine: &mut NodeStore, other: &NodeStore, news: NewParts)
+    requires { AreNews mine.old other.now news }
+    ensures node { node_shown mine.new ≡ node_shown other.now }
+    ensures outbox { mine.new.outbox.messages ≡ other.now.outbox.messages }
+    ensures limits { (n : ℕ) → IsLimited n mine.old → IsLimited n other.now → IsLimited n mine.new }
+{
+    let NewParts { wire, outbox } = news;
+    mine.mode = other.mode;
+    put_wire(&mut mine.wire, wire);
+    mine.pages.set_to(&other.pages);
+    mine.asked.set_to(&other.asked);
+    mine.locks.set_to(&other.locks);
+    put_outbox(&mut mine.outbox, outbox);
+}

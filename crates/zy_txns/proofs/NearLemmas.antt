@@ -1,0 +1,46 @@
+-- Transactions that become copies of others one by one.
+use Rattle.std.proofs.Common.{◌≡◌, ◌++◌, ℕ, zero, suc, ◌<◌, List, [], ◌∷◌, length, take, drop, get_or, refl, ap, arith}
+use Rattle.std.proofs.Math.ListN.{set}
+use Rattle.zy_table.specs.State.{Txn}
+use Rattle.zy_txns.specs.Near.{IsNear, AreNear}
+
+-- they are as many
+pub near-length : (xs ys : List Txn) → AreNear xs ys → length xs ≡ length ys
+near-length [] [] h = refl
+near-length [] (y ∷ ys) h = absurd h
+near-length (x ∷ xs) [] h = absurd h
+near-length (x ∷ xs) (y ∷ ys) h = ap suc (near-length xs ys h.1)
+
+-- before one of them becomes a copy it is near to the other one
+pub near-at : (t : ℕ) (xs ys : List Txn) (d e : Txn) → AreNear xs ys → t < length ys → IsNear (get_or (take t ys ++ drop t xs) t d) (get_or ys t e)
+near-at t xs [] d e h lt = absurd (omega (arith, lt))
+near-at t [] (y ∷ ys) d e h lt = absurd h
+near-at zero (x ∷ xs) (y ∷ ys) d e h lt = h.0
+near-at (suc t) (x ∷ xs) (y ∷ ys) d e h lt = near-at t xs ys d e h.1 (omega (arith, lt))
+
+-- one more is a copy
+pub set-at : (t : ℕ) (xs ys : List Txn) (e : Txn) → AreNear xs ys → t < length ys
+    → set (take t ys ++ drop t xs) t (get_or ys t e) ≡ take (suc t) ys ++ drop (suc t) xs
+set-at t xs [] e h lt = absurd (omega (arith, lt))
+set-at t [] (y ∷ ys) e h lt = absurd h
+set-at zero (x ∷ xs) (y ∷ ys) e h lt = refl
+set-at (suc t) (x ∷ xs) (y ∷ ys) e h lt = ap (λ zs. y ∷ zs) (set-at t xs ys e h.1 (omega (arith, lt)))
+
+-- so many there are on the way
+pub length-at : (t : ℕ) (xs ys : List Txn) → AreNear xs ys → length (take t ys ++ drop t xs) ≡ length ys
+length-at zero xs ys h = near-length xs ys h
+length-at (suc t) [] [] h = refl
+length-at (suc t) [] (y ∷ ys) h = absurd h
+length-at (suc t) (x ∷ xs) [] h = absurd h
+length-at (suc t) (x ∷ xs) (y ∷ ys) h = ap suc (length-at t xs ys h.1)
+
+-- in the end all are
+pub all-copies : (n : ℕ) (xs ys : List Txn) → AreNear xs ys → length ys ≡ n → take n ys ++ drop n xs ≡ ys
+all-copies zero [] [] h e = refl
+all-copies zero [] (y ∷ ys) h e = absurd h
+all-copies zero (x ∷ xs) [] h e = absurd h
+all-copies zero (x ∷ xs) (y ∷ ys) h e = absurd (omega (arith, e))
+all-copies (suc n) [] [] h e = refl
+all-copies (suc n) [] (y ∷ ys) h e = absurd h
+all-copies (suc n) (x ∷ xs) [] h e = absurd h
+all-copies (suc n) (x ∷ xs) (y ∷ ys) h e = ap (λ zs. y ∷ zs) (all-copies n xs ys h.1 (omega (arith, e)))
