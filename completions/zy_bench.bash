@@ -9,7 +9,7 @@ _zy_bench() {
   case ${COMP_WORDS[1]} in
     run | threads | trace) options='--image --help' ;;
     debug) options='--every --ring --help' ;;
-    search) options='--image --for --kill --states --help' ;;
+    search) options='--image --for --always --kill --states --help' ;;
     help) options='run asm dis check threads trace debug search' ;;
     *) options='--help' ;;
   esac

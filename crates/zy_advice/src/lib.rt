@@ -14,7 +14,7 @@ mod label;
 pub mod line;
 mod meant;
 mod order;
-mod place;
+pub mod place;
 mod program;
 mod programs;
 pub mod text;

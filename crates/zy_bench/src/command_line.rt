@@ -1,14 +1,12 @@
 //! The command line.
 
-use clap::builder::ValueParser;
 use clap::{Arg, ArgAction, ArgMatches, Command, value_parser};
 use std::alloc::{AllocError, Global};
 use zy_engine::Format;
-use zy_search::{Reason, Sought, Wanted};
 
 /// What is asked for.
 #[derive(Clone, Copy, Debug, PartialEq, Eq)]
-pub enum Request {
+pub enum Request<'a> {
     /// Print something of a scenario.
     Convert(Conversion),
     /// Say whether the input is a listing.
@@ -16,14 +14,19 @@ pub enum Request {
     /// Answer commands on the run of a scenario.
     Debug(Checkpoints),
     /// Look for a schedule.
-    Search(Quest),
+    Search(Quest<'a>),
 }
 
 /// What a search is to go by.
 #[derive(Clone, Copy, Debug, PartialEq, Eq)]
-pub struct Quest {
+pub struct Quest<'a> {
     pub format: Format,
-    pub sought: Sought,
+    /// What is looked for, in words.
+    pub text: &'a str,
+    /// The words say what is always so: a state is looked for where it is not.
+    pub is_always: bool,
+    /// Whether the client may kill transactions.
+    pub kills: bool,
     /// The most states that it may reach.
     pub most: u32,
 }
@@ -167,25 +170,15 @@ fn debug_command<'a>(alloc: Global) -> Result<Command<'a>, AllocError> {
 
 /// `search`.
 fn search_command<'a>(alloc: Global) -> Result<Command<'a>, AllocError> {
-    let words: &'a [&'a str] = &[
-        "differs",
-        "aborted",
-        "own",
-        "killed",
-        "badkey",
-        "missing",
-        "duplicate",
-        "frozen",
-        "nopage",
-        "gone",
-        "committed",
-        "stuck",
-    ];
     let wanted = Arg::new(alloc, "for")
         .long("for")
-        .value_name("WHAT")
-        .value_parser(ValueParser::Names(words))
+        .value_name("GOAL")
         .help("What a state must show, else differs");
+    let always = Arg::new(alloc, "always")
+        .long("always")
+        .value_name("GOAL")
+        .conflicts_with("for")?
+        .help("What every state is to show: a state is looked for that does not");
     let kills = Arg::new(alloc, "kill")
         .long("kill")
         .action(ArgAction::SetTrue)
@@ -200,10 +193,11 @@ fn search_command<'a>(alloc: Global) -> Result<Command<'a>, AllocError> {
             "Looks for a schedule of the scenario on standard input after which a state shows something",
         )
         .after_help(
-            "Input:   a scenario text, or with --image an image, at most 4194304 bytes; its choices are steps\n         already taken\nOutput:  the scenario with a shortest list of further choices that leads there; nothing where\n         there is none. Standard error has the number of states reached; a fault is one line there\nStatus:  0 found, 1 the input is refused, 2 the command line is wrong, 3 out of memory,\n         4 no schedule shows it, 5 the input or the output failed, 6 it gave up\n\nWHAT:    differs (another database than that of the serial run), aborted or the reason (own, killed,\n         badkey, missing, duplicate, frozen, nopage, gone), committed (all transactions), stuck (a\n         transaction is active, and nothing comes of any choice). docs/search.md describes them all.\n\nExample:\n  zy_bench search --for gone < examples/gone.zephyr | zy_bench run",
+            "Input:   a scenario text, or with --image an image, at most 4194304 bytes; its choices are steps\n         already taken\nOutput:  the scenario with a shortest list of further choices that leads there; nothing where\n         there is none. Standard error has the number of states reached; a fault is one line there\nStatus:  0 found, 1 the input is refused, 2 the command line is wrong, 3 out of memory,\n         4 no schedule shows it, 5 the input or the output failed, 6 it gave up\n\nGOAL:    facts with and, or, not and brackets, and behind them then and an outcome of the listing.\n         Facts: differs (another database than that of the serial run), aborted or the reason (own,\n         killed, badkey, missing, duplicate, frozen, nopage, gone), committed (all transactions),\n         stuck (a transaction is active, and nothing comes of any choice), mode A sdual, page 3 at B,\n         page 3 moving, txn 0 active, txn 0 aborted gone, txn 1 committed before 0, link AB has pull,\n         key 10 = 5, sum 1 to 8 != 800, reg 0 r2 > 60 and more. docs/search.md describes them all.\n\nExamples:\n  zy_bench search --for gone < examples/gone.zephyr | zy_bench run\n  zy_bench search --for 'txn 0 active and page 3 moving then pulls' < SCENARIO",
         )
         .arg(image_flag(alloc))?
         .arg(wanted)?
+        .arg(always)?
         .arg(kills)?
         .arg(states)
 }
@@ -226,7 +220,7 @@ pub fn command<'a>(alloc: Global) -> Result<Command<'a>, AllocError> {
 }
 
 /// What the words ask for.
-pub fn request_of(matches: &ArgMatches<'_>) -> Option<Request> {
+pub fn request_of<'a>(matches: &ArgMatches<'a>) -> Option<Request<'a>> {
     match matches.subcommand() {
         Some(("run", words)) => Some(Request::Convert(Conversion::Run(format_of(words)))),
         Some(("trace", words)) => Some(Request::Convert(Conversion::Trace(format_of(words)))),
@@ -240,37 +234,14 @@ pub fn request_of(matches: &ArgMatches<'_>) -> Option<Request> {
     }
 }
 
-/// What a word of `--for` names; none is the first one.
-fn wanted_of(word: &str) -> Wanted {
-    let named = [
-        ("aborted", Wanted::Aborted(Reason::Any)),
-        ("own", Wanted::Aborted(Reason::Own)),
-        ("killed", Wanted::Aborted(Reason::Killed)),
-        ("badkey", Wanted::Aborted(Reason::BadKey)),
-        ("missing", Wanted::Aborted(Reason::Missing)),
-        ("duplicate", Wanted::Aborted(Reason::Duplicate)),
-        ("frozen", Wanted::Aborted(Reason::Frozen)),
-        ("nopage", Wanted::Aborted(Reason::NoPage)),
-        ("gone", Wanted::Aborted(Reason::Gone)),
-        ("committed", Wanted::Committed),
-        ("stuck", Wanted::Stuck),
-    ];
-    for (name, wanted) in &named {
-        if *name == word {
-            return *wanted;
-        }
-    }
-    Wanted::Differs
-}
-
 /// What a search is to go by; what was left out is `differs` and a million states.
-fn quest_of(words: &ArgMatches<'_>) -> Quest {
+fn quest_of<'a>(words: &ArgMatches<'a>) -> Quest<'a> {
+    let always = words.get_str("always");
     Quest {
         format: format_of(words),
-        sought: Sought {
-            wanted: wanted_of(words.get_str("for").unwrap_or("differs")),
-            kills: words.get_flag("kill"),
-        },
+        text: always.or(words.get_str("for")).unwrap_or("differs"),
+        is_always: always.is_some(),
+        kills: words.get_flag("kill"),
         most: words.get_one("states").unwrap_or(1_000_000),
     }
 }

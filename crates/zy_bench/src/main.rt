@@ -7,6 +7,7 @@ mod advised;
 mod command_line;
 mod excerpt;
 mod listing;
+mod marked;
 mod output;
 mod progress;
 mod redirected;
@@ -16,9 +17,11 @@ use clap::error::ErrorKind;
 use command_line::{Checkpoints, Conversion, Quest, Request, command, request_of};
 use excerpt::Differing;
 use listing::LineKept;
+use marked::Marked;
 use output::Output;
 use progress::Progress;
 use redirected::Redirected;
+use std::alloc::Global;
 use std::io;
 use std::io::{BufWriter, IsTerminal, Write};
 use std::process::ExitCode;
@@ -34,9 +37,12 @@ use zy_engine::engine::{asm_bytes, dis_bytes, run_bytes, trace_bytes};
 use zy_engine::searching::search_bytes;
 use zy_engine::threading::threads_bytes;
 use zy_engine::{BenchFault, Format};
+use zy_goals::ReadFault;
+use zy_goals::named::txns_named;
+use zy_goals::reading::{read_always, read_goal};
 use zy_io::reading::read_all;
 use zy_io::{CountingReader, SliceSource};
-use zy_search::{Answer, Report};
+use zy_search::{Answer, Report, Sought};
 use zy_text::cut::cut_len;
 use zy_threads::FreeGate;
 
@@ -150,22 +156,57 @@ fn debug<R: Input + AllocGlobal, W: Write>(
     Ok(DONE)
 }
 
-/// Searches the schedules of the scenario on standard input, and gives the exit status. It says how far it is where
-/// standard error is a terminal.
+/// What a quest is for.
+fn sought_of(alloc: Global, quest: Quest<'_>) -> Result<Sought, ReadFault> {
+    let text = quest.text.as_bytes();
+    let asked = if quest.is_always {
+        read_always(alloc, text)?
+    } else {
+        read_goal(alloc, text)?
+    };
+    Ok(Sought {
+        goal: asked.goal,
+        then: asked.then,
+        kills: quest.kills,
+    })
+}
+
+/// Searches the schedules of the scenario on standard input, and gives the exit status; without a goal it reads
+/// nothing.
 fn search<R: Eprint + Input + AllocGlobal + Clock, W: Write>(
     rt: &R,
-    quest: Quest,
+    quest: Quest<'_>,
     input: &mut Vec<u8>,
     output: &mut Output<W>,
     is_terminal: bool,
 ) -> Result<u8, BenchFault>
     requires { output.old.1 < u64.MAX }
 {
-    let Quest {
-        format,
-        sought,
-        most,
-    } = quest;
+    match sought_of(rt.alloc(), quest) {
+        Ok(sought) => search_for(rt, quest, sought, input, output, is_terminal),
+        Err(ReadFault::Memory) => Err(BenchFault::Memory),
+        Err(ReadFault::Refused(refusal)) => {
+            let marked = Marked::of(quest, refusal);
+            let _ = eprintln!(rt; "zy_bench: {marked}");
+            Ok(COMMAND_LINE)
+        }
+    }
+}
+
+/// Searches the schedules of the scenario on standard input, and gives the exit status. It says how far it is where
+/// standard error is a terminal.
+fn search_for<R: Eprint + Input + AllocGlobal + Clock, W: Write>(
+    rt: &R,
+    quest: Quest<'_>,
+    sought: Sought,
+    input: &mut Vec<u8>,
+    output: &mut Output<W>,
+    is_terminal: bool,
+) -> Result<u8, BenchFault>
+    requires { output.old.1 < u64.MAX }
+{
+    let Quest { format, most, .. } = quest;
+    let named = txns_named(&sought.goal);
     let mut source = CountingReader::new(rt.reader());
     let mut progress = Progress::new(rt, is_terminal);
     let searched = search_bytes(
@@ -181,7 +222,18 @@ fn search<R: Eprint + Input + AllocGlobal + Clock, W: Write>(
     progress.clear();
     let report = searched?;
     flush(output)?;
+    warn(rt, usize::from(named), report.txns);
     Ok(sum_up(rt, &report))
+}
+
+/// Warns on standard error where a goal names a transaction that the scenario does not have.
+fn warn(rt: &impl Eprint, named: usize, txns: usize) {
+    if txns < named {
+        let t = named.saturating_sub(1);
+        let _ = eprintln!(rt;
+            "zy_bench: the goal speaks of transaction {t}, and the scenario has {txns}, from 0 on"
+        );
+    }
 }
 
 /// Reports on standard error what came of a search, and gives the exit status.
@@ -259,7 +311,7 @@ fn unprinted(error: &io::Error) -> BenchFault {
 }
 
 /// The command that a request is of.
-fn command_of(request: Request) -> Reader {
+fn command_of(request: Request<'_>) -> Reader {
     match request {
         Request::Convert(Conversion::Run(_)) => Reader::Run,
         Request::Convert(Conversion::Trace(_)) => Reader::Trace,
@@ -275,7 +327,7 @@ fn command_of(request: Request) -> Reader {
 /// Carries a request out, and gives the exit status.
 fn carry_out<R: Print + Eprint + Input + AllocGlobal + Clock + Threads + Wait + Sync>(
     rt: &R,
-    request: Request,
+    request: Request<'_>,
     is_terminal: bool,
 ) -> u8 {
     let Ok(buffer) = BufWriter::new(rt.alloc(), io::writer(rt)) else {
@@ -297,7 +349,7 @@ fn carry_out<R: Print + Eprint + Input + AllocGlobal + Clock + Threads + Wait + 
 }
 
 /// Reports a fault of an input on standard error, and what to do about it, and gives the exit status.
-fn advise(rt: &impl Eprint, request: Request, input: &[u8], fault: BenchFault) -> u8 {
+fn advise(rt: &impl Eprint, request: Request<'_>, input: &[u8], fault: BenchFault) -> u8 {
     let advised = Advised::of(command_of(request), input, fault);
     let _ = eprintln!(rt; "zy_bench: {advised}");
     fault.status()

@@ -51,7 +51,7 @@ node_considered : (kills : Bool) (count : ℕ) (n : Node) → AreConsidered kill
 node_considered kills count n = append kills count (each (Run n) count) (Take n ∷ Finish n ∷ Push n ∷ []) (runs kills count n) (refl, (refl, (refl, tt)))
 
 -- all of the list
-all_considered : (kills : Bool) (count : ℕ) → AreConsidered kills count (considered kills count)
+pub all_considered : (kills : Bool) (count : ℕ) → AreConsidered kills count (considered kills count)
 all_considered kills count =
     append kills count (Start ∷ each Begin count) _ (refl, begins kills count)
     (append kills count (killing kills count) _ (kills_considered kills count)

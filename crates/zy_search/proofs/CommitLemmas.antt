@@ -1,5 +1,7 @@
 -- Only a commit makes another database, and another serial run.
-use Rattle.std.proofs.Common.{◌≡◌, ◌∙◌, sym, ap, subst, List}
+use Rattle.std.proofs.Common.{◌≡◌, ◌∙◌, ◌&&◌, not, sym, ap, subst, refl, List, Bool, true, Option, Some, None, is_none}
+use Rattle.std.proofs.Math.Bool.{false≢true}
+use Rattle.std.proofs.lemmas.Bool.{and_parts}
 use Rattle.zy_isa.specs.declared.choice.Choice.{Choice}
 use Rattle.zy_isa.specs.Scenario.{Scenario}
 use Rattle.zy_table.specs.State.{State}
@@ -12,15 +14,23 @@ use Rattle.zy_machine.specs.Histories.{History, IsReplay, choices_of}
 use Rattle.zy_audit.specs.Lone.{map_of}
 use Rattle.zy_audit.specs.SameMaps.{same_map, is_serial}
 use Rattle.zy_search.specs.declared.sought.Sought.{Sought}
-use Rattle.zy_search.specs.declared.sought.Wanted.{Wanted}
-use Rattle.zy_search.specs.declared.sought.Wanted.TheVariants as wanted
-use Rattle.zy_search.specs.Searches.{Shows, ShowsIt}
+use Rattle.zy_goals.specs.declared.events.Event.{Event}
+use Rattle.zy_goals.specs.Goals.{holds}
+use Rattle.zy_goals.specs.Commits.{is_of_commits}
+use Rattle.zy_goals.proofs.CommitLemmas.{same_goal}
+use Rattle.zy_search.specs.Searches.{Shows, shows, told, may_follow, is_by_commits}
 
--- a step without a commit does not make the database differ from that of the serial run
+-- where no step is asked for none follows
+nothing_follows : (sc xc : Scenario) (kills : Bool) (o : Option Event) (s r : State) → is_none o ≡ true
+    → may_follow sc kills o s ≡ may_follow xc kills o r
+nothing_follows sc xc kills None s r e = refl
+nothing_follows sc xc kills (Some x) s r e = absurd (false≢true e)
+
+-- a step without a commit does not bring about what only a commit can
 pub never_by_others : (b m : History) (q : Sought) (c : Choice) → IsReplay b → m.scenario ≡ b.scenario → m.state ≡ (step b.scenario c b.state).after
-    → m.state.commits ≡ b.state.commits → q.wanted ≡ wanted.Differs
+    → m.state.commits ≡ b.state.commits → is_by_commits q ≡ true
     → (Shows b.scenario q b.state → ⊥) → Shows m.scenario q m.state → ⊥
-never_by_others b m q c r e f same w none shown =
+never_by_others b m q c r e f same by none shown =
     let sc = b.scenario in
     let alone = subst (λ (s : State). (step sc c s).after.commits ≡ s.commits → database (step sc c s).after ≡ database s) (sym r.state)
     (commits_alone sc r.tested (choices_of b.entries) c) in
@@ -29,4 +39,9 @@ never_by_others b m q c r e f same w none shown =
     ap (λ (x : Scenario). is_serial x m.state) e
     ∙ (ap (λ (x : Map). same_map x (serial sc (map_of sc.rows) m.state.commits)) pages
     ∙ ap (λ (x : List CommitRecord). same_map (database b.state) (serial sc (map_of sc.rows) x)) same) in
-    none (subst (λ (x : Wanted). ShowsIt sc q.kills x b.state) (sym w) (sym is ∙ subst (λ (x : Wanted). ShowsIt m.scenario q.kills x m.state) w shown))
+    let parts = and_parts (is_none q.then) (is_of_commits q.goal) by in
+    let goals = same_goal m.state b.state pages same (told m.scenario q.kills m.state) (told sc q.kills b.state) (ap not is) q.goal parts.1 in
+    let follows = nothing_follows m.scenario sc q.kills q.then m.state b.state parts.0 in
+    let all : shows m.scenario q m.state ≡ shows sc q b.state =
+    ap (λ (x : Bool). x && may_follow m.scenario q.kills q.then m.state) goals ∙ ap (λ (x : Bool). holds (told sc q.kills b.state) q.goal b.state && x) follows in
+    none (sym all ∙ shown)

@@ -3,8 +3,8 @@ pub mod ChoiceLemmas
 pub mod SearchLemmas
 pub mod ScheduleLemmas
 pub mod StillSteps
-pub mod TxnLemmas
 pub mod CommitLemmas
 pub mod ShelfLemmas
 pub mod EdgeLemmas
 pub mod MeetLemmas
+pub mod LastLemmas

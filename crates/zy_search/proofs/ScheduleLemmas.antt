@@ -1,6 +1,9 @@
 -- The run of the scenario that a search hands out.
-use Rattle.std.proofs.Common.{◌≡◌, ◌∙◌, ℕ, List, [], ◌∷◌, ◌++◌, length, refl, sym, ap, subst, arith, length-append, Bool, true}
+use Rattle.std.proofs.Common.{◌≡◌, ◌∙◌, ℕ, List, [], ◌∷◌, ◌++◌, ◌&&◌, ◌||◌, not, length, refl, sym, ap, subst, arith, length-append, Bool, true, false}
+use Rattle.std.proofs.Common.{Option, Some, None}
 use Rattle.std.proofs.Math.Bool.{false≢true}
+use Rattle.std.proofs.lemmas.Bool.{and_parts}
+use Rattle.std.specs.List.{list_all, list_any}
 use Rattle.zy_isa.specs.declared.choice.Choice.{Choice}
 use Rattle.zy_isa.specs.declared.rule.Rule.TheVariants.{Held}
 use Rattle.zy_isa.specs.Scenario.{Scenario, IsScenario, AreNamed}
@@ -15,10 +18,16 @@ use Rattle.zy_machine.proofs.HistoryLemmas.{length-choices_of}
 use Rattle.zy_audit.specs.SameMaps.{same_map, is_serial}
 use Rattle.zy_audit.specs.Lone.{map_of}
 use Rattle.zy_search.specs.declared.sought.Sought.{Sought}
-use Rattle.zy_search.specs.declared.sought.Wanted.{Wanted}
-use Rattle.zy_search.specs.declared.sought.Wanted.TheVariants as wanted
-use Rattle.zy_search.specs.Searches.{reached, Shows, ShowsIt, Finds}
-use Rattle.zy_search.specs.Stuck.{is_still}
+use Rattle.zy_goals.specs.declared.goal.Which.TheVariants as which
+use Rattle.zy_goals.specs.declared.goal.Trait.TheVariants as txn
+use Rattle.zy_goals.specs.declared.goal.Fact.TheVariants.{Differs}
+use Rattle.zy_goals.specs.declared.goal.Goal.{Goal, Is}
+use Rattle.zy_goals.specs.declared.events.Event.{Event}
+use Rattle.zy_goals.specs.Goals.{Told, holds, are_txns}
+use Rattle.zy_goals.specs.Events.{is_event}
+use Rattle.zy_search.specs.Choices.{considered}
+use Rattle.zy_search.specs.Searches.{reached, told, may_follow, shows, Shows, Finds}
+use Rattle.zy_search.specs.Stuck.{is_still, is_stuck}
 use Rattle.zy_laws.specs.Orders.{reordered}
 use Rattle.zy_laws.proofs.walk.Reordered.{one, play-reordered, opening-reordered}
 use Rattle.zy_search.specs.Schedules.{scheduled, ending}
@@ -45,38 +54,54 @@ ends h cs r =
     ∙ (play-append sc (opening sc) before cs
     ∙ ap (λ (s : State). play sc s cs) (sym r.state)))
 
--- what a state shows does not ask for the choices that the scenario names
-pub shows_back : (sc : Scenario) (order : List Choice) (kills : Bool) (w : Wanted) (s : State) → ShowsIt (reordered sc order) kills w s → ShowsIt sc kills w s
-shows_back sc order kills wanted.Differs s e = ap (same_map (database s)) (sym (serial-reordered sc order (map_of sc.rows) s.commits)) ∙ e
-shows_back sc order kills (wanted.Aborted r) s e = e
-shows_back sc order kills wanted.Committed s e = e
-shows_back sc order kills wanted.Stuck s e = record {
-  active = e.active;
-  still = λ c a. subst (λ (x : Step). is_still x.outcome ≡ true) (one sc order c s) (e.still c a);
-}
+-- one test for another, of each of some choices, or of one of them
+all_alike : (f g : Choice → Bool) → ((c : Choice) → f c ≡ g c) → (cs : List Choice) → list_all f cs ≡ list_all g cs
+all_alike f g e [] = refl
+all_alike f g e (c ∷ cs) = ap (λ b. b && list_all f cs) (e c) ∙ ap (λ b. g c && b) (all_alike f g e cs)
 
--- nor does what a state shows
-shows_too : (sc : Scenario) (order : List Choice) (kills : Bool) (w : Wanted) (s : State) → ShowsIt sc kills w s → ShowsIt (reordered sc order) kills w s
-shows_too sc order kills wanted.Differs s e = ap (same_map (database s)) (serial-reordered sc order (map_of sc.rows) s.commits) ∙ e
-shows_too sc order kills (wanted.Aborted r) s e = e
-shows_too sc order kills wanted.Committed s e = e
-shows_too sc order kills wanted.Stuck s e = record {
-  active = e.active;
-  still = λ c a. subst (λ (x : Step). is_still x.outcome ≡ true) (sym (one sc order c s)) (e.still c a);
-}
+any_alike : (f g : Choice → Bool) → ((c : Choice) → f c ≡ g c) → (cs : List Choice) → list_any f cs ≡ list_any g cs
+any_alike f g e [] = refl
+any_alike f g e (c ∷ cs) = ap (λ b. b || list_any f cs) (e c) ∙ ap (λ b. g c || b) (any_alike f g e cs)
+
+-- what a state shows does not ask for the choices that the scenario names
+module _ (sc : Scenario) (order : List Choice) (kills : Bool) (s : State) where
+  serial_too : is_serial (reordered sc order) s ≡ is_serial sc s
+  serial_too = ap (same_map (database s)) (serial-reordered sc order (map_of sc.rows) s.commits)
+
+  stuck_too : is_stuck (reordered sc order) kills s ≡ is_stuck sc kills s
+  stuck_too =
+      ap (λ b. are_txns which.Any txn.Active s.txns && b)
+      (all_alike _ (λ c. is_still (step sc c s).outcome) (λ c. ap (λ (x : Step). is_still x.outcome) (one sc order c s))
+      (considered kills (length sc.programs)))
+
+  told_too : told (reordered sc order) kills s ≡ told sc kills s
+  told_too =
+      ap (λ (b : Bool). record { differs = not b; stuck = is_stuck (reordered sc order) kills s }) serial_too
+      ∙ ap (λ (b : Bool). record { differs = not (is_serial sc s); stuck = b }) stuck_too
+
+  follow_too : (o : Option Event) → may_follow (reordered sc order) kills o s ≡ may_follow sc kills o s
+  follow_too None = refl
+  follow_too (Some e) =
+      any_alike _ (λ c. is_event e (step sc c s).outcome) (λ c. ap (λ (x : Step). is_event e x.outcome) (one sc order c s))
+      (considered kills (length sc.programs))
+
+shows_too : (sc : Scenario) (order : List Choice) (q : Sought) (s : State) → shows (reordered sc order) q s ≡ shows sc q s
+shows_too sc order q s =
+    ap (λ (t : Told). holds t q.goal s && may_follow (reordered sc order) q.kills q.then s) (told_too sc order q.kills s)
+    ∙ ap (λ (b : Bool). holds (told sc q.kills s) q.goal s && b) (follow_too sc order q.kills s q.then)
 
 -- what is found shows itself in a run
 pub found : (h : History) (q : Sought) (cs : List Choice) → IsReplay h → Finds h q cs → Shows (scheduled h cs) q (ending (scheduled h cs))
 found h q cs r f =
-    subst (λ (s : State). Shows (scheduled h cs) q s) (sym (ends h cs r)) (shows_too h.scenario (choices_of h.entries ++ cs) q.kills q.wanted
-    (reached h cs) f.shows)
+    subst (λ (s : State). Shows (scheduled h cs) q s) (sym (ends h cs r))
+    (shows_too h.scenario (choices_of h.entries ++ cs) q (reached h cs) ∙ f.shows)
 
 -- what does not lead there does not in a run
 pub not_found : (h : History) (q : Sought) (cs : List Choice) → IsReplay h → (Shows h.scenario q (reached h cs) → ⊥)
     → Shows (scheduled h cs) q (ending (scheduled h cs)) → ⊥
 not_found h q cs r none shown =
-    none (shows_back h.scenario (choices_of h.entries ++ cs) q.kills q.wanted (reached h cs)
-    (subst (λ (s : State). Shows (scheduled h cs) q s) (ends h cs r) shown))
+    none (sym (shows_too h.scenario (choices_of h.entries ++ cs) q (reached h cs))
+    ∙ subst (λ (s : State). Shows (scheduled h cs) q s) (ends h cs r) shown)
 
 -- choices that name transactions that are there, and others
 named_both : (count : ℕ) (cs ds : List Choice) → AreNamed count cs → AreNamed count ds → AreNamed count (cs ++ ds)
@@ -113,11 +138,18 @@ is_held always h r held cs =
     let all = play-append sc (opening sc) (choices_of h.entries) cs ∙ ap (λ (x : State). play sc x cs) (sym r.state) in
     subst (λ (x : State). is_serial sc x ≡ true) all (always sc r.tested held (choices_of h.entries ++ cs))
 
--- a state that has it does not differ
-differs_not : (sc : Scenario) (kills : Bool) (w : Wanted) (s : State) → is_serial sc s ≡ true → w ≡ wanted.Differs → ShowsIt sc kills w s → ⊥
-differs_not sc kills w s same e shown = false≢true (sym (subst (λ (x : Wanted). ShowsIt sc kills x s) e shown) ∙ same)
+-- where it is so, what is found is found without a difference
+pub without : AlwaysSerial → (h : History) (q : Sought) (cs : List Choice) → IsReplay h → h.scenario.rule ≡ Held → Finds h q cs
+    → holds (record { differs = false; stuck = is_stuck h.scenario q.kills (reached h cs) }) q.goal (reached h cs) ≡ true
+without always h q cs r held f =
+    let s = reached h cs in
+    let one = (and_parts (holds (told h.scenario q.kills s) q.goal s) (may_follow h.scenario q.kills q.then s) f.shows).0 in
+    subst (λ (b : Bool). holds (record { differs = not b; stuck = is_stuck h.scenario q.kills s }) q.goal s ≡ true) (is_held always h r held cs) one
 
--- so none is found that does
-pub never_differs : AlwaysSerial → (h : History) (q : Sought) (cs : List Choice) → IsReplay h → h.scenario.rule ≡ Held → q.wanted ≡ wanted.Differs
+-- so no difference is found
+pub never_differs : AlwaysSerial → (h : History) (q : Sought) (cs : List Choice) → IsReplay h → h.scenario.rule ≡ Held → q.goal ≡ Is Differs
     → Finds h q cs → ⊥
-never_differs always h q cs r held e f = differs_not h.scenario q.kills q.wanted (reached h cs) (is_held always h r held cs) e f.shows
+never_differs always h q cs r held e f =
+    let s = reached h cs in
+    false≢true (subst (λ (g : Goal). holds (record { differs = false; stuck = is_stuck h.scenario q.kills s }) g s ≡ true) e
+    (without always h q cs r held f))

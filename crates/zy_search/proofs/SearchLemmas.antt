@@ -1,6 +1,6 @@
 -- Paths, the states that they lead to, and what a search knows of them.
 use Rattle.std.proofs.Common.{◌≡◌, ◌∙◌, ℕ, ◌+◌, ◌<◌, ◌≤◌, ◌⊎◌, inl, inr, List, [], ◌∷◌, ◌++◌, length, refl, sym, ap, subst, arith, length-append, Bool, true}
-use Rattle.std.proofs.Common.{false, Result, Ok, Err, IfOk}
+use Rattle.std.proofs.Common.{false, Result, Ok, Err, IfOk, get_or, zero, suc}
 use Rattle.std.proofs.lemmas.List.{get_or_append_left}
 use Rattle.std.proofs.lemmas.List.Elements.{All-from_get_or}
 use Rattle.std.proofs.lemmas.Bool.{and_parts, cases_lt}
@@ -19,8 +19,9 @@ use Rattle.zy_search.specs.declared.answer.Answer.TheVariants.{Spent}
 use Rattle.zy_search.specs.declared.answer.Report.{Report}
 use Rattle.zy_search.specs.Paths.{AreApart}
 use Rattle.zy_search.specs.Stuck.{is_still, AreMoves}
-use Rattle.zy_search.specs.Choices.{is_considered, AreConsidered, is_tried}
-use Rattle.zy_search.specs.Searches.{reached, Shows, Considers, IsPath, NoneBelow, NoneAtAll, FindsFirst, IsAnswer, IsDue, Fills}
+use Rattle.zy_search.specs.Choices.{is_considered, AreConsidered, is_tried, considered}
+use Rattle.zy_search.proofs.ChoiceLemmas.{all_considered}
+use Rattle.zy_search.specs.Searches.{reached, Shows, Considers, IsPath, NoneBelow, NoneAtAll, FindsFirst, IsReached, IsDue, Fills}
 use Rattle.zy_search.specs.Visits.{path_at, length_at, IsKnown, IsVisited, Visits, IsEdge, IsExpanded, AreExpanded, Grows, FindsNext, StopsAt}
 
 -- ---- choices
@@ -33,6 +34,16 @@ named_if kills count c e = (and_parts (names_below count c) (is_tried kills c) e
 pub are_named : (kills : Bool) (count : ℕ) (cs : List Choice) → AreConsidered kills count cs → AreNamed count cs
 are_named kills count [] a = tt
 are_named kills count (c ∷ cs) a = (named_if kills count c a.0, are_named kills count cs a.1)
+
+-- each of choices that name transactions that are there does
+pub named_at : (count : ℕ) (cs : List Choice) (i : ℕ) (d : Choice) → AreNamed count cs → i < length cs → names_below count (get_or cs i d) ≡ true
+named_at count [] i d a lt = absurd (omega (arith, lt))
+named_at count (c ∷ cs) zero d a lt = a.0
+named_at count (c ∷ cs) (suc i) d a lt = named_at count cs i d a.1 (omega (arith, lt))
+
+-- all that are considered name transactions that are there
+pub all_named : (kills : Bool) (count : ℕ) (cs : List Choice) → cs ≡ considered kills count → AreNamed count cs
+all_named kills count cs e = are_named kills count cs (subst (AreConsidered kills count) (sym e) (all_considered kills count))
 
 -- one more is considered
 are_more : (kills : Bool) (count : ℕ) (cs : List Choice) (c : Choice) → AreConsidered kills count cs → is_considered kills count c ≡ true
@@ -254,7 +265,7 @@ visits_first h q room none = record {
   some = omega arith;
   first = refl;
   paths = λ i lt. rw (one_place i lt) (record { considered = tt; moves = tt; room = omega (arith, room) });
-  none = λ i lt. rw (one_place i lt) none;
+  none = λ i lt. subst (λ (j : ℕ). Shows h.scenario q (reached h (path_at ([] ∷ []) j)) → ⊥) (sym (one_place i lt)) none;
   order = λ i j le lt. rw (one_place i (omega (arith, le, lt)), one_place j lt) (omega arith);
   apart = λ i j less lt. absurd (omega (arith, less, lt));
 }
@@ -269,8 +280,8 @@ reported P a (Ok x) p same = subst P (sym same) p
 reported P a (Err x) p same = tt
 
 -- where no fewer choices lead there, a call that answers so answers well
-pub spent_well : {E : Type 0} (h : History) (q : Sought) (n : ℕ) (r : Result Answer E) → NoneBelow h q n → IfOk r (λ a. a ≡ Spent n) → IfOk r (IsAnswer h q)
-spent_well h q n (Ok a) below e = subst (IsAnswer h q) (sym e) below
+pub spent_well : {E : Type 0} (h : History) (q : Sought) (n : ℕ) (r : Result Answer E) → NoneBelow h q n → IfOk r (λ a. a ≡ Spent n) → IfOk r (IsReached h q)
+spent_well h q n (Ok a) below e = subst (IsReached h q) (sym e) below
 spent_well h q n (Err x) below e = tt
 
 -- the same of what is due

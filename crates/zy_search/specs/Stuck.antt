@@ -1,15 +1,19 @@
 -- Where nothing goes on.
-use Rattle.std.specs.Prelude.{◌≡◌, Bool, true, false, List, [], ◌∷◌, length}
-use Rattle.std.specs.List.{list_any}
+use Rattle.std.specs.Prelude.{◌≡◌, ◌&&◌, Bool, true, false, List, [], ◌∷◌, length}
+use Rattle.std.specs.List.{list_any, list_all}
 use Rattle.zy_isa.specs.declared.choice.Choice.{Choice}
 use Rattle.zy_isa.specs.Scenario.{Scenario}
 use Rattle.zy_table.specs.declared.outcome.Outcome.{Outcome}
 use Rattle.zy_table.specs.declared.outcome.Outcome.TheVariants.{BadMode, Idle, Elsewhere, NotYet, Waits, Awaits}
 use Rattle.zy_table.specs.declared.outcome.Outcome.TheVariants.{NoMessage, Held, Stray, Active, NoPush}
-use Rattle.zy_table.specs.State.{State, Txn}
+use Rattle.zy_table.specs.State.{State}
 use Rattle.zy_table.specs.Play.{step}
-use Rattle.zy_search.specs.Choices.{is_considered}
-use Rattle.zy_search.specs.Reasons.{is_running}
+use Rattle.zy_goals.specs.declared.goal.Which.TheVariants as which
+use Rattle.zy_goals.specs.declared.goal.Trait.TheVariants as txn
+use Rattle.zy_goals.specs.declared.events.Event.{Event}
+use Rattle.zy_goals.specs.Goals.{are_txns}
+use Rattle.zy_goals.specs.Events.{is_event}
+use Rattle.zy_search.specs.Choices.{considered}
 
 -- nothing came of a step
 abbrev pub is_still : Outcome → Bool
@@ -32,6 +36,11 @@ AreMoves sc s [] = Unit {0}
 AreMoves sc s (c ∷ cs) = (is_still (step sc c s).outcome ≡ false) × AreMoves sc (step sc c s).after cs
 
 -- a transaction is active, and nothing comes of any considered choice
-pub record IsStuck (sc : Scenario) (kills : Bool) (s : State) : Type 0 where
-  pub active : list_any (λ (x : Txn). is_running x.status) s.txns ≡ true
-  pub still : (c : Choice) → is_considered kills (length sc.programs) c ≡ true → is_still (step sc c s).outcome ≡ true
+abbrev pub is_stuck : Scenario → Bool → State → Bool
+is_stuck sc kills s =
+    are_txns which.Any txn.Active s.txns
+    && list_all (λ c. is_still (step sc c s).outcome) (considered kills (length sc.programs))
+
+-- this may come of a considered choice
+abbrev pub may_come : Scenario → Bool → Event → State → Bool
+may_come sc kills e s = list_any (λ c. is_event e (step sc c s).outcome) (considered kills (length sc.programs))

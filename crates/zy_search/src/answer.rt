@@ -13,13 +13,14 @@ pub enum Answer {
     Spent(usize),
 }
 
-/// An answer, and for a person how many states were reached on the way, and the most choices that one of them takes:
-/// nothing is promised of the two numbers.
+/// An answer, and for a person how many states were reached on the way, the most choices that one of them takes, and how
+/// many transactions there are: nothing is promised of the three numbers.
 #[derive(Drop)]
 pub struct Report {
     pub answer: Answer,
     pub states: usize,
     pub depth: usize,
+    pub txns: usize,
 }
 
 /// What came of one choice from a state.

@@ -109,7 +109,7 @@ fn note_new(
 {
     if shows_next(
         plan.alloc,
-        plan.sought,
+        &plan.sought,
         &plan.choices,
         here,
         &twin.machine,

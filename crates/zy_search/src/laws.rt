@@ -1,5 +1,5 @@
 //! What an answer says of whole runs: each function is a law, and its contract is all of it.
-ghost use Rattle.std.specs.Prelude.{◌≡◌, List, true};
+ghost use Rattle.std.specs.Prelude.{◌≡◌, List, true, false};
 ghost use Rattle.zy_isa.specs.declared.choice.Choice.{Choice as AChoice};
 ghost use Rattle.zy_isa.specs.declared.rule.Rule.TheVariants.{Held};
 ghost use Rattle.zy_isa.specs.Scenario.{IsScenario, Scenario as AScenario};
@@ -7,10 +7,12 @@ ghost use Rattle.zy_machine.specs.Histories.{History, IsReplay};
 ghost use Rattle.zy_table.specs.Play.{step};
 ghost use Rattle.zy_table.specs.State.{State};
 ghost use Rattle.zy_search.specs.declared.sought.Sought.{Sought};
-ghost use Rattle.zy_search.specs.declared.sought.Wanted.TheVariants.{Differs};
+ghost use Rattle.zy_goals.specs.declared.goal.Fact.TheVariants.{Differs};
+ghost use Rattle.zy_goals.specs.declared.goal.Goal.{Is};
+ghost use Rattle.zy_goals.specs.Goals.{holds};
 ghost use Rattle.zy_search.specs.Schedules.{scheduled, ending};
 ghost use Rattle.zy_search.specs.Searches.{reached, Finds, Shows};
-ghost use Rattle.zy_search.specs.Stuck.{is_still};
+ghost use Rattle.zy_search.specs.Stuck.{is_still, is_stuck};
 
 use zy_audit::laws::always_same;
 
@@ -31,8 +33,12 @@ pub fn nowhere_runs()
 /// Under the rule `held` no choices lead to another database than that of the serial run: a search for one answers that
 /// there is none, or that it came to no end.
 pub fn never_differs_under_held()
-    ensures { (h : History) (q : Sought) (cs : List AChoice) → IsReplay h → h.scenario.rule ≡ Held → q.wanted ≡ Differs
-        → Finds h q cs → ⊥ }
+    ensures alone { (h : History) (q : Sought) (cs : List AChoice) → IsReplay h → h.scenario.rule ≡ Held
+        → q.goal ≡ Is Differs → Finds h q cs → ⊥ }
+    // In any other goal `differs` is never so.
+    ensures inside { (h : History) (q : Sought) (cs : List AChoice) → IsReplay h → h.scenario.rule ≡ Held
+        → Finds h q cs → holds (record { differs = false; stuck = is_stuck h.scenario q.kills (reached h cs) }) q.goal
+        (reached h cs) ≡ true }
 {
     // Proof: under `held` the serial run gives the same database.
     always_same();

@@ -6,6 +6,7 @@ pub mod branch;
 pub mod choices;
 mod digest;
 mod expand;
+mod last;
 pub mod laws;
 pub mod plan;
 pub mod search;
@@ -21,5 +22,5 @@ mod walk;
 pub mod watch;
 
 pub use crate::answer::{Answer, Report};
-pub use crate::sought::{Reason, Sought, Wanted};
+pub use crate::sought::Sought;
 pub use crate::watch::Watch;

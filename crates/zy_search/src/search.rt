@@ -1,18 +1,18 @@
 //! The search.
 ghost use Rattle.std.specs.Prelude.{◌≡◌, ◌≤◌, ◌<◌, ◌+◌, [], ◌∷◌, IfOk, true, length};
-ghost use Rattle.zy_search.specs.declared.sought.Wanted.TheVariants.{Stuck};
 ghost use Rattle.zy_search.specs.Choices as spec;
-ghost use Rattle.zy_search.specs.Searches.{IsAnswer, IsDue};
+ghost use Rattle.zy_search.specs.Searches.{IsAnswer, IsReached, IsDue};
 ghost use Rattle.zy_search.specs.Visits.{length_at, AreExpanded, Begins, IsEdge, IsWhole, Visits};
 
 use crate::answer::{Answer, Expanded, Report};
 use crate::choices::considered;
 use crate::digest::digest;
 use crate::expand::expand;
+use crate::last::with_step;
 use crate::plan::Plan;
 use crate::shelf::Shelf;
 use crate::shows::shows;
-use crate::sought::{Sought, Wanted};
+use crate::sought::{Sought, asks_steps};
 use crate::twin::Twin;
 use crate::visited::Visited;
 use crate::watch::Watch;
@@ -35,7 +35,7 @@ fn settle(plan: &Plan, visited: &Visited, at: u32) -> Result<Answer, Fault>
     requires expanded { AreExpanded plan.now.start plan.now.sought visited.now at }
     requires near { at < length visited.now → IsEdge visited.now at }
     requires many { plan.now.most ≤ at }
-    ensures answer { IfOk result (IsAnswer plan.now.start plan.now.sought) }
+    ensures answer { IfOk result (IsReached plan.now.start plan.now.sought) }
     ensures due { IfOk result (IsDue plan.now.start plan.now.sought plan.now.most) }
 {
     if visited.len() <= at as usize {
@@ -71,7 +71,7 @@ fn expand_all<W: Watch>(
     requires begins { Begins plan.now visited.old shelf.old }
     requires here { here.old.scenario ≡ plan.now.start.scenario }
     requires twin { twin.old.machine.scenario ≡ plan.now.start.scenario }
-    ensures answer { IfOk result (IsAnswer plan.now.start plan.now.sought) }
+    ensures answer { IfOk result (IsReached plan.now.start plan.now.sought) }
     ensures due { IfOk result (IsDue plan.now.start plan.now.sought plan.now.most) }
 {
     for at in 0..u32::MAX {
@@ -96,14 +96,21 @@ fn shown_by(answer: &Answer) -> usize {
     }
 }
 
-/// An answer, with how many states were reached and the length of the last path.
-fn report(alloc: Global, visited: &Visited, answer: Answer) -> Result<Report, AllocError>
+/// An answer, with how many states were reached, the length of the last path, and how many transactions there are. These
+/// states show what is looked for, beside those that were visited.
+fn report(
+    plan: &Plan,
+    visited: &Visited,
+    shown: usize,
+    answer: Answer,
+) -> Result<Report, AllocError>
     ensures { IfOk result (λ r. r.answer ≡ answer) }
 {
-    let last = visited.last(alloc)?;
+    let last = visited.last(plan.alloc)?;
     Ok(Report {
-        states: visited.len().saturating_add(shown_by(&answer)),
+        states: visited.len().saturating_add(shown),
         depth: last.len(),
+        txns: plan.start.txn_count(),
         answer,
     })
 }
@@ -118,7 +125,7 @@ fn look_by<W: Watch>(
 ) -> Result<Answer, Fault>
     requires begins { Begins plan.now visited.old shelf.old }
     requires here { here.old.scenario ≡ plan.now.start.scenario }
-    ensures answer { IfOk result (IsAnswer plan.now.start plan.now.sought) }
+    ensures answer { IfOk result (IsReached plan.now.start plan.now.sought) }
     ensures due { IfOk result (IsDue plan.now.start plan.now.sought plan.now.most) }
 {
     let mut twin = Twin::new(plan.alloc, &plan.start)?;
@@ -133,19 +140,11 @@ fn look<W: Watch>(
     watch: &mut W,
 ) -> Result<Answer, Fault>
     requires { Begins plan.now visited.old shelf.old }
-    ensures answer { IfOk result (IsAnswer plan.now.start plan.now.sought) }
+    ensures answer { IfOk result (IsReached plan.now.start plan.now.sought) }
     ensures due { IfOk result (IsDue plan.now.start plan.now.sought plan.now.most) }
 {
     let mut here = plan.start.copy(plan.alloc)?;
     look_by(plan, visited, shelf, &mut here, watch)
-}
-
-/// Whether what is looked for is seen by steps alone.
-fn is_seen_by_steps(wanted: Wanted) -> bool
-    ensures stuck { wanted ≡ Stuck → result ≡ true }
-    ensures no_other { result ≡ true → wanted ≡ Stuck }
-{
-    matches!(wanted, Wanted::Stuck)
 }
 
 /// Looks at the state of the start, and then at those that choices lead to.
@@ -159,15 +158,15 @@ fn look_first<W: Watch>(
     requires first { visited.old ≡ [] ∷ [] }
     requires spots { shelf.old.spots.items ≡ [] }
     requires spare { shelf.old.spare.scenario ≡ plan.now.start.scenario }
-    ensures answer { IfOk result (IsAnswer plan.now.start plan.now.sought) }
+    ensures answer { IfOk result (IsReached plan.now.start plan.now.sought) }
     ensures due { IfOk result (IsDue plan.now.start plan.now.sought plan.now.most) }
 {
-    if MAX_CHOICES <= plan.start.len() && is_seen_by_steps(plan.sought.wanted) {
+    if MAX_CHOICES <= plan.start.len() && asks_steps(&plan.sought) {
         return Ok(Answer::Spent(0));
     }
     let is_shown = shows(
         plan.alloc,
-        plan.sought,
+        &plan.sought,
         &plan.choices,
         &plan.start,
         &mut shelf.spare,
@@ -182,7 +181,7 @@ fn look_first<W: Watch>(
 fn search_by<W: Watch>(plan: &Plan, visited: &mut Visited, watch: &mut W) -> Result<Answer, Fault>
     requires whole { IsWhole plan.now }
     requires first { visited.old ≡ [] ∷ [] }
-    ensures answer { IfOk result (IsAnswer plan.now.start plan.now.sought) }
+    ensures answer { IfOk result (IsReached plan.now.start plan.now.sought) }
     ensures due { IfOk result (IsDue plan.now.start plan.now.sought plan.now.most) }
 {
     let mut shelf = Shelf::new(plan.alloc, &plan.start)?;
@@ -216,8 +215,8 @@ fn plan_from(alloc: Global, machine: &Machine, sought: Sought, most: u32) -> Res
 }
 
 /// Looks for a state that choices lead to from a machine's, and that shows what is looked for. It goes breadth first,
-/// so that no fewer choices lead there, and stops where it would reach more states than `most`. The watch learns how
-/// far it is.
+/// so that no fewer choices lead there, and stops where it would reach more states than `most`. Where something is then
+/// to come of a step, that is the last one of what is found. The watch learns how far it is.
 pub fn search<W: Watch>(
     alloc: Global,
     start: &Machine,
@@ -231,6 +230,8 @@ pub fn search<W: Watch>(
 {
     let plan = plan_from(alloc, start, sought, most)?;
     let mut visited = Visited::new(alloc, digest(&plan.start))?;
-    let answer = search_by(&plan, &mut visited, watch)?;
-    report(alloc, &visited, answer)
+    let reached = search_by(&plan, &mut visited, watch)?;
+    let shown = shown_by(&reached);
+    let answer = with_step(&plan, reached)?;
+    report(&plan, &visited, shown, answer)
 }

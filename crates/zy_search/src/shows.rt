@@ -1,95 +1,147 @@
 //! Whether a state shows what is looked for.
-ghost use Rattle.std.specs.Prelude.{◌≡◌, IfOk, OnOk, true, length};
+ghost use Rattle.std.specs.Prelude.{◌≡◌, ◌<◌, IfOk, OnOk, true, length, is_some};
 ghost use Rattle.std.specs.Bool.{Decides};
-ghost use Rattle.std.specs.List.{list_any, list_all};
+ghost use Rattle.zy_isa.specs.Limits.{max_choices};
 ghost use Rattle.zy_isa.specs.declared.choice.Choice.{Choice as AChoice};
-ghost use Rattle.zy_table.specs.State.{Txn};
 ghost use Rattle.zy_table.specs.Play as table;
-ghost use Rattle.zy_search.specs.declared.sought.Wanted.TheVariants.{Differs};
+ghost use Rattle.zy_goals.specs.Goals as goals;
+ghost use Rattle.zy_goals.specs.Commits as goals_commits;
 ghost use Rattle.zy_search.specs.Choices.{considered};
-ghost use Rattle.zy_search.specs.Reasons as spec;
-ghost use Rattle.zy_search.specs.Searches.{MayTry, Shows};
+ghost use Rattle.zy_search.specs.Searches.{MayTry, Shows, told};
+ghost use Rattle.zy_search.specs.Searches as spec;
 
-use crate::sought::{Reason, Sought, Wanted, is_for};
-use crate::stuck::is_stuck;
+use crate::sought::Sought;
+use crate::stuck::{is_stuck, may_come};
 use std::alloc::Global;
 use zy_audit::serial::same;
+use zy_goals::commits::is_of_commits;
+use zy_goals::plain::is_plain;
+use zy_goals::{Event, Fact, Goal};
 use zy_isa::Choice;
 use zy_machine::{Fault, Machine};
-use zy_table::{CommitRecord, Status};
+use zy_table::CommitRecord;
 
-/// Whether a transaction is aborted for a reason.
-fn is_aborted(reason: Reason, status: Status) -> bool
-    ensures { result ≡ spec.is_aborted reason status }
-{
-    match status {
-        Status::New => false,
-        Status::Active => false,
-        Status::Committed => false,
-        Status::Aborted(why) => is_for(reason, why),
-    }
-}
-
-/// Whether a transaction is committed.
-fn is_committed(status: Status) -> bool
-    ensures { result ≡ spec.is_committed status }
-{
-    match status {
-        Status::New => false,
-        Status::Active => false,
-        Status::Committed => true,
-        Status::Aborted(_) => false,
-    }
-}
-
-/// Whether one of the transactions is aborted for a reason.
-fn any_aborted(reason: Reason, machine: &Machine) -> bool
-    ensures { result ≡ list_any (λ (x : Txn). spec.is_aborted reason x.status) machine.now.state.txns }
-{
-    for t in 0..machine.txn_count() {
-        if is_aborted(reason, machine.txn(t as u8).status()) {
-            return true;
-        }
-    }
-    false
-}
-
-/// Whether all transactions are committed.
-fn all_committed(machine: &Machine) -> bool
-    ensures { result ≡ list_all (λ (x : Txn). spec.is_committed x.status) machine.now.state.txns }
-{
-    for t in 0..machine.txn_count() {
-        if !is_committed(machine.txn(t as u8).status()) {
-            return false;
-        }
-    }
-    true
-}
-
-/// Whether a machine's state shows what is looked for; these are the choices that are considered, and another machine
-/// to try them on.
-pub(crate) fn shows(
+/// Whether a fact is one in a machine's state; these are the choices that are considered, and another machine to try
+/// them on.
+fn is_fact(
     alloc: Global,
-    sought: Sought,
+    kills: bool,
+    fact: Fact,
     choices: &[Choice],
     machine: &Machine,
     spare: &mut Machine,
 ) -> Result<bool, Fault>
-    requires room { MayTry sought machine.now }
-    requires choices { choices.now ≡ considered sought.kills (length machine.now.scenario.programs) }
+    requires room { goals_commits.is_stuck_fact fact ≡ true → length machine.now.entries < max_choices }
+    requires choices { choices.now ≡ considered kills (length machine.now.scenario.programs) }
     requires spare { spare.old.scenario ≡ machine.now.scenario }
-    ensures shows { IfOk result (λ b. Decides b (Shows machine.now.scenario sought machine.now.state)) }
+    ensures is { IfOk result (λ b. b ≡ goals.is_fact (told machine.now.scenario kills machine.now.state) fact
+        machine.now.state) }
     ensures spare { OnOk result (spare.new.scenario ≡ machine.now.scenario) }
 {
-    match sought.wanted {
-        Wanted::Differs => {
+    match fact {
+        Fact::Differs => {
             let same = same(alloc, machine)?;
             Ok(!same)
         }
-        Wanted::Aborted(reason) => Ok(any_aborted(reason, machine)),
-        Wanted::Committed => Ok(all_committed(machine)),
-        Wanted::Stuck => is_stuck(alloc, sought.kills, machine, spare, choices),
+        Fact::Stuck => is_stuck(alloc, kills, machine, spare, choices),
+        Fact::Plain(plain) => Ok(is_plain(plain, machine)),
     }
+}
+
+/// Whether a goal holds in a machine's state.
+fn holds(
+    alloc: Global,
+    kills: bool,
+    goal: &Goal,
+    choices: &[Choice],
+    machine: &Machine,
+    spare: &mut Machine,
+) -> Result<bool, Fault>
+    requires room { goals_commits.asks_stuck goal.now ≡ true → length machine.now.entries < max_choices }
+    requires choices { choices.now ≡ considered kills (length machine.now.scenario.programs) }
+    requires spare { spare.old.scenario ≡ machine.now.scenario }
+    ensures holds { IfOk result (λ b. b ≡ goals.holds (told machine.now.scenario kills machine.now.state) goal.now
+        machine.now.state) }
+    ensures spare { OnOk result (spare.new.scenario ≡ machine.now.scenario) }
+{
+    match goal {
+        Goal::Is(fact) => is_fact(alloc, kills, *fact, choices, machine, spare),
+        Goal::Not(g) => {
+            let is = holds(alloc, kills, g, choices, machine, spare)?;
+            Ok(!is)
+        }
+        Goal::Both(g, h) => {
+            if !holds(alloc, kills, g, choices, machine, spare)? {
+                return Ok(false);
+            }
+            holds(alloc, kills, h, choices, machine, spare)
+        }
+        Goal::Either(g, h) => {
+            if holds(alloc, kills, g, choices, machine, spare)? {
+                return Ok(true);
+            }
+            holds(alloc, kills, h, choices, machine, spare)
+        }
+    }
+}
+
+/// Whether what is then to come of a step may come of one.
+fn may_follow(
+    alloc: Global,
+    kills: bool,
+    then: Option<Event>,
+    choices: &[Choice],
+    machine: &Machine,
+    spare: &mut Machine,
+) -> Result<bool, Fault>
+    requires room { is_some then ≡ true → length machine.now.entries < max_choices }
+    requires choices { choices.now ≡ considered kills (length machine.now.scenario.programs) }
+    requires spare { spare.old.scenario ≡ machine.now.scenario }
+    ensures follows { IfOk result (λ b. b ≡ spec.may_follow machine.now.scenario kills then machine.now.state) }
+    ensures spare { OnOk result (spare.new.scenario ≡ machine.now.scenario) }
+{
+    match then {
+        None => Ok(true),
+        Some(event) => may_come(alloc, kills, event, machine, spare, choices),
+    }
+}
+
+/// Whether a machine's state shows what is looked for; these are the choices that are considered, and another machine
+/// to try them on.
+fn shows_all(
+    alloc: Global,
+    sought: &Sought,
+    choices: &[Choice],
+    machine: &Machine,
+    spare: &mut Machine,
+) -> Result<bool, Fault>
+    requires room { MayTry sought.now machine.now }
+    requires choices { choices.now ≡ considered sought.now.kills (length machine.now.scenario.programs) }
+    requires spare { spare.old.scenario ≡ machine.now.scenario }
+    ensures shows { IfOk result (λ b. b ≡ spec.shows machine.now.scenario sought.now machine.now.state) }
+    ensures spare { OnOk result (spare.new.scenario ≡ machine.now.scenario) }
+{
+    if !holds(alloc, sought.kills, &sought.goal, choices, machine, spare)? {
+        return Ok(false);
+    }
+    may_follow(alloc, sought.kills, sought.then, choices, machine, spare)
+}
+
+/// The same, as a test.
+pub(crate) fn shows(
+    alloc: Global,
+    sought: &Sought,
+    choices: &[Choice],
+    machine: &Machine,
+    spare: &mut Machine,
+) -> Result<bool, Fault>
+    requires room { MayTry sought.now machine.now }
+    requires choices { choices.now ≡ considered sought.now.kills (length machine.now.scenario.programs) }
+    requires spare { spare.old.scenario ≡ machine.now.scenario }
+    ensures shows { IfOk result (λ b. Decides b (Shows machine.now.scenario sought.now machine.now.state)) }
+    ensures spare { OnOk result (spare.new.scenario ≡ machine.now.scenario) }
+{
+    shows_all(alloc, sought, choices, machine, spare)
 }
 
 /// Whether these are the same commits as those.
@@ -99,17 +151,17 @@ fn same_commits(xs: &[CommitRecord], ys: &[CommitRecord]) -> bool
     xs == ys
 }
 
-/// Whether what is looked for is another database than that of the serial run, which only a commit can make.
-fn is_of_commits(wanted: Wanted) -> bool
-    ensures { result ≡ true → wanted ≡ Differs }
+/// Whether only a commit can bring about what is looked for.
+fn is_by_commits(sought: &Sought) -> bool
+    ensures { result ≡ spec.is_by_commits sought.now }
 {
-    matches!(wanted, Wanted::Differs)
+    sought.then.is_none() && is_of_commits(&sought.goal)
 }
 
 /// The same of a machine to which a choice has led from the state of one that does not show it.
 pub(crate) fn shows_next(
     alloc: Global,
-    sought: Sought,
+    sought: &Sought,
     choices: &[Choice],
     before: &Machine,
     machine: &Machine,
@@ -117,16 +169,16 @@ pub(crate) fn shows_next(
 ) -> Result<bool, Fault>
     requires scenario { machine.now.scenario ≡ before.now.scenario }
     requires step { (c : AChoice) × (machine.now.state ≡ (table.step before.now.scenario c before.now.state).after) }
-    requires none { Shows before.now.scenario sought before.now.state → ⊥ }
-    requires room { MayTry sought machine.now }
-    requires choices { choices.now ≡ considered sought.kills (length machine.now.scenario.programs) }
+    requires none { Shows before.now.scenario sought.now before.now.state → ⊥ }
+    requires room { MayTry sought.now machine.now }
+    requires choices { choices.now ≡ considered sought.now.kills (length machine.now.scenario.programs) }
     requires spare { spare.old.scenario ≡ machine.now.scenario }
-    ensures shows { IfOk result (λ b. Decides b (Shows machine.now.scenario sought machine.now.state)) }
+    ensures shows { IfOk result (λ b. Decides b (Shows machine.now.scenario sought.now machine.now.state)) }
     ensures spare { OnOk result (spare.new.scenario ≡ machine.now.scenario) }
 {
     // Proof: the state before is the replay of a scenario that was tested.
     let _tested = before.scenario();
-    if is_of_commits(sought.wanted) && same_commits(machine.commits(), before.commits()) {
+    if is_by_commits(sought) && same_commits(machine.commits(), before.commits()) {
         return Ok(false);
     }
     shows(alloc, sought, choices, machine, spare)

@@ -1,46 +1,22 @@
-//! Whether nothing goes on.
-ghost use Rattle.std.specs.Prelude.{◌≡◌, ◌<◌, true, IfOk, OnOk, length};
-ghost use Rattle.std.specs.Bool.{Decides};
-ghost use Rattle.std.specs.List.{list_any};
+//! Whether nothing goes on, and what may.
+ghost use Rattle.std.specs.Prelude.{◌≡◌, ◌<◌, true, nat_lt, IfOk, OnOk, length};
+ghost use Rattle.std.specs.List.{list_all, list_any};
 ghost use Rattle.zy_isa.specs.Limits.{max_choices};
 ghost use Rattle.zy_isa.specs.Choices.{names_below};
-ghost use Rattle.zy_table.specs.State.{Txn};
+ghost use Rattle.zy_isa.specs.Scenario.{AreNamed};
+ghost use Rattle.zy_goals.specs.Events as goals_events;
 ghost use Rattle.zy_table.specs.Play as table;
 ghost use Rattle.zy_search.specs.Choices as search_choices;
-ghost use Rattle.zy_search.specs.Reasons as search_reasons;
-ghost use Rattle.zy_search.specs.Stuck.{IsStuck};
 ghost use Rattle.zy_search.specs.Stuck as search_stuck;
 ghost use Rattle.zy_search.specs.Visits.{IsTwin};
 
 use crate::still::is_still;
 use std::alloc::Global;
+use zy_goals::events::is_event;
+use zy_goals::txns::are_txns;
+use zy_goals::{Event, Trait, Which};
 use zy_isa::{Choice, MAX_CHOICES};
 use zy_machine::{Fault, Machine};
-use zy_table::Status;
-
-/// Whether a transaction is active.
-fn is_running(status: Status) -> bool
-    ensures { result ≡ search_reasons.is_running status }
-{
-    match status {
-        Status::New => false,
-        Status::Active => true,
-        Status::Committed => false,
-        Status::Aborted(_) => false,
-    }
-}
-
-/// Whether one of the transactions is active.
-fn any_running(machine: &Machine) -> bool
-    ensures { result ≡ list_any (λ (x : Txn). search_reasons.is_running x.status) machine.now.state.txns }
-{
-    for t in 0..machine.txn_count() {
-        if is_running(machine.txn(t as u8).status()) {
-            return true;
-        }
-    }
-    false
-}
 
 /// Makes room for a step of a twin, whose history grows by each step that it tries.
 fn make_room(alloc: Global, machine: &Machine, twin: &mut Machine) -> Result<(), Fault>
@@ -75,19 +51,18 @@ fn stays(
     Ok(is_still(entry.outcome))
 }
 
-/// Whether nothing comes of any of the choices that are considered, where a transaction is active.
+/// Whether nothing comes of any of some choices.
 fn is_stuck_by(
     alloc: Global,
-    kills: bool,
     machine: &Machine,
     twin: &mut Machine,
     choices: &[Choice],
 ) -> Result<bool, Fault>
     requires twin { IsTwin machine.now twin.old }
     requires room { length machine.now.entries < max_choices }
-    requires choices { choices.now ≡ search_choices.considered kills (length machine.now.scenario.programs) }
-    requires active { list_any (λ (x : Txn). search_reasons.is_running x.status) machine.now.state.txns ≡ true }
-    ensures stuck { IfOk result (λ b. Decides b (IsStuck machine.now.scenario kills machine.now.state)) }
+    requires named { AreNamed (length machine.now.scenario.programs) choices.now }
+    ensures stuck { IfOk result (λ b. b ≡ list_all (λ c. search_stuck.is_still
+        (table.step machine.now.scenario c machine.now.state).outcome) choices.now) }
     ensures scenario { OnOk result (twin.new.scenario ≡ machine.now.scenario) }
 {
     for i in 0..choices.len() {
@@ -110,12 +85,74 @@ pub(crate) fn is_stuck(
     requires room { length machine.now.entries < max_choices }
     requires spare { spare.old.scenario ≡ machine.now.scenario }
     requires choices { choices.now ≡ search_choices.considered kills (length machine.now.scenario.programs) }
-    ensures stuck { IfOk result (λ b. Decides b (IsStuck machine.now.scenario kills machine.now.state)) }
+    ensures stuck { IfOk result (λ b. b ≡ search_stuck.is_stuck machine.now.scenario kills machine.now.state) }
     ensures spare { OnOk result (spare.new.scenario ≡ machine.now.scenario) }
 {
-    if !any_running(machine) {
+    if !are_txns(Which::Any, Trait::Active, machine) {
         return Ok(false);
     }
     spare.set_to(alloc, machine)?;
-    is_stuck_by(alloc, kills, machine, spare, choices)
+    is_stuck_by(alloc, machine, spare, choices)
+}
+
+/// Whether this comes of a choice. It is tried on another machine.
+fn comes(
+    alloc: Global,
+    event: Event,
+    machine: &Machine,
+    spare: &mut Machine,
+    choice: Choice,
+) -> Result<bool, Fault>
+    requires room { length machine.now.entries < max_choices }
+    requires spare { spare.old.scenario ≡ machine.now.scenario }
+    requires named { names_below (length machine.now.scenario.programs) choice ≡ true }
+    ensures comes { IfOk result (λ b. b ≡ goals_events.is_event event
+        (table.step machine.now.scenario choice machine.now.state).outcome) }
+    ensures spare { OnOk result (spare.new.scenario ≡ machine.now.scenario) }
+{
+    spare.set_to(alloc, machine)?;
+    let entry = spare.step(choice)?;
+    Ok(is_event(event, entry.outcome))
+}
+
+/// The place of the first of some choices of which this comes; their number where there is none.
+fn first_by(
+    alloc: Global,
+    event: Event,
+    machine: &Machine,
+    spare: &mut Machine,
+    choices: &[Choice],
+) -> Result<usize, Fault>
+    requires room { length machine.now.entries < max_choices }
+    requires spare { spare.old.scenario ≡ machine.now.scenario }
+    requires named { AreNamed (length machine.now.scenario.programs) choices.now }
+    ensures some { IfOk result (λ i. nat_lt i (length choices.now) ≡ list_any (λ c. goals_events.is_event event
+        (table.step machine.now.scenario c machine.now.state).outcome) choices.now) }
+    ensures spare { OnOk result (spare.new.scenario ≡ machine.now.scenario) }
+{
+    for i in 0..choices.len() {
+        if comes(alloc, event, machine, spare, choices[i])? {
+            return Ok(i);
+        }
+    }
+    Ok(choices.len())
+}
+
+/// Whether this may come of a choice that is considered.
+pub(crate) fn may_come(
+    alloc: Global,
+    kills: bool,
+    event: Event,
+    machine: &Machine,
+    spare: &mut Machine,
+    choices: &[Choice],
+) -> Result<bool, Fault>
+    requires room { length machine.now.entries < max_choices }
+    requires spare { spare.old.scenario ≡ machine.now.scenario }
+    requires choices { choices.now ≡ search_choices.considered kills (length machine.now.scenario.programs) }
+    ensures comes { IfOk result (λ b. b ≡ search_stuck.may_come machine.now.scenario kills event machine.now.state) }
+    ensures spare { OnOk result (spare.new.scenario ≡ machine.now.scenario) }
+{
+    let first = first_by(alloc, event, machine, spare, choices)?;
+    Ok(first < choices.len())
 }

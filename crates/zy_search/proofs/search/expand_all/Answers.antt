@@ -3,7 +3,7 @@ use Rattle.zy_search.specs.Visits.{IsExpanded, length_at}
 use Rattle.zy_search.proofs.SearchLemmas.{none_at_all, finds_first, spent_below, spent_well, expanded_grown, near_first, edge_next, stops, stops_grown}
 use Rattle.zy_search.proofs.SearchLemmas.{spent_due}
 use Rattle.zy_search.proofs.EdgeLemmas.{ends_first, ends_later}
-use Rattle.zy_search.proofs.TxnLemmas.{more}
+use Rattle.zy_goals.proofs.EachLemmas.{more}
 use Rattle.zy_search.proofs.search.expand_all.Goals as goal
 
 pub loop-at-init : goal.loop-at-init

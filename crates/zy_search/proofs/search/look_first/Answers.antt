@@ -2,14 +2,14 @@ use Rattle.std.proofs.Common.{◌∙◌, arith, sym}
 use Rattle.std.proofs.Math.Bool.{false≢true}
 use Rattle.zy_search.proofs.SearchLemmas.{visits_first}
 use Rattle.zy_search.proofs.search.look_first.Goals as goal
-use Rattle.zy_search.proofs.search.look_first.Goals.{else-len-ge-MAX_CHOICES-via-then-len-ge-MAX_CHOICES+else-is_seen_by_steps}
+use Rattle.zy_search.proofs.search.look_first.Goals.{else-len-ge-MAX_CHOICES-via-then-len-ge-MAX_CHOICES+else-asks_steps}
 use Rattle.zy_search.proofs.search.look_first.Goals.{else-len-ge-MAX_CHOICES-via-else-len-ge-MAX_CHOICES}
 
 pub shows-requires-clause-room : goal.shows-requires-clause-room
 shows-requires-clause-room g c = λ e.
     elim c.else-len-ge-MAX_CHOICES.branch [
-      | else-len-ge-MAX_CHOICES-via-then-len-ge-MAX_CHOICES+else-is_seen_by_steps w ↦
-          absurd (false≢true (sym w.if-is_seen_by_steps.false ∙ w.is_seen_by_steps.ensures.stuck e))
+      | else-len-ge-MAX_CHOICES-via-then-len-ge-MAX_CHOICES+else-asks_steps w ↦
+          absurd (false≢true (sym w.if-asks_steps.false ∙ (w.asks_steps.ensures ∙ e)))
       | else-len-ge-MAX_CHOICES-via-else-len-ge-MAX_CHOICES w ↦ omega (arith, w.if-len-ge-MAX_CHOICES.false, c.len.ensures.value)
     ]
 

@@ -1,0 +1,36 @@
+//! What is wrong with the words of a goal.
+
+use crate::command_line::Quest;
+use std::fmt;
+use zy_advice::line::Word;
+use zy_advice::place::Place;
+use zy_goals::Refusal;
+
+/// The words of a goal, and where something else was to be.
+#[derive(Clone, Copy)]
+pub struct Marked<'a> {
+    quest: Quest<'a>,
+    refusal: Refusal,
+}
+
+impl<'a> Marked<'a> {
+    /// Why the words of a quest are no goal.
+    pub fn of(quest: Quest<'a>, refusal: Refusal) -> Marked<'a> {
+        Marked { quest, refusal }
+    }
+}
+
+/// The flag, what was to be there, and the words with the one at fault marked.
+impl fmt::Display for Marked<'_> {
+    fn fmt<W: fmt::Write>(&self, f: &mut fmt::Formatter<W>) -> fmt::Result {
+        let Refusal { from, to, wanted } = self.refusal;
+        let text = self.quest.text.as_bytes();
+        let word = Word {
+            start: from,
+            bytes: text.get(from..to).unwrap_or(&[]),
+        };
+        let flag = if self.quest.is_always { "always" } else { "for" };
+        let place = Place::of(text, word);
+        write!(f, "--{flag}: {wanted} ({place})")
+    }
+}

@@ -1,0 +1,3 @@
+pub mod EachLemmas
+pub mod SumLemmas
+pub mod CommitLemmas
