@@ -14,7 +14,7 @@ fn mixed(digest: u64, number: u64) -> u64 {
 }
 
 /// A number that differs for most states. Nothing is promised of it: a bad one costs time alone.
-pub(crate) fn digest(machine: &Machine) -> u64 {
+pub fn digest(machine: &Machine) -> u64 {
     let mut digest = mixed(
         mode_number(machine.mode(Node::A)),
         mode_number(machine.mode(Node::B)),

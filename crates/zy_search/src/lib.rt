@@ -4,7 +4,7 @@
 pub mod answer;
 pub mod branch;
 pub mod choices;
-mod digest;
+pub mod digest;
 mod expand;
 mod last;
 pub mod laws;
@@ -18,7 +18,7 @@ mod stuck;
 pub mod tree;
 pub mod twin;
 pub mod visited;
-mod walk;
+pub mod walk;
 pub mod watch;
 
 pub use crate::answer::{Answer, Report};

@@ -17,7 +17,8 @@ use zy_machine::{Fault, Machine};
 /// How many pages the machines of a shelf may have together.
 const MOST_PAGES: usize = 8192;
 
-/// How many steps a machine of a shelf may have made: a longer history would take more than the rest of it.
+/// How many steps a machine of a shelf may have made, where there may be many machines: a longer history would take more
+/// than the rest of it.
 const MOST_STEPS: usize = 1024;
 
 /// A machine, and the place of the path that leads to its state; none where that is not known.
@@ -32,6 +33,7 @@ pub struct Spot {
 pub struct Shelf {
     spots: Vec<Spot>,
     most: usize,
+    steps: usize,
     pub spare: Machine,
 }
 
@@ -41,11 +43,20 @@ impl Shelf {
         ensures spots { IfOk result (λ s. s.spots.items ≡ []) }
         ensures spare { IfOk result (λ s. s.spare ≡ start.now) }
     {
-        let spare = start.copy(alloc)?;
         let pages = usize::from(start.scenario().pages()).max(8);
+        Shelf::sized(alloc, start, MOST_PAGES / pages, MOST_STEPS)
+    }
+
+    /// The same, with room for this number of machines, each of which may have made this number of steps.
+    pub fn sized(alloc: Global, start: &Machine, most: usize, steps: usize) -> Result<Shelf, Fault>
+        ensures spots { IfOk result (λ s. s.spots.items ≡ []) }
+        ensures spare { IfOk result (λ s. s.spare ≡ start.now) }
+    {
+        let spare = start.copy(alloc)?;
         Ok(Shelf {
             spots: Vec::new(alloc),
-            most: MOST_PAGES / pages,
+            most,
+            steps,
             spare,
         })
     }
@@ -65,6 +76,15 @@ impl Shelf {
             return Some(i);
         }
         None
+    }
+
+    /// Whether the machine of the path at a place is in another one's state, if it is there.
+    pub fn compares(&self, at: u32, machine: &Machine) -> Option<bool>
+        ensures { (h : History) (ps : List (List Choice)) → IsShelf h ps self.now → result ≡ Some true
+            → reached h (path_at ps at) ≡ machine.now.state }
+    {
+        let i = self.find(at)?;
+        Some(self.spots[i].machine.same_state(machine))
     }
 
     /// Whether the path at a place leads to a machine's state.
@@ -89,7 +109,7 @@ impl Shelf {
     }
 
     /// Takes the machine where the path at a place leads, if there is one, and leaves another one there.
-    pub(crate) fn take(&mut self, at: u32, machine: &mut Machine) -> bool
+    pub fn take(&mut self, at: u32, machine: &mut Machine) -> bool
         ensures here { (h : History) (ps : List (List Choice)) → IsShelf h ps self.old → result ≡ true
             → IsHere h ps at machine.new }
         ensures scenario { (h : History) (ps : List (List Choice)) → IsShelf h ps self.old
@@ -108,7 +128,7 @@ impl Shelf {
 
     /// Puts the machine of the path at a place there, and takes another one of the scenario for it. It answers yes
     /// where that one is a copy of `here`. A machine with a long history stays where it is.
-    pub(crate) fn put(
+    pub fn put(
         &mut self,
         alloc: Global,
         at: u32,
@@ -122,7 +142,7 @@ impl Shelf {
         ensures shelf { OnOk result ((h : History) (ps : List (List Choice)) → IsShelf h ps self.old → at < length ps
             → IsHere h ps at machine.old → IsShelf h ps self.new) }
     {
-        if machine.len() > MOST_STEPS {
+        if machine.len() > self.steps {
             return Ok(false);
         }
         let i = self.spot_of(at);
@@ -154,7 +174,7 @@ impl Shelf {
 
     /// Gives back the machine of the path at a place, for another one of the scenario, if the spot from which it was
     /// taken is still free.
-    pub(crate) fn give_back(&mut self, at: u32, machine: &mut Machine)
+    pub fn give_back(&mut self, at: u32, machine: &mut Machine)
         ensures scenario { (h : History) (ps : List (List Choice)) → IsShelf h ps self.old
             → machine.old.scenario ≡ h.scenario → machine.new.scenario ≡ h.scenario }
         ensures shelf { (h : History) (ps : List (List Choice)) → IsShelf h ps self.old → at < length ps

@@ -11,7 +11,7 @@ use crate::visited::Visited;
 use zy_machine::{Fault, Machine};
 
 /// Makes the choices of a path, from its root on.
-fn walk(visited: &Visited, at: u32, machine: &mut Machine) -> Result<(), Fault>
+pub fn walk(visited: &Visited, at: u32, machine: &mut Machine) -> Result<(), Fault>
     requires there { at < length visited.now }
     requires first { path_at visited.now 0 ≡ [] }
     requires named { AreNamed (length machine.old.scenario.programs) (path_at visited.now at) }

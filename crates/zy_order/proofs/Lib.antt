@@ -1,0 +1,7 @@
+pub mod CodeLemmas
+pub mod LogLemmas
+pub mod WayLemmas
+pub mod OrderLemmas
+pub mod ReachLemmas
+pub mod PushLemmas
+pub mod LoopLemmas

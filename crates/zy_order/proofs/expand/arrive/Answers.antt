@@ -1,0 +1,37 @@
+-- The machine was kept, or it goes along the path.
+use Rattle.std.proofs.Common.{◌≡◌, ◌+◌, ◌<◌, length, arith}
+use Rattle.zy_isa.specs.Limits.{max_choices}
+use Rattle.zy_search.specs.Visits.{path_at, length_at}
+use Rattle.zy_search.proofs.ShelfLemmas.{in_any_case}
+use Rattle.zy_order.specs.Ways.{origin}
+use Rattle.zy_order.specs.Reaches.{gone_at}
+use Rattle.zy_order.proofs.WayLemmas.{part_fewer, within_gone, within_origin}
+use Rattle.zy_order.proofs.ReachLemmas.{matched_at}
+use Rattle.zy_order.proofs.LoopLemmas.{on_ok}
+use Rattle.zy_order.proofs.expand.arrive.Goals as goal
+
+pub returns-then-len-lt-MAX_CHOICES-clause-here : goal.returns-then-len-lt-MAX_CHOICES-clause-here
+returns-then-len-lt-MAX_CHOICES-clause-here c =
+    c.take.ensures.here c.args.plan.now.start c.args.reached.now.visited c.requires.shelf c.if-take.true
+
+pub returns-then-len-lt-MAX_CHOICES-clause-shelf : goal.returns-then-len-lt-MAX_CHOICES-clause-shelf
+returns-then-len-lt-MAX_CHOICES-clause-shelf c = c.take.ensures.shelf c.args.plan.now.start c.args.reached.now.visited c.requires.shelf c.requires.here
+
+pub go_to-requires-clause-same : goal.go_to-requires-clause-same
+go_to-requires-clause-same c = c.take.ensures.scenario c.args.plan.now.start c.args.reached.now.visited c.requires.shelf c.requires.here
+
+pub returns-clause-room : goal.returns-clause-room
+returns-clause-room c =
+    let p = c.args.plan.now in
+    let ps = c.args.reached.now.visited in
+    let at = c.args.at in
+    let goes = c.requires.about.reached.goes at c.requires.at in
+    let within = within_gone p.start.scenario p.logs origin p.start.state (path_at ps at) goes (within_origin p.logs) in
+    let fewer = part_fewer p.logs (gone_at ps at) within c.requires.part in
+    let same = matched_at ps at in
+    on_ok (length c.go_to.new.machine.entries ≡ length p.start.entries + length_at ps at) (length c.go_to.new.machine.entries < max_choices) c.go_to.result
+    (λ e. omega (arith, e, fewer, same, c.requires.about.plan.room)) c.go_to.ensures.entries
+
+pub returns-clause-shelf : goal.returns-clause-shelf
+returns-clause-shelf c =
+    in_any_case _ c.go_to.result (c.take.ensures.shelf c.args.plan.now.start c.args.reached.now.visited c.requires.shelf c.requires.here)

@@ -1,0 +1,5 @@
+pub mod Codes
+pub mod Orders
+pub mod Ways
+pub mod Answers
+pub mod Reaches
