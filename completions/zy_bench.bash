@@ -1,4 +1,4 @@
-# Completion of zy_bench, zview and zdb for bash.
+# Completion of zy_bench, zview, zdb and zplay for bash.
 
 _zy_bench() {
   local word=${COMP_WORDS[COMP_CWORD]} before=${COMP_WORDS[COMP_CWORD - 1]} options
@@ -33,3 +33,4 @@ _zview() {
 complete -F _zy_bench -o default zy_bench
 complete -F _zview -o filenames zview
 complete -f -W '--help' zdb
+complete -f -W '--port --no-open --help' zplay

@@ -62,8 +62,8 @@ class Browser:
         return json.loads(line)
 
     def value(self, code):
-        """The value of an expression in the page."""
-        return self.call('Runtime.evaluate', expression=code, returnByValue=True)['result'].get('value')
+        """The value of an expression in the page, or that of its promise once it is kept."""
+        return self.call('Runtime.evaluate', expression=code, returnByValue=True, awaitPromise=True)['result'].get('value')
 
     def key(self, key, text=None):
         """Presses a key."""

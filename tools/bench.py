@@ -1,6 +1,7 @@
 """What the program gives: its subcommands over a text, and what only the text has, the names of transactions."""
 
 import os
+import resource
 import subprocess
 import sys
 
@@ -11,6 +12,9 @@ PROGRAM = os.environ.get('ZY_BENCH', os.path.join(TOP, 'zy_bench'))
 
 # Lone bytes that are no UTF-8 go through a text unchanged.
 BYTES = {'encoding': 'utf-8', 'errors': 'surrogateescape'}
+
+# What one call of the program may take at most, by the kind of the resource: all that the system allows, unless something is set.
+LIMITS = {}
 
 
 class Refused(Exception):
@@ -23,14 +27,22 @@ class Refused(Exception):
 
 def ask(words, given, good=(0,), quiet=False):
     """The lines that the program writes. What it says on standard error goes to standard error, or with `quiet` into the fault."""
-    errors = subprocess.PIPE if quiet else None
+    with start(words, stdin=subprocess.PIPE, stdout=subprocess.PIPE, stderr=subprocess.PIPE if quiet else None) as process:
+        written, said = process.communicate(given)
+    if process.returncode not in good:
+        raise Refused(process.returncode, (said or b'').decode(**BYTES).strip())
+    return written.decode(**BYTES).splitlines()
+
+
+def start(words, limits=None, **pipes):
+    """The program as it begins, within limits."""
     try:
-        done = subprocess.run([PROGRAM] + words, input=given, stdout=subprocess.PIPE, stderr=errors)
+        process = subprocess.Popen([PROGRAM] + words, **pipes)
     except OSError as error:
         sys.exit('%s: %s' % (os.path.basename(sys.argv[0]), error))
-    if done.returncode not in good:
-        raise Refused(done.returncode, (done.stderr or b'').decode(**BYTES).strip())
-    return done.stdout.decode(**BYTES).splitlines()
+    for kind, most in (limits or LIMITS).items():
+        resource.prlimit(process.pid, kind, (most, most))
+    return process
 
 
 def words_of(line):

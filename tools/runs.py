@@ -154,6 +154,11 @@ class Run:
         pages = [page.at(position) for page in self.pages if page.at(position)]
         return modes + pages + [self.links[link].at(position) for link in LINKS] + [txn.at(position) for txn in self.txns]
 
+    def acting(self):
+        """The steps that change a line of the state."""
+        lines = [*self.modes.values(), *self.links.values(), *self.pages, *self.txns]
+        return {position for line in lines for position, _ in line.changes if position}
+
     def sender(self, step):
         """The node whose message a step sends; None where it sends none."""
         return next((message.link[0] for message in self.messages if message.sent == step.number), None)

@@ -17,7 +17,8 @@ class Picture:
 
     def __init__(self, run, rows, title, check=''):
         self.run, self.rows, self.title, self.check = run, rows, title, check
-        self.verdict = verdict_line(run, differences(run))
+        self.differs = differences(run)
+        self.verdict = verdict_line(run, self.differs)
         self.place, self.sheet = Place(run, rows), Sheet()
         draw(self.run, self.place, self.sheet)
 

@@ -1,6 +1,6 @@
 'use strict';
-const D = JSON.parse(document.getElementById('data').textContent);
 const $ = id => document.getElementById(id);
+let D = null, pieces = [];            // the run, and its picture in pieces
 let now = -1, pinned = -1, zoom = 1;  // the step, the page that was clicked, and how large the picture is
 
 // The entry of a timeline that holds at a position.
@@ -50,14 +50,14 @@ function pageCard(n, it) {
   const head = el('div', it.fresh && old && old.place !== it.place ? 'new' : '', el('b', '', 'page ' + it.p), ' ', el('small', '', '≥ ' + it.low), jumps(D.pages[it.p], n));
   return el('div', 'card ' + it.place, head, el('div', 'values', ...(rows.length ? rows : [el('small', '', 'no rows')])), ...(locks.length ? [el('div', '', ...locks)] : []));
 }
+function modeChip(node, n) {
+  const mode = at(D.modes[node], n)[1], chip = el('i', fresh(D.modes[node], n) ? 'fresh' : '', mode);
+  chip.style.background = `var(--${mode})`;
+  return chip;
+}
 function column(n, name, places, count, pages) {
   const head = el('b', '', `${name} · ${count}`);
-  if (places.length === 1) {
-    const mode = at(D.modes[places[0]], n)[1];
-    const chip = el('i', fresh(D.modes[places[0]], n) ? 'fresh' : '', mode);
-    chip.style.background = `var(--${mode})`;
-    head.append(chip);
-  }
+  if (places.length === 1) head.append(modeChip(places[0], n));
   return el('div', 'col', head, ...pages.filter(it => places.includes(it.place)).map(it => pageCard(n, it)));
 }
 function pagesPart(n) {
@@ -132,11 +132,13 @@ function txnsPart(n) {
 }
 
 // ---- the picture, in pieces
-const pieces = D.pieces.map((_, k) => {
-  const piece = document.createElementNS('http://www.w3.org/2000/svg', 'svg');
-  piece.setAttribute('viewBox', `0 ${k * D.chunk} ${D.width} ${Math.min(D.chunk, D.height - k * D.chunk)}`);
-  return piece;
-});
+function drawing(inner, width, height, top = 0) {
+  const made = document.createElementNS('http://www.w3.org/2000/svg', 'svg');
+  made.setAttribute('viewBox', `0 ${top} ${width} ${height}`);
+  made.dataset.height = height;
+  made.innerHTML = inner;
+  return made;
+}
 const row = () => D.row * zoom;
 const place = (box, n) => { box.style.cssText = `top:${D.rowOf[n] * row()}px;height:${row()}px;width:${D.width * zoom}px`; };
 function size(box, width, height) {
@@ -147,11 +149,8 @@ function size(box, width, height) {
 function fit() {
   const tall = ($('view').clientHeight - 64) / (D.height + 150);
   zoom = Math.max(0.75, Math.min(1.25, Math.max(1, tall), $('view').clientWidth / D.width));
-  pieces.forEach((piece, k) => {
-    size(piece, D.width, Math.min(D.chunk, D.height - k * D.chunk));
-    piece.style.top = k * D.chunk * zoom + 'px';
-  });
-  for (const fixed of document.querySelectorAll('#top>svg,#below>svg')) size(fixed, D.width, +fixed.dataset.height);
+  pieces.forEach((piece, k) => { piece.style.top = k * D.chunk * zoom + 'px'; });
+  for (const made of document.querySelectorAll('#top>svg,#rows>svg,#below>svg')) size(made, D.width, +made.dataset.height);
   for (const box of ['top', 'rows', 'below']) $(box).style.width = D.width * zoom + 'px';
   $('rows').style.height = D.height * zoom + 'px';
 }
@@ -181,6 +180,26 @@ function reveal() {
 }
 
 // ---- moves
+// Takes another run, and shows it at a position.
+function load(run, n) {
+  D = run;
+  $('chips').replaceChildren(...D.chips.flatMap(words => [el('span', 'chip', words), ' ']));
+  $('verdict').replaceChildren(...D.verdict.flatMap(([words, good]) => [el('span', 'chip ' + (good ? 'good' : 'wrong'), words), ' ']));
+  const strip = drawing(D.overview.parts, 60, D.overview.rows);
+  strip.setAttribute('preserveAspectRatio', 'none');
+  strip.style.setProperty('--thick', D.overview.thick);
+  $('whole').replaceChildren(strip);
+  document.querySelector('main').classList.toggle('whole', D.overview.rows <= 45);
+  pieces = D.pieces.map((_, k) => drawing('', D.width, Math.min(D.chunk, D.height - k * D.chunk), k * D.chunk));
+  for (const old of document.querySelectorAll('#rows>svg')) old.remove();
+  $('rows').append(...pieces);
+  $('top').replaceChildren(drawing(D.head, D.width, 44));
+  $('below').replaceChildren(drawing(D.key, D.width, D.tall));
+  $('slide').max = D.last;
+  fit();
+  show(n);
+}
+let noted = () => {};  // what else is done where another step is shown
 function show(n) {
   now = Math.max(0, Math.min(D.last, n));
   $('slide').value = now;
@@ -190,7 +209,7 @@ function show(n) {
   place($('mark'), now);
   $('now').replaceChildren(...pagesPart(now), el('h2', '', 'links, front first'), queue(now, 'AB', 'A → B'), queue(now, 'BA', 'B → A'), ...txnsPart(now));
   reveal(); drawSight();
-  try { history.replaceState(null, '', '#' + now); } catch (error) { /* the position is not kept */ }
+  noted();
 }
 function gloss(n) {
   if (!n) return 'Before the first step.';
@@ -220,7 +239,7 @@ document.addEventListener('keydown', event => {
   if (event.target === $('find')) {
     if (event.key === 'Enter') find(event.shiftKey ? -1 : 1);
     if (event.key === 'Escape') $('find').blur();
-  } else if (KEYS[event.key] && !event.ctrlKey && !event.metaKey && !event.altKey) {
+  } else if (KEYS[event.key] && !event.target.matches('input:not([type=range]),textarea,select') && !event.ctrlKey && !event.metaKey && !event.altKey) {
     event.preventDefault();
     KEYS[event.key]();
   }
@@ -240,7 +259,3 @@ $('theme').onclick = () => {
   root.dataset.theme = (root.dataset.theme || (dark ? 'dark' : 'light')) === 'dark' ? 'light' : 'dark';
 };
 addEventListener('resize', () => { fit(); show(now); });
-addEventListener('hashchange', () => { const n = parseInt(location.hash.slice(1), 10); if (n !== now && n >= 0) show(n); });
-$('rows').append(...pieces);
-fit();
-show(parseInt(location.hash.slice(1), 10) || 0);

@@ -9,7 +9,6 @@ from picture.colours import page_css, part
 from picture.drawing import draw_head_row
 from picture.looks import look_of
 from picture.place import ROW
-from picture.sheet import num
 from picture.svg import draw_key
 from runs import NODES
 
@@ -18,24 +17,21 @@ CHUNK = 60  # as many rows are drawn at a time
 
 def html(picture):
     """The file."""
-    run, place = picture.run, picture.place
-    key, tall = draw_key(place.width)
-    filled = {
-        'title': escape(picture.title), 'css': page_css(), 'script': part('page.js'), 'width': num(place.width),
-        'head': draw_head_row(run, place), 'chips': ''.join('<span class="chip">%s</span>' % chip for chip in chips(run)),
-        'verdict': verdict(picture), 'overview': overview(run, picture.rows), 'whole': 'whole' if len(picture.rows.rows) <= 45 else '',
-        'key': key, 'tall': tall, 'last': len(run.steps),
-        'data': json.dumps(data_of(picture), separators=(',', ':')).replace('</', '<\\/')}
-    return re.sub(r'\{\{(\w+)\}\}', lambda name: str(filled[name.group(1)]), part('page.html'))
+    filled = {'title': escape(picture.title), 'css': page_css(), 'script': part('page.js'),
+              'data': json.dumps(data_of(picture), separators=(',', ':')).replace('</', '<\\/')}
+    return re.sub(r'\{\{(\w+)\}\}', lambda name: filled[name.group(1)], part('page.html'))
 
 
 def data_of(picture):
     """What the script shows: the pieces of the drawing, and the run."""
     run, place = picture.run, picture.place
     glosses, gloss = glossed(run.steps)
+    key, tall = draw_key(place.width)
     return {
         'last': len(run.steps), 'row': ROW, 'rowOf': picture.rows.of, 'width': place.width, 'height': place.height, 'chunk': CHUNK * ROW,
         'pieces': [picture.sheet.part(top, top + CHUNK * ROW) for top in range(0, place.height, CHUNK * ROW)],
+        'head': draw_head_row(run, place), 'key': key, 'tall': tall, 'overview': overview(run, picture.rows),
+        'chips': chips(run), 'verdict': verdict(picture),
         'lines': ['0 opening'] + [step.line for step in run.steps], 'instrs': run.instrs, 'glosses': glosses, 'gloss': gloss,
         'marks': [step.number for step in run.steps if look_of(step) in ('ok', 'bad', 'wait', 'split') or notable(run, step)],
         'modes': {node: run.modes[node].changes for node in NODES}, 'pages': [page.changes for page in run.pages],
@@ -68,16 +64,13 @@ def counted(number, noun):
 
 
 def verdict(picture):
-    """The verdict of the listing, the rows that differ, and what `check` says of a listing that was given."""
-    chip = '<span class="chip %s">%s</span>'
-    words = chip % ('good' if picture.run.verdict == 'serial same' else 'wrong', escape(picture.verdict))
-    if picture.check:
-        words += chip % ('good' if picture.check == 'table' else 'wrong', 'check: ' + escape(picture.check))
-    return words
+    """The verdict of the listing, the rows that differ, and what `check` says of a listing that was given; each with whether it is good."""
+    check = [('check: ' + picture.check, picture.check == 'table')] if picture.check else []
+    return [(picture.verdict, picture.run.verdict == 'serial same')] + check
 
 
 def overview(run, rows):
-    """The whole run in a strip: the modes at its sides; commits, aborts, waits and pages that move between them."""
+    """The whole run as a strip: the modes at its sides; commits, aborts, waits and pages that move between them."""
     total = len(rows.rows)
     parts = []
     for x, node in ((0, 'A'), (46, 'B')):
@@ -87,4 +80,4 @@ def overview(run, rows):
     for look, x in (('wait', 15), ('take', 21), ('ok', 27), ('bad', 33), ('split', 39)):
         at = sorted({rows.of[step.number] for step in run.steps if look_of(step) == look and (look != 'take' or 'page' in step.outcome)})
         parts.append('<path class="tick %s" d="%s"/>' % (look, ''.join('M%d %gh6' % (x, row + 0.5) for row in at)))
-    return '<svg id="overview" viewBox="0 0 60 %d" preserveAspectRatio="none" style="--thick:%g">%s</svg>' % (total, max(1, total / 400), ''.join(parts))
+    return {'rows': total, 'thick': max(1, total / 400), 'parts': ''.join(parts)}

@@ -29,10 +29,10 @@ class Fault(Exception):
 class Session:
     """The text is kept in three parts: the head with its names, the choices, and what they were before each `do`."""
 
-    def __init__(self, text):
+    def __init__(self, text, quiet=False):
         part, _ = bench.cut(text)
         self.head = head_of(part)
-        self.run = runs.read(part)
+        self.run = runs.read(part, quiet)
         self.choices = choices_of(self.run)
         self.position, self.stops, self.before = 0, [], []
         self.shown = self.run.state(0)

@@ -1,0 +1,197 @@
+"""What the page asks for. Each answer is the program's; a question is a JSON object with the text of a scenario, which ends where the page
+is: its choices are those up to the cursor, except where the whole run is asked for."""
+
+import os
+import pty
+import re
+import resource
+import select
+from concurrent.futures import ThreadPoolExecutor
+
+import bench
+import outcomes
+import runs
+from picture.drawing import Picture
+from picture.looks import look_of
+from picture.page import data_of
+from picture.rows import Rows
+from picture.svg import svg
+from prompt.session import LIMIT, Session, choices_of
+
+# Above this number of steps, like steps in a row share a row.
+LONG = 200
+
+# What a search may look for, and how the page says it.
+WHATS = {
+    'differs': 'a database that is not serial', 'stuck': 'transactions that are stuck', 'committed': 'all committed', 'aborted': 'an abort',
+    **{why: 'an abort: ' + why for why in ('own', 'killed', 'badkey', 'missing', 'duplicate', 'frozen', 'nopage', 'gone')}}
+
+# What a search may take: seconds of a processor, and bytes of memory.
+LIMITS = {resource.RLIMIT_CPU: 600, resource.RLIMIT_AS: 4 << 30}
+
+# The choices of a round that lets a migration go on; the transactions of its source are added.
+ROUND = ['A take', 'B take', 'A finish', 'B finish', 'A push', 'B push']
+
+# As many rounds are tried at a time.
+ROUNDS = 64
+
+# The most choices of a question: those of 64 transactions are fewer.
+MOST = 512
+
+POOL = ThreadPoolExecutor(len(os.sched_getaffinity(0)))
+
+SEARCHES = set()  # those that are under way
+
+
+def picture_of(asked):
+    run = runs.read(asked['text'], quiet=True)
+    return Picture(run, Rows(run.steps, len(run.steps) > LONG), str(asked.get('title', '')))
+
+
+def run(asked):
+    """The run, as the page of `zview` has it, with the rows that the serial run leaves otherwise and its order."""
+    picture = picture_of(asked)
+    committed = [life for life in picture.run.lives if life and life.outcome.startswith('committed')]
+    order = [life.txn for life in sorted(committed, key=lambda life: int(life.outcome.split()[1]))]
+    return dict(data_of(picture), differs=picture.differs, order=order)
+
+
+def fault_of(refused):
+    """A fault of a text: the line of the word at fault, 0 where there is none, and what is wrong."""
+    if refused.status < 0:
+        return {'line': 0, 'words': 'zy_bench was stopped: it took more time or memory than it may'}
+    words = refused.words.partition(': ')[2] or 'zy_bench ended with status %d' % refused.status
+    found = re.match(r'Input\(line (\d+), \w+\): (.*)', words, re.DOTALL)
+    place = re.search(r'\(line (\d+), column \d+: ', words)
+    return {'line': int((place or found).group(1)), 'words': found.group(2)} if found else {'line': 0, 'words': words}
+
+
+# ---- choices
+
+def made(text, choice):
+    """The last step of a text with one more choice, and the lines of the state at its end."""
+    above = bench.cut(text)[0].rstrip('\n').rpartition('\n')[0]
+    listing = bench.ask(['run'], '\n'.join([above, choice, 'end', '']).encode(**bench.BYTES), quiet=True)
+    final = listing.index('final')
+    return listing[final - 1], listing[final + 1:-2]
+
+
+def outcomes_of(asked):
+    """For each of some choices what would come of it, whether it would change anything, and what that is."""
+    (_, before), *after = POOL.map(lambda choice: made(asked['text'], choice), [''] + asked['choices'][:MOST])
+    steps = [runs.step_of(line) for line, _ in after]
+    meaning = outcomes.meanings({step.outcome for step in steps})
+    return [{'outcome': step.line.split(' -> ')[1], 'look': look_of(step), 'acts': state != before,
+             'says': '\n'.join([meaning[step.outcome]] + [line for line in state if line not in before])}
+            for step, (_, state) in zip(steps, after)]
+
+
+def until(asked):
+    """A choice as often as it takes until it waits, ends or can do nothing."""
+    session = Session(asked['text'], quiet=True)
+    return {'added': [asked['choice']] * session.times_until(session.choices, asked['choice'], 'wait')}
+
+
+def migrated(asked):
+    """The choices that let a migration end, or begin one and let it end: rounds of choices, of which those that do nothing are left out. The
+    transactions at its source run too, since it has to wait for them."""
+    session = Session(asked['text'], quiet=True)
+    kept, first, is_ended = session.choices, ['C start'], False
+    while not is_ended:
+        turn = ROUND + source_runs(session.make(kept))
+        tried = session.make((kept + first + ROUNDS * turn)[:LIMIT])
+        end = next((n for n in range(len(kept) + 1, len(tried.steps)) if is_settled(tried, n)), len(tried.steps))
+        acting = tried.acting()
+        more = [choice for n, choice in enumerate(choices_of(tried)[:end], 1) if n > len(kept) and n in acting]
+        if not more:
+            break
+        kept, first, is_ended = kept + more, [], is_settled(tried, end)
+    added = kept[len(session.choices):]
+    return {'added': added, 'words': '' if is_ended else 'the migration does not end so' if added else 'no migration can begin or go on here'}
+
+
+def source_runs(run):
+    """A run of each transaction that is active at the source of the migration, or, where there is none, at the node that is normal."""
+    modes = {node: run.modes[node].at(len(run.steps)) for node in runs.NODES}
+    source = next((node for node in runs.NODES if modes[node][0] == 's'), 'A' if modes['A'] == 'normal' else 'B')
+    there = [line.at(len(run.steps)).split() for line in run.txns]
+    return ['%s run %s' % (source, words[1]) for words in there if words[2:4] == ['active', source]]
+
+
+def is_settled(run, position):
+    """Whether no migration is on its way."""
+    modes = sorted(run.modes[node].at(position) for node in runs.NODES)
+    return modes == ['empty', 'normal'] and all(len(run.links[link].at(position).split()) == 2 for link in runs.LINKS)
+
+
+# ---- files
+
+def saved(asked):
+    """A file of the run: the listing, or the picture."""
+    if asked['as'] == 'listing':
+        return {'file': '\n'.join(bench.ask(['run'], asked['text'].encode(**bench.BYTES), quiet=True) + [''])}
+    picture = picture_of(asked)
+    return {'file': svg(picture, (0, len(picture.run.steps)))}
+
+
+# ---- search
+
+def searched(asked):
+    """What a search says, piece by piece: how far it is, once a second, or nothing in a while without a word; at last its answer. Whoever
+    closes this ends the search."""
+    words = ['search', '--for', asked['for'], '--states', '%d' % asked['states']] + (['--kill'] if asked['kill'] else [])
+    if asked['for'] not in WHATS:
+        raise KeyError('for')
+    given, found, (leader, terminal) = memory(asked['text'].encode(**bench.BYTES)), memory(b''), pty.openpty()
+    process, said = bench.start(words, LIMITS, stdin=given, stdout=found, stderr=terminal), ''
+    SEARCHES.add(process)
+    os.close(terminal)
+    try:
+        for piece in pieces(leader):
+            said = ([said] + [line for line in re.split(r'[\r\n]|\x1b\[K', piece) if line])[-1]
+            yield {'progress': said}
+        status = process.wait()
+        os.lseek(found, 0, os.SEEK_SET)
+        with open(found, encoding='utf-8', closefd=False) as file:
+            yield answer(asked, status, said, file.read())
+    finally:
+        process.kill()
+        process.wait()
+        SEARCHES.discard(process)
+        for descriptor in (given, found, leader):
+            os.close(descriptor)
+
+
+def stop():
+    """Ends the searches that are under way."""
+    for process in list(SEARCHES):
+        process.kill()
+
+
+def memory(content):
+    """A file without a name, which has some bytes."""
+    file = os.memfd_create('zplay')
+    os.write(file, content)
+    os.lseek(file, 0, os.SEEK_SET)
+    return file
+
+
+def pieces(terminal):
+    """What comes to a terminal until it is closed; nothing each half second."""
+    while True:
+        piece = ''
+        if select.select([terminal], [], [], 0.5)[0]:
+            try:
+                piece = os.read(terminal, 4096).decode(errors='replace')
+            except OSError:
+                return
+        yield piece
+
+
+def answer(asked, status, said, text):
+    """The answer of a search in words, and the choices that it found."""
+    words = said.partition('zy_bench: ')[2] or 'the search was stopped: it took more time or memory than it may'
+    if status:
+        return {'found': None, 'words': words}
+    choices = [line for line in text.split('\n') if line.split(' ')[0] in ('A', 'B', 'C')]
+    return {'found': choices[asked['position']:], 'words': words}

@@ -1,0 +1,401 @@
+// The page of zplay: a text, the run of it (`D`, which page.js shows), and the choices that can be made next. What a step does is asked of
+// the server; here texts are changed and answers shown.
+const given = JSON.parse($('given').textContent);
+let name = given.name;
+let doc = {text: '', at: 0};            // the text, and the position that is wanted
+const past = [], future = [];           // what it was, and what it was before an undo
+let turn = 0, busy = false;             // the number of the last question for a run, and whether its answer is still to come
+let typed = 0;                          // when the text was last typed in
+let found = null;                       // the first and the last step that a search added
+
+async function ask(what, body, signal) {
+  const answer = await fetch(what, {method: 'POST', body: JSON.stringify(body), signal});
+  if (!answer.ok) throw new Error(await answer.text());
+  return answer.json();
+}
+// A click whose answer does not come says why.
+const told = words => { $('told').textContent = words; };
+const guarded = work => async (...given) => {
+  try {
+    await work(...given);
+  } catch (error) {
+    if (error.name !== 'AbortError') told(error.message === 'Failed to fetch' ? 'zplay does not answer: is it still running?' : error.message);
+  }
+};
+const later = (work, wait) => { let clock; return () => { clearTimeout(clock); clock = setTimeout(work, wait); }; };
+
+// ---- the text
+const wordsOf = line => line.split(';')[0].split(/\s+/).filter(word => word);
+
+// The choice of a line and how often it is made; null for another line. It is kept, since long schedules have the same lines again and again.
+const choices = new Map();
+function choiceOf(line) {
+  if (choices.size > 9999) choices.clear();
+  if (!choices.has(line)) choices.set(line, readChoice(line));
+  return choices.get(line);
+}
+function readChoice(line) {
+  const words = wordsOf(line), repeats = words.length > 3 && words[words.length - 2] === 'x';
+  if (!['A', 'B', 'C'].includes(words[0])) return null;
+  return {choice: words.slice(0, repeats ? -2 : undefined).join(' '), times: repeats ? +words[words.length - 1] : 1};
+}
+const written = (choice, times) => choice + (times > 1 ? ' x ' + times : '');
+
+// A text with its first choices and some more. The lines that stay are as they were, with their comments.
+function edited(text, count, more) {
+  const kept = [];
+  for (const line of text.split('\n')) {
+    const made = choiceOf(line);
+    if (/^\s*end\s*(;|$)/.test(line) || made && !count) break;
+    kept.push(made && made.times > count ? written(made.choice, count) : line);
+    count -= made ? Math.min(count, made.times) : 0;
+  }
+  for (const choice of more) {
+    const last = choiceOf(kept[kept.length - 1] || ''), alike = last && last.choice === choice && !kept[kept.length - 1].includes(';');
+    kept.splice(alike ? -1 : kept.length, 1, written(choice, alike ? last.times + 1 : 1));
+  }
+  return [...kept, 'end', ''].join('\n');
+}
+// The line in which a step is made; -1 for the opening.
+function lineOf(step) {
+  return step ? lines.findIndex(line => { step -= (choiceOf(line) || {times: 0}).times; return step <= 0; }) : -1;
+}
+// A choice with the name of its transaction, where it has one.
+const named = choice => choice.replace(/\d+$/, t => nameOf(t) || t);
+const nameOf = t => D.names[t].split(' ')[1];
+
+function painted(line) {
+  const [, code, comment] = line.match(/^([^;]*)(.*)$/s), [, space, head, rest] = code.match(/^(\s*)(\S*)(.*)$/s);
+  const look = ['A', 'B', 'C'].includes(head) ? head : head === 'txn' || head === 'end' ? 'txn' : '';
+  return el('div', '', space, el('i', 'w' + look, head), rest, el('i', 'remark', comment));
+}
+// Paints the lines anew that are other ones.
+let lines = [];
+function paint() {
+  const old = lines;
+  lines = doc.text.split('\n');
+  const most = Math.min(old.length, lines.length);
+  let top = 0, end = 0;
+  while (top < most && old[top] === lines[top]) top++;
+  while (end < most - top && old[old.length - 1 - end] === lines[lines.length - 1 - end]) end++;
+  const box = $('paint');
+  for (const line of [...box.children].slice(top, old.length - end)) line.remove();
+  const below = box.children[top] || null, made = document.createDocumentFragment();
+  made.append(...lines.slice(top, lines.length - end).map(painted));
+  box.insertBefore(made, below);
+}
+function marked(look, line) {
+  for (const old of $('paint').querySelectorAll('.' + look)) old.classList.remove(look);
+  const here = $('paint').children[line];
+  if (here) here.classList.add(look);
+  return here;
+}
+// The line of the shown step, brought into sight unless the text is being typed in.
+function point() {
+  const here = marked('here', lineOf(now)), box = $('edit');
+  if (!here || document.activeElement === $('text')) return;
+  const y = here.offsetTop;
+  if (y < box.scrollTop || y > box.scrollTop + box.clientHeight - 40) box.scrollTop = y - box.clientHeight / 2;
+}
+
+// ---- the run
+// Takes another text, and shows its run at a position; Infinity is its end.
+async function put(text, at) {
+  doc = {text, at};
+  if ($('text').value !== text) $('text').value = text;
+  paint();
+  const mine = ++turn;
+  busy = true;
+  try {
+    const run = await ask('run', {text, title: name});
+    if (mine !== turn) return;
+    busy = false;
+    fault(run.fault);
+    if (run.fault) return;
+    load(run, at);
+    drawSerial();
+  } finally {
+    if (mine === turn) busy = false;
+  }
+}
+function fault(fault) {
+  document.body.classList.toggle('stale', !!fault);
+  $('fault').textContent = fault ? (fault.line ? `line ${fault.line}: ` : '') + fault.words : '';
+  const here = marked('wrong', fault ? fault.line - 1 : -1);
+  if (here && document.activeElement !== $('text')) here.scrollIntoView({block: 'nearest'});
+}
+noted = () => {
+  if (!busy) doc.at = now;
+  point();
+  drawFound();
+  drawNext();
+  keep();
+};
+function remember() {
+  past.push({...doc});
+  future.length = 0;
+  offer();
+}
+// Undo and redo can be clicked where there is something to undo or redo.
+function offer() {
+  $('undo').disabled = !past.length;
+  $('redo').disabled = !future.length;
+}
+// Choices behind the shown step, in the place of those that are there.
+function make(choices, from = doc, isFound = false) {
+  const aside = D.last - from.at;
+  remember();
+  found = isFound ? [from.at + 1, from.at + choices.length] : null;
+  told(aside > 0 && !busy ? `${aside} ${aside === 1 ? 'choice' : 'choices'} set aside; undo brings them back` : '');
+  return put(edited(from.text, from.at, choices.map(named)), from.at + choices.length);
+}
+const here = () => edited(doc.text, doc.at, []);
+
+function undo(from, to) {
+  if (!from.length) return told('nothing was done');
+  to.push({...doc});
+  found = null;
+  told('');
+  const {text, at} = from.pop();
+  offer();
+  return put(text, at);
+}
+function drawFound() {
+  const box = $('added');
+  box.style.height = 0;
+  if (!found || found[1] > D.last || found[1] < found[0]) return;
+  place(box, found[0]);
+  box.style.height = (D.rowOf[found[1]] - D.rowOf[found[0]] + 1) * row() + 'px';
+}
+
+// The two databases, where they differ.
+function drawSerial() {
+  const differs = new Map(D.differs.map(([key, ...both]) => [key, both]));
+  const rows = new Map(D.pages.flatMap((_, p) => page(D.last, p).rows.map(line => line.split('='))));
+  for (const [key, both] of differs) if (!rows.has(key)) rows.set(key, both[0]);
+  const few = rows.size <= 8, shown = [...rows].filter(([key]) => few || differs.has(key)).sort(([a], [b]) => a - b);
+  const cells = shown.map(([key, value]) => el('tr', differs.has(key) ? 'wrong' : '', ...[key, ...(differs.get(key) || [value, value])].map(
+    word => el('td', '', word))));
+  const head = el('tr', '', ...['key', 'this run', 'serial run'].map(word => el('th', '', word)));
+  const order = D.order.map(t => D.names[t]).join(', then ');
+  const table = differs.size ? el('table', '', head, ...cells) : el('p', '', 'Its rows are not known here.');
+  $('serial').replaceChildren(...(D.verdict[0][1] ? [] : [el('h2', '', 'the end of this run, and of the serial run'),
+    el('p', '', `The serial run: ${order}.`), table, el('small', '', few ? '' : `and ${rows.size - shown.length} rows that are alike`)]));
+}
+
+// ---- the next choice
+const known = new Map();                // what would come of choices, by the text that they are made behind
+let lookup = new AbortController();
+
+function candidates() {
+  const lanes = {C: ['C start'], A: [], B: []}, kills = [];
+  D.txns.forEach((line, t) => {
+    const [, , status, node] = at(line, now)[1].split(' ');
+    if (status === 'new') lanes.C.push('C begin ' + t);
+    if (status === 'active') { lanes[node].push(`${node} run ${t}`); kills.push('C kill ' + t); }
+  });
+  for (const node of 'AB') lanes[node].push(`${node} take`, `${node} finish`, `${node} push`);
+  lanes.C.push(...kills);
+  return lanes;
+}
+// What a choice is about: the instruction that is next, or the message that is in front.
+function about(choice) {
+  const [actor, action, t] = choice.split(' ');
+  if (action === 'run') return D.programs[t][txn(now, +t).pc];
+  const front = action === 'take' && D.messages.find(m => m[0][1] === actor && m[2] <= now && now < m[3]);
+  return front ? front[1] : '';
+}
+function choiceButton(choice, outcome) {
+  const [, action, t] = choice.split(' ');
+  const look = outcome ? `${outcome.look} ${outcome.acts ? '' : 'still'}` : '', whom = t ? ' ' + (nameOf(t) || D.names[t]) : '';
+  const parts = [el('b', '', action + whom), el('code', '', about(choice)), el('span', '', outcome ? outcome.outcome : '…')];
+  const button = el('button', 'choice ' + look, ...parts);
+  button.dataset.choice = choice;
+  button.title = outcome ? outcome.says : '';
+  button.tabIndex = -1;
+  button.onclick = event => event.shiftKey && action === 'run' ? runUntil(choice) : guarded(make)([choice]);
+  if (action !== 'run') return button;
+  const on = el('button', 'on', '»');
+  on.title = 'Shift+Enter: until it waits, asks for a page, ends or can do nothing';
+  on.tabIndex = -1;
+  on.onclick = () => runUntil(choice);
+  return el('div', 'pair', button, on);
+}
+function drawLanes(lanes, outcomes) {
+  const focus = document.activeElement.closest('#lanes') && document.activeElement.dataset.choice;
+  const all = Object.values(lanes).flat(), of = choice => outcomes && outcomes[all.indexOf(choice)];
+  $('lanes').replaceChildren(...[['C', 'client'], ['A', 'node A'], ['B', 'node B']].map(([actor, title]) => {
+    const head = el('h3', actor, title);
+    if (actor !== 'C') head.append(modeChip(actor, now));
+    const lane = el('div', 'lane', head, ...lanes[actor].map(choice => choiceButton(choice, of(choice))));
+    lane.querySelector('.choice').tabIndex = 0;
+    return lane;
+  }));
+  if (focus) ($('lanes').querySelector(`[data-choice="${focus}"]`) || $('lanes').querySelector('.choice')).focus();
+}
+function drawNext() {
+  $('after').textContent = `After step ${now}`;
+  $('cut').disabled = now === D.last;
+  const settled = ['A', 'B'].every(node => ['normal', 'empty'].includes(at(D.modes[node], now)[1]));
+  $('migrate').textContent = settled ? 'A whole migration' : 'Let the migration end';
+  const lanes = candidates(), text = here();
+  drawLanes(lanes, known.get(text));
+  if (!known.has(text)) look();
+}
+const look = later(guarded(async () => {
+  const lanes = candidates(), text = here(), choices = Object.values(lanes).flat();
+  lookup.abort();
+  lookup = new AbortController();
+  const outcomes = await ask('outcomes', {text, choices}, lookup.signal);
+  const none = () => ({outcome: '', look: 'quiet', acts: false, says: outcomes.fault.words});  // as where there is no room for one more choice
+  if (known.size > 200) known.clear();
+  known.set(text, outcomes.fault ? choices.map(none) : outcomes);
+  if (text === here() && !busy) drawLanes(lanes, known.get(text));
+}), 30);
+const runUntil = guarded(async choice => {
+  const from = {...doc}, got = await ask('until', {text: here(), choice});
+  if (got.fault) return told(got.fault.words);
+  await make(got.added, from);
+});
+const migrate = guarded(async () => {
+  const from = {...doc}, got = await ask('migrate', {text: here()});
+  if (got.fault) return told(got.fault.words);
+  if (got.added.length) await make(got.added, from);
+  if (got.words) told(got.words);
+});
+const cut = () => { if (now < D.last) guarded(make)([]); };
+
+// Arrows move between the choices; a click leaves them to the cursor.
+$('lanes').onmousedown = event => event.preventDefault();
+$('lanes').onkeydown = event => {
+  const lane = event.target.closest('.lane'), mine = [...lane.querySelectorAll('.choice')], lanes = [...$('lanes').children];
+  const beside = way => (lanes[lanes.indexOf(lane) + way] || lane).querySelector('.choice'), below = way => mine[mine.indexOf(event.target) + way];
+  const to = {ArrowDown: () => below(1), ArrowUp: () => below(-1), ArrowRight: () => beside(1), ArrowLeft: () => beside(-1)}[event.key];
+  const runs = event.key === 'Enter' && event.shiftKey && / run /.test(event.target.dataset.choice);
+  if (to || runs) event.preventDefault();
+  if (to) { event.stopPropagation(); (to() || event.target).focus(); }
+  if (runs) runUntil(event.target.dataset.choice);
+};
+
+// ---- search
+let searching = null;
+
+const search = guarded(async () => {
+  if (searching) return searching.abort();
+  const from = {text: here(), at: now};
+  const body = {text: from.text, position: now, for: $('what').value, kill: $('kill').checked, states: +$('states').value};
+  searching = new AbortController();
+  $('go').textContent = 'Cancel';
+  $('said').textContent = 'searching';
+  try {
+    const answer = await fetch('search', {method: 'POST', body: JSON.stringify(body), signal: searching.signal});
+    await listen(answer.body.pipeThrough(new TextDecoderStream()).getReader(), from);
+  } catch (error) {
+    $('said').textContent = error.name === 'AbortError' ? 'cancelled' : 'the search broke off';
+  } finally {
+    searching = null;
+    $('go').textContent = 'Search';
+  }
+});
+async function listen(reader, from) {
+  let rest = '';
+  for (let piece; !(piece = await reader.read()).done;) {
+    const lines = (rest + piece.value).split('\n');
+    rest = lines.pop();
+    for (const line of lines) heard(JSON.parse(line), from);
+  }
+}
+function heard(said, from) {
+  if (said.progress) $('said').textContent = said.progress;
+  if (said.fault) $('said').textContent = said.fault.words;
+  if (said.words) $('said').textContent = said.words;
+  if (said.found && said.found.length) guarded(make)(said.found, from, true);
+  if (said.found && !said.found.length) $('said').textContent += '; it is so here already';
+}
+
+// ---- files and the address
+function download(file, ending, type) {
+  const link = el('a');
+  link.href = URL.createObjectURL(new Blob([file], {type}));
+  link.download = name + ending;
+  link.click();
+  setTimeout(() => URL.revokeObjectURL(link.href), 1000);
+}
+const save = guarded(async as => {
+  document.querySelector('.menu').open = false;
+  if (as === 'scenario') return download(doc.text, '.zephyr', 'text/plain');
+  const got = await ask('save', {text: doc.text, as, title: name});
+  if (got.fault) return told(got.fault.words);
+  download(got.file, as === 'svg' ? '.svg' : '.listing', as === 'svg' ? 'image/svg+xml' : 'text/plain');
+});
+async function packed(text) {
+  const bytes = new Uint8Array(await new Response(new Blob([text]).stream().pipeThrough(new CompressionStream('deflate-raw'))).arrayBuffer());
+  return btoa(Array.from(bytes, byte => String.fromCharCode(byte)).join('')).replace(/\+/g, '-').replace(/\//g, '_').replace(/=/g, '');
+}
+async function unpacked(word) {
+  const bytes = Uint8Array.from(atob(word.replace(/-/g, '+').replace(/_/g, '/')), letter => letter.charCodeAt(0));
+  return new Response(new Blob([bytes]).stream().pipeThrough(new DecompressionStream('deflate-raw'))).text();
+}
+async function store() {
+  const word = await packed(doc.text);
+  history.replaceState(null, '', `#${now}.${word}`);
+}
+const keep = later(store, 200);
+// Takes what is in an address, or else what zplay was started with.
+async function arrive(hash) {
+  const [, at, word] = hash.match(/^#(\d+)\.([\w-]+)$/) || [];
+  const text = word && await unpacked(word).catch(() => null);
+  return text ? put(text, +at) : put(given.text, Infinity);
+}
+
+// ---- what is clicked and typed
+const typing = later(guarded(() => put($('text').value, doc.at)), 120);
+$('text').oninput = () => {
+  if (Date.now() - typed > 1500) remember();
+  typed = Date.now();
+  found = null;
+  doc = {text: $('text').value, at: doc.at < D.last ? doc.at : Infinity};
+  busy = true;
+  paint();
+  typing();
+};
+$('text').onkeydown = event => {
+  if (event.key === 'Escape') $('view').focus();
+  if (event.key.toLowerCase() !== 'z' || !(event.ctrlKey || event.metaKey)) return;
+  event.preventDefault();
+  guarded(undo)(...(event.shiftKey ? [future, past] : [past, future]));
+};
+function begin(text, title) {
+  remember();
+  name = title;
+  found = null;
+  document.title = name + ' · zplay';
+  guarded(put)(text, Infinity);
+}
+$('example').append(...Object.keys(given.examples).map(title => new Option(title.replace(/_/g, ' '), title)));
+if (!(given.name in given.examples)) $('example').prepend(new Option(given.name, ''));
+$('example').value = given.name in given.examples ? given.name : '';
+$('example').onchange = event => begin(given.examples[event.target.value] || given.text, event.target.value || given.name);
+$('file').onchange = async event => {
+  const file = event.target.files[0];
+  if (file) begin((await file.text()).replace(/\r\n/g, '\n'), file.name.replace(/\.\w+$/, ''));
+};
+$('what').append(...Object.entries(given.whats).map(([word, words]) => new Option(words, word)));
+$('search').onsubmit = event => { event.preventDefault(); search(); };
+$('undo').onclick = () => guarded(undo)(past, future);
+$('redo').onclick = () => guarded(undo)(future, past);
+$('cut').onclick = cut;
+$('migrate').onclick = migrate;
+for (const button of document.querySelectorAll('[data-as]')) button.onclick = () => save(button.dataset.as);
+$('link').onclick = guarded(async () => {
+  await store();
+  const copied = await navigator.clipboard.writeText(location.href).then(() => true, () => false);
+  told(copied ? 'the address is copied: it has the whole run in it' : 'the address of this page has the whole run in it');
+});
+const first = actor => () => $('lanes').children['CAB'.indexOf(actor)].querySelector('.choice').focus();
+Object.assign(KEYS, {u: $('undo').onclick, r: $('redo').onclick, x: cut, m: migrate, s: () => $('what').focus(), e: () => $('text').focus(),
+  c: first('C'), a: first('A'), b: first('B'), Escape: () => $('view').focus()});
+addEventListener('hashchange', event => guarded(arrive)(new URL(event.newURL).hash));
+addEventListener('click', event => { if (!event.target.closest('.menu')) document.querySelector('.menu').open = false; });
+offer();
+guarded(arrive)(location.hash);
