@@ -128,6 +128,7 @@ impl Locks {
         requires { IsPlace page txn self.old.locks at }
         ensures locks { self.new.locks ≡ self.old.locks }
         ensures room { OnOk result (HasPlaces (page ∷ []) txn self.new) }
+        ensures grows { self.old.spare ≤ self.new.spare }
         ensures kept { OnErr result (self.new ≡ self.old) }
         ensures succeeds { HasPlaces (page ∷ []) txn self.old → IsOk result }
     {
@@ -146,6 +147,7 @@ impl Locks {
         ensures attempt { Attempts page txn kind self.old self.new result }
         ensures alone { holds_alone self.old.locks page txn ≡ true → (result ≡ Granted)
             × (self.new.locks ≡ self.old.locks) }
+        ensures room { self.old.spare ≤ self.new.spare + 1 }
     {
         let Some(at) = self.free_place(page, txn, kind) else {
             return Attempt::Conflict;
