@@ -1,6 +1,7 @@
 -- A list of rows as everyone sees it, and what it keeps.
 use Rattle.std.specs.Prelude.{◌≡◌, ◌⊎◌, IsSome, ℕ, ◌≤◌, List, length, take}
 use Rattle.zy_isa.specs.declared.row.Row.{Row}
+use Rattle.zy_isa.specs.Limits.{max_cap}
 use Rattle.zy_isa.specs.Rows.{Rising, RowsFit, get_row}
 
 -- rows in key order, and how many more there is memory for
@@ -17,8 +18,8 @@ pub record AreKept (rows : List Row) : Type 0 where
   pub rise : Rising 0 rows
   pub fit : RowsFit rows
 
--- at most 16 rows, which are the first of the cells
+-- at most max_cap rows, which are the first of the cells
 pub record IsPageful (len : ℕ) (cells : List Row) : Type 0 where
-  pub few : len ≤ 16
-  pub full : length cells ≡ 16
+  pub few : len ≤ max_cap
+  pub full : length cells ≡ max_cap
   pub kept : AreKept (take len cells)

@@ -1,5 +1,6 @@
 //! A leaf page.
 ghost use Rattle.std.specs.Prelude.{◌≡◌, ◌==◌, ◌<◌, ◌≤◌, IsSome, None, [], insert, length, slice_index_or};
+ghost use Rattle.zy_isa.specs.Limits.{max_cap};
 ghost use Rattle.zy_isa.specs.Rows.{Rising, RowsFit, get_row, put_row};
 ghost use Rattle.zy_page.specs.Leaf.{rows_below, rows_from};
 ghost use Rattle.zy_page.specs.RowLists.{AreKept};
@@ -46,7 +47,7 @@ impl Page {
 
     /// A page with these rows.
     fn with_rows(number: u16, low: u16, rows: &[Row]) -> Page
-        requires few { length rows.now ≤ 16 }
+        requires few { length rows.now ≤ max_cap }
         requires kept { AreKept rows.now }
         ensures { result ≡ record { number = number; low = low; rows = rows.now } }
     {
@@ -77,7 +78,7 @@ impl Page {
     /// How many rows there are.
     pub fn len(&self) -> usize
         ensures value { result ≡ length self.now.rows }
-        ensures bound { result ≤ 16 }
+        ensures bound { result ≤ max_cap }
     {
         self.rows().len()
     }
@@ -94,7 +95,7 @@ impl Page {
         ensures value { result.now ≡ self.now.rows }
         ensures rise { Rising 0 self.now.rows }
         ensures fit { RowsFit self.now.rows }
-        ensures bound { length self.now.rows ≤ 16 }
+        ensures bound { length self.now.rows ≤ max_cap }
     {
         &self.cells[..self.len]
     }
@@ -125,7 +126,7 @@ impl Page {
     /// Adds a row at a key that is not there.
     pub fn add(&mut self, new_key: u16, value: u32)
         requires absent { get_row self.old.rows new_key ≡ None }
-        requires room { length self.old.rows < 16 }
+        requires room { length self.old.rows < max_cap }
         ensures { self.new ≡ record self.old { rows = put_row new_key value self.old.rows } }
     {
         self.install(new_key, value);
@@ -133,7 +134,7 @@ impl Page {
 
     /// Puts a row, over one of the same key if there is one.
     pub fn install(&mut self, key: u16, new_value: u32)
-        requires { get_row self.old.rows key ≡ None → length self.old.rows < 16 }
+        requires { get_row self.old.rows key ≡ None → length self.old.rows < max_cap }
         ensures { self.new ≡ record self.old { rows = put_row key new_value self.old.rows } }
     {
         match search(self.rows(), key) {
@@ -151,7 +152,7 @@ impl Page {
     /// Puts a row at an index, and moves those from there on up.
     fn insert(&mut self, at: usize, row: Row)
         requires within { at ≤ length self.old.rows }
-        requires room { length self.old.rows < 16 }
+        requires room { length self.old.rows < max_cap }
         requires kept { AreKept (insert self.old.rows at row) }
         ensures { self.new ≡ record self.old { rows = insert self.old.rows at row } }
     {

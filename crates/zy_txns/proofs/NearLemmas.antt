@@ -4,7 +4,7 @@ use Rattle.std.proofs.Math.ListN.{set}
 use Rattle.zy_table.specs.State.{Txn}
 use Rattle.zy_txns.specs.Near.{IsNear, AreNear}
 
--- they are as many
+-- there are as many of both
 pub near-length : (xs ys : List Txn) → AreNear xs ys → length xs ≡ length ys
 near-length [] [] h = refl
 near-length [] (y ∷ ys) h = absurd h
@@ -26,7 +26,7 @@ set-at t [] (y ∷ ys) e h lt = absurd h
 set-at zero (x ∷ xs) (y ∷ ys) e h lt = refl
 set-at (suc t) (x ∷ xs) (y ∷ ys) e h lt = ap (λ zs. y ∷ zs) (set-at t xs ys e h.1 (omega (arith, lt)))
 
--- so many there are on the way
+-- on the way there are as many as of the others
 pub length-at : (t : ℕ) (xs ys : List Txn) → AreNear xs ys → length (take t ys ++ drop t xs) ≡ length ys
 length-at zero xs ys h = near-length xs ys h
 length-at (suc t) [] [] h = refl
