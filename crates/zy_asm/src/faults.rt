@@ -128,7 +128,7 @@ impl Reason {
     }
 }
 
-/// In words too.
+/// The words that `Display` writes.
 impl fmt::Debug for Reason {
     fn fmt<W: fmt::Write>(&self, f: &mut fmt::Formatter<W>) -> fmt::Result {
         fmt::Display::fmt(self, f)
@@ -206,7 +206,7 @@ fn tell<W: fmt::Write, D: fmt::Display>(
     write!(f, "{before}{value}{behind}")
 }
 
-/// Writes why a number is refused.
+/// Writes why a number is rejected.
 fn tell_range<W: fmt::Write>(
     f: &mut fmt::Formatter<W>,
     number: u64,
@@ -216,12 +216,12 @@ fn tell_range<W: fmt::Write>(
     write!(f, "{number} is not from {least} to {most}")
 }
 
-/// Writes why a key is refused.
+/// Writes why a key is rejected.
 fn tell_key<W: fmt::Write>(f: &mut fmt::Formatter<W>, key: u16, last: u16) -> fmt::Result {
     write!(f, "the key {key} is not above the last one, {last}")
 }
 
-/// Writes why the number of a transaction is refused.
+/// Writes why the number of a transaction is rejected.
 fn tell_transaction<W: fmt::Write>(
     f: &mut fmt::Formatter<W>,
     number: u64,
@@ -233,7 +233,7 @@ fn tell_transaction<W: fmt::Write>(
     )
 }
 
-/// Writes why the number of a program is refused.
+/// Writes why the number of a program is rejected.
 fn tell_own<W: fmt::Write>(f: &mut fmt::Formatter<W>, number: u64, own: usize) -> fmt::Result {
     write!(
         f,
@@ -256,7 +256,7 @@ fn tell_program<W: fmt::Write>(
     }
 }
 
-/// Writes which target of a program leads out of it.
+/// Writes which instruction's target is outside its program.
 fn tell_target<W: fmt::Write>(f: &mut fmt::Formatter<W>, number: usize, at: u8) -> fmt::Result {
     write!(
         f,

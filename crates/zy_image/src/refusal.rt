@@ -50,7 +50,7 @@ pub enum Found {
     },
 }
 
-/// In words too.
+/// The words that `Display` writes.
 impl fmt::Debug for Found {
     fn fmt<W: fmt::Write>(&self, f: &mut fmt::Formatter<W>) -> fmt::Result {
         fmt::Display::fmt(self, f)
@@ -94,7 +94,7 @@ fn tell_cut<W: fmt::Write>(f: &mut fmt::Formatter<W>, field: &Field, there: usiz
     write!(f, ": {field} takes {size}, of which {there} are there")
 }
 
-/// Writes how many rows there are, and for how many there is room.
+/// Writes how many rows there are, and how many have room.
 fn tell_rows<W: fmt::Write>(
     f: &mut fmt::Formatter<W>,
     rows: usize,
@@ -107,7 +107,7 @@ fn tell_rows<W: fmt::Write>(
     )
 }
 
-/// Writes which key comes behind which.
+/// Writes which key follows which.
 fn tell_keys<W: fmt::Write>(f: &mut fmt::Formatter<W>, key: usize, last: usize) -> fmt::Result {
     write!(f, ": {key} comes behind {last}")
 }

@@ -10,4 +10,6 @@ pub mod ByNode
 pub mod VersionOne
 pub mod NodeOrder
 pub mod Places
+pub mod Beginnings
+pub mod Timed
 pub mod RealTime

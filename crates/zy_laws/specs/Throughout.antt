@@ -6,10 +6,15 @@ use Rattle.zy_isa.specs.Scenario.{Scenario}
 use Rattle.zy_table.specs.Play.{play, opening}
 use Rattle.zy_table.specs.Serial.{Serializable}
 use Rattle.zy_laws.specs.OneOwner.{OneOwner}
+use Rattle.zy_laws.specs.RealTime.{StrictlySerializable}
 
 -- each page is in one place: at a node or in one message
 abbrev pub OwnedThroughout : Scenario → List Choice → Type 0
 OwnedThroughout sc choices = (n : ℕ) → OneOwner (play sc (opening sc) (take n choices))
+
+-- under both rules: strictly serializable, in the migration order
+abbrev pub StrictThroughout : Scenario → List Choice → Type 0
+StrictThroughout sc choices = (n : ℕ) → StrictlySerializable sc (take n choices)
 
 -- under held the database is that of the committed programs, run one by one in commit order
 abbrev pub SerialThroughout : Scenario → List Choice → Type 0

@@ -1,5 +1,5 @@
 //! What holds of the table over every schedule: each function is a law, and its contract is all of it.
-ghost use Rattle.std.specs.Prelude.{◌≡◌, ◌<◌, ◌++◌, ℕ, List, length, slice_get, true, false};
+ghost use Rattle.std.specs.Prelude.{◌≡◌, ◌++◌, ℕ, List, length, true, false};
 ghost use Rattle.zy_isa.specs.declared.version.Version.TheVariants.{One};
 ghost use Rattle.zy_isa.specs.declared.choice.Choice.{Choice as AChoice};
 ghost use Rattle.zy_isa.specs.declared.node.Node.{Node};
@@ -19,10 +19,8 @@ ghost use Rattle.zy_table.specs.Order.{InOrder};
 ghost use Rattle.zy_table.specs.Database.{ValuesAtPages, EachKeyHasPage, HasLows, RowsLie, database, newest};
 ghost use Rattle.zy_table.specs.Database.{all_leaves};
 ghost use Rattle.zy_laws.specs.Counts.{Safe, Fits};
-ghost use Rattle.zy_table.specs.Serial.{Listed, Serializable, is_committed};
-ghost use Rattle.zy_table.specs.Change.{txn_or};
-ghost use Rattle.zy_table.specs.Client.{is_new};
-ghost use Rattle.zy_laws.specs.RealTime.{place};
+ghost use Rattle.zy_table.specs.Serial.{Listed, Serializable};
+ghost use Rattle.zy_laws.specs.RealTime.{KeepsRealTime};
 ghost use Rattle.zy_laws.specs.SourceFirst.{SerialIn, at_node, commits_at, migration_order};
 
 /// The counts that make each sum and index safe: a transaction has done at most one instruction for each choice, it has
@@ -157,37 +155,34 @@ pub fn commits_listed()
 
 /// Under the rule `held` the database is that of the programs in the commit list, run one by one in its order; a
 /// transaction is there once where it is committed, and else not at all; and each has the registers of its lone run.
-/// Under `loose` it need not be.
+/// Under `loose` the commit order need not do; the migration order of `source_first` does.
 pub fn serializable()
     ensures { (sc : Scenario) → IsScenario sc → sc.rule ≡ Held → (choices : List AChoice)
         → Serializable sc (play sc (opening sc) choices) }
 {}
 
-/// Under both rules the database is that of the committed programs, run one by one in this order: of each migration
-/// first those that committed at its source, in the order of their commits, and then those at its destination, in
-/// theirs. That order is the commit list rearranged, and each transaction has the registers of its lone run.
+/// Under both rules the database is that of the committed programs, run one by one in the migration order: of each
+/// migration first all that committed at its source, then all that committed at its destination, each in commit order.
+/// That order is the commit list rearranged, and each committed transaction has the registers of its lone run in it.
 pub fn source_first()
     ensures { (sc : Scenario) → IsScenario sc → (choices : List AChoice)
         → SerialIn (migration_order sc choices) sc (play sc (opening sc) choices) }
 {}
 
-/// That order is one in real time: whoever has committed before another begins stands before it. With `source_first` this
-/// is strict serializability.
+/// The migration order keeps to real time: if transaction t has committed and u has not begun, t stands before u in the
+/// order of every longer schedule. With `source_first` this is strict serializability.
 pub fn real_time()
-    ensures { (sc : Scenario) → IsScenario sc → (choices more : List AChoice) (t u : ℕ)
-        → let s = play sc (opening sc) choices in
-        let order = migration_order sc (choices ++ more) in
-        is_committed (txn_or (slice_get s.txns t)).status ≡ true → is_new (txn_or (slice_get s.txns u)).status ≡ true
-        → place t order < place u order }
+    ensures { (sc : Scenario) → IsScenario sc → (choices : List AChoice) → KeepsRealTime sc choices }
 {}
 
-/// In that order the commits at one node stand as they did in the commit list.
+/// The migration order keeps the commits of each node in commit order.
 pub fn node_order()
     ensures { (sc : Scenario) (choices : List AChoice) (n : Node)
         → let s = play sc (opening sc) choices in at_node n s (migration_order sc choices) ≡ commits_at n s }
 {}
 
-/// In version 1, under both rules, that order is: all that committed at A, and then all that committed at B.
+/// In version 1, under both rules, the same holds of the order that has first all that committed at A and then all that
+/// committed at B, each in commit order. The state alone gives this order.
 pub fn a_first()
     ensures { (sc : Scenario) → IsScenario sc → sc.version ≡ One → (choices : List AChoice)
         → let s = play sc (opening sc) choices in SerialIn (commits_at A s ++ commits_at B s) sc s }

@@ -199,6 +199,9 @@ impl Locks {
     pub fn reserve_copy(&mut self, other: &Locks) -> Result<(), AllocError>
         ensures locks { self.new.locks ≡ self.old.locks }
         ensures room { OnOk result (length other.now.locks ≤ length self.new.locks + self.new.spare) }
+        ensures grows { self.old.spare ≤ self.new.spare }
+        ensures kept { OnErr result (self.new ≡ self.old) }
+        ensures succeeds { length other.now.locks ≤ length self.old.locks + self.old.spare → IsOk result }
     {
         let more = other.len().saturating_sub(self.len());
         self.locks.reserve(more)

@@ -26,14 +26,14 @@ abbrev pub Fits : Entry → EntryLog → Type 0
 Fits e (Own v) = length v.items < vec_capacity v
 Fits e (Shared k) = slice_get k.ahead 0 ≡ Some e
 
--- both are their own, and the second has room for the steps of the first
+-- neither history is shared, and there is room in mine for the steps of the other: HasRoomFor other mine
 abbrev pub HasRoomFor : EntryLog → EntryLog → Type 0
 HasRoomFor (Own w) (Own v) = length w.items ≤ vec_capacity v
 HasRoomFor (Own w) (Shared k) = ⊥
 HasRoomFor (Shared j) (Own v) = ⊥
 HasRoomFor (Shared j) (Shared k) = ⊥
 
--- the second can become a copy of the first: it has room, or this is one
+-- mine can become a copy of the other: it has room, or this copy takes its place
 abbrev pub IsReadyToBe : EntryLog → EntryLog → Option EntryLog → Type 0
 IsReadyToBe other mine None = HasRoomFor other mine
 IsReadyToBe other mine (Some copy) = (entries_of copy ≡ entries_of other) × (ahead copy ≡ ahead other)

@@ -137,7 +137,7 @@ impl EntryLog {
         }
     }
 
-    /// Makes ready to become a copy of another history: there is room for its steps, or a copy to take the place.
+    /// Prepares to become a copy of another history: makes room for its steps, or returns a copy to take the place.
     pub(crate) fn make_ready(
         &mut self,
         alloc: Global,

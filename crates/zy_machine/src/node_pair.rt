@@ -15,7 +15,7 @@ ghost use Rattle.zy_steps.specs.Arrivals.{MayTake};
 ghost use Rattle.zy_machine.specs.NodePairs.{state_of, limits_in, AreLimited, IsMade, IsPossible, IsReady, Makes};
 ghost use Rattle.zy_machine.specs.NodePairs.{MayStart, Steps};
 
-use crate::following::{follow, news};
+use crate::node_copy::{become_copy, changed_parts};
 use std::alloc::{AllocError, Global};
 use zy_isa::{Choice, Node, Scenario};
 use zy_modes::table::on_start;
@@ -48,19 +48,19 @@ impl NodePair {
         Ok(NodePair { alloc, a, b, book })
     }
 
-    /// Becomes a copy of another state. Where memory is refused nothing changes. What is the same already is not copied,
-    /// and the rest goes into the room that there is.
+    /// Becomes a copy of another state. Out of memory, nothing changes. A part that is the same is not copied, and one that
+    /// has room for the other's goes into it.
     pub(crate) fn set_to(&mut self, other: &NodePair) -> Result<(), AllocError>
         ensures ok { OnOk result (state_of self.new ≡ state_of other.now) }
         ensures err { OnErr result (state_of self.new ≡ state_of self.old) }
         ensures limits { (n : ℕ) → AreLimited n self.old → AreLimited n other.now → AreLimited n self.new }
     {
         let alloc = self.alloc;
-        let a = news(alloc, &mut self.a, &other.a)?;
-        let b = news(alloc, &mut self.b, &other.b)?;
+        let a = changed_parts(alloc, &mut self.a, &other.a)?;
+        let b = changed_parts(alloc, &mut self.b, &other.b)?;
         self.book.set_to(alloc, &other.book)?;
-        follow(&mut self.a, &other.a, a);
-        follow(&mut self.b, &other.b, b);
+        become_copy(&mut self.a, &other.a, a);
+        become_copy(&mut self.b, &other.b, b);
         Ok(())
     }
 

@@ -6,14 +6,14 @@ ghost use Rattle.zy_node.specs.Wireframes.{lows_in};
 ghost use Rattle.zy_machine.specs.NodePairs.{state_of};
 
 use crate::node_pair::NodePair;
-use zy_isa::{Node, Row};
+use zy_isa::Node;
 use zy_links::{Link, Message};
 use zy_locks::Lock;
 use zy_modes::NodeMode;
 use zy_node::NodeStore;
 use zy_node::same::same_page;
 use zy_table::{CommitRecord, Status};
-use zy_txns::{Book, Txn};
+use zy_txns::{Book, Txn, same_rows};
 use zy_wire::Wire;
 
 impl NodePair {
@@ -183,13 +183,6 @@ fn is_node(m: Node, n: Node) -> bool
 
 /// The same of registers.
 fn same_regs(xs: &[u32], ys: &[u32]) -> bool
-    ensures { result ≡ true → xs.now ≡ ys.now }
-{
-    xs == ys
-}
-
-/// The same of rows in order.
-fn same_rows(xs: &[Row], ys: &[Row]) -> bool
     ensures { result ≡ true → xs.now ≡ ys.now }
 {
     xs == ys

@@ -10,8 +10,8 @@ use std::alloc::{AllocError, Global};
 use std::marker::Model;
 use zy_isa::MAX_PAGES;
 
-/// Page numbers, with a mark for each that is among them. There are marks up to that of the greatest number, so that a
-/// copy and a comparison cost what the numbers cost.
+/// Page numbers, with a mark for each that is among them. There are marks up to that of the greatest number and no
+/// further: the same numbers have the same marks, by which `same` finds them, and a copy costs what the numbers cost.
 #[derive(Drop)]
 pub struct PageSet {
     marks: Vec<bool>,

@@ -1,7 +1,7 @@
 //! Three workers on one board.
 ghost use Rattle.std.specs.Prelude.{◌≡◌, IfOk};
 ghost use Rattle.zy_isa.specs.declared.node.Actor.TheVariants.{C as client, A as node_a, B as node_b};
-ghost use Rattle.zy_laws.specs.Throughout.{OwnedThroughout, SerialThroughout};
+ghost use Rattle.zy_laws.specs.Throughout.{OwnedThroughout, SerialThroughout, StrictThroughout};
 ghost use Rattle.zy_machine.specs.Histories.{choices_of};
 ghost use Rattle.zy_threads.specs.Orders.{IsRunOf, reordered};
 ghost use Rattle.zy_threads.specs.Turns.{IsLedgerOf, IsMerge};
@@ -17,7 +17,7 @@ use std::sync::{Mutex, Wait};
 use std::thread;
 use std::thread::Threads;
 use zy_isa::{Actor, Scenario};
-use zy_laws::laws::{one_owner, serializable};
+use zy_laws::laws::{one_owner, real_time, serializable, source_first};
 use zy_machine::{Fault, Machine};
 
 /// The desk of a board on which nobody has taken a turn.
@@ -147,7 +147,7 @@ where
 }
 
 impl<C: Side, A: Side, B: Side> Crew<C, A, B> {
-    /// What they hand back, where each worker was started.
+    /// What the workers hand back; nothing where one of them was not started.
     fn whole(self) -> Option<(Done<C>, Done<A>, Done<B>)> {
         let Crew { c, a, b } = self;
         let c = c?;
@@ -221,12 +221,16 @@ pub fn run_threads(
     ensures merge { IfOk result (λ m. IsMerge (choices_of m.entries) scenario.choices) }
     // One thread that makes the choices in the order that was taken comes to the same.
     ensures run { IfOk result (λ m. IsRunOf (reordered m.scenario (choices_of m.entries)) m) }
-    // At every point of it each page is in one place, and under `held` the database is that of the commits one by one.
+    // At every point of it each page is in one place, the run is strictly serializable, and under `held` the database is
+    // that of the commits one by one.
     ensures owned { IfOk result (λ m. OwnedThroughout m.scenario (choices_of m.entries)) }
+    ensures strict { IfOk result (λ m. StrictThroughout m.scenario (choices_of m.entries)) }
     ensures serial { IfOk result (λ m. SerialThroughout m.scenario (choices_of m.entries)) }
 {
-    // Proof: at every point each page is in one place, and under `held` the database is that of the commits one by one.
+    // Proof: all of this holds at every point of every schedule.
     one_owner();
+    source_first();
+    real_time();
     serializable();
     let machine = run_allowed(rt, alloc, scenario, gate, &Unlimited)?;
     // Proof: the machine's state is the replay of its history.

@@ -28,7 +28,8 @@ lone_end m program n i on next does =
     let ends = ap (effect_of i) run.regs ∙ does in
     (alone_commit m program i (alone m program n) run.over is ends ∙ run.map, alone_last m program i (alone m program n) run.over is ends ∙ run.regs)
 
--- a lone run of so many instructions, the last of them a commit, that touches none of these keys and leaves no row at one
+-- a lone run on m of `done` instructions, the last of which is a commit: it touches no key for which `here` is true, and leaves no
+-- row at one
 pub record Off (program : List Instr) (here : ℕ → Bool) (m : Map) (done : ℕ) : Type 0 where
   pub before : ℕ
   pub is : done ≡ suc before
@@ -39,7 +40,7 @@ pub record Off (program : List Instr) (here : ℕ → Bool) (m : Map) (done : �
   pub keys : (k : ℕ) → has (lone m program before).keys k ≡ true → here k ≡ false
   pub rows : (k : ℕ) → is_some (get_row (lone m program before).rows k) ≡ true → here k ≡ false
 
--- such a run, and another map that differs at these keys alone
+-- such a run, and another map that differs from its map only at these keys
 module _ (program : List Instr) (here : ℕ → Bool) (m e : Map) (done : ℕ) (agree : (k : ℕ) → here k ≡ false → get e k ≡ get m k)
     (o : Off program here m done) where
   -- the run on the other map is the same
@@ -91,19 +92,19 @@ abbrev pub Aside : Scenario → (ℕ → Bool) → Map → List CommitRecord →
 Aside sc here m [] = Unit {0}
 Aside sc here m (c ∷ cs) = Off (program_of sc c.txn) here m c.done × Aside sc here (alone m (program_of sc c.txn) c.done).map cs
 
--- a serial run of two lists
+-- a serial run of two lists is that of the second, from what the first leaves
 pub serial-append : (sc : Scenario) (m : Map) (xs ys : List CommitRecord) → serial sc m (xs ++ ys) ≡ serial sc (serial sc m xs) ys
 serial-append sc m [] ys = refl
 serial-append sc m (c ∷ cs) ys = serial-append sc (alone m (program_of sc c.txn) c.done).map cs ys
 
--- at these keys the map stays as it was
+-- a serial run of them leaves the map at these keys as it was
 pub aside_inside : (sc : Scenario) (here : ℕ → Bool) (m : Map) (cs : List CommitRecord) → Aside sc here m cs → (k : ℕ) → here k ≡ true
     → get (serial sc m cs) k ≡ get m k
 aside_inside sc here m [] a k is = refl
 aside_inside sc here m (c ∷ cs) a k is =
     aside_inside sc here (alone m (program_of sc c.txn) c.done).map cs a.1 k is ∙ off_inside (program_of sc c.txn) here m c.done a.0 k is
 
--- the same of fewer keys
+-- commits that touch none of these keys touch none of fewer keys
 pub aside_fewer : (sc : Scenario) (here less : ℕ → Bool) (m : Map) (cs : List CommitRecord) → ((k : ℕ) → here k ≡ false → less k ≡ false)
     → Aside sc here m cs → Aside sc less m cs
 aside_fewer sc here less m [] fewer a = tt
@@ -121,13 +122,13 @@ aside_fewer sc here less m (c ∷ cs) fewer a =
     } in
     (p, aside_fewer sc here less (alone m (program_of sc c.txn) c.done).map cs fewer a.1)
 
--- a commit more
+-- one more such commit at the end
 pub aside_push : (sc : Scenario) (here : ℕ → Bool) (m : Map) (cs : List CommitRecord) (c : CommitRecord) → Aside sc here m cs
     → Off (program_of sc c.txn) here (serial sc m cs) c.done → Aside sc here m (cs ++ c ∷ [])
 aside_push sc here m [] c a o = (o, tt)
 aside_push sc here m (x ∷ xs) c a o = (a.0, aside_push sc here (alone m (program_of sc x.txn) x.done).map xs c a.1 o)
 
--- another map that differs at these keys alone: the commits touch none of them there either
+-- on another map that differs only at these keys the commits touch none of them either
 pub aside_kept : (sc : Scenario) (here : ℕ → Bool) (m e : Map) (cs : List CommitRecord) → ((k : ℕ) → here k ≡ false → get e k ≡ get m k)
     → Aside sc here m cs → Aside sc here e cs
 aside_kept sc here m e [] agree a = tt
@@ -137,7 +138,7 @@ aside_kept sc here m e (c ∷ cs) agree a =
       aside_kept sc here (alone m program c.done).map (alone e program c.done).map cs (off_outside program here m e c.done agree a.0) a.1,
     )
 
--- at the other keys they come to the same
+-- at the other keys both serial runs come to the same
 pub aside_outside : (sc : Scenario) (here : ℕ → Bool) (m e : Map) (cs : List CommitRecord) → ((k : ℕ) → here k ≡ false → get e k ≡ get m k)
     → Aside sc here m cs → (k : ℕ) → here k ≡ false → get (serial sc e cs) k ≡ get (serial sc m cs) k
 aside_outside sc here m e [] agree a = agree
@@ -145,7 +146,7 @@ aside_outside sc here m e (c ∷ cs) agree a =
     let program = program_of sc c.txn in
     aside_outside sc here (alone m program c.done).map (alone e program c.done).map cs (off_outside program here m e c.done agree a.0) a.1
 
--- and each has the same registers
+-- and each commit has the same registers in both
 pub aside_registers : (sc : Scenario) (f : ℕ → Txn) (here : ℕ → Bool) (m e : Map) (cs : List CommitRecord) → ((k : ℕ) → here k ≡ false → get e k ≡ get m k)
     → Aside sc here m cs → Registers sc f m cs → Registers sc f e cs
 unfolding off_kept
@@ -159,14 +160,14 @@ aside_registers sc f here m e (c ∷ cs) agree a h =
       aside_registers sc f here (alone m program c.done).map (alone e program c.done).map cs (off_outside program here m e c.done agree a.0) a.1 h.1,
     )
 
--- the registers of two lists
+-- where all of two lists have the registers of their lone runs, so have those of each
 pub registers_parts : (sc : Scenario) (f : ℕ → Txn) (m : Map) (xs ys : List CommitRecord) → Registers sc f m (xs ++ ys)
     → Registers sc f m xs × Registers sc f (serial sc m xs) ys
 registers_parts sc f m [] ys h = (tt, h)
 registers_parts sc f m (c ∷ cs) ys h =
     let r = registers_parts sc f (alone m (program_of sc c.txn) c.done).map cs ys h.1 in ((h.0, r.0), r.1)
 
--- and of both as one
+-- and the other way round
 pub registers_both : (sc : Scenario) (f : ℕ → Txn) (m : Map) (xs ys : List CommitRecord) → Registers sc f m xs → Registers sc f (serial sc m xs) ys
     → Registers sc f m (xs ++ ys)
 registers_both sc f m [] ys a b = b

@@ -40,7 +40,7 @@ abbrev pub AllCommitted : (ℕ → Txn) → List CommitRecord → Type 0
 AllCommitted f [] = Unit {0}
 AllCommitted f (c ∷ cs) = (is_committed (f c.txn).status ≡ true) × AllCommitted f cs
 
--- where committed transactions stay, so do these lists
+-- where committed transactions stay as they are, so do these lists
 pub at_same_txns : (i : Node) (f g : ℕ → Txn) (cs : List CommitRecord) → ((t : ℕ) → is_committed (f t).status ≡ true → g t ≡ f t) → AllCommitted f cs
     → at_of i g cs ≡ at_of i f cs
 at_same_txns i f g [] same all = refl
@@ -48,14 +48,15 @@ at_same_txns i f g (c ∷ cs) same all =
     ap (λ (x : Txn). if same_node x.node i then c ∷ at_of i g cs else at_of i g cs) (same c.txn all.0)
     ∙ ap (λ xs. if same_node (f c.txn).node i then c ∷ xs else xs) (at_same_txns i f g cs same all.1)
 
--- and all are of committed transactions
+-- and the commits are still of committed transactions
 pub all_same_txns : (f g : ℕ → Txn) (cs : List CommitRecord) → ((t : ℕ) → is_committed (f t).status ≡ true → g t ≡ f t) → AllCommitted f cs
     → AllCommitted g cs
 all_same_txns f g [] same all = tt
 all_same_txns f g (c ∷ cs) same all = (ap (λ (x : Txn). is_committed x.status) (same c.txn all.0) ∙ all.0, all_same_txns f g cs same all.1)
 
--- one more
-pub all_push : (f : ℕ → Txn) (cs : List CommitRecord) (c : CommitRecord) → AllCommitted f cs → is_committed (f c.txn).status ≡ true → AllCommitted f (cs ++ c ∷ [])
+-- one more commit of a committed transaction
+pub all_push : (f : ℕ → Txn) (cs : List CommitRecord) (c : CommitRecord) → AllCommitted f cs → is_committed (f c.txn).status ≡ true
+    → AllCommitted f (cs ++ c ∷ [])
 all_push f [] c all new = (new, tt)
 all_push f (x ∷ cs) c all new = (all.0, all_push f cs c all.1 new)
 
@@ -81,37 +82,45 @@ stays {v = v} {w = w} (Splits t key value runs f new full normal pages e) = λ u
 stays {v = v} {w = w} (Commits t runs all e) = stay_set v w t _ (ap txns_of e) (active_off (txn_at v t).status runs.active)
 stays {v = v} {w = w} e = λ u _. at_same v w u (quiet_of e refl).txns
 
--- of one commit at n, at n it is there, and at the other node it is not
+-- a commit at n alone: the list of n has it
 one_at : (x : Txn) (n : Node) (c : CommitRecord) → x.node ≡ n → (if same_node x.node n then c ∷ [] else []) ≡ c ∷ []
 one_at x A c e = ap (λ m. if same_node m A then c ∷ [] else []) e
 one_at x B c e = ap (λ m. if same_node m B then c ∷ [] else []) e
 
+-- and the list of the other node has nothing
 pub none_at : (x : Txn) (n : Node) (c : CommitRecord) → x.node ≡ n → (if same_node x.node (other n) then c ∷ [] else []) ≡ []
 none_at x A c e = ap (λ m. if same_node m B then c ∷ [] else []) e
 none_at x B c e = ap (λ m. if same_node m A then c ∷ [] else []) e
 
 -- a commit of t at n: one more there, and none at the other node
 module _ (sc : Scenario) (n : Node) (v : View) (t : ℕ) (runs : Runs sc n t effect.Commits v) (all : AllCommitted (txn_at v) v.commits) where
+  -- the record of the commit
   abbrev c : CommitRecord
   c = record { txn = t; done = (txn_at v t).done + 1 }
 
+  -- the view after it
   abbrev w : View
   w = committed t v
 
+  -- t after it
   now : txn_at w t ≡ record (txn_at v t) { status = Committed; rows = []; done = (txn_at v t).done + 1 }
   now = at_self v w t _ (committed_txns t v) runs.active
 
+  -- those that have committed before stay as they are
   still : (u : ℕ) → is_committed (txn_at v u).status ≡ true → txn_at w u ≡ txn_at v u
   still = stay_set v w t _ (committed_txns t v) (active_off (txn_at v t).status runs.active)
 
+  -- the list of a node has the new commit at its end, or stays
   at_parts : (i : Node) → at_of i (txn_at w) w.commits ≡ at_of i (txn_at v) v.commits ++ (if same_node (txn_at w t).node i then c ∷ [] else [])
   at_parts i =
       ap (at_of i (txn_at w)) (committed_list t v) ∙ filter-append (λ (d : CommitRecord). same_node (txn_at w d.txn).node i) v.commits (c ∷ [])
       ∙ ap (λ xs. xs ++ at_of i (txn_at w) (c ∷ [])) (at_same_txns i (txn_at v) (txn_at w) v.commits still all)
 
+  -- at n it has it
   here_more : at_of n (txn_at w) w.commits ≡ at_of n (txn_at v) v.commits ++ c ∷ []
   here_more = at_parts n ∙ ap (λ xs. at_of n (txn_at v) v.commits ++ xs) (one_at (txn_at w t) n c (ap (λ (x : Txn). x.node) now ∙ runs.here))
 
+  -- at the other node it stays
   there_same : at_of (other n) (txn_at w) w.commits ≡ at_of (other n) (txn_at v) v.commits
   there_same = at_parts (other n) ∙ ap (λ xs. at_of (other n) (txn_at v) v.commits ++ xs) (none_at (txn_at w t) n c (ap (λ (x : Txn). x.node) now ∙ runs.here))
       ∙ append-nil (at_of (other n) (txn_at v) v.commits)
@@ -129,16 +138,16 @@ all_after {sc = sc} {n = n} v w (Starts at_a normal empty e) all =
     subst (AllCommitted (txn_at w)) (sym q.commits) (all_same_txns (txn_at v) (txn_at w) v.commits (λ u _. at_same v w u q.txns) all)
 all_after v w e all = subst (AllCommitted (txn_at w)) (sym (keeps_commits e refl).0) (all_same_txns (txn_at v) (txn_at w) v.commits (stays e) all)
 
--- a source, or a node that was one in version 1
-abbrev is_leaving : NodeMode → Bool
-is_leaving Empty = true
-is_leaving SInit = true
-is_leaving SDual = true
-is_leaving SFinish = true
-is_leaving m = false
+-- a source, or a node that was one (in version 1, which has one migration)
+abbrev is_or_was_source : NodeMode → Bool
+is_or_was_source Empty = true
+is_or_was_source SInit = true
+is_or_was_source SDual = true
+is_or_was_source SFinish = true
+is_or_was_source m = false
 
--- one where somebody runs is a source
-leaving_source : (m : NodeMode) → is_leaving m ≡ true → is_idle m ≡ false → is_source m ≡ true
+-- where somebody runs at such a node it is a source
+leaving_source : (m : NodeMode) → is_or_was_source m ≡ true → is_idle m ≡ false → is_source m ≡ true
 leaving_source Empty h busy = absurd (false≢true (sym busy))
 leaving_source SInit h busy = refl
 leaving_source SDual h busy = refl
@@ -148,34 +157,35 @@ leaving_source DInit h busy = absurd (false≢true h)
 leaving_source DDual h busy = absurd (false≢true h)
 leaving_source DFinish h busy = absurd (false≢true h)
 
--- a mode that another event leaves, or that is not Normal and stays leaving
+-- how an event that is neither a commit nor a start changes a mode: not at all, or the mode was not Normal, and if it was leaving, it
+-- still is
 Onward : NodeMode → NodeMode → Type 0
-Onward old new = (new ≡ old) ⊎ ((old ≡ Normal → ⊥) × (is_leaving old ≡ true → is_leaving new ≡ true))
+Onward old new = (new ≡ old) ⊎ ((old ≡ Normal → ⊥) × (is_or_was_source old ≡ true → is_or_was_source new ≡ true))
 
--- where neither mode is leaving
-other_mode : (old new m : NodeMode) → old ≡ m → (m ≡ Normal → ⊥) → is_leaving m ≡ false → Onward old new
+-- so where the old mode is neither Normal nor leaving
+other_mode : (old new m : NodeMode) → old ≡ m → (m ≡ Normal → ⊥) → is_or_was_source m ≡ false → Onward old new
 unfolding Onward
-other_mode old new m is far off = inr (λ h. far (sym is ∙ h), λ h. absurd (false≢true (sym (ap is_leaving is ∙ off) ∙ h)))
+other_mode old new m is far off = inr (λ h. far (sym is ∙ h), λ h. absurd (false≢true (sym (ap is_or_was_source is ∙ off) ∙ h)))
 
--- where both are
-next_mode : (old new m : NodeMode) → old ≡ m → (m ≡ Normal → ⊥) → is_leaving new ≡ true → Onward old new
+-- and where the old mode is not Normal and the new one is leaving
+next_mode : (old new m : NodeMode) → old ≡ m → (m ≡ Normal → ⊥) → is_or_was_source new ≡ true → Onward old new
 unfolding Onward
 next_mode old new m is far on = inr (λ h. far (sym is ∙ h), λ _. on)
 
--- the modes of the node of an event, beside one that is no source
+-- so changes the mode of the node that acts where the other one is no source
 onward : {sc : Scenario} {n : Node} (v w : View) (e : Event sc n v w) → sorts e ≡ false → Inv v → is_source v.them.mode ≡ false → Onward v.me.mode w.me.mode
 unfolding asks leaves cut locked Onward
 onward v w (Commits t runs all e) h i off = absurd (false≢true (sym h))
 onward v w (Starts at_a normal empty e) h i off = absurd (false≢true (sym h))
 onward v w (GotWire sent ms f empty e) h i off =
     absurd (false≢true (sym off ∙ ap is_source (wire_front v sent ms f empty i.roles).1))
-onward v w (GotReady ms f init e) h i off = next_mode v.me.mode w.me.mode SInit init (λ b. cc) (ap (λ (x : View). is_leaving x.me.mode) e)
+onward v w (GotReady ms f init e) h i off = next_mode v.me.mode w.me.mode SInit init (λ b. cc) (ap (λ (x : View). is_or_was_source x.me.mode) e)
 onward v w (GotDual ms f init e) h i off = other_mode v.me.mode w.me.mode DInit init (λ b. cc) refl
 onward v w (GotLast leaf ms f finish all e) h i off = other_mode v.me.mode w.me.mode DFinish finish (λ b. cc) refl
 onward v w (GotFinish ms f dual e) h i off = other_mode v.me.mode w.me.mode DDual dual (λ b. cc) refl
 onward v w (GotAll ms f dual all e) h i off = other_mode v.me.mode w.me.mode DDual dual (λ b. cc) refl
-onward v w (GotDone ms f finish e) h i off = next_mode v.me.mode w.me.mode SFinish finish (λ b. cc) (ap (λ (x : View). is_leaving x.me.mode) e)
-onward v w (Finishes dual none e) h i off = next_mode v.me.mode w.me.mode SDual dual (λ b. cc) (ap (λ (x : View). is_leaving x.me.mode) e)
+onward v w (GotDone ms f finish e) h i off = next_mode v.me.mode w.me.mode SFinish finish (λ b. cc) (ap (λ (x : View). is_or_was_source x.me.mode) e)
+onward v w (Finishes dual none e) h i off = next_mode v.me.mode w.me.mode SDual dual (λ b. cc) (ap (λ (x : View). is_or_was_source x.me.mode) e)
 onward v w (Splits t key value runs f new full normal pages e) h i off = inl (ap (λ (x : View). x.me.mode) e)
 onward v w (Asks p gone pulls asked e) h i off = inl (ap (λ (x : View). x.me.mode) e)
 onward v w (IsStale p ms f e) h i off = inl (ap (λ (x : View). x.me.mode) e)
@@ -187,9 +197,9 @@ onward v w e h i off = inl (in_place_of e refl).mode
 -- in version 1, by A's mode: before the start all commits are at A; since then those at A are the first, and those at B the others
 pub data ByNode (mode : NodeMode) (f : ℕ → Txn) (cs : List CommitRecord) (o : Sorted) : Type 0 where
   Before : mode ≡ Normal → o.first ≡ [] → o.later ≡ at_of A f cs → at_of B f cs ≡ [] → ByNode mode f cs o
-  Since : is_leaving mode ≡ true → o.first ≡ at_of A f cs → o.later ≡ at_of B f cs → ByNode mode f cs o
+  Since : is_or_was_source mode ≡ true → o.first ≡ at_of A f cs → o.later ≡ at_of B f cs → ByNode mode f cs o
 
--- a step that commits nothing
+-- an event that is neither a commit nor a start keeps it
 by_same : (old new : NodeMode) (f g : ℕ → Txn) (cs ds : List CommitRecord) (o : Sorted) → Onward old new → ds ≡ cs
     → ((u : ℕ) → is_committed (f u).status ≡ true → g u ≡ f u) → AllCommitted f cs → ByNode old f cs o → ByNode new g ds o
 unfolding Onward
@@ -203,10 +213,10 @@ by_same old new f g cs ds o on commits same all (Before normal a b c) =
 by_same old new f g cs ds o on commits same all (Since leaving a b) =
     let x = at_same_txns A f g cs same all in
     let y = at_same_txns B f g cs same all in
-    let after : is_leaving new ≡ true = elim on [ inl is ↦ ap is_leaving is ∙ leaving | inr k ↦ k.1 leaving ] in
+    let after : is_or_was_source new ≡ true = elim on [ inl is ↦ ap is_or_was_source is ∙ leaving | inr k ↦ k.1 leaving ] in
     subst (λ xs. ByNode new g xs o) (sym commits) (Since after (a ∙ sym x) (b ∙ sym y))
 
--- an event at A
+-- an event at A keeps it
 pub a_event : (sc : Scenario) (v w : View) (lows : List ℕ) (o : Sorted) (e : Event sc A v w) → Kept sc A v lows → is_source v.them.mode ≡ false
     → AllCommitted (txn_at v) v.commits → ByNode v.me.mode (txn_at v) v.commits o → ByNode w.me.mode (txn_at w) w.commits (sorted_after v w o)
 unfolding committed
@@ -230,13 +240,13 @@ a_event sc v w lows o (Starts at_a normal empty e) k off all (Before n a b d) =
     let y = at_same_txns B (txn_at v) (txn_at w) v.commits still all in
     subst (ByNode w.me.mode (txn_at w) w.commits) (sym (then_starts v w o normal (ap (λ (z : View). is_source z.me.mode) e)))
     (subst (λ cs. ByNode w.me.mode (txn_at w) cs (record { first = o.first ++ o.later; later = [] })) (sym q.commits)
-    (Since (ap (λ (z : View). is_leaving z.me.mode) e) (ap (λ xs. xs ++ o.later) a ∙ b ∙ sym x) (sym d ∙ sym y)))
-a_event sc v w lows o (Starts at_a normal empty e) k off all (Since leaving a b) = absurd (false≢true (sym (ap is_leaving normal) ∙ leaving))
+    (Since (ap (λ (z : View). is_or_was_source z.me.mode) e) (ap (λ xs. xs ++ o.later) a ∙ b ∙ sym x) (sym d ∙ sym y)))
+a_event sc v w lows o (Starts at_a normal empty e) k off all (Since leaving a b) = absurd (false≢true (sym (ap is_or_was_source normal) ∙ leaving))
 a_event sc v w lows o e k off all by =
     subst (ByNode w.me.mode (txn_at w) w.commits) (sym (then_still o e refl))
     (by_same v.me.mode w.me.mode (txn_at v) (txn_at w) v.commits w.commits o (onward v w e refl k.inv off) (keeps_commits e refl).0 (stays e) all by)
 
--- an event at B, which is no source
+-- an event at B, which is no source, keeps it
 pub b_event : (sc : Scenario) (v w : View) (lows : List ℕ) (o : Sorted) (e : Event sc B v w) → sc.version ≡ One → Kept sc B v lows → is_source v.me.mode ≡ false
     → w.them ≡ v.them → AllCommitted (txn_at v) v.commits → ByNode v.them.mode (txn_at v) v.commits o
     → ByNode w.them.mode (txn_at w) w.commits (sorted_after v w o)

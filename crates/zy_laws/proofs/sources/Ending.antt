@@ -37,7 +37,7 @@ use Rattle.zy_laws.proofs.serial.Following.{Follows, keep_registers, registers_p
 use Rattle.zy_laws.proofs.serial.LoneRuns.{Lone, get-laid, or_else}
 use Rattle.zy_laws.proofs.sources.Aside.{Off, aside_fewer, aside_inside, aside_kept, aside_outside, aside_push, aside_registers, lone_end}
 use Rattle.zy_laws.proofs.sources.Aside.{registers_both, registers_parts, serial-append}
-use Rattle.zy_laws.proofs.sources.Halves.{Divided, at_node, base, follows_agree}
+use Rattle.zy_laws.proofs.sources.Halves.{Divided, page_here, base, follows_agree}
 use Rattle.zy_laws.proofs.walk.Events.{Runs}
 use Rattle.zy_laws.proofs.walk.Txns.{IsAt, Stands, active_off, at_other, at_self, ended_far}
 use Rattle.zy_laws.proofs.wireframe.OneWireframe.{one_of}
@@ -56,21 +56,23 @@ rows_here x (r ∷ rows) all k is =
       | inr gone ↦ let h = sym (ap (λ b. least (if b then gone_pages x rows else p ∷ gone_pages x rows)) gone) ∙ all in absurd (cc)
     ]
 
--- one base for both
+-- where both maps are one, the base is that map
 base_same : (b : Bool) (m : Map) → base b m m ≡ m
 base_same true m = refl
 base_same false m = refl
 
--- nothing in front changes nothing
+-- where the first has no value, the second is taken
 or_none : (a : Option ℕ) (b : Option ℕ) → a ≡ None → or_else a b ≡ b
 or_none a b e = ap (λ z. or_else z b) e
 
 -- a state whose commits are sorted, and a commit of t whose rows' pages are here
 module _ (sc : Scenario) (n : Node) (v : View) (start : Map) (lows : List ℕ) (o : Sorted) (t : ℕ) (s : Divided sc n v start lows o)
     (runs : Runs sc n t Commits v) (all : least (gone_pages v.me (txn_at v t).rows) ≡ None) where
+  -- t before its commit
   abbrev x : Txn
   x = txn_at v t
 
+  -- the record of the commit
   abbrev c : CommitRecord
   c = record { txn = t; done = (txn_at v t).done + 1 }
 
@@ -86,22 +88,23 @@ module _ (sc : Scenario) (n : Node) (v : View) (start : Map) (lows : List ℕ) (
   abbrev on : Map
   on = base (is_source v.me.mode) m (db v)
 
+  -- t runs at n
   at : IsAt v t n
   at = (runs.active, runs.here)
 
   -- the page of each private row is here
-  here : (k : ℕ) → is_some (get_row x.rows k) ≡ true → at_node v.me lows k ≡ true
+  here : (k : ℕ) → is_some (get_row x.rows k) ≡ true → page_here v.me lows k ≡ true
   here k is = subst (λ l. owns v.me.pages (page_of l k) ≡ true) (s.kept.mine.newest (s.kept.mine.busy t at)) (rows_here v.me x.rows all k is)
 
   -- a key whose page is not here has no private row
-  bare : (k : ℕ) → at_node v.me lows k ≡ false → get_row x.rows k ≡ None
+  bare : (k : ℕ) → page_here v.me lows k ≡ false → get_row x.rows k ≡ None
   bare k far = none_else _ (λ is. false≢true (sym far ∙ here k is))
 
   -- nor has one whose page another transaction has locked here
   bare_mine : (u k : ℕ) → (u ≡ t → ⊥) → holds v.me.locks (page_of lows k) u ≡ true → get_row x.rows k ≡ None
   bare_mine u k far h = none_else _ (λ is. far (sym (s.kept.mine.apart (page_of lows k) t u (s.kept.mine.private t k at is) h)))
 
-  -- nor one whose page is at the other node
+  -- no page is at both nodes
   apart : (p : ℕ) → owns v.me.pages p ≡ true → owns v.them.pages p ≡ true → ⊥
   apart p a b =
       let one = owns-times p v.me.pages a in
@@ -109,7 +112,8 @@ module _ (sc : Scenario) (n : Node) (v : View) (start : Map) (lows : List ℕ) (
       let k = s.kept.inv.owned.once p in
       grind (arith, nat_tests, k)
 
-  bare_theirs : (k : ℕ) → at_node v.them lows k ≡ true → get_row x.rows k ≡ None
+  -- nor has a key whose page is at the other node
+  bare_theirs : (k : ℕ) → page_here v.them lows k ≡ true → get_row x.rows k ≡ None
   bare_theirs k there = none_else _ (λ is. apart (page_of lows k) (here k is) there)
 
   -- after the commit the database has the private rows, else what it had
@@ -127,13 +131,15 @@ module _ (sc : Scenario) (n : Node) (v : View) (start : Map) (lows : List ℕ) (
         ap (λ j. (alone on program j).regs) (add-one x.done) ∙ e.1 ∙ ap (λ (z : Lone). z.regs) f.run,
       )
 
-  -- the transactions of the view after it
+  -- t after its commit
   abbrev y : Txn
   y = record (txn_at v t) { status = Committed; rows = []; done = (txn_at v t).done + 1 }
 
+  -- whoever runs after the commit is another
   far_at : (u : ℕ) (i : Node) → IsAt w u i → u ≡ t → ⊥
   far_at = ended_far v w t y (committed_txns t v) at.0 refl
 
+  -- the others are as they were
   now : (u : ℕ) → (u ≡ t → ⊥) → txn_at w u ≡ txn_at v u
   now u far = at_other v w t u y (committed_txns t v) far
 
@@ -143,11 +149,11 @@ module _ (sc : Scenario) (n : Node) (v : View) (start : Map) (lows : List ℕ) (
       let self : txn_at w t ≡ y = at_self v w t y (committed_txns t v) at.0 in
       (ap (λ (z : Txn). is_committed z.status) self, ap (λ (z : Txn). z.regs) self ∙ sym ends.1)
 
-  -- the registers of the others
+  -- those that have committed before still have the registers of their lone runs
   old_regs : Registers sc (txn_at w) start (o.first ++ o.later)
   old_regs = keep_registers sc v w start (o.first ++ o.later) t y (committed_txns t v) (active_off (txn_at v t).status at.0) s.registers
 
-  -- a base has the same as before at a key without a private row
+  -- at a key without a private row a base has what it had
   base_bare : (b : Bool) (e : Map) (k : ℕ) → get e k ≡ get m k → get_row x.rows k ≡ None → get (base b e (db w)) k ≡ get (base b m (db v)) k
   base_bare true e k same none = same
   base_bare false e k same none = after k ∙ or_none (get_row x.rows k) (get (db v) k) none
@@ -182,14 +188,14 @@ module _ (sc : Scenario) (n : Node) (v : View) (start : Map) (lows : List ℕ) (
   abbrev e : Map
   e = serial sc start (o.first ++ c ∷ [])
 
-  -- what they come to, where they have come to what n runs on
+  -- what these come to, where n runs on what the first ones come to
   first_has : on ≡ m → (k : ℕ) → get e k ≡ or_else (get_row x.rows k) (get m k)
   first_has is k =
       ap (λ z. get z k) (serial-push sc start o.first c ∙ sym (ap (λ d. (alone d (program_of sc t) (x.done + 1)).map) is)
       ∙ ends.0 ∙ ap (laid x.rows) is)
       ∙ get-laid x.rows m k
 
-  -- and the registers with this one
+  -- and their registers
   first_regs : on ≡ m → Registers sc (txn_at w) start o.first → Registers sc (txn_at w) start (o.first ++ c ∷ [])
   first_regs is h = registers_push sc (txn_at w) start o.first c h
       (new_regs.0, new_regs.1 ∙ ap (λ d. (alone d (program_of sc t) (x.done + 1)).regs) is)
@@ -202,18 +208,18 @@ module _ (sc : Scenario) (n : Node) (v : View) (start : Map) (lows : List ℕ) (
       let on_is : on ≡ m = ap (λ b. base b m (db v)) source in
       let has_e = first_has on_is in
       let plain : (k : ℕ) → get_row x.rows k ≡ None → get e k ≡ get m k = λ k none. has_e k ∙ or_none (get_row x.rows k) (get m k) none in
-      let agree : (k : ℕ) → at_node v.me lows k ≡ false → get e k ≡ get m k = λ k far. plain k (bare k far) in
-      let same : (k : ℕ) → at_node v.me lows k ≡ true → get e k ≡ get (db w) k = λ k there.
+      let agree : (k : ℕ) → page_here v.me lows k ≡ false → get e k ≡ get m k = λ k far. plain k (bare k far) in
+      let same : (k : ℕ) → page_here v.me lows k ≡ true → get e k ≡ get (db w) k = λ k there.
       has_e k ∙ ap (or_else (get_row x.rows k)) (s.mine.same source k there) ∙ sym (after k) in
       let a = s.mine.aside source in
-      let b = aside_kept sc (at_node v.me lows) m e o.later agree a in
+      let b = aside_kept sc (page_here v.me lows) m e o.later agree a in
       let owned : (p : ℕ) → owns w.me.pages p ≡ owns v.me.pages p = owns-installed v.me.lows x.rows v.me.pages in
       let parts = registers_parts sc (txn_at w) start o.first o.later old_regs in
       record {
         kept = kept;
         mine = record {
           same = λ _ k h. same k (sym (owned (page_of lows k)) ∙ h);
-          aside = λ _. aside_fewer sc (at_node v.me lows) (at_node w.me lows) e o.later (λ k far. owned (page_of lows k) ∙ far) b;
+          aside = λ _. aside_fewer sc (page_here v.me lows) (page_here w.me lows) e o.later (λ k far. owned (page_of lows k) ∙ far) b;
           runs = mine_follow e plain;
         };
         theirs = record {
@@ -221,14 +227,14 @@ module _ (sc : Scenario) (n : Node) (v : View) (start : Map) (lows : List ℕ) (
           aside = λ h. absurd (false≢true (sym off ∙ h));
           runs = their_follow e (locked_there e plain (inr off));
         };
-        is_serial = same_map nat_cmp_total nat_cmp-IsAntisymmetric _ _ (λ k. elim (cases_Bool (at_node v.me lows k)) [
-          | inl there ↦ sym (same k there) ∙ sym (aside_inside sc (at_node v.me lows) e o.later b k there)
+        is_serial = same_map nat_cmp_total nat_cmp-IsAntisymmetric _ _ (λ k. elim (cases_Bool (page_here v.me lows k)) [
+          | inl there ↦ sym (same k there) ∙ sym (aside_inside sc (page_here v.me lows) e o.later b k there)
           | inr far ↦ after k ∙ or_none (get_row x.rows k) (get (db v) k) (bare k far) ∙ ap (λ z. get z k) s.is_serial
-              ∙ sym (aside_outside sc (at_node v.me lows) m e o.later agree a k far)
+              ∙ sym (aside_outside sc (page_here v.me lows) m e o.later agree a k far)
         ]);
         registers = registers_both sc (txn_at w) start (o.first ++ c ∷ []) o.later
             (first_regs on_is parts.0)
-            (aside_registers sc (txn_at w) (at_node v.me lows) m e o.later agree a parts.1);
+            (aside_registers sc (txn_at w) (page_here v.me lows) m e o.later agree a parts.1);
         permuted = subst (IsPermutation (v.commits ++ c ∷ [])) (sym (append_assoc o.first (c ∷ []) o.later))
             (IsPermutation-push_more v.commits (o.first ++ o.later) (o.first ++ c ∷ o.later) c s.permuted
             (IsPermutation-sym (o.first ++ c ∷ o.later) (c ∷ (o.first ++ o.later)) (IsPermutation-middle o.first c o.later)));
@@ -241,7 +247,7 @@ module _ (sc : Scenario) (n : Node) (v : View) (start : Map) (lows : List ℕ) (
       let program = program_of sc t in
       let on_is : on ≡ db v = ap (λ b. base b m (db v)) off in
       let f : Follows program (db v) lows v.me.locks t x = subst (λ d. Follows program d lows v.me.locks t x) on_is (s.mine.runs t at) in
-      let aside : Off program (at_node v.them lows) (db v) (x.done + 1) = record {
+      let aside : Off program (page_here v.them lows) (db v) (x.done + 1) = record {
         before = x.done;
         is = add-one x.done;
         on = ap (λ (z : Lone). z.over) f.run;
@@ -265,8 +271,8 @@ module _ (sc : Scenario) (n : Node) (v : View) (start : Map) (lows : List ℕ) (
         };
         theirs = record {
           same = λ source k there. s.theirs.same source k there ∙ sym (after k ∙ or_none (get_row x.rows k) (get (db v) k) (bare_theirs k there));
-          aside = λ source. aside_push sc (at_node v.them lows) m o.later c (s.theirs.aside source)
-              (subst (λ z. Off program (at_node v.them lows) z (x.done + 1)) s.is_serial aside);
+          aside = λ source. aside_push sc (page_here v.them lows) m o.later c (s.theirs.aside source)
+              (subst (λ z. Off program (page_here v.them lows) z (x.done + 1)) s.is_serial aside);
           runs = their_follow m (λ u k h. elim (cases_Bool (is_source v.them.mode)) [
             | inl source ↦ ap (λ b. get (base b m (db w)) k) source ∙ sym (ap (λ b. get (base b m (db v)) k) source)
             | inr away ↦ locked_there m (λ _ _. refl) (inr away) u k h

@@ -43,13 +43,13 @@ use Rattle.zy_laws.proofs.serial.FollowingRuns.{begun_follows, cut_follows, key_
 use Rattle.zy_laws.proofs.serial.FollowingRuns.{read_value, sum_value, there_value}
 use Rattle.zy_laws.proofs.serial.LoneRuns.{lone_at, lone_effect, or_else}
 use Rattle.zy_laws.proofs.sources.Aside.{aside_fewer, serial-append}
-use Rattle.zy_laws.proofs.sources.Halves.{Divided, at_node, base, base_here, half_stays}
+use Rattle.zy_laws.proofs.sources.Halves.{Divided, page_here, base, base_here, half_stays}
 use Rattle.zy_laws.proofs.walk.Events.{Free, FreeRange, Leads, Runs, has_lock, has_locks, sum_at, value_at}
 use Rattle.zy_laws.proofs.walk.Kinds.{Quiet}
 use Rattle.zy_laws.proofs.walk.ModeLines.{splits_in_normal}
 use Rattle.zy_laws.proofs.walk.Txns.{IsAt, Stands, active_off, at_other, at_same, at_self, ended_far, new_off, not_both_nodes, not_new}
 
--- beside a node in Normal there is no page
+-- beside a node in Normal the other one has no page
 none_beside : (v : View) → Inv v → Roles v → may_split v.me.mode ≡ true → (p : ℕ) → owns v.them.pages p ≡ false
 none_beside v i (Source (Resting a b c d f)) h p = ap (λ xs. owns xs p) (i.theirs.none (ap is_bare b))
 none_beside v i (Source ph) h p = cc (source_is ph)
@@ -246,7 +246,7 @@ module _ (sc : Scenario) (n : Node) (v : View) (start : Map) (lows : List ℕ) (
         };
         theirs = record {
           same = λ source j here. absurd (false≢true (sym (none (page_of (lows ++ b ∷ []) j)) ∙ here));
-          aside = λ source. aside_fewer sc (at_node v.them lows) (at_node v.them (lows ++ b ∷ [])) m o.later (λ j _. none (page_of (lows ++ b ∷ []) j))
+          aside = λ source. aside_fewer sc (page_here v.them lows) (page_here v.them (lows ++ b ∷ [])) m o.later (λ j _. none (page_of (lows ++ b ∷ []) j))
               (s.theirs.aside source);
           runs = λ u a. absurd (nobody_runs sc (other n) v.them v lows u s.kept.theirs idle.0 a);
         };
@@ -255,7 +255,7 @@ module _ (sc : Scenario) (n : Node) (v : View) (start : Map) (lows : List ℕ) (
         permuted = s.permuted;
       }
 
-  -- a step that changes no transaction and no lock, and no value, and after which no node is a source that was none
+  -- a step that changes no transaction, no lock and no value, and makes no node a source, keeps it
   pub stays_divided : (w : View) → Quiet v w → db w ≡ db v → Kept sc n w lows
       → (is_source w.me.mode ≡ true → (is_source v.me.mode ≡ true) × ((p : ℕ) → owns v.me.pages p ≡ false → owns w.me.pages p ≡ false))
       → ((t : ℕ) → IsAt v t n → is_source w.me.mode ≡ is_source v.me.mode) → Divided sc n w start lows o

@@ -30,14 +30,14 @@ abbrev pub base : Bool → Map → Map → Map
 base source m d = if source then m else d
 
 -- whether the page of a key is at a node
-abbrev pub at_node : NodeState → List ℕ → ℕ → Bool
-at_node x lows k = owns x.pages (page_of lows k)
+abbrev pub page_here : NodeState → List ℕ → ℕ → Bool
+page_here x lows k = owns x.pages (page_of lows k)
 
--- a node x, named n: where it is a source, m is what the commits at sources have come to, and d is the database, which has the same
--- where the page is still at the source; the commits elsewhere have touched nothing there; and each transaction runs as on its base
+-- a node x, named n; m is what the commits at sources come to, and d is the database. Where x is a source, both have the same on the
+-- pages that are still at x, and the commits elsewhere have touched nothing there. Each transaction at x runs as on the base of x.
 pub record Half (sc : Scenario) (n : Node) (x : NodeState) (v : View) (lows : List ℕ) (m d : Map) (later : List CommitRecord) : Type 0 where
-  pub same : is_source x.mode ≡ true → (k : ℕ) → at_node x lows k ≡ true → get m k ≡ get d k
-  pub aside : is_source x.mode ≡ true → Aside sc (at_node x lows) m later
+  pub same : is_source x.mode ≡ true → (k : ℕ) → page_here x lows k ≡ true → get m k ≡ get d k
+  pub aside : is_source x.mode ≡ true → Aside sc (page_here x lows) m later
   pub runs : (t : ℕ) → IsAt v t n → Follows (program_of sc t) (base (is_source x.mode) m d) lows x.locks t (txn_at v t)
 
 -- the database is that of the serial run in which the commits at sources come first
@@ -65,18 +65,18 @@ follows_agree {program = program} {d = d} {lows = lows} {x = x} e f agree grow =
 
 -- where a key's page is here, what the node runs on has what the database has
 pub base_here : {sc : Scenario} {n : Node} {x : NodeState} {v : View} {lows : List ℕ} {m d : Map} {later : List CommitRecord} (k : ℕ)
-    → Half sc n x v lows m d later → at_node x lows k ≡ true → get (base (is_source x.mode) m d) k ≡ get d k
+    → Half sc n x v lows m d later → page_here x lows k ≡ true → get (base (is_source x.mode) m d) k ≡ get d k
 base_here {x = x} {m = m} {d = d} k h here = elim (cases_Bool (is_source x.mode)) [
   | inl source ↦ ap (λ b. get (base b m d) k) source ∙ h.same source k here
   | inr off ↦ ap (λ b. get (base b m d) k) off
 ]
 
--- what is false where another is, is true only where that is
-held_from : (a b : Bool) → (a ≡ false → b ≡ false) → b ≡ true → a ≡ true
-held_from true b h e = refl
-held_from false b h e = absurd (false≢true (sym (h refl) ∙ e))
+-- if b is false wherever a is, then a is true wherever b is
+true_from : (a b : Bool) → (a ≡ false → b ≡ false) → b ≡ true → a ≡ true
+true_from true b h e = refl
+true_from false b h e = absurd (false≢true (sym (h refl) ∙ e))
 
--- a node that loses pages alone, and stays a source where transactions run there
+-- a node keeps it that at most loses pages, becomes no source, and stays a source as long as transactions run there
 pub half_stays : {sc : Scenario} {n : Node} {x : NodeState} {v : View} {lows : List ℕ} {m d : Map} {later : List CommitRecord}
     (y : NodeState) (w : View) (e : Map)
     → Half sc n x v lows m d later → e ≡ d → w.txns ≡ v.txns → y.locks ≡ x.locks
@@ -84,8 +84,8 @@ pub half_stays : {sc : Scenario} {n : Node} {x : NodeState} {v : View} {lows : L
     → ((t : ℕ) → IsAt v t n → is_source y.mode ≡ is_source x.mode) → Half sc n y w lows m e later
 half_stays {sc = sc} {n = n} {x = x} {v = v} {lows = lows} {m = m} {d = d} {later = later} y w e h same txns locks less mode = record {
   same = λ source k here. let l = less source in
-      h.same l.0 k (held_from (owns x.pages (page_of lows k)) (owns y.pages (page_of lows k)) (l.1 (page_of lows k)) here) ∙ sym (ap (λ z. get z k) same);
-  aside = λ source. let l = less source in aside_fewer sc (at_node x lows) (at_node y lows) m later (λ k. l.1 (page_of lows k)) (h.aside l.0);
+      h.same l.0 k (true_from (owns x.pages (page_of lows k)) (owns y.pages (page_of lows k)) (l.1 (page_of lows k)) here) ∙ sym (ap (λ z. get z k) same);
+  aside = λ source. let l = less source in aside_fewer sc (page_here x lows) (page_here y lows) m later (λ k. l.1 (page_of lows k)) (h.aside l.0);
   runs = λ t a.
       let now = at_same v w t txns in
       let at = subst (λ z. Stands z n) now a in

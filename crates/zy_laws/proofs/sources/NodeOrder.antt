@@ -26,8 +26,8 @@ use Rattle.zy_laws.proofs.walk.Events.{Commits, Event, Starts, step_happens}
 use Rattle.zy_laws.proofs.walk.Kinds.{quiet_of}
 use Rattle.zy_laws.proofs.walk.Txns.{at_same, at_self}
 
--- at each node the sorted commits are the commits in their order; since a node is a source none at it has come later.
--- n is a node, by whether it and the other one are sources
+-- the sorted commits of each node are in commit order, and as long as a node is a source the second list has none of its commits.
+-- `mine` and `theirs` say whether n and the other node are sources
 record Own (n : Node) (mine theirs : Bool) (f : ℕ → Txn) (cs : List CommitRecord) (o : Sorted) : Type 0 where
   all : AllCommitted f cs
   early : AllCommitted f o.first
@@ -36,7 +36,7 @@ record Own (n : Node) (mine theirs : Bool) (f : ℕ → Txn) (cs : List CommitRe
   here : mine ≡ true → at_of n f o.later ≡ []
   there : theirs ≡ true → at_of (other n) f o.later ≡ []
 
--- where committed transactions stay, and no source comes to be
+-- a step keeps it that leaves committed transactions as they are and makes no node a source
 own_same : (n : Node) (a b x y : Bool) (f g : ℕ → Txn) (cs : List CommitRecord) (o : Sorted) → ((t : ℕ) → is_committed (f t).status ≡ true → g t ≡ f t)
     → (x ≡ true → a ≡ true) → (y ≡ true → b ≡ true) → Own n a b f cs o → Own n x y g cs o
 own_same n a b x y f g cs o same mine theirs h = record {
@@ -49,16 +49,16 @@ own_same n a b x y f g cs o same mine theirs h = record {
   there = λ s. at_same_txns (other n) f g o.later same h.late ∙ h.there (theirs s);
 }
 
--- all of two lists
+-- where all of two lists are of committed transactions, so are those of both as one
 all_both : (f : ℕ → Txn) (xs ys : List CommitRecord) → AllCommitted f xs → AllCommitted f ys → AllCommitted f (xs ++ ys)
 all_both f [] ys a b = b
 all_both f (c ∷ xs) ys a b = (a.0, all_both f xs ys a.1 b)
 
--- those of two lists
+-- the commits at a node of two lists
 at_both : (i : Node) (f : ℕ → Txn) (xs ys : List CommitRecord) → at_of i f (xs ++ ys) ≡ at_of i f xs ++ at_of i f ys
 at_both i f xs ys = filter-append (λ (d : CommitRecord). same_node (f d.txn).node i) xs ys
 
--- a start: all so far come first
+-- a start keeps it: all so far come first
 own_start : (n : Node) (a b x : Bool) (f : ℕ → Txn) (cs : List CommitRecord) (o : Sorted) → Own n a b f cs o
     → Own n x b f cs (record { first = o.first ++ o.later; later = [] })
 own_start n a b x f cs o h = record {
@@ -77,16 +77,17 @@ each_node A B = inr refl
 each_node B A = inr refl
 each_node B B = inl refl
 
--- two parts change places where one is empty
+-- two parts may change places where the first is empty
 past_empty : (xs ys zs : List CommitRecord) → ys ≡ [] → (xs ++ ys) ++ zs ≡ (xs ++ zs) ++ ys
 past_empty xs ys zs e =
     ap (λ l. (xs ++ l) ++ zs) e ∙ ap (λ l. l ++ zs) (append-nil xs) ∙ sym (append-nil (xs ++ zs)) ∙ ap (λ l. (xs ++ zs) ++ l) (sym e)
 
+-- and where either is
 past : (xs ys zs : List CommitRecord) → (ys ≡ []) ⊎ (zs ≡ []) → (xs ++ ys) ++ zs ≡ (xs ++ zs) ++ ys
 past xs ys zs (inl e) = past_empty xs ys zs e
 past xs ys zs (inr e) = sym (past_empty xs zs ys e)
 
--- one more commit, at n
+-- one more commit at n keeps it
 own_more : (n : Node) (a b : Bool) (f : ℕ → Txn) (cs : List CommitRecord) (c : CommitRecord) (o : Sorted) → is_committed (f c.txn).status ≡ true
     → (f c.txn).node ≡ n → Own n a b f cs o → Own n a b f (cs ++ c ∷ []) (sorted_by a a (c ∷ []) o)
 own_more n true b f cs c o new at h = record {
@@ -116,11 +117,11 @@ own_more n false b f cs c o new at h = record {
   there = λ s. at_both (other n) f o.later (c ∷ []) ∙ ap (λ xs. xs ++ at_of (other n) f (c ∷ [])) (h.there s) ∙ none_at (f c.txn) n c at;
 }
 
--- that of a view from n
+-- the same of a view, seen from n
 abbrev Owned : Node → View → Sorted → Type 0
 Owned n v o = Own n (is_source v.me.mode) (is_source v.them.mode) (txn_at v) v.commits o
 
--- the other node's mode stays
+-- where the other node stays as it is, it was a source if it is one
 still_theirs : (v w : View) → w.them ≡ v.them → is_source w.them.mode ≡ true → is_source v.them.mode ≡ true
 still_theirs v w them s = sym (ap (λ (x : NodeState). is_source x.mode) them) ∙ s
 
@@ -153,12 +154,13 @@ owned_event sc n v w o e them h =
     (own_same n (is_source v.me.mode) (is_source v.them.mode) (is_source w.me.mode) (is_source w.them.mode) (txn_at v) (txn_at w) v.commits o (stays e)
     k.1 (still_theirs v w them) h))
 
--- from either side
+-- seen from A, and so from either node
 owned_from : (n : Node) (s : State) (o : Sorted) → Owned A (facing A s) o → Owned n (facing n s) o
 unfolding txn_at
 owned_from A s o h = h
 owned_from B s o h = record { all = h.all; early = h.early; late = h.late; order = h.order; here = h.there; there = h.here }
 
+-- seen from either node, and so from A
 owned_to : (n : Node) (w : View) (o : Sorted) → Owned n w o → Owned A (facing A (seen_from n w)) o
 unfolding txn_at
 owned_to A w o h = h
@@ -181,12 +183,12 @@ opening_owned : (sc : Scenario) → Owned A (facing A (opening sc)) none
 unfolding opening
 opening_owned sc = record { all = tt; early = tt; late = tt; order = λ i. refl; here = λ s. refl; there = λ s. refl }
 
--- at a node both lists are the same
+-- of the commits at a node the order is the commit order
 same_lists : (s : State) (n : Node) (o : Sorted) → Owned A (facing A s) o → at_node n s (o.first ++ o.later) ≡ commits_at n s
 unfolding txn_at
 same_lists s n o h = at_both n (txn_at (facing A s)) o.first o.later ∙ h.order n
 
--- the law: the commits at a node stand as they were made
+-- the law: the migration order keeps the commits of each node in commit order
 pub node_order : (sc : Scenario) (cs : List Choice) (n : Node) → let s = play sc (opening sc) cs in at_node n s (migration_order sc cs) ≡ commits_at n s
 node_order sc cs n =
     let o = sorted sc (opening sc) cs none in

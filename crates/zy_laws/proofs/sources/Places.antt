@@ -12,12 +12,12 @@ use Rattle.zy_table.specs.Serial.{times_listed}
 use Rattle.zy_table.specs.State.{Txn}
 use Rattle.zy_laws.specs.RealTime.{place}
 
--- none of the transactions of some commits is so
+-- none of these commits is of a transaction whose status is so
 abbrev pub NoneIs : (Status → Bool) → (ℕ → Txn) → List CommitRecord → Type 0
 NoneIs so txns [] = Unit {0}
 NoneIs so txns (c ∷ cs) = (so (txns c.txn).status ≡ false) × NoneIs so txns cs
 
--- who is so is not among them
+-- a transaction whose status is so has none of them
 none_listed : (so : Status → Bool) (f : ℕ → Txn) (t : ℕ) (cs : List CommitRecord) → NoneIs so f cs → so (f t).status ≡ true → times_listed t cs ≡ 0
 none_listed so f t [] none is = refl
 none_listed so f t (c ∷ cs) none is =
@@ -25,17 +25,18 @@ none_listed so f t (c ∷ cs) none is =
     (λ same. absurd (false≢true (sym none.0 ∙ ap (λ u. so (f u).status) (eqb-true c.txn t same) ∙ is)))
     (λ far. let rest = none_listed so f t cs none.1 is in omega (arith, rest))
 
--- of two lists
+-- in two lists a transaction is listed as often as in both together
 listed_both : (t : ℕ) (xs ys : List CommitRecord) → times_listed t (xs ++ ys) ≡ times_listed t xs + times_listed t ys
 listed_both t [] ys = omega arith
 listed_both t (c ∷ xs) ys = let more = listed_both t xs ys in omega (arith, more)
 
--- a list rearranged has each as often
+-- how often a transaction is listed, as a sum
 listed_sum : (t : ℕ) (cs : List CommitRecord) → times_listed t cs ≡ sum_by (λ (c : CommitRecord). if c.txn == t then 1 else 0) cs
 listed_sum t [] = refl
 listed_sum t (c ∷ cs) =
     ap (λ n. (if c.txn == t then 1 else 0) + n) (listed_sum t cs) ∙ sym (sum_by-cons (λ (d : CommitRecord). if d.txn == t then 1 else 0) c cs)
 
+-- a list rearranged has it as often
 listed_permuted : (t : ℕ) (xs ys : List CommitRecord) → IsPermutation xs ys → times_listed t ys ≡ times_listed t xs
 listed_permuted t xs ys same =
     listed_sum t ys ∙ sum_by-IsPermutation (λ (c : CommitRecord). if c.txn == t then 1 else 0) xs ys same ∙ sym (listed_sum t xs)
@@ -61,7 +62,7 @@ place_back t (c ∷ xs) ys off =
     let more = place_back t xs ys (omega (arith, rest)) in
     omega (arith, more))
 
--- t is of a kind that the back has not, u of one that the front has not; so t, if it is there, stands before u
+-- where the back has nothing of t's status and the front nothing of u's, t, which is listed, stands before u
 pub stands_before : (early late : Status → Bool) (f : ℕ → Txn) (t u : ℕ) (cs front back : List CommitRecord) → IsPermutation cs (front ++ back)
     → times_listed t cs ≡ 1 → NoneIs late f front → NoneIs early f back → early (f t).status ≡ true → late (f u).status ≡ true
     → place t (front ++ back) < place u (front ++ back)

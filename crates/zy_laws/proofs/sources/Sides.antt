@@ -54,7 +54,7 @@ pub record Holds (sc : Scenario) (start : Map) (s : State) (o : Sorted) : Type 0
   pub lows : List ℕ
   pub divided : Divided sc A (facing A s) start lows o
 
--- no commit
+-- before any commit
 abbrev pub none : Sorted
 none = record { first = []; later = [] }
 

@@ -34,7 +34,7 @@ use Rattle.zy_laws.proofs.walk.Events.{Event, Rests, Begins, Aborts, GoesOn, Get
 use Rattle.zy_laws.proofs.walk.Events.{GotDual, IsStale, Gives, GotPage, GotLast, GotFinish, GotAll, GotDone, Finishes, Pushes, lows_after, sum_at, value_at}
 use Rattle.zy_laws.proofs.walk.Kinds.{Quiet, of_txn, quiet_of}
 
--- a page less: what was not here is not
+-- a page that was not here is not here without another one
 without_less : (p q : ℕ) (xs : List Leaf) → owns xs q ≡ false → owns (without p xs) q ≡ false
 without_less p q [] h = refl
 without_less p q (x ∷ xs) h =
@@ -42,7 +42,7 @@ without_less p q (x ∷ xs) h =
     cond_both (x.number == p) (without p xs) (x ∷ without p xs) (λ ys. owns ys q ≡ false) (λ _. without_less p q xs parts.1)
     (λ _. ap (λ b. b || owns (without p xs) q) parts.0 ∙ without_less p q xs parts.1)
 
--- no source comes to be, and a source gets no page; a node that is no source any more was idle
+-- the node that acts does not become a source, gets no page where it is one, and was idle if it is one no longer
 record Wanes (v w : View) : Type 0 where
   less : is_source w.me.mode ≡ true → (is_source v.me.mode ≡ true) × ((p : ℕ) → owns v.me.pages p ≡ false → owns w.me.pages p ≡ false)
   mode : (is_idle v.me.mode ≡ true) ⊎ (is_source w.me.mode ≡ is_source v.me.mode)
@@ -84,7 +84,7 @@ wanes_of {v = v} (Pushes p finish own e) h s = rw e (wanes_same v _ refl (λ q o
 wanes_of (Starts at_a normal empty e) h s = absurd (false≢true (sym s))
 wanes_of e h s = absurd (false≢true (sym h))
 
--- where none commits and no source comes to be, the commits stay as they are sorted
+-- where nothing commits and no node becomes a source, the commits stay sorted as they are
 sorted_still : (b now : Bool) (cs more : List CommitRecord) (o : Sorted) → more ≡ cs → (now ≡ true → b ≡ true)
     → sorted_by b now (drop (length cs) more) o ≡ o
 sorted_still true now cs more o same less =
@@ -95,14 +95,14 @@ sorted_still false false cs more o same less =
     let none : drop (length cs) more ≡ [] = ap (drop (length cs)) same ∙ drop-length cs in
     ap (λ xs. record { first = o.first; later = o.later ++ xs }) none ∙ ap (λ xs. record { first = o.first; later = xs }) (append-nil o.later)
 
--- one more, at a source
+-- a new commit at a source joins the first list
 pub sorted_first : (b : Bool) (cs : List CommitRecord) (c : CommitRecord) (o : Sorted) → b ≡ true
     → sorted_by b b (drop (length cs) (cs ++ c ∷ [])) o ≡ record { first = o.first ++ c ∷ []; later = o.later }
 sorted_first b cs c o source =
     ap (λ z. sorted_by z z (drop (length cs) (cs ++ c ∷ [])) o) source
     ∙ ap (λ xs. record { first = o.first ++ xs; later = o.later }) (drop-append_seam cs (c ∷ []))
 
--- one more, elsewhere
+-- a new commit elsewhere joins the second
 pub sorted_last : (b : Bool) (cs : List CommitRecord) (c : CommitRecord) (o : Sorted) → b ≡ false
     → sorted_by b b (drop (length cs) (cs ++ c ∷ [])) o ≡ record { first = o.first; later = o.later ++ c ∷ [] }
 sorted_last b cs c o off =
@@ -115,13 +115,13 @@ along : {sc : Scenario} {n : Node} {w x : View} {start : Map} {lows : List ℕ} 
 along {sc = sc} {n = n} {start = start} {lows = lows} {o = o} e k f =
     subst (λ z. Divided sc n z start lows o) (sym e) (f (subst (λ z. Kept sc n z lows) e k))
 
--- the event changes how the commits are sorted: one more commits, or a migration starts
+-- whether the event is a commit or a start, which change the sorted commits
 abbrev pub sorts : {sc : Scenario} {n : Node} {v w : View} → Event sc n v w → Bool
 sorts (Commits t runs all e) = true
 sorts (Starts at_a normal empty e) = true
 sorts e = false
 
--- another event keeps the commits as they are sorted
+-- any other event keeps it with the commits sorted as they are
 pub keeps_event : (sc : Scenario) (n : Node) (v w : View) (start : Map) (lows : List ℕ) (o : Sorted) → Divided sc n v start lows o → (e : Event sc n v w)
     → sorts e ≡ false → Kept sc n w (lows_after sc n v w lows e) → Divided sc n w start (lows_after sc n v w lows e) o
 keeps_event sc n v w start lows o s (Commits t runs all e) h k = absurd (false≢true (sym h))
@@ -186,7 +186,7 @@ started sc n v w start lows o s at_a normal empty e k =
 abbrev pub sorted_after : View → View → Sorted → Sorted
 sorted_after v w o = sorted_by (is_source v.me.mode) (is_source w.me.mode) (drop (length v.commits) w.commits) o
 
--- after another event they are sorted as they were
+-- after an event that is neither a commit nor a start they are sorted as they were
 pub then_still : {sc : Scenario} {n : Node} {v w : View} (o : Sorted) (e : Event sc n v w) → sorts e ≡ false → sorted_after v w o ≡ o
 then_still {v = v} {w = w} o e h =
     let i = keeps_commits e h in sorted_still (is_source v.me.mode) (is_source w.me.mode) v.commits w.commits o i.0 i.1
@@ -198,7 +198,7 @@ then_starts v w o normal source =
     let new = drop (length v.commits) w.commits in
     ap (λ b. sorted_by b (is_source w.me.mode) new o) (ap is_source normal) ∙ ap (λ b. sorted_by false b new o) source
 
--- each event keeps it, with the commits sorted by migration
+-- each event keeps it with the commits in the migration order
 pub divided_event : (sc : Scenario) (n : Node) (v w : View) (start : Map) (lows : List ℕ) (o : Sorted) → Divided sc n v start lows o → (e : Event sc n v w)
     → Kept sc n w (lows_after sc n v w lows e) → Divided sc n w start (lows_after sc n v w lows e) (sorted_after v w o)
 unfolding committed
@@ -217,11 +217,11 @@ divided_event sc n v w start lows o s (Starts at_a normal empty e) k =
 divided_event sc n v w start lows o s e k =
     subst (Divided sc n w start (lows_after sc n v w lows e)) (sym (then_still o e refl)) (keeps_event sc n v w start lows o s e refl k)
 
--- all commits in their own order
+-- all commits in commit order
 abbrev pub in_order : List CommitRecord → Sorted
 in_order cs = record { first = cs; later = [] }
 
--- where locked pages stay, each event keeps it with the commits in their own order
+-- where locked pages stay, each event keeps it with the commits in commit order
 pub serial_event : (sc : Scenario) (n : Node) (v w : View) (start : Map) (lows : List ℕ) → is_held sc.rule ≡ true
     → Divided sc n v start lows (in_order v.commits) → (e : Event sc n v w)
     → Kept sc n w (lows_after sc n v w lows e) → Divided sc n w start (lows_after sc n v w lows e) (in_order w.commits)

@@ -23,7 +23,7 @@ use Rattle.zy_laws.proofs.sources.Sides.{Holds, divided_from, divided_to, none, 
 use Rattle.zy_laws.proofs.sources.Sorting.{divided_event, sorted_after}
 use Rattle.zy_laws.proofs.walk.Events.{step_happens}
 
--- the commits sorted after a step are those of its node's views
+-- sorting by the views of the node that acts is sorting by the states
 pub then_step : (n : Node) (s : State) (w : View) (o : Sorted) → sorted_after (facing n s) w o
     ≡ sorted_by (is_source (facing n s).me.mode) (is_source (facing n (seen_from n w)).me.mode) (drop (length s.commits) (seen_from n w).commits) o
 then_step A s w o = refl
@@ -61,7 +61,7 @@ reached_holds sc l cs =
     sorted-keeps sc Tidy (Holds sc (database (opening sc))) (step_tidy sc) (step_holds sc (database (opening sc)) l.cap_least) cs (opening sc) none
     (opening_tidy sc l) (opening_holds sc (laid_out sc l))
 
--- the law: the database is that of the committed programs, run one by one in this order
+-- the law: the database is that of the committed programs, run one by one in the migration order
 pub serial_source_first : (sc : Scenario) → IsScenario sc → (cs : List Choice) → SerialIn (migration_order sc cs) sc (play sc (opening sc) cs)
 unfolding database txn_at
 serial_source_first sc l cs =

@@ -40,7 +40,7 @@ event_parted sc one B s w lows o e k off them p = record {
   by = b_event sc (facing B s) w lows o e one k off them p.all p.by;
 }
 
--- a state of version 1
+-- what holds of each state of version 1, with the newest low keys
 record Split (sc : Scenario) (s : State) (o : Sorted) : Type 0 where
   lows : List ℕ
   kept : Kept sc A (facing A s) lows

@@ -1,5 +1,5 @@
 use Rattle.std.proofs.Common.{add-one, ◌∙◌, length, ap, arith}
-use Rattle.zy_txns.proofs.NearLemmas.{near-at, set-at, length-at, all-copies}
+use Rattle.zy_txns.proofs.InPlaceLemmas.{in_place-at, set-at, length-at, all-copies}
 use Rattle.zy_txns.proofs.book.set_all.Goals as goal
 
 pub index_mut-requires : goal.index_mut-requires
@@ -10,7 +10,7 @@ index_mut-requires c =
 pub set_to-requires : goal.set_to-requires
 set_to-requires c =
     rw (← c.loop-t.invariant, ← c.index_mut.ensures.value, ← c.index-ys-t.is) at
-    (near-at c.loop-t.t c.args.xs.now.items c.args.ys.now c.index_mut.result.now c.index-ys-t.result c.requires c.loop-t-test.true)
+    (in_place-at c.loop-t.t c.args.xs.now.items c.args.ys.now c.index_mut.result.now c.index-ys-t.result c.requires c.loop-t-test.true)
 
 pub loop-t-preserved : goal.loop-t-preserved
 loop-t-preserved c =

@@ -1,4 +1,4 @@
--- Where memory is refused the machine is the old one, and the copies are no part of what is seen.
+-- Out of memory, the machine is the old one, and the copies are no part of what is seen.
 use Rattle.std.proofs.lemmas.Result.{err_from_is_err_and}
 use Rattle.zy_debug.proofs.debugger.Debugger.replay.Goals as goal
 

@@ -1,3 +1,4 @@
+-- The other machine is of the same scenario, so that its nodes have the limits of this one's.
 use Rattle.std.specs.Arc.{arc_value}
 use Rattle.std.proofs.Common.{◌≡◌, ◌∙◌, ap, sym}
 use Rattle.zy_machine.specs.Histories.{History}

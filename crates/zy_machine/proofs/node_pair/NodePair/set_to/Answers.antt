@@ -4,6 +4,6 @@ use Rattle.zy_machine.proofs.node_pair.NodePair.set_to.Goals as goal
 pub returns-clause-limits : goal.returns-clause-limits
 returns-clause-limits c = λ n mine other. record {
   few = mine.few;
-  a = c.follow.ensures.limits n (c.news.ensures.limits ∙ mine.a) other.a;
-  b = c.follow-2.ensures.limits n (c.news-2.ensures.limits ∙ mine.b) other.b;
+  a = c.become_copy.ensures.limits n (c.changed_parts.ensures.limits ∙ mine.a) other.a;
+  b = c.become_copy-2.ensures.limits n (c.changed_parts-2.ensures.limits ∙ mine.b) other.b;
 }

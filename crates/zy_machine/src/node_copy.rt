@@ -1,8 +1,8 @@
-//! How a node becomes a copy of another one, with little memory.
+//! How a node becomes a copy of another one: only parts that differ are copied.
 ghost use Rattle.std.specs.Prelude.{◌≡◌, ◌≤◌, ◌+◌, ℕ, IfOk, OnOk, OnErr, length};
 ghost use Rattle.zy_links.specs.Messages.{message_of, messages_of};
 ghost use Rattle.zy_node.specs.Nodes.{node_shown, limits_of, IsLimited};
-ghost use Rattle.zy_machine.specs.Followings.{AreNews, IsNewMail, IsNewWire, mail_after, wire_after};
+ghost use Rattle.zy_machine.specs.NodeCopies.{AreChangedParts, IsChangedMail, IsChangedWire, mail_after, wire_after};
 
 use crate::same::{same_messages, same_wire};
 use std::alloc::{AllocError, Global};
@@ -10,20 +10,20 @@ use zy_node::wireframe::copy;
 use zy_node::{Mailbox, NodeStore};
 use zy_wire::Wire;
 
-/// What a node gets to become a copy of another one; none of what it has already.
+/// Copies of the parts of another node that differ from a node's; none for a part that is the same.
 #[derive(Drop)]
-pub(crate) struct NewParts {
+pub(crate) struct ChangedParts {
     wire: Option<Option<Wire>>,
     outbox: Option<Mailbox>,
 }
 
 /// A copy of another wireframe, if this one is not the same.
-fn new_wire(
+fn changed_wire(
     alloc: Global,
     mine: &Option<Wire>,
     other: &Option<Wire>,
 ) -> Result<Option<Option<Wire>>, AllocError>
-    ensures { IfOk result (IsNewWire mine.now other.now) }
+    ensures { IfOk result (IsChangedWire mine.now other.now) }
 {
     if same_wire(mine, other) {
         return Ok(None);
@@ -32,8 +32,8 @@ fn new_wire(
 }
 
 /// A copy of other messages, if these are not the same.
-fn new_outbox(alloc: Global, mine: &Mailbox, other: &Mailbox) -> Result<Option<Mailbox>, AllocError>
-    ensures { IfOk result (IsNewMail mine.now other.now) }
+fn changed_outbox(alloc: Global, mine: &Mailbox, other: &Mailbox) -> Result<Option<Mailbox>, AllocError>
+    ensures { IfOk result (IsChangedMail mine.now other.now) }
 {
     if same_messages(mine.link(), other.link()) {
         return Ok(None);
@@ -41,24 +41,24 @@ fn new_outbox(alloc: Global, mine: &Mailbox, other: &Mailbox) -> Result<Option<M
     Ok(Some(other.copy(alloc)?))
 }
 
-/// What a node gets to become a copy of another one, for whose locks it makes room.
-pub(crate) fn news(
+/// Copies of the parts of another node that differ from a node's, which makes room for the other's locks.
+pub(crate) fn changed_parts(
     alloc: Global,
     mine: &mut NodeStore,
     other: &NodeStore,
-) -> Result<NewParts, AllocError>
-    ensures news { IfOk result (AreNews mine.new other.now) }
+) -> Result<ChangedParts, AllocError>
+    ensures parts { IfOk result (AreChangedParts mine.new other.now) }
     ensures node { node_shown mine.new ≡ node_shown mine.old }
     ensures outbox { mine.new.outbox ≡ mine.old.outbox }
     ensures limits { limits_of mine.new ≡ limits_of mine.old }
 {
     mine.locks.reserve_copy(&other.locks)?;
-    let wire = new_wire(alloc, &mine.wire, &other.wire)?;
-    let outbox = new_outbox(alloc, &mine.outbox, &other.outbox)?;
-    Ok(NewParts { wire, outbox })
+    let wire = changed_wire(alloc, &mine.wire, &other.wire)?;
+    let outbox = changed_outbox(alloc, &mine.outbox, &other.outbox)?;
+    Ok(ChangedParts { wire, outbox })
 }
 
-/// Puts a wireframe, if there is one.
+/// Replaces a wireframe, if there is a new one.
 fn put_wire(wire: &mut Option<Wire>, new: Option<Option<Wire>>)
     ensures { wire.new ≡ wire_after wire.old new }
 {
@@ -67,7 +67,7 @@ fn put_wire(wire: &mut Option<Wire>, new: Option<Option<Wire>>)
     }
 }
 
-/// Puts messages, if there are any.
+/// Replaces the messages, if there are new ones.
 fn put_outbox(outbox: &mut Mailbox, new: Option<Mailbox>)
     ensures { outbox.new ≡ mail_after outbox.old new }
 {
@@ -77,13 +77,13 @@ fn put_outbox(outbox: &mut Mailbox, new: Option<Mailbox>)
 }
 
 /// A node becomes a copy of another one. It takes no memory.
-pub(crate) fn follow(mine: &mut NodeStore, other: &NodeStore, news: NewParts)
-    requires { AreNews mine.old other.now news }
+pub(crate) fn become_copy(mine: &mut NodeStore, other: &NodeStore, parts: ChangedParts)
+    requires { AreChangedParts mine.old other.now parts }
     ensures node { node_shown mine.new ≡ node_shown other.now }
     ensures outbox { mine.new.outbox.messages ≡ other.now.outbox.messages }
     ensures limits { (n : ℕ) → IsLimited n mine.old → IsLimited n other.now → IsLimited n mine.new }
 {
-    let NewParts { wire, outbox } = news;
+    let ChangedParts { wire, outbox } = parts;
     mine.mode = other.mode;
     put_wire(&mut mine.wire, wire);
     mine.pages.set_to(&other.pages);
