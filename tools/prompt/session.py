@@ -1,5 +1,6 @@
 """A session: a scenario, the run of it, a position, and stops. What is shown is a trace's, and what is replied is the debugger's."""
 
+import os
 import re
 from itertools import groupby
 
@@ -9,6 +10,7 @@ import runs
 from picture.looks import STUCK
 from picture.serial import differences, verdict_line
 from picture.text import summary
+from prompt.words import FORMS
 
 # The most lines of the state that a move shows.
 MOST = 20
@@ -29,13 +31,14 @@ class Fault(Exception):
 class Session:
     """The text is kept in three parts: the head with its names, the choices, and what they were before each `do`."""
 
-    def __init__(self, text, quiet=False):
+    def __init__(self, text, quiet=False, path=None):
         part, _ = bench.cut(text)
         self.head = head_of(part)
         self.run = runs.read(part, quiet)
         self.choices = choices_of(self.run)
         self.position, self.stops, self.before = 0, [], []
         self.shown = self.run.state(0)
+        self.path, self.stored, self.saved = path, self.last(), self.choices
 
     def text(self, choices):
         """The scenario with these choices."""
@@ -52,7 +55,7 @@ class Session:
         given = (self.text(self.choices) + '\n'.join(commands)).encode(**bench.BYTES)
         replies = bench.ask(['debug'], given)[len(self.stops) + 1:]
         if replies == ['bad command']:
-            raise Fault('bad command; try help')
+            raise Fault(FORMS[command.split()[0]])
         return replies
 
     def move(self, command):
@@ -141,6 +144,13 @@ class Session:
         except bench.Refused as refused:
             raise Fault(refused.words.split(': ', 2)[-1]) from None
 
+    def one_more(self, done, choice):
+        """The run with one choice more; a fault where the words are not one choice."""
+        run = self.make(done + [choice])
+        if len(run.steps) != len(done) + 1:
+            raise Fault('%s: not one choice; %s' % (choice, FORMS['do']))
+        return run
+
     def put(self, choices, run, position):
         self.choices, self.run = choices, run
         return self.go(position) + self.here()
@@ -149,7 +159,9 @@ class Session:
         """Makes a choice behind the position, some times or until something comes of it."""
         done = self.choices[:self.position]
         aside = len(self.choices) - self.position
-        run = self.make(done + [choice] * (self.times_until(done, choice, until) if until else times))
+        run = self.one_more(done, choice)
+        if until or times > 1:
+            run = self.make(done + [choice] * (self.times_until(done, choice, until) if until else times))
         self.before.append((self.choices, self.run, self.position))
         choices = choices_of(run)
         words = ['%d choices behind the position are set aside; undo brings them back' % aside] if aside else []
@@ -179,8 +191,24 @@ class Session:
                 file.write(self.text(self.written()))
         except OSError as error:
             raise Fault(str(error)) from None
+        self.saved = self.choices[:self.position]
+        if self.is_own(path):
+            self.stored = self.position
         return ['%s: %d choices' % (path, self.position)]
 
+    def is_own(self, path):
+        """Whether a path is that of the file which the session was opened from."""
+        return self.path is not None and os.path.realpath(path) == os.path.realpath(self.path)
+
+    def loses(self, path):
+        """What a save to a path would lose: choices of the session's own file; '' for nothing."""
+        if not self.is_own(path) or self.position >= self.stored:
+            return ''
+        return '%s has %d choices, and the position is %d' % (path, self.stored, self.position)
+
+    def unsaved(self):
+        """Whether there are other choices than those that were read or saved last."""
+        return self.choices != self.saved
 
     def written(self):
         """The choices up to the position as an author writes them: with names, and like ones in a row as one."""

@@ -15,8 +15,15 @@ schedule  do CHOICE [x N]     makes a choice after the position; those that were
           do CHOICE until wait    makes it until it waits, ends or changes nothing; until end: goes on where it asks for a page
           undo                the choices as they were before the last do
           save FILE           writes the scenario with the choices up to the position
-          help (h), quit (q)
+          help (h), quit (q)      quit asks first where choices are not saved
 A word may be shortened as long as only one command begins so. An empty line does the last move again."""
+
+# What each command takes, for a line that it does not take.
+FORMS = {
+    'step': 'step [N], as: step 3', 'back': 'back [N], as: back 3', 'goto': 'goto N, as: goto 10', 'cont': 'cont', 'rcont': 'rcont',
+    'find': 'find WORDS, as: find held', 'break': 'break page P, break mode or break abort', 'watch': 'watch K, as: watch 10',
+    'delete': 'delete I, as: delete 1', 'page': 'page P, as: page 0', 'txn': 'txn T, as: txn 0', 'links': 'links', 'where': 'where',
+    'do': 'do CHOICE [x N | until wait | until end], as: do A run 0 until wait', 'save': 'save FILE'}
 
 COMMANDS = ('step', 'back', 'goto', 'cont', 'rcont', 'find', 'break', 'watch', 'delete', 'stops', 'page', 'txn', 'links', 'where', 'list',
             'state', 'explain', 'summary', 'do', 'undo', 'save', 'help', 'quit')
