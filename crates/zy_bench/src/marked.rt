@@ -29,7 +29,11 @@ impl fmt::Display for Marked<'_> {
             start: from,
             bytes: text.get(from..to).unwrap_or(&[]),
         };
-        let flag = if self.quest.is_always { "always" } else { "for" };
+        let flag = if self.quest.is_always {
+            "always"
+        } else {
+            "for"
+        };
         let place = Place::of(text, word);
         write!(f, "--{flag}: {wanted} ({place})")
     }

@@ -43,11 +43,7 @@ fn read_fact<'a>(stack: &mut Stack, at: Reader<'a>) -> Result<Step<'a>, ReadFaul
 }
 
 /// Reads what comes behind a fact.
-fn read_joint<'a>(
-    alloc: Global,
-    stack: &mut Stack,
-    at: Reader<'a>,
-) -> Result<Step<'a>, ReadFault> {
+fn read_joint<'a>(alloc: Global, stack: &mut Stack, at: Reader<'a>) -> Result<Step<'a>, ReadFault> {
     if at.is_at(b")") {
         if !stack.close(alloc)? {
             return Err(ReadFault::Refused(at.refuses(Wanted::Open)));
@@ -72,11 +68,7 @@ fn read_joint<'a>(
 }
 
 /// Reads a word or several.
-fn read_next<'a>(
-    alloc: Global,
-    stack: &mut Stack,
-    step: Step<'a>,
-) -> Result<Step<'a>, ReadFault> {
+fn read_next<'a>(alloc: Global, stack: &mut Stack, step: Step<'a>) -> Result<Step<'a>, ReadFault> {
     if stack.size() > MOST {
         return Err(ReadFault::Refused(step.at.refuses(Wanted::Fewer)));
     }
@@ -143,11 +135,7 @@ pub struct Asked {
 
 /// What holds in every state.
 fn anything() -> Goal {
-    Goal::Is(Fact::Plain(Plain::Compare(
-        Term::Number(0),
-        Order::Equal,
-        Term::Number(0),
-    )))
+    Goal::Is(Fact::Plain(Plain::Compare(Term::Number(0), Order::Equal, Term::Number(0))))
 }
 
 /// What a text asks for.

@@ -32,7 +32,11 @@ fn changed_wire(
 }
 
 /// A copy of other messages, if these are not the same.
-fn changed_outbox(alloc: Global, mine: &Mailbox, other: &Mailbox) -> Result<Option<Mailbox>, AllocError>
+fn changed_outbox(
+    alloc: Global,
+    mine: &Mailbox,
+    other: &Mailbox,
+) -> Result<Option<Mailbox>, AllocError>
     ensures { IfOk result (IsChangedMail mine.now other.now) }
 {
     if same_messages(mine.link(), other.link()) {

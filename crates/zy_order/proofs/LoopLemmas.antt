@@ -61,9 +61,9 @@ done_next p r new todo rest others at machines done e adds lt part met = λ i th
                 elim (in_either rest at i (subst (IsIn i) e here)) [
                   | inl left ↦ inl (adds.still i left)
                   | inr same ↦ inr (rw same (record {
-                      part = λ w. part (subst (IsWhole p.logs) (gone_grown r.visited new.visited at adds.grows lt) w);
-                      expanded = met;
-                    }))
+                    part = λ w. part (subst (IsWhole p.logs) (gone_grown r.visited new.visited at adds.grows lt) w);
+                    expanded = met;
+                  }))
                 ]
           ]
     ]
@@ -106,14 +106,14 @@ pub met_known : (h : History) (l : Logs) (ps qs : List (List Choice)) (at : ℕ)
     → IsMet h l qs at x
 met_known h l ps qs at x line e grows lt known =
     let goal : (c : Choice) → actor_of c ≡ x → Takes l (gone_at ps at) (entry_at h.scenario (reached h (path_at ps at)) c)
-        → IsKnown h qs (further x (gone_at ps at)) (step h.scenario c (reached h (path_at ps at))).after = λ c own t.
-        let next : slice_get (log_of x l) (cursor x (gone_at ps at)) ≡ Some t.line =
-        subst (λ (y : Actor). slice_get (log_of y l) (cursor y (gone_at ps at)) ≡ Some t.line) own t.next in
-        let same : line.choice ≡ c = ap (λ (m : Logged). m.choice) (only_line l ps at x line t.line e next) ∙ t.choice in
-        subst (λ (d : Choice). IsKnown h qs (further x (gone_at ps at)) (step h.scenario d (reached h (path_at ps at))).after) same known in
+    → IsKnown h qs (further x (gone_at ps at)) (step h.scenario c (reached h (path_at ps at))).after = λ c own t.
+    let next : slice_get (log_of x l) (cursor x (gone_at ps at)) ≡ Some t.line =
+    subst (λ (y : Actor). slice_get (log_of y l) (cursor y (gone_at ps at)) ≡ Some t.line) own t.next in
+    let same : line.choice ≡ c = ap (λ (m : Logged). m.choice) (only_line l ps at x line t.line e next) ∙ t.choice in
+    subst (λ (d : Choice). IsKnown h qs (further x (gone_at ps at)) (step h.scenario d (reached h (path_at ps at))).after) same known in
     λ c own.
-        subst (λ (p : List Choice). Takes l (gone origin p) (entry_at h.scenario (reached h p) c)
-            → IsKnown h qs (further x (gone origin p)) (step h.scenario c (reached h p)).after) (sym (grows.same at lt)) (goal c own)
+    subst (λ (p : List Choice). Takes l (gone origin p) (entry_at h.scenario (reached h p) c)
+    → IsKnown h qs (further x (gone origin p)) (step h.scenario c (reached h p)).after) (sym (grows.same at lt)) (goal c own)
 
 -- three actors are all
 pub all_met : (h : History) (l : Logs) (ps : List (List Choice)) (at : ℕ) → IsMet h l ps at C → IsMet h l ps at A → IsMet h l ps at B → IsExpanded h l ps at

@@ -56,7 +56,16 @@ pub fn coded(outcome: Outcome) -> Code
         Outcome::Elsewhere => with(5, 0),
         Outcome::NotYet => with(6, 0),
         Outcome::Did => with(7, 0),
-        Outcome::Split { page, new_page, boundary } => Code { word: 8, first: page, second: new_page, third: boundary },
+        Outcome::Split {
+            page,
+            new_page,
+            boundary,
+        } => Code {
+            word: 8,
+            first: page,
+            second: new_page,
+            third: boundary,
+        },
         Outcome::Aborted(why) => abort_code(why),
         Outcome::Committed(p) => with(17, u16::from(p)),
         Outcome::Waits(p) => with(18, p),

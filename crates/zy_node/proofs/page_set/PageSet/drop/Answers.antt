@@ -7,6 +7,6 @@ pub returns : goal.returns
 returns c =
     let marks = c.self.inside.marks.items in
     rw (c.trim.ensures.pages, ← c.self.view_is) (elim c.if-at-len.branch [
-      then-at-len w ↦ rw (w.self-inside-is, drop_at 0 c.args.p c.from-at.result marks (omega arith)) refl
-    | else-at-len w ↦ rw (w.self-inside-is, drop_beyond 0 c.args.p marks (omega arith)) refl
+      | then-at-len w ↦ rw (w.self-inside-is, drop_at 0 c.args.p c.from-at.result marks (omega arith)) refl
+      | else-at-len w ↦ rw (w.self-inside-is, drop_beyond 0 c.args.p marks (omega arith)) refl
     ])
