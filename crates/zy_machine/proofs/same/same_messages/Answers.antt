@@ -1,4 +1,4 @@
-use Rattle.std.proofs.Common.{◌∙◌, sym, refl, arith, nat_lt, true}
+use Rattle.std.proofs.Common.{◌∙◌, sym, refl, arith, nat_lt}
 use Rattle.zy_links.specs.declared.message.Message.TheVariants as sent
 use Rattle.zy_machine.proofs.SameLemmas.{below_more, same_all, same_at, SameAt}
 use Rattle.zy_machine.proofs.same.same_messages.Goals as goal

@@ -1,4 +1,4 @@
-use Rattle.std.proofs.Common.{◌≡◌, ◌∙◌, arith, refl, sym, ap, length-append}
+use Rattle.std.proofs.Common.{◌∙◌, arith, sym, ap, length-append}
 use Rattle.zy_node.specs.PageSets.{marked_pages}
 use Rattle.zy_node.proofs.MarkLemmas.{marked_pages-push}
 use Rattle.zy_node.proofs.page_set.trim.Goals as goal
