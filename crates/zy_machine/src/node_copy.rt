@@ -1,6 +1,5 @@
 //! How a node becomes a copy of another one: only parts that differ are copied.
-ghost use Rattle.std.specs.Prelude.{◌≡◌, ◌≤◌, ◌+◌, ℕ, IfOk, OnOk, OnErr, length};
-ghost use Rattle.zy_links.specs.Messages.{message_of, messages_of};
+ghost use Rattle.std.specs.Prelude.{◌≡◌, ℕ, IfOk};
 ghost use Rattle.zy_node.specs.Nodes.{node_shown, limits_of, IsLimited};
 ghost use Rattle.zy_machine.specs.NodeCopies.{AreChangedParts, IsChangedMail, IsChangedWire, mail_after, wire_after};
 
