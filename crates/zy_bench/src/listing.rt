@@ -1,11 +1,9 @@
 //! The line of a listing at which an input differs from it.
 ghost use Rattle.std.specs.Prelude.{None};
 
+use std::alloc::Global;
 use std::io;
 use zy_io::Sink;
-
-/// The most bytes of a line that are kept. No line of a listing has as many.
-const MOST: usize = 8192;
 
 /// Takes a listing, and keeps one of its lines, with its end.
 #[derive(Drop)]
@@ -14,33 +12,36 @@ pub struct LineKept {
     number: usize,
     /// The number of the line that comes.
     coming: usize,
-    bytes: [u8; MOST],
-    count: usize,
+    line: Vec<u8>,
+    /// Whether memory for a byte of it was refused.
+    is_refused: bool,
 }
 
 impl LineKept {
     /// Keeps the line of this number, from 1.
-    pub fn new(number: usize) -> LineKept {
+    pub fn new(alloc: Global, number: usize) -> LineKept {
         LineKept {
             number,
             coming: 1,
-            bytes: [0; MOST],
-            count: 0,
+            line: Vec::new(alloc),
+            is_refused: false,
         }
     }
 
     /// The line; empty where the listing has fewer.
     pub fn line(&self) -> &[u8] {
-        self.bytes.get(..self.count).unwrap_or(&[])
+        self.line.as_slice()
+    }
+
+    /// Whether memory for a part of the line was refused.
+    pub fn is_refused(&self) -> bool {
+        self.is_refused
     }
 
     /// Takes a byte.
     fn take(&mut self, byte: u8) {
-        if self.coming == self.number {
-            if let Some(place) = self.bytes.get_mut(self.count) {
-                *place = byte;
-                self.count = self.count.saturating_add(1);
-            }
+        if self.coming == self.number && self.line.push(byte).is_err() {
+            self.is_refused = true;
         }
         if byte == b'\n' {
             self.coming = self.coming.saturating_add(1);

@@ -121,7 +121,7 @@ fn check<R: Eprint + Input + AllocGlobal, W: Write>(
         Verdict::NotTable(line) => {
             let due = line_due(rt, listing, line)?;
             flush(output)?;
-            show(rt, listing, line, &due);
+            show(rt, listing, line, due.line());
             Ok(NOT_TABLE)
         }
     }
@@ -130,10 +130,13 @@ fn check<R: Eprint + Input + AllocGlobal, W: Write>(
 /// The line of this number of the listing that an input is to be.
 fn line_due(rt: &impl AllocGlobal, input: &[u8], line: usize) -> Result<LineKept, BenchFault> {
     let (part, _) = input.split_at(cut_len(input).min(input.len()));
-    let mut kept = LineKept::new(line);
+    let mut kept = LineKept::new(rt.alloc(), line);
     let mut source = SliceSource::new(part);
     let mut input = Vec::new(rt.alloc());
     run_bytes(rt.alloc(), Format::Text, &mut source, &mut kept, &mut input)?;
+    if kept.is_refused() {
+        return Err(BenchFault::Memory);
+    }
     Ok(kept)
 }
 
@@ -263,11 +266,11 @@ fn sum_up(rt: &impl Eprint, report: &Report) -> u8 {
 }
 
 /// Shows on standard error the line of an input at which it is not the listing.
-fn show(rt: &impl Eprint, input: &[u8], line: usize, due: &LineKept) {
+fn show(rt: &impl Eprint, input: &[u8], line: usize, due: &[u8]) {
     let differing = Differing {
         number: line,
         is: whole_line(input, line),
-        due: due.line(),
+        due,
         is_scenario: cut_len(input) == input.len(),
     };
     let _ = eprintln!(rt; "zy_bench: {differing}");
