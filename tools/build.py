@@ -1,9 +1,9 @@
 """Proves and builds a program: each crate once those that it uses are proved, with others side by side.
 
-    build.py [PROGRAM]
+    build.py [zy_bench | zy_first]
 
-The program is zy_bench, or zy_first, which needs fewer crates. A line on standard error for each crate as it is proved: its time, how many are left, and how long they take by estimate. What rt writes goes
-to crates/build.log."""
+The program is zy_bench, if none is named; zy_first uses fewer crates. A line on standard error for each crate as it is proved: its time, how many
+are left, and how long they take by estimate. What rt writes goes to crates/build.log."""
 
 import os
 import re
@@ -70,7 +70,7 @@ def link(source, to):
 
 
 def own_test():
-    """The words of the program's own test, and the file that is its input."""
+    """The words and the path of the input with which rt tests the program, from the files args and stdin of its crate."""
     args, stdin = (os.path.join(CRATES, PROGRAM, name) for name in ('args', 'stdin'))
     words = []
     if os.path.exists(args):
@@ -144,7 +144,8 @@ class Build:
         self.begun, self.room = time.monotonic(), side_by_side()
 
     def begin(self):
-        """Begins proofs while there is room, first those on which most of the work waits; the very first of them is on all processors, before the others."""
+        """Begins proofs while there is room, first those on which most of the work waits; the very first of them is on all processors, before
+        the others."""
         ready = [name for name in self.left if self.needs[name] <= self.done]
         first = max(self.left, key=self.behind.get, default=None)
         for name in sorted(ready, key=self.behind.get, reverse=True)[:self.room - len(self.under_way)]:

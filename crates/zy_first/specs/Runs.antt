@@ -1,5 +1,5 @@
 -- What a run of a scenario text does.
-use Rattle.std.specs.Prelude.{◌≡◌, ℕ, List, Option, IfSome}
+use Rattle.std.specs.Prelude.{ℕ, List, Option, IfSome}
 use Rattle.std.specs.Io.KnownBytes.{Appends}
 use Rattle.zy_isa.specs.Scenario.{Scenario}
 use Rattle.zy_text.specs.Text.{Means}
@@ -8,7 +8,3 @@ use Rattle.zy_audit.specs.Run.{listing_run}
 -- the bytes that the reader reports mean a scenario, and exactly its listing went out
 abbrev pub Listed : Option (List ℕ) → Option (List ℕ) → Option (List ℕ) → Type 0
 Listed left old new = IfSome left (λ bytes. (sc : Scenario) × Means bytes sc × Appends old new (listing_run sc))
-
--- no call has failed
-abbrev pub Quiet : ℕ → ℕ → Type 0
-Quiet before after = after ≡ before

@@ -1,15 +1,15 @@
 //! Why there is no listing.
 
 use std::fmt;
-use zy_asm::Refusal;
+use zy_asm::{AsmKind, Refusal};
 use zy_io::{ReadFault, TextFault};
 
-/// Why there is no listing.
+/// Why there is no listing. Names, words and statuses are those of `zy_engine::BenchFault`.
 #[derive(Clone, Copy)]
 pub enum Fault {
-    /// The scenario text is refused, from this line on.
+    /// The scenario text is rejected, from this line on.
     Input(Refusal),
-    /// The input is longer than an engine takes.
+    /// There are over 4,194,304 bytes.
     TooLong,
     /// The reader failed.
     Read,
@@ -20,7 +20,7 @@ pub enum Fault {
 }
 
 impl Fault {
-    /// The exit status: 1 where the input is refused, 3 out of memory, 5 where reading or writing failed.
+    /// The exit status: 1 where the input is rejected, 3 out of memory, 5 where reading or writing failed.
     pub fn status(self) -> u8 {
         match self {
             Fault::Input(_) => 1,
@@ -44,7 +44,10 @@ impl From<ReadFault> for Fault {
 
 impl From<Refusal> for Fault {
     fn from(refusal: Refusal) -> Fault {
-        Fault::Input(refusal)
+        match refusal.reason.kind() {
+            AsmKind::Memory => Fault::Memory,
+            _ => Fault::Input(refusal),
+        }
     }
 }
 
@@ -61,7 +64,7 @@ impl From<TextFault> for Fault {
 impl fmt::Display for Fault {
     fn fmt<W: fmt::Write>(&self, f: &mut fmt::Formatter<W>) -> fmt::Result {
         match self {
-            Fault::Input(refusal) => tell(f, refusal),
+            Fault::Input(refusal) => write_refusal(f, refusal),
             Fault::TooLong => f.write_str("TooLong: an input has at most 4194304 bytes"),
             Fault::Read => f.write_str("Read: the input could not be read to its end"),
             Fault::Write => f.write_str("Write: the output could not be written"),
@@ -70,8 +73,8 @@ impl fmt::Display for Fault {
     }
 }
 
-/// Writes why a text is refused.
-fn tell<W: fmt::Write>(f: &mut fmt::Formatter<W>, refusal: &Refusal) -> fmt::Result {
+/// Writes why a text is rejected.
+fn write_refusal<W: fmt::Write>(f: &mut fmt::Formatter<W>, refusal: &Refusal) -> fmt::Result {
     let reason = refusal.reason;
     write!(
         f,

@@ -1,5 +1,5 @@
-//! `zy_first`: the listing of the scenario text on standard input, as `zy_bench run` writes it. It needs few crates, and
-//! so it is proved long before `zy_bench` is.
+//! `zy_first`: reads a scenario text on standard input, and writes its listing, as `zy_bench run` does. It uses few
+//! crates, so it is proved long before `zy_bench`.
 #![tactic(auto)]
 
 ghost use Rattle.std.specs.Prelude.{◌<◌};
@@ -39,6 +39,7 @@ fn main(rt: HostRuntime) -> ExitCode {
     match list(&rt) {
         Ok(()) => ExitCode::from(0),
         Err(fault) => {
+            // The user has called `./zy_bench run`.
             let _ = eprintln!(&rt; "zy_bench: {fault}");
             ExitCode::from(fault.status())
         }

@@ -1,7 +1,7 @@
 //! From the bytes of a scenario text to those of its listing.
-ghost use Rattle.std.specs.Prelude.{◌<◌, IfOk, IfSome, OnOk};
+ghost use Rattle.std.specs.Prelude.{◌≡◌, ◌<◌, IfOk, IfSome, OnOk};
 ghost use Rattle.zy_text.specs.Text.{Means};
-ghost use Rattle.zy_first.specs.Runs.{Listed, Quiet};
+ghost use Rattle.zy_first.specs.Runs.{Listed};
 
 use crate::faults::Fault;
 use std::alloc::Global;
@@ -11,7 +11,7 @@ use zy_io::reading::read_all;
 use zy_io::{Sink, Source};
 use zy_isa::Scenario;
 
-/// Reads a scenario text whole, and gives its scenario.
+/// Reads a scenario text whole, and returns its scenario.
 fn read_scenario<S: Source>(alloc: Global, source: &mut S) -> Result<Scenario, Fault>
     requires { S.failures source.old < u64.MAX }
     ensures { IfOk result (λ sc. IfSome (S.left source.old) (λ bytes. Means bytes sc)) }
@@ -26,8 +26,8 @@ pub fn run<S: Source, K: Sink>(alloc: Global, source: &mut S, sink: &mut K) -> R
     requires { (S.failures source.old < u64.MAX) × (K.failures sink.old < u64.MAX) }
     // At Ok the text means a scenario, and exactly its listing went out.
     ensures written { OnOk result (Listed (S.left source.old) (K.written sink.old) (K.written sink.new)) }
-    // No call of the writer has failed then.
-    ensures writes { OnOk result (Quiet (K.failures sink.old) (K.failures sink.new)) }
+    // At Ok no call of the writer failed.
+    ensures writes { OnOk result (K.failures sink.new ≡ K.failures sink.old) }
 {
     let scenario = read_scenario(alloc, source)?;
     write_run(alloc, scenario, sink)?;
