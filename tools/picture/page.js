@@ -2,6 +2,7 @@
 const $ = id => document.getElementById(id);
 let D = null, pieces = [];            // the run, and its picture in pieces
 let now = -1, pinned = -1, zoom = 1;  // the step, the page that was clicked, and how large the picture is
+let onShow = () => {};                // what else is done when a step is shown
 
 // The entry of a timeline that holds at a position.
 function at(line, n) {
@@ -124,10 +125,10 @@ function program(it) {
 function txnsPart(n) {
   const all = D.txns.map((_, t) => txn(n, t)), few = all.length <= 6, me = n > 0 ? D.actors[n] : -1;
   const count = status => all.filter(it => it.status === status).length;
-  const told = ['active', 'committed', 'aborted', 'new'].map(status => `${count(status)} ${status}`).join(', ');
+  const counts = ['active', 'committed', 'aborted', 'new'].map(status => `${count(status)} ${status}`).join(', ');
   const cards = few ? all : [...all.filter(it => it.t === me), ...all.filter(it => it.t !== me && it.status === 'active')];
   const ended = few ? [] : all.filter(it => it.t !== me && it.why.length > 1 && it.status !== 'active');
-  return [el('h2', '', few ? 'transactions' : 'transactions: ' + told), ...cards.map(it => txnCard(it, it.t === me, few || it.t === me)),
+  return [el('h2', '', few ? 'transactions' : 'transactions: ' + counts), ...cards.map(it => txnCard(it, it.t === me, few || it.t === me)),
     el('p', 'ended', ...ended.flatMap(it => [el('span', 'tag ' + it.status, `${D.names[it.t]} ${it.why.slice(1).join(' ')}`), ' ']))];
 }
 
@@ -199,7 +200,6 @@ function load(run, n) {
   fit();
   show(n);
 }
-let noted = () => {};  // what else is done where another step is shown
 function show(n) {
   now = Math.max(0, Math.min(D.last, n));
   $('slide').value = now;
@@ -209,7 +209,7 @@ function show(n) {
   place($('mark'), now);
   $('now').replaceChildren(...pagesPart(now), el('h2', '', 'links, front first'), queue(now, 'AB', 'A → B'), queue(now, 'BA', 'B → A'), ...txnsPart(now));
   reveal(); drawSight();
-  noted();
+  onShow();
 }
 function gloss(n) {
   if (!n) return 'Before the first step.';

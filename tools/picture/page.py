@@ -17,9 +17,14 @@ CHUNK = 60  # as many rows are drawn at a time
 
 def html(picture):
     """The file."""
-    filled = {'title': escape(picture.title), 'css': page_css(), 'script': part('page.js'),
-              'data': json.dumps(data_of(picture), separators=(',', ':')).replace('</', '<\\/')}
-    return re.sub(r'\{\{(\w+)\}\}', lambda name: filled[name.group(1)], part('page.html'))
+    return filled(part('page.html'), {
+        'title': escape(picture.title), 'css': page_css(), 'script': part('page.js'),
+        'data': json.dumps(data_of(picture), separators=(',', ':')).replace('</', '<\\/')})
+
+
+def filled(html_text, parts):
+    """A page with its parts in the places of their names."""
+    return re.sub(r'\{\{(\w+)\}\}', lambda name: parts[name.group(1)], html_text)
 
 
 def data_of(picture):

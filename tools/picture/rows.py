@@ -2,6 +2,9 @@
 
 from picture.looks import look_of
 
+# Above this number of steps, like steps in a row share a row.
+LONG = 200
+
 
 def choice_of(step):
     """The choice of a step, as the listing has it."""

@@ -1,4 +1,4 @@
-"""Which rows the serial run leaves otherwise, where a run is not serial."""
+"""Which rows the serial run leaves otherwise, where there are such rows."""
 
 import bench
 
@@ -27,13 +27,18 @@ def done_of(run, txn):
     return int(run.txns[txn].at(len(run.steps)).split(' done ')[1].split()[0])
 
 
+def commit_order(run):
+    """The committed transactions in the order of their commits."""
+    committed = [life for life in run.lives if life and life.outcome.startswith('committed')]
+    return [life.txn for life in sorted(committed, key=lambda life: int(life.outcome.split()[1]))]
+
+
 def differences(run):
     """(key, value here, value in the serial run) of each row that differs. The program itself runs the committed programs one by one; where
     one of them does not end there as in the serial run, or they are too long for a scenario, nothing is said."""
     if run.verdict != 'serial differs':
         return []
-    committed = [life for life in run.lives if life and life.outcome.startswith('committed')]
-    order = [life.txn for life in sorted(committed, key=lambda life: int(life.outcome.split()[1]))]
+    order = commit_order(run)
     done = {txn: done_of(run, txn) for txn in order}
     if sum(done.values()) + 9 * len(order) > 4096:
         return []

@@ -14,20 +14,22 @@ import runs
 from picture.drawing import Picture
 from picture.looks import look_of
 from picture.page import data_of
-from picture.rows import Rows
+from picture.rows import LONG, Rows
+from picture.serial import commit_order
 from picture.svg import svg
 from prompt.session import LIMIT, Session, choices_of
 
-# Above this number of steps, like steps in a row share a row.
-LONG = 200
-
 # What a search may look for, and how the page says it.
-WHATS = {
-    'differs': 'a database that is not serial', 'stuck': 'transactions that are stuck', 'committed': 'all committed', 'aborted': 'an abort',
+GOALS = {
+    'differs': 'rows that are not those of the commit order', 'stuck': 'transactions that are stuck', 'committed': 'all committed',
+    'aborted': 'an abort',
     **{why: 'an abort: ' + why for why in ('own', 'killed', 'badkey', 'missing', 'duplicate', 'frozen', 'nopage', 'gone')}}
 
-# What a search may take: seconds of a processor, and bytes of memory.
-LIMITS = {resource.RLIMIT_CPU: 600, resource.RLIMIT_AS: 4 << 30}
+# What one call of the program may take, and what a search may: seconds of a processor, and bytes of memory.
+LIMITS = {resource.RLIMIT_CPU: 20, resource.RLIMIT_AS: 2 << 30}
+SEARCH_LIMITS = {resource.RLIMIT_CPU: 600, resource.RLIMIT_AS: 4 << 30}
+
+STOPPED = 'was stopped: it took more time or memory than it may'
 
 # The choices of a round that lets a migration go on; the transactions of its source are added.
 ROUND = ['A take', 'B take', 'A finish', 'B finish', 'A push', 'B push']
@@ -44,22 +46,21 @@ SEARCHES = set()  # those that are under way
 
 
 def picture_of(asked):
+    """The picture of the whole run."""
     run = runs.read(asked['text'], quiet=True)
     return Picture(run, Rows(run.steps, len(run.steps) > LONG), str(asked.get('title', '')))
 
 
-def run(asked):
+def whole_run(asked):
     """The run, as the page of `zview` has it, with the rows that the serial run leaves otherwise and its order."""
     picture = picture_of(asked)
-    committed = [life for life in picture.run.lives if life and life.outcome.startswith('committed')]
-    order = [life.txn for life in sorted(committed, key=lambda life: int(life.outcome.split()[1]))]
-    return dict(data_of(picture), differs=picture.differs, order=order)
+    return dict(data_of(picture), differs=picture.differs, order=commit_order(picture.run))
 
 
 def fault_of(refused):
     """A fault of a text: the line of the word at fault, 0 where there is none, and what is wrong."""
     if refused.status < 0:
-        return {'line': 0, 'words': 'zy_bench was stopped: it took more time or memory than it may'}
+        return {'line': 0, 'words': 'zy_bench ' + STOPPED}
     words = refused.words.partition(': ')[2] or 'zy_bench ended with status %d' % refused.status
     found = re.match(r'Input\(line (\d+), \w+\): (.*)', words, re.DOTALL)
     place = re.search(r'\(line (\d+), column \d+: ', words)
@@ -68,7 +69,7 @@ def fault_of(refused):
 
 # ---- choices
 
-def made(text, choice):
+def tried(text, choice):
     """The last step of a text with one more choice, and the lines of the state at its end."""
     above = bench.cut(text)[0].rstrip('\n').rpartition('\n')[0]
     listing = bench.ask(['run'], '\n'.join([above, choice, 'end', '']).encode(**bench.BYTES), quiet=True)
@@ -78,7 +79,7 @@ def made(text, choice):
 
 def outcomes_of(asked):
     """For each of some choices what would come of it, whether it would change anything, and what that is."""
-    (_, before), *after = POOL.map(lambda choice: made(asked['text'], choice), [''] + asked['choices'][:MOST])
+    (_, before), *after = POOL.map(lambda choice: tried(asked['text'], choice), [''] + asked['choices'][:MOST])
     steps = [runs.step_of(line) for line, _ in after]
     meaning = outcomes.meanings({step.outcome for step in steps})
     return [{'outcome': step.line.split(' -> ')[1], 'look': look_of(step), 'acts': state != before,
@@ -96,25 +97,33 @@ def migrated(asked):
     """The choices that let a migration end, or begin one and let it end: rounds of choices, of which those that do nothing are left out. The
     transactions at its source run too, since it has to wait for them."""
     session = Session(asked['text'], quiet=True)
-    kept, first, is_ended = session.choices, ['C start'], False
-    while not is_ended:
-        turn = ROUND + source_runs(session.make(kept))
-        tried = session.make((kept + first + ROUNDS * turn)[:LIMIT])
-        end = next((n for n in range(len(kept) + 1, len(tried.steps)) if is_settled(tried, n)), len(tried.steps))
-        acting = tried.acting()
-        more = [choice for n, choice in enumerate(choices_of(tried)[:end], 1) if n > len(kept) and n in acting]
-        if not more:
-            break
-        kept, first, is_ended = kept + more, [], is_settled(tried, end)
-    added = kept[len(session.choices):]
-    return {'added': added, 'words': '' if is_ended else 'the migration does not end so' if added else 'no migration can begin or go on here'}
+    made = session.choices
+    more, is_ended = acting(session, made, ['C start'])
+    while more and not is_ended:
+        made = made + more
+        more, is_ended = acting(session, made, [])
+    added = (made + more)[len(session.choices):]
+    words = 'the migration does not end so' if added else 'no migration can begin or go on here'
+    return {'added': added, 'words': '' if added and is_ended else words}
+
+
+def acting(session, made, first):
+    """Of some choices and then rounds behind those that are made: which of them do something, until no migration is on its way; and whether it
+    comes to that."""
+    turn = ROUND + source_runs(session.make(made))
+    run = session.make((made + first + ROUNDS * turn)[:LIMIT])
+    last, acts = len(run.steps), run.acting()
+    end = next((n for n in range(len(made) + 1, last) if is_settled(run, n)), last)
+    more = [choice for n, choice in enumerate(choices_of(run)[:end], 1) if n > len(made) and n in acts]
+    return more, is_settled(run, end)
 
 
 def source_runs(run):
     """A run of each transaction that is active at the source of the migration, or, where there is none, at the node that is normal."""
-    modes = {node: run.modes[node].at(len(run.steps)) for node in runs.NODES}
+    last = len(run.steps)
+    modes = {node: run.modes[node].at(last) for node in runs.NODES}
     source = next((node for node in runs.NODES if modes[node][0] == 's'), 'A' if modes['A'] == 'normal' else 'B')
-    there = [line.at(len(run.steps)).split() for line in run.txns]
+    there = [line.at(last).split() for line in run.txns]
     return ['%s run %s' % (source, words[1]) for words in there if words[2:4] == ['active', source]]
 
 
@@ -137,28 +146,28 @@ def saved(asked):
 # ---- search
 
 def searched(asked):
-    """What a search says, piece by piece: how far it is, once a second, or nothing in a while without a word; at last its answer. Whoever
-    closes this ends the search."""
-    words = ['search', '--for', asked['for'], '--states', '%d' % asked['states']] + (['--kill'] if asked['kill'] else [])
-    if asked['for'] not in WHATS:
+    """What a search reports: how far it is, once a second, or the same again; at last its answer. Whoever closes this ends the search."""
+    if asked['for'] not in GOALS:
         raise KeyError('for')
-    given, found, (leader, terminal) = memory(asked['text'].encode(**bench.BYTES)), memory(b''), pty.openpty()
-    process, said = bench.start(words, LIMITS, stdin=given, stdout=found, stderr=terminal), ''
+    position = int(asked['position'])
+    words = ['search', '--for', asked['for'], '--states', '%d' % asked['states']] + (['--kill'] if asked['kill'] else [])
+    given, found, (reader, terminal) = memory(asked['text'].encode(**bench.BYTES)), memory(b''), pty.openpty()
+    process, line = bench.start(words, SEARCH_LIMITS, stdin=given, stdout=found, stderr=terminal), ''
     SEARCHES.add(process)
     os.close(terminal)
     try:
-        for piece in pieces(leader):
-            said = ([said] + [line for line in re.split(r'[\r\n]|\x1b\[K', piece) if line])[-1]
-            yield {'progress': said}
+        for piece in pieces(reader):
+            line = ([line] + [part for part in re.split(r'[\r\n]|\x1b\[K', piece) if part])[-1]
+            yield {'progress': line}
         status = process.wait()
         os.lseek(found, 0, os.SEEK_SET)
         with open(found, encoding='utf-8', closefd=False) as file:
-            yield answer(asked, status, said, file.read())
+            yield answer(position, status, line, file.read())
     finally:
         process.kill()
         process.wait()
         SEARCHES.discard(process)
-        for descriptor in (given, found, leader):
+        for descriptor in (given, found, reader):
             os.close(descriptor)
 
 
@@ -188,10 +197,10 @@ def pieces(terminal):
         yield piece
 
 
-def answer(asked, status, said, text):
-    """The answer of a search in words, and the choices that it found."""
-    words = said.partition('zy_bench: ')[2] or 'the search was stopped: it took more time or memory than it may'
+def answer(position, status, line, text):
+    """The answer of a search in the words of its last line, and the choices that it found behind a position."""
+    words = line.partition('zy_bench: ')[2] or 'the search ' + STOPPED
     if status:
         return {'found': None, 'words': words}
-    choices = [line for line in text.split('\n') if line.split(' ')[0] in ('A', 'B', 'C')]
-    return {'found': choices[asked['position']:], 'words': words}
+    choices = [choice for choice in text.split('\n') if choice.split(' ')[0] in ('A', 'B', 'C')]
+    return {'found': choices[position:], 'words': words}

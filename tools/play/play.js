@@ -1,28 +1,33 @@
 // The page of zplay: a text, the run of it (`D`, which page.js shows), and the choices that can be made next. What a step does is asked of
 // the server; here texts are changed and answers shown.
 const given = JSON.parse($('given').textContent);
+const ACTORS = ['C', 'A', 'B'];
 let name = given.name;
 let doc = {text: '', at: 0};            // the text, and the position that is wanted
 const past = [], future = [];           // what it was, and what it was before an undo
-let turn = 0, busy = false;             // the number of the last question for a run, and whether its answer is still to come
+let question = 0, busy = false;         // the number of the last question for a run, and whether its answer is still to come
 let typed = 0;                          // when the text was last typed in
 let found = null;                       // the first and the last step that a search added
 
-async function ask(what, body, signal) {
-  const answer = await fetch(what, {method: 'POST', body: JSON.stringify(body), signal});
+const unreachable = error => { throw error.name === 'AbortError' ? error : new Error('zplay does not answer: is it still running?'); };
+const post = (path, body, signal) => fetch(path, {method: 'POST', body: JSON.stringify(body), signal}).catch(unreachable);
+async function ask(path, body, signal) {
+  const answer = await post(path, body, signal);
   if (!answer.ok) throw new Error(await answer.text());
   return answer.json();
 }
-// A click whose answer does not come says why.
-const told = words => { $('told').textContent = words; };
-const guarded = work => async (...given) => {
+// Words for the user, beside the buttons.
+const note = words => { $('note').textContent = words; };
+// Work whose failure is noted; that it was given up is none.
+const guarded = work => async (...inputs) => {
   try {
-    await work(...given);
+    await work(...inputs);
   } catch (error) {
-    if (error.name !== 'AbortError') told(error.message === 'Failed to fetch' ? 'zplay does not answer: is it still running?' : error.message);
+    if (error.name !== 'AbortError') note(error.message);
   }
 };
-const later = (work, wait) => { let clock; return () => { clearTimeout(clock); clock = setTimeout(work, wait); }; };
+// Work that is done once nothing has asked for it for a while, in milliseconds.
+const debounced = (work, wait) => { let clock; return () => { clearTimeout(clock); clock = setTimeout(work, wait); }; };
 
 // ---- the text
 const wordsOf = line => line.split(';')[0].split(/\s+/).filter(word => word);
@@ -36,7 +41,7 @@ function choiceOf(line) {
 }
 function readChoice(line) {
   const words = wordsOf(line), repeats = words.length > 3 && words[words.length - 2] === 'x';
-  if (!['A', 'B', 'C'].includes(words[0])) return null;
+  if (!ACTORS.includes(words[0])) return null;
   return {choice: words.slice(0, repeats ? -2 : undefined).join(' '), times: repeats ? +words[words.length - 1] : 1};
 }
 const written = (choice, times) => choice + (times > 1 ? ' x ' + times : '');
@@ -50,23 +55,25 @@ function edited(text, count, more) {
     kept.push(made && made.times > count ? written(made.choice, count) : line);
     count -= made ? Math.min(count, made.times) : 0;
   }
-  for (const choice of more) {
-    const last = choiceOf(kept[kept.length - 1] || ''), alike = last && last.choice === choice && !kept[kept.length - 1].includes(';');
-    kept.splice(alike ? -1 : kept.length, 1, written(choice, alike ? last.times + 1 : 1));
-  }
+  for (const choice of more) add(kept, choice);
   return [...kept, 'end', ''].join('\n');
+}
+// Adds a choice to lines: to the last one, if that makes the same choice and has no comment.
+function add(kept, choice) {
+  const line = kept[kept.length - 1] || '', last = choiceOf(line), isSame = last && last.choice === choice && !line.includes(';');
+  kept.splice(isSame ? -1 : kept.length, 1, written(choice, isSame ? last.times + 1 : 1));
 }
 // The line in which a step is made; -1 for the opening.
 function lineOf(step) {
   return step ? lines.findIndex(line => { step -= (choiceOf(line) || {times: 0}).times; return step <= 0; }) : -1;
 }
+const nameOf = t => D.names[t].split(' ')[1];
 // A choice with the name of its transaction, where it has one.
 const named = choice => choice.replace(/\d+$/, t => nameOf(t) || t);
-const nameOf = t => D.names[t].split(' ')[1];
 
 function painted(line) {
   const [, code, comment] = line.match(/^([^;]*)(.*)$/s), [, space, head, rest] = code.match(/^(\s*)(\S*)(.*)$/s);
-  const look = ['A', 'B', 'C'].includes(head) ? head : head === 'txn' || head === 'end' ? 'txn' : '';
+  const look = ACTORS.includes(head) ? head : head === 'txn' || head === 'end' ? 'txn' : '';
   return el('div', '', space, el('i', 'w' + look, head), rest, el('i', 'remark', comment));
 }
 // Paints the lines anew that are other ones.
@@ -84,60 +91,61 @@ function paint() {
   made.append(...lines.slice(top, lines.length - end).map(painted));
   box.insertBefore(made, below);
 }
-function marked(look, line) {
+// Gives a look to one line, which no other line has then.
+function mark(look, line) {
   for (const old of $('paint').querySelectorAll('.' + look)) old.classList.remove(look);
-  const here = $('paint').children[line];
-  if (here) here.classList.add(look);
-  return here;
+  const marked = $('paint').children[line];
+  if (marked) marked.classList.add(look);
+  return marked;
 }
-// The line of the shown step, brought into sight unless the text is being typed in.
-function point() {
-  const here = marked('here', lineOf(now)), box = $('edit');
-  if (!here || document.activeElement === $('text')) return;
-  const y = here.offsetTop;
+// Marks the line of the shown step, and brings it into sight unless the text is being typed in.
+function markStep() {
+  const line = mark('here', lineOf(now)), box = $('edit');
+  if (!line || document.activeElement === $('text')) return;
+  const y = line.offsetTop;
   if (y < box.scrollTop || y > box.scrollTop + box.clientHeight - 40) box.scrollTop = y - box.clientHeight / 2;
 }
 
 // ---- the run
 // Takes another text, and shows its run at a position; Infinity is its end.
-async function put(text, at) {
+async function setText(text, at) {
   doc = {text, at};
   if ($('text').value !== text) $('text').value = text;
   paint();
-  const mine = ++turn;
+  const mine = ++question;
   busy = true;
   try {
     const run = await ask('run', {text, title: name});
-    if (mine !== turn) return;
+    if (mine !== question) return;
     busy = false;
-    fault(run.fault);
+    showFault(run.fault);
     if (run.fault) return;
     load(run, at);
     drawSerial();
   } finally {
-    if (mine === turn) busy = false;
+    if (mine === question) busy = false;
   }
 }
-function fault(fault) {
+function showFault(fault) {
   document.body.classList.toggle('stale', !!fault);
   $('fault').textContent = fault ? (fault.line ? `line ${fault.line}: ` : '') + fault.words : '';
-  const here = marked('wrong', fault ? fault.line - 1 : -1);
-  if (here && document.activeElement !== $('text')) here.scrollIntoView({block: 'nearest'});
+  const line = mark('wrong', fault ? fault.line - 1 : -1);
+  if (line && document.activeElement !== $('text')) line.scrollIntoView({block: 'nearest'});
 }
-noted = () => {
+onShow = () => {
   if (!busy) doc.at = now;
-  point();
+  markStep();
   drawFound();
   drawNext();
-  keep();
+  storeSoon();
 };
 function remember() {
   past.push({...doc});
   future.length = 0;
-  offer();
+  drawUndo();
 }
 // Undo and redo can be clicked where there is something to undo or redo.
-function offer() {
+function drawUndo() {
   $('undo').disabled = !past.length;
   $('redo').disabled = !future.length;
 }
@@ -146,20 +154,22 @@ function make(choices, from = doc, isFound = false) {
   const aside = D.last - from.at;
   remember();
   found = isFound ? [from.at + 1, from.at + choices.length] : null;
-  told(aside > 0 && !busy ? `${aside} ${aside === 1 ? 'choice' : 'choices'} set aside; undo brings them back` : '');
-  return put(edited(from.text, from.at, choices.map(named)), from.at + choices.length);
+  note(aside > 0 && !busy ? `${aside} ${aside === 1 ? 'choice' : 'choices'} set aside; undo brings them back` : '');
+  return setText(edited(from.text, from.at, choices.map(named)), from.at + choices.length);
 }
-const here = () => edited(doc.text, doc.at, []);
+// The text up to the shown step.
+const textHere = () => edited(doc.text, doc.at, []);
 
 function undo(from, to) {
-  if (!from.length) return told('nothing was done');
+  if (!from.length) return note('nothing was done');
   to.push({...doc});
   found = null;
-  told('');
+  note('');
   const {text, at} = from.pop();
-  offer();
-  return put(text, at);
+  drawUndo();
+  return setText(text, at);
 }
+// The edge beside the steps that a search added.
 function drawFound() {
   const box = $('added');
   box.style.height = 0;
@@ -187,6 +197,7 @@ function drawSerial() {
 const known = new Map();                // what would come of choices, by the text that they are made behind
 let lookup = new AbortController();
 
+// The choices that are offered, by actor.
 function candidates() {
   const lanes = {C: ['C start'], A: [], B: []}, kills = [];
   D.txns.forEach((line, t) => {
@@ -214,23 +225,26 @@ function choiceButton(choice, outcome) {
   button.title = outcome ? outcome.says : '';
   button.tabIndex = -1;
   button.onclick = event => event.shiftKey && action === 'run' ? runUntil(choice) : guarded(make)([choice]);
-  if (action !== 'run') return button;
-  const on = el('button', 'on', '»');
-  on.title = 'Shift+Enter: until it waits, asks for a page, ends or can do nothing';
-  on.tabIndex = -1;
-  on.onclick = () => runUntil(choice);
-  return el('div', 'pair', button, on);
+  return action === 'run' ? el('div', 'pair', button, untilButton(choice)) : button;
+}
+function untilButton(choice) {
+  const button = el('button', 'until', '»');
+  button.title = 'Shift+Enter: until it waits, asks for a page, ends or can do nothing';
+  button.tabIndex = -1;
+  button.onclick = () => runUntil(choice);
+  return button;
+}
+function laneOf(actor, choices, outcomeOf) {
+  const head = el('h3', actor, actor === 'C' ? 'client' : 'node ' + actor);
+  if (actor !== 'C') head.append(modeChip(actor, now));
+  const lane = el('div', 'lane', head, ...choices.map(choice => choiceButton(choice, outcomeOf(choice))));
+  lane.querySelector('.choice').tabIndex = 0;
+  return lane;
 }
 function drawLanes(lanes, outcomes) {
   const focus = document.activeElement.closest('#lanes') && document.activeElement.dataset.choice;
-  const all = Object.values(lanes).flat(), of = choice => outcomes && outcomes[all.indexOf(choice)];
-  $('lanes').replaceChildren(...[['C', 'client'], ['A', 'node A'], ['B', 'node B']].map(([actor, title]) => {
-    const head = el('h3', actor, title);
-    if (actor !== 'C') head.append(modeChip(actor, now));
-    const lane = el('div', 'lane', head, ...lanes[actor].map(choice => choiceButton(choice, of(choice))));
-    lane.querySelector('.choice').tabIndex = 0;
-    return lane;
-  }));
+  const all = Object.values(lanes).flat(), outcomeOf = choice => outcomes && outcomes[all.indexOf(choice)];
+  $('lanes').replaceChildren(...ACTORS.map(actor => laneOf(actor, lanes[actor], outcomeOf)));
   if (focus) ($('lanes').querySelector(`[data-choice="${focus}"]`) || $('lanes').querySelector('.choice')).focus();
 }
 function drawNext() {
@@ -238,31 +252,29 @@ function drawNext() {
   $('cut').disabled = now === D.last;
   const settled = ['A', 'B'].every(node => ['normal', 'empty'].includes(at(D.modes[node], now)[1]));
   $('migrate').textContent = settled ? 'A whole migration' : 'Let the migration end';
-  const lanes = candidates(), text = here();
+  const lanes = candidates(), text = textHere();
   drawLanes(lanes, known.get(text));
-  if (!known.has(text)) look();
+  if (!known.has(text)) lookUpSoon();
 }
-const look = later(guarded(async () => {
-  const lanes = candidates(), text = here(), choices = Object.values(lanes).flat();
+const lookUpSoon = debounced(guarded(async () => {
+  const lanes = candidates(), text = textHere(), choices = Object.values(lanes).flat();
   lookup.abort();
   lookup = new AbortController();
   const outcomes = await ask('outcomes', {text, choices}, lookup.signal);
   const none = () => ({outcome: '', look: 'quiet', acts: false, says: outcomes.fault.words});  // as where there is no room for one more choice
   if (known.size > 200) known.clear();
   known.set(text, outcomes.fault ? choices.map(none) : outcomes);
-  if (text === here() && !busy) drawLanes(lanes, known.get(text));
+  if (text === textHere() && !busy) drawLanes(lanes, known.get(text));
 }), 30);
-const runUntil = guarded(async choice => {
-  const from = {...doc}, got = await ask('until', {text: here(), choice});
-  if (got.fault) return told(got.fault.words);
-  await make(got.added, from);
-});
-const migrate = guarded(async () => {
-  const from = {...doc}, got = await ask('migrate', {text: here()});
-  if (got.fault) return told(got.fault.words);
-  if (got.added.length) await make(got.added, from);
-  if (got.words) told(got.words);
-});
+// Adds choices that the server has found.
+async function makeAnswered(path, body) {
+  const from = {...doc}, answer = await ask(path, body);
+  if (answer.fault) return note(answer.fault.words);
+  if (answer.added.length) await make(answer.added, from);
+  if (answer.words) note(answer.words);
+}
+const runUntil = guarded(choice => makeAnswered('until', {text: textHere(), choice}));
+const migrate = guarded(() => makeAnswered('migrate', {text: textHere()}));
 const cut = () => { if (now < D.last) guarded(make)([]); };
 
 // Arrows move between the choices; a click leaves them to the cursor.
@@ -278,39 +290,38 @@ $('lanes').onkeydown = event => {
 };
 
 // ---- search
-let searching = null;
+let searching = null;                   // what cancels the search that is under way
 
 const search = guarded(async () => {
   if (searching) return searching.abort();
-  const from = {text: here(), at: now};
+  const from = {text: textHere(), at: now};
   const body = {text: from.text, position: now, for: $('what').value, kill: $('kill').checked, states: +$('states').value};
   searching = new AbortController();
   $('go').textContent = 'Cancel';
-  $('said').textContent = 'searching';
+  $('report').textContent = 'searching';
   try {
-    const answer = await fetch('search', {method: 'POST', body: JSON.stringify(body), signal: searching.signal});
-    await listen(answer.body.pipeThrough(new TextDecoderStream()).getReader(), from);
+    const answer = await post('search', body, searching.signal);
+    await eachLine(answer.body.pipeThrough(new TextDecoderStream()).getReader(), line => report(JSON.parse(line), from));
   } catch (error) {
-    $('said').textContent = error.name === 'AbortError' ? 'cancelled' : 'the search broke off';
+    $('report').textContent = error.name === 'AbortError' ? 'cancelled' : 'the search broke off';
   } finally {
     searching = null;
     $('go').textContent = 'Search';
   }
 });
-async function listen(reader, from) {
+async function eachLine(reader, work) {
   let rest = '';
   for (let piece; !(piece = await reader.read()).done;) {
     const lines = (rest + piece.value).split('\n');
     rest = lines.pop();
-    for (const line of lines) heard(JSON.parse(line), from);
+    lines.forEach(work);
   }
 }
-function heard(said, from) {
-  if (said.progress) $('said').textContent = said.progress;
-  if (said.fault) $('said').textContent = said.fault.words;
-  if (said.words) $('said').textContent = said.words;
-  if (said.found && said.found.length) guarded(make)(said.found, from, true);
-  if (said.found && !said.found.length) $('said').textContent += '; it is so here already';
+// Shows how far a search is, or its answer.
+function report({progress, words, found: choices}, from) {
+  if (words || progress) $('report').textContent = words || progress;
+  if (choices && choices.length) guarded(make)(choices, from, true);
+  if (choices && !choices.length) $('report').textContent += '; it is so here already';
 }
 
 // ---- files and the address
@@ -324,9 +335,9 @@ function download(file, ending, type) {
 const save = guarded(async as => {
   document.querySelector('.menu').open = false;
   if (as === 'scenario') return download(doc.text, '.zephyr', 'text/plain');
-  const got = await ask('save', {text: doc.text, as, title: name});
-  if (got.fault) return told(got.fault.words);
-  download(got.file, as === 'svg' ? '.svg' : '.listing', as === 'svg' ? 'image/svg+xml' : 'text/plain');
+  const answer = await ask('save', {text: doc.text, as, title: name});
+  if (answer.fault) return note(answer.fault.words);
+  download(answer.file, as === 'svg' ? '.svg' : '.listing', as === 'svg' ? 'image/svg+xml' : 'text/plain');
 });
 async function packed(text) {
   const bytes = new Uint8Array(await new Response(new Blob([text]).stream().pipeThrough(new CompressionStream('deflate-raw'))).arrayBuffer());
@@ -340,16 +351,16 @@ async function store() {
   const word = await packed(doc.text);
   history.replaceState(null, '', `#${now}.${word}`);
 }
-const keep = later(store, 200);
+const storeSoon = debounced(store, 200);
 // Takes what is in an address, or else what zplay was started with.
 async function arrive(hash) {
   const [, at, word] = hash.match(/^#(\d+)\.([\w-]+)$/) || [];
   const text = word && await unpacked(word).catch(() => null);
-  return text ? put(text, +at) : put(given.text, Infinity);
+  return text ? setText(text, +at) : setText(given.text, Infinity);
 }
 
 // ---- what is clicked and typed
-const typing = later(guarded(() => put($('text').value, doc.at)), 120);
+const setTypedSoon = debounced(guarded(() => setText($('text').value, doc.at)), 120);
 $('text').oninput = () => {
   if (Date.now() - typed > 1500) remember();
   typed = Date.now();
@@ -357,7 +368,7 @@ $('text').oninput = () => {
   doc = {text: $('text').value, at: doc.at < D.last ? doc.at : Infinity};
   busy = true;
   paint();
-  typing();
+  setTypedSoon();
 };
 $('text').onkeydown = event => {
   if (event.key === 'Escape') $('view').focus();
@@ -365,12 +376,13 @@ $('text').onkeydown = event => {
   event.preventDefault();
   guarded(undo)(...(event.shiftKey ? [future, past] : [past, future]));
 };
+// Takes another scenario.
 function begin(text, title) {
   remember();
   name = title;
   found = null;
   document.title = name + ' · zplay';
-  guarded(put)(text, Infinity);
+  guarded(setText)(text, Infinity);
 }
 $('example').append(...Object.keys(given.examples).map(title => new Option(title.replace(/_/g, ' '), title)));
 if (!(given.name in given.examples)) $('example').prepend(new Option(given.name, ''));
@@ -380,7 +392,7 @@ $('file').onchange = async event => {
   const file = event.target.files[0];
   if (file) begin((await file.text()).replace(/\r\n/g, '\n'), file.name.replace(/\.\w+$/, ''));
 };
-$('what').append(...Object.entries(given.whats).map(([word, words]) => new Option(words, word)));
+$('what').append(...Object.entries(given.goals).map(([goal, words]) => new Option(words, goal)));
 $('search').onsubmit = event => { event.preventDefault(); search(); };
 $('undo').onclick = () => guarded(undo)(past, future);
 $('redo').onclick = () => guarded(undo)(future, past);
@@ -390,12 +402,12 @@ for (const button of document.querySelectorAll('[data-as]')) button.onclick = ()
 $('link').onclick = guarded(async () => {
   await store();
   const copied = await navigator.clipboard.writeText(location.href).then(() => true, () => false);
-  told(copied ? 'the address is copied: it has the whole run in it' : 'the address of this page has the whole run in it');
+  note(copied ? 'the address is copied: it has the whole run in it' : 'the address of this page has the whole run in it');
 });
-const first = actor => () => $('lanes').children['CAB'.indexOf(actor)].querySelector('.choice').focus();
+const toLane = actor => () => $('lanes').children[ACTORS.indexOf(actor)].querySelector('.choice').focus();
 Object.assign(KEYS, {u: $('undo').onclick, r: $('redo').onclick, x: cut, m: migrate, s: () => $('what').focus(), e: () => $('text').focus(),
-  c: first('C'), a: first('A'), b: first('B'), Escape: () => $('view').focus()});
+  c: toLane('C'), a: toLane('A'), b: toLane('B'), Escape: () => $('view').focus()});
 addEventListener('hashchange', event => guarded(arrive)(new URL(event.newURL).hash));
 addEventListener('click', event => { if (!event.target.closest('.menu')) document.querySelector('.menu').open = false; });
-offer();
+drawUndo();
 guarded(arrive)(location.hash);

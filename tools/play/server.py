@@ -1,12 +1,8 @@
 """The server of the page: for this machine alone, and for whoever has the address that zplay prints."""
 
 import json
-import re
-import resource
 import secrets
 import threading
-from html import escape
-from http.cookies import SimpleCookie
 from http.server import BaseHTTPRequestHandler, ThreadingHTTPServer
 from itertools import chain
 from urllib.parse import parse_qs, urlsplit
@@ -20,13 +16,10 @@ HOST = '127.0.0.1'
 # The longest question, in bytes. A scenario has at most 4 MiB.
 LONGEST = 5 << 20
 
-# What one call of the program may take: seconds of a processor, and bytes of memory.
-LIMITS = {resource.RLIMIT_CPU: 20, resource.RLIMIT_AS: 2 << 30}
-
-# As many questions are at work at a time; others wait.
+# At most this many questions are at work at a time; others wait.
 ROOM = threading.BoundedSemaphore(8)
 
-ANSWERS = {'/run': desk.run, '/outcomes': desk.outcomes_of, '/until': desk.until, '/migrate': desk.migrated, '/save': desk.saved}
+ANSWERS = {'/run': desk.whole_run, '/outcomes': desk.outcomes_of, '/until': desk.until, '/migrate': desk.migrated, '/save': desk.saved}
 
 # The page takes nothing from elsewhere, sends nothing there, and stands in no other page.
 HEADERS = {
@@ -37,7 +30,7 @@ HEADERS = {
 
 
 class Server(ThreadingHTTPServer):
-    """Some files, which are read once, and the answers of the desk."""
+    """Gives some files, each by its path as its kind and its bytes, and the answers of the desk."""
 
     daemon_threads = True
 
@@ -46,10 +39,13 @@ class Server(ThreadingHTTPServer):
         self.files, self.token, self.port = files, secrets.token_urlsafe(24), self.server_address[1]
         self.hosts = ['%s:%d' % (name, self.port) for name in (HOST, 'localhost')]
         self.cookie = 'zplay_%d' % self.port
-        bench.LIMITS.update(LIMITS)
 
     def address(self):
+        """The address that lets a browser in."""
         return 'http://%s:%d/?token=%s' % (HOST, self.port, self.token)
+
+    def is_token(self, word):
+        return secrets.compare_digest(word.encode(), self.token.encode())
 
     def handle_error(self, request, client_address):
         """A browser that goes away is no fault."""
@@ -63,30 +59,34 @@ class Handler(BaseHTTPRequestHandler):
     def log_message(self, *words):
         """Nothing is logged."""
 
-    def is_token(self, given):
-        return secrets.compare_digest(given.encode(), self.server.token.encode())
-
     def refusal(self):
-        """Why a request is not answered: another host in the address (a name that was turned to this machine), another page, or no token."""
+        """Why a request is not answered: it names another host (a name that was turned to this machine), or comes from another page, or has
+        no token; '' where it is answered."""
         host, origin = self.headers.get('Host', ''), self.headers.get('Origin')
-        cookie = SimpleCookie(self.headers.get('Cookie', '')).get(self.server.cookie)
         if host not in self.server.hosts:
             return 'no such host'
         if origin != 'http://' + host and (origin or self.command == 'POST'):
             return 'not for this page'
-        if not (cookie and self.is_token(cookie.value)):
+        if not self.has_token():
             return 'open the address that zplay has printed'
         return ''
+
+    def has_token(self):
+        """Whether the cookie of this server is there, among those of others on this machine."""
+        pairs = [pair.strip().partition('=') for pair in self.headers.get('Cookie', '').split(';')]
+        return any(name == self.server.cookie and self.server.is_token(word) for name, _, word in pairs)
 
     def do_GET(self):
         path, query = urlsplit(self.path)[2:4]
         token = parse_qs(query).get('token', [''])[0]
-        if path == '/' and self.headers.get('Host') in self.server.hosts and self.is_token(token):
-            return self.send(303, 'text/plain', b'', {'Location': '/', 'Set-Cookie': '%s=%s; HttpOnly; SameSite=Lax; Path=/' % (
-                self.server.cookie, token)})
+        if path == '/' and self.headers.get('Host') in self.server.hosts and self.server.is_token(token):
+            cookie = '%s=%s; HttpOnly; SameSite=Lax; Path=/' % (self.server.cookie, token)
+            return self.send(303, 'text/plain', b'', {'Location': '/', 'Set-Cookie': cookie})
         refusal = self.refusal()
-        if refusal or path not in self.server.files:
-            return self.send(403 if refusal else 404, 'text/plain', (refusal or 'no such file').encode())
+        if refusal:
+            return self.send(403, 'text/plain', refusal.encode())
+        if path not in self.server.files:
+            return self.send(404, 'text/plain', b'no such file')
         return self.send(200, *self.server.files[path])
 
     def do_POST(self):
@@ -107,33 +107,27 @@ class Handler(BaseHTTPRequestHandler):
             return self.send(400, 'text/plain', b'no such question')
 
     def search(self, asked):
-        """Sends what a search says as it comes, a line each; a browser that goes away ends it."""
-        said = desk.searched(asked)
-        first = next(said)
-        self.head(200, 'application/x-ndjson', {})
+        """Sends what a search reports as it comes, a line each; a browser that goes away ends it."""
+        reports = desk.searched(asked)
+        first = next(reports)
+        self.send_head(200, 'application/x-ndjson', {})
         try:
-            for piece in chain([first], said):
-                self.wfile.write(json.dumps(piece).encode() + b'\n')
+            for report in chain([first], reports):
+                self.wfile.write(json.dumps(report).encode() + b'\n')
         except OSError:
             pass
         finally:
-            said.close()
+            reports.close()
 
     def send_json(self, value):
         self.send(200, 'application/json', json.dumps(value, separators=(',', ':')).encode())
 
     def send(self, status, kind, content, more=None):
-        self.head(status, kind, {'Content-Length': str(len(content)), **(more or {})})
+        self.send_head(status, kind, {'Content-Length': str(len(content)), **(more or {})})
         self.wfile.write(content)
 
-    def head(self, status, kind, more):
+    def send_head(self, status, kind, more):
         self.send_response(status)
         for name, value in {'Content-Type': kind + '; charset=utf-8', **HEADERS, **more}.items():
             self.send_header(name, value)
         self.end_headers()
-
-
-def page(html, given):
-    """The page with what it begins with. In a script, a `<` may begin what is no text of it."""
-    filled = {'title': escape(given['name']), 'given': json.dumps(given).replace('<', '\\u003c')}
-    return re.sub(r'\{\{(\w+)\}\}', lambda name: filled[name.group(1)], html)
