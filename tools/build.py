@@ -204,7 +204,7 @@ def main():
     open(LOG, 'wb').close()
     shutil.rmtree(ROOMS, ignore_errors=True)
     build = Build()
-    say('%s is not built, or older than its source: its %d crates are proved now, at most %d side by side; the log is %s' % (
+    say('%s is not built of these sources: its %d crates are proved now, at most %d side by side; the log is %s' % (
         PROGRAM, len(build.needs), build.room, LOG))
     try:
         while build.left or build.under_way:

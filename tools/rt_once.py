@@ -1,4 +1,5 @@
-"""rt, with the sum of a crate's files taken once a run. rt itself takes it anew for each way down the crates, of which there are thousands.
+"""rt, with the sum of a crate's files taken once for each question. Some kits' rt takes it anew for each way down the crates, of which there are
+thousands. What rt asks again after a proof, to see whether a file was changed meanwhile, is a question of its own.
 
     rt_once.py WORD ..
 
@@ -8,17 +9,24 @@ import importlib.util
 import os
 import shutil
 import sys
+import threading
 from importlib.machinery import SourceFileLoader
 
 
 def once(method):
-    """A method without arguments whose value for a crate is kept: no file changes while rt runs."""
-    kept = {}
+    """A method without arguments, which calls itself for the crates below: within one call from outside the value for each crate is found once."""
+    local = threading.local()
 
     def value(crate):
-        if crate.folder not in kept:
-            kept[crate.folder] = method(crate)
-        return kept[crate.folder]
+        if getattr(local, 'kept', None) is not None:
+            if crate.folder not in local.kept:
+                local.kept[crate.folder] = method(crate)
+            return local.kept[crate.folder]
+        local.kept = {}
+        try:
+            return method(crate)
+        finally:
+            local.kept = None
 
     return value
 
