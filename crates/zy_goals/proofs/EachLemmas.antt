@@ -1,5 +1,6 @@
--- Whether one of some values, or each, has a property, seen by place.
-use Rattle.std.proofs.Common.{◌≡◌, ◌∙◌, ◌+◌, ◌<◌, inl, inr, ℕ, zero, suc, List, [], ◌∷◌, length, slice_get, get_or, map, arith, refl, sym, subst, Bool, true, false}
+-- Whether one of some values, or each, has a property, where that is known of each place.
+use Rattle.std.proofs.Common.{◌≡◌, ◌∙◌, ◌+◌, ◌<◌, inl, inr, ℕ, zero, suc, List, [], ◌∷◌, length, slice_get, get_or, map, arith, refl, sym, subst}
+use Rattle.std.proofs.Common.{Bool, true, false}
 use Rattle.std.proofs.lemmas.List.{get_or_default}
 use Rattle.std.specs.List.{list_any, list_all}
 use Rattle.std.proofs.lemmas.Bool.{and_from, and_left, and_right, cases_lt, or_from, or_left, or_right}
@@ -8,11 +9,11 @@ use Rattle.zy_table.specs.Change.{txn_or}
 
 -- ---- of transactions
 
--- whether the transaction of a number has it
+-- whether the transaction with a number has it
 abbrev pub at : (Txn → Bool) → List Txn → ℕ → Bool
 at test xs i = test (txn_or (slice_get xs i))
 
--- one that has it
+-- the one at i has it
 pub any_at : (test : Txn → Bool) (xs : List Txn) (i : ℕ) → i < length xs → at test xs i ≡ true → list_any test xs ≡ true
 any_at test [] i lt e = absurd (omega (arith, lt))
 any_at test (x ∷ xs) zero lt e = or_left _ _ e
@@ -28,7 +29,7 @@ pub each_at : (test : Txn → Bool) (xs : List Txn) → ((i : ℕ) → i < lengt
 each_at test [] h = refl
 each_at test (x ∷ xs) h = and_from _ _ (h 0 (omega arith)) (each_at test xs (λ i lt. h (suc i) (omega (arith, lt))))
 
--- one that does not have it
+-- the one at i does not have it
 pub other_at : (test : Txn → Bool) (xs : List Txn) (i : ℕ) → i < length xs → at test xs i ≡ false → list_all test xs ≡ false
 other_at test [] i lt e = absurd (omega (arith, lt))
 other_at test (x ∷ xs) zero lt e = and_left _ _ e
@@ -42,35 +43,29 @@ more P n h e i lt =
       | inr le ↦ let here : i ≡ n = omega (arith, le, lt) in rw here e
     ]
 
--- ---- of any values
+-- ---- of any values; where one of them settles it, std has list_any_at and list_all_at
 
 module _ {A : Type 0} (test : A → Bool) where
-  pub any_here : (xs : List A) (i : ℕ) (d : A) → i < length xs → test (get_or xs i d) ≡ true → list_any test xs ≡ true
-  any_here [] i d lt e = absurd (omega (arith, lt))
-  any_here (x ∷ xs) zero d lt e = or_left _ _ e
-  any_here (x ∷ xs) (suc i) d lt e = or_right _ _ (any_here xs i d (omega (arith, lt)) e)
-
+  -- none has it
   pub none_here : (xs : List A) (d : A) → ((i : ℕ) → i < length xs → test (get_or xs i d) ≡ false) → list_any test xs ≡ false
   none_here [] d h = refl
   none_here (x ∷ xs) d h = or_from _ _ (h 0 (omega arith)) (none_here xs d (λ i lt. h (suc i) (omega (arith, lt))))
 
+  -- each has it
   pub each_here : (xs : List A) (d : A) → ((i : ℕ) → i < length xs → test (get_or xs i d) ≡ true) → list_all test xs ≡ true
   each_here [] d h = refl
   each_here (x ∷ xs) d h = and_from _ _ (h 0 (omega arith)) (each_here xs d (λ i lt. h (suc i) (omega (arith, lt))))
 
-  pub other_here : (xs : List A) (i : ℕ) (d : A) → i < length xs → test (get_or xs i d) ≡ false → list_all test xs ≡ false
-  other_here [] i d lt e = absurd (omega (arith, lt))
-  other_here (x ∷ xs) zero d lt e = and_left _ _ e
-  other_here (x ∷ xs) (suc i) d lt e = and_right _ _ (other_here xs i d (omega (arith, lt)) e)
-
 -- ---- of values that are seen as others
 
 module _ {A B : Type 0} (f : A → B) (test : B → Bool) where
+  -- the one at i has it
   pub any_seen : (xs : List A) (i : ℕ) (x : A) → i < length xs → x ≡ get_or xs i x → test (f x) ≡ true → list_any test (map f xs) ≡ true
   any_seen [] i x lt e t = absurd (omega (arith, lt))
   any_seen (y ∷ xs) zero x lt e t = or_left _ _ (subst (λ z. test (f z) ≡ true) e t)
   any_seen (y ∷ xs) (suc i) x lt e t = or_right _ _ (any_seen xs i x (omega (arith, lt)) e t)
 
+  -- none has it
   pub none_seen : (xs : List A) → ((i : ℕ) → i < length xs → (x : A) → x ≡ get_or xs i x → test (f x) ≡ false) → list_any test (map f xs) ≡ false
   none_seen [] h = refl
   none_seen (y ∷ xs) h = or_from _ _ (h 0 (omega arith) y refl) (none_seen xs (λ i lt x e. h (suc i) (omega (arith, lt)) x e))

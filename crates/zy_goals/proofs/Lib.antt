@@ -1,3 +1,2 @@
 pub mod EachLemmas
-pub mod SumLemmas
 pub mod CommitLemmas

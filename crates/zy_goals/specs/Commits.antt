@@ -1,15 +1,15 @@
--- Goals that only a commit can bring about, and goals that are seen by steps.
+-- Goals that only a commit can bring about, and goals that take steps to judge.
 use Rattle.std.specs.Prelude.{◌&&◌, ◌||◌, Bool, true, false}
-use Rattle.zy_goals.specs.declared.goal.Term as terms
+use Rattle.zy_goals.specs.declared.goal.Term.{Term}
 use Rattle.zy_goals.specs.declared.goal.Term.TheVariants as term
-use Rattle.zy_goals.specs.declared.goal.Plain as plains
-use Rattle.zy_goals.specs.declared.goal.Plain.TheVariants as plain
-use Rattle.zy_goals.specs.declared.goal.Fact as facts
+use Rattle.zy_goals.specs.declared.goal.StateFact.{StateFact}
+use Rattle.zy_goals.specs.declared.goal.StateFact.TheVariants as state_fact
+use Rattle.zy_goals.specs.declared.goal.Fact.{Fact}
 use Rattle.zy_goals.specs.declared.goal.Fact.TheVariants as fact
-use Rattle.zy_goals.specs.declared.goal.Goal.{Goal, Is, Not', Both', Either'}
+use Rattle.zy_goals.specs.declared.goal.Goal.{Goal, Is, Not', And', Or'}
 
--- a number that the committed rows and the commits give
-abbrev pub is_term_of_commits : terms.Term → Bool
+-- the committed rows and the commits decide the value of a term
+abbrev pub is_term_of_commits : Term → Bool
 is_term_of_commits (term.Number n) = true
 is_term_of_commits (term.Key k) = true
 is_term_of_commits (term.Sum j k) = true
@@ -18,37 +18,38 @@ is_term_of_commits (term.Pc t) = false
 is_term_of_commits (term.Done t) = false
 is_term_of_commits term.Commits = true
 
-abbrev pub is_plain_of_commits : plains.Plain → Bool
-is_plain_of_commits (plain.Mode n m) = false
-is_plain_of_commits (plain.Page p x) = false
-is_plain_of_commits (plain.Locked p) = false
-is_plain_of_commits (plain.Locks t p) = false
-is_plain_of_commits (plain.Txn w x) = false
-is_plain_of_commits (plain.Before t u) = true
-is_plain_of_commits (plain.NoRow k) = true
-is_plain_of_commits (plain.Link n x) = false
-is_plain_of_commits (plain.Compare x o y) = is_term_of_commits x && is_term_of_commits y
+-- they decide whether a fact holds
+abbrev pub is_state_fact_of_commits : StateFact → Bool
+is_state_fact_of_commits (state_fact.Mode n m) = false
+is_state_fact_of_commits (state_fact.Page p x) = false
+is_state_fact_of_commits (state_fact.Locked p) = false
+is_state_fact_of_commits (state_fact.LockedBy t p) = false
+is_state_fact_of_commits (state_fact.Txns w x) = false
+is_state_fact_of_commits (state_fact.CommittedBefore t u) = true
+is_state_fact_of_commits (state_fact.NoRow k) = true
+is_state_fact_of_commits (state_fact.Link n x) = false
+is_state_fact_of_commits (state_fact.Compare x c y) = is_term_of_commits x && is_term_of_commits y
 
-abbrev pub is_fact_of_commits : facts.Fact → Bool
+abbrev pub is_fact_of_commits : Fact → Bool
 is_fact_of_commits fact.Differs = true
 is_fact_of_commits fact.Stuck = false
-is_fact_of_commits (fact.Plain x) = is_plain_of_commits x
+is_fact_of_commits (fact.OfState x) = is_state_fact_of_commits x
 
--- each fact is one of the committed rows and the commits
+-- they decide each fact of a goal, and so whether it is met
 abbrev pub is_of_commits : Goal → Bool
 is_of_commits (Is x) = is_fact_of_commits x
 is_of_commits (Not' p g) = is_of_commits g
-is_of_commits (Both' p g q h) = is_of_commits g && is_of_commits h
-is_of_commits (Either' p g q h) = is_of_commits g && is_of_commits h
+is_of_commits (And' p g q h) = is_of_commits g && is_of_commits h
+is_of_commits (Or' p g q h) = is_of_commits g && is_of_commits h
 
-abbrev pub is_stuck_fact : facts.Fact → Bool
+abbrev pub is_stuck_fact : Fact → Bool
 is_stuck_fact fact.Differs = false
 is_stuck_fact fact.Stuck = true
-is_stuck_fact (fact.Plain x) = false
+is_stuck_fact (fact.OfState x) = false
 
--- it asks whether anything goes on, which takes steps to see
+-- a goal has the fact `stuck`, which takes steps to judge
 abbrev pub asks_stuck : Goal → Bool
 asks_stuck (Is x) = is_stuck_fact x
 asks_stuck (Not' p g) = asks_stuck g
-asks_stuck (Both' p g q h) = asks_stuck g || asks_stuck h
-asks_stuck (Either' p g q h) = asks_stuck g || asks_stuck h
+asks_stuck (And' p g q h) = asks_stuck g || asks_stuck h
+asks_stuck (Or' p g q h) = asks_stuck g || asks_stuck h

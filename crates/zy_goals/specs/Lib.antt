@@ -1,3 +1,6 @@
+pub mod Txns
+pub mod Terms
+pub mod Facts
 pub mod Goals
 pub mod Commits
-pub mod Events
+pub mod Outcomes

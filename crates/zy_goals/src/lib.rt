@@ -1,19 +1,20 @@
-//! What a state can be asked for: goals, what they mean, and how they are read.
+//! Goals: what a search may ask of a state and of a step from it, what each goal means, and how it is read.
 #![tactic(auto)]
 
 pub mod commits;
-pub mod events;
+pub mod facts;
 pub mod goal;
 pub mod named;
-pub mod plain;
-mod reader;
+pub mod outcomes;
 pub mod reading;
 pub mod refusal;
-mod stack;
 mod terms;
 pub mod txns;
-mod words;
 
-pub use crate::events::{Deed, Event};
-pub use crate::goal::{Fact, Goal, Order, Plain, Post, Reason, Spot, Term, Trait, Which};
-pub use crate::refusal::{ReadFault, Refusal};
+pub use crate::goal::{
+    Comparison, Fact, Goal, LinkContent, MessagePattern, PagePlace, Reason, Selector, StateFact, Term,
+    TxnProperty,
+};
+pub use crate::outcomes::{OutcomeKind, OutcomePattern};
+pub use crate::reading::Query;
+pub use crate::refusal::{Expected, ReadFault, Refusal};

@@ -1,43 +1,42 @@
-//! The transactions that a goal names, for a person: nothing is promised of them.
+//! The transactions that a goal names. A warning is made of them: nothing is proved of what they are.
 
-use crate::goal::{Fact, Goal, Plain, Term, Which};
+use crate::goal::{Fact, Goal, Selector, StateFact, Term};
 
-/// The greater of two numbers.
-fn greater(m: u16, n: u16) -> u16 {
-    if m < n { n } else { m }
-}
-
-/// How many transactions there must be where this one is.
-fn up_to(t: u8) -> u16 {
+/// How many transactions there are where the last one has this number.
+fn count_through(t: u8) -> u16 {
     u16::from(t) + 1
 }
 
-fn by_term(term: Term) -> u16 {
+/// How many transactions there must be for a term to name no others.
+fn named_by_term(term: Term) -> u16 {
     match term {
-        Term::Register(t, _) => up_to(t),
-        Term::Pc(t) => up_to(t),
-        Term::Done(t) => up_to(t),
+        Term::Register { txn, .. } => count_through(txn),
+        Term::Pc(t) => count_through(t),
+        Term::Done(t) => count_through(t),
         _ => 0,
     }
 }
 
-fn by_plain(plain: Plain) -> u16 {
-    match plain {
-        Plain::Txn(Which::One(t), _) => up_to(t),
-        Plain::Locks(t, _) => up_to(t),
-        Plain::Before(t, u) => greater(up_to(t), up_to(u)),
-        Plain::Compare(left, _, right) => greater(by_term(left), by_term(right)),
+/// The same for a fact of the state.
+fn named_by_fact(fact: StateFact) -> u16 {
+    match fact {
+        StateFact::Txns(Selector::One(t), _) => count_through(t),
+        StateFact::LockedBy { txn, .. } => count_through(txn),
+        StateFact::CommittedBefore { earlier, later } => {
+            count_through(earlier).max(count_through(later))
+        }
+        StateFact::Compare(left, _, right) => named_by_term(left).max(named_by_term(right)),
         _ => 0,
     }
 }
 
-/// How many transactions there must be, so that each that a goal names is one of them.
+/// How many transactions a scenario must have for a goal to name no others; 0 where it names none.
 pub fn txns_named(goal: &Goal) -> u16 {
     match goal {
-        Goal::Is(Fact::Plain(plain)) => by_plain(*plain),
+        Goal::Is(Fact::OfState(fact)) => named_by_fact(*fact),
         Goal::Is(_) => 0,
         Goal::Not(g) => txns_named(g),
-        Goal::Both(g, h) => greater(txns_named(g), txns_named(h)),
-        Goal::Either(g, h) => greater(txns_named(g), txns_named(h)),
+        Goal::And(g, h) => txns_named(g).max(txns_named(h)),
+        Goal::Or(g, h) => txns_named(g).max(txns_named(h)),
     }
 }

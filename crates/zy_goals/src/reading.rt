@@ -1,165 +1,179 @@
-//! Goals are read.
+//! Reads goals. The grammar is in docs/search.md. The word at hand decides what comes, and a text is refused at the
+//! first word that does not fit.
 
-use crate::events::Event;
-use crate::goal::{Fact, Goal, Order, Plain, Term};
-use crate::reader::Reader;
-use crate::refusal::{ReadFault, Refusal, Wanted};
-use crate::stack::{Joint, Stack, negated};
-use crate::words::{event, fact};
+mod cursor;
+mod facts;
+mod outcomes;
+mod stack;
+mod terms;
+mod words;
+
+use crate::goal::{Comparison, Fact, Goal, StateFact, Term};
+use crate::outcomes::OutcomePattern;
+use crate::reading::cursor::Cursor;
+use crate::reading::facts::fact;
+use crate::reading::outcomes::outcome;
+use crate::reading::stack::{Stack, negated};
+use crate::reading::words::{INFIXES, PREFIXES};
+use crate::refusal::{Expected, ReadFault, Refusal};
 use std::alloc::Global;
 
-/// How many facts, `and`s, `or`s, `not`s and brackets a goal may have.
-const MOST: usize = 64;
+/// What words say, and the last one of them.
+type Parsed<'a, T> = Result<(T, Cursor<'a>), Refusal>;
 
-/// How much of a goal was read, and whether a fact comes next.
+/// How far an expression is read.
 #[derive(Clone, Copy)]
-struct Step<'a> {
-    at: Reader<'a>,
-    wants_fact: bool,
+struct Progress<'a> {
+    /// The next word.
+    at: Cursor<'a>,
+    /// Whether an operand comes next, or else an operator or the end.
+    wants_operand: bool,
 }
 
-/// Reads a fact, or what may be in front of one.
-fn read_fact<'a>(stack: &mut Stack, at: Reader<'a>) -> Result<Step<'a>, ReadFault> {
-    let opened = if at.is_at(b"(") {
-        Some(Joint::Open)
-    } else if at.is_at(b"not") {
-        Some(Joint::Not)
-    } else {
-        None
-    };
-    if let Some(joint) = opened {
-        stack.open(joint)?;
-        return Ok(Step {
+/// Reads a fact, or an operator or a bracket before one.
+fn read_operand<'a>(stack: &mut Stack, at: Cursor<'a>) -> Result<Progress<'a>, ReadFault> {
+    if let Some(operator) = at.find(&PREFIXES) {
+        stack.open(at, operator)?;
+        return Ok(Progress {
             at: at.next(),
-            wants_fact: true,
+            wants_operand: true,
         });
     }
     let (fact, last) = fact(at)?;
-    stack.add(fact)?;
-    Ok(Step {
+    stack.add(at, fact)?;
+    Ok(Progress {
         at: last.next(),
-        wants_fact: false,
+        wants_operand: false,
     })
 }
 
-/// Reads what comes behind a fact.
-fn read_joint<'a>(alloc: Global, stack: &mut Stack, at: Reader<'a>) -> Result<Step<'a>, ReadFault> {
-    if at.is_at(b")") {
-        if !stack.close(alloc)? {
-            return Err(ReadFault::Refused(at.refuses(Wanted::Open)));
-        }
-        return Ok(Step {
-            at: at.next(),
-            wants_fact: false,
-        });
-    }
-    let joint = if at.is_at(b"and") {
-        Joint::And
-    } else if at.is_at(b"or") {
-        Joint::Or
-    } else {
-        return Err(ReadFault::Refused(at.refuses(Wanted::Joint)));
-    };
-    stack.join(alloc, joint)?;
-    Ok(Step {
-        at: at.next(),
-        wants_fact: true,
-    })
-}
-
-/// Reads a word or several.
-fn read_next<'a>(alloc: Global, stack: &mut Stack, step: Step<'a>) -> Result<Step<'a>, ReadFault> {
-    if stack.size() > MOST {
-        return Err(ReadFault::Refused(step.at.refuses(Wanted::Fewer)));
-    }
-    if step.wants_fact {
-        read_fact(stack, step.at)
-    } else {
-        read_joint(alloc, stack, step.at)
-    }
-}
-
-/// Reads the words of an expression, as far as it goes, and answers what comes behind it.
-fn read_all<'a>(
+/// Reads a closing bracket, or an operator after an operand.
+fn read_operator<'a>(
     alloc: Global,
     stack: &mut Stack,
-    at: Reader<'a>,
+    at: Cursor<'a>,
+) -> Result<Progress<'a>, ReadFault> {
+    if at.is_at(b")") {
+        if !stack.close(alloc)? {
+            return Err(ReadFault::Refused(at.refuses(Expected::OpenBracket)));
+        }
+        return Ok(Progress {
+            at: at.next(),
+            wants_operand: false,
+        });
+    }
+    let operator = at.one_of(&INFIXES, Expected::Operator)?;
+    stack.join(alloc, at, operator)?;
+    Ok(Progress {
+        at: at.next(),
+        wants_operand: true,
+    })
+}
+
+/// Reads what comes next in an expression: a word or several.
+fn read_part<'a>(
+    alloc: Global,
+    stack: &mut Stack,
+    progress: Progress<'a>,
+) -> Result<Progress<'a>, ReadFault> {
+    if progress.wants_operand {
+        read_operand(stack, progress.at)
+    } else {
+        read_operator(alloc, stack, progress.at)
+    }
+}
+
+/// Reads an expression as far as it goes, and gives the word after it. Each turn reads at least one word, so the end
+/// comes within `len` turns, where `len` is the length of the text in bytes.
+fn read_parts<'a>(
+    alloc: Global,
+    stack: &mut Stack,
+    start: Cursor<'a>,
     len: usize,
-) -> Result<Reader<'a>, ReadFault> {
-    let mut step = Step {
-        at,
-        wants_fact: true,
+) -> Result<Cursor<'a>, ReadFault> {
+    let mut progress = Progress {
+        at: start,
+        wants_operand: true,
     };
     for _ in 0..=len {
-        if !step.wants_fact && (step.at.word().is_empty() || step.at.is_at(b"then")) {
-            return Ok(step.at);
+        let at = progress.at;
+        if !progress.wants_operand && (at.is_end() || at.is_at(b"then")) {
+            return Ok(at);
         }
-        step = read_next(alloc, stack, step)?;
+        progress = read_part(alloc, stack, progress)?;
     }
-    Ok(step.at)
+    Ok(progress.at)
 }
 
-/// Reads an expression, and answers what comes behind it.
+/// Reads an expression, and gives the word after it.
 fn read_expression<'a>(
     alloc: Global,
-    at: Reader<'a>,
+    start: Cursor<'a>,
     len: usize,
-) -> Result<(Goal, Reader<'a>), ReadFault> {
+) -> Result<(Goal, Cursor<'a>), ReadFault> {
     let mut stack = Stack::new(alloc);
-    let end = read_all(alloc, &mut stack, at, len)?;
+    let end = read_parts(alloc, &mut stack, start, len)?;
     match stack.end(alloc)? {
         Some(goal) => Ok((goal, end)),
-        None => Err(ReadFault::Refused(end.refuses(Wanted::Close))),
+        None => Err(ReadFault::Refused(end.refuses(Expected::ClosingBracket))),
     }
 }
 
-/// Reads `then` and what follows it, if that is there.
-fn read_then(at: Reader<'_>) -> Result<Option<Event>, Refusal> {
+/// Reads `then` and the outcome after it, if they are there. Nothing may follow.
+fn read_then(at: Cursor<'_>) -> Result<Option<OutcomePattern>, Refusal> {
     if !at.is_at(b"then") {
         return Ok(None);
     }
-    let (event, last) = event(at.next())?;
+    let (outcome, last) = outcome(at.next())?;
     let end = last.next();
-    if !end.word().is_empty() {
-        return Err(end.refuses(Wanted::End));
+    if !end.is_end() {
+        return Err(end.refuses(Expected::End));
     }
-    Ok(Some(event))
-}
-
-/// What a text asks for: a goal, and what is to come of a step from a state that meets it.
-#[derive(Drop)]
-pub struct Asked {
-    pub goal: Goal,
-    pub then: Option<Event>,
-}
-
-/// What holds in every state.
-fn anything() -> Goal {
-    Goal::Is(Fact::Plain(Plain::Compare(Term::Number(0), Order::Equal, Term::Number(0))))
+    Ok(Some(outcome))
 }
 
 /// What a text asks for.
-pub fn read_goal(alloc: Global, text: &[u8]) -> Result<Asked, ReadFault> {
-    let start = Reader::new(text);
+#[derive(Drop)]
+pub struct Query {
+    /// What a state is to meet.
+    pub goal: Goal,
+    /// The outcome that a step from such a state is to have, if one is asked for.
+    pub then: Option<OutcomePattern>,
+}
+
+/// A goal that every state meets.
+fn anything() -> Goal {
+    Goal::Is(Fact::OfState(StateFact::Compare(
+        Term::Number(0),
+        Comparison::Equal,
+        Term::Number(0),
+    )))
+}
+
+/// Reads a goal, `then` after it or not, or `then` alone, which asks for a step from any state. It is refused at the
+/// first word that does not fit.
+pub fn read_goal(alloc: Global, text: &[u8]) -> Result<Query, ReadFault> {
+    let start = Cursor::new(text);
     if start.is_at(b"then") {
-        return Ok(Asked {
+        return Ok(Query {
             goal: anything(),
             then: read_then(start)?,
         });
     }
     let (goal, end) = read_expression(alloc, start, text.len())?;
     match read_then(end) {
-        Ok(then) => Ok(Asked { goal, then }),
+        Ok(then) => Ok(Query { goal, then }),
         Err(refusal) => Err(ReadFault::Refused(refusal)),
     }
 }
 
-/// What a text says of each state, negated: it is met by a state of which that is not so.
-pub fn read_always(alloc: Global, text: &[u8]) -> Result<Asked, ReadFault> {
-    let (goal, end) = read_expression(alloc, Reader::new(text), text.len())?;
+/// Reads a goal that every state is to meet, and gives its negation: a state is asked for that does not meet it. It is
+/// refused at the first word that does not fit; `then` is such a word.
+pub fn read_always(alloc: Global, text: &[u8]) -> Result<Query, ReadFault> {
+    let (goal, end) = read_expression(alloc, Cursor::new(text), text.len())?;
     if end.is_at(b"then") {
-        return Err(ReadFault::Refused(end.refuses(Wanted::NoThen)));
+        return Err(ReadFault::Refused(end.refuses(Expected::NoThen)));
     }
     let goal = negated(alloc, goal)?;
-    Ok(Asked { goal, then: None })
+    Ok(Query { goal, then: None })
 }

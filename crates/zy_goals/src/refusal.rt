@@ -3,87 +3,103 @@
 use std::alloc::AllocError;
 use std::fmt;
 
-/// What a text was to have at a place.
+/// What was expected in place of a word.
 #[derive(Clone, Copy)]
-pub enum Wanted {
+pub enum Expected {
     Fact,
-    Joint,
-    Open,
-    Close,
+    /// What may follow a fact or a closing bracket.
+    Operator,
+    /// The word is a bracket that closes none.
+    OpenBracket,
+    /// A bracket is open at the end.
+    ClosingBracket,
     Node,
     Mode,
     Place,
-    Whose,
-    Trait,
+    Selector,
+    TxnProperty,
     Link,
-    Post,
-    Order,
+    LinkContent,
+    Comparison,
     Term,
+    /// `to`, between the keys of a sum.
     To,
     Register,
     /// A number of at most this.
     Number(u64),
-    Event,
+    Outcome,
+    /// The end, after the outcome.
     End,
+    /// The end, in place of `then`.
     NoThen,
-    Fewer,
+    /// The end, or a closing bracket: there are as many parts as there may be.
+    FewerParts,
 }
 
 /// What a person reads of it.
-impl fmt::Display for Wanted {
+impl fmt::Display for Expected {
     fn fmt<W: fmt::Write>(&self, f: &mut fmt::Formatter<W>) -> fmt::Result {
         let words = match self {
-            Wanted::Fact => {
-                "a fact begins with mode, page, txn, link, key, sum, reg, pc, done, commits or a number, or is one of differs, stuck, committed, aborted, own, killed, badkey, missing, duplicate, frozen, nopage, gone"
-            }
-            Wanted::Joint => "behind a fact comes and, or, then, ) or the end",
-            Wanted::Open => "this ) closes nothing",
-            Wanted::Close => "a ( is not closed",
-            Wanted::Node => "a node is A or B",
-            Wanted::Mode => {
+            Expected::Fact => concat!(
+                "a fact begins with mode, page, txn, link, key, sum, reg, pc, done, commits or a number, ",
+                "or is one of differs, stuck, committed, aborted, own, killed, badkey, missing, duplicate, ",
+                "frozen, nopage and gone"
+            ),
+            Expected::Operator => "after a fact comes and, or, then, ) or the end",
+            Expected::OpenBracket => "this ) closes no bracket",
+            Expected::ClosingBracket => "a ( is not closed",
+            Expected::Node => "a node is A or B",
+            Expected::Mode => {
                 "a mode is normal, empty, sinit, sdual, sfinish, dinit, ddual or dfinish"
             }
-            Wanted::Place => {
-                "of a page one says: at A, at B, at AB, at BA, moving, locked or absent"
+            Expected::Place => "a page is at A, at B, at AB, at BA, moving, locked or absent",
+            Expected::Selector => "after txn comes a number, any or all",
+            Expected::TxnProperty => concat!(
+                "after txn and a number, any or all comes new, active, committed, aborted, aborted WHY, at N ",
+                "or wrote K, and after a number also committed before T or locks P"
+            ),
+            Expected::Link => "a link is AB or BA",
+            Expected::LinkContent => {
+                "a link is empty, or has and wire, ready, dual, pull, page, finish or done"
             }
-            Wanted::Whose => "behind txn comes a number, any or all",
-            Wanted::Trait => {
-                "of a transaction one says: new, active, committed, committed before T, aborted, aborted WHY, at N, wrote K or locks P"
+            Expected::Comparison => "after a number comes =, !=, <, <=, > or >=",
+            Expected::Term => {
+                "a number is compared with a number, key K, sum K to K, reg T rN, pc T, done T or commits"
             }
-            Wanted::Link => "a link is AB or BA",
-            Wanted::Post => {
-                "of a link one says: empty, or has and wire, ready, dual, pull, page, finish or done"
+            Expected::To => "a sum is of the keys from one to another: sum K to K",
+            Expected::Register => "a register is r0 to r7",
+            Expected::Number(most) => return write!(f, "a number from 0 to {most} comes here"),
+            Expected::Outcome => concat!(
+                "after then comes an outcome of the listing without its numbers, ",
+                "such as waits, pulls, got page or aborted gone"
+            ),
+            Expected::End => "nothing comes after the outcome",
+            Expected::NoThen => "what every state is to meet has no then",
+            Expected::FewerParts => {
+                "a goal has at most 64 facts, ands, ors, nots and pairs of brackets"
             }
-            Wanted::Order => "behind a number comes =, !=, <, <=, > or >=",
-            Wanted::Term => {
-                "to a number one compares a number, key K, sum K to K, reg T rN, pc T, done T or commits"
-            }
-            Wanted::To => "a sum is of the keys from one to another: sum K to K",
-            Wanted::Register => "a register is r0 to r7",
-            Wanted::Number(most) => return write!(f, "here comes a number from 0 to {most}"),
-            Wanted::Event => {
-                "behind then comes what comes of a step, as the listing shows it and without numbers: waits, pulls, got page, aborted gone .."
-            }
-            Wanted::End => "nothing comes behind the outcome",
-            Wanted::NoThen => "what is always so is said of states, without then",
-            Wanted::Fewer => "it has more than 64 facts, ands, ors, nots and brackets",
         };
         f.write_str(words)
     }
 }
 
-/// Where a text is no goal, in bytes from its start, and what was to be there.
+/// The word at which a text is no goal.
 #[derive(Clone, Copy)]
 pub struct Refusal {
+    /// Where the word begins and where it ends, in bytes from the start of the text. At the end of the text the word is
+    /// empty.
     pub from: usize,
     pub to: usize,
-    pub wanted: Wanted,
+    /// What was expected in its place.
+    pub expected: Expected,
 }
 
 /// Why no goal was read.
 #[derive(Clone, Copy)]
 pub enum ReadFault {
+    /// The text is no goal.
     Refused(Refusal),
+    /// A request for memory was refused.
     Memory,
 }
 

@@ -1,16 +1,17 @@
-//! The numbers that are read in a state.
+//! The numbers that a goal compares.
 ghost use Rattle.std.specs.Prelude.{◌≡◌, ◌≤◌, unwrap_or, slice_get};
+ghost use Rattle.zy_isa.specs.Limits.{max_value};
 ghost use Rattle.zy_table.specs.Change.{txn_or};
 ghost use Rattle.zy_table.specs.Ranges.{range, total};
-ghost use Rattle.zy_goals.specs.Goals as spec;
+ghost use Rattle.zy_goals.specs.Terms as spec;
 
-use crate::goal::{Order, Term};
+use crate::goal::{Comparison, Term};
 use zy_machine::Machine;
 
 /// The committed value at a key, 0 where there is none.
 fn committed_at(machine: &Machine, key: u16) -> u64
     ensures value { result ≡ spec.committed_at machine.now.state key }
-    ensures small { result ≤ 4294967295 }
+    ensures small { result ≤ max_value }
 {
     match machine.value(key) {
         Some(value) => u64::from(value),
@@ -18,7 +19,7 @@ fn committed_at(machine: &Machine, key: u16) -> u64
     }
 }
 
-/// What the keys from one to another have together.
+/// The sum of the committed values from one key to another, both included. It is below 2^48 and does not wrap.
 fn sum(machine: &Machine, first: u16, last: u16) -> u64
     ensures { result ≡ total (spec.committed_at machine.now.state) (range first last) }
 {
@@ -31,7 +32,7 @@ fn sum(machine: &Machine, first: u16, last: u16) -> u64
     sum
 }
 
-/// A register of a transaction; 0 where there is none.
+/// The value of a register of a transaction; 0 where there is none.
 fn register(machine: &Machine, t: u8, r: u8) -> u64
     ensures { result ≡ unwrap_or (slice_get (txn_or (slice_get machine.now.state.txns t)).regs r) 0 }
 {
@@ -45,7 +46,7 @@ fn register(machine: &Machine, t: u8, r: u8) -> u64
     }
 }
 
-/// The program counter of a transaction.
+/// The program counter of a transaction; 0 where there is none.
 fn pc(machine: &Machine, t: u8) -> u64
     ensures { result ≡ (txn_or (slice_get machine.now.state.txns t)).pc }
 {
@@ -56,7 +57,7 @@ fn pc(machine: &Machine, t: u8) -> u64
     }
 }
 
-/// How many of its steps a transaction has done.
+/// How many instructions a transaction has done; 0 where there is none.
 fn done(machine: &Machine, t: u8) -> u64
     ensures { result ≡ (txn_or (slice_get machine.now.state.txns t)).done }
 {
@@ -67,39 +68,31 @@ fn done(machine: &Machine, t: u8) -> u64
     }
 }
 
-/// The number that a term is.
-fn value(term: Term, machine: &Machine) -> u64
+/// The value of a term in a machine's state.
+pub(crate) fn value(term: Term, machine: &Machine) -> u64
     ensures { result ≡ spec.value term machine.now.state }
 {
     match term {
         Term::Number(number) => number,
         Term::Key(key) => committed_at(machine, key),
-        Term::Sum(first, last) => sum(machine, first, last),
-        Term::Register(t, r) => register(machine, t, r),
+        Term::Sum { first, last } => sum(machine, first, last),
+        Term::Register { txn, register: r } => register(machine, txn, r),
         Term::Pc(t) => pc(machine, t),
         Term::Done(t) => done(machine, t),
         Term::Commits => machine.commits().len() as u64,
     }
 }
 
-/// Whether a number stands so to another.
-fn compares(order: Order, m: u64, n: u64) -> bool
-    ensures { result ≡ spec.compares order m n }
+/// Whether one number compares so with another.
+pub(crate) fn compares(comparison: Comparison, m: u64, n: u64) -> bool
+    ensures { result ≡ spec.compares comparison m n }
 {
-    match order {
-        Order::Equal => m == n,
-        Order::Unequal => m != n,
-        Order::Below => m < n,
-        Order::AtMost => m <= n,
-        Order::Above => m > n,
-        Order::AtLeast => m >= n,
+    match comparison {
+        Comparison::Equal => m == n,
+        Comparison::NotEqual => m != n,
+        Comparison::Less => m < n,
+        Comparison::AtMost => m <= n,
+        Comparison::Greater => m > n,
+        Comparison::AtLeast => m >= n,
     }
-}
-
-/// Whether the number of a term stands so to that of another.
-pub(crate) fn compare(left: Term, order: Order, right: Term, machine: &Machine) -> bool
-    ensures { result ≡ spec.compares order (spec.value left machine.now.state)
-        (spec.value right machine.now.state) }
-{
-    compares(order, value(left, machine), value(right, machine))
 }

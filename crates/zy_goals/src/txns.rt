@@ -1,16 +1,17 @@
-//! What a transaction is.
+//! Properties of transactions, and the order of commits.
 ghost use Rattle.std.specs.Prelude.{◌≡◌, ◌==◌};
 ghost use Rattle.std.specs.List.{list_any, list_all};
 ghost use Rattle.zy_table.specs.Run.{same_node as are_one};
-ghost use Rattle.zy_goals.specs.Goals as spec;
+ghost use Rattle.zy_table.specs.Serial as table_serial;
+ghost use Rattle.zy_goals.specs.Txns as spec;
 
-use crate::goal::{Reason, Trait, Which};
+use crate::goal::{Reason, Selector, TxnProperty};
 use zy_isa::Node;
 use zy_machine::Machine;
 use zy_table::{CommitRecord, Status, Why};
 use zy_txns::Txn;
 
-/// Whether this is the reason.
+/// Whether an abort is for this reason.
 pub(crate) fn is_for(reason: Reason, why: Why) -> bool
     ensures { result ≡ spec.is_for reason why }
 {
@@ -27,33 +28,9 @@ pub(crate) fn is_for(reason: Reason, why: Why) -> bool
     }
 }
 
-/// Whether it has not begun.
-fn is_new(status: Status) -> bool
-    ensures { result ≡ spec.is_new status }
-{
-    match status {
-        Status::New => true,
-        Status::Active => false,
-        Status::Committed => false,
-        Status::Aborted(_) => false,
-    }
-}
-
-/// Whether it has begun and not ended.
-fn is_active(status: Status) -> bool
-    ensures { result ≡ spec.is_active status }
-{
-    match status {
-        Status::New => false,
-        Status::Active => true,
-        Status::Committed => false,
-        Status::Aborted(_) => false,
-    }
-}
-
 /// Whether it is committed.
 fn is_committed(status: Status) -> bool
-    ensures { result ≡ spec.is_committed status }
+    ensures { result ≡ table_serial.is_committed status }
 {
     match status {
         Status::New => false,
@@ -63,7 +40,7 @@ fn is_committed(status: Status) -> bool
     }
 }
 
-/// Whether it is aborted for a reason.
+/// Whether it is aborted for this reason.
 fn is_aborted(reason: Reason, status: Status) -> bool
     ensures { result ≡ spec.is_aborted reason status }
 {
@@ -82,73 +59,75 @@ pub(crate) fn same_node(m: Node, n: Node) -> bool
     m == n
 }
 
-/// Whether a transaction is so.
-pub(crate) fn is_txn(like: Trait, txn: &Txn) -> bool
-    ensures { result ≡ spec.is_txn like txn.now }
+/// Whether a transaction has a property.
+fn has_property(property: TxnProperty, txn: &Txn) -> bool
+    ensures { result ≡ spec.has_property property txn.now }
 {
-    match like {
-        Trait::New => is_new(txn.status()),
-        Trait::Active => is_active(txn.status()),
-        Trait::Committed => is_committed(txn.status()),
-        Trait::Aborted(reason) => is_aborted(reason, txn.status()),
-        Trait::At(n) => !is_new(txn.status()) && same_node(txn.node(), n),
-        Trait::Wrote(key) => txn.get(key).is_some(),
+    match property {
+        TxnProperty::New => txn.is_new(),
+        TxnProperty::Active => txn.is_active(),
+        TxnProperty::Committed => is_committed(txn.status()),
+        TxnProperty::Aborted(reason) => is_aborted(reason, txn.status()),
+        TxnProperty::At(n) => !txn.is_new() && same_node(txn.node(), n),
+        TxnProperty::Wrote(key) => txn.get(key).is_some(),
     }
 }
 
-/// Whether one of the transactions is so.
-fn any_txn(like: Trait, machine: &Machine) -> bool
-    ensures { result ≡ list_any (spec.is_txn like) machine.now.state.txns }
+/// Whether at least one transaction has a property.
+fn any_has(property: TxnProperty, machine: &Machine) -> bool
+    ensures { result ≡ list_any (spec.has_property property) machine.now.state.txns }
 {
     for t in 0..machine.txn_count() {
-        if is_txn(like, machine.txn(t as u8)) {
+        if has_property(property, machine.txn(t as u8)) {
             return true;
         }
     }
     false
 }
 
-/// Whether each transaction is so.
-fn all_txns(like: Trait, machine: &Machine) -> bool
-    ensures { result ≡ list_all (spec.is_txn like) machine.now.state.txns }
+/// Whether each transaction has a property.
+fn all_have(property: TxnProperty, machine: &Machine) -> bool
+    ensures { result ≡ list_all (spec.has_property property) machine.now.state.txns }
 {
     for t in 0..machine.txn_count() {
-        if !is_txn(like, machine.txn(t as u8)) {
+        if !has_property(property, machine.txn(t as u8)) {
             return false;
         }
     }
     true
 }
 
-/// Whether these transactions are so.
-pub fn are_txns(which: Which, like: Trait, machine: &Machine) -> bool
-    ensures { result ≡ spec.are_txns which like machine.now.state.txns }
+/// Whether the selected transactions have a property.
+pub fn selected_have(selector: Selector, property: TxnProperty, machine: &Machine) -> bool
+    ensures { result ≡ spec.selected_have selector property machine.now.state.txns }
 {
-    match which {
-        Which::Any => any_txn(like, machine),
-        Which::All => all_txns(like, machine),
-        Which::One(t) => usize::from(t) < machine.txn_count() && is_txn(like, machine.txn(t)),
+    match selector {
+        Selector::Any => any_has(property, machine),
+        Selector::All => all_have(property, machine),
+        Selector::One(t) => {
+            usize::from(t) < machine.txn_count() && has_property(property, machine.txn(t))
+        }
     }
 }
 
-/// Whether there is a commit of a transaction.
+/// Whether a transaction has one of these commits.
 fn has_commit(t: u8, commits: &[CommitRecord]) -> bool
-    ensures { result ≡ list_any (λ d. d.txn == t) commits.now }
+    ensures { result ≡ list_any (λ c. c.txn == t) commits.now }
 {
     commits.iter().any(|commit| commit.txn == t)
 }
 
-/// Whether both are committed, the first one earlier.
-pub(crate) fn comes_before(t: u8, u: u8, commits: &[CommitRecord]) -> bool
-    ensures { result ≡ spec.comes_before t u commits.now }
+/// Whether both transactions have one of these commits, `earlier` the first one.
+pub(crate) fn committed_before(earlier: u8, later: u8, commits: &[CommitRecord]) -> bool
+    ensures { result ≡ spec.committed_before earlier later commits.now }
 {
     match commits {
         [] => false,
         [first, rest @ ..] => {
-            if first.txn == t {
-                has_commit(u, rest)
+            if first.txn == earlier {
+                has_commit(later, rest)
             } else {
-                comes_before(t, u, rest)
+                committed_before(earlier, later, rest)
             }
         }
     }
