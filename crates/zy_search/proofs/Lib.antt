@@ -7,4 +7,5 @@ pub mod CommitLemmas
 pub mod ShelfLemmas
 pub mod EdgeLemmas
 pub mod MeetLemmas
+pub mod PossibleLemmas
 pub mod LastLemmas

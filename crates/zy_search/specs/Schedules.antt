@@ -1,5 +1,5 @@
 -- The scenario that a search hands out.
-use Rattle.std.specs.Prelude.{List, ◌++◌}
+use Rattle.std.specs.Prelude.{List, [], ◌∷◌, ◌++◌}
 use Rattle.zy_isa.specs.declared.choice.Choice.{Choice}
 use Rattle.zy_isa.specs.Scenario.{Scenario}
 use Rattle.zy_table.specs.State.{State}
@@ -14,3 +14,8 @@ scheduled h cs = reordered h.scenario (choices_of h.entries ++ cs)
 -- the state after a whole run
 abbrev pub ending : Scenario → State
 ending sc = play sc (opening sc) sc.choices
+
+-- the state one choice before the end of the run, where the last choice is c
+abbrev pub before_last : History → List Choice → Choice → State
+before_last h cs c =
+    let sc = scheduled h (cs ++ c ∷ []) in play sc (opening sc) (choices_of h.entries ++ cs)

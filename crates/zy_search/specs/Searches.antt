@@ -1,45 +1,46 @@
 -- What a search finds out.
-use Rattle.std.specs.Prelude.{ℕ, ◌≡◌, ◌≤◌, ◌<◌, ◌+◌, ◌⊎◌, ◌&&◌, ◌||◌, ◌++◌, ◌∷◌, [], not, List, Bool, true, length, Option, Some, None, is_some, is_none}
+use Rattle.std.specs.Prelude.{ℕ, ◌≡◌, ◌≤◌, ◌<◌, ◌+◌, ◌⊎◌, ◌&&◌, ◌||◌, ◌++◌, ◌∷◌, [], not, List, Bool, true, length}
+use Rattle.std.specs.Prelude.{Option, Some, None, is_some, is_none}
 use Rattle.std.specs.List.{All}
 use Rattle.zy_isa.specs.Limits.{max_choices}
 use Rattle.zy_isa.specs.declared.choice.Choice.{Choice}
 use Rattle.zy_isa.specs.Scenario.{Scenario}
 use Rattle.zy_table.specs.State.{State}
-use Rattle.zy_table.specs.Play.{play, step}
+use Rattle.zy_table.specs.Play.{play}
 use Rattle.zy_machine.specs.Histories.{History}
 use Rattle.zy_audit.specs.SameMaps.{is_serial}
 use Rattle.zy_search.specs.declared.sought.Sought.{Sought}
 use Rattle.zy_search.specs.declared.answer.Answer.{Answer}
 use Rattle.zy_search.specs.declared.answer.Answer.TheVariants as answer
-use Rattle.zy_goals.specs.declared.events.Event.{Event}
-use Rattle.zy_goals.specs.Goals.{Told, holds}
+use Rattle.zy_goals.specs.declared.outcomes.OutcomePattern.{OutcomePattern}
+use Rattle.zy_goals.specs.Goals.{Context, meets}
 use Rattle.zy_goals.specs.Commits.{asks_stuck, is_of_commits}
-use Rattle.zy_search.specs.Stuck.{AreMoves, is_stuck, may_come}
-use Rattle.zy_goals.specs.Events.{is_event}
+use Rattle.zy_search.specs.Stuck.{AreMoves, is_stuck}
+use Rattle.zy_search.specs.Possible.{gives, is_possible}
 use Rattle.zy_search.specs.Choices.{AreConsidered, is_considered}
 use Rattle.zy_search.specs.Paths.{AreApart}
 
--- what a state of a scenario does not tell by itself
-abbrev pub told : Scenario → Bool → State → Told
-told sc kills s = record { differs = not (is_serial sc s); stuck = is_stuck sc kills s }
+-- what a state of a scenario does not decide by itself
+abbrev pub context_of : Scenario → Bool → State → Context
+context_of sc kills s = record { differs = not (is_serial sc s); stuck = is_stuck sc kills s }
 
--- what is then to come of a step may come of one
-abbrev pub may_follow : Scenario → Bool → Option Event → State → Bool
+-- an outcome like the one that is asked for after `then` is possible, if one is asked for
+abbrev pub may_follow : Scenario → Bool → Option OutcomePattern → State → Bool
 may_follow sc kills None s = true
-may_follow sc kills (Some e) s = may_come sc kills e s
+may_follow sc kills (Some x) s = is_possible sc kills x s
 
 abbrev pub shows : Scenario → Sought → State → Bool
-shows sc q s = holds (told sc q.kills s) q.goal s && may_follow sc q.kills q.then s
+shows sc q s = meets (context_of sc q.kills s) q.goal s && may_follow sc q.kills q.then s
 
 -- a state shows what is looked for
 abbrev pub Shows : Scenario → Sought → State → Type 0
 Shows sc q s = shows sc q s ≡ true
 
--- only a commit can bring it about
+-- only a commit can bring about what is looked for
 abbrev pub is_by_commits : Sought → Bool
 is_by_commits q = is_none q.then && is_of_commits q.goal
 
--- it is seen by steps
+-- it takes steps to judge whether a state shows it
 abbrev pub asks_steps : Sought → Bool
 asks_steps q = is_some q.then || asks_stuck q.goal
 
@@ -75,26 +76,27 @@ pub record FindsFirst (h : History) (q : Sought) (cs : List Choice) : Type 0 whe
   pub finds : Finds h q cs
   pub shortest : NoneBelow h q (length cs)
 
--- what the search of the states comes to
+-- the answer of the search through the states, without the step that `then` asks for
 abbrev pub IsReached : History → Sought → Answer → Type 0
 IsReached h q (answer.Found v) = FindsFirst h q v.items
 IsReached h q answer.Nowhere = NoneAtAll h q
 IsReached h q (answer.Spent fewer) = NoneBelow h q fewer
 
--- a considered choice of which this comes in the state that choices lead to, and for which the history has room
-pub record IsLast (h : History) (q : Sought) (e : Event) (cs : List Choice) (c : Choice) : Type 0 where
+-- a considered choice with an outcome like x in the state that choices lead to, for which the history has room
+pub record IsLast (h : History) (q : Sought) (x : OutcomePattern) (cs : List Choice) (c : Choice) : Type 0 where
   pub considered : is_considered q.kills (length h.scenario.programs) c ≡ true
-  pub comes : is_event e (step h.scenario c (reached h cs)).outcome ≡ true
+  pub outcome : gives h.scenario x (reached h cs) c ≡ true
   pub room : length h.entries + length cs < max_choices
 
--- what is handed out: the choices that lead to the state, and where something is then to come of a step, one of which it comes
-abbrev pub EndsBy : History → Sought → Option Event → List Choice → List Choice → Type 0
+-- what goes out: the choices that lead to the state, and one more if an outcome is asked for
+abbrev pub EndsBy : History → Sought → Option OutcomePattern → List Choice → List Choice → Type 0
 EndsBy h q None cs out = out ≡ cs
-EndsBy h q (Some e) cs out = (c : Choice) × IsLast h q e cs c × (out ≡ cs ++ c ∷ [])
+EndsBy h q (Some x) cs out = (c : Choice) × IsLast h q x cs c × (out ≡ cs ++ c ∷ [])
 
 abbrev pub IsFound : History → Sought → List Choice → Type 0
 IsFound h q out = (cs : List Choice) × FindsFirst h q cs × EndsBy h q q.then cs out
 
+-- the answer of a search
 abbrev pub IsAnswer : History → Sought → Answer → Type 0
 IsAnswer h q (answer.Found v) = IsFound h q v.items
 IsAnswer h q answer.Nowhere = NoneAtAll h q
@@ -117,6 +119,6 @@ IsDue h q most (answer.Found v) = Unit {0}
 IsDue h q most answer.Nowhere = Unit {0}
 IsDue h q most (answer.Spent fewer) = Fills h q most fewer ⊎ HasNoRoom h q fewer
 
--- what is seen by steps needs room in the history
+-- the history has room for the steps that are tried
 abbrev pub MayTry : Sought → History → Type 0
 MayTry q h = asks_steps q ≡ true → length h.entries < max_choices

@@ -1,6 +1,6 @@
 -- Where nothing goes on.
 use Rattle.std.specs.Prelude.{◌≡◌, ◌&&◌, Bool, true, false, List, [], ◌∷◌, length}
-use Rattle.std.specs.List.{list_any, list_all}
+use Rattle.std.specs.List.{list_all}
 use Rattle.zy_isa.specs.declared.choice.Choice.{Choice}
 use Rattle.zy_isa.specs.Scenario.{Scenario}
 use Rattle.zy_table.specs.declared.outcome.Outcome.{Outcome}
@@ -8,11 +8,9 @@ use Rattle.zy_table.specs.declared.outcome.Outcome.TheVariants.{BadMode, Idle, E
 use Rattle.zy_table.specs.declared.outcome.Outcome.TheVariants.{NoMessage, Held, Stray, Active, NoPush}
 use Rattle.zy_table.specs.State.{State}
 use Rattle.zy_table.specs.Play.{step}
-use Rattle.zy_goals.specs.declared.goal.Which.TheVariants as which
-use Rattle.zy_goals.specs.declared.goal.Trait.TheVariants as txn
-use Rattle.zy_goals.specs.declared.events.Event.{Event}
-use Rattle.zy_goals.specs.Goals.{are_txns}
-use Rattle.zy_goals.specs.Events.{is_event}
+use Rattle.zy_goals.specs.declared.goal.Selector.TheVariants as selector
+use Rattle.zy_goals.specs.declared.goal.TxnProperty.TheVariants as property
+use Rattle.zy_goals.specs.Txns.{selected_have}
 use Rattle.zy_search.specs.Choices.{considered}
 
 -- nothing came of a step
@@ -38,9 +36,5 @@ AreMoves sc s (c ∷ cs) = (is_still (step sc c s).outcome ≡ false) × AreMove
 -- a transaction is active, and nothing comes of any considered choice
 abbrev pub is_stuck : Scenario → Bool → State → Bool
 is_stuck sc kills s =
-    are_txns which.Any txn.Active s.txns
+    selected_have selector.Any property.Active s.txns
     && list_all (λ c. is_still (step sc c s).outcome) (considered kills (length sc.programs))
-
--- this may come of a considered choice
-abbrev pub may_come : Scenario → Bool → Event → State → Bool
-may_come sc kills e s = list_any (λ c. is_event e (step sc c s).outcome) (considered kills (length sc.programs))

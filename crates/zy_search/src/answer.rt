@@ -5,7 +5,8 @@ use zy_isa::Choice;
 /// What came of a search.
 #[derive(Drop)]
 pub enum Answer {
-    /// These choices lead to a state that shows it, and no fewer do.
+    /// These choices lead to a state that shows what is looked for, and no fewer do. Where an outcome is asked for, one
+    /// choice more, which has it there, is the last one.
     Found(Vec<Choice>),
     /// No choices do, however many.
     Nowhere,
@@ -13,13 +14,15 @@ pub enum Answer {
     Spent(usize),
 }
 
-/// An answer, and for a person how many states were reached on the way, the most choices that one of them takes, and how
-/// many transactions there are: nothing is promised of the three numbers.
+/// An answer, and numbers for a person, of which nothing is proved.
 #[derive(Drop)]
 pub struct Report {
     pub answer: Answer,
+    /// How many states were reached.
     pub states: usize,
+    /// The most choices that one of them takes.
     pub depth: usize,
+    /// How many transactions the scenario has.
     pub txns: usize,
 }
 

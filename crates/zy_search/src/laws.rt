@@ -1,5 +1,5 @@
 //! What an answer says of whole runs: each function is a law, and its contract is all of it.
-ghost use Rattle.std.specs.Prelude.{◌≡◌, List, true, false};
+ghost use Rattle.std.specs.Prelude.{◌≡◌, ◌++◌, ◌∷◌, [], List, true, false};
 ghost use Rattle.zy_isa.specs.declared.choice.Choice.{Choice as AChoice};
 ghost use Rattle.zy_isa.specs.declared.rule.Rule.TheVariants.{Held};
 ghost use Rattle.zy_isa.specs.Scenario.{IsScenario, Scenario as AScenario};
@@ -9,9 +9,11 @@ ghost use Rattle.zy_table.specs.State.{State};
 ghost use Rattle.zy_search.specs.declared.sought.Sought.{Sought};
 ghost use Rattle.zy_goals.specs.declared.goal.Fact.TheVariants.{Differs};
 ghost use Rattle.zy_goals.specs.declared.goal.Goal.{Is};
-ghost use Rattle.zy_goals.specs.Goals.{holds};
-ghost use Rattle.zy_search.specs.Schedules.{scheduled, ending};
-ghost use Rattle.zy_search.specs.Searches.{reached, Finds, Shows};
+ghost use Rattle.zy_goals.specs.declared.outcomes.OutcomePattern.{OutcomePattern as APattern};
+ghost use Rattle.zy_goals.specs.Goals.{meets};
+ghost use Rattle.zy_search.specs.Possible.{gives};
+ghost use Rattle.zy_search.specs.Schedules.{scheduled, before_last, ending};
+ghost use Rattle.zy_search.specs.Searches.{reached, Finds, IsLast, Shows};
 ghost use Rattle.zy_search.specs.Stuck.{is_still, is_stuck};
 
 use zy_audit::laws::always_same;
@@ -24,20 +26,30 @@ pub fn found_runs()
         → Shows (scheduled h cs) q (ending (scheduled h cs)) }
 {}
 
+/// Where an outcome is asked for, the scenario with the choices that were found and one more that has it is a scenario.
+/// One choice before its end, its run is in a state that shows what was looked for; its last step has the outcome.
+pub fn last_step_runs()
+    ensures tested { (h : History) (q : Sought) (x : APattern) (cs : List AChoice) (c : AChoice) → IsReplay h
+        → Finds h q cs → IsLast h q x cs c → IsScenario (scheduled h (cs ++ c ∷ [])) }
+    ensures before { (h : History) (q : Sought) (x : APattern) (cs : List AChoice) (c : AChoice) → IsReplay h
+        → Finds h q cs → IsLast h q x cs c → Shows (scheduled h (cs ++ c ∷ [])) q (before_last h cs c) }
+    ensures outcome { (h : History) (q : Sought) (x : APattern) (cs : List AChoice) (c : AChoice) → IsReplay h
+        → Finds h q cs → IsLast h q x cs c → gives (scheduled h (cs ++ c ∷ [])) x (before_last h cs c) c ≡ true }
+{}
+
 /// Where choices do not lead to a state that shows it, the state after a run with them does not.
 pub fn nowhere_runs()
     ensures { (h : History) (q : Sought) (cs : List AChoice) → IsReplay h → (Shows h.scenario q (reached h cs) → ⊥)
         → Shows (scheduled h cs) q (ending (scheduled h cs)) → ⊥ }
 {}
 
-/// Under the rule `held` no choices lead to another database than that of the serial run: a search for one answers that
-/// there is none, or that it came to no end.
+/// Under the rule `held` no choices lead to another database than that of the serial run: a search for `differs`
+/// answers that there is none, or that it came to no end, and in any other goal `differs` never holds.
 pub fn never_differs_under_held()
     ensures alone { (h : History) (q : Sought) (cs : List AChoice) → IsReplay h → h.scenario.rule ≡ Held
         → q.goal ≡ Is Differs → Finds h q cs → ⊥ }
-    // In any other goal `differs` is never so.
     ensures inside { (h : History) (q : Sought) (cs : List AChoice) → IsReplay h → h.scenario.rule ≡ Held
-        → Finds h q cs → holds (record { differs = false; stuck = is_stuck h.scenario q.kills (reached h cs) }) q.goal
+        → Finds h q cs → meets (record { differs = false; stuck = is_stuck h.scenario q.kills (reached h cs) }) q.goal
         (reached h cs) ≡ true }
 {
     // Proof: under `held` the serial run gives the same database.

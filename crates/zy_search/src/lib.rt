@@ -9,6 +9,7 @@ mod expand;
 mod last;
 pub mod laws;
 pub mod plan;
+mod possible;
 pub mod search;
 pub mod shelf;
 mod shows;

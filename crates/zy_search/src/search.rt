@@ -88,7 +88,7 @@ fn expand_all<W: Watch>(
     settle(plan, visited, u32::MAX)
 }
 
-/// How many states an answer adds to those that none of what is looked for is shown by.
+/// How many states an answer adds to the visited ones: the state that was found, unless it is that of the start.
 fn shown_by(answer: &Answer) -> usize {
     match answer {
         Answer::Found(path) if !path.is_empty() => 1,
@@ -96,8 +96,8 @@ fn shown_by(answer: &Answer) -> usize {
     }
 }
 
-/// An answer, with how many states were reached, the length of the last path, and how many transactions there are. These
-/// states show what is looked for, beside those that were visited.
+/// An answer, with how many states were reached (`shown` of them beside the visited ones), the length of the last path,
+/// and how many transactions there are.
 fn report(
     plan: &Plan,
     visited: &Visited,
@@ -215,8 +215,8 @@ fn plan_from(alloc: Global, machine: &Machine, sought: Sought, most: u32) -> Res
 }
 
 /// Looks for a state that choices lead to from a machine's, and that shows what is looked for. It goes breadth first,
-/// so that no fewer choices lead there, and stops where it would reach more states than `most`. Where something is then
-/// to come of a step, that is the last one of what is found. The watch learns how far it is.
+/// so that no fewer choices lead there, and stops where it would reach more states than `most`. Where an outcome is
+/// asked for, what is found ends with one choice more, which has it. The watch learns how far it is.
 pub fn search<W: Watch>(
     alloc: Global,
     start: &Machine,

@@ -7,22 +7,22 @@ ghost use Rattle.zy_table.specs.Play as table;
 ghost use Rattle.zy_goals.specs.Goals as goals;
 ghost use Rattle.zy_goals.specs.Commits as goals_commits;
 ghost use Rattle.zy_search.specs.Choices.{considered};
-ghost use Rattle.zy_search.specs.Searches.{MayTry, Shows, told};
+ghost use Rattle.zy_search.specs.Searches.{MayTry, Shows, context_of};
 ghost use Rattle.zy_search.specs.Searches as spec;
 
+use crate::possible::is_possible;
 use crate::sought::Sought;
-use crate::stuck::{is_stuck, may_come};
+use crate::stuck::is_stuck;
 use std::alloc::Global;
 use zy_audit::serial::same;
 use zy_goals::commits::is_of_commits;
-use zy_goals::plain::is_plain;
-use zy_goals::{Event, Fact, Goal};
+use zy_goals::facts::holds_in;
+use zy_goals::{Fact, Goal, OutcomePattern};
 use zy_isa::Choice;
 use zy_machine::{Fault, Machine};
 use zy_table::CommitRecord;
 
-/// Whether a fact is one in a machine's state; these are the choices that are considered, and another machine to try
-/// them on.
+/// Whether a fact holds in a machine's state. The considered choices are tried on another machine.
 fn is_fact(
     alloc: Global,
     kills: bool,
@@ -34,8 +34,8 @@ fn is_fact(
     requires room { goals_commits.is_stuck_fact fact ≡ true → length machine.now.entries < max_choices }
     requires choices { choices.now ≡ considered kills (length machine.now.scenario.programs) }
     requires spare { spare.old.scenario ≡ machine.now.scenario }
-    ensures is { IfOk result (λ b. b ≡ goals.is_fact (told machine.now.scenario kills machine.now.state) fact
-        machine.now.state) }
+    ensures is { IfOk result (λ b. b ≡ goals.is_fact (context_of machine.now.scenario kills machine.now.state)
+        fact machine.now.state) }
     ensures spare { OnOk result (spare.new.scenario ≡ machine.now.scenario) }
 {
     match fact {
@@ -44,12 +44,12 @@ fn is_fact(
             Ok(!same)
         }
         Fact::Stuck => is_stuck(alloc, kills, machine, spare, choices),
-        Fact::Plain(plain) => Ok(is_plain(plain, machine)),
+        Fact::OfState(state_fact) => Ok(holds_in(state_fact, machine)),
     }
 }
 
-/// Whether a goal holds in a machine's state.
-fn holds(
+/// Whether a machine's state meets a goal. The second of two goals is judged only where it still counts.
+fn meets(
     alloc: Global,
     kills: bool,
     goal: &Goal,
@@ -60,36 +60,36 @@ fn holds(
     requires room { goals_commits.asks_stuck goal.now ≡ true → length machine.now.entries < max_choices }
     requires choices { choices.now ≡ considered kills (length machine.now.scenario.programs) }
     requires spare { spare.old.scenario ≡ machine.now.scenario }
-    ensures holds { IfOk result (λ b. b ≡ goals.holds (told machine.now.scenario kills machine.now.state) goal.now
-        machine.now.state) }
+    ensures meets { IfOk result (λ b. b ≡ goals.meets (context_of machine.now.scenario kills machine.now.state)
+        goal.now machine.now.state) }
     ensures spare { OnOk result (spare.new.scenario ≡ machine.now.scenario) }
 {
     match goal {
         Goal::Is(fact) => is_fact(alloc, kills, *fact, choices, machine, spare),
         Goal::Not(g) => {
-            let is = holds(alloc, kills, g, choices, machine, spare)?;
-            Ok(!is)
+            let is_met = meets(alloc, kills, g, choices, machine, spare)?;
+            Ok(!is_met)
         }
-        Goal::Both(g, h) => {
-            if !holds(alloc, kills, g, choices, machine, spare)? {
+        Goal::And(g, h) => {
+            if !meets(alloc, kills, g, choices, machine, spare)? {
                 return Ok(false);
             }
-            holds(alloc, kills, h, choices, machine, spare)
+            meets(alloc, kills, h, choices, machine, spare)
         }
-        Goal::Either(g, h) => {
-            if holds(alloc, kills, g, choices, machine, spare)? {
+        Goal::Or(g, h) => {
+            if meets(alloc, kills, g, choices, machine, spare)? {
                 return Ok(true);
             }
-            holds(alloc, kills, h, choices, machine, spare)
+            meets(alloc, kills, h, choices, machine, spare)
         }
     }
 }
 
-/// Whether what is then to come of a step may come of one.
+/// Whether a considered choice has the outcome that is asked for, if one is.
 fn may_follow(
     alloc: Global,
     kills: bool,
-    then: Option<Event>,
+    then: Option<OutcomePattern>,
     choices: &[Choice],
     machine: &Machine,
     spare: &mut Machine,
@@ -102,12 +102,11 @@ fn may_follow(
 {
     match then {
         None => Ok(true),
-        Some(event) => may_come(alloc, kills, event, machine, spare, choices),
+        Some(wanted) => is_possible(alloc, kills, wanted, machine, spare, choices),
     }
 }
 
-/// Whether a machine's state shows what is looked for; these are the choices that are considered, and another machine
-/// to try them on.
+/// Whether a machine's state shows what is looked for. The considered choices are tried on another machine.
 fn shows_all(
     alloc: Global,
     sought: &Sought,
@@ -121,13 +120,13 @@ fn shows_all(
     ensures shows { IfOk result (λ b. b ≡ spec.shows machine.now.scenario sought.now machine.now.state) }
     ensures spare { OnOk result (spare.new.scenario ≡ machine.now.scenario) }
 {
-    if !holds(alloc, sought.kills, &sought.goal, choices, machine, spare)? {
+    if !meets(alloc, sought.kills, &sought.goal, choices, machine, spare)? {
         return Ok(false);
     }
     may_follow(alloc, sought.kills, sought.then, choices, machine, spare)
 }
 
-/// The same, as a test.
+/// The same, as a test of the fact `Shows`.
 pub(crate) fn shows(
     alloc: Global,
     sought: &Sought,
@@ -158,7 +157,8 @@ fn is_by_commits(sought: &Sought) -> bool
     sought.then.is_none() && is_of_commits(&sought.goal)
 }
 
-/// The same of a machine to which a choice has led from the state of one that does not show it.
+/// The same of a machine to which a choice has led from the state of `before`, which does not show it. Where only a
+/// commit can bring it about and none was made, the state is not judged.
 pub(crate) fn shows_next(
     alloc: Global,
     sought: &Sought,

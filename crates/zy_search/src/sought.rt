@@ -3,19 +3,20 @@ ghost use Rattle.std.specs.Prelude.{◌≡◌};
 ghost use Rattle.zy_search.specs.Searches as spec;
 
 use zy_goals::commits::asks_stuck;
-use zy_goals::{Event, Goal};
+use zy_goals::{Goal, OutcomePattern};
 
-/// What is looked for, and whether the choices that may lead there kill transactions.
+/// What is looked for, and by which choices.
 #[derive(Drop)]
 pub struct Sought {
-    /// What the state is to be.
+    /// What a state is to meet.
     pub goal: Goal,
-    /// What is then to come of a step, if that is asked.
-    pub then: Option<Event>,
+    /// The outcome that a considered choice is to have in that state, if one is asked for.
+    pub then: Option<OutcomePattern>,
+    /// Whether the client's kills are considered.
     pub kills: bool,
 }
 
-/// Whether what is looked for is seen by steps.
+/// Whether it takes steps to judge if a state shows what is looked for.
 pub(crate) fn asks_steps(sought: &Sought) -> bool
     ensures { result ≡ spec.asks_steps sought.now }
 {

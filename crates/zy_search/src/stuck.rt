@@ -1,10 +1,9 @@
-//! Whether nothing goes on, and what may.
-ghost use Rattle.std.specs.Prelude.{◌≡◌, ◌<◌, true, nat_lt, IfOk, OnOk, length};
-ghost use Rattle.std.specs.List.{list_all, list_any};
+//! Whether nothing goes on.
+ghost use Rattle.std.specs.Prelude.{◌≡◌, ◌<◌, true, IfOk, OnOk, length};
+ghost use Rattle.std.specs.List.{list_all};
 ghost use Rattle.zy_isa.specs.Limits.{max_choices};
 ghost use Rattle.zy_isa.specs.Choices.{names_below};
 ghost use Rattle.zy_isa.specs.Scenario.{AreNamed};
-ghost use Rattle.zy_goals.specs.Events as goals_events;
 ghost use Rattle.zy_table.specs.Play as table;
 ghost use Rattle.zy_search.specs.Choices as search_choices;
 ghost use Rattle.zy_search.specs.Stuck as search_stuck;
@@ -12,9 +11,8 @@ ghost use Rattle.zy_search.specs.Visits.{IsTwin};
 
 use crate::still::is_still;
 use std::alloc::Global;
-use zy_goals::events::is_event;
-use zy_goals::txns::are_txns;
-use zy_goals::{Event, Trait, Which};
+use zy_goals::txns::selected_have;
+use zy_goals::{Selector, TxnProperty};
 use zy_isa::{Choice, MAX_CHOICES};
 use zy_machine::{Fault, Machine};
 
@@ -88,71 +86,9 @@ pub(crate) fn is_stuck(
     ensures stuck { IfOk result (λ b. b ≡ search_stuck.is_stuck machine.now.scenario kills machine.now.state) }
     ensures spare { OnOk result (spare.new.scenario ≡ machine.now.scenario) }
 {
-    if !are_txns(Which::Any, Trait::Active, machine) {
+    if !selected_have(Selector::Any, TxnProperty::Active, machine) {
         return Ok(false);
     }
     spare.set_to(alloc, machine)?;
     is_stuck_by(alloc, machine, spare, choices)
-}
-
-/// Whether this comes of a choice. It is tried on another machine.
-fn comes(
-    alloc: Global,
-    event: Event,
-    machine: &Machine,
-    spare: &mut Machine,
-    choice: Choice,
-) -> Result<bool, Fault>
-    requires room { length machine.now.entries < max_choices }
-    requires spare { spare.old.scenario ≡ machine.now.scenario }
-    requires named { names_below (length machine.now.scenario.programs) choice ≡ true }
-    ensures comes { IfOk result (λ b. b ≡ goals_events.is_event event
-        (table.step machine.now.scenario choice machine.now.state).outcome) }
-    ensures spare { OnOk result (spare.new.scenario ≡ machine.now.scenario) }
-{
-    spare.set_to(alloc, machine)?;
-    let entry = spare.step(choice)?;
-    Ok(is_event(event, entry.outcome))
-}
-
-/// The place of the first of some choices of which this comes; their number where there is none.
-fn first_by(
-    alloc: Global,
-    event: Event,
-    machine: &Machine,
-    spare: &mut Machine,
-    choices: &[Choice],
-) -> Result<usize, Fault>
-    requires room { length machine.now.entries < max_choices }
-    requires spare { spare.old.scenario ≡ machine.now.scenario }
-    requires named { AreNamed (length machine.now.scenario.programs) choices.now }
-    ensures some { IfOk result (λ i. nat_lt i (length choices.now) ≡ list_any (λ c. goals_events.is_event event
-        (table.step machine.now.scenario c machine.now.state).outcome) choices.now) }
-    ensures spare { OnOk result (spare.new.scenario ≡ machine.now.scenario) }
-{
-    for i in 0..choices.len() {
-        if comes(alloc, event, machine, spare, choices[i])? {
-            return Ok(i);
-        }
-    }
-    Ok(choices.len())
-}
-
-/// Whether this may come of a choice that is considered.
-pub(crate) fn may_come(
-    alloc: Global,
-    kills: bool,
-    event: Event,
-    machine: &Machine,
-    spare: &mut Machine,
-    choices: &[Choice],
-) -> Result<bool, Fault>
-    requires room { length machine.now.entries < max_choices }
-    requires spare { spare.old.scenario ≡ machine.now.scenario }
-    requires choices { choices.now ≡ search_choices.considered kills (length machine.now.scenario.programs) }
-    ensures comes { IfOk result (λ b. b ≡ search_stuck.may_come machine.now.scenario kills event machine.now.state) }
-    ensures spare { OnOk result (spare.new.scenario ≡ machine.now.scenario) }
-{
-    let first = first_by(alloc, event, machine, spare, choices)?;
-    Ok(first < choices.len())
 }

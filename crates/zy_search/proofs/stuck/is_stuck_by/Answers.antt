@@ -2,7 +2,8 @@ use Rattle.std.proofs.Common.{◌≡◌, ◌∙◌, get_or, true, sym, length, a
 use Rattle.zy_isa.specs.declared.choice.Choice.{Choice}
 use Rattle.zy_isa.specs.declared.choice.Choice.TheVariants.{Start}
 use Rattle.zy_table.specs.Play.{step}
-use Rattle.zy_goals.proofs.EachLemmas.{more, each_here, other_here}
+use Rattle.std.proofs.lemmas.List.Folds.{list_all_at}
+use Rattle.zy_goals.proofs.EachLemmas.{more, each_here}
 use Rattle.zy_search.specs.Stuck.{is_still}
 use Rattle.zy_search.proofs.SearchLemmas.{named_at}
 use Rattle.zy_search.proofs.stuck.is_stuck_by.Goals as goal
@@ -10,9 +11,10 @@ use Rattle.zy_search.proofs.stuck.is_stuck_by.Goals as goal
 pub stays-requires-clause-named : goal.stays-requires-clause-named
 stays-requires-clause-named c = named_at _ c.args.choices.now c.loop-i.i _ c.requires.named c.loop-i-test.true
 
+-- something comes of the choice at i
 pub returns-then-not-branch-clause-stuck : goal.returns-then-not-branch-clause-stuck
 returns-then-not-branch-clause-stuck c =
-    sym (other_here (λ (d : Choice). is_still (step c.args.machine.now.scenario d c.args.machine.now.state).outcome) c.args.choices.now c.loop-i.i Start
+    sym (list_all_at (λ (d : Choice). is_still (step c.args.machine.now.scenario d c.args.machine.now.state).outcome) c.args.choices.now c.loop-i.i Start
     c.loop-i-test.true (sym c.in_ok-stays.ensures.still ∙ c.if-not-branch.true))
 
 pub loop-i-preserved : goal.loop-i-preserved
@@ -24,6 +26,7 @@ loop-i-preserved c =
           (sym c.in_ok-stays.ensures.still ∙ c.if-not-branch.false);
     }
 
+-- nothing comes of any
 pub returns-clause-stuck : goal.returns-clause-stuck
 returns-clause-stuck c =
     sym (each_here (λ (d : Choice). is_still (step c.args.machine.now.scenario d c.args.machine.now.state).outcome) c.args.choices.now Start

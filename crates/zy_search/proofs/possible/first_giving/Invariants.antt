@@ -1,12 +1,12 @@
 use Rattle.std.proofs.Common.{◌≡◌, ◌<◌, ℕ, get_or, false}
 use Rattle.zy_isa.specs.declared.choice.Choice.TheVariants.{Start}
-use Rattle.zy_table.specs.Play.{step}
-use Rattle.zy_goals.specs.Events.{is_event}
-use Rattle.zy_search.proofs.stuck.first_by.Given as goal
+use Rattle.zy_search.specs.Possible.{gives}
+use Rattle.zy_search.proofs.possible.first_giving.Given as goal
 
+-- no choice before i has the outcome
 abbrev pub invariant-loop-i : goal.invariant-loop-i
 invariant-loop-i l =
     record {
       spare : l.spare.scenario ≡ l.machine.scenario;
-      none : (j : ℕ) → j < l.i → is_event l.event (step l.machine.scenario (get_or l.choices j Start) l.machine.state).outcome ≡ false;
+      none : (j : ℕ) → j < l.i → gives l.machine.scenario l.wanted l.machine.state (get_or l.choices j Start) ≡ false;
     }

@@ -1,0 +1,18 @@
+-- The outcomes that a step from a state may have.
+use Rattle.std.specs.Prelude.{Bool, length}
+use Rattle.std.specs.List.{list_any}
+use Rattle.zy_isa.specs.declared.choice.Choice.{Choice}
+use Rattle.zy_isa.specs.Scenario.{Scenario}
+use Rattle.zy_table.specs.State.{State}
+use Rattle.zy_table.specs.Play.{step}
+use Rattle.zy_goals.specs.declared.outcomes.OutcomePattern.{OutcomePattern}
+use Rattle.zy_goals.specs.Outcomes.{matches}
+use Rattle.zy_search.specs.Choices.{considered}
+
+-- a choice has an outcome like x
+abbrev pub gives : Scenario → OutcomePattern → State → Choice → Bool
+gives sc x s c = matches x (step sc c s).outcome
+
+-- a considered choice has one
+abbrev pub is_possible : Scenario → Bool → OutcomePattern → State → Bool
+is_possible sc kills x s = list_any (gives sc x s) (considered kills (length sc.programs))
