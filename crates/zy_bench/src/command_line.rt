@@ -21,9 +21,9 @@ pub enum Request<'a> {
 #[derive(Clone, Copy, Debug, PartialEq, Eq)]
 pub struct Quest<'a> {
     pub format: Format,
-    /// What is looked for, in words.
+    /// The goal, as it was given.
     pub text: &'a str,
-    /// The words say what is always so: a state is looked for where it is not.
+    /// Whether every state is to meet the goal: a state is looked for that does not.
     pub is_always: bool,
     /// Whether the client may kill transactions.
     pub kills: bool,
@@ -173,12 +173,12 @@ fn search_command<'a>(alloc: Global) -> Result<Command<'a>, AllocError> {
     let wanted = Arg::new(alloc, "for")
         .long("for")
         .value_name("GOAL")
-        .help("What a state must show, else differs");
+        .help("The goal that a state is to meet, else differs");
     let always = Arg::new(alloc, "always")
         .long("always")
         .value_name("GOAL")
         .conflicts_with("for")?
-        .help("What every state is to show: a state is looked for that does not");
+        .help("A goal that every state is to meet: looks for a state that does not");
     let kills = Arg::new(alloc, "kill")
         .long("kill")
         .action(ArgAction::SetTrue)
@@ -193,7 +193,27 @@ fn search_command<'a>(alloc: Global) -> Result<Command<'a>, AllocError> {
             "Looks for a schedule of the scenario on standard input after which a state shows something",
         )
         .after_help(
-            "Input:   a scenario text, or with --image an image, at most 4194304 bytes; its choices are steps\n         already taken\nOutput:  the scenario with a shortest list of further choices that leads there; nothing where\n         there is none. Standard error has the number of states reached; a fault is one line there\nStatus:  0 found, 1 the input is refused, 2 the command line is wrong, 3 out of memory,\n         4 no schedule shows it, 5 the input or the output failed, 6 it gave up\n\nGOAL:    facts with and, or, not and brackets, and behind them then and an outcome of the listing.\n         Facts: differs (another database than that of the serial run), aborted or the reason (own,\n         killed, badkey, missing, duplicate, frozen, nopage, gone), committed (all transactions),\n         stuck (a transaction is active, and nothing comes of any choice), mode A sdual, page 3 at B,\n         page 3 moving, txn 0 active, txn 0 aborted gone, txn 1 committed before 0, link AB has pull,\n         key 10 = 5, sum 1 to 8 != 800, reg 0 r2 > 60 and more. docs/search.md describes them all.\n\nExamples:\n  zy_bench search --for gone < examples/gone.zephyr | zy_bench run\n  zy_bench search --for 'txn 0 active and page 3 moving then pulls' < SCENARIO",
+            concat!(
+                "Input:   a scenario text, or with --image an image, at most 4194304 bytes; its choices are steps\n",
+                "         already taken\n",
+                "Output:  the scenario with a shortest list of further choices that leads there; nothing where\n",
+                "         there is none. Standard error has the number of states reached; a fault is one line there\n",
+                "Status:  0 found, 1 the input is refused, 2 the command line is wrong, 3 out of memory,\n",
+                "         4 no schedule shows it, 5 the input or the output failed, 6 it gave up\n",
+                "\n",
+                "GOAL:    facts joined by and, or, not and brackets; then and an outcome of the listing may follow.\n",
+                "         Facts of one word: differs (another database than that of the serial run), aborted (a\n",
+                "         transaction), own, killed, badkey, missing, duplicate, frozen, nopage, gone (for this\n",
+                "         reason), committed (all transactions), stuck (a transaction is active, and nothing comes of\n",
+                "         any choice).\n",
+                "         Others: mode A sdual, page 3 at B, page 3 moving, txn 0 active, txn 0 aborted gone,\n",
+                "         txn 1 committed before 0, link AB has pull, key 10 = 5, sum 1 to 8 != 800, reg 0 r2 > 60\n",
+                "         and more: docs/search.md has them all.\n",
+                "\n",
+                "Examples:\n",
+                "  zy_bench search --for gone < examples/gone.zephyr | zy_bench run\n",
+                "  zy_bench search --for 'txn 0 active and page 3 moving then pulls' < SCENARIO"
+            ),
         )
         .arg(image_flag(alloc))?
         .arg(wanted)?

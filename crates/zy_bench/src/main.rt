@@ -159,23 +159,23 @@ fn debug<R: Input + AllocGlobal, W: Write>(
     Ok(DONE)
 }
 
-/// What a quest is for.
+/// What a search is to look for.
 fn sought_of(alloc: Global, quest: Quest<'_>) -> Result<Sought, ReadFault> {
     let text = quest.text.as_bytes();
-    let asked = if quest.is_always {
+    let query = if quest.is_always {
         read_always(alloc, text)?
     } else {
         read_goal(alloc, text)?
     };
     Ok(Sought {
-        goal: asked.goal,
-        then: asked.then,
+        goal: query.goal,
+        then: query.then,
         kills: quest.kills,
     })
 }
 
-/// Searches the schedules of the scenario on standard input, and gives the exit status; without a goal it reads
-/// nothing.
+/// Reads the goal of a search, carries the search out, and gives the exit status. Where the goal is refused, standard
+/// input is not read.
 fn search<R: Eprint + Input + AllocGlobal + Clock, W: Write>(
     rt: &R,
     quest: Quest<'_>,
@@ -209,7 +209,7 @@ fn search_for<R: Eprint + Input + AllocGlobal + Clock, W: Write>(
     requires { output.old.1 < u64.MAX }
 {
     let Quest { format, most, .. } = quest;
-    let named = txns_named(&sought.goal);
+    let named = usize::from(txns_named(&sought.goal));
     let mut source = CountingReader::new(rt.reader());
     let mut progress = Progress::new(rt, is_terminal);
     let searched = search_bytes(
@@ -225,16 +225,17 @@ fn search_for<R: Eprint + Input + AllocGlobal + Clock, W: Write>(
     progress.clear();
     let report = searched?;
     flush(output)?;
-    warn(rt, usize::from(named), report.txns);
+    warn(rt, named, report.txns);
     Ok(sum_up(rt, &report))
 }
 
-/// Warns on standard error where a goal names a transaction that the scenario does not have.
+/// Warns on standard error where a goal names a transaction that the scenario does not have: it would take `named` of
+/// them, and has `txns`.
 fn warn(rt: &impl Eprint, named: usize, txns: usize) {
     if txns < named {
         let t = named.saturating_sub(1);
         let _ = eprintln!(rt;
-            "zy_bench: the goal speaks of transaction {t}, and the scenario has {txns}, from 0 on"
+            "zy_bench: the goal names transaction {t}, and the scenario has only those below {txns}"
         );
     }
 }

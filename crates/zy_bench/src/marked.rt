@@ -1,4 +1,4 @@
-//! What is wrong with the words of a goal.
+//! Why the text of a goal is refused.
 
 use crate::command_line::Quest;
 use std::fmt;
@@ -6,7 +6,7 @@ use zy_advice::line::Word;
 use zy_advice::place::Place;
 use zy_goals::Refusal;
 
-/// The words of a goal, and where something else was to be.
+/// A goal that is refused, and the word that does not fit.
 #[derive(Clone, Copy)]
 pub struct Marked<'a> {
     quest: Quest<'a>,
@@ -14,16 +14,16 @@ pub struct Marked<'a> {
 }
 
 impl<'a> Marked<'a> {
-    /// Why the words of a quest are no goal.
+    /// Why the text of a quest is no goal.
     pub fn of(quest: Quest<'a>, refusal: Refusal) -> Marked<'a> {
         Marked { quest, refusal }
     }
 }
 
-/// The flag, what was to be there, and the words with the one at fault marked.
+/// The flag, what is expected, and the text of the goal with the word at fault marked.
 impl fmt::Display for Marked<'_> {
     fn fmt<W: fmt::Write>(&self, f: &mut fmt::Formatter<W>) -> fmt::Result {
-        let Refusal { from, to, wanted } = self.refusal;
+        let Refusal { from, to, expected } = self.refusal;
         let text = self.quest.text.as_bytes();
         let word = Word {
             start: from,
@@ -35,6 +35,6 @@ impl fmt::Display for Marked<'_> {
             "for"
         };
         let place = Place::of(text, word);
-        write!(f, "--{flag}: {wanted} ({place})")
+        write!(f, "--{flag}: {expected} ({place})")
     }
 }

@@ -46,7 +46,9 @@ fn is_locked(locks: &[Lock], page: u16) -> bool
 fn holds(locks: &[Lock], page: u16, txn: u8) -> bool
     ensures { result ≡ locks_locks.holds locks.now page txn }
 {
-    locks.iter().any(|lock| lock.page == page && lock.txn == txn)
+    locks
+        .iter()
+        .any(|lock| lock.page == page && lock.txn == txn)
 }
 
 /// Whether two kinds of messages are one.

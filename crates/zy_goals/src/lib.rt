@@ -12,8 +12,8 @@ mod terms;
 pub mod txns;
 
 pub use crate::goal::{
-    Comparison, Fact, Goal, LinkContent, MessagePattern, PagePlace, Reason, Selector, StateFact, Term,
-    TxnProperty,
+    Comparison, Fact, Goal, LinkContent, MessagePattern, PagePlace, Reason, Selector, StateFact,
+    Term, TxnProperty,
 };
 pub use crate::outcomes::{OutcomeKind, OutcomePattern};
 pub use crate::reading::Query;

@@ -143,11 +143,7 @@ pub struct Query {
 
 /// A goal that every state meets.
 fn anything() -> Goal {
-    Goal::Is(Fact::OfState(StateFact::Compare(
-        Term::Number(0),
-        Comparison::Equal,
-        Term::Number(0),
-    )))
+    Goal::Is(Fact::OfState(StateFact::Compare(Term::Number(0), Comparison::Equal, Term::Number(0))))
 }
 
 /// Reads a goal, `then` after it or not, or `then` alone, which asks for a step from any state. It is refused at the

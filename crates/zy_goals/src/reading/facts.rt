@@ -1,13 +1,15 @@
 //! Reads facts.
 
-use crate::goal::{Fact, LinkContent, MessagePattern, PagePlace, Reason, Selector, StateFact};
-use crate::goal::TxnProperty;
+use crate::goal::{
+    Fact, LinkContent, MessagePattern, PagePlace, Reason, Selector, StateFact, TxnProperty,
+};
 use crate::reading::Parsed;
 use crate::reading::cursor::Cursor;
 use crate::reading::terms::comparison;
-use crate::reading::words::{FACTS, KINDS, LINK_WORDS, LINKS, LinkWord, MODES, NODES, PAGE_WORDS};
-use crate::reading::words::{PLACES, PageWord, REASONS, SELECTORS, SUBJECTS, Subject, TXN_WORDS};
-use crate::reading::words::TxnWord;
+use crate::reading::words::{
+    FACTS, KINDS, LINK_WORDS, LINKS, LinkWord, MODES, NODES, PAGE_WORDS, PLACES, PageWord, REASONS,
+    SELECTORS, SUBJECTS, Subject, TXN_WORDS, TxnWord,
+};
 use crate::refusal::{Expected, Refusal};
 use zy_isa::Node;
 use zy_links::Kind;
@@ -88,10 +90,7 @@ fn txns<'a>(selector: Selector, at: Cursor<'a>) -> Parsed<'a, StateFact> {
             let (reason, last) = reason_after(at);
             (TxnProperty::Aborted(reason), last)
         }
-        TxnWord::At => (
-            TxnProperty::At(next.one_of(&NODES, Expected::Node)?),
-            next,
-        ),
+        TxnWord::At => (TxnProperty::At(next.one_of(&NODES, Expected::Node)?), next),
         TxnWord::Wrote => (TxnProperty::Wrote(next.key()?), next),
     };
     Ok((StateFact::Txns(selector, property), last))

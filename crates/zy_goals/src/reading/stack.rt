@@ -76,22 +76,27 @@ impl Stack {
         Ok(())
     }
 
-    fn push(&mut self, goal: Goal) -> Result<(), AllocError> {
+    fn push_goal(&mut self, goal: Goal) -> Result<(), AllocError> {
         self.goals.push(goal)?;
+        Ok(())
+    }
+
+    fn push_operator(&mut self, operator: Operator) -> Result<(), AllocError> {
+        self.operators.push(operator)?;
         Ok(())
     }
 
     /// Adds a fact, which begins with the word at hand.
     pub fn add(&mut self, at: Cursor<'_>, fact: Fact) -> Result<(), ReadFault> {
         self.count(at)?;
-        self.push(Goal::Is(fact))?;
+        self.push_goal(Goal::Is(fact))?;
         Ok(())
     }
 
     /// Adds an operator that comes before its operand, or an opening bracket.
     pub fn open(&mut self, at: Cursor<'_>, operator: Operator) -> Result<(), ReadFault> {
         self.count(at)?;
-        self.operators.push(operator)?;
+        self.push_operator(operator)?;
         Ok(())
     }
 
@@ -114,13 +119,13 @@ impl Stack {
         };
         if operator == Operator::Not {
             let goal = negated(alloc, right)?;
-            return self.push(goal);
+            return self.push_goal(goal);
         }
         let Some(left) = self.goals.pop() else {
-            return self.push(right);
+            return self.push_goal(right);
         };
         let goal = joined(alloc, left, operator, right)?;
-        self.push(goal)
+        self.push_goal(goal)
     }
 
     /// Takes the last operator away and applies it, if it binds at least as tightly as this. Says whether it did.

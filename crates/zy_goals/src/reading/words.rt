@@ -23,10 +23,7 @@ pub const FACTS: [(&'static str, Fact); 4] = [
     ),
     (
         "aborted",
-        Fact::OfState(StateFact::Txns(
-            Selector::Any,
-            TxnProperty::Aborted(Reason::Any),
-        )),
+        Fact::OfState(StateFact::Txns(Selector::Any, TxnProperty::Aborted(Reason::Any))),
     ),
 ];
 
@@ -91,8 +88,10 @@ pub const PLACES: [(&'static str, PagePlace); 4] = [
 ];
 
 /// The words after `txn` that are no number.
-pub const SELECTORS: [(&'static str, Selector); 2] =
-    [("any", Selector::Any), ("all", Selector::All)];
+pub const SELECTORS: [(&'static str, Selector); 2] = [
+    ("any", Selector::Any),
+    ("all", Selector::All),
+];
 
 /// What a fact says of transactions.
 #[derive(Clone, Copy)]
@@ -137,8 +136,10 @@ pub enum LinkWord {
 }
 
 /// The words after `link L`.
-pub const LINK_WORDS: [(&'static str, LinkWord); 2] =
-    [("empty", LinkWord::Empty), ("has", LinkWord::Has)];
+pub const LINK_WORDS: [(&'static str, LinkWord); 2] = [
+    ("empty", LinkWord::Empty),
+    ("has", LinkWord::Has),
+];
 
 /// The kinds of messages.
 pub const KINDS: [(&'static str, Kind); 7] = [
