@@ -1,5 +1,5 @@
 -- Two states with the same database and the same commits meet the same goals of commits.
-use Rattle.std.proofs.Common.{◌≡◌, ◌∙◌, ℕ, ◌&&◌, ◌||◌, not, Bool, true, List, length, refl, ap, is_some, unwrap_or}
+use Rattle.std.proofs.Common.{◌≡◌, ◌∙◌, ◌&&◌, ◌||◌, not, true, List, length, refl, ap, is_some, unwrap_or}
 use Rattle.std.proofs.Math.Bool.{false≢true}
 use Rattle.std.proofs.lemmas.Bool.{and_parts}
 use Rattle.std.specs.FinMap.{get}

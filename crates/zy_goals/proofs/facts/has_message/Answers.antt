@@ -1,4 +1,4 @@
-use Rattle.std.proofs.Common.{◌≡◌, ◌∙◌, ◌<◌, get_or, sym, arith, false, length}
+use Rattle.std.proofs.Common.{◌≡◌, get_or, sym, arith, false}
 use Rattle.zy_links.specs.declared.message.Message.{Message}
 use Rattle.zy_links.specs.Messages.{message_of}
 use Rattle.zy_goals.specs.Facts.{is_like}
