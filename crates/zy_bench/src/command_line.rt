@@ -168,6 +168,29 @@ fn debug_command<'a>(alloc: Global) -> Result<Command<'a>, AllocError> {
         .arg(ring)
 }
 
+/// What is below the options of `search`.
+const SEARCH_HELP: &'static str = concat!(
+    "Input:   a scenario text, or with --image an image, at most 4194304 bytes; its choices are steps\n",
+    "         already taken\n",
+    "Output:  the scenario with a shortest list of further choices that leads there; nothing where\n",
+    "         there is none. Standard error has the number of states reached; a fault is one line there\n",
+    "Status:  0 found, 1 the input is refused, 2 the command line is wrong, 3 out of memory,\n",
+    "         4 no schedule shows it, 5 the input or the output failed, 6 it gave up\n",
+    "\n",
+    "GOAL:    facts joined by and, or, not and brackets; after them may come: then OUTCOME.\n",
+    "         Facts of one word: differs (another database than that of the serial run), aborted (a\n",
+    "         transaction), own, killed, badkey, missing, duplicate, frozen, nopage, gone (for this\n",
+    "         reason), committed (all transactions), stuck (a transaction is active, and nothing comes of\n",
+    "         any choice).\n",
+    "         Others: mode A sdual, page 3 at B, page 3 moving, txn 0 active, txn 0 aborted gone,\n",
+    "         txn 1 committed before 0, link AB has pull, key 10 = 5, sum 1 to 8 != 800, reg 0 r2 > 60\n",
+    "         and more: docs/search.md has them all.\n",
+    "\n",
+    "Examples:\n",
+    "  zy_bench search --for gone < examples/gone.zephyr | zy_bench run\n",
+    "  zy_bench search --for 'txn 0 active and page 3 moving then pulls' < SCENARIO"
+);
+
 /// `search`.
 fn search_command<'a>(alloc: Global) -> Result<Command<'a>, AllocError> {
     let wanted = Arg::new(alloc, "for")
@@ -192,29 +215,7 @@ fn search_command<'a>(alloc: Global) -> Result<Command<'a>, AllocError> {
         .about(
             "Looks for a schedule of the scenario on standard input after which a state shows something",
         )
-        .after_help(
-            concat!(
-                "Input:   a scenario text, or with --image an image, at most 4194304 bytes; its choices are steps\n",
-                "         already taken\n",
-                "Output:  the scenario with a shortest list of further choices that leads there; nothing where\n",
-                "         there is none. Standard error has the number of states reached; a fault is one line there\n",
-                "Status:  0 found, 1 the input is refused, 2 the command line is wrong, 3 out of memory,\n",
-                "         4 no schedule shows it, 5 the input or the output failed, 6 it gave up\n",
-                "\n",
-                "GOAL:    facts joined by and, or, not and brackets; then and an outcome of the listing may follow.\n",
-                "         Facts of one word: differs (another database than that of the serial run), aborted (a\n",
-                "         transaction), own, killed, badkey, missing, duplicate, frozen, nopage, gone (for this\n",
-                "         reason), committed (all transactions), stuck (a transaction is active, and nothing comes of\n",
-                "         any choice).\n",
-                "         Others: mode A sdual, page 3 at B, page 3 moving, txn 0 active, txn 0 aborted gone,\n",
-                "         txn 1 committed before 0, link AB has pull, key 10 = 5, sum 1 to 8 != 800, reg 0 r2 > 60\n",
-                "         and more: docs/search.md has them all.\n",
-                "\n",
-                "Examples:\n",
-                "  zy_bench search --for gone < examples/gone.zephyr | zy_bench run\n",
-                "  zy_bench search --for 'txn 0 active and page 3 moving then pulls' < SCENARIO"
-            ),
-        )
+        .after_help(SEARCH_HELP)
         .arg(image_flag(alloc))?
         .arg(wanted)?
         .arg(always)?
