@@ -17,7 +17,7 @@ use Rattle.zy_goals.specs.declared.goal.Goal.{Goal, Is, Not', And', Or'}
 use Rattle.zy_goals.specs.Txns.{committed_before}
 use Rattle.zy_goals.specs.Terms.{value, compares}
 use Rattle.zy_goals.specs.Facts.{holds_in}
-use Rattle.zy_goals.specs.Goals.{Context, is_fact, meets}
+use Rattle.zy_goals.specs.Goals.{Context, holds, meets}
 use Rattle.zy_goals.specs.Commits.{is_term_of_commits, is_state_fact_of_commits, is_fact_of_commits, is_of_commits}
 
 module _ (s r : State) (rows : database s ≡ database r) (commits : s.commits ≡ r.commits) where
@@ -47,7 +47,7 @@ module _ (s r : State) (rows : database s ≡ database r) (commits : s.commits �
 
   module _ (t u : Context) (differs : t.differs ≡ u.differs) where
     -- so does any fact of commits, where `differs` is the same
-    same_fact : (x : Fact) → is_fact_of_commits x ≡ true → is_fact t x s ≡ is_fact u x r
+    same_fact : (x : Fact) → is_fact_of_commits x ≡ true → holds t x s ≡ holds u x r
     same_fact fact.Differs e = differs
     same_fact fact.Stuck e = absurd (false≢true e)
     same_fact (fact.OfState x) e = same_state_fact x e

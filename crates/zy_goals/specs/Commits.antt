@@ -30,6 +30,7 @@ is_state_fact_of_commits (state_fact.NoRow k) = true
 is_state_fact_of_commits (state_fact.Link n x) = false
 is_state_fact_of_commits (state_fact.Compare x c y) = is_term_of_commits x && is_term_of_commits y
 
+-- the same of each fact
 abbrev pub is_fact_of_commits : Fact → Bool
 is_fact_of_commits fact.Differs = true
 is_fact_of_commits fact.Stuck = false
@@ -42,6 +43,7 @@ is_of_commits (Not' p g) = is_of_commits g
 is_of_commits (And' p g q h) = is_of_commits g && is_of_commits h
 is_of_commits (Or' p g q h) = is_of_commits g && is_of_commits h
 
+-- a fact is `stuck`
 abbrev pub is_stuck_fact : Fact → Bool
 is_stuck_fact fact.Differs = false
 is_stuck_fact fact.Stuck = true

@@ -38,7 +38,7 @@ same_mode DDual DDual = true
 same_mode DFinish DFinish = true
 same_mode m n = false
 
--- a page that is where the second says is where the first says
+-- a place is the one that is asked for
 abbrev pub is_at : PagePlace → Place → Bool
 is_at (page_place.At n) (place.At m) = same_node n m
 is_at (page_place.OnLinkFrom n) (place.Moving m) = same_node n m
@@ -58,25 +58,30 @@ same_kind kind.Finish kind.Finish = true
 same_kind kind.Done kind.Done = true
 same_kind k l = false
 
+-- a message asks for page p
 abbrev pub is_pull : ℕ → Message → Bool
 is_pull p (messages.Pull q) = q == p
 is_pull p m = false
 
+-- a message brings page p
 abbrev pub is_page : ℕ → Message → Bool
 is_page p (messages.Page leaf) = leaf.number == p
 is_page p m = false
 
+-- a message is one of those that are asked for
 abbrev pub is_like : MessagePattern → Message → Bool
 is_like (pattern.OfKind k) m = same_kind (kind_of m) k
 is_like (pattern.Pull p) m = is_pull p m
 is_like (pattern.Page p) m = is_page p m
 
+-- a link with these messages has the content that is asked for
 abbrev pub has_content : LinkContent → List Message → Bool
 has_content content.Empty ms = length ms == 0
 has_content (content.Has x) ms = list_any (is_like x) ms
 
 -- ---- facts
 
+-- a fact holds in a state
 abbrev pub holds_in : StateFact → State → Bool
 holds_in (fact.Mode n m) s = same_mode (facing n s).me.mode m
 holds_in (fact.Page p x) s = is_at x (place_of p s)

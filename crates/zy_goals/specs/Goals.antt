@@ -12,14 +12,15 @@ pub record Context : Type 0 where
   pub differs : Bool
   pub stuck : Bool
 
-abbrev pub is_fact : Context → Fact → State → Bool
-is_fact context fact.Differs s = context.differs
-is_fact context fact.Stuck s = context.stuck
-is_fact context (fact.OfState x) s = holds_in x s
+-- a fact holds in a state
+abbrev pub holds : Context → Fact → State → Bool
+holds context fact.Differs s = context.differs
+holds context fact.Stuck s = context.stuck
+holds context (fact.OfState x) s = holds_in x s
 
 -- a state meets a goal
 abbrev pub meets : Context → Goal → State → Bool
-meets context (Is x) s = is_fact context x s
+meets context (Is x) s = holds context x s
 meets context (Not' p g) s = not (meets context g s)
 meets context (And' p g q h) s = meets context g s && meets context h s
 meets context (Or' p g q h) s = meets context g s || meets context h s

@@ -70,10 +70,12 @@ outcome_number (outcome.Pushed p) = 26
 outcome_number outcome.NoPush = 27
 outcome_number (outcome.Aborted w) = 0
 
+-- an outcome is an abort for this reason
 abbrev pub is_abort : Reason → Outcome → Bool
 is_abort r (outcome.Aborted w) = is_for r w
 is_abort r o = false
 
+-- an outcome is one that is asked for
 abbrev pub matches : OutcomePattern → Outcome → Bool
 matches (pattern.OfKind k) o = kind_number k == outcome_number o
 matches (pattern.Aborted r) o = is_abort r o

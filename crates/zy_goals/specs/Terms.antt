@@ -24,6 +24,7 @@ value (term.Pc t) s = (txn_or (slice_get s.txns t)).pc
 value (term.Done t) s = (txn_or (slice_get s.txns t)).done
 value term.Commits s = length s.commits
 
+-- one number compares so with another
 abbrev pub compares : Comparison → ℕ → ℕ → Bool
 compares comparison.Equal m n = m == n
 compares comparison.NotEqual m n = not (m == n)

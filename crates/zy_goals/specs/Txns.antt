@@ -33,12 +33,14 @@ is_for reason.NoPage why.NoPage = true
 is_for reason.Gone (why.Gone p) = true
 is_for r w = false
 
+-- it is aborted for this reason
 abbrev pub is_aborted : Reason → Status → Bool
 is_aborted r status.New = false
 is_aborted r status.Active = false
 is_aborted r status.Committed = false
 is_aborted r (status.Aborted w) = is_for r w
 
+-- a transaction has a property
 abbrev pub has_property : TxnProperty → Txn → Bool
 has_property property.New x = is_new x.status
 has_property property.Active x = is_active x.status

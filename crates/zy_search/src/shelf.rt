@@ -17,8 +17,8 @@ use zy_machine::{Fault, Machine};
 /// How many pages the machines of a shelf may have together.
 const MOST_PAGES: usize = 8192;
 
-/// How many steps a machine of a shelf may have made, where there may be many machines: a longer history would take more
-/// than the rest of it.
+/// How many steps a machine of a shelf may have made, where there may be many machines: a longer history would take
+/// more than the rest of it.
 const MOST_STEPS: usize = 1024;
 
 /// A machine, and the place of the path that leads to its state; none where that is not known.

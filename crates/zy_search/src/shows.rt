@@ -23,7 +23,7 @@ use zy_machine::{Fault, Machine};
 use zy_table::CommitRecord;
 
 /// Whether a fact holds in a machine's state. The considered choices are tried on another machine.
-fn is_fact(
+fn holds(
     alloc: Global,
     kills: bool,
     fact: Fact,
@@ -34,8 +34,8 @@ fn is_fact(
     requires room { goals_commits.is_stuck_fact fact ≡ true → length machine.now.entries < max_choices }
     requires choices { choices.now ≡ considered kills (length machine.now.scenario.programs) }
     requires spare { spare.old.scenario ≡ machine.now.scenario }
-    ensures is { IfOk result (λ b. b ≡ goals.is_fact (context_of machine.now.scenario kills machine.now.state)
-        fact machine.now.state) }
+    ensures holds { IfOk result (λ b. b ≡ goals.holds (context_of machine.now.scenario kills machine.now.state) fact
+        machine.now.state) }
     ensures spare { OnOk result (spare.new.scenario ≡ machine.now.scenario) }
 {
     match fact {
@@ -65,7 +65,7 @@ fn meets(
     ensures spare { OnOk result (spare.new.scenario ≡ machine.now.scenario) }
 {
     match goal {
-        Goal::Is(fact) => is_fact(alloc, kills, *fact, choices, machine, spare),
+        Goal::Is(fact) => holds(alloc, kills, *fact, choices, machine, spare),
         Goal::Not(g) => {
             let is_met = meets(alloc, kills, g, choices, machine, spare)?;
             Ok(!is_met)
