@@ -13,7 +13,7 @@ PROGRAM = os.environ.get('ZY_BENCH', os.path.join(TOP, 'zy_bench'))
 # Lone bytes that are no UTF-8 go through a text unchanged.
 BYTES = {'encoding': 'utf-8', 'errors': 'surrogateescape'}
 
-# What one call of the program may take at most, by the kind of the resource: all that the system allows, unless something is set.
+# The most that one call of the program may take, by the kind of the resource; all that the system allows of a kind that is not here.
 LIMITS = {}
 
 
@@ -35,7 +35,7 @@ def ask(words, given, good=(0,), quiet=False):
 
 
 def start(words, limits=None, **pipes):
-    """The program as it begins, within limits."""
+    """The program as it begins, within some limits, or else LIMITS."""
     try:
         process = subprocess.Popen([PROGRAM] + words, **pipes)
     except OSError as error:
