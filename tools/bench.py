@@ -41,6 +41,8 @@ def start(words, limits=None, **pipes):
     except OSError as error:
         sys.exit('%s: %s' % (os.path.basename(sys.argv[0]), error))
     for kind, most in (limits or LIMITS).items():
+        allowed = resource.prlimit(process.pid, kind)[1]
+        most = most if allowed == resource.RLIM_INFINITY else min(most, allowed)
         resource.prlimit(process.pid, kind, (most, most))
     return process
 

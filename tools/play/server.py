@@ -29,6 +29,10 @@ HEADERS = {
     'Cross-Origin-Opener-Policy': 'same-origin', 'Cache-Control': 'no-store'}
 
 
+def new_token():
+    return secrets.token_urlsafe(24)
+
+
 class Server(ThreadingHTTPServer):
     """Gives some files, each by its path as its kind and its bytes, and the answers of the desk."""
 
@@ -36,13 +40,27 @@ class Server(ThreadingHTTPServer):
 
     def __init__(self, port, files):
         super().__init__((HOST, port), Handler)
-        self.files, self.token, self.port = files, secrets.token_urlsafe(24), self.server_address[1]
+        self.files, self.token, self.once, self.port = files, new_token(), set(), self.server_address[1]
         self.hosts = ['%s:%d' % (name, self.port) for name in (HOST, 'localhost')]
         self.cookie = 'zplay_%d' % self.port
 
     def address(self):
         """The address that lets a browser in."""
         return 'http://%s:%d/?token=%s' % (HOST, self.port, self.token)
+
+    def address_once(self):
+        """An address that lets a browser in a single time, for a command line, which other users of the machine can read."""
+        token = new_token()
+        self.once.add(token)
+        return 'http://%s:%d/?token=%s' % (HOST, self.port, token)
+
+    def lets_in(self, token):
+        """Whether this token of an address lets a browser in."""
+        try:
+            self.once.remove(token)
+            return True
+        except KeyError:
+            return self.is_token(token)
 
     def is_token(self, word):
         return secrets.compare_digest(word.encode(), self.token.encode())
@@ -79,8 +97,8 @@ class Handler(BaseHTTPRequestHandler):
     def do_GET(self):
         path, query = urlsplit(self.path)[2:4]
         token = parse_qs(query).get('token', [''])[0]
-        if path == '/' and self.headers.get('Host') in self.server.hosts and self.server.is_token(token):
-            cookie = '%s=%s; HttpOnly; SameSite=Lax; Path=/' % (self.server.cookie, token)
+        if path == '/' and self.headers.get('Host') in self.server.hosts and self.server.lets_in(token):
+            cookie = '%s=%s; HttpOnly; SameSite=Lax; Path=/' % (self.server.cookie, self.server.token)
             return self.send(303, 'text/plain', b'', {'Location': '/', 'Set-Cookie': cookie})
         refusal = self.refusal()
         if refusal:
