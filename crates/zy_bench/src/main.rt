@@ -11,6 +11,7 @@ mod marked;
 mod output;
 mod progress;
 mod redirected;
+mod summary;
 
 use advised::Advised;
 use clap::error::ErrorKind;
@@ -28,6 +29,7 @@ use std::process::ExitCode;
 use std::sync::Wait;
 use std::thread::Threads;
 use std::time::Clock;
+use summary::Summary;
 use zy_advice::Command as Reader;
 use zy_advice::line::whole_line;
 use zy_check::Verdict;
@@ -208,7 +210,12 @@ fn search_for<R: Eprint + Input + AllocGlobal + Clock, W: Write>(
 ) -> Result<u8, BenchFault>
     requires { output.old.1 < u64.MAX }
 {
-    let Quest { format, most, .. } = quest;
+    let Quest {
+        format,
+        most,
+        kills,
+        ..
+    } = quest;
     let named = usize::from(txns_named(&sought.goal));
     let mut source = CountingReader::new(rt.reader());
     let mut progress = Progress::new(rt, is_terminal);
@@ -226,7 +233,7 @@ fn search_for<R: Eprint + Input + AllocGlobal + Clock, W: Write>(
     let report = searched?;
     flush(output)?;
     warn(rt, named, report.txns);
-    Ok(sum_up(rt, &report))
+    Ok(sum_up(rt, &report, kills))
 }
 
 /// Warns on standard error where a goal names a transaction that the scenario does not have: it would take `named` of
@@ -240,29 +247,14 @@ fn warn(rt: &impl Eprint, named: usize, txns: usize) {
     }
 }
 
-/// Reports on standard error what came of a search, and gives the exit status.
-fn sum_up(rt: &impl Eprint, report: &Report) -> u8 {
-    let (states, depth) = (report.states, report.depth);
+/// Reports on standard error what came of a search, and gives the exit status. `kills` says whether kills were considered.
+fn sum_up(rt: &impl Eprint, report: &Report, kills: bool) -> u8 {
+    let summary = Summary::of(report, kills);
+    let _ = eprintln!(rt; "zy_bench: {summary}");
     match &report.answer {
-        Answer::Found(path) => {
-            let choices = path.len();
-            let _ = eprintln!(rt;
-                "zy_bench: found after {states} states: {choices} choices lead there"
-            );
-            DONE
-        }
-        Answer::Nowhere => {
-            let _ = eprintln!(rt;
-                "zy_bench: none of {states} states shows it, and there are no others: each takes at most {depth} choices"
-            );
-            NOWHERE
-        }
-        Answer::Spent(fewer) => {
-            let _ = eprintln!(rt;
-                "zy_bench: gave up after {states} states: no schedule of fewer than {fewer} choices shows it"
-            );
-            SPENT
-        }
+        Answer::Found(_) => DONE,
+        Answer::Nowhere => NOWHERE,
+        Answer::Spent(_) => SPENT,
     }
 }
 

@@ -1,5 +1,5 @@
 -- The last step of what is found.
-use Rattle.std.proofs.Common.{◌≡◌, List, Bool, true, length, subst, Option, Some}
+use Rattle.std.proofs.Common.{◌≡◌, List, true, length, subst, Option, Some}
 use Rattle.std.proofs.lemmas.Bool.{and_parts}
 use Rattle.zy_isa.specs.declared.choice.Choice.{Choice}
 use Rattle.zy_isa.specs.Scenario.{AreNamed}

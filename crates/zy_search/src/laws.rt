@@ -56,7 +56,8 @@ pub fn never_differs_under_held()
     always_same();
 }
 
-/// Where nothing comes of a choice the state is as it was: so what is stuck stays so, whatever is chosen.
+/// Where nothing comes of a choice the state is as it was: so what is stuck stays so, whichever considered
+/// choice is made.
 pub fn still_stays()
     ensures { (sc : AScenario) (c : AChoice) (s : State) → is_still (step sc c s).outcome ≡ true
         → (step sc c s).after ≡ s }

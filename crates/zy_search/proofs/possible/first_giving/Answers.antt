@@ -1,5 +1,4 @@
-use Rattle.std.proofs.Common.{◌≡◌, ◌∙◌, ◌<◌, ℕ, get_or, true, false, nat_lt, sym, length, arith}
-use Rattle.zy_isa.specs.declared.choice.Choice.{Choice}
+use Rattle.std.proofs.Common.{◌≡◌, ◌∙◌, get_or, false, sym, length, arith}
 use Rattle.zy_isa.specs.declared.choice.Choice.TheVariants.{Start}
 use Rattle.zy_goals.proofs.EachLemmas.{more, none_here}
 use Rattle.zy_search.specs.Possible.{gives}

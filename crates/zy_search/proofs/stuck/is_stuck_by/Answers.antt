@@ -1,4 +1,4 @@
-use Rattle.std.proofs.Common.{◌≡◌, ◌∙◌, get_or, true, sym, length, arith}
+use Rattle.std.proofs.Common.{◌≡◌, ◌∙◌, get_or, true, sym, arith}
 use Rattle.zy_isa.specs.declared.choice.Choice.{Choice}
 use Rattle.zy_isa.specs.declared.choice.Choice.TheVariants.{Start}
 use Rattle.zy_table.specs.Play.{step}
