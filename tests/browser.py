@@ -38,6 +38,8 @@ class Browser:
             os.dup2(high[1], 4)
         self.process = subprocess.Popen([PROGRAM, '--user-data-dir=' + self.home, *WORDS], preexec_fn=place, close_fds=False,
                                         stdout=subprocess.DEVNULL, stderr=subprocess.DEVNULL)
+        for descriptor in (to_read, to_write, *high):
+            os.close(descriptor)
 
     def call(self, method, **params):
         """What the browser answers to a call. Faults of scripts that it reports meanwhile are kept."""
@@ -56,8 +58,12 @@ class Browser:
                 return answer['result']
 
     def next(self):
+        """The next message of the browser."""
         while b'\0' not in self.buffer:
-            self.buffer += os.read(self.out, 1 << 20)
+            piece = os.read(self.out, 1 << 20)
+            if not piece:
+                raise RuntimeError('the browser has gone')
+            self.buffer += piece
         line, self.buffer = self.buffer.split(b'\0', 1)
         return json.loads(line)
 
@@ -82,4 +88,6 @@ class Browser:
     def close(self):
         self.process.terminate()
         self.process.wait()
+        os.close(self.to)
+        os.close(self.out)
         shutil.rmtree(self.home, ignore_errors=True)
