@@ -1,15 +1,18 @@
--- The outcome of a code.
+-- No two outcomes have the same code.
 use Rattle.std.proofs.Common.{◌≡◌, ◌∙◌, ℕ, Bool, true, false, refl, sym, ap, ◌==◌}
 use Rattle.std.specs.Prelude.{if◌then◌else◌}
 use Rattle.zy_isa.specs.declared.node.Node.TheVariants.{A, B}
 use Rattle.zy_table.specs.declared.outcome.Outcome.{Outcome}
-use Rattle.zy_table.specs.declared.outcome.Outcome.TheVariants.{Started, BadMode, Began, Idle, Elsewhere, NotYet, Did, Split, Aborted, Committed, Waits, Pulls, Awaits}
-use Rattle.zy_table.specs.declared.outcome.Outcome.TheVariants.{NoMessage, GotWire, GotReady, GotDual, Stale, Held, GotPull, GotPage, GotFinish, GotDone, Stray, Finishing, Active, Pushed, NoPush}
+use Rattle.zy_table.specs.declared.outcome.Outcome.TheVariants.{Started, BadMode, Began, Idle, Elsewhere, NotYet}
+use Rattle.zy_table.specs.declared.outcome.Outcome.TheVariants.{Did, Split, Aborted, Committed, Waits, Pulls, Awaits}
+use Rattle.zy_table.specs.declared.outcome.Outcome.TheVariants.{NoMessage, GotWire, GotReady, GotDual, Stale, Held}
+use Rattle.zy_table.specs.declared.outcome.Outcome.TheVariants.{GotPull, GotPage, GotFinish, GotDone, Stray}
+use Rattle.zy_table.specs.declared.outcome.Outcome.TheVariants.{Finishing, Active, Pushed, NoPush}
 use Rattle.zy_table.specs.declared.outcome.Why.TheVariants as why
 use Rattle.zy_order.specs.declared.code.Code.{Code}
 use Rattle.zy_order.specs.Codes.{code_of}
 
--- the outcome that has this code, if one has
+-- the outcome of a code
 abbrev outcome_of : Code → Outcome
 outcome_of c =
     if c.word == 0 then Started else
@@ -49,7 +52,7 @@ outcome_of c =
     if c.word == 34 then Pushed c.first else
     NoPush
 
--- it has it
+-- the outcome of an outcome's code is that outcome
 back : (o : Outcome) → outcome_of (code_of o) ≡ o
 back Started = refl
 back BadMode = refl
@@ -88,6 +91,6 @@ back (Active p) = refl
 back (Pushed p) = refl
 back NoPush = refl
 
--- so outcomes with one code are the same
+-- so outcomes with the same code are the same
 pub same_code : (x y : Outcome) → code_of x ≡ code_of y → x ≡ y
 same_code x y e = sym (back x) ∙ (ap outcome_of e ∙ back y)

@@ -1,7 +1,9 @@
 pub mod CodeLemmas
-pub mod LogLemmas
 pub mod WayLemmas
 pub mod OrderLemmas
+pub mod LineLemmas
+pub mod AnswerLemmas
 pub mod ReachLemmas
 pub mod PushLemmas
 pub mod LoopLemmas
+pub mod Worked

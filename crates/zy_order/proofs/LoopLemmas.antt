@@ -1,68 +1,95 @@
--- One path after another is gone on from.
-use Rattle.std.proofs.Common.{◌≡◌, ◌∙◌, ℕ, zero, suc, ◌+◌, ◌<◌, ◌≤◌, ◌⊎◌, inl, inr, List, [], ◌∷◌, ◌++◌, length, refl, sym, ap, subst, arith}
-use Rattle.std.proofs.Common.{slice_get, Some, Bool, true, Result, Ok, Err, OnOk, IfOk}
+-- One path after another is followed.
+use Rattle.std.proofs.Common.{◌≡◌, ◌∙◌, ℕ, ◌+◌, ◌<◌, ◌≤◌, ◌⊎◌, inl, inr, List, [], ◌∷◌, ◌++◌, length, refl, sym, ap, subst, arith}
+use Rattle.std.proofs.Common.{slice_get, Option, None, Some, Result, Ok, Err, OnOk, IfOk}
+use Rattle.std.specs.Prelude.{Contains, IsSome, option_to_list}
 use Rattle.std.proofs.lemmas.Bool.{cases_lt}
+use Rattle.std.proofs.lemmas.List.Elements.{Contains-append_left, Contains-push, Contains-push_cases}
 use Rattle.std.proofs.lemmas.Option.{slice_get_within}
 use Rattle.zy_isa.specs.declared.choice.Choice.{Choice}
 use Rattle.zy_isa.specs.declared.node.Actor.{Actor}
-use Rattle.zy_isa.specs.declared.node.Actor.TheVariants.{C, A, B}
 use Rattle.zy_isa.specs.Choices.{actor_of}
-use Rattle.zy_table.specs.State.{State}
 use Rattle.zy_table.specs.Play.{step}
 use Rattle.zy_machine.specs.Histories.{History}
 use Rattle.zy_search.specs.Searches.{reached}
-use Rattle.zy_search.specs.Visits.{path_at, Grows, IsHere}
+use Rattle.zy_search.specs.Visits.{path_at, Grows}
 use Rattle.zy_search.specs.declared.shelf.Shelf.{Shelf}
 use Rattle.zy_order.specs.declared.logs.Logs.{Logs}
-use Rattle.zy_order.specs.declared.logged.Logged.{Logged}
-use Rattle.zy_order.specs.declared.progress.Progress.{Progress}
+use Rattle.zy_order.specs.declared.log_line.LogLine.{LogLine}
+use Rattle.zy_order.specs.declared.cursors.Cursors.{Cursors}
 use Rattle.zy_order.specs.declared.plan.Plan.{Plan}
 use Rattle.zy_order.specs.declared.reached.Reached.{Reached}
-use Rattle.zy_order.specs.Orders.{Says, entry_at}
-use Rattle.zy_order.specs.Ways.{log_of, cursor, origin, further, gone, IsWhole, Takes}
-use Rattle.zy_order.specs.Reaches.{gone_at, mark_at, IsKnown, IsReached, IsMet, IsExpanded, IsPassed, IsIn, AreDone, AreThere, AreMet, Adds}
-use Rattle.zy_order.proofs.ReachLemmas.{gone_grown, passed_grown, met_grown, in_left, in_last, in_either}
+use Rattle.zy_order.specs.declared.turns.Turns.{Turns}
+use Rattle.zy_order.specs.Orders.{Agrees, entry_at}
+use Rattle.zy_order.specs.Ways.{log_of, cursor, at_start, cursors_in, advanced, cursors_after, IsAtEnd, HasNext}
+use Rattle.zy_order.specs.Reaches.{cursors_at, entry_by, state_by, cursors_by, IsKnown, IsReached, IsMet, IsExpanded, IsFollowed, AreFollowedBut, AreAll}
+use Rattle.zy_order.specs.Reaches.{Adds, IsTaken, IsWayOf}
+use Rattle.zy_order.proofs.ReachLemmas.{cursors_grown, followed_grown}
 
--- nothing stands in no list
-nothing_in : (k i : ℕ) → slice_get {X = ℕ} [] k ≡ Some i → ⊥
-nothing_in k i e = absurd (cc e)
+-- ---- what is to do
 
--- where nothing is to do each path is passed
-pub done_all : (h : History) (l : Logs) (ps : List (List Choice)) (todo : List ℕ) → AreDone h l ps todo → todo ≡ [] → (i : ℕ) → i < length ps
-    → IsPassed h l ps i
-done_all h l ps todo done none i lt =
-    elim (done i lt) [
-      | inl here ↦ absurd (nothing_in here.0 i (subst (λ (t : List ℕ). slice_get t here.0 ≡ Some i) none here.1))
-      | inr passed ↦ passed
-    ]
+-- where only the empty path is reached, it alone is to do
+pub first_to_do : (h : History) (l : Logs) (ps : List (List Choice)) (todo : List ℕ) → ps ≡ [] ∷ [] → todo ≡ 0 ∷ [] → AreFollowedBut h l ps todo
+first_to_do h l ps todo e f = λ i lt.
+    let one = ap (λ (qs : List (List Choice)). length qs) e in
+    let same : 0 ≡ i = omega (arith, lt, one) in
+    inl (subst (Contains todo) same (subst (λ (t : List ℕ). Contains t 0) (sym f) (Contains-push [] 0)))
 
--- the last number to do
-pub popped_in : (todo rest : List ℕ) (at : ℕ) → todo ≡ rest ++ at ∷ [] → IsIn at todo
-popped_in todo rest at e = subst (IsIn at) (sym e) (in_last rest at)
+module _ (p : Plan) (r new : Reached) (o : Option ℕ) (is : IsReached p r) (e : r.todo.items ≡ new.todo.items ++ option_to_list o)
+    (paths : new.visited ≡ r.visited) (cursors : new.cursors.items ≡ r.cursors.items) where
+  -- a path was reached before the last place to do was taken
+  old : (i : ℕ) → i < length new.visited → i < length r.visited
+  old i lt = subst (λ (ps : List (List Choice)). i < length ps) paths lt
 
--- the others are to do still
-pub popped_there : (todo rest : List ℕ) (at n : ℕ) → todo ≡ rest ++ at ∷ [] → AreThere todo n → AreThere rest n
-popped_there todo rest at n e there = λ i here. there i (subst (IsIn i) (sym e) (in_left rest at i here))
+  -- a place that is still to do was to do before
+  still : (i : ℕ) → Contains new.todo.items i → Contains r.todo.items i
+  still i left = subst (λ (t : List ℕ). Contains t i) (sym e) (Contains-append_left new.todo.items (option_to_list o) i left)
 
--- the path of the last one is expanded
-pub done_next : (p : Plan) (r new : Reached) (todo rest others : List ℕ) (at : ℕ) (machines : Shelf) → AreDone p.start p.logs r.visited todo
-    → todo ≡ rest ++ at ∷ [] → Adds p r new rest others machines
-    → at < length r.visited
-    → (IsWhole p.logs (gone_at r.visited at) → ⊥)
-    → IsExpanded p.start p.logs new.visited at
-    → AreDone p.start p.logs new.visited others
-done_next p r new todo rest others at machines done e adds lt part met = λ i there.
+  -- what is reached is still as it should be
+  pub taken_reached : IsReached p new
+  taken_reached = record {
+    some = rw paths is.some;
+    few = rw paths is.few;
+    first = ap (λ (ps : List (List Choice)). path_at ps 0) paths ∙ is.first;
+    ways = λ i lt. subst (λ (ps : List (List Choice)). IsWayOf p (path_at ps i)) (sym paths) (is.ways i (old i lt));
+    many = ap (λ (l : List Cursors). length l) cursors ∙ (is.many ∙ ap (λ (ps : List (List Choice)). length ps) (sym paths));
+    kept = λ i lt.
+        ap (λ (l : List Cursors). cursors_in l i) cursors ∙ (is.kept i (old i lt) ∙ ap (λ (ps : List (List Choice)). cursors_at ps i) (sym paths));
+    there = λ i left. subst (λ (ps : List (List Choice)). i < length ps) (sym paths) (is.there i (still i left));
+  }
+
+-- where the last place to do was taken, each path but it and those that are still to do was followed; where none was to do, each was
+pub taken : (p : Plan) (r new : Reached) (o : Option ℕ) → IsReached p r → AreFollowedBut p.start p.logs r.visited r.todo.items
+    → r.todo.items ≡ new.todo.items ++ option_to_list o → (0 < length r.todo.items → IsSome o) → new.visited ≡ r.visited
+    → IsTaken p new o
+taken p r new None is followed e some paths =
+    subst (λ (ps : List (List Choice)). (i : ℕ) → i < length ps → IsFollowed p.start p.logs ps i) (sym paths) (λ i lt.
+    elim (followed i lt) [
+      | inl here ↦ absurd (some (omega (arith, here.1)))
+      | inr done ↦ done
+    ])
+taken p r new (Some at) is followed e some paths =
+    let here : Contains r.todo.items at = subst (λ (t : List ℕ). Contains t at) (sym e) (Contains-push new.todo.items at) in (
+      subst (λ (ps : List (List Choice)). at < length ps) (sym paths) (is.there at here),
+      subst (λ (ps : List (List Choice)). AreFollowedBut p.start p.logs ps (new.todo.items ++ at ∷ [])) (sym paths)
+          (subst (AreFollowedBut p.start p.logs r.visited) e followed),
+    )
+
+-- once its path is expanded, each but those that are to do then was followed
+pub followed_next : (p : Plan) (r new : Reached) (at : ℕ) (machines : Shelf) → IsTaken p r (Some at) → Adds p r new machines
+    → (IsAtEnd p.logs (cursors_at r.visited at) → ⊥) → IsExpanded p.start p.logs new.visited at
+    → AreFollowedBut p.start p.logs new.visited new.todo.items
+followed_next p r new at machines is adds part expanded = λ i there.
     elim (cases_lt i (length r.visited)) [
       | inr past ↦ inl (adds.more i past there)
       | inl below ↦
-          elim (done i below) [
-            | inr passed ↦ inr (passed_grown p.start p.logs r.visited new.visited i adds.grows below passed)
+          elim (is.1 i below) [
+            | inr old ↦ inr (followed_grown p.start p.logs r.visited new.visited i adds.grows below old)
             | inl here ↦
-                elim (in_either rest at i (subst (IsIn i) e here)) [
+                elim (Contains-push_cases r.todo.items at i here) [
                   | inl left ↦ inl (adds.still i left)
-                  | inr same ↦ inr (rw same (record {
-                    part = λ w. part (subst (IsWhole p.logs) (gone_grown r.visited new.visited at adds.grows lt) w);
-                    expanded = met;
+                  | inr same ↦ inr (subst (IsFollowed p.start p.logs new.visited) same (record {
+                    part = λ end. part (subst (IsAtEnd p.logs) (cursors_grown r.visited new.visited at adds.grows is.0) end);
+                    expanded = expanded;
                   }))
                 ]
           ]
@@ -71,69 +98,67 @@ done_next p r new todo rest others at machines done e adds lt part met = λ i th
 -- ---- the next line of an actor
 
 -- where there is none, none fits
-pub met_none : (h : History) (l : Logs) (ps : List (List Choice)) (at : ℕ) (x : Actor) → length (log_of x l) ≤ cursor x (gone_at ps at) → IsMet h l ps at x
+pub met_none : (h : History) (l : Logs) (ps : List (List Choice)) (at : ℕ) (x : Actor) → length (log_of x l) ≤ cursor x (cursors_at ps at) → IsMet h l ps at x
 met_none h l ps at x le = λ c own t.
-    let next : slice_get (log_of x l) (cursor x (gone_at ps at)) ≡ Some t.line =
-    subst (λ (y : Actor). slice_get (log_of y l) (cursor y (gone_at ps at)) ≡ Some t.line) own t.next in
-    absurd (omega (arith, le, slice_get_within (log_of x l) (cursor x (gone_at ps at)) t.line next))
+    let next : slice_get (log_of x l) (cursor x (cursors_at ps at)) ≡ Some t.line =
+    subst (λ (y : Actor). slice_get (log_of y l) (cursor y (cursors_at ps at)) ≡ Some t.line) own t.next in
+    absurd (omega (arith, le, slice_get_within (log_of x l) (cursor x (cursors_at ps at)) t.line next))
 
 -- it is the only one
-pub only_line : (l : Logs) (ps : List (List Choice)) (at : ℕ) (x : Actor) (line other : Logged)
-    → slice_get (log_of x l) (cursor x (gone_at ps at)) ≡ Some line
-    → slice_get (log_of x l) (cursor x (gone_at ps at)) ≡ Some other
+only_line : (l : Logs) (ps : List (List Choice)) (at : ℕ) (x : Actor) (line other : LogLine)
+    → slice_get (log_of x l) (cursor x (cursors_at ps at)) ≡ Some line
+    → slice_get (log_of x l) (cursor x (cursors_at ps at)) ≡ Some other
     → line ≡ other
 only_line l ps at x line other e f = let same : Some line ≡ Some other = sym e ∙ f in cc same
 
--- where it does not say what comes of its choice, none fits
-pub met_not : (h : History) (l : Logs) (ps : List (List Choice)) (at : ℕ) (x : Actor) (line : Logged)
-    → slice_get (log_of x l) (cursor x (gone_at ps at)) ≡ Some line
-    → (Says line (entry_at h.scenario (reached h (path_at ps at)) line.choice) → ⊥)
+-- where it does not agree with what comes of its choice, none fits
+pub met_not : (h : History) (l : Logs) (ps : List (List Choice)) (at : ℕ) (x : Actor) (line : LogLine)
+    → slice_get (log_of x l) (cursor x (cursors_at ps at)) ≡ Some line
+    → (Agrees line (entry_by h ps at line.choice) → ⊥)
     → IsMet h l ps at x
 met_not h l ps at x line e wrong = λ c own t.
-    let next : slice_get (log_of x l) (cursor x (gone_at ps at)) ≡ Some t.line =
-    subst (λ (y : Actor). slice_get (log_of y l) (cursor y (gone_at ps at)) ≡ Some t.line) own t.next in
+    let next : slice_get (log_of x l) (cursor x (cursors_at ps at)) ≡ Some t.line =
+    subst (λ (y : Actor). slice_get (log_of y l) (cursor y (cursors_at ps at)) ≡ Some t.line) own t.next in
     let same = only_line l ps at x t.line line next e in
-    let says : Says t.line (entry_at h.scenario (reached h (path_at ps at)) t.line.choice) =
-    subst (λ (d : Choice). Says t.line (entry_at h.scenario (reached h (path_at ps at)) d)) (sym t.choice) t.says in
-    absurd (wrong (subst (λ (m : Logged). Says m (entry_at h.scenario (reached h (path_at ps at)) m.choice)) same says))
+    let agrees : Agrees t.line (entry_by h ps at t.line.choice) =
+    subst (λ (d : Choice). Agrees t.line (entry_by h ps at d)) (sym t.choice) t.agrees in
+    absurd (wrong (subst (λ (m : LogLine). Agrees m (entry_by h ps at m.choice)) same agrees))
 
--- where it does, its state is known
-pub met_known : (h : History) (l : Logs) (ps qs : List (List Choice)) (at : ℕ) (x : Actor) (line : Logged)
-    → slice_get (log_of x l) (cursor x (gone_at ps at)) ≡ Some line
+-- where it does, and where its choice leads is known, it is met
+pub met_known : (h : History) (l : Logs) (ps qs : List (List Choice)) (at : ℕ) (x : Actor) (line : LogLine)
+    → slice_get (log_of x l) (cursor x (cursors_at ps at)) ≡ Some line
     → Grows ps qs
     → at < length ps
-    → IsKnown h qs (further x (gone_at ps at)) (step h.scenario line.choice (reached h (path_at ps at))).after
+    → IsKnown h qs (cursors_by ps at line.choice) (state_by h ps at line.choice)
     → IsMet h l qs at x
 met_known h l ps qs at x line e grows lt known =
-    let goal : (c : Choice) → actor_of c ≡ x → Takes l (gone_at ps at) (entry_at h.scenario (reached h (path_at ps at)) c)
-    → IsKnown h qs (further x (gone_at ps at)) (step h.scenario c (reached h (path_at ps at))).after = λ c own t.
-    let next : slice_get (log_of x l) (cursor x (gone_at ps at)) ≡ Some t.line =
-    subst (λ (y : Actor). slice_get (log_of y l) (cursor y (gone_at ps at)) ≡ Some t.line) own t.next in
-    let same : line.choice ≡ c = ap (λ (m : Logged). m.choice) (only_line l ps at x line t.line e next) ∙ t.choice in
-    subst (λ (d : Choice). IsKnown h qs (further x (gone_at ps at)) (step h.scenario d (reached h (path_at ps at))).after) same known in
+    let goal : (c : Choice) → actor_of c ≡ x → HasNext l (cursors_at ps at) (entry_by h ps at c)
+    → IsKnown h qs (cursors_by ps at c) (state_by h ps at c) = λ c own t.
+    let next : slice_get (log_of x l) (cursor x (cursors_at ps at)) ≡ Some t.line =
+    subst (λ (y : Actor). slice_get (log_of y l) (cursor y (cursors_at ps at)) ≡ Some t.line) own t.next in
+    let same : line.choice ≡ c = ap (λ (m : LogLine). m.choice) (only_line l ps at x line t.line e next) ∙ t.choice in
+    subst (λ (d : Choice). IsKnown h qs (cursors_by ps at d) (state_by h ps at d)) same known in
     λ c own.
-    subst (λ (p : List Choice). Takes l (gone origin p) (entry_at h.scenario (reached h p) c)
-    → IsKnown h qs (further x (gone origin p)) (step h.scenario c (reached h p)).after) (sym (grows.same at lt)) (goal c own)
+    subst (λ (p : List Choice). HasNext l (cursors_after at_start p) (entry_at h.scenario (reached h p) c)
+    → IsKnown h qs (advanced (actor_of c) (cursors_after at_start p)) (step h.scenario c (reached h p)).after) (sym (grows.same at lt)) (goal c own)
 
--- three actors are all
-pub all_met : (h : History) (l : Logs) (ps : List (List Choice)) (at : ℕ) → IsMet h l ps at C → IsMet h l ps at A → IsMet h l ps at B → IsExpanded h l ps at
-all_met h l ps at c a b C = c
-all_met h l ps at c a b A = a
-all_met h l ps at c a b B = b
+-- where the lines of three actors are met, and these are all, the path is expanded
+pub all_met : (h : History) (l : Logs) (ps : List (List Choice)) (at : ℕ) (t : Turns) → AreAll t → IsMet h l ps at t.first → IsMet h l ps at t.second
+    → IsMet h l ps at t.third
+    → IsExpanded h l ps at
+all_met h l ps at t all first second third = λ x.
+    elim (all x) [
+      | inl e ↦ subst (IsMet h l ps at) (sym e) first
+      | inr other ↦
+          elim other [
+            | inl e ↦ subst (IsMet h l ps at) (sym e) second
+            | inr e ↦ subst (IsMet h l ps at) (sym e) third
+          ]
+    ]
 
 -- ---- results
 
--- what follows from what holds where a call succeeds
-pub on_ok : {X E : Type 0} (P Q : Type 0) (r : Result X E) → (P → Q) → OnOk r P → OnOk r Q
-on_ok P Q (Ok x) f p = f p
-on_ok P Q (Err e) f p = tt
-
--- the same of its result
+-- what follows of a call's result from what holds where it succeeds
 pub if_ok : {X E : Type 0} (P : Type 0) (Q S : X → Type 0) (r : Result X E) → ((x : X) → P → Q x → S x) → OnOk r P → IfOk r Q → IfOk r S
 if_ok P Q S (Ok x) f p q = f x p q
 if_ok P Q S (Err e) f p q = tt
-
--- nothing is asked of it
-pub on_unit : {X E : Type 0} (r : Result X E) → OnOk r (Unit {0})
-on_unit (Ok x) = tt
-on_unit (Err e) = tt

@@ -1,11 +1,15 @@
--- Outcomes as numbers: no two have the same.
+-- Outcomes as numbers, by which they are compared.
 use Rattle.zy_isa.specs.declared.node.Node.TheVariants.{A, B}
 use Rattle.zy_table.specs.declared.outcome.Outcome.{Outcome}
-use Rattle.zy_table.specs.declared.outcome.Outcome.TheVariants.{Started, BadMode, Began, Idle, Elsewhere, NotYet, Did, Split, Aborted, Committed, Waits, Pulls, Awaits}
-use Rattle.zy_table.specs.declared.outcome.Outcome.TheVariants.{NoMessage, GotWire, GotReady, GotDual, Stale, Held, GotPull, GotPage, GotFinish, GotDone, Stray, Finishing, Active, Pushed, NoPush}
+use Rattle.zy_table.specs.declared.outcome.Outcome.TheVariants.{Started, BadMode, Began, Idle, Elsewhere, NotYet}
+use Rattle.zy_table.specs.declared.outcome.Outcome.TheVariants.{Did, Split, Aborted, Committed, Waits, Pulls, Awaits}
+use Rattle.zy_table.specs.declared.outcome.Outcome.TheVariants.{NoMessage, GotWire, GotReady, GotDual, Stale, Held}
+use Rattle.zy_table.specs.declared.outcome.Outcome.TheVariants.{GotPull, GotPage, GotFinish, GotDone, Stray}
+use Rattle.zy_table.specs.declared.outcome.Outcome.TheVariants.{Finishing, Active, Pushed, NoPush}
 use Rattle.zy_table.specs.declared.outcome.Why.TheVariants as why
 use Rattle.zy_order.specs.declared.code.Code.{Code}
 
+-- a word for the outcome, with its node or its reason, and the numbers that it names: each outcome has its own code
 abbrev pub code_of : Outcome → Code
 code_of Started = record { word = 0; first = 0; second = 0; third = 0 }
 code_of BadMode = record { word = 1; first = 0; second = 0; third = 0 }

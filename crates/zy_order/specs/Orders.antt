@@ -1,5 +1,6 @@
--- Orders of logged steps.
-use Rattle.std.specs.Prelude.{◌≡◌, Bool, List, [], ◌∷◌, IfSome, Some, map, if◌then◌else◌}
+-- Orders of the lines of three logs, one for each actor.
+use Rattle.std.specs.Prelude.{◌≡◌, ◌++◌, List, [], ◌∷◌, IfSome, Some, map}
+use Rattle.std.specs.List.{filter}
 use Rattle.zy_isa.specs.declared.node.Actor.{Actor}
 use Rattle.zy_isa.specs.declared.node.Actor.TheVariants.{C, A, B}
 use Rattle.zy_isa.specs.declared.choice.Choice.{Choice}
@@ -8,36 +9,46 @@ use Rattle.zy_table.specs.declared.entry.Entry.{Entry}
 use Rattle.zy_table.specs.State.{State}
 use Rattle.zy_table.specs.Play.{step, entry_of}
 use Rattle.zy_threads.specs.Turns.{is_by}
-use Rattle.zy_order.specs.declared.logged.Logged.{Logged}
+use Rattle.zy_order.specs.declared.log_line.LogLine.{LogLine}
 
--- what a line tells is what came: the outcome, if it tells one, and the message, if it tells one
-abbrev pub Says : Logged → Entry → Type 0
-Says l e = IfSome l.outcome (λ o. e.outcome ≡ o) × IfSome l.sent (λ k. e.sent ≡ Some k)
+-- a line agrees with what came of its choice: the outcome is the logged one, and a message was sent of the logged kind;
+-- where the line has no outcome any agrees, and where it has no kind it does not matter what was sent
+abbrev pub Agrees : LogLine → Entry → Type 0
+Agrees line e = IfSome line.outcome (λ outcome. e.outcome ≡ outcome) × IfSome line.sent (λ kind. e.sent ≡ Some kind)
 
 -- what comes of a choice in a state
 abbrev pub entry_at : Scenario → State → Choice → Entry
 entry_at sc s c = entry_of c (step sc c s)
 
--- made in this order, the steps have each the outcome that its line tells
-abbrev pub Fits : Scenario → State → List Logged → Type 0
+-- lines fit a state: where their choices are made from there, one after another, each agrees with what comes of its own
+abbrev pub Fits : Scenario → State → List LogLine → Type 0
 Fits sc s [] = Unit {0}
-Fits sc s (l ∷ ls) = Says l (entry_at sc s l.choice) × Fits sc (step sc l.choice s).after ls
+Fits sc s (line ∷ lines) = Agrees line (entry_at sc s line.choice) × Fits sc (step sc line.choice s).after lines
 
--- the lines of one actor, in order
-abbrev pub lines_of : Actor → List Logged → List Logged
-lines_of x [] = []
-lines_of x (l ∷ ls) = if is_by x l.choice then l ∷ lines_of x ls else lines_of x ls
+-- the log of an actor: its lines among all, in order
+abbrev pub lines_of : Actor → List LogLine → List LogLine
+lines_of x lines = filter (λ (line : LogLine). is_by x line.choice) lines
 
--- each actor's lines, whole and in order
-pub record IsMerge (order lines : List Logged) : Type 0 where
+-- a merge of the logs: each actor's lines, whole and in order
+pub record IsMerge (order lines : List LogLine) : Type 0 where
   pub of_c : lines_of C order ≡ lines_of C lines
   pub of_a : lines_of A order ≡ lines_of A lines
   pub of_b : lines_of B order ≡ lines_of B lines
 
--- an order of the logged steps in which the table gives each of them the outcome that is told
-pub record IsOrder (sc : Scenario) (s : State) (lines order : List Logged) : Type 0 where
+-- an order of the lines: a merge of the logs that fits the state
+pub record IsOrder (sc : Scenario) (s : State) (lines order : List LogLine) : Type 0 where
   pub merge : IsMerge order lines
   pub fits : Fits sc s order
 
-abbrev pub choices_in : List Logged → List Choice
-choices_in ls = map (λ (l : Logged). l.choice) ls
+-- xs is a prefix of ys
+abbrev pub IsPrefix : List LogLine → List LogLine → Type 0
+IsPrefix xs ys = (rest : List LogLine) × (ys ≡ xs ++ rest)
+
+-- an order of prefixes of the logs: a prefix of each actor's lines, and together they fit the state
+pub record IsPrefixOrder (sc : Scenario) (s : State) (lines order : List LogLine) : Type 0 where
+  pub prefixes : (x : Actor) → IsPrefix (lines_of x order) (lines_of x lines)
+  pub fits : Fits sc s order
+
+-- the choices of lines
+abbrev pub choices_of : List LogLine → List Choice
+choices_of lines = map (λ (line : LogLine). line.choice) lines

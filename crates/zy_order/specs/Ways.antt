@@ -1,6 +1,5 @@
--- Choices that go along three logs.
-use Rattle.std.specs.Prelude.{◌≡◌, ◌≤◌, ◌+◌, ℕ, List, [], ◌∷◌, Some, true, length, slice_get}
-use Rattle.zy_isa.specs.Limits.{max_choices}
+-- Ways: choices that go along the logs.
+use Rattle.std.specs.Prelude.{◌≡◌, ◌≤◌, ◌+◌, ℕ, List, [], ◌∷◌, Some, true, length, slice_get, slice_index_or}
 use Rattle.zy_isa.specs.declared.node.Actor.{Actor}
 use Rattle.zy_isa.specs.declared.node.Actor.TheVariants.{C, A, B}
 use Rattle.zy_isa.specs.declared.choice.Choice.{Choice}
@@ -9,78 +8,82 @@ use Rattle.zy_isa.specs.Scenario.{Scenario}
 use Rattle.zy_table.specs.declared.entry.Entry.{Entry}
 use Rattle.zy_table.specs.State.{State}
 use Rattle.zy_table.specs.Play.{step}
-use Rattle.zy_order.specs.declared.logged.Logged.{Logged}
+use Rattle.zy_order.specs.declared.log_line.LogLine.{LogLine}
 use Rattle.zy_order.specs.declared.logs.Logs.{Logs}
-use Rattle.zy_order.specs.declared.progress.Progress.{Progress}
-use Rattle.zy_order.specs.Orders.{Says, entry_at, lines_of}
+use Rattle.zy_order.specs.declared.cursors.Cursors.{Cursors}
+use Rattle.zy_order.specs.Orders.{Agrees, entry_at, lines_of}
 
-abbrev pub log_of : Actor → Logs → List Logged
-log_of C l = l.c.items
-log_of A l = l.a.items
-log_of B l = l.b.items
+-- the log of an actor
+abbrev pub log_of : Actor → Logs → List LogLine
+log_of C logs = logs.c.items
+log_of A logs = logs.a.items
+log_of B logs = logs.b.items
 
--- how many lines of an actor were matched
-abbrev pub cursor : Actor → Progress → ℕ
-cursor C g = g.c
-cursor A g = g.a
-cursor B g = g.b
+-- how many lines of an actor are matched, which is the index of its next line
+abbrev pub cursor : Actor → Cursors → ℕ
+cursor C cursors = cursors.c
+cursor A cursors = cursors.a
+cursor B cursors = cursors.b
 
-abbrev pub origin : Progress
-origin = record { c = 0; a = 0; b = 0 }
+-- no line is matched
+abbrev pub at_start : Cursors
+at_start = record { c = 0; a = 0; b = 0 }
 
--- one line more of an actor
-abbrev pub further : Actor → Progress → Progress
-further C g = record { c = g.c + 1; a = g.a; b = g.b }
-further A g = record { c = g.c; a = g.a + 1; b = g.b }
-further B g = record { c = g.c; a = g.a; b = g.b + 1 }
+-- those at a place of a list
+abbrev pub cursors_in : List Cursors → ℕ → Cursors
+cursors_in list at = slice_index_or list at at_start
 
--- how many lines were matched
-abbrev pub matched : Progress → ℕ
-matched g = g.c + (g.a + g.b)
+-- one line more of an actor is matched
+abbrev pub advanced : Actor → Cursors → Cursors
+advanced C cursors = record { c = cursors.c + 1; a = cursors.a; b = cursors.b }
+advanced A cursors = record { c = cursors.c; a = cursors.a + 1; b = cursors.b }
+advanced B cursors = record { c = cursors.c; a = cursors.a; b = cursors.b + 1 }
 
-abbrev pub size : Logs → ℕ
-size l = length l.c.items + (length l.a.items + length l.b.items)
+-- how many lines are matched
+abbrev pub matched : Cursors → ℕ
+matched cursors = cursors.c + (cursors.a + cursors.b)
 
--- all lines were
-pub record IsWhole (l : Logs) (g : Progress) : Type 0 where
-  pub of_c : g.c ≡ length l.c.items
-  pub of_a : g.a ≡ length l.a.items
-  pub of_b : g.b ≡ length l.b.items
+-- how many lines the logs have
+abbrev pub line_count : Logs → ℕ
+line_count logs = length logs.c.items + (length logs.a.items + length logs.b.items)
 
--- no more than there are
-pub record IsWithin (l : Logs) (g : Progress) : Type 0 where
-  pub of_c : g.c ≤ length l.c.items
-  pub of_a : g.a ≤ length l.a.items
-  pub of_b : g.b ≤ length l.b.items
+-- all lines are matched
+pub record IsAtEnd (logs : Logs) (cursors : Cursors) : Type 0 where
+  pub of_c : cursors.c ≡ length logs.c.items
+  pub of_a : cursors.a ≡ length logs.a.items
+  pub of_b : cursors.b ≡ length logs.b.items
 
--- the next line of the actor that makes a choice is one of this choice, and tells what comes of it
-pub record Takes (l : Logs) (g : Progress) (e : Entry) : Type 0 where
-  pub line : Logged
-  pub next : slice_get (log_of (actor_of e.choice) l) (cursor (actor_of e.choice) g) ≡ Some line
+-- of each actor no more lines are matched than it has
+pub record IsWithin (logs : Logs) (cursors : Cursors) : Type 0 where
+  pub of_c : cursors.c ≤ length logs.c.items
+  pub of_a : cursors.a ≤ length logs.a.items
+  pub of_b : cursors.b ≤ length logs.b.items
+
+-- the next line of the actor that made a step is of the step's choice, and agrees with what came of it
+pub record HasNext (logs : Logs) (cursors : Cursors) (e : Entry) : Type 0 where
+  pub line : LogLine
+  pub next : slice_get (log_of (actor_of e.choice) logs) (cursor (actor_of e.choice) cursors) ≡ Some line
   pub choice : line.choice ≡ e.choice
-  pub says : Says line e
+  pub agrees : Agrees line e
 
--- so it is of each of these choices, one after another
-abbrev pub Goes : Scenario → Logs → Progress → State → List Choice → Type 0
-Goes sc l g s [] = Unit {0}
-Goes sc l g s (c ∷ cs) = Takes l g (entry_at sc s c) × Goes sc l (further (actor_of c) g) (step sc c s).after cs
+-- choices go along the logs: the logs have each of their steps next, one after another
+abbrev pub IsWay : Scenario → Logs → Cursors → State → List Choice → Type 0
+IsWay sc logs cursors s [] = Unit {0}
+IsWay sc logs cursors s (c ∷ cs) = HasNext logs cursors (entry_at sc s c)
+    × IsWay sc logs (advanced (actor_of c) cursors) (step sc c s).after cs
 
--- how far the actors are then
-abbrev pub gone : Progress → List Choice → Progress
-gone g [] = g
-gone g (c ∷ cs) = gone (further (actor_of c) g) cs
+-- the cursors after choices
+abbrev pub cursors_after : Cursors → List Choice → Cursors
+cursors_after cursors [] = cursors
+cursors_after cursors (c ∷ cs) = cursors_after (advanced (actor_of c) cursors) cs
 
 -- each line of a list is of a choice of the actor, and the transaction that it names is there
-abbrev pub AreOf : ℕ → Actor → List Logged → Type 0
-AreOf count x ls = (i : ℕ) → (l : Logged) → slice_get ls i ≡ Some l → (actor_of l.choice ≡ x) × (names_below count l.choice ≡ true)
+abbrev pub AreLinesOf : ℕ → Actor → List LogLine → Type 0
+AreLinesOf count x lines = (i : ℕ) → (line : LogLine) → slice_get lines i ≡ Some line
+    → (actor_of line.choice ≡ x) × (names_below count line.choice ≡ true)
 
--- the logs are each actor's lines
-pub record AreLogs (lines : List Logged) (l : Logs) : Type 0 where
-  pub of_c : l.c.items ≡ lines_of C lines
-  pub of_a : l.a.items ≡ lines_of A lines
-  pub of_b : l.b.items ≡ lines_of B lines
-
--- each line names a transaction that is there
-abbrev pub AreNamed : ℕ → List Logged → Type 0
-AreNamed count [] = Unit {0}
-AreNamed count (l ∷ ls) = (names_below count l.choice ≡ true) × AreNamed count ls
+-- the logs have each actor's lines
+pub record AreLogs (lines : List LogLine) (logs : Logs) : Type 0 where
+  pub of_c : logs.c.items ≡ lines_of C lines
+  pub of_a : logs.a.items ≡ lines_of A lines
+  pub of_b : logs.b.items ≡ lines_of B lines

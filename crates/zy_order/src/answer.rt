@@ -1,21 +1,25 @@
-//! What comes of a search.
+//! What comes of a search for an order.
 
 use zy_isa::Choice;
 
-/// What came of a search.
+/// What came of a search. An order of prefixes of the logs has a prefix of each actor's lines, in order, and each of
+/// its lines agrees with what comes of its choice.
 #[derive(Drop)]
 pub enum Answer {
-    /// The choices of an order in which each line says what comes of its choice.
+    /// The choices of an order: of all lines, where each agrees with what comes of its choice.
     Found(Vec<Choice>),
-    /// There is no such order; these choices go furthest.
+    /// There is no order. These are the choices of an order of prefixes of the logs, and none has more lines.
     Nowhere(Vec<Choice>),
-    /// It is not known whether there is one; of the orders that were begun, none goes further than these choices.
+    /// It is not known whether there is an order. These are the choices of an order of prefixes of the logs; of those
+    /// that the search came to, none has more lines.
     Spent(Vec<Choice>),
 }
 
-/// An answer, and for a person how many states were reached on the way: nothing is promised of the number.
+/// An answer, and for a person how many states were reached: nothing is promised of the number.
 #[derive(Drop)]
 pub struct Report {
+    /// The answer.
     pub answer: Answer,
+    /// How many states were reached: one that is reached at several places in the logs counts at each.
     pub states: usize,
 }

@@ -1,15 +1,19 @@
-//! A search for an order of logged steps in which the step table gives each of them what its log says.
+//! A search for an order of the lines of three logs, one for each actor, in which each line agrees with the step table.
 #![tactic(auto)]
 
 pub mod answer;
-pub mod code;
+mod code;
+mod cursors;
 mod expand;
-pub mod logged;
-pub mod logs;
+mod follow;
+pub mod log_line;
+mod logs;
+mod note;
 pub mod order;
-pub mod plan;
-pub mod progress;
-pub mod reached;
+mod plan;
+mod reached;
+mod turns;
+mod walk;
 
 pub use crate::answer::{Answer, Report};
-pub use crate::logged::Logged;
+pub use crate::log_line::LogLine;

@@ -1,26 +1,29 @@
-//! Three logs.
+//! The logs of the three actors.
 ghost use Rattle.std.specs.Prelude.{◌≡◌, ◌≤◌, IfOk, MatchOption, Some, length, slice_get};
 ghost use Rattle.std.specs.Bool.{Decides};
-ghost use Rattle.zy_order.specs.Orders.{lines_of};
-ghost use Rattle.zy_order.specs.Ways.{log_of, cursor, AreLogs, IsWhole};
-ghost use Rattle.zy_threads.specs.Turns.{is_by};
+ghost use Rattle.zy_order.specs.Orders as orders;
+ghost use Rattle.zy_order.specs.Ways.{log_of, cursor, AreLogs, IsAtEnd};
+ghost use Rattle.zy_threads.specs.Turns as turns;
 
-use crate::logged::Logged;
-use crate::progress::Progress;
+use crate::cursors::Cursors;
+use crate::log_line::LogLine;
 use std::alloc::{AllocError, Global};
 use zy_isa::{Actor, Choice};
 
-/// The lines of each actor, in order.
+/// The log of each actor: its lines, in order.
 #[derive(Drop)]
-pub struct Logs {
-    pub c: Vec<Logged>,
-    pub a: Vec<Logged>,
-    pub b: Vec<Logged>,
+pub(crate) struct Logs {
+    /// The client's.
+    pub c: Vec<LogLine>,
+    /// That of A.
+    pub a: Vec<LogLine>,
+    /// That of B.
+    pub b: Vec<LogLine>,
 }
 
 /// Whether the choice is the actor's.
-fn is_of(choice: Choice, actor: Actor) -> bool
-    ensures { result ≡ is_by actor choice }
+fn is_by(choice: Choice, actor: Actor) -> bool
+    ensures { result ≡ turns.is_by actor choice }
 {
     match actor {
         Actor::C => matches!(choice.actor(), Actor::C),
@@ -29,13 +32,13 @@ fn is_of(choice: Choice, actor: Actor) -> bool
     }
 }
 
-/// The lines of an actor, in order.
-fn lines_by(alloc: Global, lines: &[Logged], actor: Actor) -> Result<Vec<Logged>, AllocError>
-    ensures { IfOk result (λ v. v.items ≡ lines_of actor lines.now) }
+/// The lines of an actor among others, in order.
+fn lines_of(alloc: Global, lines: &[LogLine], actor: Actor) -> Result<Vec<LogLine>, AllocError>
+    ensures { IfOk result (λ v. v.items ≡ orders.lines_of actor lines.now) }
 {
     let mut found = Vec::new(alloc);
     for line in lines {
-        if is_of(line.choice, actor) {
+        if is_by(line.choice, actor) {
             found.push(*line)?;
         }
     }
@@ -43,22 +46,22 @@ fn lines_by(alloc: Global, lines: &[Logged], actor: Actor) -> Result<Vec<Logged>
 }
 
 impl Logs {
-    /// The lines by their actors.
-    pub fn of(alloc: Global, lines: &[Logged]) -> Result<Logs, AllocError>
+    /// Splits lines into the logs of their actors.
+    pub(crate) fn split(alloc: Global, lines: &[LogLine]) -> Result<Logs, AllocError>
         ensures { IfOk result (AreLogs lines.now) }
     {
-        let c = lines_by(alloc, lines, Actor::C)?;
-        let a = lines_by(alloc, lines, Actor::A)?;
-        let b = lines_by(alloc, lines, Actor::B)?;
+        let c = lines_of(alloc, lines, Actor::C)?;
+        let a = lines_of(alloc, lines, Actor::A)?;
+        let b = lines_of(alloc, lines, Actor::B)?;
         Ok(Logs { c, a, b })
     }
 
-    /// The next line of an actor.
-    pub(crate) fn front(&self, progress: Progress, actor: Actor) -> Option<Logged>
-        ensures { MatchOption result (length (log_of actor self.now) ≤ cursor actor progress)
-            (λ l. slice_get (log_of actor self.now) (cursor actor progress) ≡ Some l) }
+    /// The next line of an actor, if one is left.
+    pub(crate) fn next(&self, cursors: Cursors, actor: Actor) -> Option<LogLine>
+        ensures { MatchOption result (length (log_of actor self.now) ≤ cursor actor cursors)
+            (λ line. slice_get (log_of actor self.now) (cursor actor cursors) ≡ Some line) }
     {
-        let at = usize::from(progress.of(actor));
+        let at = usize::from(cursors.of(actor));
         match actor {
             Actor::C => self.c.get(at).copied(),
             Actor::A => self.a.get(at).copied(),
@@ -66,12 +69,12 @@ impl Logs {
         }
     }
 
-    /// Whether all lines were matched.
-    pub(crate) fn are_matched(&self, progress: Progress) -> bool
-        ensures { Decides result (IsWhole self.now progress) }
+    /// Whether all lines are matched.
+    pub(crate) fn are_matched(&self, cursors: Cursors) -> bool
+        ensures { Decides result (IsAtEnd self.now cursors) }
     {
-        usize::from(progress.c) == self.c.len()
-            && usize::from(progress.a) == self.a.len()
-            && usize::from(progress.b) == self.b.len()
+        usize::from(cursors.c) == self.c.len()
+            && usize::from(cursors.a) == self.a.len()
+            && usize::from(cursors.b) == self.b.len()
     }
 }

@@ -1,128 +1,51 @@
 //! The search for an order.
-ghost use Rattle.std.specs.Prelude.{◌≡◌, ◌≤◌, ◌<◌, ◌^◌, ◌++◌, [], ◌∷◌, IfOk, OnOk, MatchOption, length};
-ghost use Rattle.zy_search.specs.Visits.{path_at, IsShelf};
+ghost use Rattle.std.specs.Prelude.{◌≡◌, ◌<◌, ◌^◌, IfOk, length};
 ghost use Rattle.zy_order.specs.Answers.{IsInput, IsAnswer};
-ghost use Rattle.zy_order.specs.Ways.{origin, matched, AreLogs, IsWhole};
-ghost use Rattle.zy_order.specs.Reaches.{gone_at, mark_at, AreDone, AreThere, IsAbout, IsBest, IsPlan, Settles, AnswersFor};
+ghost use Rattle.zy_order.specs.Ways.{AreLogs, IsAtEnd};
+ghost use Rattle.zy_order.specs.Reaches.{cursors_at, IsFurthest, IsPlan, IsUnderWay, Settles, AnswersFor};
 
 use crate::answer::{Answer, Report};
-use crate::expand::{digest_of, expand};
-use crate::logged::Logged;
+use crate::cursors::Cursors;
+use crate::follow::{Followed, follow_all};
+use crate::log_line::LogLine;
 use crate::logs::Logs;
+use crate::note::digest_of;
 use crate::plan::Plan;
-use crate::progress::Progress;
 use crate::reached::Reached;
 use std::alloc::Global;
-use zy_isa::MAX_CHOICES;
 use zy_machine::{Fault, Machine};
-use zy_search::shelf::Shelf;
 
-/// How many machines are kept of the last paths.
-const MOST_SPOTS: usize = 64;
-
-/// How many lines were matched.
-fn matched_in(mark: Progress) -> u32
-    ensures { result ≡ matched mark }
-{
-    u32::from(mark.c) + (u32::from(mark.a) + u32::from(mark.b))
-}
-
-/// The place of a path than which none goes further.
+/// The place of a path that matches no fewer lines than any other.
 fn furthest(reached: &Reached) -> u32
-    requires some { 0 < length reached.now.marks.items }
-    requires few { length reached.now.marks.items < 2 ^ 32 }
-    ensures there { result < length reached.now.marks.items }
-    ensures best { IsBest reached.now result }
+    requires some { 0 < length reached.now.cursors.items }
+    requires few { length reached.now.cursors.items < 2 ^ 32 }
+    ensures there { result < length reached.now.cursors.items }
+    ensures best { IsFurthest reached.now result }
 {
     let mut best = 0;
-    for i in 0..reached.marks.len() as u32 {
-        if matched_in(reached.mark(best)) < matched_in(reached.mark(i)) {
+    for i in 0..reached.cursors.len() as u32 {
+        if reached.cursors_at(best).matched() < reached.cursors_at(i).matched() {
             best = i;
         }
     }
     best
 }
 
-/// What came of following paths.
-#[derive(Clone, Copy, Debug, PartialEq, Eq)]
-pub enum Followed {
-    /// The path at this place goes along all lines.
-    Whole(u32),
-    /// None does, and none can be gone on from.
-    Nowhere,
-    /// There is one state too many.
-    Spent,
-}
-
-/// The place of the path that is to be gone on from next, which is to do no more.
-fn next_of(todo: &mut Vec<u32>) -> Option<u32>
-    ensures { MatchOption result (todo.old.items ≡ []) (λ at. todo.old.items ≡ todo.new.items ++ at ∷ []) }
-{
-    todo.pop()
-}
-
-/// Goes on from each path in turn, the last one first, until one goes along all lines or none is left.
-fn follow(
-    plan: &Plan,
-    reached: &mut Reached,
-    todo: &mut Vec<u32>,
-    shelf: &mut Shelf,
-    here: &mut Machine,
-    twin: &mut Machine,
-) -> Result<Followed, Fault>
-    requires about { IsAbout plan.now reached.old }
-    requires shelf { IsShelf plan.now.start reached.old.visited shelf.old }
-    requires there { AreThere todo.old.items (length reached.old.visited) }
-    requires done { AreDone plan.now.start plan.now.logs reached.old.visited todo.old.items }
-    requires here { here.old.scenario ≡ plan.now.start.scenario }
-    requires twin { twin.old.scenario ≡ plan.now.start.scenario }
-    ensures about { OnOk result (IsAbout plan.now reached.new) }
-    ensures settles { IfOk result (Settles plan.now reached.new) }
-{
-    for turn in 0..u32::MAX {
-        let Some(at) = next_of(todo) else {
-            return Ok(Followed::Nowhere);
-        };
-        if plan.logs.are_matched(reached.mark(at)) {
-            return Ok(Followed::Whole(at));
-        }
-        if !expand(plan, reached, todo, shelf, at, here, twin)? {
-            return Ok(Followed::Spent);
-        }
-    }
-    Ok(Followed::Spent)
-}
-
-/// The same, from the start.
-fn follow_all(plan: &Plan, reached: &mut Reached) -> Result<Followed, Fault>
-    requires about { IsAbout plan.now reached.old }
-    requires first { reached.old.visited ≡ [] ∷ [] }
-    ensures about { OnOk result (IsAbout plan.now reached.new) }
-    ensures settles { IfOk result (Settles plan.now reached.new) }
-{
-    let mut shelf = Shelf::sized(plan.alloc, &plan.start, MOST_SPOTS, MAX_CHOICES)?;
-    let mut here = plan.start.copy(plan.alloc)?;
-    let mut twin = plan.start.copy(plan.alloc)?;
-    let mut todo = Vec::new(plan.alloc);
-    todo.push(0)?;
-    follow(plan, reached, &mut todo, &mut shelf, &mut here, &mut twin)
-}
-
-/// The answer where the path at a place goes along all lines.
+/// The answer where the path at a place matches all lines.
 fn found(plan: &Plan, reached: &Reached, at: u32) -> Result<Answer, Fault>
-    requires about { IsAbout plan.now reached.now }
+    requires under_way { IsUnderWay plan.now reached.now }
     requires there { at < length reached.now.visited }
-    requires whole { IsWhole plan.now.logs (gone_at reached.now.visited at) }
+    requires whole { IsAtEnd plan.now.logs (cursors_at reached.now.visited at) }
     ensures { IfOk result (AnswersFor plan.now) }
 {
     let path = reached.path(plan.alloc, at)?;
     Ok(Answer::Found(path))
 }
 
-/// The answer where each path is passed.
+/// The answer where each path was followed, and none matches all lines.
 fn nowhere(plan: &Plan, reached: &Reached) -> Result<Answer, Fault>
-    requires about { IsAbout plan.now reached.now }
-    requires passed { Settles plan.now reached.now Followed.Nowhere }
+    requires under_way { IsUnderWay plan.now reached.now }
+    requires followed { Settles plan.now reached.now Followed.Nowhere }
     ensures { IfOk result (AnswersFor plan.now) }
 {
     let at = furthest(reached);
@@ -132,7 +55,7 @@ fn nowhere(plan: &Plan, reached: &Reached) -> Result<Answer, Fault>
 
 /// The answer where there is one state too many.
 fn spent(plan: &Plan, reached: &Reached) -> Result<Answer, Fault>
-    requires { IsAbout plan.now reached.now }
+    requires { IsUnderWay plan.now reached.now }
     ensures { IfOk result (AnswersFor plan.now) }
 {
     let at = furthest(reached);
@@ -140,9 +63,9 @@ fn spent(plan: &Plan, reached: &Reached) -> Result<Answer, Fault>
     Ok(Answer::Spent(path))
 }
 
-/// The answer by what was reached.
+/// The answer, by what came of following the paths.
 fn answer_by(plan: &Plan, reached: &Reached, followed: Followed) -> Result<Answer, Fault>
-    requires about { IsAbout plan.now reached.now }
+    requires under_way { IsUnderWay plan.now reached.now }
     requires settles { Settles plan.now reached.now followed }
     ensures { IfOk result (AnswersFor plan.now) }
 {
@@ -154,11 +77,11 @@ fn answer_by(plan: &Plan, reached: &Reached, followed: Followed) -> Result<Answe
 }
 
 /// The answer to a plan, and how many states were reached.
-fn answer(plan: &Plan) -> Result<Report, Fault>
+fn report(plan: &Plan) -> Result<Report, Fault>
     requires { IsPlan plan.now }
     ensures { IfOk result (λ r. AnswersFor plan.now r.answer) }
 {
-    let first = digest_of(Progress::origin(), &plan.start);
+    let first = digest_of(Cursors::at_start(), &plan.start);
     let mut reached = Reached::new(plan.alloc, first)?;
     let followed = follow_all(plan, &mut reached)?;
     let answer = answer_by(plan, &reached, followed)?;
@@ -169,13 +92,13 @@ fn answer(plan: &Plan) -> Result<Report, Fault>
 }
 
 /// What a search goes by.
-fn plan_from(alloc: Global, start: &Machine, lines: &[Logged], most: u32) -> Result<Plan, Fault>
+fn plan_from(alloc: Global, start: &Machine, lines: &[LogLine], most: u32) -> Result<Plan, Fault>
     requires { IsInput start.now lines.now }
     ensures plan { IfOk result IsPlan }
     ensures start { IfOk result (λ p. p.start ≡ start.now) }
     ensures logs { IfOk result (λ p. AreLogs lines.now p.logs) }
 {
-    let logs = Logs::of(alloc, lines)?;
+    let logs = Logs::split(alloc, lines)?;
     let start = start.copy(alloc)?.share(alloc)?;
     Ok(Plan {
         alloc,
@@ -185,12 +108,13 @@ fn plan_from(alloc: Global, start: &Machine, lines: &[Logged], most: u32) -> Res
     })
 }
 
-/// Looks for an order of logged steps in which the step table gives each of them what its line tells. It goes depth
-/// first, and gives up where it would reach more states than `most`.
-pub fn order(alloc: Global, start: &Machine, lines: &[Logged], most: u32) -> Result<Report, Fault>
+/// Looks for an order of the lines of three logs, one for each actor, in which each line agrees with what comes of its
+/// choice, where the choices are made from a machine's state. The logs are mixed in any way: only the order of each
+/// actor's own lines counts. The search goes depth first, and gives up where it would reach more states than `most`.
+pub fn order(alloc: Global, start: &Machine, lines: &[LogLine], most: u32) -> Result<Report, Fault>
     requires { IsInput start.now lines.now }
     ensures { IfOk result (λ r. IsAnswer start.now lines.now r.answer) }
 {
     let plan = plan_from(alloc, start, lines, most)?;
-    answer(&plan)
+    report(&plan)
 }

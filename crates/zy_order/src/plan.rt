@@ -6,9 +6,13 @@ use zy_machine::Machine;
 
 /// Where a search begins, the logs, and the most states that it may reach.
 #[derive(Drop)]
-pub struct Plan {
+pub(crate) struct Plan {
+    /// Where memory comes from.
     pub alloc: Global,
+    /// The machine that the lines follow. Its history is shared by its copies.
     pub start: Machine,
+    /// The logs.
     pub logs: Logs,
+    /// The most states that it may reach, with that of the start.
     pub most: u32,
 }

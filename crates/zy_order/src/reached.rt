@@ -1,55 +1,84 @@
 //! What a search has reached.
-ghost use Rattle.std.specs.Prelude.{◌≡◌, ◌<◌, ◌^◌, ◌++◌, ◌∷◌, [], IfOk, OnOk, length, slice_index_or};
-ghost use Rattle.zy_order.specs.Ways.{origin};
+ghost use Rattle.std.specs.Prelude.{◌≡◌, ◌<◌, ◌+◌, ◌^◌, ◌++◌, ◌∷◌, [], IfOk, OnOk, length};
+ghost use Rattle.zy_isa.specs.Choices.{actor_of};
 ghost use Rattle.zy_search.specs.Visits.{path_at};
+ghost use Rattle.zy_order.specs.Ways.{advanced, at_start, cursor, cursors_in};
 
-use crate::progress::Progress;
+use crate::cursors::Cursors;
 use std::alloc::{AllocError, Global};
 use zy_isa::Choice;
 use zy_search::branch::Branch;
 use zy_search::visited::Visited;
 
-/// A path to each state that was reached, and how far the actors are there.
+/// A path to each state that was reached, with the cursors there, and the places of the paths that are still to be
+/// followed.
 #[derive(Drop)]
-pub struct Reached {
+pub(crate) struct Reached {
+    /// The paths, under the digests of where they lead.
     pub visited: Visited,
-    pub marks: Vec<Progress>,
+    /// The cursors where each path leads, by its place.
+    pub cursors: Vec<Cursors>,
+    /// The places of the paths to follow; the last one is next.
+    pub todo: Vec<u32>,
 }
 
 impl Reached {
-    /// The empty path alone, under the digest of its state.
-    pub fn new(alloc: Global, digest: u64) -> Result<Reached, AllocError>
-        ensures visited { IfOk result (λ r. r.visited ≡ [] ∷ []) }
-        ensures marks { IfOk result (λ r. r.marks.items ≡ origin ∷ []) }
+    /// The empty path alone, under the digest of where it leads. It is to be followed.
+    pub(crate) fn new(alloc: Global, digest: u64) -> Result<Reached, AllocError>
+        ensures paths { IfOk result (λ r. r.visited ≡ [] ∷ []) }
+        ensures cursors { IfOk result (λ r. r.cursors.items ≡ at_start ∷ []) }
+        ensures todo { IfOk result (λ r. r.todo.items ≡ 0 ∷ []) }
     {
         let visited = Visited::new(alloc, digest)?;
-        let mut marks = Vec::new(alloc);
-        marks.push(Progress::origin())?;
-        Ok(Reached { visited, marks })
+        let mut cursors = Vec::new(alloc);
+        cursors.push(Cursors::at_start())?;
+        let mut todo = Vec::new(alloc);
+        todo.push(0)?;
+        Ok(Reached {
+            visited,
+            cursors,
+            todo,
+        })
     }
 
-    /// How far the actors are where the path at a place leads.
-    pub fn mark(&self, at: u32) -> Progress
-        requires { at < length self.now.marks.items }
-        ensures { result ≡ slice_index_or self.now.marks.items at origin }
+    /// The cursors where the path at a place leads.
+    pub(crate) fn cursors_at(&self, at: u32) -> Cursors
+        requires { at < length self.now.cursors.items }
+        ensures { result ≡ cursors_in self.now.cursors.items at }
     {
-        self.marks[at as usize]
+        self.cursors[at as usize]
     }
 
-    /// A path more, under the digest of its state.
-    pub fn push(&mut self, branch: Branch, mark: Progress, digest: u64) -> Result<(), AllocError>
+    /// The cursors where a branch leads.
+    pub(crate) fn cursors_by(&self, branch: Branch) -> Cursors
+        requires from { branch.from < length self.now.cursors.items }
+        requires few { cursor (actor_of branch.by) (cursors_in self.now.cursors.items branch.from) < 65535 }
+        ensures { result ≡ advanced (actor_of branch.by) (cursors_in self.now.cursors.items branch.from) }
+    {
+        self.cursors_at(branch.from).advanced(branch.by.actor())
+    }
+
+    /// Adds the path of a branch, under the digest of where it leads. It is the next one to follow.
+    pub(crate) fn push(&mut self, branch: Branch, digest: u64) -> Result<(), AllocError>
         requires from { branch.from < length self.old.visited }
-        requires room { length self.old.visited < 2 ^ 32 }
+        requires many { length self.old.cursors.items ≡ length self.old.visited }
+        requires room { length self.old.visited + 1 < 2 ^ 32 }
+        requires few { cursor (actor_of branch.by) (cursors_in self.old.cursors.items branch.from) < 65535 }
         ensures paths { OnOk result (self.new.visited
             ≡ self.old.visited ++ (path_at self.old.visited branch.from ++ branch.by ∷ []) ∷ []) }
-        ensures marks { OnOk result (self.new.marks.items ≡ self.old.marks.items ++ mark ∷ []) }
+        ensures cursors { OnOk result (self.new.cursors.items ≡ self.old.cursors.items
+            ++ advanced (actor_of branch.by) (cursors_in self.old.cursors.items branch.from) ∷ []) }
+        ensures todo { OnOk result (self.new.todo.items ≡ self.old.todo.items ++ length self.old.visited ∷ []) }
     {
-        self.marks.push(mark)?;
+        let place = self.visited.len() as u32;
+        let cursors = self.cursors_by(branch);
+        self.cursors.push(cursors)?;
+        self.todo.push(place)?;
         self.visited.push(branch, digest)
     }
 
     /// The path at a place.
-    pub fn path(&self, alloc: Global, at: u32) -> Result<Vec<Choice>, AllocError>
+    pub(crate) fn path(&self, alloc: Global, at: u32) -> Result<Vec<Choice>, AllocError>
         requires { at < length self.now.visited }
         ensures { IfOk result (λ v. v.items ≡ path_at self.now.visited at) }
     {

@@ -1,13 +1,13 @@
 -- The machine was kept, or it goes along the path.
 use Rattle.std.proofs.Common.{◌≡◌, ◌+◌, ◌<◌, length, arith}
+use Rattle.std.proofs.lemmas.Result.{on_ok_weaker}
 use Rattle.zy_isa.specs.Limits.{max_choices}
 use Rattle.zy_search.specs.Visits.{path_at, length_at}
 use Rattle.zy_search.proofs.ShelfLemmas.{in_any_case}
-use Rattle.zy_order.specs.Ways.{origin}
-use Rattle.zy_order.specs.Reaches.{gone_at}
-use Rattle.zy_order.proofs.WayLemmas.{part_fewer, within_gone, within_origin}
+use Rattle.zy_order.specs.Ways.{at_start}
+use Rattle.zy_order.specs.Reaches.{cursors_at}
+use Rattle.zy_order.proofs.WayLemmas.{fewer_matched, within_after, within_start}
 use Rattle.zy_order.proofs.ReachLemmas.{matched_at}
-use Rattle.zy_order.proofs.LoopLemmas.{on_ok}
 use Rattle.zy_order.proofs.expand.arrive.Goals as goal
 
 pub returns-then-len-lt-MAX_CHOICES-clause-here : goal.returns-then-len-lt-MAX_CHOICES-clause-here
@@ -25,12 +25,13 @@ returns-clause-room c =
     let p = c.args.plan.now in
     let ps = c.args.reached.now.visited in
     let at = c.args.at in
-    let goes = c.requires.about.reached.goes at c.requires.at in
-    let within = within_gone p.start.scenario p.logs origin p.start.state (path_at ps at) goes (within_origin p.logs) in
-    let fewer = part_fewer p.logs (gone_at ps at) within c.requires.part in
+    let way = c.requires.under_way.reached.ways at c.requires.at in
+    let within = within_after p.start.scenario p.logs at_start p.start.state (path_at ps at) way (within_start p.logs) in
+    let fewer = fewer_matched p.logs (cursors_at ps at) within c.requires.part in
     let same = matched_at ps at in
-    on_ok (length c.go_to.new.machine.entries ≡ length p.start.entries + length_at ps at) (length c.go_to.new.machine.entries < max_choices) c.go_to.result
-    (λ e. omega (arith, e, fewer, same, c.requires.about.plan.room)) c.go_to.ensures.entries
+    on_ok_weaker {P = length c.go_to.new.machine.entries ≡ length p.start.entries + length_at ps at}
+    {Q = length c.go_to.new.machine.entries < max_choices} c.go_to.result (λ e. omega (arith, e, fewer, same, c.requires.under_way.plan.room))
+    c.go_to.ensures.entries
 
 pub returns-clause-shelf : goal.returns-clause-shelf
 returns-clause-shelf c =

@@ -2,21 +2,21 @@
 use Rattle.std.proofs.Common.{ap, length, arith}
 use Rattle.zy_machine.specs.Histories.{History}
 use Rattle.zy_search.specs.Visits.{path_at}
-use Rattle.zy_order.specs.Ways.{origin}
-use Rattle.zy_order.proofs.WayLemmas.{named_goes, few_goes}
-use Rattle.zy_order.proofs.expand.go_to.Goals as goal
+use Rattle.zy_order.specs.Ways.{at_start}
+use Rattle.zy_order.proofs.WayLemmas.{way_named, way_few}
+use Rattle.zy_order.proofs.walk.go_to.Goals as goal
 
 pub walk-requires-clause-named : goal.walk-requires-clause-named
 walk-requires-clause-named c =
     let h = c.args.plan.now.start in
     let same = ap (λ (k : History). k.scenario) c.in_ok-set_to.ensures.ok in
-    rw same (named_goes (length h.scenario.programs) h.scenario c.args.plan.now.logs origin h.state (path_at c.args.reached.now.visited c.args.at)
-    c.requires.about.plan.lines (c.requires.about.reached.goes c.args.at c.requires.there))
+    rw same (way_named (length h.scenario.programs) h.scenario c.args.plan.now.logs at_start h.state (path_at c.args.reached.now.visited c.args.at)
+    c.requires.under_way.plan.lines (c.requires.under_way.reached.ways c.args.at c.requires.there))
 
 pub walk-requires-clause-room : goal.walk-requires-clause-room
 walk-requires-clause-room c =
     let h = c.args.plan.now.start in
     let same = ap (λ (k : History). length k.entries) c.in_ok-set_to.ensures.ok in
-    let few = few_goes h.scenario c.args.plan.now.logs h.state (path_at c.args.reached.now.visited c.args.at)
-    (c.requires.about.reached.goes c.args.at c.requires.there) in
-    omega (arith, same, few, c.requires.about.plan.room)
+    let few = way_few h.scenario c.args.plan.now.logs h.state (path_at c.args.reached.now.visited c.args.at)
+    (c.requires.under_way.reached.ways c.args.at c.requires.there) in
+    omega (arith, same, few, c.requires.under_way.plan.room)

@@ -1,0 +1,101 @@
+-- The lines of the logs: how many there are, and of which choices.
+use Rattle.std.proofs.Common.{◌≡◌, ◌∙◌, ℕ, zero, suc, ◌+◌, List, [], ◌∷◌, length, refl, sym, ap, subst, arith, Bool, true, false, slice_get, Some}
+use Rattle.std.specs.Prelude.{if◌then◌else◌}
+use Rattle.std.proofs.lemmas.List.{length-map}
+use Rattle.zy_isa.specs.declared.node.Actor.{Actor}
+use Rattle.zy_isa.specs.declared.node.Actor.TheVariants.{C, A, B}
+use Rattle.zy_isa.specs.Choices.{actor_of, names_below}
+use Rattle.zy_isa.specs.Scenario.{AreNamed}
+use Rattle.zy_machine.specs.Histories.{History}
+use Rattle.zy_threads.specs.Turns.{is_c, is_a, is_b}
+use Rattle.zy_order.specs.declared.log_line.LogLine.{LogLine}
+use Rattle.zy_order.specs.declared.logs.Logs.{Logs}
+use Rattle.zy_order.specs.declared.plan.Plan.{Plan}
+use Rattle.zy_order.specs.Orders.{lines_of, choices_of}
+use Rattle.zy_order.specs.Ways.{log_of, line_count, AreLinesOf, AreLogs}
+use Rattle.zy_order.specs.Answers.{IsInput}
+use Rattle.zy_order.specs.Reaches.{IsPlan}
+use Rattle.zy_order.proofs.OrderLemmas.{is_same, lines_cons}
+
+-- ---- how many
+
+-- a list with one element more, or not
+length_if : {X : Type 0} (b : Bool) (x : X) (xs : List X) → length (if b then x ∷ xs else xs) ≡ (if b then length xs + 1 else length xs)
+length_if true x xs = omega arith
+length_if false x xs = refl
+
+-- one line more counts for one of the three actors
+one_of : (x : Actor) (l m n k : ℕ) → l + (m + n) ≡ k → (if is_c x then l + 1 else l) + ((if is_a x then m + 1 else m) + (if is_b x then n + 1 else n)) ≡ k + 1
+one_of C l m n k e = omega arith
+one_of A l m n k e = omega arith
+one_of B l m n k e = omega arith
+
+-- the three actors have as many lines as there are
+pub lines_lengths : (lines : List LogLine) → length (lines_of C lines) + (length (lines_of A lines) + length (lines_of B lines)) ≡ length lines
+lines_lengths [] = refl
+lines_lengths (line ∷ lines) =
+    let x = actor_of line.choice in
+    let l : length (lines_of C (line ∷ lines)) ≡ (if is_c x then length (lines_of C lines) + 1 else length (lines_of C lines))
+    = length_if (is_c x) line (lines_of C lines) in
+    let m : length (lines_of A (line ∷ lines)) ≡ (if is_a x then length (lines_of A lines) + 1 else length (lines_of A lines))
+    = length_if (is_a x) line (lines_of A lines) in
+    let n : length (lines_of B (line ∷ lines)) ≡ (if is_b x then length (lines_of B lines) + 1 else length (lines_of B lines))
+    = length_if (is_b x) line (lines_of B lines) in
+    let all = one_of x (length (lines_of C lines)) (length (lines_of A lines)) (length (lines_of B lines)) (length lines) (lines_lengths lines) in
+    (λ i. l i + (m i + n i)) ∙ all ∙ omega arith
+
+-- so do the logs
+pub logs_count : (lines : List LogLine) (l : Logs) → AreLogs lines l → line_count l ≡ length lines
+logs_count lines l is = omega (arith, lines_lengths lines, ap length is.of_c, ap length is.of_a, ap length is.of_b)
+
+-- lines have as many choices
+pub length_choices : (lines : List LogLine) → length (choices_of lines) ≡ length lines
+length_choices lines = length-map lines (λ (line : LogLine). line.choice)
+
+-- ---- of which choices
+
+-- the log of an actor is its lines
+pub log_is : (x : Actor) (lines : List LogLine) (l : Logs) → AreLogs lines l → log_of x l ≡ lines_of x lines
+log_is C lines l is = is.of_c
+log_is A lines l is = is.of_a
+log_is B lines l is = is.of_b
+
+-- actors that are the same by the test are
+same_actor : (x y : Actor) → is_same x y ≡ true → y ≡ x
+same_actor C C e = refl
+same_actor C A e = absurd (cc e)
+same_actor C B e = absurd (cc e)
+same_actor A C e = absurd (cc e)
+same_actor A A e = refl
+same_actor A B e = absurd (cc e)
+same_actor B C e = absurd (cc e)
+same_actor B A e = absurd (cc e)
+same_actor B B e = refl
+
+-- an actor has one line more, if it is of the actor and names a transaction that is there
+lines_more : (count : ℕ) (x : Actor) (line : LogLine) (lines : List LogLine) (b : Bool)
+    → (b ≡ true → (actor_of line.choice ≡ x) × (names_below count line.choice ≡ true)) → AreLinesOf count x lines
+    → AreLinesOf count x (if b then line ∷ lines else lines)
+lines_more count x line lines true is rest zero other e =
+    let same : line ≡ other = cc e in
+    subst (λ (m : LogLine). (actor_of m.choice ≡ x) × (names_below count m.choice ≡ true)) same (is refl)
+lines_more count x line lines true is rest (suc i) other e = rest i other e
+lines_more count x line lines false is rest i other e = rest i other e
+
+-- the lines of an actor are of its choices
+lines_are_of : (count : ℕ) (x : Actor) (lines : List LogLine) → AreNamed count (choices_of lines) → AreLinesOf count x (lines_of x lines)
+lines_are_of count x [] named = λ i line e. absurd (cc e)
+lines_are_of count x (line ∷ lines) named =
+    subst (AreLinesOf count x) (sym (lines_cons x line lines))
+    (lines_more count x line (lines_of x lines) (is_same x (actor_of line.choice)) (λ e. (same_actor x (actor_of line.choice) e, named.0))
+    (lines_are_of count x lines named.1))
+
+-- a plan has logs of the lines, and its history has room for all
+pub plan_is : (p : Plan) (h : History) (lines : List LogLine) → p.start ≡ h → AreLogs lines p.logs → IsInput h lines → IsPlan p
+plan_is p h lines same is input =
+    let count = length p.start.scenario.programs in
+    let named = subst (λ (k : History). AreNamed (length k.scenario.programs) (choices_of lines)) (sym same) input.named in
+    record {
+      lines = λ x. subst (AreLinesOf count x) (sym (log_is x lines p.logs is)) (lines_are_of count x lines named);
+      room = omega (arith, input.room, logs_count lines p.logs is, ap (λ (k : History). length k.entries) same);
+    }

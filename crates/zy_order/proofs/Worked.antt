@@ -1,0 +1,112 @@
+-- Worked logs: which orders of their lines fit, computed.
+use Rattle.std.proofs.Common.{◌≡◌, ℕ, List, [], ◌∷◌, Option, None, Some, refl}
+use Rattle.zy_isa.specs.declared.version.Version.TheVariants.{One}
+use Rattle.zy_isa.specs.declared.node.Node.TheVariants.{A, B}
+use Rattle.zy_isa.specs.declared.node.Actor.TheVariants as actor
+use Rattle.zy_isa.specs.declared.rule.Rule.TheVariants.{Held}
+use Rattle.zy_isa.specs.declared.instr.Reg.TheVariants.{R0}
+use Rattle.zy_isa.specs.declared.instr.Instr.{Instr}
+use Rattle.zy_isa.specs.declared.instr.Instr.TheVariants.{Set, Commit}
+use Rattle.zy_isa.specs.declared.choice.Choice.TheVariants.{Start, Begin, Run, Take}
+use Rattle.zy_isa.specs.Scenario.{Scenario}
+use Rattle.zy_links.specs.declared.kind.Kind.{Kind}
+use Rattle.zy_links.specs.declared.kind.Kind.TheVariants as kind
+use Rattle.zy_table.specs.declared.outcome.Outcome.{Outcome}
+use Rattle.zy_table.specs.declared.outcome.Outcome.TheVariants as outcome
+use Rattle.zy_table.specs.Change.{txn_at, begun, aborted, did, locked, shares, committed, cut, asks, leaves}
+use Rattle.zy_table.specs.Client.{start_step, begin_at, begin_step}
+use Rattle.zy_table.specs.Run.{set_step, commit_or_gone, commit_step, effect_step, instr_step, run_step}
+use Rattle.zy_table.specs.Take.{arrival_step, pull_step, message_step, front_step, take_step}
+use Rattle.zy_table.specs.Play.{move, step, opening_leaves, opening}
+use Rattle.zy_order.specs.declared.log_line.LogLine.{LogLine}
+use Rattle.zy_order.specs.Orders.{Agrees, Fits, entry_at, IsMerge, IsOrder, IsPrefixOrder}
+
+-- opens the lines of the table that the examples use
+unfoldable table : ℕ
+unfolding txn_at begun aborted did locked shares committed cut asks leaves start_step begin_at begin_step set_step commit_or_gone commit_step effect_step
+    instr_step run_step arrival_step pull_step message_step front_step take_step move step opening_leaves opening
+table = 0
+
+-- a scenario of one page and no rows, with one program
+abbrev one : Scenario
+one = record { version = One; cap = 4; pages = 1; rule = Held; rows = []; programs = (Set R0 10 ∷ Commit ∷ []) ∷ []; choices = [] }
+
+-- ---- two lines of A and one of the client
+
+-- the transaction begins at A
+abbrev begins : LogLine
+begins = record { choice = Begin 0; outcome = Some (outcome.Began A); sent = None }
+
+-- a run of it at A, of which this came
+abbrev run : Option Outcome → LogLine
+run came = record { choice = Run A 0; outcome = came; sent = None }
+
+-- the lines of A, and then that of the client
+abbrev lines : List LogLine
+lines = run (Some outcome.Did) ∷ run (Some (outcome.Committed 1)) ∷ begins ∷ []
+
+-- the client's line comes first: this is an order
+client_first : IsOrder one (opening one) lines (begins ∷ run (Some outcome.Did) ∷ run (Some (outcome.Committed 1)) ∷ [])
+unfolding table
+client_first = record { merge = record { of_c = refl; of_a = refl; of_b = refl }; fits = ((refl, tt), ((refl, tt), ((refl, tt), tt))) }
+
+-- the lines as they stand are a merge of themselves, and do not fit: the transaction has not begun, and the run is idle
+client_last : Fits one (opening one) lines → ⊥
+unfolding table
+client_last fits = let idle : outcome.Idle ≡ outcome.Did = fits.0.0 in absurd (cc idle)
+
+-- A's own lines keep their order: with the commit before the instruction there is no merge
+commit_first : IsMerge (begins ∷ run (Some (outcome.Committed 1)) ∷ run (Some outcome.Did) ∷ []) lines → ⊥
+commit_first merge =
+    let same : run (Some (outcome.Committed 1)) ∷ run (Some outcome.Did) ∷ [] ≡ run (Some outcome.Did) ∷ run (Some (outcome.Committed 1)) ∷ [] = merge.of_a in
+    absurd (cc same)
+
+-- where the second line of A has another outcome, its first one and the client's are an order of prefixes
+before_the_end : IsPrefixOrder one (opening one) (run (Some outcome.Did) ∷ run (Some (outcome.Committed 2)) ∷ begins ∷ [])
+    (begins ∷ run (Some outcome.Did) ∷ [])
+unfolding table
+before_the_end = record {
+  prefixes = λ x. elim x [
+    | actor.C ↦ ([], refl)
+    | actor.A ↦ (run (Some (outcome.Committed 2)) ∷ [], refl)
+    | actor.B ↦ ([], refl)
+  ];
+  fits = ((refl, tt), ((refl, tt), tt));
+}
+
+-- ---- an unknown outcome
+
+-- a run of which nothing was logged fits before the transaction begins, and after it
+idle_first : Fits one (opening one) (run None ∷ begins ∷ [])
+unfolding table
+idle_first = ((tt, tt), ((refl, tt), tt))
+
+-- after it too
+begun_first : Fits one (opening one) (begins ∷ run None ∷ [])
+unfolding table
+begun_first = ((refl, tt), ((tt, tt), tt))
+
+-- ---- a message
+
+-- a migration starts
+abbrev starts : LogLine
+starts = record { choice = Start; outcome = Some outcome.Started; sent = Some kind.Wire }
+
+-- B takes the wireframe, and a message of this kind was logged, or none
+abbrev takes : Option Kind → LogLine
+takes sent = record { choice = Take B; outcome = Some outcome.GotWire; sent = sent }
+
+-- it sends ready
+sends_ready : Fits one (opening one) (starts ∷ takes (Some kind.Ready) ∷ [])
+unfolding table
+sends_ready = ((refl, refl), ((refl, refl), tt))
+
+-- a line without a message agrees with that
+says_nothing : Fits one (opening one) (starts ∷ takes None ∷ [])
+unfolding table
+says_nothing = ((refl, refl), ((refl, tt), tt))
+
+-- one with another message does not
+sends_no_dual : Fits one (opening one) (starts ∷ takes (Some kind.Dual) ∷ []) → ⊥
+unfolding table
+sends_no_dual fits = let sent : Some kind.Ready ≡ Some kind.Dual = fits.1.0.1 in absurd (cc sent)
