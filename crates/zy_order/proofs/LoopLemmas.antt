@@ -2,6 +2,7 @@
 use Rattle.std.proofs.Common.{◌≡◌, ◌∙◌, ℕ, ◌+◌, ◌<◌, ◌≤◌, ◌⊎◌, inl, inr, List, [], ◌∷◌, ◌++◌, length, refl, sym, ap, subst, arith}
 use Rattle.std.proofs.Common.{slice_get, Option, None, Some, Result, Ok, Err, OnOk, IfOk}
 use Rattle.std.specs.Prelude.{Contains, IsSome, option_to_list}
+use Rattle.std.proofs.Math.Bool.{false≢true}
 use Rattle.std.proofs.lemmas.Bool.{cases_lt}
 use Rattle.std.proofs.lemmas.List.Elements.{Contains-append_left, Contains-push, Contains-push_cases}
 use Rattle.std.proofs.lemmas.Option.{slice_get_within}
@@ -64,7 +65,7 @@ pub taken : (p : Plan) (r new : Reached) (o : Option ℕ) → IsReached p r → 
 taken p r new None is followed e some paths =
     subst (λ (ps : List (List Choice)). (i : ℕ) → i < length ps → IsFollowed p.start p.logs ps i) (sym paths) (λ i lt.
     elim (followed i lt) [
-      | inl here ↦ absurd (some (omega (arith, here.1)))
+      | inl here ↦ absurd (false≢true (some (omega (arith, here.1))))
       | inr done ↦ done
     ])
 taken p r new (Some at) is followed e some paths =

@@ -15,7 +15,7 @@ use Rattle.zy_order.specs.declared.cursors.Cursors.{Cursors}
 use Rattle.zy_order.specs.declared.plan.Plan.{Plan}
 use Rattle.zy_order.specs.declared.reached.Reached.{Reached}
 use Rattle.zy_order.specs.Orders.{entry_at}
-use Rattle.zy_order.specs.Ways.{cursor, at_start, advanced, matched, IsAtEnd, HasNext, IsWay, cursors_after}
+use Rattle.zy_order.specs.Ways.{log_of, cursor, at_start, advanced, matched, IsAtEnd, HasNext, IsWay, cursors_after}
 use Rattle.zy_order.specs.Reaches.{cursors_at, kept_at, entry_by, IsKnown, IsReached, IsMet, IsFollowed, IsFurthest, IsLongestWay, IsPlan, Leads}
 use Rattle.zy_order.proofs.WayLemmas.{matched_after, within_after, within_start, fewer_matched, log_few}
 
@@ -108,6 +108,6 @@ followed_grown h l ps qs i grows lt is = record {
 pub cursor_few : (p : Plan) (r : Reached) (b : Branch) (m : History) → IsPlan p → IsReached p r → Leads p r b m
     → cursor (actor_of b.by) (kept_at r b.from) < 65535
 cursor_few p r b m plan is leads =
-    let lt = slice_get_within _ _ leads.line.line leads.line.next in
+    let lt = slice_get_within (log_of (actor_of b.by) p.logs) (cursor (actor_of b.by) (cursors_at r.visited b.from)) leads.line.line leads.line.next in
     let same = ap (cursor (actor_of b.by)) (is.kept b.from leads.there) in
     omega (arith, lt, same, log_few (actor_of b.by) p.logs, plan.room)

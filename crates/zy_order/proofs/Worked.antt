@@ -1,7 +1,8 @@
 -- Worked logs: which orders of their lines fit, computed.
-use Rattle.std.proofs.Common.{◌≡◌, ℕ, List, [], ◌∷◌, Option, None, Some, refl}
+use Rattle.std.proofs.Common.{◌≡◌, ℕ, List, [], ◌∷◌, Option, None, Some, get_or, refl, ap}
 use Rattle.zy_isa.specs.declared.version.Version.TheVariants.{One}
 use Rattle.zy_isa.specs.declared.node.Node.TheVariants.{A, B}
+use Rattle.zy_isa.specs.declared.node.Actor.{Actor}
 use Rattle.zy_isa.specs.declared.node.Actor.TheVariants as actor
 use Rattle.zy_isa.specs.declared.rule.Rule.TheVariants.{Held}
 use Rattle.zy_isa.specs.declared.instr.Reg.TheVariants.{R0}
@@ -19,7 +20,7 @@ use Rattle.zy_table.specs.Run.{set_step, commit_or_gone, commit_step, effect_ste
 use Rattle.zy_table.specs.Take.{arrival_step, pull_step, message_step, front_step, take_step}
 use Rattle.zy_table.specs.Play.{move, step, opening_leaves, opening}
 use Rattle.zy_order.specs.declared.log_line.LogLine.{LogLine}
-use Rattle.zy_order.specs.Orders.{Agrees, Fits, entry_at, IsMerge, IsOrder, IsPrefixOrder}
+use Rattle.zy_order.specs.Orders.{Fits, lines_of, IsMerge, IsOrder, IsPrefix, IsPrefixOrder}
 
 -- opens the lines of the table that the examples use
 unfoldable table : ℕ
@@ -55,24 +56,28 @@ client_last : Fits one (opening one) lines → ⊥
 unfolding table
 client_last fits = let idle : outcome.Idle ≡ outcome.Did = fits.0.0 in absurd (cc idle)
 
+-- these outcomes differ
+apart : Some (outcome.Committed 1) ≡ Some outcome.Did → ⊥
+apart e = absurd (cc e)
+
 -- A's own lines keep their order: with the commit before the instruction there is no merge
 commit_first : IsMerge (begins ∷ run (Some (outcome.Committed 1)) ∷ run (Some outcome.Did) ∷ []) lines → ⊥
-commit_first merge =
-    let same : run (Some (outcome.Committed 1)) ∷ run (Some outcome.Did) ∷ [] ≡ run (Some outcome.Did) ∷ run (Some (outcome.Committed 1)) ∷ [] = merge.of_a in
-    absurd (cc same)
+commit_first merge = apart (ap (λ (ls : List LogLine). (get_or ls 0 begins).outcome) merge.of_a)
 
--- where the second line of A has another outcome, its first one and the client's are an order of prefixes
-before_the_end : IsPrefixOrder one (opening one) (run (Some outcome.Did) ∷ run (Some (outcome.Committed 2)) ∷ begins ∷ [])
-    (begins ∷ run (Some outcome.Did) ∷ [])
+-- the lines with another outcome at the end of A's
+abbrev changed : List LogLine
+changed = run (Some outcome.Did) ∷ run (Some (outcome.Committed 2)) ∷ begins ∷ []
+
+-- of each actor the client's line and A's first one are a prefix of those
+prefixes : (x : Actor) → IsPrefix (lines_of x (begins ∷ run (Some outcome.Did) ∷ [])) (lines_of x changed)
+prefixes actor.C = ([], refl)
+prefixes actor.A = (run (Some (outcome.Committed 2)) ∷ [], refl)
+prefixes actor.B = ([], refl)
+
+-- and so they are an order of prefixes
+before_the_end : IsPrefixOrder one (opening one) changed (begins ∷ run (Some outcome.Did) ∷ [])
 unfolding table
-before_the_end = record {
-  prefixes = λ x. elim x [
-    | actor.C ↦ ([], refl)
-    | actor.A ↦ (run (Some (outcome.Committed 2)) ∷ [], refl)
-    | actor.B ↦ ([], refl)
-  ];
-  fits = ((refl, tt), ((refl, tt), tt));
-}
+before_the_end = record { prefixes = prefixes; fits = ((refl, tt), ((refl, tt), tt)) }
 
 -- ---- an unknown outcome
 
