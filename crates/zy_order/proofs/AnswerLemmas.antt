@@ -1,5 +1,5 @@
 -- What is answered of the ways along the logs is answered of the orders of the lines.
-use Rattle.std.proofs.Common.{◌≡◌, ◌∙◌, List, [], ◌∷◌, ◌++◌, length, refl, sym, ap, subst, arith, drop, append-nil}
+use Rattle.std.proofs.Common.{◌≡◌, ◌∙◌, List, [], ◌++◌, length, refl, sym, ap, subst, arith, drop, append-nil}
 use Rattle.std.proofs.lemmas.List.{drop_all}
 use Rattle.zy_isa.specs.declared.node.Actor.{Actor}
 use Rattle.zy_isa.specs.declared.node.Actor.TheVariants.{C, A, B}

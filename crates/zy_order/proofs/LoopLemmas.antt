@@ -1,28 +1,21 @@
 -- One path after another is followed.
-use Rattle.std.proofs.Common.{◌≡◌, ◌∙◌, ℕ, ◌+◌, ◌<◌, ◌≤◌, ◌⊎◌, inl, inr, List, [], ◌∷◌, ◌++◌, length, refl, sym, ap, subst, arith}
-use Rattle.std.proofs.Common.{slice_get, Option, None, Some, Result, Ok, Err, OnOk, IfOk}
+use Rattle.std.proofs.Common.{◌≡◌, ◌∙◌, ℕ, ◌<◌, inl, inr, List, [], ◌∷◌, ◌++◌, length, sym, ap, subst, arith}
+use Rattle.std.proofs.Common.{Option, None, Some, Result, Ok, Err, OnOk, IfOk}
 use Rattle.std.specs.Prelude.{Contains, IsSome, option_to_list}
 use Rattle.std.proofs.Math.Bool.{false≢true}
 use Rattle.std.proofs.lemmas.Bool.{cases_lt}
 use Rattle.std.proofs.lemmas.List.Elements.{Contains-append_left, Contains-push, Contains-push_cases}
-use Rattle.std.proofs.lemmas.Option.{slice_get_within}
 use Rattle.zy_isa.specs.declared.choice.Choice.{Choice}
-use Rattle.zy_isa.specs.declared.node.Actor.{Actor}
-use Rattle.zy_isa.specs.Choices.{actor_of}
-use Rattle.zy_table.specs.Play.{step}
 use Rattle.zy_machine.specs.Histories.{History}
-use Rattle.zy_search.specs.Searches.{reached}
-use Rattle.zy_search.specs.Visits.{path_at, Grows}
+use Rattle.zy_search.specs.Visits.{path_at}
 use Rattle.zy_search.specs.declared.shelf.Shelf.{Shelf}
 use Rattle.zy_order.specs.declared.logs.Logs.{Logs}
-use Rattle.zy_order.specs.declared.log_line.LogLine.{LogLine}
 use Rattle.zy_order.specs.declared.cursors.Cursors.{Cursors}
 use Rattle.zy_order.specs.declared.plan.Plan.{Plan}
 use Rattle.zy_order.specs.declared.reached.Reached.{Reached}
 use Rattle.zy_order.specs.declared.turns.Turns.{Turns}
-use Rattle.zy_order.specs.Orders.{Agrees, entry_at}
-use Rattle.zy_order.specs.Ways.{log_of, cursor, at_start, cursors_in, advanced, cursors_after, IsAtEnd, HasNext}
-use Rattle.zy_order.specs.Reaches.{cursors_at, entry_by, state_by, cursors_by, IsKnown, IsReached, IsMet, IsExpanded, IsFollowed, AreFollowedBut, AreAll}
+use Rattle.zy_order.specs.Ways.{cursors_in, IsAtEnd}
+use Rattle.zy_order.specs.Reaches.{cursors_at, IsReached, IsMet, IsExpanded, IsFollowed, AreFollowedBut, AreAll}
 use Rattle.zy_order.specs.Reaches.{Adds, IsTaken, IsWayOf}
 use Rattle.zy_order.proofs.ReachLemmas.{cursors_grown, followed_grown}
 
@@ -96,52 +89,7 @@ followed_next p r new at machines is adds part expanded = λ i there.
           ]
     ]
 
--- ---- the next line of an actor
-
--- where there is none, none fits
-pub met_none : (h : History) (l : Logs) (ps : List (List Choice)) (at : ℕ) (x : Actor) → length (log_of x l) ≤ cursor x (cursors_at ps at) → IsMet h l ps at x
-met_none h l ps at x le = λ c own t.
-    let next : slice_get (log_of x l) (cursor x (cursors_at ps at)) ≡ Some t.line =
-    subst (λ (y : Actor). slice_get (log_of y l) (cursor y (cursors_at ps at)) ≡ Some t.line) own t.next in
-    absurd (omega (arith, le, slice_get_within (log_of x l) (cursor x (cursors_at ps at)) t.line next))
-
--- it is the only one
-only_line : (l : Logs) (ps : List (List Choice)) (at : ℕ) (x : Actor) (line other : LogLine)
-    → slice_get (log_of x l) (cursor x (cursors_at ps at)) ≡ Some line
-    → slice_get (log_of x l) (cursor x (cursors_at ps at)) ≡ Some other
-    → line ≡ other
-only_line l ps at x line other e f = let same : Some line ≡ Some other = sym e ∙ f in cc same
-
--- where it does not agree with what comes of its choice, none fits
-pub met_not : (h : History) (l : Logs) (ps : List (List Choice)) (at : ℕ) (x : Actor) (line : LogLine)
-    → slice_get (log_of x l) (cursor x (cursors_at ps at)) ≡ Some line
-    → (Agrees line (entry_by h ps at line.choice) → ⊥)
-    → IsMet h l ps at x
-met_not h l ps at x line e wrong = λ c own t.
-    let next : slice_get (log_of x l) (cursor x (cursors_at ps at)) ≡ Some t.line =
-    subst (λ (y : Actor). slice_get (log_of y l) (cursor y (cursors_at ps at)) ≡ Some t.line) own t.next in
-    let same = only_line l ps at x t.line line next e in
-    let agrees : Agrees t.line (entry_by h ps at t.line.choice) =
-    subst (λ (d : Choice). Agrees t.line (entry_by h ps at d)) (sym t.choice) t.agrees in
-    absurd (wrong (subst (λ (m : LogLine). Agrees m (entry_by h ps at m.choice)) same agrees))
-
--- where it does, and where its choice leads is known, it is met
-pub met_known : (h : History) (l : Logs) (ps qs : List (List Choice)) (at : ℕ) (x : Actor) (line : LogLine)
-    → slice_get (log_of x l) (cursor x (cursors_at ps at)) ≡ Some line
-    → Grows ps qs
-    → at < length ps
-    → IsKnown h qs (cursors_by ps at line.choice) (state_by h ps at line.choice)
-    → IsMet h l qs at x
-met_known h l ps qs at x line e grows lt known =
-    let goal : (c : Choice) → actor_of c ≡ x → HasNext l (cursors_at ps at) (entry_by h ps at c)
-    → IsKnown h qs (cursors_by ps at c) (state_by h ps at c) = λ c own t.
-    let next : slice_get (log_of x l) (cursor x (cursors_at ps at)) ≡ Some t.line =
-    subst (λ (y : Actor). slice_get (log_of y l) (cursor y (cursors_at ps at)) ≡ Some t.line) own t.next in
-    let same : line.choice ≡ c = ap (λ (m : LogLine). m.choice) (only_line l ps at x line t.line e next) ∙ t.choice in
-    subst (λ (d : Choice). IsKnown h qs (cursors_by ps at d) (state_by h ps at d)) same known in
-    λ c own.
-    subst (λ (p : List Choice). HasNext l (cursors_after at_start p) (entry_at h.scenario (reached h p) c)
-    → IsKnown h qs (advanced (actor_of c) (cursors_after at_start p)) (step h.scenario c (reached h p)).after) (sym (grows.same at lt)) (goal c own)
+-- ---- the three actors
 
 -- where the lines of three actors are met, and these are all, the path is expanded
 pub all_met : (h : History) (l : Logs) (ps : List (List Choice)) (at : ℕ) (t : Turns) → AreAll t → IsMet h l ps at t.first → IsMet h l ps at t.second

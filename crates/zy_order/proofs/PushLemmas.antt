@@ -1,5 +1,5 @@
 -- A path more.
-use Rattle.std.proofs.Common.{◌≡◌, ◌∙◌, ℕ, ◌+◌, ◌<◌, ◌≤◌, ◌^◌, ◌⊎◌, inl, inr, List, [], ◌∷◌, ◌++◌, length, refl, sym, ap, subst, arith, length-append}
+use Rattle.std.proofs.Common.{◌≡◌, ◌∙◌, ℕ, ◌+◌, ◌<◌, ◌^◌, ◌⊎◌, inl, inr, List, [], ◌∷◌, ◌++◌, length, refl, sym, ap, subst, arith, length-append}
 use Rattle.std.specs.Prelude.{Contains}
 use Rattle.std.proofs.lemmas.Bool.{cases_lt}
 use Rattle.std.proofs.lemmas.List.{get_or_append_left, get_or_push}
@@ -11,7 +11,7 @@ use Rattle.zy_search.specs.Searches.{reached}
 use Rattle.zy_search.specs.Visits.{path_at, Grows, IsHere, IsShelf}
 use Rattle.zy_search.specs.declared.branch.Branch.{Branch}
 use Rattle.zy_search.specs.declared.shelf.Shelf.{Shelf}
-use Rattle.zy_search.proofs.SearchLemmas.{reached_more, grows_push, grows_on, grows_not, before_it, it, old_or_new}
+use Rattle.zy_search.proofs.SearchLemmas.{reached_more, grows_push, grows_on, before_it, it, old_or_new}
 use Rattle.zy_search.proofs.ShelfLemmas.{shelf_grown}
 use Rattle.zy_order.specs.declared.cursors.Cursors.{Cursors}
 use Rattle.zy_order.specs.declared.plan.Plan.{Plan}
@@ -145,16 +145,6 @@ module _ (p : Plan) (r new : Reached) (b : Branch) (m : History) (is : IsReached
     still = λ i at.
         subst (λ (l : List ℕ). Contains l i) (sym todo) (Contains-append_left r.todo.items (length r.visited ∷ []) i at);
   }
-
--- no path is added
-pub adds_not : (p : Plan) (r : Reached) (machines : Shelf) → IsReached p r → IsShelf p.start r.visited machines → Adds p r r machines
-adds_not p r machines is shelf = record {
-  reached = is;
-  shelf = shelf;
-  grows = grows_not r.visited;
-  more = λ i le lt. absurd (omega (arith, le, lt));
-  still = λ i at. at;
-}
 
 -- paths are added, and then others
 pub adds_on : (p : Plan) (r s t : Reached) (m n : Shelf) → Adds p r s m → Adds p s t n → Adds p r t n

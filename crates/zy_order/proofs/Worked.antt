@@ -6,7 +6,6 @@ use Rattle.zy_isa.specs.declared.node.Actor.{Actor}
 use Rattle.zy_isa.specs.declared.node.Actor.TheVariants as actor
 use Rattle.zy_isa.specs.declared.rule.Rule.TheVariants.{Held}
 use Rattle.zy_isa.specs.declared.instr.Reg.TheVariants.{R0}
-use Rattle.zy_isa.specs.declared.instr.Instr.{Instr}
 use Rattle.zy_isa.specs.declared.instr.Instr.TheVariants.{Set, Commit}
 use Rattle.zy_isa.specs.declared.choice.Choice.TheVariants.{Start, Begin, Run, Take}
 use Rattle.zy_isa.specs.Scenario.{Scenario}

@@ -1,5 +1,4 @@
 -- The next line is met: it fits and where it leads is known, or it does not fit.
-use Rattle.std.proofs.Common.{arith}
 use Rattle.zy_order.specs.Ways.{cursor}
 use Rattle.zy_order.proofs.expand.meet.Goals as goal
 

@@ -1,5 +1,5 @@
 -- Outcomes are the same where their codes are.
-use Rattle.std.proofs.Common.{◌≡◌, ◌∙◌, ap, sym, true}
+use Rattle.std.proofs.Common.{◌∙◌, ap, sym}
 use Rattle.zy_order.specs.Codes.{code_of}
 use Rattle.zy_order.proofs.CodeLemmas.{same_code}
 use Rattle.zy_order.proofs.log_line.is_same.Goals as goal

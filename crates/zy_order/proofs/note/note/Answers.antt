@@ -1,8 +1,7 @@
 -- A path that leads to the twin's state is known, or the new one is kept.
-use Rattle.std.proofs.Common.{◌≡◌, ◌∙◌, ap}
+use Rattle.std.proofs.Common.{◌∙◌, ap}
 use Rattle.zy_isa.specs.Choices.{actor_of}
 use Rattle.zy_order.specs.Ways.{advanced}
-use Rattle.zy_order.proofs.PushLemmas.{adds_not}
 use Rattle.zy_order.proofs.ReachLemmas.{cursor_few}
 use Rattle.zy_order.proofs.note.note.Goals as goal
 
