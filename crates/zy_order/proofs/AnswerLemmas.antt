@@ -11,7 +11,7 @@ use Rattle.zy_order.specs.declared.plan.Plan.{Plan}
 use Rattle.zy_order.specs.declared.answer.Answer.{Answer}
 use Rattle.zy_order.specs.declared.answer.Answer.TheVariants.{Found, Nowhere, Spent}
 use Rattle.zy_order.specs.Orders.{lines_of, choices_of, IsMerge, IsPrefix, IsPrefixOrder}
-use Rattle.zy_order.specs.Ways.{log_of, cursor, at_start, IsAtEnd, IsWay, cursors_after, AreLogs}
+use Rattle.zy_order.specs.Ways.{log_of, cursor, at_start, AreMatched, IsWay, cursors_after, AreLogs}
 use Rattle.zy_order.specs.Answers.{MatchesAll, MatchesPrefixes, IsNowhere, IsAnswer}
 use Rattle.zy_order.specs.Reaches.{AnswersFor}
 use Rattle.zy_order.proofs.OrderLemmas.{order_of, way_of}
@@ -51,7 +51,7 @@ module _ (h : History) (lines : List LogLine) (l : Logs) (is : AreLogs lines l) 
       )
 
   -- one to the end of the logs matches all lines
-  matches_all : (cs : List Choice) → IsWay h.scenario l at_start h.state cs → IsAtEnd l (cursors_after at_start cs) → MatchesAll h lines cs
+  matches_all : (cs : List Choice) → IsWay h.scenario l at_start h.state cs → AreMatched l (cursors_after at_start cs) → MatchesAll h lines cs
   matches_all cs way end =
       let order = order_of h.scenario l at_start h.state cs way in
       let to = cursors_after at_start cs in

@@ -14,8 +14,8 @@ use Rattle.zy_order.specs.declared.cursors.Cursors.{Cursors}
 use Rattle.zy_order.specs.declared.plan.Plan.{Plan}
 use Rattle.zy_order.specs.declared.reached.Reached.{Reached}
 use Rattle.zy_order.specs.declared.turns.Turns.{Turns}
-use Rattle.zy_order.specs.Ways.{cursors_in, IsAtEnd}
-use Rattle.zy_order.specs.Reaches.{cursors_at, IsReached, IsMet, IsExpanded, IsFollowed, AreFollowedBut, AreAll}
+use Rattle.zy_order.specs.Ways.{cursors_in, AreMatched}
+use Rattle.zy_order.specs.Reaches.{cursors_at, IsReached, IsMet, IsExpanded, IsFollowed, AreFollowedBut, HasEachActor}
 use Rattle.zy_order.specs.Reaches.{Adds, IsTaken, IsWayOf}
 use Rattle.zy_order.proofs.ReachLemmas.{cursors_grown, followed_grown}
 
@@ -70,7 +70,7 @@ taken p r new (Some at) is followed e some paths =
 
 -- once its path is expanded, each but those that are to do then was followed
 pub followed_next : (p : Plan) (r new : Reached) (at : ℕ) (machines : Shelf) → IsTaken p r (Some at) → Adds p r new machines
-    → (IsAtEnd p.logs (cursors_at r.visited at) → ⊥) → IsExpanded p.start p.logs new.visited at
+    → (AreMatched p.logs (cursors_at r.visited at) → ⊥) → IsExpanded p.start p.logs new.visited at
     → AreFollowedBut p.start p.logs new.visited new.todo.items
 followed_next p r new at machines is adds part expanded = λ i there.
     elim (cases_lt i (length r.visited)) [
@@ -82,7 +82,7 @@ followed_next p r new at machines is adds part expanded = λ i there.
                 elim (Contains-push_cases r.todo.items at i here) [
                   | inl left ↦ inl (adds.still i left)
                   | inr same ↦ inr (subst (IsFollowed p.start p.logs new.visited) same (record {
-                    part = λ end. part (subst (IsAtEnd p.logs) (cursors_grown r.visited new.visited at adds.grows is.0) end);
+                    part = λ end. part (subst (AreMatched p.logs) (cursors_grown r.visited new.visited at adds.grows is.0) end);
                     expanded = expanded;
                   }))
                 ]
@@ -92,7 +92,7 @@ followed_next p r new at machines is adds part expanded = λ i there.
 -- ---- the three actors
 
 -- where the lines of three actors are met, and these are all, the path is expanded
-pub all_met : (h : History) (l : Logs) (ps : List (List Choice)) (at : ℕ) (t : Turns) → AreAll t → IsMet h l ps at t.first → IsMet h l ps at t.second
+pub all_met : (h : History) (l : Logs) (ps : List (List Choice)) (at : ℕ) (t : Turns) → HasEachActor t → IsMet h l ps at t.first → IsMet h l ps at t.second
     → IsMet h l ps at t.third
     → IsExpanded h l ps at
 all_met h l ps at t all first second third = λ x.

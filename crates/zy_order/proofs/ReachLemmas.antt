@@ -15,7 +15,7 @@ use Rattle.zy_order.specs.declared.cursors.Cursors.{Cursors}
 use Rattle.zy_order.specs.declared.plan.Plan.{Plan}
 use Rattle.zy_order.specs.declared.reached.Reached.{Reached}
 use Rattle.zy_order.specs.Orders.{entry_at}
-use Rattle.zy_order.specs.Ways.{log_of, cursor, at_start, advanced, matched, IsAtEnd, HasNext, IsWay, cursors_after}
+use Rattle.zy_order.specs.Ways.{log_of, cursor, at_start, advanced, matched, AreMatched, HasNext, IsWay, cursors_after}
 use Rattle.zy_order.specs.Reaches.{cursors_at, kept_at, entry_by, IsKnown, IsReached, IsMet, IsFollowed, IsFurthest, IsLongestWay, IsPlan, Leads}
 use Rattle.zy_order.proofs.WayLemmas.{matched_after, within_after, within_start, fewer_matched, log_few}
 
@@ -98,7 +98,7 @@ met_grown h l ps qs i x grows lt met = λ c own.
 -- a path that was followed still is
 pub followed_grown : (h : History) (l : Logs) (ps qs : List (List Choice)) (i : ℕ) → Grows ps qs → i < length ps → IsFollowed h l ps i → IsFollowed h l qs i
 followed_grown h l ps qs i grows lt is = record {
-  part = λ end. is.part (subst (IsAtEnd l) (cursors_grown ps qs i grows lt) end);
+  part = λ end. is.part (subst (AreMatched l) (cursors_grown ps qs i grows lt) end);
   expanded = λ x. met_grown h l ps qs i x grows lt (is.expanded x);
 }
 

@@ -12,7 +12,7 @@ use Rattle.zy_table.specs.Play.{play, step}
 use Rattle.zy_order.specs.declared.logs.Logs.{Logs}
 use Rattle.zy_order.specs.declared.cursors.Cursors.{Cursors}
 use Rattle.zy_order.specs.Orders.{entry_at}
-use Rattle.zy_order.specs.Ways.{log_of, cursor, at_start, advanced, matched, line_count, IsAtEnd, IsWithin, HasNext, IsWay, cursors_after, AreLinesOf}
+use Rattle.zy_order.specs.Ways.{log_of, cursor, at_start, advanced, matched, line_count, AreMatched, IsWithin, HasNext, IsWay, cursors_after, AreLinesOf}
 
 -- ---- how far
 
@@ -46,7 +46,7 @@ pub within_start : (l : Logs) → IsWithin l at_start
 within_start l = record { of_c = omega arith; of_a = omega arith; of_b = omega arith }
 
 -- where as many lines are matched as there are, all are
-all_matched : (l : Logs) (g : Cursors) → IsWithin l g → line_count l ≤ matched g → IsAtEnd l g
+all_matched : (l : Logs) (g : Cursors) → IsWithin l g → line_count l ≤ matched g → AreMatched l g
 all_matched l g w le = record {
   of_c = omega (arith, le, w.of_c, w.of_a, w.of_b);
   of_a = omega (arith, le, w.of_c, w.of_a, w.of_b);
@@ -54,7 +54,7 @@ all_matched l g w le = record {
 }
 
 -- where not all lines are matched fewer are than there are
-pub fewer_matched : (l : Logs) (g : Cursors) → IsWithin l g → (IsAtEnd l g → ⊥) → matched g < line_count l
+pub fewer_matched : (l : Logs) (g : Cursors) → IsWithin l g → (AreMatched l g → ⊥) → matched g < line_count l
 fewer_matched l g w part =
     elim (cases_lt (matched g) (line_count l)) [
       | inl less ↦ less

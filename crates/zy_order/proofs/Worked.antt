@@ -67,25 +67,25 @@ commit_first merge = apart (ap (λ (ls : List LogLine). (get_or ls 0 begins).out
 abbrev changed : List LogLine
 changed = run (Some outcome.Did) ∷ run (Some (outcome.Committed 2)) ∷ begins ∷ []
 
--- of each actor the client's line and A's first one are a prefix of those
+-- the client's line and A's first one have a prefix of each actor's lines
 prefixes : (x : Actor) → IsPrefix (lines_of x (begins ∷ run (Some outcome.Did) ∷ [])) (lines_of x changed)
 prefixes actor.C = ([], refl)
 prefixes actor.A = (run (Some (outcome.Committed 2)) ∷ [], refl)
 prefixes actor.B = ([], refl)
 
--- and so they are an order of prefixes
+-- and they fit: an order of prefixes
 before_the_end : IsPrefixOrder one (opening one) changed (begins ∷ run (Some outcome.Did) ∷ [])
 unfolding table
 before_the_end = record { prefixes = prefixes; fits = ((refl, tt), ((refl, tt), tt)) }
 
 -- ---- an unknown outcome
 
--- a run of which nothing was logged fits before the transaction begins, and after it
+-- a run without an outcome fits where the transaction has not begun
 idle_first : Fits one (opening one) (run None ∷ begins ∷ [])
 unfolding table
 idle_first = ((tt, tt), ((refl, tt), tt))
 
--- after it too
+-- and where it has
 begun_first : Fits one (opening one) (begins ∷ run None ∷ [])
 unfolding table
 begun_first = ((refl, tt), ((tt, tt), tt))
@@ -96,16 +96,16 @@ begun_first = ((refl, tt), ((tt, tt), tt))
 abbrev starts : LogLine
 starts = record { choice = Start; outcome = Some outcome.Started; sent = Some kind.Wire }
 
--- B takes the wireframe, and a message of this kind was logged, or none
+-- B takes the wireframe, and this message was logged, or none
 abbrev takes : Option Kind → LogLine
 takes sent = record { choice = Take B; outcome = Some outcome.GotWire; sent = sent }
 
--- it sends ready
+-- it sends ready, as was logged
 sends_ready : Fits one (opening one) (starts ∷ takes (Some kind.Ready) ∷ [])
 unfolding table
 sends_ready = ((refl, refl), ((refl, refl), tt))
 
--- a line without a message agrees with that
+-- a line without a message agrees with that too
 says_nothing : Fits one (opening one) (starts ∷ takes None ∷ [])
 unfolding table
 says_nothing = ((refl, refl), ((refl, tt), tt))

@@ -27,7 +27,7 @@ MatchesPrefixes h lines cs = (order : List LogLine) × IsPrefixOrder h.scenario 
 abbrev pub HasNoOrder : History → List LogLine → Type 0
 HasNoOrder h lines = (order : List LogLine) → IsOrder h.scenario h.state lines order → ⊥
 
--- no order of prefixes of the logs has more lines than there are choices
+-- no order of prefixes of the logs is longer than these choices
 abbrev pub IsLongest : History → List LogLine → List Choice → Type 0
 IsLongest h lines cs = (order : List LogLine) → IsPrefixOrder h.scenario h.state lines order → length order ≤ length cs
 

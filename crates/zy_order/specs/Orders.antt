@@ -11,8 +11,7 @@ use Rattle.zy_table.specs.Play.{step, entry_of}
 use Rattle.zy_threads.specs.Turns.{is_by}
 use Rattle.zy_order.specs.declared.log_line.LogLine.{LogLine}
 
--- a line agrees with what came of its choice: the outcome is the logged one, and a message was sent of the logged kind;
--- where the line has no outcome any agrees, and where it has no kind it does not matter what was sent
+-- a line agrees with an entry: if it has an outcome, that is the entry's, and if it has a kind, such a message was sent
 abbrev pub Agrees : LogLine → Entry → Type 0
 Agrees line e = IfSome line.outcome (λ outcome. e.outcome ≡ outcome) × IfSome line.sent (λ kind. e.sent ≡ Some kind)
 
@@ -20,12 +19,12 @@ Agrees line e = IfSome line.outcome (λ outcome. e.outcome ≡ outcome) × IfSom
 abbrev pub entry_at : Scenario → State → Choice → Entry
 entry_at sc s c = entry_of c (step sc c s)
 
--- lines fit a state: where their choices are made from there, one after another, each agrees with what comes of its own
+-- lines fit a state: their choices are made from it, one after another, and each line agrees with the entry of its own
 abbrev pub Fits : Scenario → State → List LogLine → Type 0
 Fits sc s [] = Unit {0}
 Fits sc s (line ∷ lines) = Agrees line (entry_at sc s line.choice) × Fits sc (step sc line.choice s).after lines
 
--- the log of an actor: its lines among all, in order
+-- the log of an actor: those of the lines that are its own, in order
 abbrev pub lines_of : Actor → List LogLine → List LogLine
 lines_of x lines = filter (λ (line : LogLine). is_by x line.choice) lines
 
@@ -44,7 +43,7 @@ pub record IsOrder (sc : Scenario) (s : State) (lines order : List LogLine) : Ty
 abbrev pub IsPrefix : List LogLine → List LogLine → Type 0
 IsPrefix xs ys = (rest : List LogLine) × (ys ≡ xs ++ rest)
 
--- an order of prefixes of the logs: a prefix of each actor's lines, and together they fit the state
+-- an order of prefixes of the logs: of each actor's log it has a prefix, and it fits the state
 pub record IsPrefixOrder (sc : Scenario) (s : State) (lines order : List LogLine) : Type 0 where
   pub prefixes : (x : Actor) → IsPrefix (lines_of x order) (lines_of x lines)
   pub fits : Fits sc s order

@@ -24,7 +24,7 @@ use Rattle.zy_order.specs.declared.follow.Followed.{Followed}
 use Rattle.zy_order.specs.declared.follow.Followed.TheVariants as followed
 use Rattle.zy_order.specs.Orders.{entry_at}
 use Rattle.zy_order.specs.Ways.{log_of, at_start, cursors_in, advanced, matched, line_count, cursors_after}
-use Rattle.zy_order.specs.Ways.{IsAtEnd, HasNext, IsWay, AreLinesOf}
+use Rattle.zy_order.specs.Ways.{AreMatched, HasNext, IsWay, AreLinesOf}
 
 -- ---- what a search goes by
 
@@ -37,7 +37,7 @@ pub record IsPlan (p : Plan) : Type 0 where
 abbrev pub IsWayOf : Plan → List Choice → Type 0
 IsWayOf p cs = IsWay p.start.scenario p.logs at_start p.start.state cs
 
--- they do, and match fewer lines than there are, and no others match more
+-- a longest way: it does not match all lines, and no way is longer
 pub record IsLongestWay (p : Plan) (cs : List Choice) : Type 0 where
   pub way : IsWayOf p cs
   pub most : (ds : List Choice) → IsWayOf p ds → length ds ≤ length cs
@@ -49,7 +49,7 @@ pub record IsLongestWay (p : Plan) (cs : List Choice) : Type 0 where
 abbrev pub cursors_at : List (List Choice) → ℕ → Cursors
 cursors_at ps i = cursors_after at_start (path_at ps i)
 
--- those that are kept of it
+-- the cursors that are kept of the path at a place
 abbrev pub kept_at : Reached → ℕ → Cursors
 kept_at r i = cursors_in r.cursors.items i
 
@@ -86,11 +86,11 @@ IsFurthest r best = (i : ℕ) → i < length r.cursors.items → matched (kept_a
 abbrev pub entry_by : History → List (List Choice) → ℕ → Choice → Entry
 entry_by h ps i c = entry_at h.scenario (reached h (path_at ps i)) c
 
--- the state after it
+-- the state after a choice where the path at a place leads
 abbrev pub state_by : History → List (List Choice) → ℕ → Choice → State
 state_by h ps i c = (step h.scenario c (reached h (path_at ps i))).after
 
--- the cursors after it
+-- the cursors after a choice where the path at a place leads
 abbrev pub cursors_by : List (List Choice) → ℕ → Choice → Cursors
 cursors_by ps i c = advanced (actor_of c) (cursors_at ps i)
 
@@ -99,27 +99,27 @@ abbrev pub IsMet : History → Logs → List (List Choice) → ℕ → Actor →
 IsMet h logs ps i x = (c : Choice) → actor_of c ≡ x → HasNext logs (cursors_at ps i) (entry_by h ps i c)
     → IsKnown h ps (cursors_by ps i c) (state_by h ps i c)
 
--- so it is of each actor
+-- where the path at a place leads, the next line of each actor is met
 abbrev pub IsExpanded : History → Logs → List (List Choice) → ℕ → Type 0
 IsExpanded h logs ps i = (x : Actor) → IsMet h logs ps i x
 
--- the path at a place does not match all lines, and was followed by each line that may be next
+-- the path at a place was followed: it does not match all lines, and the next line of each actor is met
 pub record IsFollowed (h : History) (logs : Logs) (ps : List (List Choice)) (i : ℕ) : Type 0 where
-  pub part : IsAtEnd logs (cursors_at ps i) → ⊥
+  pub part : AreMatched logs (cursors_at ps i) → ⊥
   pub expanded : IsExpanded h logs ps i
 
--- each path but those to do was followed
+-- each path but those that are to do was followed
 abbrev pub AreFollowedBut : History → Logs → List (List Choice) → List ℕ → Type 0
 AreFollowedBut h logs ps todo = (i : ℕ) → i < length ps → Contains todo i ⊎ IsFollowed h logs ps i
 
--- the last place to do was taken, and each path but it and those to do was followed; or none was to do, and each was
+-- the last place to do was taken, and each path but it and those to do was followed; or none was, and each path was
 abbrev pub IsTaken : Plan → Reached → Option ℕ → Type 0
 IsTaken p r None = (i : ℕ) → i < length r.visited → IsFollowed p.start p.logs r.visited i
 IsTaken p r (Some at) = (at < length r.visited) × AreFollowedBut p.start p.logs r.visited (r.todo.items ++ at ∷ [])
 
--- three actors are all
-abbrev pub AreAll : Turns → Type 0
-AreAll turns = (x : Actor) → (x ≡ turns.first) ⊎ (x ≡ turns.second) ⊎ (x ≡ turns.third)
+-- each actor has a turn
+abbrev pub HasEachActor : Turns → Type 0
+HasEachActor turns = (x : Actor) → (x ≡ turns.first) ⊎ (x ≡ turns.second) ⊎ (x ≡ turns.third)
 
 -- ---- what a part of a search adds
 
@@ -145,14 +145,14 @@ pub record Adds (p : Plan) (old new : Reached) (machines : Shelf) : Type 0 where
 
 -- ---- what comes of it
 
--- what came of following the paths: one matches all lines, or each was followed
+-- what came of following the paths: one matches all lines, or each was followed, or the search gave up
 abbrev pub Settles : Plan → Reached → Followed → Type 0
-Settles p r (followed.Whole i) = (i < length r.visited) × IsAtEnd p.logs (cursors_at r.visited i)
+Settles p r (followed.Whole i) = (i < length r.visited) × AreMatched p.logs (cursors_at r.visited i)
 Settles p r followed.Nowhere = (i : ℕ) → i < length r.visited → IsFollowed p.start p.logs r.visited i
 Settles p r followed.Spent = Unit {0}
 
 -- what each answer says of the ways along the logs
 abbrev pub AnswersFor : Plan → Answer → Type 0
-AnswersFor p (answer.Found v) = IsWayOf p v.items × IsAtEnd p.logs (cursors_after at_start v.items)
+AnswersFor p (answer.Found v) = IsWayOf p v.items × AreMatched p.logs (cursors_after at_start v.items)
 AnswersFor p (answer.Nowhere v) = IsLongestWay p v.items
 AnswersFor p (answer.Spent v) = IsWayOf p v.items

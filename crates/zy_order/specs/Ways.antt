@@ -29,11 +29,11 @@ cursor B cursors = cursors.b
 abbrev pub at_start : Cursors
 at_start = record { c = 0; a = 0; b = 0 }
 
--- those at a place of a list
+-- the cursors at a place of a list
 abbrev pub cursors_in : List Cursors → ℕ → Cursors
 cursors_in list at = slice_index_or list at at_start
 
--- one line more of an actor is matched
+-- the cursors where one line more of an actor is matched
 abbrev pub advanced : Actor → Cursors → Cursors
 advanced C cursors = record { c = cursors.c + 1; a = cursors.a; b = cursors.b }
 advanced A cursors = record { c = cursors.c; a = cursors.a + 1; b = cursors.b }
@@ -48,7 +48,7 @@ abbrev pub line_count : Logs → ℕ
 line_count logs = length logs.c.items + (length logs.a.items + length logs.b.items)
 
 -- all lines are matched
-pub record IsAtEnd (logs : Logs) (cursors : Cursors) : Type 0 where
+pub record AreMatched (logs : Logs) (cursors : Cursors) : Type 0 where
   pub of_c : cursors.c ≡ length logs.c.items
   pub of_a : cursors.a ≡ length logs.a.items
   pub of_b : cursors.b ≡ length logs.b.items
@@ -82,7 +82,7 @@ abbrev pub AreLinesOf : ℕ → Actor → List LogLine → Type 0
 AreLinesOf count x lines = (i : ℕ) → (line : LogLine) → slice_get lines i ≡ Some line
     → (actor_of line.choice ≡ x) × (names_below count line.choice ≡ true)
 
--- the logs have each actor's lines
+-- the logs have the lines of their actors
 pub record AreLogs (lines : List LogLine) (logs : Logs) : Type 0 where
   pub of_c : logs.c.items ≡ lines_of C lines
   pub of_a : logs.a.items ≡ lines_of A lines

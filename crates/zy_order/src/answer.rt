@@ -10,8 +10,8 @@ pub enum Answer {
     Found(Vec<Choice>),
     /// There is no order. These are the choices of an order of prefixes of the logs, and none has more lines.
     Nowhere(Vec<Choice>),
-    /// It is not known whether there is an order. These are the choices of an order of prefixes of the logs; of those
-    /// that the search came to, none has more lines.
+    /// It is not known whether there is an order. These are the choices of an order of prefixes of the logs: the
+    /// longest that the search came to, though no contract says so.
     Spent(Vec<Choice>),
 }
 

@@ -5,7 +5,7 @@ ghost use Rattle.zy_order.specs.Ways as spec;
 use zy_isa::Actor;
 
 /// How many lines of each actor's log are matched, which is the index of its next line.
-#[derive(Clone, Copy, Debug, PartialEq, Eq)]
+#[derive(Clone, Copy, PartialEq, Eq)]
 pub(crate) struct Cursors {
     /// Of the client's log.
     pub c: u16,

@@ -5,7 +5,7 @@ ghost use Rattle.zy_isa.specs.Limits.{max_choices};
 ghost use Rattle.zy_table.specs.Play as table;
 ghost use Rattle.zy_search.specs.Visits.{IsHere, IsShelf};
 ghost use Rattle.zy_order.specs.Orders.{entry_at};
-ghost use Rattle.zy_order.specs.Ways.{IsAtEnd};
+ghost use Rattle.zy_order.specs.Ways.{AreMatched};
 ghost use Rattle.zy_order.specs.Reaches.{cursors_at, IsMet, IsExpanded, IsUnderWay, Adds};
 
 use crate::note::note;
@@ -113,7 +113,7 @@ fn arrive(
 ) -> Result<(), Fault>
     requires at { at < length reached.now.visited }
     requires under_way { IsUnderWay plan.now reached.now }
-    requires part { IsAtEnd plan.now.logs (cursors_at reached.now.visited at) → ⊥ }
+    requires part { AreMatched plan.now.logs (cursors_at reached.now.visited at) → ⊥ }
     requires shelf { IsShelf plan.now.start reached.now.visited shelf.old }
     requires here { here.old.scenario ≡ plan.now.start.scenario }
     ensures here { OnOk result (IsHere plan.now.start reached.now.visited at here.new) }
@@ -138,7 +138,7 @@ pub(crate) fn expand(
 ) -> Result<bool, Fault>
     requires at { at < length reached.old.visited }
     requires under_way { IsUnderWay plan.now reached.old }
-    requires part { IsAtEnd plan.now.logs (cursors_at reached.old.visited at) → ⊥ }
+    requires part { AreMatched plan.now.logs (cursors_at reached.old.visited at) → ⊥ }
     requires shelf { IsShelf plan.now.start reached.old.visited shelf.old }
     requires here { here.old.scenario ≡ plan.now.start.scenario }
     requires twin { twin.old.scenario ≡ plan.now.start.scenario }

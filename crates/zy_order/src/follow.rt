@@ -15,7 +15,7 @@ use zy_search::shelf::Shelf;
 const MOST_SPOTS: usize = 64;
 
 /// What came of following the paths.
-#[derive(Clone, Copy, Debug, PartialEq, Eq)]
+#[derive(Clone, Copy)]
 pub(crate) enum Followed {
     /// The path at this place matches all lines.
     Whole(u32),
@@ -52,8 +52,8 @@ fn follow(
     ensures under_way { OnOk result (IsUnderWay plan.now reached.new) }
     ensures settles { IfOk result (Settles plan.now reached.new) }
 {
-    // A path is followed once, and there are fewer than this.
-    for turn in 0..u32::MAX {
+    // A path is followed once, and there are fewer paths than this.
+    for _ in 0..u32::MAX {
         let Some(at) = next_of(reached) else {
             return Ok(Followed::Nowhere);
         };

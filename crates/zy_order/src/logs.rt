@@ -2,7 +2,7 @@
 ghost use Rattle.std.specs.Prelude.{◌≡◌, ◌≤◌, IfOk, MatchOption, Some, length, slice_get};
 ghost use Rattle.std.specs.Bool.{Decides};
 ghost use Rattle.zy_order.specs.Orders as orders;
-ghost use Rattle.zy_order.specs.Ways.{log_of, cursor, AreLogs, IsAtEnd};
+ghost use Rattle.zy_order.specs.Ways.{log_of, cursor, AreLogs, AreMatched};
 ghost use Rattle.zy_threads.specs.Turns as turns;
 
 use crate::cursors::Cursors;
@@ -25,11 +25,7 @@ pub(crate) struct Logs {
 fn is_by(choice: Choice, actor: Actor) -> bool
     ensures { result ≡ turns.is_by actor choice }
 {
-    match actor {
-        Actor::C => matches!(choice.actor(), Actor::C),
-        Actor::A => matches!(choice.actor(), Actor::A),
-        Actor::B => matches!(choice.actor(), Actor::B),
-    }
+    choice.actor() == actor
 }
 
 /// The lines of an actor among others, in order.
@@ -71,7 +67,7 @@ impl Logs {
 
     /// Whether all lines are matched.
     pub(crate) fn are_matched(&self, cursors: Cursors) -> bool
-        ensures { Decides result (IsAtEnd self.now cursors) }
+        ensures { Decides result (AreMatched self.now cursors) }
     {
         usize::from(cursors.c) == self.c.len()
             && usize::from(cursors.a) == self.a.len()

@@ -1,7 +1,7 @@
 //! The search for an order.
 ghost use Rattle.std.specs.Prelude.{◌≡◌, ◌<◌, ◌^◌, IfOk, length};
 ghost use Rattle.zy_order.specs.Answers.{IsInput, IsAnswer};
-ghost use Rattle.zy_order.specs.Ways.{AreLogs, IsAtEnd};
+ghost use Rattle.zy_order.specs.Ways.{AreLogs, AreMatched};
 ghost use Rattle.zy_order.specs.Reaches.{cursors_at, IsFurthest, IsPlan, IsUnderWay, Settles, AnswersFor};
 
 use crate::answer::{Answer, Report};
@@ -35,7 +35,7 @@ fn furthest(reached: &Reached) -> u32
 fn found(plan: &Plan, reached: &Reached, at: u32) -> Result<Answer, Fault>
     requires under_way { IsUnderWay plan.now reached.now }
     requires there { at < length reached.now.visited }
-    requires whole { IsAtEnd plan.now.logs (cursors_at reached.now.visited at) }
+    requires whole { AreMatched plan.now.logs (cursors_at reached.now.visited at) }
     ensures { IfOk result (AnswersFor plan.now) }
 {
     let path = reached.path(plan.alloc, at)?;

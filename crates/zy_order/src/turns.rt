@@ -1,5 +1,5 @@
 //! Whose line is tried first. No answer depends on it, but how soon it comes does.
-ghost use Rattle.zy_order.specs.Reaches.{AreAll};
+ghost use Rattle.zy_order.specs.Reaches.{HasEachActor};
 
 use crate::cursors::Cursors;
 use crate::log_line::LogLine;
@@ -8,7 +8,7 @@ use zy_isa::{Actor, Choice};
 use zy_table::Outcome;
 
 /// The three actors, in the order in which their lines are tried.
-#[derive(Clone, Copy, Debug, PartialEq, Eq)]
+#[derive(Clone, Copy)]
 pub(crate) struct Turns {
     /// The actor whose line is tried first.
     pub first: Actor,
@@ -59,7 +59,7 @@ fn least(logs: &Logs, cursors: Cursors) -> Actor {
 
 /// The turns of the actors. The one whose next line has the lowest rank comes last, so that its path is followed first.
 pub(crate) fn turns_by(logs: &Logs, cursors: Cursors) -> Turns
-    ensures { AreAll result }
+    ensures { HasEachActor result }
 {
     let (c, a, b) = (Actor::C, Actor::A, Actor::B);
     match least(logs, cursors) {

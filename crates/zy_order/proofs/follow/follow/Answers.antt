@@ -3,67 +3,67 @@ use Rattle.std.proofs.Common.{◌∙◌, List, sym, subst, arith}
 use Rattle.std.proofs.Math.Bool.{false≢true}
 use Rattle.zy_isa.specs.declared.choice.Choice.{Choice}
 use Rattle.zy_search.specs.Visits.{IsShelf}
-use Rattle.zy_order.specs.Ways.{IsAtEnd}
+use Rattle.zy_order.specs.Ways.{AreMatched}
 use Rattle.zy_order.proofs.LoopLemmas.{followed_next}
 use Rattle.zy_order.proofs.follow.follow.Goals as goal
 
 pub returns-in_default-clause-under_way : goal.returns-in_default-clause-under_way
 returns-in_default-clause-under_way c =
-    let u = c.loop-turn.invariant.under_way in
+    let u = c.loop.invariant.under_way in
     record { plan = u.plan; reached = c.in_default.ensures.reached c.args.plan.now u.reached }
 
 pub returns-in_default-clause-settles : goal.returns-in_default-clause-settles
 returns-in_default-clause-settles c =
-    c.in_default.ensures.taken c.args.plan.now c.loop-turn.invariant.under_way.reached c.loop-turn.invariant.followed
+    c.in_default.ensures.taken c.args.plan.now c.loop.invariant.under_way.reached c.loop.invariant.followed
 
 pub cursors_at-requires : goal.cursors_at-requires
 cursors_at-requires c =
-    let u = c.loop-turn.invariant.under_way in
-    let lt = (c.in-Some.ensures.taken c.args.plan.now u.reached c.loop-turn.invariant.followed).0 in
+    let u = c.loop.invariant.under_way in
+    let lt = (c.in-Some.ensures.taken c.args.plan.now u.reached c.loop.invariant.followed).0 in
     omega (arith, lt, (c.in-Some.ensures.reached c.args.plan.now u.reached).many)
 
 pub returns-then-are_matched-clause-under_way : goal.returns-then-are_matched-clause-under_way
 returns-then-are_matched-clause-under_way c =
-    let u = c.loop-turn.invariant.under_way in
+    let u = c.loop.invariant.under_way in
     record { plan = u.plan; reached = c.in-Some.ensures.reached c.args.plan.now u.reached }
 
 pub returns-then-are_matched-clause-settles : goal.returns-then-are_matched-clause-settles
 returns-then-are_matched-clause-settles c =
-    let u = c.loop-turn.invariant.under_way in
-    let lt = (c.in-Some.ensures.taken c.args.plan.now u.reached c.loop-turn.invariant.followed).0 in
+    let u = c.loop.invariant.under_way in
+    let lt = (c.in-Some.ensures.taken c.args.plan.now u.reached c.loop.invariant.followed).0 in
     let same = c.cursors_at.ensures ∙ (c.in-Some.ensures.reached c.args.plan.now u.reached).kept c.in-Some.at lt in
-    (lt, subst (IsAtEnd c.args.plan.now.logs) same (c.are_matched.ensures.0 c.if-are_matched.true))
+    (lt, subst (AreMatched c.args.plan.now.logs) same (c.are_matched.ensures.0 c.if-are_matched.true))
 
 pub expand-requires-clause-at : goal.expand-requires-clause-at
-expand-requires-clause-at c = (c.in-Some.ensures.taken c.args.plan.now c.loop-turn.invariant.under_way.reached c.loop-turn.invariant.followed).0
+expand-requires-clause-at c = (c.in-Some.ensures.taken c.args.plan.now c.loop.invariant.under_way.reached c.loop.invariant.followed).0
 
 pub expand-requires-clause-under_way : goal.expand-requires-clause-under_way
 expand-requires-clause-under_way c =
-    let u = c.loop-turn.invariant.under_way in
+    let u = c.loop.invariant.under_way in
     record { plan = u.plan; reached = c.in-Some.ensures.reached c.args.plan.now u.reached }
 
 pub expand-requires-clause-part : goal.expand-requires-clause-part
 expand-requires-clause-part c = λ end.
-    let u = c.loop-turn.invariant.under_way in
-    let lt = (c.in-Some.ensures.taken c.args.plan.now u.reached c.loop-turn.invariant.followed).0 in
+    let u = c.loop.invariant.under_way in
+    let lt = (c.in-Some.ensures.taken c.args.plan.now u.reached c.loop.invariant.followed).0 in
     let same = c.cursors_at.ensures ∙ (c.in-Some.ensures.reached c.args.plan.now u.reached).kept c.in-Some.at lt in
-    false≢true (sym c.if-are_matched.false ∙ c.are_matched.ensures.1 (subst (IsAtEnd c.args.plan.now.logs) (sym same) end))
+    false≢true (sym c.if-are_matched.false ∙ c.are_matched.ensures.1 (subst (AreMatched c.args.plan.now.logs) (sym same) end))
 
 pub expand-requires-clause-shelf : goal.expand-requires-clause-shelf
 expand-requires-clause-shelf c =
-    subst (λ (ps : List (List Choice)). IsShelf c.args.plan.now.start ps c.loop-turn.shelf) (sym c.next_of.ensures.paths) c.loop-turn.invariant.shelf
+    subst (λ (ps : List (List Choice)). IsShelf c.args.plan.now.start ps c.loop.shelf) (sym c.next_of.ensures.paths) c.loop.invariant.shelf
 
-pub loop-turn-preserved : goal.loop-turn-preserved
-loop-turn-preserved c =
+pub loop-preserved : goal.loop-preserved
+loop-preserved c =
     let p = c.args.plan.now in
-    let u = c.loop-turn.invariant.under_way in
-    let taken = c.in-Some.ensures.taken p u.reached c.loop-turn.invariant.followed in
+    let u = c.loop.invariant.under_way in
+    let taken = c.in-Some.ensures.taken p u.reached c.loop.invariant.followed in
     let same = c.cursors_at.ensures ∙ (c.in-Some.ensures.reached p u.reached).kept c.in-Some.at taken.0 in
     let adds = c.in_ok-expand.ensures.adds in
     record {
       under_way = record { plan = u.plan; reached = adds.reached };
       followed = followed_next p c.next_of.new.reached c.expand.new.reached c.in-Some.at c.expand.new.shelf taken adds
-          (λ end. false≢true (sym c.if-are_matched.false ∙ c.are_matched.ensures.1 (subst (IsAtEnd p.logs) (sym same) end)))
+          (λ end. false≢true (sym c.if-are_matched.false ∙ c.are_matched.ensures.1 (subst (AreMatched p.logs) (sym same) end)))
           (c.in_ok-expand.ensures.met c.if-not-branch.false);
       shelf = adds.shelf;
       here = c.in_ok-expand.ensures.here;
