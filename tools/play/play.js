@@ -257,6 +257,7 @@ function drawNext() {
   if (!known.has(text)) lookUpSoon();
 }
 const lookUpSoon = debounced(guarded(async () => {
+  if (busy) return;                     // the choices are still those of the run before; the next run asks again
   const lanes = candidates(), text = textHere(), choices = Object.values(lanes).flat();
   lookup.abort();
   lookup = new AbortController();
