@@ -18,7 +18,8 @@ use Rattle.zy_table.specs.declared.entry.CommitRecord.{CommitRecord}
 use Rattle.zy_table.specs.declared.outcome.Why.{Why}
 use Rattle.zy_laws.proofs.walk.Events.{has_lock, page, puts}
 use Rattle.zy_page.proofs.Rows.{Rising-put_row}
-use Rattle.zy_laws.proofs.order.Rising.{numbers-installed, length-installed, rows_rise-installed, rise_share, asked_put}
+use Rattle.zy_table.proofs.RisingNumbers.{rises_put}
+use Rattle.zy_laws.proofs.order.Rising.{numbers-installed, length-installed, rows_rise-installed, rise_share}
 use Rattle.zy_laws.proofs.owner.Roles.{width}
 use Rattle.zy_laws.proofs.owner.MovingPages.{sent_bare}
 use Rattle.zy_links.specs.Messages.{Pull}
@@ -151,6 +152,6 @@ module _ (v : View) (o : Ordered v) where
   asks_ordered p new = links_ordered (record {
     pages = o.mine.pages;
     rows = o.mine.rows;
-    asked = asked_put 0 p v.me.asked (omega arith) new o.mine.asked;
+    asked = rises_put 0 p v.me.asked (omega arith) new o.mine.asked;
     locks = o.mine.locks;
   }) refl refl (sent_bare v.outbox (Pull p) refl) refl

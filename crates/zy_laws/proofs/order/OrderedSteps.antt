@@ -11,8 +11,9 @@ use Rattle.zy_table.specs.State.{Leaf, Message, View}
 use Rattle.zy_laws.proofs.walk.Events.{Aborts, Asks, Begins, Commits, Event, Finishes, Gets, Gives, GotAll, GotDone, GotDual, GotFinish, GotLast, GotPage}
 use Rattle.zy_laws.proofs.walk.Events.{GoesOn, GotReady, GotWire, Inserts, IsStale, Pushes, Rests, SumsUp, Splits, Starts, Writes}
 use Rattle.zy_laws.proofs.walk.Events.{arrived, has_lock, page, rest}
+use Rattle.zy_table.proofs.RisingNumbers.{rises_drop}
 use Rattle.zy_laws.proofs.order.Rising.{numbers-lowered, rises_from, rows_at}
-use Rattle.zy_laws.proofs.order.Rising.{rows_rise-lowered, rows_rise-with_page, asked_drop, numbers-without, rows_rise-without, rows_rise-last, length-without}
+use Rattle.zy_laws.proofs.order.Rising.{rows_rise-lowered, rows_rise-with_page, numbers-without, rows_rise-without, rows_rise-last, length-without}
 use Rattle.zy_laws.proofs.owner.Roles.{Inv, Owned, fresh_number, normal_other, not_here}
 use Rattle.zy_laws.proofs.owner.LinkOwners.{done_wide, pulled_inv, wire_wide}
 use Rattle.zy_laws.proofs.owner.SameOwners.{has_lock_inv}
@@ -95,7 +96,7 @@ arrived_ordered v leaf ms owned o f =
       mine = record {
         pages = numbers-with_page 0 leaf v.me.pages (omega arith) (not_here v leaf ms owned f) o.mine.pages;
         rows = rows_rise-with_page leaf v.me.pages came.0 o.mine.rows;
-        asked = asked_drop 0 leaf.number v.me.asked o.mine.asked;
+        asked = rises_drop 0 leaf.number v.me.asked o.mine.asked;
         locks = o.mine.locks;
       };
       theirs = o.theirs;

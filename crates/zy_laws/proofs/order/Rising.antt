@@ -15,6 +15,7 @@ use Rattle.zy_table.specs.Rows.{rows_on}
 use Rattle.zy_table.specs.State.{Leaf}
 use Rattle.zy_page.proofs.Parted.{Rising-lower}
 use Rattle.zy_table.proofs.RisingRows.{rises_puts}
+use Rattle.zy_table.proofs.RisingNumbers.{rises_weaker}
 use Rattle.zy_table.specs.Keys.{put_key}
 use Rattle.zy_table.specs.Numbers.{drop_number, has}
 use Rattle.zy_laws.specs.OneOwner.{times}
@@ -82,35 +83,12 @@ rows_rise-with_page leaf [] r h = (r, tt)
 rows_rise-with_page leaf (x ∷ xs) r h = cond_both (nat_lt leaf.number x.number) (leaf ∷ x ∷ xs) (x ∷ with_page leaf xs) RowsRise (λ _. (r, h))
     (λ _. (h.0, rows_rise-with_page leaf xs r h.1))
 
--- asking for one page more keeps the list rising
-pub asked_put : (low p : ℕ) (xs : List ℕ) → low ≤ p → has xs p ≡ false → NumbersRise low xs → NumbersRise low (put_key p xs)
-asked_put low p [] le new h = (le, tt)
-asked_put low p (x ∷ xs) le new h =
-    let parts = or_parts (x == p) (has xs p) new in
-    let other = eqb-false _ _ parts.0 in
-    cond_both (nat_le p x) (p ∷ x ∷ xs) (x ∷ put_key p xs) (NumbersRise low)
-    (λ e. let under = leb-true _ _ e in (le, (omega (arith, other), h.1)))
-    (λ e. let over = leb-false _ _ e in (h.0, asked_put (x + 1) p xs (omega (arith, over)) parts.1 h.1))
-
--- what rises from a number rises from a lesser one
-pub numbers_weaker : (low less : ℕ) (xs : List ℕ) → less ≤ low → NumbersRise low xs → NumbersRise less xs
-numbers_weaker low less [] le h = tt
-numbers_weaker low less (x ∷ xs) le h = ((let a = h.0 in omega arith), h.1)
-
--- a number less keeps a list rising
-pub asked_drop : (low p : ℕ) (xs : List ℕ) → NumbersRise low xs → NumbersRise low (drop_number p xs)
-asked_drop low p [] h = tt
-asked_drop low p (x ∷ xs) h =
-    cond_both (x == p) (drop_number p xs) (x ∷ drop_number p xs) (NumbersRise low)
-    (λ _. asked_drop low p xs (numbers_weaker (x + 1) low xs (let a = h.0 in omega arith) h.1))
-    (λ _. (h.0, asked_drop (x + 1) p xs h.1))
-
 -- a page less keeps the numbers rising
 pub numbers-without : (low p : ℕ) (xs : List Leaf) → NumbersRise low (numbers xs) → NumbersRise low (numbers (without p xs))
 numbers-without low p [] h = tt
 numbers-without low p (x ∷ xs) h =
     cond_both (x.number == p) (without p xs) (x ∷ without p xs) (λ ys. NumbersRise low (numbers ys))
-    (λ _. numbers-without low p xs (numbers_weaker (x.number + 1) low (numbers xs) (let a = h.0 in omega arith) h.1))
+    (λ _. numbers-without low p xs (rises_weaker (x.number + 1) low (numbers xs) (let a = h.0 in omega arith) h.1))
     (λ _. (h.0, numbers-without (x.number + 1) p xs h.1))
 
 -- a page less keeps the rows of each page rising

@@ -2,7 +2,7 @@
 use Rattle.std.proofs.Common.{◌≡◌, ℕ, zero, suc, ◌+◌, ◌/◌, ◌<◌, ◌≤◌, List, [], ◌∷◌, ◌++◌, length, true, false, refl, sym, ap, ◌∙◌, subst, arith, inl, inr}
 use Rattle.std.proofs.Common.{length-append}
 use Rattle.std.specs.Prelude.{◌⊎◌, if◌then◌else◌, ◌==◌, nat_le, Some, None, is_some, slice_index, Contains}
-use Rattle.std.proofs.lemmas.Bool.{cond_both, false≢true, or_right, or_left, eq-eqb, eqb-true, eqb-false, or_parts, ltb-false, leb-true, leb-false}
+use Rattle.std.proofs.lemmas.Bool.{cond_both, false_from_ne_true, false≢true, or_right, or_left, eq-eqb, eqb-true, eqb-false, or_parts, ltb-false, leb-true, leb-false}
 use Rattle.std.proofs.lemmas.List.{get_or_default}
 use Rattle.zy_isa.specs.declared.row.Row.{Row}
 use Rattle.zy_isa.specs.Rows.{Rising, get_row}
@@ -20,6 +20,7 @@ use Rattle.zy_laws.proofs.places.Installing.{Placed, get_row-on}
 use Rattle.zy_laws.proofs.places.CutPages.{leaf_placed}
 use Rattle.zy_table.proofs.RangeWalk.{has-put}
 use Rattle.zy_table.proofs.RisingRows.{rises_key}
+use Rattle.zy_table.proofs.RisingNumbers.{rises_put}
 use Rattle.zy_table.specs.Numbers.{has}
 use Rattle.zy_table.proofs.KeyLists.{length-put_key, length-keys}
 
@@ -39,15 +40,6 @@ index_has (x ∷ xs) zero h = or_left _ _ (eq-eqb x x refl)
 index_has (x ∷ xs) (suc i) h = or_right (x == slice_index xs i) _ (index_has xs i (omega arith))
 
 -- ---- no key is twice
-
--- a new key keeps rising numbers rising
-rise-put_key : (low k : ℕ) (xs : List ℕ) → low ≤ k → (has xs k ≡ true → ⊥) → NumbersRise low xs → NumbersRise low (put_key k xs)
-rise-put_key low k [] le new h = (le, tt)
-rise-put_key low k (x ∷ xs) le new h =
-    let other : x ≡ k → ⊥ = λ e. new (or_left _ _ (eq-eqb x k e)) in
-    cond_both (nat_le k x) (k ∷ x ∷ xs) (x ∷ put_key k xs) (NumbersRise low)
-    (λ e. let under = leb-true k x e in (le, ((omega (arith, other)), h.1)))
-    (λ e. let over = leb-false k x e in (h.0, rise-put_key (x + 1) k xs (omega arith) (λ there. new (or_right (x == k) _ there)) h.1))
 
 -- the first of rising keys is below the others
 rise_index : (low : ℕ) (xs : List ℕ) (i : ℕ) → NumbersRise low xs → i < length xs → low ≤ slice_index xs i
@@ -69,7 +61,7 @@ Differ (r ∷ rows) = (is_some (get_row rows r.key) ≡ true → ⊥) × Differ 
 -- the keys of rows that differ rise
 rise-keys : (rows : List Row) → Differ rows → NumbersRise 0 (keys_of rows)
 rise-keys [] h = tt
-rise-keys (r ∷ rows) h = rise-put_key 0 r.key (keys_of rows) (omega arith) (λ there. h.0 (has-keys rows r.key there)) (rise-keys rows h.1)
+rise-keys (r ∷ rows) h = rises_put 0 r.key (keys_of rows) (omega arith) (false_from_ne_true _ (λ there. h.0 (has-keys rows r.key there))) (rise-keys rows h.1)
 
 -- rising rows differ
 differ_rising : (low : ℕ) (rows : List Row) → Rising low rows → Differ rows
@@ -180,11 +172,11 @@ keys_rise t k p v committed private new =
     let mine = (txn_at v t).rows in
     let on = rows_on v.me.lows p mine in
     let off = or_parts (is_some (get_row mine k)) (is_some (get_row rows k)) new in
-    rise-put_key 0 k (keys_of (rows ++ own_inserts p v.me (txn_at v t))) (omega arith)
-    (λ there. elim (some_append rows (own_inserts p v.me (txn_at v t)) k (has-keys (rows ++ own_inserts p v.me (txn_at v t)) k there)) [
+    rises_put 0 k (keys_of (rows ++ own_inserts p v.me (txn_at v t))) (omega arith)
+    (false_from_ne_true _ (λ there. elim (some_append rows (own_inserts p v.me (txn_at v t)) k (has-keys (rows ++ own_inserts p v.me (txn_at v t)) k there)) [
       | inl i ↦ false≢true (sym off.1 ∙ i)
       | inr i ↦ false≢true (sym off.0 ∙ (some_on v.me.lows p mine k (some_not_in on rows k i).0).1)
-    ])
+    ]))
     (rise-keys (rows ++ own_inserts p v.me (txn_at v t)) (differ_append rows (own_inserts p v.me (txn_at v t)) (differ_rising 0 rows committed)
     (differ_not_in on rows (differ_on v.me.lows p mine (differ_rising 0 mine private)))
     (λ q here there. false≢true (sym (some_not_in on rows q there).1 ∙ here))))

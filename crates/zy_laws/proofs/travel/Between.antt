@@ -37,6 +37,7 @@ use Rattle.zy_laws.proofs.owner.PhaseSteps.{taker_of}
 use Rattle.zy_laws.proofs.walk.PlayPush.{play-keeps-with}
 use Rattle.zy_laws.proofs.locks.Reached.{Reached, kept_from, lows_then, opening_reached, reached, step_kept}
 use Rattle.zy_laws.proofs.walk.Txns.{IsAt}
+use Rattle.zy_table.proofs.RisingNumbers.{has-dropped}
 use Rattle.zy_laws.proofs.walk.Kinds.{in_place_of}
 
 -- ---- the pages that a node asked for
@@ -50,17 +51,6 @@ record Asked (x : NodeState) : Type 0 where
 has_none : (xs : List ℕ) → ((p : ℕ) → has xs p ≡ true → ⊥) → xs ≡ []
 has_none [] h = refl
 has_none (x ∷ xs) h = absurd (h x (or_left _ _ (eq-eqb x x refl)))
-
--- what is left after a number is dropped was there, and is another one
-has-dropped : (p q : ℕ) (xs : List ℕ) → has (drop_number p xs) q ≡ true → (has xs q ≡ true) × ((p == q) ≡ false)
-has-dropped p q [] h = absurd (false≢true h)
-has-dropped p q (x ∷ xs) h =
-    cond_both (x == p) (drop_number p xs) (x ∷ drop_number p xs) (λ ys. has ys q ≡ true → (has (x ∷ xs) q ≡ true) × ((p == q) ≡ false))
-    (λ _ g. let r = has-dropped p q xs g in (or_right _ _ r.0, r.1))
-    (λ far g. elim (or_cases (x == q) (has (drop_number p xs) q) g) [
-      | inl e ↦ (or_left _ _ e, ne_eqb p q (λ s. false≢true (sym far ∙ eq-eqb x p (eqb-true x q e ∙ sym s))))
-      | inr e ↦ let r = has-dropped p q xs e in (or_right _ _ r.0, r.1)
-    ]) h
 
 -- a step that leaves the mode, the wireframe, what was asked for and the pages' numbers keeps it
 asked_same : (x y : NodeState) → y.mode ≡ x.mode → y.lows ≡ x.lows → y.asked ≡ x.asked → ((p : ℕ) → owns y.pages p ≡ owns x.pages p) → Asked x → Asked y

@@ -1,12 +1,16 @@
-use Rattle.std.proofs.Common.{arith, refl}
-use Rattle.zy_node.proofs.MarkLemmas.{drop_at, drop_beyond}
-use Rattle.zy_node.proofs.page_set.PageSet.drop.Goals.{then-at-len, else-at-len}
+use Rattle.std.proofs.Common.{◌∙◌, eqb, not, rules}
+use Rattle.std.proofs.lemmas.Fn.{filter_same}
+use Rattle.zy_table.proofs.RisingNumbers.{rises_drop, has-dropped}
+use Rattle.zy_node.proofs.NumberLists.{filter_drops}
 use Rattle.zy_node.proofs.page_set.PageSet.drop.Goals as goal
+
+pub invariant_of-self : goal.invariant_of-self
+invariant_of-self c =
+    let left = filter_same _ (λ x. not (eqb x c.args.p)) _ (λ x b f' k. search rules) _ _ c.retain.ensures.filtered ∙ filter_drops c.args.p _ in
+    let kept = c.self.invariant in
+    rw left (rises_drop 0 c.args.p _ kept.0, (λ q there. kept.1 q (has-dropped c.args.p q _ there).0), rw c.retain.ensures.capacity kept.2)
 
 pub returns : goal.returns
 returns c =
-    let marks = c.self.inside.marks.items in
-    rw (c.trim.ensures.pages, ← c.self.view_is) (elim c.if-at-len.branch [
-      | then-at-len w ↦ rw (w.self-inside-is, drop_at 0 c.args.p c.from-at.result marks (omega arith)) refl
-      | else-at-len w ↦ rw (w.self-inside-is, drop_beyond 0 c.args.p marks (omega arith)) refl
-    ])
+    let left = filter_same _ (λ x. not (eqb x c.args.p)) _ (λ x b f' k. search rules) _ _ c.retain.ensures.filtered ∙ filter_drops c.args.p _ in
+    rw (← c.self.view_is) left
