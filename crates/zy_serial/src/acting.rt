@@ -20,7 +20,11 @@ pub fn side_of(machine: &Machine, choice: Choice) -> Node
             on_start(a, b, machine.scenario().version()).unwrap_or(Node::A)
         }
         Choice::Begin(_) => Node::A,
-        Choice::Kill(t) => machine.txn(t).node(),
+        Choice::Kill(t) => {
+            // Proof: the machine has a transaction for each program of its scenario.
+            machine.entries();
+            machine.txn(t).node()
+        }
         Choice::Run(n, _) | Choice::Take(n) | Choice::Finish(n) | Choice::Push(n) => n,
     }
 }

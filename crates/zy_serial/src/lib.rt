@@ -4,5 +4,3 @@
 mod acting;
 pub mod order;
 mod sorted;
-
-

@@ -6,10 +6,10 @@ use Rattle.zy_serial.proofs.order.migration_order.Given as goal
 
 abbrev pub invariant-loop-entry : goal.invariant-loop-entry
 invariant-loop-entry l =
-    let sc = l.initial.replay.scenario in
+    let sc = l.machine.scenario in
+    let choices = choices_of l.machine.entries in
     record {
       scenario : l.replay.scenario ≡ sc;
       count : length l.replay.entries ≡ l.entry-index;
-      sorts : sorted sc l.replay.state (drop l.entry-index (choices_of l.entries)) l.sorted
-          ≡ sorted sc (opening sc) (choices_of l.entries) (record { first = []; later = [] });
+      sorts : sorted sc l.replay.state (drop l.entry-index choices) l.sorted ≡ sorted sc (opening sc) choices (record { first = []; later = [] });
     }
