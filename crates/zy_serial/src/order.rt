@@ -45,10 +45,11 @@ fn advance(machine: &mut Machine, sorted: &mut Sorted, choice: Choice) -> Result
         ≡ sorted_step machine.old.scenario choice machine.old.state sorted.old) }
 {
     let node = side_of(machine, choice);
-    let before = machine.mode(node);
+    let was_source = is_source(machine.mode(node));
     let seen = machine.commits().len();
     machine.step(choice)?;
+    let now_source = is_source(machine.mode(node));
     let commits = machine.commits();
     let (_, new) = commits.split_at(seen.min(commits.len()));
-    sorted.add(is_source(before), is_source(machine.mode(node)), new)
+    sorted.add(was_source, now_source, new)
 }

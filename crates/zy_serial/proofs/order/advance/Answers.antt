@@ -15,10 +15,10 @@ returns-clause-sorted c =
     let n = side_of m.scenario c.args.choice m.state in
     let after = (step m.scenario c.args.choice m.state).after in
     let side : c.side_of-node.result ≡ n = c.side_of-node.ensures in
-    let was : c.is_source.result ≡ is_source (facing n m.state).me.mode =
-    c.is_source.ensures ∙ ap is_source (c.mode-before.ensures ∙ ap (λ (k : Node). (facing k m.state).me.mode) side) in
-    let here : c.is_source-2.result ≡ is_source (facing n after).me.mode =
-    c.is_source-2.ensures ∙ ap is_source (c.mode.ensures ∙ (ap (λ (k : Node). (facing k c.step.new.self.state).me.mode) side
+    let was : c.is_source-was_source.result ≡ is_source (facing n m.state).me.mode =
+    c.is_source-was_source.ensures ∙ ap is_source (c.mode.ensures ∙ ap (λ (k : Node). (facing k m.state).me.mode) side) in
+    let here : c.is_source-now_source.result ≡ is_source (facing n after).me.mode =
+    c.is_source-now_source.ensures ∙ ap is_source (c.mode-2.ensures ∙ (ap (λ (k : Node). (facing k c.step.new.self.state).me.mode) side
     ∙ ap (λ (s : State). (facing n s).me.mode) c.in_ok-step.ensures.state)) in
     let commits = c.commits-commits.ensures ∙ ap (λ (s : State). s.commits) c.in_ok-step.ensures.state in
     let held = c.commits-commits.result.now in
