@@ -1,8 +1,8 @@
 //! The whole trace.
-ghost use Rattle.std.specs.Prelude.{◌≡◌, ◌<◌, ◌++◌, []};
+ghost use Rattle.std.specs.Prelude.{◌≡◌, ◌<◌, ◌++◌, [], IfOk};
 ghost use Rattle.std.specs.List.{flat_map};
 ghost use Rattle.zy_io.specs.Writing.{line_of, Wrote};
-ghost use Rattle.zy_table.specs.Play.{opening};
+ghost use Rattle.zy_table.specs.Play.{entries, opening, play};
 ghost use Rattle.zy_trace.specs.Subjects.{state_lines};
 ghost use Rattle.zy_text.specs.Canon.{canon};
 ghost use Rattle.zy_trace.specs.Trace.{steps_lines, trace_from, trace_lines};
@@ -172,16 +172,22 @@ fn write_opened<K: Sink>(alloc: Global, machine: &Machine, sink: &mut K) -> Resu
     write_tested(alloc, machine, &opened, sink)
 }
 
-/// Makes the choices of a scenario, and writes its trace.
+/// Makes the choices of a scenario, writes its trace, and gives the machine that has made them.
 pub fn write_trace<K: Sink>(
     alloc: Global,
     scenario: Scenario,
     sink: &mut K,
-) -> Result<(), TextFault>
+) -> Result<Machine, TextFault>
     requires { K.failures sink.old < u64.MAX }
-    ensures { Wrote (K.written sink.old) (K.written sink.new) (K.failures sink.old) (K.failures sink.new) result
+    ensures wrote { Wrote (K.written sink.old) (K.written sink.new) (K.failures sink.old) (K.failures sink.new) result
         (spec.trace scenario) }
+    ensures machine { IfOk result (λ m. m ≡ record {
+      scenario = scenario;
+      state = play scenario (opening scenario) scenario.choices;
+      entries = entries scenario (opening scenario) scenario.choices;
+    }) }
 {
     let machine = Machine::run_all(alloc, scenario)?;
-    write_opened(alloc, &machine, sink)
+    write_opened(alloc, &machine, sink)?;
+    Ok(machine)
 }
