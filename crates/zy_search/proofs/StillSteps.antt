@@ -1,5 +1,5 @@
 -- Where nothing comes of a step the state is as it was.
-use Rattle.std.proofs.Common.{◌≡◌, ◌∙◌, inl, ℕ, List, [], ◌∷◌, ◌++◌, length, length-append, ◌<◌, arith, true, false, not, nat_lt, nat_le, ◌&&◌, Option, Some}
+use Rattle.std.proofs.Common.{◌≡◌, ◌∙◌, inl, ℕ, List, [], ◌∷◌, ◌++◌, length, length-append, ◌<◌, ◌≤◌, arith, true, false, not, nat_lt, nat_le, ◌&&◌, Option, Some}
 use Rattle.std.proofs.Common.{None, refl, sym, ap}
 use Rattle.zy_table.specs.declared.entry.Entry.{Entry}
 use Rattle.std.proofs.lemmas.Bool.{cond_both, false≢true}
