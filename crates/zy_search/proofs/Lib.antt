@@ -9,3 +9,4 @@ pub mod EdgeLemmas
 pub mod MeetLemmas
 pub mod PossibleLemmas
 pub mod LastLemmas
+pub mod DepthLemmas

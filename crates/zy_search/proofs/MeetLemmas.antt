@@ -3,7 +3,6 @@ use Rattle.std.proofs.Common.{◌≡◌, ◌∙◌, ◌+◌, ◌<◌, ◌≤◌,
 use Rattle.std.proofs.Common.{arith}
 use Rattle.std.proofs.lemmas.Bool.{cases_lt}
 use Rattle.std.proofs.lemmas.List.{get_or_default}
-use Rattle.zy_isa.specs.Limits.{max_choices}
 use Rattle.zy_isa.specs.declared.choice.Choice.{Choice}
 use Rattle.zy_isa.specs.declared.choice.Choice.TheVariants.{Start}
 use Rattle.zy_table.specs.Play.{step}
@@ -11,7 +10,7 @@ use Rattle.zy_machine.specs.Histories.{History}
 use Rattle.zy_search.specs.declared.sought.Sought.{Sought}
 use Rattle.zy_search.specs.Stuck.{is_still}
 use Rattle.zy_search.specs.Choices.{is_considered, considered}
-use Rattle.zy_search.specs.Searches.{reached, Shows}
+use Rattle.zy_search.specs.Searches.{reached, deepest, Shows}
 use Rattle.zy_search.specs.Visits.{path_at, length_at, Visits, Notes, ShowsNext, IsVisited, IsExpanded, FindsNext, Grows}
 use Rattle.zy_search.proofs.ChoiceLemmas.{considered_at, has_considered}
 use Rattle.zy_search.proofs.SearchLemmas.{visited_grown, path_more}
@@ -57,7 +56,7 @@ module _ (h : History) (q : Sought) (old cur : List (List Choice)) (at : ℕ) (l
       (subst (λ (d : Choice). IsVisited h cur (length_at old at + 1) (step h.scenario d (reached h (path_at old at))).after) is got)
 
   -- one that leads to a state that shows what is looked for
-  pub found : (new : List (List Choice)) (c : Choice) (items : List Choice) → Visits h q old → length h.entries + length_at old at < max_choices
+  pub found : (new : List (List Choice)) (c : Choice) (items : List Choice) → Visits h q old → length h.entries + length_at old at < deepest q
       → is_considered q.kills (length h.scenario.programs) c ≡ true → ShowsNext h q cur new at c → items ≡ path_at new at ++ c ∷ [] → FindsNext h q old at items
   found new c items v room a next e =
       let p = path_at old at in

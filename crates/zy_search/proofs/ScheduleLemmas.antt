@@ -35,6 +35,7 @@ use Rattle.zy_laws.specs.Orders.{reordered}
 use Rattle.zy_laws.proofs.walk.Reordered.{one, play-reordered, opening-reordered}
 use Rattle.zy_search.specs.Schedules.{scheduled, before_last, ending}
 use Rattle.zy_search.proofs.SearchLemmas.{are_named, named_if}
+use Rattle.zy_search.proofs.DepthLemmas.{within}
 
 -- choices, and then others
 play-append : (sc : Scenario) (s : State) (cs ds : List Choice) → play sc s (cs ++ ds) ≡ play sc (play sc s cs) ds
@@ -144,7 +145,8 @@ is_scheduled h cs r named room = record {
 
 -- so do the choices that were found
 pub is_scenario : (h : History) (q : Sought) (cs : List Choice) → IsReplay h → Finds h q cs → IsScenario (scheduled h cs)
-is_scenario h q cs r f = is_scheduled h cs r (are_named q.kills (length h.scenario.programs) cs f.path.considered) f.path.room
+is_scenario h q cs r f =
+    is_scheduled h cs r (are_named q.kills (length h.scenario.programs) cs f.path.considered) (omega (arith, f.path.room, within q))
 
 -- ---- the step behind what is found
 

@@ -5,7 +5,6 @@ use Rattle.std.proofs.lemmas.List.{get_or_append_left}
 use Rattle.std.proofs.lemmas.List.Elements.{All-from_get_or}
 use Rattle.std.proofs.lemmas.Bool.{and_parts, cases_lt}
 use Rattle.std.proofs.Math.Seq.{get_or-append_seam}
-use Rattle.zy_isa.specs.Limits.{max_choices}
 use Rattle.zy_isa.specs.declared.choice.Choice.{Choice}
 use Rattle.zy_isa.specs.Choices.{names_below}
 use Rattle.zy_isa.specs.Scenario.{Scenario, AreNamed}
@@ -21,7 +20,7 @@ use Rattle.zy_search.specs.Paths.{AreApart}
 use Rattle.zy_search.specs.Stuck.{is_still, AreMoves}
 use Rattle.zy_search.specs.Choices.{is_considered, AreConsidered, is_tried, considered}
 use Rattle.zy_search.proofs.ChoiceLemmas.{all_considered}
-use Rattle.zy_search.specs.Searches.{reached, Shows, Considers, IsPath, NoneBelow, NoneAtAll, FindsFirst, IsReached, IsDue, Fills}
+use Rattle.zy_search.specs.Searches.{reached, deepest, Shows, Considers, IsPath, NoneBelow, NoneAtAll, FindsFirst, IsReached, IsDue, Fills}
 use Rattle.zy_search.specs.Visits.{path_at, length_at, IsKnown, IsVisited, Visits, IsEdge, IsExpanded, AreExpanded, Grows, FindsNext, StopsAt}
 
 -- ---- choices
@@ -58,7 +57,7 @@ moves_more sc s [] c a e = (e, tt)
 moves_more sc s (d ∷ cs) c a e = (a.0, moves_more sc (step sc d s).after cs c a.1 e)
 
 -- a path that goes on by one choice
-pub path_more : (h : History) (q : Sought) (cs : List Choice) (c : Choice) → IsPath h q cs → length h.entries + length cs < max_choices
+pub path_more : (h : History) (q : Sought) (cs : List Choice) (c : Choice) → IsPath h q cs → length h.entries + length cs < deepest q
     → is_still (step h.scenario c (reached h cs)).outcome ≡ false → is_considered q.kills (length h.scenario.programs) c ≡ true → IsPath h q (cs ++ c ∷ [])
 path_more h q cs c p room moved e = record {
   considered = are_more q.kills (length h.scenario.programs) cs c p.considered e;
@@ -260,7 +259,7 @@ one_place : (i : ℕ) → i < 1 → i ≡ 0
 one_place i lt = omega (arith, lt)
 
 -- the empty path alone
-pub visits_first : (h : History) (q : Sought) → length h.entries ≤ max_choices → (Shows h.scenario q h.state → ⊥) → Visits h q ([] ∷ [])
+pub visits_first : (h : History) (q : Sought) → length h.entries ≤ deepest q → (Shows h.scenario q h.state → ⊥) → Visits h q ([] ∷ [])
 visits_first h q room none = record {
   some = omega arith;
   first = refl;
@@ -308,8 +307,7 @@ fills h q most at ps v edge many = record {
 pub stops : (h : History) (q : Sought) (most at : ℕ) (old new : List (List Choice)) → at < length old → StopsAt h q most old new at
     → IsDue h q most (Spent (length_at new at + 1))
 stops h q most at old new lt (inl full) = inl (fills h q most at new full.visits full.near full.many)
-stops h q most at old new lt (inr x) =
-    inr (omega (arith, x.1, ap (λ (l : List Choice). length l) (x.0.same at lt)), λ e. absurd (omega (arith, e)))
+stops h q most at old new lt (inr x) = inr (omega (arith, x.1, length_grown old new at x.0 lt))
 
 -- no path has gone
 pub stops_grown : (h : History) (q : Sought) (most at : ℕ) (old new : List (List Choice)) → StopsAt h q most old new at → Grows old new

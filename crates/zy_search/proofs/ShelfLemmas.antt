@@ -5,6 +5,7 @@ use Rattle.std.proofs.Common.{IfSome, Result, Ok, Err, OnOk}
 use Rattle.std.proofs.Math.Seq.{get_or-append_seam}
 use Rattle.zy_isa.specs.declared.choice.Choice.{Choice}
 use Rattle.zy_machine.specs.Histories.{History}
+use Rattle.zy_search.specs.declared.sought.Sought.{Sought}
 use Rattle.zy_search.specs.declared.twin.Twin.{Twin}
 use Rattle.zy_search.specs.declared.shelf.Spot.{Spot}
 use Rattle.zy_search.specs.declared.shelf.Shelf.{Shelf}
@@ -39,9 +40,9 @@ shelf_grown h ps qs s g x = record {
 }
 
 -- a machine that has made one choice more is where the new path leads
-pub next_here : (h : History) (ps : List (List Choice)) (at : ℕ) (c : Choice) (m : History) → IsNext h ps at c m
+pub next_here : (h : History) (q : Sought) (ps : List (List Choice)) (at : ℕ) (c : Choice) (m : History) → IsNext h q ps at c m
     → IsHere h (ps ++ (path_at ps at ++ c ∷ []) ∷ []) (length ps) m
-next_here h ps at c m n =
+next_here h q ps at c m n =
     let p = path_at ps at ++ c ∷ [] in
     let here = get_or-append_seam ps p [] [] in
     record {
@@ -51,14 +52,14 @@ next_here h ps at c m n =
     }
 
 -- the machine of the new path is put there
-module _ (h : History) (ps : List (List Choice)) (at : ℕ) (c : Choice) (m : History) (n : IsNext h ps at c m) where
+module _ (h : History) (q : Sought) (ps : List (List Choice)) (at : ℕ) (c : Choice) (m : History) (n : IsNext h q ps at c m) where
   pub kept : (qs : List (List Choice)) (place : ℕ) (old new : Shelf) → qs ≡ ps ++ (path_at ps at ++ c ∷ []) ∷ [] → place ≡ length ps → IsShelf h ps old
       → (IsShelf h qs old → place < length qs → IsHere h qs place m → IsShelf h qs new) → IsShelf h qs new
   kept qs place old new e f s put =
       let p = path_at ps at ++ c ∷ [] in
       let grown = subst (λ (rs : List (List Choice)). IsShelf h rs old) (sym e) (shelf_grown h ps (ps ++ p ∷ []) old (grows_push ps p) s) in
       let there = subst (λ (rs : List (List Choice)). IsHere h rs place m) (sym e)
-      (subst (λ (i : ℕ). IsHere h (ps ++ p ∷ []) i m) (sym f) (next_here h ps at c m n)) in
+      (subst (λ (i : ℕ). IsHere h (ps ++ p ∷ []) i m) (sym f) (next_here h q ps at c m n)) in
       put grown (omega (arith, f, ap (λ (rs : List (List Choice)). length rs) e, length-append ps (p ∷ []))) there
 
 -- a second machine that has become a copy of the first one

@@ -1,5 +1,5 @@
 -- Where nothing comes of a step the state is as it was.
-use Rattle.std.proofs.Common.{◌≡◌, ◌∙◌, inl, ℕ, List, [], ◌∷◌, ◌++◌, length, length-append, ◌<◌, arith, true, false, not, nat_lt, nat_le, ◌&&◌, Option, Some}
+use Rattle.std.proofs.Common.{◌≡◌, ◌∙◌, inl, ℕ, List, [], ◌∷◌, ◌++◌, length, length-append, ◌<◌, ◌≤◌, arith, true, false, not, nat_lt, nat_le, ◌&&◌, Option, Some}
 use Rattle.std.proofs.Common.{None, refl, sym, ap}
 use Rattle.zy_table.specs.declared.entry.Entry.{Entry}
 use Rattle.std.proofs.lemmas.Bool.{cond_both, false≢true}
@@ -38,10 +38,10 @@ use Rattle.zy_machine.specs.Histories.{History}
 use Rattle.zy_search.specs.Stuck.{is_still}
 use Rattle.zy_table.specs.declared.outcome.Outcome.{Outcome}
 use Rattle.zy_search.specs.declared.sought.Sought.{Sought}
-use Rattle.zy_search.specs.Searches.{reached}
+use Rattle.zy_search.specs.Searches.{reached, deepest}
 use Rattle.zy_search.specs.Visits.{path_at, Visits, IsEdge, IsHere, IsTwin, IsNext, Notes}
 use Rattle.zy_search.proofs.SearchLemmas.{grows_not}
-use Rattle.zy_isa.specs.Limits.{max_choices, max_key}
+use Rattle.zy_isa.specs.Limits.{max_key}
 
 -- where nothing comes of a move it leaves the view as it was
 abbrev Stays : View → Move → Type 0
@@ -350,9 +350,9 @@ module _ (h m : History) (ps : List (List Choice)) (at : ℕ) (here : IsHere h p
   }
 
   -- where it is something, a machine that has made the choice is one choice further
-  pub next : (x : History) → x.scenario ≡ m.scenario → x.state ≡ (step m.scenario c m.state).after → is_still o ≡ false → length m.entries < length x.entries
-      → length x.entries < max_choices → IsNext h ps at c x
-  next x e f moved longer room = record {
+  pub next : (q : Sought) (x : History) → x.scenario ≡ m.scenario → x.state ≡ (step m.scenario c m.state).after → is_still o ≡ false → length m.entries < length x.entries
+      → length x.entries ≤ deepest q → IsNext h q ps at c x
+  next q x e f moved longer room = record {
     scenario = e ∙ here.scenario;
     state = f ∙ ap (λ (y : Step). y.after) here_step;
     moved = sym same_still ∙ moved;

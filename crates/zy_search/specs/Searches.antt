@@ -1,5 +1,5 @@
 -- What a search finds out.
-use Rattle.std.specs.Prelude.{ℕ, ◌≡◌, ◌≤◌, ◌<◌, ◌+◌, ◌⊎◌, ◌&&◌, ◌||◌, ◌++◌, ◌∷◌, [], not, List, Bool, true, length}
+use Rattle.std.specs.Prelude.{ℕ, ◌≡◌, ◌≤◌, ◌<◌, ◌+◌, ◌-◌, ◌⊎◌, ◌&&◌, ◌||◌, ◌++◌, ◌∷◌, [], not, List, Bool, true, false, length}
 use Rattle.std.specs.Prelude.{Option, Some, None, is_some, is_none}
 use Rattle.std.specs.List.{All}
 use Rattle.zy_isa.specs.Limits.{max_choices}
@@ -44,6 +44,15 @@ is_by_commits q = is_none q.then && is_of_commits q.goal
 abbrev pub asks_steps : Sought → Bool
 asks_steps q = is_some q.then || asks_stuck q.goal
 
+-- the most choices, from the opening on, after which a state is judged: where that takes steps, there is room for one more
+abbrev pub deepest_if : Bool → ℕ
+deepest_if true = max_choices - 1
+deepest_if false = max_choices
+
+-- the same for what is looked for
+abbrev pub deepest : Sought → ℕ
+deepest q = deepest_if (asks_steps q)
+
 -- the state that choices lead to from a machine's
 abbrev pub reached : History → List Choice → State
 reached h cs = play h.scenario h.state cs
@@ -52,11 +61,11 @@ reached h cs = play h.scenario h.state cs
 abbrev pub Considers : History → Sought → List Choice → Type 0
 Considers h q cs = AreConsidered q.kills (length h.scenario.programs) cs
 
--- considered choices for which the history has room, and of each of which something comes
+-- considered choices, of each of which something comes, after which the history has room for a state to be judged
 pub record IsPath (h : History) (q : Sought) (cs : List Choice) : Type 0 where
   pub considered : Considers h q cs
   pub moves : AreMoves h.scenario h.state cs
-  pub room : length h.entries + length cs ≤ max_choices
+  pub room : length h.entries + length cs ≤ deepest q
 
 -- these choices lead to a state that shows what is looked for
 pub record Finds (h : History) (q : Sought) (cs : List Choice) : Type 0 where
@@ -109,9 +118,9 @@ pub record Fills (h : History) (q : Sought) (most n : ℕ) : Type 0 where
   pub apart : AreApart paths
   pub each : All (λ cs. IsPath h q cs × (length cs ≤ n) × (Shows h.scenario q (reached h cs) → ⊥)) paths
 
--- the bound is all that the history has room for; the state of the start is not looked at only where that takes a step
+-- the history has no room to judge a state after as many choices as the bound
 abbrev pub HasNoRoom : History → Sought → ℕ → Type 0
-HasNoRoom h q fewer = (max_choices ≤ length h.entries + fewer) × (fewer ≡ 0 → asks_steps q ≡ true)
+HasNoRoom h q fewer = deepest q < length h.entries + fewer
 
 -- a search gives up only where it knows as many paths as it may, or where the history has no room for longer ones
 abbrev pub IsDue : History → Sought → ℕ → Answer → Type 0

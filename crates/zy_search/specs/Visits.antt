@@ -2,7 +2,6 @@
 use Rattle.std.specs.Prelude.{ℕ, ◌≡◌, ◌≤◌, ◌<◌, ◌+◌, ◌⊎◌, List, [], ◌∷◌, ◌++◌, true, false, length, slice_index_or}
 use Rattle.std.specs.Prelude.{IfSome}
 use Rattle.std.specs.List.{All}
-use Rattle.zy_isa.specs.Limits.{max_choices}
 use Rattle.zy_isa.specs.declared.choice.Choice.{Choice}
 use Rattle.zy_isa.specs.declared.choice.Choice.TheVariants.{Start}
 use Rattle.zy_table.specs.State.{State}
@@ -21,7 +20,7 @@ use Rattle.zy_search.specs.declared.answer.Expanded.TheVariants as expanded
 use Rattle.zy_search.specs.Choices.{considered, is_considered}
 use Rattle.zy_search.specs.Paths.{AreApart}
 use Rattle.zy_search.specs.Stuck.{is_still}
-use Rattle.zy_search.specs.Searches.{Shows, reached, IsPath, Finds}
+use Rattle.zy_search.specs.Searches.{Shows, reached, deepest, IsPath, Finds}
 
 -- the choices of a plan are all that its search considers
 abbrev pub IsWhole : Plan → Type 0
@@ -96,12 +95,12 @@ pub record IsSecond (m : History) (twin : Twin) : Type 0 where
   pub back : twin.is_back ≡ true → IsTwin m twin.machine
 
 -- a machine that has made one choice more
-pub record IsNext (h : History) (paths : List (List Choice)) (at : ℕ) (c : Choice) (m : History) : Type 0 where
+pub record IsNext (h : History) (q : Sought) (paths : List (List Choice)) (at : ℕ) (c : Choice) (m : History) : Type 0 where
   pub scenario : m.scenario ≡ h.scenario
   pub state : m.state ≡ (step h.scenario c (reached h (path_at paths at))).after
   pub moved : is_still (step h.scenario c (reached h (path_at paths at))).outcome ≡ false
   pub longer : length h.entries + length_at paths at < length m.entries
-  pub room : length m.entries < max_choices
+  pub room : length m.entries ≤ deepest q
 
 -- a machine of the scenario, where the path leads that it names
 pub record IsSpot (h : History) (paths : List (List Choice)) (spot : Spot) : Type 0 where
@@ -195,7 +194,7 @@ pub record FindsNext (h : History) (q : Sought) (old : List (List Choice)) (at :
 -- the search can go on no more
 abbrev pub StopsAt : History → Sought → ℕ → List (List Choice) → List (List Choice) → ℕ → Type 0
 StopsAt h q most old new at = IsFull h q most old new at
-    ⊎ (Grows old new × (max_choices ≤ length h.entries + length_at old at + 1))
+    ⊎ (Grows old new × (deepest q ≤ length h.entries + length_at old at))
 
 -- what all considered choices from the path at a place have led to
 abbrev pub ExpandsWell : Plan → List (List Choice) → List (List Choice) → ℕ → Expanded → Type 0

@@ -2,6 +2,7 @@
 ghost use Rattle.std.specs.Prelude.{◌≡◌, ◌≤◌, ◌<◌, ◌+◌, ◌^◌, ◌++◌, ◌∷◌, [], IfOk, OnOk, None, true, false, length};
 ghost use Rattle.zy_isa.specs.Limits.{max_choices};
 ghost use Rattle.zy_isa.specs.declared.choice.Choice.{Choice as AChoice};
+ghost use Rattle.zy_search.specs.Searches as searches;
 ghost use Rattle.zy_search.specs.Visits.{path_at, length_at, IsAbout, IsKnown, IsFresh, IsHere};
 ghost use Rattle.zy_search.specs.Visits.{IsKept, IsNext, IsReady};
 ghost use Rattle.zy_search.specs.Visits.{IsSecond, IsShelf, Grows, Meets, ExpandsWell};
@@ -12,6 +13,7 @@ use crate::digest::digest;
 use crate::plan::Plan;
 use crate::shelf::Shelf;
 use crate::shows::shows_next;
+use crate::sought::deepest;
 use crate::still::is_still;
 use crate::twin::Twin;
 use crate::visited::Visited;
@@ -79,7 +81,7 @@ fn keep(
     requires room { length visited.old < 2 ^ 32 }
     requires from { branch.from < length visited.old }
     requires here { here.now.scenario ≡ plan.now.start.scenario }
-    requires next { IsNext plan.now.start visited.old branch.from branch.by twin.old.machine }
+    requires next { IsNext plan.now.start plan.now.sought visited.old branch.from branch.by twin.old.machine }
     requires shelf { IsShelf plan.now.start visited.old shelf.old }
     ensures paths { OnOk result (visited.new
         ≡ visited.old ++ (path_at visited.old branch.from ++ branch.by ∷ []) ∷ []) }
@@ -103,7 +105,7 @@ fn note_new(
     digest: u64,
 ) -> Result<Met, Fault>
     requires about { IsAbout plan.now visited.old shelf.old branch here.now }
-    requires next { IsNext plan.now.start visited.old branch.from branch.by twin.old.machine }
+    requires next { IsNext plan.now.start plan.now.sought visited.old branch.from branch.by twin.old.machine }
     requires away { twin.old.is_back ≡ false }
     ensures { IfOk result (Meets plan.now visited.old visited.new shelf.new branch here.now twin.new) }
 {
@@ -134,7 +136,7 @@ fn note(
     twin: &mut Twin,
 ) -> Result<Met, Fault>
     requires about { IsAbout plan.now visited.old shelf.old branch here.now }
-    requires next { IsNext plan.now.start visited.old branch.from branch.by twin.old.machine }
+    requires next { IsNext plan.now.start plan.now.sought visited.old branch.from branch.by twin.old.machine }
     requires away { twin.old.is_back ≡ false }
     ensures { IfOk result (Meets plan.now visited.old visited.new shelf.new branch here.now twin.new) }
 {
@@ -154,7 +156,7 @@ fn meet(
     twin: &mut Twin,
 ) -> Result<Met, Fault>
     requires about { IsAbout plan.now visited.old shelf.old branch here.now }
-    requires room { length here.now.entries + 1 < max_choices }
+    requires room { length here.now.entries < searches.deepest plan.now.sought }
     requires twin { IsSecond here.now twin.old }
     ensures { IfOk result (Meets plan.now visited.old visited.new shelf.new branch here.now twin.new) }
 {
@@ -192,7 +194,7 @@ fn meet_each(
     requires ready { IsReady plan.now visited.old shelf.old at }
     requires end { (c : AChoice) → IsFresh visited.old at c }
     requires here { IsHere plan.now.start visited.old at here.now }
-    requires room { length here.now.entries + 1 < max_choices }
+    requires room { length here.now.entries < searches.deepest plan.now.sought }
     requires twin { IsSecond here.now twin.old }
     ensures well { IfOk result (ExpandsWell plan.now visited.old visited.new at) }
     ensures grows { OnOk result (Grows visited.old visited.new) }
@@ -229,9 +231,9 @@ fn arrive(
     requires at { at < length visited.now }
     requires here { here.old.scenario ≡ plan.now.start.scenario }
     ensures here { OnOk result (IsHere plan.now.start visited.now at here.new) }
-    // Where its history is full the path itself is long.
+    // Where its history is nearly full, the path itself is as long.
     ensures full { OnOk result (max_choices ≤ length here.new.entries + 1
-        → max_choices ≤ length plan.now.start.entries + length_at visited.now at + 1) }
+        → length here.new.entries ≡ length plan.now.start.entries + length_at visited.now at) }
     ensures shelf { OnOk result (IsShelf plan.now.start visited.now shelf.new) }
 {
     if shelf.take(at, here) && here.len() + 1 < MAX_CHOICES {
@@ -259,7 +261,7 @@ pub(crate) fn expand(
     ensures shelf { OnOk result (IsShelf plan.now.start visited.new shelf.new) }
 {
     arrive(plan, visited, shelf, at, here)?;
-    if MAX_CHOICES <= here.len() + 1 {
+    if deepest(&plan.sought) <= here.len() {
         return Ok(Expanded::Spent);
     }
     twin.is_back = false;

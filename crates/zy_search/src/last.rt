@@ -11,7 +11,7 @@ use crate::plan::Plan;
 use crate::possible::first_giving;
 use std::alloc::AllocError;
 use zy_goals::OutcomePattern;
-use zy_isa::{Choice, MAX_CHOICES};
+use zy_isa::Choice;
 use zy_machine::{Fault, Machine};
 
 /// Makes some choices.
@@ -74,8 +74,7 @@ fn longer(mut path: Vec<Choice>, choice: Choice) -> Result<Vec<Choice>, AllocErr
     Ok(path)
 }
 
-/// The answer where choices were found, with one more that has the outcome. It gives up where the history has no room
-/// for that one.
+/// The answer where choices were found, with one more that has the outcome.
 fn with_last(
     plan: &Plan,
     wanted: OutcomePattern,
@@ -91,9 +90,6 @@ fn with_last(
     ensures answer { IfOk result (IsAnswer plan.now.start plan.now.sought) }
     ensures due { IfOk result (IsDue plan.now.start plan.now.sought plan.now.most) }
 {
-    if MAX_CHOICES <= plan.start.len().saturating_add(path.len()) {
-        return Ok(Answer::Spent(path.len()));
-    }
     go_along(plan, &path, here)?;
     let choice = last_choice(plan, wanted, &path, here, spare)?;
     let path = longer(path, choice)?;

@@ -12,12 +12,12 @@ use crate::last::with_step;
 use crate::plan::Plan;
 use crate::shelf::Shelf;
 use crate::shows::shows;
-use crate::sought::{Sought, asks_steps};
+use crate::sought::{Sought, deepest};
 use crate::twin::Twin;
 use crate::visited::Visited;
 use crate::watch::Watch;
 use std::alloc::{AllocError, Global};
-use zy_isa::{Choice, MAX_CHOICES};
+use zy_isa::Choice;
 use zy_machine::{Fault, Machine};
 
 /// What is known where the path at a place was not expanded, and all before it were.
@@ -161,7 +161,7 @@ fn look_first<W: Watch>(
     ensures answer { IfOk result (IsReached plan.now.start plan.now.sought) }
     ensures due { IfOk result (IsDue plan.now.start plan.now.sought plan.now.most) }
 {
-    if MAX_CHOICES <= plan.start.len() && asks_steps(&plan.sought) {
+    if deepest(&plan.sought) < plan.start.len() {
         return Ok(Answer::Spent(0));
     }
     let is_shown = shows(

@@ -4,6 +4,7 @@ ghost use Rattle.zy_search.specs.Searches as spec;
 
 use zy_goals::commits::asks_stuck;
 use zy_goals::{Goal, OutcomePattern};
+use zy_isa::MAX_CHOICES;
 
 /// What is looked for, and by which choices.
 #[derive(Drop)]
@@ -17,8 +18,19 @@ pub struct Sought {
 }
 
 /// Whether it takes steps to judge if a state shows what is looked for.
-pub(crate) fn asks_steps(sought: &Sought) -> bool
+fn asks_steps(sought: &Sought) -> bool
     ensures { result ≡ spec.asks_steps sought.now }
 {
     sought.then.is_some() || asks_stuck(&sought.goal)
+}
+
+/// The most choices, from the opening on, after which a state is judged. Where that takes steps, there is room for one
+/// choice more.
+pub(crate) fn deepest(sought: &Sought) -> usize
+    ensures { result ≡ spec.deepest sought.now }
+{
+    if asks_steps(sought) {
+        return MAX_CHOICES - 1;
+    }
+    MAX_CHOICES
 }

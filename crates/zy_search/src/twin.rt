@@ -1,5 +1,5 @@
 //! A second machine, on which the choices from the state of a first one are tried.
-ghost use Rattle.std.specs.Prelude.{◌≡◌, ◌<◌, ◌+◌, IfOk, OnOk, true, length};
+ghost use Rattle.std.specs.Prelude.{◌≡◌, ◌<◌, ◌≤◌, ◌+◌, IfOk, OnOk, true, length};
 ghost use Rattle.zy_isa.specs.Limits.{max_choices};
 ghost use Rattle.zy_isa.specs.Choices.{names_below};
 ghost use Rattle.zy_table.specs.Play as table;
@@ -31,12 +31,13 @@ impl Twin {
         })
     }
 
-    /// Comes back to the state of the first machine, if it is not there or has no room in its history.
+    /// Comes back to the state of the first machine, if it is not there or its history is nearly full.
     fn come_back(&mut self, alloc: Global, here: &Machine) -> Result<(), Fault>
         requires second { IsSecond here.now self.old }
-        requires room { length here.now.entries + 1 < max_choices }
         ensures twin { OnOk result (IsTwin here.now self.new.machine) }
-        ensures room { OnOk result (length self.new.machine.entries + 1 < max_choices) }
+        // Where its history is nearly full, it is as long as that of the first machine.
+        ensures full { OnOk result (max_choices ≤ length self.new.machine.entries + 1
+            → length self.new.machine.entries ≡ length here.now.entries) }
     {
         if self.is_back && self.machine.len() + 1 < MAX_CHOICES {
             return Ok(());
@@ -52,14 +53,16 @@ impl Twin {
         choice: Choice,
     ) -> Result<Outcome, Fault>
         requires second { IsSecond here.now self.old }
-        requires room { length here.now.entries + 1 < max_choices }
+        requires room { length here.now.entries < max_choices }
         requires named { names_below (length here.now.scenario.programs) choice ≡ true }
         ensures outcome { IfOk result (λ o. o ≡ (table.step here.now.scenario choice here.now.state).outcome) }
         ensures back { IfOk result (λ o. self.new.is_back ≡ spec.is_still o) }
         ensures state { OnOk result (self.new.machine.state
             ≡ (table.step here.now.scenario choice here.now.state).after) }
         ensures longer { OnOk result (length here.now.entries < length self.new.machine.entries) }
-        ensures room { OnOk result (length self.new.machine.entries < max_choices) }
+        // Where its history is full, that of the first machine has room for one choice more.
+        ensures full { OnOk result (max_choices ≤ length self.new.machine.entries
+            → length self.new.machine.entries ≡ length here.now.entries + 1) }
         ensures second { OnOk result (IsSecond here.now self.new) }
     {
         self.come_back(alloc, here)?;

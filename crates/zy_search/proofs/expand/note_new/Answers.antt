@@ -12,10 +12,11 @@ use Rattle.zy_search.specs.Searches.{reached, Shows}
 use Rattle.zy_search.specs.Visits.{path_at, length_at, IsEdge, IsFresh, IsNext, IsSecond, Visits, Notes, IsVisited}
 use Rattle.zy_search.proofs.SearchLemmas.{reached_more, grows_not, grows_push, visits_push, visited_last, path_more}
 use Rattle.zy_search.proofs.EdgeLemmas.{apart_push, edge_push}
+use Rattle.zy_search.proofs.DepthLemmas.{steps_fit}
 use Rattle.zy_search.proofs.expand.note_new.Goals as goal
 
 -- The machine m is one choice further than the path at a place, and it was tested whether its state shows what is looked for.
-module _ (h : History) (q : Sought) (old : List (List Choice)) (at : ℕ) (c : Choice) (m : History) (n : IsNext h old at c m) (b : Bool)
+module _ (h : History) (q : Sought) (old : List (List Choice)) (at : ℕ) (c : Choice) (m : History) (n : IsNext h q old at c m) (b : Bool)
     (d : Decides b (Shows m.scenario q m.state)) where
   -- so it was of the state to which the new path leads
   shown_next : Decides b (Shows h.scenario q (reached h (path_at old at ++ c ∷ [])))
@@ -45,6 +46,9 @@ module _ (h : History) (q : Sought) (old : List (List Choice)) (at : ℕ) (c : C
 -- the twin is one choice further
 twin_away : (here : History) (twin : Twin) → twin.machine.scenario ≡ here.scenario → twin.is_back ≡ false → IsSecond here twin
 twin_away here twin same away = record { scenario = same; back = λ back. absurd (false≢true (sym away ∙ back)) }
+
+pub shows_next-requires-clause-room : goal.shows_next-requires-clause-room
+shows_next-requires-clause-room c = steps_fit c.args.plan.now.sought (length c.args.twin.now.machine.entries) c.requires.next.room
 
 pub returns-then-branch : goal.returns-then-branch
 returns-then-branch c =
