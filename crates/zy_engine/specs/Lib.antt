@@ -7,4 +7,3 @@ pub mod Again
 pub mod Checks
 pub mod Debugs
 pub mod Searching
-pub mod Explaining

@@ -4,7 +4,6 @@
 pub mod checking;
 pub mod debugging;
 pub mod engine;
-pub mod explaining;
 pub mod faults;
 pub mod format;
 pub mod laws;

@@ -1,7 +1,8 @@
 //! What the engines write of a scenario.
-ghost use Rattle.std.specs.Prelude.{◌<◌};
+ghost use Rattle.std.specs.Prelude.{◌≡◌, ◌<◌, IfOk};
 ghost use Rattle.zy_io.specs.Writing.{Wrote};
-ghost use Rattle.zy_engine.specs.Outputs.{output_of};
+ghost use Rattle.zy_table.specs.Play.{entries, opening, play};
+ghost use Rattle.zy_engine.specs.Outputs.{output_of, shown_of};
 ghost use Rattle.zy_engine.specs.declared.output.Output.TheVariants.{Image};
 
 use std::alloc::Global;
@@ -11,15 +12,45 @@ use zy_image::save::save;
 use zy_io::writing::write_all;
 use zy_io::{Sink, TextFault};
 use zy_isa::Scenario;
+use zy_machine::Machine;
 use zy_trace::trace::write_trace;
 
-/// What can be written of a scenario.
+/// What can be written of a scenario's run.
+#[derive(Clone, Copy)]
+pub enum Shown {
+    /// The listing.
+    Listing,
+    /// The trace.
+    Trace,
+}
+
+impl Shown {
+    /// Makes the choices of a scenario, writes it, or a prefix of it, and gives the machine that has made them.
+    pub fn write<K: Sink>(
+        self,
+        alloc: Global,
+        scenario: Scenario,
+        sink: &mut K,
+    ) -> Result<Machine, TextFault>
+        requires { K.failures sink.old < u64.MAX }
+        ensures wrote { Wrote (K.written sink.old) (K.written sink.new) (K.failures sink.old)
+            (K.failures sink.new) result (shown_of self scenario) }
+        ensures machine { IfOk result (λ m. m ≡ record {
+          scenario = scenario;
+          state = play scenario (opening scenario) scenario.choices;
+          entries = entries scenario (opening scenario) scenario.choices;
+        }) }
+    {
+        match self {
+            Shown::Listing => write_run(alloc, scenario, sink),
+            Shown::Trace => write_trace(alloc, scenario, sink),
+        }
+    }
+}
+
+/// What can be written of a scenario without its run.
 #[derive(Clone, Copy)]
 pub enum Output {
-    /// The listing of its run.
-    Listing,
-    /// The trace of its run.
-    Trace,
     /// Its image.
     Image,
     /// Its canonical text.
@@ -39,8 +70,6 @@ impl Output {
             (K.failures sink.new) result (output_of self scenario) }
     {
         match self {
-            Output::Listing => write_run(alloc, scenario, sink),
-            Output::Trace => write_trace(alloc, scenario, sink),
             Output::Image => write_image(alloc, &scenario, sink),
             Output::Text => write_text(alloc, &scenario, sink),
         }

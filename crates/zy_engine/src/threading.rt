@@ -11,27 +11,31 @@ use std::thread::Threads;
 use zy_audit::listing::write_listing;
 use zy_io::{Sink, Source, TextFault};
 use zy_isa::Scenario;
+use zy_machine::Machine;
 use zy_threads::Gate;
 use zy_threads::run::run_threads;
 
-/// Makes the choices of a scenario by three threads, and writes the listing in the order that they took.
+/// Makes the choices of a scenario by three threads, writes the listing in the order that they took, and gives the
+/// machine that has made them.
 fn write_threads<R: Threads + Wait + Sync, G: Gate + Sync, K: Sink>(
     rt: &R,
     alloc: Global,
     scenario: Scenario,
     gate: &G,
     sink: &mut K,
-) -> Result<(), TextFault>
+) -> Result<Machine, TextFault>
     requires { K.failures sink.old < u64.MAX }
     ensures { WroteMerge scenario (K.written sink.old) (K.written sink.new) (K.failures sink.old)
         (K.failures sink.new) result }
 {
     let machine = run_threads(rt, alloc, scenario, gate)?;
-    write_listing(alloc, &machine, sink)
+    write_listing(alloc, &machine, sink)?;
+    Ok(machine)
 }
 
-/// Reads a scenario whole, makes its choices by three threads, and writes its listing in the order that they took.
-/// Nothing is written before the input is read to its end and found to be a scenario.
+/// Reads a scenario whole, makes its choices by three threads, writes its listing in the order that they took, and
+/// gives the machine that has made them. Nothing is written before the input is read to its end and found to be a
+/// scenario.
 /// The bytes that were read are left in `input`.
 pub fn threads_bytes<S: Source, K: Sink, R: Threads + Wait + Sync, G: Gate + Sync>(
     rt: &R,
@@ -41,12 +45,12 @@ pub fn threads_bytes<S: Source, K: Sink, R: Threads + Wait + Sync, G: Gate + Syn
     sink: &mut K,
     input: &mut Vec<u8>,
     gate: &G,
-) -> Result<(), BenchFault>
+) -> Result<Machine, BenchFault>
     requires { (S.failures source.old < u64.MAX) × (K.failures sink.old < u64.MAX) }
     ensures { let at = streams S.left S.failures S.given K.written K.failures in
         ConvertsMerged format (at source.old sink.old) (at source.new sink.new) result }
 {
     let scenario = read_scenario(alloc, format, source, input)?;
-    write_threads(rt, alloc, scenario, gate, sink)?;
-    Ok(())
+    let machine = write_threads(rt, alloc, scenario, gate, sink)?;
+    Ok(machine)
 }
