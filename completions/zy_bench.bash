@@ -17,6 +17,9 @@ _zy_bench() {
     options='differs aborted own killed badkey missing duplicate frozen nopage gone committed stuck'
   fi
   mapfile -t COMPREPLY < <(compgen -W "$options" -- "$word")
+  if [[ ${COMP_WORDS[1]} != help && $word != -* && ! $before =~ ^--(for|always|every|ring|states)$ ]]; then
+    mapfile -t -O "${#COMPREPLY[@]}" COMPREPLY < <(compgen -f -- "$word")
+  fi
 }
 
 _zview() {
