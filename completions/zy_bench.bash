@@ -33,7 +33,7 @@ _zview() {
   fi
 }
 
-complete -F _zy_bench -o default zy_bench
+complete -F _zy_bench -o filenames -o default zy_bench
 complete -F _zview -o filenames zview
 complete -f -W '--help' zdb
 complete -f -W '--port --no-open --help' zplay
