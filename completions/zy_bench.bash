@@ -17,6 +17,9 @@ _zy_bench() {
     options='differs aborted own killed badkey missing duplicate frozen nopage gone committed stuck'
   fi
   mapfile -t COMPREPLY < <(compgen -W "$options" -- "$word")
+  if [[ ${COMP_WORDS[1]} != help && $word != -* && ! $before =~ ^--(for|always|every|ring|states)$ ]]; then
+    mapfile -t -O "${#COMPREPLY[@]}" COMPREPLY < <(compgen -f -- "$word")
+  fi
 }
 
 _zview() {
@@ -30,7 +33,7 @@ _zview() {
   fi
 }
 
-complete -F _zy_bench -o default zy_bench
+complete -F _zy_bench -o filenames -o default zy_bench
 complete -F _zview -o filenames zview
 complete -f -W '--help' zdb
 complete -f -W '--port --no-open --help' zplay

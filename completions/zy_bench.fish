@@ -2,6 +2,7 @@
 set -l commands run asm dis check threads trace debug search help
 
 complete -c zy_bench -f -n "not __fish_seen_subcommand_from $commands" -a "$commands"
+complete -c zy_bench -f -n '__fish_seen_subcommand_from help' -a "$commands"
 complete -c zy_bench -l help -s h -d 'Print help'
 complete -c zy_bench -l version -s V -d 'Print the version' -n "not __fish_seen_subcommand_from $commands"
 complete -c zy_bench -l image -d 'The input is an image' -n '__fish_seen_subcommand_from run threads trace search'

@@ -7,10 +7,56 @@ use crate::meant::Meant;
 use crate::text::TextAdvice;
 use crate::unknown::begins_other_comment;
 use std::fmt;
-use zy_text::names::is;
+use zy_text::names::{is, is_numeral};
+use zy_text::numbers::number_of;
 
 /// What a byte order mark is in UTF-8.
 const MARK: &[u8] = b"\xef\xbb\xbf";
+
+/// How many bytes show whether an input is text.
+const FRONT: usize = 512;
+
+/// What an input is that is not text.
+#[derive(Clone, Copy, Debug, PartialEq, Eq)]
+enum Other {
+    /// A picture.
+    Png,
+    /// A file that gzip has compressed.
+    Gzip,
+    /// An archive of zip.
+    Zip,
+    /// Something with bytes that no text has.
+    Bytes,
+}
+
+impl Other {
+    /// What an input is, by the bytes that it begins with.
+    fn of(input: &[u8]) -> Option<Other> {
+        let front = input.get(..FRONT).unwrap_or(input);
+        if front.starts_with(b"\x89PNG") {
+            Some(Other::Png)
+        } else if front.starts_with(b"\x1f\x8b") {
+            Some(Other::Gzip)
+        } else if front.starts_with(b"PK\x03\x04") {
+            Some(Other::Zip)
+        } else if front.contains(&0) {
+            Some(Other::Bytes)
+        } else {
+            None
+        }
+    }
+}
+
+impl fmt::Display for Other {
+    fn fmt<W: fmt::Write>(&self, f: &mut fmt::Formatter<W>) -> fmt::Result {
+        f.write_str(match self {
+            Other::Png => "this is a PNG picture, and not text",
+            Other::Gzip => "this was compressed by gzip, and is not text",
+            Other::Zip => "this is a zip archive, and not text",
+            Other::Bytes => "this is not text",
+        })
+    }
+}
 
 /// How a statement of the header is written.
 pub fn head_pattern(part: Part) -> &'static str {
@@ -56,6 +102,9 @@ impl TextAdvice<'_> {
         if !is(self.statement.text(0), head(part).as_bytes()) {
             return self.tell_other_head(f, part);
         }
+        if begins_other_comment(self.word()) {
+            return f.write_str("a comment begins with ;");
+        }
         match (part, self.statement.count()) {
             (Part::Header(0), 2) => write!(
                 f,
@@ -85,7 +134,7 @@ impl TextAdvice<'_> {
             return f.write_str(": a comment begins with ;");
         }
         if let Some(number) = word.strip_prefix(due.as_bytes()) {
-            if number.iter().all(|byte| byte.is_ascii_digit()) {
+            if is_numeral(number) && number_of(number).is_some() {
                 return write!(f, ": {due} {}, with a space between", Bytes(number));
             }
         }
@@ -100,7 +149,10 @@ impl TextAdvice<'_> {
         if self.input.starts_with(b"\xff\xfe") || self.input.starts_with(b"\xfe\xff") {
             return f.write_str("the text is UTF-16: save it as UTF-8");
         }
-        write!(f, "{}: save the text as UTF-8", self.reason)
+        match Other::of(self.input) {
+            Some(other) => write!(f, "{other}"),
+            None => write!(f, "{}: save the text as UTF-8", self.reason),
+        }
     }
 
     /// Says what is below the end.

@@ -2,6 +2,7 @@
 
 use crate::bytes::Bytes;
 use crate::line::{Line, Word};
+use crate::text::Position;
 use std::fmt;
 
 /// How many bytes in front of a word, of the word, and behind it are shown.
@@ -43,6 +44,19 @@ impl<'a> Place<'a> {
         place.line = Some(line.number);
         Some(place)
     }
+
+    /// The line of the word, which is the fault's unless it is elsewhere, and the column.
+    pub fn position(self, line: usize) -> Position {
+        Position {
+            line: self.line.unwrap_or(line),
+            column: self.column(),
+        }
+    }
+
+    /// The column of the word, from 1 and in characters.
+    fn column(self) -> usize {
+        characters(self.before).saturating_add(1)
+    }
 }
 
 /// The bytes without the spaces at their end.
@@ -57,7 +71,7 @@ impl fmt::Display for Place<'_> {
         if let Some(line) = self.line {
             write!(f, "line {line}, ")?;
         }
-        let column = characters(self.before).saturating_add(1);
+        let column = self.column();
         let (before, word, after) = (Before(self.before), After(self.word), After(self.after));
         write!(f, "column {column}: '{before}>{word}<{after}'")
     }

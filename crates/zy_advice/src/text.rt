@@ -28,6 +28,15 @@ pub struct TextAdvice<'a> {
     pub(crate) statement: Statement<'a>,
 }
 
+/// A place of a text.
+#[derive(Clone, Copy, Debug, PartialEq, Eq)]
+pub struct Position {
+    /// The number of the line, from 1.
+    pub line: usize,
+    /// The number of the character in it, from 1.
+    pub column: usize,
+}
+
 impl<'a> TextAdvice<'a> {
     /// Why this command refuses this input.
     pub fn of(command: Command, input: &'a [u8], refusal: Refusal) -> TextAdvice<'a> {
@@ -41,6 +50,18 @@ impl<'a> TextAdvice<'a> {
             above: Above::of(lines),
             line,
             statement: line.statement(),
+        }
+    }
+
+    /// Where the fault is: at the word that is at fault, or else where the refused line begins.
+    pub fn position(&self) -> Position {
+        let number = self.line.number;
+        match self.place() {
+            Some(place) if !is_image(self.input) => place.position(number),
+            _ => Position {
+                line: number,
+                column: 1,
+            },
         }
     }
 }

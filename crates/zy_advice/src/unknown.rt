@@ -1,24 +1,29 @@
 //! What was meant by a word that is not known.
 
 use crate::above::{Above, Part};
-use crate::bytes::Bytes;
+use crate::bytes::{Bytes, Quoted};
 use crate::form::{Form, Shape, is_plain_of_node};
 use crate::line::Statement;
 use crate::meant::Meant;
+use crate::negative::Negative;
 use std::fmt;
 use zy_isa::Version;
 use zy_text::names::is;
+use zy_text::numbers::number_of;
 
-/// The words that a line below the header may begin with, in small letters.
-const STATEMENTS: [&'static str; 16] = [
-    "set", "read", "write", "insert", "add", "beq", "commit", "abort", "sum", "row", "txn", "end",
+/// The words that a line below the header may begin with in both versions, in small letters.
+const STATEMENTS: [&'static str; 15] = [
+    "set", "read", "write", "insert", "add", "beq", "commit", "abort", "row", "txn", "end",
     "zephyr", "cap", "pages", "rule",
 ];
 
-/// The words that an instruction may begin with.
+/// The words that an instruction may begin with in both versions.
 pub const INSTRUCTIONS: [&'static str; 8] = [
     "set", "read", "write", "insert", "add", "beq", "commit", "abort",
 ];
+
+/// The word that version 2 has beside these.
+const SUM: [&'static str; 1] = ["sum"];
 
 /// The actions of the client.
 const OF_CLIENT: [&'static str; 3] = ["start", "begin", "kill"];
@@ -52,26 +57,26 @@ impl<'a> Unknown<'a> {
 
     /// Says what may follow a known word.
     fn tell_behind<W: fmt::Write>(&self, f: &mut fmt::Formatter<W>, form: Form<'a>) -> fmt::Result {
-        let word = Bytes(self.word());
+        let word = Quoted(self.word());
         match form.shape {
             Shape::OnTxn | Shape::Plain => {
                 write!(
                     f,
-                    "behind a choice comes x N or nothing, and not '{word}': {}",
+                    "behind a choice comes x N or nothing, and not {word}: {}",
                     form.pattern()
                 )
             }
             Shape::Client => {
-                write!(f, "C has no action '{word}'")?;
+                write!(f, "C has no action {word}")?;
                 tell_action_of_client(f, self.word())
             }
             Shape::Node => {
                 let actor = self.statement.text(0);
-                write!(f, "{} has no action '{word}'", Bytes(actor))?;
+                write!(f, "{} has no action {word}", Bytes(actor))?;
                 tell_action_of_node(f, self.word(), form)
             }
             _ => {
-                write!(f, "a register r0 to r7 is expected here, not '{word}': ")?;
+                write!(f, "a register r0 to r7 is expected here, not {word}: ")?;
                 tell_register(f, self.word(), form)
             }
         }
@@ -80,12 +85,18 @@ impl<'a> Unknown<'a> {
     /// Says what may begin a line.
     fn tell_first<W: fmt::Write>(&self, f: &mut fmt::Formatter<W>) -> fmt::Result {
         let word = self.word();
-        write!(f, "the word '{}' is not known here: ", Bytes(word))?;
+        write!(f, "the word {} is not known here: ", Quoted(word))?;
         if begins_other_comment(word) {
             return f.write_str("a comment begins with ;");
         }
         if is(word, b"sum") {
             return f.write_str("sum is an instruction of version 2, which begins with zephyr 2");
+        }
+        if is(word, b"sub") {
+            return tell_subtraction(f, self.statement.text(self.at.saturating_add(2)));
+        }
+        if is(word, b"li") {
+            return tell_load(f, self.statement);
         }
         if is(word, b"a") || is(word, b"b") || is(word, b"c") {
             return f.write_str("the actors are A, B and C, in capital letters");
@@ -100,10 +111,62 @@ impl<'a> Unknown<'a> {
         if is_action(self.statement.text(1)) {
             return f.write_str("the actors are A, B and C");
         }
-        match Meant::of(word, &STATEMENTS) {
+        match MeantHere::of(self.above.version, word, &STATEMENTS) {
             Some(meant) => write!(f, "{meant}"),
             None => tell_statements(f, self.above),
         }
+    }
+}
+
+/// What a word was meant to be in a text of a version.
+#[derive(Clone, Copy)]
+pub struct MeantHere {
+    meant: Meant<'static>,
+    /// Whether the version does not have it.
+    is_early: bool,
+}
+
+impl MeantHere {
+    /// Which of these words is meant, or else whether `sum` is.
+    pub fn of(version: Version, word: &[u8], known: &[&'static str]) -> Option<MeantHere> {
+        if let Some(meant) = Meant::of(word, known) {
+            return Some(MeantHere {
+                meant,
+                is_early: false,
+            });
+        }
+        let meant = Meant::of(word, &SUM)?;
+        Some(MeantHere {
+            meant,
+            is_early: version == Version::One,
+        })
+    }
+}
+
+impl fmt::Display for MeantHere {
+    fn fmt<W: fmt::Write>(&self, f: &mut fmt::Formatter<W>) -> fmt::Result {
+        write!(f, "{}", self.meant)?;
+        if self.is_early {
+            f.write_str(", an instruction of version 2, which begins with zephyr 2")?;
+        }
+        Ok(())
+    }
+}
+
+/// Says how this number is taken away, or any other.
+pub fn tell_subtraction<W: fmt::Write>(f: &mut fmt::Formatter<W>, word: &[u8]) -> fmt::Result {
+    match number_of(word).and_then(Negative::less) {
+        Some(negative) => write!(f, "set a register to {negative}, and add it"),
+        None => f.write_str("to take N away, set a register to 2^32 - N, and add it"),
+    }
+}
+
+/// Says how a number comes into a register.
+fn tell_load<W: fmt::Write>(f: &mut fmt::Formatter<W>, statement: Statement<'_>) -> fmt::Result {
+    f.write_str("set rA N puts a number into a register")?;
+    match Negative::among(statement) {
+        Some(negative) => write!(f, ", here {negative}"),
+        None => Ok(()),
     }
 }
 
@@ -167,10 +230,17 @@ fn tell_register<W: fmt::Write>(
     word: &[u8],
     form: Form<'_>,
 ) -> fmt::Result {
+    if let [b'R', number @ b'0'..=b'7'] = word {
+        return write!(f, "write it in small letters, r{}", char::from(*number));
+    }
     if word.contains(&b',') {
         f.write_str("words have spaces between them, and no comma: ")?;
     }
-    write!(f, "{}", form.pattern())
+    write!(f, "{}", form.pattern())?;
+    match Negative::of(word) {
+        Some(negative) => write!(f, ", with {negative}, in a register"),
+        None => Ok(()),
+    }
 }
 
 /// Says with which words a line here may begin.

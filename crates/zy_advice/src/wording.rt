@@ -4,11 +4,13 @@ use crate::above::Part;
 use crate::bytes::{Bytes, Quoted};
 use crate::form::{Form, Shape};
 use crate::header::head_pattern;
-use crate::meant::Meant;
+use crate::negative::Negative;
 use crate::text::TextAdvice;
-use crate::unknown::{INSTRUCTIONS, begins_other_comment, tell_instructions};
+use crate::unknown::{
+    INSTRUCTIONS, MeantHere, begins_other_comment, tell_instructions, tell_subtraction,
+};
 use std::fmt;
-use zy_text::names::{is, is_numeral, label_of};
+use zy_text::names::{is, is_name, is_numeral, label_of};
 use zy_text::numbers::number_of;
 
 /// The most bytes of a name.
@@ -43,7 +45,10 @@ impl TextAdvice<'_> {
         if is(word, b"sum") {
             return f.write_str("sum is one of version 2, which begins with zephyr 2");
         }
-        if let Some(meant) = Meant::of(word, &INSTRUCTIONS) {
+        if is(word, b"sub") {
+            return tell_subtraction(f, self.statement.text(self.culprit().saturating_add(2)));
+        }
+        if let Some(meant) = MeantHere::of(self.above.version, word, &INSTRUCTIONS) {
             return write!(f, "{meant}");
         }
         match label_of(word) {
@@ -94,16 +99,25 @@ impl TextAdvice<'_> {
         if let Part::Header(count) = self.above.part() {
             return f.write_str(head_pattern(Part::Header(count)));
         }
-        match self.form() {
-            Some(form) => write!(f, "{}", form.pattern()),
-            None => Ok(()),
+        let Some(form) = self.form() else {
+            return Ok(());
+        };
+        write!(f, "{}", form.pattern())?;
+        match Negative::of(self.word()) {
+            Some(negative) if self.is_value(form) => write!(f, ", here {negative}"),
+            _ => Ok(()),
         }
+    }
+
+    /// Whether the word at fault is to be the value of a register or of a row.
+    fn is_value(&self, form: Form<'_>) -> bool {
+        form.shape == Shape::Number || form.shape == Shape::Row && self.culprit() == 2
     }
 }
 
 /// Says what a target is, in the place of a word that is none.
 fn tell_target<W: fmt::Write>(f: &mut fmt::Formatter<W>, word: &[u8]) -> fmt::Result {
-    if word.iter().all(|byte| byte.is_ascii_digit()) {
+    if is_numeral(word) && number_of(word).is_some() {
         return write!(
             f,
             "a target is a label or @{}, and not {}",
@@ -112,13 +126,13 @@ fn tell_target<W: fmt::Write>(f: &mut fmt::Formatter<W>, word: &[u8]) -> fmt::Re
         );
     }
     match label_of(word) {
-        Some(name) => write!(
+        Some(name) if is_name(name) => write!(
             f,
             "a target is a label without its colon, {}, and not {}",
             Bytes(name),
             Quoted(word)
         ),
-        None => write!(f, "a target is a label or @N, and not {}", Quoted(word)),
+        _ => write!(f, "a target is a label or @N, and not {}", Quoted(word)),
     }
 }
 

@@ -1,43 +1,84 @@
 //! A fault of an input, with what to do about it.
 
+use crate::given::Failure;
+use crate::origin::Origin;
 use std::fmt;
 use zy_advice::{Command, ImageAdvice, TextAdvice};
 use zy_engine::BenchFault;
 
+/// What a command has read.
+#[derive(Clone, Copy)]
+pub struct Reading<'a> {
+    pub command: Command,
+    /// The name of the file that it begins with.
+    pub file: Option<&'a str>,
+    /// How many lines are above standard input, where that is read below a file.
+    pub lines: Option<usize>,
+    pub bytes: &'a [u8],
+    /// Why it was not read to its end.
+    pub failure: Option<Failure>,
+}
+
 /// A fault, as standard error shows it.
 #[derive(Clone, Copy)]
 pub struct Advised<'a> {
-    command: Command,
-    input: &'a [u8],
+    reading: Reading<'a>,
     fault: BenchFault,
 }
 
 impl<'a> Advised<'a> {
-    /// Why this command refuses this input.
-    pub fn of(command: Command, input: &'a [u8], fault: BenchFault) -> Advised<'a> {
-        Advised {
+    /// Why a command refuses what it has read.
+    pub fn of(reading: Reading<'a>, fault: BenchFault) -> Advised<'a> {
+        Advised { reading, fault }
+    }
+
+    /// Where the fault is.
+    fn origin(&self) -> Origin<'a> {
+        let Reading {
             command,
-            input,
-            fault,
+            file,
+            lines,
+            bytes,
+            failure,
+        } = self.reading;
+        match self.fault {
+            BenchFault::Input(refusal) => {
+                let position = TextAdvice::of(command, bytes, refusal).position();
+                match lines {
+                    Some(lines) if position.line > lines => Origin::of(file),
+                    _ => Origin::at(file, position),
+                }
+            }
+            BenchFault::Image(_) | BenchFault::TooLong => Origin::of(file),
+            BenchFault::Read => match failure {
+                Some(failure) if !failure.is_file => Origin::Program,
+                _ => Origin::of(file),
+            },
+            BenchFault::Write | BenchFault::Memory => Origin::Program,
         }
     }
 }
 
-/// The fault's name, and the words.
+/// Where it is, the fault's name, and the words.
 impl fmt::Display for Advised<'_> {
     fn fmt<W: fmt::Write>(&self, f: &mut fmt::Formatter<W>) -> fmt::Result {
+        let Reading { command, bytes, .. } = self.reading;
+        write!(f, "{}: ", self.origin())?;
         match self.fault {
             BenchFault::Input(refusal) => {
                 let (line, kind) = (refusal.line, refusal.reason.kind());
-                let advice = TextAdvice::of(self.command, self.input, refusal);
+                let advice = TextAdvice::of(command, bytes, refusal);
                 write!(f, "Input(line {line}, {kind:?}): {advice}")
             }
             BenchFault::Image(refusal) => {
                 let fault = refusal.fault;
-                let advice = ImageAdvice::of(self.command, self.input, refusal);
+                let advice = ImageAdvice::of(command, bytes, refusal);
                 write!(f, "Image({fault:?}): {advice}")
             }
-            fault => write!(f, "{fault}"),
+            fault => match self.reading.failure {
+                Some(failure) if fault == BenchFault::Read => write!(f, "Read: {failure}"),
+                _ => write!(f, "{fault}"),
+            },
         }
     }
 }

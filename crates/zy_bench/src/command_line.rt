@@ -4,9 +4,17 @@ use clap::{Arg, ArgAction, ArgMatches, Command, value_parser};
 use std::alloc::{AllocError, Global};
 use zy_engine::Format;
 
+/// A task, and the input that it is for.
+#[derive(Clone, Copy, Debug, PartialEq, Eq)]
+pub struct Request<'a> {
+    pub task: Task<'a>,
+    /// The file that is read; standard input where there is none.
+    pub file: Option<&'a str>,
+}
+
 /// What is asked for.
 #[derive(Clone, Copy, Debug, PartialEq, Eq)]
-pub enum Request<'a> {
+pub enum Task<'a> {
     /// Print something of a scenario.
     Convert(Conversion),
     /// Say whether the input is a listing.
@@ -55,6 +63,16 @@ pub enum Conversion {
     Dis,
 }
 
+impl Conversion {
+    /// Whether the choices are made.
+    pub fn is_run(self) -> bool {
+        match self {
+            Conversion::Run(_) | Conversion::Trace(_) | Conversion::Threads(_) => true,
+            Conversion::Asm | Conversion::Dis => false,
+        }
+    }
+}
+
 /// What is below the options of a command: what it reads and what it writes, and an example.
 macro_rules! below {
     ($input:literal, $output:literal, $example:literal) => {
@@ -80,71 +98,84 @@ fn image_flag<'a>(alloc: Global) -> Arg<'a> {
         .help("The input is an image, as asm writes it, and not a text")
 }
 
+/// The file that is read.
+fn file_argument<'a>(alloc: Global) -> Arg<'a> {
+    Arg::new(alloc, "file")
+        .value_name("FILE")
+        .help("The file that is read; without it standard input is")
+}
+
 /// `threads`.
 fn threads_command<'a>(alloc: Global) -> Result<Command<'a>, AllocError> {
     Command::new(alloc, "threads")
-        .about("Runs the scenario on standard input by three threads, and prints its listing")
+        .about("Runs a scenario by three threads, and prints its listing")
         .after_help(below!(
             "a scenario text, or with --image an image",
             "the listing, with the choices in the order that the threads took",
-            "zy_bench threads < examples/migration.zephyr"
+            "zy_bench threads examples/migration.zephyr"
         ))
-        .arg(image_flag(alloc))
+        .arg(image_flag(alloc))?
+        .arg(file_argument(alloc))
 }
 
 /// `run`.
 fn run_command<'a>(alloc: Global) -> Result<Command<'a>, AllocError> {
     Command::new(alloc, "run")
-        .about("Runs the scenario on standard input, and prints its listing")
+        .about("Runs a scenario, and prints its listing")
         .after_help(below!(
             "a scenario text, or with --image an image",
             "the listing",
-            "zy_bench run < examples/first_run.zephyr"
+            "zy_bench run examples/first_run.zephyr"
         ))
-        .arg(image_flag(alloc))
+        .arg(image_flag(alloc))?
+        .arg(file_argument(alloc))
 }
 
 /// `trace`.
 fn trace_command<'a>(alloc: Global) -> Result<Command<'a>, AllocError> {
     Command::new(alloc, "trace")
-        .about("Runs the scenario on standard input, and prints what each step changes")
+        .about("Runs a scenario, and prints what each step changes")
         .after_help(below!(
             "a scenario text, or with --image an image",
             "the scenario, the lines of its opening state, each step with the lines that it\n         changed, and the end of the listing",
-            "zy_bench trace < examples/first_run.zephyr"
+            "zy_bench trace examples/first_run.zephyr"
         ))
-        .arg(image_flag(alloc))
+        .arg(image_flag(alloc))?
+        .arg(file_argument(alloc))
 }
 
 /// `asm`.
-fn asm_command<'a>(alloc: Global) -> Command<'a> {
+fn asm_command<'a>(alloc: Global) -> Result<Command<'a>, AllocError> {
     Command::new(alloc, "asm")
-        .about("Reads a scenario text on standard input, and writes its image")
+        .about("Reads a scenario text, and writes its image")
         .after_help(below!(
             "a scenario text",
             "its image",
-            "zy_bench asm < examples/first_run.zephyr > first_run.image"
+            "zy_bench asm examples/first_run.zephyr > first_run.image"
         ))
+        .arg(file_argument(alloc))
 }
 
 /// `dis`.
-fn dis_command<'a>(alloc: Global) -> Command<'a> {
+fn dis_command<'a>(alloc: Global) -> Result<Command<'a>, AllocError> {
     Command::new(alloc, "dis")
-        .about("Reads the image of a scenario on standard input, and prints its canonical text")
+        .about("Reads the image of a scenario, and prints its canonical text")
         .after_help(below!(
             "the image of a scenario, as asm writes it",
             "its canonical text",
-            "zy_bench dis < first_run.image"
+            "zy_bench dis first_run.image"
         ))
+        .arg(file_argument(alloc))
 }
 
 /// `check`.
-fn check_command<'a>(alloc: Global) -> Command<'a> {
+fn check_command<'a>(alloc: Global) -> Result<Command<'a>, AllocError> {
     Command::new(alloc, "check")
-        .about("Reads a listing on standard input, and says whether it is right")
+        .about("Reads a listing, and says whether it is right")
         .after_help(
-            "The scenario at its head, through its end line, is run. Where the input is its listing, byte\nfor byte, the output is table, else not table L: L is the first line of the input that differs,\nand standard error shows it.\n\nExample:\n  zy_bench run < examples/first_run.zephyr | zy_bench check\n\nStatus: 0 table, 1 the scenario is refused, 2 the command line is wrong,\n3 out of memory, 4 not table, 5 the input or the output failed.\nFormats: docs/formats.md",
+            "The scenario at its head, through its end line, is run. Where the input is its listing, byte\nfor byte, the output is table, else not table L: L is the first line of the input that differs,\nand standard error shows it.\n\nExample:\n  zy_bench run examples/first_run.zephyr | zy_bench check\n\nStatus: 0 table, 1 the scenario is refused, 2 the command line is wrong,\n3 out of memory, 4 not table, 5 the input or the output failed.\nFormats: docs/formats.md",
         )
+        .arg(file_argument(alloc))
 }
 
 /// `debug`.
@@ -153,19 +184,23 @@ fn debug_command<'a>(alloc: Global) -> Result<Command<'a>, AllocError> {
         .long("every")
         .value_name("N")
         .value_parser(value_parser!(u16).range(1..=4096))
-        .help("Keeps copies of the state at multiples of N: 1 to 4096, else 64");
+        .help("Keeps copies of the state at multiples of N: 1 to 4096, default 64");
     let ring = Arg::new(alloc, "ring")
         .long("ring")
         .value_name("N")
         .value_parser(value_parser!(u8).range(1..=64))
-        .help("Keeps at most N copies: 1 to 64, else 16");
+        .help("Keeps at most N copies: 1 to 64, default 16");
+    let scenario = Arg::new(alloc, "file").value_name("FILE").help(
+        "The file with the scenario; the commands are then standard input",
+    );
     Command::new(alloc, "debug")
         .about("Answers commands on the run of a scenario, one a line")
         .after_help(
-            "Input:   a scenario text through its end line, and below it commands, one a line;\n         at most 4194304 bytes\nOutput:  the replies; a fault is one line on standard error\nStatus:  0 done, 1 the scenario is refused, 2 the command line is wrong,\n         3 out of memory, 5 the input or the output failed\n\nCommands: step N, back N, goto N, cont, rcont, break page P, break mode, break abort,\nwatch K, delete I, page P, txn T, links, where. docs/debugger.md describes them all.\n\nA command replays from the copy nearest below its target, or from the start. The two numbers\nchange how long that takes and how much memory, and no reply.\n\nExample:\n  (cat examples/gone.zephyr; echo 'break abort'; echo cont) | zy_bench debug",
+            "Input:   a scenario text through its end line, and below it commands, one a line;\n         at most 4194304 bytes. With FILE it begins with that, and standard input goes on\nOutput:  the replies; a fault is one line on standard error\nStatus:  0 done, 1 the scenario is refused, 2 the command line is wrong,\n         3 out of memory, 5 the input or the output failed\n\nCommands: step N, back N, goto N, cont, rcont, break page P, break mode, break abort,\nwatch K, delete I, page P, txn T, links, where. docs/debugger.md describes them all.\n\nA command replays from the copy nearest below its target, or from the start. The two numbers\nchange how long that takes and how much memory, and no reply.\n\nExample:\n  (echo 'break abort'; echo cont) | zy_bench debug examples/gone.zephyr",
         )
         .arg(every)?
-        .arg(ring)
+        .arg(ring)?
+        .arg(scenario)
 }
 
 /// What is below the options of `search`.
@@ -188,8 +223,8 @@ const SEARCH_HELP: &'static str = concat!(
     "         and more: docs/search.md has them all.\n",
     "\n",
     "Examples:\n",
-    "  zy_bench search --for gone < examples/gone.zephyr | zy_bench run\n",
-    "  zy_bench search --for 'txn 0 active and page 3 moving then pulls' < SCENARIO"
+    "  zy_bench search --for gone examples/gone.zephyr | zy_bench run\n",
+    "  zy_bench search --for 'txn 0 active and page 3 moving then pulls' SCENARIO"
 );
 
 /// `search`.
@@ -197,7 +232,7 @@ fn search_command<'a>(alloc: Global) -> Result<Command<'a>, AllocError> {
     let wanted = Arg::new(alloc, "for")
         .long("for")
         .value_name("GOAL")
-        .help("The goal that a state is to meet, else differs");
+        .help("The goal that a state is to meet, default differs");
     let always = Arg::new(alloc, "always")
         .long("always")
         .value_name("GOAL")
@@ -211,17 +246,16 @@ fn search_command<'a>(alloc: Global) -> Result<Command<'a>, AllocError> {
         .long("states")
         .value_name("N")
         .value_parser(value_parser!(u32).range(1..=4294967295))
-        .help("Gives up after N states: 1 to 4294967295, else 1000000");
+        .help("Gives up after N states: 1 to 4294967295, default 1000000");
     Command::new(alloc, "search")
-        .about(
-            "Looks for a schedule of the scenario on standard input after which a state shows something",
-        )
+        .about("Looks for a schedule of a scenario after which a state shows something")
         .after_help(SEARCH_HELP)
         .arg(image_flag(alloc))?
         .arg(wanted)?
         .arg(always)?
         .arg(kills)?
-        .arg(states)
+        .arg(states)?
+        .arg(file_argument(alloc))
 }
 
 /// The command line that is understood.
@@ -229,13 +263,13 @@ pub fn command<'a>(alloc: Global) -> Result<Command<'a>, AllocError> {
     Command::new(alloc, "zy_bench")
         .version("0.1.0")
         .about("Runs transaction programs on a migrating store, under any schedule")
-        .after_help("Example:\n  zy_bench run < examples/first_run.zephyr")
+        .after_help("Example:\n  zy_bench run examples/first_run.zephyr")
         .subcommand_required(true)
         .subcommand(run_command(alloc)?)?
         .subcommand(trace_command(alloc)?)?
-        .subcommand(asm_command(alloc))?
-        .subcommand(dis_command(alloc))?
-        .subcommand(check_command(alloc))?
+        .subcommand(asm_command(alloc)?)?
+        .subcommand(dis_command(alloc)?)?
+        .subcommand(check_command(alloc)?)?
         .subcommand(threads_command(alloc)?)?
         .subcommand(debug_command(alloc)?)?
         .subcommand(search_command(alloc)?)
@@ -243,15 +277,24 @@ pub fn command<'a>(alloc: Global) -> Result<Command<'a>, AllocError> {
 
 /// What the words ask for.
 pub fn request_of<'a>(matches: &ArgMatches<'a>) -> Option<Request<'a>> {
-    match matches.subcommand() {
-        Some(("run", words)) => Some(Request::Convert(Conversion::Run(format_of(words)))),
-        Some(("trace", words)) => Some(Request::Convert(Conversion::Trace(format_of(words)))),
-        Some(("asm", _)) => Some(Request::Convert(Conversion::Asm)),
-        Some(("dis", _)) => Some(Request::Convert(Conversion::Dis)),
-        Some(("check", _)) => Some(Request::Check),
-        Some(("debug", debug)) => Some(Request::Debug(checkpoints_of(debug))),
-        Some(("threads", words)) => Some(Request::Convert(Conversion::Threads(format_of(words)))),
-        Some(("search", words)) => Some(Request::Search(quest_of(words))),
+    let (name, words) = matches.subcommand()?;
+    Some(Request {
+        task: task_of(name, words)?,
+        file: words.get_str("file"),
+    })
+}
+
+/// What the words behind the name of a command ask for.
+fn task_of<'a>(name: &str, words: &ArgMatches<'a>) -> Option<Task<'a>> {
+    match name {
+        "run" => Some(Task::Convert(Conversion::Run(format_of(words)))),
+        "trace" => Some(Task::Convert(Conversion::Trace(format_of(words)))),
+        "threads" => Some(Task::Convert(Conversion::Threads(format_of(words)))),
+        "asm" => Some(Task::Convert(Conversion::Asm)),
+        "dis" => Some(Task::Convert(Conversion::Dis)),
+        "check" => Some(Task::Check),
+        "debug" => Some(Task::Debug(checkpoints_of(words))),
+        "search" => Some(Task::Search(quest_of(words))),
         _ => None,
     }
 }

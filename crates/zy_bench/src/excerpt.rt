@@ -3,6 +3,8 @@
 use std::fmt;
 use zy_advice::Bytes;
 use zy_advice::bytes::common_prefix;
+use zy_advice::text::Position;
+use zy_text::names::is;
 
 /// How many bytes of a line are shown.
 const MOST: usize = 120;
@@ -23,20 +25,42 @@ pub struct Differing<'a> {
     pub is_scenario: bool,
 }
 
+impl Differing<'_> {
+    /// How many bytes of the line are right.
+    fn right(&self) -> usize {
+        common_prefix(self.is, self.due)
+    }
+
+    /// Whether the steps of a trace begin where those of a listing are to begin.
+    fn is_trace(&self) -> bool {
+        is(self.is, b"trace\n") && is(self.due, b"steps\n")
+    }
+
+    /// The first place that is not right.
+    pub fn position(&self) -> Position {
+        Position {
+            line: self.number,
+            column: self.right().saturating_add(1),
+        }
+    }
+}
+
 impl fmt::Display for Differing<'_> {
     fn fmt<W: fmt::Write>(&self, f: &mut fmt::Formatter<W>) -> fmt::Result {
         if self.is_scenario {
             f.write_str("this is a scenario without its listing: ")?;
+        } else if self.is_trace() {
+            f.write_str("this is a trace, and check reads a listing, as run writes it: ")?;
         }
         let number = self.number;
-        let at = common_prefix(self.is, self.due);
+        let at = self.right();
         let (is, due) = (Excerpt::of(self.is, at), Excerpt::of(self.due, at));
         if self.due.is_empty() {
             write!(f, "line {number} is {is}, and the listing ends above it")
         } else if self.is.is_empty() {
             write!(f, "the listing goes on with line {number}, {due}")
         } else {
-            let column = at.saturating_add(1);
+            let column = self.position().column;
             write!(
                 f,
                 "line {number} is {is} and should be {due}, from column {column} on"

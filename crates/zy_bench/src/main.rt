@@ -5,30 +5,39 @@ ghost use Rattle.std.specs.Prelude.{◌<◌};
 
 mod advised;
 mod command_line;
+mod commands;
 mod excerpt;
+mod given;
+mod hint;
 mod listing;
 mod marked;
+mod origin;
 mod output;
 mod progress;
-mod redirected;
+mod steps;
 mod summary;
 
-use advised::Advised;
+use advised::{Advised, Reading};
 use clap::error::ErrorKind;
-use command_line::{Checkpoints, Conversion, Quest, Request, command, request_of};
+use command_line::{Checkpoints, Conversion, Quest, Request, Task, command, request_of};
+use commands::Commands;
 use excerpt::Differing;
+use given::{Failure, Given};
+use hint::Hint;
 use listing::LineKept;
 use marked::Marked;
+use origin::Origin;
 use output::Output;
 use progress::Progress;
-use redirected::Redirected;
 use std::alloc::Global;
-use std::io;
-use std::io::{BufWriter, IsTerminal, Write};
+use std::io::{BufWriter, IsTerminal, Read, Write};
 use std::process::ExitCode;
+use std::rt::Files;
 use std::sync::Wait;
 use std::thread::Threads;
 use std::time::Clock;
+use std::{fs, io};
+use steps::Steps;
 use summary::Summary;
 use zy_advice::Command as Reader;
 use zy_advice::line::whole_line;
@@ -73,16 +82,17 @@ fn flush<W: Write>(output: &mut Output<W>) -> Result<(), BenchFault>
     }
 }
 
-/// Runs an engine over standard input, whose bytes it leaves in `input`, and gives the exit status.
-fn convert<R: Input + AllocGlobal + Threads + Wait + Sync, W: Write>(
+/// Runs an engine over what is given, whose bytes it leaves in `input`, and gives the exit status.
+fn convert<R: Eprint + AllocGlobal + Threads + Wait + Sync, G: Read, W: Write>(
     rt: &R,
     conversion: Conversion,
+    given: &mut G,
     input: &mut Vec<u8>,
     output: &mut Output<W>,
 ) -> Result<u8, BenchFault>
     requires { output.old.1 < u64.MAX }
 {
-    let mut source = CountingReader::new(rt.reader());
+    let mut source = CountingReader::new(given);
     match conversion {
         Conversion::Run(format) => run_bytes(rt.alloc(), format, &mut source, output, input)?,
         Conversion::Trace(format) => trace_bytes(rt.alloc(), format, &mut source, output, input)?,
@@ -101,18 +111,30 @@ fn convert<R: Input + AllocGlobal + Threads + Wait + Sync, W: Write>(
         Conversion::Dis => dis_bytes(rt.alloc(), &mut source, output, input)?,
     }
     flush(output)?;
+    if conversion.is_run() {
+        tell_nothing(rt, output.steps());
+    }
     Ok(DONE)
 }
 
-/// Checks the listing on standard input, shows the line where it first differs, and gives the exit status.
-fn check<R: Eprint + Input + AllocGlobal, W: Write>(
+/// Says on standard error where nothing came of the steps of a transaction, or of all choices.
+fn tell_nothing(rt: &impl Eprint, steps: &Steps) {
+    if let Some(nothing) = steps.nothing() {
+        let _ = eprintln!(rt; "zy_bench: {nothing}");
+    }
+}
+
+/// Checks the listing that is given, shows the line where it first differs, and gives the exit status.
+fn check<R: Eprint + AllocGlobal, G: Read, W: Write>(
     rt: &R,
+    file: Option<&str>,
+    given: &mut G,
     input: &mut Vec<u8>,
     output: &mut Output<W>,
 ) -> Result<u8, BenchFault>
     requires { output.old.1 < u64.MAX }
 {
-    *input = read_all(rt.alloc(), &mut CountingReader::new(rt.reader()))?;
+    *input = read_all(rt.alloc(), &mut CountingReader::new(given))?;
     let listing = input.as_slice();
     let verdict = check_bytes(rt.alloc(), &mut SliceSource::new(listing), output)?;
     match verdict {
@@ -123,7 +145,7 @@ fn check<R: Eprint + Input + AllocGlobal, W: Write>(
         Verdict::NotTable(line) => {
             let due = line_due(rt, listing, line)?;
             flush(output)?;
-            show(rt, listing, line, due.line());
+            show(rt, file, listing, line, due.line());
             Ok(NOT_TABLE)
         }
     }
@@ -142,10 +164,12 @@ fn line_due(rt: &impl AllocGlobal, input: &[u8], line: usize) -> Result<LineKept
     Ok(kept)
 }
 
-/// Answers the commands on standard input, and gives the exit status.
-fn debug<R: Input + AllocGlobal, W: Write>(
+/// Answers the commands that are given below a scenario, and gives the exit status.
+fn debug<R: Eprint + AllocGlobal, F: Read + Drop, S: Read, W: Write>(
     rt: &R,
     checkpoints: Checkpoints,
+    file: Option<&str>,
+    given: &mut Given<F, S>,
     input: &mut Vec<u8>,
     output: &mut Output<W>,
 ) -> Result<u8, BenchFault>
@@ -155,9 +179,14 @@ fn debug<R: Input + AllocGlobal, W: Write>(
     if !(1..=MAX_EVERY).contains(&every) || !(1..=MAX_RING).contains(&ring) {
         return Ok(COMMAND_LINE);
     }
-    let mut source = CountingReader::new(rt.reader());
+    let mut source = CountingReader::new(&mut *given);
     debug_bytes(rt.alloc(), every, ring, &mut source, output, input)?;
     flush(output)?;
+    let session = Commands {
+        file,
+        lines: given.lines(),
+    };
+    session.tell_bad(rt, input.as_slice());
     Ok(DONE)
 }
 
@@ -176,11 +205,12 @@ fn sought_of(alloc: Global, quest: Quest<'_>) -> Result<Sought, ReadFault> {
     })
 }
 
-/// Reads the goal of a search, carries the search out, and gives the exit status. Where the goal is refused, standard
-/// input is not read.
-fn search<R: Eprint + Input + AllocGlobal + Clock, W: Write>(
+/// Reads the goal of a search, carries the search out, and gives the exit status. Where the goal is refused, nothing is
+/// read.
+fn search<R: Eprint + AllocGlobal + Clock, G: Read, W: Write>(
     rt: &R,
     quest: Quest<'_>,
+    given: &mut G,
     input: &mut Vec<u8>,
     output: &mut Output<W>,
     is_terminal: bool,
@@ -188,7 +218,7 @@ fn search<R: Eprint + Input + AllocGlobal + Clock, W: Write>(
     requires { output.old.1 < u64.MAX }
 {
     match sought_of(rt.alloc(), quest) {
-        Ok(sought) => search_for(rt, quest, sought, input, output, is_terminal),
+        Ok(sought) => search_for(rt, quest, sought, given, input, output, is_terminal),
         Err(ReadFault::Memory) => Err(BenchFault::Memory),
         Err(ReadFault::Refused(refusal)) => {
             let marked = Marked::of(quest, refusal);
@@ -198,12 +228,13 @@ fn search<R: Eprint + Input + AllocGlobal + Clock, W: Write>(
     }
 }
 
-/// Searches the schedules of the scenario on standard input, and gives the exit status. It says how far it is where
-/// standard error is a terminal.
-fn search_for<R: Eprint + Input + AllocGlobal + Clock, W: Write>(
+/// Searches the schedules of the scenario that is given, and gives the exit status. It says how far it is where standard
+/// error is a terminal.
+fn search_for<R: Eprint + AllocGlobal + Clock, G: Read, W: Write>(
     rt: &R,
     quest: Quest<'_>,
     sought: Sought,
+    given: &mut G,
     input: &mut Vec<u8>,
     output: &mut Output<W>,
     is_terminal: bool,
@@ -217,7 +248,7 @@ fn search_for<R: Eprint + Input + AllocGlobal + Clock, W: Write>(
         ..
     } = quest;
     let named = usize::from(txns_named(&sought.goal));
-    let mut source = CountingReader::new(rt.reader());
+    let mut source = CountingReader::new(given);
     let mut progress = Progress::new(rt, is_terminal);
     let searched = search_bytes(
         rt.alloc(),
@@ -259,14 +290,15 @@ fn sum_up(rt: &impl Eprint, report: &Report, kills: bool) -> u8 {
 }
 
 /// Shows on standard error the line of an input at which it is not the listing.
-fn show(rt: &impl Eprint, input: &[u8], line: usize, due: &[u8]) {
+fn show(rt: &impl Eprint, file: Option<&str>, input: &[u8], line: usize, due: &[u8]) {
     let differing = Differing {
         number: line,
         is: whole_line(input, line),
         due,
         is_scenario: cut_len(input) == input.len(),
     };
-    let _ = eprintln!(rt; "zy_bench: {differing}");
+    let origin = Origin::at(file, differing.position());
+    let _ = eprintln!(rt; "{origin}: {differing}");
 }
 
 /// Reports a fault on standard error, and gives the exit status.
@@ -306,22 +338,47 @@ fn unprinted(error: &io::Error) -> BenchFault {
     }
 }
 
-/// The command that a request is of.
-fn command_of(request: Request<'_>) -> Reader {
-    match request {
-        Request::Convert(Conversion::Run(_)) => Reader::Run,
-        Request::Convert(Conversion::Trace(_)) => Reader::Trace,
-        Request::Convert(Conversion::Threads(_)) => Reader::Threads,
-        Request::Convert(Conversion::Asm) => Reader::Asm,
-        Request::Convert(Conversion::Dis) => Reader::Dis,
-        Request::Check => Reader::Check,
-        Request::Debug(_) => Reader::Debug,
-        Request::Search(_) => Reader::Search,
+/// The command that a task is of.
+fn command_of(task: Task<'_>) -> Reader {
+    match task {
+        Task::Convert(Conversion::Run(_)) => Reader::Run,
+        Task::Convert(Conversion::Trace(_)) => Reader::Trace,
+        Task::Convert(Conversion::Threads(_)) => Reader::Threads,
+        Task::Convert(Conversion::Asm) => Reader::Asm,
+        Task::Convert(Conversion::Dis) => Reader::Dis,
+        Task::Check => Reader::Check,
+        Task::Debug(_) => Reader::Debug,
+        Task::Search(_) => Reader::Search,
     }
 }
 
+/// What a request is given to read: its file, else standard input; for `debug` standard input is below the file.
+fn open<R: Input + Files>(
+    rt: &R,
+    request: Request<'_>,
+) -> Result<Given<R::File, R::Reader>, Failure> {
+    let Some(path) = request.file else {
+        return Ok(Given::new(None, Some(rt.reader())));
+    };
+    let standard = match request.task {
+        Task::Debug(_) => Some(rt.reader()),
+        _ => None,
+    };
+    match fs::open(rt, path) {
+        Ok(file) => Ok(Given::new(Some(file), standard)),
+        Err(error) => Err(Failure::of(&error, true)),
+    }
+}
+
+/// Reports on standard error why a file could not be opened, and gives the exit status.
+fn unopened(rt: &impl Eprint, file: Option<&str>, failure: Failure) -> u8 {
+    let origin = Origin::of(file);
+    let _ = eprintln!(rt; "{origin}: Read: {failure}");
+    BenchFault::Read.status()
+}
+
 /// Carries a request out, and gives the exit status.
-fn carry_out<R: Print + Eprint + Input + AllocGlobal + Clock + Threads + Wait + Sync>(
+fn carry_out<R: Print + Eprint + Input + Files + AllocGlobal + Clock + Threads + Wait + Sync>(
     rt: &R,
     request: Request<'_>,
     is_terminal: bool,
@@ -331,29 +388,57 @@ fn carry_out<R: Print + Eprint + Input + AllocGlobal + Clock + Threads + Wait + 
     };
     let mut output = Output::new(buffer);
     let mut input = Vec::new(rt.alloc());
-    let outcome = match request {
-        Request::Convert(conversion) => convert(rt, conversion, &mut input, &mut output),
-        Request::Check => check(rt, &mut input, &mut output),
-        Request::Debug(checkpoints) => debug(rt, checkpoints, &mut input, &mut output),
-        Request::Search(quest) => search(rt, quest, &mut input, &mut output, is_terminal),
+    let Request { task, file } = request;
+    let mut given = match open(rt, request) {
+        Ok(given) => given,
+        Err(failure) => return unopened(rt, file, failure),
+    };
+    let outcome = match task {
+        Task::Convert(conversion) => convert(rt, conversion, &mut given, &mut input, &mut output),
+        Task::Check => check(rt, file, &mut given, &mut input, &mut output),
+        Task::Debug(checkpoints) => {
+            debug(rt, checkpoints, file, &mut given, &mut input, &mut output)
+        }
+        Task::Search(quest) => {
+            search(rt, quest, &mut given, &mut input, &mut output, is_terminal)
+        }
     };
     match outcome {
         Ok(status) => status,
         Err(BenchFault::Write) if output.is_unread() => BenchFault::Write.status(),
-        Err(fault) => advise(rt, request, input.as_slice(), fault),
+        Err(fault) => advise(rt, reading_of(request, &given, input.as_slice()), fault),
+    }
+}
+
+/// What a request has read.
+fn reading_of<'a, F: Drop, S>(
+    request: Request<'a>,
+    given: &Given<F, S>,
+    bytes: &'a [u8],
+) -> Reading<'a> {
+    let lines = match request.task {
+        Task::Debug(_) => Some(given.lines()),
+        _ => None,
+    };
+    Reading {
+        command: command_of(request.task),
+        file: request.file,
+        lines,
+        bytes,
+        failure: given.failure(),
     }
 }
 
 /// Reports a fault of an input on standard error, and what to do about it, and gives the exit status.
-fn advise(rt: &impl Eprint, request: Request<'_>, input: &[u8], fault: BenchFault) -> u8 {
-    let advised = Advised::of(command_of(request), input, fault);
-    let _ = eprintln!(rt; "zy_bench: {advised}");
+fn advise(rt: &impl Eprint, reading: Reading<'_>, fault: BenchFault) -> u8 {
+    let advised = Advised::of(reading, fault);
+    let _ = eprintln!(rt; "{advised}");
     fault.status()
 }
 
 /// The exit status of a run with these words, where standard error may be a terminal.
 fn status<'a>(
-    rt: &(impl Print + Eprint + Input + AllocGlobal + Clock + Threads + Wait + Sync),
+    rt: &(impl Print + Eprint + Input + Files + AllocGlobal + Clock + Threads + Wait + Sync),
     words: &'a [String],
     is_terminal: bool,
 ) -> u8 {
@@ -370,8 +455,8 @@ fn status<'a>(
                 return tell(rt, BenchFault::Memory);
             }
             let status = say(rt, &said);
-            if let Some(redirected) = Redirected::of(said.kind(), words) {
-                let _ = eprintln!(rt; "zy_bench: {redirected}");
+            if let Some(hint) = Hint::of(said.kind(), words) {
+                let _ = eprintln!(rt; "zy_bench: {hint}");
             }
             status
         }

@@ -35,6 +35,9 @@ impl fmt::Display for Marked<'_> {
             "for"
         };
         let place = Place::of(text, word);
+        if word.bytes.starts_with(b"deadlock") {
+            return write!(f, "--{flag}: a deadlock is the fact stuck ({place})");
+        }
         write!(f, "--{flag}: {expected} ({place})")
     }
 }

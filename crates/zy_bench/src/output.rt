@@ -1,16 +1,19 @@
-//! Standard output, and whether anybody reads it.
-ghost use Rattle.std.specs.Prelude.{◌≡◌, ◌<◌};
+//! Standard output, whether anybody reads it, and the steps that it shows.
+ghost use Rattle.std.specs.Prelude.{◌≡◌, ◌<◌, ◌+◌, is_err, if◌then◌else◌};
+ghost use Rattle.std.specs.Io.KnownBytes.{Keeps};
 
+use crate::steps::Steps;
 use std::io;
 use std::io::Write;
 use std::marker::Model;
 use zy_io::{CountingWriter, Sink};
 
-/// A sink over a writer that notes whether a call has failed since nobody reads any more.
+/// A sink over a writer that notes whether a call has failed since nobody reads any more, and the steps that go by.
 #[derive(Drop)]
 pub struct Output<W> {
     sink: CountingWriter<W>,
     is_unread: bool,
+    steps: Steps,
 }
 
 impl<W> Model for Output<W> {
@@ -29,6 +32,7 @@ impl<W> Output<W> {
         Output {
             sink: CountingWriter::new(writer),
             is_unread: false,
+            steps: Steps::new(),
         }
     }
 
@@ -36,12 +40,19 @@ impl<W> Output<W> {
     pub fn is_unread(&self) -> bool {
         self.is_unread
     }
+
+    /// The steps of the listing or the trace that was written.
+    pub fn steps(&self) -> &Steps {
+        &self.steps
+    }
 }
 
 impl<W: Write> Output<W> {
     /// Passes on what is kept back.
     pub fn flush(&mut self) -> io::Result<()>
         requires { self.old.1 < u64.MAX }
+        ensures bytes { Keeps (W.contents self.old.0) (W.contents self.new.0) }
+        ensures failed { self.new.1 ≡ self.old.1 + (if is_err result then 1 else 0) }
     {
         let outcome = self.sink.flush();
         self.is_unread = self.is_unread || is_of_closed_pipe(&outcome);
@@ -56,6 +67,9 @@ impl<W: Write> Sink for Output<W> {
 
     fn put(&mut self, bytes: &[u8]) -> io::Result<usize> {
         let outcome = self.sink.put(bytes);
+        if let Ok(count) = &outcome {
+            self.steps.take(bytes.get(..*count).unwrap_or(bytes));
+        }
         self.is_unread = self.is_unread || is_of_closed_pipe(&outcome);
         outcome
     }
