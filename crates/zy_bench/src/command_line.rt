@@ -63,16 +63,6 @@ pub enum Conversion {
     Dis,
 }
 
-impl Conversion {
-    /// Whether the choices are made.
-    pub fn is_run(self) -> bool {
-        match self {
-            Conversion::Run(_) | Conversion::Trace(_) | Conversion::Threads(_) => true,
-            Conversion::Asm | Conversion::Dis => false,
-        }
-    }
-}
-
 /// What is below the options of a command: what it reads and what it writes, and an example.
 macro_rules! below {
     ($input:literal, $output:literal, $example:literal) => {

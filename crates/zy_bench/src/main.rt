@@ -7,14 +7,15 @@ mod advised;
 mod command_line;
 mod commands;
 mod excerpt;
+mod explained;
 mod given;
 mod hint;
 mod listing;
 mod marked;
+mod nothing;
 mod origin;
 mod output;
 mod progress;
-mod steps;
 mod summary;
 
 use advised::{Advised, Reading};
@@ -22,10 +23,12 @@ use clap::error::ErrorKind;
 use command_line::{Checkpoints, Conversion, Quest, Request, Task, command, request_of};
 use commands::Commands;
 use excerpt::Differing;
+use explained::{Explained, explaining_order};
 use given::{Failure, Given};
 use hint::Hint;
 use listing::LineKept;
 use marked::Marked;
+use nothing::Nothing;
 use origin::Origin;
 use output::Output;
 use progress::Progress;
@@ -37,7 +40,6 @@ use std::sync::Wait;
 use std::thread::Threads;
 use std::time::Clock;
 use std::{fs, io};
-use steps::Steps;
 use summary::Summary;
 use zy_advice::Command as Reader;
 use zy_advice::line::whole_line;
@@ -53,6 +55,7 @@ use zy_goals::named::txns_named;
 use zy_goals::reading::{read_always, read_goal};
 use zy_io::reading::read_all;
 use zy_io::{CountingReader, SliceSource};
+use zy_machine::Machine;
 use zy_search::{Answer, Report, Sought};
 use zy_text::cut::cut_len;
 use zy_threads::FreeGate;
@@ -68,6 +71,9 @@ const NOT_TABLE: u8 = 4;
 
 /// The exit status where no schedule shows what is looked for.
 const NOWHERE: u8 = 4;
+
+/// How a listing ends whose rows are not those of the commit order.
+const DIFFERING_END: &'static [u8] = b"serial differs\nend\n";
 
 /// The exit status where a search came to no end.
 const SPENT: u8 = 6;
@@ -93,35 +99,47 @@ fn convert<R: Eprint + AllocGlobal + Threads + Wait + Sync, G: Read, W: Write>(
     requires { output.old.1 < u64.MAX }
 {
     let mut source = CountingReader::new(given);
-    match conversion {
-        Conversion::Run(format) => run_bytes(rt.alloc(), format, &mut source, output, input)?,
-        Conversion::Trace(format) => trace_bytes(rt.alloc(), format, &mut source, output, input)?,
+    let alloc = rt.alloc();
+    let machine = match conversion {
+        Conversion::Run(format) => Some(run_bytes(alloc, format, &mut source, output, input)?),
+        Conversion::Trace(format) => Some(trace_bytes(alloc, format, &mut source, output, input)?),
         Conversion::Threads(format) => {
-            threads_bytes(
-                rt,
-                rt.alloc(),
-                format,
-                &mut source,
-                output,
-                input,
-                &FreeGate,
-            )?
+            let gate = &FreeGate;
+            let machine = threads_bytes(rt, alloc, format, &mut source, output, input, gate)?;
+            Some(machine)
         }
-        Conversion::Asm => asm_bytes(rt.alloc(), &mut source, output, input)?,
-        Conversion::Dis => dis_bytes(rt.alloc(), &mut source, output, input)?,
-    }
+        Conversion::Asm => {
+            asm_bytes(alloc, &mut source, output, input)?;
+            None
+        }
+        Conversion::Dis => {
+            dis_bytes(alloc, &mut source, output, input)?;
+            None
+        }
+    };
     flush(output)?;
-    if conversion.is_run() {
-        tell_nothing(rt, output.steps());
+    if let Some(machine) = &machine {
+        comment(rt, machine)?;
     }
     Ok(DONE)
 }
 
-/// Says on standard error where nothing came of the steps of a transaction, or of all choices.
-fn tell_nothing(rt: &impl Eprint, steps: &Steps) {
-    if let Some(nothing) = steps.nothing() {
+/// Says on standard error where nothing came of a run or of a transaction, and which order explains the rows of a run
+/// where that of the commits does not.
+fn comment<R: Eprint + AllocGlobal>(rt: &R, machine: &Machine) -> Result<(), BenchFault> {
+    if let Some(nothing) = Nothing::of(machine) {
         let _ = eprintln!(rt; "zy_bench: {nothing}");
     }
+    explain(rt, machine)
+}
+
+/// Says on standard error which order explains the rows of a run where that of the commits does not.
+fn explain<R: Eprint + AllocGlobal>(rt: &R, machine: &Machine) -> Result<(), BenchFault> {
+    if let Some(order) = explaining_order(rt.alloc(), machine)? {
+        let explained = Explained(&order);
+        let _ = eprintln!(rt; "zy_bench: {explained}");
+    }
+    Ok(())
 }
 
 /// Checks the listing that is given, shows the line where it first differs, and gives the exit status.
@@ -140,6 +158,11 @@ fn check<R: Eprint + AllocGlobal, G: Read, W: Write>(
     match verdict {
         Verdict::Table => {
             flush(output)?;
+            if listing.ends_with(DIFFERING_END) {
+                let mut kept = LineKept::new(rt.alloc(), 0);
+                let machine = run_again(rt, listing, &mut kept)?;
+                explain(rt, &machine)?;
+            }
             Ok(DONE)
         }
         Verdict::NotTable(line) => {
@@ -151,13 +174,22 @@ fn check<R: Eprint + AllocGlobal, G: Read, W: Write>(
     }
 }
 
-/// The line of this number of the listing that an input is to be.
-fn line_due(rt: &impl AllocGlobal, input: &[u8], line: usize) -> Result<LineKept, BenchFault> {
+/// Makes the choices of the scenario part of an input again; the listing goes to a sink that keeps a line of it.
+fn run_again(
+    rt: &impl AllocGlobal,
+    input: &[u8],
+    kept: &mut LineKept,
+) -> Result<Machine, BenchFault> {
     let (part, _) = input.split_at(cut_len(input).min(input.len()));
-    let mut kept = LineKept::new(rt.alloc(), line);
     let mut source = SliceSource::new(part);
     let mut input = Vec::new(rt.alloc());
-    run_bytes(rt.alloc(), Format::Text, &mut source, &mut kept, &mut input)?;
+    run_bytes(rt.alloc(), Format::Text, &mut source, kept, &mut input)
+}
+
+/// The line of this number of the listing that an input is to be.
+fn line_due(rt: &impl AllocGlobal, input: &[u8], line: usize) -> Result<LineKept, BenchFault> {
+    let mut kept = LineKept::new(rt.alloc(), line);
+    run_again(rt, input, &mut kept)?;
     if kept.is_refused() {
         return Err(BenchFault::Memory);
     }

@@ -1,19 +1,17 @@
-//! Standard output, whether anybody reads it, and the steps that it shows.
+//! Standard output, and whether anybody reads it.
 ghost use Rattle.std.specs.Prelude.{◌≡◌, ◌<◌, ◌+◌, is_err, if◌then◌else◌};
 ghost use Rattle.std.specs.Io.KnownBytes.{Keeps};
 
-use crate::steps::Steps;
 use std::io;
 use std::io::Write;
 use std::marker::Model;
 use zy_io::{CountingWriter, Sink};
 
-/// A sink over a writer that notes whether a call has failed since nobody reads any more, and the steps that go by.
+/// A sink over a writer that notes whether a call has failed since nobody reads any more.
 #[derive(Drop)]
 pub struct Output<W> {
     sink: CountingWriter<W>,
     is_unread: bool,
-    steps: Steps,
 }
 
 impl<W> Model for Output<W> {
@@ -32,18 +30,12 @@ impl<W> Output<W> {
         Output {
             sink: CountingWriter::new(writer),
             is_unread: false,
-            steps: Steps::new(),
         }
     }
 
     /// Whether a call has failed since the reader of a pipe has closed it.
     pub fn is_unread(&self) -> bool {
         self.is_unread
-    }
-
-    /// The steps of the listing or the trace that was written.
-    pub fn steps(&self) -> &Steps {
-        &self.steps
     }
 }
 
@@ -67,9 +59,6 @@ impl<W: Write> Sink for Output<W> {
 
     fn put(&mut self, bytes: &[u8]) -> io::Result<usize> {
         let outcome = self.sink.put(bytes);
-        if let Ok(count) = &outcome {
-            self.steps.take(bytes.get(..*count).unwrap_or(bytes));
-        }
         self.is_unread = self.is_unread || is_of_closed_pipe(&outcome);
         outcome
     }

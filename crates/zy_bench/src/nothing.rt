@@ -1,0 +1,292 @@
+//! Runs of which nothing came: of all choices, or of those of a transaction.
+
+use std::fmt;
+use zy_isa::{Choice, MAX_TXNS, Node};
+use zy_machine::Machine;
+use zy_table::{Entry, Outcome};
+
+/// The words of the outcomes of which nothing comes.
+const STILL: [&'static str; 11] = [
+    "badmode",
+    "idle",
+    "elsewhere",
+    "notyet",
+    "waits",
+    "awaits",
+    "nomessage",
+    "held",
+    "stray",
+    "active",
+    "nopush",
+];
+
+/// The place of an outcome's word in `STILL`; none where something comes of it.
+fn still_place(outcome: Outcome) -> Option<usize> {
+    match outcome {
+        Outcome::BadMode => Some(0),
+        Outcome::Idle => Some(1),
+        Outcome::Elsewhere => Some(2),
+        Outcome::NotYet => Some(3),
+        Outcome::Waits(_) => Some(4),
+        Outcome::Awaits(_) => Some(5),
+        Outcome::NoMessage => Some(6),
+        Outcome::Held(_) => Some(7),
+        Outcome::Stray => Some(8),
+        Outcome::Active(_) => Some(9),
+        Outcome::NoPush => Some(10),
+        _ => None,
+    }
+}
+
+/// What came of the steps and kills of a transaction.
+#[derive(Clone, Copy)]
+struct Tally {
+    /// Where it began, if it did.
+    began: Option<Node>,
+    /// How many were idle.
+    idle: usize,
+    /// How many were at the node where it is not.
+    elsewhere: usize,
+    /// Whether one was neither.
+    is_live: bool,
+}
+
+impl Tally {
+    /// No step yet.
+    const NONE: Tally = Tally {
+        began: None,
+        idle: 0,
+        elsewhere: 0,
+        is_live: false,
+    };
+
+    /// Notes what came of a step or a kill of it, or of its beginning.
+    fn note(&mut self, outcome: Outcome) {
+        match outcome {
+            Outcome::Began(node) => self.began = Some(node),
+            Outcome::Idle => self.idle = self.idle.saturating_add(1),
+            Outcome::Elsewhere => self.elsewhere = self.elsewhere.saturating_add(1),
+            _ => self.is_live = true,
+        }
+    }
+
+    /// How many did nothing.
+    fn still(self) -> usize {
+        self.idle.saturating_add(self.elsewhere)
+    }
+
+    /// Why nothing came of any of them, if nothing did.
+    fn cause(self) -> Option<Cause> {
+        if self.is_live || self.still() == 0 {
+            return None;
+        }
+        Some(match self.began {
+            None => Cause::NotBegun,
+            Some(node) if self.elsewhere > 0 => Cause::At(node),
+            Some(_) => Cause::BegunLater,
+        })
+    }
+}
+
+/// Why nothing came of the steps of a transaction.
+#[derive(Clone, Copy, Debug, PartialEq, Eq)]
+enum Cause {
+    /// It was not begun.
+    NotBegun,
+    /// It is at this node, and they are at the other one.
+    At(Node),
+    /// It was begun after them.
+    BegunLater,
+}
+
+impl Cause {
+    /// The place of the cause among the others, the clearest first.
+    fn rank(self) -> u8 {
+        match self {
+            Cause::NotBegun => 0,
+            Cause::At(_) => 1,
+            Cause::BegunLater => 2,
+        }
+    }
+}
+
+/// How many choices did nothing, and why.
+#[derive(Clone, Copy)]
+pub struct Nothing {
+    /// How many choices there were.
+    count: usize,
+    /// How many of them did nothing.
+    still: usize,
+    /// Which outcomes those had, by their places in `STILL`.
+    outcomes: [bool; 11],
+    txns: [Tally; 64],
+    /// The clearest cause, which some transactions have; none where each choice has another outcome of which nothing comes.
+    cause: Option<Cause>,
+}
+
+const _: () = prove!(MAX_TXNS == 64);
+
+impl Nothing {
+    /// What to say of a run: something where nothing came of the steps of a transaction, or else of all choices.
+    pub fn of(machine: &Machine) -> Option<Nothing> {
+        if !is_doubtful(machine) {
+            return None;
+        }
+        let mut nothing = Nothing {
+            count: 0,
+            still: 0,
+            outcomes: [false; 11],
+            txns: [Tally::NONE; 64],
+            cause: None,
+        };
+        for entry in machine.entries() {
+            nothing.note(*entry);
+        }
+        nothing.cause = nothing.clearest();
+        let is_all = nothing.count > 0 && nothing.still == nothing.count;
+        if nothing.cause.is_none() && !is_all {
+            return None;
+        }
+        Some(nothing)
+    }
+
+    /// Notes a step.
+    fn note(&mut self, entry: Entry) {
+        self.count = self.count.saturating_add(1);
+        let place = still_place(entry.outcome);
+        if let Some(seen) = place.and_then(|place| self.outcomes.get_mut(place)) {
+            *seen = true;
+            self.still = self.still.saturating_add(1);
+        }
+        let txn = match entry.choice {
+            Choice::Begin(txn) | Choice::Kill(txn) | Choice::Run(_, txn) => usize::from(txn),
+            _ => return,
+        };
+        let is_begin = matches!(entry.choice, Choice::Begin(_));
+        let began = matches!(entry.outcome, Outcome::Began(_));
+        if let Some(tally) = self.txns.get_mut(txn) {
+            // A second beginning, or one that may not be, is no step of it.
+            if began || !is_begin {
+                tally.note(entry.outcome);
+            }
+        }
+    }
+
+    /// The clearest reason why nothing came of the steps of a transaction.
+    fn clearest(&self) -> Option<Cause> {
+        let mut clearest: Option<Cause> = None;
+        for tally in &self.txns {
+            if let Some(cause) = tally.cause() {
+                if clearest.is_none_or(|other| cause.rank() < other.rank()) {
+                    clearest = Some(cause);
+                }
+            }
+        }
+        clearest
+    }
+
+    /// How many choices did nothing for this cause.
+    fn still_for(&self, cause: Cause) -> usize {
+        let mut still = 0usize;
+        for tally in &self.txns {
+            if tally.cause() == Some(cause) {
+                still = still.saturating_add(tally.still());
+            }
+        }
+        still
+    }
+
+    /// How many transactions have this cause.
+    fn txns_with(&self, cause: Cause) -> usize {
+        let txns = self.txns.iter();
+        txns.filter(|tally| tally.cause() == Some(cause)).count()
+    }
+
+    /// Writes which transactions have this cause.
+    fn tell_txns<W: fmt::Write>(&self, f: &mut fmt::Formatter<W>, cause: Cause) -> fmt::Result {
+        let mut left = self.txns_with(cause);
+        f.write_str(if left == 1 {
+            "transaction"
+        } else {
+            "transactions"
+        })?;
+        let mut between = " ";
+        for (number, tally) in self.txns.iter().enumerate() {
+            if tally.cause() == Some(cause) {
+                write!(f, "{between}{number}")?;
+                left = left.saturating_sub(1);
+                between = if left == 1 { " and " } else { ", " };
+            }
+        }
+        Ok(())
+    }
+
+    /// Writes which outcomes there were.
+    fn tell_outcomes<W: fmt::Write>(&self, f: &mut fmt::Formatter<W>) -> fmt::Result {
+        let mut between = "the outcomes are ";
+        for (outcome, seen) in STILL.iter().zip(self.outcomes.iter()) {
+            if *seen {
+                write!(f, "{between}{outcome}")?;
+                between = ", ";
+            }
+        }
+        Ok(())
+    }
+}
+
+/// Whether nothing may have come of a run or of a transaction: one has done no instruction, or there is none.
+fn is_doubtful(machine: &Machine) -> bool {
+    let count = machine.txn_count();
+    count == 0 || (0..count).any(|t| machine.txn(t as u8).done() == 0)
+}
+
+/// The name of the other node.
+fn other(node: Node) -> &'static str {
+    match node {
+        Node::A => "B",
+        Node::B => "A",
+    }
+}
+
+/// The name of a node.
+fn name(node: Node) -> &'static str {
+    match node {
+        Node::A => "A",
+        Node::B => "B",
+    }
+}
+
+impl fmt::Display for Nothing {
+    fn fmt<W: fmt::Write>(&self, f: &mut fmt::Formatter<W>) -> fmt::Result {
+        let (still, count) = (self.still, self.count);
+        let Some(cause) = self.cause else {
+            write!(f, "{still} of {count} choices did nothing: ")?;
+            return self.tell_outcomes(f);
+        };
+        let (still, is_one) = (self.still_for(cause), self.txns_with(cause) == 1);
+        write!(f, "{still} of {count} choices did nothing: ")?;
+        self.tell_txns(f, cause)?;
+        match (cause, is_one) {
+            (Cause::NotBegun, true) => f.write_str(" was not begun"),
+            (Cause::NotBegun, false) => f.write_str(" were not begun"),
+            (Cause::At(node), true) => {
+                write!(
+                    f,
+                    " is at {}, and its steps are at {}",
+                    name(node),
+                    other(node)
+                )
+            }
+            (Cause::At(node), false) => {
+                write!(
+                    f,
+                    " are at {}, and their steps are at {}",
+                    name(node),
+                    other(node)
+                )
+            }
+            (Cause::BegunLater, true) => f.write_str(" was begun after them"),
+            (Cause::BegunLater, false) => f.write_str(" were begun after them"),
+        }
+    }
+}
