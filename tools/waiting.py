@@ -28,9 +28,6 @@ def wait_of(run, step):
     place = step.actor if word in ('waits', 'held') else where
     tried = run.instrs[step.number].split()
     others = [lock for lock in locks_at(place, locks) if lock[0] != step.txn]
-    # A shared lock keeps no reader off.
-    if word == 'waits' and tried[0] in ('read', 'sum'):
-        others = [lock for lock in others if lock[1] == 'x']
     return Wait(word, 'page ' + number[0] + rows_of(run, step, tried), place, others)
 
 
