@@ -16,7 +16,8 @@
    With PIECES set to `1` each read and each write moves one byte beside, which is not counted as refused.
 
    When the program ends, one line goes to the descriptor that REPORT names: how many requests, reads, writes to standard
-   output and writes to standard error there were, and how many of all of them were refused.
+   output and writes to standard error there were, how many of all of them were refused, how many bytes of memory were
+   asked for, and the most blocks that were held at once.
 
    Only calls from the program's own code count: those whose return address lies in it. What the loader and the C library
    ask for themselves is theirs, before `main` and after, and is never refused. */
@@ -36,10 +37,11 @@ void *__libc_malloc(size_t size);
 void *__libc_calloc(size_t count, size_t size);
 void *__libc_realloc(void *block, size_t size);
 void *__libc_memalign(size_t alignment, size_t size);
+void __libc_free(void *block);
 
 enum { REQUESTS, READS, WRITES, TELLS, KINDS };
 
-static unsigned long counted[KINDS], refused, chosen;
+static unsigned long counted[KINDS], refused, chosen, asked, blocks, most_blocks;
 static char what[16] = "nothing";
 static int by_bytes;
 static uintptr_t code_begin, code_end;
@@ -66,10 +68,10 @@ __attribute__((constructor)) static void begin(void) {
 }
 
 __attribute__((destructor)) static void report(void) {
-    char line[128];
+    char line[192];
     const char *descriptor = getenv("REPORT");
-    int length = snprintf(line, sizeof line, "%lu %lu %lu %lu %lu\n", counted[REQUESTS], counted[READS], counted[WRITES],
-                          counted[TELLS], refused);
+    int length = snprintf(line, sizeof line, "%lu %lu %lu %lu %lu %lu %lu\n", counted[REQUESTS], counted[READS],
+                          counted[WRITES], counted[TELLS], refused, asked, most_blocks);
     if (descriptor != NULL)
         syscall(SYS_write, atoi(descriptor), line, (size_t)length);
 }
@@ -98,8 +100,10 @@ static int is_chosen(const char *word, unsigned long number) {
     return hit;
 }
 
-static int has_no_memory(void) {
+/* Whether this request for memory is to be refused. */
+static int has_no_memory(size_t size) {
     unsigned long number = tally(REQUESTS);
+    __atomic_add_fetch(&asked, size, __ATOMIC_SEQ_CST);
     if (is_chosen("memory", number))
         return 1;
     if (!is("famine") || number < chosen)
@@ -108,36 +112,51 @@ static int has_no_memory(void) {
     return 1;
 }
 
-#define REFUSE_MEMORY                                                                                                    \
-    if (FROM_PROGRAM && has_no_memory()) {                                                                               \
+#define REFUSE_MEMORY(size)                                                                                              \
+    if (FROM_PROGRAM && has_no_memory(size)) {                                                                           \
         errno = ENOMEM;                                                                                                  \
         return NULL;                                                                                                     \
     }
 
+/* Counts a block that is held from here on. */
+static void *held(void *block) {
+    unsigned long now = block == NULL ? 0 : __atomic_add_fetch(&blocks, 1, __ATOMIC_SEQ_CST);
+    unsigned long most = __atomic_load_n(&most_blocks, __ATOMIC_SEQ_CST);
+    while (now > most && !__atomic_compare_exchange_n(&most_blocks, &most, now, 0, __ATOMIC_SEQ_CST, __ATOMIC_SEQ_CST)) {
+    }
+    return block;
+}
+
+void free(void *block) {
+    if (block != NULL)
+        __atomic_sub_fetch(&blocks, 1, __ATOMIC_SEQ_CST);
+    __libc_free(block);
+}
+
 void *malloc(size_t size) {
-    REFUSE_MEMORY
-    return __libc_malloc(size);
+    REFUSE_MEMORY(size)
+    return held(__libc_malloc(size));
 }
 
 void *calloc(size_t count, size_t size) {
-    REFUSE_MEMORY
-    return __libc_calloc(count, size);
+    REFUSE_MEMORY(count * size)
+    return held(__libc_calloc(count, size));
 }
 
 void *realloc(void *block, size_t size) {
-    REFUSE_MEMORY
-    return __libc_realloc(block, size);
+    REFUSE_MEMORY(size)
+    return block == NULL ? held(__libc_realloc(block, size)) : __libc_realloc(block, size);
 }
 
 void *aligned_alloc(size_t alignment, size_t size) {
-    REFUSE_MEMORY
-    return __libc_memalign(alignment, size);
+    REFUSE_MEMORY(size)
+    return held(__libc_memalign(alignment, size));
 }
 
 int posix_memalign(void **block, size_t alignment, size_t size) {
-    if (FROM_PROGRAM && has_no_memory())
+    if (FROM_PROGRAM && has_no_memory(size))
         return ENOMEM;
-    *block = __libc_memalign(alignment, size);
+    *block = held(__libc_memalign(alignment, size));
     return *block == NULL ? ENOMEM : 0;
 }
 

@@ -213,11 +213,10 @@ function show(n) {
 }
 function gloss(n) {
   if (!n) return 'Before the first step.';
-  const blocked = D.lines[n].match(/-> (?:waits|held) (\d+)/);
-  const locks = blocked ? ` Locks on page ${blocked[1]}: ${page(n, +blocked[1]).locks.join(' ')}.` : '';
+  const waits = D.waits[n] ? ' ' + D.waits[n] : '';
   const left = D.pages.map((_, p) => page(n, p)).filter(it => it && it.fresh && it.place.length > 1 && it.locks.length);
   const behind = left.map(it => ` Locks on page ${it.p} stay behind: ${it.locks.join(' ')}.`).join('');
-  return D.glosses[D.gloss[n - 1]] + (D.instrs[n] ? ` Tried: ${D.instrs[n]}.` : '') + locks + behind;
+  return D.glosses[D.gloss[n - 1]] + (D.instrs[n] ? ` Tried: ${D.instrs[n]}.` : '') + waits + behind;
 }
 function notable(way) {
   const next = way > 0 ? D.marks.find(m => m > now) : D.marks.filter(m => m < now).pop();

@@ -11,6 +11,7 @@ from picture.looks import look_of
 from picture.place import ROW
 from picture.svg import draw_key
 from runs import NODES
+from waiting import sentence
 
 CHUNK = 60  # as many rows are drawn at a time
 
@@ -38,6 +39,7 @@ def data_of(picture):
         'head': draw_head_row(run, place), 'key': key, 'tall': tall, 'overview': overview(run, picture.rows),
         'chips': chips(run), 'verdict': verdict(picture),
         'lines': ['0 opening'] + [step.line for step in run.steps], 'instrs': run.instrs, 'glosses': glosses, 'gloss': gloss,
+        'waits': waits(run),
         'marks': [step.number for step in run.steps if look_of(step) in ('ok', 'bad', 'wait', 'split') or notable(run, step)],
         'modes': {node: run.modes[node].changes for node in NODES}, 'pages': [page.changes for page in run.pages],
         'txns': [txn.changes for txn in run.txns], 'names': [run.name(txn) for txn in range(len(run.txns))],
@@ -50,6 +52,12 @@ def glossed(steps):
     meaning = meanings({step.outcome for step in steps})
     glosses = sorted(set(meaning.values()))
     return glosses, [glosses.index(meaning[step.outcome]) for step in steps]
+
+
+def waits(run):
+    """Whom each step waits for, as a sentence, by the number of the step."""
+    words = {step.number: sentence(run, step) for step in run.steps}
+    return {number: found[0].upper() + found[1:] + '.' for number, found in words.items() if found}
 
 
 def notable(run, step):

@@ -5,6 +5,7 @@ from collections import Counter
 from picture.looks import node_of
 from picture.rows import folded_text
 from runs import LINKS, NODES, page_words
+from waiting import note
 
 # What goes out from a node, and the lanes from left to right.
 ARROWS = {'A': '%s ▶', 'B': '◀ %s'}
@@ -41,6 +42,8 @@ def row_of(run, first, last):
         choice, instr, outcome = folded_text(run, steps)
         name = run.name(step.txn) + ' ' if instr and len({other.txn for other in steps}) == 1 else ''
         cells['client' if step.actor == 'C' else step.actor] = '%s%s: %s' % (name, instr or choice, outcome)
+    if step.actor in NODES:
+        cells[step.actor] += note(run, step)
     for node in NODES:
         modes = [mode for position, mode in run.modes[node].changes if first <= position <= last]
         cells[node] = (cells[node] + ''.join(' [%s]' % mode for mode in modes)).strip()

@@ -7,6 +7,7 @@ from itertools import groupby
 import bench
 import outcomes
 import runs
+import waiting
 from picture.looks import STUCK
 from picture.serial import differences, verdict_line
 from picture.text import summary
@@ -96,8 +97,13 @@ class Session:
         return changed[:MOST] + (['and %d more lines; state shows all' % more] if more > 0 else [])
 
     def here(self):
-        """The last choice that is done."""
-        return self.around(0) or ['at 0 of %d' % self.last()]
+        """The last choice that is done, and below it whom it waits for."""
+        return self.around(0) + self.waits() or ['at 0 of %d' % self.last()]
+
+    def waits(self):
+        """Whom the last choice that is done waits for, as a line; none where it waits for no page."""
+        words = self.position and waiting.sentence(self.run, self.run.steps[self.position - 1])
+        return ['  ' + words] if words else []
 
     def around(self, reach):
         """The choices around the position with what came of each; the last one that is done is marked."""

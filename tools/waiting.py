@@ -1,0 +1,77 @@
+"""Whom a step waits for: who has a lock that is in its way, or where the page is that is not here."""
+
+from collections import namedtuple
+
+from runs import NODES, page_words
+
+KINDS = {'s': 'shared', 'x': 'exclusive'}
+
+# Which operands of an instruction are keys: of the row that it tries, or of the first and the last one.
+KEYS = {'read': (1,), 'write': (0,), 'insert': (0,), 'sum': (0, 1)}
+
+ROWS = {1: ' (row %s)', 2: ' (rows %s to %s)'}
+
+# How a sentence begins, by the outcome: what becomes of a page, or of the request for it.
+BEGINNINGS = {'waits': 'waits for %s', 'held': '%s stays', 'pulls': 'asks for %s', 'awaits': 'waits for %s'}
+
+# A step that waits: its outcome's word, the page with the rows that are tried, where the page is or is locked, and the locks there, each as its
+# transaction and kind.
+Wait = namedtuple('Wait', 'word page place locks')
+
+
+def wait_of(run, step):
+    """What a step waits for; None where it waits for no page."""
+    word, *number = step.outcome.split()
+    if word not in BEGINNINGS:
+        return None
+    where, _, _, locks = page_words(run.pages[int(number[0])].at(step.number))
+    place = step.actor if word in ('waits', 'held') else where
+    tried = run.instrs[step.number].split()
+    others = [lock for lock in locks_at(place, locks) if lock[0] != step.txn]
+    return Wait(word, 'page ' + number[0] + rows_of(run, step, tried), place, others)
+
+
+def locks_at(place, locks):
+    """Those of a page's locks that are at a node, each as its transaction and kind."""
+    return [(int(txn), kind) for node, txn, kind in (lock.split(':') for lock in locks) if node == place]
+
+
+def rows_of(run, step, tried):
+    """The rows that an instruction tries, in brackets; nothing where none is tried."""
+    if not tried or tried[0] not in KEYS:
+        return ''
+    words = run.txns[step.txn].at(step.number).split()
+    values = words[words.index('regs') + 1:]
+    keys = tuple(values[int(tried[1 + place][1:])] for place in KEYS[tried[0]])
+    return ROWS[len(keys)] % keys
+
+
+def at(place):
+    """Where a page is, in words."""
+    return ('at %s' if place in NODES else 'on link %s') % place
+
+
+def transaction(run, lock):
+    """Who has a lock, and of which kind."""
+    return ' '.join(filter(None, ['transaction %d' % lock[0], run.names[lock[0]]])) + ' (%s)' % KINDS[lock[1]]
+
+
+def sentence(run, step):
+    """`waits for page 1 (row 30), locked at A by transaction 1 (exclusive)`; nothing where a step waits for no page."""
+    wait = wait_of(run, step)
+    if not wait:
+        return ''
+    there = '' if wait.word in ('waits', 'held') else ', which is ' + at(wait.place)
+    holders = ' and '.join(transaction(run, lock) for lock in wait.locks)
+    locked = ', locked %s by %s' % ('there' if there else at(wait.place), holders) if holders else ''
+    return BEGINNINGS[wait.word] % wait.page + there + locked
+
+
+def note(run, step):
+    """The same in few words, as ` [locked by t1]`."""
+    wait = wait_of(run, step)
+    if not wait:
+        return ''
+    there = [] if wait.word in ('waits', 'held') else [at(wait.place)]
+    locked = ['locked by ' + ' and '.join(run.name(txn) for txn, _ in wait.locks)] if wait.locks else []
+    return ' [%s]' % ', '.join(there + locked)
