@@ -29,7 +29,7 @@ fn compare(alloc: Global, input: &[u8], scenario: Scenario) -> Result<Verdict, A
 {
     let mut sink = Comparing::new(input);
     match write_run(alloc, scenario, &mut sink) {
-        Ok(()) => Ok(sink.verdict()),
+        Ok(_) => Ok(sink.verdict()),
         // A byte differs, and the sink took none behind it.
         Err(TextFault::Write) => Ok(sink.verdict()),
         Err(TextFault::Memory) => Err(AllocError),

@@ -137,6 +137,14 @@ pub fn prepared<T: Drop, F: Fault + Drop>(answer: Result<T, F>) -> Result<T, Ref
     }
 }
 
+/// Whether a call has ended well, without what it gives.
+pub fn ended<T: Drop, F: Drop>(answer: Result<T, F>) -> Result<(), F> {
+    match answer {
+        Ok(_) => Ok(()),
+        Err(fault) => Err(fault),
+    }
+}
+
 /// Calls to be made in order. At most one request for memory is refused in a run of the program.
 pub trait Calls {
     /// How many there are.

@@ -1,7 +1,7 @@
 //! The engines, over bytes in memory.
 ghost use Rattle.std.specs.Prelude.{◌<◌};
 
-use crate::calls::{Calls, Found, Refused, prepared, sweep, tested};
+use crate::calls::{Calls, Found, Refused, ended, prepared, sweep, tested};
 use crate::scenarios::scenario;
 use crate::texts::{Prefix, room};
 use std::alloc::Global;
@@ -36,15 +36,12 @@ fn work(
 {
     let mut input = Vec::new(alloc);
     match engine {
-        Engine::RunText => run_bytes(alloc, Format::Text, source, sink, &mut input),
-        Engine::RunImage => run_bytes(alloc, Format::Image, source, sink, &mut input),
-        Engine::Trace => trace_bytes(alloc, Format::Text, source, sink, &mut input),
+        Engine::RunText => ended(run_bytes(alloc, Format::Text, source, sink, &mut input)),
+        Engine::RunImage => ended(run_bytes(alloc, Format::Image, source, sink, &mut input)),
+        Engine::Trace => ended(trace_bytes(alloc, Format::Text, source, sink, &mut input)),
         Engine::Asm => asm_bytes(alloc, source, sink, &mut input),
         Engine::Dis => dis_bytes(alloc, source, sink, &mut input),
-        Engine::Check => match check_bytes(alloc, source, sink) {
-            Ok(_) => Ok(()),
-            Err(fault) => Err(fault),
-        },
+        Engine::Check => ended(check_bytes(alloc, source, sink)),
         Engine::Debug => debug_bytes(alloc, 2, 1, source, sink, &mut input),
     }
 }

@@ -1,6 +1,6 @@
 //! Texts, listings and their lines.
 
-use crate::calls::{Calls, Found, Refused, prepared, sweep, tested};
+use crate::calls::{Calls, Found, Refused, ended, prepared, sweep, tested};
 use crate::digest::{Digest, digest_of, digest_of_bytes};
 use crate::machines::machine;
 use crate::scenarios::scenario;
@@ -118,7 +118,7 @@ impl Calls for WritingRun<'_> {
     fn call(&mut self, _place: usize) -> Result<u64, Refused> {
         let mut sink = VecSink::new(room(self.alloc)?);
         let scenario = scenario(self.alloc, self.input)?;
-        let outcome = tested(write_run(self.alloc, scenario, &mut sink));
+        let outcome = tested(ended(write_run(self.alloc, scenario, &mut sink)));
         self.prefix.answer(sink, outcome)
     }
 }

@@ -1,7 +1,7 @@
 //! Runs by three threads.
 ghost use Rattle.std.specs.Prelude.{◌<◌};
 
-use crate::calls::{Answers, Found, Refused, again, answered, prepared, tested};
+use crate::calls::{Answers, Found, Refused, again, answered, ended, prepared, tested};
 use crate::digest::Digest;
 use crate::gates::{ACTORS, Noting, SlowB};
 use crate::machines::choices;
@@ -127,7 +127,7 @@ fn threaded<R: Threads + Wait + Sync, G: Gate + Sync>(
 {
     let mut source = SliceSource::new(text);
     let mut input = Vec::new(alloc);
-    threads_bytes(rt, alloc, Format::Text, &mut source, sink, &mut input, gate)
+    ended(threads_bytes(rt, alloc, Format::Text, &mut source, sink, &mut input, gate))
 }
 
 /// `Job::Alone`: what it writes is always the same.
