@@ -28,6 +28,7 @@ pub fn explaining_order(
 }
 
 /// Which order explains the rows.
+#[derive(Clone, Copy)]
 pub struct Explained<'a>(pub &'a [CommitRecord]);
 
 impl fmt::Display for Explained<'_> {
