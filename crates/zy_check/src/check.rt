@@ -11,6 +11,7 @@ ghost use Rattle.zy_check.specs.Differs as spec;
 ghost use Rattle.zy_check.specs.Faults.{failed_reads, IfScenario, IsOfScenario, ReadsInput};
 ghost use Rattle.zy_check.specs.Verdicts.{GivesVerdict, IsVerdict};
 ghost use Rattle.zy_io.specs.Streams.{max_input, most_read};
+ghost use Rattle.zy_io.specs.Writing.{Wrote};
 
 use crate::comparing::Comparing;
 use crate::faults::CheckFault;
@@ -19,17 +20,27 @@ use std::alloc::{AllocError, Global};
 use zy_asm::assembling::assemble_bytes;
 use zy_audit::run::write_run;
 use zy_io::reading::read_all;
-use zy_io::{Source, TextFault};
+use zy_io::{Sink, Source, TextFault};
 use zy_isa::Scenario;
 use zy_text::cut::cut_len;
+
+/// Makes the choices of a scenario, and writes its listing.
+fn write_listing<K: Sink>(alloc: Global, scenario: Scenario, sink: &mut K) -> Result<(), TextFault>
+    requires { K.failures sink.old < u64.MAX }
+    ensures { Wrote (K.written sink.old) (K.written sink.new) (K.failures sink.old) (K.failures sink.new) result
+        (listing_run scenario) }
+{
+    write_run(alloc, scenario, sink)?;
+    Ok(())
+}
 
 /// Makes the choices of a scenario, and compares its listing with an input.
 fn compare(alloc: Global, input: &[u8], scenario: Scenario) -> Result<Verdict, AllocError>
     ensures { IfOk result (λ v. v ≡ spec.verdict input.now (listing_run scenario)) }
 {
     let mut sink = Comparing::new(input);
-    match write_run(alloc, scenario, &mut sink) {
-        Ok(_) => Ok(sink.verdict()),
+    match write_listing(alloc, scenario, &mut sink) {
+        Ok(()) => Ok(sink.verdict()),
         // A byte differs, and the sink took none behind it.
         Err(TextFault::Write) => Ok(sink.verdict()),
         Err(TextFault::Memory) => Err(AllocError),

@@ -92,8 +92,8 @@ fn run<S: Source, K: Sink>(
     ensures { let at = streams S.left S.failures S.given K.written K.failures in
         Converts format (shown_of shown) (at source.old sink.old) (at source.new sink.new) result }
 {
-    let scenario = read_scenario(alloc, format, source, input)?;
-    let machine = shown.write(alloc, scenario, sink)?;
+    let accepted = read_scenario(alloc, format, source, input)?;
+    let machine = shown.write(alloc, accepted, sink)?;
     Ok(machine)
 }
 
