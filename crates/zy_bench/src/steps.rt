@@ -24,6 +24,16 @@ const STILL: [&'static str; 11] = [
     "nopush",
 ];
 
+/// The place of an outcome among those of which nothing comes.
+fn still_place(outcome: &[u8]) -> Option<usize> {
+    for (place, still) in STILL.iter().enumerate() {
+        if is(outcome, still.as_bytes()) {
+            return Some(place);
+        }
+    }
+    None
+}
+
 /// Where a listing or a trace is.
 #[derive(Clone, Copy, Debug, PartialEq, Eq)]
 enum Part {
@@ -102,15 +112,16 @@ impl Steps {
     /// Notes a step.
     fn note(&mut self, step: Step<'_>) {
         self.count = self.count.saturating_add(1);
-        let place = STILL
-            .iter()
-            .position(|outcome| is(step.outcome, outcome.as_bytes()));
-        if let Some(seen) = place.and_then(|place| self.outcomes.get_mut(place)) {
-            *seen = true;
+        if let Some(place) = still_place(step.outcome) {
             self.still = self.still.saturating_add(1);
+            if let Some(seen) = self.outcomes.get_mut(place) {
+                *seen = true;
+            }
         }
-        if let Some(tally) = step.txn.and_then(|txn| self.txns.get_mut(txn)) {
-            tally.note(step);
+        if let Some(txn) = step.txn {
+            if let Some(tally) = self.txns.get_mut(txn) {
+                tally.note(step);
+            }
         }
     }
 
@@ -323,9 +334,10 @@ impl Nothing<'_> {
     /// Writes which outcomes there were.
     fn tell_outcomes<W: fmt::Write>(self, f: &mut fmt::Formatter<W>) -> fmt::Result {
         let mut between = "the outcomes are ";
-        for (outcome, seen) in STILL.iter().zip(self.steps.outcomes.iter()) {
-            if *seen {
-                write!(f, "{between}{outcome}")?;
+        for (place, outcome) in STILL.iter().enumerate() {
+            if self.steps.outcomes.get(place).copied() == Some(true) {
+                f.write_str(between)?;
+                f.write_str(outcome)?;
                 between = ", ";
             }
         }
