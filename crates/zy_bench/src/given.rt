@@ -1,5 +1,5 @@
 //! What a command is given to read.
-ghost use Rattle.std.specs.Prelude.{None};
+ghost use Rattle.std.specs.Prelude.{◌≤◌, None, length};
 ghost use Rattle.std.specs.Io.{ReadsAtMost};
 
 use std::io::{ErrorKind, Read};
@@ -43,7 +43,9 @@ impl<F: Drop, S> Given<F, S> {
     }
 
     /// Ends the file with a line feed, so that standard input begins a line.
-    fn end_file(&mut self, buffer: &mut [u8]) -> usize {
+    fn end_file(&mut self, buffer: &mut [u8]) -> usize
+        ensures { result ≤ length buffer.new }
+    {
         let Some(first) = buffer.first_mut() else {
             return 0;
         };

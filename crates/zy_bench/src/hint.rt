@@ -107,8 +107,7 @@ fn is_whole(word: &[u8]) -> bool {
 /// The number that a word spells: digits in groups, or digits with an exponent, as in `1_000_000` and `1e6`.
 fn spelled(word: &[u8]) -> Option<u64> {
     let mut number = 0u64;
-    let mut rest = word;
-    while let [byte, behind @ ..] = rest {
+    for (index, byte) in word.iter().enumerate() {
         match *byte {
             b'0'..=b'9' => {
                 number = number
@@ -116,10 +115,9 @@ fn spelled(word: &[u8]) -> Option<u64> {
                     .saturating_add(u64::from(*byte - b'0'))
             }
             b'_' | b',' => {}
-            b'e' | b'E' => return Some(raised(number, behind)?),
+            b'e' | b'E' => return raised(number, word.get(index + 1..).unwrap_or(&[])),
             _ => return None,
         }
-        rest = behind;
     }
     Some(number)
 }
