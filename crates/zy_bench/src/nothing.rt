@@ -153,10 +153,11 @@ impl Nothing {
     /// Notes a step.
     fn note(&mut self, entry: Entry) {
         self.count = self.count.saturating_add(1);
-        let place = still_place(entry.outcome);
-        if let Some(seen) = place.and_then(|place| self.outcomes.get_mut(place)) {
-            *seen = true;
+        if let Some(place) = still_place(entry.outcome) {
             self.still = self.still.saturating_add(1);
+            if let Some(seen) = self.outcomes.get_mut(place) {
+                *seen = true;
+            }
         }
         let txn = match entry.choice {
             Choice::Begin(txn) | Choice::Kill(txn) | Choice::Run(_, txn) => usize::from(txn),
@@ -224,9 +225,10 @@ impl Nothing {
     /// Writes which outcomes there were.
     fn tell_outcomes<W: fmt::Write>(&self, f: &mut fmt::Formatter<W>) -> fmt::Result {
         let mut between = "the outcomes are ";
-        for (outcome, seen) in STILL.iter().zip(self.outcomes.iter()) {
-            if *seen {
-                write!(f, "{between}{outcome}")?;
+        for (place, outcome) in STILL.iter().enumerate() {
+            if self.outcomes.get(place).copied() == Some(true) {
+                f.write_str(between)?;
+                f.write_str(outcome)?;
                 between = ", ";
             }
         }
