@@ -33,6 +33,18 @@ def commit_order(run):
     return [life.txn for life in sorted(committed, key=lambda life: int(life.outcome.split()[1]))]
 
 
+def migration_order(run):
+    """The committed transactions in the order that explains the rows: of each migration first those that committed at its source."""
+    source, first, later = None, [], []
+    for step in run.steps:
+        if step.outcome == 'started':
+            source = 'B' if source == 'A' else 'A'
+            first, later = first + later, []
+        elif step.outcome.startswith('committed'):
+            (first if step.actor == source else later).append(step.txn)
+    return first + later
+
+
 def differences(run):
     """(key, value here, value in the serial run) of each row that differs. The program itself runs the committed programs one by one; where
     one of them does not end there as in the serial run, or they are too long for a scenario, nothing is said."""
@@ -53,7 +65,10 @@ def differences(run):
 
 
 def verdict_line(run, differing):
-    """The verdict, and the first rows that differ."""
+    """The verdict, and where the serial run leaves other rows, the first of these and the order that leaves the rows of this run."""
+    if run.verdict != 'serial differs':
+        return run.verdict
     rows = ['row %s is %s, in the serial run %s' % row for row in differing[:3]]
     more = ['and %d more' % (len(differing) - 3)] if len(differing) > 3 else []
-    return run.verdict + (': ' if rows else '') + '; '.join(rows + more)
+    order = ['the rows are those of %s' % ', '.join(map(run.name, migration_order(run)))]
+    return run.verdict + ': ' + '; '.join(rows + more + order)

@@ -187,10 +187,10 @@ function drawSerial() {
   const cells = shown.map(([key, value]) => el('tr', differs.has(key) ? 'wrong' : '', ...[key, ...(differs.get(key) || [value, value])].map(
     word => el('td', '', word))));
   const head = el('tr', '', ...['key', 'this run', 'serial run'].map(word => el('th', '', word)));
-  const order = D.order.map(t => D.names[t]).join(', then ');
+  const [order, explained] = [D.order, D.explained].map(txns => txns.map(t => D.names[t]).join(', then '));
   const table = differs.size ? el('table', '', head, ...cells) : el('p', '', 'Its rows are not known here.');
   $('serial').replaceChildren(...(D.verdict[0][1] ? [] : [el('h2', '', 'the end of this run, and of the serial run'),
-    el('p', '', `The serial run: ${order}.`), table, el('small', '', few ? '' : `and ${rows.size - shown.length} rows that are alike`)]));
+    el('p', '', `The serial run: ${order}.`), el('p', '', `The rows of this run are those of ${explained}.`), table, el('small', '', few ? '' : `and ${rows.size - shown.length} rows that are alike`)]));
 }
 
 // ---- the next choice
