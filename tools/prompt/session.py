@@ -54,7 +54,7 @@ class Session:
         """The debugger's reply to a command at the position, with the stops that are set."""
         commands = [stop for stop, _ in self.stops] + ['goto %d' % self.position, command, '']
         given = (self.text(self.choices) + '\n'.join(commands)).encode(**bench.BYTES)
-        replies = bench.ask(['debug'], given)[len(self.stops) + 1:]
+        replies = bench.ask(['debug'], given, quiet=True)[len(self.stops) + 1:]
         if replies == ['bad command']:
             raise Fault(FORMS[command.split()[0]])
         return replies
