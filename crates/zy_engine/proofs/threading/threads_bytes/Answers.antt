@@ -23,20 +23,20 @@ returns-in_err-scenario g c =
           c.in_err-scenario.field-0.0 c.in_err-scenario.ensures.takes c.read_scenario.ensures.bound;
     })
 
-pub returns-in_err-write_threads : goal.returns-in_err-write_threads
-returns-in_err-write_threads g c =
+pub returns-in_err-machine : goal.returns-in_err-machine
+returns-in_err-machine g c =
     let at = streams g.S.Source.left g.S.Source.failures g.S.Source.given g.K.Sink.written g.K.Sink.failures in
     let old = at c.args.source.now c.args.sink.now in
     let new = at c.read_scenario.new.source c.write_threads.new.sink in
     let scenario = c.in_ok-scenario.scenario in
     let took = c.in_ok-scenario.ensures.takes in
-    let wrote = c.in_err-write_threads.ensures in
-    let p = err_from_is_err_and c.from_residual-in_err-write_threads.result c.from_residual-in_err-write_threads.ensures.1 in
+    let wrote = c.in_err-machine.ensures in
+    let p = err_from_is_err_and c.from_residual-in_err-machine.result c.from_residual-in_err-machine.ensures.1 in
     rw (p.1, p.2) (record {
       order = λ sc. wrote.order;
       merge = took-each c.args.format old.left new.left old.reads new.reads (λ (sc : Scenario). IsMerge wrote.order sc.choices) scenario took wrote.merge;
       converts = converts-wrote c.args.format (λ sc. listing_run (reordered sc wrote.order)) old new scenario took c.read_scenario.ensures.bound
-          (Err c.in_err-write_threads.field-0.0) wrote.wrote;
+          (Err c.in_err-machine.field-0.0) wrote.wrote;
     })
 
 pub returns : goal.returns
@@ -46,10 +46,10 @@ returns g c =
     let new = at c.read_scenario.new.source c.write_threads.new.sink in
     let scenario = c.in_ok-scenario.scenario in
     let took = c.in_ok-scenario.ensures.takes in
-    let wrote = c.in_ok-write_threads.ensures in
+    let wrote = c.in_ok-machine.ensures in
     record {
       order = λ sc. wrote.order;
       merge = took-each c.args.format old.left new.left old.reads new.reads (λ (sc : Scenario). IsMerge wrote.order sc.choices) scenario took wrote.merge;
       converts = converts-wrote c.args.format (λ sc. listing_run (reordered sc wrote.order)) old new scenario took c.read_scenario.ensures.bound
-          (Ok c.in_ok-write_threads.field-0) wrote.wrote;
+          (Ok c.in_ok-machine.machine) wrote.wrote;
     }
