@@ -26,6 +26,9 @@ impl<'a> Commands<'a> {
         let above = scenario.iter().filter(|byte| is_line_feed(byte)).count();
         let mut words = Words::new();
         for (index, line) in commands.split(is_line_feed).enumerate() {
+            if line.is_empty() {
+                continue;
+            }
             take_line(&mut words, line);
             if !words.as_slice().is_empty() && command_of(words.as_slice()).is_none() {
                 let place = self.place(above.saturating_add(index).saturating_add(1));
