@@ -1,6 +1,7 @@
 //! The order that explains the rows of a run.
-ghost use Rattle.std.specs.Prelude.{IfOk, IfSome};
-ghost use Rattle.zy_laws.specs.SourceFirst.{SerialIn};
+ghost use Rattle.std.specs.Prelude.{◌≡◌, IfOk, IfSome};
+ghost use Rattle.zy_laws.specs.SourceFirst.{SerialIn, migration_order};
+ghost use Rattle.zy_machine.specs.Histories.{choices_of};
 
 use std::alloc::Global;
 use std::fmt;
@@ -16,7 +17,9 @@ pub fn explaining_order(
     alloc: Global,
     machine: &Machine,
 ) -> Result<Option<Vec<CommitRecord>>, Fault>
-    ensures { IfOk result (λ found. IfSome found (λ order.
+    ensures order { IfOk result (λ found. IfSome found (λ order.
+        order.items ≡ migration_order machine.now.scenario (choices_of machine.now.entries))) }
+    ensures serial { IfOk result (λ found. IfSome found (λ order.
         SerialIn order.items machine.now.scenario machine.now.state)) }
 {
     // Under held the order of the commits always does.

@@ -114,7 +114,7 @@ fn spelled(word: &[u8]) -> Option<u64> {
                     .saturating_mul(10)
                     .saturating_add(u64::from(*byte - b'0'))
             }
-            b'_' | b',' => {}
+            b'_' => {}
             b'e' | b'E' => return raised(number, word.get(index + 1..).unwrap_or(&[])),
             _ => return None,
         }

@@ -119,27 +119,27 @@ fn convert<R: Eprint + AllocGlobal + Threads + Wait + Sync, G: Read, W: Write>(
     };
     flush(output)?;
     if let Some(machine) = &machine {
-        comment(rt, machine)?;
+        comment(rt, machine);
     }
     Ok(DONE)
 }
 
 /// Says on standard error where nothing came of a run or of a transaction, and which order explains the rows of a run
 /// where that of the commits does not.
-fn comment<R: Eprint + AllocGlobal>(rt: &R, machine: &Machine) -> Result<(), BenchFault> {
+fn comment<R: Eprint + AllocGlobal>(rt: &R, machine: &Machine) {
     if let Some(nothing) = Nothing::of(machine) {
         let _ = eprintln!(rt; "zy_bench: {nothing}");
     }
-    explain(rt, machine)
+    explain(rt, machine);
 }
 
-/// Says on standard error which order explains the rows of a run where that of the commits does not.
-fn explain<R: Eprint + AllocGlobal>(rt: &R, machine: &Machine) -> Result<(), BenchFault> {
-    if let Some(order) = explaining_order(rt.alloc(), machine)? {
+/// Says on standard error which order explains the rows of a run where that of the commits does not. Out of memory it says
+/// nothing: the run is over, and its output is out.
+fn explain<R: Eprint + AllocGlobal>(rt: &R, machine: &Machine) {
+    if let Ok(Some(order)) = explaining_order(rt.alloc(), machine) {
         let explained = Explained(&order);
         let _ = eprintln!(rt; "zy_bench: {explained}");
     }
-    Ok(())
 }
 
 /// Checks the listing that is given, shows the line where it first differs, and gives the exit status.
@@ -160,8 +160,9 @@ fn check<R: Eprint + AllocGlobal, G: Read, W: Write>(
             flush(output)?;
             if listing.ends_with(DIFFERING_END) {
                 let mut kept = LineKept::new(rt.alloc(), 0);
-                let machine = run_again(rt, listing, &mut kept)?;
-                explain(rt, &machine)?;
+                if let Ok(machine) = run_again(rt, listing, &mut kept) {
+                    explain(rt, &machine);
+                }
             }
             Ok(DONE)
         }

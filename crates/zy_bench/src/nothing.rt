@@ -70,21 +70,23 @@ impl Tally {
         }
     }
 
-    /// How many did nothing.
-    fn still(self) -> usize {
-        self.idle.saturating_add(self.elsewhere)
-    }
-
     /// Why nothing came of any of them, if nothing did.
     fn cause(self) -> Option<Cause> {
-        if self.is_live || self.still() == 0 {
-            return None;
+        match self.began {
+            _ if self.is_live => None,
+            Some(node) if self.elsewhere > 0 => Some(Cause::At(node)),
+            Some(_) if self.idle > 0 => Some(Cause::BegunLater),
+            None if self.idle > 0 => Some(Cause::NotBegun),
+            _ => None,
         }
-        Some(match self.began {
-            None => Cause::NotBegun,
-            Some(node) if self.elsewhere > 0 => Cause::At(node),
-            Some(_) => Cause::BegunLater,
-        })
+    }
+
+    /// How many did nothing for this cause, which it has.
+    fn still_for(self, cause: Cause) -> usize {
+        match cause {
+            Cause::At(_) => self.elsewhere,
+            Cause::NotBegun | Cause::BegunLater => self.idle,
+        }
     }
 }
 
@@ -93,7 +95,7 @@ impl Tally {
 enum Cause {
     /// It was not begun.
     NotBegun,
-    /// It is at this node, and they are at the other one.
+    /// It is at this node, and was run at the other one.
     At(Node),
     /// It was begun after them.
     BegunLater,
@@ -191,7 +193,7 @@ impl Nothing {
         let mut still = 0usize;
         for tally in &self.txns {
             if tally.cause() == Some(cause) {
-                still = still.saturating_add(tally.still());
+                still = still.saturating_add(tally.still_for(cause));
             }
         }
         still
@@ -242,14 +244,6 @@ fn is_doubtful(machine: &Machine) -> bool {
     count == 0 || (0..count).any(|t| machine.txn(t as u8).done() == 0)
 }
 
-/// The name of the other node.
-fn other(node: Node) -> &'static str {
-    match node {
-        Node::A => "B",
-        Node::B => "A",
-    }
-}
-
 /// The name of a node.
 fn name(node: Node) -> &'static str {
     match node {
@@ -258,37 +252,42 @@ fn name(node: Node) -> &'static str {
     }
 }
 
+/// The name of the other node.
+fn other(node: Node) -> &'static str {
+    match node {
+        Node::A => "B",
+        Node::B => "A",
+    }
+}
+
 impl fmt::Display for Nothing {
     fn fmt<W: fmt::Write>(&self, f: &mut fmt::Formatter<W>) -> fmt::Result {
         let (still, count) = (self.still, self.count);
+        write!(f, "{still} of {count} choices did nothing")?;
         let Some(cause) = self.cause else {
-            write!(f, "{still} of {count} choices did nothing: ")?;
+            f.write_str(": ")?;
             return self.tell_outcomes(f);
         };
-        let (still, is_one) = (self.still_for(cause), self.txns_with(cause) == 1);
-        write!(f, "{still} of {count} choices did nothing: ")?;
+        let due = self.still_for(cause);
+        if due == still {
+            f.write_str(": ")?;
+        } else {
+            write!(f, ", {due} of them since ")?;
+        }
         self.tell_txns(f, cause)?;
-        match (cause, is_one) {
-            (Cause::NotBegun, true) => f.write_str(" was not begun"),
-            (Cause::NotBegun, false) => f.write_str(" were not begun"),
-            (Cause::At(node), true) => {
-                write!(
-                    f,
-                    " is at {}, and its steps are at {}",
-                    name(node),
-                    other(node)
-                )
+        let is_one = self.txns_with(cause) == 1;
+        let (was, is) = if is_one {
+            ("was", "is")
+        } else {
+            ("were", "are")
+        };
+        match cause {
+            Cause::NotBegun => write!(f, " {was} not begun"),
+            Cause::At(node) => {
+                let (here, there) = (name(node), other(node));
+                write!(f, " {is} at {here}, and {was} run at {there}")
             }
-            (Cause::At(node), false) => {
-                write!(
-                    f,
-                    " are at {}, and their steps are at {}",
-                    name(node),
-                    other(node)
-                )
-            }
-            (Cause::BegunLater, true) => f.write_str(" was begun after them"),
-            (Cause::BegunLater, false) => f.write_str(" were begun after them"),
+            Cause::BegunLater => write!(f, " {was} begun after them"),
         }
     }
 }
