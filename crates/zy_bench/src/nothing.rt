@@ -3,7 +3,7 @@
 use std::fmt;
 use zy_isa::{Choice, MAX_TXNS, Node};
 use zy_machine::Machine;
-use zy_table::{Entry, Outcome};
+use zy_table::{Entry, Outcome, Status};
 
 /// The words of the outcomes of which nothing comes.
 const STILL: [&'static str; 11] = [
@@ -238,10 +238,79 @@ impl Nothing {
     }
 }
 
-/// Whether nothing may have come of a run or of a transaction: one has done no instruction, or there is none.
+/// Whether nothing came of a run, or of the steps of a transaction.
 fn is_doubtful(machine: &Machine) -> bool {
-    let count = machine.txn_count();
-    count == 0 || (0..count).any(|t| machine.txn(t as u8).done() == 0)
+    let mut entries = machine.entries().iter();
+    entries.all(|entry| still_place(entry.outcome).is_some())
+        || Looks::of(machine).has_still(machine)
+}
+
+/// What is known of the steps of a transaction.
+#[derive(Clone, Copy, Debug, PartialEq, Eq)]
+enum Look {
+    /// It has none so far.
+    Unseen,
+    /// None did anything so far.
+    Still,
+    /// One did something.
+    Live,
+}
+
+/// What is known of the steps of each transaction.
+#[derive(Clone, Copy)]
+struct Looks {
+    txns: [Look; 64],
+    /// Of how many it is not known that one did something.
+    left: usize,
+}
+
+impl Looks {
+    /// What is known at once: something came of a transaction that has done an instruction or has ended.
+    fn of(machine: &Machine) -> Looks {
+        let mut looks = Looks {
+            txns: [Look::Live; 64],
+            left: 0,
+        };
+        for t in 0..machine.txn_count() {
+            let txn = machine.txn(t as u8);
+            let is_open = matches!(txn.status(), Status::New | Status::Active);
+            if let Some(look) = looks.txns.get_mut(t) {
+                if is_open && txn.done() == 0 {
+                    *look = Look::Unseen;
+                    looks.left = looks.left.saturating_add(1);
+                }
+            }
+        }
+        looks
+    }
+
+    /// Whether a transaction has steps and none of them did anything.
+    fn has_still(mut self, machine: &Machine) -> bool {
+        for entry in machine.entries() {
+            if self.left == 0 {
+                return false;
+            }
+            if let Choice::Run(_, txn) | Choice::Kill(txn) = entry.choice {
+                self.note(usize::from(txn), entry.outcome);
+            }
+        }
+        self.txns.contains(&Look::Still)
+    }
+
+    /// Notes what came of a step of a transaction.
+    fn note(&mut self, txn: usize, outcome: Outcome) {
+        let Some(look) = self.txns.get_mut(txn) else {
+            return;
+        };
+        match (*look, outcome) {
+            (Look::Live, _) => {}
+            (_, Outcome::Idle | Outcome::Elsewhere) => *look = Look::Still,
+            _ => {
+                *look = Look::Live;
+                self.left = self.left.saturating_sub(1);
+            }
+        }
+    }
 }
 
 /// The name of a node.
