@@ -74,6 +74,18 @@ impl<'a> Form<'a> {
         )
     }
 
+    /// Whether the word at this place of its line is a value that need not be a key, or a register that has one.
+    pub fn has_value_at(self, at: usize) -> bool {
+        let is_second = at == self.at.saturating_add(2);
+        match self.shape {
+            Shape::Number | Shape::Jump => true,
+            Shape::Row => is_second,
+            Shape::Pair if is(self.first, b"add") => true,
+            Shape::Pair => is_second && (is(self.first, b"write") || is(self.first, b"insert")),
+            _ => false,
+        }
+    }
+
     /// How it is written.
     pub fn pattern(self) -> Pattern<'a> {
         Pattern(self)

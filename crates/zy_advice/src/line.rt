@@ -108,6 +108,11 @@ impl<'a> Statement<'a> {
         }
     }
 
+    /// The last word; nothing if there is none.
+    pub fn last(self) -> &'a [u8] {
+        self.text(self.count().saturating_sub(1))
+    }
+
     /// How many words there are.
     pub fn count(self) -> usize {
         let words = self.bytes.split(is_gap);

@@ -77,8 +77,26 @@ impl<'a> Unknown<'a> {
             }
             _ => {
                 write!(f, "a register r0 to r7 is expected here, not {word}: ")?;
-                tell_register(f, self.word(), form)
+                self.tell_register(f, form)
             }
+        }
+    }
+
+    /// Says what to write in place of a word that is no register.
+    fn tell_register<W: fmt::Write>(&self, f: &mut fmt::Formatter<W>, form: Form<'a>) -> fmt::Result {
+        let word = self.word();
+        if let [b'R', number @ b'0'..=b'7'] = word {
+            return write!(f, "write it in small letters, r{}", char::from(*number));
+        }
+        if word.contains(&b',') {
+            f.write_str("words have spaces between them, and no comma: ")?;
+        }
+        write!(f, "{}", form.pattern())?;
+        match Negative::of(word) {
+            Some(negative) if form.has_value_at(self.at) => {
+                write!(f, ", with {negative}, in a register")
+            }
+            _ => Ok(()),
         }
     }
 
@@ -93,7 +111,7 @@ impl<'a> Unknown<'a> {
             return f.write_str("sum is an instruction of version 2, which begins with zephyr 2");
         }
         if is(word, b"sub") {
-            return tell_subtraction(f, self.statement.text(self.at.saturating_add(2)));
+            return tell_subtraction(f, self.statement.last());
         }
         if is(word, b"li") {
             return tell_load(f, self.statement);
@@ -221,25 +239,6 @@ fn tell_action_of_node<W: fmt::Write>(
     match Meant::of(action, &OF_NODE) {
         Some(meant) => write!(f, ": {meant}"),
         None => write!(f, ": {}", form.pattern()),
-    }
-}
-
-/// Says what to write in place of a word that is no register.
-fn tell_register<W: fmt::Write>(
-    f: &mut fmt::Formatter<W>,
-    word: &[u8],
-    form: Form<'_>,
-) -> fmt::Result {
-    if let [b'R', number @ b'0'..=b'7'] = word {
-        return write!(f, "write it in small letters, r{}", char::from(*number));
-    }
-    if word.contains(&b',') {
-        f.write_str("words have spaces between them, and no comma: ")?;
-    }
-    write!(f, "{}", form.pattern())?;
-    match Negative::of(word) {
-        Some(negative) => write!(f, ", with {negative}, in a register"),
-        None => Ok(()),
     }
 }
 

@@ -46,7 +46,7 @@ impl TextAdvice<'_> {
             return f.write_str("sum is one of version 2, which begins with zephyr 2");
         }
         if is(word, b"sub") {
-            return tell_subtraction(f, self.statement.text(self.culprit().saturating_add(2)));
+            return tell_subtraction(f, self.statement.last());
         }
         if let Some(meant) = MeantHere::of(self.above.version, word, &INSTRUCTIONS) {
             return write!(f, "{meant}");
@@ -104,14 +104,11 @@ impl TextAdvice<'_> {
         };
         write!(f, "{}", form.pattern())?;
         match Negative::of(self.word()) {
-            Some(negative) if self.is_value(form) => write!(f, ", here {negative}"),
+            Some(negative) if form.has_value_at(self.culprit()) => {
+                write!(f, ", here {negative}")
+            }
             _ => Ok(()),
         }
-    }
-
-    /// Whether the word at fault is to be the value of a register or of a row.
-    fn is_value(&self, form: Form<'_>) -> bool {
-        form.shape == Shape::Number || form.shape == Shape::Row && self.culprit() == 2
     }
 }
 

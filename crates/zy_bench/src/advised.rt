@@ -9,11 +9,13 @@ use zy_engine::BenchFault;
 /// What a command has read.
 #[derive(Clone, Copy)]
 pub struct Reading<'a> {
+    /// The command that has read it.
     pub command: Command,
     /// The name of the file that it begins with.
     pub file: Option<&'a str>,
     /// How many lines are above standard input, where that is read below a file.
     pub lines: Option<usize>,
+    /// What was read, of the file and of standard input together.
     pub bytes: &'a [u8],
     /// Why it was not read to its end.
     pub failure: Option<Failure>,
@@ -44,8 +46,10 @@ impl<'a> Advised<'a> {
         match self.fault {
             BenchFault::Input(refusal) => {
                 let position = TextAdvice::of(command, bytes, refusal).position();
-                match lines {
-                    Some(lines) if position.line > lines => Origin::of(file),
+                match (file, lines) {
+                    (Some(file), Some(lines)) if position.line > lines => {
+                        Origin::LineUnended(file, position.line.saturating_sub(lines))
+                    }
                     _ => Origin::at(file, position),
                 }
             }

@@ -72,7 +72,7 @@ macro_rules! below {
             ", at most 4194304 bytes\nOutput:  ",
             $output,
             "; a fault is one line on standard error\n",
-            "Status:  0 done, 1 the input is refused, 2 the command line is wrong,\n",
+            "Status:  0 done, 1 the input is rejected, 2 the command line is wrong,\n",
             "         3 out of memory, 5 the input or the output failed\n",
             "Formats: docs/formats.md\n\nExample:\n  ",
             $example
@@ -163,7 +163,7 @@ fn check_command<'a>(alloc: Global) -> Result<Command<'a>, AllocError> {
     Command::new(alloc, "check")
         .about("Reads a listing, and says whether it is right")
         .after_help(
-            "The scenario at its head, through its end line, is run. Where the input is its listing, byte\nfor byte, the output is table, else not table L: L is the first line of the input that differs,\nand standard error shows it.\n\nExample:\n  zy_bench run examples/first_run.zephyr | zy_bench check\n\nStatus: 0 table, 1 the scenario is refused, 2 the command line is wrong,\n3 out of memory, 4 not table, 5 the input or the output failed.\nFormats: docs/formats.md",
+            "The scenario at its head, through its end line, is run. Where the input is its listing, byte\nfor byte, the output is table, else not table L: L is the first line of the input that differs,\nand standard error shows it.\n\nExample:\n  zy_bench run examples/first_run.zephyr | zy_bench check\n\nStatus: 0 table, 1 the scenario is rejected, 2 the command line is wrong,\n3 out of memory, 4 not table, 5 the input or the output failed.\nFormats: docs/formats.md",
         )
         .arg(file_argument(alloc))
 }
@@ -186,7 +186,7 @@ fn debug_command<'a>(alloc: Global) -> Result<Command<'a>, AllocError> {
     Command::new(alloc, "debug")
         .about("Answers commands on the run of a scenario, one a line")
         .after_help(
-            "Input:   a scenario text through its end line, and below it commands, one a line;\n         at most 4194304 bytes. With FILE it begins with that, and standard input goes on\nOutput:  the replies; a fault is one line on standard error\nStatus:  0 done, 1 the scenario is refused, 2 the command line is wrong,\n         3 out of memory, 5 the input or the output failed\n\nCommands: step N, back N, goto N, cont, rcont, break page P, break mode, break abort,\nwatch K, delete I, page P, txn T, links, where. docs/debugger.md describes them all.\n\nA command replays from the copy nearest below its target, or from the start. The two numbers\nchange how long that takes and how much memory, and no reply.\n\nExample:\n  (echo 'break abort'; echo cont) | zy_bench debug examples/gone.zephyr",
+            "Input:   a scenario text through its end line, and below it commands, one a line;\n         at most 4194304 bytes. With FILE it begins with that, and standard input goes on\nOutput:  the replies; a fault is one line on standard error\nStatus:  0 done, 1 the scenario is rejected, 2 the command line is wrong,\n         3 out of memory, 5 the input or the output failed\n\nCommands: step N, back N, goto N, cont, rcont, break page P, break mode, break abort,\nwatch K, delete I, page P, txn T, links, where. docs/debugger.md describes them all.\n\nA command replays from the copy nearest below its target, or from the start. The two numbers\nchange how long that takes and how much memory, and no reply.\n\nExample:\n  (echo 'break abort'; echo cont) | zy_bench debug examples/gone.zephyr",
         )
         .arg(every)?
         .arg(ring)?
@@ -199,15 +199,15 @@ const SEARCH_HELP: &'static str = concat!(
     "         already taken\n",
     "Output:  the scenario with a shortest list of further choices that leads there; nothing where\n",
     "         there is none. Standard error has the number of states reached; a fault is one line there\n",
-    "Status:  0 found, 1 the input is refused, 2 the command line is wrong, 3 out of memory,\n",
+    "Status:  0 found, 1 the input is rejected, 2 the command line is wrong, 3 out of memory,\n",
     "         4 no schedule shows it (without --kill: none in which the client kills nobody),\n",
     "         5 the input or the output failed, 6 it gave up\n",
     "\n",
     "GOAL:    facts joined by and, or, not and brackets; after them may come: then OUTCOME.\n",
-    "         Facts of one word: differs (another database than that of the serial run), aborted (a\n",
-    "         transaction), own, killed, badkey, missing, duplicate, frozen, nopage, gone (for this\n",
-    "         reason), committed (all transactions), stuck (a transaction is active, and nothing comes of\n",
-    "         any choice).\n",
+    "         Facts of one word: differs (another database than that of the committed programs, run one\n",
+    "         by one in commit order), aborted (a transaction), own, killed, badkey, missing, duplicate,\n",
+    "         frozen, nopage, gone (for this reason), committed (all transactions), stuck (a transaction\n",
+    "         is active, and nothing comes of any choice).\n",
     "         Others: mode A sdual, page 3 at B, page 3 moving, txn 0 active, txn 0 aborted gone,\n",
     "         txn 1 committed before 0, link AB has pull, key 10 = 5, sum 1 to 8 != 800, reg 0 r2 > 60\n",
     "         and more: docs/search.md has them all.\n",

@@ -1,7 +1,6 @@
 //! The lines of a session of `debug` that are no commands.
 
 use crate::origin::Origin;
-use std::fmt;
 use zy_advice::BadCommand;
 use zy_advice::line::is_line_feed;
 use zy_advice::text::Position;
@@ -39,35 +38,11 @@ impl<'a> Commands<'a> {
     }
 
     /// Where the line of this number of the input is.
-    fn place(self, line: usize) -> LinePlace<'a> {
+    fn place(self, line: usize) -> Origin<'a> {
         match self.file {
-            Some(file) if line <= self.lines => LinePlace::File(file, line),
-            Some(_) => LinePlace::BelowFile(line.saturating_sub(self.lines)),
-            None => LinePlace::Input(line),
-        }
-    }
-}
-
-/// A line, by its number.
-#[derive(Clone, Copy)]
-enum LinePlace<'a> {
-    /// Of the input, where that is standard input alone.
-    Input(usize),
-    /// Of the file of this name.
-    File(&'a str, usize),
-    /// Of standard input, which is below a file.
-    BelowFile(usize),
-}
-
-impl fmt::Display for LinePlace<'_> {
-    fn fmt<W: fmt::Write>(&self, f: &mut fmt::Formatter<W>) -> fmt::Result {
-        match *self {
-            LinePlace::File(file, line) => {
-                let position = Position { line, column: 1 };
-                write!(f, "{}", Origin::Place(file, position))
-            }
-            LinePlace::Input(line) => write!(f, "zy_bench: line {line}"),
-            LinePlace::BelowFile(line) => write!(f, "zy_bench: line {line} of standard input"),
+            Some(file) if line <= self.lines => Origin::Place(file, Position { line, column: 1 }),
+            Some(_) => Origin::LineBelow(line.saturating_sub(self.lines)),
+            None => Origin::Line(line),
         }
     }
 }

@@ -36,6 +36,14 @@ impl Differing<'_> {
         is(self.is, b"trace\n") && is(self.due, b"steps\n")
     }
 
+    /// Whether the line has a carriage return too many, and nothing else is wrong with it.
+    fn has_return(&self) -> bool {
+        match (self.is, self.due) {
+            ([is @ .., b'\r', b'\n'], [due @ .., b'\n']) => is == due,
+            _ => false,
+        }
+    }
+
     /// The first place that is not right.
     pub fn position(&self) -> Position {
         Position {
@@ -64,7 +72,11 @@ impl fmt::Display for Differing<'_> {
             write!(
                 f,
                 "line {number} is {is} and should be {due}, from column {column} on"
-            )
+            )?;
+            if self.has_return() {
+                f.write_str(": the lines of a listing end with a line feed alone")?;
+            }
+            Ok(())
         }
     }
 }

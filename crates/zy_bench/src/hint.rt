@@ -3,6 +3,7 @@
 use clap::error::ErrorKind;
 use std::fmt;
 use zy_advice::Bytes;
+use zy_engine::debugging::{MAX_EVERY, MAX_RING};
 
 /// A flag that takes a number.
 #[derive(Clone, Copy)]
@@ -20,11 +21,11 @@ const COUNTED: [Counted; 3] = [
     },
     Counted {
         flag: "--every",
-        most: 4096,
+        most: MAX_EVERY as u64,
     },
     Counted {
         flag: "--ring",
-        most: 64,
+        most: MAX_RING as u64,
     },
 ];
 

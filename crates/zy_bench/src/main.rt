@@ -55,6 +55,7 @@ use zy_goals::named::txns_named;
 use zy_goals::reading::{read_always, read_goal};
 use zy_io::reading::read_all;
 use zy_io::{CountingReader, SliceSource};
+use zy_isa::{Choice, MAX_CHOICES};
 use zy_machine::Machine;
 use zy_search::{Answer, Report, Sought};
 use zy_text::cut::cut_len;
@@ -159,10 +160,7 @@ fn check<R: Eprint + AllocGlobal, G: Read, W: Write>(
         Verdict::Table => {
             flush(output)?;
             if listing.ends_with(DIFFERING_END) {
-                let mut kept = LineKept::new(rt.alloc(), 0);
-                if let Ok(machine) = run_again(rt, listing, &mut kept) {
-                    explain(rt, &machine);
-                }
+                explain_again(rt, Format::Text, scenario_part(listing), &[]);
             }
             Ok(DONE)
         }
@@ -175,22 +173,57 @@ fn check<R: Eprint + AllocGlobal, G: Read, W: Write>(
     }
 }
 
-/// Makes the choices of the scenario part of an input again; the listing goes to a sink that keeps a line of it.
+/// The scenario part of an input.
+fn scenario_part(input: &[u8]) -> &[u8] {
+    let (part, _) = input.split_at(cut_len(input).min(input.len()));
+    part
+}
+
+/// Makes the choices of a scenario again; the listing goes to a sink that keeps a line of it.
 fn run_again(
-    rt: &impl AllocGlobal,
-    input: &[u8],
+    alloc: Global,
+    format: Format,
+    scenario: &[u8],
     kept: &mut LineKept,
 ) -> Result<Machine, BenchFault> {
-    let (part, _) = input.split_at(cut_len(input).min(input.len()));
-    let mut source = SliceSource::new(part);
-    let mut input = Vec::new(rt.alloc());
-    run_bytes(rt.alloc(), Format::Text, &mut source, kept, &mut input)
+    let mut source = SliceSource::new(scenario);
+    let mut input = Vec::new(alloc);
+    run_bytes(alloc, format, &mut source, kept, &mut input)
+}
+
+/// Makes the choices of a scenario again, and more behind them, as far as it has their transactions and room for them.
+fn run_on(
+    alloc: Global,
+    format: Format,
+    scenario: &[u8],
+    more: &[Choice],
+) -> Result<Machine, BenchFault> {
+    let mut kept = LineKept::new(alloc, 0);
+    let mut machine = run_again(alloc, format, scenario, &mut kept)?;
+    for choice in more {
+        if choice.names_below(machine.txn_count()) && machine.len() < MAX_CHOICES {
+            machine.step(*choice)?;
+        }
+    }
+    Ok(machine)
+}
+
+/// Makes the choices of a scenario again, and more behind them, and says what `explain` says of that run.
+fn explain_again<R: Eprint + AllocGlobal>(
+    rt: &R,
+    format: Format,
+    scenario: &[u8],
+    more: &[Choice],
+) {
+    if let Ok(machine) = run_on(rt.alloc(), format, scenario, more) {
+        explain(rt, &machine);
+    }
 }
 
 /// The line of this number of the listing that an input is to be.
 fn line_due(rt: &impl AllocGlobal, input: &[u8], line: usize) -> Result<LineKept, BenchFault> {
     let mut kept = LineKept::new(rt.alloc(), line);
-    run_again(rt, input, &mut kept)?;
+    run_again(rt.alloc(), Format::Text, scenario_part(input), &mut kept)?;
     if kept.is_refused() {
         return Err(BenchFault::Memory);
     }
@@ -297,7 +330,11 @@ fn search_for<R: Eprint + AllocGlobal + Clock, G: Read, W: Write>(
     let report = searched?;
     flush(output)?;
     warn(rt, named, report.txns);
-    Ok(sum_up(rt, &report, kills))
+    let status = sum_up(rt, &report, kills);
+    if let Answer::Found(path) = &report.answer {
+        explain_again(rt, format, input.as_slice(), path);
+    }
+    Ok(status)
 }
 
 /// Warns on standard error where a goal names a transaction that the scenario does not have: it would take `named` of

@@ -12,6 +12,12 @@ pub enum Origin<'a> {
     File(&'a str),
     /// At a place of the file of this name.
     Place(&'a str, Position),
+    /// In this line of an input that is standard input alone.
+    Line(usize),
+    /// In this line of standard input, which is below a file.
+    LineBelow(usize),
+    /// In this line of standard input, where the scenario of the file of this name goes on.
+    LineUnended(&'a str, usize),
 }
 
 impl<'a> Origin<'a> {
@@ -32,7 +38,8 @@ impl<'a> Origin<'a> {
     }
 }
 
-/// `zy_bench`, or the file and in it the line and the column, as editors read it.
+/// `zy_bench`, with the line of standard input where that is known; or the file and in it the line and the column, as
+/// editors read it.
 impl fmt::Display for Origin<'_> {
     fn fmt<W: fmt::Write>(&self, f: &mut fmt::Formatter<W>) -> fmt::Result {
         match *self {
@@ -41,6 +48,13 @@ impl fmt::Display for Origin<'_> {
             Origin::Place(file, Position { line, column }) => {
                 tell_name(f, file)?;
                 write!(f, ":{line}:{column}")
+            }
+            Origin::Line(line) => write!(f, "zy_bench: line {line}"),
+            Origin::LineBelow(line) => write!(f, "zy_bench: line {line} of standard input"),
+            Origin::LineUnended(file, line) => {
+                write!(f, "zy_bench: line {line} of standard input (")?;
+                tell_name(f, file)?;
+                f.write_str(" has no line end)")
             }
         }
     }
