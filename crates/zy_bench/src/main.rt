@@ -23,7 +23,7 @@ use clap::error::ErrorKind;
 use command_line::{Checkpoints, Conversion, Quest, Request, Task, command, request_of};
 use commands::Commands;
 use excerpt::Differing;
-use explained::{Explained, explaining_order};
+use explained::Explained;
 use given::{Failure, Given};
 use hint::Hint;
 use listing::LineKept;
@@ -56,8 +56,9 @@ use zy_goals::reading::{read_always, read_goal};
 use zy_io::reading::read_all;
 use zy_io::{CountingReader, SliceSource};
 use zy_isa::{Choice, MAX_CHOICES};
-use zy_machine::Machine;
+use zy_machine::{Fault, Machine};
 use zy_search::{Answer, Report, Sought};
+use zy_serial::explaining::explaining_order;
 use zy_text::cut::cut_len;
 use zy_threads::FreeGate;
 
@@ -89,6 +90,32 @@ fn flush<W: Write>(output: &mut Output<W>) -> Result<(), BenchFault>
     }
 }
 
+/// Ends a command that has written: passes on what is kept back, and gives the exit status.
+fn close<W: Write>(
+    written: Result<(), BenchFault>,
+    output: &mut Output<W>,
+) -> Result<u8, BenchFault>
+    requires { output.old.1 < u64.MAX }
+{
+    written?;
+    flush(output)?;
+    Ok(DONE)
+}
+
+/// Ends a command that has made a run, and says what there is to say of it.
+fn close_run<R: Eprint + AllocGlobal, W: Write>(
+    rt: &R,
+    made: Result<Machine, BenchFault>,
+    output: &mut Output<W>,
+) -> Result<u8, BenchFault>
+    requires { output.old.1 < u64.MAX }
+{
+    let machine = made?;
+    flush(output)?;
+    comment(rt, &machine);
+    Ok(DONE)
+}
+
 /// Runs an engine over what is given, whose bytes it leaves in `input`, and gives the exit status.
 fn convert<R: Eprint + AllocGlobal + Threads + Wait + Sync, G: Read, W: Write>(
     rt: &R,
@@ -99,30 +126,24 @@ fn convert<R: Eprint + AllocGlobal + Threads + Wait + Sync, G: Read, W: Write>(
 ) -> Result<u8, BenchFault>
     requires { output.old.1 < u64.MAX }
 {
-    let mut source = CountingReader::new(given);
+    let source = &mut CountingReader::new(given);
     let alloc = rt.alloc();
-    let machine = match conversion {
-        Conversion::Run(format) => Some(run_bytes(alloc, format, &mut source, output, input)?),
-        Conversion::Trace(format) => Some(trace_bytes(alloc, format, &mut source, output, input)?),
+    match conversion {
+        Conversion::Run(format) => {
+            let made = run_bytes(alloc, format, source, output, input);
+            close_run(rt, made, output)
+        }
+        Conversion::Trace(format) => {
+            let made = trace_bytes(alloc, format, source, output, input);
+            close_run(rt, made, output)
+        }
         Conversion::Threads(format) => {
-            let gate = &FreeGate;
-            let machine = threads_bytes(rt, alloc, format, &mut source, output, input, gate)?;
-            Some(machine)
+            let made = threads_bytes(rt, alloc, format, source, output, input, &FreeGate);
+            close_run(rt, made, output)
         }
-        Conversion::Asm => {
-            asm_bytes(alloc, &mut source, output, input)?;
-            None
-        }
-        Conversion::Dis => {
-            dis_bytes(alloc, &mut source, output, input)?;
-            None
-        }
-    };
-    flush(output)?;
-    if let Some(machine) = &machine {
-        comment(rt, machine);
+        Conversion::Asm => close(asm_bytes(alloc, source, output, input), output),
+        Conversion::Dis => close(dis_bytes(alloc, source, output, input), output),
     }
-    Ok(DONE)
 }
 
 /// Says on standard error where nothing came of a run or of a transaction, and which order explains the rows of a run
@@ -191,21 +212,14 @@ fn run_again(
     run_bytes(alloc, format, &mut source, kept, &mut input)
 }
 
-/// Makes the choices of a scenario again, and more behind them, as far as it has their transactions and room for them.
-fn run_on(
-    alloc: Global,
-    format: Format,
-    scenario: &[u8],
-    more: &[Choice],
-) -> Result<Machine, BenchFault> {
-    let mut kept = LineKept::new(alloc, 0);
-    let mut machine = run_again(alloc, format, scenario, &mut kept)?;
-    for choice in more {
+/// Makes choices, as far as the scenario has their transactions and there is room for them.
+fn go_on(machine: &mut Machine, choices: &[Choice]) -> Result<(), Fault> {
+    for choice in choices {
         if choice.names_below(machine.txn_count()) && machine.len() < MAX_CHOICES {
             machine.step(*choice)?;
         }
     }
-    Ok(machine)
+    Ok(())
 }
 
 /// Makes the choices of a scenario again, and more behind them, and says what `explain` says of that run.
@@ -215,8 +229,11 @@ fn explain_again<R: Eprint + AllocGlobal>(
     scenario: &[u8],
     more: &[Choice],
 ) {
-    if let Ok(machine) = run_on(rt.alloc(), format, scenario, more) {
-        explain(rt, &machine);
+    let mut kept = LineKept::new(rt.alloc(), 0);
+    if let Ok(mut machine) = run_again(rt.alloc(), format, scenario, &mut kept) {
+        if go_on(&mut machine, more).is_ok() {
+            explain(rt, &machine);
+        }
     }
 }
 

@@ -86,14 +86,25 @@ impl Cause {
             ("were", "are")
         };
         match self {
+            Cause::At(node) => tell_place(f, is, was, node),
             Cause::NotBegun => write!(f, "{was} not begun"),
-            Cause::At(node) => {
-                let (here, there) = (name(node), other(node));
-                write!(f, "{is} at {here}, and {was} run at {there}")
-            }
             Cause::BegunLater => write!(f, "{was} begun after them"),
         }
     }
+}
+
+/// Writes at which node transactions are, and that they were run at the other one.
+fn tell_place<W: fmt::Write>(
+    f: &mut fmt::Formatter<W>,
+    is: &'static str,
+    was: &'static str,
+    node: Node,
+) -> fmt::Result {
+    let (here, there) = match node {
+        Node::A => ("A", "B"),
+        Node::B => ("B", "A"),
+    };
+    write!(f, "{is} at {here}, and {was} run at {there}")
 }
 
 /// Transactions of which nothing came, all for the same cause.
@@ -157,7 +168,7 @@ impl Stalled {
         };
         for (number, is_one) in self.txns.iter().enumerate() {
             if *is_one {
-                write!(f, "{between}{number}")?;
+                tell_number(f, between, number)?;
                 left = left.saturating_sub(1);
                 between = if left == 1 { " and " } else { ", " };
             }
@@ -172,6 +183,15 @@ impl fmt::Display for Stalled {
         f.write_str(" ")?;
         self.cause.tell(f, self.count == 1)
     }
+}
+
+/// Writes a number behind what is between it and the one before.
+fn tell_number<W: fmt::Write>(
+    f: &mut fmt::Formatter<W>,
+    between: &'static str,
+    number: usize,
+) -> fmt::Result {
+    write!(f, "{between}{number}")
 }
 
 /// Whether a transaction has made no instruction and has not ended: of each other one something came.
@@ -277,28 +297,15 @@ impl Nothing {
 
 impl fmt::Display for Nothing {
     fn fmt<W: fmt::Write>(&self, f: &mut fmt::Formatter<W>) -> fmt::Result {
+        let still = match &self.reason {
+            Reason::Stalled(stalled) => stalled.still,
+            Reason::Idling(_) => self.count,
+        };
         let count = self.count;
+        write!(f, "{still} of {count} choices did nothing: ")?;
         match &self.reason {
-            Reason::Stalled(stalled) => {
-                write!(f, "{} of {count} choices did nothing: {stalled}", stalled.still)
-            }
-            Reason::Idling(idling) => write!(f, "{count} of {count} choices did nothing: {idling}"),
+            Reason::Stalled(stalled) => fmt::Display::fmt(stalled, f),
+            Reason::Idling(idling) => fmt::Display::fmt(idling, f),
         }
-    }
-}
-
-/// The name of a node.
-fn name(node: Node) -> &'static str {
-    match node {
-        Node::A => "A",
-        Node::B => "B",
-    }
-}
-
-/// The name of the other node.
-fn other(node: Node) -> &'static str {
-    match node {
-        Node::A => "B",
-        Node::B => "A",
     }
 }

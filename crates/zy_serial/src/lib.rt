@@ -2,5 +2,6 @@
 #![tactic(auto)]
 
 mod acting;
+pub mod explaining;
 pub mod order;
 mod sorted;
