@@ -83,7 +83,11 @@ impl<'a> Unknown<'a> {
     }
 
     /// Says what to write in place of a word that is no register.
-    fn tell_register<W: fmt::Write>(&self, f: &mut fmt::Formatter<W>, form: Form<'a>) -> fmt::Result {
+    fn tell_register<W: fmt::Write>(
+        &self,
+        f: &mut fmt::Formatter<W>,
+        form: Form<'a>,
+    ) -> fmt::Result {
         let word = self.word();
         if let [b'R', number @ b'0'..=b'7'] = word {
             return write!(f, "write it in small letters, r{}", char::from(*number));
