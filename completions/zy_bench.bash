@@ -1,4 +1,4 @@
-# Completion of zy_bench, zview, zdb and zplay for bash.
+# Completion of zy_bench, zview, zdb, zplay and zsuite for bash.
 
 _zy_bench() {
   local word=${COMP_WORDS[COMP_CWORD]} before=${COMP_WORDS[COMP_CWORD - 1]} options
@@ -37,3 +37,4 @@ complete -F _zy_bench -o filenames -o default zy_bench
 complete -F _zview -o filenames zview
 complete -f -W '--help' zdb
 complete -f -W '--port --no-open --help' zplay
+complete -f -W '--states --help' zsuite

@@ -1,4 +1,4 @@
-# Completion of zy_bench, zview, zdb and zplay for fish.
+# Completion of zy_bench, zview, zdb, zplay and zsuite for fish.
 set -l commands run asm dis check threads trace debug search help
 
 complete -c zy_bench -f -n "not __fish_seen_subcommand_from $commands" -a "$commands"
@@ -28,3 +28,6 @@ complete -c zdb -l help -d 'Print help'
 complete -c zplay -l port -x -d 'The port'
 complete -c zplay -l no-open -d 'Open no browser'
 complete -c zplay -l help -s h -d 'Print help'
+
+complete -c zsuite -l states -x -d 'Give up after N states'
+complete -c zsuite -l help -s h -d 'Print help'
