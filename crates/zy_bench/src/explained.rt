@@ -1,11 +1,51 @@
-//! What is said of the order that explains the rows of a run.
+//! The order that explains the rows of a run, as standard error names it.
 
+use crate::again::run_again;
+use crate::listing::LineKept;
 use std::fmt;
+use zy_engine::Format;
+use zy_isa::{Choice, MAX_CHOICES};
+use zy_machine::{Fault, Machine};
+use zy_serial::explaining::explaining_order;
 use zy_table::CommitRecord;
+
+/// Says on standard error which order explains the rows of a run where that of the commits does not. Out of memory it says
+/// nothing: the run is over, and its output is out.
+pub fn explain<R: Eprint + AllocGlobal>(rt: &R, machine: &Machine) {
+    if let Ok(Some(order)) = explaining_order(rt.alloc(), machine) {
+        let explained = Explained(&order);
+        let _ = eprintln!(rt; "zy_bench: {explained}");
+    }
+}
+
+/// Makes choices, as far as the scenario has their transactions and there is room for them.
+fn go_on(machine: &mut Machine, choices: &[Choice]) -> Result<(), Fault> {
+    for choice in choices {
+        if choice.names_below(machine.txn_count()) && machine.len() < MAX_CHOICES {
+            machine.step(*choice)?;
+        }
+    }
+    Ok(())
+}
+
+/// Makes the choices of a scenario again, and more behind them, and says what `explain` says of that run.
+pub fn explain_again<R: Eprint + AllocGlobal>(
+    rt: &R,
+    format: Format,
+    scenario: &[u8],
+    more: &[Choice],
+) {
+    let mut kept = LineKept::new(rt.alloc(), 0);
+    if let Ok(mut machine) = run_again(rt.alloc(), format, scenario, &mut kept) {
+        if go_on(&mut machine, more).is_ok() {
+            explain(rt, &machine);
+        }
+    }
+}
 
 /// Which order explains the rows.
 #[derive(Clone, Copy)]
-pub struct Explained<'a>(pub &'a [CommitRecord]);
+struct Explained<'a>(pub &'a [CommitRecord]);
 
 impl fmt::Display for Explained<'_> {
     fn fmt<W: fmt::Write>(&self, f: &mut fmt::Formatter<W>) -> fmt::Result {

@@ -4,6 +4,7 @@
 ghost use Rattle.std.specs.Prelude.{◌<◌};
 
 mod advised;
+mod again;
 mod command_line;
 mod commands;
 mod excerpt;
@@ -19,14 +20,14 @@ mod progress;
 mod summary;
 
 use advised::{Advised, Reading};
+use again::{line_due, scenario_part};
 use clap::error::ErrorKind;
 use command_line::{Checkpoints, Conversion, Quest, Request, Task, command, request_of};
 use commands::Commands;
 use excerpt::Differing;
-use explained::Explained;
+use explained::{explain, explain_again};
 use given::{Failure, Given};
 use hint::Hint;
-use listing::LineKept;
 use marked::Marked;
 use nothing::Nothing;
 use origin::Origin;
@@ -55,10 +56,8 @@ use zy_goals::named::txns_named;
 use zy_goals::reading::{read_always, read_goal};
 use zy_io::reading::read_all;
 use zy_io::{CountingReader, SliceSource};
-use zy_isa::{Choice, MAX_CHOICES};
-use zy_machine::{Fault, Machine};
+use zy_machine::Machine;
 use zy_search::{Answer, Report, Sought};
-use zy_serial::explaining::explaining_order;
 use zy_text::cut::cut_len;
 use zy_threads::FreeGate;
 
@@ -155,15 +154,6 @@ fn comment<R: Eprint + AllocGlobal>(rt: &R, machine: &Machine) {
     explain(rt, machine);
 }
 
-/// Says on standard error which order explains the rows of a run where that of the commits does not. Out of memory it says
-/// nothing: the run is over, and its output is out.
-fn explain<R: Eprint + AllocGlobal>(rt: &R, machine: &Machine) {
-    if let Ok(Some(order)) = explaining_order(rt.alloc(), machine) {
-        let explained = Explained(&order);
-        let _ = eprintln!(rt; "zy_bench: {explained}");
-    }
-}
-
 /// Checks the listing that is given, shows the line where it first differs, and gives the exit status.
 fn check<R: Eprint + AllocGlobal, G: Read, W: Write>(
     rt: &R,
@@ -186,65 +176,12 @@ fn check<R: Eprint + AllocGlobal, G: Read, W: Write>(
             Ok(DONE)
         }
         Verdict::NotTable(line) => {
-            let due = line_due(rt, listing, line)?;
+            let due = line_due(rt.alloc(), listing, line)?;
             flush(output)?;
             show(rt, file, listing, line, due.line());
             Ok(NOT_TABLE)
         }
     }
-}
-
-/// The scenario part of an input.
-fn scenario_part(input: &[u8]) -> &[u8] {
-    let (part, _) = input.split_at(cut_len(input).min(input.len()));
-    part
-}
-
-/// Makes the choices of a scenario again; the listing goes to a sink that keeps a line of it.
-fn run_again(
-    alloc: Global,
-    format: Format,
-    scenario: &[u8],
-    kept: &mut LineKept,
-) -> Result<Machine, BenchFault> {
-    let mut source = SliceSource::new(scenario);
-    let mut input = Vec::new(alloc);
-    run_bytes(alloc, format, &mut source, kept, &mut input)
-}
-
-/// Makes choices, as far as the scenario has their transactions and there is room for them.
-fn go_on(machine: &mut Machine, choices: &[Choice]) -> Result<(), Fault> {
-    for choice in choices {
-        if choice.names_below(machine.txn_count()) && machine.len() < MAX_CHOICES {
-            machine.step(*choice)?;
-        }
-    }
-    Ok(())
-}
-
-/// Makes the choices of a scenario again, and more behind them, and says what `explain` says of that run.
-fn explain_again<R: Eprint + AllocGlobal>(
-    rt: &R,
-    format: Format,
-    scenario: &[u8],
-    more: &[Choice],
-) {
-    let mut kept = LineKept::new(rt.alloc(), 0);
-    if let Ok(mut machine) = run_again(rt.alloc(), format, scenario, &mut kept) {
-        if go_on(&mut machine, more).is_ok() {
-            explain(rt, &machine);
-        }
-    }
-}
-
-/// The line of this number of the listing that an input is to be.
-fn line_due(rt: &impl AllocGlobal, input: &[u8], line: usize) -> Result<LineKept, BenchFault> {
-    let mut kept = LineKept::new(rt.alloc(), line);
-    run_again(rt.alloc(), Format::Text, scenario_part(input), &mut kept)?;
-    if kept.is_refused() {
-        return Err(BenchFault::Memory);
-    }
-    Ok(kept)
 }
 
 /// Answers the commands that are given below a scenario, and gives the exit status.
