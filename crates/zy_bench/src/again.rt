@@ -26,6 +26,13 @@ pub fn run_again(
     run_bytes(alloc, format, &mut source, kept, &mut input)
 }
 
+/// Makes the choices of a scenario, for the fault by which it is rejected.
+pub fn make_again(alloc: Global, format: Format, scenario: &[u8]) -> Result<(), BenchFault> {
+    let mut kept = LineKept::new(alloc, 0);
+    run_again(alloc, format, scenario, &mut kept)?;
+    Ok(())
+}
+
 /// The line of this number of the listing that an input is to be.
 pub fn line_due(alloc: Global, input: &[u8], line: usize) -> Result<LineKept, BenchFault> {
     let mut kept = LineKept::new(alloc, line);

@@ -13,6 +13,7 @@ mod given;
 mod hint;
 mod listing;
 mod marked;
+mod names;
 mod nothing;
 mod origin;
 mod output;
@@ -20,7 +21,7 @@ mod progress;
 mod summary;
 
 use advised::{Advised, Reading};
-use again::{line_due, scenario_part};
+use again::{line_due, make_again, scenario_part};
 use clap::error::ErrorKind;
 use command_line::{Checkpoints, Conversion, Quest, Request, Task, command, request_of};
 use commands::Commands;
@@ -29,6 +30,7 @@ use explained::{explain, explain_again};
 use given::{Failure, Given};
 use hint::Hint;
 use marked::Marked;
+use names::names_of;
 use nothing::Nothing;
 use origin::Origin;
 use output::Output;
@@ -51,7 +53,7 @@ use zy_engine::engine::{asm_bytes, dis_bytes, run_bytes, trace_bytes};
 use zy_engine::searching::search_bytes;
 use zy_engine::threading::threads_bytes;
 use zy_engine::{BenchFault, Format};
-use zy_goals::ReadFault;
+use zy_goals::{Names, ReadFault};
 use zy_goals::named::txns_named;
 use zy_goals::reading::{read_always, read_goal};
 use zy_io::reading::read_all;
@@ -210,13 +212,13 @@ fn debug<R: Eprint + AllocGlobal, F: Read + Drop, S: Read, W: Write>(
     Ok(DONE)
 }
 
-/// What a search is to look for.
-fn sought_of(alloc: Global, quest: Quest<'_>) -> Result<Sought, ReadFault> {
+/// What a search is to look for, in a scenario whose transactions have these names.
+fn sought_of(alloc: Global, quest: Quest<'_>, names: Names<'_>) -> Result<Sought, ReadFault> {
     let text = quest.text.as_bytes();
     let query = if quest.is_always {
-        read_always(alloc, text)?
+        read_always(alloc, text, names)?
     } else {
-        read_goal(alloc, text)?
+        read_goal(alloc, text, names)?
     };
     Ok(Sought {
         goal: query.goal,
@@ -225,8 +227,20 @@ fn sought_of(alloc: Global, quest: Quest<'_>) -> Result<Sought, ReadFault> {
     })
 }
 
+/// Reports on standard error why a goal was not read, and gives the exit status.
+fn no_goal(rt: &impl Eprint, quest: Quest<'_>, fault: ReadFault) -> Result<u8, BenchFault> {
+    match fault {
+        ReadFault::Memory => Err(BenchFault::Memory),
+        ReadFault::Refused(refusal) => {
+            let marked = Marked::of(quest, refusal);
+            let _ = eprintln!(rt; "zy_bench: {marked}");
+            Ok(COMMAND_LINE)
+        }
+    }
+}
+
 /// Reads the goal of a search, carries the search out, and gives the exit status. Where the goal is refused, nothing is
-/// read.
+/// read, but for the names of transactions, which the scenario has.
 fn search<R: Eprint + AllocGlobal + Clock, G: Read, W: Write>(
     rt: &R,
     quest: Quest<'_>,
@@ -237,25 +251,37 @@ fn search<R: Eprint + AllocGlobal + Clock, G: Read, W: Write>(
 ) -> Result<u8, BenchFault>
     requires { output.old.1 < u64.MAX }
 {
-    match sought_of(rt.alloc(), quest) {
-        Ok(sought) => search_for(rt, quest, sought, given, input, output, is_terminal),
-        Err(ReadFault::Memory) => Err(BenchFault::Memory),
-        Err(ReadFault::Refused(refusal)) => {
-            let marked = Marked::of(quest, refusal);
-            let _ = eprintln!(rt; "zy_bench: {marked}");
-            Ok(COMMAND_LINE)
+    if let Err(fault) = sought_of(rt.alloc(), quest, Names::Unknown) {
+        return no_goal(rt, quest, fault);
+    }
+    *input = read_all(rt.alloc(), &mut CountingReader::new(given))?;
+    let scenario = input.as_slice();
+    let names = names_in(rt.alloc(), quest.format, scenario)?;
+    match sought_of(rt.alloc(), quest, Names::Known(&names)) {
+        Ok(sought) => search_for(rt, quest, sought, scenario, output, is_terminal),
+        Err(fault) => {
+            // A scenario that is rejected has no names.
+            make_again(rt.alloc(), quest.format, scenario)?;
+            no_goal(rt, quest, fault)
         }
     }
 }
 
-/// Searches the schedules of the scenario that is given, and gives the exit status. It says how far it is where standard
+/// The names of the transactions of a scenario; an image has none.
+fn names_in(alloc: Global, format: Format, scenario: &[u8]) -> Result<Vec<&[u8]>, BenchFault> {
+    match format {
+        Format::Text => Ok(names_of(alloc, scenario)?),
+        Format::Image => Ok(Vec::new(alloc)),
+    }
+}
+
+/// Searches the schedules of a scenario, and gives the exit status. It says how far it is where standard
 /// error is a terminal.
-fn search_for<R: Eprint + AllocGlobal + Clock, G: Read, W: Write>(
+fn search_for<R: Eprint + AllocGlobal + Clock, W: Write>(
     rt: &R,
     quest: Quest<'_>,
     sought: Sought,
-    given: &mut G,
-    input: &mut Vec<u8>,
+    scenario: &[u8],
     output: &mut Output<W>,
     is_terminal: bool,
 ) -> Result<u8, BenchFault>
@@ -268,16 +294,15 @@ fn search_for<R: Eprint + AllocGlobal + Clock, G: Read, W: Write>(
         ..
     } = quest;
     let named = usize::from(txns_named(&sought.goal));
-    let mut source = CountingReader::new(given);
     let mut progress = Progress::new(rt, is_terminal);
     let searched = search_bytes(
         rt.alloc(),
         format,
         sought,
         most,
-        &mut source,
+        &mut SliceSource::new(scenario),
         output,
-        input,
+        &mut Vec::new(rt.alloc()),
         &mut progress,
     );
     progress.clear();
@@ -286,7 +311,7 @@ fn search_for<R: Eprint + AllocGlobal + Clock, G: Read, W: Write>(
     warn(rt, named, report.txns);
     let status = sum_up(rt, &report, kills);
     if let Answer::Found(path) = &report.answer {
-        explain_again(rt, format, input.as_slice(), path);
+        explain_again(rt, format, scenario, path);
     }
     Ok(status)
 }

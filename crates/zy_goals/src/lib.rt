@@ -5,6 +5,7 @@ pub mod commits;
 pub mod facts;
 pub mod goal;
 pub mod named;
+pub mod names;
 pub mod outcomes;
 pub mod reading;
 pub mod refusal;
@@ -15,6 +16,7 @@ pub use crate::goal::{
     Comparison, Fact, Goal, LinkContent, MessagePattern, PagePlace, Reason, Selector, StateFact,
     Term, TxnProperty,
 };
+pub use crate::names::Names;
 pub use crate::outcomes::{OutcomeKind, OutcomePattern};
 pub use crate::reading::Query;
 pub use crate::refusal::{Expected, ReadFault, Refusal};

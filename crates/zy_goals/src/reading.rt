@@ -9,6 +9,7 @@ mod terms;
 mod words;
 
 use crate::goal::{Comparison, Fact, Goal, StateFact, Term};
+use crate::names::Names;
 use crate::outcomes::OutcomePattern;
 use crate::reading::cursor::Cursor;
 use crate::reading::facts::fact;
@@ -148,8 +149,8 @@ fn anything() -> Goal {
 
 /// Reads a goal, `then` after it or not, or `then` alone, which asks for a step from any state. It is refused at the
 /// first word that does not fit.
-pub fn read_goal(alloc: Global, text: &[u8]) -> Result<Query, ReadFault> {
-    let start = Cursor::new(text);
+pub fn read_goal(alloc: Global, text: &[u8], names: Names<'_>) -> Result<Query, ReadFault> {
+    let start = Cursor::new(text, names);
     if start.is_at(b"then") {
         return Ok(Query {
             goal: anything(),
@@ -165,8 +166,9 @@ pub fn read_goal(alloc: Global, text: &[u8]) -> Result<Query, ReadFault> {
 
 /// Reads a goal that every state is to meet, and gives its negation: a state is asked for that does not meet it. It is
 /// refused at the first word that does not fit; `then` is such a word.
-pub fn read_always(alloc: Global, text: &[u8]) -> Result<Query, ReadFault> {
-    let (goal, end) = read_expression(alloc, Cursor::new(text), text.len())?;
+pub fn read_always(alloc: Global, text: &[u8], names: Names<'_>) -> Result<Query, ReadFault> {
+    let start = Cursor::new(text, names);
+    let (goal, end) = read_expression(alloc, start, text.len())?;
     if end.is_at(b"then") {
         return Err(ReadFault::Refused(end.refuses(Expected::NoThen)));
     }

@@ -17,6 +17,8 @@ pub enum Expected {
     Mode,
     Place,
     Selector,
+    /// The name of a transaction that the scenario has.
+    KnownName,
     TxnProperty,
     Link,
     LinkContent,
@@ -53,10 +55,11 @@ impl fmt::Display for Expected {
                 "a mode is normal, empty, sinit, sdual, sfinish, dinit, ddual or dfinish"
             }
             Expected::Place => "a page is at A, at B, at AB, at BA, moving, locked or absent",
-            Expected::Selector => "after txn comes a number, any or all",
+            Expected::Selector => "after txn comes a number, a name, any or all",
+            Expected::KnownName => "the scenario has no transaction of this name",
             Expected::TxnProperty => concat!(
-                "after txn and a number, any or all comes new, active, committed, aborted, aborted WHY, at N ",
-                "or wrote K, and after a number also committed before T or locks P"
+                "after txn and a number, a name, any or all comes new, active, committed, aborted, aborted WHY, at N ",
+                "or wrote K, and after one of the first two also committed before T or locks P"
             ),
             Expected::Link => "a link is AB or BA",
             Expected::LinkContent => {

@@ -1,8 +1,9 @@
 //! The words of a text. Spaces part them; a bracket is a word by itself, and so are signs of comparison side by side.
 ghost use Rattle.std.specs.Prelude.{◌≤◌, IfOk};
 
+use crate::names::Names;
 use crate::refusal::{Expected, Refusal};
-use zy_text::names::is;
+use zy_text::names::{is, is_name};
 use zy_text::numbers::number_of;
 
 /// The greatest key, and the greatest number of a page that can be named.
@@ -40,16 +41,18 @@ fn run(text: &[u8], class: Class) -> usize {
 #[derive(Clone, Copy)]
 pub struct Cursor<'a> {
     text: &'a [u8],
+    names: Names<'a>,
     /// Where the word begins and where it ends, in bytes from the start of the text.
     from: usize,
     to: usize,
 }
 
 impl<'a> Cursor<'a> {
-    /// At the first word.
-    pub fn new(text: &'a [u8]) -> Cursor<'a> {
+    /// At the first word of a text, in which transactions may have these names.
+    pub fn new(text: &'a [u8], names: Names<'a>) -> Cursor<'a> {
         let start = Cursor {
             text,
+            names,
             from: 0,
             to: 0,
         };
@@ -70,9 +73,9 @@ impl<'a> Cursor<'a> {
             },
         };
         Cursor {
-            text: self.text,
             from,
             to: from.saturating_add(len),
+            ..self
         }
     }
 
@@ -138,9 +141,20 @@ impl<'a> Cursor<'a> {
         Ok(key as u16)
     }
 
-    /// The number of a transaction that the word is.
+    /// Whether the word has the form of a transaction's name. `any` and `all` stand for several transactions.
+    pub fn is_txn_name(self) -> bool {
+        is_name(self.word()) && !self.is_at(b"any") && !self.is_at(b"all")
+    }
+
+    /// The number of the transaction that the word names, by its number or by its name.
     pub fn txn(self) -> Result<u8, Refusal> {
-        let txn = self.number(MAX_TXN)?;
-        Ok(txn as u8)
+        if !self.is_txn_name() {
+            let txn = self.number(MAX_TXN)?;
+            return Ok(txn as u8);
+        }
+        match self.names.number_of(self.word()) {
+            Some(txn) => Ok(txn),
+            None => Err(self.refuses(Expected::KnownName)),
+        }
     }
 }

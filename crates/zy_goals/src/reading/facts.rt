@@ -39,7 +39,7 @@ fn page<'a>(page: u16, at: Cursor<'a>) -> Parsed<'a, StateFact> {
 
 /// The transactions that come after `txn`.
 fn selector(at: Cursor<'_>) -> Result<Selector, Refusal> {
-    if is_numeral(at.word()) {
+    if is_numeral(at.word()) || at.is_txn_name() {
         Ok(Selector::One(at.txn()?))
     } else {
         at.one_of(&SELECTORS, Expected::Selector)
