@@ -13,8 +13,8 @@ ghost use Rattle.zy_goals.specs.declared.outcomes.OutcomePattern.{OutcomePattern
 ghost use Rattle.zy_goals.specs.Goals.{meets};
 ghost use Rattle.zy_search.specs.Possible.{gives};
 ghost use Rattle.zy_search.specs.Schedules.{scheduled, before_last, ending};
-ghost use Rattle.zy_search.specs.Searches.{reached, Finds, IsLast, Shows};
-ghost use Rattle.zy_search.specs.Stuck.{is_still, is_stuck};
+ghost use Rattle.zy_search.specs.Searches.{reached, context_of, Finds, IsLast, Shows};
+ghost use Rattle.zy_search.specs.Stuck.{is_still};
 
 use zy_audit::laws::always_same;
 
@@ -49,7 +49,7 @@ pub fn never_differs_under_held()
     ensures alone { (h : History) (q : Sought) (cs : List AChoice) → IsReplay h → h.scenario.rule ≡ Held
         → q.goal ≡ Is Differs → Finds h q cs → ⊥ }
     ensures inside { (h : History) (q : Sought) (cs : List AChoice) → IsReplay h → h.scenario.rule ≡ Held
-        → Finds h q cs → meets (record { differs = false; stuck = is_stuck h.scenario q.kills (reached h cs) }) q.goal
+        → Finds h q cs → meets (record (context_of h.scenario q.kills (reached h cs)) { differs = false }) q.goal
         (reached h cs) ≡ true }
 {
     // Proof: under `held` the serial run gives the same database.
