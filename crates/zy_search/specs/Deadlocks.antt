@@ -1,5 +1,5 @@
 -- Where transactions wait in a cycle.
-use Rattle.std.specs.Prelude.{ℕ, ◌==◌, ◌&&◌, ◌++◌, ◌∷◌, [], zero, suc, not, List, Bool, Option, Some, None, length, filter, slice_get}
+use Rattle.std.specs.Prelude.{ℕ, ◌≡◌, ◌<◌, ◌==◌, ◌&&◌, ◌++◌, ◌∷◌, [], zero, suc, not, List, Bool, Option, Some, None, length, filter, slice_get}
 use Rattle.std.specs.List.{list_any}
 use Rattle.zy_isa.specs.declared.node.Node.{Node}
 use Rattle.zy_isa.specs.declared.choice.Choice.TheVariants.{Run}
@@ -7,7 +7,7 @@ use Rattle.zy_isa.specs.Scenario.{Scenario}
 use Rattle.zy_locks.specs.Locks.{holds}
 use Rattle.zy_table.specs.declared.outcome.Outcome.{Outcome}
 use Rattle.zy_table.specs.declared.outcome.Outcome.TheVariants.{Waits}
-use Rattle.zy_table.specs.State.{State, Step, facing}
+use Rattle.zy_table.specs.State.{State, facing}
 use Rattle.zy_table.specs.Change.{txn_or}
 use Rattle.zy_table.specs.Play.{step}
 use Rattle.zy_search.specs.declared.deadlock.Wait.{Wait}
@@ -59,3 +59,9 @@ in_cycle s ws = left s ws (length ws)
 -- some transactions wait in a cycle
 abbrev pub is_deadlocked : Scenario → State → Bool
 is_deadlocked sc s = not (length (in_cycle s (waits_below sc s (length s.txns))) == 0)
+
+-- ---- what that comes to
+
+-- of those that wait, those that pass a test: at least one does, and each of them waits for one of them
+abbrev pub IsCycle : Scenario → State → (Wait → Bool) → Type 0
+IsCycle sc s test = let ws = filter test (waits_below sc s (length s.txns)) in (0 < length ws) × (kept s ws ≡ ws)

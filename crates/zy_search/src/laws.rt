@@ -1,5 +1,5 @@
 //! What an answer says of whole runs: each function is a law, and its contract is all of it.
-ghost use Rattle.std.specs.Prelude.{◌≡◌, ◌++◌, ◌∷◌, [], List, true, false};
+ghost use Rattle.std.specs.Prelude.{◌≡◌, ◌++◌, ◌∷◌, [], List, Bool, true, false};
 ghost use Rattle.zy_isa.specs.declared.choice.Choice.{Choice as AChoice};
 ghost use Rattle.zy_isa.specs.declared.rule.Rule.TheVariants.{Held};
 ghost use Rattle.zy_isa.specs.Scenario.{IsScenario, Scenario as AScenario};
@@ -15,6 +15,8 @@ ghost use Rattle.zy_search.specs.Possible.{gives};
 ghost use Rattle.zy_search.specs.Schedules.{scheduled, before_last, ending};
 ghost use Rattle.zy_search.specs.Searches.{reached, context_of, Finds, IsLast, Shows};
 ghost use Rattle.zy_search.specs.Stuck.{is_still};
+ghost use Rattle.zy_search.specs.declared.deadlock.Wait.{Wait as AWait};
+ghost use Rattle.zy_search.specs.Deadlocks.{is_deadlocked, IsCycle};
 
 use zy_audit::laws::always_same;
 
@@ -61,4 +63,12 @@ pub fn never_differs_under_held()
 pub fn still_stays()
     ensures { (sc : AScenario) (c : AChoice) (s : State) → is_still (step sc c s).outcome ≡ true
         → (step sc c s).after ≡ s }
+{}
+
+/// A state has a deadlock if and only if some of those that wait each wait for another one of them.
+pub fn deadlock_is_cycle()
+    ensures only { (sc : AScenario) (s : State) → is_deadlocked sc s ≡ true
+        → (test : AWait → Bool) × IsCycle sc s test }
+    ensures each { (sc : AScenario) (s : State) (test : AWait → Bool) → IsCycle sc s test
+        → is_deadlocked sc s ≡ true }
 {}
