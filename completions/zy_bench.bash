@@ -14,7 +14,7 @@ _zy_bench() {
     *) options='--help' ;;
   esac
   if [[ $before == --for ]]; then
-    options='differs aborted own killed badkey missing duplicate frozen nopage gone committed stuck'
+    options='differs aborted own killed badkey missing duplicate frozen nopage gone committed stuck deadlock'
   fi
   mapfile -t COMPREPLY < <(compgen -W "$options" -- "$word")
   if [[ ${COMP_WORDS[1]} != help && $word != -* && ! $before =~ ^--(for|always|every|ring|states)$ ]]; then

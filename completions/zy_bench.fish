@@ -9,7 +9,7 @@ complete -c zy_bench -l image -d 'The input is an image' -n '__fish_seen_subcomm
 complete -c zy_bench -l every -x -d 'Keep copies at multiples of N' -n '__fish_seen_subcommand_from debug'
 complete -c zy_bench -l ring -x -d 'Keep at most N copies' -n '__fish_seen_subcommand_from debug'
 complete -c zy_bench -l for -x -d 'What to look for' -n '__fish_seen_subcommand_from search' \
-  -a 'differs aborted own killed badkey missing duplicate frozen nopage gone committed stuck'
+  -a 'differs aborted own killed badkey missing duplicate frozen nopage gone committed stuck deadlock'
 complete -c zy_bench -l always -x -d 'What every state is to meet' -n '__fish_seen_subcommand_from search'
 complete -c zy_bench -l kill -d 'Transactions may be killed' -n '__fish_seen_subcommand_from search'
 complete -c zy_bench -l states -x -d 'Look at N states at most' -n '__fish_seen_subcommand_from search'

@@ -142,7 +142,7 @@ SCRIPT_FAULTS = [
     script('fish: --ring behind search', 'completions/zy_bench.fish',
            "-l ring -x -d 'Keep at most N copies' -n '__fish_seen_subcommand_from debug'",
            "-l ring -x -d 'Keep at most N copies' -n '__fish_seen_subcommand_from search'", 'manuals'),
-    script('zsh: --for without stuck', 'completions/_zy_bench', 'gone committed stuck', 'gone committed', 'manuals'),
+    script('zsh: --for without deadlock', 'completions/_zy_bench', 'committed stuck deadlock', 'committed stuck', 'manuals'),
     script('build: a crate does not wait for those below', 'tools/build.py', 'if self.needs[name] <= self.done]', 'if True]', 'build'),
     script('build: a proof that fails is passed over', 'tools/build.py', 'if not is_proved:', 'if False:', 'build'),
 ]

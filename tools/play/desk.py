@@ -21,7 +21,8 @@ from prompt.session import LIMIT, Session, choices_of
 
 # What a search may look for, and how the page says it.
 GOALS = {
-    'differs': 'rows that are not those of the commit order', 'stuck': 'transactions that are stuck', 'committed': 'all committed',
+    'differs': 'rows that are not those of the commit order', 'stuck': 'transactions that are stuck',
+    'deadlock': 'transactions that wait in a cycle', 'committed': 'all committed',
     'aborted': 'an abort',
     **{why: 'an abort: ' + why for why in ('own', 'killed', 'badkey', 'missing', 'duplicate', 'frozen', 'nopage', 'gone')}}
 

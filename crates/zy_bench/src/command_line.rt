@@ -207,7 +207,7 @@ const SEARCH_HELP: &'static str = concat!(
     "         Facts of one word: differs (another database than that of the committed programs, run one\n",
     "         by one in commit order), aborted (a transaction), own, killed, badkey, missing, duplicate,\n",
     "         frozen, nopage, gone (for this reason), committed (all transactions), stuck (a transaction\n",
-    "         is active, and nothing comes of any choice).\n",
+    "         is active, and nothing comes of any choice), deadlock (transactions wait in a cycle).\n",
     "         Others: mode A sdual, page 3 at B, page 3 moving, txn 0 active, txn 0 aborted gone,\n",
     "         txn 1 committed before 0, link AB has pull, key 10 = 5, sum 1 to 8 != 800, reg 0 r2 > 60\n",
     "         and more: docs/search.md has them all.\n",

@@ -35,9 +35,6 @@ impl fmt::Display for Marked<'_> {
             "for"
         };
         let place = Place::of(text, word);
-        if word.bytes.starts_with(b"deadlock") {
-            return write!(f, "--{flag}: a deadlock is the fact stuck ({place})");
-        }
         write!(f, "--{flag}: {expected} ({place})")
     }
 }

@@ -50,6 +50,7 @@ module _ (s r : State) (rows : database s ≡ database r) (commits : s.commits �
     same_fact : (x : Fact) → is_fact_of_commits x ≡ true → holds t x s ≡ holds u x r
     same_fact fact.Differs e = differs
     same_fact fact.Stuck e = absurd (false≢true e)
+    same_fact fact.Deadlock e = absurd (false≢true e)
     same_fact (fact.OfState x) e = same_state_fact x e
 
     -- so a goal of commits is met by both or by neither

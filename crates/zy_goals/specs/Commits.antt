@@ -34,6 +34,7 @@ is_state_fact_of_commits (state_fact.Compare x c y) = is_term_of_commits x && is
 abbrev pub is_fact_of_commits : Fact → Bool
 is_fact_of_commits fact.Differs = true
 is_fact_of_commits fact.Stuck = false
+is_fact_of_commits fact.Deadlock = false
 is_fact_of_commits (fact.OfState x) = is_state_fact_of_commits x
 
 -- they decide each fact of a goal, and so whether it is met
@@ -43,15 +44,16 @@ is_of_commits (Not' p g) = is_of_commits g
 is_of_commits (And' p g q h) = is_of_commits g && is_of_commits h
 is_of_commits (Or' p g q h) = is_of_commits g && is_of_commits h
 
--- a fact is `stuck`
-abbrev pub is_stuck_fact : Fact → Bool
-is_stuck_fact fact.Differs = false
-is_stuck_fact fact.Stuck = true
-is_stuck_fact (fact.OfState x) = false
+-- it takes steps to judge whether a fact holds
+abbrev pub fact_takes_steps : Fact → Bool
+fact_takes_steps fact.Differs = false
+fact_takes_steps fact.Stuck = true
+fact_takes_steps fact.Deadlock = true
+fact_takes_steps (fact.OfState x) = false
 
--- a goal has the fact `stuck`, which takes steps to judge
-abbrev pub asks_stuck : Goal → Bool
-asks_stuck (Is x) = is_stuck_fact x
-asks_stuck (Not' p g) = asks_stuck g
-asks_stuck (And' p g q h) = asks_stuck g || asks_stuck h
-asks_stuck (Or' p g q h) = asks_stuck g || asks_stuck h
+-- a goal has such a fact
+abbrev pub takes_steps : Goal → Bool
+takes_steps (Is x) = fact_takes_steps x
+takes_steps (Not' p g) = takes_steps g
+takes_steps (And' p g q h) = takes_steps g || takes_steps h
+takes_steps (Or' p g q h) = takes_steps g || takes_steps h

@@ -45,6 +45,7 @@ fn is_fact_of_commits(fact: Fact) -> bool
     match fact {
         Fact::Differs => true,
         Fact::Stuck => false,
+        Fact::Deadlock => false,
         Fact::OfState(state_fact) => is_state_fact_of_commits(state_fact),
     }
 }
@@ -61,25 +62,26 @@ pub fn is_of_commits(goal: &Goal) -> bool
     }
 }
 
-/// Whether a fact is `stuck`.
-fn is_stuck_fact(fact: Fact) -> bool
-    ensures { result ≡ spec.is_stuck_fact fact }
+/// Whether it takes steps to judge if a fact holds.
+fn fact_takes_steps(fact: Fact) -> bool
+    ensures { result ≡ spec.fact_takes_steps fact }
 {
     match fact {
         Fact::Differs => false,
         Fact::Stuck => true,
+        Fact::Deadlock => true,
         Fact::OfState(_) => false,
     }
 }
 
-/// Whether a goal has the fact `stuck`, which takes steps to judge.
-pub fn asks_stuck(goal: &Goal) -> bool
-    ensures { result ≡ spec.asks_stuck goal.now }
+/// Whether a goal has a fact that takes steps to judge: `stuck` or `deadlock`.
+pub fn takes_steps(goal: &Goal) -> bool
+    ensures { result ≡ spec.takes_steps goal.now }
 {
     match goal {
-        Goal::Is(fact) => is_stuck_fact(*fact),
-        Goal::Not(g) => asks_stuck(g),
-        Goal::And(g, h) => asks_stuck(g) || asks_stuck(h),
-        Goal::Or(g, h) => asks_stuck(g) || asks_stuck(h),
+        Goal::Is(fact) => fact_takes_steps(*fact),
+        Goal::Not(g) => takes_steps(g),
+        Goal::And(g, h) => takes_steps(g) || takes_steps(h),
+        Goal::Or(g, h) => takes_steps(g) || takes_steps(h),
     }
 }

@@ -156,6 +156,8 @@ pub enum Fact {
     Differs,
     /// A transaction is active, and nothing comes of any considered choice. The caller says which choices those are.
     Stuck,
+    /// Some transactions wait in a cycle, each for a page that another one of them has locked.
+    Deadlock,
     /// What the state decides by itself.
     OfState(StateFact),
 }

@@ -44,8 +44,8 @@ impl fmt::Display for Expected {
         let words = match self {
             Expected::Fact => concat!(
                 "a fact begins with mode, page, txn, link, key, sum, reg, pc, done, commits or a number, ",
-                "or is one of differs, stuck, committed, aborted, own, killed, badkey, missing, duplicate, ",
-                "frozen, nopage and gone"
+                "or is one of differs, stuck, deadlock, committed, aborted, own, killed, badkey, missing, ",
+                "duplicate, frozen, nopage and gone"
             ),
             Expected::Operator => "after a fact comes and, or, then, ) or the end",
             Expected::OpenBracket => "this ) closes no bracket",

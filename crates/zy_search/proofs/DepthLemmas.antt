@@ -3,7 +3,7 @@ use Rattle.std.proofs.Common.{◌≡◌, ◌+◌, ◌<◌, ◌≤◌, ◌||◌, 
 use Rattle.std.proofs.lemmas.Bool.{cases_lt}
 use Rattle.zy_isa.specs.Limits.{max_choices}
 use Rattle.zy_goals.specs.declared.outcomes.OutcomePattern.{OutcomePattern}
-use Rattle.zy_goals.specs.Commits.{asks_stuck}
+use Rattle.zy_goals.specs.Commits.{takes_steps}
 use Rattle.zy_search.specs.declared.sought.Sought.{Sought}
 use Rattle.zy_search.specs.Searches.{asks_steps, deepest_if, deepest}
 
@@ -39,4 +39,4 @@ steps_fit q n le e = omega (arith, subst (λ (b : Bool). n ≤ deepest_if b) e l
 
 -- it takes steps where an outcome is asked for
 pub outcome_fits : (q : Sought) (x : OutcomePattern) (n : ℕ) → q.then ≡ Some x → n ≤ deepest q → n < max_choices
-outcome_fits q x n e le = steps_fit q n le (subst (λ (o : Option OutcomePattern). is_some o || asks_stuck q.goal ≡ true) (sym e) refl)
+outcome_fits q x n e le = steps_fit q n le (subst (λ (o : Option OutcomePattern). is_some o || takes_steps q.goal ≡ true) (sym e) refl)

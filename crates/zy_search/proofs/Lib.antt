@@ -10,3 +10,4 @@ pub mod MeetLemmas
 pub mod PossibleLemmas
 pub mod LastLemmas
 pub mod DepthLemmas
+pub mod DeadlockLemmas

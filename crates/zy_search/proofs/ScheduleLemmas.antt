@@ -1,11 +1,12 @@
 -- The run of the scenario that a search hands out.
 use Rattle.std.proofs.Common.{◌≡◌, ◌∙◌, ℕ, ◌+◌, ◌≤◌, List, [], ◌∷◌, ◌++◌, ◌&&◌, ◌||◌, not, length, refl, sym, ap, subst, arith, length-append}
-use Rattle.std.proofs.Common.{Bool, true, false, Option, Some, None}
+use Rattle.std.proofs.Common.{Bool, true, false, Option, Some, None, zero, suc, ◌==◌}
 use Rattle.std.proofs.Math.Bool.{false≢true}
 use Rattle.std.proofs.lemmas.Bool.{and_parts}
 use Rattle.std.specs.List.{list_all, list_any}
 use Rattle.zy_isa.specs.Limits.{max_choices}
 use Rattle.zy_isa.specs.declared.choice.Choice.{Choice}
+use Rattle.zy_isa.specs.declared.choice.Choice.TheVariants.{Run}
 use Rattle.zy_isa.specs.declared.rule.Rule.TheVariants.{Held}
 use Rattle.zy_isa.specs.Scenario.{Scenario, IsScenario, AreNamed}
 use Rattle.zy_table.specs.State.{State, Step}
@@ -29,6 +30,8 @@ use Rattle.zy_goals.specs.Txns.{selected_have}
 use Rattle.zy_goals.specs.Goals.{Context, meets}
 use Rattle.zy_search.specs.Choices.{considered}
 use Rattle.zy_search.specs.Stuck.{is_still, is_stuck}
+use Rattle.zy_search.specs.declared.deadlock.Wait.{Wait}
+use Rattle.zy_search.specs.Deadlocks.{node_of, wait_in, wait_of, with_wait, waits_below, in_cycle, is_deadlocked}
 use Rattle.zy_search.specs.Possible.{gives}
 use Rattle.zy_search.specs.Searches.{reached, context_of, may_follow, shows, Shows, Finds, IsLast}
 use Rattle.zy_laws.specs.Orders.{reordered}
@@ -85,11 +88,26 @@ module _ (sc : Scenario) (order : List Choice) (kills : Bool) (s : State) where
       (all_alike _ (λ c. is_still (step sc c s).outcome) (λ c. ap (λ (x : Step). is_still x.outcome) (one sc order c s))
       (considered kills (length sc.programs)))
 
-  -- so both of them together do not
+  -- nor who waits
+  same_wait : (t : ℕ) → wait_of (reordered sc order) s t ≡ wait_of sc s t
+  same_wait t = ap (λ (x : Step). wait_in t (node_of s t) x.outcome) (one sc order (Run (node_of s t) t) s)
+
+  same_waits : (n : ℕ) → waits_below (reordered sc order) s n ≡ waits_below sc s n
+  same_waits zero = refl
+  same_waits (suc n) =
+      ap (λ (ws : List Wait). with_wait ws (wait_of (reordered sc order) s n)) (same_waits n)
+      ∙ ap (λ (w : Option Wait). with_wait (waits_below sc s n) w) (same_wait n)
+
+  -- nor whether some wait in a cycle
+  same_deadlock : is_deadlocked (reordered sc order) s ≡ is_deadlocked sc s
+  same_deadlock = ap (λ (ws : List Wait). not (length (in_cycle s ws) == 0)) (same_waits (length s.txns))
+
+  -- so all of them together do not
   same_context : context_of (reordered sc order) kills s ≡ context_of sc kills s
   same_context =
-      ap (λ (b : Bool). record { differs = not b; stuck = is_stuck (reordered sc order) kills s }) same_serial
-      ∙ ap (λ (b : Bool). record { differs = not (is_serial sc s); stuck = b }) same_stuck
+      ap (λ (b : Bool). record { differs = not b; stuck = is_stuck (reordered sc order) kills s; deadlock = is_deadlocked (reordered sc order) s }) same_serial
+      ∙ (ap (λ (b : Bool). record { differs = not (is_serial sc s); stuck = b; deadlock = is_deadlocked (reordered sc order) s }) same_stuck
+      ∙ ap (λ (b : Bool). record { differs = not (is_serial sc s); stuck = is_stuck sc kills s; deadlock = b }) same_deadlock)
 
   -- nor does the outcome of a choice
   same_outcome : (x : OutcomePattern) (c : Choice) → gives (reordered sc order) x s c ≡ gives sc x s c
@@ -186,16 +204,16 @@ is_held always h r held cs =
 
 -- where it is so, what is found is found without a difference
 pub without : AlwaysSerial → (h : History) (q : Sought) (cs : List Choice) → IsReplay h → h.scenario.rule ≡ Held → Finds h q cs
-    → meets (record { differs = false; stuck = is_stuck h.scenario q.kills (reached h cs) }) q.goal (reached h cs) ≡ true
+    → meets (record (context_of h.scenario q.kills (reached h cs)) { differs = false }) q.goal (reached h cs) ≡ true
 without always h q cs r held f =
     let s = reached h cs in
     let one = (and_parts (meets (context_of h.scenario q.kills s) q.goal s) (may_follow h.scenario q.kills q.then s) f.shows).0 in
-    subst (λ (b : Bool). meets (record { differs = not b; stuck = is_stuck h.scenario q.kills s }) q.goal s ≡ true) (is_held always h r held cs) one
+    subst (λ (b : Bool). meets (record (context_of h.scenario q.kills s) { differs = not b }) q.goal s ≡ true) (is_held always h r held cs) one
 
 -- so no difference is found
 pub never_differs : AlwaysSerial → (h : History) (q : Sought) (cs : List Choice) → IsReplay h → h.scenario.rule ≡ Held → q.goal ≡ Is Differs
     → Finds h q cs → ⊥
 never_differs always h q cs r held e f =
     let s = reached h cs in
-    false≢true (subst (λ (g : Goal). meets (record { differs = false; stuck = is_stuck h.scenario q.kills s }) g s ≡ true) e
+    false≢true (subst (λ (g : Goal). meets (record (context_of h.scenario q.kills s) { differs = false }) g s ≡ true) e
     (without always h q cs r held f))

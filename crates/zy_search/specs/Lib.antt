@@ -1,6 +1,7 @@
 pub mod Choices
 pub mod Paths
 pub mod Stuck
+pub mod Deadlocks
 pub mod Possible
 pub mod Searches
 pub mod Visits

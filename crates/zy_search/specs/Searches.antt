@@ -14,15 +14,16 @@ use Rattle.zy_search.specs.declared.answer.Answer.{Answer}
 use Rattle.zy_search.specs.declared.answer.Answer.TheVariants as answer
 use Rattle.zy_goals.specs.declared.outcomes.OutcomePattern.{OutcomePattern}
 use Rattle.zy_goals.specs.Goals.{Context, meets}
-use Rattle.zy_goals.specs.Commits.{asks_stuck, is_of_commits}
+use Rattle.zy_goals.specs.Commits.{takes_steps, is_of_commits}
 use Rattle.zy_search.specs.Stuck.{AreMoves, is_stuck}
+use Rattle.zy_search.specs.Deadlocks.{is_deadlocked}
 use Rattle.zy_search.specs.Possible.{gives, is_possible}
 use Rattle.zy_search.specs.Choices.{AreConsidered, is_considered}
 use Rattle.zy_search.specs.Paths.{AreApart}
 
 -- what a state of a scenario does not decide by itself
 abbrev pub context_of : Scenario → Bool → State → Context
-context_of sc kills s = record { differs = not (is_serial sc s); stuck = is_stuck sc kills s }
+context_of sc kills s = record { differs = not (is_serial sc s); stuck = is_stuck sc kills s; deadlock = is_deadlocked sc s }
 
 -- an outcome like the one that is asked for after `then` is possible, if one is asked for
 abbrev pub may_follow : Scenario → Bool → Option OutcomePattern → State → Bool
@@ -42,7 +43,7 @@ is_by_commits q = is_none q.then && is_of_commits q.goal
 
 -- it takes steps to judge whether a state shows it
 abbrev pub asks_steps : Sought → Bool
-asks_steps q = is_some q.then || asks_stuck q.goal
+asks_steps q = is_some q.then || takes_steps q.goal
 
 -- the most choices, from the opening on, after which a state is judged: where that takes steps, there is room for one more
 abbrev pub deepest_if : Bool → ℕ

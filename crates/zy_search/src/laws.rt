@@ -1,5 +1,5 @@
 //! What an answer says of whole runs: each function is a law, and its contract is all of it.
-ghost use Rattle.std.specs.Prelude.{◌≡◌, ◌++◌, ◌∷◌, [], List, true, false};
+ghost use Rattle.std.specs.Prelude.{◌≡◌, ◌++◌, ◌∷◌, [], List, Bool, true, false};
 ghost use Rattle.zy_isa.specs.declared.choice.Choice.{Choice as AChoice};
 ghost use Rattle.zy_isa.specs.declared.rule.Rule.TheVariants.{Held};
 ghost use Rattle.zy_isa.specs.Scenario.{IsScenario, Scenario as AScenario};
@@ -13,8 +13,10 @@ ghost use Rattle.zy_goals.specs.declared.outcomes.OutcomePattern.{OutcomePattern
 ghost use Rattle.zy_goals.specs.Goals.{meets};
 ghost use Rattle.zy_search.specs.Possible.{gives};
 ghost use Rattle.zy_search.specs.Schedules.{scheduled, before_last, ending};
-ghost use Rattle.zy_search.specs.Searches.{reached, Finds, IsLast, Shows};
-ghost use Rattle.zy_search.specs.Stuck.{is_still, is_stuck};
+ghost use Rattle.zy_search.specs.Searches.{reached, context_of, Finds, IsLast, Shows};
+ghost use Rattle.zy_search.specs.Stuck.{is_still};
+ghost use Rattle.zy_search.specs.declared.deadlock.Wait.{Wait as AWait};
+ghost use Rattle.zy_search.specs.Deadlocks.{is_deadlocked, IsCycle};
 
 use zy_audit::laws::always_same;
 
@@ -49,7 +51,7 @@ pub fn never_differs_under_held()
     ensures alone { (h : History) (q : Sought) (cs : List AChoice) → IsReplay h → h.scenario.rule ≡ Held
         → q.goal ≡ Is Differs → Finds h q cs → ⊥ }
     ensures inside { (h : History) (q : Sought) (cs : List AChoice) → IsReplay h → h.scenario.rule ≡ Held
-        → Finds h q cs → meets (record { differs = false; stuck = is_stuck h.scenario q.kills (reached h cs) }) q.goal
+        → Finds h q cs → meets (record (context_of h.scenario q.kills (reached h cs)) { differs = false }) q.goal
         (reached h cs) ≡ true }
 {
     // Proof: under `held` the serial run gives the same database.
@@ -61,4 +63,12 @@ pub fn never_differs_under_held()
 pub fn still_stays()
     ensures { (sc : AScenario) (c : AChoice) (s : State) → is_still (step sc c s).outcome ≡ true
         → (step sc c s).after ≡ s }
+{}
+
+/// A state has a deadlock if and only if some of those that wait each wait for another one of them.
+pub fn deadlock_is_cycle()
+    ensures only { (sc : AScenario) (s : State) → is_deadlocked sc s ≡ true
+        → (test : AWait → Bool) × IsCycle sc s test }
+    ensures each { (sc : AScenario) (s : State) (test : AWait → Bool) → IsCycle sc s test
+        → is_deadlocked sc s ≡ true }
 {}

@@ -4,6 +4,7 @@
 pub mod answer;
 pub mod branch;
 pub mod choices;
+pub mod deadlock;
 pub mod digest;
 mod expand;
 mod last;

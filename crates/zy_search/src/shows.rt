@@ -10,6 +10,7 @@ ghost use Rattle.zy_search.specs.Choices.{considered};
 ghost use Rattle.zy_search.specs.Searches.{MayTry, Shows, context_of};
 ghost use Rattle.zy_search.specs.Searches as spec;
 
+use crate::deadlock::is_deadlocked;
 use crate::possible::is_possible;
 use crate::sought::Sought;
 use crate::stuck::is_stuck;
@@ -31,7 +32,7 @@ fn holds(
     machine: &Machine,
     spare: &mut Machine,
 ) -> Result<bool, Fault>
-    requires room { goals_commits.is_stuck_fact fact ≡ true → length machine.now.entries < max_choices }
+    requires room { goals_commits.fact_takes_steps fact ≡ true → length machine.now.entries < max_choices }
     requires choices { choices.now ≡ considered kills (length machine.now.scenario.programs) }
     requires spare { spare.old.scenario ≡ machine.now.scenario }
     ensures holds { IfOk result (λ b. b ≡ goals.holds (context_of machine.now.scenario kills machine.now.state) fact
@@ -44,6 +45,7 @@ fn holds(
             Ok(!same)
         }
         Fact::Stuck => is_stuck(alloc, kills, machine, spare, choices),
+        Fact::Deadlock => is_deadlocked(alloc, machine, spare),
         Fact::OfState(state_fact) => Ok(holds_in(state_fact, machine)),
     }
 }
@@ -57,7 +59,7 @@ fn meets(
     machine: &Machine,
     spare: &mut Machine,
 ) -> Result<bool, Fault>
-    requires room { goals_commits.asks_stuck goal.now ≡ true → length machine.now.entries < max_choices }
+    requires room { goals_commits.takes_steps goal.now ≡ true → length machine.now.entries < max_choices }
     requires choices { choices.now ≡ considered kills (length machine.now.scenario.programs) }
     requires spare { spare.old.scenario ≡ machine.now.scenario }
     ensures meets { IfOk result (λ b. b ≡ goals.meets (context_of machine.now.scenario kills machine.now.state)

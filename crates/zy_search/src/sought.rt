@@ -2,7 +2,7 @@
 ghost use Rattle.std.specs.Prelude.{◌≡◌};
 ghost use Rattle.zy_search.specs.Searches as spec;
 
-use zy_goals::commits::asks_stuck;
+use zy_goals::commits::takes_steps;
 use zy_goals::{Goal, OutcomePattern};
 use zy_isa::MAX_CHOICES;
 
@@ -21,7 +21,7 @@ pub struct Sought {
 fn asks_steps(sought: &Sought) -> bool
     ensures { result ≡ spec.asks_steps sought.now }
 {
-    sought.then.is_some() || asks_stuck(&sought.goal)
+    sought.then.is_some() || takes_steps(&sought.goal)
 }
 
 /// The most choices, from the opening on, after which a state is judged. Where that takes steps, there is room for one

@@ -14,9 +14,10 @@ pub const PREFIXES: [(&'static str, Operator); 2] = [("(", Operator::Open), ("no
 pub const INFIXES: [(&'static str, Operator); 2] = [("and", Operator::And), ("or", Operator::Or)];
 
 /// The facts of one word, but for those that are a reason.
-pub const FACTS: [(&'static str, Fact); 4] = [
+pub const FACTS: [(&'static str, Fact); 5] = [
     ("differs", Fact::Differs),
     ("stuck", Fact::Stuck),
+    ("deadlock", Fact::Deadlock),
     (
         "committed",
         Fact::OfState(StateFact::Txns(Selector::All, TxnProperty::Committed)),
