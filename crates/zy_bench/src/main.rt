@@ -53,9 +53,9 @@ use zy_engine::engine::{asm_bytes, dis_bytes, run_bytes, trace_bytes};
 use zy_engine::searching::search_bytes;
 use zy_engine::threading::threads_bytes;
 use zy_engine::{BenchFault, Format};
-use zy_goals::{Names, ReadFault};
 use zy_goals::named::txns_named;
 use zy_goals::reading::{read_always, read_goal};
+use zy_goals::{Names, ReadFault};
 use zy_io::reading::read_all;
 use zy_io::{CountingReader, SliceSource};
 use zy_machine::Machine;
@@ -92,13 +92,9 @@ fn flush<W: Write>(output: &mut Output<W>) -> Result<(), BenchFault>
 }
 
 /// Ends a command that has written: passes on what is kept back, and gives the exit status.
-fn close<W: Write>(
-    written: Result<(), BenchFault>,
-    output: &mut Output<W>,
-) -> Result<u8, BenchFault>
+fn close<W: Write>(output: &mut Output<W>) -> Result<u8, BenchFault>
     requires { output.old.1 < u64.MAX }
 {
-    written?;
     flush(output)?;
     Ok(DONE)
 }
@@ -106,14 +102,13 @@ fn close<W: Write>(
 /// Ends a command that has made a run, and says what there is to say of it.
 fn close_run<R: Eprint + AllocGlobal, W: Write>(
     rt: &R,
-    made: Result<Machine, BenchFault>,
+    machine: &Machine,
     output: &mut Output<W>,
 ) -> Result<u8, BenchFault>
     requires { output.old.1 < u64.MAX }
 {
-    let machine = made?;
     flush(output)?;
-    comment(rt, &machine);
+    comment(rt, machine);
     Ok(DONE)
 }
 
@@ -131,19 +126,26 @@ fn convert<R: Eprint + AllocGlobal + Threads + Wait + Sync, G: Read, W: Write>(
     let alloc = rt.alloc();
     match conversion {
         Conversion::Run(format) => {
-            let made = run_bytes(alloc, format, source, output, input);
-            close_run(rt, made, output)
+            let machine = run_bytes(alloc, format, source, output, input)?;
+            close_run(rt, &machine, output)
         }
         Conversion::Trace(format) => {
-            let made = trace_bytes(alloc, format, source, output, input);
-            close_run(rt, made, output)
+            let machine = trace_bytes(alloc, format, source, output, input)?;
+            close_run(rt, &machine, output)
         }
         Conversion::Threads(format) => {
-            let made = threads_bytes(rt, alloc, format, source, output, input, &FreeGate);
-            close_run(rt, made, output)
+            let gate = &FreeGate;
+            let machine = threads_bytes(rt, alloc, format, source, output, input, gate)?;
+            close_run(rt, &machine, output)
         }
-        Conversion::Asm => close(asm_bytes(alloc, source, output, input), output),
-        Conversion::Dis => close(dis_bytes(alloc, source, output, input), output),
+        Conversion::Asm => {
+            asm_bytes(alloc, source, output, input)?;
+            close(output)
+        }
+        Conversion::Dis => {
+            dis_bytes(alloc, source, output, input)?;
+            close(output)
+        }
     }
 }
 
