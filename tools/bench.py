@@ -27,11 +27,17 @@ class Refused(Exception):
 
 def ask(words, given, good=(0,), quiet=False):
     """The lines that the program writes. What it says on standard error goes to standard error, or with `quiet` into the fault."""
+    return answer(words, given, good, quiet)[0]
+
+
+def answer(words, given, good=(0,), quiet=True):
+    """The lines that the program writes, and with `quiet` what it says on standard error."""
     with start(words, stdin=subprocess.PIPE, stdout=subprocess.PIPE, stderr=subprocess.PIPE if quiet else None) as process:
         written, said = process.communicate(given)
+    said = (said or b'').decode(**BYTES).strip()
     if process.returncode not in good:
-        raise Refused(process.returncode, (said or b'').decode(**BYTES).strip())
-    return written.decode(**BYTES).splitlines()
+        raise Refused(process.returncode, said)
+    return written.decode(**BYTES).splitlines(), said
 
 
 def start(words, limits=None, **pipes):

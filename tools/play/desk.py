@@ -15,7 +15,6 @@ from picture.drawing import Picture
 from picture.looks import look_of
 from picture.page import data_of
 from picture.rows import LONG, Rows
-from picture.serial import commit_order, migration_order
 from picture.svg import svg
 from prompt.session import LIMIT, Session, choices_of
 
@@ -52,9 +51,8 @@ def picture_of(asked):
 
 
 def whole_run(asked):
-    """The run, as the page of `zview` has it, with the rows that the serial run leaves otherwise, its order, and the one that explains this run."""
-    picture = picture_of(asked)
-    return dict(data_of(picture), differs=picture.differs, order=commit_order(picture.run), explained=migration_order(picture.run))
+    """The run, as the page of `zview` has it."""
+    return data_of(picture_of(asked))
 
 
 def fault_of(refused):

@@ -121,7 +121,6 @@ async function setText(text, at) {
     showFault(run.fault);
     if (run.fault) return;
     load(run, at);
-    drawSerial();
   } finally {
     if (mine === question) busy = false;
   }
@@ -136,6 +135,7 @@ onShow = () => {
   if (!busy) doc.at = now;
   markStep();
   drawFound();
+  drawVerdict();
   drawNext();
   storeSoon();
 };
@@ -178,20 +178,44 @@ function drawFound() {
   box.style.height = (D.rowOf[found[1]] - D.rowOf[found[0]] + 1) * row() + 'px';
 }
 
-// The two databases, where they differ.
-function drawSerial() {
-  const differs = new Map(D.differs.map(([key, ...both]) => [key, both]));
-  const rows = new Map(D.pages.flatMap((_, p) => page(D.last, p).rows.map(line => line.split('='))));
-  for (const [key, both] of differs) if (!rows.has(key)) rows.set(key, both[0]);
-  const few = rows.size <= 8, shown = [...rows].filter(([key]) => few || differs.has(key)).sort(([a], [b]) => a - b);
-  const cells = shown.map(([key, value]) => el('tr', differs.has(key) ? 'wrong' : '', ...[key, ...(differs.get(key) || [value, value])].map(
-    word => el('td', '', word))));
-  const head = el('tr', '', ...['key', 'this run', 'serial run'].map(word => el('th', '', word)));
-  const [order, explained] = [D.order, D.explained].map(txns => txns.map(t => D.names[t]).join(', then '));
-  const table = differs.size ? el('table', '', head, ...cells) : el('p', '', 'Its rows are not known here.');
-  $('serial').replaceChildren(...(D.verdict[0][1] ? [] : [el('h2', '', 'the end of this run, and of the serial run'),
-    el('p', '', `The serial run: ${order}.`), el('p', '', `The rows of this run are those of ${explained}.`), table, el('small', '', few ? '' : `and ${rows.size - shown.length} rows that are alike`)]));
+// ---- the verdict
+const verdicts = new Map();             // by the text up to a commit
+
+// The last step up to a position that is a commit; 0 where there is none. Only a commit changes the database, and so the verdict.
+function commitBefore(n) {
+  while (n && !D.lines[n].includes('-> committed ')) n--;
+  return n;
 }
+const textToCommit = () => edited(doc.text, commitBefore(now), []);
+const namesOf = txns => txns.map(t => D.names[t]).join(', then ');
+const verdictChip = same => el('span', 'chip ' + (same ? 'good' : 'wrong'), same ? 'serial same' : 'serial differs');
+
+function drawVerdict() {
+  const found = verdicts.get(textToCommit());
+  $('serial').classList.toggle('pending', !found);
+  $('here').classList.toggle('pending', !found);
+  if (!found) return judgeSoon();
+  $('here').replaceChildren(verdictChip(found.same));
+  $('serial').replaceChildren(el('h2', '', `the database after step ${now}, and that of the committed programs one by one`), ...verdictParts(found));
+}
+function verdictParts({same, order, explained, known, rows}) {
+  const by = order.length ? `One by one in commit order: ${namesOf(order)}.` : 'Nothing is committed.';
+  const why = explained.length ? `The rows are those of ${namesOf(explained)}: in each migration who committed at the source comes first.` : '';
+  const shown = rows.filter(([, here, there]) => rows.length <= 8 || here !== there);
+  const table = el('table', '', el('tr', '', ...['key', 'here', 'one by one'].map(word => el('th', '', word))), ...shown.map(rowCells));
+  const more = rows.length > shown.length ? `${rows.length - shown.length} ${shown.length ? 'other ' : ''}rows are alike` : '';
+  return [el('p', '', verdictChip(same), ' ', by), el('p', '', why), known ? table : el('p', '', 'Which rows differ is not known.'), el('small', '', more)]
+    .filter(part => part.textContent && part.querySelector('td') || !part.matches('table') && part.textContent);
+}
+const rowCells = row => el('tr', row[1] === row[2] ? '' : 'wrong', ...row.map(word => el('td', '', word)));
+const judgeSoon = debounced(guarded(async () => {
+  if (busy) return;                     // the next run asks again
+  const text = textToCommit(), found = await ask('verdict', {text});
+  if (found.fault) return;              // the page says so of the whole text
+  if (verdicts.size > 200) verdicts.clear();
+  verdicts.set(text, found);
+  drawVerdict();
+}), 30);
 
 // ---- the next choice
 const known = new Map();                // what would come of choices, by the text that they are made behind

@@ -8,7 +8,7 @@ from itertools import chain
 from urllib.parse import parse_qs, urlsplit
 
 import bench
-from play import desk
+from play import desk, verdict
 from prompt.session import Fault
 
 HOST = '127.0.0.1'
@@ -19,7 +19,8 @@ LONGEST = 5 << 20
 # At most this many questions are at work at a time; others wait.
 ROOM = threading.BoundedSemaphore(8)
 
-ANSWERS = {'/run': desk.whole_run, '/outcomes': desk.outcomes_of, '/until': desk.until, '/migrate': desk.migrated, '/save': desk.saved}
+ANSWERS = {'/run': desk.whole_run, '/outcomes': desk.outcomes_of, '/until': desk.until, '/migrate': desk.migrated, '/save': desk.saved,
+           '/verdict': verdict.verdict_of}
 
 # The page takes nothing from elsewhere, sends nothing there, and stands in no other page.
 HEADERS = {
