@@ -109,12 +109,12 @@ class Page(browser.Browser):
         super().__init__(address)
         self.wait()
 
-    def wait(self, code='D && !busy && known.has(textHere())', most=60):
+    def wait(self, code='D && !busy && known.has(textHere())', most=20):
         """Waits until something is so; by itself, until the run and the outcomes of the next choices are shown."""
         end = time.monotonic() + most
         while not self.value(code):
             if time.monotonic() > end:
-                raise RuntimeError('it does not come: ' + code)
+                raise RuntimeError('it does not come: %s; %s' % (code, self.faults + [self.value('$("note").textContent')]))
             time.sleep(0.01)
 
     def text(self):

@@ -9,26 +9,6 @@ let question = 0, busy = false;         // the number of the last question for a
 let typed = 0;                          // when the text was last typed in
 let found = null;                       // the first and the last step that a search added
 
-const unreachable = error => { throw error.name === 'AbortError' ? error : new Error('zplay does not answer: is it still running?'); };
-const post = (path, body, signal) => fetch(path, {method: 'POST', body: JSON.stringify(body), signal}).catch(unreachable);
-async function ask(path, body, signal) {
-  const answer = await post(path, body, signal);
-  if (!answer.ok) throw new Error(await answer.text());
-  return answer.json();
-}
-// Words for the user, beside the buttons.
-const note = words => { $('note').textContent = words; };
-// Work whose failure is noted; that it was given up is none.
-const guarded = work => async (...inputs) => {
-  try {
-    await work(...inputs);
-  } catch (error) {
-    if (error.name !== 'AbortError') note(error.message);
-  }
-};
-// Work that is done once nothing has asked for it for a while, in milliseconds.
-const debounced = (work, wait) => { let clock; return () => { clearTimeout(clock); clock = setTimeout(work, wait); }; };
-
 // ---- the text
 const wordsOf = line => line.split(';')[0].split(/\s+/).filter(word => word);
 
@@ -110,8 +90,10 @@ function markStep() {
 // Takes another text, and shows its run at a position; Infinity is its end.
 async function setText(text, at) {
   doc = {text, at};
+  put({text, same: branchOf(current).text === text ? branchOf(current).same : undefined});
   if ($('text').value !== text) $('text').value = text;
   paint();
+  $('beside').hidden = true;
   const mine = ++question;
   busy = true;
   try {
@@ -120,6 +102,8 @@ async function setText(text, at) {
     busy = false;
     showFault(run.fault);
     if (run.fault) return;
+    put({same: run.verdict[0][1]});
+    drawTree();
     load(run, at);
   } finally {
     if (mine === question) busy = false;
@@ -136,11 +120,14 @@ onShow = () => {
   markStep();
   drawFound();
   drawVerdict();
+  drawSpot();
   drawNext();
   storeSoon();
 };
+// What undo brings back: the text with its position, and the branches.
+const snapshot = () => ({doc: {...doc}, branches, current});
 function remember() {
-  past.push({...doc});
+  past.push(snapshot());
   future.length = 0;
   drawUndo();
 }
@@ -149,25 +136,41 @@ function drawUndo() {
   $('undo').disabled = !past.length;
   $('redo').disabled = !future.length;
 }
-// Choices behind the shown step, in the place of those that are there.
+// Makes choices behind a position. Where a branch has them there already it is shown; else where other choices come next, or where a search found
+// these, they make a new branch.
 function make(choices, from = doc, isFound = false) {
-  const aside = D.last - from.at;
+  const text = edited(from.text, from.at, choices.map(named)), at = from.at + choices.length;
+  const there = [branchOf(current), ...branches].find(branch => begins(branch, text));
   remember();
-  found = isFound ? [from.at + 1, from.at + choices.length] : null;
-  note(aside > 0 && !busy ? `${aside} ${aside === 1 ? 'choice' : 'choices'} set aside; undo brings them back` : '');
-  return setText(edited(from.text, from.at, choices.map(named)), from.at + choices.length);
+  found = isFound ? [from.at + 1, at] : null;
+  note('');
+  if (there) return visit(there.id, at);
+  if (isFound || from.text !== doc.text || from.at < scheduleOf(doc.text).choices.length) {
+    fork(text);
+    note(`branch ${current} begins here; branch ${previous} stays as it is`);
+  }
+  return setText(text, at);
+}
+// Takes the choices behind the shown step away.
+function cut() {
+  if (now === D.last) return;
+  remember();
+  found = null;
+  note(`${D.last - now} ${D.last - now === 1 ? 'choice is' : 'choices are'} taken away; undo brings them back`);
+  return setText(textHere(), now);
 }
 // The text up to the shown step.
 const textHere = () => edited(doc.text, doc.at, []);
 
 function undo(from, to) {
   if (!from.length) return note('nothing was done');
-  to.push({...doc});
+  to.push(snapshot());
   found = null;
   note('');
-  const {text, at} = from.pop();
+  const before = from.pop();
+  ({branches, current} = before);
   drawUndo();
-  return setText(text, at);
+  return setText(before.doc.text, before.doc.at);
 }
 // The edge beside the steps that a search added.
 function drawFound() {
@@ -196,7 +199,7 @@ function drawVerdict() {
   $('here').classList.toggle('pending', !found);
   if (!found) return judgeSoon();
   $('here').replaceChildren(verdictChip(found.same));
-  $('serial').replaceChildren(el('h2', '', `the database after step ${now}, and that of the committed programs one by one`), ...verdictParts(found));
+  $('serial').replaceChildren(el('h2', '', `database after step ${now}`), ...verdictParts(found));
 }
 function verdictParts({same, order, explained, known, rows}) {
   const by = order.length ? `One by one in commit order: ${namesOf(order)}.` : 'Nothing is committed.';
@@ -300,7 +303,6 @@ async function makeAnswered(path, body) {
 }
 const runUntil = guarded(choice => makeAnswered('until', {text: textHere(), choice}));
 const migrate = guarded(() => makeAnswered('migrate', {text: textHere()}));
-const cut = () => { if (now < D.last) guarded(make)([]); };
 
 // Arrows move between the choices; a click leaves them to the cursor.
 $('lanes').onmousedown = event => event.preventDefault();
@@ -406,6 +408,8 @@ function begin(text, title) {
   remember();
   name = title;
   found = null;
+  [branches, current, previous] = [[{id: 1, text}], 1, 0];
+  closeBeside();
   document.title = name + ' · zplay';
   guarded(setText)(text, Infinity);
 }
@@ -421,7 +425,7 @@ $('what').append(...Object.entries(given.goals).map(([goal, words]) => new Optio
 $('search').onsubmit = event => { event.preventDefault(); search(); };
 $('undo').onclick = () => guarded(undo)(past, future);
 $('redo').onclick = () => guarded(undo)(future, past);
-$('cut').onclick = cut;
+$('cut').onclick = guarded(cut);
 $('migrate').onclick = migrate;
 for (const button of document.querySelectorAll('[data-as]')) button.onclick = () => save(button.dataset.as);
 $('link').onclick = guarded(async () => {
@@ -429,9 +433,11 @@ $('link').onclick = guarded(async () => {
   const copied = await navigator.clipboard.writeText(location.href).then(() => true, () => false);
   note(copied ? 'the address is copied: it has the whole run in it' : 'the address of this page has the whole run in it');
 });
+const toTree = () => branches.length > 1 ? $('branches').querySelector('[aria-current]').focus() : note('there is one branch');
 const toLane = actor => () => $('lanes').children[ACTORS.indexOf(actor)].querySelector('.choice').focus();
-Object.assign(KEYS, {u: $('undo').onclick, r: $('redo').onclick, x: cut, m: migrate, s: () => $('what').focus(), e: () => $('text').focus(),
-  c: toLane('C'), a: toLane('A'), b: toLane('B'), Escape: () => $('view').focus()});
+Object.assign(KEYS, {u: $('undo').onclick, r: $('redo').onclick, x: guarded(cut), m: migrate, s: () => $('what').focus(), e: () => $('text').focus(),
+  c: toLane('C'), a: toLane('A'), b: toLane('B'), t: toTree, d: () => layBeside(),
+  '[': () => guarded(neighbour)(-1), ']': () => guarded(neighbour)(1), Escape: () => { closeBeside(); $('view').focus(); }});
 addEventListener('hashchange', event => guarded(arrive)(new URL(event.newURL).hash));
 addEventListener('click', event => { if (!event.target.closest('.menu')) document.querySelector('.menu').open = false; });
 drawUndo();

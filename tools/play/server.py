@@ -8,7 +8,7 @@ from itertools import chain
 from urllib.parse import parse_qs, urlsplit
 
 import bench
-from play import desk, verdict
+from play import beside, desk, verdict
 from prompt.session import Fault
 
 HOST = '127.0.0.1'
@@ -20,7 +20,7 @@ LONGEST = 5 << 20
 ROOM = threading.BoundedSemaphore(8)
 
 ANSWERS = {'/run': desk.whole_run, '/outcomes': desk.outcomes_of, '/until': desk.until, '/migrate': desk.migrated, '/save': desk.saved,
-           '/verdict': verdict.verdict_of}
+           '/verdict': verdict.verdict_of, '/beside': beside.beside}
 
 # The page takes nothing from elsewhere, sends nothing there, and stands in no other page.
 HEADERS = {
