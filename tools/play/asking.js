@@ -1,4 +1,6 @@
 // Questions to the server, and the work that waits for its answers.
+const given = JSON.parse($('given').textContent);  // what zplay was started with
+
 const unreachable = error => { throw error.name === 'AbortError' ? error : new Error('zplay does not answer: is it still running?'); };
 const post = (path, body, signal) => fetch(path, {method: 'POST', body: JSON.stringify(body), signal}).catch(unreachable);
 async function ask(path, body, signal) {

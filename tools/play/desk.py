@@ -2,10 +2,8 @@
 is: its choices are those up to the cursor, except where the whole run is asked for."""
 
 import os
-import pty
 import re
 import resource
-import select
 from concurrent.futures import ThreadPoolExecutor
 
 import bench
@@ -18,15 +16,8 @@ from picture.rows import LONG, Rows
 from picture.svg import svg
 from prompt.session import LIMIT, Session, choices_of
 
-# What a search may look for, and how the page says it.
-GOALS = {
-    'differs': 'rows that are not those of the commit order', 'stuck': 'transactions that are stuck', 'committed': 'all committed',
-    'aborted': 'an abort',
-    **{why: 'an abort: ' + why for why in ('own', 'killed', 'badkey', 'missing', 'duplicate', 'frozen', 'nopage', 'gone')}}
-
-# What one call of the program may take, and what a search may: seconds of a processor, and bytes of memory.
+# What one call of the program may take: seconds of a processor, and bytes of memory.
 LIMITS = {resource.RLIMIT_CPU: 20, resource.RLIMIT_AS: 2 << 30}
-SEARCH_LIMITS = {resource.RLIMIT_CPU: 600, resource.RLIMIT_AS: 4 << 30}
 
 STOPPED = 'was stopped: it took more time or memory than it may'
 
@@ -40,8 +31,6 @@ ROUNDS = 64
 MOST = 512
 
 POOL = ThreadPoolExecutor(len(os.sched_getaffinity(0)))
-
-SEARCHES = set()  # those that are under way
 
 
 def picture_of(asked):
@@ -138,66 +127,3 @@ def saved(asked):
         return {'file': '\n'.join(bench.ask(['run'], asked['text'].encode(**bench.BYTES), quiet=True) + [''])}
     picture = picture_of(asked)
     return {'file': svg(picture, (0, len(picture.run.steps)))}
-
-
-# ---- search
-
-def searched(asked):
-    """What a search reports: how far it is, once a second, or the same again; at last its answer. Whoever closes this ends the search."""
-    if asked['for'] not in GOALS:
-        raise KeyError('for')
-    position = int(asked['position'])
-    words = ['search', '--for', asked['for'], '--states', '%d' % asked['states']] + (['--kill'] if asked['kill'] else [])
-    given, found, (reader, terminal) = memory(asked['text'].encode(**bench.BYTES)), memory(b''), pty.openpty()
-    process, line = bench.start(words, SEARCH_LIMITS, stdin=given, stdout=found, stderr=terminal), ''
-    SEARCHES.add(process)
-    os.close(terminal)
-    try:
-        for piece in pieces(reader):
-            line = ([line] + [part for part in re.split(r'[\r\n]|\x1b\[K', piece) if part])[-1]
-            yield {'progress': line}
-        status = process.wait()
-        os.lseek(found, 0, os.SEEK_SET)
-        with open(found, encoding='utf-8', closefd=False) as file:
-            yield answer(position, status, line, file.read())
-    finally:
-        process.kill()
-        process.wait()
-        SEARCHES.discard(process)
-        for descriptor in (given, found, reader):
-            os.close(descriptor)
-
-
-def stop():
-    """Ends the searches that are under way."""
-    for process in list(SEARCHES):
-        process.kill()
-
-
-def memory(content):
-    """A file without a name, which has some bytes."""
-    file = os.memfd_create('zplay')
-    os.write(file, content)
-    os.lseek(file, 0, os.SEEK_SET)
-    return file
-
-
-def pieces(terminal):
-    """What comes to a terminal until it is closed; nothing each half second."""
-    while True:
-        piece = ''
-        if select.select([terminal], [], [], 0.5)[0]:
-            try:
-                piece = os.read(terminal, 4096).decode(errors='replace')
-            except OSError:
-                return
-        yield piece
-
-
-def answer(position, status, line, text):
-    """The answer of a search in the words of its last line, and the choices that it found behind a position."""
-    words = line.partition('zy_bench: ')[2] or 'the search ' + STOPPED
-    if status:
-        return {'found': None, 'words': words}
-    choices = [choice for choice in text.split('\n') if choice.split(' ')[0] in ('A', 'B', 'C')]
-    return {'found': choices[position:], 'words': words}

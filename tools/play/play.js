@@ -1,6 +1,5 @@
 // The page of zplay: a text, the run of it (`D`, which page.js shows), and the choices that can be made next. What a step does is asked of
 // the server; here texts are changed and answers shown.
-const given = JSON.parse($('given').textContent);
 const ACTORS = ['C', 'A', 'B'];
 let name = given.name;
 let doc = {text: '', at: 0};            // the text, and the position that is wanted
@@ -316,41 +315,6 @@ $('lanes').onkeydown = event => {
   if (runs) runUntil(event.target.dataset.choice);
 };
 
-// ---- search
-let searching = null;                   // what cancels the search that is under way
-
-const search = guarded(async () => {
-  if (searching) return searching.abort();
-  const from = {text: textHere(), at: now};
-  const body = {text: from.text, position: now, for: $('what').value, kill: $('kill').checked, states: +$('states').value};
-  searching = new AbortController();
-  $('go').textContent = 'Cancel';
-  $('report').textContent = 'searching';
-  try {
-    const answer = await post('search', body, searching.signal);
-    await eachLine(answer.body.pipeThrough(new TextDecoderStream()).getReader(), line => report(JSON.parse(line), from));
-  } catch (error) {
-    $('report').textContent = error.name === 'AbortError' ? 'cancelled' : 'the search broke off';
-  } finally {
-    searching = null;
-    $('go').textContent = 'Search';
-  }
-});
-async function eachLine(reader, work) {
-  let rest = '';
-  for (let piece; !(piece = await reader.read()).done;) {
-    const lines = (rest + piece.value).split('\n');
-    rest = lines.pop();
-    lines.forEach(work);
-  }
-}
-// Shows how far a search is, or its answer.
-function report({progress, words, found: choices}, from) {
-  if (words || progress) $('report').textContent = words || progress;
-  if (choices && choices.length) guarded(make)(choices, from, true);
-  if (choices && !choices.length) $('report').textContent += '; it is so here already';
-}
-
 // ---- files and the address
 function download(file, ending, type) {
   const link = el('a');
@@ -421,8 +385,6 @@ $('file').onchange = async event => {
   const file = event.target.files[0];
   if (file) begin((await file.text()).replace(/\r\n/g, '\n'), file.name.replace(/\.\w+$/, ''));
 };
-$('what').append(...Object.entries(given.goals).map(([goal, words]) => new Option(words, goal)));
-$('search').onsubmit = event => { event.preventDefault(); search(); };
 $('undo').onclick = () => guarded(undo)(past, future);
 $('redo').onclick = () => guarded(undo)(future, past);
 $('cut').onclick = guarded(cut);
@@ -435,7 +397,7 @@ $('link').onclick = guarded(async () => {
 });
 const toTree = () => branches.length > 1 ? $('branches').querySelector('[aria-current]').focus() : note('there is one branch');
 const toLane = actor => () => $('lanes').children[ACTORS.indexOf(actor)].querySelector('.choice').focus();
-Object.assign(KEYS, {u: $('undo').onclick, r: $('redo').onclick, x: guarded(cut), m: migrate, s: () => $('what').focus(), e: () => $('text').focus(),
+Object.assign(KEYS, {u: $('undo').onclick, r: $('redo').onclick, x: guarded(cut), m: migrate, s: () => $('goal').focus(), e: () => $('text').focus(),
   c: toLane('C'), a: toLane('A'), b: toLane('B'), t: toTree, d: () => layBeside(),
   '[': () => guarded(neighbour)(-1), ']': () => guarded(neighbour)(1), Escape: () => { closeBeside(); $('view').focus(); }});
 addEventListener('hashchange', event => guarded(arrive)(new URL(event.newURL).hash));

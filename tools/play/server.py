@@ -8,7 +8,7 @@ from itertools import chain
 from urllib.parse import parse_qs, urlsplit
 
 import bench
-from play import beside, desk, verdict
+from play import beside, desk, searching, verdict
 from prompt.session import Fault
 
 HOST = '127.0.0.1'
@@ -120,14 +120,14 @@ class Handler(BaseHTTPRequestHandler):
                 return self.search(asked) if self.path == '/search' else self.send_json(ANSWERS[self.path](asked))
         except bench.Refused as refused:
             return self.send_json({'fault': desk.fault_of(refused)})
-        except Fault as fault:
+        except (Fault, SystemExit) as fault:  # a program that cannot be started ends a script
             return self.send_json({'fault': {'line': 0, 'words': str(fault)}})
         except (KeyError, TypeError, ValueError, AttributeError):
             return self.send(400, 'text/plain', b'no such question')
 
     def search(self, asked):
         """Sends what a search reports as it comes, a line each; a browser that goes away ends it."""
-        reports = desk.searched(asked)
+        reports = searching.searched(asked)
         first = next(reports)
         self.send_head(200, 'application/x-ndjson', {})
         try:
