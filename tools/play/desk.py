@@ -15,6 +15,7 @@ from picture.page import data_of
 from picture.rows import LONG, Rows
 from picture.svg import svg
 from prompt.session import LIMIT, Session, choices_of
+from waiting import page_of, said, wait_at
 
 # What one call of the program may take: seconds of a processor, and bytes of memory.
 LIMITS = {resource.RLIMIT_CPU: 20, resource.RLIMIT_AS: 2 << 30}
@@ -65,13 +66,25 @@ def tried(text, choice):
 
 
 def outcomes_of(asked):
-    """For each of some choices what would come of it, whether it would change anything, and what that is."""
+    """For each of some choices what would come of it, whether it would change anything, what that is, and whom it waits for."""
     (_, before), *after = POOL.map(lambda choice: tried(asked['text'], choice), [''] + asked['choices'][:MOST])
     steps = [runs.step_of(line) for line, _ in after]
-    meaning = outcomes.meanings({step.outcome for step in steps})
-    return [{'outcome': step.line.split(' -> ')[1], 'look': look_of(step), 'acts': state != before,
+    meaning, waits = outcomes.meanings({step.outcome for step in steps}), waits_of(asked['text'], steps)
+    return [{'outcome': step.line.split(' -> ')[1], 'look': look_of(step), 'acts': state != before, 'waits': wait,
              'says': '\n'.join([meaning[step.outcome]] + [line for line in state if line not in before])}
-            for step, (_, state) in zip(steps, after)]
+            for step, (_, state), wait in zip(steps, after, waits)]
+
+
+def waits_of(text, steps):
+    """Whom each of some steps waits for that are made behind a text; '' where it waits for no page. The debugger has the lines of the pages there: none
+    of these steps changes one."""
+    pages = sorted({page_of(step) for step in steps} - {None})
+    if not pages:
+        return [''] * len(steps)
+    commands = ['goto %d' % (steps[0].number - 1)] + ['page %d' % page for page in pages]
+    replies = bench.ask(['debug'], '\n'.join([bench.cut(text)[0].rstrip('\n'), *commands, '']).encode(**bench.BYTES), quiet=True)
+    lines, names = dict(zip(pages, replies[1:])), bench.names_of(text)
+    return [said(wait_at(step, lines[page_of(step)]), names) if page_of(step) in lines else '' for step in steps]
 
 
 def until(asked):

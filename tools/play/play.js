@@ -120,6 +120,7 @@ onShow = () => {
   drawFound();
   drawVerdict();
   drawSpot();
+  drawNodes();
   drawNext();
   storeSoon();
 };
@@ -248,7 +249,7 @@ function choiceButton(choice, outcome) {
   const parts = [el('b', '', action + whom), el('code', '', about(choice)), el('span', '', outcome ? outcome.outcome : '…')];
   const button = el('button', 'choice ' + look, ...parts);
   button.dataset.choice = choice;
-  button.title = outcome ? outcome.says : '';
+  button.title = outcome ? [outcome.says, outcome.waits].join('\n').trim() : '';
   button.tabIndex = -1;
   button.onclick = event => event.shiftKey && action === 'run' ? runUntil(choice) : guarded(make)([choice]);
   return action === 'run' ? el('div', 'pair', button, untilButton(choice)) : button;
@@ -270,6 +271,7 @@ function laneOf(actor, choices, outcomeOf) {
 function drawLanes(lanes, outcomes) {
   const focus = document.activeElement.closest('#lanes') && document.activeElement.dataset.choice;
   const all = Object.values(lanes).flat(), outcomeOf = choice => outcomes && outcomes[all.indexOf(choice)];
+  if (outcomes) drawWaits(all, outcomes);
   $('lanes').replaceChildren(...ACTORS.map(actor => laneOf(actor, lanes[actor], outcomeOf)));
   if (focus) ($('lanes').querySelector(`[data-choice="${focus}"]`) || $('lanes').querySelector('.choice')).focus();
 }
@@ -288,7 +290,7 @@ const lookUpSoon = debounced(guarded(async () => {
   lookup.abort();
   lookup = new AbortController();
   const outcomes = await ask('outcomes', {text, choices}, lookup.signal);
-  const none = () => ({outcome: '', look: 'quiet', acts: false, says: outcomes.fault.words});  // as where there is no room for one more choice
+  const none = () => ({outcome: '', look: 'quiet', acts: false, waits: '', says: outcomes.fault.words});  // as where there is no room for one more choice
   if (known.size > 200) known.clear();
   known.set(text, outcomes.fault ? choices.map(none) : outcomes);
   if (text === textHere() && !busy) drawLanes(lanes, known.get(text));
