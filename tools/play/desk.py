@@ -9,11 +9,10 @@ from concurrent.futures import ThreadPoolExecutor
 import bench
 import outcomes
 import runs
-from picture.drawing import Picture
 from picture.looks import look_of
-from picture.page import data_of
-from picture.rows import LONG, Rows
+from picture.page import CHUNK
 from picture.svg import svg
+from play.keeping import changes, kept, known
 from prompt.session import LIMIT, Session, choices_of
 from waiting import page_of, said, wait_at
 
@@ -28,21 +27,29 @@ ROUND = ['A take', 'B take', 'A finish', 'B finish', 'A push', 'B push']
 # As many rounds are tried at a time.
 ROUNDS = 64
 
-# The most choices of a question: those of 64 transactions are fewer.
-MOST = 512
+# The most choices of a question: those of 64 transactions are fewer; and the most pieces of a drawing.
+MOST, MOST_PIECES = 512, 16
 
 POOL = ThreadPoolExecutor(len(os.sched_getaffinity(0)))
 
 
-def picture_of(asked):
-    """The picture of the whole run."""
-    run = runs.read(asked['text'], quiet=True)
-    return Picture(run, Rows(run.steps, len(run.steps) > LONG), str(asked.get('title', '')))
-
-
 def whole_run(asked):
-    """The run, as the page of `zview` has it."""
-    return data_of(picture_of(asked))
+    """The run as the page of `zview` has it: what is another than in the run that the page shows, and the pieces of the drawing near a position."""
+    base, old = known(asked.get('base', ''))
+    name, run = kept(asked['text'], title_of(asked))
+    row = run.shown['rowOf'][max(0, min(asked.get('at', 0), run.shown['last']))]
+    near = row // CHUNK
+    return {'name': name, 'base': base, **changes(old, run.shown), 'pieces': run.pieces([near - 1, near, near + 1])}
+
+
+def drawn(asked):
+    """Pieces of the drawing of a run, by number."""
+    _, run = kept(asked['text'], title_of(asked))
+    return {'pieces': run.pieces([int(number) for number in asked['numbers'][:MOST_PIECES]])}
+
+
+def title_of(asked):
+    return str(asked.get('title', ''))
 
 
 def fault_of(refused):
@@ -138,5 +145,5 @@ def saved(asked):
     """A file of the run: the listing, or the picture."""
     if asked['as'] == 'listing':
         return {'file': '\n'.join(bench.ask(['run'], asked['text'].encode(**bench.BYTES), quiet=True) + [''])}
-    picture = picture_of(asked)
+    picture = kept(asked['text'], title_of(asked))[1].picture
     return {'file': svg(picture, (0, len(picture.run.steps)))}

@@ -96,11 +96,12 @@ async function setText(text, at) {
   const mine = ++question;
   busy = true;
   try {
-    const run = await ask('run', {text, title: name});
+    const title = name, answer = await ask('run', {text, title, at: Math.min(at, 4096), base: D ? D.name : ''});
     if (mine !== question) return;
     busy = false;
-    showFault(run.fault);
-    if (run.fault) return;
+    showFault(answer.fault);
+    if (answer.fault) return;
+    const run = {...runOf(answer), text, title};
     put({same: run.verdict[0][1]});
     drawTree();
     load(run, at);
