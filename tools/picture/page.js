@@ -25,7 +25,7 @@ function jumps(line, n) {
   const last = line.filter(([m]) => m < n).pop(), next = line.find(([m]) => m > n);
   return el('span', 'jumps', ...[[last, '◂', 'last'], [next, '▸', 'next']].map(([entry, sign, name]) => {
     const button = el('button', '', sign);
-    button.title = entry ? `the ${name} step at which this changes: ${entry[0]}` : 'no other change';
+    button.title = button.ariaLabel = entry ? `the ${name} step at which this changes: ${entry[0]}` : 'no other change';
     button.disabled = !entry;
     button.onclick = () => show(entry[0]);
     return button;
@@ -78,7 +78,7 @@ function pagesPart(n) {
 }
 function lockList(locked) {
   const items = locked.slice(0, 24).map(it => {
-    const item = el('a', it.fresh ? 'new' : '', `${it.p} ${it.locks.join(' ')}`);
+    const item = el('button', it.fresh ? 'new' : '', `${it.p} ${it.locks.join(' ')}`);
     item.onclick = () => { pinned = it.p; show(now); };
     return item;
   });
@@ -138,6 +138,7 @@ function drawing(inner, width, height, top = 0) {
   const made = document.createElementNS('http://www.w3.org/2000/svg', 'svg');
   made.setAttribute('viewBox', `0 ${top} ${width} ${height}`);
   made.dataset.height = height;
+  made.setAttribute('aria-hidden', 'true');
   made.innerHTML = inner;
   return made;
 }
@@ -206,6 +207,7 @@ function load(run, n) {
 function show(n) {
   now = Math.max(0, Math.min(D.last, n));
   $('slide').value = now;
+  $('slide').ariaValueText = `step ${now} of ${D.last}`;
   $('where').textContent = `${now} of ${D.last}`;
   $('line').textContent = D.lines[now].replace('->', '→');
   $('gloss').textContent = gloss(now);

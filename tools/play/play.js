@@ -111,6 +111,7 @@ async function setText(text, at) {
 }
 function showFault(fault) {
   document.body.classList.toggle('stale', !!fault);
+  $('text').ariaInvalid = String(!!fault);
   $('fault').textContent = fault ? (fault.line ? `line ${fault.line}: ` : '') + fault.words : '';
   const line = mark('wrong', fault ? fault.line - 1 : -1);
   if (line && document.activeElement !== $('text')) line.scrollIntoView({block: 'nearest'});
@@ -250,6 +251,7 @@ function choiceButton(choice, outcome) {
   const parts = [el('b', '', action + whom), el('code', '', about(choice)), el('span', '', outcome ? outcome.outcome : '…')];
   const button = el('button', 'choice ' + look, ...parts);
   button.dataset.choice = choice;
+  button.ariaLabel = [action + whom, about(choice), outcome && outcome.outcome, outcome && !outcome.acts && 'changes nothing'].filter(word => word).join(', ');
   button.title = outcome ? [outcome.says, outcome.waits].join('\n').trim() : '';
   button.tabIndex = -1;
   button.onclick = event => event.shiftKey && action === 'run' ? runUntil(choice) : guarded(make)([choice]);
@@ -258,6 +260,7 @@ function choiceButton(choice, outcome) {
 function untilButton(choice) {
   const button = el('button', 'until', '»');
   button.title = 'Shift+Enter: until it waits, asks for a page, ends or can do nothing';
+  button.ariaLabel = `run ${nameOf(choice.split(' ')[2]) || choice.split(' ')[2]} until it waits, asks for a page, ends or can do nothing`;
   button.tabIndex = -1;
   button.onclick = () => runUntil(choice);
   return button;
@@ -266,6 +269,8 @@ function laneOf(actor, choices, outcomeOf) {
   const head = el('h3', actor, actor === 'C' ? 'client' : 'node ' + actor);
   if (actor !== 'C') head.append(modeChip(actor, now));
   const lane = el('div', 'lane', head, ...choices.map(choice => choiceButton(choice, outcomeOf(choice))));
+  lane.setAttribute('role', 'group');
+  lane.ariaLabel = actor === 'C' ? 'choices of the client' : `choices of node ${actor}`;
   lane.querySelector('.choice').tabIndex = 0;
   return lane;
 }
