@@ -2,6 +2,7 @@
 
 import os
 import resource
+import signal
 import subprocess
 import sys
 
@@ -15,6 +16,9 @@ BYTES = {'encoding': 'utf-8', 'errors': 'surrogateescape'}
 
 # The most that one call of the program may take, by the kind of the resource; all that the system allows of a kind that is not here.
 LIMITS = {}
+
+# The most seconds that one call may take, whatever it does; None for any.
+PATIENCE = None
 
 
 class Refused(Exception):
@@ -33,7 +37,11 @@ def ask(words, given, good=(0,), quiet=False):
 def answer(words, given, good=(0,), quiet=True):
     """The lines that the program writes, and with `quiet` what it says on standard error."""
     with start(words, stdin=subprocess.PIPE, stdout=subprocess.PIPE, stderr=subprocess.PIPE if quiet else None) as process:
-        written, said = process.communicate(given)
+        try:
+            written, said = process.communicate(given, PATIENCE)
+        except subprocess.TimeoutExpired:
+            process.kill()
+            raise Refused(-signal.SIGKILL, '') from None
     said = (said or b'').decode(**BYTES).strip()
     if process.returncode not in good:
         raise Refused(process.returncode, said)

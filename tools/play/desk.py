@@ -18,8 +18,9 @@ from waiting import page_of, said, wait_at
 
 # What one call of the program may take: seconds of a processor, and bytes of memory.
 LIMITS = {resource.RLIMIT_CPU: 20, resource.RLIMIT_AS: 2 << 30}
+PATIENCE = 60  # seconds of the clock
 
-STOPPED = 'was stopped: it took more time or memory than it may'
+STOPPED = 'was stopped: it took more time or memory than it may, or somebody ended it'
 
 # The choices of a round that lets a migration go on; the transactions of its source are added.
 ROUND = ['A take', 'B take', 'A finish', 'B finish', 'A push', 'B push']
