@@ -23,9 +23,13 @@ class Browser:
         self.session = self.call('Target.attachToTarget', targetId=target, flatten=True)['sessionId']
         self.call('Runtime.enable')
         self.call('Page.enable')
+        self.go(url)
+
+    def go(self, url):
+        """Opens another page."""
         self.call('Page.navigate', url=url)
         while self.value('document.readyState') != 'complete':
-            time.sleep(0.05)
+            time.sleep(0.02)
 
     def start(self):
         """Starts the browser, which reads from descriptor 3 and writes to 4."""

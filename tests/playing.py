@@ -9,7 +9,7 @@ import subprocess
 import time
 
 import browser
-from case import PROGRAM, TOP
+from case import EXAMPLES, PROGRAM, TOP, content
 
 ZPLAY = os.path.join(TOP, 'zplay')
 ZVIEW = os.path.join(TOP, 'zview')
@@ -149,3 +149,33 @@ class Page(browser.Browser):
     def close(self):
         self.faults += [] if self.value('true') else ['the page is gone']
         super().close()
+
+
+# ---- the page
+
+def steps_of(listing):
+    lines = listing.splitlines()
+    return [line.split(' ', 1)[1].split(' -> ') for line in lines[lines.index('steps') + 1:lines.index('final')]]
+
+
+def first_choices(text, count):
+    """A text with its first choices, one a line."""
+    return '\n'.join(head(text) + [choice for choice, _ in steps_of(zy_bench(['run'], text.encode()))[:count]] + ['end', ''])
+
+
+# A search, as the page asks for it.
+SEARCH = {'text': SMALLEST, 'position': 0, 'way': 'for', 'goal': 'stuck', 'kill': False, 'states': 9}
+
+# A migration of one page, by hand, in the order in which rounds of takes, finishes and pushes make its steps.
+MIGRATION = ['C start', 'B take', 'A take', 'B take', 'A finish', 'A push', 'B take', 'B take', 'A take']
+
+ANOMALY = content(os.path.join(EXAMPLES, 'anomaly.zephyr')).decode()
+DEADLOCK = bare(content(os.path.join(EXAMPLES, 'deadlock.zephyr')).decode())
+GONE = bare(content(os.path.join(EXAMPLES, 'gone.zephyr')).decode())
+HELD = bare(content(os.path.join(EXAMPLES, 'anomaly_under_held.zephyr')).decode())
+
+# Verdicts on the anomaly up to some positions, as docs/loose.md has it: whether it is serial, the order of the commits, the one that explains the rows,
+# and the rows here and one by one.
+VERDICTS = [(14, True, [], [], [['10', '1', '1'], ['20', '2', '2'], ['30', '3', '3'], ['40', '4', '4']]),
+            (15, True, [1], [], [['10', '9', '9'], ['20', '2', '2'], ['30', '3', '3'], ['40', '4', '4']]),
+            (18, False, [1, 0], [0, 1], [['10', '9', '9'], ['20', '2', '2'], ['30', '1', '9'], ['40', '4', '4']])]
