@@ -240,7 +240,7 @@ def nodes(page):
         yield 'the wireframe of a source whose destination has split a page: %r' % wires
     page.begin(NOTED)
     page.value('show(3)')
-    shown = page.value('[...$("nodes").querySelectorAll("dt, dd")].map(part => part.textContent)')
+    shown = page.value('[...$("nodes").querySelectorAll("dt, dd")].map(part => part.textContent.trim())')
     if shown != ['node A', 'low keys 0 page 0', 'has asked for no page', 'node B', 'low keys no wireframe', 'has asked for no page']:
         yield 'shown: %r' % shown
     page.begin(DEADLOCK.replace('end\n', 'C begin 0\nC begin 1\nA run 0 x 4\nA run 1 x 4\nend\n'))
@@ -387,6 +387,10 @@ def named():
         with Play(path) as play:
             page = Page(play.address)
             found = [] if (page.text(), page.value('document.title')) == (NOTED, 'my run · zplay') else ['a file: %r' % page.text()]
+            page.value('$("example").value = "held"; $("example").onchange({target: $("example")})')
+            page.wait('$("example").value === "held" && D.lines.length > 17 && !busy')
+            page.value('$("example").value = ""; $("example").onchange({target: $("example")})')
+            page.wait('document.title === "my run · zplay" && D.last === 4 && !busy')
             page.value('show(1)')
             page.value('store()')
             link = page.value('location.href')

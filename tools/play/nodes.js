@@ -21,13 +21,13 @@ function wireframe(node, n) {
 
 const MOST_NAMED = 24;                  // as many pages are named
 function few(items) {
-  return [...items.slice(0, MOST_NAMED), ...(items.length > MOST_NAMED ? [`and ${items.length - MOST_NAMED} more`] : [])];
+  return [...items.slice(0, MOST_NAMED).flatMap(item => [item, ' ']), items.length > MOST_NAMED ? `and ${items.length - MOST_NAMED} more` : ''];
 }
 function nodePart(node) {
   const wires = wireframe(node, now).map(([low, p]) => el('span', 'wire', `${low}`, el('small', '', ` page ${p}`)));
   const asked = askedFor(node, now).map(p => `page ${p}`);
   return [el('dt', node, 'node ' + node), el('dd', '', el('small', '', 'low keys '), ...(wires.length ? few(wires) : ['no wireframe'])),
-    el('dd', '', el('small', '', 'has asked for '), asked.length ? few(asked).join(', ') : 'no page')];
+    el('dd', '', el('small', '', 'has asked for '), ...(asked.length ? few(asked) : ['no page']))];
 }
 function drawNodes() {
   $('nodes').replaceChildren(el('h2', '', 'wireframes, and pages that were asked for'), el('dl', '', ...['A', 'B'].flatMap(nodePart)));

@@ -192,7 +192,11 @@ function commitBefore(n) {
   return n;
 }
 const textToCommit = () => edited(doc.text, commitBefore(now), []);
-const namesOf = txns => txns.map(t => D.names[t]).join(', then ');
+// Transactions in an order; of many the first and the last ones.
+function namesOf(txns) {
+  const names = txns.map(t => D.names[t]), left = names.length - 12;
+  return (left > 1 ? [...names.slice(0, 8), `${left} others`, ...names.slice(-4)] : names).join(', then ');
+}
 const verdictChip = same => el('span', 'chip ' + (same ? 'good' : 'wrong'), same ? 'serial same' : 'serial differs');
 
 function drawVerdict() {
@@ -382,16 +386,29 @@ function begin(text, title) {
   found = null;
   [branches, current, previous] = [[{id: 1, text}], 1, 0];
   closeBeside();
+  showName();
   document.title = name + ' · zplay';
   guarded(setText)(text, Infinity);
 }
 $('example').append(...Object.keys(given.examples).map(title => new Option(title.replace(/_/g, ' '), title)));
-if (!(given.name in given.examples)) $('example').prepend(new Option(given.name, ''));
-$('example').value = given.name in given.examples ? given.name : '';
-$('example').onchange = event => begin(given.examples[event.target.value] || given.text, event.target.value || given.name);
+// Shows what the scenario is named: an example, or the file that was opened last, which has an option of its own.
+let own = null;
+function showName() {
+  $('example').value = name in given.examples ? name : '';
+}
+function setOwn(text, title) {
+  if (own) $('example').querySelector('[value=""]').remove();
+  own = {text, title};
+  $('example').prepend(new Option(title, ''));
+}
+if (!(given.name in given.examples)) setOwn(given.text, given.name);
+showName();
+$('example').onchange = event => begin(given.examples[event.target.value] || own.text, event.target.value || own.title);
 $('file').onchange = async event => {
   const file = event.target.files[0];
-  if (file) begin((await file.text()).replace(/\r\n/g, '\n'), file.name.replace(/\.\w+$/, ''));
+  if (!file) return;
+  setOwn((await file.text()).replace(/\r\n/g, '\n'), file.name.replace(/\.\w+$/, ''));
+  begin(own.text, own.title);
 };
 $('undo').onclick = () => guarded(undo)(past, future);
 $('redo').onclick = () => guarded(undo)(future, past);
