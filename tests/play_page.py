@@ -194,15 +194,15 @@ def verdicts(page):
     for count, is_same, order, explained, rows in VERDICTS:
         page.value('show(%d)' % count)
         page.wait('known.has(textHere()) && !document.querySelector(".pending")')
-        here, words, *shown = page.value('[$("here").textContent, $("serial").textContent, ...[...document.querySelectorAll("#serial tr")].slice(1).map('
-                                         'row => [...[...row.children].map(cell => cell.textContent), row.matches(".wrong")])]')
+        here, words, header, *shown = page.value('[$("here").textContent, $("serial").textContent, ...[...document.querySelectorAll("#serial tr")].map('
+                                                 'row => [...[...row.children].map(cell => cell.textContent), row.matches(".wrong")])]')
         names = [', then '.join(['t0 reader', 't1 writer'][txn] for txn in txns) for txns in (order, explained)]
         said = 'in commit order: %s.' % names[0] if order else 'Nothing is committed.'
         why = 'The rows are those of %s: in each migration' % names[1]
         if here != ('serial same' if is_same else 'serial differs') or said not in words or (why in words) != bool(explained):
             yield 'at %d: %r, %r' % (count, here, words)
-        if shown != [row + [row[1] != row[2]] for row in rows]:
-            yield 'the rows at %d: %r' % (count, shown)
+        if [header] + shown != [['key', 'here', 'one by one', False]] + [row + [row[1] != row[2]] for row in rows]:
+            yield 'the rows at %d: %r, %r' % (count, header, shown)
 
 
 def keys(page):
