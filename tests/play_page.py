@@ -351,7 +351,7 @@ def narrow(page):
     page.call('Emulation.clearDeviceMetricsOverride')
 
 
-# What a user moves to or is told of, as a screen reader has it.
+# The roles of what a user moves to, or hears of.
 ROLES = ('button', 'link', 'textbox', 'combobox', 'slider', 'checkbox', 'spinbutton', 'DisclosureTriangle', 'complementary', 'navigation', 'region', 'heading')
 
 
