@@ -21,8 +21,9 @@ class Firefox:
             port = free.getsockname()[1]
         with open(os.path.join(self.home, 'user.js'), 'w', encoding='utf-8') as file:
             file.write('user_pref("marionette.port", %d);\n' % port)
+        size = {'MOZ_HEADLESS_WIDTH': '1680', 'MOZ_HEADLESS_HEIGHT': '950'}
         self.process = subprocess.Popen([PROGRAM, '--headless', '--marionette', '--no-remote', '--profile', self.home], stdout=subprocess.DEVNULL,
-                                        stderr=subprocess.DEVNULL, env={**os.environ, 'HOME': self.home, 'MOZ_HEADLESS_WIDTH': '1680', 'MOZ_HEADLESS_HEIGHT': '950'})
+                                        stderr=subprocess.DEVNULL, env={**os.environ, **size, 'HOME': self.home})
         self.line = connected(port)
         self.next()
         self.call('NewSession')

@@ -114,12 +114,16 @@ def searches(page):
         search(page, way, goal)
         page.wait('!searching && !busy')
         report, last = page.value('$("report").textContent'), page.value('D.last')
-        if not report.startswith(words) or last != added or page.value('found && found[1] - found[0] + 1 || 0') != added:
+        if not report.startswith(words) or last != added or page.value('(found => found && found[1] - found[0] + 1 || 0)(branchOf(current).found)') != added:
             yield '%s: %r, %d choices' % (goal, report, last)
         if page.value('branches.map(branch => scheduleOf(branch.text).choices.length)') != [0] + ([added] if added else []):
             yield '%s: the branches are %r' % (goal, page.value('branches'))
     if page.value('$("added").offsetHeight') < 14 * 10:
         yield 'the added steps are not marked'
+    page.key('[', '[')
+    page.wait()
+    if page.value('$("added").offsetHeight'):
+        yield 'steps are marked in the branch from which was searched'
     search(page, 'for', 'page 3 on B')
     page.wait('!searching')
     marked = page.value('(goal => [document.activeElement === goal, goal.value.slice(goal.selectionStart, goal.selectionEnd), goal.ariaInvalid])($("goal"))')
@@ -245,7 +249,8 @@ def nodes(page):
         yield 'shown: %r' % shown
     page.begin(DEADLOCK.replace('end\n', 'C begin 0\nC begin 1\nA run 0 x 4\nA run 1 x 4\nend\n'))
     shown = page.value('[...$("waits").querySelectorAll("li")].map(part => part.textContent)')
-    if shown != ['A run up waits for page 1, locked at A by transaction 1 down (exclusive)', 'A run down waits for page 0, locked at A by transaction 0 up (exclusive)']:
+    if shown != ['A run up waits for page 1, locked at A by transaction 1 down (exclusive)',
+                 'A run down waits for page 0, locked at A by transaction 0 up (exclusive)']:
         yield 'what waits: %r' % shown
 
 
@@ -296,7 +301,8 @@ def branches(page):
     right('a click on the map', '[current, D.last, now]', [2, 4, 2])
     page.key('d', 'd')
     page.wait('!$("beside").hidden')
-    right('side by side', BESIDE, ['branches 2 and 1 part after step 2', '3 C kill reader aborted killed A run reader did', '4 C start started ! wire C start started ! wire'])
+    right('side by side', BESIDE, ['branches 2 and 1 part after step 2', '3 C kill reader aborted killed A run reader did',
+                                   '4 C start started ! wire C start started ! wire'])
     page.key('Escape')
     right('no longer side by side', '$("beside").hidden', True)
     page.key('t')
@@ -308,6 +314,15 @@ def branches(page):
     page.key('u', 'u')
     page.wait()
     right('a branch that is brought back', 'branches.map(branch => branch.id).join()', '1,2')
+    page.value('$("text").value += "; a remark"; $("text").dispatchEvent(new Event("input")); visit(1)')
+    page.wait('current === 1 && !busy')
+    page.value('visit(2)')
+    page.wait('current === 2 && !busy')
+    right('a branch that is left while it is typed into', 'doc.text.endsWith("; a remark")', True)
+    page.begin(SMALLEST, 'another')
+    page.value('undo(past, future)')
+    page.wait()
+    right('undo of another scenario', '[document.title, branches.length]', ['x · zplay', 2])
     return found
 
 
@@ -368,7 +383,8 @@ def read_aloud(page):
     for role, name in named:
         if role in ROLES and not re.search('[a-z]{2}', name):
             yield 'a %s is named %r' % (role, name)
-    for wanted in (('button', 'kill reader, aborted killed'), ('button', 'branch 1: 4 steps, serial same'), ('button', 'take, nomessage, changes nothing'), ('textbox', 'the scenario'), ('combobox', 'the goal'),
+    for wanted in (('button', 'kill reader, aborted killed'), ('button', 'branch 1: 4 steps, serial same'), ('button', 'take, nomessage, changes nothing'),
+                   ('textbox', 'the scenario'), ('combobox', 'the goal'),
                    ('button', 'one step back'), ('button', 'run reader until it waits, asks for a page, ends or can do nothing')):
         if wanted not in named:
             yield 'there is no %s named %r' % wanted

@@ -12,12 +12,13 @@ function fork(text) {
   branches = [...branches, {id, text}];
   [previous, current] = [current, id];
 }
-// Shows a branch at a position, or else where it was left.
-function visit(id, at) {
-  const branch = branchOf(id), to = at === undefined ? placeIn(branch) : at;
-  if (id === current && !busy) return show(to);
+// Shows a branch at a position, or else where it was left, and notes something of it.
+function visit(id, at, more = {}) {
+  const branch = branchOf(id), to = at === undefined ? placeIn(branch) : at, isShown = id === current && !busy;
   put({at: now});
   if (id !== current) [previous, current] = [current, id];
+  put(more);
+  if (isShown) return show(to);
   return setText(branch.text, to);
 }
 // Where a branch was left, or else its end.
@@ -94,7 +95,8 @@ const acrossMap = n => 8 + (MAP - 16) * n / longest, downMap = row => BRANCH * (
 function twig({branch, parent, last}, row) {
   const from = parent ? `M${acrossMap(parent.at)} ${downMap(parent.row)}V${downMap(row)}` : `M${acrossMap(0)} ${downMap(row)}`;
   const end = branch.same === undefined ? 'unknown' : branch.same ? 'ok' : 'bad';
-  return `<path class="twig${branch.id === current ? ' on' : ''}" d="${from}H${acrossMap(last)}"/><circle class="${end}" cx="${acrossMap(last)}" cy="${downMap(row)}" r="3.5"/>`;
+  const line = `<path class="twig${branch.id === current ? ' on' : ''}" d="${from}H${acrossMap(last)}"/>`;
+  return line + `<circle class="${end}" cx="${acrossMap(last)}" cy="${downMap(row)}" r="3.5"/>`;
 }
 // Puts the cursor on the map.
 function drawSpot() {
@@ -121,8 +123,8 @@ function branchButton(sign, words, work) {
 }
 $('branches').onkeydown = event => {
   const all = [...$('branches').querySelectorAll('.branch')], id = +event.target.dataset.branch;
-  const work = {ArrowDown: () => (all[all.indexOf(event.target) + 1] || event.target).focus(), ArrowUp: () => (all[all.indexOf(event.target) - 1] || event.target).focus(),
-    Delete: () => guarded(removeBranch)(id), d: () => layBeside(id)}[event.key];
+  const move = way => (all[all.indexOf(event.target) + way] || event.target).focus();
+  const work = {ArrowDown: () => move(1), ArrowUp: () => move(-1), Delete: () => guarded(removeBranch)(id), d: () => layBeside(id)}[event.key];
   if (!id || !work) return;
   event.preventDefault();
   event.stopPropagation();
@@ -158,7 +160,8 @@ function drawBeside(pair, {both, steps, verdicts: ends, states}) {
   const more = count > MOST_BESIDE ? [el('p', '', `and ${count - MOST_BESIDE} more steps`)] : [];
   const verdictRow = el('tr', '', el('th', '', 'end'), ...ends.map(word => el('td', '', verdictChip(word === 'serial same'))));
   const stateRows = states.map(lines => el('tr', 'state', el('th', '', ''), ...lines.map(line => el('td', '', line || '—'))));
-  $('beside').replaceChildren(el('div', 'bar', title, el('span', 'fill'), close), el('table', '', el('tr', '', ...heads), ...body, verdictRow, ...stateRows), ...more);
+  const table = el('table', '', el('tr', '', ...heads), ...body, verdictRow, ...stateRows);
+  $('beside').replaceChildren(el('div', 'bar', title, el('span', 'fill'), close), table, ...more);
 }
 // A step of one of two branches: a click shows it there.
 function stepCell(id, number, step) {

@@ -16,7 +16,8 @@ function wireframe(node, n) {
   const changes = D.modes[node].filter(([position]) => position <= n), mode = changes[changes.length - 1][1];
   if (mode === 'empty') return [];
   const until = mode[0] === 's' ? changes.filter(([, name]) => name === 'sinit').pop()[0] : n;
-  return D.pages.map((page, p) => [at(page, until)[1].split(' ')[4], p]).filter(([low]) => low !== undefined).map(([low, p]) => [+low, p]).sort(([a], [b]) => a - b);
+  const lines = D.pages.map((page, p) => [at(page, until)[1], p]).filter(([line]) => line);
+  return lines.map(([line, p]) => [+line.split(' ')[4], p]).sort(([a], [b]) => a - b);
 }
 
 const MOST_NAMED = 24;                  // as many pages are named
@@ -35,5 +36,6 @@ function drawNodes() {
 // Whom each choice would wait for that can be made next.
 function drawWaits(choices, outcomes) {
   const waits = choices.map((choice, k) => [choice, outcomes[k].waits]).filter(([, words]) => words);
-  $('waits').replaceChildren(...(waits.length ? [el('h2', '', 'what waits here'), el('ul', '', ...waits.map(([choice, words]) => el('li', '', el('b', '', named(choice)), ` ${words}`)))] : []));
+  const rows = waits.map(([choice, words]) => el('li', '', el('b', '', named(choice)), ` ${words}`));
+  $('waits').replaceChildren(...(rows.length ? [el('h2', '', 'what waits here'), el('ul', '', ...rows)] : []));
 }

@@ -6,7 +6,6 @@ let doc = {text: '', at: 0};            // the text, and the position that is wa
 const past = [], future = [];           // what it was, and what it was before an undo
 let question = 0, busy = false;         // the number of the last question for a run, and whether its answer is still to come
 let typed = 0;                          // when the text was last typed in
-let found = null;                       // the first and the last step that a search added
 
 // ---- the text
 const wordsOf = line => line.split(';')[0].split(/\s+/).filter(word => word);
@@ -127,7 +126,7 @@ onShow = () => {
   storeSoon();
 };
 // What undo brings back: the text with its position, and the branches.
-const snapshot = () => ({doc: {...doc}, branches, current});
+const snapshot = () => ({doc: {...doc}, branches, current, name});
 function remember() {
   past.push(snapshot());
   future.length = 0;
@@ -141,14 +140,15 @@ function drawUndo() {
 // Makes choices behind a position. Where a branch has them there already it is shown; else where other choices come next, or where a search found
 // these, they make a new branch.
 function make(choices, from = doc, isFound = false) {
-  const text = edited(from.text, from.at, choices.map(named)), at = from.at + choices.length;
-  const there = [branchOf(current), ...branches].find(branch => begins(branch, text));
+  const isOfThese = scheduleOf(from.text).head === scheduleOf(doc.text).head;  // else the names are other ones
+  const text = edited(from.text, from.at, isOfThese ? choices.map(named) : choices), at = from.at + choices.length;
+  const there = [branchOf(current), ...branches].find(branch => begins(branch, text)), more = isFound ? {found: [from.at + 1, at]} : {};
   remember();
-  found = isFound ? [from.at + 1, at] : null;
   note('');
-  if (there) return visit(there.id, at);
+  if (there) return visit(there.id, at, more);
   if (isFound || from.text !== doc.text || from.at < scheduleOf(doc.text).choices.length) {
     fork(text);
+    put(more);
     note(`branch ${current} begins here; branch ${previous} stays as it is`);
   }
   return setText(text, at);
@@ -157,7 +157,6 @@ function make(choices, from = doc, isFound = false) {
 function cut() {
   if (now === D.last) return;
   remember();
-  found = null;
   note(`${D.last - now} ${D.last - now === 1 ? 'choice is' : 'choices are'} taken away; undo brings them back`);
   return setText(textHere(), now);
 }
@@ -167,16 +166,16 @@ const textHere = () => edited(doc.text, doc.at, []);
 function undo(from, to) {
   if (!from.length) return note('nothing was done');
   to.push(snapshot());
-  found = null;
   note('');
   const before = from.pop();
-  ({branches, current} = before);
+  ({branches, current, name} = before);
+  showName();
   drawUndo();
   return setText(before.doc.text, before.doc.at);
 }
 // The edge beside the steps that a search added.
 function drawFound() {
-  const box = $('added');
+  const box = $('added'), {found} = branchOf(current);
   box.style.height = 0;
   if (!found || found[1] > D.last || found[1] < found[0]) return;
   place(box, found[0]);
@@ -367,8 +366,8 @@ const setTypedSoon = debounced(guarded(() => setText($('text').value, doc.at)), 
 $('text').oninput = () => {
   if (Date.now() - typed > 1500) remember();
   typed = Date.now();
-  found = null;
   doc = {text: $('text').value, at: doc.at < D.last ? doc.at : Infinity};
+  put({text: doc.text, same: undefined, found: null});
   busy = true;
   paint();
   setTypedSoon();
@@ -383,11 +382,9 @@ $('text').onkeydown = event => {
 function begin(text, title) {
   remember();
   name = title;
-  found = null;
   [branches, current, previous] = [[{id: 1, text}], 1, 0];
   closeBeside();
   showName();
-  document.title = name + ' · zplay';
   guarded(setText)(text, Infinity);
 }
 $('example').append(...Object.keys(given.examples).map(title => new Option(title.replace(/_/g, ' '), title)));
@@ -395,6 +392,7 @@ $('example').append(...Object.keys(given.examples).map(title => new Option(title
 let own = null;
 function showName() {
   $('example').value = name in given.examples ? name : '';
+  document.title = name + ' · zplay';
 }
 function setOwn(text, title) {
   if (own) $('example').querySelector('[value=""]').remove();
