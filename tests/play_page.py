@@ -232,7 +232,8 @@ def nodes(page):
                 for key in [low for low, _ in wires] + [low - 1 for low, _ in wires if low]:
                     outcome, wanted = probed(text, position, node, key), max((low, number) for low, number in wires if low <= key)[1]
                     seen.add(outcome.split()[0])
-                    known = ['%s %d' % (word, wanted) for word in ('awaits' if wanted in asked else 'pulls', 'locks', 'waits')]
+                    # A page that is here is asked for no more.
+                    known = ['%s %d' % (word, wanted) for word in (['awaits'] if wanted in asked else ['pulls', 'locks', 'waits'])]
                     if outcome not in ['elsewhere', 'notyet'] + known:
                         yield '%s at %d, node %s: key %d %s, shown are %r and %r' % (name, position, node, key, outcome, wires, asked)
     if not {'pulls', 'awaits', 'locks'} <= seen:

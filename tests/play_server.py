@@ -47,6 +47,10 @@ def answered():
             ('a search for no text', 400, play.request('POST', '/search', json.dumps({**SEARCH, 'goal': 7}))),
             ('a search for a zero byte', 400, play.request('POST', '/search', json.dumps({**SEARCH, 'goal': 'a\0b'}))),
             ('a search of no state', 400, play.request('POST', '/search', json.dumps({**SEARCH, 'states': 0}))),
+            ('one text to lay beside none', 400, play.request('POST', '/beside', json.dumps({'texts': [SMALLEST]}))),
+            ('a position that is none', 400, play.request('POST', '/run', json.dumps({'text': SMALLEST, 'at': 'x'}))),
+            ('a run that is no name', 400, play.request('POST', '/run', json.dumps({'text': SMALLEST, 'base': [1]}))),
+            ('deep JSON', 400, play.request('POST', '/run', '[' * 200000)),
             ('a long question', 413, play.request('POST', '/run', None, **{'Content-Length': '99999999'}))]
         found = ['%s: status %d, wanted %d' % (name, answer[0], status) for name, status, answer in wanted if answer[0] != status]
         page = wanted[0][2]

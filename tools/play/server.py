@@ -122,7 +122,7 @@ class Handler(BaseHTTPRequestHandler):
             return self.send_json({'fault': desk.fault_of(refused)})
         except (Fault, SystemExit) as fault:  # a program that cannot be started ends a script
             return self.send_json({'fault': {'line': 0, 'words': str(fault)}})
-        except (KeyError, TypeError, ValueError, AttributeError):
+        except (LookupError, TypeError, ValueError, AttributeError, RecursionError):
             return self.send(400, 'text/plain', b'no such question')
 
     def search(self, asked):
