@@ -150,7 +150,7 @@ SCRIPT_FAULTS = [
     script('zplay: Origin is not looked at', 'tools/play/server.py', "if origin != 'http://' + host and", 'if False and', 'play answered'),
     script('zplay: a program that hangs is not ended', 'tools/bench.py', 'communicate(given, PATIENCE)', 'communicate(given)', 'play stopped'),
     script('zplay: a search goes on whose page has gone', 'tools/play/searching.py',
-           '        process.kill()\n        process.wait()\n', '', 'play broken-off'),
+           '            process.kill()\n            process.wait()\n', '', 'play broken-off'),
     # what comes with the program
     script('install: --remove leaves the folder', 'install', '  rm -rf "$share"\n', '', 'manuals'),
     script('install: PREFIX ignored', 'install', 'prefix=${PREFIX:-/usr/local}', 'prefix=$(mktemp -d)', 'manuals'),

@@ -12,7 +12,12 @@ from playing import ANOMALY, DEADLOCK, HELD, MIGRATION, NOTED, SMALLEST, VERDICT
 
 # Clicks choices, one after the other: for each what its button showed, and whether it was grey; null where there was none.
 CLICKED = '''(async choices => {
-  const ready = async () => { while (!D || busy || !known.has(textHere())) await new Promise(done => setTimeout(done, 4)); };
+  const ready = async () => {
+    for (const end = Date.now() + 30000; !D || busy || !known.has(textHere());) {
+      if (Date.now() > end) throw new Error(`no outcomes come at ${now}: ${busy} ${$('note').textContent}`);
+      await new Promise(done => setTimeout(done, 4));
+    }
+  };
   const shown = [];
   for (const choice of choices) {
     await ready();

@@ -11,6 +11,9 @@ import time
 import browser
 from case import EXAMPLES, PROGRAM, TOP, content
 
+# A test that runs in the background may have been started with Ctrl-C ignored, and so would be what it starts.
+signal.signal(signal.SIGINT, signal.default_int_handler)
+
 ZPLAY = os.path.join(TOP, 'zplay')
 ZVIEW = os.path.join(TOP, 'zview')
 
@@ -37,11 +40,9 @@ class Play:
 
     def __init__(self, *words, port='0', opens=None):
         browsers = {'DISPLAY': ':0', 'BROWSER': opens} if opens else {}
-        # A test that runs in the background may have been started with Ctrl-C ignored.
         flags = (['--port', port] if port else []) + ([] if opens else ['--no-open'])
         self.process = subprocess.Popen([ZPLAY, *words, *flags], stdout=subprocess.PIPE, stderr=subprocess.DEVNULL, text=True,
-                                        env={**os.environ, 'ZY_BENCH': PROGRAM, **browsers},
-                                        preexec_fn=lambda: signal.signal(signal.SIGINT, signal.SIG_DFL))
+                                        env={**os.environ, 'ZY_BENCH': PROGRAM, **browsers})
         self.address = self.process.stdout.readline().strip()
         self.port, self.token = re.match(r'http://127.0.0.1:(\d+)/\?token=([\w-]+)', self.address).groups()
 

@@ -5,7 +5,7 @@ import pty
 import re
 import resource
 import select
-from contextlib import contextmanager
+from contextlib import ExitStack, contextmanager
 
 import bench
 from play.desk import STOPPED
@@ -37,7 +37,7 @@ UNDER_WAY = set()  # the processes of searches
 def words_of(asked):
     """The words of the command; an error where a question is none."""
     way, goal, states = asked['way'], asked['goal'], asked['states']
-    if way not in ('for', 'always') or not isinstance(goal, str) or len(goal) > LONGEST or '\0' in goal or not 1 <= int(states) <= MOST:
+    if way not in ('for', 'always') or not isinstance(goal, str) or len(goal) > LONGEST or not 1 <= int(states) <= MOST:
         raise ValueError
     return ['search', '--%s=%s' % (way, goal), '--states', '%d' % states] + (['--kill'] if asked['kill'] else [])
 
@@ -60,17 +60,20 @@ def searched(asked):
 def under_way(words, text):
     """A search that runs: its process, the file that it writes, and the terminal to which it says how far it is."""
     given, found, (reader, terminal) = memory(text), memory(b''), pty.openpty()
-    process = bench.start(words, LIMITS, stdin=given, stdout=found, stderr=terminal)
-    UNDER_WAY.add(process)
-    os.close(terminal)
-    try:
-        yield process, found, reader
-    finally:
-        process.kill()
-        process.wait()
-        UNDER_WAY.discard(process)
+    with ExitStack() as closing:
         for descriptor in (given, found, reader):
-            os.close(descriptor)
+            closing.callback(os.close, descriptor)
+        try:
+            process = bench.start(words, LIMITS, stdin=given, stdout=found, stderr=terminal)
+        finally:
+            os.close(terminal)
+        UNDER_WAY.add(process)
+        try:
+            yield process, found, reader
+        finally:
+            process.kill()
+            process.wait()
+            UNDER_WAY.discard(process)
 
 
 def stop():
