@@ -424,8 +424,8 @@ def named():
     return found
 
 
-# Whether the outcomes of the next choices are shown, and the words in some places of the page, without the names of its script.
-SHOWN = 'document.querySelectorAll(".choice span").length > 0 && [...document.querySelectorAll(".choice span")].every(it => it.textContent !== "…")'
+# Whether the verdict and the outcomes of the next choices are shown, and the words in some places of the page, without the names of its script.
+SHOWN = '!document.querySelector(".pending") && document.querySelectorAll(".choice span").length > 0 && [...document.querySelectorAll(".choice span")].every(it => it.textContent !== "…")'
 
 WORDS = '["where", "line", "here", "report"].map(id => document.getElementById(id).textContent)'
 
@@ -446,6 +446,7 @@ def in_firefox():
             page.click('#go')
             page.wait('document.querySelectorAll(".branch").length === 3')
             page.wait('/^#8[.]/.test(location.hash)')
+            page.wait(SHOWN)
             found.append(page.value(WORDS))
         finally:
             page.close()
