@@ -1,5 +1,6 @@
 """Chromium without a window, over its DevTools pipe: pages are opened, keys and clicks are made, values are read."""
 
+import fcntl
 import json
 import os
 import shutil
@@ -9,7 +10,9 @@ import time
 
 PROGRAM = shutil.which('chromium') or shutil.which('chromium-browser')
 
-WORDS = ['--headless', '--no-sandbox', '--disable-gpu', '--remote-debugging-pipe', '--window-size=1680,950', 'about:blank']
+# Nobody looks at the page; it is to be as fast as one that is looked at.
+WORDS = ['--headless', '--no-sandbox', '--disable-gpu', '--remote-debugging-pipe', '--window-size=1680,950', '--disable-renderer-backgrounding',
+         '--disable-background-timer-throttling', '--disable-backgrounding-occluded-windows', 'about:blank']
 
 
 class Browser:
@@ -23,21 +26,22 @@ class Browser:
         self.session = self.call('Target.attachToTarget', targetId=target, flatten=True)['sessionId']
         self.call('Runtime.enable')
         self.call('Page.enable')
+        self.go(url)
+
+    def go(self, url):
+        """Opens another page."""
         self.call('Page.navigate', url=url)
         while self.value('document.readyState') != 'complete':
-            time.sleep(0.05)
+            time.sleep(0.02)
 
     def start(self):
-        """Starts the browser, which reads from descriptor 3 and writes to 4."""
+        """Starts the browser, which reads from descriptor 3 and writes to 4; a shell puts them there, since other threads start programs, too."""
         to_read, self.to = os.pipe()
         self.out, to_write = os.pipe()
-        high = [os.dup2(descriptor, descriptor + 20) for descriptor in (to_read, to_write)]
-
-        def place():
-            os.dup2(high[0], 3)
-            os.dup2(high[1], 4)
-        self.process = subprocess.Popen([PROGRAM, '--user-data-dir=' + self.home, *WORDS], preexec_fn=place, close_fds=False,
-                                        stdout=subprocess.DEVNULL, stderr=subprocess.DEVNULL)
+        # Neither is 3 or 4 here, so that one does not take the place of the other.
+        high = [fcntl.fcntl(descriptor, fcntl.F_DUPFD_CLOEXEC, 20) for descriptor in (to_read, to_write)]
+        self.process = subprocess.Popen(['bash', '-c', 'exec "$@" 3<&%d 4>&%d' % tuple(high), 'bash', PROGRAM, '--user-data-dir=' + self.home, *WORDS],
+                                        pass_fds=high, stdout=subprocess.DEVNULL, stderr=subprocess.DEVNULL)
         for descriptor in (to_read, to_write, *high):
             os.close(descriptor)
 
@@ -69,7 +73,10 @@ class Browser:
 
     def value(self, code):
         """The value of an expression in the page, or that of its promise once it is kept."""
-        return self.call('Runtime.evaluate', expression=code, returnByValue=True, awaitPromise=True)['result'].get('value')
+        answer = self.call('Runtime.evaluate', expression=code, returnByValue=True, awaitPromise=True)
+        if 'exceptionDetails' in answer:
+            self.faults.append(str(answer['exceptionDetails'].get('exception', {}).get('description', answer['exceptionDetails'])))
+        return answer['result'].get('value')
 
     def key(self, key, text=None):
         """Presses a key."""

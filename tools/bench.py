@@ -2,6 +2,7 @@
 
 import os
 import resource
+import signal
 import subprocess
 import sys
 
@@ -16,6 +17,9 @@ BYTES = {'encoding': 'utf-8', 'errors': 'surrogateescape'}
 # The most that one call of the program may take, by the kind of the resource; all that the system allows of a kind that is not here.
 LIMITS = {}
 
+# The most seconds that one call may take, whatever it does; None for any.
+PATIENCE = None
+
 
 class Refused(Exception):
     """The program ended with another status than those that were expected; its words are on standard error, or here."""
@@ -27,11 +31,21 @@ class Refused(Exception):
 
 def ask(words, given, good=(0,), quiet=False):
     """The lines that the program writes. What it says on standard error goes to standard error, or with `quiet` into the fault."""
+    return answer(words, given, good, quiet)[0]
+
+
+def answer(words, given, good=(0,), quiet=True):
+    """The lines that the program writes, and with `quiet` what it says on standard error."""
     with start(words, stdin=subprocess.PIPE, stdout=subprocess.PIPE, stderr=subprocess.PIPE if quiet else None) as process:
-        written, said = process.communicate(given)
+        try:
+            written, said = process.communicate(given, PATIENCE)
+        except subprocess.TimeoutExpired:
+            process.kill()
+            raise Refused(-signal.SIGKILL, '') from None
+    said = (said or b'').decode(**BYTES).strip()
     if process.returncode not in good:
-        raise Refused(process.returncode, (said or b'').decode(**BYTES).strip())
-    return written.decode(**BYTES).splitlines()
+        raise Refused(process.returncode, said)
+    return written.decode(**BYTES).splitlines(), said
 
 
 def start(words, limits=None, **pipes):

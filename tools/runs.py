@@ -2,6 +2,7 @@
 
 from bisect import bisect
 from collections import namedtuple
+from functools import lru_cache
 
 import bench
 
@@ -11,8 +12,9 @@ LINKS = ('AB', 'BA')
 Step = namedtuple('Step', 'number line actor action txn outcome sent')
 
 
+@lru_cache(1 << 14)
 def step_of(line):
-    """A step by its line: `12 B run 1 -> pulls 0 ! pull`."""
+    """A step by its line: `12 B run 1 -> pulls 0 ! pull`. It is kept, since zplay reads runs that begin alike."""
     choice, outcome = line.split(' -> ')
     outcome, _, sent = outcome.partition(' ! ')
     number, actor, action, *txn = choice.split()
@@ -122,6 +124,10 @@ class Run:
         self.lives = [life_of(txn, timeline) for txn, timeline in enumerate(self.txns)]
         self.left_locked = {step: number for number, page in enumerate(self.pages) for step in left_locked(page.map(page_words))}
         self.instrs = [''] + [self.instr_of(step) for step in self.steps]
+        self.tries = {}
+        for step in self.steps:
+            if step.action == 'run':
+                self.tries.setdefault(step.txn, []).append(step)
 
     def read_lines(self, lines):
         """Makes the timelines. A page that comes up later is '' until then."""

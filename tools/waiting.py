@@ -19,16 +19,24 @@ BEGINNINGS = {'waits': 'waits for %s', 'held': '%s stays', 'pulls': 'asks for %s
 Wait = namedtuple('Wait', 'word page place locks')
 
 
+def page_of(step):
+    """The number of the page that a step waits for; None where it waits for none."""
+    word, *number = step.outcome.split()
+    return int(number[0]) if word in BEGINNINGS else None
+
+
 def wait_of(run, step):
     """What a step waits for; None where it waits for no page."""
-    word, *number = step.outcome.split()
-    if word not in BEGINNINGS:
-        return None
-    where, _, _, locks = page_words(run.pages[int(number[0])].at(step.number))
+    page = page_of(step)
+    return None if page is None else wait_at(step, run.pages[page].at(step.number), rows_of(run, step, run.instrs[step.number].split()))
+
+
+def wait_at(step, line, rows=''):
+    """What a step waits for, by the line of its page."""
+    where, _, _, locks = page_words(line)
+    word, number = step.outcome.split()
     place = step.actor if word in ('waits', 'held') else where
-    tried = run.instrs[step.number].split()
-    others = [lock for lock in locks_at(place, locks) if lock[0] != step.txn]
-    return Wait(word, 'page ' + number[0] + rows_of(run, step, tried), place, others)
+    return Wait(word, 'page ' + number + rows, place, [lock for lock in locks_at(place, locks) if lock[0] != step.txn])
 
 
 def locks_at(place, locks):
@@ -51,18 +59,21 @@ def at(place):
     return ('at %s' if place in NODES else 'on link %s') % place
 
 
-def transaction(run, lock):
+def transaction(names, lock):
     """Who has a lock, and of which kind."""
-    return ' '.join(filter(None, ['transaction %d' % lock[0], run.names[lock[0]]])) + ' (%s)' % KINDS[lock[1]]
+    return ' '.join(filter(None, ['transaction %d' % lock[0], names[lock[0]]])) + ' (%s)' % KINDS[lock[1]]
 
 
 def sentence(run, step):
     """`waits for page 1 (row 30), locked at A by transaction 1 (exclusive)`; nothing where a step waits for no page."""
     wait = wait_of(run, step)
-    if not wait:
-        return ''
+    return said(wait, run.names) if wait else ''
+
+
+def said(wait, names):
+    """A wait as a sentence."""
     there = '' if wait.word in ('waits', 'held') else ', which is ' + at(wait.place)
-    holders = ' and '.join(transaction(run, lock) for lock in wait.locks)
+    holders = ' and '.join(transaction(names, lock) for lock in wait.locks)
     locked = ', locked %s by %s' % ('there' if there else at(wait.place), holders) if holders else ''
     return BEGINNINGS[wait.word] % wait.page + there + locked
 

@@ -1,6 +1,7 @@
 """The picture of a run below its head: lanes, pages, rows of the listing, and the marks in the lanes."""
 
 from collections import Counter
+from functools import cached_property
 from html import escape
 
 from picture.looks import look_of
@@ -19,21 +20,33 @@ class Picture:
         self.run, self.rows, self.title, self.check = run, rows, title, check
         self.differs = differences(run)
         self.verdict = verdict_line(run, self.differs)
-        self.place, self.sheet = Place(run, rows), Sheet()
-        draw(self.run, self.place, self.sheet)
+        self.place = Place(run, rows)
+
+    @cached_property
+    def sheet(self):
+        """All marks."""
+        sheet = Sheet()
+        draw(self.run, self.place, sheet, self.rows.rows)
+        return sheet
+
+    def piece(self, top, bottom):
+        """The marks that show between two heights, without the others being drawn."""
+        sheet = Sheet(top, bottom)
+        draw(self.run, self.place, sheet, self.rows.rows[max(0, int(top // ROW) - 1):int(bottom // ROW) + 2])
+        return sheet.part(top, bottom)
 
 
-def draw(run, place, sheet):
-    """Puts all marks on the sheet."""
+def draw(run, place, sheet, rows):
+    """Puts the marks on the sheet; of steps those of some rows in a row."""
     draw_modes(run, place, sheet)
     draw_pages(run, place, sheet)
     for life in filter(None, run.lives):
         draw_life(run, place, sheet, life)
     for message in run.messages:
         draw_message(run, place, sheet, message)
-    for step in run.steps:
+    for step in run.steps[max(0, rows[0][0] - 1):rows[-1][1]]:
         draw_step(run, place, sheet, step)
-    for row in place.rows.rows:
+    for row in rows:
         draw_text(run, place, sheet, row)
 
 
@@ -102,13 +115,18 @@ def draw_counts(run, place, sheet):
 
 def counted(pages):
     """How many pages are at A, on their way and at B, as a timeline."""
-    places = [(position, number, page_words(line)) for number, timeline in enumerate(pages) for position, line in timeline.changes]
-    where, counts = {}, {}
-    for position, number, page in sorted(places, key=lambda place: place[:2]):
-        where[number] = page[0] if page else ''
-        found = Counter(where.values())
-        counts[position] = (found['A'], found['AB'] + found['BA'], found['B'])
+    moves = [(position, number, place) for number, timeline in enumerate(pages) for position, place in timeline.map(place_of).changes]
+    where, found, counts = {}, Counter(), {}
+    for position, number, place in sorted(moves):
+        found[where.get(number)] -= 1
+        found[place] += 1
+        where[number], counts[position] = place, (found['A'], found['AB'] + found['BA'], found['B'])
     return Timeline(list(counts.items())).map(lambda three: three)
+
+
+def place_of(line):
+    """Where a page is, by its line; '' where there is no such page yet."""
+    return line.split(' ', 3)[2] if line else ''
 
 
 def draw_text(run, place, sheet, row):

@@ -16,8 +16,8 @@ def look_of(step):
 def stuck(run, life):
     """The stretches in which a transaction waits: from a step that says so to its next one that does not, or to its end."""
     start, found = None, []
-    for step in run.steps[life.begin:life.end]:
-        if step.txn == life.txn and step.action == 'run' and step.actor == life.node:
+    for step in run.tries.get(life.txn, []):
+        if life.begin < step.number <= (life.end or step.number) and step.actor == life.node:
             waits = step.outcome.split()[0] in STUCK
             if waits and start is None:
                 start = step.number

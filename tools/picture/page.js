@@ -3,6 +3,7 @@ const $ = id => document.getElementById(id);
 let D = null, pieces = [];            // the run, and its picture in pieces
 let now = -1, pinned = -1, zoom = 1;  // the step, the page that was clicked, and how large the picture is
 let onShow = () => {};                // what else is done when a step is shown
+let onMissing = () => {};             // what is done where pieces are in sight that are not there
 
 // The entry of a timeline that holds at a position.
 function at(line, n) {
@@ -24,7 +25,7 @@ function jumps(line, n) {
   const last = line.filter(([m]) => m < n).pop(), next = line.find(([m]) => m > n);
   return el('span', 'jumps', ...[[last, '◂', 'last'], [next, '▸', 'next']].map(([entry, sign, name]) => {
     const button = el('button', '', sign);
-    button.title = entry ? `the ${name} step at which this changes: ${entry[0]}` : 'no other change';
+    button.title = button.ariaLabel = entry ? `the ${name} step at which this changes: ${entry[0]}` : 'no other change';
     button.disabled = !entry;
     button.onclick = () => show(entry[0]);
     return button;
@@ -77,7 +78,7 @@ function pagesPart(n) {
 }
 function lockList(locked) {
   const items = locked.slice(0, 24).map(it => {
-    const item = el('a', it.fresh ? 'new' : '', `${it.p} ${it.locks.join(' ')}`);
+    const item = el('button', it.fresh ? 'new' : '', `${it.p} ${it.locks.join(' ')}`);
     item.onclick = () => { pinned = it.p; show(now); };
     return item;
   });
@@ -137,6 +138,7 @@ function drawing(inner, width, height, top = 0) {
   const made = document.createElementNS('http://www.w3.org/2000/svg', 'svg');
   made.setAttribute('viewBox', `0 ${top} ${width} ${height}`);
   made.dataset.height = height;
+  made.setAttribute('aria-hidden', 'true');
   made.innerHTML = inner;
   return made;
 }
@@ -156,15 +158,17 @@ function fit() {
   $('rows').style.height = D.height * zoom + 'px';
 }
 function drawSight() {
-  const top = $('view').scrollTop, height = $('view').clientHeight - $('top').offsetHeight;
+  const top = $('view').scrollTop, height = $('view').clientHeight - $('top').offsetHeight, missing = [];
   pieces.forEach((piece, k) => {
     const near = (k + 1) * D.chunk * zoom > top - 400 && k * D.chunk * zoom < top + height + 400;
-    if (near && !piece.firstChild) piece.innerHTML = D.pieces[k];
+    if (near && !piece.firstChild && D.pieces[k] !== undefined) piece.innerHTML = D.pieces[k];
+    if (near && D.pieces[k] === undefined) missing.push(k);
     if (!near && piece.firstChild) piece.replaceChildren();
   });
   const whole = $('strip').clientHeight / (D.height * zoom);
   $('sight').style.top = top * whole + 'px'; $('sight').style.height = Math.min(D.height * zoom, height) * whole + 'px';
   light();
+  if (missing.length) onMissing(missing);
 }
 function light() {
   for (const line of document.querySelectorAll('.msg.on')) line.classList.remove('on');
@@ -191,7 +195,7 @@ function load(run, n) {
   strip.style.setProperty('--thick', D.overview.thick);
   $('whole').replaceChildren(strip);
   document.querySelector('main').classList.toggle('whole', D.overview.rows <= 45);
-  pieces = D.pieces.map((_, k) => drawing('', D.width, Math.min(D.chunk, D.height - k * D.chunk), k * D.chunk));
+  pieces = Array.from({length: Math.ceil(D.height / D.chunk)}, (_, k) => drawing('', D.width, Math.min(D.chunk, D.height - k * D.chunk), k * D.chunk));
   for (const old of document.querySelectorAll('#rows>svg')) old.remove();
   $('rows').append(...pieces);
   $('top').replaceChildren(drawing(D.head, D.width, 44));
@@ -203,6 +207,7 @@ function load(run, n) {
 function show(n) {
   now = Math.max(0, Math.min(D.last, n));
   $('slide').value = now;
+  $('slide').ariaValueText = `step ${now} of ${D.last}`;
   $('where').textContent = `${now} of ${D.last}`;
   $('line').textContent = D.lines[now].replace('->', '→');
   $('gloss').textContent = gloss(now);

@@ -29,29 +29,42 @@ def filled(html_text, parts):
 
 
 def data_of(picture):
-    """What the script shows: the pieces of the drawing, and the run."""
+    """What the script shows: the run, and all pieces of the drawing."""
+    return {**run_of(picture), 'pieces': [picture.sheet.part(*piece) for piece in pieces(picture)]}
+
+
+def pieces(picture):
+    """The heights between which each piece of the drawing is."""
+    return [(top, top + CHUNK * ROW) for top in range(0, picture.place.height, CHUNK * ROW)]
+
+
+# A step behind every other.
+NEVER = 1 << 20
+
+
+def run_of(picture):
+    """What the script shows of the run."""
     run, place = picture.run, picture.place
     glosses, gloss = glossed(run.steps)
     key, tall = draw_key(place.width)
     return {
         'last': len(run.steps), 'row': ROW, 'rowOf': picture.rows.of, 'width': place.width, 'height': place.height, 'chunk': CHUNK * ROW,
-        'pieces': [picture.sheet.part(top, top + CHUNK * ROW) for top in range(0, place.height, CHUNK * ROW)],
         'head': draw_head_row(run, place), 'key': key, 'tall': tall, 'overview': overview(run, picture.rows),
         'chips': chips(run), 'verdict': verdict(picture),
         'lines': ['0 opening'] + [step.line for step in run.steps], 'instrs': run.instrs, 'glosses': glosses, 'gloss': gloss,
         'waits': waits(run),
-        'marks': [step.number for step in run.steps if look_of(step) in ('ok', 'bad', 'wait', 'split') or notable(run, step)],
+        'marks': marks(run),
         'modes': {node: run.modes[node].changes for node in NODES}, 'pages': [page.changes for page in run.pages],
         'txns': [txn.changes for txn in run.txns], 'names': [run.name(txn) for txn in range(len(run.txns))],
         'programs': run.programs, 'actors': [0] + [step.txn if step.txn is not None else -1 for step in run.steps],
-        'messages': [(message.link, message.text, message.sent, message.taken or len(run.steps) + 1) for message in run.messages]}
+        'messages': [(message.link, message.text, message.sent, message.taken or NEVER) for message in run.messages]}
 
 
 def glossed(steps):
     """The sentences on the outcomes, each once, and for each step the number of its own."""
-    meaning = meanings({step.outcome for step in steps})
-    glosses = sorted(set(meaning.values()))
-    return glosses, [glosses.index(meaning[step.outcome]) for step in steps]
+    meaning, numbers = meanings({step.outcome for step in steps}), {}
+    gloss = [numbers.setdefault(meaning[step.outcome], len(numbers)) for step in steps]
+    return list(numbers), gloss
 
 
 def waits(run):
@@ -60,9 +73,10 @@ def waits(run):
     return {number: found[0].upper() + found[1:] + '.' for number, found in words.items() if found}
 
 
-def notable(run, step):
-    """Whether a step changes a mode, or a locked page leaves."""
-    return step.number in run.left_locked or any(start == step.number for node in NODES for start, _ in run.modes[node].changes)
+def marks(run):
+    """The steps to which `n` and `p` go: commits, aborts, waits and splits, those that change a mode, and those in which a locked page leaves."""
+    others = set(run.left_locked) | {start for node in NODES for start, _ in run.modes[node].changes}
+    return [step.number for step in run.steps if look_of(step) in ('ok', 'bad', 'wait', 'split') or step.number in others]
 
 
 def chips(run):

@@ -2,35 +2,25 @@
 is: its choices are those up to the cursor, except where the whole run is asked for."""
 
 import os
-import pty
 import re
 import resource
-import select
 from concurrent.futures import ThreadPoolExecutor
 
 import bench
 import outcomes
 import runs
-from picture.drawing import Picture
 from picture.looks import look_of
-from picture.page import data_of
-from picture.rows import LONG, Rows
-from picture.serial import commit_order, migration_order
+from picture.page import CHUNK
 from picture.svg import svg
+from play.keeping import changes, kept, known
 from prompt.session import LIMIT, Session, choices_of
+from waiting import page_of, said, wait_at
 
-# What a search may look for, and how the page says it.
-GOALS = {
-    'differs': 'rows that are not those of the commit order', 'stuck': 'transactions that are stuck',
-    'deadlock': 'transactions that wait in a cycle', 'committed': 'all committed',
-    'aborted': 'an abort',
-    **{why: 'an abort: ' + why for why in ('own', 'killed', 'badkey', 'missing', 'duplicate', 'frozen', 'nopage', 'gone')}}
-
-# What one call of the program may take, and what a search may: seconds of a processor, and bytes of memory.
+# What one call of the program may take: seconds of a processor, and bytes of memory.
 LIMITS = {resource.RLIMIT_CPU: 20, resource.RLIMIT_AS: 2 << 30}
-SEARCH_LIMITS = {resource.RLIMIT_CPU: 600, resource.RLIMIT_AS: 4 << 30}
+PATIENCE = 60  # seconds of the clock
 
-STOPPED = 'was stopped: it took more time or memory than it may'
+STOPPED = 'was stopped: it took more time or memory than it may, or somebody ended it'
 
 # The choices of a round that lets a migration go on; the transactions of its source are added.
 ROUND = ['A take', 'B take', 'A finish', 'B finish', 'A push', 'B push']
@@ -38,24 +28,29 @@ ROUND = ['A take', 'B take', 'A finish', 'B finish', 'A push', 'B push']
 # As many rounds are tried at a time.
 ROUNDS = 64
 
-# The most choices of a question: those of 64 transactions are fewer.
-MOST = 512
+# The most choices of a question: those of 64 transactions are fewer; and the most pieces of a drawing.
+MOST, MOST_PIECES = 512, 16
 
 POOL = ThreadPoolExecutor(len(os.sched_getaffinity(0)))
 
-SEARCHES = set()  # those that are under way
-
-
-def picture_of(asked):
-    """The picture of the whole run."""
-    run = runs.read(asked['text'], quiet=True)
-    return Picture(run, Rows(run.steps, len(run.steps) > LONG), str(asked.get('title', '')))
-
 
 def whole_run(asked):
-    """The run, as the page of `zview` has it, with the rows that the serial run leaves otherwise, its order, and the one that explains this run."""
-    picture = picture_of(asked)
-    return dict(data_of(picture), differs=picture.differs, order=commit_order(picture.run), explained=migration_order(picture.run))
+    """The run as the page of `zview` has it: what is another than in the run that the page shows, and the pieces of the drawing near a position."""
+    base, old = known(asked.get('base', ''))
+    name, run = kept(asked['text'], title_of(asked))
+    row = run.shown['rowOf'][max(0, min(asked.get('at', 0), run.shown['last']))]
+    near = row // CHUNK
+    return {'name': name, 'base': base, **changes(old, run.shown), 'pieces': run.pieces([near - 1, near, near + 1])}
+
+
+def drawn(asked):
+    """Pieces of the drawing of a run, by number."""
+    _, run = kept(asked['text'], title_of(asked))
+    return {'pieces': run.pieces([int(number) for number in asked['numbers'][:MOST_PIECES]])}
+
+
+def title_of(asked):
+    return str(asked.get('title', ''))
 
 
 def fault_of(refused):
@@ -79,13 +74,25 @@ def tried(text, choice):
 
 
 def outcomes_of(asked):
-    """For each of some choices what would come of it, whether it would change anything, and what that is."""
+    """For each of some choices what would come of it, whether it would change anything, what that is, and whom it waits for."""
     (_, before), *after = POOL.map(lambda choice: tried(asked['text'], choice), [''] + asked['choices'][:MOST])
     steps = [runs.step_of(line) for line, _ in after]
-    meaning = outcomes.meanings({step.outcome for step in steps})
-    return [{'outcome': step.line.split(' -> ')[1], 'look': look_of(step), 'acts': state != before,
+    meaning, waits = outcomes.meanings({step.outcome for step in steps}), waits_of(asked['text'], steps)
+    return [{'outcome': step.line.split(' -> ')[1], 'look': look_of(step), 'acts': state != before, 'waits': wait,
              'says': '\n'.join([meaning[step.outcome]] + [line for line in state if line not in before])}
-            for step, (_, state) in zip(steps, after)]
+            for step, (_, state), wait in zip(steps, after, waits)]
+
+
+def waits_of(text, steps):
+    """Whom each of some steps waits for that are made behind a text; '' where it waits for no page. The debugger has the lines of the pages there: none
+    of these steps changes one."""
+    pages = sorted({page_of(step) for step in steps} - {None})
+    if not pages:
+        return [''] * len(steps)
+    commands = ['goto %d' % (steps[0].number - 1)] + ['page %d' % page for page in pages]
+    replies = bench.ask(['debug'], '\n'.join([bench.cut(text)[0].rstrip('\n'), *commands, '']).encode(**bench.BYTES), quiet=True)
+    lines, names = dict(zip(pages, replies[1:])), bench.names_of(text)
+    return [said(wait_at(step, lines[page_of(step)]), names) if page_of(step) in lines else '' for step in steps]
 
 
 def until(asked):
@@ -139,68 +146,5 @@ def saved(asked):
     """A file of the run: the listing, or the picture."""
     if asked['as'] == 'listing':
         return {'file': '\n'.join(bench.ask(['run'], asked['text'].encode(**bench.BYTES), quiet=True) + [''])}
-    picture = picture_of(asked)
+    picture = kept(asked['text'], title_of(asked))[1].picture
     return {'file': svg(picture, (0, len(picture.run.steps)))}
-
-
-# ---- search
-
-def searched(asked):
-    """What a search reports: how far it is, once a second, or the same again; at last its answer. Whoever closes this ends the search."""
-    if asked['for'] not in GOALS:
-        raise KeyError('for')
-    position = int(asked['position'])
-    words = ['search', '--for', asked['for'], '--states', '%d' % asked['states']] + (['--kill'] if asked['kill'] else [])
-    given, found, (reader, terminal) = memory(asked['text'].encode(**bench.BYTES)), memory(b''), pty.openpty()
-    process, line = bench.start(words, SEARCH_LIMITS, stdin=given, stdout=found, stderr=terminal), ''
-    SEARCHES.add(process)
-    os.close(terminal)
-    try:
-        for piece in pieces(reader):
-            line = ([line] + [part for part in re.split(r'[\r\n]|\x1b\[K', piece) if part])[-1]
-            yield {'progress': line}
-        status = process.wait()
-        os.lseek(found, 0, os.SEEK_SET)
-        with open(found, encoding='utf-8', closefd=False) as file:
-            yield answer(position, status, line, file.read())
-    finally:
-        process.kill()
-        process.wait()
-        SEARCHES.discard(process)
-        for descriptor in (given, found, reader):
-            os.close(descriptor)
-
-
-def stop():
-    """Ends the searches that are under way."""
-    for process in list(SEARCHES):
-        process.kill()
-
-
-def memory(content):
-    """A file without a name, which has some bytes."""
-    file = os.memfd_create('zplay')
-    os.write(file, content)
-    os.lseek(file, 0, os.SEEK_SET)
-    return file
-
-
-def pieces(terminal):
-    """What comes to a terminal until it is closed; nothing each half second."""
-    while True:
-        piece = ''
-        if select.select([terminal], [], [], 0.5)[0]:
-            try:
-                piece = os.read(terminal, 4096).decode(errors='replace')
-            except OSError:
-                return
-        yield piece
-
-
-def answer(position, status, line, text):
-    """The answer of a search in the words of its last line, and the choices that it found behind a position."""
-    words = line.partition('zy_bench: ')[2] or 'the search ' + STOPPED
-    if status:
-        return {'found': None, 'words': words}
-    choices = [choice for choice in text.split('\n') if choice.split(' ')[0] in ('A', 'B', 'C')]
-    return {'found': choices[position:], 'words': words}

@@ -1,33 +1,11 @@
 // The page of zplay: a text, the run of it (`D`, which page.js shows), and the choices that can be made next. What a step does is asked of
 // the server; here texts are changed and answers shown.
-const given = JSON.parse($('given').textContent);
 const ACTORS = ['C', 'A', 'B'];
 let name = given.name;
 let doc = {text: '', at: 0};            // the text, and the position that is wanted
 const past = [], future = [];           // what it was, and what it was before an undo
 let question = 0, busy = false;         // the number of the last question for a run, and whether its answer is still to come
 let typed = 0;                          // when the text was last typed in
-let found = null;                       // the first and the last step that a search added
-
-const unreachable = error => { throw error.name === 'AbortError' ? error : new Error('zplay does not answer: is it still running?'); };
-const post = (path, body, signal) => fetch(path, {method: 'POST', body: JSON.stringify(body), signal}).catch(unreachable);
-async function ask(path, body, signal) {
-  const answer = await post(path, body, signal);
-  if (!answer.ok) throw new Error(await answer.text());
-  return answer.json();
-}
-// Words for the user, beside the buttons.
-const note = words => { $('note').textContent = words; };
-// Work whose failure is noted; that it was given up is none.
-const guarded = work => async (...inputs) => {
-  try {
-    await work(...inputs);
-  } catch (error) {
-    if (error.name !== 'AbortError') note(error.message);
-  }
-};
-// Work that is done once nothing has asked for it for a while, in milliseconds.
-const debounced = (work, wait) => { let clock; return () => { clearTimeout(clock); clock = setTimeout(work, wait); }; };
 
 // ---- the text
 const wordsOf = line => line.split(';')[0].split(/\s+/).filter(word => word);
@@ -110,24 +88,29 @@ function markStep() {
 // Takes another text, and shows its run at a position; Infinity is its end.
 async function setText(text, at) {
   doc = {text, at};
+  put({text, same: branchOf(current).text === text ? branchOf(current).same : undefined});
   if ($('text').value !== text) $('text').value = text;
   paint();
+  $('beside').hidden = true;
   const mine = ++question;
   busy = true;
   try {
-    const run = await ask('run', {text, title: name});
+    const title = name, answer = await ask('run', {text, title, at: Math.min(at, 4096), base: D ? D.name : ''});
     if (mine !== question) return;
     busy = false;
-    showFault(run.fault);
-    if (run.fault) return;
+    showFault(answer.fault);
+    if (answer.fault) return;
+    const run = {...runOf(answer), text, title};
+    put({same: run.verdict[0][1]});
+    drawTree();
     load(run, at);
-    drawSerial();
   } finally {
     if (mine === question) busy = false;
   }
 }
 function showFault(fault) {
   document.body.classList.toggle('stale', !!fault);
+  $('text').ariaInvalid = String(!!fault);
   $('fault').textContent = fault ? (fault.line ? `line ${fault.line}: ` : '') + fault.words : '';
   const line = mark('wrong', fault ? fault.line - 1 : -1);
   if (line && document.activeElement !== $('text')) line.scrollIntoView({block: 'nearest'});
@@ -136,11 +119,16 @@ onShow = () => {
   if (!busy) doc.at = now;
   markStep();
   drawFound();
+  drawVerdict();
+  drawSpot();
+  drawNodes();
   drawNext();
   storeSoon();
 };
+// What undo brings back: the text with its position, and the branches.
+const snapshot = () => ({doc: {...doc}, branches, current, name});
 function remember() {
-  past.push({...doc});
+  past.push(snapshot());
   future.length = 0;
   drawUndo();
 }
@@ -149,49 +137,93 @@ function drawUndo() {
   $('undo').disabled = !past.length;
   $('redo').disabled = !future.length;
 }
-// Choices behind the shown step, in the place of those that are there.
+// Makes choices behind a position. Where a branch has them there already it is shown; else where other choices come next, or where a search found
+// these, they make a new branch.
 function make(choices, from = doc, isFound = false) {
-  const aside = D.last - from.at;
+  const isOfThese = scheduleOf(from.text).head === scheduleOf(doc.text).head;  // else the names are other ones
+  const text = edited(from.text, from.at, isOfThese ? choices.map(named) : choices), at = from.at + choices.length;
+  const there = [branchOf(current), ...branches].find(branch => begins(branch, text)), more = isFound ? {found: [from.at + 1, at]} : {};
   remember();
-  found = isFound ? [from.at + 1, from.at + choices.length] : null;
-  note(aside > 0 && !busy ? `${aside} ${aside === 1 ? 'choice' : 'choices'} set aside; undo brings them back` : '');
-  return setText(edited(from.text, from.at, choices.map(named)), from.at + choices.length);
+  note('');
+  if (there) return visit(there.id, at, more);
+  if (isFound || from.text !== doc.text || from.at < scheduleOf(doc.text).choices.length) {
+    fork(text);
+    put(more);
+    note(`branch ${current} begins here; branch ${previous} stays as it is`);
+  }
+  return setText(text, at);
+}
+// Takes the choices behind the shown step away.
+function cut() {
+  if (now === D.last) return;
+  remember();
+  note(`${D.last - now} ${D.last - now === 1 ? 'choice is' : 'choices are'} taken away; undo brings them back`);
+  return setText(textHere(), now);
 }
 // The text up to the shown step.
 const textHere = () => edited(doc.text, doc.at, []);
 
 function undo(from, to) {
   if (!from.length) return note('nothing was done');
-  to.push({...doc});
-  found = null;
+  to.push(snapshot());
   note('');
-  const {text, at} = from.pop();
+  const before = from.pop();
+  ({branches, current, name} = before);
+  showName();
   drawUndo();
-  return setText(text, at);
+  return setText(before.doc.text, before.doc.at);
 }
 // The edge beside the steps that a search added.
 function drawFound() {
-  const box = $('added');
+  const box = $('added'), {found} = branchOf(current);
   box.style.height = 0;
   if (!found || found[1] > D.last || found[1] < found[0]) return;
   place(box, found[0]);
   box.style.height = (D.rowOf[found[1]] - D.rowOf[found[0]] + 1) * row() + 'px';
 }
 
-// The two databases, where they differ.
-function drawSerial() {
-  const differs = new Map(D.differs.map(([key, ...both]) => [key, both]));
-  const rows = new Map(D.pages.flatMap((_, p) => page(D.last, p).rows.map(line => line.split('='))));
-  for (const [key, both] of differs) if (!rows.has(key)) rows.set(key, both[0]);
-  const few = rows.size <= 8, shown = [...rows].filter(([key]) => few || differs.has(key)).sort(([a], [b]) => a - b);
-  const cells = shown.map(([key, value]) => el('tr', differs.has(key) ? 'wrong' : '', ...[key, ...(differs.get(key) || [value, value])].map(
-    word => el('td', '', word))));
-  const head = el('tr', '', ...['key', 'this run', 'serial run'].map(word => el('th', '', word)));
-  const [order, explained] = [D.order, D.explained].map(txns => txns.map(t => D.names[t]).join(', then '));
-  const table = differs.size ? el('table', '', head, ...cells) : el('p', '', 'Its rows are not known here.');
-  $('serial').replaceChildren(...(D.verdict[0][1] ? [] : [el('h2', '', 'the end of this run, and of the serial run'),
-    el('p', '', `The serial run: ${order}.`), el('p', '', `The rows of this run are those of ${explained}.`), table, el('small', '', few ? '' : `and ${rows.size - shown.length} rows that are alike`)]));
+// ---- the verdict
+const verdicts = new Map();             // by the text up to a commit
+
+// The last step up to a position that is a commit; 0 where there is none. Only a commit changes the database, and so the verdict.
+function commitBefore(n) {
+  while (n && !D.lines[n].includes('-> committed ')) n--;
+  return n;
 }
+const textToCommit = () => edited(doc.text, commitBefore(now), []);
+// Transactions in an order; of many the first and the last ones.
+function namesOf(txns) {
+  const names = txns.map(t => D.names[t]), left = names.length - 12;
+  return (left > 1 ? [...names.slice(0, 8), `${left} others`, ...names.slice(-4)] : names).join(', then ');
+}
+const verdictChip = same => el('span', 'chip ' + (same ? 'good' : 'wrong'), same ? 'serial same' : 'serial differs');
+
+function drawVerdict() {
+  const found = verdicts.get(textToCommit());
+  $('serial').classList.toggle('pending', !found);
+  $('here').classList.toggle('pending', !found);
+  if (!found) return judgeSoon();
+  $('here').replaceChildren(verdictChip(found.same));
+  $('serial').replaceChildren(el('h2', '', `database after step ${now}`), ...verdictParts(found));
+}
+function verdictParts({same, order, explained, known, rows}) {
+  const by = order.length ? `One by one in commit order: ${namesOf(order)}.` : 'Nothing is committed.';
+  const why = explained.length ? `The rows are those of ${namesOf(explained)}: in each migration who committed at the source comes first.` : '';
+  const shown = rows.filter(([, here, there]) => rows.length <= 8 || here !== there);
+  const table = el('table', '', el('tr', '', ...['key', 'here', 'one by one'].map(word => el('th', '', word))), ...shown.map(rowCells));
+  const more = rows.length > shown.length ? `${rows.length - shown.length} ${shown.length ? 'other ' : ''}rows are alike` : '';
+  return [el('p', '', verdictChip(same), ' ', by), el('p', '', why), known ? table : el('p', '', 'Which rows differ is not known.'), el('small', '', more)]
+    .filter(part => part.textContent && part.querySelector('td') || !part.matches('table') && part.textContent);
+}
+const rowCells = row => el('tr', row[1] === row[2] ? '' : 'wrong', ...row.map(word => el('td', '', word)));
+const judgeSoon = debounced(guarded(async () => {
+  if (busy) return;                     // the next run asks again
+  const text = textToCommit(), found = await ask('verdict', {text});
+  if (found.fault) return;              // the page says so of the whole text
+  if (verdicts.size > 200) verdicts.clear();
+  verdicts.set(text, found);
+  drawVerdict();
+}), 30);
 
 // ---- the next choice
 const known = new Map();                // what would come of choices, by the text that they are made behind
@@ -222,7 +254,8 @@ function choiceButton(choice, outcome) {
   const parts = [el('b', '', action + whom), el('code', '', about(choice)), el('span', '', outcome ? outcome.outcome : '…')];
   const button = el('button', 'choice ' + look, ...parts);
   button.dataset.choice = choice;
-  button.title = outcome ? outcome.says : '';
+  button.ariaLabel = [action + whom, about(choice), outcome && outcome.outcome, outcome && !outcome.acts && 'changes nothing'].filter(word => word).join(', ');
+  button.title = outcome ? [outcome.says, outcome.waits].join('\n').trim() : '';
   button.tabIndex = -1;
   button.onclick = event => event.shiftKey && action === 'run' ? runUntil(choice) : guarded(make)([choice]);
   return action === 'run' ? el('div', 'pair', button, untilButton(choice)) : button;
@@ -230,6 +263,7 @@ function choiceButton(choice, outcome) {
 function untilButton(choice) {
   const button = el('button', 'until', '»');
   button.title = 'Shift+Enter: until it waits, asks for a page, ends or can do nothing';
+  button.ariaLabel = `run ${nameOf(choice.split(' ')[2]) || choice.split(' ')[2]} until it waits, asks for a page, ends or can do nothing`;
   button.tabIndex = -1;
   button.onclick = () => runUntil(choice);
   return button;
@@ -238,12 +272,15 @@ function laneOf(actor, choices, outcomeOf) {
   const head = el('h3', actor, actor === 'C' ? 'client' : 'node ' + actor);
   if (actor !== 'C') head.append(modeChip(actor, now));
   const lane = el('div', 'lane', head, ...choices.map(choice => choiceButton(choice, outcomeOf(choice))));
+  lane.setAttribute('role', 'group');
+  lane.ariaLabel = actor === 'C' ? 'choices of the client' : `choices of node ${actor}`;
   lane.querySelector('.choice').tabIndex = 0;
   return lane;
 }
 function drawLanes(lanes, outcomes) {
   const focus = document.activeElement.closest('#lanes') && document.activeElement.dataset.choice;
   const all = Object.values(lanes).flat(), outcomeOf = choice => outcomes && outcomes[all.indexOf(choice)];
+  if (outcomes) drawWaits(all, outcomes);
   $('lanes').replaceChildren(...ACTORS.map(actor => laneOf(actor, lanes[actor], outcomeOf)));
   if (focus) ($('lanes').querySelector(`[data-choice="${focus}"]`) || $('lanes').querySelector('.choice')).focus();
 }
@@ -262,7 +299,7 @@ const lookUpSoon = debounced(guarded(async () => {
   lookup.abort();
   lookup = new AbortController();
   const outcomes = await ask('outcomes', {text, choices}, lookup.signal);
-  const none = () => ({outcome: '', look: 'quiet', acts: false, says: outcomes.fault.words});  // as where there is no room for one more choice
+  const none = () => ({outcome: '', look: 'quiet', acts: false, waits: '', says: outcomes.fault.words});  // as where there is no room for one more choice
   if (known.size > 200) known.clear();
   known.set(text, outcomes.fault ? choices.map(none) : outcomes);
   if (text === textHere() && !busy) drawLanes(lanes, known.get(text));
@@ -276,7 +313,6 @@ async function makeAnswered(path, body) {
 }
 const runUntil = guarded(choice => makeAnswered('until', {text: textHere(), choice}));
 const migrate = guarded(() => makeAnswered('migrate', {text: textHere()}));
-const cut = () => { if (now < D.last) guarded(make)([]); };
 
 // Arrows move between the choices; a click leaves them to the cursor.
 $('lanes').onmousedown = event => event.preventDefault();
@@ -289,41 +325,6 @@ $('lanes').onkeydown = event => {
   if (to) { event.stopPropagation(); (to() || event.target).focus(); }
   if (runs) runUntil(event.target.dataset.choice);
 };
-
-// ---- search
-let searching = null;                   // what cancels the search that is under way
-
-const search = guarded(async () => {
-  if (searching) return searching.abort();
-  const from = {text: textHere(), at: now};
-  const body = {text: from.text, position: now, for: $('what').value, kill: $('kill').checked, states: +$('states').value};
-  searching = new AbortController();
-  $('go').textContent = 'Cancel';
-  $('report').textContent = 'searching';
-  try {
-    const answer = await post('search', body, searching.signal);
-    await eachLine(answer.body.pipeThrough(new TextDecoderStream()).getReader(), line => report(JSON.parse(line), from));
-  } catch (error) {
-    $('report').textContent = error.name === 'AbortError' ? 'cancelled' : 'the search broke off';
-  } finally {
-    searching = null;
-    $('go').textContent = 'Search';
-  }
-});
-async function eachLine(reader, work) {
-  let rest = '';
-  for (let piece; !(piece = await reader.read()).done;) {
-    const lines = (rest + piece.value).split('\n');
-    rest = lines.pop();
-    lines.forEach(work);
-  }
-}
-// Shows how far a search is, or its answer.
-function report({progress, words, found: choices}, from) {
-  if (words || progress) $('report').textContent = words || progress;
-  if (choices && choices.length) guarded(make)(choices, from, true);
-  if (choices && !choices.length) $('report').textContent += '; it is so here already';
-}
 
 // ---- files and the address
 function download(file, ending, type) {
@@ -365,8 +366,8 @@ const setTypedSoon = debounced(guarded(() => setText($('text').value, doc.at)), 
 $('text').oninput = () => {
   if (Date.now() - typed > 1500) remember();
   typed = Date.now();
-  found = null;
   doc = {text: $('text').value, at: doc.at < D.last ? doc.at : Infinity};
+  put({text: doc.text, same: undefined, found: null});
   busy = true;
   paint();
   setTypedSoon();
@@ -381,23 +382,35 @@ $('text').onkeydown = event => {
 function begin(text, title) {
   remember();
   name = title;
-  found = null;
-  document.title = name + ' · zplay';
+  [branches, current, previous] = [[{id: 1, text}], 1, 0];
+  closeBeside();
+  showName();
   guarded(setText)(text, Infinity);
 }
 $('example').append(...Object.keys(given.examples).map(title => new Option(title.replace(/_/g, ' '), title)));
-if (!(given.name in given.examples)) $('example').prepend(new Option(given.name, ''));
-$('example').value = given.name in given.examples ? given.name : '';
-$('example').onchange = event => begin(given.examples[event.target.value] || given.text, event.target.value || given.name);
+// Shows what the scenario is named: an example, or the file that was opened last, which has an option of its own.
+let own = null;
+function showName() {
+  $('example').value = name in given.examples ? name : '';
+  document.title = name + ' · zplay';
+}
+function setOwn(text, title) {
+  if (own) $('example').querySelector('[value=""]').remove();
+  own = {text, title};
+  $('example').prepend(new Option(title, ''));
+}
+if (!(given.name in given.examples)) setOwn(given.text, given.name);
+showName();
+$('example').onchange = event => begin(given.examples[event.target.value] || own.text, event.target.value || own.title);
 $('file').onchange = async event => {
   const file = event.target.files[0];
-  if (file) begin((await file.text()).replace(/\r\n/g, '\n'), file.name.replace(/\.\w+$/, ''));
+  if (!file) return;
+  setOwn((await file.text()).replace(/\r\n/g, '\n'), file.name.replace(/\.\w+$/, ''));
+  begin(own.text, own.title);
 };
-$('what').append(...Object.entries(given.goals).map(([goal, words]) => new Option(words, goal)));
-$('search').onsubmit = event => { event.preventDefault(); search(); };
 $('undo').onclick = () => guarded(undo)(past, future);
 $('redo').onclick = () => guarded(undo)(future, past);
-$('cut').onclick = cut;
+$('cut').onclick = guarded(cut);
 $('migrate').onclick = migrate;
 for (const button of document.querySelectorAll('[data-as]')) button.onclick = () => save(button.dataset.as);
 $('link').onclick = guarded(async () => {
@@ -405,9 +418,11 @@ $('link').onclick = guarded(async () => {
   const copied = await navigator.clipboard.writeText(location.href).then(() => true, () => false);
   note(copied ? 'the address is copied: it has the whole run in it' : 'the address of this page has the whole run in it');
 });
+const toTree = () => branches.length > 1 ? $('branches').querySelector('[aria-current]').focus() : note('there is one branch');
 const toLane = actor => () => $('lanes').children[ACTORS.indexOf(actor)].querySelector('.choice').focus();
-Object.assign(KEYS, {u: $('undo').onclick, r: $('redo').onclick, x: cut, m: migrate, s: () => $('what').focus(), e: () => $('text').focus(),
-  c: toLane('C'), a: toLane('A'), b: toLane('B'), Escape: () => $('view').focus()});
+Object.assign(KEYS, {u: $('undo').onclick, r: $('redo').onclick, x: guarded(cut), m: migrate, s: () => $('goal').focus(), e: () => $('text').focus(),
+  c: toLane('C'), a: toLane('A'), b: toLane('B'), t: toTree, d: () => layBeside(),
+  '[': () => guarded(neighbour)(-1), ']': () => guarded(neighbour)(1), Escape: () => { closeBeside(); $('view').focus(); }});
 addEventListener('hashchange', event => guarded(arrive)(new URL(event.newURL).hash));
 addEventListener('click', event => { if (!event.target.closest('.menu')) document.querySelector('.menu').open = false; });
 drawUndo();

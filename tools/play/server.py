@@ -8,7 +8,7 @@ from itertools import chain
 from urllib.parse import parse_qs, urlsplit
 
 import bench
-from play import desk
+from play import beside, desk, searching, verdict
 from prompt.session import Fault
 
 HOST = '127.0.0.1'
@@ -19,7 +19,8 @@ LONGEST = 5 << 20
 # At most this many questions are at work at a time; others wait.
 ROOM = threading.BoundedSemaphore(8)
 
-ANSWERS = {'/run': desk.whole_run, '/outcomes': desk.outcomes_of, '/until': desk.until, '/migrate': desk.migrated, '/save': desk.saved}
+ANSWERS = {'/run': desk.whole_run, '/pieces': desk.drawn, '/outcomes': desk.outcomes_of, '/until': desk.until, '/migrate': desk.migrated, '/save': desk.saved,
+           '/verdict': verdict.verdict_of, '/beside': beside.beside}
 
 # The page takes nothing from elsewhere, sends nothing there, and stands in no other page.
 HEADERS = {
@@ -119,14 +120,14 @@ class Handler(BaseHTTPRequestHandler):
                 return self.search(asked) if self.path == '/search' else self.send_json(ANSWERS[self.path](asked))
         except bench.Refused as refused:
             return self.send_json({'fault': desk.fault_of(refused)})
-        except Fault as fault:
+        except (Fault, SystemExit) as fault:  # a program that cannot be started ends a script
             return self.send_json({'fault': {'line': 0, 'words': str(fault)}})
-        except (KeyError, TypeError, ValueError, AttributeError):
+        except (LookupError, TypeError, ValueError, AttributeError, RecursionError):
             return self.send(400, 'text/plain', b'no such question')
 
     def search(self, asked):
         """Sends what a search reports as it comes, a line each; a browser that goes away ends it."""
-        reports = desk.searched(asked)
+        reports = searching.searched(asked)
         first = next(reports)
         self.send_head(200, 'application/x-ndjson', {})
         try:

@@ -1,0 +1,456 @@
+"""What is tested of the page of zplay, in Chromium and Firefox."""
+
+import json
+import os
+import re
+import subprocess
+import tempfile
+
+import firefox
+from case import EXAMPLES, PROGRAM, content
+from playing import ANOMALY, DEADLOCK, HELD, MIGRATION, NOTED, SMALLEST, VERDICTS, ZVIEW, Page, Play, bare, first_choices, head, loops, steps_of, zy_bench
+
+# Clicks choices, one after the other: for each what its button showed, and whether it was grey; null where there was none.
+CLICKED = '''(async choices => {
+  const ready = async () => {
+    for (const end = Date.now() + 30000; !D || busy || !known.has(textHere());) {
+      if (Date.now() > end) throw new Error(`no outcomes come at ${now}: ${busy} ${$('note').textContent}`);
+      await new Promise(done => setTimeout(done, 4));
+    }
+  };
+  const shown = [];
+  for (const choice of choices) {
+    await ready();
+    const button = document.querySelector(`[data-choice="${choice}"]`);
+    shown.push(button && [button.querySelector('span').textContent, button.matches('.still')]);
+    if (button) button.click(); else make([choice]);
+  }
+  await ready();
+  return shown;
+})(%s)'''
+
+
+def example(page, path):
+    """What is wrong with a schedule that is clicked together."""
+    text = content(path).decode()
+    listing, changes = zy_bench(['run'], text.encode()), changes_of(text)
+    page.begin(bare(text))
+    steps = steps_of(listing)
+    shown = page.value(CLICKED % json.dumps([choice for choice, _ in steps]))
+    # What can do nothing has no button: another node's transaction, one that has ended.
+    found = ['step %d: the button showed %r, wanted %r' % (number, seen, outcome) for number, (seen, (_, outcome)) in enumerate(zip(shown, steps), 1)
+             if (seen or [outcome, True]) != [outcome, not changes[number]]]
+    found += [] if zy_bench(['run'], page.text().encode()) == listing else ['the text has another listing']
+    found += [] if page.value(AS_A_WHOLE) else ['the run that was sent in parts is another one than as a whole']
+    return found + undone(page, bare(text), len(steps)) + files(page, text, listing)
+
+
+# Whether the run in the page, of which each click has sent what is new, is the one that is sent as a whole.
+AS_A_WHOLE = '''(async () => {
+  const plain = () => JSON.stringify(Object.entries(D).filter(([name]) => !['pieces', 'name', 'text', 'title'].includes(name)).sort());
+  const grown = plain();
+  D = null;
+  await setText(doc.text, now);
+  return grown === plain();
+})()'''
+
+
+def changes_of(text):
+    """How many lines of the state each step changes; those of the opening first."""
+    trace = zy_bench(['trace'], text.encode()).split('\ntrace\n')[1].split('\nfinal\n')[0]
+    return [len(step.split('\n')) - 1 for step in re.split(r'\n(?=\d)', trace)]
+
+
+def undone(page, text, times):
+    """What is wrong with undo, which is to lead back to a text, and redo."""
+    whole = page.text()
+    ends = [page.value('(async () => { for (let k = 0; k < %d; k++) await undo(%s); return doc.text; })()' % (times, lists))
+            for lists in ('past, future', 'future, past')]
+    return [words for words, is_right in (('undo ends at another text', ends[0] == text), ('redo ends at another text', ends[1] == whole)) if not is_right]
+
+
+# The name and the content of a file that is saved, in the place of a download.
+SAVED = '''(async as => {
+  const create = URL.createObjectURL, click = HTMLAnchorElement.prototype.click;
+  let file, title;
+  URL.createObjectURL = blob => { file = blob; return create.call(URL, blob); };
+  HTMLAnchorElement.prototype.click = function () { title = this.download; };
+  await save(as);
+  URL.createObjectURL = create;
+  HTMLAnchorElement.prototype.click = click;
+  return [title, await file.text()];
+})("%s")'''
+
+
+def files(page, text, listing):
+    """What is wrong with the files that are saved, and with the address."""
+    page.begin(text, 'x')
+    saved = {kind: page.value(SAVED % kind) for kind in ('scenario', 'listing', 'svg')}
+    drawn = subprocess.run([ZVIEW, '--svg', '--title', 'x'], input=text.encode(), stdout=subprocess.PIPE, stderr=subprocess.DEVNULL,
+                           env={**os.environ, 'ZY_BENCH': PROGRAM}).stdout.decode()
+    page.value('show(D.last >> 1)')
+    page.value('store()')
+    half, address = page.value('now'), page.value('location.hash')
+    page.begin(SMALLEST)
+    page.value('store()')
+    page.value('location.hash = %s' % json.dumps(address))
+    page.wait('doc.text === %s && !busy' % json.dumps(text))
+    return [word for word, is_right in (
+        ('the saved scenario is another one', saved['scenario'] == ['x.zephyr', text]),
+        ('the saved listing is another one', saved['listing'] == ['x.listing', listing]),
+        ('the saved picture is another one', saved['svg'] == ['x.svg', drawn]),
+        ('the address brings another position', page.value('now') == half)) if not is_right]
+
+
+# What some searches report: the text, what is asked, the words, and how many choices are added.
+REPORTED = [(bare(ANOMALY), 'for', 'differs', 'found after 988 states: 18 choices lead there; the rows are those of 0, 1 in this order: ', 18),
+            (bare(ANOMALY), 'for', 'txn writer committed before reader', 'found after 427 states: 11 choices lead there', 11),
+            (DEADLOCK, 'for', 'deadlock', 'found after 380 states: 10 choices lead there', 10), (HELD, 'for', '', 'Never: none of 1155 states shows it', 0),
+            (DEADLOCK, 'always', 'not stuck', 'Not always: found after 704 states: 14 choices lead there', 14)]
+
+
+def search(page, way, goal, states=1000000):
+    """Begins a search in the page."""
+    page.value('$("way").value = %s; $("goal").value = %s; $("states").value = %d; $("search").requestSubmit()' % (json.dumps(way), json.dumps(goal), states))
+
+
+def searches(page):
+    """What is wrong with searches."""
+    for text, way, goal, words, added in REPORTED:
+        page.begin(text)
+        search(page, way, goal)
+        page.wait('!searching && !busy')
+        report, last = page.value('$("report").textContent'), page.value('D.last')
+        if not report.startswith(words) or last != added or page.value('(found => found && found[1] - found[0] + 1 || 0)(branchOf(current).found)') != added:
+            yield '%s: %r, %d choices' % (goal, report, last)
+        if page.value('branches.map(branch => scheduleOf(branch.text).choices.length)') != [0] + ([added] if added else []):
+            yield '%s: the branches are %r' % (goal, page.value('branches'))
+    if page.value('$("added").offsetHeight') < 14 * 10:
+        yield 'the added steps are not marked'
+    page.key('[', '[')
+    page.wait()
+    if page.value('$("added").offsetHeight'):
+        yield 'steps are marked in the branch from which was searched'
+    search(page, 'for', 'page 3 on B')
+    page.wait('!searching')
+    marked = page.value('(goal => [document.activeElement === goal, goal.value.slice(goal.selectionStart, goal.selectionEnd), goal.ariaInvalid])($("goal"))')
+    if marked[:2] != [True, 'on'] or page.value('$("goal").getAttribute("aria-invalid")') != 'true':
+        yield 'a goal that is not understood: %r' % marked
+    page.begin(loops())
+    search(page, 'for', 'stuck', 50000000)
+    page.wait('/\\d+ states, \\d+ choices deep/.test($("report").textContent)')
+    page.value('$("go").click()')
+    page.wait('$("report").textContent === "cancelled"')
+
+
+def edits(page):
+    """What is wrong with a text that is changed by clicks and by hand."""
+    found = []
+
+    def right(words, is_right):
+        found.extend([] if is_right else ['%s: %s' % (words, page.text().split('\n')[9:])])
+    page.begin(NOTED.replace('C start\n', ''))
+    page.choice('A run 0')
+    right('a choice below a comment', page.text() == NOTED.replace('C start\n', 'A run reader\n'))
+    page.begin(NOTED)
+    page.choice('B take')
+    right('a choice at the end', page.text() == NOTED.replace('C start\n', 'C start\nB take\n'))
+    page.value('show(3)')
+    page.wait()
+    page.key('x', 'x')
+    page.wait()
+    right('a cut', page.text() == NOTED.replace('C start\n', ''))
+    page.value('show(2)')
+    page.wait()
+    page.key('x', 'x')
+    page.wait()
+    right('a cut in the middle of a line', page.text() == NOTED.replace('A run reader x 2 ; it reads\nC start\n', 'A run reader\n'))
+    page.choice('A run 0')
+    right('a choice again', page.text().endswith('A run reader x 2\nend\n'))
+    page.press('.until')
+    page.wait('/x 3/.test(doc.text) && !busy')
+    right('until it ends', page.text().endswith('A run reader x 3\nend\n') and page.value('D.lines[D.last]').endswith('committed 1'))
+    page.key('m', 'm')
+    page.wait('D.last > 4 && !busy')
+    right('a whole migration', (page.value('at(D.modes.A, now)[1]'), page.value('at(D.modes.B, now)[1]')) == ('empty', 'normal'))
+    return found
+
+
+def faults(page):
+    """What is wrong with a fault, once it is typed and once it is mended."""
+    page.begin(NOTED)
+    page.type(NOTED.replace('read r1', 'reed r1'))
+    words, line = page.value('[$("fault").textContent, [...$("paint").children].findIndex(line => line.matches(".wrong"))]')
+    page.type(NOTED)
+    mended, last = page.value('[$("fault").textContent, D.last]')
+    return [words for words, is_right in (
+        ('a fault: %r' % words, words.startswith("line 8: the word 'reed' is not known here")), ('the line of a fault: %d' % line, line == 7),
+        ('a fault that is mended: %r' % mended, (mended, last) == ('', 4))) if not is_right]
+
+
+def migration(page):
+    """What is wrong with a migration that waits for a transaction."""
+    page.begin(NOTED)
+    page.key('m', 'm')
+    page.wait('D.last > 4 && !busy')
+    found = [] if page.value('D.lines.some(line => line.endsWith("A run 0 -> committed 1"))') else ['the migration does not wait']
+    note, mode = page.value('[$("note").textContent, at(D.modes.B, now)[1]]')
+    found += [] if (note, mode) == ('', 'normal') else ['the migration does not end: %r, B is %s' % (note, mode)]
+    return found
+
+
+def verdicts(page):
+    """What is wrong with the verdict that is shown at some positions of a run."""
+    page.begin(ANOMALY)
+    for count, is_same, order, explained, rows in VERDICTS:
+        page.value('show(%d)' % count)
+        page.wait('known.has(textHere()) && !document.querySelector(".pending")')
+        here, words, header, *shown = page.value('[$("here").textContent, $("serial").textContent, ...[...document.querySelectorAll("#serial tr")].map('
+                                                 'row => [...[...row.children].map(cell => cell.textContent), row.matches(".wrong")])]')
+        names = [', then '.join(['t0 reader', 't1 writer'][txn] for txn in txns) for txns in (order, explained)]
+        said = 'in commit order: %s.' % names[0] if order else 'Nothing is committed.'
+        why = 'The rows are those of %s: in each migration' % names[1]
+        if here != ('serial same' if is_same else 'serial differs') or said not in words or (why in words) != bool(explained):
+            yield 'at %d: %r, %r' % (count, here, words)
+        if [header] + shown != [['key', 'here', 'one by one', False]] + [row + [row[1] != row[2]] for row in rows]:
+            yield 'the rows at %d: %r, %r' % (count, header, shown)
+
+
+def keys(page):
+    """What is wrong with a schedule that is made by keys alone."""
+    page.begin(NOTED.split('C begin')[0] + 'end\n')
+    page.value('$("view").focus()')
+    for key in ('c', 'ArrowDown', 'Enter', 'a', 'Enter', 'Enter', 'ArrowLeft', 'Enter', 'Escape', 'ArrowLeft', 'ArrowRight', 'ArrowLeft'):
+        page.key(key, {'Enter': '\r'}.get(key, key if len(key) == 1 else None))
+        page.wait()
+    made, position = page.text(), page.value('now')
+    return [] if made.endswith('C begin reader\nA run reader x 2\nC start\nend\n') and position == 3 else ['%r at %d' % (made, position)]
+
+
+def nodes(page):
+    """What is wrong with the wireframes and the pages that were asked for, at each position of some runs, and how they are shown."""
+    seen = set()
+    for name in ('sum_pulls_page_after_page', 'splits', 'held', 'there_and_back', 'stale'):
+        text = content(os.path.join(EXAMPLES, name + '.zephyr')).decode()
+        page.begin(text)
+        for position in range(page.value('D.last') + 1):
+            for node in 'AB':
+                wires, asked = page.value('[wireframe("%s", %d), askedFor("%s", %d)]' % (node, position, node, position))
+                for key in [low for low, _ in wires] + [low - 1 for low, _ in wires if low]:
+                    outcome, wanted = probed(text, position, node, key), max((low, number) for low, number in wires if low <= key)[1]
+                    seen.add(outcome.split()[0])
+                    # A page that is here is asked for no more.
+                    known = ['%s %d' % (word, wanted) for word in (['awaits'] if wanted in asked else ['pulls', 'locks', 'waits'])]
+                    if outcome not in ['elsewhere', 'notyet'] + known:
+                        yield '%s at %d, node %s: key %d %s, shown are %r and %r' % (name, position, node, key, outcome, wires, asked)
+    if not {'pulls', 'awaits', 'locks'} <= seen:
+        yield 'there was no %s' % ({'pulls', 'awaits', 'locks'} - seen)
+    splits = bare(content(os.path.join(EXAMPLES, 'splits.zephyr')).decode())
+    page.begin(splits.replace('end\n', '\n'.join(MIGRATION[:-1] + ['C begin 0', 'B run 0 x 20', 'end', ''])))
+    wires = page.value('[wireframe("A", now), wireframe("B", now).length > 1, at(D.modes.A, now)[1]]')
+    if wires != [[[0, 0]], True, 'sfinish']:
+        yield 'the wireframe of a source whose destination has split a page: %r' % wires
+    page.begin(NOTED)
+    page.value('show(3)')
+    shown = page.value('[...$("nodes").querySelectorAll("dt, dd")].map(part => part.textContent.trim())')
+    if shown != ['node A', 'low keys 0 page 0', 'has asked for no page', 'node B', 'low keys no wireframe', 'has asked for no page']:
+        yield 'shown: %r' % shown
+    page.begin(DEADLOCK.replace('end\n', 'C begin 0\nC begin 1\nA run 0 x 4\nA run 1 x 4\nend\n'))
+    shown = page.value('[...$("waits").querySelectorAll("li")].map(part => part.textContent)')
+    if shown != ['A run up waits for page 1, locked at A by transaction 1 down (exclusive)',
+                 'A run down waits for page 0, locked at A by transaction 0 up (exclusive)']:
+        yield 'what waits: %r' % shown
+
+
+def probed(text, position, node, key):
+    """What comes of a read of a key at a node by a transaction that begins at a position: its outcome, or the page that it locks."""
+    choices = first_choices(text, position).split('\n')[len(head(text)):-2] + ['C begin probe'] + ['%s run probe' % node] * 2
+    lines = head(text) + ['txn probe', 'set r0 %d' % key, 'read r1 r0', 'commit'] + choices + ['end', '']
+    last = zy_bench(['trace'], '\n'.join(lines).encode()).split('\nfinal\n')[0].split('\n%d ' % (len(choices)))[-1]
+    number = sum(line.startswith('txn ') for line in head(text))
+    locked = re.search(r'\n  page (\d+) .* locks.* %s:%d:s' % (node, number), last)
+    return 'locks ' + locked.group(1) if locked else re.search(r' -> ([^!\n]*[^!\n ])', last).group(1)
+
+
+def branches(page):
+    """What is wrong where another choice is made than the one that comes next."""
+    found = []
+
+    def right(words, code, wanted):
+        shown = page.value(code)
+        found.extend([] if shown == wanted else ['%s: %r, wanted %r' % (words, shown, wanted)])
+
+    page.begin(NOTED)
+    right('one branch', '$("tree").hidden', True)
+    page.value('show(2)')
+    page.wait()
+    page.choice('C kill 0')
+    right('another choice', '[current, D.last, branches.map(branch => branch.text).includes(%s)]' % json.dumps(NOTED), [2, 3, True])
+    right('the map', LABELS, ['branch 1: 4 steps, serial same', 'branch 2: 3 steps, from branch 1 after step 2, serial same'])
+    right('the cursor on the map', '+$("spot").getAttribute("cx") - acrossMap(3)', 0)
+    page.choice('C start')
+    right('a branch that grows', '[current, branches.length, D.last]', [2, 2, 4])
+    page.value('show(2)')
+    page.wait()
+    page.choice('A run 0')
+    right('the choice that another branch has', '[current, branches.length, now, doc.text === %s]' % json.dumps(NOTED), [1, 2, 3, True])
+    page.key('u', 'u')
+    page.wait()
+    right('undo', '[current, branches.length, D.last, now]', [2, 2, 4, 2])
+    page.key('[', '[')
+    page.wait()
+    right('the branch before', '[current, D.last, now]', [1, 4, 2])
+    page.value('show(1)')
+    for key in '][':
+        page.key(key, key)
+        page.wait()
+    right('the branch before, where it was left', '[current, D.last, now]', [1, 4, 1])
+    page.press('[data-branch="2"]')
+    right('a click on the map', '[current, D.last, now]', [2, 4, 2])
+    page.key('d', 'd')
+    page.wait('!$("beside").hidden')
+    right('side by side', BESIDE, ['branches 2 and 1 part after step 2', '3 C kill reader aborted killed A run reader did',
+                                   '4 C start started ! wire C start started ! wire'])
+    page.key('Escape')
+    right('no longer side by side', '$("beside").hidden', True)
+    page.key('t')
+    page.key('ArrowUp')
+    page.key('Delete')
+    page.wait()
+    right('a branch that is removed', '[current, branches.map(branch => branch.id).join()]', [2, '2'])
+    page.key('Escape')
+    page.key('u', 'u')
+    page.wait()
+    right('a branch that is brought back', 'branches.map(branch => branch.id).join()', '1,2')
+    page.value('$("text").value += "; a remark"; $("text").dispatchEvent(new Event("input")); visit(1)')
+    page.wait('current === 1 && !busy')
+    page.value('visit(2)')
+    page.wait('current === 2 && !busy')
+    right('a branch that is left while it is typed into', 'doc.text.endsWith("; a remark")', True)
+    page.begin(SMALLEST, 'another')
+    page.value('undo(past, future)')
+    page.wait()
+    right('undo of another scenario', '[document.title, branches.length]', ['x · zplay', 2])
+    return found
+
+
+# What the map of the branches says of each, and what two of them show side by side.
+LABELS = '[...document.querySelectorAll(".branch")].map(button => button.ariaLabel)'
+
+BESIDE = ('[$("beside").querySelector("h2").textContent, ...[...$("beside").querySelectorAll("tr")].slice(1, 3).map(row => '
+          '[row.cells[0], ...row.querySelectorAll("b, span")].map(part => part.textContent).join(" "))]')
+
+
+def full(page):
+    """What is wrong with as many choices as there may be, and with one more."""
+    page.begin(NOTED.replace('C start\nend', 'A take x 4093\nend'))
+    page.wait('document.querySelectorAll(".choice.still").length > 4')
+    steps, rows = page.value('[D.last, D.overview.rows]')
+    found = [] if steps == 4096 and rows < 20 else ['4096 choices: %d in %d rows' % (steps, rows)]
+    page.type(NOTED.replace('C start\nend', 'A take x 4094\nend'))
+    fault = page.value('$("fault").textContent')
+    return found + ([] if '4096' in fault else ['4097 choices: %r' % fault])
+
+
+# Windows: their width, their height, and how large a pixel of the page is on them. The fourth is one of 1680 to 950 at a zoom of 200 %.
+WINDOWS = [(1680, 950, 1), (1100, 900, 1), (1000, 700, 1), (840, 475, 2), (700, 900, 1), (380, 900, 1)]
+
+
+def narrow(page):
+    """What is wrong with windows of some sizes: something is wider than the window, or a part has no room."""
+    page.begin(content(os.path.join(EXAMPLES, 'migration.zephyr')).decode())
+    page.value('show(2)')
+    page.wait()
+    page.choice('C kill 0')
+    for width, height, scale in WINDOWS:
+        page.call('Emulation.setDeviceMetricsOverride', width=width, height=height, deviceScaleFactor=scale, mobile=False)
+        page.wait('innerWidth === %d' % width)
+        if page.value('document.documentElement.scrollWidth > innerWidth'):
+            yield '%d wide: the page is %d' % (width, page.value('document.documentElement.scrollWidth'))
+        for part in ('view', 'lanes', 'edit', 'tree', 'state'):
+            room = page.value('(box => [box.width, box.height])($("%s").getBoundingClientRect())' % part)
+            if room[0] < 150 or room[1] < 48:
+                yield '%d to %d: %s has %d to %d' % (width, height, part, *room)
+    page.call('Emulation.clearDeviceMetricsOverride')
+
+
+# The roles of what a user moves to, or hears of.
+ROLES = ('button', 'link', 'textbox', 'combobox', 'slider', 'checkbox', 'spinbutton', 'DisclosureTriangle', 'complementary', 'navigation', 'region', 'heading')
+
+
+def read_aloud(page):
+    """What is wrong with the tree of a screen reader: names, and what is said after a click."""
+    page.begin(NOTED)
+    page.value('show(1)')
+    page.wait()
+    page.choice('C start')
+    page.call('Accessibility.enable')
+    nodes = page.call('Accessibility.getFullAXTree')['nodes']
+    page.call('Accessibility.disable')
+    named = [(node['role']['value'], node.get('name', {}).get('value', '')) for node in nodes if not node.get('ignored')]
+    for role, name in named:
+        if role in ROLES and not re.search('[a-z]{2}', name):
+            yield 'a %s is named %r' % (role, name)
+    for wanted in (('button', 'kill reader, aborted killed'), ('button', 'branch 1: 4 steps, serial same'), ('button', 'take, nomessage, changes nothing'),
+                   ('textbox', 'the scenario'), ('combobox', 'the goal'),
+                   ('button', 'one step back'), ('button', 'run reader until it waits, asks for a page, ends or can do nothing')):
+        if wanted not in named:
+            yield 'there is no %s named %r' % wanted
+    page.choice('C kill 0')
+    said = page.value('[...document.querySelectorAll("[role=status]")].map(box => box.textContent).join(" ")')
+    if not re.search(r'3 C kill 0 → aborted killed.*the client killed it', said):
+        yield 'after a click is said %r' % said
+
+
+def named():
+    """What is wrong with a file, and with the address of another page, on the command line."""
+    with tempfile.TemporaryDirectory() as work:
+        path = os.path.join(work, 'my run.zephyr')
+        with open(path, 'w', encoding='utf-8') as file:
+            file.write(NOTED)
+        with Play(path) as play:
+            page = Page(play.address)
+            found = [] if (page.text(), page.value('document.title')) == (NOTED, 'my run · zplay') else ['a file: %r' % page.text()]
+            page.value('$("example").value = "held"; $("example").onchange({target: $("example")})')
+            page.wait('$("example").value === "held" && D.lines.length > 17 && !busy')
+            page.value('$("example").value = ""; $("example").onchange({target: $("example")})')
+            page.wait('document.title === "my run · zplay" && D.last === 4 && !busy')
+            page.value('show(1)')
+            page.value('store()')
+            link = page.value('location.href')
+            page.close()
+    with Play(link) as play:
+        page = Page(play.address)
+        found += [] if (page.text(), page.value('now')) == (NOTED, 1) else ['a link: %r' % page.text()]
+        page.close()
+    return found
+
+
+# Whether the verdict and the outcomes of the next choices are shown, and the words in some places of the page, without the names of its script.
+SHOWN = '!document.querySelector(".pending") && document.querySelectorAll(".choice span").length > 0 && [...document.querySelectorAll(".choice span")].every(it => it.textContent !== "…")'
+
+WORDS = '["where", "line", "here", "report"].map(id => document.getElementById(id).textContent)'
+
+
+def in_firefox():
+    """What is wrong with a click, a branch, a search and the address in Firefox."""
+    with Play(os.path.join(EXAMPLES, 'anomaly.zephyr')) as play:
+        page = firefox.Firefox(play.address)
+        try:
+            page.wait(SHOWN)
+            found = [page.value(WORDS)]
+            page.click('#first')
+            page.wait('document.getElementById("where").textContent === "0 of 18"')
+            page.wait(SHOWN)
+            page.click('[data-choice="C start"]')
+            page.wait('document.getElementById("where").textContent === "1 of 1"')
+            page.type('#goal', 'then got page')
+            page.click('#go')
+            page.wait('document.querySelectorAll(".branch").length === 3')
+            page.wait('/^#8[.]/.test(location.hash)')
+            page.wait(SHOWN)
+            found.append(page.value(WORDS))
+        finally:
+            page.close()
+    wanted = [['18 of 18', '18 A run 0 → committed 2', 'serial differs', ''], ['8 of 8', '8 B take → got page 0', 'serial same', found[-1][3]]]
+    return [] if found == wanted and ' 7 choices lead there' in found[1][3] else ['shown: %r' % found]
