@@ -29,6 +29,15 @@ class Refused(Exception):
         self.status, self.words = status, words
 
 
+def settle():
+    """From here on the program itself is asked, which ./zy_bench has built by then, and not each time whether it is that of the sources."""
+    global PROGRAM
+    built = os.path.join(TOP, 'crates', 'zy_bench', 'out', 'zy_bench')
+    if PROGRAM == os.path.join(TOP, 'zy_bench') and os.path.exists(os.path.join(TOP, 'crates')):
+        ask(['--version'], b'')
+        PROGRAM = built
+
+
 def ask(words, given, good=(0,), quiet=False):
     """The lines that the program writes. What it says on standard error goes to standard error, or with `quiet` into the fault."""
     return answer(words, given, good, quiet)[0]
