@@ -132,10 +132,11 @@ impl Stalled {
 
     /// Those that have the clearest cause, if one has any.
     fn of(machine: &Machine) -> Option<Stalled> {
-        if !is_doubtful(machine) {
+        let doubtful = Doubtful::of(machine);
+        if doubtful.is_empty() {
             return None;
         }
-        let tallies = tallies(machine);
+        let tallies = tallies(machine, doubtful);
         let cause = clearest(machine, &tallies)?;
         let mut stalled = Stalled::new(cause);
         for t in 0..machine.txn_count() {
@@ -194,28 +195,52 @@ fn tell_number<W: fmt::Write>(
     write!(f, "{between}{number}")
 }
 
-/// Whether a transaction has made no instruction and has not ended: of each other one something came.
-fn is_doubtful(machine: &Machine) -> bool {
-    for t in 0..machine.txn_count() {
-        let txn = machine.txn(t as u8);
-        if matches!(txn.status(), Status::New | Status::Active) && txn.done() == 0 {
-            return true;
+/// The transactions that have made no instruction and have not ended, a bit for each: of each other one something came.
+#[derive(Clone, Copy)]
+struct Doubtful(u64);
+
+impl Doubtful {
+    /// Those of a run.
+    fn of(machine: &Machine) -> Doubtful {
+        let mut bits = 0u64;
+        for t in 0..machine.txn_count() {
+            let txn = machine.txn(t as u8);
+            if matches!(txn.status(), Status::New | Status::Active) && txn.done() == 0 {
+                bits |= 1u64.wrapping_shl(t as u32);
+            }
         }
+        Doubtful(bits)
     }
-    false
+
+    /// Whether there is none.
+    fn is_empty(self) -> bool {
+        self.0 == 0
+    }
+
+    /// Whether a transaction is one of them.
+    fn has(self, txn: u8) -> bool {
+        self.0.wrapping_shr(u32::from(txn)) & 1 == 1
+    }
 }
 
-/// What came of the steps and kills of each transaction.
-fn tallies(machine: &Machine) -> [Tally; 64] {
+/// What came of the steps and kills of each of some transactions.
+fn tallies(machine: &Machine, doubtful: Doubtful) -> [Tally; 64] {
     let mut tallies = [Tally::NONE; 64];
     for entry in machine.entries() {
         if let Choice::Run(_, txn) | Choice::Kill(txn) = entry.choice {
-            if let Some(tally) = tallies.get_mut(usize::from(txn)) {
-                tally.note(entry.outcome);
+            if doubtful.has(txn) {
+                note(&mut tallies, txn, entry.outcome);
             }
         }
     }
     tallies
+}
+
+/// Notes what came of a step or a kill of a transaction.
+fn note(tallies: &mut [Tally; 64], txn: u8, outcome: Outcome) {
+    if let Some(tally) = tallies.get_mut(usize::from(txn)) {
+        tally.note(outcome);
+    }
 }
 
 /// The clearest reason why nothing came of the steps of a transaction.
