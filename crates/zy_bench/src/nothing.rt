@@ -227,10 +227,10 @@ impl Doubtful {
 fn tallies(machine: &Machine, doubtful: Doubtful) -> [Tally; 64] {
     let mut tallies = [Tally::NONE; 64];
     for entry in machine.entries() {
-        if let Choice::Run(_, txn) | Choice::Kill(txn) = entry.choice {
-            if doubtful.has(txn) {
-                note(&mut tallies, txn, entry.outcome);
-            }
+        match entry.choice {
+            Choice::Run(_, txn) if doubtful.has(txn) => note(&mut tallies, txn, entry.outcome),
+            Choice::Kill(txn) if doubtful.has(txn) => note(&mut tallies, txn, entry.outcome),
+            _ => {}
         }
     }
     tallies
