@@ -19,6 +19,7 @@ mod origin;
 mod output;
 mod progress;
 mod summary;
+mod tally;
 
 use advised::{Advised, Reading};
 use again::{line_due, make_again, scenario_part};

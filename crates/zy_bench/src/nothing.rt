@@ -1,65 +1,14 @@
 //! Runs of which nothing came: of all choices, or of those of a transaction.
 
+use crate::tally::{Doubtful, Tallies};
 use std::fmt;
-use zy_isa::{Choice, MAX_TXNS, Node};
+use zy_isa::Node;
 use zy_machine::Machine;
-use zy_table::{Outcome, Status};
-
-const _: () = prove!(MAX_TXNS == 64);
-
-/// What came of the steps and kills of a transaction.
-#[derive(Clone, Copy)]
-struct Tally {
-    /// How many were idle.
-    idle: usize,
-    /// How many were at the node where it is not.
-    elsewhere: usize,
-    /// How many were neither.
-    others: usize,
-}
-
-impl Tally {
-    /// No step yet.
-    const NONE: Tally = Tally {
-        idle: 0,
-        elsewhere: 0,
-        others: 0,
-    };
-
-    /// Notes what came of a step or a kill.
-    fn note(&mut self, outcome: Outcome) {
-        let count = match outcome {
-            Outcome::Idle => &mut self.idle,
-            Outcome::Elsewhere => &mut self.elsewhere,
-            _ => &mut self.others,
-        };
-        // A run has too few steps for it to wrap.
-        *count = count.wrapping_add(1);
-    }
-
-    /// Why nothing came of any of them, if nothing did: the transaction has come to `status` and is at `node`.
-    fn cause(self, status: Status, node: Node) -> Option<Cause> {
-        match status {
-            _ if self.others > 0 => None,
-            Status::New if self.idle > 0 => Some(Cause::NotBegun),
-            Status::Active if self.elsewhere > 0 => Some(Cause::At(node)),
-            Status::Active if self.idle > 0 => Some(Cause::BegunLater),
-            _ => None,
-        }
-    }
-
-    /// How many did nothing for this cause, which it has.
-    fn still_for(self, cause: Cause) -> usize {
-        match cause {
-            Cause::At(_) => self.elsewhere,
-            Cause::NotBegun | Cause::BegunLater => self.idle,
-        }
-    }
-}
+use zy_table::Outcome;
 
 /// Why nothing came of the steps of a transaction.
 #[derive(Clone, Copy, Debug, PartialEq, Eq)]
-enum Cause {
+pub enum Cause {
     /// It was not begun.
     NotBegun,
     /// It is at this node, and was run at the other one.
@@ -136,15 +85,14 @@ impl Stalled {
         if doubtful.is_empty() {
             return None;
         }
-        let tallies = tallies(machine, doubtful);
+        let tallies = Tallies::of(machine, doubtful);
         let cause = clearest(machine, &tallies)?;
         let mut stalled = Stalled::new(cause);
         for t in 0..machine.txn_count() {
             let txn = machine.txn(t as u8);
-            if let Some(tally) = tallies.get(t) {
-                if tally.cause(txn.status(), txn.node()) == Some(cause) {
-                    stalled.take(t, tally.still_for(cause));
-                }
+            let tally = tallies.of_txn(t);
+            if tally.cause(txn.status(), txn.node()) == Some(cause) {
+                stalled.take(t, tally.still_for(cause));
             }
         }
         Some(stalled)
@@ -195,61 +143,12 @@ fn tell_number<W: fmt::Write>(
     write!(f, "{between}{number}")
 }
 
-/// The transactions that have made no instruction and have not ended, a bit for each: of each other one something came.
-#[derive(Clone, Copy)]
-struct Doubtful(u64);
-
-impl Doubtful {
-    /// Those of a run.
-    fn of(machine: &Machine) -> Doubtful {
-        let mut bits = 0u64;
-        for t in 0..machine.txn_count() {
-            let txn = machine.txn(t as u8);
-            if matches!(txn.status(), Status::New | Status::Active) && txn.done() == 0 {
-                bits |= 1u64.wrapping_shl(t as u32);
-            }
-        }
-        Doubtful(bits)
-    }
-
-    /// Whether there is none.
-    fn is_empty(self) -> bool {
-        self.0 == 0
-    }
-
-    /// Whether a transaction is one of them.
-    fn has(self, txn: u8) -> bool {
-        self.0.wrapping_shr(u32::from(txn)) & 1 == 1
-    }
-}
-
-/// What came of the steps and kills of each of some transactions.
-fn tallies(machine: &Machine, doubtful: Doubtful) -> [Tally; 64] {
-    let mut tallies = [Tally::NONE; 64];
-    for entry in machine.entries() {
-        match entry.choice {
-            Choice::Run(_, txn) if doubtful.has(txn) => note(&mut tallies, txn, entry.outcome),
-            Choice::Kill(txn) if doubtful.has(txn) => note(&mut tallies, txn, entry.outcome),
-            _ => {}
-        }
-    }
-    tallies
-}
-
-/// Notes what came of a step or a kill of a transaction.
-fn note(tallies: &mut [Tally; 64], txn: u8, outcome: Outcome) {
-    if let Some(tally) = tallies.get_mut(usize::from(txn)) {
-        tally.note(outcome);
-    }
-}
-
 /// The clearest reason why nothing came of the steps of a transaction.
-fn clearest(machine: &Machine, tallies: &[Tally; 64]) -> Option<Cause> {
+fn clearest(machine: &Machine, tallies: &Tallies) -> Option<Cause> {
     let mut clearest: Option<Cause> = None;
     for t in 0..machine.txn_count() {
         let txn = machine.txn(t as u8);
-        let tally = tallies.get(t).copied().unwrap_or(Tally::NONE);
-        if let Some(cause) = tally.cause(txn.status(), txn.node()) {
+        if let Some(cause) = tallies.of_txn(t).cause(txn.status(), txn.node()) {
             if clearest.is_none_or(|other| cause.rank() < other.rank()) {
                 clearest = Some(cause);
             }

@@ -1,0 +1,152 @@
+//! What came of the steps and kills of transactions.
+
+use crate::nothing::Cause;
+use zy_isa::{Choice, MAX_TXNS, Node};
+use zy_machine::Machine;
+use zy_table::{Outcome, Status};
+
+const _: () = prove!(MAX_TXNS == 64);
+
+/// What came of the steps and kills of a transaction.
+#[derive(Clone, Copy)]
+pub struct Tally {
+    /// How many were idle.
+    idle: usize,
+    /// How many were at the node where it is not.
+    elsewhere: usize,
+    /// How many were neither.
+    others: usize,
+}
+
+impl Tally {
+    /// No step yet.
+    const NONE: Tally = Tally {
+        idle: 0,
+        elsewhere: 0,
+        others: 0,
+    };
+
+    /// Notes what came of a step or a kill.
+    fn note(&mut self, outcome: Outcome) {
+        let count = match outcome {
+            Outcome::Idle => &mut self.idle,
+            Outcome::Elsewhere => &mut self.elsewhere,
+            _ => &mut self.others,
+        };
+        // A run has too few steps for it to wrap.
+        *count = count.wrapping_add(1);
+    }
+
+    /// Why nothing came of any of them, if nothing did: the transaction has come to `status` and is at `node`.
+    pub fn cause(self, status: Status, node: Node) -> Option<Cause> {
+        match status {
+            _ if self.others > 0 => None,
+            Status::New if self.idle > 0 => Some(Cause::NotBegun),
+            Status::Active if self.elsewhere > 0 => Some(Cause::At(node)),
+            Status::Active if self.idle > 0 => Some(Cause::BegunLater),
+            _ => None,
+        }
+    }
+
+    /// How many did nothing for this cause, which it has.
+    pub fn still_for(self, cause: Cause) -> usize {
+        match cause {
+            Cause::At(_) => self.elsewhere,
+            Cause::NotBegun | Cause::BegunLater => self.idle,
+        }
+    }
+}
+
+/// The transactions that have made no instruction and have not ended, a bit for each: of each other one something came.
+#[derive(Clone, Copy)]
+pub struct Doubtful {
+    bits: u64,
+    /// Whether one of them was not begun.
+    has_new: bool,
+}
+
+impl Doubtful {
+    /// Those of a run.
+    pub fn of(machine: &Machine) -> Doubtful {
+        let mut doubtful = Doubtful {
+            bits: 0,
+            has_new: false,
+        };
+        for t in 0..machine.txn_count() {
+            let txn = machine.txn(t as u8);
+            if matches!(txn.status(), Status::New | Status::Active) && txn.done() == 0 {
+                doubtful.bits |= 1u64.wrapping_shl(t as u32);
+                doubtful.has_new |= txn.status() == Status::New;
+            }
+        }
+        doubtful
+    }
+
+    /// Whether there is none.
+    pub fn is_empty(self) -> bool {
+        self.bits == 0
+    }
+
+    /// Whether a transaction is one of them.
+    fn has(self, txn: u8) -> bool {
+        self.bits.wrapping_shr(u32::from(txn)) & 1 == 1
+    }
+}
+
+/// What came of the steps and kills of each doubtful transaction, by its number.
+#[derive(Clone, Copy)]
+pub struct Tallies([Tally; 64]);
+
+impl Tallies {
+    /// Those of a run. Only where they decide what is said the kills are among them: nothing comes of a kill before the
+    /// beginning, and what is said of a transaction that was run at the other node does not count those.
+    pub fn of(machine: &Machine, doubtful: Doubtful) -> Tallies {
+        let mut tallies = Tallies([Tally::NONE; 64]);
+        tallies.note_steps(machine, doubtful);
+        if doubtful.has_new || !tallies.has_elsewhere() {
+            tallies.note_kills(machine, doubtful);
+        }
+        tallies
+    }
+
+    /// What came of the steps and kills of a transaction.
+    pub fn of_txn(&self, txn: usize) -> Tally {
+        self.0.get(txn).copied().unwrap_or(Tally::NONE)
+    }
+
+    /// Notes what came of each step.
+    fn note_steps(&mut self, machine: &Machine, doubtful: Doubtful) {
+        for entry in machine.entries() {
+            if let Choice::Run(_, txn) = entry.choice {
+                if doubtful.has(txn) {
+                    self.note(txn, entry.outcome);
+                }
+            }
+        }
+    }
+
+    /// Notes what came of each kill.
+    fn note_kills(&mut self, machine: &Machine, doubtful: Doubtful) {
+        for entry in machine.entries() {
+            if let Choice::Kill(txn) = entry.choice {
+                if doubtful.has(txn) {
+                    self.note(txn, entry.outcome);
+                }
+            }
+        }
+    }
+
+    /// Notes what came of a step or a kill of a transaction.
+    fn note(&mut self, txn: u8, outcome: Outcome) {
+        if let Some(tally) = self.0.get_mut(usize::from(txn)) {
+            tally.note(outcome);
+        }
+    }
+
+    /// Whether a transaction was run at the node where it is not, and nothing came of any step of it.
+    fn has_elsewhere(&self) -> bool {
+        self.0
+            .iter()
+            .any(|tally| tally.elsewhere > 0 && tally.others == 0)
+    }
+}
