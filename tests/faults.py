@@ -191,7 +191,7 @@ PROGRAM_FAULTS = [
     program(1, 'search names no order', 'zy_bench/src/main.rt',
             'explain_again(rt, format, scenario, path);', '();', 'search: status 0', 'orders 1'),
     program(2, 'search names the order before the choices that it has found', 'zy_bench/src/main.rt',
-            'explain_again(rt, format, scenario, path);', 'explain_again(rt, format, scenario, &[]);', 'what is said of what was found', 'searches'),
+            'explain_again(rt, format, scenario, path);', 'explain_again(rt, format, scenario, &[]);', 'and .zy_bench: the rows are those', 'searches'),
     program(3, 'check says nothing of carriage returns', 'zy_bench/src/excerpt.rt', 'if self.has_return() {', 'if self.has_return() && false {',
             'carriage returns', 'listings'),
     program(3, 'a fault below a file is said to be a line too far', 'zy_bench/src/advised.rt',
