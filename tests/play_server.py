@@ -57,6 +57,9 @@ def answered():
         elsewhere = re.search(rb'(?:src|href)="(?!style.css|script.js|data:,)', page[2])
         if elsewhere or "default-src 'none'" not in page[1].get('Content-Security-Policy', ''):
             found.append('the page takes something from elsewhere')
+        stranger = play.request('GET', '/', **strangers)[2].decode()
+        if "./zplay 'LINK'" not in stranger or 'a whole run' not in stranger or 'behind the address that your own zplay printed' not in stranger:
+            found.append('who opens a link without a token reads %r' % stranger)
         if is_open(own_address(), play.port):
             found.append('another address of this machine is served')
         return found

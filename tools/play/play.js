@@ -416,7 +416,7 @@ for (const button of document.querySelectorAll('[data-as]')) button.onclick = ()
 $('link').onclick = guarded(async () => {
   await store();
   const copied = await navigator.clipboard.writeText(location.href).then(() => true, () => false);
-  note(copied ? 'the address is copied: it has the whole run in it' : 'the address of this page has the whole run in it');
+  note((copied ? 'the address is copied' : 'the address of this page is the link') + ": it has the whole run in it; a colleague opens it with ./zplay 'LINK'");
 });
 const toTree = () => branches.length > 1 ? $('branches').querySelector('[aria-current]').focus() : note('there is one branch');
 const toLane = actor => () => $('lanes').children[ACTORS.indexOf(actor)].querySelector('.choice').focus();

@@ -13,6 +13,18 @@ from prompt.session import Fault
 
 HOST = '127.0.0.1'
 
+NO_TOKEN = 'open the address that zplay has printed'
+
+# What a browser shows that has no token: most likely someone has opened a link that a colleague sent.
+STRANGER = """This page opens with the address that zplay printed when it started.
+
+Is this a link that somebody sent you? What follows the # in it is a whole run. To see it, start a zplay of your own with the link:
+
+    ./zplay 'LINK'
+
+Or put the # and what follows it behind the address that your own zplay printed.
+"""
+
 # The longest question, in bytes. A scenario has at most 4 MiB.
 LONGEST = 5 << 20
 
@@ -87,7 +99,7 @@ class Handler(BaseHTTPRequestHandler):
         if origin != 'http://' + host and (origin or self.command == 'POST'):
             return 'not for this page'
         if not self.has_token():
-            return 'open the address that zplay has printed'
+            return NO_TOKEN
         return ''
 
     def has_token(self):
@@ -103,7 +115,7 @@ class Handler(BaseHTTPRequestHandler):
             return self.send(303, 'text/plain', b'', {'Location': '/', 'Set-Cookie': cookie})
         refusal = self.refusal()
         if refusal:
-            return self.send(403, 'text/plain', refusal.encode())
+            return self.send(403, 'text/plain', (STRANGER if path == '/' and refusal == NO_TOKEN else refusal).encode())
         if path not in self.server.files:
             return self.send(404, 'text/plain', b'no such file')
         return self.send(200, *self.server.files[path])
