@@ -426,6 +426,34 @@ def named():
     return found
 
 
+# What a page shows of a link: its fault, its text, its title, and whether there is a run.
+DAMAGED = '[$("fault").textContent.startsWith("the link is damaged"), $("text").value, document.title, !!D]'
+
+
+def cut_short():
+    """What is wrong with a link that is cut short, where no run is shown yet and where one is."""
+    found = []
+    with Play() as play:
+        page = Page(play.address)
+        page.value('store()')
+        address, text, title = page.value('[location.href, doc.text, document.title]')
+        for damaged in (address[:-9], address.partition('#')[0] + '#7', address.partition('#')[0] + '#7.x'):
+            page.go('about:blank')
+            page.go(damaged)
+            page.wait('$("fault").textContent')
+            shown = page.value(DAMAGED)
+            found += [] if shown == [True, '', 'zplay', False] else ['%s: %r' % (damaged[-12:], shown)]
+        page.go('about:blank')
+        page.go(address)
+        page.wait()
+        page.value('location.hash = location.hash.slice(0, -9)')
+        page.wait('$("fault").textContent && location.href === %s' % json.dumps(address))
+        shown = page.value(DAMAGED)
+        found += [] if shown == [True, text, title, True] else ['behind a run: %r' % shown]
+        page.close()
+    return found
+
+
 # Whether the verdict and the outcomes of the next choices are shown, and the words in some places of the page, without the names of its script.
 SHOWN = '!document.querySelector(".pending") && document.querySelectorAll(".choice span").length > 0 && [...document.querySelectorAll(".choice span")].every(it => it.textContent !== "…")'
 

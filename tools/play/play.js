@@ -356,9 +356,21 @@ async function store() {
 const storeSoon = debounced(store, 200);
 // Takes what is in an address, or else what zplay was started with.
 async function arrive(hash) {
+  if (!hash) return setText(given.text, Infinity);
   const [, at, word] = hash.match(/^#(\d+)\.([\w-]+)$/) || [];
   const text = word && await unpacked(word).catch(() => null);
-  return text ? setText(text, +at) : setText(given.text, Infinity);
+  return text ? setText(text, +at) : showDamaged();
+}
+// Says that a link is damaged. A run that is shown stays with its own address; no other one takes the place of the link's.
+function showDamaged() {
+  const words = 'the link is damaged, perhaps cut short, and its run cannot be read: copy the whole link again';
+  showFault({line: 0, words: D ? words + '; what is shown here is the run from before' : words});
+  if (D) {
+    document.body.classList.remove('stale');
+    return storeSoon();
+  }
+  $('example').value = '';
+  document.title = 'zplay';
 }
 
 // ---- what is clicked and typed
