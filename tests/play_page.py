@@ -227,6 +227,27 @@ def keys(page):
     return [] if made.endswith('C begin reader\nA run reader x 2\nC start\nend\n') and position == 3 else ['%r at %d' % (made, position)]
 
 
+def twice(page):
+    """What is wrong where a choice is clicked twice at the same place, or Enter is pressed twice at it."""
+    found, wanted = [], ['C begin reader', 'A run reader']
+    for act in ('const x = it.getBoundingClientRect(); return [x.left + 12, x.top + 8]', 'it.focus()'):
+        page.begin(bare(ANOMALY))
+        place = page.value('(it => { %s })(document.querySelector("[data-choice=\'C begin 0\']"))' % act)
+        for _ in range(2):
+            page.click(*place) if place else page.key('Enter', '\r')
+            page.wait()
+        made = page.text().split('\n')[len(head(ANOMALY)):-2]
+        found += [] if made == wanted[:1 if place else 2] else ['%s: %r' % ('clicks' if place else 'keys', made)]
+    page.choice('A run 0')
+    page.choice('A run 0')
+    page.value('document.querySelector("[data-choice=\'C kill 0\']").focus()')
+    page.key('Enter', '\r')
+    page.wait()
+    if page.value('document.activeElement.id') != 'view' or page.value('scheduleOf(doc.text).choices.length') != 5:
+        found.append('behind a kill the focus is at %r' % page.value('document.activeElement.outerHTML.slice(0, 90)'))
+    return found
+
+
 def nodes(page):
     """What is wrong with the wireframes and the pages that were asked for, at each position of some runs, and how they are shown."""
     seen = set()

@@ -252,7 +252,7 @@ function choiceButton(choice, outcome) {
   const [, action, t] = choice.split(' ');
   const look = outcome ? `${outcome.look} ${outcome.acts ? '' : 'still'}` : '', whom = t ? ' ' + (nameOf(t) || D.names[t]) : '';
   const parts = [el('b', '', action + whom), el('code', '', about(choice)), el('span', '', outcome ? outcome.outcome : '…')];
-  const button = el('button', 'choice ' + look, ...parts);
+  const button = el('button', `choice ${action} ${look}`, ...parts);
   button.dataset.choice = choice;
   button.ariaLabel = [action + whom, about(choice), outcome && outcome.outcome, outcome && !outcome.acts && 'changes nothing'].filter(word => word).join(', ');
   button.title = outcome ? [outcome.says, outcome.waits].join('\n').trim() : '';
@@ -262,6 +262,7 @@ function choiceButton(choice, outcome) {
 }
 function untilButton(choice) {
   const button = el('button', 'until', '»');
+  button.dataset.until = choice;
   button.title = 'Shift+Enter: until it waits, asks for a page, ends or can do nothing';
   button.ariaLabel = `run ${nameOf(choice.split(' ')[2]) || choice.split(' ')[2]} until it waits, asks for a page, ends or can do nothing`;
   button.tabIndex = -1;
@@ -281,8 +282,14 @@ function drawLanes(lanes, outcomes) {
   const focus = document.activeElement.closest('#lanes') && document.activeElement.dataset.choice;
   const all = Object.values(lanes).flat(), outcomeOf = choice => outcomes && outcomes[all.indexOf(choice)];
   if (outcomes) drawWaits(all, outcomes);
+  if (offered !== all.join()) [offered, changedAt] = [all.join(), performance.now()];
   $('lanes').replaceChildren(...ACTORS.map(actor => laneOf(actor, lanes[actor], outcomeOf)));
-  if (focus) ($('lanes').querySelector(`[data-choice="${focus}"]`) || $('lanes').querySelector('.choice')).focus();
+  if (focus) focusAfter(focus);
+}
+// Moves the focus to a choice, or where it is gone to the next one of its transaction, or else to the picture, where Enter makes no choice.
+function focusAfter(choice) {
+  const find = end => $('lanes').querySelector(`[data-choice$="${end}"]`), t = choice.split(' ')[2];
+  (find(choice) || t && find(` run ${t}`) || $('view')).focus();
 }
 function drawNext() {
   $('after').textContent = `After step ${now}`;
@@ -313,6 +320,23 @@ async function makeAnswered(path, body) {
 }
 const runUntil = guarded(choice => makeAnswered('until', {text: textHere(), choice}));
 const migrate = guarded(() => makeAnswered('migrate', {text: textHere()}));
+
+// A click is not taken that soon after another one at the same place hits another choice: it was meant for the one that was there.
+const SOON = 400, NEAR = 12;            // in milliseconds, and in pixels
+let offered = '', changedAt = 0;        // the choices that are offered, and since when
+let clicked = {x: 0, y: 0, meant: '', time: -SOON};
+
+function isStray({clientX: x, clientY: y, timeStamp: time}, meant) {
+  const isThere = Math.abs(x - clicked.x) < NEAR && Math.abs(y - clicked.y) < NEAR;
+  return isThere && meant !== clicked.meant && time - Math.max(clicked.time, changedAt) < SOON;
+}
+$('lanes').addEventListener('click', event => {
+  const button = event.target.closest('button');
+  if (!button || !event.detail) return;  // a key has made it
+  const meant = button.dataset.choice || '» ' + button.dataset.until, isLost = isStray(event, meant);
+  if (isLost) event.stopPropagation();
+  clicked = {x: event.clientX, y: event.clientY, meant: isLost ? clicked.meant : meant, time: event.timeStamp};
+}, true);
 
 // Arrows move between the choices; a click leaves them to the cursor.
 $('lanes').onmousedown = event => event.preventDefault();
