@@ -143,6 +143,45 @@ def searches(page):
     page.wait('$("report").textContent === "cancelled"')
 
 
+def messages(page):
+    """What is wrong with messages that do not hold any more, and with the answer of a search, which stays in its branch."""
+    found = []
+
+    def right(words, name, wanted):
+        shown = page.value('$("%s").textContent' % name)
+        found.extend([] if re.match(wanted + '$', shown) else ['%s: %r' % (words, shown)])
+    page.begin(bare(HELD))
+    page.choice('C begin 0')
+    search(page, 'for', 'differs')
+    page.wait('!searching')
+    right('an answer', 'report', '.*[Nn]ever: none of .*')
+    page.value('$("find").value = "zzz"; find(1)')
+    right('words that are not found', 'found', 'none')
+    page.value('show(0)')
+    page.wait()
+    page.choice('C begin 1')
+    right('a branch begins', 'note', 'branch 2 begins here.*')
+    right('the answer of another branch', 'report', '')
+    right('what was sought in another text', 'found', '')
+    page.value('$("view").focus()')
+    page.key('[', '[')
+    page.wait()
+    right('the answer in its branch', 'report', '.*[Nn]ever: none of .*')
+    right('that a branch begins, in another one', 'note', '')
+    page.value('$("goal").value = "stuckk"; $("goal").dispatchEvent(new Event("input", {bubbles: true}))')
+    right('the answer for another goal', 'report', '')
+    page.value('$("search").requestSubmit()')
+    page.wait('!searching && $("goal").hasAttribute("aria-invalid")')
+    page.value('note("x")')
+    page.type(HELD)
+    right('the fault of a goal, once the text is another one', 'report', '')
+    right('a note, once the text is another one', 'note', '')
+    page.value('$("goal").value = ""; note("x")')
+    page.begin(NOTED)
+    right('a note, once the example is another one', 'note', '')
+    return found + (['the goal is still marked'] if page.value('$("goal").hasAttribute("aria-invalid")') else [])
+
+
 def edits(page):
     """What is wrong with a text that is changed by clicks and by hand."""
     found = []

@@ -3,8 +3,9 @@ let branches = [{id: 1, text: ''}];
 let current = 1, previous = 0;          // the numbers of the branch that is shown, and of the one that was shown before
 
 const branchOf = id => branches.find(branch => branch.id === id);
-// Gives the branch that is shown another text, or notes something of it.
-const put = more => { branches = branches.map(branch => branch.id === current ? {...branch, ...more} : branch); };
+// Notes something of a branch; of the one that is shown also another text.
+const putIn = (id, more) => { branches = branches.map(branch => branch.id === id ? {...branch, ...more} : branch); };
+const put = more => putIn(current, more);
 // Makes a new branch with a text the one that is shown.
 function fork(text) {
   put({at: now});
@@ -16,6 +17,7 @@ function fork(text) {
 function visit(id, at, more = {}) {
   const branch = branchOf(id), to = at === undefined ? placeIn(branch) : at, isShown = id === current && !busy;
   put({at: now});
+  note('');
   if (id !== current) [previous, current] = [current, id];
   put(more);
   if (isShown) return show(to);

@@ -85,10 +85,16 @@ function markStep() {
 }
 
 // ---- the run
+// Takes away what was found in another text, and shows the answer of the search in this one.
+function forget() {
+  $('found').textContent = '';
+  drawAnswer();
+}
 // Takes another text, and shows its run at a position; Infinity is its end.
 async function setText(text, at) {
   doc = {text, at};
-  put({text, same: branchOf(current).text === text ? branchOf(current).same : undefined});
+  if (branchOf(current).text !== text) put({text, same: undefined, answer: null});
+  forget();
   if ($('text').value !== text) $('text').value = text;
   paint();
   $('beside').hidden = true;
@@ -380,6 +386,7 @@ async function store() {
 const storeSoon = debounced(store, 200);
 // Takes what is in an address, or else what zplay was started with.
 async function arrive(hash) {
+  note('');
   if (!hash) return setText(given.text, Infinity);
   const [, at, word] = hash.match(/^#(\d+)\.([\w-]+)$/) || [];
   const text = word && await unpacked(word).catch(() => null);
@@ -403,7 +410,9 @@ $('text').oninput = () => {
   if (Date.now() - typed > 1500) remember();
   typed = Date.now();
   doc = {text: $('text').value, at: doc.at < D.last ? doc.at : Infinity};
-  put({text: doc.text, same: undefined, found: null});
+  put({text: doc.text, same: undefined, found: null, answer: null});
+  note('');
+  forget();
   busy = true;
   paint();
   setTypedSoon();
@@ -417,6 +426,7 @@ $('text').onkeydown = event => {
 // Takes another scenario.
 function begin(text, title) {
   remember();
+  note('');
   name = title;
   [branches, current, previous] = [[{id: 1, text}], 1, 0];
   closeBeside();

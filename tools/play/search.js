@@ -3,22 +3,25 @@ let searching = null;                   // what cancels the search that is under
 
 const search = guarded(async () => {
   if (searching) return searching.abort();
-  const from = {text: textHere(), at: now};
+  const from = {text: textHere(), at: now, id: current, whole: doc.text, sought: soughtNow()};
   const body = {text: from.text, position: now, way: $('way').value, goal: goalText(), kill: $('kill').checked, states: +$('states').value};
   searching = new AbortController();
   $('go').textContent = 'Cancel';
+  answered(from, null);
   report({progress: 'searching'}, from);
   try {
     const answer = await post('search', body, searching.signal);
     if (!answer.ok) throw new Error('no such search');
     await eachLine(answer.body.pipeThrough(new TextDecoderStream()).getReader(), line => report(JSON.parse(line), from));
   } catch (error) {
-    $('report').textContent = error.name === 'AbortError' ? 'cancelled' : 'the search broke off';
+    answered(from, {words: error.name === 'AbortError' ? 'cancelled' : 'the search broke off'});
   } finally {
     searching = null;
     $('go').textContent = 'Search';
+    drawAnswer();
   }
 });
+const soughtNow = () => `${$('way').value} ${goalText()}`;
 const goalText = () => $('goal').value.trim() ? $('goal').value : 'differs';
 async function eachLine(reader, work) {
   let rest = '';
@@ -29,19 +32,31 @@ async function eachLine(reader, work) {
   }
   if (rest) work(rest);
 }
-// Shows how far a search is, its answer, or the fault of its goal at the word.
+// Shows how far a search is; or keeps its answer, or the fault of its goal, in the branch that it is about.
 function report({progress, words, found: choices, goal, fault}, from) {
-  $('report').textContent = fault ? fault.words : words || progress || $('report').textContent;
+  if (progress) $('report').textContent = progress;
+  if (progress || !words && !fault) return;
+  if (choices && choices.length) guarded(make)(choices, from, true);
+  const about = choices && choices.length ? {...from, id: current, whole: doc.text} : from;
+  answered(about, {words: fault ? fault.words : words + (choices && !choices.length ? '; it is so here already' : ''), goal});
+  if (goal) showGoalFault(goal);
+}
+// Keeps an answer in its branch, unless the text there or the goal is another one now.
+function answered({id, whole, sought}, answer) {
+  if (branchOf(id) && branchOf(id).text === whole && sought === soughtNow()) putIn(id, {answer});
+}
+// Shows the answer in the branch that is shown, unless a search is under way.
+function drawAnswer() {
+  const {words, goal} = branchOf(current).answer || {};
+  if (!searching) $('report').textContent = words || '';
   $('report').classList.toggle('bad', !!goal);
   if (goal) $('goal').setAttribute('aria-invalid', 'true');
   else $('goal').removeAttribute('aria-invalid');
-  if (goal) showGoalFault(goal);
-  if (choices && choices.length) guarded(make)(choices, from, true);
-  if (choices && !choices.length) $('report').textContent += '; it is so here already';
 }
 function showGoalFault({column, length}) {
   $('goal').focus();
   $('goal').setSelectionRange(column - 1, column - 1 + length);
 }
 $('goals').append(...Object.entries(given.goals).map(([goal, words]) => { const option = new Option(words, goal); option.label = words; return option; }));
+$('search').oninput = () => { put({answer: null}); note(''); drawAnswer(); };
 $('search').onsubmit = event => { event.preventDefault(); search(); };
