@@ -121,12 +121,18 @@ def searches(page):
         search(page, way, goal)
         page.wait('!searching && !busy')
         report, last = page.value('$("report").textContent'), page.value('D.last')
-        if not report.startswith(words) or last != added or page.value('(found => found && found[1] - found[0] + 1 || 0)(branchOf(current).found)') != added:
+        if not report.startswith('from the opening: ' + words[0].lower() + words[1:]) or last != added or page.value('(found => found && found[1] - found[0] + 1 || 0)(branchOf(current).found)') != added:
             yield '%s: %r, %d choices' % (goal, report, last)
         if page.value('branches.map(branch => scheduleOf(branch.text).choices.length)') != [0] + ([added] if added else []):
             yield '%s: the branches are %r' % (goal, page.value('branches'))
     if page.value('$("added").offsetHeight') < 14 * 10:
         yield 'the added steps are not marked'
+    for origin, words in (('here', 'from step 14 on: never: '), ('opening', 'from the opening: found after '), ('here', 'from step 14 on: ')):
+        page.value('$("origin").value = "%s"' % origin)
+        search(page, 'for', 'committed' if origin == 'here' else 'stuck')
+        page.wait('!searching && !busy')
+        if not page.value('$("report").textContent').startswith(words):
+            yield 'the origin of an answer, wanted %r: %r' % (words, page.value('$("report").textContent'))
     page.key('[', '[')
     page.wait()
     if page.value('$("added").offsetHeight'):

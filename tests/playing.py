@@ -132,8 +132,8 @@ class Page(browser.Browser):
         self.wait('!busy')
 
     def press(self, selector):
-        """Clicks something, where it is."""
-        x, y = self.value('(() => { const it = document.querySelector(%s); it.scrollIntoView({block: "nearest"}); '
+        """Clicks something, where it is, as if it were a while after the last click."""
+        x, y = self.value('(() => { clicked.time = changedAt = -SOON; const it = document.querySelector(%s); it.scrollIntoView({block: "nearest"}); '
                           'const b = it.getBoundingClientRect(); return [b.left + 12, b.top + b.height / 2]; })()' % json.dumps(selector))
         self.click(x, y)
         self.wait()

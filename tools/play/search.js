@@ -3,8 +3,8 @@ let searching = null;                   // what cancels the search that is under
 
 const search = guarded(async () => {
   if (searching) return searching.abort();
-  const from = {text: textHere(), at: now, id: current, whole: doc.text, sought: soughtNow()};
-  const body = {text: from.text, position: now, way: $('way').value, goal: goalText(), kill: $('kill').checked, states: +$('states').value};
+  const from = {...origin(), id: current, whole: doc.text, sought: soughtNow()};
+  const body = {text: from.text, position: from.at, way: $('way').value, goal: goalText(), kill: $('kill').checked, states: +$('states').value};
   searching = new AbortController();
   $('go').textContent = 'Cancel';
   answered(from, null);
@@ -21,7 +21,9 @@ const search = guarded(async () => {
     drawAnswer();
   }
 });
-const soughtNow = () => `${$('way').value} ${goalText()}`;
+// The position from which is searched, and the text up to it.
+const origin = () => $('origin').value === 'opening' ? {text: edited(doc.text, 0, []), at: 0} : {text: textHere(), at: now};
+const soughtNow = () => `${$('origin').value} ${$('way').value} ${goalText()}`;
 const goalText = () => $('goal').value.trim() ? $('goal').value : 'differs';
 async function eachLine(reader, work) {
   let rest = '';
@@ -38,8 +40,13 @@ function report({progress, words, found: choices, goal, fault}, from) {
   if (progress || !words && !fault) return;
   if (choices && choices.length) guarded(make)(choices, from, true);
   const about = choices && choices.length ? {...from, id: current, whole: doc.text} : from;
-  answered(about, {words: fault ? fault.words : words + (choices && !choices.length ? '; it is so here already' : ''), goal});
+  answered(about, {words: fault ? fault.words : goal ? words : answerOf(words, choices, from.at), goal});
   if (goal) showGoalFault(goal);
+}
+// An answer with the step from which was searched.
+function answerOf(words, choices, at) {
+  const begins = at ? `from step ${at} on: ` : 'from the opening: ', isHere = choices && !choices.length;
+  return begins + words[0].toLowerCase() + words.slice(1) + (isHere ? '; it is so there already' : '');
 }
 // Keeps an answer in its branch, unless the text there or the goal is another one now.
 function answered({id, whole, sought}, answer) {
