@@ -142,6 +142,12 @@ def searches(page):
     marked = page.value('(goal => [document.activeElement === goal, goal.value.slice(goal.selectionStart, goal.selectionEnd), goal.ariaInvalid])($("goal"))')
     if marked[:2] != [True, 'on'] or page.value('$("goal").getAttribute("aria-invalid")') != 'true':
         yield 'a goal that is not understood: %r' % marked
+    fields = page.value('[...$("search").querySelectorAll("input, select, button, summary")].map(field => field.id)')
+    for number, field in enumerate(fields):
+        page.value('$("search").querySelectorAll("input, select, button, summary")[%d].focus()' % number)
+        page.key('Escape')
+        if page.value('document.activeElement.id') != 'view':
+            yield 'Esc does not leave the field %d %s of the search' % (number, field)
     page.begin(loops())
     search(page, 'for', 'stuck', 50000000)
     page.wait('/\\d+ states, \\d+ choices deep/.test($("report").textContent)')

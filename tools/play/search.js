@@ -66,4 +66,5 @@ function showGoalFault({column, length}) {
 }
 $('goals').append(...Object.entries(given.goals).map(([goal, words]) => { const option = new Option(words, goal); option.label = words; return option; }));
 $('search').oninput = () => { put({answer: null}); note(''); drawAnswer(); };
+$('search').onkeydown = event => { if (event.key === 'Escape') $('view').focus(); };
 $('search').onsubmit = event => { event.preventDefault(); search(); };
