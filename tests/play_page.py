@@ -142,6 +142,10 @@ def searches(page):
     marked = page.value('(goal => [document.activeElement === goal, goal.value.slice(goal.selectionStart, goal.selectionEnd), goal.ariaInvalid])($("goal"))')
     if marked[:2] != [True, 'on'] or page.value('$("goal").getAttribute("aria-invalid")') != 'true':
         yield 'a goal that is not understood: %r' % marked
+    told = page.value('$("language").textContent')
+    missing = [goal for goal in page.value('Object.keys(given.goals)') if re.fullmatch('[a-z]+', goal) and goal not in told]
+    if missing or 'numbers or names' not in told:
+        yield 'the goals text lacks %r: %r' % (missing, told)
     fields = page.value('[...$("search").querySelectorAll("input, select, button, summary")].map(field => field.id)')
     for number, field in enumerate(fields):
         page.value('$("search").querySelectorAll("input, select, button, summary")[%d].focus()' % number)
