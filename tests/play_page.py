@@ -250,6 +250,11 @@ def migration(page):
     page.wait('D.last > 4 && !busy')
     found = [] if page.value('D.lines.some(line => line.endsWith("A run 0 -> committed 1"))') else ['the migration does not wait']
     note, mode = page.value('[$("note").textContent, at(D.modes.B, now)[1]]')
+    for position, wanted in ((0, False), (4, False), (page.value('D.last'), True)):
+        page.value('show(%d)' % position)
+        page.wait()
+        if page.value('$("migrate").disabled') != wanted:
+            found.append('at %d a migration is %s' % (position, 'offered' if wanted else 'grey'))
     found += [] if (note, mode) == ('', 'normal') else ['the migration does not end: %r, B is %s' % (note, mode)]
     return found
 

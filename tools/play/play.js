@@ -288,6 +288,7 @@ function drawLanes(lanes, outcomes) {
   const focus = document.activeElement.closest('#lanes') && document.activeElement.dataset.choice;
   const all = Object.values(lanes).flat(), outcomeOf = choice => outcomes && outcomes[all.indexOf(choice)];
   if (outcomes) drawWaits(all, outcomes);
+  if (outcomes) $('migrate').disabled = isSettled() && !outcomeOf('C start').acts;
   if (offered !== all.join()) [offered, changedAt] = [all.join(), performance.now()];
   $('lanes').replaceChildren(...ACTORS.map(actor => laneOf(actor, lanes[actor], outcomeOf)));
   if (focus) focusAfter(focus);
@@ -297,11 +298,12 @@ function focusAfter(choice) {
   const find = end => $('lanes').querySelector(`[data-choice$="${end}"]`), t = choice.split(' ')[2];
   (find(choice) || t && find(` run ${t}`) || $('view')).focus();
 }
+// Whether no migration is on its way.
+const isSettled = () => ['A', 'B'].every(node => ['normal', 'empty'].includes(at(D.modes[node], now)[1]));
 function drawNext() {
   $('after').textContent = `After step ${now}`;
   $('cut').disabled = now === D.last;
-  const settled = ['A', 'B'].every(node => ['normal', 'empty'].includes(at(D.modes[node], now)[1]));
-  $('migrate').textContent = settled ? 'A whole migration' : 'Let the migration end';
+  $('migrate').textContent = isSettled() ? 'A whole migration' : 'Let the migration end';
   const lanes = candidates(), text = textHere();
   drawLanes(lanes, known.get(text));
   if (!known.has(text)) lookUpSoon();
