@@ -437,6 +437,20 @@ def full(page):
 WINDOWS = [(1680, 950, 1), (1100, 900, 1), (1000, 700, 1), (840, 475, 2), (700, 900, 1), (380, 900, 1)]
 
 
+# Whether the last letter of the goals text can be brought into sight, and nothing else is over it or below it.
+READABLE = '''(language => {
+  language.open = true;
+  const text = language.querySelector('p'), letters = document.createRange();
+  text.scrollIntoView({block: 'end'});
+  letters.selectNodeContents(text);
+  const {right, bottom} = [...letters.getClientRects()].pop(), part = $('next').getBoundingClientRect();
+  const isThere = language.contains(document.elementFromPoint(right - 3, bottom - 3)) && bottom <= part.bottom;
+  language.open = false;
+  scrollTo(0, 0);
+  return isThere;
+})($('language'))'''
+
+
 def narrow(page):
     """What is wrong with windows of some sizes: something is wider than the window, or a part has no room."""
     page.begin(content(os.path.join(EXAMPLES, 'migration.zephyr')).decode())
@@ -452,6 +466,8 @@ def narrow(page):
             room = page.value('(box => [box.width, box.height])($("%s").getBoundingClientRect())' % part)
             if room[0] < 150 or room[1] < 48:
                 yield '%d to %d: %s has %d to %d' % (width, height, part, *room)
+        if not page.value(READABLE):
+            yield '%d to %d: the goals text cannot be read' % (width, height)
     page.call('Emulation.clearDeviceMetricsOverride')
 
 
