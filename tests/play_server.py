@@ -158,8 +158,12 @@ def laid_beside():
     held = content(os.path.join(EXAMPLES, 'anomaly_under_held.zephyr')).decode()
     with Play() as play:
         answer = play.ask('/beside', '', texts=[ANOMALY, held])
+        other = play.ask('/beside', '', texts=[NOTED, NOTED.replace('row 10 1', 'row 10 7\nrow 11 5').replace('read r1 r0\n', '')])
         steps = [[(step[0], step[2]) for step in steps] for steps in answer['steps']]
         return [words for words, is_right in (
+            ('the scenarios: %r' % answer['scenarios'], answer['scenarios'] == [['rule', 'loose', 'held']]),
+            ('other rows and programs: %r' % other['scenarios'], other['scenarios'] == [
+                ['row 10', '1', '7'], ['program 0', 'set r0 10; read r1 r0; commit', 'set r0 10; commit'], ['row 11', '', '5']]),
             ('they part at %d' % answer['both'], answer['both'] == 11),
             ('the steps: %r' % steps, steps == [[(choice, one) for choice, one, _ in PARTED], [(choice, other) for choice, _, other in PARTED]]),
             ('the verdicts: %r' % answer['verdicts'], answer['verdicts'] == ['serial differs', 'serial same']),

@@ -8,11 +8,20 @@ from picture.rows import choice_of
 
 
 def beside(asked):
-    """How many steps both begin with, the steps of each behind these, the two verdicts, and the lines of the last states that differ."""
+    """Where the scenarios differ, how many steps both begin with, the steps of each behind these, the two verdicts, and the lines of the last states
+    that differ."""
     pair = [runs.read(text, quiet=True) for text in (asked['texts'][0], asked['texts'][1])]
     both = sum(1 for _ in takewhile(lambda steps: steps[0].line == steps[1].line, zip(*(run.steps for run in pair))))
     behind = [[shown(run, step) for step in run.steps[both:]] for run in pair]
-    return {'both': both, 'steps': behind, 'verdicts': [run.verdict for run in pair], 'states': differing(*map(last_state, pair))}
+    return {'scenarios': differing(*map(parts_of, pair)), 'both': both, 'steps': behind, 'verdicts': [run.verdict for run in pair],
+            'states': [lines for _, *lines in differing(*map(last_state, pair))]}
+
+
+def parts_of(run):
+    """What a scenario has before its choices, by what it is about: its numbers, its rule, its rows, its programs."""
+    rows = {'row ' + line.split()[1]: line.split()[2] for line in run.scenario if line.startswith('row ')}
+    programs = {'program %d' % txn: '; '.join(lines) for txn, lines in enumerate(run.programs)}
+    return {'version': run.version, 'cap': run.cap, 'pages': run.limit, 'rule': run.rule, **rows, **programs}
 
 
 def shown(run, step):
@@ -28,5 +37,5 @@ def last_state(run):
 
 
 def differing(one, other):
-    """The lines that differ of two states, in pairs; '' where a state has none."""
-    return [[one.get(subject, ''), other.get(subject, '')] for subject in {**one, **other} if one.get(subject) != other.get(subject)]
+    """What differs of two states or scenarios: what it is about, and what each of them has there; '' where one has nothing."""
+    return [[subject, one.get(subject, ''), other.get(subject, '')] for subject in {**one, **other} if one.get(subject) != other.get(subject)]

@@ -151,18 +151,20 @@ function closeBeside() {
   $('beside').hidden = true;
   $('view').focus();
 }
-function drawBeside(pair, {both, steps, verdicts: ends, states}) {
+function drawBeside(pair, {scenarios, both, steps, verdicts: ends, states}) {
   const close = el('button', '', 'Close');
   close.title = 'Esc';
   close.onclick = closeBeside;
-  const title = el('h2', '', both ? `branches ${pair.join(' and ')} part after step ${both}` : `branches ${pair.join(' and ')} part at the opening`);
+  const differ = scenarios.length ? 'are of different scenarios, and ' : '';
+  const title = el('h2', '', `branches ${pair.join(' and ')} ${differ}part ${both ? `after step ${both}` : 'at the opening'}`);
+  const scenarioRows = scenarios.map(([subject, ...parts]) => el('tr', 'state', el('th', '', subject), ...parts.map(part => el('td', '', part || '—'))));
   const count = Math.max(...steps.map(list => list.length)), rows = Array.from({length: Math.min(count, MOST_BESIDE)}, (_, k) => k);
   const body = rows.map(k => el('tr', '', el('th', '', both + k + 1), ...pair.map((id, side) => stepCell(id, both + k + 1, steps[side][k]))));
   const heads = ['step', ...pair.map(id => `branch ${id}`)].map(word => el('th', '', word));
   const more = count > MOST_BESIDE ? [el('p', '', `and ${count - MOST_BESIDE} more steps`)] : [];
   const verdictRow = el('tr', '', el('th', '', 'end'), ...ends.map(word => el('td', '', verdictChip(word === 'serial same'))));
   const stateRows = states.map(lines => el('tr', 'state', el('th', '', ''), ...lines.map(line => el('td', '', line || '—'))));
-  const table = el('table', '', el('tr', '', ...heads), ...body, verdictRow, ...stateRows);
+  const table = el('table', '', el('tr', '', ...heads), ...scenarioRows, ...body, verdictRow, ...stateRows);
   $('beside').replaceChildren(el('div', 'bar', title, el('span', 'fill'), close), table, ...more);
 }
 // A step of one of two branches: a click shows it there.
