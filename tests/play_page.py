@@ -546,6 +546,9 @@ def cut_short():
             page.wait('$("fault").textContent')
             shown = page.value(DAMAGED)
             found += [] if shown == [True, '', 'zplay', False] else ['%s: %r' % (damaged[-12:], shown)]
+        page.type(SMALLEST)
+        page.wait()
+        found += [] if page.value('[D.last, $("fault").textContent]') == [0, ''] else ['a text that is typed instead is not run']
         page.go('about:blank')
         page.go(address)
         page.wait()

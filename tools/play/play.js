@@ -402,7 +402,7 @@ function showDamaged() {
     document.body.classList.remove('stale');
     return storeSoon();
   }
-  $('example').value = '';
+  $('example').selectedIndex = -1;
   document.title = 'zplay';
 }
 
@@ -411,7 +411,7 @@ const setTypedSoon = debounced(guarded(() => setText($('text').value, doc.at)), 
 $('text').oninput = () => {
   if (Date.now() - typed > 1500) remember();
   typed = Date.now();
-  doc = {text: $('text').value, at: doc.at < D.last ? doc.at : Infinity};
+  doc = {text: $('text').value, at: D && doc.at < D.last ? doc.at : Infinity};
   put({text: doc.text, same: undefined, found: null, answer: null});
   note('');
   forget();
