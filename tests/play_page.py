@@ -121,7 +121,8 @@ def searches(page):
         search(page, way, goal)
         page.wait('!searching && !busy')
         report, last = page.value('$("report").textContent'), page.value('D.last')
-        if not report.startswith('from the opening: ' + words[0].lower() + words[1:]) or last != added or page.value('(found => found && found[1] - found[0] + 1 || 0)(branchOf(current).found)') != added:
+        is_said = report.startswith('from the opening: ' + words[0].lower() + words[1:])
+        if not is_said or last != added or page.value('(found => found && found[1] - found[0] + 1 || 0)(branchOf(current).found)') != added:
             yield '%s: %r, %d choices' % (goal, report, last)
         if page.value('branches.map(branch => scheduleOf(branch.text).choices.length)') != [0] + ([added] if added else []):
             yield '%s: the branches are %r' % (goal, page.value('branches'))
