@@ -1,6 +1,7 @@
 pub mod Texts
 pub mod Listing
 pub mod Locked
+pub mod Nodes
 pub mod Lone
 pub mod SameMaps
 pub mod Covering

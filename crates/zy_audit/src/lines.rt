@@ -5,6 +5,7 @@ pub mod final_state;
 pub mod link;
 pub mod locked;
 pub mod mode;
+pub mod node;
 pub mod page;
 mod rows;
 pub mod serial;

@@ -65,6 +65,13 @@ impl PageSet {
         self.pages.as_slice() == other.pages.as_slice()
     }
 
+    /// The numbers, in order.
+    pub fn numbers(&self) -> &[u16]
+        ensures { result.now ≡ self.entry.now }
+    {
+        &self.pages
+    }
+
     /// Whether a number is among them.
     pub fn has(&self, p: u16) -> bool
         ensures { result ≡ table.has self.now p }

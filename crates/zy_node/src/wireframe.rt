@@ -19,6 +19,16 @@ pub fn page_count(wire: &Option<Wire>) -> usize
     }
 }
 
+/// The low key of each page, by number.
+pub fn lows(wire: &Option<Wire>) -> &[u16]
+    ensures { result.now ≡ lows_in wire.entry.now }
+{
+    match wire {
+        Some(wire) => wire.lows(),
+        None => &[],
+    }
+}
+
 /// The page that a key lies on; 0 where there is none.
 #[tactic(auto, unfolding(zy_wire::specs::Wireframe::page_of))]
 pub fn page_of(wire: &Option<Wire>, key: u16) -> u16

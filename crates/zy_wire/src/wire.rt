@@ -97,6 +97,13 @@ impl Wire {
         self.lows.len()
     }
 
+    /// The low key of each page, by number.
+    pub fn lows(&self) -> &[u16]
+        ensures { result.now ≡ self.entry.now.lows }
+    {
+        &self.lows
+    }
+
     /// The low key of a page, which is 0 for page 0.
     pub fn low_of(&self, page: u16) -> u16
         requires { page < length self.now.lows }
