@@ -8,9 +8,9 @@ use zy_text::names::is;
 use zy_text::numbers::number_of;
 
 /// The first words of the commands.
-const COMMANDS: [&'static str; 12] = [
-    "step", "back", "goto", "cont", "rcont", "break", "watch", "delete", "page", "txn", "links",
-    "where",
+const COMMANDS: [&'static str; 13] = [
+    "step", "back", "goto", "cont", "rcont", "break", "watch", "delete", "page", "txn", "node",
+    "links", "where",
 ];
 
 /// What `break` takes beside a page.
@@ -25,6 +25,8 @@ enum Form {
     Number(&'static str),
     /// A page, or what else stops.
     Break,
+    /// A node.
+    Node,
 }
 
 impl Form {
@@ -38,6 +40,7 @@ impl Form {
             b"page" => Some(Form::Number("P")),
             b"txn" => Some(Form::Number("T")),
             b"break" => Some(Form::Break),
+            b"node" => Some(Form::Node),
             _ => None,
         }
     }
@@ -64,7 +67,7 @@ impl<'a> BadCommand<'a> {
         match Meant::of(word, &COMMANDS) {
             Some(meant) => write!(f, "{meant}"),
             None => f.write_str(
-                "there are step, back, goto, cont, rcont, break, watch, delete, page, txn, links and where",
+                "there are step, back, goto, cont, rcont, break, watch, delete, page, txn, node, links and where",
             ),
         }
     }
@@ -111,6 +114,7 @@ impl fmt::Display for BadCommand<'_> {
         match Form::of(word) {
             None => self.tell_unknown(f),
             Some(Form::Break) => self.tell_break(f),
+            Some(Form::Node) => f.write_str("it is node A or node B"),
             Some(Form::Lone) => write!(f, "nothing comes behind {}", Quoted(word)),
             Some(Form::Number(letter)) => match std::str::from_utf8(word) {
                 Ok(command) => self.tell_number(f, command, letter, 1),

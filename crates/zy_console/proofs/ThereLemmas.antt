@@ -51,6 +51,7 @@ does_there s t (command.Delete n) x e h = absurd (cc (h.1))
 does_there s t (command.Page p) x e h = same_there s t x (shown.Page p) h (ltb-true p s.scenario.pages (passed (nat_lt p s.scenario.pages) e))
 does_there s t (command.Txn n) x e h =
     same_there s t x (shown.Txn n) h (ltb-true n (length s.scenario.programs) (passed (nat_lt n (length s.scenario.programs)) e))
+does_there s t (command.Node n) x e h = same_there s t x (shown.Node n) h tt
 does_there s t command.Links x e h = same_there s t x shown.Links h tt
 does_there s t command.Position x e h = same_there s t x shown.Position h tt
 

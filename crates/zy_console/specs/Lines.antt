@@ -3,6 +3,7 @@ use Rattle.std.specs.Prelude.{ℕ, ◌&&◌, nat_le, List, [], ◌∷◌, codes,
 use Rattle.std.specs.Option.{option_and_then}
 use Rattle.std.specs.Str.{bytes_eq}
 use Rattle.zy_text.specs.Words.{number_of}
+use Rattle.zy_isa.specs.declared.node.Node.TheVariants.{A, B}
 use Rattle.zy_debug.specs.declared.command.Command.{Command}
 use Rattle.zy_debug.specs.declared.command.Command.TheVariants as command
 
@@ -45,8 +46,18 @@ break_at w =
     if bytes_eq w (codes "abort") then Some command.BreakAbort else
     None
 
+-- the node behind `node`
+abbrev pub node_at : List ℕ → Option Command
+node_at w =
+    if bytes_eq w (codes "A") then Some (command.Node A) else
+    if bytes_eq w (codes "B") then Some (command.Node B) else
+    None
+
 abbrev pub of_two : List ℕ → List ℕ → Option Command
-of_two w v = if bytes_eq w (codes "break") then break_at v else option_and_then (numbered w) (count_of v)
+of_two w v =
+    if bytes_eq w (codes "break") then break_at v else
+    if bytes_eq w (codes "node") then node_at v else
+    option_and_then (numbered w) (count_of v)
 
 -- `break page` and a number
 abbrev pub of_three : List ℕ → List ℕ → List ℕ → Option Command

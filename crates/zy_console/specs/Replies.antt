@@ -3,9 +3,10 @@ use Rattle.std.specs.Prelude.{ℕ, ◌<◌, List, [], ◌++◌, codes, length}
 use Rattle.std.specs.Fmt.{decimal}
 use Rattle.zy_isa.specs.declared.node.Node.TheVariants.{A, B}
 use Rattle.zy_io.specs.Writing.{line_of}
-use Rattle.zy_table.specs.State.{State}
+use Rattle.zy_table.specs.State.{State, facing}
 use Rattle.zy_isa.specs.Scenario.{Scenario}
 use Rattle.zy_audit.specs.Locked.{page_reply}
+use Rattle.zy_audit.specs.Nodes.{node_reply}
 use Rattle.zy_audit.specs.Texts.{txn_text, link_text, mode_word}
 use Rattle.zy_stops.specs.Stops.{state_at}
 use Rattle.zy_debug.specs.Sessions.{Session}
@@ -28,6 +29,7 @@ where_text m l s = codes "at " ++ (decimal m ++ (codes " of " ++ (decimal l ++ m
 abbrev pub shown_text : ℕ → ℕ → State → Shown → List ℕ
 shown_text m l s (shown.Page p) = line_of (page_reply s p)
 shown_text m l s (shown.Txn t) = line_of (txn_text s t)
+shown_text m l s (shown.Node n) = line_of (node_reply n (facing n s).me)
 shown_text m l s shown.Links = line_of (link_text A s.ab) ++ line_of (link_text B s.ba)
 shown_text m l s shown.Position = line_of (where_text m l s)
 
@@ -35,6 +37,7 @@ shown_text m l s shown.Position = line_of (where_text m l s)
 abbrev pub IsThere : Scenario → Shown → Type 0
 IsThere sc (shown.Page p) = p < sc.pages
 IsThere sc (shown.Txn t) = t < length sc.programs
+IsThere sc (shown.Node n) = Unit {0}
 IsThere sc shown.Links = Unit {0}
 IsThere sc shown.Position = Unit {0}
 

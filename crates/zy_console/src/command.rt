@@ -4,6 +4,7 @@ ghost use Rattle.zy_text.specs.Lines.{texts};
 ghost use Rattle.zy_console.specs.Lines as spec;
 
 use zy_debug::Command;
+use zy_isa::Node;
 use zy_text::names::is;
 use zy_text::numbers::number_of;
 
@@ -76,12 +77,28 @@ fn break_at(word: &[u8]) -> Option<Command>
     }
 }
 
+/// The command that `node` and a word spell.
+fn node_at(word: &[u8]) -> Option<Command>
+    ensures { result ≡ spec.node_at word.now }
+{
+    if is(word, b"A") {
+        Some(Command::Node(Node::A))
+    } else if is(word, b"B") {
+        Some(Command::Node(Node::B))
+    } else {
+        None
+    }
+}
+
 /// The command that two words spell.
 fn of_two(first: &[u8], second: &[u8]) -> Option<Command>
     ensures { result ≡ spec.of_two first.now second.now }
 {
     if is(first, b"break") {
         return break_at(second);
+    }
+    if is(first, b"node") {
+        return node_at(second);
     }
     match count_of(second) {
         Some(number) => numbered(first, number),

@@ -3,6 +3,8 @@ ghost use Rattle.std.specs.Prelude.{◌≡◌, ◌<◌, ◌++◌, OnOk, length};
 ghost use Rattle.zy_io.specs.Writing.{line_of};
 ghost use Rattle.zy_isa.specs.declared.node.Node.TheVariants.{A, B};
 ghost use Rattle.zy_audit.specs.Locked as audit;
+ghost use Rattle.zy_audit.specs.Nodes as spec;
+ghost use Rattle.zy_table.specs.State.{facing};
 ghost use Rattle.zy_audit.specs.Texts.{link_text, txn_text};
 ghost use Rattle.zy_console.specs.Replies.{IsThere, shown_text, where_text};
 
@@ -10,6 +12,7 @@ use std::alloc::AllocError;
 use zy_audit::ModeText;
 use zy_audit::lines::link::link_line;
 use zy_audit::lines::locked::page_reply;
+use zy_audit::lines::node::node_reply;
 use zy_audit::lines::txn::txn_line;
 use zy_debug::Shown;
 use zy_io::{Decimal, Line, LineBuffer, joined};
@@ -68,6 +71,14 @@ fn append_page(machine: &Machine, page: u16, line: &mut LineBuffer) -> Result<()
     line.push(b'\n')
 }
 
+/// Appends the line of a node, with its end.
+fn append_node(machine: &Machine, n: Node, line: &mut LineBuffer) -> Result<(), AllocError>
+    ensures { OnOk result (line.new ≡ line.old ++ line_of (spec.node_reply n (facing n machine.now.state).me)) }
+{
+    node_reply(machine, n, line)?;
+    line.push(b'\n')
+}
+
 /// Appends the lines that are shown of a machine, each with its end.
 pub fn append_shown(
     machine: &Machine,
@@ -81,6 +92,7 @@ pub fn append_shown(
     match shown {
         Shown::Page(page) => append_page(machine, page, line),
         Shown::Txn(t) => append_txn(machine, t, line),
+        Shown::Node(n) => append_node(machine, n, line),
         Shown::Links => append_links(machine, line),
         Shown::Position => append_where(machine, line),
     }

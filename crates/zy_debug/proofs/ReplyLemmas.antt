@@ -58,6 +58,7 @@ module _ (s t u : Session) (r q : Reply) where
   does_once (command.Delete n) h k = same _ _ h k
   does_once (command.Page p) h k = same _ _ h k
   does_once (command.Txn n) h k = same _ _ h k
+  does_once (command.Node n) h k = same _ _ h k
   does_once command.Links h k = same _ _ h k
   does_once command.Position h k = same _ _ h k
 
@@ -109,5 +110,6 @@ is_done s (command.Watch x) h = sets s (stop.Watch x) (in_range_too (nat_le x ma
 is_done s (command.Delete n) h = (record s { stops = without_stop (n - 1) s.stops }, reply.Deleted n, (refl, refl))
 is_done s (command.Page p) h = (s, reply.Shown (shown.Page p), (refl, refl))
 is_done s (command.Txn n) h = (s, reply.Shown (shown.Txn n), (refl, refl))
+is_done s (command.Node n) h = (s, reply.Shown (shown.Node n), (refl, refl))
 is_done s command.Links h = (s, reply.Shown shown.Links, (refl, refl))
 is_done s command.Position h = (s, reply.Shown shown.Position, (refl, refl))

@@ -52,6 +52,7 @@ refusal s (command.Watch k) = has_room_in_range (nat_le k max_key) s
 refusal s (command.Delete n) = unless (has_stop n s.stops) fault.NoSuchStop
 refusal s (command.Page p) = in_range (nat_lt p s.scenario.pages)
 refusal s (command.Txn t) = in_range (nat_lt t (length s.scenario.programs))
+refusal s (command.Node n) = None
 refusal s command.Links = None
 refusal s command.Position = None
 
@@ -108,6 +109,7 @@ Does s (command.Watch k) t r = Sets s (stop.Watch k) t r
 Does s (command.Delete n) t r = Deletes s n t r
 Does s (command.Page p) t r = Stays s (shown.Page p) t r
 Does s (command.Txn n) t r = Stays s (shown.Txn n) t r
+Does s (command.Node n) t r = Stays s (shown.Node n) t r
 Does s command.Links t r = Stays s shown.Links t r
 Does s command.Position t r = Stays s shown.Position t r
 

@@ -3,6 +3,7 @@ ghost use Rattle.std.specs.Prelude.{◌≡◌};
 
 use std::alloc::AllocError;
 use thiserror::Error;
+use zy_isa::Node;
 
 /// What a session is asked.
 #[derive(Clone, Copy, Debug, PartialEq, Eq)]
@@ -31,6 +32,8 @@ pub enum Command {
     Page(u32),
     /// Shows a transaction.
     Txn(u32),
+    /// Shows a node: its wireframe, and the pages that it has asked for.
+    Node(Node),
     /// Shows both links.
     Links,
     /// Shows the position and the modes.
@@ -59,6 +62,8 @@ pub enum Shown {
     Page(u16),
     /// A transaction of the scenario.
     Txn(u8),
+    /// A node: its wireframe, and the pages that it has asked for.
+    Node(Node),
     /// Both links.
     Links,
     /// The position and the modes.

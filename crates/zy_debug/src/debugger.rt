@@ -113,6 +113,7 @@ impl Debugger {
             Command::Delete(i) => self.delete(i),
             Command::Page(p) => self.show_page(p),
             Command::Txn(t) => self.show_txn(t),
+            Command::Node(n) => Ok(Reply::Shown(Shown::Node(n))),
             Command::Links => Ok(Reply::Shown(Shown::Links)),
             Command::Position => Ok(Reply::Shown(Shown::Position)),
         }
