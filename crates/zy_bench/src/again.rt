@@ -26,11 +26,10 @@ pub fn run_again(
     run_bytes(alloc, format, &mut source, kept, &mut input)
 }
 
-/// Makes the choices of a scenario, for the fault by which it is rejected.
-pub fn make_again(alloc: Global, format: Format, scenario: &[u8]) -> Result<(), BenchFault> {
+/// Makes the choices of a scenario.
+pub fn make_again(alloc: Global, format: Format, scenario: &[u8]) -> Result<Machine, BenchFault> {
     let mut kept = LineKept::new(alloc, 0);
-    run_again(alloc, format, scenario, &mut kept)?;
-    Ok(())
+    run_again(alloc, format, scenario, &mut kept)
 }
 
 /// The line of this number of the listing that an input is to be.

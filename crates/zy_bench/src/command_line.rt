@@ -2,7 +2,8 @@
 
 use clap::{Arg, ArgAction, ArgMatches, Command, value_parser};
 use std::alloc::{AllocError, Global};
-use zy_engine::Format;
+use zy_engine::{Format, SearchOptions, Wording};
+use zy_search::ChoiceKinds;
 
 /// A task, and the input that it is for.
 #[derive(Clone, Copy, Debug, PartialEq, Eq)]
@@ -28,15 +29,13 @@ pub enum Task<'a> {
 /// What a search is to go by.
 #[derive(Clone, Copy, Debug, PartialEq, Eq)]
 pub struct Quest<'a> {
-    pub format: Format,
+    pub options: SearchOptions,
     /// The goal, as it was given.
     pub text: &'a str,
     /// Whether every state is to meet the goal: a state is looked for that does not.
     pub is_always: bool,
-    /// Whether the client may kill transactions.
-    pub kills: bool,
-    /// The most states that it may reach.
-    pub most: u32,
+    /// The kinds of choices that are considered.
+    pub kinds: ChoiceKinds,
 }
 
 /// Which copies of the machine are kept to replay from.
@@ -217,6 +216,34 @@ const SEARCH_HELP: &'static str = concat!(
     "  zy_bench search --for 'txn 0 active and page 3 moving then pulls' SCENARIO"
 );
 
+/// The kinds of choices, as `--without` names them.
+const KINDS: &'static [&'static str] = &["start", "begin", "kill", "run", "take", "finish", "push"];
+
+/// The arguments of `search` that say which schedules are looked at.
+fn with_schedules<'a>(alloc: Global, command: Command<'a>) -> Result<Command<'a>, AllocError> {
+    let from = Arg::new(alloc, "from")
+        .long("from")
+        .value_name("N")
+        .value_parser(value_parser!(u16).range(0..=4096))
+        .help("Takes the scenario's first N choices as steps already taken: 0 to 4096, default all");
+    let kills = Arg::new(alloc, "kill")
+        .long("kill")
+        .action(ArgAction::SetTrue)
+        .help("Considers that the client kills transactions too");
+    let without = Arg::new(alloc, "without")
+        .long("without")
+        .value_name("KIND")
+        .action(ArgAction::Append)
+        .value_parser(KINDS)
+        .help("Leaves out choices of this kind: start, begin, kill, run, take, finish or push");
+    let states = Arg::new(alloc, "states")
+        .long("states")
+        .value_name("N")
+        .value_parser(value_parser!(u32).range(1..=4294967295))
+        .help("Gives up after N states: 1 to 4294967295, default 1000000");
+    command.arg(from)?.arg(kills)?.arg(without)?.arg(states)
+}
+
 /// `search`.
 fn search_command<'a>(alloc: Global) -> Result<Command<'a>, AllocError> {
     let wanted = Arg::new(alloc, "for")
@@ -228,23 +255,18 @@ fn search_command<'a>(alloc: Global) -> Result<Command<'a>, AllocError> {
         .value_name("GOAL")
         .conflicts_with("for")?
         .help("A goal that every state is to meet: looks for a state that does not");
-    let kills = Arg::new(alloc, "kill")
-        .long("kill")
+    let canonical = Arg::new(alloc, "canon")
+        .long("canon")
         .action(ArgAction::SetTrue)
-        .help("Considers that the client kills transactions too");
-    let states = Arg::new(alloc, "states")
-        .long("states")
-        .value_name("N")
-        .value_parser(value_parser!(u32).range(1..=4294967295))
-        .help("Gives up after N states: 1 to 4294967295, default 1000000");
-    Command::new(alloc, "search")
+        .help("Writes what is found as canonical text, without names and comments");
+    let command = Command::new(alloc, "search")
         .about("Looks for a schedule of a scenario after which a state shows something")
         .after_help(SEARCH_HELP)
         .arg(image_flag(alloc))?
         .arg(wanted)?
-        .arg(always)?
-        .arg(kills)?
-        .arg(states)?
+        .arg(always)?;
+    with_schedules(alloc, command)?
+        .arg(canonical)?
         .arg(file_argument(alloc))
 }
 
@@ -289,15 +311,59 @@ fn task_of<'a>(name: &str, words: &ArgMatches<'a>) -> Option<Task<'a>> {
     }
 }
 
-/// What a search is to go by; what was left out is `differs` and a million states.
+/// What a search is to go by; what was left out is `differs`.
 fn quest_of<'a>(words: &ArgMatches<'a>) -> Quest<'a> {
     let always = words.get_str("always");
     Quest {
-        format: format_of(words),
+        options: options_of(words),
         text: always.or(words.get_str("for")).unwrap_or("differs"),
         is_always: always.is_some(),
-        kills: words.get_flag("kill"),
+        kinds: kinds_of(words),
+    }
+}
+
+/// What a search goes by beside its goal; what was left out is all choices, the text's own words, and a million states.
+fn options_of(words: &ArgMatches<'_>) -> SearchOptions {
+    SearchOptions {
+        format: format_of(words),
+        wording: if words.get_flag("canon") {
+            Wording::Canonical
+        } else {
+            Wording::Own
+        },
+        from: words.get_one("from").map(|count: u16| usize::from(count)),
         most: words.get_one("states").unwrap_or(1_000_000),
+    }
+}
+
+/// The kinds of choices that are considered: kills if and only if `--kill` is there, and none that `--without` names.
+fn kinds_of(words: &ArgMatches<'_>) -> ChoiceKinds {
+    let mut kinds = ChoiceKinds {
+        start: true,
+        begin: true,
+        kill: words.get_flag("kill"),
+        run: true,
+        take: true,
+        finish: true,
+        push: true,
+    };
+    for word in words.get_strs("without").unwrap_or(&[]) {
+        kinds = without(kinds, word);
+    }
+    kinds
+}
+
+/// The kinds without the one that a word names.
+fn without(kinds: ChoiceKinds, word: &str) -> ChoiceKinds {
+    match word {
+        "start" => ChoiceKinds { start: false, ..kinds },
+        "begin" => ChoiceKinds { begin: false, ..kinds },
+        "kill" => ChoiceKinds { kill: false, ..kinds },
+        "run" => ChoiceKinds { run: false, ..kinds },
+        "take" => ChoiceKinds { take: false, ..kinds },
+        "finish" => ChoiceKinds { finish: false, ..kinds },
+        "push" => ChoiceKinds { push: false, ..kinds },
+        _ => kinds,
     }
 }
 

@@ -1,9 +1,9 @@
 //! The order that explains the rows of a run, as standard error names it.
 
-use crate::again::run_again;
-use crate::listing::LineKept;
+use crate::again::make_again;
+use std::alloc::Global;
 use std::fmt;
-use zy_engine::Format;
+use zy_engine::{BenchFault, Format, SearchOptions};
 use zy_isa::{Choice, MAX_CHOICES};
 use zy_machine::{Fault, Machine};
 use zy_serial::explaining::explaining_order;
@@ -29,18 +29,39 @@ fn go_on(machine: &mut Machine, choices: &[Choice]) -> Result<(), Fault> {
     Ok(())
 }
 
-/// Makes the choices of a scenario again, and more behind them, and says what `explain` says of that run.
-pub fn explain_again<R: Eprint + AllocGlobal>(
+/// Makes the choices of a scenario again, and says what `explain` says of that run.
+pub fn explain_again<R: Eprint + AllocGlobal>(rt: &R, format: Format, scenario: &[u8]) {
+    if let Ok(machine) = make_again(rt.alloc(), format, scenario) {
+        explain(rt, &machine);
+    }
+}
+
+/// The machine of a scenario that has made the choices which a search took as steps already taken, and more behind them.
+fn run_found(
+    alloc: Global,
+    options: SearchOptions,
+    scenario: &[u8],
+    more: &[Choice],
+) -> Result<Machine, BenchFault> {
+    let run = make_again(alloc, options.format, scenario)?;
+    let mut machine = run.reopen(alloc)?;
+    let choices = run.scenario().choices();
+    let taken = options.from.unwrap_or(choices.len()).min(choices.len());
+    let (taken, _) = choices.split_at(taken);
+    go_on(&mut machine, taken)?;
+    go_on(&mut machine, more)?;
+    Ok(machine)
+}
+
+/// Makes the choices that a search has found, and says what `explain` says of that run.
+pub fn explain_found<R: Eprint + AllocGlobal>(
     rt: &R,
-    format: Format,
+    options: SearchOptions,
     scenario: &[u8],
     more: &[Choice],
 ) {
-    let mut kept = LineKept::new(rt.alloc(), 0);
-    if let Ok(mut machine) = run_again(rt.alloc(), format, scenario, &mut kept) {
-        if go_on(&mut machine, more).is_ok() {
-            explain(rt, &machine);
-        }
+    if let Ok(machine) = run_found(rt.alloc(), options, scenario, more) {
+        explain(rt, &machine);
     }
 }
 

@@ -27,7 +27,7 @@ use clap::error::ErrorKind;
 use command_line::{Checkpoints, Conversion, Quest, Request, Task, command, request_of};
 use commands::Commands;
 use excerpt::Differing;
-use explained::{explain, explain_again};
+use explained::{explain, explain_again, explain_found};
 use given::{Failure, Given};
 use hint::Hint;
 use marked::Marked;
@@ -44,7 +44,7 @@ use std::sync::Wait;
 use std::thread::Threads;
 use std::time::Clock;
 use std::{fs, io};
-use summary::Summary;
+use summary::{Count, Summary};
 use zy_advice::Command as Reader;
 use zy_advice::line::whole_line;
 use zy_check::Verdict;
@@ -53,7 +53,7 @@ use zy_engine::debugging::{MAX_EVERY, MAX_RING, debug_bytes};
 use zy_engine::engine::{asm_bytes, dis_bytes, run_bytes, trace_bytes};
 use zy_engine::searching::search_bytes;
 use zy_engine::threading::threads_bytes;
-use zy_engine::{BenchFault, Format};
+use zy_engine::{BenchFault, Format, SearchOptions};
 use zy_goals::named::txns_named;
 use zy_goals::reading::{read_always, read_goal};
 use zy_goals::{Names, ReadFault};
@@ -176,7 +176,7 @@ fn check<R: Eprint + AllocGlobal, G: Read, W: Write>(
         Verdict::Table => {
             flush(output)?;
             if listing.ends_with(DIFFERING_END) {
-                explain_again(rt, Format::Text, scenario_part(listing), &[]);
+                explain_again(rt, Format::Text, scenario_part(listing));
             }
             Ok(DONE)
         }
@@ -226,7 +226,7 @@ fn sought_of(alloc: Global, quest: Quest<'_>, names: Names<'_>) -> Result<Sought
     Ok(Sought {
         goal: query.goal,
         then: query.then,
-        kills: quest.kills,
+        kinds: quest.kinds,
     })
 }
 
@@ -259,12 +259,12 @@ fn search<R: Eprint + AllocGlobal + Clock, G: Read, W: Write>(
     }
     *input = read_all(rt.alloc(), &mut CountingReader::new(given))?;
     let scenario = input.as_slice();
-    let names = names_in(rt.alloc(), quest.format, scenario)?;
+    let names = names_in(rt.alloc(), quest.options.format, scenario)?;
     match sought_of(rt.alloc(), quest, Names::Known(&names)) {
         Ok(sought) => search_for(rt, quest, sought, scenario, output, is_terminal),
         Err(fault) => {
             // A scenario that is rejected has no names.
-            make_again(rt.alloc(), quest.format, scenario)?;
+            make_again(rt.alloc(), quest.options.format, scenario)?;
             no_goal(rt, quest, fault)
         }
     }
@@ -276,6 +276,22 @@ fn names_in(alloc: Global, format: Format, scenario: &[u8]) -> Result<Vec<&[u8]>
         Format::Text => Ok(names_of(alloc, scenario)?),
         Format::Image => Ok(Vec::new(alloc)),
     }
+}
+
+/// How many choices a scenario has, where there are fewer than those that a search is to take as steps already taken.
+fn lacking(
+    alloc: Global,
+    options: SearchOptions,
+    scenario: &[u8],
+) -> Result<Option<Count>, BenchFault> {
+    let Some(from) = options.from else {
+        return Ok(None);
+    };
+    let machine = make_again(alloc, options.format, scenario)?;
+    if machine.len() < from {
+        return Ok(Some(Count::of(machine.len(), "choice")));
+    }
+    Ok(None)
 }
 
 /// Searches the schedules of a scenario, and gives the exit status. It says how far it is where standard
@@ -290,19 +306,17 @@ fn search_for<R: Eprint + AllocGlobal + Clock, W: Write>(
 ) -> Result<u8, BenchFault>
     requires { output.old.1 < u64.MAX }
 {
-    let Quest {
-        format,
-        most,
-        kills,
-        ..
-    } = quest;
+    let options = quest.options;
+    if let Some(count) = lacking(rt.alloc(), options, scenario)? {
+        let _ = eprintln!(rt; "zy_bench: --from: the scenario has {count}");
+        return Ok(COMMAND_LINE);
+    }
     let named = usize::from(txns_named(&sought.goal));
     let mut progress = Progress::new(rt, is_terminal);
     let searched = search_bytes(
         rt.alloc(),
-        format,
+        options,
         sought,
-        most,
         &mut SliceSource::new(scenario),
         output,
         &mut Vec::new(rt.alloc()),
@@ -312,9 +326,9 @@ fn search_for<R: Eprint + AllocGlobal + Clock, W: Write>(
     let report = searched?;
     flush(output)?;
     warn(rt, named, report.txns);
-    let status = sum_up(rt, &report, kills);
+    let status = sum_up(rt, &report, quest);
     if let Answer::Found(path) = &report.answer {
-        explain_again(rt, format, scenario, path);
+        explain_found(rt, options, scenario, path);
     }
     Ok(status)
 }
@@ -330,9 +344,9 @@ fn warn(rt: &impl Eprint, named: usize, txns: usize) {
     }
 }
 
-/// Reports on standard error what came of a search, and gives the exit status. `kills` says whether kills were considered.
-fn sum_up(rt: &impl Eprint, report: &Report, kills: bool) -> u8 {
-    let summary = Summary::of(report, kills);
+/// Reports on standard error what came of a search, and gives the exit status.
+fn sum_up(rt: &impl Eprint, report: &Report, quest: Quest<'_>) -> u8 {
+    let summary = Summary::of(report, quest);
     let _ = eprintln!(rt; "zy_bench: {summary}");
     match &report.answer {
         Answer::Found(_) => DONE,

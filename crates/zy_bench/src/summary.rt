@@ -1,29 +1,25 @@
 //! What a search says at its end.
 
+use crate::command_line::Quest;
 use std::fmt;
-use zy_search::{Answer, Report};
+use zy_search::{Answer, ChoiceKinds, Report};
 
 /// What came of a search, as a line for standard error.
 #[derive(Clone, Copy)]
 pub struct Summary<'a> {
     report: &'a Report,
-    /// Whether kills were considered.
-    kills: bool,
+    quest: Quest<'a>,
 }
 
 impl<'a> Summary<'a> {
-    /// The line of a report; `kills` says whether kills were considered.
-    pub fn of(report: &'a Report, kills: bool) -> Summary<'a> {
-        Summary { report, kills }
+    /// The line of a report on what was asked for.
+    pub fn of(report: &'a Report, quest: Quest<'a>) -> Summary<'a> {
+        Summary { report, quest }
     }
 
-    /// What is said of kills where no schedule was found.
-    fn without(self) -> &'static str {
-        if self.kills {
-            ""
-        } else {
-            ", kills not considered"
-        }
+    /// The kinds of choices that were left out.
+    fn left_out(self) -> LeftOut {
+        LeftOut(self.quest.kinds)
     }
 
     /// Writes after how many states a schedule was found, and how many choices it adds.
@@ -31,29 +27,40 @@ impl<'a> Summary<'a> {
         let states = Count::of(self.report.states, "state");
         let verb = if choices == 1 { "leads" } else { "lead" };
         let choices = Count::of(choices, "choice");
-        write!(f, "found after {states}: {choices} {verb} there")
+        if self.quest.is_always {
+            f.write_str("it does not always hold: ")?;
+        }
+        write!(f, "found after {states}: {choices} {verb} there")?;
+        if self.left_out().is_usual() {
+            return Ok(());
+        }
+        write!(f, "{}", self.left_out())
     }
 
-    /// Writes that no state shows it.
+    /// Writes that no state shows it, or that every state meets it.
     fn write_none<W: fmt::Write>(self, f: &mut fmt::Formatter<W>) -> fmt::Result {
         let states = Count::of(self.report.states, "state");
         let most = Count::of(self.report.depth, "choice");
-        let without = self.without();
-        write!(
-            f,
-            "none of {states} shows it{without}, and there are no others: each takes at most {most}"
-        )
+        let left_out = self.left_out();
+        if self.quest.is_always {
+            write!(f, "it holds in each of {states}")?;
+        } else {
+            write!(f, "none of {states} shows it")?;
+        }
+        write!(f, "{left_out}, and there are no others: each takes at most {most}")
     }
 
     /// Writes that the search gave up, and which schedules it has ruled out.
     fn write_spent<W: fmt::Write>(self, f: &mut fmt::Formatter<W>, fewer: usize) -> fmt::Result {
         let states = Count::of(self.report.states, "state");
         let fewer = Count::of(fewer, "choice");
-        let without = self.without();
-        write!(
-            f,
-            "gave up after {states}: no schedule of fewer than {fewer} shows it{without}"
-        )
+        let left_out = self.left_out();
+        write!(f, "gave up after {states}: ")?;
+        if self.quest.is_always {
+            write!(f, "it holds after every schedule of fewer than {fewer}{left_out}")
+        } else {
+            write!(f, "no schedule of fewer than {fewer} shows it{left_out}")
+        }
     }
 }
 
@@ -67,16 +74,63 @@ impl fmt::Display for Summary<'_> {
     }
 }
 
+/// The kinds of choices that a search left out, behind what it found.
+#[derive(Clone, Copy)]
+struct LeftOut(ChoiceKinds);
+
+impl LeftOut {
+    /// Each kind by its plural, and whether it was left out.
+    fn kinds(self) -> [(&'static str, bool); 7] {
+        let LeftOut(kinds) = self;
+        [
+            ("starts", !kinds.start),
+            ("begins", !kinds.begin),
+            ("kills", !kinds.kill),
+            ("runs", !kinds.run),
+            ("takes", !kinds.take),
+            ("finishes", !kinds.finish),
+            ("pushes", !kinds.push),
+        ]
+    }
+
+    /// Whether no more than kills were left out.
+    fn is_usual(self) -> bool {
+        self.kinds()
+            .iter()
+            .all(|(kind, is_out)| !*is_out || *kind == "kills")
+    }
+}
+
+impl fmt::Display for LeftOut {
+    fn fmt<W: fmt::Write>(&self, f: &mut fmt::Formatter<W>) -> fmt::Result {
+        let kinds = self.kinds();
+        let mut left = kinds.iter().filter(|(_, is_out)| *is_out).count();
+        if left == 0 {
+            return Ok(());
+        }
+        let mut between = ", ";
+        for (kind, is_out) in kinds {
+            if is_out {
+                write!(f, "{between}{kind}")?;
+                left = left.saturating_sub(1);
+                between = if left == 1 { " and " } else { ", " };
+            }
+        }
+        f.write_str(" not considered")
+    }
+}
+
 /// A number of things: `1 state`, `2 states`.
 #[derive(Clone, Copy)]
-struct Count {
+pub struct Count {
     number: usize,
     /// The word for one of them.
     one: &'static str,
 }
 
 impl Count {
-    fn of(number: usize, one: &'static str) -> Count {
+    /// This number of things, one of which is called so.
+    pub fn of(number: usize, one: &'static str) -> Count {
         Count { number, one }
     }
 }

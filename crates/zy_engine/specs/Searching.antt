@@ -1,9 +1,11 @@
 -- What the engine of a search does.
-use Rattle.std.specs.Prelude.{◌≡◌, ◌++◌, ℕ, List, [], Option, Result, IfOk, IfSome}
+use Rattle.std.specs.Prelude.{◌≡◌, ◌++◌, ◌⊎◌, ℕ, List, [], Option, Some, None, Result, IfOk, IfSome, take}
 use Rattle.zy_io.specs.Writing.{Wrote}
 use Rattle.zy_io.specs.declared.writing.TextFault.{TextFault}
 use Rattle.zy_text.specs.Canon.{canon}
+use Rattle.zy_text.specs.Text.{Means}
 use Rattle.zy_isa.specs.Scenario.{Scenario}
+use Rattle.zy_isa.specs.declared.choice.Choice.{Choice}
 use Rattle.zy_table.specs.Play.{play, opening, entries}
 use Rattle.zy_machine.specs.Histories.{History}
 use Rattle.zy_threads.specs.Orders.{reordered}
@@ -13,39 +15,61 @@ use Rattle.zy_search.specs.declared.answer.Report.{Report}
 use Rattle.zy_search.specs.declared.sought.Sought.{Sought}
 use Rattle.zy_search.specs.Searches.{IsAnswer, IsDue}
 use Rattle.zy_engine.specs.declared.faults.BenchFault.{BenchFault}
-use Rattle.zy_engine.specs.declared.format.Format.{Format}
+use Rattle.zy_engine.specs.declared.searching.SearchOptions.{SearchOptions}
+use Rattle.zy_engine.specs.declared.wording.Wording.{Wording}
+use Rattle.zy_engine.specs.declared.wording.Wording.TheVariants as wording
 use Rattle.zy_engine.specs.Inputs.{StandsFor}
 use Rattle.zy_engine.specs.Engines.{Streams, Converts}
 
--- the machine at the end of a scenario's run
-abbrev pub history_of : Scenario → History
-history_of sc = record {
+-- the choices that are steps already taken: a scenario's first ones, where their number is given, or else all
+abbrev pub taken : Option ℕ → Scenario → List Choice
+taken None sc = sc.choices
+taken (Some n) sc = take n sc.choices
+
+-- the machine after them
+abbrev pub history_of : Option ℕ → Scenario → History
+history_of from sc = record {
   scenario = sc;
-  state = play sc (opening sc) sc.choices;
-  entries = entries sc (opening sc) sc.choices;
+  state = play sc (opening sc) (taken from sc);
+  entries = entries sc (opening sc) (taken from sc);
 }
 
--- what goes out: the scenario with the choices that were found behind its own, or nothing
-abbrev pub text_of : Scenario → Answer → List ℕ
-text_of sc (Found v) = canon (reordered sc (sc.choices ++ v.items))
-text_of sc Nowhere = []
-text_of sc (Spent n) = []
+-- a text of a scenario, in one wording or the other: its canonical text, or one that means it
+abbrev pub IsWorded : Wording → Scenario → List ℕ → Type 0
+IsWorded wording.Canonical sc text = text ≡ canon sc
+IsWorded wording.Own sc text = Means text sc ⊎ (text ≡ canon sc)
 
--- a call that writes: the text of an answer, which at Ok is the one that is returned
-pub record WroteAnswer (sc : Scenario) (q : Sought) (most : ℕ) (old new : Option (List ℕ)) (before after : ℕ)
-    (result : Result Report TextFault) : Type 0 where
+-- a text of an answer: of the scenario with the choices that were found behind those taken, or nothing
+abbrev pub IsTextOf : Wording → Scenario → List Choice → Answer → List ℕ → Type 0
+IsTextOf w sc choices (Found v) text = IsWorded w (reordered sc (choices ++ v.items)) text
+IsTextOf w sc choices Nowhere text = text ≡ []
+IsTextOf w sc choices (Spent n) text = text ≡ []
+
+-- a call that writes some text like this
+pub record WroteSome {X : Type 0} (Is : List ℕ → Type 0) (old new : Option (List ℕ)) (before after : ℕ)
+    (result : Result X TextFault) : Type 0 where
+  pub text : List ℕ
+  pub is : Is text
+  pub wrote : Wrote old new before after result text
+
+-- a call that writes a text of an answer, which at Ok is the one that is returned
+pub record WroteAnswer (o : SearchOptions) (sc : Scenario) (q : Sought) (old new : Option (List ℕ))
+    (before after : ℕ) (result : Result Report TextFault) : Type 0 where
   pub answer : Answer
-  pub is : IsAnswer (history_of sc) q answer
+  pub is : IsAnswer (history_of o.from sc) q answer
   pub returned : IfOk result (λ r. r.answer ≡ answer)
-  pub due : IfOk result (λ r. IsDue (history_of sc) q most r.answer)
-  pub wrote : Wrote old new before after result (text_of sc answer)
+  pub due : IfOk result (λ r. IsDue (history_of o.from sc) q o.most r.answer)
+  pub wrote : WroteSome (IsTextOf o.wording sc (taken o.from sc) answer) old new before after result
 
 -- and the engine: the answer is one for the scenario that the input stands for, and one that gives up is due
-pub record ConvertsSearch (format : Format) (q : Sought) (most : ℕ) (old new : Streams)
-    (result : Result Report BenchFault) : Type 0 where
+pub record ConvertsSearch (o : SearchOptions) (q : Sought) (old new : Streams) (result : Result Report BenchFault) : Type 0 where
   pub answer : Answer
-  pub is : IfSome old.left (λ bytes. (sc : Scenario) → StandsFor format bytes sc → IsAnswer (history_of sc) q answer)
+  pub text : List ℕ
+  pub is : IfSome old.left (λ bytes. (sc : Scenario) → StandsFor o.format bytes sc
+      → IsAnswer (history_of o.from sc) q answer)
   pub returned : IfOk result (λ r. r.answer ≡ answer)
-  pub due : IfOk result (λ r. IfSome old.left (λ bytes. (sc : Scenario) → StandsFor format bytes sc
-      → IsDue (history_of sc) q most r.answer))
-  pub converts : Converts format (λ sc. text_of sc answer) old new result
+  pub due : IfOk result (λ r. IfSome old.left (λ bytes. (sc : Scenario) → StandsFor o.format bytes sc
+      → IsDue (history_of o.from sc) q o.most r.answer))
+  pub says : IfSome old.left (λ bytes. (sc : Scenario) → StandsFor o.format bytes sc
+      → IsTextOf o.wording sc (taken o.from sc) answer text)
+  pub converts : Converts o.format (λ sc. text) old new result

@@ -8,8 +8,12 @@ pub mod faults;
 pub mod format;
 pub mod laws;
 pub mod output;
+mod same;
 pub mod searching;
 pub mod threading;
+pub mod wording;
 
 pub use crate::faults::BenchFault;
 pub use crate::format::Format;
+pub use crate::searching::SearchOptions;
+pub use crate::wording::Wording;

@@ -1,90 +1,230 @@
 //! The engine that searches the schedules of a scenario.
-ghost use Rattle.std.specs.Prelude.{◌<◌, ◌++◌};
+ghost use Rattle.std.specs.Prelude.{◌≡◌, ◌≤◌, ◌<◌, ◌++◌, Some, take, length, IfOk, IfSome};
 ghost use Rattle.zy_io.specs.Writing.{Wrote};
 ghost use Rattle.zy_text.specs.Canon.{canon};
+ghost use Rattle.zy_text.specs.Text.{Means};
 ghost use Rattle.zy_threads.specs.Orders.{reordered};
+ghost use Rattle.zy_engine.specs.declared.wording.Wording.TheVariants.{Own};
 ghost use Rattle.zy_engine.specs.Engines.{streams};
-ghost use Rattle.zy_engine.specs.Searching.{ConvertsSearch, WroteAnswer, text_of};
+ghost use Rattle.zy_engine.specs.Searching.{history_of, ConvertsSearch, IsTextOf, IsWorded, WroteAnswer, WroteSome};
 
 use crate::faults::BenchFault;
 use crate::format::{Format, read_scenario};
-use std::alloc::Global;
+use crate::same::same_scenario;
+use crate::wording::{Wording, reworded};
+use std::alloc::{AllocError, Global};
+use zy_asm::assembling::assemble_bytes;
 use zy_disasm::Head;
-use zy_io::{AllLines, LineBuffer, One, Section, Sink, Source, TextFault, sections};
+use zy_io::writing::write_all;
+use zy_io::{AllLines, LineBuffer, MAX_INPUT, One, Section, Sink, Source, TextFault, sections};
 use zy_isa::{Choice, Scenario};
-use zy_machine::Machine;
+use zy_machine::{Fault, Machine};
 use zy_search::search::search;
 use zy_search::{Answer, Report, Sought, Watch};
+use zy_stops::replay::{advance_to, start};
 use zy_text::Each;
 
-/// Writes the canonical text of a scenario with more choices behind its own.
-fn write_found<K: Sink>(
+/// What a search goes by, beside what it looks for.
+#[derive(Clone, Copy, Debug, PartialEq, Eq)]
+pub struct SearchOptions {
+    /// What the input is written in.
+    pub format: Format,
+    /// How what is found is written. Of an image there is canonical text alone.
+    pub wording: Wording,
+    /// How many of the scenario's choices are steps already taken; all, where it is none or more than there are.
+    pub from: Option<usize>,
+    /// The most states that may be reached.
+    pub most: u32,
+}
+
+/// The machine of a scenario that has made its first choices, or all where there are fewer.
+fn run_first(alloc: Global, scenario: Scenario, count: usize) -> Result<Machine, Fault>
+    ensures { IfOk result (λ m. m ≡ history_of (Some count) scenario) }
+{
+    let mut machine = start(alloc, scenario)?;
+    let target = count.min(machine.scenario().choices().len());
+    advance_to(&mut machine, target)?;
+    Ok(machine)
+}
+
+/// The machine of a scenario that has made the choices which are steps already taken.
+fn run_taken(alloc: Global, scenario: Scenario, from: Option<usize>) -> Result<Machine, Fault>
+    ensures { IfOk result (λ m. m ≡ history_of from scenario) }
+{
+    match from {
+        None => Machine::run_all(alloc, scenario),
+        Some(count) => run_first(alloc, scenario, count),
+    }
+}
+
+/// Choices, and more behind them.
+fn joined(alloc: Global, choices: &[Choice], more: &[Choice]) -> Result<Vec<Choice>, AllocError>
+    ensures { IfOk result (λ v. v.items ≡ choices.now ++ more.now) }
+{
+    let mut joined = choices.to_vec(alloc)?;
+    joined.extend_from_slice(more)?;
+    Ok(joined)
+}
+
+/// A text, if it means a scenario.
+fn verified(
+    alloc: Global,
+    text: LineBuffer,
+    wanted: &Scenario,
+) -> Result<Option<LineBuffer>, AllocError>
+    ensures { IfOk result (λ found. IfSome found (λ t. Means t wanted.now)) }
+{
+    if MAX_INPUT < text.len() {
+        return Ok(None);
+    }
+    match assemble_bytes(alloc, text.as_bytes()) {
+        Ok(read) if same_scenario(&read, wanted) => Ok(Some(text)),
+        Ok(_) => Ok(None),
+        Err(refusal) => match BenchFault::from(refusal) {
+            BenchFault::Memory => Err(AllocError),
+            _ => Ok(None),
+        },
+    }
+}
+
+/// The text of a scenario with its first choices and more behind them, in its own words, if that is what these mean.
+fn own_text(
+    alloc: Global,
+    text: &[u8],
+    scenario: &Scenario,
+    kept: usize,
+    more: &[Choice],
+) -> Result<Option<LineBuffer>, AllocError>
+    requires { kept ≤ length scenario.now.choices }
+    ensures { IfOk result (λ found. IfSome found (λ t.
+        Means t (reordered scenario.now (take kept scenario.now.choices ++ more.now)))) }
+{
+    let choices = joined(alloc, &scenario.choices()[..kept], more)?;
+    let text = reworded(alloc, text, kept, &choices)?;
+    match scenario.copy(alloc)?.with_choices(choices) {
+        Ok(wanted) => verified(alloc, text, &wanted),
+        Err(_) => Ok(None),
+    }
+}
+
+/// Writes the canonical text of a scenario with its first choices and more behind them.
+fn write_canonical<K: Sink>(
     alloc: Global,
     scenario: &Scenario,
+    kept: usize,
     more: &[Choice],
     sink: &mut K,
 ) -> Result<(), TextFault>
-    requires { K.failures sink.old < u64.MAX }
+    requires { (kept ≤ length scenario.now.choices) × (K.failures sink.old < u64.MAX) }
     ensures { Wrote (K.written sink.old) (K.written sink.new) (K.failures sink.old) (K.failures sink.new) result
-        (canon (reordered scenario.now (scenario.now.choices ++ more.now))) }
+        (canon (reordered scenario.now (take kept scenario.now.choices ++ more.now))) }
 {
     let mut line = LineBuffer::new(alloc);
     sections!(
         Head(scenario),
-        AllLines(Each(scenario.choices())),
+        AllLines(Each(&scenario.choices()[..kept])),
         AllLines(Each(more)),
         One("end"),
     )
     .write(sink, &mut line)
 }
 
+/// Writes the text of a scenario with its first choices and more behind them in the words of its own text, if that is
+/// what these mean; else as canonical text.
+fn write_own<K: Sink>(
+    alloc: Global,
+    text: &[u8],
+    scenario: &Scenario,
+    kept: usize,
+    more: &[Choice],
+    sink: &mut K,
+) -> Result<(), TextFault>
+    requires { (kept ≤ length scenario.now.choices) × (K.failures sink.old < u64.MAX) }
+    ensures { WroteSome (IsWorded Own (reordered scenario.now (take kept scenario.now.choices ++ more.now)))
+        (K.written sink.old) (K.written sink.new) (K.failures sink.old) (K.failures sink.new) result }
+{
+    match own_text(alloc, text, scenario, kept, more)? {
+        Some(found) => {
+            write_all(sink, found.as_bytes())?;
+            Ok(())
+        }
+        None => write_canonical(alloc, scenario, kept, more, sink),
+    }
+}
+
+/// Writes a text of a scenario with its first choices and more behind them.
+fn write_found<K: Sink>(
+    alloc: Global,
+    wording: Wording,
+    text: &[u8],
+    machine: &Machine,
+    more: &[Choice],
+    sink: &mut K,
+) -> Result<(), TextFault>
+    requires taken { length machine.now.entries ≤ length machine.now.scenario.choices }
+    requires calls { K.failures sink.old < u64.MAX }
+    ensures { WroteSome (IsWorded wording (reordered machine.now.scenario
+        (take (length machine.now.entries) machine.now.scenario.choices ++ more.now)))
+        (K.written sink.old) (K.written sink.new) (K.failures sink.old) (K.failures sink.new) result }
+{
+    let (scenario, kept) = (machine.scenario(), machine.len());
+    match wording {
+        Wording::Own => write_own(alloc, text, scenario, kept, more, sink),
+        Wording::Canonical => write_canonical(alloc, scenario, kept, more, sink),
+    }
+}
+
 /// Writes what goes out of an answer.
 fn write_answer<K: Sink>(
     alloc: Global,
-    scenario: &Scenario,
+    wording: Wording,
+    text: &[u8],
+    machine: &Machine,
     answer: &Answer,
     sink: &mut K,
 ) -> Result<(), TextFault>
-    requires { K.failures sink.old < u64.MAX }
-    ensures { Wrote (K.written sink.old) (K.written sink.new) (K.failures sink.old) (K.failures sink.new) result
-        (text_of scenario.now answer.now) }
+    requires taken { length machine.now.entries ≤ length machine.now.scenario.choices }
+    requires calls { K.failures sink.old < u64.MAX }
+    ensures { WroteSome (IsTextOf wording machine.now.scenario
+        (take (length machine.now.entries) machine.now.scenario.choices) answer.now)
+        (K.written sink.old) (K.written sink.new) (K.failures sink.old) (K.failures sink.new) result }
 {
     match answer {
-        Answer::Found(path) => write_found(alloc, scenario, path, sink),
+        Answer::Found(path) => write_found(alloc, wording, text, machine, path, sink),
         Answer::Nowhere => Ok(()),
         Answer::Spent(_) => Ok(()),
     }
 }
 
-/// Makes the choices of a scenario, looks at the states that further ones lead to, and writes what goes out of the
-/// answer.
+/// Makes the choices of a scenario that are steps already taken, looks at the states that further ones lead to, and
+/// writes what goes out of the answer. The scenario's own text is at hand.
 fn write_search<K: Sink, W: Watch>(
     alloc: Global,
+    options: SearchOptions,
+    text: &[u8],
     scenario: Scenario,
     sought: Sought,
-    most: u32,
     sink: &mut K,
     watch: &mut W,
 ) -> Result<Report, TextFault>
     requires { K.failures sink.old < u64.MAX }
-    ensures { WroteAnswer scenario sought most (K.written sink.old) (K.written sink.new) (K.failures sink.old)
+    ensures { WroteAnswer options scenario sought (K.written sink.old) (K.written sink.new) (K.failures sink.old)
         (K.failures sink.new) result }
 {
-    let machine = Machine::run_all(alloc, scenario)?;
-    let report = search(alloc, &machine, sought, most, watch)?;
-    write_answer(alloc, machine.scenario(), &report.answer, sink)?;
+    let machine = run_taken(alloc, scenario, options.from)?;
+    let report = search(alloc, &machine, sought, options.most, watch)?;
+    write_answer(alloc, options.wording, text, &machine, &report.answer, sink)?;
     Ok(report)
 }
 
-/// Reads a scenario whole, makes its choices, and looks for a state that further ones lead to and that shows what is
-/// sought. Where there is one, the canonical text of the scenario goes out with a shortest list of such choices behind
-/// its own; else nothing does. The watch learns how far the search is.
+/// Reads a scenario whole, makes the choices that are steps already taken, and looks for a state that further ones lead
+/// to and that shows what is sought. Where there is one, the scenario goes out with these choices and a shortest list of
+/// further ones behind them; else nothing does. The watch learns how far the search is.
 /// The bytes that were read are left in `input`.
 pub fn search_bytes<S: Source, K: Sink, W: Watch>(
     alloc: Global,
-    format: Format,
+    options: SearchOptions,
     sought: Sought,
-    most: u32,
     source: &mut S,
     sink: &mut K,
     input: &mut Vec<u8>,
@@ -92,9 +232,9 @@ pub fn search_bytes<S: Source, K: Sink, W: Watch>(
 ) -> Result<Report, BenchFault>
     requires { (S.failures source.old < u64.MAX) × (K.failures sink.old < u64.MAX) }
     ensures { let at = streams S.left S.failures S.given K.written K.failures in
-        ConvertsSearch format sought most (at source.old sink.old) (at source.new sink.new) result }
+        ConvertsSearch options sought (at source.old sink.old) (at source.new sink.new) result }
 {
-    let scenario = read_scenario(alloc, format, source, input)?;
-    let report = write_search(alloc, scenario, sought, most, sink, watch)?;
+    let scenario = read_scenario(alloc, options.format, source, input)?;
+    let report = write_search(alloc, options, input.as_slice(), scenario, sought, sink, watch)?;
     Ok(report)
 }

@@ -19,12 +19,13 @@ use Rattle.zy_goals.specs.Goals.{meets}
 use Rattle.zy_goals.specs.Commits.{is_of_commits}
 use Rattle.zy_goals.proofs.CommitLemmas.{same_goal}
 use Rattle.zy_search.specs.Searches.{Shows, shows, context_of, may_follow, is_by_commits}
+use Rattle.zy_search.specs.declared.kinds.ChoiceKinds.{ChoiceKinds}
 
 -- where no outcome is asked for, every state is one after which it may follow
-nothing_follows : (sc xc : Scenario) (kills : Bool) (o : Option OutcomePattern) (s r : State) → is_none o ≡ true
-    → may_follow sc kills o s ≡ may_follow xc kills o r
-nothing_follows sc xc kills None s r e = refl
-nothing_follows sc xc kills (Some x) s r e = absurd (false≢true e)
+nothing_follows : (sc xc : Scenario) (kinds : ChoiceKinds) (o : Option OutcomePattern) (s r : State) → is_none o ≡ true
+    → may_follow sc kinds o s ≡ may_follow xc kinds o r
+nothing_follows sc xc kinds None s r e = refl
+nothing_follows sc xc kinds (Some x) s r e = absurd (false≢true e)
 
 -- a step without a commit does not bring about what only a commit can bring about
 pub never_by_others : (b m : History) (q : Sought) (c : Choice) → IsReplay b → m.scenario ≡ b.scenario → m.state ≡ (step b.scenario c b.state).after
@@ -40,9 +41,9 @@ never_by_others b m q c r e f same by none shown =
     ∙ (ap (λ (x : Map). same_map x (serial sc (map_of sc.rows) m.state.commits)) pages
     ∙ ap (λ (x : List CommitRecord). same_map (database b.state) (serial sc (map_of sc.rows) x)) same) in
     let parts = and_parts (is_none q.then) (is_of_commits q.goal) by in
-    let goals = same_goal m.state b.state pages same (context_of m.scenario q.kills m.state) (context_of sc q.kills b.state) (ap not is) q.goal parts.1 in
-    let follows = nothing_follows m.scenario sc q.kills q.then m.state b.state parts.0 in
+    let goals = same_goal m.state b.state pages same (context_of m.scenario q.kinds m.state) (context_of sc q.kinds b.state) (ap not is) q.goal parts.1 in
+    let follows = nothing_follows m.scenario sc q.kinds q.then m.state b.state parts.0 in
     let all : shows m.scenario q m.state ≡ shows sc q b.state =
-    ap (λ (x : Bool). x && may_follow m.scenario q.kills q.then m.state) goals
-    ∙ ap (λ (x : Bool). meets (context_of sc q.kills b.state) q.goal b.state && x) follows in
+    ap (λ (x : Bool). x && may_follow m.scenario q.kinds q.then m.state) goals
+    ∙ ap (λ (x : Bool). meets (context_of sc q.kinds b.state) q.goal b.state && x) follows in
     none (sym all ∙ shown)

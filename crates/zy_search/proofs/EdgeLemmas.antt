@@ -8,6 +8,7 @@ use Rattle.zy_search.specs.Paths.{AreApart}
 use Rattle.zy_search.specs.Visits.{path_at, length_at, IsFresh, AreEnds, GoOnBy, IsEdge}
 use Rattle.zy_search.proofs.ChoiceLemmas.{ranked}
 use Rattle.zy_search.proofs.SearchLemmas.{before_it, it, near_push, old_or_new}
+use Rattle.zy_search.specs.declared.kinds.ChoiceKinds.{ChoiceKinds}
 
 -- the paths of a search
 abbrev Paths : Type 0
@@ -95,13 +96,13 @@ by_next old new at k cs c (inl e) lt by is = rw e (λ i in' d f. let x = by i in
 by_next old new at k cs c (inr e) lt by is = rw e (by_more old at c cs k lt by is)
 
 -- none goes on by a choice of which it is not the turn yet
-pub fresh_one : (kills : Bool) (count : ℕ) (ps : Paths) (at k : ℕ) (cs : List Choice) → cs ≡ considered kills count → k < length cs → GoOnBy ps at cs k
+pub fresh_one : (kinds : ChoiceKinds) (count : ℕ) (ps : Paths) (at k : ℕ) (cs : List Choice) → cs ≡ considered kinds count → k < length cs → GoOnBy ps at cs k
     → IsFresh ps at (get_or cs k Start)
-fresh_one kills count ps at k cs e lt by = λ i in' f.
+fresh_one kinds count ps at k cs e lt by = λ i in' f.
     let x = by i in' (get_or cs k Start) f in
     let long = ap (λ (l : List Choice). length l) e in
     let same = ap (λ (l : List Choice). get_or l x.0 Start) (sym e) ∙ (x.2 ∙ ap (λ (l : List Choice). get_or l k Start) e) in
-    let both = ranked kills count x.0 k (omega (arith, x.1, lt, long)) (omega (arith, lt, long)) same in
+    let both = ranked kinds count x.0 k (omega (arith, x.1, lt, long)) (omega (arith, lt, long)) same in
     omega (arith, x.1, both)
 
 -- ---- the first path

@@ -14,13 +14,14 @@ use Rattle.zy_search.specs.Searches.{reached, deepest, Shows}
 use Rattle.zy_search.specs.Visits.{path_at, length_at, Visits, Notes, ShowsNext, IsVisited, IsExpanded, FindsNext, Grows}
 use Rattle.zy_search.proofs.ChoiceLemmas.{considered_at, has_considered}
 use Rattle.zy_search.proofs.SearchLemmas.{visited_grown, path_more}
+use Rattle.zy_search.specs.declared.kinds.ChoiceKinds.{ChoiceKinds}
 
 -- each of the choices in the list is considered
-pub is_one : (kills : Bool) (count i : ℕ) (cs : List Choice) → cs ≡ considered kills count → i < length cs
-    → is_considered kills count (get_or cs i Start) ≡ true
-is_one kills count i cs e lt =
+pub is_one : (kinds : ChoiceKinds) (count i : ℕ) (cs : List Choice) → cs ≡ considered kinds count → i < length cs
+    → is_considered kinds count (get_or cs i Start) ≡ true
+is_one kinds count i cs e lt =
     let all = ap (λ (ds : List Choice). length ds) e in
-    rw e (considered_at kills count i Start (omega (arith, all, lt)))
+    rw e (considered_at kinds count i Start (omega (arith, all, lt)))
 
 -- an element of a list, whatever is read where there is none
 pub element : (cs : List Choice) (i : ℕ) (d : Choice) → i < length cs → d ≡ get_or cs i d → d ≡ get_or cs i Start
@@ -45,10 +46,10 @@ module _ (h : History) (q : Sought) (old cur : List (List Choice)) (at : ℕ) (l
       ]
 
   -- all of them
-  pub lead_all : (cs : List Choice) (i : ℕ) → cs ≡ considered q.kills (length h.scenario.programs) → length cs ≤ i → AllLead h old at cur cs i
+  pub lead_all : (cs : List Choice) (i : ℕ) → cs ≡ considered q.kinds (length h.scenario.programs) → length cs ≤ i → AllLead h old at cur cs i
       → IsExpanded h q cur at
   lead_all cs i e le lead = λ c a.
-      let here = has_considered q.kills (length h.scenario.programs) c a in
+      let here = has_considered q.kinds (length h.scenario.programs) c a in
       let all = ap (λ (ds : List Choice). length ds) e in
       let got = lead here.0 (omega (arith, here.1, all, le)) in
       let is : get_or cs here.0 Start ≡ c = ap (λ (ds : List Choice). get_or ds here.0 Start) e ∙ here.2 in
@@ -57,7 +58,7 @@ module _ (h : History) (q : Sought) (old cur : List (List Choice)) (at : ℕ) (l
 
   -- one that leads to a state that shows what is looked for
   pub found : (new : List (List Choice)) (c : Choice) (items : List Choice) → Visits h q old → length h.entries + length_at old at < deepest q
-      → is_considered q.kills (length h.scenario.programs) c ≡ true → ShowsNext h q cur new at c → items ≡ path_at new at ++ c ∷ [] → FindsNext h q old at items
+      → is_considered q.kinds (length h.scenario.programs) c ≡ true → ShowsNext h q cur new at c → items ≡ path_at new at ++ c ∷ [] → FindsNext h q old at items
   found new c items v room a next e =
       let p = path_at old at in
       let all : items ≡ p ++ c ∷ [] = e ∙ ap (λ l. l ++ c ∷ []) (next.grows.same at (omega (arith, lt, g.longer)) ∙ g.same at lt) in

@@ -8,6 +8,7 @@ use Rattle.zy_table.specs.State.{State}
 use Rattle.zy_goals.specs.declared.outcomes.OutcomePattern.{OutcomePattern}
 use Rattle.zy_search.specs.Choices.{considered}
 use Rattle.zy_search.specs.Possible.{gives, is_possible}
+use Rattle.zy_search.specs.declared.kinds.ChoiceKinds.{ChoiceKinds}
 
 -- a number is not below itself
 pub not_below : (n : ℕ) → nat_lt n n ≡ false
@@ -18,6 +19,6 @@ below : (i n : ℕ) → nat_lt i n ≡ true → i < n
 below i n e = grind (arith, nat_tests, e)
 
 -- where an outcome is possible, the place is one of the considered choices
-pub there : (sc : Scenario) (kills : Bool) (x : OutcomePattern) (s : State) (cs : List Choice) (i : ℕ) → cs ≡ considered kills (length sc.programs)
-    → nat_lt i (length cs) ≡ list_any (gives sc x s) cs → is_possible sc kills x s ≡ true → i < length cs
-there sc kills x s cs i whole some possible = below i (length cs) (some ∙ (ap (list_any (gives sc x s)) whole ∙ possible))
+pub there : (sc : Scenario) (kinds : ChoiceKinds) (x : OutcomePattern) (s : State) (cs : List Choice) (i : ℕ) → cs ≡ considered kinds (length sc.programs)
+    → nat_lt i (length cs) ≡ list_any (gives sc x s) cs → is_possible sc kinds x s ≡ true → i < length cs
+there sc kinds x s cs i whole some possible = below i (length cs) (some ∙ (ap (list_any (gives sc x s)) whole ∙ possible))

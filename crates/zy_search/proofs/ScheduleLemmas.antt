@@ -39,6 +39,7 @@ use Rattle.zy_laws.proofs.walk.Reordered.{one, play-reordered, opening-reordered
 use Rattle.zy_search.specs.Schedules.{scheduled, before_last, ending}
 use Rattle.zy_search.proofs.SearchLemmas.{are_named, named_if}
 use Rattle.zy_search.proofs.DepthLemmas.{within}
+use Rattle.zy_search.specs.declared.kinds.ChoiceKinds.{ChoiceKinds}
 
 -- choices, and then others
 play-append : (sc : Scenario) (s : State) (cs ds : List Choice) → play sc s (cs ++ ds) ≡ play sc (play sc s cs) ds
@@ -76,17 +77,17 @@ any_alike f g e [] = refl
 any_alike f g e (c ∷ cs) = ap (λ b. b || list_any f cs) (e c) ∙ ap (λ b. g c || b) (any_alike f g e cs)
 
 -- what a state shows does not depend on the choices that the scenario names
-module _ (sc : Scenario) (order : List Choice) (kills : Bool) (s : State) where
+module _ (sc : Scenario) (order : List Choice) (kinds : ChoiceKinds) (s : State) where
   -- nor does the serial run
   same_serial : is_serial (reordered sc order) s ≡ is_serial sc s
   same_serial = ap (same_map (database s)) (serial-reordered sc order (map_of sc.rows) s.commits)
 
   -- nor whether nothing goes on
-  same_stuck : is_stuck (reordered sc order) kills s ≡ is_stuck sc kills s
+  same_stuck : is_stuck (reordered sc order) kinds s ≡ is_stuck sc kinds s
   same_stuck =
       ap (λ b. selected_have selector.Any property.Active s.txns && b)
       (all_alike _ (λ c. is_still (step sc c s).outcome) (λ c. ap (λ (x : Step). is_still x.outcome) (one sc order c s))
-      (considered kills (length sc.programs)))
+      (considered kinds (length sc.programs)))
 
   -- nor who waits
   same_wait : (t : ℕ) → wait_of (reordered sc order) s t ≡ wait_of sc s t
@@ -103,26 +104,26 @@ module _ (sc : Scenario) (order : List Choice) (kills : Bool) (s : State) where
   same_deadlock = ap (λ (ws : List Wait). not (length (in_cycle s ws) == 0)) (same_waits (length s.txns))
 
   -- so all of them together do not
-  same_context : context_of (reordered sc order) kills s ≡ context_of sc kills s
+  same_context : context_of (reordered sc order) kinds s ≡ context_of sc kinds s
   same_context =
-      ap (λ (b : Bool). record { differs = not b; stuck = is_stuck (reordered sc order) kills s; deadlock = is_deadlocked (reordered sc order) s }) same_serial
+      ap (λ (b : Bool). record { differs = not b; stuck = is_stuck (reordered sc order) kinds s; deadlock = is_deadlocked (reordered sc order) s }) same_serial
       ∙ (ap (λ (b : Bool). record { differs = not (is_serial sc s); stuck = b; deadlock = is_deadlocked (reordered sc order) s }) same_stuck
-      ∙ ap (λ (b : Bool). record { differs = not (is_serial sc s); stuck = is_stuck sc kills s; deadlock = b }) same_deadlock)
+      ∙ ap (λ (b : Bool). record { differs = not (is_serial sc s); stuck = is_stuck sc kinds s; deadlock = b }) same_deadlock)
 
   -- nor does the outcome of a choice
   same_outcome : (x : OutcomePattern) (c : Choice) → gives (reordered sc order) x s c ≡ gives sc x s c
   same_outcome x c = ap (λ (d : Step). matches x d.outcome) (one sc order c s)
 
   -- nor whether one is possible
-  same_follow : (o : Option OutcomePattern) → may_follow (reordered sc order) kills o s ≡ may_follow sc kills o s
+  same_follow : (o : Option OutcomePattern) → may_follow (reordered sc order) kinds o s ≡ may_follow sc kinds o s
   same_follow None = refl
-  same_follow (Some x) = any_alike (gives (reordered sc order) x s) (gives sc x s) (same_outcome x) (considered kills (length sc.programs))
+  same_follow (Some x) = any_alike (gives (reordered sc order) x s) (gives sc x s) (same_outcome x) (considered kinds (length sc.programs))
 
 -- all of it together
 same_shows : (sc : Scenario) (order : List Choice) (q : Sought) (s : State) → shows (reordered sc order) q s ≡ shows sc q s
 same_shows sc order q s =
-    ap (λ (t : Context). meets t q.goal s && may_follow (reordered sc order) q.kills q.then s) (same_context sc order q.kills s)
-    ∙ ap (λ (b : Bool). meets (context_of sc q.kills s) q.goal s && b) (same_follow sc order q.kills s q.then)
+    ap (λ (t : Context). meets t q.goal s && may_follow (reordered sc order) q.kinds q.then s) (same_context sc order q.kinds s)
+    ∙ ap (λ (b : Bool). meets (context_of sc q.kinds s) q.goal s && b) (same_follow sc order q.kinds s q.then)
 
 -- what is found shows itself in a run
 pub found : (h : History) (q : Sought) (cs : List Choice) → IsReplay h → Finds h q cs → Shows (scheduled h cs) q (ending (scheduled h cs))
@@ -164,7 +165,7 @@ is_scheduled h cs r named room = record {
 -- so do the choices that were found
 pub is_scenario : (h : History) (q : Sought) (cs : List Choice) → IsReplay h → Finds h q cs → IsScenario (scheduled h cs)
 is_scenario h q cs r f =
-    is_scheduled h cs r (are_named q.kills (length h.scenario.programs) cs f.path.considered) (omega (arith, f.path.room, within q))
+    is_scheduled h cs r (are_named q.kinds (length h.scenario.programs) cs f.path.considered) (omega (arith, f.path.room, within q))
 
 -- ---- the step behind what is found
 
@@ -173,7 +174,7 @@ module _ (h : History) (q : Sought) (x : OutcomePattern) (cs : List Choice) (c :
   pub is_scenario_with : IsScenario (scheduled h (cs ++ c ∷ []))
   is_scenario_with =
       let n = length h.scenario.programs in
-      is_scheduled h (cs ++ c ∷ []) r (named_both n cs (c ∷ []) (are_named q.kills n cs f.path.considered) (named_if q.kills n c l.considered, tt))
+      is_scheduled h (cs ++ c ∷ []) r (named_both n cs (c ∷ []) (are_named q.kinds n cs f.path.considered) (named_if q.kinds n c l.considered, tt))
       (omega (arith, l.room, length-append cs (c ∷ [])))
 
   -- one choice before its end, its run is in a state that shows what was looked for
@@ -187,7 +188,7 @@ module _ (h : History) (q : Sought) (x : OutcomePattern) (cs : List Choice) (c :
   gives_last =
       let order = choices_of h.entries ++ (cs ++ c ∷ []) in
       subst (λ (s : State). gives (reordered h.scenario order) x s c ≡ true) (sym (comes_to h order cs r))
-      (same_outcome h.scenario order q.kills (reached h cs) x c ∙ l.outcome)
+      (same_outcome h.scenario order q.kinds (reached h cs) x c ∙ l.outcome)
 
 -- ---- under held
 
@@ -204,16 +205,16 @@ is_held always h r held cs =
 
 -- where it is so, what is found is found without a difference
 pub without : AlwaysSerial → (h : History) (q : Sought) (cs : List Choice) → IsReplay h → h.scenario.rule ≡ Held → Finds h q cs
-    → meets (record (context_of h.scenario q.kills (reached h cs)) { differs = false }) q.goal (reached h cs) ≡ true
+    → meets (record (context_of h.scenario q.kinds (reached h cs)) { differs = false }) q.goal (reached h cs) ≡ true
 without always h q cs r held f =
     let s = reached h cs in
-    let one = (and_parts (meets (context_of h.scenario q.kills s) q.goal s) (may_follow h.scenario q.kills q.then s) f.shows).0 in
-    subst (λ (b : Bool). meets (record (context_of h.scenario q.kills s) { differs = not b }) q.goal s ≡ true) (is_held always h r held cs) one
+    let one = (and_parts (meets (context_of h.scenario q.kinds s) q.goal s) (may_follow h.scenario q.kinds q.then s) f.shows).0 in
+    subst (λ (b : Bool). meets (record (context_of h.scenario q.kinds s) { differs = not b }) q.goal s ≡ true) (is_held always h r held cs) one
 
 -- so no difference is found
 pub never_differs : AlwaysSerial → (h : History) (q : Sought) (cs : List Choice) → IsReplay h → h.scenario.rule ≡ Held → q.goal ≡ Is Differs
     → Finds h q cs → ⊥
 never_differs always h q cs r held e f =
     let s = reached h cs in
-    false≢true (subst (λ (g : Goal). meets (record (context_of h.scenario q.kills s) { differs = false }) g s ≡ true) e
+    false≢true (subst (λ (g : Goal). meets (record (context_of h.scenario q.kinds s) { differs = false }) g s ≡ true) e
     (without always h q cs r held f))

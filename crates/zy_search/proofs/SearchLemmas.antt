@@ -18,21 +18,22 @@ use Rattle.zy_search.specs.declared.answer.Answer.TheVariants.{Spent}
 use Rattle.zy_search.specs.declared.answer.Report.{Report}
 use Rattle.zy_search.specs.Paths.{AreApart}
 use Rattle.zy_search.specs.Stuck.{is_still, AreMoves}
-use Rattle.zy_search.specs.Choices.{is_considered, AreConsidered, is_tried, considered}
+use Rattle.zy_search.specs.Choices.{is_considered, AreConsidered, is_of_kinds, considered}
 use Rattle.zy_search.proofs.ChoiceLemmas.{all_considered}
 use Rattle.zy_search.specs.Searches.{reached, deepest, Shows, Considers, IsPath, NoneBelow, NoneAtAll, FindsFirst, IsReached, IsDue, Fills}
 use Rattle.zy_search.specs.Visits.{path_at, length_at, IsKnown, IsVisited, Visits, IsEdge, IsExpanded, AreExpanded, Grows, FindsNext, StopsAt}
+use Rattle.zy_search.specs.declared.kinds.ChoiceKinds.{ChoiceKinds}
 
 -- ---- choices
 
 -- a choice that is considered names a transaction that is there
-pub named_if : (kills : Bool) (count : ℕ) (c : Choice) → is_considered kills count c ≡ true → names_below count c ≡ true
-named_if kills count c e = (and_parts (names_below count c) (is_tried kills c) e).0
+pub named_if : (kinds : ChoiceKinds) (count : ℕ) (c : Choice) → is_considered kinds count c ≡ true → names_below count c ≡ true
+named_if kinds count c e = (and_parts (names_below count c) (is_of_kinds kinds c) e).0
 
 -- so do choices
-pub are_named : (kills : Bool) (count : ℕ) (cs : List Choice) → AreConsidered kills count cs → AreNamed count cs
-are_named kills count [] a = tt
-are_named kills count (c ∷ cs) a = (named_if kills count c a.0, are_named kills count cs a.1)
+pub are_named : (kinds : ChoiceKinds) (count : ℕ) (cs : List Choice) → AreConsidered kinds count cs → AreNamed count cs
+are_named kinds count [] a = tt
+are_named kinds count (c ∷ cs) a = (named_if kinds count c a.0, are_named kinds count cs a.1)
 
 -- each of choices that name transactions that are there does
 pub named_at : (count : ℕ) (cs : List Choice) (i : ℕ) (d : Choice) → AreNamed count cs → i < length cs → names_below count (get_or cs i d) ≡ true
@@ -41,14 +42,14 @@ named_at count (c ∷ cs) zero d a lt = a.0
 named_at count (c ∷ cs) (suc i) d a lt = named_at count cs i d a.1 (omega (arith, lt))
 
 -- all that are considered name transactions that are there
-pub all_named : (kills : Bool) (count : ℕ) (cs : List Choice) → cs ≡ considered kills count → AreNamed count cs
-all_named kills count cs e = are_named kills count cs (subst (AreConsidered kills count) (sym e) (all_considered kills count))
+pub all_named : (kinds : ChoiceKinds) (count : ℕ) (cs : List Choice) → cs ≡ considered kinds count → AreNamed count cs
+all_named kinds count cs e = are_named kinds count cs (subst (AreConsidered kinds count) (sym e) (all_considered kinds count))
 
 -- one more is considered
-are_more : (kills : Bool) (count : ℕ) (cs : List Choice) (c : Choice) → AreConsidered kills count cs → is_considered kills count c ≡ true
-    → AreConsidered kills count (cs ++ c ∷ [])
-are_more kills count [] c a e = (e, tt)
-are_more kills count (d ∷ cs) c a e = (a.0, are_more kills count cs c a.1 e)
+are_more : (kinds : ChoiceKinds) (count : ℕ) (cs : List Choice) (c : Choice) → AreConsidered kinds count cs → is_considered kinds count c ≡ true
+    → AreConsidered kinds count (cs ++ c ∷ [])
+are_more kinds count [] c a e = (e, tt)
+are_more kinds count (d ∷ cs) c a e = (a.0, are_more kinds count cs c a.1 e)
 
 -- something comes of one more
 moves_more : (sc : Scenario) (s : State) (cs : List Choice) (c : Choice) → AreMoves sc s cs → is_still (step sc c (play sc s cs)).outcome ≡ false
@@ -58,9 +59,9 @@ moves_more sc s (d ∷ cs) c a e = (a.0, moves_more sc (step sc d s).after cs c 
 
 -- a path that goes on by one choice
 pub path_more : (h : History) (q : Sought) (cs : List Choice) (c : Choice) → IsPath h q cs → length h.entries + length cs < deepest q
-    → is_still (step h.scenario c (reached h cs)).outcome ≡ false → is_considered q.kills (length h.scenario.programs) c ≡ true → IsPath h q (cs ++ c ∷ [])
+    → is_still (step h.scenario c (reached h cs)).outcome ≡ false → is_considered q.kinds (length h.scenario.programs) c ≡ true → IsPath h q (cs ++ c ∷ [])
 path_more h q cs c p room moved e = record {
-  considered = are_more q.kills (length h.scenario.programs) cs c p.considered e;
+  considered = are_more q.kinds (length h.scenario.programs) cs c p.considered e;
   moves = moves_more h.scenario h.state cs c p.moves moved;
   room = omega (arith, room, length-append cs (c ∷ []));
 }

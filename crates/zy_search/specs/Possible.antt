@@ -8,11 +8,12 @@ use Rattle.zy_table.specs.Play.{step}
 use Rattle.zy_goals.specs.declared.outcomes.OutcomePattern.{OutcomePattern}
 use Rattle.zy_goals.specs.Outcomes.{matches}
 use Rattle.zy_search.specs.Choices.{considered}
+use Rattle.zy_search.specs.declared.kinds.ChoiceKinds.{ChoiceKinds}
 
 -- a choice has an outcome like x
 abbrev pub gives : Scenario → OutcomePattern → State → Choice → Bool
 gives sc x s c = matches x (step sc c s).outcome
 
 -- a considered choice has one
-abbrev pub is_possible : Scenario → Bool → OutcomePattern → State → Bool
-is_possible sc kills x s = list_any (gives sc x s) (considered kills (length sc.programs))
+abbrev pub is_possible : Scenario → ChoiceKinds → OutcomePattern → State → Bool
+is_possible sc kinds x s = list_any (gives sc x s) (considered kinds (length sc.programs))

@@ -20,18 +20,19 @@ use Rattle.zy_search.specs.Deadlocks.{is_deadlocked}
 use Rattle.zy_search.specs.Possible.{gives, is_possible}
 use Rattle.zy_search.specs.Choices.{AreConsidered, is_considered}
 use Rattle.zy_search.specs.Paths.{AreApart}
+use Rattle.zy_search.specs.declared.kinds.ChoiceKinds.{ChoiceKinds}
 
 -- what a state of a scenario does not decide by itself
-abbrev pub context_of : Scenario → Bool → State → Context
-context_of sc kills s = record { differs = not (is_serial sc s); stuck = is_stuck sc kills s; deadlock = is_deadlocked sc s }
+abbrev pub context_of : Scenario → ChoiceKinds → State → Context
+context_of sc kinds s = record { differs = not (is_serial sc s); stuck = is_stuck sc kinds s; deadlock = is_deadlocked sc s }
 
 -- an outcome like the one that is asked for after `then` is possible, if one is asked for
-abbrev pub may_follow : Scenario → Bool → Option OutcomePattern → State → Bool
-may_follow sc kills None s = true
-may_follow sc kills (Some x) s = is_possible sc kills x s
+abbrev pub may_follow : Scenario → ChoiceKinds → Option OutcomePattern → State → Bool
+may_follow sc kinds None s = true
+may_follow sc kinds (Some x) s = is_possible sc kinds x s
 
 abbrev pub shows : Scenario → Sought → State → Bool
-shows sc q s = meets (context_of sc q.kills s) q.goal s && may_follow sc q.kills q.then s
+shows sc q s = meets (context_of sc q.kinds s) q.goal s && may_follow sc q.kinds q.then s
 
 -- a state shows what is looked for
 abbrev pub Shows : Scenario → Sought → State → Type 0
@@ -60,7 +61,7 @@ reached h cs = play h.scenario h.state cs
 
 -- choices that a search considers from a machine
 abbrev pub Considers : History → Sought → List Choice → Type 0
-Considers h q cs = AreConsidered q.kills (length h.scenario.programs) cs
+Considers h q cs = AreConsidered q.kinds (length h.scenario.programs) cs
 
 -- considered choices, of each of which something comes, after which the history has room for a state to be judged
 pub record IsPath (h : History) (q : Sought) (cs : List Choice) : Type 0 where
@@ -94,7 +95,7 @@ IsReached h q (answer.Spent fewer) = NoneBelow h q fewer
 
 -- a considered choice with an outcome like x in the state that choices lead to, for which the history has room
 pub record IsLast (h : History) (q : Sought) (x : OutcomePattern) (cs : List Choice) (c : Choice) : Type 0 where
-  pub considered : is_considered q.kills (length h.scenario.programs) c ≡ true
+  pub considered : is_considered q.kinds (length h.scenario.programs) c ≡ true
   pub outcome : gives h.scenario x (reached h cs) c ≡ true
   pub room : length h.entries + length cs < max_choices
 

@@ -12,6 +12,7 @@ use Rattle.zy_goals.specs.declared.goal.Selector.TheVariants as selector
 use Rattle.zy_goals.specs.declared.goal.TxnProperty.TheVariants as property
 use Rattle.zy_goals.specs.Txns.{selected_have}
 use Rattle.zy_search.specs.Choices.{considered}
+use Rattle.zy_search.specs.declared.kinds.ChoiceKinds.{ChoiceKinds}
 
 -- nothing came of a step
 abbrev pub is_still : Outcome → Bool
@@ -34,7 +35,7 @@ AreMoves sc s [] = Unit {0}
 AreMoves sc s (c ∷ cs) = (is_still (step sc c s).outcome ≡ false) × AreMoves sc (step sc c s).after cs
 
 -- a transaction is active, and nothing comes of any considered choice
-abbrev pub is_stuck : Scenario → Bool → State → Bool
-is_stuck sc kills s =
+abbrev pub is_stuck : Scenario → ChoiceKinds → State → Bool
+is_stuck sc kinds s =
     selected_have selector.Any property.Active s.txns
-    && list_all (λ c. is_still (step sc c s).outcome) (considered kills (length sc.programs))
+    && list_all (λ c. is_still (step sc c s).outcome) (considered kinds (length sc.programs))

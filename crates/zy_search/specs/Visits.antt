@@ -24,7 +24,7 @@ use Rattle.zy_search.specs.Searches.{Shows, reached, deepest, IsPath, Finds}
 
 -- the choices of a plan are all that its search considers
 abbrev pub IsWhole : Plan → Type 0
-IsWhole p = p.choices.items ≡ considered p.sought.kills (length p.start.scenario.programs)
+IsWhole p = p.choices.items ≡ considered p.sought.kinds (length p.start.scenario.programs)
 
 abbrev pub path_at : List (List Choice) → ℕ → List Choice
 path_at paths i = slice_index_or paths i []
@@ -70,7 +70,7 @@ pub record IsEdge (ps : List (List Choice)) (at : ℕ) : Type 0 where
 -- each choice from the state of the path at i leads to a state of one of the paths, which is at most one choice longer
 abbrev pub IsExpanded : History → Sought → List (List Choice) → ℕ → Type 0
 IsExpanded h q paths i =
-    (c : Choice) → is_considered q.kills (length h.scenario.programs) c ≡ true
+    (c : Choice) → is_considered q.kinds (length h.scenario.programs) c ≡ true
     → IsVisited h paths (length_at paths i + 1) (step h.scenario c (reached h (path_at paths i))).after
 
 -- the same of the first n paths
@@ -131,7 +131,7 @@ pub record IsReady (p : Plan) (paths : List (List Choice)) (shelf : Shelf) (at :
 
 -- it considers the choice of a branch, and no path goes on so yet
 pub record IsUntried (p : Plan) (paths : List (List Choice)) (b : Branch) : Type 0 where
-  pub considered : is_considered p.sought.kills (length p.start.scenario.programs) b.by ≡ true
+  pub considered : is_considered p.sought.kinds (length p.start.scenario.programs) b.by ≡ true
   pub fresh : IsFresh paths b.from b.by
 
 -- it is about to make the choice of a branch, from a machine where the path of the branch leads

@@ -4,22 +4,34 @@ ghost use Rattle.zy_isa.specs.declared.choice.Choice.TheVariants.{Begin, Kill, R
 ghost use Rattle.zy_search.specs.Choices.{each, of_node};
 ghost use Rattle.zy_search.specs.Choices as spec;
 
+use crate::kinds::{ChoiceKinds, is_of_kinds};
 use std::alloc::{AllocError, Global};
 use zy_isa::{Choice, Node};
 
-/// The choices that a search considers, in the order in which it makes them: those of this number of transactions, with
-/// kills or without.
-pub fn considered(alloc: Global, kills: bool, count: u8) -> Result<Vec<Choice>, AllocError>
-    ensures { IfOk result (λ v. v.items ≡ spec.considered kills count) }
+/// All choices of this number of transactions, in the order in which a search makes them.
+fn all_choices(alloc: Global, count: u8) -> Result<Vec<Choice>, AllocError>
+    ensures { IfOk result (λ v. v.items ≡ spec.all_choices count) }
 {
     let mut choices = Vec::new(alloc);
     choices.push(Choice::Start)?;
     add_begins(&mut choices, count)?;
-    if kills {
-        add_kills(&mut choices, count)?;
-    }
+    add_kills(&mut choices, count)?;
     add_of(&mut choices, Node::A, count)?;
     add_of(&mut choices, Node::B, count)?;
+    Ok(choices)
+}
+
+/// The choices that a search considers, in the order in which it makes them: those of these kinds and of this number of
+/// transactions.
+pub fn considered(
+    alloc: Global,
+    kinds: ChoiceKinds,
+    count: u8,
+) -> Result<Vec<Choice>, AllocError>
+    ensures { IfOk result (λ v. v.items ≡ spec.considered kinds count) }
+{
+    let mut choices = all_choices(alloc, count)?;
+    choices.retain(|choice| is_of_kinds(kinds, *choice));
     Ok(choices)
 }
 

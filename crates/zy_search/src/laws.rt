@@ -51,7 +51,7 @@ pub fn never_differs_under_held()
     ensures alone { (h : History) (q : Sought) (cs : List AChoice) → IsReplay h → h.scenario.rule ≡ Held
         → q.goal ≡ Is Differs → Finds h q cs → ⊥ }
     ensures inside { (h : History) (q : Sought) (cs : List AChoice) → IsReplay h → h.scenario.rule ≡ Held
-        → Finds h q cs → meets (record (context_of h.scenario q.kills (reached h cs)) { differs = false }) q.goal
+        → Finds h q cs → meets (record (context_of h.scenario q.kinds (reached h cs)) { differs = false }) q.goal
         (reached h cs) ≡ true }
 {
     // Proof: under `held` the serial run gives the same database.

@@ -7,6 +7,7 @@ pub mod choices;
 pub mod deadlock;
 pub mod digest;
 mod expand;
+pub mod kinds;
 mod last;
 pub mod laws;
 pub mod plan;
@@ -24,5 +25,6 @@ pub mod walk;
 pub mod watch;
 
 pub use crate::answer::{Answer, Report};
+pub use crate::kinds::ChoiceKinds;
 pub use crate::sought::Sought;
 pub use crate::watch::Watch;

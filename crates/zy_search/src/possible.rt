@@ -8,6 +8,7 @@ ghost use Rattle.zy_isa.specs.declared.choice.Choice.{Choice as AChoice};
 ghost use Rattle.zy_search.specs.Choices.{considered};
 ghost use Rattle.zy_search.specs.Possible as spec;
 
+use crate::kinds::ChoiceKinds;
 use std::alloc::Global;
 use zy_goals::OutcomePattern;
 use zy_goals::outcomes::matches;
@@ -61,7 +62,7 @@ pub(crate) fn first_giving(
 /// Whether a considered choice has an outcome like `wanted`.
 pub(crate) fn is_possible(
     alloc: Global,
-    kills: bool,
+    kinds: ChoiceKinds,
     wanted: OutcomePattern,
     machine: &Machine,
     spare: &mut Machine,
@@ -69,8 +70,8 @@ pub(crate) fn is_possible(
 ) -> Result<bool, Fault>
     requires room { length machine.now.entries < max_choices }
     requires spare { spare.old.scenario ≡ machine.now.scenario }
-    requires choices { choices.now ≡ considered kills (length machine.now.scenario.programs) }
-    ensures possible { IfOk result (λ b. b ≡ spec.is_possible machine.now.scenario kills wanted machine.now.state) }
+    requires choices { choices.now ≡ considered kinds (length machine.now.scenario.programs) }
+    ensures possible { IfOk result (λ b. b ≡ spec.is_possible machine.now.scenario kinds wanted machine.now.state) }
     ensures spare { OnOk result (spare.new.scenario ≡ machine.now.scenario) }
 {
     let first = first_giving(alloc, wanted, machine, spare, choices)?;

@@ -4,6 +4,7 @@ ghost use Rattle.zy_search.specs.Choices as spec;
 ghost use Rattle.zy_search.specs.Searches.{IsAnswer, IsReached, IsDue};
 ghost use Rattle.zy_search.specs.Visits.{length_at, AreExpanded, Begins, IsEdge, IsWhole, Visits};
 
+use crate::kinds::ChoiceKinds;
 use crate::answer::{Answer, Expanded, Report};
 use crate::choices::considered;
 use crate::digest::digest;
@@ -189,11 +190,11 @@ fn search_by<W: Watch>(plan: &Plan, visited: &mut Visited, watch: &mut W) -> Res
 }
 
 /// The choices that a search considers from a machine.
-fn choices_from(alloc: Global, kills: bool, machine: &Machine) -> Result<Vec<Choice>, AllocError>
-    ensures { IfOk result (λ v. v.items ≡ spec.considered kills (length machine.now.scenario.programs)) }
+fn choices_from(alloc: Global, kinds: ChoiceKinds, machine: &Machine) -> Result<Vec<Choice>, AllocError>
+    ensures { IfOk result (λ v. v.items ≡ spec.considered kinds (length machine.now.scenario.programs)) }
 {
     let programs = machine.scenario().programs();
-    considered(alloc, kills, programs.len() as u8)
+    considered(alloc, kinds, programs.len() as u8)
 }
 
 /// What a search from a machine goes by.
@@ -203,7 +204,7 @@ fn plan_from(alloc: Global, machine: &Machine, sought: Sought, most: u32) -> Res
     ensures most { IfOk result (λ p. p.most ≡ most) }
     ensures sought { IfOk result (λ p. p.sought ≡ sought) }
 {
-    let choices = choices_from(alloc, sought.kills, machine)?;
+    let choices = choices_from(alloc, sought.kinds, machine)?;
     let start = machine.copy(alloc)?.share(alloc)?;
     Ok(Plan {
         alloc,

@@ -10,6 +10,7 @@ ghost use Rattle.zy_search.specs.Choices.{considered};
 ghost use Rattle.zy_search.specs.Searches.{MayTry, Shows, context_of};
 ghost use Rattle.zy_search.specs.Searches as spec;
 
+use crate::kinds::ChoiceKinds;
 use crate::deadlock::is_deadlocked;
 use crate::possible::is_possible;
 use crate::sought::Sought;
@@ -26,16 +27,16 @@ use zy_table::CommitRecord;
 /// Whether a fact holds in a machine's state. The considered choices are tried on another machine.
 fn holds(
     alloc: Global,
-    kills: bool,
+    kinds: ChoiceKinds,
     fact: Fact,
     choices: &[Choice],
     machine: &Machine,
     spare: &mut Machine,
 ) -> Result<bool, Fault>
     requires room { goals_commits.fact_takes_steps fact ≡ true → length machine.now.entries < max_choices }
-    requires choices { choices.now ≡ considered kills (length machine.now.scenario.programs) }
+    requires choices { choices.now ≡ considered kinds (length machine.now.scenario.programs) }
     requires spare { spare.old.scenario ≡ machine.now.scenario }
-    ensures holds { IfOk result (λ b. b ≡ goals.holds (context_of machine.now.scenario kills machine.now.state) fact
+    ensures holds { IfOk result (λ b. b ≡ goals.holds (context_of machine.now.scenario kinds machine.now.state) fact
         machine.now.state) }
     ensures spare { OnOk result (spare.new.scenario ≡ machine.now.scenario) }
 {
@@ -44,7 +45,7 @@ fn holds(
             let same = same(alloc, machine)?;
             Ok(!same)
         }
-        Fact::Stuck => is_stuck(alloc, kills, machine, spare, choices),
+        Fact::Stuck => is_stuck(alloc, kinds, machine, spare, choices),
         Fact::Deadlock => is_deadlocked(alloc, machine, spare),
         Fact::OfState(state_fact) => Ok(holds_in(state_fact, machine)),
     }
@@ -53,36 +54,36 @@ fn holds(
 /// Whether a machine's state meets a goal. The second of two goals is judged only where it still counts.
 fn meets(
     alloc: Global,
-    kills: bool,
+    kinds: ChoiceKinds,
     goal: &Goal,
     choices: &[Choice],
     machine: &Machine,
     spare: &mut Machine,
 ) -> Result<bool, Fault>
     requires room { goals_commits.takes_steps goal.now ≡ true → length machine.now.entries < max_choices }
-    requires choices { choices.now ≡ considered kills (length machine.now.scenario.programs) }
+    requires choices { choices.now ≡ considered kinds (length machine.now.scenario.programs) }
     requires spare { spare.old.scenario ≡ machine.now.scenario }
-    ensures meets { IfOk result (λ b. b ≡ goals.meets (context_of machine.now.scenario kills machine.now.state)
+    ensures meets { IfOk result (λ b. b ≡ goals.meets (context_of machine.now.scenario kinds machine.now.state)
         goal.now machine.now.state) }
     ensures spare { OnOk result (spare.new.scenario ≡ machine.now.scenario) }
 {
     match goal {
-        Goal::Is(fact) => holds(alloc, kills, *fact, choices, machine, spare),
+        Goal::Is(fact) => holds(alloc, kinds, *fact, choices, machine, spare),
         Goal::Not(g) => {
-            let is_met = meets(alloc, kills, g, choices, machine, spare)?;
+            let is_met = meets(alloc, kinds, g, choices, machine, spare)?;
             Ok(!is_met)
         }
         Goal::And(g, h) => {
-            if !meets(alloc, kills, g, choices, machine, spare)? {
+            if !meets(alloc, kinds, g, choices, machine, spare)? {
                 return Ok(false);
             }
-            meets(alloc, kills, h, choices, machine, spare)
+            meets(alloc, kinds, h, choices, machine, spare)
         }
         Goal::Or(g, h) => {
-            if meets(alloc, kills, g, choices, machine, spare)? {
+            if meets(alloc, kinds, g, choices, machine, spare)? {
                 return Ok(true);
             }
-            meets(alloc, kills, h, choices, machine, spare)
+            meets(alloc, kinds, h, choices, machine, spare)
         }
     }
 }
@@ -90,21 +91,21 @@ fn meets(
 /// Whether a considered choice has the outcome that is asked for, if one is.
 fn may_follow(
     alloc: Global,
-    kills: bool,
+    kinds: ChoiceKinds,
     then: Option<OutcomePattern>,
     choices: &[Choice],
     machine: &Machine,
     spare: &mut Machine,
 ) -> Result<bool, Fault>
     requires room { is_some then ≡ true → length machine.now.entries < max_choices }
-    requires choices { choices.now ≡ considered kills (length machine.now.scenario.programs) }
+    requires choices { choices.now ≡ considered kinds (length machine.now.scenario.programs) }
     requires spare { spare.old.scenario ≡ machine.now.scenario }
-    ensures follows { IfOk result (λ b. b ≡ spec.may_follow machine.now.scenario kills then machine.now.state) }
+    ensures follows { IfOk result (λ b. b ≡ spec.may_follow machine.now.scenario kinds then machine.now.state) }
     ensures spare { OnOk result (spare.new.scenario ≡ machine.now.scenario) }
 {
     match then {
         None => Ok(true),
-        Some(wanted) => is_possible(alloc, kills, wanted, machine, spare, choices),
+        Some(wanted) => is_possible(alloc, kinds, wanted, machine, spare, choices),
     }
 }
 
@@ -117,15 +118,15 @@ fn shows_all(
     spare: &mut Machine,
 ) -> Result<bool, Fault>
     requires room { MayTry sought.now machine.now }
-    requires choices { choices.now ≡ considered sought.now.kills (length machine.now.scenario.programs) }
+    requires choices { choices.now ≡ considered sought.now.kinds (length machine.now.scenario.programs) }
     requires spare { spare.old.scenario ≡ machine.now.scenario }
     ensures shows { IfOk result (λ b. b ≡ spec.shows machine.now.scenario sought.now machine.now.state) }
     ensures spare { OnOk result (spare.new.scenario ≡ machine.now.scenario) }
 {
-    if !meets(alloc, sought.kills, &sought.goal, choices, machine, spare)? {
+    if !meets(alloc, sought.kinds, &sought.goal, choices, machine, spare)? {
         return Ok(false);
     }
-    may_follow(alloc, sought.kills, sought.then, choices, machine, spare)
+    may_follow(alloc, sought.kinds, sought.then, choices, machine, spare)
 }
 
 /// The same, as a test of the fact `Shows`.
@@ -137,7 +138,7 @@ pub(crate) fn shows(
     spare: &mut Machine,
 ) -> Result<bool, Fault>
     requires room { MayTry sought.now machine.now }
-    requires choices { choices.now ≡ considered sought.now.kills (length machine.now.scenario.programs) }
+    requires choices { choices.now ≡ considered sought.now.kinds (length machine.now.scenario.programs) }
     requires spare { spare.old.scenario ≡ machine.now.scenario }
     ensures shows { IfOk result (λ b. Decides b (Shows machine.now.scenario sought.now machine.now.state)) }
     ensures spare { OnOk result (spare.new.scenario ≡ machine.now.scenario) }
@@ -173,7 +174,7 @@ pub(crate) fn shows_next(
     requires step { (c : AChoice) × (machine.now.state ≡ (table.step before.now.scenario c before.now.state).after) }
     requires none { Shows before.now.scenario sought.now before.now.state → ⊥ }
     requires room { MayTry sought.now machine.now }
-    requires choices { choices.now ≡ considered sought.now.kills (length machine.now.scenario.programs) }
+    requires choices { choices.now ≡ considered sought.now.kinds (length machine.now.scenario.programs) }
     requires spare { spare.old.scenario ≡ machine.now.scenario }
     ensures shows { IfOk result (λ b. Decides b (Shows machine.now.scenario sought.now machine.now.state)) }
     ensures spare { OnOk result (spare.new.scenario ≡ machine.now.scenario) }

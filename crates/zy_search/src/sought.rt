@@ -2,6 +2,7 @@
 ghost use Rattle.std.specs.Prelude.{◌≡◌};
 ghost use Rattle.zy_search.specs.Searches as spec;
 
+use crate::kinds::ChoiceKinds;
 use zy_goals::commits::takes_steps;
 use zy_goals::{Goal, OutcomePattern};
 use zy_isa::MAX_CHOICES;
@@ -13,8 +14,8 @@ pub struct Sought {
     pub goal: Goal,
     /// The outcome that a considered choice is to have in that state, if one is asked for.
     pub then: Option<OutcomePattern>,
-    /// Whether the client's kills are considered.
-    pub kills: bool,
+    /// The kinds of choices that are considered.
+    pub kinds: ChoiceKinds,
 }
 
 /// Whether it takes steps to judge if a state shows what is looked for.

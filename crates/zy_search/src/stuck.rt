@@ -9,6 +9,7 @@ ghost use Rattle.zy_search.specs.Choices as search_choices;
 ghost use Rattle.zy_search.specs.Stuck as search_stuck;
 ghost use Rattle.zy_search.specs.Visits.{IsTwin};
 
+use crate::kinds::ChoiceKinds;
 use crate::still::is_still;
 use std::alloc::Global;
 use zy_goals::txns::selected_have;
@@ -75,15 +76,15 @@ fn is_stuck_by(
 /// machine.
 pub(crate) fn is_stuck(
     alloc: Global,
-    kills: bool,
+    kinds: ChoiceKinds,
     machine: &Machine,
     spare: &mut Machine,
     choices: &[Choice],
 ) -> Result<bool, Fault>
     requires room { length machine.now.entries < max_choices }
     requires spare { spare.old.scenario ≡ machine.now.scenario }
-    requires choices { choices.now ≡ search_choices.considered kills (length machine.now.scenario.programs) }
-    ensures stuck { IfOk result (λ b. b ≡ search_stuck.is_stuck machine.now.scenario kills machine.now.state) }
+    requires choices { choices.now ≡ search_choices.considered kinds (length machine.now.scenario.programs) }
+    ensures stuck { IfOk result (λ b. b ≡ search_stuck.is_stuck machine.now.scenario kinds machine.now.state) }
     ensures spare { OnOk result (spare.new.scenario ≡ machine.now.scenario) }
 {
     if !selected_have(Selector::Any, TxnProperty::Active, machine) {

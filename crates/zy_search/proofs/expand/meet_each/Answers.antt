@@ -27,9 +27,9 @@ meet-requires-clause-about c =
         there = omega (arith, there, i.grows.longer);
       };
       choice = record {
-        considered = subst (λ (d : Choice). is_considered q.kills n d ≡ true) (sym is) (is_one q.kills n c.loop-i.i cs c.requires.ready.whole lt);
+        considered = subst (λ (d : Choice). is_considered q.kinds n d ≡ true) (sym is) (is_one q.kinds n c.loop-i.i cs c.requires.ready.whole lt);
         fresh =
-            subst (IsFresh c.loop-i.visited c.args.at) (sym is) (fresh_one q.kills n c.loop-i.visited c.args.at c.loop-i.i cs c.requires.ready.whole lt
+            subst (IsFresh c.loop-i.visited c.args.at) (sym is) (fresh_one q.kinds n c.loop-i.visited c.args.at c.loop-i.i cs c.requires.ready.whole lt
             i.by);
       };
       here = here_grown c.args.plan.now.start c.args.visited.now c.loop-i.visited c.args.at c.args.here.now i.grows there c.requires.here;
@@ -71,7 +71,7 @@ returns-in-Shown c =
     let d = c.index-choice.result.now in
     let lt : c.loop-i.i < length cs = omega (arith, c.loop-i-test.true, c.len-i-end.ensures) in
     let is = element cs c.loop-i.i d lt c.index-choice.ensures in
-    let one = subst (λ (x : Choice). is_considered q.kills n x ≡ true) (sym is) (is_one q.kills n c.loop-i.i cs c.requires.ready.whole lt) in
+    let one = subst (λ (x : Choice). is_considered q.kinds n x ≡ true) (sym is) (is_one q.kinds n c.loop-i.i cs c.requires.ready.whole lt) in
     let m = rw c.in-Shown.is at c.in_ok-meet.ensures.well in
     record {
       well = found h q c.args.visited.now c.loop-i.visited c.args.at c.requires.ready.there c.loop-i.invariant.grows c.meet.new.visited d

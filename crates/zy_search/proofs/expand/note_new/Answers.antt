@@ -26,7 +26,7 @@ module _ (h : History) (q : Sought) (old : List (List Choice)) (at : ℕ) (c : C
 
   -- where it does not, the path is taken in
   noted : (new : List (List Choice)) → Visits h q old → IsEdge old at → at < length old → IsFresh old at c
-      → is_considered q.kills (length h.scenario.programs) c ≡ true
+      → is_considered q.kinds (length h.scenario.programs) c ≡ true
       → b ≡ false → new ≡ old ++ (path_at old at ++ c ∷ []) ∷ [] → Notes h q old new at c
   noted new v edge lt fresh a f e =
       let cs = path_at old at in

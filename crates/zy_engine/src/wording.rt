@@ -1,0 +1,159 @@
+//! A scenario text with other choices, in its own words.
+
+use std::alloc::{AllocError, Global};
+use zy_io::{Decimal, Line, LineBuffer, joined};
+use zy_isa::Choice;
+use zy_text::Canonical;
+use zy_text::Words;
+use zy_text::line::take_line;
+use zy_text::names::{is, is_name};
+use zy_text::numbers::number_of;
+
+/// How a scenario is written.
+#[derive(Clone, Copy, Debug, PartialEq, Eq)]
+pub enum Wording {
+    /// As the input has it: with its comments, and with the names of its transactions.
+    Own,
+    /// As canonical text.
+    Canonical,
+}
+
+/// What a line of a scenario text is.
+#[derive(Clone, Copy)]
+enum Kind<'a> {
+    /// The head of a program: the name of its transaction, empty where it has its number alone.
+    Head(&'a [u8]),
+    /// A choice, which is made so often.
+    Choice(usize),
+    /// The end.
+    End,
+    /// Something else.
+    Other,
+}
+
+/// How often the choice of a line is made: N behind `x`, or else once.
+fn times(words: &[&[u8]]) -> usize {
+    match words {
+        [.., x, count] if is(x, b"x") => number_of(count).unwrap_or(1) as usize,
+        _ => 1,
+    }
+}
+
+impl<'a> Kind<'a> {
+    /// What a line is, by its words.
+    fn of(line: &'a [u8]) -> Kind<'a> {
+        if line.is_empty() {
+            return Kind::Other;
+        }
+        let mut words = Words::new();
+        take_line(&mut words, line);
+        match words.as_slice() {
+            [b"txn", name, ..] if is_name(name) => Kind::Head(name),
+            [b"txn", ..] => Kind::Head(&[]),
+            [b"A" | b"B" | b"C", ..] => Kind::Choice(times(words.as_slice())),
+            [b"end"] => Kind::End,
+            _ => Kind::Other,
+        }
+    }
+}
+
+/// The parts of a scenario text that its own words are kept of.
+#[derive(Drop)]
+struct Parts<'a> {
+    /// How many bytes are above the first choice that is not kept whole, or above the end.
+    above: usize,
+    /// How many choices they have.
+    choices: usize,
+    /// How many bytes are above the end.
+    body: usize,
+    /// The name of each transaction, at its number; empty where it has its number alone.
+    names: Vec<&'a [u8]>,
+}
+
+impl<'a> Parts<'a> {
+    /// Those of a text of which this number of choices is kept.
+    fn of(alloc: Global, text: &'a [u8], kept: usize) -> Result<Parts<'a>, AllocError> {
+        let mut parts = Parts {
+            above: 0,
+            choices: 0,
+            body: 0,
+            names: Vec::new(alloc),
+        };
+        for line in text.split(|byte| *byte == b'\n') {
+            let kind = Kind::of(line);
+            if matches!(kind, Kind::End) {
+                break;
+            }
+            parts.add(kind, line.len().saturating_add(1), kept)?;
+        }
+        Ok(parts)
+    }
+
+    /// Goes on over a line of this length.
+    fn add(&mut self, kind: Kind<'a>, len: usize, kept: usize) -> Result<(), AllocError> {
+        let is_whole = self.above == self.body;
+        self.body = self.body.saturating_add(len);
+        let count = match kind {
+            Kind::Choice(count) => count,
+            Kind::Head(name) => {
+                self.names.push(name)?;
+                0
+            }
+            _ => 0,
+        };
+        let choices = self.choices.saturating_add(count);
+        if is_whole && choices <= kept {
+            self.choices = choices;
+            self.above = self.body;
+        }
+        Ok(())
+    }
+
+    /// Appends the name of a transaction, or else its number.
+    fn append_txn(&self, txn: u8, line: &mut LineBuffer) -> Result<(), AllocError> {
+        match self.names.get(usize::from(txn)) {
+            Some(name) if !name.is_empty() => line.push_bytes(name),
+            _ => Decimal(txn).append(line),
+        }
+    }
+
+    /// Appends a choice as a line.
+    fn append_choice(&self, choice: Choice, line: &mut LineBuffer) -> Result<(), AllocError> {
+        match choice {
+            Choice::Begin(txn) => {
+                "C begin ".append(line)?;
+                self.append_txn(txn, line)?;
+            }
+            Choice::Kill(txn) => {
+                "C kill ".append(line)?;
+                self.append_txn(txn, line)?;
+            }
+            Choice::Run(node, txn) => {
+                joined!(Canonical(node), " run ").append(line)?;
+                self.append_txn(txn, line)?;
+            }
+            other => Canonical(other).append(line)?,
+        }
+        line.push(b'\n')
+    }
+}
+
+/// The text of a scenario with these choices in place of its own, of which the first `kept` are its own: they stay as
+/// they are written there, and so does all that is not a choice.
+pub(crate) fn reworded(
+    alloc: Global,
+    text: &[u8],
+    kept: usize,
+    choices: &[Choice],
+) -> Result<LineBuffer, AllocError> {
+    let parts = Parts::of(alloc, text, kept)?;
+    let mut reworded = LineBuffer::new(alloc);
+    let (above, _) = text.split_at(parts.above.min(text.len()));
+    reworded.push_bytes(above)?;
+    for choice in choices.iter().skip(parts.choices) {
+        parts.append_choice(*choice, &mut reworded)?;
+    }
+    let (_, end) = text.split_at(parts.body.min(text.len()));
+    reworded.push_bytes(end)?;
+    Ok(reworded)
+}
