@@ -9,15 +9,17 @@ _zy_bench() {
   case ${COMP_WORDS[1]} in
     run | threads | trace) options='--image --help' ;;
     debug) options='--every --ring --help' ;;
-    search) options='--image --for --always --kill --states --help' ;;
+    search) options='--image --for --always --from --kill --without --states --canon --help' ;;
     help) options='run asm dis check threads trace debug search' ;;
     *) options='--help' ;;
   esac
   if [[ $before == --for ]]; then
     options='differs aborted own killed badkey missing duplicate frozen nopage gone committed stuck deadlock'
+  elif [[ $before == --without ]]; then
+    options='start begin kill run take finish push'
   fi
   mapfile -t COMPREPLY < <(compgen -W "$options" -- "$word")
-  if [[ ${COMP_WORDS[1]} != help && $word != -* && ! $before =~ ^--(for|always|every|ring|states)$ ]]; then
+  if [[ ${COMP_WORDS[1]} != help && $word != -* && ! $before =~ ^--(for|always|from|without|every|ring|states)$ ]]; then
     mapfile -t -O "${#COMPREPLY[@]}" COMPREPLY < <(compgen -f -- "$word")
   fi
 }

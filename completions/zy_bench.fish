@@ -11,7 +11,11 @@ complete -c zy_bench -l ring -x -d 'Keep at most N copies' -n '__fish_seen_subco
 complete -c zy_bench -l for -x -d 'What to look for' -n '__fish_seen_subcommand_from search' \
   -a 'differs aborted own killed badkey missing duplicate frozen nopage gone committed stuck deadlock'
 complete -c zy_bench -l always -x -d 'What every state is to meet' -n '__fish_seen_subcommand_from search'
+complete -c zy_bench -l from -x -d 'Take the first N choices as taken' -n '__fish_seen_subcommand_from search'
 complete -c zy_bench -l kill -d 'Transactions may be killed' -n '__fish_seen_subcommand_from search'
+complete -c zy_bench -l without -x -d 'Leave out choices of this kind' -n '__fish_seen_subcommand_from search' \
+  -a 'start begin kill run take finish push'
+complete -c zy_bench -l canon -d 'Write canonical text' -n '__fish_seen_subcommand_from search'
 complete -c zy_bench -l states -x -d 'Look at N states at most' -n '__fish_seen_subcommand_from search'
 
 complete -c zview -l svg -d 'The picture alone'

@@ -197,10 +197,11 @@ const SEARCH_HELP: &'static str = concat!(
     "Input:   a scenario text, or with --image an image, at most 4194304 bytes; its choices are steps\n",
     "         already taken\n",
     "Output:  the scenario with a shortest list of further choices that leads there; nothing where\n",
-    "         there is none. Standard error has the number of states reached; a fault is one line there\n",
+    "         there is none. A text keeps its names and comments. Standard error has the number of\n",
+    "         states reached; a fault is one line there\n",
     "Status:  0 found, 1 the input is rejected, 2 the command line is wrong, 3 out of memory,\n",
-    "         4 no schedule shows it (without --kill: none in which the client kills nobody),\n",
-    "         5 the input or the output failed, 6 it gave up\n",
+    "         4 no schedule of the considered choices shows it, 5 the input or the output failed,\n",
+    "         6 it gave up\n",
     "\n",
     "GOAL:    facts joined by and, or, not and brackets; after them may come: then OUTCOME.\n",
     "         Facts of one word: differs (another database than that of the committed programs, run one\n",
@@ -212,7 +213,8 @@ const SEARCH_HELP: &'static str = concat!(
     "         and more: docs/search.md has them all.\n",
     "\n",
     "Examples:\n",
-    "  zy_bench search --for gone examples/gone.zephyr | zy_bench run\n",
+    "  zy_bench search --from 0 --for gone examples/gone.zephyr | zy_bench run\n",
+    "  zy_bench search --from 0 --always 'commits = 0 or key 10 = key 30' examples/deadlock.zephyr\n",
     "  zy_bench search --for 'txn 0 active and page 3 moving then pulls' SCENARIO"
 );
 
@@ -225,7 +227,7 @@ fn with_schedules<'a>(alloc: Global, command: Command<'a>) -> Result<Command<'a>
         .long("from")
         .value_name("N")
         .value_parser(value_parser!(u16).range(0..=4096))
-        .help("Takes the scenario's first N choices as steps already taken: 0 to 4096, default all");
+        .help("Takes the first N choices as steps already taken: 0 to 4096, default all");
     let kills = Arg::new(alloc, "kill")
         .long("kill")
         .action(ArgAction::SetTrue)
@@ -235,7 +237,7 @@ fn with_schedules<'a>(alloc: Global, command: Command<'a>) -> Result<Command<'a>
         .value_name("KIND")
         .action(ArgAction::Append)
         .value_parser(KINDS)
-        .help("Leaves out choices of this kind: start, begin, kill, run, take, finish or push");
+        .help("Leaves out choices of this kind");
     let states = Arg::new(alloc, "states")
         .long("states")
         .value_name("N")

@@ -4,6 +4,7 @@ use clap::error::ErrorKind;
 use std::fmt;
 use zy_advice::Bytes;
 use zy_engine::debugging::{MAX_EVERY, MAX_RING};
+use zy_isa::MAX_CHOICES;
 
 /// A flag that takes a number.
 #[derive(Clone, Copy)]
@@ -14,7 +15,11 @@ struct Counted {
 }
 
 /// The flags that take a number.
-const COUNTED: [Counted; 3] = [
+const COUNTED: [Counted; 4] = [
+    Counted {
+        flag: "--from",
+        most: MAX_CHOICES as u64,
+    },
     Counted {
         flag: "--states",
         most: 4_294_967_295,
