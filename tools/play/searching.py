@@ -40,7 +40,7 @@ def words_of(asked):
     way, goal, states = asked['way'], asked['goal'], asked['states']
     if way not in ('for', 'always') or not isinstance(goal, str) or len(goal) > LONGEST or not 1 <= int(states) <= MOST:
         raise ValueError
-    return ['search', '--%s=%s' % (way, goal), '--states', '%d' % states] + (['--kill'] if asked['kill'] else [])
+    return ['search', '--%s=%s' % (way, goal), '--states', '%d' % states, '--canon'] + (['--kill'] if asked['kill'] else [])
 
 
 def searched(asked):
@@ -116,8 +116,7 @@ def answer(way, position, status, lines, text):
         return {'goal': {'column': int(fault.group(2)), 'length': len(fault.group(3))}, 'words': fault.group(1)}
     if (way, status) not in BEGINNINGS:
         return {'found': None, 'words': words if status > 0 and words else 'Not known: the search ' + STOPPED}
-    said = BEGINNINGS[way, status] + (words.replace('shows it', 'breaks it') if way == 'always' else words)
-    return {'found': None if status else choices_in(text)[position:], 'words': said}
+    return {'found': None if status else choices_in(text)[position:], 'words': BEGINNINGS[way, status] + words.removeprefix('it does not always hold: ')}
 
 
 def choices_in(text):

@@ -34,7 +34,7 @@ class Programs:
 
     def search(self, goal, states, kills=False):
         """What comes of a search for a goal."""
-        words = ['search', '--for', goal, '--states', states] + ['--kill'] * kills
+        words = ['search', '--canon', '--for', goal, '--states', states] + ['--kill'] * kills
         with bench.start(words, stdin=subprocess.PIPE, stdout=subprocess.PIPE, stderr=subprocess.PIPE) as process:
             written, said = process.communicate(self.text)
         if process.returncode not in (FOUND, NONE, SPENT):
