@@ -1,11 +1,11 @@
 -- The answer is that of the search; where there was none, nothing is known.
-use Rattle.std.proofs.Common.{Ok, Err}
+use Rattle.std.proofs.Common.{[], Ok, Err, refl}
 use Rattle.std.proofs.lemmas.Result.{err_from_is_err_and}
 use Rattle.zy_isa.specs.Scenario.{Scenario}
 use Rattle.zy_search.specs.declared.answer.Answer.TheVariants.{Spent}
 use Rattle.zy_search.specs.Searches.{IsAnswer, IsDue}
 use Rattle.zy_engine.specs.Engines.{streams}
-use Rattle.zy_engine.specs.Searching.{history_of, text_of}
+use Rattle.zy_engine.specs.Searching.{history_of, taken, IsTextOf}
 use Rattle.zy_engine.proofs.RunLemmas.{converts-none, converts-wrote, each-of-any, took-each}
 use Rattle.zy_engine.proofs.SearchLemmas.{nothing_known}
 use Rattle.zy_engine.proofs.searching.search_bytes.Goals as goal
@@ -18,10 +18,13 @@ returns-in_err-scenario g c =
     let p = err_from_is_err_and c.from_residual.result c.from_residual.ensures.1 in
     rw (p.1, p.2) (record {
       answer = Spent 0;
-      is = each-of-any c.args.format (g.S.Source.left c.args.source.now) (λ (sc : Scenario). IsAnswer (history_of sc) q (Spent 0)) (λ sc. nothing_known sc q);
+      text = [];
+      is = each-of-any c.args.options.format (g.S.Source.left c.args.source.now) (λ (sc : Scenario). IsAnswer (history_of c.args.options.from sc) q (Spent 0)) (λ sc. nothing_known c.args.options.from sc q);
       returned = tt;
       due = tt;
-      converts = converts-none c.args.format (λ sc. text_of sc (Spent 0)) (at c.args.source.now c.args.sink.now) (g.S.Source.left source)
+      says = each-of-any c.args.options.format (g.S.Source.left c.args.source.now)
+          (λ (sc : Scenario). IsTextOf c.args.options.wording sc (taken c.args.options.from sc) (Spent 0) []) (λ sc. refl);
+      converts = converts-none c.args.options.format (λ sc. []) (at c.args.source.now c.args.sink.now) (g.S.Source.left source)
           (g.S.Source.failures source) (g.S.Source.given source)
           c.in_err-scenario.field-0.0 c.in_err-scenario.ensures.takes c.read_scenario.ensures.bound;
     })
@@ -38,11 +41,14 @@ returns-in_err-report g c =
     let p = err_from_is_err_and c.from_residual-in_err-report.result c.from_residual-in_err-report.ensures.1 in
     rw (p.1, p.2) (record {
       answer = wrote.answer;
-      is = took-each c.args.format old.left new.left old.reads new.reads (λ (sc : Scenario). IsAnswer (history_of sc) q wrote.answer) scenario took wrote.is;
+      text = wrote.wrote.text;
+      is = took-each c.args.options.format old.left new.left old.reads new.reads (λ (sc : Scenario). IsAnswer (history_of c.args.options.from sc) q wrote.answer) scenario took wrote.is;
       returned = tt;
       due = tt;
-      converts = converts-wrote c.args.format (λ sc. text_of sc wrote.answer) old new scenario took c.read_scenario.ensures.bound
-          (Err c.in_err-report.field-0.0) wrote.wrote;
+      says = took-each c.args.options.format old.left new.left old.reads new.reads
+          (λ (sc : Scenario). IsTextOf c.args.options.wording sc (taken c.args.options.from sc) wrote.answer wrote.wrote.text) scenario took wrote.wrote.is;
+      converts = converts-wrote c.args.options.format (λ sc. wrote.wrote.text) old new scenario took c.read_scenario.ensures.bound
+          (Err c.in_err-report.field-0.0) wrote.wrote.wrote;
     })
 
 pub returns : goal.returns
@@ -56,10 +62,13 @@ returns g c =
     let wrote = c.in_ok-report.ensures in
     record {
       answer = wrote.answer;
-      is = took-each c.args.format old.left new.left old.reads new.reads (λ (sc : Scenario). IsAnswer (history_of sc) q wrote.answer) scenario took wrote.is;
+      text = wrote.wrote.text;
+      is = took-each c.args.options.format old.left new.left old.reads new.reads (λ (sc : Scenario). IsAnswer (history_of c.args.options.from sc) q wrote.answer) scenario took wrote.is;
       returned = wrote.returned;
-      due = took-each c.args.format old.left new.left old.reads new.reads (λ (sc : Scenario). IsDue (history_of sc) q c.args.most c.in_ok-report.report.answer)
+      due = took-each c.args.options.format old.left new.left old.reads new.reads (λ (sc : Scenario). IsDue (history_of c.args.options.from sc) q c.args.options.most c.in_ok-report.report.answer)
           scenario took wrote.due;
-      converts = converts-wrote c.args.format (λ sc. text_of sc wrote.answer) old new scenario took c.read_scenario.ensures.bound
-          (Ok c.in_ok-report.report) wrote.wrote;
+      says = took-each c.args.options.format old.left new.left old.reads new.reads
+          (λ (sc : Scenario). IsTextOf c.args.options.wording sc (taken c.args.options.from sc) wrote.answer wrote.wrote.text) scenario took wrote.wrote.is;
+      converts = converts-wrote c.args.options.format (λ sc. wrote.wrote.text) old new scenario took c.read_scenario.ensures.bound
+          (Ok c.in_ok-report.report) wrote.wrote.wrote;
     }

@@ -1,62 +1,65 @@
 -- The answer is that of the search; where there was no memory for it, nothing is known.
-use Rattle.std.proofs.Common.{◌∙◌, Ok, Err, refl, ap, subst}
+use Rattle.std.proofs.Common.{◌∙◌, ◌≤◌, ℕ, List, Ok, Err, refl, ap, length, subst, sym, take}
 use Rattle.std.proofs.lemmas.Result.{err_from_is_err_and}
 use Rattle.zy_io.specs.Writing.{Wrote}
 use Rattle.zy_machine.specs.Histories.{History}
 use Rattle.zy_isa.specs.Scenario.{Scenario}
+use Rattle.zy_isa.specs.declared.choice.Choice.{Choice}
 use Rattle.zy_search.specs.declared.answer.Report.{Report}
 use Rattle.zy_search.specs.Searches.{IsAnswer, IsDue}
-use Rattle.zy_engine.specs.Searching.{text_of}
-use Rattle.zy_engine.proofs.SearchLemmas.{nothing_searched, wrote_err}
+use Rattle.zy_engine.proofs.SearchLemmas.{nothing_searched, taken-few, wrote_err, wrote_first}
 use Rattle.zy_engine.proofs.searching.write_search.Goals as goal
+
+pub write_answer-requires-clause-taken : goal.write_answer-requires-clause-taken
+write_answer-requires-clause-taken g c =
+    subst (λ (h : History). length h.entries ≤ length h.scenario.choices) (sym c.in_ok-machine.ensures) (taken-few c.args.options.from c.args.scenario)
 
 pub returns-in_err-machine : goal.returns-in_err-machine
 returns-in_err-machine g c =
     let p = err_from_is_err_and c.from_residual.result c.from_residual.ensures.1 in
     rw (p.1, p.2) (
-    nothing_searched c.args.scenario c.args.sought c.args.most (g.K.Sink.written c.args.sink.now) (g.K.Sink.failures c.args.sink.now)
+    nothing_searched c.args.options c.args.scenario c.args.sought (g.K.Sink.written c.args.sink.now) (g.K.Sink.failures c.args.sink.now)
     )
 
 pub returns-in_err-report : goal.returns-in_err-report
 returns-in_err-report g c =
     let p = err_from_is_err_and c.from_residual-in_err-report.result c.from_residual-in_err-report.ensures.1 in
     rw (p.1, p.2) (
-    nothing_searched c.args.scenario c.args.sought c.args.most (g.K.Sink.written c.args.sink.now) (g.K.Sink.failures c.args.sink.now)
+    nothing_searched c.args.options c.args.scenario c.args.sought (g.K.Sink.written c.args.sink.now) (g.K.Sink.failures c.args.sink.now)
     )
 
 pub returns-in_err-write_answer : goal.returns-in_err-write_answer
 returns-in_err-write_answer g c =
+    let o = c.args.options in
     let report = c.in_ok-report.report in
     let before = g.K.Sink.written c.args.sink.now in
     let behind = g.K.Sink.written c.write_answer.new.sink in
     let failures = g.K.Sink.failures c.args.sink.now in
     let after = g.K.Sink.failures c.write_answer.new.sink in
     let fault = c.in_err-write_answer.field-0.0 in
-    let scenario = c.scenario.ensures.value ∙ ap (λ (h : History). h.scenario) c.in_ok-machine.ensures.run in
+    let wrote = wrote_first o c.args.scenario report.answer before behind failures after (Err fault) _ c.in_ok-machine.ensures c.in_err-write_answer.ensures in
     let p = err_from_is_err_and c.from_residual-in_err-write_answer.result c.from_residual-in_err-write_answer.ensures.1 in
     rw (p.1, p.2) (record {
       answer = report.answer;
-      is = subst (λ (h : History). IsAnswer h c.args.sought report.answer) c.in_ok-machine.ensures.run c.in_ok-report.ensures.answer;
+      is = subst (λ (h : History). IsAnswer h c.args.sought report.answer) c.in_ok-machine.ensures c.in_ok-report.ensures.answer;
       returned = tt;
       due = tt;
-      wrote = wrote_err Report before behind failures after fault (text_of c.args.scenario report.answer)
-          (subst (λ (sc : Scenario). Wrote before behind failures after {X = Unit {0}} (Err fault) (text_of sc report.answer)) scenario
-          c.in_err-write_answer.ensures);
+      wrote = record { text = wrote.text; is = wrote.is; wrote = wrote_err Report before behind failures after fault wrote.text wrote.wrote };
     })
 
 pub returns : goal.returns
 returns g c =
+    let o = c.args.options in
     let report = c.in_ok-report.report in
     let before = g.K.Sink.written c.args.sink.now in
     let behind = g.K.Sink.written c.write_answer.new.sink in
     let failures = g.K.Sink.failures c.args.sink.now in
     let after = g.K.Sink.failures c.write_answer.new.sink in
-    let scenario = c.scenario.ensures.value ∙ ap (λ (h : History). h.scenario) c.in_ok-machine.ensures.run in
+    let wrote = wrote_first o c.args.scenario report.answer before behind failures after (Ok c.in_ok-write_answer.field-0) _ c.in_ok-machine.ensures c.in_ok-write_answer.ensures in
     record {
       answer = report.answer;
-      is = subst (λ (h : History). IsAnswer h c.args.sought report.answer) c.in_ok-machine.ensures.run c.in_ok-report.ensures.answer;
+      is = subst (λ (h : History). IsAnswer h c.args.sought report.answer) c.in_ok-machine.ensures c.in_ok-report.ensures.answer;
       returned = refl;
-      due = subst (λ (h : History). IsDue h c.args.sought c.args.most report.answer) c.in_ok-machine.ensures.run c.in_ok-report.ensures.due;
-      wrote = subst (λ (sc : Scenario). Wrote before behind failures after {X = Unit {0}} (Ok c.in_ok-write_answer.field-0) (text_of sc report.answer)) scenario
-          c.in_ok-write_answer.ensures;
+      due = subst (λ (h : History). IsDue h c.args.sought o.most report.answer) c.in_ok-machine.ensures c.in_ok-report.ensures.due;
+      wrote = record { text = wrote.text; is = wrote.is; wrote = wrote.wrote };
     }

@@ -1,0 +1,7 @@
+-- The machine has made as many choices as it was to, or all.
+use Rattle.std.proofs.Common.{◌∙◌}
+use Rattle.zy_engine.proofs.SearchLemmas.{follows_first}
+use Rattle.zy_engine.proofs.searching.run_first.Goals as goal
+
+pub returns : goal.returns
+returns c = follows_first _ c.args.scenario c.args.count c.advance_to.ensures.follows (c.advance_to.ensures.scenario ∙ c.in_ok-machine.ensures.scenario) c.in_ok-advance_to.ensures.position
