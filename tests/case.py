@@ -1,6 +1,6 @@
 """The cases in tests/cases. Each is a folder with these files:
 
-  cmd      the words after the program's name
+  cmd      the words after the program's name, quoted as in a shell
   stdin    the input; or
   example  the file of examples/ that is the input; or
   like     the case whose input it has too; with none of the three the input is empty
@@ -17,6 +17,7 @@ image that `zy_bench dis` refuses; and each line of tests/mistakes a typical mis
 
 import os
 import re
+import shlex
 import subprocess
 
 TOP = os.path.dirname(os.path.dirname(os.path.abspath(__file__)))
@@ -46,7 +47,7 @@ def content(path):
 class Case:
     def __init__(self, name):
         self.name = name
-        self.words = self.text('cmd').split()
+        self.words = shlex.split(self.text('cmd'))
         self.example = self.text('example')
         self.like = self.text('like')
         given = content(os.path.join(CASES, self.like or name, 'stdin'))
