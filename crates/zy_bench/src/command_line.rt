@@ -24,9 +24,11 @@ pub enum Task<'a> {
     Debug(Checkpoints),
     /// Look for a schedule.
     Search(Quest<'a>),
+    /// Find the positions of a run.
+    Find(Quest<'a>),
 }
 
-/// What a search is to go by.
+/// What a search is to go by. To find positions takes the format and the goal alone.
 #[derive(Clone, Copy, Debug, PartialEq, Eq)]
 pub struct Quest<'a> {
     pub options: SearchOptions,
@@ -248,6 +250,28 @@ fn with_schedules<'a>(alloc: Global, command: Command<'a>) -> Result<Command<'a>
 
 /// `search`.
 fn search_command<'a>(alloc: Global) -> Result<Command<'a>, AllocError> {
+    let canonical = Arg::new(alloc, "canon")
+        .long("canon")
+        .action(ArgAction::SetTrue)
+        .help("Writes what is found as canonical text, without names and comments");
+    let command = Command::new(alloc, "search")
+        .about("Looks for a schedule of a scenario after which a state shows something")
+        .after_help(SEARCH_HELP)
+        .arg(image_flag(alloc))?;
+    with_schedules(alloc, with_goal(alloc, command)?)?
+        .arg(canonical)?
+        .arg(file_argument(alloc))
+}
+
+/// What is below the options of `find`.
+const FIND_HELP: &'static str = below!(
+    "a scenario text, or with --image an image",
+    "how many choices are made where the state of its run meets the goal, one number a\n         line; the status is 4 where there is no such state",
+    "zy_bench find --for 'txn any active and page 0 moving' examples/gone.zephyr"
+);
+
+/// The goal of `search` or `find`.
+fn with_goal<'a>(alloc: Global, command: Command<'a>) -> Result<Command<'a>, AllocError> {
     let wanted = Arg::new(alloc, "for")
         .long("for")
         .value_name("GOAL")
@@ -257,19 +281,16 @@ fn search_command<'a>(alloc: Global) -> Result<Command<'a>, AllocError> {
         .value_name("GOAL")
         .conflicts_with("for")?
         .help("A goal that every state is to meet: looks for a state that does not");
-    let canonical = Arg::new(alloc, "canon")
-        .long("canon")
-        .action(ArgAction::SetTrue)
-        .help("Writes what is found as canonical text, without names and comments");
-    let command = Command::new(alloc, "search")
-        .about("Looks for a schedule of a scenario after which a state shows something")
-        .after_help(SEARCH_HELP)
-        .arg(image_flag(alloc))?
-        .arg(wanted)?
-        .arg(always)?;
-    with_schedules(alloc, command)?
-        .arg(canonical)?
-        .arg(file_argument(alloc))
+    command.arg(wanted)?.arg(always)
+}
+
+/// `find`.
+fn find_command<'a>(alloc: Global) -> Result<Command<'a>, AllocError> {
+    let command = Command::new(alloc, "find")
+        .about("Finds the states of a scenario's run that show something")
+        .after_help(FIND_HELP)
+        .arg(image_flag(alloc))?;
+    with_goal(alloc, command)?.arg(file_argument(alloc))
 }
 
 /// The command line that is understood.
@@ -286,7 +307,8 @@ pub fn command<'a>(alloc: Global) -> Result<Command<'a>, AllocError> {
         .subcommand(check_command(alloc)?)?
         .subcommand(threads_command(alloc)?)?
         .subcommand(debug_command(alloc)?)?
-        .subcommand(search_command(alloc)?)
+        .subcommand(search_command(alloc)?)?
+        .subcommand(find_command(alloc)?)
 }
 
 /// What the words ask for.
@@ -309,6 +331,7 @@ fn task_of<'a>(name: &str, words: &ArgMatches<'a>) -> Option<Task<'a>> {
         "check" => Some(Task::Check),
         "debug" => Some(Task::Debug(checkpoints_of(words))),
         "search" => Some(Task::Search(quest_of(words))),
+        "find" => Some(Task::Find(quest_of(words))),
         _ => None,
     }
 }

@@ -51,6 +51,7 @@ use zy_check::Verdict;
 use zy_engine::checking::check_bytes;
 use zy_engine::debugging::{MAX_EVERY, MAX_RING, debug_bytes};
 use zy_engine::engine::{asm_bytes, dis_bytes, run_bytes, trace_bytes};
+use zy_engine::finding::find_bytes;
 use zy_engine::searching::search_bytes;
 use zy_engine::threading::threads_bytes;
 use zy_engine::{BenchFault, Format, SearchOptions};
@@ -73,7 +74,7 @@ const COMMAND_LINE: u8 = 2;
 /// The exit status where the input is not the listing that it should be.
 const NOT_TABLE: u8 = 4;
 
-/// The exit status where no schedule shows what is looked for.
+/// The exit status where no schedule, or no state of a run, shows what is looked for.
 const NOWHERE: u8 = 4;
 
 /// How a listing ends whose rows are not those of the commit order.
@@ -242,15 +243,24 @@ fn no_goal(rt: &impl Eprint, quest: Quest<'_>, fault: ReadFault) -> Result<u8, B
     }
 }
 
-/// Reads the goal of a search, carries the search out, and gives the exit status. Where the goal is refused, nothing is
-/// read, but for the names of transactions, which the scenario has.
-fn search<R: Eprint + AllocGlobal + Clock, G: Read, W: Write>(
+/// What is asked of the states that meet a goal.
+#[derive(Clone, Copy)]
+enum Asked {
+    /// A schedule to one of them. Standard error may be a terminal, which sees how far the search is.
+    Schedule { is_terminal: bool },
+    /// Where they are in a run.
+    Positions,
+}
+
+/// Reads a goal, answers what is asked, and gives the exit status. Where the goal is refused, nothing is read, but for the
+/// names of transactions, which the scenario has.
+fn answer<R: Eprint + AllocGlobal + Clock, G: Read, W: Write>(
     rt: &R,
+    asked: Asked,
     quest: Quest<'_>,
     given: &mut G,
     input: &mut Vec<u8>,
     output: &mut Output<W>,
-    is_terminal: bool,
 ) -> Result<u8, BenchFault>
     requires { output.old.1 < u64.MAX }
 {
@@ -261,7 +271,12 @@ fn search<R: Eprint + AllocGlobal + Clock, G: Read, W: Write>(
     let scenario = input.as_slice();
     let names = names_in(rt.alloc(), quest.options.format, scenario)?;
     match sought_of(rt.alloc(), quest, Names::Known(&names)) {
-        Ok(sought) => search_for(rt, quest, sought, scenario, output, is_terminal),
+        Ok(sought) => match asked {
+            Asked::Schedule { is_terminal } => {
+                search(rt, quest, sought, scenario, output, is_terminal)
+            }
+            Asked::Positions => find(rt, quest.options.format, sought, scenario, output),
+        },
         Err(fault) => {
             // A scenario that is rejected has no names.
             make_again(rt.alloc(), quest.options.format, scenario)?;
@@ -296,7 +311,7 @@ fn lacking(
 
 /// Searches the schedules of a scenario, and gives the exit status. It says how far it is where standard
 /// error is a terminal.
-fn search_for<R: Eprint + AllocGlobal + Clock, W: Write>(
+fn search<R: Eprint + AllocGlobal + Clock, W: Write>(
     rt: &R,
     quest: Quest<'_>,
     sought: Sought,
@@ -331,6 +346,26 @@ fn search_for<R: Eprint + AllocGlobal + Clock, W: Write>(
         explain_found(rt, options, scenario, path);
     }
     Ok(status)
+}
+
+/// Writes the positions of a scenario's run at which its state shows what is looked for, and gives the exit status.
+fn find<R: Eprint + AllocGlobal, W: Write>(
+    rt: &R,
+    format: Format,
+    sought: Sought,
+    scenario: &[u8],
+    output: &mut Output<W>,
+) -> Result<u8, BenchFault>
+    requires { output.old.1 < u64.MAX }
+{
+    let source = &mut SliceSource::new(scenario);
+    let count = find_bytes(rt.alloc(), format, &sought, source, output, &mut Vec::new(rt.alloc()))?;
+    flush(output)?;
+    let named = usize::from(txns_named(&sought.goal));
+    if named != 0 {
+        warn(rt, named, make_again(rt.alloc(), format, scenario)?.txn_count());
+    }
+    Ok(if count == 0 { NOWHERE } else { DONE })
 }
 
 /// Warns on standard error where a goal names a transaction that the scenario does not have: it would take `named` of
@@ -415,6 +450,7 @@ fn command_of(task: Task<'_>) -> Reader {
         Task::Check => Reader::Check,
         Task::Debug(_) => Reader::Debug,
         Task::Search(_) => Reader::Search,
+        Task::Find(_) => Reader::Find,
     }
 }
 
@@ -466,7 +502,11 @@ fn carry_out<R: Print + Eprint + Input + Files + AllocGlobal + Clock + Threads +
             debug(rt, checkpoints, file, &mut given, &mut input, &mut output)
         }
         Task::Search(quest) => {
-            search(rt, quest, &mut given, &mut input, &mut output, is_terminal)
+            let asked = Asked::Schedule { is_terminal };
+            answer(rt, asked, quest, &mut given, &mut input, &mut output)
+        }
+        Task::Find(quest) => {
+            answer(rt, Asked::Positions, quest, &mut given, &mut input, &mut output)
         }
     };
     match outcome {

@@ -7,3 +7,4 @@ pub mod Again
 pub mod Checks
 pub mod Debugs
 pub mod Searching
+pub mod Finding

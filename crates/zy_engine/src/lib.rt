@@ -5,6 +5,7 @@ pub mod checking;
 pub mod debugging;
 pub mod engine;
 pub mod faults;
+pub mod finding;
 pub mod format;
 pub mod laws;
 pub mod output;

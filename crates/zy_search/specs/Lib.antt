@@ -6,3 +6,4 @@ pub mod Possible
 pub mod Searches
 pub mod Visits
 pub mod Schedules
+pub mod Along

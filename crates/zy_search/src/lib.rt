@@ -1,6 +1,7 @@
 //! A search through every state that further choices can lead to.
 #![tactic(auto)]
 
+pub mod along;
 pub mod answer;
 pub mod branch;
 pub mod choices;

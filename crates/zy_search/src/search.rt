@@ -190,7 +190,7 @@ fn search_by<W: Watch>(plan: &Plan, visited: &mut Visited, watch: &mut W) -> Res
 }
 
 /// The choices that a search considers from a machine.
-fn choices_from(alloc: Global, kinds: ChoiceKinds, machine: &Machine) -> Result<Vec<Choice>, AllocError>
+pub(crate) fn choices_from(alloc: Global, kinds: ChoiceKinds, machine: &Machine) -> Result<Vec<Choice>, AllocError>
     ensures { IfOk result (λ v. v.items ≡ spec.considered kinds (length machine.now.scenario.programs)) }
 {
     let programs = machine.scenario().programs();

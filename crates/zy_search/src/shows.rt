@@ -110,7 +110,7 @@ fn may_follow(
 }
 
 /// Whether a machine's state shows what is looked for. The considered choices are tried on another machine.
-fn shows_all(
+pub(crate) fn shows_all(
     alloc: Global,
     sought: &Sought,
     choices: &[Choice],

@@ -1,0 +1,67 @@
+//! The engine that finds the positions of a scenario's run at which a goal is met.
+ghost use Rattle.std.specs.Prelude.{◌<◌, map};
+ghost use Rattle.std.specs.Fmt.{decimal};
+ghost use Rattle.zy_io.specs.Writing.{Wrote};
+ghost use Rattle.zy_engine.specs.Engines.{Converts, streams};
+ghost use Rattle.zy_engine.specs.Finding.{positions_text};
+
+use crate::faults::BenchFault;
+use crate::format::{Format, read_scenario};
+use std::alloc::{AllocError, Global};
+use zy_io::{AllLines, Decimal, Line, LineBuffer, Lines, Section, Sink, Source, TextFault};
+use zy_isa::Scenario;
+use zy_search::Sought;
+use zy_search::along::along;
+
+/// Each number as a line.
+#[derive(Clone, Copy)]
+struct Numbers<'a>(&'a [usize]);
+
+impl Lines for Numbers<'_> {
+    ghost texts = { λ n. map decimal n.0.now };
+
+    fn len(&self) -> usize {
+        self.0.len()
+    }
+
+    fn append(&self, place: usize, line: &mut LineBuffer) -> Result<(), AllocError> {
+        Decimal(self.0[place]).append(line)
+    }
+}
+
+/// Makes the choices of a scenario, and writes the positions at which its state shows what is looked for. It gives how
+/// many there are.
+fn write_positions<K: Sink>(
+    alloc: Global,
+    scenario: Scenario,
+    sought: &Sought,
+    sink: &mut K,
+) -> Result<usize, TextFault>
+    requires { K.failures sink.old < u64.MAX }
+    ensures { Wrote (K.written sink.old) (K.written sink.new) (K.failures sink.old) (K.failures sink.new) result
+        (positions_text sought.now scenario) }
+{
+    let positions = along(alloc, scenario, sought)?;
+    let mut line = LineBuffer::new(alloc);
+    AllLines(Numbers(&positions)).write(sink, &mut line)?;
+    Ok(positions.len())
+}
+
+/// Reads a scenario whole, makes its choices, and writes the positions at which its state shows what is looked for, one
+/// a line: how many choices are made there. It gives how many there are. The bytes that were read are left in `input`.
+pub fn find_bytes<S: Source, K: Sink>(
+    alloc: Global,
+    format: Format,
+    sought: &Sought,
+    source: &mut S,
+    sink: &mut K,
+    input: &mut Vec<u8>,
+) -> Result<usize, BenchFault>
+    requires { (S.failures source.old < u64.MAX) × (K.failures sink.old < u64.MAX) }
+    ensures { let at = streams S.left S.failures S.given K.written K.failures in
+        Converts format (positions_text sought.now) (at source.old sink.old) (at source.new sink.new) result }
+{
+    let scenario = read_scenario(alloc, format, source, input)?;
+    let count = write_positions(alloc, scenario, sought, sink)?;
+    Ok(count)
+}
