@@ -11,3 +11,4 @@ pub mod PossibleLemmas
 pub mod LastLemmas
 pub mod DepthLemmas
 pub mod DeadlockLemmas
+pub mod AlongLemmas

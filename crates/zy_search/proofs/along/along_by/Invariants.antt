@@ -12,5 +12,5 @@ invariant-loop-m l =
       follows : Follows l.machine;
       made : length l.machine.entries ≤ l.m;
       spare : l.spare.scenario ≡ l.initial.machine.scenario;
-      positions : l.positions.items ≡ filter (λ n. shows l.initial.machine.scenario l.sought.now (state_at l.initial.machine.scenario n)) (below l.m);
+      positions : l.positions.items ≡ filter (λ n. shows l.initial.machine.scenario l.sought (state_at l.initial.machine.scenario n)) (below l.m);
     }
