@@ -1,2 +1,5 @@
 pub mod EachLemmas
 pub mod CommitLemmas
+pub mod WordLemmas
+pub mod ReadLemmas
+pub mod QueryLemmas
