@@ -3,3 +3,4 @@ pub mod CommitLemmas
 pub mod WordLemmas
 pub mod ReadLemmas
 pub mod QueryLemmas
+pub mod Worked

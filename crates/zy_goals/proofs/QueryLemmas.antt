@@ -1,5 +1,5 @@
 -- What the words of a whole text mean.
-use Rattle.std.proofs.Common.{◌≡◌, ◌+◌, ◌<◌, ◌≤◌, ◌∙◌, ◌⊎◌, inl, inr, ℕ, suc, Bool, true, false, cond, List, [], ◌∷◌, Option, Some, None, option_map, codes, Result, Ok, Err, refl, sym, ap, subst, arith}
+use Rattle.std.proofs.Common.{◌≡◌, ◌∙◌, inl, inr, ℕ, Bool, true, false, cond, List, [], ◌∷◌, Option, Some, None, option_map, codes, Result, Ok, Err, refl, sym, ap, subst, arith}
 use Rattle.std.specs.Prelude.{IfOk, IfErr}
 use Rattle.zy_goals.specs.declared.names.Names.{Names}
 use Rattle.zy_goals.specs.declared.outcomes.OutcomePattern.{OutcomePattern}
@@ -13,8 +13,8 @@ use Rattle.zy_goals.specs.Words.{Word, after, are_none, begin_with}
 use Rattle.zy_goals.specs.Cursors.{left}
 use Rattle.zy_goals.specs.Vocabulary.{lone_fact, why}
 use Rattle.zy_goals.specs.Phrases.{fact_of, state_fact_of, comparison, term_of, spelled_term, outcome_of}
-use Rattle.zy_goals.specs.Grammar.{Tree, fact, negated, bracketed, joined, Reads, Says, parts_of, word_of, level_of, whole, ending, max_parts}
-use Rattle.zy_goals.specs.Grammar.{IsGoal, IsThen, Means, MeansNever, IsNoGoal, IsNoInvariant, OnRefused, IsTooLong, IsTooLongNever}
+use Rattle.zy_goals.specs.Grammar.{Tree, fact, negated, bracketed, joined, Reads, Says, word_of, level_of, whole, ending, max_parts}
+use Rattle.zy_goals.specs.Grammar.{Means, MeansNever, IsNoGoal, IsNoInvariant, OnRefused}
 use Rattle.zy_goals.specs.Expressions.{Stops, Finds, Answers, Asks, AsksThen, AsksNever}
 use Rattle.zy_goals.proofs.ReadLemmas.{begun, both_answers, no_value}
 

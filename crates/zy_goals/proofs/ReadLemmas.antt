@@ -1,6 +1,5 @@
 -- What can be read from the front of words, by the word at hand.
-use Rattle.std.proofs.Common.{◌≡◌, ◌+◌, ◌<◌, ◌≤◌, ◌∙◌, ℕ, suc, Bool, true, false, List, [], ◌∷◌, Option, Some, None, codes, Result, Ok, Err, ◌++◌, refl, sym, ap, subst, arith}
-use Rattle.std.specs.Str.{bytes_eq}
+use Rattle.std.proofs.Common.{◌≡◌, ◌+◌, ◌≤◌, ◌∙◌, ℕ, suc, Bool, true, false, List, [], ◌∷◌, Option, Some, None, codes, Result, Ok, Err, ◌++◌, refl, sym, ap, subst, arith}
 use Rattle.std.proofs.lemmas.Slice.Eq.{bytes_eq-Decides}
 use Rattle.zy_goals.specs.declared.names.Names.{Names}
 use Rattle.zy_goals.specs.declared.goal.Fact.{Fact}
@@ -11,7 +10,7 @@ use Rattle.zy_goals.specs.declared.refusal.ReadFault.{ReadFault}
 use Rattle.zy_goals.specs.declared.refusal.ReadFault.TheVariants.{Refused, Memory}
 use Rattle.zy_goals.specs.declared.reading.expressions.Operator.{Operator}
 use Rattle.zy_goals.specs.declared.reading.expressions.Operator.TheVariants.{Or, And}
-use Rattle.zy_goals.specs.Words.{Word, Read, first, after, begin_with}
+use Rattle.zy_goals.specs.Words.{Word, Read, after, begin_with}
 use Rattle.zy_goals.specs.Cursors.{left}
 use Rattle.zy_goals.specs.Vocabulary.{lone_fact, why}
 use Rattle.zy_goals.specs.Phrases.{fact_of, state_fact_of, comparison, term_of, spelled_term}

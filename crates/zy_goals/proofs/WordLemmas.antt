@@ -1,8 +1,8 @@
 -- How a text is cut into words.
-use Rattle.std.proofs.Common.{◌≡◌, ◌+◌, ◌∙◌, ℕ, suc, Bool, true, false, cond, List, [], ◌∷◌, take, drop, length, refl, sym, ap, arith, ◌⊎◌, inl, inr, ◌==◌, ◌||◌, ◌&&◌}
+use Rattle.std.proofs.Common.{◌≡◌, ◌∙◌, ℕ, suc, Bool, true, false, cond, List, [], ◌∷◌, take, drop, refl, sym, ap, arith, ◌⊎◌, inl, inr, ◌||◌, ◌&&◌}
 use Rattle.std.specs.List.{onto_first}
 use Rattle.std.proofs.lemmas.Bool.{cond_both, cond-false}
-use Rattle.zy_goals.specs.Words.{Word, words_of, word_len, goes_on, are_joined, is_space, is_sign, is_plain, is_bracket, begins_with_space, first}
+use Rattle.zy_goals.specs.Words.{words_of, word_len, goes_on, are_joined, is_space, is_sign, is_plain, begins_with_space}
 use Rattle.zy_goals.specs.Cursors.{words_from}
 
 -- a sign is no space

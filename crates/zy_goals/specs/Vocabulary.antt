@@ -1,5 +1,5 @@
 -- The words of goals that stand for something by themselves.
-use Rattle.std.specs.Prelude.{ℕ, ◌==◌, ◌||◌, ◌&&◌, not, nat_le, Bool, List, codes, Option, Some, None, option_map, position}
+use Rattle.std.specs.Prelude.{ℕ, ◌||◌, ◌&&◌, not, nat_le, Bool, List, codes, Option, Some, None, option_map, position}
 use Rattle.std.specs.Prelude.{if◌then◌else◌}
 use Rattle.std.specs.Borrow.{Bor}
 use Rattle.std.specs.Option.{option_and_then}
@@ -18,7 +18,6 @@ use Rattle.zy_goals.specs.declared.goal.PagePlace.{PagePlace}
 use Rattle.zy_goals.specs.declared.goal.PagePlace.TheVariants as page_place
 use Rattle.zy_goals.specs.declared.goal.Selector.{Selector}
 use Rattle.zy_goals.specs.declared.goal.Selector.TheVariants as selector
-use Rattle.zy_goals.specs.declared.goal.TxnProperty.{TxnProperty}
 use Rattle.zy_goals.specs.declared.goal.TxnProperty.TheVariants as property
 use Rattle.zy_goals.specs.declared.goal.Comparison.{Comparison}
 use Rattle.zy_goals.specs.declared.goal.Comparison.TheVariants as comparison

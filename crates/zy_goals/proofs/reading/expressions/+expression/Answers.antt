@@ -1,9 +1,8 @@
 -- What each part of an expression was read as, or why there is none.
-use Rattle.std.proofs.Common.{◌≡◌, ◌∙◌, sym, subst, suc, true, false}
+use Rattle.std.proofs.Common.{◌∙◌, sym, subst, suc}
 use Rattle.std.proofs.lemmas.Result.{err_from_is_err_and}
-use Rattle.zy_goals.specs.Words.{begin_with}
 use Rattle.zy_goals.specs.Cursors.{left}
-use Rattle.zy_goals.specs.Grammar.{level_of, word_of}
+use Rattle.zy_goals.specs.Grammar.{level_of}
 use Rattle.zy_goals.specs.Expressions.{Answers}
 use Rattle.zy_goals.proofs.ReadLemmas.{not_uncounted, not_missed, not_found, brackets_uncounted, brackets_missed, brackets_closed}
 use Rattle.zy_goals.proofs.ReadLemmas.{chain_missed, chain_more, more_stops, more_uncounted, more_missed, more_joined}
