@@ -170,13 +170,13 @@ COMMAND_LINE, WORDS = 'zy_bench/src/command_line.rt', 'zy_goals/src/reading/word
 NO_FLAG = 'with no flag other copies'
 
 PROGRAM_FAULTS = [
-    program(1, '--for own means badkey', WORDS, '("own", Reason::Own)', '("own", Reason::BadKey)', 'own, looked for in own', 'searches'),
+    program(1, '--for own means badkey', WORDS, 'b"own" => Reason::Own', 'b"own" => Reason::BadKey', 'own, looked for in own', 'searches'),
     program(1, '--states is 20000 by itself', COMMAND_LINE, 'unwrap_or(1_000_000)', 'unwrap_or(20_000)', 'as many states as without', 'searches'),
     program(1, '--every is 65 by itself', COMMAND_LINE, 'unwrap_or(64)', 'unwrap_or(65)', NO_FLAG, 'limits copies-chosen'),
     program(1, '--image is read as a text', COMMAND_LINE,
             'if words.get_flag("image") {', 'if !words.get_flag("image") && false {', '^image-run', 'run'),
     program(2, '--for missing means duplicate', WORDS,
-            '("missing", Reason::Missing)', '("missing", Reason::Duplicate)', 'missing, looked for in missing', 'searches'),
+            'b"missing" => Reason::Missing', 'b"missing" => Reason::Duplicate', 'missing, looked for in missing', 'searches'),
     program(2, '--ring is 17 by itself', COMMAND_LINE, 'unwrap_or(16)', 'unwrap_or(17)', NO_FLAG, 'limits copies-chosen'),
     program(4, '--for is aborted by itself', COMMAND_LINE, 'unwrap_or("differs")', 'unwrap_or("aborted")', '^on a terminal', 'searches'),
     program(2, '--kill ignored', COMMAND_LINE, 'kills: words.get_flag("kill")', 'kills: false', '^search-found', 'run'),

@@ -1,2 +1,6 @@
 pub mod EachLemmas
 pub mod CommitLemmas
+pub mod WordLemmas
+pub mod ReadLemmas
+pub mod QueryLemmas
+pub mod Worked

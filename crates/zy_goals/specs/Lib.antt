@@ -4,3 +4,9 @@ pub mod Facts
 pub mod Goals
 pub mod Commits
 pub mod Outcomes
+pub mod Words
+pub mod Vocabulary
+pub mod Phrases
+pub mod Cursors
+pub mod Grammar
+pub mod Expressions

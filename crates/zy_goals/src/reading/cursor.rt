@@ -1,160 +1,168 @@
 //! The words of a text. Spaces part them; a bracket is a word by itself, and so are signs of comparison side by side.
-ghost use Rattle.std.specs.Prelude.{◌≤◌, IfOk};
+ghost use Rattle.std.specs.Prelude.{◌≡◌, ◌≤◌, false, length, option_map};
+ghost use Rattle.std.specs.Str.{bytes_eq};
+ghost use Rattle.zy_goals.specs.Words.{words_of, first as first_of, after, are_none, begin_with};
+ghost use Rattle.zy_goals.specs.Words as spec;
+ghost use Rattle.zy_goals.specs.Cursors.{left, read};
 
-use crate::names::Names;
+use crate::reading::Parsed;
 use crate::refusal::{Expected, Refusal};
-use zy_text::names::{is, is_name};
-use zy_text::numbers::number_of;
+use zy_text::names::is;
 
-/// The greatest key, and the greatest number of a page that can be named.
-const MAX_KEY: u64 = 65535;
-
-/// The greatest number of a transaction: one below `zy_isa::MAX_TXNS`.
-const MAX_TXN: u64 = 63;
-
-/// What a byte is in a text.
-#[derive(Clone, Copy, Debug, PartialEq, Eq)]
-enum Class {
-    Space,
-    Bracket,
-    Sign,
-    Other,
+/// A word of a text, and what is behind it. Behind the last word comes the empty one, again and again.
+#[derive(Clone, Copy)]
+pub struct Cursor<'a> {
+    word: &'a [u8],
+    /// The bytes behind the word.
+    rest: &'a [u8],
+    /// How many bytes the whole text has.
+    len: usize,
 }
 
-fn class_of(byte: u8) -> Class {
-    match byte {
-        b' ' | b'\t' | b'\r' | b'\n' => Class::Space,
-        b'(' | b')' => Class::Bracket,
-        b'=' | b'!' | b'<' | b'>' => Class::Sign,
-        _ => Class::Other,
+fn is_space(byte: u8) -> bool
+    ensures { result ≡ spec.is_space byte }
+{
+    byte == b' ' || byte == b'\t' || byte == b'\n' || byte == b'\r'
+}
+
+fn is_bracket(byte: u8) -> bool
+    ensures { result ≡ spec.is_bracket byte }
+{
+    byte == b'(' || byte == b')'
+}
+
+fn is_sign(byte: u8) -> bool
+    ensures { result ≡ spec.is_sign byte }
+{
+    byte == b'=' || byte == b'!' || byte == b'<' || byte == b'>'
+}
+
+/// What is no space, no bracket and no sign.
+fn is_plain(byte: u8) -> bool
+    ensures { result ≡ spec.is_plain byte }
+{
+    !is_space(byte) && !is_bracket(byte) && !is_sign(byte)
+}
+
+/// Whether two bytes side by side are of one word.
+fn are_joined(first: u8, second: u8) -> bool
+    ensures { result ≡ spec.are_joined first second }
+{
+    (is_sign(first) && is_sign(second)) || (is_plain(first) && is_plain(second))
+}
+
+/// Whether a byte is of one word with what comes after it.
+fn goes_on(byte: u8, more: &[u8]) -> bool
+    ensures { result ≡ spec.goes_on byte more.now }
+{
+    match more {
+        [] => false,
+        [next, ..] => are_joined(byte, *next),
     }
 }
 
-/// How many bytes of a class a text begins with.
-fn run(text: &[u8], class: Class) -> usize {
-    text.iter()
-        .position(|byte| class_of(*byte) != class)
-        .unwrap_or(text.len())
+/// A text without the spaces that it begins with.
+#[tactic(auto, unfolding(crate::specs::Words::words_of))]
+fn without_spaces(bytes: &[u8]) -> &[u8]
+    ensures words { words_of result.now ≡ words_of bytes.entry.now }
+    ensures begins { spec.begins_with_space result.now ≡ false }
+{
+    let mut rest = bytes;
+    while let [first, more @ ..] = rest {
+        if !is_space(*first) {
+            return rest;
+        }
+        rest = more;
+    }
+    rest
 }
 
-/// A text, and one of its words. After the last word comes the empty one, again and again.
-#[derive(Clone, Copy)]
-pub struct Cursor<'a> {
-    text: &'a [u8],
-    names: Names<'a>,
-    /// Where the word begins and where it ends, in bytes from the start of the text.
-    from: usize,
-    to: usize,
+/// How many bytes the first word of a text has, where no space comes before it.
+#[tactic(auto, unfolding(crate::specs::Words::word_len))]
+fn word_len(bytes: &[u8]) -> usize
+    ensures value { result ≡ spec.word_len bytes.now }
+    ensures within { result ≤ length bytes.now }
+{
+    let mut len = 0usize;
+    let mut rest = bytes;
+    while let [first, more @ ..] = rest {
+        len += 1;
+        if !goes_on(*first, more) {
+            return len;
+        }
+        rest = more;
+    }
+    len
 }
 
 impl<'a> Cursor<'a> {
-    /// At the first word of a text, in which transactions may have these names.
-    pub fn new(text: &'a [u8], names: Names<'a>) -> Cursor<'a> {
-        let start = Cursor {
-            text,
-            names,
-            from: 0,
-            to: 0,
-        };
-        start.next()
+    /// At the first word of what is left of a text of `len` bytes.
+    fn at_first(bytes: &'a [u8], len: usize) -> Cursor<'a>
+        ensures { left result ≡ words_of bytes.entry.now }
+    {
+        let rest = without_spaces(bytes);
+        let (word, rest) = rest.split_at(word_len(rest));
+        Cursor { word, rest, len }
+    }
+
+    /// At the first word of a text.
+    pub fn new(text: &'a [u8]) -> Cursor<'a>
+        ensures { left result ≡ words_of text.entry.now }
+    {
+        Cursor::at_first(text, text.len())
     }
 
     /// At the next word.
-    pub fn next(self) -> Cursor<'a> {
-        let (_, rest) = self.text.split_at(self.to.min(self.text.len()));
-        let gap = run(rest, Class::Space).min(rest.len());
-        let (_, word) = rest.split_at(gap);
-        let from = self.text.len() - word.len().min(self.text.len());
-        let len = match word.first() {
-            None => 0,
-            Some(byte) => match class_of(*byte) {
-                Class::Bracket => 1,
-                class => run(word, class),
-            },
-        };
-        Cursor {
-            from,
-            to: from.saturating_add(len),
-            ..self
+    pub fn next(self) -> Cursor<'a>
+        ensures { left result ≡ after (left self.entry) }
+    {
+        if self.word.is_empty() {
+            self
+        } else {
+            Cursor::at_first(self.rest, self.len)
         }
     }
 
     /// The word.
-    pub fn word(self) -> &'a [u8] {
-        self.text.get(self.from..self.to).unwrap_or(&[])
+    pub fn word(self) -> &'a [u8]
+        ensures { result.now ≡ first_of (left self.entry) }
+    {
+        self.word
     }
 
     /// Whether the last word is behind the cursor.
-    pub fn is_end(self) -> bool {
-        self.word().is_empty()
+    pub fn is_end(self) -> bool
+        ensures { result ≡ are_none (left self.entry) }
+    {
+        self.word.is_empty()
     }
 
     /// Whether this is the word.
-    pub fn is_at(self, word: &[u8]) -> bool {
+    pub fn is_at(self, word: &[u8]) -> bool
+        ensures { result ≡ begin_with word.now (left self.entry) }
+    {
         is(self.word(), word)
     }
 
-    /// What the word stands for in a table of words, if it is there.
-    pub fn find<T: Copy>(self, table: &[(&'static str, T)]) -> Option<T> {
-        for (word, value) in table {
-            if self.is_at(word.as_bytes()) {
-                return Some(*value);
-            }
-        }
-        None
-    }
-
-    /// What the word stands for in a table of words; it is refused where it is not there.
-    pub fn one_of<T: Copy>(
-        self,
-        table: &[(&'static str, T)],
-        expected: Expected,
-    ) -> Result<T, Refusal> {
-        match self.find(table) {
-            Some(value) => Ok(value),
-            None => Err(self.refuses(expected)),
-        }
-    }
-
     /// The refusal of the word, with what was expected in its place.
-    pub fn refuses(self, expected: Expected) -> Refusal {
+    pub fn refuses(self, expected: Expected) -> Refusal
+        ensures { result.expected ≡ expected }
+    {
+        let to = self.len.saturating_sub(self.rest.len());
         Refusal {
-            from: self.from,
-            to: self.to,
+            from: to.saturating_sub(self.word.len()),
+            to,
             expected,
         }
     }
 
-    /// The number that the word is. It is refused where it is above `most`, has more than ten digits or is no number.
-    pub fn number(self, most: u64) -> Result<u64, Refusal>
-        ensures { IfOk result (λ number. number ≤ most) }
+    /// What the word was found to stand for; it is refused where nothing was found.
+    pub fn gives<T: Copy>(self, found: Option<T>, expected: Expected) -> Parsed<'a, T>
+        ensures { read result ≡ option_map (λ x. (x, after (left self.entry))) found }
     {
-        match number_of(self.word()) {
-            Some(number) if number <= most => Ok(number),
-            _ => Err(self.refuses(Expected::Number(most))),
-        }
-    }
-
-    /// The key or the number of a page that the word is.
-    pub fn key(self) -> Result<u16, Refusal> {
-        let key = self.number(MAX_KEY)?;
-        Ok(key as u16)
-    }
-
-    /// Whether the word has the form of a transaction's name. `any` and `all` stand for several transactions.
-    pub fn is_txn_name(self) -> bool {
-        is_name(self.word()) && !self.is_at(b"any") && !self.is_at(b"all")
-    }
-
-    /// The number of the transaction that the word names, by its number or by its name.
-    pub fn txn(self) -> Result<u8, Refusal> {
-        if !self.is_txn_name() {
-            let txn = self.number(MAX_TXN)?;
-            return Ok(txn as u8);
-        }
-        match self.names.number_of(self.word()) {
-            Some(txn) => Ok(txn),
-            None => Err(self.refuses(Expected::KnownName)),
+        match found {
+            Some(value) => Ok((value, self.next())),
+            None => Err(self.refuses(expected)),
         }
     }
 }

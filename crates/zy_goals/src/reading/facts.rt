@@ -1,146 +1,259 @@
 //! Reads facts.
+ghost use Rattle.std.specs.Prelude.{◌≡◌};
+ghost use Rattle.zy_goals.specs.Words.{after};
+ghost use Rattle.zy_goals.specs.Cursors.{left, read};
+ghost use Rattle.zy_goals.specs.Phrases as spec;
 
 use crate::goal::{
     Fact, LinkContent, MessagePattern, PagePlace, Reason, Selector, StateFact, TxnProperty,
 };
-use crate::reading::Parsed;
+use crate::names::Names;
 use crate::reading::cursor::Cursor;
+use crate::reading::numbers::{key, selector, txn};
 use crate::reading::terms::comparison;
-use crate::reading::words::{
-    FACTS, KINDS, LINK_WORDS, LINKS, LinkWord, MODES, NODES, PAGE_WORDS, PLACES, PageWord, REASONS,
-    SELECTORS, SUBJECTS, Subject, TXN_WORDS, TxnWord,
-};
-use crate::refusal::{Expected, Refusal};
+use crate::reading::{Parsed, words};
+use crate::refusal::Expected;
 use zy_isa::Node;
 use zy_links::Kind;
 use zy_text::names::is_numeral;
 
 /// What comes after `mode`: a node and a mode.
-fn mode<'a>(at: Cursor<'a>) -> Parsed<'a, StateFact> {
-    let node = at.one_of(&NODES, Expected::Node)?;
-    let last = at.next();
-    let mode = last.one_of(&MODES, Expected::Mode)?;
-    Ok((StateFact::Mode(node, mode), last))
+#[tactic(auto, unfolding(crate::specs::Phrases::mode))]
+fn mode<'a>(at: Cursor<'a>) -> Parsed<'a, StateFact>
+    ensures { read result ≡ spec.mode (left at.entry) }
+{
+    let (node, at) = at.gives(words::node(at.word()), Expected::Node)?;
+    let (mode, at) = at.gives(words::mode(at.word()), Expected::Mode)?;
+    Ok((StateFact::Mode(node, mode), at))
+}
+
+/// What comes after `page P at`: a place.
+fn page_at<'a>(page: u16, at: Cursor<'a>) -> Parsed<'a, StateFact>
+    ensures { read result ≡ spec.page_at page (left at.entry) }
+{
+    let (place, at) = at.gives(words::place(at.word()), Expected::Place)?;
+    Ok((StateFact::Page(page, place), at))
 }
 
 /// What comes after `page P`.
-fn page<'a>(page: u16, at: Cursor<'a>) -> Parsed<'a, StateFact> {
-    match at.one_of(&PAGE_WORDS, Expected::Place)? {
-        PageWord::At => {
-            let last = at.next();
-            let place = last.one_of(&PLACES, Expected::Place)?;
-            Ok((StateFact::Page(page, place), last))
-        }
-        PageWord::Moving => Ok((StateFact::Page(page, PagePlace::Moving), at)),
-        PageWord::Absent => Ok((StateFact::Page(page, PagePlace::Absent), at)),
-        PageWord::Locked => Ok((StateFact::Locked(page), at)),
-    }
-}
-
-/// The transactions that come after `txn`.
-fn selector(at: Cursor<'_>) -> Result<Selector, Refusal> {
-    if is_numeral(at.word()) || at.is_txn_name() {
-        Ok(Selector::One(at.txn()?))
-    } else {
-        at.one_of(&SELECTORS, Expected::Selector)
-    }
-}
-
-/// The reason that follows `aborted`, and the last word read: any reason, where none follows.
-pub fn reason_after<'a>(aborted: Cursor<'a>) -> (Reason, Cursor<'a>) {
-    let next = aborted.next();
-    match next.find(&REASONS) {
-        Some(reason) => (reason, next),
-        None => (Reason::Any, aborted),
-    }
-}
-
-/// `committed`, or `committed before U` of one transaction.
-fn committed<'a>(selector: Selector, at: Cursor<'a>) -> Parsed<'a, StateFact> {
+#[tactic(auto, unfolding(crate::specs::Phrases::of_page))]
+fn of_page<'a>(page: u16, at: Cursor<'a>) -> Parsed<'a, StateFact>
+    ensures { read result ≡ spec.of_page page (left at.entry) }
+{
     let next = at.next();
-    match selector {
-        Selector::One(earlier) if next.is_at(b"before") => {
-            let last = next.next();
-            let later = last.txn()?;
-            Ok((StateFact::CommittedBefore { earlier, later }, last))
-        }
-        _ => Ok((StateFact::Txns(selector, TxnProperty::Committed), at)),
+    if at.is_at(b"at") {
+        page_at(page, next)
+    } else if at.is_at(b"moving") {
+        Ok((StateFact::Page(page, PagePlace::Moving), next))
+    } else if at.is_at(b"absent") {
+        Ok((StateFact::Page(page, PagePlace::Absent), next))
+    } else if at.is_at(b"locked") {
+        Ok((StateFact::Locked(page), next))
+    } else {
+        Err(at.refuses(Expected::Place))
     }
 }
 
-/// `locks P`, of one transaction.
-fn locks<'a>(selector: Selector, at: Cursor<'a>) -> Parsed<'a, StateFact> {
-    let Selector::One(txn) = selector else {
-        return Err(at.refuses(Expected::TxnProperty));
-    };
-    let last = at.next();
-    let page = last.key()?;
-    Ok((StateFact::LockedBy { txn, page }, last))
+/// What comes after `page`.
+fn page<'a>(at: Cursor<'a>) -> Parsed<'a, StateFact>
+    ensures { read result ≡ spec.page (left at.entry) }
+{
+    let (page, at) = key(at)?;
+    of_page(page, at)
+}
+
+/// The reason that may come after `aborted`: any reason, where none does.
+#[tactic(auto, unfolding(crate::specs::Phrases::reason_of))]
+pub fn reason<'a>(at: Cursor<'a>) -> (Reason, Cursor<'a>)
+    ensures reason { result.0 ≡ (spec.reason_of (left at.entry)).0 }
+    ensures rest { left result.1 ≡ (spec.reason_of (left at.entry)).1 }
+{
+    match words::reason(at.word()) {
+        Some(reason) => (reason, at.next()),
+        None => (Reason::Any, at),
+    }
+}
+
+/// What may come after `txn T committed`: `before` and a transaction.
+#[tactic(auto, unfolding(crate::specs::Phrases::committed))]
+fn committed<'a>(names: Names<'a>, selector: Selector, at: Cursor<'a>) -> Parsed<'a, StateFact>
+    ensures { read result ≡ spec.committed names.entry selector (left at.entry) }
+{
+    if let Selector::One(earlier) = selector {
+        if at.is_at(b"before") {
+            let (later, at) = txn(names, at.next())?;
+            return Ok((StateFact::CommittedBefore { earlier, later }, at));
+        }
+    }
+    Ok((StateFact::Txns(selector, TxnProperty::Committed), at))
+}
+
+/// What comes after `txn T locks`: a page. It is said of one transaction alone; else `locks` is refused.
+#[tactic(auto, unfolding(crate::specs::Phrases::locks))]
+fn locks<'a>(selector: Selector, locks: Cursor<'a>) -> Parsed<'a, StateFact>
+    ensures { read result ≡ spec.locks selector (after (left locks.entry)) }
+{
+    match selector {
+        Selector::One(txn) => {
+            let (page, at) = key(locks.next())?;
+            Ok((StateFact::LockedBy { txn, page }, at))
+        }
+        _ => Err(locks.refuses(Expected::TxnProperty)),
+    }
+}
+
+/// What comes after `txn T aborted`.
+fn aborted<'a>(selector: Selector, at: Cursor<'a>) -> Parsed<'a, StateFact>
+    ensures { read result ≡ spec.aborted selector (left at.entry) }
+{
+    let (reason, at) = reason(at);
+    Ok((StateFact::Txns(selector, TxnProperty::Aborted(reason)), at))
+}
+
+/// What comes after `txn T at`: a node.
+fn at_node<'a>(selector: Selector, at: Cursor<'a>) -> Parsed<'a, StateFact>
+    ensures { read result ≡ spec.at_node selector (left at.entry) }
+{
+    let (node, at) = at.gives(words::node(at.word()), Expected::Node)?;
+    Ok((StateFact::Txns(selector, TxnProperty::At(node)), at))
+}
+
+/// What comes after `txn T wrote`: a key.
+fn wrote<'a>(selector: Selector, at: Cursor<'a>) -> Parsed<'a, StateFact>
+    ensures { read result ≡ spec.wrote selector (left at.entry) }
+{
+    let (key, at) = key(at)?;
+    Ok((StateFact::Txns(selector, TxnProperty::Wrote(key)), at))
 }
 
 /// What comes after `txn T`, `txn any` or `txn all`.
-fn txns<'a>(selector: Selector, at: Cursor<'a>) -> Parsed<'a, StateFact> {
+#[tactic(auto, unfolding(crate::specs::Phrases::of_txns))]
+fn of_txns<'a>(names: Names<'a>, selector: Selector, at: Cursor<'a>) -> Parsed<'a, StateFact>
+    ensures { read result ≡ spec.of_txns names.entry selector (left at.entry) }
+{
     let next = at.next();
-    let (property, last) = match at.one_of(&TXN_WORDS, Expected::TxnProperty)? {
-        TxnWord::Committed => return committed(selector, at),
-        TxnWord::Locks => return locks(selector, at),
-        TxnWord::New => (TxnProperty::New, at),
-        TxnWord::Active => (TxnProperty::Active, at),
-        TxnWord::Aborted => {
-            let (reason, last) = reason_after(at);
-            (TxnProperty::Aborted(reason), last)
-        }
-        TxnWord::At => (TxnProperty::At(next.one_of(&NODES, Expected::Node)?), next),
-        TxnWord::Wrote => (TxnProperty::Wrote(next.key()?), next),
-    };
-    Ok((StateFact::Txns(selector, property), last))
+    if at.is_at(b"new") {
+        Ok((StateFact::Txns(selector, TxnProperty::New), next))
+    } else if at.is_at(b"active") {
+        Ok((StateFact::Txns(selector, TxnProperty::Active), next))
+    } else if at.is_at(b"committed") {
+        committed(names, selector, next)
+    } else if at.is_at(b"aborted") {
+        aborted(selector, next)
+    } else if at.is_at(b"at") {
+        at_node(selector, next)
+    } else if at.is_at(b"wrote") {
+        wrote(selector, next)
+    } else if at.is_at(b"locks") {
+        locks(selector, at)
+    } else {
+        Err(at.refuses(Expected::TxnProperty))
+    }
 }
 
-/// What comes after `link L has`: a kind of message, and after `pull` or `page` the number of the page, if one follows.
-fn pattern<'a>(at: Cursor<'a>) -> Parsed<'a, MessagePattern> {
-    let kind = at.one_of(&KINDS, Expected::LinkContent)?;
-    let next = at.next();
+/// What comes after `txn`.
+fn txns<'a>(names: Names<'a>, at: Cursor<'a>) -> Parsed<'a, StateFact>
+    ensures { read result ≡ spec.txns names.entry (left at.entry) }
+{
+    let (selector, at) = selector(names, at)?;
+    of_txns(names, selector, at)
+}
+
+/// A request for the page of this number.
+fn pull_of<'a>(at: Cursor<'a>) -> Parsed<'a, MessagePattern>
+    ensures { read result ≡ spec.pull_of (left at.entry) }
+{
+    let (page, at) = key(at)?;
+    Ok((MessagePattern::Pull(page), at))
+}
+
+/// The page of this number.
+fn page_of<'a>(at: Cursor<'a>) -> Parsed<'a, MessagePattern>
+    ensures { read result ≡ spec.page_of (left at.entry) }
+{
+    let (page, at) = key(at)?;
+    Ok((MessagePattern::Page(page), at))
+}
+
+/// After `has pull` and `has page` the number of the page, if one follows.
+#[tactic(auto, unfolding(crate::specs::Phrases::numbered))]
+fn numbered<'a>(kind: Kind, at: Cursor<'a>) -> Parsed<'a, MessagePattern>
+    ensures { read result ≡ spec.numbered kind (left at.entry) }
+{
+    let is_numbered = is_numeral(at.word());
     match kind {
-        Kind::Pull if is_numeral(next.word()) => Ok((MessagePattern::Pull(next.key()?), next)),
-        Kind::Page if is_numeral(next.word()) => Ok((MessagePattern::Page(next.key()?), next)),
+        Kind::Pull if is_numbered => pull_of(at),
+        Kind::Page if is_numbered => page_of(at),
         _ => Ok((MessagePattern::OfKind(kind), at)),
     }
 }
 
+/// What comes after `link L has`: a kind of message, and after `pull` or `page` the number of the page, if one follows.
+#[tactic(auto, unfolding(crate::specs::Phrases::message))]
+fn message<'a>(at: Cursor<'a>) -> Parsed<'a, MessagePattern>
+    ensures { read result ≡ spec.message (left at.entry) }
+{
+    let (kind, at) = at.gives(words::kind(at.word()), Expected::LinkContent)?;
+    numbered(kind, at)
+}
+
+/// A link that has a message.
+fn link_has<'a>(from: Node, at: Cursor<'a>) -> Parsed<'a, StateFact>
+    ensures { read result ≡ spec.link_has from (left at.entry) }
+{
+    let (pattern, at) = message(at)?;
+    Ok((StateFact::Link(from, LinkContent::Has(pattern)), at))
+}
+
 /// What comes after `link L`.
-fn link<'a>(from: Node, at: Cursor<'a>) -> Parsed<'a, StateFact> {
-    match at.one_of(&LINK_WORDS, Expected::LinkContent)? {
-        LinkWord::Empty => Ok((StateFact::Link(from, LinkContent::Empty), at)),
-        LinkWord::Has => {
-            let (pattern, last) = pattern(at.next())?;
-            Ok((StateFact::Link(from, LinkContent::Has(pattern)), last))
-        }
+#[tactic(auto, unfolding(crate::specs::Phrases::of_link))]
+fn of_link<'a>(from: Node, at: Cursor<'a>) -> Parsed<'a, StateFact>
+    ensures { read result ≡ spec.of_link from (left at.entry) }
+{
+    if at.is_at(b"empty") {
+        Ok((StateFact::Link(from, LinkContent::Empty), at.next()))
+    } else if at.is_at(b"has") {
+        link_has(from, at.next())
+    } else {
+        Err(at.refuses(Expected::LinkContent))
     }
 }
 
+/// What comes after `link`.
+fn link<'a>(at: Cursor<'a>) -> Parsed<'a, StateFact>
+    ensures { read result ≡ spec.link (left at.entry) }
+{
+    let (from, at) = at.gives(words::link(at.word()), Expected::Link)?;
+    of_link(from, at)
+}
+
 /// A fact of the state of several words.
-fn state_fact<'a>(at: Cursor<'a>) -> Parsed<'a, StateFact> {
-    let Some(subject) = at.find(&SUBJECTS) else {
-        return comparison(at);
-    };
+#[tactic(auto, unfolding(crate::specs::Phrases::state_fact_of))]
+fn state_fact<'a>(names: Names<'a>, at: Cursor<'a>) -> Parsed<'a, StateFact>
+    ensures { read result ≡ spec.state_fact_of names.entry (left at.entry) }
+{
     let next = at.next();
-    match subject {
-        Subject::Mode => mode(next),
-        Subject::Page => page(next.key()?, next.next()),
-        Subject::Txn => txns(selector(next)?, next.next()),
-        Subject::Link => link(next.one_of(&LINKS, Expected::Link)?, next.next()),
+    if at.is_at(b"mode") {
+        mode(next)
+    } else if at.is_at(b"page") {
+        page(next)
+    } else if at.is_at(b"txn") {
+        txns(names, next)
+    } else if at.is_at(b"link") {
+        link(next)
+    } else {
+        comparison(names, at)
     }
 }
 
 /// The fact that begins with the word at hand.
-pub fn fact<'a>(at: Cursor<'a>) -> Parsed<'a, Fact> {
-    if let Some(fact) = at.find(&FACTS) {
-        return Ok((fact, at));
+#[tactic(auto, unfolding(crate::specs::Phrases::fact_of))]
+pub fn fact<'a>(names: Names<'a>, at: Cursor<'a>) -> Parsed<'a, Fact>
+    ensures { read result ≡ spec.fact_of names.entry (left at.entry) }
+{
+    if let Some(fact) = words::lone_fact(at.word()) {
+        return Ok((fact, at.next()));
     }
-    if let Some(reason) = at.find(&REASONS) {
-        let aborted = StateFact::Txns(Selector::Any, TxnProperty::Aborted(reason));
-        return Ok((Fact::OfState(aborted), at));
-    }
-    let (state_fact, last) = state_fact(at)?;
-    Ok((Fact::OfState(state_fact), last))
+    let (state_fact, at) = state_fact(names, at)?;
+    Ok((Fact::OfState(state_fact), at))
 }

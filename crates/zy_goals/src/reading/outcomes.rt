@@ -1,23 +1,42 @@
 //! Reads the outcome after `then`.
+ghost use Rattle.std.specs.Prelude.{◌≡◌};
+ghost use Rattle.zy_goals.specs.Cursors.{left, read};
+ghost use Rattle.zy_goals.specs.Phrases as spec;
 
 use crate::outcomes::OutcomePattern;
 use crate::reading::Parsed;
 use crate::reading::cursor::Cursor;
-use crate::reading::facts::reason_after;
-use crate::reading::words::{GOT, OUTCOMES};
+use crate::reading::facts::reason;
+use crate::reading::words::{got, lone_outcome};
 use crate::refusal::Expected;
 
+/// An abort, for a reason that may come here.
+fn aborted<'a>(at: Cursor<'a>) -> Parsed<'a, OutcomePattern>
+    ensures { read result ≡ spec.outcome_aborted (left at.entry) }
+{
+    let (reason, at) = reason(at);
+    Ok((OutcomePattern::Aborted(reason), at))
+}
+
+/// What comes after `got`: a kind of message.
+fn got_of<'a>(at: Cursor<'a>) -> Parsed<'a, OutcomePattern>
+    ensures { read result ≡ spec.outcome_got (left at.entry) }
+{
+    let (kind, at) = at.gives(got(at.word()), Expected::Outcome)?;
+    Ok((OutcomePattern::OfKind(kind), at))
+}
+
 /// The outcome that begins with the word at hand.
-pub fn outcome<'a>(at: Cursor<'a>) -> Parsed<'a, OutcomePattern> {
+#[tactic(auto, unfolding(crate::specs::Phrases::outcome_of))]
+pub fn outcome<'a>(at: Cursor<'a>) -> Parsed<'a, OutcomePattern>
+    ensures { read result ≡ spec.outcome_of (left at.entry) }
+{
     if at.is_at(b"aborted") {
-        let (reason, last) = reason_after(at);
-        return Ok((OutcomePattern::Aborted(reason), last));
-    }
-    let (kind, last) = if at.is_at(b"got") {
-        let next = at.next();
-        (next.one_of(&GOT, Expected::Outcome)?, next)
+        aborted(at.next())
+    } else if at.is_at(b"got") {
+        got_of(at.next())
     } else {
-        (at.one_of(&OUTCOMES, Expected::Outcome)?, at)
-    };
-    Ok((OutcomePattern::OfKind(kind), last))
+        let (kind, at) = at.gives(lone_outcome(at.word()), Expected::Outcome)?;
+        Ok((OutcomePattern::OfKind(kind), at))
+    }
 }

@@ -1,61 +1,127 @@
 //! Reads terms and comparisons.
+ghost use Rattle.std.specs.Prelude.{◌≡◌};
+ghost use Rattle.zy_goals.specs.Cursors.{left, read};
+ghost use Rattle.zy_goals.specs.Phrases as spec;
 
 use crate::goal::{StateFact, Term};
+use crate::names::Names;
 use crate::reading::Parsed;
 use crate::reading::cursor::Cursor;
-use crate::reading::words::{COMPARISONS, REGISTERS, TERM_WORDS, TermWord};
+use crate::reading::numbers::{key, number, txn};
+use crate::reading::words::{register, sign};
 use crate::refusal::Expected;
 use zy_text::names::is_numeral;
 
-/// The greatest number that a goal may name: ten digits.
-const MAX_NUMBER: u64 = 9999999999;
-
 /// What comes after `sum`: a key, `to`, a key.
-fn sum<'a>(at: Cursor<'a>) -> Parsed<'a, Term> {
-    let first = at.key()?;
-    let to = at.next();
-    if !to.is_at(b"to") {
-        return Err(to.refuses(Expected::To));
+#[tactic(auto, unfolding(crate::specs::Phrases::sum))]
+fn sum<'a>(at: Cursor<'a>) -> Parsed<'a, Term>
+    ensures { read result ≡ spec.sum (left at.entry) }
+{
+    let (first, at) = key(at)?;
+    if !at.is_at(b"to") {
+        return Err(at.refuses(Expected::To));
     }
-    let end = to.next();
-    let last = end.key()?;
-    Ok((Term::Sum { first, last }, end))
+    let (last, at) = key(at.next())?;
+    Ok((Term::Sum { first, last }, at))
 }
 
 /// What comes after `reg`: a transaction and a register of it.
-fn register<'a>(at: Cursor<'a>) -> Parsed<'a, Term> {
-    let txn = at.txn()?;
-    let end = at.next();
-    let register = end.one_of(&REGISTERS, Expected::Register)?;
-    Ok((Term::Register { txn, register }, end))
+#[tactic(auto, unfolding(crate::specs::Phrases::register))]
+fn register_of<'a>(names: Names<'a>, at: Cursor<'a>) -> Parsed<'a, Term>
+    ensures { read result ≡ spec.register names.entry (left at.entry) }
+{
+    let (txn, at) = txn(names, at)?;
+    let (register, at) = at.gives(register(at.word()), Expected::Register)?;
+    Ok((Term::Register { txn, register }, at))
+}
+
+/// A key, as a term.
+fn value_at<'a>(at: Cursor<'a>) -> Parsed<'a, Term>
+    ensures { read result ≡ spec.value_at (left at.entry) }
+{
+    let (key, at) = key(at)?;
+    Ok((Term::Key(key), at))
+}
+
+/// What comes after `pc`.
+fn pc_of<'a>(names: Names<'a>, at: Cursor<'a>) -> Parsed<'a, Term>
+    ensures { read result ≡ spec.pc_of names.entry (left at.entry) }
+{
+    let (txn, at) = txn(names, at)?;
+    Ok((Term::Pc(txn), at))
+}
+
+/// What comes after `done`.
+fn done_of<'a>(names: Names<'a>, at: Cursor<'a>) -> Parsed<'a, Term>
+    ensures { read result ≡ spec.done_of names.entry (left at.entry) }
+{
+    let (txn, at) = txn(names, at)?;
+    Ok((Term::Done(txn), at))
+}
+
+/// A term that begins with a word. Where the word at hand begins none, it is refused with what was expected there.
+#[tactic(auto, unfolding(crate::specs::Phrases::spelled_term))]
+fn spelled_term<'a>(names: Names<'a>, at: Cursor<'a>, expected: Expected) -> Parsed<'a, Term>
+    ensures { read result ≡ spec.spelled_term names.entry (left at.entry) }
+{
+    let next = at.next();
+    if at.is_at(b"key") {
+        value_at(next)
+    } else if at.is_at(b"sum") {
+        sum(next)
+    } else if at.is_at(b"reg") {
+        register_of(names, next)
+    } else if at.is_at(b"pc") {
+        pc_of(names, next)
+    } else if at.is_at(b"done") {
+        done_of(names, next)
+    } else if at.is_at(b"commits") {
+        Ok((Term::Commits, next))
+    } else {
+        Err(at.refuses(expected))
+    }
 }
 
 /// A term. Where the word at hand begins none, it is refused with what was expected there.
-fn term<'a>(at: Cursor<'a>, expected: Expected) -> Parsed<'a, Term> {
+#[tactic(auto, unfolding(crate::specs::Phrases::term_of))]
+fn term_at<'a>(names: Names<'a>, at: Cursor<'a>, expected: Expected) -> Parsed<'a, Term>
+    ensures { read result ≡ spec.term_of names.entry (left at.entry) }
+{
     if is_numeral(at.word()) {
-        return Ok((Term::Number(at.number(MAX_NUMBER)?), at));
+        let (number, at) = number(at)?;
+        return Ok((Term::Number(number), at));
     }
-    let next = at.next();
-    match at.one_of(&TERM_WORDS, expected)? {
-        TermWord::Key => Ok((Term::Key(next.key()?), next)),
-        TermWord::Sum => sum(next),
-        TermWord::Register => register(next),
-        TermWord::Pc => Ok((Term::Pc(next.txn()?), next)),
-        TermWord::Done => Ok((Term::Done(next.txn()?), next)),
-        TermWord::Commits => Ok((Term::Commits, at)),
+    spelled_term(names, at, expected)
+}
+
+/// A sign and a term, after a term.
+#[tactic(auto, unfolding(crate::specs::Phrases::compared))]
+fn compared<'a>(names: Names<'a>, term: Term, at: Cursor<'a>) -> Parsed<'a, StateFact>
+    ensures { read result ≡ spec.compared names.entry term (left at.entry) }
+{
+    let (sign, at) = at.gives(sign(at.word()), Expected::Comparison)?;
+    let (other, at) = term_at(names, at, Expected::Term)?;
+    Ok((StateFact::Compare(term, sign, other), at))
+}
+
+/// What comes after a term: `absent` after a key, or a sign and a term.
+#[tactic(auto, unfolding(crate::specs::Phrases::after_term))]
+fn after_term<'a>(names: Names<'a>, term: Term, at: Cursor<'a>) -> Parsed<'a, StateFact>
+    ensures { read result ≡ spec.after_term names.entry term (left at.entry) }
+{
+    if let Term::Key(key) = term {
+        if at.is_at(b"absent") {
+            return Ok((StateFact::NoRow(key), at.next()));
+        }
     }
+    compared(names, term, at)
 }
 
 /// A comparison of two terms, or that a key has no row. Facts of other kinds were ruled out before.
-pub fn comparison<'a>(at: Cursor<'a>) -> Parsed<'a, StateFact> {
-    let (left, end) = term(at, Expected::Fact)?;
-    let next = end.next();
-    if let Term::Key(key) = left {
-        if next.is_at(b"absent") {
-            return Ok((StateFact::NoRow(key), next));
-        }
-    }
-    let sign = next.one_of(&COMPARISONS, Expected::Comparison)?;
-    let (right, last) = term(next.next(), Expected::Term)?;
-    Ok((StateFact::Compare(left, sign, right), last))
+#[tactic(auto, unfolding(crate::specs::Phrases::comparison))]
+pub fn comparison<'a>(names: Names<'a>, at: Cursor<'a>) -> Parsed<'a, StateFact>
+    ensures { read result ≡ spec.comparison names.entry (left at.entry) }
+{
+    let (term, at) = term_at(names, at, Expected::Fact)?;
+    after_term(names, term, at)
 }

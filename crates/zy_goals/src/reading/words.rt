@@ -1,232 +1,206 @@
 //! The words of goals and what they stand for, a line for each.
+ghost use Rattle.std.specs.Prelude.{◌≡◌};
+ghost use Rattle.zy_goals.specs.Vocabulary as spec;
 
 use crate::goal::{Comparison, Fact, PagePlace, Reason, Selector, StateFact, TxnProperty};
 use crate::outcomes::OutcomeKind;
-use crate::reading::stack::Operator;
 use zy_isa::Node;
 use zy_links::Kind;
 use zy_modes::NodeMode;
+use zy_text::names::is;
 
-/// The operators before an operand, the opening bracket among them.
-pub const PREFIXES: [(&'static str, Operator); 2] = [("(", Operator::Open), ("not", Operator::Not)];
-
-/// The operators between two operands.
-pub const INFIXES: [(&'static str, Operator); 2] = [("and", Operator::And), ("or", Operator::Or)];
-
-/// The facts of one word, but for those that are a reason.
-pub const FACTS: [(&'static str, Fact); 5] = [
-    ("differs", Fact::Differs),
-    ("stuck", Fact::Stuck),
-    ("deadlock", Fact::Deadlock),
-    (
-        "committed",
-        Fact::OfState(StateFact::Txns(Selector::All, TxnProperty::Committed)),
-    ),
-    (
-        "aborted",
-        Fact::OfState(StateFact::Txns(Selector::Any, TxnProperty::Aborted(Reason::Any))),
-    ),
-];
-
-/// What a fact is about.
-#[derive(Clone, Copy)]
-pub enum Subject {
-    Mode,
-    Page,
-    Txn,
-    Link,
+/// What a word stands for in a table, if it is there.
+macro_rules! stands_for {
+    ($word:expr;) => { None };
+    ($word:expr; else $other:expr) => { $other };
+    ($word:expr; $text:literal => $value:expr, $($more:tt)*) => {
+        if is($word, $text) { Some($value) } else { stands_for!($word; $($more)*) }
+    };
 }
-
-/// The first words of facts that are no comparison.
-pub const SUBJECTS: [(&'static str, Subject); 4] = [
-    ("mode", Subject::Mode),
-    ("page", Subject::Page),
-    ("txn", Subject::Txn),
-    ("link", Subject::Link),
-];
 
 /// The nodes.
-pub const NODES: [(&'static str, Node); 2] = [("A", Node::A), ("B", Node::B)];
+#[tactic(auto, unfolding(crate::specs::Vocabulary::node))]
+pub fn node(word: &[u8]) -> Option<Node>
+    ensures { result ≡ spec.node word.now }
+{
+    stands_for! { word;
+        b"A" => Node::A,
+        b"B" => Node::B,
+    }
+}
 
 /// The links, each by the node that it goes from.
-pub const LINKS: [(&'static str, Node); 2] = [("AB", Node::A), ("BA", Node::B)];
+#[tactic(auto, unfolding(crate::specs::Vocabulary::link))]
+pub fn link(word: &[u8]) -> Option<Node>
+    ensures { result ≡ spec.link word.now }
+{
+    stands_for! { word;
+        b"AB" => Node::A,
+        b"BA" => Node::B,
+    }
+}
 
 /// The modes.
-pub const MODES: [(&'static str, NodeMode); 8] = [
-    ("normal", NodeMode::Normal),
-    ("empty", NodeMode::Empty),
-    ("sinit", NodeMode::SInit),
-    ("sdual", NodeMode::SDual),
-    ("sfinish", NodeMode::SFinish),
-    ("dinit", NodeMode::DInit),
-    ("ddual", NodeMode::DDual),
-    ("dfinish", NodeMode::DFinish),
-];
-
-/// What a fact says of a page.
-#[derive(Clone, Copy)]
-pub enum PageWord {
-    At,
-    Moving,
-    Locked,
-    Absent,
+#[tactic(auto, unfolding(crate::specs::Vocabulary::mode_of_node))]
+pub fn mode(word: &[u8]) -> Option<NodeMode>
+    ensures { result ≡ spec.mode_of_node word.now }
+{
+    stands_for! { word;
+        b"normal" => NodeMode::Normal,
+        b"empty" => NodeMode::Empty,
+        b"sinit" => NodeMode::SInit,
+        b"sdual" => NodeMode::SDual,
+        b"sfinish" => NodeMode::SFinish,
+        b"dinit" => NodeMode::DInit,
+        b"ddual" => NodeMode::DDual,
+        b"dfinish" => NodeMode::DFinish,
+    }
 }
 
-/// The words after `page P`.
-pub const PAGE_WORDS: [(&'static str, PageWord); 4] = [
-    ("at", PageWord::At),
-    ("moving", PageWord::Moving),
-    ("locked", PageWord::Locked),
-    ("absent", PageWord::Absent),
-];
-
-/// The words after `page P at`.
-pub const PLACES: [(&'static str, PagePlace); 4] = [
-    ("A", PagePlace::At(Node::A)),
-    ("B", PagePlace::At(Node::B)),
-    ("AB", PagePlace::OnLinkFrom(Node::A)),
-    ("BA", PagePlace::OnLinkFrom(Node::B)),
-];
-
-/// The words after `txn` that are no number.
-pub const SELECTORS: [(&'static str, Selector); 2] = [
-    ("any", Selector::Any),
-    ("all", Selector::All),
-];
-
-/// What a fact says of transactions.
-#[derive(Clone, Copy)]
-pub enum TxnWord {
-    New,
-    Active,
-    Committed,
-    Aborted,
-    At,
-    Wrote,
-    Locks,
+/// The places after `page P at`.
+#[tactic(auto, unfolding(crate::specs::Vocabulary::place_of_page))]
+pub fn place(word: &[u8]) -> Option<PagePlace>
+    ensures { result ≡ spec.place_of_page word.now }
+{
+    stands_for! { word;
+        b"A" => PagePlace::At(Node::A),
+        b"B" => PagePlace::At(Node::B),
+        b"AB" => PagePlace::OnLinkFrom(Node::A),
+        b"BA" => PagePlace::OnLinkFrom(Node::B),
+    }
 }
-
-/// The words after `txn T`, `txn any` and `txn all`.
-pub const TXN_WORDS: [(&'static str, TxnWord); 7] = [
-    ("new", TxnWord::New),
-    ("active", TxnWord::Active),
-    ("committed", TxnWord::Committed),
-    ("aborted", TxnWord::Aborted),
-    ("at", TxnWord::At),
-    ("wrote", TxnWord::Wrote),
-    ("locks", TxnWord::Locks),
-];
 
 /// The reasons of aborts.
-pub const REASONS: [(&'static str, Reason); 8] = [
-    ("own", Reason::Own),
-    ("killed", Reason::Killed),
-    ("badkey", Reason::BadKey),
-    ("missing", Reason::Missing),
-    ("duplicate", Reason::Duplicate),
-    ("frozen", Reason::Frozen),
-    ("nopage", Reason::NoPage),
-    ("gone", Reason::Gone),
-];
-
-/// What a fact says of a link.
-#[derive(Clone, Copy)]
-pub enum LinkWord {
-    Empty,
-    Has,
+#[tactic(auto, unfolding(crate::specs::Vocabulary::why))]
+pub fn reason(word: &[u8]) -> Option<Reason>
+    ensures { result ≡ spec.why word.now }
+{
+    stands_for! { word;
+        b"own" => Reason::Own,
+        b"killed" => Reason::Killed,
+        b"badkey" => Reason::BadKey,
+        b"missing" => Reason::Missing,
+        b"duplicate" => Reason::Duplicate,
+        b"frozen" => Reason::Frozen,
+        b"nopage" => Reason::NoPage,
+        b"gone" => Reason::Gone,
+    }
 }
-
-/// The words after `link L`.
-pub const LINK_WORDS: [(&'static str, LinkWord); 2] = [
-    ("empty", LinkWord::Empty),
-    ("has", LinkWord::Has),
-];
 
 /// The kinds of messages.
-pub const KINDS: [(&'static str, Kind); 7] = [
-    ("wire", Kind::Wire),
-    ("ready", Kind::Ready),
-    ("dual", Kind::Dual),
-    ("pull", Kind::Pull),
-    ("page", Kind::Page),
-    ("finish", Kind::Finish),
-    ("done", Kind::Done),
-];
-
-/// What a term reads.
-#[derive(Clone, Copy)]
-pub enum TermWord {
-    Key,
-    Sum,
-    Register,
-    Pc,
-    Done,
-    Commits,
+#[tactic(auto, unfolding(crate::specs::Vocabulary::kind_of_message))]
+pub fn kind(word: &[u8]) -> Option<Kind>
+    ensures { result ≡ spec.kind_of_message word.now }
+{
+    stands_for! { word;
+        b"wire" => Kind::Wire,
+        b"ready" => Kind::Ready,
+        b"dual" => Kind::Dual,
+        b"pull" => Kind::Pull,
+        b"page" => Kind::Page,
+        b"finish" => Kind::Finish,
+        b"done" => Kind::Done,
+    }
 }
 
-/// The first words of terms that are no number.
-pub const TERM_WORDS: [(&'static str, TermWord); 6] = [
-    ("key", TermWord::Key),
-    ("sum", TermWord::Sum),
-    ("reg", TermWord::Register),
-    ("pc", TermWord::Pc),
-    ("done", TermWord::Done),
-    ("commits", TermWord::Commits),
-];
-
 /// The registers.
-pub const REGISTERS: [(&'static str, u8); 8] = [
-    ("r0", 0),
-    ("r1", 1),
-    ("r2", 2),
-    ("r3", 3),
-    ("r4", 4),
-    ("r5", 5),
-    ("r6", 6),
-    ("r7", 7),
-];
+#[tactic(auto, unfolding(crate::specs::Vocabulary::register))]
+pub fn register(word: &[u8]) -> Option<u8>
+    ensures { result ≡ spec.register word.now }
+{
+    stands_for! { word;
+        b"r0" => 0,
+        b"r1" => 1,
+        b"r2" => 2,
+        b"r3" => 3,
+        b"r4" => 4,
+        b"r5" => 5,
+        b"r6" => 6,
+        b"r7" => 7,
+    }
+}
 
 /// The signs between two terms.
-pub const COMPARISONS: [(&'static str, Comparison); 6] = [
-    ("=", Comparison::Equal),
-    ("!=", Comparison::NotEqual),
-    ("<", Comparison::Less),
-    ("<=", Comparison::AtMost),
-    (">", Comparison::Greater),
-    (">=", Comparison::AtLeast),
-];
+#[tactic(auto, unfolding(crate::specs::Vocabulary::sign))]
+pub fn sign(word: &[u8]) -> Option<Comparison>
+    ensures { result ≡ spec.sign word.now }
+{
+    stands_for! { word;
+        b"=" => Comparison::Equal,
+        b"!=" => Comparison::NotEqual,
+        b"<" => Comparison::Less,
+        b"<=" => Comparison::AtMost,
+        b">" => Comparison::Greater,
+        b">=" => Comparison::AtLeast,
+    }
+}
+
+/// A transaction is aborted for this reason.
+fn aborted(reason: Reason) -> Fact
+    ensures { result ≡ spec.aborted reason }
+{
+    Fact::OfState(StateFact::Txns(Selector::Any, TxnProperty::Aborted(reason)))
+}
+
+/// The facts of one word.
+#[tactic(auto, unfolding(crate::specs::Vocabulary::lone_fact))]
+pub fn lone_fact(word: &[u8]) -> Option<Fact>
+    ensures { result ≡ spec.lone_fact word.now }
+{
+    stands_for! { word;
+        b"differs" => Fact::Differs,
+        b"stuck" => Fact::Stuck,
+        b"deadlock" => Fact::Deadlock,
+        b"committed" => Fact::OfState(StateFact::Txns(Selector::All, TxnProperty::Committed)),
+        b"aborted" => aborted(Reason::Any),
+        else match reason(word) {
+            Some(reason) => Some(aborted(reason)),
+            None => None,
+        }
+    }
+}
 
 /// The outcomes of one word, but for `aborted`, which a reason may follow.
-pub const OUTCOMES: [(&'static str, OutcomeKind); 20] = [
-    ("started", OutcomeKind::Started),
-    ("badmode", OutcomeKind::BadMode),
-    ("began", OutcomeKind::Began),
-    ("idle", OutcomeKind::Idle),
-    ("elsewhere", OutcomeKind::Elsewhere),
-    ("notyet", OutcomeKind::NotYet),
-    ("did", OutcomeKind::Did),
-    ("split", OutcomeKind::Split),
-    ("committed", OutcomeKind::Committed),
-    ("waits", OutcomeKind::Waits),
-    ("pulls", OutcomeKind::Pulls),
-    ("awaits", OutcomeKind::Awaits),
-    ("nomessage", OutcomeKind::NoMessage),
-    ("stale", OutcomeKind::Stale),
-    ("held", OutcomeKind::Held),
-    ("stray", OutcomeKind::Stray),
-    ("finishing", OutcomeKind::Finishing),
-    ("active", OutcomeKind::Active),
-    ("pushed", OutcomeKind::Pushed),
-    ("nopush", OutcomeKind::NoPush),
-];
+#[tactic(auto, unfolding(crate::specs::Vocabulary::lone_outcome))]
+pub fn lone_outcome(word: &[u8]) -> Option<OutcomeKind>
+    ensures { result ≡ spec.lone_outcome word.now }
+{
+    stands_for! { word;
+        b"started" => OutcomeKind::Started,
+        b"badmode" => OutcomeKind::BadMode,
+        b"began" => OutcomeKind::Began,
+        b"idle" => OutcomeKind::Idle,
+        b"elsewhere" => OutcomeKind::Elsewhere,
+        b"notyet" => OutcomeKind::NotYet,
+        b"did" => OutcomeKind::Did,
+        b"split" => OutcomeKind::Split,
+        b"committed" => OutcomeKind::Committed,
+        b"waits" => OutcomeKind::Waits,
+        b"pulls" => OutcomeKind::Pulls,
+        b"awaits" => OutcomeKind::Awaits,
+        b"nomessage" => OutcomeKind::NoMessage,
+        b"stale" => OutcomeKind::Stale,
+        b"held" => OutcomeKind::Held,
+        b"stray" => OutcomeKind::Stray,
+        b"finishing" => OutcomeKind::Finishing,
+        b"active" => OutcomeKind::Active,
+        b"pushed" => OutcomeKind::Pushed,
+        b"nopush" => OutcomeKind::NoPush,
+    }
+}
 
-/// The words after the outcome `got`.
-pub const GOT: [(&'static str, OutcomeKind); 7] = [
-    ("wire", OutcomeKind::GotWire),
-    ("ready", OutcomeKind::GotReady),
-    ("dual", OutcomeKind::GotDual),
-    ("pull", OutcomeKind::GotPull),
-    ("page", OutcomeKind::GotPage),
-    ("finish", OutcomeKind::GotFinish),
-    ("done", OutcomeKind::GotDone),
-];
+/// The outcomes after `got`.
+#[tactic(auto, unfolding(crate::specs::Vocabulary::got))]
+pub fn got(word: &[u8]) -> Option<OutcomeKind>
+    ensures { result ≡ spec.got word.now }
+{
+    stands_for! { word;
+        b"wire" => OutcomeKind::GotWire,
+        b"ready" => OutcomeKind::GotReady,
+        b"dual" => OutcomeKind::GotDual,
+        b"pull" => OutcomeKind::GotPull,
+        b"page" => OutcomeKind::GotPage,
+        b"finish" => OutcomeKind::GotFinish,
+        b"done" => OutcomeKind::GotDone,
+    }
+}
