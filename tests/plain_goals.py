@@ -97,7 +97,7 @@ class NoGoal(Exception):
 
 class Reader:
     """Each method gives, for every way to read from a word on, the place behind it, the number of parts so far, and what was read: a list of words and of
-    rules, each a pair of its name and such a list."""
+    rules, each a pair of its name and such a list. A transaction is like a rule, and has its place in the text."""
 
     def __init__(self, text):
         self.places = [(found.start(), found.end()) for found in WORD.finditer(text)]
@@ -147,7 +147,7 @@ class Reader:
         count = parts + (symbol in JOINTS)
         fits = NUMBERS[symbol](self.words[at]) if symbol in NUMBERS else self.words[at] == symbol.strip("'")
         if fits and count <= MOST_PARTS:
-            yield at + 1, count, [self.words[at]]
+            yield at + 1, count, [('T', [self.words[at]], self.places[at]) if symbol == 'T' else self.words[at]]
 
 
 def read_goal(text, rule='GOAL'):
@@ -225,6 +225,13 @@ LINKS = ('AB', 'BA')
 def flat(read):
     """The words of what was read."""
     return [word for part in read for word in ([part] if isinstance(part, str) else flat(part[1]))]
+
+
+def transactions(read):
+    """The transactions that a goal names, each with its place."""
+    if read[0] == 'T':
+        return [(read[1][0], read[2])]
+    return [named for part in read[1] if isinstance(part, tuple) for named in transactions(part)]
 
 
 class Meaning:
