@@ -74,6 +74,10 @@ class States:
                     return Answer('found', at + 1, self.lengths[at] + len(last), self.way_to(at) + last)
         return Answer('none', len(self.views), self.lengths[-1], [])
 
+    def bounds(self, most):
+        """Which numbers of choices a search may name that gives up after some states, of which there are more: it has judged all that take fewer."""
+        return range(self.lengths[most - 1], self.lengths[most] + 1)
+
 
 def is_asked(outcome, had):
     """Whether an outcome that a choice had is the one that a goal asks for; `aborted` alone is one for any reason."""

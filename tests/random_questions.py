@@ -87,7 +87,7 @@ class Goals:
         words = self.expression(self.chance.randint(0, DEEPEST))
         if not always and self.chance.random() < 0.3:
             words = (words if self.chance.random() < 0.7 else []) + ['then'] + self.rule('OUTCOME')
-        return self.spaced(words), always
+        return spaced(words, self.chance), always
 
     def expression(self, depth):
         """An expression of some depth. What a joint joins may have brackets or not; the grammar says what it means without them."""
@@ -117,10 +117,16 @@ class Goals:
             return [self.chance.choice(self.pools[symbol])]
         return self.rule(symbol) if symbol in RULES else [symbol]
 
-    def spaced(self, words):
-        """The text of some words; a bracket or a sign may stand close to its neighbours."""
-        text = words[0]
-        for before, word in zip(words, words[1:]):
-            is_close = (before[-1] in '()=<>' or word[0] in '()=!<>') and self.chance.random() < 0.5
-            text += ('' if is_close else ' ') + word
-        return text
+
+def spaced(words, chance):
+    """The text of some words. A bracket or a sign may stand close to its neighbours, but no two signs to one another; other words may stand apart."""
+    text = ''.join(words[:1])
+    for before, word in zip(words, words[1:]):
+        kinds = {kind_of_sign(before[-1]), kind_of_sign(word[0])}
+        may_be_close = kinds != {''} and kinds != {'sign'}
+        text += ('' if may_be_close and chance.random() < 0.5 else chance.choice([' ', ' ', ' ', '  '])) + word
+    return text
+
+
+def kind_of_sign(byte):
+    return 'bracket' if byte in '()' else 'sign' if byte in '=!<>' else ''
