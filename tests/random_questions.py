@@ -1,15 +1,18 @@
 """Random scenarios of a few hundred states, and random goals of the whole grammar of tests/plain_goals.py."""
 
-from plain_goals import RULES
+from plain_goals import RULES, Meaning, flat
 from plain_search import States, TooMany, considered
 from plain_table import opening, read, step
 
 # How many states a scenario may come to.
 MOST = 400
 
-KEYS = range(10)
+KEYS = range(8)
 NAMES = ('alpha', 'not', 'txn', 'B', 'any')     # a name may be any word of the grammar; a goal that says `any` does not mean it
-DEEPEST = 5
+
+# How deep goals are, and how facts are drawn: so often, until one holds in some of so many states and in others does not.
+DEPTHS = (0, 0, 1, 1, 2, 2, 3, 4, 5)
+TRIES, LOOKED_AT = 6, 25
 
 
 def random_text(chance):
@@ -18,10 +21,11 @@ def random_text(chance):
     size = (cap + 1) // 2
     rows = sorted(chance.sample(KEYS, chance.randint(size * (opened - 1), size * opened)))
     lines = ['zephyr %d' % version, 'cap %d' % cap, 'pages %d' % chance.randint(opened, 3), 'rule %s' % chance.choice(['held', 'loose', 'loose'])]
-    lines += ['row %d %d' % (key, chance.randint(1, 9)) for key in rows]
+    lines += ['row %d %d' % (key, chance.choice([0, chance.randint(1, 9)])) for key in rows]
     names = chance.sample(NAMES, 3)
     for t in range(chance.choice([1, 1, 2, 2, 3])):
-        lines += ['txn %s' % (names[t] if chance.random() < 0.3 else t)] + random_program(chance, version)
+        program = random_program(chance, version) if chance.random() < 0.5 else random_pair(chance, version, rows or [0])
+        lines += ['txn %s' % (names[t] if chance.random() < 0.3 else t)] + program
     return '\n'.join(lines + ['end', ''])
 
 
@@ -29,6 +33,13 @@ def random_program(chance, version):
     length = chance.choice([1, 2, 3, 4, 4, 5, 5])
     body = [random_instruction(chance, version, length, at) for at in range(length - 1)]
     return body + [chance.choice(['commit'] * 6 + ['abort'])]
+
+
+def random_pair(chance, version, rows):
+    """A program that does something with one row, and then with another one or the same."""
+    first, second = chance.choice(rows), chance.choice(rows)
+    last = chance.choice(['write r0 r1', 'write r0 r2', 'insert r2 r1', 'read r1 r0'] + ['sum r2 r0'] * (version - 1))
+    return ['set r0 %d' % first, chance.choice(['read r1 r0', 'write r0 r0']), 'set r0 %d' % second, last, 'commit']
 
 
 def random_instruction(chance, version, length, at):
@@ -72,27 +83,30 @@ def random_case(chance):
 
 
 class Goals:
-    """Random goals over a scenario."""
+    """Random goals over the states of a scenario."""
 
-    def __init__(self, chance, scenario):
-        self.chance = chance
-        numbers = [str(t) for t in range(len(scenario.programs))]
-        names = [name for name in scenario.names if name != 'any']
+    def __init__(self, chance, states):
+        self.chance, self.views = chance, chance.sample(states.views, min(LOOKED_AT, len(states.views)))
+        self.meaning = Meaning(states.scenario.names)
+        numbers = [str(t) for t in range(len(states.scenario.programs))]
+        names = [name for name in states.scenario.names if name != 'any']
+        rows = [str(key) for key, _ in states.scenario.rows]
         self.pools = {'T': names * 4 + numbers * 2 + [str(len(numbers))], 'P': ['0', '0', '1', '1', '2', '3'],
-                      'K': [str(key) for key in KEYS] * 3 + ['65535'], 'N': [str(number) for number in range(10)] * 3 + ['100', '4294967295', '9999999999']}
+                      'K': rows * 3 + [str(key) for key in KEYS] * 2 + ['65535'], 'REG': ['r0', 'r1', 'r2', 'r7'] * 2 + [word for word, in RULES['REG']],
+                      'N': [str(number) for number in range(10)] * 3 + ['100', '4294967295', '9999999999']}
 
     def goal(self):
         """A goal of --for or of --always, as text, and which."""
         always = self.chance.random() < 0.25
-        words = self.expression(self.chance.randint(0, DEEPEST))
+        words = self.expression(self.chance.choice(DEPTHS))
         if not always and self.chance.random() < 0.3:
-            words = (words if self.chance.random() < 0.7 else []) + ['then'] + self.rule('OUTCOME')
+            words = (words if self.chance.random() < 0.7 else []) + ['then'] + flat([self.rule('OUTCOME')])
         return spaced(words, self.chance), always
 
     def expression(self, depth):
         """An expression of some depth. What a joint joins may have brackets or not; the grammar says what it means without them."""
         if depth == 0 or self.chance.random() < 0.2:
-            return self.rule('FACT')
+            return self.fact()
         if self.chance.random() < 0.25:
             return ['not'] + self.part(depth - 1)
         joint = self.chance.choice(['and', 'or'])
@@ -102,20 +116,29 @@ class Goals:
         words = self.expression(depth)
         return ['('] + words + [')'] if self.chance.random() < 0.4 else words
 
-    def rule(self, name):
-        """Words of a rule, in which the longer alternatives come oftener than those of one word."""
-        options = RULES[name]
-        return self.words(self.chance.choices(options, [1 + 2 * (len(option) > 1 or option[0] == 'WHY') for option in options])[0])
+    def fact(self):
+        """A fact that tells states apart, if one is drawn soon."""
+        for _ in range(TRIES):
+            read = self.rule('FACT')
+            test = self.meaning.expression(read)
+            if len({test(view) for view in self.views}) > 1:
+                break
+        return flat([read])
 
-    def words(self, symbols):
-        return [word for symbol in symbols for word in self.symbol(symbol)]
+    def rule(self, name):
+        """What could be read of a rule, in which the longer alternatives come oftener than those of one word."""
+        options = RULES[name]
+        return name, self.drawn(self.chance.choices(options, [1 + 2 * (len(option) > 1 or option[0] == 'WHY') for option in options])[0])
+
+    def drawn(self, symbols):
+        return [part for symbol in symbols for part in self.symbol(symbol)]
 
     def symbol(self, symbol):
         if isinstance(symbol, tuple):
-            return self.words(self.chance.choice(symbol[1])) if symbol[0] == '(' or self.chance.random() < 0.5 else []
+            return self.drawn(self.chance.choice(symbol[1])) if symbol[0] == '(' or self.chance.random() < 0.5 else []
         if symbol in self.pools:
             return [self.chance.choice(self.pools[symbol])]
-        return self.rule(symbol) if symbol in RULES else [symbol]
+        return [self.rule(symbol)] if symbol in RULES else [symbol]
 
 
 def spaced(words, chance):
