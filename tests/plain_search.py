@@ -1,0 +1,104 @@
+"""A plain model of `zy_bench search` (docs/search.md), over the plain table and the plain goals.
+
+    tests/plain_search.py [--kill] [--bare] GOAL FILE..
+
+As a program it prints what comes of a search in each scenario, or with --bare in each without its choices: the verdict, how many states were reached, and how
+many choices were added (found) or the most that a state takes (none)."""
+
+import sys
+from collections import namedtuple
+
+from plain_goals import Meaning, View, kind_of, read_goal
+from plain_table import opening, read, step
+
+Answer = namedtuple('Answer', 'verdict states length choices')
+
+
+class TooMany(Exception):
+    """There are more states than are wanted."""
+
+
+def considered(scenario, kill):
+    """The choices that a search makes in each state, in this order."""
+    txns = range(len(scenario.programs))
+    choices = [('C', 'start', None)] + [('C', 'begin', t) for t in txns] + [('C', 'kill', t) for t in txns if kill]
+    for node in 'AB':
+        choices += [(node, 'run', t) for t in txns] + [(node, action, None) for action in ('take', 'finish', 'push')]
+    return choices
+
+
+class States:
+    """All states that a scenario comes to, breadth first from the one after its choices."""
+
+    def __init__(self, scenario, kill=False, most=None):
+        self.scenario = scenario
+        start = opening(scenario)
+        for choice in scenario.choices:
+            _, start = step(scenario, start, choice)
+        self.views, self.ways = [], [(None, None)]      # of each state the view, the state before it and the choice
+        self.lengths = [0]
+        self.explore(start, considered(scenario, kill), most)
+
+    def explore(self, start, choices, most):
+        known = {start: 0}
+        states = [start]
+        while len(self.views) < len(states):
+            at = len(self.views)
+            outcomes = []
+            for choice in choices:
+                outcome, state = step(self.scenario, states[at], choice)
+                outcomes.append((choice, outcome))
+                if state not in known:
+                    known[state] = len(states)
+                    states.append(state)
+                    self.ways.append((at, choice))
+                    self.lengths.append(self.lengths[at] + 1)
+            if most and len(states) > most:
+                raise TooMany
+            self.views.append(View(self.scenario, states[at], outcomes))
+
+    def way_to(self, at):
+        """The choices that lead to a state."""
+        found = []
+        while self.ways[at][0] is not None:
+            at, choice = self.ways[at]
+            found.append(choice)
+        return found[::-1]
+
+    def answer(self, test, outcome=None):
+        """What comes of a search for the first state that passes a test and in which a considered choice has an outcome."""
+        for at, view in enumerate(self.views):
+            if test(view):
+                last = [choice for choice, had in view.outcomes if is_asked(outcome, had)][:1]
+                if outcome is None or last:
+                    return Answer('found', at + 1, self.lengths[at] + len(last), self.way_to(at) + last)
+        return Answer('none', len(self.views), self.lengths[-1], [])
+
+    def bounds(self, most):
+        """Which numbers of choices a search may name that gives up after some states, of which there are more: it has judged all that take fewer."""
+        return range(self.lengths[most - 1], self.lengths[most] + 1)
+
+
+def is_asked(outcome, had):
+    """Whether an outcome that a choice had is the one that a goal asks for; `aborted` alone is one for any reason."""
+    return outcome is not None and (kind_of(had) == outcome or outcome == 'aborted' and had.startswith('aborted '))
+
+
+def search(states, goal, always=False):
+    """What comes of a search for a goal, or for a state that does not meet it."""
+    test, outcome = Meaning(states.scenario.names).goal(read_goal(goal, 'EXPR' if always else 'GOAL'))
+    return states.answer((lambda view: not test(view)) if always else test, outcome)
+
+
+def main(words):
+    kill, bare = '--kill' in words, '--bare' in words
+    goal, *paths = [word for word in words if word not in ('--kill', '--bare')]
+    for path in paths:
+        with open(path, encoding='utf-8') as file:
+            scenario = read(file.read())
+        answer = search(States(scenario._replace(choices=[]) if bare else scenario, kill), goal)
+        print(path, *answer[:3])
+
+
+if __name__ == '__main__':
+    main(sys.argv[1:])
