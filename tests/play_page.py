@@ -7,8 +7,8 @@ import subprocess
 import tempfile
 
 import firefox
-from case import EXAMPLES, PROGRAM, content
-from playing import ANOMALY, DEADLOCK, HELD, MIGRATION, NOTED, SMALLEST, VERDICTS, ZVIEW, Page, Play, bare, first_choices, head, loops, steps_of, zy_bench
+from case import CASES, EXAMPLES, PROGRAM, content
+from playing import ANOMALY, DEADLOCK, HELD, NOTED, SMALLEST, VERDICTS, ZVIEW, Page, Play, bare, head, loops, part_of, steps_of, zy_bench
 
 # Clicks choices, one after the other: for each what its button showed, and whether it was grey; null where there was none.
 CLICKED = '''(async choices => {
@@ -311,49 +311,43 @@ def twice(page):
     return found
 
 
+# Page 0 is split before a migration, so that the key of page 2 is below that of page 1. Pages 1 and 0 are asked for; page 1 comes, and pages 0 and 2 are
+# pushed.
+MOVED = part_of(content(os.path.join(CASES, 'debug-node', 'stdin')).decode())
+
+# What the nodes have after some of its steps, by docs/step-table.md: of A and of B the low keys, and the pages that were asked for.
+NODES = [(0, '0 page 0 30 page 1', 'no page', 'no wireframe', 'no page'),
+         (5, '0 page 0 15 page 2 30 page 1', 'no page', 'no wireframe', 'no page'),
+         (9, '0 page 0 15 page 2 30 page 1', 'no page', '0 page 0 15 page 2 30 page 1', 'no page'),
+         (15, '0 page 0 15 page 2 30 page 1', 'no page', '0 page 0 15 page 2 30 page 1', 'page 1'),
+         (18, '0 page 0 15 page 2 30 page 1', 'no page', '0 page 0 15 page 2 30 page 1', 'page 0 page 1'),
+         (20, '0 page 0 15 page 2 30 page 1', 'no page', '0 page 0 15 page 2 30 page 1', 'page 0'),
+         (26, '0 page 0 15 page 2 30 page 1', 'no page', '0 page 0 15 page 2 30 page 1', 'no page'),
+         (28, 'no wireframe', 'no page', '0 page 0 15 page 2 30 page 1', 'no page')]
+
+SHOWN_NODES = '[...$("nodes").querySelectorAll("dt, dd")].map(part => part.textContent.trim())'
+
+
 def nodes(page):
-    """What is wrong with the wireframes and the pages that were asked for, at each position of some runs, and how they are shown."""
-    seen = set()
-    for name in ('sum_pulls_page_after_page', 'splits', 'held', 'there_and_back', 'stale'):
-        text = content(os.path.join(EXAMPLES, name + '.zephyr')).decode()
-        page.begin(text)
-        for position in range(page.value('D.last') + 1):
-            for node in 'AB':
-                wires, asked = page.value('[wireframe("%s", %d), askedFor("%s", %d)]' % (node, position, node, position))
-                for key in [low for low, _ in wires] + [low - 1 for low, _ in wires if low]:
-                    outcome, wanted = probed(text, position, node, key), max((low, number) for low, number in wires if low <= key)[1]
-                    seen.add(outcome.split()[0])
-                    # A page that is here is asked for no more.
-                    known = ['%s %d' % (word, wanted) for word in (['awaits'] if wanted in asked else ['pulls', 'locks', 'waits'])]
-                    if outcome not in ['elsewhere', 'notyet'] + known:
-                        yield '%s at %d, node %s: key %d %s, shown are %r and %r' % (name, position, node, key, outcome, wires, asked)
-    if not {'pulls', 'awaits', 'locks'} <= seen:
-        yield 'there was no %s' % ({'pulls', 'awaits', 'locks'} - seen)
-    splits = bare(content(os.path.join(EXAMPLES, 'splits.zephyr')).decode())
-    page.begin(splits.replace('end\n', '\n'.join(MIGRATION[:-1] + ['C begin 0', 'B run 0 x 20', 'end', ''])))
-    wires = page.value('[wireframe("A", now), wireframe("B", now).length > 1, at(D.modes.A, now)[1]]')
-    if wires != [[[0, 0]], True, 'sfinish']:
-        yield 'the wireframe of a source whose destination has split a page: %r' % wires
-    page.begin(NOTED)
-    page.value('show(3)')
-    shown = page.value('[...$("nodes").querySelectorAll("dt, dd")].map(part => part.textContent.trim())')
-    if shown != ['node A', 'low keys 0 page 0', 'has asked for no page', 'node B', 'low keys no wireframe', 'has asked for no page']:
-        yield 'shown: %r' % shown
+    """What is wrong with the wireframes and the pages that were asked for, and with whom the next choices would wait for."""
+    page.begin(MOVED)
+    for position, *wanted in NODES:
+        page.value('show(%d)' % position)
+        page.wait('wireframes.has(textHere())')
+        shown = page.value(SHOWN_NODES)
+        if shown != ['node A', 'low keys ' + wanted[0], 'has asked for ' + wanted[1], 'node B', 'low keys ' + wanted[2], 'has asked for ' + wanted[3]]:
+            yield 'at %d: %r' % (position, shown)
+    # Of 30 rows each has a page; the first page begins at 0.
+    page.begin('zephyr 1\ncap 2\npages 30\nrule held\n' + ''.join('row %d 1\n' % (10 * row) for row in range(1, 31)) + 'end\n')
+    page.wait('wireframes.has(textHere())')
+    shown = page.value(SHOWN_NODES)
+    if not re.fullmatch(r'low keys 0 page 0 20 page 1 .* 240 page 23 and 6 more', shown[1]):
+        yield 'of 30 pages: %r' % shown[1]
     page.begin(DEADLOCK.replace('end\n', 'C begin 0\nC begin 1\nA run 0 x 4\nA run 1 x 4\nend\n'))
     shown = page.value('[...$("waits").querySelectorAll("li")].map(part => part.textContent)')
     if shown != ['A run up waits for page 1, locked at A by transaction 1 down (exclusive)',
                  'A run down waits for page 0, locked at A by transaction 0 up (exclusive)']:
         yield 'what waits: %r' % shown
-
-
-def probed(text, position, node, key):
-    """What comes of a read of a key at a node by a transaction that begins at a position: its outcome, or the page that it locks."""
-    choices = first_choices(text, position).split('\n')[len(head(text)):-2] + ['C begin probe'] + ['%s run probe' % node] * 2
-    lines = head(text) + ['txn probe', 'set r0 %d' % key, 'read r1 r0', 'commit'] + choices + ['end', '']
-    last = zy_bench(['trace'], '\n'.join(lines).encode()).split('\nfinal\n')[0].split('\n%d ' % (len(choices)))[-1]
-    number = sum(line.startswith('txn ') for line in head(text))
-    locked = re.search(r'\n  page (\d+) .* locks.* %s:%d:s' % (node, number), last)
-    return 'locks ' + locked.group(1) if locked else re.search(r' -> ([^!\n]*[^!\n ])', last).group(1)
 
 
 def branches(page):
@@ -434,7 +428,7 @@ BESIDE = ('[$("beside").querySelector("h2").textContent, ...[...$("beside").quer
 def full(page):
     """What is wrong with as many choices as there may be, and with one more."""
     page.begin(NOTED.replace('C start\nend', 'A take x 4093\nend'))
-    page.wait('document.querySelectorAll(".choice.still").length > 4')
+    page.wait('document.querySelectorAll(".choice.still").length > 4 && wireframes.has(textHere())')
     steps, rows = page.value('[D.last, D.overview.rows]')
     found = [] if steps == 4096 and rows < 20 else ['4096 choices: %d in %d rows' % (steps, rows)]
     page.type(NOTED.replace('C start\nend', 'A take x 4094\nend'))

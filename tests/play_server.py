@@ -85,6 +85,8 @@ def questions():
             ('outcomes: %r' % after, [(one['outcome'], one['acts']) for one in after] == [(outcome, acts) for _, outcome, acts in NEXT]),
             ('until it ends', play.ask('/until', begun, choice='A run 0') == {'added': ['A run 0'] * 3}),
             ('a transaction that is not there', 'fault' in play.ask('/until', SMALLEST, choice='A run 7')),
+            ('the nodes', play.ask('/nodes', NOTED) == {'A': {'lows': [0], 'asked': []}, 'B': {'lows': [], 'asked': []}}),
+            ('the nodes of no scenario', 'fault' in play.ask('/nodes', NOTED[1:])),
             ('a migration', play.ask('/migrate', SMALLEST) == {'added': MIGRATION, 'words': ''}),
             ('a listing', play.ask('/save', NOTED, **{'as': 'listing'})['file'] == zy_bench(['run'], NOTED.encode()))) if not is_right]
 

@@ -29,6 +29,12 @@ def head(text):
     return lines[:next(n for n, line in enumerate(lines) if line.split(';')[0].split()[:1] in (['A'], ['B'], ['C'], ['end']))]
 
 
+def part_of(text):
+    """A scenario through its line `end`, without what is below it."""
+    lines = text.split('\n')
+    return '\n'.join(lines[:lines.index('end') + 1] + [''])
+
+
 def bare(text):
     """A scenario without its choices."""
     return '\n'.join(head(text) + ['end', ''])
