@@ -329,19 +329,19 @@ async function makeAnswered(path, body) {
 const runUntil = guarded(choice => makeAnswered('until', {text: textHere(), choice}));
 const migrate = guarded(() => makeAnswered('migrate', {text: textHere()}));
 
-// A click is not taken that soon after another one at the same place hits another choice: it was meant for the one that was there.
+// A click is not taken that soon after another one at the same place hits another choice, or what makes many: it was meant for what was there.
 const SOON = 400, NEAR = 12;            // in milliseconds, and in pixels
 let offered = '', changedAt = 0;        // the choices that are offered, and since when
 let clicked = {x: 0, y: 0, meant: '', time: -SOON};
 
 function isStray({clientX: x, clientY: y, timeStamp: time}, meant) {
-  const isThere = Math.abs(x - clicked.x) < NEAR && Math.abs(y - clicked.y) < NEAR;
-  return isThere && meant !== clicked.meant && time - Math.max(clicked.time, changedAt) < SOON;
+  const isThere = Math.abs(x - clicked.x) < NEAR && Math.abs(y - clicked.y) < NEAR, isSame = meant && meant === clicked.meant;
+  return isThere && !isSame && time - Math.max(clicked.time, changedAt) < SOON;
 }
-$('lanes').addEventListener('click', event => {
-  const button = event.target.closest('button');
+$('next').addEventListener('click', event => {
+  const button = event.target.closest('.choice, .until, #migrate');
   if (!button || !event.detail) return;  // a key has made it
-  const meant = button.dataset.choice || '» ' + button.dataset.until, isLost = isStray(event, meant);
+  const meant = button.dataset.choice || '', isLost = isStray(event, meant);
   if (isLost) event.stopPropagation();
   clicked = {x: event.clientX, y: event.clientY, meant: isLost ? clicked.meant : meant, time: event.timeStamp};
 }, true);
