@@ -110,6 +110,7 @@ async function setText(text, at) {
     put({same: run.verdict[0][1]});
     drawTree();
     load(run, at);
+    $('chips').querySelectorAll('.chip').forEach(explained);
   } finally {
     if (mine === question) busy = false;
   }
@@ -123,6 +124,8 @@ function showFault(fault) {
 }
 onShow = () => {
   if (!busy) doc.at = now;
+  hideTip();
+  $('now').querySelectorAll('.col>b i').forEach(explained);
   markStep();
   drawFound();
   drawVerdict();
@@ -261,10 +264,16 @@ function choiceButton(choice, outcome) {
   const button = el('button', `choice ${action} ${look}`, ...parts);
   button.dataset.choice = choice;
   button.ariaLabel = [action + whom, about(choice), outcome && outcome.outcome, outcome && !outcome.acts && 'changes nothing'].filter(word => word).join(', ');
-  button.title = outcome ? [outcome.says, outcome.waits].join('\n').trim() : '';
+  if (outcome) explainOutcome(button, outcome);
   button.tabIndex = -1;
   button.onclick = event => event.shiftKey && action === 'run' ? runUntil(choice) : guarded(make)([choice]);
   return action === 'run' ? el('div', 'pair', button, untilButton(choice)) : button;
+}
+// What an outcome means, what it sends and whom it waits for; the lines of the state that it changes are in the tip alone.
+function explainOutcome(button, {outcome, says, waits}) {
+  const [meaning, ...lines] = says.split('\n'), wait = waits && waits[0].toUpperCase() + waits.slice(1) + '.';
+  const sentence = [meaning, sentBy(outcome), wait].filter(words => words).join(' ');
+  explain(button, [sentence, ...lines].join('\n'), sentence);
 }
 function untilButton(choice) {
   const button = el('button', 'until', '»');
@@ -277,7 +286,7 @@ function untilButton(choice) {
 }
 function laneOf(actor, choices, outcomeOf) {
   const head = el('h3', actor, actor === 'C' ? 'client' : 'node ' + actor);
-  if (actor !== 'C') head.append(modeChip(actor, now));
+  if (actor !== 'C') head.append(explained(modeChip(actor, now)));
   const lane = el('div', 'lane', head, ...choices.map(choice => choiceButton(choice, outcomeOf(choice))));
   lane.setAttribute('role', 'group');
   lane.ariaLabel = actor === 'C' ? 'choices of the client' : `choices of node ${actor}`;
