@@ -289,7 +289,7 @@ def opened():
 def unbuilt():
     """What is wrong with what is said first in a tree where the program is not built, and that nothing is said where it is."""
     with tempfile.TemporaryDirectory() as work:
-        for name in ('tools', 'examples'):
+        for name in ('tools', 'examples', 'docs'):
             shutil.copytree(os.path.join(TOP, name), os.path.join(work, name), ignore=shutil.ignore_patterns('__pycache__'))
         shutil.copy(ZPLAY, work)
         os.makedirs(os.path.join(work, 'crates', 'zy_bench', 'out'))
