@@ -362,6 +362,11 @@ def words(page):
         shown = page.rest(selector)
         if shown != wanted:
             yield 'at %s: %r' % (selector, shown)
+    page.value('$("view").focus()')
+    page.rest('#lanes h3 i')
+    page.key('Escape')
+    if not page.value('$("tip").hidden'):
+        yield 'Esc does not take it away'
     page.key('a')
     page.key('ArrowDown')
     shown = page.tip()
@@ -420,6 +425,7 @@ def scenarios(page):
         page.key(key, key)
         page.wait()
         right('after ' + key, 'document.title', title + ' · zplay')
+        right('the entries after ' + key, '[...document.querySelectorAll("#example .own")].map(entry => entry.text).join()', '' if key == 'u' else title)
     right('the name of a file', '%s.then(file => file[0])' % (SAVED % 'scenario'), 'your own text.zephyr')
     page.value('show(2)')
     page.wait()
