@@ -5,10 +5,11 @@ import os
 import re
 import subprocess
 import tempfile
+import time
 
 import firefox
-from case import EXAMPLES, PROGRAM, content
-from playing import ANOMALY, DEADLOCK, HELD, MIGRATION, NOTED, SMALLEST, VERDICTS, ZVIEW, Page, Play, bare, first_choices, head, loops, steps_of, zy_bench
+from case import CASES, EXAMPLES, PROGRAM, content
+from playing import ANOMALY, DEADLOCK, HELD, MIGRATION, NOTED, SMALLEST, VERDICTS, ZVIEW, Page, Play, bare, head, loops, part_of, steps_of, zy_bench
 
 # Clicks choices, one after the other: for each what its button showed, and whether it was grey; null where there was none.
 CLICKED = '''(async choices => {
@@ -197,7 +198,7 @@ def messages(page):
     page.wait('$("note").textContent')
     right('what is said of a link', 'note', ".*whole run.*[.]/zplay 'LINK'")
     page.begin(NOTED)
-    right('a note, once the example is another one', 'note', '')
+    right('a note, once the example is another one', 'note', 'your own text with its 2 branches is put aside; undo brings it back')
     return found + (['the goal is still marked'] if page.value('$("goal").hasAttribute("aria-invalid")') else [])
 
 
@@ -290,70 +291,191 @@ def keys(page):
     return [] if made.endswith('C begin reader\nA run reader x 2\nC start\nend\n') and position == 3 else ['%r at %d' % (made, position)]
 
 
+# Lets the next click come a while after the last one, or at once, however long the page has taken.
+AFTER_A_WHILE, AT_ONCE = 'clicked.time = changedAt = -SOON', 'clicked.time = performance.now()'
+
+
 def twice(page):
     """What is wrong where a choice is clicked twice at the same place, or Enter is pressed twice at it."""
     found, wanted = [], ['C begin reader', 'A run reader']
     for act in ('const x = it.getBoundingClientRect(); return [x.left + 12, x.top + 8]', 'it.focus()'):
         page.begin(bare(ANOMALY))
         place = page.value('(it => { %s })(document.querySelector("[data-choice=\'C begin 0\']"))' % act)
-        for _ in range(2):
+        for when in (AFTER_A_WHILE, AT_ONCE):
+            page.value(when)
             page.click(*place) if place else page.key('Enter', '\r')
             page.wait()
         made = page.text().split('\n')[len(head(ANOMALY)):-2]
         found += [] if made == wanted[:1 if place else 2] else ['%s: %r' % ('clicks' if place else 'keys', made)]
-    page.choice('A run 0')
-    page.choice('A run 0')
-    page.value('document.querySelector("[data-choice=\'C kill 0\']").focus()')
-    page.key('Enter', '\r')
-    page.wait()
-    if page.value('document.activeElement.id') != 'view' or page.value('scheduleOf(doc.text).choices.length') != 5:
-        found.append('behind a kill the focus is at %r' % page.value('document.activeElement.outerHTML.slice(0, 90)'))
+    return found + many_twice(page) + killed(page)
+
+
+def many_twice(page):
+    """What is wrong where what makes many choices is clicked twice at the same place."""
+    found = []
+    pulls = bare(NOTED).replace('end\n', 'C start\nB take\nA take\nB take\nC begin reader\nend\n')
+    for text, selector, wanted in ((SMALLEST.replace('zephyr 1', 'zephyr 2'), '#migrate', len(MIGRATION)), (pulls, '.until', 7)):
+        page.begin(text)
+        place = page.value('(it => { %s })(document.querySelector("%s"))' % ('const x = it.getBoundingClientRect(); return [x.left + 9, x.top + 8]', selector))
+        for when in (AFTER_A_WHILE, AT_ONCE):
+            page.value(when)
+            page.click(*place)
+            page.wait('D.last >= %d && !busy && known.has(textHere())' % wanted)
+        time.sleep(0.3)
+        page.wait()
+        made = page.value('D.last')
+        found += [] if made == wanted else ['%s: %d choices' % (selector, made)]
     return found
 
 
-def nodes(page):
-    """What is wrong with the wireframes and the pages that were asked for, at each position of some runs, and how they are shown."""
-    seen = set()
-    for name in ('sum_pulls_page_after_page', 'splits', 'held', 'there_and_back', 'stale'):
-        text = content(os.path.join(EXAMPLES, name + '.zephyr')).decode()
-        page.begin(text)
-        for position in range(page.value('D.last') + 1):
-            for node in 'AB':
-                wires, asked = page.value('[wireframe("%s", %d), askedFor("%s", %d)]' % (node, position, node, position))
-                for key in [low for low, _ in wires] + [low - 1 for low, _ in wires if low]:
-                    outcome, wanted = probed(text, position, node, key), max((low, number) for low, number in wires if low <= key)[1]
-                    seen.add(outcome.split()[0])
-                    # A page that is here is asked for no more.
-                    known = ['%s %d' % (word, wanted) for word in (['awaits'] if wanted in asked else ['pulls', 'locks', 'waits'])]
-                    if outcome not in ['elsewhere', 'notyet'] + known:
-                        yield '%s at %d, node %s: key %d %s, shown are %r and %r' % (name, position, node, key, outcome, wires, asked)
-    if not {'pulls', 'awaits', 'locks'} <= seen:
-        yield 'there was no %s' % ({'pulls', 'awaits', 'locks'} - seen)
-    splits = bare(content(os.path.join(EXAMPLES, 'splits.zephyr')).decode())
-    page.begin(splits.replace('end\n', '\n'.join(MIGRATION[:-1] + ['C begin 0', 'B run 0 x 20', 'end', ''])))
-    wires = page.value('[wireframe("A", now), wireframe("B", now).length > 1, at(D.modes.A, now)[1]]')
-    if wires != [[[0, 0]], True, 'sfinish']:
-        yield 'the wireframe of a source whose destination has split a page: %r' % wires
+def killed(page):
+    """What is wrong with the focus behind a kill."""
+    page.begin(bare(ANOMALY).replace('end\n', 'C begin reader\nA run reader x 3\nend\n'))
+    page.value('document.querySelector("[data-choice=\'C kill 0\']").focus()')
+    page.key('Enter', '\r')
+    page.wait()
+    is_right = page.value('document.activeElement.id') == 'view' and page.value('scheduleOf(doc.text).choices.length') == 5
+    return [] if is_right else ['behind a kill the focus is at %r' % page.value('document.activeElement.outerHTML.slice(0, 90)')]
+
+
+# Page 0 is split before a migration, so that the key of page 2 is below that of page 1. Pages 1 and 0 are asked for; page 1 comes, and pages 0 and 2 are
+# pushed.
+MOVED = part_of(content(os.path.join(CASES, 'debug-node', 'stdin')).decode())
+
+# What the nodes have after some of its steps, by docs/step-table.md: of A and of B the low keys, and the pages that were asked for.
+NODES = [(0, '0 page 0 30 page 1', 'no page', 'no wireframe', 'no page'),
+         (5, '0 page 0 15 page 2 30 page 1', 'no page', 'no wireframe', 'no page'),
+         (9, '0 page 0 15 page 2 30 page 1', 'no page', '0 page 0 15 page 2 30 page 1', 'no page'),
+         (15, '0 page 0 15 page 2 30 page 1', 'no page', '0 page 0 15 page 2 30 page 1', 'page 1'),
+         (18, '0 page 0 15 page 2 30 page 1', 'no page', '0 page 0 15 page 2 30 page 1', 'page 0 page 1'),
+         (20, '0 page 0 15 page 2 30 page 1', 'no page', '0 page 0 15 page 2 30 page 1', 'page 0'),
+         (26, '0 page 0 15 page 2 30 page 1', 'no page', '0 page 0 15 page 2 30 page 1', 'no page'),
+         (28, 'no wireframe', 'no page', '0 page 0 15 page 2 30 page 1', 'no page')]
+
+SHOWN_NODES = '[...$("nodes").querySelectorAll("dt, dd")].map(part => part.textContent.trim())'
+
+
+def words(page):
+    """What is wrong with what words mean, where the pointer or the focus rests on them, for a screen reader, and in the list of them."""
     page.begin(NOTED)
-    page.value('show(3)')
-    shown = page.value('[...$("nodes").querySelectorAll("dt, dd")].map(part => part.textContent.trim())')
-    if shown != ['node A', 'low keys 0 page 0', 'has asked for no page', 'node B', 'low keys no wireframe', 'has asked for no page']:
-        yield 'shown: %r' % shown
+    for selector, wanted in TIPS.items():
+        shown = page.rest(selector)
+        if shown != wanted:
+            yield 'at %s: %r' % (selector, shown)
+    page.value('$("view").focus()')
+    page.rest('#lanes h3 i')
+    page.key('Escape')
+    if not page.value('$("tip").hidden'):
+        yield 'Esc does not take it away'
+    page.key('a')
+    page.key('ArrowDown')
+    shown = page.tip()
+    page.key('Escape')
+    if shown != 'The link was empty.' or not page.value('$("tip").hidden'):
+        yield 'by keys: %r' % shown
+    page.key('e')
+    page.value('document.querySelector("#lanes h3 i").focus()')
+    if page.tip() != 'a source that has sent its wireframe':
+        yield 'at a mode that has the focus: %r' % page.tip()
+    page.call('Accessibility.enable')
+    told = [(node['name']['value'], node.get('description', {}).get('value')) for node in page.call('Accessibility.getFullAXTree')['nodes']
+            if node.get('name') and not node.get('ignored')]
+    page.call('Accessibility.disable')
+    for name, meaning in TOLD:
+        if (name, meaning) not in told:
+            yield 'a screen reader does not say of %s: %s' % (name, meaning)
+    listed = page.value('[...$("legend").querySelectorAll("dt")].map(word => word.textContent)')
+    missing = {'cap', 'pages', 'rule held', 'rule loose', '!', 'badmode', 'normal', 'empty', *('sinit sdual sfinish dinit ddual dfinish'.split())} - set(listed)
+    if missing or page.value('[...$("legend").querySelectorAll("dd")].some(meaning => meaning.textContent.length < 10)'):
+        yield 'the list of words lacks %r' % missing
+    page.begin(NOTED.replace('held', 'loose'))
+    shown = page.rest('#chips .chip:nth-child(2)')
+    if not shown.startswith('a page that is asked for is handed over'):
+        yield 'of loose: %r' % shown
+
+
+# What some words mean behind NOTED, by docs/glossary.md, docs/formats.md and what its next choices come to.
+TIPS = {'#chips .chip:nth-child(3)': 'the most rows of a page',
+        '#chips .chip:nth-child(2)': 'a page that a transaction at the source has locked is not handed over before the lock is dropped',
+        '.choice[data-choice="B push"]': 'A node is in a mode in which this is not done.',
+        '.choice[data-choice="B take"]': 'That message was taken. It sends the message ready.\nmode B dinit\nlink AB\nlink BA ready',
+        '#rows .band.sinit': 'a source that has sent its wireframe'}
+
+TOLD = [('cap 4', 'the most rows of a page'), ('take, nomessage, changes nothing', 'The link was empty.'),
+        ('sinit', 'a source that has sent its wireframe'), ('take, wire, got wire ! ready', 'That message was taken. It sends the message ready.')]
+
+
+def scenarios(page):
+    """What is wrong with the names of scenarios, and with what is put aside."""
+    found = []
+
+    def right(words, code, wanted):
+        shown = page.value(code)
+        found.extend([] if shown == wanted else ['%s: %r, wanted %r' % (words, shown, wanted)])
+    page.begin(SMALLEST)
+    choose(page, 'held')
+    page.wait()
+    choose(page, 'splits')
+    page.wait()
+    right('an example as it comes', NAMED, ['splits · zplay', 'splits', ''])
+    page.type(NOTED)
+    right('a text that is typed', NAMED, ['your own text · zplay', 'own your own text', ''])
+    page.value('$("view").focus()')
+    for key, title in (('u', 'splits'), ('r', 'your own text')):
+        page.key(key, key)
+        page.wait()
+        right('after ' + key, 'document.title', title + ' · zplay')
+        right('the entries after ' + key, '[...document.querySelectorAll("#example .own")].map(entry => entry.text).join()', '' if key == 'u' else title)
+    right('the name of a file', '%s.then(file => file[0])' % (SAVED % 'scenario'), 'your own text.zephyr')
+    page.value('show(2)')
+    page.wait()
+    page.choice('C kill 0')
+    choose(page, 'held')
+    page.wait('document.title === "held · zplay" && !busy')
+    right('another example', NAMED, ['held · zplay', 'held', 'your own text with its 2 branches is put aside; undo brings it back'])
+    page.value('$("view").focus()')
+    page.key('u', 'u')
+    page.wait()
+    right('what is brought back', '[document.title, branches.length]', ['your own text · zplay', 2])
+    choose(page, '/new')
+    page.wait('document.title.startsWith("your own text 2") && !busy')
+    right('a new one', '[D.last, $("fault").textContent, scheduleOf(doc.text).choices.length]', [0, '', 0])
+    page.wait()
+    right('its first choice', '!!document.querySelector("[data-choice=\'C begin 0\']")', True)
+    choose(page, 'own your own text')
+    page.wait('document.title === "your own text · zplay" && !busy')
+    right('the text of one\'s own', 'doc.text.includes("C kill") && doc.text.startsWith("zephyr 1")', True)
+    page.value('beginOwn(%s, "held")' % json.dumps(SMALLEST))
+    page.wait('document.title === "held (yours) · zplay" && !busy')
+    choose(page, 'held')
+    page.wait('document.title === "held · zplay" && !busy')
+    right('an example with the name of a file', 'doc.text === given.examples.held', True)
+    return found
+
+
+NAMED = '[document.title, $("example").value, $("note").textContent]'
+
+
+def nodes(page):
+    """What is wrong with the wireframes and the pages that were asked for, and with whom the next choices would wait for."""
+    page.begin(MOVED)
+    for position, *wanted in NODES:
+        page.value('show(%d)' % position)
+        page.wait('wireframes.has(textHere())')
+        shown = page.value(SHOWN_NODES)
+        if shown != ['node A', 'low keys ' + wanted[0], 'has asked for ' + wanted[1], 'node B', 'low keys ' + wanted[2], 'has asked for ' + wanted[3]]:
+            yield 'at %d: %r' % (position, shown)
+    # Of 30 rows each has a page; the first page begins at 0.
+    page.begin('zephyr 1\ncap 2\npages 30\nrule held\n' + ''.join('row %d 1\n' % (10 * row) for row in range(1, 31)) + 'end\n')
+    page.wait('wireframes.has(textHere())')
+    shown = page.value(SHOWN_NODES)
+    if not re.fullmatch(r'low keys 0 page 0 20 page 1 .* 240 page 23 and 6 more', shown[1]):
+        yield 'of 30 pages: %r' % shown[1]
     page.begin(DEADLOCK.replace('end\n', 'C begin 0\nC begin 1\nA run 0 x 4\nA run 1 x 4\nend\n'))
     shown = page.value('[...$("waits").querySelectorAll("li")].map(part => part.textContent)')
     if shown != ['A run up waits for page 1, locked at A by transaction 1 down (exclusive)',
                  'A run down waits for page 0, locked at A by transaction 0 up (exclusive)']:
         yield 'what waits: %r' % shown
-
-
-def probed(text, position, node, key):
-    """What comes of a read of a key at a node by a transaction that begins at a position: its outcome, or the page that it locks."""
-    choices = first_choices(text, position).split('\n')[len(head(text)):-2] + ['C begin probe'] + ['%s run probe' % node] * 2
-    lines = head(text) + ['txn probe', 'set r0 %d' % key, 'read r1 r0', 'commit'] + choices + ['end', '']
-    last = zy_bench(['trace'], '\n'.join(lines).encode()).split('\nfinal\n')[0].split('\n%d ' % (len(choices)))[-1]
-    number = sum(line.startswith('txn ') for line in head(text))
-    locked = re.search(r'\n  page (\d+) .* locks.* %s:%d:s' % (node, number), last)
-    return 'locks ' + locked.group(1) if locked else re.search(r' -> ([^!\n]*[^!\n ])', last).group(1)
 
 
 def branches(page):
@@ -420,7 +542,7 @@ def branches(page):
     page.begin(SMALLEST, 'another')
     page.value('undo(past, future)')
     page.wait()
-    right('undo of another scenario', '[document.title, branches.length]', ['x · zplay', 2])
+    right('undo of another scenario', '[document.title, branches.length]', ['your own text · zplay', 2])
     return found
 
 
@@ -434,7 +556,7 @@ BESIDE = ('[$("beside").querySelector("h2").textContent, ...[...$("beside").quer
 def full(page):
     """What is wrong with as many choices as there may be, and with one more."""
     page.begin(NOTED.replace('C start\nend', 'A take x 4093\nend'))
-    page.wait('document.querySelectorAll(".choice.still").length > 4')
+    page.wait('document.querySelectorAll(".choice.still").length > 4 && wireframes.has(textHere())')
     steps, rows = page.value('[D.last, D.overview.rows]')
     found = [] if steps == 4096 and rows < 20 else ['4096 choices: %d in %d rows' % (steps, rows)]
     page.type(NOTED.replace('C start\nend', 'A take x 4094\nend'))
@@ -477,6 +599,11 @@ def narrow(page):
                 yield '%d to %d: %s has %d to %d' % (width, height, part, *room)
         if not page.value(READABLE):
             yield '%d to %d: the goals text cannot be read' % (width, height)
+    page.call('Emulation.setDeviceMetricsOverride', width=480, height=900, deviceScaleFactor=1, mobile=False)
+    page.begin(NOTED)
+    empty = page.value('$("view").getBoundingClientRect().bottom - $("below").getBoundingClientRect().bottom')
+    if not 0 <= empty < 40:
+        yield '480 wide: below a short picture are %d pixels' % empty
     page.call('Emulation.clearDeviceMetricsOverride')
 
 
@@ -508,6 +635,11 @@ def read_aloud(page):
         yield 'after a click is said %r' % said
 
 
+def choose(page, value):
+    """Chooses a scenario."""
+    page.value('{ $("example").value = "%s"; $("example").onchange({target: $("example")}); }' % value)
+
+
 def named():
     """What is wrong with a file, and with the address of another page, on the command line."""
     with tempfile.TemporaryDirectory() as work:
@@ -517,9 +649,9 @@ def named():
         with Play(path) as play:
             page = Page(play.address)
             found = [] if (page.text(), page.value('document.title')) == (NOTED, 'my run · zplay') else ['a file: %r' % page.text()]
-            page.value('$("example").value = "held"; $("example").onchange({target: $("example")})')
+            choose(page, 'held')
             page.wait('$("example").value === "held" && D.lines.length > 17 && !busy')
-            page.value('$("example").value = ""; $("example").onchange({target: $("example")})')
+            choose(page, 'own my run')
             page.wait('document.title === "my run · zplay" && D.last === 4 && !busy')
             page.value('show(1)')
             page.value('store()')
@@ -536,31 +668,82 @@ def named():
 DAMAGED = '[$("fault").textContent.startsWith("the link is damaged"), $("text").value, document.title, !!D]'
 
 
-def cut_short():
-    """What is wrong with a link that is cut short, where no run is shown yet and where one is."""
+def sum_of(letters):
+    """The checksum of a link: FNV-1a of 32 bits, in 7 digits and letters."""
+    value = 0x811c9dc5
+    for letter in letters.encode():
+        value = (value ^ letter) * 0x01000193 % (1 << 32)
+    digits = ''
+    while value or len(digits) < 7:
+        value, digit = divmod(value, 36)
+        digits = '0123456789abcdefghijklmnopqrstuvwxyz'[digit] + digits
+    return digits
+
+
+def damages(run, checksum):
+    """What follows the # of links that are damaged: cut short, or with a letter changed, put in or left out."""
+    word, many = '%s.%s' % (run, checksum), len(run) + 8
+    yield from (word[:-9], word[:-3], '7', '7.x', run + '.', '1' + word)
+    for place in (*range(0, len(run), max(1, len(run) // 12)), *range(len(run) + 1, many)):
+        yield word[:place] + ('1' if word[place] != '1' else '2') + word[place + 1:]
+        yield word[:place] + word[place + 1:]
+
+
+def links():
+    """What is wrong with links: damaged ones, where no run is shown yet and where one is; one without a checksum; and names of what comes by one."""
     found = []
     with Play() as play:
         page = Page(play.address)
         page.value('store()')
         address, text, title = page.value('[location.href, doc.text, document.title]')
-        for damaged in (address[:-9], address.partition('#')[0] + '#7', address.partition('#')[0] + '#7.x'):
+        start, _, word = address.partition('#')
+        run, _, checksum = word.rpartition('.')
+        found += [] if checksum == sum_of(run) else ['the checksum is %s' % checksum]
+        unread = [damaged for damaged in damages(run, checksum) if page.value('linked(%s)' % json.dumps('#' + damaged))]
+        found += ['a damaged link is read: %s' % damaged for damaged in unread]
+        for damaged in (word[:-9], '7'):
             page.go('about:blank')
-            page.go(damaged)
+            page.go(start + '#' + damaged)
             page.wait('$("fault").textContent')
             shown = page.value(DAMAGED)
             found += [] if shown == [True, '', 'zplay', False] else ['%s: %r' % (damaged[-12:], shown)]
         page.type(SMALLEST)
         page.wait()
-        found += [] if page.value('[D.last, $("fault").textContent]') == [0, ''] else ['a text that is typed instead is not run']
+        shown = page.value('[D.last, $("fault").textContent, document.title]')
+        found += [] if shown == [0, '', 'your own text · zplay'] else ['a text that is typed instead: %r' % shown]
         page.go('about:blank')
-        page.go(address)
+        page.go(start + '#' + run)
         page.wait()
+        shown = page.value('[doc.text, document.title, location.hash]')
+        found += [] if shown[:2] == [text, title] else ['without a checksum: %r' % shown]
         page.value('location.hash = location.hash.slice(0, -9)')
         page.wait('$("fault").textContent && location.href === %s' % json.dumps(address))
         shown = page.value(DAMAGED)
         found += [] if shown == [True, text, title, True] else ['behind a run: %r' % shown]
+        found += arrived(page)
         page.close()
     return found
+
+
+def arrived(page):
+    """What is wrong with the name of a run that comes by a link where another one is shown, with undo there, and where the page is loaded again."""
+    page.type(NOTED)
+    page.value('store()')
+    link = page.value('location.hash')
+    page.begin(SMALLEST, 'x')
+    page.value('store()')
+    page.value('location.hash = %s' % json.dumps(link))
+    page.wait('doc.text === %s && !busy' % json.dumps(NOTED))
+    names = [page.value('document.title + $("note").textContent')]
+    page.value('$("view").focus()')
+    page.key('u', 'u')
+    page.wait('doc.text === %s && !busy' % json.dumps(SMALLEST))
+    page.type(SMALLEST.replace('cap 2', 'cap 3'))
+    page.value('store()')
+    page.call('Page.reload')
+    page.wait('typeof D === "object" && D && document.title !== "anomaly · zplay"')
+    names.append(page.value('document.title'))
+    return [] if names == ['from a link · zplayx is put aside; undo brings it back', 'your own text · zplay'] else ['names: %r' % names]
 
 
 # Whether the verdict and the outcomes of the next choices are shown, and the words in some places of the page, without the names of its script.

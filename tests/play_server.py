@@ -85,6 +85,8 @@ def questions():
             ('outcomes: %r' % after, [(one['outcome'], one['acts']) for one in after] == [(outcome, acts) for _, outcome, acts in NEXT]),
             ('until it ends', play.ask('/until', begun, choice='A run 0') == {'added': ['A run 0'] * 3}),
             ('a transaction that is not there', 'fault' in play.ask('/until', SMALLEST, choice='A run 7')),
+            ('the nodes', play.ask('/nodes', NOTED) == {'A': {'lows': [0], 'asked': []}, 'B': {'lows': [], 'asked': []}}),
+            ('the nodes of no scenario', 'fault' in play.ask('/nodes', NOTED[1:])),
             ('a migration', play.ask('/migrate', SMALLEST) == {'added': MIGRATION, 'words': ''}),
             ('a listing', play.ask('/save', NOTED, **{'as': 'listing'})['file'] == zy_bench(['run'], NOTED.encode()))) if not is_right]
 
@@ -287,7 +289,7 @@ def opened():
 def unbuilt():
     """What is wrong with what is said first in a tree where the program is not built, and that nothing is said where it is."""
     with tempfile.TemporaryDirectory() as work:
-        for name in ('tools', 'examples'):
+        for name in ('tools', 'examples', 'docs'):
             shutil.copytree(os.path.join(TOP, name), os.path.join(work, name), ignore=shutil.ignore_patterns('__pycache__'))
         shutil.copy(ZPLAY, work)
         os.makedirs(os.path.join(work, 'crates', 'zy_bench', 'out'))

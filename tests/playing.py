@@ -29,6 +29,12 @@ def head(text):
     return lines[:next(n for n, line in enumerate(lines) if line.split(';')[0].split()[:1] in (['A'], ['B'], ['C'], ['end']))]
 
 
+def part_of(text):
+    """A scenario through its line `end`, without what is below it."""
+    lines = text.split('\n')
+    return '\n'.join(lines[:lines.index('end') + 1] + [''])
+
+
 def bare(text):
     """A scenario without its choices."""
     return '\n'.join(head(text) + ['end', ''])
@@ -122,8 +128,8 @@ class Page(browser.Browser):
         return self.value('doc.text')
 
     def begin(self, text, name='x'):
-        """Takes another text."""
-        self.value('begin(%s, %s)' % (json.dumps(text), json.dumps(name)))
+        """Takes another text, which is named so; the user has no other one."""
+        self.value('own = new Map(); begin(%s, %s)' % (json.dumps(text), json.dumps(name)))
         self.wait()
 
     def type(self, text):
@@ -137,6 +143,18 @@ class Page(browser.Browser):
                           'const b = it.getBoundingClientRect(); return [b.left + 12, b.top + b.height / 2]; })()' % json.dumps(selector))
         self.click(x, y)
         self.wait()
+
+    def rest(self, selector):
+        """Moves the pointer to the middle of something, and gives the tip that comes there."""
+        place = self.value('(b => [b.left + b.width / 2, b.top + b.height / 2])(document.querySelector(%s).getBoundingClientRect())' % json.dumps(selector))
+        self.call('Input.dispatchMouseEvent', type='mouseMoved', x=1, y=1)
+        self.call('Input.dispatchMouseEvent', type='mouseMoved', x=place[0], y=place[1])
+        return self.tip()
+
+    def tip(self):
+        """The tip that is shown, once one comes."""
+        self.wait('!$("tip").hidden')
+        return self.value('$("tip").textContent')
 
     def choice(self, choice):
         """Clicks the button of a choice, and gives the outcome that it showed and whether it was grey; None where there is no button."""

@@ -84,11 +84,16 @@ def explained(words):
     return explained_outcome(words) or explained_outcome('aborted ' + words) or explained_mode(words)
 
 
-def explained_mode(mode):
-    """What docs/formats.md says of a mode."""
+def modes():
+    """What docs/formats.md says of each mode."""
     with open(FORMATS, encoding='utf-8') as file:
-        rows = rows_of(file.read(), '| Mode | Meaning |')
-        return [plain('%s: %s' % row) for row in map(tuple, rows) if row[0] == '`%s`' % mode]
+        return {plain(mode): plain(meaning) for mode, meaning in rows_of(file.read(), '| Mode | Meaning |')}
+
+
+def explained_mode(mode):
+    """What a mode is, as a line; none for what is no mode."""
+    known = modes()
+    return ['%s: %s' % (mode, known[mode])] if mode in known else []
 
 
 def explained_outcome(outcome):

@@ -3,6 +3,7 @@
 from bisect import bisect
 from collections import namedtuple
 from functools import lru_cache
+from itertools import islice
 
 import bench
 
@@ -44,6 +45,10 @@ class Timeline:
     def at(self, position):
         """What it is at a position."""
         return self.changes[bisect(self.changes, position, key=lambda change: change[0]) - 1][1]
+
+    def behind(self, position):
+        """The changes behind a position."""
+        return islice(self.changes, bisect(self.changes, position, key=lambda change: change[0]), None)
 
     def map(self, value_of):
         """The timeline of a part of it."""

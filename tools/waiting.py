@@ -1,6 +1,7 @@
 """Whom a step waits for: who has a lock that is in its way, or where the page is that is not here."""
 
 from collections import namedtuple
+from functools import lru_cache
 
 from runs import NODES, page_words
 
@@ -42,6 +43,33 @@ def wait_at(step, line, rows=''):
 def locks_at(place, locks):
     """Those of a page's locks that are at a node, each as its transaction and kind."""
     return [(int(txn), kind) for node, txn, kind in (lock.split(':') for lock in locks) if node == place]
+
+
+@lru_cache(1 << 14)
+def place_and_holders(line, node):
+    """Where a page is, and the transactions that have locks on it at a node."""
+    where, _, _, locks = page_words(line)
+    return where, {txn for txn, _ in locks_at(node, locks)}
+
+
+def is_free(step, line):
+    """Whether a page is at the node of a step that waits for it, and no other transaction has a lock on it there, by the page's line. Who waits to read
+    waits for an exclusive lock: where that is dropped there is no other one yet."""
+    where, holders = place_and_holders(line, step.actor)
+    return where == step.actor and not holders - {step.txn}
+
+
+def freed(run, step, last):
+    """The position, of those up to a last one, at which that has come for which a transaction's step waits: a page, a lock, or a node where it can run;
+    else the last one."""
+    page = page_of(step)
+    line = run.modes[step.actor] if page is None else run.pages[page]
+    for position, value in line.behind(step.number):
+        if last is not None and position >= last:
+            return last
+        if value != 'dinit' if page is None else is_free(step, value):
+            return position
+    return last
 
 
 def rows_of(run, step, tried):

@@ -59,8 +59,9 @@ def draw_modes(run, place, sheet):
             height = (place.height if end is None else place.y(end)) - top
             sheet.rect(0, 'tint ' + mode, place.left[node], top, place.right[node] - place.left[node], height)
             sheet.rect(1, 'band ' + mode, place.band(node), top, BAND, height)
-            for y in repeats(min(top + 15, place.height - 3), top + height - 8):
-                sheet.text('mode', place.band(node) + BAND / 2, y, mode)
+            is_short = height < ROW  # it begins in the last row
+            for y in repeats(top + (9 if is_short else 15), top + height - 8):
+                sheet.text('mode short' if is_short else 'mode', place.band(node) + BAND / 2, y, mode)
         sheet.line(2, 'life', place.line[node], 0, place.line[node], place.height)
 
 

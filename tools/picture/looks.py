@@ -1,5 +1,7 @@
 """How a step looks: the kind of its mark, and whether its transaction waits."""
 
+from waiting import freed
+
 LOOKS = {'did': 'did', 'began': 'begin', 'committed': 'ok', 'aborted': 'bad', 'waits': 'wait', 'awaits': 'wait', 'held': 'wait',
          'active': 'wait', 'notyet': 'wait', 'pulls': 'pull', 'split': 'split', 'got': 'take', 'stale': 'take', 'started': 'send',
          'finishing': 'send', 'pushed': 'send', 'stray': 'bad'}
@@ -14,17 +16,15 @@ def look_of(step):
 
 
 def stuck(run, life):
-    """The stretches in which a transaction waits: from a step that says so to its next one that does not, or to its end."""
-    start, found = None, []
-    for step in run.tries.get(life.txn, []):
-        if life.begin < step.number <= (life.end or step.number) and step.actor == life.node:
-            waits = step.outcome.split()[0] in STUCK
-            if waits and start is None:
-                start = step.number
-            elif not waits and start is not None:
-                found.append((start, step.number))
-                start = None
-    return found + ([(start, life.end)] if start is not None else [])
+    """The stretches in which a transaction waits: from a step that says so until that has come for which it waits, or to its next step that goes on,
+    or to its end."""
+    tries = [step for step in run.tries.get(life.txn, []) if life.begin < step.number <= (life.end or step.number) and step.actor == life.node]
+    found = []
+    for step, after in zip(tries, [step.number for step in tries[1:]] + [life.end]):
+        if step.outcome.split()[0] in STUCK:
+            start = found.pop()[0] if found and found[-1][1] == step.number else step.number
+            found.append((start, freed(run, step, after)))
+    return found
 
 
 def node_of(run, step):

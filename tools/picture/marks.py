@@ -2,7 +2,7 @@
 
 import math
 
-from picture.looks import look_of, node_of, stuck
+from picture.looks import look_of
 from picture.place import GAP, label_of, repeats
 from picture.sheet import num
 
@@ -15,7 +15,7 @@ def draw_life(run, place, sheet, life):
     look = {'c': 'ok', 'a': 'bad', '': 'open'}[life.outcome[:1]]
     title = '%s at %s: %s' % (run.name(life.txn), life.node, life.outcome or 'active to the end')
     sheet.rect(3, 'bar ' + look + thin, x - width / 2, top - 8, width, bottom - top + (8 if life.end is None else 16), width / 2, title)
-    for start, end in stuck(run, life):
+    for start, end in place.stuck[life.txn]:
         y, y2 = place.y(start) - 8, place.height if end is None else place.y(end) - 4
         sheet.rect(4, 'stuck', x - width / 2, y, width, max(16, y2 - y), min(4, width / 2))
     if pitch >= 14:

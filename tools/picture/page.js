@@ -221,7 +221,8 @@ function gloss(n) {
   const waits = D.waits[n] ? ' ' + D.waits[n] : '';
   const left = D.pages.map((_, p) => page(n, p)).filter(it => it && it.fresh && it.place.length > 1 && it.locks.length);
   const behind = left.map(it => ` Locks on page ${it.p} stay behind: ${it.locks.join(' ')}.`).join('');
-  return D.glosses[D.gloss[n - 1]] + (D.instrs[n] ? ` Tried: ${D.instrs[n]}.` : '') + waits + behind;
+  const [, sent] = D.lines[n].split(' ! '), sends = sent ? ` It sent the message ${sent}.` : '';
+  return D.glosses[D.gloss[n - 1]] + (D.instrs[n] ? ` Tried: ${D.instrs[n]}.` : '') + waits + sends + behind;
 }
 function notable(way) {
   const next = way > 0 ? D.marks.find(m => m > now) : D.marks.filter(m => m < now).pop();

@@ -2,7 +2,7 @@
 
 import math
 
-from picture.looks import look_of, node_of
+from picture.looks import look_of, node_of, stuck
 from picture.rows import row_text
 from runs import NODES
 
@@ -15,13 +15,15 @@ WIDE_PAGES = 24    # as many pages have a ribbon each
 
 
 class Place:
-    """The columns of the picture from left to right: the listing, the client, A, what is between, B, the pages."""
+    """The columns of the picture from left to right: the listing, the client, A, what is between, B, the pages; and the stretches of the bars that
+    wait."""
 
     def __init__(self, run, rows):
         self.rows, self.height = rows, len(rows.rows) * ROW
         self.place_text([row_text(run, *row) for row in rows.rows])
         self.slots = {node: slots_of([life for life in run.lives if life and life.node == node], len(run.steps)) for node in NODES}
         self.pitch = {node: max(4, min(22, 128 / self.slot_count(node))) for node in NODES}
+        self.stuck = {life.txn: stuck(run, life) for life in run.lives if life}
         self.place_nodes({node: max([6] + [len(label_of(run, step)) for step in run.steps if node_of(run, step) == node]) for node in NODES})
         self.pages = self.right['B'] + 26
         self.ribbon = 15 if len(run.pages) <= WIDE_PAGES else 96 / len(run.pages)

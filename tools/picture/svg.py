@@ -73,6 +73,7 @@ KEY = (('<rect class="bar ok" x="9" y="1" width="9" height="16" rx="4"/>', 'comm
        ('<path class="msg page" d="M1 9h20"/><path class="tip page" d="M26 9l-9 -4v8z"/>', 'a page moves'),
        ('<path class="msg ask" d="M1 9h20"/><path class="tip ask" d="M26 9l-8 -3v6z"/>', 'a page is asked for'),
        ('<path class="msg note" d="M1 9h20"/><path class="tip note" d="M26 9l-8 -3v6z"/>', 'another message'),
+       ('<text class="c" x="4" y="13">! m</text>', 'sends the message m'),
        ('<path class="kept" d="M13 1v16"/>', 'a message is held at the front'),
        ('<rect class="atA" x="7" y="1" width="12" height="16"/>', 'page at A'), ('<rect class="atAB" x="7" y="1" width="12" height="16"/>', 'on the way'),
        ('<rect class="atB" x="7" y="1" width="12" height="16"/>', 'at B'),

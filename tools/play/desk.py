@@ -89,10 +89,26 @@ def waits_of(text, steps):
     pages = sorted({page_of(step) for step in steps} - {None})
     if not pages:
         return [''] * len(steps)
-    commands = ['goto %d' % (steps[0].number - 1)] + ['page %d' % page for page in pages]
-    replies = bench.ask(['debug'], '\n'.join([bench.cut(text)[0].rstrip('\n'), *commands, '']).encode(**bench.BYTES), quiet=True)
-    lines, names = dict(zip(pages, replies[1:])), bench.names_of(text)
+    lines, names = dict(zip(pages, replied(text, ['page %d' % page for page in pages]))), bench.names_of(text)
     return [said(wait_at(step, lines[page_of(step)]), names) if page_of(step) in lines else '' for step in steps]
+
+
+def replied(text, commands):
+    """What the debugger replies to some commands at the end of a text, one line each."""
+    given = '\n'.join([bench.cut(text)[0].rstrip('\n'), 'cont', *commands, ''])
+    return bench.ask(['debug'], given.encode(**bench.BYTES), quiet=True)[1:]
+
+
+def nodes_of(asked):
+    """What the nodes have at the end of a text that is in no line of a trace."""
+    return {node: node_words(line) for node, line in zip(runs.NODES, replied(asked['text'], ['node ' + node for node in runs.NODES]))}
+
+
+def node_words(line):
+    """The low keys of a node's wireframe, by page number, and the pages that it has asked for; by what the debugger replies."""
+    words = line.split()
+    lows, requests = words.index('lows'), words.index('asked')
+    return {'lows': [int(low) for low in words[lows + 1:requests]], 'asked': [int(page) for page in words[requests + 1:]]}
 
 
 def until(asked):

@@ -1,7 +1,7 @@
 // The page of zplay: a text, the run of it (`D`, which page.js shows), and the choices that can be made next. What a step does is asked of
 // the server; here texts are changed and answers shown.
 const ACTORS = ['C', 'A', 'B'];
-let name = given.name;
+let name = '';                          // what the scenario is named
 let doc = {text: '', at: 0};            // the text, and the position that is wanted
 const past = [], future = [];           // what it was, and what it was before an undo
 let question = 0, busy = false;         // the number of the last question for a run, and whether its answer is still to come
@@ -110,6 +110,7 @@ async function setText(text, at) {
     put({same: run.verdict[0][1]});
     drawTree();
     load(run, at);
+    $('chips').querySelectorAll('.chip').forEach(explained);
   } finally {
     if (mine === question) busy = false;
   }
@@ -123,6 +124,8 @@ function showFault(fault) {
 }
 onShow = () => {
   if (!busy) doc.at = now;
+  hideTip();
+  $('now').querySelectorAll('.col>b i').forEach(explained);
   markStep();
   drawFound();
   drawVerdict();
@@ -131,8 +134,8 @@ onShow = () => {
   drawNext();
   storeSoon();
 };
-// What undo brings back: the text with its position, and the branches.
-const snapshot = () => ({doc: {...doc}, branches, current, name});
+// What undo brings back: the text with its position, the branches, and the texts of the user's own.
+const snapshot = () => ({doc: {...doc}, branches, current, name, own});
 function remember() {
   past.push(snapshot());
   future.length = 0;
@@ -174,7 +177,7 @@ function undo(from, to) {
   to.push(snapshot());
   note('');
   const before = from.pop();
-  ({branches, current, name} = before);
+  ({branches, current, name, own} = before);
   showName();
   drawUndo();
   return setText(before.doc.text, before.doc.at);
@@ -261,10 +264,16 @@ function choiceButton(choice, outcome) {
   const button = el('button', `choice ${action} ${look}`, ...parts);
   button.dataset.choice = choice;
   button.ariaLabel = [action + whom, about(choice), outcome && outcome.outcome, outcome && !outcome.acts && 'changes nothing'].filter(word => word).join(', ');
-  button.title = outcome ? [outcome.says, outcome.waits].join('\n').trim() : '';
+  if (outcome) explainOutcome(button, outcome);
   button.tabIndex = -1;
   button.onclick = event => event.shiftKey && action === 'run' ? runUntil(choice) : guarded(make)([choice]);
   return action === 'run' ? el('div', 'pair', button, untilButton(choice)) : button;
+}
+// What an outcome means, what it sends and whom it waits for; the lines of the state that it changes are in the tip alone.
+function explainOutcome(button, {outcome, says, waits}) {
+  const [meaning, ...lines] = says.split('\n'), wait = waits && waits[0].toUpperCase() + waits.slice(1) + '.';
+  const sentence = [meaning, sentBy(outcome), wait].filter(words => words).join(' ');
+  explain(button, [sentence, ...lines].join('\n'), sentence);
 }
 function untilButton(choice) {
   const button = el('button', 'until', '»');
@@ -277,7 +286,7 @@ function untilButton(choice) {
 }
 function laneOf(actor, choices, outcomeOf) {
   const head = el('h3', actor, actor === 'C' ? 'client' : 'node ' + actor);
-  if (actor !== 'C') head.append(modeChip(actor, now));
+  if (actor !== 'C') head.append(explained(modeChip(actor, now)));
   const lane = el('div', 'lane', head, ...choices.map(choice => choiceButton(choice, outcomeOf(choice))));
   lane.setAttribute('role', 'group');
   lane.ariaLabel = actor === 'C' ? 'choices of the client' : `choices of node ${actor}`;
@@ -329,19 +338,19 @@ async function makeAnswered(path, body) {
 const runUntil = guarded(choice => makeAnswered('until', {text: textHere(), choice}));
 const migrate = guarded(() => makeAnswered('migrate', {text: textHere()}));
 
-// A click is not taken that soon after another one at the same place hits another choice: it was meant for the one that was there.
+// A click is not taken that soon after another one at the same place hits another choice, or what makes many: it was meant for what was there.
 const SOON = 400, NEAR = 12;            // in milliseconds, and in pixels
 let offered = '', changedAt = 0;        // the choices that are offered, and since when
 let clicked = {x: 0, y: 0, meant: '', time: -SOON};
 
 function isStray({clientX: x, clientY: y, timeStamp: time}, meant) {
-  const isThere = Math.abs(x - clicked.x) < NEAR && Math.abs(y - clicked.y) < NEAR;
-  return isThere && meant !== clicked.meant && time - Math.max(clicked.time, changedAt) < SOON;
+  const isThere = Math.abs(x - clicked.x) < NEAR && Math.abs(y - clicked.y) < NEAR, isSame = meant && meant === clicked.meant;
+  return isThere && !isSame && time - Math.max(clicked.time, changedAt) < SOON;
 }
-$('lanes').addEventListener('click', event => {
-  const button = event.target.closest('button');
+$('next').addEventListener('click', event => {
+  const button = event.target.closest('.choice, .until, #migrate');
   if (!button || !event.detail) return;  // a key has made it
-  const meant = button.dataset.choice || '» ' + button.dataset.until, isLost = isStray(event, meant);
+  const meant = button.dataset.choice || '', isLost = isStray(event, meant);
   if (isLost) event.stopPropagation();
   clicked = {x: event.clientX, y: event.clientY, meant: isLost ? clicked.meant : meant, time: event.timeStamp};
 }, true);
@@ -358,7 +367,7 @@ $('lanes').onkeydown = event => {
   if (runs) runUntil(event.target.dataset.choice);
 };
 
-// ---- files and the address
+// ---- files
 function download(file, ending, type) {
   const link = el('a');
   link.href = URL.createObjectURL(new Blob([file], {type}));
@@ -373,38 +382,6 @@ const save = guarded(async as => {
   if (answer.fault) return note(answer.fault.words);
   download(answer.file, as === 'svg' ? '.svg' : '.listing', as === 'svg' ? 'image/svg+xml' : 'text/plain');
 });
-async function packed(text) {
-  const bytes = new Uint8Array(await new Response(new Blob([text]).stream().pipeThrough(new CompressionStream('deflate-raw'))).arrayBuffer());
-  return btoa(Array.from(bytes, byte => String.fromCharCode(byte)).join('')).replace(/\+/g, '-').replace(/\//g, '_').replace(/=/g, '');
-}
-async function unpacked(word) {
-  const bytes = Uint8Array.from(atob(word.replace(/-/g, '+').replace(/_/g, '/')), letter => letter.charCodeAt(0));
-  return new Response(new Blob([bytes]).stream().pipeThrough(new DecompressionStream('deflate-raw'))).text();
-}
-async function store() {
-  const word = await packed(doc.text);
-  history.replaceState(null, '', `#${now}.${word}`);
-}
-const storeSoon = debounced(store, 200);
-// Takes what is in an address, or else what zplay was started with.
-async function arrive(hash) {
-  note('');
-  if (!hash) return setText(given.text, Infinity);
-  const [, at, word] = hash.match(/^#(\d+)\.([\w-]+)$/) || [];
-  const text = word && await unpacked(word).catch(() => null);
-  return text ? setText(text, +at) : showDamaged();
-}
-// Says that a link is damaged. A run that is shown stays with its own address; no other one takes the place of the link's.
-function showDamaged() {
-  const words = 'the link is damaged, perhaps cut short, and its run cannot be read: copy the whole link again';
-  showFault({line: 0, words: D ? words + '; what is shown here is the run from before' : words});
-  if (D) {
-    document.body.classList.remove('stale');
-    return storeSoon();
-  }
-  $('example').selectedIndex = -1;
-  document.title = 'zplay';
-}
 
 // ---- what is clicked and typed
 const setTypedSoon = debounced(guarded(() => setText($('text').value, doc.at)), 120);
@@ -412,6 +389,8 @@ $('text').oninput = () => {
   if (Date.now() - typed > 1500) remember();
   typed = Date.now();
   doc = {text: $('text').value, at: D && doc.at < D.last ? doc.at : Infinity};
+  if (!own.has(name)) name = setOwn(freeName('your own text'), doc.text);
+  showName();
   put({text: doc.text, same: undefined, found: null, answer: null});
   note('');
   forget();
@@ -425,53 +404,15 @@ $('text').onkeydown = event => {
   event.preventDefault();
   guarded(undo)(...(event.shiftKey ? [future, past] : [past, future]));
 };
-// Takes another scenario.
-function begin(text, title) {
-  remember();
-  note('');
-  name = title;
-  [branches, current, previous] = [[{id: 1, text}], 1, 0];
-  closeBeside();
-  showName();
-  guarded(setText)(text, Infinity);
-}
-$('example').append(...Object.keys(given.examples).map(title => new Option(title.replace(/_/g, ' '), title)));
-// Shows what the scenario is named: an example, or the file that was opened last, which has an option of its own.
-let own = null;
-function showName() {
-  $('example').value = name in given.examples ? name : '';
-  document.title = name + ' · zplay';
-}
-function setOwn(text, title) {
-  if (own) $('example').querySelector('[value=""]').remove();
-  own = {text, title};
-  $('example').prepend(new Option(title, ''));
-}
-if (!(given.name in given.examples)) setOwn(given.text, given.name);
-showName();
-$('example').onchange = event => begin(given.examples[event.target.value] || own.text, event.target.value || own.title);
-$('file').onchange = async event => {
-  const file = event.target.files[0];
-  if (!file) return;
-  setOwn((await file.text()).replace(/\r\n/g, '\n'), file.name.replace(/\.\w+$/, ''));
-  begin(own.text, own.title);
-};
 $('undo').onclick = () => guarded(undo)(past, future);
 $('redo').onclick = () => guarded(undo)(future, past);
 $('cut').onclick = guarded(cut);
 $('migrate').onclick = migrate;
 for (const button of document.querySelectorAll('[data-as]')) button.onclick = () => save(button.dataset.as);
-$('link').onclick = guarded(async () => {
-  await store();
-  const copied = await navigator.clipboard.writeText(location.href).then(() => true, () => false);
-  note((copied ? 'the address is copied' : 'the address of this page is the link') + ": it has the whole run in it; a colleague opens it with ./zplay 'LINK'");
-});
 const toTree = () => branches.length > 1 ? $('branches').querySelector('[aria-current]').focus() : note('there is one branch');
 const toLane = actor => () => $('lanes').children[ACTORS.indexOf(actor)].querySelector('.choice').focus();
 Object.assign(KEYS, {u: $('undo').onclick, r: $('redo').onclick, x: guarded(cut), m: migrate, s: () => $('goal').focus(), e: () => $('text').focus(),
   c: toLane('C'), a: toLane('A'), b: toLane('B'), t: toTree, d: () => layBeside(),
   '[': () => guarded(neighbour)(-1), ']': () => guarded(neighbour)(1), Escape: () => { closeBeside(); $('view').focus(); }});
-addEventListener('hashchange', event => guarded(arrive)(new URL(event.newURL).hash));
 addEventListener('click', event => { if (!event.target.closest('.menu')) document.querySelector('.menu').open = false; });
 drawUndo();
-guarded(arrive)(location.hash);

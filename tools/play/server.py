@@ -31,7 +31,7 @@ LONGEST = 5 << 20
 # At most this many questions are at work at a time; others wait.
 ROOM = threading.BoundedSemaphore(8)
 
-ANSWERS = {'/run': desk.whole_run, '/pieces': desk.drawn, '/outcomes': desk.outcomes_of, '/until': desk.until, '/migrate': desk.migrated, '/save': desk.saved,
+ANSWERS = {'/run': desk.whole_run, '/pieces': desk.drawn, '/outcomes': desk.outcomes_of, '/nodes': desk.nodes_of, '/until': desk.until, '/migrate': desk.migrated, '/save': desk.saved,
            '/verdict': verdict.verdict_of, '/beside': beside.beside}
 
 # The page takes nothing from elsewhere, sends nothing there, and stands in no other page.

@@ -7,6 +7,7 @@ stops     break page P (b)    where page P moves          break mode          wh
           break abort         where a transaction aborts  watch K (w)         where the value at key K changes
           delete I (d)        takes stop I away           stops (info break)  the stops that are set
 looks     page P (p)          a page and its locks        txn T (t)           a transaction, by number or name
+          node A, node B      a node's mode, the low key of each page that it knows, and the pages that it has asked for
           links               the messages on their way   where               the position and the modes
           list [N] (l)        the choices around (5)      state               all lines of the state
           explain [OUTCOME]   what an outcome means, and when it comes; without words that of the last step
@@ -22,10 +23,10 @@ A word may be shortened as long as only one command begins so. An empty line doe
 FORMS = {
     'step': 'step [N], as: step 3', 'back': 'back [N], as: back 3', 'goto': 'goto N, as: goto 10', 'cont': 'cont', 'rcont': 'rcont',
     'find': 'find WORDS, as: find held', 'break': 'break page P, break mode or break abort', 'watch': 'watch K, as: watch 10',
-    'delete': 'delete I, as: delete 1', 'page': 'page P, as: page 0', 'txn': 'txn T, as: txn 0', 'links': 'links', 'where': 'where',
-    'do': 'do CHOICE [x N | until wait | until end], as: do A run 0 until wait', 'save': 'save FILE'}
+    'delete': 'delete I, as: delete 1', 'page': 'page P, as: page 0', 'txn': 'txn T, as: txn 0', 'node': 'node A or node B',
+    'links': 'links', 'where': 'where', 'do': 'do CHOICE [x N | until wait | until end], as: do A run 0 until wait', 'save': 'save FILE'}
 
-COMMANDS = ('step', 'back', 'goto', 'cont', 'rcont', 'find', 'break', 'watch', 'delete', 'stops', 'page', 'txn', 'links', 'where', 'list',
+COMMANDS = ('step', 'back', 'goto', 'cont', 'rcont', 'find', 'break', 'watch', 'delete', 'stops', 'page', 'txn', 'node', 'links', 'where', 'list',
             'state', 'explain', 'summary', 'do', 'undo', 'save', 'help', 'quit')
 
 SHORT = {'s': 'step', 'n': 'step', 'next': 'step', 'bs': 'back', 'g': 'goto', 'c': 'cont', 'continue': 'cont', 'rc': 'rcont', 'b': 'break',
