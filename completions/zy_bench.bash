@@ -3,14 +3,15 @@
 _zy_bench() {
   local word=${COMP_WORDS[COMP_CWORD]} before=${COMP_WORDS[COMP_CWORD - 1]} options
   if [[ $COMP_CWORD -eq 1 ]]; then
-    mapfile -t COMPREPLY < <(compgen -W 'run asm dis check threads trace debug search help --help --version' -- "$word")
+    mapfile -t COMPREPLY < <(compgen -W 'run asm dis check threads trace debug search find help --help --version' -- "$word")
     return
   fi
   case ${COMP_WORDS[1]} in
     run | threads | trace) options='--image --help' ;;
     debug) options='--every --ring --help' ;;
     search) options='--image --for --always --from --kill --without --states --canon --help' ;;
-    help) options='run asm dis check threads trace debug search' ;;
+    find) options='--image --for --always --help' ;;
+    help) options='run asm dis check threads trace debug search find' ;;
     *) options='--help' ;;
   esac
   if [[ $before == --for ]]; then

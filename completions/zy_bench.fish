@@ -1,16 +1,16 @@
 # Completion of zy_bench, zview, zdb, zplay and zsuite for fish.
-set -l commands run asm dis check threads trace debug search help
+set -l commands run asm dis check threads trace debug search find help
 
 complete -c zy_bench -f -n "not __fish_seen_subcommand_from $commands" -a "$commands"
 complete -c zy_bench -f -n '__fish_seen_subcommand_from help' -a "$commands"
 complete -c zy_bench -l help -s h -d 'Print help'
 complete -c zy_bench -l version -s V -d 'Print the version' -n "not __fish_seen_subcommand_from $commands"
-complete -c zy_bench -l image -d 'The input is an image' -n '__fish_seen_subcommand_from run threads trace search'
+complete -c zy_bench -l image -d 'The input is an image' -n '__fish_seen_subcommand_from run threads trace search find'
 complete -c zy_bench -l every -x -d 'Keep copies at multiples of N' -n '__fish_seen_subcommand_from debug'
 complete -c zy_bench -l ring -x -d 'Keep at most N copies' -n '__fish_seen_subcommand_from debug'
-complete -c zy_bench -l for -x -d 'What to look for' -n '__fish_seen_subcommand_from search' \
+complete -c zy_bench -l for -x -d 'What to look for' -n '__fish_seen_subcommand_from search find' \
   -a 'differs aborted own killed badkey missing duplicate frozen nopage gone committed stuck deadlock'
-complete -c zy_bench -l always -x -d 'What every state is to meet' -n '__fish_seen_subcommand_from search'
+complete -c zy_bench -l always -x -d 'What every state is to meet' -n '__fish_seen_subcommand_from search find'
 complete -c zy_bench -l from -x -d 'Take the first N choices as taken' -n '__fish_seen_subcommand_from search'
 complete -c zy_bench -l kill -d 'Transactions may be killed' -n '__fish_seen_subcommand_from search'
 complete -c zy_bench -l without -x -d 'Leave out choices of this kind' -n '__fish_seen_subcommand_from search' \

@@ -187,7 +187,7 @@ fn debug_command<'a>(alloc: Global) -> Result<Command<'a>, AllocError> {
     Command::new(alloc, "debug")
         .about("Answers commands on the run of a scenario, one a line")
         .after_help(
-            "Input:   a scenario text through its end line, and below it commands, one a line;\n         at most 4194304 bytes. With FILE it begins with that, and standard input goes on\nOutput:  the replies; a fault is one line on standard error\nStatus:  0 done, 1 the scenario is rejected, 2 the command line is wrong,\n         3 out of memory, 5 the input or the output failed\n\nCommands: step N, back N, goto N, cont, rcont, break page P, break mode, break abort,\nwatch K, delete I, page P, txn T, links, where. docs/debugger.md describes them all.\n\nA command replays from the copy nearest below its target, or from the start. The two numbers\nchange how long that takes and how much memory, and no reply.\n\nExample:\n  (echo 'break abort'; echo cont) | zy_bench debug examples/gone.zephyr",
+            "Input:   a scenario text through its end line, and below it commands, one a line;\n         at most 4194304 bytes. With FILE it begins with that, and standard input goes on\nOutput:  the replies; a fault is one line on standard error\nStatus:  0 done, 1 the scenario is rejected, 2 the command line is wrong,\n         3 out of memory, 5 the input or the output failed\n\nCommands: step N, back N, goto N, cont, rcont, break page P, break mode, break abort,\nwatch K, delete I, page P, txn T, node N, links, where. docs/debugger.md describes them all.\n\nA command replays from the copy nearest below its target, or from the start. The two numbers\nchange how long that takes and how much memory, and no reply.\n\nExample:\n  (echo 'break abort'; echo cont) | zy_bench debug examples/gone.zephyr",
         )
         .arg(every)?
         .arg(ring)?
@@ -264,10 +264,17 @@ fn search_command<'a>(alloc: Global) -> Result<Command<'a>, AllocError> {
 }
 
 /// What is below the options of `find`.
-const FIND_HELP: &'static str = below!(
-    "a scenario text, or with --image an image",
-    "how many choices are made where the state of its run meets the goal, one number a\n         line; the status is 4 where there is no such state",
-    "zy_bench find --for 'txn any active and page 0 moving' examples/gone.zephyr"
+const FIND_HELP: &'static str = concat!(
+    "Input:   a scenario text, or with --image an image, at most 4194304 bytes\n",
+    "Output:  the positions of its run at which the state meets GOAL, one a line: how many choices\n",
+    "         are made there; a fault is one line on standard error\n",
+    "Status:  0 there are some, 1 the input is rejected, 2 the command line is wrong,\n",
+    "         3 out of memory, 4 there is none, 5 the input or the output failed\n",
+    "\n",
+    "GOAL:    as search has it: docs/search.md\n",
+    "\n",
+    "Example:\n",
+    "  zy_bench find --for 'txn any active and page 0 moving' examples/gone.zephyr"
 );
 
 /// The goal of `search` or `find`.
@@ -280,7 +287,7 @@ fn with_goal<'a>(alloc: Global, command: Command<'a>) -> Result<Command<'a>, All
         .long("always")
         .value_name("GOAL")
         .conflicts_with("for")?
-        .help("A goal that every state is to meet: looks for a state that does not");
+        .help("A goal that every state is to meet: looks for states that do not");
     command.arg(wanted)?.arg(always)
 }
 
