@@ -11,6 +11,7 @@ import waiting
 from picture.looks import STUCK
 from picture.serial import differences, verdict_line
 from picture.text import summary
+from prompt.goals import Goals, NoGoal, met
 from prompt.words import FORMS
 
 # The most lines of the state that a move shows.
@@ -37,7 +38,7 @@ class Session:
         self.head = head_of(part)
         self.run = runs.read(part, quiet)
         self.choices = choices_of(self.run)
-        self.position, self.stops, self.before = 0, [], []
+        self.position, self.stops, self.goals, self.before = 0, [], Goals(), []
         self.shown = self.run.state(0)
         self.path, self.stored, self.saved = path, self.last(), self.choices
 
@@ -65,8 +66,19 @@ class Session:
         found = re.fullmatch(r'(?:stop \d+ )?at (\d+)', reply)
         if not found:
             raise Fault('%s: the positions are 0 to %d' % (reply, self.last()))
-        fired = [reply] if reply.startswith('stop') else ['no stop fires'] if 'cont' in command else []
-        return self.go(int(found.group(1))) + fired + self.here()
+        place, is_stop = int(found.group(1)), reply.startswith('stop')
+        if command in ('cont', 'rcont'):
+            goal = self.goals.firing(self.text(self.choices), self.passed(place, is_stop))
+            if goal:
+                return self.go(goal[0]) + ['goal %d at %d' % goal[::-1]] + self.here()
+        fired = [reply] if is_stop else ['no stop fires'] if 'cont' in command else []
+        return self.go(place) + fired + self.here()
+
+    def passed(self, place, is_stop):
+        """The positions on the way to a place, and the place itself if no stop fires there."""
+        ahead = place > self.position
+        end = place if is_stop else place + (1 if ahead else -1)
+        return range(self.position + 1, end) if ahead else range(self.position - 1, end, -1)
 
     def stop(self, command):
         """Sets or deletes a stop."""
@@ -76,8 +88,25 @@ class Session:
         self.stops.append((command, reply))
         return [reply]
 
+    def break_if(self, goal):
+        """Sets a stop where a goal turns true."""
+        return ['goal %d set' % self.about(self.goals.add, goal)]
+
+    def delete_goal(self, number):
+        """Takes a goal away."""
+        if not number.isdecimal() or self.goals.set.pop(int(number), None) is None:
+            raise Fault('no such goal')
+        return ['deleted goal %s' % number]
+
+    def about(self, ask, goal):
+        """What is answered about a goal and the scenario."""
+        try:
+            return ask(goal, self.text(self.choices))
+        except NoGoal as fault:
+            raise Fault(str(fault)) from None
+
     def shown_stops(self):
-        """The stops that are set, each by its number and the command that set it."""
+        """The stops that are set, each by its number and the command that set it, and the goals."""
         there = {}
         for command, reply in self.stops:
             number = int(re.search(r'\d+', reply).group())
@@ -85,7 +114,7 @@ class Session:
                 del there[number]
             else:
                 there[number] = command
-        return ['%d %s' % stop for stop in sorted(there.items())] or ['no stops']
+        return ['%d %s' % stop for stop in sorted(there.items())] + self.goals.shown() or ['no stops']
 
     # ---- what the trace shows
 
@@ -120,11 +149,18 @@ class Session:
         lines = [' %s ' % self.named(step.line) for step in self.run.steps]
         hits = [number for number, line in enumerate(lines, 1) if ' %s ' % words in line]
         hits = hits or [number for number, line in enumerate(lines, 1) if words in line]
+        return self.to_next(hits, 'step has %s' % words, 'no later step has it; the first that has:')
+
+    def find_if(self, goal):
+        """Goes to the next position at which a goal is met; from the start on where there is none above."""
+        return self.to_next(self.about(met, goal), 'state meets %s' % goal, 'no later state meets it; the first that does:')
+
+    def to_next(self, hits, what, wrapped):
+        """Goes to the next of some positions, or else to the first of them."""
         if not hits:
-            raise Fault('no step has %s' % words)
+            raise Fault('no ' + what)
         above = [number for number in hits if number > self.position]
-        wrapped = [] if above else ['no later step has it; the first that has:']
-        return wrapped + self.go((above or hits)[0]) + self.here()
+        return ([] if above else [wrapped]) + self.go((above or hits)[0]) + self.here()
 
     def explain(self, words):
         """What an outcome means, and the lines of the step table that give it; or a reason of an abort, or a mode."""

@@ -3,9 +3,12 @@
 HELP = """moves     step [N] (s, n)     N choices on (1)            back [N] (bs)       N choices back (1)
           goto N              to position N               cont (c), rcont (rc)  to the next stop, to the previous one
           find WORDS          to the next step whose line has these words: find held, find aborted
+          find if GOAL        to the next state that meets a goal: find if page 0 at B and txn 0 active
 stops     break page P (b)    where page P moves          break mode          where a mode changes
           break abort         where a transaction aborts  watch K (w)         where the value at key K changes
-          delete I (d)        takes stop I away           stops (info break)  the stops that are set
+          break if GOAL       where a goal of search turns true
+          delete I (d)        takes stop I away           delete goal I       takes a goal away
+          stops (info break)  the stops and goals that are set
 looks     page P (p)          a page and its locks        txn T (t)           a transaction, by number or name
           node A, node B      a node's mode, the low key of each page that it knows, and the pages that it has asked for
           links               the messages on their way   where               the position and the modes
@@ -22,7 +25,8 @@ A word may be shortened as long as only one command begins so. An empty line doe
 # What each command takes, for a line that it does not take.
 FORMS = {
     'step': 'step [N], as: step 3', 'back': 'back [N], as: back 3', 'goto': 'goto N, as: goto 10', 'cont': 'cont', 'rcont': 'rcont',
-    'find': 'find WORDS, as: find held', 'break': 'break page P, break mode or break abort', 'watch': 'watch K, as: watch 10',
+    'find': 'find WORDS, as: find held, or find if GOAL, as: find if commits = 1',
+    'break': 'break page P, break mode, break abort or break if GOAL', 'watch': 'watch K, as: watch 10',
     'delete': 'delete I, as: delete 1', 'page': 'page P, as: page 0', 'txn': 'txn T, as: txn 0', 'node': 'node A or node B',
     'links': 'links', 'where': 'where', 'do': 'do CHOICE [x N | until wait | until end], as: do A run 0 until wait', 'save': 'save FILE'}
 
@@ -58,5 +62,5 @@ def command_of(words):
 
 def complete(text, state):
     """The commands that begin so, one a call, as readline asks for them."""
-    words = COMMANDS + ('mode', 'abort', 'until', 'wait', 'end')
+    words = COMMANDS + ('mode', 'abort', 'if', 'goal', 'until', 'wait', 'end')
     return ([word + ' ' for word in words if word.startswith(text)] + [None])[state]
