@@ -7,11 +7,16 @@ from case import EXAMPLES, PROGRAM, TOP, content
 
 ASKED = os.path.join(TOP, 'tests', 'asked')
 
+# What is said of an answer: whether it is to a goal that every state is to meet, and the verdict.
 REPORTS = {
-    'found': r'zy_bench: found after {0}: {1} {2} there\n',
-    'none': r'zy_bench: none of {0} shows it{3}, and there are no others: each takes at most {1}\n',
-    'spent': r'zy_bench: gave up after {0}: no schedule of fewer than {1} shows it{3}\n',
+    (False, 'found'): r'zy_bench: found after {0}: {1} {2} there{4}\n',
+    (False, 'none'): r'zy_bench: none of {0} shows it{3}, and there are no others: each takes at most {1}\n',
+    (False, 'spent'): r'zy_bench: gave up after {0}: no schedule of fewer than {1} shows it{3}\n',
+    (True, 'found'): r'zy_bench: it does not always hold: found after {0}: {1} {2} there{4}\n',
+    (True, 'none'): r'zy_bench: it holds in each of {0}{3}, and there are no others: each takes at most {1}\n',
+    (True, 'spent'): r'zy_bench: gave up after {0}: it holds after every schedule of fewer than {1}{3}\n',
 }
+PLURALS = {'start': 'starts', 'begin': 'begins', 'kill': 'kills', 'run': 'runs', 'take': 'takes', 'finish': 'finishes', 'push': 'pushes'}
 STATUS = {'found': 0, 'none': 4, 'spent': 6}
 
 # What precedes the report where a goal names a transaction that the scenario does not have.
@@ -26,10 +31,22 @@ def counted(number, word):
     return '%s %s%s' % (number, word, '' if str(number) == '1' else 's' if str(number).isdecimal() else 's?')
 
 
-def report(verdict, states, length, words):
+def left_out(words):
+    """The kinds of choices that some words leave out."""
+    return [kind for kind in PLURALS if '--without=' + kind in words or kind == 'kill' and '--kill' not in words]
+
+
+def not_considered(kinds):
+    """What is said of the kinds of choices that are left out."""
+    words = [PLURALS[kind] for kind in kinds]
+    return ', %s not considered' % ' and '.join(filter(None, [', '.join(words[:-1]), words[-1]])) if words else ''
+
+
+def report(verdict, states, length, words, always=False):
     """The line in which a search with some words says what came of it, as a pattern."""
-    return REPORTS[verdict].format(counted(states, 'state'), counted(length, 'choice'), 'leads' if str(length) == '1' else 'lead',
-                                   '' if '--kill' in words else ', kills not considered')
+    out = left_out(words)
+    return REPORTS[always, verdict].format(counted(states, 'state'), counted(length, 'choice'), 'leads' if str(length) == '1' else 'lead',
+                                           not_considered(out), not_considered(out) if set(out) - {'kill'} else '')
 
 
 def bench(words, given):

@@ -7,7 +7,7 @@ import re
 import sys
 
 from alone import alone
-from plain_table import database, node_of
+from plain_table import database, node_of, step
 
 # The grammar as the docs have it. A bracket or a sign of the grammar itself is in quotes here; tests/questions compares both.
 GRAMMAR = """
@@ -198,9 +198,18 @@ def is_stuck(view):
     return any(txn.status == 'active' for txn in view.state.txns) and all(kind_of(outcome) in STILL for _, outcome in view.outcomes)
 
 
+def waiting(view):
+    """Each transaction whose next step waits, with the page that it waits for."""
+    for t, txn in enumerate(view.state.txns):
+        if txn.status == 'active':
+            outcome = step(view.scenario, view.state, (txn.node, 'run', t))[0]
+            if outcome.startswith('waits '):
+                yield t, int(outcome.split()[1])
+
+
 def is_deadlocked(view):
     """Whether some transactions are left once those are taken away, again and again, that wait for none of the others."""
-    waits = {choice[2]: int(outcome.split()[1]) for choice, outcome in view.outcomes if outcome.startswith('waits ')}
+    waits = dict(waiting(view))
     left = set(waits)
     while True:
         kept = {t for t in left if any(page == waits[t] and u in left and u != t

@@ -18,34 +18,39 @@ class TooMany(Exception):
     """There are more states than are wanted."""
 
 
-def considered(scenario, kill):
-    """The choices that a search makes in each state, in this order."""
+KINDS = ('start', 'begin', 'kill', 'run', 'take', 'finish', 'push')
+
+
+def considered(scenario, kill, left_out=()):
+    """The choices that a search makes in each state, in this order, but for those of the kinds that are left out."""
     txns = range(len(scenario.programs))
     choices = [('C', 'start', None)] + [('C', 'begin', t) for t in txns] + [('C', 'kill', t) for t in txns if kill]
     for node in 'AB':
         choices += [(node, 'run', t) for t in txns] + [(node, action, None) for action in ('take', 'finish', 'push')]
-    return choices
+    return [choice for choice in choices if choice[1] not in left_out]
 
 
 class States:
-    """All states that a scenario comes to, breadth first from the one after its choices."""
+    """All states that a scenario comes to, breadth first from the one after its choices, and the flags that say by which choices."""
 
-    def __init__(self, scenario, kill=False, most=None):
+    def __init__(self, scenario, kill=False, most=None, left_out=()):
         self.scenario = scenario
+        self.words = ['--kill'] * kill + ['--without=' + kind for kind in left_out]
+        self.considered = considered(scenario, kill, left_out)
         start = opening(scenario)
         for choice in scenario.choices:
             _, start = step(scenario, start, choice)
         self.views, self.ways = [], [(None, None)]      # of each state the view, the state before it and the choice
         self.lengths = [0]
-        self.explore(start, considered(scenario, kill), most)
+        self.explore(start, most)
 
-    def explore(self, start, choices, most):
+    def explore(self, start, most):
         known = {start: 0}
         states = [start]
         while len(self.views) < len(states):
             at = len(self.views)
             outcomes = []
-            for choice in choices:
+            for choice in self.considered:
                 outcome, state = step(self.scenario, states[at], choice)
                 outcomes.append((choice, outcome))
                 if state not in known:

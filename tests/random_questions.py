@@ -1,7 +1,7 @@
 """Random scenarios of a few hundred states, and random goals of the whole grammar of tests/plain_goals.py."""
 
 from plain_goals import RULES, Meaning, flat
-from plain_search import States, TooMany, considered
+from plain_search import KINDS, States, TooMany, considered
 from plain_table import opening, read, step
 
 # How many states a scenario may come to.
@@ -68,15 +68,19 @@ def line_of(choice):
 
 
 def random_case(chance):
-    """A text, and its states with kills or without, of which there are not too many: so long as there are, the scenario makes some choices more."""
+    """A text, and its states by some kinds of choices, of which there are not too many: so long as there are, the scenario makes some choices more. The
+    text may have choices more, which are not taken."""
     while True:
         text, kill = random_text(chance), chance.random() < 0.4
+        left_out = chance.sample(KINDS, chance.choice([0, 0, 0, 1, 1, 2]))
         scenario = read(text)
         choices, state = random_walk(chance, scenario, opening(scenario), chance.random() < 0.5, chance.choice([0, 0, 0, 2, 4, 8]))
         for _ in range(4):
             try:
-                states = States(scenario._replace(choices=choices), kill, MOST)
-                return text.replace('\nend\n', ''.join('\n' + line_of(choice) for choice in choices) + '\nend\n'), states
+                states = States(scenario._replace(choices=choices), kill, MOST, left_out)
+                behind = random_walk(chance, scenario, state, kill, chance.randint(0, 4))[0] if chance.random() < 0.25 else None
+                states.words += [] if behind is None else ['--from', str(len(choices))]
+                return text.replace('\nend\n', ''.join('\n' + line_of(choice) for choice in choices + (behind or [])) + '\nend\n'), states
             except TooMany:
                 more, state = random_walk(chance, scenario, state, kill, chance.randint(2, 6))
                 choices = choices + more
