@@ -388,13 +388,34 @@ fn kinds_of(words: &ArgMatches<'_>) -> ChoiceKinds {
 /// The kinds without the one that a word names.
 fn without(kinds: ChoiceKinds, word: &str) -> ChoiceKinds {
     match word {
-        "start" => ChoiceKinds { start: false, ..kinds },
-        "begin" => ChoiceKinds { begin: false, ..kinds },
-        "kill" => ChoiceKinds { kill: false, ..kinds },
-        "run" => ChoiceKinds { run: false, ..kinds },
-        "take" => ChoiceKinds { take: false, ..kinds },
-        "finish" => ChoiceKinds { finish: false, ..kinds },
-        "push" => ChoiceKinds { push: false, ..kinds },
+        "start" => ChoiceKinds {
+            start: false,
+            ..kinds
+        },
+        "begin" => ChoiceKinds {
+            begin: false,
+            ..kinds
+        },
+        "kill" => ChoiceKinds {
+            kill: false,
+            ..kinds
+        },
+        "run" => ChoiceKinds {
+            run: false,
+            ..kinds
+        },
+        "take" => ChoiceKinds {
+            take: false,
+            ..kinds
+        },
+        "finish" => ChoiceKinds {
+            finish: false,
+            ..kinds
+        },
+        "push" => ChoiceKinds {
+            push: false,
+            ..kinds
+        },
         _ => kinds,
     }
 }

@@ -359,11 +359,22 @@ fn find<R: Eprint + AllocGlobal, W: Write>(
     requires { output.old.1 < u64.MAX }
 {
     let source = &mut SliceSource::new(scenario);
-    let count = find_bytes(rt.alloc(), format, &sought, source, output, &mut Vec::new(rt.alloc()))?;
+    let count = find_bytes(
+        rt.alloc(),
+        format,
+        &sought,
+        source,
+        output,
+        &mut Vec::new(rt.alloc()),
+    )?;
     flush(output)?;
     let named = usize::from(txns_named(&sought.goal));
     if named != 0 {
-        warn(rt, named, make_again(rt.alloc(), format, scenario)?.txn_count());
+        warn(
+            rt,
+            named,
+            make_again(rt.alloc(), format, scenario)?.txn_count(),
+        );
     }
     Ok(if count == 0 { NOWHERE } else { DONE })
 }
@@ -506,7 +517,14 @@ fn carry_out<R: Print + Eprint + Input + Files + AllocGlobal + Clock + Threads +
             answer(rt, asked, quest, &mut given, &mut input, &mut output)
         }
         Task::Find(quest) => {
-            answer(rt, Asked::Positions, quest, &mut given, &mut input, &mut output)
+            answer(
+                rt,
+                Asked::Positions,
+                quest,
+                &mut given,
+                &mut input,
+                &mut output,
+            )
         }
     };
     match outcome {

@@ -47,7 +47,10 @@ impl<'a> Summary<'a> {
         } else {
             write!(f, "none of {states} shows it")?;
         }
-        write!(f, "{left_out}, and there are no others: each takes at most {most}")
+        write!(
+            f,
+            "{left_out}, and there are no others: each takes at most {most}"
+        )
     }
 
     /// Writes that the search gave up, and which schedules it has ruled out.
@@ -57,7 +60,10 @@ impl<'a> Summary<'a> {
         let left_out = self.left_out();
         write!(f, "gave up after {states}: ")?;
         if self.quest.is_always {
-            write!(f, "it holds after every schedule of fewer than {fewer}{left_out}")
+            write!(
+                f,
+                "it holds after every schedule of fewer than {fewer}{left_out}"
+            )
         } else {
             write!(f, "no schedule of fewer than {fewer} shows it{left_out}")
         }

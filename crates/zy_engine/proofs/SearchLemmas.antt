@@ -20,11 +20,10 @@ use Rattle.zy_search.specs.Searches.{IsAnswer}
 use Rattle.zy_engine.specs.declared.searching.SearchOptions.{SearchOptions}
 use Rattle.zy_engine.specs.Searching.{history_of, taken, IsTextOf, WroteAnswer, WroteSome}
 use Rattle.zy_io.proofs.StreamLemmas.{WrotePrefix-none}
-use Rattle.zy_laws.proofs.walk.PlayPush.{length-entries}
 use Rattle.zy_machine.specs.Histories.{History}
 use Rattle.zy_stops.specs.Scans.{Follows}
 use Rattle.zy_stops.specs.Stops.{state_at}
-use Rattle.zy_table.specs.Play.{play, opening, entries}
+use Rattle.zy_table.specs.Play.{step, play, opening, entries}
 use Rattle.zy_table.specs.State.{State}
 use Rattle.zy_table.specs.declared.entry.Entry.{Entry}
 
@@ -41,6 +40,11 @@ short : {X : Type 0} (n : ℕ) (xs : List X) → length (take n xs) ≤ length x
 short zero xs = omega arith
 short (suc n) [] = omega arith
 short (suc n) (x ∷ xs) = omega (arith, short n xs)
+
+-- a run has a step for each choice
+length-entries : (sc : Scenario) (s : State) (cs : List Choice) → length (entries sc s cs) ≡ length cs
+length-entries sc s [] = refl
+length-entries sc s (c ∷ cs) = ap suc (length-entries sc (step sc c s).after cs)
 
 -- a machine has a step for each choice that is a step already taken
 taken-length : (from : Option ℕ) (sc : Scenario) → length (history_of from sc).entries ≡ length (taken from sc)
@@ -66,12 +70,12 @@ same_history h sc s es e f g =
     ∙ ap (λ (x : List Entry). record { scenario = sc; state = s; entries = x }) g
 
 -- a machine that follows its scenario for some choices, or for all where there are fewer
-unfolding state_at
 pub follows_first : (h : History) (sc : Scenario) (n : ℕ) → Follows h → h.scenario ≡ sc → length h.entries ≡ min n (length sc.choices)
     → h ≡ history_of (Some n) sc
+unfolding state_at
 follows_first h sc n f e g =
     let made : take (length h.entries) h.scenario.choices ≡ take n sc.choices =
-        ap (λ (x : Scenario). take (length h.entries) x.choices) e ∙ ap (λ k. take k sc.choices) g ∙ take_min n sc.choices in
+    ap (λ (x : Scenario). take (length h.entries) x.choices) e ∙ ap (λ k. take k sc.choices) g ∙ take_min n sc.choices in
     same_history h sc _ _ e
     (f.state ∙ ap (λ cs. play h.scenario (opening h.scenario) cs) made ∙ ap (λ (x : Scenario). play x (opening x) (take n sc.choices)) e)
     (f.entries ∙ ap (λ cs. entries h.scenario (opening h.scenario) cs) made ∙ ap (λ (x : Scenario). entries x (opening x) (take n sc.choices)) e)
@@ -99,9 +103,9 @@ pub wrote_first : (o : SearchOptions) (sc : Scenario) (answer : Answer) (old new
     → WroteSome (IsTextOf o.wording sc (taken o.from sc) answer) old new before after result
 wrote_first o sc answer old new before after result h e w =
     let first : take (length h.entries) h.scenario.choices ≡ taken o.from sc =
-        ap (λ (x : History). take (length x.entries) x.scenario.choices) e ∙ taken-first o.from sc in
+    ap (λ (x : History). take (length x.entries) x.scenario.choices) e ∙ taken-first o.from sc in
     let is : IsTextOf o.wording sc (take (length h.entries) h.scenario.choices) answer w.text =
-        subst (λ (x : Scenario). IsTextOf o.wording x (take (length h.entries) h.scenario.choices) answer w.text) (ap (λ (x : History). x.scenario) e) w.is in
+    subst (λ (x : Scenario). IsTextOf o.wording x (take (length h.entries) h.scenario.choices) answer w.text) (ap (λ (x : History). x.scenario) e) w.is in
     record { text = w.text; is = subst (λ (cs : List Choice). IsTextOf o.wording sc cs answer w.text) first is; wrote = w.wrote }
 
 -- a fault says as much of what went out, whatever the call would have returned

@@ -1,46 +1,38 @@
 //! Whether two scenarios are one.
-ghost use Rattle.std.specs.Prelude.{◌≡◌, true};
-ghost use Rattle.zy_isa.specs.Scenario.{Scenario as AScenario};
+ghost use Rattle.std.specs.Prelude.{◌≡◌, true, IfOk};
 
-use zy_isa::{Program, Scenario};
+use std::alloc::{AllocError, Global};
+use zy_image::LoadFault;
+use zy_image::load::load;
+use zy_image::save::save;
+use zy_isa::Scenario;
 
-/// Whether two programs have the same instructions from one place on.
-fn same_program(one: &Program, other: &Program) -> bool
+/// Whether two byte strings are one.
+fn same_bytes(one: &[u8], other: &[u8]) -> bool
     ensures { result ≡ true → one.now ≡ other.now }
 {
-    if one.len() != other.len() {
-        return false;
-    }
-    for i in 0..one.len() {
-        if one.instr(i) != other.instr(i) {
-            return false;
-        }
-    }
-    true
+    one == other
 }
 
-/// Whether two lists of programs are one.
-fn same_programs(one: &[Program], other: &[Program]) -> bool
-    ensures { result ≡ true → one.now ≡ other.now }
+/// Whether two scenarios are one: they are if and only if they have one image.
+pub(crate) fn same_scenario(
+    alloc: Global,
+    one: &Scenario,
+    other: &Scenario,
+) -> Result<bool, AllocError>
+    ensures { IfOk result (λ is. is ≡ true → one.now ≡ other.now) }
 {
-    match (one, other) {
-        ([], []) => true,
-        ([first, rest @ ..], [second, others @ ..]) => {
-            same_program(first, second) && same_programs(rest, others)
-        }
-        _ => false,
+    // Proof: both were tested, and an image is that of one scenario.
+    let _one = one.programs();
+    let _other = other.programs();
+    let image = save(alloc, one)?;
+    let image_of_other = save(alloc, other)?;
+    if !same_bytes(&image, &image_of_other) {
+        return Ok(false);
     }
-}
-
-/// Whether two scenarios are one.
-pub(crate) fn same_scenario(one: &Scenario, other: &Scenario) -> bool
-    ensures { result ≡ true → one.now ≡ other.now }
-{
-    one.version() == other.version()
-        && one.cap() == other.cap()
-        && one.pages() == other.pages()
-        && one.rule() == other.rule()
-        && one.rows() == other.rows()
-        && same_programs(one.programs(), other.programs())
-        && one.choices() == other.choices()
+    match load(alloc, &image) {
+        Ok(_) => Ok(true),
+        Err(LoadFault::Memory) => Err(AllocError),
+        Err(_) => Ok(false),
+    }
 }

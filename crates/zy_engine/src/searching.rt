@@ -78,8 +78,13 @@ fn verified(
         return Ok(None);
     }
     match assemble_bytes(alloc, text.as_bytes()) {
-        Ok(read) if same_scenario(&read, wanted) => Ok(Some(text)),
-        Ok(_) => Ok(None),
+        Ok(read) => {
+            if same_scenario(alloc, &read, wanted)? {
+                Ok(Some(text))
+            } else {
+                Ok(None)
+            }
+        }
         Err(refusal) => match BenchFault::from(refusal) {
             BenchFault::Memory => Err(AllocError),
             _ => Ok(None),
@@ -235,6 +240,14 @@ pub fn search_bytes<S: Source, K: Sink, W: Watch>(
         ConvertsSearch options sought (at source.old sink.old) (at source.new sink.new) result }
 {
     let scenario = read_scenario(alloc, options.format, source, input)?;
-    let report = write_search(alloc, options, input.as_slice(), scenario, sought, sink, watch)?;
+    let report = write_search(
+        alloc,
+        options,
+        input.as_slice(),
+        scenario,
+        sought,
+        sink,
+        watch,
+    )?;
     Ok(report)
 }

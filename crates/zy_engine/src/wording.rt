@@ -3,11 +3,10 @@
 use std::alloc::{AllocError, Global};
 use zy_io::{Decimal, Line, LineBuffer, joined};
 use zy_isa::Choice;
-use zy_text::Canonical;
-use zy_text::Words;
 use zy_text::line::take_line;
 use zy_text::names::{is, is_name};
 use zy_text::numbers::number_of;
+use zy_text::{Canonical, Words};
 
 /// How a scenario is written.
 #[derive(Clone, Copy, Debug, PartialEq, Eq)]

@@ -23,11 +23,7 @@ fn all_choices(alloc: Global, count: u8) -> Result<Vec<Choice>, AllocError>
 
 /// The choices that a search considers, in the order in which it makes them: those of these kinds and of this number of
 /// transactions.
-pub fn considered(
-    alloc: Global,
-    kinds: ChoiceKinds,
-    count: u8,
-) -> Result<Vec<Choice>, AllocError>
+pub fn considered(alloc: Global, kinds: ChoiceKinds, count: u8) -> Result<Vec<Choice>, AllocError>
     ensures { IfOk result (λ v. v.items ≡ spec.considered kinds count) }
 {
     let mut choices = all_choices(alloc, count)?;

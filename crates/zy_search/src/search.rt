@@ -4,11 +4,11 @@ ghost use Rattle.zy_search.specs.Choices as spec;
 ghost use Rattle.zy_search.specs.Searches.{IsAnswer, IsReached, IsDue};
 ghost use Rattle.zy_search.specs.Visits.{length_at, AreExpanded, Begins, IsEdge, IsWhole, Visits};
 
-use crate::kinds::ChoiceKinds;
 use crate::answer::{Answer, Expanded, Report};
 use crate::choices::considered;
 use crate::digest::digest;
 use crate::expand::expand;
+use crate::kinds::ChoiceKinds;
 use crate::last::with_step;
 use crate::plan::Plan;
 use crate::shelf::Shelf;
@@ -190,7 +190,11 @@ fn search_by<W: Watch>(plan: &Plan, visited: &mut Visited, watch: &mut W) -> Res
 }
 
 /// The choices that a search considers from a machine.
-pub(crate) fn choices_from(alloc: Global, kinds: ChoiceKinds, machine: &Machine) -> Result<Vec<Choice>, AllocError>
+pub(crate) fn choices_from(
+    alloc: Global,
+    kinds: ChoiceKinds,
+    machine: &Machine,
+) -> Result<Vec<Choice>, AllocError>
     ensures { IfOk result (λ v. v.items ≡ spec.considered kinds (length machine.now.scenario.programs)) }
 {
     let programs = machine.scenario().programs();

@@ -10,8 +10,8 @@ ghost use Rattle.zy_search.specs.Choices.{considered};
 ghost use Rattle.zy_search.specs.Searches.{MayTry, Shows, context_of};
 ghost use Rattle.zy_search.specs.Searches as spec;
 
-use crate::kinds::ChoiceKinds;
 use crate::deadlock::is_deadlocked;
+use crate::kinds::ChoiceKinds;
 use crate::possible::is_possible;
 use crate::sought::Sought;
 use crate::stuck::is_stuck;
