@@ -37,16 +37,16 @@ function showName() {
   $('example').value = own.has(name) ? 'own ' + name : name;
   document.title = `${name} · zplay`;
 }
-// Gives a text of the user's own an entry, and tells its name there.
+// Gives a text of the user's own an entry, and tells its name.
 function setOwn(title, text) {
-  const entry = title in given.examples ? title + ' (yours)' : title;
-  own = new Map([...own, [entry, text]]);
-  return entry;
+  own = new Map([...own, [title, text]]);
+  return title;
 }
-// A name that no text of the user's own has.
+// A name that neither an example nor a text of the user's own has.
 function freeName(title) {
-  let free = title;
-  for (let number = 2; own.has(free); number++) free = `${title} ${number}`;
+  const begun = title in given.examples ? title + ' (yours)' : title;
+  let free = begun;
+  for (let number = 2; own.has(free); number++) free = `${begun} ${number}`;
   return free;
 }
 // What a text in an address is named: what it was named before the page was loaded again, or the scenario that it has with other choices.
@@ -58,7 +58,7 @@ function nameFor(text) {
 }
 $('example').append(new Option('new', '/new'), ...Object.keys(given.examples).map(title => new Option(title.replace(/_/g, ' '), title)));
 // What zplay was started with, by its name here.
-const GIVEN = given.examples[given.name] === given.text ? given.name : setOwn(given.name, given.text);
+const GIVEN = given.examples[given.name] === given.text ? given.name : setOwn(freeName(given.name), given.text);
 showName();
 $('example').onchange = ({target: {value}}) => {
   if (value === '/new') return beginOwn(FRESH, 'your own text');
