@@ -15,15 +15,15 @@ use Rattle.zy_goals.specs.Grammar.{Tree, negated, joined, Reads, Says, parts_of,
 abbrev pub Stops : ℕ → List Word → Type 0
 Stops l ws = (o : Operator) → l ≤ level_of o → begin_with (word_of o) ws ≡ false
 
--- A tree of level l was read from the front of the words, where n more parts were allowed, and no other tree ends where an
--- expression may end.
+-- A tree of level l was read from the front of the words, where n more parts were allowed. Each tree that ends where an
+-- expression may end has the same words and says the same goal.
 pub record Finds (names : Names) (l : ℕ) (ws : List Word) (n : ℕ) (p : Part) : Type 0 where
   pub tree : Tree
   pub reads : Reads names l tree ws (left p.at)
   pub says : Says tree p.goal
   pub parts : parts_of tree + p.spare ≡ n
   pub only : (t : Tree) (rest : List Word) → Reads names l t ws rest → Stops l rest
-      → (rest ≡ left p.at) × (parts_of t + p.spare ≡ n)
+      → (rest ≡ left p.at) × (parts_of t + p.spare ≡ n) × Says t p.goal
 
 -- the words are refused for the number of parts alone
 abbrev pub IsForParts : ReadFault → Type 0
@@ -75,12 +75,19 @@ abbrev pub chain_parts : List Tree → ℕ
 chain_parts [] = 0
 chain_parts (u ∷ us) = suc (parts_of u) + chain_parts us
 
--- the operands behind a first one were read and joined to it, and no others end where an expression may end
+-- a tree and the operands behind it
+abbrev pub all_joined : Operator → Tree → List Tree → Tree
+all_joined o t [] = t
+all_joined o t (u ∷ us) = all_joined o (joined o t u) us
+
+-- The operands behind a first one were read and joined to it. Any that end where an expression may end have the same words
+-- and say the same.
 pub record FindsMore (names : Names) (o : Operator) (first p : Part) : Type 0 where
   pub joins : (t : Tree) (ws : List Word) → Reads names (level_of o) t ws (left first.at) → Says t first.goal
       → (u : Tree) × Reads names (level_of o) u ws (left p.at) × Says u p.goal × (parts_of u + p.spare ≡ parts_of t + first.spare)
-  pub only : (us : List Tree) (rest : List Word) → Chain names o us (left first.at) rest → Stops (level_of o) rest
-      → (rest ≡ left p.at) × (chain_parts us + p.spare ≡ first.spare)
+  pub only : (t : Tree) (us : List Tree) (rest : List Word) → Says t first.goal → Chain names o us (left first.at) rest
+      → Stops (level_of o) rest
+      → (rest ≡ left p.at) × (chain_parts us + p.spare ≡ first.spare) × Says (all_joined o t us) p.goal
 
 abbrev pub MissesMore : Names → Operator → List Word → ℕ → ReadFault → Type 0
 MissesMore names o ws n e = (us : List Tree) (rest : List Word) → Chain names o us ws rest → Stops (level_of o) rest

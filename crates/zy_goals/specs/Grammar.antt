@@ -121,6 +121,13 @@ pub record IsTooLongNever (names : Names) (ws : List Word) : Type 0 where
   pub reads : Reads names 0 tree ws []
   pub parts : max_parts < parts_of tree
 
+-- two queries are one but for where they lie in memory: a tree says both goals, and the same outcome is asked for
+pub record AreOne (q r : Query) : Type 0 where
+  pub tree : Tree
+  pub first : Says tree q.goal
+  pub second : Says tree r.goal
+  pub asked : q.then ≡ r.then
+
 -- ---- refusals
 
 -- what is known where words are refused; where memory was refused nothing is known
