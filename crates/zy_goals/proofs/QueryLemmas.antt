@@ -162,6 +162,7 @@ goal_then names ws (Err (Refused r)) b a = record {
 
 -- ---- goals that every state is to meet
 
+-- what is read is what the words mean, and nothing else is; what is refused means nothing
 abbrev pub AnswersNever : Names → List Word → Result Query ReadFault → Type 0
 AnswersNever names ws (Ok q) = MeansNever names ws q × ((r : Query) → MeansNever names ws r → AreOne q r)
 AnswersNever names ws (Err e) = OnRefused e (IsNoInvariant names ws)

@@ -263,6 +263,7 @@ chain_end : (names : Names) (o : Operator) (us : List Tree) (ws vs rest : List W
 chain_end names o [] ws vs rest u ch r = (vs, rest, ch, r, refl)
 chain_end names o (x ∷ us) ws vs rest u ch r = (ch.0, ch.1, ch.2, ch.3, chain_end names o us ch.1 vs rest u ch.4 r)
 
+-- the parts of operands and one more
 chain_parts-end : (us : List Tree) (u : Tree) → chain_parts (us ++ u ∷ []) ≡ chain_parts us + suc (parts_of u)
 chain_parts-end [] u = omega arith
 chain_parts-end (x ∷ us) u = omega (arith, chain_parts-end us u)
@@ -282,6 +283,7 @@ all_joined-end : (o : Operator) (t : Tree) (us : List Tree) (u : Tree) → joine
 all_joined-end o t [] u = refl
 all_joined-end o t (x ∷ us) u = all_joined-end o (joined o t x) us u
 
+-- each tree is a first operand and the operands behind it
 spine : (names : Names) (o : Operator) (t : Tree) (ws rest : List Word) → Reads names (level_of o) t ws rest → Spine names o t ws rest
 spine names o (fact x) ws rest r =
     record { head = fact x; tail = []; mid = rest; reads = r; chain = refl; parts = omega arith; whole = refl }

@@ -35,6 +35,7 @@ abbrev pub Misses : Names → ℕ → List Word → ℕ → ReadFault → Type 0
 Misses names l ws n e = (t : Tree) (rest : List Word) → Reads names l t ws rest → Stops l rest
     → (n < parts_of t) × IsForParts e
 
+-- what the reader of a tree of level l answers
 abbrev pub Answers : Names → ℕ → List Word → ℕ → Result Part ReadFault → Type 0
 Answers names l ws n (Ok p) = Finds names l ws n p
 Answers names l ws n (Err Memory) = Unit {0}
@@ -89,10 +90,12 @@ pub record FindsMore (names : Names) (o : Operator) (first p : Part) : Type 0 wh
       → Stops (level_of o) rest
       → (rest ≡ left p.at) × (chain_parts us + p.spare ≡ first.spare) × Says (all_joined o t us) p.goal
 
+-- no operands are read from the words but those of more than n parts; where there are some, the fault says so
 abbrev pub MissesMore : Names → Operator → List Word → ℕ → ReadFault → Type 0
 MissesMore names o ws n e = (us : List Tree) (rest : List Word) → Chain names o us ws rest → Stops (level_of o) rest
     → (n < chain_parts us) × IsForParts e
 
+-- what the reader of the operands behind a first one answers
 abbrev pub AnswersMore : Names → Operator → Part → Result Part ReadFault → Type 0
 AnswersMore names o first (Ok p) = FindsMore names o first p
 AnswersMore names o first (Err Memory) = Unit {0}
@@ -112,6 +115,7 @@ AsksThen ws (Err e) = ending ws ≡ None
 
 -- what an expression asks for, of which a state is wanted that does not meet it
 abbrev pub AsksNever : Part → Result Query ReadFault → Type 0
-AsksNever p (Ok q) = (are_none (left p.at) ≡ true) × ((t : Tree) → Says t p.goal → Says (negated t) q.goal) × (q.then ≡ None)
+AsksNever p (Ok q) =
+    (are_none (left p.at) ≡ true) × ((t : Tree) → Says t p.goal → Says (negated t) q.goal) × (q.then ≡ None)
 AsksNever p (Err Memory) = Unit {0}
 AsksNever p (Err (Refused r)) = are_none (left p.at) ≡ false
