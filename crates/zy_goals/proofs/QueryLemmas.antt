@@ -14,7 +14,7 @@ use Rattle.zy_goals.specs.Cursors.{left}
 use Rattle.zy_goals.specs.Vocabulary.{lone_fact, why}
 use Rattle.zy_goals.specs.Phrases.{fact_of, state_fact_of, comparison, term_of, spelled_term, outcome_of}
 use Rattle.zy_goals.specs.Grammar.{Tree, fact, negated, bracketed, joined, Reads, Says, word_of, level_of, whole, ending, max_parts}
-use Rattle.zy_goals.specs.Grammar.{Means, MeansNever, IsNoGoal, IsNoInvariant, OnRefused}
+use Rattle.zy_goals.specs.Grammar.{Means, MeansNever, AreOne, anything, IsNoGoal, IsNoInvariant, OnRefused}
 use Rattle.zy_goals.specs.Expressions.{Stops, Finds, Answers, Asks, AsksThen, AsksNever}
 use Rattle.zy_goals.proofs.ReadLemmas.{begun, both_answers, no_value}
 
@@ -70,18 +70,24 @@ none_left : (ws : List Word) → are_none ws ≡ true → ws ≡ []
 none_left [] h = refl
 none_left (w ∷ ws) h = cc
 
+-- the value of an option, or another
+abbrev value_or : {T : Type 0} → T → Option T → T
+value_or y None = y
+value_or y (Some x) = x
+
 -- ---- goals
 
--- what is read, and what is refused
+-- what is read is what the words mean, and nothing else is; what is refused means nothing
 abbrev pub AnswersGoal : Names → List Word → Result Query ReadFault → Type 0
-AnswersGoal names ws (Ok q) = Means names ws q
+AnswersGoal names ws (Ok q) = Means names ws q × ((r : Query) → Means names ws r → AreOne q r)
 AnswersGoal names ws (Err e) = OnRefused e (IsNoGoal names ws)
 
--- both clauses of the reader of goals
+-- the clauses of the reader of goals
 pub goal_clauses : (names : Names) (ws : List Word) (x : Result Query ReadFault) → AnswersGoal names ws x
-    → IfOk x (λ q. Means names ws q) × IfErr x (λ e. OnRefused e (IsNoGoal names ws))
-goal_clauses names ws (Ok q) h = (h, tt)
-goal_clauses names ws (Err e) h = (tt, h)
+    → IfOk x (λ q. Means names ws q) × IfOk x (λ q. (r : Query) → Means names ws r → AreOne q r)
+    × IfErr x (λ e. OnRefused e (IsNoGoal names ws))
+goal_clauses names ws (Ok q) h = (h.0, h.1, tt)
+goal_clauses names ws (Err e) h = (tt, tt, h)
 
 -- the expression is refused
 pub goal_missed : (names : Names) (ws : List Word) (e : ReadFault) → begin_with (codes "then") ws ≡ false
@@ -98,14 +104,26 @@ goal_missed names ws (Refused r) b h = record {
 -- the expression was read
 pub goal_asked : (names : Names) (ws : List Word) (p : Part) (x : Result Query ReadFault) → begin_with (codes "then") ws ≡ false
     → Finds names 0 ws max_parts p → Asks p x → AnswersGoal names ws x
-goal_asked names ws p (Ok q) b f a = inl (record {
-  tree = f.tree;
-  rest = left p.at;
-  reads = f.reads;
-  parts = omega (arith, f.parts);
-  says = subst (λ y. Says f.tree y) (sym a.0) f.says;
-  ends = a.1;
-})
+goal_asked names ws p (Ok q) b f a = (
+  inl (record {
+    tree = f.tree;
+    rest = left p.at;
+    reads = f.reads;
+    parts = omega (arith, f.parts);
+    says = subst (λ y. Says f.tree y) (sym a.0) f.says;
+    ends = a.1;
+  }),
+  λ r m. elim m [
+    | inl g ↦ let k = f.only g.tree g.rest g.reads (ending_stops g.rest r.then g.ends) in
+        record {
+          tree = g.tree;
+          first = subst (λ y. Says g.tree y) (sym a.0) k.2;
+          second = g.says;
+          asked = ap (value_or q.then) (sym a.1 ∙ sym (ap ending k.0) ∙ g.ends);
+        }
+    | inr g ↦ both_answers (begin_with (codes "then") ws) g.begins b
+  ],
+)
 goal_asked names ws p (Err Memory) b f a = tt
 goal_asked names ws p (Err (Refused r)) b f a = record {
   nothing = λ q m. elim m [
@@ -121,7 +139,18 @@ goal_asked names ws p (Err (Refused r)) b f a = record {
 -- `then` alone
 pub goal_then : (names : Names) (ws : List Word) (x : Result Query ReadFault) → begin_with (codes "then") ws ≡ true
     → AsksThen ws x → AnswersGoal names ws x
-goal_then names ws (Ok q) b a = inr a
+goal_then names ws (Ok q) b a = (
+  inr a,
+  λ r m. elim m [
+    | inl g ↦ no_tree_then names 0 g.tree ws g.rest b g.reads
+    | inr g ↦ record {
+      tree = fact anything;
+      first = a.says;
+      second = g.says;
+      asked = ap (value_or q.then) (sym a.ends ∙ g.ends);
+    }
+  ],
+)
 goal_then names ws (Err Memory) b a = tt
 goal_then names ws (Err (Refused r)) b a = record {
   nothing = λ q m. elim m [
@@ -133,15 +162,17 @@ goal_then names ws (Err (Refused r)) b a = record {
 
 -- ---- goals that every state is to meet
 
+-- what is read is what the words mean, and nothing else is; what is refused means nothing
 abbrev pub AnswersNever : Names → List Word → Result Query ReadFault → Type 0
-AnswersNever names ws (Ok q) = MeansNever names ws q
+AnswersNever names ws (Ok q) = MeansNever names ws q × ((r : Query) → MeansNever names ws r → AreOne q r)
 AnswersNever names ws (Err e) = OnRefused e (IsNoInvariant names ws)
 
--- both clauses of their reader
+-- the clauses of their reader
 pub never_clauses : (names : Names) (ws : List Word) (x : Result Query ReadFault) → AnswersNever names ws x
-    → IfOk x (λ q. MeansNever names ws q) × IfErr x (λ e. OnRefused e (IsNoInvariant names ws))
-never_clauses names ws (Ok q) h = (h, tt)
-never_clauses names ws (Err e) h = (tt, h)
+    → IfOk x (λ q. MeansNever names ws q) × IfOk x (λ q. (r : Query) → MeansNever names ws r → AreOne q r)
+    × IfErr x (λ e. OnRefused e (IsNoInvariant names ws))
+never_clauses names ws (Ok q) h = (h.0, h.1, tt)
+never_clauses names ws (Err e) h = (tt, tt, h)
 
 -- the expression is refused
 pub never_missed : (names : Names) (ws : List Word) (e : ReadFault) → Answers names 0 ws max_parts (Err e)
@@ -155,13 +186,21 @@ never_missed names ws (Refused r) h = record {
 -- the expression was read
 pub never_asked : (names : Names) (ws : List Word) (p : Part) (x : Result Query ReadFault) → Finds names 0 ws max_parts p
     → AsksNever p x → AnswersNever names ws x
-never_asked names ws p (Ok q) f a = record {
-  tree = f.tree;
-  reads = subst (λ w. Reads names 0 f.tree ws w) (none_left (left p.at) a.0) f.reads;
-  parts = omega (arith, f.parts);
-  says = a.1 f.tree f.says;
-  ends = a.2;
-}
+never_asked names ws p (Ok q) f a = (
+  record {
+    tree = f.tree;
+    reads = subst (λ w. Reads names 0 f.tree ws w) (none_left (left p.at) a.0) f.reads;
+    parts = omega (arith, f.parts);
+    says = a.1 f.tree f.says;
+    ends = a.2;
+  },
+  λ r g. record {
+    tree = negated g.tree;
+    first = a.1 g.tree (f.only g.tree [] g.reads none_stops).2;
+    second = g.says;
+    asked = a.2 ∙ sym g.ends;
+  },
+)
 never_asked names ws p (Err Memory) f a = tt
 never_asked names ws p (Err (Refused r)) f a = record {
   nothing = λ q g. both_answers (are_none (left p.at)) (sym (ap are_none (f.only g.tree [] g.reads none_stops).0)) a;

@@ -15,7 +15,7 @@ use Rattle.zy_goals.specs.Cursors.{left}
 use Rattle.zy_goals.specs.Vocabulary.{lone_fact, why}
 use Rattle.zy_goals.specs.Phrases.{fact_of, state_fact_of, comparison, term_of, spelled_term}
 use Rattle.zy_goals.specs.Grammar.{Tree, fact, negated, bracketed, joined, Reads, Says, parts_of, word_of, level_of}
-use Rattle.zy_goals.specs.Expressions.{Stops, Finds, Misses, Answers, Chain, chain_parts, FindsMore, MissesMore, AnswersMore, IsForParts}
+use Rattle.zy_goals.specs.Expressions.{Stops, Finds, Misses, Answers, Chain, chain_parts, all_joined, FindsMore, MissesMore, AnswersMore, IsForParts}
 use Rattle.zy_goals.specs.Expressions.{Negates, Joins, Closes}
 
 -- the calls that read operands of an operator go down from here
@@ -42,6 +42,11 @@ no_value o x n y = cc
 abbrev behind : {T : Type 0} → List Word → Read T → List Word
 behind ws None = ws
 behind ws (Some x) = x.1
+
+-- the fact that was read
+abbrev fact_in : Fact → Read Fact → Fact
+fact_in x None = x
+fact_in x (Some y) = y.0
 
 -- the word of an operator is at hand
 pub at_operator : (o : Operator) (ws vs : List Word) → ws ≡ word_of o ∷ vs → begin_with (word_of o) ws ≡ true
@@ -72,28 +77,28 @@ too_tight And h = absurd (omega arith)
 
 -- behind `not` is what it negates
 pub inside_not : (names : Names) (t : Tree) (ws rest : List Word) → begin_with (codes "not") ws ≡ true → Reads names 2 t ws rest
-    → (u : Tree) × Reads names 2 u (after ws) rest × (parts_of t ≡ suc (parts_of u))
+    → (u : Tree) × Reads names 2 u (after ws) rest × (parts_of t ≡ suc (parts_of u)) × (t ≡ negated u)
 inside_not names (fact x) ws rest b r =
     no_value (fact_of names ws) (x, rest) (ap (fact_of names) (begun 110 (111 ∷ 116 ∷ []) ws b) ∙ no_fact_not names (after ws)) r
-inside_not names (negated u) ws rest b r = (u, subst (λ vs. Reads names 2 u vs rest) (sym (ap after r.1)) r.2, refl)
+inside_not names (negated u) ws rest b r = (u, subst (λ vs. Reads names 2 u vs rest) (sym (ap after r.1)) r.2, refl, refl)
 inside_not names (bracketed u) ws rest b r = both_answers (begin_with (codes "not") ws) b (ap (begin_with (codes "not")) r.1)
 inside_not names (joined o t u) ws rest b r = too_tight o r.1
 
 -- behind a bracket is what stands in the brackets
 pub inside_brackets : (names : Names) (t : Tree) (ws rest : List Word) → begin_with (codes "(") ws ≡ true → Reads names 2 t ws rest
-    → (u : Tree) × Reads names 0 u (after ws) (codes ")" ∷ rest) × (parts_of t ≡ suc (parts_of u))
+    → (u : Tree) × Reads names 0 u (after ws) (codes ")" ∷ rest) × (parts_of t ≡ suc (parts_of u)) × (t ≡ bracketed u)
 inside_brackets names (fact x) ws rest b r =
     no_value (fact_of names ws) (x, rest) (ap (fact_of names) (begun 40 [] ws b) ∙ no_fact_bracket names (after ws)) r
 inside_brackets names (negated u) ws rest b r = both_answers (begin_with (codes "(") ws) b (ap (begin_with (codes "(")) r.1)
 inside_brackets names (bracketed u) ws rest b r =
-    (u, subst (λ vs. Reads names 0 u vs (codes ")" ∷ rest)) (sym (ap after r.1)) r.2, refl)
+    (u, subst (λ vs. Reads names 0 u vs (codes ")" ∷ rest)) (sym (ap after r.1)) r.2, refl, refl)
 inside_brackets names (joined o t u) ws rest b r = too_tight o r.1
 
 -- without `not` and a bracket, a fact stands there
 pub only_fact : (names : Names) (t : Tree) (ws rest : List Word) → begin_with (codes "(") ws ≡ false
     → begin_with (codes "not") ws ≡ false → Reads names 2 t ws rest
-    → (x : Fact) × (fact_of names ws ≡ Some (x, rest)) × (parts_of t ≡ 1)
-only_fact names (fact x) ws rest b n r = (x, r, refl)
+    → (x : Fact) × (fact_of names ws ≡ Some (x, rest)) × (parts_of t ≡ 1) × (t ≡ fact x)
+only_fact names (fact x) ws rest b n r = (x, r, refl, refl)
 only_fact names (negated u) ws rest b n r = both_answers (begin_with (codes "not") ws) (ap (begin_with (codes "not")) r.1) n
 only_fact names (bracketed u) ws rest b n r = both_answers (begin_with (codes "(") ws) (ap (begin_with (codes "(")) r.1) b
 only_fact names (joined o t u) ws rest b n r = too_tight o r.1
@@ -127,8 +132,11 @@ lone_found names ws n m x at b k e h = record {
   says = refl;
   parts = omega arith;
   only = λ t rest r s.
-      let f = only_fact names t ws rest b k r in
-      (sym (ap (behind rest) (e ∙ f.1)), omega (arith, f.2));
+      let f = only_fact names t ws rest b k r in (
+        sym (ap (behind rest) (e ∙ f.1)),
+        omega (arith, f.2),
+        subst (λ u. Says u (Is x)) (sym f.3) (sym (ap (fact_in x) (e ∙ f.1))),
+      );
 }
 
 -- no fact was read, so nothing stands there
@@ -168,8 +176,11 @@ not_found names ws vs n m p q b en ev f g = record {
   parts = omega (arith, f.parts, g.spare, en);
   only = λ t rest r s.
       let u = inside_not names t ws rest b r in
-      let k = f.only u.0 rest (subst (λ w. Reads names 2 u.0 w rest) (sym ev) u.1) s in
-      (k.0 ∙ sym (ap left g.at), omega (arith, k.1, u.2, g.spare, en));
+      let k = f.only u.0 rest (subst (λ w. Reads names 2 u.0 w rest) (sym ev) u.1) s in (
+        k.0 ∙ sym (ap left g.at),
+        omega (arith, k.1, u.2, g.spare, en),
+        subst (λ v. Says v q.goal) (sym u.3) (g.says u.0 k.2),
+      );
 }
 
 -- ---- brackets
@@ -212,8 +223,11 @@ brackets_closed names ws vs n m p (Ok q) b en ev f g = record {
   parts = omega (arith, f.parts, g.2, en);
   only = λ t rest r s.
       let u = inside_brackets names t ws rest b r in
-      let k = f.only u.0 (codes ")" ∷ rest) (subst (λ w. Reads names 0 u.0 w (codes ")" ∷ rest)) (sym ev) u.1) (bracket_stops rest) in
-      (ap after (k.0 ∙ g.0), omega (arith, k.1, u.2, g.2, en));
+      let k = f.only u.0 (codes ")" ∷ rest) (subst (λ w. Reads names 0 u.0 w (codes ")" ∷ rest)) (sym ev) u.1) (bracket_stops rest) in (
+        ap after (k.0 ∙ g.0),
+        omega (arith, k.1, u.2, g.2, en),
+        subst (λ v. Says v q.goal) (sym u.3) (subst (λ y. Says u.0 y) (sym g.1) k.2),
+      );
 }
 brackets_closed names ws vs n m p (Err Memory) b en ev f g = tt
 brackets_closed names ws vs n m p (Err (Refused e)) b en ev f g = λ t rest r s.
@@ -249,6 +263,7 @@ chain_end : (names : Names) (o : Operator) (us : List Tree) (ws vs rest : List W
 chain_end names o [] ws vs rest u ch r = (vs, rest, ch, r, refl)
 chain_end names o (x ∷ us) ws vs rest u ch r = (ch.0, ch.1, ch.2, ch.3, chain_end names o us ch.1 vs rest u ch.4 r)
 
+-- the parts of operands and one more
 chain_parts-end : (us : List Tree) (u : Tree) → chain_parts (us ++ u ∷ []) ≡ chain_parts us + suc (parts_of u)
 chain_parts-end [] u = omega arith
 chain_parts-end (x ∷ us) u = omega (arith, chain_parts-end us u)
@@ -261,14 +276,21 @@ pub record Spine (names : Names) (o : Operator) (t : Tree) (ws rest : List Word)
   pub reads : Reads names (suc (level_of o)) head ws mid
   pub chain : Chain names o tail mid rest
   pub parts : parts_of t ≡ parts_of head + chain_parts tail
+  pub whole : t ≡ all_joined o head tail
 
+-- one more operand comes last
+all_joined-end : (o : Operator) (t : Tree) (us : List Tree) (u : Tree) → joined o (all_joined o t us) u ≡ all_joined o t (us ++ u ∷ [])
+all_joined-end o t [] u = refl
+all_joined-end o t (x ∷ us) u = all_joined-end o (joined o t x) us u
+
+-- each tree is a first operand and the operands behind it
 spine : (names : Names) (o : Operator) (t : Tree) (ws rest : List Word) → Reads names (level_of o) t ws rest → Spine names o t ws rest
 spine names o (fact x) ws rest r =
-    record { head = fact x; tail = []; mid = rest; reads = r; chain = refl; parts = omega arith }
+    record { head = fact x; tail = []; mid = rest; reads = r; chain = refl; parts = omega arith; whole = refl }
 spine names o (negated t) ws rest r =
-    record { head = negated t; tail = []; mid = rest; reads = r; chain = refl; parts = omega arith }
+    record { head = negated t; tail = []; mid = rest; reads = r; chain = refl; parts = omega arith; whole = refl }
 spine names o (bracketed t) ws rest r =
-    record { head = bracketed t; tail = []; mid = rest; reads = r; chain = refl; parts = omega arith }
+    record { head = bracketed t; tail = []; mid = rest; reads = r; chain = refl; parts = omega arith; whole = refl }
 spine names Or (joined Or t u) ws rest r =
     let s = spine names Or t ws (word_of Or ∷ r.0) r.2 in
     record {
@@ -278,9 +300,10 @@ spine names Or (joined Or t u) ws rest r =
       reads = s.reads;
       chain = chain_end names Or s.tail s.mid r.0 rest u s.chain r.3;
       parts = omega (arith, s.parts, chain_parts-end s.tail u);
+      whole = ap (λ v. joined Or v u) s.whole ∙ all_joined-end Or s.head s.tail u;
     }
 spine names Or (joined And t u) ws rest r =
-    record { head = joined And t u; tail = []; mid = rest; reads = (r.0, omega arith, r.2, r.3); chain = refl; parts = omega arith }
+    record { head = joined And t u; tail = []; mid = rest; reads = (r.0, omega arith, r.2, r.3); chain = refl; parts = omega arith; whole = refl }
 spine names And (joined Or t u) ws rest r = absurd (omega (arith, r.1))
 spine names And (joined And t u) ws rest r =
     let s = spine names And t ws (word_of And ∷ r.0) r.2 in
@@ -291,6 +314,7 @@ spine names And (joined And t u) ws rest r =
       reads = s.reads;
       chain = chain_end names And s.tail s.mid r.0 rest u s.chain r.3;
       parts = omega (arith, s.parts, chain_parts-end s.tail u);
+      whole = ap (λ v. joined And v u) s.whole ∙ all_joined-end And s.head s.tail u;
     }
 
 -- the first operand is refused
@@ -315,8 +339,8 @@ chain_more names o ws n p (Ok q) f g =
       only = λ t rest r s.
           let x = spine names o t ws rest r in
           let k = f.only x.head x.mid x.reads (chain_stops names o x.tail x.mid rest x.chain s) in
-          let m = g.only x.tail rest (subst (λ w. Chain names o x.tail w rest) k.0 x.chain) s in
-          (m.0, omega (arith, x.parts, k.1, m.1));
+          let m = g.only x.head x.tail rest k.2 (subst (λ w. Chain names o x.tail w rest) k.0 x.chain) s in
+          (m.0, omega (arith, x.parts, k.1, m.1), subst (λ v. Says v q.goal) (sym x.whole) m.2);
     }
 chain_more names o ws n p (Err Memory) f g = tt
 chain_more names o ws n p (Err (Refused e)) f g = λ t rest r s.
@@ -328,16 +352,18 @@ chain_more names o ws n p (Err (Refused e)) f g = λ t rest r s.
 -- ---- the operands behind the first one
 
 -- where no operator comes there are no more operands
-no_more : (names : Names) (o : Operator) (us : List Tree) (ws rest : List Word) (n : ℕ) → begin_with (word_of o) ws ≡ false
-    → Chain names o us ws rest → (rest ≡ ws) × (chain_parts us + n ≡ n)
-no_more names o [] ws rest n b ch = (sym ch, omega arith)
-no_more names o (u ∷ us) ws rest n b ch = both_answers (begin_with (word_of o) ws) (at_operator o ws ch.0 ch.2) b
+no_more : (names : Names) (o : Operator) (t : Tree) (us : List Tree) (ws rest : List Word) (n : ℕ)
+    → begin_with (word_of o) ws ≡ false → Chain names o us ws rest
+    → (rest ≡ ws) × (chain_parts us + n ≡ n) × (t ≡ all_joined o t us)
+no_more names o t [] ws rest n b ch = (sym ch, omega arith, refl)
+no_more names o t (u ∷ us) ws rest n b ch = both_answers (begin_with (word_of o) ws) (at_operator o ws ch.0 ch.2) b
 
 -- no operator comes
 pub more_stops : (names : Names) (o : Operator) (p : Part) → begin_with (word_of o) (left p.at) ≡ false → FindsMore names o p p
 more_stops names o p b = record {
   joins = λ t ws r s. (t, r, s, refl);
-  only = λ us rest ch s. no_more names o us (left p.at) rest p.spare b ch;
+  only = λ t us rest says ch s.
+      let k = no_more names o t us (left p.at) rest p.spare b ch in (k.0, k.1, subst (λ v. Says v p.goal) k.2 says);
 }
 
 -- the next operand, and those behind it
@@ -348,6 +374,7 @@ pub record Next (names : Names) (o : Operator) (us : List Tree) (ws rest : List 
   pub reads : Reads names (suc (level_of o)) head (after ws) mid
   pub chain : Chain names o tail mid rest
   pub parts : chain_parts us ≡ suc (parts_of head) + chain_parts tail
+  pub whole : us ≡ head ∷ tail
 
 -- where an operator comes there is one more operand
 next : (names : Names) (o : Operator) (us : List Tree) (ws rest : List Word) → begin_with (word_of o) ws ≡ true
@@ -361,6 +388,7 @@ next names o (u ∷ us) ws rest b ch s = record {
   reads = subst (λ w. Reads names (suc (level_of o)) u w ch.1) (sym (ap after ch.2)) ch.3;
   chain = ch.4;
   parts = refl;
+  whole = refl;
 }
 
 -- what is known of a refusal is an answer
@@ -398,12 +426,16 @@ more_joined names o p q j vs m (Ok y) b en ev f g h = record {
       (subst (λ w. Reads names (suc (level_of o)) f.tree w (left q.at)) ev f.reads) in
       let k = h.joins (joined o t f.tree) ws (after (left p.at), omega arith, front, back) (g.says t f.tree s f.says) in
       (k.0, k.1, k.2, omega (arith, k.3, f.parts, g.spare, en));
-  only = λ us rest ch s.
+  only = λ t us rest says ch s.
       let z = next names o us (left p.at) rest b ch s in
       let r = subst (λ w. Reads names (suc (level_of o)) z.head w z.mid) (sym ev) z.reads in
       let k = f.only z.head z.mid r (chain_stops names o z.tail z.mid rest z.chain s) in
-      let l = h.only z.tail rest (subst (λ w. Chain names o z.tail w rest) (k.0 ∙ sym (ap left g.at)) z.chain) s in
-      (l.0, omega (arith, z.parts, k.1, l.1, g.spare, en));
+      let l = h.only (joined o t z.head) z.tail rest (g.says t z.head says k.2)
+      (subst (λ w. Chain names o z.tail w rest) (k.0 ∙ sym (ap left g.at)) z.chain) s in (
+        l.0,
+        omega (arith, z.parts, k.1, l.1, g.spare, en),
+        subst (λ vs. Says (all_joined o t vs) y.goal) (sym z.whole) l.2,
+      );
 }
 more_joined names o p q j vs m (Err Memory) b en ev f g h = tt
 more_joined names o p q j vs m (Err (Refused e)) b en ev f g h = λ us rest ch s.

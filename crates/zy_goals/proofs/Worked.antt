@@ -41,12 +41,13 @@ before : fact_of Unknown (words_of (codes "txn 3 committed before 1 and stuck"))
 unfolding open_all
 before = refl
 
--- `aborted` takes the reason behind it after `txn any`, and not alone
+-- `aborted` takes the reason behind it after `txn any`
 aborted_any : fact_of Unknown (words_of (codes "txn any aborted gone"))
     ≡ Some (facts.OfState (state_fact.Txns selector.Any (property.Aborted reason.Gone)), [])
 unfolding open_all
 aborted_any = refl
 
+-- alone it takes none
 aborted_alone : fact_of Unknown (words_of (codes "aborted gone"))
     ≡ Some (facts.OfState (state_fact.Txns selector.Any (property.Aborted reason.Any)), codes "gone" ∷ [])
 unfolding open_all

@@ -15,15 +15,15 @@ use Rattle.zy_goals.specs.Grammar.{Tree, negated, joined, Reads, Says, parts_of,
 abbrev pub Stops : ℕ → List Word → Type 0
 Stops l ws = (o : Operator) → l ≤ level_of o → begin_with (word_of o) ws ≡ false
 
--- A tree of level l was read from the front of the words, where n more parts were allowed, and no other tree ends where an
--- expression may end.
+-- A tree of level l was read from the front of the words, where n more parts were allowed. Each tree that ends where an
+-- expression may end has the same words and says the same goal.
 pub record Finds (names : Names) (l : ℕ) (ws : List Word) (n : ℕ) (p : Part) : Type 0 where
   pub tree : Tree
   pub reads : Reads names l tree ws (left p.at)
   pub says : Says tree p.goal
   pub parts : parts_of tree + p.spare ≡ n
   pub only : (t : Tree) (rest : List Word) → Reads names l t ws rest → Stops l rest
-      → (rest ≡ left p.at) × (parts_of t + p.spare ≡ n)
+      → (rest ≡ left p.at) × (parts_of t + p.spare ≡ n) × Says t p.goal
 
 -- the words are refused for the number of parts alone
 abbrev pub IsForParts : ReadFault → Type 0
@@ -35,6 +35,7 @@ abbrev pub Misses : Names → ℕ → List Word → ℕ → ReadFault → Type 0
 Misses names l ws n e = (t : Tree) (rest : List Word) → Reads names l t ws rest → Stops l rest
     → (n < parts_of t) × IsForParts e
 
+-- what the reader of a tree of level l answers
 abbrev pub Answers : Names → ℕ → List Word → ℕ → Result Part ReadFault → Type 0
 Answers names l ws n (Ok p) = Finds names l ws n p
 Answers names l ws n (Err Memory) = Unit {0}
@@ -75,17 +76,26 @@ abbrev pub chain_parts : List Tree → ℕ
 chain_parts [] = 0
 chain_parts (u ∷ us) = suc (parts_of u) + chain_parts us
 
--- the operands behind a first one were read and joined to it, and no others end where an expression may end
+-- a tree and the operands behind it
+abbrev pub all_joined : Operator → Tree → List Tree → Tree
+all_joined o t [] = t
+all_joined o t (u ∷ us) = all_joined o (joined o t u) us
+
+-- The operands behind a first one were read and joined to it. Any that end where an expression may end have the same words
+-- and say the same.
 pub record FindsMore (names : Names) (o : Operator) (first p : Part) : Type 0 where
   pub joins : (t : Tree) (ws : List Word) → Reads names (level_of o) t ws (left first.at) → Says t first.goal
       → (u : Tree) × Reads names (level_of o) u ws (left p.at) × Says u p.goal × (parts_of u + p.spare ≡ parts_of t + first.spare)
-  pub only : (us : List Tree) (rest : List Word) → Chain names o us (left first.at) rest → Stops (level_of o) rest
-      → (rest ≡ left p.at) × (chain_parts us + p.spare ≡ first.spare)
+  pub only : (t : Tree) (us : List Tree) (rest : List Word) → Says t first.goal → Chain names o us (left first.at) rest
+      → Stops (level_of o) rest
+      → (rest ≡ left p.at) × (chain_parts us + p.spare ≡ first.spare) × Says (all_joined o t us) p.goal
 
+-- no operands are read from the words but those of more than n parts; where there are some, the fault says so
 abbrev pub MissesMore : Names → Operator → List Word → ℕ → ReadFault → Type 0
 MissesMore names o ws n e = (us : List Tree) (rest : List Word) → Chain names o us ws rest → Stops (level_of o) rest
     → (n < chain_parts us) × IsForParts e
 
+-- what the reader of the operands behind a first one answers
 abbrev pub AnswersMore : Names → Operator → Part → Result Part ReadFault → Type 0
 AnswersMore names o first (Ok p) = FindsMore names o first p
 AnswersMore names o first (Err Memory) = Unit {0}
@@ -105,6 +115,7 @@ AsksThen ws (Err e) = ending ws ≡ None
 
 -- what an expression asks for, of which a state is wanted that does not meet it
 abbrev pub AsksNever : Part → Result Query ReadFault → Type 0
-AsksNever p (Ok q) = (are_none (left p.at) ≡ true) × ((t : Tree) → Says t p.goal → Says (negated t) q.goal) × (q.then ≡ None)
+AsksNever p (Ok q) =
+    (are_none (left p.at) ≡ true) × ((t : Tree) → Says t p.goal → Says (negated t) q.goal) × (q.then ≡ None)
 AsksNever p (Err Memory) = Unit {0}
 AsksNever p (Err (Refused r)) = are_none (left p.at) ≡ false

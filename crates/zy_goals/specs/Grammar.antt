@@ -1,5 +1,6 @@
 -- The language of goals: which words mean which goal.
-use Rattle.std.specs.Prelude.{true, ◌≡◌, ◌⊎◌, ◌+◌, ◌<◌, ◌≤◌, ℕ, suc, List, [], ◌∷◌, codes, Option, Some, None, option_map, if◌then◌else◌}
+use Rattle.std.specs.Prelude.{true, ◌≡◌, ◌⊎◌, ◌+◌, ◌<◌, ◌≤◌, ℕ, suc, List, [], ◌∷◌, codes, Option, Some, None}
+use Rattle.std.specs.Prelude.{option_map, if◌then◌else◌}
 use Rattle.zy_goals.specs.declared.goal.Comparison.TheVariants as comparison
 use Rattle.zy_goals.specs.declared.goal.Term.TheVariants as term
 use Rattle.zy_goals.specs.declared.goal.StateFact.TheVariants as state_fact
@@ -25,6 +26,7 @@ pub data Tree : Type 0 where
   bracketed : (t : Tree) → Tree
   joined : (o : Operator) → (t u : Tree) → Tree
 
+-- the word of an operator
 abbrev pub word_of : Operator → Word
 word_of Or = codes "or"
 word_of And = codes "and"
@@ -60,6 +62,7 @@ parts_of (negated t) = suc (parts_of t)
 parts_of (bracketed t) = suc (parts_of t)
 parts_of (joined o t u) = suc (parts_of t + parts_of u)
 
+-- the most parts of a goal
 abbrev pub max_parts : ℕ
 max_parts = 64
 
@@ -120,6 +123,13 @@ pub record IsTooLongNever (names : Names) (ws : List Word) : Type 0 where
   pub tree : Tree
   pub reads : Reads names 0 tree ws []
   pub parts : max_parts < parts_of tree
+
+-- two queries are one but for where they lie in memory: a tree says both goals, and the same outcome is asked for
+pub record AreOne (q r : Query) : Type 0 where
+  pub tree : Tree
+  pub first : Says tree q.goal
+  pub second : Says tree r.goal
+  pub asked : q.then ≡ r.then
 
 -- ---- refusals
 

@@ -115,6 +115,7 @@ abbrev pub reason_or_any : Option Reason → List Word → Reason × List Word
 reason_or_any None ws = (reason.Any, ws)
 reason_or_any (Some r) ws = (r, after ws)
 
+-- the reason, and the words after it
 unfoldable pub reason_of : List Word → Reason × List Word
 reason_of ws = reason_or_any (word.why (first ws)) ws
 
@@ -216,6 +217,7 @@ state_fact_of names ws =
     if begin_with (codes "link") ws then link (after ws) else
     comparison names ws
 
+-- the first of two values that is there
 abbrev pub or_else : {T : Type 0} → Option T → Option T → Option T
 or_else (Some x) o = Some x
 or_else None o = o

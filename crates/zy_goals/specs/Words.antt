@@ -4,6 +4,7 @@ use Rattle.std.specs.Prelude.{if◌then◌else◌}
 use Rattle.std.specs.List.{onto_first}
 use Rattle.std.specs.Str.{bytes_eq}
 
+-- a word, as bytes
 abbrev pub Word : Type 0
 Word = List ℕ
 
@@ -75,6 +76,7 @@ begin_with w ws = bytes_eq (first ws) w
 abbrev pub Read : Type 0 → Type 0
 Read T = Option (T × List Word)
 
+-- a step, and what comes after it where there is a value
 infixl 10 ◌>>=◌
 abbrev pub ◌>>=◌ : {A B : Type 0} → Option A → (A → Option B) → Option B
 None >>= f = None

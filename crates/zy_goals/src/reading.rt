@@ -5,7 +5,8 @@ ghost use Rattle.zy_goals.specs.Words.{words_of, begin_with};
 ghost use Rattle.zy_goals.specs.Cursors.{left, found};
 ghost use Rattle.zy_goals.specs.Phrases.{outcome_of};
 ghost use Rattle.zy_goals.specs.Grammar as spec;
-ghost use Rattle.zy_goals.specs.Grammar.{Means, MeansNever, IsNoGoal, IsNoInvariant, OnRefused};
+ghost use Rattle.zy_goals.specs.Grammar.{Means, MeansNever, AreOne, IsNoGoal, IsNoInvariant, OnRefused};
+ghost use Rattle.zy_goals.specs.declared.reading.Query.{Query as AQuery};
 ghost use Rattle.zy_goals.specs.Expressions.{Asks, AsksThen, AsksNever};
 
 mod cursor;
@@ -129,6 +130,9 @@ fn asked_never(alloc: Global, part: Part<'_>) -> Result<Query, ReadFault>
 pub fn read_goal(alloc: Global, text: &[u8], names: Names<'_>) -> Result<Query, ReadFault>
     // What is read is what the words mean.
     ensures meant { IfOk result (λ query. Means names.entry (words_of text.now) query) }
+    // They mean nothing else.
+    ensures only { IfOk result (λ query. (other : AQuery) → Means names.entry (words_of text.now) other
+        → AreOne query other) }
     // What is refused means nothing.
     ensures refused { IfErr result (λ fault. OnRefused fault (IsNoGoal names.entry (words_of text.now))) }
 {
@@ -145,6 +149,9 @@ pub fn read_goal(alloc: Global, text: &[u8], names: Names<'_>) -> Result<Query, 
 pub fn read_always(alloc: Global, text: &[u8], names: Names<'_>) -> Result<Query, ReadFault>
     // What is read is the negation of what the words mean.
     ensures meant { IfOk result (λ query. MeansNever names.entry (words_of text.now) query) }
+    // They mean nothing else.
+    ensures only { IfOk result (λ query. (other : AQuery) → MeansNever names.entry (words_of text.now) other
+        → AreOne query other) }
     // What is refused means nothing.
     ensures refused { IfErr result (λ fault. OnRefused fault (IsNoInvariant names.entry (words_of text.now))) }
 {

@@ -96,7 +96,7 @@ fn joined<'a>(
 }
 
 /// The negation of what was read.
-fn without<'a>(alloc: Global, part: Part<'a>) -> Result<Part<'a>, AllocError>
+fn negated_part<'a>(alloc: Global, part: Part<'a>) -> Result<Part<'a>, AllocError>
     ensures { IfOk result (Negates part.entry) }
 {
     let goal = negated(alloc, part.goal)?;
@@ -156,7 +156,7 @@ fn negation<'a>(
 {
     let spare = count(at, spare)?;
     let part = one(alloc, names, at.next(), spare)?;
-    match without(alloc, part) {
+    match negated_part(alloc, part) {
         Ok(part) => Ok(part),
         Err(_) => Err(ReadFault::Memory),
     }

@@ -12,11 +12,18 @@ returns-in_err-part-clause-refused c =
     let fault = c.in_err-part.field-0.0 in
     rw (p.1, p.2) ((never_clauses c.args.names (words_of c.args.text.now) (Err fault)
     (subst (λ ws. AnswersNever c.args.names ws (Err fault)) c.new-start.ensures
-    (never_missed c.args.names (left c.new-start.result) fault c.in_err-part.ensures))).1)
+    (never_missed c.args.names (left c.new-start.result) fault c.in_err-part.ensures))).2)
+
+pub returns-clause-only : goal.returns-clause-only
+returns-clause-only c =
+    (never_clauses c.args.names (words_of c.args.text.now) c.asked_never.result
+    (subst (λ ws. AnswersNever c.args.names ws c.asked_never.result) c.new-start.ensures
+    (never_asked c.args.names (left c.new-start.result) c.in_ok-part.part c.asked_never.result
+    c.in_ok-part.ensures c.asked_never.ensures))).1
 
 pub returns-clause-refused : goal.returns-clause-refused
 returns-clause-refused c =
     (never_clauses c.args.names (words_of c.args.text.now) c.asked_never.result
     (subst (λ ws. AnswersNever c.args.names ws c.asked_never.result) c.new-start.ensures
     (never_asked c.args.names (left c.new-start.result) c.in_ok-part.part c.asked_never.result
-    c.in_ok-part.ensures c.asked_never.ensures))).1
+    c.in_ok-part.ensures c.asked_never.ensures))).2
