@@ -178,7 +178,7 @@ def messages(page):
     page.value('show(0)')
     page.wait()
     page.choice('C begin 1')
-    right('a branch begins', 'note', 'branch 2 begins here.*')
+    right('a branch begins', 'note', r'branch 2 begins after step \d+; branch 1 stays as it is')
     right('the answer of another branch', 'report', '')
     right('what was sought in another text', 'found', '')
     page.value('$("view").focus()')
@@ -707,10 +707,12 @@ def links():
             page.wait('$("fault").textContent')
             shown = page.value(DAMAGED)
             found += [] if shown == [True, '', 'zplay', False] else ['%s: %r' % (damaged[-12:], shown)]
+            able = page.value('["link", "cut", "migrate"].filter(id => !$(id).disabled)')
+            found += ['%s: with no run there is %s' % (damaged[-12:], able)] if able else []
         page.type(SMALLEST)
         page.wait()
-        shown = page.value('[D.last, $("fault").textContent, document.title]')
-        found += [] if shown == [0, '', 'your own text · zplay'] else ['a text that is typed instead: %r' % shown]
+        shown = page.value('[D.last, $("fault").textContent, document.title, $("link").disabled]')
+        found += [] if shown == [0, '', 'your own text · zplay', False] else ['a text that is typed instead: %r' % shown]
         page.go('about:blank')
         page.go(start + '#' + run)
         page.wait()

@@ -42,6 +42,9 @@ function showDamaged() {
     document.body.classList.remove('stale');
     return storeSoon();
   }
+  for (const button of ['link', 'cut', 'migrate']) $(button).disabled = true;
+  $('migrate').textContent = 'A whole migration';
+  $('fault').scrollIntoView({block: 'nearest'});
   name = '';
   $('example').selectedIndex = -1;
   document.title = 'zplay';

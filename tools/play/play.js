@@ -158,7 +158,7 @@ function make(choices, from = doc, isFound = false) {
   if (isFound || from.text !== doc.text || from.at < scheduleOf(doc.text).choices.length) {
     fork(text);
     put(more);
-    note(`branch ${current} begins here; branch ${previous} stays as it is`);
+    note(`branch ${current} begins after step ${from.at}; branch ${previous} stays as it is`);
   }
   return setText(text, at);
 }
@@ -312,6 +312,7 @@ const isSettled = () => ['A', 'B'].every(node => ['normal', 'empty'].includes(at
 function drawNext() {
   $('after').textContent = `After step ${now}`;
   $('cut').disabled = now === D.last;
+  $('link').disabled = false;
   $('migrate').textContent = isSettled() ? 'A whole migration' : 'Let the migration end';
   const lanes = candidates(), text = textHere();
   drawLanes(lanes, known.get(text));

@@ -21,6 +21,7 @@ function take(text, title, at = Infinity) {
 }
 // Keeps what is shown for undo, and says so where it is not an example as it comes.
 function putAside() {
+  if (!D) return;
   const many = branches.length > 1 ? ` with its ${branches.length} branches` : '', isChanged = many || doc.text !== given.examples[name];
   remember();
   if (own.has(name)) own = new Map([...own, [name, doc.text]]);
