@@ -1,9 +1,8 @@
 //! The order that explains the rows of a run, as standard error names it.
 
 use crate::again::make_again;
-use std::alloc::Global;
 use std::fmt;
-use zy_engine::{BenchFault, Format, SearchOptions};
+use zy_engine::{Format, SearchOptions};
 use zy_isa::{Choice, MAX_CHOICES};
 use zy_machine::{Fault, Machine};
 use zy_serial::explaining::explaining_order;
@@ -36,21 +35,22 @@ pub fn explain_again<R: Eprint + AllocGlobal>(rt: &R, format: Format, scenario: 
     }
 }
 
-/// The machine of a scenario that has made the choices which a search took as steps already taken, and more behind them.
-fn run_found(
-    alloc: Global,
-    options: SearchOptions,
-    scenario: &[u8],
-    more: &[Choice],
-) -> Result<Machine, BenchFault> {
-    let run = make_again(alloc, options.format, scenario)?;
-    let mut machine = run.reopen(alloc)?;
-    let choices = run.scenario().choices();
-    let taken = options.from.unwrap_or(choices.len()).min(choices.len());
-    let (taken, _) = choices.split_at(taken);
-    go_on(&mut machine, taken)?;
-    go_on(&mut machine, more)?;
-    Ok(machine)
+/// Makes the first choices of a machine's scenario, or all where there are fewer.
+fn go_first(machine: &mut Machine, count: usize) -> Result<(), Fault> {
+    for i in 0..count.min(MAX_CHOICES) {
+        let choice = machine.scenario().choices().get(i).copied();
+        if let Some(choice) = choice {
+            go_on(machine, &[choice])?;
+        }
+    }
+    Ok(())
+}
+
+/// Makes the choices that a search took as steps already taken, and those that it has found, on a machine that has made
+/// none.
+fn go_found(machine: &mut Machine, options: SearchOptions, found: &[Choice]) -> Result<(), Fault> {
+    go_first(machine, options.from.unwrap_or(MAX_CHOICES))?;
+    go_on(machine, found)
 }
 
 /// Makes the choices that a search has found, and says what `explain` says of that run.
@@ -58,10 +58,14 @@ pub fn explain_found<R: Eprint + AllocGlobal>(
     rt: &R,
     options: SearchOptions,
     scenario: &[u8],
-    more: &[Choice],
+    found: &[Choice],
 ) {
-    if let Ok(machine) = run_found(rt.alloc(), options, scenario, more) {
-        explain(rt, &machine);
+    if let Ok(run) = make_again(rt.alloc(), options.format, scenario) {
+        if let Ok(mut machine) = run.reopen(rt.alloc()) {
+            if go_found(&mut machine, options, found).is_ok() {
+                explain(rt, &machine);
+            }
+        }
     }
 }
 
