@@ -271,7 +271,7 @@ PROGRAM_FAULTS = [
             'Some(name) if !name.is_empty() =>', 'Some(name) if name.len() > 99 =>', '^search-own-words:', 'run'),
     program(7, '--from takes one more', COMMAND_LINE, 'usize::from(count))', 'usize::from(count) + 1)', '^search-own-words-from-0', 'run'),
     program(7, '--without run leaves pushes out', COMMAND_LINE, '            run: false,', '            push: false,', '^search-without-each', 'run'),
-    program(7, 'starts are named where pushes are left out', 'zy_bench/src/summary.rt', '("starts", !kinds.start)', '("starts", !kinds.push)',
+    program(7, 'starts are named where pushes are left out', 'zy_bench/src/summary.rt', '"starts", !kinds.start)', '"starts", !kinds.push)',
             '^search-without-start', 'run'),
     program(7, 'a goal that always holds is reported as one that no state shows', 'zy_bench/src/summary.rt',
             'write!(f, "it holds in each of {states}")', 'write!(f, "none of {states} shows it")', '^search-always:', 'run'),

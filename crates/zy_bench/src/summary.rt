@@ -85,43 +85,70 @@ impl fmt::Display for Summary<'_> {
 struct LeftOut(ChoiceKinds);
 
 impl LeftOut {
-    /// Each kind by its plural, and whether it was left out.
-    fn kinds(self) -> [(&'static str, bool); 7] {
-        let LeftOut(kinds) = self;
-        [
-            ("starts", !kinds.start),
-            ("begins", !kinds.begin),
-            ("kills", !kinds.kill),
-            ("runs", !kinds.run),
-            ("takes", !kinds.take),
-            ("finishes", !kinds.finish),
-            ("pushes", !kinds.push),
-        ]
-    }
-
     /// Whether no more than kills were left out.
     fn is_usual(self) -> bool {
-        self.kinds()
-            .iter()
-            .all(|(kind, is_out)| !*is_out || *kind == "kills")
+        let LeftOut(kinds) = self;
+        kinds.start && kinds.begin && kinds.run && kinds.take && kinds.finish && kinds.push
+    }
+
+    /// How many kinds were left out.
+    fn count(self) -> u8 {
+        let LeftOut(kinds) = self;
+        u8::from(!kinds.start)
+            + u8::from(!kinds.begin)
+            + u8::from(!kinds.kill)
+            + u8::from(!kinds.run)
+            + u8::from(!kinds.take)
+            + u8::from(!kinds.finish)
+            + u8::from(!kinds.push)
+    }
+}
+
+/// Words of a list that is written from its first one on.
+#[derive(Clone, Copy)]
+struct Listed {
+    /// How many words come yet.
+    left: u8,
+    /// Whether one has come.
+    is_begun: bool,
+}
+
+impl Listed {
+    /// Writes a word, if it is one of the list, and what is between it and the one before.
+    fn write<W: fmt::Write>(
+        &mut self,
+        f: &mut fmt::Formatter<W>,
+        word: &str,
+        is_there: bool,
+    ) -> fmt::Result {
+        if !is_there {
+            return Ok(());
+        }
+        let is_last = self.is_begun && self.left == 1;
+        self.left = self.left.saturating_sub(1);
+        self.is_begun = true;
+        f.write_str(if is_last { " and " } else { ", " })?;
+        f.write_str(word)
     }
 }
 
 impl fmt::Display for LeftOut {
     fn fmt<W: fmt::Write>(&self, f: &mut fmt::Formatter<W>) -> fmt::Result {
-        let kinds = self.kinds();
-        let mut left = kinds.iter().filter(|(_, is_out)| *is_out).count();
-        if left == 0 {
+        let LeftOut(kinds) = *self;
+        let mut listed = Listed {
+            left: self.count(),
+            is_begun: false,
+        };
+        if listed.left == 0 {
             return Ok(());
         }
-        let mut between = ", ";
-        for (kind, is_out) in kinds {
-            if is_out {
-                write!(f, "{between}{kind}")?;
-                left = left.saturating_sub(1);
-                between = if left == 1 { " and " } else { ", " };
-            }
-        }
+        listed.write(f, "starts", !kinds.start)?;
+        listed.write(f, "begins", !kinds.begin)?;
+        listed.write(f, "kills", !kinds.kill)?;
+        listed.write(f, "runs", !kinds.run)?;
+        listed.write(f, "takes", !kinds.take)?;
+        listed.write(f, "finishes", !kinds.finish)?;
+        listed.write(f, "pushes", !kinds.push)?;
         f.write_str(" not considered")
     }
 }
