@@ -269,7 +269,7 @@ PROGRAM_FAULTS = [
     program(6, 'find has found something wherever it looks', 'zy_bench/src/main.rt', 'if count == 0 { NOWHERE } else { DONE }', 'DONE', '^find-none', 'run'),
     program(6, 'a found schedule has no names', 'zy_engine/src/wording.rt',
             'Some(name) if !name.is_empty() =>', 'Some(name) if name.len() > 99 =>', '^search-own-words:', 'run'),
-    program(7, '--from takes one more', COMMAND_LINE, 'usize::from(count))', 'usize::from(count) + 1)', '^search-own-words-from-0', 'run'),
+    program(7, '--from takes one more', COMMAND_LINE, 'usize::from(count))', 'usize::from(count) + 1)', '^search-own-words-from:', 'run'),
     program(7, '--without run leaves pushes out', COMMAND_LINE, '            run: false,', '            push: false,', '^search-without-each', 'run'),
     program(7, 'starts are named where pushes are left out', 'zy_bench/src/summary.rt', '"starts", !kinds.start)', '"starts", !kinds.push)',
             '^search-without-start', 'run'),
