@@ -8,18 +8,18 @@ use crate::cursors::Cursors;
 use crate::plan::Plan;
 use crate::reached::Reached;
 use crate::walk::go_to;
-use zy_machine::{Fault, Machine};
+use zy_machine::{Fault, Machine, StatePart};
 use zy_search::branch::Branch;
 use zy_search::digest::digest;
 use zy_search::shelf::Shelf;
 
 /// How many states with one digest are kept; more of them cost time and memory, and nothing else.
-const MOST_ALIKE: u64 = 8;
+const MOST_PER_DIGEST: u64 = 8;
 
 /// A number that differs for most states and cursors. Nothing is promised of it: a bad one costs time alone.
 pub(crate) fn digest_of(cursors: Cursors, machine: &Machine) -> u64 {
     let place = (u64::from(cursors.c) << 32) ^ (u64::from(cursors.a) << 16) ^ u64::from(cursors.b);
-    (digest(machine).rotate_left(5) ^ place).wrapping_mul(0x517c_c1b7_2722_0a95)
+    (digest(StatePart::Whole, machine).rotate_left(5) ^ place).wrapping_mul(0x517c_c1b7_2722_0a95)
 }
 
 /// Whether the path at a place leads to a machine's state.
@@ -37,11 +37,11 @@ fn leads_to(
         ≡ machine.now.state) }
     ensures shelf { OnOk result (IsShelf plan.now.start reached.now.visited shelf.new) }
 {
-    if let Some(same) = shelf.compares(at, machine) {
+    if let Some(same) = shelf.compares(StatePart::Whole, at, machine) {
         return Ok(same);
     }
     go_to(plan, reached, at, &mut shelf.spare)?;
-    Ok(shelf.spare.same_state(machine))
+    Ok(shelf.spare.is_alike(StatePart::Whole, machine))
 }
 
 /// Whether the path that is put under a digest leads to a machine's state, with these cursors.
@@ -84,7 +84,7 @@ fn free_under(
     ensures shelf { OnOk result (IsShelf plan.now.start reached.now.visited shelf.new) }
 {
     let first = digest_of(cursors, machine);
-    for k in 0..MOST_ALIKE {
+    for k in 0..MOST_PER_DIGEST {
         let number = first.wrapping_add(k);
         if reached.visited.find(number).is_none() {
             return Ok(Some(number));
