@@ -1,5 +1,6 @@
 pub mod EachLemmas
 pub mod CommitLemmas
+pub mod EndedLemmas
 pub mod WordLemmas
 pub mod ReadLemmas
 pub mod QueryLemmas

@@ -3,6 +3,7 @@ pub mod Terms
 pub mod Facts
 pub mod Goals
 pub mod Commits
+pub mod Ended
 pub mod Outcomes
 pub mod Words
 pub mod Vocabulary

@@ -2,6 +2,7 @@
 #![tactic(auto)]
 
 pub mod commits;
+pub mod ended;
 pub mod facts;
 pub mod goal;
 pub mod named;
