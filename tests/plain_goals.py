@@ -39,7 +39,7 @@ REG     = r0 | r1 | r2 | r3 | r4 | r5 | r6 | r7
 MOST_PARTS = 64
 JOINTS = ('and', 'or', 'not', "'('")       # each is a part, and so is a fact
 
-WORD = re.compile(r'[()]|[=!<>]+|[^ ()=!<>]+')
+WORD = re.compile(r'[()]|[=!<>]+|[^ \t\r\n()=!<>]+')
 NAME = re.compile(r'[A-Za-z_][A-Za-z0-9_]{0,31}')
 
 sys.setrecursionlimit(20000)               # 64 brackets are that deep
@@ -241,6 +241,20 @@ def transactions(read):
     if read[0] == 'T':
         return [(read[1][0], read[2])]
     return [named for part in read[1] if isinstance(part, tuple) for named in transactions(part)]
+
+
+def numbers_named(read):
+    """The numbers of the transactions, and of the pages, that a goal names."""
+    words = flat(read[1])
+    return ([int(word) for word, _ in transactions(read) if word.isdigit()],
+            [int(word) for before, word in zip(words, words[1:]) if before in ('page', 'pull', 'locks') and word.isdigit()])
+
+
+def reads_ended(read):
+    """Whether what was read of a goal has to do with what an ended transaction had: a register, the program counter, how much it did, or its node."""
+    name, parts = read[:2]
+    is_of_one = name == 'TERM' and parts[0] in ('reg', 'pc', 'done') or name == 'FACT' and parts[0] == 'txn' and 'at' in parts
+    return is_of_one or any(reads_ended(part) for part in parts if isinstance(part, tuple))
 
 
 class Meaning:

@@ -7,9 +7,10 @@ many choices were added (found) or the most that a state takes (none)."""
 
 import sys
 from collections import namedtuple
+from functools import cached_property
 
-from plain_goals import Meaning, View, kind_of, read_goal
-from plain_table import opening, read, step
+from plain_goals import Meaning, View, kind_of, read_goal, reads_ended
+from plain_table import NOBODY, opening, read, step
 
 Answer = namedtuple('Answer', 'verdict states length choices')
 
@@ -30,13 +31,21 @@ def considered(scenario, kill, left_out=()):
     return [choice for choice in choices if choice[1] not in left_out]
 
 
-class States:
-    """All states that a scenario comes to, breadth first from the one after its choices, and the flags that say by which choices."""
+def whole(state):
+    return state
 
-    def __init__(self, scenario, kill=False, most=None, left_out=()):
-        self.scenario = scenario
-        self.words = ['--kill'] * kill + ['--without=' + kind for kind in left_out]
-        self.considered = considered(scenario, kill, left_out)
+
+def live(state):
+    """A state with what later steps may read: of a transaction that is not active, how it ended and its private rows."""
+    return state._replace(txns=tuple(txn if txn.status == 'active' else NOBODY._replace(status=txn.status, why=txn.why, private=txn.private)
+                                     for txn in state.txns))
+
+
+class Walk:
+    """The states that a scenario comes to, breadth first from the one after its choices; of those that are alike the first one alone."""
+
+    def __init__(self, scenario, choices, part, most=None):
+        self.scenario, self.choices, self.part = scenario, choices, part
         start = opening(scenario)
         for choice in scenario.choices:
             _, start = step(scenario, start, choice)
@@ -45,16 +54,16 @@ class States:
         self.explore(start, most)
 
     def explore(self, start, most):
-        known = {start: 0}
+        known = {self.part(start)}
         states = [start]
         while len(self.views) < len(states):
             at = len(self.views)
             outcomes = []
-            for choice in self.considered:
+            for choice in self.choices:
                 outcome, state = step(self.scenario, states[at], choice)
                 outcomes.append((choice, outcome))
-                if state not in known:
-                    known[state] = len(states)
+                if self.part(state) not in known:
+                    known.add(self.part(state))
                     states.append(state)
                     self.ways.append((at, choice))
                     self.lengths.append(self.lengths[at] + 1)
@@ -84,6 +93,25 @@ class States:
         return range(self.lengths[most - 1], self.lengths[most] + 1)
 
 
+class States:
+    """A scenario, the flags that say by which choices it comes to its states, and two walks through them: two states are alike in the first if they are
+    equal, and in the second if they are so in what later steps may read."""
+
+    def __init__(self, scenario, kill=False, most=None, left_out=()):
+        self.scenario = scenario
+        self.words = ['--kill'] * kill + ['--without=' + kind for kind in left_out]
+        self.considered = considered(scenario, kill, left_out)
+        self.whole = Walk(scenario, self.considered, whole, most)
+
+    @cached_property
+    def live(self):
+        return Walk(self.scenario, self.considered, live)
+
+    def walk_for(self, goal):
+        """The walk of a search for what was read of a goal."""
+        return self.whole if reads_ended(goal) else self.live
+
+
 def is_asked(outcome, had):
     """Whether an outcome that a choice had is the one that a goal asks for; `aborted` alone is one for any reason."""
     return outcome is not None and (kind_of(had) == outcome or outcome == 'aborted' and had.startswith('aborted '))
@@ -91,8 +119,9 @@ def is_asked(outcome, had):
 
 def search(states, goal, always=False):
     """What comes of a search for a goal, or for a state that does not meet it."""
-    test, outcome = Meaning(states.scenario.names).goal(read_goal(goal, 'EXPR' if always else 'GOAL'))
-    return states.answer((lambda view: not test(view)) if always else test, outcome)
+    read_as = read_goal(goal, 'EXPR' if always else 'GOAL')
+    test, outcome = Meaning(states.scenario.names).goal(read_as)
+    return states.walk_for(read_as).answer((lambda view: not test(view)) if always else test, outcome)
 
 
 def main(words):

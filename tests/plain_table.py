@@ -9,6 +9,8 @@ State = namedtuple('State', 'nodes links txns commits')
 Node = namedtuple('Node', 'mode lows pages asked locks')      # pages: (number, rows); locks: (page, transaction, is it exclusive)
 Txn = namedtuple('Txn', 'status node pc regs private done why')
 
+NOBODY = Txn('new', '', 0, (0,) * 8, (), 0, '')    # a transaction that has not begun
+
 NODES = 'AB'
 SOURCES = ('normal', 'sinit')
 DESTINATIONS = ('dinit', 'ddual', 'dfinish')
@@ -64,8 +66,7 @@ def opening(scenario):
     parts = [scenario.rows[i:i + size] for i in range(0, len(scenario.rows), size)] or [()]
     lows = (0,) + tuple(part[0][0] for part in parts[1:])
     here = Node('normal', lows, tuple(enumerate(parts)), frozenset(), frozenset())
-    new = Txn('new', '', 0, (0,) * 8, (), 0, '')
-    return State((here, Node('empty', (), (), frozenset(), frozenset())), ((), ()), (new,) * len(scenario.programs), ())
+    return State((here, Node('empty', (), (), frozenset(), frozenset())), ((), ()), (NOBODY,) * len(scenario.programs), ())
 
 
 # Parts of a state

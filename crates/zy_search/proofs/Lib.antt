@@ -3,6 +3,8 @@ pub mod ChoiceLemmas
 pub mod SearchLemmas
 pub mod ScheduleLemmas
 pub mod StillSteps
+pub mod AlikeSteps
+pub mod AlikeLemmas
 pub mod CommitLemmas
 pub mod ShelfLemmas
 pub mod EdgeLemmas

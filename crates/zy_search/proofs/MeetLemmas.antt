@@ -1,5 +1,5 @@
 -- The choices from the state of the path at a place are made one by one.
-use Rattle.std.proofs.Common.{◌≡◌, ◌∙◌, ◌+◌, ◌<◌, ◌≤◌, ◌++◌, ◌∷◌, [], ℕ, List, Bool, true, false, inl, inr, get_or, sym, ap, subst, length, length-append}
+use Rattle.std.proofs.Common.{◌≡◌, ◌∙◌, ◌+◌, ◌<◌, ◌≤◌, ◌++◌, ◌∷◌, [], ℕ, List, true, false, inl, inr, get_or, sym, ap, subst, length, length-append}
 use Rattle.std.proofs.Common.{arith}
 use Rattle.std.proofs.lemmas.Bool.{cases_lt}
 use Rattle.std.proofs.lemmas.List.{get_or_default}
@@ -27,34 +27,35 @@ is_one kinds count i cs e lt =
 pub element : (cs : List Choice) (i : ℕ) (d : Choice) → i < length cs → d ≡ get_or cs i d → d ≡ get_or cs i Start
 element cs i d lt e = e ∙ get_or_default cs i d Start lt
 
--- each of the first n choices of a list leads from the path at a place of the old paths to the state of a path, which is at most one choice longer
-abbrev pub AllLead : History → List (List Choice) → ℕ → List (List Choice) → List Choice → ℕ → Type 0
-AllLead h old at ps cs n = (j : ℕ) → j < n → IsVisited h ps (length_at old at + 1) (step h.scenario (get_or cs j Start) (reached h (path_at old at))).after
+-- each of the first n choices of a list leads from the path at a place of the old paths to a state like that of a path, which is at most one choice longer
+abbrev pub AllLead : History → Sought → List (List Choice) → ℕ → List (List Choice) → List Choice → ℕ → Type 0
+AllLead h q old at ps cs n =
+    (j : ℕ) → j < n → IsVisited h q ps (length_at old at + 1) (step h.scenario (get_or cs j Start) (reached h (path_at old at))).after
 
 -- Some of them were made, by which the paths went from old to cur.
 module _ (h : History) (q : Sought) (old cur : List (List Choice)) (at : ℕ) (lt : at < length old) (g : Grows old cur) where
   -- one more
-  pub lead_next : (new : List (List Choice)) (cs : List Choice) (i : ℕ) → Notes h q cur new at (get_or cs i Start) → AllLead h old at cur cs i
-      → AllLead h old at new cs (i + 1)
+  pub lead_next : (new : List (List Choice)) (cs : List Choice) (i : ℕ) → Notes h q cur new at (get_or cs i Start) → AllLead h q old at cur cs i
+      → AllLead h q old at new cs (i + 1)
   lead_next new cs i n lead = λ j below.
       elim (cases_lt j i) [
-        | inl less ↦ visited_grown h cur new _ _ n.grows (lead j less)
+        | inl less ↦ visited_grown h q cur new _ _ n.grows (lead j less)
         | inr le ↦
             let here : j ≡ i = omega (arith, le, below) in
-            rw here (subst (λ (p : List Choice). IsVisited h new (length p + 1) (step h.scenario (get_or cs i Start) (reached h p)).after)
+            rw here (subst (λ (p : List Choice). IsVisited h q new (length p + 1) (step h.scenario (get_or cs i Start) (reached h p)).after)
             (g.same at lt) n.known)
       ]
 
   -- all of them
-  pub lead_all : (cs : List Choice) (i : ℕ) → cs ≡ considered q.kinds (length h.scenario.programs) → length cs ≤ i → AllLead h old at cur cs i
+  pub lead_all : (cs : List Choice) (i : ℕ) → cs ≡ considered q.kinds (length h.scenario.programs) → length cs ≤ i → AllLead h q old at cur cs i
       → IsExpanded h q cur at
   lead_all cs i e le lead = λ c a.
       let here = has_considered q.kinds (length h.scenario.programs) c a in
       let all = ap (λ (ds : List Choice). length ds) e in
       let got = lead here.0 (omega (arith, here.1, all, le)) in
       let is : get_or cs here.0 Start ≡ c = ap (λ (ds : List Choice). get_or ds here.0 Start) e ∙ here.2 in
-      subst (λ (p : List Choice). IsVisited h cur (length p + 1) (step h.scenario c (reached h p)).after) (sym (g.same at lt))
-      (subst (λ (d : Choice). IsVisited h cur (length_at old at + 1) (step h.scenario d (reached h (path_at old at))).after) is got)
+      subst (λ (p : List Choice). IsVisited h q cur (length p + 1) (step h.scenario c (reached h p)).after) (sym (g.same at lt))
+      (subst (λ (d : Choice). IsVisited h q cur (length_at old at + 1) (step h.scenario d (reached h (path_at old at))).after) is got)
 
   -- one that leads to a state that shows what is looked for
   pub found : (new : List (List Choice)) (c : Choice) (items : List Choice) → Visits h q old → length h.entries + length_at old at < deepest q

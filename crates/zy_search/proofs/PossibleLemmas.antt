@@ -1,5 +1,5 @@
 -- The place of the first choice that has an outcome.
-use Rattle.std.proofs.Common.{◌≡◌, ◌∙◌, ◌<◌, nat_lt, false, arith, ℕ, List, Bool, true, length, ap}
+use Rattle.std.proofs.Common.{◌≡◌, ◌∙◌, ◌<◌, nat_lt, false, arith, ℕ, List, true, length, ap}
 use Rattle.std.specs.List.{list_any}
 use Rattle.std.proofs.lemmas.Bool.Decides.{nat_tests}
 use Rattle.zy_isa.specs.declared.choice.Choice.{Choice}

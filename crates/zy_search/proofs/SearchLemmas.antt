@@ -1,5 +1,5 @@
 -- Paths, the states that they lead to, and what a search knows of them.
-use Rattle.std.proofs.Common.{◌≡◌, ◌∙◌, ℕ, ◌+◌, ◌<◌, ◌≤◌, ◌⊎◌, inl, inr, List, [], ◌∷◌, ◌++◌, length, refl, sym, ap, subst, arith, length-append, Bool, true}
+use Rattle.std.proofs.Common.{◌≡◌, ◌∙◌, ℕ, ◌+◌, ◌<◌, ◌≤◌, ◌⊎◌, inl, inr, List, [], ◌∷◌, ◌++◌, length, refl, sym, ap, subst, arith, length-append, true}
 use Rattle.std.proofs.Common.{false, Result, Ok, Err, IfOk, get_or, zero, suc}
 use Rattle.std.proofs.lemmas.List.{get_or_append_left}
 use Rattle.std.proofs.lemmas.List.Elements.{All-from_get_or}
@@ -12,6 +12,7 @@ use Rattle.zy_table.specs.State.{State}
 use Rattle.zy_table.specs.Play.{play, step}
 use Rattle.zy_laws.proofs.walk.PlayPush.{play-push}
 use Rattle.zy_machine.specs.Histories.{History}
+use Rattle.zy_machine.specs.Alike.{part_of, Alike}
 use Rattle.zy_search.specs.declared.sought.Sought.{Sought}
 use Rattle.zy_search.specs.declared.answer.Answer.{Answer}
 use Rattle.zy_search.specs.declared.answer.Answer.TheVariants.{Spent}
@@ -20,8 +21,10 @@ use Rattle.zy_search.specs.Paths.{AreApart}
 use Rattle.zy_search.specs.Stuck.{is_still, AreMoves}
 use Rattle.zy_search.specs.Choices.{is_considered, AreConsidered, is_of_kinds, considered}
 use Rattle.zy_search.proofs.ChoiceLemmas.{all_considered}
+use Rattle.zy_search.proofs.AlikeSteps.{alike_after}
+use Rattle.zy_search.proofs.AlikeLemmas.{alike_shows}
 use Rattle.zy_search.specs.Searches.{reached, deepest, Shows, Considers, IsPath, NoneBelow, NoneAtAll, FindsFirst, IsReached, IsDue, Fills}
-use Rattle.zy_search.specs.Visits.{path_at, length_at, IsKnown, IsVisited, Visits, IsEdge, IsExpanded, AreExpanded, Grows, FindsNext, StopsAt}
+use Rattle.zy_search.specs.Visits.{path_at, length_at, counted, IsKnown, IsVisited, Visits, IsEdge, IsExpanded, AreExpanded, Grows, FindsNext, StopsAt}
 use Rattle.zy_search.specs.declared.kinds.ChoiceKinds.{ChoiceKinds}
 
 -- ---- choices
@@ -91,6 +94,10 @@ walked sc s x y p q c e f g =
 
 -- ---- closed under steps
 
+-- two paths that are one lead to states that are alike
+pub alike_reached : (h : History) (q : Sought) (cs ds : List Choice) → cs ≡ ds → Alike (counted q) (reached h cs) (reached h ds)
+alike_reached h q cs ds e = ap (λ (p : List Choice). part_of (counted q) (reached h p)) e
+
 -- the paths of fewer than d choices are before n
 abbrev AreBefore : List (List Choice) → ℕ → ℕ → Type 0
 AreBefore ps n d = (j : ℕ) → j < length ps → length_at ps j < d → j < n
@@ -98,16 +105,16 @@ AreBefore ps n d = (j : ℕ) → j < length ps → length_at ps j < d → j < n
 module _ (h : History) (q : Sought) (ps : List (List Choice)) where
   -- where the paths before n are expanded, d choices from the start lead to a state of a path that is no longer
   goes_on : (n d : ℕ) → AreExpanded h q ps n → AreBefore ps n d → (cs : List Choice) → Considers h q cs → (k : ℕ) → k + length cs ≤ d → (s : State)
-      → IsVisited h ps k s
-      → IsVisited h ps (k + length cs) (play h.scenario s cs)
+      → IsVisited h q ps k s
+      → IsVisited h q ps (k + length cs) (play h.scenario s cs)
   goes_on n d e b [] a k le s r = (r.0, r.1, omega (arith, r.2), r.3)
   goes_on n d e b (c ∷ cs) a k le s r =
       let x = e r.0 (b r.0 r.1 (omega (arith, r.2, le))) c a.0 in
-      let y : IsVisited h ps (k + 1) (step h.scenario c s).after = (
+      let y : IsVisited h q ps (k + 1) (step h.scenario c s).after = (
         x.0,
         x.1,
         omega (arith, x.2, r.2),
-        x.3 ∙ ap (λ (z : State). (step h.scenario c z).after) r.3,
+        x.3 ∙ alike_after (counted q) h.scenario c (reached h (path_at ps r.0)) s r.3,
       ) in
       let z = goes_on n d e b cs a.1 (k + 1) (omega (arith, le)) (step h.scenario c s).after y in
       (z.0, z.1, omega (arith, z.2), z.3)
@@ -118,8 +125,9 @@ module _ (h : History) (q : Sought) (ps : List (List Choice)) where
         → Shows h.scenario q (reached h cs) → ⊥
     none_within n d e b cs a le shown =
         let first = ap (λ (l : List Choice). length l) v.first in
-        let r = goes_on n d e b cs a 0 (omega (arith, le)) h.state (0, v.some, omega (arith, first), ap (reached h) v.first) in
-        v.none r.0 r.1 (subst (Shows h.scenario q) (sym r.3) shown)
+        let start = alike_reached h q (path_at ps 0) [] v.first in
+        let r = goes_on n d e b cs a 0 (omega (arith, le)) h.state (0, v.some, omega (arith, first), start) in
+        v.none r.0 r.1 (alike_shows h.scenario q (reached h cs) (reached h (path_at ps r.0)) (sym r.3) shown)
 
     -- where all paths are expanded no choices lead to a state that shows it
     pub none_at_all : (n : ℕ) → AreExpanded h q ps n → length ps ≤ n → NoneAtAll h q
@@ -167,23 +175,34 @@ length_grown : (ps qs : List (List Choice)) (i : ℕ) → Grows ps qs → i < le
 length_grown ps qs i g lt = ap (λ (l : List Choice). length l) (g.same i lt)
 
 -- a state that was come to is still one
-pub visited_grown : (h : History) (ps qs : List (List Choice)) (n : ℕ) (x : State) → Grows ps qs → IsVisited h ps n x → IsVisited h qs n x
-visited_grown h ps qs n x g r = (r.0, omega (arith, r.1, g.longer), omega (arith, r.2, length_grown ps qs r.0 g r.1), ap (reached h) (g.same r.0 r.1) ∙ r.3)
+pub visited_grown : (h : History) (q : Sought) (ps qs : List (List Choice)) (n : ℕ) (x : State) → Grows ps qs → IsVisited h q ps n x → IsVisited h q qs n x
+visited_grown h q ps qs n x g r = (
+  r.0,
+  omega (arith, r.1, g.longer),
+  omega (arith, r.2, length_grown ps qs r.0 g r.1),
+  alike_reached h q (path_at qs r.0) (path_at ps r.0) (g.same r.0 r.1) ∙ r.3,
+)
 
 -- the state of the last path is one
-pub visited_last : (h : History) (ps : List (List Choice)) (p : List Choice) (n : ℕ) → length p ≤ n → IsVisited h (ps ++ p ∷ []) n (reached h p)
-visited_last h ps p n le =
-    let here = get_or-append_seam ps p [] [] in
-    (length ps, omega (arith, length-append ps (p ∷ [])), omega (arith, le, ap (λ (l : List Choice). length l) here), ap (reached h) here)
+pub visited_last : (h : History) (q : Sought) (ps : List (List Choice)) (p : List Choice) (n : ℕ) → length p ≤ n → IsVisited h q (ps ++ p ∷ []) n (reached h p)
+visited_last h q ps p n le =
+    let here = get_or-append_seam ps p [] [] in (
+      length ps,
+      omega (arith, length-append ps (p ∷ [])),
+      omega (arith, le, ap (λ (l : List Choice). length l) here),
+      alike_reached h q (path_at (ps ++ p ∷ []) (length ps)) p here,
+    )
 
--- a state of one of some paths, where none of them is much longer than that at a place
-pub near_known : (h : History) (ps : List (List Choice)) (at : ℕ) (x : State) → IsEdge ps at → IsKnown h ps x → IsVisited h ps (length_at ps at + 1) x
-near_known h ps at x edge k = (k.0, k.1, edge.near k.0 k.1, k.2)
+-- a state like that of one of some paths, where none of them is much longer than that at a place
+pub near_known : (h : History) (q : Sought) (ps : List (List Choice)) (at : ℕ) (x : State) → IsEdge ps at → IsKnown h q ps x
+    → IsVisited h q ps (length_at ps at + 1) x
+near_known h q ps at x edge k = (k.0, k.1, edge.near k.0 k.1, k.2)
 
 -- a path that is expanded still is
 pub expanded_grown : (h : History) (q : Sought) (ps qs : List (List Choice)) (i : ℕ) → Grows ps qs → i < length ps → IsExpanded h q ps i → IsExpanded h q qs i
 expanded_grown h q ps qs i g lt e = λ c a.
-    subst (λ (p : List Choice). IsVisited h qs (length p + 1) (step h.scenario c (reached h p)).after) (sym (g.same i lt)) (visited_grown h ps qs _ _ g (e c a))
+    subst (λ (p : List Choice). IsVisited h q qs (length p + 1) (step h.scenario c (reached h p)).after) (sym (g.same i lt))
+    (visited_grown h q ps qs _ _ g (e c a))
 
 -- A path more, behind the others.
 module _ (ps : List (List Choice)) (p : List Choice) where

@@ -35,11 +35,12 @@ use Rattle.zy_table.specs.Run.{effect_step, instr_step, run_step}
 use Rattle.zy_table.specs.Take.{is_held, outcome_of, arrival_step, pull_step, message_step, front_step, take_step}
 use Rattle.zy_table.specs.Play.{move, side_of, step}
 use Rattle.zy_machine.specs.Histories.{History}
+use Rattle.zy_machine.specs.Alike.{part_of}
 use Rattle.zy_search.specs.Stuck.{is_still}
 use Rattle.zy_table.specs.declared.outcome.Outcome.{Outcome}
 use Rattle.zy_search.specs.declared.sought.Sought.{Sought}
 use Rattle.zy_search.specs.Searches.{reached, deepest}
-use Rattle.zy_search.specs.Visits.{path_at, Visits, IsEdge, IsHere, IsTwin, IsNext, Notes}
+use Rattle.zy_search.specs.Visits.{path_at, counted, Visits, IsEdge, IsHere, IsTwin, IsNext, Notes}
 use Rattle.zy_search.proofs.SearchLemmas.{grows_not}
 use Rattle.zy_isa.specs.Limits.{max_key}
 
@@ -345,7 +346,7 @@ module _ (h m : History) (ps : List (List Choice)) (at : ℕ) (here : IsHere h p
     visits = v;
     near = near;
     grows = grows_not ps;
-    known = (at, lt, omega arith, sym (still_stays h.scenario c (reached h (path_at ps at)) (sym same_still ∙ f)));
+    known = (at, lt, omega arith, ap (part_of (counted q)) (sym (still_stays h.scenario c (reached h (path_at ps at)) (sym same_still ∙ f))));
     more = inl refl;
   }
 

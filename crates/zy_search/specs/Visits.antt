@@ -1,5 +1,5 @@
 -- What a search keeps, and what each of its parts adds.
-use Rattle.std.specs.Prelude.{ℕ, ◌≡◌, ◌≤◌, ◌<◌, ◌+◌, ◌⊎◌, List, [], ◌∷◌, ◌++◌, true, false, length, slice_index_or}
+use Rattle.std.specs.Prelude.{ℕ, ◌≡◌, ◌≤◌, ◌<◌, ◌+◌, ◌⊎◌, List, [], ◌∷◌, ◌++◌, Bool, true, false, length, slice_index_or}
 use Rattle.std.specs.Prelude.{IfSome}
 use Rattle.std.specs.List.{All}
 use Rattle.zy_isa.specs.declared.choice.Choice.{Choice}
@@ -7,6 +7,10 @@ use Rattle.zy_isa.specs.declared.choice.Choice.TheVariants.{Start}
 use Rattle.zy_table.specs.State.{State}
 use Rattle.zy_table.specs.Play.{step}
 use Rattle.zy_machine.specs.Histories.{History}
+use Rattle.zy_machine.specs.declared.part.StatePart.{StatePart}
+use Rattle.zy_machine.specs.declared.part.StatePart.TheVariants.{Whole, Live}
+use Rattle.zy_machine.specs.Alike.{Alike}
+use Rattle.zy_goals.specs.Ended.{reads_ended}
 use Rattle.zy_search.specs.declared.sought.Sought.{Sought}
 use Rattle.zy_search.specs.declared.plan.Plan.{Plan}
 use Rattle.zy_search.specs.declared.branch.Branch.{Branch}
@@ -32,13 +36,23 @@ path_at paths i = slice_index_or paths i []
 abbrev pub length_at : List (List Choice) → ℕ → ℕ
 length_at paths i = length (path_at paths i)
 
--- one of some paths leads to this state
-abbrev pub IsKnown : History → List (List Choice) → State → Type 0
-IsKnown h paths x = (i : ℕ) × (i < length paths) × (reached h (path_at paths i) ≡ x)
+-- how much of a state counts: all of it where a goal reads what ended transactions had, else what is live
+abbrev pub counted_if : Bool → StatePart
+counted_if true = Whole
+counted_if false = Live
+
+-- the same for what is looked for
+abbrev pub counted : Sought → StatePart
+counted q = counted_if (reads_ended q.goal)
+
+-- one of some paths leads to a state like this one
+abbrev pub IsKnown : History → Sought → List (List Choice) → State → Type 0
+IsKnown h q paths x = (i : ℕ) × (i < length paths) × Alike (counted q) (reached h (path_at paths i)) x
 
 -- one of at most n choices does
-abbrev pub IsVisited : History → List (List Choice) → ℕ → State → Type 0
-IsVisited h paths n x = (i : ℕ) × (i < length paths) × (length_at paths i ≤ n) × (reached h (path_at paths i) ≡ x)
+abbrev pub IsVisited : History → Sought → List (List Choice) → ℕ → State → Type 0
+IsVisited h q paths n x =
+    (i : ℕ) × (i < length paths) × (length_at paths i ≤ n) × Alike (counted q) (reached h (path_at paths i)) x
 
 -- the empty path and others, none of which leads to a state that shows what is looked for, by their lengths
 pub record Visits (h : History) (q : Sought) (ps : List (List Choice)) : Type 0 where
@@ -67,11 +81,12 @@ pub record IsEdge (ps : List (List Choice)) (at : ℕ) : Type 0 where
   pub near : (i : ℕ) → i < length ps → length_at ps i ≤ length_at ps at + 1
   pub ends : AreEnds ps (at + 1)
 
--- each choice from the state of the path at i leads to a state of one of the paths, which is at most one choice longer
+-- each choice from the state of the path at i leads to a state like that of one of the paths, which is at most one choice
+-- longer
 abbrev pub IsExpanded : History → Sought → List (List Choice) → ℕ → Type 0
 IsExpanded h q paths i =
     (c : Choice) → is_considered q.kinds (length h.scenario.programs) c ≡ true
-    → IsVisited h paths (length_at paths i + 1) (step h.scenario c (reached h (path_at paths i))).after
+    → IsVisited h q paths (length_at paths i + 1) (step h.scenario c (reached h (path_at paths i))).after
 
 -- the same of the first n paths
 abbrev pub AreExpanded : History → Sought → List (List Choice) → ℕ → Type 0
@@ -150,7 +165,7 @@ pub record Notes (h : History) (q : Sought) (old new : List (List Choice)) (at :
   pub visits : Visits h q new
   pub near : IsEdge new at
   pub grows : Grows old new
-  pub known : IsVisited h new (length_at old at + 1) (step h.scenario c (reached h (path_at old at))).after
+  pub known : IsVisited h q new (length_at old at + 1) (step h.scenario c (reached h (path_at old at))).after
   pub more : (new ≡ old) ⊎ (new ≡ old ++ (path_at old at ++ c ∷ []) ∷ [])
 
 -- one that shows what is looked for
@@ -179,7 +194,7 @@ pub record Meets (p : Plan) (old new : List (List Choice)) (machines : Shelf) (b
   pub shelf : IsShelf p.start new machines
   pub twin : IsSecond m second
 
--- each choice from the state of the path at a place leads to a state of one of the paths
+-- each choice from the state of the path at a place leads to a state like that of one of the paths
 pub record Expands (h : History) (q : Sought) (old new : List (List Choice)) (at : ℕ) : Type 0 where
   pub visits : Visits h q new
   pub near : IsEdge new at

@@ -22,8 +22,6 @@ pub struct Report {
     pub states: usize,
     /// The most choices that one of them takes.
     pub depth: usize,
-    /// How many transactions the scenario has.
-    pub txns: usize,
 }
 
 /// What came of one choice from a state.

@@ -3,9 +3,9 @@
 use zy_isa::{Node, Row};
 use zy_links::{Kind, Message};
 use zy_locks::LockKind;
-use zy_machine::Machine;
+use zy_machine::{Machine, StatePart};
 use zy_modes::NodeMode;
-use zy_table::{Place, Status};
+use zy_table::{Place, Status, Why};
 use zy_txns::Txn;
 
 /// A digest with a number more.
@@ -13,8 +13,9 @@ fn mixed(digest: u64, number: u64) -> u64 {
     (digest.rotate_left(5) ^ number).wrapping_mul(0x517c_c1b7_2722_0a95)
 }
 
-/// A number that differs for most states. Nothing is promised of it: a bad one costs time alone.
-pub fn digest(machine: &Machine) -> u64 {
+/// A number that is the same for states that are alike in this part, and differs for most others. Nothing is promised of
+/// it: a bad one costs time alone.
+pub fn digest(part: StatePart, machine: &Machine) -> u64 {
     let mut digest = mixed(
         mode_number(machine.mode(Node::A)),
         mode_number(machine.mode(Node::B)),
@@ -26,7 +27,7 @@ pub fn digest(machine: &Machine) -> u64 {
         }
     }
     for t in 0..machine.txn_count() {
-        digest = mixed_txn(digest, machine.txn(t as u8));
+        digest = mixed_txn(digest, part, machine.txn(t as u8));
     }
     for commit in machine.commits() {
         digest = mixed(mixed(digest, u64::from(commit.txn)), u64::from(commit.done));
@@ -42,16 +43,38 @@ fn mixed_rows(digest: u64, rows: &[Row]) -> u64 {
     digest
 }
 
-fn mixed_txn(digest: u64, txn: &Txn) -> u64 {
-    let mut digest = mixed(
-        mixed(digest, status_number(txn.status())),
-        node_number(txn.node()),
-    );
+/// With what counts of a transaction. The private rows of one that is not active are left out where what is live counts:
+/// it has none.
+fn mixed_txn(digest: u64, part: StatePart, txn: &Txn) -> u64 {
+    let mut digest = mixed_status(digest, txn.status());
+    if matches!(part, StatePart::Live) && !txn.is_active() {
+        return digest;
+    }
+    digest = mixed(digest, node_number(txn.node()));
     digest = mixed(mixed(digest, u64::from(txn.pc())), u64::from(txn.done()));
     for r in txn.regs() {
         digest = mixed(digest, u64::from(*r));
     }
     mixed_rows(digest, txn.rows())
+}
+
+/// With a status; with the reason of an abort, since of an aborted transaction little else may count.
+fn mixed_status(digest: u64, status: Status) -> u64 {
+    let digest = mixed(digest, status_number(status));
+    match status {
+        Status::Aborted(why) => mixed_why(digest, why),
+        _ => digest,
+    }
+}
+
+/// With the reason of an abort, and the page that it names.
+fn mixed_why(digest: u64, why: Why) -> u64 {
+    let digest = mixed(digest, why_number(why));
+    match why {
+        Why::Frozen(p) => mixed(digest, u64::from(p)),
+        Why::Gone(p) => mixed(digest, u64::from(p)),
+        _ => digest,
+    }
 }
 
 /// With what a node has sent, and its locks.
@@ -121,6 +144,19 @@ fn status_number(status: Status) -> u64 {
         Status::Active => 2,
         Status::Committed => 3,
         Status::Aborted(_) => 4,
+    }
+}
+
+fn why_number(why: Why) -> u64 {
+    match why {
+        Why::Own => 1,
+        Why::Killed => 2,
+        Why::BadKey => 3,
+        Why::Missing => 4,
+        Why::Duplicate => 5,
+        Why::Frozen(_) => 6,
+        Why::NoPage => 7,
+        Why::Gone(_) => 8,
     }
 }
 

@@ -13,7 +13,7 @@ use crate::digest::digest;
 use crate::plan::Plan;
 use crate::shelf::Shelf;
 use crate::shows::shows_next;
-use crate::sought::deepest;
+use crate::sought::{counted, deepest};
 use crate::still::is_still;
 use crate::twin::Twin;
 use crate::visited::Visited;
@@ -23,9 +23,9 @@ use zy_isa::{Choice, MAX_CHOICES};
 use zy_machine::{Fault, Machine};
 
 /// How many states with one digest are kept; more of them cost time and memory, and nothing else.
-const MOST_ALIKE: u64 = 8;
+const MOST_PER_DIGEST: u64 = 8;
 
-/// Whether the path that is put under a digest leads to a machine's state.
+/// Whether the path that is put under a digest leads to a state like a machine's.
 fn is_known(
     plan: &Plan,
     visited: &Visited,
@@ -34,7 +34,8 @@ fn is_known(
     digest: u64,
 ) -> Result<bool, Fault>
     requires kept { IsKept plan.now visited.now shelf.old }
-    ensures known { IfOk result (λ b. b ≡ true → IsKnown plan.now.start visited.now machine.now.state) }
+    ensures known { IfOk result (λ b. b ≡ true → IsKnown plan.now.start plan.now.sought visited.now
+        machine.now.state) }
     ensures shelf { OnOk result (IsShelf plan.now.start visited.now shelf.new) }
 {
     match visited.find(digest) {
@@ -44,7 +45,7 @@ fn is_known(
 }
 
 /// A number under which no path is put, where none of the paths that are put under the machine's digest, or one of the
-/// next few numbers, leads to its state; none where one does.
+/// next few numbers, leads to a state like its own; none where one does.
 fn free_under(
     plan: &Plan,
     visited: &Visited,
@@ -52,11 +53,12 @@ fn free_under(
     machine: &Machine,
 ) -> Result<Option<u64>, Fault>
     requires kept { IsKept plan.now visited.now shelf.old }
-    ensures known { IfOk result (λ free. free ≡ None → IsKnown plan.now.start visited.now machine.now.state) }
+    ensures known { IfOk result (λ free. free ≡ None → IsKnown plan.now.start plan.now.sought visited.now
+        machine.now.state) }
     ensures shelf { OnOk result (IsShelf plan.now.start visited.now shelf.new) }
 {
-    let first = digest(machine);
-    for k in 0..MOST_ALIKE {
+    let first = digest(counted(&plan.sought), machine);
+    for k in 0..MOST_PER_DIGEST {
         let number = first.wrapping_add(k);
         if visited.find(number).is_none() {
             return Ok(Some(number));
@@ -94,7 +96,7 @@ fn keep(
     Ok(())
 }
 
-/// Takes in a state that no path leads to, if it does not show what is looked for and there is room for it.
+/// Takes in a state, if no path leads to one like it, it does not show what is looked for and there is room for it.
 fn note_new(
     plan: &Plan,
     visited: &mut Visited,

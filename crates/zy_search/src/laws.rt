@@ -4,7 +4,9 @@ ghost use Rattle.zy_isa.specs.declared.choice.Choice.{Choice as AChoice};
 ghost use Rattle.zy_isa.specs.declared.rule.Rule.TheVariants.{Held};
 ghost use Rattle.zy_isa.specs.Scenario.{IsScenario, Scenario as AScenario};
 ghost use Rattle.zy_machine.specs.Histories.{History, IsReplay};
-ghost use Rattle.zy_table.specs.Play.{step};
+ghost use Rattle.zy_machine.specs.declared.part.StatePart.{StatePart as APart};
+ghost use Rattle.zy_machine.specs.Alike.{Alike};
+ghost use Rattle.zy_table.specs.Play.{play, step};
 ghost use Rattle.zy_table.specs.State.{State};
 ghost use Rattle.zy_search.specs.declared.sought.Sought.{Sought};
 ghost use Rattle.zy_goals.specs.declared.goal.Fact.TheVariants.{Differs};
@@ -15,6 +17,7 @@ ghost use Rattle.zy_search.specs.Possible.{gives};
 ghost use Rattle.zy_search.specs.Schedules.{scheduled, before_last, ending};
 ghost use Rattle.zy_search.specs.Searches.{reached, context_of, Finds, IsLast, Shows};
 ghost use Rattle.zy_search.specs.Stuck.{is_still};
+ghost use Rattle.zy_search.specs.Visits.{counted};
 ghost use Rattle.zy_search.specs.declared.deadlock.Wait.{Wait as AWait};
 ghost use Rattle.zy_search.specs.Deadlocks.{is_deadlocked, IsCycle};
 
@@ -63,6 +66,26 @@ pub fn never_differs_under_held()
 pub fn still_stays()
     ensures { (sc : AScenario) (c : AChoice) (s : State) → is_still (step sc c s).outcome ≡ true
         → (step sc c s).after ≡ s }
+{}
+
+/// States that are alike step alike: each choice has one outcome and sends one kind of message from both, and leads to
+/// states that are alike. They need not be states of a run.
+pub fn alike_steps()
+    ensures outcome { (part : APart) (sc : AScenario) (c : AChoice) (s t : State) → Alike part s t
+        → (step sc c s).outcome ≡ (step sc c t).outcome }
+    ensures sent { (part : APart) (sc : AScenario) (c : AChoice) (s t : State) → Alike part s t
+        → (step sc c s).sent ≡ (step sc c t).sent }
+    ensures after { (part : APart) (sc : AScenario) (c : AChoice) (s t : State) → Alike part s t
+        → Alike part (step sc c s).after (step sc c t).after }
+{}
+
+/// States that are alike in all that counts for what is looked for show it or do not, and so do those that the same
+/// choices lead to from them.
+pub fn alike_shows()
+    ensures here { (sc : AScenario) (q : Sought) (s t : State) → Alike (counted q) s t → Shows sc q s
+        → Shows sc q t }
+    ensures later { (sc : AScenario) (q : Sought) (s t : State) (cs : List AChoice) → Alike (counted q) s t
+        → Shows sc q (play sc s cs) → Shows sc q (play sc t cs) }
 {}
 
 /// A state has a deadlock if and only if some of those that wait each wait for another one of them.

@@ -13,7 +13,7 @@ use crate::last::with_step;
 use crate::plan::Plan;
 use crate::shelf::Shelf;
 use crate::shows::shows;
-use crate::sought::{Sought, deepest};
+use crate::sought::{Sought, counted, deepest};
 use crate::twin::Twin;
 use crate::visited::Visited;
 use crate::watch::Watch;
@@ -97,8 +97,7 @@ fn shown_by(answer: &Answer) -> usize {
     }
 }
 
-/// An answer, with how many states were reached (`shown` of them beside the visited ones), the length of the last path,
-/// and how many transactions there are.
+/// An answer, with how many states were reached (`shown` of them beside the visited ones), and the length of the last path.
 fn report(
     plan: &Plan,
     visited: &Visited,
@@ -111,7 +110,6 @@ fn report(
     Ok(Report {
         states: visited.len().saturating_add(shown),
         depth: last.len(),
-        txns: plan.start.txn_count(),
         answer,
     })
 }
@@ -234,7 +232,7 @@ pub fn search<W: Watch>(
     ensures due { IfOk result (λ r. IsDue start.now sought most r.answer) }
 {
     let plan = plan_from(alloc, start, sought, most)?;
-    let mut visited = Visited::new(alloc, digest(&plan.start))?;
+    let mut visited = Visited::new(alloc, digest(counted(&plan.sought), &plan.start))?;
     let reached = search_by(&plan, &mut visited, watch)?;
     let shown = shown_by(&reached);
     let answer = with_step(&plan, reached)?;

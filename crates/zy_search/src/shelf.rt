@@ -3,16 +3,19 @@
 ghost use Rattle.std.specs.Prelude.{◌≡◌, ◌<◌, List, [], IfOk, IfSome, OnOk, Some, true, length, slice_index_or};
 ghost use Rattle.zy_isa.specs.declared.choice.Choice.{Choice};
 ghost use Rattle.zy_machine.specs.Histories.{History};
+ghost use Rattle.zy_machine.specs.Alike.{Alike};
 ghost use Rattle.zy_search.specs.declared.shelf.Spot.{Spot as ASpot};
 ghost use Rattle.zy_search.specs.Searches.{reached};
+ghost use Rattle.zy_search.specs.Visits as visits;
 ghost use Rattle.zy_search.specs.Visits.{path_at, IsHere, IsKept, IsShelf};
 
 use crate::plan::Plan;
+use crate::sought::counted;
 use crate::visited::Visited;
 use crate::walk::go_to;
 use std::alloc::Global;
 use std::mem;
-use zy_machine::{Fault, Machine};
+use zy_machine::{Fault, Machine, StatePart};
 
 /// How many pages the machines of a shelf may have together.
 const MOST_PAGES: usize = 8192;
@@ -78,16 +81,16 @@ impl Shelf {
         None
     }
 
-    /// Whether the machine of the path at a place is in another one's state, if it is there.
-    pub fn compares(&self, at: u32, machine: &Machine) -> Option<bool>
+    /// Whether this part of the state of the machine of the path at a place is that of another one's, if it is there.
+    pub fn compares(&self, part: StatePart, at: u32, machine: &Machine) -> Option<bool>
         ensures { (h : History) (ps : List (List Choice)) → IsShelf h ps self.now → result ≡ Some true
-            → reached h (path_at ps at) ≡ machine.now.state }
+            → Alike part (reached h (path_at ps at)) machine.now.state }
     {
         let i = self.find(at)?;
-        Some(self.spots[i].machine.same_state(machine))
+        Some(self.spots[i].machine.is_alike(part, machine))
     }
 
-    /// Whether the path at a place leads to a machine's state.
+    /// Whether the path at a place leads to a state like a machine's, in what counts for what is looked for.
     pub(crate) fn leads_to(
         &mut self,
         plan: &Plan,
@@ -97,15 +100,16 @@ impl Shelf {
     ) -> Result<bool, Fault>
         requires kept { IsKept plan.now visited.now self.old }
         requires at { at < length visited.now }
-        ensures known { IfOk result (λ b. b ≡ true → reached plan.now.start (path_at visited.now at)
-            ≡ machine.now.state) }
+        ensures known { IfOk result (λ b. b ≡ true → Alike (visits.counted plan.now.sought)
+            (reached plan.now.start (path_at visited.now at)) machine.now.state) }
         ensures shelf { OnOk result (IsShelf plan.now.start visited.now self.new) }
     {
+        let part = counted(&plan.sought);
         if let Some(i) = self.find(at) {
-            return Ok(self.spots[i].machine.same_state(machine));
+            return Ok(self.spots[i].machine.is_alike(part, machine));
         }
         go_to(plan, visited, at, &mut self.spare)?;
-        Ok(self.spare.same_state(machine))
+        Ok(self.spare.is_alike(part, machine))
     }
 
     /// Takes the machine where the path at a place leads, if there is one, and leaves another one there.

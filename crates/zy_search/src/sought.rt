@@ -1,11 +1,14 @@
 //! What a search looks for.
 ghost use Rattle.std.specs.Prelude.{◌≡◌};
 ghost use Rattle.zy_search.specs.Searches as spec;
+ghost use Rattle.zy_search.specs.Visits as visits;
 
 use crate::kinds::ChoiceKinds;
 use zy_goals::commits::takes_steps;
+use zy_goals::ended::reads_ended;
 use zy_goals::{Goal, OutcomePattern};
 use zy_isa::MAX_CHOICES;
+use zy_machine::StatePart;
 
 /// What is looked for, and by which choices.
 #[derive(Drop)]
@@ -34,4 +37,15 @@ pub(crate) fn deepest(sought: &Sought) -> usize
         return MAX_CHOICES - 1;
     }
     MAX_CHOICES
+}
+
+/// How much of a state counts for what is looked for: all of it where the goal reads what ended transactions had.
+pub(crate) fn counted(sought: &Sought) -> StatePart
+    ensures { result ≡ visits.counted sought.now }
+{
+    if reads_ended(&sought.goal) {
+        StatePart::Whole
+    } else {
+        StatePart::Live
+    }
 }

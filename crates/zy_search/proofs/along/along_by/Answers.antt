@@ -1,5 +1,5 @@
 -- Each position is judged by the state of the machine that has come there.
-use Rattle.std.proofs.Common.{◌≡◌, ◌∙◌, ℕ, Bool, ap, arith, sym}
+use Rattle.std.proofs.Common.{◌∙◌, ℕ, Bool, ap, arith, sym}
 use Rattle.zy_stops.specs.Stops.{state_at}
 use Rattle.zy_search.specs.Searches.{shows}
 use Rattle.zy_search.proofs.AlongLemmas.{more_fails, more_passes, shows_at}

@@ -11,5 +11,5 @@ invariant-loop-i l =
       twin : IsSecond l.here l.twin;
       shelf : IsShelf l.plan.start l.visited l.shelf;
       by : GoOnBy l.visited l.at l.plan.choices.items l.i;
-      known : AllLead l.plan.start l.initial.visited l.at l.visited l.plan.choices.items l.i;
+      known : AllLead l.plan.start l.plan.sought l.initial.visited l.at l.visited l.plan.choices.items l.i;
     }

@@ -1,4 +1,6 @@
-use Rattle.std.proofs.Common.{◌∙◌, inl, refl, rules}
+use Rattle.std.proofs.Common.{◌∙◌, inl, refl, ap, rules}
+use Rattle.zy_machine.specs.Alike.{part_of}
+use Rattle.zy_search.specs.Visits.{counted}
 use Rattle.zy_search.proofs.SearchLemmas.{grows_not, near_known}
 use Rattle.zy_search.proofs.expand.note.Goals as goal
 
@@ -12,10 +14,10 @@ returns-in-None c =
         near = r.near;
         grows = grows_not c.args.visited.now;
         more = inl refl;
-        known = near_known c.args.plan.now.start c.args.visited.now c.args.branch.from _ r.near (
+        known = near_known c.args.plan.now.start c.args.plan.now.sought c.args.visited.now c.args.branch.from _ r.near (
           known.0,
           known.1,
-          known.2 ∙ c.requires.next.state,
+          known.2 ∙ ap (part_of (counted c.args.plan.now.sought)) c.requires.next.state,
         );
       };
       shelf = c.in_ok-free_under.ensures.shelf;

@@ -38,8 +38,8 @@ module _ (h : History) (q : Sought) (old : List (List Choice)) (at : ℕ) (c : C
             (λ i below. omega (arith, edge.near i below, one)) (apart_push old p v.apart fresh);
         near = edge_push old at c v.apart edge lt;
         grows = grows_push old p;
-        known = subst (IsVisited h (old ++ p ∷ []) (length_at old at + 1)) (reached_more h cs c)
-            (visited_last h old p (length_at old at + 1) (omega (arith, one)));
+        known = subst (IsVisited h q (old ++ p ∷ []) (length_at old at + 1)) (reached_more h cs c)
+            (visited_last h q old p (length_at old at + 1) (omega (arith, one)));
         more = inr refl;
       })
 
