@@ -5,9 +5,11 @@ ghost use Rattle.std.specs.Prelude.{◌<◌};
 
 mod advised;
 mod again;
+mod answering;
 mod command_line;
 mod commands;
 mod excerpt;
+mod exit_status;
 mod explained;
 mod given;
 mod hint;
@@ -22,21 +24,19 @@ mod summary;
 mod tally;
 
 use advised::{Advised, Reading};
-use again::{line_due, make_again, scenario_part};
+use again::{line_due, scenario_part};
+use answering::{Asked, answer};
 use clap::error::ErrorKind;
-use command_line::{Checkpoints, Conversion, Quest, Request, Task, command, request_of};
+use command_line::{Checkpoints, Conversion, Request, Task, command, request_of};
 use commands::Commands;
 use excerpt::Differing;
-use explained::{explain, explain_again, explain_found};
+use exit_status::{COMMAND_LINE, DONE, NOT_TABLE};
+use explained::{explain, explain_again};
 use given::{Failure, Given};
 use hint::Hint;
-use marked::Marked;
-use names::names_of;
 use nothing::Nothing;
 use origin::Origin;
-use output::Output;
-use progress::Progress;
-use std::alloc::Global;
+use output::{Output, flush};
 use std::io::{BufWriter, IsTerminal, Read, Write};
 use std::process::ExitCode;
 use std::rt::Files;
@@ -44,54 +44,22 @@ use std::sync::Wait;
 use std::thread::Threads;
 use std::time::Clock;
 use std::{fs, io};
-use summary::{Count, Summary};
 use zy_advice::Command as Reader;
 use zy_advice::line::whole_line;
 use zy_check::Verdict;
 use zy_engine::checking::check_bytes;
 use zy_engine::debugging::{MAX_EVERY, MAX_RING, debug_bytes};
 use zy_engine::engine::{asm_bytes, dis_bytes, run_bytes, trace_bytes};
-use zy_engine::finding::find_bytes;
-use zy_engine::searching::search_bytes;
 use zy_engine::threading::threads_bytes;
-use zy_engine::{BenchFault, Format, SearchOptions};
-use zy_goals::named::txns_named;
-use zy_goals::reading::{read_always, read_goal};
-use zy_goals::{Names, ReadFault};
+use zy_engine::{BenchFault, Format};
 use zy_io::reading::read_all;
 use zy_io::{CountingReader, SliceSource};
 use zy_machine::Machine;
-use zy_search::{Answer, Report, Sought};
 use zy_text::cut::cut_len;
 use zy_threads::FreeGate;
 
-/// The exit status where all went well.
-const DONE: u8 = 0;
-
-/// The exit status of a command line that is not understood.
-const COMMAND_LINE: u8 = 2;
-
-/// The exit status where the input is not the listing that it should be.
-const NOT_TABLE: u8 = 4;
-
-/// The exit status where no schedule, or no state of a run, shows what is looked for.
-const NOWHERE: u8 = 4;
-
 /// How a listing ends whose rows are not those of the commit order.
 const DIFFERING_END: &'static [u8] = b"serial differs\nend\n";
-
-/// The exit status where a search came to no end.
-const SPENT: u8 = 6;
-
-/// Passes on what is kept back for standard output.
-fn flush<W: Write>(output: &mut Output<W>) -> Result<(), BenchFault>
-    requires { output.old.1 < u64.MAX }
-{
-    match output.flush() {
-        Ok(()) => Ok(()),
-        Err(_) => Err(BenchFault::Write),
-    }
-}
 
 /// Ends a command that has written: passes on what is kept back, and gives the exit status.
 fn close<W: Write>(output: &mut Output<W>) -> Result<u8, BenchFault>
@@ -214,191 +182,6 @@ fn debug<R: Eprint + AllocGlobal, F: Read + Drop, S: Read, W: Write>(
     };
     session.tell_bad(rt, input.as_slice());
     Ok(DONE)
-}
-
-/// What a search is to look for, in a scenario whose transactions have these names.
-fn sought_of(alloc: Global, quest: Quest<'_>, names: Names<'_>) -> Result<Sought, ReadFault> {
-    let text = quest.text.as_bytes();
-    let query = if quest.is_always {
-        read_always(alloc, text, names)?
-    } else {
-        read_goal(alloc, text, names)?
-    };
-    Ok(Sought {
-        goal: query.goal,
-        then: query.then,
-        kinds: quest.kinds,
-    })
-}
-
-/// Reports on standard error why a goal was not read, and gives the exit status.
-fn no_goal(rt: &impl Eprint, quest: Quest<'_>, fault: ReadFault) -> Result<u8, BenchFault> {
-    match fault {
-        ReadFault::Memory => Err(BenchFault::Memory),
-        ReadFault::Refused(refusal) => {
-            let marked = Marked::of(quest, refusal);
-            let _ = eprintln!(rt; "zy_bench: {marked}");
-            Ok(COMMAND_LINE)
-        }
-    }
-}
-
-/// What is asked of the states that meet a goal.
-#[derive(Clone, Copy)]
-enum Asked {
-    /// A schedule to one of them. Standard error may be a terminal, which sees how far the search is.
-    Schedule { is_terminal: bool },
-    /// Where they are in a run.
-    Positions,
-}
-
-/// Reads a goal, answers what is asked, and gives the exit status. Where the goal is refused, nothing is read, but for the
-/// names of transactions, which the scenario has.
-fn answer<R: Eprint + AllocGlobal + Clock, G: Read, W: Write>(
-    rt: &R,
-    asked: Asked,
-    quest: Quest<'_>,
-    given: &mut G,
-    input: &mut Vec<u8>,
-    output: &mut Output<W>,
-) -> Result<u8, BenchFault>
-    requires { output.old.1 < u64.MAX }
-{
-    if let Err(fault) = sought_of(rt.alloc(), quest, Names::Unknown) {
-        return no_goal(rt, quest, fault);
-    }
-    *input = read_all(rt.alloc(), &mut CountingReader::new(given))?;
-    let scenario = input.as_slice();
-    let names = names_in(rt.alloc(), quest.options.format, scenario)?;
-    match sought_of(rt.alloc(), quest, Names::Known(&names)) {
-        Ok(sought) => match asked {
-            Asked::Schedule { is_terminal } => {
-                search(rt, quest, sought, scenario, output, is_terminal)
-            }
-            Asked::Positions => find(rt, quest.options.format, sought, scenario, output),
-        },
-        Err(fault) => {
-            // A scenario that is rejected has no names.
-            make_again(rt.alloc(), quest.options.format, scenario)?;
-            no_goal(rt, quest, fault)
-        }
-    }
-}
-
-/// The names of the transactions of a scenario; an image has none.
-fn names_in(alloc: Global, format: Format, scenario: &[u8]) -> Result<Vec<&[u8]>, BenchFault> {
-    match format {
-        Format::Text => Ok(names_of(alloc, scenario)?),
-        Format::Image => Ok(Vec::new(alloc)),
-    }
-}
-
-/// How many choices a scenario has, where there are fewer than those that a search is to take as steps already taken.
-fn lacking(
-    alloc: Global,
-    options: SearchOptions,
-    scenario: &[u8],
-) -> Result<Option<Count>, BenchFault> {
-    let Some(from) = options.from else {
-        return Ok(None);
-    };
-    let machine = make_again(alloc, options.format, scenario)?;
-    if machine.len() < from {
-        return Ok(Some(Count::of(machine.len(), "choice")));
-    }
-    Ok(None)
-}
-
-/// Searches the schedules of a scenario, and gives the exit status. It says how far it is where standard
-/// error is a terminal.
-fn search<R: Eprint + AllocGlobal + Clock, W: Write>(
-    rt: &R,
-    quest: Quest<'_>,
-    sought: Sought,
-    scenario: &[u8],
-    output: &mut Output<W>,
-    is_terminal: bool,
-) -> Result<u8, BenchFault>
-    requires { output.old.1 < u64.MAX }
-{
-    let options = quest.options;
-    if let Some(count) = lacking(rt.alloc(), options, scenario)? {
-        let _ = eprintln!(rt; "zy_bench: --from: the scenario has {count}");
-        return Ok(COMMAND_LINE);
-    }
-    let named = usize::from(txns_named(&sought.goal));
-    let mut progress = Progress::new(rt, is_terminal);
-    let searched = search_bytes(
-        rt.alloc(),
-        options,
-        sought,
-        &mut SliceSource::new(scenario),
-        output,
-        &mut Vec::new(rt.alloc()),
-        &mut progress,
-    );
-    progress.clear();
-    let report = searched?;
-    flush(output)?;
-    warn(rt, named, report.txns);
-    let status = sum_up(rt, &report, quest);
-    if let Answer::Found(path) = &report.answer {
-        explain_found(rt, options, scenario, path);
-    }
-    Ok(status)
-}
-
-/// Writes the positions of a scenario's run at which its state shows what is looked for, and gives the exit status.
-fn find<R: Eprint + AllocGlobal, W: Write>(
-    rt: &R,
-    format: Format,
-    sought: Sought,
-    scenario: &[u8],
-    output: &mut Output<W>,
-) -> Result<u8, BenchFault>
-    requires { output.old.1 < u64.MAX }
-{
-    let source = &mut SliceSource::new(scenario);
-    let count = find_bytes(
-        rt.alloc(),
-        format,
-        &sought,
-        source,
-        output,
-        &mut Vec::new(rt.alloc()),
-    )?;
-    flush(output)?;
-    let named = usize::from(txns_named(&sought.goal));
-    if named != 0 {
-        warn(
-            rt,
-            named,
-            make_again(rt.alloc(), format, scenario)?.txn_count(),
-        );
-    }
-    Ok(if count == 0 { NOWHERE } else { DONE })
-}
-
-/// Warns on standard error where a goal names a transaction that the scenario does not have: it would take `named` of
-/// them, and has `txns`.
-fn warn(rt: &impl Eprint, named: usize, txns: usize) {
-    if txns < named {
-        let t = named.saturating_sub(1);
-        let _ = eprintln!(rt;
-            "zy_bench: the goal names transaction {t}, and the scenario has only those below {txns}"
-        );
-    }
-}
-
-/// Reports on standard error what came of a search, and gives the exit status.
-fn sum_up(rt: &impl Eprint, report: &Report, quest: Quest<'_>) -> u8 {
-    let summary = Summary::of(report, quest);
-    let _ = eprintln!(rt; "zy_bench: {summary}");
-    match &report.answer {
-        Answer::Found(_) => DONE,
-        Answer::Nowhere => NOWHERE,
-        Answer::Spent(_) => SPENT,
-    }
 }
 
 /// Shows on standard error the line of an input at which it is not the listing.

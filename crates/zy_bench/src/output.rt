@@ -5,6 +5,7 @@ ghost use Rattle.std.specs.Io.KnownBytes.{Keeps};
 use std::io;
 use std::io::Write;
 use std::marker::Model;
+use zy_engine::BenchFault;
 use zy_io::{CountingWriter, Sink};
 
 /// A sink over a writer that notes whether a call has failed since nobody reads any more.
@@ -69,5 +70,15 @@ fn is_of_closed_pipe<T>(outcome: &io::Result<T>) -> bool {
     match outcome {
         Ok(_) => false,
         Err(error) => error.kind() == io::ErrorKind::BrokenPipe,
+    }
+}
+
+/// Passes on what is kept back for standard output.
+pub fn flush<W: Write>(output: &mut Output<W>) -> Result<(), BenchFault>
+    requires { output.old.1 < u64.MAX }
+{
+    match output.flush() {
+        Ok(()) => Ok(()),
+        Err(_) => Err(BenchFault::Write),
     }
 }

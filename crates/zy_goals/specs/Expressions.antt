@@ -15,7 +15,7 @@ use Rattle.zy_goals.specs.Grammar.{Tree, negated, joined, Reads, Says, parts_of,
 abbrev pub Stops : ℕ → List Word → Type 0
 Stops l ws = (o : Operator) → l ≤ level_of o → begin_with (word_of o) ws ≡ false
 
--- A tree of level l was read from the front of the words, where n more parts were allowed. Each tree that ends where an
+-- A tree of level l was read from the beginning of the words, where n more parts were allowed. Each tree that ends where an
 -- expression may end has the same words and says the same goal.
 pub record Finds (names : Names) (l : ℕ) (ws : List Word) (n : ℕ) (p : Part) : Type 0 where
   pub tree : Tree

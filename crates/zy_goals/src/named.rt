@@ -1,42 +1,90 @@
-//! The transactions that a goal names. A warning is made of them: nothing is proved of what they are.
+//! The transactions and pages that a goal names. A warning is made of them: nothing is proved of what they are.
 
-use crate::goal::{Fact, Goal, Selector, StateFact, Term};
+use crate::goal::{Fact, Goal, LinkContent, MessagePattern, Selector, StateFact, Term};
 
-/// How many transactions there are where the last one has this number.
-fn count_through(t: u8) -> u16 {
-    u16::from(t) + 1
+/// How many transactions and pages a scenario must have for a goal to name no others; 0 where it names none.
+#[derive(Clone, Copy)]
+pub struct Named {
+    pub txns: usize,
+    pub pages: usize,
 }
 
-/// How many transactions there must be for a term to name no others.
-fn named_by_term(term: Term) -> u16 {
-    match term {
-        Term::Register { txn, .. } => count_through(txn),
-        Term::Pc(t) => count_through(t),
-        Term::Done(t) => count_through(t),
-        _ => 0,
+impl Named {
+    /// Neither transactions nor pages.
+    fn nothing() -> Named {
+        Named { txns: 0, pages: 0 }
     }
-}
 
-/// The same for a fact of the state.
-fn named_by_fact(fact: StateFact) -> u16 {
-    match fact {
-        StateFact::Txns(Selector::One(t), _) => count_through(t),
-        StateFact::LockedBy { txn, .. } => count_through(txn),
-        StateFact::CommittedBefore { earlier, later } => {
-            count_through(earlier).max(count_through(later))
+    /// The transaction with this number.
+    fn txn(t: u8) -> Named {
+        Named {
+            txns: usize::from(t) + 1,
+            pages: 0,
         }
-        StateFact::Compare(left, _, right) => named_by_term(left).max(named_by_term(right)),
-        _ => 0,
+    }
+
+    /// The page with this number.
+    fn page(p: u16) -> Named {
+        Named {
+            txns: 0,
+            pages: usize::from(p) + 1,
+        }
+    }
+
+    /// What either of two names.
+    fn and(self, other: Named) -> Named {
+        Named {
+            txns: self.txns.max(other.txns),
+            pages: self.pages.max(other.pages),
+        }
+    }
+
+    /// Whether nothing is named.
+    pub fn is_nothing(self) -> bool {
+        self.txns == 0 && self.pages == 0
     }
 }
 
-/// How many transactions a scenario must have for a goal to name no others; 0 where it names none.
-pub fn txns_named(goal: &Goal) -> u16 {
+/// What a term names.
+fn named_by_term(term: Term) -> Named {
+    match term {
+        Term::Register { txn, .. } => Named::txn(txn),
+        Term::Pc(t) => Named::txn(t),
+        Term::Done(t) => Named::txn(t),
+        _ => Named::nothing(),
+    }
+}
+
+/// What a fact of the state names.
+fn named_by_fact(fact: StateFact) -> Named {
+    match fact {
+        StateFact::Page(p, _) => Named::page(p),
+        StateFact::Locked(p) => Named::page(p),
+        StateFact::LockedBy { txn, page } => Named::txn(txn).and(Named::page(page)),
+        StateFact::Txns(Selector::One(t), _) => Named::txn(t),
+        StateFact::CommittedBefore { earlier, later } => Named::txn(earlier).and(Named::txn(later)),
+        StateFact::Link(_, LinkContent::Has(pattern)) => named_by_pattern(pattern),
+        StateFact::Compare(left, _, right) => named_by_term(left).and(named_by_term(right)),
+        _ => Named::nothing(),
+    }
+}
+
+/// What the pattern of a message names.
+fn named_by_pattern(pattern: MessagePattern) -> Named {
+    match pattern {
+        MessagePattern::Pull(p) => Named::page(p),
+        MessagePattern::Page(p) => Named::page(p),
+        MessagePattern::OfKind(_) => Named::nothing(),
+    }
+}
+
+/// What a goal names.
+pub fn named_by(goal: &Goal) -> Named {
     match goal {
         Goal::Is(Fact::OfState(fact)) => named_by_fact(*fact),
-        Goal::Is(_) => 0,
-        Goal::Not(g) => txns_named(g),
-        Goal::And(g, h) => txns_named(g).max(txns_named(h)),
-        Goal::Or(g, h) => txns_named(g).max(txns_named(h)),
+        Goal::Is(_) => Named::nothing(),
+        Goal::Not(g) => named_by(g),
+        Goal::And(g, h) => named_by(g).and(named_by(h)),
+        Goal::Or(g, h) => named_by(g).and(named_by(h)),
     }
 }

@@ -24,7 +24,7 @@ pub enum Operator {
     And,
 }
 
-/// A front of an expression that was read.
+/// A prefix of an expression, as far as it was read.
 #[derive(Drop)]
 pub struct Part<'a> {
     /// What it says.

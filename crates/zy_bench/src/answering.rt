@@ -1,0 +1,218 @@
+//! The commands `search` and `find`: a goal is read, and answered.
+ghost use Rattle.std.specs.Prelude.{◌<◌};
+
+use crate::again::make_again;
+use crate::command_line::Quest;
+use crate::exit_status::{COMMAND_LINE, DONE, NOWHERE, SPENT};
+use crate::explained::explain_found;
+use crate::marked::Marked;
+use crate::names::names_of;
+use crate::output::{Output, flush};
+use crate::progress::Progress;
+use crate::summary::{Count, Summary};
+use std::alloc::Global;
+use std::io::{Read, Write};
+use std::time::Clock;
+use zy_engine::finding::find_bytes;
+use zy_engine::searching::search_bytes;
+use zy_engine::{BenchFault, Format, SearchOptions};
+use zy_goals::named::{Named, named_by};
+use zy_goals::reading::{read_always, read_goal};
+use zy_goals::{Names, ReadFault};
+use zy_io::reading::read_all;
+use zy_io::{CountingReader, SliceSource};
+use zy_search::{Answer, Report, Sought};
+
+/// What a search is to look for, in a scenario whose transactions have these names.
+fn sought_of(alloc: Global, quest: Quest<'_>, names: Names<'_>) -> Result<Sought, ReadFault> {
+    let text = quest.text.as_bytes();
+    let query = if quest.is_always {
+        read_always(alloc, text, names)?
+    } else {
+        read_goal(alloc, text, names)?
+    };
+    Ok(Sought {
+        goal: query.goal,
+        then: query.then,
+        kinds: quest.kinds,
+    })
+}
+
+/// Reports on standard error why a goal was not read, and gives the exit status.
+fn no_goal(rt: &impl Eprint, quest: Quest<'_>, fault: ReadFault) -> Result<u8, BenchFault> {
+    match fault {
+        ReadFault::Memory => Err(BenchFault::Memory),
+        ReadFault::Refused(refusal) => {
+            let marked = Marked::of(quest, refusal);
+            let _ = eprintln!(rt; "zy_bench: {marked}");
+            Ok(COMMAND_LINE)
+        }
+    }
+}
+
+/// What is asked of the states that meet a goal.
+#[derive(Clone, Copy)]
+pub enum Asked {
+    /// A schedule to one of them. Standard error may be a terminal, which sees how far the search is.
+    Schedule { is_terminal: bool },
+    /// Where they are in a run.
+    Positions,
+}
+
+/// Reads a goal, answers what is asked, and gives the exit status. Where the goal is refused, nothing is read, but for the
+/// names of transactions, which the scenario has.
+pub fn answer<R: Eprint + AllocGlobal + Clock, G: Read, W: Write>(
+    rt: &R,
+    asked: Asked,
+    quest: Quest<'_>,
+    given: &mut G,
+    input: &mut Vec<u8>,
+    output: &mut Output<W>,
+) -> Result<u8, BenchFault>
+    requires { output.old.1 < u64.MAX }
+{
+    if let Err(fault) = sought_of(rt.alloc(), quest, Names::Unknown) {
+        return no_goal(rt, quest, fault);
+    }
+    *input = read_all(rt.alloc(), &mut CountingReader::new(given))?;
+    let scenario = input.as_slice();
+    let names = names_in(rt.alloc(), quest.options.format, scenario)?;
+    match sought_of(rt.alloc(), quest, Names::Known(&names)) {
+        Ok(sought) => {
+            warn(rt, quest.options.format, scenario, named_by(&sought.goal))?;
+            match asked {
+                Asked::Schedule { is_terminal } => {
+                    search(rt, quest, sought, scenario, output, is_terminal)
+                }
+                Asked::Positions => find(rt, quest.options.format, sought, scenario, output),
+            }
+        }
+        Err(fault) => {
+            // A scenario that is rejected has no names.
+            make_again(rt.alloc(), quest.options.format, scenario)?;
+            no_goal(rt, quest, fault)
+        }
+    }
+}
+
+/// The names of the transactions of a scenario; an image has none.
+fn names_in(alloc: Global, format: Format, scenario: &[u8]) -> Result<Vec<&[u8]>, BenchFault> {
+    match format {
+        Format::Text => Ok(names_of(alloc, scenario)?),
+        Format::Image => Ok(Vec::new(alloc)),
+    }
+}
+
+/// How many choices a scenario has, where there are fewer than those that a search is to take as steps already taken.
+fn lacking(
+    alloc: Global,
+    options: SearchOptions,
+    scenario: &[u8],
+) -> Result<Option<Count>, BenchFault> {
+    let Some(from) = options.from else {
+        return Ok(None);
+    };
+    let machine = make_again(alloc, options.format, scenario)?;
+    if machine.len() < from {
+        return Ok(Some(Count::of(machine.len(), "choice")));
+    }
+    Ok(None)
+}
+
+/// Searches the schedules of a scenario, and gives the exit status. It says how far it is where standard
+/// error is a terminal.
+fn search<R: Eprint + AllocGlobal + Clock, W: Write>(
+    rt: &R,
+    quest: Quest<'_>,
+    sought: Sought,
+    scenario: &[u8],
+    output: &mut Output<W>,
+    is_terminal: bool,
+) -> Result<u8, BenchFault>
+    requires { output.old.1 < u64.MAX }
+{
+    let options = quest.options;
+    if let Some(count) = lacking(rt.alloc(), options, scenario)? {
+        let _ = eprintln!(rt; "zy_bench: --from: the scenario has {count}");
+        return Ok(COMMAND_LINE);
+    }
+    let mut progress = Progress::new(rt, is_terminal);
+    let searched = search_bytes(
+        rt.alloc(),
+        options,
+        sought,
+        &mut SliceSource::new(scenario),
+        output,
+        &mut Vec::new(rt.alloc()),
+        &mut progress,
+    );
+    progress.clear();
+    let report = searched?;
+    flush(output)?;
+    let status = sum_up(rt, &report, quest);
+    if let Answer::Found(path) = &report.answer {
+        explain_found(rt, options, scenario, path);
+    }
+    Ok(status)
+}
+
+/// Writes the positions of a scenario's run at which its state shows what is looked for, and gives the exit status.
+fn find<R: Eprint + AllocGlobal, W: Write>(
+    rt: &R,
+    format: Format,
+    sought: Sought,
+    scenario: &[u8],
+    output: &mut Output<W>,
+) -> Result<u8, BenchFault>
+    requires { output.old.1 < u64.MAX }
+{
+    let source = &mut SliceSource::new(scenario);
+    let count = find_bytes(
+        rt.alloc(),
+        format,
+        &sought,
+        source,
+        output,
+        &mut Vec::new(rt.alloc()),
+    )?;
+    flush(output)?;
+    Ok(if count == 0 { NOWHERE } else { DONE })
+}
+
+/// Warns on standard error where a goal names a transaction or a page that the scenario does not have.
+fn warn<R: Eprint + AllocGlobal>(
+    rt: &R,
+    format: Format,
+    scenario: &[u8],
+    named: Named,
+) -> Result<(), BenchFault> {
+    if named.is_nothing() {
+        return Ok(());
+    }
+    let machine = make_again(rt.alloc(), format, scenario)?;
+    warn_of(rt, "transaction", named.txns, machine.txn_count());
+    let pages = usize::from(machine.scenario().pages());
+    warn_of(rt, "page", named.pages, pages);
+    Ok(())
+}
+
+/// Warns of one of these, of which there are `count`, where it takes `named` of them for the goal to name no others.
+fn warn_of(rt: &impl Eprint, word: &str, named: usize, count: usize) {
+    if count < named {
+        let last = named.saturating_sub(1);
+        let _ = eprintln!(rt;
+            "zy_bench: the goal names {word} {last}, and the scenario has only those below {count}"
+        );
+    }
+}
+
+/// Reports on standard error what came of a search, and gives the exit status.
+fn sum_up(rt: &impl Eprint, report: &Report, quest: Quest<'_>) -> u8 {
+    let summary = Summary::of(report, quest);
+    let _ = eprintln!(rt; "zy_bench: {summary}");
+    match &report.answer {
+        Answer::Found(_) => DONE,
+        Answer::Nowhere => NOWHERE,
+        Answer::Spent(_) => SPENT,
+    }
+}
