@@ -2,6 +2,7 @@
 
 import os
 import re
+from functools import lru_cache
 
 import bench
 
@@ -20,14 +21,13 @@ def rows_of(text, head):
         yield [cell.strip() for cell in line.strip('|').split('|', 1)]
 
 
+@lru_cache(1)
 def patterns():
     """(pattern, meaning) of each outcome: `pulls P` and what it says of P."""
     with open(FORMATS, encoding='utf-8') as file:
         text = file.read()
-    for names, meaning in rows_of(text, '| Outcome | Meaning |'):
-        yield from ((name, meaning) for name in re.findall('`([^`]+)`', names))
-    for name, why in rows_of(text, '| WHY | Meaning |'):
-        yield 'aborted ' + name.strip('`'), 'it aborted: ' + why
+    outcomes = [(name, meaning) for names, meaning in rows_of(text, '| Outcome | Meaning |') for name in re.findall('`([^`]+)`', names)]
+    return outcomes + [('aborted ' + name.strip('`'), 'it aborted: ' + why) for name, why in rows_of(text, '| WHY | Meaning |')]
 
 
 def is_letter(word):
@@ -54,9 +54,13 @@ def filled(meaning, letters):
 
 def meanings(outcomes):
     """A sentence on what each of the outcomes says; '' for one that docs/formats.md does not have."""
-    known = list(patterns())
-    return {outcome: next((filled(meaning, letters) for pattern, meaning in known
-                           for letters in [matched(pattern, outcome)] if letters is not None), '') for outcome in outcomes}
+    return {outcome: meaning_of(outcome) for outcome in outcomes}
+
+
+@lru_cache(1 << 12)
+def meaning_of(outcome):
+    """The sentence on an outcome. It is kept, since zplay asks again at each click."""
+    return next((filled(meaning, letters) for pattern, meaning in patterns() for letters in [matched(pattern, outcome)] if letters is not None), '')
 
 
 def table_rows():

@@ -139,7 +139,7 @@ class Run:
         found = {}
         for line in lines:
             if line.startswith('  '):
-                subject = tuple(line.split()[:2])
+                subject = tuple(line.split(None, 2)[:2])
                 found.setdefault(subject, [(0, '')] if self.steps else []).append((len(self.steps), line[2:]))
             else:
                 self.steps.append(step_of(line))
@@ -152,8 +152,8 @@ class Run:
         """The instruction that a step tries: the one at the place where its transaction is before the step."""
         if step.action != 'run' or step.outcome in ('idle', 'elsewhere'):
             return ''
-        words = self.txns[step.txn].at(step.number - 1).split()
-        return self.programs[step.txn][int(words[words.index('pc') + 1])]
+        _, _, behind = self.txns[step.txn].at(step.number - 1).partition(' pc ')
+        return self.programs[step.txn][int(behind.partition(' ')[0])]
 
     def name(self, txn):
         """A transaction's number, and its name where it has one."""
