@@ -34,6 +34,13 @@ class Browser:
         while self.value('document.readyState') != 'complete':
             time.sleep(0.02)
 
+    def reload(self):
+        """Loads the page again."""
+        self.value('window.isOld = true')
+        self.call('Page.reload')
+        while not self.value('!window.isOld && document.readyState === "complete"'):
+            time.sleep(0.02)
+
     def start(self):
         """Starts the browser, which reads from descriptor 3 and writes to 4; a shell puts them there, since other threads start programs, too."""
         to_read, self.to = os.pipe()

@@ -1,15 +1,14 @@
-"""What is tested of the page of zplay, in Chromium and Firefox."""
+"""What is tested of the page of zplay in Chromium."""
 
 import json
 import os
 import re
 import subprocess
-import tempfile
 import time
 
-import firefox
 from case import CASES, EXAMPLES, PROGRAM, content
-from playing import ANOMALY, DEADLOCK, HELD, MIGRATION, NOTED, SMALLEST, VERDICTS, ZVIEW, Page, Play, bare, head, loops, part_of, steps_of, zy_bench
+from playing import ANOMALY, DEADLOCK, HELD, MIGRATION, NOTED, SMALLEST, VERDICTS, ZVIEW, bare, head, loops, part_of, steps_of, zy_bench
+
 
 # Clicks choices, one after the other: for each what its button showed, and whether it was grey; null where there was none.
 CLICKED = '''(async choices => {
@@ -104,9 +103,9 @@ def files(page, text, listing):
 
 
 # What some searches report: the text, what is asked, the words, and how many choices are added.
-REPORTED = [(bare(ANOMALY), 'for', 'differs', 'found after 988 states: 18 choices lead there; the rows are those of 0, 1 in this order: ', 18),
+REPORTED = [(bare(ANOMALY), 'for', 'differs', 'found after 944 states: 18 choices lead there; the rows are those of 0, 1 in this order: ', 18),
             (bare(ANOMALY), 'for', 'txn writer committed before reader', 'found after 427 states: 11 choices lead there', 11),
-            (DEADLOCK, 'for', 'deadlock', 'found after 380 states: 10 choices lead there', 10), (HELD, 'for', '', 'Never: none of 1155 states shows it', 0),
+            (DEADLOCK, 'for', 'deadlock', 'found after 380 states: 10 choices lead there', 10), (HELD, 'for', '', 'Never: none of 1067 states shows it', 0),
             (DEADLOCK, 'always', 'not stuck', 'Not always: found after 704 states: 14 choices lead there', 14)]
 
 
@@ -239,7 +238,7 @@ def faults(page):
     """What is wrong with a fault, once it is typed and once it is mended."""
     page.begin(NOTED)
     page.type(NOTED.replace('read r1', 'reed r1'))
-    words, line = page.value('[$("fault").textContent, [...$("paint").children].findIndex(line => line.matches(".wrong"))]')
+    words, line = page.value('[$("fault").textContent, [...$("paint").querySelectorAll(".line")].findIndex(line => line.matches(".wrong"))]')
     page.type(NOTED)
     mended, last = page.value('[$("fault").textContent, D.last]')
     return [words for words, is_right in (
@@ -353,56 +352,6 @@ NODES = [(0, '0 page 0 30 page 1', 'no page', 'no wireframe', 'no page'),
          (28, 'no wireframe', 'no page', '0 page 0 15 page 2 30 page 1', 'no page')]
 
 SHOWN_NODES = '[...$("nodes").querySelectorAll("dt, dd")].map(part => part.textContent.trim())'
-
-
-def words(page):
-    """What is wrong with what words mean, where the pointer or the focus rests on them, for a screen reader, and in the list of them."""
-    page.begin(NOTED)
-    for selector, wanted in TIPS.items():
-        shown = page.rest(selector)
-        if shown != wanted:
-            yield 'at %s: %r' % (selector, shown)
-    page.value('$("view").focus()')
-    page.rest('#lanes h3 i')
-    page.key('Escape')
-    if not page.value('$("tip").hidden'):
-        yield 'Esc does not take it away'
-    page.key('a')
-    page.key('ArrowDown')
-    shown = page.tip()
-    page.key('Escape')
-    if shown != 'The link was empty.' or not page.value('$("tip").hidden'):
-        yield 'by keys: %r' % shown
-    page.key('e')
-    page.value('document.querySelector("#lanes h3 i").focus()')
-    if page.tip() != 'a source that has sent its wireframe':
-        yield 'at a mode that has the focus: %r' % page.tip()
-    page.call('Accessibility.enable')
-    told = [(node['name']['value'], node.get('description', {}).get('value')) for node in page.call('Accessibility.getFullAXTree')['nodes']
-            if node.get('name') and not node.get('ignored')]
-    page.call('Accessibility.disable')
-    for name, meaning in TOLD:
-        if (name, meaning) not in told:
-            yield 'a screen reader does not say of %s: %s' % (name, meaning)
-    listed = page.value('[...$("legend").querySelectorAll("dt")].map(word => word.textContent)')
-    missing = {'cap', 'pages', 'rule held', 'rule loose', '!', 'badmode', 'normal', 'empty', *('sinit sdual sfinish dinit ddual dfinish'.split())} - set(listed)
-    if missing or page.value('[...$("legend").querySelectorAll("dd")].some(meaning => meaning.textContent.length < 10)'):
-        yield 'the list of words lacks %r' % missing
-    page.begin(NOTED.replace('held', 'loose'))
-    shown = page.rest('#chips .chip:nth-child(2)')
-    if not shown.startswith('a page that is asked for is handed over'):
-        yield 'of loose: %r' % shown
-
-
-# What some words mean behind NOTED, by docs/glossary.md, docs/formats.md and what its next choices come to.
-TIPS = {'#chips .chip:nth-child(3)': 'the most rows of a page',
-        '#chips .chip:nth-child(2)': 'a page that a transaction at the source has locked is not handed over before the lock is dropped',
-        '.choice[data-choice="B push"]': 'A node is in a mode in which this is not done.',
-        '.choice[data-choice="B take"]': 'That message was taken. It sends the message ready.\nmode B dinit\nlink AB\nlink BA ready',
-        '#rows .band.sinit': 'a source that has sent its wireframe'}
-
-TOLD = [('cap 4', 'the most rows of a page'), ('take, nomessage, changes nothing', 'The link was empty.'),
-        ('sinit', 'a source that has sent its wireframe'), ('take, wire, got wire ! ready', 'That message was taken. It sends the message ready.')]
 
 
 def scenarios(page):
@@ -528,7 +477,7 @@ def branches(page):
     page.key('u', 'u')
     page.wait()
     right('a branch that is brought back', 'branches.map(branch => branch.id).join()', '1,2')
-    page.value('$("text").value += "; a remark"; $("text").dispatchEvent(new Event("input")); visit(1)')
+    page.value('$("text").focus(); $("text").value += "; a remark"; $("text").dispatchEvent(new Event("input")); visit(1)')
     page.wait('current === 1 && !busy')
     page.value('visit(2)')
     page.wait('current === 2 && !busy')
@@ -607,172 +556,6 @@ def narrow(page):
     page.call('Emulation.clearDeviceMetricsOverride')
 
 
-# The roles of what a user moves to, or hears of.
-ROLES = ('button', 'link', 'textbox', 'combobox', 'slider', 'checkbox', 'spinbutton', 'DisclosureTriangle', 'complementary', 'navigation', 'region', 'heading')
-
-
-def read_aloud(page):
-    """What is wrong with the tree of a screen reader: names, and what is said after a click."""
-    page.begin(NOTED)
-    page.value('show(1)')
-    page.wait()
-    page.choice('C start')
-    page.call('Accessibility.enable')
-    nodes = page.call('Accessibility.getFullAXTree')['nodes']
-    page.call('Accessibility.disable')
-    named = [(node['role']['value'], node.get('name', {}).get('value', '')) for node in nodes if not node.get('ignored')]
-    for role, name in named:
-        if role in ROLES and not re.search('[a-z]{2}', name):
-            yield 'a %s is named %r' % (role, name)
-    for wanted in (('button', 'kill reader, aborted killed'), ('button', 'branch 1: 4 steps, serial same'), ('button', 'take, nomessage, changes nothing'),
-                   ('textbox', 'the scenario'), ('combobox', 'the goal'),
-                   ('button', 'one step back'), ('button', 'run reader until it waits, asks for a page, ends or can do nothing')):
-        if wanted not in named:
-            yield 'there is no %s named %r' % wanted
-    page.choice('C kill 0')
-    said = page.value('[...document.querySelectorAll("[role=status]")].map(box => box.textContent).join(" ")')
-    if not re.search(r'3 C kill 0 → aborted killed.*the client killed it', said):
-        yield 'after a click is said %r' % said
-
-
 def choose(page, value):
     """Chooses a scenario."""
     page.value('{ $("example").value = "%s"; $("example").onchange({target: $("example")}); }' % value)
-
-
-def named():
-    """What is wrong with a file, and with the address of another page, on the command line."""
-    with tempfile.TemporaryDirectory() as work:
-        path = os.path.join(work, 'my run.zephyr')
-        with open(path, 'w', encoding='utf-8') as file:
-            file.write(NOTED)
-        with Play(path) as play:
-            page = Page(play.address)
-            found = [] if (page.text(), page.value('document.title')) == (NOTED, 'my run · zplay') else ['a file: %r' % page.text()]
-            choose(page, 'held')
-            page.wait('$("example").value === "held" && D.lines.length > 17 && !busy')
-            choose(page, 'own my run')
-            page.wait('document.title === "my run · zplay" && D.last === 4 && !busy')
-            page.value('show(1)')
-            page.value('store()')
-            link = page.value('location.href')
-            page.close()
-    with Play(link) as play:
-        page = Page(play.address)
-        found += [] if (page.text(), page.value('now')) == (NOTED, 1) else ['a link: %r' % page.text()]
-        page.close()
-    return found
-
-
-# What a page shows of a link: its fault, its text, its title, and whether there is a run.
-DAMAGED = '[$("fault").textContent.startsWith("the link is damaged"), $("text").value, document.title, !!D]'
-
-
-def sum_of(letters):
-    """The checksum of a link: FNV-1a of 32 bits, in 7 digits and letters."""
-    value = 0x811c9dc5
-    for letter in letters.encode():
-        value = (value ^ letter) * 0x01000193 % (1 << 32)
-    digits = ''
-    while value or len(digits) < 7:
-        value, digit = divmod(value, 36)
-        digits = '0123456789abcdefghijklmnopqrstuvwxyz'[digit] + digits
-    return digits
-
-
-def damages(run, checksum):
-    """What follows the # of links that are damaged: cut short, or with a letter changed, put in or left out."""
-    word, many = '%s.%s' % (run, checksum), len(run) + 8
-    yield from (word[:-9], word[:-3], '7', '7.x', run + '.', '1' + word)
-    for place in (*range(0, len(run), max(1, len(run) // 12)), *range(len(run) + 1, many)):
-        yield word[:place] + ('1' if word[place] != '1' else '2') + word[place + 1:]
-        yield word[:place] + word[place + 1:]
-
-
-def links():
-    """What is wrong with links: damaged ones, where no run is shown yet and where one is; one without a checksum; and names of what comes by one."""
-    found = []
-    with Play() as play:
-        page = Page(play.address)
-        page.value('store()')
-        address, text, title = page.value('[location.href, doc.text, document.title]')
-        start, _, word = address.partition('#')
-        run, _, checksum = word.rpartition('.')
-        found += [] if checksum == sum_of(run) else ['the checksum is %s' % checksum]
-        unread = [damaged for damaged in damages(run, checksum) if page.value('linked(%s)' % json.dumps('#' + damaged))]
-        found += ['a damaged link is read: %s' % damaged for damaged in unread]
-        for damaged in (word[:-9], '7'):
-            page.go('about:blank')
-            page.go(start + '#' + damaged)
-            page.wait('$("fault").textContent')
-            shown = page.value(DAMAGED)
-            found += [] if shown == [True, '', 'zplay', False] else ['%s: %r' % (damaged[-12:], shown)]
-            able = page.value('["link", "cut", "migrate"].filter(id => !$(id).disabled)')
-            found += ['%s: with no run there is %s' % (damaged[-12:], able)] if able else []
-        page.type(SMALLEST)
-        page.wait()
-        shown = page.value('[D.last, $("fault").textContent, document.title, $("link").disabled]')
-        found += [] if shown == [0, '', 'your own text · zplay', False] else ['a text that is typed instead: %r' % shown]
-        page.go('about:blank')
-        page.go(start + '#' + run)
-        page.wait()
-        shown = page.value('[doc.text, document.title, location.hash]')
-        found += [] if shown[:2] == [text, title] else ['without a checksum: %r' % shown]
-        page.value('location.hash = location.hash.slice(0, -9)')
-        page.wait('$("fault").textContent && location.href === %s' % json.dumps(address))
-        shown = page.value(DAMAGED)
-        found += [] if shown == [True, text, title, True] else ['behind a run: %r' % shown]
-        found += arrived(page)
-        page.close()
-    return found
-
-
-def arrived(page):
-    """What is wrong with the name of a run that comes by a link where another one is shown, with undo there, and where the page is loaded again."""
-    page.type(NOTED)
-    page.value('store()')
-    link = page.value('location.hash')
-    page.begin(SMALLEST, 'x')
-    page.value('store()')
-    page.value('location.hash = %s' % json.dumps(link))
-    page.wait('doc.text === %s && !busy' % json.dumps(NOTED))
-    names = [page.value('document.title + $("note").textContent')]
-    page.value('$("view").focus()')
-    page.key('u', 'u')
-    page.wait('doc.text === %s && !busy' % json.dumps(SMALLEST))
-    page.type(SMALLEST.replace('cap 2', 'cap 3'))
-    page.value('store()')
-    page.call('Page.reload')
-    page.wait('typeof D === "object" && D && document.title !== "anomaly · zplay"')
-    names.append(page.value('document.title'))
-    return [] if names == ['from a link · zplayx is put aside; undo brings it back', 'your own text · zplay'] else ['names: %r' % names]
-
-
-# Whether the verdict and the outcomes of the next choices are shown, and the words in some places of the page, without the names of its script.
-SHOWN = '!document.querySelector(".pending") && document.querySelectorAll(".choice span").length > 0 && [...document.querySelectorAll(".choice span")].every(it => it.textContent !== "…")'
-
-WORDS = '["where", "line", "here", "report"].map(id => document.getElementById(id).textContent)'
-
-
-def in_firefox():
-    """What is wrong with a click, a branch, a search and the address in Firefox."""
-    with Play(os.path.join(EXAMPLES, 'anomaly.zephyr')) as play:
-        page = firefox.Firefox(play.address)
-        try:
-            page.wait(SHOWN)
-            found = [page.value(WORDS)]
-            page.click('#first')
-            page.wait('document.getElementById("where").textContent === "0 of 18"')
-            page.wait(SHOWN)
-            page.click('[data-choice="C start"]')
-            page.wait('document.getElementById("where").textContent === "1 of 1"')
-            page.type('#goal', 'then got page')
-            page.click('#go')
-            page.wait('document.querySelectorAll(".branch").length === 3')
-            page.wait('/^#8[.]/.test(location.hash)')
-            page.wait(SHOWN)
-            found.append(page.value(WORDS))
-        finally:
-            page.close()
-    wanted = [['18 of 18', '18 A run 0 → committed 2', 'serial differs', ''], ['8 of 8', '8 B take → got page 0', 'serial same', found[-1][3]]]
-    return [] if found == wanted and ' 7 choices lead there' in found[1][3] else ['shown: %r' % found]

@@ -19,50 +19,50 @@ from playing import (ANOMALY, DEADLOCK, GONE, HELD, MIGRATION, NOTED, SEARCH, SM
                      loops, steps_of, zy_bench)
 from waits import SCENARIOS
 
-def answered():
+def answered(play):
     """What is wrong with who is answered, and who is not."""
-    with Play() as play:
-        strangers = {'Origin': None, 'Cookie': None}
-        wanted = [
-            ('the page', 200, play.request('GET', '/', Origin=None)),
-            ('the script', 200, play.request('GET', '/script.js', Origin=None)),
-            ('a question', 200, play.request('POST', '/run', TEXT)),
-            ('the cookie among others', 200, play.request('GET', '/', Origin=None, Cookie='a/b=1; zplay_%s=%s; c=2' % (play.port, play.token))),
-            ('the token in the address', 303, play.request('GET', '/?token=' + play.token, **strangers)),
-            ('another token in the address', 403, play.request('GET', '/?token=x' + play.token[1:], **strangers)),
-            ('no token', 403, play.request('GET', '/', **strangers)),
-            ('another token', 403, play.request('POST', '/run', TEXT, Cookie='zplay_%s=x' % play.port)),
-            ('another host', 403, play.request('GET', '/', Origin=None, Host='evil.example:' + play.port)),
-            ('another host with the token', 403, play.request('GET', '/?token=' + play.token, Host='evil.example', **strangers)),
-            ('another page', 403, play.request('POST', '/run', TEXT, Origin='http://127.0.0.1:1')),
-            ('another site', 403, play.request('GET', '/', Origin='https://evil.example')),
-            ('a question of no page', 403, play.request('POST', '/run', TEXT, Origin=None)),
-            ('a file of the machine', 404, play.request('GET', '/../../etc/passwd', Origin=None)),
-            ('another question', 400, play.request('POST', '/other', TEXT)),
-            ('no JSON', 400, play.request('POST', '/run', 'text')),
-            ('no object', 400, play.request('POST', '/run', '[]')),
-            ('a text that is no text', 400, play.request('POST', '/run', '{"text": 7}')),
-            ('half a letter', 400, play.request('POST', '/run', '{"text": "\\udfff\\ud800"}')),
-            ('a search in another way', 400, play.request('POST', '/search', json.dumps({**SEARCH, 'way': 'help'}))),
-            ('a search for no text', 400, play.request('POST', '/search', json.dumps({**SEARCH, 'goal': 7}))),
-            ('a search for a zero byte', 400, play.request('POST', '/search', json.dumps({**SEARCH, 'goal': 'a\0b'}))),
-            ('a search of no state', 400, play.request('POST', '/search', json.dumps({**SEARCH, 'states': 0}))),
-            ('one text to lay beside none', 400, play.request('POST', '/beside', json.dumps({'texts': [SMALLEST]}))),
-            ('a position that is none', 400, play.request('POST', '/run', json.dumps({'text': SMALLEST, 'at': 'x'}))),
-            ('a run that is no name', 400, play.request('POST', '/run', json.dumps({'text': SMALLEST, 'base': [1]}))),
-            ('deep JSON', 400, play.request('POST', '/run', '[' * 200000)),
-            ('a long question', 413, play.request('POST', '/run', None, **{'Content-Length': '99999999'}))]
-        found = ['%s: status %d, wanted %d' % (name, answer[0], status) for name, status, answer in wanted if answer[0] != status]
-        page = wanted[0][2]
-        elsewhere = re.search(rb'(?:src|href)="(?!style.css|script.js|data:,)', page[2])
-        if elsewhere or "default-src 'none'" not in page[1].get('Content-Security-Policy', ''):
-            found.append('the page takes something from elsewhere')
-        stranger = play.request('GET', '/', **strangers)[2].decode()
-        if "./zplay 'LINK'" not in stranger or 'a whole run' not in stranger or 'behind the address that your own zplay printed' not in stranger:
-            found.append('who opens a link without a token reads %r' % stranger)
-        if is_open(own_address(), play.port):
-            found.append('another address of this machine is served')
-        return found
+    strangers = {'Origin': None, 'Cookie': None}
+    wanted = [
+        ('the page', 200, play.request('GET', '/', Origin=None)),
+        ('the script', 200, play.request('GET', '/script.js', Origin=None)),
+        ('a question', 200, play.request('POST', '/run', TEXT)),
+        ('the cookie among others', 200, play.request('GET', '/', Origin=None, Cookie='a/b=1; zplay_%s=%s; c=2' % (play.port, play.token))),
+        ('the token in the address', 303, play.request('GET', '/?token=' + play.token, **strangers)),
+        ('another token in the address', 403, play.request('GET', '/?token=x' + play.token[1:], **strangers)),
+        ('no token', 403, play.request('GET', '/', **strangers)),
+        ('another token', 403, play.request('POST', '/run', TEXT, Cookie='zplay_%s=x' % play.port)),
+        ('another host', 403, play.request('GET', '/', Origin=None, Host='evil.example:' + play.port)),
+        ('another host with the token', 403, play.request('GET', '/?token=' + play.token, Host='evil.example', **strangers)),
+        ('another page', 403, play.request('POST', '/run', TEXT, Origin='http://127.0.0.1:1')),
+        ('another site', 403, play.request('GET', '/', Origin='https://evil.example')),
+        ('a question of no page', 403, play.request('POST', '/run', TEXT, Origin=None)),
+        ('a file of the machine', 404, play.request('GET', '/../../etc/passwd', Origin=None)),
+        ('another question', 400, play.request('POST', '/other', TEXT)),
+        ('no JSON', 400, play.request('POST', '/run', 'text')),
+        ('no object', 400, play.request('POST', '/run', '[]')),
+        ('a text that is no text', 400, play.request('POST', '/run', '{"text": 7}')),
+        ('half a letter', 400, play.request('POST', '/run', '{"text": "\\udfff\\ud800"}')),
+        ('a search in another way', 400, play.request('POST', '/search', json.dumps({**SEARCH, 'way': 'help'}))),
+        ('a search for no text', 400, play.request('POST', '/search', json.dumps({**SEARCH, 'goal': 7}))),
+        ('a search for a zero byte', 400, play.request('POST', '/search', json.dumps({**SEARCH, 'goal': 'a\0b'}))),
+        ('a search of no state', 400, play.request('POST', '/search', json.dumps({**SEARCH, 'states': 0}))),
+        ('a goal that is no text', 400, play.request('POST', '/find', json.dumps({'text': SMALLEST, 'goal': 7}))),
+        ('one text to lay beside none', 400, play.request('POST', '/beside', json.dumps({'texts': [SMALLEST]}))),
+        ('a position that is none', 400, play.request('POST', '/run', json.dumps({'text': SMALLEST, 'at': 'x'}))),
+        ('a run that is no name', 400, play.request('POST', '/run', json.dumps({'text': SMALLEST, 'base': [1]}))),
+        ('deep JSON', 400, play.request('POST', '/run', '[' * 200000)),
+        ('a long question', 413, play.request('POST', '/run', None, **{'Content-Length': '99999999'}))]
+    found = ['%s: status %d, wanted %d' % (name, answer[0], status) for name, status, answer in wanted if answer[0] != status]
+    page = wanted[0][2]
+    elsewhere = re.search(rb'(?:src|href)="(?!style.css|script.js|data:,)', page[2])
+    if elsewhere or "default-src 'none'" not in page[1].get('Content-Security-Policy', ''):
+        found.append('the page takes something from elsewhere')
+    stranger = play.request('GET', '/', **strangers)[2].decode()
+    if "./zplay 'LINK'" not in stranger or 'a whole run' not in stranger or 'behind the address that your own zplay printed' not in stranger:
+        found.append('who opens a link without a token reads %r' % stranger)
+    if is_open(own_address(), play.port):
+        found.append('another address of this machine is served')
+    return found
 
 
 # What some choices behind NOTED come to, by the step table, and whether they change anything.
@@ -70,45 +70,42 @@ NEXT = [('A run 0', 'committed 1', True), ('B take', 'got wire ! ready', True), 
         ('A take', 'nomessage', False), ('C start', 'badmode', False), ('B push', 'badmode', False)]
 
 
-def questions():
+def questions(play):
     """What is wrong with the answers to some questions."""
     begun = NOTED.replace('A run reader x 2 ; it reads\nC start\n', '')
-    with Play() as play:
-        run = play.ask('/run', NOTED)
-        fault = play.ask('/run', NOTED.replace('read r1', 'reed r1'))['fault']
-        no_end = play.ask('/run', NOTED.replace('commit\n', 'set r1 1\n'))['fault']
-        after = play.ask('/outcomes', NOTED, choices=[choice for choice, _, _ in NEXT])
-        return [words for words, is_right in (
-            ('the run: %r' % run, run['whole']['last'] == 4 and run['lists']['lines'][1][-1] == '4 C start -> started ! wire'),
-            ('a fault: %r' % fault, fault['line'] == 8 and fault['words'].startswith("the word 'reed' is not known here")),
-            ('a fault that is shown above its line: %r' % no_end, no_end['line'] == 9),
-            ('outcomes: %r' % after, [(one['outcome'], one['acts']) for one in after] == [(outcome, acts) for _, outcome, acts in NEXT]),
-            ('until it ends', play.ask('/until', begun, choice='A run 0') == {'added': ['A run 0'] * 3}),
-            ('a transaction that is not there', 'fault' in play.ask('/until', SMALLEST, choice='A run 7')),
-            ('the nodes', play.ask('/nodes', NOTED) == {'A': {'lows': [0], 'asked': []}, 'B': {'lows': [], 'asked': []}}),
-            ('the nodes of no scenario', 'fault' in play.ask('/nodes', NOTED[1:])),
-            ('a migration', play.ask('/migrate', SMALLEST) == {'added': MIGRATION, 'words': ''}),
-            ('a listing', play.ask('/save', NOTED, **{'as': 'listing'})['file'] == zy_bench(['run'], NOTED.encode()))) if not is_right]
+    run = play.ask('/run', NOTED)
+    fault = play.ask('/run', NOTED.replace('read r1', 'reed r1'))['fault']
+    no_end = play.ask('/run', NOTED.replace('commit\n', 'set r1 1\n'))['fault']
+    after = play.ask('/outcomes', NOTED, choices=[choice for choice, _, _ in NEXT])
+    return [words for words, is_right in (
+        ('the run: %r' % run, run['whole']['last'] == 4 and run['lists']['lines'][1][-1] == '4 C start -> started ! wire'),
+        ('a fault: %r' % fault, fault['line'] == 8 and fault['words'].startswith("the word 'reed' is not known here")),
+        ('a fault that is shown above its line: %r' % no_end, no_end['line'] == 9),
+        ('outcomes: %r' % after, [(one['outcome'], one['acts']) for one in after] == [(outcome, acts) for _, outcome, acts in NEXT]),
+        ('until it ends', play.ask('/until', begun, choice='A run 0') == {'added': ['A run 0'] * 3}),
+        ('a transaction that is not there', 'fault' in play.ask('/until', SMALLEST, choice='A run 7')),
+        ('the nodes', play.ask('/nodes', NOTED) == {'A': {'lows': [0], 'asked': []}, 'B': {'lows': [], 'asked': []}}),
+        ('the nodes of no scenario', 'fault' in play.ask('/nodes', NOTED[1:])),
+        ('a migration', play.ask('/migrate', SMALLEST) == {'added': MIGRATION, 'words': ''}),
+        ('a listing', play.ask('/save', NOTED, **{'as': 'listing'})['file'] == zy_bench(['run'], NOTED.encode()))) if not is_right]
 
 
-def judged():
+def judged(play):
     """What is wrong with the verdicts on the first choices of a run."""
-    with Play() as play:
-        for count, *wanted in VERDICTS:
-            answer = play.ask('/verdict', first_choices(ANOMALY, count))
-            if [answer[name] for name in ('same', 'order', 'explained', 'rows')] != wanted or not answer['known']:
-                yield 'after %d choices: %r' % (count, answer)
+    for count, *wanted in VERDICTS:
+        answer = play.ask('/verdict', first_choices(ANOMALY, count))
+        if [answer[name] for name in ('same', 'order', 'explained', 'rows')] != wanted or not answer['known']:
+            yield 'after %d choices: %r' % (count, answer)
 
 
-def waited():
+def waited(play):
     """What is wrong with whom a choice waits for, before it is made; the rows that it tries are not said."""
-    with Play() as play:
-        for scenario, waits in SCENARIOS:
-            choices = [choice for choice, _ in steps_of(zy_bench(['run'], scenario.encode()))]
-            for number, (words, _) in waits.items():
-                answer, = play.ask('/outcomes', first_choices(scenario, number - 1), choices=[choices[number - 1]])
-                if answer['waits'] != re.sub(r' \(rows? [^)]*\)', '', words):
-                    yield '%s: %r' % (choices[number - 1], answer)
+    for scenario, waits in SCENARIOS:
+        choices = [choice for choice, _ in steps_of(zy_bench(['run'], scenario.encode()))]
+        for number, (words, _) in waits.items():
+            answer, = play.ask('/outcomes', first_choices(scenario, number - 1), choices=[choices[number - 1]])
+            if answer['waits'] != re.sub(r' \(rows? [^)]*\)', '', words):
+                yield '%s: %r' % (choices[number - 1], answer)
 
 
 # Some searches, most of them as docs/search.md has them: the text, its number of choices, what is asked, how many choices are found, and the words.
@@ -117,11 +114,12 @@ SOUGHT = [(NOTED, 4, {'goal': 'committed'}, 1, 'found after '),
           (bare(NOTED), 0, {'goal': 'killed'}, None, 'Never: none of '),
           (GONE, 0, {'goal': 'gone'}, 11, 'found after 292 states: 11 choices lead there'),
           (DEADLOCK, 0, {'goal': 'stuck then waits'}, 15, 'found after '),
-          (DEADLOCK, 0, {'way': 'always', 'goal': 'commits = 0 or key 10 = key 30'}, None, 'Always: it holds in each of 1745 states, kills not considered'),
+          (DEADLOCK, 0, {'way': 'always', 'goal': 'commits = 0 or key 10 = key 30'}, None, 'Always: it holds in each of 1678 states, kills not considered'),
           (DEADLOCK, 0, {'way': 'always', 'goal': 'commits = 0'}, 7, 'Not always: found after '),
-          (HELD, 0, {'goal': 'differs'}, None, 'Never: none of 1155 states shows it, kills not considered, and there are no others'),
+          (HELD, 0, {'goal': 'differs'}, None, 'Never: none of 1067 states shows it, kills not considered, and there are no others'),
           (HELD, 0, {'goal': 'differs', 'states': 100}, None, 'Not known: gave up after 100 states: no schedule of fewer than '),
-          (HELD, 0, {'goal': 'txn 9 active'}, None, 'Never: the goal names transaction 9, and the scenario has only those below 2; none of ')]
+          (HELD, 0, {'goal': 'txn 9 active'}, None, 'Never: the goal names transaction 9, and the scenario has only those below 2; none of '),
+          (HELD, 0, {'goal': 'page 9 at B or txn 1 locks 1 and not page 1 locked'}, None, 'Never: the goal names page 9, and the scenario has only those below 2; none of ')]
 
 # Goals that are not understood, with the column and the length of the word at fault.
 MISTAKEN = [('page 3 on B', 8, 2), ('commits > 1 and sdf', 17, 3), ('then wait', 6, 4), ('not', 4, 0)]
@@ -132,19 +130,18 @@ def searched(play, text, position, asked):
     return play.ask('/search', text, **{'position': position, 'way': 'for', 'kill': False, 'states': 1000000, **asked})
 
 
-def answers_of_searches():
+def answers_of_searches(play):
     """What is wrong with the answers of some searches."""
-    with Play() as play:
-        for text, position, asked, count, words in SOUGHT:
-            answer = searched(play, text, position, asked)
-            if (answer['found'] and len(answer['found'])) != count or not answer['words'].startswith(words):
-                yield '%s: %r' % (asked, answer)
-        if searched(play, *SOUGHT[1][:3])['found'] != ['C begin 0', 'C kill 0']:
-            yield 'other choices are found'
-        for goal, column, length in MISTAKEN:
-            answer = searched(play, HELD, 0, {'goal': goal})
-            if answer.get('goal') != {'column': column, 'length': length} or '--' in answer['words'] or len(answer['words']) < 20:
-                yield '%s: %r' % (goal, answer)
+    for text, position, asked, count, words in SOUGHT:
+        answer = searched(play, text, position, asked)
+        if (answer['found'] and len(answer['found'])) != count or not answer['words'].startswith(words):
+            yield '%s: %r' % (asked, answer)
+    if searched(play, *SOUGHT[1][:3])['found'] != ['C begin 0', 'C kill 0']:
+        yield 'other choices are found'
+    for goal, column, length in MISTAKEN:
+        answer = searched(play, HELD, 0, {'goal': goal})
+        if answer.get('goal') != {'column': column, 'length': length} or '--' in answer['words'] or len(answer['words']) < 20:
+            yield '%s: %r' % (goal, answer)
 
 
 # The anomaly and the same choices under held part so, as docs/loose.md has it: the choice and the outcome of each, and whether the run is serial.
@@ -155,23 +152,22 @@ PARTED = [('A take', 'got pull 0 ! page', 'held 0'), ('B take', 'got page 0', 'n
 PARTED_STATES = [['page 0 B low 0 rows 10=9 20=2 locks', 'page 0 A low 0 rows 10=1 20=2 locks'], ['link BA', 'link BA pull:0']]
 
 
-def laid_beside():
+def laid_beside(play):
     """What is wrong with two runs that are laid side by side."""
     held = content(os.path.join(EXAMPLES, 'anomaly_under_held.zephyr')).decode()
-    with Play() as play:
-        answer = play.ask('/beside', '', texts=[ANOMALY, held])
-        other = play.ask('/beside', '', texts=[NOTED, NOTED.replace('row 10 1', 'row 10 7\nrow 11 5').replace('read r1 r0\n', '')])
-        steps = [[(step[0], step[2]) for step in steps] for steps in answer['steps']]
-        return [words for words, is_right in (
-            ('the scenarios: %r' % answer['scenarios'], answer['scenarios'] == [['rule', 'loose', 'held']]),
-            ('other rows and programs: %r' % other['scenarios'], other['scenarios'] == [
-                ['row 10', '1', '7'], ['program 0', 'set r0 10; read r1 r0; commit', 'set r0 10; commit'], ['row 11', '', '5']]),
-            ('they part at %d' % answer['both'], answer['both'] == 11),
-            ('the steps: %r' % steps, steps == [[(choice, one) for choice, one, _ in PARTED], [(choice, other) for choice, _, other in PARTED]]),
-            ('the verdicts: %r' % answer['verdicts'], answer['verdicts'] == ['serial differs', 'serial same']),
-            ('the states: %r' % answer['states'], all(lines in answer['states'] for lines in PARTED_STATES)
-             and all(one != other for one, other in answer['states']) and 'page 1' not in str(answer['states'])),
-            ('a fault', 'fault' in play.ask('/beside', '', texts=[ANOMALY, 'zephyr 3']))) if not is_right]
+    answer = play.ask('/beside', '', texts=[ANOMALY, held])
+    other = play.ask('/beside', '', texts=[NOTED, NOTED.replace('row 10 1', 'row 10 7\nrow 11 5').replace('read r1 r0\n', '')])
+    steps = [[(step[0], step[2]) for step in steps] for steps in answer['steps']]
+    return [words for words, is_right in (
+        ('the scenarios: %r' % answer['scenarios'], answer['scenarios'] == [['rule', 'loose', 'held']]),
+        ('other rows and programs: %r' % other['scenarios'], other['scenarios'] == [
+            ['row 10', '1', '7'], ['program 0', 'set r0 10; read r1 r0; commit', 'set r0 10; commit'], ['row 11', '', '5']]),
+        ('they part at %d' % answer['both'], answer['both'] == 11),
+        ('the steps: %r' % steps, steps == [[(choice, one) for choice, one, _ in PARTED], [(choice, other) for choice, _, other in PARTED]]),
+        ('the verdicts: %r' % answer['verdicts'], answer['verdicts'] == ['serial differs', 'serial same']),
+        ('the states: %r' % answer['states'], all(lines in answer['states'] for lines in PARTED_STATES)
+         and all(one != other for one, other in answer['states']) and 'page 1' not in str(answer['states'])),
+        ('a fault', 'fault' in play.ask('/beside', '', texts=[ANOMALY, 'zephyr 3']))) if not is_right]
 
 
 # Programs that are wrong, by what they do instead of a trace.
@@ -359,14 +355,13 @@ def ends(number):
         ('the port is open', is_open('127.0.0.1', play.port))) if is_so]
 
 
-def sent_parts():
+def sent_parts(play):
     """What is wrong with a run of which only what is new is sent, and with the pieces of its drawing."""
     long = bare(NOTED).replace('end\n', 'C begin 0\n' + 'A take\nB take\n' * 2000 + 'C start\nend\n')
     more = long.replace('end\n', 'B take\nend\n')
-    with Play() as play:
-        base = play.ask('/run', long)
-        answers = [play.request('POST', '/run', json.dumps({'text': more, 'base': name}))[2] for name in (base['name'], '', 'x')]
-        drawn = play.ask('/pieces', more, numbers=[0, 1, 2, 7000, -1])['pieces']
+    base = play.ask('/run', long)
+    answers = [play.request('POST', '/run', json.dumps({'text': more, 'base': name}))[2] for name in (base['name'], '', 'x')]
+    drawn = play.ask('/pieces', more, numbers=[0, 1, 2, 7000, -1])['pieces']
     whole, pieces = json.loads(answers[1]), pieces_of(more)
     return [words for words, is_right in (
         ('the answers have %s bytes' % list(map(len, answers)), len(answers[0]) < 12000 < 60000 < len(answers[1])),

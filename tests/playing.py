@@ -6,7 +6,6 @@ import os
 import re
 import signal
 import subprocess
-import time
 
 import browser
 from case import EXAMPLES, PROGRAM, TOP, content
@@ -109,6 +108,25 @@ def loops():
     return '\n'.join(['zephyr 1', 'cap 4', 'pages 2', 'rule held', 'row 1 1'] + programs + ['end', ''])
 
 
+# Whether something is so within some milliseconds; the page itself waits for it.
+WAITING = '''(async () => {
+  for (const end = Date.now() + %d; !(%s);) {
+    if (Date.now() > end) return false;
+    await new Promise(done => setTimeout(done, 5));
+  }
+  return true;
+})()'''
+
+
+# The middle of something that is brought into sight, two frames later, when all has heard of that.
+IN_SIGHT = '''(async it => {
+  it.scrollIntoView({block: 'nearest'});
+  await new Promise(done => requestAnimationFrame(() => requestAnimationFrame(done)));
+  const box = it.getBoundingClientRect();
+  return [box.left + box.width / 2, box.top + box.height / 2];
+})(document.querySelector(%s))'''
+
+
 class Page(browser.Browser):
     """A page of zplay."""
 
@@ -116,13 +134,15 @@ class Page(browser.Browser):
         super().__init__(address)
         self.wait()
 
+    def open(self, address):
+        """Opens another zplay, and waits for its run."""
+        self.go(address)
+        self.wait()
+
     def wait(self, code='D && !busy && known.has(textHere())', most=20):
         """Waits until something is so; by itself, until the run and the outcomes of the next choices are shown."""
-        end = time.monotonic() + most
-        while not self.value(code):
-            if time.monotonic() > end:
-                raise RuntimeError('it does not come: %s; %s' % (code, self.faults + [self.value('$("note").textContent')]))
-            time.sleep(0.01)
+        if not self.value(WAITING % (1000 * most, code)):
+            raise RuntimeError('it does not come: %s; %s' % (code, self.faults + [self.value('$("note").textContent')]))
 
     def text(self):
         return self.value('doc.text')
@@ -145,9 +165,9 @@ class Page(browser.Browser):
         self.wait()
 
     def rest(self, selector):
-        """Moves the pointer to the middle of something, and gives the tip that comes there."""
-        place = self.value('(b => [b.left + b.width / 2, b.top + b.height / 2])(document.querySelector(%s).getBoundingClientRect())' % json.dumps(selector))
+        """Moves the pointer to the middle of something, once it is in sight, and gives the tip that comes there."""
         self.call('Input.dispatchMouseEvent', type='mouseMoved', x=1, y=1)
+        place = self.value(IN_SIGHT % json.dumps(selector))
         self.call('Input.dispatchMouseEvent', type='mouseMoved', x=place[0], y=place[1])
         return self.tip()
 

@@ -157,6 +157,14 @@ function fit() {
   for (const box of ['top', 'rows', 'below']) $(box).style.width = D.width * zoom + 'px';
   $('rows').style.height = D.height * zoom + 'px';
 }
+// Makes the pieces of a run. One that is drawn, and drawn alike in the run before, stays.
+function takePieces(before) {
+  const old = pieces, height = k => Math.min(D.chunk, D.height - k * D.chunk);
+  const isAlike = k => before && before.width === D.width && old[k] && +old[k].dataset.height === height(k) && D.pieces[k] !== undefined && before.pieces[k] === D.pieces[k];
+  pieces = Array.from({length: Math.ceil(D.height / D.chunk)}, (_, k) => isAlike(k) ? old[k] : drawing('', D.width, height(k), k * D.chunk));
+  for (const gone of old.filter(piece => !pieces.includes(piece))) gone.remove();
+  $('rows').append(...pieces.filter(piece => !piece.isConnected));
+}
 function drawSight() {
   const top = $('view').scrollTop, height = $('view').clientHeight - $('top').offsetHeight, missing = [];
   pieces.forEach((piece, k) => {
@@ -187,6 +195,7 @@ function reveal() {
 // ---- moves
 // Takes another run, and shows it at a position.
 function load(run, n) {
+  const before = D;
   D = run;
   $('chips').replaceChildren(...D.chips.flatMap(words => [el('span', 'chip', words), ' ']));
   $('verdict').replaceChildren(...D.verdict.flatMap(([words, good]) => [el('span', 'chip ' + (good ? 'good' : 'wrong'), words), ' ']));
@@ -195,9 +204,8 @@ function load(run, n) {
   strip.style.setProperty('--thick', D.overview.thick);
   $('whole').replaceChildren(strip);
   document.querySelector('main').classList.toggle('whole', D.overview.rows <= 45);
-  pieces = Array.from({length: Math.ceil(D.height / D.chunk)}, (_, k) => drawing('', D.width, Math.min(D.chunk, D.height - k * D.chunk), k * D.chunk));
-  for (const old of document.querySelectorAll('#rows>svg')) old.remove();
-  $('rows').append(...pieces);
+  takePieces(before);
+  drawMet([]);
   $('top').replaceChildren(drawing(D.head, D.width, 44));
   $('below').replaceChildren(drawing(D.key, D.width, D.tall));
   $('slide').max = D.last;
@@ -229,17 +237,45 @@ function notable(way) {
   show(next === undefined ? (way > 0 ? D.last : 0) : next);
 }
 function find(way) {
-  const sought = $('find').value.trim();
-  if (!sought) return;
-  const having = test => D.lines.flatMap((line, n) => test(` ${line} `) ? [n] : []);
-  const exact = having(line => line.includes(` ${sought} `)), hits = exact.length ? exact : having(line => line.includes(sought));
+  const sought = $('find').value.trim(), [, goal] = sought.match(/^if\s+(.+)$/s) || [];
+  if (goal) findGoal(goal, way);
+  else if (sought) goTo(way, linesWith(sought));
+}
+// The positions of the lines that have some words, or else their letters.
+function linesWith(sought) {
+  const having = test => D.lines.flatMap((line, n) => test(` ${line} `) ? [n] : []), exact = having(line => line.includes(` ${sought} `));
+  return exact.length ? exact : having(line => line.includes(sought));
+}
+// Goes to the next or the last of some positions; behind the last one the first comes.
+function goTo(way, hits) {
   const next = way > 0 ? hits.find(n => n > now) ?? hits[0] : hits.filter(n => n < now).pop() ?? hits[hits.length - 1];
   if (next !== undefined) show(next);
   $('found').textContent = hits.length ? `${hits.indexOf(next) + 1} of ${hits.length}` : 'none';
 }
+// Goes to where a goal turns true: of this file those are known that were asked for when it was made.
+let findGoal = (goal, way) => {
+  const known = Object.keys(D.goals);
+  if (!known.includes(goal)) $('found').textContent = known.length ? `here: ${known.map(one => 'if ' + one).join(', ')}` : 'made without zview --find';
+  else goToGoal(D.goals[goal], way);
+};
+function goToGoal(stretches, way) {
+  drawMet(stretches);
+  goTo(way, stretches.map(([first]) => first));
+}
+// An edge beside the rows whose states meet a goal, by the first and the last of each stretch.
+function drawMet(stretches) {
+  for (const old of document.querySelectorAll('#met')) old.remove();
+  if (!stretches.length) return;
+  const lines = stretches.map(([first, last]) => `M7 ${D.rowOf[first] * D.row + 1}V${(D.rowOf[last] + 1) * D.row - 1}`);
+  const made = drawing(`<path class="met" d="${lines.join('')}"/>`, D.width, D.height);
+  made.id = 'met';
+  $('rows').append(made);
+  size(made, D.width, D.height);
+}
 const KEYS = {ArrowRight: () => show(now + 1), ArrowDown: () => show(now + 1), j: () => show(now + 1), ArrowLeft: () => show(now - 1),
   ArrowUp: () => show(now - 1), k: () => show(now - 1), PageDown: () => show(now + 20), PageUp: () => show(now - 20), Home: () => show(0),
   End: () => show(D.last), n: () => notable(1), p: () => notable(-1), '/': () => $('find').focus()};
+$('find').oninput = () => { $('found').textContent = ''; drawMet([]); };
 document.addEventListener('keydown', event => {
   if (event.target === $('find')) {
     if (event.key === 'Enter') find(event.shiftKey ? -1 : 1);

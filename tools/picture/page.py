@@ -16,11 +16,11 @@ from waiting import sentence
 CHUNK = 60  # as many rows are drawn at a time
 
 
-def html(picture):
-    """The file."""
+def html(picture, goals):
+    """The file; `goals` are the stretches of states that meet each goal."""
     return filled(part('page.html'), {
         'title': escape(picture.title), 'css': page_css(), 'script': part('page.js'),
-        'data': json.dumps(data_of(picture), separators=(',', ':')).replace('</', '<\\/')})
+        'data': json.dumps({**data_of(picture), 'goals': goals}, separators=(',', ':')).replace('</', '<\\/')})
 
 
 def filled(html_text, parts):

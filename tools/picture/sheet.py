@@ -1,11 +1,33 @@
 """Marks that are drawn in layers, and the part of them between two heights."""
 
 import math
+from collections import namedtuple
 from html import escape
 
 
 def num(value):
     return '%g' % round(value, 1)
+
+
+# How far what is long goes beyond the edges of a part: farther than a round corner.
+BEYOND = 44
+
+
+class Rect(namedtuple('Rect', 'look x y width height round title')):
+    """A box, which is drawn as far as a part goes: so a part stays as it is where a box goes on below it."""
+
+    def drawn(self, top, bottom):
+        y = max(self.y, top - BEYOND)
+        return '<rect class="%s" x="%s" y="%s" width="%s" height="%s"%s>%s</rect>' % (
+            self.look, num(self.x), num(y), num(self.width), num(max(0, min(self.y + self.height, bottom + BEYOND) - y)),
+            ' rx="%s"' % num(self.round) if self.round else '', '<title>%s</title>' % escape(self.title) if self.title else '')
+
+
+class Upright(namedtuple('Upright', 'look x y y2')):
+    """A line from above to below, which is drawn as far as a part goes."""
+
+    def drawn(self, top, bottom):
+        return '<path class="%s" d="M%s %sL%s %s"/>' % (self.look, num(self.x), num(max(self.y, top - BEYOND)), num(self.x), num(min(self.y2, bottom + BEYOND)))
 
 
 class Sheet:
@@ -18,19 +40,18 @@ class Sheet:
         """Whether something between two heights shows."""
         return min(one, other) <= self.bottom and max(one, other) >= self.top
 
-    def add(self, layer, top, bottom, text):
-        """Adds a mark to a layer; one that is there already is not added again."""
-        self.marks.setdefault(text, (layer, min(top, bottom), max(top, bottom)))
+    def add(self, layer, top, bottom, mark):
+        """Adds a mark, which is a text or says how it is drawn, to a layer; one that is there already is not added again."""
+        self.marks.setdefault(mark, (layer, min(top, bottom), max(top, bottom)))
 
     def rect(self, layer, look, x, y, width, height, round=0, title=''):
         if self.shows(y, y + height):
-            self.add(layer, y, y + height, '<rect class="%s" x="%s" y="%s" width="%s" height="%s"%s>%s</rect>' % (
-                look, num(x), num(y), num(width), num(height), ' rx="%s"' % num(round) if round else '',
-                '<title>%s</title>' % escape(title) if title else ''))
+            self.add(layer, y, y + height, Rect(look, x, y, width, height, round, title))
 
     def line(self, layer, look, x, y, x2, y2, more=''):
         if self.shows(y, y2):
-            self.add(layer, y, y2, '<path class="%s" d="M%s %sL%s %s"%s/>' % (look, num(x), num(y), num(x2), num(y2), more))
+            self.add(layer, y, y2, Upright(look, x, y, y2) if x == x2 and not more else '<path class="%s" d="M%s %sL%s %s"%s/>' % (
+                look, num(x), num(y), num(x2), num(y2), more))
 
     def dot(self, look, x, y, r):
         if self.shows(y - r, y + r):
@@ -46,5 +67,5 @@ class Sheet:
 
     def part(self, top, bottom):
         """The marks that show between two heights, the lowest layer first."""
-        shown = [(layer, text) for text, (layer, low, high) in self.marks.items() if low <= bottom and high >= top]
-        return ''.join(text for _, text in sorted(shown, key=lambda mark: mark[0]))
+        shown = [(layer, mark) for mark, (layer, low, high) in self.marks.items() if low <= bottom and high >= top]
+        return ''.join(mark if isinstance(mark, str) else mark.drawn(top, bottom) for _, mark in sorted(shown, key=lambda pair: pair[0]))

@@ -35,6 +35,7 @@ function removeBranch(id) {
   remember();
   branches = branches.filter(branch => branch.id !== id);
   note(`branch ${id} is taken away; undo brings it back`);
+  storeSoon();
   if (id !== current) return drawTree();
   current = (branchOf(previous) || branches[0]).id;
   return setText(branchOf(current).text, placeIn(branchOf(current)));

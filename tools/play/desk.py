@@ -13,6 +13,7 @@ from picture.looks import look_of
 from picture.page import CHUNK
 from picture.svg import svg
 from play.keeping import changes, kept, known
+from play.would import would
 from prompt.session import LIMIT, Session, choices_of
 from waiting import page_of, said, wait_at
 
@@ -79,7 +80,7 @@ def outcomes_of(asked):
     steps = [runs.step_of(line) for line, _ in after]
     meaning, waits = outcomes.meanings({step.outcome for step in steps}), waits_of(asked['text'], steps)
     return [{'outcome': step.line.split(' -> ')[1], 'look': look_of(step), 'acts': state != before, 'waits': wait,
-             'says': '\n'.join([meaning[step.outcome]] + [line for line in state if line not in before])}
+             'says': '\n'.join([would(meaning[step.outcome])] + [line for line in state if line not in before])}
             for step, (_, state), wait in zip(steps, after, waits)]
 
 

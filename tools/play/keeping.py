@@ -9,8 +9,8 @@ from picture.drawing import Picture
 from picture.page import pieces, run_of
 from picture.rows import LONG, Rows
 
-# As many runs are kept.
-MOST = 8
+# At least as many runs are kept; and more, as long as all together have no more steps: those of short ones, which undo and branches come back to.
+LEAST, MOST_STEPS = 8, 1 << 14
 
 # What of a run is a list of timelines, or timelines by name; of each the part that is new is sent.
 TIMELINES = ('modes', 'pages', 'txns')
@@ -44,7 +44,7 @@ def kept(text, title):
     found = found or Kept(text, title)
     with LOCK:
         KEPT[name] = found
-        while len(KEPT) > MOST:
+        while len(KEPT) > LEAST and sum(1 + run.shown['last'] for run in KEPT.values()) > MOST_STEPS:
             KEPT.popitem(last=False)
     return name, found
 

@@ -13,7 +13,21 @@ function checksum(letters) {
   for (const letter of letters) sum = Math.imul(sum ^ letter.charCodeAt(0), 0x01000193);
   return (sum >>> 0).toString(36).padStart(7, '0');
 }
+// The branches, for when the page is loaded again; where they are too long for the browser only the address is kept.
+function keepBranches() {
+  try {
+    sessionStorage.setItem('branches', JSON.stringify({branches, current, previous, own: [...own]}));
+  } catch (error) {
+    sessionStorage.removeItem('branches');
+  }
+}
+// What was kept of the branches with the one that has a text shown; null where there is nothing of it.
+function keptBranches(text) {
+  const kept = JSON.parse(sessionStorage.getItem('branches')), shown = kept && kept.branches.find(branch => branch.id === kept.current);
+  return shown && shown.text === text ? kept : null;
+}
 async function store() {
+  keepBranches();
   const run = `${now}.${await packed(doc.text)}`;
   history.replaceState({name}, '', `#${run}.${checksum(run)}`);
 }
@@ -32,7 +46,11 @@ async function arrive(hash) {
   if (!run) return showDamaged();
   if (D && run.text === doc.text) return show(run.at);
   if (D) putAside();
-  return take(run.text, nameFor(run.text), run.at);
+  const kept = D ? null : keptBranches(run.text);
+  if (kept) own = new Map([...own, ...kept.own]);
+  const shown = take(run.text, nameFor(run.text), run.at);
+  if (kept) ({branches, current, previous} = kept);
+  return shown;
 }
 // Says that a link is damaged. A run that is shown stays with its own address; no other one takes the place of the link's.
 function showDamaged() {

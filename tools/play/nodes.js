@@ -7,9 +7,9 @@ function few(items) {
 }
 function nodePart(node, {lows, asked}) {
   const byKey = lows.map((low, p) => [low, p]).sort(([a], [b]) => a - b);
-  const wires = byKey.map(([low, p]) => el('span', 'wire', `${low}`, el('small', '', ` page ${p}`)));
+  const wires = byKey.map(([low, p]) => explain(el('span', 'wire', `${low}`, el('small', '', ` page ${p}`)), `page ${p} has the keys from ${low} on`));
   const requests = asked.map(p => `page ${p}`);
-  return [el('dt', node, 'node ' + node), el('dd', '', el('small', '', 'low keys '), ...(wires.length ? few(wires) : ['no wireframe'])),
+  return [el('dt', node, 'node ' + node), el('dd', '', explain(el('small', '', 'low keys '), given.words['low keys']), ...(wires.length ? few(wires) : ['no wireframe'])),
     el('dd', '', el('small', '', 'has asked for '), ...(requests.length ? few(requests) : ['no page']))];
 }
 function drawNodes() {

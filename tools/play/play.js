@@ -52,9 +52,10 @@ const named = choice => choice.replace(/\d+$/, t => nameOf(t) || t);
 function painted(line) {
   const [, code, comment] = line.match(/^([^;]*)(.*)$/s), [, space, head, rest] = code.match(/^(\s*)(\S*)(.*)$/s);
   const look = ACTORS.includes(head) ? head : head === 'txn' || head === 'end' ? 'txn' : '';
-  return el('div', '', space, el('i', 'w' + look, head), rest, el('i', 'remark', comment));
+  return el('div', 'line', space, el('i', 'w' + look, head), rest, el('i', 'remark', comment));
 }
-// Paints the lines anew that are other ones.
+// Paints the lines anew that are other ones. They are in blocks; a browser spares itself those that are out of sight.
+const BLOCK = 100, LINE = 18;           // as many lines, and the height of each in pixels
 let lines = [];
 function paint() {
   const old = lines;
@@ -63,24 +64,51 @@ function paint() {
   let top = 0, end = 0;
   while (top < most && old[top] === lines[top]) top++;
   while (end < most - top && old[old.length - 1 - end] === lines[lines.length - 1 - end]) end++;
-  const box = $('paint');
-  for (const line of [...box.children].slice(top, old.length - end)) line.remove();
-  const below = box.children[top] || null, made = document.createDocumentFragment();
-  made.append(...lines.slice(top, lines.length - end).map(painted));
-  box.insertBefore(made, below);
+  const boxes = [...$('paint').querySelectorAll('.line')], made = lines.slice(top, lines.length - end).map(painted);
+  const above = boxes[top - 1], below = boxes[old.length - end], beside = above || below;
+  for (const line of boxes.slice(top, old.length - end)) line.remove();
+  if (!beside || beside.parentElement.childElementCount + made.length > 2 * BLOCK) fill([...boxes.slice(0, top), ...made, ...boxes.slice(old.length - end)]);
+  else if (above) above.after(...made);
+  else below.before(...made);
+  measure();
+}
+// Puts all lines into blocks, which have a list of lines each: the count of lines that a list begins with does not come into a block from outside.
+function fill(boxes) {
+  const count = Math.ceil(boxes.length / BLOCK), list = k => el('div', 'list', ...boxes.slice(k * BLOCK, (k + 1) * BLOCK));
+  $('paint').replaceChildren(...Array.from({length: count}, (_, k) => el('div', 'block', list(k))));
+}
+// How wide a line is at most, in letters: a tab is up to four, and letters of some scripts are two.
+const widthOf = line => line.length + 3 * (line.split('\t').length - 1) + (line.match(/[\u1100-\uffff]/g) || []).length;
+// Tells each block its height, which is known without it being drawn, and each list the number of its first line; and how large all lines are.
+function measure() {
+  let count = 0;
+  for (const list of $('paint').querySelectorAll('.list')) {
+    list.style.counterReset = `line ${count}`;
+    list.parentElement.style.containIntrinsicHeight = LINE * list.childElementCount + 'px';
+    count += list.childElementCount;
+  }
+  $('paint').style.width = $('text').style.width = `${lines.reduce((most, line) => Math.max(most, widthOf(line)), 0) + 8}ch`;
+  $('text').style.height = `${LINE * count + 38}px`;  // with what is above and below the lines, so that each of them can be clicked
+}
+// The box of a painted line; none for -1.
+function boxOf(line) {
+  for (const list of $('paint').querySelectorAll('.list')) {
+    if (line < list.childElementCount) return list.children[line];
+    line -= list.childElementCount;
+  }
+  return undefined;
 }
 // Gives a look to one line, which no other line has then.
 function mark(look, line) {
   for (const old of $('paint').querySelectorAll('.' + look)) old.classList.remove(look);
-  const marked = $('paint').children[line];
+  const marked = boxOf(line);
   if (marked) marked.classList.add(look);
   return marked;
 }
 // Marks the line of the shown step, and brings it into sight unless the text is being typed in.
 function markStep() {
-  const line = mark('here', lineOf(now)), box = $('edit');
-  if (!line || document.activeElement === $('text')) return;
-  const y = line.offsetTop;
+  const line = lineOf(now), box = $('edit'), y = LINE * line;
+  if (!mark('here', line) || document.activeElement === $('text')) return;
   if (y < box.scrollTop || y > box.scrollTop + box.clientHeight - 40) box.scrollTop = y - box.clientHeight / 2;
 }
 
@@ -90,12 +118,18 @@ function forget() {
   $('found').textContent = '';
   drawAnswer();
 }
+// Puts the text where it is typed in. Nobody sees it there, but what is painted; so a long one is put there once the picture is drawn.
+function fillText() {
+  if ($('text').value !== doc.text) $('text').value = doc.text;
+}
+const fillTextSoon = debounced(fillText, 150);
 // Takes another text, and shows its run at a position; Infinity is its end.
 async function setText(text, at) {
   doc = {text, at};
   if (branchOf(current).text !== text) put({text, same: undefined, answer: null});
   forget();
-  if ($('text').value !== text) $('text').value = text;
+  if (document.activeElement === $('text')) fillText();
+  else fillTextSoon();
   paint();
   $('beside').hidden = true;
   const mine = ++question;
@@ -125,7 +159,7 @@ function showFault(fault) {
 onShow = () => {
   if (!busy) doc.at = now;
   hideTip();
-  $('now').querySelectorAll('.col>b i').forEach(explained);
+  $('now').querySelectorAll('.col>b i, .queue span').forEach(explained);
   markStep();
   drawFound();
   drawVerdict();
@@ -169,8 +203,12 @@ function cut() {
   note(`${D.last - now} ${D.last - now === 1 ? 'choice is' : 'choices are'} taken away; undo brings them back`);
   return setText(textHere(), now);
 }
-// The text up to the shown step.
-const textHere = () => edited(doc.text, doc.at, []);
+// The text up to the shown step. It is kept, since all that is asked of the server is asked behind it.
+let here = {};
+function textHere() {
+  if (here.of !== doc.text || here.at !== doc.at) here = {of: doc.text, at: doc.at, text: edited(doc.text, doc.at, [])};
+  return here.text;
+}
 
 function undo(from, to) {
   if (!from.length) return note('nothing was done');
@@ -238,18 +276,21 @@ const judgeSoon = debounced(guarded(async () => {
 const known = new Map();                // what would come of choices, by the text that they are made behind
 let lookup = new AbortController();
 
-// The choices that are offered, by actor.
+// The choices that are offered, by actor: of a node first those that it always has, then the runs in the order in which their transactions began. So a
+// button stays where it is when a transaction begins.
 function candidates() {
-  const lanes = {C: ['C start'], A: [], B: []}, kills = [];
+  const lanes = {C: ['C start'], A: [], B: []}, runs = [];
+  for (const node of 'AB') lanes[node].push(`${node} take`, `${node} finish`, `${node} push`);
   D.txns.forEach((line, t) => {
     const [, , status, node] = at(line, now)[1].split(' ');
     if (status === 'new') lanes.C.push('C begin ' + t);
-    if (status === 'active') { lanes[node].push(`${node} run ${t}`); kills.push('C kill ' + t); }
+    if (status === 'active') { runs.push([begun(line), node, t]); lanes.C.push('C kill ' + t); }
   });
-  for (const node of 'AB') lanes[node].push(`${node} take`, `${node} finish`, `${node} push`);
-  lanes.C.push(...kills);
+  for (const [, node, t] of runs.sort(([a], [b]) => a - b)) lanes[node].push(`${node} run ${t}`);
   return lanes;
 }
+// The step at which a transaction began.
+const begun = line => line.find(([, words]) => words.split(' ')[2] === 'active')[0];
 // What a choice is about: the instruction that is next, or the message that is in front.
 function about(choice) {
   const [actor, action, t] = choice.split(' ');
@@ -285,13 +326,27 @@ function untilButton(choice) {
   return button;
 }
 function laneOf(actor, choices, outcomeOf) {
-  const head = el('h3', actor, actor === 'C' ? 'client' : 'node ' + actor);
+  const head = el('h3', actor, actor === 'C' ? 'client' : 'node ' + actor), buttonOf = choice => choiceButton(choice, outcomeOf(choice));
   if (actor !== 'C') head.append(explained(modeChip(actor, now)));
-  const lane = el('div', 'lane', head, ...choices.map(choice => choiceButton(choice, outcomeOf(choice))));
+  const lane = el('div', 'lane', head, ...(actor === 'C' ? clientRows(choices, buttonOf) : choices.map(buttonOf)));
   lane.setAttribute('role', 'group');
   lane.ariaLabel = actor === 'C' ? 'choices of the client' : `choices of node ${actor}`;
-  lane.querySelector('.choice').tabIndex = 0;
+  firstOf(lane).tabIndex = 0;
   return lane;
+}
+// The choice of a lane to which the keyboard comes.
+const firstOf = lane => lane.querySelector('.choice.run') || lane.querySelector('.choice');
+// The client's rows: a start, and one for each transaction, which begins there and is killed there. Of many transactions those that have ended have none.
+const MOST_ROWS = 12;
+function clientRows([start, ...choices], buttonOf) {
+  const ofTxn = new Map(choices.map(choice => [+choice.split(' ')[2], choice]));
+  const rows = D.txns.map((_, t) => clientRow(t, ofTxn.get(t), buttonOf)).filter(row => row.querySelector('button') || row.matches('button') || D.txns.length <= MOST_ROWS);
+  return [buttonOf(start), ...rows];
+}
+function clientRow(t, choice, buttonOf) {
+  if (choice && / begin /.test(choice)) return buttonOf(choice);
+  const state = el('small', 'row', `${nameOf(t) || D.names[t]} ${txn(now, t).why.join(' ')}`);
+  return el('div', 'pair', state, ...(choice ? [buttonOf(choice)] : []));
 }
 function drawLanes(lanes, outcomes) {
   const focus = document.activeElement.closest('#lanes') && document.activeElement.dataset.choice;
@@ -299,6 +354,7 @@ function drawLanes(lanes, outcomes) {
   if (outcomes) drawWaits(all, outcomes);
   if (outcomes) $('migrate').disabled = isSettled() && !outcomeOf('C start').acts;
   if (offered !== all.join()) [offered, changedAt] = [all.join(), performance.now()];
+  $('lanes').style.setProperty('--rows', 3 + D.txns.length);  // as many as a node may have, so that they take the same room all the time
   $('lanes').replaceChildren(...ACTORS.map(actor => laneOf(actor, lanes[actor], outcomeOf)));
   if (focus) focusAfter(focus);
 }
@@ -360,7 +416,7 @@ $('next').addEventListener('click', event => {
 $('lanes').onmousedown = event => event.preventDefault();
 $('lanes').onkeydown = event => {
   const lane = event.target.closest('.lane'), mine = [...lane.querySelectorAll('.choice')], lanes = [...$('lanes').children];
-  const beside = way => (lanes[lanes.indexOf(lane) + way] || lane).querySelector('.choice'), below = way => mine[mine.indexOf(event.target) + way];
+  const beside = way => firstOf(lanes[lanes.indexOf(lane) + way] || lane), below = way => mine[mine.indexOf(event.target) + way];
   const to = {ArrowDown: () => below(1), ArrowUp: () => below(-1), ArrowRight: () => beside(1), ArrowLeft: () => beside(-1)}[event.key];
   const runs = event.key === 'Enter' && event.shiftKey && / run /.test(event.target.dataset.choice);
   if (to || runs) event.preventDefault();
@@ -399,6 +455,7 @@ $('text').oninput = () => {
   paint();
   setTypedSoon();
 };
+$('text').onfocus = fillText;
 $('text').onkeydown = event => {
   if (event.key === 'Escape') $('view').focus();
   if (event.key.toLowerCase() !== 'z' || !(event.ctrlKey || event.metaKey)) return;
@@ -411,7 +468,7 @@ $('cut').onclick = guarded(cut);
 $('migrate').onclick = migrate;
 for (const button of document.querySelectorAll('[data-as]')) button.onclick = () => save(button.dataset.as);
 const toTree = () => branches.length > 1 ? $('branches').querySelector('[aria-current]').focus() : note('there is one branch');
-const toLane = actor => () => $('lanes').children[ACTORS.indexOf(actor)].querySelector('.choice').focus();
+const toLane = actor => () => firstOf($('lanes').children[ACTORS.indexOf(actor)]).focus();
 Object.assign(KEYS, {u: $('undo').onclick, r: $('redo').onclick, x: guarded(cut), m: migrate, s: () => $('goal').focus(), e: () => $('text').focus(),
   c: toLane('C'), a: toLane('A'), b: toLane('B'), t: toTree, d: () => layBeside(),
   '[': () => guarded(neighbour)(-1), ']': () => guarded(neighbour)(1), Escape: () => { closeBeside(); $('view').focus(); }});

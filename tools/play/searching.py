@@ -8,6 +8,7 @@ import select
 from contextlib import ExitStack, contextmanager
 
 import bench
+from picture.goals import met
 from play.desk import STOPPED
 
 # Goals that the page offers, and what each of them means; any other can be written.
@@ -37,10 +38,41 @@ UNDER_WAY = set()  # the processes of searches
 
 def words_of(asked):
     """The words of the command; an error where a question is none."""
-    way, goal, states = asked['way'], asked['goal'], asked['states']
-    if way not in ('for', 'always') or not isinstance(goal, str) or len(goal) > LONGEST or not 1 <= int(states) <= MOST:
+    way, goal, states = asked['way'], goal_of(asked), asked['states']
+    if way not in ('for', 'always') or not 1 <= int(states) <= MOST:
         raise ValueError
     return ['search', '--%s=%s' % (way, goal), '--states', '%d' % states, '--canon'] + (['--kill'] if asked['kill'] else [])
+
+
+def goal_of(asked):
+    """The goal of a question; an error where it is none."""
+    if not isinstance(asked['goal'], str) or len(asked['goal']) > LONGEST:
+        raise ValueError
+    return asked['goal']
+
+
+def found(asked):
+    """The stretches of states of a run that meet a goal, and what is to be said of the goal; or what is wrong with it, and where."""
+    goal = goal_of(asked)
+    try:
+        stretches, said = met(goal, asked['text'].encode(**bench.BYTES), quiet=True)
+    except bench.Refused as refused:
+        fault = fault_in(refused.status, refused.words)
+        if not fault:
+            raise
+        return fault
+    return {'stretches': stretches, 'words': words_in(said.split('\n'))}
+
+
+def fault_in(status, said):
+    """What is wrong with a goal, and where; None where that is not what is said."""
+    fault = FAULT.search(said)
+    return {'goal': {'column': int(fault.group(2)), 'length': len(fault.group(3))}, 'words': fault.group(1)} if status == 2 and fault else None
+
+
+def words_in(lines):
+    """What the program says of a goal or of a search, but for how far a search is."""
+    return '; '.join(line.partition('zy_bench: ')[2] for line in lines if line.startswith('zy_bench: '))
 
 
 def searched(asked):
@@ -54,7 +86,7 @@ def searched(asked):
         status = process.wait()
         os.lseek(found, 0, os.SEEK_SET)
         with open(found, encoding='utf-8', closefd=False) as file:
-            yield answer(asked['way'], position, status, lines_of(said), file.read())
+            yield answer(asked, position, status, lines_of(said), file.read())
 
 
 @contextmanager
@@ -108,15 +140,16 @@ def lines_of(said):
     return [line for line in re.split(r'[\r\n]+|\x1b\[K', said) if line]
 
 
-def answer(way, position, status, lines, text):
+def answer(asked, position, status, lines, text):
     """The answer of a search in words, and the choices that it found behind a position; or what is wrong with its goal, and where."""
-    words = '; '.join(line.partition('zy_bench: ')[2] for line in lines if line.startswith('zy_bench: '))
-    fault = FAULT.search(words)
-    if status == 2 and fault:
-        return {'goal': {'column': int(fault.group(2)), 'length': len(fault.group(3))}, 'words': fault.group(1)}
+    way, said = asked['way'], '\n'.join(lines)
+    fault = fault_in(status, said)
+    if fault:
+        return fault
     if (way, status) not in BEGINNINGS:
-        return {'found': None, 'words': words if status > 0 and words else 'Not known: the search ' + STOPPED}
-    return {'found': None if status else choices_in(text)[position:], 'words': BEGINNINGS[way, status] + words.removeprefix('it does not always hold: ')}
+        return {'found': None, 'words': words_in(lines) if status > 0 and 'zy_bench: ' in said else 'Not known: the search ' + STOPPED}
+    words = words_in(lines).replace('it does not always hold: ', '')
+    return {'found': None if status else choices_in(text)[position:], 'words': BEGINNINGS[way, status] + words}
 
 
 def choices_in(text):

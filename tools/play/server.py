@@ -32,7 +32,7 @@ LONGEST = 5 << 20
 ROOM = threading.BoundedSemaphore(8)
 
 ANSWERS = {'/run': desk.whole_run, '/pieces': desk.drawn, '/outcomes': desk.outcomes_of, '/nodes': desk.nodes_of, '/until': desk.until, '/migrate': desk.migrated, '/save': desk.saved,
-           '/verdict': verdict.verdict_of, '/beside': beside.beside}
+           '/verdict': verdict.verdict_of, '/beside': beside.beside, '/find': searching.found}
 
 # The page takes nothing from elsewhere, sends nothing there, and stands in no other page.
 HEADERS = {

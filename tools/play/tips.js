@@ -22,10 +22,19 @@ function explained(box) {
   box.ariaLabel = box.textContent;
   return explain(box, meaning);
 }
-// What has a tip: what was given one, and in the picture the modes.
+// What has a tip without having been given one, and what that says, by where it stands: modes and messages of the picture, and numbers.
+const KINDS = {
+  '#view .mode, #view .word': box => meaningOf(box.textContent),
+  '#view .band': box => meaningOf(box.classList[1]),
+  '#now .card small': box => `the low key of this page: it has the keys from ${box.textContent.replace('≥ ', '')} on`,
+  '#now .card code': box => `the row at key ${box.textContent.replace('=', ' has the value ')}`,
+  '#now .lockt': () => 'a lock of this transaction on the page: shared with others that read, or exclusive',
+  '#now .regs span': box => `register ${box.textContent.replace('=', ' of this transaction has the value ')}`,
+  '#now .tag.committed': box => `committed, as number ${box.textContent.split(' ').pop()} of all commits`};
 function tipOf(target) {
-  const box = target instanceof Element && target.closest('[data-says], #view .mode, #view .band');
-  return box && {box, words: box.dataset.says || meaningOf(box.matches('.mode') ? box.textContent : box.classList[1])};
+  if (!(target instanceof Element)) return null;
+  const box = target.closest('[data-says]') || target.closest(Object.keys(KINDS).join());
+  return box && {box, words: box.dataset.says || Object.entries(KINDS).find(([where]) => box.matches(where))[1](box)};
 }
 function showTip({box, words}) {
   const tip = $('tip'), {left, top, bottom} = box.getBoundingClientRect();
@@ -45,4 +54,8 @@ function come({type, target}) {
 }
 for (const kind of ['mouseover', 'focusin']) document.addEventListener(kind, come);
 for (const kind of ['mousedown', 'keydown', 'focusout', 'scroll']) document.addEventListener(kind, hideTip, true);
+for (const box of document.querySelectorAll('#search label')) {
+  explain(box, meaningOf(box.textContent.trim()));
+  box.querySelector('input').setAttribute('aria-description', box.dataset.says);
+}
 $('legend').append(...Object.entries(given.words).flatMap(([word, meaning]) => [el('dt', '', word), el('dd', '', meaning)]));
