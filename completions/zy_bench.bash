@@ -30,7 +30,7 @@ _zview() {
   if [[ $before == --fold ]]; then
     mapfile -t COMPREPLY < <(compgen -W 'yes no' -- "$word")
   elif [[ $word == -* ]]; then
-    mapfile -t COMPREPLY < <(compgen -W '--svg --mermaid --text --image --steps --title --fold --help' -- "$word")
+    mapfile -t COMPREPLY < <(compgen -W '--svg --mermaid --text --image --steps --title --fold --find --help' -- "$word")
   else
     mapfile -t COMPREPLY < <(compgen -f -- "$word")
   fi
@@ -40,4 +40,4 @@ complete -F _zy_bench -o filenames -o default zy_bench
 complete -F _zview -o filenames zview
 complete -f -W '--help' zdb
 complete -f -W '--port --no-open --help' zplay
-complete -f -W '--states --help' zsuite
+complete -f -W '--all --for --always --image --from --kill --without --states --help' zsuite

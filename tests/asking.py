@@ -19,8 +19,8 @@ REPORTS = {
 PLURALS = {'start': 'starts', 'begin': 'begins', 'kill': 'kills', 'run': 'runs', 'take': 'takes', 'finish': 'finishes', 'push': 'pushes'}
 STATUS = {'found': 0, 'none': 4, 'spent': 6}
 
-# What precedes the report where a goal names a transaction that the scenario does not have.
-WARNING = r'^zy_bench: the goal names transaction %s, and the scenario has only those below %s\n'
+# What precedes the report where a goal names a transaction, and where it names a page, that the scenario does not have.
+WARNING = 'zy_bench: the goal names %s %d, and the scenario has only those below %d\n'
 
 # How the line begins that names the order of a run whose rows are not those of the commit order (tests/orders has which order it is).
 EXPLAINED = 'zy_bench: the rows are those of '

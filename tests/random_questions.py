@@ -90,7 +90,7 @@ class Goals:
     """Random goals over the states of a scenario."""
 
     def __init__(self, chance, states):
-        self.chance, self.views = chance, chance.sample(states.views, min(LOOKED_AT, len(states.views)))
+        self.chance, self.views = chance, chance.sample(states.whole.views, min(LOOKED_AT, len(states.whole.views)))
         self.meaning = Meaning(states.scenario.names)
         numbers = [str(t) for t in range(len(states.scenario.programs))]
         names = [name for name in states.scenario.names if name != 'any']
@@ -151,7 +151,7 @@ def spaced(words, chance):
     for before, word in zip(words, words[1:]):
         kinds = {kind_of_sign(before[-1]), kind_of_sign(word[0])}
         may_be_close = kinds != {''} and kinds != {'sign'}
-        text += ('' if may_be_close and chance.random() < 0.5 else chance.choice([' ', ' ', ' ', '  '])) + word
+        text += ('' if may_be_close and chance.random() < 0.5 else chance.choice([' ', ' ', ' ', '  ', '\t', '\r\n'])) + word
     return text
 
 
