@@ -279,6 +279,18 @@ SCRIPT_FAULTS = [
     script('zsh: --for without deadlock', 'completions/_zy_bench', 'committed stuck deadlock', 'committed stuck', 'manuals'),
     script('build: a crate does not wait for those below', 'tools/build.py', 'if self.needs[name] <= self.done]', 'if True]', 'build'),
     script('build: a proof that fails is passed over', 'tools/build.py', 'if not is_proved:', 'if False:', 'build'),
+    # what must be believed, and the program that rt ci leaves
+    script('believe.py: a case is no part of its type', 'tools/believe.py', 'name = found.cases.get(name, name)', 'pass', 'believed'),
+    script('believe.py: what a file passes on is not found', 'tools/believe.py',
+           'return self.find(found.imports.passed[name]) if name in found.imports.passed else None', 'return None', 'believed'),
+    script('believe.py: what a comment names counts', 'tools/believe.py', 'words = set(TOKEN.findall(without_comments(text)))',
+           'words = set(TOKEN.findall(text))', 'believed'),
+    script('believe.py: contracts of private functions count', 'tools/believe.py', "r'^( *)pub fn .*?^\\1\\{'", "r'^( *)(?:pub )?fn .*?^\\1\\{'", 'believed'),
+    script('believe.py: what an earlier part has is listed again', 'tools/believe.py', 'seen |= reached', 'seen |= set()', 'believed'),
+    script('believe.py: --check passes any page', 'tools/believe.py', 'if content(PAGE) == text:', 'if content(PAGE):', 'believed'),
+    script('--take takes a program for that of any sources', 'zy_bench', '!= "$2" ]]', '!= "" && -z $2 ]]', 'build'),
+    script('--take takes a program that is not there', 'zy_bench', 'if [[ -x $(program_of "$1") ]] && note_sources', 'if note_sources', 'build'),
+    script('--sum is over zy_first as well', 'zy_bench', 'sum_of zy_bench\n', 'sum_of zy_first\n', 'build'),
 ]
 
 COMMAND_LINE, WORDS = 'zy_bench/src/command_line.rt', 'zy_goals/src/reading/words.rt'
