@@ -1,0 +1,105 @@
+-- What a step leaves as it was: a case for each line of the table that changes something.
+use Rattle.std.proofs.Common.{◌≡◌, ◌∙◌, ℕ, List, [], ◌∷◌, ◌++◌, length, refl, sym, ap, subst, inl, inr}
+use Rattle.std.specs.Prelude.{slice_set}
+use Rattle.std.proofs.lemmas.List.{length-set}
+use Rattle.zy_isa.specs.declared.node.Node.{Node}
+use Rattle.zy_isa.specs.declared.node.Node.TheVariants.{A, B}
+use Rattle.zy_isa.specs.declared.choice.Choice.{Choice}
+use Rattle.zy_isa.specs.Scenario.{Scenario}
+use Rattle.zy_table.specs.State.{State, View, Move, Message, Txn, facing, seen_from}
+use Rattle.zy_table.specs.Change.{begun, aborted, did, locked, shares, cut, committed, asks, leaves}
+use Rattle.zy_table.specs.Play.{move, side_of, step}
+use Rattle.zy_laws.proofs.walk.Txns.{at_other, at_same}
+use Rattle.zy_laws.proofs.walk.Events.{Event, step_happens, Rests, Begins, Aborts, GoesOn, Gets, SumsUp, Writes, Inserts, Splits, Commits, Asks}
+use Rattle.zy_laws.proofs.walk.Events.{Starts, GotWire, GotReady, GotDual, IsStale, Gives, GotPage, GotLast, GotFinish, GotAll, GotDone, Finishes, Pushes}
+use Rattle.zy_frames.specs.Frames.{OneMore, OneLess, AllBut, LeavesTheRest}
+
+-- a step from v to w that sets at most transaction t, to x
+module _ (v w : View) (them : w.them ≡ v.them) where
+  -- it sets one, and no message moves
+  sets : (t : ℕ) (x : Txn) → w.txns ≡ slice_set v.txns t x → w.inbox ≡ v.inbox → w.outbox ≡ v.outbox → OneMore v.commits w.commits
+      → LeavesTheRest v w
+  sets t x e i o c = record {
+    them = them;
+    inbox = inl i;
+    outbox = inl o;
+    commits = c;
+    txn = t;
+    txns = record { many = ap length e ∙ length-set v.txns t x; others = λ u far. at_other v w t u x e far };
+  }
+
+  -- it sets none, and there is no commit
+  keeps : w.txns ≡ v.txns → w.commits ≡ v.commits → OneLess v.inbox w.inbox → OneMore v.outbox w.outbox → LeavesTheRest v w
+  keeps e c i o = record {
+    them = them;
+    inbox = i;
+    outbox = o;
+    commits = inl c;
+    txn = 0;
+    txns = record { many = ap length e; others = λ u _. at_same v w u e };
+  }
+
+-- the first message is taken
+took : (m : Message) (ms now old : List Message) → old ≡ m ∷ ms → now ≡ ms → OneLess old now
+took m ms now old f e = inr (m, f ∙ ap (λ x. m ∷ x) (sym e))
+
+-- a message is sent
+sent : (m : Message) (now old : List Message) → now ≡ old ++ m ∷ [] → OneMore old now
+sent m now old e = inr (m, e)
+
+-- what an event leaves
+event_leaves : (sc : Scenario) (n : Node) (v w : View) → Event sc n v w → LeavesTheRest v w
+unfolding begun did aborted locked shares cut committed asks leaves
+event_leaves sc n v w (Rests e) = subst (λ x. LeavesTheRest v x) (sym e) (keeps v v refl refl refl (inl refl) (inl refl))
+event_leaves sc n v w (Begins t h a new home e) = subst (λ x. LeavesTheRest v x) (sym e) (sets v _ refl t _ refl refl refl (inl refl))
+event_leaves sc n v w (Aborts t y on at e) = subst (λ x. LeavesTheRest v x) (sym e) (sets v _ refl t _ refl refl refl (inl refl))
+event_leaves sc n v w (GoesOn t x pc regs runs leads e) = subst (λ x. LeavesTheRest v x) (sym e) (sets v _ refl t _ refl refl refl (inl refl))
+event_leaves sc n v w (Gets t r k runs free e) = subst (λ x. LeavesTheRest v x) (sym e) (sets v _ refl t _ refl refl refl (inl refl))
+event_leaves sc n v w (SumsUp t r a b runs free e) = subst (λ x. LeavesTheRest v x) (sym e) (sets v _ refl t _ refl refl refl (inl refl))
+event_leaves sc n v w (Writes t k y runs free there e) = subst (λ x. LeavesTheRest v x) (sym e) (sets v _ refl t _ refl refl refl (inl refl))
+event_leaves sc n v w (Inserts t k y runs free new room e) = subst (λ x. LeavesTheRest v x) (sym e) (sets v _ refl t _ refl refl refl (inl refl))
+event_leaves sc n v w (Splits t k y runs free new full may more e) =
+    subst (λ x. LeavesTheRest v x) (sym e) (keeps v _ refl refl refl (inl refl) (inl refl))
+event_leaves sc n v w (Commits t runs here e) = subst (λ x. LeavesTheRest v x) (sym e) (sets v _ refl t _ refl refl refl (inr (_, refl)))
+event_leaves sc n v w (Asks p gone may new e) =
+    subst (λ x. LeavesTheRest v x) (sym e) (keeps v _ refl refl refl (inl refl) (sent _ _ v.outbox refl))
+event_leaves sc n v w (Starts a normal empty e) =
+    subst (λ x. LeavesTheRest v x) (sym e) (keeps v _ refl refl refl (inl refl) (sent _ _ v.outbox refl))
+event_leaves sc n v w (GotWire lows ms f mode e) =
+    subst (λ x. LeavesTheRest v x) (sym e) (keeps v _ refl refl refl (took _ ms _ v.inbox f refl) (sent _ _ v.outbox refl))
+event_leaves sc n v w (GotReady ms f mode e) =
+    subst (λ x. LeavesTheRest v x) (sym e) (keeps v _ refl refl refl (took _ ms _ v.inbox f refl) (sent _ _ v.outbox refl))
+event_leaves sc n v w (GotDual ms f mode e) =
+    subst (λ x. LeavesTheRest v x) (sym e) (keeps v _ refl refl refl (took _ ms _ v.inbox f refl) (inl refl))
+event_leaves sc n v w (IsStale p ms f e) =
+    subst (λ x. LeavesTheRest v x) (sym e) (keeps v _ refl refl refl (took _ ms _ v.inbox f refl) (inl refl))
+event_leaves sc n v w (Gives p ms f sends own free e) =
+    subst (λ x. LeavesTheRest v x) (sym e) (keeps v _ refl refl refl (took _ ms _ v.inbox f refl) (sent _ _ v.outbox refl))
+event_leaves sc n v w (GotPage leaf ms f may e) =
+    subst (λ x. LeavesTheRest v x) (sym e) (keeps v _ refl refl refl (took _ ms _ v.inbox f refl) (inl refl))
+event_leaves sc n v w (GotLast leaf ms f mode all e) =
+    subst (λ x. LeavesTheRest v x) (sym e) (keeps v _ refl refl refl (took _ ms _ v.inbox f refl) (sent _ _ v.outbox refl))
+event_leaves sc n v w (GotFinish ms f mode e) =
+    subst (λ x. LeavesTheRest v x) (sym e) (keeps v _ refl refl refl (took _ ms _ v.inbox f refl) (inl refl))
+event_leaves sc n v w (GotAll ms f mode all e) =
+    subst (λ x. LeavesTheRest v x) (sym e) (keeps v _ refl refl refl (took _ ms _ v.inbox f refl) (sent _ _ v.outbox refl))
+event_leaves sc n v w (GotDone ms f mode e) =
+    subst (λ x. LeavesTheRest v x) (sym e) (keeps v _ refl refl refl (took _ ms _ v.inbox f refl) (inl refl))
+event_leaves sc n v w (Finishes mode none e) =
+    subst (λ x. LeavesTheRest v x) (sym e) (keeps v _ refl refl refl (inl refl) (sent _ _ v.outbox refl))
+event_leaves sc n v w (Pushes p mode own e) =
+    subst (λ x. LeavesTheRest v x) (sym e) (keeps v _ refl refl refl (inl refl) (sent _ _ v.outbox refl))
+
+-- a view seen from its node is that view
+pub face : (n : Node) (v : View) → facing n (seen_from n v) ≡ v
+face A v = refl
+face B v = refl
+
+-- what a step leaves
+pub step_leaves : (sc : Scenario) (c : Choice) (s : State)
+    → LeavesTheRest (facing (side_of sc c s) s) (facing (side_of sc c s) (step sc c s).after)
+unfolding step
+step_leaves sc c s =
+    let n = side_of sc c s in
+    let v = facing n s in
+    subst (λ w. LeavesTheRest v w) (sym (face n (move sc c v).after)) (event_leaves sc n v (move sc c v).after (step_happens sc c s).event)

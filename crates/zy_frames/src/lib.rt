@@ -1,0 +1,4 @@
+//! What a step leaves as it was.
+#![tactic(auto)]
+
+pub mod laws;
