@@ -1,0 +1,4 @@
+pub mod Codecs
+pub mod Numbers
+pub mod Codings
+pub mod States

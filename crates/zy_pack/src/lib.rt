@@ -1,0 +1,4 @@
+//! States as bytes: two states with the same bytes are the same.
+#![tactic(auto)]
+
+pub mod laws;
