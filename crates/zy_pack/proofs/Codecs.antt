@@ -35,5 +35,5 @@ alike f cf (x ∷ xs) (y ∷ ys) r s n e =
 pub listed : {T : Type 0} (f : T → List ℕ) → IsCode number → IsCode f → IsCode (items f)
 listed f cn cf xs ys r s e =
     let h = cn (length xs) (length ys) (flat_map f xs ++ r) (flat_map f ys ++ s)
-        (sym (append_assoc (number (length xs)) (flat_map f xs) r) ∙ e ∙ append_assoc (number (length ys)) (flat_map f ys) s) in
+    (sym (append_assoc (number (length xs)) (flat_map f xs) r) ∙ e ∙ append_assoc (number (length ys)) (flat_map f ys) s) in
     alike f cf xs ys r s h.0 h.1
