@@ -5,7 +5,7 @@ import subprocess
 from glob import glob
 
 from packing.archive import PLAIN, PROGRAM, Fault
-from packing.record import Release, sum_of
+from packing.record import Release
 
 TOP = os.path.dirname(os.path.dirname(os.path.dirname(os.path.realpath(__file__))))
 SCRIPT = os.path.join(TOP, 'zy_bench')
@@ -41,9 +41,10 @@ def made():
     """The release of this checkout."""
     if not os.path.isdir(os.path.join(TOP, 'crates')):
         raise Fault('NoSources', 'this is no checkout: there is no folder %s' % os.path.join(TOP, 'crates'))
+    sources = ask('--sources')
     ask('--build')
-    sources, program = ask('--sources'), content(BUILT)
-    if sum_of(sources) != content(BUILT + '.sum').decode().split()[0]:
+    program = content(BUILT)
+    if ask('--sources') != sources:
         raise Fault('Changed', 'a source was changed meanwhile')
     return Release(toolchain(), dict(line.split('  ', 1)[::-1] for line in sources.decode().splitlines()), {'zy_bench': (PROGRAM, program), **along()})
 
