@@ -12,8 +12,8 @@ SCRIPT = os.path.join(TOP, 'zy_bench')
 BUILT = os.path.join(TOP, 'crates', 'zy_bench', 'out', 'zy_bench')
 
 # What goes along, below the top.
-ALONG = ('zview', 'zdb', 'zplay', 'zsuite', 'install', 'README.md', 'CONTRIBUTING.md', 'LICENSE-APACHE', 'LICENSE-MIT', 'completions/*zy_bench*',
-         'docs/*.md', 'docs/man/*.1', 'docs/pictures/*.svg', 'docs/pictures/*.png', 'editors/**/*.vim', 'editors/**/*.json', 'examples/*.zephyr',
+ALONG = ('zview', 'zdb', 'zplay', 'zsuite', 'install', 'README.md', 'CONTRIBUTING.md', 'LICENSE-APACHE', 'LICENSE-MIT', 'completions/_zy_bench',
+         'completions/zy_bench.bash', 'completions/zy_bench.fish', 'docs/*.md', 'docs/man/*.1', 'docs/pictures/*.svg', 'docs/pictures/*.png', 'editors/**/*.vim', 'editors/**/*.json', 'examples/*.zephyr',
          'tools/*.py', 'tools/*/*.py', 'tools/*/*.js', 'tools/*/*.css', 'tools/*/*.html', 'tools/suite/programs/*.zephyr')
 
 # What only a checkout needs.
@@ -58,11 +58,22 @@ def toolchain():
 def along():
     """The files that go along with the program, each a mode and bytes by its name."""
     files = {}
-    for pattern in ALONG:
-        found = sorted(path for path in glob(os.path.join(TOP, pattern), recursive=True) if os.path.relpath(path, TOP) not in LEFT_OUT)
-        if not found:
-            raise Fault('Missing', 'there is no %s here' % pattern)
-        for path in found:
-            mode = PROGRAM if os.stat(path).st_mode & 0o100 else PLAIN
-            files[os.path.relpath(path, TOP)] = mode, content(path)
+    for path in (path for pattern in ALONG for path in found(pattern)):
+        mode = PROGRAM if os.stat(path).st_mode & 0o100 else PLAIN
+        files[os.path.relpath(path, TOP)] = mode, content(path)
     return files
+
+
+def found(pattern):
+    """The paths of the files with such a name, below the top."""
+    return [path for path in glob(os.path.join(TOP, pattern), recursive=True) if os.path.relpath(path, TOP) not in LEFT_OUT]
+
+
+def whole(release):
+    """The release, where nothing is missing that goes along, and where its toolchain is known."""
+    for pattern in ALONG:
+        if not found(pattern):
+            raise Fault('Missing', 'there is no %s here' % pattern)
+    if not release.toolchain:
+        raise Fault('NoToolchain', 'it is not noted with which toolchain the program was built: remove %s.sum, and it is built again' % os.path.relpath(BUILT, TOP))
+    return release
