@@ -2,8 +2,8 @@
 
     build.py [zy_bench | zy_first]
 
-The program is zy_bench, if none is named; zy_first uses fewer crates. What is proved and how long it takes is said first. A line on standard error for each crate as it is proved: its time, how many
-are left, and how long they take by estimate. What rt writes goes to crates/build.log."""
+The program is zy_bench, if none is named; zy_first uses fewer crates. What is proved and how long it takes is said first. A line on standard error for
+each crate as it is proved: its time, how many are left, and how long they take by estimate. What rt writes goes to crates/build.log."""
 
 import math
 import os

@@ -13,7 +13,8 @@ BUILT = os.path.join(TOP, 'crates', 'zy_bench', 'out', 'zy_bench')
 
 # What goes along, below the top.
 ALONG = ('zview', 'zdb', 'zplay', 'zsuite', 'install', 'README.md', 'CONTRIBUTING.md', 'LICENSE-APACHE', 'LICENSE-MIT', 'completions/_zy_bench',
-         'completions/zy_bench.bash', 'completions/zy_bench.fish', 'docs/*.md', 'docs/man/*.1', 'docs/pictures/*.svg', 'docs/pictures/*.png', 'editors/**/*.vim', 'editors/**/*.json', 'examples/*.zephyr',
+         'completions/zy_bench.bash', 'completions/zy_bench.fish', 'docs/*.md', 'docs/man/*.1', 'docs/pictures/*.svg', 'docs/pictures/*.png',
+         'editors/**/*.vim', 'editors/**/*.json', 'examples/*.zephyr',
          'tools/*.py', 'tools/*/*.py', 'tools/*/*.js', 'tools/*/*.css', 'tools/*/*.html', 'tools/suite/programs/*.zephyr')
 
 # What only a checkout needs.
@@ -75,5 +76,6 @@ def whole(release):
         if not found(pattern):
             raise Fault('Missing', 'there is no %s here' % pattern)
     if not release.toolchain:
-        raise Fault('NoToolchain', 'it is not noted with which toolchain the program was built: remove %s.sum, and it is built again' % os.path.relpath(BUILT, TOP))
+        raise Fault('NoToolchain', 'it is not noted with which toolchain the program was built: remove %s.sum, and it is built again' % (
+            os.path.relpath(BUILT, TOP)))
     return release
