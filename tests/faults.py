@@ -307,7 +307,7 @@ SCRIPT_FAULTS = [
     script('release: the checksum is that of the program', 'tools/release', '(sum_of(release), path)', "(sum_of(made().files['zy_bench'][1]), path)", 'releases made'),
     script('release: two files are one', 'tools/release', 'if len(words) > 1 or', 'if', 'releases refused'),
     script('release: a part stays where the file cannot be written', 'tools/release', '            os.remove(part)\n', '            pass\n', 'releases refused'),
-    script('release: what only a checkout needs goes along', 'tools/packing/making.py', "LEFT_OUT = ('tools/build.py', ", 'LEFT_OUT = (', 'releases made'),
+    script('release: what only a checkout needs goes along', 'tools/packing/making.py', "LEFT_OUT = ('tools/believe.py', 'tools/build.py', ", "LEFT_OUT = ('tools/believe.py', ", 'releases made'),
     script('release: a source is changed meanwhile', 'tools/packing/making.py', "if ask('--sources') != sources:", 'if False:', 'releases refused'),
     script('release: what is missing is left out', 'tools/packing/making.py', 'if not found(pattern):', 'if False:', 'releases refused'),
     script('release: a toolchain that is not noted', 'tools/packing/making.py', 'if not release.toolchain:', 'if False:', 'releases refused'),
