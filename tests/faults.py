@@ -292,8 +292,8 @@ SCRIPT_FAULTS = [
     script('--take takes a program that is not there', 'zy_bench', 'if [[ -x $(program_of "$1") ]] && note_sources', 'if note_sources', 'build'),
     script('--sum is over zy_first as well', 'zy_bench', 'sum_of zy_bench\n', 'sum_of zy_first\n', 'build'),
     script('build: how long it takes is not said', 'tools/build.py', "    say('by docs/gate.md", "    str('by docs/gate.md", 'build'),
-    script('build: the minutes on several processors are those on one', 'tools/build.py', 'math.ceil(max(total / self.room, *', 'math.ceil(max(total, *', 'build'),
-    script('build: the longest way does not count', 'tools/build.py', 'max(total / self.room, *self.behind.values())', 'total / self.room', 'build'),
+    script('build: the minutes on several processors are those on one', 'tools/build.py', 'total * 5 / 6 / self.room', 'total * 5 / 6', 'build'),
+    script('build: all of it goes side by side', 'tools/build.py', 'total / 6 + total * 5 / 6 / self.room', 'total / self.room', 'build'),
     script('build: the toolchain is not noted', 'zy_bench', '  rt version > "$program.toolchain"\n', '', 'build'),
     # releases
     script('release: with the times of the files', 'tools/packing/archive.py', 'entry.mode, entry.size = files[name][0], len(files[name][1])',

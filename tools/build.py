@@ -181,9 +181,10 @@ class Build:
         return True
 
     def estimate(self):
-        """How many minutes the proofs take on one processor, and at least on those that are here."""
+        """How many minutes the proofs take on one processor, and by estimate on those that are here: about a sixth of it goes one after the other, however
+        many there are."""
         total = sum(self.cost(name) for name in self.needs)
-        return math.ceil(total), math.ceil(max(total / self.room, *self.behind.values()))
+        return math.ceil(total), math.ceil(total / 6 + total * 5 / 6 / self.room)
 
     def outlook(self):
         """How many crates are left, and how long they take at the pace so far."""
@@ -212,7 +213,7 @@ def main():
     build = Build()
     say('%s is not built of these sources: its %d crates are proved now, at most %d side by side; the log is %s' % (
         PROGRAM, len(build.needs), build.room, LOG))
-    say('by docs/gate.md that takes %d minutes of one processor, and here %d or more; a look without proofs takes some minutes: '
+    say('by docs/gate.md that takes %d minutes of one processor, and about %d here; a look without proofs takes some minutes: '
         './zy_bench --unproved run < FILE, or another command of zy_bench' % build.estimate())
     try:
         while build.left or build.under_way:
