@@ -10,7 +10,7 @@ import stat
 import subprocess
 import tarfile
 
-from case import PROGRAM, TOP, content
+from case import PROGRAM, TOP, content, lines_of
 
 TOOLCHAIN = 'rattle-kit-0 logic 0123456789abcdef'
 
@@ -18,9 +18,6 @@ FOLDER = 'zy_bench-release'
 
 # Says which toolchain it is; all else is noted, and fails.
 RT = '#!/bin/sh\n[ "$*" = version ] && { echo "%s"; exit; }\necho "$*" >> "%s"\nexit 99\n'
-
-# The crates whose sources are none of the program's.
-OTHERS = ('zy_tests', 'zy_sweeps', 'zy_order', 'zy_first')
 
 
 def digest(given):
@@ -32,6 +29,16 @@ def write(path, text, mode=0o644):
     with open(path, 'wb') as file:
         file.write(text.encode() if isinstance(text, str) else text)
     os.chmod(path, mode)
+
+
+def needed():
+    """The crates that zy_bench uses, by way of others too, and itself."""
+    uses = {line.split()[0].rstrip(':'): set(line.partition(':')[2].split()) for line in lines_of(os.path.join(TOP, 'crates.txt'))}
+    found, todo = set(), {'zy_bench'}
+    while todo:
+        found |= todo
+        todo = set().union(*(uses[name] & uses.keys() for name in todo)) - found
+    return found
 
 
 def bare(folder, *without):
@@ -63,12 +70,10 @@ class Tree:
     def sources(self):
         """The checksums of the sources of the program, by their names."""
         found = {'crates.txt': digest(content(self.path('crates.txt')))}
-        for folder, folders, names in os.walk(self.path('crates')):
-            folders[:] = [name for name in folders if name != 'out' and name not in OTHERS]
-            for name in names:
-                if name.endswith(('.rt', '.antt')):
-                    path = os.path.join(folder, name)
-                    found[os.path.relpath(path, self.top)] = digest(content(path))
+        paths = [os.path.join(folder, name) for crate in needed() for folder, _, names in os.walk(self.path('crates/' + crate)) for name in names]
+        for path in paths:
+            if path.endswith(('.rt', '.antt')):
+                found[os.path.relpath(path, self.top)] = digest(content(path))
         return found
 
     def settle(self):
