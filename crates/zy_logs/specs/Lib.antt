@@ -6,3 +6,4 @@ pub mod Txns
 pub mod Vocabulary
 pub mod Parts
 pub mod Lines
+pub mod Logs

@@ -2,12 +2,17 @@
 #![tactic(auto)]
 
 pub mod expected;
+pub mod faults;
 pub mod log_line;
+pub mod logs;
 pub mod reading;
+mod text;
 pub mod told;
 pub mod txns;
 
 pub use crate::expected::{Expected, FaultKind, Misread};
+pub use crate::faults::{ReadFault, Refusal};
 pub use crate::log_line::LogLine;
+pub use crate::logs::NumberedLine;
 pub use crate::told::{Reason, Told};
 pub use crate::txns::Txns;
