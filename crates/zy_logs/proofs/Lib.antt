@@ -1,1 +1,2 @@
 pub mod LogLemmas
+pub mod Worked

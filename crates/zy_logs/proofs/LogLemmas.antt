@@ -28,7 +28,7 @@ module _ (txns : Txns) (most : ℕ) where
 
   -- a line that is taken leaves the lines after it
   pub goes_on : (taken : List NumberedLine) (n : ℕ) (l : List ℕ) (ls : List (List ℕ)) (first : Option NumberedLine)
-    → line_at txns most (length taken) n (words_of l) ≡ Ok first → with_rest taken n (l ∷ ls) ≡ with_rest (taken ++ listed first) (n + 1) ls
+      → line_at txns most (length taken) n (words_of l) ≡ Ok first → with_rest taken n (l ∷ ls) ≡ with_rest (taken ++ listed first) (n + 1) ls
   goes_on taken n l ls first e =
       ap (λ (said : Result (Option NumberedLine) Refusal). joined taken (said >>= more taken n ls)) e
       ∙ joined-joined taken (listed first) (lines_from txns most (length taken + length (listed first)) (n + 1) ls)
@@ -36,5 +36,5 @@ module _ (txns : Txns) (most : ℕ) where
 
   -- the fault of a line is that of the text
   pub stops : (taken : List NumberedLine) (n : ℕ) (l : List ℕ) (ls : List (List ℕ)) (r : Refusal)
-    → line_at txns most (length taken) n (words_of l) ≡ Err r → with_rest taken n (l ∷ ls) ≡ Err r
+      → line_at txns most (length taken) n (words_of l) ≡ Err r → with_rest taken n (l ∷ ls) ≡ Err r
   stops taken n l ls r e = ap (λ (said : Result (Option NumberedLine) Refusal). joined taken (said >>= more taken n ls)) e

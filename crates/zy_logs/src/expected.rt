@@ -85,7 +85,8 @@ impl fmt::Display for Expected {
             Expected::NodeAction => "after A or B comes run T, take, finish or push",
             Expected::Txn => "the number or the name of a transaction comes here",
             Expected::KnownTxn => "the scenario does not have this transaction",
-            Expected::AfterChoice => "after a choice comes -> OUTCOME, ! KIND or the end of the line",
+            Expected::AfterChoice =>
+                "after a choice comes -> OUTCOME, ! KIND or the end of the line",
             Expected::Outcome => {
                 "after -> comes ? or an outcome of the listing, of which node, reason and numbers may be left out"
             }

@@ -158,8 +158,10 @@ pub(crate) fn tells(told: Told, outcome: Outcome) -> bool
             new_page,
             boundary,
         } => tells_split(page, new_page, boundary, outcome),
-        Told::Aborted(reason) => matches!(outcome, Outcome::Aborted(why) if allows_reason(reason, why)),
-        Told::Committed(place) => matches!(outcome, Outcome::Committed(came) if allows_count(place, came)),
+        Told::Aborted(reason) =>
+            matches!(outcome, Outcome::Aborted(why) if allows_reason(reason, why)),
+        Told::Committed(place) =>
+            matches!(outcome, Outcome::Committed(came) if allows_count(place, came)),
         Told::Waits(page) => matches!(outcome, Outcome::Waits(came) if allows(page, came)),
         Told::Pulls(page) => matches!(outcome, Outcome::Pulls(came) if allows(page, came)),
         Told::Awaits(page) => matches!(outcome, Outcome::Awaits(came) if allows(page, came)),
