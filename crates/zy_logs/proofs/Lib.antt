@@ -1,2 +1,3 @@
 pub mod LogLemmas
+pub mod NamedLemmas
 pub mod Worked

@@ -1,7 +1,8 @@
 -- What the lines of a text say, each a line of a log.
-use Rattle.std.specs.Prelude.{◌≡◌, ℕ, ◌+◌, ◌++◌, nat_lt, List, [], ◌∷◌, length, Option, Some, None, Result, Ok, Err, if◌then◌else◌}
+use Rattle.std.specs.Prelude.{◌≡◌, ℕ, ◌+◌, ◌++◌, nat_lt, List, [], ◌∷◌, length, map, Option, Some, None, Result, Ok, Err, if◌then◌else◌}
 use Rattle.std.specs.declared.vec.Vec.{Vec}
 use Rattle.std.specs.declared.alloc.Global.{Global}
+use Rattle.zy_isa.specs.declared.choice.Choice.{Choice}
 use Rattle.zy_isa.specs.Results.{◌>>=◌}
 use Rattle.zy_text.specs.Words.{lines_of, words_of}
 use Rattle.zy_logs.specs.declared.expected.Expected.TheVariants.{FewerLines}
@@ -50,6 +51,10 @@ lines_from txns most taken n (l ∷ ls) = line_at txns most taken n (words_of l)
 -- what a text says whose first line has number n, where there may be `most` lines
 abbrev pub logs_of : Txns → ℕ → ℕ → List ℕ → Result (List NumberedLine) Refusal
 logs_of txns most n text = lines_from txns most 0 n (lines_of text)
+
+-- the choices of lines
+abbrev pub choices_of : List NumberedLine → List Choice
+choices_of lines = map (λ (l : NumberedLine). l.line.choice) lines
 
 -- one line more was taken, if it says one, unless there was no memory
 abbrev pub Takes : {X : Type 0} → Result X ReadFault → (old new : List NumberedLine) → Result (Option NumberedLine) Refusal → Type 0

@@ -3,6 +3,7 @@
 
 pub mod expected;
 pub mod faults;
+pub mod laws;
 pub mod log_line;
 pub mod logs;
 pub mod reading;
