@@ -1,3 +1,2 @@
-pub mod LogLemmas
 pub mod NamedLemmas
 pub mod Worked

@@ -1,5 +1,5 @@
 -- Lines that are read name transactions that there are, and are no more than there may be.
-use Rattle.std.proofs.Common.{◌≡◌, ◌∙◌, ℕ, ◌+◌, ◌++◌, ◌≤◌, ◌<◌, Bool, true, false, List, [], ◌∷◌, length, map, codes, refl, sym, ap, subst, inl, inr, arith, length-append}
+use Rattle.std.proofs.Common.{◌≡◌, ℕ, ◌+◌, ◌≤◌, Bool, true, false, List, [], ◌∷◌, length, codes, refl, subst, inl, inr, arith}
 use Rattle.std.specs.Prelude.{Option, Some, None, Result, Ok, Err, nat_lt, if◌then◌else◌}
 use Rattle.std.specs.Option.{option_and_then}
 use Rattle.std.proofs.lemmas.Bool.{cases_Bool, ltb-true}
@@ -13,7 +13,6 @@ use Rattle.zy_isa.specs.Scenario.{AreNamed}
 use Rattle.zy_links.specs.declared.kind.Kind.{Kind}
 use Rattle.zy_text.specs.Words.{lines_of, words_of, number_of, is_numeral}
 use Rattle.zy_text.specs.Names.{is_name}
-use Rattle.zy_logs.specs.declared.expected.Expected.{Expected}
 use Rattle.zy_logs.specs.declared.expected.Expected.TheVariants as expected
 use Rattle.zy_logs.specs.declared.expected.Misread.{Misread}
 use Rattle.zy_logs.specs.declared.faults.Refusal.{Refusal}
@@ -23,7 +22,7 @@ use Rattle.zy_logs.specs.declared.told.Told.{Told}
 use Rattle.zy_logs.specs.declared.txns.Txns.{Txns}
 use Rattle.zy_logs.specs.Words.{Word, Read, first, after, are_none, begin_with, refused, gives, made}
 use Rattle.zy_logs.specs.Txns.{below, place}
-use Rattle.zy_logs.specs.Parts.{numbered, txn}
+use Rattle.zy_logs.specs.Parts.{txn}
 use Rattle.zy_logs.specs.Lines.{client_choice, node_choice, choice_of, told_of, sent_of, whole, placed, line_of}
 use Rattle.zy_logs.specs.Logs.{in_line, fitting, line_at, listed, joined, lines_from, logs_of, choices_of}
 
@@ -59,7 +58,7 @@ below_txn : (txns : Txns) (ws : List Word) → Below txns.count (txn txns ws)
 below_txn txns ws =
     let named = below_place txns.count ws (place txns.names.now (first ws)) in
     below_either txns.count (is_numeral (first ws)) _ _ (below_digits txns.count ws (number_of (first ws)))
-        (below_either txns.count (is_name (first ws)) _ _ named tt)
+    (below_either txns.count (is_name (first ws)) _ _ named tt)
 
 -- ---- a choice
 
@@ -87,8 +86,8 @@ named_client txns ws =
     let count = txns.count in
     let t = below_txn txns (after ws) in
     named_either count (begin_with (codes "start") ws) _ _ refl
-        (named_either count (begin_with (codes "begin") ws) _ _ (named_begin count _ t)
-        (named_either count (begin_with (codes "kill") ws) _ _ (named_kill count _ t) tt))
+    (named_either count (begin_with (codes "begin") ws) _ _ (named_begin count _ t)
+    (named_either count (begin_with (codes "kill") ws) _ _ (named_kill count _ t) tt))
 
 -- of a node
 named_run : (count : ℕ) (n : Node) (r : Read ℕ) → Below count r → Named count (made (choice.Run n) r)
@@ -99,17 +98,17 @@ named_node : (txns : Txns) (n : Node) (ws : List Word) → Named txns.count (nod
 named_node txns n ws =
     let count = txns.count in
     named_either count (begin_with (codes "run") ws) _ _ (named_run count n _ (below_txn txns (after ws)))
-        (named_either count (begin_with (codes "take") ws) _ _ refl
-        (named_either count (begin_with (codes "finish") ws) _ _ refl
-        (named_either count (begin_with (codes "push") ws) _ _ refl tt)))
+    (named_either count (begin_with (codes "take") ws) _ _ refl
+    (named_either count (begin_with (codes "finish") ws) _ _ refl
+    (named_either count (begin_with (codes "push") ws) _ _ refl tt)))
 
 -- of any actor
 named_choice : (txns : Txns) (ws : List Word) → Named txns.count (choice_of txns ws)
 named_choice txns ws =
     let count = txns.count in
     named_either count (begin_with (codes "C") ws) _ _ (named_client txns (after ws))
-        (named_either count (begin_with (codes "A") ws) _ _ (named_node txns A (after ws))
-        (named_either count (begin_with (codes "B") ws) _ _ (named_node txns B (after ws)) tt))
+    (named_either count (begin_with (codes "A") ws) _ _ (named_node txns A (after ws))
+    (named_either count (begin_with (codes "B") ws) _ _ (named_node txns B (after ws)) tt))
 
 -- ---- a line
 
