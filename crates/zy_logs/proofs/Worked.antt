@@ -1,7 +1,7 @@
 -- Worked lines: what some words spell, and what agrees with it, computed.
-use Rattle.std.proofs.Common.{◌≡◌, ℕ, None, Some, Ok, Err, codes, refl}
+use Rattle.std.proofs.Common.{◌≡◌, ℕ, ◌++◌, List, [], ◌∷◌, None, Some, Ok, Err, codes, refl}
 use Rattle.zy_isa.specs.declared.node.Node.TheVariants.{A, B}
-use Rattle.zy_isa.specs.declared.choice.Choice.TheVariants.{Take, Push}
+use Rattle.zy_isa.specs.declared.choice.Choice.TheVariants.{Take, Push, Begin}
 use Rattle.zy_links.specs.declared.kind.Kind.TheVariants as message
 use Rattle.zy_table.specs.declared.outcome.Outcome.TheVariants as outcome
 use Rattle.zy_text.specs.Words.{words_of}
@@ -12,6 +12,7 @@ use Rattle.zy_logs.specs.Agrees.{Tells}
 use Rattle.zy_logs.specs.Vocabulary as word
 use Rattle.zy_logs.specs.Lines as line
 use Rattle.zy_logs.specs.Lines.{line_of}
+use Rattle.zy_logs.specs.Logs.{logs_of}
 
 -- opens the definitions of what words begin with
 unfoldable open_all : ℕ
@@ -55,6 +56,32 @@ module _ (txns : Txns) where
   no_kind : line_of txns (words_of (codes "A take -> got ready !")) ≡ Err (record { word = 6; expected = expected.Message })
   unfolding open_all
   no_kind = refl
+
+  -- a transaction by its number
+  begins : txns.count ≡ 1 → line_of txns (words_of (codes "C begin 0 -> began A"))
+      ≡ Ok (record { choice = Begin 0; told = Some (told.Began (Some A)); sent = None })
+  unfolding open_all
+  begins one = rw one refl
+
+  -- there is no transaction of this number
+  no_txn : txns.count ≡ 1 → line_of txns (words_of (codes "A run 1")) ≡ Err (record { word = 2; expected = expected.KnownTxn })
+  unfolding open_all
+  no_txn one = rw one refl
+
+  -- a text of three lines, the second of which is empty
+  abbrev text : List ℕ
+  text = codes "A take" ++ 10 ∷ 10 ∷ codes "B push"
+
+  -- its lines have the numbers of lines of the input, the first of which is 5
+  numbered : logs_of txns 2 5 text ≡ Ok (record { number = 5; line = record { choice = Take A; told = None; sent = None } }
+      ∷ record { number = 7; line = record { choice = Push B; told = None; sent = None } } ∷ [])
+  unfolding open_all
+  numbered = refl
+
+  -- the last one is one too many, where there may be one
+  too_many : logs_of txns 1 5 text ≡ Err (record { line = 7; word = 0; expected = expected.FewerLines })
+  unfolding open_all
+  too_many = refl
 
 -- the page that is told is the one that came
 page_told : Tells (told.Waits (Some 3)) (outcome.Waits 3)
