@@ -1,7 +1,7 @@
 -- Worked lines: what some words spell, and what agrees with it, computed.
 use Rattle.std.proofs.Common.{◌≡◌, ℕ, ◌++◌, List, [], ◌∷◌, None, Some, Ok, Err, codes, refl}
 use Rattle.zy_isa.specs.declared.node.Node.TheVariants.{A, B}
-use Rattle.zy_isa.specs.declared.choice.Choice.TheVariants.{Take, Push, Begin}
+use Rattle.zy_isa.specs.declared.choice.Choice.TheVariants.{Take, Push, Run, Begin}
 use Rattle.zy_links.specs.declared.kind.Kind.TheVariants as message
 use Rattle.zy_table.specs.declared.outcome.Outcome.TheVariants as outcome
 use Rattle.zy_text.specs.Words.{words_of}
@@ -9,6 +9,7 @@ use Rattle.zy_logs.specs.declared.expected.Expected.TheVariants as expected
 use Rattle.zy_logs.specs.declared.told.Told.TheVariants as told
 use Rattle.zy_logs.specs.declared.txns.Txns.{Txns}
 use Rattle.zy_logs.specs.Agrees.{Tells}
+use Rattle.zy_logs.specs.Txns.{place}
 use Rattle.zy_logs.specs.Vocabulary as word
 use Rattle.zy_logs.specs.Lines as line
 use Rattle.zy_logs.specs.Lines.{line_of}
@@ -62,6 +63,12 @@ module _ (txns : Txns) where
       ≡ Ok (record { choice = Begin 0; told = Some (told.Began (Some A)); sent = None })
   unfolding open_all
   begins one = rw one refl
+
+  -- and by its name; the number of the commit is left out
+  commits : txns.count ≡ 1 → place txns.names.now (codes "transfer") ≡ Some 0 → line_of txns (words_of (codes "A run transfer -> committed"))
+      ≡ Ok (record { choice = Run A 0; told = Some (told.Committed None); sent = None })
+  unfolding open_all
+  commits one known = rw (known, one) refl
 
   -- there is no transaction of this number
   no_txn : txns.count ≡ 1 → line_of txns (words_of (codes "A run 1")) ≡ Err (record { word = 2; expected = expected.KnownTxn })
