@@ -122,7 +122,7 @@ fn allows_reason(told: Option<Reason>, why: Why) -> bool
     }
 }
 
-/// Whether an outcome is a split of the page that is told, into the page and at the boundary that are, where they are.
+/// Whether an outcome is a split with the page, the new page and the boundary that are told, of those that are.
 fn tells_split(
     page: Option<u16>,
     new_page: Option<u16>,
@@ -133,10 +133,10 @@ fn tells_split(
 {
     match outcome {
         Outcome::Split {
-            page: p,
-            new_page: q,
-            boundary: k,
-        } => allows(page, p) && allows(new_page, q) && allows(boundary, k),
+            page: cut,
+            new_page: added,
+            boundary: from,
+        } => allows(page, cut) && allows(new_page, added) && allows(boundary, from),
         _ => false,
     }
 }
