@@ -538,7 +538,7 @@ def narrow(page):
     page.wait()
     page.choice('C kill 0')
     for width, height, scale in WINDOWS:
-        page.call('Emulation.setDeviceMetricsOverride', width=width, height=height, deviceScaleFactor=scale, mobile=False)
+        page.resize(width=width, height=height, deviceScaleFactor=scale)
         page.wait('innerWidth === %d' % width)
         if page.value('document.documentElement.scrollWidth > innerWidth'):
             yield '%d wide: the page is %d' % (width, page.value('document.documentElement.scrollWidth'))
@@ -548,12 +548,12 @@ def narrow(page):
                 yield '%d to %d: %s has %d to %d' % (width, height, part, *room)
         if not page.value(READABLE):
             yield '%d to %d: the goals text cannot be read' % (width, height)
-    page.call('Emulation.setDeviceMetricsOverride', width=480, height=900, deviceScaleFactor=1, mobile=False)
+    page.resize(width=480, height=900)
     page.begin(NOTED)
     empty = page.value('$("view").getBoundingClientRect().bottom - $("below").getBoundingClientRect().bottom')
     if not 0 <= empty < 40:
         yield '480 wide: below a short picture are %d pixels' % empty
-    page.call('Emulation.clearDeviceMetricsOverride')
+    page.resize()
 
 
 def choose(page, value):

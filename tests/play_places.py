@@ -93,12 +93,12 @@ def lines(page):
 def header(page):
     """What is wrong with the header in a window of 1400 pixels: words that are cut, or that lie over others."""
     page.begin(ANOMALY)
-    page.call('Emulation.setDeviceMetricsOverride', width=1400, height=900, deviceScaleFactor=1, mobile=False)
+    page.resize(width=1400, height=900)
     page.wait('innerWidth === 1400')
     cut = page.value('[...document.querySelectorAll("header .chip")].filter(chip => chip.scrollWidth > chip.clientWidth + 1).map(chip => chip.textContent)')
     boxes = page.value('["chips", "here", "verdict", "link"].map(id => (box => [box.left, box.right])($(id).getBoundingClientRect()))')
     shown = page.value('[...document.querySelectorAll("#chips .chip, #verdict .chip")].every(chip => { const box = chip.getBoundingClientRect(); '
                        'return chip.contains(document.elementFromPoint(box.left + 4, box.top + box.height / 2)) && chip.contains(document.elementFromPoint(box.right - 4, box.top + box.height / 2)); })')
-    page.call('Emulation.clearDeviceMetricsOverride')
+    page.resize()
     if cut or not shown or any(left[1] > right[0] + 1 for left, right in zip(boxes, boxes[1:])) or boxes[-1][1] > 1400:
         yield 'in a window of 1400 pixels: %r are cut, the boxes are at %r, all is in sight: %s' % (cut, boxes, shown)

@@ -130,8 +130,8 @@ IN_SIGHT = '''(async it => {
 class Page(browser.Browser):
     """A page of zplay."""
 
-    def __init__(self, address):
-        super().__init__(address)
+    def __init__(self, address, is_drawn=True):
+        super().__init__(address, is_drawn)
         self.wait()
 
     def open(self, address):
