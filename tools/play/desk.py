@@ -38,10 +38,10 @@ POOL = ThreadPoolExecutor(len(os.sched_getaffinity(0)))
 def whole_run(asked):
     """The run as the page of `zview` has it: what is another than in the run that the page shows, and the pieces of the drawing near a position."""
     base, old = known(asked.get('base', ''))
-    name, run = kept(asked['text'], title_of(asked))
+    name, run = kept(asked['text'], title_of(asked), old)
     row = run.shown['rowOf'][max(0, min(asked.get('at', 0), run.shown['last']))]
     near = row // CHUNK
-    return {'name': name, 'base': base, **changes(old, run.shown), 'pieces': run.pieces([near - 1, near, near + 1])}
+    return {'name': name, 'base': base, **changes(old.shown if old else {}, run.shown), 'pieces': run.pieces([near - 1, near, near + 1])}
 
 
 def drawn(asked):
