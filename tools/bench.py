@@ -17,6 +17,9 @@ BYTES = {'encoding': 'utf-8', 'errors': 'surrogateescape'}
 # The most that one call of the program may take, by the kind of the resource; all that the system allows of a kind that is not here.
 LIMITS = {}
 
+# The bytes that a pipe has room for: most answers go in whole, so that nobody waits for the other.
+PIPE = 1 << 20
+
 # The most seconds that one call may take, whatever it does; None for any.
 PATIENCE = None
 
@@ -45,6 +48,12 @@ def ask(words, given, good=(0,), quiet=False):
 
 def answer(words, given, good=(0,), quiet=True):
     """The lines that the program writes, and with `quiet` what it says on standard error."""
+    written, said = texts(words, given, good, quiet)
+    return written.splitlines(), said
+
+
+def texts(words, given, good=(0,), quiet=True):
+    """The same with what the program writes in one text."""
     with start(words, stdin=subprocess.PIPE, stdout=subprocess.PIPE, stderr=subprocess.PIPE if quiet else None) as process:
         try:
             written, said = process.communicate(given, PATIENCE)
@@ -54,13 +63,13 @@ def answer(words, given, good=(0,), quiet=True):
     said = (said or b'').decode(**BYTES).strip()
     if process.returncode not in good:
         raise Refused(process.returncode, said)
-    return written.decode(**BYTES).splitlines(), said
+    return written.decode(**BYTES), said
 
 
 def start(words, limits=None, **pipes):
     """The program as it begins, within some limits, or else LIMITS."""
     try:
-        process = subprocess.Popen([PROGRAM] + words, **pipes)
+        process = subprocess.Popen([PROGRAM] + words, pipesize=PIPE, **pipes)
     except OSError as error:
         sys.exit('%s: %s' % (os.path.basename(sys.argv[0]), error))
     for kind, most in (limits or LIMITS).items():
