@@ -102,3 +102,16 @@ def header(page):
     page.resize()
     if cut or not shown or any(left[1] > right[0] + 1 for left, right in zip(boxes, boxes[1:])) or boxes[-1][1] > 1400:
         yield 'in a window of 1400 pixels: %r are cut, the boxes are at %r, all is in sight: %s' % (cut, boxes, shown)
+
+
+def uncut(page):
+    """What is wrong with words in a window of 1440 pixels: the names of those that can be killed, or the low keys of pages, are cut."""
+    page.begin(ANOMALY)
+    page.resize(width=1440, height=810)
+    page.wait('innerWidth === 1440')
+    page.value('show(12)')
+    page.wait()
+    shown = page.value('[...document.querySelectorAll(".kill b, .card small")].filter(it => it.scrollWidth <= it.clientWidth).map(it => it.textContent)')
+    page.resize()
+    if shown != ['kill reader', 'kill writer', '≥ 30', '≥ 0']:
+        yield 'what is not cut is %r' % shown

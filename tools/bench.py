@@ -88,13 +88,13 @@ def cut(text):
     """The scenario part of a text, and what is below it."""
     lines = text.split('\n')
     for number, line in enumerate(lines):
-        if words_of(line) == ['end']:
+        if 'end' in line and words_of(line) == ['end']:
             return '\n'.join(lines[:number + 1]) + '\n', '\n'.join(lines[number + 1:])
     return text, ''
 
 
 def names_of(text):
     """The name that the text gives each of its transactions; '' for one that has its number alone."""
-    heads = [words_of(line) for line in text.split('\n')]
+    heads = [words_of(line) for line in text.split('\n') if 'txn' in line]
     names = [head[1] for head in heads if head[:1] == ['txn'] and len(head) == 2]
     return ['' if name[0].isdigit() else name for name in names]
