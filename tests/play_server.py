@@ -197,12 +197,13 @@ def stopped():
 
 def untraced(bench, play, work):
     """What is wrong where a run goes on and the program makes no trace: the new steps are asked for without one."""
-    own, base = bench.PROGRAM, play.ask('/run', NOTED)['name']
+    text, own = NOTED.replace('row 10 1', 'row 10 2'), bench.PROGRAM  # the run of NOTED would be kept
+    base = play.ask('/run', text)['name']
     bench.PROGRAM = os.path.join(work, 'untraced')
     with open(bench.PROGRAM, 'w', encoding='utf-8') as file:
         file.write('#!/bin/sh\n[ "$1" = trace ] && exit 9\nexec "%s" "$@"\n' % PROGRAM)
     os.chmod(bench.PROGRAM, 0o700)
-    answer = play.ask('/run', NOTED.replace('end\n', 'B take\nend\n'), base=base)
+    answer = play.ask('/run', text.replace('end\n', 'B take\nend\n'), base=base)
     bench.PROGRAM = own
     if answer.get('lists', {}).get('lines') != [5, ['5 B take -> got wire ! ready']]:
         yield 'a run that goes on is traced as a whole: %r' % answer
