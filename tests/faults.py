@@ -265,7 +265,7 @@ SCRIPT_FAULTS = [
     script('zplay: low keys are cut', 'tools/picture/page.css', 'flex-wrap:wrap;gap:0 4px;align-items:baseline;white-space:nowrap', 'gap:4px;align-items:baseline;white-space:nowrap',
            'play uncut'),
     script('zplay: a run that goes on is traced as a whole', 'tools/play/growing.py', 'MOST = 16', 'MOST = -1', 'play stopped'),
-    script('zplay: a new step changes what the step before has changed', 'tools/play/growing.py', '        before = set(state)\n', '', MIGRATING),
+    script('zplay: a new step changes what the step before has changed', 'tools/play/growing.py', '        before = set(state)\n', '', 'play sent-parts'),
     script('zplay: a run goes on from another state than where it parts', 'tools/play/growing.py', 'old.state(both)', 'old.state(0)', MIGRATING),
     script('zplay: a page that comes up in a new step is not asked for', 'tools/play/growing.py', 'len(old.pages) + len(positions)', 'len(old.pages)',
            'play examples/splits.zephyr'),

@@ -371,6 +371,12 @@ def ends(number):
         ('the port is open', is_open('127.0.0.1', play.port))) if is_so]
 
 
+def line_sent(play, text, base, kind):
+    """What the first timeline of a kind has grown by in a run, from that of another one."""
+    answer = play.ask('/run', text, base=play.ask('/run', base)['name'])
+    return answer.get('timelines', {}).get(kind, {}).get('grown', {}).get('0', [0, [None]])
+
+
 def sent_parts(play):
     """What is wrong with a run of which only what is new is sent, and with the pieces of its drawing."""
     long = bare(NOTED).replace('end\n', 'C begin 0\n' + 'A take\nB take\n' * 2000 + 'C start\nend\n')
@@ -379,10 +385,12 @@ def sent_parts(play):
     answers = [play.request('POST', '/run', json.dumps({'text': more, 'base': name}))[2] for name in (base['name'], '', 'x')]
     drawn = play.ask('/pieces', more, numbers=[0, 1, 2, 7000, -1])['pieces']
     whole, pieces = json.loads(answers[1]), zviewed(more)['pieces']
-    other = play.ask('/run', NOTED.replace('row 10 1', 'row 10 7'), base=play.ask('/run', NOTED)['name'])['timelines']['pages']['grown']['0']
+    other, many = NOTED.replace('row 10 1', 'row 10 7'), NOTED.replace('row 10 1', 'row 10 8')
+    page, reader = line_sent(play, other, NOTED, 'pages'), line_sent(play, many, bare(many), 'txns')
     return [words for words, is_right in (
         ('the answers have %s bytes' % list(map(len, answers)), len(answers[0]) < 12000 < 60000 < len(answers[1])),
         ('of another run something is kept', json.loads(answers[2])['lists'] == whole['lists'] and not json.loads(answers[2])['base']),
-        ('the same choices in another scenario: %r' % other, other[0] == 0 and other[1][0] == [0, 'page 0 A low 0 rows 10=7 locks']),
+        ('the same choices in another scenario: %r' % page, page[0] == 0 and page[1][0] == [0, 'page 0 A low 0 rows 10=7 locks']),
+        ('some steps at once: %r' % reader, reader == [1, zviewed(many)['txns'][0][1:]]),
         ('the lines', base['lists']['lines'][1] + json.loads(answers[0])['lists']['lines'][1] == whole['lists']['lines'][1]),
         ('the pieces', drawn == {str(number): pieces[number] for number in range(min(3, len(pieces)))})) if not is_right]
