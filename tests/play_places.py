@@ -1,6 +1,6 @@
 """What is tested of what stays in the page of zplay: buttons where they are, branches when the page is loaded again, lines with their numbers."""
 
-from playing import ANOMALY, NOTED, SMALLEST, bare
+from playing import ANOMALY, NOTED, SMALLEST, WAITING, bare
 
 # Where each choice can be clicked.
 PLACES = ('Object.fromEntries([...document.querySelectorAll(".choice")].map(it => '
@@ -88,6 +88,9 @@ def lines(page):
         yield 'the line of the step cannot be typed into: a click there hits %r' % typed
     if here != [long.split('\n').index('end') - 1, 'A take'] or not inside:
         yield 'the line of the step: %r, %s' % (here, inside)
+    page.begin(NOTED)
+    if not page.value(WAITING % (5000, '$("text").value === doc.text')):
+        yield 'what is typed in is the text from before'
 
 
 def header(page):
