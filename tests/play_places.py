@@ -55,7 +55,9 @@ def reloaded(page):
     page.value('location.hash = %r' % address)
     page.wait('doc.text.includes("kill") && !busy')
     page.begin(SMALLEST)
-    page.value('store().then(() => sessionStorage.setItem("branches", JSON.stringify({branches: [{id: 1, text: "x"}, {id: 2, text: "y"}], current: 1, previous: 2, own: []})))')
+    # From there on the page itself keeps none, which it would do a while after the last move.
+    page.value('store().then(() => { keepBranches = () => {}; sessionStorage.setItem("branches", JSON.stringify('
+               '{branches: [{id: 1, text: "x"}, {id: 2, text: "y"}], current: 1, previous: 2, own: []})); })')
     page.reload()
     page.wait()
     if page.value('branches.length') != 1:
