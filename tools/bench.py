@@ -1,10 +1,12 @@
 """What the program gives: its subcommands over a text, and what only the text has, the names of transactions."""
 
+import fcntl
 import os
 import resource
 import signal
 import subprocess
 import sys
+from contextlib import suppress
 
 TOP = os.path.dirname(os.path.dirname(os.path.realpath(__file__)))
 
@@ -55,6 +57,7 @@ def answer(words, given, good=(0,), quiet=True):
 def texts(words, given, good=(0,), quiet=True):
     """The same with what the program writes in one text."""
     with start(words, stdin=subprocess.PIPE, stdout=subprocess.PIPE, stderr=subprocess.PIPE if quiet else None) as process:
+        widen(process.stdin, process.stdout)
         try:
             written, said = process.communicate(given, PATIENCE)
         except subprocess.TimeoutExpired:
@@ -66,10 +69,17 @@ def texts(words, given, good=(0,), quiet=True):
     return written.decode(**BYTES), said
 
 
+def widen(*pipes):
+    """Gives pipes more room, where the system lets a user have it."""
+    for pipe in pipes:
+        with suppress(OSError):
+            fcntl.fcntl(pipe, fcntl.F_SETPIPE_SZ, PIPE)
+
+
 def start(words, limits=None, **pipes):
     """The program as it begins, within some limits, or else LIMITS."""
     try:
-        process = subprocess.Popen([PROGRAM] + words, pipesize=PIPE, **pipes)
+        process = subprocess.Popen([PROGRAM] + words, **pipes)
     except OSError as error:
         sys.exit('%s: %s' % (os.path.basename(sys.argv[0]), error))
     for kind, most in (limits or LIMITS).items():
