@@ -16,6 +16,7 @@ def program(group, name, file, old, new, mark, *tests):
 
 ANOMALY = 'picture examples/anomaly.zephyr'
 DEADLOCK = 'picture examples/deadlock.zephyr'
+MIGRATING = 'play examples/migration.zephyr'
 
 SCRIPT_FAULTS = [
     # zview
@@ -260,6 +261,16 @@ SCRIPT_FAULTS = [
     script('zplay: the numbers of lines begin anew in each block', 'tools/play/play.js', '`line ${count}`', '`line 0`', 'play lines'),
     script('zplay: lines below the first ones cannot be typed into', 'tools/play/play.js', '${LINE * count + 38}px', '${LINE * 9}px', 'play lines'),
     script('zplay: what is typed in stays as it was', 'tools/play/play.js', '  else fillTextSoon();\n', '', 'play lines'),
+    script('zplay: the name of who can be killed is cut', 'tools/play/play.css', '.pair .kill b{max-width:none}', '', 'play uncut'),
+    script('zplay: low keys are cut', 'tools/picture/page.css', 'flex-wrap:wrap;gap:0 4px;align-items:baseline;white-space:nowrap', 'gap:4px;align-items:baseline;white-space:nowrap',
+           'play uncut'),
+    script('zplay: a run that goes on is traced as a whole', 'tools/play/growing.py', 'MOST = 16', 'MOST = -1', 'play stopped'),
+    script('zplay: a new step changes what the step before has changed', 'tools/play/growing.py', '        before = set(state)\n', '', 'play sent-parts'),
+    script('zplay: a run goes on from another state than where it parts', 'tools/play/growing.py', 'old.state(both)', 'old.state(0)', MIGRATING),
+    script('zplay: a page that comes up in a new step is not asked for', 'tools/play/growing.py', 'len(old.pages) + len(positions)', 'len(old.pages)',
+           'play examples/splits.zephyr'),
+    script('zplay: a run begins like one of another scenario', 'tools/play/growing.py', 'if listing[:here - 1 - len(steps)] != old.scenario[:-1 - len(old.steps)]:', 'if False:',
+           'play sent-parts'),
     script('zplay: chips are cut', 'tools/play/play.css', '#chips{min-width:0;line-height:1.7}', '#chips{min-width:0;overflow:hidden;white-space:nowrap}',
            'play header'),
     script('zplay: a step is sent too few', 'tools/play/keeping.py', 'return [both, new[both:]]', 'return [both + 1, new[both + 1:]]', 'play edits'),
