@@ -86,7 +86,7 @@ def links(page):
         shown = page.value('[doc.text, document.title, location.hash]')
         found += [] if shown[:2] == [text, title] else ['without a checksum: %r' % shown]
         page.value('location.hash = location.hash.slice(0, -9)')
-        page.wait('$("fault").textContent && location.href === %s' % json.dumps(address))
+        page.wait('$("fault").textContent && $("text").value && location.href === %s' % json.dumps(address))
         shown = page.value(DAMAGED)
         found += [] if shown == [True, text, title, True] else ['behind a run: %r' % shown]
         return found + arrived(page)

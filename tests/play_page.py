@@ -7,7 +7,7 @@ import subprocess
 import time
 
 from case import CASES, EXAMPLES, PROGRAM, content
-from playing import ANOMALY, DEADLOCK, HELD, MIGRATION, NOTED, SMALLEST, VERDICTS, ZVIEW, bare, head, loops, part_of, steps_of, zy_bench
+from playing import ANOMALY, DEADLOCK, HELD, MIGRATION, NOTED, SMALLEST, VERDICTS, ZVIEW, bare, head, loops, part_of, steps_of, zviewed, zy_bench
 
 
 # Clicks choices, one after the other: for each what its button showed, and whether it was grey; null where there was none.
@@ -41,18 +41,14 @@ def example(page, path):
     found = ['step %d: the button showed %r, wanted %r' % (number, seen, outcome) for number, (seen, (_, outcome)) in enumerate(zip(shown, steps), 1)
              if (seen or [outcome, True]) != [outcome, not changes[number]]]
     found += [] if zy_bench(['run'], page.text().encode()) == listing else ['the text has another listing']
-    found += [] if page.value(AS_A_WHOLE) else ['the run that was sent in parts is another one than as a whole']
+    found += ['of the run, which each click has sent a part of, %s is another one than in the file of zview' % name for name in others(page, text)]
     return found + undone(page, bare(text), len(steps)) + files(page, text, listing)
 
 
-# Whether the run in the page, of which each click has sent what is new, is the one that is sent as a whole.
-AS_A_WHOLE = '''(async () => {
-  const plain = () => JSON.stringify(Object.entries(D).filter(([name]) => !['pieces', 'name', 'text', 'title'].includes(name)).sort());
-  const grown = plain();
-  D = null;
-  await setText(doc.text, now);
-  return grown === plain();
-})()'''
+def others(page, text):
+    """What of the run in the page is another one than in the file that zview makes of a scenario as a whole."""
+    whole, grown = zviewed(text), page.value('D')
+    return [name for name in whole if name not in ('pieces', 'goals') and whole[name] != grown[name]]
 
 
 def changes_of(text):
@@ -538,7 +534,7 @@ def narrow(page):
     page.wait()
     page.choice('C kill 0')
     for width, height, scale in WINDOWS:
-        page.call('Emulation.setDeviceMetricsOverride', width=width, height=height, deviceScaleFactor=scale, mobile=False)
+        page.resize(width=width, height=height, deviceScaleFactor=scale)
         page.wait('innerWidth === %d' % width)
         if page.value('document.documentElement.scrollWidth > innerWidth'):
             yield '%d wide: the page is %d' % (width, page.value('document.documentElement.scrollWidth'))
@@ -548,12 +544,12 @@ def narrow(page):
                 yield '%d to %d: %s has %d to %d' % (width, height, part, *room)
         if not page.value(READABLE):
             yield '%d to %d: the goals text cannot be read' % (width, height)
-    page.call('Emulation.setDeviceMetricsOverride', width=480, height=900, deviceScaleFactor=1, mobile=False)
+    page.resize(width=480, height=900)
     page.begin(NOTED)
     empty = page.value('$("view").getBoundingClientRect().bottom - $("below").getBoundingClientRect().bottom')
     if not 0 <= empty < 40:
         yield '480 wide: below a short picture are %d pixels' % empty
-    page.call('Emulation.clearDeviceMetricsOverride')
+    page.resize()
 
 
 def choose(page, value):

@@ -1,6 +1,6 @@
 """What is tested of what stays in the page of zplay: buttons where they are, branches when the page is loaded again, lines with their numbers."""
 
-from playing import ANOMALY, NOTED, SMALLEST, bare
+from playing import ANOMALY, NOTED, SMALLEST, WAITING, bare
 
 # Where each choice can be clicked.
 PLACES = ('Object.fromEntries([...document.querySelectorAll(".choice")].map(it => '
@@ -55,7 +55,9 @@ def reloaded(page):
     page.value('location.hash = %r' % address)
     page.wait('doc.text.includes("kill") && !busy')
     page.begin(SMALLEST)
-    page.value('store().then(() => sessionStorage.setItem("branches", JSON.stringify({branches: [{id: 1, text: "x"}, {id: 2, text: "y"}], current: 1, previous: 2, own: []})))')
+    # From there on the page itself keeps none, which it would do a while after the last move.
+    page.value('store().then(() => { keepBranches = () => {}; sessionStorage.setItem("branches", JSON.stringify('
+               '{branches: [{id: 1, text: "x"}, {id: 2, text: "y"}], current: 1, previous: 2, own: []})); })')
     page.reload()
     page.wait()
     if page.value('branches.length') != 1:
@@ -88,17 +90,33 @@ def lines(page):
         yield 'the line of the step cannot be typed into: a click there hits %r' % typed
     if here != [long.split('\n').index('end') - 1, 'A take'] or not inside:
         yield 'the line of the step: %r, %s' % (here, inside)
+    page.begin(NOTED)
+    if not page.value(WAITING % (5000, '$("text").value === doc.text')):
+        yield 'what is typed in is the text from before'
 
 
 def header(page):
     """What is wrong with the header in a window of 1400 pixels: words that are cut, or that lie over others."""
     page.begin(ANOMALY)
-    page.call('Emulation.setDeviceMetricsOverride', width=1400, height=900, deviceScaleFactor=1, mobile=False)
+    page.resize(width=1400, height=900)
     page.wait('innerWidth === 1400')
     cut = page.value('[...document.querySelectorAll("header .chip")].filter(chip => chip.scrollWidth > chip.clientWidth + 1).map(chip => chip.textContent)')
     boxes = page.value('["chips", "here", "verdict", "link"].map(id => (box => [box.left, box.right])($(id).getBoundingClientRect()))')
     shown = page.value('[...document.querySelectorAll("#chips .chip, #verdict .chip")].every(chip => { const box = chip.getBoundingClientRect(); '
                        'return chip.contains(document.elementFromPoint(box.left + 4, box.top + box.height / 2)) && chip.contains(document.elementFromPoint(box.right - 4, box.top + box.height / 2)); })')
-    page.call('Emulation.clearDeviceMetricsOverride')
+    page.resize()
     if cut or not shown or any(left[1] > right[0] + 1 for left, right in zip(boxes, boxes[1:])) or boxes[-1][1] > 1400:
         yield 'in a window of 1400 pixels: %r are cut, the boxes are at %r, all is in sight: %s' % (cut, boxes, shown)
+
+
+def uncut(page):
+    """What is wrong with words in a window of 1440 pixels: the names of those that can be killed, or the low keys of pages, are cut."""
+    page.begin(ANOMALY)
+    page.resize(width=1440, height=810)
+    page.wait('innerWidth === 1440')
+    page.value('show(12)')
+    page.wait()
+    shown = page.value('[...document.querySelectorAll(".kill b, .card small")].filter(it => it.scrollWidth <= it.clientWidth).map(it => it.textContent)')
+    page.resize()
+    if shown != ['kill reader', 'kill writer', '≥ 30', '≥ 0']:
+        yield 'what is not cut is %r' % shown

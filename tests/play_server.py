@@ -15,9 +15,10 @@ import time
 from contextlib import contextmanager
 
 from case import EXAMPLES, PROGRAM, TOP, content
-from playing import (ANOMALY, DEADLOCK, GONE, HELD, MIGRATION, NOTED, SEARCH, SMALLEST, TEXT, VERDICTS, ZPLAY, ZVIEW, Play, bare, first_choices, is_program,
-                     loops, steps_of, zy_bench)
+from playing import (ANOMALY, DEADLOCK, GONE, HELD, MIGRATION, NOTED, SEARCH, SMALLEST, TEXT, VERDICTS, ZPLAY, Play, bare, first_choices, is_program,
+                     loops, steps_of, zviewed, zy_bench)
 from waits import SCENARIOS
+
 
 def answered(play):
     """What is wrong with who is answered, and who is not."""
@@ -178,6 +179,7 @@ def stopped():
     """What is wrong where a program hangs, is killed, loops, takes all memory or is not there: each question is answered by a fault."""
     with tempfile.TemporaryDirectory() as work, changed_bench(1) as bench:
         with in_process() as play:
+            yield from untraced(bench, play, work)
             for name, command in WRONG.items():
                 bench.PROGRAM = os.path.join(work, name.split()[-1])
                 with open(bench.PROGRAM, 'w', encoding='utf-8') as file:
@@ -191,6 +193,20 @@ def stopped():
             for question, more in (('/run', {}), ('/search', {name: value for name, value in SEARCH.items() if name != 'text'})):
                 if 'none' not in play.ask(question, NOTED, **more)['fault']['words']:
                     yield 'a program that is not there: %s' % question
+
+
+def untraced(bench, play, work):
+    """What is wrong where a run goes on and the program makes no trace: the new steps are asked for without one."""
+    text, own = NOTED.replace('row 10 1', 'row 10 2'), bench.PROGRAM  # the run of NOTED would be kept
+    base = play.ask('/run', text)['name']
+    bench.PROGRAM = os.path.join(work, 'untraced')
+    with open(bench.PROGRAM, 'w', encoding='utf-8') as file:
+        file.write('#!/bin/sh\n[ "$1" = trace ] && exit 9\nexec "%s" "$@"\n' % PROGRAM)
+    os.chmod(bench.PROGRAM, 0o700)
+    answer = play.ask('/run', text.replace('end\n', 'B take\nend\n'), base=base)
+    bench.PROGRAM = own
+    if answer.get('lists', {}).get('lines') != [5, ['5 B take -> got wire ! ready']]:
+        yield 'a run that goes on is traced as a whole: %r' % answer
 
 
 @contextmanager
@@ -355,6 +371,12 @@ def ends(number):
         ('the port is open', is_open('127.0.0.1', play.port))) if is_so]
 
 
+def line_sent(play, text, base, kind):
+    """What the first timeline of a kind has grown by in a run, from that of another one."""
+    answer = play.ask('/run', text, base=play.ask('/run', base)['name'])
+    return answer.get('timelines', {}).get(kind, {}).get('grown', {}).get('0', [0, [None]])
+
+
 def sent_parts(play):
     """What is wrong with a run of which only what is new is sent, and with the pieces of its drawing."""
     long = bare(NOTED).replace('end\n', 'C begin 0\n' + 'A take\nB take\n' * 2000 + 'C start\nend\n')
@@ -362,15 +384,13 @@ def sent_parts(play):
     base = play.ask('/run', long)
     answers = [play.request('POST', '/run', json.dumps({'text': more, 'base': name}))[2] for name in (base['name'], '', 'x')]
     drawn = play.ask('/pieces', more, numbers=[0, 1, 2, 7000, -1])['pieces']
-    whole, pieces = json.loads(answers[1]), pieces_of(more)
+    whole, pieces = json.loads(answers[1]), zviewed(more)['pieces']
+    other, many = NOTED.replace('row 10 1', 'row 10 7'), NOTED.replace('row 10 1', 'row 10 8')
+    page, reader = line_sent(play, other, NOTED, 'pages'), line_sent(play, many, bare(many), 'txns')
     return [words for words, is_right in (
         ('the answers have %s bytes' % list(map(len, answers)), len(answers[0]) < 12000 < 60000 < len(answers[1])),
         ('of another run something is kept', json.loads(answers[2])['lists'] == whole['lists'] and not json.loads(answers[2])['base']),
+        ('the same choices in another scenario: %r' % page, page[0] == 0 and page[1][0] == [0, 'page 0 A low 0 rows 10=7 locks']),
+        ('some steps at once: %r' % reader, reader == [1, zviewed(many)['txns'][0][1:]]),
         ('the lines', base['lists']['lines'][1] + json.loads(answers[0])['lists']['lines'][1] == whole['lists']['lines'][1]),
         ('the pieces', drawn == {str(number): pieces[number] for number in range(min(3, len(pieces)))})) if not is_right]
-
-
-def pieces_of(text):
-    """The pieces of the drawing of a run in the file of zview."""
-    made = subprocess.run([ZVIEW], input=text.encode(), stdout=subprocess.PIPE, stderr=subprocess.DEVNULL, env={**os.environ, 'ZY_BENCH': PROGRAM}).stdout
-    return json.loads(re.search(r'id="data">(.*?)</script>', made.decode(), re.S).group(1).replace('<\\/', '</'))['pieces']

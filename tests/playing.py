@@ -22,6 +22,12 @@ def zy_bench(words, given):
                           timeout=300).stdout.decode()
 
 
+def zviewed(text):
+    """What the file has that zview makes of a scenario."""
+    made = subprocess.run([ZVIEW], input=text.encode(), stdout=subprocess.PIPE, stderr=subprocess.DEVNULL, env={**os.environ, 'ZY_BENCH': PROGRAM}).stdout
+    return json.loads(re.search(r'id="data">(.*?)</script>', made.decode(), re.S).group(1).replace('<\\/', '</'))
+
+
 def head(text):
     """The lines of a scenario before its choices."""
     lines = text.split('\n')
@@ -130,8 +136,8 @@ IN_SIGHT = '''(async it => {
 class Page(browser.Browser):
     """A page of zplay."""
 
-    def __init__(self, address):
-        super().__init__(address)
+    def __init__(self, address, is_drawn=True):
+        super().__init__(address, is_drawn)
         self.wait()
 
     def open(self, address):

@@ -1,10 +1,12 @@
 """What the program gives: its subcommands over a text, and what only the text has, the names of transactions."""
 
+import fcntl
 import os
 import resource
 import signal
 import subprocess
 import sys
+from contextlib import suppress
 
 TOP = os.path.dirname(os.path.dirname(os.path.realpath(__file__)))
 
@@ -16,6 +18,9 @@ BYTES = {'encoding': 'utf-8', 'errors': 'surrogateescape'}
 
 # The most that one call of the program may take, by the kind of the resource; all that the system allows of a kind that is not here.
 LIMITS = {}
+
+# The bytes that a pipe has room for: most answers go in whole, so that nobody waits for the other.
+PIPE = 1 << 20
 
 # The most seconds that one call may take, whatever it does; None for any.
 PATIENCE = None
@@ -45,7 +50,14 @@ def ask(words, given, good=(0,), quiet=False):
 
 def answer(words, given, good=(0,), quiet=True):
     """The lines that the program writes, and with `quiet` what it says on standard error."""
+    written, said = texts(words, given, good, quiet)
+    return written.splitlines(), said
+
+
+def texts(words, given, good=(0,), quiet=True):
+    """The same with what the program writes in one text."""
     with start(words, stdin=subprocess.PIPE, stdout=subprocess.PIPE, stderr=subprocess.PIPE if quiet else None) as process:
+        widen(process.stdin, process.stdout)
         try:
             written, said = process.communicate(given, PATIENCE)
         except subprocess.TimeoutExpired:
@@ -54,7 +66,14 @@ def answer(words, given, good=(0,), quiet=True):
     said = (said or b'').decode(**BYTES).strip()
     if process.returncode not in good:
         raise Refused(process.returncode, said)
-    return written.decode(**BYTES).splitlines(), said
+    return written.decode(**BYTES), said
+
+
+def widen(*pipes):
+    """Gives pipes more room, where the system lets a user have it."""
+    for pipe in pipes:
+        with suppress(OSError):
+            fcntl.fcntl(pipe, fcntl.F_SETPIPE_SZ, PIPE)
 
 
 def start(words, limits=None, **pipes):
@@ -79,13 +98,13 @@ def cut(text):
     """The scenario part of a text, and what is below it."""
     lines = text.split('\n')
     for number, line in enumerate(lines):
-        if words_of(line) == ['end']:
+        if 'end' in line and words_of(line) == ['end']:
             return '\n'.join(lines[:number + 1]) + '\n', '\n'.join(lines[number + 1:])
     return text, ''
 
 
 def names_of(text):
     """The name that the text gives each of its transactions; '' for one that has its number alone."""
-    heads = [words_of(line) for line in text.split('\n')]
+    heads = [words_of(line) for line in text.split('\n') if 'txn' in line]
     names = [head[1] for head in heads if head[:1] == ['txn'] and len(head) == 2]
     return ['' if name[0].isdigit() else name for name in names]

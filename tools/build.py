@@ -2,9 +2,10 @@
 
     build.py [zy_bench | zy_first]
 
-The program is zy_bench, if none is named; zy_first uses fewer crates. A line on standard error for each crate as it is proved: its time, how many
-are left, and how long they take by estimate. What rt writes goes to crates/build.log."""
+The program is zy_bench, if none is named; zy_first uses fewer crates. What is proved and how long it takes is said first. A line on standard error for
+each crate as it is proved: its time, how many are left, and how long they take by estimate. What rt writes goes to crates/build.log."""
 
+import math
 import os
 import re
 import shutil
@@ -179,6 +180,12 @@ class Build:
             say('%s: proved in %d s%s' % (proof.name, took, self.outlook()))
         return True
 
+    def estimate(self):
+        """How many minutes the proofs take on one processor, and by estimate on those that are here: about a sixth of it goes one after the other, however
+        many there are."""
+        total = sum(self.cost(name) for name in self.needs)
+        return math.ceil(total), math.ceil(total / 6 + total * 5 / 6 / self.room)
+
     def outlook(self):
         """How many crates are left, and how long they take at the pace so far."""
         left = len(self.needs) - len(self.done)
@@ -206,6 +213,8 @@ def main():
     build = Build()
     say('%s is not built of these sources: its %d crates are proved now, at most %d side by side; the log is %s' % (
         PROGRAM, len(build.needs), build.room, LOG))
+    say('by docs/gate.md that takes %d minutes of one processor, and about %d here; a look without proofs takes some minutes: '
+        './zy_bench --unproved run < FILE, or another command of zy_bench' % build.estimate())
     try:
         while build.left or build.under_way:
             build.begin()

@@ -122,8 +122,8 @@ class Run:
         self.programs = programs_of(self.scenario)
         self.names = names or [''] * len(self.programs)
         self.verdict = self.final[-2]
-        self.steps = []
-        self.read_lines(lines[here + 2:end])
+        self.steps, self.lines = [], lines[here + 2:end]
+        self.read_lines()
         self.messages = [message for link in LINKS for message in messages_of(link, self.links[link])]
         note_met(self.messages, self.steps)
         self.lives = [life_of(txn, timeline) for txn, timeline in enumerate(self.txns)]
@@ -134,10 +134,10 @@ class Run:
             if step.action == 'run':
                 self.tries.setdefault(step.txn, []).append(step)
 
-    def read_lines(self, lines):
+    def read_lines(self):
         """Makes the timelines. A page that comes up later is '' until then."""
         found = {}
-        for line in lines:
+        for line in self.lines:
             if line.startswith('  '):
                 subject = tuple(line.split(None, 2)[:2])
                 found.setdefault(subject, [(0, '')] if self.steps else []).append((len(self.steps), line[2:]))

@@ -1,5 +1,7 @@
 """How a step looks: the kind of its mark, and whether its transaction waits."""
 
+from functools import lru_cache
+
 from waiting import freed
 
 LOOKS = {'did': 'did', 'began': 'begin', 'committed': 'ok', 'aborted': 'bad', 'waits': 'wait', 'awaits': 'wait', 'held': 'wait',
@@ -12,7 +14,13 @@ STUCK = ('waits', 'awaits', 'pulls', 'notyet')
 
 def look_of(step):
     """did, begin, ok, bad, wait, pull, split, take, send; quiet where nothing happens."""
-    return LOOKS.get(step.outcome.split()[0], 'quiet')
+    return looks(step.outcome)
+
+
+@lru_cache(1 << 12)
+def looks(outcome):
+    """The look of each step with an outcome: there are few of them."""
+    return LOOKS.get(outcome.split()[0], 'quiet')
 
 
 def stuck(run, life):

@@ -38,10 +38,10 @@ POOL = ThreadPoolExecutor(len(os.sched_getaffinity(0)))
 def whole_run(asked):
     """The run as the page of `zview` has it: what is another than in the run that the page shows, and the pieces of the drawing near a position."""
     base, old = known(asked.get('base', ''))
-    name, run = kept(asked['text'], title_of(asked))
+    name, run = kept(asked['text'], title_of(asked), old)
     row = run.shown['rowOf'][max(0, min(asked.get('at', 0), run.shown['last']))]
     near = row // CHUNK
-    return {'name': name, 'base': base, **changes(old, run.shown), 'pieces': run.pieces([near - 1, near, near + 1])}
+    return {'name': name, 'base': base, **changes(old.shown if old else {}, run.shown), 'pieces': run.pieces([near - 1, near, near + 1])}
 
 
 def drawn(asked):
@@ -66,17 +66,17 @@ def fault_of(refused):
 
 # ---- choices
 
-def tried(text, choice):
-    """The last step of a text with one more choice, and the lines of the state at its end."""
-    above = bench.cut(text)[0].rstrip('\n').rpartition('\n')[0]
-    listing = bench.ask(['run'], '\n'.join([above, choice, 'end', '']).encode(**bench.BYTES), quiet=True)
-    final = listing.index('final')
-    return listing[final - 1], listing[final + 1:-2]
+def tried(above, choice):
+    """The last step of a text, whose lines above its end are given, with one more choice; and the lines of the state then."""
+    listing, _ = bench.texts(['run'], '\n'.join([above, choice, 'end', '']).encode(**bench.BYTES))
+    steps, _, final = listing.rpartition('\nfinal\n')
+    return steps[steps.rindex('\n') + 1:], final.split('\n')[:-3]
 
 
 def outcomes_of(asked):
     """For each of some choices what would come of it, whether it would change anything, what that is, and whom it waits for."""
-    (_, before), *after = POOL.map(lambda choice: tried(asked['text'], choice), [''] + asked['choices'][:MOST])
+    above = bench.cut(asked['text'])[0].rstrip('\n').rpartition('\n')[0]
+    (_, before), *after = POOL.map(lambda choice: tried(above, choice), [''] + asked['choices'][:MOST])
     steps = [runs.step_of(line) for line, _ in after]
     meaning, waits = outcomes.meanings({step.outcome for step in steps}), waits_of(asked['text'], steps)
     return [{'outcome': step.line.split(' -> ')[1], 'look': look_of(step), 'acts': state != before, 'waits': wait,

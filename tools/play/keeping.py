@@ -4,10 +4,10 @@ import threading
 from collections import OrderedDict
 from hashlib import sha256
 
-import runs
 from picture.drawing import Picture
 from picture.page import pieces, run_of
 from picture.rows import LONG, Rows
+from play.growing import grown
 
 # At least as many runs are kept; and more, as long as all together have no more steps: those of short ones, which undo and branches come back to.
 LEAST, MOST_STEPS = 8, 1 << 14
@@ -19,10 +19,10 @@ KEPT, LOCK = OrderedDict(), threading.Lock()
 
 
 class Kept:
-    """A run with its picture, and what the page's script shows of it."""
+    """A run with its picture, and what the page's script shows of it; an old one may be kept that begins alike."""
 
-    def __init__(self, text, title):
-        run = runs.read(text, quiet=True)
+    def __init__(self, text, title, old=None):
+        run = grown(text, old and old.picture.run)
         self.picture = Picture(run, Rows(run.steps, len(run.steps) > LONG), title)
         self.shown, self.heights = run_of(self.picture), pieces(self.picture)
 
@@ -36,12 +36,12 @@ def name_of(text, title):
     return sha256(('%s\0%s' % (title, text)).encode('utf-8', 'surrogatepass')).hexdigest()
 
 
-def kept(text, title):
-    """A run, read where it is not kept, and its name."""
+def kept(text, title, old=None):
+    """A run, read where it is not kept, and its name; an old one may begin alike."""
     name = name_of(text, title)
     with LOCK:
         found = KEPT.pop(name, None)
-    found = found or Kept(text, title)
+    found = found or Kept(text, title, old)
     with LOCK:
         KEPT[name] = found
         while len(KEPT) > LEAST and sum(1 + run.shown['last'] for run in KEPT.values()) > MOST_STEPS:
@@ -50,10 +50,10 @@ def kept(text, title):
 
 
 def known(name):
-    """What the page has of a run that it names; nothing where that is not kept any more."""
+    """A run that the page names, and its name; nothing where it is not kept any more."""
     with LOCK:
         found = KEPT.get(name)
-    return (name, found.shown) if found else ('', {})
+    return (name, found) if found else ('', None)
 
 
 def growth(old, new):

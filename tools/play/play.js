@@ -118,11 +118,12 @@ function forget() {
   $('found').textContent = '';
   drawAnswer();
 }
-// Puts the text where it is typed in. Nobody sees it there, but what is painted; so a long one is put there once the picture is drawn.
+// Puts the text where it is typed in. Nobody sees it there, but what is painted; and a browser lays a long one out anew as a whole. So it is put there once
+// the picture is drawn and no other click has come, or at once where the pointer or the focus comes to it.
 function fillText() {
   if ($('text').value !== doc.text) $('text').value = doc.text;
 }
-const fillTextSoon = debounced(fillText, 150);
+const fillTextSoon = debounced(fillText, 600);
 // Takes another text, and shows its run at a position; Infinity is its end.
 async function setText(text, at) {
   doc = {text, at};
@@ -455,7 +456,7 @@ $('text').oninput = () => {
   paint();
   setTypedSoon();
 };
-$('text').onfocus = fillText;
+$('text').onfocus = $('text').onpointerenter = fillText;
 $('text').onkeydown = event => {
   if (event.key === 'Escape') $('view').focus();
   if (event.key.toLowerCase() !== 'z' || !(event.ctrlKey || event.metaKey)) return;

@@ -1,0 +1,99 @@
+-- Worked lines: what some words spell, and what agrees with it, computed.
+use Rattle.std.proofs.Common.{◌≡◌, ℕ, ◌++◌, List, [], ◌∷◌, None, Some, Ok, Err, codes, refl}
+use Rattle.zy_isa.specs.declared.node.Node.TheVariants.{A, B}
+use Rattle.zy_isa.specs.declared.choice.Choice.TheVariants.{Take, Push, Run, Begin}
+use Rattle.zy_links.specs.declared.kind.Kind.TheVariants as message
+use Rattle.zy_table.specs.declared.outcome.Outcome.TheVariants as outcome
+use Rattle.zy_text.specs.Words.{words_of}
+use Rattle.zy_logs.specs.declared.expected.Expected.TheVariants as expected
+use Rattle.zy_logs.specs.declared.told.Told.TheVariants as told
+use Rattle.zy_logs.specs.declared.txns.Txns.{Txns}
+use Rattle.zy_logs.specs.Agrees.{Tells}
+use Rattle.zy_logs.specs.Txns.{place}
+use Rattle.zy_logs.specs.Vocabulary as word
+use Rattle.zy_logs.specs.Lines as line
+use Rattle.zy_logs.specs.Lines.{line_of}
+use Rattle.zy_logs.specs.Logs.{logs_of}
+
+-- opens the definitions of what words begin with
+unfoldable open_all : ℕ
+unfolding word.node word.kind word.lone_reason word.lone_outcome word.lone_got line.got line.paged line.outcome_of
+open_all = 0
+
+module _ (txns : Txns) where
+  -- a choice, its outcome and a message
+  takes : line_of txns (words_of (codes "A take -> got ready ! dual"))
+      ≡ Ok (record { choice = Take A; told = Some told.GotReady; sent = Some message.Dual })
+  unfolding open_all
+  takes = refl
+
+  -- a choice alone
+  alone : line_of txns (words_of (codes "  B take ; nothing was logged")) ≡ Ok (record { choice = Take B; told = None; sent = None })
+  unfolding open_all
+  alone = refl
+
+  -- what came was not logged, and a message was
+  unknown : line_of txns (words_of (codes "B push -> ? ! page")) ≡ Ok (record { choice = Push B; told = None; sent = Some message.Page })
+  unfolding open_all
+  unknown = refl
+
+  -- the number is left out before a message
+  without_page : line_of txns (words_of (codes "B push -> pushed ! page"))
+      ≡ Ok (record { choice = Push B; told = Some (told.Pushed None); sent = Some message.Page })
+  unfolding open_all
+  without_page = refl
+
+  -- `took` is no outcome
+  no_outcome : line_of txns (words_of (codes "B take -> took page 3")) ≡ Err (record { word = 3; expected = expected.Outcome })
+  unfolding open_all
+  no_outcome = refl
+
+  -- `take` has no number behind it
+  no_number : line_of txns (words_of (codes "A take 3")) ≡ Err (record { word = 2; expected = expected.AfterChoice })
+  unfolding open_all
+  no_number = refl
+
+  -- the kind of the message is missing
+  no_kind : line_of txns (words_of (codes "A take -> got ready !")) ≡ Err (record { word = 6; expected = expected.Message })
+  unfolding open_all
+  no_kind = refl
+
+  -- a transaction by its number
+  begins : txns.count ≡ 1 → line_of txns (words_of (codes "C begin 0 -> began A"))
+      ≡ Ok (record { choice = Begin 0; told = Some (told.Began (Some A)); sent = None })
+  unfolding open_all
+  begins one = rw one refl
+
+  -- and by its name; the number of the commit is left out
+  commits : txns.count ≡ 1 → place txns.names.now (codes "transfer") ≡ Some 0 → line_of txns (words_of (codes "A run transfer -> committed"))
+      ≡ Ok (record { choice = Run A 0; told = Some (told.Committed None); sent = None })
+  unfolding open_all
+  commits one known = rw (known, one) refl
+
+  -- there is no transaction of this number
+  no_txn : txns.count ≡ 1 → line_of txns (words_of (codes "A run 1")) ≡ Err (record { word = 2; expected = expected.KnownTxn })
+  unfolding open_all
+  no_txn one = rw one refl
+
+  -- a text of three lines, the second of which is empty
+  abbrev text : List ℕ
+  text = codes "A take" ++ 10 ∷ 10 ∷ codes "B push"
+
+  -- its lines have the numbers of lines of the input, the first of which is 5
+  numbered : logs_of txns 2 5 text ≡ Ok (record { number = 5; line = record { choice = Take A; told = None; sent = None } }
+      ∷ record { number = 7; line = record { choice = Push B; told = None; sent = None } } ∷ [])
+  unfolding open_all
+  numbered = refl
+
+  -- the last one is one too many, where there may be one
+  too_many : logs_of txns 1 5 text ≡ Err (record { line = 7; word = 0; expected = expected.FewerLines })
+  unfolding open_all
+  too_many = refl
+
+-- the page that is told is the one that came
+page_told : Tells (told.Waits (Some 3)) (outcome.Waits 3)
+page_told = (3, refl, refl)
+
+-- any page may come where none is told
+page_left_out : Tells (told.Waits None) (outcome.Waits 7)
+page_left_out = (7, refl, tt)

@@ -1,0 +1,15 @@
+-- The lines that were taken, and what those that are left say, are what the text says.
+use Rattle.std.proofs.Common.{◌≡◌, ◌≤◌, ◌+◌, length}
+use Rattle.zy_text.specs.Words.{lines_of}
+use Rattle.zy_logs.specs.Logs.{joined, lines_from, logs_of}
+use Rattle.zy_logs.proofs.logs.read_logs.Given as goal
+
+abbrev pub invariant-loop-rest : goal.invariant-loop-rest
+invariant-loop-rest l = record {
+  same : logs_of l.txns l.most l.first l.text
+      ≡ joined l.lines.items (lines_from l.txns l.most (length l.lines.items) l.number (lines_of l.rest));
+  within : l.number + length l.rest ≤ l.first + length l.text;
+}
+
+abbrev pub decreases-loop-rest : goal.decreases-loop-rest
+decreases-loop-rest l = length l.rest

@@ -1,0 +1,121 @@
+-- The line of a log that words spell: CHOICE, then [ -> OUTCOME ], then [ ! KIND ].
+use Rattle.std.specs.Prelude.{ℕ, ◌-◌, List, codes, length, Option, Some, None, Result, Ok, Err, if◌then◌else◌}
+use Rattle.zy_isa.specs.declared.node.Node.{Node}
+use Rattle.zy_isa.specs.declared.node.Node.TheVariants.{A, B}
+use Rattle.zy_isa.specs.declared.choice.Choice.{Choice}
+use Rattle.zy_isa.specs.declared.choice.Choice.TheVariants as choice
+use Rattle.zy_isa.specs.Results.{◌>>=◌}
+use Rattle.zy_links.specs.declared.kind.Kind.{Kind}
+use Rattle.zy_logs.specs.declared.expected.Expected.TheVariants as expected
+use Rattle.zy_logs.specs.declared.expected.Misread.{Misread}
+use Rattle.zy_logs.specs.declared.log_line.LogLine.{LogLine}
+use Rattle.zy_logs.specs.declared.told.Told.{Told}
+use Rattle.zy_logs.specs.declared.told.Told.TheVariants as told
+use Rattle.zy_logs.specs.declared.txns.Txns.{Txns}
+use Rattle.zy_logs.specs.Words.{Word, Read, first, after, are_none, begin_with, end_outcome, refused, gives, made}
+use Rattle.zy_logs.specs.Parts.{or_none, page, place, txn, node_at, reason}
+use Rattle.zy_logs.specs.Vocabulary as word
+
+-- ---- CHOICE
+
+-- a choice of the client, after `C`
+abbrev pub client_choice : Txns → List Word → Read Choice
+client_choice txns ws =
+    if begin_with (codes "start") ws then Ok (choice.Start, after ws) else
+    if begin_with (codes "begin") ws then made choice.Begin (txn txns (after ws)) else
+    if begin_with (codes "kill") ws then made choice.Kill (txn txns (after ws)) else
+    refused expected.ClientAction ws
+
+-- a choice of a node, after its name
+abbrev pub node_choice : Txns → Node → List Word → Read Choice
+node_choice txns n ws =
+    if begin_with (codes "run") ws then made (choice.Run n) (txn txns (after ws)) else
+    if begin_with (codes "take") ws then Ok (choice.Take n, after ws) else
+    if begin_with (codes "finish") ws then Ok (choice.Finish n, after ws) else
+    if begin_with (codes "push") ws then Ok (choice.Push n, after ws) else
+    refused expected.NodeAction ws
+
+abbrev pub choice_of : Txns → List Word → Read Choice
+choice_of txns ws =
+    if begin_with (codes "C") ws then client_choice txns (after ws) else
+    if begin_with (codes "A") ws then node_choice txns A (after ws) else
+    if begin_with (codes "B") ws then node_choice txns B (after ws) else
+    refused expected.Actor ws
+
+-- ---- OUTCOME: its node, its reason and its numbers may be left out, of a split the last ones
+
+-- P Q B, after `split`
+abbrev pub split : List Word → Read Told
+split ws = do
+  p ← or_none page ws
+  q ← or_none page p.1
+  b ← or_none page q.1
+  Ok (told.Split p.0 q.0 b.0, b.1)
+
+-- KIND, after `got`
+unfoldable pub got : List Word → Read Told
+got ws =
+    if begin_with (codes "pull") ws then made told.GotPull (or_none page (after ws)) else
+    if begin_with (codes "page") ws then made told.GotPage (or_none page (after ws)) else
+    gives (word.lone_got (first ws)) expected.Got ws
+
+-- an outcome with a page, or of one word
+unfoldable pub paged : List Word → Read Told
+paged ws =
+    if begin_with (codes "waits") ws then made told.Waits (or_none page (after ws)) else
+    if begin_with (codes "pulls") ws then made told.Pulls (or_none page (after ws)) else
+    if begin_with (codes "awaits") ws then made told.Awaits (or_none page (after ws)) else
+    if begin_with (codes "stale") ws then made told.Stale (or_none page (after ws)) else
+    if begin_with (codes "held") ws then made told.Held (or_none page (after ws)) else
+    if begin_with (codes "pushed") ws then made told.Pushed (or_none page (after ws)) else
+    gives (word.lone_outcome (first ws)) expected.Outcome ws
+
+unfoldable pub outcome_of : Txns → List Word → Read Told
+outcome_of txns ws =
+    if begin_with (codes "began") ws then made told.Began (or_none node_at (after ws)) else
+    if begin_with (codes "committed") ws then made told.Committed (or_none place (after ws)) else
+    if begin_with (codes "aborted") ws then made told.Aborted (or_none reason (after ws)) else
+    if begin_with (codes "active") ws then made told.Active (or_none (txn txns) (after ws)) else
+    if begin_with (codes "split") ws then split (after ws) else
+    if begin_with (codes "got") ws then got (after ws) else
+    paged ws
+
+-- ---- the line
+
+-- `?` or OUTCOME, after `->`
+abbrev pub logged : Txns → List Word → Read (Option Told)
+logged txns ws = if begin_with (codes "?") ws then Ok (None, after ws) else made Some (outcome_of txns ws)
+
+-- [ -> OUTCOME ]
+abbrev pub told_of : Txns → List Word → Read (Option Told)
+told_of txns ws =
+    if begin_with (codes "->") ws then logged txns (after ws) else
+    if end_outcome ws then Ok (None, ws) else
+    refused expected.AfterChoice ws
+
+-- KIND, after `!`
+abbrev pub message : List Word → Read (Option Kind)
+message ws = made Some (gives (word.kind (first ws)) expected.Message ws)
+
+-- [ ! KIND ]
+abbrev pub sent_of : List Word → Read (Option Kind)
+sent_of ws =
+    if begin_with (codes "!") ws then message (after ws) else
+    if are_none ws then Ok (None, ws) else
+    refused expected.AfterOutcome ws
+
+-- the three parts, and nothing after them
+abbrev pub whole : Txns → List Word → Read LogLine
+whole txns ws = do
+  c ← choice_of txns ws
+  t ← told_of txns c.1
+  k ← sent_of t.1
+  if are_none k.1 then Ok (record { choice = c.0; told = t.0; sent = k.0 }, k.1) else refused expected.End k.1
+
+-- what was read of so many words, or the first word that does not fit, by how many come before it
+abbrev pub placed : {T : Type 0} → ℕ → Read T → Result T Misread
+placed count (Ok x) = Ok x.0
+placed count (Err s) = Err (record { word = count - s.left; expected = s.expected })
+
+abbrev pub line_of : Txns → List Word → Result LogLine Misread
+line_of txns ws = placed (length ws) (whole txns ws)

@@ -1,0 +1,59 @@
+-- Numbers, nodes, reasons and transactions, and which of them may be left out.
+use Rattle.std.specs.Prelude.{ℕ, List, codes, nat_le, nat_lt, Option, Some, None, Ok, if◌then◌else◌}
+use Rattle.zy_isa.specs.declared.node.Node.{Node}
+use Rattle.zy_isa.specs.Results.{◌>>=◌}
+use Rattle.zy_text.specs.Words.{number_of, is_numeral}
+use Rattle.zy_text.specs.Names.{is_name}
+use Rattle.zy_logs.specs.declared.expected.Expected.TheVariants as expected
+use Rattle.zy_logs.specs.declared.told.Reason.{Reason}
+use Rattle.zy_logs.specs.declared.told.Reason.TheVariants as a_reason
+use Rattle.zy_logs.specs.declared.txns.Txns.{Txns}
+use Rattle.zy_logs.specs.Words.{Word, Read, first, after, begin_with, end_outcome, refused, gives, made}
+use Rattle.zy_logs.specs.Txns.{named}
+use Rattle.zy_logs.specs.Vocabulary as word
+
+-- a part that may be left out where an outcome ends
+abbrev pub or_none : {T : Type 0} → (List Word → Read T) → List Word → Read (Option T)
+or_none part ws = if end_outcome ws then Ok (None, ws) else made Some (part ws)
+
+-- a number of 1 to 10 digits
+abbrev pub digits : List Word → Read ℕ
+digits ws = gives (number_of (first ws)) expected.Number ws
+
+-- such a number, not above `most`
+abbrev pub number : ℕ → List Word → Read ℕ
+number most ws = do
+  n ← digits ws
+  if nat_le n.0 most then Ok n else refused (expected.AtMost most) ws
+
+-- P, and B of a split
+abbrev pub page : List Word → Read ℕ
+page ws = number 65535 ws
+
+-- I
+abbrev pub place : List Word → Read ℕ
+place ws = number 64 ws
+
+-- the number of one of so many transactions
+abbrev pub numbered : ℕ → List Word → Read ℕ
+numbered count ws = do
+  n ← digits ws
+  if nat_lt n.0 count then Ok n else refused expected.KnownTxn ws
+
+-- T: the number or the name of a transaction
+abbrev pub txn : Txns → List Word → Read ℕ
+txn txns ws =
+    if is_numeral (first ws) then numbered txns.count ws else
+    if is_name (first ws) then gives (named txns (first ws)) expected.KnownTxn ws else
+    refused expected.Txn ws
+
+-- N
+abbrev pub node_at : List Word → Read Node
+node_at ws = gives (word.node (first ws)) expected.Node ws
+
+-- WHY; its page may be left out
+abbrev pub reason : List Word → Read Reason
+reason ws =
+    if begin_with (codes "frozen") ws then made a_reason.Frozen (or_none page (after ws)) else
+    if begin_with (codes "gone") ws then made a_reason.Gone (or_none page (after ws)) else
+    gives (word.lone_reason (first ws)) expected.Reason ws

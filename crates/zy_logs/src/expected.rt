@@ -1,0 +1,118 @@
+//! Why a line of a log is refused.
+ghost use Rattle.std.specs.Prelude.{◌≡◌};
+ghost use Rattle.zy_logs.specs.Kinds.{kind_of};
+
+use std::fmt;
+
+/// The kind of fault that a line has. Each is named as the fault of a scenario text.
+#[derive(Clone, Copy, Debug, PartialEq, Eq)]
+pub enum FaultKind {
+    /// A word is not known here, or there are too few or too many.
+    Word,
+    /// A word is not 1 to 10 digits where a number is due.
+    Number,
+    /// A number is too large.
+    Range,
+    /// The scenario does not have the transaction.
+    Label,
+    /// There are too many choices.
+    Count,
+}
+
+/// What may stand in the place of a word.
+#[derive(Clone, Copy)]
+pub enum Expected {
+    Actor,
+    ClientAction,
+    NodeAction,
+    /// The number or the name of a transaction.
+    Txn,
+    /// A transaction that the scenario has.
+    KnownTxn,
+    /// What may follow a choice.
+    AfterChoice,
+    Outcome,
+    /// The kind of a message that was taken.
+    Got,
+    Node,
+    Reason,
+    /// 1 to 10 digits.
+    Number,
+    /// A number of at most this.
+    AtMost(u64),
+    /// What may follow an outcome.
+    AfterOutcome,
+    /// The kind of a message that was sent.
+    Message,
+    /// The end of the line.
+    End,
+    /// No line: there are as many choices as there may be.
+    FewerLines,
+}
+
+impl Expected {
+    /// The kind of fault that any other word is.
+    pub fn kind(self) -> FaultKind
+        ensures { result ≡ kind_of self }
+    {
+        match self {
+            Expected::Number => FaultKind::Number,
+            Expected::AtMost(_) => FaultKind::Range,
+            Expected::KnownTxn => FaultKind::Label,
+            Expected::FewerLines => FaultKind::Count,
+            Expected::Actor => FaultKind::Word,
+            Expected::ClientAction => FaultKind::Word,
+            Expected::NodeAction => FaultKind::Word,
+            Expected::Txn => FaultKind::Word,
+            Expected::AfterChoice => FaultKind::Word,
+            Expected::Outcome => FaultKind::Word,
+            Expected::Got => FaultKind::Word,
+            Expected::Node => FaultKind::Word,
+            Expected::Reason => FaultKind::Word,
+            Expected::AfterOutcome => FaultKind::Word,
+            Expected::Message => FaultKind::Word,
+            Expected::End => FaultKind::Word,
+        }
+    }
+}
+
+/// What a person reads of it.
+impl fmt::Display for Expected {
+    fn fmt<W: fmt::Write>(&self, f: &mut fmt::Formatter<W>) -> fmt::Result {
+        let words = match self {
+            Expected::Actor => "a line of a log begins with C, A or B",
+            Expected::ClientAction => "after C comes start, begin T or kill T",
+            Expected::NodeAction => "after A or B comes run T, take, finish or push",
+            Expected::Txn => "the number or the name of a transaction comes here",
+            Expected::KnownTxn => "the scenario does not have this transaction",
+            Expected::AfterChoice =>
+                "after a choice comes -> OUTCOME, ! KIND or the end of the line",
+            Expected::Outcome => {
+                "after -> comes ? or an outcome of the listing, of which node, reason and numbers may be left out"
+            }
+            Expected::Got => "after got comes wire, ready, dual, pull, page, finish or done",
+            Expected::Node => "after began comes A or B",
+            Expected::Reason => concat!(
+                "after aborted comes own, killed, badkey, missing, duplicate, frozen, nopage ",
+                "or gone"
+            ),
+            Expected::Number => "a number is 1 to 10 digits",
+            Expected::AtMost(most) => return write!(f, "a number from 0 to {most} comes here"),
+            Expected::AfterOutcome => "after an outcome comes ! KIND or the end of the line",
+            Expected::Message => {
+                "after ! comes the kind of the message that was sent: wire, ready, dual, pull, page, finish or done"
+            }
+            Expected::End => "nothing comes after the kind of the message that was sent",
+            Expected::FewerLines => "there are at most 4096 choices, those of the scenario counted",
+        };
+        f.write_str(words)
+    }
+}
+
+/// The word at which words are no line of a log, by how many words come before it, and what may stand in its place. Where
+/// a word is missing, it is the one behind the last.
+#[derive(Clone, Copy)]
+pub struct Misread {
+    pub word: usize,
+    pub expected: Expected,
+}

@@ -1,0 +1,19 @@
+//! Lines of logs: what they tell of steps, whether an entry agrees with it, and how they are read.
+#![tactic(auto)]
+
+pub mod expected;
+pub mod faults;
+pub mod laws;
+pub mod log_line;
+pub mod logs;
+pub mod reading;
+mod text;
+pub mod told;
+pub mod txns;
+
+pub use crate::expected::{Expected, FaultKind, Misread};
+pub use crate::faults::{ReadFault, Refusal};
+pub use crate::log_line::LogLine;
+pub use crate::logs::NumberedLine;
+pub use crate::told::{Reason, Told};
+pub use crate::txns::Txns;

@@ -1,0 +1,50 @@
+//! A line of a log.
+ghost use Rattle.std.specs.Prelude.{◌≡◌, IfSome, Some};
+ghost use Rattle.std.specs.Bool.{Decides};
+ghost use Rattle.zy_logs.specs.Agrees.{Agrees, Tells};
+
+use crate::told::{Told, tells};
+use zy_isa::Choice;
+use zy_links::Kind;
+use zy_table::{Entry, Outcome};
+
+/// A line of a log: a choice that was made, what was logged of its outcome, if anything was, and the kind of message that was
+/// sent, if it was logged. A line without a kind says nothing of messages: there is none that says that none was sent.
+#[derive(Clone, Copy)]
+pub struct LogLine {
+    /// The choice.
+    pub choice: Choice,
+    /// What was logged of the outcome of its step, if anything was.
+    pub told: Option<Told>,
+    /// The kind of message that its step sent, if it was logged.
+    pub sent: Option<Kind>,
+}
+
+/// Whether an outcome is what was logged, if anything was.
+fn is_outcome(told: Option<Told>, came: Outcome) -> bool
+    ensures { Decides result (IfSome told (λ t. Tells t came)) }
+{
+    match told {
+        Some(told) => tells(told, came),
+        None => true,
+    }
+}
+
+/// Whether a message of the logged kind was sent, if one was logged.
+fn is_sent(logged: Option<Kind>, came: Option<Kind>) -> bool
+    ensures { Decides result (IfSome logged (λ kind. came ≡ Some kind)) }
+{
+    match logged {
+        Some(kind) => came == Some(kind),
+        None => true,
+    }
+}
+
+impl LogLine {
+    /// Whether the line agrees with an entry of a history: what it tells of the outcome and of the message is what came.
+    pub fn agrees(&self, entry: &Entry) -> bool
+        ensures { Decides result (Agrees self.now entry.now) }
+    {
+        is_outcome(self.told, entry.outcome) && is_sent(self.sent, entry.sent)
+    }
+}

@@ -1,0 +1,98 @@
+//! Reads a line of a log, word by word. The word at hand decides what comes, and a line is refused at the first word that
+//! does not fit.
+ghost use Rattle.std.specs.Prelude.{◌≡◌, ◌≤◌};
+ghost use Rattle.zy_isa.specs.Limits.{max_txns};
+ghost use Rattle.zy_text.specs.Lines.{texts};
+ghost use Rattle.zy_logs.specs.Cursors.{left, read};
+ghost use Rattle.zy_logs.specs.Lines as spec;
+
+mod choices;
+mod cursor;
+mod outcomes;
+mod parts;
+mod words;
+
+use crate::expected::{Expected, Misread};
+use crate::log_line::LogLine;
+use crate::reading::choices::choice;
+use crate::reading::cursor::{Cursor, Parsed};
+use crate::reading::outcomes::outcome;
+use crate::reading::words::kind;
+use crate::told::Told;
+use crate::txns::Txns;
+use zy_links::Kind;
+
+/// What was logged of the outcome, after `->`: nothing, or an outcome.
+fn logged<'a>(txns: Txns<'a>, at: Cursor<'a>) -> Parsed<'a, Option<Told>>
+    requires { txns.count ≤ max_txns }
+    ensures { read result ≡ spec.logged txns.entry (left at.entry) }
+{
+    if at.is_at(b"?") {
+        return Ok((None, at.next()));
+    }
+    let (told, at) = outcome(txns, at)?;
+    Ok((Some(told), at))
+}
+
+/// What was logged of the outcome, after the choice.
+fn told<'a>(txns: Txns<'a>, at: Cursor<'a>) -> Parsed<'a, Option<Told>>
+    requires { txns.count ≤ max_txns }
+    ensures { read result ≡ spec.told_of txns.entry (left at.entry) }
+{
+    if at.is_at(b"->") {
+        logged(txns, at.next())
+    } else if at.ends_outcome() {
+        Ok((None, at))
+    } else {
+        Err(at.refuses(Expected::AfterChoice))
+    }
+}
+
+/// The kind of the message that was sent.
+fn message<'a>(at: Cursor<'a>) -> Parsed<'a, Option<Kind>>
+    ensures { read result ≡ spec.message (left at.entry) }
+{
+    let (kind, at) = at.gives(kind(at.word()), Expected::Message)?;
+    Ok((Some(kind), at))
+}
+
+/// The kind of the message that was sent, if it was logged.
+fn sent<'a>(at: Cursor<'a>) -> Parsed<'a, Option<Kind>>
+    ensures { read result ≡ spec.sent_of (left at.entry) }
+{
+    if at.is_at(b"!") {
+        message(at.next())
+    } else if at.is_end() {
+        Ok((None, at))
+    } else {
+        Err(at.refuses(Expected::AfterOutcome))
+    }
+}
+
+/// The line that begins with the word at hand, and nothing after it.
+fn whole<'a>(txns: Txns<'a>, at: Cursor<'a>) -> Parsed<'a, LogLine>
+    requires { txns.count ≤ max_txns }
+    ensures { read result ≡ spec.whole txns.entry (left at.entry) }
+{
+    let (choice, at) = choice(txns, at)?;
+    let (told, at) = told(txns, at)?;
+    let (sent, at) = sent(at)?;
+    if !at.is_end() {
+        return Err(at.refuses(Expected::End));
+    }
+    Ok((LogLine { choice, told, sent }, at))
+}
+
+/// The line of a log that words spell.
+pub fn read_line(txns: Txns<'_>, words: &[&[u8]]) -> Result<LogLine, Misread>
+    requires { txns.count ≤ max_txns }
+    ensures { result ≡ spec.line_of txns.entry (texts words.now) }
+{
+    match whole(txns, Cursor::new(words)) {
+        Ok((line, _)) => Ok(line),
+        Err(stop) => Err(Misread {
+            word: words.len().saturating_sub(stop.left),
+            expected: stop.expected,
+        }),
+    }
+}

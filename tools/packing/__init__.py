@@ -1,0 +1,1 @@
+"""A release: the tarball, what it says of itself, and how one is made of a checkout."""

@@ -1,0 +1,81 @@
+"""The release of a checkout: its program, which is proved and built first where it is not current, and the files that go along."""
+
+import os
+import subprocess
+from glob import glob
+
+from packing.archive import PLAIN, PROGRAM, Fault
+from packing.record import Release
+
+TOP = os.path.dirname(os.path.dirname(os.path.dirname(os.path.realpath(__file__))))
+SCRIPT = os.path.join(TOP, 'zy_bench')
+BUILT = os.path.join(TOP, 'crates', 'zy_bench', 'out', 'zy_bench')
+
+# What goes along, below the top.
+ALONG = ('zview', 'zdb', 'zplay', 'zsuite', 'install', 'README.md', 'CONTRIBUTING.md', 'LICENSE-APACHE', 'LICENSE-MIT', 'completions/_zy_bench',
+         'completions/zy_bench.bash', 'completions/zy_bench.fish', 'docs/*.md', 'docs/man/*.1', 'docs/pictures/*.svg', 'docs/pictures/*.png',
+         'editors/**/*.vim', 'editors/**/*.json', 'examples/*.zephyr',
+         'tools/*.py', 'tools/*/*.py', 'tools/*/*.js', 'tools/*/*.css', 'tools/*/*.html', 'tools/suite/programs/*.zephyr')
+
+# What only a checkout needs.
+LEFT_OUT = ('tools/believe.py', 'tools/build.py', 'tools/rt_once.py', 'tools/verify.py')
+
+
+class Unbuilt(Exception):
+    """The program was not built; what is wrong has been said, and this is the status."""
+
+
+def ask(*words):
+    """What ./zy_bench writes to these words."""
+    done = subprocess.run([SCRIPT, *words], stdin=subprocess.DEVNULL, stdout=subprocess.PIPE, check=False)
+    if done.returncode:
+        raise Unbuilt(done.returncode)
+    return done.stdout
+
+
+def content(path):
+    with open(path, 'rb') as file:
+        return file.read()
+
+
+def made():
+    """The release of this checkout."""
+    if not os.path.isdir(os.path.join(TOP, 'crates')):
+        raise Fault('NoSources', 'this is no checkout: there is no folder %s' % os.path.join(TOP, 'crates'))
+    sources = ask('--sources')
+    ask('--build')
+    program = content(BUILT)
+    if ask('--sources') != sources:
+        raise Fault('Changed', 'a source was changed meanwhile')
+    return Release(toolchain(), dict(line.split('  ', 1)[::-1] for line in sources.decode().splitlines()), {'zy_bench': (PROGRAM, program), **along()})
+
+
+def toolchain():
+    """The toolchain's line, which was noted when the program was built; '' where it was not."""
+    path = BUILT + '.toolchain'
+    return content(path).decode().strip() if os.path.exists(path) else ''
+
+
+def along():
+    """The files that go along with the program, each a mode and bytes by its name."""
+    files = {}
+    for path in (path for pattern in ALONG for path in found(pattern)):
+        mode = PROGRAM if os.stat(path).st_mode & 0o100 else PLAIN
+        files[os.path.relpath(path, TOP)] = mode, content(path)
+    return files
+
+
+def found(pattern):
+    """The paths of the files with such a name, below the top."""
+    return [path for path in glob(os.path.join(TOP, pattern), recursive=True) if os.path.relpath(path, TOP) not in LEFT_OUT]
+
+
+def whole(release):
+    """The release, where nothing is missing that goes along, and where its toolchain is known."""
+    for pattern in ALONG:
+        if not found(pattern):
+            raise Fault('Missing', 'there is no %s here' % pattern)
+    if not release.toolchain:
+        raise Fault('NoToolchain', 'it is not noted with which toolchain the program was built: remove %s.sum, and it is built again' % (
+            os.path.relpath(BUILT, TOP)))
+    return release
