@@ -1,5 +1,5 @@
 -- Prefix codes: what is coded, and what comes behind it, can be told from the bytes.
-use Rattle.std.proofs.Common.{◌≡◌, ◌∙◌, ℕ, zero, suc, List, [], ◌∷◌, ◌++◌, length, refl, sym, ap, ap₂, append_assoc, arith}
+use Rattle.std.proofs.Common.{◌≡◌, ◌∙◌, ℕ, List, [], ◌∷◌, ◌++◌, length, refl, sym, ap, ap₂, append_assoc, arith}
 use Rattle.std.specs.List.{flat_map}
 use Rattle.zy_pack.specs.Packed.{number, items}
 

@@ -1,5 +1,5 @@
 -- The bytes of a number are a prefix code: they can be read again.
-use Rattle.std.proofs.Common.{◌≡◌, ◌∙◌, ℕ, ◌+◌, ◌*◌, ◌/◌, ◌%◌, List, [], ◌∷◌, ◌++◌, refl, sym, ap, ap₂, true, false, nat_lt, if◌then◌else◌, inl, inr}
+use Rattle.std.proofs.Common.{◌≡◌, ◌∙◌, ℕ, ◌+◌, ◌*◌, ◌/◌, ◌%◌, List, [], ◌∷◌, ◌++◌, sym, ap, ap₂, false, nat_lt, if◌then◌else◌, inl, inr}
 use Rattle.std.proofs.lemmas.Bool.{cases_Bool}
 use Rattle.std.proofs.lemmas.Nat.{div-add-mod'}
 use Rattle.zy_pack.specs.Packed.{number, half, long}
