@@ -1,4 +1,3 @@
-pub mod CodeLemmas
 pub mod WayLemmas
 pub mod OrderLemmas
 pub mod LineLemmas

@@ -8,7 +8,7 @@ use Rattle.zy_isa.specs.Choices.{actor_of, names_below}
 use Rattle.zy_isa.specs.Scenario.{AreNamed}
 use Rattle.zy_machine.specs.Histories.{History}
 use Rattle.zy_threads.specs.Turns.{is_c, is_a, is_b}
-use Rattle.zy_order.specs.declared.log_line.LogLine.{LogLine}
+use Rattle.zy_logs.specs.declared.log_line.LogLine.{LogLine}
 use Rattle.zy_order.specs.declared.logs.Logs.{Logs}
 use Rattle.zy_order.specs.declared.plan.Plan.{Plan}
 use Rattle.zy_order.specs.Orders.{lines_of, choices_of}

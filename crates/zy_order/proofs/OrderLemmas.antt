@@ -11,10 +11,11 @@ use Rattle.zy_isa.specs.Scenario.{Scenario}
 use Rattle.zy_table.specs.State.{State}
 use Rattle.zy_table.specs.Play.{step}
 use Rattle.zy_threads.specs.Turns.{is_c, is_a, is_b}
-use Rattle.zy_order.specs.declared.log_line.LogLine.{LogLine}
+use Rattle.zy_logs.specs.declared.log_line.LogLine.{LogLine}
 use Rattle.zy_order.specs.declared.logs.Logs.{Logs}
 use Rattle.zy_order.specs.declared.cursors.Cursors.{Cursors}
-use Rattle.zy_order.specs.Orders.{Agrees, Fits, entry_at, lines_of, choices_of}
+use Rattle.zy_logs.specs.Agrees.{Agrees}
+use Rattle.zy_order.specs.Orders.{Fits, entry_at, lines_of, choices_of}
 use Rattle.zy_order.specs.Ways.{log_of, cursor, advanced, IsWay, cursors_after}
 
 -- ---- lists

@@ -4,7 +4,7 @@ use Rattle.zy_isa.specs.Limits.{max_choices}
 use Rattle.zy_isa.specs.Scenario.{AreNamed}
 use Rattle.zy_isa.specs.declared.choice.Choice.{Choice}
 use Rattle.zy_machine.specs.Histories.{History}
-use Rattle.zy_order.specs.declared.log_line.LogLine.{LogLine}
+use Rattle.zy_logs.specs.declared.log_line.LogLine.{LogLine}
 use Rattle.zy_order.specs.declared.answer.Answer.{Answer}
 use Rattle.zy_order.specs.declared.answer.Answer.TheVariants as answer
 use Rattle.zy_order.specs.Orders.{IsOrder, IsPrefixOrder, choices_of}

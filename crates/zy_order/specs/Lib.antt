@@ -1,4 +1,3 @@
-pub mod Codes
 pub mod Orders
 pub mod Ways
 pub mod Answers

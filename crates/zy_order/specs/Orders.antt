@@ -1,5 +1,5 @@
 -- Orders of the lines of three logs, one for each actor.
-use Rattle.std.specs.Prelude.{◌≡◌, ◌++◌, List, [], ◌∷◌, IfSome, Some, map}
+use Rattle.std.specs.Prelude.{◌≡◌, ◌++◌, List, [], ◌∷◌, map}
 use Rattle.std.specs.List.{filter}
 use Rattle.zy_isa.specs.declared.node.Actor.{Actor}
 use Rattle.zy_isa.specs.declared.node.Actor.TheVariants.{C, A, B}
@@ -9,11 +9,8 @@ use Rattle.zy_table.specs.declared.entry.Entry.{Entry}
 use Rattle.zy_table.specs.State.{State}
 use Rattle.zy_table.specs.Play.{step, entry_of}
 use Rattle.zy_threads.specs.Turns.{is_by}
-use Rattle.zy_order.specs.declared.log_line.LogLine.{LogLine}
-
--- a line agrees with an entry: if it has an outcome, that is the entry's, and if it has a kind, such a message was sent
-abbrev pub Agrees : LogLine → Entry → Type 0
-Agrees line e = IfSome line.outcome (λ outcome. e.outcome ≡ outcome) × IfSome line.sent (λ kind. e.sent ≡ Some kind)
+use Rattle.zy_logs.specs.declared.log_line.LogLine.{LogLine}
+use Rattle.zy_logs.specs.Agrees.{Agrees}
 
 -- what comes of a choice in a state
 abbrev pub entry_at : Scenario → State → Choice → Entry

@@ -8,10 +8,11 @@ use Rattle.zy_isa.specs.Scenario.{Scenario}
 use Rattle.zy_table.specs.declared.entry.Entry.{Entry}
 use Rattle.zy_table.specs.State.{State}
 use Rattle.zy_table.specs.Play.{step}
-use Rattle.zy_order.specs.declared.log_line.LogLine.{LogLine}
+use Rattle.zy_logs.specs.declared.log_line.LogLine.{LogLine}
 use Rattle.zy_order.specs.declared.logs.Logs.{Logs}
 use Rattle.zy_order.specs.declared.cursors.Cursors.{Cursors}
-use Rattle.zy_order.specs.Orders.{Agrees, entry_at, lines_of}
+use Rattle.zy_logs.specs.Agrees.{Agrees}
+use Rattle.zy_order.specs.Orders.{entry_at, lines_of}
 
 -- the log of an actor
 abbrev pub log_of : Actor → Logs → List LogLine

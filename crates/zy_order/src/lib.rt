@@ -2,11 +2,9 @@
 #![tactic(auto)]
 
 pub mod answer;
-mod code;
 mod cursors;
 mod expand;
 mod follow;
-pub mod log_line;
 mod logs;
 mod note;
 pub mod order;
@@ -16,4 +14,4 @@ mod turns;
 mod walk;
 
 pub use crate::answer::{Answer, Report};
-pub use crate::log_line::LogLine;
+pub use zy_logs::LogLine;

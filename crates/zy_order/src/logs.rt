@@ -6,9 +6,9 @@ ghost use Rattle.zy_order.specs.Ways.{log_of, cursor, AreLogs, AreMatched};
 ghost use Rattle.zy_threads.specs.Turns as turns;
 
 use crate::cursors::Cursors;
-use crate::log_line::LogLine;
 use std::alloc::{AllocError, Global};
 use zy_isa::{Actor, Choice};
+use zy_logs::LogLine;
 
 /// The log of each actor: its lines, in order.
 #[derive(Drop)]

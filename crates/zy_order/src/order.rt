@@ -7,12 +7,12 @@ ghost use Rattle.zy_order.specs.Reaches.{cursors_at, IsFurthest, IsPlan, IsUnder
 use crate::answer::{Answer, Report};
 use crate::cursors::Cursors;
 use crate::follow::{Followed, follow_all};
-use crate::log_line::LogLine;
 use crate::logs::Logs;
 use crate::note::digest_of;
 use crate::plan::Plan;
 use crate::reached::Reached;
 use std::alloc::Global;
+use zy_logs::LogLine;
 use zy_machine::{Fault, Machine};
 
 /// The place of a path that matches no fewer lines than any other.

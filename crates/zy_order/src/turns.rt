@@ -2,10 +2,9 @@
 ghost use Rattle.zy_order.specs.Reaches.{HasEachActor};
 
 use crate::cursors::Cursors;
-use crate::log_line::LogLine;
 use crate::logs::Logs;
 use zy_isa::{Actor, Choice};
-use zy_table::Outcome;
+use zy_logs::{LogLine, Told};
 
 /// The three actors, in the order in which their lines are tried.
 #[derive(Clone, Copy)]
@@ -22,8 +21,8 @@ pub(crate) struct Turns {
 fn rank(line: &LogLine) -> u8 {
     match line.choice {
         Choice::Begin(_) => 1,
-        Choice::Run(_, _) => match line.outcome {
-            Some(Outcome::Pulls(_)) => 3,
+        Choice::Run(_, _) => match line.told {
+            Some(Told::Pulls(_)) => 3,
             None => 3,
             _ => 2,
         },
