@@ -90,10 +90,10 @@ module _ (txns : Txns) where
   unfolding open_all
   too_many = refl
 
--- the page that is told is the one that came
+-- the logged page is the one that came
 page_told : Tells (told.Waits (Some 3)) (outcome.Waits 3)
 page_told = (3, refl, refl)
 
--- any page may come where none is told
+-- any page may come where none was logged
 page_left_out : Tells (told.Waits None) (outcome.Waits 7)
 page_left_out = (7, refl, tt)

@@ -12,11 +12,11 @@ use Rattle.zy_logs.specs.declared.told.Told.TheVariants as told
 use Rattle.zy_logs.specs.declared.log_line.LogLine.{LogLine}
 use Rattle.zy_table.specs.declared.entry.Entry.{Entry}
 
--- what is told is what came; what is left out may be any
+-- what was logged is what came; what is left out may be any
 abbrev pub Allows : {T : Type 0} → Option T → T → Type 0
 Allows told came = IfSome told (λ x. came ≡ x)
 
--- the reason that is told is that of an abort
+-- the logged reason is that of an abort
 abbrev pub TellsReason : Reason → Why → Type 0
 TellsReason reason.Own w = w ≡ why.Own
 TellsReason reason.Killed w = w ≡ why.Killed
@@ -27,7 +27,7 @@ TellsReason (reason.Frozen page) w = (p : ℕ) × (w ≡ why.Frozen p) × Allows
 TellsReason reason.NoPage w = w ≡ why.NoPage
 TellsReason (reason.Gone page) w = (p : ℕ) × (w ≡ why.Gone p) × Allows page p
 
--- the outcome that is told is the one that came
+-- the logged outcome is the one that came
 abbrev pub Tells : Told → Outcome → Type 0
 Tells told.Started o = o ≡ outcome.Started
 Tells told.BadMode o = o ≡ outcome.BadMode

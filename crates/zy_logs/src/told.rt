@@ -66,7 +66,7 @@ pub enum Told {
     NoPush,
 }
 
-/// Whether a number is the one that is told, if one is.
+/// Whether a number is the logged one, if one was logged.
 fn allows(told: Option<u16>, came: u16) -> bool
     ensures { Decides result (Allows told came) }
 {
@@ -76,7 +76,7 @@ fn allows(told: Option<u16>, came: u16) -> bool
     }
 }
 
-/// Whether a count is the one that is told, if one is.
+/// Whether a count is the logged one, if one was logged.
 fn allows_count(told: Option<u8>, came: u8) -> bool
     ensures { Decides result (Allows told came) }
 {
@@ -86,7 +86,7 @@ fn allows_count(told: Option<u8>, came: u8) -> bool
     }
 }
 
-/// Whether a node is the one that is told, if one is.
+/// Whether a node is the logged one, if one was logged.
 fn allows_node(told: Option<Node>, came: Node) -> bool
     ensures { Decides result (Allows told came) }
 {
@@ -96,7 +96,7 @@ fn allows_node(told: Option<Node>, came: Node) -> bool
     }
 }
 
-/// Whether a reason is the one that is told.
+/// Whether a reason is the logged one.
 fn tells_reason(told: Reason, why: Why) -> bool
     ensures { Decides result (TellsReason told why) }
 {
@@ -112,7 +112,7 @@ fn tells_reason(told: Reason, why: Why) -> bool
     }
 }
 
-/// Whether an abort for this reason is the one that is told, if a reason is.
+/// Whether an abort for this reason is the logged one, if a reason was logged.
 fn allows_reason(told: Option<Reason>, why: Why) -> bool
     ensures { Decides result (IfSome told (λ reason. TellsReason reason why)) }
 {
@@ -122,7 +122,7 @@ fn allows_reason(told: Option<Reason>, why: Why) -> bool
     }
 }
 
-/// Whether an outcome is a split with the page, the new page and the boundary that are told, of those that are.
+/// Whether an outcome is a split with the page, the new page and the boundary that were logged, as far as they were.
 fn tells_split(
     page: Option<u16>,
     new_page: Option<u16>,
@@ -141,7 +141,7 @@ fn tells_split(
     }
 }
 
-/// Whether an outcome is the one that is told.
+/// Whether an outcome is the logged one.
 pub(crate) fn tells(told: Told, outcome: Outcome) -> bool
     ensures { Decides result (Tells told outcome) }
 {
