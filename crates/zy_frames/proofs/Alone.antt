@@ -1,5 +1,6 @@
 -- A run that needs no more than locks, and an abort: line by line.
-use Rattle.std.proofs.Common.{◌≡◌, ◌∙◌, ℕ, List, refl, sym, ap, subst, true, false, not, nat_lt, nat_le, Option, Some, None, length}
+use Rattle.std.proofs.Common.{◌≡◌, ◌∙◌, ℕ, zero, suc, List, [], ◌∷◌, refl, sym, ap, subst, true, false, not, nat_lt, nat_le, Option, Some, None, length}
+use Rattle.std.specs.Prelude.{slice_get, slice_set}
 use Rattle.std.proofs.lemmas.Bool.{cond_both, false≢true}
 use Rattle.zy_isa.specs.Limits.{max_key}
 use Rattle.zy_isa.specs.declared.node.Node.{Node}
@@ -15,17 +16,17 @@ use Rattle.zy_table.specs.declared.access.Access.TheVariants.{Reads, Writes, Ins
 use Rattle.zy_table.specs.declared.effect.Effect.{Effect}
 use Rattle.zy_table.specs.declared.effect.Effect.TheVariants.{Sets, Jumps, Accesses, Sums, Commits, Aborts}
 use Rattle.zy_table.specs.declared.outcome.Why.{Why}
-use Rattle.zy_table.specs.State.{State, View, Move, facing, with_me}
+use Rattle.zy_table.specs.State.{State, View, Move, Txn, facing, with_me}
 use Rattle.zy_table.specs.Numbers.{has}
 use Rattle.zy_table.specs.Pages.{owns}
-use Rattle.zy_table.specs.Change.{txn_at, did, aborted, locked, shares}
+use Rattle.zy_table.specs.Change.{txn_at, txn_or, did, aborted, locked, shares}
 use Rattle.zy_table.specs.Effects.{effect_of}
 use Rattle.zy_table.specs.Client.{is_active}
 use Rattle.zy_table.specs.Run.{same_node, abort_step, set_step, jump_step, commit_or_gone, commit_step, absent_step, read_step, is_there, write_step}
 use Rattle.zy_table.specs.Run.{has_room, full_step, split_step, insert_step, lock_of, access_step, page_step, key_step, sum_step, sum_or_waits}
 use Rattle.zy_table.specs.Run.{sum_or_asks, range_step, effect_step, instr_step, run_step}
 use Rattle.zy_table.specs.Play.{move, step}
-use Rattle.zy_frames.specs.Frames.{TxnAndLocks, is_by_itself}
+use Rattle.zy_frames.specs.Frames.{TxnAndLocks, is_by_itself, taken_back}
 use Rattle.zy_frames.proofs.Rest.{face}
 
 -- a move of t from v that is by itself changes t and locks
@@ -178,3 +179,18 @@ pub run_keeps : (sc : Scenario) (n : Node) (t : ℕ) (s : State) → is_by_itsel
     → TxnAndLocks t (facing n s) (facing n (step sc (Run n t) s).after)
 unfolding step move
 run_keeps sc n t s h = subst (λ w. TxnAndLocks t (facing n s) w) (sym (face n _)) (runs t (facing n s) sc n h)
+
+-- a transaction that was set is set to what it was
+set_back : (t : ℕ) (x : Txn) (xs : List Txn) → slice_set (slice_set xs t x) t (txn_or (slice_get xs t)) ≡ xs
+set_back t x [] = refl
+set_back zero x (y ∷ ys) = refl
+set_back (suc t) x (y ∷ ys) = ap (λ zs. y ∷ zs) (set_back t x ys)
+
+-- a run is taken back
+pub run_taken_back : (sc : Scenario) (n : Node) (t : ℕ) (s : State) → is_by_itself (step sc (Run n t) s).outcome ≡ true
+    → taken_back t (facing n s) (facing n (step sc (Run n t) s).after) ≡ facing n s
+unfolding txn_at
+run_taken_back sc n t s h =
+    let v = facing n s in
+    let k = run_keeps sc n t s h in
+    ap (λ w. taken_back t v w) k.2 ∙ ap (λ xs. record v { txns = xs }) (set_back t k.0 v.txns)

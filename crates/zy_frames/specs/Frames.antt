@@ -43,3 +43,7 @@ is_by_itself o = false
 abbrev pub TxnAndLocks : ℕ → View → View → Type 0
 TxnAndLocks t old new =
     (x : Txn) × (locks : List Lock) × (new ≡ with_me (record old.me { locks = locks }) (with_txn t x old))
+
+-- the new view with t and the locks of the old one
+abbrev pub taken_back : ℕ → View → View → View
+taken_back t old new = with_me (record new.me { locks = old.me.locks }) (with_txn t (txn_at old t) new)

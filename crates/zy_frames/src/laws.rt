@@ -6,7 +6,7 @@ ghost use Rattle.zy_isa.specs.declared.node.Node.{Node};
 ghost use Rattle.zy_isa.specs.Scenario.{Scenario};
 ghost use Rattle.zy_table.specs.Play.{step, side_of};
 ghost use Rattle.zy_table.specs.State.{State, facing};
-ghost use Rattle.zy_frames.specs.Frames.{LeavesTheRest, TxnAndLocks, is_by_itself};
+ghost use Rattle.zy_frames.specs.Frames.{LeavesTheRest, TxnAndLocks, is_by_itself, taken_back};
 
 /// A step changes nothing of the other node, takes at most the first message that has come in, sends at most one, adds at
 /// most one commit, and changes at most one transaction.
@@ -20,4 +20,10 @@ pub fn a_step_leaves_the_rest()
 pub fn a_run_keeps_to_itself()
     ensures { (sc : Scenario) (n : Node) (t : ℕ) (s : State) → is_by_itself (step sc (Run n t) s).outcome ≡ true
         → TxnAndLocks t (facing n s) (facing n (step sc (Run n t) s).after) }
+{}
+
+/// Such a run is taken back by its transaction and the locks of its node, as they were before.
+pub fn a_run_can_be_taken_back()
+    ensures { (sc : Scenario) (n : Node) (t : ℕ) (s : State) → is_by_itself (step sc (Run n t) s).outcome ≡ true
+        → taken_back t (facing n s) (facing n (step sc (Run n t) s).after) ≡ facing n s }
 {}
