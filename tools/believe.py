@@ -29,14 +29,16 @@ PARTS = [
      ['zy_engine/src/threading.rt', 'zy_engine/src/debugging.rt', 'zy_engine/src/laws.rt', 'zy_threads/src/laws.rt', 'zy_console/src/laws.rt']),
     ('Goals and the search', 'What `search` and `find` answer, and what the words of a goal mean.', [],
      ['zy_engine/src/searching.rt', 'zy_engine/src/finding.rt', 'zy_goals/src/reading.rt', 'zy_search/src/search.rt', 'zy_search/src/laws.rt']),
+    ('Logs', 'What lines of logs say, and which order fits them.', [],
+     ['zy_logs/src/logs.rt', 'zy_logs/src/log_line.rt', 'zy_logs/src/laws.rt', 'zy_order/src/order.rt']),
 ]
 
 HEAD = '''# What must be believed
 
 A contract is proved of the code, but that it says what you want you must see for yourself: it speaks of the definitions in `specs/`, and of the types of
-the code. This page lists those of which the contracts of the commands and the laws speak, by themselves or by way of others, in an order in which each
-file stands behind those that it uses. What is in `specs/` and not listed here is there for proofs, or for contracts between crates, and need not be
-believed. Of the standard library's definitions they use those of numbers, lists, options, results, maps and streams.
+the code. This page lists those of which the contracts of the commands speak, those of the reader of logs and of `zy_order`, and the laws, by themselves or
+by way of others, each file after those that it uses. What is in `specs/` and not listed here is there for proofs, or for contracts between crates, of which
+the promises name some. Of the standard library's definitions they use those of numbers, lists, options, results, maps and streams.
 
 `tools/believe.py` makes this page from the imports of the files, and a test compares it.
 '''

@@ -1,4 +1,4 @@
--- A run that needs no more than locks, and an abort: line by line.
+-- A run whose outcome is `did` or an abort: line by line.
 use Rattle.std.proofs.Common.{◌≡◌, ◌∙◌, ℕ, zero, suc, List, [], ◌∷◌, refl, sym, ap, subst, true, false, not, nat_lt, nat_le, Option, Some, None, length}
 use Rattle.std.specs.Prelude.{slice_get, slice_set}
 use Rattle.std.proofs.lemmas.Bool.{cond_both, false≢true}

@@ -31,9 +31,9 @@ pub record LeavesTheRest (old new : View) : Type 0 where
   pub txn : ℕ
   pub txns : AllBut txn old new
 
--- ---- a step of a transaction that touches no page
+-- ---- a run that changes no page
 
--- an instruction that needs no more than locks, or an abort
+-- an instruction was done that leaves the pages as they are, or the transaction aborts
 abbrev pub is_by_itself : Outcome → Bool
 is_by_itself Did = true
 is_by_itself (Aborted why) = true

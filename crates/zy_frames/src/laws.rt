@@ -15,8 +15,7 @@ pub fn a_step_leaves_the_rest()
         → LeavesTheRest (facing (side_of sc choice s) s) (facing (side_of sc choice s) (step sc choice s).after) }
 {}
 
-/// An instruction that is done without a page, by locks alone, and an abort change their transaction and the locks of its
-/// node: all else is as it was.
+/// A `run` whose outcome is `did` or an abort changes its transaction and the locks of its node: all else is as it was.
 pub fn a_run_keeps_to_itself()
     ensures { (sc : Scenario) (n : Node) (t : ℕ) (s : State) → is_by_itself (step sc (Run n t) s).outcome ≡ true
         → TxnAndLocks t (facing n s) (facing n (step sc (Run n t) s).after) }
