@@ -22,7 +22,8 @@ PAGE = os.path.join(TOP, 'docs', 'believe.md')
 PARTS = [
     ('The step table', 'One step, and the run of a schedule from the opening.', ['zy_table.specs.Play.step', 'zy_table.specs.Play.play',
                                                                                'zy_table.specs.Play.opening', 'zy_table.specs.Play.entries'], []),
-    ('The laws', 'What holds of every schedule.', [], ['zy_laws/src/laws.rt', 'zy_frames/src/laws.rt', 'zy_pack/src/laws.rt', 'zy_serial/src/order.rt', 'zy_serial/src/explaining.rt']),
+    ('The laws', 'What holds of every schedule.', [],
+     ['zy_laws/src/laws.rt', 'zy_frames/src/laws.rt', 'zy_pack/src/laws.rt', 'zy_serial/src/order.rt', 'zy_serial/src/explaining.rt']),
     ('Texts, images and listings', 'What `run`, `trace`, `asm`, `dis` and `check` read and write.', [],
      ['zy_engine/src/engine.rt', 'zy_engine/src/checking.rt', 'zy_audit/src/laws.rt', 'zy_check/src/laws.rt', 'zy_trace/src/laws.rt']),
     ('Threads and the debugger', 'What `threads` and `debug` do.', [],
