@@ -112,7 +112,7 @@ whole txns ws = do
   k ← sent_of t.1
   if are_none k.1 then Ok (record { choice = c.0; told = t.0; sent = k.0 }, k.1) else refused expected.End k.1
 
--- what was read of so many words, or the first word that does not fit, by how many come before it
+-- what was read of `count` words, or the first word that does not fit, by how many come before it
 abbrev pub placed : {T : Type 0} → ℕ → Read T → Result T Misread
 placed count (Ok x) = Ok x.0
 placed count (Err s) = Err (record { word = count - s.left; expected = s.expected })

@@ -21,7 +21,7 @@ abbrev pub in_line : {T : Type 0} → ℕ → Result T Misread → Result T Refu
 in_line n (Ok x) = Ok x
 in_line n (Err e) = Err (record { line = n; word = e.word; expected = e.expected })
 
--- line n, where there is room for one more: so many come before it, and there may be `most`
+-- line n, where there is room for one more: `taken` come before it, and there may be `most`
 abbrev pub fitting : ℕ → ℕ → ℕ → LogLine → Result (Option NumberedLine) Refusal
 fitting most taken n line =
     if nat_lt taken most then Ok (Some (record { number = n; line = line })) else

@@ -34,7 +34,7 @@ page ws = number 65535 ws
 abbrev pub place : List Word → Read ℕ
 place ws = number 64 ws
 
--- the number of one of so many transactions
+-- the number of one of `count` transactions
 abbrev pub numbered : ℕ → List Word → Read ℕ
 numbered count ws = do
   n ← digits ws

@@ -9,7 +9,7 @@ use Rattle.zy_logs.specs.declared.txns.Txns.{Txns}
 abbrev pub place : List (Bor (List ℕ)) → List ℕ → Option ℕ
 place names w = position (λ n. bytes_eq n.now w) names
 
--- a number of one of so many transactions
+-- a number of one of `count` transactions
 abbrev pub below : ℕ → ℕ → Option ℕ
 below count n = if nat_lt n count then Some n else None
 

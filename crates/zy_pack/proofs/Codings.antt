@@ -1,4 +1,4 @@
--- A variant is told by its number and what it has beside.
+-- A variant is known by its number and what it has beside.
 use Rattle.std.proofs.Common.{◌≡◌, ℕ, List, [], ◌∷◌, refl, slice_index_or}
 use Rattle.zy_isa.specs.declared.node.Node.{Node}
 use Rattle.zy_isa.specs.declared.node.Node.TheVariants.{A, B}

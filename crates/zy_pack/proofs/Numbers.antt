@@ -60,7 +60,7 @@ read_again n r =
       | inr h ↦ long_again n r h
     ]
 
--- so it is told by them
+-- so it is known by them
 pub number_is_code : IsCode number
 number_is_code n m r s e =
     let same = sym (read_again n r) ∙ ap read e ∙ read_again m s in
