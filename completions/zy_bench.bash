@@ -3,7 +3,7 @@
 _zy_bench() {
   local word=${COMP_WORDS[COMP_CWORD]} before=${COMP_WORDS[COMP_CWORD - 1]} options
   if [[ $COMP_CWORD -eq 1 ]]; then
-    mapfile -t COMPREPLY < <(compgen -W 'run asm dis check threads trace debug search find help --help --version' -- "$word")
+    mapfile -t COMPREPLY < <(compgen -W 'run asm dis check threads trace debug search find order help --help --version' -- "$word")
     return
   fi
   case ${COMP_WORDS[1]} in
@@ -11,7 +11,8 @@ _zy_bench() {
     debug) options='--every --ring --help' ;;
     search) options='--image --for --always --from --kill --without --states --canon --help' ;;
     find) options='--image --for --always --help' ;;
-    help) options='run asm dis check threads trace debug search find' ;;
+    order) options='--states --canon --help' ;;
+    help) options='run asm dis check threads trace debug search find order' ;;
     *) options='--help' ;;
   esac
   if [[ $before == --for ]]; then

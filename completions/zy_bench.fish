@@ -1,5 +1,5 @@
 # Completion of zy_bench, zview, zdb, zplay and zsuite for fish.
-set -l commands run asm dis check threads trace debug search find help
+set -l commands run asm dis check threads trace debug search find order help
 
 complete -c zy_bench -f -n "not __fish_seen_subcommand_from $commands" -a "$commands"
 complete -c zy_bench -f -n '__fish_seen_subcommand_from help' -a "$commands"
@@ -15,8 +15,8 @@ complete -c zy_bench -l from -x -d 'Take the first N choices as taken' -n '__fis
 complete -c zy_bench -l kill -d 'Transactions may be killed' -n '__fish_seen_subcommand_from search'
 complete -c zy_bench -l without -x -d 'Leave out choices of this kind' -n '__fish_seen_subcommand_from search' \
   -a 'start begin kill run take finish push'
-complete -c zy_bench -l canon -d 'Write canonical text' -n '__fish_seen_subcommand_from search'
-complete -c zy_bench -l states -x -d 'Look at N states at most' -n '__fish_seen_subcommand_from search'
+complete -c zy_bench -l canon -d 'Write canonical text' -n '__fish_seen_subcommand_from search order'
+complete -c zy_bench -l states -x -d 'Look at N states at most' -n '__fish_seen_subcommand_from search order'
 
 complete -c zview -l svg -d 'The picture alone'
 complete -c zview -l mermaid -d 'A sequenceDiagram'

@@ -176,6 +176,11 @@ def refuser(folder):
     return made
 
 
+def example_names():
+    """The scenarios in examples/."""
+    return sorted(name for name in os.listdir(EXAMPLES) if name.endswith('.zephyr'))
+
+
 def is_built():
     """Whether the program is there, once ./zy_bench has built it where it was not."""
     words = [os.path.join(TOP, 'zy_bench'), '--version']

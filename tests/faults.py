@@ -359,6 +359,15 @@ SCRIPT_FAULTS = [
     script('zplay: it says that it builds where there is no rt', 'zplay', " and shutil.which('rt'):", ':', 'releases missing'),
     script('zplay: it does not say that the page opens later', 'zplay', '    say_what_comes()\n    bench', '    bench', 'releases unbuilt'),
     script('zsuite: a fault without words has a line', 'zsuite', '        if refused.words:\n', '        if True:\n', 'releases missing'),
+    script('store: the end is not compared', 'examples/store/rounds.py', 'if pair[0] != pair[1]]', 'if False]', 'store'),
+    script('store: a lock of another transaction is overlooked', 'examples/store/node.py', "if 'exclusive' in others or others and", 'if others and', 'store'),
+    script('store: --crash of try ignored', 'examples/store/try', 'if options.crash else None', 'if False else None', 'store'),
+    script('store: a sum has no modulus', 'examples/store/node.py', 'value % 2 ** 32', 'value', 'store'),
+    script('store: an insert does not count the private rows of its page', 'examples/store/node.py', 'len(rows) + len(inserted) >=', 'len(rows) >=', 'store'),
+    script('store: a line that a crash cut is not ended', 'examples/store/rounds.py', "(not text.endswith('\\n') and text != '')", '0', 'store'),
+    script('store: try runs ten rounds', 'examples/store/try', 'default=20', 'default=10', 'store'),
+    script('zy_bench: its manual page has another default', 'docs/man/zy_bench.1', 'N states: default 1000000', 'N states: default 100000', 'manuals'),
+    script('store: --rule of try ignored', 'examples/store/try', 'options.rule or RULES[number % 2]', 'RULES[number % 2]', 'store'),
 ]
 
 COMMAND_LINE, WORDS = 'zy_bench/src/command_line.rt', 'zy_goals/src/reading/words.rt'
@@ -412,6 +421,11 @@ PROGRAM_FAULTS = [
     program(6, 'find has found something wherever it looks', 'zy_bench/src/answering.rt', 'if count == 0 { NOWHERE } else { DONE }', 'DONE', '^find-none', 'run'),
     program(6, 'a found schedule has no names', 'zy_engine/src/wording.rt',
             'Some(name) if !name.is_empty() =>', 'Some(name) if name.len() > 99 =>', '^search-own-words:', 'run'),
+    program(3, 'order names a next line that fits', 'zy_bench/src/furthest.rt',
+            'Some(entry) if !line.line.agrees(&entry) =>', 'Some(entry) =>', '^order-spent:', 'run'),
+    program(4, 'order knows no names of transactions', 'zy_ordering/src/names.rt', 'is(first, b"txn")', 'is(first, b"txm")', '^order-found:', 'run'),
+    program(5, 'order counts the lines of the client as those of B', 'zy_bench/src/furthest.rt',
+            'Actor::C => &mut self.c,', 'Actor::C => &mut self.b,', '^order-nowhere:', 'run'),
     program(7, '--from takes one more', COMMAND_LINE, 'usize::from(count))', 'usize::from(count) + 1)', '^search-own-words-from:', 'run'),
     program(7, '--without run leaves pushes out', COMMAND_LINE, '            run: false,', '            push: false,', '^search-without-each', 'run'),
     program(3, 'a goal is warned of by its first page alone', 'zy_goals/src/named.rt', 'pages: self.pages.max(other.pages)', 'pages: self.pages', 'both: |a request: ', 'searches'),

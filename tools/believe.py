@@ -23,21 +23,23 @@ PARTS = [
     ('The step table', 'One step, and the run of a schedule from the opening.', ['zy_table.specs.Play.step', 'zy_table.specs.Play.play',
                                                                                'zy_table.specs.Play.opening', 'zy_table.specs.Play.entries'], []),
     ('The laws', 'What holds of every schedule.', [],
-     ['zy_laws/src/laws.rt', 'zy_frames/src/laws.rt', 'zy_pack/src/laws.rt', 'zy_serial/src/order.rt', 'zy_serial/src/explaining.rt']),
+     ['zy_laws/src/laws.rt', 'zy_frames/src/laws.rt', 'zy_alike/src/laws.rt', 'zy_pack/src/laws.rt', 'zy_parts/src/laws.rt', 'zy_memo/src/laws.rt',
+      'zy_serial/src/order.rt', 'zy_serial/src/explaining.rt']),
     ('Texts, images and listings', 'What `run`, `trace`, `asm`, `dis` and `check` read and write.', [],
      ['zy_engine/src/engine.rt', 'zy_engine/src/checking.rt', 'zy_audit/src/laws.rt', 'zy_check/src/laws.rt', 'zy_trace/src/laws.rt']),
     ('Threads and the debugger', 'What `threads` and `debug` do.', [],
      ['zy_engine/src/threading.rt', 'zy_engine/src/debugging.rt', 'zy_engine/src/laws.rt', 'zy_threads/src/laws.rt', 'zy_console/src/laws.rt']),
     ('Goals and the search', 'What `search` and `find` answer, and what the words of a goal mean.', [],
      ['zy_engine/src/searching.rt', 'zy_engine/src/finding.rt', 'zy_goals/src/reading.rt', 'zy_search/src/search.rt', 'zy_search/src/laws.rt']),
-    ('Logs', 'What lines of logs say, and which order fits them.', [],
-     ['zy_logs/src/logs.rt', 'zy_logs/src/log_line.rt', 'zy_logs/src/laws.rt', 'zy_order/src/order.rt']),
+    ('Logs', 'What lines of logs say, which order fits them, and what `order` does.', [],
+     ['zy_logs/src/logs.rt', 'zy_logs/src/log_line.rt', 'zy_logs/src/laws.rt', 'zy_order/src/order.rt', 'zy_ordering/src/ordering.rt',
+      'zy_ordering/src/laws.rt']),
 ]
 
 HEAD = '''# What must be believed
 
 A contract is proved of the code, but that it says what you want you must see for yourself: it speaks of the definitions in `specs/`, and of the types of
-the code. This page lists those of which the contracts of the commands speak, those of the reader of logs and of `zy_order`, and the laws, by themselves or
+the code. This page lists those of which the contracts of the commands speak, and the laws, by themselves or
 by way of others, each file after those that it uses. What is in `specs/` and not listed here is there for proofs, or for contracts between crates, of which
 the promises name some. Of the standard library's definitions they use those of numbers, lists, options, results, maps and streams.
 

@@ -13,8 +13,8 @@ BUILT = os.path.join(TOP, 'crates', 'zy_bench', 'out', 'zy_bench')
 
 # What goes along, below the top.
 ALONG = ('zview', 'zdb', 'zplay', 'zsuite', 'install', 'README.md', 'CONTRIBUTING.md', 'LICENSE-APACHE', 'LICENSE-MIT', 'completions/_zy_bench',
-         'completions/zy_bench.bash', 'completions/zy_bench.fish', 'docs/*.md', 'docs/man/*.1', 'docs/pictures/*.svg', 'docs/pictures/*.png',
-         'editors/**/*.vim', 'editors/**/*.json', 'examples/*.zephyr',
+         'completions/zy_bench.bash', 'completions/zy_bench.fish', 'docs/*.md', 'docs/logs/*.logs', 'docs/man/*.1', 'docs/pictures/*.svg',
+         'docs/pictures/*.png', 'editors/**/*.vim', 'editors/**/*.json', 'examples/*.zephyr', 'examples/store/*.py', 'examples/store/try',
          'tools/*.py', 'tools/*/*.py', 'tools/*/*.js', 'tools/*/*.css', 'tools/*/*.html', 'tools/suite/programs/*.zephyr')
 
 # What only a checkout needs.

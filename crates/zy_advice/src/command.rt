@@ -10,6 +10,7 @@ pub enum Command {
     Threads,
     Search,
     Find,
+    Order,
     Asm,
     Dis,
     Check,
@@ -25,6 +26,7 @@ impl fmt::Display for Command {
             Command::Threads => "threads",
             Command::Search => "search",
             Command::Find => "find",
+            Command::Order => "order",
             Command::Asm => "asm",
             Command::Dis => "dis",
             Command::Check => "check",
@@ -44,9 +46,10 @@ impl fmt::Display for ForImage {
             Command::Check => f.write_str(
                 "this is an image: check reads a listing, as zy_bench run --image writes it",
             ),
-            Command::Debug => {
-                f.write_str("this is an image: debug reads a text, as zy_bench dis writes it")
-            }
+            command @ (Command::Debug | Command::Order) => write!(
+                f,
+                "this is an image: {command} reads a text, as zy_bench dis writes it"
+            ),
             command => write!(
                 f,
                 "this is an image: use zy_bench {command} --image, or zy_bench dis for its text"

@@ -3,6 +3,7 @@
 use clap::{Arg, ArgAction, ArgMatches, Command, value_parser};
 use std::alloc::{AllocError, Global};
 use zy_engine::{Format, SearchOptions, Wording};
+use zy_ordering::OrderOptions;
 use zy_search::ChoiceKinds;
 
 /// A task, and the input that it is for.
@@ -26,6 +27,8 @@ pub enum Task<'a> {
     Search(Quest<'a>),
     /// Find the positions of a run.
     Find(Quest<'a>),
+    /// Look for an order of logs.
+    Order(OrderOptions),
 }
 
 /// What a search is to go by. To find positions takes the format and the goal alone.
@@ -240,26 +243,38 @@ fn with_schedules<'a>(alloc: Global, command: Command<'a>) -> Result<Command<'a>
         .action(ArgAction::Append)
         .value_parser(KINDS)
         .help("Leaves out choices of this kind");
-    let states = Arg::new(alloc, "states")
+    command
+        .arg(from)?
+        .arg(kills)?
+        .arg(without)?
+        .arg(states_argument(alloc))
+}
+
+/// `--states`.
+fn states_argument<'a>(alloc: Global) -> Arg<'a> {
+    Arg::new(alloc, "states")
         .long("states")
         .value_name("N")
         .value_parser(value_parser!(u32).range(1..=4294967295))
-        .help("Gives up after N states: 1 to 4294967295, default 1000000");
-    command.arg(from)?.arg(kills)?.arg(without)?.arg(states)
+        .help("Gives up after N states: 1 to 4294967295, default 1000000")
+}
+
+/// `--canon`.
+fn canon_flag<'a>(alloc: Global) -> Arg<'a> {
+    Arg::new(alloc, "canon")
+        .long("canon")
+        .action(ArgAction::SetTrue)
+        .help("Writes what is found as canonical text, without names and comments")
 }
 
 /// `search`.
 fn search_command<'a>(alloc: Global) -> Result<Command<'a>, AllocError> {
-    let canonical = Arg::new(alloc, "canon")
-        .long("canon")
-        .action(ArgAction::SetTrue)
-        .help("Writes what is found as canonical text, without names and comments");
     let command = Command::new(alloc, "search")
         .about("Looks for a schedule of a scenario after which a state shows something")
         .after_help(SEARCH_HELP)
         .arg(image_flag(alloc))?;
     with_schedules(alloc, with_goal(alloc, command)?)?
-        .arg(canonical)?
+        .arg(canon_flag(alloc))?
         .arg(file_argument(alloc))
 }
 
@@ -300,6 +315,37 @@ fn find_command<'a>(alloc: Global) -> Result<Command<'a>, AllocError> {
     with_goal(alloc, command)?.arg(file_argument(alloc))
 }
 
+/// What is below the options of `order`.
+const ORDER_HELP: &'static str = concat!(
+    "Input:   a scenario text through its end line, and below it lines of the logs of C, A and B, each\n",
+    "         actor's own in order, else mixed in any way; at most 4194304 bytes. The scenario's choices\n",
+    "         are steps already taken\n",
+    "Output:  the scenario with the choices of an order of all lines behind its own, in which the step\n",
+    "         table gives each line what it tells; nothing where there is none. A text keeps its names\n",
+    "         and comments. Standard error has the number of states reached and, where there is none,\n",
+    "         the furthest that an order comes, with the lines that do not fit there; a fault is one\n",
+    "         line there\n",
+    "Status:  0 found, 1 the input is rejected, 2 the command line is wrong, 3 out of memory,\n",
+    "         4 there is no order, 5 the input or the output failed, 6 it gave up\n",
+    "\n",
+    "Lines:   CHOICE -> OUTCOME ! KIND, in the words of a listing, where ! KIND is the message that was\n",
+    "         sent. CHOICE alone, or CHOICE -> ?, says nothing of what came. Numbers of an outcome may\n",
+    "         be left out from the end on: docs/order.md has the form\n",
+    "\n",
+    "Example:\n",
+    "  cat SCENARIO client.log a.log b.log | zy_bench order | zy_bench run"
+);
+
+/// `order`.
+fn order_command<'a>(alloc: Global) -> Result<Command<'a>, AllocError> {
+    Command::new(alloc, "order")
+        .about("Looks for an order of three logs that the step table allows")
+        .after_help(ORDER_HELP)
+        .arg(states_argument(alloc))?
+        .arg(canon_flag(alloc))?
+        .arg(file_argument(alloc))
+}
+
 /// The command line that is understood.
 pub fn command<'a>(alloc: Global) -> Result<Command<'a>, AllocError> {
     Command::new(alloc, "zy_bench")
@@ -315,7 +361,8 @@ pub fn command<'a>(alloc: Global) -> Result<Command<'a>, AllocError> {
         .subcommand(threads_command(alloc)?)?
         .subcommand(debug_command(alloc)?)?
         .subcommand(search_command(alloc)?)?
-        .subcommand(find_command(alloc)?)
+        .subcommand(find_command(alloc)?)?
+        .subcommand(order_command(alloc)?)
 }
 
 /// What the words ask for.
@@ -339,6 +386,7 @@ fn task_of<'a>(name: &str, words: &ArgMatches<'a>) -> Option<Task<'a>> {
         "debug" => Some(Task::Debug(checkpoints_of(words))),
         "search" => Some(Task::Search(quest_of(words))),
         "find" => Some(Task::Find(quest_of(words))),
+        "order" => Some(Task::Order(order_of(words))),
         _ => None,
     }
 }
@@ -358,14 +406,32 @@ fn quest_of<'a>(words: &ArgMatches<'a>) -> Quest<'a> {
 fn options_of(words: &ArgMatches<'_>) -> SearchOptions {
     SearchOptions {
         format: format_of(words),
-        wording: if words.get_flag("canon") {
-            Wording::Canonical
-        } else {
-            Wording::Own
-        },
+        wording: wording_of(words),
         from: words.get_one("from").map(|count: u16| usize::from(count)),
-        most: words.get_one("states").unwrap_or(1_000_000),
+        most: most_of(words),
     }
+}
+
+/// What an order is looked for by.
+fn order_of(words: &ArgMatches<'_>) -> OrderOptions {
+    OrderOptions {
+        wording: wording_of(words),
+        most: most_of(words),
+    }
+}
+
+/// How a scenario is written that is found.
+fn wording_of(words: &ArgMatches<'_>) -> Wording {
+    if words.get_flag("canon") {
+        Wording::Canonical
+    } else {
+        Wording::Own
+    }
+}
+
+/// The most states that may be reached; a million where none are given.
+fn most_of(words: &ArgMatches<'_>) -> u32 {
+    words.get_one("states").unwrap_or(1_000_000)
 }
 
 /// The kinds of choices that are considered: kills if and only if `--kill` is there, and none that `--without` names.

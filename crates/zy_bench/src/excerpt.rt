@@ -83,7 +83,7 @@ impl fmt::Display for Differing<'_> {
 
 /// The part of a line that is shown.
 #[derive(Clone, Copy)]
-struct Excerpt<'a> {
+pub struct Excerpt<'a> {
     is_cut: bool,
     shown: &'a [u8],
     is_cut_behind: bool,
@@ -91,7 +91,7 @@ struct Excerpt<'a> {
 
 impl<'a> Excerpt<'a> {
     /// The part of a line around this place.
-    fn of(line: &'a [u8], at: usize) -> Excerpt<'a> {
+    pub fn of(line: &'a [u8], at: usize) -> Excerpt<'a> {
         let (_, rest) = line.split_at(at.saturating_sub(BEFORE).min(line.len()));
         let (shown, behind) = rest.split_at(MOST.min(rest.len()));
         Excerpt {

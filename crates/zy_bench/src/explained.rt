@@ -18,7 +18,7 @@ pub fn explain<R: Eprint + AllocGlobal>(rt: &R, machine: &Machine) {
 }
 
 /// Makes choices, as far as the scenario has their transactions and there is room for them.
-fn go_on(machine: &mut Machine, choices: &[Choice]) -> Result<(), Fault> {
+pub fn go_on(machine: &mut Machine, choices: &[Choice]) -> Result<(), Fault> {
     for choice in choices {
         let count = machine.scenario().programs().len();
         if choice.names_below(count) && machine.len() < MAX_CHOICES {

@@ -11,15 +11,18 @@ mod commands;
 mod excerpt;
 mod exit_status;
 mod explained;
+mod furthest;
 mod given;
 mod hint;
 mod listing;
 mod marked;
 mod names;
 mod nothing;
+mod ordering;
 mod origin;
 mod output;
 mod progress;
+mod refused_line;
 mod summary;
 mod tally;
 
@@ -35,6 +38,7 @@ use explained::{explain, explain_again};
 use given::{Failure, Given};
 use hint::Hint;
 use nothing::Nothing;
+use ordering::order;
 use origin::Origin;
 use output::{Output, flush};
 use std::io::{BufWriter, IsTerminal, Read, Write};
@@ -245,6 +249,7 @@ fn command_of(task: Task<'_>) -> Reader {
         Task::Debug(_) => Reader::Debug,
         Task::Search(_) => Reader::Search,
         Task::Find(_) => Reader::Find,
+        Task::Order(_) => Reader::Order,
     }
 }
 
@@ -309,6 +314,7 @@ fn carry_out<R: Print + Eprint + Input + Files + AllocGlobal + Clock + Threads +
                 &mut output,
             )
         }
+        Task::Order(options) => order(rt, options, file, &mut given, &mut input, &mut output),
     };
     match outcome {
         Ok(status) => status,

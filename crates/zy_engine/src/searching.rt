@@ -157,8 +157,9 @@ fn write_own<K: Sink>(
     }
 }
 
-/// Writes a text of a scenario with its first choices and more behind them.
-fn write_found<K: Sink>(
+/// Writes a text of a scenario with the choices that its machine has made, which are its first ones, and more behind them.
+/// The scenario's own text is at hand.
+pub fn write_found<K: Sink>(
     alloc: Global,
     wording: Wording,
     text: &[u8],

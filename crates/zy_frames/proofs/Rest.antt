@@ -6,13 +6,13 @@ use Rattle.zy_isa.specs.declared.node.Node.{Node}
 use Rattle.zy_isa.specs.declared.node.Node.TheVariants.{A, B}
 use Rattle.zy_isa.specs.declared.choice.Choice.{Choice}
 use Rattle.zy_isa.specs.Scenario.{Scenario}
-use Rattle.zy_table.specs.State.{State, View, Move, Message, Txn, facing, seen_from}
+use Rattle.zy_table.specs.State.{State, View, Message, Txn, facing, seen_from}
 use Rattle.zy_table.specs.Change.{begun, aborted, did, locked, shares, cut, committed, asks, leaves}
 use Rattle.zy_table.specs.Play.{move, side_of, step}
 use Rattle.zy_laws.proofs.walk.Txns.{at_other, at_same}
 use Rattle.zy_laws.proofs.walk.Events.{Event, step_happens, Rests, Begins, Aborts, GoesOn, Gets, SumsUp, Writes, Inserts, Splits, Commits, Asks}
 use Rattle.zy_laws.proofs.walk.Events.{Starts, GotWire, GotReady, GotDual, IsStale, Gives, GotPage, GotLast, GotFinish, GotAll, GotDone, Finishes, Pushes}
-use Rattle.zy_frames.specs.Frames.{OneMore, OneLess, AllBut, LeavesTheRest}
+use Rattle.zy_frames.specs.Frames.{OneMore, OneLess, LeavesTheRest}
 
 -- a step from v to w that sets at most transaction t, to x
 module _ (v w : View) (them : w.them ≡ v.them) where

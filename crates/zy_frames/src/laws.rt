@@ -1,12 +1,13 @@
 //! What holds of each step of the table from any state: each function is a law, and its contract is all of it.
-ghost use Rattle.std.specs.Prelude.{◌≡◌, ℕ, true};
+ghost use Rattle.std.specs.Prelude.{◌≡◌, ℕ, true, length};
 ghost use Rattle.zy_isa.specs.declared.choice.Choice.{Choice as AChoice};
 ghost use Rattle.zy_isa.specs.declared.choice.Choice.TheVariants.{Run};
 ghost use Rattle.zy_isa.specs.declared.node.Node.{Node};
 ghost use Rattle.zy_isa.specs.Scenario.{Scenario};
-ghost use Rattle.zy_table.specs.Play.{step, side_of};
-ghost use Rattle.zy_table.specs.State.{State, facing};
+ghost use Rattle.zy_table.specs.Play.{move, step, side_of};
+ghost use Rattle.zy_table.specs.State.{State, View, facing};
 ghost use Rattle.zy_frames.specs.Frames.{LeavesTheRest, TxnAndLocks, is_by_itself, taken_back};
+ghost use Rattle.zy_frames.specs.Reads.{Agree, SameMove, Changes, seen_by};
 
 /// A step changes nothing of the other node, takes at most the first message that has come in, sends at most one, adds at
 /// most one commit, and changes at most one transaction.
@@ -25,4 +26,33 @@ pub fn a_run_keeps_to_itself()
 pub fn a_run_can_be_taken_back()
     ensures { (sc : Scenario) (n : Node) (t : ℕ) (s : State) → is_by_itself (step sc (Run n t) s).outcome ≡ true
         → taken_back t (facing n s) (facing n (step sc (Run n t) s).after) ≡ facing n s }
+{}
+
+/// From two views of a node that agree in what a choice reads the same comes of it. The other node, what waits in the
+/// links, the other transactions and the commits count for nothing; but a commit's number is its place among the commits,
+/// and is left out.
+pub fn a_step_reads_its_parts()
+    ensures { (sc : Scenario) (choice : AChoice) (v w : View) → length v.txns ≡ length w.txns → Agree choice v w
+        → SameMove choice v w (move sc choice v) (move sc choice w) }
+{}
+
+/// A choice changes the parts of a view that it writes, and no other.
+pub fn a_step_writes_its_parts()
+    ensures { (sc : Scenario) (choice : AChoice) (v : View) → Changes choice v (move sc choice v).after }
+{}
+
+/// Two states that agree on the side that a choice is made from in one: it is made from that side in both, and the same
+/// comes of it there.
+pub fn a_step_reads_one_side()
+    ensures { (sc : Scenario) (choice : AChoice) (s t : State) → length s.txns ≡ length t.txns
+        → Agree choice (facing (side_of sc choice s) s) (facing (side_of sc choice s) t)
+        → (side_of sc choice t ≡ side_of sc choice s)
+        × SameMove choice (facing (side_of sc choice s) s) (facing (side_of sc choice s) t)
+        (seen_by (side_of sc choice s) (step sc choice s)) (seen_by (side_of sc choice s) (step sc choice t)) }
+{}
+
+/// On that side a step changes the parts that its choice writes, and no other.
+pub fn a_step_writes_one_side()
+    ensures { (sc : Scenario) (choice : AChoice) (s : State)
+        → Changes choice (facing (side_of sc choice s) s) (facing (side_of sc choice s) (step sc choice s).after) }
 {}

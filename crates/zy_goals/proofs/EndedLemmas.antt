@@ -1,10 +1,9 @@
 -- A goal that does not read what an ended transaction had is met by a state if and only if it is met by what is live of it.
 use Rattle.std.proofs.Common.{◌≡◌, ◌∙◌, ◌&&◌, ◌||◌, ◌==◌, not, Bool, true, false, ℕ, List, [], ◌∷◌, length, map, nat_lt, refl, ap}
-use Rattle.std.proofs.Common.{Option, None, Some, option_map, is_some, unwrap_or, slice_get}
+use Rattle.std.proofs.Common.{is_some, unwrap_or, slice_get}
 use Rattle.std.proofs.Math.Bool.{true≢false}
 use Rattle.std.proofs.lemmas.Bool.{cond_both, or_parts}
 use Rattle.std.proofs.lemmas.List.{length-map}
-use Rattle.std.proofs.lemmas.Option.{slice_get-map}
 use Rattle.std.specs.List.{list_any, list_all}
 use Rattle.std.specs.FinMap.{get}
 use Rattle.zy_isa.specs.Rows.{get_row}
@@ -19,6 +18,7 @@ use Rattle.zy_table.specs.Database.{Map, database}
 use Rattle.zy_table.specs.Ranges.{range, total}
 use Rattle.zy_machine.specs.declared.part.StatePart.TheVariants.{Live}
 use Rattle.zy_machine.specs.Alike.{live_txn, part_of}
+use Rattle.zy_alike.proofs.LiveLemmas.{live_status, live_at}
 use Rattle.zy_goals.specs.declared.goal.Selector.{Selector}
 use Rattle.zy_goals.specs.declared.goal.Selector.TheVariants as selector
 use Rattle.zy_goals.specs.declared.goal.TxnProperty.{TxnProperty}
@@ -38,22 +38,9 @@ use Rattle.zy_goals.specs.Ended.{term_reads_ended, property_reads_ended, state_f
 
 -- ---- transactions
 
--- the status is live
-pub live_status : (x : Txn) → (live_txn x).status ≡ x.status
-live_status x = cond_both (is_active x.status) x _ (λ (y : Txn). y.status ≡ x.status) (λ _. refl) (λ _. refl)
-
 -- the private rows are
 live_rows : (x : Txn) → (live_txn x).rows ≡ x.rows
 live_rows x = cond_both (is_active x.status) x _ (λ (y : Txn). y.rows ≡ x.rows) (λ _. refl) (λ _. refl)
-
--- one that may not be there
-live_or : (o : Option Txn) → txn_or (option_map live_txn o) ≡ live_txn (txn_or o)
-live_or None = refl
-live_or (Some x) = refl
-
--- one by its number
-pub live_at : (xs : List Txn) (t : ℕ) → txn_or (slice_get (map live_txn xs) t) ≡ live_txn (txn_or (slice_get xs t))
-live_at xs t = ap txn_or (slice_get-map live_txn xs t) ∙ live_or (slice_get xs t)
 
 -- a property that is not of what an ended one had
 live_has : (p : TxnProperty) (x : Txn) → property_reads_ended p ≡ false → has_property p (live_txn x) ≡ has_property p x

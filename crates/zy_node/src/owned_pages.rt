@@ -5,6 +5,7 @@ ghost use Rattle.std.specs.Bool.{Decides};
 ghost use Rattle.zy_isa.specs.Limits.{max_pages};
 ghost use Rattle.zy_node.specs.OwnedPages.{with_row, OwnsBelow};
 ghost use Rattle.zy_node.specs.Install.{HasRoomFor};
+ghost use Rattle.zy_node.specs.Slots.{laid_out};
 ghost use Rattle.zy_table.specs.Numbers.{least};
 ghost use Rattle.zy_table.specs.Order.{NumbersRise};
 ghost use Rattle.zy_table.specs.Pages.{leaf_at, lowered, numbers, page_in, rows_of, with_page, without};
@@ -58,6 +59,13 @@ impl OwnedPages {
             count: self.count,
             first: self.first,
         })
+    }
+
+    /// The slots of the pages: each page is in the slot of its number, and a slot may be empty.
+    pub fn slots(&self) -> &[Option<Page>]
+        ensures { laid_out result.now ≡ self.entry.now }
+    {
+        self.store.slots()
     }
 
     /// The page of a number, if it is here.

@@ -1,7 +1,6 @@
 -- The lines of the logs: how many there are, and of which choices.
 use Rattle.std.proofs.Common.{◌≡◌, ◌∙◌, ℕ, zero, suc, ◌+◌, List, [], ◌∷◌, length, refl, sym, ap, subst, arith, Bool, true, false}
 use Rattle.std.specs.Prelude.{if◌then◌else◌}
-use Rattle.std.proofs.lemmas.List.{length-map}
 use Rattle.zy_isa.specs.declared.node.Actor.{Actor}
 use Rattle.zy_isa.specs.declared.node.Actor.TheVariants.{C, A, B}
 use Rattle.zy_isa.specs.Choices.{actor_of, names_below}
@@ -47,10 +46,6 @@ lines_lengths (line ∷ lines) =
 -- so do the logs
 pub logs_count : (lines : List LogLine) (l : Logs) → AreLogs lines l → line_count l ≡ length lines
 logs_count lines l is = omega (arith, lines_lengths lines, ap length is.of_c, ap length is.of_a, ap length is.of_b)
-
--- lines have as many choices
-pub length_choices : (lines : List LogLine) → length (choices_of lines) ≡ length lines
-length_choices lines = length-map lines (λ (line : LogLine). line.choice)
 
 -- ---- of which choices
 

@@ -1,5 +1,5 @@
 -- Orders of lines, and ways along the logs: the choices of one are the other.
-use Rattle.std.proofs.Common.{◌≡◌, ◌∙◌, ℕ, zero, suc, ◌+◌, List, [], ◌∷◌, ◌++◌, refl, sym, ap, subst, drop, Bool, slice_get, Some}
+use Rattle.std.proofs.Common.{◌≡◌, ◌∙◌, ℕ, zero, suc, ◌+◌, List, [], ◌∷◌, ◌++◌, length, refl, sym, ap, subst, arith, drop, Bool, slice_get, Some}
 use Rattle.std.specs.Prelude.{if◌then◌else◌}
 use Rattle.std.proofs.lemmas.Option.{slice_get_within, get_or_from_slice_get}
 use Rattle.std.proofs.lemmas.List.{drop_more}
@@ -89,6 +89,32 @@ pub lines_cons : (x : Actor) (line : LogLine) (lines : List LogLine)
 lines_cons C line lines = refl
 lines_cons A line lines = refl
 lines_cons B line lines = refl
+
+-- an actor's cursor, and its lines from there on: as many together before a line is matched as after it
+step_counts : (x y : Actor) (g : Cursors) (line : LogLine) (rest : List LogLine)
+    → cursor x (advanced y g) + length rest ≡ cursor x g + length (if is_same x y then line ∷ rest else rest)
+step_counts C C g line rest = omega arith
+step_counts C A g line rest = omega arith
+step_counts C B g line rest = omega arith
+step_counts A C g line rest = omega arith
+step_counts A A g line rest = omega arith
+step_counts A B g line rest = omega arith
+step_counts B C g line rest = omega arith
+step_counts B A g line rest = omega arith
+step_counts B B g line rest = omega arith
+
+-- after the choices of lines as many lines more of an actor are matched as it has among them
+pub cursor_after : (x : Actor) (order : List LogLine) (g : Cursors)
+    → cursor x (cursors_after g (choices_of order)) ≡ cursor x g + length (lines_of x order)
+cursor_after x [] g = omega arith
+cursor_after x (line ∷ order) g =
+    let y = actor_of line.choice in
+    omega (
+      arith,
+      cursor_after x order (advanced y g),
+      step_counts x y g line (lines_of x order),
+      ap length (lines_cons x line order),
+    )
 
 -- ---- from a way to an order
 

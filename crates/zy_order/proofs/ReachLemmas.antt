@@ -1,5 +1,5 @@
 -- What a search knows of the paths that it has reached.
-use Rattle.std.proofs.Common.{◌≡◌, ◌∙◌, ℕ, ◌<◌, ◌≤◌, List, [], ◌∷◌, length, refl, sym, ap, subst, arith}
+use Rattle.std.proofs.Common.{◌≡◌, ◌∙◌, ℕ, ◌<◌, List, [], ◌∷◌, length, refl, sym, ap, subst, arith}
 use Rattle.std.proofs.lemmas.Option.{slice_get_within}
 use Rattle.zy_isa.specs.declared.node.Actor.{Actor}
 use Rattle.zy_isa.specs.declared.choice.Choice.{Choice}
@@ -15,9 +15,9 @@ use Rattle.zy_order.specs.declared.cursors.Cursors.{Cursors}
 use Rattle.zy_order.specs.declared.plan.Plan.{Plan}
 use Rattle.zy_order.specs.declared.reached.Reached.{Reached}
 use Rattle.zy_order.specs.Orders.{entry_at}
-use Rattle.zy_order.specs.Ways.{log_of, cursor, at_start, advanced, matched, AreMatched, HasNext, IsWay, cursors_after}
-use Rattle.zy_order.specs.Reaches.{cursors_at, kept_at, entry_by, IsKnown, IsReached, IsMet, IsFollowed, IsFurthest, IsLongestWay, IsPlan, Leads}
-use Rattle.zy_order.proofs.WayLemmas.{matched_after, within_after, within_start, fewer_matched, log_few}
+use Rattle.zy_order.specs.Ways.{log_of, cursor, at_start, advanced, matched, of_nodes, IsNoFurther, AreMatched, HasNext, IsWay, cursors_after}
+use Rattle.zy_order.specs.Reaches.{cursors_at, kept_at, entry_by, IsKnown, IsReached, IsMet, IsFollowed, IsFurthestPath, IsWayOf, IsFurthestWay, IsPlan, Leads}
+use Rattle.zy_order.proofs.WayLemmas.{matched_after, log_few}
 
 -- ---- closed under lines that fit
 
@@ -44,33 +44,47 @@ stays_known h l ps all (c ∷ cs) g s known way =
 pub matched_at : (ps : List (List Choice)) (i : ℕ) → matched (cursors_at ps i) ≡ length_at ps i
 matched_at ps i = omega (arith, matched_after (path_at ps i) at_start)
 
--- a path that matches no fewer lines than any other is a longest one
-best_longest : (p : Plan) (r : Reached) (best : ℕ) → IsReached p r → best < length r.cursors.items → IsFurthest r best → (i : ℕ) → i < length r.visited
-    → length_at r.visited i ≤ length_at r.visited best
-best_longest p r best is lt furthest i at =
-    let le = furthest i (omega (arith, at, is.many)) in
-    let here = ap (λ (g : Cursors). matched g) (is.kept i at) in
-    let there = ap (λ (g : Cursors). matched g) (is.kept best (omega (arith, lt, is.many))) in
-    omega (arith, le, here, there, matched_at r.visited i, matched_at r.visited best)
+-- where cursors are no further than others, and these no further than third ones, they are no further than the third
+pub no_further_on : (f g k : Cursors) → IsNoFurther f g → IsNoFurther g k → IsNoFurther f k
+no_further_on f g k first second = record {
+  nodes = omega (arith, first.nodes, second.nodes);
+  client = λ e.
+      let same : of_nodes f ≡ of_nodes g = omega (arith, e, first.nodes, second.nodes) in
+      let same_on : of_nodes g ≡ of_nodes k = omega (arith, e, first.nodes, second.nodes) in
+      omega (arith, first.client same, second.client same_on);
+}
 
--- where each path was followed no way is longer than a longest path
-pub longest_way : (p : Plan) (r : Reached) (best : ℕ) → IsReached p r → best < length r.cursors.items → IsFurthest r best
+-- where no kept cursors are further than those of a path, no other path leads further
+path_furthest : (p : Plan) (r : Reached) (best : ℕ) → IsReached p r → best < length r.cursors.items → IsFurthestPath r best → (i : ℕ)
+    → i < length r.visited → IsNoFurther (cursors_at r.visited i) (cursors_at r.visited best)
+path_furthest p r best is lt furthest i at =
+    let there = is.kept best (omega (arith, lt, is.many)) in
+    subst (λ (g : Cursors). IsNoFurther (cursors_at r.visited i) g) there
+    (subst (λ (f : Cursors). IsNoFurther f (kept_at r best)) (is.kept i at) (furthest i (omega (arith, at, is.many))))
+
+-- where each path was followed a way from the start leads where a path leads
+way_known : (p : Plan) (r : Reached) → IsReached p r → ((i : ℕ) → i < length r.visited → IsFollowed p.start p.logs r.visited i)
+    → (ds : List Choice) → IsWayOf p ds
+    → IsKnown p.start r.visited (cursors_after at_start ds) (play p.start.scenario p.start.state ds)
+way_known p r is all ds along =
+    let first : IsKnown p.start r.visited at_start p.start.state =
+    (0, is.some, ap (cursors_after at_start) is.first, ap (reached p.start) is.first) in
+    stays_known p.start p.logs r.visited all ds at_start p.start.state first along
+
+-- so no way matches all lines, and none leads further than the path that leads furthest
+pub furthest_way : (p : Plan) (r : Reached) (best : ℕ) → IsReached p r → best < length r.cursors.items → IsFurthestPath r best
     → ((i : ℕ) → i < length r.visited → IsFollowed p.start p.logs r.visited i)
-    → IsLongestWay p (path_at r.visited best)
-longest_way p r best is lt furthest all =
+    → IsFurthestWay p (path_at r.visited best)
+furthest_way p r best is lt furthest all =
     let ps = r.visited in
-    let at : best < length ps = omega (arith, lt, is.many) in
-    let way = is.ways best at in
-    let first : IsKnown p.start ps at_start p.start.state = (0, is.some, ap (cursors_after at_start) is.first, ap (reached p.start) is.first) in
     record {
-      way = way;
+      way = is.ways best (omega (arith, lt, is.many));
+      none = λ ds along end.
+          let known = way_known p r is all ds along in
+          (all known.0 known.1).part (subst (AreMatched p.logs) (sym known.2) end);
       most = λ ds along.
-          let known = stays_known p.start p.logs ps all ds at_start p.start.state first along in
-          let same = ap (λ (g : Cursors). matched g) known.2 in
-          omega (arith, same, matched_at ps known.0, matched_after ds at_start, best_longest p r best is lt furthest known.0 known.1);
-      part =
-          let within = within_after p.start.scenario p.logs at_start p.start.state (path_at ps best) way (within_start p.logs) in
-          omega (arith, fewer_matched p.logs (cursors_at ps best) within (all best at).part, matched_at ps best);
+          let known = way_known p r is all ds along in
+          subst (λ (f : Cursors). IsNoFurther f (cursors_at ps best)) known.2 (path_furthest p r best is lt furthest known.0 known.1);
     }
 
 -- ---- paths grow

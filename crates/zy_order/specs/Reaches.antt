@@ -23,8 +23,8 @@ use Rattle.zy_order.specs.declared.answer.Answer.TheVariants as answer
 use Rattle.zy_order.specs.declared.follow.Followed.{Followed}
 use Rattle.zy_order.specs.declared.follow.Followed.TheVariants as followed
 use Rattle.zy_order.specs.Orders.{entry_at}
-use Rattle.zy_order.specs.Ways.{log_of, at_start, cursors_in, advanced, matched, line_count, cursors_after}
-use Rattle.zy_order.specs.Ways.{AreMatched, HasNext, IsWay, AreLinesOf}
+use Rattle.zy_order.specs.Ways.{log_of, at_start, cursors_in, advanced, line_count, cursors_after}
+use Rattle.zy_order.specs.Ways.{IsNoFurther, AreMatched, HasNext, IsWay, AreLinesOf}
 
 -- ---- what a search goes by
 
@@ -37,11 +37,11 @@ pub record IsPlan (p : Plan) : Type 0 where
 abbrev pub IsWayOf : Plan → List Choice → Type 0
 IsWayOf p cs = IsWay p.start.scenario p.logs at_start p.start.state cs
 
--- a longest way: it does not match all lines, and no way is longer
-pub record IsLongestWay (p : Plan) (cs : List Choice) : Type 0 where
+-- a furthest way: no way matches all lines, and none leads further
+pub record IsFurthestWay (p : Plan) (cs : List Choice) : Type 0 where
   pub way : IsWayOf p cs
-  pub most : (ds : List Choice) → IsWayOf p ds → length ds ≤ length cs
-  pub part : length cs < line_count p.logs
+  pub none : (ds : List Choice) → IsWayOf p ds → AreMatched p.logs (cursors_after at_start ds) → ⊥
+  pub most : (ds : List Choice) → IsWayOf p ds → IsNoFurther (cursors_after at_start ds) (cursors_after at_start cs)
 
 -- ---- what it has reached
 
@@ -76,9 +76,9 @@ pub record IsUnderWay (p : Plan) (r : Reached) : Type 0 where
   pub plan : IsPlan p
   pub reached : IsReached p r
 
--- no path has matched more lines than that at a place
-abbrev pub IsFurthest : Reached → ℕ → Type 0
-IsFurthest r best = (i : ℕ) → i < length r.cursors.items → matched (kept_at r i) ≤ matched (kept_at r best)
+-- no path leads further than that at a place
+abbrev pub IsFurthestPath : Reached → ℕ → Type 0
+IsFurthestPath r best = (i : ℕ) → i < length r.cursors.items → IsNoFurther (kept_at r i) (kept_at r best)
 
 -- ---- one choice more
 
@@ -154,5 +154,5 @@ Settles p r followed.Spent = Unit {0}
 -- what each answer says of the ways along the logs
 abbrev pub AnswersFor : Plan → Answer → Type 0
 AnswersFor p (answer.Found v) = IsWayOf p v.items × AreMatched p.logs (cursors_after at_start v.items)
-AnswersFor p (answer.Nowhere v) = IsLongestWay p v.items
+AnswersFor p (answer.Nowhere v) = IsFurthestWay p v.items
 AnswersFor p (answer.Spent v) = IsWayOf p v.items

@@ -44,6 +44,15 @@ advanced B cursors = record { c = cursors.c; a = cursors.a; b = cursors.b + 1 }
 abbrev pub matched : Cursors → ℕ
 matched cursors = cursors.c + (cursors.a + cursors.b)
 
+-- how many lines of A and B together are matched
+abbrev pub of_nodes : Cursors → ℕ
+of_nodes cursors = cursors.a + cursors.b
+
+-- cursors are no further than others: no more lines of A and B are matched and, where as many are, no fewer of the client
+pub record IsNoFurther (cursors others : Cursors) : Type 0 where
+  pub nodes : of_nodes cursors ≤ of_nodes others
+  pub client : of_nodes cursors ≡ of_nodes others → others.c ≤ cursors.c
+
 -- how many lines the logs have
 abbrev pub line_count : Logs → ℕ
 line_count logs = length logs.c.items + (length logs.a.items + length logs.b.items)

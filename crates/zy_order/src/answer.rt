@@ -8,10 +8,12 @@ use zy_isa::Choice;
 pub enum Answer {
     /// The choices of an order: of all lines, where each agrees with what comes of its choice.
     Found(Vec<Choice>),
-    /// There is no order. These are the choices of an order of prefixes of the logs, and none has more lines.
+    /// There is no order. These are the choices of a furthest order of prefixes of the logs: none has more lines of A
+    /// and B together, and none that has as many has fewer of the client. So the next line of A does not fit behind
+    /// it, nor does that of B; the client's may.
     Nowhere(Vec<Choice>),
     /// It is not known whether there is an order. These are the choices of an order of prefixes of the logs: the
-    /// longest that the search came to, though no contract says so.
+    /// furthest that the search came to, though no contract says so.
     Spent(Vec<Choice>),
 }
 

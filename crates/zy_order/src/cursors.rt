@@ -1,5 +1,5 @@
 //! How far each actor is in its log.
-ghost use Rattle.std.specs.Prelude.{◌≡◌, ◌<◌, true};
+ghost use Rattle.std.specs.Prelude.{◌≡◌, ◌<◌, false, true};
 ghost use Rattle.zy_order.specs.Ways as spec;
 
 use zy_isa::Actor;
@@ -65,10 +65,23 @@ impl Cursors {
         self == other
     }
 
-    /// How many lines are matched.
-    pub(crate) fn matched(self) -> u32
-        ensures { result ≡ spec.matched self }
+    /// How many lines of A and B together are matched.
+    fn of_nodes(self) -> u32
+        ensures { result ≡ spec.of_nodes self }
     {
-        u32::from(self.c) + (u32::from(self.a) + u32::from(self.b))
+        u32::from(self.a) + u32::from(self.b)
+    }
+
+    /// Whether these cursors are further than those: more lines of A and B are matched, or as many and fewer of the
+    /// client. A client's line fits nearly anywhere, so one that is matched early says little.
+    pub(crate) fn is_further(self, other: Cursors) -> bool
+        ensures yes { result ≡ true → spec.IsNoFurther other self }
+        ensures no { result ≡ false → spec.IsNoFurther self other }
+    {
+        if self.of_nodes() == other.of_nodes() {
+            self.c < other.c
+        } else {
+            other.of_nodes() < self.of_nodes()
+        }
     }
 }

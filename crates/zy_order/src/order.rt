@@ -2,7 +2,7 @@
 ghost use Rattle.std.specs.Prelude.{◌≡◌, ◌<◌, ◌^◌, IfOk, length};
 ghost use Rattle.zy_order.specs.Answers.{IsInput, IsAnswer};
 ghost use Rattle.zy_order.specs.Ways.{AreLogs, AreMatched};
-ghost use Rattle.zy_order.specs.Reaches.{cursors_at, IsFurthest, IsPlan, IsUnderWay, Settles, AnswersFor};
+ghost use Rattle.zy_order.specs.Reaches.{cursors_at, IsFurthestPath, IsPlan, IsUnderWay, Settles, AnswersFor};
 
 use crate::answer::{Answer, Report};
 use crate::cursors::Cursors;
@@ -15,16 +15,16 @@ use std::alloc::Global;
 use zy_logs::LogLine;
 use zy_machine::{Fault, Machine};
 
-/// The place of a path that matches no fewer lines than any other.
+/// The place of a path that leads as far as any.
 fn furthest(reached: &Reached) -> u32
     requires some { 0 < length reached.now.cursors.items }
     requires few { length reached.now.cursors.items < 2 ^ 32 }
     ensures there { result < length reached.now.cursors.items }
-    ensures best { IsFurthest reached.now result }
+    ensures best { IsFurthestPath reached.now result }
 {
     let mut best = 0;
     for i in 0..reached.cursors.len() as u32 {
-        if reached.cursors_at(best).matched() < reached.cursors_at(i).matched() {
+        if reached.cursors_at(i).is_further(reached.cursors_at(best)) {
             best = i;
         }
     }

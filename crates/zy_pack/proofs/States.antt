@@ -18,7 +18,7 @@ module _ {T : Type 0} (g : T → List ℕ) (cg : IsCode g) where
   behind_number = both number g number_is_code cg
 
 -- items with their number in front
-all : {T : Type 0} (f : T → List ℕ) → IsCode f → IsCode (items f)
+pub all : {T : Type 0} (f : T → List ℕ) → IsCode f → IsCode (items f)
 all f cf = listed f number_is_code cf
 
 numbers_is_code : IsCode numbers
@@ -36,11 +36,11 @@ lock_is_code = shown (λ (l : Lock). (l.page, (l.txn, lock_code l.kind))) (λ p.
     (λ l. ap (λ k. record { page = l.page; txn = l.txn; kind = k }) (lock_again l.kind)) _
     (behind_number _ (behind_number _ number_is_code))
 
-message_is_code : IsCode message
+pub message_is_code : IsCode message
 message_is_code = shown (λ m. (message_code m, (message_lows m, message_leaf m))) message_with message_again _
     (behind_number _ (both numbers leaf numbers_is_code leaf_is_code))
 
-node_state_is_code : IsCode node_state
+pub node_state_is_code : IsCode node_state
 node_state_is_code = shown (λ (x : NodeState). (mode_code x.mode, (x.lows, (x.pages, (x.asked, x.locks)))))
     (λ p. record { mode = mode_with p.0; lows = p.1.0; pages = p.1.1.0; asked = p.1.1.1.0; locks = p.1.1.1.1 })
     (λ x. ap (λ m. record x { mode = m }) (mode_again x.mode)) _
@@ -65,11 +65,11 @@ txn_with p = record {
 txn_again : (x : Txn) → txn_with (txn_parts x) ≡ x
 txn_again x = ap (λ s. record x { status = s; node = node_with (node_code x.node) }) (status_again x.status) ∙ ap (λ n. record x { node = n }) (node_again x.node)
 
-txn_is_code : IsCode txn
+pub txn_is_code : IsCode txn
 txn_is_code = shown txn_parts txn_with txn_again _
     (behind_number _ (behind_number _ (behind_number _ (behind_number _ (both numbers _ numbers_is_code (both (items row) number (all row row_is_code) number_is_code))))))
 
-commit_is_code : IsCode commit
+pub commit_is_code : IsCode commit
 commit_is_code = shown (λ (c : CommitRecord). (c.txn, c.done)) (λ p. record { txn = p.0; done = p.1 }) (λ c. refl) _ (both number number number_is_code number_is_code)
 
 state_is_code : IsCode packed

@@ -8,7 +8,7 @@ use zy_modes::NodeMode;
 use zy_table::{Status, Why};
 
 /// The number of a node.
-pub(crate) fn node_code(node: Node) -> u64
+pub fn node_code(node: Node) -> u64
     ensures { result ≡ spec.node_code node }
 {
     match node {
@@ -18,7 +18,7 @@ pub(crate) fn node_code(node: Node) -> u64
 }
 
 /// The number of a kind of lock.
-pub(crate) fn lock_code(kind: LockKind) -> u64
+pub fn lock_code(kind: LockKind) -> u64
     ensures { result ≡ spec.lock_code kind }
 {
     match kind {
@@ -44,7 +44,7 @@ pub fn mode_code(mode: NodeMode) -> u64
 }
 
 /// The number of a status, with the reason of an abort.
-pub(crate) fn status_code(status: Status) -> u64
+pub fn status_code(status: Status) -> u64
     ensures { result ≡ spec.status_code status }
 {
     match status {
@@ -63,7 +63,7 @@ pub(crate) fn status_code(status: Status) -> u64
 }
 
 /// The page that the reason of an abort names, or 0.
-pub(crate) fn status_page(status: Status) -> u16
+pub fn status_page(status: Status) -> u16
     ensures { result ≡ spec.status_page status }
 {
     match status {

@@ -1,6 +1,6 @@
 //! States as bytes: two states with the same bytes are the same.
 #![tactic(auto)]
 
-mod codes;
+pub mod codes;
 pub mod laws;
 pub mod packing;

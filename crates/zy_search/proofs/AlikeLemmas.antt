@@ -29,7 +29,8 @@ use Rattle.zy_goals.specs.Txns.{selected_have}
 use Rattle.zy_goals.specs.Goals.{Context, meets}
 use Rattle.zy_goals.specs.Ended.{reads_ended}
 use Rattle.zy_goals.specs.Outcomes.{matches}
-use Rattle.zy_goals.proofs.EndedLemmas.{live_status, live_at, live_selected, live_goal}
+use Rattle.zy_alike.proofs.LiveLemmas.{live_status, live_at}
+use Rattle.zy_goals.proofs.EndedLemmas.{live_selected, live_goal}
 use Rattle.zy_search.specs.declared.kinds.ChoiceKinds.{ChoiceKinds}
 use Rattle.zy_search.specs.declared.sought.Sought.{Sought}
 use Rattle.zy_search.specs.declared.deadlock.Wait.{Wait}
@@ -38,7 +39,7 @@ use Rattle.zy_search.specs.Stuck.{is_still, is_stuck}
 use Rattle.zy_search.specs.Deadlocks.{node_of, wait_in, wait_of, with_wait, waits_below, is_for, kept, left, is_deadlocked}
 use Rattle.zy_search.specs.Searches.{context_of, may_follow, shows, Shows}
 use Rattle.zy_search.specs.Visits.{counted_if, counted}
-use Rattle.zy_search.proofs.AlikeSteps.{live_active, live_outcome, alike_play}
+use Rattle.zy_alike.proofs.AlikeSteps.{live_active, live_outcome, alike_play}
 
 -- ---- what is live of a state
 

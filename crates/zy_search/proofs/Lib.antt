@@ -3,7 +3,6 @@ pub mod ChoiceLemmas
 pub mod SearchLemmas
 pub mod ScheduleLemmas
 pub mod StillSteps
-pub mod AlikeSteps
 pub mod AlikeLemmas
 pub mod CommitLemmas
 pub mod ShelfLemmas

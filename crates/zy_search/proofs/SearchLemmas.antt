@@ -21,7 +21,7 @@ use Rattle.zy_search.specs.Paths.{AreApart}
 use Rattle.zy_search.specs.Stuck.{is_still, AreMoves}
 use Rattle.zy_search.specs.Choices.{is_considered, AreConsidered, is_of_kinds, considered}
 use Rattle.zy_search.proofs.ChoiceLemmas.{all_considered}
-use Rattle.zy_search.proofs.AlikeSteps.{alike_after}
+use Rattle.zy_alike.proofs.AlikeSteps.{alike_after}
 use Rattle.zy_search.proofs.AlikeLemmas.{alike_shows}
 use Rattle.zy_search.specs.Searches.{reached, deepest, Shows, Considers, IsPath, NoneBelow, NoneAtAll, FindsFirst, IsReached, IsDue, Fills}
 use Rattle.zy_search.specs.Visits.{path_at, length_at, counted, IsKnown, IsVisited, Visits, IsEdge, IsExpanded, AreExpanded, Grows, FindsNext, StopsAt}

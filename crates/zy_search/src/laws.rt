@@ -4,7 +4,6 @@ ghost use Rattle.zy_isa.specs.declared.choice.Choice.{Choice as AChoice};
 ghost use Rattle.zy_isa.specs.declared.rule.Rule.TheVariants.{Held};
 ghost use Rattle.zy_isa.specs.Scenario.{IsScenario, Scenario as AScenario};
 ghost use Rattle.zy_machine.specs.Histories.{History, IsReplay};
-ghost use Rattle.zy_machine.specs.declared.part.StatePart.{StatePart as APart};
 ghost use Rattle.zy_machine.specs.Alike.{Alike};
 ghost use Rattle.zy_table.specs.Play.{play, step};
 ghost use Rattle.zy_table.specs.State.{State};
@@ -66,17 +65,6 @@ pub fn never_differs_under_held()
 pub fn still_stays()
     ensures { (sc : AScenario) (c : AChoice) (s : State) → is_still (step sc c s).outcome ≡ true
         → (step sc c s).after ≡ s }
-{}
-
-/// States that are alike step alike: each choice has one outcome and sends one kind of message from both, and leads to
-/// states that are alike. They need not be states of a run.
-pub fn alike_steps()
-    ensures outcome { (part : APart) (sc : AScenario) (c : AChoice) (s t : State) → Alike part s t
-        → (step sc c s).outcome ≡ (step sc c t).outcome }
-    ensures sent { (part : APart) (sc : AScenario) (c : AChoice) (s t : State) → Alike part s t
-        → (step sc c s).sent ≡ (step sc c t).sent }
-    ensures after { (part : APart) (sc : AScenario) (c : AChoice) (s t : State) → Alike part s t
-        → Alike part (step sc c s).after (step sc c t).after }
 {}
 
 /// States that are alike in all that counts for what is looked for show it or do not, and so do those that the same

@@ -10,6 +10,7 @@ use zy_engine::BenchFault;
 use zy_image::LoadFault;
 use zy_io::{ReadFault, TextFault};
 use zy_isa::ProgramFault;
+use zy_ordering::OrderFault;
 use zy_wire::WireFault;
 
 /// Why a call has no answer.
@@ -106,6 +107,12 @@ impl Fault for DebugFault {
 impl Fault for BenchFault {
     fn is_memory(&self) -> bool {
         matches!(self, BenchFault::Memory)
+    }
+}
+
+impl Fault for OrderFault {
+    fn is_memory(&self) -> bool {
+        matches!(self, OrderFault::Bench(BenchFault::Memory))
     }
 }
 

@@ -9,9 +9,11 @@ use zy_audit::run::write_run;
 use zy_engine::checking::check_bytes;
 use zy_engine::debugging::debug_bytes;
 use zy_engine::engine::{asm_bytes, dis_bytes, run_bytes, trace_bytes};
-use zy_engine::{BenchFault, Format};
+use zy_engine::{Format, Wording};
 use zy_image::save::save;
 use zy_io::{SliceSource, VecSink};
+use zy_ordering::OrderOptions;
+use zy_ordering::ordering::order_bytes;
 
 /// An engine, and what it reads.
 #[derive(Clone, Copy)]
@@ -23,7 +25,14 @@ enum Engine {
     Dis,
     Check,
     Debug,
+    Order,
 }
+
+/// What an order is looked for by.
+const OPTIONS: OrderOptions = OrderOptions {
+    wording: Wording::Own,
+    most: 100,
+};
 
 /// Lets an engine work.
 fn work(
@@ -31,18 +40,25 @@ fn work(
     engine: Engine,
     source: &mut SliceSource<'_>,
     sink: &mut VecSink,
-) -> Result<(), BenchFault>
+) -> Result<(), Refused>
     requires { sink.old.1 < u64.MAX }
 {
     let mut input = Vec::new(alloc);
     match engine {
-        Engine::RunText => ended(run_bytes(alloc, Format::Text, source, sink, &mut input)),
-        Engine::RunImage => ended(run_bytes(alloc, Format::Image, source, sink, &mut input)),
-        Engine::Trace => ended(trace_bytes(alloc, Format::Text, source, sink, &mut input)),
-        Engine::Asm => asm_bytes(alloc, source, sink, &mut input),
-        Engine::Dis => dis_bytes(alloc, source, sink, &mut input),
-        Engine::Check => ended(check_bytes(alloc, source, sink)),
-        Engine::Debug => debug_bytes(alloc, 2, 1, source, sink, &mut input),
+        Engine::RunText => tested(ended(run_bytes(alloc, Format::Text, source, sink, &mut input))),
+        Engine::RunImage => tested(ended(run_bytes(
+            alloc,
+            Format::Image,
+            source,
+            sink,
+            &mut input,
+        ))),
+        Engine::Trace => tested(ended(trace_bytes(alloc, Format::Text, source, sink, &mut input))),
+        Engine::Asm => tested(asm_bytes(alloc, source, sink, &mut input)),
+        Engine::Dis => tested(dis_bytes(alloc, source, sink, &mut input)),
+        Engine::Check => tested(ended(check_bytes(alloc, source, sink))),
+        Engine::Debug => tested(debug_bytes(alloc, 2, 1, source, sink, &mut input)),
+        Engine::Order => tested(ended(order_bytes(alloc, OPTIONS, source, sink, &mut input))),
     }
 }
 
@@ -59,7 +75,7 @@ impl Calls for Working<'_> {
     fn call(&mut self, _place: usize) -> Result<u64, Refused> {
         let mut sink = VecSink::new(room(self.alloc)?);
         let mut source = SliceSource::new(self.input);
-        let outcome = tested(work(self.alloc, self.engine, &mut source, &mut sink));
+        let outcome = work(self.alloc, self.engine, &mut source, &mut sink);
         self.prefix.answer(sink, outcome)
     }
 }
@@ -87,7 +103,8 @@ fn sweep_listing(alloc: Global, input: &[u8]) -> Result<Found, Refused> {
     Ok(sweep_engine(alloc, Engine::Check, listing.bytes()))
 }
 
-/// The sweep of this name, over a scenario's text, if it is one of these. That of `debug_bytes` has commands below it.
+/// The sweep of this name, over a scenario's text, if it is one of these. That of `debug_bytes` has commands below it, and
+/// that of `order_bytes` logs.
 pub fn sweep_named(name: &str, alloc: Global, input: &[u8]) -> Option<Result<Found, Refused>> {
     match name {
         "run_bytes" => Some(Ok(sweep_engine(alloc, Engine::RunText, input))),
@@ -97,6 +114,7 @@ pub fn sweep_named(name: &str, alloc: Global, input: &[u8]) -> Option<Result<Fou
         "dis_bytes" => Some(sweep_image(alloc, Engine::Dis, input)),
         "check_bytes" => Some(sweep_listing(alloc, input)),
         "debug_bytes" => Some(Ok(sweep_engine(alloc, Engine::Debug, input))),
+        "order_bytes" => Some(Ok(sweep_engine(alloc, Engine::Order, input))),
         _ => None,
     }
 }

@@ -1,5 +1,5 @@
-use Rattle.zy_search.proofs.AlikeSteps.{alike_outcome, alike_sent, alike_after}
-use Rattle.zy_search.proofs.laws.alike_steps.Goals as goal
+use Rattle.zy_alike.proofs.AlikeSteps.{alike_outcome, alike_sent, alike_after}
+use Rattle.zy_alike.proofs.laws.alike_steps.Goals as goal
 
 pub returns-clause-outcome : goal.returns-clause-outcome
 returns-clause-outcome c = alike_outcome

@@ -49,7 +49,7 @@ use Rattle.zy_table.specs.Play.{move, side_of, step, play}
 use Rattle.zy_machine.specs.declared.part.StatePart.{StatePart}
 use Rattle.zy_machine.specs.declared.part.StatePart.TheVariants.{Whole, Live}
 use Rattle.zy_machine.specs.Alike.{live_txn, part_of, Alike}
-use Rattle.zy_goals.proofs.EndedLemmas.{live_status, live_at}
+use Rattle.zy_alike.proofs.LiveLemmas.{live_status, live_at}
 
 -- ---- transactions
 

@@ -1,0 +1,2 @@
+pub mod LiveLemmas
+pub mod AlikeSteps

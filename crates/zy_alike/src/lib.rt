@@ -1,0 +1,4 @@
+//! States that no step tells apart: they step alike.
+#![tactic(auto)]
+
+pub mod laws;

@@ -1,0 +1,243 @@
+//! How far an order of logs comes, and what the table gives where the next lines do not fit.
+
+use crate::again::make_again;
+use crate::excerpt::Excerpt;
+use crate::explained::go_on;
+use crate::origin::Origin;
+use std::alloc::{AllocError, Global};
+use std::fmt;
+use zy_advice::line::Line as InputLine;
+use zy_advice::text::Position;
+use zy_audit::StepLine;
+use zy_engine::{BenchFault, Format};
+use zy_io::{Line, LineBuffer, MAX_INPUT};
+use zy_isa::{Actor, Choice, MAX_CHOICES};
+use zy_logs::{NumberedLine, ReadFault};
+use zy_machine::{Fault, Machine};
+use zy_ordering::logs_below::read_below;
+use zy_table::Entry;
+use zy_text::cut::cut_len;
+
+/// A number of lines of each actor.
+#[derive(Clone, Copy)]
+pub struct Counts {
+    c: usize,
+    a: usize,
+    b: usize,
+}
+
+impl Counts {
+    /// None.
+    fn none() -> Counts {
+        Counts { c: 0, a: 0, b: 0 }
+    }
+
+    /// How many there are of an actor.
+    fn of(self, actor: Actor) -> usize {
+        match actor {
+            Actor::C => self.c,
+            Actor::A => self.a,
+            Actor::B => self.b,
+        }
+    }
+
+    /// One more of an actor.
+    fn add(&mut self, actor: Actor) {
+        let count = match actor {
+            Actor::C => &mut self.c,
+            Actor::A => &mut self.a,
+            Actor::B => &mut self.b,
+        };
+        *count = count.saturating_add(1);
+    }
+}
+
+/// How many choices of each actor there are.
+fn counts_of(choices: &[Choice]) -> Counts {
+    let mut counts = Counts::none();
+    for choice in choices {
+        counts.add(choice.actor());
+    }
+    counts
+}
+
+/// How many lines of each actor there are.
+fn counts_in(lines: &[NumberedLine]) -> Counts {
+    let mut counts = Counts::none();
+    for line in lines {
+        counts.add(line.line.choice.actor());
+    }
+    counts
+}
+
+/// The end of an order of prefixes of logs.
+#[derive(Drop)]
+pub struct Furthest {
+    /// The machine that has made its choices.
+    machine: Machine,
+    /// The lines of the logs.
+    lines: Vec<NumberedLine>,
+    /// How many lines of each actor it takes.
+    taken: Counts,
+}
+
+impl Furthest {
+    /// The end of the order that makes these choices, of the logs of an input that is read without a fault.
+    pub fn of(alloc: Global, input: &[u8], order: &[Choice]) -> Result<Furthest, BenchFault> {
+        let (text, below) = input.split_at(cut_len(input).min(input.len()));
+        let mut machine = make_again(alloc, Format::Text, text)?;
+        let lines = lines_again(alloc, &machine, text, below)?;
+        go_on(&mut machine, order)?;
+        Ok(Furthest {
+            machine,
+            lines,
+            taken: counts_of(order),
+        })
+    }
+
+    /// How many lines of each actor it takes, of how many.
+    pub fn reach(&self) -> Reach {
+        Reach {
+            taken: self.taken,
+            all: counts_in(&self.lines),
+        }
+    }
+
+    /// The first line of an actor that it does not take.
+    fn next(&self, actor: Actor) -> Option<NumberedLine> {
+        let mut passed = 0usize;
+        for line in &self.lines {
+            if line.line.choice.actor() == actor {
+                if passed == self.taken.of(actor) {
+                    return Some(*line);
+                }
+                passed = passed.saturating_add(1);
+            }
+        }
+        None
+    }
+
+    /// What comes of a choice at its end, if it may be made there.
+    fn entry(&self, alloc: Global, choice: Choice) -> Result<Option<Entry>, Fault> {
+        let mut machine = self.machine.copy(alloc)?;
+        let count = machine.scenario().programs().len();
+        if choice.names_below(count) && machine.len() < MAX_CHOICES {
+            return Ok(Some(machine.step(choice)?));
+        }
+        Ok(None)
+    }
+
+    /// The step that comes at its end of the choice of a line that does not fit there.
+    fn instead(&self, alloc: Global, line: NumberedLine) -> Result<Option<LineBuffer>, Fault> {
+        match self.entry(alloc, line.line.choice)? {
+            Some(entry) if !line.line.agrees(&entry) => Ok(Some(step_line(alloc, &entry)?)),
+            _ => Ok(None),
+        }
+    }
+
+    /// Says on standard error which next lines do not fit, and what the table gives.
+    pub fn tell<R: Eprint + AllocGlobal>(&self, rt: &R, file: Option<&str>, input: &[u8]) {
+        for actor in [Actor::C, Actor::A, Actor::B] {
+            if let Some(line) = self.next(actor) {
+                self.tell_line(rt, file, input, line);
+            }
+        }
+    }
+
+    /// Says what the table gives in the place of a line, if that does not fit. Out of memory it says nothing.
+    fn tell_line<R: Eprint + AllocGlobal>(
+        &self,
+        rt: &R,
+        file: Option<&str>,
+        input: &[u8],
+        line: NumberedLine,
+    ) {
+        if let Ok(Some(step)) = self.instead(rt.alloc(), line) {
+            let unfit = Unfit {
+                file,
+                line: InputLine::of(input, line.number),
+                came: behind_arrow(step.as_bytes()),
+            };
+            let _ = eprintln!(rt; "{unfit}");
+        }
+    }
+}
+
+/// The lines of the logs that are below a machine's scenario.
+fn lines_again(
+    alloc: Global,
+    machine: &Machine,
+    text: &[u8],
+    below: &[u8],
+) -> Result<Vec<NumberedLine>, BenchFault> {
+    if MAX_INPUT < text.len() || MAX_INPUT < below.len() {
+        return Err(BenchFault::TooLong);
+    }
+    match read_below(alloc, machine.scenario(), text, below) {
+        Ok(lines) => Ok(lines),
+        Err(ReadFault::Memory) => Err(BenchFault::Memory),
+        Err(ReadFault::Refused(_)) => Ok(Vec::new(alloc)),
+    }
+}
+
+/// A step, as a listing has it.
+fn step_line(alloc: Global, entry: &Entry) -> Result<LineBuffer, AllocError> {
+    let mut line = LineBuffer::new(alloc);
+    StepLine { number: 1, entry }.append(&mut line)?;
+    Ok(line)
+}
+
+/// What a step's line has behind its arrow.
+fn behind_arrow(line: &[u8]) -> &[u8] {
+    let arrow = line.iter().position(|byte| *byte == b'>');
+    let behind = arrow.and_then(|arrow| line.get(arrow.saturating_add(2)..));
+    behind.unwrap_or(line)
+}
+
+/// How many lines of each actor an order takes, of how many.
+#[derive(Clone, Copy)]
+pub struct Reach {
+    taken: Counts,
+    all: Counts,
+}
+
+impl fmt::Display for Reach {
+    fn fmt<W: fmt::Write>(&self, f: &mut fmt::Formatter<W>) -> fmt::Result {
+        let Reach { taken, all } = *self;
+        write!(
+            f,
+            "{} of {} lines of C, {} of {} of A and {} of {} of B",
+            taken.c, all.c, taken.a, all.a, taken.b, all.b
+        )
+    }
+}
+
+/// A line that does not fit, and what the table gives.
+#[derive(Clone, Copy)]
+struct Unfit<'a> {
+    file: Option<&'a str>,
+    line: InputLine<'a>,
+    came: &'a [u8],
+}
+
+impl fmt::Display for Unfit<'_> {
+    fn fmt<W: fmt::Write>(&self, f: &mut fmt::Formatter<W>) -> fmt::Result {
+        let InputLine { number, .. } = self.line;
+        let bytes = self.line.statement().bytes;
+        let told = bytes.trim_ascii();
+        match self.file {
+            Some(file) => {
+                let before = bytes.len().saturating_sub(bytes.trim_ascii_start().len());
+                let column = before.saturating_add(1);
+                let position = Position {
+                    line: number,
+                    column,
+                };
+                write!(f, "{}:", Origin::Place(file, position))?;
+            }
+            None => write!(f, "{}", Origin::Line(number))?,
+        }
+        let (told, came) = (Excerpt::of(told, 0), Excerpt::of(self.came, 0));
+        write!(f, " {told}: the table gives {came} there")
+    }
+}

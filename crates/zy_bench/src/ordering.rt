@@ -1,0 +1,75 @@
+//! The command `order`: logs are read, and an order of them is looked for.
+ghost use Rattle.std.specs.Prelude.{◌<◌};
+
+use crate::exit_status::{DONE, NOWHERE, SPENT};
+use crate::furthest::Furthest;
+use crate::output::{Output, flush};
+use crate::refused_line::RefusedLine;
+use crate::summary::Count;
+use std::io::{Read, Write};
+use zy_engine::BenchFault;
+use zy_io::CountingReader;
+use zy_order::{Answer, Report};
+use zy_ordering::ordering::order_bytes;
+use zy_ordering::{OrderFault, OrderOptions};
+
+/// Looks for an order of the logs that are given below a scenario, and gives the exit status.
+pub fn order<R: Eprint + AllocGlobal, G: Read, W: Write>(
+    rt: &R,
+    options: OrderOptions,
+    file: Option<&str>,
+    given: &mut G,
+    input: &mut Vec<u8>,
+    output: &mut Output<W>,
+) -> Result<u8, BenchFault>
+    requires { output.old.1 < u64.MAX }
+{
+    let source = &mut CountingReader::new(given);
+    match order_bytes(rt.alloc(), options, source, output, input) {
+        Ok(report) => {
+            flush(output)?;
+            sum_up(rt, file, input.as_slice(), &report)
+        }
+        Err(OrderFault::Bench(fault)) => Err(fault),
+        Err(OrderFault::Log(refusal)) => {
+            let refused = RefusedLine::of(file, input.as_slice(), refusal);
+            let _ = eprintln!(rt; "{refused}");
+            Ok(OrderFault::Log(refusal).status())
+        }
+    }
+}
+
+/// Reports on standard error what came of a search for an order, and gives the exit status.
+fn sum_up<R: Eprint + AllocGlobal>(
+    rt: &R,
+    file: Option<&str>,
+    input: &[u8],
+    report: &Report,
+) -> Result<u8, BenchFault> {
+    let states = Count::of(report.states, "state");
+    match &report.answer {
+        Answer::Found(order) => {
+            let lines = Count::of(order.len(), "line");
+            let _ = eprintln!(rt; "zy_bench: found after {states}: an order of {lines}");
+            Ok(DONE)
+        }
+        Answer::Nowhere(order) => {
+            let furthest = Furthest::of(rt.alloc(), input, order)?;
+            let reach = furthest.reach();
+            let _ = eprintln!(rt;
+                "zy_bench: there is no order, after {states}: the furthest takes {reach}"
+            );
+            furthest.tell(rt, file, input);
+            Ok(NOWHERE)
+        }
+        Answer::Spent(order) => {
+            let furthest = Furthest::of(rt.alloc(), input, order)?;
+            let reach = furthest.reach();
+            let _ = eprintln!(rt;
+                "zy_bench: gave up after {states}: no order was found, and the furthest that was tried takes {reach}"
+            );
+            furthest.tell(rt, file, input);
+            Ok(SPENT)
+        }
+    }
+}

@@ -1,0 +1,54 @@
+//! Why a line of a log is refused.
+
+use crate::origin::Origin;
+use std::fmt;
+use zy_advice::line::{Line, Statement, Word};
+use zy_advice::place::Place;
+use zy_logs::Refusal;
+
+/// A line of a log that is refused, and the word that does not fit.
+#[derive(Clone, Copy)]
+pub struct RefusedLine<'a> {
+    file: Option<&'a str>,
+    input: &'a [u8],
+    refusal: Refusal,
+}
+
+impl<'a> RefusedLine<'a> {
+    /// Why a line of this input, which is this file if there is one, is none of a log.
+    pub fn of(file: Option<&'a str>, input: &'a [u8], refusal: Refusal) -> RefusedLine<'a> {
+        RefusedLine {
+            file,
+            input,
+            refusal,
+        }
+    }
+
+    /// The word that does not fit; where it is missing, the end of the line.
+    fn place(self) -> Place<'a> {
+        let statement = Line::of(self.input, self.refusal.line).statement();
+        let word = statement.word(self.refusal.word);
+        Place::of(statement.bytes, word.unwrap_or(end_of(statement)))
+    }
+}
+
+/// An empty word at the end of a line.
+fn end_of(statement: Statement<'_>) -> Word<'_> {
+    Word {
+        start: statement.bytes.trim_ascii_end().len(),
+        bytes: &[],
+    }
+}
+
+/// Where it is, the fault's name, what is expected, and the line with the word at fault marked.
+impl fmt::Display for RefusedLine<'_> {
+    fn fmt<W: fmt::Write>(&self, f: &mut fmt::Formatter<W>) -> fmt::Result {
+        let Refusal { line, expected, .. } = self.refusal;
+        let (kind, place) = (expected.kind(), self.place());
+        let origin = Origin::at(self.file, place.position(line));
+        write!(
+            f,
+            "{origin}: Input(line {line}, {kind:?}): {expected} ({place})"
+        )
+    }
+}

@@ -1,0 +1,12 @@
+pub mod Assembly
+pub mod Offside
+pub mod Said
+pub mod Sides
+pub mod Carried
+pub mod Plain
+pub mod Again
+pub mod LowestLemmas
+pub mod Growth
+pub mod MemoLemmas
+pub mod MemoryLemmas
+pub mod ExploredLemmas

@@ -1,0 +1,249 @@
+//! The steps of a choice that are remembered.
+ghost use Rattle.std.specs.Prelude.{◌≡◌, ◌<◌, ◌++◌, ◌∷◌, ℕ, [], IfSome, OnOk, true, length, map, slice_set, Contains};
+ghost use Rattle.zy_frames.specs.Reads.{uncounted};
+ghost use Rattle.zy_isa.specs.Choices.{names_below};
+ghost use Rattle.zy_isa.specs.declared.choice.Choice.TheVariants.{Run};
+ghost use Rattle.zy_isa.specs.Scenario.{Scenario};
+ghost use Rattle.zy_machine.specs.declared.part.StatePart.{StatePart};
+ghost use Rattle.zy_memo.specs.Places as spec;
+ghost use Rattle.zy_memo.specs.Steps.{put_at, AreTrue, IsInScope};
+ghost use Rattle.zy_parts.specs.Parts.{IsNumbered};
+ghost use Rattle.zy_table.specs.Play.{step};
+ghost use Rattle.zy_table.specs.State.{State};
+
+use crate::places::{COMMITS_PLACE, Read, Scope, at, at_places, link_place, places, reads};
+use std::alloc::{AllocError, Global};
+use zy_isa::{Choice, Node};
+use zy_parts::PartTable;
+use zy_table::Outcome;
+
+/// A step that is remembered.
+#[derive(Clone, Copy)]
+pub struct Remembered {
+    /// What it read and wrote beside its node and its transaction, if it is a run.
+    pub scope: Scope,
+    /// All that it read.
+    pub read: Read,
+    /// The numbers after it at the places that its choice writes.
+    pub written: [u32; 4],
+    /// Its outcome; a commit may have another number.
+    pub outcome: Outcome,
+}
+
+/// The steps of a choice that are remembered. A step is looked for at one place alone: one that was kept there later hides it,
+/// which costs time, and nothing else.
+#[derive(Drop)]
+pub struct ChoiceMemo {
+    alloc: Global,
+    pub choice: Choice,
+    pub steps: Vec<Remembered>,
+    slots: Vec<usize>,
+}
+
+/// How many slots there are at least, and how many for each step.
+const LEAST_SLOTS: usize = 64;
+
+const SLOTS_PER_STEP: usize = 4;
+
+/// A digest with a number more.
+fn mixed(digest: u64, number: u64) -> u64 {
+    (digest.rotate_left(5) ^ number).wrapping_mul(0x517c_c1b7_2722_0a95)
+}
+
+/// Where a step that read this is looked for, among a number of slots that is a power of two. Nothing is promised of it.
+fn slot_of(read: Read, slots: usize) -> usize {
+    let pairs = [
+        u64::from(read.beside) << 32 | u64::from(read.first),
+        u64::from(read.second) << 32 | u64::from(read.third),
+    ];
+    let digest = mixed(mixed(mixed(0, pairs[0]), pairs[1]), u64::from(read.fourth));
+    (digest >> 32) as usize & slots.saturating_sub(1)
+}
+
+/// A number of slots, with each step in its own.
+fn spread(alloc: Global, steps: &[Remembered], slots: usize) -> Result<Vec<usize>, AllocError> {
+    let mut spread = Vec::new(alloc);
+    spread.resize(slots, 0)?;
+    for place in 0..steps.len() {
+        if let Some(slot) = spread.get_mut(slot_of(steps[place].read, slots)) {
+            *slot = place;
+        }
+    }
+    Ok(spread)
+}
+
+/// What a run has in its scope, by the numbers before and after it; none where that is both the link and the commits.
+fn run_scope(n: Node, before: &[u32], after: &[u32]) -> Option<Scope>
+    ensures { IfSome result (λ k. (t : ℕ) → IsInScope (Run n t) k before.now after.now) }
+{
+    let is_link_left = at(before, link_place(n)) == at(after, link_place(n));
+    let are_commits_left = at(before, COMMITS_PLACE) == at(after, COMMITS_PLACE);
+    match (is_link_left, are_commits_left) {
+        (true, true) => Some(Scope::Own),
+        (false, true) => Some(Scope::Link),
+        (true, false) => Some(Scope::Commits),
+        (false, false) => None,
+    }
+}
+
+/// The scope of a step by its numbers before and after it, if it has one.
+fn scope_of(choice: Choice, before: &[u32], after: &[u32]) -> Option<Scope>
+    ensures { IfSome result (λ k. IsInScope choice k before.now after.now) }
+{
+    match choice {
+        Choice::Run(n, _) => run_scope(n, before, after),
+        _ => Some(Scope::Own),
+    }
+}
+
+/// A step as it is remembered, by its numbers before and after it.
+fn note_of(
+    table: &PartTable,
+    choice: Choice,
+    scope: Scope,
+    before: &[u32],
+    after: &[u32],
+    outcome: Outcome,
+) -> Remembered
+    requires { length before.now < 4294967295 }
+    ensures scope { result.scope ≡ scope }
+    ensures read { result.read ≡ spec.reads table.now choice scope before.now }
+    ensures written { result.written ≡ map (spec.at after.now) (spec.places table.now choice scope before.now) }
+    ensures outcome { result.outcome ≡ outcome }
+{
+    Remembered {
+        scope,
+        read: reads(table, choice, scope, before),
+        written: at_places(after, places(table, choice, scope, before)),
+        outcome,
+    }
+}
+
+impl ChoiceMemo {
+    /// No step yet.
+    pub fn new(alloc: Global, choice: Choice) -> ChoiceMemo
+        ensures choice { result.choice ≡ choice }
+        ensures steps { result.steps.items ≡ [] }
+    {
+        ChoiceMemo {
+            alloc,
+            choice,
+            steps: Vec::new(alloc),
+            slots: Vec::new(alloc),
+        }
+    }
+
+    /// The step that read this, if one is remembered.
+    fn find(&self, scope: Scope, read: Read) -> Option<Remembered>
+        ensures there { IfSome result (λ r. Contains self.now.steps.items r) }
+        ensures scope { IfSome result (λ r. r.scope ≡ scope) }
+        ensures read { IfSome result (λ r. r.read ≡ read) }
+    {
+        let place = *self.slots.get(slot_of(read, self.slots.len()))?;
+        let step = *self.steps.get(place)?;
+        if step.scope == scope && step.read == read {
+            Some(step)
+        } else {
+            None
+        }
+    }
+
+    /// A step that read what its choice reads of these numbers in a scope, if one is remembered.
+    fn recall_in(&self, table: &PartTable, scope: Scope, numbers: &[u32]) -> Option<Remembered>
+        requires { length numbers.now < 4294967295 }
+        ensures there { IfSome result (λ r. Contains self.now.steps.items r) }
+        ensures read { IfSome result (λ r. r.read ≡ spec.reads table.now self.now.choice r.scope numbers.now) }
+    {
+        self.find(scope, reads(table, self.choice, scope, numbers))
+    }
+
+    /// A step that read what its choice reads of these numbers, if one is remembered.
+    pub fn recall(&self, table: &PartTable, numbers: &[u32]) -> Option<Remembered>
+        requires { length numbers.now < 4294967295 }
+        ensures there { IfSome result (λ r. Contains self.now.steps.items r) }
+        ensures read { IfSome result (λ r. r.read ≡ spec.reads table.now self.now.choice r.scope numbers.now) }
+    {
+        if let Some(step) = self.recall_in(table, Scope::Own, numbers) {
+            return Some(step);
+        }
+        if !matches!(self.choice, Choice::Run(_, _)) {
+            return None;
+        }
+        if let Some(step) = self.recall_in(table, Scope::Link, numbers) {
+            return Some(step);
+        }
+        self.recall_in(table, Scope::Commits, numbers)
+    }
+
+    /// Remembers a step by its numbers before and after it.
+    pub fn learn(
+        &mut self,
+        table: &PartTable,
+        before: &[u32],
+        after: &[u32],
+        outcome: Outcome,
+    ) -> Result<(), AllocError>
+        requires { length before.now < 4294967295 }
+        ensures choice { self.new.choice ≡ self.old.choice }
+        // Each remembered step happened, if this one did.
+        ensures steps { OnOk result ((sc : Scenario) (part : StatePart) (s : State)
+            → AreTrue sc table.now part self.old.choice self.old.steps.items → IsNumbered table.now part before.now s
+            → IsNumbered table.now part after.now (step sc self.old.choice s).after
+            → length s.txns ≡ length sc.programs → names_below (length sc.programs) self.old.choice ≡ true
+            → uncounted outcome ≡ uncounted (step sc self.old.choice s).outcome
+            → AreTrue sc table.now part self.new.choice self.new.steps.items) }
+    {
+        let Some(scope) = scope_of(self.choice, before, after) else {
+            return Ok(());
+        };
+        let step = note_of(table, self.choice, scope, before, after, outcome);
+        self.keep(step)?;
+        Ok(())
+    }
+
+    /// Keeps a step.
+    fn keep(&mut self, step: Remembered) -> Result<(), AllocError>
+        ensures choice { self.new.choice ≡ self.old.choice }
+        ensures steps { OnOk result (self.new.steps.items ≡ self.old.steps.items ++ step ∷ []) }
+    {
+        let place = self.steps.len();
+        self.steps.push(step)?;
+        let wanted = place.saturating_mul(SLOTS_PER_STEP).max(LEAST_SLOTS);
+        if self.slots.len() < wanted {
+            self.slots = spread(self.alloc, &self.steps, wanted.next_power_of_two())?;
+        } else if let Some(slot) = self.slots.get_mut(slot_of(step.read, self.slots.len())) {
+            *slot = place;
+        }
+        Ok(())
+    }
+}
+
+/// Puts a number at a place, if it is there.
+fn put(numbers: &mut Vec<u32>, place: usize, number: u32)
+    ensures { numbers.new.items ≡ slice_set numbers.old.items place number }
+{
+    if place < numbers.len() {
+        numbers[place] = number;
+    }
+}
+
+/// Makes `after` the numbers with those that a remembered step wrote at their places.
+pub fn write(
+    table: &PartTable,
+    choice: Choice,
+    step: &Remembered,
+    numbers: &[u32],
+    after: &mut Vec<u32>,
+) -> Result<(), AllocError>
+    ensures { OnOk result (after.new.items
+        ≡ put_at numbers.now (spec.places table.now choice step.now.scope numbers.now) step.now.written) }
+{
+    let [first, second, third, fourth] = places(table, choice, step.scope, numbers);
+    after.clear();
+    after.extend_from_slice(numbers)?;
+    put(after, first, step.written[0]);
+    put(after, second, step.written[1]);
+    put(after, third, step.written[2]);
+    put(after, fourth, step.written[3]);
+    Ok(())
+}

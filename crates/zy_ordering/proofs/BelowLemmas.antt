@@ -1,0 +1,75 @@
+-- The lines below a scenario, as they are read.
+use Rattle.std.proofs.Common.{◌≡◌, ◌∙◌, ◌∷◌, ℕ, List, [], Result, Ok, Err, None, refl, sym, ap, subst, arith, length, take, drop}
+use Rattle.std.proofs.lemmas.List.{length-map}
+use Rattle.std.specs.declared.vec.Vec.{Vec}
+use Rattle.std.specs.declared.alloc.Global.{Global}
+use Rattle.zy_isa.specs.declared.choice.Choice.{Choice}
+use Rattle.zy_isa.specs.Scenario.{Scenario, IsScenario, AreNamed}
+use Rattle.zy_text.specs.Cut.{cut}
+use Rattle.zy_text.proofs.CutLemmas.{cut_taken}
+use Rattle.zy_logs.specs.declared.faults.ReadFault.{ReadFault}
+use Rattle.zy_logs.specs.declared.faults.ReadFault.TheVariants.{Refused, Memory}
+use Rattle.zy_logs.specs.declared.logs.NumberedLine.{NumberedLine}
+use Rattle.zy_logs.specs.declared.txns.Txns.{Txns}
+use Rattle.zy_logs.specs.Logs.{logs_of, Reads}
+use Rattle.zy_logs.specs.Logs as numbered
+use Rattle.zy_logs.proofs.NamedLemmas.{logs_named, logs_few}
+use Rattle.zy_order.specs.Answers.{IsInput}
+use Rattle.zy_order.specs.Orders.{choices_of}
+use Rattle.zy_engine.specs.Searching.{history_of}
+use Rattle.zy_ordering.proofs.TakenLemmas.{ran_length}
+use Rattle.zy_ordering.specs.Ordering.{below, AreTxnsOf, Says, ReadsBelow, lines_in, line_below, room}
+
+-- what was read of a scenario's transactions is what the lines say
+reads_below : (text lines : List ℕ) (sc : Scenario) (txns : Txns) → AreTxnsOf sc text txns
+    → (r : Result (Vec NumberedLine Global) ReadFault) → Reads r (logs_of txns (room sc) (line_below text) lines) → ReadsBelow text lines sc r
+reads_below text lines sc txns are (Ok v) is = record { txns = txns; are = are; logs = is }
+reads_below text lines sc txns are (Err (Refused r)) is = record { txns = txns; are = are; logs = is }
+reads_below text lines sc txns are (Err Memory) is = tt
+
+-- so is what was read with as much room, from a line of that number on
+pub read_of : (text lines : List ℕ) (sc : Scenario) (txns : Txns) → AreTxnsOf sc text txns → (most first : ℕ)
+    → (r : Result (Vec NumberedLine Global) ReadFault) → most ≡ room sc → first ≡ line_below text → Reads r (logs_of txns most first lines)
+    → ReadsBelow text lines sc r
+read_of text lines sc txns are most first r enough number is =
+    reads_below text lines sc txns are r
+    (subst (λ m. Reads r (logs_of txns m (line_below text) lines)) enough (subst (λ n. Reads r (logs_of txns most n lines)) number is))
+
+-- ---- the parts of an input
+
+-- the front that the code cuts off is the scenario part
+pub text_is : (input text : List ℕ) (n : ℕ) → text ≡ take n input → n ≡ length (cut input) → text ≡ cut input
+text_is input text n front cuts = front ∙ (ap (λ k. take k input) cuts ∙ cut_taken input)
+
+-- and the rest is what is below it
+pub below_is : (input lines : List ℕ) (n : ℕ) → lines ≡ drop n input → n ≡ length (cut input) → lines ≡ below input
+below_is input lines n back cuts = back ∙ ap (λ k. drop k input) cuts
+
+-- so what was read of these is what the input says
+pub reads_cut : (input text lines : List ℕ) (sc : Scenario) (r : Result (Vec NumberedLine Global) ReadFault) → text ≡ cut input
+    → lines ≡ below input → ReadsBelow text lines sc r → ReadsBelow (cut input) (below input) sc r
+reads_cut input text lines sc r front back is =
+    subst (λ t. ReadsBelow t (below input) sc r) front (subst (λ l. ReadsBelow text l sc r) back is)
+
+-- ---- what the lines can be
+
+-- lines have their choices without their numbers too
+same_choices : (lines : List NumberedLine) → choices_of (lines_in lines) ≡ numbered.choices_of lines
+same_choices [] = refl
+same_choices (line ∷ lines) = ap (λ (cs : List Choice). line.line.choice ∷ cs) (same_choices lines)
+
+-- and they can be logs of steps that follow the scenario's own choices
+pub input_of : (text under : List ℕ) (sc : Scenario) (lines : List NumberedLine) → IsScenario sc → Says text under sc (Ok lines)
+    → IsInput (history_of None sc) (lines_in lines)
+input_of text under sc lines is says = record {
+  named = subst (λ n. AreNamed n (choices_of (lines_in lines))) says.are.count
+      (subst (λ cs. AreNamed says.txns.count cs) (sym (same_choices lines))
+      (logs_named says.txns (room sc) (line_below text) under lines says.logs));
+  room = omega (
+    arith,
+    ran_length sc,
+    is.few_choices,
+    logs_few says.txns (room sc) (line_below text) under lines says.logs,
+    length-map lines (λ (l : NumberedLine). l.line),
+  );
+}

@@ -1,0 +1,5 @@
+mod NameLemmas
+mod TakenLemmas
+mod BelowLemmas
+mod AnswerLemmas
+mod RunLemmas

@@ -1,0 +1,63 @@
+-- The answer is that of the search; where there was no memory for it, nothing went out.
+use Rattle.std.proofs.Common.{◌∙◌, List, Ok, Err, inl, refl, subst}
+use Rattle.std.proofs.lemmas.Result.{err_from_is_err_and}
+use Rattle.zy_logs.specs.declared.log_line.LogLine.{LogLine}
+use Rattle.zy_machine.specs.Histories.{History}
+use Rattle.zy_order.specs.Answers.{IsAnswer}
+use Rattle.zy_engine.specs.Searching.{WroteSome}
+use Rattle.zy_ordering.specs.Ordering.{lines_in, IsTextOf}
+use Rattle.zy_ordering.proofs.TakenLemmas.{ran_own}
+use Rattle.zy_ordering.proofs.AnswerLemmas.{wrote_failed}
+use Rattle.zy_ordering.proofs.ordering.write_order.Goals as goal
+
+pub order-requires : goal.order-requires
+order-requires g c = rw (c.in_ok-machine.ensures.run, c.deref.ensures.value, c.in_ok-lines.ensures) c.requires.input
+
+pub write_answer-requires-clause-ran : goal.write_answer-requires-clause-ran
+write_answer-requires-clause-ran g c = ran_own _ c.args.scenario c.in_ok-machine.ensures.run
+
+pub returns-in_err-lines : goal.returns-in_err-lines
+returns-in_err-lines g c =
+    let p = err_from_is_err_and c.from_residual.result c.from_residual.ensures.1 in
+    rw (p.1, p.2) (inl refl, refl)
+
+pub returns-in_err-machine : goal.returns-in_err-machine
+returns-in_err-machine g c =
+    let p = err_from_is_err_and c.from_residual-in_err-machine.result c.from_residual-in_err-machine.ensures.1 in
+    rw (p.1, p.2) (inl refl, refl)
+
+pub returns-in_err-report : goal.returns-in_err-report
+returns-in_err-report g c =
+    let p = err_from_is_err_and c.from_residual-in_err-report.result c.from_residual-in_err-report.ensures.1 in
+    rw (p.1, p.2) (inl refl, refl)
+
+pub returns-in_err-write_answer : goal.returns-in_err-write_answer
+returns-in_err-write_answer g c =
+    let old = g.K.Sink.written c.args.sink.now in
+    let new = g.K.Sink.written c.write_answer.new.sink in
+    let before = g.K.Sink.failures c.args.sink.now in
+    let after = g.K.Sink.failures c.write_answer.new.sink in
+    let w = c.args.options.wording in
+    let a = c.in_ok-report.report.answer in
+    let fault = c.in_err-write_answer.field-0.0 in
+    let lines = c.deref.ensures.value ∙ c.in_ok-lines.ensures in
+    let is = subst (λ (h : History). IsAnswer h (lines_in c.args.lines.now) a) c.in_ok-machine.ensures.run
+    (subst (λ (ls : List LogLine). IsAnswer c.in_ok-machine.machine ls a) lines c.in_ok-report.ensures) in
+    let wrote = subst (λ (h : History). WroteSome {X = Unit {0}} (IsTextOf w h.scenario a) old new before after (Err fault)) c.in_ok-machine.ensures.run
+    c.in_err-write_answer.ensures in
+    let p = err_from_is_err_and c.from_residual-in_err-write_answer.result c.from_residual-in_err-write_answer.ensures.1 in
+    rw (p.1, p.2) (wrote_failed w c.args.scenario (lines_in c.args.lines.now) a old new before after fault is wrote)
+
+pub returns : goal.returns
+returns g c =
+    let old = g.K.Sink.written c.args.sink.now in
+    let new = g.K.Sink.written c.write_answer.new.sink in
+    let before = g.K.Sink.failures c.args.sink.now in
+    let after = g.K.Sink.failures c.write_answer.new.sink in
+    let w = c.args.options.wording in
+    let a = c.in_ok-report.report.answer in
+    let lines = c.deref.ensures.value ∙ c.in_ok-lines.ensures in
+    let is = subst (λ (h : History). IsAnswer h (lines_in c.args.lines.now) a) c.in_ok-machine.ensures.run
+    (subst (λ (ls : List LogLine). IsAnswer c.in_ok-machine.machine ls a) lines c.in_ok-report.ensures) in
+    let wrote = subst (λ (h : History). WroteSome (IsTextOf w h.scenario a) old new before after (Ok c.in_ok-write_answer.field-0)) c.in_ok-machine.ensures.run
+    c.in_ok-write_answer.ensures in ((wrote.text, (is, wrote.is), wrote.wrote.0), wrote.wrote.1)

@@ -1,0 +1,147 @@
+-- What the engine does: it reads a scenario and logs below it, and writes the scenario with an order of them.
+use Rattle.std.specs.Prelude.{◌≡◌, ◌==◌, ◌≤◌, ◌+◌, ◌-◌, ◌++◌, ◌⊎◌, ℕ, List, [], Option, None, Result, Ok, Err, IfOk, IfErr, IfSome}
+use Rattle.std.specs.Prelude.{count_by, drop, length, map}
+use Rattle.std.specs.declared.vec.Vec.{Vec}
+use Rattle.std.specs.declared.alloc.Global.{Global}
+use Rattle.std.specs.Io.KnownBytes.{Appends}
+use Rattle.zy_io.specs.Streams.{ReadWhole, WrotePrefix, most_read}
+use Rattle.zy_io.specs.declared.writing.TextFault.{TextFault}
+use Rattle.zy_io.specs.declared.writing.TextFault.TheVariants.{Write, Memory}
+use Rattle.zy_isa.specs.Limits.{max_choices}
+use Rattle.zy_isa.specs.Scenario.{Scenario}
+use Rattle.zy_text.specs.Cut.{cut}
+use Rattle.zy_text.specs.Lines.{texts}
+use Rattle.zy_text.specs.Text.{Means}
+use Rattle.zy_threads.specs.Orders.{reordered}
+use Rattle.zy_logs.specs.declared.faults.ReadFault.{ReadFault}
+use Rattle.zy_logs.specs.declared.faults.ReadFault.TheVariants as reading
+use Rattle.zy_logs.specs.declared.faults.Refusal.{Refusal}
+use Rattle.zy_logs.specs.declared.log_line.LogLine.{LogLine}
+use Rattle.zy_logs.specs.declared.logs.NumberedLine.{NumberedLine}
+use Rattle.zy_logs.specs.declared.txns.Txns.{Txns}
+use Rattle.zy_logs.specs.Logs.{logs_of}
+use Rattle.zy_order.specs.declared.answer.Answer.{Answer}
+use Rattle.zy_order.specs.declared.answer.Answer.TheVariants as answer
+use Rattle.zy_order.specs.declared.answer.Report.{Report}
+use Rattle.zy_order.specs.Answers.{IsAnswer}
+use Rattle.zy_engine.specs.declared.wording.Wording.{Wording}
+use Rattle.zy_engine.specs.Engines.{Streams}
+use Rattle.zy_engine.specs.Faults.{IfRefused}
+use Rattle.zy_engine.specs.Inputs.{IsTextFault}
+use Rattle.zy_engine.specs.Searching.{history_of, IsWorded}
+use Rattle.zy_ordering.specs.declared.faults.OrderFault.{OrderFault}
+use Rattle.zy_ordering.specs.declared.faults.OrderFault.TheVariants.{Bench, Log}
+use Rattle.zy_ordering.specs.Faults.{ReadsInput, failed_reads, failed_writes, IsQuiet}
+use Rattle.zy_ordering.specs.Names.{names_of}
+
+-- ---- the input
+
+-- what is below the scenario part of an input
+abbrev pub below : List ℕ → List ℕ
+below input = drop (length (cut input)) input
+
+-- the number of the line below this text
+abbrev pub line_below : List ℕ → ℕ
+line_below text = 1 + count_by (λ b. b == 10) text
+
+-- how many choices a scenario has room for behind its own
+abbrev pub room : Scenario → ℕ
+room sc = max_choices - length sc.choices
+
+-- the transactions of a scenario, with the names that its text gives them
+pub record AreTxnsOf (sc : Scenario) (text : List ℕ) (txns : Txns) : Type 0 where
+  pub count : txns.count ≡ length sc.programs
+  pub names : texts txns.names.now ≡ names_of text
+
+-- what the lines below a scenario's text say, as lines of logs
+pub record Says (text lines : List ℕ) (sc : Scenario) (said : Result (List NumberedLine) Refusal) : Type 0 where
+  pub txns : Txns
+  pub are : AreTxnsOf sc text txns
+  pub logs : logs_of txns (room sc) (line_below text) lines ≡ said
+
+-- the answer is what the lines say, unless there was no memory
+abbrev pub ReadsBelow : List ℕ → List ℕ → Scenario → Result (Vec NumberedLine Global) ReadFault → Type 0
+ReadsBelow text lines sc (Ok v) = Says text lines sc (Ok v.items)
+ReadsBelow text lines sc (Err (reading.Refused r)) = Says text lines sc (Err r)
+ReadsBelow text lines sc (Err reading.Memory) = Unit {0}
+
+-- lines without their numbers
+abbrev pub lines_in : List NumberedLine → List LogLine
+lines_in lines = map (λ (l : NumberedLine). l.line) lines
+
+-- ---- the answer
+
+-- a text of an answer: of the scenario with the choices of an order behind its own, or nothing
+abbrev pub IsTextOf : Wording → Scenario → Answer → List ℕ → Type 0
+IsTextOf w sc (answer.Found v) text = IsWorded w (reordered sc (sc.choices ++ v.items)) text
+IsTextOf w sc (answer.Nowhere v) text = text ≡ []
+IsTextOf w sc (answer.Spent v) text = text ≡ []
+
+-- an answer for lines that follow a scenario's own choices, and a text of it
+abbrev pub IsAnswerOf : Wording → Scenario → List LogLine → Answer → List ℕ → Type 0
+IsAnswerOf w sc lines a text = IsAnswer (history_of None sc) lines a × IsTextOf w sc a text
+
+-- an answer for the scenario and the logs that an input means, and a text of it
+pub record IsAnswerTo (w : Wording) (input : List ℕ) (a : Answer) (text : List ℕ) : Type 0 where
+  pub scenario : Scenario
+  pub means : Means (cut input) scenario
+  pub lines : List NumberedLine
+  pub says : Says (cut input) (below input) scenario (Ok lines)
+  pub is : IsAnswerOf w scenario (lines_in lines) a text
+
+-- the fault is the first one of an input; or it is none of an input
+abbrev pub IsFaultOf : List ℕ → OrderFault → Type 0
+IsFaultOf input (Bench f) = IfRefused f (IsTextFault (cut input) f)
+IsFaultOf input (Log r) = (sc : Scenario) × Means (cut input) sc × Says (cut input) (below input) sc (Err r)
+
+-- ---- what goes out
+
+-- nothing went out, or a prefix of a text of an answer
+abbrev pub WrotePart : (Answer → List ℕ → Type 0) → Option (List ℕ) → Option (List ℕ) → Type 0
+WrotePart Is old new = (new ≡ old) ⊎ ((a : Answer) × (text : List ℕ) × Is a text × WrotePrefix old new text)
+
+-- a text of this answer went out
+abbrev pub WroteText : (Answer → List ℕ → Type 0) → Option (List ℕ) → Option (List ℕ) → Answer → Type 0
+WroteText Is old new a = (text : List ℕ) × Is a text × Appends old new text
+
+-- a call that writes a text of an answer: at Ok all of it, and the answer is the one that is returned
+abbrev pub WroteOrder : (Answer → List ℕ → Type 0) → Option (List ℕ) → Option (List ℕ) → ℕ → ℕ
+    → Result Report TextFault → Type 0
+WroteOrder Is old new before after (Ok r) = WroteText Is old new r.answer × (after ≡ before)
+WroteOrder Is old new before after (Err Write) = WrotePart Is old new × (after ≡ before + 1)
+WroteOrder Is old new before after (Err Memory) = WrotePart Is old new × (after ≡ before)
+
+-- a call that answers of an input
+pub record Answers (w : Wording) (input : List ℕ) (old new : Option (List ℕ)) (before after : ℕ)
+    (result : Result Report OrderFault) : Type 0 where
+  -- at Ok exactly a text of the answer went out
+  pub answered : IfOk result (λ r. WroteText (IsAnswerTo w input) old new r.answer)
+  -- whatever comes, nothing but a prefix of a text of an answer did
+  pub part : WrotePart (IsAnswerTo w input) old new
+  -- a refused input is reported by its first fault
+  pub fault : IfErr result (IsFaultOf input)
+  -- before the input is read and accepted nothing is written
+  pub quiet : IfErr result (λ f. IsQuiet f → new ≡ old)
+  -- each fault of the writer is one failed call, and there is none of the reader
+  pub writes : after ≡ before + failed_writes result
+  pub reads : failed_reads result ≡ 0
+  pub whole : (x y : Option (List ℕ)) → ReadWhole x y → ReadsInput x y result
+
+-- the engine, which reads the input too
+pub record ConvertsOrder (w : Wording) (old new : Streams) (result : Result Report OrderFault) : Type 0 where
+  -- at Ok the answer is one for what the input means, and exactly a text of it went out
+  pub answered : IfOk result (λ r. IfSome old.left (λ input.
+      WroteText (IsAnswerTo w input) old.written new.written r.answer))
+  -- whatever comes, nothing but a prefix of a text of an answer went out
+  pub part : IfSome old.left (λ input. WrotePart (IsAnswerTo w input) old.written new.written)
+  -- a refused input is reported by its first fault
+  pub fault : IfErr result (λ f. IfSome old.left (λ input. IsFaultOf input f))
+  -- the input is read whole; only where it has more than max_input bytes is it too long, and then one byte more is read
+  pub input : ReadsInput old.left new.left result
+  -- before the input is read and accepted nothing is written
+  pub quiet : IfErr result (λ f. IsQuiet f → new.written ≡ old.written)
+  -- each fault of the reader and of the writer is one failed call
+  pub reads : new.reads ≡ old.reads + failed_reads result
+  pub writes : new.writes ≡ old.writes + failed_writes result
+  -- whatever the reader reports of its bytes, its calls give at most one more than the longest input has
+  pub bound : new.given ≤ old.given + most_read

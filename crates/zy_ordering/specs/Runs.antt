@@ -1,0 +1,34 @@
+-- The run of the scenario that goes out.
+use Rattle.std.specs.Prelude.{◌≡◌, ◌++◌, List, [], ◌∷◌}
+use Rattle.zy_isa.specs.declared.choice.Choice.{Choice}
+use Rattle.zy_isa.specs.Scenario.{Scenario}
+use Rattle.zy_table.specs.declared.entry.Entry.{Entry}
+use Rattle.zy_table.specs.Play.{opening, entries}
+use Rattle.zy_laws.specs.Orders.{reordered}
+use Rattle.zy_logs.specs.declared.log_line.LogLine.{LogLine}
+use Rattle.zy_logs.specs.Agrees.{Agrees}
+use Rattle.zy_order.specs.Orders.{IsMerge}
+
+-- the scenario with choices behind its own
+abbrev pub extended : Scenario → List Choice → Scenario
+extended sc cs = reordered sc (sc.choices ++ cs)
+
+-- the steps of a scenario's run
+abbrev pub steps_of : Scenario → List Entry
+steps_of sc = entries sc (opening sc) sc.choices
+
+-- each line is of the step in its place, and agrees with it
+abbrev pub AgreeEach : List LogLine → List Entry → Type 0
+AgreeEach [] [] = Unit {0}
+AgreeEach [] (e ∷ es) = ⊥
+AgreeEach (line ∷ lines) [] = ⊥
+AgreeEach (line ∷ lines) (e ∷ es) = (e.choice ≡ line.choice) × Agrees line e × AgreeEach lines es
+
+-- the run of the scenario with these choices behind its own has the same steps, and behind them one for each line of a
+-- merge of the logs
+pub record RunsOrder (sc : Scenario) (lines : List LogLine) (cs : List Choice) : Type 0 where
+  pub order : List LogLine
+  pub merge : IsMerge order lines
+  pub steps : List Entry
+  pub behind : steps_of (extended sc cs) ≡ steps_of sc ++ steps
+  pub agree : AgreeEach order steps

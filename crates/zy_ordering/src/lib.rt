@@ -1,0 +1,11 @@
+//! Answers whether the logs of three actors have an order that the step table allows, as a function from bytes to bytes.
+#![tactic(auto)]
+
+pub mod faults;
+pub mod laws;
+pub mod logs_below;
+pub mod names;
+pub mod ordering;
+
+pub use crate::faults::OrderFault;
+pub use crate::ordering::OrderOptions;

@@ -1,0 +1,53 @@
+//! The logs that are below a scenario.
+ghost use Rattle.std.specs.Prelude.{◌≡◌, ◌==◌, ◌≤◌, ◌+◌, count_by, length, map, IfOk};
+ghost use Rattle.zy_isa.specs.Limits.{max_txns};
+ghost use Rattle.zy_io.specs.Streams.{max_input};
+ghost use Rattle.zy_ordering.specs.Ordering.{lines_in, ReadsBelow};
+
+use crate::names::names_of;
+use std::alloc::{AllocError, Global};
+use zy_isa::{MAX_CHOICES, Scenario};
+use zy_logs::logs::read_logs;
+use zy_logs::{LogLine, NumberedLine, ReadFault, Txns};
+
+/// How many lines end in these bytes.
+fn line_ends(bytes: &[u8]) -> usize
+    ensures { result ≡ count_by (λ b. b == 10) bytes.now }
+{
+    bytes.iter().filter(|byte| **byte == b'\n').count()
+}
+
+/// Reads the lines below a scenario's text as lines of logs of its transactions, no more than it has room for choices. Each
+/// has its number in the whole input.
+pub fn read_below(
+    alloc: Global,
+    scenario: &Scenario,
+    text: &[u8],
+    below: &[u8],
+) -> Result<Vec<NumberedLine>, ReadFault>
+    requires { (length text.now ≤ max_input) × (length below.now ≤ max_input) }
+    ensures { ReadsBelow text.now below.now scenario.now result }
+{
+    let names = names_of(alloc, text)?;
+    let txns = Txns {
+        count: scenario.programs().len(),
+        names: &names,
+    };
+    let most = MAX_CHOICES.saturating_sub(scenario.choices().len());
+    let first = 1 + line_ends(text);
+    read_logs(alloc, txns, most, first, below)
+}
+
+/// The lines without their numbers.
+pub(crate) fn without_numbers(
+    alloc: Global,
+    lines: &[NumberedLine],
+) -> Result<Vec<LogLine>, AllocError>
+    ensures { IfOk result (λ v. v.items ≡ lines_in lines.now) }
+{
+    let mut bare = Vec::new(alloc);
+    for line in lines {
+        bare.push(line.line)?;
+    }
+    Ok(bare)
+}

@@ -1,0 +1,113 @@
+//! The engine that looks for an order of logs.
+ghost use Rattle.std.specs.Prelude.{◌≡◌, ◌<◌, ◌≤◌, None, length};
+ghost use Rattle.zy_io.specs.Streams.{max_input};
+ghost use Rattle.zy_engine.specs.Engines.{streams};
+ghost use Rattle.zy_engine.specs.Searching.{history_of, WroteSome};
+ghost use Rattle.zy_order.specs.Answers.{IsInput};
+ghost use Rattle.zy_ordering.specs.Ordering.{lines_in, Answers, ConvertsOrder, IsAnswerOf, IsTextOf, WroteOrder};
+
+use crate::faults::OrderFault;
+use crate::logs_below::{read_below, without_numbers};
+use std::alloc::Global;
+use zy_engine::format::accept;
+use zy_engine::searching::write_found;
+use zy_engine::{Format, Wording};
+use zy_io::reading::read_all;
+use zy_io::{Sink, Source, TextFault};
+use zy_isa::Scenario;
+use zy_logs::NumberedLine;
+use zy_machine::Machine;
+use zy_order::order::order;
+use zy_order::{Answer, Report};
+use zy_text::cut::cut_len;
+
+/// What an order is looked for by.
+#[derive(Clone, Copy, Debug, PartialEq, Eq)]
+pub struct OrderOptions {
+    /// How the scenario is written that goes out.
+    pub wording: Wording,
+    /// The most states that may be reached.
+    pub most: u32,
+}
+
+/// Writes what goes out of an answer: of a machine that has made all choices of its scenario, whose text is at hand.
+fn write_answer<K: Sink>(
+    alloc: Global,
+    wording: Wording,
+    text: &[u8],
+    machine: &Machine,
+    answer: &Answer,
+    sink: &mut K,
+) -> Result<(), TextFault>
+    requires ran { machine.now ≡ history_of None machine.now.scenario }
+    requires calls { K.failures sink.old < u64.MAX }
+    ensures { WroteSome (IsTextOf wording machine.now.scenario answer.now)
+        (K.written sink.old) (K.written sink.new) (K.failures sink.old) (K.failures sink.new) result }
+{
+    match answer {
+        Answer::Found(path) => write_found(alloc, wording, text, machine, path, sink),
+        Answer::Nowhere(_) => Ok(()),
+        Answer::Spent(_) => Ok(()),
+    }
+}
+
+/// Makes the choices of a scenario, looks for an order of lines of logs behind them, and writes what goes out of the answer.
+/// The scenario's own text is at hand.
+fn write_order<K: Sink>(
+    alloc: Global,
+    options: OrderOptions,
+    text: &[u8],
+    scenario: Scenario,
+    lines: &[NumberedLine],
+    sink: &mut K,
+) -> Result<Report, TextFault>
+    requires input { IsInput (history_of None scenario) (lines_in lines.now) }
+    requires calls { K.failures sink.old < u64.MAX }
+    ensures { WroteOrder (IsAnswerOf options.wording scenario (lines_in lines.now))
+        (K.written sink.old) (K.written sink.new) (K.failures sink.old) (K.failures sink.new) result }
+{
+    let lines = without_numbers(alloc, lines)?;
+    let machine = Machine::run_all(alloc, scenario)?;
+    let report = order(alloc, &machine, &lines, options.most)?;
+    write_answer(alloc, options.wording, text, &machine, &report.answer, sink)?;
+    Ok(report)
+}
+
+/// Answers of an input: a scenario text through its end line, and below it lines of logs.
+fn answer<K: Sink>(
+    alloc: Global,
+    options: OrderOptions,
+    input: &[u8],
+    sink: &mut K,
+) -> Result<Report, OrderFault>
+    requires few { length input.now ≤ max_input }
+    requires calls { K.failures sink.old < u64.MAX }
+    ensures { Answers options.wording input.now (K.written sink.old) (K.written sink.new) (K.failures sink.old)
+        (K.failures sink.new) result }
+{
+    let (text, below) = input.split_at(cut_len(input));
+    let scenario = accept(alloc, Format::Text, text)?;
+    let lines = read_below(alloc, &scenario, text, below)?;
+    let report = write_order(alloc, options, text, scenario, &lines, sink)?;
+    Ok(report)
+}
+
+/// Reads an input whole: a scenario text through its first line whose only word is `end`, and below it lines of three logs,
+/// mixed in any way. The scenario's own choices are steps already taken. Looks for an order of the logs behind them, and
+/// where there is one, the scenario goes out with its choices and those of the order behind them; else nothing does.
+/// The bytes that were read are left in `input`.
+pub fn order_bytes<S: Source, K: Sink>(
+    alloc: Global,
+    options: OrderOptions,
+    source: &mut S,
+    sink: &mut K,
+    input: &mut Vec<u8>,
+) -> Result<Report, OrderFault>
+    requires { (S.failures source.old < u64.MAX) × (K.failures sink.old < u64.MAX) }
+    ensures { let at = streams S.left S.failures S.given K.written K.failures in
+        ConvertsOrder options.wording (at source.old sink.old) (at source.new sink.new) result }
+{
+    let bytes = read_all(alloc, source)?;
+    *input = bytes;
+    answer(alloc, options, input.as_slice(), sink)
+}

@@ -1,0 +1,126 @@
+"""Rounds of the store: a scenario, a run of it, and what `zy_bench order` says of the logs."""
+
+import os
+import random
+import re
+import signal
+import subprocess
+import sys
+import time
+from collections import namedtuple
+from itertools import zip_longest
+
+HERE = os.path.dirname(os.path.realpath(__file__))
+TOP = os.path.dirname(os.path.dirname(HERE))
+
+# ZY_BENCH names another program than the one of this checkout.
+PROGRAM = os.environ.get('ZY_BENCH', os.path.join(TOP, 'zy_bench'))
+
+# How long the store may take, in seconds: where one of its processes has died, the others wait for it.
+LIMIT = 120
+
+# What is said of a round, by the status of `zy_bench order`.
+VERDICTS = {0: 'explained', 4: 'no order', 6: 'gave up'}
+
+# What is said of a round, in one word or two and in lines; the logs; how often a fault made a difference; the seconds of the store and of the answer.
+Round = namedtuple('Round', 'verdict lines logs slips ran asked')
+
+
+def random_scenario(rule, seed):
+    """Few rows and pages, so that transactions meet."""
+    chance = random.Random(seed)
+    keys = [10 * k for k in range(1, chance.randint(3, 5))]
+    lines = ['zephyr 1', 'cap %d' % chance.randint(2, 4), 'pages %d' % chance.randint(4, 8), 'rule ' + rule]
+    lines += ['row %d %d' % (key, chance.randint(1, 99)) for key in keys]
+    for number in range(chance.randint(2, 6)):
+        lines.append('txn %d' % number)
+        for _ in range(chance.randint(1, 3)):
+            lines += chance.choice([transfer, copy, scan, inserts])(chance, keys)
+        lines.append('abort' if chance.random() < 0.1 else 'commit')
+    return '\n'.join(lines + ['end', ''])
+
+
+def transfer(chance, keys):
+    return ['set r7 %d' % chance.randint(1, 9), 'set r0 %d' % chance.choice(keys), 'read r1 r0', 'add r1 r7', 'write r0 r1']
+
+
+def copy(chance, keys):
+    return ['set r0 %d' % chance.choice(keys), 'set r2 %d' % chance.choice(keys), 'read r3 r0', 'write r2 r3']
+
+
+def scan(chance, keys):
+    return [line for place, key in enumerate(sorted(chance.sample(keys, 2))) for line in ('set r0 %d' % key, 'read r%d r0' % (place + 4))]
+
+
+def inserts(chance, keys):
+    free = 10 * len(keys) + 15
+    return [line for _ in range(chance.randint(1, 3)) for line in ('set r0 %d' % chance.randint(0, free), 'insert r0 r7')]
+
+
+class Failed(Exception):
+    """The store did not run, for this reason."""
+
+
+def log_of(folder, name):
+    """The text of a log; none where a crash came before it was made. Where a crash cut off the end of its last line, that is ended here."""
+    path = os.path.join(folder, name + '.log')
+    text = content(path) if os.path.exists(path) else ''
+    return text + '\n' * (not text.endswith('\n') and text != '')
+
+
+def content(*path):
+    """The text of a file."""
+    with open(os.path.join(*path), encoding='utf-8') as file:
+        return file.read()
+
+
+def put(text, *path):
+    with open(os.path.join(*path), 'w', encoding='utf-8') as file:
+        file.write(text)
+
+
+def ask(command, text):
+    return subprocess.run([PROGRAM, command], input=text, capture_output=True, text=True, check=False)
+
+
+def run_store(words, may_fail, limit):
+    """Runs the store. It prints how often its fault made a difference."""
+    command = [sys.executable, os.path.join(HERE, 'store.py'), *words]
+    with subprocess.Popen(command, stdout=subprocess.PIPE, stderr=subprocess.PIPE, text=True, start_new_session=True) as store:
+        try:
+            output, errors = store.communicate(timeout=limit)
+        except subprocess.TimeoutExpired:
+            os.killpg(store.pid, signal.SIGKILL)
+            raise Failed('the store did not end within %g s' % limit) from None
+    if store.returncode and not may_fail:
+        raise Failed(errors.strip())
+    return int(output or 0)
+
+
+def play(text, folder, seed, fault=None, crash=None):
+    """A round: the store runs a scenario, with a fault or until it crashes, and the logs that it writes into a folder are judged."""
+    put(text, folder, 'scenario')
+    words = ['--seed', str(seed)] + (['--fault', fault] if fault else []) + (['--crash', '%.4f' % crash] if crash else [])
+    begun = time.monotonic()
+    slips = run_store([os.path.join(folder, 'scenario'), folder, *words], bool(crash), LIMIT)
+    ran = time.monotonic() - begun
+    logs = ''.join(log_of(folder, name) for name in ('client', 'a', 'b'))
+    put(text + logs, folder, 'input')
+    verdict, lines = judged(text + logs, None if crash else content(folder, 'end'))
+    return Round(verdict, lines, logs, slips, ran, time.monotonic() - begun - ran)
+
+
+def judged(text, end):
+    """What is said of a scenario with logs, and of the store's end if there is one: logs have no rows and no registers."""
+    answer = ask('order', text)
+    if answer.returncode or end is None:
+        return VERDICTS.get(answer.returncode, 'status %d' % answer.returncode), answer.stderr.splitlines()
+    ends = zip_longest(end.splitlines(), end_of(ask('run', answer.stdout).stdout), fillvalue='')
+    differences = ["the store has '%s', and the order ends with '%s'" % pair for pair in ends if pair[0] != pair[1]]
+    return 'another end' if differences else 'explained', differences
+
+
+def end_of(listing):
+    """The lines of a listing's final state that the store writes, without the numbers of commits."""
+    lines = listing[listing.index('\nfinal\n'):].splitlines()
+    return [re.sub(r'^(txn \d+ committed [AB]) \d+', r'\1', line) for line in lines if re.match('mode|page|txn', line)]

@@ -1,0 +1,116 @@
+"""Random scenarios with logs of a run: each step a line of its actor's log, some of its parts left out, and the logs mixed."""
+
+from collections import namedtuple
+
+from plain_order import ACTORS, Line, TooMany, came_of, order, split
+from plain_table import opening, read
+from random_questions import line_of, random_text, random_walk
+
+# A scenario with its own choices, the state after them, lines, and the whole text with the number of each line in it.
+Logs = namedtuple('Logs', 'scenario start lines text numbers')
+
+# How many places the model may come to.
+MOST = 2000
+
+# How often a part of a line is left out: in a log none, some or all.
+SHARES = (0, 0, 0.2, 0.6, 1)
+
+# The outcomes that a line may tell which is changed, and the messages.
+OUTCOMES = ('started', 'badmode', 'began A', 'began B', 'idle', 'elsewhere', 'notyet', 'did', 'did', 'split 0 1 2', 'aborted own', 'aborted killed',
+            'aborted badkey', 'aborted missing', 'aborted duplicate', 'aborted frozen 0', 'aborted nopage', 'aborted gone 0', 'aborted gone 1', 'committed 1',
+            'committed 2', 'waits 0', 'waits 1', 'pulls 0', 'pulls 1', 'awaits 0', 'nomessage', 'got wire', 'got ready', 'got dual', 'stale 0', 'held 0',
+            'got pull 0', 'got page 0', 'got page 1', 'got finish', 'got done', 'stray', 'finishing', 'active 0', 'pushed 0', 'pushed 1', 'nopush')
+KINDS = ('wire', 'ready', 'dual', 'pull', 'page', 'finish', 'done')
+
+
+def random_logs(chance, changes):
+    """Logs of a random run with a number of changes, for which there are not too many places."""
+    while True:
+        text = random_text(chance)
+        scenario = read(text)
+        kill = chance.random() < 0.5
+        own, start = random_walk(chance, scenario, opening(scenario), kill, chance.choice([0, 0, 2, 6]))
+        steps, _ = random_walk(chance, scenario, start, kill, chance.randint(1, 30))
+        lines = logged(chance, scenario, start, steps)
+        for _ in range(changes):
+            lines = changed(chance, lines)
+        try:
+            answer = order(scenario, start, split(lines), MOST)
+        except TooMany:
+            continue
+        mixed_lines = mixed(chance, split(lines))
+        head = text.replace('\nend\n', ''.join('\n' + line_of(choice) for choice in own) + '\nend\n')
+        return Logs(scenario._replace(choices=own), start, mixed_lines, *written(chance, scenario, head, mixed_lines)), answer
+
+
+def logged(chance, scenario, state, steps):
+    """The lines of a run."""
+    outcomes, numbers, messages = (chance.choice(SHARES) for _ in range(3))
+    lines = []
+    for choice in steps:
+        outcome, sent, state = came_of(scenario, state, choice)
+        told = [] if chance.random() < outcomes else shortened(chance, outcome) if chance.random() < numbers else outcome
+        lines.append(Line(choice, told, None if chance.random() < messages else sent))
+    return lines
+
+
+def shortened(chance, outcome):
+    """An outcome without some of its last words; `got` is not an outcome by itself."""
+    return outcome[:chance.randint(2 if outcome[0] == 'got' else 1, len(outcome))]
+
+
+def changed(chance, lines):
+    """Lines of which one is changed: it tells something else, is swapped with the next one of its actor, or is missing."""
+    if not lines:
+        return lines
+    at = chance.randrange(len(lines))
+    line, kind = lines[at], chance.choice(['outcome', 'outcome', 'message', 'swap', 'swap', 'missing'])
+    if kind == 'swap':
+        return swapped(lines, at)
+    if kind == 'missing':
+        return lines[:at] + lines[at + 1:]
+    other = line._replace(told=chance.choice(OUTCOMES).split()) if kind == 'outcome' else line._replace(sent=chance.choice(KINDS))
+    return lines[:at] + [other] + lines[at + 1:]
+
+
+def swapped(lines, at):
+    """Lines of which one and the next one of its actor have changed places."""
+    after = next((i for i in range(at + 1, len(lines)) if lines[i].choice[0] == lines[at].choice[0]), at)
+    swap = list(lines)
+    swap[at], swap[after] = lines[after], lines[at]
+    return swap
+
+
+def mixed(chance, logs):
+    """The lines of logs, mixed."""
+    actors = [x for x in range(len(ACTORS)) for _ in logs[x]]
+    chance.shuffle(actors)
+    left = [iter(log) for log in logs]
+    return [next(left[x]) for x in actors]
+
+
+def written(chance, scenario, head, lines):
+    """The text of a scenario with the lines below it, some of them behind comments and empty lines, and the number of each line."""
+    texts, numbers = head.splitlines(), []
+    for line in lines:
+        texts += chance.choices([[], [''], ['; A run 0 -> did'], ['', '\t; ']], (9, 1, 1, 1))[0]
+        texts.append(chance.choice(['', '', ' ']) + spelled(chance, scenario, line) + chance.choice(['', '', ' ', ' ; -> ?']))
+        numbers.append(len(texts))
+    return '\n'.join(texts) + chance.choice(['', '\n']), numbers
+
+
+def spelled(chance, scenario, line):
+    """A line as text."""
+    actor, action, txn = line.choice
+    words = [actor, action] + ([] if txn is None else [name_of(chance, scenario, txn)])
+    if line.told:
+        words += ['->'] + line.told[:1] + [name_of(chance, scenario, int(word)) if line.told[0] == 'active' else word for word in line.told[1:]]
+    elif chance.random() < 0.5:
+        words += ['->', '?']
+    return chance.choice([' ', ' ', ' ', '\t']).join(words + (['!', line.sent] if line.sent else []))
+
+
+def name_of(chance, scenario, txn):
+    """A transaction's number, or its name if it has one."""
+    names = [name for name, number in scenario.names.items() if number == txn]
+    return chance.choice(names)
