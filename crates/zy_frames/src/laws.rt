@@ -36,7 +36,7 @@ pub fn a_step_reads_its_parts()
         → SameMove choice v w (move sc choice v) (move sc choice w) }
 {}
 
-/// A choice changes the parts of a view that it writes, and no other.
+/// A choice changes only the parts of a view that it writes.
 pub fn a_step_writes_its_parts()
     ensures { (sc : Scenario) (choice : AChoice) (v : View) → Changes choice v (move sc choice v).after }
 {}
@@ -51,7 +51,7 @@ pub fn a_step_reads_one_side()
         (seen_by (side_of sc choice s) (step sc choice s)) (seen_by (side_of sc choice s) (step sc choice t)) }
 {}
 
-/// On that side a step changes the parts that its choice writes, and no other.
+/// On that side a step changes only the parts that its choice writes.
 pub fn a_step_writes_one_side()
     ensures { (sc : Scenario) (choice : AChoice) (s : State)
         → Changes choice (facing (side_of sc choice s) s) (facing (side_of sc choice s) (step sc choice s).after) }
