@@ -72,7 +72,7 @@ long Whole xs = length-map xs txn
 long Live xs = length-map (map live_txn xs) txn ∙ length-map xs live_txn
 
 -- a step leaves as many transactions
-many_after : (sc : Scenario) (c : Choice) (s : State) → length (step sc c s).after.txns ≡ length s.txns
+pub many_after : (sc : Scenario) (c : Choice) (s : State) → length (step sc c s).after.txns ≡ length s.txns
 many_after sc c s = at_either (side_of sc c s) (step sc c s).after (step_leaves sc c s).txns.many
   where
     at_either : (x : Node) (y : State) → length (facing x y).txns ≡ length (facing x s).txns → length y.txns ≡ length s.txns

@@ -17,7 +17,12 @@ use Rattle.zy_parts.proofs.PartLemmas.{stay, alike_by_numbers}
 use Rattle.zy_memo.specs.declared.explored.Explored.{Explored}
 use Rattle.zy_memo.specs.declared.memory.Memory.{Memory}
 use Rattle.zy_memo.specs.Memories.{choice_at, choices_of, IsTrue, Knows, Leads, Numbers}
-use Rattle.zy_memo.proofs.Carried.{of_some}
+use Rattle.zy_pack.specs.Packed.{items, commit}
+use Rattle.zy_pack.proofs.States.{all, commit_is_code}
+use Rattle.zy_memo.specs.Places.{commits_place}
+use Rattle.zy_memo.specs.Places as places
+use Rattle.zy_memo.proofs.Assembly.{gives}
+use Rattle.zy_memo.proofs.Carried.{of_some, told}
 use Rattle.zy_memo.proofs.Said.{bytes_are}
 
 -- one of some states and one more
@@ -76,6 +81,26 @@ pub found : (sc : Scenario) (e : Explored) (states : List State) (s t : State) (
 found sc e states s t i numbers at k there are =
     let known = k.each i s there in
     alike_by_numbers e.memory.table e.memory.part numbers s t (subst (Numbers e.memory s) (bytes_are e.vectors i numbers at) known.0) are
+
+-- a step that leads from a state with some numbers leads from that at a place, which has them
+pub recalled : (sc : Scenario) (e : Explored) (states : List State) (s : State) (place : ℕ) → Knows sc e states → slice_get states place ≡ Some s
+    → (numbers : List ℕ) → numbers ≡ slice_index_or e.vectors place []
+    → (P : List ℕ → Type 0) → (IsTrue sc e.memory → Numbers e.memory s numbers → length s.txns ≡ length sc.programs → P numbers)
+    → P (slice_index_or e.vectors place [])
+recalled sc e states s place k at numbers is P p =
+    let known = k.each place s at in
+    subst P is (p k.truth (subst (Numbers e.memory s) (sym is) known.0) known.1)
+
+-- the same number stands for the same commits
+pub commits_told : (sc : Scenario) (e : Explored) (states : List State) (s t : State) (place : ℕ) (numbers : List ℕ)
+    → places.at (slice_index_or e.vectors place []) commits_place ≡ places.at numbers commits_place
+    → Knows sc e states → slice_get states place ≡ Some s → Numbers e.memory t numbers → t.commits ≡ s.commits
+commits_told sc e states s t place numbers same k at are =
+    let table = e.memory.table in
+    let part = e.memory.part in
+    let mine = gives table (slice_index_or e.vectors place []) (parts part s) (k.each place s at).0 commits_place (items commit s.commits) refl in
+    let its = gives table numbers (parts part t) are commits_place (items commit t.commits) refl in
+    told (items commit) (all commit commit_is_code) t.commits s.commits (sym its ∙ (ap (slice_get table) (sym same) ∙ mine))
 
 -- a place is one of a known state
 pub is_place : (sc : Scenario) (e : Explored) (states : List State) (i : ℕ) (numbers : List ℕ) → slice_get e.vectors i ≡ Some numbers → Knows sc e states

@@ -21,6 +21,11 @@ pub if_some : {X : Type 0} (P Q : X → Type 0) (o : Option X) → ((x : X) → 
 if_some P Q None f p = p
 if_some P Q (Some x) f p = f x p
 
+-- what follows from two facts of whatever there is
+pub if_both : {X : Type 0} (P Q R : X → Type 0) (o : Option X) → ((x : X) → P x → Q x → R x) → IfSome o P → IfSome o Q → IfSome o R
+if_both P Q R None f p q = p
+if_both P Q R (Some x) f p q = f x p q
+
 -- a list of one
 one : {X : Type 0} (P : X → Type 0) (x : X) → P x → All P (x ∷ [])
 one P x p zero d h = p

@@ -12,7 +12,9 @@ use Rattle.zy_parts.specs.Parts.{IsNumbered}
 use Rattle.zy_memo.specs.declared.memo.ChoiceMemo.{ChoiceMemo}
 use Rattle.zy_memo.specs.declared.explored.Explored.{Explored}
 use Rattle.zy_memo.specs.declared.memory.Memory.{Memory}
-use Rattle.zy_memo.specs.Steps.{AreTrue}
+use Rattle.zy_memo.specs.declared.memo.Remembered.{Remembered}
+use Rattle.zy_memo.specs.Places.{places}
+use Rattle.zy_memo.specs.Steps.{put_at, AreTrue}
 
 -- the choices whose steps are remembered
 abbrev pub choices_of : Memory → List Choice
@@ -33,6 +35,14 @@ Numbers m s numbers = IsNumbered m.table m.part numbers s
 -- a choice made from a state leads to one with these numbers, with this outcome, but for the number of a commit
 abbrev pub Leads : Scenario → Memory → Choice → State → List ℕ → Outcome → Type 0
 Leads sc m c s numbers o = Numbers m (step sc c s).after numbers × (uncounted (step sc c s).outcome ≡ uncounted o)
+
+-- the numbers to which a remembered step of the choice at a place leads
+abbrev pub numbers_by : Memory → ℕ → Remembered → List ℕ → List ℕ
+numbers_by m i r numbers = put_at numbers (places m.table (choice_at m i) r.scope numbers) r.written
+
+-- the same from the state at a place
+abbrev pub followed : Explored → ℕ → ℕ → Remembered → List ℕ
+followed e choice place r = numbers_by e.memory choice r (slice_index_or e.vectors place [])
 
 -- What is known of some states, each at a place: their numbers, and what is remembered of the steps of a scenario.
 pub record Knows (sc : Scenario) (e : Explored) (states : List State) : Type 0 where

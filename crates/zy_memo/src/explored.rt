@@ -4,11 +4,13 @@ ghost use Rattle.zy_frames.specs.Reads.{uncounted};
 ghost use Rattle.zy_isa.specs.Choices.{names_below};
 ghost use Rattle.zy_isa.specs.Scenario.{Scenario as AScenario};
 ghost use Rattle.zy_machine.specs.Alike.{Alike};
-ghost use Rattle.zy_memo.specs.Memories.{choice_at, choices_of, Knows, Leads, Numbers};
+ghost use Rattle.zy_memo.specs.Memories.{choice_at, choices_of, followed, Knows, Leads, Numbers};
 ghost use Rattle.zy_table.specs.Play.{step};
 ghost use Rattle.zy_table.specs.State.{State};
 
+use crate::memo::Remembered;
 use crate::memory::Memory;
+use crate::places::{COMMITS_PLACE, at};
 use crate::vectors::Vectors;
 use std::alloc::{AllocError, Global};
 use zy_isa::Choice;
@@ -21,6 +23,9 @@ pub struct Explored {
     pub vectors: Vectors,
     pub memory: Memory,
 }
+
+/// A state with as many numbers is not remembered. None has: there are at most 64 transactions.
+const MOST_NUMBERS: usize = 4_294_967_295;
 
 /// The numbers at a place; none where there are none.
 fn numbers_in(vectors: &Vectors, place: usize) -> &[u32]
@@ -53,24 +58,33 @@ impl Explored {
         numbers_in(&self.vectors, place)
     }
 
-    /// What a choice leads to from the state at a place, if a step that read the same is remembered: the numbers of the state
-    /// that it leads to go to `next`, and its outcome is returned. A commit may have another number.
-    pub fn recall(
+    /// A step of a choice that read what it reads of the state at a place, if one is remembered. A commit may have another
+    /// number.
+    pub fn recall(&self, choice: usize, place: usize) -> Option<Remembered>
+        requires there { choice < length self.now.memory.memos.items }
+        ensures { IfSome result (λ r. (sc : AScenario) (states : List State) (s : State)
+            → Knows sc self.now states → slice_get states place ≡ Some s
+            → Leads sc self.now.memory (choice_at self.now.memory choice) s (followed self.now choice place r) r.outcome) }
+    {
+        let numbers = self.numbers(place);
+        if numbers.len() < MOST_NUMBERS {
+            return self.memory.recall(choice, numbers);
+        }
+        None
+    }
+
+    /// The numbers to which a remembered step of a choice leads from the state at a place go to `next`.
+    pub fn follow(
         &self,
         choice: usize,
         place: usize,
+        step: &Remembered,
         next: &mut Vec<u32>,
-    ) -> Result<Option<Outcome>, AllocError>
+    ) -> Result<(), AllocError>
         requires there { choice < length self.now.memory.memos.items }
-        ensures { IfOk result (λ o. IfSome o (λ outcome. (sc : AScenario) (states : List State) (s : State)
-            → Knows sc self.now states → slice_get states place ≡ Some s
-            → Leads sc self.now.memory (choice_at self.now.memory choice) s next.new.items outcome)) }
+        ensures { OnOk result (next.new.items ≡ followed self.now choice place step.now) }
     {
-        let numbers = self.numbers(place);
-        if numbers.len() < 4_294_967_295 {
-            return self.memory.step(choice, numbers, next);
-        }
-        Ok(None)
+        self.memory.follow(choice, step, self.numbers(place), next)
     }
 
     /// Remembers the step of a choice from the state at a place, which has led to a machine's state. The numbers of that go to
@@ -84,7 +98,6 @@ impl Explored {
         next: &mut Vec<u32>,
     ) -> Result<(), AllocError>
         requires there { choice < length self.old.memory.memos.items }
-        requires few { length (slice_index_or self.old.vectors place []) < 4294967295 }
         ensures vectors { self.new.vectors ≡ self.old.vectors }
         ensures part { self.new.memory.part ≡ self.old.memory.part }
         ensures choices { choices_of self.new.memory ≡ choices_of self.old.memory }
@@ -97,8 +110,19 @@ impl Explored {
     {
         *next = self.memory.numbers_of(after)?;
         let before = numbers_in(&self.vectors, place);
+        if MOST_NUMBERS <= before.len() {
+            return Ok(());
+        }
         self.memory.learn(choice, before, next, outcome)?;
         Ok(())
+    }
+
+    /// Whether the state at a place has the commits of one that has these numbers. Where it answers yes it has.
+    pub fn same_commits(&self, place: usize, numbers: &[u32]) -> bool
+        ensures { result ≡ true → (sc : AScenario) (states : List State) (s t : State) → Knows sc self.now states
+            → slice_get states place ≡ Some s → Numbers self.now.memory t numbers.now → t.commits ≡ s.commits }
+    {
+        at(self.numbers(place), COMMITS_PLACE) == at(numbers, COMMITS_PLACE)
     }
 
     /// The place of a state like the one that has these numbers, if it is found.

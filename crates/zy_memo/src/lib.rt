@@ -6,6 +6,7 @@ pub mod laws;
 pub mod memo;
 pub mod memory;
 pub mod places;
+mod slots;
 pub mod vectors;
 
 pub use crate::explored::Explored;

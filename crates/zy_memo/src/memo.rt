@@ -12,6 +12,7 @@ ghost use Rattle.zy_table.specs.Play.{step};
 ghost use Rattle.zy_table.specs.State.{State};
 
 use crate::places::{COMMITS_PLACE, Read, Scope, at, at_places, link_place, places, reads};
+use crate::slots::{MOST_LOOKS, Slots, mixed};
 use std::alloc::{AllocError, Global};
 use zy_isa::{Choice, Node};
 use zy_parts::PartTable;
@@ -30,46 +31,30 @@ pub struct Remembered {
     pub outcome: Outcome,
 }
 
-/// The steps of a choice that are remembered. A step is looked for at one place alone: one that was kept there later hides it,
-/// which costs time, and nothing else.
+/// The steps of a choice that are remembered.
 #[derive(Drop)]
 pub struct ChoiceMemo {
     alloc: Global,
     pub choice: Choice,
     pub steps: Vec<Remembered>,
-    slots: Vec<usize>,
+    slots: Slots,
 }
 
-/// How many slots there are at least, and how many for each step.
-const LEAST_SLOTS: usize = 64;
-
-const SLOTS_PER_STEP: usize = 4;
-
-/// A digest with a number more.
-fn mixed(digest: u64, number: u64) -> u64 {
-    (digest.rotate_left(5) ^ number).wrapping_mul(0x517c_c1b7_2722_0a95)
+/// A digest of what was read.
+#[inline(always)]
+fn digest(read: Read) -> u64 {
+    let first = u64::from(read.beside) << 32 | u64::from(read.first);
+    let second = u64::from(read.second) << 32 | u64::from(read.third);
+    mixed(mixed(mixed(0, first), second), u64::from(read.fourth))
 }
 
-/// Where a step that read this is looked for, among a number of slots that is a power of two. Nothing is promised of it.
-fn slot_of(read: Read, slots: usize) -> usize {
-    let pairs = [
-        u64::from(read.beside) << 32 | u64::from(read.first),
-        u64::from(read.second) << 32 | u64::from(read.third),
-    ];
-    let digest = mixed(mixed(mixed(0, pairs[0]), pairs[1]), u64::from(read.fourth));
-    (digest >> 32) as usize & slots.saturating_sub(1)
-}
-
-/// A number of slots, with each step in its own.
-fn spread(alloc: Global, steps: &[Remembered], slots: usize) -> Result<Vec<usize>, AllocError> {
-    let mut spread = Vec::new(alloc);
-    spread.resize(slots, 0)?;
+/// Slots for some steps and more, with each of them in its own.
+fn spread(alloc: Global, steps: &[Remembered]) -> Result<Slots, AllocError> {
+    let mut slots = Slots::free(alloc, steps.len())?;
     for place in 0..steps.len() {
-        if let Some(slot) = spread.get_mut(slot_of(steps[place].read, slots)) {
-            *slot = place;
-        }
+        slots.put(digest(steps[place].read), place);
     }
-    Ok(spread)
+    Ok(slots)
 }
 
 /// What a run has in its scope, by the numbers before and after it; none where that is both the link and the commits.
@@ -129,7 +114,7 @@ impl ChoiceMemo {
             alloc,
             choice,
             steps: Vec::new(alloc),
-            slots: Vec::new(alloc),
+            slots: Slots::new(alloc),
         }
     }
 
@@ -139,13 +124,15 @@ impl ChoiceMemo {
         ensures scope { IfSome result (λ r. r.scope ≡ scope) }
         ensures read { IfSome result (λ r. r.read ≡ read) }
     {
-        let place = *self.slots.get(slot_of(read, self.slots.len()))?;
-        let step = *self.steps.get(place)?;
-        if step.scope == scope && step.read == read {
-            Some(step)
-        } else {
-            None
+        let digest = digest(read);
+        for behind in 0..MOST_LOOKS {
+            let place = self.slots.get(digest, behind)?;
+            let step = *self.steps.get(place)?;
+            if step.scope == scope && step.read == read {
+                return Some(step);
+            }
         }
+        None
     }
 
     /// A step that read what its choice reads of these numbers in a scope, if one is remembered.
@@ -208,11 +195,10 @@ impl ChoiceMemo {
     {
         let place = self.steps.len();
         self.steps.push(step)?;
-        let wanted = place.saturating_mul(SLOTS_PER_STEP).max(LEAST_SLOTS);
-        if self.slots.len() < wanted {
-            self.slots = spread(self.alloc, &self.steps, wanted.next_power_of_two())?;
-        } else if let Some(slot) = self.slots.get_mut(slot_of(step.read, self.slots.len())) {
-            *slot = place;
+        if self.slots.are_few(place) {
+            self.slots = spread(self.alloc, &self.steps)?;
+        } else {
+            self.slots.put(digest(step.read), place);
         }
         Ok(())
     }

@@ -3,11 +3,11 @@ ghost use Rattle.std.specs.Prelude.{◌≡◌, ◌<◌, [], IfOk, IfSome, OnOk, 
 ghost use Rattle.std.specs.List.{All};
 ghost use Rattle.zy_isa.specs.Choices.{names_below};
 ghost use Rattle.zy_isa.specs.Scenario.{Scenario};
-ghost use Rattle.zy_memo.specs.Memories.{choice_at, choices_of, IsTrue, Leads, Numbers};
+ghost use Rattle.zy_memo.specs.Memories.{choice_at, choices_of, numbers_by, IsTrue, Leads, Numbers};
 ghost use Rattle.zy_parts.specs.Parts.{Keeps};
 ghost use Rattle.zy_table.specs.State.{State};
 
-use crate::memo::{ChoiceMemo, write};
+use crate::memo::{ChoiceMemo, Remembered, write};
 use std::alloc::{AllocError, Global};
 use zy_isa::Choice;
 use zy_machine::{Machine, StatePart};
@@ -67,26 +67,30 @@ impl Memory {
         Ok(numbers)
     }
 
-    /// What a choice leads to from a state with these numbers, if a step that read the same is remembered: the numbers after
-    /// it go to `after`, and its outcome is returned. A commit may have another number.
-    pub fn step(
-        &self,
-        place: usize,
-        numbers: &[u32],
-        after: &mut Vec<u32>,
-    ) -> Result<Option<Outcome>, AllocError>
+    /// A step of a choice that read what it reads of a state with these numbers, if one is remembered. A commit may have another
+    /// number.
+    pub fn recall(&self, place: usize, numbers: &[u32]) -> Option<Remembered>
         requires there { place < length self.now.memos.items }
         requires few { length numbers.now < 4294967295 }
-        ensures { IfOk result (λ o. IfSome o (λ outcome. (sc : Scenario) (s : State) → IsTrue sc self.now
-            → Numbers self.now s numbers.now → length s.txns ≡ length sc.programs
-            → Leads sc self.now (choice_at self.now place) s after.new.items outcome)) }
+        ensures { IfSome result (λ r. (sc : Scenario) (s : State) → IsTrue sc self.now → Numbers self.now s numbers.now
+            → length s.txns ≡ length sc.programs
+            → Leads sc self.now (choice_at self.now place) s (numbers_by self.now place r numbers.now) r.outcome) }
     {
-        let memo = &self.memos[place];
-        let Some(step) = memo.recall(&self.table, numbers) else {
-            return Ok(None);
-        };
-        write(&self.table, memo.choice, &step, numbers, after)?;
-        Ok(Some(step.outcome))
+        self.memos[place].recall(&self.table, numbers)
+    }
+
+    /// The numbers to which a remembered step of a choice leads go to `after`.
+    pub fn follow(
+        &self,
+        place: usize,
+        step: &Remembered,
+        numbers: &[u32],
+        after: &mut Vec<u32>,
+    ) -> Result<(), AllocError>
+        requires there { place < length self.now.memos.items }
+        ensures { OnOk result (after.new.items ≡ numbers_by self.now place step.now numbers.now) }
+    {
+        write(&self.table, self.memos[place].choice, step, numbers, after)
     }
 
     /// Remembers a step by its numbers before and after it.

@@ -1,5 +1,6 @@
 //! Which numbers of a state's parts a choice reads, and which it writes.
-ghost use Rattle.std.specs.Prelude.{◌≡◌, ◌==◌, ◌&&◌, ◌+◌, ◌*◌, ◌<◌, drop, length, map};
+ghost use Rattle.std.specs.Prelude.{◌≡◌, ◌==◌, ◌&&◌, ◌+◌, ◌*◌, ◌<◌, ℕ, List, drop, length, map};
+ghost use Rattle.zy_isa.specs.declared.choice.Choice.TheVariants.{Run};
 ghost use Rattle.zy_memo.specs.Places as spec;
 ghost use Rattle.zy_pack.specs.Codes as codes;
 ghost use Rattle.zy_table.specs.State as table;
@@ -30,6 +31,7 @@ pub struct Read {
 }
 
 /// The place of a node.
+#[inline(always)]
 pub fn node_place(n: Node) -> usize
     ensures { result ≡ spec.node_place n }
 {
@@ -40,6 +42,7 @@ pub fn node_place(n: Node) -> usize
 }
 
 /// The place of the link from a node.
+#[inline(always)]
 pub fn link_place(n: Node) -> usize
     ensures { result ≡ spec.link_place n }
 {
@@ -50,6 +53,7 @@ pub fn link_place(n: Node) -> usize
 }
 
 /// The node that a node is not.
+#[inline(always)]
 fn other(n: Node) -> Node
     ensures { result ≡ table.other n }
 {
@@ -63,6 +67,7 @@ fn other(n: Node) -> Node
 pub const COMMITS_PLACE: usize = 4;
 
 /// The place of a transaction.
+#[inline(always)]
 pub fn txn_place(t: u8) -> usize
     ensures { result ≡ spec.txn_place t }
 {
@@ -70,6 +75,7 @@ pub fn txn_place(t: u8) -> usize
 }
 
 /// The number at a place, or 0.
+#[inline(always)]
 pub fn at(numbers: &[u32], place: usize) -> u32
     ensures { result ≡ spec.at numbers.now place }
 {
@@ -196,6 +202,7 @@ fn txns_of(numbers: &[u32]) -> &[u32]
 }
 
 /// The number of a scope.
+#[inline(always)]
 fn scope_code(scope: Scope) -> u32
     ensures { result ≡ spec.scope_code scope }
 {
@@ -234,8 +241,8 @@ pub fn at_places(numbers: &[u32], places: [usize; 4]) -> [u32; 4]
     ]
 }
 
-/// All that a choice reads.
-pub fn reads(table: &PartTable, choice: Choice, scope: Scope, numbers: &[u32]) -> Read
+/// What is read at the four places, and beside.
+fn reads_of_most(table: &PartTable, choice: Choice, scope: Scope, numbers: &[u32]) -> Read
     requires { length numbers.now < 4294967295 }
     ensures { result ≡ spec.reads table.now choice scope numbers.now }
 {
@@ -246,5 +253,35 @@ pub fn reads(table: &PartTable, choice: Choice, scope: Scope, numbers: &[u32]) -
         second,
         third,
         fourth,
+    }
+}
+
+/// The same of a run: it is told apart since most choices are runs.
+fn reads_of_run(n: Node, t: u8, scope: Scope, numbers: &[u32]) -> Read
+    ensures { (table : List (List ℕ)) → result ≡ spec.reads table (Run n t) scope numbers.now }
+{
+    let txn = at(numbers, txn_place(t));
+    let last = match scope {
+        Scope::Own => txn,
+        Scope::Link => at(numbers, link_place(n)),
+        Scope::Commits => at(numbers, COMMITS_PLACE),
+    };
+    Read {
+        beside: scope_code(scope),
+        first: at(numbers, node_place(n)),
+        second: txn,
+        third: last,
+        fourth: last,
+    }
+}
+
+/// All that a choice reads.
+pub fn reads(table: &PartTable, choice: Choice, scope: Scope, numbers: &[u32]) -> Read
+    requires { length numbers.now < 4294967295 }
+    ensures { result ≡ spec.reads table.now choice scope numbers.now }
+{
+    match choice {
+        Choice::Run(n, t) => reads_of_run(n, t, scope, numbers),
+        _ => reads_of_most(table, choice, scope, numbers),
     }
 }

@@ -1,16 +1,17 @@
 //! The numbers of states, each found again by its numbers.
 ghost use Rattle.std.specs.Prelude.{◌≡◌, ◌++◌, ◌∷◌, [], IfSome, Some, OnOk, OnErr, length, option_copied, slice_get, true};
 
+use crate::slots::{MOST_LOOKS, Slots, mixed};
 use std::alloc::{AllocError, Global};
-use std::collections::HashMap;
 use std::marker::Model;
 
-/// The numbers of states, in the order in which they came. They are found by a digest, so that a number that has the digest
-/// of another costs time, and nothing else.
+/// The numbers of states, in the order in which they came. They are found by a digest, so that numbers that have the digest
+/// of others cost time, and nothing else.
 #[derive(Drop)]
 pub struct Vectors {
+    alloc: Global,
     vectors: Vec<Vec<u32>>,
-    places: HashMap<u64, usize>,
+    slots: Slots,
 }
 
 impl Model for Vectors {
@@ -21,23 +22,33 @@ impl Model for Vectors {
     ghost view = { λ v. map (λ x. x.items) v.vectors.items };
 }
 
-/// How many states with one digest are looked at; more of them are taken in again.
-const MOST_PER_DIGEST: u64 = 8;
-
 /// A digest of numbers. Nothing is promised of it: a bad one costs time alone.
 fn digest(numbers: &[u32]) -> u64 {
     let mut digest: u64 = 0;
     for number in numbers {
-        digest = (digest.rotate_left(5) ^ u64::from(*number)).wrapping_mul(0x517c_c1b7_2722_0a95);
+        digest = mixed(digest, u64::from(*number));
     }
     digest
 }
 
-/// Whether these are the same numbers as those. Where it answers yes they are.
+/// Slots for some states and more, with each of them in its own.
+fn spread(alloc: Global, vectors: &[Vec<u32>]) -> Result<Slots, AllocError> {
+    let mut slots = Slots::free(alloc, vectors.len())?;
+    for place in 0..vectors.len() {
+        slots.put(digest(&vectors[place]), place);
+    }
+    Ok(slots)
+}
+
+/// Whether these are the same numbers as those.
 fn same(xs: &[u32], ys: &[u32]) -> bool
     ensures { result ≡ true → xs.now ≡ ys.now }
 {
-    xs == ys
+    match (xs, ys) {
+        ([], []) => true,
+        ([x, rest @ ..], [y, others @ ..]) => *x == *y && same(rest, others),
+        _ => false,
+    }
 }
 
 impl Vectors {
@@ -46,8 +57,9 @@ impl Vectors {
         ensures { result ≡ [] }
     {
         Vectors {
+            alloc,
             vectors: Vec::new(alloc),
-            places: HashMap::new(alloc),
+            slots: Slots::new(alloc),
         }
     }
 
@@ -66,16 +78,13 @@ impl Vectors {
         Some(vector.as_slice())
     }
 
-    /// The place of a digest, if its numbers are these.
-    fn find_under(&self, digest: u64, numbers: &[u32]) -> Option<usize>
-        ensures { IfSome result (λ i. slice_get self.now i ≡ Some numbers.now) }
+    /// Whether the numbers at a place are these.
+    fn is_at(&self, place: usize, numbers: &[u32]) -> bool
+        ensures { result ≡ true → slice_get self.now place ≡ Some numbers.now }
     {
-        let place = *self.places.get(&digest)?;
-        let vector = self.vectors.get(place)?;
-        if same(vector, numbers) {
-            Some(place)
-        } else {
-            None
+        match self.vectors.get(place) {
+            Some(vector) => same(vector, numbers),
+            None => false,
         }
     }
 
@@ -83,25 +92,14 @@ impl Vectors {
     pub fn find(&self, numbers: &[u32]) -> Option<usize>
         ensures { IfSome result (λ i. slice_get self.now i ≡ Some numbers.now) }
     {
-        let first = digest(numbers);
-        for k in 0..MOST_PER_DIGEST {
-            let place = self.find_under(first.wrapping_add(k), numbers);
-            if place.is_some() {
-                return place;
+        let digest = digest(numbers);
+        for behind in 0..MOST_LOOKS {
+            let place = self.slots.get(digest, behind)?;
+            if self.is_at(place, numbers) {
+                return Some(place);
             }
         }
         None
-    }
-
-    /// A number under which no place is found, among the next few from a digest on.
-    fn free_from(&self, first: u64) -> u64 {
-        for k in 0..MOST_PER_DIGEST {
-            let number = first.wrapping_add(k);
-            if self.places.get(&number).is_none() {
-                return number;
-            }
-        }
-        first
     }
 
     /// Takes in numbers.
@@ -109,9 +107,12 @@ impl Vectors {
         ensures ok { OnOk result (self.new ≡ self.old ++ numbers.items ∷ []) }
         ensures err { OnErr result (self.new ≡ self.old) }
     {
-        let number = self.free_from(digest(&numbers));
+        let place = self.vectors.len();
         self.vectors.reserve(1)?;
-        self.places.insert(number, self.vectors.len())?;
+        if self.slots.are_few(place) {
+            self.slots = spread(self.alloc, &self.vectors)?;
+        }
+        self.slots.put(digest(&numbers), place);
         self.vectors.push_reserved(numbers);
         Ok(())
     }

@@ -16,6 +16,9 @@ use zy_pack::packing::{Packed, put_items, put_number};
 use zy_page::Page;
 use zy_txns::Txn;
 
+/// How many bytes there is room for at first: few parts take more.
+const USUAL_BYTES: usize = 64;
+
 /// Puts the page that is in a slot, if there is one.
 fn put_slot(slot: &Option<Page>, out: &mut Vec<u8>) -> Result<(), AllocError>
     ensures { OnOk result (out.new.items ≡ out.old.items ++ flat_map spec.leaf (laid_out (slot.now ∷ []))) }
@@ -48,7 +51,7 @@ fn put_pages(pages: &OwnedPages, out: &mut Vec<u8>) -> Result<(), AllocError>
 pub(crate) fn node_bytes(alloc: Global, machine: &Machine, n: Node) -> Result<Vec<u8>, AllocError>
     ensures { IfOk result (λ v. v.items ≡ spec.node_state (facing n machine.now.state).me) }
 {
-    let mut out = Vec::new(alloc);
+    let mut out = Vec::with_capacity(alloc, USUAL_BYTES)?;
     put_number(mode_code(machine.mode(n)), &mut out)?;
     put_items(machine.lows(n), &mut out)?;
     put_pages(machine.pages(n), &mut out)?;
@@ -61,7 +64,7 @@ pub(crate) fn node_bytes(alloc: Global, machine: &Machine, n: Node) -> Result<Ve
 pub(crate) fn link_bytes(alloc: Global, machine: &Machine, n: Node) -> Result<Vec<u8>, AllocError>
     ensures { IfOk result (λ v. v.items ≡ spec.items spec.message (facing n machine.now.state).outbox) }
 {
-    let mut out = Vec::new(alloc);
+    let mut out = Vec::with_capacity(alloc, USUAL_BYTES)?;
     machine.link(n).put(&mut out)?;
     Ok(out)
 }
@@ -70,7 +73,7 @@ pub(crate) fn link_bytes(alloc: Global, machine: &Machine, n: Node) -> Result<Ve
 pub(crate) fn commit_bytes(alloc: Global, machine: &Machine) -> Result<Vec<u8>, AllocError>
     ensures { IfOk result (λ v. v.items ≡ spec.items spec.commit machine.now.state.commits) }
 {
-    let mut out = Vec::new(alloc);
+    let mut out = Vec::with_capacity(alloc, USUAL_BYTES)?;
     put_items(machine.commits(), &mut out)?;
     Ok(out)
 }
@@ -109,7 +112,7 @@ fn put_txn(part: StatePart, txn: &Txn, out: &mut Vec<u8>) -> Result<(), AllocErr
 pub(crate) fn txn_bytes(alloc: Global, part: StatePart, txn: &Txn) -> Result<Vec<u8>, AllocError>
     ensures { IfOk result (λ v. v.items ≡ spec.txn (txn_part part txn.now)) }
 {
-    let mut out = Vec::new(alloc);
+    let mut out = Vec::with_capacity(alloc, USUAL_BYTES)?;
     put_txn(part, txn, &mut out)?;
     Ok(out)
 }

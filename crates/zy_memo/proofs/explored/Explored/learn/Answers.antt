@@ -1,6 +1,6 @@
 use Rattle.std.proofs.Common.{List, ℕ, refl, subst, sym}
 use Rattle.zy_memo.specs.Memories.{choice_at, Leads, Numbers}
-use Rattle.zy_memo.proofs.ExploredLemmas.{remembered}
+use Rattle.zy_memo.proofs.ExploredLemmas.{grown, remembered}
 use Rattle.zy_memo.proofs.explored.Explored.learn.Goals as goal
 
 pub returns-clause-knows : goal.returns-clause-knows
@@ -13,3 +13,8 @@ returns-clause-knows c sc states s =
     refl taken.keeps taken.part taken.choices (taken.truth sc) kept.table kept.part taken.numbers
     (λ truth before leads many named. kept.truth sc s truth (subst (Numbers middle s) (sym c.numbers_in-before.ensures) before)
     (subst (λ (ns : List ℕ). Leads sc middle choice s ns c.args.outcome) (sym c.deref.ensures.value) leads) many named)
+
+pub returns-then-before-ge-MOST_NUMBERS-clause-knows : goal.returns-then-before-ge-MOST_NUMBERS-clause-knows
+returns-then-before-ge-MOST_NUMBERS-clause-knows c sc states s k at is outcome named =
+    let taken = c.in_ok-next.ensures in
+    grown sc c.args.self.now _ states refl taken.keeps taken.part (taken.truth sc k.truth) k
