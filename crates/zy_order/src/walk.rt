@@ -24,5 +24,5 @@ pub(crate) fn go_to(
     ensures scenario { machine.new.scenario ≡ plan.now.start.scenario }
 {
     machine.set_to(plan.alloc, &plan.start)?;
-    walk(&reached.visited, at, machine)
+    walk(reached.visited.tree(), at, machine)
 }

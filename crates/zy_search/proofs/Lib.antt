@@ -3,12 +3,14 @@ pub mod ChoiceLemmas
 pub mod SearchLemmas
 pub mod ScheduleLemmas
 pub mod StillSteps
+pub mod TurnLemmas
 pub mod AlikeLemmas
 pub mod CommitLemmas
 pub mod ShelfLemmas
 pub mod EdgeLemmas
 pub mod MeetLemmas
 pub mod PossibleLemmas
+pub mod ReachedLemmas
 pub mod LastLemmas
 pub mod DepthLemmas
 pub mod DeadlockLemmas

@@ -1,6 +1,6 @@
 -- Paths, the states that they lead to, and what a search knows of them.
 use Rattle.std.proofs.Common.{◌≡◌, ◌∙◌, ℕ, ◌+◌, ◌<◌, ◌≤◌, ◌⊎◌, inl, inr, List, [], ◌∷◌, ◌++◌, length, refl, sym, ap, subst, arith, length-append, true}
-use Rattle.std.proofs.Common.{false, Result, Ok, Err, IfOk, get_or, zero, suc}
+use Rattle.std.proofs.Common.{false, get_or, zero, suc}
 use Rattle.std.proofs.lemmas.List.{get_or_append_left}
 use Rattle.std.proofs.lemmas.List.Elements.{All-from_get_or}
 use Rattle.std.proofs.lemmas.Bool.{and_parts, cases_lt}
@@ -16,7 +16,6 @@ use Rattle.zy_machine.specs.Alike.{part_of, Alike}
 use Rattle.zy_search.specs.declared.sought.Sought.{Sought}
 use Rattle.zy_search.specs.declared.answer.Answer.{Answer}
 use Rattle.zy_search.specs.declared.answer.Answer.TheVariants.{Spent}
-use Rattle.zy_search.specs.declared.answer.Report.{Report}
 use Rattle.zy_search.specs.Paths.{AreApart}
 use Rattle.zy_search.specs.Stuck.{is_still, AreMoves}
 use Rattle.zy_search.specs.Choices.{is_considered, AreConsidered, is_of_kinds, considered}
@@ -293,21 +292,13 @@ visits_first h q room none = record {
 pub near_first : (i : ℕ) → i < 1 → length_at ([] ∷ []) i ≤ length_at ([] ∷ []) 0 + 1
 near_first i lt = rw (one_place i lt) (omega arith)
 
--- what holds of an answer holds of that of a report on it
-pub reported : {E : Type 0} (P : Answer → Type 0) (a : Answer) (r : Result Report E) → P a → IfOk r (λ x. x.answer ≡ a) → IfOk r (λ x. P x.answer)
-reported P a (Ok x) p same = subst P (sym same) p
-reported P a (Err x) p same = tt
-
--- where no fewer choices lead there, a call that answers so answers well
-pub spent_well : {E : Type 0} (h : History) (q : Sought) (n : ℕ) (r : Result Answer E) → NoneBelow h q n → IfOk r (λ a. a ≡ Spent n) → IfOk r (IsReached h q)
-spent_well h q n (Ok a) below e = subst (IsReached h q) (sym e) below
-spent_well h q n (Err x) below e = tt
+-- where no fewer choices lead there, an answer that says so is right
+pub spent_well : (h : History) (q : Sought) (n : ℕ) (a : Answer) → NoneBelow h q n → a ≡ Spent n → IsReached h q a
+spent_well h q n a below e = subst (IsReached h q) (sym e) below
 
 -- the same of what is due
-pub spent_due : {E : Type 0} (h : History) (q : Sought) (most n : ℕ) (r : Result Answer E) → IsDue h q most (Spent n) → IfOk r (λ a. a ≡ Spent n)
-    → IfOk r (IsDue h q most)
-spent_due h q most n (Ok a) is e = subst (IsDue h q most) (sym e) is
-spent_due h q most n (Err x) is e = tt
+pub spent_due : (h : History) (q : Sought) (most n : ℕ) (a : Answer) → IsDue h q most (Spent n) → a ≡ Spent n → IsDue h q most a
+spent_due h q most n a is e = subst (IsDue h q most) (sym e) is
 
 -- a path of at most n choices that leads to no state that shows it
 abbrev IsCounted : History → Sought → ℕ → List Choice → Type 0

@@ -1,5 +1,5 @@
 -- Where nothing comes of a step the state is as it was.
-use Rattle.std.proofs.Common.{◌≡◌, ◌∙◌, inl, ℕ, List, [], ◌∷◌, ◌++◌, length, length-append, ◌<◌, ◌≤◌, arith, true, false, not, nat_lt, nat_le, ◌&&◌, Option, Some}
+use Rattle.std.proofs.Common.{◌≡◌, ◌∙◌, ℕ, List, [], ◌∷◌, ◌++◌, length, length-append, ◌<◌, arith, true, false, not, nat_lt, nat_le, ◌&&◌, Option, Some}
 use Rattle.std.proofs.Common.{None, refl, sym, ap}
 use Rattle.zy_table.specs.declared.entry.Entry.{Entry}
 use Rattle.std.proofs.lemmas.Bool.{cond_both, false≢true}
@@ -20,7 +20,7 @@ use Rattle.zy_modes.specs.Table.{may_start, may_split, may_pull, may_push, is_wa
 use Rattle.zy_table.specs.declared.access.Access.{Access}
 use Rattle.zy_table.specs.declared.access.Access.TheVariants.{Reads, Writes, Inserts}
 use Rattle.zy_table.specs.declared.outcome.Why.{Why}
-use Rattle.zy_table.specs.State.{State, View, Move, Step, facing, seen_from}
+use Rattle.zy_table.specs.State.{State, View, Move, facing, seen_from}
 use Rattle.zy_table.specs.Numbers.{has}
 use Rattle.zy_table.specs.Pages.{owns}
 use Rattle.zy_table.specs.Change.{txn_at, locked}
@@ -35,13 +35,8 @@ use Rattle.zy_table.specs.Run.{effect_step, instr_step, run_step}
 use Rattle.zy_table.specs.Take.{is_held, outcome_of, arrival_step, pull_step, message_step, front_step, take_step}
 use Rattle.zy_table.specs.Play.{move, side_of, step}
 use Rattle.zy_machine.specs.Histories.{History}
-use Rattle.zy_machine.specs.Alike.{part_of}
 use Rattle.zy_search.specs.Stuck.{is_still}
-use Rattle.zy_table.specs.declared.outcome.Outcome.{Outcome}
-use Rattle.zy_search.specs.declared.sought.Sought.{Sought}
-use Rattle.zy_search.specs.Searches.{reached, deepest}
-use Rattle.zy_search.specs.Visits.{path_at, counted, Visits, IsEdge, IsHere, IsTwin, IsNext, Notes}
-use Rattle.zy_search.proofs.SearchLemmas.{grows_not}
+use Rattle.zy_search.specs.Visits.{IsTwin}
 use Rattle.zy_isa.specs.Limits.{max_key}
 
 -- where nothing comes of a move it leaves the view as it was
@@ -328,35 +323,3 @@ twin_still m old new c t e f longer still = record {
   state = f ∙ (still_stays old.scenario c old.state still ∙ t.state);
   entries = omega (arith, t.entries, longer);
 }
-
--- A machine where the path at a place leads makes a choice, and this comes of it.
-module _ (h m : History) (ps : List (List Choice)) (at : ℕ) (here : IsHere h ps at m) (c : Choice) (o : Outcome)
-    (out : o ≡ (step m.scenario c m.state).outcome) where
-  -- the step is that from the path's state
-  here_step : step m.scenario c m.state ≡ step h.scenario c (reached h (path_at ps at))
-  here_step = ap (λ (sc : Scenario). step sc c m.state) here.scenario ∙ ap (step h.scenario c) here.state
-
-  -- so is what comes of it
-  same_still : is_still o ≡ is_still (step h.scenario c (reached h (path_at ps at))).outcome
-  same_still = ap is_still out ∙ ap (λ (x : Step). is_still x.outcome) here_step
-
-  -- where that is nothing, the choice leads to the state of the path itself
-  pub still_known : (q : Sought) → Visits h q ps → IsEdge ps at → at < length ps → is_still o ≡ true → Notes h q ps ps at c
-  still_known q v near lt f = record {
-    visits = v;
-    near = near;
-    grows = grows_not ps;
-    known = (at, lt, omega arith, ap (part_of (counted q)) (sym (still_stays h.scenario c (reached h (path_at ps at)) (sym same_still ∙ f))));
-    more = inl refl;
-  }
-
-  -- where it is something, a machine that has made the choice is one choice further
-  pub next : (q : Sought) (x : History) → x.scenario ≡ m.scenario → x.state ≡ (step m.scenario c m.state).after → is_still o ≡ false → length m.entries < length x.entries
-      → length x.entries ≤ deepest q → IsNext h q ps at c x
-  next q x e f moved longer room = record {
-    scenario = e ∙ here.scenario;
-    state = f ∙ ap (λ (y : Step). y.after) here_step;
-    moved = sym same_still ∙ moved;
-    longer = omega (arith, here.entries, longer);
-    room = room;
-  }

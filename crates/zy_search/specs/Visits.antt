@@ -1,20 +1,25 @@
 -- What a search keeps, and what each of its parts adds.
 use Rattle.std.specs.Prelude.{ℕ, ◌≡◌, ◌≤◌, ◌<◌, ◌+◌, ◌⊎◌, List, [], ◌∷◌, ◌++◌, Bool, true, false, length, slice_index_or}
-use Rattle.std.specs.Prelude.{IfSome}
+use Rattle.std.specs.Prelude.{IfSome, map}
 use Rattle.std.specs.List.{All}
 use Rattle.zy_isa.specs.declared.choice.Choice.{Choice}
 use Rattle.zy_isa.specs.declared.choice.Choice.TheVariants.{Start}
 use Rattle.zy_table.specs.State.{State}
+use Rattle.zy_isa.specs.Scenario.{Scenario}
+use Rattle.zy_table.specs.State.{Step}
 use Rattle.zy_table.specs.Play.{step}
+use Rattle.zy_table.specs.declared.outcome.Outcome.{Outcome}
 use Rattle.zy_machine.specs.Histories.{History}
 use Rattle.zy_machine.specs.declared.part.StatePart.{StatePart}
 use Rattle.zy_machine.specs.declared.part.StatePart.TheVariants.{Whole, Live}
 use Rattle.zy_machine.specs.Alike.{Alike}
 use Rattle.zy_goals.specs.Ended.{reads_ended}
+use Rattle.zy_memo.specs.Memories.{choices_of, Knows, Numbers}
 use Rattle.zy_search.specs.declared.sought.Sought.{Sought}
 use Rattle.zy_search.specs.declared.plan.Plan.{Plan}
 use Rattle.zy_search.specs.declared.branch.Branch.{Branch}
-use Rattle.zy_search.specs.declared.twin.Twin.{Twin}
+use Rattle.zy_search.specs.declared.reached.Reached.{Reached}
+use Rattle.zy_search.specs.declared.scratch.Scratch.{Scratch}
 use Rattle.zy_search.specs.declared.shelf.Spot.{Spot}
 use Rattle.zy_search.specs.declared.shelf.Shelf.{Shelf}
 use Rattle.zy_search.specs.declared.answer.Met.{Met}
@@ -104,19 +109,6 @@ pub record IsTwin (m twin : History) : Type 0 where
   pub state : twin.state ≡ m.state
   pub entries : length m.entries ≤ length twin.entries
 
--- one that is in the same state if it says so
-pub record IsSecond (m : History) (twin : Twin) : Type 0 where
-  pub scenario : twin.machine.scenario ≡ m.scenario
-  pub back : twin.is_back ≡ true → IsTwin m twin.machine
-
--- a machine that has made one choice more
-pub record IsNext (h : History) (q : Sought) (paths : List (List Choice)) (at : ℕ) (c : Choice) (m : History) : Type 0 where
-  pub scenario : m.scenario ≡ h.scenario
-  pub state : m.state ≡ (step h.scenario c (reached h (path_at paths at))).after
-  pub moved : is_still (step h.scenario c (reached h (path_at paths at))).outcome ≡ false
-  pub longer : length h.entries + length_at paths at < length m.entries
-  pub room : length m.entries ≤ deepest q
-
 -- a machine of the scenario, where the path leads that it names
 pub record IsSpot (h : History) (paths : List (List Choice)) (spot : Spot) : Type 0 where
   pub scenario : spot.machine.scenario ≡ h.scenario
@@ -126,34 +118,73 @@ pub record IsShelf (h : History) (paths : List (List Choice)) (shelf : Shelf) : 
   pub spots : All (IsSpot h paths) shelf.spots.items
   pub spare : shelf.spare.scenario ≡ h.scenario
 
--- what a search has come to: paths, and machines where some of them lead
-pub record IsKept (p : Plan) (paths : List (List Choice)) (machines : Shelf) : Type 0 where
-  pub visits : Visits p.start p.sought paths
-  pub shelf : IsShelf p.start paths machines
+-- ---- what is known of the states
+
+-- the states that paths lead to
+abbrev pub states_of : History → List (List Choice) → List State
+states_of h paths = map (reached h) paths
+
+-- the step by which a branch goes on
+abbrev pub step_by : Plan → List (List Choice) → Branch → Step
+step_by p paths b = step p.start.scenario b.by (reached p.start (path_at paths b.from))
+
+-- the state that it leads to
+abbrev pub state_by : Plan → List (List Choice) → Branch → State
+state_by p paths b = (step_by p paths b).after
+
+-- the numbers of the states that the paths lead to are known, of what counts of them, and only steps that happened are remembered
+pub record IsInformed (p : Plan) (x : Reached) : Type 0 where
+  pub knows : Knows p.start.scenario x.explored (states_of p.start x.tree)
+  pub part : x.explored.memory.part ≡ counted p.sought
+  pub choices : choices_of x.explored.memory ≡ p.choices.items
+
+-- what comes of the choice of a branch is known, and the numbers of the state that it leads to where something does
+pub record LeadsTo (p : Plan) (x : Reached) (b : Branch) (next : List ℕ) (o : Outcome) : Type 0 where
+  pub still : is_still o ≡ is_still (step_by p x.tree b).outcome
+  pub numbers : is_still o ≡ false → Numbers x.explored.memory (state_by p x.tree b) next
+  pub informed : IsInformed p x
+
+-- ---- the machines
+
+-- machines of a scenario
+pub record AreOf (sc : Scenario) (x : Scratch) : Type 0 where
+  pub here : x.here.scenario ≡ sc
+  pub after : x.after.scenario ≡ sc
+  pub spare : x.spare.scenario ≡ sc
+
+-- the first of them is where the path at a place leads, if it says so, and has made the choices of that path alone
+pub record AreScratch (h : History) (paths : List (List Choice)) (at : ℕ) (x : Scratch) : Type 0 where
+  pub machines : AreOf h.scenario x
+  pub state : x.is_here ≡ true → x.here.state ≡ reached h (path_at paths at)
+  pub entries : x.is_here ≡ true → length x.here.entries ≡ length h.entries + length_at paths at
+
+-- ---- the search goes on
 
 -- it begins, with the empty path alone
-pub record Begins (p : Plan) (paths : List (List Choice)) (shelf : Shelf) : Type 0 where
+pub record Begins (p : Plan) (x : Reached) : Type 0 where
   pub whole : IsWhole p
-  pub kept : IsKept p paths shelf
-  pub first : paths ≡ [] ∷ []
+  pub visits : Visits p.start p.sought x.tree
+  pub first : x.tree ≡ [] ∷ []
+  pub informed : IsInformed p x
 
 -- it is ready to go on from the path at a place
-pub record IsReady (p : Plan) (paths : List (List Choice)) (shelf : Shelf) (at : ℕ) : Type 0 where
+pub record IsReady (p : Plan) (paths : List (List Choice)) (at : ℕ) : Type 0 where
   pub whole : IsWhole p
-  pub kept : IsKept p paths shelf
+  pub visits : Visits p.start p.sought paths
   pub near : IsEdge paths at
   pub there : at < length paths
+  pub room : length p.start.entries + length_at paths at < deepest p.sought
 
--- it considers the choice of a branch, and no path goes on so yet
-pub record IsUntried (p : Plan) (paths : List (List Choice)) (b : Branch) : Type 0 where
+-- it is the turn of the choice of a branch: it is considered, and no path goes on so yet
+pub record IsTurn (p : Plan) (paths : List (List Choice)) (b : Branch) : Type 0 where
+  pub ready : IsReady p paths b.from
   pub considered : is_considered p.sought.kinds (length p.start.scenario.programs) b.by ≡ true
   pub fresh : IsFresh paths b.from b.by
 
--- it is about to make the choice of a branch, from a machine where the path of the branch leads
-pub record IsAbout (p : Plan) (paths : List (List Choice)) (shelf : Shelf) (b : Branch) (m : History) : Type 0 where
-  pub ready : IsReady p paths shelf b.from
-  pub choice : IsUntried p paths b
-  pub here : IsHere p.start paths b.from m
+-- the number of a choice among those of a plan
+pub record IsNumber (p : Plan) (i : ℕ) (c : Choice) : Type 0 where
+  pub there : i < length p.choices.items
+  pub choice : slice_index_or p.choices.items i Start ≡ c
 
 -- the paths of old are at their places in new
 pub record Grows (old new : List (List Choice)) : Type 0 where
@@ -187,12 +218,11 @@ MeetsWell p old new b met.Noted = Notes p.start p.sought old new b.from b.by
 MeetsWell p old new b met.Shown = ShowsNext p.start p.sought old new b.from b.by
 MeetsWell p old new b met.Spent = IsFull p.start p.sought p.most old new b.from
 
--- the same, with the machines that are kept and the twin of the machine here
-pub record Meets (p : Plan) (old new : List (List Choice)) (machines : Shelf) (b : Branch) (m : History) (second : Twin)
-    (x : Met) : Type 0 where
-  pub well : MeetsWell p old new b x
-  pub shelf : IsShelf p.start new machines
-  pub twin : IsSecond m second
+-- the same, with what is known of the states, and the machines
+pub record Meets (p : Plan) (old : List (List Choice)) (new : Reached) (b : Branch) (scratch : Scratch) (x : Met) : Type 0 where
+  pub well : MeetsWell p old new.tree b x
+  pub informed : IsInformed p new
+  pub machines : AreScratch p.start new.tree b.from scratch
 
 -- each choice from the state of the path at a place leads to a state like that of one of the paths
 pub record Expands (h : History) (q : Sought) (old new : List (List Choice)) (at : ℕ) : Type 0 where

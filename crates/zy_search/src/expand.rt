@@ -1,207 +1,241 @@
 //! What the choices from one state lead to.
-ghost use Rattle.std.specs.Prelude.{◌≡◌, ◌≤◌, ◌<◌, ◌+◌, ◌^◌, ◌++◌, ◌∷◌, [], IfOk, OnOk, None, true, false, length};
-ghost use Rattle.zy_isa.specs.Limits.{max_choices};
+ghost use Rattle.std.specs.Prelude.{◌≡◌, ◌<◌, ◌+◌, ◌++◌, ◌∷◌, [], IfOk, OnOk, true, false, length};
+ghost use Rattle.std.specs.Bool.{Decides};
 ghost use Rattle.zy_isa.specs.declared.choice.Choice.{Choice as AChoice};
-ghost use Rattle.zy_search.specs.Searches as searches;
-ghost use Rattle.zy_search.specs.Visits.{path_at, length_at, IsAbout, IsKnown, IsFresh, IsHere};
-ghost use Rattle.zy_search.specs.Visits.{IsKept, IsNext, IsReady};
-ghost use Rattle.zy_search.specs.Visits.{IsSecond, IsShelf, Grows, Meets, ExpandsWell};
+ghost use Rattle.zy_memo.specs.Memories.{Numbers};
+ghost use Rattle.zy_search.specs.Searches.{Shows};
+ghost use Rattle.zy_search.specs.Stuck as stuck;
+ghost use Rattle.zy_search.specs.Visits.{path_at, length_at, state_by, step_by, IsFresh};
+ghost use Rattle.zy_search.specs.Visits.{AreOf, AreScratch, Grows, IsEdge, IsInformed, IsNumber, IsReady, IsTurn, IsWhole, Visits};
+ghost use Rattle.zy_search.specs.Visits.{ExpandsWell, LeadsTo, Meets};
 
 use crate::answer::{Expanded, Met};
 use crate::branch::Branch;
-use crate::digest::digest;
 use crate::plan::Plan;
-use crate::shelf::Shelf;
-use crate::shows::shows_next;
-use crate::sought::{counted, deepest};
+use crate::reached::Reached;
+use crate::scratch::Scratch;
+use crate::shows::{is_by_commits, shows};
+use crate::sought::deepest;
 use crate::still::is_still;
-use crate::twin::Twin;
-use crate::visited::Visited;
+use crate::tree::Tree;
 use crate::walk::go_to;
 use std::alloc::{AllocError, Global};
-use zy_isa::{Choice, MAX_CHOICES};
-use zy_machine::{Fault, Machine};
+use zy_isa::Choice;
+use zy_machine::Fault;
+use zy_table::Outcome;
 
-/// How many states with one digest are kept; more of them cost time and memory, and nothing else.
-const MOST_PER_DIGEST: u64 = 8;
-
-/// Whether the path that is put under a digest leads to a state like a machine's.
-fn is_known(
-    plan: &Plan,
-    visited: &Visited,
-    shelf: &mut Shelf,
-    machine: &Machine,
-    digest: u64,
-) -> Result<bool, Fault>
-    requires kept { IsKept plan.now visited.now shelf.old }
-    ensures known { IfOk result (λ b. b ≡ true → IsKnown plan.now.start plan.now.sought visited.now
-        machine.now.state) }
-    ensures shelf { OnOk result (IsShelf plan.now.start visited.now shelf.new) }
+/// Brings the first scratch machine to where the path at a place leads, unless it is there.
+fn arrive(plan: &Plan, tree: &Tree, at: u32, scratch: &mut Scratch) -> Result<(), Fault>
+    requires ready { IsReady plan.now tree.now at }
+    requires scratch { AreScratch plan.now.start tree.now at scratch.old }
+    ensures scratch { OnOk result (AreScratch plan.now.start tree.now at scratch.new) }
+    ensures here { OnOk result (scratch.new.is_here ≡ true) }
 {
-    match visited.find(digest) {
-        Some(at) => shelf.leads_to(plan, visited, at, machine),
-        None => Ok(false),
+    if scratch.is_here {
+        return Ok(());
     }
-}
-
-/// A number under which no path is put, where none of the paths that are put under the machine's digest, or one of the
-/// next few numbers, leads to a state like its own; none where one does.
-fn free_under(
-    plan: &Plan,
-    visited: &Visited,
-    shelf: &mut Shelf,
-    machine: &Machine,
-) -> Result<Option<u64>, Fault>
-    requires kept { IsKept plan.now visited.now shelf.old }
-    ensures known { IfOk result (λ free. free ≡ None → IsKnown plan.now.start plan.now.sought visited.now
-        machine.now.state) }
-    ensures shelf { OnOk result (IsShelf plan.now.start visited.now shelf.new) }
-{
-    let first = digest(counted(&plan.sought), machine);
-    for k in 0..MOST_PER_DIGEST {
-        let number = first.wrapping_add(k);
-        if visited.find(number).is_none() {
-            return Ok(Some(number));
-        }
-        if is_known(plan, visited, shelf, machine, number)? {
-            return Ok(None);
-        }
-    }
-    Ok(Some(first))
-}
-
-/// Takes in a path more, which leads to the state of the twin, and the twin's machine with it.
-fn keep(
-    plan: &Plan,
-    visited: &mut Visited,
-    shelf: &mut Shelf,
-    branch: Branch,
-    here: &Machine,
-    twin: &mut Twin,
-    digest: u64,
-) -> Result<(), Fault>
-    requires room { length visited.old < 2 ^ 32 }
-    requires from { branch.from < length visited.old }
-    requires here { here.now.scenario ≡ plan.now.start.scenario }
-    requires next { IsNext plan.now.start plan.now.sought visited.old branch.from branch.by twin.old.machine }
-    requires shelf { IsShelf plan.now.start visited.old shelf.old }
-    ensures paths { OnOk result (visited.new
-        ≡ visited.old ++ (path_at visited.old branch.from ++ branch.by ∷ []) ∷ []) }
-    ensures shelf { OnOk result (IsShelf plan.now.start visited.new shelf.new) }
-    ensures twin { OnOk result (IsSecond here.now twin.new) }
-{
-    let place = visited.len() as u32;
-    visited.push(branch, digest)?;
-    twin.is_back = shelf.put(plan.alloc, place, &mut twin.machine, here)?;
+    go_to(plan, tree, at, &mut scratch.here)?;
+    scratch.is_here = true;
     Ok(())
 }
 
-/// Takes in a state, if no path leads to one like it, it does not show what is looked for and there is room for it.
-fn note_new(
+/// Makes the choice of a branch on the second scratch machine.
+fn attempt(
     plan: &Plan,
-    visited: &mut Visited,
-    shelf: &mut Shelf,
+    tree: &Tree,
     branch: Branch,
-    here: &Machine,
-    twin: &mut Twin,
-    digest: u64,
-) -> Result<Met, Fault>
-    requires about { IsAbout plan.now visited.old shelf.old branch here.now }
-    requires next { IsNext plan.now.start plan.now.sought visited.old branch.from branch.by twin.old.machine }
-    requires away { twin.old.is_back ≡ false }
-    ensures { IfOk result (Meets plan.now visited.old visited.new shelf.new branch here.now twin.new) }
+    scratch: &mut Scratch,
+) -> Result<Outcome, Fault>
+    requires turn { IsTurn plan.now tree.now branch }
+    requires scratch { AreScratch plan.now.start tree.now branch.from scratch.old }
+    ensures scratch { OnOk result (AreScratch plan.now.start tree.now branch.from scratch.new) }
+    ensures outcome { IfOk result (λ o. o ≡ (step_by plan.now tree.now branch).outcome) }
+    ensures state { OnOk result (scratch.new.after.state ≡ state_by plan.now tree.now branch) }
+    ensures entries { OnOk result (length scratch.new.after.entries
+        ≡ length plan.now.start.entries + length_at tree.now branch.from + 1) }
 {
-    if shows_next(
+    arrive(plan, tree, branch.from, scratch)?;
+    scratch.after.set_to(plan.alloc, &scratch.here)?;
+    let entry = scratch.after.step(branch.by)?;
+    Ok(entry.outcome)
+}
+
+/// What comes of the choice of a branch, which is remembered. Where something does, the numbers of the state that it leads
+/// to go to `next`.
+fn learn(
+    plan: &Plan,
+    reached: &mut Reached,
+    branch: Branch,
+    choice: usize,
+    scratch: &mut Scratch,
+    next: &mut Vec<u32>,
+) -> Result<Outcome, Fault>
+    requires turn { IsTurn plan.now reached.old.tree branch }
+    requires informed { IsInformed plan.now reached.old }
+    requires choice { IsNumber plan.now choice branch.by }
+    requires scratch { AreScratch plan.now.start reached.old.tree branch.from scratch.old }
+    ensures tree { OnOk result (reached.new.tree ≡ reached.old.tree) }
+    ensures leads { IfOk result (LeadsTo plan.now reached.new branch next.new.items) }
+    ensures scratch { OnOk result (AreScratch plan.now.start reached.old.tree branch.from scratch.new) }
+{
+    let outcome = attempt(plan, &reached.tree, branch, scratch)?;
+    let place = branch.from as usize;
+    reached
+        .explored
+        .learn(choice, place, &scratch.after, outcome, next)?;
+    Ok(outcome)
+}
+
+/// The same by a step that is remembered, if there is one, and else by a machine.
+fn outcome_of(
+    plan: &Plan,
+    reached: &mut Reached,
+    branch: Branch,
+    choice: usize,
+    scratch: &mut Scratch,
+    next: &mut Vec<u32>,
+) -> Result<Outcome, Fault>
+    requires turn { IsTurn plan.now reached.old.tree branch }
+    requires informed { IsInformed plan.now reached.old }
+    requires choice { IsNumber plan.now choice branch.by }
+    requires scratch { AreScratch plan.now.start reached.old.tree branch.from scratch.old }
+    ensures tree { OnOk result (reached.new.tree ≡ reached.old.tree) }
+    ensures leads { IfOk result (LeadsTo plan.now reached.new branch next.new.items) }
+    ensures scratch { OnOk result (AreScratch plan.now.start reached.old.tree branch.from scratch.new) }
+{
+    let place = branch.from as usize;
+    let Some(step) = reached.explored.recall(choice, place) else {
+        return learn(plan, reached, branch, choice, scratch, next);
+    };
+    if !is_still(step.outcome) {
+        reached.explored.follow(choice, place, &step, next)?;
+    }
+    Ok(step.outcome)
+}
+
+/// Whether the state that a branch leads to shows what is looked for, which that of its path does not. Where only a commit
+/// can bring it about and none was made, the state is not judged.
+fn shows_next(
+    plan: &Plan,
+    reached: &Reached,
+    branch: Branch,
+    scratch: &mut Scratch,
+    next: &[u32],
+) -> Result<bool, Fault>
+    requires turn { IsTurn plan.now reached.now.tree branch }
+    requires informed { IsInformed plan.now reached.now }
+    requires numbers { Numbers reached.now.explored.memory (state_by plan.now reached.now.tree branch) next.now }
+    requires scratch { AreScratch plan.now.start reached.now.tree branch.from scratch.old }
+    ensures shows { IfOk result (λ b. Decides b (Shows plan.now.start.scenario plan.now.sought
+        (state_by plan.now reached.now.tree branch))) }
+    ensures scratch { OnOk result (AreScratch plan.now.start reached.now.tree branch.from scratch.new) }
+{
+    // Proof: the state before is one that the choices of a tested scenario lead to.
+    let _tested = plan.start.scenario();
+    let place = branch.from as usize;
+    if is_by_commits(&plan.sought) && reached.explored.same_commits(place, next) {
+        return Ok(false);
+    }
+    attempt(plan, &reached.tree, branch, scratch)?;
+    shows(
         plan.alloc,
         &plan.sought,
         &plan.choices,
-        here,
-        &twin.machine,
-        &mut shelf.spare,
-    )? {
+        &scratch.after,
+        &mut scratch.spare,
+    )
+}
+
+/// These numbers, apart.
+fn copied(alloc: Global, numbers: &[u32]) -> Result<Vec<u32>, AllocError>
+    ensures { IfOk result (λ v. v.items ≡ numbers.now) }
+{
+    let mut copy = Vec::with_capacity(alloc, numbers.len())?;
+    copy.extend_from_slice(numbers)?;
+    Ok(copy)
+}
+
+/// Takes in the state that a branch leads to, if it does not show what is looked for and there is room for it.
+fn note_new(
+    plan: &Plan,
+    reached: &mut Reached,
+    branch: Branch,
+    scratch: &mut Scratch,
+    next: &[u32],
+) -> Result<Met, Fault>
+    requires turn { IsTurn plan.now reached.old.tree branch }
+    requires informed { IsInformed plan.now reached.old }
+    requires numbers { Numbers reached.old.explored.memory (state_by plan.now reached.old.tree branch) next.now }
+    requires moved { stuck.is_still (step_by plan.now reached.old.tree branch).outcome ≡ false }
+    requires scratch { AreScratch plan.now.start reached.old.tree branch.from scratch.old }
+    ensures { IfOk result (Meets plan.now reached.old.tree reached.new branch scratch.new) }
+{
+    if shows_next(plan, reached, branch, scratch, next)? {
         return Ok(Met::Shown);
     }
-    if plan.most as usize <= visited.len() {
+    if plan.most as usize <= reached.tree.len() {
         return Ok(Met::Spent);
     }
-    keep(plan, visited, shelf, branch, here, twin, digest)?;
+    let numbers = copied(plan.alloc, next)?;
+    reached.push(branch, numbers)?;
     Ok(Met::Noted)
 }
 
-/// Takes in the state that a choice from the state of the path at a place has led to.
-fn note(
-    plan: &Plan,
-    visited: &mut Visited,
-    shelf: &mut Shelf,
-    branch: Branch,
-    here: &Machine,
-    twin: &mut Twin,
-) -> Result<Met, Fault>
-    requires about { IsAbout plan.now visited.old shelf.old branch here.now }
-    requires next { IsNext plan.now.start plan.now.sought visited.old branch.from branch.by twin.old.machine }
-    requires away { twin.old.is_back ≡ false }
-    ensures { IfOk result (Meets plan.now visited.old visited.new shelf.new branch here.now twin.new) }
-{
-    match free_under(plan, visited, shelf, &twin.machine)? {
-        None => Ok(Met::Noted),
-        Some(digest) => note_new(plan, visited, shelf, branch, here, twin, digest),
-    }
-}
-
-/// Makes a choice from the state of a machine where the path at a place leads, on the twin of the machine.
+/// Makes the choice of a branch, and takes in the state that it leads to, if that is a new one.
 fn meet(
     plan: &Plan,
-    visited: &mut Visited,
-    shelf: &mut Shelf,
+    reached: &mut Reached,
     branch: Branch,
-    here: &Machine,
-    twin: &mut Twin,
+    choice: usize,
+    scratch: &mut Scratch,
+    next: &mut Vec<u32>,
 ) -> Result<Met, Fault>
-    requires about { IsAbout plan.now visited.old shelf.old branch here.now }
-    requires room { length here.now.entries < searches.deepest plan.now.sought }
-    requires twin { IsSecond here.now twin.old }
-    ensures { IfOk result (Meets plan.now visited.old visited.new shelf.new branch here.now twin.new) }
+    requires turn { IsTurn plan.now reached.old.tree branch }
+    requires informed { IsInformed plan.now reached.old }
+    requires choice { IsNumber plan.now choice branch.by }
+    requires scratch { AreScratch plan.now.start reached.old.tree branch.from scratch.old }
+    ensures { IfOk result (Meets plan.now reached.old.tree reached.new branch scratch.new) }
 {
-    let outcome = twin.attempt(plan.alloc, here, branch.by)?;
+    let outcome = outcome_of(plan, reached, branch, choice, scratch, next)?;
     if is_still(outcome) {
         return Ok(Met::Noted);
     }
-    note(plan, visited, shelf, branch, here, twin)
+    match reached.explored.find(next) {
+        Some(_) => Ok(Met::Noted),
+        None => note_new(plan, reached, branch, scratch, next),
+    }
 }
 
 /// The path at a place with one choice more.
 fn with_choice(
     alloc: Global,
-    visited: &Visited,
+    tree: &Tree,
     at: u32,
     choice: Choice,
 ) -> Result<Vec<Choice>, AllocError>
-    requires { at < length visited.now }
-    ensures { IfOk result (λ v. v.items ≡ path_at visited.now at ++ choice ∷ []) }
+    requires { at < length tree.now }
+    ensures { IfOk result (λ v. v.items ≡ path_at tree.now at ++ choice ∷ []) }
 {
-    let mut path = visited.path(alloc, at)?;
+    let mut path = tree.path(alloc, at as usize)?;
     path.push(choice)?;
     Ok(path)
 }
 
-/// Makes each choice from the state of a machine where the path at a place leads, on the twin of the machine.
+/// Makes each choice from the state of the path at a place.
 fn meet_each(
     plan: &Plan,
-    visited: &mut Visited,
-    shelf: &mut Shelf,
+    reached: &mut Reached,
     at: u32,
-    here: &Machine,
-    twin: &mut Twin,
+    scratch: &mut Scratch,
+    next: &mut Vec<u32>,
 ) -> Result<Expanded, Fault>
-    requires ready { IsReady plan.now visited.old shelf.old at }
-    requires end { (c : AChoice) → IsFresh visited.old at c }
-    requires here { IsHere plan.now.start visited.old at here.now }
-    requires room { length here.now.entries < searches.deepest plan.now.sought }
-    requires twin { IsSecond here.now twin.old }
-    ensures well { IfOk result (ExpandsWell plan.now visited.old visited.new at) }
-    ensures grows { OnOk result (Grows visited.old visited.new) }
-    ensures shelf { OnOk result (IsShelf plan.now.start visited.new shelf.new) }
-    ensures twin { OnOk result (twin.new.machine.scenario ≡ plan.now.start.scenario) }
+    requires ready { IsReady plan.now reached.old.tree at }
+    requires informed { IsInformed plan.now reached.old }
+    requires end { (c : AChoice) → IsFresh reached.old.tree at c }
+    requires scratch { AreScratch plan.now.start reached.old.tree at scratch.old }
+    ensures well { IfOk result (ExpandsWell plan.now reached.old.tree reached.new.tree at) }
+    ensures informed { OnOk result (IsInformed plan.now reached.new) }
+    ensures scratch { OnOk result (AreOf plan.now.start.scenario scratch.new) }
 {
     for i in 0..plan.choices.len() {
         let choice = plan.choices[i];
@@ -209,10 +243,10 @@ fn meet_each(
             from: at,
             by: choice,
         };
-        match meet(plan, visited, shelf, branch, here, twin)? {
+        match meet(plan, reached, branch, i, scratch, next)? {
             Met::Noted => {}
             Met::Shown => {
-                let path = with_choice(plan.alloc, visited, at, choice)?;
+                let path = with_choice(plan.alloc, &reached.tree, at, choice)?;
                 return Ok(Expanded::Found(path));
             }
             Met::Spent => return Ok(Expanded::Spent),
@@ -221,53 +255,29 @@ fn meet_each(
     Ok(Expanded::Whole)
 }
 
-/// Brings a machine to where the path at a place leads.
-fn arrive(
-    plan: &Plan,
-    visited: &Visited,
-    shelf: &mut Shelf,
-    at: u32,
-    here: &mut Machine,
-) -> Result<(), Fault>
-    requires kept { IsKept plan.now visited.now shelf.old }
-    requires at { at < length visited.now }
-    requires here { here.old.scenario ≡ plan.now.start.scenario }
-    ensures here { OnOk result (IsHere plan.now.start visited.now at here.new) }
-    // Where its history is nearly full, the path itself is as long.
-    ensures full { OnOk result (max_choices ≤ length here.new.entries + 1
-        → length here.new.entries ≡ length plan.now.start.entries + length_at visited.now at) }
-    ensures shelf { OnOk result (IsShelf plan.now.start visited.now shelf.new) }
-{
-    if shelf.take(at, here) && here.len() + 1 < MAX_CHOICES {
-        return Ok(());
-    }
-    go_to(plan, visited, at, here)
-}
-
-/// Makes each choice from the state of the path at a place.
+/// Makes each choice from the state of the path at a place, if the history has room for one more.
 pub(crate) fn expand(
     plan: &Plan,
-    visited: &mut Visited,
-    shelf: &mut Shelf,
+    reached: &mut Reached,
     at: u32,
-    here: &mut Machine,
-    twin: &mut Twin,
+    scratch: &mut Scratch,
+    next: &mut Vec<u32>,
 ) -> Result<Expanded, Fault>
-    requires ready { IsReady plan.now visited.old shelf.old at }
-    requires end { (c : AChoice) → IsFresh visited.old at c }
-    requires here { here.old.scenario ≡ plan.now.start.scenario }
-    requires twin { twin.old.machine.scenario ≡ plan.now.start.scenario }
-    ensures well { IfOk result (ExpandsWell plan.now visited.old visited.new at) }
-    ensures here { OnOk result (here.new.scenario ≡ plan.now.start.scenario) }
-    ensures twin { OnOk result (twin.new.machine.scenario ≡ plan.now.start.scenario) }
-    ensures shelf { OnOk result (IsShelf plan.now.start visited.new shelf.new) }
+    requires whole { IsWhole plan.now }
+    requires visits { Visits plan.now.start plan.now.sought reached.old.tree }
+    requires near { IsEdge reached.old.tree at }
+    requires there { at < length reached.old.tree }
+    requires informed { IsInformed plan.now reached.old }
+    requires end { (c : AChoice) → IsFresh reached.old.tree at c }
+    requires scratch { AreOf plan.now.start.scenario scratch.old }
+    ensures well { IfOk result (ExpandsWell plan.now reached.old.tree reached.new.tree at) }
+    ensures informed { OnOk result (IsInformed plan.now reached.new) }
+    ensures scratch { OnOk result (AreOf plan.now.start.scenario scratch.new) }
 {
-    arrive(plan, visited, shelf, at, here)?;
-    if deepest(&plan.sought) <= here.len() {
+    let depth = plan.start.len() + reached.tree.length(at as usize);
+    if deepest(&plan.sought) <= depth {
         return Ok(Expanded::Spent);
     }
-    twin.is_back = false;
-    let expanded = meet_each(plan, visited, shelf, at, here, twin)?;
-    shelf.give_back(at, here);
-    Ok(expanded)
+    scratch.is_here = false;
+    meet_each(plan, reached, at, scratch, next)
 }

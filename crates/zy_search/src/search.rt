@@ -2,91 +2,84 @@
 ghost use Rattle.std.specs.Prelude.{◌≡◌, ◌≤◌, ◌<◌, ◌+◌, [], ◌∷◌, IfOk, true, length};
 ghost use Rattle.zy_search.specs.Choices as spec;
 ghost use Rattle.zy_search.specs.Searches.{IsAnswer, IsReached, IsDue};
-ghost use Rattle.zy_search.specs.Visits.{length_at, AreExpanded, Begins, IsEdge, IsWhole, Visits};
+ghost use Rattle.zy_search.specs.Visits.{length_at, AreExpanded, AreOf, Begins, IsEdge, IsInformed, IsWhole, Visits};
 
 use crate::answer::{Answer, Expanded, Report};
 use crate::choices::considered;
-use crate::digest::digest;
 use crate::expand::expand;
 use crate::kinds::ChoiceKinds;
 use crate::last::with_step;
 use crate::plan::Plan;
-use crate::shelf::Shelf;
+use crate::reached::Reached;
+use crate::scratch::Scratch;
 use crate::shows::shows;
-use crate::sought::{Sought, counted, deepest};
-use crate::twin::Twin;
-use crate::visited::Visited;
+use crate::sought::{Sought, deepest};
+use crate::tree::Tree;
 use crate::watch::Watch;
 use std::alloc::{AllocError, Global};
 use zy_isa::Choice;
 use zy_machine::{Fault, Machine};
 
 /// What is known where the path at a place was not expanded, and all before it were.
-fn spent_at(alloc: Global, visited: &Visited, at: u32) -> Result<Answer, Fault>
-    requires { at < length visited.now }
-    ensures { IfOk result (λ a. a ≡ Answer.Spent (length_at visited.now at + 1)) }
+fn spent_at(tree: &Tree, at: u32) -> Answer
+    requires { at < length tree.now }
+    ensures { result ≡ Answer.Spent (length_at tree.now at + 1) }
 {
-    let path = visited.path(alloc, at)?;
-    Ok(Answer::Spent(path.len() + 1))
+    Answer::Spent(tree.length(at as usize) + 1)
 }
 
 /// The answer where all paths before a place were expanded, and that one is not.
-fn settle(plan: &Plan, visited: &Visited, at: u32) -> Result<Answer, Fault>
-    requires visits { Visits plan.now.start plan.now.sought visited.now }
-    requires expanded { AreExpanded plan.now.start plan.now.sought visited.now at }
-    requires near { at < length visited.now → IsEdge visited.now at }
+fn settle(plan: &Plan, tree: &Tree, at: u32) -> Answer
+    requires visits { Visits plan.now.start plan.now.sought tree.now }
+    requires expanded { AreExpanded plan.now.start plan.now.sought tree.now at }
+    requires near { at < length tree.now → IsEdge tree.now at }
     requires many { plan.now.most ≤ at }
-    ensures answer { IfOk result (IsReached plan.now.start plan.now.sought) }
-    ensures due { IfOk result (IsDue plan.now.start plan.now.sought plan.now.most) }
+    ensures answer { IsReached plan.now.start plan.now.sought result }
+    ensures due { IsDue plan.now.start plan.now.sought plan.now.most result }
 {
-    if visited.len() <= at as usize {
-        return Ok(Answer::Nowhere);
+    if tree.len() <= at as usize {
+        return Answer::Nowhere;
     }
-    spent_at(plan.alloc, visited, at)
+    spent_at(tree, at)
 }
 
 /// How many states are expanded before the watch hears of it again.
 const EVERY: u32 = 256;
 
 /// Reports to the watch how far the search is, if it is time.
-fn report_to<W: Watch>(watch: &mut W, alloc: Global, visited: &Visited, at: u32)
-    requires { at < length visited.now }
+fn report_to<W: Watch>(watch: &mut W, tree: &Tree, at: u32)
+    requires { at < length tree.now }
 {
-    if at % EVERY != 0 {
-        return;
-    }
-    if let Ok(path) = visited.path(alloc, at) {
-        watch.look(visited.len(), path.len());
+    if at % EVERY == 0 {
+        watch.look(tree.len(), tree.length(at as usize));
     }
 }
 
-/// Expands each path in turn, those that are added on the way too. The machines are scratch machines.
+/// Expands each path in turn, those that are added on the way too.
 fn expand_all<W: Watch>(
     plan: &Plan,
-    visited: &mut Visited,
-    shelf: &mut Shelf,
-    here: &mut Machine,
-    twin: &mut Twin,
+    reached: &mut Reached,
+    scratch: &mut Scratch,
     watch: &mut W,
 ) -> Result<Answer, Fault>
-    requires begins { Begins plan.now visited.old shelf.old }
-    requires here { here.old.scenario ≡ plan.now.start.scenario }
-    requires twin { twin.old.machine.scenario ≡ plan.now.start.scenario }
+    requires begins { Begins plan.now reached.old }
+    requires scratch { AreOf plan.now.start.scenario scratch.old }
     ensures answer { IfOk result (IsReached plan.now.start plan.now.sought) }
     ensures due { IfOk result (IsDue plan.now.start plan.now.sought plan.now.most) }
 {
+    let mut next = Vec::new(plan.alloc);
     for at in 0..u32::MAX {
-        if visited.len() <= at as usize {
+        if reached.tree.len() <= at as usize {
             return Ok(Answer::Nowhere);
         }
-        report_to(watch, plan.alloc, visited, at);
-        match expand(plan, visited, shelf, at, here, twin)? {
+        report_to(watch, &reached.tree, at);
+        match expand(plan, reached, at, scratch, &mut next)? {
             Expanded::Whole => {}
             Expanded::Found(path) => return Ok(Answer::Found(path)),
-            Expanded::Spent => return spent_at(plan.alloc, visited, at),
+            Expanded::Spent => return Ok(spent_at(&reached.tree, at)),
         }
     }
-    settle(plan, visited, u32::MAX)
+    Ok(settle(plan, &reached.tree, u32::MAX))
 }
 
 /// How many states an answer adds to the visited ones: the state that was found, unless it is that of the start.
@@ -97,66 +90,29 @@ fn shown_by(answer: &Answer) -> usize {
     }
 }
 
-/// An answer, with how many states were reached (`shown` of them beside the visited ones), and the length of the last path.
-fn report(
-    plan: &Plan,
-    visited: &Visited,
-    shown: usize,
-    answer: Answer,
-) -> Result<Report, AllocError>
-    ensures { IfOk result (λ r. r.answer ≡ answer) }
+/// An answer, with how many states were reached (`shown` of them beside those of the paths), and the length of the last path.
+fn report(tree: &Tree, shown: usize, answer: Answer) -> Report
+    ensures { result.answer ≡ answer }
 {
-    let last = visited.last(plan.alloc)?;
-    Ok(Report {
-        states: visited.len().saturating_add(shown),
-        depth: last.len(),
+    let last = tree.len() - 1;
+    Report {
+        states: tree.len().saturating_add(shown),
+        depth: tree.length(last),
         answer,
-    })
-}
-
-/// Looks at the states that choices lead to, with a machine to do it by.
-fn look_by<W: Watch>(
-    plan: &Plan,
-    visited: &mut Visited,
-    shelf: &mut Shelf,
-    here: &mut Machine,
-    watch: &mut W,
-) -> Result<Answer, Fault>
-    requires begins { Begins plan.now visited.old shelf.old }
-    requires here { here.old.scenario ≡ plan.now.start.scenario }
-    ensures answer { IfOk result (IsReached plan.now.start plan.now.sought) }
-    ensures due { IfOk result (IsDue plan.now.start plan.now.sought plan.now.most) }
-{
-    let mut twin = Twin::new(plan.alloc, &plan.start)?;
-    expand_all(plan, visited, shelf, here, &mut twin, watch)
-}
-
-/// The same, without a machine.
-fn look<W: Watch>(
-    plan: &Plan,
-    visited: &mut Visited,
-    shelf: &mut Shelf,
-    watch: &mut W,
-) -> Result<Answer, Fault>
-    requires { Begins plan.now visited.old shelf.old }
-    ensures answer { IfOk result (IsReached plan.now.start plan.now.sought) }
-    ensures due { IfOk result (IsDue plan.now.start plan.now.sought plan.now.most) }
-{
-    let mut here = plan.start.copy(plan.alloc)?;
-    look_by(plan, visited, shelf, &mut here, watch)
+    }
 }
 
 /// Looks at the state of the start, and then at those that choices lead to.
-fn look_first<W: Watch>(
+fn look<W: Watch>(
     plan: &Plan,
-    visited: &mut Visited,
-    shelf: &mut Shelf,
+    reached: &mut Reached,
+    scratch: &mut Scratch,
     watch: &mut W,
 ) -> Result<Answer, Fault>
     requires whole { IsWhole plan.now }
-    requires first { visited.old ≡ [] ∷ [] }
-    requires spots { shelf.old.spots.items ≡ [] }
-    requires spare { shelf.old.spare.scenario ≡ plan.now.start.scenario }
+    requires first { reached.old.tree ≡ [] ∷ [] }
+    requires informed { IsInformed plan.now reached.old }
+    requires scratch { AreOf plan.now.start.scenario scratch.old }
     ensures answer { IfOk result (IsReached plan.now.start plan.now.sought) }
     ensures due { IfOk result (IsDue plan.now.start plan.now.sought plan.now.most) }
 {
@@ -168,23 +124,24 @@ fn look_first<W: Watch>(
         &plan.sought,
         &plan.choices,
         &plan.start,
-        &mut shelf.spare,
+        &mut scratch.spare,
     )?;
     if is_shown {
         return Ok(Answer::Found(Vec::new(plan.alloc)));
     }
-    look(plan, visited, shelf, watch)
+    expand_all(plan, reached, scratch, watch)
 }
 
-/// The same, with no machine on the shelf yet.
-fn search_by<W: Watch>(plan: &Plan, visited: &mut Visited, watch: &mut W) -> Result<Answer, Fault>
+/// The same, with scratch machines of its own.
+fn search_by<W: Watch>(plan: &Plan, reached: &mut Reached, watch: &mut W) -> Result<Answer, Fault>
     requires whole { IsWhole plan.now }
-    requires first { visited.old ≡ [] ∷ [] }
+    requires first { reached.old.tree ≡ [] ∷ [] }
+    requires informed { IsInformed plan.now reached.old }
     ensures answer { IfOk result (IsReached plan.now.start plan.now.sought) }
     ensures due { IfOk result (IsDue plan.now.start plan.now.sought plan.now.most) }
 {
-    let mut shelf = Shelf::new(plan.alloc, &plan.start)?;
-    look_first(plan, visited, &mut shelf, watch)
+    let mut scratch = Scratch::new(plan.alloc, &plan.start)?;
+    look(plan, reached, &mut scratch, watch)
 }
 
 /// The choices that a search considers from a machine.
@@ -232,9 +189,9 @@ pub fn search<W: Watch>(
     ensures due { IfOk result (λ r. IsDue start.now sought most r.answer) }
 {
     let plan = plan_from(alloc, start, sought, most)?;
-    let mut visited = Visited::new(alloc, digest(counted(&plan.sought), &plan.start))?;
-    let reached = search_by(&plan, &mut visited, watch)?;
-    let shown = shown_by(&reached);
-    let answer = with_step(&plan, reached)?;
-    report(&plan, &visited, shown, answer)
+    let mut reached = Reached::new(&plan)?;
+    let found = search_by(&plan, &mut reached, watch)?;
+    let shown = shown_by(&found);
+    let answer = with_step(&plan, found)?;
+    Ok(report(&reached.tree, shown, answer))
 }

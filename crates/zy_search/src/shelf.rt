@@ -1,4 +1,4 @@
-//! Machines where the last paths lead, so that most states are compared, and expanded, without making all choices
+//! Machines where the last paths lead, so that most states are compared, and gone on from, without making all choices
 //! that lead there.
 ghost use Rattle.std.specs.Prelude.{◌≡◌, ◌<◌, List, [], IfOk, IfSome, OnOk, Some, true, length, slice_index_or};
 ghost use Rattle.zy_isa.specs.declared.choice.Choice.{Choice};
@@ -6,13 +6,8 @@ ghost use Rattle.zy_machine.specs.Histories.{History};
 ghost use Rattle.zy_machine.specs.Alike.{Alike};
 ghost use Rattle.zy_search.specs.declared.shelf.Spot.{Spot as ASpot};
 ghost use Rattle.zy_search.specs.Searches.{reached};
-ghost use Rattle.zy_search.specs.Visits as visits;
-ghost use Rattle.zy_search.specs.Visits.{path_at, IsHere, IsKept, IsShelf};
+ghost use Rattle.zy_search.specs.Visits.{path_at, IsHere, IsShelf};
 
-use crate::plan::Plan;
-use crate::sought::counted;
-use crate::visited::Visited;
-use crate::walk::go_to;
 use std::alloc::Global;
 use std::mem;
 use zy_machine::{Fault, Machine, StatePart};
@@ -88,28 +83,6 @@ impl Shelf {
     {
         let i = self.find(at)?;
         Some(self.spots[i].machine.is_alike(part, machine))
-    }
-
-    /// Whether the path at a place leads to a state like a machine's, in what counts for what is looked for.
-    pub(crate) fn leads_to(
-        &mut self,
-        plan: &Plan,
-        visited: &Visited,
-        at: u32,
-        machine: &Machine,
-    ) -> Result<bool, Fault>
-        requires kept { IsKept plan.now visited.now self.old }
-        requires at { at < length visited.now }
-        ensures known { IfOk result (λ b. b ≡ true → Alike (visits.counted plan.now.sought)
-            (reached plan.now.start (path_at visited.now at)) machine.now.state) }
-        ensures shelf { OnOk result (IsShelf plan.now.start visited.now self.new) }
-    {
-        let part = counted(&plan.sought);
-        if let Some(i) = self.find(at) {
-            return Ok(self.spots[i].machine.is_alike(part, machine));
-        }
-        go_to(plan, visited, at, &mut self.spare)?;
-        Ok(self.spare.is_alike(part, machine))
     }
 
     /// Takes the machine where the path at a place leads, if there is one, and leaves another one there.

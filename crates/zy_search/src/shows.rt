@@ -2,8 +2,6 @@
 ghost use Rattle.std.specs.Prelude.{◌≡◌, ◌<◌, IfOk, OnOk, true, length, is_some};
 ghost use Rattle.std.specs.Bool.{Decides};
 ghost use Rattle.zy_isa.specs.Limits.{max_choices};
-ghost use Rattle.zy_isa.specs.declared.choice.Choice.{Choice as AChoice};
-ghost use Rattle.zy_table.specs.Play as table;
 ghost use Rattle.zy_goals.specs.Goals as goals;
 ghost use Rattle.zy_goals.specs.Commits as goals_commits;
 ghost use Rattle.zy_search.specs.Choices.{considered};
@@ -22,7 +20,6 @@ use zy_goals::facts::holds_in;
 use zy_goals::{Fact, Goal, OutcomePattern};
 use zy_isa::Choice;
 use zy_machine::{Fault, Machine};
-use zy_table::CommitRecord;
 
 /// Whether a fact holds in a machine's state. The considered choices are tried on another machine.
 fn holds(
@@ -146,43 +143,9 @@ pub(crate) fn shows(
     shows_all(alloc, sought, choices, machine, spare)
 }
 
-/// Whether these are the same commits as those.
-fn same_commits(xs: &[CommitRecord], ys: &[CommitRecord]) -> bool
-    ensures { result ≡ true → xs.now ≡ ys.now }
-{
-    xs == ys
-}
-
 /// Whether only a commit can bring about what is looked for.
-fn is_by_commits(sought: &Sought) -> bool
+pub(crate) fn is_by_commits(sought: &Sought) -> bool
     ensures { result ≡ spec.is_by_commits sought.now }
 {
     sought.then.is_none() && is_of_commits(&sought.goal)
-}
-
-/// The same of a machine to which a choice has led from the state of `before`, which does not show it. Where only a
-/// commit can bring it about and none was made, the state is not judged.
-pub(crate) fn shows_next(
-    alloc: Global,
-    sought: &Sought,
-    choices: &[Choice],
-    before: &Machine,
-    machine: &Machine,
-    spare: &mut Machine,
-) -> Result<bool, Fault>
-    requires scenario { machine.now.scenario ≡ before.now.scenario }
-    requires step { (c : AChoice) × (machine.now.state ≡ (table.step before.now.scenario c before.now.state).after) }
-    requires none { Shows before.now.scenario sought.now before.now.state → ⊥ }
-    requires room { MayTry sought.now machine.now }
-    requires choices { choices.now ≡ considered sought.now.kinds (length machine.now.scenario.programs) }
-    requires spare { spare.old.scenario ≡ machine.now.scenario }
-    ensures shows { IfOk result (λ b. Decides b (Shows machine.now.scenario sought.now machine.now.state)) }
-    ensures spare { OnOk result (spare.new.scenario ≡ machine.now.scenario) }
-{
-    // Proof: the state before is the replay of a scenario that was tested.
-    let _tested = before.scenario();
-    if is_by_commits(sought) && same_commits(machine.commits(), before.commits()) {
-        return Ok(false);
-    }
-    shows(alloc, sought, choices, machine, spare)
 }

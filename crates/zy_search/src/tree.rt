@@ -65,6 +65,22 @@ impl Tree {
         self.branches[i - 1]
     }
 
+    /// How many choices the path at a place has.
+    pub fn length(&self, i: usize) -> usize
+        requires { i < length self.now }
+        ensures value { result ≡ length (slice_index_or self.now i []) }
+        ensures few { result ≤ i }
+    {
+        let mut count = 0;
+        let mut at = i;
+        while at != 0 {
+            let branch = self.branches[at - 1];
+            at = branch.from as usize;
+            count += 1;
+        }
+        count
+    }
+
     /// The path at a place.
     pub fn path(&self, alloc: Global, i: usize) -> Result<Vec<Choice>, AllocError>
         requires { i < length self.now }

@@ -38,6 +38,13 @@ impl Visited {
         })
     }
 
+    /// The paths.
+    pub fn tree(&self) -> &Tree
+        ensures { result.now ≡ self.entry.now }
+    {
+        &self.tree
+    }
+
     /// How many paths there are.
     pub fn len(&self) -> usize
         ensures value { result ≡ length self.now }
@@ -46,29 +53,12 @@ impl Visited {
         self.tree.len()
     }
 
-    /// How the path at a place goes on from an earlier one.
-    pub fn branch(&self, i: u32) -> Branch
-        requires some { 0 < i }
-        requires there { i < length self.now }
-        ensures path { slice_index_or self.now i [] ≡ slice_index_or self.now result.from [] ++ result.by ∷ [] }
-        ensures earlier { result.from < i }
-    {
-        self.tree.branch(i as usize)
-    }
-
     /// The path at a place.
     pub fn path(&self, alloc: Global, i: u32) -> Result<Vec<Choice>, AllocError>
         requires { i < length self.now }
         ensures { IfOk result (λ v. v.items ≡ slice_index_or self.now i []) }
     {
         self.tree.path(alloc, i as usize)
-    }
-
-    /// The path that was put there last.
-    pub fn last(&self, alloc: Global) -> Result<Vec<Choice>, AllocError>
-        ensures { IfOk result (λ v. v.items ≡ slice_index_or self.now (length self.now - 1) []) }
-    {
-        self.tree.path(alloc, self.tree.len() - 1)
     }
 
     /// The place of the last path that was put there under a digest.

@@ -7,44 +7,39 @@ ghost use Rattle.zy_search.specs.Searches.{IsPath};
 ghost use Rattle.zy_search.specs.Visits.{path_at, length_at, IsHere};
 
 use crate::plan::Plan;
-use crate::visited::Visited;
+use crate::tree::Tree;
 use zy_machine::{Fault, Machine};
 
 /// Makes the choices of a path, from its root on.
-pub fn walk(visited: &Visited, at: u32, machine: &mut Machine) -> Result<(), Fault>
-    requires there { at < length visited.now }
-    requires first { path_at visited.now 0 ≡ [] }
-    requires named { AreNamed (length machine.old.scenario.programs) (path_at visited.now at) }
-    requires room { length machine.old.entries + length_at visited.now at ≤ max_choices }
+pub fn walk(tree: &Tree, at: u32, machine: &mut Machine) -> Result<(), Fault>
+    requires there { at < length tree.now }
+    requires first { path_at tree.now 0 ≡ [] }
+    requires named { AreNamed (length machine.old.scenario.programs) (path_at tree.now at) }
+    requires room { length machine.old.entries + length_at tree.now at ≤ max_choices }
     ensures scenario { machine.new.scenario ≡ machine.old.scenario }
     ensures state { OnOk result (machine.new.state ≡ play machine.old.scenario machine.old.state
-        (path_at visited.now at)) }
-    ensures entries { OnOk result (length machine.new.entries ≡ length machine.old.entries + length_at visited.now at) }
+        (path_at tree.now at)) }
+    ensures entries { OnOk result (length machine.new.entries ≡ length machine.old.entries + length_at tree.now at) }
 {
     if at == 0 {
         return Ok(());
     }
-    let branch = visited.branch(at);
-    walk(visited, branch.from, machine)?;
+    let branch = tree.branch(at as usize);
+    walk(tree, branch.from, machine)?;
     machine.step(branch.by)?;
     Ok(())
 }
 
 /// Brings a machine to where the path at a place leads.
-pub(crate) fn go_to(
-    plan: &Plan,
-    visited: &Visited,
-    at: u32,
-    machine: &mut Machine,
-) -> Result<(), Fault>
-    requires there { at < length visited.now }
-    requires first { path_at visited.now 0 ≡ [] }
-    requires path { IsPath plan.now.start plan.now.sought (path_at visited.now at) }
+pub(crate) fn go_to(plan: &Plan, tree: &Tree, at: u32, machine: &mut Machine) -> Result<(), Fault>
+    requires there { at < length tree.now }
+    requires first { path_at tree.now 0 ≡ [] }
+    requires path { IsPath plan.now.start plan.now.sought (path_at tree.now at) }
     requires same { machine.old.scenario ≡ plan.now.start.scenario }
-    ensures here { OnOk result (IsHere plan.now.start visited.now at machine.new) }
+    ensures here { OnOk result (IsHere plan.now.start tree.now at machine.new) }
     ensures entries { OnOk result (length machine.new.entries
-        ≡ length plan.now.start.entries + length_at visited.now at) }
+        ≡ length plan.now.start.entries + length_at tree.now at) }
 {
     machine.set_to(plan.alloc, &plan.start)?;
-    walk(visited, at, machine)
+    walk(tree, at, machine)
 }

@@ -1,30 +1,37 @@
--- Where nothing comes of the choice the twin is still there; else it is one choice further.
-use Rattle.std.proofs.Common.{◌∙◌, sym, length, arith}
-use Rattle.zy_search.proofs.StillSteps.{still_known, next}
-use Rattle.zy_search.proofs.DepthLemmas.{next_fits, within}
+-- Nothing comes of the choice, or it leads to a known state, or to a new one.
+use Rattle.std.proofs.Common.{◌∙◌, sym}
+use Rattle.zy_search.specs.Visits.{state_by, states_of}
+use Rattle.zy_search.proofs.ReachedLemmas.{known_by}
+use Rattle.zy_search.proofs.TurnLemmas.{known_noted, still_noted}
 use Rattle.zy_search.proofs.expand.meet.Goals as goal
 
 pub returns-then-is_still : goal.returns-then-is_still
 returns-then-is_still c =
-    let r = c.requires.about.ready in
+    let made = c.in_ok-outcome.ensures in
+    let p = c.args.plan.now in
+    let old = c.args.reached.now.tree in
+    let still = rw made.tree at made.leads.still in
     record {
-      well = still_known c.args.plan.now.start c.args.here.now c.args.visited.now c.args.branch.from c.requires.about.here c.args.branch.by
-          c.in_ok-outcome.outcome c.in_ok-outcome.ensures.outcome
-          c.args.plan.now.sought r.kept.visits r.near r.there (sym c.is_still.ensures ∙ c.if-is_still.true);
-      shelf = r.kept.shelf;
-      twin = c.in_ok-outcome.ensures.second;
+      well = rw made.tree (still_noted p old c.args.branch c.requires.turn (sym still ∙ (sym c.is_still.ensures ∙ c.if-is_still.true)));
+      informed = made.leads.informed;
+      machines = rw made.tree made.scratch;
     }
 
-pub attempt-requires-clause-room : goal.attempt-requires-clause-room
-attempt-requires-clause-room c = omega (arith, c.requires.room, within c.args.plan.now.sought)
-
-pub note-requires-clause-away : goal.note-requires-clause-away
-note-requires-clause-away c = c.in_ok-outcome.ensures.back ∙ (sym c.is_still.ensures ∙ c.if-is_still.false)
-
-pub note-requires-clause-next : goal.note-requires-clause-next
-note-requires-clause-next c =
-    let o = c.in_ok-outcome.ensures in
-    let q = c.args.plan.now.sought in
-    next c.args.plan.now.start c.args.here.now c.args.visited.now c.args.branch.from c.requires.about.here c.args.branch.by c.in_ok-outcome.outcome o.outcome
-    q c.attempt.new.self.machine o.second.scenario o.state (sym c.is_still.ensures ∙ c.if-is_still.false) o.longer
-    (next_fits q (length c.args.here.now.entries) (length c.attempt.new.self.machine.entries) c.requires.room o.full)
+pub returns-in-Some : goal.returns-in-Some
+returns-in-Some c =
+    let made = c.in_ok-outcome.ensures in
+    let p = c.args.plan.now in
+    let old = c.args.reached.now.tree in
+    let x = c.outcome_of.new.reached in
+    let knows = made.leads.informed.knows in
+    let sc = p.start.scenario in
+    let states = states_of p.start x.tree in
+    let to = state_by p x.tree c.args.branch in
+    let moved = sym c.is_still.ensures ∙ c.if-is_still.false in
+    let known = known_by p x made.leads.informed c.in-Some.field-0 to (c.in-Some.ensures.there sc states knows)
+    (λ s at. c.in-Some.ensures.alike sc states s to knows at (rw c.deref.ensures.value (made.leads.numbers moved))) in
+    record {
+      well = rw made.tree (known_noted p old c.args.branch c.requires.turn (rw made.tree at known));
+      informed = made.leads.informed;
+      machines = rw made.tree made.scratch;
+    }

@@ -1,58 +1,59 @@
 -- Each choice of the plan is met in turn, from the state of one path.
-use Rattle.std.proofs.Common.{inl, ◌≡◌, ◌∙◌, ◌<◌, true, get_or, sym, subst, length, arith, refl}
+use Rattle.std.proofs.Common.{inl, ◌≡◌, ◌<◌, List, true, get_or, sym, ap, subst, length, arith, refl}
 use Rattle.zy_isa.specs.declared.choice.Choice.{Choice}
 use Rattle.zy_isa.specs.declared.choice.Choice.TheVariants.{Start}
 use Rattle.zy_search.specs.Choices.{is_considered}
 use Rattle.zy_search.specs.Visits.{IsFresh, Notes}
 use Rattle.zy_search.proofs.SearchLemmas.{grows_not, grows_on}
 use Rattle.zy_search.proofs.EdgeLemmas.{by_next, fresh_one}
-use Rattle.zy_search.proofs.ShelfLemmas.{here_grown}
 use Rattle.zy_search.proofs.MeetLemmas.{element, found, is_one, lead_all, lead_next}
 use Rattle.zy_search.proofs.expand.meet_each.Goals as goal
 
-pub meet-requires-clause-about : goal.meet-requires-clause-about
-meet-requires-clause-about c =
+pub meet-requires-clause-turn : goal.meet-requires-clause-turn
+meet-requires-clause-turn c =
     let cs = c.args.plan.now.choices.items in
     let q = c.args.plan.now.sought in
     let n = length c.args.plan.now.start.scenario.programs in
     let lt : c.loop-i.i < length cs = omega (arith, c.loop-i-test.true, c.len-i-end.ensures) in
     let is = element cs c.loop-i.i c.index-choice.result.now lt c.index-choice.ensures in
     let i = c.loop-i.invariant in
-    let there = c.requires.ready.there in
+    let ready = c.requires.ready in
     record {
       ready = record {
-        whole = c.requires.ready.whole;
-        kept = record { visits = i.visits; shelf = i.shelf };
+        whole = ready.whole;
+        visits = i.visits;
         near = i.near;
-        there = omega (arith, there, i.grows.longer);
+        there = omega (arith, ready.there, i.grows.longer);
+        room = omega (arith, ready.room, ap (λ (l : List Choice). length l) (i.grows.same c.args.at ready.there));
       };
-      choice = record {
-        considered = subst (λ (d : Choice). is_considered q.kinds n d ≡ true) (sym is) (is_one q.kinds n c.loop-i.i cs c.requires.ready.whole lt);
-        fresh =
-            subst (IsFresh c.loop-i.visited c.args.at) (sym is) (fresh_one q.kinds n c.loop-i.visited c.args.at c.loop-i.i cs c.requires.ready.whole lt
-            i.by);
-      };
-      here = here_grown c.args.plan.now.start c.args.visited.now c.loop-i.visited c.args.at c.args.here.now i.grows there c.requires.here;
+      considered = subst (λ (d : Choice). is_considered q.kinds n d ≡ true) (sym is) (is_one q.kinds n c.loop-i.i cs ready.whole lt);
+      fresh = subst (IsFresh c.loop-i.reached.tree c.args.at) (sym is)
+          (fresh_one q.kinds n c.loop-i.reached.tree c.args.at c.loop-i.i cs ready.whole lt i.by);
     }
+
+pub meet-requires-clause-choice : goal.meet-requires-clause-choice
+meet-requires-clause-choice c =
+    let cs = c.args.plan.now.choices.items in
+    let lt : c.loop-i.i < length cs = omega (arith, c.loop-i-test.true, c.len-i-end.ensures) in
+    record { there = lt; choice = sym (element cs c.loop-i.i c.index-choice.result.now lt c.index-choice.ensures) }
 
 pub returns-in-Spent : goal.returns-in-Spent
 returns-in-Spent c =
     let m = rw c.in-Spent.is at c.in_ok-meet.ensures.well in
-    let g = grows_on c.args.visited.now c.loop-i.visited c.meet.new.visited c.loop-i.invariant.grows m.grows in
+    let g = grows_on c.args.reached.now.tree c.loop-i.reached.tree c.meet.new.reached.tree c.loop-i.invariant.grows m.grows in
     record {
       well = inl (record { visits = m.visits; near = m.near; grows = g; many = m.many });
-      grows = g;
-      twin = c.in_ok-meet.ensures.twin.scenario ∙ c.requires.here.scenario;
-      shelf = c.in_ok-meet.ensures.shelf;
+      informed = c.in_ok-meet.ensures.informed;
+      scratch = c.in_ok-meet.ensures.machines.machines;
     }
 
 pub loop-i-init : goal.loop-i-init
 loop-i-init c = record {
-  visits = c.requires.ready.kept.visits;
+  visits = c.requires.ready.visits;
   near = c.requires.ready.near;
-  grows = grows_not c.args.visited.now;
-  twin = c.requires.twin;
-  shelf = c.requires.ready.kept.shelf;
+  grows = grows_not c.args.reached.now.tree;
+  informed = c.requires.informed;
+  scratch = c.requires.scratch;
   by = λ i lt d e. absurd (c.requires.end d i lt e);
   known = λ j lt. absurd (omega (arith, lt));
 }
@@ -74,12 +75,11 @@ returns-in-Shown c =
     let one = subst (λ (x : Choice). is_considered q.kinds n x ≡ true) (sym is) (is_one q.kinds n c.loop-i.i cs c.requires.ready.whole lt) in
     let m = rw c.in-Shown.is at c.in_ok-meet.ensures.well in
     record {
-      well = found h q c.args.visited.now c.loop-i.visited c.args.at c.requires.ready.there c.loop-i.invariant.grows c.meet.new.visited d
-          c.in_ok-path-in-Shown.path.items c.requires.ready.kept.visits
-          (omega (arith, c.requires.here.entries, c.requires.room)) one m c.in_ok-path-in-Shown.ensures;
-      grows = grows_on c.args.visited.now c.loop-i.visited c.meet.new.visited c.loop-i.invariant.grows m.grows;
-      twin = c.in_ok-meet.ensures.twin.scenario ∙ c.requires.here.scenario;
-      shelf = c.in_ok-meet.ensures.shelf;
+      well = found h q c.args.reached.now.tree c.loop-i.reached.tree c.args.at c.requires.ready.there c.loop-i.invariant.grows c.meet.new.reached.tree d
+          c.in_ok-path-in-Shown.path.items c.requires.ready.visits
+          c.requires.ready.room one m c.in_ok-path-in-Shown.ensures;
+      informed = c.in_ok-meet.ensures.informed;
+      scratch = c.in_ok-meet.ensures.machines.machines;
     }
 
 pub loop-i-preserved : goal.loop-i-preserved
@@ -90,17 +90,17 @@ loop-i-preserved c =
     let lt : c.loop-i.i < length cs = omega (arith, c.loop-i-test.true, c.len-i-end.ensures) in
     let is = element cs c.loop-i.i c.index-choice.result.now lt c.index-choice.ensures in
     let m = rw c.in-Noted.is at c.in_ok-meet.ensures.well in
-    let n = subst (λ (d : Choice). Notes h q c.loop-i.visited c.meet.new.visited c.args.at d) is m in
+    let n = subst (λ (d : Choice). Notes h q c.loop-i.reached.tree c.meet.new.reached.tree c.args.at d) is m in
     let g = c.loop-i.invariant.grows in
     record {
       visits = n.visits;
       near = n.near;
-      grows = grows_on c.args.visited.now c.loop-i.visited c.meet.new.visited g n.grows;
-      twin = c.in_ok-meet.ensures.twin;
-      shelf = c.in_ok-meet.ensures.shelf;
-      by = by_next c.loop-i.visited c.meet.new.visited c.args.at c.loop-i.i cs (get_or cs c.loop-i.i Start) n.more
+      grows = grows_on c.args.reached.now.tree c.loop-i.reached.tree c.meet.new.reached.tree g n.grows;
+      informed = c.in_ok-meet.ensures.informed;
+      scratch = c.in_ok-meet.ensures.machines;
+      by = by_next c.loop-i.reached.tree c.meet.new.reached.tree c.args.at c.loop-i.i cs (get_or cs c.loop-i.i Start) n.more
           (omega (arith, c.requires.ready.there, g.longer)) c.loop-i.invariant.by refl;
-      known = lead_next h q c.args.visited.now c.loop-i.visited c.args.at c.requires.ready.there g c.meet.new.visited cs c.loop-i.i n c.loop-i.invariant.known;
+      known = lead_next h q c.args.reached.now.tree c.loop-i.reached.tree c.args.at c.requires.ready.there g c.meet.new.reached.tree cs c.loop-i.i n c.loop-i.invariant.known;
     }
 
 pub returns : goal.returns
@@ -113,11 +113,10 @@ returns c =
         visits = i.visits;
         near = i.near;
         grows = i.grows;
-        expanded = lead_all h q c.args.visited.now c.loop-i.visited c.args.at c.requires.ready.there i.grows c.args.plan.now.choices.items c.loop-i.i
+        expanded = lead_all h q c.args.reached.now.tree c.loop-i.reached.tree c.args.at c.requires.ready.there i.grows c.args.plan.now.choices.items c.loop-i.i
             c.requires.ready.whole
             (omega (arith, c.loop-i-test.false, c.len-i-end.ensures)) i.known;
       };
-      grows = i.grows;
-      twin = i.twin.scenario ∙ c.requires.here.scenario;
-      shelf = i.shelf;
+      informed = i.informed;
+      scratch = i.scratch.machines;
     }

@@ -1,15 +1,15 @@
-use Rattle.zy_search.specs.Visits.{Visits, IsEdge, GoOnBy, Grows, IsSecond, IsShelf}
+use Rattle.zy_search.specs.Visits.{Visits, IsEdge, GoOnBy, Grows, IsInformed, AreScratch}
 use Rattle.zy_search.proofs.MeetLemmas.{AllLead}
 use Rattle.zy_search.proofs.expand.meet_each.Given as goal
 
 abbrev pub invariant-loop-i : goal.invariant-loop-i
 invariant-loop-i l =
     record {
-      visits : Visits l.plan.start l.plan.sought l.visited;
-      near : IsEdge l.visited l.at;
-      grows : Grows l.initial.visited l.visited;
-      twin : IsSecond l.here l.twin;
-      shelf : IsShelf l.plan.start l.visited l.shelf;
-      by : GoOnBy l.visited l.at l.plan.choices.items l.i;
-      known : AllLead l.plan.start l.plan.sought l.initial.visited l.at l.visited l.plan.choices.items l.i;
+      visits : Visits l.plan.start l.plan.sought l.reached.tree;
+      near : IsEdge l.reached.tree l.at;
+      grows : Grows l.initial.reached.tree l.reached.tree;
+      informed : IsInformed l.plan l.reached;
+      scratch : AreScratch l.plan.start l.reached.tree l.at l.scratch;
+      by : GoOnBy l.reached.tree l.at l.plan.choices.items l.i;
+      known : AllLead l.plan.start l.plan.sought l.initial.reached.tree l.at l.reached.tree l.plan.choices.items l.i;
     }

@@ -10,41 +10,40 @@ pub loop-at-init : goal.loop-at-init
 loop-at-init g c =
     let first = c.requires.begins.first in
     record {
-      visits = c.requires.begins.kept.visits;
+      visits = c.requires.begins.visits;
       within = omega arith;
       expanded = λ i lt. absurd (omega (arith, lt));
       near = rw first (λ _. record { near = near_first; ends = ends_later ([] ∷ []) 0 1 (omega arith) ends_first });
       ends = rw first ends_first;
-      here = c.requires.here;
-      twin = c.requires.twin;
-      shelf = c.requires.begins.kept.shelf;
+      informed = c.requires.begins.informed;
+      scratch = c.requires.scratch;
     }
 
 pub returns-then-len-at-clause-answer : goal.returns-then-len-at-clause-answer
 returns-then-len-at-clause-answer g c =
-    none_at_all c.args.plan.now.start c.args.plan.now.sought c.loop-at.visited c.loop-at.invariant.visits c.loop-at.at c.loop-at.invariant.expanded
+    none_at_all c.args.plan.now.start c.args.plan.now.sought c.loop-at.reached.tree c.loop-at.invariant.visits c.loop-at.at c.loop-at.invariant.expanded
     (omega (arith, c.len.ensures.value, c.if-len-at.true))
 
 pub returns-in-Found-clause-answer : goal.returns-in-Found-clause-answer
 returns-in-Found-clause-answer g c =
-    finds_first c.args.plan.now.start c.args.plan.now.sought c.loop-at.visited c.loop-at.invariant.visits c.loop-at.at c.in-Found.path.items
+    finds_first c.args.plan.now.start c.args.plan.now.sought c.loop-at.reached.tree c.loop-at.invariant.visits c.loop-at.at c.in-Found.path.items
     c.loop-at.invariant.expanded (rw c.in-Found.is at c.in_ok-expand.ensures.well)
 
 pub returns-in-Spent-clause-answer : goal.returns-in-Spent-clause-answer
 returns-in-Spent-clause-answer g c =
     let h = c.args.plan.now.start in
     let q = c.args.plan.now.sought in
-    let lt : c.loop-at.at < length c.loop-at.visited = omega (arith, c.len.ensures.value, c.if-len-at.false) in
-    let below = spent_below h q c.loop-at.visited c.loop-at.invariant.visits c.expand.new.visited c.loop-at.at lt c.loop-at.invariant.expanded
+    let lt : c.loop-at.at < length c.loop-at.reached.tree = omega (arith, c.len.ensures.value, c.if-len-at.false) in
+    let below = spent_below h q c.loop-at.reached.tree c.loop-at.invariant.visits c.expand.new.reached.tree c.loop-at.at lt c.loop-at.invariant.expanded
     (stops_grown h q c.args.plan.now.most c.loop-at.at _ _ (rw c.in-Spent.is at c.in_ok-expand.ensures.well)) in
-    spent_well h q (length_at c.expand.new.visited c.loop-at.at + 1) c.spent_at.result below c.spent_at.ensures
+    spent_well h q (length_at c.expand.new.reached.tree c.loop-at.at + 1) c.spent_at.result below c.spent_at.ensures
 
 pub loop-at-preserved : goal.loop-at-preserved
 loop-at-preserved g c =
     let h = c.args.plan.now.start in
     let q = c.args.plan.now.sought in
-    let old = c.loop-at.visited in
-    let new = c.expand.new.visited in
+    let old = c.loop-at.reached.tree in
+    let new = c.expand.new.reached.tree in
     let x = rw c.in-Whole.is at c.in_ok-expand.ensures.well in
     record {
       visits = x.visits;
@@ -53,18 +52,17 @@ loop-at-preserved g c =
           (λ i lt. expanded_grown h q old new i x.grows (omega (arith, lt, c.loop-at.invariant.within)) (c.loop-at.invariant.expanded i lt)) x.expanded;
       near = λ lt. edge_next h q new c.loop-at.at x.visits x.near lt;
       ends = x.near.ends;
-      here = c.in_ok-expand.ensures.here;
-      twin = c.in_ok-expand.ensures.twin;
-      shelf = c.in_ok-expand.ensures.shelf;
+      informed = c.in_ok-expand.ensures.informed;
+      scratch = c.in_ok-expand.ensures.scratch;
     }
 
 pub returns-in-Spent-clause-due : goal.returns-in-Spent-clause-due
 returns-in-Spent-clause-due g c =
     let h = c.args.plan.now.start in
     let q = c.args.plan.now.sought in
-    let lt : c.loop-at.at < length c.loop-at.visited = omega (arith, c.len.ensures.value, c.if-len-at.false) in
-    let stop = stops h q c.args.plan.now.most c.loop-at.at c.loop-at.visited c.expand.new.visited lt (rw c.in-Spent.is at c.in_ok-expand.ensures.well) in
-    spent_due h q c.args.plan.now.most (length_at c.expand.new.visited c.loop-at.at + 1) c.spent_at.result stop c.spent_at.ensures
+    let lt : c.loop-at.at < length c.loop-at.reached.tree = omega (arith, c.len.ensures.value, c.if-len-at.false) in
+    let stop = stops h q c.args.plan.now.most c.loop-at.at c.loop-at.reached.tree c.expand.new.reached.tree lt (rw c.in-Spent.is at c.in_ok-expand.ensures.well) in
+    spent_due h q c.args.plan.now.most (length_at c.expand.new.reached.tree c.loop-at.at + 1) c.spent_at.result stop c.spent_at.ensures
 
 pub expand-requires-clause-end : goal.expand-requires-clause-end
 expand-requires-clause-end g c = c.loop-at.invariant.ends c.loop-at.at (omega arith) (omega (arith, c.len.ensures.value, c.if-len-at.false))

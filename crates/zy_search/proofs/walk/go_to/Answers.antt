@@ -9,7 +9,7 @@ pub walk-requires-clause-named : goal.walk-requires-clause-named
 walk-requires-clause-named c =
     let same = ap (λ (h : History). h.scenario) c.in_ok-set_to.ensures.ok in
     rw same (are_named c.args.plan.now.sought.kinds (length c.args.plan.now.start.scenario.programs)
-    (path_at c.args.visited.now c.args.at) c.requires.path.considered)
+    (path_at c.args.tree.now c.args.at) c.requires.path.considered)
 
 pub walk-requires-clause-room : goal.walk-requires-clause-room
 walk-requires-clause-room c =
