@@ -1,14 +1,18 @@
 """Rounds of the store: a scenario, a run of it, and what `zy_bench order` says of the logs."""
 
+import argparse
 import os
 import random
 import re
+import shlex
 import signal
 import subprocess
 import sys
 import time
 from collections import namedtuple
 from itertools import zip_longest
+
+from faults import FAULTS
 
 HERE = os.path.dirname(os.path.realpath(__file__))
 TOP = os.path.dirname(os.path.dirname(HERE))
@@ -79,13 +83,17 @@ def put(text, *path):
         file.write(text)
 
 
-def ask(command, text):
-    return subprocess.run([PROGRAM, command], input=text, capture_output=True, text=True, check=False)
+def ask(command, given, text=True):
+    return subprocess.run([PROGRAM, command], input=given if text else given.encode(), capture_output=True, text=text, check=False)
 
 
-def run_store(words, may_fail, limit):
-    """Runs the store. It prints how often its fault made a difference."""
-    command = [sys.executable, os.path.join(HERE, 'store.py'), *words]
+# The store of this folder. Another one takes the same words, and writes the same files.
+STORE = (sys.executable, os.path.join(HERE, 'store.py'))
+
+
+def run_store(words, may_fail, limit, store=STORE):
+    """Runs a store. It may print how often its fault made a difference."""
+    command = [*store, *words]
     with subprocess.Popen(command, stdout=subprocess.PIPE, stderr=subprocess.PIPE, text=True, start_new_session=True) as store:
         try:
             output, errors = store.communicate(timeout=limit)
@@ -94,19 +102,43 @@ def run_store(words, may_fail, limit):
             raise Failed('the store did not end within %g s' % limit) from None
     if store.returncode and not may_fail:
         raise Failed(errors.strip())
-    return int(output or 0)
+    return int(output.split()[-1]) if output.strip() else 0
 
 
-def play(text, folder, seed, fault=None, crash=None):
-    """A round: the store runs a scenario, with a fault or until it crashes, and the logs that it writes into a folder are judged."""
+def whole(word):
+    """A number of rounds."""
+    if not word.isdecimal() or int(word) == 0:
+        raise argparse.ArgumentTypeError('%s is no number from 1 on' % word)
+    return int(word)
+
+
+def add_store(parser):
+    """The flags that say how a round is made."""
+    parser.add_argument('--seed', metavar='N', type=int, default=1, help='the number of the first round, 1 if not given')
+    parser.add_argument('--fault', choices=FAULTS, help='; '.join('%s: %s' % pair for pair in FAULTS.items()))
+    parser.add_argument('--keep', metavar='FOLDER', help='where the files of each round stay')
+    parser.add_argument('--store', metavar='COMMAND', type=shlex.split, default=STORE, help='another store, in place of store.py')
+
+
+def tested(text):
+    """A scenario's text, if `zy_bench` takes it."""
+    answer = ask('asm', text, text=False)
+    if answer.returncode:
+        raise Failed(answer.stderr.decode(errors='replace').strip())
+    return text
+
+
+def play(text, folder, seed, fault=None, crash=None, store=STORE):
+    """A round: a store runs a scenario, with a fault or until it crashes, and the logs that it writes into a folder are judged."""
     put(text, folder, 'scenario')
     words = ['--seed', str(seed)] + (['--fault', fault] if fault else []) + (['--crash', '%.4f' % crash] if crash else [])
     begun = time.monotonic()
-    slips = run_store([os.path.join(folder, 'scenario'), folder, *words], bool(crash), LIMIT)
+    slips = run_store([os.path.join(folder, 'scenario'), folder, *words], bool(crash), LIMIT, store)
     ran = time.monotonic() - begun
     logs = ''.join(log_of(folder, name) for name in ('client', 'a', 'b'))
     put(text + logs, folder, 'input')
-    verdict, lines = judged(text + logs, None if crash else content(folder, 'end'))
+    has_end = not crash and os.path.exists(os.path.join(folder, 'end'))
+    verdict, lines = judged(text + logs, content(folder, 'end') if has_end else None)
     return Round(verdict, lines, logs, slips, ran, time.monotonic() - begun - ran)
 
 
