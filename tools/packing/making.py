@@ -15,7 +15,7 @@ BUILT = os.path.join(TOP, 'crates', 'zy_bench', 'out', 'zy_bench')
 ALONG = ('zview', 'zdb', 'zplay', 'zsuite', 'install', 'README.md', 'CONTRIBUTING.md', 'LICENSE-APACHE', 'LICENSE-MIT', 'completions/_zy_bench',
          'completions/zy_bench.bash', 'completions/zy_bench.fish', 'docs/*.md', 'docs/logs/*.logs', 'docs/man/*.1', 'docs/pictures/*.svg',
          'docs/pictures/*.png', 'editors/**/*.vim', 'editors/**/*.json', 'examples/*.zephyr', 'examples/store/*.py', 'examples/store/try',
-         'tools/*.py', 'tools/*/*.py', 'tools/*/*.js', 'tools/*/*.css', 'tools/*/*.html', 'tools/suite/programs/*.zephyr')
+         'examples/store/suite', 'tools/*.py', 'tools/*/*.py', 'tools/*/*.js', 'tools/*/*.css', 'tools/*/*.html', 'tools/suite/programs/*.zephyr')
 
 # What only a checkout needs.
 LEFT_OUT = ('tools/believe.py', 'tools/build.py', 'tools/rt_once.py', 'tools/verify.py')
