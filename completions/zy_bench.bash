@@ -9,7 +9,7 @@ _zy_bench() {
   case ${COMP_WORDS[1]} in
     run | threads | trace) options='--image --help' ;;
     debug) options='--every --ring --help' ;;
-    search) options='--image --for --always --from --kill --without --states --canon --help' ;;
+    search) options='--image --for --always --from --kill --without --states --threads --canon --help' ;;
     find) options='--image --for --always --help' ;;
     order) options='--states --canon --help' ;;
     help) options='run asm dis check threads trace debug search find order' ;;
@@ -21,7 +21,7 @@ _zy_bench() {
     options='start begin kill run take finish push'
   fi
   mapfile -t COMPREPLY < <(compgen -W "$options" -- "$word")
-  if [[ ${COMP_WORDS[1]} != help && $word != -* && ! $before =~ ^--(for|always|from|without|every|ring|states)$ ]]; then
+  if [[ ${COMP_WORDS[1]} != help && $word != -* && ! $before =~ ^--(for|always|from|without|every|ring|states|threads)$ ]]; then
     mapfile -t -O "${#COMPREPLY[@]}" COMPREPLY < <(compgen -f -- "$word")
   fi
 }

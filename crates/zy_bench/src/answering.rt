@@ -12,6 +12,7 @@ use crate::progress::Progress;
 use crate::summary::{Count, Summary};
 use std::alloc::Global;
 use std::io::{Read, Write};
+use std::thread::Threads;
 use std::time::Clock;
 use zy_engine::finding::find_bytes;
 use zy_engine::searching::search_bytes;
@@ -61,7 +62,7 @@ pub enum Asked {
 
 /// Reads a goal, answers what is asked, and gives the exit status. Where the goal is refused, nothing is read, but for the
 /// names of transactions, which the scenario has.
-pub fn answer<R: Eprint + AllocGlobal + Clock, G: Read, W: Write>(
+pub fn answer<R: Eprint + AllocGlobal + Clock + Threads + Sync, G: Read, W: Write>(
     rt: &R,
     asked: Asked,
     quest: Quest<'_>,
@@ -121,7 +122,7 @@ fn lacking(
 
 /// Searches the schedules of a scenario, and gives the exit status. It says how far it is where standard
 /// error is a terminal.
-fn search<R: Eprint + AllocGlobal + Clock, W: Write>(
+fn search<R: Eprint + AllocGlobal + Clock + Threads + Sync, W: Write>(
     rt: &R,
     quest: Quest<'_>,
     sought: Sought,
@@ -138,6 +139,7 @@ fn search<R: Eprint + AllocGlobal + Clock, W: Write>(
     }
     let mut progress = Progress::new(rt, is_terminal);
     let searched = search_bytes(
+        rt,
         rt.alloc(),
         options,
         sought,

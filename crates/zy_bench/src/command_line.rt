@@ -259,6 +259,15 @@ fn states_argument<'a>(alloc: Global) -> Arg<'a> {
         .help("Gives up after N states: 1 to 4294967295, default 1000000")
 }
 
+/// `--threads`.
+fn threads_argument<'a>(alloc: Global) -> Arg<'a> {
+    Arg::new(alloc, "threads")
+        .long("threads")
+        .value_name("N")
+        .value_parser(value_parser!(u32).range(1..=64))
+        .help("Searches by N threads: 1 to 64, default one for each processor")
+}
+
 /// `--canon`.
 fn canon_flag<'a>(alloc: Global) -> Arg<'a> {
     Arg::new(alloc, "canon")
@@ -274,6 +283,7 @@ fn search_command<'a>(alloc: Global) -> Result<Command<'a>, AllocError> {
         .after_help(SEARCH_HELP)
         .arg(image_flag(alloc))?;
     with_schedules(alloc, with_goal(alloc, command)?)?
+        .arg(threads_argument(alloc))?
         .arg(canon_flag(alloc))?
         .arg(file_argument(alloc))
 }
@@ -402,13 +412,15 @@ fn quest_of<'a>(words: &ArgMatches<'a>) -> Quest<'a> {
     }
 }
 
-/// What a search goes by beside its goal; what was left out is all choices, the text's own words, and a million states.
+/// What a search goes by beside its goal; what was left out is all choices, the text's own words, a
+/// million states, and a thread for each processor.
 fn options_of(words: &ArgMatches<'_>) -> SearchOptions {
     SearchOptions {
         format: format_of(words),
         wording: wording_of(words),
         from: words.get_one("from").map(|count: u16| usize::from(count)),
         most: most_of(words),
+        threads: words.get_one("threads"),
     }
 }
 

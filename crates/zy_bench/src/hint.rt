@@ -5,6 +5,7 @@ use std::fmt;
 use zy_advice::Bytes;
 use zy_engine::debugging::{MAX_EVERY, MAX_RING};
 use zy_isa::MAX_CHOICES;
+use zy_search::MOST_THREADS;
 
 /// A flag that takes a number.
 #[derive(Clone, Copy)]
@@ -15,7 +16,7 @@ struct Counted {
 }
 
 /// The flags that take a number.
-const COUNTED: [Counted; 4] = [
+const COUNTED: [Counted; 5] = [
     Counted {
         flag: "--from",
         most: MAX_CHOICES as u64,
@@ -23,6 +24,10 @@ const COUNTED: [Counted; 4] = [
     Counted {
         flag: "--states",
         most: 4_294_967_295,
+    },
+    Counted {
+        flag: "--threads",
+        most: MOST_THREADS as u64,
     },
     Counted {
         flag: "--every",

@@ -33,7 +33,7 @@ old_or_last (z ∷ xs) y x zero e = inl e
 old_or_last (z ∷ xs) y x (suc i) e = elim (old_or_last xs y x i e) [ inl h ↦ inl h | inr h ↦ inr (ap suc h.0, h.1) ]
 
 -- numbers that a table gives stay those of a state while it grows
-numbers_stay : (old new : Memory) (s : State) (numbers : List ℕ) → Keeps old.table new.table → new.part ≡ old.part → Numbers old s numbers → Numbers new s numbers
+pub numbers_stay : (old new : Memory) (s : State) (numbers : List ℕ) → Keeps old.table new.table → new.part ≡ old.part → Numbers old s numbers → Numbers new s numbers
 numbers_stay old new s numbers keeps part are =
     subst (λ p. IsNumbered new.table p numbers s) (sym part) (stay old.table new.table keeps numbers (parts old.part s) are)
 

@@ -1,3 +1,4 @@
+pub mod ArenaLemmas
 pub mod Assembly
 pub mod Offside
 pub mod Said

@@ -1,3 +1,4 @@
+pub mod Spans
 pub mod Places
 pub mod Steps
 pub mod Memories

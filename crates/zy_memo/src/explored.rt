@@ -5,6 +5,7 @@ ghost use Rattle.zy_isa.specs.Choices.{names_below};
 ghost use Rattle.zy_isa.specs.Scenario.{Scenario as AScenario};
 ghost use Rattle.zy_machine.specs.Alike.{Alike};
 ghost use Rattle.zy_memo.specs.Memories.{choice_at, choices_of, followed, Knows, Leads, Numbers};
+ghost use Rattle.zy_parts.specs.Parts.{Keeps};
 ghost use Rattle.zy_table.specs.Play.{step};
 ghost use Rattle.zy_table.specs.State.{State};
 
@@ -101,6 +102,7 @@ impl Explored {
         ensures vectors { self.new.vectors ≡ self.old.vectors }
         ensures part { self.new.memory.part ≡ self.old.memory.part }
         ensures choices { choices_of self.new.memory ≡ choices_of self.old.memory }
+        ensures keeps { OnOk result (Keeps self.old.memory.table self.new.memory.table) }
         ensures next { OnOk result (Numbers self.new.memory after.now.state next.new.items) }
         // What is known of states stays known, if this step happened.
         ensures knows { OnOk result ((sc : AScenario) (states : List State) (s : State) → Knows sc self.old states
@@ -136,10 +138,10 @@ impl Explored {
     }
 
     /// Takes in a state more, by its numbers.
-    pub fn push(&mut self, numbers: Vec<u32>) -> Result<(), AllocError>
+    pub fn push(&mut self, numbers: &[u32]) -> Result<(), AllocError>
         ensures memory { self.new.memory ≡ self.old.memory }
         ensures knows { OnOk result ((sc : AScenario) (states : List State) (s : State) → Knows sc self.old states
-            → Numbers self.old.memory s numbers.items → length s.txns ≡ length sc.programs
+            → Numbers self.old.memory s numbers.now → length s.txns ≡ length sc.programs
             → Knows sc self.new (states ++ s ∷ [])) }
     {
         self.vectors.push(numbers)?;

@@ -1,6 +1,7 @@
 //! The numbers of states, each found again by its numbers.
 ghost use Rattle.std.specs.Prelude.{◌≡◌, ◌++◌, ◌∷◌, [], IfSome, Some, OnOk, OnErr, length, option_copied, slice_get, true};
 
+use crate::arena::Arena;
 use crate::slots::{MOST_LOOKS, Slots, mixed};
 use std::alloc::{AllocError, Global};
 use std::marker::Model;
@@ -10,16 +11,16 @@ use std::marker::Model;
 #[derive(Drop)]
 pub struct Vectors {
     alloc: Global,
-    vectors: Vec<Vec<u32>>,
+    arena: Arena,
     slots: Slots,
 }
 
 impl Model for Vectors {
-    ghost use Rattle.std.specs.Prelude.{ℕ, List, map};
+    ghost use Rattle.std.specs.Prelude.{ℕ, List};
 
     ghost Value = { List (List ℕ) };
 
-    ghost view = { λ v. map (λ x. x.items) v.vectors.items };
+    ghost view = { λ v. v.arena };
 }
 
 /// A digest of numbers. Nothing is promised of it: a bad one costs time alone.
@@ -32,10 +33,12 @@ fn digest(numbers: &[u32]) -> u64 {
 }
 
 /// Slots for some states and more, with each of them in its own.
-fn spread(alloc: Global, vectors: &[Vec<u32>]) -> Result<Slots, AllocError> {
-    let mut slots = Slots::free(alloc, vectors.len())?;
-    for place in 0..vectors.len() {
-        slots.put(digest(&vectors[place]), place);
+fn spread(alloc: Global, arena: &Arena) -> Result<Slots, AllocError> {
+    let mut slots = Slots::free(alloc, arena.len())?;
+    for place in 0..arena.len() {
+        if let Some(numbers) = arena.get(place) {
+            slots.put(digest(numbers), place);
+        }
     }
     Ok(slots)
 }
@@ -58,7 +61,7 @@ impl Vectors {
     {
         Vectors {
             alloc,
-            vectors: Vec::new(alloc),
+            arena: Arena::new(alloc),
             slots: Slots::new(alloc),
         }
     }
@@ -67,23 +70,22 @@ impl Vectors {
     pub fn len(&self) -> usize
         ensures { result ≡ length self.now }
     {
-        self.vectors.len()
+        self.arena.len()
     }
 
     /// The numbers at a place.
     pub fn get(&self, place: usize) -> Option<&[u32]>
         ensures { option_copied result ≡ slice_get self.entry.now place }
     {
-        let vector = self.vectors.get(place)?;
-        Some(vector.as_slice())
+        self.arena.get(place)
     }
 
     /// Whether the numbers at a place are these.
     fn is_at(&self, place: usize, numbers: &[u32]) -> bool
         ensures { result ≡ true → slice_get self.now place ≡ Some numbers.now }
     {
-        match self.vectors.get(place) {
-            Some(vector) => same(vector, numbers),
+        match self.arena.get(place) {
+            Some(others) => same(others, numbers),
             None => false,
         }
     }
@@ -103,17 +105,16 @@ impl Vectors {
     }
 
     /// Takes in numbers.
-    pub fn push(&mut self, numbers: Vec<u32>) -> Result<(), AllocError>
-        ensures ok { OnOk result (self.new ≡ self.old ++ numbers.items ∷ []) }
+    pub fn push(&mut self, numbers: &[u32]) -> Result<(), AllocError>
+        ensures ok { OnOk result (self.new ≡ self.old ++ numbers.now ∷ []) }
         ensures err { OnErr result (self.new ≡ self.old) }
     {
-        let place = self.vectors.len();
-        self.vectors.reserve(1)?;
+        let place = self.arena.len();
         if self.slots.are_few(place) {
-            self.slots = spread(self.alloc, &self.vectors)?;
+            self.slots = spread(self.alloc, &self.arena)?;
         }
-        self.slots.put(digest(&numbers), place);
-        self.vectors.push_reserved(numbers);
+        self.arena.push(numbers)?;
+        self.slots.put(digest(numbers), place);
         Ok(())
     }
 }

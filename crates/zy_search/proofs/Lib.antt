@@ -11,6 +11,7 @@ pub mod EdgeLemmas
 pub mod MeetLemmas
 pub mod PossibleLemmas
 pub mod ReachedLemmas
+pub mod AheadLemmas
 pub mod LastLemmas
 pub mod DepthLemmas
 pub mod DeadlockLemmas

@@ -1,8 +1,9 @@
 -- What is known of the states that paths lead to.
-use Rattle.std.proofs.Common.{◌≡◌, ◌∙◌, ◌<◌, ◌+◌, ℕ, zero, suc, List, [], ◌∷◌, ◌++◌, length, Some, slice_get, slice_index_or, refl, sym, ap, arith, subst, Result, Ok, Err, IfOk}
+use Rattle.std.proofs.Common.{◌≡◌, ◌∙◌, ◌<◌, ◌+◌, ℕ, zero, suc, List, [], ◌∷◌, ◌++◌, false, length, Some, slice_get, slice_index_or, refl, sym, ap, arith, subst, Result, Ok, Err, IfOk}
 use Rattle.std.proofs.lemmas.List.{map-append, length-map}
 use Rattle.zy_isa.specs.declared.choice.Choice.{Choice}
 use Rattle.zy_isa.specs.declared.choice.Choice.TheVariants.{Start}
+use Rattle.zy_isa.specs.Scenario.{Scenario}
 use Rattle.zy_table.specs.State.{State}
 use Rattle.zy_table.specs.declared.outcome.Outcome.{Outcome}
 use Rattle.zy_table.specs.declared.outcome.Outcome.TheVariants.{Started, BadMode, Began, Idle, Elsewhere, NotYet, Did, Split, Aborted, Committed, Waits, Pulls, Awaits}
@@ -12,7 +13,8 @@ use Rattle.zy_machine.specs.Histories.{History}
 use Rattle.zy_machine.specs.Alike.{Alike}
 use Rattle.zy_frames.specs.Reads.{uncounted}
 use Rattle.zy_memo.specs.declared.memo.ChoiceMemo.{ChoiceMemo}
-use Rattle.zy_memo.specs.Memories.{choice_at, choices_of, Knows}
+use Rattle.zy_memo.specs.declared.memo.Remembered.{Remembered}
+use Rattle.zy_memo.specs.Memories.{choice_at, choices_of, followed, Knows, Leads, Numbers}
 use Rattle.zy_memo.proofs.Again.{many_after}
 use Rattle.zy_search.specs.declared.branch.Branch.{Branch}
 use Rattle.zy_search.specs.declared.plan.Plan.{Plan}
@@ -20,7 +22,7 @@ use Rattle.zy_search.specs.declared.reached.Reached.{Reached}
 use Rattle.zy_search.specs.declared.scratch.Scratch.{Scratch}
 use Rattle.zy_search.specs.Stuck.{is_still}
 use Rattle.zy_search.specs.Searches.{reached}
-use Rattle.zy_search.specs.Visits.{path_at, states_of, state_by, AreScratch, Grows, IsInformed, IsKnown, IsNumber}
+use Rattle.zy_search.specs.Visits.{path_at, states_of, state_by, AreScratch, Grows, IsInformed, IsKnown, IsNumber, LeadsTo}
 use Rattle.zy_search.proofs.SearchLemmas.{reached_more}
 
 -- what follows for what a call returns
@@ -111,6 +113,22 @@ module _ (p : Plan) (x : Reached) (is : IsInformed p x) where
         subst (λ part. Alike part (reached p.start (path_at x.tree i)) t) is.part
             (alike (reached p.start (path_at x.tree i)) (state_at p.start x.tree i there)),
       )
+
+  -- where a remembered step leads, if its numbers were taken where something came of it
+  pub remembered_leads : (b : Branch) → b.from < length x.tree → (i : ℕ) → IsNumber p i b.by → (r : Remembered) → (next : List ℕ)
+      → (is_still r.outcome ≡ false → next ≡ followed x.explored i b.from r)
+      → ((sc : Scenario) (states : List State) (s : State) → Knows sc x.explored states → slice_get states b.from ≡ Some s
+      → Leads sc x.explored.memory (choice_at x.explored.memory i) s (followed x.explored i b.from r) r.outcome)
+      → LeadsTo p x b next r.outcome
+  remembered_leads b lt i n r next taken recalled =
+      let s = reached p.start (path_at x.tree b.from) in
+      let led = recalled p.start.scenario (states_of p.start x.tree) s is.knows (state_at p.start x.tree b.from lt) in
+      let leads = subst (λ (c : Choice). Leads p.start.scenario x.explored.memory c s (followed x.explored i b.from r) r.outcome) (remembered_choice i b.by n) led in
+      record {
+        still = still_alike r.outcome _ leads.1;
+        numbers = λ moved. subst (Numbers x.explored.memory (state_by p x.tree b)) (sym (taken moved)) leads.0;
+        informed = is;
+      }
 
 -- one state more is known
 pub informed_more : (p : Plan) (old new : Reached) (b : Branch) → b.from < length old.tree

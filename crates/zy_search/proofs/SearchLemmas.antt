@@ -154,16 +154,16 @@ module _ (h : History) (q : Sought) (ps : List (List Choice)) where
 
 -- ---- paths grow
 
--- no path more
-pub grows_not : (ps : List (List Choice)) → Grows ps ps
+-- no list more
+pub grows_not : {X : Type 0} (ps : List (List X)) → Grows ps ps
 grows_not ps = record { longer = omega arith; same = λ i lt. refl }
 
--- one path more
-pub grows_push : (ps : List (List Choice)) (p : List Choice) → Grows ps (ps ++ p ∷ [])
+-- one list more
+pub grows_push : {X : Type 0} (ps : List (List X)) (p : List X) → Grows ps (ps ++ p ∷ [])
 grows_push ps p = record { longer = omega (arith, length-append ps (p ∷ [])); same = λ i lt. get_or_append_left ps (p ∷ []) [] i lt }
 
--- some paths more, and then others
-pub grows_on : (ps qs rs : List (List Choice)) → Grows ps qs → Grows qs rs → Grows ps rs
+-- some lists more, and then others
+pub grows_on : {X : Type 0} (ps qs rs : List (List X)) → Grows ps qs → Grows qs rs → Grows ps rs
 grows_on ps qs rs g h = record {
   longer = omega (arith, g.longer, h.longer);
   same = λ i lt. h.same i (omega (arith, lt, g.longer)) ∙ g.same i lt;

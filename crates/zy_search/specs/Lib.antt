@@ -5,5 +5,6 @@ pub mod Deadlocks
 pub mod Possible
 pub mod Searches
 pub mod Visits
+pub mod Ahead
 pub mod Schedules
 pub mod Along

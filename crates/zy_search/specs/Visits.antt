@@ -186,10 +186,10 @@ pub record IsNumber (p : Plan) (i : ℕ) (c : Choice) : Type 0 where
   pub there : i < length p.choices.items
   pub choice : slice_index_or p.choices.items i Start ≡ c
 
--- the paths of old are at their places in new
-pub record Grows (old new : List (List Choice)) : Type 0 where
+-- the lists of old are at their places in new
+pub record Grows {X : Type 0} (old new : List (List X)) : Type 0 where
   pub longer : length old ≤ length new
-  pub same : (i : ℕ) → i < length old → path_at new i ≡ path_at old i
+  pub same : (i : ℕ) → i < length old → slice_index_or new i [] ≡ slice_index_or old i []
 
 -- what a choice from the state of the path at a place has led to
 pub record Notes (h : History) (q : Sought) (old new : List (List Choice)) (at : ℕ) (c : Choice) : Type 0 where

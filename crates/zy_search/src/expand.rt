@@ -3,12 +3,14 @@ ghost use Rattle.std.specs.Prelude.{◌≡◌, ◌<◌, ◌+◌, ◌++◌, ◌�
 ghost use Rattle.std.specs.Bool.{Decides};
 ghost use Rattle.zy_isa.specs.declared.choice.Choice.{Choice as AChoice};
 ghost use Rattle.zy_memo.specs.Memories.{Numbers};
+ghost use Rattle.zy_search.specs.Ahead.{GoesOn, IsForeseen};
 ghost use Rattle.zy_search.specs.Searches.{Shows};
 ghost use Rattle.zy_search.specs.Stuck as stuck;
 ghost use Rattle.zy_search.specs.Visits.{path_at, length_at, state_by, step_by, IsFresh};
 ghost use Rattle.zy_search.specs.Visits.{AreOf, AreScratch, Grows, IsEdge, IsInformed, IsNumber, IsReady, IsTurn, IsWhole, Visits};
 ghost use Rattle.zy_search.specs.Visits.{ExpandsWell, LeadsTo, Meets};
 
+use crate::ahead::{Ahead, Successor, recall};
 use crate::answer::{Expanded, Met};
 use crate::branch::Branch;
 use crate::plan::Plan;
@@ -75,6 +77,7 @@ fn learn(
     requires choice { IsNumber plan.now choice branch.by }
     requires scratch { AreScratch plan.now.start reached.old.tree branch.from scratch.old }
     ensures tree { OnOk result (reached.new.tree ≡ reached.old.tree) }
+    ensures goes_on { OnOk result (GoesOn reached.old reached.new) }
     ensures leads { IfOk result (LeadsTo plan.now reached.new branch next.new.items) }
     ensures scratch { OnOk result (AreScratch plan.now.start reached.old.tree branch.from scratch.new) }
 {
@@ -100,17 +103,14 @@ fn outcome_of(
     requires choice { IsNumber plan.now choice branch.by }
     requires scratch { AreScratch plan.now.start reached.old.tree branch.from scratch.old }
     ensures tree { OnOk result (reached.new.tree ≡ reached.old.tree) }
+    ensures goes_on { OnOk result (GoesOn reached.old reached.new) }
     ensures leads { IfOk result (LeadsTo plan.now reached.new branch next.new.items) }
     ensures scratch { OnOk result (AreScratch plan.now.start reached.old.tree branch.from scratch.new) }
 {
-    let place = branch.from as usize;
-    let Some(step) = reached.explored.recall(choice, place) else {
-        return learn(plan, reached, branch, choice, scratch, next);
-    };
-    if !is_still(step.outcome) {
-        reached.explored.follow(choice, place, &step, next)?;
+    if let Some(outcome) = recall(plan, reached, branch, choice, next)? {
+        return Ok(outcome);
     }
-    Ok(step.outcome)
+    learn(plan, reached, branch, choice, scratch, next)
 }
 
 /// Whether the state that a branch leads to shows what is looked for, which that of its path does not. Where only a commit
@@ -146,15 +146,6 @@ fn shows_next(
     )
 }
 
-/// These numbers, apart.
-fn copied(alloc: Global, numbers: &[u32]) -> Result<Vec<u32>, AllocError>
-    ensures { IfOk result (λ v. v.items ≡ numbers.now) }
-{
-    let mut copy = Vec::with_capacity(alloc, numbers.len())?;
-    copy.extend_from_slice(numbers)?;
-    Ok(copy)
-}
-
 /// Takes in the state that a branch leads to, if it does not show what is looked for and there is room for it.
 fn note_new(
     plan: &Plan,
@@ -168,7 +159,8 @@ fn note_new(
     requires numbers { Numbers reached.old.explored.memory (state_by plan.now reached.old.tree branch) next.now }
     requires moved { stuck.is_still (step_by plan.now reached.old.tree branch).outcome ≡ false }
     requires scratch { AreScratch plan.now.start reached.old.tree branch.from scratch.old }
-    ensures { IfOk result (Meets plan.now reached.old.tree reached.new branch scratch.new) }
+    ensures meets { IfOk result (Meets plan.now reached.old.tree reached.new branch scratch.new) }
+    ensures goes_on { OnOk result (GoesOn reached.old reached.new) }
 {
     if shows_next(plan, reached, branch, scratch, next)? {
         return Ok(Met::Shown);
@@ -176,13 +168,34 @@ fn note_new(
     if plan.most as usize <= reached.tree.len() {
         return Ok(Met::Spent);
     }
-    let numbers = copied(plan.alloc, next)?;
-    reached.push(branch, numbers)?;
+    reached.push(branch, next)?;
     Ok(Met::Noted)
 }
 
+/// Takes in the state that a branch leads to, by its numbers, if that is a new one.
+fn note(
+    plan: &Plan,
+    reached: &mut Reached,
+    branch: Branch,
+    scratch: &mut Scratch,
+    next: &[u32],
+) -> Result<Met, Fault>
+    requires turn { IsTurn plan.now reached.old.tree branch }
+    requires informed { IsInformed plan.now reached.old }
+    requires numbers { Numbers reached.old.explored.memory (state_by plan.now reached.old.tree branch) next.now }
+    requires moved { stuck.is_still (step_by plan.now reached.old.tree branch).outcome ≡ false }
+    requires scratch { AreScratch plan.now.start reached.old.tree branch.from scratch.old }
+    ensures meets { IfOk result (Meets plan.now reached.old.tree reached.new branch scratch.new) }
+    ensures goes_on { OnOk result (GoesOn reached.old reached.new) }
+{
+    match reached.explored.find(next) {
+        Some(_) => Ok(Met::Noted),
+        None => note_new(plan, reached, branch, scratch, next),
+    }
+}
+
 /// Makes the choice of a branch, and takes in the state that it leads to, if that is a new one.
-fn meet(
+fn meet_unknown(
     plan: &Plan,
     reached: &mut Reached,
     branch: Branch,
@@ -194,15 +207,40 @@ fn meet(
     requires informed { IsInformed plan.now reached.old }
     requires choice { IsNumber plan.now choice branch.by }
     requires scratch { AreScratch plan.now.start reached.old.tree branch.from scratch.old }
-    ensures { IfOk result (Meets plan.now reached.old.tree reached.new branch scratch.new) }
+    ensures meets { IfOk result (Meets plan.now reached.old.tree reached.new branch scratch.new) }
+    ensures goes_on { OnOk result (GoesOn reached.old reached.new) }
 {
     let outcome = outcome_of(plan, reached, branch, choice, scratch, next)?;
     if is_still(outcome) {
         return Ok(Met::Noted);
     }
-    match reached.explored.find(next) {
-        Some(_) => Ok(Met::Noted),
-        None => note_new(plan, reached, branch, scratch, next),
+    note(plan, reached, branch, scratch, next)
+}
+
+/// The same, by what is known of it ahead.
+fn meet(
+    plan: &Plan,
+    reached: &mut Reached,
+    branch: Branch,
+    choice: usize,
+    ahead: &Ahead,
+    scratch: &mut Scratch,
+    next: &mut Vec<u32>,
+) -> Result<Met, Fault>
+    requires turn { IsTurn plan.now reached.old.tree branch }
+    requires informed { IsInformed plan.now reached.old }
+    requires choice { IsNumber plan.now choice branch.by }
+    requires ahead { IsForeseen plan.now reached.old ahead.now }
+    requires scratch { AreScratch plan.now.start reached.old.tree branch.from scratch.old }
+    ensures meets { IfOk result (Meets plan.now reached.old.tree reached.new branch scratch.new) }
+    ensures goes_on { OnOk result (GoesOn reached.old reached.new) }
+{
+    match ahead.successor(branch, choice) {
+        Successor::Unknown => meet_unknown(plan, reached, branch, choice, scratch, next),
+        Successor::Reached => Ok(Met::Noted),
+        Successor::Numbered(place) => {
+            note(plan, reached, branch, scratch, ahead.numbers_at(place))
+        }
     }
 }
 
@@ -226,14 +264,17 @@ fn meet_each(
     plan: &Plan,
     reached: &mut Reached,
     at: u32,
+    ahead: &Ahead,
     scratch: &mut Scratch,
     next: &mut Vec<u32>,
 ) -> Result<Expanded, Fault>
     requires ready { IsReady plan.now reached.old.tree at }
     requires informed { IsInformed plan.now reached.old }
+    requires ahead { IsForeseen plan.now reached.old ahead.now }
     requires end { (c : AChoice) → IsFresh reached.old.tree at c }
     requires scratch { AreScratch plan.now.start reached.old.tree at scratch.old }
     ensures well { IfOk result (ExpandsWell plan.now reached.old.tree reached.new.tree at) }
+    ensures goes_on { OnOk result (GoesOn reached.old reached.new) }
     ensures informed { OnOk result (IsInformed plan.now reached.new) }
     ensures scratch { OnOk result (AreOf plan.now.start.scenario scratch.new) }
 {
@@ -243,7 +284,7 @@ fn meet_each(
             from: at,
             by: choice,
         };
-        match meet(plan, reached, branch, i, scratch, next)? {
+        match meet(plan, reached, branch, i, ahead, scratch, next)? {
             Met::Noted => {}
             Met::Shown => {
                 let path = with_choice(plan.alloc, &reached.tree, at, choice)?;
@@ -260,6 +301,7 @@ pub(crate) fn expand(
     plan: &Plan,
     reached: &mut Reached,
     at: u32,
+    ahead: &Ahead,
     scratch: &mut Scratch,
     next: &mut Vec<u32>,
 ) -> Result<Expanded, Fault>
@@ -268,9 +310,11 @@ pub(crate) fn expand(
     requires near { IsEdge reached.old.tree at }
     requires there { at < length reached.old.tree }
     requires informed { IsInformed plan.now reached.old }
+    requires ahead { IsForeseen plan.now reached.old ahead.now }
     requires end { (c : AChoice) → IsFresh reached.old.tree at c }
     requires scratch { AreOf plan.now.start.scenario scratch.old }
     ensures well { IfOk result (ExpandsWell plan.now reached.old.tree reached.new.tree at) }
+    ensures goes_on { OnOk result (GoesOn reached.old reached.new) }
     ensures informed { OnOk result (IsInformed plan.now reached.new) }
     ensures scratch { OnOk result (AreOf plan.now.start.scenario scratch.new) }
 {
@@ -279,5 +323,5 @@ pub(crate) fn expand(
         return Ok(Expanded::Spent);
     }
     scratch.is_here = false;
-    meet_each(plan, reached, at, scratch, next)
+    meet_each(plan, reached, at, ahead, scratch, next)
 }

@@ -1,6 +1,7 @@
 //! A search through every state that further choices can lead to.
 #![tactic(auto)]
 
+pub mod ahead;
 pub mod along;
 pub mod answer;
 pub mod branch;
@@ -11,6 +12,7 @@ mod expand;
 pub mod kinds;
 mod last;
 pub mod laws;
+pub mod outlook;
 pub mod plan;
 mod possible;
 pub mod reached;
@@ -28,5 +30,6 @@ pub mod watch;
 
 pub use crate::answer::{Answer, Report};
 pub use crate::kinds::ChoiceKinds;
+pub use crate::plan::{Limits, MOST_THREADS};
 pub use crate::sought::Sought;
 pub use crate::watch::Watch;

@@ -32,7 +32,7 @@ impl Reached {
         let _tested = plan.start.scenario();
         let mut explored = Explored::new(plan.alloc, counted(&plan.sought), &plan.choices)?;
         let numbers = explored.memory.numbers_of(&plan.start)?;
-        explored.push(numbers)?;
+        explored.push(&numbers)?;
         Ok(Reached {
             tree: Tree::new(plan.alloc),
             explored,
@@ -40,12 +40,13 @@ impl Reached {
     }
 
     /// Takes in the path of a branch, which leads to a state with these numbers.
-    pub(crate) fn push(&mut self, branch: Branch, numbers: Vec<u32>) -> Result<(), AllocError>
+    pub(crate) fn push(&mut self, branch: Branch, numbers: &[u32]) -> Result<(), AllocError>
         requires { branch.from < length self.old.tree }
         ensures paths { OnOk result (self.new.tree
             ≡ self.old.tree ++ (path_at self.old.tree branch.from ++ branch.by ∷ []) ∷ []) }
+        ensures memory { self.new.explored.memory ≡ self.old.explored.memory }
         ensures informed { OnOk result ((p : APlan) → IsInformed p self.old
-            → Numbers self.old.explored.memory (state_by p self.old.tree branch) numbers.items → IsInformed p self.new) }
+            → Numbers self.old.explored.memory (state_by p self.old.tree branch) numbers.now → IsInformed p self.new) }
     {
         self.explored.push(numbers)?;
         self.tree.push(branch)?;

@@ -9,7 +9,8 @@ use crate::choices::considered;
 use crate::expand::expand;
 use crate::kinds::ChoiceKinds;
 use crate::last::with_step;
-use crate::plan::Plan;
+use crate::outlook::Outlook;
+use crate::plan::{Limits, Plan};
 use crate::reached::Reached;
 use crate::scratch::Scratch;
 use crate::shows::shows;
@@ -17,6 +18,7 @@ use crate::sought::{Sought, deepest};
 use crate::tree::Tree;
 use crate::watch::Watch;
 use std::alloc::{AllocError, Global};
+use std::thread::Threads;
 use zy_isa::Choice;
 use zy_machine::{Fault, Machine};
 
@@ -56,7 +58,8 @@ fn report_to<W: Watch>(watch: &mut W, tree: &Tree, at: u32)
 }
 
 /// Expands each path in turn, those that are added on the way too.
-fn expand_all<W: Watch>(
+fn expand_all<R: Threads + Sync, W: Watch>(
+    rt: &R,
     plan: &Plan,
     reached: &mut Reached,
     scratch: &mut Scratch,
@@ -68,12 +71,14 @@ fn expand_all<W: Watch>(
     ensures due { IfOk result (IsDue plan.now.start plan.now.sought plan.now.most) }
 {
     let mut next = Vec::new(plan.alloc);
+    let mut outlook = Outlook::new(plan.alloc);
     for at in 0..u32::MAX {
         if reached.tree.len() <= at as usize {
             return Ok(Answer::Nowhere);
         }
         report_to(watch, &reached.tree, at);
-        match expand(plan, reached, at, scratch, &mut next)? {
+        outlook.go_to(rt, plan, reached, at)?;
+        match expand(plan, reached, at, &outlook.ahead, scratch, &mut next)? {
             Expanded::Whole => {}
             Expanded::Found(path) => return Ok(Answer::Found(path)),
             Expanded::Spent => return Ok(spent_at(&reached.tree, at)),
@@ -103,7 +108,8 @@ fn report(tree: &Tree, shown: usize, answer: Answer) -> Report
 }
 
 /// Looks at the state of the start, and then at those that choices lead to.
-fn look<W: Watch>(
+fn look<R: Threads + Sync, W: Watch>(
+    rt: &R,
     plan: &Plan,
     reached: &mut Reached,
     scratch: &mut Scratch,
@@ -129,11 +135,16 @@ fn look<W: Watch>(
     if is_shown {
         return Ok(Answer::Found(Vec::new(plan.alloc)));
     }
-    expand_all(plan, reached, scratch, watch)
+    expand_all(rt, plan, reached, scratch, watch)
 }
 
 /// The same, with scratch machines of its own.
-fn search_by<W: Watch>(plan: &Plan, reached: &mut Reached, watch: &mut W) -> Result<Answer, Fault>
+fn search_by<R: Threads + Sync, W: Watch>(
+    rt: &R,
+    plan: &Plan,
+    reached: &mut Reached,
+    watch: &mut W,
+) -> Result<Answer, Fault>
     requires whole { IsWhole plan.now }
     requires first { reached.old.tree ≡ [] ∷ [] }
     requires informed { IsInformed plan.now reached.old }
@@ -141,7 +152,7 @@ fn search_by<W: Watch>(plan: &Plan, reached: &mut Reached, watch: &mut W) -> Res
     ensures due { IfOk result (IsDue plan.now.start plan.now.sought plan.now.most) }
 {
     let mut scratch = Scratch::new(plan.alloc, &plan.start)?;
-    look(plan, reached, &mut scratch, watch)
+    look(rt, plan, reached, &mut scratch, watch)
 }
 
 /// The choices that a search considers from a machine.
@@ -157,10 +168,15 @@ pub(crate) fn choices_from(
 }
 
 /// What a search from a machine goes by.
-fn plan_from(alloc: Global, machine: &Machine, sought: Sought, most: u32) -> Result<Plan, Fault>
+fn plan_from(
+    alloc: Global,
+    machine: &Machine,
+    sought: Sought,
+    limits: Limits,
+) -> Result<Plan, Fault>
     ensures whole { IfOk result IsWhole }
     ensures start { IfOk result (λ p. p.start ≡ machine.now) }
-    ensures most { IfOk result (λ p. p.most ≡ most) }
+    ensures most { IfOk result (λ p. p.most ≡ limits.states) }
     ensures sought { IfOk result (λ p. p.sought ≡ sought) }
 {
     let choices = choices_from(alloc, sought.kinds, machine)?;
@@ -170,27 +186,29 @@ fn plan_from(alloc: Global, machine: &Machine, sought: Sought, most: u32) -> Res
         start,
         sought,
         choices,
-        most,
+        most: limits.states,
+        threads: limits.threads,
     })
 }
 
 /// Looks for a state that choices lead to from a machine's, and that shows what is looked for. It goes breadth first,
-/// so that no fewer choices lead there, and stops where it would reach more states than `most`. Where an outcome is
-/// asked for, what is found ends with one choice more, which has it. The watch learns how far it is.
-pub fn search<W: Watch>(
+/// so that no fewer choices lead there, and stops where it would reach more states than its limits allow. Where an outcome
+/// is asked for, what is found ends with one choice more, which has it. The watch learns how far it is.
+pub fn search<R: Threads + Sync, W: Watch>(
+    rt: &R,
     alloc: Global,
     start: &Machine,
     sought: Sought,
-    most: u32,
+    limits: Limits,
     watch: &mut W,
 ) -> Result<Report, Fault>
     ensures answer { IfOk result (λ r. IsAnswer start.now sought r.answer) }
     // It gives up only where it must.
-    ensures due { IfOk result (λ r. IsDue start.now sought most r.answer) }
+    ensures due { IfOk result (λ r. IsDue start.now sought limits.states r.answer) }
 {
-    let plan = plan_from(alloc, start, sought, most)?;
+    let plan = plan_from(alloc, start, sought, limits)?;
     let mut reached = Reached::new(&plan)?;
-    let found = search_by(&plan, &mut reached, watch)?;
+    let found = search_by(rt, &plan, &mut reached, watch)?;
     let shown = shown_by(&found);
     let answer = with_step(&plan, found)?;
     Ok(report(&reached.tree, shown, answer))

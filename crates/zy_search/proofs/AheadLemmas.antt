@@ -1,0 +1,95 @@
+-- What is known ahead stays known while a search goes on.
+use Rattle.std.proofs.Common.{◌≡◌, ◌∙◌, ◌<◌, ℕ, List, get_or, length, refl, sym, ap, arith, subst}
+use Rattle.std.specs.List.{All}
+use Rattle.zy_isa.specs.declared.choice.Choice.{Choice}
+use Rattle.zy_machine.specs.Alike.{Alike}
+use Rattle.zy_memo.specs.Memories.{Numbers}
+use Rattle.zy_memo.proofs.ExploredLemmas.{numbers_stay}
+use Rattle.zy_table.specs.State.{State, Step}
+use Rattle.zy_table.specs.Play.{step}
+use Rattle.zy_search.specs.declared.ahead.Ahead.{Ahead}
+use Rattle.zy_search.specs.declared.ahead.Row.{Row}
+use Rattle.zy_search.specs.declared.ahead.Successor.{Successor}
+use Rattle.zy_search.specs.declared.ahead.Successor.TheVariants as successor
+use Rattle.zy_search.specs.declared.branch.Branch.{Branch}
+use Rattle.zy_search.specs.declared.outlook.Outlook.{Outlook}
+use Rattle.zy_search.specs.declared.plan.Plan.{Plan}
+use Rattle.zy_search.specs.declared.reached.Reached.{Reached}
+use Rattle.zy_search.specs.Stuck.{is_still}
+use Rattle.zy_search.specs.Searches.{reached}
+use Rattle.zy_search.specs.Visits.{counted, state_by, step_by, Grows, IsKnown}
+use Rattle.zy_search.specs.Ahead.{numbers_at, successor_in, GoesOn, IsForeseen, IsOutlook, IsRow, IsSuccessor}
+use Rattle.zy_search.proofs.SearchLemmas.{grows_not, grows_on}
+
+-- nothing changed
+pub stays : (x : Reached) → GoesOn x x
+stays x = record { paths = grows_not x.tree; parts = λ i part h. h; part = refl }
+
+-- a search goes on, and then further
+pub goes_further : (x y z : Reached) → GoesOn x y → GoesOn y z → GoesOn x z
+goes_further x y z g h = record {
+  paths = grows_on x.tree y.tree z.tree g.paths h.paths;
+  parts = λ i part e. h.parts i part (g.parts i part e);
+  part = h.part ∙ g.part;
+}
+
+module _ (p : Plan) (old new : Reached) (on : GoesOn old new) where
+  -- the choice of a branch has the same step
+  step_on : (b : Branch) → b.from < length old.tree → step_by p new.tree b ≡ step_by p old.tree b
+  step_on b lt = ap (λ (cs : List Choice). step p.start.scenario b.by (reached p.start cs)) (on.paths.same b.from lt)
+
+  -- a state that is known stays so
+  known_on : (s : State) → IsKnown p.start p.sought old.tree s → IsKnown p.start p.sought new.tree s
+  known_on s k = (
+    k.0,
+    omega (arith, k.1, on.paths.longer),
+    subst (λ (cs : List Choice). Alike (counted p.sought) (reached p.start cs) s) (sym (on.paths.same k.0 k.1)) k.2,
+  )
+
+  -- so does where a choice leads
+  successor_on : (arena : List (List ℕ)) (b : Branch) → b.from < length old.tree → (x : Successor) → IsSuccessor p old arena b x
+      → IsSuccessor p new arena b x
+  successor_on arena b lt successor.Unknown is = tt
+  successor_on arena b lt successor.Reached is =
+      subst (IsKnown p.start p.sought new.tree) (sym (ap (λ (x : Step). x.after) (step_on b lt))) (known_on (state_by p old.tree b) is)
+  successor_on arena b lt (successor.Numbered j) is = record {
+    there = is.there;
+    moved = ap (λ (x : Step). is_still x.outcome) (step_on b lt) ∙ is.moved;
+    numbers = subst (λ (s : State). Numbers new.explored.memory s (numbers_at arena j)) (sym (ap (λ (x : Step). x.after) (step_on b lt)))
+        (numbers_stay old.explored.memory new.explored.memory (state_by p old.tree b) (numbers_at arena j) on.parts on.part is.numbers);
+  }
+
+  -- and a row
+  row_on : (arena : List (List ℕ)) (row : Row) → IsRow p old arena row → IsRow p new arena row
+  row_on arena row is = record {
+    there = omega (arith, is.there, on.paths.longer);
+    each = λ i c n. successor_on arena (record { from = row.place; by = c }) is.there (successor_in row i) (is.each i c n);
+  }
+
+  pub foreseen_on : (a : Ahead) → IsForeseen p old a → IsForeseen p new a
+  foreseen_on a is = λ k d lt. row_on a.numbers (get_or a.rows.items k d) (is k d lt)
+
+  -- and all that is known ahead
+  pub outlook_on : (o : Outlook) → IsOutlook p old o → IsOutlook p new o
+  outlook_on o is = record { ahead = foreseen_on o.ahead is.ahead; rest = λ k d lt. foreseen_on (get_or o.rest.items k d) (is.rest k d lt) }
+
+-- An arena takes in numbers.
+module _ (p : Plan) (x : Reached) (old new : List (List ℕ)) (grows : Grows old new) where
+  -- what is known of where a choice leads stays known
+  pub successor_grown : (b : Branch) (s : Successor) → IsSuccessor p x old b s → IsSuccessor p x new b s
+  successor_grown b successor.Unknown is = tt
+  successor_grown b successor.Reached is = is
+  successor_grown b (successor.Numbered j) is = record {
+    there = omega (arith, is.there, grows.longer);
+    moved = is.moved;
+    numbers = subst (Numbers x.explored.memory (state_by p x.tree b)) (sym (grows.same j is.there)) is.numbers;
+  }
+
+  -- and so do rows
+  pub rows_grown : (rows : List Row) → All (IsRow p x old) rows → All (IsRow p x new) rows
+  rows_grown rows are = λ k d lt.
+      let row = are k d lt in
+      record {
+        there = row.there;
+        each = λ i c n. successor_grown (record { from = (get_or rows k d).place; by = c }) (successor_in (get_or rows k d) i) (row.each i c n);
+      }

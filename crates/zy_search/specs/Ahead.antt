@@ -1,0 +1,55 @@
+-- What is known of where choices lead before it is their turn.
+use Rattle.std.specs.Prelude.{ℕ, ◌≡◌, ◌<◌, List, [], false, length, slice_index_or}
+use Rattle.std.specs.List.{All}
+use Rattle.zy_isa.specs.declared.choice.Choice.{Choice}
+use Rattle.zy_memo.specs.Memories.{Numbers}
+use Rattle.zy_parts.specs.Parts.{Keeps}
+use Rattle.zy_search.specs.declared.ahead.Ahead.{Ahead}
+use Rattle.zy_search.specs.declared.ahead.Row.{Row}
+use Rattle.zy_search.specs.declared.ahead.Successor.{Successor}
+use Rattle.zy_search.specs.declared.ahead.Successor.TheVariants as successor
+use Rattle.zy_search.specs.declared.branch.Branch.{Branch}
+use Rattle.zy_search.specs.declared.outlook.Outlook.{Outlook}
+use Rattle.zy_search.specs.declared.plan.Plan.{Plan}
+use Rattle.zy_search.specs.declared.reached.Reached.{Reached}
+use Rattle.zy_search.specs.Stuck.{is_still}
+use Rattle.zy_search.specs.Visits.{state_by, step_by, Grows, IsKnown, IsNumber}
+
+-- the numbers at a place of an arena
+abbrev pub numbers_at : List (List ℕ) → ℕ → List ℕ
+numbers_at arena j = slice_index_or arena j []
+
+-- something comes of the choice of a branch, which leads to a state with the numbers at a place of an arena
+pub record IsNumbered (p : Plan) (x : Reached) (arena : List (List ℕ)) (b : Branch) (j : ℕ) : Type 0 where
+  pub there : j < length arena
+  pub moved : is_still (step_by p x.tree b).outcome ≡ false
+  pub numbers : Numbers x.explored.memory (state_by p x.tree b) (numbers_at arena j)
+
+-- what is known of where the choice of a branch leads
+abbrev pub IsSuccessor : Plan → Reached → List (List ℕ) → Branch → Successor → Type 0
+IsSuccessor p x arena b successor.Unknown = Unit {0}
+IsSuccessor p x arena b successor.Reached = IsKnown p.start p.sought x.tree (state_by p x.tree b)
+IsSuccessor p x arena b (successor.Numbered j) = IsNumbered p x arena b j
+
+-- what a row knows of a choice
+abbrev pub successor_in : Row → ℕ → Successor
+successor_in row i = slice_index_or row.successors.items i successor.Unknown
+
+-- a row knows of each choice, from the state at its place, where it leads
+pub record IsRow (p : Plan) (x : Reached) (arena : List (List ℕ)) (row : Row) : Type 0 where
+  pub there : row.place < length x.tree
+  pub each : (i : ℕ) (c : Choice) → IsNumber p i c → IsSuccessor p x arena (record { from = row.place; by = c }) (successor_in row i)
+
+abbrev pub IsForeseen : Plan → Reached → Ahead → Type 0
+IsForeseen p x a = All (IsRow p x a.numbers) a.rows.items
+
+-- the same of all that is known ahead
+pub record IsOutlook (p : Plan) (x : Reached) (o : Outlook) : Type 0 where
+  pub ahead : IsForeseen p x o.ahead
+  pub rest : All (IsForeseen p x) o.rest.items
+
+-- what was reached is there at its place, and numbers stand for the parts that they stood for
+pub record GoesOn (old new : Reached) : Type 0 where
+  pub paths : Grows old.tree new.tree
+  pub parts : Keeps old.explored.memory.table new.explored.memory.table
+  pub part : new.explored.memory.part ≡ old.explored.memory.part

@@ -1,0 +1,112 @@
+//! What many threads find out ahead of a search.
+ghost use Rattle.std.specs.Prelude.{◌≡◌, [], IfOk, OnOk};
+ghost use Rattle.std.specs.List.{All};
+ghost use Rattle.zy_search.specs.Ahead.{IsForeseen, IsOutlook};
+ghost use Rattle.zy_search.specs.Visits.{IsInformed};
+ghost use Rattle.zy_search.specs.declared.plan.Plan.{Plan as APlan};
+ghost use Rattle.zy_search.specs.declared.reached.Reached.{Reached as AReached};
+
+use crate::ahead::{Ahead, foresee};
+use crate::plan::Plan;
+use crate::reached::Reached;
+use std::alloc::{AllocError, Global};
+use std::thread;
+use std::thread::Threads;
+
+/// What is known of the successors of states whose turn comes next.
+#[derive(Drop)]
+pub struct Outlook {
+    /// What is known of those whose turn it is.
+    pub ahead: Ahead,
+    /// What is known of those behind them, the nearest last.
+    pub rest: Vec<Ahead>,
+}
+
+/// How many states a thread looks at before their successors are taken in.
+const MOST_EACH: u32 = 512;
+
+/// How many states are worth a thread.
+const LEAST_EACH: u32 = 32;
+
+/// How the states from a place on are shared among threads: how many parts there are, and how many states each has.
+fn shares(plan: &Plan, reached: &Reached, at: u32) -> (usize, u32) {
+    let most = plan.threads.saturating_mul(MOST_EACH);
+    let count = (reached.tree.len() as u32)
+        .saturating_sub(at)
+        .min(most)
+        .max(1);
+    let each = count.div_ceil(plan.threads.max(1)).max(LEAST_EACH);
+    (count.div_ceil(each) as usize, each)
+}
+
+/// The parts, the first of them last, if no thread was out of memory.
+fn reversed(
+    alloc: Global,
+    mut results: Vec<Result<Ahead, AllocError>>,
+) -> Result<Vec<Ahead>, AllocError>
+    ensures { IfOk result (λ v. (p : APlan) (x : AReached) → All (λ r. IfOk r (IsForeseen p x)) results.items
+        → All (IsForeseen p x) v.items) }
+{
+    let mut parts = Vec::with_capacity(alloc, results.len())?;
+    for _ in 0..results.len() {
+        if let Some(result) = results.pop() {
+            parts.push(result?)?;
+        }
+    }
+    Ok(parts)
+}
+
+/// What is known of the successors of the states from a place on, by many threads; the first part is the last.
+fn look_ahead<R: Threads + Sync>(
+    rt: &R,
+    plan: &Plan,
+    reached: &Reached,
+    at: u32,
+) -> Result<Vec<Ahead>, AllocError>
+    requires { IsInformed plan.now reached.now }
+    ensures { IfOk result (λ v. All (IsForeseen plan.now reached.now) v.items) }
+{
+    let (parts, each) = shares(plan, reached, at);
+    let part = |i: usize| {
+        let first = at.saturating_add(each.saturating_mul(i as u32));
+        foresee(plan, reached, first, each)
+    };
+    let results = thread::map_indices(rt, plan.alloc, parts, &part)?;
+    reversed(plan.alloc, results)
+}
+
+impl Outlook {
+    /// Nothing is known yet. It takes no memory.
+    pub(crate) fn new(alloc: Global) -> Outlook
+        ensures { (p : APlan) (x : AReached) → IsOutlook p x result }
+    {
+        Outlook {
+            ahead: Ahead::new(alloc, 0),
+            rest: Vec::new(alloc),
+        }
+    }
+
+    /// Brings it to a place whose turn it is. Where nothing is known of that, many threads look ahead.
+    pub(crate) fn go_to<R: Threads + Sync>(
+        &mut self,
+        rt: &R,
+        plan: &Plan,
+        reached: &Reached,
+        at: u32,
+    ) -> Result<(), AllocError>
+        requires informed { IsInformed plan.now reached.now }
+        requires outlook { IsOutlook plan.now reached.now self.old }
+        ensures { OnOk result (IsOutlook plan.now reached.now self.new) }
+    {
+        if self.ahead.has(at) {
+            return Ok(());
+        }
+        if self.rest.is_empty() {
+            self.rest = look_ahead(rt, plan, reached, at)?;
+        }
+        if let Some(ahead) = self.rest.pop() {
+            self.ahead = ahead;
+        }
+        Ok(())
+    }
+}
