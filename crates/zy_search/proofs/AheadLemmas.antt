@@ -1,8 +1,9 @@
 -- What is known ahead stays known while a search goes on.
-use Rattle.std.proofs.Common.{◌≡◌, ◌∙◌, ◌<◌, ℕ, List, get_or, length, refl, sym, ap, arith, subst}
+use Rattle.std.proofs.Common.{◌≡◌, ◌∙◌, ◌<◌, ℕ, List, Some, get_or, length, slice_get, refl, sym, ap, arith, subst}
 use Rattle.std.specs.List.{All}
 use Rattle.zy_isa.specs.declared.choice.Choice.{Choice}
 use Rattle.zy_machine.specs.Alike.{Alike}
+use Rattle.zy_memo.specs.declared.memory.Memory.{Memory}
 use Rattle.zy_memo.specs.Memories.{Numbers}
 use Rattle.zy_memo.proofs.ExploredLemmas.{numbers_stay}
 use Rattle.zy_table.specs.State.{State, Step}
@@ -24,6 +25,14 @@ use Rattle.zy_search.proofs.SearchLemmas.{grows_not, grows_on}
 -- nothing changed
 pub stays : (x : Reached) → GoesOn x x
 stays x = record { paths = grows_not x.tree; parts = λ i part h. h; part = refl }
+
+-- there are paths more, and the memory is as it was
+pub adds : (x y : Reached) → Grows x.tree y.tree → y.explored.memory ≡ x.explored.memory → GoesOn x y
+adds x y grows memory = record {
+  paths = grows;
+  parts = λ i part e. subst (λ (m : Memory). slice_get m.table i ≡ Some part) (sym memory) e;
+  part = ap (λ (m : Memory). m.part) memory;
+}
 
 -- a search goes on, and then further
 pub goes_further : (x y z : Reached) → GoesOn x y → GoesOn y z → GoesOn x z

@@ -84,7 +84,7 @@ fn successor_of(
     if is_still(outcome) {
         return Ok(Successor::Reached);
     }
-    if reached.explored.find(next).is_some() {
+    if let Some(_) = reached.explored.find(next) {
         return Ok(Successor::Reached);
     }
     let place = numbers.len();

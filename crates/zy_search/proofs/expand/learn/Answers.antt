@@ -5,7 +5,7 @@ use Rattle.zy_table.specs.Play.{step}
 use Rattle.zy_frames.specs.Reads.{uncounted}
 use Rattle.zy_search.specs.Searches.{reached}
 use Rattle.zy_search.specs.Visits.{path_at, states_of}
-use Rattle.zy_search.proofs.SearchLemmas.{named_if}
+use Rattle.zy_search.proofs.SearchLemmas.{grows_not, named_if}
 use Rattle.zy_search.proofs.ReachedLemmas.{informed_still, remembered_choice, state_at, still_alike}
 use Rattle.zy_search.proofs.expand.learn.Goals as goal
 
@@ -30,3 +30,10 @@ returns-clause-leads c =
           (kept.knows sc (states_of p.start x.tree) s c.requires.informed.knows (state_at p.start x.tree b.from c.requires.turn.ready.there) after same named)
           kept.part kept.choices c.requires.informed;
     }
+
+pub returns-clause-goes_on : goal.returns-clause-goes_on
+returns-clause-goes_on c = record {
+  paths = grows_not c.args.reached.now.tree;
+  parts = c.in_ok-learn.ensures.keeps;
+  part = c.in_ok-learn.ensures.part;
+}

@@ -4,6 +4,7 @@ use Rattle.zy_isa.specs.declared.choice.Choice.{Choice}
 use Rattle.zy_isa.specs.declared.choice.Choice.TheVariants.{Start}
 use Rattle.zy_search.specs.Choices.{is_considered}
 use Rattle.zy_search.specs.Visits.{IsFresh, Notes}
+use Rattle.zy_search.proofs.AheadLemmas.{foreseen_on, goes_further, stays}
 use Rattle.zy_search.proofs.SearchLemmas.{grows_not, grows_on}
 use Rattle.zy_search.proofs.EdgeLemmas.{by_next, fresh_one}
 use Rattle.zy_search.proofs.MeetLemmas.{element, found, is_one, lead_all, lead_next}
@@ -37,14 +38,19 @@ meet-requires-clause-choice c =
     let lt : c.loop-i.i < length cs = omega (arith, c.loop-i-test.true, c.len-i-end.ensures) in
     record { there = lt; choice = sym (element cs c.loop-i.i c.index-choice.result.now lt c.index-choice.ensures) }
 
+pub meet-requires-clause-ahead : goal.meet-requires-clause-ahead
+meet-requires-clause-ahead c =
+    foreseen_on c.args.plan.now c.args.reached.now c.loop-i.reached c.loop-i.invariant.goes_on c.args.ahead.now c.requires.ahead
+
 pub returns-in-Spent : goal.returns-in-Spent
 returns-in-Spent c =
-    let m = rw c.in-Spent.is at c.in_ok-meet.ensures.well in
+    let m = rw c.in-Spent.is at c.in_ok-meet.ensures.meets.well in
     let g = grows_on c.args.reached.now.tree c.loop-i.reached.tree c.meet.new.reached.tree c.loop-i.invariant.grows m.grows in
     record {
       well = inl (record { visits = m.visits; near = m.near; grows = g; many = m.many });
-      informed = c.in_ok-meet.ensures.informed;
-      scratch = c.in_ok-meet.ensures.machines.machines;
+      goes_on = goes_further c.args.reached.now c.loop-i.reached c.meet.new.reached c.loop-i.invariant.goes_on c.in_ok-meet.ensures.goes_on;
+      informed = c.in_ok-meet.ensures.meets.informed;
+      scratch = c.in_ok-meet.ensures.meets.machines.machines;
     }
 
 pub loop-i-init : goal.loop-i-init
@@ -52,6 +58,7 @@ loop-i-init c = record {
   visits = c.requires.ready.visits;
   near = c.requires.ready.near;
   grows = grows_not c.args.reached.now.tree;
+  goes_on = stays c.args.reached.now;
   informed = c.requires.informed;
   scratch = c.requires.scratch;
   by = λ i lt d e. absurd (c.requires.end d i lt e);
@@ -60,7 +67,7 @@ loop-i-init c = record {
 
 pub with_choice-requires : goal.with_choice-requires
 with_choice-requires c =
-    let m = rw c.in-Shown.is at c.in_ok-meet.ensures.well in
+    let m = rw c.in-Shown.is at c.in_ok-meet.ensures.meets.well in
     omega (arith, c.requires.ready.there, c.loop-i.invariant.grows.longer, m.grows.longer)
 
 pub returns-in-Shown : goal.returns-in-Shown
@@ -73,13 +80,14 @@ returns-in-Shown c =
     let lt : c.loop-i.i < length cs = omega (arith, c.loop-i-test.true, c.len-i-end.ensures) in
     let is = element cs c.loop-i.i d lt c.index-choice.ensures in
     let one = subst (λ (x : Choice). is_considered q.kinds n x ≡ true) (sym is) (is_one q.kinds n c.loop-i.i cs c.requires.ready.whole lt) in
-    let m = rw c.in-Shown.is at c.in_ok-meet.ensures.well in
+    let m = rw c.in-Shown.is at c.in_ok-meet.ensures.meets.well in
     record {
       well = found h q c.args.reached.now.tree c.loop-i.reached.tree c.args.at c.requires.ready.there c.loop-i.invariant.grows c.meet.new.reached.tree d
           c.in_ok-path-in-Shown.path.items c.requires.ready.visits
           c.requires.ready.room one m c.in_ok-path-in-Shown.ensures;
-      informed = c.in_ok-meet.ensures.informed;
-      scratch = c.in_ok-meet.ensures.machines.machines;
+      goes_on = goes_further c.args.reached.now c.loop-i.reached c.meet.new.reached c.loop-i.invariant.goes_on c.in_ok-meet.ensures.goes_on;
+      informed = c.in_ok-meet.ensures.meets.informed;
+      scratch = c.in_ok-meet.ensures.meets.machines.machines;
     }
 
 pub loop-i-preserved : goal.loop-i-preserved
@@ -89,15 +97,16 @@ loop-i-preserved c =
     let cs = c.args.plan.now.choices.items in
     let lt : c.loop-i.i < length cs = omega (arith, c.loop-i-test.true, c.len-i-end.ensures) in
     let is = element cs c.loop-i.i c.index-choice.result.now lt c.index-choice.ensures in
-    let m = rw c.in-Noted.is at c.in_ok-meet.ensures.well in
+    let m = rw c.in-Noted.is at c.in_ok-meet.ensures.meets.well in
     let n = subst (λ (d : Choice). Notes h q c.loop-i.reached.tree c.meet.new.reached.tree c.args.at d) is m in
     let g = c.loop-i.invariant.grows in
     record {
       visits = n.visits;
       near = n.near;
       grows = grows_on c.args.reached.now.tree c.loop-i.reached.tree c.meet.new.reached.tree g n.grows;
-      informed = c.in_ok-meet.ensures.informed;
-      scratch = c.in_ok-meet.ensures.machines;
+      goes_on = goes_further c.args.reached.now c.loop-i.reached c.meet.new.reached c.loop-i.invariant.goes_on c.in_ok-meet.ensures.goes_on;
+      informed = c.in_ok-meet.ensures.meets.informed;
+      scratch = c.in_ok-meet.ensures.meets.machines;
       by = by_next c.loop-i.reached.tree c.meet.new.reached.tree c.args.at c.loop-i.i cs (get_or cs c.loop-i.i Start) n.more
           (omega (arith, c.requires.ready.there, g.longer)) c.loop-i.invariant.by refl;
       known = lead_next h q c.args.reached.now.tree c.loop-i.reached.tree c.args.at c.requires.ready.there g c.meet.new.reached.tree cs c.loop-i.i n c.loop-i.invariant.known;
@@ -117,6 +126,7 @@ returns c =
             c.requires.ready.whole
             (omega (arith, c.loop-i-test.false, c.len-i-end.ensures)) i.known;
       };
+      goes_on = i.goes_on;
       informed = i.informed;
       scratch = i.scratch.machines;
     }

@@ -1,5 +1,6 @@
 use Rattle.std.proofs.Common.{◌<◌, ◌≤◌, length}
 use Rattle.zy_search.specs.Visits.{Visits, IsEdge, AreEnds, AreExpanded, AreOf, IsInformed}
+use Rattle.zy_search.specs.Ahead.{IsOutlook}
 use Rattle.zy_search.proofs.search.expand_all.Given as goal
 
 abbrev pub invariant-loop-at : goal.invariant-loop-at
@@ -11,5 +12,6 @@ invariant-loop-at g l =
       near : l.at < length l.reached.tree → IsEdge l.reached.tree l.at;
       ends : AreEnds l.reached.tree l.at;
       informed : IsInformed l.plan l.reached;
+      outlook : IsOutlook l.plan l.reached l.outlook;
       scratch : AreOf l.plan.start.scenario l.scratch;
     }
