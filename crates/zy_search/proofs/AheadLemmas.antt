@@ -1,8 +1,12 @@
 -- What is known ahead stays known while a search goes on.
-use Rattle.std.proofs.Common.{◌≡◌, ◌∙◌, ◌<◌, ℕ, List, Some, get_or, length, slice_get, refl, sym, ap, arith, subst}
+use Rattle.std.proofs.Common.{◌≡◌, ◌∙◌, ◌+◌, ◌++◌, ◌∷◌, ◌<◌, [], inl, inr, ℕ, List, Some, true, get_or, length, slice_get, slice_index_or, refl, sym, ap, arith, subst}
+use Rattle.std.proofs.lemmas.Bool.{cases_lt}
+use Rattle.std.proofs.lemmas.List.{get_or_append_left, get_or_default, get_or_push}
+use Rattle.std.proofs.lemmas.List.Elements.{All-push}
 use Rattle.std.specs.List.{All}
 use Rattle.zy_isa.specs.declared.choice.Choice.{Choice}
-use Rattle.zy_machine.specs.Alike.{Alike}
+use Rattle.zy_isa.specs.declared.choice.Choice.TheVariants.{Start}
+use Rattle.zy_machine.specs.Alike.{part_of, Alike}
 use Rattle.zy_memo.specs.declared.memory.Memory.{Memory}
 use Rattle.zy_memo.specs.Memories.{Numbers}
 use Rattle.zy_memo.proofs.ExploredLemmas.{numbers_stay}
@@ -18,9 +22,10 @@ use Rattle.zy_search.specs.declared.plan.Plan.{Plan}
 use Rattle.zy_search.specs.declared.reached.Reached.{Reached}
 use Rattle.zy_search.specs.Stuck.{is_still}
 use Rattle.zy_search.specs.Searches.{reached}
-use Rattle.zy_search.specs.Visits.{counted, state_by, step_by, Grows, IsKnown}
+use Rattle.zy_search.specs.Visits.{counted, path_at, state_by, step_by, Grows, IsKnown, IsNumber}
 use Rattle.zy_search.specs.Ahead.{numbers_at, successor_in, GoesOn, IsForeseen, IsOutlook, IsRow, IsSuccessor}
 use Rattle.zy_search.proofs.SearchLemmas.{grows_not, grows_on}
+use Rattle.zy_search.proofs.StillSteps.{still_stays}
 
 -- nothing changed
 pub stays : (x : Reached) → GoesOn x x
@@ -41,6 +46,12 @@ goes_further x y z g h = record {
   parts = λ i part e. h.parts i part (g.parts i part e);
   part = h.part ∙ g.part;
 }
+
+-- where nothing comes of the choice of a branch, its state is that of a path
+pub still_known : (p : Plan) (ps : List (List Choice)) (b : Branch) → b.from < length ps → is_still (step_by p ps b).outcome ≡ true
+    → IsKnown p.start p.sought ps (state_by p ps b)
+still_known p ps b lt still =
+    (b.from, lt, ap (part_of (counted p.sought)) (sym (still_stays p.start.scenario b.by (reached p.start (path_at ps b.from)) still)))
 
 module _ (p : Plan) (old new : Reached) (on : GoesOn old new) where
   -- the choice of a branch has the same step
@@ -94,11 +105,33 @@ module _ (p : Plan) (x : Reached) (old new : List (List ℕ)) (grows : Grows old
     numbers = subst (Numbers x.explored.memory (state_by p x.tree b)) (sym (grows.same j is.there)) is.numbers;
   }
 
-  -- and so do rows
-  pub rows_grown : (rows : List Row) → All (IsRow p x old) rows → All (IsRow p x new) rows
-  rows_grown rows are = λ k d lt.
-      let row = are k d lt in
-      record {
-        there = row.there;
-        each = λ i c n. successor_grown (record { from = (get_or rows k d).place; by = c }) (successor_in (get_or rows k d) i) (row.each i c n);
-      }
+  -- and so does a row
+  row_grown : (row : Row) → IsRow p x old row → IsRow p x new row
+  row_grown row is = record { there = is.there; each = λ i c n. successor_grown (record { from = row.place; by = c }) (successor_in row i) (is.each i c n) }
+
+  -- one row more is known
+  pub row_more : (rows : List Row) (row : Row) → All (IsRow p x old) rows → IsRow p x new row → All (IsRow p x new) (rows ++ row ∷ [])
+  row_more rows row are is = All-push (IsRow p x new) rows row (λ k d lt. row_grown (get_or rows k d) (are k d lt)) is
+
+  -- where the first n choices lead from the state at a place
+  abbrev AreFirst : List (List ℕ) → ℕ → List Successor → ℕ → Type 0
+  AreFirst arena at xs n = (k : ℕ) (c : Choice) → k < n → IsNumber p k c → IsSuccessor p x arena (record { from = at; by = c }) (slice_index_or xs k successor.Unknown)
+
+  -- and one choice more
+  pub one_more : (at : ℕ) (xs : List Successor) (s : Successor) (n : ℕ) → length xs ≡ n → (by : Choice) → AreFirst old at xs n
+      → by ≡ slice_index_or p.choices.items n by → IsSuccessor p x new (record { from = at; by = by }) s → AreFirst new at (xs ++ s ∷ []) (n + 1)
+  one_more at xs s n many by first is last = λ k c lt number.
+      elim (cases_lt k n) [
+        | inl less ↦
+            let same = get_or_append_left xs (s ∷ []) successor.Unknown k (omega (arith, less, many)) in
+            subst (λ (y : Successor). IsSuccessor p x new (record { from = at; by = c }) y) (sym same)
+            (successor_grown (record { from = at; by = c }) (slice_index_or xs k successor.Unknown) (first k c less number))
+        | inr le ↦
+            let here : k ≡ n = omega (arith, le, lt) in
+            let same = ap (λ (j : ℕ). slice_index_or (xs ++ s ∷ []) j successor.Unknown) here ∙ get_or_push xs s successor.Unknown n many in
+            let choice : by ≡ c =
+            is ∙ get_or_default p.choices.items n by Start (omega (arith, here, number.there)) ∙ ap (λ (j : ℕ). slice_index_or p.choices.items j Start) (sym here)
+            ∙ number.choice in
+            subst (λ (y : Successor). IsSuccessor p x new (record { from = at; by = c }) y) (sym same)
+            (subst (λ (d : Choice). IsSuccessor p x new (record { from = at; by = d }) s) choice last)
+      ]

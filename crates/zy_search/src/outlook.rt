@@ -31,12 +31,16 @@ const LEAST_EACH: u32 = 32;
 /// How the states from a place on are shared among threads: how many parts there are, and how many states each has.
 fn shares(plan: &Plan, reached: &Reached, at: u32) -> (usize, u32) {
     let most = plan.threads.saturating_mul(MOST_EACH);
-    let count = (reached.tree.len() as u32)
-        .saturating_sub(at)
-        .min(most)
-        .max(1);
+    let known = u32::try_from(reached.tree.len()).unwrap_or(u32::MAX);
+    let count = known.saturating_sub(at).min(most).max(1);
     let each = count.div_ceil(plan.threads.max(1)).max(LEAST_EACH);
     (count.div_ceil(each) as usize, each)
+}
+
+/// The place of the first state of a part, where the first part begins at a place, and each has some states.
+fn first_of(part: usize, at: u32, each: u32) -> u32 {
+    let part = u32::try_from(part).unwrap_or(u32::MAX);
+    at.saturating_add(part.saturating_mul(each))
 }
 
 /// The parts, the first of them last, if no thread was out of memory.
@@ -67,10 +71,10 @@ fn look_ahead<R: Threads + Sync>(
     ensures { IfOk result (λ v. All (IsForeseen plan.now reached.now) v.items) }
 {
     let (parts, each) = shares(plan, reached, at);
-    let part = |i: usize| {
-        let first = at.saturating_add(each.saturating_mul(i as u32));
-        foresee(plan, reached, first, each)
-    };
+    let part = move |i: usize| -> Result<Ahead, AllocError>
+        requires { IsInformed plan.now reached.now }
+        ensures { IfOk result (IsForeseen plan.entry.now reached.entry.now) }
+    { foresee(plan, reached, first_of(i, at, each), each) };
     let results = thread::map_indices(rt, plan.alloc, parts, &part)?;
     reversed(plan.alloc, results)
 }
@@ -104,9 +108,16 @@ impl Outlook {
         if self.rest.is_empty() {
             self.rest = look_ahead(rt, plan, reached, at)?;
         }
+        self.go_on();
+        Ok(())
+    }
+
+    /// The nearest of those behind comes next, if there is one.
+    fn go_on(&mut self)
+        ensures { (p : APlan) (x : AReached) → IsOutlook p x self.old → IsOutlook p x self.new }
+    {
         if let Some(ahead) = self.rest.pop() {
             self.ahead = ahead;
         }
-        Ok(())
     }
 }

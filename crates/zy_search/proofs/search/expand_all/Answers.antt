@@ -69,3 +69,6 @@ returns-in-Spent-clause-due g c =
 
 pub expand-requires-clause-end : goal.expand-requires-clause-end
 expand-requires-clause-end g c = c.loop-at.invariant.ends c.loop-at.at (omega arith) (omega (arith, c.len.ensures.value, c.if-len-at.false))
+
+pub settle-requires-clause-expanded : goal.settle-requires-clause-expanded
+settle-requires-clause-expanded g c = λ i lt. c.loop-at.invariant.expanded i (omega (arith, lt, c.loop-at-test.false))

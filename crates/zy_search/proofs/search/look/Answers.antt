@@ -12,7 +12,7 @@ pub shows-requires-clause-choices : goal.shows-requires-clause-choices
 shows-requires-clause-choices g c = c.deref.ensures.value ∙ c.requires.whole
 
 pub expand_all-requires-clause-begins : goal.expand_all-requires-clause-begins
-expand_all-requires-clause-begins g c = record {
+expand_all-requires-clause-begins g c κs within = record {
   whole = c.requires.whole;
   visits =
       rw c.requires.first (visits_first c.args.plan.now.start c.args.plan.now.sought (omega (arith, c.if-deepest-len.false, c.len.ensures.value, c.deepest.ensures))

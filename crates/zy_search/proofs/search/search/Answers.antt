@@ -11,4 +11,4 @@ returns-clause-answer g c =
 pub returns-clause-due : goal.returns-clause-due
 returns-clause-due g c =
     let plan = c.in_ok-plan.ensures in
-    subst (IsDue c.args.start.now c.args.sought c.args.most) (sym c.report.ensures) (rw (plan.start, plan.sought, plan.most) at c.in_ok-answer.ensures.due)
+    subst (IsDue c.args.start.now c.args.sought c.args.limits.states) (sym c.report.ensures) (rw (plan.start, plan.sought, plan.most) at c.in_ok-answer.ensures.due)

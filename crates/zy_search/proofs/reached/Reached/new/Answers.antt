@@ -17,7 +17,7 @@ returns-clause-informed c =
     let pushed = c.in_ok-push.ensures in
     let many = subst (λ (s : State). length s.txns ≡ length sc.programs) (sym replay.state)
     (c.safe_counts.ensures sc replay.tested (choices_of h.entries)).txns in
-    let first = pushed.knows sc [] h.state (record { truth = numbers.truth sc none.truth; many = none.many; each = λ i s e. cc }) numbers.numbers many in
+    let first = pushed.knows sc [] h.state (record { truth = numbers.truth sc none.truth; many = none.many; each = λ i s e. cc }) (rw c.deref-2.ensures.value numbers.numbers) many in
     record {
       knows = subst (λ (ps : List (List Choice)). Knows sc c.push.new.self (states_of h ps)) (sym c.new-2.ensures) first;
       part = rw pushed.memory (numbers.part ∙ (c.in_ok-explored.ensures.part ∙ c.counted.ensures));
