@@ -10,6 +10,7 @@ use Rattle.zy_machine.specs.Alike.{part_of, Alike}
 use Rattle.zy_memo.specs.declared.memory.Memory.{Memory}
 use Rattle.zy_memo.specs.Memories.{Numbers}
 use Rattle.zy_memo.proofs.ExploredLemmas.{numbers_stay}
+use Rattle.zy_parts.proofs.PartLemmas.{alike_by_numbers}
 use Rattle.zy_table.specs.State.{State, Step}
 use Rattle.zy_table.specs.Play.{step}
 use Rattle.zy_search.specs.declared.ahead.Ahead.{Ahead}
@@ -17,13 +18,12 @@ use Rattle.zy_search.specs.declared.ahead.Row.{Row}
 use Rattle.zy_search.specs.declared.ahead.Successor.{Successor}
 use Rattle.zy_search.specs.declared.ahead.Successor.TheVariants as successor
 use Rattle.zy_search.specs.declared.branch.Branch.{Branch}
-use Rattle.zy_search.specs.declared.outlook.Outlook.{Outlook}
 use Rattle.zy_search.specs.declared.plan.Plan.{Plan}
 use Rattle.zy_search.specs.declared.reached.Reached.{Reached}
 use Rattle.zy_search.specs.Stuck.{is_still}
 use Rattle.zy_search.specs.Searches.{reached}
-use Rattle.zy_search.specs.Visits.{counted, path_at, state_by, step_by, Grows, IsKnown, IsNumber}
-use Rattle.zy_search.specs.Ahead.{numbers_at, successor_in, GoesOn, IsForeseen, IsOutlook, IsRow, IsSuccessor}
+use Rattle.zy_search.specs.Visits.{counted, path_at, state_by, step_by, Grows, IsInformed, IsKnown, IsNumber, Notes}
+use Rattle.zy_search.specs.Ahead.{numbers_at, successor_in, GoesOn, IsForeseen, IsNumbered, IsRow, IsSuccessor, IsTaken}
 use Rattle.zy_search.proofs.SearchLemmas.{grows_not, grows_on}
 use Rattle.zy_search.proofs.StillSteps.{still_stays}
 
@@ -86,12 +86,44 @@ module _ (p : Plan) (old new : Reached) (on : GoesOn old new) where
     each = λ i c n. successor_on arena (record { from = row.place; by = c }) is.there (successor_in row i) (is.each i c n);
   }
 
-  pub foreseen_on : (a : Ahead) → IsForeseen p old a → IsForeseen p new a
-  foreseen_on a is = λ k d lt. row_on a.numbers (get_or a.rows.items k d) (is k d lt)
+  -- and a state that was taken in
+  taken_on : (arena : List (List ℕ)) (j : ℕ) → IsTaken p old arena j → IsTaken p new arena j
+  taken_on arena j is = record {
+    state = is.state;
+    numbers = numbers_stay old.explored.memory new.explored.memory is.state (numbers_at arena j) on.parts on.part is.numbers;
+    known = known_on is.state is.known;
+  }
 
-  -- and all that is known ahead
-  pub outlook_on : (o : Outlook) → IsOutlook p old o → IsOutlook p new o
-  outlook_on o is = record { ahead = foreseen_on o.ahead is.ahead; rest = λ k d lt. foreseen_on (get_or o.rest.items k d) (is.rest k d lt) }
+  -- and what is known ahead
+  pub foreseen_on : (a : Ahead) → IsForeseen p old a → IsForeseen p new a
+  foreseen_on a is = record {
+    rows = λ k d lt. row_on a.numbers (get_or a.rows.items k d) (is.rows k d lt);
+    taken = λ j lt. taken_on a.numbers j (is.taken j lt);
+  }
+
+  -- a state that is taken in was reached
+  pub noted_is_taken : (arena : List (List ℕ)) (b : Branch) (j : ℕ) → IsNumbered p old arena b j → Notes p.start p.sought old.tree new.tree b.from b.by
+      → IsTaken p new arena j
+  noted_is_taken arena b j is notes = record {
+    state = state_by p old.tree b;
+    numbers = numbers_stay old.explored.memory new.explored.memory (state_by p old.tree b) (numbers_at arena j) on.parts on.part is.numbers;
+    known = (notes.known.0, notes.known.1, notes.known.3);
+  }
+
+  -- and what is known of others
+  pub rest_on : (rest : List Ahead) → All (IsForeseen p old) rest → All (IsForeseen p new) rest
+  rest_on rest are = λ k d lt. foreseen_on (get_or rest k d) (are k d lt)
+
+-- the choice of a branch leads to a known state where one with its numbers was taken in
+pub taken_known : (p : Plan) (x : Reached) → IsInformed p x → (arena : List (List ℕ)) (b : Branch) (j : ℕ) → IsNumbered p x arena b j → IsTaken p x arena j
+    → IsKnown p.start p.sought x.tree (state_by p x.tree b)
+taken_known p x informed arena b j is taken =
+    let memory = x.explored.memory in
+    let same = alike_by_numbers memory.table memory.part (numbers_at arena j) taken.state (state_by p x.tree b) taken.numbers is.numbers in (
+      taken.known.0,
+      taken.known.1,
+      taken.known.2 ∙ subst (λ part. Alike part taken.state (state_by p x.tree b)) informed.part same,
+    )
 
 -- An arena takes in numbers.
 module _ (p : Plan) (x : Reached) (old new : List (List ℕ)) (grows : Grows old new) where

@@ -4,6 +4,7 @@ use Rattle.std.specs.List.{All}
 use Rattle.zy_isa.specs.declared.choice.Choice.{Choice}
 use Rattle.zy_memo.specs.Memories.{Numbers}
 use Rattle.zy_parts.specs.Parts.{Keeps}
+use Rattle.zy_table.specs.State.{State}
 use Rattle.zy_search.specs.declared.ahead.Ahead.{Ahead}
 use Rattle.zy_search.specs.declared.ahead.Row.{Row}
 use Rattle.zy_search.specs.declared.ahead.Successor.{Successor}
@@ -40,8 +41,16 @@ pub record IsRow (p : Plan) (x : Reached) (arena : List (List ℕ)) (row : Row) 
   pub there : row.place < length x.tree
   pub each : (i : ℕ) (c : Choice) → IsNumber p i c → IsSuccessor p x arena (record { from = row.place; by = c }) (successor_in row i)
 
-abbrev pub IsForeseen : Plan → Reached → Ahead → Type 0
-IsForeseen p x a = All (IsRow p x a.numbers) a.rows.items
+-- a state with the numbers at a place of an arena was reached
+pub record IsTaken (p : Plan) (x : Reached) (arena : List (List ℕ)) (j : ℕ) : Type 0 where
+  pub state : State
+  pub numbers : Numbers x.explored.memory state (numbers_at arena j)
+  pub known : IsKnown p.start p.sought x.tree state
+
+-- what is known ahead of the states at some places
+pub record IsForeseen (p : Plan) (x : Reached) (a : Ahead) : Type 0 where
+  pub rows : All (IsRow p x a.numbers) a.rows.items
+  pub taken : (j : ℕ) → j < a.taken → IsTaken p x a.numbers j
 
 -- the same of all that is known ahead
 pub record IsOutlook (p : Plan) (x : Reached) (o : Outlook) : Type 0 where

@@ -1,7 +1,8 @@
 //! What is known of where choices lead before it is their turn.
-ghost use Rattle.std.specs.Prelude.{◌≡◌, ◌<◌, [], IfOk, IfSome, OnOk, length};
-ghost use Rattle.zy_search.specs.Ahead.{numbers_at, IsForeseen, IsRow, IsSuccessor};
+ghost use Rattle.std.specs.Prelude.{◌≡◌, ◌<◌, ℕ, List, [], IfOk, IfSome, OnOk, length};
+ghost use Rattle.zy_search.specs.Ahead.{numbers_at, IsForeseen, IsNumbered, IsRow, IsSuccessor, IsTaken};
 ghost use Rattle.zy_search.specs.Visits.{Grows, IsInformed, IsNumber, LeadsTo};
+ghost use Rattle.zy_search.specs.declared.branch.Branch.{Branch as ABranch};
 ghost use Rattle.zy_search.specs.declared.plan.Plan.{Plan as APlan};
 ghost use Rattle.zy_search.specs.declared.reached.Reached.{Reached as AReached};
 
@@ -10,7 +11,7 @@ use crate::plan::Plan;
 use crate::reached::Reached;
 use crate::still::is_still;
 use std::alloc::{AllocError, Global};
-use zy_memo::Arena;
+use zy_memo::Vectors;
 use zy_table::Outcome;
 
 /// What is known of where a choice leads.
@@ -20,8 +21,8 @@ pub enum Successor {
     Unknown,
     /// To a state like one that was reached.
     Reached,
-    /// To a state that was not found. An arena has its numbers at this place.
-    Numbered(usize),
+    /// To a state that was not found. Its numbers are kept at this place.
+    Numbered(u32),
 }
 
 /// What is known of where each choice leads from the state at a place.
@@ -31,12 +32,14 @@ pub struct Row {
     pub successors: Vec<Successor>,
 }
 
-/// Rows for some places one behind the other, and the numbers of the states that they name.
+/// Rows for some places one behind the other, and the numbers of the states that they name, each once.
 #[derive(Drop)]
 pub struct Ahead {
     first: u32,
     pub rows: Vec<Row>,
-    pub numbers: Arena,
+    pub numbers: Vectors,
+    /// How many of these states were taken in: the first ones.
+    pub taken: usize,
 }
 
 /// What comes of the choice of a branch, if a step like it is remembered. Where something does, the numbers of the state
@@ -63,14 +66,25 @@ pub(crate) fn recall(
     Ok(Some(step.outcome))
 }
 
-/// What is known of where the choice of a branch leads. The numbers of a state that is not found are added to `numbers`.
+/// A state whose numbers are kept at a place. From a number of places on that no search comes to, nothing is known of it.
+fn numbered(place: usize) -> Successor
+    ensures { (p : APlan) (x : AReached) (arena : List (List ℕ)) (b : ABranch) → IsNumbered p x arena b place
+        → IsSuccessor p x arena b result }
+{
+    match u32::try_from(place) {
+        Ok(place) => Successor::Numbered(place),
+        Err(_) => Successor::Unknown,
+    }
+}
+
+/// What is known of where the choice of a branch leads. The numbers of a state that is not found are kept in `numbers`.
 fn successor_of(
     plan: &Plan,
     reached: &Reached,
     branch: Branch,
     choice: usize,
     next: &mut Vec<u32>,
-    numbers: &mut Arena,
+    numbers: &mut Vectors,
 ) -> Result<Successor, AllocError>
     requires there { branch.from < length reached.now.tree }
     requires informed { IsInformed plan.now reached.now }
@@ -87,9 +101,12 @@ fn successor_of(
     if let Some(_) = reached.explored.find(next) {
         return Ok(Successor::Reached);
     }
+    if let Some(place) = numbers.find(next) {
+        return Ok(numbered(place));
+    }
     let place = numbers.len();
     numbers.push(next)?;
-    Ok(Successor::Numbered(place))
+    Ok(numbered(place))
 }
 
 /// What is known of where each choice leads from the state at a place.
@@ -98,7 +115,7 @@ fn row_of(
     reached: &Reached,
     at: u32,
     next: &mut Vec<u32>,
-    numbers: &mut Arena,
+    numbers: &mut Vectors,
 ) -> Result<Row, AllocError>
     requires there { at < length reached.now.tree }
     requires informed { IsInformed plan.now reached.now }
@@ -145,12 +162,14 @@ pub(crate) fn foresee(
 impl Ahead {
     /// Nothing is known yet. It takes no memory.
     pub(crate) fn new(alloc: Global, first: u32) -> Ahead
-        ensures { (p : APlan) (x : AReached) → IsForeseen p x result }
+        ensures rows { result.rows.items ≡ [] }
+        ensures taken { result.taken ≡ 0 }
     {
         Ahead {
             first,
             rows: Vec::new(alloc),
-            numbers: Arena::new(alloc),
+            numbers: Vectors::new(alloc),
+            taken: 0,
         }
     }
 
@@ -183,13 +202,23 @@ impl Ahead {
         }
     }
 
-    /// The numbers at a place of its arena.
+    /// The numbers that are kept at a place.
     pub(crate) fn numbers_at(&self, place: usize) -> &[u32]
         ensures { result.now ≡ numbers_at self.entry.now.numbers place }
     {
         match self.numbers.get(place) {
             Some(numbers) => numbers,
             None => &[],
+        }
+    }
+
+    /// The state whose numbers are kept at a place was taken in.
+    pub(crate) fn take(&mut self, place: usize)
+        ensures { (p : APlan) (x : AReached) → IsTaken p x self.old.numbers place → IsForeseen p x self.old
+            → IsForeseen p x self.new }
+    {
+        if place == self.taken {
+            self.taken = self.taken.saturating_add(1);
         }
     }
 }

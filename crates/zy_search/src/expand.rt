@@ -3,7 +3,7 @@ ghost use Rattle.std.specs.Prelude.{◌≡◌, ◌<◌, ◌+◌, ◌++◌, ◌�
 ghost use Rattle.std.specs.Bool.{Decides};
 ghost use Rattle.zy_isa.specs.declared.choice.Choice.{Choice as AChoice};
 ghost use Rattle.zy_memo.specs.Memories.{Numbers};
-ghost use Rattle.zy_search.specs.Ahead.{GoesOn, IsForeseen};
+ghost use Rattle.zy_search.specs.Ahead.{GoesOn, IsForeseen, IsNumbered};
 ghost use Rattle.zy_search.specs.Searches.{Shows};
 ghost use Rattle.zy_search.specs.Stuck as stuck;
 ghost use Rattle.zy_search.specs.Visits.{path_at, length_at, state_by, step_by, IsFresh};
@@ -217,29 +217,61 @@ fn meet_unknown(
     note(plan, reached, branch, scratch, next)
 }
 
-/// The same, by what is known of it ahead.
+/// Takes in the state that a branch leads to, by the numbers that are kept of it at a place, unless it was taken in.
+fn take_in(
+    plan: &Plan,
+    reached: &mut Reached,
+    branch: Branch,
+    place: usize,
+    ahead: &mut Ahead,
+    scratch: &mut Scratch,
+) -> Result<Met, Fault>
+    requires turn { IsTurn plan.now reached.old.tree branch }
+    requires informed { IsInformed plan.now reached.old }
+    requires numbered { IsNumbered plan.now reached.old ahead.old.numbers branch place }
+    requires ahead { IsForeseen plan.now reached.old ahead.old }
+    requires scratch { AreScratch plan.now.start reached.old.tree branch.from scratch.old }
+    ensures meets { IfOk result (Meets plan.now reached.old.tree reached.new branch scratch.new) }
+    ensures goes_on { OnOk result (GoesOn reached.old reached.new) }
+    ensures ahead { OnOk result (IsForeseen plan.now reached.new ahead.new) }
+{
+    if place < ahead.taken {
+        return Ok(Met::Noted);
+    }
+    match note(plan, reached, branch, scratch, ahead.numbers_at(place))? {
+        Met::Noted => {
+            ahead.take(place);
+            Ok(Met::Noted)
+        }
+        Met::Shown => Ok(Met::Shown),
+        Met::Spent => Ok(Met::Spent),
+    }
+}
+
+/// Makes the choice of a branch, and takes in the state that it leads to, if that is a new one, by what is known of it ahead.
 fn meet(
     plan: &Plan,
     reached: &mut Reached,
     branch: Branch,
     choice: usize,
-    ahead: &Ahead,
+    ahead: &mut Ahead,
     scratch: &mut Scratch,
     next: &mut Vec<u32>,
 ) -> Result<Met, Fault>
     requires turn { IsTurn plan.now reached.old.tree branch }
     requires informed { IsInformed plan.now reached.old }
     requires choice { IsNumber plan.now choice branch.by }
-    requires ahead { IsForeseen plan.now reached.old ahead.now }
+    requires ahead { IsForeseen plan.now reached.old ahead.old }
     requires scratch { AreScratch plan.now.start reached.old.tree branch.from scratch.old }
     ensures meets { IfOk result (Meets plan.now reached.old.tree reached.new branch scratch.new) }
     ensures goes_on { OnOk result (GoesOn reached.old reached.new) }
+    ensures ahead { OnOk result (IsForeseen plan.now reached.new ahead.new) }
 {
     match ahead.successor(branch, choice) {
         Successor::Unknown => meet_unknown(plan, reached, branch, choice, scratch, next),
         Successor::Reached => Ok(Met::Noted),
         Successor::Numbered(place) => {
-            note(plan, reached, branch, scratch, ahead.numbers_at(place))
+            take_in(plan, reached, branch, place as usize, ahead, scratch)
         }
     }
 }
@@ -264,17 +296,18 @@ fn meet_each(
     plan: &Plan,
     reached: &mut Reached,
     at: u32,
-    ahead: &Ahead,
+    ahead: &mut Ahead,
     scratch: &mut Scratch,
     next: &mut Vec<u32>,
 ) -> Result<Expanded, Fault>
     requires ready { IsReady plan.now reached.old.tree at }
     requires informed { IsInformed plan.now reached.old }
-    requires ahead { IsForeseen plan.now reached.old ahead.now }
+    requires ahead { IsForeseen plan.now reached.old ahead.old }
     requires end { (c : AChoice) → IsFresh reached.old.tree at c }
     requires scratch { AreScratch plan.now.start reached.old.tree at scratch.old }
     ensures well { IfOk result (ExpandsWell plan.now reached.old.tree reached.new.tree at) }
     ensures goes_on { OnOk result (GoesOn reached.old reached.new) }
+    ensures ahead { OnOk result (IsForeseen plan.now reached.new ahead.new) }
     ensures informed { OnOk result (IsInformed plan.now reached.new) }
     ensures scratch { OnOk result (AreOf plan.now.start.scenario scratch.new) }
 {
@@ -301,7 +334,7 @@ pub(crate) fn expand(
     plan: &Plan,
     reached: &mut Reached,
     at: u32,
-    ahead: &Ahead,
+    ahead: &mut Ahead,
     scratch: &mut Scratch,
     next: &mut Vec<u32>,
 ) -> Result<Expanded, Fault>
@@ -310,11 +343,12 @@ pub(crate) fn expand(
     requires near { IsEdge reached.old.tree at }
     requires there { at < length reached.old.tree }
     requires informed { IsInformed plan.now reached.old }
-    requires ahead { IsForeseen plan.now reached.old ahead.now }
+    requires ahead { IsForeseen plan.now reached.old ahead.old }
     requires end { (c : AChoice) → IsFresh reached.old.tree at c }
     requires scratch { AreOf plan.now.start.scenario scratch.old }
     ensures well { IfOk result (ExpandsWell plan.now reached.old.tree reached.new.tree at) }
     ensures goes_on { OnOk result (GoesOn reached.old reached.new) }
+    ensures ahead { OnOk result (IsForeseen plan.now reached.new ahead.new) }
     ensures informed { OnOk result (IsInformed plan.now reached.new) }
     ensures scratch { OnOk result (AreOf plan.now.start.scenario scratch.new) }
 {

@@ -78,7 +78,7 @@ fn expand_all<R: Threads + Sync, W: Watch>(
         }
         report_to(watch, &reached.tree, at);
         outlook.go_to(rt, plan, reached, at)?;
-        match expand(plan, reached, at, &outlook.ahead, scratch, &mut next)? {
+        match expand(plan, reached, at, &mut outlook.ahead, scratch, &mut next)? {
             Expanded::Whole => {}
             Expanded::Found(path) => return Ok(Answer::Found(path)),
             Expanded::Spent => return Ok(spent_at(&reached.tree, at)),

@@ -1,4 +1,6 @@
-use Rattle.zy_search.proofs.AheadLemmas.{stays}
+use Rattle.zy_search.specs.Ahead.{GoesOn, IsForeseen}
+use Rattle.zy_search.proofs.AheadLemmas.{foreseen_on, stays}
+use Rattle.zy_search.proofs.ReachedLemmas.{if_ok_with}
 use Rattle.zy_search.proofs.TurnLemmas.{known_noted}
 use Rattle.zy_search.proofs.expand.meet.Goals as goal
 
@@ -14,4 +16,14 @@ returns-in-Reached c =
         machines = c.requires.scratch;
       };
       goes_on = stays x;
+      ahead = c.requires.ahead;
     }
+
+pub returns-in-Unknown-clause-ahead : goal.returns-in-Unknown-clause-ahead
+returns-in-Unknown-clause-ahead c =
+    let p = c.args.plan.now in
+    let old = c.args.reached.now in
+    let new = c.meet_unknown.new.reached in
+    let ahead = c.args.ahead.now in
+    if_ok_with (λ _. GoesOn old new) (λ _. IsForeseen p new ahead) c.meet_unknown.result (λ _ on. foreseen_on p old new on ahead c.requires.ahead)
+    c.meet_unknown.ensures.goes_on

@@ -4,7 +4,7 @@ use Rattle.zy_isa.specs.declared.choice.Choice.{Choice}
 use Rattle.zy_isa.specs.declared.choice.Choice.TheVariants.{Start}
 use Rattle.zy_search.specs.Choices.{is_considered}
 use Rattle.zy_search.specs.Visits.{IsFresh, Notes}
-use Rattle.zy_search.proofs.AheadLemmas.{foreseen_on, goes_further, stays}
+use Rattle.zy_search.proofs.AheadLemmas.{goes_further, stays}
 use Rattle.zy_search.proofs.SearchLemmas.{grows_not, grows_on}
 use Rattle.zy_search.proofs.EdgeLemmas.{by_next, fresh_one}
 use Rattle.zy_search.proofs.MeetLemmas.{element, found, is_one, lead_all, lead_next}
@@ -38,10 +38,6 @@ meet-requires-clause-choice c =
     let lt : c.loop-i.i < length cs = omega (arith, c.loop-i-test.true, c.len-i-end.ensures) in
     record { there = lt; choice = sym (element cs c.loop-i.i c.index-choice.result.now lt c.index-choice.ensures) }
 
-pub meet-requires-clause-ahead : goal.meet-requires-clause-ahead
-meet-requires-clause-ahead c =
-    foreseen_on c.args.plan.now c.args.reached.now c.loop-i.reached c.loop-i.invariant.goes_on c.args.ahead.now c.requires.ahead
-
 pub returns-in-Spent : goal.returns-in-Spent
 returns-in-Spent c =
     let m = rw c.in-Spent.is at c.in_ok-meet.ensures.meets.well in
@@ -49,6 +45,7 @@ returns-in-Spent c =
     record {
       well = inl (record { visits = m.visits; near = m.near; grows = g; many = m.many });
       goes_on = goes_further c.args.reached.now c.loop-i.reached c.meet.new.reached c.loop-i.invariant.goes_on c.in_ok-meet.ensures.goes_on;
+      ahead = c.in_ok-meet.ensures.ahead;
       informed = c.in_ok-meet.ensures.meets.informed;
       scratch = c.in_ok-meet.ensures.meets.machines.machines;
     }
@@ -59,6 +56,7 @@ loop-i-init c = record {
   near = c.requires.ready.near;
   grows = grows_not c.args.reached.now.tree;
   goes_on = stays c.args.reached.now;
+  ahead = c.requires.ahead;
   informed = c.requires.informed;
   scratch = c.requires.scratch;
   by = λ i lt d e. absurd (c.requires.end d i lt e);
@@ -86,6 +84,7 @@ returns-in-Shown c =
           c.in_ok-path-in-Shown.path.items c.requires.ready.visits
           c.requires.ready.room one m c.in_ok-path-in-Shown.ensures;
       goes_on = goes_further c.args.reached.now c.loop-i.reached c.meet.new.reached c.loop-i.invariant.goes_on c.in_ok-meet.ensures.goes_on;
+      ahead = c.in_ok-meet.ensures.ahead;
       informed = c.in_ok-meet.ensures.meets.informed;
       scratch = c.in_ok-meet.ensures.meets.machines.machines;
     }
@@ -105,6 +104,7 @@ loop-i-preserved c =
       near = n.near;
       grows = grows_on c.args.reached.now.tree c.loop-i.reached.tree c.meet.new.reached.tree g n.grows;
       goes_on = goes_further c.args.reached.now c.loop-i.reached c.meet.new.reached c.loop-i.invariant.goes_on c.in_ok-meet.ensures.goes_on;
+      ahead = c.in_ok-meet.ensures.ahead;
       informed = c.in_ok-meet.ensures.meets.informed;
       scratch = c.in_ok-meet.ensures.meets.machines;
       by = by_next c.loop-i.reached.tree c.meet.new.reached.tree c.args.at c.loop-i.i cs (get_or cs c.loop-i.i Start) n.more
@@ -127,6 +127,7 @@ returns c =
             (omega (arith, c.loop-i-test.false, c.len-i-end.ensures)) i.known;
       };
       goes_on = i.goes_on;
+      ahead = i.ahead;
       informed = i.informed;
       scratch = i.scratch.machines;
     }

@@ -1,5 +1,5 @@
 use Rattle.zy_search.specs.Visits.{Visits, IsEdge, GoOnBy, Grows, IsInformed, AreScratch}
-use Rattle.zy_search.specs.Ahead.{GoesOn}
+use Rattle.zy_search.specs.Ahead.{GoesOn, IsForeseen}
 use Rattle.zy_search.proofs.MeetLemmas.{AllLead}
 use Rattle.zy_search.proofs.expand.meet_each.Given as goal
 
@@ -10,6 +10,7 @@ invariant-loop-i l =
       near : IsEdge l.reached.tree l.at;
       grows : Grows l.initial.reached.tree l.reached.tree;
       goes_on : GoesOn l.initial.reached l.reached;
+      ahead : IsForeseen l.plan l.reached l.ahead;
       informed : IsInformed l.plan l.reached;
       scratch : AreScratch l.plan.start l.reached.tree l.at l.scratch;
       by : GoOnBy l.reached.tree l.at l.plan.choices.items l.i;

@@ -1,7 +1,7 @@
 use Rattle.std.proofs.Common.{◌+◌, ◌<◌, [], ◌∷◌, length, arith}
 use Rattle.zy_search.specs.Visits.{IsExpanded, length_at}
 use Rattle.zy_search.proofs.SearchLemmas.{none_at_all, finds_first, spent_below, spent_well, expanded_grown, near_first, edge_next, stops, stops_grown}
-use Rattle.zy_search.proofs.AheadLemmas.{outlook_on}
+use Rattle.zy_search.proofs.AheadLemmas.{rest_on}
 use Rattle.zy_search.proofs.SearchLemmas.{spent_due}
 use Rattle.zy_search.proofs.EdgeLemmas.{ends_first, ends_later}
 use Rattle.zy_goals.proofs.EachLemmas.{more}
@@ -55,7 +55,10 @@ loop-at-preserved g c =
       near = λ lt. edge_next h q new c.loop-at.at x.visits x.near lt;
       ends = x.near.ends;
       informed = c.in_ok-expand.ensures.informed;
-      outlook = outlook_on c.args.plan.now c.loop-at.reached c.expand.new.reached c.in_ok-expand.ensures.goes_on _ c.in_ok-go_to.ensures;
+      outlook = record {
+        ahead = c.in_ok-expand.ensures.ahead;
+        rest = rest_on c.args.plan.now c.loop-at.reached c.expand.new.reached c.in_ok-expand.ensures.goes_on _ c.in_ok-go_to.ensures.rest;
+      };
       scratch = c.in_ok-expand.ensures.scratch;
     }
 
