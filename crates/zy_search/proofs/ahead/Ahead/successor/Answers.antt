@@ -1,4 +1,4 @@
-use Rattle.std.proofs.Common.{◌≡◌, ℕ, sym, subst, arith}
+use Rattle.std.proofs.Common.{ℕ, sym, subst, arith}
 use Rattle.zy_search.specs.declared.ahead.Successor.{Successor}
 use Rattle.zy_search.specs.declared.ahead.Successor.TheVariants.{Unknown}
 use Rattle.zy_search.specs.Ahead.{successor_in, IsSuccessor}
