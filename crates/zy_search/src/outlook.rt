@@ -22,15 +22,26 @@ pub struct Outlook {
     pub rest: Vec<Ahead>,
 }
 
-/// How many states a thread looks at before their successors are taken in.
-const MOST_EACH: u32 = 512;
+/// How many states a thread looks at before their successors are taken in: enough to be worth the start of a thread.
+const MOST_EACH: u32 = 2048;
+
+/// The same where there is one thread: what it finds out stays in its processor's cache.
+const MOST_ALONE: u32 = 512;
 
 /// How many states are worth a thread.
 const LEAST_EACH: u32 = 32;
 
+/// How many states are looked at before their successors are taken in.
+fn most_at_once(threads: u32) -> u32 {
+    if threads < 2 {
+        return MOST_ALONE;
+    }
+    threads.saturating_mul(MOST_EACH)
+}
+
 /// How the states from a place on are shared among threads: how many parts there are, and how many states each has.
 fn shares(plan: &Plan, reached: &Reached, at: u32) -> (usize, u32) {
-    let most = plan.threads.saturating_mul(MOST_EACH);
+    let most = most_at_once(plan.threads);
     let known = u32::try_from(reached.tree.len()).unwrap_or(u32::MAX);
     let count = known.saturating_sub(at).min(most).max(1);
     let each = count.div_ceil(plan.threads.max(1)).max(LEAST_EACH);
