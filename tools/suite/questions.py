@@ -33,8 +33,8 @@ class Programs:
         self.name, self.text = name, text
 
     def search(self, goal, states, kills=False):
-        """What comes of a search for a goal."""
-        words = ['search', '--canon', '--for', goal, '--states', states] + ['--kill'] * kills
+        """What comes of a search for a goal. It has one thread, since others are made beside it."""
+        words = ['search', '--canon', '--threads', '1', '--for', goal, '--states', states] + ['--kill'] * kills
         with bench.start(words, stdin=subprocess.PIPE, stdout=subprocess.PIPE, stderr=subprocess.PIPE) as process:
             written, said = process.communicate(self.text)
         if process.returncode not in (FOUND, NONE, SPENT):

@@ -100,7 +100,7 @@ class Shortest:
 
     def searched(self, begun, most):
         """What one search answers that goes on from some choices: its status, the choices that it found, and the bound at which it gave up."""
-        status, text, said = self.quest.search(['--states', str(most)], self.text.with_choices(begun))
+        status, text, said = self.quest.search(['--threads', '1', '--states', str(most)], self.text.with_choices(begun))
         if status not in (FOUND, NONE, SPENT):
             raise bench.Refused(status, said.strip())
         choices = self.text.choices_of(text)[len(begun):] if status == FOUND else ()
