@@ -22,28 +22,27 @@ pub struct Outlook {
     pub rest: Vec<Ahead>,
 }
 
-/// How many states a thread looks at before their successors are taken in: enough to be worth the start of a thread.
+/// How many states a thread looks at before their successors are taken in.
 const MOST_EACH: u32 = 2048;
 
-/// The same where there is one thread: what it finds out stays in its processor's cache.
-const MOST_ALONE: u32 = 512;
+/// How many states are worth the start of a thread.
+const LEAST_EACH: u32 = 128;
 
-/// How many states are worth a thread.
-const LEAST_EACH: u32 = 32;
+/// How many states wait for their turn, from a place on.
+fn waiting(reached: &Reached, at: u32) -> u32 {
+    let known = u32::try_from(reached.tree.len()).unwrap_or(u32::MAX);
+    known.saturating_sub(at)
+}
 
-/// How many states are looked at before their successors are taken in.
-fn most_at_once(threads: u32) -> u32 {
-    if threads < 2 {
-        return MOST_ALONE;
-    }
-    threads.saturating_mul(MOST_EACH)
+/// Whether it is not worth it to look ahead from a place.
+fn are_few(plan: &Plan, reached: &Reached, at: u32) -> bool {
+    plan.threads < 2 || waiting(reached, at) < 2 * LEAST_EACH
 }
 
 /// How the states from a place on are shared among threads: how many parts there are, and how many states each has.
 fn shares(plan: &Plan, reached: &Reached, at: u32) -> (usize, u32) {
-    let most = most_at_once(plan.threads);
-    let known = u32::try_from(reached.tree.len()).unwrap_or(u32::MAX);
-    let count = known.saturating_sub(at).min(most).max(1);
+    let most = plan.threads.saturating_mul(MOST_EACH);
+    let count = waiting(reached, at).min(most).max(1);
     let each = count.div_ceil(plan.threads.max(1)).max(LEAST_EACH);
     (count.div_ceil(each) as usize, each)
 }
@@ -101,7 +100,12 @@ impl Outlook {
         }
     }
 
-    /// Brings it to a place whose turn it is. Where nothing is known of that, many threads look ahead.
+    /// Whether all is known of a place that is to be known, when it is its turn.
+    fn is_settled(&self, plan: &Plan, reached: &Reached, at: u32) -> bool {
+        self.ahead.has(at) || (self.rest.is_empty() && are_few(plan, reached, at))
+    }
+
+    /// Brings it to a place whose turn it is. Where nothing is known of that, many threads look ahead, if it is worth it.
     pub(crate) fn go_to<R: Threads + Sync>(
         &mut self,
         rt: &R,
@@ -113,7 +117,7 @@ impl Outlook {
         requires outlook { IsOutlook plan.now reached.now self.old }
         ensures { OnOk result (IsOutlook plan.now reached.now self.new) }
     {
-        if self.ahead.has(at) {
+        if self.is_settled(plan, reached, at) {
             return Ok(());
         }
         if self.rest.is_empty() {
