@@ -82,15 +82,6 @@ found sc e states s t i numbers at k there are =
     let known = k.each i s there in
     alike_by_numbers e.memory.table e.memory.part numbers s t (subst (Numbers e.memory s) (bytes_are e.vectors i numbers at) known.0) are
 
--- a step that leads from a state with some numbers leads from that at a place, which has them
-pub recalled : (sc : Scenario) (e : Explored) (states : List State) (s : State) (place : ℕ) → Knows sc e states → slice_get states place ≡ Some s
-    → (numbers : List ℕ) → numbers ≡ slice_index_or e.vectors place []
-    → (P : List ℕ → Type 0) → (IsTrue sc e.memory → Numbers e.memory s numbers → length s.txns ≡ length sc.programs → P numbers)
-    → P (slice_index_or e.vectors place [])
-recalled sc e states s place k at numbers is P p =
-    let known = k.each place s at in
-    subst P is (p k.truth (subst (Numbers e.memory s) (sym is) known.0) known.1)
-
 -- the same number stands for the same commits
 pub commits_told : (sc : Scenario) (e : Explored) (states : List State) (s t : State) (place : ℕ) (numbers : List ℕ)
     → places.at (slice_index_or e.vectors place []) commits_place ≡ places.at numbers commits_place

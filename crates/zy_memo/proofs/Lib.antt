@@ -11,3 +11,4 @@ pub mod Growth
 pub mod MemoLemmas
 pub mod MemoryLemmas
 pub mod ExploredLemmas
+pub mod RestLemmas

@@ -24,7 +24,7 @@ pub bytes_are : (table : List (List ℕ)) (n : ℕ) (x : List ℕ) → slice_get
 bytes_are table n x e = sym (unwrap_or-slice_get table n []) ∙ ap (λ (o : Option (List ℕ)). unwrap_or o []) e
 
 -- a byte of it
-byte_is : (table : List (List ℕ)) (n : ℕ) (x : List ℕ) (i : ℕ) → slice_get table n ≡ Some x → byte_of table n i ≡ slice_index_or x i 0
+pub byte_is : (table : List (List ℕ)) (n : ℕ) (x : List ℕ) (i : ℕ) → slice_get table n ≡ Some x → byte_of table n i ≡ slice_index_or x i 0
 byte_is table n x i e = ap (λ xs. slice_index_or xs i 0) (bytes_are table n x e)
 
 -- ---- the mode of a node
@@ -81,7 +81,7 @@ codes_tell B A = refl
 codes_tell B B = refl
 
 -- a transaction is active at a node
-at_said : (table : List (List ℕ)) (n : ℕ) (x : Txn) (m : Node) → slice_get table n ≡ Some (txn x)
+pub at_said : (table : List (List ℕ)) (n : ℕ) (x : Txn) (m : Node) → slice_get table n ≡ Some (txn x)
     → (is_active_in table n && (home_in table n == node_code m)) ≡ (is_active x.status && same_node x.node m)
 at_said table n x m said = by_test (is_active x.status) refl
   where

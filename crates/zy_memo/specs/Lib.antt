@@ -1,4 +1,5 @@
 pub mod Spans
 pub mod Places
+pub mod Rests
 pub mod Steps
 pub mod Memories

@@ -40,10 +40,6 @@ Leads sc m c s numbers o = Numbers m (step sc c s).after numbers × (uncounted (
 abbrev pub numbers_by : Memory → ℕ → Remembered → List ℕ → List ℕ
 numbers_by m i r numbers = put_at numbers (places m.table (choice_at m i) r.scope numbers) r.written
 
--- the same from the state at a place
-abbrev pub followed : Explored → ℕ → ℕ → Remembered → List ℕ
-followed e choice place r = numbers_by e.memory choice r (slice_index_or e.vectors place [])
-
 -- What is known of some states, each at a place: their numbers, and what is remembered of the steps of a scenario.
 pub record Knows (sc : Scenario) (e : Explored) (states : List State) : Type 0 where
   pub truth : IsTrue sc e.memory

@@ -4,13 +4,12 @@ ghost use Rattle.zy_frames.specs.Reads.{uncounted};
 ghost use Rattle.zy_isa.specs.Choices.{names_below};
 ghost use Rattle.zy_isa.specs.Scenario.{Scenario as AScenario};
 ghost use Rattle.zy_machine.specs.Alike.{Alike};
-ghost use Rattle.zy_memo.specs.Memories.{choice_at, choices_of, followed, Knows, Leads, Numbers};
+ghost use Rattle.zy_memo.specs.Memories.{choice_at, choices_of, Knows, Numbers};
 ghost use Rattle.zy_parts.specs.Parts.{Keeps};
 ghost use Rattle.zy_table.specs.Play.{step};
 ghost use Rattle.zy_table.specs.State.{State};
 
-use crate::memo::Remembered;
-use crate::memory::Memory;
+use crate::memory::{MOST_NUMBERS, Memory};
 use crate::places::{COMMITS_PLACE, at};
 use crate::vectors::Vectors;
 use std::alloc::{AllocError, Global};
@@ -24,9 +23,6 @@ pub struct Explored {
     pub vectors: Vectors,
     pub memory: Memory,
 }
-
-/// A state with as many numbers is not remembered. None has: there are at most 64 transactions.
-const MOST_NUMBERS: usize = 4_294_967_295;
 
 /// The numbers at a place; none where there are none.
 fn numbers_in(vectors: &Vectors, place: usize) -> &[u32]
@@ -57,35 +53,6 @@ impl Explored {
         ensures { result.now ≡ slice_index_or self.entry.now.vectors place [] }
     {
         numbers_in(&self.vectors, place)
-    }
-
-    /// A step of a choice that read what it reads of the state at a place, if one is remembered. A commit may have another
-    /// number.
-    pub fn recall(&self, choice: usize, place: usize) -> Option<Remembered>
-        requires there { choice < length self.now.memory.memos.items }
-        ensures { IfSome result (λ r. (sc : AScenario) (states : List State) (s : State)
-            → Knows sc self.now states → slice_get states place ≡ Some s
-            → Leads sc self.now.memory (choice_at self.now.memory choice) s (followed self.now choice place r) r.outcome) }
-    {
-        let numbers = self.numbers(place);
-        if numbers.len() < MOST_NUMBERS {
-            return self.memory.recall(choice, numbers);
-        }
-        None
-    }
-
-    /// The numbers to which a remembered step of a choice leads from the state at a place go to `next`.
-    pub fn follow(
-        &self,
-        choice: usize,
-        place: usize,
-        step: &Remembered,
-        next: &mut Vec<u32>,
-    ) -> Result<(), AllocError>
-        requires there { choice < length self.now.memory.memos.items }
-        ensures { OnOk result (next.new.items ≡ followed self.now choice place step.now) }
-    {
-        self.memory.follow(choice, step, self.numbers(place), next)
     }
 
     /// Remembers the step of a choice from the state at a place, which has led to a machine's state. The numbers of that go to

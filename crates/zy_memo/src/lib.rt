@@ -1,7 +1,7 @@
 //! Steps that are remembered by the parts of a state that they read.
 #![tactic(auto)]
 
-pub mod arena;
+mod arena;
 pub mod explored;
 pub mod laws;
 pub mod memo;
@@ -10,7 +10,6 @@ pub mod places;
 mod slots;
 pub mod vectors;
 
-pub use crate::arena::Arena;
 pub use crate::explored::Explored;
 pub use crate::memo::{ChoiceMemo, Remembered};
 pub use crate::memory::Memory;

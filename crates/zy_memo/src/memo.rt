@@ -119,15 +119,15 @@ impl ChoiceMemo {
     }
 
     /// The step that read this, if one is remembered.
-    fn find(&self, scope: Scope, read: Read) -> Option<Remembered>
-        ensures there { IfSome result (λ r. Contains self.now.steps.items r) }
-        ensures scope { IfSome result (λ r. r.scope ≡ scope) }
-        ensures read { IfSome result (λ r. r.read ≡ read) }
+    fn find(&self, scope: Scope, read: Read) -> Option<&Remembered>
+        ensures there { IfSome result (λ r. Contains self.entry.now.steps.items r.now) }
+        ensures scope { IfSome result (λ r. r.now.scope ≡ scope) }
+        ensures read { IfSome result (λ r. r.now.read ≡ read) }
     {
         let digest = digest(read);
         for behind in 0..MOST_LOOKS {
             let place = self.slots.get(digest, behind)?;
-            let step = *self.steps.get(place)?;
+            let step = self.steps.get(place)?;
             if step.scope == scope && step.read == read {
                 return Some(step);
             }
@@ -136,19 +136,21 @@ impl ChoiceMemo {
     }
 
     /// A step that read what its choice reads of these numbers in a scope, if one is remembered.
-    fn recall_in(&self, table: &PartTable, scope: Scope, numbers: &[u32]) -> Option<Remembered>
+    fn recall_in(&self, table: &PartTable, scope: Scope, numbers: &[u32]) -> Option<&Remembered>
         requires { length numbers.now < 4294967295 }
-        ensures there { IfSome result (λ r. Contains self.now.steps.items r) }
-        ensures read { IfSome result (λ r. r.read ≡ spec.reads table.now self.now.choice r.scope numbers.now) }
+        ensures there { IfSome result (λ r. Contains self.entry.now.steps.items r.now) }
+        ensures read { IfSome result (λ r. r.now.read
+            ≡ spec.reads table.entry.now self.entry.now.choice r.now.scope numbers.entry.now) }
     {
         self.find(scope, reads(table, self.choice, scope, numbers))
     }
 
     /// A step that read what its choice reads of these numbers, if one is remembered.
-    pub fn recall(&self, table: &PartTable, numbers: &[u32]) -> Option<Remembered>
+    pub fn recall(&self, table: &PartTable, numbers: &[u32]) -> Option<&Remembered>
         requires { length numbers.now < 4294967295 }
-        ensures there { IfSome result (λ r. Contains self.now.steps.items r) }
-        ensures read { IfSome result (λ r. r.read ≡ spec.reads table.now self.now.choice r.scope numbers.now) }
+        ensures there { IfSome result (λ r. Contains self.entry.now.steps.items r.now) }
+        ensures read { IfSome result (λ r. r.now.read
+            ≡ spec.reads table.entry.now self.entry.now.choice r.now.scope numbers.entry.now) }
     {
         if let Some(step) = self.recall_in(table, Scope::Own, numbers) {
             return Some(step);

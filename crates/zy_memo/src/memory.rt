@@ -4,10 +4,13 @@ ghost use Rattle.std.specs.List.{All};
 ghost use Rattle.zy_isa.specs.Choices.{names_below};
 ghost use Rattle.zy_isa.specs.Scenario.{Scenario};
 ghost use Rattle.zy_memo.specs.Memories.{choice_at, choices_of, numbers_by, IsTrue, Leads, Numbers};
+ghost use Rattle.zy_memo.specs.Rests.{is_idle};
 ghost use Rattle.zy_parts.specs.Parts.{Keeps};
+ghost use Rattle.zy_table.specs.Play.{step};
 ghost use Rattle.zy_table.specs.State.{State};
 
 use crate::memo::{ChoiceMemo, Remembered, write};
+use crate::places::rests;
 use std::alloc::{AllocError, Global};
 use zy_isa::Choice;
 use zy_machine::{Machine, StatePart};
@@ -26,6 +29,9 @@ pub struct Memory {
     /// The steps, by choice.
     pub memos: Vec<ChoiceMemo>,
 }
+
+/// Of a state with as many numbers no step is remembered. None has: there are at most 64 transactions.
+pub(crate) const MOST_NUMBERS: usize = 4_294_967_295;
 
 /// A memory of the steps of each choice, with no step yet.
 fn memos_of(alloc: Global, choices: &[Choice]) -> Result<Vec<ChoiceMemo>, AllocError>
@@ -67,15 +73,26 @@ impl Memory {
         Ok(numbers)
     }
 
-    /// A step of a choice that read what it reads of a state with these numbers, if one is remembered. A commit may have another
-    /// number.
-    pub fn recall(&self, place: usize, numbers: &[u32]) -> Option<Remembered>
-        requires there { place < length self.now.memos.items }
-        requires few { length numbers.now < 4294967295 }
-        ensures { IfSome result (λ r. (sc : Scenario) (s : State) → IsTrue sc self.now → Numbers self.now s numbers.now
-            → length s.txns ≡ length sc.programs
-            → Leads sc self.now (choice_at self.now place) s (numbers_by self.now place r numbers.now) r.outcome) }
+    /// Whether nothing comes of a choice from a state with these numbers, by its transaction alone. Where it answers yes,
+    /// nothing does.
+    pub fn rests(&self, choice: Choice, numbers: &[u32]) -> bool
+        ensures { result ≡ true → (sc : Scenario) (s : State) → Numbers self.now s numbers.now
+            → is_idle (step sc choice s).outcome ≡ true }
     {
+        rests(&self.table, choice, numbers)
+    }
+
+    /// A step of the choice at a place that read what it reads of a state with these numbers, if one is remembered. A commit may
+    /// have another number.
+    pub fn recall(&self, place: usize, numbers: &[u32]) -> Option<&Remembered>
+        requires { place < length self.now.memos.items }
+        ensures { IfSome result (λ r. (sc : Scenario) (s : State) → IsTrue sc self.entry.now → Numbers self.entry.now s numbers.entry.now
+            → length s.txns ≡ length sc.programs
+            → Leads sc self.entry.now (choice_at self.entry.now place) s (numbers_by self.entry.now place r.now numbers.entry.now) r.now.outcome) }
+    {
+        if MOST_NUMBERS <= numbers.len() {
+            return None;
+        }
         self.memos[place].recall(&self.table, numbers)
     }
 

@@ -2,6 +2,7 @@
 ghost use Rattle.std.specs.Prelude.{◌≡◌, ◌==◌, ◌&&◌, ◌+◌, ◌*◌, ◌<◌, ℕ, List, drop, length, map};
 ghost use Rattle.zy_isa.specs.declared.choice.Choice.TheVariants.{Run};
 ghost use Rattle.zy_memo.specs.Places as spec;
+ghost use Rattle.zy_memo.specs.Rests as rests;
 ghost use Rattle.zy_pack.specs.Codes as codes;
 ghost use Rattle.zy_table.specs.State as table;
 
@@ -117,6 +118,41 @@ fn is_active_at(table: &PartTable, n: Node, number: u32) -> bool
     ensures { result ≡ (spec.is_active_in table.now number && (spec.home_in table.now number == codes.node_code n)) }
 {
     is_active_in(table, number) && home_in(table, number) == node_code(n) as usize
+}
+
+/// Whether the transaction whose part has a number has not begun.
+fn is_new_in(table: &PartTable, number: u32) -> bool
+    ensures { result ≡ rests.is_new_in table.now number }
+{
+    byte_of(table, number, 0) == 0
+}
+
+/// Whether there is a transaction with this number.
+#[inline(always)]
+fn is_there(numbers: &[u32], t: u8) -> bool
+    ensures { result ≡ rests.is_there numbers.now t }
+{
+    txn_place(t) < numbers.len()
+}
+
+/// Whether nothing comes of a choice, by its transaction alone: of a begin of one that has begun, of a kill of one that is not
+/// active, of a run of one that is not active at the run's node.
+pub fn rests(table: &PartTable, choice: Choice, numbers: &[u32]) -> bool
+    ensures { result ≡ rests.rests table.now choice numbers.now }
+{
+    match choice {
+        Choice::Begin(t) => { is_there(numbers, t) && !is_new_in(table, at(numbers, txn_place(t))) }
+        Choice::Kill(t) => {
+            is_there(numbers, t) && !is_active_in(table, at(numbers, txn_place(t)))
+        }
+        Choice::Run(n, t) => {
+            is_there(numbers, t) && !is_active_at(table, n, at(numbers, txn_place(t)))
+        }
+        Choice::Start => false,
+        Choice::Take(_) => false,
+        Choice::Finish(_) => false,
+        Choice::Push(_) => false,
+    }
 }
 
 /// The lowest of some transactions that is active at a node, plus 1, or 0.

@@ -14,7 +14,7 @@ use Rattle.zy_parts.proofs.PartLemmas.{alike_by_numbers}
 use Rattle.zy_table.specs.State.{State, Step}
 use Rattle.zy_table.specs.Play.{step}
 use Rattle.zy_search.specs.declared.ahead.Ahead.{Ahead}
-use Rattle.zy_search.specs.declared.ahead.Row.{Row}
+use Rattle.zy_search.specs.declared.ahead.Successors.{Successors}
 use Rattle.zy_search.specs.declared.ahead.Successor.{Successor}
 use Rattle.zy_search.specs.declared.ahead.Successor.TheVariants as successor
 use Rattle.zy_search.specs.declared.branch.Branch.{Branch}
@@ -23,7 +23,7 @@ use Rattle.zy_search.specs.declared.reached.Reached.{Reached}
 use Rattle.zy_search.specs.Stuck.{is_still}
 use Rattle.zy_search.specs.Searches.{reached}
 use Rattle.zy_search.specs.Visits.{counted, path_at, state_by, step_by, Grows, IsInformed, IsKnown, IsNumber, Notes}
-use Rattle.zy_search.specs.Ahead.{numbers_at, successor_in, GoesOn, IsForeseen, IsNumbered, IsRow, IsSuccessor, IsTaken}
+use Rattle.zy_search.specs.Ahead.{numbers_at, successor_in, GoesOn, IsForeseen, HasNumbers, AreSuccessors, IsSuccessor, IsTaken}
 use Rattle.zy_search.proofs.SearchLemmas.{grows_not, grows_on}
 use Rattle.zy_search.proofs.StillSteps.{still_stays}
 
@@ -79,11 +79,11 @@ module _ (p : Plan) (old new : Reached) (on : GoesOn old new) where
         (numbers_stay old.explored.memory new.explored.memory (state_by p old.tree b) (numbers_at arena j) on.parts on.part is.numbers);
   }
 
-  -- and a row
-  row_on : (arena : List (List ℕ)) (row : Row) → IsRow p old arena row → IsRow p new arena row
-  row_on arena row is = record {
+  -- so does where each leads from a state
+  successors_on : (arena : List (List ℕ)) (known : Successors) → AreSuccessors p old arena known → AreSuccessors p new arena known
+  successors_on arena known is = record {
     there = omega (arith, is.there, on.paths.longer);
-    each = λ i c n. successor_on arena (record { from = row.place; by = c }) is.there (successor_in row i) (is.each i c n);
+    each = λ i c n. successor_on arena (record { from = known.place; by = c }) is.there (successor_in known i) (is.each i c n);
   }
 
   -- and a state that was taken in
@@ -97,12 +97,12 @@ module _ (p : Plan) (old new : Reached) (on : GoesOn old new) where
   -- and what is known ahead
   pub foreseen_on : (a : Ahead) → IsForeseen p old a → IsForeseen p new a
   foreseen_on a is = record {
-    rows = λ k d lt. row_on a.numbers (get_or a.rows.items k d) (is.rows k d lt);
+    found = λ k d lt. successors_on a.numbers (get_or a.found.items k d) (is.found k d lt);
     taken = λ j lt. taken_on a.numbers j (is.taken j lt);
   }
 
   -- a state that is taken in was reached
-  pub noted_is_taken : (arena : List (List ℕ)) (b : Branch) (j : ℕ) → IsNumbered p old arena b j → Notes p.start p.sought old.tree new.tree b.from b.by
+  pub noted_is_taken : (arena : List (List ℕ)) (b : Branch) (j : ℕ) → HasNumbers p old arena b j → Notes p.start p.sought old.tree new.tree b.from b.by
       → IsTaken p new arena j
   noted_is_taken arena b j is notes = record {
     state = state_by p old.tree b;
@@ -115,7 +115,7 @@ module _ (p : Plan) (old new : Reached) (on : GoesOn old new) where
   rest_on rest are = λ k d lt. foreseen_on (get_or rest k d) (are k d lt)
 
 -- the choice of a branch leads to a known state where one with its numbers was taken in
-pub taken_known : (p : Plan) (x : Reached) → IsInformed p x → (arena : List (List ℕ)) (b : Branch) (j : ℕ) → IsNumbered p x arena b j → IsTaken p x arena j
+pub taken_known : (p : Plan) (x : Reached) → IsInformed p x → (arena : List (List ℕ)) (b : Branch) (j : ℕ) → HasNumbers p x arena b j → IsTaken p x arena j
     → IsKnown p.start p.sought x.tree (state_by p x.tree b)
 taken_known p x informed arena b j is taken =
     let memory = x.explored.memory in
@@ -137,13 +137,13 @@ module _ (p : Plan) (x : Reached) (old new : List (List ℕ)) (grows : Grows old
     numbers = subst (Numbers x.explored.memory (state_by p x.tree b)) (sym (grows.same j is.there)) is.numbers;
   }
 
-  -- and so does a row
-  row_grown : (row : Row) → IsRow p x old row → IsRow p x new row
-  row_grown row is = record { there = is.there; each = λ i c n. successor_grown (record { from = row.place; by = c }) (successor_in row i) (is.each i c n) }
+  -- and where each leads from a state
+  successors_grown : (known : Successors) → AreSuccessors p x old known → AreSuccessors p x new known
+  successors_grown known is = record { there = is.there; each = λ i c n. successor_grown (record { from = known.place; by = c }) (successor_in known i) (is.each i c n) }
 
-  -- one row more is known
-  pub row_more : (rows : List Row) (row : Row) → All (IsRow p x old) rows → IsRow p x new row → All (IsRow p x new) (rows ++ row ∷ [])
-  row_more rows row are is = All-push (IsRow p x new) rows row (λ k d lt. row_grown (get_or rows k d) (are k d lt)) is
+  -- one state more is looked at
+  pub successors_more : (found : List Successors) (known : Successors) → All (AreSuccessors p x old) found → AreSuccessors p x new known → All (AreSuccessors p x new) (found ++ known ∷ [])
+  successors_more found known are is = All-push (AreSuccessors p x new) found known (λ k d lt. successors_grown (get_or found k d) (are k d lt)) is
 
   -- where the first n choices lead from the state at a place
   abbrev AreFirst : List (List ℕ) → ℕ → List Successor → ℕ → Type 0

@@ -1,5 +1,5 @@
 -- What is known of the states that paths lead to.
-use Rattle.std.proofs.Common.{◌≡◌, ◌∙◌, ◌<◌, ◌+◌, ℕ, zero, suc, List, [], ◌∷◌, ◌++◌, false, length, Some, slice_get, slice_index_or, refl, sym, ap, arith, subst, Result, Ok, Err, IfOk}
+use Rattle.std.proofs.Common.{◌≡◌, ◌∙◌, ◌<◌, ◌+◌, ℕ, zero, suc, List, [], ◌∷◌, ◌++◌, false, true, length, Some, slice_get, slice_index_or, refl, sym, ap, arith, subst, Result, Ok, Err, IfOk}
 use Rattle.std.proofs.lemmas.List.{map-append, length-map}
 use Rattle.zy_isa.specs.declared.choice.Choice.{Choice}
 use Rattle.zy_isa.specs.declared.choice.Choice.TheVariants.{Start}
@@ -14,7 +14,8 @@ use Rattle.zy_machine.specs.Alike.{Alike}
 use Rattle.zy_frames.specs.Reads.{uncounted}
 use Rattle.zy_memo.specs.declared.memo.ChoiceMemo.{ChoiceMemo}
 use Rattle.zy_memo.specs.declared.memo.Remembered.{Remembered}
-use Rattle.zy_memo.specs.Memories.{choice_at, choices_of, followed, Knows, Leads, Numbers}
+use Rattle.zy_memo.specs.Memories.{choice_at, choices_of, numbers_by, IsTrue, Knows, Leads, Numbers}
+use Rattle.zy_memo.specs.Rests.{is_idle}
 use Rattle.zy_memo.proofs.Again.{many_after}
 use Rattle.zy_search.specs.declared.branch.Branch.{Branch}
 use Rattle.zy_search.specs.declared.plan.Plan.{Plan}
@@ -83,6 +84,12 @@ still_uncounted NoPush = refl
 pub still_alike : (o r : Outcome) → uncounted r ≡ uncounted o → is_still o ≡ is_still r
 still_alike o r e = sym (still_uncounted o) ∙ (ap is_still (sym e) ∙ still_uncounted r)
 
+-- nothing came of a step where its transaction was idle
+pub idle_still : (o : Outcome) → is_idle o ≡ true → is_still o ≡ true
+idle_still Idle e = refl
+idle_still Elsewhere e = refl
+idle_still o e = cc
+
 -- ---- what is known
 
 module _ (p : Plan) (x : Reached) (is : IsInformed p x) where
@@ -114,16 +121,26 @@ module _ (p : Plan) (x : Reached) (is : IsInformed p x) where
             (alike (reached p.start (path_at x.tree i)) (state_at p.start x.tree i there)),
       )
 
+  -- the numbers at the place of a path are those of its state
+  pub numbers_there : (i : ℕ) → i < length x.tree → (numbers : List ℕ) → numbers ≡ slice_index_or x.explored.vectors i []
+      → Numbers x.explored.memory (reached p.start (path_at x.tree i)) numbers
+  numbers_there i lt numbers at =
+      let s = reached p.start (path_at x.tree i) in
+      subst (Numbers x.explored.memory s) (sym at) (is.knows.each i s (state_at p.start x.tree i lt)).0
+
   -- where a remembered step leads, if its numbers were taken where something came of it
-  pub remembered_leads : (b : Branch) → b.from < length x.tree → (i : ℕ) → IsNumber p i b.by → (r : Remembered) → (next : List ℕ)
-      → (is_still r.outcome ≡ false → next ≡ followed x.explored i b.from r)
-      → ((sc : Scenario) (states : List State) (s : State) → Knows sc x.explored states → slice_get states b.from ≡ Some s
-      → Leads sc x.explored.memory (choice_at x.explored.memory i) s (followed x.explored i b.from r) r.outcome)
+  pub remembered_leads : (b : Branch) → b.from < length x.tree → (i : ℕ) → IsNumber p i b.by → (r : Remembered) → (numbers next : List ℕ)
+      → numbers ≡ slice_index_or x.explored.vectors b.from []
+      → (is_still r.outcome ≡ false → next ≡ numbers_by x.explored.memory i r numbers)
+      → ((sc : Scenario) (s : State) → IsTrue sc x.explored.memory → Numbers x.explored.memory s numbers → length s.txns ≡ length sc.programs
+      → Leads sc x.explored.memory (choice_at x.explored.memory i) s (numbers_by x.explored.memory i r numbers) r.outcome)
       → LeadsTo p x b next r.outcome
-  remembered_leads b lt i n r next taken recalled =
+  remembered_leads b lt i n r numbers next at taken recalled =
       let s = reached p.start (path_at x.tree b.from) in
-      let led = recalled p.start.scenario (states_of p.start x.tree) s is.knows (state_at p.start x.tree b.from lt) in
-      let leads = subst (λ (c : Choice). Leads p.start.scenario x.explored.memory c s (followed x.explored i b.from r) r.outcome) (remembered_choice i b.by n) led in
+      let many = (is.knows.each b.from s (state_at p.start x.tree b.from lt)).1 in
+      let led = recalled p.start.scenario s is.knows.truth (numbers_there b.from lt numbers at) many in
+      let to = numbers_by x.explored.memory i r numbers in
+      let leads = subst (λ (c : Choice). Leads p.start.scenario x.explored.memory c s to r.outcome) (remembered_choice i b.by n) led in
       record {
         still = still_alike r.outcome _ leads.1;
         numbers = λ moved. subst (Numbers x.explored.memory (state_by p x.tree b)) (sym (taken moved)) leads.0;

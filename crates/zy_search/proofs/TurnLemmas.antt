@@ -7,9 +7,12 @@ use Rattle.zy_table.specs.State.{State}
 use Rattle.zy_machine.specs.Alike.{part_of}
 use Rattle.zy_search.specs.declared.branch.Branch.{Branch}
 use Rattle.zy_search.specs.declared.plan.Plan.{Plan}
+use Rattle.zy_search.specs.declared.answer.Met.TheVariants as met
+use Rattle.zy_search.specs.declared.reached.Reached.{Reached}
+use Rattle.zy_search.specs.declared.scratch.Scratch.{Scratch}
 use Rattle.zy_search.specs.Stuck.{is_still}
 use Rattle.zy_search.specs.Searches.{reached, Shows}
-use Rattle.zy_search.specs.Visits.{path_at, length_at, counted, step_by, state_by, IsFull, IsKnown, IsTurn, IsVisited, Notes, ShowsNext}
+use Rattle.zy_search.specs.Visits.{path_at, length_at, counted, step_by, state_by, AreScratch, IsFull, IsInformed, IsKnown, IsTurn, IsVisited, Meets, Notes, ShowsNext}
 use Rattle.zy_search.proofs.SearchLemmas.{reached_more, grows_not, grows_push, near_known, visits_push, visited_last, path_more}
 use Rattle.zy_search.proofs.EdgeLemmas.{apart_push, edge_push}
 use Rattle.zy_search.proofs.StillSteps.{still_stays}
@@ -64,3 +67,8 @@ module _ (p : Plan) (ps : List (List Choice)) (b : Branch) (turn : IsTurn p ps b
               (visited_last h q ps longer (length_at ps b.from + 1) (omega (arith, one)));
           more = inr refl;
         })
+
+-- a choice leads to a state that is known: nothing else changes
+pub known_met : (p : Plan) (x : Reached) (b : Branch) (scratch : Scratch) → IsTurn p x.tree b → IsInformed p x → AreScratch p.start x.tree b.from scratch
+    → IsKnown p.start p.sought x.tree (state_by p x.tree b) → Meets p x.tree x b scratch met.Noted
+known_met p x b scratch turn informed machines known = record { well = known_noted p x.tree b turn known; informed = informed; machines = machines }

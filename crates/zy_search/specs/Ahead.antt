@@ -6,7 +6,7 @@ use Rattle.zy_memo.specs.Memories.{Numbers}
 use Rattle.zy_parts.specs.Parts.{Keeps}
 use Rattle.zy_table.specs.State.{State}
 use Rattle.zy_search.specs.declared.ahead.Ahead.{Ahead}
-use Rattle.zy_search.specs.declared.ahead.Row.{Row}
+use Rattle.zy_search.specs.declared.ahead.Successors.{Successors}
 use Rattle.zy_search.specs.declared.ahead.Successor.{Successor}
 use Rattle.zy_search.specs.declared.ahead.Successor.TheVariants as successor
 use Rattle.zy_search.specs.declared.branch.Branch.{Branch}
@@ -21,7 +21,7 @@ abbrev pub numbers_at : List (List ℕ) → ℕ → List ℕ
 numbers_at arena j = slice_index_or arena j []
 
 -- something comes of the choice of a branch, which leads to a state with the numbers at a place of an arena
-pub record IsNumbered (p : Plan) (x : Reached) (arena : List (List ℕ)) (b : Branch) (j : ℕ) : Type 0 where
+pub record HasNumbers (p : Plan) (x : Reached) (arena : List (List ℕ)) (b : Branch) (j : ℕ) : Type 0 where
   pub there : j < length arena
   pub moved : is_still (step_by p x.tree b).outcome ≡ false
   pub numbers : Numbers x.explored.memory (state_by p x.tree b) (numbers_at arena j)
@@ -30,16 +30,16 @@ pub record IsNumbered (p : Plan) (x : Reached) (arena : List (List ℕ)) (b : Br
 abbrev pub IsSuccessor : Plan → Reached → List (List ℕ) → Branch → Successor → Type 0
 IsSuccessor p x arena b successor.Unknown = Unit {0}
 IsSuccessor p x arena b successor.Reached = IsKnown p.start p.sought x.tree (state_by p x.tree b)
-IsSuccessor p x arena b (successor.Numbered j) = IsNumbered p x arena b j
+IsSuccessor p x arena b (successor.Numbered j) = HasNumbers p x arena b j
 
--- what a row knows of a choice
-abbrev pub successor_in : Row → ℕ → Successor
-successor_in row i = slice_index_or row.successors.items i successor.Unknown
+-- where a choice leads from a state
+abbrev pub successor_in : Successors → ℕ → Successor
+successor_in known i = slice_index_or known.by_choice.items i successor.Unknown
 
--- a row knows of each choice, from the state at its place, where it leads
-pub record IsRow (p : Plan) (x : Reached) (arena : List (List ℕ)) (row : Row) : Type 0 where
-  pub there : row.place < length x.tree
-  pub each : (i : ℕ) (c : Choice) → IsNumber p i c → IsSuccessor p x arena (record { from = row.place; by = c }) (successor_in row i)
+-- what is known of where each choice leads from the state at a place
+pub record AreSuccessors (p : Plan) (x : Reached) (arena : List (List ℕ)) (known : Successors) : Type 0 where
+  pub there : known.place < length x.tree
+  pub each : (i : ℕ) (c : Choice) → IsNumber p i c → IsSuccessor p x arena (record { from = known.place; by = c }) (successor_in known i)
 
 -- a state with the numbers at a place of an arena was reached
 pub record IsTaken (p : Plan) (x : Reached) (arena : List (List ℕ)) (j : ℕ) : Type 0 where
@@ -49,7 +49,7 @@ pub record IsTaken (p : Plan) (x : Reached) (arena : List (List ℕ)) (j : ℕ) 
 
 -- what is known ahead of the states at some places
 pub record IsForeseen (p : Plan) (x : Reached) (a : Ahead) : Type 0 where
-  pub rows : All (IsRow p x a.numbers) a.rows.items
+  pub found : All (AreSuccessors p x a.numbers) a.found.items
   pub taken : (j : ℕ) → j < a.taken → IsTaken p x a.numbers j
 
 -- the same of all that is known ahead

@@ -1,7 +1,8 @@
 //! What is known of where choices lead before it is their turn.
-ghost use Rattle.std.specs.Prelude.{◌≡◌, ◌<◌, ℕ, List, [], IfOk, IfSome, OnOk, length};
-ghost use Rattle.zy_search.specs.Ahead.{numbers_at, IsForeseen, IsNumbered, IsRow, IsSuccessor, IsTaken};
-ghost use Rattle.zy_search.specs.Visits.{Grows, IsInformed, IsNumber, LeadsTo};
+ghost use Rattle.std.specs.Prelude.{◌≡◌, ◌<◌, ℕ, List, [], IfOk, IfSome, OnOk, length, true};
+ghost use Rattle.zy_search.specs.Ahead.{numbers_at, IsForeseen, HasNumbers, AreSuccessors, IsSuccessor, IsTaken};
+ghost use Rattle.zy_search.specs.Stuck.{is_still};
+ghost use Rattle.zy_search.specs.Visits.{step_by, Grows, IsInformed, IsNumber, LeadsTo};
 ghost use Rattle.zy_search.specs.declared.branch.Branch.{Branch as ABranch};
 ghost use Rattle.zy_search.specs.declared.plan.Plan.{Plan as APlan};
 ghost use Rattle.zy_search.specs.declared.reached.Reached.{Reached as AReached};
@@ -27,19 +28,29 @@ pub enum Successor {
 
 /// What is known of where each choice leads from the state at a place.
 #[derive(Drop)]
-pub struct Row {
+pub struct Successors {
     pub place: u32,
-    pub successors: Vec<Successor>,
+    pub by_choice: Vec<Successor>,
 }
 
-/// Rows for some places one behind the other, and the numbers of the states that they name, each once.
+/// The successors of the states at some places one behind the other, and the numbers of those that were not found, each once.
 #[derive(Drop)]
 pub struct Ahead {
     first: u32,
-    pub rows: Vec<Row>,
+    pub found: Vec<Successors>,
     pub numbers: Vectors,
     /// How many of these states were taken in: the first ones.
     pub taken: usize,
+}
+
+/// Whether nothing comes of the choice of a branch, by its transaction alone. Where it answers yes, nothing does.
+pub(crate) fn rests(plan: &Plan, reached: &Reached, branch: Branch) -> bool
+    requires there { branch.from < length reached.now.tree }
+    requires informed { IsInformed plan.now reached.now }
+    ensures { result ≡ true → is_still (step_by plan.now reached.now.tree branch).outcome ≡ true }
+{
+    let numbers = reached.explored.numbers(branch.from as usize);
+    reached.explored.memory.rests(branch.by, numbers)
 }
 
 /// What comes of the choice of a branch, if a step like it is remembered. Where something does, the numbers of the state
@@ -56,19 +67,20 @@ pub(crate) fn recall(
     requires choice { IsNumber plan.now choice branch.by }
     ensures { IfOk result (λ o. IfSome o (LeadsTo plan.now reached.now branch next.new.items)) }
 {
-    let place = branch.from as usize;
-    let Some(step) = reached.explored.recall(choice, place) else {
+    let numbers = reached.explored.numbers(branch.from as usize);
+    let memory = &reached.explored.memory;
+    let Some(step) = memory.recall(choice, numbers) else {
         return Ok(None);
     };
     if !is_still(step.outcome) {
-        reached.explored.follow(choice, place, &step, next)?;
+        memory.follow(choice, step, numbers, next)?;
     }
     Ok(Some(step.outcome))
 }
 
 /// A state whose numbers are kept at a place. From a number of places on that no search comes to, nothing is known of it.
 fn numbered(place: usize) -> Successor
-    ensures { (p : APlan) (x : AReached) (arena : List (List ℕ)) (b : ABranch) → IsNumbered p x arena b place
+    ensures { (p : APlan) (x : AReached) (arena : List (List ℕ)) (b : ABranch) → HasNumbers p x arena b place
         → IsSuccessor p x arena b result }
 {
     match u32::try_from(place) {
@@ -92,6 +104,9 @@ fn successor_of(
     ensures successor { IfOk result (IsSuccessor plan.now reached.now numbers.new branch) }
     ensures grows { OnOk result (Grows numbers.old numbers.new) }
 {
+    if rests(plan, reached, branch) {
+        return Ok(Successor::Reached);
+    }
     let Some(outcome) = recall(plan, reached, branch, choice, next)? else {
         return Ok(Successor::Unknown);
     };
@@ -110,30 +125,30 @@ fn successor_of(
 }
 
 /// What is known of where each choice leads from the state at a place.
-fn row_of(
+fn successors_of(
     plan: &Plan,
     reached: &Reached,
     at: u32,
     next: &mut Vec<u32>,
     numbers: &mut Vectors,
-) -> Result<Row, AllocError>
+) -> Result<Successors, AllocError>
     requires there { at < length reached.now.tree }
     requires informed { IsInformed plan.now reached.now }
-    ensures row { IfOk result (IsRow plan.now reached.now numbers.new) }
+    ensures successors { IfOk result (AreSuccessors plan.now reached.now numbers.new) }
     ensures grows { OnOk result (Grows numbers.old numbers.new) }
 {
-    let mut successors = Vec::with_capacity(plan.alloc, plan.choices.len())?;
+    let mut by_choice = Vec::with_capacity(plan.alloc, plan.choices.len())?;
     for i in 0..plan.choices.len() {
         let branch = Branch {
             from: at,
             by: plan.choices[i],
         };
         let successor = successor_of(plan, reached, branch, i, next, numbers)?;
-        successors.push(successor)?;
+        by_choice.push(successor)?;
     }
-    Ok(Row {
+    Ok(Successors {
         place: at,
-        successors,
+        by_choice,
     })
 }
 
@@ -153,8 +168,8 @@ pub(crate) fn foresee(
         if reached.tree.len() <= at as usize {
             return Ok(ahead);
         }
-        let row = row_of(plan, reached, at, &mut next, &mut ahead.numbers)?;
-        ahead.rows.push(row)?;
+        let successors = successors_of(plan, reached, at, &mut next, &mut ahead.numbers)?;
+        ahead.found.push(successors)?;
     }
     Ok(ahead)
 }
@@ -162,30 +177,34 @@ pub(crate) fn foresee(
 impl Ahead {
     /// Nothing is known yet. It takes no memory.
     pub(crate) fn new(alloc: Global, first: u32) -> Ahead
-        ensures rows { result.rows.items ≡ [] }
+        ensures found { result.found.items ≡ [] }
         ensures taken { result.taken ≡ 0 }
     {
         Ahead {
             first,
-            rows: Vec::new(alloc),
+            found: Vec::new(alloc),
             numbers: Vectors::new(alloc),
             taken: 0,
         }
     }
 
-    /// Whether it has a row for a place.
+    /// Whether it knows of the state at a place.
     pub(crate) fn has(&self, at: u32) -> bool {
-        self.row(at).is_some()
+        self.successors(at).is_some()
     }
 
-    /// The row for a place, if it has one.
-    fn row(&self, at: u32) -> Option<&Row>
+    /// What it knows of the state at a place, if it does.
+    fn successors(&self, at: u32) -> Option<&Successors>
         ensures place { IfSome result (λ r. r.now.place ≡ at) }
-        ensures row { IfSome result (λ r. (p : APlan) (x : AReached) → IsForeseen p x self.entry.now
-            → IsRow p x self.entry.now.numbers r.now) }
+        ensures successors { IfSome result (λ r. (p : APlan) (x : AReached) → IsForeseen p x self.entry.now
+            → AreSuccessors p x self.entry.now.numbers r.now) }
     {
-        let row = self.rows.get(at.checked_sub(self.first)? as usize)?;
-        if row.place == at { Some(row) } else { None }
+        let successors = self.found.get(at.checked_sub(self.first)? as usize)?;
+        if successors.place == at {
+            Some(successors)
+        } else {
+            None
+        }
     }
 
     /// What is known of where the choice of a branch leads.
@@ -193,10 +212,10 @@ impl Ahead {
         ensures { (p : APlan) (x : AReached) → IsForeseen p x self.now → IsNumber p choice branch.by
             → IsSuccessor p x self.now.numbers branch result }
     {
-        let Some(row) = self.row(branch.from) else {
+        let Some(successors) = self.successors(branch.from) else {
             return Successor::Unknown;
         };
-        match row.successors.get(choice) {
+        match successors.by_choice.get(choice) {
             Some(successor) => *successor,
             None => Successor::Unknown,
         }

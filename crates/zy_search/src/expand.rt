@@ -3,14 +3,14 @@ ghost use Rattle.std.specs.Prelude.{◌≡◌, ◌<◌, ◌+◌, ◌++◌, ◌�
 ghost use Rattle.std.specs.Bool.{Decides};
 ghost use Rattle.zy_isa.specs.declared.choice.Choice.{Choice as AChoice};
 ghost use Rattle.zy_memo.specs.Memories.{Numbers};
-ghost use Rattle.zy_search.specs.Ahead.{GoesOn, IsForeseen, IsNumbered};
+ghost use Rattle.zy_search.specs.Ahead.{GoesOn, IsForeseen, HasNumbers};
 ghost use Rattle.zy_search.specs.Searches.{Shows};
 ghost use Rattle.zy_search.specs.Stuck as stuck;
 ghost use Rattle.zy_search.specs.Visits.{path_at, length_at, state_by, step_by, IsFresh};
 ghost use Rattle.zy_search.specs.Visits.{AreOf, AreScratch, Grows, IsEdge, IsInformed, IsNumber, IsReady, IsTurn, IsWhole, Visits};
 ghost use Rattle.zy_search.specs.Visits.{ExpandsWell, LeadsTo, Meets};
 
-use crate::ahead::{Ahead, Successor, recall};
+use crate::ahead::{Ahead, Successor, recall, rests};
 use crate::answer::{Expanded, Met};
 use crate::branch::Branch;
 use crate::plan::Plan;
@@ -228,7 +228,7 @@ fn take_in(
 ) -> Result<Met, Fault>
     requires turn { IsTurn plan.now reached.old.tree branch }
     requires informed { IsInformed plan.now reached.old }
-    requires numbered { IsNumbered plan.now reached.old ahead.old.numbers branch place }
+    requires numbered { HasNumbers plan.now reached.old ahead.old.numbers branch place }
     requires ahead { IsForeseen plan.now reached.old ahead.old }
     requires scratch { AreScratch plan.now.start reached.old.tree branch.from scratch.old }
     ensures meets { IfOk result (Meets plan.now reached.old.tree reached.new branch scratch.new) }
@@ -267,6 +267,9 @@ fn meet(
     ensures goes_on { OnOk result (GoesOn reached.old reached.new) }
     ensures ahead { OnOk result (IsForeseen plan.now reached.new ahead.new) }
 {
+    if rests(plan, reached, branch) {
+        return Ok(Met::Noted);
+    }
     match ahead.successor(branch, choice) {
         Successor::Unknown => meet_unknown(plan, reached, branch, choice, scratch, next),
         Successor::Reached => Ok(Met::Noted),

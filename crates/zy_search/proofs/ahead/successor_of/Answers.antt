@@ -4,6 +4,10 @@ use Rattle.zy_search.proofs.AheadLemmas.{still_known}
 use Rattle.zy_search.proofs.ReachedLemmas.{known_by}
 use Rattle.zy_search.proofs.ahead.successor_of.Goals as goal
 
+pub returns-then-rests-clause-successor : goal.returns-then-rests-clause-successor
+returns-then-rests-clause-successor c =
+    still_known c.args.plan.now c.args.reached.now.tree c.args.branch c.requires.there (c.rests.ensures c.if-rests.true)
+
 pub returns-then-is_still-clause-successor : goal.returns-then-is_still-clause-successor
 returns-then-is_still-clause-successor c =
     let leads = rw c.in-Some.is at c.in_ok-outcome.ensures in

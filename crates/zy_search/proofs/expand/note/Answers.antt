@@ -1,7 +1,7 @@
 use Rattle.zy_search.specs.Visits.{state_by, states_of}
 use Rattle.zy_search.proofs.AheadLemmas.{stays}
 use Rattle.zy_search.proofs.ReachedLemmas.{known_by}
-use Rattle.zy_search.proofs.TurnLemmas.{known_noted}
+use Rattle.zy_search.proofs.TurnLemmas.{known_met}
 use Rattle.zy_search.proofs.expand.note.Goals as goal
 
 pub returns-in-Some : goal.returns-in-Some
@@ -15,10 +15,6 @@ returns-in-Some c =
     let known = known_by p x c.requires.informed c.in-Some.field-0 to (c.in-Some.ensures.there sc states knows)
     (λ s at. c.in-Some.ensures.alike sc states s to knows at c.requires.numbers) in
     record {
-      meets = record {
-        well = known_noted p x.tree c.args.branch c.requires.turn known;
-        informed = c.requires.informed;
-        machines = c.requires.scratch;
-      };
+      meets = known_met p x c.args.branch c.args.scratch.now c.requires.turn c.requires.informed c.requires.scratch known;
       goes_on = stays x;
     }

@@ -1,5 +1,5 @@
 use Rattle.zy_search.proofs.AheadLemmas.{foreseen_on, noted_is_taken, stays, taken_known}
-use Rattle.zy_search.proofs.TurnLemmas.{known_noted}
+use Rattle.zy_search.proofs.TurnLemmas.{known_met}
 use Rattle.zy_search.proofs.expand.take_in.Goals as goal
 
 pub returns-then-place-ahead : goal.returns-then-place-ahead
@@ -9,11 +9,7 @@ returns-then-place-ahead c =
     let known = taken_known p x c.requires.informed c.args.ahead.now.numbers c.args.branch c.args.place c.requires.numbered
     (c.requires.ahead.taken c.args.place c.if-place-ahead.true) in
     record {
-      meets = record {
-        well = known_noted p x.tree c.args.branch c.requires.turn known;
-        informed = c.requires.informed;
-        machines = c.requires.scratch;
-      };
+      meets = known_met p x c.args.branch c.args.scratch.now c.requires.turn c.requires.informed c.requires.scratch known;
       goes_on = stays x;
       ahead = c.requires.ahead;
     }

@@ -15,10 +15,10 @@ returns c =
     let memo = c.index.result.now in
     let i = c.args.place in
     let numbers = c.args.numbers.now in
-    if_both (λ r. Contains memo.steps.items r) (λ r. r.read ≡ reads m.table memo.choice r.scope numbers) _ c.recall.result
+    if_both (λ r. Contains memo.steps.items r.now) (λ r. r.now.read ≡ reads m.table memo.choice r.now.scope numbers) _ c.recall.result
     (λ r there read sc s each before many.
-    let is = choice_is m.memos.items i memo Start c.requires.there c.index.ensures in
-    let this = each_at (λ (x : ChoiceMemo). AreTrue sc m.table m.part x.choice x.steps.items) m.memos.items i memo c.requires.there c.index.ensures each in
-    subst (λ (x : Choice). Leads sc m x s (put_at numbers (places m.table x r.scope numbers) r.written) r.outcome) (sym is)
-    (leads sc m.table m.part memo.choice memo.steps.items r s numbers this there read before many))
+    let is = choice_is m.memos.items i memo Start c.requires c.index.ensures in
+    let this = each_at (λ (x : ChoiceMemo). AreTrue sc m.table m.part x.choice x.steps.items) m.memos.items i memo c.requires c.index.ensures each in
+    subst (λ (x : Choice). Leads sc m x s (put_at numbers (places m.table x r.now.scope numbers) r.now.written) r.now.outcome) (sym is)
+    (leads sc m.table m.part memo.choice memo.steps.items r.now s numbers this there read before many))
     c.recall.ensures.there c.recall.ensures.read

@@ -2,7 +2,7 @@ use Rattle.std.proofs.Common.{ap, arith, length}
 use Rattle.std.proofs.lemmas.List.{length_push}
 use Rattle.zy_search.proofs.AheadLemmas.{one_more}
 use Rattle.zy_search.proofs.SearchLemmas.{grows_on}
-use Rattle.zy_search.proofs.ahead.row_of.Goals as goal
+use Rattle.zy_search.proofs.ahead.successors_of.Goals as goal
 
 pub loop-i-preserved : goal.loop-i-preserved
 loop-i-preserved c =
@@ -15,8 +15,8 @@ loop-i-preserved c =
           c.loop-i.successors.items c.in_ok-successor.successor c.loop-i.i i.many c.index.result.now i.each c.index.ensures made.successor);
     }
 
-pub returns-clause-row : goal.returns-clause-row
-returns-clause-row c = record {
+pub returns-clause-successors : goal.returns-clause-successors
+returns-clause-successors c = record {
   there = c.requires.there;
   each = λ i choice n. c.loop-i.invariant.each i choice (omega (arith, n.there, c.loop-i-test.false, c.len-i-end.ensures)) n;
 }

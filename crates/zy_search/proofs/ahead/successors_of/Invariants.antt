@@ -3,7 +3,7 @@ use Rattle.zy_isa.specs.declared.choice.Choice.{Choice}
 use Rattle.zy_search.specs.declared.ahead.Successor.TheVariants.{Unknown}
 use Rattle.zy_search.specs.Ahead.{IsSuccessor}
 use Rattle.zy_search.specs.Visits.{Grows, IsNumber}
-use Rattle.zy_search.proofs.ahead.row_of.Given as goal
+use Rattle.zy_search.proofs.ahead.successors_of.Given as goal
 
 abbrev pub invariant-loop-i : goal.invariant-loop-i
 invariant-loop-i l =
