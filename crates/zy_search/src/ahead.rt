@@ -72,9 +72,10 @@ pub(crate) fn recall(
     let Some(step) = memory.recall(choice, numbers) else {
         return Ok(None);
     };
-    if !is_still(step.outcome) {
-        memory.follow(choice, step, numbers, next)?;
+    if is_still(step.outcome) {
+        return Ok(Some(step.outcome));
     }
+    memory.follow(choice, step, numbers, next)?;
     Ok(Some(step.outcome))
 }
 
@@ -194,6 +195,7 @@ impl Ahead {
     }
 
     /// What it knows of the state at a place, if it does.
+    #[inline(always)]
     fn successors(&self, at: u32) -> Option<&Successors>
         ensures place { IfSome result (λ r. r.now.place ≡ at) }
         ensures successors { IfSome result (λ r. (p : APlan) (x : AReached) → IsForeseen p x self.entry.now
@@ -208,6 +210,7 @@ impl Ahead {
     }
 
     /// What is known of where the choice of a branch leads.
+    #[inline(always)]
     pub(crate) fn successor(&self, branch: Branch, choice: usize) -> Successor
         ensures { (p : APlan) (x : AReached) → IsForeseen p x self.now → IsNumber p choice branch.by
             → IsSuccessor p x self.now.numbers branch result }

@@ -210,6 +210,9 @@ fn meet_unknown(
     ensures meets { IfOk result (Meets plan.now reached.old.tree reached.new branch scratch.new) }
     ensures goes_on { OnOk result (GoesOn reached.old reached.new) }
 {
+    if rests(plan, reached, branch) {
+        return Ok(Met::Noted);
+    }
     let outcome = outcome_of(plan, reached, branch, choice, scratch, next)?;
     if is_still(outcome) {
         return Ok(Met::Noted);
@@ -267,9 +270,6 @@ fn meet(
     ensures goes_on { OnOk result (GoesOn reached.old reached.new) }
     ensures ahead { OnOk result (IsForeseen plan.now reached.new ahead.new) }
 {
-    if rests(plan, reached, branch) {
-        return Ok(Met::Noted);
-    }
     match ahead.successor(branch, choice) {
         Successor::Unknown => meet_unknown(plan, reached, branch, choice, scratch, next),
         Successor::Reached => Ok(Met::Noted),

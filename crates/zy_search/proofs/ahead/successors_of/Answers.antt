@@ -9,10 +9,10 @@ loop-i-preserved c =
     let i = c.loop-i.invariant in
     let made = c.in_ok-successor.ensures in
     record {
-      many = omega (arith, ap length c.in_ok-push.ensures.items, length_push c.loop-i.successors.items c.in_ok-successor.successor, i.many);
+      many = omega (arith, ap length c.in_ok-push.ensures.items, length_push c.loop-i.by_choice.items c.in_ok-successor.successor, i.many);
       grows = grows_on c.args.numbers.now c.loop-i.numbers c.successor_of.new.numbers i.grows made.grows;
       each = rw c.in_ok-push.ensures.items (one_more c.args.plan.now c.args.reached.now c.loop-i.numbers c.successor_of.new.numbers made.grows c.args.at
-          c.loop-i.successors.items c.in_ok-successor.successor c.loop-i.i i.many c.index.result.now i.each c.index.ensures made.successor);
+          c.loop-i.by_choice.items c.in_ok-successor.successor c.loop-i.i i.many c.index.result.now i.each c.index.ensures made.successor);
     }
 
 pub returns-clause-successors : goal.returns-clause-successors

@@ -8,8 +8,8 @@ use Rattle.zy_search.proofs.ahead.successors_of.Given as goal
 abbrev pub invariant-loop-i : goal.invariant-loop-i
 invariant-loop-i l =
     record {
-      many : length l.successors.items ≡ l.i;
+      many : length l.by_choice.items ≡ l.i;
       grows : Grows l.initial.numbers l.numbers;
       each : (k : ℕ) (c : Choice) → k < l.i → IsNumber l.plan k c
-          → IsSuccessor l.plan l.reached l.numbers (record { from = l.at; by = c }) (slice_index_or l.successors.items k Unknown);
+          → IsSuccessor l.plan l.reached l.numbers (record { from = l.at; by = c }) (slice_index_or l.by_choice.items k Unknown);
     }

@@ -1,21 +1,8 @@
 use Rattle.zy_search.specs.Ahead.{GoesOn, IsForeseen}
 use Rattle.zy_search.proofs.AheadLemmas.{foreseen_on, stays}
 use Rattle.zy_search.proofs.ReachedLemmas.{if_ok_with}
-use Rattle.zy_search.proofs.TurnLemmas.{known_met, still_noted}
+use Rattle.zy_search.proofs.TurnLemmas.{known_met}
 use Rattle.zy_search.proofs.expand.meet.Goals as goal
-
-pub returns-then-rests : goal.returns-then-rests
-returns-then-rests c =
-    let x = c.args.reached.now in
-    record {
-      meets = record {
-        well = still_noted c.args.plan.now x.tree c.args.branch c.requires.turn (c.rests.ensures c.if-rests.true);
-        informed = c.requires.informed;
-        machines = c.requires.scratch;
-      };
-      goes_on = stays x;
-      ahead = c.requires.ahead;
-    }
 
 pub returns-in-Reached : goal.returns-in-Reached
 returns-in-Reached c =
