@@ -12,7 +12,7 @@ use Rattle.zy_search.specs.declared.reached.Reached.{Reached}
 use Rattle.zy_search.specs.declared.scratch.Scratch.{Scratch}
 use Rattle.zy_search.specs.Stuck.{is_still}
 use Rattle.zy_search.specs.Searches.{reached, Shows}
-use Rattle.zy_search.specs.Visits.{path_at, length_at, counted, step_by, state_by, AreScratch, IsFull, IsInformed, IsKnown, IsTurn, IsVisited, Meets, Notes, ShowsNext}
+use Rattle.zy_search.specs.Visits.{path_at, length_at, counted, step_by, state_by, IsFull, IsKnown, IsReadyFor, IsTurn, IsVisited, Meets, Notes, ShowsNext}
 use Rattle.zy_search.proofs.SearchLemmas.{reached_more, grows_not, grows_push, near_known, visits_push, visited_last, path_more}
 use Rattle.zy_search.proofs.EdgeLemmas.{apart_push, edge_push}
 use Rattle.zy_search.proofs.StillSteps.{still_stays}
@@ -69,6 +69,6 @@ module _ (p : Plan) (ps : List (List Choice)) (b : Branch) (turn : IsTurn p ps b
         })
 
 -- a choice leads to a state that is known: nothing else changes
-pub known_met : (p : Plan) (x : Reached) (b : Branch) (scratch : Scratch) → IsTurn p x.tree b → IsInformed p x → AreScratch p.start x.tree b.from scratch
-    → IsKnown p.start p.sought x.tree (state_by p x.tree b) → Meets p x.tree x b scratch met.Noted
-known_met p x b scratch turn informed machines known = record { well = known_noted p x.tree b turn known; informed = informed; machines = machines }
+pub known_met : (p : Plan) (x : Reached) (b : Branch) (scratch : Scratch) → IsReadyFor p x b scratch → IsKnown p.start p.sought x.tree (state_by p x.tree b)
+    → Meets p x.tree x b scratch met.Noted
+known_met p x b scratch ready known = record { well = known_noted p x.tree b ready.turn known; informed = ready.informed; machines = ready.machines }

@@ -181,6 +181,12 @@ pub record IsTurn (p : Plan) (paths : List (List Choice)) (b : Branch) : Type 0 
   pub considered : is_considered p.sought.kinds (length p.start.scenario.programs) b.by ≡ true
   pub fresh : IsFresh paths b.from b.by
 
+-- it is the turn of the choice of a branch, with what is known of the states and the machines
+pub record IsReadyFor (p : Plan) (x : Reached) (b : Branch) (scratch : Scratch) : Type 0 where
+  pub turn : IsTurn p x.tree b
+  pub informed : IsInformed p x
+  pub machines : AreScratch p.start x.tree b.from scratch
+
 -- the number of a choice among those of a plan
 pub record IsNumber (p : Plan) (i : ℕ) (c : Choice) : Type 0 where
   pub there : i < length p.choices.items

@@ -7,7 +7,7 @@ ghost use Rattle.zy_search.specs.Ahead.{GoesOn, IsForeseen, HasNumbers};
 ghost use Rattle.zy_search.specs.Searches.{Shows};
 ghost use Rattle.zy_search.specs.Stuck as stuck;
 ghost use Rattle.zy_search.specs.Visits.{path_at, length_at, state_by, step_by, IsFresh};
-ghost use Rattle.zy_search.specs.Visits.{AreOf, AreScratch, Grows, IsEdge, IsInformed, IsNumber, IsReady, IsTurn, IsWhole, Visits};
+ghost use Rattle.zy_search.specs.Visits.{AreOf, AreScratch, Grows, IsEdge, IsInformed, IsNumber, IsReady, IsReadyFor, IsTurn, IsWhole, Visits};
 ghost use Rattle.zy_search.specs.Visits.{ExpandsWell, LeadsTo, Meets};
 
 use crate::ahead::{Ahead, Successor, recall, rests};
@@ -72,10 +72,8 @@ fn learn(
     scratch: &mut Scratch,
     next: &mut Vec<u32>,
 ) -> Result<Outcome, Fault>
-    requires turn { IsTurn plan.now reached.old.tree branch }
-    requires informed { IsInformed plan.now reached.old }
+    requires ready { IsReadyFor plan.now reached.old branch scratch.old }
     requires choice { IsNumber plan.now choice branch.by }
-    requires scratch { AreScratch plan.now.start reached.old.tree branch.from scratch.old }
     ensures tree { OnOk result (reached.new.tree ≡ reached.old.tree) }
     ensures goes_on { OnOk result (GoesOn reached.old reached.new) }
     ensures leads { IfOk result (LeadsTo plan.now reached.new branch next.new.items) }
@@ -98,10 +96,8 @@ fn outcome_of(
     scratch: &mut Scratch,
     next: &mut Vec<u32>,
 ) -> Result<Outcome, Fault>
-    requires turn { IsTurn plan.now reached.old.tree branch }
-    requires informed { IsInformed plan.now reached.old }
+    requires ready { IsReadyFor plan.now reached.old branch scratch.old }
     requires choice { IsNumber plan.now choice branch.by }
-    requires scratch { AreScratch plan.now.start reached.old.tree branch.from scratch.old }
     ensures tree { OnOk result (reached.new.tree ≡ reached.old.tree) }
     ensures goes_on { OnOk result (GoesOn reached.old reached.new) }
     ensures leads { IfOk result (LeadsTo plan.now reached.new branch next.new.items) }
@@ -122,10 +118,8 @@ fn shows_next(
     scratch: &mut Scratch,
     next: &[u32],
 ) -> Result<bool, Fault>
-    requires turn { IsTurn plan.now reached.now.tree branch }
-    requires informed { IsInformed plan.now reached.now }
+    requires ready { IsReadyFor plan.now reached.now branch scratch.old }
     requires numbers { Numbers reached.now.explored.memory (state_by plan.now reached.now.tree branch) next.now }
-    requires scratch { AreScratch plan.now.start reached.now.tree branch.from scratch.old }
     ensures shows { IfOk result (λ b. Decides b (Shows plan.now.start.scenario plan.now.sought
         (state_by plan.now reached.now.tree branch))) }
     ensures scratch { OnOk result (AreScratch plan.now.start reached.now.tree branch.from scratch.new) }
@@ -154,11 +148,9 @@ fn note_new(
     scratch: &mut Scratch,
     next: &[u32],
 ) -> Result<Met, Fault>
-    requires turn { IsTurn plan.now reached.old.tree branch }
-    requires informed { IsInformed plan.now reached.old }
+    requires ready { IsReadyFor plan.now reached.old branch scratch.old }
     requires numbers { Numbers reached.old.explored.memory (state_by plan.now reached.old.tree branch) next.now }
     requires moved { stuck.is_still (step_by plan.now reached.old.tree branch).outcome ≡ false }
-    requires scratch { AreScratch plan.now.start reached.old.tree branch.from scratch.old }
     ensures meets { IfOk result (Meets plan.now reached.old.tree reached.new branch scratch.new) }
     ensures goes_on { OnOk result (GoesOn reached.old reached.new) }
 {
@@ -180,11 +172,9 @@ fn note(
     scratch: &mut Scratch,
     next: &[u32],
 ) -> Result<Met, Fault>
-    requires turn { IsTurn plan.now reached.old.tree branch }
-    requires informed { IsInformed plan.now reached.old }
+    requires ready { IsReadyFor plan.now reached.old branch scratch.old }
     requires numbers { Numbers reached.old.explored.memory (state_by plan.now reached.old.tree branch) next.now }
     requires moved { stuck.is_still (step_by plan.now reached.old.tree branch).outcome ≡ false }
-    requires scratch { AreScratch plan.now.start reached.old.tree branch.from scratch.old }
     ensures meets { IfOk result (Meets plan.now reached.old.tree reached.new branch scratch.new) }
     ensures goes_on { OnOk result (GoesOn reached.old reached.new) }
 {
@@ -203,10 +193,8 @@ fn meet_unknown(
     scratch: &mut Scratch,
     next: &mut Vec<u32>,
 ) -> Result<Met, Fault>
-    requires turn { IsTurn plan.now reached.old.tree branch }
-    requires informed { IsInformed plan.now reached.old }
+    requires ready { IsReadyFor plan.now reached.old branch scratch.old }
     requires choice { IsNumber plan.now choice branch.by }
-    requires scratch { AreScratch plan.now.start reached.old.tree branch.from scratch.old }
     ensures meets { IfOk result (Meets plan.now reached.old.tree reached.new branch scratch.new) }
     ensures goes_on { OnOk result (GoesOn reached.old reached.new) }
 {
@@ -229,11 +217,9 @@ fn take_in(
     ahead: &mut Ahead,
     scratch: &mut Scratch,
 ) -> Result<Met, Fault>
-    requires turn { IsTurn plan.now reached.old.tree branch }
-    requires informed { IsInformed plan.now reached.old }
+    requires ready { IsReadyFor plan.now reached.old branch scratch.old }
     requires numbered { HasNumbers plan.now reached.old ahead.old.numbers branch place }
     requires ahead { IsForeseen plan.now reached.old ahead.old }
-    requires scratch { AreScratch plan.now.start reached.old.tree branch.from scratch.old }
     ensures meets { IfOk result (Meets plan.now reached.old.tree reached.new branch scratch.new) }
     ensures goes_on { OnOk result (GoesOn reached.old reached.new) }
     ensures ahead { OnOk result (IsForeseen plan.now reached.new ahead.new) }
@@ -261,11 +247,9 @@ fn meet(
     scratch: &mut Scratch,
     next: &mut Vec<u32>,
 ) -> Result<Met, Fault>
-    requires turn { IsTurn plan.now reached.old.tree branch }
-    requires informed { IsInformed plan.now reached.old }
+    requires ready { IsReadyFor plan.now reached.old branch scratch.old }
     requires choice { IsNumber plan.now choice branch.by }
     requires ahead { IsForeseen plan.now reached.old ahead.old }
-    requires scratch { AreScratch plan.now.start reached.old.tree branch.from scratch.old }
     ensures meets { IfOk result (Meets plan.now reached.old.tree reached.new branch scratch.new) }
     ensures goes_on { OnOk result (GoesOn reached.old reached.new) }
     ensures ahead { OnOk result (IsForeseen plan.now reached.new ahead.new) }

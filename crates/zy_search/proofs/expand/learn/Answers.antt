@@ -16,19 +16,19 @@ returns-clause-leads c =
     let b = c.args.branch in
     let sc = p.start.scenario in
     let s = reached p.start (path_at x.tree b.from) in
-    let is = sym (remembered_choice p x c.requires.informed c.args.choice b.by c.requires.choice) in
+    let is = sym (remembered_choice p x c.requires.ready.informed c.args.choice b.by c.requires.choice) in
     let made = c.in_ok-outcome.ensures in
     let kept = c.in_ok-learn.ensures in
     let outcome = ap uncounted made.outcome in
     let after = subst (λ (d : Choice). c.attempt.new.scratch.after.state ≡ (step sc d s).after) is made.state in
     let same = subst (λ (d : Choice). uncounted c.in_ok-outcome.outcome ≡ uncounted (step sc d s).outcome) is outcome in
-    let named = subst (λ (d : Choice). names_below (length sc.programs) d ≡ true) is (named_if p.sought.kinds (length sc.programs) b.by c.requires.turn.considered) in
+    let named = subst (λ (d : Choice). names_below (length sc.programs) d ≡ true) is (named_if p.sought.kinds (length sc.programs) b.by c.requires.ready.turn.considered) in
     record {
       still = still_alike c.in_ok-outcome.outcome (step sc b.by s).outcome (sym outcome);
       numbers = λ moved. rw (← made.state) kept.next;
       informed = informed_still p x _ refl
-          (kept.knows sc (states_of p.start x.tree) s c.requires.informed.knows (state_at p.start x.tree b.from c.requires.turn.ready.there) after same named)
-          kept.part kept.choices c.requires.informed;
+          (kept.knows sc (states_of p.start x.tree) s c.requires.ready.informed.knows (state_at p.start x.tree b.from c.requires.ready.turn.ready.there) after same named)
+          kept.part kept.choices c.requires.ready.informed;
     }
 
 pub returns-clause-goes_on : goal.returns-clause-goes_on

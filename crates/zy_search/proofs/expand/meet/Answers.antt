@@ -9,7 +9,7 @@ returns-in-Reached c =
     let p = c.args.plan.now in
     let x = c.args.reached.now in
     record {
-      meets = known_met p x c.args.branch c.args.scratch.now c.requires.turn c.requires.informed c.requires.scratch
+      meets = known_met p x c.args.branch c.args.scratch.now c.requires.ready
           (rw c.in-Reached.is at c.successor.ensures p x c.requires.ahead c.requires.choice);
       goes_on = stays x;
       ahead = c.requires.ahead;

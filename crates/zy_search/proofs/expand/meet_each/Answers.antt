@@ -10,8 +10,8 @@ use Rattle.zy_search.proofs.EdgeLemmas.{by_next, fresh_one}
 use Rattle.zy_search.proofs.MeetLemmas.{element, found, is_one, lead_all, lead_next}
 use Rattle.zy_search.proofs.expand.meet_each.Goals as goal
 
-pub meet-requires-clause-turn : goal.meet-requires-clause-turn
-meet-requires-clause-turn c =
+pub meet-requires-clause-ready : goal.meet-requires-clause-ready
+meet-requires-clause-ready c =
     let cs = c.args.plan.now.choices.items in
     let q = c.args.plan.now.sought in
     let n = length c.args.plan.now.start.scenario.programs in
@@ -20,16 +20,20 @@ meet-requires-clause-turn c =
     let i = c.loop-i.invariant in
     let ready = c.requires.ready in
     record {
-      ready = record {
-        whole = ready.whole;
-        visits = i.visits;
-        near = i.near;
-        there = omega (arith, ready.there, i.grows.longer);
-        room = omega (arith, ready.room, ap (λ (l : List Choice). length l) (i.grows.same c.args.at ready.there));
+      turn = record {
+        ready = record {
+          whole = ready.whole;
+          visits = i.visits;
+          near = i.near;
+          there = omega (arith, ready.there, i.grows.longer);
+          room = omega (arith, ready.room, ap (λ (l : List Choice). length l) (i.grows.same c.args.at ready.there));
+        };
+        considered = subst (λ (d : Choice). is_considered q.kinds n d ≡ true) (sym is) (is_one q.kinds n c.loop-i.i cs ready.whole lt);
+        fresh = subst (IsFresh c.loop-i.reached.tree c.args.at) (sym is)
+            (fresh_one q.kinds n c.loop-i.reached.tree c.args.at c.loop-i.i cs ready.whole lt i.by);
       };
-      considered = subst (λ (d : Choice). is_considered q.kinds n d ≡ true) (sym is) (is_one q.kinds n c.loop-i.i cs ready.whole lt);
-      fresh = subst (IsFresh c.loop-i.reached.tree c.args.at) (sym is)
-          (fresh_one q.kinds n c.loop-i.reached.tree c.args.at c.loop-i.i cs ready.whole lt i.by);
+      informed = i.informed;
+      machines = i.scratch;
     }
 
 pub meet-requires-clause-choice : goal.meet-requires-clause-choice

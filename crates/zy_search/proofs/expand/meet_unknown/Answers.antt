@@ -10,9 +10,9 @@ returns-then-rests c =
     let x = c.args.reached.now in
     record {
       meets = record {
-        well = still_noted c.args.plan.now x.tree c.args.branch c.requires.turn (c.rests.ensures c.if-rests.true);
-        informed = c.requires.informed;
-        machines = c.requires.scratch;
+        well = still_noted c.args.plan.now x.tree c.args.branch c.requires.ready.turn (c.rests.ensures c.if-rests.true);
+        informed = c.requires.ready.informed;
+        machines = c.requires.ready.machines;
       };
       goes_on = stays x;
     }
@@ -25,7 +25,7 @@ returns-then-is_still c =
     let still = rw made.tree at made.leads.still in
     record {
       meets = record {
-        well = rw made.tree (still_noted p old c.args.branch c.requires.turn (sym still ∙ (sym c.is_still.ensures ∙ c.if-is_still.true)));
+        well = rw made.tree (still_noted p old c.args.branch c.requires.ready.turn (sym still ∙ (sym c.is_still.ensures ∙ c.if-is_still.true)));
         informed = made.leads.informed;
         machines = rw made.tree made.scratch;
       };

@@ -11,10 +11,10 @@ returns-in-Some c =
     let sc = p.start.scenario in
     let states = states_of p.start x.tree in
     let to = state_by p x.tree c.args.branch in
-    let knows = c.requires.informed.knows in
-    let known = known_by p x c.requires.informed c.in-Some.field-0 to (c.in-Some.ensures.there sc states knows)
+    let knows = c.requires.ready.informed.knows in
+    let known = known_by p x c.requires.ready.informed c.in-Some.field-0 to (c.in-Some.ensures.there sc states knows)
     (λ s at. c.in-Some.ensures.alike sc states s to knows at c.requires.numbers) in
     record {
-      meets = known_met p x c.args.branch c.args.scratch.now c.requires.turn c.requires.informed c.requires.scratch known;
+      meets = known_met p x c.args.branch c.args.scratch.now c.requires.ready known;
       goes_on = stays x;
     }

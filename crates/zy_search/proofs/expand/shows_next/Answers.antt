@@ -14,10 +14,10 @@ returns-then-same_commits-clause-shows c =
     let p = c.args.plan.now in
     let x = c.args.reached.now in
     let b = c.args.branch in
-    let ready = c.requires.turn.ready in
+    let ready = c.requires.ready.turn.ready in
     let cs = path_at x.tree b.from in
     let same = c.same_commits.ensures c.if-same_commits.true p.start.scenario (states_of p.start x.tree) (reached p.start cs) (state_by p x.tree b)
-    c.requires.informed.knows (state_at p.start x.tree b.from ready.there) c.requires.numbers in (
+    c.requires.ready.informed.knows (state_at p.start x.tree b.from ready.there) c.requires.numbers in (
       λ e. absurd (false≢true e),
       λ s. absurd
           (never_by_others p.start p.sought cs b.by c.scenario-tested.ensures.replay same (sym c.is_by_commits.ensures ∙ c.if-is_by_commits.true)

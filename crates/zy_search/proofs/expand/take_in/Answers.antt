@@ -6,10 +6,10 @@ pub returns-then-place-ahead : goal.returns-then-place-ahead
 returns-then-place-ahead c =
     let p = c.args.plan.now in
     let x = c.args.reached.now in
-    let known = taken_known p x c.requires.informed c.args.ahead.now.numbers c.args.branch c.args.place c.requires.numbered
+    let known = taken_known p x c.requires.ready.informed c.args.ahead.now.numbers c.args.branch c.args.place c.requires.numbered
     (c.requires.ahead.taken c.args.place c.if-place-ahead.true) in
     record {
-      meets = known_met p x c.args.branch c.args.scratch.now c.requires.turn c.requires.informed c.requires.scratch known;
+      meets = known_met p x c.args.branch c.args.scratch.now c.requires.ready known;
       goes_on = stays x;
       ahead = c.requires.ahead;
     }
