@@ -443,6 +443,8 @@ PROGRAM_FAULTS = [
     program(1, 'order does not miss the end of a scenario', 'zy_advice/src/unended.rt', '!lines.any(is_end)', 'lines.any(is_end)', '^mistake: order: ', 'run'),
     program(2, 'each command misses the end of a scenario above logs', 'zy_advice/src/unended.rt',
             'self.command == Command::Order', '(self.command == Command::Order || is_of_words)', '^mistake: run: ', 'run'),
+    program(3, 'an arrow of a line is shown as a byte that does not print', 'zy_advice/src/place.rt', 'has_lone_marks: false', 'has_lone_marks: true',
+            '^order-refused:', 'run'),
     program(4, 'order knows no names of transactions', 'zy_ordering/src/names.rt', 'is(first, b"txn")', 'is(first, b"txm")', '^order-found:', 'run'),
     program(5, 'order counts the lines of the client as those of B', 'zy_bench/src/furthest.rt',
             'Actor::C => &mut self.c,', 'Actor::C => &mut self.b,', '^order-nowhere:', 'run'),
