@@ -446,6 +446,7 @@ PROGRAM_FAULTS = [
     program(3, 'an arrow of a line is shown as a byte that does not print', 'zy_advice/src/place.rt', 'has_lone_marks: false', 'has_lone_marks: true',
             '^order-refused:', 'run'),
     program(7, 'order says of several files what run says', 'zy_bench/src/hint.rt', '"order" => Hint::OneInput', '"odder" => Hint::OneInput', '^mistake: order a b: ', 'run'),
+    program(5, 'a word of a goal is shown as a mark', 'zy_advice/src/place.rt', 'has_lone_marks: true', 'has_lone_marks: false', '^key 10 <> 5: ', 'searches'),
     program(4, 'order knows no names of transactions', 'zy_ordering/src/names.rt', 'is(first, b"txn")', 'is(first, b"txm")', '^order-found:', 'run'),
     program(5, 'order counts the lines of the client as those of B', 'zy_bench/src/furthest.rt',
             'Actor::C => &mut self.c,', 'Actor::C => &mut self.b,', '^order-nowhere:', 'run'),
