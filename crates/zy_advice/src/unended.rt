@@ -28,6 +28,9 @@ impl TextAdvice<'_> {
     /// Says that the line `end` is missing above the logs.
     pub(crate) fn tell_unended<W: fmt::Write>(&self, f: &mut fmt::Formatter<W>) -> fmt::Result {
         let advice = END_ABOVE_LOGS;
-        write!(f, "this is a line of a log, and the scenario has no line end: {advice}")
+        write!(
+            f,
+            "this is a line of a log, and the scenario has no line end: {advice}"
+        )
     }
 }

@@ -1,5 +1,5 @@
 -- What a step gives, its choice can give: a walk over the lines of the step table.
-use Rattle.std.proofs.Common.{◌≡◌, ℕ, List, [], ◌∷◌, length, Bool, true, false, not, nat_lt, nat_le, ◌&&◌, ◌||◌, Option, Some, None, refl, subst}
+use Rattle.std.proofs.Common.{◌≡◌, ℕ, List, [], ◌∷◌, length, true, not, nat_lt, nat_le, ◌&&◌, ◌||◌, Option, Some, None, refl, subst}
 use Rattle.std.proofs.lemmas.Bool.{cond_both, or_left, or_right}
 use Rattle.zy_isa.specs.Limits.{max_key}
 use Rattle.zy_isa.specs.declared.node.Node.{Node}

@@ -44,7 +44,7 @@ can_abort c r = is_run c
 abbrev pub can_give : Choice → Told → Bool
 can_give c told.Started = is_start c
 can_give c told.BadMode = is_start c || is_finish c || is_push c
-can_give c (told.Began node) = is_begin c
+can_give c (told.Began n) = is_begin c
 can_give c told.Idle = is_begin c || is_kill c || is_run c
 can_give c told.Elsewhere = is_run c
 can_give c told.NotYet = is_run c
