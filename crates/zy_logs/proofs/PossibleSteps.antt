@@ -125,7 +125,7 @@ any_reason c (reason.Gone page) e = or_right (is_kill c) (is_run c) e
 told_possible : (c : Choice) (t : Told) (o : Outcome) → Tells t o → Gives c o → can_give c t ≡ true
 told_possible c told.Started o e g = same c e g
 told_possible c told.BadMode o e g = same c e g
-told_possible c (told.Began node) o e g = same c e.1 g
+told_possible c (told.Began n) o e g = same c e.1 g
 told_possible c told.Idle o e g = same c e g
 told_possible c told.Elsewhere o e g = same c e g
 told_possible c told.NotYet o e g = same c e g

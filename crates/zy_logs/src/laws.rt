@@ -19,7 +19,8 @@ pub fn logs_fit()
         → logs_of txns most first text ≡ Ok lines → length lines ≤ most }
 {}
 
-/// Whatever is told of the outcome of a step, its choice can give: no line is refused for an outcome that comes in any state.
+/// Whatever is told of the outcome of a step, its choice can give. So no line is refused for an outcome that a step of its
+/// choice has in some scenario and state.
 pub fn steps_are_possible()
     ensures { (sc : AScenario) → (c : AChoice) → (s : State) → (told : WhatIsTold) → Tells told (step sc c s).outcome
         → can_give c told ≡ true }
