@@ -22,11 +22,11 @@ worded wording.Own sc = inr refl
 module _ (w : Wording) (input : List ℕ) (cs : List Choice) (old new : Option (List ℕ)) (before after : ℕ) (sc : Scenario) where
   -- what was written of the scenario that an input means is written of the input
   pub behind_wrote : {X : Type 0} (x : X) → Means (cut input) sc → WroteSome {X = X} (IsWorded w (extended sc cs)) old new before after (Ok x)
-      → WroteBehind {X = X} w input cs old new before after (Ok x)
-  behind_wrote x means wrote = (wrote.text, record { scenario = sc; means = means; is = wrote.is }, wrote.wrote.0, wrote.wrote.1)
+      → WroteBehind {X = X} w input cs old new (Ok x)
+  behind_wrote x means wrote = (wrote.text, record { scenario = sc; means = means; is = wrote.is }, wrote.wrote.0)
 
   -- and so it is where a call failed
   pub behind_failed : {X : Type 0} (f : TextFault) → Means (cut input) sc
-      → WroteSome {X = X} (IsWorded w (extended sc cs)) old new before after (Err f) → WroteBehind {X = X} w input cs old new before after (Err (of_writing f))
+      → WroteSome {X = X} (IsWorded w (extended sc cs)) old new before after (Err f) → WroteBehind {X = X} w input cs old new (Err (of_writing f))
   behind_failed Write means wrote = inr (wrote.text, record { scenario = sc; means = means; is = wrote.is }, wrote.wrote.0)
   behind_failed Memory means wrote = inr (wrote.text, record { scenario = sc; means = means; is = wrote.is }, wrote.wrote.0)

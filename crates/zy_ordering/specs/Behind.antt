@@ -17,10 +17,7 @@ pub record IsTextBehind (w : Wording) (input : List ℕ) (cs : List Choice) (tex
   pub means : Means (cut input) scenario
   pub is : IsWorded w (extended scenario cs) text
 
--- a call that writes such a text: at Ok all of it, and no call of the writer failed; else nothing of it, or a prefix
-abbrev pub WroteBehind : {X : Type 0} → Wording → List ℕ → List Choice → (old new : Option (List ℕ)) → (before after : ℕ)
-    → Result X BenchFault → Type 0
-WroteBehind w input cs old new before after (Ok x) =
-    (text : List ℕ) × IsTextBehind w input cs text × Appends old new text × (after ≡ before)
-WroteBehind w input cs old new before after (Err f) =
-    (new ≡ old) ⊎ ((text : List ℕ) × IsTextBehind w input cs text × WrotePrefix old new text)
+-- a call that writes such a text: at Ok all of it; else nothing of it, or a prefix
+abbrev pub WroteBehind : {X : Type 0} → Wording → List ℕ → List Choice → (old new : Option (List ℕ)) → Result X BenchFault → Type 0
+WroteBehind w input cs old new (Ok x) = (text : List ℕ) × IsTextBehind w input cs text × Appends old new text
+WroteBehind w input cs old new (Err f) = (new ≡ old) ⊎ ((text : List ℕ) × IsTextBehind w input cs text × WrotePrefix old new text)

@@ -1,5 +1,5 @@
 //! Writes the scenario of an input with choices behind its own.
-ghost use Rattle.std.specs.Prelude.{◌<◌};
+ghost use Rattle.std.specs.Prelude.{◌≡◌, ◌<◌, OnOk};
 ghost use Rattle.zy_engine.specs.Searching.{IsWorded, WroteSome};
 ghost use Rattle.zy_ordering.specs.Behind.{WroteBehind};
 ghost use Rattle.zy_ordering.specs.Runs.{extended};
@@ -40,8 +40,8 @@ pub fn write_behind<K: Sink>(
     sink: &mut K,
 ) -> Result<(), BenchFault>
     requires { K.failures sink.old < u64.MAX }
-    ensures { WroteBehind wording input.now choices.now (K.written sink.old) (K.written sink.new) (K.failures sink.old)
-        (K.failures sink.new) result }
+    ensures wrote { WroteBehind wording input.now choices.now (K.written sink.old) (K.written sink.new) result }
+    ensures calls { OnOk result (K.failures sink.new ≡ K.failures sink.old) }
 {
     let (text, _) = input.split_at(cut_len(input));
     let scenario = accept(alloc, Format::Text, text)?;
