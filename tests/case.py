@@ -123,7 +123,7 @@ class Mistake(Case):
     }
 
     def __init__(self, line):
-        command, status, words, given = (part.strip() for part in line.split('|'))
+        command, status, words, given = (part.strip().replace('\\|', '|') for part in re.split(r'(?<!\\)\|', line))
         self.name, self.words, self.status = 'mistake: %s: %s' % (command, given), command.split(), int(status)
         self.example, self.like, self.pad, self.to, self.fault, self.said = '', '', 0, '', '', ''
         said = b'zy_bench: %s\n' % words.encode()

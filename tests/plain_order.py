@@ -3,9 +3,12 @@ same state go on as one. `tried_merges` answers the same without that: it runs e
 
 Logs are the lines of the client, of A and of B. A place is how many lines of each are made, and the state there."""
 
+import os
+import re
 from collections import namedtuple
 from math import comb
 
+from case import TOP, content
 from plain_table import step
 
 # What a line tells: a choice, the words of its outcome, of which the last ones or all may be left out, and the kind of the message, or None.
@@ -16,9 +19,35 @@ Answer = namedtuple('Answer', 'verdict places furthest')
 
 ACTORS = 'CAB'
 
+STEP_TABLE = os.path.join(TOP, 'docs', 'step-table.md')
+
 
 class TooMany(Exception):
     """There are more places than are wanted."""
+
+
+def outcomes_of_actions():
+    """The outcomes for which docs/step-table.md has a line, by action: each as its words without pages, transactions and nodes."""
+    given, action, column = {}, '', None
+    for line in content(STEP_TABLE).decode().splitlines():
+        cells = [cell.strip() for cell in line.strip('|').split('|')]
+        if line.startswith('## '):
+            action, column = (re.findall(r'`n (\w+)', line) + [''])[0], None
+        elif 'Outcome' in cells:
+            column = cells.index('Outcome')
+        elif column is not None and line.startswith('| '):
+            action = (re.findall(r'^`[Cn] (\w+)', cells[0]) + [action])[0]
+            given.setdefault(action, set()).update(re.findall(r'`((?:\w\w+ ?)+)', cells[column]))
+    return {action: [outcome.split() for outcome in sorted(outcomes)] for action, outcomes in given.items()}
+
+
+# The outcomes that each action can have, whatever the state.
+OUTCOMES_OF = outcomes_of_actions()
+
+
+def is_possible(action, told):
+    """Whether an action can have the outcome that is told."""
+    return any(all(word == other for word, other in zip(told, outcome)) for outcome in OUTCOMES_OF[action])
 
 
 def split(lines):

@@ -2,7 +2,7 @@
 
 from collections import namedtuple
 
-from plain_order import ACTORS, Line, TooMany, came_of, order, split
+from plain_order import ACTORS, Line, TooMany, came_of, is_possible, order, split
 from plain_table import opening, read
 from random_questions import line_of, random_text, random_walk
 
@@ -15,7 +15,7 @@ MOST = 2000
 # How often a part of a line is left out: in a log none, some or all.
 SHARES = (0, 0, 0.2, 0.6, 1)
 
-# The outcomes that a line may tell which is changed, and the messages.
+# The outcomes that a line may tell which is changed, where its action can have them, and the messages.
 OUTCOMES = ('started', 'badmode', 'began A', 'began B', 'idle', 'elsewhere', 'notyet', 'did', 'did', 'split 0 1 2', 'aborted own', 'aborted killed',
             'aborted badkey', 'aborted missing', 'aborted duplicate', 'aborted frozen 0', 'aborted nopage', 'aborted gone 0', 'aborted gone 1', 'committed 1',
             'committed 2', 'waits 0', 'waits 1', 'pulls 0', 'pulls 1', 'awaits 0', 'nomessage', 'got wire', 'got ready', 'got dual', 'stale 0', 'held 0',
@@ -69,7 +69,8 @@ def changed(chance, lines):
         return swapped(lines, at)
     if kind == 'missing':
         return lines[:at] + lines[at + 1:]
-    other = line._replace(told=chance.choice(OUTCOMES).split()) if kind == 'outcome' else line._replace(sent=chance.choice(KINDS))
+    others = [outcome.split() for outcome in OUTCOMES if is_possible(line.choice[1], outcome.split())]
+    other = line._replace(told=chance.choice(others)) if kind == 'outcome' else line._replace(sent=chance.choice(KINDS))
     return lines[:at] + [other] + lines[at + 1:]
 
 

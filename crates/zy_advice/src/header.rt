@@ -2,9 +2,11 @@
 
 use crate::above::Part;
 use crate::bytes::{Bytes, Quoted};
+use crate::command::Command;
 use crate::culprit::head;
 use crate::meant::Meant;
 use crate::text::TextAdvice;
+use crate::unended::END_ABOVE_LOGS;
 use crate::unknown::begins_other_comment;
 use std::fmt;
 use zy_text::names::{is, is_numeral};
@@ -191,6 +193,9 @@ impl TextAdvice<'_> {
             Part::Program => f.write_str(
                 ": a program ends with commit or abort, and the text with end",
             ),
+            Part::Choices(_) if self.command == Command::Order => {
+                write!(f, ": {}", END_ABOVE_LOGS)
+            }
             _ => f.write_str(": write end as its last line"),
         }
     }

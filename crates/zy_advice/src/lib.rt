@@ -20,6 +20,7 @@ pub mod place;
 mod program;
 mod programs;
 pub mod text;
+mod unended;
 mod unknown;
 mod wording;
 

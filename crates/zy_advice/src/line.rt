@@ -1,6 +1,7 @@
 //! The lines of an input, and the words of a line.
 
 use zy_text::line::is_space;
+use zy_text::names::is;
 
 /// Whether a byte ends a line.
 pub fn is_line_feed(byte: &u8) -> bool {
@@ -106,6 +107,12 @@ impl<'a> Statement<'a> {
             Some(word) => word.bytes,
             None => &[],
         }
+    }
+
+    /// Whether this is one of its words.
+    pub fn has(self, word: &[u8]) -> bool {
+        let mut words = self.bytes.split(is_gap);
+        words.any(|other| is(other, word))
     }
 
     /// The last word; nothing if there is none.

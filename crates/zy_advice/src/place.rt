@@ -16,6 +16,8 @@ pub struct Place<'a> {
     before: &'a [u8],
     word: &'a [u8],
     after: &'a [u8],
+    /// Whether a `>` or `<` of the line is shown as `\xNN`, so that those are the marks that are there.
+    has_lone_marks: bool,
 }
 
 impl<'a> Place<'a> {
@@ -28,6 +30,15 @@ impl<'a> Place<'a> {
             before,
             word,
             after: trimmed(after),
+            has_lone_marks: false,
+        }
+    }
+
+    /// The same in a line of which `>` and `<` are words: no others are shown than the marks.
+    pub fn with_lone_marks(self) -> Place<'a> {
+        Place {
+            has_lone_marks: true,
+            ..self
         }
     }
 
@@ -65,15 +76,20 @@ fn trimmed(bytes: &[u8]) -> &[u8] {
 }
 
 /// The column, from 1 and in characters, and the line with the word between `>` and `<`. What is cut off is shown as
-/// two dots; a byte that does not print, and a `>` or `<` of the line, as `\xNN`.
+/// two dots, and a byte that does not print as `\xNN`.
 impl fmt::Display for Place<'_> {
     fn fmt<W: fmt::Write>(&self, f: &mut fmt::Formatter<W>) -> fmt::Result {
         if let Some(line) = self.line {
             write!(f, "line {line}, ")?;
         }
         let column = self.column();
-        let (before, word, after) = (Before(self.before), After(self.word), After(self.after));
-        write!(f, "column {column}: '{before}>{word}<{after}'")
+        write!(f, "column {column}: '")?;
+        self.show_end(f, self.before)?;
+        f.write_str(">")?;
+        self.show_front(f, self.word)?;
+        f.write_str("<")?;
+        self.show_front(f, self.after)?;
+        f.write_str("'")
     }
 }
 
@@ -82,42 +98,34 @@ fn characters(bytes: &[u8]) -> usize {
     bytes.iter().filter(|byte| **byte & 0xc0 != 0x80).count()
 }
 
-/// The end of what comes before a word.
-#[derive(Clone, Copy)]
-struct Before<'a>(&'a [u8]);
-
-impl fmt::Display for Before<'_> {
-    fn fmt<W: fmt::Write>(&self, f: &mut fmt::Formatter<W>) -> fmt::Result {
-        let cut = self.0.len().saturating_sub(MOST);
+impl Place<'_> {
+    /// Shows the end of what comes before the word.
+    fn show_end<W: fmt::Write>(self, f: &mut fmt::Formatter<W>, bytes: &[u8]) -> fmt::Result {
+        let cut = bytes.len().saturating_sub(MOST);
         if cut > 0 {
             f.write_str("..")?;
         }
-        show(f, self.0.get(cut..).unwrap_or(&[]))
+        self.show(f, bytes.get(cut..).unwrap_or(&[]))
     }
-}
 
-/// The first bytes of a word, or of what is behind it.
-#[derive(Clone, Copy)]
-struct After<'a>(&'a [u8]);
-
-impl fmt::Display for After<'_> {
-    fn fmt<W: fmt::Write>(&self, f: &mut fmt::Formatter<W>) -> fmt::Result {
-        show(f, self.0.get(..MOST).unwrap_or(self.0))?;
-        if self.0.len() > MOST {
+    /// Shows the first bytes of the word, or of what is behind it.
+    fn show_front<W: fmt::Write>(self, f: &mut fmt::Formatter<W>, bytes: &[u8]) -> fmt::Result {
+        self.show(f, bytes.get(..MOST).unwrap_or(bytes))?;
+        if bytes.len() > MOST {
             f.write_str("..")?;
         }
         Ok(())
     }
-}
 
-/// Shows bytes among which a mark is.
-fn show<W: fmt::Write>(f: &mut fmt::Formatter<W>, bytes: &[u8]) -> fmt::Result {
-    for byte in bytes {
-        match *byte {
-            b'<' => f.write_str("\\x3c")?,
-            b'>' => f.write_str("\\x3e")?,
-            _ => write!(f, "{}", Bytes(&[*byte]))?,
+    /// Shows bytes.
+    fn show<W: fmt::Write>(self, f: &mut fmt::Formatter<W>, bytes: &[u8]) -> fmt::Result {
+        for byte in bytes {
+            match *byte {
+                b'<' if self.has_lone_marks => f.write_str("\\x3c")?,
+                b'>' if self.has_lone_marks => f.write_str("\\x3e")?,
+                _ => write!(f, "{}", Bytes(&[*byte]))?,
+            }
         }
+        Ok(())
     }
-    Ok(())
 }

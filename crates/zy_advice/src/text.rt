@@ -97,6 +97,9 @@ impl<'a> TextAdvice<'a> {
 
     /// Says what is wrong, and what to write.
     fn tell<W: fmt::Write>(&self, f: &mut fmt::Formatter<W>) -> fmt::Result {
+        if self.is_unended() {
+            return self.tell_unended(f);
+        }
         match self.reason {
             Reason::NotTheHeader => self.tell_header(f),
             Reason::NotText => self.tell_not_text(f),
@@ -145,6 +148,9 @@ impl<'a> TextAdvice<'a> {
 
     /// Where the fault is.
     fn place(&self) -> Option<Place<'a>> {
+        if self.is_unended() {
+            return Place::word(self.line, 0);
+        }
         match self.reason {
             Reason::NoEnd | Reason::NoMemory => None,
             Reason::NotText => self.wrong_byte(),

@@ -28,7 +28,7 @@ pub enum Task<'a> {
     /// Find the positions of a run.
     Find(Quest<'a>),
     /// Look for an order of logs.
-    Order(OrderOptions),
+    Order(LogQuest<'a>),
 }
 
 /// What a search is to go by. To find positions takes the format and the goal alone.
@@ -41,6 +41,14 @@ pub struct Quest<'a> {
     pub is_always: bool,
     /// The kinds of choices that are considered.
     pub kinds: ChoiceKinds,
+}
+
+/// What a search for an order of logs is to go by.
+#[derive(Clone, Copy, Debug, PartialEq, Eq)]
+pub struct LogQuest<'a> {
+    pub options: OrderOptions,
+    /// The file that keeps the furthest order, where there is none of all lines.
+    pub furthest: Option<&'a str>,
 }
 
 /// Which copies of the machine are kept to replay from.
@@ -346,6 +354,14 @@ const ORDER_HELP: &'static str = concat!(
     "  cat SCENARIO client.log a.log b.log | zy_bench order | zy_bench run"
 );
 
+/// `--furthest`.
+fn furthest_argument<'a>(alloc: Global) -> Arg<'a> {
+    Arg::new(alloc, "furthest")
+        .long("furthest")
+        .value_name("PATH")
+        .help("Where no order is found, writes the scenario with the furthest one to PATH")
+}
+
 /// `order`.
 fn order_command<'a>(alloc: Global) -> Result<Command<'a>, AllocError> {
     Command::new(alloc, "order")
@@ -353,6 +369,7 @@ fn order_command<'a>(alloc: Global) -> Result<Command<'a>, AllocError> {
         .after_help(ORDER_HELP)
         .arg(states_argument(alloc))?
         .arg(canon_flag(alloc))?
+        .arg(furthest_argument(alloc))?
         .arg(file_argument(alloc))
 }
 
@@ -424,11 +441,14 @@ fn options_of(words: &ArgMatches<'_>) -> SearchOptions {
     }
 }
 
-/// What an order is looked for by.
-fn order_of(words: &ArgMatches<'_>) -> OrderOptions {
-    OrderOptions {
-        wording: wording_of(words),
-        most: most_of(words),
+/// What a search for an order goes by.
+fn order_of<'a>(words: &ArgMatches<'a>) -> LogQuest<'a> {
+    LogQuest {
+        options: OrderOptions {
+            wording: wording_of(words),
+            most: most_of(words),
+        },
+        furthest: words.get_str("furthest"),
     }
 }
 

@@ -46,6 +46,8 @@ pub enum Hint<'a> {
     NoCommand(&'a str),
     /// There are more files than the one that this command reads.
     OneFile(&'a str),
+    /// There are several files, where a scenario and logs are read as one input.
+    OneInput,
     /// The value of a flag is no whole number.
     NoNumber(NoNumber<'a>),
 }
@@ -64,10 +66,18 @@ impl<'a> Hint<'a> {
         match (kind, words) {
             (ErrorKind::InvalidSubcommand, [file]) if is_path(file) => Some(Hint::NoCommand(file)),
             (ErrorKind::UnknownArgument, [command, _, _, ..]) if !words.iter().any(is_flag) => {
-                Some(Hint::OneFile(command))
+                Some(Hint::of_files(command))
             }
             (ErrorKind::ValueValidation, _) => NoNumber::of(words).map(Hint::NoNumber),
             _ => None,
+        }
+    }
+
+    /// What was meant by several files behind this command.
+    fn of_files(command: &'a str) -> Hint<'a> {
+        match command {
+            "order" => Hint::OneInput,
+            _ => Hint::OneFile(command),
         }
     }
 }
@@ -154,6 +164,10 @@ impl fmt::Display for Hint<'_> {
                 Bytes(file.as_bytes())
             ),
             Hint::OneFile(command) => write!(f, "{} reads one file", Bytes(command.as_bytes())),
+            Hint::OneInput => f.write_str(concat!(
+                "order reads the scenario and the logs as one input: ",
+                "cat scenario client.log a.log b.log | zy_bench order"
+            )),
             Hint::NoNumber(value) => write!(f, "{value}"),
         }
     }

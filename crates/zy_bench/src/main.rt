@@ -14,6 +14,7 @@ mod explained;
 mod furthest;
 mod given;
 mod hint;
+mod keeping;
 mod listing;
 mod marked;
 mod names;
@@ -314,7 +315,7 @@ fn carry_out<R: Print + Eprint + Input + Files + AllocGlobal + Clock + Threads +
                 &mut output,
             )
         }
-        Task::Order(options) => order(rt, options, file, &mut given, &mut input, &mut output),
+        Task::Order(quest) => order(rt, quest, file, &mut given, &mut input, &mut output),
     };
     match outcome {
         Ok(status) => status,

@@ -20,7 +20,7 @@ impl<'a> Marked<'a> {
     }
 }
 
-/// The flag, what is expected, and the text of the goal with the word at fault marked.
+/// The flag, what is expected, and the text of the goal with the word at fault marked. `>` and `<` are words of goals.
 impl fmt::Display for Marked<'_> {
     fn fmt<W: fmt::Write>(&self, f: &mut fmt::Formatter<W>) -> fmt::Result {
         let Refusal { from, to, expected } = self.refusal;
@@ -34,7 +34,7 @@ impl fmt::Display for Marked<'_> {
         } else {
             "for"
         };
-        let place = Place::of(text, word);
+        let place = Place::of(text, word).with_lone_marks();
         write!(f, "--{flag}: {expected} ({place})")
     }
 }

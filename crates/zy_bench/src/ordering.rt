@@ -1,22 +1,25 @@
 //! The command `order`: logs are read, and an order of them is looked for.
 ghost use Rattle.std.specs.Prelude.{◌<◌};
 
+use crate::command_line::LogQuest;
 use crate::exit_status::{DONE, NOWHERE, SPENT};
 use crate::furthest::Furthest;
+use crate::keeping::Keeper;
 use crate::output::{Output, flush};
 use crate::refused_line::RefusedLine;
 use crate::summary::Count;
 use std::io::{Read, Write};
+use std::rt::Files;
 use zy_engine::BenchFault;
 use zy_io::CountingReader;
 use zy_order::{Answer, Report};
+use zy_ordering::OrderFault;
 use zy_ordering::ordering::order_bytes;
-use zy_ordering::{OrderFault, OrderOptions};
 
 /// Looks for an order of the logs that are given below a scenario, and gives the exit status.
-pub fn order<R: Eprint + AllocGlobal, G: Read, W: Write>(
+pub fn order<R: Eprint + Files + AllocGlobal, G: Read, W: Write>(
     rt: &R,
-    options: OrderOptions,
+    quest: LogQuest<'_>,
     file: Option<&str>,
     given: &mut G,
     input: &mut Vec<u8>,
@@ -25,10 +28,11 @@ pub fn order<R: Eprint + AllocGlobal, G: Read, W: Write>(
     requires { output.old.1 < u64.MAX }
 {
     let source = &mut CountingReader::new(given);
-    match order_bytes(rt.alloc(), options, source, output, input) {
+    match order_bytes(rt.alloc(), quest.options, source, output, input) {
         Ok(report) => {
             flush(output)?;
-            sum_up(rt, file, input.as_slice(), &report)
+            let status = sum_up(rt, file, input.as_slice(), &report)?;
+            Ok(kept(rt, quest, input.as_slice(), &report.answer).unwrap_or(status))
         }
         Err(OrderFault::Bench(fault)) => Err(fault),
         Err(OrderFault::Log(refusal)) => {
@@ -37,6 +41,20 @@ pub fn order<R: Eprint + AllocGlobal, G: Read, W: Write>(
             Ok(OrderFault::Log(refusal).status())
         }
     }
+}
+
+/// Keeps the furthest order, if a file is named for it, and gives the exit status where that fails.
+fn kept<R: Eprint + Files + AllocGlobal>(
+    rt: &R,
+    quest: LogQuest<'_>,
+    input: &[u8],
+    answer: &Answer,
+) -> Option<u8> {
+    let keeper = Keeper {
+        path: quest.furthest?,
+        wording: quest.options.wording,
+    };
+    keeper.keep(rt, input, answer).err()
 }
 
 /// Reports on standard error what came of a search for an order, and gives the exit status.

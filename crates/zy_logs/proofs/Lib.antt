@@ -1,2 +1,3 @@
 pub mod NamedLemmas
+pub mod PossibleSteps
 pub mod Worked

@@ -136,8 +136,8 @@ named_told count c (Ok t) e = named_sent count c t.0 (sent_of t.1) e
 named_told count c (Err s) e = tt
 
 named_whole : (txns : Txns) (r : Read Choice) → Named txns.count r
-    → ReadNamed txns.count (r >>= λ c. told_of txns c.1 >>= λ t. sent_of t.1 >>= ended c.0 t.0)
-named_whole txns (Ok c) e = named_told txns.count c.0 (told_of txns c.1) e
+    → ReadNamed txns.count (r >>= λ c. told_of txns c.0 c.1 >>= λ t. sent_of t.1 >>= ended c.0 t.0)
+named_whole txns (Ok c) e = named_told txns.count c.0 (told_of txns c.0 c.1) e
 named_whole txns (Err s) e = tt
 
 -- so does one whose fault has a place

@@ -1,11 +1,12 @@
 -- Worked lines: what some words spell, and what agrees with it, computed.
 use Rattle.std.proofs.Common.{◌≡◌, ℕ, ◌++◌, List, [], ◌∷◌, None, Some, Ok, Err, codes, refl}
 use Rattle.zy_isa.specs.declared.node.Node.TheVariants.{A, B}
-use Rattle.zy_isa.specs.declared.choice.Choice.TheVariants.{Take, Push, Run, Begin}
+use Rattle.zy_isa.specs.declared.choice.Choice.TheVariants.{Take, Push, Run, Begin, Kill}
 use Rattle.zy_links.specs.declared.kind.Kind.TheVariants as message
 use Rattle.zy_table.specs.declared.outcome.Outcome.TheVariants as outcome
 use Rattle.zy_text.specs.Words.{words_of}
 use Rattle.zy_logs.specs.declared.expected.Expected.TheVariants as expected
+use Rattle.zy_logs.specs.declared.told.Reason.TheVariants as reason
 use Rattle.zy_logs.specs.declared.told.Told.TheVariants as told
 use Rattle.zy_logs.specs.declared.txns.Txns.{Txns}
 use Rattle.zy_logs.specs.Agrees.{Tells}
@@ -48,6 +49,11 @@ module _ (txns : Txns) where
   unfolding open_all
   no_outcome = refl
 
+  -- `take` never gives `started`, whatever comes behind that
+  no_step : line_of txns (words_of (codes "A take -> started page 3")) ≡ Err (record { word = 3; expected = expected.OutcomeOf (Take A) })
+  unfolding open_all
+  no_step = refl
+
   -- `take` has no number behind it
   no_number : line_of txns (words_of (codes "A take 3")) ≡ Err (record { word = 2; expected = expected.AfterChoice })
   unfolding open_all
@@ -69,6 +75,17 @@ module _ (txns : Txns) where
       ≡ Ok (record { choice = Run A 0; told = Some (told.Committed None); sent = None })
   unfolding open_all
   commits one known = rw (known, one) refl
+
+  -- `killed` is the client's abort alone
+  kills : txns.count ≡ 1 → line_of txns (words_of (codes "C kill 0 -> aborted killed"))
+      ≡ Ok (record { choice = Kill 0; told = Some (told.Aborted (Some reason.Killed)); sent = None })
+  unfolding open_all
+  kills one = rw one refl
+
+  runs_no_kill : txns.count ≡ 1 → line_of txns (words_of (codes "A run 0 -> aborted killed"))
+      ≡ Err (record { word = 4; expected = expected.OutcomeOf (Run A 0) })
+  unfolding open_all
+  runs_no_kill one = rw one refl
 
   -- there is no transaction of this number
   no_txn : txns.count ≡ 1 → line_of txns (words_of (codes "A run 1")) ≡ Err (record { word = 2; expected = expected.KnownTxn })

@@ -1,6 +1,6 @@
 -- The kind of fault that a word is, by what may stand in its place.
 use Rattle.zy_logs.specs.declared.expected.Expected.{Expected}
-use Rattle.zy_logs.specs.declared.expected.Expected.TheVariants.{Number, AtMost, KnownTxn, FewerLines}
+use Rattle.zy_logs.specs.declared.expected.Expected.TheVariants.{Number, AtMost, KnownTxn, OutcomeOf, FewerLines}
 use Rattle.zy_logs.specs.declared.expected.FaultKind.{FaultKind}
 use Rattle.zy_logs.specs.declared.expected.FaultKind.TheVariants as kind
 
@@ -8,5 +8,6 @@ abbrev pub kind_of : Expected → FaultKind
 kind_of Number = kind.Number
 kind_of (AtMost most) = kind.Range
 kind_of KnownTxn = kind.Label
+kind_of (OutcomeOf choice) = kind.Outcome
 kind_of FewerLines = kind.Count
 kind_of _ = kind.Word

@@ -14,6 +14,7 @@ use Rattle.zy_logs.specs.declared.told.Told.TheVariants as told
 use Rattle.zy_logs.specs.declared.txns.Txns.{Txns}
 use Rattle.zy_logs.specs.Words.{Word, Read, first, after, are_none, begin_with, end_outcome, refused, gives, made}
 use Rattle.zy_logs.specs.Parts.{or_none, page, place, txn, node_at, reason}
+use Rattle.zy_logs.specs.Possible.{can_give}
 use Rattle.zy_logs.specs.Vocabulary as word
 
 -- ---- CHOICE
@@ -82,14 +83,20 @@ outcome_of txns ws =
 
 -- ---- the line
 
--- `?` or OUTCOME, after `->`
-abbrev pub logged : Txns → List Word → Read (Option Told)
-logged txns ws = if begin_with (codes "?") ws then Ok (None, after ws) else made Some (outcome_of txns ws)
+-- OUTCOME, where a step of the choice can give it
+abbrev pub possible : Txns → Choice → List Word → Read Told
+possible txns c ws = do
+  t ← outcome_of txns ws
+  if can_give c t.0 then Ok t else refused (expected.OutcomeOf c) ws
 
--- [ -> OUTCOME ]
-abbrev pub told_of : Txns → List Word → Read (Option Told)
-told_of txns ws =
-    if begin_with (codes "->") ws then logged txns (after ws) else
+-- `?` or OUTCOME, after the choice and `->`
+abbrev pub logged : Txns → Choice → List Word → Read (Option Told)
+logged txns c ws = if begin_with (codes "?") ws then Ok (None, after ws) else made Some (possible txns c ws)
+
+-- [ -> OUTCOME ], after the choice
+abbrev pub told_of : Txns → Choice → List Word → Read (Option Told)
+told_of txns c ws =
+    if begin_with (codes "->") ws then logged txns c (after ws) else
     if end_outcome ws then Ok (None, ws) else
     refused expected.AfterChoice ws
 
@@ -108,7 +115,7 @@ sent_of ws =
 abbrev pub whole : Txns → List Word → Read LogLine
 whole txns ws = do
   c ← choice_of txns ws
-  t ← told_of txns c.1
+  t ← told_of txns c.0 c.1
   k ← sent_of t.1
   if are_none k.1 then Ok (record { choice = c.0; told = t.0; sent = k.0 }, k.1) else refused expected.End k.1
 

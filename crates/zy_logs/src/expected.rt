@@ -3,6 +3,7 @@ ghost use Rattle.std.specs.Prelude.{◌≡◌};
 ghost use Rattle.zy_logs.specs.Kinds.{kind_of};
 
 use std::fmt;
+use zy_isa::Choice;
 
 /// The kind of fault that a line has. Each is named as the fault of a scenario text.
 #[derive(Clone, Copy, Debug, PartialEq, Eq)]
@@ -15,6 +16,8 @@ pub enum FaultKind {
     Range,
     /// The scenario does not have the transaction.
     Label,
+    /// No step of the choice gives the outcome, whatever the state.
+    Outcome,
     /// There are too many choices.
     Count,
 }
@@ -32,6 +35,8 @@ pub enum Expected {
     /// What may follow a choice.
     AfterChoice,
     Outcome,
+    /// An outcome that a step of this choice can have.
+    OutcomeOf(Choice),
     /// The kind of a message that was taken.
     Got,
     Node,
@@ -59,6 +64,7 @@ impl Expected {
             Expected::Number => FaultKind::Number,
             Expected::AtMost(_) => FaultKind::Range,
             Expected::KnownTxn => FaultKind::Label,
+            Expected::OutcomeOf(_) => FaultKind::Outcome,
             Expected::FewerLines => FaultKind::Count,
             Expected::Actor => FaultKind::Word,
             Expected::ClientAction => FaultKind::Word,
@@ -76,6 +82,22 @@ impl Expected {
     }
 }
 
+/// The outcomes of a choice, as a person reads them.
+fn outcomes_of(choice: Choice) -> &'static str {
+    match choice {
+        Choice::Start => "start gives started or badmode",
+        Choice::Begin(_) => "begin gives began or idle",
+        Choice::Kill(_) => "kill gives aborted killed or idle",
+        Choice::Run(_, _) => concat!(
+            "run gives idle, elsewhere, notyet, did, split, committed, waits, pulls, awaits ",
+            "or aborted, for another reason than killed"
+        ),
+        Choice::Take(_) => "take gives nomessage, got, stale, held or stray",
+        Choice::Finish(_) => "finish gives finishing, active or badmode",
+        Choice::Push(_) => "push gives pushed, nopush or badmode",
+    }
+}
+
 /// What a person reads of it.
 impl fmt::Display for Expected {
     fn fmt<W: fmt::Write>(&self, f: &mut fmt::Formatter<W>) -> fmt::Result {
@@ -89,6 +111,9 @@ impl fmt::Display for Expected {
                 "after a choice comes -> OUTCOME, ! KIND or the end of the line",
             Expected::Outcome => {
                 "after -> comes ? or an outcome of the listing, of which node, reason and numbers may be left out"
+            }
+            Expected::OutcomeOf(choice) => {
+                return write!(f, "no state gives this outcome: {}", outcomes_of(*choice));
             }
             Expected::Got => "after got comes wire, ready, dual, pull, page, finish or done",
             Expected::Node => "after began comes A or B",

@@ -1,9 +1,15 @@
 //! What holds of all logs that are read: each function is a law, and its contract is all of it.
-ghost use Rattle.std.specs.Prelude.{◌≡◌, ◌≤◌, ℕ, List, length, Ok};
-ghost use Rattle.zy_isa.specs.Scenario.{AreNamed};
+ghost use Rattle.std.specs.Prelude.{◌≡◌, ◌≤◌, ℕ, List, length, Ok, true};
+ghost use Rattle.zy_isa.specs.declared.choice.Choice.{Choice as AChoice};
+ghost use Rattle.zy_isa.specs.Scenario.{AreNamed, Scenario as AScenario};
+ghost use Rattle.zy_table.specs.Play.{step};
+ghost use Rattle.zy_table.specs.State.{State};
 ghost use Rattle.zy_logs.specs.declared.logs.NumberedLine.{NumberedLine as ALine};
+ghost use Rattle.zy_logs.specs.declared.told.Told.{Told as WhatIsTold};
 ghost use Rattle.zy_logs.specs.declared.txns.Txns.{Txns as SomeTxns};
+ghost use Rattle.zy_logs.specs.Agrees.{Tells};
 ghost use Rattle.zy_logs.specs.Logs.{choices_of, logs_of};
+ghost use Rattle.zy_logs.specs.Possible.{can_give};
 
 /// The lines that a text spells name transactions that there are, and are no more than there may be.
 pub fn logs_fit()
@@ -11,4 +17,11 @@ pub fn logs_fit()
         → logs_of txns most first text ≡ Ok lines → AreNamed txns.count (choices_of lines) }
     ensures few { (txns : SomeTxns) → (most first : ℕ) → (text : List ℕ) → (lines : List ALine)
         → logs_of txns most first text ≡ Ok lines → length lines ≤ most }
+{}
+
+/// Whatever is told of the outcome of a step, its choice can give. So no line is refused for an outcome that a step of its
+/// choice has in some scenario and state.
+pub fn steps_are_possible()
+    ensures { (sc : AScenario) → (c : AChoice) → (s : State) → (told : WhatIsTold) → Tells told (step sc c s).outcome
+        → can_give c told ≡ true }
 {}

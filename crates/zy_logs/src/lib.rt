@@ -6,6 +6,7 @@ pub mod faults;
 pub mod laws;
 pub mod log_line;
 pub mod logs;
+mod possible;
 pub mod reading;
 mod text;
 pub mod told;

@@ -14,33 +14,48 @@ mod words;
 
 use crate::expected::{Expected, Misread};
 use crate::log_line::LogLine;
+use crate::possible::can_give;
 use crate::reading::choices::choice;
 use crate::reading::cursor::{Cursor, Parsed};
 use crate::reading::outcomes::outcome;
 use crate::reading::words::kind;
 use crate::told::Told;
 use crate::txns::Txns;
+use zy_isa::Choice;
 use zy_links::Kind;
 
-/// What was logged of the outcome, after `->`: nothing, or an outcome.
-fn logged<'a>(txns: Txns<'a>, at: Cursor<'a>) -> Parsed<'a, Option<Told>>
+/// The outcome that begins with the word at hand. That word is refused where no step of the choice gives the outcome.
+fn possible<'a>(txns: Txns<'a>, choice: Choice, at: Cursor<'a>) -> Parsed<'a, Told>
     requires { txns.count ≤ max_txns }
-    ensures { read result ≡ spec.logged txns.entry (left at.entry) }
+    ensures { read result ≡ spec.possible txns.entry choice (left at.entry) }
+{
+    let (told, next) = outcome(txns, at)?;
+    if can_give(choice, told) {
+        Ok((told, next))
+    } else {
+        Err(at.refuses(Expected::OutcomeOf(choice)))
+    }
+}
+
+/// What was logged of the outcome of a choice, after `->`: nothing, or an outcome.
+fn logged<'a>(txns: Txns<'a>, choice: Choice, at: Cursor<'a>) -> Parsed<'a, Option<Told>>
+    requires { txns.count ≤ max_txns }
+    ensures { read result ≡ spec.logged txns.entry choice (left at.entry) }
 {
     if at.is_at(b"?") {
         return Ok((None, at.next()));
     }
-    let (told, at) = outcome(txns, at)?;
+    let (told, at) = possible(txns, choice, at)?;
     Ok((Some(told), at))
 }
 
 /// What was logged of the outcome, after the choice.
-fn told<'a>(txns: Txns<'a>, at: Cursor<'a>) -> Parsed<'a, Option<Told>>
+fn told<'a>(txns: Txns<'a>, choice: Choice, at: Cursor<'a>) -> Parsed<'a, Option<Told>>
     requires { txns.count ≤ max_txns }
-    ensures { read result ≡ spec.told_of txns.entry (left at.entry) }
+    ensures { read result ≡ spec.told_of txns.entry choice (left at.entry) }
 {
     if at.is_at(b"->") {
-        logged(txns, at.next())
+        logged(txns, choice, at.next())
     } else if at.ends_outcome() {
         Ok((None, at))
     } else {
@@ -75,7 +90,7 @@ fn whole<'a>(txns: Txns<'a>, at: Cursor<'a>) -> Parsed<'a, LogLine>
     ensures { read result ≡ spec.whole txns.entry (left at.entry) }
 {
     let (choice, at) = choice(txns, at)?;
-    let (told, at) = told(txns, at)?;
+    let (told, at) = told(txns, choice, at)?;
     let (sent, at) = sent(at)?;
     if !at.is_end() {
         return Err(at.refuses(Expected::End));

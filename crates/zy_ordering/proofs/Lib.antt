@@ -3,3 +3,4 @@ mod TakenLemmas
 mod BelowLemmas
 mod AnswerLemmas
 mod RunLemmas
+mod BehindLemmas

@@ -2,3 +2,4 @@ pub mod Names
 pub mod Faults
 pub mod Ordering
 pub mod Runs
+pub mod Behind

@@ -7,7 +7,8 @@ use Rattle.zy_table.specs.Play.{opening, entries}
 use Rattle.zy_laws.specs.Orders.{reordered}
 use Rattle.zy_logs.specs.declared.log_line.LogLine.{LogLine}
 use Rattle.zy_logs.specs.Agrees.{Agrees}
-use Rattle.zy_order.specs.Orders.{IsMerge}
+use Rattle.zy_isa.specs.declared.node.Actor.{Actor}
+use Rattle.zy_order.specs.Orders.{IsMerge, IsPrefix, lines_of}
 
 -- the scenario with choices behind its own
 abbrev pub extended : Scenario → List Choice → Scenario
@@ -29,6 +30,14 @@ AgreeEach (line ∷ lines) (e ∷ es) = (e.choice ≡ line.choice) × Agrees lin
 pub record RunsOrder (sc : Scenario) (lines : List LogLine) (cs : List Choice) : Type 0 where
   pub order : List LogLine
   pub merge : IsMerge order lines
+  pub steps : List Entry
+  pub behind : steps_of (extended sc cs) ≡ steps_of sc ++ steps
+  pub agree : AgreeEach order steps
+
+-- the same of an order of prefixes of the logs
+pub record RunsPrefix (sc : Scenario) (lines : List LogLine) (cs : List Choice) : Type 0 where
+  pub order : List LogLine
+  pub prefixes : (x : Actor) → IsPrefix (lines_of x order) (lines_of x lines)
   pub steps : List Entry
   pub behind : steps_of (extended sc cs) ≡ steps_of sc ++ steps
   pub agree : AgreeEach order steps

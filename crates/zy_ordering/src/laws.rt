@@ -4,8 +4,8 @@ ghost use Rattle.zy_isa.specs.declared.choice.Choice.{Choice as AChoice};
 ghost use Rattle.zy_isa.specs.Scenario.{IsScenario, Scenario as AScenario};
 ghost use Rattle.zy_engine.specs.Searching.{history_of};
 ghost use Rattle.zy_logs.specs.declared.log_line.LogLine.{LogLine as ALine};
-ghost use Rattle.zy_order.specs.Answers.{IsInput, MatchesAll};
-ghost use Rattle.zy_ordering.specs.Runs.{extended, RunsOrder};
+ghost use Rattle.zy_order.specs.Answers.{IsInput, MatchesAll, MatchesPrefixes};
+ghost use Rattle.zy_ordering.specs.Runs.{extended, RunsOrder, RunsPrefix};
 
 /// The scenario with the choices of an order behind its own is a scenario. Its run makes the same steps, and behind them one
 /// for each line of the order, which is what the line tells.
@@ -14,4 +14,12 @@ pub fn found_runs()
         → IsInput (history_of None sc) lines → MatchesAll (history_of None sc) lines cs → IsScenario (extended sc cs) }
     ensures runs { (sc : AScenario) (lines : List ALine) (cs : List AChoice)
         → MatchesAll (history_of None sc) lines cs → RunsOrder sc lines cs }
+{}
+
+/// The same of the choices of an order of prefixes of the logs, as a furthest one is.
+pub fn furthest_runs()
+    ensures tested { (sc : AScenario) (lines : List ALine) (cs : List AChoice) → IsScenario sc
+        → IsInput (history_of None sc) lines → MatchesPrefixes (history_of None sc) lines cs → IsScenario (extended sc cs) }
+    ensures runs { (sc : AScenario) (lines : List ALine) (cs : List AChoice)
+        → MatchesPrefixes (history_of None sc) lines cs → RunsPrefix sc lines cs }
 {}

@@ -1,6 +1,7 @@
 //! Answers whether the logs of three actors have an order that the step table allows, as a function from bytes to bytes.
 #![tactic(auto)]
 
+pub mod behind;
 pub mod faults;
 pub mod laws;
 pub mod logs_below;
