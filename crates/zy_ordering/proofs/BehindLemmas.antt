@@ -1,5 +1,5 @@
 -- What is written of a scenario with choices behind its own.
-use Rattle.std.proofs.Common.{ℕ, List, Option, Result, Ok, Err, inl, inr, refl}
+use Rattle.std.proofs.Common.{ℕ, List, Option, Ok, Err, inr, refl}
 use Rattle.zy_io.specs.declared.writing.TextFault.{TextFault}
 use Rattle.zy_io.specs.declared.writing.TextFault.TheVariants.{Write, Memory}
 use Rattle.zy_isa.specs.declared.choice.Choice.{Choice}
