@@ -1,0 +1,6 @@
+pub mod Fields
+pub mod Steps
+pub mod Objects
+pub mod Meaning
+pub mod Written
+pub mod Words

@@ -1,0 +1,171 @@
+//! Reads a line of JSON.
+ghost use Rattle.std.specs.Prelude.{◌≡◌, ◌≤◌, length};
+ghost use Rattle.std.specs.List.{list_any};
+ghost use Rattle.json.specs.Value.{members_view};
+ghost use Rattle.zy_json.specs.Fields.{ends_part};
+ghost use Rattle.zy_json.specs.Meaning.{Finds, Reads, step_found, text_found, texts_found};
+ghost use Rattle.zy_json.specs.Objects as spec;
+
+use crate::faults::JsonFault;
+use crate::field::Field;
+use crate::step::JsonStep;
+use json::{Error, Reader, Scratch, Value};
+use std::alloc::Global;
+use zy_isa::Actor;
+
+/// The first member of a name, and those behind it.
+fn find<'v, 'a>(
+    key: &str,
+    members: &'v [(&'a str, Value<'a>)],
+) -> Option<(&'v Value<'a>, &'v [(&'a str, Value<'a>)])>
+    ensures { Finds key.now (members_view members.entry.now) result }
+{
+    let mut rest = members;
+    while let [member, below @ ..] = rest {
+        if member.0 == key {
+            return Some((&member.1, below));
+        }
+        rest = below;
+    }
+    None
+}
+
+/// The text of a field, if it is there.
+fn text_of<'a>(field: Field, members: &[(&'a str, Value<'a>)]) -> Result<Option<&'a str>, JsonFault>
+    ensures { texts_found result ≡ spec.text_of field (members_view members.now) }
+{
+    let Some((value, behind)) = find(field.key(), members) else {
+        return Ok(None);
+    };
+    if find(field.key(), behind).is_some() {
+        return Err(JsonFault::Twice(field));
+    }
+    match value.as_str() {
+        Some(text) => Ok(Some(text)),
+        None => Err(JsonFault::NotString(field)),
+    }
+}
+
+/// Whether a text has a sign that ends a part in a line of a log.
+fn has_sign(text: &str) -> bool
+    ensures { result ≡ list_any ends_part text.now }
+{
+    text.as_bytes()
+        .iter()
+        .any(|byte| *byte == b'\n' || *byte == b'!' || *byte == b';' || *byte == b'>')
+}
+
+/// The text of a field that is a part of a line of a log, if it is there.
+fn part_of<'a>(field: Field, members: &[(&'a str, Value<'a>)]) -> Result<Option<&'a str>, JsonFault>
+    ensures { texts_found result ≡ spec.part_of field (members_view members.now) }
+{
+    match text_of(field, members)? {
+        Some(text) => {
+            if has_sign(text) {
+                Err(JsonFault::Sign(field))
+            } else {
+                Ok(Some(text))
+            }
+        }
+        None => Ok(None),
+    }
+}
+
+/// The actor of this name.
+fn actor_of(name: &str) -> Result<Actor, JsonFault>
+    ensures { result ≡ spec.actor_of name.now }
+{
+    match name {
+        "C" => Ok(Actor::C),
+        "A" => Ok(Actor::A),
+        "B" => Ok(Actor::B),
+        _ => Err(JsonFault::NoActor),
+    }
+}
+
+/// Who made the step.
+fn actor_in<'a>(members: &[(&'a str, Value<'a>)]) -> Result<Actor, JsonFault>
+    ensures { result ≡ spec.actor_in (members_view members.now) }
+{
+    match text_of(Field::Actor, members)? {
+        Some(name) => actor_of(name),
+        None => Err(JsonFault::Missing(Field::Actor)),
+    }
+}
+
+/// What the actor did.
+fn action_in<'a>(members: &[(&'a str, Value<'a>)]) -> Result<&'a str, JsonFault>
+    ensures { text_found result ≡ spec.action_in (members_view members.now) }
+{
+    match part_of(Field::Action, members)? {
+        Some(text) => Ok(text),
+        None => Err(JsonFault::Missing(Field::Action)),
+    }
+}
+
+/// The step that members tell.
+fn step_in<'a>(members: &[(&'a str, Value<'a>)]) -> Result<JsonStep<'a>, JsonFault>
+    ensures { step_found result ≡ spec.step_in (members_view members.now) }
+{
+    let actor = actor_in(members)?;
+    let action = action_in(members)?;
+    let came = part_of(Field::Came, members)?;
+    let sent = part_of(Field::Sent, members)?;
+    Ok(JsonStep {
+        actor,
+        action,
+        came,
+        sent,
+    })
+}
+
+/// How many bytes a reader passes before it stops at a fault, or at the end.
+fn passed(alloc: Global, text: &str) -> usize
+    ensures { result ≤ length text.now }
+{
+    let mut scratch = Scratch::new(alloc);
+    let Ok(mut reader) = Reader::new(text, &mut scratch) else {
+        return 0;
+    };
+    while reader.next().is_some() {}
+    text.len().min(reader.offset())
+}
+
+/// About where a line is no JSON.
+fn fault_place(alloc: Global, line: &[u8]) -> usize
+    ensures { result ≤ length line.now }
+{
+    match std::str::from_utf8(line) {
+        Ok(text) => passed(alloc, text),
+        Err(fault) => line.len().min(fault.valid_up_to()),
+    }
+}
+
+/// The fault of a line that no value was made of.
+fn refusal(alloc: Global, line: &[u8], error: Error) -> JsonFault {
+    match error {
+        Error::OutOfMemory => JsonFault::Memory,
+        _ => JsonFault::NotJson(fault_place(alloc, line)),
+    }
+}
+
+/// Reads a line of a log in JSON: one object with the fields `actor` and `do`, and with `came` and `sent` where they are told.
+/// Their order is free, and so is white space between the signs of JSON. A string may have escapes.
+///
+/// Other fields are passed over, whatever their value is and however often they come, since a store logs more, as a time. A field
+/// of the four that comes twice is a fault, and so is one that is `null`.
+///
+/// The texts of the step lie in the line or, where they have escapes, in `scratch`, which is used again from line to line.
+pub fn read<'a>(
+    alloc: Global,
+    scratch: &'a mut Scratch,
+    line: &'a [u8],
+) -> Result<JsonStep<'a>, JsonFault>
+    ensures { Reads line.entry.now result }
+{
+    match Value::from_slice(alloc, line, scratch) {
+        Ok(Value::Object(members)) => step_in(&members),
+        Ok(_) => Err(JsonFault::NotObject),
+        Err(error) => Err(refusal(alloc, line, error)),
+    }
+}
