@@ -1,6 +1,12 @@
 -- The line of JSON that is written for a step.
-use Rattle.std.specs.Prelude.{ℕ, List, [], ◌++◌, codes, Option, Some, None}
+use Rattle.std.specs.Prelude.{◌≡◌, ℕ, List, [], ◌∷◌, ◌++◌, codes, Option, Some, None}
 use Rattle.json.specs.Print.{quoted}
+use Rattle.json.specs.Token as token
+use Rattle.json.specs.Token.{Token}
+use Rattle.json.specs.Written as writer
+use Rattle.zy_json.specs.declared.field.Field.{Field}
+use Rattle.zy_json.specs.declared.field.Field.TheVariants as field
+use Rattle.zy_json.specs.Fields.{key_of}
 use Rattle.zy_json.specs.Steps.{Step, actor_text}
 
 -- a name, its colon and a string; nothing, where there is no text
@@ -16,3 +22,16 @@ json_text s =
     ++ (with_name (codes ",\"came\":") s.came
     ++ (with_name (codes ",\"sent\":") s.sent
     ++ codes "}")))))
+
+-- ---- for private clauses: the tokens that are written
+
+abbrev pub field_tokens : Field → List ℕ → List Token
+field_tokens f text = token.key (key_of f) ∷ token.string text ∷ []
+
+abbrev pub some_tokens : Field → Option (List ℕ) → List Token
+some_tokens f None = []
+some_tokens f (Some text) = field_tokens f text
+
+-- these tokens come behind those that were written
+abbrev pub Puts : writer.Written → writer.Written → List Token → Type 0
+Puts old new ts = (new.before ≡ old.before) × (new.tokens ≡ old.tokens ++ ts)

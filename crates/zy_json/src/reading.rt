@@ -1,8 +1,9 @@
 //! Reads a line of JSON.
 ghost use Rattle.std.specs.Prelude.{◌≡◌, ◌≤◌, length};
 ghost use Rattle.std.specs.List.{list_any};
-ghost use Rattle.json.specs.Value.{members_view};
+ghost use Rattle.json.specs.Value.{members_view, value_view};
 ghost use Rattle.zy_json.specs.Fields.{ends_part};
+ghost use Rattle.zy_json.specs.Meaning as meaning;
 ghost use Rattle.zy_json.specs.Meaning.{Finds, Reads, step_found, text_found, texts_found};
 ghost use Rattle.zy_json.specs.Objects as spec;
 
@@ -119,6 +120,16 @@ fn step_in<'a>(members: &[(&'a str, Value<'a>)]) -> Result<JsonStep<'a>, JsonFau
     })
 }
 
+/// The step that a value tells.
+fn step_told<'a>(value: &Value<'a>) -> Result<JsonStep<'a>, JsonFault>
+    ensures { step_found result ≡ meaning.step_told (value_view value.now) }
+{
+    match value {
+        Value::Object(members) => step_in(members),
+        _ => Err(JsonFault::NotObject),
+    }
+}
+
 /// How many bytes a reader passes before it stops at a fault, or at the end.
 fn passed(alloc: Global, text: &str) -> usize
     ensures { result ≤ length text.now }
@@ -141,14 +152,6 @@ fn fault_place(alloc: Global, line: &[u8]) -> usize
     }
 }
 
-/// The fault of a line that no value was made of.
-fn refusal(alloc: Global, line: &[u8], error: Error) -> JsonFault {
-    match error {
-        Error::OutOfMemory => JsonFault::Memory,
-        _ => JsonFault::NotJson(fault_place(alloc, line)),
-    }
-}
-
 /// Reads a line of a log in JSON: one object with the fields `actor` and `do`, and with `came` and `sent` where they are told.
 /// Their order is free, and so is white space between the signs of JSON. A string may have escapes.
 ///
@@ -164,8 +167,8 @@ pub fn read<'a>(
     ensures { Reads line.entry.now result }
 {
     match Value::from_slice(alloc, line, scratch) {
-        Ok(Value::Object(members)) => step_in(&members),
-        Ok(_) => Err(JsonFault::NotObject),
-        Err(error) => Err(refusal(alloc, line, error)),
+        Ok(value) => step_told(&value),
+        Err(Error::OutOfMemory) => Err(JsonFault::Memory),
+        Err(_) => Err(JsonFault::NotJson(fault_place(alloc, line))),
     }
 }

@@ -1,7 +1,8 @@
 //! Writes a step as a line of JSON.
-ghost use Rattle.std.specs.Prelude.{◌≡◌, IfOk};
+ghost use Rattle.std.specs.Prelude.{◌≡◌, IfOk, OnOk};
+ghost use Rattle.std.specs.Option.{option_copied};
 ghost use Rattle.zy_json.specs.Steps.{step_of};
-ghost use Rattle.zy_json.specs.Written.{json_text};
+ghost use Rattle.zy_json.specs.Written.{field_tokens, json_text, some_tokens, Puts};
 
 use crate::field::Field;
 use crate::step::{JsonStep, letter};
@@ -10,6 +11,7 @@ use std::alloc::{AllocError, Global};
 
 /// Writes a field.
 fn put(writer: &mut Writer, field: Field, text: &str) -> Result<(), AllocError>
+    ensures { OnOk result (Puts writer.old writer.new (field_tokens field text.now)) }
 {
     writer.key(field.key())?;
     writer.string(text)
@@ -17,6 +19,7 @@ fn put(writer: &mut Writer, field: Field, text: &str) -> Result<(), AllocError>
 
 /// Writes a field, if there is a text.
 fn put_some(writer: &mut Writer, field: Field, text: Option<&str>) -> Result<(), AllocError>
+    ensures { OnOk result (Puts writer.old writer.new (some_tokens field (option_copied text.entry))) }
 {
     match text {
         Some(text) => put(writer, field, text),

@@ -1,0 +1,4 @@
+pub mod WrittenLemmas
+pub mod ReadLemmas
+pub mod Utf8Lemmas
+pub mod AnswerLemmas
