@@ -2,3 +2,4 @@ pub mod WrittenLemmas
 pub mod ReadLemmas
 pub mod Utf8Lemmas
 pub mod AnswerLemmas
+pub mod WordLemmas
