@@ -2,4 +2,5 @@ pub mod WrittenLemmas
 pub mod ReadLemmas
 pub mod Utf8Lemmas
 pub mod AnswerLemmas
+pub mod BackLemmas
 pub mod WordLemmas

@@ -8,8 +8,7 @@ use Rattle.json.proofs.Printed.Utf8.{are_ascii, IsUtf8-are_ascii, IsUtf8-quoted}
 use Rattle.zy_isa.specs.declared.node.Actor.{Actor}
 use Rattle.zy_isa.specs.declared.node.Actor.TheVariants.{C, A, B}
 use Rattle.zy_json.specs.Steps.{Step, actor_text}
-use Rattle.zy_json.specs.Words.{IsPart, IsLine}
-use Rattle.zy_json.specs.Written.{json_text, with_name}
+use Rattle.zy_json.specs.Written.{IsInUtf8, json_text, with_name}
 
 -- seven texts, one after the other
 joined : (a b c d e f g : List ℕ) → IsUtf8 a → IsUtf8 b → IsUtf8 c → IsUtf8 d → IsUtf8 e → IsUtf8 f → IsUtf8 g
@@ -23,15 +22,15 @@ letter A = IsUtf8-are_ascii (codes "A") refl
 letter B = IsUtf8-are_ascii (codes "B") refl
 
 -- a name and a text, if there is one
-field : (name : List ℕ) (text : Option (List ℕ)) → are_ascii name ≡ true → IfSome text IsPart → IsUtf8 (with_name name text)
+field : (name : List ℕ) (text : Option (List ℕ)) → are_ascii name ≡ true → IfSome text IsUtf8 → IsUtf8 (with_name name text)
 field name None plain p = IsUtf8-nil
-field name (Some text) plain p = IsUtf8-append name _ (IsUtf8-are_ascii name plain) (IsUtf8-quoted text p.0)
+field name (Some text) plain p = IsUtf8-append name _ (IsUtf8-are_ascii name plain) (IsUtf8-quoted text p)
 
 -- a step's line is UTF-8
-pub IsUtf8-json_text : (s : Step) → IsLine s → IsUtf8 (json_text s)
+pub IsUtf8-json_text : (s : Step) → IsInUtf8 s → IsUtf8 (json_text s)
 IsUtf8-json_text s line = joined (codes "{\"actor\":") (quoted (actor_text s.actor)) (codes ",\"do\":") (quoted s.action)
     (with_name (codes ",\"came\":") s.came) (with_name (codes ",\"sent\":") s.sent) (codes "}")
     (IsUtf8-are_ascii (codes "{\"actor\":") refl) (IsUtf8-quoted (actor_text s.actor) (letter s.actor))
-    (IsUtf8-are_ascii (codes ",\"do\":") refl) (IsUtf8-quoted s.action line.action.0)
+    (IsUtf8-are_ascii (codes ",\"do\":") refl) (IsUtf8-quoted s.action line.action)
     (field (codes ",\"came\":") s.came refl line.came) (field (codes ",\"sent\":") s.sent refl line.sent)
     (IsUtf8-are_ascii (codes "}") refl)

@@ -98,7 +98,7 @@ sign_parted xs sign None alone h = ap parted (append-nil xs) ∙ sym (append-nil
 sign_parted xs sign (Some text) alone h =
     ap (λ (l : List ℕ). parted (xs ++ 32 ∷ l)) (append_assoc sign (32 ∷ []) text) ∙ parted_space xs (sign ++ 32 ∷ text)
     ∙ ap (λ (l : List (List ℕ)). parted xs ++ l) (parted_space sign text ∙ ap (λ (l : List (List ℕ)). l ++ parted text) alone
-    ∙ ap (λ (l : List (List ℕ)). sign ∷ l) (sym (words_are_parted text (part_lacks text h.1).0)))
+    ∙ ap (λ (l : List (List ℕ)). sign ∷ l) (sym (words_are_parted text (part_lacks text h).0)))
 
 -- what is behind a sign lacks what both lack
 behind_lacks : (b : ℕ) (sign : List ℕ) (o : Option (List ℕ)) → has b sign ≡ false → IfSome o (λ text. has b text ≡ false)
@@ -118,7 +118,7 @@ letter_parted B = refl
 
 parts_lack : (o : Option (List ℕ)) → IfSome o IsPart → IfSome o (λ text. has 59 text ≡ false) × IfSome o (λ text. has 10 text ≡ false)
 parts_lack None h = (tt, tt)
-parts_lack (Some text) h = part_lacks text h.1
+parts_lack (Some text) h = part_lacks text h
 
 -- a byte that neither the letter of an actor, a sign nor a text has
 log_lacks : (b : ℕ) (a : Actor) (what : List ℕ) (came sent : Option (List ℕ)) → has b (actor_text a) ≡ false → has b (32 ∷ what) ≡ false
@@ -135,19 +135,19 @@ words_of-log_text s line =
     let c = behind (codes " -> ") s.came in
     let e = behind (codes " ! ") s.sent in
     let first = letter_lacks s.actor in
-    let none_of : has 59 (log_text s) ≡ false = log_lacks 59 s.actor s.action s.came s.sent first.0 (part_lacks s.action line.action.1).0 refl refl
+    let none_of : has 59 (log_text s) ≡ false = log_lacks 59 s.actor s.action s.came s.sent first.0 (part_lacks s.action line.action).0 refl refl
         (parts_lack s.came line.came).0 (parts_lack s.sent line.sent).0 in
     words_are_parted (log_text s) none_of ∙ parted_space (actor_text s.actor) (s.action ++ (c ++ e))
     ∙ ap (λ (l : List (List ℕ)). l ++ parted (s.action ++ (c ++ e))) (letter_parted s.actor)
     ∙ ap (λ (l : List (List ℕ)). actor_text s.actor ∷ l)
         (ap parted (sym (append_assoc s.action c e)) ∙ sign_parted (s.action ++ c) (codes "!") s.sent refl line.sent
         ∙ ap (λ (l : List (List ℕ)). l ++ signed (codes "!") s.sent) (sign_parted s.action (codes "->") s.came refl line.came
-            ∙ ap (λ (l : List (List ℕ)). l ++ signed (codes "->") s.came) (sym (words_are_parted s.action (part_lacks s.action line.action.1).0)))
+            ∙ ap (λ (l : List (List ℕ)). l ++ signed (codes "->") s.came) (sym (words_are_parted s.action (part_lacks s.action line.action).0)))
         ∙ append_assoc (words_of s.action) (signed (codes "->") s.came) (signed (codes "!") s.sent))
 
 pub lines_of-log_text : (s : Step) (below : List ℕ) → IsLine s → lines_of (log_text s ++ 10 ∷ below) ≡ log_text s ∷ lines_of below
 lines_of-log_text s below line = one_line (log_text s) below (log_lacks 10 s.actor s.action s.came s.sent (letter_lacks s.actor).1
-    (part_lacks s.action line.action.1).1 refl refl (parts_lack s.came line.came).1 (parts_lack s.sent line.sent).1)
+    (part_lacks s.action line.action).1 refl refl (parts_lack s.came line.came).1 (parts_lack s.sent line.sent).1)
 
 -- a word without a sign that ends a part
 abbrev Clean : List ℕ → Type 0
@@ -169,4 +169,4 @@ split_clean (x ∷ xs) e =
     by_test clean ih false = onto_clean x (slice_split is_space xs) clean ih
 
 pub words_are_clean : (text : List ℕ) → IsPart text → All Clean (words_of text)
-words_are_clean text part = subst (All Clean) (sym (words_are_parted text (part_lacks text part.1).0)) (All-filter is_word Clean (slice_split is_space text) (split_clean text part.1))
+words_are_clean text part = subst (All Clean) (sym (words_are_parted text (part_lacks text part).0)) (All-filter is_word Clean (slice_split is_space text) (split_clean text part))

@@ -1,14 +1,13 @@
 -- The words of the line of a log that a step says.
 use Rattle.std.specs.Prelude.{◌≡◌, ℕ, List, [], ◌∷◌, ◌++◌, codes, false, Option, Some, None, IfSome}
 use Rattle.std.specs.List.{list_any}
-use Rattle.std.specs.Str.{IsUtf8}
 use Rattle.zy_text.specs.Words.{words_of}
 use Rattle.zy_json.specs.Fields.{ends_part}
 use Rattle.zy_json.specs.Steps.{Step, actor_text}
 
 -- a text that no sign ends in a line of a log
 abbrev pub IsPart : List ℕ → Type 0
-IsPart text = IsUtf8 text × (list_any ends_part text ≡ false)
+IsPart text = list_any ends_part text ≡ false
 
 -- the texts of a step are parts of a line
 pub record IsLine (s : Step) : Type 0 where
