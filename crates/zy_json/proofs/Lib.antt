@@ -4,3 +4,4 @@ pub mod Utf8Lemmas
 pub mod AnswerLemmas
 pub mod BackLemmas
 pub mod WordLemmas
+pub mod PlainLemmas

@@ -19,7 +19,7 @@ abbrev pub has : ℕ → List ℕ → Bool
 has b text = list_any (λ c. c == b) text
 
 -- neither of two tests that fail together holds
-neither : (a b : Bool) → (a || b) ≡ false → (a ≡ false) × (b ≡ false)
+pub neither : (a b : Bool) → (a || b) ≡ false → (a ≡ false) × (b ≡ false)
 neither false b e = (refl, e)
 neither true b e = absurd (cc)
 

@@ -3,4 +3,5 @@ pub mod Steps
 pub mod Objects
 pub mod Meaning
 pub mod Written
+pub mod Plain
 pub mod Words

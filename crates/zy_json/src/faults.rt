@@ -1,7 +1,6 @@
 //! Why a line was not read.
 
 use crate::field::Field;
-use std::alloc::AllocError;
 use thiserror::Error;
 
 /// Why a line is none of a log in JSON. Of several faults the first is reported, in the order of the variants up to `NotObject`,
@@ -33,15 +32,4 @@ pub enum JsonFault {
     /// There is no memory for the line.
     #[error("there is no memory for the line")]
     Memory,
-}
-
-impl From<AllocError> for JsonFault {
-    ghost use Rattle.std.specs.Prelude.{◌≡◌};
-    ghost use Rattle.zy_json.specs.declared.faults.JsonFault.TheVariants.{Memory};
-
-    ghost from_gives = { λ _ e. e ≡ Memory };
-
-    fn from(_e: AllocError) -> JsonFault {
-        JsonFault::Memory
-    }
 }

@@ -1,6 +1,6 @@
 //! The fields of a line of JSON.
-ghost use Rattle.std.specs.Prelude.{◌≡◌};
-ghost use Rattle.zy_json.specs.Fields.{key_of};
+ghost use Rattle.std.specs.Prelude.{◌≡◌, Some};
+ghost use Rattle.zy_json.specs.Fields.{key_of, shown};
 
 use std::fmt;
 
@@ -33,6 +33,8 @@ impl Field {
 
 /// Its name in quotation marks.
 impl fmt::Display for Field {
+    ghost output = { λ f. Some (shown f) };
+
     fn fmt<W: fmt::Write>(&self, f: &mut fmt::Formatter<W>) -> fmt::Result {
         let key = self.key();
         write!(f, "\"{key}\"")

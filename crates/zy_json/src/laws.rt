@@ -6,6 +6,7 @@ ghost use Rattle.zy_json.specs.declared.faults.JsonFault.{JsonFault};
 ghost use Rattle.zy_json.specs.declared.step.JsonStep.{JsonStep as ARead};
 ghost use Rattle.zy_json.specs.Fields.{ends_part};
 ghost use Rattle.zy_json.specs.Meaning.{Reads, Tells};
+ghost use Rattle.zy_json.specs.Plain.{IsPlain, plain_text};
 ghost use Rattle.zy_json.specs.Steps.{Step as AStep, log_text};
 ghost use Rattle.zy_json.specs.Words.{IsLine, IsPart, line_words};
 ghost use Rattle.zy_json.specs.Written.{IsInUtf8, IsReadAs, json_text};
@@ -15,6 +16,11 @@ ghost use Rattle.zy_json.specs.Written.{IsInUtf8, IsReadAs, json_text};
 pub fn written_is_read()
     ensures tells { (s : AStep) → IsInUtf8 s → IsLine s → Tells (json_text s) (Ok s) }
     ensures back { (s : AStep) (r : Result ARead JsonFault) → IsInUtf8 s → IsLine s → Reads (json_text s) r → IsReadAs s r }
+{}
+
+/// Where JSON escapes no sign of a step's texts, the line of a `PlainStep` is the line that is written for the step.
+pub fn plain_is_written()
+    ensures { (s : AStep) → IsPlain s → plain_text s ≡ json_text s }
 {}
 
 /// The texts of a step that a line tells are parts of a line of a log.

@@ -5,12 +5,16 @@
 pub mod faults;
 pub mod field;
 pub mod laws;
+pub mod plain;
 pub mod reading;
 pub mod step;
+#[cfg(test)]
+mod tests;
 pub mod writing;
 
 pub use crate::faults::JsonFault;
 pub use crate::field::Field;
+pub use crate::plain::PlainStep;
 pub use crate::reading::read;
 pub use crate::step::{JsonStep, LogText};
 pub use crate::writing::write;

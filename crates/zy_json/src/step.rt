@@ -34,14 +34,14 @@ pub(crate) fn letter(actor: Actor) -> &'static str
     }
 }
 
-/// A text behind a sign; nothing, where there is no text.
+/// A text behind others; nothing, where there is no text.
 #[derive(Clone, Copy)]
-struct Behind<'a>(&'a str, Option<&'a str>);
+pub(crate) struct Behind<'a, T>(pub(crate) &'a str, pub(crate) Option<T>);
 
-impl Line for Behind<'_> {
-    ghost use Rattle.std.specs.Option.{option_copied};
+impl<T: Line + Copy> Line for Behind<'_, T> {
+    ghost use Rattle.std.specs.Prelude.{option_map};
 
-    ghost text = { λ b. behind b.0.now (option_copied b.1) };
+    ghost text = { λ b. behind b.0.now (option_map T.text b.1) };
 
     fn append(&self, line: &mut LineBuffer) -> Result<(), AllocError> {
         match self.1 {
