@@ -1,11 +1,10 @@
 -- What was found in the members of an object is an answer of the reader.
-use Rattle.std.proofs.Common.{◌≡◌, ℕ, List, [], ◌∷◌, Bool, true, false, Option, Some, None, Result, Ok, Err, refl, sym, ap, subst, if◌then◌else◌}
+use Rattle.std.proofs.Common.{◌≡◌, ℕ, List, [], ◌∷◌, Bool, true, false, Option, Some, None, Result, Ok, Err, sym, subst, if◌then◌else◌}
 use Rattle.std.specs.List.{list_any}
 use Rattle.std.specs.Str.{bytes_eq}
 use Rattle.std.specs.Prelude.{codes}
 use Rattle.json.specs.Json.{Json, null, boolean, number, string, array, object, Members}
 use Rattle.json.specs.Find.{as_str}
-use Rattle.zy_isa.specs.declared.node.Actor.{Actor}
 use Rattle.zy_isa.specs.declared.node.Actor.TheVariants.{C, A, B}
 use Rattle.zy_isa.specs.Results.{◌>>=◌}
 use Rattle.zy_json.specs.declared.faults.JsonFault.{JsonFault}
@@ -16,7 +15,6 @@ use Rattle.zy_json.specs.declared.step.JsonStep.{JsonStep}
 use Rattle.zy_json.specs.Fields.{key_of, ends_part}
 use Rattle.zy_json.specs.Meaning.{IsJson, Reads, step_found, step_told}
 use Rattle.zy_json.specs.Objects.{values_of, if_string, only, text_of, if_part, part_of, present, actor_of, actor_in, action_in, step_in}
-use Rattle.zy_json.specs.Steps.{Step}
 
 -- a fault that members can have
 abbrev IsTold : JsonFault → Type 0
@@ -67,8 +65,10 @@ found_told : (f : Field) (ms : Members) → HasTold (part_of f ms)
 found_told f ms = both (text_of f ms) (if_part f) (only_told f (values_of (key_of f) ms)) (part_told f)
 
 actor_told : (ms : Members) → HasTold (actor_in ms)
-actor_told ms = both (text_of field.Actor ms >>= present field.Actor) actor_of
-    (both (text_of field.Actor ms) (present field.Actor) (only_told field.Actor (values_of (key_of field.Actor) ms)) (present_told field.Actor)) named_told
+actor_told ms =
+    let one = only_told field.Actor (values_of (key_of field.Actor) ms) in
+    both (text_of field.Actor ms >>= present field.Actor) actor_of
+    (both (text_of field.Actor ms) (present field.Actor) one (present_told field.Actor)) named_told
 
 action_told : (ms : Members) → HasTold (action_in ms)
 action_told ms = both (part_of field.Action ms) (present field.Action) (found_told field.Action ms) (present_told field.Action)

@@ -1,10 +1,10 @@
 -- What is written for a step is read back as the step.
-use Rattle.std.proofs.Common.{◌≡◌, ℕ, List, Some, Result, Ok, Err, refl, sym, ap, ◌∙◌}
-use Rattle.json.specs.Json.{Json, null, boolean, number, string, array, object, document}
+use Rattle.std.proofs.Common.{◌≡◌, ℕ, List, Result, Ok, Err, sym, ap, ◌∙◌}
+use Rattle.json.specs.Json.{Json, null, boolean, number, string, array, object}
 use Rattle.zy_json.specs.declared.faults.JsonFault.{JsonFault}
 use Rattle.zy_json.specs.declared.faults.JsonFault.TheVariants.{NotJson, NotObject, Missing, Twice, NotString, NoActor, Sign, Memory}
 use Rattle.zy_json.specs.declared.step.JsonStep.{JsonStep}
-use Rattle.zy_json.specs.Meaning.{IsJson, Reads, Tells, step_told}
+use Rattle.zy_json.specs.Meaning.{Reads, Tells, step_told}
 use Rattle.zy_json.specs.Steps.{Step, step_of}
 use Rattle.zy_json.specs.Words.{IsLine}
 use Rattle.zy_json.specs.Written.{IsInUtf8, IsReadAs, json_text}

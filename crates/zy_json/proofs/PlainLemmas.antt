@@ -1,5 +1,5 @@
 -- Where no sign is escaped, the texts of a step stand in its line as they are.
-use Rattle.std.proofs.Common.{◌≡◌, ℕ, ◌<◌, ◌≤◌, nat_lt, Bool, true, false, ◌||◌, ◌==◌, List, [], ◌∷◌, ◌++◌, codes, Option, Some, None, refl, sym, ap, ap₂, ◌∙◌, arith, append_assoc}
+use Rattle.std.proofs.Common.{◌≡◌, ℕ, nat_lt, false, ◌||◌, ◌==◌, List, [], ◌∷◌, ◌++◌, codes, Option, Some, None, refl, sym, ap, ap₂, ◌∙◌, arith, append_assoc}
 use Rattle.std.proofs.lemmas.Bool.Decides.{nat_tests}
 use Rattle.std.specs.Prelude.{IfSome}
 use Rattle.std.specs.List.{list_any}
@@ -35,22 +35,38 @@ quoted_plain text behind e =
 field_plain : (name : List ℕ) (text : Option (List ℕ)) (rest : List ℕ) → IfSome text IsPlainText
     → 34 ∷ (with_name name text ++ rest) ≡ behind (34 ∷ (name ++ 34 ∷ [])) text ++ 34 ∷ rest
 field_plain name None rest e = refl
-field_plain name (Some text) rest e = ap (λ (l : List ℕ). 34 ∷ l) (append_assoc name (quoted text) rest ∙ ap (λ (l : List ℕ). name ++ l) (quoted_plain text rest e)
-    ∙ sym (append_assoc name (34 ∷ []) (text ++ 34 ∷ rest)) ∙ sym (append_assoc (name ++ 34 ∷ []) text (34 ∷ rest)))
+field_plain name (Some text) rest e =
+    let parted = append_assoc name (quoted text) rest in
+    let bare = quoted_plain text rest e in
+    ap (λ (l : List ℕ). 34 ∷ l) (parted ∙ ap (λ (l : List ℕ). name ++ l) bare ∙ sym (append_assoc name (34 ∷ []) (text ++ 34 ∷ rest))
+    ∙ sym (append_assoc (name ++ 34 ∷ []) text (34 ∷ rest)))
 
 letter_plain : (a : Actor) → IsPlainText (actor_text a)
 letter_plain C = refl
 letter_plain A = refl
 letter_plain B = refl
 
+-- what stands behind the action in a step's line, and in the line of its texts as they are
+abbrev escaped_end : Option (List ℕ) → Option (List ℕ) → List ℕ
+escaped_end came sent = with_name (codes ",\"came\":") came ++ (with_name (codes ",\"sent\":") sent ++ codes "}")
+
+abbrev plain_end : Option (List ℕ) → Option (List ℕ) → List ℕ
+plain_end came sent = behind (codes "\",\"came\":\"") came ++ (behind (codes "\",\"sent\":\"") sent ++ codes "\"}")
+
+-- they are the same, but for the end of the action's string
+ends_plain : (came sent : Option (List ℕ)) → IfSome came IsPlainText → IfSome sent IsPlainText
+    → 34 ∷ escaped_end came sent ≡ plain_end came sent
+ends_plain came sent p q =
+    field_plain (codes ",\"came\":") came (with_name (codes ",\"sent\":") sent ++ codes "}") p
+    ∙ ap (λ (l : List ℕ). behind (codes "\",\"came\":\"") came ++ l) (field_plain (codes ",\"sent\":") sent (codes "}") q)
+
+-- the two lines are the same
 pub plain_text-json_text : (s : Step) → IsPlain s → plain_text s ≡ json_text s
 plain_text-json_text s plain =
-    let end : 34 ∷ (with_name (codes ",\"came\":") s.came ++ (with_name (codes ",\"sent\":") s.sent ++ codes "}"))
-        ≡ behind (codes "\",\"came\":\"") s.came ++ (behind (codes "\",\"sent\":\"") s.sent ++ codes "\"}") =
-        field_plain (codes ",\"came\":") s.came (with_name (codes ",\"sent\":") s.sent ++ codes "}") plain.came
-        ∙ ap (λ (l : List ℕ). behind (codes "\",\"came\":\"") s.came ++ l) (field_plain (codes ",\"sent\":") s.sent (codes "}") plain.sent) in
-    let rest = with_name (codes ",\"came\":") s.came ++ (with_name (codes ",\"sent\":") s.sent ++ codes "}") in
-    let did : quoted s.action ++ rest ≡ 34 ∷ (s.action ++ (behind (codes "\",\"came\":\"") s.came ++ (behind (codes "\",\"sent\":\"") s.sent ++ codes "\"}"))) =
-        quoted_plain s.action rest plain.action ∙ ap (λ (l : List ℕ). 34 ∷ (s.action ++ l)) end in
-    sym (ap (λ (l : List ℕ). codes "{\"actor\":" ++ l) (quoted_plain (actor_text s.actor) (codes ",\"do\":" ++ (quoted s.action ++ rest)) (letter_plain s.actor)
-        ∙ ap (λ (l : List ℕ). 34 ∷ (actor_text s.actor ++ (34 ∷ (codes ",\"do\":" ++ l)))) did))
+    let rest = escaped_end s.came s.sent in
+    let did : quoted s.action ++ rest ≡ 34 ∷ (s.action ++ plain_end s.came s.sent) =
+    quoted_plain s.action rest plain.action
+    ∙ ap (λ (l : List ℕ). 34 ∷ (s.action ++ l)) (ends_plain s.came s.sent plain.came plain.sent) in
+    let who = quoted_plain (actor_text s.actor) (codes ",\"do\":" ++ (quoted s.action ++ rest)) (letter_plain s.actor) in
+    sym (ap (λ (l : List ℕ). codes "{\"actor\":" ++ l)
+    (who ∙ ap (λ (l : List ℕ). 34 ∷ (actor_text s.actor ++ (34 ∷ (codes ",\"do\":" ++ l)))) did))

@@ -64,7 +64,9 @@ action_found a what (Some came) (Some sent) p = rw p refl
 
 -- the object of a step tells the step
 pub step_in-members_of : (s : Step) → IsLine s → step_in (members_of s) ≡ Ok s
-step_in-members_of s p = made (actor_in (members_of s)) (action_in (members_of s)) (part_of field.Came (members_of s)) (part_of field.Sent (members_of s)) s
+step_in-members_of s p =
+    let ms = members_of s in
+    made (actor_in ms) (action_in ms) (part_of field.Came ms) (part_of field.Sent ms) s
     (actor_found s.actor s.action s.came s.sent) (action_found s.actor s.action s.came s.sent p.action)
     (came_found s.actor s.action s.came s.sent p.came) (sent_found s.actor s.action s.came s.sent p.sent)
 

@@ -1,6 +1,6 @@
 -- The words of the line of a log that a step says.
-use Rattle.std.proofs.Common.{◌≡◌, ℕ, suc, ◌<◌, ◌+◌, Bool, true, false, not, ◌||◌, ◌==◌, List, [], ◌∷◌, ◌++◌, length, take, codes, Option, Some, None, refl, sym, ap, ap₂, ◌∙◌, subst, arith, append_assoc, append-nil, add-one}
-use Rattle.std.specs.Prelude.{IfSome, filter, All, take_while, if◌then◌else◌}
+use Rattle.std.proofs.Common.{◌≡◌, ℕ, suc, ◌<◌, ◌+◌, Bool, true, false, not, ◌||◌, ◌==◌, List, [], ◌∷◌, ◌++◌, length, take, codes, Option, Some, None, refl, sym, ap, ◌∙◌, subst, arith, append_assoc, append-nil}
+use Rattle.std.specs.Prelude.{IfSome, filter, All, if◌then◌else◌}
 use Rattle.std.specs.List.{list_any, prefix_len, slice_split, onto_first}
 use Rattle.std.proofs.lemmas.List.Elements.{filter-append, All-cons, All-filter, All-head, All-nil, All-tail}
 use Rattle.std.proofs.lemmas.List.Folds.{list_any-append}
@@ -77,6 +77,7 @@ split_space (x ∷ xs) ys = by_test (split_space xs ys) (is_space x)
   where
     some : 0 < length (slice_split is_space xs)
     some = omega (arith, length-slice_split is_space xs)
+
     by_test : slice_split is_space (xs ++ 32 ∷ ys) ≡ slice_split is_space xs ++ slice_split is_space ys
         → (b : Bool) → (if b then [] ∷ slice_split is_space (xs ++ 32 ∷ ys) else onto_first x (slice_split is_space (xs ++ 32 ∷ ys)))
         ≡ (if b then [] ∷ slice_split is_space xs else onto_first x (slice_split is_space xs)) ++ slice_split is_space ys
@@ -126,7 +127,8 @@ log_lacks : (b : ℕ) (a : Actor) (what : List ℕ) (came sent : Option (List �
     → IfSome came (λ text. has b text ≡ false) → IfSome sent (λ text. has b text ≡ false)
     → has b (log_text (record { actor = a; action = what; came = came; sent = sent })) ≡ false
 log_lacks b a what came sent who did p q c s = lacks b (actor_text a) _ who (lacks b (32 ∷ what) _ did
-    (lacks b (behind (codes " -> ") came) (behind (codes " ! ") sent) (behind_lacks b (codes " -> ") came p c) (behind_lacks b (codes " ! ") sent q s)))
+    (lacks b (behind (codes " -> ") came) (behind (codes " ! ") sent)
+    (behind_lacks b (codes " -> ") came p c) (behind_lacks b (codes " ! ") sent q s)))
 
 -- ---- the three facts
 
@@ -136,14 +138,14 @@ words_of-log_text s line =
     let e = behind (codes " ! ") s.sent in
     let first = letter_lacks s.actor in
     let none_of : has 59 (log_text s) ≡ false = log_lacks 59 s.actor s.action s.came s.sent first.0 (part_lacks s.action line.action).0 refl refl
-        (parts_lack s.came line.came).0 (parts_lack s.sent line.sent).0 in
+    (parts_lack s.came line.came).0 (parts_lack s.sent line.sent).0 in
     words_are_parted (log_text s) none_of ∙ parted_space (actor_text s.actor) (s.action ++ (c ++ e))
     ∙ ap (λ (l : List (List ℕ)). l ++ parted (s.action ++ (c ++ e))) (letter_parted s.actor)
     ∙ ap (λ (l : List (List ℕ)). actor_text s.actor ∷ l)
-        (ap parted (sym (append_assoc s.action c e)) ∙ sign_parted (s.action ++ c) (codes "!") s.sent refl line.sent
-        ∙ ap (λ (l : List (List ℕ)). l ++ signed (codes "!") s.sent) (sign_parted s.action (codes "->") s.came refl line.came
-            ∙ ap (λ (l : List (List ℕ)). l ++ signed (codes "->") s.came) (sym (words_are_parted s.action (part_lacks s.action line.action).0)))
-        ∙ append_assoc (words_of s.action) (signed (codes "->") s.came) (signed (codes "!") s.sent))
+    (ap parted (sym (append_assoc s.action c e)) ∙ sign_parted (s.action ++ c) (codes "!") s.sent refl line.sent
+    ∙ ap (λ (l : List (List ℕ)). l ++ signed (codes "!") s.sent) (sign_parted s.action (codes "->") s.came refl line.came
+    ∙ ap (λ (l : List (List ℕ)). l ++ signed (codes "->") s.came) (sym (words_are_parted s.action (part_lacks s.action line.action).0)))
+    ∙ append_assoc (words_of s.action) (signed (codes "->") s.came) (signed (codes "!") s.sent))
 
 pub lines_of-log_text : (s : Step) (below : List ℕ) → IsLine s → lines_of (log_text s ++ 10 ∷ below) ≡ log_text s ∷ lines_of below
 lines_of-log_text s below line = one_line (log_text s) below (log_lacks 10 s.actor s.action s.came s.sent (letter_lacks s.actor).1
@@ -155,7 +157,9 @@ Clean word = list_any ends_part word ≡ false
 
 onto_clean : (x : ℕ) (parts : List (List ℕ)) → ends_part x ≡ false → All Clean parts → All Clean (onto_first x parts)
 onto_clean x [] e h = All-cons Clean (x ∷ []) [] (none (ends_part x) false e refl) (All-nil Clean)
-onto_clean x (part ∷ parts) e h = All-cons Clean (x ∷ part) parts (none (ends_part x) (list_any ends_part part) e (All-head Clean part parts h)) (All-tail Clean part parts h)
+onto_clean x (part ∷ parts) e h =
+    let both = none (ends_part x) (list_any ends_part part) e (All-head Clean part parts h) in
+    All-cons Clean (x ∷ part) parts both (All-tail Clean part parts h)
 
 split_clean : (text : List ℕ) → Clean text → All Clean (slice_split is_space text)
 split_clean [] e = All-cons Clean [] [] refl (All-nil Clean)
@@ -169,4 +173,6 @@ split_clean (x ∷ xs) e =
     by_test clean ih false = onto_clean x (slice_split is_space xs) clean ih
 
 pub words_are_clean : (text : List ℕ) → IsPart text → All Clean (words_of text)
-words_are_clean text part = subst (All Clean) (sym (words_are_parted text (part_lacks text part).0)) (All-filter is_word Clean (slice_split is_space text) (split_clean text part))
+words_are_clean text part =
+    let words = words_are_parted text (part_lacks text part).0 in
+    subst (All Clean) (sym words) (All-filter is_word Clean (slice_split is_space text) (split_clean text part))

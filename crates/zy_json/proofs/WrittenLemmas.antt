@@ -1,9 +1,9 @@
 -- What is written for a step is the text of an object.
-use Rattle.std.proofs.Common.{◌≡◌, ℕ, ◌≤◌, List, [], ◌∷◌, ◌++◌, codes, Option, Some, None, refl, sym, ap, ◌∙◌, arith, lit≤, append_assoc}
+use Rattle.std.proofs.Common.{◌≡◌, ℕ, ◌≤◌, List, [], ◌∷◌, ◌++◌, codes, Option, Some, None, refl, sym, ap, ◌∙◌, lit≤, append_assoc}
 use Rattle.json.specs.Token as token
 use Rattle.json.specs.Token.{Token}
 use Rattle.json.specs.Print.{print, quoted}
-use Rattle.json.specs.Json.{Json, string, object, Members, no_members, member, document}
+use Rattle.json.specs.Json.{string, object, Members, no_members, member, document}
 use Rattle.json.specs.Tree.{json_tokens, HasNumbers, depth}
 use Rattle.json.proofs.OnLiterals.{json_on_literals}
 use Rattle.json.proofs.Printed.Trees.{document-print}

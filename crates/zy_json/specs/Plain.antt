@@ -1,5 +1,5 @@
 -- The line of JSON of a step whose texts need no escapes.
-use Rattle.std.specs.Prelude.{◌≡◌, ℕ, ◌==◌, ◌||◌, nat_lt, Bool, false, List, [], ◌++◌, codes, IfSome}
+use Rattle.std.specs.Prelude.{◌≡◌, ℕ, ◌==◌, ◌||◌, nat_lt, Bool, false, List, ◌++◌, codes, IfSome}
 use Rattle.std.specs.List.{list_any}
 use Rattle.zy_json.specs.Steps.{Step, actor_text, behind}
 

@@ -8,7 +8,6 @@ use Rattle.json.specs.Written as writer
 use Rattle.zy_json.specs.declared.faults.JsonFault.{JsonFault}
 use Rattle.zy_json.specs.declared.faults.JsonFault.TheVariants.{Memory}
 use Rattle.zy_json.specs.declared.field.Field.{Field}
-use Rattle.zy_json.specs.declared.field.Field.TheVariants as field
 use Rattle.zy_json.specs.declared.step.JsonStep.{JsonStep}
 use Rattle.zy_json.specs.Fields.{key_of}
 use Rattle.zy_json.specs.Steps.{Step, actor_text, step_of}

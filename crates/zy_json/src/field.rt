@@ -11,9 +11,9 @@ pub enum Field {
     Actor,
     /// What the actor did, under `do`, as `run 0`.
     Action,
-    /// What came of it, under `came`, as `committed 1`.
+    /// What came of it, under `came`, as `committed 1`. It may be left out.
     Came,
-    /// The kind of the message that was sent, under `sent`, as `pull`.
+    /// The kind of the message that was sent, under `sent`, as `pull`. It may be left out.
     Sent,
 }
 

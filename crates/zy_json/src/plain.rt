@@ -15,15 +15,19 @@ pub struct PlainStep<D, C, S> {
     pub actor: Actor,
     /// What the actor did.
     pub action: D,
-    /// What came of it, if it is told.
+    /// What came of it; none, if the line says nothing of it.
     pub came: Option<C>,
-    /// The kind of the message that was sent, if it is told.
+    /// The kind of the message that was sent; none, if the line names none.
     pub sent: Option<S>,
 }
 
 impl<D: Line + Copy, C: Line + Copy, S: Line + Copy> Line for PlainStep<D, C, S> {
-    ghost text = { λ s. plain_text (record { actor = s.actor; action = D.text s.action; came = option_map C.text s.came;
-        sent = option_map S.text s.sent }) };
+    ghost text = { λ s. plain_text (record {
+      actor = s.actor;
+      action = D.text s.action;
+      came = option_map C.text s.came;
+      sent = option_map S.text s.sent;
+    }) };
 
     fn append(&self, line: &mut LineBuffer) -> Result<(), AllocError> {
         joined!(

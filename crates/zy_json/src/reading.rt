@@ -2,7 +2,7 @@
 ghost use Rattle.std.specs.Prelude.{◌≡◌, ◌≤◌, length};
 ghost use Rattle.std.specs.List.{list_any};
 ghost use Rattle.json.specs.Value.{members_view, value_view};
-ghost use Rattle.zy_json.specs.Fields.{ends_part};
+ghost use Rattle.zy_json.specs.Fields as fields;
 ghost use Rattle.zy_json.specs.Meaning as meaning;
 ghost use Rattle.zy_json.specs.Meaning.{Finds, Reads, step_found, text_found, texts_found};
 ghost use Rattle.zy_json.specs.Objects as spec;
@@ -47,13 +47,18 @@ fn text_of<'a>(field: Field, members: &[(&'a str, Value<'a>)]) -> Result<Option<
     }
 }
 
-/// Whether a text has a sign that ends a part in a line of a log.
-fn has_sign(text: &str) -> bool
-    ensures { result ≡ list_any ends_part text.now }
+/// Whether a sign ends a part in a line of a log.
+fn ends_part(sign: u8) -> bool
+    ensures { result ≡ fields.ends_part sign }
 {
-    text.as_bytes()
-        .iter()
-        .any(|byte| *byte == b'\n' || *byte == b'!' || *byte == b';' || *byte == b'>')
+    sign == b'\n' || sign == b'!' || sign == b';' || sign == b'>'
+}
+
+/// Whether a text has such a sign.
+fn has_sign(text: &str) -> bool
+    ensures { result ≡ list_any fields.ends_part text.now }
+{
+    text.as_bytes().iter().any(|sign| ends_part(*sign))
 }
 
 /// The text of a field that is a part of a line of a log, if it is there.
@@ -152,13 +157,14 @@ fn fault_place(alloc: Global, line: &[u8]) -> usize
     }
 }
 
-/// Reads a line of a log in JSON: one object with the fields `actor` and `do`, and with `came` and `sent` where they are told.
-/// Their order is free, and so is white space between the signs of JSON. A string may have escapes.
+/// Reads a line of a log in JSON: one object with the fields `actor` and `do`, and with `came` and `sent` or without. Their order
+/// is free, and so is white space between the signs of JSON. A string may have escapes, and so may the name of a field.
 ///
-/// Other fields are passed over, whatever their value is and however often they come, since a store logs more, as a time. A field
-/// of the four that comes twice is a fault, and so is one that is `null`.
+/// Other fields are passed over, whatever their values are and however often they come, since a store logs more, as a time. So a
+/// name that is misspelled is passed over, too. One of the four fields is rejected if it comes twice, and so is one that is `null`:
+/// where there is nothing to tell, it is left out.
 ///
-/// The texts of the step lie in the line or, where they have escapes, in `scratch`, which is used again from line to line.
+/// The texts of the step lie in the line or, where they have escapes, in `scratch`, which serves one line after the other.
 pub fn read<'a>(
     alloc: Global,
     scratch: &'a mut Scratch,

@@ -13,9 +13,9 @@ pub struct JsonStep<'a> {
     pub actor: Actor,
     /// What the actor did, as `run 0`.
     pub action: &'a str,
-    /// What came of it, if it is told, as `committed 1`.
+    /// What came of it, as `committed 1`; none, if the line says nothing of it.
     pub came: Option<&'a str>,
-    /// The kind of the message that was sent, if it is told, as `pull`.
+    /// The kind of the message that was sent, as `pull`; none, if the line names none.
     pub sent: Option<&'a str>,
 }
 

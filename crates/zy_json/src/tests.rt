@@ -13,12 +13,18 @@ use zy_isa::Actor;
 
 /// Lines, and the line of a log that each tells.
 const LINES: [(&str, &str); 6] = [
-    ("{\"actor\":\"A\",\"do\":\"run 0\",\"came\":\"did\"}", "A run 0 -> did"),
+    (
+        "{\"actor\":\"A\",\"do\":\"run 0\",\"came\":\"did\"}",
+        "A run 0 -> did",
+    ),
     (
         " {\t\"sent\" : \"pull\",\"came\":\"pulls 0\" ,\"do\":\"run 1\",\n\"actor\":\"B\"}\r\n",
         "B run 1 -> pulls 0 ! pull",
     ),
-    ("{\"\\u0061ctor\":\"\\u0043\",\"do\":\"st\\u0061rt\"}", "C start"),
+    (
+        "{\"\\u0061ctor\":\"\\u0043\",\"do\":\"st\\u0061rt\"}",
+        "C start",
+    ),
     (
         "{\"time\":[-1e400,{\"actor\":null}],\"time\":2,\"actor\":\"A\",\"do\":\"take\"}",
         "A take",
@@ -27,21 +33,36 @@ const LINES: [(&str, &str); 6] = [
         "{\"actor\":\"A\",\"do\":\"\\ud83d\\ude00\\/\\b\\t\"}",
         "A \u{1f600}/\u{8}\t",
     ),
-    ("{\"actor\":\"A\",\"do\":\"\",\"sent\":\"\u{1f600}\"}", "A  ! \u{1f600}"),
+    (
+        "{\"actor\":\"A\",\"do\":\"\",\"sent\":\"\u{1f600}\"}",
+        "A  ! \u{1f600}",
+    ),
 ];
 
 /// Lines that are not read, and why.
 const FAULTS: [(&[u8], JsonFault); 17] = [
     (b"", JsonFault::NotJson(0)),
-    (b"\xef\xbb\xbf{\"actor\":\"A\",\"do\":\"take\"}", JsonFault::NotJson(0)),
+    (
+        b"\xef\xbb\xbf{\"actor\":\"A\",\"do\":\"take\"}",
+        JsonFault::NotJson(0),
+    ),
     (b"{\"actor\":\"A\",\"do\":\"run 0\"", JsonFault::NotJson(25)),
     (b"{\"actor\":\"A\",\"do\":take}", JsonFault::NotJson(18)),
-    (b"{\"actor\":\"A\",\"do\":\"\\ud83d\"}", JsonFault::NotJson(18)),
+    (
+        b"{\"actor\":\"A\",\"do\":\"\\ud83d\"}",
+        JsonFault::NotJson(18),
+    ),
     (b"{\"actor\":\"A\",\"do\":\"\xff\"}", JsonFault::NotJson(19)),
-    (b"{\"actor\":\"A\",\"do\":\"take\"}{}", JsonFault::NotJson(25)),
+    (
+        b"{\"actor\":\"A\",\"do\":\"take\"}{}",
+        JsonFault::NotJson(25),
+    ),
     (b"[]", JsonFault::NotObject),
     (b"{}", JsonFault::Missing(Field::Actor)),
-    (b"{\"actor\":\"A\",\"Do\":\"take\"}", JsonFault::Missing(Field::Action)),
+    (
+        b"{\"actor\":\"A\",\"Do\":\"take\"}",
+        JsonFault::Missing(Field::Action),
+    ),
     (
         b"{\"actor\":\"A\",\"do\":\"take\",\"\\u0064o\":\"take\"}",
         JsonFault::Twice(Field::Action),

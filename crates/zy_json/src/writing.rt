@@ -28,7 +28,7 @@ fn put_some(writer: &mut Writer, field: Field, text: Option<&str>) -> Result<(),
 }
 
 /// A step as a line of JSON, without the line's end: one object with the fields `actor`, `do`, `came` and `sent` in this order,
-/// the last two where they are told, and without white space between the signs of JSON.
+/// without those of the last two that the step does not have, and without white space between the signs of JSON.
 pub fn write(alloc: Global, step: &JsonStep<'_>) -> Result<Vec<u8>, AllocError>
     ensures { IfOk result (λ line. line.items ≡ json_text (step_of step.now)) }
 {

@@ -1,10 +1,10 @@
-use Rattle.std.proofs.Common.{◌≡◌, [], ◌∷◌, ◌++◌, ap, ap₂, ◌∙◌, List, ℕ, append_assoc, rules}
+use Rattle.std.proofs.Common.{◌≡◌, [], ◌∷◌, ◌++◌, ap, ap₂, ◌∙◌, List, ℕ, rules}
 use Rattle.json.specs.Print.{print}
 use Rattle.json.specs.Token as token
 use Rattle.zy_json.specs.declared.field.Field.TheVariants as field
 use Rattle.std.specs.Option.{option_copied}
 use Rattle.zy_json.specs.Steps.{step_of, actor_text}
-use Rattle.zy_json.specs.Written.{field_tokens, some_tokens, json_text}
+use Rattle.zy_json.specs.Written.{field_tokens, some_tokens}
 use Rattle.zy_json.proofs.WrittenLemmas.{step_tokens, gathered, print-step_tokens}
 use Rattle.zy_json.proofs.writing.write.Goals as goal
 
