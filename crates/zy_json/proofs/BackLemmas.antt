@@ -1,5 +1,6 @@
 -- What is written for a step is read back as the step.
 use Rattle.std.proofs.Common.{◌≡◌, ℕ, List, Result, Ok, Err, sym, ap, ◌∙◌}
+use Rattle.std.specs.Str.{IsUtf8}
 use Rattle.json.specs.Json.{Json, null, boolean, number, string, array, object}
 use Rattle.zy_json.specs.declared.faults.JsonFault.{JsonFault}
 use Rattle.zy_json.specs.declared.faults.JsonFault.TheVariants.{NotJson, NotObject, Missing, Twice, NotString, NoActor, Sign, Memory}
@@ -13,8 +14,11 @@ use Rattle.zy_json.proofs.Utf8Lemmas.{IsUtf8-json_text}
 use Rattle.zy_json.proofs.WrittenLemmas.{members_of, document-json_text}
 
 -- the line is the object of the step, whose members tell the step
+pub told_by_line : (s : Step) → IsUtf8 (json_text s) → IsLine s → Tells (json_text s) (Ok s)
+told_by_line s utf8 line = (object (members_of s), (utf8, document-json_text s), step_in-members_of s line)
+
 pub Tells-json_text : (s : Step) → IsInUtf8 s → IsLine s → Tells (json_text s) (Ok s)
-Tells-json_text s utf8 line = (object (members_of s), (IsUtf8-json_text s utf8, document-json_text s), step_in-members_of s line)
+Tells-json_text s utf8 line = told_by_line s (IsUtf8-json_text s utf8) line
 
 -- a text tells one thing
 one_told : (text : List ℕ) (told other : Result Step JsonFault) → Tells text told → Tells text other → told ≡ other
