@@ -1,5 +1,5 @@
 //! Reads a line of JSON.
-ghost use Rattle.std.specs.Prelude.{◌≡◌, ◌≤◌, length};
+ghost use Rattle.std.specs.Prelude.{◌≡◌, ◌≤◌, length, IfOk};
 ghost use Rattle.std.specs.List.{list_any};
 ghost use Rattle.json.specs.Value.{members_view, value_view};
 ghost use Rattle.zy_json.specs.Fields as fields;
@@ -11,7 +11,7 @@ use crate::faults::JsonFault;
 use crate::field::Field;
 use crate::step::JsonStep;
 use json::{Error, Reader, Scratch, Value};
-use std::alloc::Global;
+use std::alloc::{AllocError, Global};
 use zy_isa::Actor;
 
 /// The first member of a name, and those behind it.
@@ -136,24 +136,22 @@ fn step_told<'a>(value: &Value<'a>) -> Result<JsonStep<'a>, JsonFault>
 }
 
 /// How many bytes a reader passes before it stops at a fault, or at the end.
-fn passed(alloc: Global, text: &str) -> usize
-    ensures { result ≤ length text.now }
+fn passed(alloc: Global, text: &str) -> Result<usize, AllocError>
+    ensures { IfOk result (λ count. count ≤ length text.now) }
 {
     let mut scratch = Scratch::new(alloc);
-    let Ok(mut reader) = Reader::new(text, &mut scratch) else {
-        return 0;
-    };
+    let mut reader = Reader::new(text, &mut scratch)?;
     while reader.next().is_some() {}
-    text.len().min(reader.offset())
+    Ok(text.len().min(reader.offset()))
 }
 
 /// About where a line is no JSON.
-fn fault_place(alloc: Global, line: &[u8]) -> usize
-    ensures { result ≤ length line.now }
+fn fault_place(alloc: Global, line: &[u8]) -> Result<usize, AllocError>
+    ensures { IfOk result (λ at. at ≤ length line.now) }
 {
     match std::str::from_utf8(line) {
         Ok(text) => passed(alloc, text),
-        Err(fault) => line.len().min(fault.valid_up_to()),
+        Err(fault) => Ok(line.len().min(fault.valid_up_to())),
     }
 }
 
@@ -175,6 +173,9 @@ pub fn read<'a>(
     match Value::from_slice(alloc, line, scratch) {
         Ok(value) => step_told(&value),
         Err(Error::OutOfMemory) => Err(JsonFault::Memory),
-        Err(_) => Err(JsonFault::NotJson(fault_place(alloc, line))),
+        Err(_) => match fault_place(alloc, line) {
+            Ok(at) => Err(JsonFault::NotJson(at)),
+            Err(_) => Err(JsonFault::Memory),
+        },
     }
 }
