@@ -1,0 +1,26 @@
+-- The line of JSON of a step whose texts need no escapes.
+use Rattle.std.specs.Prelude.{◌≡◌, ℕ, ◌==◌, ◌||◌, nat_lt, Bool, false, List, ◌++◌, codes, IfSome}
+use Rattle.std.specs.List.{list_any}
+use Rattle.zy_json.specs.Steps.{Step, actor_text, behind}
+
+-- a sign that JSON escapes: a control character, `"` or `\`
+abbrev pub is_escaped : ℕ → Bool
+is_escaped b = nat_lt b 32 || b == 34 || b == 92
+
+abbrev pub IsPlainText : List ℕ → Type 0
+IsPlainText text = list_any is_escaped text ≡ false
+
+-- the texts of a step have no sign that JSON escapes
+pub record IsPlain (s : Step) : Type 0 where
+  pub action : IsPlainText s.action
+  pub came : IfSome s.came IsPlainText
+  pub sent : IfSome s.sent IsPlainText
+
+-- {"actor":"ACTOR","do":"ACTION"[,"came":"CAME"][,"sent":"SENT"]}
+abbrev pub plain_text : Step → List ℕ
+plain_text s =
+    codes "{\"actor\":\"" ++ (actor_text s.actor
+    ++ (codes "\",\"do\":\"" ++ (s.action
+    ++ (behind (codes "\",\"came\":\"") s.came
+    ++ (behind (codes "\",\"sent\":\"") s.sent
+    ++ codes "\"}")))))

@@ -1,0 +1,35 @@
+//! Why a line was not read.
+
+use crate::field::Field;
+use thiserror::Error;
+
+/// Why a line is none of a log in JSON. Of several faults the first is reported, in the order of the variants up to `NotObject`,
+/// and then field by field: `actor`, `do`, `came`, `sent`.
+#[derive(Clone, Copy, Debug, PartialEq, Eq, Error)]
+pub enum JsonFault {
+    /// The line is no JSON text in UTF-8. The number says about where: how many bytes were passed before the reader stopped. It
+    /// is not above the length of the line, and else no contract says which it is.
+    #[error("the line is no JSON (byte {0})")]
+    NotJson(usize),
+    /// The line is JSON, and no object.
+    #[error("a line is one object, as {{\"actor\":\"A\",\"do\":\"run 0\",\"came\":\"did\"}}")]
+    NotObject,
+    /// The object has no such field, and needs one.
+    #[error("the field {0} is missing")]
+    Missing(Field),
+    /// The object has this field twice or more often.
+    #[error("the field {0} comes twice")]
+    Twice(Field),
+    /// The value of this field is no string.
+    #[error("the field {0} is no string; leave it out where there is nothing to tell")]
+    NotString(Field),
+    /// The actor is none of the three.
+    #[error("the field \"actor\" is \"C\", \"A\" or \"B\"")]
+    NoActor,
+    /// The text of this field has a sign that would end it in a line of a log: a line feed, `!`, `;` or `>`.
+    #[error("the field {0} has no line feed, no !, no ; and no >")]
+    Sign(Field),
+    /// There is no memory for the line.
+    #[error("there is no memory for the line")]
+    Memory,
+}

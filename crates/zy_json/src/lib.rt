@@ -1,0 +1,21 @@
+//! A line of a log as a line of JSON: one object with who made the step, what was done, what came of it and the message that was
+//! sent.
+#![tactic(auto)]
+
+pub mod faults;
+pub mod field;
+pub mod laws;
+pub mod plain;
+pub mod reading;
+pub mod step;
+#[cfg(test)]
+mod tests;
+pub mod writing;
+
+pub use crate::faults::JsonFault;
+pub use crate::field::Field;
+pub use crate::plain::PlainStep;
+pub use crate::reading::read;
+pub use crate::step::{JsonStep, LogText};
+pub use crate::writing::write;
+pub use json::Scratch;

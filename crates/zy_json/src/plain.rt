@@ -1,0 +1,44 @@
+//! Steps whose texts are made as they are written.
+ghost use Rattle.std.specs.Prelude.{option_map};
+ghost use Rattle.zy_json.specs.Plain.{plain_text};
+
+use crate::step::{Behind, letter};
+use std::alloc::AllocError;
+use zy_io::{Line, LineBuffer, joined};
+use zy_isa::Actor;
+
+/// A step as a line of JSON, whose texts are made as they are written, without memory of their own. They stand there as they are:
+/// where no text has a control character, a `"` or a `\`, the line is that of `write`, and else it may be no JSON.
+#[derive(Clone, Copy)]
+pub struct PlainStep<D, C, S> {
+    /// Who made the step.
+    pub actor: Actor,
+    /// What the actor did.
+    pub action: D,
+    /// What came of it; none, if the line says nothing of it.
+    pub came: Option<C>,
+    /// The kind of the message that was sent; none, if the line names none.
+    pub sent: Option<S>,
+}
+
+impl<D: Line + Copy, C: Line + Copy, S: Line + Copy> Line for PlainStep<D, C, S> {
+    ghost text = { λ s. plain_text (record {
+      actor = s.actor;
+      action = D.text s.action;
+      came = option_map C.text s.came;
+      sent = option_map S.text s.sent;
+    }) };
+
+    fn append(&self, line: &mut LineBuffer) -> Result<(), AllocError> {
+        joined!(
+            "{\"actor\":\"",
+            letter(self.actor),
+            "\",\"do\":\"",
+            self.action,
+            Behind("\",\"came\":\"", self.came),
+            Behind("\",\"sent\":\"", self.sent),
+            "\"}",
+        )
+        .append(line)
+    }
+}

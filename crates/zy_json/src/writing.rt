@@ -1,0 +1,48 @@
+//! Writes a step as a line of JSON.
+ghost use Rattle.std.specs.Prelude.{◌≡◌, IfOk, Ok, OnOk};
+ghost use Rattle.std.specs.Option.{option_copied};
+ghost use Rattle.zy_json.specs.Meaning.{Tells};
+ghost use Rattle.zy_json.specs.Steps.{step_of};
+ghost use Rattle.zy_json.specs.Words.{IsLine};
+ghost use Rattle.zy_json.specs.Written.{field_tokens, json_text, some_tokens, Puts};
+
+use crate::field::Field;
+use crate::step::{JsonStep, letter};
+use json::Writer;
+use std::alloc::{AllocError, Global};
+
+/// Writes a field.
+fn put(writer: &mut Writer, field: Field, text: &str) -> Result<(), AllocError>
+    ensures { OnOk result (Puts writer.old writer.new (field_tokens field text.now)) }
+{
+    writer.key(field.key())?;
+    writer.string(text)
+}
+
+/// Writes a field, if there is a text.
+fn put_some(writer: &mut Writer, field: Field, text: Option<&str>) -> Result<(), AllocError>
+    ensures { OnOk result (Puts writer.old writer.new (some_tokens field (option_copied text.entry))) }
+{
+    match text {
+        Some(text) => put(writer, field, text),
+        None => Ok(()),
+    }
+}
+
+/// A step as a line of JSON, without the line's end: one object with the fields `actor`, `do`, `came` and `sent` in this order,
+/// without those of the last two that the step does not have, and without white space between the signs of JSON.
+pub fn write(alloc: Global, step: &JsonStep<'_>) -> Result<Vec<u8>, AllocError>
+    ensures text { IfOk result (λ line. line.items ≡ json_text (step_of step.now)) }
+
+    // What is written tells the step, if its texts are parts of a line of a log.
+    ensures reads_back { IfOk result (λ line. IsLine (step_of step.now) → Tells line.items (Ok (step_of step.now))) }
+{
+    let mut writer = Writer::new(Vec::new(alloc));
+    writer.begin_object()?;
+    put(&mut writer, Field::Actor, letter(step.actor))?;
+    put(&mut writer, Field::Action, step.action)?;
+    put_some(&mut writer, Field::Came, step.came)?;
+    put_some(&mut writer, Field::Sent, step.sent)?;
+    writer.end_object()?;
+    Ok(writer.into_inner())
+}
