@@ -12,13 +12,13 @@ use Rattle.std.proofs.lemmas.List.{take-append-drop}
 use Rattle.std.proofs.lemmas.Slice.Eq.{starts_is}
 use Rattle.zy_isa.specs.Rows.{Rising, RowsFit, get_row}
 use Rattle.zy_isa.specs.declared.row.Row.{Row}
-use Rattle.zy_page.proofs.Rows.{get_row_below, get_row_past, get_row_same}
-use Rattle.zy_page.specs.Leaf.{Leaf}
+use Rattle.zy_model.proofs.Rows.{get_row_below, get_row_past, get_row_same}
+use Rattle.zy_model.specs.Leaf.{Leaf}
 use Rattle.zy_table.specs.Database.{all_leaves, database, newest}
 use Rattle.zy_table.specs.Pages.{page_in, rows_of}
 use Rattle.zy_table.specs.State.{State}
 use Rattle.zy_table.proofs.PageFinds.{rows_of-none, rows_of-some}
-use Rattle.zy_page.proofs.Parted.{Rising-lower}
+use Rattle.zy_model.proofs.Parted.{Rising-lower}
 use Rattle.zy_machine.specs.Histories.{History, IsReplay}
 use Rattle.zy_laws.proofs.places.Installing.{none_else}
 use Rattle.zy_audit.specs.Covering.{HasRun}

@@ -7,17 +7,17 @@ use Rattle.std.proofs.lemmas.Bool.Decides.{nat_tests}
 use Rattle.std.proofs.lemmas.Cmp.{nat_cmp_total}
 use Rattle.zy_isa.specs.Rows.{get_row}
 use Rattle.zy_isa.specs.declared.row.Row.{Row}
-use Rattle.zy_page.specs.Leaf.{Leaf}
+use Rattle.zy_model.specs.Leaf.{Leaf}
 use Rattle.zy_table.specs.Database.{all_leaves, database, newest}
 use Rattle.zy_machine.specs.Histories.{History, IsReplay, choices_of}
 use Rattle.zy_table.specs.Pages.{rows_of, page_in}
 use Rattle.zy_table.specs.Play.{opening, play}
 use Rattle.zy_table.specs.Rows.{put_rows}
 use Rattle.zy_table.specs.State.{State}
-use Rattle.zy_wire.specs.Wireframe.{page_of}
+use Rattle.zy_model.specs.Wireframe.{page_of}
 use Rattle.zy_laws.proofs.places.Installing.{Placed, get_row-puts, none_else, or_else_none}
 use Rattle.zy_laws.proofs.serial.LoneRuns.{or_else}
-use Rattle.zy_wire.proofs.PageOf.{page_of-within}
+use Rattle.zy_model.proofs.PageOf.{page_of-within}
 use Rattle.zy_table.proofs.PageFinds.{rows_of-none, rows_of-some}
 use Rattle.zy_laws.proofs.places.PageValues.{rows_of-here, rows_of-past}
 use Rattle.zy_laws.proofs.locks.Reached.{reached}

@@ -9,9 +9,9 @@ use Rattle.zy_table.specs.Database.{Map, laid}
 use Rattle.zy_table.specs.Ranges.{range, total}
 use Rattle.zy_table.specs.Rows.{put_rows}
 use Rattle.zy_table.specs.Serial.{value_in}
-use Rattle.zy_table.specs.Sums.{value_beside}
+use Rattle.zy_node.specs.Sums.{value_beside}
 use Rattle.zy_table.proofs.RangeLists.{total_same}
-use Rattle.zy_table.proofs.RowSums.{own_apart, total_plus}
+use Rattle.zy_node.proofs.RowSums.{own_apart, total_plus}
 use Rattle.zy_laws.proofs.places.Installing.{or_else_none}
 use Rattle.zy_laws.proofs.serial.LoneRuns.{get-laid, laid_put, or_else}
 use Rattle.zy_laws.proofs.places.PageValues.{value_same}

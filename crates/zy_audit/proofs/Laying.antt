@@ -7,11 +7,11 @@ use Rattle.zy_isa.specs.Rows.{Rising, RowsFit, put_row, row}
 use Rattle.zy_isa.specs.declared.row.Row.{Row}
 use Rattle.zy_page.specs.Place.{IsPlace}
 use Rattle.zy_page.specs.RowLists.{AreKept}
-use Rattle.zy_page.proofs.Rows.{RowsFit-put_row, put_row_above, put_row_below, put_row_same}
+use Rattle.zy_model.proofs.Rows.{RowsFit-put_row, put_row_above, put_row_below, put_row_same}
 use Rattle.zy_page.proofs.Found.{front_below, place_rest}
 use Rattle.zy_page.proofs.Parted.{Rising-rows_from, rows_from-place}
-use Rattle.zy_page.proofs.Parted.{Rising-lower}
-use Rattle.zy_page.proofs.Rows.{Rising-put_row}
+use Rattle.zy_model.proofs.Parted.{Rising-lower}
+use Rattle.zy_model.proofs.Rows.{Rising-put_row}
 use Rattle.zy_table.proofs.RisingRows.{rises_puts}
 use Rattle.zy_table.specs.Rows.{put_rows}
 use Rattle.zy_audit.specs.Laying.{rows_past}

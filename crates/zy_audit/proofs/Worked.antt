@@ -12,7 +12,7 @@ use Rattle.zy_isa.specs.declared.instr.Instr.TheVariants.{Set, Read, Insert, Com
 use Rattle.zy_isa.specs.declared.choice.Choice.TheVariants.{Begin, Run}
 use Rattle.zy_isa.specs.Rows.{row}
 use Rattle.zy_isa.specs.Scenario.{Scenario}
-use Rattle.zy_wire.specs.Wireframe.{page_of}
+use Rattle.zy_model.specs.Wireframe.{page_of}
 use Rattle.zy_table.specs.Change.{txn_at, begun, aborted, did, locked, committed}
 use Rattle.zy_table.specs.Client.{begin_at, begin_step, kill_step}
 use Rattle.zy_table.specs.Run.{abort_step, set_step, jump_step, commit_or_gone, commit_step, read_step, write_step, full_step, insert_step, access_step}

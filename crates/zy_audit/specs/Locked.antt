@@ -5,9 +5,9 @@ use Rattle.std.specs.List.{flat_map}
 use Rattle.zy_text.specs.Canon.{node_text}
 use Rattle.zy_isa.specs.declared.node.Node.{Node}
 use Rattle.zy_isa.specs.declared.node.Node.TheVariants.{A, B}
-use Rattle.zy_locks.specs.declared.lock.Lock.{Lock}
-use Rattle.zy_locks.specs.declared.lock.LockKind.{LockKind}
-use Rattle.zy_locks.specs.declared.lock.LockKind.TheVariants.{Shared, Exclusive}
+use Rattle.zy_model.specs.declared.lock.Lock.{Lock}
+use Rattle.zy_model.specs.declared.lock.LockKind.{LockKind}
+use Rattle.zy_model.specs.declared.lock.LockKind.TheVariants.{Shared, Exclusive}
 use Rattle.zy_table.specs.State.{State}
 use Rattle.zy_table.specs.Pages.{page_in}
 use Rattle.zy_table.specs.Database.{all_leaves}

@@ -17,7 +17,7 @@ use std::marker::Model;
 use zy_isa::{Program, Reg};
 use zy_page::RowList;
 use zy_table::effect::effect_of;
-use zy_table::sums::sum_of_rows;
+use zy_node::sums::sum_of_rows;
 use zy_table::{Access, Effect};
 
 /// The rows that a program writes when it is run alone on a table, for this number of instructions or to its end: none

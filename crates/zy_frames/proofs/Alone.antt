@@ -8,9 +8,9 @@ use Rattle.zy_isa.specs.declared.instr.Reg.{Reg}
 use Rattle.zy_isa.specs.declared.instr.Instr.{Instr}
 use Rattle.zy_isa.specs.declared.choice.Choice.TheVariants.{Run}
 use Rattle.zy_isa.specs.Scenario.{Scenario}
-use Rattle.zy_locks.specs.declared.lock.Lock.{Lock}
-use Rattle.zy_locks.specs.Locks.{conflict}
-use Rattle.zy_modes.specs.Table.{may_split, may_pull, is_waiting}
+use Rattle.zy_model.specs.declared.lock.Lock.{Lock}
+use Rattle.zy_model.specs.Locks.{conflict}
+use Rattle.zy_model.specs.Table.{may_split, may_pull, is_waiting}
 use Rattle.zy_table.specs.declared.access.Access.{Access}
 use Rattle.zy_table.specs.declared.access.Access.TheVariants.{Reads, Writes, Inserts}
 use Rattle.zy_table.specs.declared.effect.Effect.{Effect}

@@ -8,11 +8,11 @@ use Rattle.zy_isa.specs.declared.row.Row.{Row}
 use Rattle.zy_isa.specs.declared.instr.Reg.{Reg}
 use Rattle.zy_isa.specs.declared.instr.Instr.{Instr}
 use Rattle.zy_isa.specs.Scenario.{Scenario}
-use Rattle.zy_locks.specs.Locks.{conflict}
-use Rattle.zy_links.specs.Messages.{Message, Pull}
-use Rattle.zy_links.specs.declared.kind.Kind.{Kind}
-use Rattle.zy_links.specs.declared.kind.Kind.TheVariants as kind
-use Rattle.zy_modes.specs.Table.{may_split, may_pull, is_waiting}
+use Rattle.zy_model.specs.Locks.{conflict}
+use Rattle.zy_model.specs.Messages.{Message, Pull}
+use Rattle.zy_model.specs.declared.kind.Kind.{Kind}
+use Rattle.zy_model.specs.declared.kind.Kind.TheVariants as kind
+use Rattle.zy_model.specs.Table.{may_split, may_pull, is_waiting}
 use Rattle.zy_table.specs.declared.access.Access.{Access}
 use Rattle.zy_table.specs.declared.access.Access.TheVariants.{Reads, Writes, Inserts}
 use Rattle.zy_table.specs.declared.effect.Effect.{Effect}

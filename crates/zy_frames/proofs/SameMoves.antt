@@ -7,7 +7,7 @@ use Rattle.zy_isa.specs.declared.node.Node.TheVariants.{A}
 use Rattle.zy_isa.specs.declared.choice.Choice.{Choice}
 use Rattle.zy_isa.specs.declared.choice.Choice.TheVariants.{Start, Begin, Kill, Run, Take, Finish, Push}
 use Rattle.zy_isa.specs.Scenario.{Scenario}
-use Rattle.zy_links.specs.Messages.{Message}
+use Rattle.zy_model.specs.Messages.{Message}
 use Rattle.zy_table.specs.State.{View, NodeState, Move, Txn, seen_from}
 use Rattle.zy_table.specs.Change.{txn_at, with_txn}
 use Rattle.zy_table.specs.Client.{start_step, begin_step, kill_step}

@@ -4,17 +4,17 @@ use Rattle.std.proofs.Common.{◌&&◌, Bool, Option, Some, None, cond, append_a
 use Rattle.std.specs.Prelude.{slice_set}
 use Rattle.zy_isa.specs.declared.node.Node.{Node}
 use Rattle.zy_isa.specs.Scenario.{Scenario}
-use Rattle.zy_locks.specs.Locks.{is_locked}
-use Rattle.zy_links.specs.Messages.{Message, Wire, Ready, Dual, Pull, Page, Finish, Done}
-use Rattle.zy_links.specs.declared.kind.Kind.{Kind}
-use Rattle.zy_links.specs.declared.kind.Kind.TheVariants as kind
-use Rattle.zy_modes.specs.declared.mode.NodeMode.{NodeMode}
-use Rattle.zy_modes.specs.declared.mode.NodeMode.TheVariants.{SInit, SFinish}
-use Rattle.zy_modes.specs.declared.table.MessageLine.{MessageLine}
-use Rattle.zy_modes.specs.declared.table.MessageLine.TheVariants.{Stray, Turns}
-use Rattle.zy_modes.specs.declared.table.FinishLine.{FinishLine}
-use Rattle.zy_modes.specs.declared.table.FinishLine.TheVariants as fin
-use Rattle.zy_modes.specs.Table.{may_start, may_push, home_of}
+use Rattle.zy_model.specs.Locks.{is_locked}
+use Rattle.zy_model.specs.Messages.{Message, Wire, Ready, Dual, Pull, Page, Finish, Done}
+use Rattle.zy_model.specs.declared.kind.Kind.{Kind}
+use Rattle.zy_model.specs.declared.kind.Kind.TheVariants as kind
+use Rattle.zy_model.specs.declared.mode.NodeMode.{NodeMode}
+use Rattle.zy_model.specs.declared.mode.NodeMode.TheVariants.{SInit, SFinish}
+use Rattle.zy_model.specs.declared.table.MessageLine.{MessageLine}
+use Rattle.zy_model.specs.declared.table.MessageLine.TheVariants.{Stray, Turns}
+use Rattle.zy_model.specs.declared.table.FinishLine.{FinishLine}
+use Rattle.zy_model.specs.declared.table.FinishLine.TheVariants as fin
+use Rattle.zy_model.specs.Table.{may_start, may_push, home_of}
 use Rattle.zy_table.specs.declared.entry.CommitRecord.{CommitRecord}
 use Rattle.zy_table.specs.declared.outcome.Why.TheVariants as why
 use Rattle.zy_table.specs.declared.outcome.Outcome.{Outcome}

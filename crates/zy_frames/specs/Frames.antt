@@ -1,6 +1,6 @@
 -- What a step leaves as it was, seen from the node whose side it is made from.
 use Rattle.std.specs.Prelude.{ℕ, ◌≡◌, ◌⊎◌, ◌++◌, List, [], ◌∷◌, length, Bool, true, false}
-use Rattle.zy_locks.specs.declared.lock.Lock.{Lock}
+use Rattle.zy_model.specs.declared.lock.Lock.{Lock}
 use Rattle.zy_table.specs.declared.outcome.Outcome.{Outcome}
 use Rattle.zy_table.specs.declared.outcome.Outcome.TheVariants.{Did, Aborted}
 use Rattle.zy_table.specs.State.{View, Txn, with_me}

@@ -5,7 +5,7 @@ use Rattle.zy_isa.specs.declared.choice.Choice.{Choice}
 use Rattle.zy_isa.specs.declared.choice.Choice.TheVariants.{Start, Begin, Kill, Run, Take, Finish, Push}
 use Rattle.zy_table.specs.declared.outcome.Outcome.{Outcome}
 use Rattle.zy_table.specs.declared.outcome.Outcome.TheVariants.{Committed}
-use Rattle.zy_links.specs.Messages.{Message}
+use Rattle.zy_model.specs.Messages.{Message}
 use Rattle.zy_table.specs.declared.entry.CommitRecord.{CommitRecord}
 use Rattle.zy_table.specs.State.{View, Move, Step, facing, with_me}
 use Rattle.zy_table.specs.Change.{txn_at, with_txn}

@@ -2,14 +2,14 @@
 use Rattle.std.specs.Prelude.{ℕ, ◌==◌, ◌||◌, not, Bool, true, false, List, length, is_some}
 use Rattle.std.specs.List.{list_any}
 use Rattle.std.specs.FinMap.{get}
-use Rattle.zy_modes.specs.declared.mode.NodeMode.{NodeMode}
-use Rattle.zy_modes.specs.declared.mode.NodeMode.TheVariants.{Empty, Normal, SInit, SDual, SFinish, DInit, DDual}
-use Rattle.zy_modes.specs.declared.mode.NodeMode.TheVariants.{DFinish}
-use Rattle.zy_links.specs.declared.kind.Kind.{Kind}
-use Rattle.zy_links.specs.declared.kind.Kind.TheVariants as kind
-use Rattle.zy_links.specs.Messages as messages
-use Rattle.zy_links.specs.Messages.{Message, kind_of}
-use Rattle.zy_locks.specs.Locks as locks_locks
+use Rattle.zy_model.specs.declared.mode.NodeMode.{NodeMode}
+use Rattle.zy_model.specs.declared.mode.NodeMode.TheVariants.{Empty, Normal, SInit, SDual, SFinish, DInit, DDual}
+use Rattle.zy_model.specs.declared.mode.NodeMode.TheVariants.{DFinish}
+use Rattle.zy_model.specs.declared.kind.Kind.{Kind}
+use Rattle.zy_model.specs.declared.kind.Kind.TheVariants as kind
+use Rattle.zy_model.specs.Messages as messages
+use Rattle.zy_model.specs.Messages.{Message, kind_of}
+use Rattle.zy_model.specs.Locks as locks_locks
 use Rattle.zy_table.specs.declared.place.Place.{Place}
 use Rattle.zy_table.specs.declared.place.Place.TheVariants as place
 use Rattle.zy_table.specs.State.{State, facing}

@@ -1,8 +1,8 @@
 -- Terms, facts and outcomes: what words begin with one, and which words come after it.
 use Rattle.std.specs.Prelude.{ℕ, List, codes, Option, Some, None, if◌then◌else◌}
 use Rattle.zy_isa.specs.declared.node.Node.{Node}
-use Rattle.zy_links.specs.declared.kind.Kind.{Kind}
-use Rattle.zy_links.specs.declared.kind.Kind.TheVariants as kind
+use Rattle.zy_model.specs.declared.kind.Kind.{Kind}
+use Rattle.zy_model.specs.declared.kind.Kind.TheVariants as kind
 use Rattle.zy_text.specs.Words.{is_numeral}
 use Rattle.zy_goals.specs.declared.goal.Reason.{Reason}
 use Rattle.zy_goals.specs.declared.goal.Reason.TheVariants as reason

@@ -6,10 +6,10 @@ use Rattle.std.specs.Option.{option_and_then}
 use Rattle.std.specs.Str.{bytes_eq}
 use Rattle.zy_isa.specs.declared.node.Node.{Node}
 use Rattle.zy_isa.specs.declared.node.Node.TheVariants.{A, B}
-use Rattle.zy_modes.specs.declared.mode.NodeMode.{NodeMode}
-use Rattle.zy_modes.specs.declared.mode.NodeMode.TheVariants as mode
-use Rattle.zy_links.specs.declared.kind.Kind.{Kind}
-use Rattle.zy_links.specs.declared.kind.Kind.TheVariants as kind
+use Rattle.zy_model.specs.declared.mode.NodeMode.{NodeMode}
+use Rattle.zy_model.specs.declared.mode.NodeMode.TheVariants as mode
+use Rattle.zy_model.specs.declared.kind.Kind.{Kind}
+use Rattle.zy_model.specs.declared.kind.Kind.TheVariants as kind
 use Rattle.zy_text.specs.Words.{number_of, is_numeral}
 use Rattle.zy_text.specs.Names as text_names
 use Rattle.zy_goals.specs.declared.goal.Reason.{Reason}

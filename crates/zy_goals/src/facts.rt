@@ -1,7 +1,7 @@
 //! The facts that a state decides by itself.
 ghost use Rattle.std.specs.Prelude.{◌≡◌, ◌==◌, ◌&&◌};
 ghost use Rattle.std.specs.List.{list_any};
-ghost use Rattle.zy_locks.specs.Locks as locks_locks;
+ghost use Rattle.zy_model.specs.Locks as locks_locks;
 ghost use Rattle.zy_links.specs.Messages.{message_of, messages_of};
 ghost use Rattle.zy_goals.specs.Facts as spec;
 
@@ -9,10 +9,11 @@ use crate::goal::{LinkContent, MessagePattern, PagePlace, StateFact};
 use crate::terms::{compares, value};
 use crate::txns::{committed_before, same_node, selected_have};
 use zy_isa::Node;
-use zy_links::{Kind, Link, Message};
-use zy_locks::Lock;
+use zy_links::{Link, Message};
+use zy_model::Kind;
+use zy_model::Lock;
 use zy_machine::Machine;
-use zy_modes::NodeMode;
+use zy_model::NodeMode;
 use zy_table::Place;
 
 /// Whether two modes are one.

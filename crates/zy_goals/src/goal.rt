@@ -1,8 +1,8 @@
 //! Goals: what a search may ask of a state.
 
 use zy_isa::Node;
-use zy_links::Kind;
-use zy_modes::NodeMode;
+use zy_model::Kind;
+use zy_model::NodeMode;
 
 /// Why a transaction is aborted, on whichever page.
 #[derive(Clone, Copy)]

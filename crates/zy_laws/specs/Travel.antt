@@ -1,10 +1,10 @@
 -- How a page moves.
 use Rattle.std.specs.Prelude.{◌≡◌, ◌⊎◌, ℕ, List, Bool, true, false}
 use Rattle.std.specs.List.{list_any}
-use Rattle.zy_modes.specs.Families.{is_source}
+use Rattle.zy_model.specs.Families.{is_source}
 use Rattle.zy_isa.specs.declared.node.Node.{Node}
-use Rattle.zy_modes.specs.Table.{may_pull}
-use Rattle.zy_modes.specs.declared.mode.NodeMode.TheVariants.{Normal}
+use Rattle.zy_model.specs.Table.{may_pull}
+use Rattle.zy_model.specs.declared.mode.NodeMode.TheVariants.{Normal}
 use Rattle.zy_table.specs.declared.place.Place.{Place}
 use Rattle.zy_table.specs.declared.place.Place.TheVariants.{Nowhere, At, Moving}
 use Rattle.zy_table.specs.State.{State, Step, facing, other}

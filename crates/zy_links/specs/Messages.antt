@@ -1,20 +1,8 @@
--- The messages between the nodes as everyone sees them.
+-- The messages of the program, as the model has them.
 use Rattle.std.specs.Prelude.{ℕ, List, map}
-use Rattle.zy_links.specs.declared.kind.Kind.{Kind}
-use Rattle.zy_links.specs.declared.kind.Kind.TheVariants as kind
-use Rattle.zy_page.specs.Leaf.{Leaf}
+use Rattle.zy_model.specs.Messages.{Message, Wire, Ready, Dual, Pull, Page, Finish, Done}
 use Rattle.zy_links.specs.declared.message.Message.{Message as Sent}
 use Rattle.zy_links.specs.declared.message.Message.TheVariants as sent
-
--- the low keys of all pages, the number of a page that is asked for, a page
-pub data Message : Type 0 where
-  Wire : (lows : List ℕ) → Message
-  Ready : Message
-  Dual : Message
-  Pull : (page : ℕ) → Message
-  Page : (leaf : Leaf) → Message
-  Finish : Message
-  Done : Message
 
 -- a message of the program: of its wireframe only the low keys are seen
 abbrev pub message_of : Sent → Message
@@ -36,12 +24,3 @@ limit_of message = 0
 
 abbrev pub limits : List Sent → List ℕ
 limits = map limit_of
-
-abbrev pub kind_of : Message → Kind
-kind_of (Wire lows) = kind.Wire
-kind_of Ready = kind.Ready
-kind_of Dual = kind.Dual
-kind_of (Pull page) = kind.Pull
-kind_of (Page leaf) = kind.Page
-kind_of Finish = kind.Finish
-kind_of Done = kind.Done

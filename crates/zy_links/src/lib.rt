@@ -1,10 +1,8 @@
 //! The messages between the nodes, and the links that carry them.
 #![tactic(auto)]
 
-pub mod kind;
 pub mod link;
 pub mod message;
 
-pub use crate::kind::Kind;
 pub use crate::link::Link;
 pub use crate::message::Message;

@@ -1,8 +1,9 @@
 //! What one node sends to the other.
 ghost use Rattle.std.specs.Prelude.{◌≡◌, IfOk};
-ghost use Rattle.zy_links.specs.Messages.{kind_of, limit_of, message_of};
+ghost use Rattle.zy_model.specs.Messages.{kind_of};
+ghost use Rattle.zy_links.specs.Messages.{limit_of, message_of};
 
-use crate::kind::Kind;
+use zy_model::Kind;
 use std::alloc::{AllocError, Global};
 use zy_page::Page;
 use zy_wire::Wire;

@@ -2,11 +2,11 @@
 use Rattle.std.proofs.Common.{◌≡◌, true, false, ℕ, zero, suc, ◌<◌, List, [], ◌∷◌, length, get_or, refl, ap, arith}
 use Rattle.std.proofs.Math.ListN.{set}
 use Rattle.std.specs.List.{insert}
-use Rattle.zy_locks.specs.declared.lock.Lock.{Lock}
-use Rattle.zy_locks.specs.declared.lock.LockKind.{LockKind}
-use Rattle.zy_locks.specs.Locks.{stronger, add_lock}
-use Rattle.zy_locks.specs.Order.{comes_before, is_held_by, IsPlace}
-use Rattle.zy_locks.proofs.Rising.{lock, before_is_not_held, before_goes_behind, other_goes_before, place_rest, front_before}
+use Rattle.zy_model.specs.declared.lock.Lock.{Lock}
+use Rattle.zy_model.specs.declared.lock.LockKind.{LockKind}
+use Rattle.zy_model.specs.Locks.{stronger, add_lock}
+use Rattle.zy_model.specs.Order.{comes_before, is_held_by, IsPlace}
+use Rattle.zy_model.proofs.Rising.{lock, before_is_not_held, before_goes_behind, other_goes_before, place_rest, front_before}
 
 -- the three ways to add a lock at the front of locks
 add_lock_same : (p t : ℕ) (kind : LockKind) (x : Lock) (xs : List Lock) → is_held_by x p t ≡ true

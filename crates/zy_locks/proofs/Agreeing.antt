@@ -8,12 +8,12 @@ use Rattle.std.proofs.lemmas.Bool.{or_right, or_left}
 use Rattle.std.proofs.lemmas.Bool.Decides.{nat_tests}
 use Rattle.std.proofs.lemmas.List.{get_or-drop, get_or-take, length-take, take-append-drop}
 use Rattle.std.proofs.lemmas.List.Folds.{Any-from_list_any, list_any_at, list_any-append}
-use Rattle.zy_locks.specs.declared.lock.Lock.{Lock}
-use Rattle.zy_locks.specs.declared.lock.LockKind.{LockKind}
-use Rattle.zy_locks.specs.declared.lock.LockKind.TheVariants.{Shared, Exclusive}
-use Rattle.zy_locks.specs.Locks.{add_lock, clashes, conflict, drop_locks, is_shared, stronger, LocksAgree}
-use Rattle.zy_locks.specs.Order.{comes_before, is_held_by, IsPlace, LocksRise}
-use Rattle.zy_locks.proofs.Rising.{lock, goes_before, behind_at, behind_rise}
+use Rattle.zy_model.specs.declared.lock.Lock.{Lock}
+use Rattle.zy_model.specs.declared.lock.LockKind.{LockKind}
+use Rattle.zy_model.specs.declared.lock.LockKind.TheVariants.{Shared, Exclusive}
+use Rattle.zy_model.specs.Locks.{add_lock, clashes, conflict, drop_locks, is_shared, stronger, LocksAgree}
+use Rattle.zy_model.specs.Order.{comes_before, is_held_by, IsPlace, LocksRise}
+use Rattle.zy_model.proofs.Rising.{lock, goes_before, behind_at, behind_rise}
 
 -- two locks are in each other's way or not
 not_both : (a b : Bool) → not (a && b) ≡ not (b && a)

@@ -4,24 +4,15 @@ use Rattle.std.specs.Prelude.{◌==◌, ◌&&◌, not}
 use Rattle.std.proofs.lemmas.Bool.{and_from, and_parts, cond_both, eq-eqb, eqb-true, false≢true, true≢false, false_from_ne_true, ne_eqb, eqb-false, not-true}
 use Rattle.std.proofs.lemmas.Bool.{or_cases, or_left, or_right, or_parts}
 use Rattle.std.proofs.lemmas.Bool.Decides.{nat_tests}
-use Rattle.zy_locks.specs.declared.lock.Lock.{Lock}
-use Rattle.zy_locks.specs.declared.lock.LockKind.{LockKind}
-use Rattle.zy_locks.specs.declared.lock.LockKind.TheVariants.{Shared, Exclusive}
-use Rattle.zy_locks.specs.Locks.{add_lock, clashes, conflict, holds, holds_alone, is_exclusive, is_shared, stronger, LocksAgree}
-use Rattle.zy_locks.specs.Order.{comes_before, is_held_by, LocksBehind, LocksRise}
+use Rattle.zy_model.specs.declared.lock.Lock.{Lock}
+use Rattle.zy_model.specs.declared.lock.LockKind.{LockKind}
+use Rattle.zy_model.specs.declared.lock.LockKind.TheVariants.{Shared, Exclusive}
+use Rattle.zy_model.specs.Locks.{add_lock, clashes, conflict, holds, holds_alone, is_exclusive, is_shared, stronger, LocksAgree}
+use Rattle.zy_model.specs.Order.{comes_before, is_held_by, LocksBehind, LocksRise}
 use Rattle.zy_locks.specs.LockTable.{LockTable, HasPlaces}
+use Rattle.zy_model.proofs.Alone.{exclusive_holds}
 use Rattle.zy_locks.proofs.Held.{before_is_other, held_takes, none_behind}
-use Rattle.zy_locks.proofs.Rising.{lock, goes_before, behind_rise}
-
--- who has an exclusive lock on p has a lock on p
-pub exclusive_holds : (xs : List Lock) (p t : ℕ) → holds_alone xs p t ≡ true → holds xs p t ≡ true
-exclusive_holds [] p t h = h
-exclusive_holds (x ∷ xs) p t h =
-    elim (or_cases ((x.page == p) && ((x.txn == t) && is_exclusive x.kind)) (holds_alone xs p t) h) [
-      | inl e ↦ let a = and_parts (x.page == p) ((x.txn == t) && is_exclusive x.kind) e in
-          or_left _ _ (and_from _ _ a.0 (and_parts (x.txn == t) (is_exclusive x.kind) a.1).0)
-      | inr e ↦ or_right _ _ (exclusive_holds xs p t e)
-    ]
+use Rattle.zy_model.proofs.Rising.{lock, goes_before, behind_rise}
 
 -- what an exclusive lock would find free every lock does
 weaker : (a b c d : Bool) → (a && (b && not (c && false))) ≡ false → (a && (b && not (c && d))) ≡ false

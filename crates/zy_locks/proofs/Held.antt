@@ -3,10 +3,10 @@ use Rattle.std.proofs.Common.{◌≡◌, ◌∙◌, Bool, true, false, ℕ, zero
 use Rattle.std.specs.Prelude.{◌||◌}
 use Rattle.std.proofs.lemmas.Bool.{cases_lt, false≢true}
 use Rattle.std.proofs.lemmas.Bool.Decides.{nat_tests}
-use Rattle.zy_locks.specs.declared.lock.Lock.{Lock}
-use Rattle.zy_locks.specs.Locks.{holds, unheld}
-use Rattle.zy_locks.specs.Order.{comes_before, is_held_by, LocksBehind, LocksRise, IsPlace}
-use Rattle.zy_locks.proofs.Rising.{goes_before, before_is_not_held, other_goes_before, place_rest, front_before, behind_rise}
+use Rattle.zy_model.specs.declared.lock.Lock.{Lock}
+use Rattle.zy_model.specs.Locks.{holds, unheld}
+use Rattle.zy_model.specs.Order.{comes_before, is_held_by, LocksBehind, LocksRise, IsPlace}
+use Rattle.zy_model.proofs.Rising.{goes_before, before_is_not_held, other_goes_before, place_rest, front_before, behind_rise}
 
 -- behind a lock that t's lock on p would be before there is none of t on p
 still_before : (x y : Lock) (p t : ℕ) → comes_before x y.page y.txn ≡ true → goes_before p t x ≡ true → goes_before p t y ≡ true

@@ -1,4 +1,3 @@
-pub mod Rising
 pub mod Added
 pub mod PageRun
 pub mod Agreeing

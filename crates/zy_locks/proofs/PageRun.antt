@@ -5,10 +5,10 @@ use Rattle.std.proofs.lemmas.Bool.Decides.{nat_tests}
 use Rattle.std.proofs.lemmas.List.{get_or-drop, length-drop}
 use Rattle.std.proofs.Math.Bool.{or-true}
 use Rattle.std.specs.List.{list_any}
-use Rattle.zy_locks.specs.declared.lock.Lock.{Lock}
-use Rattle.zy_locks.specs.Order.{comes_before, LocksBehind, LocksRise, IsPlace}
-use Rattle.zy_locks.specs.Locks.{is_locked}
-use Rattle.zy_locks.proofs.Rising.{behind_rise, place_rest, front_before}
+use Rattle.zy_model.specs.declared.lock.Lock.{Lock}
+use Rattle.zy_model.specs.Order.{comes_before, LocksBehind, LocksRise, IsPlace}
+use Rattle.zy_model.specs.Locks.{is_locked}
+use Rattle.zy_model.proofs.Rising.{behind_rise, place_rest, front_before}
 
 -- a test that only locks on p pass
 abbrev pub OnlyOn : ℕ → (Lock → Bool) → Type 0

@@ -1,3 +1,1 @@
 pub mod LockTable
-pub mod Locks
-pub mod Order

@@ -2,9 +2,9 @@
 use Rattle.std.specs.Prelude.{◌≡◌, ◌≤◌, ℕ, length, true, false, List}
 use Rattle.zy_locks.specs.declared.attempt.Attempt.{Attempt}
 use Rattle.zy_locks.specs.declared.attempt.Attempt.TheVariants.{Granted, Conflict, Memory}
-use Rattle.zy_locks.specs.declared.lock.Lock.{Lock}
-use Rattle.zy_locks.specs.declared.lock.LockKind.{LockKind}
-use Rattle.zy_locks.specs.Locks.{add_lock, conflict, holds, unheld}
+use Rattle.zy_model.specs.declared.lock.Lock.{Lock}
+use Rattle.zy_model.specs.declared.lock.LockKind.{LockKind}
+use Rattle.zy_model.specs.Locks.{add_lock, conflict, holds, unheld}
 
 -- the locks in order, and how many more there is memory for
 pub record LockTable : Type 0 where

@@ -2,9 +2,7 @@
 #![tactic(auto)]
 
 pub mod attempt;
-pub mod lock;
 pub mod locks;
 
 pub use crate::attempt::Attempt;
-pub use crate::lock::{Lock, LockKind};
 pub use crate::locks::Locks;

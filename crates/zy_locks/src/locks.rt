@@ -1,15 +1,15 @@
 //! The locks of one node.
 ghost use Rattle.std.specs.Prelude.{◌≡◌, ◌==◌, ◌+◌, ◌<◌, ◌≤◌, IfOk, OnOk, OnErr, IsOk, IsSome, true, false, [], ◌∷◌};
 ghost use Rattle.std.specs.Prelude.{length, slice_index_or};
-ghost use Rattle.zy_locks.specs.Locks.{add_lock, conflict, is_locked, holds_alone, unheld, drop_locks};
-ghost use Rattle.zy_locks.specs.Locks as locks_locks;
+ghost use Rattle.zy_model.specs.Locks.{add_lock, conflict, is_locked, holds_alone, unheld, drop_locks};
+ghost use Rattle.zy_model.specs.Locks as locks_locks;
 ghost use Rattle.zy_locks.specs.LockTable.{Attempts, HasPlaces};
 ghost use Rattle.zy_locks.specs.declared.attempt.Attempt.TheVariants.{Granted};
-ghost use Rattle.zy_locks.specs.Order.{LocksRise, IsPlace, IsFreePlace};
-ghost use Rattle.zy_locks.specs.Order as locks_order;
+ghost use Rattle.zy_model.specs.Order.{LocksRise, IsPlace, IsFreePlace};
+ghost use Rattle.zy_model.specs.Order as locks_order;
 
 use crate::attempt::Attempt;
-use crate::lock::{Lock, LockKind};
+use zy_model::{Lock, LockKind};
 use std::alloc::{AllocError, Global};
 use std::marker::Model;
 
@@ -23,8 +23,8 @@ impl Model for Locks {
     ghost use Rattle.std.specs.Prelude.{◌-◌, length};
     ghost use Rattle.std.specs.Vec.{vec_capacity};
     ghost use Rattle.zy_locks.specs.LockTable.{LockTable};
-    ghost use Rattle.zy_locks.specs.Locks.{LocksAgree};
-    ghost use Rattle.zy_locks.specs.Order.{LocksRise};
+    ghost use Rattle.zy_model.specs.Locks.{LocksAgree};
+    ghost use Rattle.zy_model.specs.Order.{LocksRise};
 
     ghost Value = { LockTable };
 

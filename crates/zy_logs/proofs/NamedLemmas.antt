@@ -10,7 +10,7 @@ use Rattle.zy_isa.specs.declared.choice.Choice.TheVariants as choice
 use Rattle.zy_isa.specs.Choices.{names_below}
 use Rattle.zy_isa.specs.Results.{◌>>=◌}
 use Rattle.zy_isa.specs.Scenario.{AreNamed}
-use Rattle.zy_links.specs.declared.kind.Kind.{Kind}
+use Rattle.zy_model.specs.declared.kind.Kind.{Kind}
 use Rattle.zy_text.specs.Words.{lines_of, words_of, number_of, is_numeral}
 use Rattle.zy_text.specs.Names.{is_name}
 use Rattle.zy_logs.specs.declared.expected.Expected.TheVariants as expected

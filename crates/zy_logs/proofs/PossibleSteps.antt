@@ -8,13 +8,13 @@ use Rattle.zy_isa.specs.declared.instr.Instr.{Instr}
 use Rattle.zy_isa.specs.declared.choice.Choice.{Choice}
 use Rattle.zy_isa.specs.declared.choice.Choice.TheVariants.{Start, Begin, Kill, Run, Take, Finish as Finish_at, Push}
 use Rattle.zy_isa.specs.Scenario.{Scenario}
-use Rattle.zy_locks.specs.Locks.{conflict, is_locked}
-use Rattle.zy_links.specs.Messages.{Message, Wire, Ready, Dual, Pull, Page, Finish, Done}
-use Rattle.zy_modes.specs.declared.table.MessageLine.{MessageLine}
-use Rattle.zy_modes.specs.declared.table.MessageLine.TheVariants.{Stray, Turns}
-use Rattle.zy_modes.specs.declared.table.FinishLine.{FinishLine}
-use Rattle.zy_modes.specs.declared.table.FinishLine.TheVariants as fin
-use Rattle.zy_modes.specs.Table.{may_start, may_split, may_pull, may_push, is_waiting}
+use Rattle.zy_model.specs.Locks.{conflict, is_locked}
+use Rattle.zy_model.specs.Messages.{Message, Wire, Ready, Dual, Pull, Page, Finish, Done}
+use Rattle.zy_model.specs.declared.table.MessageLine.{MessageLine}
+use Rattle.zy_model.specs.declared.table.MessageLine.TheVariants.{Stray, Turns}
+use Rattle.zy_model.specs.declared.table.FinishLine.{FinishLine}
+use Rattle.zy_model.specs.declared.table.FinishLine.TheVariants as fin
+use Rattle.zy_model.specs.Table.{may_start, may_split, may_pull, may_push, is_waiting}
 use Rattle.zy_table.specs.declared.access.Access.{Access}
 use Rattle.zy_table.specs.declared.access.Access.TheVariants.{Reads, Writes, Inserts}
 use Rattle.zy_table.specs.declared.effect.Effect.{Effect}

@@ -2,7 +2,7 @@
 use Rattle.std.proofs.Common.{◌≡◌, ℕ, ◌++◌, List, [], ◌∷◌, None, Some, Ok, Err, codes, refl}
 use Rattle.zy_isa.specs.declared.node.Node.TheVariants.{A, B}
 use Rattle.zy_isa.specs.declared.choice.Choice.TheVariants.{Take, Push, Run, Begin, Kill}
-use Rattle.zy_links.specs.declared.kind.Kind.TheVariants as message
+use Rattle.zy_model.specs.declared.kind.Kind.TheVariants as message
 use Rattle.zy_table.specs.declared.outcome.Outcome.TheVariants as outcome
 use Rattle.zy_text.specs.Words.{words_of}
 use Rattle.zy_logs.specs.declared.expected.Expected.TheVariants as expected

@@ -3,8 +3,8 @@ use Rattle.std.specs.Prelude.{codes, Option, Some, None, if◌then◌else◌}
 use Rattle.std.specs.Str.{bytes_eq}
 use Rattle.zy_isa.specs.declared.node.Node.{Node}
 use Rattle.zy_isa.specs.declared.node.Node.TheVariants.{A, B}
-use Rattle.zy_links.specs.declared.kind.Kind.{Kind}
-use Rattle.zy_links.specs.declared.kind.Kind.TheVariants as message
+use Rattle.zy_model.specs.declared.kind.Kind.{Kind}
+use Rattle.zy_model.specs.declared.kind.Kind.TheVariants as message
 use Rattle.zy_logs.specs.declared.told.Reason.{Reason}
 use Rattle.zy_logs.specs.declared.told.Reason.TheVariants as reason
 use Rattle.zy_logs.specs.declared.told.Told.{Told}

@@ -5,7 +5,7 @@ ghost use Rattle.zy_logs.specs.Agrees.{Agrees, Tells};
 
 use crate::told::{Told, tells};
 use zy_isa::Choice;
-use zy_links::Kind;
+use zy_model::Kind;
 use zy_table::{Entry, Outcome};
 
 /// A line of a log: a choice that was made, what was logged of its outcome, if anything was, and the kind of message that was

@@ -22,7 +22,7 @@ use crate::reading::words::kind;
 use crate::told::Told;
 use crate::txns::Txns;
 use zy_isa::Choice;
-use zy_links::Kind;
+use zy_model::Kind;
 
 /// The outcome that begins with the word at hand. That word is refused where no step of the choice gives the outcome.
 fn possible<'a>(txns: Txns<'a>, choice: Choice, at: Cursor<'a>) -> Parsed<'a, Told>

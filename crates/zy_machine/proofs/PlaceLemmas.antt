@@ -5,7 +5,7 @@ use Rattle.std.specs.Prelude.{if◌then◌else◌, nat_lt}
 use Rattle.zy_isa.specs.declared.choice.Choice.{Choice}
 use Rattle.zy_isa.specs.declared.node.Node.TheVariants.{A, B}
 use Rattle.zy_isa.specs.Scenario.{Scenario}
-use Rattle.zy_page.specs.Leaf.{Leaf}
+use Rattle.zy_model.specs.Leaf.{Leaf}
 use Rattle.zy_table.specs.declared.place.Place.TheVariants.{Nowhere, At, Moving}
 use Rattle.zy_table.specs.Database.{all_leaves, sent_leaves}
 use Rattle.zy_table.specs.Pages.{owns, page_in}

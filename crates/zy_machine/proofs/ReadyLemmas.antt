@@ -2,7 +2,7 @@
 use Rattle.std.proofs.Common.{◌≡◌, ◌∙◌, ℕ, ◌<◌, List, false, refl, length, sym, ap, subst, arith, true}
 use Rattle.std.specs.Prelude.{slice_get}
 use Rattle.std.proofs.lemmas.Bool.{false_from_ne_true, ltb-true}
-use Rattle.zy_modes.specs.Families.{is_idle}
+use Rattle.zy_model.specs.Families.{is_idle}
 use Rattle.zy_isa.specs.declared.node.Node.{Node}
 use Rattle.zy_isa.specs.declared.node.Node.TheVariants.{A, B}
 use Rattle.zy_isa.specs.declared.choice.Choice.{Choice}
@@ -10,7 +10,7 @@ use Rattle.zy_isa.specs.declared.choice.Choice.TheVariants.{Start, Begin, Kill, 
 use Rattle.zy_isa.specs.Limits.{max_choices}
 use Rattle.zy_isa.specs.Choices.{names_below}
 use Rattle.zy_isa.specs.Scenario.{Scenario, IsScenario}
-use Rattle.zy_wire.specs.Wireframe.{page_of}
+use Rattle.zy_model.specs.Wireframe.{page_of}
 use Rattle.zy_machine.specs.declared.node_pair.NodePair.{NodePair}
 use Rattle.zy_table.specs.State.{NodeState, State, Txn, facing}
 use Rattle.zy_node.specs.declared.node_store.NodeStore.{NodeStore}
@@ -24,7 +24,7 @@ use Rattle.zy_table.specs.Run.{own_inserts}
 use Rattle.zy_table.specs.Play.{play, opening}
 use Rattle.zy_laws.specs.Counts.{Safe, Fits}
 use Rattle.zy_table.specs.Order.{InOrder}
-use Rattle.zy_modes.specs.Table.{may_split as splits_in, may_start as starts_in}
+use Rattle.zy_model.specs.Table.{may_split as splits_in, may_start as starts_in}
 use Rattle.zy_steps.specs.Arrivals.{MayTake}
 use Rattle.zy_steps.specs.Ready.{IsReady, MaySplit, Rooms}
 use Rattle.zy_txns.specs.Books.{Countable, txn_in}

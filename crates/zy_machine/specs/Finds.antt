@@ -1,7 +1,7 @@
 -- What a look for a page finds.
 use Rattle.std.specs.Prelude.{ℕ, ◌≡◌, Option, Some, None}
 use Rattle.std.specs.Borrow.{Bor}
-use Rattle.zy_page.specs.Leaf.{Leaf}
+use Rattle.zy_model.specs.Leaf.{Leaf}
 use Rattle.zy_table.specs.Database.{all_leaves}
 use Rattle.zy_table.specs.Pages.{page_in}
 use Rattle.zy_table.specs.Places.{place_of}

@@ -1,6 +1,6 @@
 -- What a node takes over to become a copy of another one.
 use Rattle.std.specs.Prelude.{◌≡◌, ◌≤◌, ◌+◌, ℕ, Option, None, Some, length}
-use Rattle.zy_wire.specs.Wireframe.{Wireframe}
+use Rattle.zy_model.specs.Wireframe.{Wireframe}
 use Rattle.zy_node.specs.Mail.{Mail}
 use Rattle.zy_node.specs.Wireframes.{lows_in, limit_or}
 use Rattle.zy_node.specs.declared.node_store.NodeStore.{NodeStore}

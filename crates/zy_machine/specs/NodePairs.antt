@@ -9,7 +9,7 @@ use Rattle.zy_isa.specs.declared.choice.Choice.TheVariants.{Start, Begin, Kill, 
 use Rattle.zy_table.specs.State.{State, Move, Step, facing, seen_from}
 use Rattle.zy_steps.specs.Arrivals.{MayTake}
 use Rattle.zy_node.specs.Nodes.{node_shown, Limits, limits_of, IsLimited}
-use Rattle.zy_modes.specs.Table.{may_start}
+use Rattle.zy_model.specs.Table.{may_start}
 use Rattle.zy_table.specs.declared.answer.Answer.{Answer}
 use Rattle.zy_steps.specs.Ready.{IsReady as IsReadyHere}
 use Rattle.zy_machine.specs.declared.node_pair.NodePair.{NodePair}

@@ -18,7 +18,7 @@ ghost use Rattle.zy_machine.specs.NodePairs.{MayStart, Steps};
 use crate::node_copy::{become_copy, changed_parts};
 use std::alloc::{AllocError, Global};
 use zy_isa::{Choice, Node, Scenario};
-use zy_modes::table::on_start;
+use zy_model::table::on_start;
 use zy_node::NodeStore;
 use zy_steps::client::{begin_step, kill_step, start_step};
 use zy_steps::push::{finish_step, push_step};

@@ -4,7 +4,7 @@ use Rattle.zy_isa.specs.declared.node.Node.{Node}
 use Rattle.zy_isa.specs.declared.node.Node.TheVariants.{A, B}
 use Rattle.zy_isa.specs.declared.choice.Choice.TheVariants.{Start, Begin, Kill, Run, Take, Finish, Push}
 use Rattle.zy_isa.specs.Scenario.{Scenario}
-use Rattle.zy_links.specs.Messages.{Message}
+use Rattle.zy_model.specs.Messages.{Message}
 use Rattle.zy_table.specs.declared.entry.CommitRecord.{CommitRecord}
 use Rattle.zy_table.specs.State.{State, View, Txn, seen_from, other}
 use Rattle.zy_table.specs.Change.{txn_at}

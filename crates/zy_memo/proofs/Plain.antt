@@ -8,10 +8,10 @@ use Rattle.zy_isa.specs.declared.node.Node.TheVariants.{A, B}
 use Rattle.zy_isa.specs.declared.choice.Choice.{Choice}
 use Rattle.zy_isa.specs.declared.choice.Choice.TheVariants.{Start, Begin, Kill, Run, Take, Finish, Push}
 use Rattle.zy_isa.specs.Scenario.{Scenario}
-use Rattle.zy_links.specs.Messages.{Message}
-use Rattle.zy_modes.specs.declared.mode.NodeMode.{NodeMode}
-use Rattle.zy_modes.specs.declared.mode.NodeMode.TheVariants.{Empty, Normal, SInit, SDual, SFinish, DInit, DDual, DFinish}
-use Rattle.zy_modes.specs.Table.{on_start}
+use Rattle.zy_model.specs.Messages.{Message}
+use Rattle.zy_model.specs.declared.mode.NodeMode.{NodeMode}
+use Rattle.zy_model.specs.declared.mode.NodeMode.TheVariants.{Empty, Normal, SInit, SDual, SFinish, DInit, DDual, DFinish}
+use Rattle.zy_model.specs.Table.{on_start}
 use Rattle.zy_table.specs.State.{State, NodeState, Txn, Move, facing, seen_from, other, as_step}
 use Rattle.zy_table.specs.Change.{txn_or, txn_at, quiet}
 use Rattle.zy_table.specs.Client.{is_active, kill_step}

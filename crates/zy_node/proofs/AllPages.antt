@@ -3,13 +3,13 @@ use Rattle.std.proofs.Common.{◌≡◌, ℕ, suc, ◌+◌, ◌<◌, ◌≤◌, 
 use Rattle.std.specs.Prelude.{◌==◌}
 use Rattle.std.proofs.lemmas.Bool.{cases_lt, eq-eqb, eqb-true, false≢true, or_cases, or_left, or_right}
 use Rattle.zy_isa.specs.declared.row.Row.{Row}
-use Rattle.zy_page.specs.Leaf.{Leaf}
+use Rattle.zy_model.specs.Leaf.{Leaf}
 use Rattle.zy_table.specs.Order.{NumbersRise}
 use Rattle.zy_table.specs.Pages.{numbers, owns}
 use Rattle.zy_table.specs.Run.{gone_pages}
 use Rattle.zy_table.specs.State.{NodeState}
-use Rattle.zy_wire.specs.Wireframe.{page_of}
-use Rattle.zy_wire.proofs.PageOf.{page_of-within}
+use Rattle.zy_model.specs.Wireframe.{page_of}
+use Rattle.zy_model.proofs.PageOf.{page_of-within}
 use Rattle.zy_node.specs.Nodes.{OwnsAll}
 use Rattle.zy_node.specs.Slots.{laid_out, InPlace}
 use Rattle.zy_node.proofs.SlotLemmas.{few_slots}

@@ -1,6 +1,6 @@
 -- How many pages the wireframe of a node may have.
 use Rattle.std.proofs.Common.{◌≡◌, ℕ, ◌<◌, ◌≤◌, ap, subst, arith, length, Option, Some, None}
-use Rattle.zy_wire.specs.Wireframe.{Wireframe}
+use Rattle.zy_model.specs.Wireframe.{Wireframe}
 use Rattle.zy_node.specs.declared.node_store.NodeStore.{NodeStore}
 use Rattle.zy_node.specs.Nodes.{Limits, IsLimited}
 use Rattle.zy_node.specs.Wireframes.{lows_in, limit_or}

@@ -2,9 +2,9 @@
 use Rattle.std.proofs.Common.{◌≡◌, ◌+◌, ◌≤◌, Bool, true, false, ℕ, List, [], ◌∷◌, length, refl, arith}
 use Rattle.std.specs.Prelude.{not, if◌then◌else◌}
 use Rattle.std.proofs.lemmas.Bool.{false≢true}
-use Rattle.zy_locks.specs.declared.lock.LockKind.{LockKind}
+use Rattle.zy_model.specs.declared.lock.LockKind.{LockKind}
 use Rattle.zy_locks.specs.LockTable.{LockTable, HasPlaces}
-use Rattle.zy_locks.specs.Locks.{add_lock, holds, unheld}
+use Rattle.zy_model.specs.Locks.{add_lock, holds, unheld}
 use Rattle.zy_table.specs.State.{Lock}
 use Rattle.zy_table.proofs.LockLists.{holds_more}
 

@@ -1,7 +1,7 @@
 -- The pages of a range, step by step.
 use Rattle.std.proofs.Common.{List, [], ap, arith, get_or, inl, inr, sym, ℕ, ◌<◌, ◌≤◌, ◌∙◌, ◌∷◌, ◌≡◌, None, Some}
 use Rattle.std.specs.Prelude.{map}
-use Rattle.zy_wire.specs.Wireframe.{IsAfter, page_of}
+use Rattle.zy_model.specs.Wireframe.{IsAfter, page_of}
 use Rattle.zy_table.specs.Ranges.{lows_within}
 use Rattle.zy_table.proofs.RangeWalk.{lows_within-next, lows_within-none, page_of-next}
 

@@ -1,6 +1,6 @@
 -- The pages of a range, one after the other.
 use Rattle.std.specs.Prelude.{◌≡◌, ◌<◌, ◌≤◌, ℕ, List, [], ◌∷◌, Option, None, Some}
-use Rattle.zy_wire.specs.Wireframe.{page_of}
+use Rattle.zy_model.specs.Wireframe.{page_of}
 use Rattle.zy_table.specs.Ranges.{lows_within}
 use Rattle.zy_node.specs.declared.range.Place.{Place}
 

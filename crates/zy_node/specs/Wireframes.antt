@@ -1,6 +1,6 @@
 -- The wireframe of a node: a node without pages has none.
 use Rattle.std.specs.Prelude.{ℕ, ◌≤◌, List, [], Option, None, Some, IfSome}
-use Rattle.zy_wire.specs.Wireframe.{Wireframe}
+use Rattle.zy_model.specs.Wireframe.{Wireframe}
 
 -- the low keys of the pages
 abbrev pub lows_in : Option Wireframe → List ℕ

@@ -1,6 +1,6 @@
 //! The pages of a node, counted, and with a number that is not above any of theirs.
 ghost use Rattle.std.specs.Prelude.{◌≡◌, ◌<◌, ◌≤◌, [], None, true, IfOk, length, option_copied};
-ghost use Rattle.zy_page.specs.Leaf.{Leaf, rows_from};
+ghost use Rattle.zy_model.specs.Leaf.{Leaf, rows_from};
 ghost use Rattle.std.specs.Bool.{Decides};
 ghost use Rattle.zy_isa.specs.Limits.{max_pages};
 ghost use Rattle.zy_node.specs.OwnedPages.{with_row, OwnsBelow};
@@ -26,7 +26,7 @@ pub struct OwnedPages {
 
 impl Model for OwnedPages {
     ghost use Rattle.std.specs.Prelude.{List};
-    ghost use Rattle.zy_page.specs.Leaf.{Leaf};
+    ghost use Rattle.zy_model.specs.Leaf.{Leaf};
     ghost use Rattle.zy_node.specs.OwnedPages.{AreCounted};
 
     ghost Value = { List Leaf };

@@ -1,6 +1,6 @@
 //! The pages of the keys from one to another, one after the other in order of low key.
 ghost use Rattle.std.specs.Prelude.{◌≡◌, ◌<◌, ◌≤◌, ℕ, ◌∷◌, [], None, IfSome, length};
-ghost use Rattle.zy_locks.specs.Locks.{unheld};
+ghost use Rattle.zy_model.specs.Locks.{unheld};
 ghost use Rattle.zy_locks.specs.LockTable.{HasPlaces};
 ghost use Rattle.zy_table.specs.Change.{share_all};
 ghost use Rattle.zy_table.specs.Ranges.{range_pages};
@@ -10,7 +10,8 @@ ghost use Rattle.zy_node.specs.RangeSteps.{Leads};
 
 use crate::owned_pages::OwnedPages;
 use crate::wireframe::page_of;
-use zy_locks::{LockKind, Locks};
+use zy_locks::Locks;
+use zy_model::LockKind;
 use zy_wire::Wire;
 
 /// A page and its low key.

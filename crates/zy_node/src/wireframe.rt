@@ -1,7 +1,7 @@
 //! The wireframe of a node: a node without pages has none. What is said of a number `n` holds of each that is not below
 //! the wireframe's limit.
 ghost use Rattle.std.specs.Prelude.{◌≡◌, ◌==◌, ◌<◌, ◌≤◌, ◌++◌, ◌∷◌, [], ℕ, IfOk, OnOk, IsOk, Contains, length};
-ghost use Rattle.zy_wire.specs.Wireframe as wireframe;
+ghost use Rattle.zy_model.specs.Wireframe as wireframe;
 ghost use Rattle.zy_wire.specs.Ranges.{in_range};
 ghost use Rattle.zy_node.specs.Wireframes.{lows_in, limit_or, CanGrow};
 

@@ -9,8 +9,8 @@ use Rattle.zy_isa.specs.declared.instr.Reg.TheVariants.{R0}
 use Rattle.zy_isa.specs.declared.instr.Instr.TheVariants.{Set, Commit}
 use Rattle.zy_isa.specs.declared.choice.Choice.TheVariants.{Start, Begin, Run, Take}
 use Rattle.zy_isa.specs.Scenario.{Scenario}
-use Rattle.zy_links.specs.declared.kind.Kind.{Kind}
-use Rattle.zy_links.specs.declared.kind.Kind.TheVariants as kind
+use Rattle.zy_model.specs.declared.kind.Kind.{Kind}
+use Rattle.zy_model.specs.declared.kind.Kind.TheVariants as kind
 use Rattle.zy_logs.specs.declared.told.Told.{Told}
 use Rattle.zy_logs.specs.declared.told.Told.TheVariants as told
 use Rattle.zy_table.specs.declared.outcome.Outcome.TheVariants as outcome

@@ -1,8 +1,8 @@
 -- The bytes of a state tell it.
 use Rattle.std.proofs.Common.{◌≡◌, ◌∙◌, ℕ, List, [], ◌++◌, refl, ap}
 use Rattle.zy_isa.specs.declared.row.Row.{Row}
-use Rattle.zy_page.specs.Leaf.{Leaf}
-use Rattle.zy_locks.specs.declared.lock.Lock.{Lock}
+use Rattle.zy_model.specs.Leaf.{Leaf}
+use Rattle.zy_model.specs.declared.lock.Lock.{Lock}
 use Rattle.zy_table.specs.declared.entry.CommitRecord.{CommitRecord}
 use Rattle.zy_table.specs.State.{State, NodeState, Txn}
 use Rattle.zy_pack.specs.Codes.{node_code, mode_code, lock_code, status_code, status_page, message_code, message_lows, message_leaf}

@@ -2,13 +2,13 @@
 use Rattle.std.specs.Prelude.{ℕ, List, []}
 use Rattle.zy_isa.specs.declared.node.Node.{Node}
 use Rattle.zy_isa.specs.declared.node.Node.TheVariants.{A, B}
-use Rattle.zy_page.specs.Leaf.{Leaf}
-use Rattle.zy_locks.specs.declared.lock.LockKind.{LockKind}
-use Rattle.zy_locks.specs.declared.lock.LockKind.TheVariants.{Shared, Exclusive}
-use Rattle.zy_modes.specs.declared.mode.NodeMode.{NodeMode}
-use Rattle.zy_modes.specs.declared.mode.NodeMode.TheVariants.{Empty, Normal, SInit, SDual, SFinish, DInit, DDual}
-use Rattle.zy_modes.specs.declared.mode.NodeMode.TheVariants.{DFinish}
-use Rattle.zy_links.specs.Messages.{Message, Wire, Ready, Dual, Pull, Page, Finish, Done}
+use Rattle.zy_model.specs.Leaf.{Leaf}
+use Rattle.zy_model.specs.declared.lock.LockKind.{LockKind}
+use Rattle.zy_model.specs.declared.lock.LockKind.TheVariants.{Shared, Exclusive}
+use Rattle.zy_model.specs.declared.mode.NodeMode.{NodeMode}
+use Rattle.zy_model.specs.declared.mode.NodeMode.TheVariants.{Empty, Normal, SInit, SDual, SFinish, DInit, DDual}
+use Rattle.zy_model.specs.declared.mode.NodeMode.TheVariants.{DFinish}
+use Rattle.zy_model.specs.Messages.{Message, Wire, Ready, Dual, Pull, Page, Finish, Done}
 use Rattle.zy_table.specs.declared.outcome.Why.TheVariants as why
 use Rattle.zy_table.specs.declared.status.Status.{Status}
 use Rattle.zy_table.specs.declared.status.Status.TheVariants.{New, Active, Committed, Aborted}

@@ -9,7 +9,7 @@ use crate::codes::{lock_code, node_code, status_code, status_page};
 use std::alloc::AllocError;
 use zy_isa::Row;
 use zy_links::{Link, Message};
-use zy_locks::Lock;
+use zy_model::Lock;
 use zy_page::Page;
 use zy_table::CommitRecord;
 use zy_txns::Txn;

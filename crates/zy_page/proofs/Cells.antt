@@ -8,7 +8,7 @@ use Rattle.zy_isa.specs.declared.row.Row.{Row}
 use Rattle.zy_isa.specs.Rows.{put_row}
 use Rattle.zy_page.specs.Place.{Finds}
 use Rattle.zy_page.specs.RowLists.{AreKept}
-use Rattle.zy_page.proofs.Rows.{Rising-put_row, RowsFit-put_row}
+use Rattle.zy_model.proofs.Rows.{Rising-put_row, RowsFit-put_row}
 use Rattle.zy_page.proofs.Found.{put_row_at}
 
 -- a row more, or over another

@@ -6,7 +6,7 @@ use Rattle.std.specs.List.Sorted.{IsNonDecreasingBy}
 use Rattle.zy_isa.specs.declared.row.Row.{Row}
 use Rattle.zy_isa.specs.Rows.{Rising, row, get_row, put_row}
 use Rattle.zy_page.specs.Place.{IsPlace}
-use Rattle.zy_page.proofs.Rows.{put_row_same, put_row_below, put_row_above, get_row_same, get_row_past, get_row_below}
+use Rattle.zy_model.proofs.Rows.{put_row_same, put_row_below, put_row_above, get_row_same, get_row_past, get_row_below}
 
 -- each key of rows that rise is at least where they rise from
 pub key_from : (low i : ℕ) (d : Row) (rows : List Row) → Rising low rows → i < length rows → low ≤ (get_or rows i d).key

@@ -1,3 +1,2 @@
-pub mod Leaf
 pub mod Place
 pub mod RowLists

@@ -2,7 +2,7 @@
 ghost use Rattle.std.specs.Prelude.{◌≡◌, ◌==◌, ◌<◌, ◌≤◌, IsSome, None, [], insert, length, slice_index_or};
 ghost use Rattle.zy_isa.specs.Limits.{max_cap};
 ghost use Rattle.zy_isa.specs.Rows.{Rising, RowsFit, get_row, put_row};
-ghost use Rattle.zy_page.specs.Leaf.{rows_below, rows_from};
+ghost use Rattle.zy_model.specs.Leaf.{rows_below, rows_from};
 ghost use Rattle.zy_page.specs.RowLists.{AreKept};
 
 use crate::finding::{place, search, value_at};
@@ -27,7 +27,7 @@ pub struct Page {
 
 impl Model for Page {
     ghost use Rattle.std.specs.Prelude.{take};
-    ghost use Rattle.zy_page.specs.Leaf.{Leaf};
+    ghost use Rattle.zy_model.specs.Leaf.{Leaf};
     ghost use Rattle.zy_page.specs.RowLists.{IsPageful};
 
     ghost Value = { Leaf };

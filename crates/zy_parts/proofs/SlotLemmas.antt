@@ -2,7 +2,7 @@
 use Rattle.std.proofs.Common.{◌≡◌, ◌∙◌, ℕ, suc, ◌+◌, ◌<◌, List, [], ◌∷◌, ◌++◌, length, take, slice_index_or, Option, Some, None, refl, sym, ap, arith, append_assoc}
 use Rattle.std.proofs.Math.Seq.{take-suc}
 use Rattle.std.specs.List.{flat_map}
-use Rattle.zy_page.specs.Leaf.{Leaf}
+use Rattle.zy_model.specs.Leaf.{Leaf}
 use Rattle.zy_node.specs.Slots.{laid_out}
 use Rattle.zy_pack.specs.Packed.{leaf}
 

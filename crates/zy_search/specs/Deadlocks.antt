@@ -4,7 +4,7 @@ use Rattle.std.specs.List.{list_any}
 use Rattle.zy_isa.specs.declared.node.Node.{Node}
 use Rattle.zy_isa.specs.declared.choice.Choice.TheVariants.{Run}
 use Rattle.zy_isa.specs.Scenario.{Scenario}
-use Rattle.zy_locks.specs.Locks.{holds}
+use Rattle.zy_model.specs.Locks.{holds}
 use Rattle.zy_table.specs.declared.outcome.Outcome.{Outcome}
 use Rattle.zy_table.specs.declared.outcome.Outcome.TheVariants.{Waits}
 use Rattle.zy_table.specs.State.{State, facing}

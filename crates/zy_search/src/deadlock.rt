@@ -2,13 +2,13 @@
 ghost use Rattle.std.specs.Prelude.{◌≡◌, ◌<◌, IfOk, OnOk, length};
 ghost use Rattle.std.specs.List.{list_any};
 ghost use Rattle.zy_isa.specs.Limits.{max_choices};
-ghost use Rattle.zy_locks.specs.Locks as locks_locks;
+ghost use Rattle.zy_model.specs.Locks as locks_locks;
 ghost use Rattle.zy_search.specs.Deadlocks as spec;
 
 use std::alloc::{AllocError, Global};
 use zy_isa::{Choice, Node};
 use zy_laws::laws::safe_counts;
-use zy_locks::Lock;
+use zy_model::Lock;
 use zy_machine::{Fault, Machine};
 use zy_table::Outcome;
 

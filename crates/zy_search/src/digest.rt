@@ -1,10 +1,11 @@
 //! Digests of states.
 
 use zy_isa::{Node, Row};
-use zy_links::{Kind, Message};
-use zy_locks::LockKind;
+use zy_links::Message;
+use zy_model::Kind;
+use zy_model::LockKind;
 use zy_machine::{Machine, StatePart};
-use zy_modes::NodeMode;
+use zy_model::NodeMode;
 use zy_table::{Place, Status, Why};
 use zy_txns::Txn;
 

@@ -1,13 +1,13 @@
 //! The node that acts.
 ghost use Rattle.std.specs.Prelude.{◌≡◌, length, true};
 ghost use Rattle.zy_isa.specs.Choices.{names_below};
-ghost use Rattle.zy_modes.specs.Families as families;
+ghost use Rattle.zy_model.specs.Families as families;
 ghost use Rattle.zy_table.specs.Play as table;
 
 use zy_isa::{Choice, Node};
 use zy_machine::Machine;
-use zy_modes::NodeMode;
-use zy_modes::table::on_start;
+use zy_model::NodeMode;
+use zy_model::table::on_start;
 
 /// The node whose side a choice is read from; a start that no node may make is read from A's.
 pub fn side_of(machine: &Machine, choice: Choice) -> Node

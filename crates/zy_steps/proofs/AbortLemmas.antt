@@ -2,8 +2,8 @@
 use Rattle.std.proofs.Common.{◌≡◌, ◌∙◌, ℕ, refl, ap, length, true, false}
 use Rattle.std.specs.Prelude.{nat_le}
 use Rattle.zy_isa.specs.Scenario.{Scenario}
-use Rattle.zy_locks.specs.declared.lock.LockKind.{LockKind}
-use Rattle.zy_modes.specs.Table.{may_split}
+use Rattle.zy_model.specs.declared.lock.LockKind.{LockKind}
+use Rattle.zy_model.specs.Table.{may_split}
 use Rattle.zy_table.specs.declared.outcome.Why.TheVariants.{Missing, Duplicate, Frozen, NoPage}
 use Rattle.zy_table.specs.State.{View}
 use Rattle.zy_table.specs.Change.{txn_at, locked}

@@ -4,8 +4,8 @@ use Rattle.std.specs.Prelude.{◌==◌, ◌&&◌}
 use Rattle.std.proofs.Math.Dec.{eqb-suc-suc, eqb-zero-suc}
 use Rattle.std.proofs.Math.Nat.{add-zero}
 use Rattle.std.proofs.lemmas.Bool.{cases_eq, eq-eqb, eqb-true, ne_eqb, or_cases, or_right}
-use Rattle.zy_page.specs.Leaf.{Leaf}
-use Rattle.zy_links.specs.Messages.{Page}
+use Rattle.zy_model.specs.Leaf.{Leaf}
+use Rattle.zy_model.specs.Messages.{Page}
 use Rattle.zy_table.specs.State.{NodeState}
 use Rattle.zy_table.specs.Order.{NumbersRise}
 use Rattle.zy_table.specs.Pages.{numbers, owns}

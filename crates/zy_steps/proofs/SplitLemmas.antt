@@ -3,13 +3,13 @@ use Rattle.std.proofs.Common.{List, [], None, ap, arith, false, inl, inr, length
 use Rattle.std.specs.Prelude.{Contains, is_some, not, ◌&&◌, ◌==◌}
 use Rattle.std.proofs.lemmas.Bool.{and_from, and_parts, eq-eqb, eqb-false, false≢true, false_from_ne_true, not-true, or_cases, or_left, or_right}
 use Rattle.zy_isa.specs.Scenario.{Scenario}
-use Rattle.zy_page.specs.Leaf.{Leaf}
-use Rattle.zy_wire.specs.Wireframe.{page_of}
+use Rattle.zy_model.specs.Leaf.{Leaf}
+use Rattle.zy_model.specs.Wireframe.{page_of}
 use Rattle.zy_table.specs.Pages.{owns, page_in}
-use Rattle.zy_locks.specs.Locks.{add_lock, clashes, conflict, is_shared}
-use Rattle.zy_locks.specs.declared.lock.LockKind.{LockKind}
-use Rattle.zy_locks.specs.declared.lock.LockKind.TheVariants.{Exclusive}
-use Rattle.zy_modes.specs.Table.{may_split}
+use Rattle.zy_model.specs.Locks.{add_lock, clashes, conflict, is_shared}
+use Rattle.zy_model.specs.declared.lock.LockKind.{LockKind}
+use Rattle.zy_model.specs.declared.lock.LockKind.TheVariants.{Exclusive}
+use Rattle.zy_model.specs.Table.{may_split}
 use Rattle.zy_node.specs.declared.node_store.NodeStore.{NodeStore}
 use Rattle.zy_table.specs.Holders.{holds}
 use Rattle.zy_table.specs.Run.{boundary, has_room, is_there}
@@ -17,7 +17,7 @@ use Rattle.zy_node.specs.Nodes.{node_shown, IsCuttable}
 use Rattle.zy_node.specs.Wireframes.{lows_in, limit_or}
 use Rattle.zy_node.proofs.LimitLemmas.{limit_left}
 use Rattle.zy_txns.specs.Books.{Ledger, txn_in}
-use Rattle.zy_locks.specs.declared.lock.Lock.{Lock}
+use Rattle.zy_model.specs.declared.lock.Lock.{Lock}
 use Rattle.zy_steps.specs.Ready.{IsFull}
 use Rattle.zy_table.proofs.LockLists.{holds-add}
 use Rattle.zy_table.proofs.PageFinds.{owns-page_in}

@@ -3,17 +3,17 @@ use Rattle.std.proofs.Common.{List, [], ap, arith, get_or, inl, inr, subst, sym,
 use Rattle.std.specs.Prelude.{◌==◌}
 use Rattle.std.proofs.lemmas.Bool.{eqb-true, false≢true, or_cases}
 use Rattle.zy_isa.specs.Rows.{get_row}
-use Rattle.zy_wire.specs.Wireframe.{page_of}
-use Rattle.zy_wire.proofs.PageOf.{page_of-from}
+use Rattle.zy_model.specs.Wireframe.{page_of}
+use Rattle.zy_model.proofs.PageOf.{page_of-from}
 use Rattle.zy_table.specs.Numbers.{has}
 use Rattle.zy_table.specs.Pages.{rows_of}
 use Rattle.zy_table.specs.Ranges.{lows_within, range, total}
 use Rattle.zy_table.specs.Run.{value_for}
 use Rattle.zy_table.specs.State.{NodeState, Txn}
-use Rattle.zy_table.specs.Sums.{value_beside}
+use Rattle.zy_node.specs.Sums.{value_beside}
 use Rattle.zy_table.proofs.RangeLists.{has-within, total_same, within_range}
 use Rattle.zy_table.proofs.RangeWalk.{above}
-use Rattle.zy_table.proofs.RowSums.{own_apart, range_split, total_append, total_plus}
+use Rattle.zy_node.proofs.RowSums.{own_apart, range_split, total_append, total_plus}
 
 -- what a transaction's page has at a key that is not private
 abbrev pub committed_at : Txn → NodeState → ℕ → ℕ

@@ -3,8 +3,8 @@ use Rattle.std.proofs.Common.{◌≡◌, ◌∙◌, ℕ, List, [], ◌∷◌, re
 use Rattle.std.specs.Prelude.{slice_get}
 use Rattle.std.proofs.lemmas.Bool.{false≢true}
 use Rattle.zy_isa.specs.Scenario.{Scenario}
-use Rattle.zy_modes.specs.declared.table.MessageLine.{MessageLine}
-use Rattle.zy_links.specs.Messages.{Message, Wire, Ready, Dual, Pull, Page, Finish, Done}
+use Rattle.zy_model.specs.declared.table.MessageLine.{MessageLine}
+use Rattle.zy_model.specs.Messages.{Message, Wire, Ready, Dual, Pull, Page, Finish, Done}
 use Rattle.zy_table.specs.declared.outcome.Outcome.TheVariants.{NoMessage}
 use Rattle.zy_table.specs.State.{View, NodeState}
 use Rattle.zy_table.specs.Change.{quiet}

@@ -1,8 +1,8 @@
 -- What is at the front of a link, and a call on a node and the link to it.
 use Rattle.std.specs.Prelude.{◌≡◌, [], Bool, true, false, IsOk, List, Some, Result, drop, slice_get}
-use Rattle.zy_modes.specs.declared.table.MessageLine.{MessageLine}
-use Rattle.zy_modes.specs.Table.{on_message}
-use Rattle.zy_links.specs.Messages.{Message, Pull, kind_of}
+use Rattle.zy_model.specs.declared.table.MessageLine.{MessageLine}
+use Rattle.zy_model.specs.Table.{on_message}
+use Rattle.zy_model.specs.Messages.{Message, Pull, kind_of}
 use Rattle.zy_table.specs.State.{View, NodeState, Move}
 use Rattle.zy_table.specs.Take.{all_here, with_brought}
 use Rattle.zy_node.specs.declared.node_store.NodeStore.{NodeStore}

@@ -4,10 +4,10 @@ use Rattle.zy_isa.specs.Limits.{max_key}
 use Rattle.zy_isa.specs.Rows.{get_row}
 use Rattle.zy_isa.specs.Scenario.{Scenario}
 use Rattle.zy_isa.specs.declared.instr.Instr.{Instr}
-use Rattle.zy_locks.specs.Locks.{conflict}
+use Rattle.zy_model.specs.Locks.{conflict}
 use Rattle.zy_locks.specs.LockTable.{HasPlaces}
-use Rattle.zy_modes.specs.Table.{may_pull, may_split}
-use Rattle.zy_wire.specs.Wireframe.{page_of}
+use Rattle.zy_model.specs.Table.{may_pull, may_split}
+use Rattle.zy_model.specs.Wireframe.{page_of}
 use Rattle.zy_table.specs.declared.effect.Effect.{Effect}
 use Rattle.zy_table.specs.declared.effect.Effect.TheVariants.{Sets, Jumps, Accesses, Sums, Commits, Aborts}
 use Rattle.zy_table.specs.Effects.{effect_of}

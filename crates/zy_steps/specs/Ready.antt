@@ -4,9 +4,9 @@ use Rattle.zy_isa.specs.Limits.{max_pages, max_txns}
 use Rattle.zy_isa.specs.declared.node.Node.{Node}
 use Rattle.zy_isa.specs.Scenario.{Scenario}
 use Rattle.zy_locks.specs.LockTable.{HasPlaces}
-use Rattle.zy_locks.specs.declared.lock.LockKind.TheVariants.{Exclusive}
-use Rattle.zy_modes.specs.Table.{may_split}
-use Rattle.zy_wire.specs.Wireframe.{page_of}
+use Rattle.zy_model.specs.declared.lock.LockKind.TheVariants.{Exclusive}
+use Rattle.zy_model.specs.Table.{may_split}
+use Rattle.zy_model.specs.Wireframe.{page_of}
 use Rattle.zy_table.specs.State.{NodeState, Txn}
 use Rattle.zy_table.specs.Holders.{holds}
 use Rattle.zy_table.specs.Pages.{page_in, owns}

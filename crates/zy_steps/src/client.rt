@@ -1,6 +1,6 @@
 //! The client's lines: each function is the line of its name.
 ghost use Rattle.std.specs.Prelude.{◌≡◌, ◌<◌, IsOk, length, true, false};
-ghost use Rattle.zy_modes.specs.Table.{may_start};
+ghost use Rattle.zy_model.specs.Table.{may_start};
 ghost use Rattle.zy_node.specs.Nodes.{limits_of, IsLimited};
 ghost use Rattle.zy_node.specs.Wireframes.{lows_in};
 ghost use Rattle.zy_table.specs.State.{View};
@@ -12,9 +12,10 @@ ghost use Rattle.zy_steps.specs.Sides.{beside};
 
 use crate::run::abort_step;
 use std::alloc::{AllocError, Global};
-use zy_links::{Kind, Message};
-use zy_modes::NodeMode;
-use zy_modes::table::home_of;
+use zy_links::Message;
+use zy_model::Kind;
+use zy_model::NodeMode;
+use zy_model::table::home_of;
 use zy_node::NodeStore;
 use zy_node::wireframe::copy;
 use zy_table::{Answer, Outcome, Why};

@@ -1,8 +1,8 @@
 //! `n push` and `n finish`.
 ghost use Rattle.std.specs.Prelude.{◌≡◌, ◌≤◌, ◌++◌, ◌∷◌, [], IsOk, length};
 ghost use Rattle.zy_isa.specs.Limits.{max_txns};
-ghost use Rattle.zy_links.specs.Messages.{Finish};
-ghost use Rattle.zy_modes.specs.declared.mode.NodeMode.TheVariants.{SFinish};
+ghost use Rattle.zy_model.specs.Messages.{Finish};
+ghost use Rattle.zy_model.specs.declared.mode.NodeMode.TheVariants.{SFinish};
 ghost use Rattle.zy_table.specs.State.{View};
 ghost use Rattle.zy_table.specs.Push as push;
 ghost use Rattle.zy_node.specs.Nodes.{node_shown, limits_of, with_node};
@@ -13,9 +13,10 @@ ghost use Rattle.zy_table.specs.Answers.{Makes};
 use crate::take::leave;
 use std::alloc::AllocError;
 use zy_isa::Node;
-use zy_links::{Kind, Message};
-use zy_modes::table::on_finish;
-use zy_modes::{FinishLine, NodeMode};
+use zy_links::Message;
+use zy_model::Kind;
+use zy_model::table::on_finish;
+use zy_model::{FinishLine, NodeMode};
 use zy_node::NodeStore;
 use zy_table::{Answer, Outcome};
 use zy_txns::Book;

@@ -5,13 +5,13 @@ ghost use Rattle.zy_table.specs.Pages.{rows_of};
 ghost use Rattle.zy_table.specs.Ranges.{range, total};
 ghost use Rattle.zy_table.specs.Run.{value_for};
 ghost use Rattle.zy_node.specs.Nodes.{node_shown};
-ghost use Rattle.zy_table.specs.Sums.{value_beside};
+ghost use Rattle.zy_node.specs.Sums.{value_beside};
 
 use zy_isa::Row;
 use zy_node::NodeStore;
 use zy_node::range::next_page;
 use zy_node::wireframe::page_of;
-use zy_table::sums::sum_of_rows;
+use zy_node::sums::sum_of_rows;
 use zy_txns::Txn;
 
 /// What a transaction reads at the keys from one to another, together, modulo 2^32: its private rows, and page by page

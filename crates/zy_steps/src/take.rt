@@ -1,9 +1,10 @@
 //! `n take`: each function is the lines of its name.
 ghost use Rattle.std.specs.Prelude.{◌≡◌, ◌≤◌, ◌+◌, ◌==◌, ◌++◌, ◌∷◌, ◌⊎◌, [], IsOk, None, OnOk, Some, true, false};
 ghost use Rattle.std.specs.Prelude.{is_some, length, slice_get};
-ghost use Rattle.zy_links.specs.Messages.{Message as AMessage, Page, kind_of, message_of};
-ghost use Rattle.zy_modes.specs.Table as modes;
-ghost use Rattle.zy_modes.specs.declared.table.MessageLine.TheVariants.{Turns};
+ghost use Rattle.zy_model.specs.Messages.{Message as AMessage, Page, kind_of};
+ghost use Rattle.zy_links.specs.Messages.{message_of};
+ghost use Rattle.zy_model.specs.Table as modes;
+ghost use Rattle.zy_model.specs.declared.table.MessageLine.TheVariants.{Turns};
 ghost use Rattle.zy_table.specs.Order.{NumbersRise};
 ghost use Rattle.zy_table.specs.Pages.{leaf_at, numbers, without};
 ghost use Rattle.zy_table.specs.Pages as table_pages;
@@ -17,9 +18,10 @@ ghost use Rattle.zy_steps.specs.Fronts.{front_of, rest, IsFront, Takes, TakesInR
 
 use std::alloc::AllocError;
 use zy_isa::{Rule, Scenario};
-use zy_links::{Kind, Message};
-use zy_modes::table::on_message;
-use zy_modes::{MessageLine, NodeMode};
+use zy_links::Message;
+use zy_model::Kind;
+use zy_model::table::on_message;
+use zy_model::{MessageLine, NodeMode};
 use zy_node::wireframe::page_count;
 use zy_node::{Mailbox, NodeStore};
 use zy_table::{Answer, Outcome};

@@ -6,9 +6,9 @@ use Rattle.zy_isa.specs.declared.choice.Choice.TheVariants.{Start}
 use Rattle.zy_isa.specs.declared.node.Node.{Node}
 use Rattle.zy_isa.specs.declared.node.Node.TheVariants.{A, B}
 use Rattle.zy_isa.specs.Scenario.{Scenario}
-use Rattle.zy_modes.specs.declared.mode.NodeMode.{NodeMode}
-use Rattle.zy_modes.specs.declared.mode.NodeMode.TheVariants.{Empty, Normal, SInit, SDual, SFinish, DInit, DDual}
-use Rattle.zy_modes.specs.declared.mode.NodeMode.TheVariants.{DFinish}
+use Rattle.zy_model.specs.declared.mode.NodeMode.{NodeMode}
+use Rattle.zy_model.specs.declared.mode.NodeMode.TheVariants.{Empty, Normal, SInit, SDual, SFinish, DInit, DDual}
+use Rattle.zy_model.specs.declared.mode.NodeMode.TheVariants.{DFinish}
 use Rattle.zy_table.specs.Database.{database}
 use Rattle.zy_table.specs.Places.{place_of}
 use Rattle.zy_table.specs.Play.{step, play, opening}

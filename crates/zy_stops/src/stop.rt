@@ -5,7 +5,7 @@ ghost use Rattle.zy_stops.specs.Stops as spec;
 
 use zy_isa::Node;
 use zy_machine::Machine;
-use zy_modes::NodeMode;
+use zy_model::NodeMode;
 use zy_table::{Outcome, Place};
 
 /// A stop: a break or a watch.

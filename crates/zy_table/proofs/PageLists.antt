@@ -2,7 +2,7 @@
 use Rattle.std.proofs.Common.{Bool, List, [], ap, arith, false, inl, inr, length, refl, subst, suc, sym, true, ℕ, ◌+◌, ◌∙◌, ◌∷◌, ◌≡◌, ◌≤◌}
 use Rattle.std.proofs.lemmas.Bool.{cond_both, eq-eqb, eqb-false, ltb-false, ltb-true, or_left, or_parts, or_right}
 use Rattle.std.specs.Prelude.{Some, nat_lt, ◌==◌, ◌||◌, ◌⊎◌}
-use Rattle.zy_page.specs.Leaf.{Leaf}
+use Rattle.zy_model.specs.Leaf.{Leaf}
 use Rattle.zy_table.specs.Numbers.{least, least_with}
 use Rattle.zy_table.specs.Order.{NumbersRise}
 use Rattle.zy_table.specs.Pages.{lowered, numbers, owns, with_page}

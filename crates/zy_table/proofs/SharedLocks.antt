@@ -2,9 +2,9 @@
 use Rattle.std.proofs.Common.{Bool, List, [], ap, false, inl, inr, refl, sym, true, ℕ, ◌∙◌, ◌∷◌, ◌≡◌}
 use Rattle.std.specs.Prelude.{None, Some, if◌then◌else◌, nat_lt, not, ◌&&◌, ◌==◌, ◌||◌}
 use Rattle.std.proofs.lemmas.Bool.{and_parts, cond_both, eq-eqb, eqb-true, false≢true, or_cases}
-use Rattle.zy_locks.specs.Locks.{add_lock, clashes, conflict, is_shared, stronger}
-use Rattle.zy_locks.specs.declared.lock.LockKind.{LockKind}
-use Rattle.zy_locks.specs.declared.lock.LockKind.TheVariants.{Shared}
+use Rattle.zy_model.specs.Locks.{add_lock, clashes, conflict, is_shared, stronger}
+use Rattle.zy_model.specs.declared.lock.LockKind.{LockKind}
+use Rattle.zy_model.specs.declared.lock.LockKind.TheVariants.{Shared}
 use Rattle.zy_table.specs.Change.{share_all}
 use Rattle.zy_table.specs.Holders.{holds}
 use Rattle.zy_table.specs.Numbers.{has}

@@ -1,6 +1,6 @@
 -- The keys from one to another, what they have together, and the pages that they lie on.
 use Rattle.std.specs.Prelude.{ℕ, zero, suc, ◌+◌, ◌-◌, nat_lt, nat_le, List, [], ◌∷◌, ◌&&◌, if◌then◌else◌, map}
-use Rattle.zy_wire.specs.Wireframe.{page_of}
+use Rattle.zy_model.specs.Wireframe.{page_of}
 use Rattle.zy_table.specs.Keys.{put_key}
 
 -- n keys, from k on

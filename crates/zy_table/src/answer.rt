@@ -2,7 +2,7 @@
 ghost use Rattle.std.specs.Prelude.{◌≡◌, None, Some};
 
 use crate::outcome::Outcome;
-use zy_links::Kind;
+use zy_model::Kind;
 
 /// What came of a step: its outcome, and the kind of message that was sent.
 #[derive(Clone, Copy, Debug, PartialEq, Eq)]

@@ -6,8 +6,8 @@ use Rattle.std.proofs.lemmas.List.{length-drop}
 use Rattle.std.proofs.lemmas.Grind.{flat_map-append}
 use Rattle.zy_isa.specs.declared.node.Node.{Node}
 use Rattle.zy_isa.specs.declared.node.Node.TheVariants.{A, B}
-use Rattle.zy_locks.specs.declared.lock.Lock.{Lock}
-use Rattle.zy_page.specs.Leaf.{Leaf}
+use Rattle.zy_model.specs.declared.lock.Lock.{Lock}
+use Rattle.zy_model.specs.Leaf.{Leaf}
 use Rattle.zy_table.specs.State.{State}
 use Rattle.zy_table.specs.Pages.{page_in, leaf_at}
 use Rattle.zy_table.specs.Places.{place_of}

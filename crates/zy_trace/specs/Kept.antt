@@ -2,7 +2,7 @@
 use Rattle.std.specs.Prelude.{◌≡◌, ◌==◌, ℕ, Bool, not, List}
 use Rattle.std.specs.List.{list_all}
 use Rattle.zy_isa.specs.declared.node.Node.{Node}
-use Rattle.zy_locks.specs.declared.lock.Lock.{Lock}
+use Rattle.zy_model.specs.declared.lock.Lock.{Lock}
 use Rattle.zy_audit.specs.Locked.{locks_on}
 use Rattle.zy_trace.specs.declared.kept.Rests.{Rests}
 

@@ -5,7 +5,7 @@ ghost use Rattle.zy_audit.specs.Locked.{page_reply};
 ghost use Rattle.zy_trace.specs.Kept.{AreRests, none_on};
 
 use zy_isa::{Node, Row};
-use zy_locks::Lock;
+use zy_model::Lock;
 use zy_machine::Machine;
 use zy_page::Page;
 use zy_table::Place;

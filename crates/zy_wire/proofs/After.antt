@@ -4,8 +4,8 @@ use Rattle.std.specs.Prelude.{Contains}
 use Rattle.std.proofs.lemmas.Bool.{cases_lt, cases_order}
 use Rattle.std.proofs.lemmas.List.{get_or_default}
 use Rattle.zy_wire.specs.Pages.{Apart}
-use Rattle.zy_wire.specs.Wireframe.{page_of, IsNext, IsAfter}
-use Rattle.zy_wire.proofs.PageOf.{page_of-within, page_of-greatest}
+use Rattle.zy_model.specs.Wireframe.{page_of, IsNext, IsAfter}
+use Rattle.zy_model.proofs.PageOf.{page_of-within, page_of-greatest}
 
 -- the page of that low key has it
 pub at_key : (lows : List ℕ) (end : ℕ) → Contains lows end → get_or lows (page_of lows end) 0 ≡ end

@@ -6,8 +6,8 @@ use Rattle.zy_wire.specs.declared.entry.Entry.{Entry}
 use Rattle.zy_wire.specs.ByLow.{front, Rise, IsPlace, Leads}
 use Rattle.zy_wire.specs.Nodes.{TreeNode, low_of, LeafAt, key_end}
 use Rattle.zy_wire.specs.Pages.{Apart, Small, EntryOf, Has, Holds}
-use Rattle.zy_wire.specs.Wireframe.{page_of, IsNext}
-use Rattle.zy_wire.proofs.PageOf.{page_of-is}
+use Rattle.zy_model.specs.Wireframe.{page_of, IsNext}
+use Rattle.zy_model.proofs.PageOf.{page_of-is}
 use Rattle.zy_wire.proofs.Entries.{low_from, low_rises, front_drop, front_past, front_end, below_front, Rise-lift, Rise-drop}
 use Rattle.zy_wire.proofs.Held.{match_at, key_at, low_of_entry}
 

@@ -1,5 +1,3 @@
-pub mod PageOf
-pub mod Longer
 pub mod Cells
 pub mod Entries
 pub mod Descent

@@ -3,10 +3,10 @@ use Rattle.std.proofs.Common.{◌≡◌, ◌∙◌, ℕ, ◌<◌, ◌≤◌, Boo
 use Rattle.std.proofs.Common.{inr}
 use Rattle.std.proofs.lemmas.Bool.{and_parts, and_from, leb-true, ltb-true, le-leb, lt-ltb, eq-eqb, ne_eqb, cases_lt, true≢false}
 use Rattle.std.proofs.lemmas.List.{get_or_default}
-use Rattle.zy_wire.specs.Wireframe.{page_of, IsNext}
+use Rattle.zy_model.specs.Wireframe.{page_of, IsNext}
 use Rattle.zy_wire.specs.Ranges.{is_before}
 use Rattle.zy_wire.specs.Pages.{Apart}
-use Rattle.zy_wire.proofs.PageOf.{page_of-is, page_of-greatest}
+use Rattle.zy_model.proofs.PageOf.{page_of-is, page_of-greatest}
 
 -- no low key from that of a page on, and not above k, is another
 most : (lows : List ℕ) (p k q : ℕ) (end : Option ℕ) → IsNext lows (get_or lows p 0) end → is_before end k ≡ true → q < length lows → get_or lows q 0 ≤ k

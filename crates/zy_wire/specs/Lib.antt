@@ -1,5 +1,4 @@
 pub mod ByLow
 pub mod Nodes
 pub mod Pages
-pub mod Wireframe
 pub mod Ranges

@@ -1,8 +1,8 @@
 //! The wireframe of a node.
 ghost use Rattle.std.specs.Prelude.{◌≡◌, ◌==◌, ◌↔◌, ◌+◌, ◌^◌, ◌<◌, ◌≤◌, ◌++◌, ◌∷◌, [], OnOk, OnErr, IfOk, IfSome, IsOk};
 ghost use Rattle.std.specs.Prelude.{Err, Contains, ℕ, length, slice_index};
-ghost use Rattle.zy_wire.specs.Wireframe.{IsGreatest, IsNext, IsAfter};
-ghost use Rattle.zy_wire.specs.Wireframe as spec;
+ghost use Rattle.zy_model.specs.Wireframe.{IsGreatest, IsNext, IsAfter};
+ghost use Rattle.zy_model.specs.Wireframe as spec;
 ghost use Rattle.zy_wire.specs.Ranges.{in_range};
 
 use crate::entry::Entry;
@@ -46,7 +46,7 @@ impl Model for Wire {
     ghost use Rattle.std.specs.Prelude.{◌+◌, ◌-◌, length, min};
     ghost use Rattle.std.specs.Vec.{vec_capacity};
     ghost use Rattle.zy_wire.specs.Pages.{IsSound};
-    ghost use Rattle.zy_wire.specs.Wireframe.{Wireframe};
+    ghost use Rattle.zy_model.specs.Wireframe.{Wireframe};
 
     ghost Value = { Wireframe };
 

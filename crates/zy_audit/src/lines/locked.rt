@@ -7,7 +7,7 @@ use crate::lines::page::page_line;
 use std::alloc::AllocError;
 use zy_io::{Decimal, Line, LineBuffer, joined};
 use zy_isa::Node;
-use zy_locks::{Lock, LockKind};
+use zy_model::{Lock, LockKind};
 use zy_machine::Machine;
 use zy_text::Canonical;
 

@@ -5,7 +5,7 @@ use crate::lines::words::ModeText;
 use std::alloc::AllocError;
 use zy_io::{Line, LineBuffer, joined};
 use zy_isa::Node;
-use zy_modes::NodeMode;
+use zy_model::NodeMode;
 use zy_text::Canonical;
 
 /// A node and its mode.

@@ -8,7 +8,7 @@ use crate::lines::choice::SpacedChoice;
 use crate::lines::words::{KindText, WhyText};
 use std::alloc::AllocError;
 use zy_io::{Decimal, Line, LineBuffer, Lines, joined};
-use zy_links::Kind;
+use zy_model::Kind;
 use zy_table::{Entry, Outcome};
 use zy_text::Canonical;
 

@@ -4,8 +4,8 @@ ghost use Rattle.zy_audit.specs.Texts.{kind_text, link_word, mode_word, place_te
 use std::alloc::AllocError;
 use zy_io::{Decimal, Line, LineBuffer, joined};
 use zy_isa::Node;
-use zy_links::Kind;
-use zy_modes::NodeMode;
+use zy_model::Kind;
+use zy_model::NodeMode;
 use zy_table::{Place, Why};
 use zy_text::Canonical;
 

@@ -14,7 +14,7 @@ use crate::reading::terms::comparison;
 use crate::reading::{Parsed, words};
 use crate::refusal::Expected;
 use zy_isa::Node;
-use zy_links::Kind;
+use zy_model::Kind;
 use zy_text::names::is_numeral;
 
 /// What comes after `mode`: a node and a mode.

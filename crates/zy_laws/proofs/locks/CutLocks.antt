@@ -5,12 +5,12 @@ use Rattle.std.proofs.lemmas.Bool.{eq-eqb, or_left, or_right}
 use Rattle.zy_isa.specs.Rows.{Rising}
 use Rattle.zy_isa.specs.Scenario.{Scenario}
 use Rattle.zy_isa.specs.declared.node.Node.{Node}
-use Rattle.zy_locks.specs.Locks.{add_lock}
-use Rattle.zy_locks.specs.declared.lock.LockKind.TheVariants.{Exclusive}
-use Rattle.zy_page.specs.Leaf.{rows_from}
-use Rattle.zy_wire.specs.Wireframe.{page_of}
-use Rattle.zy_wire.proofs.Longer.{page_of-cut}
-use Rattle.zy_modes.specs.Table.{may_split}
+use Rattle.zy_model.specs.Locks.{add_lock}
+use Rattle.zy_model.specs.declared.lock.LockKind.TheVariants.{Exclusive}
+use Rattle.zy_model.specs.Leaf.{rows_from}
+use Rattle.zy_model.specs.Wireframe.{page_of}
+use Rattle.zy_model.proofs.Longer.{page_of-cut}
+use Rattle.zy_model.specs.Table.{may_split}
 use Rattle.zy_table.specs.Change.{cut, locked, txn_at}
 use Rattle.zy_table.specs.Holders.{holds, holds_alone}
 use Rattle.zy_table.specs.Pages.{lowered, rows_of, with_page}

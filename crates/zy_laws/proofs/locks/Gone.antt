@@ -2,15 +2,15 @@
 use Rattle.std.proofs.Common.{◌≡◌, ◌∙◌, ℕ, ◌<◌, List, length, true, false, refl, sym, subst, arith, inl, inr, ◌∷◌}
 use Rattle.std.specs.Prelude.{◌⊎◌}
 use Rattle.std.proofs.lemmas.Bool.{false≢true}
-use Rattle.zy_modes.specs.Families.{is_home, is_source, is_idle}
+use Rattle.zy_model.specs.Families.{is_home, is_source, is_idle}
 use Rattle.zy_isa.specs.Scenario.{IsScenario, Scenario}
 use Rattle.zy_isa.specs.declared.choice.Choice.{Choice}
 use Rattle.zy_isa.specs.declared.node.Node.{Node}
-use Rattle.zy_modes.specs.declared.mode.NodeMode.{NodeMode}
-use Rattle.zy_modes.specs.declared.mode.NodeMode.TheVariants.{Empty, Normal, SInit, SDual, SFinish, DInit, DDual, DFinish}
-use Rattle.zy_modes.specs.Table.{is_waiting, may_pull}
-use Rattle.zy_wire.specs.Wireframe.{page_of}
-use Rattle.zy_wire.proofs.PageOf.{page_of-within}
+use Rattle.zy_model.specs.declared.mode.NodeMode.{NodeMode}
+use Rattle.zy_model.specs.declared.mode.NodeMode.TheVariants.{Empty, Normal, SInit, SDual, SFinish, DInit, DDual, DFinish}
+use Rattle.zy_model.specs.Table.{is_waiting, may_pull}
+use Rattle.zy_model.specs.Wireframe.{page_of}
+use Rattle.zy_model.proofs.PageOf.{page_of-within}
 use Rattle.zy_laws.specs.Journey.{is_gone}
 use Rattle.zy_table.specs.Pages.{owns}
 use Rattle.zy_table.specs.Play.{opening, play, side_of, step}

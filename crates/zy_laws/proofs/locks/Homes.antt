@@ -1,14 +1,14 @@
 -- A transaction begins at a home, which is not idle.
-use Rattle.zy_modes.specs.Families.{is_home, is_destination, is_idle}
+use Rattle.zy_model.specs.Families.{is_home, is_destination, is_idle}
 use Rattle.std.proofs.Common.{List, false, refl, subst, sym, true, ℕ, ◌≡◌}
 use Rattle.std.specs.Prelude.{None, Option, Some}
 use Rattle.std.proofs.lemmas.Bool.{cond_both, false≢true}
 use Rattle.zy_isa.specs.Scenario.{Scenario}
 use Rattle.zy_isa.specs.declared.node.Node.{Node}
 use Rattle.zy_isa.specs.declared.node.Node.TheVariants.{A, B}
-use Rattle.zy_modes.specs.declared.mode.NodeMode.{NodeMode}
-use Rattle.zy_modes.specs.declared.mode.NodeMode.TheVariants.{Normal, SInit, DInit, DDual, DFinish}
-use Rattle.zy_modes.specs.Table.{home_of}
+use Rattle.zy_model.specs.declared.mode.NodeMode.{NodeMode}
+use Rattle.zy_model.specs.declared.mode.NodeMode.TheVariants.{Normal, SInit, DInit, DDual, DFinish}
+use Rattle.zy_model.specs.Table.{home_of}
 use Rattle.zy_table.specs.Change.{begun, txn_at}
 use Rattle.zy_table.specs.Client.{is_new}
 use Rattle.zy_table.specs.State.{View}

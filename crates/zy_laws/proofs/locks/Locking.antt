@@ -2,23 +2,23 @@
 use Rattle.std.proofs.Common.{List, [], ap, false, inl, inr, length, refl, subst, sym, true, ℕ, ◌++◌, ◌<◌, ◌∙◌, ◌∷◌, ◌≡◌}
 use Rattle.std.specs.Prelude.{is_some, slice_set, ◌⊎◌}
 use Rattle.std.proofs.lemmas.Bool.{cases_eq, false≢true}
-use Rattle.zy_modes.specs.Families.{is_source, is_idle}
+use Rattle.zy_model.specs.Families.{is_source, is_idle}
 use Rattle.zy_isa.specs.Rows.{get_row}
 use Rattle.zy_isa.specs.Scenario.{Scenario}
 use Rattle.zy_isa.specs.declared.node.Node.{Node}
-use Rattle.zy_locks.specs.Locks.{add_lock, conflict, drop_locks}
-use Rattle.zy_locks.specs.declared.lock.LockKind.{LockKind}
-use Rattle.zy_locks.specs.declared.lock.LockKind.TheVariants.{Exclusive}
+use Rattle.zy_model.specs.Locks.{add_lock, conflict, drop_locks}
+use Rattle.zy_model.specs.declared.lock.LockKind.{LockKind}
+use Rattle.zy_model.specs.declared.lock.LockKind.TheVariants.{Exclusive}
 use Rattle.zy_table.specs.Change.{begun, nobody, txn_at}
 use Rattle.zy_table.specs.declared.status.Status.TheVariants.{Active}
-use Rattle.zy_modes.specs.declared.mode.NodeMode.{NodeMode}
+use Rattle.zy_model.specs.declared.mode.NodeMode.{NodeMode}
 use Rattle.zy_table.specs.Take.{is_held}
 use Rattle.zy_table.specs.Client.{is_active}
 use Rattle.zy_table.specs.Database.{sent_leaves}
 use Rattle.zy_table.specs.Holders.{holds, holds_alone}
 use Rattle.zy_table.specs.Pages.{owns}
 use Rattle.zy_table.specs.State.{Leaf, NodeState, Txn, View, other}
-use Rattle.zy_wire.specs.Wireframe.{page_of}
+use Rattle.zy_model.specs.Wireframe.{page_of}
 use Rattle.zy_laws.proofs.places.Installing.{Placed}
 use Rattle.zy_table.proofs.LockLists.{alone-add, alone_more, alone_new, exclusive_holds, free_all, free_alone, holds-add, holds-drop, holds-dropped}
 use Rattle.zy_table.proofs.LockLists.{holds_alone-drop}

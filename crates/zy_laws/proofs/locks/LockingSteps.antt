@@ -1,5 +1,5 @@
 -- Each step of the table keeps locks, private rows and the places of rows.
-use Rattle.zy_modes.specs.Families.{is_source, is_taker, is_idle}
+use Rattle.zy_model.specs.Families.{is_source, is_taker, is_idle}
 use Rattle.zy_laws.proofs.walk.ModeLines.{sends_source}
 use Rattle.std.proofs.Common.{List, [], ap, false, inl, inr, refl, subst, suc, sym, true, zero, ℕ, ◌+◌, ◌≤◌, ◌∙◌, ◌∷◌, ◌≡◌}
 use Rattle.std.specs.Prelude.{None, Some, if◌then◌else◌, slice_get, ◌&&◌}
@@ -7,11 +7,11 @@ use Rattle.std.proofs.lemmas.Bool.{and_from, cond_both, false≢true, or_right}
 use Rattle.zy_isa.specs.Scenario.{Scenario}
 use Rattle.zy_isa.specs.declared.node.Node.{Node}
 use Rattle.zy_isa.specs.declared.node.Node.TheVariants.{A, B}
-use Rattle.zy_locks.specs.Locks.{is_locked}
-use Rattle.zy_locks.specs.declared.lock.LockKind.TheVariants.{Exclusive, Shared}
-use Rattle.zy_modes.specs.declared.mode.NodeMode.{NodeMode}
-use Rattle.zy_modes.specs.declared.mode.NodeMode.TheVariants.{Empty, Normal, SInit, SDual, SFinish}
-use Rattle.zy_links.specs.Messages.{Wire, Ready, Dual, Pull, Finish, Done}
+use Rattle.zy_model.specs.Locks.{is_locked}
+use Rattle.zy_model.specs.declared.lock.LockKind.TheVariants.{Exclusive, Shared}
+use Rattle.zy_model.specs.declared.mode.NodeMode.{NodeMode}
+use Rattle.zy_model.specs.declared.mode.NodeMode.TheVariants.{Empty, Normal, SInit, SDual, SFinish}
+use Rattle.zy_model.specs.Messages.{Wire, Ready, Dual, Pull, Finish, Done}
 use Rattle.zy_table.specs.Change.{asks, leaves, turns, txn_at, txn_or}
 use Rattle.zy_table.specs.Client.{is_active}
 use Rattle.zy_table.specs.Database.{sent_leaves}

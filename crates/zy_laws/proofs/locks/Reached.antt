@@ -2,7 +2,7 @@
 use Rattle.std.proofs.Common.{List, [], ap, false, refl, subst, sym, true, ℕ, ◌++◌, ◌∙◌, ◌∷◌, ◌≡◌, ◌≤◌}
 use Rattle.std.specs.Prelude.{map, slice_get}
 use Rattle.std.proofs.lemmas.Bool.{false≢true}
-use Rattle.zy_modes.specs.Families.{is_idle}
+use Rattle.zy_model.specs.Families.{is_idle}
 use Rattle.zy_isa.specs.Scenario.{IsScenario, Scenario, opening_rows}
 use Rattle.zy_isa.specs.declared.choice.Choice.{Choice}
 use Rattle.zy_isa.specs.declared.instr.Instr.{Instr}

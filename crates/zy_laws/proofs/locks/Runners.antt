@@ -1,10 +1,10 @@
 -- A transaction that runs at a node: the page of its key, the lock that it takes there, and where the node's pages lie.
-use Rattle.zy_wire.proofs.PageOf.{page_of-within}
+use Rattle.zy_model.proofs.PageOf.{page_of-within}
 use Rattle.std.proofs.Common.{List, inl, length, subst, sym, ℕ, ◌∷◌, arith, ◌<◌}
 use Rattle.zy_isa.specs.Scenario.{Scenario}
 use Rattle.zy_isa.specs.declared.node.Node.{Node}
-use Rattle.zy_locks.specs.declared.lock.LockKind.{LockKind}
-use Rattle.zy_wire.specs.Wireframe.{page_of}
+use Rattle.zy_model.specs.declared.lock.LockKind.{LockKind}
+use Rattle.zy_model.specs.Wireframe.{page_of}
 use Rattle.zy_table.specs.Change.{locked, txn_at}
 use Rattle.zy_table.specs.State.{View}
 use Rattle.zy_laws.proofs.walk.Events.{Free, has_lock}

@@ -5,11 +5,11 @@ use Rattle.std.proofs.lemmas.Bool.{cases_eq}
 use Rattle.zy_isa.specs.Rows.{Rising}
 use Rattle.zy_isa.specs.declared.node.Node.{Node}
 use Rattle.zy_isa.specs.declared.row.Row.{Row}
-use Rattle.zy_locks.proofs.Rising.{rise_add, rise_drop}
-use Rattle.zy_locks.specs.Order.{LocksRise}
-use Rattle.zy_locks.specs.Locks.{add_lock}
-use Rattle.zy_locks.specs.declared.lock.LockKind.{LockKind}
-use Rattle.zy_locks.specs.declared.lock.LockKind.TheVariants.{Exclusive}
+use Rattle.zy_model.proofs.Rising.{rise_add, rise_drop}
+use Rattle.zy_model.specs.Order.{LocksRise}
+use Rattle.zy_model.specs.Locks.{add_lock}
+use Rattle.zy_model.specs.declared.lock.LockKind.{LockKind}
+use Rattle.zy_model.specs.declared.lock.LockKind.TheVariants.{Exclusive}
 use Rattle.zy_table.specs.Change.{aborted, asks, begun, committed, did, locked, share_all, shares, txn_at}
 use Rattle.zy_table.specs.Database.{sent_leaves}
 use Rattle.zy_table.specs.Order.{NodeInOrder, NumbersRise, RowsRise}
@@ -17,15 +17,15 @@ use Rattle.zy_table.specs.State.{Lock, Message, NodeState, Txn, View}
 use Rattle.zy_table.specs.declared.entry.CommitRecord.{CommitRecord}
 use Rattle.zy_table.specs.declared.outcome.Why.{Why}
 use Rattle.zy_laws.proofs.walk.Events.{has_lock, page, puts}
-use Rattle.zy_page.proofs.Rows.{Rising-put_row}
+use Rattle.zy_model.proofs.Rows.{Rising-put_row}
 use Rattle.zy_table.proofs.RisingNumbers.{rises_put}
 use Rattle.zy_laws.proofs.order.Rising.{numbers-installed, length-installed, rows_rise-installed, rise_share}
 use Rattle.zy_laws.proofs.owner.Roles.{width}
 use Rattle.zy_laws.proofs.owner.MovingPages.{sent_bare}
-use Rattle.zy_links.specs.Messages.{Pull}
+use Rattle.zy_model.specs.Messages.{Pull}
 use Rattle.zy_table.specs.Numbers.{has}
-use Rattle.zy_wire.specs.Wireframe.{page_of}
-use Rattle.zy_modes.specs.declared.mode.NodeMode.{NodeMode}
+use Rattle.zy_model.specs.Wireframe.{page_of}
+use Rattle.zy_model.specs.declared.mode.NodeMode.{NodeMode}
 use Rattle.zy_laws.proofs.walk.Txns.{at_either, at_other}
 
 -- how many pages there are

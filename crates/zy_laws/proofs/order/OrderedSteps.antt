@@ -2,8 +2,8 @@
 use Rattle.std.proofs.Common.{List, [], ap, arith, false, true, length, length-append, refl, subst, suc, sym, ℕ, ◌∙◌, ◌∷◌, ◌≡◌}
 use Rattle.zy_isa.specs.Scenario.{Scenario}
 use Rattle.zy_isa.specs.declared.node.Node.{Node}
-use Rattle.zy_locks.proofs.Rising.{rise_add}
-use Rattle.zy_locks.specs.declared.lock.LockKind.TheVariants.{Exclusive, Shared}
+use Rattle.zy_model.proofs.Rising.{rise_add}
+use Rattle.zy_model.specs.declared.lock.LockKind.TheVariants.{Exclusive, Shared}
 use Rattle.zy_table.specs.Change.{cut, leaves, locked, txn_at}
 use Rattle.zy_table.specs.Database.{sent_leaves}
 use Rattle.zy_table.specs.Order.{NumbersRise, RowsRise}
@@ -19,12 +19,12 @@ use Rattle.zy_laws.proofs.owner.LinkOwners.{done_wide, pulled_inv, wire_wide}
 use Rattle.zy_laws.proofs.owner.SameOwners.{has_lock_inv}
 use Rattle.zy_laws.proofs.owner.MovingPages.{sent_leaves-append, sent_bare}
 use Rattle.zy_laws.proofs.owner.PageCounts.{owns-times}
-use Rattle.zy_links.specs.Messages.{Wire, Ready, Dual, Page, Finish, Done}
+use Rattle.zy_model.specs.Messages.{Wire, Ready, Dual, Page, Finish, Done}
 use Rattle.zy_laws.specs.OneOwner.{times}
 use Rattle.std.proofs.lemmas.Bool.Decides.{nat_tests}
 use Rattle.zy_table.proofs.PageLists.{owns-lowered}
-use Rattle.zy_page.specs.Leaf.{rows_from}
-use Rattle.zy_modes.specs.Table.{may_split}
+use Rattle.zy_model.specs.Leaf.{rows_from}
+use Rattle.zy_model.specs.Table.{may_split}
 use Rattle.zy_table.specs.Pages.{leaf_at, lowered, owns, rows_of}
 use Rattle.zy_table.specs.Run.{boundary}
 use Rattle.zy_table.proofs.PageLists.{length-with_page, length-lowered, numbers-with_page}

@@ -4,23 +4,23 @@ use Rattle.std.specs.Prelude.{nat_lt, nat_le, ◌==◌}
 use Rattle.std.proofs.lemmas.Bool.{cond_both, eqb-false, leb-false, leb-true, or_parts}
 use Rattle.zy_isa.specs.Rows.{Rising}
 use Rattle.zy_isa.specs.declared.row.Row.{Row}
-use Rattle.zy_locks.proofs.Rising.{rise_add}
-use Rattle.zy_locks.specs.Locks.{add_lock}
-use Rattle.zy_locks.specs.Order.{LocksRise}
-use Rattle.zy_locks.specs.declared.lock.Lock.{Lock}
-use Rattle.zy_locks.specs.declared.lock.LockKind.TheVariants.{Shared}
+use Rattle.zy_model.proofs.Rising.{rise_add}
+use Rattle.zy_model.specs.Locks.{add_lock}
+use Rattle.zy_model.specs.Order.{LocksRise}
+use Rattle.zy_model.specs.declared.lock.Lock.{Lock}
+use Rattle.zy_model.specs.declared.lock.LockKind.TheVariants.{Shared}
 use Rattle.zy_table.specs.Change.{installed, share_all}
 use Rattle.zy_table.specs.Order.{NumbersRise, RowsRise}
 use Rattle.zy_table.specs.Rows.{rows_on}
 use Rattle.zy_table.specs.State.{Leaf}
-use Rattle.zy_page.proofs.Parted.{Rising-lower}
+use Rattle.zy_model.proofs.Parted.{Rising-lower}
 use Rattle.zy_table.proofs.RisingRows.{rises_puts}
 use Rattle.zy_table.proofs.RisingNumbers.{rises_weaker}
 use Rattle.zy_table.specs.Keys.{put_key}
 use Rattle.zy_table.specs.Numbers.{drop_number, has}
 use Rattle.zy_laws.specs.OneOwner.{times}
 use Rattle.std.proofs.lemmas.Bool.Decides.{nat_tests}
-use Rattle.zy_page.specs.Leaf.{rows_below, rows_from}
+use Rattle.zy_model.specs.Leaf.{rows_below, rows_from}
 use Rattle.zy_table.specs.Pages.{leaf_at, lowered, numbers, rows_of, with_page, without}
 
 -- installing rows leaves the pages' numbers

@@ -3,11 +3,11 @@ use Rattle.std.proofs.Common.{List, [], ap, append-nil, arith, inl, inr, length,
 use Rattle.std.specs.Prelude.{if◌then◌else◌, max, ◌==◌}
 use Rattle.std.proofs.lemmas.Bool.{cases_lt}
 use Rattle.std.proofs.lemmas.Bool.Decides.{nat_tests}
-use Rattle.zy_modes.specs.Families.{is_source, is_taker, is_bare}
-use Rattle.zy_links.specs.Messages.{Wire, Ready, Dual, Pull, Page, Finish, Done}
-use Rattle.zy_modes.specs.declared.mode.NodeMode.{NodeMode}
-use Rattle.zy_modes.specs.declared.mode.NodeMode.TheVariants.{Empty, Normal, SInit, SDual, SFinish, DInit, DDual, DFinish}
-use Rattle.zy_modes.specs.Table.{may_pull}
+use Rattle.zy_model.specs.Families.{is_source, is_taker, is_bare}
+use Rattle.zy_model.specs.Messages.{Wire, Ready, Dual, Pull, Page, Finish, Done}
+use Rattle.zy_model.specs.declared.mode.NodeMode.{NodeMode}
+use Rattle.zy_model.specs.declared.mode.NodeMode.TheVariants.{Empty, Normal, SInit, SDual, SFinish, DInit, DDual, DFinish}
+use Rattle.zy_model.specs.Table.{may_pull}
 use Rattle.zy_table.specs.Change.{asks, turns, with_lows}
 use Rattle.zy_laws.specs.Journey.{Begins}
 use Rattle.zy_laws.specs.OneOwner.{times}

@@ -3,7 +3,7 @@ use Rattle.std.proofs.Common.{List, [], ap, append-nil, arith, false, inl, inr, 
 use Rattle.std.specs.Prelude.{◌==◌, ◌||◌}
 use Rattle.std.proofs.Math.Bool.{or-false, or_assoc}
 use Rattle.std.proofs.lemmas.Bool.{and_parts, cases_eq, cond_both, eqb-true, ne_eqb, or_from}
-use Rattle.zy_links.specs.Messages.{Page}
+use Rattle.zy_model.specs.Messages.{Page}
 use Rattle.zy_table.specs.Database.{sent_leaves}
 use Rattle.zy_table.specs.Pages.{leaf_at, owns, without}
 use Rattle.zy_table.specs.State.{Leaf, Message}

@@ -4,15 +4,15 @@ use Rattle.std.specs.Prelude.{drop, if◌then◌else◌, map, max, nat_lt}
 use Rattle.std.proofs.lemmas.Bool.{false≢true}
 use Rattle.std.proofs.lemmas.Bool.Decides.{nat_tests}
 use Rattle.std.proofs.lemmas.List.{length-map}
-use Rattle.zy_modes.specs.Families.{is_sending}
+use Rattle.zy_model.specs.Families.{is_sending}
 use Rattle.zy_isa.specs.Scenario.{Scenario, opening_rows}
 use Rattle.zy_isa.specs.declared.choice.Choice.{Choice}
 use Rattle.zy_isa.specs.declared.node.Node.{Node}
 use Rattle.zy_isa.specs.declared.node.Node.TheVariants.{A, B}
 use Rattle.zy_isa.specs.declared.row.Row.{Row}
-use Rattle.zy_locks.specs.declared.lock.LockKind.TheVariants.{Exclusive}
-use Rattle.zy_modes.specs.declared.mode.NodeMode.TheVariants.{DFinish}
-use Rattle.zy_modes.specs.Table.{may_pull}
+use Rattle.zy_model.specs.declared.lock.LockKind.TheVariants.{Exclusive}
+use Rattle.zy_model.specs.declared.mode.NodeMode.TheVariants.{DFinish}
+use Rattle.zy_model.specs.Table.{may_pull}
 use Rattle.zy_table.specs.Change.{aborted, begun, committed, did, installed, locked, shares, turns, txn_at}
 use Rattle.zy_laws.specs.OneOwner.{OneOwner, times}
 use Rattle.zy_table.specs.Play.{move, opening, opening_leaves, opening_pages, play, side_of, step}

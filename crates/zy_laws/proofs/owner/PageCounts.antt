@@ -6,7 +6,7 @@ use Rattle.std.proofs.lemmas.Bool.Decides.{nat_tests}
 use Rattle.zy_isa.specs.declared.row.Row.{Row}
 use Rattle.zy_table.specs.Change.{installed}
 use Rattle.zy_table.specs.Database.{all_leaves, sent_leaves}
-use Rattle.zy_links.specs.Messages.{Page}
+use Rattle.zy_model.specs.Messages.{Page}
 use Rattle.zy_laws.specs.OneOwner.{times}
 use Rattle.zy_table.specs.Pages.{lowered, owns, with_page, without}
 use Rattle.zy_table.specs.State.{Leaf, Message, State}

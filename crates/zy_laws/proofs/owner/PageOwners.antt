@@ -3,10 +3,10 @@ use Rattle.std.proofs.Common.{List, [], ap, arith, inl, inr, length, length-appe
 use Rattle.std.specs.Prelude.{if◌then◌else◌, ◌==◌}
 use Rattle.std.proofs.lemmas.Bool.{cases_eq}
 use Rattle.std.proofs.lemmas.Bool.Decides.{nat_tests}
-use Rattle.zy_modes.specs.Families.{is_sending}
-use Rattle.zy_links.specs.Messages.{Page}
-use Rattle.zy_modes.specs.declared.mode.NodeMode.TheVariants.{Normal}
-use Rattle.zy_modes.specs.Table.{may_pull, may_split}
+use Rattle.zy_model.specs.Families.{is_sending}
+use Rattle.zy_model.specs.Messages.{Page}
+use Rattle.zy_model.specs.declared.mode.NodeMode.TheVariants.{Normal}
+use Rattle.zy_model.specs.Table.{may_pull, may_split}
 use Rattle.zy_table.specs.Change.{cut, leaves}
 use Rattle.zy_laws.specs.OneOwner.{times}
 use Rattle.zy_table.specs.Pages.{leaf_at, lowered, owns, without}

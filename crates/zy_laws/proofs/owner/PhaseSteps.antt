@@ -1,9 +1,9 @@
 -- What each line of the table does to the phase of a migration.
 use Rattle.std.proofs.Common.{◌≡◌, ℕ, ◌≤◌, List, [], ◌∷◌, ◌++◌, length, true, refl, sym, ap, ◌∙◌, arith, subst, append_assoc}
-use Rattle.zy_modes.specs.Families.{is_source, is_taker, is_sending}
-use Rattle.zy_modes.specs.declared.mode.NodeMode.TheVariants.{Empty, Normal, SInit, SDual, SFinish, DDual, DFinish}
-use Rattle.zy_modes.specs.Table.{may_pull}
-use Rattle.zy_links.specs.Messages.{Wire, Ready, Dual, Pull, Page, Finish, Done}
+use Rattle.zy_model.specs.Families.{is_source, is_taker, is_sending}
+use Rattle.zy_model.specs.declared.mode.NodeMode.TheVariants.{Empty, Normal, SInit, SDual, SFinish, DDual, DFinish}
+use Rattle.zy_model.specs.Table.{may_pull}
+use Rattle.zy_model.specs.Messages.{Wire, Ready, Dual, Pull, Page, Finish, Done}
 use Rattle.zy_table.specs.State.{NodeState, Leaf, Message, View}
 use Rattle.zy_laws.specs.Journey.{Begins}
 use Rattle.zy_laws.specs.OneOwner.{times}

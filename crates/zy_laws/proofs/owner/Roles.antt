@@ -2,9 +2,9 @@
 use Rattle.std.proofs.Common.{[], ◌∷◌, List, ap, arith, false, length, refl, true, ℕ, ◌+◌, ◌<◌, ◌≤◌, ◌≡◌}
 use Rattle.std.specs.Prelude.{if◌then◌else◌, max, nat_lt, ◌==◌}
 use Rattle.std.proofs.lemmas.Bool.Decides.{nat_tests}
-use Rattle.zy_modes.specs.Families.{is_home, is_bare, is_idle}
-use Rattle.zy_modes.specs.Table.{may_split}
-use Rattle.zy_links.specs.Messages.{Page, Ready, Wire}
+use Rattle.zy_model.specs.Families.{is_home, is_bare, is_idle}
+use Rattle.zy_model.specs.Table.{may_split}
+use Rattle.zy_model.specs.Messages.{Page, Ready, Wire}
 use Rattle.zy_laws.specs.OneOwner.{times}
 use Rattle.zy_table.specs.Pages.{owns}
 use Rattle.zy_table.specs.State.{Leaf, Message, NodeState, View}

@@ -1,12 +1,12 @@
 -- Steps that keep the shape of a node, or change its locks alone, keep roles and owners.
 use Rattle.std.proofs.Common.{ap, refl, subst, sym, false, ℕ, ◌∙◌, ◌≡◌}
-use Rattle.zy_locks.specs.declared.lock.LockKind.{LockKind}
+use Rattle.zy_model.specs.declared.lock.LockKind.{LockKind}
 use Rattle.zy_table.specs.Change.{locked}
 use Rattle.zy_laws.proofs.walk.Events.{has_lock}
 use Rattle.std.specs.Prelude.{if◌then◌else◌, nat_lt}
 use Rattle.std.proofs.lemmas.Bool.{false≢true}
-use Rattle.zy_modes.specs.Families.{is_bare}
-use Rattle.zy_modes.specs.declared.mode.NodeMode.{NodeMode}
+use Rattle.zy_model.specs.Families.{is_bare}
+use Rattle.zy_model.specs.declared.mode.NodeMode.{NodeMode}
 use Rattle.zy_laws.specs.OneOwner.{times}
 use Rattle.zy_table.specs.State.{NodeState, View}
 use Rattle.zy_laws.proofs.owner.PhaseSteps.{SameShape, destination_same, source_same}

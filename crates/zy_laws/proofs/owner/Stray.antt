@@ -3,11 +3,11 @@ use Rattle.std.proofs.Common.{◌≡◌, List, [], ◌∷◌, Bool, true, false,
 use Rattle.std.proofs.lemmas.Bool.{false_from_ne_true}
 use Rattle.zy_isa.specs.Scenario.{Scenario}
 use Rattle.zy_isa.specs.declared.choice.Choice.{Choice}
-use Rattle.zy_modes.specs.declared.mode.NodeMode.{NodeMode}
-use Rattle.zy_modes.specs.declared.mode.NodeMode.TheVariants.{Empty, SInit, SDual, SFinish, DInit, DDual, DFinish}
-use Rattle.zy_modes.specs.declared.table.MessageLine.TheVariants.{Stray}
-use Rattle.zy_modes.specs.Table.{finishes, on_message}
-use Rattle.zy_links.specs.Messages.{Wire, Ready, Dual, Pull, Page, Finish, Done, kind_of}
+use Rattle.zy_model.specs.declared.mode.NodeMode.{NodeMode}
+use Rattle.zy_model.specs.declared.mode.NodeMode.TheVariants.{Empty, SInit, SDual, SFinish, DInit, DDual, DFinish}
+use Rattle.zy_model.specs.declared.table.MessageLine.TheVariants.{Stray}
+use Rattle.zy_model.specs.Table.{finishes, on_message}
+use Rattle.zy_model.specs.Messages.{Wire, Ready, Dual, Pull, Page, Finish, Done, kind_of}
 use Rattle.zy_laws.specs.Journey.{is_stray}
 use Rattle.zy_table.specs.Play.{opening, play, side_of, step}
 use Rattle.zy_table.specs.State.{Message, View, facing}

@@ -7,8 +7,8 @@ use Rattle.std.proofs.lemmas.List.{get_or_default}
 use Rattle.zy_isa.specs.declared.row.Row.{Row}
 use Rattle.zy_isa.specs.Rows.{Rising, get_row}
 use Rattle.zy_isa.specs.Scenario.{Scenario}
-use Rattle.zy_wire.specs.Wireframe.{page_of}
-use Rattle.zy_wire.proofs.PageOf.{page_of-greatest}
+use Rattle.zy_model.specs.Wireframe.{page_of}
+use Rattle.zy_model.proofs.PageOf.{page_of-greatest}
 use Rattle.zy_table.specs.State.{View}
 use Rattle.zy_table.specs.Change.{txn_at}
 use Rattle.zy_table.specs.Keys.{keys_of, put_key}

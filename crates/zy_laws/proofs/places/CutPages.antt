@@ -4,10 +4,10 @@ use Rattle.std.specs.Prelude.{if◌then◌else◌, ◌==◌, nat_lt, Some, None,
 use Rattle.std.proofs.lemmas.Bool.{cond_both, false≢true, eqb-true, eqb-false, or_parts, ltb-true, ltb-false}
 use Rattle.zy_isa.specs.declared.row.Row.{Row}
 use Rattle.zy_isa.specs.Rows.{get_row}
-use Rattle.zy_page.specs.Leaf.{Leaf, rows_below, rows_from}
-use Rattle.zy_page.proofs.Parted.{get_row-rows_below, get_row-rows_from}
-use Rattle.zy_wire.specs.Wireframe.{page_of}
-use Rattle.zy_wire.proofs.Longer.{page_of-others, page_of-cut_above, page_of-cut_below}
+use Rattle.zy_model.specs.Leaf.{Leaf, rows_below, rows_from}
+use Rattle.zy_model.proofs.Parted.{get_row-rows_below, get_row-rows_from}
+use Rattle.zy_model.specs.Wireframe.{page_of}
+use Rattle.zy_model.proofs.Longer.{page_of-others, page_of-cut_above, page_of-cut_below}
 use Rattle.zy_table.specs.Pages.{leaf_at, lowered, owns, rows_of, with_page}
 use Rattle.zy_laws.proofs.places.Installing.{Placed, OnPage, placed_append}
 

@@ -11,7 +11,7 @@ use Rattle.zy_table.specs.Database.{laid_leaves}
 use Rattle.zy_table.specs.Pages.{owns}
 use Rattle.zy_table.specs.Rows.{put_rows, rows_on}
 use Rattle.zy_table.specs.State.{Leaf, other}
-use Rattle.zy_wire.specs.Wireframe.{page_of}
+use Rattle.zy_model.specs.Wireframe.{page_of}
 use Rattle.zy_laws.proofs.serial.LoneRuns.{get-laid, get_row-put, or_else, or_else_put}
 
 -- a page has its low key from the wireframe, and each of its rows lies there

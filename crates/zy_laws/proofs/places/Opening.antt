@@ -11,10 +11,10 @@ use Rattle.zy_isa.specs.declared.row.Row.{Row}
 use Rattle.zy_table.specs.Database.{Map, database, laid, laid_leaves}
 use Rattle.zy_table.specs.Play.{opening, opening_leaves, opening_pages}
 use Rattle.zy_table.specs.Layout.{lows_of}
-use Rattle.zy_wire.specs.Wireframe.{page_of}
+use Rattle.zy_model.specs.Wireframe.{page_of}
 use Rattle.zy_laws.proofs.places.Installing.{Placed}
 use Rattle.zy_table.proofs.RisingRows.{rises_after, rises_drop, rises_key, rises_take}
-use Rattle.zy_wire.proofs.PageOf.{page_of-is}
+use Rattle.zy_model.proofs.PageOf.{page_of-is}
 use Rattle.zy_table.proofs.OpenLemmas.{drop_less}
 
 -- ---- the page of a key

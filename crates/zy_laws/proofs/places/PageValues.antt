@@ -9,7 +9,7 @@ use Rattle.zy_table.specs.Database.{Map, laid_leaves, sent_leaves}
 use Rattle.zy_laws.specs.OneOwner.{times}
 use Rattle.zy_table.specs.Pages.{leaf_at, owns, rows_of}
 use Rattle.zy_table.specs.State.{Leaf, View}
-use Rattle.zy_wire.specs.Wireframe.{page_of}
+use Rattle.zy_model.specs.Wireframe.{page_of}
 use Rattle.zy_laws.proofs.places.Installing.{Placed, found, found-append, get-leaves, none_else, not_found, or_else_none, placed_front}
 use Rattle.zy_laws.proofs.locks.Locking.{whole}
 use Rattle.zy_laws.proofs.serial.LoneRuns.{or_else}

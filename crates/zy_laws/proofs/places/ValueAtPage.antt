@@ -5,7 +5,7 @@ use Rattle.std.specs.FinMap.{get}
 use Rattle.std.proofs.lemmas.Bool.{cond_both, ltb-false, ltb-true}
 use Rattle.std.proofs.lemmas.Bool.Decides.{nat_tests}
 use Rattle.std.proofs.lemmas.List.{nil_from_length}
-use Rattle.zy_modes.specs.Families.{is_idle}
+use Rattle.zy_model.specs.Families.{is_idle}
 use Rattle.zy_isa.specs.Rows.{get_row}
 use Rattle.zy_isa.specs.Scenario.{IsScenario, Scenario}
 use Rattle.zy_isa.specs.declared.choice.Choice.{Choice}
@@ -16,7 +16,7 @@ use Rattle.zy_laws.specs.OneOwner.{times}
 use Rattle.zy_table.specs.Pages.{owns, rows_of}
 use Rattle.zy_table.specs.Play.{opening, play}
 use Rattle.zy_table.specs.State.{Leaf, Message, NodeState, State, View, facing}
-use Rattle.zy_wire.specs.Wireframe.{page_of}
+use Rattle.zy_model.specs.Wireframe.{page_of}
 use Rattle.zy_laws.proofs.places.Installing.{OnPage, Placed, get-leaves}
 use Rattle.zy_laws.proofs.locks.Locking.{Kept}
 use Rattle.zy_laws.proofs.wireframe.OneWireframe.{no_more}
@@ -25,7 +25,7 @@ use Rattle.zy_laws.proofs.locks.Reached.{reached}
 use Rattle.zy_laws.proofs.places.PageValues.{db, found_once}
 use Rattle.zy_laws.proofs.owner.Phases.{Phase, Resting, Wire_sent, Ready_sent, Dual_sent, Both_sent, In_dual, Finish_sent, In_finish, Done_sent}
 use Rattle.zy_laws.proofs.owner.Roles.{Destination, Owned, Roles, Source, width}
-use Rattle.zy_wire.proofs.PageOf.{page_of-within}
+use Rattle.zy_model.proofs.PageOf.{page_of-within}
 
 -- ---- where the newest low keys are
 

@@ -6,16 +6,16 @@ use Rattle.zy_isa.specs.Rows.{get_row}
 use Rattle.zy_isa.specs.Scenario.{Scenario}
 use Rattle.zy_isa.specs.declared.node.Node.{Node}
 use Rattle.zy_isa.specs.declared.row.Row.{Row}
-use Rattle.zy_locks.specs.declared.lock.LockKind.TheVariants.{Exclusive}
-use Rattle.zy_page.specs.Leaf.{Leaf, rows_below, rows_from}
-use Rattle.zy_wire.specs.Wireframe.{page_of}
-use Rattle.zy_wire.proofs.Longer.{page_of-cut, page_of-cut_above, page_of-cut_below}
-use Rattle.zy_wire.proofs.PageOf.{page_of-within}
+use Rattle.zy_model.specs.declared.lock.LockKind.TheVariants.{Exclusive}
+use Rattle.zy_model.specs.Leaf.{Leaf, rows_below, rows_from}
+use Rattle.zy_model.specs.Wireframe.{page_of}
+use Rattle.zy_model.proofs.Longer.{page_of-cut, page_of-cut_above, page_of-cut_below}
+use Rattle.zy_model.proofs.PageOf.{page_of-within}
 use Rattle.zy_table.specs.Change.{cut, locked, txn_at}
-use Rattle.zy_modes.specs.Table.{may_split}
+use Rattle.zy_model.specs.Table.{may_split}
 use Rattle.zy_table.specs.Pages.{lowered, owns, rows_of, with_page}
 use Rattle.zy_table.specs.State.{View, other}
-use Rattle.zy_page.proofs.Parted.{get_row-rows_below, get_row-rows_from, length-filter}
+use Rattle.zy_model.proofs.Parted.{get_row-rows_below, get_row-rows_from, length-filter}
 use Rattle.zy_laws.proofs.room.EachPage.{Each, each_append, each_at, each_both, each_front, each_in, each_lowered, each_map, each_with_page}
 use Rattle.zy_laws.proofs.walk.Events.{Free, has_lock}
 use Rattle.zy_laws.proofs.room.Fit.{Fit, Room, Sized}

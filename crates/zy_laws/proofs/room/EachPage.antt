@@ -6,7 +6,7 @@ use Rattle.std.proofs.lemmas.Bool.Decides.{nat_tests}
 use Rattle.zy_isa.specs.declared.row.Row.{Row}
 use Rattle.zy_table.specs.Change.{installed}
 use Rattle.zy_laws.specs.OneOwner.{times}
-use Rattle.zy_page.specs.Leaf.{rows_below}
+use Rattle.zy_model.specs.Leaf.{rows_below}
 use Rattle.zy_table.specs.Pages.{leaf_at, lowered, owns, rows_of, with_page, without}
 use Rattle.zy_table.specs.Rows.{put_rows, rows_on}
 use Rattle.zy_table.specs.State.{Leaf}

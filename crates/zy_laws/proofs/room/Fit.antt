@@ -12,7 +12,7 @@ use Rattle.zy_laws.specs.OneOwner.{times}
 use Rattle.zy_table.specs.Pages.{rows_of}
 use Rattle.zy_table.specs.Rows.{put_rows, rows_on}
 use Rattle.zy_table.specs.State.{Leaf, NodeState, Txn, View, other}
-use Rattle.zy_wire.specs.Wireframe.{page_of}
+use Rattle.zy_model.specs.Wireframe.{page_of}
 use Rattle.zy_laws.proofs.room.EachPage.{Each, each_both, each_map, each_own}
 use Rattle.zy_laws.proofs.locks.Locking.{whole}
 use Rattle.zy_laws.proofs.places.MovedPages.{whole_same}

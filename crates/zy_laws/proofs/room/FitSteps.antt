@@ -1,6 +1,6 @@
 -- Each step of the table keeps room on the pages.
-use Rattle.zy_modes.specs.Families.{is_source}
-use Rattle.zy_modes.specs.Table.{may_pull}
+use Rattle.zy_model.specs.Families.{is_source}
+use Rattle.zy_model.specs.Table.{may_pull}
 use Rattle.zy_laws.proofs.walk.ModeLines.{pulls_in}
 use Rattle.std.proofs.Common.{false, ap, List, [], arith, inl, inr, length, refl, subst, sym, true, ℕ, ◌++◌, ◌+◌, ◌<◌, ◌∙◌, ◌∷◌, ◌≡◌, ◌≤◌}
 use Rattle.std.specs.Prelude.{slice_set, ◌⊎◌}
@@ -9,22 +9,22 @@ use Rattle.std.proofs.lemmas.Bool.Decides.{nat_tests}
 use Rattle.zy_isa.specs.Rows.{Rising, put_row}
 use Rattle.zy_isa.specs.Scenario.{Scenario}
 use Rattle.zy_isa.specs.declared.node.Node.{Node}
-use Rattle.zy_locks.specs.declared.lock.LockKind.{LockKind}
-use Rattle.zy_locks.specs.declared.lock.LockKind.TheVariants.{Exclusive, Shared}
+use Rattle.zy_model.specs.declared.lock.LockKind.{LockKind}
+use Rattle.zy_model.specs.declared.lock.LockKind.TheVariants.{Exclusive, Shared}
 use Rattle.zy_table.specs.Change.{aborted, begun, committed, did, installed, leaves, locked, share_all, shares, turns, txn_at}
 use Rattle.zy_table.specs.Client.{is_new}
 use Rattle.zy_table.specs.Database.{sent_leaves}
 use Rattle.zy_table.specs.Holders.{holds, holds_alone}
-use Rattle.zy_links.specs.Messages.{Pull, Page, Done}
-use Rattle.zy_modes.specs.declared.mode.NodeMode.{NodeMode}
-use Rattle.zy_modes.specs.declared.mode.NodeMode.TheVariants.{Normal}
+use Rattle.zy_model.specs.Messages.{Pull, Page, Done}
+use Rattle.zy_model.specs.declared.mode.NodeMode.{NodeMode}
+use Rattle.zy_model.specs.declared.mode.NodeMode.TheVariants.{Normal}
 use Rattle.zy_laws.specs.OneOwner.{times}
 use Rattle.zy_table.specs.Pages.{leaf_at, owns, rows_of, with_page, without}
 use Rattle.zy_table.specs.Rows.{rows_on}
 use Rattle.zy_table.specs.Run.{has_room, is_there}
 use Rattle.zy_table.specs.declared.status.Status.TheVariants.{Aborted, Committed}
 use Rattle.zy_table.specs.State.{Leaf, Lock, Message, Txn, View, post}
-use Rattle.zy_wire.specs.Wireframe.{page_of}
+use Rattle.zy_model.specs.Wireframe.{page_of}
 use Rattle.zy_table.specs.declared.outcome.Why.{Why}
 use Rattle.zy_laws.proofs.room.CutFit.{cut_fit}
 use Rattle.zy_laws.proofs.locks.CutLocks.{split_new, split_on}
@@ -38,12 +38,12 @@ use Rattle.zy_laws.proofs.locks.Locking.{Kept, whole}
 use Rattle.zy_laws.proofs.places.MovedPages.{whole-front, whole-leaves}
 use Rattle.zy_laws.proofs.owner.MovingPages.{sent_bare}
 use Rattle.zy_laws.proofs.places.PageValues.{rest_of}
-use Rattle.zy_page.proofs.Rows.{Rising-put_row}
+use Rattle.zy_model.proofs.Rows.{Rising-put_row}
 use Rattle.zy_table.proofs.RisingRows.{rises_puts}
 use Rattle.zy_laws.proofs.owner.Roles.{Owned}
 use Rattle.zy_laws.proofs.owner.Roles.{not_here}
 use Rattle.zy_laws.proofs.room.Room.{installed_length, need, need_is, need_none}
-use Rattle.zy_locks.specs.Locks.{add_lock}
+use Rattle.zy_model.specs.Locks.{add_lock}
 use Rattle.zy_laws.proofs.walk.Txns.{IsAt, at_either, at_self, not_both_nodes, not_new}
 use Rattle.zy_laws.proofs.walk.Kinds.{quiet_of, unmoved_of}
 

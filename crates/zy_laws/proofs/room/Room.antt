@@ -4,9 +4,9 @@ use Rattle.std.specs.Prelude.{None, Option, Some, if◌then◌else◌, is_some, 
 use Rattle.std.proofs.lemmas.Bool.{cases_Bool, cond_both, eq-eqb, eqb-false, eqb-true, false≢true, ltb-true, ne_eqb}
 use Rattle.zy_isa.specs.Rows.{Rising, get_row, put_row, row}
 use Rattle.zy_isa.specs.declared.row.Row.{Row}
-use Rattle.zy_page.proofs.Rows.{length-put_row_same}
+use Rattle.zy_model.proofs.Rows.{length-put_row_same}
 use Rattle.zy_table.specs.Rows.{put_rows, rows_not_in, rows_on}
-use Rattle.zy_wire.specs.Wireframe.{page_of}
+use Rattle.zy_model.specs.Wireframe.{page_of}
 use Rattle.zy_laws.proofs.places.Installing.{get_row-puts}
 use Rattle.zy_laws.proofs.serial.LoneRuns.{or_else}
 use Rattle.zy_table.proofs.RisingRows.{rises_key, rises_puts}

@@ -7,7 +7,7 @@ use Rattle.zy_isa.specs.Scenario.{Scenario}
 use Rattle.zy_isa.specs.declared.instr.Instr.{Instr}
 use Rattle.zy_isa.specs.declared.node.Node.{Node}
 use Rattle.zy_isa.specs.declared.row.Row.{Row}
-use Rattle.zy_locks.specs.Locks.{drop_locks}
+use Rattle.zy_model.specs.Locks.{drop_locks}
 use Rattle.zy_table.specs.Change.{committed, installed, txn_at}
 use Rattle.zy_table.specs.declared.effect.Effect.TheVariants.{Commits}
 use Rattle.zy_table.specs.Effects.{effect_of}
@@ -18,7 +18,7 @@ use Rattle.zy_table.specs.Serial.{Alone, alone, alone_instr, alone_step, serial}
 use Rattle.zy_table.specs.declared.entry.CommitRecord.{CommitRecord}
 use Rattle.zy_table.specs.declared.status.Status.TheVariants.{Committed}
 use Rattle.zy_table.specs.State.{View}
-use Rattle.zy_wire.specs.Wireframe.{page_of}
+use Rattle.zy_model.specs.Wireframe.{page_of}
 use Rattle.zy_laws.proofs.places.Installing.{found, found-append, get-leaves, installed_none, installed_some, placed_front}
 use Rattle.zy_laws.proofs.locks.Locking.{Kept, whole}
 use Rattle.zy_laws.proofs.serial.LoneRuns.{or_else}

@@ -6,13 +6,13 @@ use Rattle.std.proofs.lemmas.Bool.Decides.{nat_tests}
 use Rattle.std.proofs.lemmas.Cmp.{nat_cmp_total}
 use Rattle.std.specs.FinMap.{same_map, nat_cmp-IsAntisymmetric}
 use Rattle.zy_isa.specs.Rows.{get_row}
-use Rattle.zy_page.specs.Leaf.{Leaf, rows_below, rows_from}
-use Rattle.zy_wire.specs.Wireframe.{page_of}
+use Rattle.zy_model.specs.Leaf.{Leaf, rows_below, rows_from}
+use Rattle.zy_model.specs.Wireframe.{page_of}
 use Rattle.zy_table.specs.Change.{cut}
 use Rattle.zy_laws.specs.OneOwner.{times}
 use Rattle.zy_table.specs.Pages.{leaf_at, lowered, owns, rows_of, with_page}
 use Rattle.zy_table.specs.State.{View}
-use Rattle.zy_page.proofs.Parted.{get_row-rows_below, get_row-rows_from}
+use Rattle.zy_model.proofs.Parted.{get_row-rows_below, get_row-rows_from}
 use Rattle.zy_laws.proofs.places.Installing.{Placed, found, found-append, get-leaves, if_none, none_else, not_found, or_else_assoc, or_else_none, placed_front}
 use Rattle.zy_laws.proofs.locks.Locking.{whole}
 use Rattle.zy_laws.proofs.serial.LoneRuns.{or_else}

@@ -11,7 +11,7 @@ use Rattle.zy_table.specs.Run.{program_of}
 use Rattle.zy_table.specs.Serial.{Registers, alone, is_committed, serial}
 use Rattle.zy_table.specs.declared.entry.CommitRecord.{CommitRecord}
 use Rattle.zy_table.specs.State.{Lock, Txn, View}
-use Rattle.zy_wire.specs.Wireframe.{page_of}
+use Rattle.zy_model.specs.Wireframe.{page_of}
 use Rattle.zy_table.specs.Numbers.{has}
 use Rattle.zy_laws.proofs.serial.LoneRuns.{lone, lone_at}
 use Rattle.zy_laws.proofs.walk.Txns.{at_other}

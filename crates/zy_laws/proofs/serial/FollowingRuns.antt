@@ -9,9 +9,9 @@ use Rattle.zy_isa.specs.declared.instr.Instr.{Instr}
 use Rattle.zy_isa.specs.declared.instr.Reg.{Reg}
 use Rattle.zy_isa.specs.declared.node.Node.{Node}
 use Rattle.zy_isa.specs.declared.row.Row.{Row}
-use Rattle.zy_locks.specs.Locks.{add_lock}
-use Rattle.zy_locks.specs.declared.lock.LockKind.{LockKind}
-use Rattle.zy_locks.specs.declared.lock.LockKind.TheVariants.{Exclusive}
+use Rattle.zy_model.specs.Locks.{add_lock}
+use Rattle.zy_model.specs.declared.lock.LockKind.{LockKind}
+use Rattle.zy_model.specs.declared.lock.LockKind.TheVariants.{Exclusive}
 use Rattle.zy_table.specs.Change.{begun, nobody, share_all, txn_at, with_reg}
 use Rattle.zy_table.specs.declared.status.Status.TheVariants.{Active}
 use Rattle.zy_table.specs.Client.{is_active}
@@ -27,8 +27,8 @@ use Rattle.zy_table.specs.Pages.{owns, rows_of}
 use Rattle.zy_table.specs.Ranges.{range, range_pages, total}
 use Rattle.zy_table.specs.Run.{is_there, program_of, value_for}
 use Rattle.zy_table.specs.State.{Lock, Txn, View}
-use Rattle.zy_wire.specs.Wireframe.{page_of}
-use Rattle.zy_wire.proofs.Longer.{page_of-cut}
+use Rattle.zy_model.specs.Wireframe.{page_of}
+use Rattle.zy_model.proofs.Longer.{page_of-cut}
 use Rattle.zy_laws.proofs.walk.Events.{sum_at, value_at, Free, FreeRange, Leads, BySet, ByJump, BySum}
 use Rattle.zy_laws.proofs.serial.Following.{Follows, follows_same}
 use Rattle.zy_table.proofs.LockLists.{holds_more, holds_new}

@@ -6,8 +6,8 @@ use Rattle.std.proofs.lemmas.Bool.{cases_Bool, cases_eq, cond_both, eqb-true, fa
 use Rattle.std.proofs.lemmas.Bool.Decides.{nat_tests}
 use Rattle.std.proofs.lemmas.Cmp.{nat_cmp_total}
 use Rattle.zy_isa.specs.Rows.{get_row}
-use Rattle.zy_links.specs.Messages.{Page}
-use Rattle.zy_wire.specs.Wireframe.{page_of}
+use Rattle.zy_model.specs.Messages.{Page}
+use Rattle.zy_model.specs.Wireframe.{page_of}
 use Rattle.zy_table.specs.Change.{leaves}
 use Rattle.zy_table.specs.Database.{laid_leaves, sent_leaves}
 use Rattle.zy_laws.specs.OneOwner.{times}

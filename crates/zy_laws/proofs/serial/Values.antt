@@ -3,9 +3,9 @@ use Rattle.std.proofs.Common.{List, [], ap, arith, length, refl, sym, ℕ, ◌++
 use Rattle.std.proofs.lemmas.List.{length-append}
 use Rattle.zy_isa.specs.Scenario.{Scenario, IsScenario}
 use Rattle.zy_isa.specs.declared.node.Node.{Node}
-use Rattle.zy_locks.specs.declared.lock.LockKind.TheVariants.{Exclusive}
-use Rattle.zy_links.specs.Messages.{Done}
-use Rattle.zy_modes.specs.declared.mode.NodeMode.TheVariants.{Normal}
+use Rattle.zy_model.specs.declared.lock.LockKind.TheVariants.{Exclusive}
+use Rattle.zy_model.specs.Messages.{Done}
+use Rattle.zy_model.specs.declared.mode.NodeMode.TheVariants.{Normal}
 use Rattle.zy_table.specs.Change.{aborted, asks, begun, did, leaves, locked, shares, turns, txn_at}
 use Rattle.zy_table.specs.Database.{sent_leaves, database}
 use Rattle.zy_table.specs.Run.{boundary}
@@ -28,7 +28,7 @@ use Rattle.zy_isa.specs.declared.choice.Choice.{Choice}
 use Rattle.zy_isa.specs.declared.node.Node.TheVariants.{A, B}
 use Rattle.zy_table.specs.Pages.{owns}
 use Rattle.zy_table.specs.Play.{move, opening, play, side_of, step}
-use Rattle.zy_wire.specs.Wireframe.{page_of}
+use Rattle.zy_model.specs.Wireframe.{page_of}
 use Rattle.zy_laws.proofs.places.Installing.{Placed, found, found-append, get-leaves, not_found, or_else_none, placed_front}
 use Rattle.zy_laws.proofs.serial.LoneRuns.{or_else}
 use Rattle.zy_laws.proofs.owner.PageCounts.{owns-times, owns_none, times-sent_leaves}

@@ -8,10 +8,10 @@ use Rattle.zy_isa.specs.Scenario.{Scenario}
 use Rattle.zy_isa.specs.declared.node.Node.{Node}
 use Rattle.zy_isa.specs.declared.node.Node.TheVariants.{A, B}
 use Rattle.zy_isa.specs.declared.version.Version.TheVariants.{One}
-use Rattle.zy_modes.specs.Families.{is_idle, is_source}
-use Rattle.zy_modes.specs.Table.{may_split}
-use Rattle.zy_modes.specs.declared.mode.NodeMode.{NodeMode}
-use Rattle.zy_modes.specs.declared.mode.NodeMode.TheVariants.{Empty, Normal, SInit, SDual, SFinish, DInit, DDual, DFinish}
+use Rattle.zy_model.specs.Families.{is_idle, is_source}
+use Rattle.zy_model.specs.Table.{may_split}
+use Rattle.zy_model.specs.declared.mode.NodeMode.{NodeMode}
+use Rattle.zy_model.specs.declared.mode.NodeMode.TheVariants.{Empty, Normal, SInit, SDual, SFinish, DInit, DDual, DFinish}
 use Rattle.zy_table.specs.Change.{aborted, asks, begun, committed, cut, did, leaves, locked, shares, txn_at}
 use Rattle.zy_table.specs.declared.effect.Effect.TheVariants as effect
 use Rattle.zy_table.specs.declared.entry.CommitRecord.{CommitRecord}

@@ -11,7 +11,7 @@ use Rattle.zy_isa.specs.Rows.{get_row}
 use Rattle.zy_isa.specs.declared.row.Row.{Row}
 use Rattle.zy_isa.specs.Scenario.{Scenario}
 use Rattle.zy_isa.specs.declared.node.Node.{Node}
-use Rattle.zy_modes.specs.Families.{is_source}
+use Rattle.zy_model.specs.Families.{is_source}
 use Rattle.zy_table.specs.Change.{committed, txn_at}
 use Rattle.zy_table.specs.Database.{Map, laid}
 use Rattle.zy_table.specs.declared.effect.Effect.TheVariants.{Commits}
@@ -25,7 +25,7 @@ use Rattle.zy_table.specs.Run.{gone_pages, program_of}
 use Rattle.zy_table.specs.Serial.{Registers, alone, is_committed, serial}
 use Rattle.zy_table.specs.Take.{is_held}
 use Rattle.zy_table.specs.State.{NodeState, Txn, View, other}
-use Rattle.zy_wire.specs.Wireframe.{page_of}
+use Rattle.zy_model.specs.Wireframe.{page_of}
 use Rattle.zy_table.proofs.LockLists.{holds-drop}
 use Rattle.zy_laws.specs.SourceFirst.{Sorted}
 use Rattle.zy_laws.proofs.locks.Locking.{Kept, Stay}

@@ -9,11 +9,11 @@ use Rattle.zy_isa.specs.Rows.{get_row}
 use Rattle.zy_isa.specs.Scenario.{Scenario}
 use Rattle.zy_isa.specs.declared.node.Node.{Node}
 use Rattle.zy_isa.specs.declared.row.Row.{Row}
-use Rattle.zy_locks.specs.Locks.{add_lock}
-use Rattle.zy_locks.specs.declared.lock.LockKind.{LockKind}
-use Rattle.zy_locks.specs.declared.lock.LockKind.TheVariants.{Exclusive}
-use Rattle.zy_modes.specs.Families.{is_bare, is_source}
-use Rattle.zy_modes.specs.Table.{may_split}
+use Rattle.zy_model.specs.Locks.{add_lock}
+use Rattle.zy_model.specs.declared.lock.LockKind.{LockKind}
+use Rattle.zy_model.specs.declared.lock.LockKind.TheVariants.{Exclusive}
+use Rattle.zy_model.specs.Families.{is_bare, is_source}
+use Rattle.zy_model.specs.Table.{may_split}
 use Rattle.zy_table.specs.Change.{aborted, begun, cut, did, locked, share_all, shares, txn_at}
 use Rattle.zy_table.specs.Client.{is_new}
 use Rattle.zy_table.specs.Database.{Map}
@@ -26,7 +26,7 @@ use Rattle.zy_table.specs.Ranges.{range, range_pages, total}
 use Rattle.zy_table.specs.Run.{is_there, program_of}
 use Rattle.zy_table.specs.Serial.{Registers, serial}
 use Rattle.zy_table.specs.State.{Lock, NodeState, Txn, View, other}
-use Rattle.zy_wire.specs.Wireframe.{page_of}
+use Rattle.zy_model.specs.Wireframe.{page_of}
 use Rattle.zy_table.proofs.LockLists.{alone_new, holds-drop, holds_more}
 use Rattle.zy_table.proofs.RangeLists.{on_range_page, total_same}
 use Rattle.zy_table.proofs.SharedLocks.{holds_more_shared}

@@ -7,7 +7,7 @@ use Rattle.std.proofs.lemmas.Bool.{cases_Bool, false≢true}
 use Rattle.zy_isa.specs.Scenario.{Scenario}
 use Rattle.zy_isa.specs.declared.instr.Instr.{Instr}
 use Rattle.zy_isa.specs.declared.node.Node.{Node}
-use Rattle.zy_modes.specs.Families.{is_source}
+use Rattle.zy_model.specs.Families.{is_source}
 use Rattle.zy_table.specs.Change.{txn_at}
 use Rattle.zy_table.specs.Database.{Map}
 use Rattle.zy_table.specs.Holders.{holds}
@@ -16,7 +16,7 @@ use Rattle.zy_table.specs.Run.{program_of}
 use Rattle.zy_table.specs.Serial.{Registers, serial}
 use Rattle.zy_table.specs.declared.entry.CommitRecord.{CommitRecord}
 use Rattle.zy_table.specs.State.{Lock, NodeState, Txn, View, other}
-use Rattle.zy_wire.specs.Wireframe.{page_of}
+use Rattle.zy_model.specs.Wireframe.{page_of}
 use Rattle.zy_laws.specs.SourceFirst.{Sorted}
 use Rattle.zy_laws.proofs.locks.Locking.{Kept}
 use Rattle.zy_laws.proofs.places.PageValues.{db}

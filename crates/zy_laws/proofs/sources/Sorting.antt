@@ -7,10 +7,10 @@ use Rattle.zy_isa.specs.Scenario.{Scenario}
 use Rattle.zy_isa.specs.declared.node.Node.{Node}
 use Rattle.zy_isa.specs.declared.node.Node.TheVariants.{A}
 use Rattle.zy_isa.specs.declared.version.Version.TheVariants.{One}
-use Rattle.zy_links.specs.Messages.{Wire}
-use Rattle.zy_modes.specs.declared.mode.NodeMode.TheVariants.{Empty, Normal, SInit}
-use Rattle.zy_locks.specs.declared.lock.LockKind.TheVariants.{Exclusive, Shared}
-use Rattle.zy_modes.specs.Families.{is_idle, is_source}
+use Rattle.zy_model.specs.Messages.{Wire}
+use Rattle.zy_model.specs.declared.mode.NodeMode.TheVariants.{Empty, Normal, SInit}
+use Rattle.zy_model.specs.declared.lock.LockKind.TheVariants.{Exclusive, Shared}
+use Rattle.zy_model.specs.Families.{is_idle, is_source}
 use Rattle.zy_table.specs.Change.{aborted, asks, begun, committed, cut, did, leaves, locked, shares, turns, txn_at}
 use Rattle.zy_table.specs.declared.access.Access.TheVariants as access
 use Rattle.zy_table.specs.declared.access.Access.TheVariants.{Reads}

@@ -5,7 +5,7 @@ use Rattle.zy_isa.specs.Scenario.{IsScenario, Scenario}
 use Rattle.zy_isa.specs.declared.choice.Choice.{Choice}
 use Rattle.zy_isa.specs.declared.node.Node.{Node}
 use Rattle.zy_isa.specs.declared.node.Node.TheVariants.{A, B}
-use Rattle.zy_modes.specs.Families.{is_source}
+use Rattle.zy_model.specs.Families.{is_source}
 use Rattle.zy_table.specs.Change.{txn_at, txn_or}
 use Rattle.zy_table.specs.Database.{Map, database}
 use Rattle.zy_table.specs.Play.{move, opening, play, side_of, step}

@@ -4,8 +4,8 @@ use Rattle.std.specs.Prelude.{Bool}
 use Rattle.std.proofs.lemmas.Bool.{cases_Bool, false≢true, false_from_ne_true}
 use Rattle.zy_isa.specs.Scenario.{Scenario}
 use Rattle.zy_isa.specs.declared.node.Node.{Node}
-use Rattle.zy_modes.specs.Families.{is_source}
-use Rattle.zy_modes.specs.declared.mode.NodeMode.TheVariants.{SInit}
+use Rattle.zy_model.specs.Families.{is_source}
+use Rattle.zy_model.specs.declared.mode.NodeMode.TheVariants.{SInit}
 use Rattle.zy_table.specs.Change.{begun, committed, txn_at}
 use Rattle.zy_table.specs.Client.{is_new}
 use Rattle.zy_table.specs.declared.entry.CommitRecord.{CommitRecord}

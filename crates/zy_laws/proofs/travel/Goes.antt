@@ -4,12 +4,12 @@ use Rattle.std.specs.Prelude.{if◌then◌else◌, ◌==◌, ◌||◌}
 use Rattle.std.proofs.Math.Bool.{or-false}
 use Rattle.std.proofs.lemmas.Bool.{cases_eq, eq-eqb, ne_eqb, or_left, or_right}
 use Rattle.std.proofs.lemmas.Bool.Decides.{nat_tests}
-use Rattle.zy_modes.specs.Families.{is_source}
+use Rattle.zy_model.specs.Families.{is_source}
 use Rattle.zy_isa.specs.Scenario.{Scenario}
 use Rattle.zy_isa.specs.declared.node.Node.{Node}
-use Rattle.zy_links.specs.Messages.{Page, Done}
-use Rattle.zy_locks.specs.declared.lock.LockKind.TheVariants.{Exclusive}
-use Rattle.zy_modes.specs.Table.{may_pull, may_split}
+use Rattle.zy_model.specs.Messages.{Page, Done}
+use Rattle.zy_model.specs.declared.lock.LockKind.TheVariants.{Exclusive}
+use Rattle.zy_model.specs.Table.{may_pull, may_split}
 use Rattle.zy_table.specs.declared.outcome.Outcome.{Outcome}
 use Rattle.zy_table.specs.declared.outcome.Outcome.TheVariants.{Split}
 use Rattle.zy_table.specs.declared.place.Place.{Place}

@@ -3,7 +3,7 @@ use Rattle.std.proofs.Common.{List, [], ap, false, inl, inr, refl, subst, sym, �
 use Rattle.std.specs.Prelude.{◌⊎◌}
 use Rattle.std.proofs.lemmas.Bool.{false≢true}
 use Rattle.zy_isa.specs.declared.version.Version.TheVariants.{One}
-use Rattle.zy_modes.specs.Families.{is_source}
+use Rattle.zy_model.specs.Families.{is_source}
 use Rattle.zy_isa.proofs.ResultLemmas.{neither}
 use Rattle.zy_isa.specs.Scenario.{Scenario}
 use Rattle.zy_isa.specs.declared.choice.Choice.{Choice}

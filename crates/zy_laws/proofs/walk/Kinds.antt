@@ -5,7 +5,7 @@ use Rattle.std.proofs.lemmas.Bool.{false≢true}
 use Rattle.zy_isa.specs.Scenario.{Scenario}
 use Rattle.zy_isa.specs.declared.node.Node.{Node}
 use Rattle.zy_table.specs.Change.{aborted, asks, begun, did, leaves, locked, shares}
-use Rattle.zy_links.specs.Messages.{Done, Dual, Finish, Pull, Ready, Wire}
+use Rattle.zy_model.specs.Messages.{Done, Dual, Finish, Pull, Ready, Wire}
 use Rattle.zy_table.specs.Database.{sent_leaves}
 use Rattle.zy_table.specs.State.{View}
 use Rattle.zy_laws.proofs.owner.MovingPages.{sent_bare}

@@ -4,13 +4,13 @@ use Rattle.std.specs.Prelude.{◌⊎◌, Some, None, unwrap_or}
 use Rattle.std.proofs.lemmas.Bool.{cond_both, false≢true}
 use Rattle.zy_isa.specs.declared.version.Version.{Version}
 use Rattle.zy_isa.specs.declared.version.Version.TheVariants.{One}
-use Rattle.zy_modes.specs.Families.{is_bare, is_sending, is_source, is_taker}
+use Rattle.zy_model.specs.Families.{is_bare, is_sending, is_source, is_taker}
 use Rattle.zy_isa.specs.declared.node.Node.TheVariants.{A}
-use Rattle.zy_modes.specs.declared.mode.NodeMode.{NodeMode}
-use Rattle.zy_modes.specs.declared.mode.NodeMode.TheVariants.{Empty, Normal, SInit, SDual, SFinish, DInit, DDual, DFinish}
-use Rattle.zy_links.specs.declared.kind.Kind.TheVariants as kind
-use Rattle.zy_modes.specs.declared.table.MessageLine.TheVariants.{Stray, Turns}
-use Rattle.zy_modes.specs.Table.{may_start, on_message, on_start, may_split, may_pull, may_push}
+use Rattle.zy_model.specs.declared.mode.NodeMode.{NodeMode}
+use Rattle.zy_model.specs.declared.mode.NodeMode.TheVariants.{Empty, Normal, SInit, SDual, SFinish, DInit, DDual, DFinish}
+use Rattle.zy_model.specs.declared.kind.Kind.TheVariants as kind
+use Rattle.zy_model.specs.declared.table.MessageLine.TheVariants.{Stray, Turns}
+use Rattle.zy_model.specs.Table.{may_start, on_message, on_start, may_split, may_pull, may_push}
 
 -- a wireframe is stray but in Empty, which turns to DInit and answers ready
 pub wire_line : (mode : NodeMode) (all : Bool) → (on_message mode kind.Wire all ≡ Stray)

@@ -5,9 +5,9 @@ use Rattle.zy_isa.specs.declared.instr.Instr.{Instr}
 use Rattle.zy_isa.specs.declared.choice.Choice.{Choice}
 use Rattle.zy_isa.specs.declared.choice.Choice.TheVariants.{Start, Begin, Kill, Run, Take, Finish, Push}
 use Rattle.zy_isa.specs.Scenario.{Scenario}
-use Rattle.zy_links.specs.Messages.{Message, Wire, Ready, Dual, Pull, Page, Finish as FinishMessage, Done}
-use Rattle.zy_modes.specs.declared.table.MessageLine.{MessageLine}
-use Rattle.zy_modes.specs.declared.table.MessageLine.TheVariants.{Stray, Turns}
+use Rattle.zy_model.specs.Messages.{Message, Wire, Ready, Dual, Pull, Page, Finish as FinishMessage, Done}
+use Rattle.zy_model.specs.declared.table.MessageLine.{MessageLine}
+use Rattle.zy_model.specs.declared.table.MessageLine.TheVariants.{Stray, Turns}
 use Rattle.zy_table.specs.declared.access.Access.{Access}
 use Rattle.zy_table.specs.declared.access.Access.TheVariants.{Reads, Writes, Inserts}
 use Rattle.zy_table.specs.State.{State, View, Step, facing, as_step}

@@ -2,12 +2,12 @@
 use Rattle.std.proofs.Common.{◌≡◌, ℕ, List, [], ◌∷◌, true, false, refl, sym, ap, ◌∙◌, subst, inl, inr, append-nil}
 use Rattle.std.specs.Prelude.{◌⊎◌}
 use Rattle.std.proofs.lemmas.Bool.{false≢true}
-use Rattle.zy_modes.specs.Families.{is_source}
+use Rattle.zy_model.specs.Families.{is_source}
 use Rattle.zy_isa.specs.Scenario.{Scenario}
 use Rattle.zy_isa.specs.declared.choice.Choice.{Choice}
 use Rattle.zy_isa.specs.declared.node.Node.{Node}
-use Rattle.zy_modes.specs.declared.mode.NodeMode.TheVariants.{Normal}
-use Rattle.zy_links.specs.Messages.{Pull, Page, Finish, Done}
+use Rattle.zy_model.specs.declared.mode.NodeMode.TheVariants.{Normal}
+use Rattle.zy_model.specs.Messages.{Pull, Page, Finish, Done}
 use Rattle.zy_laws.specs.Journey.{Begins, OneWireframe, Sent, Wireframes}
 use Rattle.zy_table.specs.Play.{opening, play}
 use Rattle.zy_table.specs.State.{Message, NodeState, View, facing}

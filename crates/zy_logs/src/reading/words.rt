@@ -4,7 +4,7 @@ ghost use Rattle.zy_logs.specs.Vocabulary as spec;
 
 use crate::told::{Reason, Told};
 use zy_isa::Node;
-use zy_links::Kind;
+use zy_model::Kind;
 use zy_text::names::is;
 
 /// What a word stands for in a table, if it is there.

@@ -1,6 +1,7 @@
 //! Each call once with ample memory, on three messages.
 use std::alloc::{AllocError, Global};
-use zy_links::{Kind, Link, Message};
+use zy_links::{Link, Message};
+use zy_model::Kind;
 use zy_page::Page;
 use zy_wire::Wire;
 

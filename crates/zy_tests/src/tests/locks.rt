@@ -1,7 +1,8 @@
 //! Each call once with ample memory, on worked locks.
 use std::alloc::{AllocError, Global};
 use std::process::Abort;
-use zy_locks::{Attempt, Lock, LockKind, Locks};
+use zy_locks::{Attempt, Locks};
+use zy_model::{Lock, LockKind};
 
 /// Two read page 7; one writes page 9.
 const LOCKS: [Lock; 3] = [

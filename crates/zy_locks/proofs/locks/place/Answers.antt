@@ -1,7 +1,7 @@
 use Rattle.std.proofs.Common.{rules}
 use Rattle.std.proofs.lemmas.List.Sorted.{IsPartitionPoint-from_clause}
-use Rattle.zy_locks.specs.Order.{comes_before}
-use Rattle.zy_locks.proofs.Rising.{in_order}
+use Rattle.zy_model.specs.Order.{comes_before}
+use Rattle.zy_model.proofs.Rising.{in_order}
 use Rattle.zy_locks.proofs.locks.place.Goals as goal
 
 pub returns : goal.returns

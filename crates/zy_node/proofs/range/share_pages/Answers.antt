@@ -1,7 +1,7 @@
 use Rattle.std.proofs.Common.{refl, sym, ap, ◌∙◌, ◌∷◌, ◌≡◌}
 use Rattle.std.specs.Prelude.{map}
-use Rattle.zy_wire.specs.Wireframe.{page_of}
-use Rattle.zy_locks.specs.declared.lock.LockKind.TheVariants.{Shared}
+use Rattle.zy_model.specs.Wireframe.{page_of}
+use Rattle.zy_model.specs.declared.lock.LockKind.TheVariants.{Shared}
 use Rattle.zy_table.specs.Change.{share_all}
 use Rattle.zy_table.proofs.SharedLocks.{free_others}
 use Rattle.zy_node.specs.Wireframes.{lows_in}

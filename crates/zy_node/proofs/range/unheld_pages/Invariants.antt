@@ -1,5 +1,5 @@
 use Rattle.std.proofs.Common.{◌≡◌, ◌+◌, ◌-◌, ◌≤◌, length}
-use Rattle.zy_locks.specs.Locks.{unheld}
+use Rattle.zy_model.specs.Locks.{unheld}
 use Rattle.zy_table.specs.Ranges.{range_pages}
 use Rattle.zy_node.specs.Wireframes.{lows_in}
 use Rattle.zy_node.proofs.RangeSteps.{behind}

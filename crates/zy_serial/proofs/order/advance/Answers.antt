@@ -1,7 +1,7 @@
 use Rattle.std.proofs.Common.{◌≡◌, ◌∙◌, List, length, drop, ap}
 use Rattle.zy_isa.specs.declared.node.Node.{Node}
 use Rattle.zy_laws.specs.SourceFirst.{sorted_step}
-use Rattle.zy_modes.specs.Families.{is_source}
+use Rattle.zy_model.specs.Families.{is_source}
 use Rattle.zy_table.specs.Play.{side_of, step}
 use Rattle.zy_table.specs.State.{State, facing}
 use Rattle.zy_table.specs.declared.entry.CommitRecord.{CommitRecord}

@@ -1,7 +1,7 @@
 use Rattle.std.proofs.Common.{◌≡◌, ◌∙◌, true, length, sym, arith}
 use Rattle.std.specs.Prelude.{nat_le}
 use Rattle.std.proofs.lemmas.Bool.{le-leb}
-use Rattle.zy_locks.specs.declared.lock.LockKind.TheVariants.{Exclusive}
+use Rattle.zy_model.specs.declared.lock.LockKind.TheVariants.{Exclusive}
 use Rattle.zy_node.specs.Wireframes.{lows_in}
 use Rattle.zy_steps.specs.Parts.{here}
 use Rattle.zy_steps.proofs.AbortLemmas.{full-frozen, full-no_page}

@@ -1,5 +1,5 @@
 use Rattle.std.proofs.Common.{◌∙◌, sym}
-use Rattle.zy_locks.specs.declared.lock.LockKind.TheVariants.{Exclusive}
+use Rattle.zy_model.specs.declared.lock.LockKind.TheVariants.{Exclusive}
 use Rattle.zy_table.specs.Change.{txn_at}
 use Rattle.zy_steps.specs.Parts.{here}
 use Rattle.zy_steps.proofs.AbortLemmas.{write-missing}

@@ -1,5 +1,5 @@
 use Rattle.std.proofs.Common.{◌≡◌, ◌%◌, ◌+◌, ◌-◌, ◌^◌, ◌≤◌}
-use Rattle.zy_wire.specs.Wireframe.{page_of}
+use Rattle.zy_model.specs.Wireframe.{page_of}
 use Rattle.zy_table.specs.Ranges.{range, total}
 use Rattle.zy_table.specs.Run.{value_for}
 use Rattle.zy_node.specs.Nodes.{node_shown}

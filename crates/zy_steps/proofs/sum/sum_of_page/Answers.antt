@@ -1,6 +1,6 @@
 use Rattle.std.proofs.Common.{arith, sym}
 use Rattle.zy_table.proofs.PageFinds.{rows_of-some, rows_of-none}
-use Rattle.zy_table.proofs.RowSums.{no_rows}
+use Rattle.zy_node.proofs.RowSums.{no_rows}
 use Rattle.zy_steps.proofs.sum.sum_of_page.Goals as goal
 
 pub returns-in-Some : goal.returns-in-Some

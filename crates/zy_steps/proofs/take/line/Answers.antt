@@ -1,7 +1,7 @@
 use Rattle.std.proofs.Common.{ap, length, arith}
 use Rattle.std.proofs.Math.Nat.{add-zero}
-use Rattle.zy_links.specs.declared.kind.Kind.TheVariants.{Page, Finish}
-use Rattle.zy_modes.specs.Table.{on_message}
+use Rattle.zy_model.specs.declared.kind.Kind.TheVariants.{Page, Finish}
+use Rattle.zy_model.specs.Table.{on_message}
 use Rattle.zy_node.specs.Nodes.{node_shown}
 use Rattle.zy_steps.proofs.AllHere.{all_here-count, all_here-arrived}
 use Rattle.zy_steps.proofs.take.line.Goals.{in-Page, in-Finish, in-Wire, in-Ready, in-Dual, in-Pull, in-Done}

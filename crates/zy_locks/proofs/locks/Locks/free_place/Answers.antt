@@ -1,7 +1,7 @@
 use Rattle.std.proofs.Common.{◌≡◌, ◌∙◌, ◌+◌, ◌-◌, ◌≤◌, ℕ, length, min, refl, sym, ap, arith, inl, inr}
 use Rattle.std.specs.Prelude.{◌⊎◌}
 use Rattle.std.proofs.lemmas.Bool.{cases_lt, true≢false}
-use Rattle.zy_locks.specs.Locks.{clashes}
+use Rattle.zy_model.specs.Locks.{clashes}
 use Rattle.zy_locks.proofs.Agreeing.{any_part, none_beside}
 use Rattle.zy_locks.proofs.Alone.{alone_free}
 use Rattle.zy_locks.proofs.locks.Locks.free_place.Goals as goal

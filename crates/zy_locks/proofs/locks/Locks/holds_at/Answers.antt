@@ -1,6 +1,6 @@
 use Rattle.std.proofs.Common.{◌∙◌, ◌<◌, length, ap, sym, arith}
 use Rattle.std.proofs.lemmas.Bool.{le-ltb}
-use Rattle.zy_locks.specs.Order.{is_held_by}
+use Rattle.zy_model.specs.Order.{is_held_by}
 use Rattle.zy_locks.proofs.Held.{holds_at, holds_past}
 use Rattle.zy_locks.proofs.locks.Locks.holds_at.Goals as goal
 

@@ -1,7 +1,7 @@
 use Rattle.std.proofs.Common.{arith, sym}
 use Rattle.std.proofs.lemmas.Bool.{le-ltb}
-use Rattle.zy_locks.specs.declared.lock.Lock.{Lock}
-use Rattle.zy_locks.specs.declared.lock.LockKind.TheVariants.{Shared}
+use Rattle.zy_model.specs.declared.lock.Lock.{Lock}
+use Rattle.zy_model.specs.declared.lock.LockKind.TheVariants.{Shared}
 use Rattle.zy_locks.proofs.PageRun.{is_locked_at, is_locked_past}
 use Rattle.zy_locks.proofs.locks.Locks.locked.Goals as goal
 

@@ -2,12 +2,13 @@ use Rattle.std.proofs.Common.{◌≡◌, ◌∙◌, sym, arith, false, true}
 use Rattle.std.proofs.Math.ListN.{set}
 use Rattle.std.proofs.lemmas.Bool.{false≢true}
 use Rattle.std.proofs.lemmas.List.{get_or_default}
-use Rattle.zy_locks.specs.Locks.{add_lock, stronger}
+use Rattle.zy_model.specs.Locks.{add_lock, stronger}
 use Rattle.zy_locks.proofs.Added.{add_lock_at, add_lock_between}
 use Rattle.zy_locks.proofs.Agreeing.{agree_add}
-use Rattle.zy_locks.proofs.Alone.{alone_kept, exclusive_holds}
+use Rattle.zy_locks.proofs.Alone.{alone_kept}
+use Rattle.zy_model.proofs.Alone.{exclusive_holds}
 use Rattle.zy_locks.proofs.Held.{held_place, told_at}
-use Rattle.zy_locks.proofs.Rising.{rise_add}
+use Rattle.zy_model.proofs.Rising.{rise_add}
 use Rattle.zy_locks.proofs.locks.Locks.put_at.Goals as goal
 
 pub index-requires : goal.index-requires

@@ -1,7 +1,7 @@
 use Rattle.std.proofs.Common.{arith, eqb, not, rules}
 use Rattle.std.proofs.lemmas.Fn.{filter_same}
 use Rattle.zy_locks.proofs.Agreeing.{agree_drop}
-use Rattle.zy_locks.proofs.Rising.{rise_drop}
+use Rattle.zy_model.proofs.Rising.{rise_drop}
 use Rattle.zy_locks.proofs.locks.Locks.release_all.Goals as goal
 
 pub invariant_of-self : goal.invariant_of-self

@@ -2,7 +2,7 @@ use Rattle.std.proofs.Common.{◌≡◌, ◌∙◌, ap, sym}
 use Rattle.std.specs.Prelude.{Option, unwrap_or}
 use Rattle.zy_isa.specs.declared.version.Version.{Version}
 use Rattle.zy_isa.specs.declared.node.Node.{Node}
-use Rattle.zy_modes.specs.Table.{on_start}
+use Rattle.zy_model.specs.Table.{on_start}
 use Rattle.zy_isa.specs.declared.choice.Choice.TheVariants.{Start}
 use Rattle.zy_isa.specs.declared.node.Node.TheVariants.{A, B}
 use Rattle.zy_table.specs.Play.{side_of}

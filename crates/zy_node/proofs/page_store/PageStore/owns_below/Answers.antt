@@ -1,6 +1,6 @@
 use Rattle.std.proofs.Common.{◌≡◌, ◌≤◌, ℕ, List, Option, arith, length}
 use Rattle.std.proofs.lemmas.Bool.{leb-true, le-leb}
-use Rattle.zy_page.specs.Leaf.{Leaf}
+use Rattle.zy_model.specs.Leaf.{Leaf}
 use Rattle.zy_node.proofs.AllPages.{all_counted, all_filled}
 use Rattle.zy_node.proofs.SlotLemmas.{few_slots, rising_slots}
 use Rattle.zy_node.specs.OwnedPages.{OwnsBelow}

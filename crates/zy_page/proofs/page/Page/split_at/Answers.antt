@@ -1,7 +1,7 @@
 use Rattle.std.proofs.Common.{◌≡◌, ◌∙◌, drop, take, sym, arith}
 use Rattle.std.proofs.lemmas.List.{take_rest, take-take, length-take-le}
 use Rattle.std.specs.Prelude.{◌≤◌}
-use Rattle.zy_page.specs.Leaf.{rows_below, rows_from}
+use Rattle.zy_model.specs.Leaf.{rows_below, rows_from}
 use Rattle.zy_page.specs.RowLists.{AreKept}
 use Rattle.zy_page.proofs.Parted.{rows_below-place, rows_from-place, AreKept-filter}
 use Rattle.zy_page.proofs.page.Page.split_at.Goals as goal

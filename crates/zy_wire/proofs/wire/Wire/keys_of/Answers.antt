@@ -1,7 +1,7 @@
 use Rattle.std.proofs.Common.{◌∙◌, leb, ltb, sym, arith}
 use Rattle.std.proofs.lemmas.Bool.{and_right, le-ltb, ne_eqb}
-use Rattle.zy_wire.specs.Wireframe.{page_of}
-use Rattle.zy_wire.proofs.PageOf.{page_of-within}
+use Rattle.zy_model.specs.Wireframe.{page_of}
+use Rattle.zy_model.proofs.PageOf.{page_of-within}
 use Rattle.zy_wire.proofs.wire.Wire.keys_of.Goals as goal
 
 pub returns-else-from-len : goal.returns-else-from-len

@@ -1,6 +1,6 @@
 use Rattle.std.proofs.Common.{arith, subst, sym}
-use Rattle.zy_wire.specs.Wireframe.{IsGreatest}
-use Rattle.zy_wire.proofs.PageOf.{page_of-greatest}
+use Rattle.zy_model.specs.Wireframe.{IsGreatest}
+use Rattle.zy_model.proofs.PageOf.{page_of-greatest}
 use Rattle.zy_wire.proofs.Leaves.{leaf_of, page_at}
 use Rattle.zy_wire.proofs.wire.Wire.page_of.Goals as goal
 

@@ -5,7 +5,7 @@ use Rattle.std.proofs.lemmas.Bool.{cases_Bool, cases_eq, cases_lt, eq-eqb, false
 use Rattle.zy_isa.specs.Rows.{Rising, get_row}
 use Rattle.zy_isa.specs.declared.row.Row.{Row}
 use Rattle.zy_table.specs.Ranges.{keys_on, range, total}
-use Rattle.zy_table.specs.Sums.{value_beside}
+use Rattle.zy_node.specs.Sums.{value_beside}
 use Rattle.zy_table.proofs.RangeLists.{total_same}
 use Rattle.zy_table.proofs.RisingRows.{rises_key}
 

@@ -1,8 +1,8 @@
 -- Families of modes: what the nodes in several modes have in common.
 use Rattle.std.specs.Prelude.{Bool, true, false}
-use Rattle.zy_modes.specs.declared.mode.NodeMode.{NodeMode}
-use Rattle.zy_modes.specs.declared.mode.NodeMode.TheVariants.{Empty, Normal, SInit, SDual, SFinish, DInit, DDual}
-use Rattle.zy_modes.specs.declared.mode.NodeMode.TheVariants.{DFinish}
+use Rattle.zy_model.specs.declared.mode.NodeMode.{NodeMode}
+use Rattle.zy_model.specs.declared.mode.NodeMode.TheVariants.{Empty, Normal, SInit, SDual, SFinish, DInit, DDual}
+use Rattle.zy_model.specs.declared.mode.NodeMode.TheVariants.{DFinish}
 
 -- it runs all transactions, and so it has every page of its wireframe
 abbrev pub is_home : NodeMode → Bool

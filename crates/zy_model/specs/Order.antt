@@ -2,9 +2,9 @@
 use Rattle.std.specs.Prelude.{◌≡◌, ℕ, ◌==◌, nat_lt, ◌≤◌, Bool, true, false, ◌&&◌, ◌||◌, List, [], ◌∷◌, length, Option}
 use Rattle.std.specs.Prelude.{None, Some}
 use Rattle.std.specs.List.{AllWithin}
-use Rattle.zy_locks.specs.declared.lock.Lock.{Lock}
-use Rattle.zy_locks.specs.declared.lock.LockKind.{LockKind}
-use Rattle.zy_locks.specs.Locks.{conflict}
+use Rattle.zy_model.specs.declared.lock.Lock.{Lock}
+use Rattle.zy_model.specs.declared.lock.LockKind.{LockKind}
+use Rattle.zy_model.specs.Locks.{conflict}
 
 -- whether a lock comes before t's lock on p: its page is lower, or it is on p and its transaction is lower
 abbrev pub comes_before : Lock → ℕ → ℕ → Bool

@@ -1,6 +1,6 @@
 use Rattle.std.proofs.Common.{◌≡◌, ◌%◌, ◌+◌, ◌^◌, drop}
-use Rattle.zy_table.proofs.RowSums.{sum_beside}
-use Rattle.zy_table.proofs.sums.sum_of_rows.Given as goal
+use Rattle.zy_node.proofs.RowSums.{sum_beside}
+use Rattle.zy_node.proofs.sums.sum_of_rows.Given as goal
 
 abbrev pub invariant-loop-row : goal.invariant-loop-row
 invariant-loop-row l =

@@ -1,6 +1,6 @@
 //! Which part a node has in a migration.
 ghost use Rattle.std.specs.Prelude.{◌≡◌};
-ghost use Rattle.zy_modes.specs.Table.{may_start, may_split, is_waiting, may_pull, may_push};
+ghost use Rattle.zy_model.specs.Table.{may_start, may_split, is_waiting, may_pull, may_push};
 
 /// A node's mode. Those of a source begin with S, those of a destination with D.
 #[derive(Clone, Copy, Debug, PartialEq, Eq)]

@@ -1,11 +1,11 @@
 //! The mode table: each function is the lines of its definition.
 ghost use Rattle.std.specs.Prelude.{◌≡◌};
-ghost use Rattle.zy_modes.specs.Table.{HandsOver};
-ghost use Rattle.zy_modes.specs.Table as spec;
+ghost use Rattle.zy_model.specs.Table.{HandsOver};
+ghost use Rattle.zy_model.specs.Table as spec;
 
 use crate::mode::NodeMode;
 use zy_isa::{Node, Version};
-use zy_links::Kind;
+use crate::kind::Kind;
 
 /// What a message does at a node.
 #[derive(Clone, Copy, Debug, PartialEq, Eq)]

@@ -4,10 +4,10 @@ use Rattle.std.specs.Prelude.{◌==◌, nat_lt, not, ◌&&◌, ◌||◌}
 use Rattle.std.proofs.lemmas.Bool.{cond_both}
 use Rattle.std.proofs.lemmas.Bool.Decides.{nat_tests}
 use Rattle.std.specs.List.Sorted.{IsPartitionedBy}
-use Rattle.zy_locks.specs.declared.lock.Lock.{Lock}
-use Rattle.zy_locks.specs.declared.lock.LockKind.{LockKind}
-use Rattle.zy_locks.specs.Locks.{add_lock, drop_locks, stronger}
-use Rattle.zy_locks.specs.Order.{comes_before, is_held_by, LocksBehind, LocksRise, IsPlace}
+use Rattle.zy_model.specs.declared.lock.Lock.{Lock}
+use Rattle.zy_model.specs.declared.lock.LockKind.{LockKind}
+use Rattle.zy_model.specs.Locks.{add_lock, drop_locks, stronger}
+use Rattle.zy_model.specs.Order.{comes_before, is_held_by, LocksBehind, LocksRise, IsPlace}
 
 -- a lock that comes before y, which comes before t's lock on p, comes before that lock
 before_trans : (x y : Lock) (p t : ℕ) → comes_before x y.page y.txn ≡ true → comes_before y p t ≡ true → comes_before x p t ≡ true

@@ -4,7 +4,7 @@ use Rattle.std.proofs.Common.{Some, None, ◌⊎◌, inl, inr}
 use Rattle.std.specs.Prelude.{filter, position, unwrap_or}
 use Rattle.std.specs.List.{position_or_len}
 use Rattle.std.proofs.lemmas.Bool.{eq-eqb, ne_eqb, eqb-true, lt-ltb, ltb-true, ltb-false, le-leb, leb-true, cond_both, cases_lt, cases_Bool, true≢false}
-use Rattle.zy_wire.specs.Wireframe.{greatest, low_under, page_of, IsGreatest}
+use Rattle.zy_model.specs.Wireframe.{greatest, low_under, page_of, IsGreatest}
 
 -- the greatest low key that is not above k
 pub low_under-le : (lows : List ℕ) (k : ℕ) → low_under lows k ≤ k

@@ -1,7 +1,7 @@
 use Rattle.std.proofs.Common.{arith, ap, drop, ◌≡◌}
 use Rattle.std.proofs.lemmas.List.{drop_all}
-use Rattle.zy_table.proofs.RowSums.{sum_beside, sum_of_rows}
-use Rattle.zy_table.proofs.sums.sum_of_rows.Goals as goal
+use Rattle.zy_node.proofs.RowSums.{sum_beside, sum_of_rows}
+use Rattle.zy_node.proofs.sums.sum_of_rows.Goals as goal
 
 pub returns : goal.returns
 returns c =

@@ -2,7 +2,7 @@
 ghost use Rattle.std.specs.Prelude.{◌≡◌, ◌%◌, ◌^◌, ◌&&◌, is_some, nat_le, not, if◌then◌else◌};
 ghost use Rattle.zy_isa.specs.Rows.{Rising, get_row};
 ghost use Rattle.zy_table.specs.Ranges.{range, total};
-ghost use Rattle.zy_table.specs.Sums.{value_beside};
+ghost use Rattle.zy_node.specs.Sums.{value_beside};
 
 use zy_isa::Row;
 use zy_page::finding::value_at;

@@ -2,19 +2,19 @@
 use Rattle.std.specs.Prelude.{◌≡◌, ◌&&◌, Bool, true, false, if◌then◌else◌, Option, Some, None}
 use Rattle.zy_isa.specs.declared.node.Node.{Node}
 use Rattle.zy_isa.specs.declared.node.Node.TheVariants.{A, B}
-use Rattle.zy_links.specs.declared.kind.Kind.{Kind}
-use Rattle.zy_links.specs.declared.kind.Kind.TheVariants.{Wire, Ready, Dual, Pull, Page, Finish, Done}
+use Rattle.zy_model.specs.declared.kind.Kind.{Kind}
+use Rattle.zy_model.specs.declared.kind.Kind.TheVariants.{Wire, Ready, Dual, Pull, Page, Finish, Done}
 use Rattle.zy_isa.specs.declared.version.Version.{Version}
 use Rattle.zy_isa.specs.declared.version.Version.TheVariants.{Two}
 use Rattle.zy_isa.specs.Versions.{has_since}
-use Rattle.zy_modes.specs.Families.{is_home, is_destination}
-use Rattle.zy_modes.specs.declared.mode.NodeMode.{NodeMode}
-use Rattle.zy_modes.specs.declared.mode.NodeMode.TheVariants.{Empty, Normal, SInit, SDual, SFinish, DInit, DDual}
-use Rattle.zy_modes.specs.declared.mode.NodeMode.TheVariants.{DFinish}
-use Rattle.zy_modes.specs.declared.table.MessageLine.{MessageLine}
-use Rattle.zy_modes.specs.declared.table.MessageLine.TheVariants.{Stray, Turns}
-use Rattle.zy_modes.specs.declared.table.FinishLine.{FinishLine}
-use Rattle.zy_modes.specs.declared.table.FinishLine.TheVariants.{BadMode, Active, Finishing}
+use Rattle.zy_model.specs.Families.{is_home, is_destination}
+use Rattle.zy_model.specs.declared.mode.NodeMode.{NodeMode}
+use Rattle.zy_model.specs.declared.mode.NodeMode.TheVariants.{Empty, Normal, SInit, SDual, SFinish, DInit, DDual}
+use Rattle.zy_model.specs.declared.mode.NodeMode.TheVariants.{DFinish}
+use Rattle.zy_model.specs.declared.table.MessageLine.{MessageLine}
+use Rattle.zy_model.specs.declared.table.MessageLine.TheVariants.{Stray, Turns}
+use Rattle.zy_model.specs.declared.table.FinishLine.{FinishLine}
+use Rattle.zy_model.specs.declared.table.FinishLine.TheVariants.{BadMode, Active, Finishing}
 
 -- a destination whose source runs nothing any more; all: no page is missing
 abbrev pub finishes : Bool → MessageLine

@@ -1,0 +1,22 @@
+-- Who is alone on a page.
+use Rattle.std.proofs.Common.{◌≡◌, ◌∙◌, Bool, true, false, ℕ, List, [], ◌∷◌, refl, sym, ap, arith, inl, inr}
+use Rattle.std.specs.Prelude.{◌==◌, ◌&&◌, not}
+use Rattle.std.proofs.lemmas.Bool.{and_from, and_parts, cond_both, eq-eqb, eqb-true, false≢true, true≢false, false_from_ne_true, ne_eqb, eqb-false, not-true}
+use Rattle.std.proofs.lemmas.Bool.{or_cases, or_left, or_right, or_parts}
+use Rattle.std.proofs.lemmas.Bool.Decides.{nat_tests}
+use Rattle.zy_model.specs.declared.lock.Lock.{Lock}
+use Rattle.zy_model.specs.declared.lock.LockKind.{LockKind}
+use Rattle.zy_model.specs.declared.lock.LockKind.TheVariants.{Shared, Exclusive}
+use Rattle.zy_model.specs.Locks.{add_lock, clashes, conflict, holds, holds_alone, is_exclusive, is_shared, stronger, LocksAgree}
+use Rattle.zy_model.specs.Order.{comes_before, is_held_by, LocksBehind, LocksRise}
+
+-- who has an exclusive lock on p has a lock on p
+pub exclusive_holds : (xs : List Lock) (p t : ℕ) → holds_alone xs p t ≡ true → holds xs p t ≡ true
+exclusive_holds [] p t h = h
+exclusive_holds (x ∷ xs) p t h =
+    elim (or_cases ((x.page == p) && ((x.txn == t) && is_exclusive x.kind)) (holds_alone xs p t) h) [
+      | inl e ↦ let a = and_parts (x.page == p) ((x.txn == t) && is_exclusive x.kind) e in
+          or_left _ _ (and_from _ _ a.0 (and_parts (x.txn == t) (is_exclusive x.kind) a.1).0)
+      | inr e ↦ or_right _ _ (exclusive_holds xs p t e)
+    ]
+
