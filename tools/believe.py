@@ -26,7 +26,7 @@ PARTS = [
      ['zy_laws/src/laws.rt', 'zy_frames/src/laws.rt', 'zy_alike/src/laws.rt', 'zy_pack/src/laws.rt', 'zy_parts/src/laws.rt', 'zy_memo/src/laws.rt',
       'zy_serial/src/order.rt', 'zy_serial/src/explaining.rt']),
     ('Texts, images and listings', 'What `run`, `trace`, `asm`, `dis` and `check` read and write.', [],
-     ['zy_engine/src/engine.rt', 'zy_engine/src/checking.rt', 'zy_audit/src/laws.rt', 'zy_check/src/laws.rt', 'zy_trace/src/laws.rt']),
+     ['zy_engine/src/engine.rt', 'zy_engine/src/checking.rt', 'zy_listing/src/laws.rt', 'zy_check/src/laws.rt', 'zy_trace/src/laws.rt']),
     ('Threads and the debugger', 'What `threads` and `debug` do.', [],
      ['zy_engine/src/threading.rt', 'zy_engine/src/debugging.rt', 'zy_engine/src/laws.rt', 'zy_threads/src/laws.rt', 'zy_console/src/laws.rt']),
     ('Goals and the search', 'What `search` and `find` answer, and what the words of a goal mean.', [],

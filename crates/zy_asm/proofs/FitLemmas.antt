@@ -7,7 +7,7 @@ use Rattle.zy_isa.specs.declared.operation.Parts.{Parts}
 use Rattle.zy_isa.specs.declared.operation.Parts.TheVariants.{Number, Pair, Jump, Lone}
 use Rattle.zy_text.specs.Names.{Mark}
 use Rattle.zy_isa.specs.Operations.{has, is_of, mnemonic, operation_of, parts_of}
-use Rattle.zy_isa.specs.Programs.{IsKnown}
+use Rattle.zy_isa.specs.Programs.{HasEach}
 use Rattle.zy_text.specs.Text.{SpellsParts}
 use Rattle.zy_isa.proofs.OperationLemmas.{same_operation}
 use Rattle.zy_isa.proofs.ResultLemmas.{bind_ok}
@@ -44,10 +44,10 @@ all_fit-append version (p ∷ O) Q h g = (h.0, all_fit-append version O Q h.1 g)
 
 -- the program is of the version
 pub all_known : (version : Version) (labels : List Mark) (ps : List Pending) (is : List Instr) → AllFit version ps → all_resolved labels ps ≡ Ok is
-    → IsKnown version is
-all_known version labels [] is h e = let none : [] ≡ is = cc in subst (IsKnown version) none tt
+    → HasEach version is
+all_known version labels [] is h e = let none : [] ≡ is = cc in subst (HasEach version) none tt
 all_known version labels (p ∷ ps) is h e =
     let a = bind_ok (resolved labels p) _ is e in
     let b = bind_ok (all_resolved labels ps) _ is a.2 in
     let all : a.0 ∷ b.0 ≡ is = cc (b.2) in
-    subst (IsKnown version) all (h.0 labels a.0 a.1, all_known version labels ps b.0 h.1 b.1)
+    subst (HasEach version) all (h.0 labels a.0 a.1, all_known version labels ps b.0 h.1 b.1)

@@ -22,7 +22,7 @@ use Rattle.zy_isa.specs.declared.choice.Choice.TheVariants as choice
 use Rattle.zy_text.specs.Words.{is_word, number_of, has_words, is_numeral}
 use Rattle.zy_isa.specs.Operations.{is_of, mnemonic, instr_with, operation_of, parts_of}
 use Rattle.zy_text.specs.Canon.{reg_text, node_text}
-use Rattle.zy_isa.specs.Programs.{PartsFit, HasValue, IsKnown, Values}
+use Rattle.zy_isa.specs.Programs.{PartsFit, HasValue, HasEach, Values}
 use Rattle.zy_isa.specs.Choices.{names_below, actor_at}
 use Rattle.zy_isa.specs.Scenario.{opening_pages_for}
 use Rattle.zy_text.specs.Text as m
@@ -172,7 +172,7 @@ alone_resolved labels p i e = rw e refl
 -- a line that spells a new label or none, and an instruction or none, puts them last in the open program
 pub code_gives : (labels : List Mark) (b : Base) (N : List Mark) (P : List (List Instr)) (M : List Mark) (O : List Pending) (v : Option (List ℕ))
     (i : Option Instr) (l front back : List (List ℕ))
-    → l ≡ front ++ back → SpellsLabel v front → MaySpell labels i back → has_words l ≡ true → Values (instr_in i) → IsKnown b.version (instr_in i)
+    → l ≡ front ++ back → SpellsLabel v front → MaySpell labels i back → has_words l ≡ true → Values (instr_in i) → HasEach b.version (instr_in i)
     → AreNew M (label_at v (length O)) → length O + length (instr_in i) ≤ 64
     → Codes labels b N P M O l v i
 code_gives labels b N P M O None None l front back e f g some values known new few = absurd (no_words (e ∙ rw (f, g) refl) some)

@@ -21,7 +21,7 @@ use Rattle.zy_isa.specs.declared.choice.Choice.TheVariants as choice
 use Rattle.zy_text.specs.Words.{words_of, lines_of, number_of, has_words, lines_with_words, is_numeral}
 use Rattle.zy_text.specs.Canon.{node_text, rule_text}
 use Rattle.zy_isa.specs.Rows.{Rising, RowsFit}
-use Rattle.zy_isa.specs.Programs.{IsKnown, IsProgram, Values}
+use Rattle.zy_isa.specs.Programs.{HasEach, IsProgram, Values}
 use Rattle.zy_isa.specs.Choices.{names_below, actor_at}
 use Rattle.zy_isa.specs.Scenario.{Scenario, IsScenario, ArePrograms, AreKnown, AreNamed, opening_pages_for, opening_rows}
 use Rattle.zy_text.specs.Text as m
@@ -148,7 +148,7 @@ values_first None is h = (tt, h)
 values_first (Some i) is h = ((h.0, tt), h.1)
 
 -- the version has the first line's instruction, and the others
-known_first : (version : Version) (i : Option Instr) (is : List Instr) → IsKnown version (instr_in i ++ is) → IsKnown version (instr_in i) × IsKnown version is
+known_first : (version : Version) (i : Option Instr) (is : List Instr) → HasEach version (instr_in i ++ is) → HasEach version (instr_in i) × HasEach version is
 known_first version None is h = (tt, h)
 known_first version (Some i) is h = ((h.0, tt), h.1)
 
@@ -172,7 +172,7 @@ record Coded (labels : List Mark) (xs : List Statement) (ls : List (List (List �
 -- lines that spell the lines of an open program are read as them
 only_codes : (labels : List Mark) (cs : List Code) (xs : List Statement) (ls : List (List (List ℕ))) (b : Base) (N : List Mark) (P : List (List Instr))
     (M : List Mark) (O : List Pending) (I : List Instr)
-    → SpellEach (map (m.code labels) cs ++ xs) ls → Worded ls → Values (instrs_of cs) → IsKnown b.version (instrs_of cs) → AreNew M (labels_of (length O) cs)
+    → SpellEach (map (m.code labels) cs ++ xs) ls → Worded ls → Values (instrs_of cs) → HasEach b.version (instrs_of cs) → AreNew M (labels_of (length O) cs)
     → all_resolved labels O ≡ Ok I → length O + length (instrs_of cs) ≤ 64
     → Coded labels xs ls b N P M O cs I
 only_codes labels [] xs ls b N P M O I h w v known new e few = record {

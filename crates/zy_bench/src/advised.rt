@@ -3,7 +3,7 @@
 use crate::given::Failure;
 use crate::origin::Origin;
 use std::fmt;
-use zy_advice::{Command, ImageAdvice, TextAdvice};
+use zy_diagnostics::{Command, ImageAdvice, TextAdvice};
 use zy_engine::BenchFault;
 
 /// What a command has read.

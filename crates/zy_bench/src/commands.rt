@@ -1,10 +1,10 @@
 //! The lines of a session of `debug` that are no commands.
 
 use crate::origin::Origin;
-use zy_advice::BadCommand;
-use zy_advice::line::is_line_feed;
-use zy_advice::text::Position;
 use zy_console::command::command_of;
+use zy_diagnostics::BadCommand;
+use zy_diagnostics::line::is_line_feed;
+use zy_diagnostics::text::Position;
 use zy_text::Words;
 use zy_text::cut::cut_len;
 use zy_text::line::take_line;

@@ -2,7 +2,7 @@
 
 use clap::error::ErrorKind;
 use std::fmt;
-use zy_advice::Bytes;
+use zy_diagnostics::Bytes;
 use zy_engine::debugging::{MAX_EVERY, MAX_RING};
 use zy_isa::MAX_CHOICES;
 use zy_search::MOST_THREADS;

@@ -2,8 +2,8 @@
 
 use crate::command_line::Quest;
 use std::fmt;
-use zy_advice::line::Word;
-use zy_advice::place::Place;
+use zy_diagnostics::line::Word;
+use zy_diagnostics::place::Place;
 use zy_goals::Refusal;
 
 /// A goal that is refused, and the word that does not fit.

@@ -1,7 +1,7 @@
 //! The names that a scenario text gives its transactions.
 
 use std::alloc::{AllocError, Global};
-use zy_advice::line::{Statement, is_line_feed};
+use zy_diagnostics::line::{Statement, is_line_feed};
 use zy_text::names::{is, is_name};
 
 /// The name of each transaction of a text, at its number; empty where it has its number alone.

@@ -2,8 +2,8 @@
 
 use crate::origin::Origin;
 use std::fmt;
-use zy_advice::line::{Line, Statement, Word};
-use zy_advice::place::Place;
+use zy_diagnostics::line::{Line, Statement, Word};
+use zy_diagnostics::place::Place;
 use zy_logs::Refusal;
 
 /// A line of a log that is refused, and the word that does not fit.

@@ -9,8 +9,8 @@ use Rattle.zy_text.specs.Canon.{canon}
 use Rattle.zy_text.specs.Text.{Means}
 use Rattle.zy_asm.specs.Input.{utf8_fault}
 use Rattle.zy_asm.proofs.CanonLemmas.{Means-canon}
-use Rattle.zy_audit.specs.Listing.{listing}
-use Rattle.zy_audit.specs.Run.{listing_run}
+use Rattle.zy_listing.specs.Listing.{listing}
+use Rattle.zy_listing.specs.Run.{listing_run}
 use Rattle.zy_check.specs.declared.verdict.Verdict.TheVariants.{Table, NotTable}
 use Rattle.zy_text.specs.Cut.{cut}
 use Rattle.zy_check.specs.Verdicts.{IsListing, IsVerdict}

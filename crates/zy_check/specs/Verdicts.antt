@@ -2,7 +2,7 @@
 use Rattle.std.specs.Prelude.{◌≡◌, ℕ, List, Result, Ok, Err}
 use Rattle.zy_isa.specs.Scenario.{Scenario}
 use Rattle.zy_text.specs.Text.{Means}
-use Rattle.zy_audit.specs.Run.{listing_run}
+use Rattle.zy_listing.specs.Run.{listing_run}
 use Rattle.zy_check.specs.declared.faults.CheckFault.{CheckFault}
 use Rattle.zy_check.specs.declared.faults.CheckFault.TheVariants.{Scenario as InScenario, Read, Memory, TooLong}
 use Rattle.zy_check.specs.declared.verdict.Verdict.{Verdict}

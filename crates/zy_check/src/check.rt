@@ -4,7 +4,7 @@ ghost use Rattle.zy_isa.specs.Scenario.{Scenario as AScenario};
 ghost use Rattle.zy_text.specs.Text.{Means};
 ghost use Rattle.zy_asm.specs.Input.{utf8_fault, input_fault};
 ghost use Rattle.zy_asm.specs.Reasons.{fault_of};
-ghost use Rattle.zy_audit.specs.Run.{listing_run};
+ghost use Rattle.zy_listing.specs.Run.{listing_run};
 ghost use Rattle.zy_check.specs.declared.verdict.Verdict.{Verdict as AVerdict};
 ghost use Rattle.zy_text.specs.Cut as text;
 ghost use Rattle.zy_check.specs.Differs as spec;
@@ -18,10 +18,10 @@ use crate::faults::CheckFault;
 use crate::verdict::Verdict;
 use std::alloc::{AllocError, Global};
 use zy_asm::assembling::assemble_bytes;
-use zy_audit::run::write_run;
 use zy_io::reading::read_all;
 use zy_io::{Sink, Source, TextFault};
 use zy_isa::Scenario;
+use zy_listing::run::write_run;
 use zy_text::cut::cut_len;
 
 /// Makes the choices of a scenario, and writes its listing.

@@ -3,7 +3,7 @@ ghost use Rattle.std.specs.Prelude.{◌≡◌, ◌↔◌, ◌≢◌, ◌+◌, No
 ghost use Rattle.zy_isa.specs.Scenario.{Scenario, IsScenario};
 ghost use Rattle.zy_text.specs.Canon.{canon};
 ghost use Rattle.zy_asm.specs.Input.{utf8_fault};
-ghost use Rattle.zy_audit.specs.Run.{listing_run};
+ghost use Rattle.zy_listing.specs.Run.{listing_run};
 ghost use Rattle.zy_text.specs.Cut.{cut};
 ghost use Rattle.zy_check.specs.Verdicts.{IsListing, IsVerdict};
 ghost use Rattle.zy_check.specs.declared.verdict.Verdict.TheVariants.{Table, NotTable};

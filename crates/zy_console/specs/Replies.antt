@@ -5,9 +5,9 @@ use Rattle.zy_isa.specs.declared.node.Node.TheVariants.{A, B}
 use Rattle.zy_io.specs.Writing.{line_of}
 use Rattle.zy_table.specs.State.{State, facing}
 use Rattle.zy_isa.specs.Scenario.{Scenario}
-use Rattle.zy_audit.specs.Locked.{page_reply}
-use Rattle.zy_audit.specs.Nodes.{node_reply}
-use Rattle.zy_audit.specs.Texts.{txn_text, link_text, mode_word}
+use Rattle.zy_listing.specs.Locked.{page_reply}
+use Rattle.zy_listing.specs.Nodes.{node_reply}
+use Rattle.zy_listing.specs.Texts.{txn_text, link_text, mode_word}
 use Rattle.zy_stops.specs.Stops.{state_at}
 use Rattle.zy_debug.specs.Sessions.{Session}
 use Rattle.zy_debug.specs.declared.command.Reply.{Reply}

@@ -2,22 +2,22 @@
 ghost use Rattle.std.specs.Prelude.{◌≡◌, ◌<◌, ◌++◌, OnOk, length};
 ghost use Rattle.zy_io.specs.Writing.{line_of};
 ghost use Rattle.zy_isa.specs.declared.node.Node.TheVariants.{A, B};
-ghost use Rattle.zy_audit.specs.Locked as audit;
-ghost use Rattle.zy_audit.specs.Nodes as spec;
+ghost use Rattle.zy_listing.specs.Locked as audit;
+ghost use Rattle.zy_listing.specs.Nodes as spec;
 ghost use Rattle.zy_table.specs.State.{facing};
-ghost use Rattle.zy_audit.specs.Texts.{link_text, txn_text};
+ghost use Rattle.zy_listing.specs.Texts.{link_text, txn_text};
 ghost use Rattle.zy_console.specs.Replies.{IsThere, shown_text, where_text};
 
 use std::alloc::AllocError;
-use zy_audit::ModeText;
-use zy_audit::lines::link::link_line;
-use zy_audit::lines::locked::page_reply;
-use zy_audit::lines::node::node_reply;
-use zy_audit::lines::txn::txn_line;
 use zy_debug::Shown;
 use zy_io::{Decimal, Line, LineBuffer, joined};
 use zy_isa::Node;
 use zy_laws::laws::safe_counts;
+use zy_listing::ModeText;
+use zy_listing::lines::link::link_line;
+use zy_listing::lines::locked::page_reply;
+use zy_listing::lines::node::node_reply;
+use zy_listing::lines::txn::txn_line;
 use zy_machine::Machine;
 
 /// Appends where a machine is in its choices, and the modes there, with their end.

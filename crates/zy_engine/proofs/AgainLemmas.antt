@@ -7,7 +7,7 @@ use Rattle.zy_isa.specs.Scenario.{Scenario, IsScenario}
 use Rattle.zy_text.specs.Text.{Means}
 use Rattle.zy_asm.proofs.CanonLemmas.{Means-canon}
 use Rattle.zy_asm.proofs.OnlyLemmas.{only, only_of}
-use Rattle.zy_audit.specs.Run.{listing_run}
+use Rattle.zy_listing.specs.Run.{listing_run}
 use Rattle.zy_check.proofs.LawLemmas.{cut-run}
 use Rattle.zy_threads.specs.Orders.{reordered}
 use Rattle.zy_threads.specs.Turns.{IsMerge}

@@ -4,7 +4,7 @@ use Rattle.std.specs.Io.KnownBytes.{Appends}
 use Rattle.zy_text.specs.Canon.{canon}
 use Rattle.zy_isa.specs.Scenario.{Scenario}
 use Rattle.zy_text.specs.Text.{Means}
-use Rattle.zy_audit.specs.Run.{listing_run}
+use Rattle.zy_listing.specs.Run.{listing_run}
 use Rattle.zy_text.specs.Cut.{cut}
 use Rattle.zy_engine.specs.declared.format.Format.TheVariants.{Text}
 use Rattle.zy_engine.specs.Engines.{Streams, Converts}

@@ -3,7 +3,7 @@ use Rattle.std.specs.Prelude.{ℕ, List}
 use Rattle.zy_isa.specs.Scenario.{Scenario}
 use Rattle.zy_text.specs.Canon.{canon}
 use Rattle.zy_image.specs.Image.{image_of}
-use Rattle.zy_audit.specs.Run.{listing_run}
+use Rattle.zy_listing.specs.Run.{listing_run}
 use Rattle.zy_trace.specs.Trace.{trace}
 use Rattle.zy_engine.specs.declared.output.Output.{Output}
 use Rattle.zy_engine.specs.declared.output.Output.TheVariants.{Image, Text}

@@ -4,7 +4,7 @@ use Rattle.zy_io.specs.Writing.{Wrote}
 use Rattle.zy_io.specs.declared.writing.TextFault.{TextFault}
 use Rattle.zy_isa.specs.declared.choice.Choice.{Choice}
 use Rattle.zy_isa.specs.Scenario.{Scenario}
-use Rattle.zy_audit.specs.Run.{listing_run}
+use Rattle.zy_listing.specs.Run.{listing_run}
 use Rattle.zy_threads.specs.Orders.{reordered}
 use Rattle.zy_threads.specs.Turns.{IsMerge}
 use Rattle.zy_engine.specs.declared.faults.BenchFault.{BenchFault}

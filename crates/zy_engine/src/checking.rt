@@ -5,7 +5,7 @@ ghost use Rattle.zy_io.specs.Streams.{WrotePrefix, max_input, most_read};
 ghost use Rattle.zy_isa.specs.Scenario.{Scenario as AScenario};
 ghost use Rattle.zy_text.specs.Text.{Means};
 ghost use Rattle.zy_asm.specs.Input.{input_fault, utf8_fault};
-ghost use Rattle.zy_audit.specs.Run.{listing_run};
+ghost use Rattle.zy_listing.specs.Run.{listing_run};
 ghost use Rattle.zy_check.specs.declared.verdict.Verdict.{Verdict as AVerdict};
 ghost use Rattle.zy_text.specs.Cut.{cut};
 ghost use Rattle.zy_check.specs.Differs as differs;

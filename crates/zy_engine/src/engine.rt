@@ -6,7 +6,7 @@ ghost use Rattle.zy_image.specs.Image.{image_of};
 ghost use Rattle.zy_engine.specs.declared.format.Format.TheVariants.{Text, Image};
 ghost use Rattle.zy_engine.specs.Engines.{Converts, streams};
 ghost use Rattle.zy_engine.specs.Outputs.{output_of, shown_of};
-ghost use Rattle.zy_audit.specs.Run.{listing_run};
+ghost use Rattle.zy_listing.specs.Run.{listing_run};
 ghost use Rattle.zy_trace.specs.Trace.{trace};
 
 use crate::faults::BenchFault;

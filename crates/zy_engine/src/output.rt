@@ -6,12 +6,12 @@ ghost use Rattle.zy_engine.specs.Outputs.{output_of, shown_of};
 ghost use Rattle.zy_engine.specs.declared.output.Output.TheVariants.{Image};
 
 use std::alloc::Global;
-use zy_audit::run::write_run;
 use zy_disasm::text::write_text;
 use zy_image::save::save;
 use zy_io::writing::write_all;
 use zy_io::{Sink, TextFault};
 use zy_isa::Scenario;
+use zy_listing::run::write_run;
 use zy_machine::Machine;
 use zy_trace::trace::write_trace;
 

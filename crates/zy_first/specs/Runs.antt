@@ -3,8 +3,8 @@ use Rattle.std.specs.Prelude.{ℕ, List, Option, IfSome}
 use Rattle.std.specs.Io.KnownBytes.{Appends}
 use Rattle.zy_isa.specs.Scenario.{Scenario}
 use Rattle.zy_text.specs.Text.{Means}
-use Rattle.zy_audit.specs.Run.{listing_run}
+use Rattle.zy_listing.specs.Run.{listing_run}
 
 -- the bytes that the reader reports mean a scenario, and exactly its listing went out
-abbrev pub Listed : Option (List ℕ) → Option (List ℕ) → Option (List ℕ) → Type 0
-Listed left old new = IfSome left (λ bytes. (sc : Scenario) × Means bytes sc × Appends old new (listing_run sc))
+abbrev pub WritesListing : Option (List ℕ) → Option (List ℕ) → Option (List ℕ) → Type 0
+WritesListing left old new = IfSome left (λ bytes. (sc : Scenario) × Means bytes sc × Appends old new (listing_run sc))

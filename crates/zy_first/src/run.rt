@@ -1,15 +1,15 @@
 //! From the bytes of a scenario text to those of its listing.
 ghost use Rattle.std.specs.Prelude.{◌≡◌, ◌<◌, IfOk, IfSome, OnOk};
 ghost use Rattle.zy_text.specs.Text.{Means};
-ghost use Rattle.zy_first.specs.Runs.{Listed};
+ghost use Rattle.zy_first.specs.Runs.{WritesListing};
 
 use crate::faults::Fault;
 use std::alloc::Global;
 use zy_asm::assembling::assemble_bytes;
-use zy_audit::run::write_run;
 use zy_io::reading::read_all;
 use zy_io::{Sink, Source};
 use zy_isa::Scenario;
+use zy_listing::run::write_run;
 
 /// Reads a scenario text whole, and returns its scenario.
 fn read_scenario<S: Source>(alloc: Global, source: &mut S) -> Result<Scenario, Fault>
@@ -25,7 +25,7 @@ fn read_scenario<S: Source>(alloc: Global, source: &mut S) -> Result<Scenario, F
 pub fn run<S: Source, K: Sink>(alloc: Global, source: &mut S, sink: &mut K) -> Result<(), Fault>
     requires { (S.failures source.old < u64.MAX) × (K.failures sink.old < u64.MAX) }
     // At Ok the text means a scenario, and exactly its listing went out.
-    ensures written { OnOk result (Listed (S.left source.old) (K.written sink.old) (K.written sink.new)) }
+    ensures written { OnOk result (WritesListing (S.left source.old) (K.written sink.old) (K.written sink.new)) }
     // At Ok no call of the writer failed.
     ensures writes { OnOk result (K.failures sink.new ≡ K.failures sink.old) }
 {

@@ -10,10 +10,8 @@ use crate::terms::{compares, value};
 use crate::txns::{committed_before, same_node, selected_have};
 use zy_isa::Node;
 use zy_links::{Link, Message};
-use zy_model::Kind;
-use zy_model::Lock;
 use zy_machine::Machine;
-use zy_model::NodeMode;
+use zy_model::{Kind, Lock, NodeMode};
 use zy_table::Place;
 
 /// Whether two modes are one.

@@ -1,8 +1,7 @@
 //! Goals: what a search may ask of a state.
 
 use zy_isa::Node;
-use zy_model::Kind;
-use zy_model::NodeMode;
+use zy_model::{Kind, NodeMode};
 
 /// Why a transaction is aborted, on whichever page.
 #[derive(Clone, Copy)]

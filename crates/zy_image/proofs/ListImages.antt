@@ -10,7 +10,7 @@ use Rattle.zy_isa.specs.declared.program.ProgramFault.{ProgramFault}
 use Rattle.zy_isa.specs.declared.program.ProgramFault.TheVariants as prog
 use Rattle.zy_isa.specs.declared.choice.Choice.{Choice}
 use Rattle.zy_isa.specs.InstrWords.{word_of}
-use Rattle.zy_isa.specs.Programs.{program_fault, IsKnown, IsProgram}
+use Rattle.zy_isa.specs.Programs.{program_fault, HasEach, IsProgram}
 use Rattle.zy_isa.specs.Rows.{Rising, RowsFit}
 use Rattle.zy_isa.specs.Scenario.{ArePrograms, AreKnown, AreNamed, opening_pages_for}
 use Rattle.zy_isa.proofs.ProgramLemmas.{is_some, no_program_fault}
@@ -96,7 +96,7 @@ program_found version size ps bytes is left known fit h =
     let g = bind_ok (byte size bytes) _ f.0 f.1 in
     let m : g.0 ≡ f.0 = count_ok t g.0 f.0 g.2 in
     let n = byte_found size bytes f.0.0 f.0.1 fit (g.1 ∙ ap Ok m) in
-    let i = list_found word_of (next_instr version t size) (IsKnown version) (instr_found version t size) f.0.0 f.0.1 is left tt n.back f.2 in
+    let i = list_found word_of (next_instr version t size) (HasEach version) (instr_found version t size) f.0.0 f.0.1 is left tt n.back f.2 in
     record {
       same = n.same ∙ ap (λ x. f.0.0 ∷ x) i.same ∙ ap (λ x. x ∷ (flat_map word_of is ++ left)) i.count;
       back = i.back;
@@ -104,7 +104,7 @@ program_found version size ps bytes is left known fit h =
     }
 
 -- the image of a program of the version is read as it
-program_gives : (version : Version) (size : ℕ) (before : List (List Instr)) (is : List Instr) (left : List ℕ) → IsProgram is → IsKnown version is
+program_gives : (version : Version) (size : ℕ) (before : List (List Instr)) (is : List Instr) (left : List ℕ) → IsProgram is → HasEach version is
     → next_program version size before (program_image is ++ left) ≡ Ok (is, left)
 program_gives version size before is left p known =
     let t = length before in

@@ -18,7 +18,7 @@ use Rattle.zy_isa.specs.declared.operation.Parts.TheVariants.{Number, Pair, Jump
 use Rattle.zy_isa.specs.InstrWords.{word_with, word_of, IsWordOf}
 use Rattle.zy_isa.specs.Operations.{has, parts_of}
 use Rattle.zy_isa.specs.WordFields.{decoded}
-use Rattle.zy_isa.specs.Programs.{HasValue, IsKnown, Values}
+use Rattle.zy_isa.specs.Programs.{HasValue, HasEach, Values}
 use Rattle.zy_isa.specs.Rows.{Rising, RowsFit, misplaced_row, last_row, is_low}
 use Rattle.zy_isa.specs.Choices.{names_below}
 use Rattle.zy_isa.specs.Scenario.{AreNamed}
@@ -98,9 +98,9 @@ known_found version (Some x) i h = by (has version x) refl h
     by false e g = cc
 
 -- an instruction that was read has its word before what is left, and it is of the version
-pub instr_found : (version : Version) (t size : ℕ) (is : List Instr) (bytes : List ℕ) (i : Instr) (left : List ℕ) → IsKnown version is → AreBytes bytes
+pub instr_found : (version : Version) (t size : ℕ) (is : List Instr) (bytes : List ℕ) (i : Instr) (left : List ℕ) → HasEach version is → AreBytes bytes
     → next_instr version t size is bytes ≡ Ok (i, left)
-    → TookItem word_of (IsKnown version) is bytes i left
+    → TookItem word_of (HasEach version) is bytes i left
 instr_found version t size is bytes i left known fit h =
     let f = bind_ok (field 8 size bytes) _ (i, left) h in
     let w = f.0.0 in
@@ -112,7 +112,7 @@ instr_found version t size is bytes i left known fit h =
     record {
       same = d.same ∙ ap (λ x. x ++ f.0.1) is_word.1 ∙ ap (λ x. word_of x ++ f.0.1) s.0 ∙ ap (λ x. word_of i ++ x) s.1;
       back = subst AreBytes s.1 d.back;
-      kept = subst (λ z. IsKnown version (is ++ z ∷ [])) s.0 (known_more version is g.0 known x.1);
+      kept = subst (λ z. HasEach version (is ++ z ∷ [])) s.0 (known_more version is g.0 known x.1);
     }
 
 -- the word of an instruction has eight bytes
@@ -131,7 +131,7 @@ instr_gives version t size before i left v known =
     rw e (rw (decoded_only i v) (rw known refl))
 
 -- the words of instructions of the version are read as them, one by one
-pub instrs_read : (version : Version) (t size : ℕ) (is before : List Instr) → Values is → IsKnown version is
+pub instrs_read : (version : Version) (t size : ℕ) (is before : List Instr) → Values is → HasEach version is
     → AreRead word_of (next_instr version t size) before is
 instrs_read version t size [] before values known = tt
 instrs_read version t size (i ∷ is) before values known =

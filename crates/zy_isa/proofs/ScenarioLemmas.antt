@@ -14,7 +14,7 @@ use Rattle.zy_isa.specs.Limits.{min_cap, max_cap, max_pages, max_rows, max_txns,
 use Rattle.zy_isa.specs.Rows.{Rising, RowsFit, misplaced_row, misplaced_after}
 use Rattle.zy_isa.specs.Choices.{names_below}
 use Rattle.zy_isa.specs.Operations.{has}
-use Rattle.zy_isa.specs.Programs.{IsKnown, unknown, unknown_from}
+use Rattle.zy_isa.specs.Programs.{HasEach, unknown, unknown_from}
 use Rattle.zy_isa.specs.Scenario.{Scenario, misnamed_choice, choices_fault, instrs_fault, AreKnown, is_outside, has_many_rows, AreNamed, ArePrograms}
 use Rattle.zy_isa.specs.Scenario.{IsScenario, opening_pages_for, scenario_fault}
 use Rattle.zy_isa.proofs.ResultLemmas.{in_range, neither, not_over, out_of_neither, over_not}
@@ -102,18 +102,18 @@ past_first (Some f) rest h = cc
 
 -- one step of the next: a version has the first instruction, and those behind it
 known_first : (version : Version) (n : ℕ) (i : Instr) (is : List Instr) (b : Bool) → has version i ≡ b
-    → ((m : ℕ) → unknown_from version m is ≡ None → IsKnown version is)
-    → (if b then unknown_from version (n + 1) is else Some n) ≡ None → IsKnown version (i ∷ is)
+    → ((m : ℕ) → unknown_from version m is ≡ None → HasEach version is)
+    → (if b then unknown_from version (n + 1) is else Some n) ≡ None → HasEach version (i ∷ is)
 known_first version n i is true e rest h = (e, rest (n + 1) h)
 known_first version n i is false e rest h = cc
 
 -- a version has each instruction of a list in which none is unknown to it
-is_known : (version : Version) (is : List Instr) (n : ℕ) → unknown_from version n is ≡ None → IsKnown version is
+is_known : (version : Version) (is : List Instr) (n : ℕ) → unknown_from version n is ≡ None → HasEach version is
 is_known version [] n h = tt
 is_known version (i ∷ is) n h = known_first version n i is (has version i) refl (is_known version is) h
 
 -- if a version has each instruction of a list, none is unknown to it
-none_unknown : (version : Version) (n : ℕ) (is : List Instr) → IsKnown version is → unknown_from version n is ≡ None
+none_unknown : (version : Version) (n : ℕ) (is : List Instr) → HasEach version is → unknown_from version n is ≡ None
 none_unknown version n [] h = refl
 none_unknown version n (i ∷ is) h = rw h.0 (none_unknown version (n + 1) is h.1)
 
@@ -130,12 +130,12 @@ no_instrs_fault version t [] h = refl
 no_instrs_fault version t (p ∷ ps) h = rw (none_unknown version 0 p h.0) (no_instrs_fault version (t + 1) ps h.1)
 
 -- an instruction more, and a program more
-pub known_more : (version : Version) (is : List Instr) (i : Instr) → IsKnown version is → has version i ≡ true → IsKnown version (is ++ i ∷ [])
+pub known_more : (version : Version) (is : List Instr) (i : Instr) → HasEach version is → has version i ≡ true → HasEach version (is ++ i ∷ [])
 known_more version [] i h e = (e, tt)
 known_more version (x ∷ is) i h e = (h.0, known_more version is i h.1 e)
 
 -- a version has each instruction of each program when one more, whose instructions it has, is put at the end
-pub program_more : (version : Version) (ps : List (List Instr)) (p : List Instr) → AreKnown version ps → IsKnown version p → AreKnown version (ps ++ p ∷ [])
+pub program_more : (version : Version) (ps : List (List Instr)) (p : List Instr) → AreKnown version ps → HasEach version p → AreKnown version (ps ++ p ∷ [])
 program_more version [] p h e = (e, tt)
 program_more version (x ∷ ps) p h e = (h.0, program_more version ps p h.1 e)
 

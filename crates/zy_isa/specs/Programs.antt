@@ -83,9 +83,9 @@ abbrev pub unknown : Version → List Instr → Option ℕ
 unknown version is = unknown_from version 0 is
 
 -- a version has each instruction
-abbrev pub IsKnown : Version → List Instr → Type 0
-IsKnown version [] = Unit {0}
-IsKnown version (i ∷ is) = (has version i ≡ true) × IsKnown version is
+abbrev pub HasEach : Version → List Instr → Type 0
+HasEach version [] = Unit {0}
+HasEach version (i ∷ is) = (has version i ≡ true) × HasEach version is
 
 -- the answer is the program, or the first fault, or out of memory where there is none
 abbrev pub IsVerified : Result (List Instr) ProgramFault → List Instr → Type 0

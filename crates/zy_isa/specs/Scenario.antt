@@ -11,7 +11,7 @@ use Rattle.zy_isa.specs.declared.choice.Choice.{Choice}
 use Rattle.zy_isa.specs.declared.scenario.ScenarioFault.{ScenarioFault}
 use Rattle.zy_isa.specs.declared.scenario.ScenarioFault.TheVariants as fault
 use Rattle.zy_isa.specs.Rows.{Rising, RowsFit, misplaced_row}
-use Rattle.zy_isa.specs.Programs.{IsProgram, IsKnown, unknown}
+use Rattle.zy_isa.specs.Programs.{IsProgram, HasEach, unknown}
 use Rattle.zy_isa.specs.Choices.{names_below}
 
 pub record Scenario : Type 0 where
@@ -73,7 +73,7 @@ ArePrograms (p ∷ ps) = IsProgram p × ArePrograms ps
 -- a version has each instruction of each program
 abbrev pub AreKnown : Version → List (List Instr) → Type 0
 AreKnown version [] = Unit {0}
-AreKnown version (p ∷ ps) = IsKnown version p × AreKnown version ps
+AreKnown version (p ∷ ps) = HasEach version p × AreKnown version ps
 
 -- each choice that names a transaction names one that exists
 abbrev pub AreNamed : ℕ → List Choice → Type 0

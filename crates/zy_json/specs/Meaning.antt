@@ -50,6 +50,6 @@ step_found (Ok s) = Ok (step_of s)
 step_found (Err f) = Err f
 
 -- the first value of this name, and the members behind it
-abbrev pub Finds : List ℕ → Members → Option (Bor (Value Global) × Bor (List (Bor (List ℕ) × Value Global))) → Type 0
-Finds key ms None = values_of key ms ≡ []
-Finds key ms (Some p) = values_of key ms ≡ value_view p.0.now ∷ values_of key (members_view p.1.now)
+abbrev pub FindsMember : List ℕ → Members → Option (Bor (Value Global) × Bor (List (Bor (List ℕ) × Value Global))) → Type 0
+FindsMember key ms None = values_of key ms ≡ []
+FindsMember key ms (Some p) = values_of key ms ≡ value_view p.0.now ∷ values_of key (members_view p.1.now)

@@ -4,7 +4,7 @@ ghost use Rattle.std.specs.List.{list_any};
 ghost use Rattle.json.specs.Value.{members_view, value_view};
 ghost use Rattle.zy_json.specs.Fields as fields;
 ghost use Rattle.zy_json.specs.Meaning as meaning;
-ghost use Rattle.zy_json.specs.Meaning.{Finds, Reads, step_found, text_found, texts_found};
+ghost use Rattle.zy_json.specs.Meaning.{FindsMember, Reads, step_found, text_found, texts_found};
 ghost use Rattle.zy_json.specs.Objects as spec;
 
 use crate::faults::JsonFault;
@@ -19,7 +19,7 @@ fn find<'v, 'a>(
     key: &str,
     members: &'v [(&'a str, Value<'a>)],
 ) -> Option<(&'v Value<'a>, &'v [(&'a str, Value<'a>)])>
-    ensures { Finds key.now (members_view members.entry.now) result }
+    ensures { FindsMember key.now (members_view members.entry.now) result }
 {
     let mut rest = members;
     while let [member, below @ ..] = rest {

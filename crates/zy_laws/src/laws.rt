@@ -18,8 +18,8 @@ ghost use Rattle.zy_table.specs.Holders.{ExclusiveAlone, HoldersActive};
 ghost use Rattle.zy_table.specs.Order.{InOrder};
 ghost use Rattle.zy_table.specs.Database.{ValuesAtPages, EachKeyHasPage, HasLows, RowsLie, database, newest};
 ghost use Rattle.zy_table.specs.Database.{all_leaves};
-ghost use Rattle.zy_laws.specs.Counts.{Safe, Fits};
-ghost use Rattle.zy_table.specs.Serial.{Listed, Serializable};
+ghost use Rattle.zy_laws.specs.Counts.{Safe, HasRoomAtCommit};
+ghost use Rattle.zy_table.specs.Serial.{CommitsListed, Serializable};
 ghost use Rattle.zy_laws.specs.RealTime.{KeepsRealTime};
 ghost use Rattle.zy_laws.specs.SourceFirst.{SerialIn, at_node, commits_at, migration_order};
 
@@ -33,7 +33,7 @@ pub fn safe_counts()
 /// A transaction that runs finds room for its rows at its commit.
 pub fn room_at_commit()
     ensures { (sc : Scenario) → IsScenario sc → (choices : List AChoice)
-        → Fits sc (play sc (opening sc) choices) }
+        → HasRoomAtCommit sc (play sc (opening sc) choices) }
 {}
 
 /// Pages rise by number, locks by page and then transaction, rows by key, and there are as many low keys as pages.
@@ -150,7 +150,7 @@ pub fn holders_active()
 
 /// A transaction is in the commit list once where it is committed, and else not at all.
 pub fn commits_listed()
-    ensures { (sc : Scenario) (choices : List AChoice) → Listed (play sc (opening sc) choices) }
+    ensures { (sc : Scenario) (choices : List AChoice) → CommitsListed (play sc (opening sc) choices) }
 {}
 
 /// Under the rule `held` the database is that of the programs in the commit list, run one by one in its order; a

@@ -3,8 +3,8 @@ ghost use Rattle.std.specs.Prelude.{◌≡◌, IfOk};
 ghost use Rattle.zy_model.specs.Messages.{kind_of};
 ghost use Rattle.zy_links.specs.Messages.{limit_of, message_of};
 
-use zy_model::Kind;
 use std::alloc::{AllocError, Global};
+use zy_model::Kind;
 use zy_page::Page;
 use zy_wire::Wire;
 

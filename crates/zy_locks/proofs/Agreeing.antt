@@ -12,7 +12,7 @@ use Rattle.zy_model.specs.declared.lock.Lock.{Lock}
 use Rattle.zy_model.specs.declared.lock.LockKind.{LockKind}
 use Rattle.zy_model.specs.declared.lock.LockKind.TheVariants.{Shared, Exclusive}
 use Rattle.zy_model.specs.Locks.{add_lock, clashes, conflict, drop_locks, is_shared, stronger, LocksAgree}
-use Rattle.zy_model.specs.Order.{comes_before, is_held_by, IsPlace, LocksRise}
+use Rattle.zy_model.specs.Order.{comes_before, is_held_by, IsLockPlace, LocksRise}
 use Rattle.zy_model.proofs.Rising.{lock, goes_before, behind_at, behind_rise}
 
 -- two locks are in each other's way or not
@@ -148,7 +148,7 @@ page_hit : (p t : ℕ) (kind : LockKind) (x : Lock) → clashes p t kind x ≡ t
 page_hit p t kind x hit = eqb-true _ _ (and_parts (x.page == p) (not (x.txn == t) && not (is_shared x.kind && is_shared kind)) hit).0
 
 -- where a lock before the place's neighbours is in the way, one beside the place is
-beside_low : (p t at j : ℕ) (kind : LockKind) (d : Lock) (xs : List Lock) → LocksRise xs → LocksAgree xs → IsPlace p t xs at → j + 1 < at
+beside_low : (p t at j : ℕ) (kind : LockKind) (d : Lock) (xs : List Lock) → LocksRise xs → LocksAgree xs → IsLockPlace p t xs at → j + 1 < at
     → clashes p t kind (get_or xs j d) ≡ true → Beside at (clashes p t kind) xs
 beside_low p t at j kind d xs rise agree placed low hit =
     let k = at - 1 in
@@ -168,7 +168,7 @@ beside_low p t at j kind d xs rise agree placed low hit =
     )
 
 -- the same for a lock behind the place's neighbours
-beside_high : (p t at j : ℕ) (kind : LockKind) (d : Lock) (xs : List Lock) → LocksRise xs → LocksAgree xs → IsPlace p t xs at → at + 1 < j → j < length xs
+beside_high : (p t at j : ℕ) (kind : LockKind) (d : Lock) (xs : List Lock) → LocksRise xs → LocksAgree xs → IsLockPlace p t xs at → at + 1 < j → j < length xs
     → clashes p t kind (get_or xs j d) ≡ true → Beside at (clashes p t kind) xs
 beside_high p t at j kind d xs rise agree placed high lt hit =
     let k = at + 1 in
@@ -188,7 +188,7 @@ beside_high p t at j kind d xs rise agree placed high lt hit =
     )
 
 -- where any lock is in the way of t's lock on p, one beside its place is
-beside : (p t at : ℕ) (kind : LockKind) (xs : List Lock) → LocksRise xs → LocksAgree xs → IsPlace p t xs at → conflict xs p t kind ≡ true
+beside : (p t at : ℕ) (kind : LockKind) (xs : List Lock) → LocksRise xs → LocksAgree xs → IsLockPlace p t xs at → conflict xs p t kind ≡ true
     → Beside at (clashes p t kind) xs
 beside p t at kind xs rise agree placed h =
     let any = Any-from_list_any (clashes p t kind) xs h in
@@ -220,7 +220,7 @@ any_near q i n k d xs low high lt hit =
     list_any_at q (take n (drop i xs)) j d (omega (arith, length-take n (drop i xs), length-drop i xs)) (rw same hit)
 
 -- so nothing is in the way where nothing beside the place is
-pub none_beside : (p t at i n : ℕ) (kind : LockKind) (xs : List Lock) → LocksRise xs → LocksAgree xs → IsPlace p t xs at → i ≤ at - 1 → (length xs ≤ i + n)
+pub none_beside : (p t at i n : ℕ) (kind : LockKind) (xs : List Lock) → LocksRise xs → LocksAgree xs → IsLockPlace p t xs at → i ≤ at - 1 → (length xs ≤ i + n)
     ⊎ (at + 2 ≤ i + n) → list_any (clashes p t kind) (take n (drop i xs)) ≡ false → conflict xs p t kind ≡ false
 none_beside p t at i n kind xs rise agree placed low high none = false_from_ne_true _ (λ h.
     let found = beside p t at kind xs rise agree placed h in

@@ -6,7 +6,7 @@ use Rattle.std.proofs.lemmas.List.{get_or-drop, length-drop}
 use Rattle.std.proofs.Math.Bool.{or-true}
 use Rattle.std.specs.List.{list_any}
 use Rattle.zy_model.specs.declared.lock.Lock.{Lock}
-use Rattle.zy_model.specs.Order.{comes_before, LocksBehind, LocksRise, IsPlace}
+use Rattle.zy_model.specs.Order.{comes_before, LocksBehind, LocksRise, IsLockPlace}
 use Rattle.zy_model.specs.Locks.{is_locked}
 use Rattle.zy_model.proofs.Rising.{behind_rise, place_rest, front_before}
 
@@ -33,7 +33,7 @@ page_behind : (x : Lock) (p t : ℕ) → comes_before x p t ≡ true → x.page 
 page_behind x p t h = grind (arith, nat_tests, h)
 
 -- nothing before the place passes
-none_in_front : (p i : ℕ) (q : Lock → Bool) (xs : List Lock) → OnlyOn p q → IsPlace p 0 xs i → list_any q xs ≡ list_any q (drop i xs)
+none_in_front : (p i : ℕ) (q : Lock → Bool) (xs : List Lock) → OnlyOn p q → IsLockPlace p 0 xs i → list_any q xs ≡ list_any q (drop i xs)
 none_in_front p zero q [] only at = refl
 none_in_front p zero q (x ∷ xs) only at = refl
 none_in_front p (suc i) q [] only at = refl
@@ -49,7 +49,7 @@ none_later p z q (x ∷ xs) only h lt =
     rw (only x (λ e. absurd (omega arith))) (none_later p x q xs only h.1 (omega arith))
 
 -- so nothing passes where nothing does up to the first lock of another page
-none_in_run : (p i j : ℕ) (q : Lock → Bool) (d : Lock) (xs : List Lock) → OnlyOn p q → LocksRise xs → IsPlace p 0 xs i
+none_in_run : (p i j : ℕ) (q : Lock → Bool) (d : Lock) (xs : List Lock) → OnlyOn p q → LocksRise xs → IsLockPlace p 0 xs i
     → ((k : ℕ) (e : Lock) → k < j → q (get_or (drop i xs) k e) ≡ false) → (j < length (drop i xs) → (get_or (drop i xs) j d).page ≡ p → ⊥)
     → list_any q (drop i xs) ≡ false
 none_in_run p zero j q d [] only h at none ne = refl
@@ -60,17 +60,17 @@ none_in_run p zero zero q d (x ∷ xs) only h at none ne =
     let low = page_from x p (at.2 0 x (omega arith) (omega arith)) in
     rw (only x other) (none_later p x q xs only h (omega (arith, other)))
 none_in_run p zero (suc j) q d (x ∷ xs) only h at none ne =
-    let rest : IsPlace p 0 xs 0 = (omega arith, (λ k e low high. absurd (omega arith)), (λ k e low high. at.2 (suc k) e (omega arith) (omega arith))) in
+    let rest : IsLockPlace p 0 xs 0 = (omega arith, (λ k e low high. absurd (omega arith)), (λ k e low high. at.2 (suc k) e (omega arith) (omega arith))) in
     rw (none 0 x (omega arith)) (none_in_run p 0 j q d xs only (behind_rise x xs h) rest (λ k e lt. none (suc k) e (omega arith)) (λ lt. ne (omega arith)))
 
 -- no lock at all passes a test for locks on p where none does from p's place up to the first lock of another page
-pub none_on_page : (p i j : ℕ) (q : Lock → Bool) (d : Lock) (xs ys : List Lock) → OnlyOn p q → LocksRise xs → IsPlace p 0 xs i → ys ≡ drop i xs
+pub none_on_page : (p i j : ℕ) (q : Lock → Bool) (d : Lock) (xs ys : List Lock) → OnlyOn p q → LocksRise xs → IsLockPlace p 0 xs i → ys ≡ drop i xs
     → ((k : ℕ) (e : Lock) → k < j → q (get_or ys k e) ≡ false) → (j < length ys → (get_or ys j d).page ≡ p → ⊥) → list_any q xs ≡ false
 none_on_page p i j q d xs ys only h at run none ne =
     none_in_front p i q xs only at ∙ none_in_run p i j q d xs only h at (rw run at none) (rw run at ne)
 
 -- a page is locked where the lock at that place is on it, and only there
-pub is_locked_at : (p i : ℕ) (x : Lock) (xs : List Lock) → LocksRise xs → IsPlace p 0 xs i → i < length xs → x ≡ get_or xs i x → eqb x.page p ≡ is_locked xs p
+pub is_locked_at : (p i : ℕ) (x : Lock) (xs : List Lock) → LocksRise xs → IsLockPlace p 0 xs i → i < length xs → x ≡ get_or xs i x → eqb x.page p ≡ is_locked xs p
 is_locked_at p i x xs h at lt e =
     let first : get_or (drop i xs) 0 x ≡ x = get_or-drop i xs 0 x ∙ (ap (λ n. get_or xs n x) (omega arith) ∙ sym e) in
     elim (cases_eq x.page p) [
@@ -81,6 +81,6 @@ is_locked_at p i x xs h at lt e =
     ]
 
 -- where the place of p's first lock is behind all locks, p is not locked
-pub is_locked_past : (p i : ℕ) (d : Lock) (xs : List Lock) → LocksRise xs → IsPlace p 0 xs i → length xs ≤ i → is_locked xs p ≡ false
+pub is_locked_past : (p i : ℕ) (d : Lock) (xs : List Lock) → LocksRise xs → IsLockPlace p 0 xs i → length xs ≤ i → is_locked xs p ≡ false
 is_locked_past p i d xs h at le = none_on_page p i 0 (λ (y : Lock). eqb y.page p) d xs (drop i xs) (λ y no. ne_eqb y.page p no) h at refl
     (λ k e lt. absurd (omega arith)) (λ lt f. absurd (omega (arith, length-drop i xs)))

@@ -5,13 +5,13 @@ ghost use Rattle.zy_model.specs.Locks.{add_lock, conflict, is_locked, holds_alon
 ghost use Rattle.zy_model.specs.Locks as locks_locks;
 ghost use Rattle.zy_locks.specs.LockTable.{Attempts, HasPlaces};
 ghost use Rattle.zy_locks.specs.declared.attempt.Attempt.TheVariants.{Granted};
-ghost use Rattle.zy_model.specs.Order.{LocksRise, IsPlace, IsFreePlace};
+ghost use Rattle.zy_model.specs.Order.{LocksRise, IsLockPlace, IsFreePlace};
 ghost use Rattle.zy_model.specs.Order as locks_order;
 
 use crate::attempt::Attempt;
-use zy_model::{Lock, LockKind};
 use std::alloc::{AllocError, Global};
 use std::marker::Model;
+use zy_model::{Lock, LockKind};
 
 /// The locks of one node, in order of page and then transaction, so that a page's locks are together.
 #[derive(Drop)]
@@ -117,7 +117,7 @@ impl Locks {
 
     /// The same, at the place of the lock.
     pub fn holds_at(&self, at: usize, page: u16, txn: u8) -> bool
-        requires { IsPlace page txn self.now.locks at }
+        requires { IsLockPlace page txn self.now.locks at }
         ensures { result ≡ locks_locks.holds self.now.locks page txn }
     {
         at < self.len() && is_held_by(&self.locks[at], page, txn)
@@ -125,7 +125,7 @@ impl Locks {
 
     /// Makes room for `txn`'s lock on the page, which is or would be at `at`. A lock that is there has its place.
     pub fn reserve_at(&mut self, at: usize, page: u16, txn: u8) -> Result<(), AllocError>
-        requires { IsPlace page txn self.old.locks at }
+        requires { IsLockPlace page txn self.old.locks at }
         ensures locks { self.new.locks ≡ self.old.locks }
         ensures room { OnOk result (HasPlaces (page ∷ []) txn self.new) }
         ensures grows { self.old.spare ≤ self.new.spare }
@@ -173,7 +173,7 @@ impl Locks {
 
     /// The same, at the place of the lock. Who has the page alone keeps it so, whatever is asked for.
     pub fn put_at(&mut self, at: usize, page: u16, txn: u8, kind: LockKind)
-        requires place { IsPlace page txn self.old.locks at }
+        requires place { IsLockPlace page txn self.old.locks at }
         requires free { conflict self.old.locks page txn kind ≡ false }
         requires room { HasPlaces (page ∷ []) txn self.old }
         ensures locks { self.new.locks ≡ add_lock page txn kind self.old.locks }
@@ -243,7 +243,7 @@ fn is_held_by(lock: &Lock, page: u16, txn: u8) -> bool
 /// How many locks come before `txn`'s lock on the page.
 fn place(locks: &[Lock], page: u16, txn: u8) -> usize
     requires { LocksRise locks.now }
-    ensures { IsPlace page txn locks.now result }
+    ensures { IsLockPlace page txn locks.now result }
 {
     locks.partition_point(|lock| comes_before(lock, page, txn))
 }

@@ -57,10 +57,10 @@ abbrev pub choices_of : List NumberedLine → List Choice
 choices_of lines = map (λ (l : NumberedLine). l.line.choice) lines
 
 -- one line more was taken, if it says one, unless there was no memory
-abbrev pub Takes : {X : Type 0} → Result X ReadFault → (old new : List NumberedLine) → Result (Option NumberedLine) Refusal → Type 0
-Takes (Ok x) old new line = (first : Option NumberedLine) × (line ≡ Ok first) × (new ≡ old ++ listed first)
-Takes (Err (Refused r)) old new line = line ≡ Err r
-Takes (Err Memory) old new line = Unit {0}
+abbrev pub TakesLine : {X : Type 0} → Result X ReadFault → (old new : List NumberedLine) → Result (Option NumberedLine) Refusal → Type 0
+TakesLine (Ok x) old new line = (first : Option NumberedLine) × (line ≡ Ok first) × (new ≡ old ++ listed first)
+TakesLine (Err (Refused r)) old new line = line ≡ Err r
+TakesLine (Err Memory) old new line = Unit {0}
 
 -- the answer is what the text says, unless there was no memory
 abbrev pub Reads : Result (Vec NumberedLine Global) ReadFault → Result (List NumberedLine) Refusal → Type 0

@@ -4,7 +4,7 @@ ghost use Rattle.zy_isa.specs.Limits.{max_txns};
 ghost use Rattle.zy_text.specs.Lines.{texts};
 ghost use Rattle.zy_text.specs.Words as text_words;
 ghost use Rattle.zy_logs.specs.Logs as spec;
-ghost use Rattle.zy_logs.specs.Logs.{Reads, Takes};
+ghost use Rattle.zy_logs.specs.Logs.{Reads, TakesLine};
 
 use crate::expected::Expected;
 use crate::faults::{ReadFault, Refusal};
@@ -66,7 +66,7 @@ fn take(
     line: &[u8],
 ) -> Result<(), ReadFault>
     requires { txns.count ≤ max_txns }
-    ensures { Takes result lines.old.items lines.new.items (spec.line_at txns.entry most (length lines.old.items) number
+    ensures { TakesLine result lines.old.items lines.new.items (spec.line_at txns.entry most (length lines.old.items) number
         (text_words.words_of line.now)) }
 {
     let words = words_of(alloc, line)?;

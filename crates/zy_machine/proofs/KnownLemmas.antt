@@ -7,7 +7,7 @@ use Rattle.zy_table.specs.declared.entry.Entry.{Entry}
 use Rattle.zy_table.specs.State.{State}
 use Rattle.zy_table.specs.Play.{step, play, entries, entry_of, opening}
 use Rattle.zy_machine.specs.Histories.{History, IsReplay, choices_of}
-use Rattle.zy_machine.specs.Trails.{IsKnown, IsNext}
+use Rattle.zy_machine.specs.Trails.{IsPlayed, IsNextChoice}
 use Rattle.zy_machine.specs.declared.entry_log.EntryLog.{EntryLog}
 use Rattle.zy_machine.specs.declared.entry_log.EntryLog.TheVariants.{Own, Shared}
 use Rattle.zy_machine.specs.EntryLogs.{ahead, IsReadyFor}
@@ -43,7 +43,7 @@ entries-append sc s [] ds = refl
 entries-append sc s (c ∷ cs) ds = ap (λ l. entry_of c (step sc c s) ∷ l) (entries-append sc (step sc c s).after cs ds)
 
 -- what was made and what is known from there on is known from the start
-pub known-whole : (h : History) (es : List Entry) → IsReplay h → IsKnown h.scenario h.state es → IsKnown h.scenario (opening h.scenario) (h.entries ++ es)
+pub known-whole : (h : History) (es : List Entry) → IsReplay h → IsPlayed h.scenario h.state es → IsPlayed h.scenario (opening h.scenario) (h.entries ++ es)
 known-whole h es r known =
     let sc = h.scenario in
     let cs = choices_of h.entries in
@@ -54,21 +54,21 @@ known-whole h es r known =
     ∙ ap (entries sc (opening sc)) (sym (choices_of-append h.entries es)))))
 
 -- what is known of no step, or what was known
-pub still-known : (sc : Scenario) (s : State) (es fs : List Entry) → (fs ≡ []) ⊎ (fs ≡ es) → IsKnown sc s es → IsKnown sc s fs
-still-known sc s es fs (inl e) known = subst (IsKnown sc s) (sym e) refl
-still-known sc s es fs (inr e) known = subst (IsKnown sc s) (sym e) known
+pub still-known : (sc : Scenario) (s : State) (es fs : List Entry) → (fs ≡ []) ⊎ (fs ≡ es) → IsPlayed sc s es → IsPlayed sc s fs
+still-known sc s es fs (inl e) known = subst (IsPlayed sc s) (sym e) refl
+still-known sc s es fs (inr e) known = subst (IsPlayed sc s) (sym e) known
 
 -- a scenario in its opening state, without an entry, is a replay
 pub opened : (sc : Scenario) → IsScenario sc → IsReplay (record { scenario = sc; state = opening sc; entries = [] })
 opened sc tested = record { tested = tested; few = omega arith; named = tt; state = refl; entries = refl }
 
 -- without their first, the entries that are known are known from the state after the next choice
-after-known : (sc : Scenario) (s : State) (c : Choice) (es : List Entry) → IsNext c es → IsKnown sc s es → IsKnown sc (step sc c s).after (drop 1 es)
+after-known : (sc : Scenario) (s : State) (c : Choice) (es : List Entry) → IsNextChoice c es → IsPlayed sc s es → IsPlayed sc (step sc c s).after (drop 1 es)
 after-known sc s c [] next known = absurd next
 after-known sc s c (x ∷ es) next known = ap (drop 1) known ∙ ap (λ (d : Choice). entries sc (step sc d s).after (choices_of es)) next
 
 -- what is known behind the next choice is known from the state after it
-pub known-after : (sc : Scenario) (s : State) (c : Choice) (log : EntryLog) → IsReadyFor c log → IsKnown sc s (ahead log)
-    → IsKnown sc (step sc c s).after (drop 1 (ahead log))
+pub known-after : (sc : Scenario) (s : State) (c : Choice) (log : EntryLog) → IsReadyFor c log → IsPlayed sc s (ahead log)
+    → IsPlayed sc (step sc c s).after (drop 1 (ahead log))
 known-after sc s c (Own v) ready known = refl
 known-after sc s c (Shared k) ready known = after-known sc s c k.ahead ready known

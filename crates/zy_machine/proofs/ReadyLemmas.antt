@@ -22,11 +22,11 @@ use Rattle.zy_table.specs.Pages.{owns, rows_of}
 use Rattle.zy_table.specs.Rows.{rows_on, rows_not_in}
 use Rattle.zy_table.specs.Run.{own_inserts}
 use Rattle.zy_table.specs.Play.{play, opening}
-use Rattle.zy_laws.specs.Counts.{Safe, Fits}
+use Rattle.zy_laws.specs.Counts.{Safe, HasRoomAtCommit}
 use Rattle.zy_table.specs.Order.{InOrder}
 use Rattle.zy_model.specs.Table.{may_split as splits_in, may_start as starts_in}
-use Rattle.zy_steps.specs.Arrivals.{MayTake}
-use Rattle.zy_steps.specs.Ready.{IsReady, MaySplit, Rooms}
+use Rattle.zy_rules.specs.Arrivals.{MayTake}
+use Rattle.zy_rules.specs.Ready.{IsReady, MaySplit, Rooms}
 use Rattle.zy_txns.specs.Books.{Countable, txn_in}
 use Rattle.zy_machine.specs.NodePairs.{state_of, limits_in, AreLimited, IsPossible, MayStart}
 use Rattle.zy_machine.proofs.ArrivalLemmas.{may_take}
@@ -89,7 +89,7 @@ pub record Known (sc : Scenario) (count : ℕ) (s : NodePair) : Type 0 where
   pub tested : IsScenario sc
   pub few : count < max_choices
   pub safe : Safe sc count (state_of s)
-  pub fits : Fits sc (state_of s)
+  pub fits : HasRoomAtCommit sc (state_of s)
   pub order : InOrder (state_of s)
   pub splits : (n : Node) (t : ℕ) → let v = facing n (state_of s) in IsAt v t n → MaySplit sc v.me (txn_at v t)
   pub takes : (n : Node) → let v = facing n (state_of s) in MayTake v.inbox v.me
@@ -104,7 +104,7 @@ known sc cs s tested few e limited =
       tested = tested;
       few = few;
       safe = subst (Safe sc (length cs)) (sym e) (safe sc tested cs);
-      fits = subst (Fits sc) (sym e) (fits sc tested cs);
+      fits = subst (HasRoomAtCommit sc) (sym e) (fits sc tested cs);
       order = subst InOrder (sym e) (in_order sc tested cs);
       splits = subst (λ (z : State). (n : Node) (t : ℕ) → let v = facing n z in IsAt v t n → MaySplit sc v.me (txn_at v t)) (sym e)
           (λ n t at. may_split sc tested cs n t at);

@@ -14,11 +14,11 @@ use Rattle.zy_table.specs.Push.{finish_step, push_step}
 use Rattle.zy_table.specs.Run.{run_step}
 use Rattle.zy_table.specs.Take.{take_step}
 use Rattle.zy_table.specs.Play.{side_of, step, move}
-use Rattle.zy_machine.specs.NodePairs.{state_of, IsMade, Makes, Steps}
+use Rattle.zy_machine.specs.NodePairs.{state_of, IsMade, MakesAt, Steps}
 
 -- a line of the start made at the node that starts is the step by `start`
 pub start-steps : {E : Type 0} (sc : Scenario) (old new : NodePair) (r : Result Answer E)
-    → (let n = side_of sc Start (state_of old) in Makes n old new r (start_step (facing n (state_of old)))) → Steps old new r (step sc Start (state_of old))
+    → (let n = side_of sc Start (state_of old) in MakesAt n old new r (start_step (facing n (state_of old)))) → Steps old new r (step sc Start (state_of old))
 unfolding step move
 start-steps sc old new (Ok x) h = h
 start-steps sc old new (Err e) h = h
@@ -38,13 +38,13 @@ kill-steps sc t old new x h = h
 
 -- a line of the run made at a node is the step by `run` there
 pub run-steps : {E : Type 0} (sc : Scenario) (n : Node) (t : ℕ) (old new : NodePair) (r : Result Answer E)
-    → Makes n old new r (run_step sc n t (facing n (state_of old))) → Steps old new r (step sc (Run n t) (state_of old))
+    → MakesAt n old new r (run_step sc n t (facing n (state_of old))) → Steps old new r (step sc (Run n t) (state_of old))
 unfolding step move
 run-steps sc n t old new (Ok x) h = h
 run-steps sc n t old new (Err e) h = h
 
 -- a line of the take made at a node is the step by `take` there
-pub take-steps : {E : Type 0} (sc : Scenario) (n : Node) (old new : NodePair) (r : Result Answer E) → Makes n old new r (take_step sc (facing n (state_of old)))
+pub take-steps : {E : Type 0} (sc : Scenario) (n : Node) (old new : NodePair) (r : Result Answer E) → MakesAt n old new r (take_step sc (facing n (state_of old)))
     → Steps old new r (step sc (Take n) (state_of old))
 unfolding step move
 take-steps sc n old new (Ok x) h = h
@@ -52,13 +52,13 @@ take-steps sc n old new (Err e) h = h
 
 -- a line of the finish made at a node is the step by `finish` there
 pub finish-steps : {E : Type 0} (sc : Scenario) (n : Node) (old new : NodePair) (r : Result Answer E)
-    → Makes n old new r (finish_step n (facing n (state_of old))) → Steps old new r (step sc (Finish n) (state_of old))
+    → MakesAt n old new r (finish_step n (facing n (state_of old))) → Steps old new r (step sc (Finish n) (state_of old))
 unfolding step move
 finish-steps sc n old new (Ok x) h = h
 finish-steps sc n old new (Err e) h = h
 
 -- a line of the push made at a node is the step by `push` there
-pub push-steps : {E : Type 0} (sc : Scenario) (n : Node) (old new : NodePair) (r : Result Answer E) → Makes n old new r (push_step (facing n (state_of old)))
+pub push-steps : {E : Type 0} (sc : Scenario) (n : Node) (old new : NodePair) (r : Result Answer E) → MakesAt n old new r (push_step (facing n (state_of old)))
     → Steps old new r (step sc (Push n) (state_of old))
 unfolding step move
 push-steps sc n old new (Ok x) h = h

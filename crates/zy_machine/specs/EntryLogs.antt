@@ -4,7 +4,7 @@ use Rattle.zy_isa.specs.declared.choice.Choice.{Choice}
 use Rattle.zy_table.specs.declared.entry.Entry.{Entry}
 use Rattle.zy_machine.specs.declared.entry_log.EntryLog.{EntryLog}
 use Rattle.zy_machine.specs.declared.entry_log.EntryLog.TheVariants.{Own, Shared}
-use Rattle.zy_machine.specs.Trails.{IsNext}
+use Rattle.zy_machine.specs.Trails.{IsNextChoice}
 
 -- the steps that were made
 abbrev pub entries_of : EntryLog → List Entry
@@ -19,12 +19,12 @@ ahead (Shared k) = k.ahead
 -- a step by this choice needs no memory
 abbrev pub IsReadyFor : Choice → EntryLog → Type 0
 IsReadyFor c (Own v) = length v.items < vec_capacity v
-IsReadyFor c (Shared k) = IsNext c k.ahead
+IsReadyFor c (Shared k) = IsNextChoice c k.ahead
 
 -- this entry can be the next one
-abbrev pub Fits : Entry → EntryLog → Type 0
-Fits e (Own v) = length v.items < vec_capacity v
-Fits e (Shared k) = slice_get k.ahead 0 ≡ Some e
+abbrev pub MayFollow : Entry → EntryLog → Type 0
+MayFollow e (Own v) = length v.items < vec_capacity v
+MayFollow e (Shared k) = slice_get k.ahead 0 ≡ Some e
 
 -- neither history is shared, and there is room in mine for the steps of the other: HasRoomFor other mine
 abbrev pub HasRoomFor : EntryLog → EntryLog → Type 0

@@ -10,6 +10,6 @@ use Rattle.zy_table.specs.declared.place.Place.{Place}
 use Rattle.zy_table.specs.declared.place.Place.TheVariants.{Nowhere}
 
 -- where page p is, and the page; or that there is none
-abbrev pub Finds : ℕ → State → Option (Place × Bor Leaf) → Type 0
-Finds p s (Some found) = (found.0 ≡ place_of p s) × (Some found.1.now ≡ page_in p (all_leaves s))
-Finds p s None = (Nowhere ≡ place_of p s) × (None ≡ page_in p (all_leaves s))
+abbrev pub FindsPage : ℕ → State → Option (Place × Bor Leaf) → Type 0
+FindsPage p s (Some found) = (found.0 ≡ place_of p s) × (Some found.1.now ≡ page_in p (all_leaves s))
+FindsPage p s None = (Nowhere ≡ place_of p s) × (None ≡ page_in p (all_leaves s))

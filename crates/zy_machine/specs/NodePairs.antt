@@ -7,11 +7,11 @@ use Rattle.zy_isa.specs.Scenario.{Scenario}
 use Rattle.zy_isa.specs.declared.choice.Choice.{Choice}
 use Rattle.zy_isa.specs.declared.choice.Choice.TheVariants.{Start, Begin, Kill, Run, Take, Finish, Push}
 use Rattle.zy_table.specs.State.{State, Move, Step, facing, seen_from}
-use Rattle.zy_steps.specs.Arrivals.{MayTake}
+use Rattle.zy_rules.specs.Arrivals.{MayTake}
 use Rattle.zy_node.specs.Nodes.{node_shown, Limits, limits_of, IsLimited}
 use Rattle.zy_model.specs.Table.{may_start}
 use Rattle.zy_table.specs.declared.answer.Answer.{Answer}
-use Rattle.zy_steps.specs.Ready.{IsReady as IsReadyHere}
+use Rattle.zy_rules.specs.Ready.{IsReady as IsReadyHere}
 use Rattle.zy_machine.specs.declared.node_pair.NodePair.{NodePair}
 
 abbrev pub state_of : NodePair → State
@@ -48,9 +48,9 @@ abbrev pub IsMade : Node → NodePair → Answer → Move → Type 0
 IsMade n new x m = (state_of new ≡ seen_from n m.after) × (x.outcome ≡ m.outcome) × (x.sent ≡ m.sent)
 
 -- the same, or memory was wanted and nothing changed
-abbrev pub Makes : {E : Type 0} → Node → NodePair → NodePair → Result Answer E → Move → Type 0
-Makes n old new (Ok x) m = IsMade n new x m
-Makes n old new (Err e) m = state_of new ≡ state_of old
+abbrev pub MakesAt : {E : Type 0} → Node → NodePair → NodePair → Result Answer E → Move → Type 0
+MakesAt n old new (Ok x) m = IsMade n new x m
+MakesAt n old new (Err e) m = state_of new ≡ state_of old
 
 -- a choice can be made: the transaction that it names is there, and its run is safe; the node that starts has a page
 abbrev pub IsPossible : Scenario → Choice → NodePair → Type 0

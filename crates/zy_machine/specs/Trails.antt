@@ -13,10 +13,10 @@ pub record Trail : Type 0 where
   pub ahead : List Entry
 
 -- from this state the choices of these entries lead to exactly these entries
-abbrev pub IsKnown : Scenario → State → List Entry → Type 0
-IsKnown sc s es = es ≡ entries sc s (choices_of es)
+abbrev pub IsPlayed : Scenario → State → List Entry → Type 0
+IsPlayed sc s es = es ≡ entries sc s (choices_of es)
 
 -- the first of these entries is that of this choice
-abbrev pub IsNext : Choice → List Entry → Type 0
-IsNext c [] = ⊥
-IsNext c (e ∷ es) = e.choice ≡ c
+abbrev pub IsNextChoice : Choice → List Entry → Type 0
+IsNextChoice c [] = ⊥
+IsNextChoice c (e ∷ es) = e.choice ≡ c

@@ -1,8 +1,8 @@
 //! What a machine keeps of the steps that were made.
 ghost use Rattle.std.specs.Prelude.{◌≡◌, ◌<◌, ◌⊎◌, ◌++◌, ◌∷◌, [], IfOk, IsOk, OnOk, true, length, take};
 ghost use Rattle.std.specs.Prelude.{drop, vec_capacity};
-ghost use Rattle.zy_machine.specs.EntryLogs.{entries_of, ahead, IsReadyFor, Fits, HasRoomFor, IsReadyToBe};
-ghost use Rattle.zy_machine.specs.Trails.{IsNext};
+ghost use Rattle.zy_machine.specs.EntryLogs.{entries_of, ahead, IsReadyFor, MayFollow, HasRoomFor, IsReadyToBe};
+ghost use Rattle.zy_machine.specs.Trails.{IsNextChoice};
 
 use std::alloc::{AllocError, Global};
 use std::marker::Model;
@@ -76,8 +76,8 @@ impl SharedLog {
 
     /// Whether the next step is known, and is one by this choice.
     fn goes_on_by(&self, choice: Choice) -> bool
-        ensures next { result ≡ true → IsNext choice self.now.ahead }
-        ensures only { IsNext choice self.now.ahead → result ≡ true }
+        ensures next { result ≡ true → IsNextChoice choice self.now.ahead }
+        ensures only { IsNextChoice choice self.now.ahead → result ≡ true }
     {
         match self.all.get(self.len) {
             Some(entry) => entry.choice == choice,
@@ -255,7 +255,7 @@ impl EntryLog {
     /// Notes a step.
     #[inline(always)]
     pub(crate) fn push(&mut self, entry: Entry)
-        requires { Fits entry self.old }
+        requires { MayFollow entry self.old }
         ensures made { entries_of self.new ≡ entries_of self.old ++ entry ∷ [] }
         ensures ahead { ahead self.new ≡ drop 1 (ahead self.old) }
     {

@@ -11,8 +11,8 @@ ghost use Rattle.zy_table.specs.Play as table_play;
 ghost use Rattle.zy_txns.specs.Books.{txn_in};
 ghost use Rattle.zy_table.specs.Run as table_run;
 ghost use Rattle.zy_table.specs.Take as table_take;
-ghost use Rattle.zy_steps.specs.Arrivals.{MayTake};
-ghost use Rattle.zy_machine.specs.NodePairs.{state_of, limits_in, AreLimited, IsMade, IsPossible, IsReady, Makes};
+ghost use Rattle.zy_rules.specs.Arrivals.{MayTake};
+ghost use Rattle.zy_machine.specs.NodePairs.{state_of, limits_in, AreLimited, IsMade, IsPossible, IsReady, MakesAt};
 ghost use Rattle.zy_machine.specs.NodePairs.{MayStart, Steps};
 
 use crate::node_copy::{become_copy, changed_parts};
@@ -20,10 +20,10 @@ use std::alloc::{AllocError, Global};
 use zy_isa::{Choice, Node, Scenario};
 use zy_model::table::on_start;
 use zy_node::NodeStore;
-use zy_steps::client::{begin_step, kill_step, start_step};
-use zy_steps::push::{finish_step, push_step};
-use zy_steps::run::run_step;
-use zy_steps::take::take_step;
+use zy_rules::client::{begin_step, kill_step, start_step};
+use zy_rules::push::{finish_step, push_step};
+use zy_rules::run::run_step;
+use zy_rules::take::take_step;
 use zy_table::Answer;
 use zy_txns::Book;
 
@@ -68,7 +68,7 @@ impl NodePair {
     #[inline(always)]
     fn run_step(&mut self, scenario: &Scenario, n: Node, t: u8) -> Result<Answer, AllocError>
         requires { IsReady scenario.now n t self.old }
-        ensures line { Makes n self.old self.new result (table_run.run_step scenario.now n t
+        ensures line { MakesAt n self.old self.new result (table_run.run_step scenario.now n t
             (facing n (state_of self.old))) }
         ensures limits { limits_in self.new ≡ limits_in self.old }
     {
@@ -82,7 +82,7 @@ impl NodePair {
     fn take_step(&mut self, scenario: &Scenario, n: Node) -> Result<Answer, AllocError>
         requires may { let v = facing n (state_of self.old) in MayTake v.inbox v.me }
         requires limited { AreLimited scenario.now.pages self.old }
-        ensures line { Makes n self.old self.new result (table_take.take_step scenario.now
+        ensures line { MakesAt n self.old self.new result (table_take.take_step scenario.now
             (facing n (state_of self.old))) }
         ensures limits { limits_in self.new ≡ limits_in self.old }
     {
@@ -94,7 +94,7 @@ impl NodePair {
 
     /// `n push`.
     fn push_step(&mut self, n: Node) -> Result<Answer, AllocError>
-        ensures line { Makes n self.old self.new result (table_push.push_step (facing n (state_of self.old))) }
+        ensures line { MakesAt n self.old self.new result (table_push.push_step (facing n (state_of self.old))) }
         ensures limits { limits_in self.new ≡ limits_in self.old }
     {
         match n {
@@ -106,7 +106,7 @@ impl NodePair {
     /// `n finish`.
     fn finish_step(&mut self, n: Node) -> Result<Answer, AllocError>
         requires { length self.old.book.txns ≤ max_txns }
-        ensures line { Makes n self.old self.new result (table_push.finish_step n (facing n (state_of self.old))) }
+        ensures line { MakesAt n self.old self.new result (table_push.finish_step n (facing n (state_of self.old))) }
         ensures limits { limits_in self.new ≡ limits_in self.old }
     {
         match n {
@@ -120,7 +120,7 @@ impl NodePair {
         requires may { MayStart self.old }
         requires limited { AreLimited scenario.now.pages self.old }
         ensures line { let n = side_of scenario.now Start (state_of self.old) in
-            Makes n self.old self.new result (table_client.start_step (facing n (state_of self.old))) }
+            MakesAt n self.old self.new result (table_client.start_step (facing n (state_of self.old))) }
         ensures limits { limits_in self.new ≡ limits_in self.old }
     {
         let source = on_start(self.a.mode, self.b.mode, scenario.version());

@@ -19,4 +19,3 @@ exclusive_holds (x ∷ xs) p t h =
           or_left _ _ (and_from _ _ a.0 (and_parts (x.txn == t) (is_exclusive x.kind) a.1).0)
       | inr e ↦ or_right _ _ (exclusive_holds xs p t e)
     ]
-

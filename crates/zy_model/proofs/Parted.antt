@@ -46,4 +46,3 @@ get_row-rows_from b (r ∷ rows) k =
           (λ _. rw (get_row_past k r (rows_from b rows) other, get_row_past k r rows other) rest)
           (λ _. rw (get_row_past k r rows other) rest)
     ]
-

@@ -7,7 +7,7 @@ use Rattle.std.specs.List.Sorted.{IsPartitionedBy}
 use Rattle.zy_model.specs.declared.lock.Lock.{Lock}
 use Rattle.zy_model.specs.declared.lock.LockKind.{LockKind}
 use Rattle.zy_model.specs.Locks.{add_lock, drop_locks, stronger}
-use Rattle.zy_model.specs.Order.{comes_before, is_held_by, LocksBehind, LocksRise, IsPlace}
+use Rattle.zy_model.specs.Order.{comes_before, is_held_by, LocksBehind, LocksRise, IsLockPlace}
 
 -- a lock that comes before y, which comes before t's lock on p, comes before that lock
 before_trans : (x y : Lock) (p t : ℕ) → comes_before x y.page y.txn ≡ true → comes_before y p t ≡ true → comes_before x p t ≡ true
@@ -69,7 +69,7 @@ pub in_order : (p t : ℕ) (xs : List Lock) → LocksRise xs → IsPartitionedBy
 in_order p t xs h = λ i j d le lt e. none_after p t xs i j d h le lt e
 
 -- a place behind the first lock is a place among the others
-pub place_rest : (p t i : ℕ) (x : Lock) (xs : List Lock) → IsPlace p t (x ∷ xs) (suc i) → IsPlace p t xs i
+pub place_rest : (p t i : ℕ) (x : Lock) (xs : List Lock) → IsLockPlace p t (x ∷ xs) (suc i) → IsLockPlace p t xs i
 place_rest p t i x xs h = (
   omega (arith, h.0),
   (λ j d low high. h.1 (suc j) d (omega arith) (omega arith)),
@@ -77,7 +77,7 @@ place_rest p t i x xs h = (
 )
 
 -- the first lock comes before t's lock on p if the place of this is behind it
-pub front_before : (p t i : ℕ) (x : Lock) (xs : List Lock) → IsPlace p t (x ∷ xs) (suc i) → comes_before x p t ≡ true
+pub front_before : (p t i : ℕ) (x : Lock) (xs : List Lock) → IsLockPlace p t (x ∷ xs) (suc i) → comes_before x p t ≡ true
 front_before p t i x xs h = h.1 0 x (omega arith) (omega arith)
 
 -- locks rise behind a lock whatever its kind is

@@ -25,11 +25,11 @@ LocksRise [] = Unit {0}
 LocksRise (x ∷ xs) = LocksBehind x xs
 
 -- i locks come before t's lock on p, and the others do not
-abbrev pub IsPlace : ℕ → ℕ → List Lock → ℕ → Type 0
-IsPlace p t xs i = (i ≤ length xs) × AllWithin (λ x. comes_before x p t ≡ true) xs 0 i
+abbrev pub IsLockPlace : ℕ → ℕ → List Lock → ℕ → Type 0
+IsLockPlace p t xs i = (i ≤ length xs) × AllWithin (λ x. comes_before x p t ≡ true) xs 0 i
     × AllWithin (λ x. comes_before x p t ≡ false) xs i (length xs)
 
 -- where t's lock on p is or would be, if no other's lock is in the way of it
 abbrev pub IsFreePlace : ℕ → ℕ → LockKind → List Lock → Option ℕ → Type 0
 IsFreePlace p t kind xs None = conflict xs p t kind ≡ true
-IsFreePlace p t kind xs (Some i) = (conflict xs p t kind ≡ false) × IsPlace p t xs i
+IsFreePlace p t kind xs (Some i) = (conflict xs p t kind ≡ false) × IsLockPlace p t xs i

@@ -28,9 +28,9 @@ IsGreatest lows k p = (q : ℕ) → q < length lows → slice_index lows q ≤ k
     × (slice_index lows q ≤ slice_index lows p)
 
 -- the least low key above k, if there is one
-abbrev pub IsNext : List ℕ → ℕ → Option ℕ → Type 0
-IsNext lows k None = (q : ℕ) → q < length lows → slice_index lows q ≤ k
-IsNext lows k (Some end) = Contains lows end × (k < end)
+abbrev pub IsNextLow : List ℕ → ℕ → Option ℕ → Type 0
+IsNextLow lows k None = (q : ℕ) → q < length lows → slice_index lows q ≤ k
+IsNextLow lows k (Some end) = Contains lows end × (k < end)
     × ((q : ℕ) → q < length lows → k < slice_index lows q → end ≤ slice_index lows q)
 
 -- p alone has the least low key above k; there is none

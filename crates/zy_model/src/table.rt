@@ -3,9 +3,9 @@ ghost use Rattle.std.specs.Prelude.{◌≡◌};
 ghost use Rattle.zy_model.specs.Table.{HandsOver};
 ghost use Rattle.zy_model.specs.Table as spec;
 
+use crate::kind::Kind;
 use crate::mode::NodeMode;
 use zy_isa::{Node, Version};
-use crate::kind::Kind;
 
 /// What a message does at a node.
 #[derive(Clone, Copy, Debug, PartialEq, Eq)]

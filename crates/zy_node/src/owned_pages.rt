@@ -4,7 +4,7 @@ ghost use Rattle.zy_model.specs.Leaf.{Leaf, rows_from};
 ghost use Rattle.std.specs.Bool.{Decides};
 ghost use Rattle.zy_isa.specs.Limits.{max_pages};
 ghost use Rattle.zy_node.specs.OwnedPages.{with_row, OwnsBelow};
-ghost use Rattle.zy_node.specs.Install.{HasRoomFor};
+ghost use Rattle.zy_node.specs.Install.{HasRoomForPage};
 ghost use Rattle.zy_node.specs.Slots.{laid_out};
 ghost use Rattle.zy_table.specs.Numbers.{least};
 ghost use Rattle.zy_table.specs.Order.{NumbersRise};
@@ -154,7 +154,7 @@ impl OwnedPages {
 
     /// Puts a row on a page, if that page is here and has room for it.
     pub fn install(&mut self, p: u16, key: u16, value: u32)
-        requires { HasRoomFor key (page_in p self.old) }
+        requires { HasRoomForPage key (page_in p self.old) }
         ensures { self.new ≡ with_row p key value self.old }
     {
         self.store.install(p, key, value);

@@ -6,7 +6,7 @@ ghost use Rattle.zy_table.specs.Change.{share_all};
 ghost use Rattle.zy_table.specs.Ranges.{range_pages};
 ghost use Rattle.zy_table.specs.Run.{first_absent, first_taken};
 ghost use Rattle.zy_node.specs.Wireframes.{lows_in, limit_or};
-ghost use Rattle.zy_node.specs.RangeSteps.{Leads};
+ghost use Rattle.zy_node.specs.RangeSteps.{IsNextInRange};
 
 use crate::owned_pages::OwnedPages;
 use crate::wireframe::page_of;
@@ -23,7 +23,7 @@ pub struct Place {
 
 /// The page behind one that begins at `low`, or has that key, among those of the keys up to `last`.
 pub fn next_page(wire: &Option<Wire>, low: u16, last: u16) -> Option<Place>
-    ensures next { Leads result (lows_in wire.now) low last }
+    ensures next { IsNextInRange result (lows_in wire.now) low last }
     ensures few { (n : ℕ) → limit_or n wire.now ≤ n → IfSome result (λ e. e.page < n) }
 {
     match wire {
@@ -34,7 +34,7 @@ pub fn next_page(wire: &Option<Wire>, low: u16, last: u16) -> Option<Place>
 
 /// The same in a wireframe.
 fn next_of(wire: &Wire, low: u16, last: u16) -> Option<Place>
-    ensures next { Leads result wire.now.lows low last }
+    ensures next { IsNextInRange result wire.now.lows low last }
     ensures few { IfSome result (λ e. e.page < wire.now.pages) }
 {
     match wire.after(low) {

@@ -3,8 +3,7 @@ ghost use Rattle.std.specs.Prelude.{◌≡◌};
 ghost use Rattle.zy_pack.specs.Codes as spec;
 
 use zy_isa::Node;
-use zy_model::LockKind;
-use zy_model::NodeMode;
+use zy_model::{LockKind, NodeMode};
 use zy_table::{Status, Why};
 
 /// The number of a node.

@@ -6,7 +6,7 @@ use Rattle.std.proofs.lemmas.List.{same_lists, places, get_or-set_same, get_or-t
 use Rattle.std.proofs.lemmas.Bool.{cases_eq, cases_lt}
 use Rattle.zy_isa.specs.declared.row.Row.{Row}
 use Rattle.zy_isa.specs.Rows.{put_row}
-use Rattle.zy_page.specs.Place.{Finds}
+use Rattle.zy_page.specs.Place.{FindsRow}
 use Rattle.zy_page.specs.RowLists.{AreKept}
 use Rattle.zy_model.proofs.Rows.{Rising-put_row, RowsFit-put_row}
 use Rattle.zy_page.proofs.Found.{put_row_at}
@@ -20,7 +20,7 @@ take-set_below : (n : ℕ) (xs : List Row) (i : ℕ) (x : Row) → i < n → n �
 take-set_below n xs i x lt le = same_lists _ _ (search (rules, places)) (λ k d h. grind (arith, places, get_or-set_same, cases_eq k i))
 
 -- the row put over one of the first n
-pub put_over : (k v i n : ℕ) (d : Row) (cells : List Row) → n ≤ length cells → Finds k (take n cells) (Ok i)
+pub put_over : (k v i n : ℕ) (d : Row) (cells : List Row) → n ≤ length cells → FindsRow k (take n cells) (Ok i)
     → take n (set cells i (record { key = (get_or cells i d).key; value = v })) ≡ put_row k v (take n cells)
 put_over k v i n d cells le found =
     let lt : i < n = rw (length-take-le n cells le) at found.1 in

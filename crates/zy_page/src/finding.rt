@@ -1,14 +1,14 @@
 //! The search for a key in rows in key order.
 ghost use Rattle.std.specs.Prelude.{◌≡◌};
 ghost use Rattle.zy_isa.specs.Rows.{Rising, get_row};
-ghost use Rattle.zy_page.specs.Place.{IsPlace, Finds};
+ghost use Rattle.zy_page.specs.Place.{IsRowPlace, FindsRow};
 
 use zy_isa::Row;
 
 /// How many keys are below `key`.
 pub fn place(rows: &[Row], key: u16) -> usize
     requires { Rising 0 rows.now }
-    ensures { IsPlace key rows.now result }
+    ensures { IsRowPlace key rows.now result }
 {
     rows.partition_point(|row| row.key < key)
 }
@@ -16,7 +16,7 @@ pub fn place(rows: &[Row], key: u16) -> usize
 /// The index of the row at `key`, or the one where it would be.
 pub fn search(rows: &[Row], key: u16) -> Result<usize, usize>
     requires { Rising 0 rows.now }
-    ensures { Finds key rows.now result }
+    ensures { FindsRow key rows.now result }
 {
     let at = place(rows, key);
     if at < rows.len() && rows[at].key == key {

@@ -8,7 +8,7 @@ use Rattle.zy_isa.specs.Scenario.{Scenario}
 use Rattle.zy_table.specs.State.{State}
 use Rattle.zy_table.specs.Play.{play}
 use Rattle.zy_machine.specs.Histories.{History}
-use Rattle.zy_audit.specs.SameMaps.{is_serial}
+use Rattle.zy_listing.specs.SameMaps.{is_serial}
 use Rattle.zy_search.specs.declared.sought.Sought.{Sought}
 use Rattle.zy_search.specs.declared.answer.Answer.{Answer}
 use Rattle.zy_search.specs.declared.answer.Answer.TheVariants as answer

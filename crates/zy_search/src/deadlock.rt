@@ -8,8 +8,8 @@ ghost use Rattle.zy_search.specs.Deadlocks as spec;
 use std::alloc::{AllocError, Global};
 use zy_isa::{Choice, Node};
 use zy_laws::laws::safe_counts;
-use zy_model::Lock;
 use zy_machine::{Fault, Machine};
+use zy_model::Lock;
 use zy_table::Outcome;
 
 /// A transaction that waits at its node for a page.

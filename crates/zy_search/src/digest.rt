@@ -2,10 +2,8 @@
 
 use zy_isa::{Node, Row};
 use zy_links::Message;
-use zy_model::Kind;
-use zy_model::LockKind;
 use zy_machine::{Machine, StatePart};
-use zy_model::NodeMode;
+use zy_model::{Kind, LockKind, NodeMode};
 use zy_table::{Place, Status, Why};
 use zy_txns::Txn;
 

@@ -14,11 +14,11 @@ use crate::possible::is_possible;
 use crate::sought::Sought;
 use crate::stuck::is_stuck;
 use std::alloc::Global;
-use zy_audit::serial::same;
 use zy_goals::commits::is_of_commits;
 use zy_goals::facts::holds_in;
 use zy_goals::{Fact, Goal, OutcomePattern};
 use zy_isa::Choice;
+use zy_listing::serial::same;
 use zy_machine::{Fault, Machine};
 
 /// Whether a fact holds in a machine's state. The considered choices are tried on another machine.

@@ -13,8 +13,8 @@ use Rattle.zy_table.specs.Pages.{page_in, leaf_at}
 use Rattle.zy_table.specs.Places.{place_of}
 use Rattle.zy_table.specs.Database.{all_leaves}
 use Rattle.zy_table.proofs.PageFinds.{leaf_at-some}
-use Rattle.zy_audit.specs.Texts.{leaf_text}
-use Rattle.zy_audit.specs.Locked.{lock_on, lock_text, locks_on, page_reply, locked_page, no_page}
+use Rattle.zy_listing.specs.Texts.{leaf_text}
+use Rattle.zy_listing.specs.Locked.{lock_on, lock_text, locks_on, page_reply, locked_page, no_page}
 use Rattle.zy_trace.specs.Kept.{none_on}
 
 -- behind a common front the rests say what the lists say

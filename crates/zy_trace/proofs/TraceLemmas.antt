@@ -18,7 +18,7 @@ use Rattle.zy_laws.specs.Counts.{Safe}
 use Rattle.zy_machine.specs.Histories.{History, IsReplay, choices_of}
 use Rattle.zy_disasm.specs.Lines.{head_texts, end_texts}
 use Rattle.zy_disasm.proofs.CanonLemmas.{canon-before}
-use Rattle.zy_audit.specs.SameMaps.{is_serial}
+use Rattle.zy_listing.specs.SameMaps.{is_serial}
 use Rattle.zy_trace.specs.Trace.{Beside, step_lines, steps_lines, opening_lines, last_lines, trace_lines, trace_from}
 use Rattle.std.specs.List.{flat_map, range_with_len}
 use Rattle.std.proofs.lemmas.Grind.{flat_map-append}

@@ -3,7 +3,7 @@ use Rattle.std.specs.Prelude.{◌≡◌, ◌==◌, ℕ, Bool, not, List}
 use Rattle.std.specs.List.{list_all}
 use Rattle.zy_isa.specs.declared.node.Node.{Node}
 use Rattle.zy_model.specs.declared.lock.Lock.{Lock}
-use Rattle.zy_audit.specs.Locked.{locks_on}
+use Rattle.zy_listing.specs.Locked.{locks_on}
 use Rattle.zy_trace.specs.declared.kept.Rests.{Rests}
 
 -- where the rests say the same of a page, so do the lists

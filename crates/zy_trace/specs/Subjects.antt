@@ -6,9 +6,9 @@ use Rattle.zy_isa.specs.declared.node.Node.TheVariants.{A, B}
 use Rattle.zy_io.specs.Writing.{line_of}
 use Rattle.zy_table.specs.State.{State, facing}
 use Rattle.zy_table.specs.Database.{newest}
-use Rattle.zy_audit.specs.Texts.{mode_text, link_text, txn_text}
-use Rattle.zy_audit.specs.Listing.{below}
-use Rattle.zy_audit.specs.Locked.{page_reply}
+use Rattle.zy_listing.specs.Texts.{mode_text, link_text, txn_text}
+use Rattle.zy_listing.specs.Listing.{below}
+use Rattle.zy_listing.specs.Locked.{page_reply}
 use Rattle.zy_trace.specs.declared.subject.Subject.{Subject}
 use Rattle.zy_trace.specs.declared.subject.Subject.TheVariants.{Mode, Page, Link, Txn}
 

@@ -8,9 +8,9 @@ use Rattle.zy_io.specs.Writing.{line_of}
 use Rattle.zy_table.specs.State.{State}
 use Rattle.zy_table.specs.Play.{play, opening, step, entry_of}
 use Rattle.zy_machine.specs.Histories.{History}
-use Rattle.zy_audit.specs.Texts.{step_text, serial_text}
-use Rattle.zy_audit.specs.Listing.{final_texts}
-use Rattle.zy_audit.specs.SameMaps.{is_serial}
+use Rattle.zy_listing.specs.Texts.{step_text, serial_text}
+use Rattle.zy_listing.specs.Listing.{final_texts}
+use Rattle.zy_listing.specs.SameMaps.{is_serial}
 use Rattle.zy_trace.specs.Subjects.{state_lines, changed}
 
 -- step i, a choice made in a state, and what it changed

@@ -1,12 +1,12 @@
 //! Whether a page's line is what it was, without making it.
 ghost use Rattle.std.specs.Prelude.{◌≡◌, ◌≤◌, ◌&&◌, true, length, take};
 ghost use Rattle.zy_table.specs.State.{facing};
-ghost use Rattle.zy_audit.specs.Locked.{page_reply};
+ghost use Rattle.zy_listing.specs.Locked.{page_reply};
 ghost use Rattle.zy_trace.specs.Kept.{AreRests, none_on};
 
 use zy_isa::{Node, Row};
-use zy_model::Lock;
 use zy_machine::Machine;
+use zy_model::Lock;
 use zy_page::Page;
 use zy_table::Place;
 

@@ -2,7 +2,7 @@
 ghost use Rattle.std.specs.Prelude.{◌≡◌, ◌++◌, ◌&&◌, not, IfOk, OnOk, length, map};
 ghost use Rattle.std.specs.Str.{bytes_eq};
 ghost use Rattle.zy_table.specs.Database.{newest};
-ghost use Rattle.zy_audit.specs.Listing.{below};
+ghost use Rattle.zy_listing.specs.Listing.{below};
 ghost use Rattle.zy_trace.specs.declared.subject.Subject.TheVariants.{Page, Txn};
 ghost use Rattle.zy_trace.specs.Kept.{AreRests};
 ghost use Rattle.zy_trace.specs.Subjects.{HasLine, line_in, subjects, shown_text, shown_texts};
@@ -10,12 +10,12 @@ ghost use Rattle.zy_trace.specs.Subjects.{HasLine, line_in, subjects, shown_text
 use crate::kept::{Rests, is_kept, rests_at};
 use crate::subject::Subject;
 use std::alloc::{AllocError, Global};
-use zy_audit::ModeLine;
-use zy_audit::lines::link::link_line;
-use zy_audit::lines::locked::page_reply;
-use zy_audit::lines::txn::txn_line;
 use zy_io::{Line, LineBuffer};
 use zy_isa::Node;
+use zy_listing::ModeLine;
+use zy_listing::lines::link::link_line;
+use zy_listing::lines::locked::page_reply;
+use zy_listing::lines::txn::txn_line;
 use zy_machine::Machine;
 
 /// The texts of a line in two states.

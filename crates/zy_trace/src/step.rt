@@ -6,16 +6,16 @@ ghost use Rattle.zy_io.specs.Writing.{line_of};
 ghost use Rattle.zy_isa.specs.Choices.{names_below};
 ghost use Rattle.zy_isa.specs.declared.choice.Choice.TheVariants.{Start};
 ghost use Rattle.zy_table.specs.Play as table;
-ghost use Rattle.zy_audit.specs.Texts.{step_text};
+ghost use Rattle.zy_listing.specs.Texts.{step_text};
 ghost use Rattle.zy_trace.specs.Subjects.{changed};
 ghost use Rattle.zy_trace.specs.Trace.{Beside, step_lines};
 
 use crate::since::{Since, Texts, append_since};
 use std::alloc::AllocError;
-use zy_audit::StepLine;
 use zy_io::{Line, LineBuffer};
 use zy_isa::Choice;
 use zy_laws::laws::safe_counts;
+use zy_listing::StepLine;
 use zy_machine::Machine;
 use zy_table::Entry;
 

@@ -11,12 +11,12 @@ ghost use Rattle.zy_trace.specs.Trace as spec;
 use crate::since::{Since, Texts, append_since};
 use crate::step::trace_step;
 use std::alloc::Global;
-use zy_audit::serial::same;
-use zy_audit::{FinalState, SerialLine};
 use zy_disasm::Head;
 use zy_io::writing::write_all;
 use zy_io::{AllLines, LineBuffer, One, Section, Sink, TextFault, sections};
 use zy_isa::Scenario;
+use zy_listing::serial::same;
+use zy_listing::{FinalState, SerialLine};
 use zy_machine::Machine;
 use zy_text::Each;
 

@@ -4,7 +4,7 @@ use Rattle.std.specs.Prelude.{Contains}
 use Rattle.std.proofs.lemmas.Bool.{cases_lt, cases_order}
 use Rattle.std.proofs.lemmas.List.{get_or_default}
 use Rattle.zy_wire.specs.Pages.{Apart}
-use Rattle.zy_model.specs.Wireframe.{page_of, IsNext, IsAfter}
+use Rattle.zy_model.specs.Wireframe.{page_of, IsNextLow, IsAfter}
 use Rattle.zy_model.proofs.PageOf.{page_of-within, page_of-greatest}
 
 -- the page of that low key has it
@@ -15,7 +15,7 @@ at_key lows end key =
     omega (arith, g.0, g.1)
 
 -- no other page has it
-pub after_key : (lows : List ℕ) (k end : ℕ) → Apart lows → 1 ≤ length lows → IsNext lows k (Some end) → IsAfter lows k (Some (page_of lows end))
+pub after_key : (lows : List ℕ) (k end : ℕ) → Apart lows → 1 ≤ length lows → IsNextLow lows k (Some end) → IsAfter lows k (Some (page_of lows end))
 after_key lows k end apart some next =
     let p = page_of lows end in
     let is = at_key lows end next.0 in

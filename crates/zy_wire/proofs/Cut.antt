@@ -6,8 +6,8 @@ use Rattle.std.specs.List.{insert}
 use Rattle.std.proofs.lemmas.Bool.{cases_lt, cases_eq}
 use Rattle.std.proofs.lemmas.List.{get_or-set_same, get_or-set_other, length-set, get_or_append_left, get_or_at, get_or_read, length_push}
 use Rattle.std.proofs.lemmas.List.Edits.{length-insert}
-use Rattle.zy_wire.specs.declared.entry.Entry.{Entry}
-use Rattle.zy_wire.specs.ByLow.{front, IsPlace}
+use Rattle.zy_wire.specs.declared.entry.IndexEntry.{IndexEntry}
+use Rattle.zy_wire.specs.ByLow.{front, IsEntryPlace}
 use Rattle.zy_wire.specs.Nodes.{TreeNode, no_node, node, low_of, IsChild, Children, lower_half, upper_half, LeadsTo, Fits, IsAt, IsTree}
 use Rattle.zy_wire.specs.Pages.{Whole, Has, Holds}
 use Rattle.zy_wire.proofs.Entries.{low_rises, low_below, front_drop, front-insert, front-take, Rise-take, Rise-drop, Rise-insert, one_place}
@@ -20,7 +20,7 @@ pub record Full (nodes : List TreeNode) (p c i : ℕ) : Type 0 where
   pub there : p < length nodes
   pub above : 1 ≤ (node nodes p).level
   pub within : i < length (node nodes p).entries
-  pub is : (d : Entry) → (get_or (node nodes p).entries i d).to ≡ c
+  pub is : (d : IndexEntry) → (get_or (node nodes p).entries i d).to ≡ c
   pub full : length (node nodes c).entries ≡ 8
 
 -- where the upper half begins
@@ -56,7 +56,7 @@ pub record Middle (nodes : List TreeNode) (c : ℕ) : Type 0 where
 pub middle_of : (nodes : List TreeNode) (c : ℕ) → Fits nodes (node nodes c) → length (node nodes c).entries ≡ 8 → Middle nodes c
 middle_of nodes c fits full =
     let n = node nodes c in
-    let d : Entry = record { low = 0; to = 0 } in
+    let d : IndexEntry = record { low = 0; to = 0 } in
     let mid = front_drop 4 d n.entries n.end (omega arith) in
     let first = front_drop 0 d n.entries n.end (omega arith) in
     let up = low_rises 0 0 4 d n.entries n.end fits.rise (omega arith) (omega arith) in
@@ -72,7 +72,7 @@ pub record Written : Type 0 where
   pub lower : TreeNode
   pub upper : TreeNode
   pub pushed : List TreeNode
-  pub entry : Entry
+  pub entry : IndexEntry
   pub parent : TreeNode
   pub widened : TreeNode
 
@@ -96,7 +96,7 @@ pub record Writes (nodes : List TreeNode) (p c : ℕ) (x : Written) : Type 0 whe
 -- c is a full child of the node p of a tree, that of p's entry i.
 module _ (nodes : List TreeNode) (root top p c i : ℕ) (t : IsTree nodes root top) (f : Full nodes p c i) where
   -- the child, as the node above knows it
-  pub child_of : (d : Entry)
+  pub child_of : (d : IndexEntry)
       → IsChild nodes (node nodes p).level (get_or (node nodes p).entries i d).low (front (drop (suc i) (node nodes p).entries) (node nodes p).end) c
   child_of d =
       rw (f.is d) at (child_at nodes (node nodes p).level (node nodes p).end i d (node nodes p).entries ((t.each p f.there).children f.above) f.within)
@@ -194,7 +194,7 @@ module _ (nodes nodes' : List TreeNode) (root top p c i : ℕ) (t : IsTree nodes
       ]
 
   -- the halves, as the node above knows them
-  lower_child : (d : Entry) → IsChild nodes' (node nodes p).level (get_or (node nodes p).entries i d).low (middle nodes c) c
+  lower_child : (d : IndexEntry) → IsChild nodes' (node nodes p).level (get_or (node nodes p).entries i d).low (middle nodes c) c
   lower_child d =
       let child = child_of nodes root top p c i t f d in
       record {
@@ -205,7 +205,7 @@ module _ (nodes nodes' : List TreeNode) (root top p c i : ℕ) (t : IsTree nodes
       }
 
   -- the same for the upper half, which is the new node
-  upper_child : (d : Entry)
+  upper_child : (d : IndexEntry)
       → IsChild nodes' (node nodes p).level (middle nodes c) (front (drop (suc i) (node nodes p).entries) (node nodes p).end) (length nodes)
   upper_child d =
       let child = child_of nodes root top p c i t f d in
@@ -219,12 +219,12 @@ module _ (nodes nodes' : List TreeNode) (root top p c i : ℕ) (t : IsTree nodes
   -- the node above fits
   parent_fits : Fits nodes' (widened nodes p c i)
   parent_fits =
-      let d : Entry = record { low = 0; to = 0 } in
+      let d : IndexEntry = record { low = 0; to = 0 } in
       let n = node nodes p in
       let fits = t.each p f.there in
       let child = child_of nodes root top p c i t f d in
       let m = middle_of nodes c (t.each c child.there) f.full in
-      let new : Entry = record { low = middle nodes c; to = length nodes } in
+      let new : IndexEntry = record { low = middle nodes c; to = length nodes } in
       let more = k.more in
       let in' = f.within in
       record {
@@ -299,7 +299,7 @@ module _ (nodes nodes' : List TreeNode) (root top p c i : ℕ) (t : IsTree nodes
   -- each node that has a key after the cut comes from one that had it before
   was : (x key : ℕ) → IsAt nodes' x key → Was nodes nodes' c x key
   was x key h =
-      let d : Entry = record { low = 0; to = 0 } in
+      let d : IndexEntry = record { low = 0; to = 0 } in
       let child = child_of nodes root top p c i t f d in
       let m = middle_of nodes c (t.each c child.there) f.full in
       let there = child.there in
@@ -339,7 +339,7 @@ module _ (nodes nodes' : List TreeNode) (root top p c i : ℕ) (t : IsTree nodes
   -- a tree of which a full node is cut is a tree with the same root
   pub IsTree-cut : IsTree nodes' root top
   IsTree-cut =
-      let d : Entry = record { low = 0; to = 0 } in
+      let d : IndexEntry = record { low = 0; to = 0 } in
       let child = child_of nodes root top p c i t f d in
       let more = k.more in
       let there = child.there in
@@ -384,7 +384,7 @@ module _ (nodes nodes' : List TreeNode) (root top p c i : ℕ) (t : IsTree nodes
   -- the nodes after a cut agree with the low keys of the pages as they did before
   pub Holds-cut : (lows : List ℕ) → Holds lows nodes → Holds lows nodes'
   Holds-cut lows holds = λ x lt.
-      let d : Entry = record { low = 0; to = 0 } in
+      let d : IndexEntry = record { low = 0; to = 0 } in
       let child = child_of nodes root top p c i t f d in
       let more = k.more in
       let n = node nodes c in
@@ -455,7 +455,7 @@ module _ (nodes : List TreeNode) (root top p c k : ℕ) (r : Ready nodes root to
       ap (λ (n : TreeNode). length n.entries) same ∙ r.full
 
   -- the nodes as they are written are those of a cut
-  pub Cut-made : (x : Written) → IsPlace k (node nodes p).entries x.entry_index → Writes nodes p c x
+  pub Cut-made : (x : Written) → IsEntryPlace k (node nodes p).entries x.entry_index → Writes nodes p c x
       → Cut nodes (set x.pushed x.parent_index x.widened) p c r.leads.at
   Cut-made x placed h =
       let i = r.leads.at in

@@ -5,8 +5,8 @@ use Rattle.std.proofs.lemmas.Bool.{cases_lt, cases_eq}
 use Rattle.std.proofs.lemmas.List.{get_or-set_same, get_or-set_other, length-set, get_or_append_left, get_or_at, get_or_read, length_push}
 use Rattle.std.proofs.lemmas.List.Edits.{length-insert}
 use Rattle.std.proofs.lemmas.List.Elements.{Contains-push}
-use Rattle.zy_wire.specs.declared.entry.Entry.{Entry}
-use Rattle.zy_wire.specs.ByLow.{IsPlace}
+use Rattle.zy_wire.specs.declared.entry.IndexEntry.{IndexEntry}
+use Rattle.zy_wire.specs.ByLow.{IsEntryPlace}
 use Rattle.zy_wire.specs.Nodes.{TreeNode, no_node, node, low_of, Fits, IsAt, IsTree}
 use Rattle.zy_wire.specs.Pages.{EntryOf, Whole, Has, Holds}
 use Rattle.zy_wire.proofs.Entries.{place_some, below_front, Rise-insert, front-insert}
@@ -14,18 +14,18 @@ use Rattle.zy_wire.proofs.Spans.{Same, Same-is, Fits-lift, IsAt-back}
 use Rattle.zy_wire.proofs.Held.{Keys-push, Keys-insert, Match-push, Match-insert, EntryOf-old, EntryOf-new, last-push}
 
 -- the node with the entry
-abbrev pub with : TreeNode → ℕ → Entry → TreeNode
+abbrev pub with : TreeNode → ℕ → IndexEntry → TreeNode
 with n at e = record { level = n.level; end = n.end; entries = insert n.entries at e }
 
 -- an entry that has a place in a node of level 0
-pub record Enters (nodes : List TreeNode) (id at : ℕ) (e : Entry) : Type 0 where
+pub record Enters (nodes : List TreeNode) (id at : ℕ) (e : IndexEntry) : Type 0 where
   pub key : IsAt nodes id e.low
   pub leaf : (node nodes id).level ≡ 0
-  pub place : IsPlace e.low (node nodes id).entries at
-  pub fresh : All (λ (x : Entry). x.low ≡ e.low → ⊥) (node nodes id).entries
+  pub place : IsEntryPlace e.low (node nodes id).entries at
+  pub fresh : All (λ (x : IndexEntry). x.low ≡ e.low → ⊥) (node nodes id).entries
 
 -- each node has the level and the keys that it had before the entry
-same_node : (nodes : List TreeNode) (root top id at : ℕ) (e : Entry) → IsTree nodes root top → Enters nodes id at e → (x : ℕ)
+same_node : (nodes : List TreeNode) (root top id at : ℕ) (e : IndexEntry) → IsTree nodes root top → Enters nodes id at e → (x : ℕ)
     → Same nodes (set nodes id (with (node nodes id) at e)) x
 same_node nodes root top id at e t h x =
     let n = node nodes id in
@@ -44,7 +44,7 @@ same_node nodes root top id at e t h x =
     ]
 
 -- a tree with one entry more in a node of level 0 is a tree with the same root
-pub IsTree-entered : (nodes : List TreeNode) (root top id at : ℕ) (e : Entry) → IsTree nodes root top → Enters nodes id at e
+pub IsTree-entered : (nodes : List TreeNode) (root top id at : ℕ) (e : IndexEntry) → IsTree nodes root top → Enters nodes id at e
     → IsTree (set nodes id (with (node nodes id) at e)) root top
 IsTree-entered nodes root top id at e t h =
     let n = node nodes id in
@@ -81,7 +81,7 @@ IsTree-entered nodes root top id at e t h =
     }
 
 -- a page is found where it was, and the new one at its place
-whole_here : (lows : List ℕ) (n : TreeNode) (at : ℕ) (e : Entry) → at ≤ length n.entries → e.to ≡ length lows → Whole lows (low_of n) n.end n.entries
+whole_here : (lows : List ℕ) (n : TreeNode) (at : ℕ) (e : IndexEntry) → at ≤ length n.entries → e.to ≡ length lows → Whole lows (low_of n) n.end n.entries
     → Whole (lows ++ e.low ∷ []) (low_of n) n.end (insert n.entries at e)
 whole_here lows n at e le last whole = λ p lt low below.
     let more = length_push lows e.low in
@@ -91,7 +91,7 @@ whole_here lows n at e le last whole = λ p lt low below.
     ]
 
 -- the nodes with the entry of a new page agree with the low keys, of which the new page's is the last
-pub Holds-entered : (lows : List ℕ) (nodes : List TreeNode) (root top id at : ℕ) (e : Entry) → IsTree nodes root top → Enters nodes id at e → e.to ≡ length lows
+pub Holds-entered : (lows : List ℕ) (nodes : List TreeNode) (root top id at : ℕ) (e : IndexEntry) → IsTree nodes root top → Enters nodes id at e → e.to ≡ length lows
     → Holds lows nodes
     → Holds (lows ++ e.low ∷ []) (set nodes id (with (node nodes id) at e))
 Holds-entered lows nodes root top id at e t h last holds = λ x lt.
@@ -133,7 +133,7 @@ Holds-entered lows nodes root top id at e t h last holds = λ x lt.
     ]
 
 -- the nodes with the one that has the entry
-pub written : (nodes : List TreeNode) (i id at : ℕ) (e : Entry) (x y : TreeNode) → id < length nodes → i ≡ id → x ≡ get_or nodes i x → y ≡ with x at e
+pub written : (nodes : List TreeNode) (i id at : ℕ) (e : IndexEntry) (x y : TreeNode) → id < length nodes → i ≡ id → x ≡ get_or nodes i x → y ≡ with x at e
     → set nodes i y ≡ set nodes id (with (node nodes id) at e)
 written nodes i id at e x y lt here read is =
     let same : x ≡ node nodes id = get_or_read nodes id x lt (rw here at read) no_node in

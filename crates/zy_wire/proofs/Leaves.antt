@@ -2,11 +2,11 @@
 use Rattle.std.proofs.Common.{◌≡◌, ℕ, ◌+◌, ◌<◌, ◌≤◌, List, length, get_or, drop, sym, ap, subst, None, Some, arith, ◌⊎◌, inl, inr}
 use Rattle.std.specs.Prelude.{Contains}
 use Rattle.std.proofs.lemmas.Bool.{cases_lt, cases_order}
-use Rattle.zy_wire.specs.declared.entry.Entry.{Entry}
-use Rattle.zy_wire.specs.ByLow.{front, Rise, IsPlace, Leads}
+use Rattle.zy_wire.specs.declared.entry.IndexEntry.{IndexEntry}
+use Rattle.zy_wire.specs.ByLow.{front, Rise, IsEntryPlace, Leads}
 use Rattle.zy_wire.specs.Nodes.{TreeNode, low_of, LeafAt, key_end}
 use Rattle.zy_wire.specs.Pages.{Apart, Small, EntryOf, Has, Holds}
-use Rattle.zy_model.specs.Wireframe.{page_of, IsNext}
+use Rattle.zy_model.specs.Wireframe.{page_of, IsNextLow}
 use Rattle.zy_model.proofs.PageOf.{page_of-is}
 use Rattle.zy_wire.proofs.Entries.{low_from, low_rises, front_drop, front_past, front_end, below_front, Rise-lift, Rise-drop}
 use Rattle.zy_wire.proofs.Held.{match_at, key_at, low_of_entry}
@@ -36,7 +36,7 @@ pub record PageAt (lows : List ℕ) (k p : ℕ) : Type 0 where
   pub is : page_of lows k ≡ p
 
 -- a low key not above the entry's key is no later than the entry
-no_later : (lows : List ℕ) (n : TreeNode) (k at q : ℕ) (d : Entry) → Leaf lows n k → IsPlace k n.entries (at + 1) → (e : EntryOf n.entries q)
+no_later : (lows : List ℕ) (n : TreeNode) (k at q : ℕ) (d : IndexEntry) → Leaf lows n k → IsEntryPlace k n.entries (at + 1) → (e : EntryOf n.entries q)
     → get_or lows q 0 ≤ k
     → get_or lows q 0 ≤ (get_or n.entries at d).low
 no_later lows n k at q d l place e le =
@@ -48,7 +48,7 @@ no_later lows n k at q d l place e le =
     ]
 
 -- the last entry whose low key is not above k is of the page that k lies on
-pub page_at : (lows : List ℕ) (n : TreeNode) (k : ℕ) (e : Entry) → Apart lows → Leaf lows n k → Leads k n.entries e → PageAt lows k e.to
+pub page_at : (lows : List ℕ) (n : TreeNode) (k : ℕ) (e : IndexEntry) → Apart lows → Leaf lows n k → Leads k n.entries e → PageAt lows k e.to
 page_at lows n k e apart l leads =
     let d = leads.is e in
     let within : leads.at < length n.entries = omega (arith, leads.place.0) in
@@ -76,9 +76,9 @@ pub record Next (lows : List ℕ) (k end : ℕ) : Type 0 where
   pub least : (q : ℕ) → q < length lows → k < get_or lows q 0 → end ≤ get_or lows q 0
 
 -- the first low key behind the place of k is the least low key above k, or the node's end
-pub next_at : (lows : List ℕ) (n : TreeNode) (k i : ℕ) → Leaf lows n k → IsPlace k n.entries i → Next lows k (front (drop i n.entries) n.end)
+pub next_at : (lows : List ℕ) (n : TreeNode) (k i : ℕ) → Leaf lows n k → IsEntryPlace k n.entries i → Next lows k (front (drop i n.entries) n.end)
 next_at lows n k i l place =
-    let d : Entry = record { low = 0; to = 0 } in
+    let d : IndexEntry = record { low = 0; to = 0 } in
     let most = front_end 0 (drop i n.entries) n.end (Rise-drop 0 i n.entries n.end l.rise) in
     record {
       over = below_front k i n.entries n.end place l.below;
@@ -102,13 +102,13 @@ next_at lows n k i l place =
     }
 
 -- where that number is a key, it is the least low key above k
-pub next_some : (lows : List ℕ) (k end : ℕ) → Next lows k end → end < key_end → IsNext lows k (Some end)
+pub next_some : (lows : List ℕ) (k end : ℕ) → Next lows k end → end < key_end → IsNextLow lows k (Some end)
 next_some lows k end next lt =
     let key : Contains lows end = elim next.key [ inl none ↦ absurd (omega arith) | inr key ↦ key ] in
     (key, next.over, next.least)
 
 -- where that number is above all keys, no low key is above k
-pub next_none : (lows : List ℕ) (k end : ℕ) → Small lows → Next lows k end → key_end ≤ end → IsNext lows k None
+pub next_none : (lows : List ℕ) (k end : ℕ) → Small lows → Next lows k end → key_end ≤ end → IsNextLow lows k None
 next_none lows k end small next le = λ q in'. elim (cases_lt k (get_or lows q 0)) [
   | inl up ↦ absurd (let least = next.least q in' up in let s = small q in' in omega arith)
   | inr down ↦ down

@@ -3,7 +3,7 @@ use Rattle.std.proofs.Common.{◌≡◌, ◌∙◌, ℕ, ◌+◌, ◌<◌, List,
 use Rattle.std.specs.Prelude.{Contains}
 use Rattle.std.proofs.lemmas.Bool.{cases_lt}
 use Rattle.std.proofs.lemmas.List.{get_or_append_left, get_or_at, length_push}
-use Rattle.zy_wire.specs.declared.entry.Entry.{Entry}
+use Rattle.zy_wire.specs.declared.entry.IndexEntry.{IndexEntry}
 use Rattle.zy_wire.specs.Nodes.{TreeNode, no_node, node, low_of, Fits, IsTree, key_end}
 use Rattle.zy_wire.specs.Pages.{Has, Holds}
 use Rattle.zy_wire.proofs.Entries.{front_drop}
@@ -93,7 +93,7 @@ Holds-raised lows nodes root top t h = λ id lt.
       | inl old ↦ subst (Has lows) (sym (old_node nodes n id old)) (h id old)
       | inr past ↦
           let here : id ≡ length nodes = omega arith in
-          let d : Entry = record { low = 0; to = 0 } in
+          let d : IndexEntry = record { low = 0; to = 0 } in
           let some : 0 < length (node nodes root).entries = (let f = t.each root t.there in omega (arith, f.some)) in
           subst (λ x. Has lows (node nodes' x)) (sym here) (subst (Has lows) (sym (new_node nodes n)) (record {
             keys = (

@@ -3,13 +3,13 @@ use Rattle.std.proofs.Common.{◌≡◌, ◌∙◌, ℕ, ◌<◌, ◌≤◌, Boo
 use Rattle.std.proofs.Common.{inr}
 use Rattle.std.proofs.lemmas.Bool.{and_parts, and_from, leb-true, ltb-true, le-leb, lt-ltb, eq-eqb, ne_eqb, cases_lt, true≢false}
 use Rattle.std.proofs.lemmas.List.{get_or_default}
-use Rattle.zy_model.specs.Wireframe.{page_of, IsNext}
+use Rattle.zy_model.specs.Wireframe.{page_of, IsNextLow}
 use Rattle.zy_wire.specs.Ranges.{is_before}
 use Rattle.zy_wire.specs.Pages.{Apart}
 use Rattle.zy_model.proofs.PageOf.{page_of-is, page_of-greatest}
 
 -- no low key from that of a page on, and not above k, is another
-most : (lows : List ℕ) (p k q : ℕ) (end : Option ℕ) → IsNext lows (get_or lows p 0) end → is_before end k ≡ true → q < length lows → get_or lows q 0 ≤ k
+most : (lows : List ℕ) (p k q : ℕ) (end : Option ℕ) → IsNextLow lows (get_or lows p 0) end → is_before end k ≡ true → q < length lows → get_or lows q 0 ≤ k
     → get_or lows q 0 ≤ get_or lows p 0
 most lows p k q None next before lt le = next q lt
 most lows p k q (Some end) next before lt le = elim (cases_lt (get_or lows p 0) (get_or lows q 0)) [
@@ -18,7 +18,7 @@ most lows p k q (Some end) next before lt le = elim (cases_lt (get_or lows p 0) 
 ]
 
 -- where k lies on p it is below the next low key
-ends : (lows : List ℕ) (p k : ℕ) (end : Option ℕ) → IsNext lows (get_or lows p 0) end → page_of lows k ≡ p → is_before end k ≡ true
+ends : (lows : List ℕ) (p k : ℕ) (end : Option ℕ) → IsNextLow lows (get_or lows p 0) end → page_of lows k ≡ p → is_before end k ≡ true
 ends lows p k None next on = refl
 ends lows p k (Some end) next on = elim (cases_lt k end) [
   | inl below ↦ lt-ltb k end below
@@ -38,7 +38,7 @@ told false q p on from = sym (ne_eqb q p (λ same. true≢false (sym (from same)
 
 -- exactly the keys from p's low key on and below the next one lie on p
 pub in_range-is : (lows : List ℕ) (p k : ℕ) (end : Option ℕ) → Apart lows → 1 ≤ length lows → get_or lows 0 0 ≡ 0 → p < length lows
-    → IsNext lows (get_or lows p 0) end
+    → IsNextLow lows (get_or lows p 0) end
     → (leb (get_or lows p 0) k && is_before end k) ≡ eqb (page_of lows k) p
 in_range-is lows p k end apart some first there next =
     told _ (page_of lows k) p

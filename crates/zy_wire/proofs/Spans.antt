@@ -1,7 +1,7 @@
 -- Nodes that have the level and the keys that they had.
 use Rattle.std.proofs.Common.{◌≡◌, ◌∙◌, ℕ, zero, suc, ◌+◌, ◌<◌, ◌≤◌, List, [], ◌∷◌, length, get_or, take, drop, ap, arith}
 use Rattle.std.specs.List.{insert}
-use Rattle.zy_wire.specs.declared.entry.Entry.{Entry}
+use Rattle.zy_wire.specs.declared.entry.IndexEntry.{IndexEntry}
 use Rattle.zy_wire.specs.ByLow.{front}
 use Rattle.zy_wire.specs.Nodes.{TreeNode, node, low_of, IsChild, Children, Fits, IsAt, Once}
 use Rattle.zy_wire.proofs.Entries.{front-insert, front-take, low_from, low_below, Rise-lift}
@@ -24,8 +24,8 @@ IsChild-lift nodes nodes' above from to id more same h =
     record { there = (let t = h.there in omega arith); level = ap (λ n. n + 1) same.level ∙ h.level; low = same.low ∙ h.low; end = same.end ∙ h.end }
 
 -- the same for the children of all entries
-pub Children-lift : (nodes nodes' : List TreeNode) (level end : ℕ) (es : List Entry) → length nodes ≤ length nodes'
-    → ((j : ℕ) (d : Entry) → j < length es → Same nodes nodes' (get_or es j d).to) → Children nodes level end es → Children nodes' level end es
+pub Children-lift : (nodes nodes' : List TreeNode) (level end : ℕ) (es : List IndexEntry) → length nodes ≤ length nodes'
+    → ((j : ℕ) (d : IndexEntry) → j < length es → Same nodes nodes' (get_or es j d).to) → Children nodes level end es → Children nodes' level end es
 Children-lift nodes nodes' level end [] more same h = tt
 Children-lift nodes nodes' level end (e ∷ es) more same h = (
   IsChild-lift nodes nodes' level e.low (front es end) e.to more (same 0 e (omega arith)) h.0,
@@ -33,7 +33,7 @@ Children-lift nodes nodes' level end (e ∷ es) more same h = (
 )
 
 -- the first i entries, and the others
-pub Children-take : (nodes : List TreeNode) (level end i : ℕ) (es : List Entry) → Children nodes level end es
+pub Children-take : (nodes : List TreeNode) (level end i : ℕ) (es : List IndexEntry) → Children nodes level end es
     → Children nodes level (front (drop i es) end) (take i es)
 Children-take nodes level end zero [] h = tt
 Children-take nodes level end (suc i) [] h = tt
@@ -41,17 +41,17 @@ Children-take nodes level end zero (e ∷ es) h = tt
 Children-take nodes level end (suc i) (e ∷ es) h = (rw (front-take i es end) h.0, Children-take nodes level end i es h.1)
 
 -- the entries from index i on have their children, with the keys that they had
-pub Children-drop : (nodes : List TreeNode) (level end i : ℕ) (es : List Entry) → Children nodes level end es → Children nodes level end (drop i es)
+pub Children-drop : (nodes : List TreeNode) (level end i : ℕ) (es : List IndexEntry) → Children nodes level end es → Children nodes level end (drop i es)
 Children-drop nodes level end zero [] h = tt
 Children-drop nodes level end (suc i) [] h = tt
 Children-drop nodes level end zero (e ∷ es) h = h
 Children-drop nodes level end (suc i) (e ∷ es) h = Children-drop nodes level end i es h.1
 
 -- one entry more, behind the one whose node was cut
-pub Children-insert : (nodes nodes' : List TreeNode) (level end i : ℕ) (d new : Entry) (es : List Entry) → length nodes ≤ length nodes'
+pub Children-insert : (nodes nodes' : List TreeNode) (level end i : ℕ) (d new : IndexEntry) (es : List IndexEntry) → length nodes ≤ length nodes'
     → Children nodes level end es
     → i < length es
-    → ((j : ℕ) (d' : Entry) → j < length es → (j ≡ i → ⊥) → Same nodes nodes' (get_or es j d').to)
+    → ((j : ℕ) (d' : IndexEntry) → j < length es → (j ≡ i → ⊥) → Same nodes nodes' (get_or es j d').to)
     → IsChild nodes' level (get_or es i d).low new.low (get_or es i d).to
     → IsChild nodes' level new.low (front (drop (suc i) es) end) new.to
     → Children nodes' level end (insert es (suc i) new)
@@ -66,7 +66,7 @@ Children-insert nodes nodes' level end (suc i) d new (e ∷ es) more h lt same l
 )
 
 -- the low key of an entry is a key of its node
-pub own_low : (nodes : List TreeNode) (x j : ℕ) (d : Entry) → x < length nodes → Fits nodes (node nodes x) → j < length (node nodes x).entries
+pub own_low : (nodes : List TreeNode) (x j : ℕ) (d : IndexEntry) → x < length nodes → Fits nodes (node nodes x) → j < length (node nodes x).entries
     → IsAt nodes x (get_or (node nodes x).entries j d).low
 own_low nodes x j d there fits lt =
     let n = node nodes x in
@@ -74,7 +74,7 @@ own_low nodes x j d there fits lt =
     record { there = there; low = from; below = low_below 0 j d n.entries n.end fits.rise lt }
 
 -- two nodes of a level that have a child of one number are one
-pub one_parent : (nodes : List TreeNode) (x y i j : ℕ) (d : Entry) → Once nodes → x < length nodes → y < length nodes → Fits nodes (node nodes x)
+pub one_parent : (nodes : List TreeNode) (x y i j : ℕ) (d : IndexEntry) → Once nodes → x < length nodes → y < length nodes → Fits nodes (node nodes x)
     → Fits nodes (node nodes y)
     → 1 ≤ (node nodes x).level → 1 ≤ (node nodes y).level → i < length (node nodes x).entries → j < length (node nodes y).entries
     → (get_or (node nodes x).entries i d).to ≡ (get_or (node nodes y).entries j d).to → x ≡ y
@@ -88,7 +88,7 @@ one_parent nodes x y i j d once tx ty fx fy ux uy li lj same =
 
 -- a node whose children have the levels and the keys that they had
 pub Fits-lift : (nodes nodes' : List TreeNode) (n : TreeNode) → length nodes ≤ length nodes' → Fits nodes n
-    → (1 ≤ n.level → (j : ℕ) (d : Entry) → j < length n.entries → Same nodes nodes' (get_or n.entries j d).to) → Fits nodes' n
+    → (1 ≤ n.level → (j : ℕ) (d : IndexEntry) → j < length n.entries → Same nodes nodes' (get_or n.entries j d).to) → Fits nodes' n
 Fits-lift nodes nodes' n more fits same = record {
   some = fits.some;
   rise = fits.rise;

@@ -1,7 +1,7 @@
 -- The nodes of a tree as everyone sees them.
 use Rattle.std.specs.Prelude.{◌≡◌, ℕ, ◌+◌, ◌<◌, ◌≤◌, List, [], ◌∷◌, length, slice_index_or, take, drop}
-use Rattle.zy_wire.specs.declared.entry.Entry.{Entry}
-use Rattle.zy_wire.specs.ByLow.{front, Rise, IsPlace}
+use Rattle.zy_wire.specs.declared.entry.IndexEntry.{IndexEntry}
+use Rattle.zy_wire.specs.ByLow.{front, Rise, IsEntryPlace}
 
 -- the least number above every key
 abbrev pub key_end : ℕ
@@ -11,10 +11,10 @@ key_end = 65536
 pub record TreeNode : Type 0 where
   pub level : ℕ
   pub end : ℕ
-  pub entries : List Entry
+  pub entries : List IndexEntry
 
 -- at most 8 entries, which are the first of the cells
-pub record IsCells (len : ℕ) (cells : List Entry) : Type 0 where
+pub record IsCells (len : ℕ) (cells : List IndexEntry) : Type 0 where
   pub few : len ≤ 8
   pub full : length cells ≡ 8
 
@@ -46,15 +46,15 @@ pub record IsChild (nodes : List TreeNode) (above from to id : ℕ) : Type 0 whe
   pub end : (node nodes id).end ≡ to
 
 -- each entry has a node of the level below, with the keys up to the next entry
-abbrev pub Children : List TreeNode → ℕ → ℕ → List Entry → Type 0
+abbrev pub Children : List TreeNode → ℕ → ℕ → List IndexEntry → Type 0
 Children nodes level end [] = Unit {0}
 Children nodes level end (e ∷ es) = IsChild nodes level e.low (front es end) e.to × Children nodes level end es
 
 -- the last entry whose low key is not above k is of the node with this number
-pub record LeadsTo (k : ℕ) (es : List Entry) (id : ℕ) : Type 0 where
+pub record LeadsTo (k : ℕ) (es : List IndexEntry) (id : ℕ) : Type 0 where
   pub at : ℕ
-  pub place : IsPlace k es (at + 1)
-  pub is : (d : Entry) → (slice_index_or es at d).to ≡ id
+  pub place : IsEntryPlace k es (at + 1)
+  pub is : (d : IndexEntry) → (slice_index_or es at d).to ≡ id
 
 -- a node among the others
 pub record Fits (nodes : List TreeNode) (n : TreeNode) : Type 0 where

@@ -1,26 +1,26 @@
 -- The pages that the entries of a tree are of.
 use Rattle.std.specs.Prelude.{◌≡◌, ℕ, ◌*◌, ◌<◌, ◌≤◌, List, [], ◌∷◌, length, slice_index, slice_index_or, Contains, ◌⊎◌}
-use Rattle.zy_wire.specs.declared.entry.Entry.{Entry}
+use Rattle.zy_wire.specs.declared.entry.IndexEntry.{IndexEntry}
 use Rattle.zy_wire.specs.Nodes.{TreeNode, node, low_of, key_end}
 
 -- each low key is that of a page
-abbrev pub Keys : List ℕ → List Entry → Type 0
+abbrev pub Keys : List ℕ → List IndexEntry → Type 0
 Keys lows [] = Unit {0}
 Keys lows (e ∷ es) = Contains lows e.low × Keys lows es
 
 -- each entry has the low key of its page
-abbrev pub Match : List ℕ → List Entry → Type 0
+abbrev pub Match : List ℕ → List IndexEntry → Type 0
 Match lows [] = Unit {0}
 Match lows (e ∷ es) = (e.to < length lows) × (slice_index lows e.to ≡ e.low) × Match lows es
 
 -- the entry of a page
-pub record EntryOf (es : List Entry) (page : ℕ) : Type 0 where
+pub record EntryOf (es : List IndexEntry) (page : ℕ) : Type 0 where
   pub at : ℕ
   pub within : at < length es
-  pub is : (d : Entry) → (slice_index_or es at d).to ≡ page
+  pub is : (d : IndexEntry) → (slice_index_or es at d).to ≡ page
 
 -- each page with a low key from one on and below another has an entry
-abbrev pub Whole : List ℕ → ℕ → ℕ → List Entry → Type 0
+abbrev pub Whole : List ℕ → ℕ → ℕ → List IndexEntry → Type 0
 Whole lows from to es = (p : ℕ) → p < length lows → from ≤ slice_index lows p → slice_index lows p < to → EntryOf es p
 
 -- what a node has to do with the pages

@@ -5,30 +5,30 @@ use crate::node_id::NodeId;
 
 /// A low key, and the number of what begins there: of a page in a node of the lowest level, of a node in any other.
 #[derive(Clone, Copy, Debug, PartialEq, Eq)]
-pub struct Entry {
+pub struct IndexEntry {
     pub low: u16,
     to: u32,
 }
 
-impl Entry {
+impl IndexEntry {
     /// A place without an entry.
-    pub const BLANK: Entry = Entry { low: 0, to: 0 };
+    pub const BLANK: IndexEntry = IndexEntry { low: 0, to: 0 };
 
     /// The entry of a page.
-    pub fn of_page(low: u16, page: u16) -> Entry
+    pub fn of_page(low: u16, page: u16) -> IndexEntry
         ensures { result ≡ record { low = low; to = page } }
     {
-        Entry {
+        IndexEntry {
             low,
             to: u32::from(page),
         }
     }
 
     /// The entry of a node.
-    pub fn of_node(low: u16, id: NodeId) -> Entry
+    pub fn of_node(low: u16, id: NodeId) -> IndexEntry
         ensures { result ≡ record { low = low; to = id.0 } }
     {
-        Entry { low, to: id.0 }
+        IndexEntry { low, to: id.0 }
     }
 
     /// The page that it is of.

@@ -1,8 +1,8 @@
 //! A node of the tree.
 ghost use Rattle.std.specs.Prelude.{◌≡◌, ◌==◌, ℕ, ◌+◌, ◌<◌, ◌≤◌, ◌∷◌, [], take, drop, insert, length};
-ghost use Rattle.zy_wire.specs.ByLow.{Rise, IsPlace, Leads, front};
+ghost use Rattle.zy_wire.specs.ByLow.{Rise, IsEntryPlace, Leads, front};
 
-use crate::entry::Entry;
+use crate::entry::IndexEntry;
 use std::marker::Model;
 
 /// The most entries of a node.
@@ -18,17 +18,17 @@ struct NodeState {
     level: u16,
     end: u32,
     len: usize,
-    cells: [Entry; ROOM],
+    cells: [IndexEntry; ROOM],
 }
 
 /// Entries in order of low key, with every low key from the first one on and below an end. Those of level 0 are of
 /// pages, and those of each other level of nodes of the level below.
 #[derive(Drop)]
-pub struct Node {
+pub struct IndexNode {
     state: NodeState,
 }
 
-impl Model for Node {
+impl Model for IndexNode {
     ghost use Rattle.std.specs.Prelude.{take};
     ghost use Rattle.zy_wire.specs.Nodes.{TreeNode, IsCells};
 
@@ -39,22 +39,22 @@ impl Model for Node {
     ghost invariant = { λ n. IsCells n.state.len n.state.cells };
 }
 
-impl Node {
+impl IndexNode {
     /// A node with one entry.
-    pub fn with(level: u16, end: u32, entry: Entry) -> Node
+    pub fn with(level: u16, end: u32, entry: IndexEntry) -> IndexNode
         ensures { result ≡ record { level = level; end = end; entries = entry ∷ [] } }
     {
-        Node::of(level, end, &[entry])
+        IndexNode::of(level, end, &[entry])
     }
 
     /// A node with these entries.
-    fn of(level: u16, end: u32, entries: &[Entry]) -> Node
+    fn of(level: u16, end: u32, entries: &[IndexEntry]) -> IndexNode
         requires { length entries.now ≤ 8 }
         ensures { result ≡ record { level = level; end = end; entries = entries.now } }
     {
-        let mut cells = [Entry::BLANK; ROOM];
+        let mut cells = [IndexEntry::BLANK; ROOM];
         cells[..entries.len()].copy_from_slice(entries);
-        Node {
+        IndexNode {
             state: NodeState {
                 level,
                 end,
@@ -87,7 +87,7 @@ impl Node {
     }
 
     /// The entries, in order of low key.
-    pub fn entries(&self) -> &[Entry]
+    pub fn entries(&self) -> &[IndexEntry]
         ensures value { result.now ≡ self.now.entries }
         ensures bound { length self.now.entries ≤ 8 }
     {
@@ -107,13 +107,13 @@ impl Node {
         requires rise { Rise 0 self.now.entries self.now.end }
         requires some { 1 ≤ length self.now.entries }
         requires under { front self.now.entries self.now.end ≤ key }
-        ensures { IsPlace key self.now.entries result }
+        ensures { IsEntryPlace key self.now.entries result }
     {
         place(self.entries(), key, self.state.end)
     }
 
     /// The last entry whose low key is not above `key`.
-    pub fn entry_under(&self, key: u16) -> Entry
+    pub fn entry_under(&self, key: u16) -> IndexEntry
         requires rise { Rise 0 self.now.entries self.now.end }
         requires some { 1 ≤ length self.now.entries }
         requires under { front self.now.entries self.now.end ≤ key }
@@ -127,7 +127,7 @@ impl Node {
         requires rise { Rise 0 self.now.entries self.now.end }
         requires some { 1 ≤ length self.now.entries }
         requires under { front self.now.entries self.now.end ≤ key }
-        ensures { (i : ℕ) × IsPlace key self.now.entries i × (result ≡ front (drop i self.now.entries) self.now.end) }
+        ensures { (i : ℕ) × IsEntryPlace key self.now.entries i × (result ≡ front (drop i self.now.entries) self.now.end) }
     {
         match self.entries().get(self.place(key)) {
             Some(entry) => u32::from(entry.low),
@@ -136,7 +136,7 @@ impl Node {
     }
 
     /// Puts an entry at a place, and moves those from there on up.
-    pub fn insert(&mut self, at: usize, entry: Entry)
+    pub fn insert(&mut self, at: usize, entry: IndexEntry)
         requires within { at ≤ length self.old.entries }
         requires room { length self.old.entries < 8 }
         ensures { self.new ≡ record self.old { entries = insert self.old.entries at entry } }
@@ -147,7 +147,7 @@ impl Node {
     }
 
     /// Moves the upper half of a full node's entries into a new one.
-    pub fn cut(&mut self) -> Node
+    pub fn cut(&mut self) -> IndexNode
         requires { length self.old.entries ≡ 8 }
         ensures upper { result ≡ record self.old { entries = drop 4 self.old.entries } }
         ensures lower { self.new ≡ record self.old {
@@ -155,26 +155,26 @@ impl Node {
           entries = take 4 self.old.entries;
         } }
     {
-        let upper = Node::of(self.state.level, self.state.end, &self.entries()[HALF..]);
+        let upper = IndexNode::of(self.state.level, self.state.end, &self.entries()[HALF..]);
         self.state.end = u32::from(self.state.cells[HALF].low);
         self.state.len = HALF;
         upper
     }
 
     /// The same node again.
-    pub fn copy(&self) -> Node
+    pub fn copy(&self) -> IndexNode
         ensures { result ≡ self.now }
     {
-        Node { state: self.state }
+        IndexNode { state: self.state }
     }
 }
 
 /// How many low keys are not above `key`, as the first is not.
-fn place(entries: &[Entry], key: u16, end: u32) -> usize
+fn place(entries: &[IndexEntry], key: u16, end: u32) -> usize
     requires rise { Rise 0 entries.now end }
     requires some { 1 ≤ length entries.now }
     requires under { front entries.now end ≤ key }
-    ensures { IsPlace key entries.now result }
+    ensures { IsEntryPlace key entries.now result }
 {
     for i in 1..entries.len() {
         if key < entries[i].low {

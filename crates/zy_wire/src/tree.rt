@@ -2,12 +2,12 @@
 ghost use Rattle.std.specs.Prelude.{◌≡◌, ℕ, ◌+◌, ◌^◌, ◌<◌, ◌≤◌, ◌∷◌, ◌++◌, [], IfOk, OnOk, OnErr, IsOk, IfSome};
 ghost use Rattle.std.specs.Prelude.{List, ◌≢◌, length};
 ghost use Rattle.std.specs.List.{All};
-ghost use Rattle.zy_wire.specs.declared.entry.Entry.{Entry};
+ghost use Rattle.zy_wire.specs.declared.entry.IndexEntry.{IndexEntry};
 ghost use Rattle.zy_wire.specs.Nodes.{node, lower_half, upper_half, LeadsTo, IsAt, LeafAt, Fits, key_end};
 ghost use Rattle.zy_wire.specs.Pages.{Holds};
 
-use crate::entry::Entry;
-use crate::node::Node;
+use crate::entry::IndexEntry;
+use crate::node::IndexNode;
 use crate::node_id::NodeId;
 use std::alloc::{AllocError, Global};
 use std::marker::Model;
@@ -18,7 +18,7 @@ pub const END: u32 = 65536;
 /// A tree of nodes. Each key is one of exactly one node of each level, from the root down to level 0.
 #[derive(Drop)]
 pub struct Tree {
-    nodes: Vec<Node>,
+    nodes: Vec<IndexNode>,
     root: NodeId,
     top: u16,
 }
@@ -42,13 +42,13 @@ impl Model for Tree {
 
 impl Tree {
     /// One node with one entry, which begins at key 0.
-    pub fn new(alloc: Global, entry: Entry) -> Result<Tree, AllocError>
+    pub fn new(alloc: Global, entry: IndexEntry) -> Result<Tree, AllocError>
         requires { entry.low ≡ 0 }
         ensures nodes { IfOk result (λ t. t.nodes ≡ record { level = 0; end = key_end; entries = entry ∷ [] } ∷ []) }
         ensures top { IfOk result (λ t. t.top ≡ 0) }
     {
         let mut nodes = Vec::with_capacity(alloc, 1)?;
-        nodes.push_reserved(Node::with(0, END, entry));
+        nodes.push_reserved(IndexNode::with(0, END, entry));
         Ok(Tree {
             nodes,
             root: NodeId(0),
@@ -77,7 +77,7 @@ impl Tree {
     }
 
     /// The node with a number.
-    fn node(&self, id: NodeId) -> &Node
+    fn node(&self, id: NodeId) -> &IndexNode
         requires { id.0 < length self.now.nodes }
         ensures value { result.now ≡ node self.now.nodes id.0 }
         ensures fits { Fits self.now.nodes result.now }
@@ -109,7 +109,7 @@ impl Tree {
     }
 
     /// The node of level 0 that has a key.
-    pub fn leaf(&self, key: u16) -> &Node
+    pub fn leaf(&self, key: u16) -> &IndexNode
         ensures { LeafAt self.now.nodes key result.now }
     {
         self.node(self.leaf_id(key))
@@ -150,8 +150,8 @@ impl Tree {
     {
         let id = NodeId(self.nodes.len() as u32);
         let level = self.top + 1;
-        let entry = Entry::of_node(0, self.root);
-        self.nodes.push_reserved(Node::with(level, END, entry));
+        let entry = IndexEntry::of_node(0, self.root);
+        self.nodes.push_reserved(IndexNode::with(level, END, entry));
         self.root = id;
         self.top = level;
         id
@@ -199,7 +199,7 @@ impl Tree {
         let upper = self.nodes[child.index()].cut();
         let low = upper.low();
         self.nodes.push_reserved(upper);
-        self.nodes[parent.index()].insert(at, Entry::of_node(low, id));
+        self.nodes[parent.index()].insert(at, IndexEntry::of_node(low, id));
         id
     }
 
@@ -252,11 +252,11 @@ impl Tree {
     }
 
     /// Puts an entry into a node of level 0.
-    pub fn put(&mut self, id: NodeId, entry: Entry)
+    pub fn put(&mut self, id: NodeId, entry: IndexEntry)
         requires at { IsAt self.old.nodes id.0 entry.low }
         requires leaf { (node self.old.nodes id.0).level ≡ 0 }
         requires few { length (node self.old.nodes id.0).entries < 8 }
-        requires fresh { All (λ (e : Entry). e.low ≢ entry.low) (node self.old.nodes id.0).entries }
+        requires fresh { All (λ (e : IndexEntry). e.low ≢ entry.low) (node self.old.nodes id.0).entries }
         ensures top { self.new.top ≡ self.old.top }
         ensures nodes { length self.new.nodes ≡ length self.old.nodes }
         ensures holds { (lows : List ℕ) → Holds lows self.old.nodes → entry.to ≡ length lows

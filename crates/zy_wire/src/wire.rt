@@ -1,11 +1,11 @@
 //! The wireframe of a node.
 ghost use Rattle.std.specs.Prelude.{◌≡◌, ◌==◌, ◌↔◌, ◌+◌, ◌^◌, ◌<◌, ◌≤◌, ◌++◌, ◌∷◌, [], OnOk, OnErr, IfOk, IfSome, IsOk};
 ghost use Rattle.std.specs.Prelude.{Err, Contains, ℕ, length, slice_index};
-ghost use Rattle.zy_model.specs.Wireframe.{IsGreatest, IsNext, IsAfter};
+ghost use Rattle.zy_model.specs.Wireframe.{IsGreatest, IsNextLow, IsAfter};
 ghost use Rattle.zy_model.specs.Wireframe as spec;
 ghost use Rattle.zy_wire.specs.Ranges.{in_range};
 
-use crate::entry::Entry;
+use crate::entry::IndexEntry;
 use crate::key_range::KeyRange;
 use crate::tree::{END, Tree};
 use std::alloc::{AllocError, Global};
@@ -68,7 +68,7 @@ impl Wire {
     {
         let mut lows = Vec::with_capacity(alloc, 1)?;
         lows.push_reserved(0);
-        let tree = Tree::new(alloc, Entry::of_page(0, 0))?;
+        let tree = Tree::new(alloc, IndexEntry::of_page(0, 0))?;
         Ok(Wire { lows, tree, pages })
     }
 
@@ -128,7 +128,7 @@ impl Wire {
 
     /// The least low key above `key`, if there is one.
     fn end_of(&self, key: u16) -> Option<u16>
-        ensures { IsNext self.now.lows key result }
+        ensures { IsNextLow self.now.lows key result }
     {
         let end = self.tree.leaf(key).end_of(key);
         if end < END { Some(end as u16) } else { None }
@@ -212,7 +212,7 @@ impl Wire {
     {
         let page = self.len() as u16;
         let leaf = self.tree.make_way(low);
-        self.tree.put(leaf, Entry::of_page(low, page));
+        self.tree.put(leaf, IndexEntry::of_page(low, page));
         self.lows.push_reserved(low);
     }
 

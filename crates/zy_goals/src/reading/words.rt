@@ -5,8 +5,7 @@ ghost use Rattle.zy_goals.specs.Vocabulary as spec;
 use crate::goal::{Comparison, Fact, PagePlace, Reason, Selector, StateFact, TxnProperty};
 use crate::outcomes::OutcomeKind;
 use zy_isa::Node;
-use zy_model::Kind;
-use zy_model::NodeMode;
+use zy_model::{Kind, NodeMode};
 use zy_text::names::is;
 
 /// What a word stands for in a table, if it is there.

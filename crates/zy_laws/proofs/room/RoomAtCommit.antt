@@ -9,7 +9,7 @@ use Rattle.zy_isa.specs.declared.node.Node.{Node}
 use Rattle.zy_isa.specs.declared.node.Node.TheVariants.{A, B}
 use Rattle.zy_isa.specs.declared.row.Row.{Row}
 use Rattle.zy_table.specs.Change.{txn_at}
-use Rattle.zy_laws.specs.Counts.{Fits}
+use Rattle.zy_laws.specs.Counts.{HasRoomAtCommit}
 use Rattle.zy_table.specs.Database.{sent_leaves}
 use Rattle.zy_table.specs.Pages.{rows_of}
 use Rattle.zy_table.specs.Play.{move, opening, opening_leaves, opening_pages, play, side_of, step}
@@ -115,7 +115,7 @@ opening_fit sc l =
     }
 
 -- the law: who runs finds room at its commit
-pub fits : (sc : Scenario) → IsScenario sc → (cs : List Choice) → Fits sc (play sc (opening sc) cs)
+pub fits : (sc : Scenario) → IsScenario sc → (cs : List Choice) → HasRoomAtCommit sc (play sc (opening sc) cs)
 fits sc l cs n t p at own =
     let s = play sc (opening sc) cs in
     let a = play-keeps-with sc Tidy (Filled sc) (step_tidy sc) (step_fit sc l.cap_least) cs (opening sc) (opening_tidy sc l) (opening_fit sc l) in

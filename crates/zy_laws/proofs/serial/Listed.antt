@@ -9,7 +9,7 @@ use Rattle.zy_isa.specs.declared.node.Node.TheVariants.{A, B}
 use Rattle.zy_table.specs.Change.{aborted, asks, begun, committed, cut, did, leaves, locked, shares, txn_at}
 use Rattle.zy_table.specs.Client.{is_active}
 use Rattle.zy_table.specs.Play.{move, opening, play, side_of, step}
-use Rattle.zy_table.specs.Serial.{Listed, is_committed, times_listed}
+use Rattle.zy_table.specs.Serial.{CommitsListed, is_committed, times_listed}
 use Rattle.zy_table.specs.declared.entry.CommitRecord.{CommitRecord}
 use Rattle.zy_table.specs.State.{State, Txn, View, facing, seen_from}
 use Rattle.zy_laws.proofs.walk.Events.{Aborts, Begins, Commits, Event, Gets}
@@ -86,17 +86,17 @@ told sc n v w u (Commits t runs whole e) = told_commit v w t u _ _ (ap txns_of e
 told sc n v w u e = let q = quiet_of e refl in told_same v w u q.txns q.commits
 
 -- what holds of a state holds of the view from either node
-told_from : (n : Node) (s : State) (t : ℕ) → Listed s → Told (facing n s) t
+told_from : (n : Node) (s : State) (t : ℕ) → CommitsListed s → Told (facing n s) t
 told_from A s t h = h t ∙ sym (ap counts (at_side A s t))
 told_from B s t h = h t ∙ sym (ap counts (at_side B s t))
 
 -- what holds of a view holds of its state
-told_to : (n : Node) (w : View) → ((t : ℕ) → Told w t) → Listed (seen_from n w)
+told_to : (n : Node) (w : View) → ((t : ℕ) → Told w t) → CommitsListed (seen_from n w)
 told_to A w h = λ t. h t ∙ sym (ap counts (at_back A w t))
 told_to B w h = λ t. h t ∙ sym (ap counts (at_back B w t))
 
 -- a step keeps it
-step_listed : (sc : Scenario) (c : Choice) (s : State) → Listed s → Listed (step sc c s).after
+step_listed : (sc : Scenario) (c : Choice) (s : State) → CommitsListed s → CommitsListed (step sc c s).after
 unfolding step
 step_listed sc c s h =
     let n = side_of sc c s in
@@ -105,10 +105,10 @@ step_listed sc c s h =
     told_to n w (λ t. told sc n v w t (step_happens sc c s).event (told_from n s t h))
 
 -- it holds at the opening
-opening_listed : (sc : Scenario) → Listed (opening sc)
+opening_listed : (sc : Scenario) → CommitsListed (opening sc)
 unfolding opening
 opening_listed sc = λ t. sym (ap counts (blank_at sc.programs t))
 
 -- in every state that is reached
-pub listed : (sc : Scenario) (cs : List Choice) → Listed (play sc (opening sc) cs)
-listed sc cs = play-keeps sc Listed (step_listed sc) cs (opening sc) (opening_listed sc)
+pub listed : (sc : Scenario) (cs : List Choice) → CommitsListed (play sc (opening sc) cs)
+listed sc cs = play-keeps sc CommitsListed (step_listed sc) cs (opening sc) (opening_listed sc)

@@ -17,7 +17,7 @@ use Rattle.zy_table.specs.declared.status.Status.TheVariants.{New, Active, Commi
 use Rattle.zy_table.specs.Database.{Map, database}
 use Rattle.zy_table.specs.Play.{move, opening, play, side_of, step}
 use Rattle.zy_table.specs.Run.{program_of}
-use Rattle.zy_table.specs.Serial.{Listed, Registers, alone, is_committed, times_listed}
+use Rattle.zy_table.specs.Serial.{CommitsListed, Registers, alone, is_committed, times_listed}
 use Rattle.zy_table.specs.State.{State, Txn, View, facing, seen_from}
 use Rattle.std.proofs.lemmas.List.{take-append-drop}
 use Rattle.std.specs.Prelude.{drop, take}
@@ -237,12 +237,12 @@ ahead sc l cs more =
     }
 
 -- a committed transaction is in the commit list once
-listed_once : (s : State) → Listed s → (t : ℕ) → is_committed (txn_at (facing A s) t).status ≡ true → times_listed t s.commits ≡ 1
+listed_once : (s : State) → CommitsListed s → (t : ℕ) → is_committed (txn_at (facing A s) t).status ≡ true → times_listed t s.commits ≡ 1
 unfolding txn_at
 listed_once s h t ended = h t ∙ ap (λ b. if b then 1 else 0) ended
 
 -- whoever is committed stands before those that are new
-stands : (f : ℕ → Txn) (s : State) (order : List CommitRecord) (t u : ℕ) → Ahead f s order → Listed s → IsPermutation s.commits order
+stands : (f : ℕ → Txn) (s : State) (order : List CommitRecord) (t u : ℕ) → Ahead f s order → CommitsListed s → IsPermutation s.commits order
     → is_committed (f t).status ≡ true → is_new (f u).status ≡ true → place t order < place u order
 stands f s order t u h all same ended new =
     let p = h.parts in

@@ -1,9 +1,8 @@
 //! Every pair of mode and kind, and every pair of modes, against tables written by hand.
 use std::process::Abort;
 use zy_isa::{Node, Version};
-use zy_model::Kind;
 use zy_model::table::{home_of, on_finish, on_message, on_start};
-use zy_model::{FinishLine, MessageLine, NodeMode};
+use zy_model::{FinishLine, Kind, MessageLine, NodeMode};
 
 const MODES: [NodeMode; 8] = [
     NodeMode::Empty,

@@ -1,5 +1,5 @@
 -- What the listing left in the sink is the verdict.
-use Rattle.zy_audit.specs.Run.{listing_run}
+use Rattle.zy_listing.specs.Run.{listing_run}
 use Rattle.zy_check.proofs.JudgeLemmas.{judged_whole, judged_prefix}
 use Rattle.zy_check.proofs.check.compare.Goals as goal
 

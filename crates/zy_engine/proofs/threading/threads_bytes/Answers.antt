@@ -2,7 +2,7 @@
 use Rattle.std.proofs.Common.{Ok, Err}
 use Rattle.std.proofs.lemmas.Result.{err_from_is_err_and}
 use Rattle.zy_isa.specs.Scenario.{Scenario}
-use Rattle.zy_audit.specs.Run.{listing_run}
+use Rattle.zy_listing.specs.Run.{listing_run}
 use Rattle.zy_threads.specs.Orders.{reordered}
 use Rattle.zy_threads.specs.Turns.{IsMerge}
 use Rattle.zy_engine.specs.Engines.{streams}

@@ -3,7 +3,7 @@ use Rattle.std.proofs.lemmas.Result.{err_from_is_err_and}
 use Rattle.zy_io.specs.Writing.{Wrote}
 use Rattle.zy_isa.specs.Scenario.{Scenario}
 use Rattle.zy_machine.specs.Histories.{choices_of}
-use Rattle.zy_audit.specs.Run.{listing_run}
+use Rattle.zy_listing.specs.Run.{listing_run}
 use Rattle.zy_threads.specs.Orders.{reordered}
 use Rattle.zy_engine.proofs.MergeLemmas.{listing-again}
 use Rattle.zy_engine.proofs.threading.write_threads.Goals as goal

@@ -1,6 +1,6 @@
 -- Behind the common front the rests say what the lists say.
 use Rattle.std.proofs.Common.{◌∙◌, ap, sym}
-use Rattle.zy_audit.specs.Locked.{locks_on}
+use Rattle.zy_listing.specs.Locked.{locks_on}
 use Rattle.zy_trace.proofs.KeptLemmas.{rests_say, rest_whole}
 use Rattle.zy_trace.proofs.kept.rests_at.Goals as goal
 

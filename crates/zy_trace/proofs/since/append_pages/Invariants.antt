@@ -1,6 +1,6 @@
 -- The lines of the pages before this one have been shown.
 use Rattle.std.proofs.Common.{◌≡◌, ◌++◌, map}
-use Rattle.zy_audit.specs.Listing.{below}
+use Rattle.zy_listing.specs.Listing.{below}
 use Rattle.zy_trace.specs.declared.subject.Subject.TheVariants.{Page}
 use Rattle.zy_trace.specs.Subjects.{shown_texts}
 use Rattle.zy_trace.proofs.since.append_pages.Given as goal

@@ -2,7 +2,7 @@
 use Rattle.std.proofs.Common.{[], ◌∷◌, length, map}
 use Rattle.zy_isa.specs.declared.node.Node.TheVariants.{A, B}
 use Rattle.zy_table.specs.Database.{newest}
-use Rattle.zy_audit.specs.Listing.{below}
+use Rattle.zy_listing.specs.Listing.{below}
 use Rattle.zy_trace.specs.declared.subject.Subject.TheVariants.{Mode, Page, Link, Txn}
 use Rattle.zy_trace.specs.Subjects.{shown_text}
 use Rattle.zy_trace.proofs.TraceLemmas.{four_parts, two_subjects}

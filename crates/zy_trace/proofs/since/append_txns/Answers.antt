@@ -2,7 +2,7 @@
 use Rattle.std.proofs.Common.{◌∙◌, ◌++◌, ap, sym, append_assoc}
 use Rattle.zy_trace.specs.declared.subject.Subject.TheVariants.{Txn}
 use Rattle.zy_trace.specs.Subjects.{shown_text, shown_texts}
-use Rattle.zy_audit.specs.Listing.{below}
+use Rattle.zy_listing.specs.Listing.{below}
 use Rattle.std.proofs.Common.{map}
 use Rattle.zy_trace.proofs.TraceLemmas.{shown_more}
 use Rattle.zy_trace.proofs.since.append_txns.Goals as goal

@@ -1,7 +1,7 @@
 -- The lines that are shown are those that have changed.
 use Rattle.std.proofs.Common.{◌∙◌, ◌++◌, ap₂, false}
 use Rattle.zy_io.specs.Writing.{line_of}
-use Rattle.zy_audit.specs.Texts.{step_text}
+use Rattle.zy_listing.specs.Texts.{step_text}
 use Rattle.zy_trace.specs.Subjects.{lines_of_subject, subjects}
 use Rattle.zy_trace.proofs.TraceLemmas.{lines_each}
 use Rattle.zy_trace.proofs.step.append_changed.Goals as goal

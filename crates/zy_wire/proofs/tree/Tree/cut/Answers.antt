@@ -1,5 +1,5 @@
 use Rattle.std.proofs.Common.{ap, ◌∙◌, length-drop, arith, rules}
-use Rattle.zy_wire.specs.declared.entry.Entry.{Entry}
+use Rattle.zy_wire.specs.declared.entry.IndexEntry.{IndexEntry}
 use Rattle.zy_wire.proofs.Cut.{Ready, full_of, child_there, child_full, Written, Writes, Cut-made, IsTree-cut, Holds-cut}
 use Rattle.zy_wire.proofs.tree.Tree.cut.Goals as goal
 
@@ -53,8 +53,8 @@ invariant_of-self c =
       lower = c.cut-upper.ensures.lower;
       upper = c.cut-upper.ensures.upper;
       push = c.push_reserved.ensures.items;
-      low = ap (λ (e : Entry). e.low) c.of_node.ensures ∙ c.low-low.ensures;
-      to = ap (λ (e : Entry). e.to) c.of_node.ensures ∙ (c.len.ensures ∙ c.self.inside.nodes.ok.0);
+      low = ap (λ (e : IndexEntry). e.low) c.of_node.ensures ∙ c.low-low.ensures;
+      to = ap (λ (e : IndexEntry). e.to) c.of_node.ensures ∙ (c.len.ensures ∙ c.self.inside.nodes.ok.0);
       read_p = c.index_mut-2.ensures.value;
       wide = c.insert.ensures;
     } in
@@ -86,8 +86,8 @@ returns c =
       lower = c.cut-upper.ensures.lower;
       upper = c.cut-upper.ensures.upper;
       push = c.push_reserved.ensures.items;
-      low = ap (λ (e : Entry). e.low) c.of_node.ensures ∙ c.low-low.ensures;
-      to = ap (λ (e : Entry). e.to) c.of_node.ensures ∙ (c.len.ensures ∙ c.self.inside.nodes.ok.0);
+      low = ap (λ (e : IndexEntry). e.low) c.of_node.ensures ∙ c.low-low.ensures;
+      to = ap (λ (e : IndexEntry). e.to) c.of_node.ensures ∙ (c.len.ensures ∙ c.self.inside.nodes.ok.0);
       read_p = c.index_mut-2.ensures.value;
       wide = c.insert.ensures;
     } in

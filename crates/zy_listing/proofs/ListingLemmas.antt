@@ -1,0 +1,60 @@
+-- The places of the lines, and the whole listing.
+use Rattle.std.proofs.Common.{◌≡◌, ◌∙◌, ℕ, zero, suc, ◌+◌, ◌<◌, List, [], ◌∷◌, ◌++◌, refl, sym, ap, subst, arith, length, get_or, map, Bool}
+use Rattle.std.specs.List.{flat_map}
+use Rattle.zy_text.specs.Canon.{canon}
+use Rattle.zy_io.specs.Writing.{line_of}
+use Rattle.zy_disasm.specs.Lines.{head_texts, end_texts}
+use Rattle.zy_disasm.proofs.CanonLemmas.{canon-before}
+use Rattle.zy_table.specs.Play.{entries, opening}
+use Rattle.zy_table.specs.declared.entry.Entry.{Entry}
+use Rattle.zy_text.specs.Canon.{choice_text}
+use Rattle.zy_machine.specs.Histories.{History, IsReplay, choices_of}
+use Rattle.zy_listing.specs.Texts.{step_text}
+use Rattle.zy_listing.specs.Listing.{step_texts, ending_texts, listing}
+
+-- there are as many lines of steps as entries
+pub length-steps : (i : ℕ) (es : List Entry) → length (step_texts i es) ≡ length es
+length-steps i [] = refl
+length-steps i (e ∷ es) = ap (λ n. suc n) (length-steps (i + 1) es)
+
+-- the line of one step
+pub steps-at : (i k : ℕ) (d : Entry) (es : List Entry) → k < length es → get_or (step_texts i es) k [] ≡ step_text (i + k) (get_or es k d)
+steps-at i k d [] h = absurd (omega arith)
+steps-at i zero d (e ∷ es) h = ap (λ n. step_text n e) (omega arith)
+steps-at i (suc k) d (e ∷ es) h = steps-at (i + 1) k d es (omega arith) ∙ ap (λ n. step_text n (get_or es k d)) (omega arith)
+
+-- the line of one choice that was made
+pub taken-at : (k : ℕ) (d : Entry) (es : List Entry) → k < length es → get_or (map choice_text (choices_of es)) k [] ≡ choice_text (get_or es k d).choice
+taken-at k d [] h = absurd (omega arith)
+taken-at zero d (e ∷ es) h = refl
+taken-at (suc k) d (e ∷ es) h = taken-at k d es (omega arith)
+
+-- there are as many lines of choices that were made as entries
+pub length-taken : (es : List Entry) → length (map choice_text (choices_of es)) ≡ length es
+length-taken [] = refl
+length-taken (e ∷ es) = ap (λ n. suc n) (length-taken es)
+
+-- what holds of the line at a place of the list holds of its step
+pub step-line : (P : List ℕ → Type 0) (k : ℕ) (d : Entry) (es : List Entry) → k < length (step_texts 1 es) → P (step_text (k + 1) (get_or es k d))
+    → P (get_or (step_texts 1 es) k [])
+step-line P k d es h told =
+    let lt : k < length es = omega (arith, h, length-steps 1 es) in
+    subst P (sym (steps-at 1 k d es lt ∙ ap (λ n. step_text n (get_or es k d)) (omega arith))) told
+
+-- the same of a choice
+pub taken-line : (P : List ℕ → Type 0) (k : ℕ) (d : Entry) (es : List Entry) → k < length (map choice_text (choices_of es))
+    → P (choice_text (get_or es k d).choice) → P (get_or (map choice_text (choices_of es)) k [])
+taken-line P k d es h told =
+    let lt : k < length es = omega (arith, h, length-taken es) in subst P (sym (taken-at k d es lt)) told
+
+-- the lines that are written are the listing of the replay
+pub listing-lines : (h : History) (same : Bool) → IsReplay h
+    → flat_map line_of (head_texts h.scenario ++ (map choice_text (choices_of h.entries) ++ (end_texts ++ ending_texts h.entries h.state same)))
+    ≡ listing h.scenario (choices_of h.entries) same
+unfolding listing
+listing-lines h same r =
+    let sc = h.scenario in
+    let cs = choices_of h.entries in
+    canon-before (record sc { choices = cs }) (ending_texts h.entries h.state same)
+    ∙ ap (λ es. canon (record sc { choices = cs }) ++ flat_map line_of (ending_texts es h.state same)) r.entries
+    ∙ ap (λ s. canon (record sc { choices = cs }) ++ flat_map line_of (ending_texts (entries sc (opening sc) cs) s same)) r.state

@@ -1,0 +1,102 @@
+//! The words of the machine's plain types.
+ghost use Rattle.zy_listing.specs.Texts.{kind_text, link_word, mode_word, place_text, why_text};
+
+use std::alloc::AllocError;
+use zy_io::{Decimal, Line, LineBuffer, joined};
+use zy_isa::Node;
+use zy_model::{Kind, NodeMode};
+use zy_table::{Place, Why};
+use zy_text::Canonical;
+
+/// Why a transaction was aborted.
+#[derive(Clone, Copy)]
+pub(crate) struct WhyText(pub Why);
+
+impl Line for WhyText {
+    ghost text = { λ w. why_text w.0 };
+
+    fn append(&self, line: &mut LineBuffer) -> Result<(), AllocError> {
+        match self.0 {
+            Why::Own => "own".append(line),
+            Why::Killed => "killed".append(line),
+            Why::BadKey => "badkey".append(line),
+            Why::Missing => "missing".append(line),
+            Why::Duplicate => "duplicate".append(line),
+            Why::Frozen(page) => joined!("frozen ", Decimal(page)).append(line),
+            Why::NoPage => "nopage".append(line),
+            Why::Gone(page) => joined!("gone ", Decimal(page)).append(line),
+        }
+    }
+}
+
+/// A kind of message.
+#[derive(Clone, Copy)]
+pub(crate) struct KindText(pub Kind);
+
+impl Line for KindText {
+    ghost text = { λ k. kind_text k.0 };
+
+    fn append(&self, line: &mut LineBuffer) -> Result<(), AllocError> {
+        match self.0 {
+            Kind::Wire => "wire".append(line),
+            Kind::Ready => "ready".append(line),
+            Kind::Dual => "dual".append(line),
+            Kind::Pull => "pull".append(line),
+            Kind::Page => "page".append(line),
+            Kind::Finish => "finish".append(line),
+            Kind::Done => "done".append(line),
+        }
+    }
+}
+
+/// A node's mode.
+#[derive(Clone, Copy)]
+pub struct ModeText(pub NodeMode);
+
+impl Line for ModeText {
+    ghost text = { λ m. mode_word m.0 };
+
+    fn append(&self, line: &mut LineBuffer) -> Result<(), AllocError> {
+        match self.0 {
+            NodeMode::Empty => "empty".append(line),
+            NodeMode::Normal => "normal".append(line),
+            NodeMode::SInit => "sinit".append(line),
+            NodeMode::SDual => "sdual".append(line),
+            NodeMode::SFinish => "sfinish".append(line),
+            NodeMode::DInit => "dinit".append(line),
+            NodeMode::DDual => "ddual".append(line),
+            NodeMode::DFinish => "dfinish".append(line),
+        }
+    }
+}
+
+/// The name of the link from a node.
+#[derive(Clone, Copy)]
+pub(crate) struct LinkText(pub Node);
+
+impl Line for LinkText {
+    ghost text = { λ l. link_word l.0 };
+
+    fn append(&self, line: &mut LineBuffer) -> Result<(), AllocError> {
+        match self.0 {
+            Node::A => "AB".append(line),
+            Node::B => "BA".append(line),
+        }
+    }
+}
+
+/// Where a page is.
+#[derive(Clone, Copy)]
+pub(crate) struct PlaceText(pub Place);
+
+impl Line for PlaceText {
+    ghost text = { λ p. place_text p.0 };
+
+    fn append(&self, line: &mut LineBuffer) -> Result<(), AllocError> {
+        match self.0 {
+            Place::Nowhere => "nowhere".append(line),
+            Place::At(node) => Canonical(node).append(line),
+            Place::Moving(node) => LinkText(node).append(line),
+        }
+    }
+}

@@ -1,0 +1,57 @@
+//! The whole listing.
+ghost use Rattle.std.specs.Prelude.{◌<◌};
+ghost use Rattle.zy_io.specs.Writing.{Wrote};
+ghost use Rattle.zy_machine.specs.Histories.{choices_of};
+ghost use Rattle.zy_listing.specs.Listing.{listing};
+ghost use Rattle.zy_listing.specs.SameMaps.{is_serial};
+
+use crate::lines::final_state::FinalState;
+use crate::lines::serial::SerialLine;
+use crate::lines::step::Steps;
+use crate::lines::taken::Taken;
+use crate::serial::same;
+use std::alloc::Global;
+use zy_disasm::Head;
+use zy_io::{AllLines, LineBuffer, One, Section, Sink, TextFault, sections};
+use zy_machine::Machine;
+
+/// Writes the listing of a machine, a line at a time; `same` is what the test against the serial run says.
+pub(crate) fn write_listing_as<K: Sink>(
+    alloc: Global,
+    machine: &Machine,
+    same: bool,
+    sink: &mut K,
+) -> Result<(), TextFault>
+    requires { K.failures sink.old < u64.MAX }
+    ensures { Wrote (K.written sink.old) (K.written sink.new) (K.failures sink.old) (K.failures sink.new) result
+        (listing machine.now.scenario (choices_of machine.now.entries) same) }
+{
+    let mut line = LineBuffer::new(alloc);
+    let entries = machine.entries();
+    sections!(
+        Head(machine.scenario()),
+        AllLines(Taken(entries)),
+        One("end"),
+        One("steps"),
+        AllLines(Steps(entries)),
+        FinalState(machine),
+        One(SerialLine(same)),
+        One("end"),
+    )
+    .write(sink, &mut line)
+}
+
+/// Writes the listing of a machine, with what the test against the serial run says.
+pub fn write_listing<K: Sink>(
+    alloc: Global,
+    machine: &Machine,
+    sink: &mut K,
+) -> Result<(), TextFault>
+    requires { K.failures sink.old < u64.MAX }
+    ensures { Wrote (K.written sink.old) (K.written sink.new) (K.failures sink.old) (K.failures sink.new) result
+        (listing machine.now.scenario (choices_of machine.now.entries)
+        (is_serial machine.now.scenario machine.now.state)) }
+{
+    let agrees = same(alloc, machine)?;
+    write_listing_as(alloc, machine, agrees, sink)
+}

@@ -1,0 +1,120 @@
+//! The engines, over bytes in memory.
+ghost use Rattle.std.specs.Prelude.{◌<◌};
+
+use crate::calls::{Calls, Found, Refused, ended, prepared, sweep, tested};
+use crate::scenarios::scenario;
+use crate::texts::{Prefix, room};
+use std::alloc::Global;
+use zy_engine::checking::check_bytes;
+use zy_engine::debugging::debug_bytes;
+use zy_engine::engine::{asm_bytes, dis_bytes, run_bytes, trace_bytes};
+use zy_engine::{Format, Wording};
+use zy_image::save::save;
+use zy_io::{SliceSource, VecSink};
+use zy_listing::run::write_run;
+use zy_ordering::OrderOptions;
+use zy_ordering::ordering::order_bytes;
+
+/// An engine, and what it reads.
+#[derive(Clone, Copy)]
+enum Engine {
+    RunText,
+    RunImage,
+    Trace,
+    Asm,
+    Dis,
+    Check,
+    Debug,
+    Order,
+}
+
+/// What an order is looked for by.
+const OPTIONS: OrderOptions = OrderOptions {
+    wording: Wording::Own,
+    most: 100,
+};
+
+/// Lets an engine work.
+fn work(
+    alloc: Global,
+    engine: Engine,
+    source: &mut SliceSource<'_>,
+    sink: &mut VecSink,
+) -> Result<(), Refused>
+    requires { sink.old.1 < u64.MAX }
+{
+    let mut input = Vec::new(alloc);
+    match engine {
+        Engine::RunText => tested(ended(run_bytes(alloc, Format::Text, source, sink, &mut input))),
+        Engine::RunImage => tested(ended(run_bytes(
+            alloc,
+            Format::Image,
+            source,
+            sink,
+            &mut input,
+        ))),
+        Engine::Trace => tested(ended(trace_bytes(alloc, Format::Text, source, sink, &mut input))),
+        Engine::Asm => tested(asm_bytes(alloc, source, sink, &mut input)),
+        Engine::Dis => tested(dis_bytes(alloc, source, sink, &mut input)),
+        Engine::Check => tested(ended(check_bytes(alloc, source, sink))),
+        Engine::Debug => tested(debug_bytes(alloc, 2, 1, source, sink, &mut input)),
+        Engine::Order => tested(ended(order_bytes(alloc, OPTIONS, source, sink, &mut input))),
+    }
+}
+
+/// An engine over an input.
+#[derive(Drop)]
+struct Working<'a> {
+    alloc: Global,
+    engine: Engine,
+    input: &'a [u8],
+    prefix: Prefix<VecSink>,
+}
+
+impl Calls for Working<'_> {
+    fn call(&mut self, _place: usize) -> Result<u64, Refused> {
+        let mut sink = VecSink::new(room(self.alloc)?);
+        let mut source = SliceSource::new(self.input);
+        let outcome = work(self.alloc, self.engine, &mut source, &mut sink);
+        self.prefix.answer(sink, outcome)
+    }
+}
+
+fn sweep_engine(alloc: Global, engine: Engine, input: &[u8]) -> Found {
+    let prefix = Prefix::new(VecSink::new(Vec::new(alloc)));
+    sweep(&mut Working {
+        alloc,
+        engine,
+        input,
+        prefix,
+    })
+}
+
+/// The engines that read an image: that of the input.
+fn sweep_image(alloc: Global, engine: Engine, input: &[u8]) -> Result<Found, Refused> {
+    let image = prepared(save(alloc, &scenario(alloc, input)?))?;
+    Ok(sweep_engine(alloc, engine, image.as_slice()))
+}
+
+/// The engine that reads a listing: that of the input.
+fn sweep_listing(alloc: Global, input: &[u8]) -> Result<Found, Refused> {
+    let mut listing = VecSink::new(room(alloc)?);
+    prepared(write_run(alloc, scenario(alloc, input)?, &mut listing))?;
+    Ok(sweep_engine(alloc, Engine::Check, listing.bytes()))
+}
+
+/// The sweep of this name, over a scenario's text, if it is one of these. That of `debug_bytes` has commands below it, and
+/// that of `order_bytes` logs.
+pub fn sweep_named(name: &str, alloc: Global, input: &[u8]) -> Option<Result<Found, Refused>> {
+    match name {
+        "run_bytes" => Some(Ok(sweep_engine(alloc, Engine::RunText, input))),
+        "run_image_bytes" => Some(sweep_image(alloc, Engine::RunImage, input)),
+        "trace_bytes" => Some(Ok(sweep_engine(alloc, Engine::Trace, input))),
+        "asm_bytes" => Some(Ok(sweep_engine(alloc, Engine::Asm, input))),
+        "dis_bytes" => Some(sweep_image(alloc, Engine::Dis, input)),
+        "check_bytes" => Some(sweep_listing(alloc, input)),
+        "debug_bytes" => Some(Ok(sweep_engine(alloc, Engine::Debug, input))),
+        "order_bytes" => Some(Ok(sweep_engine(alloc, Engine::Order, input))),
+        _ => None,
+    }
+}

@@ -1,0 +1,307 @@
+//! Texts, listings and their lines.
+
+use crate::calls::{Calls, Found, Refused, ended, prepared, sweep, tested};
+use crate::digest::{Digest, digest_of, digest_of_bytes};
+use crate::machines::machine;
+use crate::scenarios::scenario;
+use std::alloc::Global;
+use zy_check::check::check;
+use zy_disasm::text::write_text;
+use zy_io::{LineBuffer, SliceSource, VecSink};
+use zy_isa::Node;
+use zy_listing::lines::link::link_line;
+use zy_listing::lines::page::page_line;
+use zy_listing::lines::txn::txn_line;
+use zy_listing::listing::write_listing;
+use zy_listing::run::write_run;
+use zy_listing::serial::{same, serial};
+use zy_machine::Machine;
+
+/// More bytes than a call writes.
+const ROOM: usize = 65536;
+
+/// What bytes were written to.
+pub trait Written {
+    /// The bytes.
+    fn written(&self) -> &[u8];
+}
+
+impl Written for VecSink {
+    fn written(&self) -> &[u8] {
+        self.bytes()
+    }
+}
+
+impl Written for LineBuffer {
+    fn written(&self) -> &[u8] {
+        self.as_bytes()
+    }
+}
+
+/// Memory for all that a call writes.
+pub fn room(alloc: Global) -> Result<Vec<u8>, Refused> {
+    prepared(Vec::with_capacity(alloc, ROOM))
+}
+
+/// What a call wrote before it was out of memory.
+#[derive(Drop)]
+pub struct Prefix<W> {
+    written: W,
+}
+
+impl<W: Written + Drop> Prefix<W> {
+    /// Nothing was written.
+    pub fn new(nothing: W) -> Prefix<W> {
+        Prefix { written: nothing }
+    }
+
+    /// The digest of what a call wrote. Where it is out of memory that is kept, and must be a prefix of what it writes
+    /// when it is made again.
+    pub fn answer(&mut self, written: W, outcome: Result<(), Refused>) -> Result<u64, Refused> {
+        match outcome {
+            Ok(()) => {
+                if !written.written().starts_with(self.written.written()) {
+                    return Err(Refused::Different);
+                }
+                Ok(digest_of_bytes(written.written()))
+            }
+            Err(refused) => {
+                self.written = written;
+                Err(refused)
+            }
+        }
+    }
+}
+
+/// What is written of a machine.
+#[derive(Clone, Copy)]
+enum Text {
+    /// `zy_disasm::text::write_text` of its scenario.
+    Canonical,
+    /// `zy_listing::listing::write_listing`.
+    Listing,
+}
+
+/// Writes of a machine what `text` says, to a new writer for each call.
+#[derive(Drop)]
+struct Writing {
+    alloc: Global,
+    machine: Machine,
+    text: Text,
+    prefix: Prefix<VecSink>,
+}
+
+impl Calls for Writing {
+    fn call(&mut self, _place: usize) -> Result<u64, Refused> {
+        let mut sink = VecSink::new(room(self.alloc)?);
+        let outcome = match self.text {
+            Text::Canonical => tested(write_text(self.alloc, self.machine.scenario(), &mut sink)),
+            Text::Listing => tested(write_listing(self.alloc, &self.machine, &mut sink)),
+        };
+        self.prefix.answer(sink, outcome)
+    }
+
+    fn shown(&self) -> u64 {
+        digest_of(&self.machine)
+    }
+}
+
+/// `zy_listing::run::write_run` of a scenario, which is made again for each call.
+#[derive(Drop)]
+struct WritingRun<'a> {
+    alloc: Global,
+    input: &'a [u8],
+    prefix: Prefix<VecSink>,
+}
+
+impl Calls for WritingRun<'_> {
+    fn call(&mut self, _place: usize) -> Result<u64, Refused> {
+        let mut sink = VecSink::new(room(self.alloc)?);
+        let scenario = scenario(self.alloc, self.input)?;
+        let outcome = tested(ended(write_run(self.alloc, scenario, &mut sink)));
+        self.prefix.answer(sink, outcome)
+    }
+}
+
+/// Which lines are written of a machine.
+#[derive(Clone, Copy)]
+enum Kind {
+    /// `page_line` for each page.
+    Page,
+    /// `txn_line` for each transaction.
+    Txn,
+    /// `link_line` for both links.
+    Link,
+}
+
+/// Lines of a machine, each in a new buffer.
+#[derive(Drop)]
+struct Lining {
+    alloc: Global,
+    machine: Machine,
+    kind: Kind,
+    prefix: Prefix<LineBuffer>,
+}
+
+/// Appends the line of a page, if there is such a page.
+fn append_page(machine: &Machine, place: usize, line: &mut LineBuffer) -> Result<(), Refused> {
+    if place >= usize::from(machine.page_count()) || machine.page(place as u16).is_none() {
+        return Err(Refused::Fault);
+    }
+    tested(page_line(machine, place as u16, line))
+}
+
+/// Appends the line of a transaction, if there is such a transaction.
+fn append_txn(machine: &Machine, place: usize, line: &mut LineBuffer) -> Result<(), Refused> {
+    if place >= machine.txn_count() {
+        return Err(Refused::Fault);
+    }
+    tested(txn_line(machine, place as u8, line))
+}
+
+/// Appends the line of the link from A, and then of that from B.
+fn append_link(machine: &Machine, place: usize, line: &mut LineBuffer) -> Result<(), Refused> {
+    let node = if place == 0 { Node::A } else { Node::B };
+    tested(link_line(machine, node, line))
+}
+
+impl Calls for Lining {
+    fn len(&self) -> usize {
+        match self.kind {
+            Kind::Page => usize::from(self.machine.page_count()),
+            Kind::Txn => self.machine.txn_count(),
+            Kind::Link => 2,
+        }
+    }
+
+    fn call(&mut self, place: usize) -> Result<u64, Refused> {
+        let mut line = LineBuffer::new(self.alloc);
+        let outcome = match self.kind {
+            Kind::Page => append_page(&self.machine, place, &mut line),
+            Kind::Txn => append_txn(&self.machine, place, &mut line),
+            Kind::Link => append_link(&self.machine, place, &mut line),
+        };
+        let answer = self.prefix.answer(line, outcome);
+        if answer.is_ok() {
+            // The next call writes another line.
+            self.prefix = Prefix::new(LineBuffer::new(self.alloc));
+        }
+        answer
+    }
+
+    fn shown(&self) -> u64 {
+        digest_of(&self.machine)
+    }
+}
+
+/// `zy_listing::serial::serial` and `same` of a machine.
+#[derive(Drop)]
+struct Testing {
+    alloc: Global,
+    machine: Machine,
+}
+
+/// `serial`, where each commit is that of a transaction.
+fn serial_digest(alloc: Global, machine: &Machine) -> Result<u64, Refused> {
+    let count = machine.scenario().programs().len();
+    if !machine
+        .commits()
+        .iter()
+        .all(|commit| usize::from(commit.txn) < count)
+    {
+        return Err(Refused::Fault);
+    }
+    let table = tested(serial(alloc, machine.scenario(), machine.commits()))?;
+    Ok(digest_of(&table))
+}
+
+impl Calls for Testing {
+    fn len(&self) -> usize {
+        2
+    }
+
+    fn call(&mut self, place: usize) -> Result<u64, Refused> {
+        if place == 0 {
+            return serial_digest(self.alloc, &self.machine);
+        }
+        Ok(u64::from(tested(same(self.alloc, &self.machine))?))
+    }
+
+    fn shown(&self) -> u64 {
+        digest_of(&self.machine)
+    }
+}
+
+/// `zy_check::check::check` of a listing.
+#[derive(Drop)]
+struct Checking {
+    alloc: Global,
+    listing: VecSink,
+}
+
+impl Calls for Checking {
+    fn call(&mut self, _place: usize) -> Result<u64, Refused> {
+        let mut source = SliceSource::new(self.listing.bytes());
+        let verdict = tested(check(self.alloc, &mut source))?;
+        let mut digest = Digest::new();
+        digest.debug(&verdict);
+        Ok(digest.value())
+    }
+}
+
+fn sweep_writing(alloc: Global, input: &[u8], text: Text) -> Result<Found, Refused> {
+    let machine = machine(alloc, input)?;
+    let prefix = Prefix::new(VecSink::new(Vec::new(alloc)));
+    Ok(sweep(&mut Writing {
+        alloc,
+        machine,
+        text,
+        prefix,
+    }))
+}
+
+fn sweep_write_run(alloc: Global, input: &[u8]) -> Found {
+    let prefix = Prefix::new(VecSink::new(Vec::new(alloc)));
+    sweep(&mut WritingRun {
+        alloc,
+        input,
+        prefix,
+    })
+}
+
+fn sweep_lines(alloc: Global, input: &[u8], kind: Kind) -> Result<Found, Refused> {
+    let machine = machine(alloc, input)?;
+    let prefix = Prefix::new(LineBuffer::new(alloc));
+    Ok(sweep(&mut Lining {
+        alloc,
+        machine,
+        kind,
+        prefix,
+    }))
+}
+
+fn sweep_serial(alloc: Global, input: &[u8]) -> Result<Found, Refused> {
+    let machine = machine(alloc, input)?;
+    Ok(sweep(&mut Testing { alloc, machine }))
+}
+
+fn sweep_check(alloc: Global, input: &[u8]) -> Result<Found, Refused> {
+    let mut listing = VecSink::new(room(alloc)?);
+    prepared(write_run(alloc, scenario(alloc, input)?, &mut listing))?;
+    Ok(sweep(&mut Checking { alloc, listing }))
+}
+
+/// The sweep of this name, over a scenario's text, if it is one of these.
+pub fn sweep_named(name: &str, alloc: Global, input: &[u8]) -> Option<Result<Found, Refused>> {
+    match name {
+        "write_text" => Some(sweep_writing(alloc, input, Text::Canonical)),
+        "write_listing" => Some(sweep_writing(alloc, input, Text::Listing)),
+        "write_run" => Some(Ok(sweep_write_run(alloc, input))),
+        "page_line" => Some(sweep_lines(alloc, input, Kind::Page)),
+        "txn_line" => Some(sweep_lines(alloc, input, Kind::Txn)),
+        "link_line" => Some(sweep_lines(alloc, input, Kind::Link)),
+        "serial" => Some(sweep_serial(alloc, input)),
+        "check" => Some(sweep_check(alloc, input)),
+        _ => None,
+    }
+}

@@ -1,0 +1,227 @@
+//! Runs by three threads.
+ghost use Rattle.std.specs.Prelude.{◌<◌};
+
+use crate::calls::{Answers, Found, Refused, again, answered, ended, prepared, tested};
+use crate::digest::Digest;
+use crate::gates::{ACTORS, Noting, SlowB};
+use crate::machines::choices;
+use crate::scenarios::scenario;
+use crate::texts::{Prefix, room};
+use std::alloc::Global;
+use std::sync::Wait;
+use std::thread::Threads;
+use zy_check::Verdict;
+use zy_check::check::check;
+use zy_engine::engine::run_bytes;
+use zy_engine::threading::threads_bytes;
+use zy_engine::{BenchFault, Format};
+use zy_io::{SliceSource, VecSink};
+use zy_isa::{Choice, Scenario};
+use zy_listing::listing::write_listing;
+use zy_machine::Machine;
+use zy_text::cut::cut_len;
+use zy_threads::run::run_threads;
+use zy_threads::{FreeGate, Gate};
+
+/// What three threads are let do.
+#[derive(Clone, Copy)]
+enum Job {
+    /// `zy_threads::run::run_threads`, under a gate that notes its calls.
+    Run,
+    /// `zy_engine::threading::threads_bytes` over an input with the choices of one actor alone.
+    Alone,
+    /// The same over any input, under a gate that holds B up.
+    Slow,
+    /// The same, under a gate that notes its calls.
+    Noted,
+}
+
+/// Whether a listing passes `check`, and `run` of its scenario part prints it again.
+fn repeat(alloc: Global, listing: &[u8]) -> Result<(), Refused> {
+    if prepared(check(alloc, &mut SliceSource::new(listing)))? != Verdict::Table {
+        return Err(Refused::Different);
+    }
+    let (part, _) = listing.split_at(cut_len(listing));
+    let mut sink = VecSink::new(room(alloc)?);
+    let mut source = SliceSource::new(part);
+    let mut input = Vec::new(alloc);
+    prepared(run_bytes(alloc, Format::Text, &mut source, &mut sink, &mut input))?;
+    if sink.bytes() == listing {
+        Ok(())
+    } else {
+        Err(Refused::Different)
+    }
+}
+
+/// The same of a machine's listing.
+fn repeat_machine(alloc: Global, machine: &Machine) -> Result<(), Refused> {
+    let mut sink = VecSink::new(room(alloc)?);
+    prepared(write_listing(alloc, machine, &mut sink))?;
+    repeat(alloc, sink.bytes())
+}
+
+/// The choices that a machine made, actor by actor.
+fn digest_of_turns(machine: &Machine) -> u64 {
+    let mut digest = Digest::new();
+    for actor in ACTORS {
+        for entry in machine.entries() {
+            if entry.choice.actor() == actor {
+                digest.debug(&entry.choice);
+            }
+        }
+    }
+    digest.value()
+}
+
+/// The digest of a machine that three threads made under a gate, where it and the calls are as they should be.
+fn look_at(alloc: Global, machine: &Machine, gate: &Noting) -> Result<u64, Refused> {
+    if !gate.is_quiet() || !gate.is_whole(machine.scenario().choices(), machine.entries()) {
+        return Err(Refused::Different);
+    }
+    repeat_machine(alloc, machine)?;
+    Ok(digest_of_turns(machine))
+}
+
+/// The refusal of a run that was out of memory, where its gate was called as it should be.
+fn look_at_cut(gate: &Noting, choices: &[Choice]) -> Refused {
+    if gate.is_quiet() && gate.is_cut(choices) {
+        Refused::Memory
+    } else {
+        Refused::Different
+    }
+}
+
+/// Lets three threads make a machine under a gate, and looks at it.
+fn run_under<R: Threads + Wait + Sync>(
+    rt: &R,
+    alloc: Global,
+    scenario: Scenario,
+    gate: &Noting,
+) -> Result<u64, Refused> {
+    match tested(run_threads(rt, alloc, scenario, gate)) {
+        Ok(machine) => look_at(alloc, &machine, gate),
+        Err(refused) => Err(refused),
+    }
+}
+
+/// `Job::Run`.
+fn run<R: Threads + Wait + Sync>(rt: &R, alloc: Global, input: &[u8]) -> Result<u64, Refused> {
+    let choices = choices(alloc, input)?;
+    let gate = Noting::new(alloc, choices.len())?;
+    let scenario = scenario(alloc, input)?;
+    match run_under(rt, alloc, scenario, &gate) {
+        Err(Refused::Memory) => Err(look_at_cut(&gate, choices.as_slice())),
+        answer => answer,
+    }
+}
+
+/// The engine over an input, under a gate.
+fn threaded<R: Threads + Wait + Sync, G: Gate + Sync>(
+    rt: &R,
+    alloc: Global,
+    text: &[u8],
+    sink: &mut VecSink,
+    gate: &G,
+) -> Result<(), BenchFault>
+    requires { sink.old.1 < u64.MAX }
+{
+    let mut source = SliceSource::new(text);
+    let mut input = Vec::new(alloc);
+    ended(threads_bytes(rt, alloc, Format::Text, &mut source, sink, &mut input, gate))
+}
+
+/// `Job::Alone`: what it writes is always the same.
+fn alone<R: Threads + Wait + Sync>(
+    rt: &R,
+    alloc: Global,
+    input: &[u8],
+    prefix: &mut Prefix<VecSink>,
+) -> Result<u64, Refused> {
+    let mut sink = VecSink::new(room(alloc)?);
+    let outcome = tested(threaded(rt, alloc, input, &mut sink, &FreeGate));
+    prefix.answer(sink, outcome)
+}
+
+/// The engine under a gate: what it writes passes `check`, and `run` prints it again.
+fn merged<R: Threads + Wait + Sync, G: Gate + Sync>(
+    rt: &R,
+    alloc: Global,
+    input: &[u8],
+    gate: &G,
+) -> Result<(), Refused> {
+    let mut sink = VecSink::new(room(alloc)?);
+    tested(threaded(rt, alloc, input, &mut sink, gate))?;
+    repeat(alloc, sink.bytes())
+}
+
+/// `Job::Slow`.
+fn slow<R: Threads + Wait + Sync>(rt: &R, alloc: Global, input: &[u8]) -> Result<u64, Refused> {
+    let choices = choices(alloc, input)?;
+    let gate = SlowB::new();
+    merged(rt, alloc, input, &gate)?;
+    if gate.is_spent(choices.as_slice()) {
+        Ok(0)
+    } else {
+        Err(Refused::Different)
+    }
+}
+
+/// `Job::Noted`.
+fn noted<R: Threads + Wait + Sync>(rt: &R, alloc: Global, input: &[u8]) -> Result<u64, Refused> {
+    let choices = choices(alloc, input)?;
+    let gate = Noting::new(alloc, choices.len())?;
+    match merged(rt, alloc, input, &gate) {
+        Ok(()) if gate.is_quiet() && gate.is_all(choices.as_slice()) => Ok(0),
+        Ok(()) => Err(Refused::Different),
+        Err(Refused::Memory) => Err(look_at_cut(&gate, choices.as_slice())),
+        Err(refused) => Err(refused),
+    }
+}
+
+/// Does a job.
+fn work<R: Threads + Wait + Sync>(
+    rt: &R,
+    alloc: Global,
+    job: Job,
+    input: &[u8],
+    prefix: &mut Prefix<VecSink>,
+) -> Result<u64, Refused> {
+    match job {
+        Job::Run => run(rt, alloc, input),
+        Job::Alone => alone(rt, alloc, input, prefix),
+        Job::Slow => slow(rt, alloc, input),
+        Job::Noted => noted(rt, alloc, input),
+    }
+}
+
+/// Does a job, and again where it was out of memory.
+fn sweep_job<R: Threads + Wait + Sync>(rt: &R, alloc: Global, job: Job, input: &[u8]) -> Found {
+    let mut prefix = Prefix::new(VecSink::new(Vec::new(alloc)));
+    let first = work(rt, alloc, job, input, &mut prefix);
+    let is_refused = first == Err(Refused::Memory);
+    let answer = if is_refused {
+        again(work(rt, alloc, job, input, &mut prefix))
+    } else {
+        first.map_err(Found::NoAnswer)
+    };
+    match answer {
+        Ok(digest) => answered(Answers { count: 1, digest }, is_refused),
+        Err(found) => found,
+    }
+}
+
+/// The sweep of this name, over a scenario's text, if it is one of these.
+pub fn sweep_named<R: Threads + Wait + Sync>(
+    rt: &R,
+    name: &str,
+    alloc: Global,
+    input: &[u8],
+) -> Option<Result<Found, Refused>> {
+    match name {
+        "run_threads" => Some(Ok(sweep_job(rt, alloc, Job::Run, input))),
+        "threads_alone" => Some(Ok(sweep_job(rt, alloc, Job::Alone, input))),
+        "threads_slow" => Some(Ok(sweep_job(rt, alloc, Job::Slow, input))),
+        "threads_noted" => Some(Ok(sweep_job(rt, alloc, Job::Noted, input))),
+        _ => None,
+    }
+}
