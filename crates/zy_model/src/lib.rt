@@ -1,4 +1,5 @@
-//! The mode table: what a node does with a message, and when a migration starts and finishes, by the modes alone.
+//! What the step table speaks of: pages and low keys, locks, messages and modes, and the mode table: what a node
+//! does with a message, and when a migration starts and finishes, by the modes alone.
 #![tactic(auto)]
 
 pub mod kind;
