@@ -16,7 +16,7 @@ use Rattle.zy_text.specs.Words.{lines_of, words_of}
 use Rattle.zy_asm.specs.declared.faults.AsmKind.{AsmKind}
 use Rattle.zy_asm.specs.declared.faults.AsmKind.TheVariants as kinds
 use Rattle.zy_asm.specs.declared.faults.AsmFault.{AsmFault}
-use Rattle.zy_asm.specs.declared.faults.Refusal.{Refusal}
+use Rattle.zy_asm.specs.declared.faults.LineFault.{LineFault}
 use Rattle.zy_asm.specs.Reasons.{kind_of, fault_of}
 use Rattle.zy_asm.specs.declared.choices.Action.TheVariants.{Txn}
 use Rattle.zy_asm.specs.declared.reading.keyword.Keyword.{Keyword}
@@ -107,6 +107,6 @@ abbrev pub reading : List ℕ → Result Seen AsmFault
 reading text = read_lines nothing_seen 1 (lines_of text)
 
 -- the answer is what reading gives, unless there was no memory
-abbrev pub Reads : Result Reader Refusal → Result Seen AsmFault → Type 0
+abbrev pub Reads : Result Reader LineFault → Result Seen AsmFault → Type 0
 Reads (Ok x) read = read ≡ Ok (progress_of x)
 Reads (Err r) read = (kind_of r.reason ≡ kinds.Memory) ⊎ (read ≡ Err (fault_of r))

@@ -6,7 +6,7 @@ use Rattle.zy_asm.specs.declared.faults.AsmKind.TheVariants as kinds
 use Rattle.zy_asm.specs.declared.faults.AsmFault.{AsmFault}
 use Rattle.zy_asm.specs.declared.faults.Reason.{Reason}
 use Rattle.zy_asm.specs.declared.faults.Reason.TheVariants as why
-use Rattle.zy_asm.specs.declared.faults.Refusal.{Refusal}
+use Rattle.zy_asm.specs.declared.faults.LineFault.{LineFault}
 
 abbrev pub kind_of : Reason → AsmKind
 kind_of why.NotTheHeader = kinds.Header
@@ -35,7 +35,7 @@ kind_of why.BelowEnd = kinds.End
 kind_of why.NoEnd = kinds.End
 kind_of why.NoMemory = kinds.Memory
 
-abbrev pub fault_of : Refusal → AsmFault
+abbrev pub fault_of : LineFault → AsmFault
 fault_of r = record { line = r.line; kind = kind_of r.reason }
 
 -- an answer with the kind of its fault alone

@@ -8,7 +8,7 @@ ghost use Rattle.zy_asm.specs.Input.{utf8_fault, input_fault};
 ghost use Rattle.zy_asm.specs.Reasons.{fault_of};
 ghost use Rattle.zy_asm.specs.Assembling.{GivesScenario};
 
-use crate::faults::{AsmKind, Refusal};
+use crate::faults::{AsmKind, LineFault};
 use crate::reading::read;
 use crate::state::Reader;
 use crate::text::text_of;
@@ -16,7 +16,7 @@ use std::alloc::Global;
 use zy_isa::Scenario;
 
 /// The scenario that a text means. It takes memory for what the scenario has, and for names and labels.
-pub fn assemble(alloc: Global, text: &str) -> Result<Scenario, Refusal>
+pub fn assemble(alloc: Global, text: &str) -> Result<Scenario, LineFault>
     // What is read is meant.
     ensures found { IfOk result (λ s. Means text.now s) }
     // What is meant is read, unless there is no memory.
@@ -47,7 +47,7 @@ pub fn assemble(alloc: Global, text: &str) -> Result<Scenario, Refusal>
 }
 
 /// The scenario that bytes mean, where they are UTF-8.
-pub fn assemble_bytes(alloc: Global, bytes: &[u8]) -> Result<Scenario, Refusal>
+pub fn assemble_bytes(alloc: Global, bytes: &[u8]) -> Result<Scenario, LineFault>
     // What is read is meant, and the bytes have no fault.
     ensures found { IfOk result (λ s. Means bytes.now s × (input_fault bytes.now ≡ None)) }
     // What is meant is read, unless there is no memory.

@@ -11,7 +11,7 @@ ghost use Rattle.zy_asm.specs.Choices as spec;
 use crate::faults::{AsmKind, Reason};
 use crate::name_table::NameTable;
 use crate::numbers::number_in;
-use crate::shown::Shown;
+use crate::shown::WordStart;
 use zy_isa::{Actor, Choice, MAX_CHOICES, Node};
 use zy_text::names::{is, is_name, is_numeral};
 use zy_text::numbers::number_of;
@@ -114,7 +114,7 @@ fn numbered(count: usize, word: &[u8]) -> Result<u8, Reason>
     ensures { by_kind result ≡ spec.numbered count word.now }
 {
     let Some(number) = number_of(word) else {
-        return Err(Reason::NotDigits(Shown::of(word)));
+        return Err(Reason::NotDigits(WordStart::of(word)));
     };
     if number < count as u64 {
         Ok(number as u8)
@@ -132,11 +132,11 @@ pub fn transaction(count: usize, names: &NameTable, word: &[u8]) -> Result<u8, R
         return numbered(count, word);
     }
     if !is_name(word) {
-        return Err(Reason::NotAName(Shown::of(word)));
+        return Err(Reason::NotAName(WordStart::of(word)));
     }
     match names.find(word) {
         Some(number) => Ok(number),
-        None => Err(Reason::NoName(Shown::of(word))),
+        None => Err(Reason::NoName(WordStart::of(word))),
     }
 }
 
@@ -187,7 +187,7 @@ pub fn not_times(words: &[&[u8]]) -> Reason
     ensures { kind_of result ≡ AsmKind.Word }
 {
     match words {
-        [word, _] => Reason::NotKnown(Shown::of(word)),
+        [word, _] => Reason::NotKnown(WordStart::of(word)),
         _ => Reason::WordCount,
     }
 }

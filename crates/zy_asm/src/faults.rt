@@ -2,7 +2,7 @@
 ghost use Rattle.std.specs.Prelude.{◌≡◌};
 ghost use Rattle.zy_asm.specs.Reasons.{kind_of, fault_of};
 
-use crate::shown::Shown;
+use crate::shown::WordStart;
 use std::fmt;
 use zy_isa::ProgramFault;
 
@@ -46,15 +46,15 @@ pub enum Reason {
     /// The bytes are not UTF-8.
     NotText,
     /// This word is not known here.
-    NotKnown(Shown),
+    NotKnown(WordStart),
     /// This word, in the place of a name, is none.
-    NotAName(Shown),
+    NotAName(WordStart),
     /// This word, which is behind a label, is no instruction.
-    NotAnInstr(Shown),
+    NotAnInstr(WordStart),
     /// There are too few words or too many.
     WordCount,
     /// This word is not 1 to 10 digits.
-    NotDigits(Shown),
+    NotDigits(WordStart),
     /// This number is not from `least` to `most`.
     OutOfRange { number: u64, least: u64, most: u64 },
     /// The statement may not be here.
@@ -66,13 +66,13 @@ pub enum Reason {
     /// A program has this number and not its own.
     NotOwnNumber { number: u64, own: usize },
     /// No program above has this name.
-    NoName(Shown),
+    NoName(WordStart),
     /// A program above has this name already.
-    NameTwice(Shown),
+    NameTwice(WordStart),
     /// This label is nowhere in the program above.
-    NoLabel(Shown),
+    NoLabel(WordStart),
     /// This label is in the program already.
-    LabelTwice(Shown),
+    LabelTwice(WordStart),
     /// The instructions of the program of this number are no program.
     NoProgram { number: usize, fault: ProgramFault },
     /// There is a row too many.
@@ -266,12 +266,12 @@ fn tell_target<W: fmt::Write>(f: &mut fmt::Formatter<W>, number: usize, at: u8) 
 
 /// The first faulty line, from 1, and what is wrong with it.
 #[derive(Clone, Copy, Debug, PartialEq, Eq)]
-pub struct Refusal {
+pub struct LineFault {
     pub line: usize,
     pub reason: Reason,
 }
 
-impl Refusal {
+impl LineFault {
     /// The fault that it is.
     pub fn fault(self) -> AsmFault
         ensures { result ≡ fault_of self }

@@ -8,7 +8,7 @@ ghost use Rattle.zy_asm.specs.Instructions as spec;
 use crate::faults::{AsmKind, Reason};
 use crate::numbers::{number_in, within};
 use crate::pending::Unresolved;
-use crate::shown::Shown;
+use crate::shown::WordStart;
 use std::alloc::Global;
 use zy_isa::{Instr, JumpOperation, NumberOperation, Operation, Parts, Reg};
 use zy_text::names::is_name;
@@ -45,8 +45,8 @@ fn not_two(a: &[u8], b: &[u8]) -> Reason
     ensures { kind_of result ≡ AsmKind.Word }
 {
     match register_of(a) {
-        Some(_) => Reason::NotKnown(Shown::of(b)),
-        None => Reason::NotKnown(Shown::of(a)),
+        Some(_) => Reason::NotKnown(WordStart::of(b)),
+        None => Reason::NotKnown(WordStart::of(a)),
     }
 }
 
@@ -81,14 +81,14 @@ fn jump_to(
     ensures { Gives pending_of result (spec.jump_to operation a b target.now) }
 {
     match target {
-        [] => Err(Reason::NotAName(Shown::of(target))),
+        [] => Err(Reason::NotAName(WordStart::of(target))),
         [b'@', number @ ..] => {
             let number = number_in(number, 0, u64::from(u32::MAX))?;
             Ok(Unresolved::Whole(Parts::Jump(operation, a, b, number as u32).instr()))
         }
         _ => {
             if !is_name(target) {
-                return Err(Reason::NotAName(Shown::of(target)));
+                return Err(Reason::NotAName(WordStart::of(target)));
             }
             match target.to_vec(alloc) {
                 Ok(label) => Ok(Unresolved::Jump(operation, a, b, label)),
@@ -103,7 +103,7 @@ fn number_to(operation: NumberOperation, a: &[u8], number: &[u8]) -> Result<Inst
     ensures { by_kind result ≡ spec.number_to operation a.now number.now }
 {
     let Some(register) = register_of(a) else {
-        return Err(Reason::NotKnown(Shown::of(a)));
+        return Err(Reason::NotKnown(WordStart::of(a)));
     };
     let number = number_in(number, 0, u64::from(u32::MAX))? as u32;
     Ok(Parts::Number(operation, register, number).instr())

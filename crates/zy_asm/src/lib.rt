@@ -13,4 +13,4 @@ pub mod shown;
 mod state;
 pub mod text;
 
-pub use crate::faults::{AsmKind, Reason, Refusal};
+pub use crate::faults::{AsmKind, LineFault, Reason};

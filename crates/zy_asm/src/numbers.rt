@@ -5,7 +5,7 @@ ghost use Rattle.zy_asm.specs.Reasons.{by_kind, kind_of};
 ghost use Rattle.zy_asm.specs.Steps as spec;
 
 use crate::faults::Reason;
-use crate::shown::Shown;
+use crate::shown::WordStart;
 use zy_text::numbers::number_of;
 
 /// The number that a word spells, where it is from `least` to `most`.
@@ -31,7 +31,7 @@ fn not_within(word: &[u8], least: u64, most: u64) -> Reason
             least,
             most,
         },
-        None => Reason::NotDigits(Shown::of(word)),
+        None => Reason::NotDigits(WordStart::of(word)),
     }
 }
 

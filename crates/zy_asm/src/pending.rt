@@ -7,7 +7,7 @@ ghost use Rattle.zy_isa.specs.Programs.{program_fault};
 
 use crate::faults::Reason;
 use crate::name_table::NameTable;
-use crate::shown::Shown;
+use crate::shown::WordStart;
 use std::alloc::Global;
 use zy_isa::{Instr, JumpOperation, Parts, Program, Reg, Word};
 
@@ -28,7 +28,7 @@ fn resolved(labels: &NameTable, instr: &Unresolved) -> Result<Word, Reason>
         Unresolved::Whole(instr) => Ok(Word::of(*instr)),
         Unresolved::Jump(operation, a, b, label) => {
             let Some(target) = labels.find(label.as_slice()) else {
-                return Err(Reason::NoLabel(Shown::of(label.as_slice())));
+                return Err(Reason::NoLabel(WordStart::of(label.as_slice())));
             };
             let jump = Parts::Jump(*operation, *a, *b, u32::from(target));
             Ok(Word::of(jump.instr()))

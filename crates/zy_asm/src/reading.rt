@@ -13,11 +13,11 @@ mod programs;
 mod rows;
 mod usual;
 
-use crate::faults::{Reason, Refusal};
+use crate::faults::{LineFault, Reason};
 use crate::name_table::NameTable;
 use crate::pending::Unresolved;
 use crate::reading::keyword::{Keyword, keyword_of};
-use crate::shown::Shown;
+use crate::shown::WordStart;
 use crate::state::{Reader, Stage};
 use std::alloc::Global;
 use zy_isa::{Rule, Version};
@@ -59,7 +59,7 @@ impl Reader {
         }
         match keyword_of(self.version, first) {
             Some(keyword) => self.statement(keyword, rest),
-            None => Err(Reason::NotKnown(Shown::of(first))),
+            None => Err(Reason::NotKnown(WordStart::of(first))),
         }
     }
 
@@ -119,7 +119,7 @@ fn end_reached(stage: Stage) -> Result<(), Reason>
 }
 
 /// Reads a whole text.
-pub fn read(alloc: Global, text: &str) -> Result<Reader, Refusal>
+pub fn read(alloc: Global, text: &str) -> Result<Reader, LineFault>
     ensures { Reads result (reading text.now) }
 {
     let mut reader = Reader {
@@ -142,12 +142,12 @@ pub fn read(alloc: Global, text: &str) -> Result<Reader, Refusal>
     while !rest.is_empty() {
         rest = take_line(&mut words, rest);
         if let Err(reason) = reader.line(words.as_slice()) {
-            return Err(Refusal { line, reason });
+            return Err(LineFault { line, reason });
         }
         line += 1;
     }
     match end_reached(reader.stage) {
         Ok(()) => Ok(reader),
-        Err(reason) => Err(Refusal { line, reason }),
+        Err(reason) => Err(LineFault { line, reason }),
     }
 }

@@ -7,19 +7,19 @@ const MOST: usize = 24;
 
 /// The first bytes of a word.
 #[derive(Clone, Copy, Debug, PartialEq, Eq)]
-pub struct Shown {
+pub struct WordStart {
     bytes: [u8; MOST],
     count: usize,
     is_cut: bool,
 }
 
-impl Shown {
+impl WordStart {
     /// The word, or a prefix of it where it is long.
-    pub fn of(word: &[u8]) -> Shown {
+    pub fn of(word: &[u8]) -> WordStart {
         let count = word.len().min(MOST);
         let mut bytes = [0u8; MOST];
         bytes[..count].copy_from_slice(&word[..count]);
-        Shown {
+        WordStart {
             bytes,
             count,
             is_cut: word.len() > MOST,
@@ -28,7 +28,7 @@ impl Shown {
 }
 
 /// In quotes; a byte that does not print is shown as `\xNN`, and what was cut off as two dots.
-impl fmt::Display for Shown {
+impl fmt::Display for WordStart {
     fn fmt<W: fmt::Write>(&self, f: &mut fmt::Formatter<W>) -> fmt::Result {
         f.write_str("'")?;
         for byte in self.bytes.iter().take(self.count) {

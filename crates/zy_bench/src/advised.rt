@@ -3,14 +3,14 @@
 use crate::given::Failure;
 use crate::origin::Origin;
 use std::fmt;
-use zy_diagnostics::{Command, ImageAdvice, TextAdvice};
+use zy_diagnostics::{CommandName, ImageAdvice, TextAdvice};
 use zy_engine::BenchFault;
 
 /// What a command has read.
 #[derive(Clone, Copy)]
-pub struct Reading<'a> {
+pub struct InputRead<'a> {
     /// The command that has read it.
-    pub command: Command,
+    pub command: CommandName,
     /// The name of the file that it begins with.
     pub file: Option<&'a str>,
     /// How many lines are above standard input, where that is read below a file.
@@ -24,19 +24,19 @@ pub struct Reading<'a> {
 /// A fault, as standard error shows it.
 #[derive(Clone, Copy)]
 pub struct Advised<'a> {
-    reading: Reading<'a>,
+    reading: InputRead<'a>,
     fault: BenchFault,
 }
 
 impl<'a> Advised<'a> {
     /// Why a command refuses what it has read.
-    pub fn of(reading: Reading<'a>, fault: BenchFault) -> Advised<'a> {
+    pub fn of(reading: InputRead<'a>, fault: BenchFault) -> Advised<'a> {
         Advised { reading, fault }
     }
 
     /// Where the fault is.
     fn origin(&self) -> Origin<'a> {
-        let Reading {
+        let InputRead {
             command,
             file,
             lines,
@@ -66,7 +66,7 @@ impl<'a> Advised<'a> {
 /// Where it is, the fault's name, and the words.
 impl fmt::Display for Advised<'_> {
     fn fmt<W: fmt::Write>(&self, f: &mut fmt::Formatter<W>) -> fmt::Result {
-        let Reading { command, bytes, .. } = self.reading;
+        let InputRead { command, bytes, .. } = self.reading;
         write!(f, "{}: ", self.origin())?;
         match self.fault {
             BenchFault::Input(refusal) => {

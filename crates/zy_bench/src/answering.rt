@@ -7,7 +7,7 @@ use crate::exit_status::{COMMAND_LINE, DONE, NOWHERE, SPENT};
 use crate::explained::explain_found;
 use crate::marked::Marked;
 use crate::names::names_of;
-use crate::output::{Output, flush};
+use crate::output::{PipeSink, flush};
 use crate::progress::Progress;
 use crate::summary::{Count, Summary};
 use std::alloc::Global;
@@ -19,13 +19,13 @@ use zy_engine::searching::search_bytes;
 use zy_engine::{BenchFault, Format, SearchOptions};
 use zy_goals::named::{Named, named_by};
 use zy_goals::reading::{read_always, read_goal};
-use zy_goals::{Names, ReadFault};
+use zy_goals::{GoalFault, Names};
 use zy_io::reading::read_all;
 use zy_io::{CountingReader, SliceSource};
-use zy_search::{Answer, Report, Sought};
+use zy_search::{SearchAnswer, SearchReport, Sought};
 
 /// What a search is to look for, in a scenario whose transactions have these names.
-fn sought_of(alloc: Global, quest: Quest<'_>, names: Names<'_>) -> Result<Sought, ReadFault> {
+fn sought_of(alloc: Global, quest: Quest<'_>, names: Names<'_>) -> Result<Sought, GoalFault> {
     let text = quest.text.as_bytes();
     let query = if quest.is_always {
         read_always(alloc, text, names)?
@@ -40,10 +40,10 @@ fn sought_of(alloc: Global, quest: Quest<'_>, names: Names<'_>) -> Result<Sought
 }
 
 /// Reports on standard error why a goal was not read, and gives the exit status.
-fn no_goal(rt: &impl Eprint, quest: Quest<'_>, fault: ReadFault) -> Result<u8, BenchFault> {
+fn no_goal(rt: &impl Eprint, quest: Quest<'_>, fault: GoalFault) -> Result<u8, BenchFault> {
     match fault {
-        ReadFault::Memory => Err(BenchFault::Memory),
-        ReadFault::Refused(refusal) => {
+        GoalFault::Memory => Err(BenchFault::Memory),
+        GoalFault::Refused(refusal) => {
             let marked = Marked::of(quest, refusal);
             let _ = eprintln!(rt; "zy_bench: {marked}");
             Ok(COMMAND_LINE)
@@ -68,7 +68,7 @@ pub fn answer<R: Eprint + AllocGlobal + Clock + Threads + Sync, G: Read, W: Writ
     quest: Quest<'_>,
     given: &mut G,
     input: &mut Vec<u8>,
-    output: &mut Output<W>,
+    output: &mut PipeSink<W>,
 ) -> Result<u8, BenchFault>
     requires { output.old.1 < u64.MAX }
 {
@@ -127,7 +127,7 @@ fn search<R: Eprint + AllocGlobal + Clock + Threads + Sync, W: Write>(
     quest: Quest<'_>,
     sought: Sought,
     scenario: &[u8],
-    output: &mut Output<W>,
+    output: &mut PipeSink<W>,
     is_terminal: bool,
 ) -> Result<u8, BenchFault>
     requires { output.old.1 < u64.MAX }
@@ -152,7 +152,7 @@ fn search<R: Eprint + AllocGlobal + Clock + Threads + Sync, W: Write>(
     let report = searched?;
     flush(output)?;
     let status = sum_up(rt, &report, quest);
-    if let Answer::Found(path) = &report.answer {
+    if let SearchAnswer::Found(path) = &report.answer {
         explain_found(rt, options, scenario, path);
     }
     Ok(status)
@@ -164,7 +164,7 @@ fn find<R: Eprint + AllocGlobal, W: Write>(
     format: Format,
     sought: Sought,
     scenario: &[u8],
-    output: &mut Output<W>,
+    output: &mut PipeSink<W>,
 ) -> Result<u8, BenchFault>
     requires { output.old.1 < u64.MAX }
 {
@@ -209,12 +209,12 @@ fn warn_of(rt: &impl Eprint, word: &str, named: usize, count: usize) {
 }
 
 /// Reports on standard error what came of a search, and gives the exit status.
-fn sum_up(rt: &impl Eprint, report: &Report, quest: Quest<'_>) -> u8 {
+fn sum_up(rt: &impl Eprint, report: &SearchReport, quest: Quest<'_>) -> u8 {
     let summary = Summary::of(report, quest);
     let _ = eprintln!(rt; "zy_bench: {summary}");
     match &report.answer {
-        Answer::Found(_) => DONE,
-        Answer::Nowhere => NOWHERE,
-        Answer::Spent(_) => SPENT,
+        SearchAnswer::Found(_) => DONE,
+        SearchAnswer::Nowhere => NOWHERE,
+        SearchAnswer::Spent(_) => SPENT,
     }
 }

@@ -12,7 +12,7 @@ use zy_engine::{BenchFault, Format};
 use zy_io::{Line, LineBuffer, MAX_INPUT};
 use zy_isa::{Actor, Choice, MAX_CHOICES};
 use zy_listing::StepLine;
-use zy_logs::{NumberedLine, ReadFault};
+use zy_logs::{LogFault, NumberedLine};
 use zy_machine::{Fault, Machine};
 use zy_ordering::logs_below::read_below;
 use zy_table::Entry;
@@ -175,8 +175,8 @@ fn lines_again(
     }
     match read_below(alloc, machine.scenario(), text, below) {
         Ok(lines) => Ok(lines),
-        Err(ReadFault::Memory) => Err(BenchFault::Memory),
-        Err(ReadFault::Refused(_)) => Ok(Vec::new(alloc)),
+        Err(LogFault::Memory) => Err(BenchFault::Memory),
+        Err(LogFault::Refused(_)) => Ok(Vec::new(alloc)),
     }
 }
 

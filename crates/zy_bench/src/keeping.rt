@@ -1,13 +1,13 @@
 //! The furthest order of logs, which is kept in a file.
 
 use crate::origin::Origin;
-use crate::output::{Output, flush};
+use crate::output::{PipeSink, flush};
 use std::fs;
 use std::io::BufWriter;
 use std::rt::Files;
 use zy_engine::{BenchFault, Wording};
 use zy_isa::Choice;
-use zy_order::Answer;
+use zy_order::OrderAnswer;
 use zy_ordering::behind::write_behind;
 
 /// A file, and how a scenario is written to it.
@@ -18,11 +18,11 @@ pub struct Keeper<'a> {
 }
 
 /// The choices of the furthest order that a search came to, where it found none of all lines.
-fn furthest_of(answer: &Answer) -> Option<&[Choice]> {
+fn furthest_of(answer: &OrderAnswer) -> Option<&[Choice]> {
     match answer {
-        Answer::Found(_) => None,
-        Answer::Nowhere(order) => Some(order.as_slice()),
-        Answer::Spent(order) => Some(order.as_slice()),
+        OrderAnswer::Found(_) => None,
+        OrderAnswer::Nowhere(order) => Some(order.as_slice()),
+        OrderAnswer::Spent(order) => Some(order.as_slice()),
     }
 }
 
@@ -33,7 +33,7 @@ impl Keeper<'_> {
         self,
         rt: &R,
         input: &[u8],
-        answer: &Answer,
+        answer: &OrderAnswer,
     ) -> Result<(), u8> {
         let Some(order) = furthest_of(answer) else {
             return Ok(());
@@ -61,7 +61,7 @@ impl Keeper<'_> {
         let Ok(buffer) = BufWriter::new(rt.alloc(), file) else {
             return Err(BenchFault::Memory);
         };
-        let mut output = Output::new(buffer);
+        let mut output = PipeSink::new(buffer);
         write_behind(rt.alloc(), self.wording, input, order, &mut output)?;
         flush(&mut output)
     }

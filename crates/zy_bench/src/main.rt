@@ -27,7 +27,7 @@ mod refused_line;
 mod summary;
 mod tally;
 
-use advised::{Advised, Reading};
+use advised::{Advised, InputRead};
 use again::{line_due, scenario_part};
 use answering::{Asked, answer};
 use clap::error::ErrorKind;
@@ -41,7 +41,7 @@ use hint::Hint;
 use nothing::Nothing;
 use ordering::order;
 use origin::Origin;
-use output::{Output, flush};
+use output::{PipeSink, flush};
 use std::io::{BufWriter, IsTerminal, Read, Write};
 use std::process::ExitCode;
 use std::rt::Files;
@@ -50,7 +50,7 @@ use std::thread::Threads;
 use std::time::Clock;
 use std::{fs, io};
 use zy_check::Verdict;
-use zy_diagnostics::Command as Reader;
+use zy_diagnostics::CommandName as Reader;
 use zy_diagnostics::line::whole_line;
 use zy_engine::checking::check_bytes;
 use zy_engine::debugging::{MAX_EVERY, MAX_RING, debug_bytes};
@@ -67,7 +67,7 @@ use zy_threads::FreeGate;
 const DIFFERING_END: &'static [u8] = b"serial differs\nend\n";
 
 /// Ends a command that has written: passes on what is kept back, and gives the exit status.
-fn close<W: Write>(output: &mut Output<W>) -> Result<u8, BenchFault>
+fn close<W: Write>(output: &mut PipeSink<W>) -> Result<u8, BenchFault>
     requires { output.old.1 < u64.MAX }
 {
     flush(output)?;
@@ -78,7 +78,7 @@ fn close<W: Write>(output: &mut Output<W>) -> Result<u8, BenchFault>
 fn close_run<R: Eprint + AllocGlobal, W: Write>(
     rt: &R,
     machine: &Machine,
-    output: &mut Output<W>,
+    output: &mut PipeSink<W>,
 ) -> Result<u8, BenchFault>
     requires { output.old.1 < u64.MAX }
 {
@@ -93,7 +93,7 @@ fn convert<R: Eprint + AllocGlobal + Threads + Wait + Sync, G: Read, W: Write>(
     conversion: Conversion,
     given: &mut G,
     input: &mut Vec<u8>,
-    output: &mut Output<W>,
+    output: &mut PipeSink<W>,
 ) -> Result<u8, BenchFault>
     requires { output.old.1 < u64.MAX }
 {
@@ -139,7 +139,7 @@ fn check<R: Eprint + AllocGlobal, G: Read, W: Write>(
     file: Option<&str>,
     given: &mut G,
     input: &mut Vec<u8>,
-    output: &mut Output<W>,
+    output: &mut PipeSink<W>,
 ) -> Result<u8, BenchFault>
     requires { output.old.1 < u64.MAX }
 {
@@ -170,7 +170,7 @@ fn debug<R: Eprint + AllocGlobal, F: Read + Drop, S: Read, W: Write>(
     file: Option<&str>,
     given: &mut Given<F, S>,
     input: &mut Vec<u8>,
-    output: &mut Output<W>,
+    output: &mut PipeSink<W>,
 ) -> Result<u8, BenchFault>
     requires { output.old.1 < u64.MAX }
 {
@@ -288,7 +288,7 @@ fn carry_out<R: Print + Eprint + Input + Files + AllocGlobal + Clock + Threads +
     let Ok(buffer) = BufWriter::new(rt.alloc(), io::writer(rt)) else {
         return tell(rt, BenchFault::Memory);
     };
-    let mut output = Output::new(buffer);
+    let mut output = PipeSink::new(buffer);
     let mut input = Vec::new(rt.alloc());
     let Request { task, file } = request;
     let mut given = match open(rt, request) {
@@ -329,12 +329,12 @@ fn reading_of<'a, F: Drop, S>(
     request: Request<'a>,
     given: &Given<F, S>,
     bytes: &'a [u8],
-) -> Reading<'a> {
+) -> InputRead<'a> {
     let lines = match request.task {
         Task::Debug(_) => Some(given.lines()),
         _ => None,
     };
-    Reading {
+    InputRead {
         command: command_of(request.task),
         file: request.file,
         lines,
@@ -344,7 +344,7 @@ fn reading_of<'a, F: Drop, S>(
 }
 
 /// Reports a fault of an input on standard error, and what to do about it, and gives the exit status.
-fn advise(rt: &impl Eprint, reading: Reading<'_>, fault: BenchFault) -> u8 {
+fn advise(rt: &impl Eprint, reading: InputRead<'_>, fault: BenchFault) -> u8 {
     let advised = Advised::of(reading, fault);
     let _ = eprintln!(rt; "{advised}");
     fault.status()

@@ -2,20 +2,20 @@
 
 use crate::command_line::Quest;
 use std::fmt;
-use zy_diagnostics::line::Word;
-use zy_diagnostics::place::Place;
-use zy_goals::Refusal;
+use zy_diagnostics::line::SourceWord;
+use zy_diagnostics::place::Marked;
+use zy_goals::WordFault;
 
 /// A goal that is refused, and the word that does not fit.
 #[derive(Clone, Copy)]
 pub struct Marked<'a> {
     quest: Quest<'a>,
-    refusal: Refusal,
+    refusal: WordFault,
 }
 
 impl<'a> Marked<'a> {
     /// Why the text of a quest is no goal.
-    pub fn of(quest: Quest<'a>, refusal: Refusal) -> Marked<'a> {
+    pub fn of(quest: Quest<'a>, refusal: WordFault) -> Marked<'a> {
         Marked { quest, refusal }
     }
 }
@@ -23,9 +23,9 @@ impl<'a> Marked<'a> {
 /// The flag, what is expected, and the text of the goal with the word at fault marked. `>` and `<` are words of goals.
 impl fmt::Display for Marked<'_> {
     fn fmt<W: fmt::Write>(&self, f: &mut fmt::Formatter<W>) -> fmt::Result {
-        let Refusal { from, to, expected } = self.refusal;
+        let WordFault { from, to, expected } = self.refusal;
         let text = self.quest.text.as_bytes();
-        let word = Word {
+        let word = SourceWord {
             start: from,
             bytes: text.get(from..to).unwrap_or(&[]),
         };
@@ -34,7 +34,7 @@ impl fmt::Display for Marked<'_> {
         } else {
             "for"
         };
-        let place = Place::of(text, word).with_lone_marks();
+        let place = Marked::of(text, word).with_lone_marks();
         write!(f, "--{flag}: {expected} ({place})")
     }
 }

@@ -5,14 +5,14 @@ use crate::command_line::LogQuest;
 use crate::exit_status::{DONE, NOWHERE, SPENT};
 use crate::furthest::Furthest;
 use crate::keeping::Keeper;
-use crate::output::{Output, flush};
+use crate::output::{PipeSink, flush};
 use crate::refused_line::RefusedLine;
 use crate::summary::Count;
 use std::io::{Read, Write};
 use std::rt::Files;
 use zy_engine::BenchFault;
 use zy_io::CountingReader;
-use zy_order::{Answer, Report};
+use zy_order::{OrderAnswer, OrderReport};
 use zy_ordering::OrderFault;
 use zy_ordering::ordering::order_bytes;
 
@@ -23,7 +23,7 @@ pub fn order<R: Eprint + Files + AllocGlobal, G: Read, W: Write>(
     file: Option<&str>,
     given: &mut G,
     input: &mut Vec<u8>,
-    output: &mut Output<W>,
+    output: &mut PipeSink<W>,
 ) -> Result<u8, BenchFault>
     requires { output.old.1 < u64.MAX }
 {
@@ -48,7 +48,7 @@ fn kept<R: Eprint + Files + AllocGlobal>(
     rt: &R,
     quest: LogQuest<'_>,
     input: &[u8],
-    answer: &Answer,
+    answer: &OrderAnswer,
 ) -> Option<u8> {
     let keeper = Keeper {
         path: quest.furthest?,
@@ -62,16 +62,16 @@ fn sum_up<R: Eprint + AllocGlobal>(
     rt: &R,
     file: Option<&str>,
     input: &[u8],
-    report: &Report,
+    report: &OrderReport,
 ) -> Result<u8, BenchFault> {
     let states = Count::of(report.states, "state");
     match &report.answer {
-        Answer::Found(order) => {
+        OrderAnswer::Found(order) => {
             let lines = Count::of(order.len(), "line");
             let _ = eprintln!(rt; "zy_bench: found after {states}: an order of {lines}");
             Ok(DONE)
         }
-        Answer::Nowhere(order) => {
+        OrderAnswer::Nowhere(order) => {
             let furthest = Furthest::of(rt.alloc(), input, order)?;
             let reach = furthest.reach();
             let _ = eprintln!(rt;
@@ -80,7 +80,7 @@ fn sum_up<R: Eprint + AllocGlobal>(
             furthest.tell(rt, file, input);
             Ok(NOWHERE)
         }
-        Answer::Spent(order) => {
+        OrderAnswer::Spent(order) => {
             let furthest = Furthest::of(rt.alloc(), input, order)?;
             let reach = furthest.reach();
             let _ = eprintln!(rt;

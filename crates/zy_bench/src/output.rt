@@ -10,12 +10,12 @@ use zy_io::{CountingWriter, Sink};
 
 /// A sink over a writer that notes whether a call has failed since nobody reads any more.
 #[derive(Drop)]
-pub struct Output<W> {
+pub struct PipeSink<W> {
     sink: CountingWriter<W>,
     is_unread: bool,
 }
 
-impl<W> Model for Output<W> {
+impl<W> Model for PipeSink<W> {
     ghost use Rattle.std.specs.Prelude.{ℕ};
 
     ghost Value = { W × ℕ };
@@ -23,12 +23,12 @@ impl<W> Model for Output<W> {
     ghost view = { λ s. s.sink };
 }
 
-impl<W> Output<W> {
+impl<W> PipeSink<W> {
     /// Nothing was written yet.
-    pub fn new(writer: W) -> Output<W>
+    pub fn new(writer: W) -> PipeSink<W>
         ensures { result ≡ (writer, 0) }
     {
-        Output {
+        PipeSink {
             sink: CountingWriter::new(writer),
             is_unread: false,
         }
@@ -40,7 +40,7 @@ impl<W> Output<W> {
     }
 }
 
-impl<W: Write> Output<W> {
+impl<W: Write> PipeSink<W> {
     /// Passes on what is kept back.
     pub fn flush(&mut self) -> io::Result<()>
         requires { self.old.1 < u64.MAX }
@@ -53,7 +53,7 @@ impl<W: Write> Output<W> {
     }
 }
 
-impl<W: Write> Sink for Output<W> {
+impl<W: Write> Sink for PipeSink<W> {
     ghost written = { λ s. W.contents s.0 };
 
     ghost failures = { λ s. s.1 };
@@ -74,7 +74,7 @@ fn is_of_closed_pipe<T>(outcome: &io::Result<T>) -> bool {
 }
 
 /// Passes on what is kept back for standard output.
-pub fn flush<W: Write>(output: &mut Output<W>) -> Result<(), BenchFault>
+pub fn flush<W: Write>(output: &mut PipeSink<W>) -> Result<(), BenchFault>
     requires { output.old.1 < u64.MAX }
 {
     match output.flush() {

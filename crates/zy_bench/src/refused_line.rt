@@ -2,21 +2,21 @@
 
 use crate::origin::Origin;
 use std::fmt;
-use zy_diagnostics::line::{Line, Statement, Word};
-use zy_diagnostics::place::Place;
-use zy_logs::Refusal;
+use zy_diagnostics::line::{SourceLine, SourceWord, Statement};
+use zy_diagnostics::place::Marked;
+use zy_logs::LogLineFault;
 
 /// A line of a log that is refused, and the word that does not fit.
 #[derive(Clone, Copy)]
 pub struct RefusedLine<'a> {
     file: Option<&'a str>,
     input: &'a [u8],
-    refusal: Refusal,
+    refusal: LogLineFault,
 }
 
 impl<'a> RefusedLine<'a> {
     /// Why a line of this input, which is this file if there is one, is none of a log.
-    pub fn of(file: Option<&'a str>, input: &'a [u8], refusal: Refusal) -> RefusedLine<'a> {
+    pub fn of(file: Option<&'a str>, input: &'a [u8], refusal: LogLineFault) -> RefusedLine<'a> {
         RefusedLine {
             file,
             input,
@@ -25,16 +25,16 @@ impl<'a> RefusedLine<'a> {
     }
 
     /// The word that does not fit; where it is missing, the end of the line.
-    fn place(self) -> Place<'a> {
-        let statement = Line::of(self.input, self.refusal.line).statement();
+    fn place(self) -> Marked<'a> {
+        let statement = SourceLine::of(self.input, self.refusal.line).statement();
         let word = statement.word(self.refusal.word);
-        Place::of(statement.bytes, word.unwrap_or(end_of(statement)))
+        Marked::of(statement.bytes, word.unwrap_or(end_of(statement)))
     }
 }
 
 /// An empty word at the end of a line.
-fn end_of(statement: Statement<'_>) -> Word<'_> {
-    Word {
+fn end_of(statement: Statement<'_>) -> SourceWord<'_> {
+    SourceWord {
         start: statement.bytes.trim_ascii_end().len(),
         bytes: &[],
     }
@@ -43,7 +43,7 @@ fn end_of(statement: Statement<'_>) -> Word<'_> {
 /// Where it is, the fault's name, what is expected, and the line with the word at fault marked.
 impl fmt::Display for RefusedLine<'_> {
     fn fmt<W: fmt::Write>(&self, f: &mut fmt::Formatter<W>) -> fmt::Result {
-        let Refusal { line, expected, .. } = self.refusal;
+        let LogLineFault { line, expected, .. } = self.refusal;
         let (kind, place) = (expected.kind(), self.place());
         let origin = Origin::at(self.file, place.position(line));
         write!(

@@ -2,18 +2,18 @@
 
 use crate::command_line::Quest;
 use std::fmt;
-use zy_search::{Answer, ChoiceKinds, Report};
+use zy_search::{ChoiceKinds, SearchAnswer, SearchReport};
 
 /// What came of a search, as a line for standard error.
 #[derive(Clone, Copy)]
 pub struct Summary<'a> {
-    report: &'a Report,
+    report: &'a SearchReport,
     quest: Quest<'a>,
 }
 
 impl<'a> Summary<'a> {
     /// The line of a report on what was asked for.
-    pub fn of(report: &'a Report, quest: Quest<'a>) -> Summary<'a> {
+    pub fn of(report: &'a SearchReport, quest: Quest<'a>) -> Summary<'a> {
         Summary { report, quest }
     }
 
@@ -73,9 +73,9 @@ impl<'a> Summary<'a> {
 impl fmt::Display for Summary<'_> {
     fn fmt<W: fmt::Write>(&self, f: &mut fmt::Formatter<W>) -> fmt::Result {
         match &self.report.answer {
-            Answer::Found(path) => self.write_found(f, path.len()),
-            Answer::Nowhere => self.write_none(f),
-            Answer::Spent(fewer) => self.write_spent(f, *fewer),
+            SearchAnswer::Found(path) => self.write_found(f, path.len()),
+            SearchAnswer::Nowhere => self.write_none(f),
+            SearchAnswer::Spent(fewer) => self.write_spent(f, *fewer),
         }
     }
 }

@@ -11,7 +11,7 @@ use Rattle.zy_text.specs.Cut.{cut}
 use Rattle.zy_check.specs.Differs.{verdict}
 use Rattle.zy_asm.specs.declared.faults.AsmKind.{AsmKind}
 use Rattle.zy_asm.specs.declared.faults.AsmKind.TheVariants as kinds
-use Rattle.zy_asm.specs.declared.faults.Refusal.{Refusal}
+use Rattle.zy_asm.specs.declared.faults.LineFault.{LineFault}
 use Rattle.zy_asm.specs.Reasons.{kind_of, fault_of}
 use Rattle.zy_check.specs.Faults.{of_kind, of_refusal, IsOfScenario}
 use Rattle.zy_check.specs.Verdicts.{IsVerdict, GivesVerdict}
@@ -31,7 +31,7 @@ pub one_verdict : (input : List ℕ) (v : Verdict) → ((sc : Scenario) → utf8
 one_verdict input v only right other found = only found.0 (utf8_of (cut input) right) found.1 ∙ sym found.2
 
 -- what a refusal's kind says of the fault
-by_kind : (part : List ℕ) (r : Refusal) (k : AsmKind) → (k ≡ kinds.Memory) ⊎ (input_fault part ≡ Some (fault_of r)) → IsOfScenario part (of_kind k r)
+by_kind : (part : List ℕ) (r : LineFault) (k : AsmKind) → (k ≡ kinds.Memory) ⊎ (input_fault part ≡ Some (fault_of r)) → IsOfScenario part (of_kind k r)
 by_kind part r kinds.Header h = elim h [ inl e ↦ absurd (cc) | inr e ↦ e ]
 by_kind part r kinds.Word h = elim h [ inl e ↦ absurd (cc) | inr e ↦ e ]
 by_kind part r kinds.Number h = elim h [ inl e ↦ absurd (cc) | inr e ↦ e ]
@@ -44,9 +44,9 @@ by_kind part r kinds.End h = elim h [ inl e ↦ absurd (cc) | inr e ↦ e ]
 by_kind part r kinds.Memory h = tt
 
 -- a refused scenario part is reported, unless there was no memory
-pub refusal_told : (part : List ℕ) (r : Refusal) → (kind_of r.reason ≡ kinds.Memory) ⊎ (input_fault part ≡ Some (fault_of r)) → IsOfScenario part (of_refusal r)
+pub refusal_told : (part : List ℕ) (r : LineFault) → (kind_of r.reason ≡ kinds.Memory) ⊎ (input_fault part ≡ Some (fault_of r)) → IsOfScenario part (of_refusal r)
 refusal_told part r h = by_kind part r (kind_of r.reason) h
 
 -- where there was no memory any verdict may be
-pub memory_gives : (r : Refusal) (v : Verdict) → kind_of r.reason ≡ kinds.Memory → GivesVerdict (Err (of_refusal r)) v
+pub memory_gives : (r : LineFault) (v : Verdict) → kind_of r.reason ≡ kinds.Memory → GivesVerdict (Err (of_refusal r)) v
 memory_gives r v e = rw e tt

@@ -5,7 +5,7 @@ use Rattle.zy_io.specs.declared.reading.ReadFault.{ReadFault}
 use Rattle.zy_io.specs.declared.reading.ReadFault.TheVariants as reading
 use Rattle.zy_asm.specs.declared.faults.AsmKind.{AsmKind}
 use Rattle.zy_asm.specs.declared.faults.AsmKind.TheVariants as kinds
-use Rattle.zy_asm.specs.declared.faults.Refusal.{Refusal}
+use Rattle.zy_asm.specs.declared.faults.LineFault.{LineFault}
 use Rattle.zy_asm.specs.Input.{input_fault}
 use Rattle.zy_asm.specs.Reasons.{kind_of, fault_of}
 use Rattle.zy_check.specs.declared.faults.CheckFault.{CheckFault}
@@ -16,15 +16,15 @@ of_reading reading.Read = Read
 of_reading reading.TooLong = TooLong
 of_reading reading.Memory = Memory
 
-abbrev pub of_kind : AsmKind → Refusal → CheckFault
+abbrev pub of_kind : AsmKind → LineFault → CheckFault
 of_kind kinds.Memory r = Memory
 of_kind _ r = Scenario r
 
-abbrev pub of_refusal : Refusal → CheckFault
+abbrev pub of_refusal : LineFault → CheckFault
 of_refusal r = of_kind (kind_of r.reason) r
 
 -- the scenario part's first fault, if it is one of the scenario part
-abbrev pub IfScenario : CheckFault → (Refusal → Type 0) → Type 0
+abbrev pub IfScenario : CheckFault → (LineFault → Type 0) → Type 0
 IfScenario (Scenario r) P = P r
 IfScenario Read P = Unit {0}
 IfScenario Memory P = Unit {0}

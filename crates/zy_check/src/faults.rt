@@ -4,7 +4,7 @@ ghost use Rattle.zy_check.specs.Faults.{of_reading, of_refusal};
 
 use std::alloc::AllocError;
 use thiserror::Error;
-use zy_asm::{AsmKind, Refusal};
+use zy_asm::{AsmKind, LineFault};
 use zy_io::ReadFault;
 
 /// Why no verdict was reached.
@@ -12,7 +12,7 @@ use zy_io::ReadFault;
 pub enum CheckFault {
     /// The scenario part is refused, from this line on.
     #[error("line {}: {}", .0.line, .0.reason)]
-    Scenario(Refusal),
+    Scenario(LineFault),
     /// The reader failed.
     #[error("the input could not be read to its end")]
     Read,
@@ -36,10 +36,10 @@ impl From<ReadFault> for CheckFault {
     }
 }
 
-impl From<Refusal> for CheckFault {
+impl From<LineFault> for CheckFault {
     ghost from_gives = { λ r e. e ≡ of_refusal r };
 
-    fn from(refusal: Refusal) -> CheckFault {
+    fn from(refusal: LineFault) -> CheckFault {
         match refusal.reason.kind() {
             AsmKind::Memory => CheckFault::Memory,
             _ => CheckFault::Scenario(refusal),

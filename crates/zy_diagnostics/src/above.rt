@@ -7,7 +7,7 @@ use zy_text::numbers::number_of;
 
 /// Where in a text a line is.
 #[derive(Clone, Copy, Debug, PartialEq, Eq)]
-pub enum Part {
+pub enum TextPart {
     /// In the header, of which this number of statements is above.
     Header(usize),
     /// Behind the header, above the first program.
@@ -80,14 +80,14 @@ impl Above {
     }
 
     /// The part that the line is in.
-    pub fn part(self) -> Part {
+    pub fn part(self) -> TextPart {
         if self.statements < 4 {
-            return Part::Header(self.statements);
+            return TextPart::Header(self.statements);
         }
         match self.choice {
-            Some(line) => Part::Choices(line),
-            None if self.programs > 0 => Part::Program,
-            None => Part::Rows,
+            Some(line) => TextPart::Choices(line),
+            None if self.programs > 0 => TextPart::Program,
+            None => TextPart::Rows,
         }
     }
 }

@@ -4,7 +4,7 @@ use std::fmt;
 
 /// A command that reads a scenario, an image or a listing.
 #[derive(Clone, Copy, Debug, PartialEq, Eq)]
-pub enum Command {
+pub enum CommandName {
     Run,
     Trace,
     Threads,
@@ -18,35 +18,37 @@ pub enum Command {
 }
 
 /// Its word on the command line.
-impl fmt::Display for Command {
+impl fmt::Display for CommandName {
     fn fmt<W: fmt::Write>(&self, f: &mut fmt::Formatter<W>) -> fmt::Result {
         f.write_str(match self {
-            Command::Run => "run",
-            Command::Trace => "trace",
-            Command::Threads => "threads",
-            Command::Search => "search",
-            Command::Find => "find",
-            Command::Order => "order",
-            Command::Asm => "asm",
-            Command::Dis => "dis",
-            Command::Check => "check",
-            Command::Debug => "debug",
+            CommandName::Run => "run",
+            CommandName::Trace => "trace",
+            CommandName::Threads => "threads",
+            CommandName::Search => "search",
+            CommandName::Find => "find",
+            CommandName::Order => "order",
+            CommandName::Asm => "asm",
+            CommandName::Dis => "dis",
+            CommandName::Check => "check",
+            CommandName::Debug => "debug",
         })
     }
 }
 
 /// What is to be done with an image that was given in the place of a text.
 #[derive(Clone, Copy)]
-pub struct ForImage(pub Command);
+pub struct ForImage(pub CommandName);
 
 impl fmt::Display for ForImage {
     fn fmt<W: fmt::Write>(&self, f: &mut fmt::Formatter<W>) -> fmt::Result {
         match self.0 {
-            Command::Asm => f.write_str("this is an image already: zy_bench dis writes its text"),
-            Command::Check => f.write_str(
+            CommandName::Asm => f.write_str(
+                "this is an image already: zy_bench dis writes its text",
+            ),
+            CommandName::Check => f.write_str(
                 "this is an image: check reads a listing, as zy_bench run --image writes it",
             ),
-            command @ (Command::Debug | Command::Order) => write!(
+            command @ (CommandName::Debug | CommandName::Order) => write!(
                 f,
                 "this is an image: {command} reads a text, as zy_bench dis writes it"
             ),
@@ -60,12 +62,12 @@ impl fmt::Display for ForImage {
 
 /// What is to be done with a text that was given in the place of an image.
 #[derive(Clone, Copy)]
-pub struct ForText(pub Command);
+pub struct ForText(pub CommandName);
 
 impl fmt::Display for ForText {
     fn fmt<W: fmt::Write>(&self, f: &mut fmt::Formatter<W>) -> fmt::Result {
         match self.0 {
-            Command::Dis => {
+            CommandName::Dis => {
                 f.write_str("this is a text: dis reads an image, as zy_bench asm writes it")
             }
             command => write!(f, "this is a text: use zy_bench {command} without --image"),

@@ -1,6 +1,6 @@
 //! Which word of a line is at fault.
 
-use crate::above::{Above, Part};
+use crate::above::{Above, TextPart};
 use crate::form::{Form, Shape};
 use crate::line::Statement;
 use zy_asm::Reason;
@@ -29,17 +29,17 @@ pub fn culprit(statement: Statement<'_>, above: Above, reason: Reason) -> usize 
 pub const HEADS: [&'static str; 4] = ["zephyr", "cap", "pages", "rule"];
 
 /// The word that a line of the header is to begin with.
-pub fn head(part: Part) -> &'static str {
+pub fn head(part: TextPart) -> &'static str {
     match part {
-        Part::Header(0) => "zephyr",
-        Part::Header(1) => "cap",
-        Part::Header(2) => "pages",
+        TextPart::Header(0) => "zephyr",
+        TextPart::Header(1) => "cap",
+        TextPart::Header(2) => "pages",
         _ => "rule",
     }
 }
 
 /// The word that does not belong to a statement of the header.
-fn in_header(statement: Statement<'_>, part: Part) -> usize {
+fn in_header(statement: Statement<'_>, part: TextPart) -> usize {
     if !is(statement.text(0), head(part).as_bytes()) {
         return 0;
     }

@@ -1,8 +1,8 @@
 //! What is wrong with the head of a text, or with its end.
 
-use crate::above::Part;
+use crate::above::TextPart;
 use crate::bytes::{Bytes, Quoted};
-use crate::command::Command;
+use crate::command::CommandName;
 use crate::culprit::head;
 use crate::meant::Meant;
 use crate::text::TextAdvice;
@@ -61,31 +61,31 @@ impl fmt::Display for Other {
 }
 
 /// How a statement of the header is written.
-pub fn head_pattern(part: Part) -> &'static str {
+pub fn head_pattern(part: TextPart) -> &'static str {
     match part {
-        Part::Header(0) => "zephyr 1 or zephyr 2",
-        Part::Header(1) => "cap N",
-        Part::Header(2) => "pages N",
+        TextPart::Header(0) => "zephyr 1 or zephyr 2",
+        TextPart::Header(1) => "cap N",
+        TextPart::Header(2) => "pages N",
         _ => "rule held or rule loose",
     }
 }
 
 /// Which statement of the text is due.
-fn ordinal(part: Part) -> &'static str {
+fn ordinal(part: TextPart) -> &'static str {
     match part {
-        Part::Header(0) => "first",
-        Part::Header(1) => "second",
-        Part::Header(2) => "third",
+        TextPart::Header(0) => "first",
+        TextPart::Header(1) => "second",
+        TextPart::Header(2) => "third",
         _ => "fourth",
     }
 }
 
 /// What follows the word that a statement of the header begins with.
-fn head_takes(part: Part) -> &'static str {
+fn head_takes(part: TextPart) -> &'static str {
     match part {
-        Part::Header(0) => "zephyr takes one version",
-        Part::Header(1) => "cap takes one number",
-        Part::Header(2) => "pages takes one number",
+        TextPart::Header(0) => "zephyr takes one version",
+        TextPart::Header(1) => "cap takes one number",
+        TextPart::Header(2) => "pages takes one number",
         _ => "rule takes one word",
     }
 }
@@ -108,12 +108,12 @@ impl TextAdvice<'_> {
             return f.write_str("a comment begins with ;");
         }
         match (part, self.statement.count()) {
-            (Part::Header(0), 2) => write!(
+            (TextPart::Header(0), 2) => write!(
                 f,
                 "there is no version {}: {pattern}",
                 Quoted(self.word())
             ),
-            (Part::Header(3), 2) => write!(
+            (TextPart::Header(3), 2) => write!(
                 f,
                 "there is no rule {}: {pattern}",
                 Quoted(self.word())
@@ -123,7 +123,11 @@ impl TextAdvice<'_> {
     }
 
     /// Says what to write in place of another word than the one that a line of the header begins with.
-    fn tell_other_head<W: fmt::Write>(&self, f: &mut fmt::Formatter<W>, part: Part) -> fmt::Result {
+    fn tell_other_head<W: fmt::Write>(
+        &self,
+        f: &mut fmt::Formatter<W>,
+        part: TextPart,
+    ) -> fmt::Result {
         let (word, due) = (self.statement.text(0), head(part));
         write!(
             f,
@@ -185,15 +189,15 @@ impl TextAdvice<'_> {
             return f.write_str(": the input is empty");
         }
         match self.above.part() {
-            Part::Header(count) => write!(
+            TextPart::Header(count) => write!(
                 f,
                 ": the next statement is {}",
-                head_pattern(Part::Header(count))
+                head_pattern(TextPart::Header(count))
             ),
-            Part::Program => f.write_str(
+            TextPart::Program => f.write_str(
                 ": a program ends with commit or abort, and the text with end",
             ),
-            Part::Choices(_) if self.command == Command::Order => {
+            TextPart::Choices(_) if self.command == CommandName::Order => {
                 write!(f, ": {}", END_ABOVE_LOGS)
             }
             _ => f.write_str(": write end as its last line"),

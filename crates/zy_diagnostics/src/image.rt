@@ -1,6 +1,6 @@
 //! Why an image is refused.
 
-use crate::command::{Command, ForText};
+use crate::command::{CommandName, ForText};
 use std::fmt;
 use zy_image::{ImageRefusal, LoadFault};
 use zy_isa::Version;
@@ -29,14 +29,14 @@ fn may_be_of_text(byte: u8) -> bool {
 /// Why an image is refused: where, what is wanted there and what is there, and what to do.
 #[derive(Clone, Copy)]
 pub struct ImageAdvice<'a> {
-    command: Command,
+    command: CommandName,
     input: &'a [u8],
     refusal: ImageRefusal,
 }
 
 impl<'a> ImageAdvice<'a> {
     /// Why this command refuses this input.
-    pub fn of(command: Command, input: &'a [u8], refusal: ImageRefusal) -> ImageAdvice<'a> {
+    pub fn of(command: CommandName, input: &'a [u8], refusal: ImageRefusal) -> ImageAdvice<'a> {
         ImageAdvice {
             command,
             input,

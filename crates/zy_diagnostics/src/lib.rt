@@ -25,7 +25,7 @@ mod unknown;
 mod wording;
 
 pub use crate::bytes::Bytes;
-pub use crate::command::Command;
+pub use crate::command::CommandName;
 pub use crate::debugging::BadCommand;
 pub use crate::image::ImageAdvice;
 pub use crate::text::TextAdvice;

@@ -15,16 +15,16 @@ fn is_gap(byte: &u8) -> bool {
 
 /// A line of an input, without its end, and its number, from 1.
 #[derive(Clone, Copy)]
-pub struct Line<'a> {
+pub struct SourceLine<'a> {
     pub number: usize,
     pub bytes: &'a [u8],
 }
 
-impl<'a> Line<'a> {
+impl<'a> SourceLine<'a> {
     /// The line of this number; where the input has fewer, it is empty.
-    pub fn of(input: &'a [u8], number: usize) -> Line<'a> {
+    pub fn of(input: &'a [u8], number: usize) -> SourceLine<'a> {
         let bytes = input.split(is_line_feed).nth(number.saturating_sub(1));
-        Line {
+        SourceLine {
             number,
             bytes: bytes.unwrap_or(&[]),
         }
@@ -64,7 +64,7 @@ fn first_line(text: &[u8]) -> (&[u8], &[u8]) {
 
 /// A word of a line, and how many bytes come before it.
 #[derive(Clone, Copy)]
-pub struct Word<'a> {
+pub struct SourceWord<'a> {
     pub start: usize,
     pub bytes: &'a [u8],
 }
@@ -86,13 +86,13 @@ impl<'a> Statement<'a> {
     }
 
     /// The word of this number, from 0.
-    pub fn word(self, number: usize) -> Option<Word<'a>> {
+    pub fn word(self, number: usize) -> Option<SourceWord<'a>> {
         let mut start = 0usize;
         let mut count = 0usize;
         for bytes in self.bytes.split(is_gap) {
             if !bytes.is_empty() {
                 if count == number {
-                    return Some(Word { start, bytes });
+                    return Some(SourceWord { start, bytes });
                 }
                 count = count.saturating_add(1);
             }

@@ -1,6 +1,6 @@
 //! What is wrong with the order of statements, and with how many there are.
 
-use crate::above::Part;
+use crate::above::TextPart;
 use crate::culprit::HEADS;
 use crate::text::TextAdvice;
 use std::fmt;
@@ -23,8 +23,8 @@ impl TextAdvice<'_> {
             f.write_str("an instruction or a label belongs in a program")?;
         }
         match self.above.part() {
-            Part::Choices(line) if is(word, b"txn") => write!(f, ", which is line {line}"),
-            Part::Choices(line) => write!(f, ", above the first choice, which is line {line}"),
+            TextPart::Choices(line) if is(word, b"txn") => write!(f, ", which is line {line}"),
+            TextPart::Choices(line) => write!(f, ", above the first choice, which is line {line}"),
             _ => f.write_str(", below its line txn T"),
         }
     }

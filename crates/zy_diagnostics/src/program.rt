@@ -2,7 +2,7 @@
 
 use crate::bytes::Bytes;
 use crate::label::{label, operation_at, target};
-use crate::line::{Line, Statement, is_line_feed};
+use crate::line::{SourceLine, Statement, is_line_feed};
 use crate::meant::is_alike;
 use std::fmt;
 use zy_isa::MAX_TXNS;
@@ -10,7 +10,7 @@ use zy_text::names::{is, is_numeral};
 
 /// A program of a text.
 #[derive(Clone, Copy)]
-pub struct Program<'a> {
+pub struct SourceProgram<'a> {
     number: usize,
     /// The word behind its `txn`.
     word: &'a [u8],
@@ -20,9 +20,9 @@ pub struct Program<'a> {
     below: &'a [u8],
 }
 
-impl<'a> Program<'a> {
+impl<'a> SourceProgram<'a> {
     /// The program of this number in some lines, with which an input begins.
-    pub fn of(lines: &'a [u8], number: usize) -> Option<Program<'a>> {
+    pub fn of(lines: &'a [u8], number: usize) -> Option<SourceProgram<'a>> {
         let mut count = 0usize;
         let mut start = 0usize;
         for (index, bytes) in lines.split(is_line_feed).enumerate() {
@@ -30,7 +30,7 @@ impl<'a> Program<'a> {
             let statement = Statement::of(bytes);
             if is(statement.text(0), b"txn") {
                 if count == number {
-                    return Some(Program {
+                    return Some(SourceProgram {
                         number,
                         word: statement.text(1),
                         line: index.saturating_add(1),
@@ -44,9 +44,9 @@ impl<'a> Program<'a> {
     }
 
     /// The program of this name.
-    pub fn named(lines: &'a [u8], name: &[u8]) -> Option<Program<'a>> {
+    pub fn named(lines: &'a [u8], name: &[u8]) -> Option<SourceProgram<'a>> {
         for number in 0..MAX_TXNS {
-            let program = Program::of(lines, number)?;
+            let program = SourceProgram::of(lines, number)?;
             if is(program.word, name) {
                 return Some(program);
             }
@@ -55,9 +55,9 @@ impl<'a> Program<'a> {
     }
 
     /// The program whose name this word was meant to be.
-    pub fn meant(lines: &'a [u8], word: &[u8]) -> Option<Program<'a>> {
+    pub fn meant(lines: &'a [u8], word: &[u8]) -> Option<SourceProgram<'a>> {
         for number in 0..MAX_TXNS {
-            let program = Program::of(lines, number)?;
+            let program = SourceProgram::of(lines, number)?;
             if !is_numeral(program.word) && is_alike(word, program.word) {
                 return Some(program);
             }
@@ -77,12 +77,12 @@ impl<'a> Program<'a> {
     }
 
     /// The line of its instruction of this number, from 0.
-    pub fn instruction(self, number: usize) -> Option<Line<'a>> {
+    pub fn instruction(self, number: usize) -> Option<SourceLine<'a>> {
         let mut count = 0usize;
         for (index, bytes) in self.below.split(is_line_feed).enumerate() {
             if has_instruction(bytes) {
                 if count == number {
-                    return Some(Line {
+                    return Some(SourceLine {
                         number: self.number_at(index),
                         bytes,
                     });
@@ -104,12 +104,12 @@ impl<'a> Program<'a> {
     }
 
     /// The first line that has a label for its target that is not there, and the label.
-    pub fn missing_label(self) -> Option<(Line<'a>, &'a [u8])> {
+    pub fn missing_label(self) -> Option<(SourceLine<'a>, &'a [u8])> {
         for (index, bytes) in self.below.split(is_line_feed).enumerate() {
             if let Some(name) = target(Statement::of(bytes)) {
                 if self.line_of_label(name).is_none() {
                     let number = self.number_at(index);
-                    return Some((Line { number, bytes }, name));
+                    return Some((SourceLine { number, bytes }, name));
                 }
             }
         }
@@ -136,7 +136,7 @@ fn has_instruction(line: &[u8]) -> bool {
 }
 
 /// Its number, and its name if it has one.
-impl fmt::Display for Program<'_> {
+impl fmt::Display for SourceProgram<'_> {
     fn fmt<W: fmt::Write>(&self, f: &mut fmt::Formatter<W>) -> fmt::Result {
         write!(f, "program {}", self.number)?;
         if !is_numeral(self.word) {

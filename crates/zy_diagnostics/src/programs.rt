@@ -2,15 +2,15 @@
 
 use crate::bytes::Quoted;
 use crate::label::label;
-use crate::program::Program;
+use crate::program::SourceProgram;
 use crate::text::TextAdvice;
 use std::fmt;
 use zy_isa::ProgramFault;
 
 impl<'a> TextAdvice<'a> {
     /// The last program above the line.
-    pub(crate) fn program(&self) -> Option<Program<'a>> {
-        Program::of(self.lines, self.above.programs.saturating_sub(1))
+    pub(crate) fn program(&self) -> Option<SourceProgram<'a>> {
+        SourceProgram::of(self.lines, self.above.programs.saturating_sub(1))
     }
 
     /// Says which programs there are.
@@ -28,7 +28,7 @@ impl<'a> TextAdvice<'a> {
         f: &mut fmt::Formatter<W>,
     ) -> fmt::Result {
         write!(f, "{}: ", self.reason)?;
-        match Program::meant(self.lines, self.word()) {
+        match SourceProgram::meant(self.lines, self.word()) {
             Some(program) => write!(f, "did you mean {program}"),
             None => self.tell_programs(f),
         }
@@ -37,7 +37,7 @@ impl<'a> TextAdvice<'a> {
     /// Says which program has a name already.
     pub(crate) fn tell_name_twice<W: fmt::Write>(&self, f: &mut fmt::Formatter<W>) -> fmt::Result {
         write!(f, "{}", self.reason)?;
-        match Program::named(self.lines, self.word()) {
+        match SourceProgram::named(self.lines, self.word()) {
             Some(program) => write!(f, ": {program}, in line {}", program.line),
             None => Ok(()),
         }

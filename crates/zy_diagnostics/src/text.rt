@@ -1,30 +1,30 @@
 //! Why a text is refused.
 
 use crate::above::Above;
-use crate::command::{Command, ForImage};
+use crate::command::{CommandName, ForImage};
 use crate::culprit::culprit;
 use crate::form::Form;
 use crate::image::is_image;
 use crate::label::operation_at;
-use crate::line::{Line, Statement, Word, lines_above};
+use crate::line::{SourceLine, SourceWord, Statement, lines_above};
 use crate::order::tell_not_above;
-use crate::place::Place;
+use crate::place::Marked;
 use crate::unknown::Unknown;
 use std::fmt;
 use std::str::from_utf8;
-use zy_asm::{Reason, Refusal};
+use zy_asm::{LineFault, Reason};
 use zy_isa::ProgramFault;
 
 /// Why a text is refused: what is wrong, what to write, and where.
 #[derive(Clone, Copy)]
 pub struct TextAdvice<'a> {
-    pub(crate) command: Command,
+    pub(crate) command: CommandName,
     pub(crate) input: &'a [u8],
     pub(crate) reason: Reason,
     /// The lines above the refused one.
     pub(crate) lines: &'a [u8],
     pub(crate) above: Above,
-    pub(crate) line: Line<'a>,
+    pub(crate) line: SourceLine<'a>,
     pub(crate) statement: Statement<'a>,
 }
 
@@ -39,9 +39,9 @@ pub struct Position {
 
 impl<'a> TextAdvice<'a> {
     /// Why this command refuses this input.
-    pub fn of(command: Command, input: &'a [u8], refusal: Refusal) -> TextAdvice<'a> {
+    pub fn of(command: CommandName, input: &'a [u8], refusal: LineFault) -> TextAdvice<'a> {
         let lines = lines_above(input, refusal.line);
-        let line = Line::of(input, refusal.line);
+        let line = SourceLine::of(input, refusal.line);
         TextAdvice {
             command,
             input,
@@ -147,46 +147,46 @@ impl<'a> TextAdvice<'a> {
     }
 
     /// Where the fault is.
-    fn place(&self) -> Option<Place<'a>> {
+    fn place(&self) -> Option<Marked<'a>> {
         if self.is_unended() {
-            return Place::word(self.line, 0);
+            return Marked::word(self.line, 0);
         }
         match self.reason {
             Reason::NoEnd | Reason::NoMemory => None,
             Reason::NotText => self.wrong_byte(),
             Reason::NoLabel(_) => {
                 let (line, _) = self.program()?.missing_label()?;
-                Place::word_elsewhere(line, operation_at(line.statement()).saturating_add(3))
+                Marked::word_elsewhere(line, operation_at(line.statement()).saturating_add(3))
             }
             Reason::NoProgram { fault, .. } => self.place_in_program(fault),
-            _ => Place::word(self.line, self.culprit()),
+            _ => Marked::word(self.line, self.culprit()),
         }
     }
 
     /// The first byte that is not UTF-8.
-    fn wrong_byte(&self) -> Option<Place<'a>> {
+    fn wrong_byte(&self) -> Option<Marked<'a>> {
         let Err(error) = from_utf8(self.input) else {
             return None;
         };
         let start = error.valid_up_to().saturating_sub(self.lines.len());
         let rest = self.line.bytes.get(start..)?;
         let bytes = rest.get(..1)?;
-        Some(Place::of(self.line.bytes, Word { start, bytes }))
+        Some(Marked::of(self.line.bytes, SourceWord { start, bytes }))
     }
 
     /// The instruction for which the last program is none, or its `txn`.
-    fn place_in_program(&self, fault: ProgramFault) -> Option<Place<'a>> {
+    fn place_in_program(&self, fault: ProgramFault) -> Option<Marked<'a>> {
         let program = self.program()?;
         match fault {
             ProgramFault::Target(at) => {
                 let line = program.instruction(usize::from(at))?;
-                Place::word_elsewhere(line, operation_at(line.statement()).saturating_add(3))
+                Marked::word_elsewhere(line, operation_at(line.statement()).saturating_add(3))
             }
             ProgramFault::NoEnd => {
                 let line = program.instruction(program.count().saturating_sub(1))?;
-                Place::word_elsewhere(line, operation_at(line.statement()))
+                Marked::word_elsewhere(line, operation_at(line.statement()))
             }
-            _ => Place::word_elsewhere(Line::of(self.input, program.line), 0),
+            _ => Marked::word_elsewhere(SourceLine::of(self.input, program.line), 0),
         }
     }
 }

@@ -1,6 +1,6 @@
 //! What is wrong where lines of logs follow a scenario without its line `end`.
 
-use crate::command::Command;
+use crate::command::CommandName;
 use crate::line::{Statement, is_line_feed};
 use crate::text::TextAdvice;
 use std::fmt;
@@ -22,7 +22,7 @@ impl TextAdvice<'_> {
         let is_of_words = matches!(self.reason, Reason::WordCount | Reason::NotKnown(_));
         let is_of_log = self.statement.has(b"->") || self.statement.has(b"!");
         let mut lines = self.input.split(is_line_feed);
-        self.command == Command::Order && is_of_words && is_of_log && !lines.any(is_end)
+        self.command == CommandName::Order && is_of_words && is_of_log && !lines.any(is_end)
     }
 
     /// Says that the line `end` is missing above the logs.

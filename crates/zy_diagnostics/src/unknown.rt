@@ -1,6 +1,6 @@
 //! What was meant by a word that is not known.
 
-use crate::above::{Above, Part};
+use crate::above::{Above, TextPart};
 use crate::bytes::{Bytes, Quoted};
 use crate::form::{Form, Shape, is_plain_of_node};
 use crate::line::Statement;
@@ -249,10 +249,10 @@ fn tell_action_of_node<W: fmt::Write>(
 /// Says with which words a line here may begin.
 fn tell_statements<W: fmt::Write>(f: &mut fmt::Formatter<W>, above: Above) -> fmt::Result {
     match above.part() {
-        Part::Choices(_) => f.write_str(
+        TextPart::Choices(_) => f.write_str(
             "below the first choice come choices, of A, B and C, and end",
         ),
-        Part::Program => {
+        TextPart::Program => {
             tell_instructions(f, above)?;
             f.write_str("; below the program come txn, the choices of A, B and C, and end")
         }

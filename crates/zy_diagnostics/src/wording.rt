@@ -1,6 +1,6 @@
 //! What is wrong with the words of a line.
 
-use crate::above::Part;
+use crate::above::TextPart;
 use crate::bytes::{Bytes, Quoted};
 use crate::form::{Form, Shape};
 use crate::header::head_pattern;
@@ -96,8 +96,8 @@ impl TextAdvice<'_> {
     /// Says how a statement is written that has no number where one is due, or one out of its range.
     pub(crate) fn tell_number<W: fmt::Write>(&self, f: &mut fmt::Formatter<W>) -> fmt::Result {
         write!(f, "{}: ", self.reason)?;
-        if let Part::Header(count) = self.above.part() {
-            return f.write_str(head_pattern(Part::Header(count)));
+        if let TextPart::Header(count) = self.above.part() {
+            return f.write_str(head_pattern(TextPart::Header(count)));
         }
         let Some(form) = self.form() else {
             return Ok(());

@@ -8,9 +8,9 @@ use zy_text::Each;
 
 /// The header, the rows and the programs of a scenario.
 #[derive(Clone, Copy)]
-pub struct Head<'a>(pub &'a Scenario);
+pub struct ScenarioHead<'a>(pub &'a Scenario);
 
-impl Section for Head<'_> {
+impl Section for ScenarioHead<'_> {
     ghost texts = { λ s. head_texts s.0.now };
 
     fn write<K: Sink>(&self, sink: &mut K, line: &mut LineBuffer) -> Result<(), TextFault> {

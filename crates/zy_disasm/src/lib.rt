@@ -5,4 +5,4 @@ pub mod head;
 mod lines;
 pub mod text;
 
-pub use crate::head::Head;
+pub use crate::head::ScenarioHead;

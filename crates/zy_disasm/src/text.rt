@@ -3,7 +3,7 @@ ghost use Rattle.std.specs.Prelude.{◌<◌};
 ghost use Rattle.zy_text.specs.Canon.{canon};
 ghost use Rattle.zy_io.specs.Writing.{Wrote};
 
-use crate::head::Head;
+use crate::head::ScenarioHead;
 use std::alloc::Global;
 use zy_io::{AllLines, LineBuffer, One, Section, Sink, TextFault, sections};
 use zy_isa::Scenario;
@@ -21,7 +21,7 @@ pub fn write_text<K: Sink>(
 {
     let mut line = LineBuffer::new(alloc);
     sections!(
-        Head(scenario),
+        ScenarioHead(scenario),
         AllLines(Each(scenario.choices())),
         One("end"),
     )

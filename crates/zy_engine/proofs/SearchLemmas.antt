@@ -13,8 +13,8 @@ use Rattle.zy_isa.specs.Scenario.{Scenario}
 use Rattle.zy_disasm.specs.Lines.{head_texts, end_texts}
 use Rattle.zy_disasm.proofs.CanonLemmas.{canon-parts}
 use Rattle.zy_threads.specs.Orders.{reordered}
-use Rattle.zy_search.specs.declared.answer.Answer.{Answer}
-use Rattle.zy_search.specs.declared.answer.Answer.TheVariants.{Spent}
+use Rattle.zy_search.specs.declared.answer.SearchAnswer.{SearchAnswer}
+use Rattle.zy_search.specs.declared.answer.SearchAnswer.TheVariants.{Spent}
 use Rattle.zy_search.specs.declared.sought.Sought.{Sought}
 use Rattle.zy_search.specs.Searches.{IsAnswer}
 use Rattle.zy_engine.specs.declared.searching.SearchOptions.{SearchOptions}
@@ -97,7 +97,7 @@ nothing_searched o sc q written failures =
     }
 
 -- what was written of a machine's first choices is written of those that are steps already taken
-pub wrote_first : (o : SearchOptions) (sc : Scenario) (answer : Answer) (old new : Option (List ℕ)) (before after : ℕ)
+pub wrote_first : (o : SearchOptions) (sc : Scenario) (answer : SearchAnswer) (old new : Option (List ℕ)) (before after : ℕ)
     (result : Result (Unit {0}) TextFault) (h : History) → h ≡ history_of o.from sc
     → WroteSome (IsTextOf o.wording h.scenario (take (length h.entries) h.scenario.choices) answer) old new before after result
     → WroteSome (IsTextOf o.wording sc (taken o.from sc) answer) old new before after result

@@ -4,7 +4,7 @@ use Rattle.zy_io.specs.Streams.{ReadWhole, ReadSome, ReadTooMuch}
 use Rattle.zy_io.specs.declared.reading.ReadFault.{ReadFault}
 use Rattle.zy_io.specs.declared.writing.TextFault.{TextFault}
 use Rattle.zy_io.specs.declared.writing.TextFault.TheVariants as writing
-use Rattle.zy_asm.specs.declared.faults.Refusal.{Refusal}
+use Rattle.zy_asm.specs.declared.faults.LineFault.{LineFault}
 use Rattle.zy_image.specs.declared.faults.LoadFault.{LoadFault}
 use Rattle.zy_image.specs.declared.faults.LoadFault.TheVariants as loading
 use Rattle.zy_image.specs.declared.refusal.ImageRefusal.{ImageRefusal}
@@ -31,7 +31,7 @@ of_checking checking.TooLong = TooLong
 abbrev pub of_reading : ReadFault → BenchFault
 of_reading f = of_checking (check_of_reading f)
 
-abbrev pub of_refusal : Refusal → BenchFault
+abbrev pub of_refusal : LineFault → BenchFault
 of_refusal r = of_checking (check_of_refusal r)
 
 abbrev pub of_writing : TextFault → BenchFault

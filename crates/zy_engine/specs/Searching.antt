@@ -9,9 +9,9 @@ use Rattle.zy_isa.specs.declared.choice.Choice.{Choice}
 use Rattle.zy_table.specs.Play.{play, opening, entries}
 use Rattle.zy_machine.specs.Histories.{History}
 use Rattle.zy_threads.specs.Orders.{reordered}
-use Rattle.zy_search.specs.declared.answer.Answer.{Answer}
-use Rattle.zy_search.specs.declared.answer.Answer.TheVariants.{Found, Nowhere, Spent}
-use Rattle.zy_search.specs.declared.answer.Report.{Report}
+use Rattle.zy_search.specs.declared.answer.SearchAnswer.{SearchAnswer}
+use Rattle.zy_search.specs.declared.answer.SearchAnswer.TheVariants.{Found, Nowhere, Spent}
+use Rattle.zy_search.specs.declared.answer.SearchReport.{SearchReport}
 use Rattle.zy_search.specs.declared.sought.Sought.{Sought}
 use Rattle.zy_search.specs.Searches.{IsAnswer, IsDue}
 use Rattle.zy_engine.specs.declared.faults.BenchFault.{BenchFault}
@@ -40,7 +40,7 @@ IsWorded wording.Canonical sc text = text ≡ canon sc
 IsWorded wording.Own sc text = Means text sc ⊎ (text ≡ canon sc)
 
 -- a text of an answer: of the scenario with the choices that were found behind those taken, or nothing
-abbrev pub IsTextOf : Wording → Scenario → List Choice → Answer → List ℕ → Type 0
+abbrev pub IsTextOf : Wording → Scenario → List Choice → SearchAnswer → List ℕ → Type 0
 IsTextOf w sc choices (Found v) text = IsWorded w (reordered sc (choices ++ v.items)) text
 IsTextOf w sc choices Nowhere text = text ≡ []
 IsTextOf w sc choices (Spent n) text = text ≡ []
@@ -54,16 +54,16 @@ pub record WroteSome {X : Type 0} (Is : List ℕ → Type 0) (old new : Option (
 
 -- a call that writes a text of an answer, which at Ok is the one that is returned
 pub record WroteAnswer (o : SearchOptions) (sc : Scenario) (q : Sought) (old new : Option (List ℕ))
-    (before after : ℕ) (result : Result Report TextFault) : Type 0 where
-  pub answer : Answer
+    (before after : ℕ) (result : Result SearchReport TextFault) : Type 0 where
+  pub answer : SearchAnswer
   pub is : IsAnswer (history_of o.from sc) q answer
   pub returned : IfOk result (λ r. r.answer ≡ answer)
   pub due : IfOk result (λ r. IsDue (history_of o.from sc) q o.most r.answer)
   pub wrote : WroteSome (IsTextOf o.wording sc (taken o.from sc) answer) old new before after result
 
 -- and the engine: the answer is one for the scenario that the input stands for, and one that gives up is due
-pub record ConvertsSearch (o : SearchOptions) (q : Sought) (old new : Streams) (result : Result Report BenchFault) : Type 0 where
-  pub answer : Answer
+pub record ConvertsSearch (o : SearchOptions) (q : Sought) (old new : Streams) (result : Result SearchReport BenchFault) : Type 0 where
+  pub answer : SearchAnswer
   pub text : List ℕ
   pub is : IfSome old.left (λ bytes. (sc : Scenario) → StandsFor o.format bytes sc
       → IsAnswer (history_of o.from sc) q answer)

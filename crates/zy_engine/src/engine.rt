@@ -11,7 +11,7 @@ ghost use Rattle.zy_trace.specs.Trace.{trace};
 
 use crate::faults::BenchFault;
 use crate::format::{Format, read_scenario};
-use crate::output::{Output, Shown};
+use crate::output::{RunFormat, SourceFormat};
 use std::alloc::Global;
 use zy_io::{Sink, Source};
 use zy_machine::Machine;
@@ -30,7 +30,7 @@ pub fn run_bytes<S: Source, K: Sink>(
     ensures { let at = streams S.left S.failures S.given K.written K.failures in
         Converts format listing_run (at source.old sink.old) (at source.new sink.new) result }
 {
-    run(alloc, format, Shown::Listing, source, sink, input)
+    run(alloc, format, RunFormat::Listing, source, sink, input)
 }
 
 /// Reads a scenario whole, makes its choices, writes the trace, and gives the machine that has made them. The trace has
@@ -46,7 +46,7 @@ pub fn trace_bytes<S: Source, K: Sink>(
     ensures { let at = streams S.left S.failures S.given K.written K.failures in
         Converts format trace (at source.old sink.old) (at source.new sink.new) result }
 {
-    run(alloc, format, Shown::Trace, source, sink, input)
+    run(alloc, format, RunFormat::Trace, source, sink, input)
 }
 
 /// Reads a scenario text whole, and writes its image.
@@ -61,7 +61,14 @@ pub fn asm_bytes<S: Source, K: Sink>(
     ensures { let at = streams S.left S.failures S.given K.written K.failures in
         Converts Text image_of (at source.old sink.old) (at source.new sink.new) result }
 {
-    convert(alloc, Format::Text, Output::Image, source, sink, input)
+    convert(
+        alloc,
+        Format::Text,
+        SourceFormat::Image,
+        source,
+        sink,
+        input,
+    )
 }
 
 /// Reads an image whole, and writes the canonical text of its scenario.
@@ -76,14 +83,21 @@ pub fn dis_bytes<S: Source, K: Sink>(
     ensures { let at = streams S.left S.failures S.given K.written K.failures in
         Converts Image canon (at source.old sink.old) (at source.new sink.new) result }
 {
-    convert(alloc, Format::Image, Output::Text, source, sink, input)
+    convert(
+        alloc,
+        Format::Image,
+        SourceFormat::Text,
+        source,
+        sink,
+        input,
+    )
 }
 
 /// Reads a scenario whole, makes its choices, writes something of the run, and gives the machine that has made them.
 fn run<S: Source, K: Sink>(
     alloc: Global,
     format: Format,
-    shown: Shown,
+    shown: RunFormat,
     source: &mut S,
     sink: &mut K,
     input: &mut Vec<u8>,
@@ -101,7 +115,7 @@ fn run<S: Source, K: Sink>(
 fn convert<S: Source, K: Sink>(
     alloc: Global,
     format: Format,
-    output: Output,
+    output: SourceFormat,
     source: &mut S,
     sink: &mut K,
     input: &mut Vec<u8>,

@@ -4,7 +4,7 @@ ghost use Rattle.zy_engine.specs.Faults.{of_checking, of_image_refusal, of_readi
 
 use std::alloc::AllocError;
 use thiserror::Error;
-use zy_asm::Refusal;
+use zy_asm::LineFault;
 use zy_check::CheckFault;
 use zy_image::{ImageRefusal, LoadFault};
 use zy_io::{ReadFault, TextFault};
@@ -14,7 +14,7 @@ use zy_io::{ReadFault, TextFault};
 pub enum BenchFault {
     /// The scenario text is refused, from this line on.
     #[error("Input(line {}, {:?}): {}", .0.line, .0.reason.kind(), .0.reason)]
-    Input(Refusal),
+    Input(LineFault),
     /// The image is refused.
     #[error("Image({:?}): {}", .0.fault, .0)]
     Image(ImageRefusal),
@@ -56,10 +56,10 @@ impl From<ReadFault> for BenchFault {
     }
 }
 
-impl From<Refusal> for BenchFault {
+impl From<LineFault> for BenchFault {
     ghost from_gives = { λ r e. e ≡ of_refusal r };
 
-    fn from(refusal: Refusal) -> BenchFault {
+    fn from(refusal: LineFault) -> BenchFault {
         BenchFault::from(CheckFault::from(refusal))
     }
 }

@@ -3,7 +3,7 @@ ghost use Rattle.std.specs.Prelude.{◌≡◌, ◌<◌, IfOk};
 ghost use Rattle.zy_io.specs.Writing.{Wrote};
 ghost use Rattle.zy_table.specs.Play.{entries, opening, play};
 ghost use Rattle.zy_engine.specs.Outputs.{output_of, shown_of};
-ghost use Rattle.zy_engine.specs.declared.output.Output.TheVariants.{Image};
+ghost use Rattle.zy_engine.specs.declared.output.SourceFormat.TheVariants.{Image};
 
 use std::alloc::Global;
 use zy_disasm::text::write_text;
@@ -17,14 +17,14 @@ use zy_trace::trace::write_trace;
 
 /// What can be written of a scenario's run.
 #[derive(Clone, Copy)]
-pub enum Shown {
+pub enum RunFormat {
     /// The listing.
     Listing,
     /// The trace.
     Trace,
 }
 
-impl Shown {
+impl RunFormat {
     /// Makes the choices of a scenario, writes it, or a prefix of it, and gives the machine that has made them.
     pub fn write<K: Sink>(
         self,
@@ -42,22 +42,22 @@ impl Shown {
         }) }
     {
         match self {
-            Shown::Listing => write_run(alloc, scenario, sink),
-            Shown::Trace => write_trace(alloc, scenario, sink),
+            RunFormat::Listing => write_run(alloc, scenario, sink),
+            RunFormat::Trace => write_trace(alloc, scenario, sink),
         }
     }
 }
 
 /// What can be written of a scenario without its run.
 #[derive(Clone, Copy)]
-pub enum Output {
+pub enum SourceFormat {
     /// Its image.
     Image,
     /// Its canonical text.
     Text,
 }
 
-impl Output {
+impl SourceFormat {
     /// Writes it, or a prefix of it.
     pub fn write<K: Sink>(
         self,
@@ -70,8 +70,8 @@ impl Output {
             (K.failures sink.new) result (output_of self scenario) }
     {
         match self {
-            Output::Image => write_image(alloc, &scenario, sink),
-            Output::Text => write_text(alloc, &scenario, sink),
+            SourceFormat::Image => write_image(alloc, &scenario, sink),
+            SourceFormat::Text => write_text(alloc, &scenario, sink),
         }
     }
 }

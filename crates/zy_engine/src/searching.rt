@@ -15,13 +15,13 @@ use crate::wording::{Wording, reworded};
 use std::alloc::{AllocError, Global};
 use std::thread::{Threads, available_parallelism};
 use zy_asm::assembling::assemble_bytes;
-use zy_disasm::Head;
+use zy_disasm::ScenarioHead;
 use zy_io::writing::write_all;
 use zy_io::{AllLines, LineBuffer, MAX_INPUT, One, Section, Sink, Source, TextFault, sections};
 use zy_isa::{Choice, Scenario};
 use zy_machine::{Fault, Machine};
 use zy_search::search::search;
-use zy_search::{Answer, Limits, MOST_THREADS, Report, Sought, Watch};
+use zy_search::{Limits, MOST_THREADS, SearchAnswer, SearchReport, Sought, Watch};
 use zy_stops::replay::{advance_to, start};
 use zy_text::Each;
 
@@ -129,7 +129,7 @@ fn write_canonical<K: Sink>(
 {
     let mut line = LineBuffer::new(alloc);
     sections!(
-        Head(scenario),
+        ScenarioHead(scenario),
         AllLines(Each(&scenario.choices()[..kept])),
         AllLines(Each(more)),
         One("end"),
@@ -189,7 +189,7 @@ fn write_answer<K: Sink>(
     wording: Wording,
     text: &[u8],
     machine: &Machine,
-    answer: &Answer,
+    answer: &SearchAnswer,
     sink: &mut K,
 ) -> Result<(), TextFault>
     requires taken { length machine.now.entries ≤ length machine.now.scenario.choices }
@@ -199,9 +199,9 @@ fn write_answer<K: Sink>(
         (K.written sink.old) (K.written sink.new) (K.failures sink.old) (K.failures sink.new) result }
 {
     match answer {
-        Answer::Found(path) => write_found(alloc, wording, text, machine, path, sink),
-        Answer::Nowhere => Ok(()),
-        Answer::Spent(_) => Ok(()),
+        SearchAnswer::Found(path) => write_found(alloc, wording, text, machine, path, sink),
+        SearchAnswer::Nowhere => Ok(()),
+        SearchAnswer::Spent(_) => Ok(()),
     }
 }
 
@@ -227,7 +227,7 @@ fn write_search<R: Threads + Sync, K: Sink, W: Watch>(
     sought: Sought,
     sink: &mut K,
     watch: &mut W,
-) -> Result<Report, TextFault>
+) -> Result<SearchReport, TextFault>
     requires { K.failures sink.old < u64.MAX }
     ensures { WroteAnswer options scenario sought (K.written sink.old) (K.written sink.new) (K.failures sink.old)
         (K.failures sink.new) result }
@@ -255,7 +255,7 @@ pub fn search_bytes<R: Threads + Sync, S: Source, K: Sink, W: Watch>(
     sink: &mut K,
     input: &mut Vec<u8>,
     watch: &mut W,
-) -> Result<Report, BenchFault>
+) -> Result<SearchReport, BenchFault>
     requires { (S.failures source.old < u64.MAX) × (K.failures sink.old < u64.MAX) }
     ensures { let at = streams S.left S.failures S.given K.written K.failures in
         ConvertsSearch options sought (at source.old sink.old) (at source.new sink.new) result }

@@ -7,7 +7,7 @@ ghost use Rattle.std.specs.Prelude.{◌<◌};
 mod faults;
 mod run;
 
-use faults::Fault;
+use faults::RunFault;
 use run::run;
 use std::io;
 use std::io::{BufWriter, Write};
@@ -15,19 +15,19 @@ use std::process::ExitCode;
 use zy_io::{CountingReader, CountingWriter};
 
 /// Passes on what is kept back for standard output.
-fn flush<W: Write>(sink: &mut CountingWriter<W>) -> Result<(), Fault>
+fn flush<W: Write>(sink: &mut CountingWriter<W>) -> Result<(), RunFault>
     requires { sink.old.1 < u64.MAX }
 {
     match sink.flush() {
         Ok(()) => Ok(()),
-        Err(_) => Err(Fault::Write),
+        Err(_) => Err(RunFault::Write),
     }
 }
 
 /// Writes the listing of the scenario on standard input.
-fn list<R: Print + Input + AllocGlobal>(rt: &R) -> Result<(), Fault> {
+fn list<R: Print + Input + AllocGlobal>(rt: &R) -> Result<(), RunFault> {
     let Ok(buffer) = BufWriter::new(rt.alloc(), io::writer(rt)) else {
-        return Err(Fault::Memory);
+        return Err(RunFault::Memory);
     };
     let mut source = CountingReader::new(rt.reader());
     let mut sink = CountingWriter::new(buffer);

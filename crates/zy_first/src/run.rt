@@ -3,7 +3,7 @@ ghost use Rattle.std.specs.Prelude.{◌≡◌, ◌<◌, IfOk, IfSome, OnOk};
 ghost use Rattle.zy_text.specs.Text.{Means};
 ghost use Rattle.zy_first.specs.Runs.{WritesListing};
 
-use crate::faults::Fault;
+use crate::faults::RunFault;
 use std::alloc::Global;
 use zy_asm::assembling::assemble_bytes;
 use zy_io::reading::read_all;
@@ -12,7 +12,7 @@ use zy_isa::Scenario;
 use zy_listing::run::write_run;
 
 /// Reads a scenario text whole, and returns its scenario.
-fn read_scenario<S: Source>(alloc: Global, source: &mut S) -> Result<Scenario, Fault>
+fn read_scenario<S: Source>(alloc: Global, source: &mut S) -> Result<Scenario, RunFault>
     requires { S.failures source.old < u64.MAX }
     ensures { IfOk result (λ sc. IfSome (S.left source.old) (λ bytes. Means bytes sc)) }
 {
@@ -22,7 +22,7 @@ fn read_scenario<S: Source>(alloc: Global, source: &mut S) -> Result<Scenario, F
 }
 
 /// Reads a scenario text whole, makes its choices, and writes its listing.
-pub fn run<S: Source, K: Sink>(alloc: Global, source: &mut S, sink: &mut K) -> Result<(), Fault>
+pub fn run<S: Source, K: Sink>(alloc: Global, source: &mut S, sink: &mut K) -> Result<(), RunFault>
     requires { (S.failures source.old < u64.MAX) × (K.failures sink.old < u64.MAX) }
     // At Ok the text means a scenario, and exactly its listing went out.
     ensures written { OnOk result (WritesListing (S.left source.old) (K.written sink.old) (K.written sink.new)) }

@@ -3,12 +3,12 @@ use Rattle.std.proofs.Common.{◌≡◌, ◌∙◌, inl, inr, ℕ, Bool, true, f
 use Rattle.std.specs.Prelude.{IfOk, IfErr}
 use Rattle.zy_goals.specs.declared.names.Names.{Names}
 use Rattle.zy_goals.specs.declared.outcomes.OutcomePattern.{OutcomePattern}
-use Rattle.zy_goals.specs.declared.refusal.ReadFault.{ReadFault}
-use Rattle.zy_goals.specs.declared.refusal.ReadFault.TheVariants.{Refused, Memory}
+use Rattle.zy_goals.specs.declared.refusal.GoalFault.{GoalFault}
+use Rattle.zy_goals.specs.declared.refusal.GoalFault.TheVariants.{Refused, Memory}
 use Rattle.zy_goals.specs.declared.reading.Query.{Query}
 use Rattle.zy_goals.specs.declared.reading.expressions.Operator.{Operator}
 use Rattle.zy_goals.specs.declared.reading.expressions.Operator.TheVariants.{Or, And}
-use Rattle.zy_goals.specs.declared.reading.expressions.Part.{Part}
+use Rattle.zy_goals.specs.declared.reading.expressions.Prefix.{Prefix}
 use Rattle.zy_goals.specs.Words.{Word, after, are_none, begin_with}
 use Rattle.zy_goals.specs.Cursors.{left}
 use Rattle.zy_goals.specs.Vocabulary.{lone_fact, why}
@@ -78,19 +78,19 @@ value_or y (Some x) = x
 -- ---- goals
 
 -- what is read is what the words mean, and nothing else is; what is refused means nothing
-abbrev pub AnswersGoal : Names → List Word → Result Query ReadFault → Type 0
+abbrev pub AnswersGoal : Names → List Word → Result Query GoalFault → Type 0
 AnswersGoal names ws (Ok q) = Means names ws q × ((r : Query) → Means names ws r → AreOne q r)
 AnswersGoal names ws (Err e) = OnRefused e (IsNoGoal names ws)
 
 -- the clauses of the reader of goals
-pub goal_clauses : (names : Names) (ws : List Word) (x : Result Query ReadFault) → AnswersGoal names ws x
+pub goal_clauses : (names : Names) (ws : List Word) (x : Result Query GoalFault) → AnswersGoal names ws x
     → IfOk x (λ q. Means names ws q) × IfOk x (λ q. (r : Query) → Means names ws r → AreOne q r)
     × IfErr x (λ e. OnRefused e (IsNoGoal names ws))
 goal_clauses names ws (Ok q) h = (h.0, h.1, tt)
 goal_clauses names ws (Err e) h = (tt, tt, h)
 
 -- the expression is refused
-pub goal_missed : (names : Names) (ws : List Word) (e : ReadFault) → begin_with (codes "then") ws ≡ false
+pub goal_missed : (names : Names) (ws : List Word) (e : GoalFault) → begin_with (codes "then") ws ≡ false
     → Answers names 0 ws max_parts (Err e) → AnswersGoal names ws (Err e)
 goal_missed names ws Memory b h = tt
 goal_missed names ws (Refused r) b h = record {
@@ -102,7 +102,7 @@ goal_missed names ws (Refused r) b h = record {
 }
 
 -- the expression was read
-pub goal_asked : (names : Names) (ws : List Word) (p : Part) (x : Result Query ReadFault) → begin_with (codes "then") ws ≡ false
+pub goal_asked : (names : Names) (ws : List Word) (p : Prefix) (x : Result Query GoalFault) → begin_with (codes "then") ws ≡ false
     → Finds names 0 ws max_parts p → Asks p x → AnswersGoal names ws x
 goal_asked names ws p (Ok q) b f a = (
   inl (record {
@@ -137,7 +137,7 @@ goal_asked names ws p (Err (Refused r)) b f a = record {
 }
 
 -- `then` alone
-pub goal_then : (names : Names) (ws : List Word) (x : Result Query ReadFault) → begin_with (codes "then") ws ≡ true
+pub goal_then : (names : Names) (ws : List Word) (x : Result Query GoalFault) → begin_with (codes "then") ws ≡ true
     → AsksThen ws x → AnswersGoal names ws x
 goal_then names ws (Ok q) b a = (
   inr a,
@@ -163,19 +163,19 @@ goal_then names ws (Err (Refused r)) b a = record {
 -- ---- goals that every state is to meet
 
 -- what is read is what the words mean, and nothing else is; what is refused means nothing
-abbrev pub AnswersNever : Names → List Word → Result Query ReadFault → Type 0
+abbrev pub AnswersNever : Names → List Word → Result Query GoalFault → Type 0
 AnswersNever names ws (Ok q) = MeansNever names ws q × ((r : Query) → MeansNever names ws r → AreOne q r)
 AnswersNever names ws (Err e) = OnRefused e (IsNoInvariant names ws)
 
 -- the clauses of their reader
-pub never_clauses : (names : Names) (ws : List Word) (x : Result Query ReadFault) → AnswersNever names ws x
+pub never_clauses : (names : Names) (ws : List Word) (x : Result Query GoalFault) → AnswersNever names ws x
     → IfOk x (λ q. MeansNever names ws q) × IfOk x (λ q. (r : Query) → MeansNever names ws r → AreOne q r)
     × IfErr x (λ e. OnRefused e (IsNoInvariant names ws))
 never_clauses names ws (Ok q) h = (h.0, h.1, tt)
 never_clauses names ws (Err e) h = (tt, tt, h)
 
 -- the expression is refused
-pub never_missed : (names : Names) (ws : List Word) (e : ReadFault) → Answers names 0 ws max_parts (Err e)
+pub never_missed : (names : Names) (ws : List Word) (e : GoalFault) → Answers names 0 ws max_parts (Err e)
     → AnswersNever names ws (Err e)
 never_missed names ws Memory h = tt
 never_missed names ws (Refused r) h = record {
@@ -184,7 +184,7 @@ never_missed names ws (Refused r) h = record {
 }
 
 -- the expression was read
-pub never_asked : (names : Names) (ws : List Word) (p : Part) (x : Result Query ReadFault) → Finds names 0 ws max_parts p
+pub never_asked : (names : Names) (ws : List Word) (p : Prefix) (x : Result Query GoalFault) → Finds names 0 ws max_parts p
     → AsksNever p x → AnswersNever names ws x
 never_asked names ws p (Ok q) f a = (
   record {

@@ -4,10 +4,10 @@ use Rattle.std.proofs.lemmas.Slice.Eq.{bytes_eq-Decides}
 use Rattle.zy_goals.specs.declared.names.Names.{Names}
 use Rattle.zy_goals.specs.declared.goal.Fact.{Fact}
 use Rattle.zy_goals.specs.declared.goal.Goal.{Is}
-use Rattle.zy_goals.specs.declared.reading.cursor.Cursor.{Cursor}
-use Rattle.zy_goals.specs.declared.reading.expressions.Part.{Part}
-use Rattle.zy_goals.specs.declared.refusal.ReadFault.{ReadFault}
-use Rattle.zy_goals.specs.declared.refusal.ReadFault.TheVariants.{Refused, Memory}
+use Rattle.zy_goals.specs.declared.reading.cursor.GoalCursor.{GoalCursor}
+use Rattle.zy_goals.specs.declared.reading.expressions.Prefix.{Prefix}
+use Rattle.zy_goals.specs.declared.refusal.GoalFault.{GoalFault}
+use Rattle.zy_goals.specs.declared.refusal.GoalFault.TheVariants.{Refused, Memory}
 use Rattle.zy_goals.specs.declared.reading.expressions.Operator.{Operator}
 use Rattle.zy_goals.specs.declared.reading.expressions.Operator.TheVariants.{Or, And}
 use Rattle.zy_goals.specs.Words.{Word, Read, after, begin_with}
@@ -106,24 +106,24 @@ only_fact names (joined o t u) ws rest b n r = too_tight o r.1
 -- ---- faults
 
 -- what is known of a refusal is an answer
-pub missed : (names : Names) (l : ℕ) (ws : List Word) (n : ℕ) (e : ReadFault) → Misses names l ws n e → Answers names l ws n (Err e)
+pub missed : (names : Names) (l : ℕ) (ws : List Word) (n : ℕ) (e : GoalFault) → Misses names l ws n e → Answers names l ws n (Err e)
 missed names l ws n Memory h = tt
 missed names l ws n (Refused r) h = h
 
 -- ---- a fact
 
 -- no part is left for a fact
-pub lone_uncounted : (names : Names) (ws : List Word) (n : ℕ) (e : ReadFault) → begin_with (codes "(") ws ≡ false
+pub lone_uncounted : (names : Names) (ws : List Word) (n : ℕ) (e : GoalFault) → begin_with (codes "(") ws ≡ false
     → begin_with (codes "not") ws ≡ false → (n ≡ 0) × IsForParts e → Answers names 2 ws n (Err e)
 lone_uncounted names ws n e b k h =
     missed names 2 ws n e (λ t rest r s. let f = only_fact names t ws rest b k r in (omega (arith, f.2, h.0), h.1))
 
 -- what a fact was read as
-abbrev pub fact_part : Fact → Cursor → ℕ → Part
+abbrev pub fact_part : Fact → GoalCursor → ℕ → Prefix
 fact_part x at m = record { goal = Is x; at = at; spare = m }
 
 -- a fact was read
-pub lone_found : (names : Names) (ws : List Word) (n m : ℕ) (x : Fact) (at : Cursor) → begin_with (codes "(") ws ≡ false
+pub lone_found : (names : Names) (ws : List Word) (n m : ℕ) (x : Fact) (at : GoalCursor) → begin_with (codes "(") ws ≡ false
     → begin_with (codes "not") ws ≡ false → Some (x, left at) ≡ fact_of names ws → n ≡ suc m
     → Finds names 2 ws n (fact_part x at m)
 lone_found names ws n m x at b k e h = record {
@@ -148,13 +148,13 @@ no_lone names t ws rest b k h r =
 -- ---- `not`
 
 -- no part is left for `not`
-pub not_uncounted : (names : Names) (ws : List Word) (n : ℕ) (e : ReadFault) → begin_with (codes "not") ws ≡ true
+pub not_uncounted : (names : Names) (ws : List Word) (n : ℕ) (e : GoalFault) → begin_with (codes "not") ws ≡ true
     → (n ≡ 0) × IsForParts e → Answers names 2 ws n (Err e)
 not_uncounted names ws n e b h =
     missed names 2 ws n e (λ t rest r s. let u = inside_not names t ws rest b r in (omega (arith, u.2, h.0), h.1))
 
 -- what `not` negates is refused
-pub not_missed : (names : Names) (ws vs : List Word) (n m : ℕ) (e : ReadFault) → begin_with (codes "not") ws ≡ true → n ≡ suc m
+pub not_missed : (names : Names) (ws vs : List Word) (n m : ℕ) (e : GoalFault) → begin_with (codes "not") ws ≡ true → n ≡ suc m
     → vs ≡ after ws → Answers names 2 vs m (Err e) → Answers names 2 ws n (Err e)
 not_missed names ws vs n m Memory b en ev h = tt
 not_missed names ws vs n m (Refused f) b en ev h = λ t rest r s.
@@ -163,7 +163,7 @@ not_missed names ws vs n m (Refused f) b en ev h = λ t rest r s.
     (omega (arith, k.0, u.2, en), k.1)
 
 -- what `not` negates was read
-pub not_found : (names : Names) (ws vs : List Word) (n m : ℕ) (p q : Part) → begin_with (codes "not") ws ≡ true → n ≡ suc m
+pub not_found : (names : Names) (ws vs : List Word) (n m : ℕ) (p q : Prefix) → begin_with (codes "not") ws ≡ true → n ≡ suc m
     → vs ≡ after ws → Finds names 2 vs m p → Negates p q → Finds names 2 ws n q
 not_found names ws vs n m p q b en ev f g = record {
   tree = negated f.tree;
@@ -195,13 +195,13 @@ bracket_stops : (rest : List Word) → Stops 0 (codes ")" ∷ rest)
 bracket_stops rest = λ o h. no_operator o rest
 
 -- no part is left for a pair of brackets
-pub brackets_uncounted : (names : Names) (ws : List Word) (n : ℕ) (e : ReadFault) → begin_with (codes "(") ws ≡ true
+pub brackets_uncounted : (names : Names) (ws : List Word) (n : ℕ) (e : GoalFault) → begin_with (codes "(") ws ≡ true
     → (n ≡ 0) × IsForParts e → Answers names 2 ws n (Err e)
 brackets_uncounted names ws n e b h =
     missed names 2 ws n e (λ t rest r s. let u = inside_brackets names t ws rest b r in (omega (arith, u.2, h.0), h.1))
 
 -- what stands in brackets is refused
-pub brackets_missed : (names : Names) (ws vs : List Word) (n m : ℕ) (e : ReadFault) → begin_with (codes "(") ws ≡ true → n ≡ suc m
+pub brackets_missed : (names : Names) (ws vs : List Word) (n m : ℕ) (e : GoalFault) → begin_with (codes "(") ws ≡ true → n ≡ suc m
     → vs ≡ after ws → Answers names 0 vs m (Err e) → Answers names 2 ws n (Err e)
 brackets_missed names ws vs n m Memory b en ev h = tt
 brackets_missed names ws vs n m (Refused f) b en ev h = λ t rest r s.
@@ -210,7 +210,7 @@ brackets_missed names ws vs n m (Refused f) b en ev h = λ t rest r s.
     (omega (arith, k.0, u.2, en), k.1)
 
 -- what stands in brackets was read, and the bracket that closes them or another word
-pub brackets_closed : (names : Names) (ws vs : List Word) (n m : ℕ) (p : Part) (x : Result Part ReadFault)
+pub brackets_closed : (names : Names) (ws vs : List Word) (n m : ℕ) (p : Prefix) (x : Result Prefix GoalFault)
     → begin_with (codes "(") ws ≡ true → n ≡ suc m → vs ≡ after ws → Finds names 0 vs m p → Closes p x → Answers names 2 ws n x
 brackets_closed names ws vs n m p (Ok q) b en ev f g = record {
   tree = bracketed f.tree;
@@ -318,7 +318,7 @@ spine names And (joined And t u) ws rest r =
     }
 
 -- the first operand is refused
-pub chain_missed : (names : Names) (o : Operator) (ws : List Word) (n : ℕ) (e : ReadFault) → Answers names (suc (level_of o)) ws n (Err e)
+pub chain_missed : (names : Names) (o : Operator) (ws : List Word) (n : ℕ) (e : GoalFault) → Answers names (suc (level_of o)) ws n (Err e)
     → Answers names (level_of o) ws n (Err e)
 chain_missed names o ws n Memory h = tt
 chain_missed names o ws n (Refused f) h = λ t rest r s.
@@ -327,7 +327,7 @@ chain_missed names o ws n (Refused f) h = λ t rest r s.
     (omega (arith, k.0, x.parts), k.1)
 
 -- the first operand was read, and those behind it are read or refused
-pub chain_more : (names : Names) (o : Operator) (ws : List Word) (n : ℕ) (p : Part) (x : Result Part ReadFault)
+pub chain_more : (names : Names) (o : Operator) (ws : List Word) (n : ℕ) (p : Prefix) (x : Result Prefix GoalFault)
     → Finds names (suc (level_of o)) ws n p → AnswersMore names o p x → Answers names (level_of o) ws n x
 chain_more names o ws n p (Ok q) f g =
     let j = g.joins f.tree ws (loosened names (level_of o) f.tree ws (left p.at) f.reads) f.says in
@@ -359,7 +359,7 @@ no_more names o t [] ws rest n b ch = (sym ch, omega arith, refl)
 no_more names o t (u ∷ us) ws rest n b ch = both_answers (begin_with (word_of o) ws) (at_operator o ws ch.0 ch.2) b
 
 -- no operator comes
-pub more_stops : (names : Names) (o : Operator) (p : Part) → begin_with (word_of o) (left p.at) ≡ false → FindsMore names o p p
+pub more_stops : (names : Names) (o : Operator) (p : Prefix) → begin_with (word_of o) (left p.at) ≡ false → FindsMore names o p p
 more_stops names o p b = record {
   joins = λ t ws r s. (t, r, s, refl);
   only = λ t us rest says ch s.
@@ -392,20 +392,20 @@ next names o (u ∷ us) ws rest b ch s = record {
 }
 
 -- what is known of a refusal is an answer
-missed_more : (names : Names) (o : Operator) (p : Part) (e : ReadFault) → MissesMore names o (left p.at) p.spare e
+missed_more : (names : Names) (o : Operator) (p : Prefix) (e : GoalFault) → MissesMore names o (left p.at) p.spare e
     → AnswersMore names o p (Err e)
 missed_more names o p Memory h = tt
 missed_more names o p (Refused r) h = h
 
 -- no part is left for an operator
-pub more_uncounted : (names : Names) (o : Operator) (p : Part) (e : ReadFault) → begin_with (word_of o) (left p.at) ≡ true
+pub more_uncounted : (names : Names) (o : Operator) (p : Prefix) (e : GoalFault) → begin_with (word_of o) (left p.at) ≡ true
     → (p.spare ≡ 0) × IsForParts e → AnswersMore names o p (Err e)
 more_uncounted names o p e b h =
     missed_more names o p e (λ us rest ch s.
     let x = next names o us (left p.at) rest b ch s in (omega (arith, x.parts, h.0), h.1))
 
 -- the next operand is refused
-pub more_missed : (names : Names) (o : Operator) (p : Part) (vs : List Word) (m : ℕ) (e : ReadFault)
+pub more_missed : (names : Names) (o : Operator) (p : Prefix) (vs : List Word) (m : ℕ) (e : GoalFault)
     → begin_with (word_of o) (left p.at) ≡ true → p.spare ≡ suc m → vs ≡ after (left p.at)
     → Answers names (suc (level_of o)) vs m (Err e) → AnswersMore names o p (Err e)
 more_missed names o p vs m Memory b en ev h = tt
@@ -416,7 +416,7 @@ more_missed names o p vs m (Refused f) b en ev h = λ us rest ch s.
     (omega (arith, k.0, x.parts, en), k.1)
 
 -- the next operand was read and joined, and those behind it are read or refused
-pub more_joined : (names : Names) (o : Operator) (p q j : Part) (vs : List Word) (m : ℕ) (x : Result Part ReadFault)
+pub more_joined : (names : Names) (o : Operator) (p q j : Prefix) (vs : List Word) (m : ℕ) (x : Result Prefix GoalFault)
     → begin_with (word_of o) (left p.at) ≡ true → p.spare ≡ suc m → vs ≡ after (left p.at)
     → Finds names (suc (level_of o)) vs m q → Joins o p q j → AnswersMore names o j x → AnswersMore names o p x
 more_joined names o p q j vs m (Ok y) b en ev f g h = record {

@@ -1,7 +1,7 @@
 -- Worked goals: what some texts mean, computed.
 use Rattle.std.proofs.Common.{◌≡◌, inl, ℕ, [], ◌∷◌, None, Some, codes, refl, sym, ap, arith}
 use Rattle.zy_isa.specs.declared.node.Node.TheVariants.{A}
-use Rattle.zy_goals.specs.declared.goal.Reason.TheVariants as reason
+use Rattle.zy_goals.specs.declared.goal.AbortReason.TheVariants as reason
 use Rattle.zy_goals.specs.declared.goal.Selector.TheVariants as selector
 use Rattle.zy_goals.specs.declared.goal.TxnProperty.TheVariants as property
 use Rattle.zy_goals.specs.declared.goal.MessagePattern.TheVariants as pattern

@@ -9,10 +9,10 @@ use Rattle.zy_goals.specs.declared.goal.Fact.TheVariants as facts
 use Rattle.zy_goals.specs.declared.goal.Goal.{Goal, Is, Not', And', Or'}
 use Rattle.zy_goals.specs.declared.outcomes.OutcomePattern.{OutcomePattern}
 use Rattle.zy_goals.specs.declared.names.Names.{Names}
-use Rattle.zy_goals.specs.declared.refusal.Expected.TheVariants as expected
-use Rattle.zy_goals.specs.declared.refusal.Refusal.{Refusal}
-use Rattle.zy_goals.specs.declared.refusal.ReadFault.{ReadFault}
-use Rattle.zy_goals.specs.declared.refusal.ReadFault.TheVariants.{Refused, Memory}
+use Rattle.zy_goals.specs.declared.refusal.ExpectedInGoal.TheVariants as expected
+use Rattle.zy_goals.specs.declared.refusal.WordFault.{WordFault}
+use Rattle.zy_goals.specs.declared.refusal.GoalFault.{GoalFault}
+use Rattle.zy_goals.specs.declared.refusal.GoalFault.TheVariants.{Refused, Memory}
 use Rattle.zy_goals.specs.declared.reading.expressions.Operator.{Operator}
 use Rattle.zy_goals.specs.declared.reading.expressions.Operator.TheVariants.{Or, And}
 use Rattle.zy_goals.specs.declared.reading.Query.{Query}
@@ -134,17 +134,17 @@ pub record AreOne (q r : Query) : Type 0 where
 -- ---- refusals
 
 -- what is known where words are refused; where memory was refused nothing is known
-abbrev pub OnRefused : ReadFault → (Refusal → Type 0) → Type 0
+abbrev pub OnRefused : GoalFault → (WordFault → Type 0) → Type 0
 OnRefused (Refused r) P = P r
 OnRefused Memory P = Unit {0}
 
 -- The words mean no query. Where they are refused although they would mean one if more parts were allowed, the refusal says
 -- so.
-pub record IsNoGoal (names : Names) (ws : List Word) (r : Refusal) : Type 0 where
+pub record IsNoGoal (names : Names) (ws : List Word) (r : WordFault) : Type 0 where
   pub nothing : (q : Query) → Means names ws q → ⊥
   pub too_long : IsTooLong names ws → r.expected ≡ expected.FewerParts
 
 -- the same of a goal that every state is to meet
-pub record IsNoInvariant (names : Names) (ws : List Word) (r : Refusal) : Type 0 where
+pub record IsNoInvariant (names : Names) (ws : List Word) (r : WordFault) : Type 0 where
   pub nothing : (q : Query) → MeansNever names ws q → ⊥
   pub too_long : IsTooLongNever names ws → r.expected ≡ expected.FewerParts

@@ -2,7 +2,7 @@
 use Rattle.std.specs.Prelude.{ℕ, ◌==◌, Bool, false}
 use Rattle.zy_table.specs.declared.outcome.Outcome.{Outcome}
 use Rattle.zy_table.specs.declared.outcome.Outcome.TheVariants as outcome
-use Rattle.zy_goals.specs.declared.goal.Reason.{Reason}
+use Rattle.zy_goals.specs.declared.goal.AbortReason.{AbortReason}
 use Rattle.zy_goals.specs.declared.outcomes.OutcomeKind.{OutcomeKind}
 use Rattle.zy_goals.specs.declared.outcomes.OutcomeKind.TheVariants as kind
 use Rattle.zy_goals.specs.declared.outcomes.OutcomePattern.{OutcomePattern}
@@ -71,7 +71,7 @@ outcome_number outcome.NoPush = 27
 outcome_number (outcome.Aborted w) = 0
 
 -- an outcome is an abort for this reason
-abbrev pub is_abort : Reason → Outcome → Bool
+abbrev pub is_abort : AbortReason → Outcome → Bool
 is_abort r (outcome.Aborted w) = is_for r w
 is_abort r o = false
 

@@ -4,8 +4,8 @@ use Rattle.zy_isa.specs.declared.node.Node.{Node}
 use Rattle.zy_model.specs.declared.kind.Kind.{Kind}
 use Rattle.zy_model.specs.declared.kind.Kind.TheVariants as kind
 use Rattle.zy_text.specs.Words.{is_numeral}
-use Rattle.zy_goals.specs.declared.goal.Reason.{Reason}
-use Rattle.zy_goals.specs.declared.goal.Reason.TheVariants as reason
+use Rattle.zy_goals.specs.declared.goal.AbortReason.{AbortReason}
+use Rattle.zy_goals.specs.declared.goal.AbortReason.TheVariants as reason
 use Rattle.zy_goals.specs.declared.goal.PagePlace.TheVariants as place
 use Rattle.zy_goals.specs.declared.goal.Selector.{Selector}
 use Rattle.zy_goals.specs.declared.goal.Selector.TheVariants as selector
@@ -111,12 +111,12 @@ of_page p ws =
     None
 
 -- [ WHY ], after `aborted`: any reason, where none follows
-abbrev pub reason_or_any : Option Reason → List Word → Reason × List Word
+abbrev pub reason_or_any : Option AbortReason → List Word → AbortReason × List Word
 reason_or_any None ws = (reason.Any, ws)
 reason_or_any (Some r) ws = (r, after ws)
 
 -- the reason, and the words after it
-unfoldable pub reason_of : List Word → Reason × List Word
+unfoldable pub reason_of : List Word → AbortReason × List Word
 reason_of ws = reason_or_any (word.why (first ws)) ws
 
 -- [ before T ], after `txn T committed`

@@ -13,15 +13,15 @@ use Rattle.zy_table.specs.Change.{txn_or}
 use Rattle.zy_table.specs.Client.{is_new, is_active}
 use Rattle.zy_table.specs.Run.{same_node}
 use Rattle.zy_table.specs.Serial.{is_committed}
-use Rattle.zy_goals.specs.declared.goal.Reason.{Reason}
-use Rattle.zy_goals.specs.declared.goal.Reason.TheVariants as reason
+use Rattle.zy_goals.specs.declared.goal.AbortReason.{AbortReason}
+use Rattle.zy_goals.specs.declared.goal.AbortReason.TheVariants as reason
 use Rattle.zy_goals.specs.declared.goal.Selector.{Selector}
 use Rattle.zy_goals.specs.declared.goal.Selector.TheVariants as selector
 use Rattle.zy_goals.specs.declared.goal.TxnProperty.{TxnProperty}
 use Rattle.zy_goals.specs.declared.goal.TxnProperty.TheVariants as property
 
 -- an abort is for this reason, on whichever page
-abbrev pub is_for : Reason → Why → Bool
+abbrev pub is_for : AbortReason → Why → Bool
 is_for reason.Any w = true
 is_for reason.Own why.Own = true
 is_for reason.Killed why.Killed = true
@@ -34,7 +34,7 @@ is_for reason.Gone (why.Gone p) = true
 is_for r w = false
 
 -- it is aborted for this reason
-abbrev pub is_aborted : Reason → Status → Bool
+abbrev pub is_aborted : AbortReason → Status → Bool
 is_aborted r status.New = false
 is_aborted r status.Active = false
 is_aborted r status.Committed = false

@@ -12,8 +12,8 @@ use Rattle.zy_model.specs.declared.kind.Kind.{Kind}
 use Rattle.zy_model.specs.declared.kind.Kind.TheVariants as kind
 use Rattle.zy_text.specs.Words.{number_of, is_numeral}
 use Rattle.zy_text.specs.Names as text_names
-use Rattle.zy_goals.specs.declared.goal.Reason.{Reason}
-use Rattle.zy_goals.specs.declared.goal.Reason.TheVariants as reason
+use Rattle.zy_goals.specs.declared.goal.AbortReason.{AbortReason}
+use Rattle.zy_goals.specs.declared.goal.AbortReason.TheVariants as reason
 use Rattle.zy_goals.specs.declared.goal.PagePlace.{PagePlace}
 use Rattle.zy_goals.specs.declared.goal.PagePlace.TheVariants as page_place
 use Rattle.zy_goals.specs.declared.goal.Selector.{Selector}
@@ -58,7 +58,7 @@ mode_of_node w =
     None
 
 -- WHY
-unfoldable pub why : Word → Option Reason
+unfoldable pub why : Word → Option AbortReason
 why w =
     if bytes_eq w (codes "own") then Some reason.Own else
     if bytes_eq w (codes "killed") then Some reason.Killed else
@@ -116,7 +116,7 @@ place_of_page w =
     None
 
 -- a transaction is aborted for this reason
-abbrev pub aborted : Reason → Fact
+abbrev pub aborted : AbortReason → Fact
 aborted r = fact.OfState (state_fact.Txns selector.Any (property.Aborted r))
 
 -- a fact of one word

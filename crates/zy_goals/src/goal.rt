@@ -5,7 +5,7 @@ use zy_model::{Kind, NodeMode};
 
 /// Why a transaction is aborted, on whichever page.
 #[derive(Clone, Copy)]
-pub enum Reason {
+pub enum AbortReason {
     /// For any of the reasons below.
     Any,
     /// It came to its own `abort`.
@@ -60,7 +60,7 @@ pub enum TxnProperty {
     /// It is committed.
     Committed,
     /// It is aborted for this reason.
-    Aborted(Reason),
+    Aborted(AbortReason),
     /// It has begun, and at this node.
     At(Node),
     /// It has a private row at this key. A transaction that has ended has none.

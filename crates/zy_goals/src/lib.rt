@@ -14,10 +14,10 @@ mod terms;
 pub mod txns;
 
 pub use crate::goal::{
-    Comparison, Fact, Goal, LinkContent, MessagePattern, PagePlace, Reason, Selector, StateFact,
-    Term, TxnProperty,
+    AbortReason, Comparison, Fact, Goal, LinkContent, MessagePattern, PagePlace, Selector,
+    StateFact, Term, TxnProperty,
 };
 pub use crate::names::Names;
 pub use crate::outcomes::{OutcomeKind, OutcomePattern};
 pub use crate::reading::Query;
-pub use crate::refusal::{Expected, ReadFault, Refusal};
+pub use crate::refusal::{ExpectedInGoal, GoalFault, WordFault};

@@ -2,7 +2,7 @@
 ghost use Rattle.std.specs.Prelude.{◌≡◌};
 ghost use Rattle.zy_goals.specs.Outcomes as spec;
 
-use crate::goal::Reason;
+use crate::goal::AbortReason;
 use crate::txns::is_for;
 use zy_table::Outcome;
 
@@ -45,7 +45,7 @@ pub enum OutcomePattern {
     /// Each outcome of this kind.
     OfKind(OutcomeKind),
     /// Each abort for this reason.
-    Aborted(Reason),
+    Aborted(AbortReason),
 }
 
 /// The number of a kind of outcome. A derived comparison of kinds takes minutes to prove, one of numbers does not.
@@ -120,7 +120,7 @@ fn outcome_number(outcome: Outcome) -> u8
 }
 
 /// Whether an outcome is an abort for this reason.
-fn is_abort(reason: Reason, outcome: Outcome) -> bool
+fn is_abort(reason: AbortReason, outcome: Outcome) -> bool
     ensures { result ≡ spec.is_abort reason outcome }
 {
     match outcome {

@@ -20,14 +20,14 @@ mod words;
 use crate::goal::{Comparison, Fact, Goal, StateFact, Term};
 use crate::names::Names;
 use crate::outcomes::OutcomePattern;
-use crate::reading::cursor::Cursor;
-use crate::reading::expressions::{Part, expression, negated};
+use crate::reading::cursor::GoalCursor;
+use crate::reading::expressions::{Prefix, expression, negated};
 use crate::reading::outcomes::outcome;
-use crate::refusal::{Expected, ReadFault, Refusal};
+use crate::refusal::{ExpectedInGoal, GoalFault, WordFault};
 use std::alloc::Global;
 
 /// What words say, and the word after them.
-type Parsed<'a, T> = Result<(T, Cursor<'a>), Refusal>;
+type Parsed<'a, T> = Result<(T, GoalCursor<'a>), WordFault>;
 
 /// What a text asks for.
 #[derive(Drop)]
@@ -39,29 +39,29 @@ pub struct Query {
 }
 
 /// What was expected after an expression, where another word is at hand.
-fn expected_after(at: Cursor<'_>) -> Expected {
+fn expected_after(at: GoalCursor<'_>) -> ExpectedInGoal {
     if at.is_at(b")") {
-        Expected::OpenBracket
+        ExpectedInGoal::OpenBracket
     } else {
-        Expected::Operator
+        ExpectedInGoal::Operator
     }
 }
 
 /// The outcome after `then`, if nothing follows it.
-fn last_outcome(at: Cursor<'_>) -> Result<OutcomePattern, Refusal>
+fn last_outcome(at: GoalCursor<'_>) -> Result<OutcomePattern, WordFault>
     ensures { found result ≡ spec.whole (outcome_of (left at.entry)) }
 {
     let (outcome, end) = outcome(at)?;
     if end.is_end() {
         Ok(outcome)
     } else {
-        Err(end.refuses(Expected::End))
+        Err(end.refuses(ExpectedInGoal::End))
     }
 }
 
 /// What comes after an expression: the end, or `then` and an outcome.
 #[tactic(auto, unfolding(crate::specs::Grammar::ending))]
-fn ending(at: Cursor<'_>) -> Result<Option<OutcomePattern>, Refusal>
+fn ending(at: GoalCursor<'_>) -> Result<Option<OutcomePattern>, WordFault>
     ensures { found result ≡ spec.ending (left at.entry) }
 {
     if at.is_end() {
@@ -82,7 +82,7 @@ fn anything() -> Goal
 }
 
 /// `then` and an outcome alone.
-fn then_alone(at: Cursor<'_>) -> Result<Query, ReadFault>
+fn then_alone(at: GoalCursor<'_>) -> Result<Query, GoalFault>
     requires { begin_with (codes "then") (left at) ≡ true }
     ensures { AsksThen (left at.entry) result }
 {
@@ -91,12 +91,12 @@ fn then_alone(at: Cursor<'_>) -> Result<Query, ReadFault>
             goal: anything(),
             then,
         }),
-        Err(refusal) => Err(ReadFault::Refused(refusal)),
+        Err(refusal) => Err(GoalFault::Refused(refusal)),
     }
 }
 
 /// What an expression and the words after it ask for.
-fn asked(part: Part<'_>) -> Result<Query, ReadFault>
+fn asked(part: Prefix<'_>) -> Result<Query, GoalFault>
     ensures { Asks part.entry result }
 {
     match ending(part.at) {
@@ -104,30 +104,30 @@ fn asked(part: Part<'_>) -> Result<Query, ReadFault>
             goal: part.goal,
             then,
         }),
-        Err(refusal) => Err(ReadFault::Refused(refusal)),
+        Err(refusal) => Err(GoalFault::Refused(refusal)),
     }
 }
 
 /// What an expression asks for, of which a state is wanted that does not meet it. Nothing may follow.
-fn asked_never(alloc: Global, part: Part<'_>) -> Result<Query, ReadFault>
+fn asked_never(alloc: Global, part: Prefix<'_>) -> Result<Query, GoalFault>
     ensures { AsksNever part.entry result }
 {
     let at = part.at;
     if at.is_end() {
         match negated(alloc, part.goal) {
             Ok(goal) => Ok(Query { goal, then: None }),
-            Err(_) => Err(ReadFault::Memory),
+            Err(_) => Err(GoalFault::Memory),
         }
     } else if at.is_at(b"then") {
-        Err(ReadFault::Refused(at.refuses(Expected::NoThen)))
+        Err(GoalFault::Refused(at.refuses(ExpectedInGoal::NoThen)))
     } else {
-        Err(ReadFault::Refused(at.refuses(expected_after(at))))
+        Err(GoalFault::Refused(at.refuses(expected_after(at))))
     }
 }
 
 /// Reads a goal, `then` after it or not, or `then` alone, which asks for a step from any state. It is refused at the
 /// first word that does not fit.
-pub fn read_goal(alloc: Global, text: &[u8], names: Names<'_>) -> Result<Query, ReadFault>
+pub fn read_goal(alloc: Global, text: &[u8], names: Names<'_>) -> Result<Query, GoalFault>
     // What is read is what the words mean.
     ensures meant { IfOk result (λ query. Means names.entry (words_of text.now) query) }
     // They mean nothing else.
@@ -136,7 +136,7 @@ pub fn read_goal(alloc: Global, text: &[u8], names: Names<'_>) -> Result<Query, 
     // What is refused means nothing.
     ensures refused { IfErr result (λ fault. OnRefused fault (IsNoGoal names.entry (words_of text.now))) }
 {
-    let start = Cursor::new(text);
+    let start = GoalCursor::new(text);
     if start.is_at(b"then") {
         return then_alone(start);
     }
@@ -146,7 +146,7 @@ pub fn read_goal(alloc: Global, text: &[u8], names: Names<'_>) -> Result<Query, 
 
 /// Reads a goal that every state is to meet, and gives its negation: a state is asked for that does not meet it. It is
 /// refused at the first word that does not fit; `then` is such a word.
-pub fn read_always(alloc: Global, text: &[u8], names: Names<'_>) -> Result<Query, ReadFault>
+pub fn read_always(alloc: Global, text: &[u8], names: Names<'_>) -> Result<Query, GoalFault>
     // What is read is the negation of what the words mean.
     ensures meant { IfOk result (λ query. MeansNever names.entry (words_of text.now) query) }
     // They mean nothing else.
@@ -155,7 +155,7 @@ pub fn read_always(alloc: Global, text: &[u8], names: Names<'_>) -> Result<Query
     // What is refused means nothing.
     ensures refused { IfErr result (λ fault. OnRefused fault (IsNoInvariant names.entry (words_of text.now))) }
 {
-    let start = Cursor::new(text);
+    let start = GoalCursor::new(text);
     let part = expression(alloc, names, start)?;
     asked_never(alloc, part)
 }

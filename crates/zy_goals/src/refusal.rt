@@ -5,7 +5,7 @@ use std::fmt;
 
 /// What was expected in place of a word.
 #[derive(Clone, Copy)]
-pub enum Expected {
+pub enum ExpectedInGoal {
     Fact,
     /// What may follow a fact or a closing bracket.
     Operator,
@@ -39,46 +39,49 @@ pub enum Expected {
 }
 
 /// What a person reads of it.
-impl fmt::Display for Expected {
+impl fmt::Display for ExpectedInGoal {
     fn fmt<W: fmt::Write>(&self, f: &mut fmt::Formatter<W>) -> fmt::Result {
         let words = match self {
-            Expected::Fact => concat!(
+            ExpectedInGoal::Fact => concat!(
                 "a fact begins with mode, page, txn, link, key, sum, reg, pc, done, commits or a number, ",
                 "or is one of differs, stuck, deadlock, committed, aborted, own, killed, badkey, missing, ",
                 "duplicate, frozen, nopage and gone"
             ),
-            Expected::Operator => "after a fact comes and, or, then, ) or the end",
-            Expected::OpenBracket => "this ) closes no bracket",
-            Expected::ClosingBracket => "a ( is not closed",
-            Expected::Node => "a node is A or B",
-            Expected::Mode => {
+            ExpectedInGoal::Operator => "after a fact comes and, or, then, ) or the end",
+            ExpectedInGoal::OpenBracket => "this ) closes no bracket",
+            ExpectedInGoal::ClosingBracket => "a ( is not closed",
+            ExpectedInGoal::Node => "a node is A or B",
+            ExpectedInGoal::Mode => {
                 "a mode is normal, empty, sinit, sdual, sfinish, dinit, ddual or dfinish"
             }
-            Expected::Place => "a page is at A, at B, at AB, at BA, moving, locked or absent",
-            Expected::Selector => "after txn comes a number, a name, any or all",
-            Expected::KnownName => "the scenario has no transaction of this name",
-            Expected::TxnProperty => concat!(
+            ExpectedInGoal::Place => "a page is at A, at B, at AB, at BA, moving, locked or absent",
+            ExpectedInGoal::Selector => "after txn comes a number, a name, any or all",
+            ExpectedInGoal::KnownName => "the scenario has no transaction of this name",
+            ExpectedInGoal::TxnProperty => concat!(
                 "after txn and a number, a name, any or all comes new, active, committed, aborted, aborted WHY, at N ",
                 "or wrote K, and after one of the first two also committed before T or locks P"
             ),
-            Expected::Link => "a link is AB or BA",
-            Expected::LinkContent => {
+            ExpectedInGoal::Link => "a link is AB or BA",
+            ExpectedInGoal::LinkContent => {
                 "a link is empty, or has and wire, ready, dual, pull, page, finish or done"
             }
-            Expected::Comparison => "after a number comes =, !=, <, <=, > or >=",
-            Expected::Term => {
+            ExpectedInGoal::Comparison => "after a number comes =, !=, <, <=, > or >=",
+            ExpectedInGoal::Term => {
                 "a number is compared with a number, key K, sum K to K, reg T rN, pc T, done T or commits"
             }
-            Expected::To => "a sum is of the keys from one to another: sum K to K",
-            Expected::Register => "a register is r0 to r7",
-            Expected::Number(most) => return write!(f, "a number from 0 to {most} comes here"),
-            Expected::Outcome => concat!(
+            ExpectedInGoal::To => "a sum is of the keys from one to another: sum K to K",
+            ExpectedInGoal::Register => "a register is r0 to r7",
+            ExpectedInGoal::Number(most) => return write!(
+                f,
+                "a number from 0 to {most} comes here"
+            ),
+            ExpectedInGoal::Outcome => concat!(
                 "after then comes an outcome of the listing without its numbers, ",
                 "such as waits, pulls, got page or aborted gone"
             ),
-            Expected::End => "nothing comes after the outcome",
-            Expected::NoThen => "what every state is to meet has no then",
-            Expected::FewerParts => {
+            ExpectedInGoal::End => "nothing comes after the outcome",
+            ExpectedInGoal::NoThen => "what every state is to meet has no then",
+            ExpectedInGoal::FewerParts => {
                 "a goal has at most 64 facts, ands, ors, nots and pairs of brackets"
             }
         };
@@ -88,32 +91,32 @@ impl fmt::Display for Expected {
 
 /// The word at which a text is no goal.
 #[derive(Clone, Copy)]
-pub struct Refusal {
+pub struct WordFault {
     /// Where the word begins and where it ends, in bytes from the start of the text. At the end of the text the word is
     /// empty.
     pub from: usize,
     pub to: usize,
     /// What was expected in its place.
-    pub expected: Expected,
+    pub expected: ExpectedInGoal,
 }
 
 /// Why no goal was read.
 #[derive(Clone, Copy)]
-pub enum ReadFault {
+pub enum GoalFault {
     /// The text is no goal.
-    Refused(Refusal),
+    Refused(WordFault),
     /// A request for memory was refused.
     Memory,
 }
 
-impl From<AllocError> for ReadFault {
-    fn from(_e: AllocError) -> ReadFault {
-        ReadFault::Memory
+impl From<AllocError> for GoalFault {
+    fn from(_e: AllocError) -> GoalFault {
+        GoalFault::Memory
     }
 }
 
-impl From<Refusal> for ReadFault {
-    fn from(refusal: Refusal) -> ReadFault {
-        ReadFault::Refused(refusal)
+impl From<WordFault> for GoalFault {
+    fn from(refusal: WordFault) -> GoalFault {
+        GoalFault::Refused(refusal)
     }
 }

@@ -5,26 +5,26 @@ ghost use Rattle.zy_table.specs.Run.{same_node as are_one};
 ghost use Rattle.zy_table.specs.Serial as table_serial;
 ghost use Rattle.zy_goals.specs.Txns as spec;
 
-use crate::goal::{Reason, Selector, TxnProperty};
+use crate::goal::{AbortReason, Selector, TxnProperty};
 use zy_isa::Node;
 use zy_machine::Machine;
 use zy_table::{CommitRecord, Status, Why};
 use zy_txns::Txn;
 
 /// Whether an abort is for this reason.
-pub(crate) fn is_for(reason: Reason, why: Why) -> bool
+pub(crate) fn is_for(reason: AbortReason, why: Why) -> bool
     ensures { result ≡ spec.is_for reason why }
 {
     match reason {
-        Reason::Any => true,
-        Reason::Own => matches!(why, Why::Own),
-        Reason::Killed => matches!(why, Why::Killed),
-        Reason::BadKey => matches!(why, Why::BadKey),
-        Reason::Missing => matches!(why, Why::Missing),
-        Reason::Duplicate => matches!(why, Why::Duplicate),
-        Reason::Frozen => matches!(why, Why::Frozen(_)),
-        Reason::NoPage => matches!(why, Why::NoPage),
-        Reason::Gone => matches!(why, Why::Gone(_)),
+        AbortReason::Any => true,
+        AbortReason::Own => matches!(why, Why::Own),
+        AbortReason::Killed => matches!(why, Why::Killed),
+        AbortReason::BadKey => matches!(why, Why::BadKey),
+        AbortReason::Missing => matches!(why, Why::Missing),
+        AbortReason::Duplicate => matches!(why, Why::Duplicate),
+        AbortReason::Frozen => matches!(why, Why::Frozen(_)),
+        AbortReason::NoPage => matches!(why, Why::NoPage),
+        AbortReason::Gone => matches!(why, Why::Gone(_)),
     }
 }
 
@@ -41,7 +41,7 @@ fn is_committed(status: Status) -> bool
 }
 
 /// Whether it is aborted for this reason.
-fn is_aborted(reason: Reason, status: Status) -> bool
+fn is_aborted(reason: AbortReason, status: Status) -> bool
     ensures { result ≡ spec.is_aborted reason status }
 {
     match status {

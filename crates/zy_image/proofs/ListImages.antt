@@ -18,7 +18,7 @@ use Rattle.zy_isa.proofs.ResultLemmas.{bind_ok, if_err, neither, not_over, over_
 use Rattle.zy_isa.proofs.RowLemmas.{Above}
 use Rattle.zy_isa.proofs.ScenarioLemmas.{program_more}
 use Rattle.zy_image.specs.declared.faults.LoadFault.TheVariants as fault
-use Rattle.zy_image.specs.declared.head.Head.{Head}
+use Rattle.zy_image.specs.declared.head.ImageHead.{ImageHead}
 use Rattle.zy_image.specs.Image.{row_image, rows_image, program_image, programs_image, choice_image, choices_image}
 use Rattle.zy_image.specs.Reading.{byte, half, read_items, next_row, row_count, rows, next_instr, instr_count}
 use Rattle.zy_image.specs.Reading.{instrs, checked_program, next_program, program_count}
@@ -30,7 +30,7 @@ use Rattle.zy_image.proofs.PartLemmas.{InOrder, row_found, rows_read, instr_foun
 -- ---- rows
 
 -- the bytes begin with the image of the rows, which are in order and have their places
-pub record FoundRows (h : Head) (bytes : List ℕ) (rs : List Row) (left : List ℕ) : Type 0 where
+pub record FoundRows (h : ImageHead) (bytes : List ℕ) (rs : List Row) (left : List ℕ) : Type 0 where
   pub same : bytes ≡ rows_image rs ++ left
   pub back : AreBytes left
   pub few : length rs ≤ 256
@@ -38,7 +38,7 @@ pub record FoundRows (h : Head) (bytes : List ℕ) (rs : List Row) (left : List 
   pub order : InOrder rs
 
 -- rows that were read are so
-pub rows_found : (h : Head) (size : ℕ) (bytes : List ℕ) (rs : List Row) (left : List ℕ) → AreBytes bytes → rows h size bytes ≡ Ok (rs, left)
+pub rows_found : (h : ImageHead) (size : ℕ) (bytes : List ℕ) (rs : List Row) (left : List ℕ) → AreBytes bytes → rows h size bytes ≡ Ok (rs, left)
     → FoundRows h bytes rs left
 rows_found h size bytes rs left fit e =
     let f = bind_ok (row_count h size bytes) (λ n. read_items (next_row size) [] n.0 n.1) (rs, left) e in
@@ -58,7 +58,7 @@ rows_found h size bytes rs left fit e =
     }
 
 -- the image of rows that are in order, fit and have their places is read as them
-pub rows_give : (h : Head) (size : ℕ) (rs : List Row) (left : List ℕ) → length rs ≤ 256 → opening_pages_for h.cap (length rs) ≤ h.pages → Rising 0 rs
+pub rows_give : (h : ImageHead) (size : ℕ) (rs : List Row) (left : List ℕ) → length rs ≤ 256 → opening_pages_for h.cap (length rs) ≤ h.pages → Rising 0 rs
     → RowsFit rs → rows h size (rows_image rs ++ left) ≡ Ok (rs, left)
 rows_give h size rs left few pages rise fit =
     let all : rows_image rs ++ left ≡ to_be_bytes w16 (length rs) ++ (flat_map row_image rs ++ left) =

@@ -11,7 +11,7 @@ use Rattle.zy_isa.specs.Scenario.{Scenario, IsScenario, scenario_fault, is_outsi
 use Rattle.zy_isa.proofs.ResultLemmas.{bind_ok, if_ok, if_err, ok_or_ok, in_range, out_of_neither}
 use Rattle.zy_isa.proofs.ScenarioLemmas.{no_fault}
 use Rattle.zy_image.specs.declared.faults.LoadFault.TheVariants as fault
-use Rattle.zy_image.specs.declared.head.Head.{Head}
+use Rattle.zy_image.specs.declared.head.ImageHead.{ImageHead}
 use Rattle.zy_image.specs.Image.{rule_byte, rows_image, programs_image, choices_image, image_of, IsImage}
 use Rattle.zy_image.specs.Reading.{field, byte, half, magic_field, cap_field, pages_field, rule_at, rule_field, head_fields, rows, programs, choices, all_read}
 use Rattle.zy_image.specs.Reading.{of_parts, reading}
@@ -100,18 +100,18 @@ rule_gives size Held left = rw (byte_gives size 0 left) refl
 rule_gives size Loose left = rw (byte_gives size 1 left) refl
 
 -- the bytes before the rows
-abbrev front_of : Head → List ℕ
+abbrev front_of : ImageHead → List ℕ
 front_of h = magic h.version ++ (h.cap ∷ to_be_bytes w16 h.pages ++ rule_byte h.rule ∷ [])
 
 -- the bytes begin with the image of the head, whose numbers are in their ranges
-record FoundHead (bytes : List ℕ) (h : Head) (left : List ℕ) : Type 0 where
+record FoundHead (bytes : List ℕ) (h : ImageHead) (left : List ℕ) : Type 0 where
   same_bytes : bytes ≡ front_of h ++ left
   back : AreBytes left
   cap : (2 ≤ h.cap) × (h.cap ≤ 16)
   pages : (1 ≤ h.pages) × (h.pages ≤ 512)
 
 -- a head that was read is so
-head_found : (size : ℕ) (bytes : List ℕ) (h : Head) (left : List ℕ) → AreBytes bytes → head_fields size bytes ≡ Ok (h, left) → FoundHead bytes h left
+head_found : (size : ℕ) (bytes : List ℕ) (h : ImageHead) (left : List ℕ) → AreBytes bytes → head_fields size bytes ≡ Ok (h, left) → FoundHead bytes h left
 head_found size bytes h left fit e =
     let a = bind_ok (magic_field size bytes) _ (h, left) e in
     let m = magic_found size bytes a.0.0 a.0.1 fit a.1 in
@@ -121,19 +121,19 @@ head_found size bytes h left fit e =
     let p = pages_found size b.0.1 d.0.0 d.0.1 c.back d.1 in
     let f = bind_ok (rule_field size d.0.1) _ (h, left) d.2 in
     let r = rule_found size d.0.1 f.0.0 f.0.1 p.back f.1 in
-    let head : Head = record { version = a.0.0; cap = b.0.0; pages = d.0.0; rule = f.0.0 } in
+    let head : ImageHead = record { version = a.0.0; cap = b.0.0; pages = d.0.0; rule = f.0.0 } in
     let s = one_answer head h f.0.1 left f.2 in
     let all : bytes ≡ front_of head ++ f.0.1 =
     m.0 ∙ ap (λ x. magic a.0.0 ++ x) (c.same_bytes ∙ ap (λ x. b.0.0 ∷ x) (p.same_bytes ∙ ap (λ x. to_be_bytes w16 d.0.0 ++ x) r.same_bytes)) in
     record {
       same_bytes = all ∙ ap (λ x. front_of x ++ f.0.1) s.0 ∙ ap (λ x. front_of h ++ x) s.1;
       back = subst AreBytes s.1 r.back;
-      cap = subst (λ (x : Head). (2 ≤ x.cap) × (x.cap ≤ 16)) s.0 c.range;
-      pages = subst (λ (x : Head). (1 ≤ x.pages) × (x.pages ≤ 512)) s.0 p.range;
+      cap = subst (λ (x : ImageHead). (2 ≤ x.cap) × (x.cap ≤ 16)) s.0 c.range;
+      pages = subst (λ (x : ImageHead). (1 ≤ x.pages) × (x.pages ≤ 512)) s.0 p.range;
     }
 
 -- the image of a head whose numbers are in their ranges is read as it
-head_gives : (size : ℕ) (h : Head) (left : List ℕ) → 2 ≤ h.cap → h.cap ≤ 16 → 1 ≤ h.pages → h.pages ≤ 512 → head_fields size (front_of h ++ left) ≡ Ok (h, left)
+head_gives : (size : ℕ) (h : ImageHead) (left : List ℕ) → 2 ≤ h.cap → h.cap ≤ 16 → 1 ≤ h.pages → h.pages ≤ 512 → head_fields size (front_of h ++ left) ≡ Ok (h, left)
 head_gives size h left c2 c16 p1 p512 =
     let rest : List ℕ = rule_byte h.rule ∷ left in
     let pages_on : List ℕ = to_be_bytes w16 h.pages ++ rest in
@@ -185,7 +185,7 @@ image_found bytes s fit e =
 pub image_gives : (s : Scenario) → IsScenario s → reading (image_of s) ≡ Ok s
 image_gives s i =
     let size = length (image_of s) in
-    let h : Head = record { version = s.version; cap = s.cap; pages = s.pages; rule = s.rule } in
+    let h : ImageHead = record { version = s.version; cap = s.cap; pages = s.pages; rule = s.rule } in
     let last : List ℕ = choices_image s.choices in
     let more : List ℕ = programs_image s.programs ++ last in
     let head = head_gives size h (rows_image s.rows ++ more) i.cap_least i.cap_most i.pages_least i.pages_most in

@@ -25,7 +25,7 @@ use Rattle.zy_isa.specs.WordFields.{decoded}
 use Rattle.zy_isa.specs.Scenario.{Scenario, is_outside, misnamed_choice, opening_pages_for}
 use Rattle.zy_image.specs.declared.faults.LoadFault.{LoadFault}
 use Rattle.zy_image.specs.declared.faults.LoadFault.TheVariants as fault
-use Rattle.zy_image.specs.declared.head.Head.{Head}
+use Rattle.zy_image.specs.declared.head.ImageHead.{ImageHead}
 
 -- what was read, and the bytes behind it; or the first fault
 abbrev pub Read : Type 0 → Type 0
@@ -68,7 +68,7 @@ rule_field size bytes = do
   rule ← ok_or (rule_at n.0) fault.Rule
   Ok (rule, n.1)
 
-abbrev pub head_fields : ℕ → List ℕ → Read Head
+abbrev pub head_fields : ℕ → List ℕ → Read ImageHead
 head_fields size bytes = do
   version ← magic_field size bytes
   cap ← cap_field size version.1
@@ -92,11 +92,11 @@ abbrev pub next_row : ℕ → List Row → List ℕ → Read Row
 next_row size rows bytes = field 6 size bytes >>= λ f. if is_low (row_at f.0).key (last_row rows)
     then Err (fault.RowOrder (length rows)) else Ok (row_at f.0, f.1)
 
-abbrev pub row_count : Head → ℕ → List ℕ → Read ℕ
+abbrev pub row_count : ImageHead → ℕ → List ℕ → Read ℕ
 row_count h size bytes = half size bytes >>= λ n. if nat_lt max_rows n.0 || nat_lt h.pages (opening_pages_for h.cap n.0)
     then Err fault.RowCount else Ok n
 
-abbrev pub rows : Head → ℕ → List ℕ → Read (List Row)
+abbrev pub rows : ImageHead → ℕ → List ℕ → Read (List Row)
 rows h size bytes = row_count h size bytes >>= λ n. read_items (next_row size) [] n.0 n.1
 
 -- ---- programs
@@ -186,7 +186,7 @@ choices count size bytes = choice_count size bytes >>= λ n. read_items (next_ch
 abbrev pub all_read : {X : Type 0} → ℕ → X × List ℕ → Result X LoadFault
 all_read size x = if length x.1 == 0 then Ok x.0 else Err (fault.Trailing (size - length x.1))
 
-abbrev pub of_parts : Head → List Row → List (List Instr) → List Choice → Scenario
+abbrev pub of_parts : ImageHead → List Row → List (List Instr) → List Choice → Scenario
 of_parts h rs ps cs = record {
   version = h.version;
   cap = h.cap;

@@ -9,7 +9,7 @@ use zy_isa::{MAX_CAP, MAX_PAGES, MIN_CAP, Rule, Version};
 
 /// What the fields before the rows say.
 #[derive(Clone, Copy, Debug, PartialEq, Eq)]
-pub struct Head {
+pub struct ImageHead {
     /// The version.
     pub version: Version,
     /// How many rows a page has room for, 2 to 16.
@@ -65,14 +65,14 @@ fn rule_field(size: usize, bytes: &[u8]) -> Result<(Rule, &[u8]), LoadFault>
 }
 
 /// The fields before the rows.
-pub fn head_fields(size: usize, bytes: &[u8]) -> Result<(Head, &[u8]), LoadFault>
+pub fn head_fields(size: usize, bytes: &[u8]) -> Result<(ImageHead, &[u8]), LoadFault>
     ensures { Gives result (spec.head_fields size bytes.entry.now) }
 {
     let (version, left) = magic_field(size, bytes)?;
     let (cap, left) = cap_field(size, left)?;
     let (pages, left) = pages_field(size, left)?;
     let (rule, left) = rule_field(size, left)?;
-    let head = Head {
+    let head = ImageHead {
         version,
         cap,
         pages,

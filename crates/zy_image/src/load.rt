@@ -7,7 +7,7 @@ ghost use Rattle.zy_image.specs.Reading.{GivesScenario, image_fault, of_parts, r
 
 use crate::choices::choices;
 use crate::faults::LoadFault;
-use crate::head::{Head, head_fields};
+use crate::head::{ImageHead, head_fields};
 use crate::programs::programs;
 use crate::rows::rows;
 use std::alloc::Global;
@@ -16,7 +16,7 @@ use zy_isa::{Choice, Program, Row, Scenario};
 /// What an image gives.
 #[derive(Drop)]
 struct Parts {
-    head: Head,
+    head: ImageHead,
     rows: Vec<Row>,
     programs: Vec<Program>,
     choices: Vec<Choice>,
@@ -60,7 +60,7 @@ pub fn load(alloc: Global, bytes: &[u8]) -> Result<Scenario, LoadFault>
         programs,
         choices,
     } = read(alloc, bytes)?;
-    let Head {
+    let ImageHead {
         version,
         cap,
         pages,

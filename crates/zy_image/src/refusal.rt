@@ -9,7 +9,7 @@ use zy_isa::scenario::opening_rows;
 
 /// What is at the place of a fault.
 #[derive(Clone, Copy, PartialEq, Eq)]
-pub enum Found {
+pub enum FoundHere {
     /// Nothing beyond the fault.
     Nothing,
     /// Another beginning.
@@ -51,26 +51,26 @@ pub enum Found {
 }
 
 /// The words that `Display` writes.
-impl fmt::Debug for Found {
+impl fmt::Debug for FoundHere {
     fn fmt<W: fmt::Write>(&self, f: &mut fmt::Formatter<W>) -> fmt::Result {
         fmt::Display::fmt(self, f)
     }
 }
 
-impl fmt::Display for Found {
+impl fmt::Display for FoundHere {
     fn fmt<W: fmt::Write>(&self, f: &mut fmt::Formatter<W>) -> fmt::Result {
         match self {
-            Found::Nothing => Ok(()),
-            Found::Beginning(bytes) => tell_bytes(f, ", not with", bytes.as_slice()),
-            Found::Cut { field, there } => tell_cut(f, field, *there),
-            Found::More(count) => tell(f, " for ", *count, " more"),
-            Found::Number(number) => tell(f, ", not ", *number, ""),
-            Found::Rows { rows, each, pages } => tell_rows(f, *rows, *each, *pages),
-            Found::Keys { key, last } => tell_keys(f, *key, *last),
-            Found::Target { target, count } => tell_target(f, *target, *count),
-            Found::LastWord(word) => tell_bytes(f, ", not with", word.as_slice()),
-            Found::Word(word) => tell_bytes(f, ":", word.as_slice()),
-            Found::Choice { bytes, txns } => {
+            FoundHere::Nothing => Ok(()),
+            FoundHere::Beginning(bytes) => tell_bytes(f, ", not with", bytes.as_slice()),
+            FoundHere::Cut { field, there } => tell_cut(f, field, *there),
+            FoundHere::More(count) => tell(f, " for ", *count, " more"),
+            FoundHere::Number(number) => tell(f, ", not ", *number, ""),
+            FoundHere::Rows { rows, each, pages } => tell_rows(f, *rows, *each, *pages),
+            FoundHere::Keys { key, last } => tell_keys(f, *key, *last),
+            FoundHere::Target { target, count } => tell_target(f, *target, *count),
+            FoundHere::LastWord(word) => tell_bytes(f, ", not with", word.as_slice()),
+            FoundHere::Word(word) => tell_bytes(f, ":", word.as_slice()),
+            FoundHere::Choice { bytes, txns } => {
                 tell_bytes(f, ":", bytes.as_slice())?;
                 tell(f, ", and the number of transactions is ", *txns, "")
             }
@@ -139,7 +139,7 @@ fn tell_byte<W: fmt::Write>(f: &mut fmt::Formatter<W>, byte: u8) -> fmt::Result 
 pub struct ImageRefusal {
     pub fault: LoadFault,
     pub at: usize,
-    pub found: Found,
+    pub found: FoundHere,
 }
 
 impl ImageRefusal {
@@ -189,46 +189,46 @@ fn place(fault: LoadFault, bytes: &[u8]) -> usize {
 }
 
 /// What a program has at the place of its fault.
-fn program_found_at(txn: usize, fault: ProgramFault, bytes: &[u8], at: usize) -> Found {
+fn program_found_at(txn: usize, fault: ProgramFault, bytes: &[u8], at: usize) -> FoundHere {
     match fault {
-        ProgramFault::TooLong => Found::Number(byte_at(bytes, at)),
-        ProgramFault::Target(_) => Found::Target {
+        ProgramFault::TooLong => FoundHere::Number(byte_at(bytes, at)),
+        ProgramFault::Target(_) => FoundHere::Target {
             target: u32::from_be_bytes(bytes_at(bytes, at.saturating_add(4))),
             count: instr_count(bytes, txn),
         },
-        ProgramFault::NoEnd => Found::LastWord(bytes_at(bytes, at)),
-        ProgramFault::Empty | ProgramFault::Memory => Found::Nothing,
+        ProgramFault::NoEnd => FoundHere::LastWord(bytes_at(bytes, at)),
+        ProgramFault::Empty | ProgramFault::Memory => FoundHere::Nothing,
     }
 }
 
 /// What is in these bytes at the place of a fault of theirs.
-fn found_at(fault: LoadFault, bytes: &[u8], at: usize) -> Found {
+fn found_at(fault: LoadFault, bytes: &[u8], at: usize) -> FoundHere {
     match fault {
-        LoadFault::Magic => Found::Beginning(bytes_at(bytes, at)),
-        LoadFault::Truncated(size) => Found::Cut {
+        LoadFault::Magic => FoundHere::Beginning(bytes_at(bytes, at)),
+        LoadFault::Truncated(size) => FoundHere::Cut {
             field: cut_field(bytes),
             there: size.saturating_sub(at),
         },
-        LoadFault::Trailing(size) => Found::More(bytes.len().saturating_sub(size)),
+        LoadFault::Trailing(size) => FoundHere::More(bytes.len().saturating_sub(size)),
         LoadFault::Cap | LoadFault::Rule | LoadFault::TxnCount => {
-            Found::Number(byte_at(bytes, at))
+            FoundHere::Number(byte_at(bytes, at))
         }
-        LoadFault::Pages | LoadFault::ChoiceCount => Found::Number(half_at(bytes, at)),
-        LoadFault::RowCount => Found::Rows {
+        LoadFault::Pages | LoadFault::ChoiceCount => FoundHere::Number(half_at(bytes, at)),
+        LoadFault::RowCount => FoundHere::Rows {
             rows: half_at(bytes, at),
             each: opening_rows(bytes_at::<1>(bytes, 4)[0]),
             pages: half_at(bytes, 5),
         },
-        LoadFault::RowOrder(_) => Found::Keys {
+        LoadFault::RowOrder(_) => FoundHere::Keys {
             key: half_at(bytes, at),
             last: half_at(bytes, at.saturating_sub(6)),
         },
         LoadFault::Program(txn, fault) => program_found_at(txn, fault, bytes, at),
-        LoadFault::Word(_, _) => Found::Word(bytes_at(bytes, at)),
-        LoadFault::Choice(_) => Found::Choice {
+        LoadFault::Word(_, _) => FoundHere::Word(bytes_at(bytes, at)),
+        LoadFault::Choice(_) => FoundHere::Choice {
             bytes: bytes_at(bytes, at),
             txns: txn_count(bytes),
         },
-        LoadFault::Memory => Found::Nothing,
+        LoadFault::Memory => FoundHere::Nothing,
     }
 }

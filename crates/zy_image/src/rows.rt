@@ -8,7 +8,7 @@ ghost use Rattle.zy_image.specs.Reading as spec;
 
 use crate::faults::LoadFault;
 use crate::fields::{field, half};
-use crate::head::Head;
+use crate::head::ImageHead;
 use crate::lists::{Items, read_items};
 use std::alloc::Global;
 use zy_isa::scenario::opening_pages_for;
@@ -57,7 +57,7 @@ impl Items for RowItems {
 }
 
 /// How many rows there are, where this number may be there, and pages for them.
-fn row_count(head: Head, size: usize, bytes: &[u8]) -> Result<(usize, &[u8]), LoadFault>
+fn row_count(head: ImageHead, size: usize, bytes: &[u8]) -> Result<(usize, &[u8]), LoadFault>
     requires { 2 ≤ head.cap }
     ensures { Gives result (spec.row_count head size bytes.entry.now) }
 {
@@ -72,7 +72,7 @@ fn row_count(head: Head, size: usize, bytes: &[u8]) -> Result<(usize, &[u8]), Lo
 /// The rows, by their number.
 pub fn rows(
     alloc: Global,
-    head: Head,
+    head: ImageHead,
     size: usize,
     bytes: &[u8],
 ) -> Result<(Vec<Row>, &[u8]), LoadFault>

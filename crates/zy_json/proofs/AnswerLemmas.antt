@@ -9,8 +9,8 @@ use Rattle.zy_isa.specs.declared.node.Actor.TheVariants.{C, A, B}
 use Rattle.zy_isa.specs.Results.{◌>>=◌}
 use Rattle.zy_json.specs.declared.faults.JsonFault.{JsonFault}
 use Rattle.zy_json.specs.declared.faults.JsonFault.TheVariants.{NotJson, NotObject, Missing, Twice, NotString, NoActor, Sign, Memory}
-use Rattle.zy_json.specs.declared.field.Field.{Field}
-use Rattle.zy_json.specs.declared.field.Field.TheVariants as field
+use Rattle.zy_json.specs.declared.field.Member.{Member}
+use Rattle.zy_json.specs.declared.field.Member.TheVariants as field
 use Rattle.zy_json.specs.declared.step.JsonStep.{JsonStep}
 use Rattle.zy_json.specs.Fields.{key_of, ends_part}
 use Rattle.zy_json.specs.Meaning.{IsJson, Reads, step_found, step_told}
@@ -36,11 +36,11 @@ both : {T U : Type 0} (r : Result T JsonFault) (next : T → Result U JsonFault)
 both (Ok x) next h more = more x
 both (Err f) next h more = h
 
-string_told : (f : Field) (text : Option (List ℕ)) → HasTold (if_string f text)
+string_told : (f : Member) (text : Option (List ℕ)) → HasTold (if_string f text)
 string_told f None = tt
 string_told f (Some text) = tt
 
-only_told : (f : Field) (js : List Json) → HasTold (only f js)
+only_told : (f : Member) (js : List Json) → HasTold (only f js)
 only_told f [] = tt
 only_told f (j ∷ []) = string_told f (as_str j)
 only_told f (i ∷ j ∷ js) = tt
@@ -49,11 +49,11 @@ chosen : {T : Type 0} (b : Bool) (x y : Result T JsonFault) → HasTold x → Ha
 chosen true x y hx hy = hx
 chosen false x y hx hy = hy
 
-part_told : (f : Field) (text : Option (List ℕ)) → HasTold (if_part f text)
+part_told : (f : Member) (text : Option (List ℕ)) → HasTold (if_part f text)
 part_told f None = tt
 part_told f (Some text) = chosen (list_any ends_part text) (Err (Sign f)) (Ok (Some text)) tt tt
 
-present_told : (f : Field) (text : Option (List ℕ)) → HasTold (present f text)
+present_told : (f : Member) (text : Option (List ℕ)) → HasTold (present f text)
 present_told f None = tt
 present_told f (Some text) = tt
 
@@ -61,7 +61,7 @@ named_told : (name : List ℕ) → HasTold (actor_of name)
 named_told name = chosen (bytes_eq name (codes "C")) (Ok C) _ tt
     (chosen (bytes_eq name (codes "A")) (Ok A) _ tt (chosen (bytes_eq name (codes "B")) (Ok B) (Err NoActor) tt tt))
 
-found_told : (f : Field) (ms : Members) → HasTold (part_of f ms)
+found_told : (f : Member) (ms : Members) → HasTold (part_of f ms)
 found_told f ms = both (text_of f ms) (if_part f) (only_told f (values_of (key_of f) ms)) (part_told f)
 
 actor_told : (ms : Members) → HasTold (actor_in ms)

@@ -9,8 +9,8 @@ use Rattle.zy_isa.proofs.ResultLemmas.{bind_ok}
 use Rattle.zy_isa.specs.Results.{◌>>=◌}
 use Rattle.zy_json.specs.declared.faults.JsonFault.{JsonFault}
 use Rattle.zy_json.specs.declared.faults.JsonFault.TheVariants.{Sign}
-use Rattle.zy_json.specs.declared.field.Field.{Field}
-use Rattle.zy_json.specs.declared.field.Field.TheVariants as field
+use Rattle.zy_json.specs.declared.field.Member.{Member}
+use Rattle.zy_json.specs.declared.field.Member.TheVariants as field
 use Rattle.zy_json.specs.Fields.{ends_part}
 use Rattle.zy_json.specs.Objects.{if_part, present, text_of, actor_of, actor_in, action_in, part_of, step_in}
 use Rattle.zy_json.specs.Steps.{Step, actor_text}
@@ -24,7 +24,7 @@ named A = refl
 named B = refl
 
 -- a part of a line is found as it is
-part : (f : Field) (text : List ℕ) → list_any ends_part text ≡ false → if_part f (Some text) ≡ Ok (Some text)
+part : (f : Member) (text : List ℕ) → list_any ends_part text ≡ false → if_part f (Some text) ≡ Ok (Some text)
 part f text clean = rw clean refl
 
 -- four parts that are there make a step
@@ -73,20 +73,20 @@ step_in-members_of s p =
 -- ---- what was found of a step is what its line needs
 
 -- a part that was found is one
-is_part : (f : Field) (o p : Option (List ℕ)) → if_part f o ≡ Ok p → IfSome p IsPart
+is_part : (f : Member) (o p : Option (List ℕ)) → if_part f o ≡ Ok p → IfSome p IsPart
 is_part f None p e = let same : None ≡ p = cc in subst (λ q. IfSome q IsPart) same tt
 is_part f (Some text) p e = by_test f text p (list_any ends_part text) refl e
   where
-    by_test : (f : Field) (text : List ℕ) (p : Option (List ℕ)) (b : Bool) → list_any ends_part text ≡ b
+    by_test : (f : Member) (text : List ℕ) (p : Option (List ℕ)) (b : Bool) → list_any ends_part text ≡ b
         → (if b then Err (Sign f) else Ok (Some text)) ≡ Ok p → IfSome p IsPart
     by_test f text p true t e = absurd (cc)
     by_test f text p false t e = let same : Some text ≡ p = cc in subst (λ q. IfSome q IsPart) same t
 
-found_is_part : (f : Field) (ms : Members) (p : Option (List ℕ)) → part_of f ms ≡ Ok p → IfSome p IsPart
+found_is_part : (f : Member) (ms : Members) (p : Option (List ℕ)) → part_of f ms ≡ Ok p → IfSome p IsPart
 found_is_part f ms p e = let q = bind_ok (text_of f ms) (if_part f) p e in is_part f q.0 p q.2
 
 -- a text that is there
-there : (f : Field) (o : Option (List ℕ)) (text : List ℕ) → present f o ≡ Ok text → o ≡ Some text
+there : (f : Member) (o : Option (List ℕ)) (text : List ℕ) → present f o ≡ Ok text → o ≡ Some text
 there f None text e = absurd (cc)
 there f (Some t) text e = let same : t ≡ text = cc in ap Some same
 

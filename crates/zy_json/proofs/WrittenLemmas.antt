@@ -7,8 +7,8 @@ use Rattle.json.specs.Json.{string, object, Members, no_members, member, documen
 use Rattle.json.specs.Tree.{json_tokens, HasNumbers, depth}
 use Rattle.json.proofs.OnLiterals.{json_on_literals}
 use Rattle.json.proofs.Printed.Trees.{document-print}
-use Rattle.zy_json.specs.declared.field.Field.{Field}
-use Rattle.zy_json.specs.declared.field.Field.TheVariants as field
+use Rattle.zy_json.specs.declared.field.Member.{Member}
+use Rattle.zy_json.specs.declared.field.Member.TheVariants as field
 use Rattle.zy_json.specs.Fields.{key_of}
 use Rattle.zy_json.specs.Steps.{Step, actor_text}
 use Rattle.zy_json.specs.Written.{json_text, with_name, field_tokens, some_tokens}
@@ -19,7 +19,7 @@ step_tokens s = token.begin_object ∷ (field_tokens field.Actor (actor_text s.a
     ++ (some_tokens field.Came s.came ++ (some_tokens field.Sent s.sent ++ token.end_object ∷ []))))
 
 -- a member with the text, if there is one
-abbrev pub some_member : Field → Option (List ℕ) → Members → Members
+abbrev pub some_member : Member → Option (List ℕ) → Members → Members
 some_member f None ms = ms
 some_member f (Some text) ms = member (key_of f) (string text) ms
 

@@ -1,17 +1,17 @@
 -- The fields of the object that a line is, and what their texts may not have.
 use Rattle.std.specs.Prelude.{ℕ, ◌==◌, ◌||◌, Bool, List, [], ◌∷◌, ◌++◌, codes}
-use Rattle.zy_json.specs.declared.field.Field.{Field}
-use Rattle.zy_json.specs.declared.field.Field.TheVariants as field
+use Rattle.zy_json.specs.declared.field.Member.{Member}
+use Rattle.zy_json.specs.declared.field.Member.TheVariants as field
 
 -- the name of a field
-abbrev pub key_of : Field → List ℕ
+abbrev pub key_of : Member → List ℕ
 key_of field.Actor = codes "actor"
 key_of field.Action = codes "do"
 key_of field.Came = codes "came"
 key_of field.Sent = codes "sent"
 
 -- its name in quotation marks
-abbrev pub shown : Field → List ℕ
+abbrev pub shown : Member → List ℕ
 shown f = 34 ∷ (key_of f ++ 34 ∷ [])
 
 -- a sign that ends a part in a line of a log: a line feed, `!`, `;` or `>`

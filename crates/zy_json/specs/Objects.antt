@@ -9,8 +9,8 @@ use Rattle.zy_isa.specs.declared.node.Actor.TheVariants.{C, A, B}
 use Rattle.zy_isa.specs.Results.{◌>>=◌}
 use Rattle.zy_json.specs.declared.faults.JsonFault.{JsonFault}
 use Rattle.zy_json.specs.declared.faults.JsonFault.TheVariants.{Missing, Twice, NotString, NoActor, Sign}
-use Rattle.zy_json.specs.declared.field.Field.{Field}
-use Rattle.zy_json.specs.declared.field.Field.TheVariants as field
+use Rattle.zy_json.specs.declared.field.Member.{Member}
+use Rattle.zy_json.specs.declared.field.Member.TheVariants as field
 use Rattle.zy_json.specs.Fields.{key_of, ends_part}
 use Rattle.zy_json.specs.Steps.{Step}
 
@@ -20,31 +20,31 @@ values_of key no_members = []
 values_of key (member k j ms) = if bytes_eq k key then j ∷ values_of key ms else values_of key ms
 
 -- a string is found, or the value is none
-abbrev pub if_string : Field → Option (List ℕ) → Result (Option (List ℕ)) JsonFault
+abbrev pub if_string : Member → Option (List ℕ) → Result (Option (List ℕ)) JsonFault
 if_string f None = Err (NotString f)
 if_string f (Some text) = Ok (Some text)
 
 -- the string that is the only value of a field; none, where the field has no value
-abbrev pub only : Field → List Json → Result (Option (List ℕ)) JsonFault
+abbrev pub only : Member → List Json → Result (Option (List ℕ)) JsonFault
 only f [] = Ok None
 only f (j ∷ []) = if_string f (as_str j)
 only f (i ∷ j ∷ js) = Err (Twice f)
 
 -- the text of a field, if it is there
-abbrev pub text_of : Field → Members → Result (Option (List ℕ)) JsonFault
+abbrev pub text_of : Member → Members → Result (Option (List ℕ)) JsonFault
 text_of f ms = only f (values_of (key_of f) ms)
 
 -- a text without a sign that ends a part in a line of a log
-abbrev pub if_part : Field → Option (List ℕ) → Result (Option (List ℕ)) JsonFault
+abbrev pub if_part : Member → Option (List ℕ) → Result (Option (List ℕ)) JsonFault
 if_part f None = Ok None
 if_part f (Some text) = if list_any ends_part text then Err (Sign f) else Ok (Some text)
 
 -- the text of a field that is a part of a line of a log, if it is there
-abbrev pub part_of : Field → Members → Result (Option (List ℕ)) JsonFault
+abbrev pub part_of : Member → Members → Result (Option (List ℕ)) JsonFault
 part_of f ms = text_of f ms >>= if_part f
 
 -- a field that has to be there
-abbrev pub present : Field → Option (List ℕ) → Result (List ℕ) JsonFault
+abbrev pub present : Member → Option (List ℕ) → Result (List ℕ) JsonFault
 present f None = Err (Missing f)
 present f (Some text) = Ok text
 

@@ -7,7 +7,7 @@ use Rattle.json.specs.Token.{Token}
 use Rattle.json.specs.Written as writer
 use Rattle.zy_json.specs.declared.faults.JsonFault.{JsonFault}
 use Rattle.zy_json.specs.declared.faults.JsonFault.TheVariants.{Memory}
-use Rattle.zy_json.specs.declared.field.Field.{Field}
+use Rattle.zy_json.specs.declared.field.Member.{Member}
 use Rattle.zy_json.specs.declared.step.JsonStep.{JsonStep}
 use Rattle.zy_json.specs.Fields.{key_of}
 use Rattle.zy_json.specs.Steps.{Step, actor_text, step_of}
@@ -40,10 +40,10 @@ IsReadAs s (Err fault) = ⊥
 
 -- ---- for private clauses: the tokens that are written
 
-abbrev pub field_tokens : Field → List ℕ → List Token
+abbrev pub field_tokens : Member → List ℕ → List Token
 field_tokens f text = token.key (key_of f) ∷ token.string text ∷ []
 
-abbrev pub some_tokens : Field → Option (List ℕ) → List Token
+abbrev pub some_tokens : Member → Option (List ℕ) → List Token
 some_tokens f None = []
 some_tokens f (Some text) = field_tokens f text
 

@@ -1,6 +1,6 @@
 //! Why a line was not read.
 
-use crate::field::Field;
+use crate::field::Member;
 use thiserror::Error;
 
 /// Why a line is none of a log in JSON. Of several faults the first is reported, in the order of the variants up to `NotObject`,
@@ -16,19 +16,19 @@ pub enum JsonFault {
     NotObject,
     /// The object has no such field, and needs one.
     #[error("the field {0} is missing")]
-    Missing(Field),
+    Missing(Member),
     /// The object has this field twice or more often.
     #[error("the field {0} comes twice")]
-    Twice(Field),
+    Twice(Member),
     /// The value of this field is no string.
     #[error("the field {0} is no string; leave it out where there is nothing to tell")]
-    NotString(Field),
+    NotString(Member),
     /// The actor is none of the three.
     #[error("the field \"actor\" is \"C\", \"A\" or \"B\"")]
     NoActor,
     /// The text of this field has a sign that would end it in a line of a log: a line feed, `!`, `;` or `>`.
     #[error("the field {0} has no line feed, no !, no ; and no >")]
-    Sign(Field),
+    Sign(Member),
     /// There is no memory for the line.
     #[error("there is no memory for the line")]
     Memory,

@@ -6,7 +6,7 @@ use std::fmt;
 
 /// A field of the object that a line is.
 #[derive(Clone, Copy, Debug, PartialEq, Eq)]
-pub enum Field {
+pub enum Member {
     /// Who made the step, under `actor`: `C`, `A` or `B`.
     Actor,
     /// What the actor did, under `do`, as `run 0`.
@@ -17,22 +17,22 @@ pub enum Field {
     Sent,
 }
 
-impl Field {
+impl Member {
     /// The name under which the field stands in the object.
     pub fn key(self) -> &'static str
         ensures { result.now ≡ key_of self }
     {
         match self {
-            Field::Actor => "actor",
-            Field::Action => "do",
-            Field::Came => "came",
-            Field::Sent => "sent",
+            Member::Actor => "actor",
+            Member::Action => "do",
+            Member::Came => "came",
+            Member::Sent => "sent",
         }
     }
 }
 
 /// Its name in quotation marks.
-impl fmt::Display for Field {
+impl fmt::Display for Member {
     ghost output = { λ f. Some (shown f) };
 
     fn fmt<W: fmt::Write>(&self, f: &mut fmt::Formatter<W>) -> fmt::Result {

@@ -13,7 +13,7 @@ mod tests;
 pub mod writing;
 
 pub use crate::faults::JsonFault;
-pub use crate::field::Field;
+pub use crate::field::Member;
 pub use crate::plain::PlainStep;
 pub use crate::reading::read;
 pub use crate::step::{JsonStep, LogText};

@@ -8,7 +8,7 @@ ghost use Rattle.zy_json.specs.Meaning.{FindsMember, Reads, step_found, text_fou
 ghost use Rattle.zy_json.specs.Objects as spec;
 
 use crate::faults::JsonFault;
-use crate::field::Field;
+use crate::field::Member;
 use crate::step::JsonStep;
 use json::{Error, Reader, Scratch, Value};
 use std::alloc::{AllocError, Global};
@@ -32,7 +32,10 @@ fn find<'v, 'a>(
 }
 
 /// The text of a field, if it is there.
-fn text_of<'a>(field: Field, members: &[(&'a str, Value<'a>)]) -> Result<Option<&'a str>, JsonFault>
+fn text_of<'a>(
+    field: Member,
+    members: &[(&'a str, Value<'a>)],
+) -> Result<Option<&'a str>, JsonFault>
     ensures { texts_found result ≡ spec.text_of field (members_view members.now) }
 {
     let Some((value, behind)) = find(field.key(), members) else {
@@ -62,7 +65,10 @@ fn has_sign(text: &str) -> bool
 }
 
 /// The text of a field that is a part of a line of a log, if it is there.
-fn part_of<'a>(field: Field, members: &[(&'a str, Value<'a>)]) -> Result<Option<&'a str>, JsonFault>
+fn part_of<'a>(
+    field: Member,
+    members: &[(&'a str, Value<'a>)],
+) -> Result<Option<&'a str>, JsonFault>
     ensures { texts_found result ≡ spec.part_of field (members_view members.now) }
 {
     match text_of(field, members)? {
@@ -93,9 +99,9 @@ fn actor_of(name: &str) -> Result<Actor, JsonFault>
 fn actor_in<'a>(members: &[(&'a str, Value<'a>)]) -> Result<Actor, JsonFault>
     ensures { result ≡ spec.actor_in (members_view members.now) }
 {
-    match text_of(Field::Actor, members)? {
+    match text_of(Member::Actor, members)? {
         Some(name) => actor_of(name),
-        None => Err(JsonFault::Missing(Field::Actor)),
+        None => Err(JsonFault::Missing(Member::Actor)),
     }
 }
 
@@ -103,9 +109,9 @@ fn actor_in<'a>(members: &[(&'a str, Value<'a>)]) -> Result<Actor, JsonFault>
 fn action_in<'a>(members: &[(&'a str, Value<'a>)]) -> Result<&'a str, JsonFault>
     ensures { text_found result ≡ spec.action_in (members_view members.now) }
 {
-    match part_of(Field::Action, members)? {
+    match part_of(Member::Action, members)? {
         Some(text) => Ok(text),
-        None => Err(JsonFault::Missing(Field::Action)),
+        None => Err(JsonFault::Missing(Member::Action)),
     }
 }
 
@@ -115,8 +121,8 @@ fn step_in<'a>(members: &[(&'a str, Value<'a>)]) -> Result<JsonStep<'a>, JsonFau
 {
     let actor = actor_in(members)?;
     let action = action_in(members)?;
-    let came = part_of(Field::Came, members)?;
-    let sent = part_of(Field::Sent, members)?;
+    let came = part_of(Member::Came, members)?;
+    let sent = part_of(Member::Sent, members)?;
     Ok(JsonStep {
         actor,
         action,

@@ -1,7 +1,7 @@
 //! Texts of JSON from outside: escapes, surrogates, white space, depth, a byte order mark; and the words of faults.
 
 use crate::faults::JsonFault;
-use crate::field::Field;
+use crate::field::Member;
 use crate::plain::PlainStep;
 use crate::reading::read;
 use crate::step::{JsonStep, LogText};
@@ -58,35 +58,35 @@ const FAULTS: [(&[u8], JsonFault); 17] = [
         JsonFault::NotJson(25),
     ),
     (b"[]", JsonFault::NotObject),
-    (b"{}", JsonFault::Missing(Field::Actor)),
+    (b"{}", JsonFault::Missing(Member::Actor)),
     (
         b"{\"actor\":\"A\",\"Do\":\"take\"}",
-        JsonFault::Missing(Field::Action),
+        JsonFault::Missing(Member::Action),
     ),
     (
         b"{\"actor\":\"A\",\"do\":\"take\",\"\\u0064o\":\"take\"}",
-        JsonFault::Twice(Field::Action),
+        JsonFault::Twice(Member::Action),
     ),
     (
         b"{\"actor\":\"A\",\"do\":\"take\",\"came\":null}",
-        JsonFault::NotString(Field::Came),
+        JsonFault::NotString(Member::Came),
     ),
     (b"{\"actor\":\"a\",\"do\":\"take\"}", JsonFault::NoActor),
     (
         b"{\"actor\":\"A\",\"do\":\"run 0 -> did\"}",
-        JsonFault::Sign(Field::Action),
+        JsonFault::Sign(Member::Action),
     ),
     (
         b"{\"actor\":\"A\",\"do\":\"take\",\"came\":\"did\\nB push\"}",
-        JsonFault::Sign(Field::Came),
+        JsonFault::Sign(Member::Came),
     ),
     (
         b"{\"actor\":\"A\",\"do\":\"take\",\"came\":\"did ! pull\"}",
-        JsonFault::Sign(Field::Came),
+        JsonFault::Sign(Member::Came),
     ),
     (
         b"{\"actor\":\"A\",\"do\":\"take\",\"sent\":\"pull;\"}",
-        JsonFault::Sign(Field::Sent),
+        JsonFault::Sign(Member::Sent),
     ),
 ];
 
@@ -164,7 +164,7 @@ fn plain_steps_are_written(rt: HostRuntime) -> Result<(), Fail> {
 
 #[test]
 fn faults_have_words(rt: HostRuntime) -> Result<(), Fail> {
-    let words = JsonFault::Twice(Field::Came).to_string(rt.alloc())?;
+    let words = JsonFault::Twice(Member::Came).to_string(rt.alloc())?;
     assert_eq!(rt; words.as_str(), "the field \"came\" comes twice");
     let words = JsonFault::NotObject.to_string(rt.alloc())?;
     let want = "a line is one object, as {\"actor\":\"A\",\"do\":\"run 0\",\"came\":\"did\"}";

@@ -6,13 +6,13 @@ ghost use Rattle.zy_json.specs.Steps.{step_of};
 ghost use Rattle.zy_json.specs.Words.{IsLine};
 ghost use Rattle.zy_json.specs.Written.{field_tokens, json_text, some_tokens, Puts};
 
-use crate::field::Field;
+use crate::field::Member;
 use crate::step::{JsonStep, letter};
 use json::Writer;
 use std::alloc::{AllocError, Global};
 
 /// Writes a field.
-fn put(writer: &mut Writer, field: Field, text: &str) -> Result<(), AllocError>
+fn put(writer: &mut Writer, field: Member, text: &str) -> Result<(), AllocError>
     ensures { OnOk result (Puts writer.old writer.new (field_tokens field text.now)) }
 {
     writer.key(field.key())?;
@@ -20,7 +20,7 @@ fn put(writer: &mut Writer, field: Field, text: &str) -> Result<(), AllocError>
 }
 
 /// Writes a field, if there is a text.
-fn put_some(writer: &mut Writer, field: Field, text: Option<&str>) -> Result<(), AllocError>
+fn put_some(writer: &mut Writer, field: Member, text: Option<&str>) -> Result<(), AllocError>
     ensures { OnOk result (Puts writer.old writer.new (some_tokens field (option_copied text.entry))) }
 {
     match text {
@@ -39,10 +39,10 @@ pub fn write(alloc: Global, step: &JsonStep<'_>) -> Result<Vec<u8>, AllocError>
 {
     let mut writer = Writer::new(Vec::new(alloc));
     writer.begin_object()?;
-    put(&mut writer, Field::Actor, letter(step.actor))?;
-    put(&mut writer, Field::Action, step.action)?;
-    put_some(&mut writer, Field::Came, step.came)?;
-    put_some(&mut writer, Field::Sent, step.sent)?;
+    put(&mut writer, Member::Actor, letter(step.actor))?;
+    put(&mut writer, Member::Action, step.action)?;
+    put_some(&mut writer, Member::Came, step.came)?;
+    put_some(&mut writer, Member::Sent, step.sent)?;
     writer.end_object()?;
     Ok(writer.into_inner())
 }

@@ -11,7 +11,7 @@ use crate::lines::step::Steps;
 use crate::lines::taken::Taken;
 use crate::serial::same;
 use std::alloc::Global;
-use zy_disasm::Head;
+use zy_disasm::ScenarioHead;
 use zy_io::{AllLines, LineBuffer, One, Section, Sink, TextFault, sections};
 use zy_machine::Machine;
 
@@ -29,7 +29,7 @@ pub(crate) fn write_listing_as<K: Sink>(
     let mut line = LineBuffer::new(alloc);
     let entries = machine.entries();
     sections!(
-        Head(machine.scenario()),
+        ScenarioHead(machine.scenario()),
         AllLines(Taken(entries)),
         One("end"),
         One("steps"),

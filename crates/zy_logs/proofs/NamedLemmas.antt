@@ -13,9 +13,9 @@ use Rattle.zy_isa.specs.Scenario.{AreNamed}
 use Rattle.zy_model.specs.declared.kind.Kind.{Kind}
 use Rattle.zy_text.specs.Words.{lines_of, words_of, number_of, is_numeral}
 use Rattle.zy_text.specs.Names.{is_name}
-use Rattle.zy_logs.specs.declared.expected.Expected.TheVariants as expected
+use Rattle.zy_logs.specs.declared.expected.ExpectedInLog.TheVariants as expected
 use Rattle.zy_logs.specs.declared.expected.Misread.{Misread}
-use Rattle.zy_logs.specs.declared.faults.Refusal.{Refusal}
+use Rattle.zy_logs.specs.declared.faults.LogLineFault.{LogLineFault}
 use Rattle.zy_logs.specs.declared.log_line.LogLine.{LogLine}
 use Rattle.zy_logs.specs.declared.logs.NumberedLine.{NumberedLine}
 use Rattle.zy_logs.specs.declared.told.Told.{Told}
@@ -155,7 +155,7 @@ named_line txns ws = named_placed txns.count (length ws) (whole txns ws) (named_
 -- ---- the lines of a text
 
 -- what a line of a text says names transactions below count
-abbrev AtNamed : ℕ → Result (Option NumberedLine) Refusal → Type 0
+abbrev AtNamed : ℕ → Result (Option NumberedLine) LogLineFault → Type 0
 AtNamed count (Ok first) = AreNamed count (choices_of (listed first))
 AtNamed count (Err r) = Unit {0}
 
@@ -170,18 +170,18 @@ named_at txns most taken n [] = tt
 named_at txns most taken n (w ∷ ws) = named_fitting txns.count most taken n (line_of txns (w ∷ ws)) (named_line txns (w ∷ ws))
 
 -- what lines say does
-abbrev AllNamed : ℕ → Result (List NumberedLine) Refusal → Type 0
+abbrev AllNamed : ℕ → Result (List NumberedLine) LogLineFault → Type 0
 AllNamed count (Ok lines) = AreNamed count (choices_of lines)
 AllNamed count (Err r) = Unit {0}
 
-named_joined : (count : ℕ) (first : Option NumberedLine) (said : Result (List NumberedLine) Refusal)
+named_joined : (count : ℕ) (first : Option NumberedLine) (said : Result (List NumberedLine) LogLineFault)
     → AreNamed count (choices_of (listed first)) → AllNamed count said → AllNamed count (joined (listed first) said)
 named_joined count None (Ok lines) a b = b
 named_joined count (Some l) (Ok lines) a b = (a.0, b)
 named_joined count None (Err r) a b = tt
 named_joined count (Some l) (Err r) a b = tt
 
-named_more : (count : ℕ) (r : Result (Option NumberedLine) Refusal) (rest : Option NumberedLine → Result (List NumberedLine) Refusal)
+named_more : (count : ℕ) (r : Result (Option NumberedLine) LogLineFault) (rest : Option NumberedLine → Result (List NumberedLine) LogLineFault)
     → AtNamed count r → ((first : Option NumberedLine) → AllNamed count (rest first)) → AllNamed count (r >>= λ first. joined (listed first) (rest first))
 named_more count (Ok first) rest a b = named_joined count first (rest first) a (b first)
 named_more count (Err x) rest a b = tt
@@ -200,7 +200,7 @@ logs_named txns most first text lines e = subst (AllNamed txns.count) e (named_f
 -- ---- how many there are
 
 -- with what a line says there are no more than there may be
-abbrev AtFew : ℕ → ℕ → Result (Option NumberedLine) Refusal → Type 0
+abbrev AtFew : ℕ → ℕ → Result (Option NumberedLine) LogLineFault → Type 0
 AtFew most taken (Ok first) = taken + length (listed first) ≤ most
 AtFew most taken (Err r) = Unit {0}
 
@@ -216,18 +216,18 @@ few_at txns most taken n [] h = omega (arith, h)
 few_at txns most taken n (w ∷ ws) h = few_fitting most taken n (line_of txns (w ∷ ws))
 
 -- nor with what lines say
-abbrev AllFew : ℕ → ℕ → Result (List NumberedLine) Refusal → Type 0
+abbrev AllFew : ℕ → ℕ → Result (List NumberedLine) LogLineFault → Type 0
 AllFew most taken (Ok lines) = taken + length lines ≤ most
 AllFew most taken (Err r) = Unit {0}
 
-few_joined : (most taken : ℕ) (first : Option NumberedLine) (said : Result (List NumberedLine) Refusal)
+few_joined : (most taken : ℕ) (first : Option NumberedLine) (said : Result (List NumberedLine) LogLineFault)
     → AllFew most (taken + length (listed first)) said → AllFew most taken (joined (listed first) said)
 few_joined most taken None (Ok lines) h = omega (arith, h)
 few_joined most taken (Some l) (Ok lines) h = omega (arith, h)
 few_joined most taken None (Err r) h = tt
 few_joined most taken (Some l) (Err r) h = tt
 
-few_more : (most taken : ℕ) (r : Result (Option NumberedLine) Refusal) (rest : Option NumberedLine → Result (List NumberedLine) Refusal)
+few_more : (most taken : ℕ) (r : Result (Option NumberedLine) LogLineFault) (rest : Option NumberedLine → Result (List NumberedLine) LogLineFault)
     → AtFew most taken r → ((first : Option NumberedLine) → taken + length (listed first) ≤ most → AllFew most (taken + length (listed first)) (rest first))
     → AllFew most taken (r >>= λ first. joined (listed first) (rest first))
 few_more most taken (Ok first) rest a b = few_joined most taken first (rest first) (b first a)

@@ -35,8 +35,8 @@ use Rattle.zy_table.specs.Run.{split_step, full_step, insert_step, lock_of, acce
 use Rattle.zy_table.specs.Run.{effect_step, instr_step, run_step}
 use Rattle.zy_table.specs.Take.{is_held, outcome_of, arrival_step, pull_step, message_step, front_step, take_step}
 use Rattle.zy_table.specs.Play.{move, side_of, step}
-use Rattle.zy_logs.specs.declared.told.Reason.{Reason}
-use Rattle.zy_logs.specs.declared.told.Reason.TheVariants as reason
+use Rattle.zy_logs.specs.declared.told.LoggedReason.{LoggedReason}
+use Rattle.zy_logs.specs.declared.told.LoggedReason.TheVariants as reason
 use Rattle.zy_logs.specs.declared.told.Told.{Told}
 use Rattle.zy_logs.specs.declared.told.Told.TheVariants as told
 use Rattle.zy_logs.specs.Agrees.{TellsReason, Tells}
@@ -45,7 +45,7 @@ use Rattle.zy_logs.specs.Possible.{is_kill, is_run, can_abort, can_give}
 -- ---- what is told in full
 
 -- why a transaction was aborted, told in full
-abbrev reason_of : Why → Reason
+abbrev reason_of : Why → LoggedReason
 reason_of why.Own = reason.Own
 reason_of why.Killed = reason.Killed
 reason_of why.BadKey = reason.BadKey
@@ -100,7 +100,7 @@ same c e g = subst (Gives c) e g
 same_reason : (c : Choice) {w v : Why} → w ≡ v → can_abort c (reason_of w) ≡ true → can_abort c (reason_of v) ≡ true
 same_reason c e g = subst (λ (x : Why). can_abort c (reason_of x) ≡ true) e g
 
-reason_told : (c : Choice) (r : Reason) (w : Why) → TellsReason r w → can_abort c (reason_of w) ≡ true → can_abort c r ≡ true
+reason_told : (c : Choice) (r : LoggedReason) (w : Why) → TellsReason r w → can_abort c (reason_of w) ≡ true → can_abort c r ≡ true
 reason_told c reason.Own w e g = same_reason c e g
 reason_told c reason.Killed w e g = same_reason c e g
 reason_told c reason.BadKey w e g = same_reason c e g
@@ -111,7 +111,7 @@ reason_told c reason.NoPage w e g = same_reason c e g
 reason_told c (reason.Gone page) w e g = same_reason c e.1 g
 
 -- a reason that is left out
-any_reason : (c : Choice) (r : Reason) → can_abort c r ≡ true → (is_kill c || is_run c) ≡ true
+any_reason : (c : Choice) (r : LoggedReason) → can_abort c r ≡ true → (is_kill c || is_run c) ≡ true
 any_reason c reason.Killed e = or_left (is_kill c) (is_run c) e
 any_reason c reason.Own e = or_right (is_kill c) (is_run c) e
 any_reason c reason.BadKey e = or_right (is_kill c) (is_run c) e

@@ -5,8 +5,8 @@ use Rattle.zy_isa.specs.declared.choice.Choice.TheVariants.{Take, Push, Run, Beg
 use Rattle.zy_model.specs.declared.kind.Kind.TheVariants as message
 use Rattle.zy_table.specs.declared.outcome.Outcome.TheVariants as outcome
 use Rattle.zy_text.specs.Words.{words_of}
-use Rattle.zy_logs.specs.declared.expected.Expected.TheVariants as expected
-use Rattle.zy_logs.specs.declared.told.Reason.TheVariants as reason
+use Rattle.zy_logs.specs.declared.expected.ExpectedInLog.TheVariants as expected
+use Rattle.zy_logs.specs.declared.told.LoggedReason.TheVariants as reason
 use Rattle.zy_logs.specs.declared.told.Told.TheVariants as told
 use Rattle.zy_logs.specs.declared.txns.Txns.{Txns}
 use Rattle.zy_logs.specs.Agrees.{Tells}

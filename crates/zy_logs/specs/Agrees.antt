@@ -5,8 +5,8 @@ use Rattle.zy_table.specs.declared.outcome.Why.{Why}
 use Rattle.zy_table.specs.declared.outcome.Why.TheVariants as why
 use Rattle.zy_table.specs.declared.outcome.Outcome.{Outcome}
 use Rattle.zy_table.specs.declared.outcome.Outcome.TheVariants as outcome
-use Rattle.zy_logs.specs.declared.told.Reason.{Reason}
-use Rattle.zy_logs.specs.declared.told.Reason.TheVariants as reason
+use Rattle.zy_logs.specs.declared.told.LoggedReason.{LoggedReason}
+use Rattle.zy_logs.specs.declared.told.LoggedReason.TheVariants as reason
 use Rattle.zy_logs.specs.declared.told.Told.{Told}
 use Rattle.zy_logs.specs.declared.told.Told.TheVariants as told
 use Rattle.zy_logs.specs.declared.log_line.LogLine.{LogLine}
@@ -17,7 +17,7 @@ abbrev pub Allows : {T : Type 0} → Option T → T → Type 0
 Allows told came = IfSome told (λ x. came ≡ x)
 
 -- the logged reason is that of an abort
-abbrev pub TellsReason : Reason → Why → Type 0
+abbrev pub TellsReason : LoggedReason → Why → Type 0
 TellsReason reason.Own w = w ≡ why.Own
 TellsReason reason.Killed w = w ≡ why.Killed
 TellsReason reason.BadKey w = w ≡ why.BadKey

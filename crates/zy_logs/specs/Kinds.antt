@@ -1,10 +1,10 @@
 -- The kind of fault that a word is, by what may stand in its place.
-use Rattle.zy_logs.specs.declared.expected.Expected.{Expected}
-use Rattle.zy_logs.specs.declared.expected.Expected.TheVariants.{Number, AtMost, KnownTxn, OutcomeOf, FewerLines}
+use Rattle.zy_logs.specs.declared.expected.ExpectedInLog.{ExpectedInLog}
+use Rattle.zy_logs.specs.declared.expected.ExpectedInLog.TheVariants.{Number, AtMost, KnownTxn, OutcomeOf, FewerLines}
 use Rattle.zy_logs.specs.declared.expected.FaultKind.{FaultKind}
 use Rattle.zy_logs.specs.declared.expected.FaultKind.TheVariants as kind
 
-abbrev pub kind_of : Expected → FaultKind
+abbrev pub kind_of : ExpectedInLog → FaultKind
 kind_of Number = kind.Number
 kind_of (AtMost most) = kind.Range
 kind_of KnownTxn = kind.Label

@@ -6,7 +6,7 @@ use Rattle.zy_isa.specs.declared.choice.Choice.{Choice}
 use Rattle.zy_isa.specs.declared.choice.Choice.TheVariants as choice
 use Rattle.zy_isa.specs.Results.{◌>>=◌}
 use Rattle.zy_model.specs.declared.kind.Kind.{Kind}
-use Rattle.zy_logs.specs.declared.expected.Expected.TheVariants as expected
+use Rattle.zy_logs.specs.declared.expected.ExpectedInLog.TheVariants as expected
 use Rattle.zy_logs.specs.declared.expected.Misread.{Misread}
 use Rattle.zy_logs.specs.declared.log_line.LogLine.{LogLine}
 use Rattle.zy_logs.specs.declared.told.Told.{Told}

@@ -4,9 +4,9 @@ use Rattle.zy_isa.specs.declared.node.Node.{Node}
 use Rattle.zy_isa.specs.Results.{◌>>=◌}
 use Rattle.zy_text.specs.Words.{number_of, is_numeral}
 use Rattle.zy_text.specs.Names.{is_name}
-use Rattle.zy_logs.specs.declared.expected.Expected.TheVariants as expected
-use Rattle.zy_logs.specs.declared.told.Reason.{Reason}
-use Rattle.zy_logs.specs.declared.told.Reason.TheVariants as a_reason
+use Rattle.zy_logs.specs.declared.expected.ExpectedInLog.TheVariants as expected
+use Rattle.zy_logs.specs.declared.told.LoggedReason.{LoggedReason}
+use Rattle.zy_logs.specs.declared.told.LoggedReason.TheVariants as a_reason
 use Rattle.zy_logs.specs.declared.txns.Txns.{Txns}
 use Rattle.zy_logs.specs.Words.{Word, Read, first, after, begin_with, end_outcome, refused, gives, made}
 use Rattle.zy_logs.specs.Txns.{named}
@@ -52,7 +52,7 @@ abbrev pub node_at : List Word → Read Node
 node_at ws = gives (word.node (first ws)) expected.Node ws
 
 -- WHY; its page may be left out
-abbrev pub reason : List Word → Read Reason
+abbrev pub reason : List Word → Read LoggedReason
 reason ws =
     if begin_with (codes "frozen") ws then made a_reason.Frozen (or_none page (after ws)) else
     if begin_with (codes "gone") ws then made a_reason.Gone (or_none page (after ws)) else

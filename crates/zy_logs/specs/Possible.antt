@@ -2,8 +2,8 @@
 use Rattle.std.specs.Prelude.{◌||◌, Bool, true, false, Some, None}
 use Rattle.zy_isa.specs.declared.choice.Choice.{Choice}
 use Rattle.zy_isa.specs.declared.choice.Choice.TheVariants.{Start, Begin, Kill, Run, Take, Finish, Push}
-use Rattle.zy_logs.specs.declared.told.Reason.{Reason}
-use Rattle.zy_logs.specs.declared.told.Reason.TheVariants as reason
+use Rattle.zy_logs.specs.declared.told.LoggedReason.{LoggedReason}
+use Rattle.zy_logs.specs.declared.told.LoggedReason.TheVariants as reason
 use Rattle.zy_logs.specs.declared.told.Told.{Told}
 use Rattle.zy_logs.specs.declared.told.Told.TheVariants as told
 
@@ -36,7 +36,7 @@ is_push (Push n) = true
 is_push c = false
 
 -- a choice can abort a transaction for this reason
-abbrev pub can_abort : Choice → Reason → Bool
+abbrev pub can_abort : Choice → LoggedReason → Bool
 can_abort c reason.Killed = is_kill c
 can_abort c r = is_run c
 

@@ -5,8 +5,8 @@ use Rattle.zy_isa.specs.declared.node.Node.{Node}
 use Rattle.zy_isa.specs.declared.node.Node.TheVariants.{A, B}
 use Rattle.zy_model.specs.declared.kind.Kind.{Kind}
 use Rattle.zy_model.specs.declared.kind.Kind.TheVariants as message
-use Rattle.zy_logs.specs.declared.told.Reason.{Reason}
-use Rattle.zy_logs.specs.declared.told.Reason.TheVariants as reason
+use Rattle.zy_logs.specs.declared.told.LoggedReason.{LoggedReason}
+use Rattle.zy_logs.specs.declared.told.LoggedReason.TheVariants as reason
 use Rattle.zy_logs.specs.declared.told.Told.{Told}
 use Rattle.zy_logs.specs.declared.told.Told.TheVariants as told
 use Rattle.zy_logs.specs.Words.{Word}
@@ -31,7 +31,7 @@ kind w =
     None
 
 -- WHY, where it is one word
-unfoldable pub lone_reason : Word → Option Reason
+unfoldable pub lone_reason : Word → Option LoggedReason
 lone_reason w =
     if bytes_eq w (codes "own") then Some reason.Own else
     if bytes_eq w (codes "killed") then Some reason.Killed else

@@ -1,8 +1,8 @@
 -- What the first words of some words spell.
 use Rattle.std.specs.Prelude.{ℕ, ◌||◌, Bool, true, false, List, [], ◌∷◌, codes, length, Option, Some, None, Result, Ok, Err}
 use Rattle.std.specs.Str.{bytes_eq}
-use Rattle.zy_logs.specs.declared.expected.Expected.{Expected}
-use Rattle.zy_logs.specs.declared.reading.cursor.Stop.{Stop}
+use Rattle.zy_logs.specs.declared.expected.ExpectedInLog.{ExpectedInLog}
+use Rattle.zy_logs.specs.declared.reading.cursor.Misfit.{Misfit}
 
 -- a word, as bytes
 abbrev pub Word : Type 0
@@ -10,7 +10,7 @@ Word = List ℕ
 
 -- a value that the first words spell, and the words after them; or where they stop to fit
 abbrev pub Read : Type 0 → Type 0
-Read T = Result (T × List Word) Stop
+Read T = Result (T × List Word) Misfit
 
 -- the first one of some words; where there is none, the empty one
 abbrev pub first : List Word → Word
@@ -36,15 +36,15 @@ abbrev pub end_outcome : List Word → Bool
 end_outcome ws = are_none ws || begin_with (codes "!") ws
 
 -- the first word does not fit: how many words are left with it, and what may stand in its place
-abbrev pub stop : Expected → List Word → Stop
+abbrev pub stop : ExpectedInLog → List Word → Misfit
 stop e ws = record { left = length ws; expected = e }
 
 -- the first word is refused
-abbrev pub refused : {T : Type 0} → Expected → List Word → Read T
+abbrev pub refused : {T : Type 0} → ExpectedInLog → List Word → Read T
 refused e ws = Err (stop e ws)
 
 -- what the first word was found to stand for
-abbrev pub gives : {T : Type 0} → Option T → Expected → List Word → Read T
+abbrev pub gives : {T : Type 0} → Option T → ExpectedInLog → List Word → Read T
 gives None e ws = refused e ws
 gives (Some x) e ws = Ok (x, after ws)
 

@@ -24,7 +24,7 @@ pub enum FaultKind {
 
 /// What may stand in the place of a word.
 #[derive(Clone, Copy)]
-pub enum Expected {
+pub enum ExpectedInLog {
     Actor,
     ClientAction,
     NodeAction,
@@ -55,29 +55,29 @@ pub enum Expected {
     FewerLines,
 }
 
-impl Expected {
+impl ExpectedInLog {
     /// The kind of fault that any other word is.
     pub fn kind(self) -> FaultKind
         ensures { result ≡ kind_of self }
     {
         match self {
-            Expected::Number => FaultKind::Number,
-            Expected::AtMost(_) => FaultKind::Range,
-            Expected::KnownTxn => FaultKind::Label,
-            Expected::OutcomeOf(_) => FaultKind::Outcome,
-            Expected::FewerLines => FaultKind::Count,
-            Expected::Actor => FaultKind::Word,
-            Expected::ClientAction => FaultKind::Word,
-            Expected::NodeAction => FaultKind::Word,
-            Expected::Txn => FaultKind::Word,
-            Expected::AfterChoice => FaultKind::Word,
-            Expected::Outcome => FaultKind::Word,
-            Expected::Got => FaultKind::Word,
-            Expected::Node => FaultKind::Word,
-            Expected::Reason => FaultKind::Word,
-            Expected::AfterOutcome => FaultKind::Word,
-            Expected::Message => FaultKind::Word,
-            Expected::End => FaultKind::Word,
+            ExpectedInLog::Number => FaultKind::Number,
+            ExpectedInLog::AtMost(_) => FaultKind::Range,
+            ExpectedInLog::KnownTxn => FaultKind::Label,
+            ExpectedInLog::OutcomeOf(_) => FaultKind::Outcome,
+            ExpectedInLog::FewerLines => FaultKind::Count,
+            ExpectedInLog::Actor => FaultKind::Word,
+            ExpectedInLog::ClientAction => FaultKind::Word,
+            ExpectedInLog::NodeAction => FaultKind::Word,
+            ExpectedInLog::Txn => FaultKind::Word,
+            ExpectedInLog::AfterChoice => FaultKind::Word,
+            ExpectedInLog::Outcome => FaultKind::Word,
+            ExpectedInLog::Got => FaultKind::Word,
+            ExpectedInLog::Node => FaultKind::Word,
+            ExpectedInLog::Reason => FaultKind::Word,
+            ExpectedInLog::AfterOutcome => FaultKind::Word,
+            ExpectedInLog::Message => FaultKind::Word,
+            ExpectedInLog::End => FaultKind::Word,
         }
     }
 }
@@ -99,36 +99,37 @@ fn outcomes_of(choice: Choice) -> &'static str {
 }
 
 /// What a person reads of it.
-impl fmt::Display for Expected {
+impl fmt::Display for ExpectedInLog {
     fn fmt<W: fmt::Write>(&self, f: &mut fmt::Formatter<W>) -> fmt::Result {
         let words = match self {
-            Expected::Actor => "a line of a log begins with C, A or B",
-            Expected::ClientAction => "after C comes start, begin T or kill T",
-            Expected::NodeAction => "after A or B comes run T, take, finish or push",
-            Expected::Txn => "the number or the name of a transaction comes here",
-            Expected::KnownTxn => "the scenario does not have this transaction",
-            Expected::AfterChoice =>
+            ExpectedInLog::Actor => "a line of a log begins with C, A or B",
+            ExpectedInLog::ClientAction => "after C comes start, begin T or kill T",
+            ExpectedInLog::NodeAction => "after A or B comes run T, take, finish or push",
+            ExpectedInLog::Txn => "the number or the name of a transaction comes here",
+            ExpectedInLog::KnownTxn => "the scenario does not have this transaction",
+            ExpectedInLog::AfterChoice =>
                 "after a choice comes -> OUTCOME, ! KIND or the end of the line",
-            Expected::Outcome => {
+            ExpectedInLog::Outcome => {
                 "after -> comes ? or an outcome of the listing, of which node, reason and numbers may be left out"
             }
-            Expected::OutcomeOf(choice) => {
+            ExpectedInLog::OutcomeOf(choice) => {
                 return write!(f, "no state gives this outcome: {}", outcomes_of(*choice));
             }
-            Expected::Got => "after got comes wire, ready, dual, pull, page, finish or done",
-            Expected::Node => "after began comes A or B",
-            Expected::Reason => concat!(
+            ExpectedInLog::Got => "after got comes wire, ready, dual, pull, page, finish or done",
+            ExpectedInLog::Node => "after began comes A or B",
+            ExpectedInLog::Reason => concat!(
                 "after aborted comes own, killed, badkey, missing, duplicate, frozen, nopage ",
                 "or gone"
             ),
-            Expected::Number => "a number is 1 to 10 digits",
-            Expected::AtMost(most) => return write!(f, "a number from 0 to {most} comes here"),
-            Expected::AfterOutcome => "after an outcome comes ! KIND or the end of the line",
-            Expected::Message => {
+            ExpectedInLog::Number => "a number is 1 to 10 digits",
+            ExpectedInLog::AtMost(most) => return write!(f, "a number from 0 to {most} comes here"),
+            ExpectedInLog::AfterOutcome => "after an outcome comes ! KIND or the end of the line",
+            ExpectedInLog::Message => {
                 "after ! comes the kind of the message that was sent: wire, ready, dual, pull, page, finish or done"
             }
-            Expected::End => "nothing comes after the kind of the message that was sent",
-            Expected::FewerLines => "there are at most 4096 choices, those of the scenario counted",
+            ExpectedInLog::End => "nothing comes after the kind of the message that was sent",
+            ExpectedInLog::FewerLines =>
+                "there are at most 4096 choices, those of the scenario counted",
         };
         f.write_str(words)
     }
@@ -139,5 +140,5 @@ impl fmt::Display for Expected {
 #[derive(Clone, Copy)]
 pub struct Misread {
     pub word: usize,
-    pub expected: Expected,
+    pub expected: ExpectedInLog,
 }

@@ -12,9 +12,9 @@ mod text;
 pub mod told;
 pub mod txns;
 
-pub use crate::expected::{Expected, FaultKind, Misread};
-pub use crate::faults::{ReadFault, Refusal};
+pub use crate::expected::{ExpectedInLog, FaultKind, Misread};
+pub use crate::faults::{LogFault, LogLineFault};
 pub use crate::log_line::LogLine;
 pub use crate::logs::NumberedLine;
-pub use crate::told::{Reason, Told};
+pub use crate::told::{LoggedReason, Told};
 pub use crate::txns::Txns;

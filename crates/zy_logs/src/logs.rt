@@ -6,8 +6,8 @@ ghost use Rattle.zy_text.specs.Words as text_words;
 ghost use Rattle.zy_logs.specs.Logs as spec;
 ghost use Rattle.zy_logs.specs.Logs.{Reads, TakesLine};
 
-use crate::expected::Expected;
-use crate::faults::{ReadFault, Refusal};
+use crate::expected::ExpectedInLog;
+use crate::faults::{LogFault, LogLineFault};
 use crate::log_line::LogLine;
 use crate::reading::read_line;
 use crate::text::{first_line, words_of};
@@ -29,7 +29,7 @@ fn line_at(
     taken: usize,
     number: usize,
     words: &[&[u8]],
-) -> Result<Option<NumberedLine>, Refusal>
+) -> Result<Option<NumberedLine>, LogLineFault>
     requires { txns.count ≤ max_txns }
     ensures { result ≡ spec.line_at txns.entry most taken number (texts words.now) }
 {
@@ -41,14 +41,14 @@ fn line_at(
             if taken < most {
                 Ok(Some(NumberedLine { number, line }))
             } else {
-                Err(Refusal {
+                Err(LogLineFault {
                     line: number,
                     word: 0,
-                    expected: Expected::FewerLines,
+                    expected: ExpectedInLog::FewerLines,
                 })
             }
         }
-        Err(misread) => Err(Refusal {
+        Err(misread) => Err(LogLineFault {
             line: number,
             word: misread.word,
             expected: misread.expected,
@@ -64,14 +64,14 @@ fn take(
     lines: &mut Vec<NumberedLine>,
     number: usize,
     line: &[u8],
-) -> Result<(), ReadFault>
+) -> Result<(), LogFault>
     requires { txns.count ≤ max_txns }
     ensures { TakesLine result lines.old.items lines.new.items (spec.line_at txns.entry most (length lines.old.items) number
         (text_words.words_of line.now)) }
 {
     let words = words_of(alloc, line)?;
     if let Some(line) = line_at(txns, most, lines.len(), number, &words)? {
-        lines.push(line).map_err(|_| ReadFault::Memory)?;
+        lines.push(line).map_err(|_| LogFault::Memory)?;
     }
     Ok(())
 }
@@ -83,7 +83,7 @@ pub fn read_logs(
     most: usize,
     first: usize,
     text: &[u8],
-) -> Result<Vec<NumberedLine>, ReadFault>
+) -> Result<Vec<NumberedLine>, LogFault>
     requires few { txns.count ≤ max_txns }
     requires numbers { first + length text.now < 2 ^ 64 }
     ensures { Reads result (spec.logs_of txns.entry most first text.now) }

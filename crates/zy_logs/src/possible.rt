@@ -2,7 +2,7 @@
 ghost use Rattle.std.specs.Prelude.{◌≡◌};
 ghost use Rattle.zy_logs.specs.Possible as spec;
 
-use crate::told::{Reason, Told};
+use crate::told::{LoggedReason, Told};
 use zy_isa::Choice;
 
 /// Whether a migration is started.
@@ -55,18 +55,18 @@ fn is_push(choice: Choice) -> bool
 }
 
 /// Whether a choice can abort a transaction for this reason.
-fn can_abort(choice: Choice, reason: Reason) -> bool
+fn can_abort(choice: Choice, reason: LoggedReason) -> bool
     ensures { result ≡ spec.can_abort choice reason }
 {
     match reason {
-        Reason::Killed => is_kill(choice),
-        Reason::Own => is_run(choice),
-        Reason::BadKey => is_run(choice),
-        Reason::Missing => is_run(choice),
-        Reason::Duplicate => is_run(choice),
-        Reason::Frozen(_) => is_run(choice),
-        Reason::NoPage => is_run(choice),
-        Reason::Gone(_) => is_run(choice),
+        LoggedReason::Killed => is_kill(choice),
+        LoggedReason::Own => is_run(choice),
+        LoggedReason::BadKey => is_run(choice),
+        LoggedReason::Missing => is_run(choice),
+        LoggedReason::Duplicate => is_run(choice),
+        LoggedReason::Frozen(_) => is_run(choice),
+        LoggedReason::NoPage => is_run(choice),
+        LoggedReason::Gone(_) => is_run(choice),
     }
 }
 

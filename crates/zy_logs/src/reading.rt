@@ -12,11 +12,11 @@ mod outcomes;
 mod parts;
 mod words;
 
-use crate::expected::{Expected, Misread};
+use crate::expected::{ExpectedInLog, Misread};
 use crate::log_line::LogLine;
 use crate::possible::can_give;
 use crate::reading::choices::choice;
-use crate::reading::cursor::{Cursor, Parsed};
+use crate::reading::cursor::{LogCursor, Parsed};
 use crate::reading::outcomes::outcome;
 use crate::reading::words::kind;
 use crate::told::Told;
@@ -25,7 +25,7 @@ use zy_isa::Choice;
 use zy_model::Kind;
 
 /// The outcome that begins with the word at hand. That word is refused where no step of the choice gives the outcome.
-fn possible<'a>(txns: Txns<'a>, choice: Choice, at: Cursor<'a>) -> Parsed<'a, Told>
+fn possible<'a>(txns: Txns<'a>, choice: Choice, at: LogCursor<'a>) -> Parsed<'a, Told>
     requires { txns.count ≤ max_txns }
     ensures { read result ≡ spec.possible txns.entry choice (left at.entry) }
 {
@@ -33,12 +33,12 @@ fn possible<'a>(txns: Txns<'a>, choice: Choice, at: Cursor<'a>) -> Parsed<'a, To
     if can_give(choice, told) {
         Ok((told, next))
     } else {
-        Err(at.refuses(Expected::OutcomeOf(choice)))
+        Err(at.refuses(ExpectedInLog::OutcomeOf(choice)))
     }
 }
 
 /// What was logged of the outcome of a choice, after `->`: nothing, or an outcome.
-fn logged<'a>(txns: Txns<'a>, choice: Choice, at: Cursor<'a>) -> Parsed<'a, Option<Told>>
+fn logged<'a>(txns: Txns<'a>, choice: Choice, at: LogCursor<'a>) -> Parsed<'a, Option<Told>>
     requires { txns.count ≤ max_txns }
     ensures { read result ≡ spec.logged txns.entry choice (left at.entry) }
 {
@@ -50,7 +50,7 @@ fn logged<'a>(txns: Txns<'a>, choice: Choice, at: Cursor<'a>) -> Parsed<'a, Opti
 }
 
 /// What was logged of the outcome, after the choice.
-fn told<'a>(txns: Txns<'a>, choice: Choice, at: Cursor<'a>) -> Parsed<'a, Option<Told>>
+fn told<'a>(txns: Txns<'a>, choice: Choice, at: LogCursor<'a>) -> Parsed<'a, Option<Told>>
     requires { txns.count ≤ max_txns }
     ensures { read result ≡ spec.told_of txns.entry choice (left at.entry) }
 {
@@ -59,20 +59,20 @@ fn told<'a>(txns: Txns<'a>, choice: Choice, at: Cursor<'a>) -> Parsed<'a, Option
     } else if at.ends_outcome() {
         Ok((None, at))
     } else {
-        Err(at.refuses(Expected::AfterChoice))
+        Err(at.refuses(ExpectedInLog::AfterChoice))
     }
 }
 
 /// The kind of the message that was sent.
-fn message<'a>(at: Cursor<'a>) -> Parsed<'a, Option<Kind>>
+fn message<'a>(at: LogCursor<'a>) -> Parsed<'a, Option<Kind>>
     ensures { read result ≡ spec.message (left at.entry) }
 {
-    let (kind, at) = at.gives(kind(at.word()), Expected::Message)?;
+    let (kind, at) = at.gives(kind(at.word()), ExpectedInLog::Message)?;
     Ok((Some(kind), at))
 }
 
 /// The kind of the message that was sent, if it was logged.
-fn sent<'a>(at: Cursor<'a>) -> Parsed<'a, Option<Kind>>
+fn sent<'a>(at: LogCursor<'a>) -> Parsed<'a, Option<Kind>>
     ensures { read result ≡ spec.sent_of (left at.entry) }
 {
     if at.is_at(b"!") {
@@ -80,12 +80,12 @@ fn sent<'a>(at: Cursor<'a>) -> Parsed<'a, Option<Kind>>
     } else if at.is_end() {
         Ok((None, at))
     } else {
-        Err(at.refuses(Expected::AfterOutcome))
+        Err(at.refuses(ExpectedInLog::AfterOutcome))
     }
 }
 
 /// The line that begins with the word at hand, and nothing after it.
-fn whole<'a>(txns: Txns<'a>, at: Cursor<'a>) -> Parsed<'a, LogLine>
+fn whole<'a>(txns: Txns<'a>, at: LogCursor<'a>) -> Parsed<'a, LogLine>
     requires { txns.count ≤ max_txns }
     ensures { read result ≡ spec.whole txns.entry (left at.entry) }
 {
@@ -93,7 +93,7 @@ fn whole<'a>(txns: Txns<'a>, at: Cursor<'a>) -> Parsed<'a, LogLine>
     let (told, at) = told(txns, choice, at)?;
     let (sent, at) = sent(at)?;
     if !at.is_end() {
-        return Err(at.refuses(Expected::End));
+        return Err(at.refuses(ExpectedInLog::End));
     }
     Ok((LogLine { choice, told, sent }, at))
 }
@@ -103,7 +103,7 @@ pub fn read_line(txns: Txns<'_>, words: &[&[u8]]) -> Result<LogLine, Misread>
     requires { txns.count ≤ max_txns }
     ensures { result ≡ spec.line_of txns.entry (texts words.now) }
 {
-    match whole(txns, Cursor::new(words)) {
+    match whole(txns, LogCursor::new(words)) {
         Ok((line, _)) => Ok(line),
         Err(stop) => Err(Misread {
             word: words.len().saturating_sub(stop.left),

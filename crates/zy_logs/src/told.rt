@@ -9,7 +9,7 @@ use zy_table::{Outcome, Why};
 
 /// What a log tells of why a transaction was aborted. A page that was not logged is left out.
 #[derive(Clone, Copy)]
-pub enum Reason {
+pub enum LoggedReason {
     /// It came to its own `abort`.
     Own,
     /// The client killed it.
@@ -44,7 +44,7 @@ pub enum Told {
         new_page: Option<u16>,
         boundary: Option<u16>,
     },
-    Aborted(Option<Reason>),
+    Aborted(Option<LoggedReason>),
     Committed(Option<u8>),
     Waits(Option<u16>),
     Pulls(Option<u16>),
@@ -97,23 +97,23 @@ fn allows_node(told: Option<Node>, came: Node) -> bool
 }
 
 /// Whether a reason is the logged one.
-fn tells_reason(told: Reason, why: Why) -> bool
+fn tells_reason(told: LoggedReason, why: Why) -> bool
     ensures { Decides result (TellsReason told why) }
 {
     match told {
-        Reason::Own => matches!(why, Why::Own),
-        Reason::Killed => matches!(why, Why::Killed),
-        Reason::BadKey => matches!(why, Why::BadKey),
-        Reason::Missing => matches!(why, Why::Missing),
-        Reason::Duplicate => matches!(why, Why::Duplicate),
-        Reason::Frozen(page) => matches!(why, Why::Frozen(came) if allows(page, came)),
-        Reason::NoPage => matches!(why, Why::NoPage),
-        Reason::Gone(page) => matches!(why, Why::Gone(came) if allows(page, came)),
+        LoggedReason::Own => matches!(why, Why::Own),
+        LoggedReason::Killed => matches!(why, Why::Killed),
+        LoggedReason::BadKey => matches!(why, Why::BadKey),
+        LoggedReason::Missing => matches!(why, Why::Missing),
+        LoggedReason::Duplicate => matches!(why, Why::Duplicate),
+        LoggedReason::Frozen(page) => matches!(why, Why::Frozen(came) if allows(page, came)),
+        LoggedReason::NoPage => matches!(why, Why::NoPage),
+        LoggedReason::Gone(page) => matches!(why, Why::Gone(came) if allows(page, came)),
     }
 }
 
 /// Whether an abort for this reason is the logged one, if a reason was logged.
-fn allows_reason(told: Option<Reason>, why: Why) -> bool
+fn allows_reason(told: Option<LoggedReason>, why: Why) -> bool
     ensures { Decides result (IfSome told (λ reason. TellsReason reason why)) }
 {
     match told {

@@ -16,13 +16,13 @@ use zy_wire::Wire;
 
 /// A page and its low key.
 #[derive(Clone, Copy)]
-pub struct Place {
+pub struct RangePage {
     pub low: u16,
     pub page: u16,
 }
 
 /// The page behind one that begins at `low`, or has that key, among those of the keys up to `last`.
-pub fn next_page(wire: &Option<Wire>, low: u16, last: u16) -> Option<Place>
+pub fn next_page(wire: &Option<Wire>, low: u16, last: u16) -> Option<RangePage>
     ensures next { IsNextInRange result (lows_in wire.now) low last }
     ensures few { (n : ℕ) → limit_or n wire.now ≤ n → IfSome result (λ e. e.page < n) }
 {
@@ -33,12 +33,12 @@ pub fn next_page(wire: &Option<Wire>, low: u16, last: u16) -> Option<Place>
 }
 
 /// The same in a wireframe.
-fn next_of(wire: &Wire, low: u16, last: u16) -> Option<Place>
+fn next_of(wire: &Wire, low: u16, last: u16) -> Option<RangePage>
     ensures next { IsNextInRange result wire.now.lows low last }
     ensures few { IfSome result (λ e. e.page < wire.now.pages) }
 {
     match wire.after(low) {
-        Some(page) if wire.low_of(page) <= last => Some(Place {
+        Some(page) if wire.low_of(page) <= last => Some(RangePage {
             low: wire.low_of(page),
             page,
         }),

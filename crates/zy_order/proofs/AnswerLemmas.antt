@@ -8,8 +8,8 @@ use Rattle.zy_machine.specs.Histories.{History}
 use Rattle.zy_logs.specs.declared.log_line.LogLine.{LogLine}
 use Rattle.zy_order.specs.declared.logs.Logs.{Logs}
 use Rattle.zy_order.specs.declared.plan.Plan.{Plan}
-use Rattle.zy_order.specs.declared.answer.Answer.{Answer}
-use Rattle.zy_order.specs.declared.answer.Answer.TheVariants.{Found, Nowhere, Spent}
+use Rattle.zy_order.specs.declared.answer.OrderAnswer.{OrderAnswer}
+use Rattle.zy_order.specs.declared.answer.OrderAnswer.TheVariants.{Found, Nowhere, Spent}
 use Rattle.zy_order.specs.Orders.{lines_of, choices_of, IsMerge, IsPrefix, IsPrefixOrder}
 use Rattle.zy_order.specs.Ways.{log_of, cursor, at_start, of_nodes, IsNoFurther, AreMatched, IsWay, cursors_after, AreLogs}
 use Rattle.zy_order.specs.Answers.{node_lines, client_lines, MatchesAll, MatchesPrefixes, MatchesFurthest, IsNowhere, IsAnswer}
@@ -107,7 +107,7 @@ module _ (h : History) (lines : List LogLine) (l : Logs) (is : AreLogs lines l) 
       )
 
 -- so each answer that holds of the ways of a plan holds of the orders of its lines
-pub answers : (p : Plan) (h : History) (lines : List LogLine) (a : Answer) → p.start ≡ h → AreLogs lines p.logs → AnswersFor p a → IsAnswer h lines a
+pub answers : (p : Plan) (h : History) (lines : List LogLine) (a : OrderAnswer) → p.start ≡ h → AreLogs lines p.logs → AnswersFor p a → IsAnswer h lines a
 answers p h lines (Found v) same is x =
     subst (λ (k : History). MatchesAll k lines v.items) same (matches_all p.start lines p.logs is v.items x.0 x.1)
 answers p h lines (Nowhere v) same is x =

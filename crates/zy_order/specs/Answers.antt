@@ -6,8 +6,8 @@ use Rattle.zy_isa.specs.Scenario.{AreNamed}
 use Rattle.zy_isa.specs.declared.choice.Choice.{Choice}
 use Rattle.zy_machine.specs.Histories.{History}
 use Rattle.zy_logs.specs.declared.log_line.LogLine.{LogLine}
-use Rattle.zy_order.specs.declared.answer.Answer.{Answer}
-use Rattle.zy_order.specs.declared.answer.Answer.TheVariants as answer
+use Rattle.zy_order.specs.declared.answer.OrderAnswer.{OrderAnswer}
+use Rattle.zy_order.specs.declared.answer.OrderAnswer.TheVariants as answer
 use Rattle.zy_order.specs.Orders.{lines_of, IsOrder, IsPrefixOrder, choices_of}
 
 -- the lines can be logs of steps that follow a machine's: each names a transaction, and the history has room for all
@@ -53,7 +53,7 @@ pub record IsNowhere (h : History) (lines : List LogLine) (cs : List Choice) : T
   pub furthest : MatchesFurthest h lines cs
 
 -- what each answer says of the lines
-abbrev pub IsAnswer : History → List LogLine → Answer → Type 0
+abbrev pub IsAnswer : History → List LogLine → OrderAnswer → Type 0
 IsAnswer h lines (answer.Found v) = MatchesAll h lines v.items
 IsAnswer h lines (answer.Nowhere v) = IsNowhere h lines v.items
 IsAnswer h lines (answer.Spent v) = MatchesPrefixes h lines v.items

@@ -18,8 +18,8 @@ use Rattle.zy_order.specs.declared.cursors.Cursors.{Cursors}
 use Rattle.zy_order.specs.declared.plan.Plan.{Plan}
 use Rattle.zy_order.specs.declared.reached.Reached.{Reached}
 use Rattle.zy_order.specs.declared.turns.Turns.{Turns}
-use Rattle.zy_order.specs.declared.answer.Answer.{Answer}
-use Rattle.zy_order.specs.declared.answer.Answer.TheVariants as answer
+use Rattle.zy_order.specs.declared.answer.OrderAnswer.{OrderAnswer}
+use Rattle.zy_order.specs.declared.answer.OrderAnswer.TheVariants as answer
 use Rattle.zy_order.specs.declared.follow.Followed.{Followed}
 use Rattle.zy_order.specs.declared.follow.Followed.TheVariants as followed
 use Rattle.zy_order.specs.Orders.{entry_at}
@@ -152,7 +152,7 @@ Settles p r followed.Nowhere = (i : ℕ) → i < length r.visited → IsFollowed
 Settles p r followed.Spent = Unit {0}
 
 -- what each answer says of the ways along the logs
-abbrev pub AnswersFor : Plan → Answer → Type 0
+abbrev pub AnswersFor : Plan → OrderAnswer → Type 0
 AnswersFor p (answer.Found v) = IsWayOf p v.items × AreMatched p.logs (cursors_after at_start v.items)
 AnswersFor p (answer.Nowhere v) = IsFurthestWay p v.items
 AnswersFor p (answer.Spent v) = IsWayOf p v.items

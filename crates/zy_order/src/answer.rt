@@ -5,7 +5,7 @@ use zy_isa::Choice;
 /// What came of a search. An order of prefixes of the logs has a prefix of each actor's lines, in order, and each of
 /// its lines agrees with what comes of its choice.
 #[derive(Drop)]
-pub enum Answer {
+pub enum OrderAnswer {
     /// The choices of an order: of all lines, where each agrees with what comes of its choice.
     Found(Vec<Choice>),
     /// There is no order. These are the choices of a furthest order of prefixes of the logs: none has more lines of A
@@ -19,9 +19,9 @@ pub enum Answer {
 
 /// An answer, and for a person how many states were reached: nothing is promised of the number.
 #[derive(Drop)]
-pub struct Report {
+pub struct OrderReport {
     /// The answer.
-    pub answer: Answer,
+    pub answer: OrderAnswer,
     /// How many states were reached: one that is reached at several places in the logs counts at each.
     pub states: usize,
 }

@@ -13,5 +13,5 @@ mod reached;
 mod turns;
 mod walk;
 
-pub use crate::answer::{Answer, Report};
+pub use crate::answer::{OrderAnswer, OrderReport};
 pub use zy_logs::LogLine;

@@ -4,7 +4,7 @@ ghost use Rattle.zy_order.specs.Answers.{IsInput, IsAnswer};
 ghost use Rattle.zy_order.specs.Ways.{AreLogs, AreMatched};
 ghost use Rattle.zy_order.specs.Reaches.{cursors_at, IsFurthestPath, IsPlan, IsUnderWay, Settles, AnswersFor};
 
-use crate::answer::{Answer, Report};
+use crate::answer::{OrderAnswer, OrderReport};
 use crate::cursors::Cursors;
 use crate::follow::{Followed, follow_all};
 use crate::logs::Logs;
@@ -32,39 +32,39 @@ fn furthest(reached: &Reached) -> u32
 }
 
 /// The answer where the path at a place matches all lines.
-fn found(plan: &Plan, reached: &Reached, at: u32) -> Result<Answer, Fault>
+fn found(plan: &Plan, reached: &Reached, at: u32) -> Result<OrderAnswer, Fault>
     requires under_way { IsUnderWay plan.now reached.now }
     requires there { at < length reached.now.visited }
     requires whole { AreMatched plan.now.logs (cursors_at reached.now.visited at) }
     ensures { IfOk result (AnswersFor plan.now) }
 {
     let path = reached.path(plan.alloc, at)?;
-    Ok(Answer::Found(path))
+    Ok(OrderAnswer::Found(path))
 }
 
 /// The answer where each path was followed, and none matches all lines.
-fn nowhere(plan: &Plan, reached: &Reached) -> Result<Answer, Fault>
+fn nowhere(plan: &Plan, reached: &Reached) -> Result<OrderAnswer, Fault>
     requires under_way { IsUnderWay plan.now reached.now }
     requires followed { Settles plan.now reached.now Followed.Nowhere }
     ensures { IfOk result (AnswersFor plan.now) }
 {
     let at = furthest(reached);
     let path = reached.path(plan.alloc, at)?;
-    Ok(Answer::Nowhere(path))
+    Ok(OrderAnswer::Nowhere(path))
 }
 
 /// The answer where there is one state too many.
-fn spent(plan: &Plan, reached: &Reached) -> Result<Answer, Fault>
+fn spent(plan: &Plan, reached: &Reached) -> Result<OrderAnswer, Fault>
     requires { IsUnderWay plan.now reached.now }
     ensures { IfOk result (AnswersFor plan.now) }
 {
     let at = furthest(reached);
     let path = reached.path(plan.alloc, at)?;
-    Ok(Answer::Spent(path))
+    Ok(OrderAnswer::Spent(path))
 }
 
 /// The answer, by what came of following the paths.
-fn answer_by(plan: &Plan, reached: &Reached, followed: Followed) -> Result<Answer, Fault>
+fn answer_by(plan: &Plan, reached: &Reached, followed: Followed) -> Result<OrderAnswer, Fault>
     requires under_way { IsUnderWay plan.now reached.now }
     requires settles { Settles plan.now reached.now followed }
     ensures { IfOk result (AnswersFor plan.now) }
@@ -77,7 +77,7 @@ fn answer_by(plan: &Plan, reached: &Reached, followed: Followed) -> Result<Answe
 }
 
 /// The answer to a plan, and how many states were reached.
-fn report(plan: &Plan) -> Result<Report, Fault>
+fn report(plan: &Plan) -> Result<OrderReport, Fault>
     requires { IsPlan plan.now }
     ensures { IfOk result (λ r. AnswersFor plan.now r.answer) }
 {
@@ -85,7 +85,7 @@ fn report(plan: &Plan) -> Result<Report, Fault>
     let mut reached = Reached::new(plan.alloc, first)?;
     let followed = follow_all(plan, &mut reached)?;
     let answer = answer_by(plan, &reached, followed)?;
-    Ok(Report {
+    Ok(OrderReport {
         answer,
         states: reached.visited.len(),
     })
@@ -111,7 +111,12 @@ fn plan_from(alloc: Global, start: &Machine, lines: &[LogLine], most: u32) -> Re
 /// Looks for an order of the lines of three logs, one for each actor, in which each line agrees with what comes of its
 /// choice, where the choices are made from a machine's state. The logs are mixed in any way: only the order of each
 /// actor's own lines counts. The search goes depth first, and gives up where it would reach more states than `most`.
-pub fn order(alloc: Global, start: &Machine, lines: &[LogLine], most: u32) -> Result<Report, Fault>
+pub fn order(
+    alloc: Global,
+    start: &Machine,
+    lines: &[LogLine],
+    most: u32,
+) -> Result<OrderReport, Fault>
     requires { IsInput start.now lines.now }
     ensures { IfOk result (λ r. IsAnswer start.now lines.now r.answer) }
 {

@@ -9,12 +9,12 @@ use Rattle.zy_io.specs.declared.writing.TextFault.TheVariants.{Write, Memory}
 use Rattle.zy_isa.specs.Scenario.{Scenario}
 use Rattle.zy_text.specs.Cut.{cut}
 use Rattle.zy_text.specs.Text.{Means}
-use Rattle.zy_logs.specs.declared.faults.ReadFault.{ReadFault as LogsFault}
-use Rattle.zy_logs.specs.declared.faults.ReadFault.TheVariants as logs
+use Rattle.zy_logs.specs.declared.faults.LogFault.{LogFault}
+use Rattle.zy_logs.specs.declared.faults.LogFault.TheVariants as logs
 use Rattle.zy_logs.specs.declared.log_line.LogLine.{LogLine}
 use Rattle.zy_logs.specs.declared.logs.NumberedLine.{NumberedLine}
-use Rattle.zy_order.specs.declared.answer.Answer.{Answer}
-use Rattle.zy_order.specs.declared.answer.Report.{Report}
+use Rattle.zy_order.specs.declared.answer.OrderAnswer.{OrderAnswer}
+use Rattle.zy_order.specs.declared.answer.OrderReport.{OrderReport}
 use Rattle.zy_order.specs.Answers.{IsAnswer}
 use Rattle.zy_engine.specs.declared.faults.BenchFault.{BenchFault}
 use Rattle.zy_engine.specs.declared.faults.BenchFault.TheVariants as bench
@@ -33,7 +33,7 @@ use Rattle.zy_ordering.proofs.TakenLemmas.{told_of, of_any}
 -- ---- a text of an answer
 
 -- what was written of it, where a call failed, is a part of it
-pub wrote_failed : (w : Wording) (sc : Scenario) (lines : List LogLine) (a : Answer) (old new : Option (List ℕ)) (before after : ℕ)
+pub wrote_failed : (w : Wording) (sc : Scenario) (lines : List LogLine) (a : OrderAnswer) (old new : Option (List ℕ)) (before after : ℕ)
     (f : TextFault) → IsAnswer (history_of None sc) lines a → WroteSome {X = Unit {0}} (IsTextOf w sc a) old new before after (Err f)
     → WroteOrder (IsAnswerOf w sc lines) old new before after (Err f)
 wrote_failed w sc lines a old new before after Write is wrote = (inr (a, wrote.text, (is, wrote.is), wrote.wrote.0), wrote.wrote.1)
@@ -54,7 +54,7 @@ module _ (w : Wording) (input : List ℕ) (old : Option (List ℕ)) (before : �
       record { answered = tt; part = inl refl; fault = tt; quiet = λ q. absurd q; writes = omega arith; reads = refl; whole = λ x y read. read.0 }
 
   -- its lines of logs are
-  pub refused_logs : (sc : Scenario) → Means (cut input) sc → (f : LogsFault) → ReadsBelow (cut input) (below input) sc (Err f)
+  pub refused_logs : (sc : Scenario) → Means (cut input) sc → (f : LogFault) → ReadsBelow (cut input) (below input) sc (Err f)
       → Answers w input old old before before (Err (of_logs f))
   refused_logs sc means (logs.Refused r) says = record {
     answered = tt;
@@ -70,7 +70,7 @@ module _ (w : Wording) (input : List ℕ) (old : Option (List ℕ)) (before : �
 
   module _ (sc : Scenario) (lines : List NumberedLine) (means : Means (cut input) sc) (says : Says (cut input) (below input) sc (Ok lines)) where
     -- an answer for its scenario and logs is one for it
-    answer_to : (a : Answer) (text : List ℕ) → IsAnswerOf w sc (lines_in lines) a text → IsAnswerTo w input a text
+    answer_to : (a : OrderAnswer) (text : List ℕ) → IsAnswerOf w sc (lines_in lines) a text → IsAnswerTo w input a text
     answer_to a text is = record { scenario = sc; means = means; lines = lines; says = says; is = is }
 
     -- and a part of a text of one is that of one
@@ -79,7 +79,7 @@ module _ (w : Wording) (input : List ℕ) (old : Option (List ℕ)) (before : �
     part_to new (inr p) = inr (p.0, p.1, answer_to p.0 p.1 p.2, p.3)
 
     -- a text of the answer went out
-    pub wrote_to : (new : Option (List ℕ)) (after : ℕ) (r : Report) → WroteOrder (IsAnswerOf w sc (lines_in lines)) old new before after (Ok r)
+    pub wrote_to : (new : Option (List ℕ)) (after : ℕ) (r : OrderReport) → WroteOrder (IsAnswerOf w sc (lines_in lines)) old new before after (Ok r)
         → Answers w input old new before after (Ok r)
     wrote_to new after r wrote =
         let text = wrote.0.0 in
@@ -121,8 +121,8 @@ module _ (w : Wording) (input : List ℕ) (old : Option (List ℕ)) (before : �
 module _ (w : Wording) (old : Streams) where
   -- nothing is written of an input that was not read whole
   stopped : (left : Option (List ℕ)) (reads given : ℕ) (f : BenchFault) → given ≤ old.given + most_read
-      → ((t : List ℕ) → IsFaultOf t (Bench f)) → ReadsInput {X = Report} old.left left (Err (Bench f))
-      → reads ≡ old.reads + failed_reads {X = Report} (Err (Bench f)) → failed_writes {X = Report} (Err (Bench f)) ≡ 0
+      → ((t : List ℕ) → IsFaultOf t (Bench f)) → ReadsInput {X = OrderReport} old.left left (Err (Bench f))
+      → reads ≡ old.reads + failed_reads {X = OrderReport} (Err (Bench f)) → failed_writes {X = OrderReport} (Err (Bench f)) ≡ 0
       → ConvertsOrder w old (record old { left = left; reads = reads; given = given }) (Err (Bench f))
   stopped left reads given f bound fault input calls writes = record {
     answered = tt;
@@ -145,7 +145,7 @@ module _ (w : Wording) (old : Streams) where
 
   -- what is answered of the bytes that were read is answered of those that the reader reports
   pub converts : (new : Streams) (bytes : List ℕ) → IfSome old.left (λ t. bytes ≡ t) → ReadWhole old.left new.left → new.reads ≡ old.reads
-      → new.given ≤ old.given + most_read → (r : Result Report OrderFault)
+      → new.given ≤ old.given + most_read → (r : Result OrderReport OrderFault)
       → Answers w bytes old.written new.written old.writes new.writes r → ConvertsOrder w old new r
   converts new bytes same whole calls bound (Ok r) is = record {
     answered = told_of (λ t. WroteText (IsAnswerTo w t) old.written new.written r.answer) old.left bytes same is.answered;

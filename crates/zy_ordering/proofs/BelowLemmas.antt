@@ -7,8 +7,8 @@ use Rattle.zy_isa.specs.declared.choice.Choice.{Choice}
 use Rattle.zy_isa.specs.Scenario.{Scenario, IsScenario, AreNamed}
 use Rattle.zy_text.specs.Cut.{cut}
 use Rattle.zy_text.proofs.CutLemmas.{cut_taken}
-use Rattle.zy_logs.specs.declared.faults.ReadFault.{ReadFault}
-use Rattle.zy_logs.specs.declared.faults.ReadFault.TheVariants.{Refused, Memory}
+use Rattle.zy_logs.specs.declared.faults.LogFault.{LogFault}
+use Rattle.zy_logs.specs.declared.faults.LogFault.TheVariants.{Refused, Memory}
 use Rattle.zy_logs.specs.declared.logs.NumberedLine.{NumberedLine}
 use Rattle.zy_logs.specs.declared.txns.Txns.{Txns}
 use Rattle.zy_logs.specs.Logs.{logs_of, Reads}
@@ -22,14 +22,14 @@ use Rattle.zy_ordering.specs.Ordering.{below, AreTxnsOf, Says, ReadsBelow, lines
 
 -- what was read of a scenario's transactions is what the lines say
 reads_below : (text lines : List ℕ) (sc : Scenario) (txns : Txns) → AreTxnsOf sc text txns
-    → (r : Result (Vec NumberedLine Global) ReadFault) → Reads r (logs_of txns (room sc) (line_below text) lines) → ReadsBelow text lines sc r
+    → (r : Result (Vec NumberedLine Global) LogFault) → Reads r (logs_of txns (room sc) (line_below text) lines) → ReadsBelow text lines sc r
 reads_below text lines sc txns are (Ok v) is = record { txns = txns; are = are; logs = is }
 reads_below text lines sc txns are (Err (Refused r)) is = record { txns = txns; are = are; logs = is }
 reads_below text lines sc txns are (Err Memory) is = tt
 
 -- so is what was read with as much room, from a line of that number on
 pub read_of : (text lines : List ℕ) (sc : Scenario) (txns : Txns) → AreTxnsOf sc text txns → (most first : ℕ)
-    → (r : Result (Vec NumberedLine Global) ReadFault) → most ≡ room sc → first ≡ line_below text → Reads r (logs_of txns most first lines)
+    → (r : Result (Vec NumberedLine Global) LogFault) → most ≡ room sc → first ≡ line_below text → Reads r (logs_of txns most first lines)
     → ReadsBelow text lines sc r
 read_of text lines sc txns are most first r enough number is =
     reads_below text lines sc txns are r
@@ -46,7 +46,7 @@ pub below_is : (input lines : List ℕ) (n : ℕ) → lines ≡ drop n input →
 below_is input lines n back cuts = back ∙ ap (λ k. drop k input) cuts
 
 -- so what was read of these is what the input says
-pub reads_cut : (input text lines : List ℕ) (sc : Scenario) (r : Result (Vec NumberedLine Global) ReadFault) → text ≡ cut input
+pub reads_cut : (input text lines : List ℕ) (sc : Scenario) (r : Result (Vec NumberedLine Global) LogFault) → text ≡ cut input
     → lines ≡ below input → ReadsBelow text lines sc r → ReadsBelow (cut input) (below input) sc r
 reads_cut input text lines sc r front back is =
     subst (λ t. ReadsBelow t (below input) sc r) front (subst (λ l. ReadsBelow text l sc r) back is)

@@ -1,15 +1,15 @@
 -- The faults of the engine.
 use Rattle.std.specs.Prelude.{ℕ, List, Option, Result, Ok, Err}
 use Rattle.zy_io.specs.Streams.{ReadWhole}
-use Rattle.zy_logs.specs.declared.faults.ReadFault.{ReadFault}
-use Rattle.zy_logs.specs.declared.faults.ReadFault.TheVariants.{Refused, Memory}
+use Rattle.zy_logs.specs.declared.faults.LogFault.{LogFault}
+use Rattle.zy_logs.specs.declared.faults.LogFault.TheVariants.{Refused, Memory}
 use Rattle.zy_engine.specs.declared.faults.BenchFault.TheVariants as bench
 use Rattle.zy_engine.specs.Faults as engine
 use Rattle.zy_ordering.specs.declared.faults.OrderFault.{OrderFault}
 use Rattle.zy_ordering.specs.declared.faults.OrderFault.TheVariants.{Bench, Log}
 
 -- the fault that comes of one of the reader of logs
-abbrev pub of_logs : ReadFault → OrderFault
+abbrev pub of_logs : LogFault → OrderFault
 of_logs (Refused r) = Log r
 of_logs Memory = Bench bench.Memory
 

@@ -13,16 +13,16 @@ use Rattle.zy_text.specs.Cut.{cut}
 use Rattle.zy_text.specs.Lines.{texts}
 use Rattle.zy_text.specs.Text.{Means}
 use Rattle.zy_threads.specs.Orders.{reordered}
-use Rattle.zy_logs.specs.declared.faults.ReadFault.{ReadFault}
-use Rattle.zy_logs.specs.declared.faults.ReadFault.TheVariants as reading
-use Rattle.zy_logs.specs.declared.faults.Refusal.{Refusal}
+use Rattle.zy_logs.specs.declared.faults.LogFault.{LogFault}
+use Rattle.zy_logs.specs.declared.faults.LogFault.TheVariants as reading
+use Rattle.zy_logs.specs.declared.faults.LogLineFault.{LogLineFault}
 use Rattle.zy_logs.specs.declared.log_line.LogLine.{LogLine}
 use Rattle.zy_logs.specs.declared.logs.NumberedLine.{NumberedLine}
 use Rattle.zy_logs.specs.declared.txns.Txns.{Txns}
 use Rattle.zy_logs.specs.Logs.{logs_of}
-use Rattle.zy_order.specs.declared.answer.Answer.{Answer}
-use Rattle.zy_order.specs.declared.answer.Answer.TheVariants as answer
-use Rattle.zy_order.specs.declared.answer.Report.{Report}
+use Rattle.zy_order.specs.declared.answer.OrderAnswer.{OrderAnswer}
+use Rattle.zy_order.specs.declared.answer.OrderAnswer.TheVariants as answer
+use Rattle.zy_order.specs.declared.answer.OrderReport.{OrderReport}
 use Rattle.zy_order.specs.Answers.{IsAnswer}
 use Rattle.zy_engine.specs.declared.wording.Wording.{Wording}
 use Rattle.zy_engine.specs.Engines.{Streams}
@@ -54,13 +54,13 @@ pub record AreTxnsOf (sc : Scenario) (text : List ℕ) (txns : Txns) : Type 0 wh
   pub names : texts txns.names.now ≡ names_of text
 
 -- what the lines below a scenario's text say, as lines of logs
-pub record Says (text lines : List ℕ) (sc : Scenario) (said : Result (List NumberedLine) Refusal) : Type 0 where
+pub record Says (text lines : List ℕ) (sc : Scenario) (said : Result (List NumberedLine) LogLineFault) : Type 0 where
   pub txns : Txns
   pub are : AreTxnsOf sc text txns
   pub logs : logs_of txns (room sc) (line_below text) lines ≡ said
 
 -- the answer is what the lines say, unless there was no memory
-abbrev pub ReadsBelow : List ℕ → List ℕ → Scenario → Result (Vec NumberedLine Global) ReadFault → Type 0
+abbrev pub ReadsBelow : List ℕ → List ℕ → Scenario → Result (Vec NumberedLine Global) LogFault → Type 0
 ReadsBelow text lines sc (Ok v) = Says text lines sc (Ok v.items)
 ReadsBelow text lines sc (Err (reading.Refused r)) = Says text lines sc (Err r)
 ReadsBelow text lines sc (Err reading.Memory) = Unit {0}
@@ -72,17 +72,17 @@ lines_in lines = map (λ (l : NumberedLine). l.line) lines
 -- ---- the answer
 
 -- a text of an answer: of the scenario with the choices of an order behind its own, or nothing
-abbrev pub IsTextOf : Wording → Scenario → Answer → List ℕ → Type 0
+abbrev pub IsTextOf : Wording → Scenario → OrderAnswer → List ℕ → Type 0
 IsTextOf w sc (answer.Found v) text = IsWorded w (reordered sc (sc.choices ++ v.items)) text
 IsTextOf w sc (answer.Nowhere v) text = text ≡ []
 IsTextOf w sc (answer.Spent v) text = text ≡ []
 
 -- an answer for lines that follow a scenario's own choices, and a text of it
-abbrev pub IsAnswerOf : Wording → Scenario → List LogLine → Answer → List ℕ → Type 0
+abbrev pub IsAnswerOf : Wording → Scenario → List LogLine → OrderAnswer → List ℕ → Type 0
 IsAnswerOf w sc lines a text = IsAnswer (history_of None sc) lines a × IsTextOf w sc a text
 
 -- an answer for the scenario and the logs that an input means, and a text of it
-pub record IsAnswerTo (w : Wording) (input : List ℕ) (a : Answer) (text : List ℕ) : Type 0 where
+pub record IsAnswerTo (w : Wording) (input : List ℕ) (a : OrderAnswer) (text : List ℕ) : Type 0 where
   pub scenario : Scenario
   pub means : Means (cut input) scenario
   pub lines : List NumberedLine
@@ -97,23 +97,23 @@ IsFaultOf input (Log r) = (sc : Scenario) × Means (cut input) sc × Says (cut i
 -- ---- what goes out
 
 -- nothing went out, or a prefix of a text of an answer
-abbrev pub WrotePart : (Answer → List ℕ → Type 0) → Option (List ℕ) → Option (List ℕ) → Type 0
-WrotePart Is old new = (new ≡ old) ⊎ ((a : Answer) × (text : List ℕ) × Is a text × WrotePrefix old new text)
+abbrev pub WrotePart : (OrderAnswer → List ℕ → Type 0) → Option (List ℕ) → Option (List ℕ) → Type 0
+WrotePart Is old new = (new ≡ old) ⊎ ((a : OrderAnswer) × (text : List ℕ) × Is a text × WrotePrefix old new text)
 
 -- a text of this answer went out
-abbrev pub WroteText : (Answer → List ℕ → Type 0) → Option (List ℕ) → Option (List ℕ) → Answer → Type 0
+abbrev pub WroteText : (OrderAnswer → List ℕ → Type 0) → Option (List ℕ) → Option (List ℕ) → OrderAnswer → Type 0
 WroteText Is old new a = (text : List ℕ) × Is a text × Appends old new text
 
 -- a call that writes a text of an answer: at Ok all of it, and the answer is the one that is returned
-abbrev pub WroteOrder : (Answer → List ℕ → Type 0) → Option (List ℕ) → Option (List ℕ) → ℕ → ℕ
-    → Result Report TextFault → Type 0
+abbrev pub WroteOrder : (OrderAnswer → List ℕ → Type 0) → Option (List ℕ) → Option (List ℕ) → ℕ → ℕ
+    → Result OrderReport TextFault → Type 0
 WroteOrder Is old new before after (Ok r) = WroteText Is old new r.answer × (after ≡ before)
 WroteOrder Is old new before after (Err Write) = WrotePart Is old new × (after ≡ before + 1)
 WroteOrder Is old new before after (Err Memory) = WrotePart Is old new × (after ≡ before)
 
 -- a call that answers of an input
 pub record Answers (w : Wording) (input : List ℕ) (old new : Option (List ℕ)) (before after : ℕ)
-    (result : Result Report OrderFault) : Type 0 where
+    (result : Result OrderReport OrderFault) : Type 0 where
   -- at Ok exactly a text of the answer went out
   pub answered : IfOk result (λ r. WroteText (IsAnswerTo w input) old new r.answer)
   -- whatever comes, nothing but a prefix of a text of an answer did
@@ -128,7 +128,7 @@ pub record Answers (w : Wording) (input : List ℕ) (old new : Option (List ℕ)
   pub whole : (x y : Option (List ℕ)) → ReadWhole x y → ReadsInput x y result
 
 -- the engine, which reads the input too
-pub record ConvertsOrder (w : Wording) (old new : Streams) (result : Result Report OrderFault) : Type 0 where
+pub record ConvertsOrder (w : Wording) (old new : Streams) (result : Result OrderReport OrderFault) : Type 0 where
   -- at Ok the answer is one for what the input means, and exactly a text of it went out
   pub answered : IfOk result (λ r. IfSome old.left (λ input.
       WroteText (IsAnswerTo w input) old.written new.written r.answer))

@@ -8,7 +8,7 @@ use std::alloc::AllocError;
 use std::fmt;
 use zy_engine::BenchFault;
 use zy_io::TextFault;
-use zy_logs::Refusal;
+use zy_logs::LogLineFault;
 
 /// Why the engine gave up. Its text names the fault, and says what is wrong.
 #[derive(Clone, Copy)]
@@ -16,7 +16,7 @@ pub enum OrderFault {
     /// The scenario is refused, a call failed, or there was no memory.
     Bench(BenchFault),
     /// A line below the scenario is none of a log, or is one too many. The number is that of the line of the whole input.
-    Log(Refusal),
+    Log(LogLineFault),
 }
 
 impl OrderFault {
@@ -36,7 +36,7 @@ impl fmt::Display for OrderFault {
     fn fmt<W: fmt::Write>(&self, f: &mut fmt::Formatter<W>) -> fmt::Result {
         match self {
             OrderFault::Bench(fault) => write!(f, "{fault}"),
-            OrderFault::Log(Refusal { line, expected, .. }) => {
+            OrderFault::Log(LogLineFault { line, expected, .. }) => {
                 let kind = expected.kind();
                 write!(f, "Input(line {line}, {kind:?}): {expected}")
             }
@@ -60,13 +60,13 @@ impl From<zy_io::ReadFault> for OrderFault {
     }
 }
 
-impl From<zy_logs::ReadFault> for OrderFault {
+impl From<zy_logs::LogFault> for OrderFault {
     ghost from_gives = { λ f e. e ≡ of_logs f };
 
-    fn from(fault: zy_logs::ReadFault) -> OrderFault {
+    fn from(fault: zy_logs::LogFault) -> OrderFault {
         match fault {
-            zy_logs::ReadFault::Refused(refusal) => OrderFault::Log(refusal),
-            zy_logs::ReadFault::Memory => OrderFault::Bench(BenchFault::Memory),
+            zy_logs::LogFault::Refused(refusal) => OrderFault::Log(refusal),
+            zy_logs::LogFault::Memory => OrderFault::Bench(BenchFault::Memory),
         }
     }
 }

@@ -8,7 +8,7 @@ use crate::names::names_of;
 use std::alloc::{AllocError, Global};
 use zy_isa::{MAX_CHOICES, Scenario};
 use zy_logs::logs::read_logs;
-use zy_logs::{LogLine, NumberedLine, ReadFault, Txns};
+use zy_logs::{LogFault, LogLine, NumberedLine, Txns};
 
 /// How many lines end in these bytes.
 fn line_ends(bytes: &[u8]) -> usize
@@ -24,7 +24,7 @@ pub fn read_below(
     scenario: &Scenario,
     text: &[u8],
     below: &[u8],
-) -> Result<Vec<NumberedLine>, ReadFault>
+) -> Result<Vec<NumberedLine>, LogFault>
     requires { (length text.now ≤ max_input) × (length below.now ≤ max_input) }
     ensures { ReadsBelow text.now below.now scenario.now result }
 {

@@ -18,7 +18,7 @@ use zy_isa::Scenario;
 use zy_logs::NumberedLine;
 use zy_machine::Machine;
 use zy_order::order::order;
-use zy_order::{Answer, Report};
+use zy_order::{OrderAnswer, OrderReport};
 use zy_text::cut::cut_len;
 
 /// What an order is looked for by.
@@ -36,7 +36,7 @@ fn write_answer<K: Sink>(
     wording: Wording,
     text: &[u8],
     machine: &Machine,
-    answer: &Answer,
+    answer: &OrderAnswer,
     sink: &mut K,
 ) -> Result<(), TextFault>
     requires ran { machine.now ≡ history_of None machine.now.scenario }
@@ -45,9 +45,9 @@ fn write_answer<K: Sink>(
         (K.written sink.old) (K.written sink.new) (K.failures sink.old) (K.failures sink.new) result }
 {
     match answer {
-        Answer::Found(path) => write_found(alloc, wording, text, machine, path, sink),
-        Answer::Nowhere(_) => Ok(()),
-        Answer::Spent(_) => Ok(()),
+        OrderAnswer::Found(path) => write_found(alloc, wording, text, machine, path, sink),
+        OrderAnswer::Nowhere(_) => Ok(()),
+        OrderAnswer::Spent(_) => Ok(()),
     }
 }
 
@@ -60,7 +60,7 @@ fn write_order<K: Sink>(
     scenario: Scenario,
     lines: &[NumberedLine],
     sink: &mut K,
-) -> Result<Report, TextFault>
+) -> Result<OrderReport, TextFault>
     requires input { IsInput (history_of None scenario) (lines_in lines.now) }
     requires calls { K.failures sink.old < u64.MAX }
     ensures { WroteOrder (IsAnswerOf options.wording scenario (lines_in lines.now))
@@ -79,7 +79,7 @@ fn answer<K: Sink>(
     options: OrderOptions,
     input: &[u8],
     sink: &mut K,
-) -> Result<Report, OrderFault>
+) -> Result<OrderReport, OrderFault>
     requires few { length input.now ≤ max_input }
     requires calls { K.failures sink.old < u64.MAX }
     ensures { Answers options.wording input.now (K.written sink.old) (K.written sink.new) (K.failures sink.old)
@@ -102,7 +102,7 @@ pub fn order_bytes<S: Source, K: Sink>(
     source: &mut S,
     sink: &mut K,
     input: &mut Vec<u8>,
-) -> Result<Report, OrderFault>
+) -> Result<OrderReport, OrderFault>
     requires { (S.failures source.old < u64.MAX) × (K.failures sink.old < u64.MAX) }
     ensures { let at = streams S.left S.failures S.given K.written K.failures in
         ConvertsOrder options.wording (at source.old sink.old) (at source.new sink.new) result }

@@ -3,7 +3,7 @@ ghost use Rattle.std.specs.Prelude.{◌≡◌, IfOk, Ok};
 
 use crate::digest::Digest;
 use std::alloc::AllocError;
-use zy_asm::{AsmKind, Refusal};
+use zy_asm::{AsmKind, LineFault};
 use zy_check::CheckFault;
 use zy_debug::DebugFault;
 use zy_engine::BenchFault;
@@ -37,7 +37,7 @@ pub struct Answers {
 
 /// What is found of some calls.
 #[derive(Clone, Copy, Debug, PartialEq, Eq)]
-pub enum Found {
+pub enum Findings {
     /// Each answered.
     Answered(Answers),
     /// One was out of memory, changed nothing, and answered when it was made again.
@@ -62,7 +62,7 @@ impl Fault for AllocError {
     }
 }
 
-impl Fault for Refusal {
+impl Fault for LineFault {
     fn is_memory(&self) -> bool {
         matches!(self.reason.kind(), AsmKind::Memory)
     }
@@ -176,7 +176,7 @@ struct Made {
 }
 
 /// Makes a call, and again where it was out of memory and changed nothing.
-fn make<C: Calls>(calls: &mut C, place: usize) -> Result<Made, Found> {
+fn make<C: Calls>(calls: &mut C, place: usize) -> Result<Made, Findings> {
     let before = calls.shown();
     match calls.call(place) {
         Ok(answer) => Ok(Made {
@@ -185,25 +185,25 @@ fn make<C: Calls>(calls: &mut C, place: usize) -> Result<Made, Found> {
         }),
         Err(Refused::Memory) => {
             if calls.shown() != before {
-                return Err(Found::Changed);
+                return Err(Findings::Changed);
             }
             make_again(calls, place)
         }
-        Err(refused) => Err(Found::NoAnswer(refused)),
+        Err(refused) => Err(Findings::NoAnswer(refused)),
     }
 }
 
 /// The answer of a call that was out of memory, when it is made again.
-pub fn again(answer: Result<u64, Refused>) -> Result<u64, Found> {
+pub fn again(answer: Result<u64, Refused>) -> Result<u64, Findings> {
     match answer {
         Ok(digest) => Ok(digest),
-        Err(Refused::Different) => Err(Found::NoAnswer(Refused::Different)),
-        Err(_) => Err(Found::Lost),
+        Err(Refused::Different) => Err(Findings::NoAnswer(Refused::Different)),
+        Err(_) => Err(Findings::Lost),
     }
 }
 
 /// Makes a call that was out of memory.
-fn make_again<C: Calls>(calls: &mut C, place: usize) -> Result<Made, Found> {
+fn make_again<C: Calls>(calls: &mut C, place: usize) -> Result<Made, Findings> {
     let answer = again(calls.call(place))?;
     Ok(Made {
         answer,
@@ -212,16 +212,16 @@ fn make_again<C: Calls>(calls: &mut C, place: usize) -> Result<Made, Found> {
 }
 
 /// What is found of calls that all answered.
-pub fn answered(answers: Answers, again: bool) -> Found {
+pub fn answered(answers: Answers, again: bool) -> Findings {
     if again {
-        Found::Again(answers)
+        Findings::Again(answers)
     } else {
-        Found::Answered(answers)
+        Findings::Answered(answers)
     }
 }
 
 /// What is found of all calls, made in order.
-pub fn sweep<C: Calls>(calls: &mut C) -> Found {
+pub fn sweep<C: Calls>(calls: &mut C) -> Findings {
     let mut digest = Digest::new();
     let mut again = false;
     for place in 0..calls.len() {

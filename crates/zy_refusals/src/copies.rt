@@ -1,6 +1,6 @@
 //! Copies.
 
-use crate::calls::{Calls, Found, Refused, prepared, sweep, tested};
+use crate::calls::{Calls, Findings, Refused, prepared, sweep, tested};
 use crate::digest::{Digested, digest_of};
 use crate::growths::{book, link, locks, row_list, txn, wire};
 use crate::machines::machine;
@@ -109,7 +109,7 @@ impl<T: Copied> Calls for Copying<T> {
 }
 
 /// The copy of a value, where it is there.
-fn sweep_copy<T: Copied>(alloc: Global, value: Result<T, Refused>) -> Result<Found, Refused> {
+fn sweep_copy<T: Copied>(alloc: Global, value: Result<T, Refused>) -> Result<Findings, Refused> {
     let value = value?;
     Ok(sweep(&mut Copying { alloc, value }))
 }
@@ -129,7 +129,7 @@ fn message(alloc: Global) -> Result<Message, Refused> {
 }
 
 /// The sweep of this name, over a scenario's text, if it is one of these.
-pub fn sweep_named(name: &str, alloc: Global, input: &[u8]) -> Option<Result<Found, Refused>> {
+pub fn sweep_named(name: &str, alloc: Global, input: &[u8]) -> Option<Result<Findings, Refused>> {
     match name {
         "copy_program" => Some(sweep_copy(alloc, program(alloc, input))),
         "copy_scenario" => Some(sweep_copy(alloc, scenario(alloc, input))),

@@ -1,7 +1,7 @@
 //! The engines, over bytes in memory.
 ghost use Rattle.std.specs.Prelude.{◌<◌};
 
-use crate::calls::{Calls, Found, Refused, ended, prepared, sweep, tested};
+use crate::calls::{Calls, Findings, Refused, ended, prepared, sweep, tested};
 use crate::scenarios::scenario;
 use crate::texts::{Prefix, room};
 use std::alloc::Global;
@@ -80,7 +80,7 @@ impl Calls for Working<'_> {
     }
 }
 
-fn sweep_engine(alloc: Global, engine: Engine, input: &[u8]) -> Found {
+fn sweep_engine(alloc: Global, engine: Engine, input: &[u8]) -> Findings {
     let prefix = Prefix::new(VecSink::new(Vec::new(alloc)));
     sweep(&mut Working {
         alloc,
@@ -91,13 +91,13 @@ fn sweep_engine(alloc: Global, engine: Engine, input: &[u8]) -> Found {
 }
 
 /// The engines that read an image: that of the input.
-fn sweep_image(alloc: Global, engine: Engine, input: &[u8]) -> Result<Found, Refused> {
+fn sweep_image(alloc: Global, engine: Engine, input: &[u8]) -> Result<Findings, Refused> {
     let image = prepared(save(alloc, &scenario(alloc, input)?))?;
     Ok(sweep_engine(alloc, engine, image.as_slice()))
 }
 
 /// The engine that reads a listing: that of the input.
-fn sweep_listing(alloc: Global, input: &[u8]) -> Result<Found, Refused> {
+fn sweep_listing(alloc: Global, input: &[u8]) -> Result<Findings, Refused> {
     let mut listing = VecSink::new(room(alloc)?);
     prepared(write_run(alloc, scenario(alloc, input)?, &mut listing))?;
     Ok(sweep_engine(alloc, Engine::Check, listing.bytes()))
@@ -105,7 +105,7 @@ fn sweep_listing(alloc: Global, input: &[u8]) -> Result<Found, Refused> {
 
 /// The sweep of this name, over a scenario's text, if it is one of these. That of `debug_bytes` has commands below it, and
 /// that of `order_bytes` logs.
-pub fn sweep_named(name: &str, alloc: Global, input: &[u8]) -> Option<Result<Found, Refused>> {
+pub fn sweep_named(name: &str, alloc: Global, input: &[u8]) -> Option<Result<Findings, Refused>> {
     match name {
         "run_bytes" => Some(Ok(sweep_engine(alloc, Engine::RunText, input))),
         "run_image_bytes" => Some(sweep_image(alloc, Engine::RunImage, input)),

@@ -2,7 +2,7 @@
 ghost use Rattle.std.specs.Prelude.{◌≡◌, true};
 ghost use Rattle.zy_txns.specs.Books.{Countable};
 
-use crate::calls::{Calls, Found, Refused, prepared, sweep, tested};
+use crate::calls::{Calls, Findings, Refused, prepared, sweep, tested};
 use crate::digest::{Digest, Digested, digest_of};
 use std::alloc::Global;
 use zy_isa::Node;
@@ -259,25 +259,25 @@ fn plain_book(alloc: Global) -> Result<Book, Refused> {
     Ok(Book::of(alloc, txns))
 }
 
-fn sweep_growth<T: Growing + Drop>(value: T) -> Result<Found, Refused> {
+fn sweep_growth<T: Growing + Drop>(value: T) -> Result<Findings, Refused> {
     Ok(sweep(&mut Growth { value }))
 }
 
-fn sweep_grow(alloc: Global) -> Result<Found, Refused> {
+fn sweep_grow(alloc: Global) -> Result<Findings, Refused> {
     sweep_growth(prepared(Wire::new(alloc, 512))?)
 }
 
-fn sweep_reserve(alloc: Global) -> Result<Found, Refused> {
+fn sweep_reserve(alloc: Global) -> Result<Findings, Refused> {
     let wire = prepared(Wire::new(alloc, 512))?;
     sweep_growth(Reserved { wire })
 }
 
-fn sweep_locks(alloc: Global) -> Result<Found, Refused> {
+fn sweep_locks(alloc: Global) -> Result<Findings, Refused> {
     let locks = Locks::new(alloc);
     sweep_growth(Roomy { locks })
 }
 
-fn sweep_commits(alloc: Global) -> Result<Found, Refused> {
+fn sweep_commits(alloc: Global) -> Result<Findings, Refused> {
     sweep_growth(plain_book(alloc)?)
 }
 
@@ -295,7 +295,7 @@ impl Calls for NewWire {
 }
 
 /// The sweep of this name, if it is one of these.
-pub fn sweep_named(name: &str, alloc: Global) -> Option<Result<Found, Refused>> {
+pub fn sweep_named(name: &str, alloc: Global) -> Option<Result<Findings, Refused>> {
     match name {
         "rows_reserve" => Some(sweep_growth(RowList::new(alloc))),
         "wire_new" => Some(Ok(sweep(&mut NewWire { alloc }))),

@@ -1,6 +1,6 @@
 //! Machines, and the steps that they make.
 
-use crate::calls::{Calls, Found, Refused, prepared, sweep, tested};
+use crate::calls::{Calls, Findings, Refused, prepared, sweep, tested};
 use crate::digest::{Digest, digest_of};
 use crate::scenarios::scenario;
 use std::alloc::Global;
@@ -149,45 +149,45 @@ fn reopened(alloc: Global, text: &[u8]) -> Result<Machine, Refused> {
     prepared(shared.reopen(alloc))
 }
 
-fn sweep_open(alloc: Global, input: &[u8]) -> Result<Found, Refused> {
+fn sweep_open(alloc: Global, input: &[u8]) -> Result<Findings, Refused> {
     let scenario = scenario(alloc, input)?;
     Ok(sweep(&mut Opening { alloc, scenario }))
 }
 
-fn sweep_run_all(alloc: Global, input: &[u8]) -> Result<Found, Refused> {
+fn sweep_run_all(alloc: Global, input: &[u8]) -> Result<Findings, Refused> {
     let scenario = scenario(alloc, input)?;
     Ok(sweep(&mut Running { alloc, scenario }))
 }
 
-fn sweep_choices(machine: Machine, choices: Vec<Choice>) -> Found {
+fn sweep_choices(machine: Machine, choices: Vec<Choice>) -> Findings {
     sweep(&mut Stepping { machine, choices })
 }
 
-fn sweep_step(alloc: Global, input: &[u8]) -> Result<Found, Refused> {
+fn sweep_step(alloc: Global, input: &[u8]) -> Result<Findings, Refused> {
     let choices = choices(alloc, input)?;
     let machine = opened(alloc, input)?;
     Ok(sweep_choices(machine, choices))
 }
 
 /// A machine goes along a history that another one shares with it, but for the fourth choice.
-fn sweep_step_apart(alloc: Global, input: &[u8]) -> Result<Found, Refused> {
+fn sweep_step_apart(alloc: Global, input: &[u8]) -> Result<Findings, Refused> {
     let choices = choices_apart(alloc, input)?;
     let machine = reopened(alloc, input)?;
     Ok(sweep_choices(machine, choices))
 }
 
-fn sweep_reopen(alloc: Global, input: &[u8]) -> Result<Found, Refused> {
+fn sweep_reopen(alloc: Global, input: &[u8]) -> Result<Findings, Refused> {
     let machine = shared(alloc, input)?;
     Ok(sweep(&mut Reopening { alloc, machine }))
 }
 
-fn sweep_share(alloc: Global, input: &[u8]) -> Result<Found, Refused> {
+fn sweep_share(alloc: Global, input: &[u8]) -> Result<Findings, Refused> {
     let machine = machine(alloc, input)?;
     Ok(sweep(&mut Sharing { alloc, machine }))
 }
 
 /// The sweep of this name, over a scenario's text, if it is one of these.
-pub fn sweep_named(name: &str, alloc: Global, input: &[u8]) -> Option<Result<Found, Refused>> {
+pub fn sweep_named(name: &str, alloc: Global, input: &[u8]) -> Option<Result<Findings, Refused>> {
     match name {
         "open" => Some(sweep_open(alloc, input)),
         "run_all" => Some(sweep_run_all(alloc, input)),

@@ -14,7 +14,7 @@ mod sessions;
 mod texts;
 mod threads;
 
-use calls::{Answers, Found, Refused, prepared};
+use calls::{Answers, Findings, Refused, prepared};
 use std::alloc::Global;
 use std::env::Env;
 use std::process::ExitCode;
@@ -29,7 +29,7 @@ fn swept<R: Threads + Wait + Sync>(
     name: &str,
     alloc: Global,
     input: &[u8],
-) -> Result<Found, Refused> {
+) -> Result<Findings, Refused> {
     if let Some(found) = scenarios::sweep_named(name, alloc, input) {
         return found;
     }
@@ -61,7 +61,7 @@ fn swept<R: Threads + Wait + Sync>(
 fn sweep<R: Input + AllocGlobal + Threads + Wait + Sync>(
     rt: &R,
     name: &str,
-) -> Result<Found, Refused> {
+) -> Result<Findings, Refused> {
     let mut source = CountingReader::new(rt.reader());
     let input = prepared(read_all(rt.alloc(), &mut source))?;
     swept(rt, name, rt.alloc(), input.as_slice())
@@ -70,7 +70,7 @@ fn sweep<R: Input + AllocGlobal + Threads + Wait + Sync>(
 /// What is found, and whether the digest is printed too.
 #[derive(Clone, Copy)]
 struct Report {
-    found: Found,
+    found: Findings,
     is_digested: bool,
 }
 
@@ -125,19 +125,19 @@ fn print_refused(rt: &impl Print, refused: Refused) -> std::io::Result<()> {
 fn print(rt: &impl Print, report: Report) -> std::io::Result<()> {
     let Report { found, is_digested } = report;
     match found {
-        Found::Answered(answers) => print_answers(rt, answers, "", is_digested),
-        Found::Again(answers) => {
+        Findings::Answered(answers) => print_answers(rt, answers, "", is_digested),
+        Findings::Again(answers) => {
             print_answers(rt, answers, ", one when it was made again", is_digested)
         }
-        Found::Changed => println!(rt; "out of memory, and something is changed"),
-        Found::Lost => println!(rt; "out of memory, and no answer when made again"),
-        Found::NoAnswer(refused) => print_refused(rt, refused),
+        Findings::Changed => println!(rt; "out of memory, and something is changed"),
+        Findings::Lost => println!(rt; "out of memory, and no answer when made again"),
+        Findings::NoAnswer(refused) => print_refused(rt, refused),
     }
 }
 
 fn main(rt: HostRuntime) -> ExitCode {
     let report = asked(&rt).unwrap_or_else(|refused| Report {
-        found: Found::NoAnswer(refused),
+        found: Findings::NoAnswer(refused),
         is_digested: false,
     });
     match print(&rt, report) {

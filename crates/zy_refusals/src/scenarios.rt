@@ -1,6 +1,6 @@
 //! Scenarios, programs, texts and images.
 
-use crate::calls::{Calls, Found, Refused, prepared, sweep, tested};
+use crate::calls::{Calls, Findings, Refused, prepared, sweep, tested};
 use crate::digest::{digest_of, digest_of_bytes};
 use std::alloc::Global;
 use zy_asm::assembling::assemble_bytes;
@@ -107,31 +107,31 @@ fn first_instrs(alloc: Global, scenario: &Scenario) -> Result<Vec<Instr>, Refuse
     Ok(instrs)
 }
 
-fn sweep_read(alloc: Global, input: &[u8]) -> Found {
+fn sweep_read(alloc: Global, input: &[u8]) -> Findings {
     sweep(&mut Reading { alloc, input })
 }
 
-fn sweep_assemble(alloc: Global, input: &[u8]) -> Found {
+fn sweep_assemble(alloc: Global, input: &[u8]) -> Findings {
     sweep(&mut Assembling { alloc, input })
 }
 
-fn sweep_load(alloc: Global, input: &[u8]) -> Result<Found, Refused> {
+fn sweep_load(alloc: Global, input: &[u8]) -> Result<Findings, Refused> {
     let image = prepared(save(alloc, &scenario(alloc, input)?))?;
     Ok(sweep(&mut Loading { alloc, image }))
 }
 
-fn sweep_save(alloc: Global, input: &[u8]) -> Result<Found, Refused> {
+fn sweep_save(alloc: Global, input: &[u8]) -> Result<Findings, Refused> {
     let scenario = scenario(alloc, input)?;
     Ok(sweep(&mut Saving { alloc, scenario }))
 }
 
-fn sweep_verify(alloc: Global, input: &[u8]) -> Result<Found, Refused> {
+fn sweep_verify(alloc: Global, input: &[u8]) -> Result<Findings, Refused> {
     let instrs = first_instrs(alloc, &scenario(alloc, input)?)?;
     Ok(sweep(&mut Verifying { alloc, instrs }))
 }
 
 /// The sweep of this name, over a scenario's text, if it is one of these.
-pub fn sweep_named(name: &str, alloc: Global, input: &[u8]) -> Option<Result<Found, Refused>> {
+pub fn sweep_named(name: &str, alloc: Global, input: &[u8]) -> Option<Result<Findings, Refused>> {
     match name {
         "read_all" => Some(Ok(sweep_read(alloc, input))),
         "assemble" => Some(Ok(sweep_assemble(alloc, input))),

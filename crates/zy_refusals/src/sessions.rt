@@ -1,6 +1,6 @@
 //! Debuggers and boards.
 
-use crate::calls::{Calls, Fault, Found, Refused, prepared, sweep, tested};
+use crate::calls::{Calls, Fault, Findings, Refused, prepared, sweep, tested};
 use crate::digest::{Digest, Digested, digest_of};
 use crate::machines::choices;
 use crate::scenarios::scenario;
@@ -132,7 +132,7 @@ impl Calls for Turning {
     }
 }
 
-fn sweep_debugger(alloc: Global, input: &[u8]) -> Result<Found, Refused> {
+fn sweep_debugger(alloc: Global, input: &[u8]) -> Result<Findings, Refused> {
     let scenario = scenario(alloc, input)?;
     Ok(sweep(&mut OpeningDebugger { alloc, scenario }))
 }
@@ -143,14 +143,14 @@ fn debugger(alloc: Global, text: &[u8]) -> Result<Debugger, Refused> {
     prepared(Debugger::open(alloc, scenario, EVERY, RING))
 }
 
-fn sweep_commands(alloc: Global, input: &[u8]) -> Result<Found, Refused> {
+fn sweep_commands(alloc: Global, input: &[u8]) -> Result<Findings, Refused> {
     let (part, below) = input.split_at(cut_len(input));
     let commands = commands_of(alloc, below)?;
     let debugger = debugger(alloc, part)?;
     Ok(sweep(&mut Commanding { debugger, commands }))
 }
 
-fn sweep_board(alloc: Global, input: &[u8]) -> Result<Found, Refused> {
+fn sweep_board(alloc: Global, input: &[u8]) -> Result<Findings, Refused> {
     let scenario = scenario(alloc, input)?;
     Ok(sweep(&mut OpeningBoard { alloc, scenario }))
 }
@@ -161,14 +161,14 @@ fn board(alloc: Global, text: &[u8]) -> Result<Board, Refused> {
     prepared(Board::new(alloc, scenario))
 }
 
-fn sweep_turns(alloc: Global, input: &[u8]) -> Result<Found, Refused> {
+fn sweep_turns(alloc: Global, input: &[u8]) -> Result<Findings, Refused> {
     let choices = choices(alloc, input)?;
     let board = board(alloc, input)?;
     Ok(sweep(&mut Turning { board, choices }))
 }
 
 /// The sweep of this name, over a scenario's text, if it is one of these. That of `command` has commands below it.
-pub fn sweep_named(name: &str, alloc: Global, input: &[u8]) -> Option<Result<Found, Refused>> {
+pub fn sweep_named(name: &str, alloc: Global, input: &[u8]) -> Option<Result<Findings, Refused>> {
     match name {
         "debugger" => Some(sweep_debugger(alloc, input)),
         "command" => Some(sweep_commands(alloc, input)),

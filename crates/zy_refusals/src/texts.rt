@@ -1,6 +1,6 @@
 //! Texts, listings and their lines.
 
-use crate::calls::{Calls, Found, Refused, ended, prepared, sweep, tested};
+use crate::calls::{Calls, Findings, Refused, ended, prepared, sweep, tested};
 use crate::digest::{Digest, digest_of, digest_of_bytes};
 use crate::machines::machine;
 use crate::scenarios::scenario;
@@ -249,7 +249,7 @@ impl Calls for Checking {
     }
 }
 
-fn sweep_writing(alloc: Global, input: &[u8], text: Text) -> Result<Found, Refused> {
+fn sweep_writing(alloc: Global, input: &[u8], text: Text) -> Result<Findings, Refused> {
     let machine = machine(alloc, input)?;
     let prefix = Prefix::new(VecSink::new(Vec::new(alloc)));
     Ok(sweep(&mut Writing {
@@ -260,7 +260,7 @@ fn sweep_writing(alloc: Global, input: &[u8], text: Text) -> Result<Found, Refus
     }))
 }
 
-fn sweep_write_run(alloc: Global, input: &[u8]) -> Found {
+fn sweep_write_run(alloc: Global, input: &[u8]) -> Findings {
     let prefix = Prefix::new(VecSink::new(Vec::new(alloc)));
     sweep(&mut WritingRun {
         alloc,
@@ -269,7 +269,7 @@ fn sweep_write_run(alloc: Global, input: &[u8]) -> Found {
     })
 }
 
-fn sweep_lines(alloc: Global, input: &[u8], kind: Kind) -> Result<Found, Refused> {
+fn sweep_lines(alloc: Global, input: &[u8], kind: Kind) -> Result<Findings, Refused> {
     let machine = machine(alloc, input)?;
     let prefix = Prefix::new(LineBuffer::new(alloc));
     Ok(sweep(&mut Lining {
@@ -280,19 +280,19 @@ fn sweep_lines(alloc: Global, input: &[u8], kind: Kind) -> Result<Found, Refused
     }))
 }
 
-fn sweep_serial(alloc: Global, input: &[u8]) -> Result<Found, Refused> {
+fn sweep_serial(alloc: Global, input: &[u8]) -> Result<Findings, Refused> {
     let machine = machine(alloc, input)?;
     Ok(sweep(&mut Testing { alloc, machine }))
 }
 
-fn sweep_check(alloc: Global, input: &[u8]) -> Result<Found, Refused> {
+fn sweep_check(alloc: Global, input: &[u8]) -> Result<Findings, Refused> {
     let mut listing = VecSink::new(room(alloc)?);
     prepared(write_run(alloc, scenario(alloc, input)?, &mut listing))?;
     Ok(sweep(&mut Checking { alloc, listing }))
 }
 
 /// The sweep of this name, over a scenario's text, if it is one of these.
-pub fn sweep_named(name: &str, alloc: Global, input: &[u8]) -> Option<Result<Found, Refused>> {
+pub fn sweep_named(name: &str, alloc: Global, input: &[u8]) -> Option<Result<Findings, Refused>> {
     match name {
         "write_text" => Some(sweep_writing(alloc, input, Text::Canonical)),
         "write_listing" => Some(sweep_writing(alloc, input, Text::Listing)),

@@ -1,7 +1,7 @@
 //! Runs by three threads.
 ghost use Rattle.std.specs.Prelude.{◌<◌};
 
-use crate::calls::{Answers, Found, Refused, again, answered, ended, prepared, tested};
+use crate::calls::{Answers, Findings, Refused, again, answered, ended, prepared, tested};
 use crate::digest::Digest;
 use crate::gates::{ACTORS, Noting, SlowB};
 use crate::machines::choices;
@@ -195,14 +195,14 @@ fn work<R: Threads + Wait + Sync>(
 }
 
 /// Does a job, and again where it was out of memory.
-fn sweep_job<R: Threads + Wait + Sync>(rt: &R, alloc: Global, job: Job, input: &[u8]) -> Found {
+fn sweep_job<R: Threads + Wait + Sync>(rt: &R, alloc: Global, job: Job, input: &[u8]) -> Findings {
     let mut prefix = Prefix::new(VecSink::new(Vec::new(alloc)));
     let first = work(rt, alloc, job, input, &mut prefix);
     let is_refused = first == Err(Refused::Memory);
     let answer = if is_refused {
         again(work(rt, alloc, job, input, &mut prefix))
     } else {
-        first.map_err(Found::NoAnswer)
+        first.map_err(Findings::NoAnswer)
     };
     match answer {
         Ok(digest) => answered(Answers { count: 1, digest }, is_refused),
@@ -216,7 +216,7 @@ pub fn sweep_named<R: Threads + Wait + Sync>(
     name: &str,
     alloc: Global,
     input: &[u8],
-) -> Option<Result<Found, Refused>> {
+) -> Option<Result<Findings, Refused>> {
     match name {
         "run_threads" => Some(Ok(sweep_job(rt, alloc, Job::Run, input))),
         "threads_alone" => Some(Ok(sweep_job(rt, alloc, Job::Alone, input))),

@@ -14,8 +14,8 @@ use Rattle.zy_laws.proofs.walk.PlayPush.{play-push}
 use Rattle.zy_machine.specs.Histories.{History}
 use Rattle.zy_machine.specs.Alike.{part_of, Alike}
 use Rattle.zy_search.specs.declared.sought.Sought.{Sought}
-use Rattle.zy_search.specs.declared.answer.Answer.{Answer}
-use Rattle.zy_search.specs.declared.answer.Answer.TheVariants.{Spent}
+use Rattle.zy_search.specs.declared.answer.SearchAnswer.{SearchAnswer}
+use Rattle.zy_search.specs.declared.answer.SearchAnswer.TheVariants.{Spent}
 use Rattle.zy_search.specs.Paths.{AreApart}
 use Rattle.zy_search.specs.Stuck.{is_still, AreMoves}
 use Rattle.zy_search.specs.Choices.{is_considered, AreConsidered, is_of_kinds, considered}
@@ -293,11 +293,11 @@ pub near_first : (i : ℕ) → i < 1 → length_at ([] ∷ []) i ≤ length_at (
 near_first i lt = rw (one_place i lt) (omega arith)
 
 -- where no fewer choices lead there, an answer that says so is right
-pub spent_well : (h : History) (q : Sought) (n : ℕ) (a : Answer) → NoneBelow h q n → a ≡ Spent n → IsReached h q a
+pub spent_well : (h : History) (q : Sought) (n : ℕ) (a : SearchAnswer) → NoneBelow h q n → a ≡ Spent n → IsReached h q a
 spent_well h q n a below e = subst (IsReached h q) (sym e) below
 
 -- the same of what is due
-pub spent_due : (h : History) (q : Sought) (most n : ℕ) (a : Answer) → IsDue h q most (Spent n) → a ≡ Spent n → IsDue h q most a
+pub spent_due : (h : History) (q : Sought) (most n : ℕ) (a : SearchAnswer) → IsDue h q most (Spent n) → a ≡ Spent n → IsDue h q most a
 spent_due h q most n a is e = subst (IsDue h q most) (sym e) is
 
 -- a path of at most n choices that leads to no state that shows it

@@ -10,8 +10,8 @@ use Rattle.zy_table.specs.Play.{play}
 use Rattle.zy_machine.specs.Histories.{History}
 use Rattle.zy_listing.specs.SameMaps.{is_serial}
 use Rattle.zy_search.specs.declared.sought.Sought.{Sought}
-use Rattle.zy_search.specs.declared.answer.Answer.{Answer}
-use Rattle.zy_search.specs.declared.answer.Answer.TheVariants as answer
+use Rattle.zy_search.specs.declared.answer.SearchAnswer.{SearchAnswer}
+use Rattle.zy_search.specs.declared.answer.SearchAnswer.TheVariants as answer
 use Rattle.zy_goals.specs.declared.outcomes.OutcomePattern.{OutcomePattern}
 use Rattle.zy_goals.specs.Goals.{Context, meets}
 use Rattle.zy_goals.specs.Commits.{takes_steps, is_of_commits}
@@ -88,7 +88,7 @@ pub record FindsFirst (h : History) (q : Sought) (cs : List Choice) : Type 0 whe
   pub shortest : NoneBelow h q (length cs)
 
 -- the answer of the search through the states, without the step that `then` asks for
-abbrev pub IsReached : History → Sought → Answer → Type 0
+abbrev pub IsReached : History → Sought → SearchAnswer → Type 0
 IsReached h q (answer.Found v) = FindsFirst h q v.items
 IsReached h q answer.Nowhere = NoneAtAll h q
 IsReached h q (answer.Spent fewer) = NoneBelow h q fewer
@@ -108,7 +108,7 @@ abbrev pub IsFound : History → Sought → List Choice → Type 0
 IsFound h q out = (cs : List Choice) × FindsFirst h q cs × EndsBy h q q.then cs out
 
 -- the answer of a search
-abbrev pub IsAnswer : History → Sought → Answer → Type 0
+abbrev pub IsAnswer : History → Sought → SearchAnswer → Type 0
 IsAnswer h q (answer.Found v) = IsFound h q v.items
 IsAnswer h q answer.Nowhere = NoneAtAll h q
 IsAnswer h q (answer.Spent fewer) = NoneBelow h q fewer
@@ -125,7 +125,7 @@ abbrev pub HasNoRoom : History → Sought → ℕ → Type 0
 HasNoRoom h q fewer = deepest q < length h.entries + fewer
 
 -- a search gives up only where it knows as many paths as it may, or where the history has no room for longer ones
-abbrev pub IsDue : History → Sought → ℕ → Answer → Type 0
+abbrev pub IsDue : History → Sought → ℕ → SearchAnswer → Type 0
 IsDue h q most (answer.Found v) = Unit {0}
 IsDue h q most answer.Nowhere = Unit {0}
 IsDue h q most (answer.Spent fewer) = Fills h q most fewer ⊎ HasNoRoom h q fewer

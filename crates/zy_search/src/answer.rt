@@ -4,7 +4,7 @@ use zy_isa::Choice;
 
 /// What came of a search.
 #[derive(Drop)]
-pub enum Answer {
+pub enum SearchAnswer {
     /// These choices lead to a state that shows what is looked for, and no fewer do. Where an outcome is asked for, one
     /// choice more, which has it there, is the last one.
     Found(Vec<Choice>),
@@ -16,8 +16,8 @@ pub enum Answer {
 
 /// An answer, and numbers for a person, of which nothing is proved.
 #[derive(Drop)]
-pub struct Report {
-    pub answer: Answer,
+pub struct SearchReport {
+    pub answer: SearchAnswer,
     /// How many states were reached.
     pub states: usize,
     /// The most choices that one of them takes.

@@ -19,7 +19,7 @@ use crate::scratch::Scratch;
 use crate::shows::{is_by_commits, shows};
 use crate::sought::deepest;
 use crate::still::is_still;
-use crate::tree::Tree;
+use crate::tree::ChoiceTree;
 use crate::walk::go_to;
 use std::alloc::{AllocError, Global};
 use zy_isa::Choice;
@@ -27,7 +27,7 @@ use zy_machine::Fault;
 use zy_table::Outcome;
 
 /// Brings the first scratch machine to where the path at a place leads, unless it is there.
-fn arrive(plan: &Plan, tree: &Tree, at: u32, scratch: &mut Scratch) -> Result<(), Fault>
+fn arrive(plan: &Plan, tree: &ChoiceTree, at: u32, scratch: &mut Scratch) -> Result<(), Fault>
     requires ready { IsReady plan.now tree.now at }
     requires scratch { AreScratch plan.now.start tree.now at scratch.old }
     ensures scratch { OnOk result (AreScratch plan.now.start tree.now at scratch.new) }
@@ -44,7 +44,7 @@ fn arrive(plan: &Plan, tree: &Tree, at: u32, scratch: &mut Scratch) -> Result<()
 /// Makes the choice of a branch on the second scratch machine.
 fn attempt(
     plan: &Plan,
-    tree: &Tree,
+    tree: &ChoiceTree,
     branch: Branch,
     scratch: &mut Scratch,
 ) -> Result<Outcome, Fault>
@@ -266,7 +266,7 @@ fn meet(
 /// The path at a place with one choice more.
 fn with_choice(
     alloc: Global,
-    tree: &Tree,
+    tree: &ChoiceTree,
     at: u32,
     choice: Choice,
 ) -> Result<Vec<Choice>, AllocError>

@@ -6,7 +6,7 @@ ghost use Rattle.zy_table.specs.Play.{play};
 ghost use Rattle.zy_search.specs.Searches.{reached, Finds, FindsFirst, IsAnswer, IsDue, IsLast, IsReached};
 ghost use Rattle.zy_search.specs.Visits.{IsWhole};
 
-use crate::answer::Answer;
+use crate::answer::SearchAnswer;
 use crate::plan::Plan;
 use crate::possible::first_giving;
 use std::alloc::AllocError;
@@ -81,7 +81,7 @@ fn with_last(
     path: Vec<Choice>,
     here: &mut Machine,
     spare: &mut Machine,
-) -> Result<Answer, Fault>
+) -> Result<SearchAnswer, Fault>
     requires whole { IsWhole plan.now }
     requires then { plan.now.sought.then ≡ Some wanted }
     requires finds { FindsFirst plan.now.start plan.now.sought path.items }
@@ -93,7 +93,7 @@ fn with_last(
     go_along(plan, &path, here)?;
     let choice = last_choice(plan, wanted, &path, here, spare)?;
     let path = longer(path, choice)?;
-    Ok(Answer::Found(path))
+    Ok(SearchAnswer::Found(path))
 }
 
 /// The same, with one scratch machine alone.
@@ -102,7 +102,7 @@ fn with_wanted(
     wanted: OutcomePattern,
     path: Vec<Choice>,
     spare: &mut Machine,
-) -> Result<Answer, Fault>
+) -> Result<SearchAnswer, Fault>
     requires whole { IsWhole plan.now }
     requires then { plan.now.sought.then ≡ Some wanted }
     requires finds { FindsFirst plan.now.start plan.now.sought path.items }
@@ -116,7 +116,11 @@ fn with_wanted(
 
 /// The answer of a search, made of that of the search through the states: it has one step more, if an outcome is asked
 /// for.
-fn with_step_by(plan: &Plan, answer: Answer, spare: &mut Machine) -> Result<Answer, Fault>
+fn with_step_by(
+    plan: &Plan,
+    answer: SearchAnswer,
+    spare: &mut Machine,
+) -> Result<SearchAnswer, Fault>
     requires whole { IsWhole plan.now }
     requires reached { IsReached plan.now.start plan.now.sought answer }
     requires due { IsDue plan.now.start plan.now.sought plan.now.most answer }
@@ -125,17 +129,17 @@ fn with_step_by(plan: &Plan, answer: Answer, spare: &mut Machine) -> Result<Answ
     ensures due { IfOk result (IsDue plan.now.start plan.now.sought plan.now.most) }
 {
     match answer {
-        Answer::Found(path) => match plan.sought.then {
+        SearchAnswer::Found(path) => match plan.sought.then {
             Some(wanted) => with_wanted(plan, wanted, path, spare),
-            None => Ok(Answer::Found(path)),
+            None => Ok(SearchAnswer::Found(path)),
         },
-        Answer::Nowhere => Ok(Answer::Nowhere),
-        Answer::Spent(fewer) => Ok(Answer::Spent(fewer)),
+        SearchAnswer::Nowhere => Ok(SearchAnswer::Nowhere),
+        SearchAnswer::Spent(fewer) => Ok(SearchAnswer::Spent(fewer)),
     }
 }
 
 /// The same, without a scratch machine.
-pub(crate) fn with_step(plan: &Plan, answer: Answer) -> Result<Answer, Fault>
+pub(crate) fn with_step(plan: &Plan, answer: SearchAnswer) -> Result<SearchAnswer, Fault>
     requires whole { IsWhole plan.now }
     requires reached { IsReached plan.now.start plan.now.sought answer }
     requires due { IsDue plan.now.start plan.now.sought plan.now.most answer }

@@ -28,7 +28,7 @@ pub mod visited;
 pub mod walk;
 pub mod watch;
 
-pub use crate::answer::{Answer, Report};
+pub use crate::answer::{SearchAnswer, SearchReport};
 pub use crate::kinds::ChoiceKinds;
 pub use crate::plan::{Limits, MOST_THREADS};
 pub use crate::sought::Sought;

@@ -8,7 +8,7 @@ ghost use Rattle.zy_search.specs.Visits.{path_at, state_by, IsInformed, IsWhole}
 use crate::branch::Branch;
 use crate::plan::Plan;
 use crate::sought::counted;
-use crate::tree::Tree;
+use crate::tree::ChoiceTree;
 use std::alloc::AllocError;
 use zy_laws::laws::safe_counts;
 use zy_memo::Explored;
@@ -16,7 +16,7 @@ use zy_memo::Explored;
 /// A path to each state that was reached, and what is known of these states.
 #[derive(Drop)]
 pub struct Reached {
-    pub tree: Tree,
+    pub tree: ChoiceTree,
     pub explored: Explored,
 }
 
@@ -34,7 +34,7 @@ impl Reached {
         let numbers = explored.memory.numbers_of(&plan.start)?;
         explored.push(&numbers)?;
         Ok(Reached {
-            tree: Tree::new(plan.alloc),
+            tree: ChoiceTree::new(plan.alloc),
             explored,
         })
     }

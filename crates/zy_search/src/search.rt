@@ -4,7 +4,7 @@ ghost use Rattle.zy_search.specs.Choices as spec;
 ghost use Rattle.zy_search.specs.Searches.{IsAnswer, IsReached, IsDue};
 ghost use Rattle.zy_search.specs.Visits.{length_at, AreExpanded, AreOf, Begins, IsEdge, IsInformed, IsWhole, Visits};
 
-use crate::answer::{Answer, Expanded, Report};
+use crate::answer::{Expanded, SearchAnswer, SearchReport};
 use crate::choices::considered;
 use crate::expand::expand;
 use crate::kinds::ChoiceKinds;
@@ -15,7 +15,7 @@ use crate::reached::Reached;
 use crate::scratch::Scratch;
 use crate::shows::shows;
 use crate::sought::{Sought, deepest};
-use crate::tree::Tree;
+use crate::tree::ChoiceTree;
 use crate::watch::Watch;
 use std::alloc::{AllocError, Global};
 use std::thread::Threads;
@@ -23,15 +23,15 @@ use zy_isa::Choice;
 use zy_machine::{Fault, Machine};
 
 /// What is known where the path at a place was not expanded, and all before it were.
-fn spent_at(tree: &Tree, at: u32) -> Answer
+fn spent_at(tree: &ChoiceTree, at: u32) -> SearchAnswer
     requires { at < length tree.now }
-    ensures { result ≡ Answer.Spent (length_at tree.now at + 1) }
+    ensures { result ≡ SearchAnswer.Spent (length_at tree.now at + 1) }
 {
-    Answer::Spent(tree.length(at as usize) + 1)
+    SearchAnswer::Spent(tree.length(at as usize) + 1)
 }
 
 /// The answer where all paths before a place were expanded, and that one is not.
-fn settle(plan: &Plan, tree: &Tree, at: u32) -> Answer
+fn settle(plan: &Plan, tree: &ChoiceTree, at: u32) -> SearchAnswer
     requires visits { Visits plan.now.start plan.now.sought tree.now }
     requires expanded { AreExpanded plan.now.start plan.now.sought tree.now at }
     requires near { at < length tree.now → IsEdge tree.now at }
@@ -40,7 +40,7 @@ fn settle(plan: &Plan, tree: &Tree, at: u32) -> Answer
     ensures due { IsDue plan.now.start plan.now.sought plan.now.most result }
 {
     if tree.len() <= at as usize {
-        return Answer::Nowhere;
+        return SearchAnswer::Nowhere;
     }
     spent_at(tree, at)
 }
@@ -49,7 +49,7 @@ fn settle(plan: &Plan, tree: &Tree, at: u32) -> Answer
 const EVERY: u32 = 256;
 
 /// Reports to the watch how far the search is, if it is time.
-fn report_to<W: Watch>(watch: &mut W, tree: &Tree, at: u32)
+fn report_to<W: Watch>(watch: &mut W, tree: &ChoiceTree, at: u32)
     requires { at < length tree.now }
 {
     if at % EVERY == 0 {
@@ -64,7 +64,7 @@ fn expand_all<R: Threads + Sync, W: Watch>(
     reached: &mut Reached,
     scratch: &mut Scratch,
     watch: &mut W,
-) -> Result<Answer, Fault>
+) -> Result<SearchAnswer, Fault>
     requires begins { Begins plan.now reached.old }
     requires scratch { AreOf plan.now.start.scenario scratch.old }
     ensures answer { IfOk result (IsReached plan.now.start plan.now.sought) }
@@ -74,13 +74,13 @@ fn expand_all<R: Threads + Sync, W: Watch>(
     let mut outlook = Outlook::new(plan.alloc);
     for at in 0..u32::MAX {
         if reached.tree.len() <= at as usize {
-            return Ok(Answer::Nowhere);
+            return Ok(SearchAnswer::Nowhere);
         }
         report_to(watch, &reached.tree, at);
         outlook.go_to(rt, plan, reached, at)?;
         match expand(plan, reached, at, &mut outlook.ahead, scratch, &mut next)? {
             Expanded::Whole => {}
-            Expanded::Found(path) => return Ok(Answer::Found(path)),
+            Expanded::Found(path) => return Ok(SearchAnswer::Found(path)),
             Expanded::Spent => return Ok(spent_at(&reached.tree, at)),
         }
     }
@@ -88,19 +88,19 @@ fn expand_all<R: Threads + Sync, W: Watch>(
 }
 
 /// How many states an answer adds to the visited ones: the state that was found, unless it is that of the start.
-fn shown_by(answer: &Answer) -> usize {
+fn shown_by(answer: &SearchAnswer) -> usize {
     match answer {
-        Answer::Found(path) if !path.is_empty() => 1,
+        SearchAnswer::Found(path) if !path.is_empty() => 1,
         _ => 0,
     }
 }
 
 /// An answer, with how many states were reached (`shown` of them beside those of the paths), and the length of the last path.
-fn report(tree: &Tree, shown: usize, answer: Answer) -> Report
+fn report(tree: &ChoiceTree, shown: usize, answer: SearchAnswer) -> SearchReport
     ensures { result.answer ≡ answer }
 {
     let last = tree.len() - 1;
-    Report {
+    SearchReport {
         states: tree.len().saturating_add(shown),
         depth: tree.length(last),
         answer,
@@ -114,7 +114,7 @@ fn look<R: Threads + Sync, W: Watch>(
     reached: &mut Reached,
     scratch: &mut Scratch,
     watch: &mut W,
-) -> Result<Answer, Fault>
+) -> Result<SearchAnswer, Fault>
     requires whole { IsWhole plan.now }
     requires first { reached.old.tree ≡ [] ∷ [] }
     requires informed { IsInformed plan.now reached.old }
@@ -123,7 +123,7 @@ fn look<R: Threads + Sync, W: Watch>(
     ensures due { IfOk result (IsDue plan.now.start plan.now.sought plan.now.most) }
 {
     if deepest(&plan.sought) < plan.start.len() {
-        return Ok(Answer::Spent(0));
+        return Ok(SearchAnswer::Spent(0));
     }
     let is_shown = shows(
         plan.alloc,
@@ -133,7 +133,7 @@ fn look<R: Threads + Sync, W: Watch>(
         &mut scratch.spare,
     )?;
     if is_shown {
-        return Ok(Answer::Found(Vec::new(plan.alloc)));
+        return Ok(SearchAnswer::Found(Vec::new(plan.alloc)));
     }
     expand_all(rt, plan, reached, scratch, watch)
 }
@@ -144,7 +144,7 @@ fn search_by<R: Threads + Sync, W: Watch>(
     plan: &Plan,
     reached: &mut Reached,
     watch: &mut W,
-) -> Result<Answer, Fault>
+) -> Result<SearchAnswer, Fault>
     requires whole { IsWhole plan.now }
     requires first { reached.old.tree ≡ [] ∷ [] }
     requires informed { IsInformed plan.now reached.old }
@@ -201,7 +201,7 @@ pub fn search<R: Threads + Sync, W: Watch>(
     sought: Sought,
     limits: Limits,
     watch: &mut W,
-) -> Result<Report, Fault>
+) -> Result<SearchReport, Fault>
     ensures answer { IfOk result (λ r. IsAnswer start.now sought r.answer) }
     // It gives up only where it must.
     ensures due { IfOk result (λ r. IsDue start.now sought limits.states r.answer) }

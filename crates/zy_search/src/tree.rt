@@ -9,11 +9,11 @@ use zy_isa::Choice;
 
 /// Lists of choices: the empty one, and others, each with one choice more than an earlier one. Each takes 8 bytes.
 #[derive(Drop)]
-pub struct Tree {
+pub struct ChoiceTree {
     branches: Vec<Branch>,
 }
 
-impl Model for Tree {
+impl Model for ChoiceTree {
     ghost use Rattle.std.specs.Prelude.{List};
     ghost use Rattle.zy_isa.specs.declared.choice.Choice.{Choice};
     ghost use Rattle.zy_search.specs.Paths.{paths_of, AreRooted};
@@ -25,12 +25,12 @@ impl Model for Tree {
     ghost invariant = { λ t. AreRooted 1 t.branches.items };
 }
 
-impl Tree {
+impl ChoiceTree {
     /// The empty path alone.
-    pub fn new(alloc: Global) -> Tree
+    pub fn new(alloc: Global) -> ChoiceTree
         ensures { result ≡ [] ∷ [] }
     {
-        Tree {
+        ChoiceTree {
             branches: Vec::new(alloc),
         }
     }

@@ -3,7 +3,7 @@ ghost use Rattle.std.specs.Prelude.{◌≡◌, ◌<◌, ◌≤◌, ◌-◌, ◌^
 ghost use Rattle.std.specs.Prelude.{slice_index_or};
 
 use crate::branch::Branch;
-use crate::tree::Tree;
+use crate::tree::ChoiceTree;
 use std::alloc::{AllocError, Global};
 use std::collections::HashMap;
 use std::marker::Model;
@@ -12,7 +12,7 @@ use zy_isa::Choice;
 /// A path to each state that was reached, and where to look for a state that has a digest.
 #[derive(Drop)]
 pub struct Visited {
-    tree: Tree,
+    tree: ChoiceTree,
     places: HashMap<u64, u32>,
 }
 
@@ -33,13 +33,13 @@ impl Visited {
         let mut places = HashMap::new(alloc);
         places.insert(digest, 0)?;
         Ok(Visited {
-            tree: Tree::new(alloc),
+            tree: ChoiceTree::new(alloc),
             places,
         })
     }
 
     /// The paths.
-    pub fn tree(&self) -> &Tree
+    pub fn tree(&self) -> &ChoiceTree
         ensures { result.now ≡ self.entry.now }
     {
         &self.tree

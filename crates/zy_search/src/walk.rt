@@ -7,11 +7,11 @@ ghost use Rattle.zy_search.specs.Searches.{IsPath};
 ghost use Rattle.zy_search.specs.Visits.{path_at, length_at, IsHere};
 
 use crate::plan::Plan;
-use crate::tree::Tree;
+use crate::tree::ChoiceTree;
 use zy_machine::{Fault, Machine};
 
 /// Makes the choices of a path, from its root on.
-pub fn walk(tree: &Tree, at: u32, machine: &mut Machine) -> Result<(), Fault>
+pub fn walk(tree: &ChoiceTree, at: u32, machine: &mut Machine) -> Result<(), Fault>
     requires there { at < length tree.now }
     requires first { path_at tree.now 0 ≡ [] }
     requires named { AreNamed (length machine.old.scenario.programs) (path_at tree.now at) }
@@ -31,7 +31,12 @@ pub fn walk(tree: &Tree, at: u32, machine: &mut Machine) -> Result<(), Fault>
 }
 
 /// Brings a machine to where the path at a place leads.
-pub(crate) fn go_to(plan: &Plan, tree: &Tree, at: u32, machine: &mut Machine) -> Result<(), Fault>
+pub(crate) fn go_to(
+    plan: &Plan,
+    tree: &ChoiceTree,
+    at: u32,
+    machine: &mut Machine,
+) -> Result<(), Fault>
     requires there { at < length tree.now }
     requires first { path_at tree.now 0 ≡ [] }
     requires path { IsPath plan.now.start plan.now.sought (path_at tree.now at) }

@@ -11,7 +11,7 @@ ghost use Rattle.zy_trace.specs.Trace as spec;
 use crate::since::{Since, Texts, append_since};
 use crate::step::trace_step;
 use std::alloc::Global;
-use zy_disasm::Head;
+use zy_disasm::ScenarioHead;
 use zy_io::writing::write_all;
 use zy_io::{AllLines, LineBuffer, One, Section, Sink, TextFault, sections};
 use zy_isa::Scenario;
@@ -129,7 +129,7 @@ fn write_parts_of<K: Sink>(
     let mut line = LineBuffer::new(alloc);
     let scenario = machine.scenario();
     sections!(
-        Head(scenario),
+        ScenarioHead(scenario),
         AllLines(Each(scenario.choices())),
         One("end"),
         One("trace"),

@@ -10,7 +10,7 @@ use crate::choices::{
     Action, TxnAction, action_of, are_times, chosen, not_times, times_of, transaction,
 };
 use crate::faults::Reason;
-use crate::shown::Shown;
+use crate::shown::WordStart;
 use crate::state::{Reader, Stage};
 use zy_isa::{Actor, Choice, MAX_CHOICES};
 
@@ -84,7 +84,7 @@ impl Reader {
         match action_of(actor, action) {
             Some(Action::Txn(action)) => self.txn_action_line(action, rest),
             Some(Action::Plain(choice)) => self.plain_line(choice, rest),
-            None => Err(Reason::NotKnown(Shown::of(action))),
+            None => Err(Reason::NotKnown(WordStart::of(action))),
         }
     }
 

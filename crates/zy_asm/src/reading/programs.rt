@@ -12,7 +12,7 @@ use crate::faults::Reason;
 use crate::instructions::instr_of;
 use crate::pending::program_of;
 use crate::reading::keyword::{Keyword, keyword_of};
-use crate::shown::Shown;
+use crate::shown::WordStart;
 use crate::state::{Reader, Stage};
 use zy_isa::{MAX_INSTRS, MAX_TXNS, Operation};
 use zy_text::names::{is_name, is_numeral};
@@ -23,7 +23,7 @@ fn own_number(count: usize, word: &[u8]) -> Result<usize, Reason>
     ensures { by_kind result ≡ spec.own_number count word.now }
 {
     let Some(number) = number_of(word) else {
-        return Err(Reason::NotDigits(Shown::of(word)));
+        return Err(Reason::NotDigits(WordStart::of(word)));
     };
     if number != count as u64 {
         return Err(Reason::NotOwnNumber { number, own: count });
@@ -60,7 +60,7 @@ impl Reader {
         ensures { Steps result (progress_of self.new) (note_label (progress_of self.old) name.now) }
     {
         if self.labels.find(name).is_some() {
-            return Err(Reason::LabelTwice(Shown::of(name)));
+            return Err(Reason::LabelTwice(WordStart::of(name)));
         }
         let at = self.instrs.len() as u8;
         if self.labels.add(self.alloc, name, at).is_err() {
@@ -78,7 +78,7 @@ impl Reader {
         };
         match keyword_of(self.version, first) {
             Some(Keyword::Instr(operation)) => self.instr_line(operation, rest),
-            _ => Err(Reason::NotAnInstr(Shown::of(first))),
+            _ => Err(Reason::NotAnInstr(WordStart::of(first))),
         }
     }
 
@@ -87,7 +87,7 @@ impl Reader {
         ensures { Steps result (progress_of self.new) (label_line (progress_of self.old) name.now (texts words.now)) }
     {
         if !is_name(name) {
-            return Err(Reason::NotAName(Shown::of(name)));
+            return Err(Reason::NotAName(WordStart::of(name)));
         }
         if self.stage != Stage::Program {
             return Err(Reason::Misplaced);
@@ -120,7 +120,7 @@ impl Reader {
         ensures { Steps result (progress_of self.new) (note_name (progress_of self.old) name.now) }
     {
         if self.names.find(name).is_some() {
-            return Err(Reason::NameTwice(Shown::of(name)));
+            return Err(Reason::NameTwice(WordStart::of(name)));
         }
         let number = self.programs.len() as u8;
         if self.names.add(self.alloc, name, number).is_err() {
@@ -139,7 +139,7 @@ impl Reader {
         } else if is_name(word) {
             self.note_name(word)
         } else {
-            Err(Reason::NotAName(Shown::of(word)))
+            Err(Reason::NotAName(WordStart::of(word)))
         }
     }
 

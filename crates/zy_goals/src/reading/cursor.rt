@@ -6,12 +6,12 @@ ghost use Rattle.zy_goals.specs.Words as spec;
 ghost use Rattle.zy_goals.specs.Cursors.{left, read};
 
 use crate::reading::Parsed;
-use crate::refusal::{Expected, Refusal};
+use crate::refusal::{ExpectedInGoal, WordFault};
 use zy_text::names::is;
 
 /// A word of a text, and what is behind it. Behind the last word comes the empty one, again and again.
 #[derive(Clone, Copy)]
-pub struct Cursor<'a> {
+pub struct GoalCursor<'a> {
     word: &'a [u8],
     /// The bytes behind the word.
     rest: &'a [u8],
@@ -95,31 +95,31 @@ fn word_len(bytes: &[u8]) -> usize
     len
 }
 
-impl<'a> Cursor<'a> {
+impl<'a> GoalCursor<'a> {
     /// At the first word of what is left of a text of `len` bytes.
-    fn at_first(bytes: &'a [u8], len: usize) -> Cursor<'a>
+    fn at_first(bytes: &'a [u8], len: usize) -> GoalCursor<'a>
         ensures { left result ≡ words_of bytes.entry.now }
     {
         let rest = without_spaces(bytes);
         let (word, rest) = rest.split_at(word_len(rest));
-        Cursor { word, rest, len }
+        GoalCursor { word, rest, len }
     }
 
     /// At the first word of a text.
-    pub fn new(text: &'a [u8]) -> Cursor<'a>
+    pub fn new(text: &'a [u8]) -> GoalCursor<'a>
         ensures { left result ≡ words_of text.entry.now }
     {
-        Cursor::at_first(text, text.len())
+        GoalCursor::at_first(text, text.len())
     }
 
     /// At the next word.
-    pub fn next(self) -> Cursor<'a>
+    pub fn next(self) -> GoalCursor<'a>
         ensures { left result ≡ after (left self.entry) }
     {
         if self.word.is_empty() {
             self
         } else {
-            Cursor::at_first(self.rest, self.len)
+            GoalCursor::at_first(self.rest, self.len)
         }
     }
 
@@ -145,11 +145,11 @@ impl<'a> Cursor<'a> {
     }
 
     /// The refusal of the word, with what was expected in its place.
-    pub fn refuses(self, expected: Expected) -> Refusal
+    pub fn refuses(self, expected: ExpectedInGoal) -> WordFault
         ensures { result.expected ≡ expected }
     {
         let to = self.len.saturating_sub(self.rest.len());
-        Refusal {
+        WordFault {
             from: to.saturating_sub(self.word.len()),
             to,
             expected,
@@ -157,7 +157,7 @@ impl<'a> Cursor<'a> {
     }
 
     /// What the word was found to stand for; it is refused where nothing was found.
-    pub fn gives<T: Copy>(self, found: Option<T>, expected: Expected) -> Parsed<'a, T>
+    pub fn gives<T: Copy>(self, found: Option<T>, expected: ExpectedInGoal) -> Parsed<'a, T>
         ensures { read result ≡ option_map (λ x. (x, after (left self.entry))) found }
     {
         match found {

@@ -9,9 +9,9 @@ ghost use Rattle.zy_goals.specs.Expressions.{Answers, AnswersMore, Closes, Count
 
 use crate::goal::Goal;
 use crate::names::Names;
-use crate::reading::cursor::Cursor;
+use crate::reading::cursor::GoalCursor;
 use crate::reading::facts::fact;
-use crate::refusal::{Expected, ReadFault};
+use crate::refusal::{ExpectedInGoal, GoalFault};
 use std::alloc::{AllocError, Global};
 
 /// The most facts, operators and pairs of brackets of an expression. It bounds the depth of a goal.
@@ -26,29 +26,29 @@ pub enum Operator {
 
 /// A prefix of an expression, as far as it was read.
 #[derive(Drop)]
-pub struct Part<'a> {
+pub struct Prefix<'a> {
     /// What it says.
     pub goal: Goal,
     /// The word after it.
-    pub at: Cursor<'a>,
+    pub at: GoalCursor<'a>,
     /// How many facts, operators and pairs of brackets may still come.
     pub spare: usize,
 }
 
 /// Counts a fact, an operator or a pair of brackets, which begins with the word at hand. It is refused where no more may
 /// come.
-fn count(at: Cursor<'_>, spare: usize) -> Result<usize, ReadFault>
+fn count(at: GoalCursor<'_>, spare: usize) -> Result<usize, GoalFault>
     ensures { Counts spare result }
 {
     if spare == 0 {
-        return Err(ReadFault::Refused(at.refuses(Expected::FewerParts)));
+        return Err(GoalFault::Refused(at.refuses(ExpectedInGoal::FewerParts)));
     }
     Ok(spare - 1)
 }
 
 impl Operator {
     /// Whether its word is the one at hand.
-    fn is_at(self, at: Cursor<'_>) -> bool
+    fn is_at(self, at: GoalCursor<'_>) -> bool
         ensures { result ≡ begin_with (spec.word_of self) (left at.entry) }
     {
         match self {
@@ -82,13 +82,13 @@ fn both(alloc: Global, operator: Operator, left: Goal, right: Goal) -> Result<Go
 fn joined<'a>(
     alloc: Global,
     operator: Operator,
-    first: Part<'a>,
-    second: Part<'a>,
-) -> Result<Part<'a>, AllocError>
+    first: Prefix<'a>,
+    second: Prefix<'a>,
+) -> Result<Prefix<'a>, AllocError>
     ensures { IfOk result (Joins operator first.entry second.entry) }
 {
     let goal = both(alloc, operator, first.goal, second.goal)?;
-    Ok(Part {
+    Ok(Prefix {
         goal,
         at: second.at,
         spare: second.spare,
@@ -96,11 +96,11 @@ fn joined<'a>(
 }
 
 /// The negation of what was read.
-fn negated_part<'a>(alloc: Global, part: Part<'a>) -> Result<Part<'a>, AllocError>
+fn negated_part<'a>(alloc: Global, part: Prefix<'a>) -> Result<Prefix<'a>, AllocError>
     ensures { IfOk result (Negates part.entry) }
 {
     let goal = negated(alloc, part.goal)?;
-    Ok(Part {
+    Ok(Prefix {
         goal,
         at: part.at,
         spare: part.spare,
@@ -108,24 +108,24 @@ fn negated_part<'a>(alloc: Global, part: Part<'a>) -> Result<Part<'a>, AllocErro
 }
 
 /// What was read, with the bracket that closes it.
-fn closed(part: Part<'_>) -> Result<Part<'_>, ReadFault>
+fn closed(part: Prefix<'_>) -> Result<Prefix<'_>, GoalFault>
     ensures { Closes part.entry result }
 {
     if part.at.is_at(b")") {
-        Ok(Part {
+        Ok(Prefix {
             goal: part.goal,
             at: part.at.next(),
             spare: part.spare,
         })
     } else if part.at.is_end() || part.at.is_at(b"then") {
-        Err(ReadFault::Refused(part.at.refuses(Expected::ClosingBracket)))
+        Err(GoalFault::Refused(part.at.refuses(ExpectedInGoal::ClosingBracket)))
     } else {
-        Err(ReadFault::Refused(part.at.refuses(Expected::Operator)))
+        Err(GoalFault::Refused(part.at.refuses(ExpectedInGoal::Operator)))
     }
 }
 
 /// A fact.
-fn lone<'a>(names: Names<'a>, at: Cursor<'a>, spare: usize) -> Result<Part<'a>, ReadFault>
+fn lone<'a>(names: Names<'a>, at: GoalCursor<'a>, spare: usize) -> Result<Prefix<'a>, GoalFault>
     requires bracket { begin_with (codes "(") (left at) ≡ false }
     requires negation { begin_with (codes "not") (left at) ≡ false }
     ensures { Answers names.entry 2 (left at.entry) spare result }
@@ -133,13 +133,13 @@ fn lone<'a>(names: Names<'a>, at: Cursor<'a>, spare: usize) -> Result<Part<'a>, 
     match fact(names, at) {
         Ok((fact, end)) => {
             let spare = count(at, spare)?;
-            Ok(Part {
+            Ok(Prefix {
                 goal: Goal::Is(fact),
                 at: end,
                 spare,
             })
         }
-        Err(refusal) => Err(ReadFault::Refused(refusal)),
+        Err(refusal) => Err(GoalFault::Refused(refusal)),
     }
 }
 
@@ -148,9 +148,9 @@ fn lone<'a>(names: Names<'a>, at: Cursor<'a>, spare: usize) -> Result<Part<'a>, 
 fn negation<'a>(
     alloc: Global,
     names: Names<'a>,
-    at: Cursor<'a>,
+    at: GoalCursor<'a>,
     spare: usize,
-) -> Result<Part<'a>, ReadFault>
+) -> Result<Prefix<'a>, GoalFault>
     requires { begin_with (codes "not") (left at) ≡ true }
     ensures { Answers names.entry 2 (left at.entry) spare result }
 {
@@ -158,7 +158,7 @@ fn negation<'a>(
     let part = one(alloc, names, at.next(), spare)?;
     match negated_part(alloc, part) {
         Ok(part) => Ok(part),
-        Err(_) => Err(ReadFault::Memory),
+        Err(_) => Err(GoalFault::Memory),
     }
 }
 
@@ -167,9 +167,9 @@ fn negation<'a>(
 fn bracketed<'a>(
     alloc: Global,
     names: Names<'a>,
-    at: Cursor<'a>,
+    at: GoalCursor<'a>,
     spare: usize,
-) -> Result<Part<'a>, ReadFault>
+) -> Result<Prefix<'a>, GoalFault>
     requires { begin_with (codes "(") (left at) ≡ true }
     ensures { Answers names.entry 2 (left at.entry) spare result }
 {
@@ -183,9 +183,9 @@ fn bracketed<'a>(
 fn one<'a>(
     alloc: Global,
     names: Names<'a>,
-    at: Cursor<'a>,
+    at: GoalCursor<'a>,
     spare: usize,
-) -> Result<Part<'a>, ReadFault>
+) -> Result<Prefix<'a>, GoalFault>
     ensures { Answers names.entry 2 (left at.entry) spare result }
 {
     if at.is_at(b"(") {
@@ -203,9 +203,9 @@ fn operand<'a>(
     alloc: Global,
     names: Names<'a>,
     operator: Operator,
-    at: Cursor<'a>,
+    at: GoalCursor<'a>,
     spare: usize,
-) -> Result<Part<'a>, ReadFault>
+) -> Result<Prefix<'a>, GoalFault>
     ensures { Answers names.entry (suc (level_of operator)) (left at.entry) spare result }
 {
     match operator {
@@ -220,9 +220,9 @@ fn chain<'a>(
     alloc: Global,
     names: Names<'a>,
     operator: Operator,
-    at: Cursor<'a>,
+    at: GoalCursor<'a>,
     spare: usize,
-) -> Result<Part<'a>, ReadFault>
+) -> Result<Prefix<'a>, GoalFault>
     ensures { Answers names.entry (level_of operator) (left at.entry) spare result }
 {
     let first = operand(alloc, names, operator, at, spare)?;
@@ -235,8 +235,8 @@ fn more<'a>(
     alloc: Global,
     names: Names<'a>,
     operator: Operator,
-    first: Part<'a>,
-) -> Result<Part<'a>, ReadFault>
+    first: Prefix<'a>,
+) -> Result<Prefix<'a>, GoalFault>
     ensures { AnswersMore names.entry operator first.entry result }
 {
     if operator.is_at(first.at) {
@@ -244,7 +244,7 @@ fn more<'a>(
         let second = operand(alloc, names, operator, first.at.next(), spare)?;
         match joined(alloc, operator, first, second) {
             Ok(part) => more(alloc, names, operator, part),
-            Err(_) => Err(ReadFault::Memory),
+            Err(_) => Err(GoalFault::Memory),
         }
     } else {
         Ok(first)
@@ -255,8 +255,8 @@ fn more<'a>(
 pub fn expression<'a>(
     alloc: Global,
     names: Names<'a>,
-    at: Cursor<'a>,
-) -> Result<Part<'a>, ReadFault>
+    at: GoalCursor<'a>,
+) -> Result<Prefix<'a>, GoalFault>
     ensures { Answers names.entry 0 (left at.entry) spec.max_parts result }
 {
     chain(alloc, names, Operator::Or, at, MAX_PARTS)

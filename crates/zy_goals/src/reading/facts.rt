@@ -5,39 +5,39 @@ ghost use Rattle.zy_goals.specs.Cursors.{left, read};
 ghost use Rattle.zy_goals.specs.Phrases as spec;
 
 use crate::goal::{
-    Fact, LinkContent, MessagePattern, PagePlace, Reason, Selector, StateFact, TxnProperty,
+    AbortReason, Fact, LinkContent, MessagePattern, PagePlace, Selector, StateFact, TxnProperty,
 };
 use crate::names::Names;
-use crate::reading::cursor::Cursor;
+use crate::reading::cursor::GoalCursor;
 use crate::reading::numbers::{key, selector, txn};
 use crate::reading::terms::comparison;
 use crate::reading::{Parsed, words};
-use crate::refusal::Expected;
+use crate::refusal::ExpectedInGoal;
 use zy_isa::Node;
 use zy_model::Kind;
 use zy_text::names::is_numeral;
 
 /// What comes after `mode`: a node and a mode.
 #[tactic(auto, unfolding(crate::specs::Phrases::mode))]
-fn mode<'a>(at: Cursor<'a>) -> Parsed<'a, StateFact>
+fn mode<'a>(at: GoalCursor<'a>) -> Parsed<'a, StateFact>
     ensures { read result ≡ spec.mode (left at.entry) }
 {
-    let (node, at) = at.gives(words::node(at.word()), Expected::Node)?;
-    let (mode, at) = at.gives(words::mode(at.word()), Expected::Mode)?;
+    let (node, at) = at.gives(words::node(at.word()), ExpectedInGoal::Node)?;
+    let (mode, at) = at.gives(words::mode(at.word()), ExpectedInGoal::Mode)?;
     Ok((StateFact::Mode(node, mode), at))
 }
 
 /// What comes after `page P at`: a place.
-fn page_at<'a>(page: u16, at: Cursor<'a>) -> Parsed<'a, StateFact>
+fn page_at<'a>(page: u16, at: GoalCursor<'a>) -> Parsed<'a, StateFact>
     ensures { read result ≡ spec.page_at page (left at.entry) }
 {
-    let (place, at) = at.gives(words::place(at.word()), Expected::Place)?;
+    let (place, at) = at.gives(words::place(at.word()), ExpectedInGoal::Place)?;
     Ok((StateFact::Page(page, place), at))
 }
 
 /// What comes after `page P`.
 #[tactic(auto, unfolding(crate::specs::Phrases::of_page))]
-fn of_page<'a>(page: u16, at: Cursor<'a>) -> Parsed<'a, StateFact>
+fn of_page<'a>(page: u16, at: GoalCursor<'a>) -> Parsed<'a, StateFact>
     ensures { read result ≡ spec.of_page page (left at.entry) }
 {
     let next = at.next();
@@ -50,12 +50,12 @@ fn of_page<'a>(page: u16, at: Cursor<'a>) -> Parsed<'a, StateFact>
     } else if at.is_at(b"locked") {
         Ok((StateFact::Locked(page), next))
     } else {
-        Err(at.refuses(Expected::Place))
+        Err(at.refuses(ExpectedInGoal::Place))
     }
 }
 
 /// What comes after `page`.
-fn page<'a>(at: Cursor<'a>) -> Parsed<'a, StateFact>
+fn page<'a>(at: GoalCursor<'a>) -> Parsed<'a, StateFact>
     ensures { read result ≡ spec.page (left at.entry) }
 {
     let (page, at) = key(at)?;
@@ -64,19 +64,19 @@ fn page<'a>(at: Cursor<'a>) -> Parsed<'a, StateFact>
 
 /// The reason that may come after `aborted`: any reason, where none does.
 #[tactic(auto, unfolding(crate::specs::Phrases::reason_of))]
-pub fn reason<'a>(at: Cursor<'a>) -> (Reason, Cursor<'a>)
+pub fn reason<'a>(at: GoalCursor<'a>) -> (AbortReason, GoalCursor<'a>)
     ensures reason { result.0 ≡ (spec.reason_of (left at.entry)).0 }
     ensures rest { left result.1 ≡ (spec.reason_of (left at.entry)).1 }
 {
     match words::reason(at.word()) {
         Some(reason) => (reason, at.next()),
-        None => (Reason::Any, at),
+        None => (AbortReason::Any, at),
     }
 }
 
 /// What may come after `txn T committed`: `before` and a transaction.
 #[tactic(auto, unfolding(crate::specs::Phrases::committed))]
-fn committed<'a>(names: Names<'a>, selector: Selector, at: Cursor<'a>) -> Parsed<'a, StateFact>
+fn committed<'a>(names: Names<'a>, selector: Selector, at: GoalCursor<'a>) -> Parsed<'a, StateFact>
     ensures { read result ≡ spec.committed names.entry selector (left at.entry) }
 {
     if let Selector::One(earlier) = selector {
@@ -90,7 +90,7 @@ fn committed<'a>(names: Names<'a>, selector: Selector, at: Cursor<'a>) -> Parsed
 
 /// What comes after `txn T locks`: a page. It is said of one transaction alone; else `locks` is refused.
 #[tactic(auto, unfolding(crate::specs::Phrases::locks))]
-fn locks<'a>(selector: Selector, locks: Cursor<'a>) -> Parsed<'a, StateFact>
+fn locks<'a>(selector: Selector, locks: GoalCursor<'a>) -> Parsed<'a, StateFact>
     ensures { read result ≡ spec.locks selector (after (left locks.entry)) }
 {
     match selector {
@@ -98,12 +98,12 @@ fn locks<'a>(selector: Selector, locks: Cursor<'a>) -> Parsed<'a, StateFact>
             let (page, at) = key(locks.next())?;
             Ok((StateFact::LockedBy { txn, page }, at))
         }
-        _ => Err(locks.refuses(Expected::TxnProperty)),
+        _ => Err(locks.refuses(ExpectedInGoal::TxnProperty)),
     }
 }
 
 /// What comes after `txn T aborted`.
-fn aborted<'a>(selector: Selector, at: Cursor<'a>) -> Parsed<'a, StateFact>
+fn aborted<'a>(selector: Selector, at: GoalCursor<'a>) -> Parsed<'a, StateFact>
     ensures { read result ≡ spec.aborted selector (left at.entry) }
 {
     let (reason, at) = reason(at);
@@ -111,15 +111,15 @@ fn aborted<'a>(selector: Selector, at: Cursor<'a>) -> Parsed<'a, StateFact>
 }
 
 /// What comes after `txn T at`: a node.
-fn at_node<'a>(selector: Selector, at: Cursor<'a>) -> Parsed<'a, StateFact>
+fn at_node<'a>(selector: Selector, at: GoalCursor<'a>) -> Parsed<'a, StateFact>
     ensures { read result ≡ spec.at_node selector (left at.entry) }
 {
-    let (node, at) = at.gives(words::node(at.word()), Expected::Node)?;
+    let (node, at) = at.gives(words::node(at.word()), ExpectedInGoal::Node)?;
     Ok((StateFact::Txns(selector, TxnProperty::At(node)), at))
 }
 
 /// What comes after `txn T wrote`: a key.
-fn wrote<'a>(selector: Selector, at: Cursor<'a>) -> Parsed<'a, StateFact>
+fn wrote<'a>(selector: Selector, at: GoalCursor<'a>) -> Parsed<'a, StateFact>
     ensures { read result ≡ spec.wrote selector (left at.entry) }
 {
     let (key, at) = key(at)?;
@@ -128,7 +128,7 @@ fn wrote<'a>(selector: Selector, at: Cursor<'a>) -> Parsed<'a, StateFact>
 
 /// What comes after `txn T`, `txn any` or `txn all`.
 #[tactic(auto, unfolding(crate::specs::Phrases::of_txns))]
-fn of_txns<'a>(names: Names<'a>, selector: Selector, at: Cursor<'a>) -> Parsed<'a, StateFact>
+fn of_txns<'a>(names: Names<'a>, selector: Selector, at: GoalCursor<'a>) -> Parsed<'a, StateFact>
     ensures { read result ≡ spec.of_txns names.entry selector (left at.entry) }
 {
     let next = at.next();
@@ -147,12 +147,12 @@ fn of_txns<'a>(names: Names<'a>, selector: Selector, at: Cursor<'a>) -> Parsed<'
     } else if at.is_at(b"locks") {
         locks(selector, at)
     } else {
-        Err(at.refuses(Expected::TxnProperty))
+        Err(at.refuses(ExpectedInGoal::TxnProperty))
     }
 }
 
 /// What comes after `txn`.
-fn txns<'a>(names: Names<'a>, at: Cursor<'a>) -> Parsed<'a, StateFact>
+fn txns<'a>(names: Names<'a>, at: GoalCursor<'a>) -> Parsed<'a, StateFact>
     ensures { read result ≡ spec.txns names.entry (left at.entry) }
 {
     let (selector, at) = selector(names, at)?;
@@ -160,7 +160,7 @@ fn txns<'a>(names: Names<'a>, at: Cursor<'a>) -> Parsed<'a, StateFact>
 }
 
 /// A request for the page of this number.
-fn pull_of<'a>(at: Cursor<'a>) -> Parsed<'a, MessagePattern>
+fn pull_of<'a>(at: GoalCursor<'a>) -> Parsed<'a, MessagePattern>
     ensures { read result ≡ spec.pull_of (left at.entry) }
 {
     let (page, at) = key(at)?;
@@ -168,7 +168,7 @@ fn pull_of<'a>(at: Cursor<'a>) -> Parsed<'a, MessagePattern>
 }
 
 /// The page of this number.
-fn page_of<'a>(at: Cursor<'a>) -> Parsed<'a, MessagePattern>
+fn page_of<'a>(at: GoalCursor<'a>) -> Parsed<'a, MessagePattern>
     ensures { read result ≡ spec.page_of (left at.entry) }
 {
     let (page, at) = key(at)?;
@@ -177,7 +177,7 @@ fn page_of<'a>(at: Cursor<'a>) -> Parsed<'a, MessagePattern>
 
 /// After `has pull` and `has page` the number of the page, if one follows.
 #[tactic(auto, unfolding(crate::specs::Phrases::numbered))]
-fn numbered<'a>(kind: Kind, at: Cursor<'a>) -> Parsed<'a, MessagePattern>
+fn numbered<'a>(kind: Kind, at: GoalCursor<'a>) -> Parsed<'a, MessagePattern>
     ensures { read result ≡ spec.numbered kind (left at.entry) }
 {
     let is_numbered = is_numeral(at.word());
@@ -190,15 +190,15 @@ fn numbered<'a>(kind: Kind, at: Cursor<'a>) -> Parsed<'a, MessagePattern>
 
 /// What comes after `link L has`: a kind of message, and after `pull` or `page` the number of the page, if one follows.
 #[tactic(auto, unfolding(crate::specs::Phrases::message))]
-fn message<'a>(at: Cursor<'a>) -> Parsed<'a, MessagePattern>
+fn message<'a>(at: GoalCursor<'a>) -> Parsed<'a, MessagePattern>
     ensures { read result ≡ spec.message (left at.entry) }
 {
-    let (kind, at) = at.gives(words::kind(at.word()), Expected::LinkContent)?;
+    let (kind, at) = at.gives(words::kind(at.word()), ExpectedInGoal::LinkContent)?;
     numbered(kind, at)
 }
 
 /// A link that has a message.
-fn link_has<'a>(from: Node, at: Cursor<'a>) -> Parsed<'a, StateFact>
+fn link_has<'a>(from: Node, at: GoalCursor<'a>) -> Parsed<'a, StateFact>
     ensures { read result ≡ spec.link_has from (left at.entry) }
 {
     let (pattern, at) = message(at)?;
@@ -207,7 +207,7 @@ fn link_has<'a>(from: Node, at: Cursor<'a>) -> Parsed<'a, StateFact>
 
 /// What comes after `link L`.
 #[tactic(auto, unfolding(crate::specs::Phrases::of_link))]
-fn of_link<'a>(from: Node, at: Cursor<'a>) -> Parsed<'a, StateFact>
+fn of_link<'a>(from: Node, at: GoalCursor<'a>) -> Parsed<'a, StateFact>
     ensures { read result ≡ spec.of_link from (left at.entry) }
 {
     if at.is_at(b"empty") {
@@ -215,21 +215,21 @@ fn of_link<'a>(from: Node, at: Cursor<'a>) -> Parsed<'a, StateFact>
     } else if at.is_at(b"has") {
         link_has(from, at.next())
     } else {
-        Err(at.refuses(Expected::LinkContent))
+        Err(at.refuses(ExpectedInGoal::LinkContent))
     }
 }
 
 /// What comes after `link`.
-fn link<'a>(at: Cursor<'a>) -> Parsed<'a, StateFact>
+fn link<'a>(at: GoalCursor<'a>) -> Parsed<'a, StateFact>
     ensures { read result ≡ spec.link (left at.entry) }
 {
-    let (from, at) = at.gives(words::link(at.word()), Expected::Link)?;
+    let (from, at) = at.gives(words::link(at.word()), ExpectedInGoal::Link)?;
     of_link(from, at)
 }
 
 /// A fact of the state of several words.
 #[tactic(auto, unfolding(crate::specs::Phrases::state_fact_of))]
-fn state_fact<'a>(names: Names<'a>, at: Cursor<'a>) -> Parsed<'a, StateFact>
+fn state_fact<'a>(names: Names<'a>, at: GoalCursor<'a>) -> Parsed<'a, StateFact>
     ensures { read result ≡ spec.state_fact_of names.entry (left at.entry) }
 {
     let next = at.next();
@@ -248,7 +248,7 @@ fn state_fact<'a>(names: Names<'a>, at: Cursor<'a>) -> Parsed<'a, StateFact>
 
 /// The fact that begins with the word at hand.
 #[tactic(auto, unfolding(crate::specs::Phrases::fact_of))]
-pub fn fact<'a>(names: Names<'a>, at: Cursor<'a>) -> Parsed<'a, Fact>
+pub fn fact<'a>(names: Names<'a>, at: GoalCursor<'a>) -> Parsed<'a, Fact>
     ensures { read result ≡ spec.fact_of names.entry (left at.entry) }
 {
     if let Some(fact) = words::lone_fact(at.word()) {

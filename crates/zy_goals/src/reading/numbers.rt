@@ -7,8 +7,8 @@ ghost use Rattle.zy_goals.specs.Vocabulary as spec;
 use crate::goal::Selector;
 use crate::names::{MAX_TXN, Names};
 use crate::reading::Parsed;
-use crate::reading::cursor::Cursor;
-use crate::refusal::Expected;
+use crate::reading::cursor::GoalCursor;
+use crate::refusal::ExpectedInGoal;
 use zy_text::names::{is, is_name, is_numeral};
 use zy_text::numbers::number_of;
 
@@ -30,12 +30,12 @@ fn number_to(most: u64, word: &[u8]) -> Option<u64>
 }
 
 /// The number that the word is.
-pub fn number<'a>(at: Cursor<'a>) -> Parsed<'a, u64>
+pub fn number<'a>(at: GoalCursor<'a>) -> Parsed<'a, u64>
     ensures { read result ≡ one spec.number (left at.entry) }
 {
     at.gives(
         number_to(MAX_NUMBER, at.word()),
-        Expected::Number(MAX_NUMBER),
+        ExpectedInGoal::Number(MAX_NUMBER),
     )
 }
 
@@ -57,10 +57,10 @@ fn key_of(word: &[u8]) -> Option<u16>
 }
 
 /// The key, or the number of a page, that the word is.
-pub fn key<'a>(at: Cursor<'a>) -> Parsed<'a, u16>
+pub fn key<'a>(at: GoalCursor<'a>) -> Parsed<'a, u16>
     ensures { read result ≡ one spec.key (left at.entry) }
 {
-    at.gives(key_of(at.word()), Expected::Number(MAX_KEY))
+    at.gives(key_of(at.word()), ExpectedInGoal::Number(MAX_KEY))
 }
 
 /// Whether a word has the form of a transaction's name. `any` and `all` stand for several transactions.
@@ -89,13 +89,16 @@ fn txn_number(word: &[u8]) -> Option<u8>
 
 /// The number of the transaction that the word names, by its number or by its name.
 #[tactic(auto, unfolding(crate::specs::Vocabulary::txn))]
-pub fn txn<'a>(names: Names<'a>, at: Cursor<'a>) -> Parsed<'a, u8>
+pub fn txn<'a>(names: Names<'a>, at: GoalCursor<'a>) -> Parsed<'a, u8>
     ensures { read result ≡ one (spec.txn names.entry) (left at.entry) }
 {
     if is_txn_name(at.word()) {
-        at.gives(names.number_of(at.word()), Expected::KnownName)
+        at.gives(names.number_of(at.word()), ExpectedInGoal::KnownName)
     } else {
-        at.gives(txn_number(at.word()), Expected::Number(u64::from(MAX_TXN)))
+        at.gives(
+            txn_number(at.word()),
+            ExpectedInGoal::Number(u64::from(MAX_TXN)),
+        )
     }
 }
 
@@ -115,13 +118,13 @@ fn several(word: &[u8]) -> Option<Selector>
 
 /// The transactions that the word selects.
 #[tactic(auto, unfolding(crate::specs::Vocabulary::selected))]
-pub fn selector<'a>(names: Names<'a>, at: Cursor<'a>) -> Parsed<'a, Selector>
+pub fn selector<'a>(names: Names<'a>, at: GoalCursor<'a>) -> Parsed<'a, Selector>
     ensures { read result ≡ one (spec.selected names.entry) (left at.entry) }
 {
     if is_numeral(at.word()) || is_txn_name(at.word()) {
         let (txn, at) = txn(names, at)?;
         Ok((Selector::One(txn), at))
     } else {
-        at.gives(several(at.word()), Expected::Selector)
+        at.gives(several(at.word()), ExpectedInGoal::Selector)
     }
 }

@@ -2,7 +2,7 @@
 ghost use Rattle.std.specs.Prelude.{◌≡◌};
 ghost use Rattle.zy_goals.specs.Vocabulary as spec;
 
-use crate::goal::{Comparison, Fact, PagePlace, Reason, Selector, StateFact, TxnProperty};
+use crate::goal::{AbortReason, Comparison, Fact, PagePlace, Selector, StateFact, TxnProperty};
 use crate::outcomes::OutcomeKind;
 use zy_isa::Node;
 use zy_model::{Kind, NodeMode};
@@ -71,18 +71,18 @@ pub fn place(word: &[u8]) -> Option<PagePlace>
 
 /// The reasons of aborts.
 #[tactic(auto, unfolding(crate::specs::Vocabulary::why))]
-pub fn reason(word: &[u8]) -> Option<Reason>
+pub fn reason(word: &[u8]) -> Option<AbortReason>
     ensures { result ≡ spec.why word.now }
 {
     stands_for! { word;
-        b"own" => Reason::Own,
-        b"killed" => Reason::Killed,
-        b"badkey" => Reason::BadKey,
-        b"missing" => Reason::Missing,
-        b"duplicate" => Reason::Duplicate,
-        b"frozen" => Reason::Frozen,
-        b"nopage" => Reason::NoPage,
-        b"gone" => Reason::Gone,
+        b"own" => AbortReason::Own,
+        b"killed" => AbortReason::Killed,
+        b"badkey" => AbortReason::BadKey,
+        b"missing" => AbortReason::Missing,
+        b"duplicate" => AbortReason::Duplicate,
+        b"frozen" => AbortReason::Frozen,
+        b"nopage" => AbortReason::NoPage,
+        b"gone" => AbortReason::Gone,
     }
 }
 
@@ -135,7 +135,7 @@ pub fn sign(word: &[u8]) -> Option<Comparison>
 }
 
 /// A transaction is aborted for this reason.
-fn aborted(reason: Reason) -> Fact
+fn aborted(reason: AbortReason) -> Fact
     ensures { result ≡ spec.aborted reason }
 {
     Fact::OfState(StateFact::Txns(Selector::Any, TxnProperty::Aborted(reason)))
@@ -151,7 +151,7 @@ pub fn lone_fact(word: &[u8]) -> Option<Fact>
         b"stuck" => Fact::Stuck,
         b"deadlock" => Fact::Deadlock,
         b"committed" => Fact::OfState(StateFact::Txns(Selector::All, TxnProperty::Committed)),
-        b"aborted" => aborted(Reason::Any),
+        b"aborted" => aborted(AbortReason::Any),
         else match reason(word) {
             Some(reason) => Some(aborted(reason)),
             None => None,

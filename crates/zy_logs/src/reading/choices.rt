@@ -4,14 +4,14 @@ ghost use Rattle.zy_isa.specs.Limits.{max_txns};
 ghost use Rattle.zy_logs.specs.Cursors.{left, read};
 ghost use Rattle.zy_logs.specs.Lines as spec;
 
-use crate::expected::Expected;
-use crate::reading::cursor::{Cursor, Parsed};
+use crate::expected::ExpectedInLog;
+use crate::reading::cursor::{LogCursor, Parsed};
 use crate::reading::parts::txn;
 use crate::txns::Txns;
 use zy_isa::{Choice, Node};
 
 /// A choice of the client, after `C`.
-fn client_choice<'a>(txns: Txns<'a>, at: Cursor<'a>) -> Parsed<'a, Choice>
+fn client_choice<'a>(txns: Txns<'a>, at: LogCursor<'a>) -> Parsed<'a, Choice>
     requires { txns.count ≤ max_txns }
     ensures { read result ≡ spec.client_choice txns.entry (left at.entry) }
 {
@@ -24,12 +24,12 @@ fn client_choice<'a>(txns: Txns<'a>, at: Cursor<'a>) -> Parsed<'a, Choice>
         let (txn, at) = txn(txns, at.next())?;
         Ok((Choice::Kill(txn), at))
     } else {
-        Err(at.refuses(Expected::ClientAction))
+        Err(at.refuses(ExpectedInLog::ClientAction))
     }
 }
 
 /// A choice of a node, after its name.
-fn node_choice<'a>(txns: Txns<'a>, node: Node, at: Cursor<'a>) -> Parsed<'a, Choice>
+fn node_choice<'a>(txns: Txns<'a>, node: Node, at: LogCursor<'a>) -> Parsed<'a, Choice>
     requires { txns.count ≤ max_txns }
     ensures { read result ≡ spec.node_choice txns.entry node (left at.entry) }
 {
@@ -43,12 +43,12 @@ fn node_choice<'a>(txns: Txns<'a>, node: Node, at: Cursor<'a>) -> Parsed<'a, Cho
     } else if at.is_at(b"push") {
         Ok((Choice::Push(node), at.next()))
     } else {
-        Err(at.refuses(Expected::NodeAction))
+        Err(at.refuses(ExpectedInLog::NodeAction))
     }
 }
 
 /// The choice that begins with the word at hand.
-pub fn choice<'a>(txns: Txns<'a>, at: Cursor<'a>) -> Parsed<'a, Choice>
+pub fn choice<'a>(txns: Txns<'a>, at: LogCursor<'a>) -> Parsed<'a, Choice>
     requires { txns.count ≤ max_txns }
     ensures { read result ≡ spec.choice_of txns.entry (left at.entry) }
 {
@@ -59,6 +59,6 @@ pub fn choice<'a>(txns: Txns<'a>, at: Cursor<'a>) -> Parsed<'a, Choice>
     } else if at.is_at(b"B") {
         node_choice(txns, Node::B, at.next())
     } else {
-        Err(at.refuses(Expected::Actor))
+        Err(at.refuses(ExpectedInLog::Actor))
     }
 }

@@ -4,40 +4,40 @@ ghost use Rattle.zy_text.specs.Lines.{texts};
 ghost use Rattle.zy_logs.specs.Words as spec;
 ghost use Rattle.zy_logs.specs.Cursors.{left, read};
 
-use crate::expected::Expected;
+use crate::expected::ExpectedInLog;
 use zy_text::names::is;
 
 /// How many words are left at one that does not fit, with it, and what may stand in its place.
 #[derive(Clone, Copy)]
-pub struct Stop {
+pub struct Misfit {
     pub left: usize,
-    pub expected: Expected,
+    pub expected: ExpectedInLog,
 }
 
 /// What the words at hand spell, and the words after them.
-pub type Parsed<'a, T> = Result<(T, Cursor<'a>), Stop>;
+pub type Parsed<'a, T> = Result<(T, LogCursor<'a>), Misfit>;
 
 /// The words that are left. Behind the last word comes the empty one, again and again.
 #[derive(Clone, Copy)]
-pub struct Cursor<'a> {
+pub struct LogCursor<'a> {
     words: &'a [&'a [u8]],
 }
 
-impl<'a> Cursor<'a> {
+impl<'a> LogCursor<'a> {
     /// At the first of some words.
-    pub fn new(words: &'a [&'a [u8]]) -> Cursor<'a>
+    pub fn new(words: &'a [&'a [u8]]) -> LogCursor<'a>
         ensures { left result ≡ texts words.entry.now }
     {
-        Cursor { words }
+        LogCursor { words }
     }
 
     /// At the next word.
-    pub fn next(self) -> Cursor<'a>
+    pub fn next(self) -> LogCursor<'a>
         ensures { left result ≡ spec.after (left self.entry) }
     {
         match self.words {
             [] => self,
-            [_, words @ ..] => Cursor { words },
+            [_, words @ ..] => LogCursor { words },
         }
     }
 
@@ -73,17 +73,17 @@ impl<'a> Cursor<'a> {
     }
 
     /// The refusal of the word, with what may stand in its place.
-    pub fn refuses(self, expected: Expected) -> Stop
+    pub fn refuses(self, expected: ExpectedInLog) -> Misfit
         ensures { result ≡ spec.stop expected (left self.entry) }
     {
-        Stop {
+        Misfit {
             left: self.words.len(),
             expected,
         }
     }
 
     /// What the word was found to stand for; it is refused where nothing was found.
-    pub fn gives<T: Copy>(self, found: Option<T>, expected: Expected) -> Parsed<'a, T>
+    pub fn gives<T: Copy>(self, found: Option<T>, expected: ExpectedInLog) -> Parsed<'a, T>
         ensures { read result ≡ spec.gives found expected (left self.entry) }
     {
         match found {

@@ -4,8 +4,8 @@ ghost use Rattle.zy_isa.specs.Limits.{max_txns};
 ghost use Rattle.zy_logs.specs.Cursors.{left, read};
 ghost use Rattle.zy_logs.specs.Lines as spec;
 
-use crate::expected::Expected;
-use crate::reading::cursor::{Cursor, Parsed};
+use crate::expected::ExpectedInLog;
+use crate::reading::cursor::{LogCursor, Parsed};
 use crate::reading::parts::{
     node_or_none, page_or_none, place_or_none, reason_or_none, txn_or_none,
 };
@@ -22,7 +22,7 @@ macro_rules! with {
 }
 
 /// What comes after `split`: the page, the new page and the boundary, of which the last ones may be left out.
-fn split<'a>(at: Cursor<'a>) -> Parsed<'a, Told>
+fn split<'a>(at: LogCursor<'a>) -> Parsed<'a, Told>
     ensures { read result ≡ spec.split (left at.entry) }
 {
     let (page, at) = page_or_none(at)?;
@@ -38,7 +38,7 @@ fn split<'a>(at: Cursor<'a>) -> Parsed<'a, Told>
 
 /// What comes after `got`: the kind of the message that was taken.
 #[tactic(auto, unfolding(crate::specs::Lines::got))]
-fn got<'a>(at: Cursor<'a>) -> Parsed<'a, Told>
+fn got<'a>(at: LogCursor<'a>) -> Parsed<'a, Told>
     ensures { read result ≡ spec.got (left at.entry) }
 {
     if at.is_at(b"pull") {
@@ -46,13 +46,13 @@ fn got<'a>(at: Cursor<'a>) -> Parsed<'a, Told>
     } else if at.is_at(b"page") {
         with!(GotPage, page_or_none(at.next()))
     } else {
-        at.gives(lone_got(at.word()), Expected::Got)
+        at.gives(lone_got(at.word()), ExpectedInLog::Got)
     }
 }
 
 /// An outcome with a page, or of one word.
 #[tactic(auto, unfolding(crate::specs::Lines::paged))]
-fn paged<'a>(at: Cursor<'a>) -> Parsed<'a, Told>
+fn paged<'a>(at: LogCursor<'a>) -> Parsed<'a, Told>
     ensures { read result ≡ spec.paged (left at.entry) }
 {
     if at.is_at(b"waits") {
@@ -68,13 +68,13 @@ fn paged<'a>(at: Cursor<'a>) -> Parsed<'a, Told>
     } else if at.is_at(b"pushed") {
         with!(Pushed, page_or_none(at.next()))
     } else {
-        at.gives(lone_outcome(at.word()), Expected::Outcome)
+        at.gives(lone_outcome(at.word()), ExpectedInLog::Outcome)
     }
 }
 
 /// The outcome that begins with the word at hand.
 #[tactic(auto, unfolding(crate::specs::Lines::outcome_of))]
-pub fn outcome<'a>(txns: Txns<'a>, at: Cursor<'a>) -> Parsed<'a, Told>
+pub fn outcome<'a>(txns: Txns<'a>, at: LogCursor<'a>) -> Parsed<'a, Told>
     requires { txns.count ≤ max_txns }
     ensures { read result ≡ spec.outcome_of txns.entry (left at.entry) }
 {

@@ -5,10 +5,10 @@ ghost use Rattle.zy_logs.specs.Cursors.{left, read};
 ghost use Rattle.zy_logs.specs.Parts as spec;
 ghost use Rattle.zy_logs.specs.Parts.{or_none};
 
-use crate::expected::Expected;
-use crate::reading::cursor::{Cursor, Parsed};
+use crate::expected::ExpectedInLog;
+use crate::reading::cursor::{LogCursor, Parsed};
 use crate::reading::words::{lone_reason, node};
-use crate::told::Reason;
+use crate::told::LoggedReason;
 use crate::txns::Txns;
 use zy_isa::Node;
 use zy_text::names::{is_name, is_numeral};
@@ -21,20 +21,20 @@ const MAX_PAGE: u64 = 65535;
 const MAX_PLACE: u64 = 64;
 
 /// A number that is not above `most`.
-fn number<'a>(most: u64, at: Cursor<'a>) -> Parsed<'a, u64>
+fn number<'a>(most: u64, at: LogCursor<'a>) -> Parsed<'a, u64>
     ensures value { read result ≡ spec.number most (left at.entry) }
     ensures few { IfOk result (λ n. n.0 ≤ most) }
 {
-    let (number, next) = at.gives(number_of(at.word()), Expected::Number)?;
+    let (number, next) = at.gives(number_of(at.word()), ExpectedInLog::Number)?;
     if number <= most {
         Ok((number, next))
     } else {
-        Err(at.refuses(Expected::AtMost(most)))
+        Err(at.refuses(ExpectedInLog::AtMost(most)))
     }
 }
 
 /// The number of a page, or a key.
-fn page<'a>(at: Cursor<'a>) -> Parsed<'a, u16>
+fn page<'a>(at: LogCursor<'a>) -> Parsed<'a, u16>
     ensures { read result ≡ spec.page (left at.entry) }
 {
     let (number, at) = number(MAX_PAGE, at)?;
@@ -42,7 +42,7 @@ fn page<'a>(at: Cursor<'a>) -> Parsed<'a, u16>
 }
 
 /// A place in commit order.
-fn place<'a>(at: Cursor<'a>) -> Parsed<'a, u8>
+fn place<'a>(at: LogCursor<'a>) -> Parsed<'a, u8>
     ensures { read result ≡ spec.place (left at.entry) }
 {
     let (number, at) = number(MAX_PLACE, at)?;
@@ -50,34 +50,34 @@ fn place<'a>(at: Cursor<'a>) -> Parsed<'a, u8>
 }
 
 /// A transaction by its number, where there are `count`.
-fn numbered<'a>(count: usize, at: Cursor<'a>) -> Parsed<'a, u8>
+fn numbered<'a>(count: usize, at: LogCursor<'a>) -> Parsed<'a, u8>
     requires { count ≤ max_txns }
     ensures { read result ≡ spec.numbered count (left at.entry) }
 {
-    let (number, next) = at.gives(number_of(at.word()), Expected::Number)?;
+    let (number, next) = at.gives(number_of(at.word()), ExpectedInLog::Number)?;
     if number < count as u64 {
         Ok((number as u8, next))
     } else {
-        Err(at.refuses(Expected::KnownTxn))
+        Err(at.refuses(ExpectedInLog::KnownTxn))
     }
 }
 
 /// A transaction by its number or its name.
-pub fn txn<'a>(txns: Txns<'a>, at: Cursor<'a>) -> Parsed<'a, u8>
+pub fn txn<'a>(txns: Txns<'a>, at: LogCursor<'a>) -> Parsed<'a, u8>
     requires { txns.count ≤ max_txns }
     ensures { read result ≡ spec.txn txns.entry (left at.entry) }
 {
     if is_numeral(at.word()) {
         numbered(txns.count, at)
     } else if is_name(at.word()) {
-        at.gives(txns.named(at.word()), Expected::KnownTxn)
+        at.gives(txns.named(at.word()), ExpectedInLog::KnownTxn)
     } else {
-        Err(at.refuses(Expected::Txn))
+        Err(at.refuses(ExpectedInLog::Txn))
     }
 }
 
 /// The number of a page, or a key, if it is there.
-pub fn page_or_none<'a>(at: Cursor<'a>) -> Parsed<'a, Option<u16>>
+pub fn page_or_none<'a>(at: LogCursor<'a>) -> Parsed<'a, Option<u16>>
     ensures { read result ≡ or_none spec.page (left at.entry) }
 {
     if at.ends_outcome() {
@@ -88,7 +88,7 @@ pub fn page_or_none<'a>(at: Cursor<'a>) -> Parsed<'a, Option<u16>>
 }
 
 /// A place in commit order, if it is there.
-pub fn place_or_none<'a>(at: Cursor<'a>) -> Parsed<'a, Option<u8>>
+pub fn place_or_none<'a>(at: LogCursor<'a>) -> Parsed<'a, Option<u8>>
     ensures { read result ≡ or_none spec.place (left at.entry) }
 {
     if at.ends_outcome() {
@@ -99,7 +99,7 @@ pub fn place_or_none<'a>(at: Cursor<'a>) -> Parsed<'a, Option<u8>>
 }
 
 /// A transaction, if it is there.
-pub fn txn_or_none<'a>(txns: Txns<'a>, at: Cursor<'a>) -> Parsed<'a, Option<u8>>
+pub fn txn_or_none<'a>(txns: Txns<'a>, at: LogCursor<'a>) -> Parsed<'a, Option<u8>>
     requires { txns.count ≤ max_txns }
     ensures { read result ≡ or_none (spec.txn txns.entry) (left at.entry) }
 {
@@ -111,33 +111,33 @@ pub fn txn_or_none<'a>(txns: Txns<'a>, at: Cursor<'a>) -> Parsed<'a, Option<u8>>
 }
 
 /// A node, if it is there.
-pub fn node_or_none<'a>(at: Cursor<'a>) -> Parsed<'a, Option<Node>>
+pub fn node_or_none<'a>(at: LogCursor<'a>) -> Parsed<'a, Option<Node>>
     ensures { read result ≡ or_none spec.node_at (left at.entry) }
 {
     if at.ends_outcome() {
         return Ok((None, at));
     }
-    let (node, at) = at.gives(node(at.word()), Expected::Node)?;
+    let (node, at) = at.gives(node(at.word()), ExpectedInLog::Node)?;
     Ok((Some(node), at))
 }
 
 /// The reason of an abort.
-fn reason<'a>(at: Cursor<'a>) -> Parsed<'a, Reason>
+fn reason<'a>(at: LogCursor<'a>) -> Parsed<'a, LoggedReason>
     ensures { read result ≡ spec.reason (left at.entry) }
 {
     if at.is_at(b"frozen") {
         let (page, at) = page_or_none(at.next())?;
-        Ok((Reason::Frozen(page), at))
+        Ok((LoggedReason::Frozen(page), at))
     } else if at.is_at(b"gone") {
         let (page, at) = page_or_none(at.next())?;
-        Ok((Reason::Gone(page), at))
+        Ok((LoggedReason::Gone(page), at))
     } else {
-        at.gives(lone_reason(at.word()), Expected::Reason)
+        at.gives(lone_reason(at.word()), ExpectedInLog::Reason)
     }
 }
 
 /// The reason of an abort, if it is there.
-pub fn reason_or_none<'a>(at: Cursor<'a>) -> Parsed<'a, Option<Reason>>
+pub fn reason_or_none<'a>(at: LogCursor<'a>) -> Parsed<'a, Option<LoggedReason>>
     ensures { read result ≡ or_none spec.reason (left at.entry) }
 {
     if at.ends_outcome() {

@@ -2,7 +2,7 @@
 ghost use Rattle.std.specs.Prelude.{◌≡◌};
 ghost use Rattle.zy_logs.specs.Vocabulary as spec;
 
-use crate::told::{Reason, Told};
+use crate::told::{LoggedReason, Told};
 use zy_isa::Node;
 use zy_model::Kind;
 use zy_text::names::is;
@@ -44,16 +44,16 @@ pub fn kind(word: &[u8]) -> Option<Kind>
 
 /// The reasons of aborts that are one word.
 #[tactic(auto, unfolding(crate::specs::Vocabulary::lone_reason))]
-pub fn lone_reason(word: &[u8]) -> Option<Reason>
+pub fn lone_reason(word: &[u8]) -> Option<LoggedReason>
     ensures { result ≡ spec.lone_reason word.now }
 {
     stands_for! { word;
-        b"own" => Reason::Own,
-        b"killed" => Reason::Killed,
-        b"badkey" => Reason::BadKey,
-        b"missing" => Reason::Missing,
-        b"duplicate" => Reason::Duplicate,
-        b"nopage" => Reason::NoPage,
+        b"own" => LoggedReason::Own,
+        b"killed" => LoggedReason::Killed,
+        b"badkey" => LoggedReason::BadKey,
+        b"missing" => LoggedReason::Missing,
+        b"duplicate" => LoggedReason::Duplicate,
+        b"nopage" => LoggedReason::NoPage,
     }
 }
 

@@ -2,7 +2,7 @@
 use Rattle.std.proofs.Common.{[], Ok, Err, refl}
 use Rattle.std.proofs.lemmas.Result.{err_from_is_err_and}
 use Rattle.zy_isa.specs.Scenario.{Scenario}
-use Rattle.zy_search.specs.declared.answer.Answer.TheVariants.{Spent}
+use Rattle.zy_search.specs.declared.answer.SearchAnswer.TheVariants.{Spent}
 use Rattle.zy_search.specs.Searches.{IsAnswer, IsDue}
 use Rattle.zy_engine.specs.Engines.{streams}
 use Rattle.zy_engine.specs.Searching.{history_of, taken, IsTextOf}

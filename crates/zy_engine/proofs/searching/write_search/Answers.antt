@@ -5,7 +5,7 @@ use Rattle.zy_io.specs.Writing.{Wrote}
 use Rattle.zy_machine.specs.Histories.{History}
 use Rattle.zy_isa.specs.Scenario.{Scenario}
 use Rattle.zy_isa.specs.declared.choice.Choice.{Choice}
-use Rattle.zy_search.specs.declared.answer.Report.{Report}
+use Rattle.zy_search.specs.declared.answer.SearchReport.{SearchReport}
 use Rattle.zy_search.specs.Searches.{IsAnswer, IsDue}
 use Rattle.zy_engine.proofs.SearchLemmas.{nothing_searched, taken-few, wrote_err, wrote_first}
 use Rattle.zy_engine.proofs.searching.write_search.Goals as goal
@@ -44,7 +44,7 @@ returns-in_err-write_answer g c =
       is = subst (λ (h : History). IsAnswer h c.args.sought report.answer) c.in_ok-machine.ensures c.in_ok-report.ensures.answer;
       returned = tt;
       due = tt;
-      wrote = record { text = wrote.text; is = wrote.is; wrote = wrote_err Report before behind failures after fault wrote.text wrote.wrote };
+      wrote = record { text = wrote.text; is = wrote.is; wrote = wrote_err SearchReport before behind failures after fault wrote.text wrote.wrote };
     })
 
 pub returns : goal.returns

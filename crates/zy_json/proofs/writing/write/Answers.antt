@@ -3,7 +3,7 @@ use Rattle.std.specs.Option.{option_copied}
 use Rattle.std.specs.Str.{IsUtf8}
 use Rattle.json.specs.Print.{print}
 use Rattle.json.specs.Token as token
-use Rattle.zy_json.specs.declared.field.Field.TheVariants as field
+use Rattle.zy_json.specs.declared.field.Member.TheVariants as field
 use Rattle.zy_json.specs.Meaning.{Tells}
 use Rattle.zy_json.specs.Steps.{step_of, actor_text}
 use Rattle.zy_json.specs.Written.{field_tokens, some_tokens, json_text}

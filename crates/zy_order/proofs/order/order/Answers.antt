@@ -1,6 +1,6 @@
 -- What is answered of the plan is answered of the lines.
 use Rattle.std.proofs.lemmas.Result.{IfOk-weaker}
-use Rattle.zy_order.specs.declared.answer.Report.{Report}
+use Rattle.zy_order.specs.declared.answer.OrderReport.{OrderReport}
 use Rattle.zy_order.specs.Answers.{IsAnswer}
 use Rattle.zy_order.specs.Reaches.{AnswersFor}
 use Rattle.zy_order.proofs.AnswerLemmas.{answers}
@@ -9,5 +9,5 @@ use Rattle.zy_order.proofs.order.order.Goals as goal
 pub returns : goal.returns
 returns c =
     let p = c.in_ok-plan.plan in
-    IfOk-weaker c.report.result (λ (r : Report). AnswersFor p r.answer) (λ (r : Report). IsAnswer c.args.start.now c.args.lines.now r.answer)
+    IfOk-weaker c.report.result (λ (r : OrderReport). AnswersFor p r.answer) (λ (r : OrderReport). IsAnswer c.args.start.now c.args.lines.now r.answer)
     (λ r a. answers p c.args.start.now c.args.lines.now r.answer c.in_ok-plan.ensures.start c.in_ok-plan.ensures.logs a) c.report.ensures

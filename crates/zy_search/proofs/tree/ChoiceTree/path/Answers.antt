@@ -1,7 +1,7 @@
 use Rattle.std.proofs.Common.{◌≡◌, ◌+◌, ◌-◌, ◌<◌, length, arith, sym, [], ◌∷◌, append-nil}
 use Rattle.zy_search.specs.Paths.{paths_of}
 use Rattle.zy_search.proofs.PathLemmas.{length-grown, rooted_at, path_at, path_none, walked}
-use Rattle.zy_search.proofs.tree.Tree.path.Goals as goal
+use Rattle.zy_search.proofs.tree.ChoiceTree.path.Goals as goal
 
 pub loop-at-init : goal.loop-at-init
 loop-at-init c =

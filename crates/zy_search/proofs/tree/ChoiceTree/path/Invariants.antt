@@ -1,6 +1,6 @@
 use Rattle.std.proofs.Common.{◌≡◌, ◌≤◌, ◌++◌, [], length, get_or, reverse}
 use Rattle.zy_search.specs.Paths.{paths_of}
-use Rattle.zy_search.proofs.tree.Tree.path.Given as goal
+use Rattle.zy_search.proofs.tree.ChoiceTree.path.Given as goal
 
 abbrev pub invariant-loop-at : goal.invariant-loop-at
 invariant-loop-at l =

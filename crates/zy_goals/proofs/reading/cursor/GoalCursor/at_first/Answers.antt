@@ -1,7 +1,7 @@
 -- The first word and the words behind it are the words.
 use Rattle.std.proofs.Common.{◌∙◌}
 use Rattle.zy_goals.proofs.WordLemmas.{cut_word}
-use Rattle.zy_goals.proofs.reading.cursor.Cursor.at_first.Goals as goal
+use Rattle.zy_goals.proofs.reading.cursor.GoalCursor.at_first.Goals as goal
 
 pub returns : goal.returns
 returns c = rw (c.split_at.ensures.front, c.split_at.ensures.back, c.word_len.ensures.value)

@@ -1,7 +1,7 @@
 use Rattle.std.proofs.Common.{◌<◌, length, arith, [], ◌∷◌}
 use Rattle.zy_search.specs.Paths.{paths_of}
 use Rattle.zy_search.proofs.PathLemmas.{length-grown, grown-push, rooted_push}
-use Rattle.zy_search.proofs.tree.Tree.push.Goals as goal
+use Rattle.zy_search.proofs.tree.ChoiceTree.push.Goals as goal
 
 pub invariant_of-self-2 : goal.invariant_of-self-2
 invariant_of-self-2 c =

@@ -1,7 +1,7 @@
 use Rattle.std.proofs.Common.{◌≡◌, ◌+◌, ◌-◌, ◌<◌, arith, length, [], ◌∷◌}
 use Rattle.zy_search.specs.Paths.{paths_of}
 use Rattle.zy_search.proofs.PathLemmas.{length-grown, rooted_at, path_at}
-use Rattle.zy_search.proofs.tree.Tree.branch.Goals as goal
+use Rattle.zy_search.proofs.tree.ChoiceTree.branch.Goals as goal
 
 pub index-requires : goal.index-requires
 index-requires c =

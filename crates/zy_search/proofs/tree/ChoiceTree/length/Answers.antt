@@ -2,7 +2,7 @@ use Rattle.std.proofs.Common.{◌≡◌, ◌+◌, ◌-◌, ◌<◌, List, length
 use Rattle.zy_isa.specs.declared.choice.Choice.{Choice}
 use Rattle.zy_search.specs.Paths.{paths_of}
 use Rattle.zy_search.proofs.PathLemmas.{length-grown, rooted_at, path_at, path_none}
-use Rattle.zy_search.proofs.tree.Tree.length.Goals as goal
+use Rattle.zy_search.proofs.tree.ChoiceTree.length.Goals as goal
 
 pub loop-at-init : goal.loop-at-init
 loop-at-init c =
