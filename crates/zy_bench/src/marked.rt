@@ -3,7 +3,7 @@
 use crate::command_line::Quest;
 use std::fmt;
 use zy_diagnostics::line::SourceWord;
-use zy_diagnostics::place::Marked;
+use zy_diagnostics::place::MarkedWord;
 use zy_goals::WordFault;
 
 /// A goal that is refused, and the word that does not fit.
@@ -34,7 +34,7 @@ impl fmt::Display for Marked<'_> {
         } else {
             "for"
         };
-        let place = Marked::of(text, word).with_lone_marks();
+        let place = MarkedWord::of(text, word).with_lone_marks();
         write!(f, "--{flag}: {expected} ({place})")
     }
 }

@@ -10,7 +10,7 @@ const MOST: usize = 40;
 
 /// A word of a line, shown among those beside it.
 #[derive(Clone, Copy)]
-pub struct Marked<'a> {
+pub struct MarkedWord<'a> {
     /// The number of its line, where that is not the fault's.
     line: Option<usize>,
     before: &'a [u8],
@@ -20,12 +20,12 @@ pub struct Marked<'a> {
     has_lone_marks: bool,
 }
 
-impl<'a> Marked<'a> {
+impl<'a> MarkedWord<'a> {
     /// A word of these bytes.
-    pub fn of(bytes: &'a [u8], word: SourceWord<'a>) -> Marked<'a> {
+    pub fn of(bytes: &'a [u8], word: SourceWord<'a>) -> MarkedWord<'a> {
         let (before, rest) = bytes.split_at(word.start.min(bytes.len()));
         let (word, after) = rest.split_at(word.bytes.len().min(rest.len()));
-        Marked {
+        MarkedWord {
             line: None,
             before,
             word,
@@ -35,23 +35,23 @@ impl<'a> Marked<'a> {
     }
 
     /// The same in a line of which `>` and `<` are words: no others are shown than the marks.
-    pub fn with_lone_marks(self) -> Marked<'a> {
-        Marked {
+    pub fn with_lone_marks(self) -> MarkedWord<'a> {
+        MarkedWord {
             has_lone_marks: true,
             ..self
         }
     }
 
     /// The word of this number in a line, from 0; where the line has fewer, its first one.
-    pub fn word(line: SourceLine<'a>, number: usize) -> Option<Marked<'a>> {
+    pub fn word(line: SourceLine<'a>, number: usize) -> Option<MarkedWord<'a>> {
         let statement = line.statement();
         let word = statement.word(number).or(statement.word(0))?;
-        Some(Marked::of(statement.bytes, word))
+        Some(MarkedWord::of(statement.bytes, word))
     }
 
     /// The same, with the number of its line.
-    pub fn word_elsewhere(line: SourceLine<'a>, number: usize) -> Option<Marked<'a>> {
-        let mut place = Marked::word(line, number)?;
+    pub fn word_elsewhere(line: SourceLine<'a>, number: usize) -> Option<MarkedWord<'a>> {
+        let mut place = MarkedWord::word(line, number)?;
         place.line = Some(line.number);
         Some(place)
     }
@@ -77,7 +77,7 @@ fn trimmed(bytes: &[u8]) -> &[u8] {
 
 /// The column, from 1 and in characters, and the line with the word between `>` and `<`. What is cut off is shown as
 /// two dots, and a byte that does not print as `\xNN`.
-impl fmt::Display for Marked<'_> {
+impl fmt::Display for MarkedWord<'_> {
     fn fmt<W: fmt::Write>(&self, f: &mut fmt::Formatter<W>) -> fmt::Result {
         if let Some(line) = self.line {
             write!(f, "line {line}, ")?;
@@ -98,7 +98,7 @@ fn characters(bytes: &[u8]) -> usize {
     bytes.iter().filter(|byte| **byte & 0xc0 != 0x80).count()
 }
 
-impl Marked<'_> {
+impl MarkedWord<'_> {
     /// Shows the end of what comes before the word.
     fn show_end<W: fmt::Write>(self, f: &mut fmt::Formatter<W>, bytes: &[u8]) -> fmt::Result {
         let cut = bytes.len().saturating_sub(MOST);

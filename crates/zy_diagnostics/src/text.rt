@@ -8,7 +8,7 @@ use crate::image::is_image;
 use crate::label::operation_at;
 use crate::line::{SourceLine, SourceWord, Statement, lines_above};
 use crate::order::tell_not_above;
-use crate::place::Marked;
+use crate::place::MarkedWord;
 use crate::unknown::Unknown;
 use std::fmt;
 use std::str::from_utf8;
@@ -147,46 +147,46 @@ impl<'a> TextAdvice<'a> {
     }
 
     /// Where the fault is.
-    fn place(&self) -> Option<Marked<'a>> {
+    fn place(&self) -> Option<MarkedWord<'a>> {
         if self.is_unended() {
-            return Marked::word(self.line, 0);
+            return MarkedWord::word(self.line, 0);
         }
         match self.reason {
             Reason::NoEnd | Reason::NoMemory => None,
             Reason::NotText => self.wrong_byte(),
             Reason::NoLabel(_) => {
                 let (line, _) = self.program()?.missing_label()?;
-                Marked::word_elsewhere(line, operation_at(line.statement()).saturating_add(3))
+                MarkedWord::word_elsewhere(line, operation_at(line.statement()).saturating_add(3))
             }
             Reason::NoProgram { fault, .. } => self.place_in_program(fault),
-            _ => Marked::word(self.line, self.culprit()),
+            _ => MarkedWord::word(self.line, self.culprit()),
         }
     }
 
     /// The first byte that is not UTF-8.
-    fn wrong_byte(&self) -> Option<Marked<'a>> {
+    fn wrong_byte(&self) -> Option<MarkedWord<'a>> {
         let Err(error) = from_utf8(self.input) else {
             return None;
         };
         let start = error.valid_up_to().saturating_sub(self.lines.len());
         let rest = self.line.bytes.get(start..)?;
         let bytes = rest.get(..1)?;
-        Some(Marked::of(self.line.bytes, SourceWord { start, bytes }))
+        Some(MarkedWord::of(self.line.bytes, SourceWord { start, bytes }))
     }
 
     /// The instruction for which the last program is none, or its `txn`.
-    fn place_in_program(&self, fault: ProgramFault) -> Option<Marked<'a>> {
+    fn place_in_program(&self, fault: ProgramFault) -> Option<MarkedWord<'a>> {
         let program = self.program()?;
         match fault {
             ProgramFault::Target(at) => {
                 let line = program.instruction(usize::from(at))?;
-                Marked::word_elsewhere(line, operation_at(line.statement()).saturating_add(3))
+                MarkedWord::word_elsewhere(line, operation_at(line.statement()).saturating_add(3))
             }
             ProgramFault::NoEnd => {
                 let line = program.instruction(program.count().saturating_sub(1))?;
-                Marked::word_elsewhere(line, operation_at(line.statement()))
+                MarkedWord::word_elsewhere(line, operation_at(line.statement()))
             }
-            _ => Marked::word_elsewhere(SourceLine::of(self.input, program.line), 0),
+            _ => MarkedWord::word_elsewhere(SourceLine::of(self.input, program.line), 0),
         }
     }
 }
