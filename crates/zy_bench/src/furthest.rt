@@ -6,7 +6,7 @@ use crate::explained::go_on;
 use crate::origin::Origin;
 use std::alloc::{AllocError, Global};
 use std::fmt;
-use zy_diagnostics::line::Line as InputLine;
+use zy_diagnostics::line::SourceLine;
 use zy_diagnostics::text::Position;
 use zy_engine::{BenchFault, Format};
 use zy_io::{Line, LineBuffer, MAX_INPUT};
@@ -155,7 +155,7 @@ impl Furthest {
         if let Ok(Some(step)) = self.instead(rt.alloc(), line) {
             let unfit = Unfit {
                 file,
-                line: InputLine::of(input, line.number),
+                line: SourceLine::of(input, line.number),
                 came: behind_arrow(step.as_bytes()),
             };
             let _ = eprintln!(rt; "{unfit}");
@@ -216,13 +216,13 @@ impl fmt::Display for Reach {
 #[derive(Clone, Copy)]
 struct Unfit<'a> {
     file: Option<&'a str>,
-    line: InputLine<'a>,
+    line: SourceLine<'a>,
     came: &'a [u8],
 }
 
 impl fmt::Display for Unfit<'_> {
     fn fmt<W: fmt::Write>(&self, f: &mut fmt::Formatter<W>) -> fmt::Result {
-        let InputLine { number, .. } = self.line;
+        let SourceLine { number, .. } = self.line;
         let bytes = self.line.statement().bytes;
         let told = bytes.trim_ascii();
         match self.file {

@@ -3,7 +3,7 @@
 use crate::origin::Origin;
 use std::fmt;
 use zy_diagnostics::line::{SourceLine, SourceWord, Statement};
-use zy_diagnostics::place::Marked;
+use zy_diagnostics::place::MarkedWord;
 use zy_logs::LogLineFault;
 
 /// A line of a log that is refused, and the word that does not fit.
@@ -25,10 +25,10 @@ impl<'a> RefusedLine<'a> {
     }
 
     /// The word that does not fit; where it is missing, the end of the line.
-    fn place(self) -> Marked<'a> {
+    fn place(self) -> MarkedWord<'a> {
         let statement = SourceLine::of(self.input, self.refusal.line).statement();
         let word = statement.word(self.refusal.word);
-        Marked::of(statement.bytes, word.unwrap_or(end_of(statement)))
+        MarkedWord::of(statement.bytes, word.unwrap_or(end_of(statement)))
     }
 }
 
