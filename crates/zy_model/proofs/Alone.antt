@@ -1,14 +1,10 @@
 -- Who is alone on a page.
-use Rattle.std.proofs.Common.{◌≡◌, ◌∙◌, Bool, true, false, ℕ, List, [], ◌∷◌, refl, sym, ap, arith, inl, inr}
-use Rattle.std.specs.Prelude.{◌==◌, ◌&&◌, not}
-use Rattle.std.proofs.lemmas.Bool.{and_from, and_parts, cond_both, eq-eqb, eqb-true, false≢true, true≢false, false_from_ne_true, ne_eqb, eqb-false, not-true}
-use Rattle.std.proofs.lemmas.Bool.{or_cases, or_left, or_right, or_parts}
-use Rattle.std.proofs.lemmas.Bool.Decides.{nat_tests}
+use Rattle.std.proofs.Common.{◌≡◌, true, ℕ, List, [], ◌∷◌, inl, inr}
+use Rattle.std.specs.Prelude.{◌==◌, ◌&&◌}
+use Rattle.std.proofs.lemmas.Bool.{and_from, and_parts}
+use Rattle.std.proofs.lemmas.Bool.{or_cases, or_left, or_right}
 use Rattle.zy_model.specs.declared.lock.Lock.{Lock}
-use Rattle.zy_model.specs.declared.lock.LockKind.{LockKind}
-use Rattle.zy_model.specs.declared.lock.LockKind.TheVariants.{Shared, Exclusive}
-use Rattle.zy_model.specs.Locks.{add_lock, clashes, conflict, holds, holds_alone, is_exclusive, is_shared, stronger, LocksAgree}
-use Rattle.zy_model.specs.Order.{comes_before, is_held_by, LocksBehind, LocksRise}
+use Rattle.zy_model.specs.Locks.{holds, holds_alone, is_exclusive}
 
 -- who has an exclusive lock on p has a lock on p
 pub exclusive_holds : (xs : List Lock) (p t : ℕ) → holds_alone xs p t ≡ true → holds xs p t ≡ true

@@ -2,7 +2,6 @@
 use Rattle.std.proofs.Common.{◌≡◌, ℕ, ◌<◌, List, [], ◌∷◌, length, eqb, not, refl, ap, arith, true, false, inl, inr}
 use Rattle.std.specs.Prelude.{◌||◌, if◌then◌else◌, ◌==◌}
 use Rattle.std.specs.List.{list_any, filter}
-use Rattle.std.proofs.lemmas.Bool.{cond_both}
 use Rattle.zy_isa.specs.Limits.{max_pages}
 use Rattle.zy_table.specs.Keys.{put_key}
 use Rattle.zy_table.specs.Numbers.{has, drop_number}

@@ -1,13 +1,12 @@
 -- Rows in key order, parted at a boundary.
-use Rattle.std.proofs.Common.{Bool, List, None, [], ap, arith, drop, false, inl, inr, leb, length, ltb, refl, suc, take, true, zero, ℕ, ◌+◌, ◌∙◌, ◌∷◌, ◌≡◌, ◌≤◌}
-use Rattle.std.specs.Prelude.{filter, if◌then◌else◌}
-use Rattle.std.proofs.lemmas.Bool.{lt-ltb, le-ltb, le-leb, lt-leb, leb-true, leb-false, cond_both, cases_eq}
+use Rattle.std.proofs.Common.{Bool, List, [], ap, arith, drop, leb, refl, suc, take, zero, ℕ, ◌+◌, ◌∷◌, ◌≡◌, ◌≤◌}
+use Rattle.std.specs.Prelude.{filter}
+use Rattle.std.proofs.lemmas.Bool.{lt-ltb, le-ltb, le-leb, lt-leb, leb-true, cond_both}
 use Rattle.zy_isa.specs.declared.row.Row.{Row}
-use Rattle.zy_isa.specs.Rows.{Rising, RowsFit, get_row}
+use Rattle.zy_isa.specs.Rows.{Rising, RowsFit}
 use Rattle.zy_model.specs.Leaf.{rows_below, rows_from}
 use Rattle.zy_page.specs.Place.{IsRowPlace}
 use Rattle.zy_page.specs.RowLists.{AreKept}
-use Rattle.zy_model.proofs.Rows.{get_row_same, get_row_past}
 use Rattle.zy_model.proofs.Parted.{Rising-lower}
 use Rattle.zy_page.proofs.Found.{place_rest, front_below}
 

@@ -1,7 +1,7 @@
 -- What each change of a list leaves rising: pages by their numbers, the rows of each page, shared locks, and the pages that are asked for.
-use Rattle.std.proofs.Common.{List, [], ap, arith, false, length, refl, suc, ℕ, ◌++◌, ◌+◌, ◌∷◌, ◌≡◌, ◌≤◌}
+use Rattle.std.proofs.Common.{List, [], ap, arith, length, refl, suc, ℕ, ◌++◌, ◌+◌, ◌∷◌, ◌≡◌}
 use Rattle.std.specs.Prelude.{nat_lt, nat_le, ◌==◌}
-use Rattle.std.proofs.lemmas.Bool.{cond_both, eqb-false, leb-false, leb-true, or_parts}
+use Rattle.std.proofs.lemmas.Bool.{cond_both}
 use Rattle.zy_isa.specs.Rows.{Rising}
 use Rattle.zy_isa.specs.declared.row.Row.{Row}
 use Rattle.zy_model.proofs.Rising.{rise_add}
@@ -16,8 +16,6 @@ use Rattle.zy_table.specs.State.{Leaf}
 use Rattle.zy_model.proofs.Parted.{Rising-lower}
 use Rattle.zy_table.proofs.RisingRows.{rises_puts}
 use Rattle.zy_table.proofs.RisingNumbers.{rises_weaker}
-use Rattle.zy_table.specs.Keys.{put_key}
-use Rattle.zy_table.specs.Numbers.{drop_number, has}
 use Rattle.zy_laws.specs.OneOwner.{times}
 use Rattle.std.proofs.lemmas.Bool.Decides.{nat_tests}
 use Rattle.zy_model.specs.Leaf.{rows_below, rows_from}

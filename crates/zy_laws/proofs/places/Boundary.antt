@@ -1,8 +1,8 @@
 -- The boundary of a split is a key of its page, and no page's low key.
 use Rattle.std.proofs.Common.{◌≡◌, ℕ, zero, suc, ◌+◌, ◌/◌, ◌<◌, ◌≤◌, List, [], ◌∷◌, ◌++◌, length, true, false, refl, sym, ap, ◌∙◌, subst, arith, inl, inr}
 use Rattle.std.proofs.Common.{length-append}
-use Rattle.std.specs.Prelude.{◌⊎◌, if◌then◌else◌, ◌==◌, nat_le, Some, None, is_some, slice_index, Contains}
-use Rattle.std.proofs.lemmas.Bool.{cond_both, false_from_ne_true, false≢true, or_right, or_left, eq-eqb, eqb-true, eqb-false, or_parts, ltb-false, leb-true, leb-false}
+use Rattle.std.specs.Prelude.{◌⊎◌, if◌then◌else◌, ◌==◌, Some, None, is_some, slice_index, Contains}
+use Rattle.std.proofs.lemmas.Bool.{cond_both, false_from_ne_true, false≢true, or_right, or_left, eq-eqb, eqb-true, eqb-false, or_parts, ltb-false}
 use Rattle.std.proofs.lemmas.List.{get_or_default}
 use Rattle.zy_isa.specs.declared.row.Row.{Row}
 use Rattle.zy_isa.specs.Rows.{Rising, get_row}

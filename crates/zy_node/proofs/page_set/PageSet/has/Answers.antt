@@ -1,5 +1,4 @@
-use Rattle.std.proofs.Common.{sym, ◌∙◌, ap}
-use Rattle.std.specs.List.{list_any}
+use Rattle.std.proofs.Common.{◌∙◌}
 use Rattle.zy_node.proofs.NumberLists.{any_has}
 use Rattle.zy_node.proofs.page_set.PageSet.has.Goals as goal
 

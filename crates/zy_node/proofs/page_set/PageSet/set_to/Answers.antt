@@ -1,4 +1,4 @@
-use Rattle.std.proofs.Common.{arith, length}
+use Rattle.std.proofs.Common.{arith}
 use Rattle.zy_isa.specs.Limits.{max_pages}
 use Rattle.zy_table.proofs.RisingNumbers.{rises_within}
 use Rattle.zy_node.proofs.page_set.PageSet.set_to.Goals as goal
