@@ -1,0 +1,7 @@
+use Rattle.std.proofs.Common.{◌∙◌}
+use Rattle.zy_search.proofs.ReachedLemmas.{numbers_there}
+use Rattle.zy_search.proofs.turn_numbers.TurnNumbers.go_to.Goals as goal
+
+pub returns : goal.returns
+returns c =
+    numbers_there c.args.plan.now c.args.reached.now c.requires.informed c.args.at c.requires.there c.self.new.here.items c.extend_from_slice.ensures
