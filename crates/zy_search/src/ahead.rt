@@ -69,13 +69,14 @@ pub(crate) fn recall(
     ensures here { numbers.new.here ≡ numbers.old.here }
 {
     let memory = &reached.explored.memory;
-    let Some(step) = memory.recall(choice, &numbers.here) else {
+    let here = numbers.here.as_slice();
+    let Some(step) = memory.recall(choice, here) else {
         return Ok(None);
     };
     if is_still(step.outcome) {
         return Ok(Some(step.outcome));
     }
-    memory.follow(choice, step, &numbers.here, &mut numbers.next)?;
+    memory.follow(choice, step, here, &mut numbers.next)?;
     Ok(Some(step.outcome))
 }
 

@@ -35,6 +35,7 @@ impl TurnNumbers {
     {
         self.here.clear();
         self.here
-            .extend_from_slice(reached.explored.numbers(at as usize))
+            .extend_from_slice(reached.explored.numbers(at as usize))?;
+        Ok(())
     }
 }

@@ -6,4 +6,4 @@ use Rattle.zy_search.proofs.ahead.rests.Goals as goal
 pub returns : goal.returns
 returns c is =
     let p = c.args.plan.now in
-    idle_still _ (c.rests.ensures is p.start.scenario (reached p.start (path_at c.args.reached.now.tree c.args.branch.from)) c.requires)
+    idle_still _ (c.rests.ensures is p.start.scenario (reached p.start (path_at c.args.reached.now.tree c.args.branch.from)) c.requires.here)
