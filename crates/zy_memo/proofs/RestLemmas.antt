@@ -1,32 +1,40 @@
 -- Where a choice rests, nothing comes of it.
-use Rattle.std.proofs.Common.{◌≡◌, ◌∙◌, ◌==◌, ◌&&◌, ◌<◌, ◌++◌, ℕ, zero, suc, List, [], ◌∷◌, Some, slice_index_or, length, not, slice_get, Bool, true, false, refl, sym, ap, arith, cond}
+use Rattle.std.specs.Prelude.{nat_lt}
+use Rattle.std.proofs.Common.{◌≡◌, ◌∙◌, ◌==◌, ◌&&◌, ◌<◌, ◌++◌, ℕ, zero, suc, List, [], ◌∷◌, Some, slice_index_or, length, not, slice_get, Bool, true, false, refl, sym, ap, ap₂, arith, cond}
 use Rattle.std.proofs.Math.Bool.{true≢false}
+use Rattle.std.proofs.lemmas.Bool.{ne_eqb}
 use Rattle.std.proofs.lemmas.List.{length-map}
 use Rattle.zy_isa.specs.declared.node.Node.{Node}
 use Rattle.zy_isa.specs.declared.node.Node.TheVariants.{A, B}
 use Rattle.zy_isa.specs.declared.choice.Choice.{Choice}
 use Rattle.zy_isa.specs.declared.choice.Choice.TheVariants.{Start, Begin, Kill, Run, Take, Finish, Push}
 use Rattle.zy_isa.specs.Scenario.{Scenario}
+use Rattle.zy_model.specs.declared.mode.NodeMode.{NodeMode}
+use Rattle.zy_model.specs.declared.mode.NodeMode.TheVariants.{Empty, Normal, SInit, SDual, SFinish, DInit, DDual, DFinish}
+use Rattle.zy_model.specs.Messages.{Message}
+use Rattle.zy_model.specs.Table.{may_start}
 use Rattle.zy_machine.specs.declared.part.StatePart.{StatePart}
 use Rattle.zy_machine.specs.declared.part.StatePart.TheVariants.{Whole, Live}
 use Rattle.zy_machine.specs.Alike.{txn_part, txns_part}
-use Rattle.zy_pack.specs.Codes.{node_code, status_code}
-use Rattle.zy_pack.specs.Packed.{number, txn}
+use Rattle.zy_pack.specs.Codes.{mode_code, node_code, status_code}
+use Rattle.zy_pack.specs.Packed.{items, message, node_state, number, txn}
 use Rattle.zy_parts.specs.Parts.{parts, IsNumbered}
 use Rattle.zy_table.specs.declared.outcome.Why.TheVariants as why
 use Rattle.zy_table.specs.declared.status.Status.{Status}
 use Rattle.zy_table.specs.declared.status.Status.TheVariants.{New, Active, Committed, Aborted}
-use Rattle.zy_table.specs.State.{State, View, Txn, facing}
+use Rattle.zy_table.specs.State.{State, View, Txn, facing, other}
 use Rattle.zy_table.specs.Change.{nobody, txn_at, txn_or}
-use Rattle.zy_table.specs.Client.{is_active, is_new, begin_step, kill_step}
+use Rattle.zy_table.specs.Client.{is_active, is_new, start_step, begin_step, kill_step}
 use Rattle.zy_table.specs.Run.{same_node, run_step}
+use Rattle.zy_table.specs.Take.{front_step, take_step}
+use Rattle.zy_table.specs.Push.{finish_if, finish_step, push_step}
 use Rattle.zy_table.specs.Play.{move, step, side_of}
-use Rattle.zy_memo.specs.Places.{at, home_in, is_active_in, txn_place}
-use Rattle.zy_memo.specs.Rests.{is_idle, is_new_in, is_there, rests}
+use Rattle.zy_memo.specs.Places.{at, home_in, is_active_in, link_place, mode_in, node_place, txn_place}
+use Rattle.zy_memo.specs.Rests.{is_idle, is_mode_in, is_new_in, has_txn, rests}
 use Rattle.zy_memo.proofs.Again.{as_many, long, nat_below}
 use Rattle.zy_memo.proofs.Assembly.{gives}
 use Rattle.zy_memo.proofs.Plain.{part_there}
-use Rattle.zy_memo.proofs.Said.{byte_is, active_said, at_said}
+use Rattle.zy_memo.proofs.Said.{byte_is, active_said, at_said, mode_said}
 
 -- what is not said is not so
 opposite : (b c : Bool) → b ≡ c → not b ≡ true → c ≡ false
@@ -82,11 +90,65 @@ part_of_one Whole (x ∷ xs) u h = refl
 part_of_one Live (x ∷ xs) zero h = refl
 part_of_one Live (x ∷ xs) (suc u) h = part_of_one Live xs u (omega (arith, h))
 
+-- ---- what the bytes of nodes and links say
+
+-- where the parts of a state have these numbers
+module _ (table : List (List ℕ)) (part : StatePart) (s : State) (numbers : List ℕ) (are : IsNumbered table part numbers s) where
+  -- the part of a node
+  node_part : (x : Node) → slice_get table (at numbers (node_place x)) ≡ Some (node_state (facing x s).me)
+  node_part A = gives table numbers (parts part s) are 0 (node_state s.a) refl
+  node_part B = gives table numbers (parts part s) are 1 (node_state s.b) refl
+
+  -- its mode
+  mode_is : (x : Node) → mode_in table (at numbers (node_place x)) ≡ mode_code (facing x s).me.mode
+  mode_is x = mode_said table (at numbers (node_place x)) (facing x s).me (node_part x)
+
+  -- whether it is in a mode
+  in_mode : (x : Node) (m : NodeMode) → is_mode_in table (at numbers (node_place x)) m ≡ (mode_code (facing x s).me.mode == mode_code m)
+  in_mode x m = ap (λ k. k == mode_code m) (mode_is x)
+
+  -- the part of the link to a node
+  link_part : (x : Node) → slice_get table (at numbers (link_place (other x))) ≡ Some (items message (facing x s).inbox)
+  link_part A = gives table numbers (parts part s) are 3 (items message s.ba) refl
+  link_part B = gives table numbers (parts part s) are 2 (items message s.ab) refl
+
+-- how many there are is no 0 where there is one
+some_first : (k : ℕ) (rest : List ℕ) → (slice_index_or (number (suc k) ++ rest) 0 0 == 0) ≡ false
+some_first k rest = by_tests (nat_lt (suc k) 254) (nat_lt (suc k) 65536) refl refl
+  where
+    by_tests : (b d : Bool) → nat_lt (suc k) 254 ≡ b → nat_lt (suc k) 65536 ≡ d → (slice_index_or (number (suc k) ++ rest) 0 0 == 0) ≡ false
+    by_tests true d e f = rw e (ne_eqb (suc k) 0 (λ h. absurd (omega (arith, h))))
+    by_tests false true e f = rw (e, f) refl
+    by_tests false false e f = rw (e, f) refl
+
+-- a list whose bytes begin with 0 is empty
+none_there : (ms : List Message) → (slice_index_or (items message ms) 0 0 == 0) ≡ true → ms ≡ []
+none_there [] e = refl
+none_there (m ∷ ms) e = absurd (true≢false (sym e ∙ some_first (length ms) _))
+
+-- a migration starts from one mode to another
+start_said : (m o : NodeMode) → ((mode_code m == mode_code Normal) && (mode_code o == mode_code Empty)) ≡ may_start m o
+start_said Empty o = refl
+start_said Normal Empty = refl
+start_said Normal Normal = refl
+start_said Normal SInit = refl
+start_said Normal SDual = refl
+start_said Normal SFinish = refl
+start_said Normal DInit = refl
+start_said Normal DDual = refl
+start_said Normal DFinish = refl
+start_said SInit o = refl
+start_said SDual o = refl
+start_said SFinish o = refl
+start_said DInit o = refl
+start_said DDual o = refl
+start_said DFinish o = refl
+
 -- ---- each choice
 
 -- where the bytes of the transaction at a place say what they say of its status and node
 module _ (table : List (List ℕ)) (part : StatePart) (s : State) (numbers : List ℕ) (are : IsNumbered table part numbers s) (u : ℕ)
-    (there : is_there numbers u ≡ true) where
+    (there : has_txn numbers u ≡ true) where
   abbrev the_txn : Txn
   the_txn = txn_or (slice_get s.txns u)
 
@@ -133,6 +195,46 @@ run_rests sc x t v e = by_tests (is_active (txn_at v t).status) (same_node (txn_
     by_tests true false active same e = rw active (rw same refl)
     by_tests true true active same e = absurd (true≢false e)
 
+-- a start from a mode from which none may start
+start_rests : (v : View) → may_start v.me.mode v.them.mode ≡ false → is_idle (start_step v).outcome ≡ true
+unfolding start_step
+start_rests v e = rw e refl
+
+-- a take from an empty link
+take_rests : (sc : Scenario) (v : View) → v.inbox ≡ [] → is_idle (take_step sc v).outcome ≡ true
+unfolding take_step front_step
+take_rests sc v e = rw e refl
+
+-- a finish in another mode
+finish_rests : (x : Node) (v : View) (m : NodeMode) → v.me.mode ≡ m → not (mode_code m == mode_code SDual) ≡ true → is_idle (finish_step x v).outcome ≡ true
+unfolding finish_step finish_if
+finish_rests x v Empty is e = rw is refl
+finish_rests x v Normal is e = rw is refl
+finish_rests x v SInit is e = rw is refl
+finish_rests x v SDual is e = cc
+finish_rests x v SFinish is e = rw is refl
+finish_rests x v DInit is e = rw is refl
+finish_rests x v DDual is e = rw is refl
+finish_rests x v DFinish is e = rw is refl
+
+-- a push in another mode
+push_rests : (v : View) (m : NodeMode) → v.me.mode ≡ m → not (mode_code m == mode_code SFinish) ≡ true → is_idle (push_step v).outcome ≡ true
+unfolding push_step
+push_rests v Empty is e = rw is refl
+push_rests v Normal is e = rw is refl
+push_rests v SInit is e = rw is refl
+push_rests v SDual is e = rw is refl
+push_rests v SFinish is e = cc
+push_rests v DInit is e = rw is refl
+push_rests v DDual is e = rw is refl
+push_rests v DFinish is e = rw is refl
+
+-- no migration starts from a node where none may start from either
+either : (s : State) → may_start s.a.mode s.b.mode ≡ false → may_start s.b.mode s.a.mode ≡ false → (n : Node)
+    → may_start (facing n s).me.mode (facing n s).them.mode ≡ false
+either s ab ba A = ab
+either s ab ba B = ba
+
 -- a transaction as a node sees it
 seen_txn : (x : Node) (s : State) (t : ℕ) → txn_at (facing x s) t ≡ txn_or (slice_get s.txns t)
 unfolding txn_at
@@ -159,7 +261,16 @@ idle table part sc s numbers are (Run x t) e =
     let is = both _ _ e in
     run_rests sc x t (facing x s)
     (ap (λ (y : Txn). is_active y.status && same_node y.node x) (seen_txn x s t) ∙ elsewhere table part s numbers are t is.0 x is.1)
-idle table part sc s numbers are Start e = cc
-idle table part sc s numbers are (Take x) e = cc
-idle table part sc s numbers are (Finish x) e = cc
-idle table part sc s numbers are (Push x) e = cc
+idle table part sc s numbers are Start e =
+    let is = both _ _ e in
+    let code = λ (x : Node) (m : NodeMode). in_mode table part s numbers are x m in
+    let ab = opposite _ _ (ap₂ (λ b c. b && c) (code A Normal) (code B Empty) ∙ start_said s.a.mode s.b.mode) is.0 in
+    let ba = opposite _ _ (ap₂ (λ b c. b && c) (code B Normal) (code A Empty) ∙ start_said s.b.mode s.a.mode) is.1 in
+    let n = side_of sc Start s in
+    start_rests (facing n s) (either s ab ba n)
+idle table part sc s numbers are (Take x) e =
+    take_rests sc (facing x s) (none_there (facing x s).inbox (sym (ap (λ b. b == 0) (byte_is table _ (items message (facing x s).inbox) 0 (link_part table part s numbers are x))) ∙ e))
+idle table part sc s numbers are (Finish x) e =
+    finish_rests x (facing x s) (facing x s).me.mode refl (ap not (sym (in_mode table part s numbers are x SDual)) ∙ e)
+idle table part sc s numbers are (Push x) e =
+    push_rests (facing x s) (facing x s).me.mode refl (ap not (sym (in_mode table part s numbers are x SFinish)) ∙ e)

@@ -1,4 +1,4 @@
-pub mod Spans
+pub mod Even
 pub mod Places
 pub mod Rests
 pub mod Steps

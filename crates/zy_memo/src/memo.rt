@@ -12,7 +12,7 @@ ghost use Rattle.zy_table.specs.Play.{step};
 ghost use Rattle.zy_table.specs.State.{State};
 
 use crate::places::{COMMITS_PLACE, Read, Scope, at, at_places, link_place, places, reads};
-use crate::slots::{MOST_LOOKS, Slots, mixed};
+use crate::slots::{Look, MOST_LOOKS, Slots, mixed};
 use std::alloc::{AllocError, Global};
 use zy_isa::{Choice, Node};
 use zy_parts::PartTable;
@@ -46,15 +46,6 @@ fn digest(read: Read) -> u64 {
     let first = u64::from(read.beside) << 32 | u64::from(read.first);
     let second = u64::from(read.second) << 32 | u64::from(read.third);
     mixed(mixed(mixed(0, first), second), u64::from(read.fourth))
-}
-
-/// Slots for some steps and more, with each of them in its own.
-fn spread(alloc: Global, steps: &[Remembered]) -> Result<Slots, AllocError> {
-    let mut slots = Slots::free(alloc, steps.len())?;
-    for place in 0..steps.len() {
-        slots.put(digest(steps[place].read), place);
-    }
-    Ok(slots)
 }
 
 /// What a run has in its scope, by the numbers before and after it; none where that is both the link and the commits.
@@ -126,10 +117,15 @@ impl ChoiceMemo {
     {
         let digest = digest(read);
         for behind in 0..MOST_LOOKS {
-            let place = self.slots.get(digest, behind)?;
-            let step = self.steps.get(place)?;
-            if step.scope == scope && step.read == read {
-                return Some(step);
+            match self.slots.look(digest, behind) {
+                Look::Free => return None,
+                Look::Other => {}
+                Look::Place(place) => {
+                    let step = self.steps.get(place)?;
+                    if step.scope == scope && step.read == read {
+                        return Some(step);
+                    }
+                }
             }
         }
         None
@@ -196,12 +192,9 @@ impl ChoiceMemo {
         ensures steps { OnOk result (self.new.steps.items ≡ self.old.steps.items ++ step ∷ []) }
     {
         let place = self.steps.len();
+        self.slots.reserve(self.alloc)?;
         self.steps.push(step)?;
-        if self.slots.are_few(place) {
-            self.slots = spread(self.alloc, &self.steps)?;
-        } else {
-            self.slots.put(digest(step.read), place);
-        }
+        self.slots.put(digest(step.read), place);
         Ok(())
     }
 }

@@ -7,7 +7,8 @@ ghost use Rattle.zy_pack.specs.Codes as codes;
 ghost use Rattle.zy_table.specs.State as table;
 
 use zy_isa::{Choice, Node};
-use zy_pack::codes::node_code;
+use zy_model::NodeMode;
+use zy_pack::codes::{mode_code, node_code};
 use zy_parts::PartTable;
 
 /// What a run reads and writes beside its node and its transaction.
@@ -129,29 +130,52 @@ fn is_new_in(table: &PartTable, number: u32) -> bool
 
 /// Whether there is a transaction with this number.
 #[inline(always)]
-fn is_there(numbers: &[u32], t: u8) -> bool
-    ensures { result ≡ rests.is_there numbers.now t }
+fn has_txn(numbers: &[u32], t: u8) -> bool
+    ensures { result ≡ rests.has_txn numbers.now t }
 {
     txn_place(t) < numbers.len()
 }
 
-/// Whether nothing comes of a choice, by its transaction alone: of a begin of one that has begun, of a kill of one that is not
-/// active, of a run of one that is not active at the run's node.
+/// Whether a link is empty: its part begins with how many messages there are.
+fn is_empty_in(table: &PartTable, number: u32) -> bool
+    ensures { result ≡ rests.is_empty_in table.now number }
+{
+    byte_of(table, number, 0) == 0
+}
+
+/// Whether the node whose part has a number is in a mode.
+fn is_mode_in(table: &PartTable, number: u32, mode: NodeMode) -> bool
+    ensures { result ≡ rests.is_mode_in table.now number mode }
+{
+    u64::from(mode_in(table, number)) == mode_code(mode)
+}
+
+/// Whether a migration may start from one node to another, by the numbers of their parts.
+fn may_start_in(table: &PartTable, from: u32, to: u32) -> bool
+    ensures { result ≡ rests.may_start_in table.now from to }
+{
+    is_mode_in(table, from, NodeMode::Normal) && is_mode_in(table, to, NodeMode::Empty)
+}
+
+/// Whether nothing comes of a choice, by a byte or two of the parts that it reads: of a begin of a transaction that has begun, of a
+/// kill of one that is not active, of a run of one that is not active at the run's node, of a take from an empty link, and of a
+/// start, a finish and a push in another mode.
 pub fn rests(table: &PartTable, choice: Choice, numbers: &[u32]) -> bool
     ensures { result ≡ rests.rests table.now choice numbers.now }
 {
     match choice {
-        Choice::Begin(t) => { is_there(numbers, t) && !is_new_in(table, at(numbers, txn_place(t))) }
-        Choice::Kill(t) => {
-            is_there(numbers, t) && !is_active_in(table, at(numbers, txn_place(t)))
+        Choice::Start => {
+            let (a, b) = (at(numbers, 0), at(numbers, 1));
+            !may_start_in(table, a, b) && !may_start_in(table, b, a)
         }
+        Choice::Begin(t) => has_txn(numbers, t) && !is_new_in(table, at(numbers, txn_place(t))),
+        Choice::Kill(t) => has_txn(numbers, t) && !is_active_in(table, at(numbers, txn_place(t))),
         Choice::Run(n, t) => {
-            is_there(numbers, t) && !is_active_at(table, n, at(numbers, txn_place(t)))
+            has_txn(numbers, t) && !is_active_at(table, n, at(numbers, txn_place(t)))
         }
-        Choice::Start => false,
-        Choice::Take(_) => false,
-        Choice::Finish(_) => false,
-        Choice::Push(_) => false,
+        Choice::Take(n) => is_empty_in(table, at(numbers, link_place(other(n)))),
+        Choice::Finish(n) => !is_mode_in(table, at(numbers, node_place(n)), NodeMode::SDual),
+        Choice::Push(n) => !is_mode_in(table, at(numbers, node_place(n)), NodeMode::SFinish),
     }
 }
 

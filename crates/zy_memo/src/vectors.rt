@@ -2,7 +2,7 @@
 ghost use Rattle.std.specs.Prelude.{◌≡◌, ◌++◌, ◌∷◌, [], IfSome, Some, OnOk, OnErr, length, option_copied, slice_get, true};
 
 use crate::arena::Arena;
-use crate::slots::{MOST_LOOKS, Slots, mixed};
+use crate::slots::{Look, MOST_LOOKS, Slots, mixed};
 use std::alloc::{AllocError, Global};
 use std::marker::Model;
 
@@ -30,17 +30,6 @@ fn digest(numbers: &[u32]) -> u64 {
         digest = mixed(digest, u64::from(*number));
     }
     digest
-}
-
-/// Slots for some states and more, with each of them in its own.
-fn spread(alloc: Global, arena: &Arena) -> Result<Slots, AllocError> {
-    let mut slots = Slots::free(alloc, arena.len())?;
-    for place in 0..arena.len() {
-        if let Some(numbers) = arena.get(place) {
-            slots.put(digest(numbers), place);
-        }
-    }
-    Ok(slots)
 }
 
 /// Whether these are the same numbers as those.
@@ -96,9 +85,14 @@ impl Vectors {
     {
         let digest = digest(numbers);
         for behind in 0..MOST_LOOKS {
-            let place = self.slots.get(digest, behind)?;
-            if self.is_at(place, numbers) {
-                return Some(place);
+            match self.slots.look(digest, behind) {
+                Look::Free => return None,
+                Look::Other => {}
+                Look::Place(place) => {
+                    if self.is_at(place, numbers) {
+                        return Some(place);
+                    }
+                }
             }
         }
         None
@@ -110,9 +104,7 @@ impl Vectors {
         ensures err { OnErr result (self.new ≡ self.old) }
     {
         let place = self.arena.len();
-        if self.slots.are_few(place) {
-            self.slots = spread(self.alloc, &self.arena)?;
-        }
+        self.slots.reserve(self.alloc)?;
         self.arena.push(numbers)?;
         self.slots.put(digest(numbers), place);
         Ok(())

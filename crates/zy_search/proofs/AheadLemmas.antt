@@ -22,7 +22,7 @@ use Rattle.zy_search.specs.declared.plan.Plan.{Plan}
 use Rattle.zy_search.specs.declared.reached.Reached.{Reached}
 use Rattle.zy_search.specs.Stuck.{is_still}
 use Rattle.zy_search.specs.Searches.{reached}
-use Rattle.zy_search.specs.Visits.{counted, path_at, state_by, step_by, Grows, IsInformed, IsKnown, IsNumber, Notes}
+use Rattle.zy_search.specs.Visits.{counted, path_at, state_by, step_by, AreNumbersAt, Grows, IsInformed, IsKnown, IsNumber, Notes}
 use Rattle.zy_search.specs.Ahead.{numbers_at, successor_in, GoesOn, IsForeseen, HasNumbers, AreSuccessors, IsSuccessor, IsTaken}
 use Rattle.zy_search.proofs.SearchLemmas.{grows_not, grows_on}
 use Rattle.zy_search.proofs.StillSteps.{still_stays}
@@ -65,6 +65,12 @@ module _ (p : Plan) (old new : Reached) (on : GoesOn old new) where
     omega (arith, k.1, on.paths.longer),
     subst (λ (cs : List Choice). Alike (counted p.sought) (reached p.start cs) s) (sym (on.paths.same k.0 k.1)) k.2,
   )
+
+  -- the numbers of the state of a path are its numbers
+  pub numbers_on : (at : ℕ) → at < length old.tree → (numbers : List ℕ) → AreNumbersAt p old at numbers → AreNumbersAt p new at numbers
+  numbers_on at lt numbers is =
+      subst (λ (cs : List Choice). Numbers new.explored.memory (reached p.start cs) numbers) (sym (on.paths.same at lt))
+      (numbers_stay old.explored.memory new.explored.memory (reached p.start (path_at old.tree at)) numbers on.parts on.part is)
 
   -- so does where a choice leads
   successor_on : (arena : List (List ℕ)) (b : Branch) → b.from < length old.tree → (x : Successor) → IsSuccessor p old arena b x

@@ -23,7 +23,7 @@ use Rattle.zy_search.specs.declared.reached.Reached.{Reached}
 use Rattle.zy_search.specs.declared.scratch.Scratch.{Scratch}
 use Rattle.zy_search.specs.Stuck.{is_still}
 use Rattle.zy_search.specs.Searches.{reached}
-use Rattle.zy_search.specs.Visits.{path_at, states_of, state_by, AreScratch, Grows, IsInformed, IsKnown, IsNumber, LeadsTo}
+use Rattle.zy_search.specs.Visits.{path_at, states_of, state_by, AreNumbersAt, AreScratch, Grows, IsInformed, IsKnown, IsNumber, LeadsTo}
 use Rattle.zy_search.proofs.SearchLemmas.{reached_more}
 
 -- what follows for what a call returns
@@ -84,10 +84,12 @@ still_uncounted NoPush = refl
 pub still_alike : (o r : Outcome) → uncounted r ≡ uncounted o → is_still o ≡ is_still r
 still_alike o r e = sym (still_uncounted o) ∙ (ap is_still (sym e) ∙ still_uncounted r)
 
--- nothing came of a step where its transaction was idle
+-- nothing came of a step that was idle
 pub idle_still : (o : Outcome) → is_idle o ≡ true → is_still o ≡ true
+idle_still BadMode e = refl
 idle_still Idle e = refl
 idle_still Elsewhere e = refl
+idle_still NoMessage e = refl
 idle_still o e = cc
 
 -- ---- what is known
@@ -123,22 +125,22 @@ module _ (p : Plan) (x : Reached) (is : IsInformed p x) where
 
   -- the numbers at the place of a path are those of its state
   pub numbers_there : (i : ℕ) → i < length x.tree → (numbers : List ℕ) → numbers ≡ slice_index_or x.explored.vectors i []
-      → Numbers x.explored.memory (reached p.start (path_at x.tree i)) numbers
+      → AreNumbersAt p x i numbers
   numbers_there i lt numbers at =
       let s = reached p.start (path_at x.tree i) in
       subst (Numbers x.explored.memory s) (sym at) (is.knows.each i s (state_at p.start x.tree i lt)).0
 
   -- where a remembered step leads, if its numbers were taken where something came of it
   pub remembered_leads : (b : Branch) → b.from < length x.tree → (i : ℕ) → IsNumber p i b.by → (r : Remembered) → (numbers next : List ℕ)
-      → numbers ≡ slice_index_or x.explored.vectors b.from []
+      → AreNumbersAt p x b.from numbers
       → (is_still r.outcome ≡ false → next ≡ numbers_by x.explored.memory i r numbers)
       → ((sc : Scenario) (s : State) → IsTrue sc x.explored.memory → Numbers x.explored.memory s numbers → length s.txns ≡ length sc.programs
       → Leads sc x.explored.memory (choice_at x.explored.memory i) s (numbers_by x.explored.memory i r numbers) r.outcome)
       → LeadsTo p x b next r.outcome
-  remembered_leads b lt i n r numbers next at taken recalled =
+  remembered_leads b lt i n r numbers next here taken recalled =
       let s = reached p.start (path_at x.tree b.from) in
       let many = (is.knows.each b.from s (state_at p.start x.tree b.from lt)).1 in
-      let led = recalled p.start.scenario s is.knows.truth (numbers_there b.from lt numbers at) many in
+      let led = recalled p.start.scenario s is.knows.truth here many in
       let to = numbers_by x.explored.memory i r numbers in
       let leads = subst (λ (c : Choice). Leads p.start.scenario x.explored.memory c s to r.outcome) (remembered_choice i b.by n) led in
       record {

@@ -138,6 +138,10 @@ pub record IsInformed (p : Plan) (x : Reached) : Type 0 where
   pub part : x.explored.memory.part ≡ counted p.sought
   pub choices : choices_of x.explored.memory ≡ p.choices.items
 
+-- these are the numbers of the state of the path at a place
+abbrev pub AreNumbersAt : Plan → Reached → ℕ → List ℕ → Type 0
+AreNumbersAt p x at numbers = Numbers x.explored.memory (reached p.start (path_at x.tree at)) numbers
+
 -- what comes of the choice of a branch is known, and the numbers of the state that it leads to where something does
 pub record LeadsTo (p : Plan) (x : Reached) (b : Branch) (next : List ℕ) (o : Outcome) : Type 0 where
   pub still : is_still o ≡ is_still (step_by p x.tree b).outcome

@@ -2,7 +2,7 @@
 ghost use Rattle.std.specs.Prelude.{◌≡◌, ◌<◌, ℕ, List, [], IfOk, IfSome, OnOk, length, true};
 ghost use Rattle.zy_search.specs.Ahead.{numbers_at, IsForeseen, HasNumbers, AreSuccessors, IsSuccessor, IsTaken};
 ghost use Rattle.zy_search.specs.Stuck.{is_still};
-ghost use Rattle.zy_search.specs.Visits.{step_by, Grows, IsInformed, IsNumber, LeadsTo};
+ghost use Rattle.zy_search.specs.Visits.{step_by, AreNumbersAt, Grows, IsInformed, IsNumber, LeadsTo};
 ghost use Rattle.zy_search.specs.declared.branch.Branch.{Branch as ABranch};
 ghost use Rattle.zy_search.specs.declared.plan.Plan.{Plan as APlan};
 ghost use Rattle.zy_search.specs.declared.reached.Reached.{Reached as AReached};
@@ -11,6 +11,7 @@ use crate::branch::Branch;
 use crate::plan::Plan;
 use crate::reached::Reached;
 use crate::still::is_still;
+use crate::turn_numbers::TurnNumbers;
 use std::alloc::{AllocError, Global};
 use zy_memo::Vectors;
 use zy_table::Outcome;
@@ -43,39 +44,39 @@ pub struct Ahead {
     pub taken: usize,
 }
 
-/// Whether nothing comes of the choice of a branch, by its transaction alone. Where it answers yes, nothing does.
-pub(crate) fn rests(plan: &Plan, reached: &Reached, branch: Branch) -> bool
-    requires there { branch.from < length reached.now.tree }
-    requires informed { IsInformed plan.now reached.now }
+/// Whether nothing comes of the choice of a branch, by a byte or two of the parts of its state. Where it answers yes, nothing does.
+pub(crate) fn rests(plan: &Plan, reached: &Reached, branch: Branch, here: &[u32]) -> bool
+    requires here { AreNumbersAt plan.now reached.now branch.from here.now }
     ensures { result ≡ true → is_still (step_by plan.now reached.now.tree branch).outcome ≡ true }
 {
-    let numbers = reached.explored.numbers(branch.from as usize);
-    reached.explored.memory.rests(branch.by, numbers)
+    reached.explored.memory.rests(branch.by, here)
 }
 
 /// What comes of the choice of a branch, if a step like it is remembered. Where something does, the numbers of the state
-/// that it leads to go to `next`.
+/// that it leads to are those that come next.
 pub(crate) fn recall(
     plan: &Plan,
     reached: &Reached,
     branch: Branch,
     choice: usize,
-    next: &mut Vec<u32>,
+    numbers: &mut TurnNumbers,
 ) -> Result<Option<Outcome>, AllocError>
     requires there { branch.from < length reached.now.tree }
     requires informed { IsInformed plan.now reached.now }
     requires choice { IsNumber plan.now choice branch.by }
-    ensures { IfOk result (λ o. IfSome o (LeadsTo plan.now reached.now branch next.new.items)) }
+    requires here { AreNumbersAt plan.now reached.now branch.from numbers.old.here.items }
+    ensures leads { IfOk result (λ o. IfSome o (LeadsTo plan.now reached.now branch numbers.new.next.items)) }
+    ensures here { numbers.new.here ≡ numbers.old.here }
 {
-    let numbers = reached.explored.numbers(branch.from as usize);
     let memory = &reached.explored.memory;
-    let Some(step) = memory.recall(choice, numbers) else {
+    let here = numbers.here.as_slice();
+    let Some(step) = memory.recall(choice, here) else {
         return Ok(None);
     };
     if is_still(step.outcome) {
         return Ok(Some(step.outcome));
     }
-    memory.follow(choice, step, numbers, next)?;
+    memory.follow(choice, step, here, &mut numbers.next)?;
     Ok(Some(step.outcome))
 }
 
@@ -90,38 +91,40 @@ fn numbered(place: usize) -> Successor
     }
 }
 
-/// What is known of where the choice of a branch leads. The numbers of a state that is not found are kept in `numbers`.
+/// What is known of where the choice of a branch leads. The numbers of a state that is not found are kept.
 fn successor_of(
     plan: &Plan,
     reached: &Reached,
     branch: Branch,
     choice: usize,
-    next: &mut Vec<u32>,
-    numbers: &mut Vectors,
+    numbers: &mut TurnNumbers,
+    kept: &mut Vectors,
 ) -> Result<Successor, AllocError>
     requires there { branch.from < length reached.now.tree }
     requires informed { IsInformed plan.now reached.now }
     requires choice { IsNumber plan.now choice branch.by }
-    ensures successor { IfOk result (IsSuccessor plan.now reached.now numbers.new branch) }
-    ensures grows { OnOk result (Grows numbers.old numbers.new) }
+    requires here { AreNumbersAt plan.now reached.now branch.from numbers.old.here.items }
+    ensures successor { IfOk result (IsSuccessor plan.now reached.now kept.new branch) }
+    ensures grows { OnOk result (Grows kept.old kept.new) }
+    ensures here { numbers.new.here ≡ numbers.old.here }
 {
-    if rests(plan, reached, branch) {
+    if rests(plan, reached, branch, &numbers.here) {
         return Ok(Successor::Reached);
     }
-    let Some(outcome) = recall(plan, reached, branch, choice, next)? else {
+    let Some(outcome) = recall(plan, reached, branch, choice, numbers)? else {
         return Ok(Successor::Unknown);
     };
     if is_still(outcome) {
         return Ok(Successor::Reached);
     }
-    if let Some(_) = reached.explored.find(next) {
+    if let Some(_) = reached.explored.find(&numbers.next) {
         return Ok(Successor::Reached);
     }
-    if let Some(place) = numbers.find(next) {
+    if let Some(place) = kept.find(&numbers.next) {
         return Ok(numbered(place));
     }
-    let place = numbers.len();
-    numbers.push(next)?;
+    let place = kept.len();
+    kept.push(&numbers.next)?;
     Ok(numbered(place))
 }
 
@@ -130,21 +133,22 @@ fn successors_of(
     plan: &Plan,
     reached: &Reached,
     at: u32,
-    next: &mut Vec<u32>,
-    numbers: &mut Vectors,
+    numbers: &mut TurnNumbers,
+    kept: &mut Vectors,
 ) -> Result<Successors, AllocError>
     requires there { at < length reached.now.tree }
     requires informed { IsInformed plan.now reached.now }
-    ensures successors { IfOk result (AreSuccessors plan.now reached.now numbers.new) }
-    ensures grows { OnOk result (Grows numbers.old numbers.new) }
+    ensures successors { IfOk result (AreSuccessors plan.now reached.now kept.new) }
+    ensures grows { OnOk result (Grows kept.old kept.new) }
 {
+    numbers.go_to(plan, reached, at)?;
     let mut by_choice = Vec::with_capacity(plan.alloc, plan.choices.len())?;
     for i in 0..plan.choices.len() {
         let branch = Branch {
             from: at,
             by: plan.choices[i],
         };
-        let successor = successor_of(plan, reached, branch, i, next, numbers)?;
+        let successor = successor_of(plan, reached, branch, i, numbers, kept)?;
         by_choice.push(successor)?;
     }
     Ok(Successors {
@@ -163,13 +167,13 @@ pub(crate) fn foresee(
     requires { IsInformed plan.now reached.now }
     ensures { IfOk result (IsForeseen plan.now reached.now) }
 {
-    let mut next = Vec::new(plan.alloc);
+    let mut numbers = TurnNumbers::new(plan.alloc);
     let mut ahead = Ahead::new(plan.alloc, first);
     for at in first..first.saturating_add(count) {
         if reached.tree.len() <= at as usize {
             return Ok(ahead);
         }
-        let successors = successors_of(plan, reached, at, &mut next, &mut ahead.numbers)?;
+        let successors = successors_of(plan, reached, at, &mut numbers, &mut ahead.numbers)?;
         ahead.found.push(successors)?;
     }
     Ok(ahead)

@@ -7,7 +7,7 @@ ghost use Rattle.zy_search.specs.Ahead.{GoesOn, IsForeseen, HasNumbers};
 ghost use Rattle.zy_search.specs.Searches.{Shows};
 ghost use Rattle.zy_search.specs.Stuck as stuck;
 ghost use Rattle.zy_search.specs.Visits.{path_at, length_at, state_by, step_by, IsFresh};
-ghost use Rattle.zy_search.specs.Visits.{AreOf, AreScratch, Grows, IsEdge, IsInformed, IsNumber, IsReady, IsReadyFor, IsTurn, IsWhole, Visits};
+ghost use Rattle.zy_search.specs.Visits.{AreNumbersAt, AreOf, AreScratch, Grows, IsEdge, IsInformed, IsNumber, IsReady, IsReadyFor, IsTurn, IsWhole, Visits};
 ghost use Rattle.zy_search.specs.Visits.{ExpandsWell, LeadsTo, Meets};
 
 use crate::ahead::{Ahead, Successor, recall, rests};
@@ -20,6 +20,7 @@ use crate::shows::{is_by_commits, shows};
 use crate::sought::deepest;
 use crate::still::is_still;
 use crate::tree::ChoiceTree;
+use crate::turn_numbers::TurnNumbers;
 use crate::walk::go_to;
 use std::alloc::{AllocError, Global};
 use zy_isa::Choice;
@@ -63,27 +64,28 @@ fn attempt(
 }
 
 /// What comes of the choice of a branch, which is remembered. Where something does, the numbers of the state that it leads
-/// to go to `next`.
+/// to are those that come next.
 fn learn(
     plan: &Plan,
     reached: &mut Reached,
     branch: Branch,
     choice: usize,
     scratch: &mut Scratch,
-    next: &mut Vec<u32>,
+    numbers: &mut TurnNumbers,
 ) -> Result<Outcome, Fault>
     requires ready { IsReadyFor plan.now reached.old branch scratch.old }
     requires choice { IsNumber plan.now choice branch.by }
     ensures tree { OnOk result (reached.new.tree ≡ reached.old.tree) }
     ensures goes_on { OnOk result (GoesOn reached.old reached.new) }
-    ensures leads { IfOk result (LeadsTo plan.now reached.new branch next.new.items) }
+    ensures leads { IfOk result (LeadsTo plan.now reached.new branch numbers.new.next.items) }
     ensures scratch { OnOk result (AreScratch plan.now.start reached.old.tree branch.from scratch.new) }
+    ensures here { numbers.new.here ≡ numbers.old.here }
 {
     let outcome = attempt(plan, &reached.tree, branch, scratch)?;
     let place = branch.from as usize;
     reached
         .explored
-        .learn(choice, place, &scratch.after, outcome, next)?;
+        .learn(choice, place, &scratch.after, outcome, &mut numbers.next)?;
     Ok(outcome)
 }
 
@@ -94,19 +96,21 @@ fn outcome_of(
     branch: Branch,
     choice: usize,
     scratch: &mut Scratch,
-    next: &mut Vec<u32>,
+    numbers: &mut TurnNumbers,
 ) -> Result<Outcome, Fault>
     requires ready { IsReadyFor plan.now reached.old branch scratch.old }
     requires choice { IsNumber plan.now choice branch.by }
+    requires here { AreNumbersAt plan.now reached.old branch.from numbers.old.here.items }
     ensures tree { OnOk result (reached.new.tree ≡ reached.old.tree) }
     ensures goes_on { OnOk result (GoesOn reached.old reached.new) }
-    ensures leads { IfOk result (LeadsTo plan.now reached.new branch next.new.items) }
+    ensures leads { IfOk result (LeadsTo plan.now reached.new branch numbers.new.next.items) }
     ensures scratch { OnOk result (AreScratch plan.now.start reached.old.tree branch.from scratch.new) }
+    ensures here { numbers.new.here ≡ numbers.old.here }
 {
-    if let Some(outcome) = recall(plan, reached, branch, choice, next)? {
+    if let Some(outcome) = recall(plan, reached, branch, choice, numbers)? {
         return Ok(outcome);
     }
-    learn(plan, reached, branch, choice, scratch, next)
+    learn(plan, reached, branch, choice, scratch, numbers)
 }
 
 /// Whether the state that a branch leads to shows what is looked for, which that of its path does not. Where only a commit
@@ -191,21 +195,20 @@ fn meet_unknown(
     branch: Branch,
     choice: usize,
     scratch: &mut Scratch,
-    next: &mut Vec<u32>,
+    numbers: &mut TurnNumbers,
 ) -> Result<Met, Fault>
     requires ready { IsReadyFor plan.now reached.old branch scratch.old }
     requires choice { IsNumber plan.now choice branch.by }
+    requires here { AreNumbersAt plan.now reached.old branch.from numbers.old.here.items }
     ensures meets { IfOk result (Meets plan.now reached.old.tree reached.new branch scratch.new) }
     ensures goes_on { OnOk result (GoesOn reached.old reached.new) }
+    ensures here { numbers.new.here ≡ numbers.old.here }
 {
-    if rests(plan, reached, branch) {
-        return Ok(Met::Noted);
-    }
-    let outcome = outcome_of(plan, reached, branch, choice, scratch, next)?;
+    let outcome = outcome_of(plan, reached, branch, choice, scratch, numbers)?;
     if is_still(outcome) {
         return Ok(Met::Noted);
     }
-    note(plan, reached, branch, scratch, next)
+    note(plan, reached, branch, scratch, &numbers.next)
 }
 
 /// Takes in the state that a branch leads to, by the numbers that are kept of it at a place, unless it was taken in.
@@ -245,17 +248,22 @@ fn meet(
     choice: usize,
     ahead: &mut Ahead,
     scratch: &mut Scratch,
-    next: &mut Vec<u32>,
+    numbers: &mut TurnNumbers,
 ) -> Result<Met, Fault>
     requires ready { IsReadyFor plan.now reached.old branch scratch.old }
     requires choice { IsNumber plan.now choice branch.by }
+    requires here { AreNumbersAt plan.now reached.old branch.from numbers.old.here.items }
     requires ahead { IsForeseen plan.now reached.old ahead.old }
     ensures meets { IfOk result (Meets plan.now reached.old.tree reached.new branch scratch.new) }
     ensures goes_on { OnOk result (GoesOn reached.old reached.new) }
     ensures ahead { OnOk result (IsForeseen plan.now reached.new ahead.new) }
+    ensures here { numbers.new.here ≡ numbers.old.here }
 {
+    if rests(plan, reached, branch, &numbers.here) {
+        return Ok(Met::Noted);
+    }
     match ahead.successor(branch, choice) {
-        Successor::Unknown => meet_unknown(plan, reached, branch, choice, scratch, next),
+        Successor::Unknown => meet_unknown(plan, reached, branch, choice, scratch, numbers),
         Successor::Reached => Ok(Met::Noted),
         Successor::Numbered(place) => {
             take_in(plan, reached, branch, place as usize, ahead, scratch)
@@ -285,12 +293,13 @@ fn meet_each(
     at: u32,
     ahead: &mut Ahead,
     scratch: &mut Scratch,
-    next: &mut Vec<u32>,
+    numbers: &mut TurnNumbers,
 ) -> Result<Expanded, Fault>
     requires ready { IsReady plan.now reached.old.tree at }
     requires informed { IsInformed plan.now reached.old }
     requires ahead { IsForeseen plan.now reached.old ahead.old }
     requires end { (c : AChoice) → IsFresh reached.old.tree at c }
+    requires here { AreNumbersAt plan.now reached.old at numbers.old.here.items }
     requires scratch { AreScratch plan.now.start reached.old.tree at scratch.old }
     ensures well { IfOk result (ExpandsWell plan.now reached.old.tree reached.new.tree at) }
     ensures goes_on { OnOk result (GoesOn reached.old reached.new) }
@@ -304,7 +313,7 @@ fn meet_each(
             from: at,
             by: choice,
         };
-        match meet(plan, reached, branch, i, ahead, scratch, next)? {
+        match meet(plan, reached, branch, i, ahead, scratch, numbers)? {
             Met::Noted => {}
             Met::Shown => {
                 let path = with_choice(plan.alloc, &reached.tree, at, choice)?;
@@ -323,7 +332,7 @@ pub(crate) fn expand(
     at: u32,
     ahead: &mut Ahead,
     scratch: &mut Scratch,
-    next: &mut Vec<u32>,
+    numbers: &mut TurnNumbers,
 ) -> Result<Expanded, Fault>
     requires whole { IsWhole plan.now }
     requires visits { Visits plan.now.start plan.now.sought reached.old.tree }
@@ -344,5 +353,6 @@ pub(crate) fn expand(
         return Ok(Expanded::Spent);
     }
     scratch.is_here = false;
-    meet_each(plan, reached, at, ahead, scratch, next)
+    numbers.go_to(plan, reached, at)?;
+    meet_each(plan, reached, at, ahead, scratch, numbers)
 }

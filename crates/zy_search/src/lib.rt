@@ -24,6 +24,7 @@ pub mod sought;
 mod still;
 mod stuck;
 pub mod tree;
+pub mod turn_numbers;
 pub mod visited;
 pub mod walk;
 pub mod watch;

@@ -16,6 +16,7 @@ use crate::scratch::Scratch;
 use crate::shows::shows;
 use crate::sought::{Sought, deepest};
 use crate::tree::ChoiceTree;
+use crate::turn_numbers::TurnNumbers;
 use crate::watch::Watch;
 use std::alloc::{AllocError, Global};
 use std::thread::Threads;
@@ -70,7 +71,7 @@ fn expand_all<R: Threads + Sync, W: Watch>(
     ensures answer { IfOk result (IsReached plan.now.start plan.now.sought) }
     ensures due { IfOk result (IsDue plan.now.start plan.now.sought plan.now.most) }
 {
-    let mut next = Vec::new(plan.alloc);
+    let mut numbers = TurnNumbers::new(plan.alloc);
     let mut outlook = Outlook::new(plan.alloc);
     for at in 0..u32::MAX {
         if reached.tree.len() <= at as usize {
@@ -78,7 +79,7 @@ fn expand_all<R: Threads + Sync, W: Watch>(
         }
         report_to(watch, &reached.tree, at);
         outlook.go_to(rt, plan, reached, at)?;
-        match expand(plan, reached, at, &mut outlook.ahead, scratch, &mut next)? {
+        match expand(plan, reached, at, &mut outlook.ahead, scratch, &mut numbers)? {
             Expanded::Whole => {}
             Expanded::Found(path) => return Ok(SearchAnswer::Found(path)),
             Expanded::Spent => return Ok(spent_at(&reached.tree, at)),

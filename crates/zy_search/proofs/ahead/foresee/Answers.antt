@@ -4,7 +4,7 @@ use Rattle.zy_search.proofs.ahead.foresee.Goals as goal
 
 pub loop-at-preserved : goal.loop-at-preserved
 loop-at-preserved c = record {
-  found = rw c.in_ok-push.ensures.items (successors_more c.args.plan.now c.args.reached.now c.loop-at.ahead.numbers c.successors_of.new.numbers c.in_ok-successors.ensures.grows
+  found = rw c.in_ok-push.ensures.items (successors_more c.args.plan.now c.args.reached.now c.loop-at.ahead.numbers c.successors_of.new.kept c.in_ok-successors.ensures.grows
       c.loop-at.ahead.found.items c.in_ok-successors.successors c.loop-at.invariant.found c.in_ok-successors.ensures.successors);
   none = c.loop-at.invariant.none;
 }

@@ -10,18 +10,18 @@ returns-then-rests-clause-successor c =
 
 pub returns-then-is_still-clause-successor : goal.returns-then-is_still-clause-successor
 returns-then-is_still-clause-successor c =
-    let leads = rw c.in-Some.is at c.in_ok-outcome.ensures in
+    let leads = rw c.in-Some.is at c.in_ok-outcome.ensures.leads in
     still_known c.args.plan.now c.args.reached.now.tree c.args.branch c.requires.there (sym leads.still ∙ (sym c.is_still.ensures ∙ c.if-is_still.true))
 
 pub returns-in-Some-find-clause-successor : goal.returns-in-Some-find-clause-successor
 returns-in-Some-find-clause-successor c =
     let p = c.args.plan.now in
     let x = c.args.reached.now in
-    let leads = rw c.in-Some.is at c.in_ok-outcome.ensures in
+    let leads = rw c.in-Some.is at c.in_ok-outcome.ensures.leads in
     let sc = p.start.scenario in
     let states = states_of p.start x.tree in
     let to = state_by p x.tree c.args.branch in
     let knows = c.requires.informed.knows in
     let numbers = leads.numbers (sym c.is_still.ensures ∙ c.if-is_still.false) in
     known_by p x c.requires.informed c.in-Some-find.field-0 to (c.in-Some-find.ensures.there sc states knows)
-    (λ s at. c.in-Some-find.ensures.alike sc states s to knows at (rw c.deref.ensures.value numbers))
+    (λ s at. c.in-Some-find.ensures.alike sc states s to knows at (rw c.deref-2.ensures.value numbers))

@@ -1,6 +1,7 @@
-use Rattle.std.proofs.Common.{ap, arith, length}
+use Rattle.std.proofs.Common.{ℕ, Global, Vec, ap, arith, length, subst, sym}
 use Rattle.std.proofs.lemmas.List.{length_push}
 use Rattle.zy_search.proofs.AheadLemmas.{one_more}
+use Rattle.zy_search.specs.Visits.{AreNumbersAt}
 use Rattle.zy_search.proofs.SearchLemmas.{grows_on}
 use Rattle.zy_search.proofs.ahead.successors_of.Goals as goal
 
@@ -10,8 +11,9 @@ loop-i-preserved c =
     let made = c.in_ok-successor.ensures in
     record {
       many = omega (arith, ap length c.in_ok-push.ensures.items, length_push c.loop-i.by_choice.items c.in_ok-successor.successor, i.many);
-      grows = grows_on c.args.numbers.now c.loop-i.numbers c.successor_of.new.numbers i.grows made.grows;
-      each = rw c.in_ok-push.ensures.items (one_more c.args.plan.now c.args.reached.now c.loop-i.numbers c.successor_of.new.numbers made.grows c.args.at
+      grows = grows_on c.args.kept.now c.loop-i.kept c.successor_of.new.kept i.grows made.grows;
+      here = subst (λ (v : Vec ℕ Global). AreNumbersAt c.args.plan.now c.args.reached.now c.args.at v.items) (sym made.here) i.here;
+      each = rw c.in_ok-push.ensures.items (one_more c.args.plan.now c.args.reached.now c.loop-i.kept c.successor_of.new.kept made.grows c.args.at
           c.loop-i.by_choice.items c.in_ok-successor.successor c.loop-i.i i.many c.index.result.now i.each c.index.ensures made.successor);
     }
 

@@ -1,8 +1,21 @@
+use Rattle.std.proofs.Common.{refl}
 use Rattle.zy_search.specs.Ahead.{GoesOn, IsForeseen}
-use Rattle.zy_search.proofs.AheadLemmas.{foreseen_on, stays}
+use Rattle.zy_search.proofs.AheadLemmas.{foreseen_on, stays, still_known}
 use Rattle.zy_search.proofs.ReachedLemmas.{if_ok_with}
 use Rattle.zy_search.proofs.TurnLemmas.{known_met}
 use Rattle.zy_search.proofs.expand.meet.Goals as goal
+
+pub returns-then-rests : goal.returns-then-rests
+returns-then-rests c =
+    let p = c.args.plan.now in
+    let x = c.args.reached.now in
+    record {
+      meets = known_met p x c.args.branch c.args.scratch.now c.requires.ready
+          (still_known p x.tree c.args.branch c.requires.ready.turn.ready.there (c.rests.ensures c.if-rests.true));
+      goes_on = stays x;
+      ahead = c.requires.ahead;
+      here = refl;
+    }
 
 pub returns-in-Reached : goal.returns-in-Reached
 returns-in-Reached c =
@@ -13,6 +26,7 @@ returns-in-Reached c =
           (rw c.in-Reached.is at c.successor.ensures p x c.requires.ahead c.requires.choice);
       goes_on = stays x;
       ahead = c.requires.ahead;
+      here = refl;
     }
 
 pub returns-in-Unknown-clause-ahead : goal.returns-in-Unknown-clause-ahead

@@ -1,10 +1,10 @@
 -- Each choice of the plan is met in turn, from the state of one path.
-use Rattle.std.proofs.Common.{inl, ◌≡◌, ◌<◌, List, true, get_or, sym, ap, subst, length, arith, refl}
+use Rattle.std.proofs.Common.{ℕ, Global, Vec, inl, ◌≡◌, ◌<◌, List, true, get_or, sym, ap, subst, length, arith, refl}
 use Rattle.zy_isa.specs.declared.choice.Choice.{Choice}
 use Rattle.zy_isa.specs.declared.choice.Choice.TheVariants.{Start}
 use Rattle.zy_search.specs.Choices.{is_considered}
-use Rattle.zy_search.specs.Visits.{IsFresh, Notes}
-use Rattle.zy_search.proofs.AheadLemmas.{goes_further, stays}
+use Rattle.zy_search.specs.Visits.{AreNumbersAt, IsFresh, Notes}
+use Rattle.zy_search.proofs.AheadLemmas.{goes_further, numbers_on, stays}
 use Rattle.zy_search.proofs.SearchLemmas.{grows_not, grows_on}
 use Rattle.zy_search.proofs.EdgeLemmas.{by_next, fresh_one}
 use Rattle.zy_search.proofs.MeetLemmas.{element, found, is_one, lead_all, lead_next}
@@ -63,6 +63,7 @@ loop-i-init c = record {
   ahead = c.requires.ahead;
   informed = c.requires.informed;
   scratch = c.requires.scratch;
+  here = c.requires.here;
   by = λ i lt d e. absurd (c.requires.end d i lt e);
   known = λ j lt. absurd (omega (arith, lt));
 }
@@ -111,6 +112,9 @@ loop-i-preserved c =
       ahead = c.in_ok-meet.ensures.ahead;
       informed = c.in_ok-meet.ensures.meets.informed;
       scratch = c.in_ok-meet.ensures.meets.machines;
+      here = subst (λ (v : Vec ℕ Global). AreNumbersAt c.args.plan.now c.meet.new.reached c.args.at v.items) (sym c.in_ok-meet.ensures.here)
+          (numbers_on c.args.plan.now c.loop-i.reached c.meet.new.reached c.in_ok-meet.ensures.goes_on c.args.at
+          (omega (arith, c.requires.ready.there, g.longer)) c.loop-i.numbers.here.items c.loop-i.invariant.here);
       by = by_next c.loop-i.reached.tree c.meet.new.reached.tree c.args.at c.loop-i.i cs (get_or cs c.loop-i.i Start) n.more
           (omega (arith, c.requires.ready.there, g.longer)) c.loop-i.invariant.by refl;
       known = lead_next h q c.args.reached.now.tree c.loop-i.reached.tree c.args.at c.requires.ready.there g c.meet.new.reached.tree cs c.loop-i.i n c.loop-i.invariant.known;

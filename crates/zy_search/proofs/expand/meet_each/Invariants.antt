@@ -1,4 +1,4 @@
-use Rattle.zy_search.specs.Visits.{Visits, IsEdge, GoOnBy, Grows, IsInformed, AreScratch}
+use Rattle.zy_search.specs.Visits.{Visits, IsEdge, GoOnBy, Grows, IsInformed, AreNumbersAt, AreScratch}
 use Rattle.zy_search.specs.Ahead.{GoesOn, IsForeseen}
 use Rattle.zy_search.proofs.MeetLemmas.{AllLead}
 use Rattle.zy_search.proofs.expand.meet_each.Given as goal
@@ -13,6 +13,7 @@ invariant-loop-i l =
       ahead : IsForeseen l.plan l.reached l.ahead;
       informed : IsInformed l.plan l.reached;
       scratch : AreScratch l.plan.start l.reached.tree l.at l.scratch;
+      here : AreNumbersAt l.plan l.reached l.at l.numbers.here.items;
       by : GoOnBy l.reached.tree l.at l.plan.choices.items l.i;
       known : AllLead l.plan.start l.plan.sought l.initial.reached.tree l.at l.reached.tree l.plan.choices.items l.i;
     }

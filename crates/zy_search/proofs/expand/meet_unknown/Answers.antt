@@ -1,21 +1,9 @@
 use Rattle.std.proofs.Common.{◌∙◌, sym}
 use Rattle.zy_search.specs.Ahead.{GoesOn}
-use Rattle.zy_search.proofs.AheadLemmas.{goes_further, stays}
+use Rattle.zy_search.proofs.AheadLemmas.{goes_further}
 use Rattle.zy_search.proofs.ReachedLemmas.{if_ok_with}
 use Rattle.zy_search.proofs.TurnLemmas.{still_noted}
 use Rattle.zy_search.proofs.expand.meet_unknown.Goals as goal
-
-pub returns-then-rests : goal.returns-then-rests
-returns-then-rests c =
-    let x = c.args.reached.now in
-    record {
-      meets = record {
-        well = still_noted c.args.plan.now x.tree c.args.branch c.requires.ready.turn (c.rests.ensures c.if-rests.true);
-        informed = c.requires.ready.informed;
-        machines = c.requires.ready.machines;
-      };
-      goes_on = stays x;
-    }
 
 pub returns-then-is_still : goal.returns-then-is_still
 returns-then-is_still c =
@@ -30,6 +18,7 @@ returns-then-is_still c =
         machines = rw made.tree made.scratch;
       };
       goes_on = made.goes_on;
+      here = made.here;
     }
 
 pub returns-clause-goes_on : goal.returns-clause-goes_on

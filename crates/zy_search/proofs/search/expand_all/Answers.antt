@@ -1,5 +1,5 @@
-use Rattle.std.proofs.Common.{◌+◌, ◌<◌, [], ◌∷◌, length, arith}
-use Rattle.zy_search.specs.Visits.{IsExpanded, length_at}
+use Rattle.std.proofs.Common.{◌≡◌, ◌+◌, ◌<◌, [], ◌∷◌, length, arith, subst}
+use Rattle.zy_search.specs.Visits.{IsEdge, IsExpanded, length_at}
 use Rattle.zy_search.proofs.SearchLemmas.{none_at_all, finds_first, spent_below, spent_well, expanded_grown, near_first, edge_next, stops, stops_grown}
 use Rattle.zy_search.proofs.AheadLemmas.{rest_on}
 use Rattle.zy_search.proofs.SearchLemmas.{spent_due}
@@ -75,3 +75,8 @@ expand-requires-clause-end g c = c.loop-at.invariant.ends c.loop-at.at (omega ar
 
 pub settle-requires-clause-expanded : goal.settle-requires-clause-expanded
 settle-requires-clause-expanded g c = λ i lt. c.loop-at.invariant.expanded i (omega (arith, lt, c.loop-at-test.false))
+
+pub settle-requires-clause-near : goal.settle-requires-clause-near
+settle-requires-clause-near g c lt =
+    let here : c.loop-at.at ≡ 4294967295 = omega (arith, c.loop-at.auto.at-end, c.loop-at-test.false) in
+    subst (IsEdge c.loop-at.reached.tree) here (c.loop-at.invariant.near (omega (arith, lt, here)))
