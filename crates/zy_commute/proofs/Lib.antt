@@ -1,0 +1,3 @@
+pub mod FewerLocks
+pub mod DidRuns
+pub mod SetTwo
