@@ -12,8 +12,10 @@ use Rattle.zy_model.proofs.Rising.{behind_rise, rise_add, rise_drop}
 use Rattle.zy_table.specs.Change.{share_all}
 use Rattle.zy_table.specs.Run.{first_taken}
 
--- What is done to locks is fair to t: no lock is in the way of t that was not, and t takes its locks after it as before it.
+-- What is done to locks is fair to t: they stay in order, no lock is in the way of t that was not, and t takes its locks
+-- after it as before it.
 pub record IsFair (t : ℕ) (f : List Lock → List Lock) : Type 0 where
+  pub rises : (xs : List Lock) → LocksRise xs → LocksRise (f xs)
   pub free : (xs : List Lock) (p : ℕ) (kind : LockKind) → conflict xs p t kind ≡ false → conflict (f xs) p t kind ≡ false
   pub adds : (xs : List Lock) (p : ℕ) (kind : LockKind) → LocksRise xs → f (add_lock p t kind xs) ≡ add_lock p t kind (f xs)
 
@@ -23,7 +25,7 @@ same xs = xs
 
 -- that is fair
 pub same_fair : (t : ℕ) → IsFair t same
-same_fair t = record { free = λ xs p kind e. e; adds = λ xs p kind r. refl }
+same_fair t = record { rises = λ xs r. r; free = λ xs p kind e. e; adds = λ xs p kind r. refl }
 
 -- ---- the locks of u are dropped
 
@@ -116,6 +118,7 @@ module _ (u p t : ℕ) (kind : LockKind) (far : u ≡ t → ⊥) where
 -- that is fair to another
 pub drop_fair : (t u : ℕ) → (u ≡ t → ⊥) → IsFair t (drop_locks u)
 drop_fair t u far = record {
+  rises = λ xs r. rise_drop u xs r;
   free = λ xs p kind e. fewer u xs p t kind e;
   adds = λ xs p kind r. takes u p t kind far xs r;
 }

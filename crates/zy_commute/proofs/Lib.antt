@@ -1,3 +1,6 @@
 pub mod FewerLocks
 pub mod DidRuns
 pub mod SetTwo
+pub mod Numbered
+pub mod Carried
+pub mod Asides
