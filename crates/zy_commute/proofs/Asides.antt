@@ -50,7 +50,7 @@ module _ (t : ℕ) (y : Txn) (z : NodeState) where
   -- ---- a run
 
   -- a run of another transaction
-  runs_aside : (sc : Scenario) (m : Node) (u : ℕ) (v : View) → (u ≡ t → ⊥) → run_step sc m u (aside v) ≡ aside_move (run_step sc m u v)
+  pub runs_aside : (sc : Scenario) (m : Node) (u : ℕ) (v : View) → (u ≡ t → ⊥) → run_step sc m u (aside v) ≡ aside_move (run_step sc m u v)
   unfolding move
   runs_aside sc m u v far =
       let x = run_step sc m u v in
@@ -74,7 +74,7 @@ module _ (t : ℕ) (y : Txn) (z : NodeState) where
   elsewhere sc m v on off = rw (on, off) refl
 
   -- it is active there still
-  runs_elsewhere : (sc : Scenario) (m : Node) (v : View) → is_active (txn_at v t).status ≡ true → same_node (txn_at v t).node m ≡ false → Stays (txn_at v t) y
+  pub runs_elsewhere : (sc : Scenario) (m : Node) (v : View) → is_active (txn_at v t).status ≡ true → same_node (txn_at v t).node m ≡ false → Stays (txn_at v t) y
       → run_step sc m t (aside v) ≡ aside_move (run_step sc m t v)
   runs_elsewhere sc m v on off stays =
       let now = at_self v (aside v) t y refl on in
@@ -96,14 +96,14 @@ module _ (t : ℕ) (y : Txn) (z : NodeState) where
       ∙ sym (ap (λ (w : View). record x { after = aside w }) c)
 
   -- a finish
-  finishes_aside : (sc : Scenario) (m : Node) (v : View) → Stays (txn_at v t) y → finish_step m (aside v) ≡ aside_move (finish_step m v)
+  pub finishes_aside : (sc : Scenario) (m : Node) (v : View) → Stays (txn_at v t) y → finish_step m (aside v) ≡ aside_move (finish_step m v)
   unfolding move txn_at
   finishes_aside sc m v stays =
       finishes z link [] (slice_set v.txns t y) v.commits m v (active_stays m 0 v.txns t y stays)
       ∙ settles v (finish_step m v) (move_changes sc (Finish m) v)
 
   -- a push
-  pushes_aside : (sc : Scenario) (m : Node) (v : View) → push_step (aside v) ≡ aside_move (push_step v)
+  pub pushes_aside : (sc : Scenario) (m : Node) (v : View) → push_step (aside v) ≡ aside_move (push_step v)
   unfolding move
   pushes_aside sc m v = pushes z link [] (slice_set v.txns t y) v.commits v ∙ settles v (push_step v) (move_changes sc (Push m) v)
 
@@ -119,7 +119,7 @@ module _ (t : ℕ) (y : Txn) (z : NodeState) where
       ∙ sym (ap aside_move (takes_first v.them ms [] v.txns v.commits sc m v))
 
   -- a take
-  takes_aside : (sc : Scenario) (v : View) → take_step sc (aside v) ≡ aside_move (take_step sc v)
+  pub takes_aside : (sc : Scenario) (v : View) → take_step sc (aside v) ≡ aside_move (take_step sc v)
   takes_aside sc v = takes_from sc v.inbox v
 
   -- ---- a kill

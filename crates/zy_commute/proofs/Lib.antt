@@ -4,3 +4,4 @@ pub mod SetTwo
 pub mod Numbered
 pub mod Carried
 pub mod Asides
+pub mod Passes
